@@ -1,0 +1,19 @@
+//! The outside, as `cyc` sees it: a shelf of files that are read, and sinks that take bytes. Both may tell their
+//! content, for what is claimed of it, and count their faults, which shows the cause of a refusal.
+//!
+//! It stands on `cyc_base`. The crates above use that `read_whole` gives a file's bytes, and that `write_whole`
+//! appends all of a text, or a prefix where a write failed. `HostShelf` and `HostSink` are the trusted edge.
+#![tactic(auto)]
+
+mod counts;
+mod host;
+mod memory;
+mod shelf;
+mod sink;
+#[cfg(test)]
+mod tests;
+
+pub use host::{HostShelf, HostSink};
+pub use memory::{MemoryShelf, MemorySink};
+pub use shelf::{ReadFault, Shelf, ShelfFault, read_whole};
+pub use sink::{Failed, Sink, write_whole};

@@ -1,0 +1,52 @@
+-- How a call comes to its outcome.
+use Rattle.std.proofs.Common.{◌≡◌, ℕ, List, Some, None, refl, sym, ap, ◌∙◌, subst}
+use Rattle.std.specs.Prelude.{unwrap_or, IfSome}
+use Rattle.std.specs.Option.{option_or}
+use Rattle.std.specs.declared.option.Option.{Option}
+use Rattle.cyc_tool.specs.Texts.{Outcome, usage, accepted, no_memory}
+use Rattle.cyc_tool.specs.Words.{Command, Check, command_of}
+use Rattle.cyc_tool.specs.Answer.{Given, Netlist, files_of_words, outcome_of_command}
+use Rattle.cyc_tool.specs.Calls.{ShelfCall, GaveInOrder, ComesTo, Answers, WantsMemory}
+use Rattle.cyc_tool.specs.Reading.{ReadsNetlist, CarriesOut}
+
+-- what one netlist file gave
+only_netlist : Option (List ℕ) → Given
+only_netlist given Netlist = given
+
+pub check_stops : (name : List ℕ) (shelf : ShelfCall) (end : Outcome) → ReadsNetlist shelf name (Some end) → CarriesOut (Check name) shelf end
+unfolding only_netlist
+check_stops name shelf end reads = record {
+  given = only_netlist reads.given;
+  gave = (reads.gave, λ on. tt);
+  is = ap (λ (stop : Option Outcome). unwrap_or (option_or stop None) accepted) (sym reads.is);
+}
+
+pub check_goes_on : (name : List ℕ) (shelf : ShelfCall) (end : Outcome) → ReadsNetlist shelf name None → end ≡ accepted → CarriesOut (Check name) shelf end
+unfolding only_netlist
+check_goes_on name shelf end reads told = record {
+  given = only_netlist reads.given;
+  gave = (reads.gave, λ on. tt);
+  is = told ∙ ap (λ (stop : Option Outcome). unwrap_or (option_or stop None) accepted) (sym reads.is);
+}
+
+pub comes_to_usage : (words : List (List ℕ)) (shelf : ShelfCall) (end : Outcome) → command_of words ≡ None → end ≡ usage → ComesTo words shelf end
+comes_to_usage words shelf end is told =
+    let given : Given = only_netlist None in
+    let P : Option Command → Type 0 = λ c. GaveInOrder shelf given (files_of_words c) in
+    let Q : Option Command → Type 0 = λ c. end ≡ outcome_of_command c given in
+    Answers given (subst P (sym is) tt) (subst Q (sym is) told)
+
+pub comes_to_end : (words : List (List ℕ)) (command : Command) (shelf : ShelfCall) (end : Outcome) → command_of words ≡ Some command
+    → CarriesOut command shelf end → ComesTo words shelf end
+comes_to_end words command shelf end is done =
+    let P : Option Command → Type 0 = λ c. GaveInOrder shelf done.given (files_of_words c) in
+    let Q : Option Command → Type 0 = λ c. end ≡ outcome_of_command c done.given in
+    Answers done.given (subst P (sym is) done.gave) (subst Q (sym is) done.is)
+
+pub comes_to_no_memory : (words : List (List ℕ)) (shelf : ShelfCall) → ComesTo words shelf no_memory
+comes_to_no_memory words shelf = WantsMemory refl
+
+pub comes_to_end_if : (words : List (List ℕ)) (command : Command) (shelf : ShelfCall) (end : Option Outcome) → command_of words ≡ Some command
+    → IfSome end (CarriesOut command shelf) → IfSome end (ComesTo words shelf)
+comes_to_end_if words command shelf None is done = tt
+comes_to_end_if words command shelf (Some end) is done = comes_to_end words command shelf end is done
