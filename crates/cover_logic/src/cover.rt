@@ -1,0 +1,99 @@
+ghost use Rattle.std.specs.Prelude.{◌≡◌, not, IfOk};
+ghost use Rattle.std.specs.List.{position_from};
+ghost use Rattle.std.specs.Result.{result_err};
+ghost use Rattle.cover_logic.specs.Covers.{cover_of, first_fault, has_width, IsCover};
+
+use crate::row::{Row, copy_rows};
+use cyc_base::MAX_PINS;
+use std::alloc::AllocError;
+use std::marker::Model;
+
+/// A Boolean function of `pins` values, as rows of literals (`.names` of the Berkeley BLIF manual).
+///
+/// It has at most 1,024 pins, each row has a literal for each pin, and a cover without rows is an
+/// on-plane.
+#[derive(Debug, Drop)]
+pub struct Cover {
+    pins: usize,
+    plane: bool,
+    rows: Vec<Row>,
+}
+
+impl Model for Cover {
+    ghost use Rattle.cover_logic.specs.Covers.{Cover as Rows, IsCover};
+
+    ghost Value = { Rows };
+
+    ghost view = { λ cover. record { pins = cover.pins; plane = cover.plane; rows = cover.rows.items } };
+
+    ghost invariant = { λ cover. IsCover (record { pins = cover.pins; plane = cover.plane; rows = cover.rows.items }) };
+}
+
+/// Why parts make no cover.
+#[derive(Clone, Copy, Debug, PartialEq, Eq)]
+pub enum CoverFault {
+    /// There are over 1,024 pins.
+    TooManyPins,
+    /// This row, numbered from 0, is the first that doesn't have a literal for each pin.
+    Width { row: usize },
+}
+
+fn first_of_other_width(rows: &[Row], pins: usize) -> Option<usize>
+    ensures { result ≡ position_from (λ row. not (has_width pins row)) 0 rows.now }
+{
+    rows.iter().position(|row| row.lits.items().len() != pins)
+}
+
+impl Cover {
+    /// The cover of these parts, where `plane` is true if the rows list where the value is 1, and false
+    /// if they list where it is 0. A cover without rows is kept as an on-plane.
+    pub fn new(pins: usize, plane: bool, rows: Vec<Row>) -> Result<Cover, CoverFault>
+        ensures fault { result_err result ≡ first_fault pins rows.items }
+        ensures kept { IfOk result (λ cover. cover ≡ cover_of pins plane rows.items) }
+    {
+        if pins > MAX_PINS {
+            return Err(CoverFault::TooManyPins);
+        }
+        if let Some(row) = first_of_other_width(&rows, pins) {
+            return Err(CoverFault::Width { row });
+        }
+        let plane = plane || rows.is_empty();
+        Ok(Cover { pins, plane, rows })
+    }
+
+    /// How many pins it has.
+    pub fn pins(&self) -> usize
+        ensures pins { result ≡ self.now.pins }
+        ensures proper { IsCover self.now }
+    {
+        self.pins
+    }
+
+    /// Whether it is an on-plane, whose rows list where the value is 1.
+    pub fn plane(&self) -> bool
+        ensures plane { result ≡ self.now.plane }
+        ensures proper { IsCover self.now }
+    {
+        self.plane
+    }
+
+    /// Its rows in their order, each with a literal for each pin.
+    pub fn rows(&self) -> &[Row]
+        ensures rows { result.now ≡ self.now.rows }
+        ensures proper { IsCover self.now }
+    {
+        &self.rows
+    }
+
+    /// An equal cover.
+    pub fn copy(&self) -> Result<Cover, AllocError>
+        ensures { IfOk result (λ cover. cover ≡ self.now) }
+    {
+        let rows = copy_rows(*self.rows.allocator(), &self.rows)?;
+        Ok(Cover {
+            pins: self.pins,
+            plane: self.plane,
+            rows,
+        })
+    }
+}
