@@ -1,9 +1,10 @@
-ghost use Rattle.std.specs.Prelude.{◌≡◌, not, IfOk};
+ghost use Rattle.std.specs.Prelude.{◌≡◌, not, length, IfOk};
 ghost use Rattle.std.specs.List.{position_from};
 ghost use Rattle.std.specs.Result.{result_err};
-ghost use Rattle.cover_logic.specs.Covers.{cover_of, first_fault, has_width, IsCover};
+ghost use Rattle.cover_logic.specs.Covers.{cover_of, first_fault, has_width, IsCover, value};
 
 use crate::row::{Row, copy_rows};
+use crate::value::value_of_rows;
 use cyc_base::MAX_PINS;
 use std::alloc::AllocError;
 use std::marker::Model;
@@ -95,5 +96,13 @@ impl Cover {
             plane: self.plane,
             rows,
         })
+    }
+
+    /// The value where the pins have these values, one for each pin.
+    pub fn value(&self, bits: &[bool]) -> bool
+        requires { length bits.now ≡ self.now.pins }
+        ensures { result ≡ value self.now bits.now }
+    {
+        value_of_rows(self.plane, &self.rows, bits)
     }
 }

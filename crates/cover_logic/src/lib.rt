@@ -5,7 +5,9 @@
 #![tactic(auto)]
 
 mod cover;
+pub mod laws;
 mod row;
+mod value;
 
 pub use cover::{Cover, CoverFault};
 pub use row::{Lit, Row};
