@@ -1,3 +1,4 @@
 pub mod Covers
 pub mod Extensions
 pub mod Laws
+pub mod Partial

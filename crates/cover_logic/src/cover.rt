@@ -2,11 +2,13 @@ ghost use Rattle.std.specs.Prelude.{◌≡◌, not, length, IfOk};
 ghost use Rattle.std.specs.List.{position_from};
 ghost use Rattle.std.specs.Result.{result_err};
 ghost use Rattle.cover_logic.specs.Covers.{cover_of, first_fault, has_width, IsCover, value};
+ghost use Rattle.cover_logic.specs.Extensions.{ext};
 
+use crate::extend::extension_of_rows;
 use crate::row::{Row, copy_rows};
 use crate::value::value_of_rows;
-use cyc_base::MAX_PINS;
-use std::alloc::AllocError;
+use cyc_base::{MAX_PINS, Trit};
+use std::alloc::{AllocError, Global};
 use std::marker::Model;
 
 /// A Boolean function of `pins` values, as rows of literals (`.names` of the Berkeley BLIF manual).
@@ -104,5 +106,18 @@ impl Cover {
         ensures { result ≡ value self.now bits.now }
     {
         value_of_rows(self.plane, &self.rows, bits)
+    }
+
+    /// The exact ternary extension, for as many values as pins: b where the value is b at every completion, by
+    /// which each X is replaced by 0 or by 1, pin by pin; and else X (Malik 1994).
+    ///
+    /// Each step reads the rows once or a few times. A step splits one pin that is X and of which the rows ask
+    /// both values. So the worst case doubles with each such pin. Where no pin is of that kind, as in AND, OR
+    /// and majority, nothing is split, and where a row or none decides, no memory is taken.
+    pub fn extend(&self, alloc: Global, trits: &[Trit]) -> Result<Trit, AllocError>
+        requires { length trits.now ≡ self.now.pins }
+        ensures { IfOk result (λ trit. trit ≡ ext self.now trits.now) }
+    {
+        extension_of_rows(alloc, self.plane, &self.rows, trits)
     }
 }

@@ -5,6 +5,7 @@
 #![tactic(auto)]
 
 mod cover;
+mod extend;
 pub mod laws;
 mod row;
 mod value;

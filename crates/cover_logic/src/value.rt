@@ -5,7 +5,7 @@ ghost use Rattle.cover_logic.specs.Covers.{allows, matches, some_row_matches, va
 
 use crate::row::{Lit, Row};
 
-fn is_allowed(lit: Lit, bit: bool) -> bool
+pub(crate) fn is_allowed(lit: Lit, bit: bool) -> bool
     ensures { result ≡ allows lit bit }
 {
     match lit {

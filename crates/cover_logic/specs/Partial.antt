@@ -1,0 +1,46 @@
+-- What rows say where some pins are X.
+use Rattle.std.specs.Prelude.{ℕ, Bool, true, false, not, ◌&&◌, List, slice_index_or}
+use Rattle.std.specs.List.{list_any, list_all, zip}
+use Rattle.cyc_base.specs.declared.trit.Trit.{Trit}
+use Rattle.cyc_base.specs.declared.trit.Trit.TheVariants.{Zero, One}
+use Rattle.cover_logic.specs.declared.row.Lit.{Lit}
+use Rattle.cover_logic.specs.declared.row.Lit.TheVariants as lit
+use Rattle.cover_logic.specs.declared.row.Row.{Row}
+use Rattle.cover_logic.specs.Covers.{allows, some_row_matches}
+use Rattle.cover_logic.specs.Extensions.{completions}
+
+-- whether a literal may allow the value of its pin, and whether it surely does
+abbrev pub may_allow : Lit → Trit → Bool
+may_allow lit.Zero One = false
+may_allow lit.One Zero = false
+may_allow literal trit = true
+
+abbrev pub must_allow : Lit → Trit → Bool
+must_allow lit.Zero Zero = true
+must_allow lit.One One = true
+must_allow lit.Any trit = true
+must_allow literal trit = false
+
+abbrev pub may_match : List Lit → List Trit → Bool
+may_match lits trits = list_all (λ pin. may_allow pin.0 pin.1) (zip lits trits)
+
+abbrev pub must_match : List Lit → List Trit → Bool
+must_match lits trits = list_all (λ pin. must_allow pin.0 pin.1) (zip lits trits)
+
+abbrev pub some_row_may_match : List Row → List Trit → Bool
+some_row_may_match rows trits = list_any (λ row. may_match row.lits trits) rows
+
+abbrev pub some_row_must_match : List Row → List Trit → Bool
+some_row_must_match rows trits = list_any (λ row. must_match row.lits trits) rows
+
+-- whether a row matches only where the pin at this place has this value
+abbrev pub asks : List Lit → ℕ → Bool → Bool
+asks lits pin b = not (allows (slice_index_or lits pin lit.Any) (not b))
+
+-- whether one does so of the rows that may match
+abbrev pub some_row_asks : List Row → List Trit → ℕ → Bool → Bool
+some_row_asks rows trits pin b = list_any (λ row. asks row.lits pin b && may_match row.lits trits) rows
+
+-- whether some row matches at each completion
+abbrev pub is_tautology : List Row → List Trit → Bool
+is_tautology rows trits = list_all (some_row_matches rows) (completions trits)
