@@ -1,5 +1,5 @@
 -- The exact extension is what all completions agree on, and so it keeps the order.
-use Rattle.std.proofs.Common.{◌≡◌, Bool, true, false, not, cond, ◌&&◌, List, [], ◌∷◌, ◌++◌, map, refl, ap, sym, ◌∙◌, true≢false}
+use Rattle.std.proofs.Common.{◌≡◌, Bool, true, false, not, cond, ◌&&◌, List, [], ◌∷◌, ◌++◌, map, refl, ap, sym, ◌∙◌, true≢false, ℕ, zero, suc, set, get_or, ◌↔◌}
 use Rattle.std.specs.List.{list_all}
 use Rattle.std.proofs.lemmas.Bool.{and_parts, and_from, not-true, not_from_false}
 use Rattle.cyc_base.specs.declared.trit.Trit.{Trit}
@@ -128,6 +128,37 @@ exact_same f g trits same =
     same_trit (exact f trits) (exact g trits)
     (λ b e. exact_from g trits b (λ bs c. sym (same bs) ∙ exact_says f trits b e bs c))
     (λ b e. exact_from f trits b (λ bs c. same bs ∙ exact_says g trits b e bs c))
+
+-- ---- the cofactors at an unknown place
+
+-- a completion has some value at each place, and completes the list that has it too
+pub completes-set : (trits : List Trit) (bs : List Bool) (pin : ℕ) → Completes trits bs → Completes (set trits pin (bit (get_or bs pin false))) bs
+completes-set [] [] pin c = tt
+completes-set [] (b ∷ bs) pin c = absurd c
+completes-set (t ∷ trits) [] pin c = absurd c
+completes-set (t ∷ trits) (b ∷ bs) zero c = (Below-refl (bit b), c.1)
+completes-set (t ∷ trits) (b ∷ bs) (suc pin) c = (c.0, completes-set trits bs pin c.1)
+
+pub completes-unset : (trits : List Trit) (bs : List Bool) (pin : ℕ) (b : Bool) → get_or trits pin X ≡ X → Completes (set trits pin (bit b)) bs → Completes trits bs
+completes-unset [] bs pin b e c = c
+completes-unset (t ∷ trits) [] zero b e c = absurd c
+completes-unset (t ∷ trits) [] (suc pin) b e c = absurd c
+completes-unset (t ∷ trits) (d ∷ bs) zero b e c = (rw e tt, c.1)
+completes-unset (t ∷ trits) (d ∷ bs) (suc pin) b e c = (c.0, completes-unset trits bs pin b e c.1)
+
+both_say : (f : List Bool → Bool) (trits : List Trit) (n : ℕ) (b : Bool) → exact f (set trits n Zero) ≡ bit b → exact f (set trits n One) ≡ bit b → (bs : List Bool) (d : Bool) → Completes (set trits n (bit d)) bs → f bs ≡ b
+both_say f trits n b low high bs false c = exact_says f (set trits n Zero) b low bs c
+both_say f trits n b low high bs true c = exact_says f (set trits n One) b high bs c
+
+-- where a place is X, the extension is b exactly where both cofactors' extensions are
+pub exact_split : (f : List Bool → Bool) (trits : List Trit) (n : ℕ) (b : Bool) → get_or trits n X ≡ X → (exact f trits ≡ bit b) ↔ ((exact f (set trits n Zero) ≡ bit b) × (exact f (set trits n One) ≡ bit b))
+exact_split f trits n b x = (
+  (λ e. (
+    exact_from f (set trits n Zero) b (λ bs c. exact_says f trits b e bs (completes-unset trits bs n false x c)),
+    exact_from f (set trits n One) b (λ bs c. exact_says f trits b e bs (completes-unset trits bs n true x c)),
+  )),
+  λ h. exact_from f trits b (λ bs c. both_say f trits n b h.0 h.1 bs (get_or bs n false) (completes-set trits bs n c)),
+)
 
 -- ---- of a cover
 

@@ -1,9 +1,8 @@
 -- Where some row matches at each completion, by the unate recursive paradigm.
-use Rattle.std.proofs.Common.{◌≡◌, ◌≢◌, ℕ, zero, suc, Bool, true, false, not, ◌&&◌, List, [], ◌∷◌, set, get_or, slice_get, Some, All, refl, ap, sym, ◌∙◌, subst, inl, inr, true≢false}
+use Rattle.std.proofs.Common.{◌≡◌, ◌≢◌, ℕ, zero, suc, Bool, true, false, not, ◌&&◌, List, [], ◌∷◌, set, get_or, All, refl, ap, sym, ◌∙◌, subst, inl, inr, true≢false, ◌<◌, ◌≤◌, length, arith}
 use Rattle.std.proofs.lemmas.Bool.{and_parts, and_from, or_cases, or_parts, or_left, or_right, false_from_ne_true, not-false}
 use Rattle.std.proofs.lemmas.List.Elements.{All-head, All-tail}
-use Rattle.std.proofs.lemmas.List.{set-set, set-get_or}
-use Rattle.std.proofs.lemmas.Option.{get_or_from_slice_get}
+use Rattle.std.proofs.lemmas.List.{get_or_default}
 use Rattle.std.specs.List.{list_any}
 use Rattle.cyc_base.specs.declared.trit.Trit.{Trit}
 use Rattle.cyc_base.specs.declared.trit.Trit.TheVariants.{Zero, One, X}
@@ -14,8 +13,8 @@ use Rattle.cover_logic.specs.declared.row.Lit.TheVariants as lit
 use Rattle.cover_logic.specs.declared.row.Row.{Row}
 use Rattle.cover_logic.specs.Covers.{allows, matches, some_row_matches, value_of_rows}
 use Rattle.cover_logic.specs.Extensions.{exact}
-use Rattle.cover_logic.specs.Partial.{may_allow, must_allow, may_match, must_match, some_row_may_match, some_row_must_match, asks, some_row_asks, is_tautology}
-use Rattle.cover_logic.proofs.ExtensionLemmas.{passes_above, passes_listed, some_completion, exact_from, exact_says}
+use Rattle.cover_logic.specs.Partial.{may_allow, must_allow, may_match, must_match, some_row_may_match, some_row_must_match, asks, some_row_asks, is_tautology, unknown_count}
+use Rattle.cover_logic.proofs.ExtensionLemmas.{passes_above, passes_listed, some_completion, exact_from, exact_says, completes-set, completes-unset}
 
 -- ---- one literal, one row
 
@@ -172,20 +171,6 @@ decided rows trits n h =
 
 -- ---- the cofactors at an unknown pin
 
-completes-set : (trits : List Trit) (bs : List Bool) (pin : ℕ) → Completes trits bs → Completes (set trits pin (bit (get_or bs pin false))) bs
-completes-set [] [] pin c = tt
-completes-set [] (b ∷ bs) pin c = absurd c
-completes-set (t ∷ trits) [] pin c = absurd c
-completes-set (t ∷ trits) (b ∷ bs) zero c = (Below-refl (bit b), c.1)
-completes-set (t ∷ trits) (b ∷ bs) (suc pin) c = (c.0, completes-set trits bs pin c.1)
-
-completes-unset : (trits : List Trit) (bs : List Bool) (pin : ℕ) (b : Bool) → get_or trits pin X ≡ X → Completes (set trits pin (bit b)) bs → Completes trits bs
-completes-unset [] bs pin b e c = c
-completes-unset (t ∷ trits) [] zero b e c = absurd c
-completes-unset (t ∷ trits) [] (suc pin) b e c = absurd c
-completes-unset (t ∷ trits) (d ∷ bs) zero b e c = (rw e tt, c.1)
-completes-unset (t ∷ trits) (d ∷ bs) (suc pin) b e c = (c.0, completes-unset trits bs pin b e c.1)
-
 completes-reset : (trits : List Trit) (bs : List Bool) (pin : ℕ) (d b : Bool) → Completes (set trits pin (bit d)) bs → Completes (set trits pin (bit b)) (set bs pin b)
 completes-reset [] [] pin d b c = tt
 completes-reset [] (e ∷ bs) pin d b c = absurd c
@@ -225,16 +210,14 @@ both_cofactors rows trits pin x =
     (λ bs c. at_bit rows trits pin p.0 p.1 bs (get_or bs pin false) (completes-set trits bs pin c)))
     (λ e. and_from (is_tautology rows (set trits pin Zero)) (is_tautology rows (set trits pin One)) (cofactor rows trits pin false x e) (cofactor rows trits pin true x e))
 
-pub first_cofactor_fails : (rows : List Row) (trits : List Trit) (pin : ℕ) (first : Bool) → get_or trits pin X ≡ X → first ≡ is_tautology rows (set trits pin Zero) → first ≡ false → first ≡ is_tautology rows trits
-first_cofactor_fails rows trits pin first x low e =
-    e ∙ sym (ap (λ b. b && is_tautology rows (set trits pin One)) (sym low ∙ e)) ∙ both_cofactors rows trits pin x
+-- by the two cofactors, of which the second one is asked only where the first one holds
+pub first_fails : (rows : List Row) (trits : List Trit) (pin : ℕ) → get_or trits pin X ≡ X → is_tautology rows (set trits pin Zero) ≡ false → is_tautology rows trits ≡ false
+first_fails rows trits pin x low =
+    sym (both_cofactors rows trits pin x) ∙ ap (λ b. b && is_tautology rows (set trits pin One)) low
 
-pub second_cofactor : (rows : List Row) (trits after : List Trit) (pin : ℕ) (first second : Bool) → get_or trits pin X ≡ X → first ≡ is_tautology rows (set trits pin Zero) → first ≡ true → after ≡ trits → second ≡ is_tautology rows (set after pin One) → second ≡ is_tautology rows trits
-second_cofactor rows trits after pin first second x low e kept high =
-    high
-    ∙ ap (λ ts. is_tautology rows (set ts pin One)) kept
-    ∙ sym (ap (λ b. b && is_tautology rows (set trits pin One)) (sym low ∙ e))
-    ∙ both_cofactors rows trits pin x
+pub first_holds : (rows : List Row) (trits : List Trit) (pin : ℕ) → get_or trits pin X ≡ X → is_tautology rows (set trits pin Zero) ≡ true → is_tautology rows (set trits pin One) ≡ is_tautology rows trits
+first_holds rows trits pin x low =
+    sym (ap (λ b. b && is_tautology rows (set trits pin One)) low) ∙ both_cofactors rows trits pin x
 
 asks_not : (a m : Bool) → (a && m) ≡ false → m ≡ true → a ≡ false
 asks_not false m e h = refl
@@ -263,20 +246,7 @@ one_cofactor rows trits pin true x n =
     (λ e. sym (both_cofactors rows trits pin x) ∙ and_from (is_tautology rows (set trits pin Zero)) (is_tautology rows (set trits pin One)) (harder rows trits pin true x n e) e)
     (cofactor rows trits pin true x)
 
--- ---- a step makes one unknown pin fewer, and makes it unknown again
-
-pub restored : (trits after : List Trit) (pin : ℕ) (t : Trit) → slice_get trits pin ≡ Some X → after ≡ set trits pin t → set after pin X ≡ trits
-restored trits after pin t e k =
-    ap (λ ts. set ts pin X) k
-    ∙ set-set trits pin t X
-    ∙ ap (set trits pin) (sym (get_or_from_slice_get trits pin X X e))
-    ∙ set-get_or trits pin X
-
-abbrev pub unknown_count : List Trit → ℕ
-unknown_count [] = 0
-unknown_count (X ∷ trits) = suc (unknown_count trits)
-unknown_count (Zero ∷ trits) = unknown_count trits
-unknown_count (One ∷ trits) = unknown_count trits
+-- ---- a step makes one unknown pin fewer
 
 pub unknown_count-set : (trits : List Trit) (pin : ℕ) (b : Bool) → get_or trits pin Zero ≡ X → unknown_count trits ≡ suc (unknown_count (set trits pin (bit b)))
 unknown_count-set [] pin b e = cc
@@ -287,6 +257,15 @@ unknown_count-set (One ∷ trits) zero b e = cc
 unknown_count-set (X ∷ trits) (suc pin) b e = ap suc (unknown_count-set trits pin b e)
 unknown_count-set (Zero ∷ trits) (suc pin) b e = unknown_count-set trits pin b e
 unknown_count-set (One ∷ trits) (suc pin) b e = unknown_count-set trits pin b e
+
+-- a step of the walk that gives pins their harder values
+pub reduced : (rows : List Row) (before now after : List Trit) (pin : ℕ) (b : Bool) (t d : Trit) → pin < length now → get_or now pin d ≡ X → some_row_asks rows now pin b ≡ false → t ≡ bit b → after ≡ set now pin t → (is_tautology rows now ≡ is_tautology rows before) × (unknown_count now ≤ unknown_count before) → (is_tautology rows after ≡ is_tautology rows before) × (unknown_count after ≤ unknown_count before)
+reduced rows before now after pin b t d l x n e k h =
+    let is_set : after ≡ set now pin (bit b) = k ∙ ap (set now pin) e in
+    let fewer : unknown_count now ≡ suc (unknown_count (set now pin (bit b))) = unknown_count-set now pin b (get_or_default now pin Zero d l ∙ x) in
+    let same = ap (is_tautology rows) is_set ∙ one_cofactor rows now pin b (get_or_default now pin X d l ∙ x) n ∙ h.0 in
+    let least : unknown_count now ≤ unknown_count before = h.1 in
+    (same, subst (λ ts. unknown_count ts ≤ unknown_count before) (sym is_set) (omega arith))
 
 -- ---- the extension, by what was found of the rows
 

@@ -1,8 +1,8 @@
 -- What rows say where some pins are X.
-use Rattle.std.specs.Prelude.{ℕ, Bool, true, false, not, ◌&&◌, List, slice_index_or}
+use Rattle.std.specs.Prelude.{ℕ, suc, Bool, true, false, not, ◌&&◌, List, [], ◌∷◌, slice_index_or}
 use Rattle.std.specs.List.{list_any, list_all, zip}
 use Rattle.cyc_base.specs.declared.trit.Trit.{Trit}
-use Rattle.cyc_base.specs.declared.trit.Trit.TheVariants.{Zero, One}
+use Rattle.cyc_base.specs.declared.trit.Trit.TheVariants.{Zero, One, X}
 use Rattle.cover_logic.specs.declared.row.Lit.{Lit}
 use Rattle.cover_logic.specs.declared.row.Lit.TheVariants as lit
 use Rattle.cover_logic.specs.declared.row.Row.{Row}
@@ -44,3 +44,9 @@ some_row_asks rows trits pin b = list_any (λ row. asks row.lits pin b && may_ma
 -- whether some row matches at each completion
 abbrev pub is_tautology : List Row → List Trit → Bool
 is_tautology rows trits = list_all (some_row_matches rows) (completions trits)
+
+abbrev pub unknown_count : List Trit → ℕ
+unknown_count [] = 0
+unknown_count (X ∷ trits) = suc (unknown_count trits)
+unknown_count (Zero ∷ trits) = unknown_count trits
+unknown_count (One ∷ trits) = unknown_count trits

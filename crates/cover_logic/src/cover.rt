@@ -10,6 +10,7 @@ use crate::value::value_of_rows;
 use cyc_base::{MAX_PINS, Trit};
 use std::alloc::{AllocError, Global};
 use std::marker::Model;
+use thiserror::Error;
 
 /// A Boolean function of `pins` values, as rows of literals (`.names` of the Berkeley BLIF manual).
 ///
@@ -33,11 +34,13 @@ impl Model for Cover {
 }
 
 /// Why parts make no cover.
-#[derive(Clone, Copy, Debug, PartialEq, Eq)]
+#[derive(Clone, Copy, Debug, PartialEq, Eq, Error)]
 pub enum CoverFault {
     /// There are over 1,024 pins.
+    #[error("the cover has over {MAX_PINS} pins")]
     TooManyPins,
     /// This row, numbered from 0, is the first that doesn't have a literal for each pin.
+    #[error("row {row} of the cover doesn't have a literal for each pin")]
     Width { row: usize },
 }
 

@@ -6,48 +6,17 @@
 //! unknown pin. Where the rows ask for one value alone at that pin, the other one is harder, and its
 //! cofactor decides. So only pins that rows ask both values of are split.
 
-ghost use Rattle.std.specs.Prelude.{◌≡◌, ◌≢◌, ◌<◌, ℕ, [], true, length, slice_get, slice_index_or, slice_set, IfOk, IfSome, IfNone, Some, All};
+ghost use Rattle.std.specs.Prelude.{◌≡◌, ◌≢◌, ◌≤◌, [], true, false, slice_get, slice_set, IfOk, IfSome, IfNone, Some, All};
 ghost use Rattle.cyc_base.specs.declared.trit.Trit.TheVariants.{X};
 ghost use Rattle.cyc_base.specs.Values.{bit};
 ghost use Rattle.cover_logic.specs.Covers.{value_of_rows};
 ghost use Rattle.cover_logic.specs.Extensions.{exact};
-ghost use Rattle.cover_logic.specs.Partial.{may_allow, must_allow, may_match, must_match, some_row_may_match, some_row_must_match, asks, some_row_asks, is_tautology};
+ghost use Rattle.cover_logic.specs.Partial.{may_allow, must_allow, may_match, must_match, some_row_may_match, some_row_must_match, asks, some_row_asks, is_tautology, unknown_count};
 
 use crate::row::{Lit, Row};
 use crate::value::is_allowed;
 use cyc_base::Trit;
 use std::alloc::{AllocError, Global};
-
-/// How many of the rows that may match ask for each value of a pin.
-#[derive(Clone, Copy)]
-struct Tally {
-    zeros: usize,
-    ones: usize,
-}
-
-impl Tally {
-    const NONE: Tally = Tally { zeros: 0, ones: 0 };
-
-    fn count(&mut self, lit: Lit) {
-        match lit {
-            Lit::Zero => self.zeros = self.zeros.saturating_add(1),
-            Lit::One => self.ones = self.ones.saturating_add(1),
-            Lit::Any => {}
-        }
-    }
-
-    /// How well its pin serves to go on: best is one value asked for, since then the pin isn't split.
-    /// Else the more rows ask, the more become decided.
-    fn score(self) -> usize {
-        if self.zeros == 0 && self.ones == 0 {
-            0
-        } else if self.zeros == 0 || self.ones == 0 {
-            usize::MAX
-        } else {
-            self.zeros.saturating_add(self.ones)
-        }
-    }
-}
 
 fn is_maybe_allowed(lit: Lit, pin: Trit) -> bool
     ensures { result ≡ may_allow lit pin }
@@ -118,93 +87,117 @@ fn any_row_asks(rows: &[Row], pins: &[Trit], pin: usize, value: bool) -> bool
     })
 }
 
-fn tally_row(lits: &[Lit], tallies: &mut [Tally]) {
-    for (lit, tally) in lits.iter().zip(tallies) {
-        tally.count(*lit);
+/// The value at which this unknown pin is harder to cover: no row that may match asks for it, so that each
+/// one that matches there matches at the other value too. `None` where rows ask for both.
+fn harder_value(rows: &[Row], pins: &[Trit], pin: usize) -> Option<bool>
+    ensures { IfSome result (λ value. some_row_asks rows.now pins.now pin value ≡ false) }
+{
+    if !any_row_asks(rows, pins, pin, false) {
+        Some(false)
+    } else if !any_row_asks(rows, pins, pin, true) {
+        Some(true)
+    } else {
+        None
     }
 }
 
-/// The tallies of the pins, by the rows that may match.
-fn tally_rows(rows: &[Row], pins: &[Trit], tallies: &mut [Tally]) {
-    tallies.fill(Tally::NONE);
+/// Gives each unknown pin its harder value, where it has one.
+fn reduce(rows: &[Row], pins: &mut [Trit])
+    ensures same { is_tautology rows.now pins.new ≡ is_tautology rows.now pins.old }
+    ensures fewer { unknown_count pins.new ≤ unknown_count pins.old }
+{
+    for pin in 0..pins.len() {
+        if pins[pin] == Trit::X {
+            if let Some(value) = harder_value(rows, pins, pin) {
+                pins[pin] = Trit::of(value);
+            }
+        }
+    }
+}
+
+fn count_asked(lits: &[Lit], counts: &mut [usize]) {
+    for (lit, count) in lits.iter().zip(counts) {
+        if *lit != Lit::Any {
+            *count = count.saturating_add(1);
+        }
+    }
+}
+
+/// The unknown pin that most of the rows that may match ask a value of, or `None` where no pin is unknown.
+fn splitting_pin(alloc: Global, rows: &[Row], pins: &[Trit]) -> Result<Option<usize>, AllocError>
+    ensures unknown { IfOk result (λ found. IfSome found (λ pin. slice_get pins.now pin ≡ Some X)) }
+    ensures none { IfOk result (λ found. IfNone found (All (λ pin. pin ≢ X) pins.now)) }
+{
+    let Some(first) = pins.iter().position(|pin| *pin == Trit::X) else {
+        return Ok(None);
+    };
+    let mut counts = vec![in alloc; 0_usize; pins.len()]?;
     for row in rows {
         if row_maybe_matches(row.lits.items(), pins) {
-            tally_row(row.lits.items(), tallies);
+            count_asked(row.lits.items(), &mut counts);
         }
     }
-}
-
-/// The unknown pin to go on with, or `None` where no pin is unknown.
-fn splitting_pin(rows: &[Row], pins: &[Trit], tallies: &mut [Tally]) -> Option<usize>
-    ensures unknown { IfSome result (λ pin. slice_get pins.now pin ≡ Some X) }
-    ensures none { IfNone result (All (λ pin. pin ≢ X) pins.now) }
-{
-    let first = pins.iter().position(|pin| *pin == Trit::X)?;
-    tally_rows(rows, pins, tallies);
     let mut best = first;
-    let mut best_score = 0;
-    for (pin, tally) in tallies.iter().enumerate() {
-        let score = tally.score();
-        if score > best_score && matches!(pins.get(pin), Some(Trit::X)) {
+    let mut most = 0;
+    for (pin, count) in counts.iter().enumerate() {
+        if *count > most && matches!(pins.get(pin), Some(Trit::X)) {
             best = pin;
-            best_score = score;
+            most = *count;
         }
     }
-    Some(best)
+    Ok(Some(best))
 }
 
 /// Whether some row matches at each completion of the pins.
 #[cycle(tautology)]
-fn is_tautology(rows: &[Row], pins: &mut [Trit], tallies: &mut [Tally]) -> bool
-    ensures exact { result ≡ is_tautology rows.now pins.old }
-    ensures kept { pins.new ≡ pins.old }
+fn rows_are_tautology(alloc: Global, rows: &[Row], pins: &[Trit]) -> Result<bool, AllocError>
+    ensures { IfOk result (λ all. all ≡ is_tautology rows.now pins.now) }
 {
     if any_row_surely_matches(rows, pins) {
-        return true;
+        return Ok(true);
     }
     if !any_row_maybe_matches(rows, pins) {
-        return false;
+        return Ok(false);
     }
-    let Some(pin) = splitting_pin(rows, pins, tallies) else {
-        return false;
+    let Some(pin) = splitting_pin(alloc, rows, pins)? else {
+        return Ok(false);
     };
-    let asks_zero = any_row_asks(rows, pins, pin, false);
-    let asks_one = any_row_asks(rows, pins, pin, true);
-    match (asks_zero, asks_one) {
-        (false, _) => is_tautology_at(rows, pins, tallies, pin, false),
-        (true, false) => is_tautology_at(rows, pins, tallies, pin, true),
-        (true, true) => {
-            is_tautology_at(rows, pins, tallies, pin, false)
-                && is_tautology_at(rows, pins, tallies, pin, true)
+    match harder_value(rows, pins, pin) {
+        Some(value) => cofactor_is_tautology(alloc, rows, pins, pin, value),
+        None => {
+            let low = cofactor_is_tautology(alloc, rows, pins, pin, false)?;
+            if low {
+                cofactor_is_tautology(alloc, rows, pins, pin, true)
+            } else {
+                Ok(false)
+            }
         }
     }
 }
 
-/// The same of the cofactor where this unknown pin has this value.
-#[cycle(tautology)]
-fn is_tautology_at(
-    rows: &[Row],
-    pins: &mut [Trit],
-    tallies: &mut [Tally],
-    pin: usize,
-    value: bool,
-) -> bool
-    requires { slice_get pins.old pin ≡ Some X }
-    ensures exact { result ≡ is_tautology rows.now (slice_set pins.old pin (bit value)) }
-    ensures kept { pins.new ≡ pins.old }
+fn copy_of(alloc: Global, pins: &[Trit]) -> Result<Vec<Trit>, AllocError>
+    ensures { IfOk result (λ copied. copied.items ≡ pins.now) }
 {
-    pins[pin] = Trit::of(value);
-    let all = is_tautology(rows, pins, tallies);
-    pins[pin] = Trit::X;
-    all
+    pins.iter().copied().collect(alloc)
 }
 
-fn rows_are_tautology(alloc: Global, rows: &[Row], trits: &[Trit]) -> Result<bool, AllocError>
-    ensures { IfOk result (λ all. all ≡ is_tautology rows.now trits.now) }
+/// The same where this unknown pin has this value, and after it all pins that have a harder one.
+#[cycle(tautology)]
+fn cofactor_is_tautology(
+    alloc: Global,
+    rows: &[Row],
+    pins: &[Trit],
+    pin: usize,
+    value: bool,
+) -> Result<bool, AllocError>
+    requires { slice_get pins.now pin ≡ Some X }
+    ensures { IfOk result (λ all. all ≡ is_tautology rows.now (slice_set pins.now pin (bit value))) }
 {
-    let mut pins: Vec<Trit> = trits.iter().copied().collect(alloc)?;
-    let mut tallies = vec![in alloc; Tally::NONE; trits.len()]?;
-    Ok(is_tautology(rows, &mut pins, &mut tallies))
+    let mut copied = copy_of(alloc, pins)?;
+    let pins = copied.as_mut_slice();
+    pins[pin] = Trit::of(value);
+    reduce(rows, pins);
+    rows_are_tautology(alloc, rows, pins)
 }
 
 /// The exact extension of the function of rows in a plane. A plane without rows is an on-plane.

@@ -8,6 +8,8 @@ mod cover;
 mod extend;
 pub mod laws;
 mod row;
+#[cfg(test)]
+mod tests;
 mod value;
 
 pub use cover::{Cover, CoverFault};

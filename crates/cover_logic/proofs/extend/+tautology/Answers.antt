@@ -1,69 +1,55 @@
-use Rattle.std.proofs.Common.{◌≡◌, suc, set, false, true, ap, sym, ◌∙◌, arith, true≢false, length-set}
-use Rattle.std.proofs.lemmas.Option.{get_or_from_slice_get, slice_get_within}
+use Rattle.std.proofs.Common.{◌≡◌, ◌≤◌, suc, set, sym, ◌∙◌, subst, true≢false, arith, IfOk}
+use Rattle.std.proofs.lemmas.Option.{get_or_from_slice_get}
 use Rattle.cyc_base.specs.declared.trit.Trit.TheVariants.{X, Zero}
-use Rattle.cyc_base.specs.Values.{bit}
-use Rattle.cover_logic.proofs.TautologyLemmas.{sure, never, decided, first_cofactor_fails, second_cofactor, one_cofactor, unknown_count, unknown_count-set, restored}
+use Rattle.cover_logic.specs.Partial.{unknown_count}
+use Rattle.cover_logic.proofs.TautologyLemmas.{sure, never, decided, one_cofactor, first_fails, first_holds, unknown_count-set}
 use Rattle.cover_logic.proofs.extend.+tautology.Goals as goal
 
-pub is_tautology-returns-then-any_row_surely_matches-clause-exact :
-    goal.is_tautology-returns-then-any_row_surely_matches-clause-exact
-is_tautology-returns-then-any_row_surely_matches-clause-exact t c =
+pub cofactor_is_tautology-rows_are_tautology-requires :
+    goal.cofactor_is_tautology-rows_are_tautology-requires
+cofactor_is_tautology-rows_are_tautology-requires t c =
+    let fewer : unknown_count c.args.pins.now ≡ suc (unknown_count (set c.args.pins.now c.args.pin c.of.result)) =
+    rw c.of.ensures (unknown_count-set c.args.pins.now c.args.pin c.args.value (get_or_from_slice_get c.args.pins.now c.args.pin X Zero c.requires)) in
+    let least : unknown_count c.reduce.new.pins ≤ unknown_count (set c.args.pins.now c.args.pin c.of.result) =
+    rw (← c.in_ok-copied.ensures, ← c.as_mut_slice-pins.ensures.value) c.reduce.ensures.fewer in
+    (omega arith, tt)
+
+pub rows_are_tautology-returns-then-any_row_surely_matches :
+    goal.rows_are_tautology-returns-then-any_row_surely_matches
+rows_are_tautology-returns-then-any_row_surely_matches t c =
     sym (sure c.args.rows.now c.args.pins.now (sym c.any_row_surely_matches.ensures ∙ c.if-any_row_surely_matches.true))
 
-pub is_tautology-returns-then-not-any_row_maybe_matches-clause-exact :
-    goal.is_tautology-returns-then-not-any_row_maybe_matches-clause-exact
-is_tautology-returns-then-not-any_row_maybe_matches-clause-exact t c =
+pub rows_are_tautology-returns-then-not-any_row_maybe_matches :
+    goal.rows_are_tautology-returns-then-not-any_row_maybe_matches
+rows_are_tautology-returns-then-not-any_row_maybe_matches t c =
     sym (never c.args.rows.now c.args.pins.now (sym c.any_row_maybe_matches.ensures ∙ c.if-not-any_row_maybe_matches.true))
 
-pub is_tautology-returns-in_default-clause-exact :
-    goal.is_tautology-returns-in_default-clause-exact
-is_tautology-returns-in_default-clause-exact t c =
+pub rows_are_tautology-returns-in_default : goal.rows_are_tautology-returns-in_default
+rows_are_tautology-returns-in_default t c =
     absurd (true≢false
-    (sym (decided c.args.rows.now c.args.pins.now c.in_default.ensures.none (sym c.any_row_maybe_matches.ensures ∙ c.if-not-any_row_maybe_matches.false))
+    (sym (decided c.args.rows.now c.args.pins.now (rw c.in_default.is at c.in_ok-pin.ensures.none) (sym c.any_row_maybe_matches.ensures ∙ c.if-not-any_row_maybe_matches.false))
     ∙ sym c.any_row_surely_matches.ensures
     ∙ c.if-any_row_surely_matches.false))
 
-pub is_tautology-returns-then-is_tautology_at-clause-exact :
-    goal.is_tautology-returns-then-is_tautology_at-clause-exact
-is_tautology-returns-then-is_tautology_at-clause-exact t c =
-    second_cofactor c.args.rows.now c.args.pins.now c.is_tautology_at.new.pins c.in-Some.pin c.is_tautology_at.result c.is_tautology_at-then-is_tautology_at.result
-    (get_or_from_slice_get c.args.pins.now c.in-Some.pin X X c.in-Some.ensures.unknown)
-    c.is_tautology_at.ensures.exact c.if-is_tautology_at.true c.is_tautology_at.ensures.kept c.is_tautology_at-then-is_tautology_at.ensures.exact
+pub rows_are_tautology-returns-in-Some-harder_value :
+    goal.rows_are_tautology-returns-in-Some-harder_value
+rows_are_tautology-returns-in-Some-harder_value t c =
+    let unknown = rw c.in-Some.is at c.in_ok-pin.ensures.unknown in
+    subst (λ b. IfOk c.cofactor_is_tautology.result (λ all. all ≡ b))
+    (one_cofactor c.args.rows.now c.args.pins.now c.in-Some.pin c.in-Some-harder_value.value
+    (get_or_from_slice_get c.args.pins.now c.in-Some.pin X X unknown) c.in-Some-harder_value.ensures)
+    c.cofactor_is_tautology.ensures
 
-pub is_tautology-returns-else-is_tautology_at-clause-exact :
-    goal.is_tautology-returns-else-is_tautology_at-clause-exact
-is_tautology-returns-else-is_tautology_at-clause-exact t c =
-    first_cofactor_fails c.args.rows.now c.args.pins.now c.in-Some.pin c.is_tautology_at.result
-    (get_or_from_slice_get c.args.pins.now c.in-Some.pin X X c.in-Some.ensures.unknown)
-    c.is_tautology_at.ensures.exact c.if-is_tautology_at.false
+pub rows_are_tautology-returns-then-low : goal.rows_are_tautology-returns-then-low
+rows_are_tautology-returns-then-low t c =
+    let unknown = rw c.in-Some.is at c.in_ok-pin.ensures.unknown in
+    subst (λ b. IfOk c.cofactor_is_tautology-then-low.result (λ all. all ≡ b))
+    (first_holds c.args.rows.now c.args.pins.now c.in-Some.pin
+    (get_or_from_slice_get c.args.pins.now c.in-Some.pin X X unknown) (sym c.in_ok-low-in-None.ensures ∙ c.if-low.true))
+    c.cofactor_is_tautology-then-low.ensures
 
-pub is_tautology-returns-in-true-false-clause-exact :
-    goal.is_tautology-returns-in-true-false-clause-exact
-is_tautology-returns-in-true-false-clause-exact t c =
-    c.is_tautology_at-in-true-false.ensures.exact
-    ∙ one_cofactor c.args.rows.now c.args.pins.now c.in-Some.pin true
-    (get_or_from_slice_get c.args.pins.now c.in-Some.pin X X c.in-Some.ensures.unknown)
-    (sym c.in-true-false.ensures')
-
-pub is_tautology-returns-in-false-default-clause-exact :
-    goal.is_tautology-returns-in-false-default-clause-exact
-is_tautology-returns-in-false-default-clause-exact t c =
-    c.is_tautology_at-in-false-default.ensures.exact
-    ∙ one_cofactor c.args.rows.now c.args.pins.now c.in-Some.pin false
-    (get_or_from_slice_get c.args.pins.now c.in-Some.pin X X c.in-Some.ensures.unknown)
-    (sym c.in-false-default.ensures)
-
-pub is_tautology_at-is_tautology-all-requires : goal.is_tautology_at-is_tautology-all-requires
-is_tautology_at-is_tautology-all-requires t c =
-    let fewer : unknown_count c.args.pins.now ≡ suc (unknown_count (set c.args.pins.now c.args.pin c.of.result)) =
-    rw c.of.ensures (unknown_count-set c.args.pins.now c.args.pin c.args.value (get_or_from_slice_get c.args.pins.now c.args.pin X Zero c.requires)) in
-    (omega arith, tt)
-
-pub is_tautology_at-bounds-pins-pin-2 : goal.is_tautology_at-bounds-pins-pin-2
-is_tautology_at-bounds-pins-pin-2 t c =
-    rw (c.is_tautology-all.ensures.kept, length-set) (slice_get_within c.args.pins.now c.args.pin X c.requires)
-
-pub is_tautology_at-returns-clause-kept : goal.is_tautology_at-returns-clause-kept
-is_tautology_at-returns-clause-kept t c =
-    restored c.args.pins.now c.is_tautology-all.new.pins c.args.pin (bit c.args.value) c.requires
-    (c.is_tautology-all.ensures.kept ∙ ap (set c.args.pins.now c.args.pin) c.of.ensures)
+pub rows_are_tautology-returns-else-low : goal.rows_are_tautology-returns-else-low
+rows_are_tautology-returns-else-low t c =
+    let unknown = rw c.in-Some.is at c.in_ok-pin.ensures.unknown in
+    sym (first_fails c.args.rows.now c.args.pins.now c.in-Some.pin
+    (get_or_from_slice_get c.args.pins.now c.in-Some.pin X X unknown) (sym c.in_ok-low-in-None.ensures ∙ c.if-low.false))
