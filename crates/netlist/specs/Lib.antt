@@ -1,0 +1,4 @@
+pub mod Faults
+pub mod Fixpoint
+pub mod Netlists
+pub mod Walks

@@ -1,0 +1,12 @@
+//! Netlists: latches and gates over numbered signals, and the least fixpoint of their ternary simulation
+//! (Malik 1994; Shiple, Berry and Touati 1996).
+//!
+//! It stands on `cover_logic`, for the value of a gate. The layers above use that the parts of a netlist
+//! meet all conditions of `Netlist::new` (`IsNetlist`), and the laws of the fixpoint (`laws`).
+#![tactic(auto)]
+
+mod netlist;
+mod parts;
+
+pub use netlist::Netlist;
+pub use parts::{Clock, Edge, Gate, Init, Latch, Parts, PartsFault};
