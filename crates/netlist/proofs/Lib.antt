@@ -1,0 +1,4 @@
+pub mod Decisions
+pub mod Differ
+pub mod Repeats
+pub mod Validity

@@ -1,5 +1,5 @@
 -- What is wrong with parts: the first fault that they have.
-use Rattle.std.specs.Prelude.{◌++◌, ◌==◌, ◌&&◌, ℕ, nat_lt, nat_le, Bool, not, if◌then◌else◌, List, [], ◌∷◌, length, Some, None, position, option_map, codes}
+use Rattle.std.specs.Prelude.{◌++◌, ◌==◌, ◌&&◌, ℕ, nat_lt, nat_le, Bool, not, false, if◌then◌else◌, List, [], ◌∷◌, length, Some, None, position, option_map, codes}
 use Rattle.std.specs.declared.option.Option.{Option}
 use Rattle.std.specs.List.{list_all, list_any}
 use Rattle.std.specs.Option.{option_or, option_map_or}
@@ -9,7 +9,7 @@ use Rattle.netlist.specs.declared.parts.Gate.{Gate}
 use Rattle.netlist.specs.declared.parts.Parts.{Parts}
 use Rattle.netlist.specs.declared.parts.PartsFault.{PartsFault}
 use Rattle.netlist.specs.declared.parts.PartsFault.TheVariants.{TooMany, BadSig, PinCount, BadName, NameTwice, OutputTwice, BadClock}
-use Rattle.netlist.specs.Netlists.{signal, sig_eq, count, signal_names, driven_names}
+use Rattle.netlist.specs.Netlists.{signal, sig_eq, count, signal_names, is_driven}
 
 abbrev pub is_signal : ℕ → Sig → Bool
 is_signal signals s = nat_lt s.0 signals
@@ -28,10 +28,16 @@ abbrev pub is_blif_byte : ℕ → Bool
 is_blif_byte b = nat_le 33 b && nat_le b 126 && not (b == 35)
 
 abbrev pub is_blif_name : List ℕ → Bool
-is_blif_name name = not (length name == 0) && list_all is_blif_byte name
+is_blif_name [] = false
+is_blif_name (b ∷ bs) = list_all is_blif_byte (b ∷ bs)
 
+-- the model's name and those of all signals can stand in a BLIF text
 abbrev pub has_blif_names : Parts → Bool
-has_blif_names net = is_blif_name net.name && list_all is_blif_name (signal_names net)
+has_blif_names net =
+    is_blif_name net.name
+    && list_all is_blif_name net.inputs
+    && list_all (λ latch. is_blif_name latch.name) net.latches
+    && list_all (λ gate. is_blif_name gate.name) net.gates
 
 -- the first item that stands among the earlier ones already, with its place
 abbrev pub repeat_after : {T : Type 0} → (T → T → Bool) → List T → List T → Option (ℕ × T)
@@ -45,7 +51,7 @@ first_repeat eq xs = repeat_after eq [] xs
 -- a name that a clock may have: no latch and no gate drives it
 abbrev pub is_clock_name : Parts → List ℕ → Bool
 is_clock_name net name =
-    is_blif_name name && not (bytes_eq name (codes "NIL")) && not (list_any (bytes_eq name) (driven_names net))
+    is_blif_name name && not (bytes_eq name (codes "NIL")) && not (is_driven net name)
 
 -- a clock is there exactly where some latch is clocked, and has a name that it may have
 abbrev pub has_fitting_clock : Parts → Bool

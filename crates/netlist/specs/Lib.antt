@@ -1,4 +1,5 @@
 pub mod Faults
 pub mod Fixpoint
+pub mod Naming
 pub mod Netlists
 pub mod Walks

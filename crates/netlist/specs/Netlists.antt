@@ -1,5 +1,5 @@
 -- What a netlist is, and the numbers and names of its signals.
-use Rattle.std.specs.Prelude.{◌≡◌, ◌≢◌, ◌≤◌, ◌<◌, ◌+◌, ◌++◌, ◌==◌, ℕ, Bool, true, false, List, [], length, map, All, IfSome, is_some, slice_index_or, codes}
+use Rattle.std.specs.Prelude.{◌≡◌, ◌≢◌, ◌≤◌, ◌<◌, ◌+◌, ◌++◌, ◌==◌, ◌||◌, ℕ, Bool, true, false, List, [], length, map, All, IfSome, is_some, slice_index_or, codes}
 use Rattle.std.specs.List.{IsDistinct, list_any}
 use Rattle.std.specs.Str.{bytes_eq}
 use Rattle.cyc_base.specs.Names.{IsBlifName}
@@ -35,6 +35,11 @@ driven_names net = map (λ latch. latch.name) net.latches ++ map (λ gate. gate.
 abbrev pub signal_names : Parts → List (List ℕ)
 signal_names net = net.inputs ++ driven_names net
 
+-- a latch or a gate has this name
+abbrev pub is_driven : Parts → List ℕ → Bool
+is_driven net name =
+    list_any (λ latch. bytes_eq name latch.name) net.latches || list_any (λ gate. bytes_eq name gate.name) net.gates
+
 abbrev pub IsSignal : Parts → Sig → Type 0
 IsSignal net s = s.0 < count net
 
@@ -46,7 +51,7 @@ sig_eq a b = a.0 == b.0
 pub record IsClockName (net : Parts) (name : List ℕ) : Type 0 where
   pub blif : IsBlifName name
   pub named : name ≢ codes "NIL"
-  pub undriven : list_any (bytes_eq name) (driven_names net) ≡ false
+  pub undriven : is_driven net name ≡ false
 
 -- parts that make a netlist
 pub record IsNetlist (net : Parts) : Type 0 where

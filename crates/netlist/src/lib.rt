@@ -5,6 +5,9 @@
 //! meet all conditions of `Netlist::new` (`IsNetlist`), and the laws of the fixpoint (`laws`).
 #![tactic(auto)]
 
+mod checks;
+mod named;
+mod names;
 mod netlist;
 mod parts;
 
