@@ -1,5 +1,6 @@
 pub mod Faults
 pub mod Fixpoint
+pub mod Laws
 pub mod Naming
 pub mod Netlists
 pub mod Walks

@@ -6,6 +6,7 @@
 #![tactic(auto)]
 
 mod checks;
+pub mod laws;
 mod named;
 mod names;
 mod netlist;
