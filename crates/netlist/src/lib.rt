@@ -11,6 +11,8 @@ mod named;
 mod names;
 mod netlist;
 mod parts;
+#[cfg(test)]
+mod tests;
 
 pub use netlist::Netlist;
 pub use parts::{Clock, Edge, Gate, Init, Latch, Parts, PartsFault};

@@ -1,7 +1,7 @@
 ghost use Rattle.std.specs.Prelude.{◌≡◌, ◌⊎◌, ◌+◌, ◌<◌, Some, None, false, length, slice_get, option_copied, IfOk, IfErr, IfSome, IfNone, OnOk};
 ghost use Rattle.std.specs.List.{list_any};
 ghost use Rattle.std.specs.Str.{bytes_eq};
-ghost use Rattle.netlist.specs.Netlists.{count, signal_names as signal_names_of, gate_sig as gate_sig_of, IsNetlist};
+ghost use Rattle.netlist.specs.Netlists.{count, signal_names as signal_names_of, gate_sig as gate_sig_of, gate_at, IsNetlist};
 ghost use Rattle.netlist.specs.Faults.{first_fault};
 
 use crate::checks::{
@@ -155,6 +155,7 @@ impl Netlist {
     pub fn gate(&self, i: u32) -> &Gate
         requires { i < length self.now.gates }
         ensures gate { slice_get self.now.gates i ≡ Some result.now }
+        ensures at { result.now ≡ gate_at self.now i }
         ensures valid { IsNetlist self.now }
     {
         &self.parts.gates.items()[i as usize]
