@@ -1,0 +1,6 @@
+pub mod Pieces
+pub mod ReadingLemmas
+pub mod CutLemmas
+pub mod WordBufferLemmas
+pub mod LineBufferLemmas
+pub mod LoopLemmas

@@ -1,0 +1,166 @@
+-- Lines as words with marks.
+use Rattle.std.proofs.Common.{◌≡◌, ◌≢◌, ℕ, suc, zero, ◌+◌, ◌-◌, ◌<◌, ◌≤◌, List, [], ◌∷◌, ◌++◌, take, drop, length, get_or, refl, sym, ap, subst, ◌∙◌, arith, length-append, length-drop, length-take, drop_of_length-le, append-nil, get_or-take, get_or-drop, true}
+use Rattle.std.proofs.lemmas.List.{drop-append-le}
+use Rattle.std.proofs.lemmas.Grind.{common_steps}
+use Rattle.std.proofs.lemmas.Bool.{ne_eqb}
+use Rattle.std.specs.Prelude.{Bool, if◌then◌else◌}
+use Rattle.blif_text.specs.WordBuffers.{last_end}
+use Rattle.blif_text.specs.Texts.{Line, ends_in_backslash}
+use Rattle.blif_text.specs.Reading.{word_if_filled, line_if_filled}
+use Rattle.blif_text.specs.declared.line_buffer.Mark.{Mark}
+use Rattle.blif_text.specs.Lines.{line_at}
+use Rattle.blif_text.specs.LineBuffers.{end_of, line_of, done_of, words_left, AreMarks, mark_at, mark_begins}
+use Rattle.blif_text.proofs.CutLemmas.{rises_bound, rises_to, rises_end, last_end_end, cut_more, cut_end, length_cut, end_before, begins_first, begins_later, cut_at, part_within}
+
+pub are_marks_none : (parts : List (List ℕ)) → parts ≡ [] → AreMarks parts []
+are_marks_none parts is = record { rises = omega arith }
+
+pub done_none : (parts : List (List ℕ)) → done_of parts [] ≡ []
+unfolding done_of
+done_none parts = refl
+
+pub words_none : (parts : List (List ℕ)) → words_left parts [] ≡ parts
+unfolding words_left
+words_none parts = grind (arith, common_steps)
+
+-- A word more.
+
+pub word_filled : (run : List ℕ) → 0 < length run → word_if_filled run ≡ run ∷ []
+word_filled [] some = absurd (omega arith)
+word_filled (x ∷ xs) some = refl
+
+pub word_empty : (run : List ℕ) → length run ≡ 0 → word_if_filled run ≡ []
+word_empty [] none = refl
+word_empty (x ∷ xs) none = absurd (omega arith)
+
+pub are_marks_more : (parts : List (List ℕ)) (marks : List Mark) (word : List ℕ) → AreMarks parts marks → AreMarks (parts ++ word ∷ []) marks
+are_marks_more parts marks word are =
+    let bound = rises_bound end_of 0 marks (length parts) are.rises in
+    record { rises = rises_to end_of 0 marks (length parts) (length (parts ++ word ∷ [])) are.rises (simp length-append (omega (arith, bound.1))) }
+
+pub done_more : (parts : List (List ℕ)) (marks : List Mark) (word : List ℕ) → AreMarks parts marks → done_of (parts ++ word ∷ []) marks ≡ done_of parts marks
+unfolding done_of
+done_more parts marks word are = cut_more end_of line_of parts (word ∷ []) 0 marks are.rises
+
+pub words_more : (parts : List (List ℕ)) (marks : List Mark) (word : List ℕ) → AreMarks parts marks → words_left (parts ++ word ∷ []) marks ≡ words_left parts marks ++ word ∷ []
+unfolding words_left
+words_more parts marks word are = drop-append-le (last_end end_of 0 marks) parts (word ∷ []) ((rises_bound end_of 0 marks (length parts) are.rises).1)
+
+-- The end of a line.
+
+pub line_filled : (n : ℕ) (words : List (List ℕ)) → 0 < length words → line_if_filled n words ≡ record { number = n; words = words } ∷ []
+line_filled n [] some = absurd (omega arith)
+line_filled n (w ∷ ws) some = refl
+
+pub line_empty : (n : ℕ) (words : List (List ℕ)) → length words ≡ 0 → line_if_filled n words ≡ []
+line_empty n [] none = refl
+line_empty n (w ∷ ws) none = absurd (omega arith)
+
+pub words_length : (parts : List (List ℕ)) (marks : List Mark) → AreMarks parts marks → length (words_left parts marks) + last_end end_of 0 marks ≡ length parts
+unfolding words_left
+words_length parts marks are =
+    let bound = rises_bound end_of 0 marks (length parts) are.rises in
+    simp length-drop (omega (arith, bound.1))
+
+pub are_marks_end : (parts : List (List ℕ)) (marks : List Mark) (m : Mark) → AreMarks parts marks → m.end ≡ length parts → AreMarks parts (marks ++ m ∷ [])
+are_marks_end parts marks m are is = record { rises = rises_end end_of 0 marks m (length parts) are.rises is }
+
+pub done_end : (parts : List (List ℕ)) (marks : List Mark) (m : Mark) → AreMarks parts marks → m.end ≡ length parts
+    → done_of parts (marks ++ m ∷ []) ≡ done_of parts marks ++ line_of m (words_left parts marks) ∷ []
+unfolding done_of words_left
+done_end parts marks m are is = cut_end end_of line_of parts 0 marks m are.rises is
+
+pub words_end : (parts : List (List ℕ)) (marks : List Mark) (m : Mark) → m.end ≡ length parts → words_left parts (marks ++ m ∷ []) ≡ []
+unfolding words_left
+words_end parts marks m is =
+    ap (λ at. drop at parts) (last_end_end end_of 0 marks m ∙ is) ∙ drop_of_length-le parts (omega arith)
+
+-- Lines at a place.
+
+pub length_done : (parts : List (List ℕ)) (marks : List Mark) → length (done_of parts marks) ≡ length marks
+unfolding done_of
+length_done parts marks = length_cut end_of line_of parts 0 marks
+
+pub last_mark_is : (from : ℕ) (marks : List Mark) (d : Mark) → 0 < length marks → (get_or marks (length marks - 1) d).end ≡ last_end end_of from marks
+last_mark_is from [] d some = absurd (omega arith)
+last_mark_is from (x ∷ []) d some = refl
+last_mark_is from (x ∷ y ∷ ys) d some =
+    let e : (suc (length (y ∷ ys)) - 1) ≡ suc (length (y ∷ ys) - 1) = omega arith in
+    rw e (last_mark_is x.end (y ∷ ys) d (omega arith))
+
+begins_is : (marks : List Mark) (k : ℕ) → k < length marks → end_before end_of 0 marks k ≡ mark_begins marks k
+begins_is marks zero inside = begins_first end_of 0 marks
+begins_is marks (suc k) inside =
+    let e : suc k - 1 ≡ k = omega arith in
+    let differs : suc k ≢ 0 = omega arith in
+    let none : Mark = record { number = 0; end = 0 } in
+    begins_later end_of 0 marks k none (omega arith)
+    ∙ sym (ap (λ (t : Bool). if t then 0 else end_of (mark_at marks (suc k - 1))) (ne_eqb (suc k) 0 differs) ∙ ap (λ at. end_of (mark_at marks at)) e)
+
+pub record LineAt (parts : List (List ℕ)) (marks : List Mark) (i from : ℕ) : Type 0 where
+  pub low : from ≤ (mark_at marks i).end
+  pub high : (mark_at marks i).end ≤ length parts
+  pub line : line_at (done_of parts marks) i ≡ line_of (mark_at marks i) (take ((mark_at marks i).end - from) (drop from parts))
+
+pub line_is : (parts : List (List ℕ)) (marks : List Mark) (i : ℕ) → AreMarks parts marks → i < length marks → LineAt parts marks i (mark_begins marks i)
+unfolding done_of
+line_is parts marks i are inside =
+    let none : Mark = record { number = 0; end = 0 } in
+    let empty : Line = record { number = 0; words = [] } in
+    let within = part_within end_of 0 marks (length parts) i none are.rises inside in
+    let P : ℕ → Type 0 = λ from. LineAt parts marks i from in
+    subst P (begins_is marks i inside) (record { low = within.0; high = within.1; line = cut_at end_of line_of parts 0 marks i none empty inside })
+
+-- Under names that goals show.
+
+pub ends_filled : (run : List ℕ) → ends_in_backslash run ≡ true → 0 < length run
+ends_filled [] is = absurd (cc)
+ends_filled (x ∷ xs) is = omega arith
+
+pub line_left : (parts : List (List ℕ)) (marks : List Mark) (n : ℕ) → AreMarks parts marks → last_end end_of 0 marks < length parts
+    → line_if_filled n (words_left parts marks) ≡ record { number = n; words = words_left parts marks } ∷ []
+line_left parts marks n are some = let size = words_length parts marks are in line_filled n (words_left parts marks) (omega (arith, size, some))
+
+pub line_none : (parts : List (List ℕ)) (marks : List Mark) (n : ℕ) → AreMarks parts marks → length parts ≤ last_end end_of 0 marks → line_if_filled n (words_left parts marks) ≡ []
+line_none parts marks n are none = let size = words_length parts marks are in line_empty n (words_left parts marks) (omega (arith, size, none))
+
+pub words_none_left : (parts : List (List ℕ)) (marks : List Mark) → AreMarks parts marks → length parts ≤ last_end end_of 0 marks → words_left parts marks ≡ []
+unfolding words_left
+words_none_left parts marks are none = drop_of_length-le parts none
+
+pub number_is : (parts : List (List ℕ)) (marks : List Mark) (i : ℕ) → AreMarks parts marks → i < length marks → (line_at (done_of parts marks) i).number ≡ (mark_at marks i).number
+number_is parts marks i are inside = ap (λ line. line.number) (line_is parts marks i are inside).line
+
+pub words_low : (parts : List (List ℕ)) (marks : List Mark) (i from : ℕ) → AreMarks parts marks → i < length marks → from ≡ mark_begins marks i → from ≤ (mark_at marks i).end
+words_low parts marks i from are inside is = let at = line_is parts marks i are inside in omega (arith, at.low, is)
+
+words_are : (parts : List (List ℕ)) (marks : List Mark) (i from : ℕ) → AreMarks parts marks → i < length marks → from ≡ mark_begins marks i
+    → (line_at (done_of parts marks) i).words ≡ take ((mark_at marks i).end - from) (drop from parts)
+words_are parts marks i from are inside is =
+    ap (λ line. line.words) (line_is parts marks i are inside).line
+    ∙ ap (λ at. take ((mark_at marks i).end - at) (drop at parts)) (sym is)
+
+pub words_count : (parts : List (List ℕ)) (marks : List Mark) (i from : ℕ) → AreMarks parts marks → i < length marks → from ≡ mark_begins marks i
+    → length (line_at (done_of parts marks) i).words ≡ (mark_at marks i).end - from
+words_count parts marks i from are inside is =
+    let at = line_is parts marks i are inside in
+    let low : from ≤ (mark_at marks i).end = words_low parts marks i from are inside is in
+    ap length (words_are parts marks i from are inside is) ∙ simp (length-take, length-drop) (omega (arith, at.high, low))
+
+pub word_within : (parts : List (List ℕ)) (marks : List Mark) (i from k : ℕ) → AreMarks parts marks → i < length marks → from ≡ mark_begins marks i
+    → k < length (line_at (done_of parts marks) i).words → from + k < length parts
+word_within parts marks i from k are inside is here =
+    let count = words_count parts marks i from are inside is in
+    let at = line_is parts marks i are inside in
+    omega (arith, count, at.high, here)
+
+pub word_is : (parts : List (List ℕ)) (marks : List Mark) (i from k : ℕ) → AreMarks parts marks → i < length marks → from ≡ mark_begins marks i
+    → k < length (line_at (done_of parts marks) i).words → get_or (line_at (done_of parts marks) i).words k [] ≡ get_or parts (from + k) []
+word_is parts marks i from k are inside is here =
+    let count = words_count parts marks i from are inside is in
+    let short : k < (mark_at marks i).end - from = omega (arith, count, here) in
+    ap (λ words. get_or words k []) (words_are parts marks i from are inside is) ∙ rw (get_or-take, get_or-drop)
+
+pub done_kept : (parts : List (List ℕ)) (marks : List Mark) (n : ℕ) → AreMarks parts marks → length parts ≤ last_end end_of 0 marks
+    → done_of parts marks ≡ done_of parts marks ++ line_if_filled n (words_left parts marks)
+done_kept parts marks n are none = sym (ap (λ more. done_of parts marks ++ more) (line_none parts marks n are none) ∙ append-nil (done_of parts marks))

@@ -1,0 +1,322 @@
+-- A reader that goes from byte to byte comes to the lines of the text.
+use Rattle.std.proofs.Common.{◌≡◌, ℕ, ◌+◌, List, [], ◌∷◌, ◌++◌, true, false, refl, sym, ap, subst, ◌∙◌, append_assoc, append-nil, arith}
+use Rattle.std.specs.Prelude.{filter, map, Bool, ◌==◌, ◌&&◌, ◌||◌, if◌then◌else◌, Some, None, Ok, Err}
+use Rattle.std.specs.List.{list_all}
+use Rattle.std.specs.declared.option.Option.{Option}
+use Rattle.std.specs.declared.result.Result.{Result}
+use Rattle.std.proofs.lemmas.List.Elements.{filter-append}
+use Rattle.std.proofs.lemmas.Bool.Decides.{nat_tests}
+use Rattle.blif_text.specs.Texts.{pieces, in_front, is_blank, is_lf, is_allowed, is_printed, words_of, ends_in_backslash, without_last, Joined, Line, joined, continued, in_words, has_words, bad_byte, unless_bad, before_hash, lines, logical, without_cr}
+use Rattle.blif_text.specs.Reading.{State, start, put, end_word, begin_comment, join_line, close_line, line_break, step, finish, word_if_filled, line_if_filled}
+use Rattle.blif_text.proofs.Pieces.{first_of, others_of, first_in_front, others_in_front, pieces_other, pieces_here, pieces_whole, NoBlank, NoBlank-put, NoBlank-without_last, words_behind, words_alone, ends_behind, without_last_behind}
+
+-- the first line with its number and the words in front of its own
+abbrev pub under : ℕ → List (List ℕ) → List Line → List Line
+under n words [] = []
+under n words (line ∷ rest) = record { number = n; words = words ++ line.words } ∷ rest
+
+-- the logical lines of the state and of the physical lines that are left, of which the first is the rest of the current one
+abbrev pub behind : Bool → State → List ℕ → List (List ℕ) → List Line
+behind joins s line rest = s.done ++ filter has_words (under s.first s.words (map in_words (joined joins s.number ((s.run ++ line) ∷ rest))))
+
+abbrev pub answer : Bool → State → List ℕ → List (List ℕ) → Result (List Line) ℕ
+answer joins s line rest = unless_bad (bad_byte s.number (line ∷ rest)) (behind joins s line rest)
+
+abbrev pub line_left : Bool → List ℕ → List ℕ
+line_left comment line = if comment then [] else before_hash line
+
+-- what the definition says of a text, where what was read of it left this state
+abbrev pub meaning : Bool → State → List ℕ → Result (List Line) ℕ
+meaning joins s rest = answer joins s (line_left s.comment (first_of (pieces is_lf rest))) (map before_hash (others_of (pieces is_lf rest)))
+
+-- A byte of a word.
+
+bad_front : (n b : ℕ) (line : List ℕ) (rest : List (List ℕ)) → is_allowed b ≡ true → bad_byte n ((b ∷ line) ∷ rest) ≡ bad_byte n (line ∷ rest)
+bad_front n b line rest allowed = ap (λ (t : Bool). if (t && list_all is_allowed line) then bad_byte (n + 1) rest else Some n) allowed
+
+bad_here : (n b : ℕ) (line : List ℕ) (rest : List (List ℕ)) → is_allowed b ≡ false → bad_byte n ((b ∷ line) ∷ rest) ≡ Some n
+bad_here n b line rest bad = ap (λ (t : Bool). if (t && list_all is_allowed line) then bad_byte (n + 1) rest else Some n) bad
+
+answer_put : (joins : Bool) (s : State) (b : ℕ) (line : List ℕ) (rest : List (List ℕ)) → is_allowed b ≡ true
+    → answer joins s (b ∷ line) rest ≡ answer joins (put b s) line rest
+answer_put joins s b line rest allowed =
+    ap (λ bad. unless_bad bad (behind joins s (b ∷ line) rest)) (bad_front s.number b line rest allowed)
+    ∙ ap (λ whole. unless_bad (bad_byte s.number (line ∷ rest)) (s.done ++ filter has_words (under s.first s.words (map in_words (joined joins s.number (whole ∷ rest))))))
+    (sym (append_assoc s.run (b ∷ []) line))
+
+answer_bad : (joins : Bool) (s : State) (b : ℕ) (line : List ℕ) (rest : List (List ℕ)) → is_allowed b ≡ false
+    → answer joins s (b ∷ line) rest ≡ Err s.number
+answer_bad joins s b line rest bad =
+    ap (λ found. unless_bad found (behind joins s (b ∷ line) rest)) (bad_here s.number b line rest bad)
+
+-- The end of a word.
+
+joins_behind : (joins : Bool) (run : List ℕ) (b : ℕ) (line : List ℕ) → (b == 92) ≡ false → (joins && ends_in_backslash (run ++ b ∷ line)) ≡ (joins && ends_in_backslash line)
+joins_behind joins run b line other = ap (λ t. joins && t) (ends_behind run b line other)
+
+-- the first line of a choice, where the rest is the same
+abbrev pub chosen : Bool → ℕ → List ℕ → List Joined → List Joined
+chosen t n line rest = if t then continued n (without_last line) rest else record { number = n; bytes = line } ∷ rest
+
+under_words : (n m : ℕ) (words : List (List ℕ)) (run : List ℕ) (b : ℕ) (bytes : List ℕ) (rest : List Line) → NoBlank run → is_blank b ≡ true
+    → under n words (in_words (record { number = m; bytes = run ++ b ∷ bytes }) ∷ rest)
+    ≡ under n (words ++ word_if_filled run) (in_words (record { number = m; bytes = bytes }) ∷ rest)
+under_words n m words run b bytes rest none blank =
+    ap (λ (all : List (List ℕ)). let l : Line = record { number = n; words = all } in l ∷ rest)
+    (ap (λ more. words ++ more) (words_behind run b bytes none blank) ∙ sym (append_assoc words (word_if_filled run) (words_of bytes)))
+
+continued_behind : (n m : ℕ) (words : List (List ℕ)) (run : List ℕ) (b : ℕ) (bytes : List ℕ) (rest : List Joined) → NoBlank run → is_blank b ≡ true
+    → under n words (map in_words (continued m (run ++ b ∷ bytes) rest))
+    ≡ under n (words ++ word_if_filled run) (map in_words (continued m bytes rest))
+continued_behind n m words run b bytes [] none blank = under_words n m words run b bytes [] none blank
+continued_behind n m words run b bytes (next ∷ rest) none blank =
+    ap (λ whole. under n words (in_words (record { number = m; bytes = whole }) ∷ map in_words rest)) (append_assoc run (b ∷ bytes) (32 ∷ next.bytes))
+    ∙ under_words n m words run b (bytes ++ 32 ∷ next.bytes) (map in_words rest) none blank
+
+chosen_behind : (joins t : Bool) (n m : ℕ) (words : List (List ℕ)) (run : List ℕ) (b : ℕ) (line : List ℕ) (rest : List Joined) → NoBlank run → is_blank b ≡ true
+    → t ≡ (joins && ends_in_backslash line)
+    → under n words (map in_words (chosen t m (run ++ b ∷ line) rest))
+    ≡ under n (words ++ word_if_filled run) (map in_words (chosen t m line rest))
+chosen_behind joins false n m words run b line rest none blank is = under_words n m words run b line (map in_words rest) none blank
+chosen_behind true true n m words run b [] rest none blank is = cc
+chosen_behind false true n m words run b line rest none blank is = cc
+chosen_behind true true n m words run b (c ∷ line) rest none blank is =
+    ap (λ whole. under n words (map in_words (continued m whole rest))) (without_last_behind run b c line)
+    ∙ continued_behind n m words run b (without_last (c ∷ line)) rest none blank
+
+answer_blank : (joins : Bool) (s : State) (b : ℕ) (line : List ℕ) (rest : List (List ℕ)) → NoBlank s.run → is_blank b ≡ true → is_allowed b ≡ true → (b == 92) ≡ false
+    → answer joins s (b ∷ line) rest ≡ answer joins (end_word s) line rest
+answer_blank joins s b line rest none blank allowed other =
+    ap (λ bad. unless_bad bad (behind joins s (b ∷ line) rest)) (bad_front s.number b line rest allowed)
+    ∙ ap (λ found. unless_bad (bad_byte s.number (line ∷ rest)) (s.done ++ filter has_words found))
+    (ap (λ t. under s.first s.words (map in_words (chosen t s.number (s.run ++ b ∷ line) (joined joins (s.number + 1) rest)))) (joins_behind joins s.run b line other)
+    ∙ chosen_behind joins (joins && ends_in_backslash line) s.first s.number s.words s.run b line (joined joins (s.number + 1) rest) none blank refl)
+
+-- The end of a line.
+
+chosen_whole : (t : Bool) (n : ℕ) (line : List ℕ) (rest : List Joined)
+    → (bytes : List ℕ) × (more : List Joined) × (chosen t n line rest ≡ record { number = n; bytes = bytes } ∷ more)
+chosen_whole true n line [] = (without_last line, [], refl)
+chosen_whole true n line (next ∷ rest) = (without_last line ++ 32 ∷ next.bytes, rest, refl)
+chosen_whole false n line rest = (line, rest, refl)
+
+-- There is a first logical line, with the first number.
+joined_whole : (joins : Bool) (n : ℕ) (line : List ℕ) (rest : List (List ℕ))
+    → (bytes : List ℕ) × (more : List Joined) × (joined joins n (line ∷ rest) ≡ record { number = n; bytes = bytes } ∷ more)
+joined_whole joins n line rest = chosen_whole (joins && ends_in_backslash line) n line (joined joins (n + 1) rest)
+
+under_nothing : (joins : Bool) (n : ℕ) (line : List ℕ) (rest : List (List ℕ))
+    → under n [] (map in_words (joined joins n (line ∷ rest))) ≡ map in_words (joined joins n (line ∷ rest))
+under_nothing joins n line rest =
+    let whole = joined_whole joins n line rest in
+    let P : List Joined → Type 0 = λ all. under n [] (map in_words all) ≡ map in_words all in
+    subst P (sym whole.2) refl
+
+join_under : (n m k : ℕ) (words : List (List ℕ)) (run bytes : List ℕ) (more : List Joined) (all : List Joined) → NoBlank run
+    → all ≡ record { number = k; bytes = bytes } ∷ more
+    → under n words (map in_words (continued m run all)) ≡ under n (words ++ word_if_filled run) (map in_words all)
+join_under n m k words run bytes more all none is =
+    let P : List Joined → Type 0 = λ some. under n words (map in_words (continued m run some)) ≡ under n (words ++ word_if_filled run) (map in_words some) in
+    subst P (sym is) (under_words n m words run 32 bytes (map in_words more) none refl)
+
+has_front : (line : Line) (rest : List Line) → filter has_words (line ∷ rest) ≡ filter has_words (line ∷ []) ++ filter has_words rest
+has_front line rest = filter-append has_words (line ∷ []) rest
+
+behind_line : (joins t : Bool) (s : State) (line : List ℕ) (rest : List (List ℕ)) → NoBlank s.run
+    → s.done ++ filter has_words (under s.first s.words (map in_words (chosen t s.number s.run (joined joins (s.number + 1) (line ∷ rest)))))
+    ≡ behind joins (if t then join_line s else close_line s) line rest
+behind_line joins true s line rest none =
+    let whole = joined_whole joins (s.number + 1) line rest in
+    ap (λ found. s.done ++ filter has_words found)
+    (join_under s.first s.number (s.number + 1) s.words (without_last s.run) whole.0 whole.1 (joined joins (s.number + 1) (line ∷ rest)) (NoBlank-without_last s.run none) whole.2)
+behind_line joins false s line rest none =
+    let next : List Line = map in_words (joined joins (s.number + 1) (line ∷ rest)) in
+    let first : List (List ℕ) → Line = λ words. record { number = s.first; words = s.words ++ words } in
+    ap (λ words. s.done ++ filter has_words (first words ∷ next)) (words_alone s.run none)
+    ∙ ap (λ found. s.done ++ found) (has_front (first (word_if_filled s.run)) next)
+    ∙ sym (append_assoc s.done (filter has_words (first (word_if_filled s.run) ∷ [])) (filter has_words next))
+    ∙ ap (λ found. (s.done ++ line_if_filled s.first (s.words ++ word_if_filled s.run)) ++ filter has_words found) (sym (under_nothing joins (s.number + 1) line rest))
+
+line_number : (t : Bool) (s : State) → (let after : State = if t then join_line s else close_line s in after.number) ≡ s.number + 1
+line_number true s = refl
+line_number false s = refl
+
+answer_line : (joins : Bool) (s : State) (line : List ℕ) (rest : List (List ℕ)) → NoBlank s.run
+    → answer joins s [] (line ∷ rest) ≡ answer joins (line_break joins s) line rest
+answer_line joins s line rest none =
+    let t = joins && ends_in_backslash s.run in
+    ap (λ run. unless_bad (bad_byte (s.number + 1) (line ∷ rest)) (s.done ++ filter has_words (under s.first s.words (map in_words (joined joins s.number (run ∷ line ∷ rest))))))
+    (append-nil s.run)
+    ∙ ap (λ found. unless_bad (bad_byte (s.number + 1) (line ∷ rest)) found) (behind_line joins t s line rest none)
+    ∙ ap (λ n. unless_bad (bad_byte n (line ∷ rest)) (behind joins (line_break joins s) line rest)) (sym (line_number t s))
+
+-- The end of the text.
+
+behind_end : (t : Bool) (s : State) → NoBlank s.run
+    → s.done ++ filter has_words (under s.first s.words (map in_words (chosen t s.number s.run [])))
+    ≡ (let last : State = if t then join_line s else close_line s in last.done ++ line_if_filled last.first last.words)
+behind_end true s none =
+    ap (λ words. s.done ++ line_if_filled s.first (s.words ++ words)) (words_alone (without_last s.run) (NoBlank-without_last s.run none))
+behind_end false s none =
+    ap (λ words. s.done ++ line_if_filled s.first (s.words ++ words)) (words_alone s.run none)
+    ∙ sym (append-nil (s.done ++ line_if_filled s.first (s.words ++ word_if_filled s.run)))
+
+answer_end : (joins : Bool) (s : State) → NoBlank s.run → answer joins s [] [] ≡ Ok (finish joins s)
+answer_end joins s none =
+    ap (λ run. unless_bad None (s.done ++ filter has_words (under s.first s.words (map in_words (joined joins s.number (run ∷ []))))))
+    (append-nil s.run)
+    ∙ ap (λ found. unless_bad None found) (behind_end (joins && ends_in_backslash s.run) s none)
+
+-- From byte to byte.
+
+line_left_nothing : (comment : Bool) → line_left comment [] ≡ []
+line_left_nothing true = refl
+line_left_nothing false = refl
+
+line_goes_on : (t : Bool) (s : State) → (let after : State = if t then join_line s else close_line s in after.comment) ≡ false
+line_goes_on true s = refl
+line_goes_on false s = refl
+
+at_lf : (joins : Bool) (s : State) (b : ℕ) (rest : List ℕ) → NoBlank s.run → is_lf b ≡ true
+    → meaning joins s (b ∷ rest) ≡ meaning joins (line_break joins s) rest
+at_lf joins s b rest none lf =
+    let ps = pieces is_lf rest in
+    ap (λ all. answer joins s (line_left s.comment (first_of all)) (map before_hash (others_of all))) (pieces_here is_lf b rest lf)
+    ∙ ap (λ line. answer joins s line (map before_hash ps)) (line_left_nothing s.comment)
+    ∙ ap (λ all. answer joins s [] (map before_hash all)) (pieces_whole is_lf rest)
+    ∙ answer_line joins s (before_hash (first_of ps)) (map before_hash (others_of ps)) none
+    ∙ ap (λ comment. answer joins (line_break joins s) (line_left comment (first_of ps)) (map before_hash (others_of ps)))
+    (sym (line_goes_on (joins && ends_in_backslash s.run) s))
+
+at_other : (joins : Bool) (s : State) (b : ℕ) (rest : List ℕ) → is_lf b ≡ false
+    → meaning joins s (b ∷ rest) ≡ answer joins s (line_left s.comment (b ∷ first_of (pieces is_lf rest))) (map before_hash (others_of (pieces is_lf rest)))
+at_other joins s b rest other =
+    let ps = pieces is_lf rest in
+    ap (λ all. answer joins s (line_left s.comment (first_of all)) (map before_hash (others_of all))) (pieces_other is_lf b rest other)
+    ∙ ap (λ line. answer joins s (line_left s.comment line) (map before_hash (others_of (in_front b ps)))) (first_in_front b ps)
+    ∙ ap (λ others. answer joins s (line_left s.comment (b ∷ first_of ps)) (map before_hash others)) (others_in_front b ps)
+
+in_comment : (joins : Bool) (s : State) (b : ℕ) (rest : List ℕ) → is_lf b ≡ false → s.comment ≡ true
+    → meaning joins s (b ∷ rest) ≡ meaning joins s rest
+in_comment joins s b rest other comment =
+    let ps = pieces is_lf rest in
+    at_other joins s b rest other
+    ∙ ap (λ t. answer joins s (line_left t (b ∷ first_of ps)) (map before_hash (others_of ps))) comment
+    ∙ ap (λ t. answer joins s (line_left t (first_of ps)) (map before_hash (others_of ps))) (sym comment)
+
+at_plain : (joins : Bool) (s : State) (b : ℕ) (rest : List ℕ) (hash : Bool) → is_lf b ≡ false → s.comment ≡ false → (b == 35) ≡ hash
+    → meaning joins s (b ∷ rest)
+    ≡ answer joins s (if hash then [] else b ∷ before_hash (first_of (pieces is_lf rest))) (map before_hash (others_of (pieces is_lf rest)))
+at_plain joins s b rest hash other comment is =
+    let ps = pieces is_lf rest in
+    at_other joins s b rest other
+    ∙ ap (λ t. answer joins s (line_left t (b ∷ first_of ps)) (map before_hash (others_of ps))) comment
+    ∙ ap (λ (t : Bool). answer joins s (if t then [] else b ∷ before_hash (first_of ps)) (map before_hash (others_of ps))) is
+
+no_comment : (joins : Bool) (s : State) (rest : List ℕ) → s.comment ≡ false
+    → answer joins s (before_hash (first_of (pieces is_lf rest))) (map before_hash (others_of (pieces is_lf rest))) ≡ meaning joins s rest
+no_comment joins s rest comment =
+    let ps = pieces is_lf rest in
+    ap (λ t. answer joins s (line_left t (first_of ps)) (map before_hash (others_of ps))) (sym comment)
+
+no_backslash : (b : ℕ) → is_blank b ≡ true → (b == 92) ≡ false
+no_backslash b blank = grind (arith, nat_tests)
+
+allowed_blank : (b : ℕ) → is_blank b ≡ true → is_allowed b ≡ true
+allowed_blank b blank = ap (λ t. t || is_printed b) blank
+
+allowed_other : (b : ℕ) (printed : Bool) → is_blank b ≡ false → is_printed b ≡ printed → is_allowed b ≡ printed
+allowed_other b printed other is = ap (λ t. t || is_printed b) other ∙ is
+
+-- what the definition says after a step
+abbrev pub after : Bool → State → List ℕ → Option State → Result (List Line) ℕ
+after joins s rest None = Err s.number
+after joins s rest (Some next) = meaning joins next rest
+
+-- the choice of a step, by its tests
+abbrev pub choice : Bool → State → ℕ → Bool → Bool → Bool → Bool → Bool → Option State
+choice joins s b lf comment hash blank printed =
+    if lf then Some (line_break joins s)
+    else (if comment then Some s
+    else (if hash then Some (begin_comment s)
+    else (if blank then Some (end_word s)
+    else (if printed then Some (put b s) else None))))
+
+pub record Tests (s : State) (b : ℕ) (lf comment hash blank printed : Bool) : Type 0 where
+  pub at_lf : is_lf b ≡ lf
+  pub at_comment : s.comment ≡ comment
+  pub at_hash : (b == 35) ≡ hash
+  pub at_blank : is_blank b ≡ blank
+  pub at_printed : is_printed b ≡ printed
+
+meaning_choice : (joins : Bool) (s : State) (b : ℕ) (rest : List ℕ) (lf comment hash blank printed : Bool) → NoBlank s.run → Tests s b lf comment hash blank printed
+    → meaning joins s (b ∷ rest) ≡ after joins s rest (choice joins s b lf comment hash blank printed)
+meaning_choice joins s b rest true comment hash blank printed none t = at_lf joins s b rest none t.at_lf
+meaning_choice joins s b rest false true hash blank printed none t = in_comment joins s b rest t.at_lf t.at_comment
+meaning_choice joins s b rest false false true blank printed none t = at_plain joins s b rest true t.at_lf t.at_comment t.at_hash
+meaning_choice joins s b rest false false false true printed none t =
+    at_plain joins s b rest false t.at_lf t.at_comment t.at_hash
+    ∙ answer_blank joins s b (before_hash (first_of (pieces is_lf rest))) (map before_hash (others_of (pieces is_lf rest))) none t.at_blank
+    (allowed_blank b t.at_blank) (no_backslash b t.at_blank)
+    ∙ no_comment joins (end_word s) rest t.at_comment
+meaning_choice joins s b rest false false false false true none t =
+    at_plain joins s b rest false t.at_lf t.at_comment t.at_hash
+    ∙ answer_put joins s b (before_hash (first_of (pieces is_lf rest))) (map before_hash (others_of (pieces is_lf rest))) (allowed_other b true t.at_blank t.at_printed)
+    ∙ no_comment joins (put b s) rest t.at_comment
+meaning_choice joins s b rest false false false false false none t =
+    at_plain joins s b rest false t.at_lf t.at_comment t.at_hash
+    ∙ answer_bad joins s b (before_hash (first_of (pieces is_lf rest))) (map before_hash (others_of (pieces is_lf rest))) (allowed_other b false t.at_blank t.at_printed)
+
+none_line : (t : Bool) (s : State) → (let after : State = if t then join_line s else close_line s in NoBlank after.run)
+none_line true s = tt
+none_line false s = tt
+
+abbrev NoBlankIn : Option State → Type 0
+NoBlankIn None = Unit {0}
+NoBlankIn (Some s) = NoBlank s.run
+
+none_choice : (joins : Bool) (s : State) (b : ℕ) (lf comment hash blank printed : Bool) → NoBlank s.run → is_blank b ≡ blank
+    → NoBlankIn (choice joins s b lf comment hash blank printed)
+none_choice joins s b true comment hash blank printed none is = none_line (joins && ends_in_backslash s.run) s
+none_choice joins s b false true hash blank printed none is = none
+none_choice joins s b false false true blank printed none is = none
+none_choice joins s b false false false true printed none is = tt
+none_choice joins s b false false false false true none is = NoBlank-put s.run b none is
+none_choice joins s b false false false false false none is = tt
+
+-- The state and the rest of the text have the lines of the text.
+pub record Reads (text : List ℕ) (joins : Bool) (s : State) (rest : List ℕ) : Type 0 where
+  pub whole : meaning joins s rest ≡ lines text joins
+  pub no_blank : NoBlank s.run
+
+pub reads_start : (text : List ℕ) (joins : Bool) → Reads text joins start (without_cr text)
+reads_start text joins =
+    let ps = pieces is_lf (without_cr text) in
+    record {
+      whole =
+          ap (λ found. unless_bad (bad_byte 1 (before_hash (first_of ps) ∷ map before_hash (others_of ps))) (filter has_words found))
+          (under_nothing joins 1 (before_hash (first_of ps)) (map before_hash (others_of ps)))
+          ∙ ap (λ all. unless_bad (bad_byte 1 (map before_hash all)) (logical joins (map before_hash all))) (sym (pieces_whole is_lf (without_cr text)));
+      no_blank = tt;
+    }
+
+step_meaning : (joins : Bool) (s : State) (b : ℕ) (rest : List ℕ) → NoBlank s.run → meaning joins s (b ∷ rest) ≡ after joins s rest (step joins s b)
+step_meaning joins s b rest none =
+    meaning_choice joins s b rest (is_lf b) s.comment (b == 35) (is_blank b) (is_printed b) none
+    (record { at_lf = refl; at_comment = refl; at_hash = refl; at_blank = refl; at_printed = refl })
+
+pub reads_step : (text : List ℕ) (joins : Bool) (s next : State) (b : ℕ) (rest : List ℕ) → Reads text joins s (b ∷ rest) → step joins s b ≡ Some next → Reads text joins next rest
+reads_step text joins s next b rest reads is = record {
+  whole = ap (after joins s rest) (sym is) ∙ sym (step_meaning joins s b rest reads.no_blank) ∙ reads.whole;
+  no_blank = subst NoBlankIn is (none_choice joins s b (is_lf b) s.comment (b == 35) (is_blank b) (is_printed b) reads.no_blank refl);
+}
+
+pub reads_bad : (text : List ℕ) (joins : Bool) (s : State) (b : ℕ) (rest : List ℕ) → Reads text joins s (b ∷ rest) → step joins s b ≡ None → lines text joins ≡ Err s.number
+reads_bad text joins s b rest reads is =
+    sym reads.whole ∙ step_meaning joins s b rest reads.no_blank ∙ ap (after joins s rest) is
+
+nothing_left : (joins : Bool) (s : State) → meaning joins s [] ≡ answer joins s [] []
+nothing_left joins s = ap (λ line. answer joins s line []) (line_left_nothing s.comment)
+
+pub reads_end : (text : List ℕ) (joins : Bool) (s : State) → Reads text joins s [] → lines text joins ≡ Ok (finish joins s)
+reads_end text joins s reads = sym reads.whole ∙ nothing_left joins s ∙ answer_end joins s reads.no_blank

@@ -1,0 +1,162 @@
+-- Bytes with the ends of their parts.
+use Rattle.std.proofs.Common.{◌≡◌, ◌≢◌, ℕ, suc, zero, ◌+◌, ◌-◌, ◌<◌, ◌≤◌, List, [], ◌∷◌, ◌++◌, take, drop, length, get_or, refl, sym, ap, subst, ◌∙◌, arith, length-append, length-drop, drop_of_length-le}
+use Rattle.std.proofs.lemmas.List.{drop-append-le}
+use Rattle.std.proofs.lemmas.Grind.{common_steps}
+use Rattle.std.specs.Prelude.{slice_range, Bool, ◌==◌, if◌then◌else◌}
+use Rattle.std.proofs.lemmas.Bool.{ne_eqb}
+use Rattle.blif_text.specs.WordBuffers.{last_end, parts_of, run_of, AreEnds, begins_at}
+use Rattle.blif_text.specs.Texts.{without_last, ends_in_backslash}
+use Rattle.blif_text.proofs.CutLemmas.{rises_bound, rises_to, rises_end, last_end_end, cut_more, cut_end, length_cut, end_before, begins_first, begins_later, cut_at, part_within}
+
+pub are_ends_none : AreEnds [] []
+are_ends_none = record { rises = omega arith }
+
+pub parts_none : parts_of [] [] ≡ []
+unfolding parts_of
+parts_none = refl
+
+pub run_none : run_of [] [] ≡ []
+unfolding run_of
+run_none = grind (arith, common_steps)
+
+-- A byte more.
+
+pub are_ends_more : (bytes ends : List ℕ) (b : ℕ) → AreEnds bytes ends → AreEnds (bytes ++ b ∷ []) ends
+are_ends_more bytes ends b are =
+    let bound = rises_bound (λ e. e) 0 ends (length bytes) are.rises in
+    record { rises = rises_to (λ e. e) 0 ends (length bytes) (length (bytes ++ b ∷ [])) are.rises (simp length-append (omega (arith, bound.1))) }
+
+pub parts_more : (bytes ends : List ℕ) (b : ℕ) → AreEnds bytes ends → parts_of (bytes ++ b ∷ []) ends ≡ parts_of bytes ends
+unfolding parts_of
+parts_more bytes ends b are = cut_more (λ e. e) (λ e part. part) bytes (b ∷ []) 0 ends are.rises
+
+pub run_more : (bytes ends : List ℕ) (b : ℕ) → AreEnds bytes ends → run_of (bytes ++ b ∷ []) ends ≡ run_of bytes ends ++ b ∷ []
+unfolding run_of
+run_more bytes ends b are = drop-append-le (last_end (λ e. e) 0 ends) bytes (b ∷ []) ((rises_bound (λ e. e) 0 ends (length bytes) are.rises).1)
+
+-- A part ended.
+
+pub are_ends_end : (bytes ends : List ℕ) (n : ℕ) → AreEnds bytes ends → n ≡ length bytes → AreEnds bytes (ends ++ n ∷ [])
+are_ends_end bytes ends n are is = record { rises = rises_end (λ e. e) 0 ends n (length bytes) are.rises is }
+
+pub parts_end : (bytes ends : List ℕ) (n : ℕ) → AreEnds bytes ends → n ≡ length bytes → parts_of bytes (ends ++ n ∷ []) ≡ parts_of bytes ends ++ run_of bytes ends ∷ []
+unfolding parts_of run_of
+parts_end bytes ends n are is = cut_end (λ e. e) (λ e part. part) bytes 0 ends n are.rises is
+
+pub run_end : (bytes ends : List ℕ) (n : ℕ) → n ≡ length bytes → run_of bytes (ends ++ n ∷ []) ≡ []
+unfolding run_of
+run_end bytes ends n is =
+    ap (λ at. drop at bytes) (last_end_end (λ e. e) 0 ends n ∙ is) ∙ drop_of_length-le bytes (omega arith)
+
+-- A byte fewer.
+
+pub run_length : (bytes ends : List ℕ) → AreEnds bytes ends → length (run_of bytes ends) + last_end (λ e. e) 0 ends ≡ length bytes
+unfolding run_of
+run_length bytes ends are =
+    let bound = rises_bound (λ e. e) 0 ends (length bytes) are.rises in
+    simp length-drop (omega (arith, bound.1))
+
+without_last_end : (xs : List ℕ) (b : ℕ) → without_last (xs ++ b ∷ []) ≡ xs
+without_last_end [] b = refl
+without_last_end (x ∷ []) b = refl
+without_last_end (x ∷ y ∷ ys) b = ap (λ more. x ∷ more) (without_last_end (y ∷ ys) b)
+
+ends_at_end : (xs : List ℕ) (b : ℕ) → ends_in_backslash (xs ++ b ∷ []) ≡ (b == 92)
+ends_at_end [] b = refl
+ends_at_end (x ∷ []) b = refl
+ends_at_end (x ∷ y ∷ ys) b = ends_at_end (y ∷ ys) b
+
+pub without_last_take : (xs : List ℕ) → take (length xs - 1) xs ≡ without_last xs
+without_last_take [] = refl
+without_last_take (x ∷ []) = refl
+without_last_take (x ∷ y ∷ ys) =
+    let e : (suc (length (y ∷ ys)) - 1) ≡ suc (length (y ∷ ys) - 1) = omega arith in
+    rw e (ap (λ more. x ∷ more) (without_last_take (y ∷ ys)))
+
+pub ends_by_last : (xs : List ℕ) → 0 < length xs → ends_in_backslash xs ≡ (get_or xs (length xs - 1) 0 == 92)
+ends_by_last [] some = absurd (omega arith)
+ends_by_last (x ∷ []) some = refl
+ends_by_last (x ∷ y ∷ ys) some =
+    let e : (suc (length (y ∷ ys)) - 1) ≡ suc (length (y ∷ ys) - 1) = omega arith in
+    rw e (ends_by_last (y ∷ ys) (omega arith))
+
+split_last : (xs : List ℕ) → 0 < length xs → (front : List ℕ) × (b : ℕ) × (xs ≡ front ++ b ∷ []) × (take (length xs - 1) xs ≡ front)
+split_last [] some = absurd (omega arith)
+split_last (x ∷ []) some = ([], x, refl, refl)
+split_last (x ∷ y ∷ ys) some =
+    let more = split_last (y ∷ ys) (omega arith) in
+    let e : (suc (length (y ∷ ys)) - 1) ≡ suc (length (y ∷ ys) - 1) = omega arith in
+    (x ∷ more.0, more.1, ap (λ rest. x ∷ rest) more.2, rw e (ap (λ rest. x ∷ rest) more.3))
+
+pub record Fewer (bytes fewer ends : List ℕ) : Type 0 where
+  pub are : AreEnds fewer ends
+  pub parts : parts_of fewer ends ≡ parts_of bytes ends
+  pub run : run_of fewer ends ≡ without_last (run_of bytes ends)
+
+pub fewer : (bytes ends : List ℕ) → AreEnds bytes ends → 0 < length (run_of bytes ends) → Fewer bytes (take (length bytes - 1) bytes) ends
+fewer bytes ends are some =
+    let size = run_length bytes ends are in
+    let split = split_last bytes (omega (arith, size, some)) in
+    let long : length bytes ≡ length split.0 + 1 = ap length split.2 ∙ length-append split.0 (split.1 ∷ []) in
+    let front : AreEnds split.0 ends = record { rises = rises_to (λ e. e) 0 ends (length bytes) (length split.0) are.rises (omega (arith, size, some, long)) } in
+    let P : List ℕ → Type 0 = λ now. Fewer bytes now ends in
+    subst P (sym split.3) (record {
+      are = front;
+      parts = sym (parts_more split.0 ends split.1 front) ∙ ap (λ all. parts_of all ends) (sym split.2);
+      run = sym (without_last_end (run_of split.0 ends) split.1) ∙ ap without_last (sym (run_more split.0 ends split.1 front) ∙ ap (λ all. run_of all ends) (sym split.2));
+    })
+
+-- The part at a place.
+
+pub length_parts : (bytes ends : List ℕ) → length (parts_of bytes ends) ≡ length ends
+unfolding parts_of
+length_parts bytes ends = length_cut (λ e. e) (λ e part. part) bytes 0 ends
+
+pub record PartAt (bytes ends : List ℕ) (k from to : ℕ) : Type 0 where
+  pub low : from ≤ to
+  pub high : to ≤ length bytes
+  pub part : get_or (parts_of bytes ends) k [] ≡ slice_range bytes from to
+
+begins_is : (ends : List ℕ) (k : ℕ) → k < length ends → end_before (λ e. e) 0 ends k ≡ begins_at ends k
+begins_is ends zero inside = begins_first (λ e. e) 0 ends
+begins_is ends (suc k) inside =
+    let e : suc k - 1 ≡ k = omega arith in
+    let differs : suc k ≢ 0 = omega arith in
+    begins_later (λ e. e) 0 ends k 0 (omega arith)
+    ∙ sym (ap (λ (t : Bool). if t then 0 else get_or ends (suc k - 1) 0) (ne_eqb (suc k) 0 differs) ∙ ap (λ at. get_or ends at 0) e)
+
+pub part_at : (bytes ends : List ℕ) (k : ℕ) → AreEnds bytes ends → k < length ends → PartAt bytes ends k (begins_at ends k) (get_or ends k 0)
+unfolding parts_of
+part_at bytes ends k are inside =
+    let within = part_within (λ e. e) 0 ends (length bytes) k 0 are.rises inside in
+    let P : ℕ → Type 0 = λ from. PartAt bytes ends k from (get_or ends k 0) in
+    subst P (begins_is ends k inside) (record { low = within.0; high = within.1; part = cut_at (λ e. e) (λ e part. part) bytes 0 ends k 0 [] inside })
+
+pub run_fits : (bytes ends : List ℕ) (from : ℕ) → AreEnds bytes ends → from ≡ last_end (λ e. e) 0 ends → from ≤ length bytes
+run_fits bytes ends from are is = omega (arith, (rises_bound (λ e. e) 0 ends (length bytes) are.rises).1, is)
+
+pub run_is : (bytes ends : List ℕ) (from : ℕ) → AreEnds bytes ends → from ≡ last_end (λ e. e) 0 ends → slice_range bytes from (length bytes) ≡ run_of bytes ends
+unfolding run_of
+run_is bytes ends from are is =
+    let size : length bytes - from ≡ length (drop from bytes) = simp length-drop refl in
+    rw size (grind (arith, common_steps, is))
+
+pub part_low : (bytes ends : List ℕ) (k from : ℕ) → AreEnds bytes ends → k < length ends → from ≡ begins_at ends k → from ≤ get_or ends k 0
+part_low bytes ends k from are inside is = let at = part_at bytes ends k are inside in omega (arith, at.low, is)
+
+pub part_high : (bytes ends : List ℕ) (k : ℕ) → AreEnds bytes ends → k < length ends → get_or ends k 0 ≤ length bytes
+part_high bytes ends k are inside = (part_at bytes ends k are inside).high
+
+pub part_is : (bytes ends : List ℕ) (k from : ℕ) → AreEnds bytes ends → k < length ends → from ≡ begins_at ends k
+    → slice_range bytes from (get_or ends k 0) ≡ get_or (parts_of bytes ends) k []
+part_is bytes ends k from are inside is = ap (λ at. slice_range bytes at (get_or ends k 0)) is ∙ sym (part_at bytes ends k are inside).part
+
+pub last_end_is : (from : ℕ) (ends : List ℕ) → 0 < length ends → get_or ends (length ends - 1) 0 ≡ last_end (λ e. e) from ends
+last_end_is from [] some = absurd (omega arith)
+last_end_is from (x ∷ []) some = refl
+last_end_is from (x ∷ y ∷ ys) some =
+    let e : (suc (length (y ∷ ys)) - 1) ≡ suc (length (y ∷ ys) - 1) = omega arith in
+    rw e (last_end_is x (y ∷ ys) (omega arith))
+
+pub fewer_parts : (bytes now ends : List ℕ) → AreEnds bytes ends → 0 < length (run_of bytes ends) → now ≡ take (length bytes - 1) bytes → parts_of now ends ≡ parts_of bytes ends
+fewer_parts bytes now ends are some is = ap (λ all. parts_of all ends) is ∙ (fewer bytes ends are some).parts

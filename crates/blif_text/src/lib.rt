@@ -1,0 +1,19 @@
+//! The logical lines of a text: its lines without comments, joined where they end in `\`, as words
+//! with line numbers.
+//!
+//! It stands on std alone. The crates above use that `Lines::of` gives the lines which the text has by
+//! definition, or the first line with a byte that isn't allowed.
+#![tactic(auto)]
+
+mod fault;
+mod line_buffer;
+mod lines;
+mod marks;
+mod reader;
+mod word_buffer;
+
+pub use fault::TextFault;
+pub use lines::{Lines, end_line};
+
+#[cfg(test)]
+mod tests;

@@ -1,0 +1,147 @@
+// Lines, kept as their words and the marks where they end.
+ghost use Rattle.std.specs.Prelude.{◌≡◌, ◌<◌, ◌≤◌, ◌^◌, ◌&&◌, ◌==◌, ◌++◌, ◌∷◌, [], OnOk, OnErr, if◌then◌else◌, length, slice_index_or};
+ghost use Rattle.blif_text.specs.Texts.{without_last, ends_in_backslash};
+ghost use Rattle.blif_text.specs.Lines.{line_at};
+ghost use Rattle.blif_text.specs.Reading.{word_if_filled, line_if_filled};
+
+use crate::marks::{count_of, last_end, start_of};
+use crate::word_buffer::WordBuffer;
+use std::alloc::{AllocError, Global};
+use std::marker::Model;
+
+// A line's number, and how many words there are up to its end.
+#[derive(Clone, Copy)]
+pub struct Mark {
+    pub number: u64,
+    pub end: usize,
+}
+
+// The lines that are ended, and the words and bytes behind them.
+#[derive(Drop)]
+pub struct LineBuffer {
+    words: WordBuffer,
+    marks: Vec<Mark>,
+}
+
+impl Model for LineBuffer {
+    ghost use Rattle.blif_text.specs.LineBuffers.{Stored, done_of, words_left, AreMarks};
+
+    ghost Value = { Stored };
+
+    ghost view = { λ buffer. record {
+      done = done_of buffer.words.parts buffer.marks.items;
+      words = words_left buffer.words.parts buffer.marks.items;
+      run = buffer.words.run;
+    } };
+
+    ghost invariant = { λ buffer. AreMarks buffer.words.parts buffer.marks.items };
+}
+
+impl LineBuffer {
+    #[tactic(auto, using(crate::proofs::LineBufferLemmas::are_marks_none, crate::proofs::LineBufferLemmas::done_none, crate::proofs::LineBufferLemmas::words_none))]
+    pub fn new(alloc: Global) -> LineBuffer
+        ensures done { result.done ≡ [] }
+        ensures words { result.words ≡ [] }
+        ensures run { result.run ≡ [] }
+    {
+        LineBuffer {
+            words: WordBuffer::new(alloc),
+            marks: Vec::new(alloc),
+        }
+    }
+
+    pub fn push(&mut self, b: u8) -> Result<(), AllocError>
+        ensures done { OnOk result (self.new.done ≡ self.old.done) }
+        ensures words { OnOk result (self.new.words ≡ self.old.words) }
+        ensures run { OnOk result (self.new.run ≡ self.old.run ++ b ∷ []) }
+    {
+        self.words.push(b)?;
+        Ok(())
+    }
+
+    // Ends the word, where it has bytes.
+    #[tactic(auto, using(crate::proofs::LineBufferLemmas::word_filled, crate::proofs::LineBufferLemmas::word_empty, crate::proofs::LineBufferLemmas::are_marks_more, crate::proofs::LineBufferLemmas::done_more, crate::proofs::LineBufferLemmas::words_more))]
+    pub fn end_word(&mut self) -> Result<(), AllocError>
+        ensures done { OnOk result (self.new.done ≡ self.old.done) }
+        ensures words { OnOk result (self.new.words ≡ self.old.words ++ word_if_filled self.old.run) }
+        ensures run { OnOk result (self.new.run ≡ []) }
+    {
+        if !self.words.run().is_empty() {
+            self.words.end()?;
+        }
+        Ok(())
+    }
+
+    // Drops a `\` at the end, where there is one, and says so.
+    #[tactic(auto, using(crate::proofs::LineBufferLemmas::ends_filled))]
+    pub fn drop_backslash(&mut self) -> bool
+        ensures found { result ≡ ends_in_backslash self.old.run }
+        ensures done { self.new.done ≡ self.old.done }
+        ensures words { self.new.words ≡ self.old.words }
+        ensures run { self.new.run ≡ (if result then without_last self.old.run else self.old.run) }
+    {
+        let found = ends_in_backslash(self.words.run());
+        if found {
+            self.words.pop();
+        }
+        found
+    }
+
+    // Ends the line, where it has words.
+    #[tactic(auto, using(crate::proofs::LineBufferLemmas::are_marks_end, crate::proofs::LineBufferLemmas::done_end, crate::proofs::LineBufferLemmas::words_end, crate::proofs::LineBufferLemmas::line_left, crate::proofs::LineBufferLemmas::line_none, crate::proofs::LineBufferLemmas::words_none_left))]
+    pub fn end_line(&mut self, number: u64) -> Result<(), AllocError>
+        ensures done { OnOk result (self.new.done ≡ self.old.done ++ line_if_filled number self.old.words) }
+        ensures words { OnOk result (self.new.words ≡ []) }
+        ensures run { OnOk result (self.new.run ≡ self.old.run) }
+    {
+        let end = self.words.len();
+        if last_end(&self.marks) < end {
+            self.marks.push(Mark { number, end })?;
+        }
+        Ok(())
+    }
+
+    #[tactic(auto, using(crate::proofs::LineBufferLemmas::length_done))]
+    pub fn len(&self) -> usize
+        ensures { result ≡ length self.now.done }
+    {
+        self.marks.len()
+    }
+
+    #[tactic(auto, using(crate::proofs::LineBufferLemmas::length_done, crate::proofs::LineBufferLemmas::number_is))]
+    pub fn number(&self, i: usize) -> u64
+        requires { i < length self.now.done }
+        ensures { result ≡ (line_at self.now.done i).number }
+    {
+        self.marks[i].number
+    }
+
+    #[tactic(auto, using(crate::proofs::LineBufferLemmas::length_done, crate::proofs::LineBufferLemmas::words_low, crate::proofs::LineBufferLemmas::words_count))]
+    pub fn words(&self, i: usize) -> usize
+        requires { i < length self.now.done }
+        ensures { result ≡ length (line_at self.now.done i).words }
+    {
+        count_of(&self.marks, i)
+    }
+
+    #[tactic(auto, using(crate::proofs::LineBufferLemmas::length_done, crate::proofs::LineBufferLemmas::word_within, crate::proofs::LineBufferLemmas::word_is))]
+    pub fn word(&self, i: usize, k: usize) -> &[u8]
+        requires line { i < length self.now.done }
+        requires word { k < length (line_at self.now.done i).words }
+        ensures { result.now ≡ slice_index_or (line_at self.now.done i).words k [] }
+    {
+        let _count = self.words.len();
+        self.words.part(start_of(&self.marks, i) + k)
+    }
+}
+
+// Whether the last byte is a `\`.
+#[tactic(auto, using(crate::proofs::WordBufferLemmas::ends_by_last))]
+fn ends_in_backslash(run: &[u8]) -> bool
+    ensures { result ≡ ends_in_backslash run.now }
+{
+    match run {
+        [.., last] => *last == b'\\',
+        [] => false,
+    }
+}
