@@ -1,0 +1,12 @@
+//! The models of a BLIF text (the Berkeley BLIF manual, in this project's profile).
+//!
+//! It stands on `blif_text` for the lines, on `cover_logic` for covers and on `netlist` for clocks and
+//! inits. The layer above uses that `read` gives the models that the text has by definition, or its first
+//! fault, and that these models can be flattened.
+#![tactic(auto)]
+
+mod fault;
+mod models;
+
+pub use fault::BlifFault;
+pub use models::{BlifModel, GateLine, Item, LatchLine, Models, PartLine};

@@ -1,0 +1,68 @@
+ghost use Rattle.std.specs.Prelude.{◌≡◌, position};
+ghost use Rattle.std.specs.Str.{bytes_eq};
+ghost use Rattle.blif_read.specs.Find.{has_name};
+
+use cover_logic::Cover;
+use cyc_base::{Items, Name};
+use netlist::{Clock, Init};
+
+/// The models of a BLIF text, in the order of the text.
+#[derive(Debug, Drop)]
+pub struct Models {
+    pub list: Items<BlifModel>,
+}
+
+/// A model: its `.inputs`, `.outputs` and `.clock` names in order, and what its other lines say.
+#[derive(Debug, Drop)]
+pub struct BlifModel {
+    pub name: Name,
+    pub inputs: Items<Name>,
+    pub outputs: Items<Name>,
+    pub clocks: Items<Name>,
+    /// The gates, latches and instances in the order of the text.
+    pub body: Items<Item>,
+}
+
+/// A gate, a latch or an instance of a model.
+#[derive(Debug, Drop)]
+pub enum Item {
+    Gate(GateLine),
+    Latch(LatchLine),
+    Part(PartLine),
+}
+
+/// A `.names` line with its rows: pin number `i` of the cover reads the wire `pins[i]`.
+#[derive(Debug, Drop)]
+pub struct GateLine {
+    pub pins: Items<Name>,
+    pub output: Name,
+    pub cover: Cover,
+}
+
+/// A `.latch` line. Without a control it belongs to the one global clock.
+#[derive(Debug, Drop)]
+pub struct LatchLine {
+    pub from: Name,
+    pub output: Name,
+    pub control: Option<Clock>,
+    pub init: Init,
+}
+
+/// A `.subckt` line: an instance of a model, with pairs of a formal and its actual, formal first.
+#[derive(Debug, Drop)]
+pub struct PartLine {
+    pub model: Name,
+    pub pairs: Items<(Name, Name)>,
+}
+
+impl Models {
+    /// The place of the first model of this name, or `None` exactly where no model has it.
+    pub fn find(&self, name: &Name) -> Option<usize>
+        ensures { result ≡ position (has_name name.now) self.now.list }
+    {
+        self.list
+            .items()
+            .iter()
+            .position(|model| model.name == *name)
+    }
+}
