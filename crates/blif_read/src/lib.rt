@@ -6,7 +6,9 @@
 #![tactic(auto)]
 
 mod fault;
+mod kind;
 mod models;
+mod statement;
 
 pub use fault::BlifFault;
 pub use models::{BlifModel, GateLine, Item, LatchLine, Models, PartLine};
