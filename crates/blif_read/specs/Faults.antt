@@ -7,19 +7,17 @@ use Rattle.blif_read.specs.declared.kind.Kind.{Kind}
 use Rattle.blif_read.specs.declared.kind.Kind.TheVariants.{Row, Model, Inputs, Outputs, Clock, Names, Latch, Subckt, End, ReadOver, LeftOut as LeavesOut, Unknown}
 use Rattle.blif_read.specs.declared.fault.BlifFault.{BlifFault}
 use Rattle.blif_read.specs.declared.fault.BlifFault.TheVariants.{OutsideModel, BadModel, ModelTwice, LeftOut, UnknownDirective, StrayRow, BadRow, MixedRows, NoOutputName, TooManyPins, BadLatch, LevelLatch, BadSubckt}
-use Rattle.blif_read.specs.Kinds.{kind, word_at, arguments}
-use Rattle.blif_read.specs.Places.{in_model, cover_line, first_row, is_model_name}
+use Rattle.blif_read.specs.declared.place.Place.{Place}
+use Rattle.blif_read.specs.Kinds.{kind, word_at, arguments, model_name, is_on}
+use Rattle.blif_read.specs.Places.{place_behind, is_model_name}
 
 -- `.model`: one word, a name that no earlier model has
 
-abbrev pub model_fault : ℕ → List (List ℕ) → List Line → Option BlifFault
-model_fault n (name ∷ []) earlier = if is_model_name name earlier then Some (ModelTwice n) else None
-model_fault n other earlier = Some (BadModel n)
+abbrev pub model_fault : ℕ → List (List ℕ) → Bool → Option BlifFault
+model_fault n (name ∷ []) taken = if taken then Some (ModelTwice n) else None
+model_fault n other taken = Some (BadModel n)
 
 -- `.names`: an output, behind at most 1,024 pins
-
-abbrev pub pin_count : List (List ℕ) → ℕ
-pin_count names = length names - 1
 
 abbrev pub names_fault : ℕ → List (List ℕ) → Option BlifFault
 names_fault n [] = Some (NoOutputName n)
@@ -38,18 +36,6 @@ is_row_of zero (plane ∷ []) = is_plane plane
 is_row_of (suc n) (lits ∷ plane ∷ []) = (length lits == suc n) && list_all is_lit lits && is_plane plane
 is_row_of pins other = false
 
--- the last word of a line, which is a row's plane
-abbrev pub last_word : Line → List ℕ
-last_word line = word_at line.words (length line.words - 1)
-
--- whether a row is of the on-plane
-abbrev pub is_on : Line → Bool
-is_on line = bytes_eq (last_word line) (codes "1")
-
--- the plane of the cover's first row, if there is one
-abbrev pub first_plane : List Line → Option Bool
-first_plane earlier = option_map is_on (first_row earlier)
-
 abbrev pub same_plane : Bool → Bool → Bool
 same_plane true b = b
 same_plane false b = not b
@@ -63,10 +49,6 @@ row_fault_in pins first line =
     if is_row_of pins line.words
     then (if differs first (is_on line) then Some (MixedRows line.number) else None)
     else Some (BadRow line.number)
-
--- the pins of the cover to which rows belong, if they belong to one
-abbrev pub cover_pins : List Line → Option ℕ
-cover_pins earlier = option_map (λ names. pin_count (arguments names)) (cover_line earlier)
 
 abbrev pub row_fault : Option ℕ → Option Bool → Line → Option BlifFault
 row_fault None first line = Some (StrayRow line.number)
@@ -116,23 +98,24 @@ subckt_fault n [] = Some (BadSubckt n)
 subckt_fault n (model ∷ pairs) = if list_all is_pair pairs then None else Some (BadSubckt n)
 
 -- The fault of a line in a model in progress.
-abbrev pub fault_inside : Kind → Line → List Line → Option BlifFault
-fault_inside LeavesOut line earlier = Some (LeftOut line.number)
-fault_inside Unknown line earlier = Some (UnknownDirective line.number)
-fault_inside Row line earlier = row_fault (cover_pins earlier) (first_plane earlier) line
-fault_inside Names line earlier = names_fault line.number (arguments line)
-fault_inside Latch line earlier = latch_fault line.number (arguments line)
-fault_inside Subckt line earlier = subckt_fault line.number (arguments line)
-fault_inside other line earlier = None
+abbrev pub fault_inside : Kind → Line → Place → Option BlifFault
+fault_inside LeavesOut line place = Some (LeftOut line.number)
+fault_inside Unknown line place = Some (UnknownDirective line.number)
+fault_inside Row line place = row_fault place.pins place.first line
+fault_inside Names line place = names_fault line.number (arguments line)
+fault_inside Latch line place = latch_fault line.number (arguments line)
+fault_inside Subckt line place = subckt_fault line.number (arguments line)
+fault_inside other line place = None
 
-abbrev pub fault_of_kind : Kind → Line → List Line → Option BlifFault
-fault_of_kind Model line earlier = model_fault line.number (arguments line) earlier
-fault_of_kind other line earlier =
-    if in_model earlier then fault_inside other line earlier else Some (OutsideModel line.number)
+-- The fault of a line at a place, where it is told whether an earlier model has the line's second word as its name.
+abbrev pub fault_at : Kind → Line → Place → Bool → Option BlifFault
+fault_at Model line place taken = model_fault line.number (arguments line) taken
+fault_at other line place taken =
+    if place.in_model then fault_inside other line place else Some (OutsideModel line.number)
 
 -- The fault of a line behind earlier ones, of which the nearest stands first.
 abbrev pub fault : Line → List Line → Option BlifFault
-fault line earlier = fault_of_kind (kind line) line earlier
+fault line earlier = fault_at (kind line) line (place_behind earlier) (is_model_name (model_name line) earlier)
 
 abbrev pub or_else : Option BlifFault → Option BlifFault → Option BlifFault
 or_else (Some found) next = Some found

@@ -1,5 +1,5 @@
 -- Lines by their first words: a directive begins with a dot, and any other line is a row of a cover.
-use Rattle.std.specs.Prelude.{ℕ, Bool, false, List, [], ◌∷◌, ◌||◌, ◌==◌, codes, bytes_eq, drop, slice_index_or, if◌then◌else◌}
+use Rattle.std.specs.Prelude.{ℕ, Bool, false, List, [], ◌∷◌, ◌||◌, ◌==◌, codes, bytes_eq, drop, length, ◌-◌, slice_index_or, if◌then◌else◌}
 use Rattle.blif_text.specs.Texts.{Line}
 use Rattle.blif_read.specs.declared.kind.Kind.{Kind}
 use Rattle.blif_read.specs.declared.kind.Kind.TheVariants.{Row, Model, Inputs, Outputs, Clock, Names, Latch, Subckt, End, ReadOver, LeftOut, Unknown}
@@ -72,3 +72,15 @@ kind_of word = if begins_with_dot word then directive_of word else Row
 
 abbrev pub kind : Line → Kind
 kind line = kind_of (word_at line.words 0)
+
+-- the name of a `.model` line
+abbrev pub model_name : Line → List ℕ
+model_name line = word_at line.words 1
+
+-- how many pins a `.names` line has: as many as the words behind its first, without the output
+abbrev pub pin_count : List (List ℕ) → ℕ
+pin_count names = length names - 1
+
+-- whether a row is of the on-plane, by its last word
+abbrev pub is_on : Line → Bool
+is_on line = bytes_eq (word_at line.words (length line.words - 1)) (codes "1")

@@ -6,3 +6,5 @@ pub mod Statements
 pub mod Models
 pub mod Reads
 pub mod Flattening
+pub mod Answers
+pub mod Running

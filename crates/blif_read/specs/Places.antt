@@ -1,10 +1,11 @@
 -- Where a line lies, by looking back. The lines before it stand with the nearest first.
-use Rattle.std.specs.Prelude.{ℕ, Bool, true, false, List, [], ◌∷◌, ◌||◌, ◌-◌, length, bytes_eq, codes, if◌then◌else◌, Some, None, option_map}
+use Rattle.std.specs.Prelude.{ℕ, Bool, true, false, List, [], ◌∷◌, ◌||◌, ◌&&◌, ◌-◌, length, bytes_eq, codes, if◌then◌else◌, Some, None, option_map}
 use Rattle.std.specs.declared.option.Option.{Option}
 use Rattle.blif_text.specs.Texts.{Line}
 use Rattle.blif_read.specs.declared.kind.Kind.{Kind}
 use Rattle.blif_read.specs.declared.kind.Kind.TheVariants.{Row, Model, Inputs, Outputs, Clock, Names, Latch, Subckt, End, ReadOver, LeftOut, Unknown}
-use Rattle.blif_read.specs.Kinds.{kind, word_at, arguments}
+use Rattle.blif_read.specs.declared.place.Place.{Place}
+use Rattle.blif_read.specs.Kinds.{kind, arguments, model_name, pin_count, is_on}
 
 abbrev pub is_model : Kind → Bool
 is_model Model = true
@@ -48,9 +49,16 @@ first_row [] = None
 first_row (line ∷ earlier) =
     if is_row (kind line) then this_unless line (first_row earlier) else None
 
+-- Where a line lies that follows earlier ones.
+abbrev pub place_behind : List Line → Place
+place_behind earlier = record {
+  in_model = in_model earlier;
+  pins = option_map (λ names. pin_count (arguments names)) (cover_line earlier);
+  first = option_map is_on (first_row earlier);
+}
+
 -- Whether an earlier `.model` line has the name.
 abbrev pub is_model_name : List ℕ → List Line → Bool
 is_model_name name [] = false
 is_model_name name (line ∷ earlier) =
-    if is_model (kind line) then bytes_eq name (word_at line.words 1) || is_model_name name earlier
-    else is_model_name name earlier
+    (is_model (kind line) && bytes_eq name (model_name line)) || is_model_name name earlier

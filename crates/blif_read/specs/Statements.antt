@@ -16,8 +16,8 @@ use Rattle.blif_read.specs.declared.models.LatchLine.{LatchLine}
 use Rattle.blif_read.specs.declared.models.PartLine.{PartLine}
 use Rattle.blif_read.specs.declared.statement.Statement.{Statement}
 use Rattle.blif_read.specs.declared.statement.Statement.TheVariants.{Model, Inputs, Outputs, Clocks, Names, Row, Latch, Part, End, Nothing}
-use Rattle.blif_read.specs.Kinds.{kind, word_at, arguments}
-use Rattle.blif_read.specs.Faults.{pin_count, is_on, formal_of, actual_of}
+use Rattle.blif_read.specs.Kinds.{kind, word_at, arguments, model_name, pin_count, is_on}
+use Rattle.blif_read.specs.Faults.{formal_of, actual_of}
 
 -- the names before the last, and the last
 abbrev pub pins_of : List (List ℕ) → List (List ℕ)
@@ -67,14 +67,17 @@ latch_of words = record {
   init = latch_init words;
 }
 
+abbrev pub pair_of : List ℕ → List ℕ × List ℕ
+pair_of word = (formal_of word, actual_of word)
+
 abbrev pub part_of : List (List ℕ) → PartLine
 part_of words = record {
   model = word_at words 0;
-  pairs = map (λ word. (formal_of word, actual_of word)) (drop 1 words);
+  pairs = map pair_of (drop 1 words);
 }
 
 abbrev pub statement_of_kind : kinds.Kind → Line → Statement
-statement_of_kind of.Model line = Model (word_at line.words 1)
+statement_of_kind of.Model line = Model (model_name line)
 statement_of_kind of.Inputs line = Inputs (arguments line)
 statement_of_kind of.Outputs line = Outputs (arguments line)
 statement_of_kind of.Clock line = Clocks (arguments line)

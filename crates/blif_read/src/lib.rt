@@ -6,9 +6,16 @@
 #![tactic(auto)]
 
 mod fault;
+mod gates;
+mod inside;
 mod kind;
+mod latches;
 mod models;
+mod parts;
+mod place;
+mod rows;
 mod statement;
+mod words;
 
 pub use fault::BlifFault;
 pub use models::{BlifModel, GateLine, Item, LatchLine, Models, PartLine};

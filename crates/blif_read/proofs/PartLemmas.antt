@@ -1,0 +1,38 @@
+-- The pairs of a `.subckt` line.
+use Rattle.std.proofs.Common.{◌≡◌, ℕ, suc, zero, ◌+◌, ◌-◌, ◌<◌, ◌≤◌, List, [], ◌∷◌, ◌++◌, take, drop, length, get_or, true, false, refl, sym, ap, ◌∙◌, arith, add-one, drop_of_length-le, map}
+use Rattle.std.specs.Prelude.{slice_range, Bool, ◌&&◌}
+use Rattle.std.specs.List.{list_all}
+use Rattle.std.proofs.Math.Seq.{drop-cons}
+use Rattle.blif_read.specs.Faults.{is_pair}
+use Rattle.blif_read.specs.Statements.{pair_of}
+use Rattle.blif_read.proofs.WordLemmas.{slice_more, slice_none, slice_rest}
+
+pub pairs_more : (words : List (List ℕ)) (k : ℕ) → k < length words
+    → list_all is_pair (drop k words) ≡ (is_pair (get_or words k []) && list_all is_pair (drop (k + 1) words))
+pairs_more words k inside =
+    let e : suc k ≡ k + 1 = omega arith in
+    ap (list_all is_pair) (drop-cons words k [] inside)
+    ∙ ap (λ at. is_pair (get_or words k []) && list_all is_pair (drop at words)) e
+
+pub pairs_end : (words : List (List ℕ)) (k : ℕ) → length words ≤ k → list_all is_pair (drop k words) ≡ true
+pairs_end words k over = ap (list_all is_pair) (drop_of_length-le words over)
+
+map_push : {X Y : Type 0} (f : X → Y) (xs : List X) (x : X) → map f (xs ++ x ∷ []) ≡ map f xs ++ f x ∷ []
+map_push f [] x = refl
+map_push f (y ∷ ys) x = ap (λ more. f y ∷ more) (map_push f ys x)
+
+pub pair_next : (words : List (List ℕ)) (k : ℕ) → 2 ≤ k → k < length words
+    → map pair_of (slice_range words 2 (k + 1)) ≡ map pair_of (slice_range words 2 k) ++ pair_of (get_or words k []) ∷ []
+pair_next words k low high =
+    ap (map pair_of) (slice_more words 2 k [] low high) ∙ map_push pair_of (slice_range words 2 k) (get_or words k [])
+
+pub pair_none : (words : List (List ℕ)) → map pair_of (slice_range words 2 2) ≡ []
+pair_none words = ap (map pair_of) (slice_none words 2)
+
+drop_two : (words : List (List ℕ)) → drop 2 words ≡ drop 1 (drop 1 words)
+drop_two [] = refl
+drop_two (a ∷ []) = refl
+drop_two (a ∷ b ∷ more) = refl
+
+pub pair_all : (words : List (List ℕ)) (k : ℕ) → k ≡ length words → map pair_of (slice_range words 2 k) ≡ map pair_of (drop 1 (drop 1 words))
+pair_all words k is = ap (map pair_of) (slice_rest words 2 k is ∙ drop_two words)

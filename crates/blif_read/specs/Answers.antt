@@ -1,0 +1,18 @@
+-- What an answer of the reader says.
+use Rattle.std.specs.Prelude.{◌≡◌, ◌≢◌, Some, None, Ok, Err, MatchResult}
+use Rattle.std.specs.declared.option.Option.{Option}
+use Rattle.std.specs.declared.result.Result.{Result}
+use Rattle.blif_read.specs.declared.fault.BlifFault.{BlifFault}
+use Rattle.blif_read.specs.declared.fault.BlifFault.TheVariants.{Memory}
+
+-- there is no fault, and the value is the one that was meant
+pub record IsRead {X : Type 0} (fault : Option BlifFault) (meant found : X) : Type 0 where
+  pub no_fault : fault ≡ None
+  pub is : found ≡ meant
+
+-- the fault is the one that is there, or memory ran out
+abbrev pub IsFault : Option BlifFault → BlifFault → Type 0
+IsFault fault found = found ≢ Memory → fault ≡ Some found
+
+abbrev pub Reads : {X : Type 0} → Result X BlifFault → Option BlifFault → X → Type 0
+Reads result fault meant = MatchResult result (IsRead fault meant) (IsFault fault)

@@ -1,0 +1,111 @@
+// `.subckt` lines.
+ghost use Rattle.std.specs.Prelude.{◌≡◌, ◌<◌, ◌≤◌, IfOk, length, drop};
+ghost use Rattle.std.specs.List.{list_all, position_or_len};
+ghost use Rattle.std.specs.Result.{result_err};
+ghost use Rattle.blif_text.specs.Lines.{line_at};
+ghost use Rattle.blif_read.specs.Kinds.{arguments};
+ghost use Rattle.blif_read.specs.Faults.{is_equals, formal_of, actual_of, is_pair, subckt_fault};
+ghost use Rattle.blif_read.specs.Statements.{pair_of, part_of};
+ghost use Rattle.blif_read.specs.Answers.{Reads};
+
+use crate::fault::BlifFault;
+use crate::models::PartLine;
+use crate::statement::Statement;
+use crate::words::name_of;
+use blif_text::Lines;
+use cyc_base::{Items, Name};
+use std::alloc::{AllocError, Global};
+
+#[tactic(auto, using(std::proofs::lemmas::List::Sums::position_or_len_is))]
+// The place of the first `=`, or the length.
+fn equals_at(word: &[u8]) -> usize
+    ensures place { result ≡ position_or_len is_equals word.now }
+    ensures within { result ≤ length word.now }
+{
+    for (at, b) in word.iter().enumerate() {
+        if *b == b'=' {
+            return at;
+        }
+    }
+    word.len()
+}
+
+fn formal_of(word: &[u8]) -> &[u8]
+    ensures { result.now ≡ formal_of word.now }
+{
+    &word[..equals_at(word)]
+}
+
+fn actual_of(word: &[u8]) -> &[u8]
+    ensures { result.now ≡ actual_of word.now }
+{
+    let at = equals_at(word);
+    if at == word.len() {
+        return &[];
+    }
+    &word[at + 1..]
+}
+
+fn is_pair(word: &[u8]) -> bool
+    ensures { result ≡ is_pair word.now }
+{
+    !formal_of(word).is_empty() && !actual_of(word).is_empty()
+}
+
+#[tactic(auto, using(crate::proofs::PartLemmas::pairs_more, crate::proofs::PartLemmas::pairs_end))]
+// Whether the words from the third on are pairs.
+fn are_pairs(lines: &Lines, i: usize) -> bool
+    requires { i < length lines.now }
+    ensures { result ≡ list_all is_pair (drop 2 (line_at lines.now i).words) }
+{
+    for k in 2..lines.words(i) {
+        if !is_pair(lines.word(i, k)) {
+            return false;
+        }
+    }
+    true
+}
+
+fn check_part(lines: &Lines, i: usize) -> Result<(), BlifFault>
+    requires { i < length lines.now }
+    ensures { let line = line_at lines.now i in result_err result ≡ subckt_fault line.number (arguments line) }
+{
+    if lines.words(i) < 2 || !are_pairs(lines, i) {
+        return Err(BlifFault::BadSubckt {
+            line: lines.number(i),
+        });
+    }
+    Ok(())
+}
+
+fn pair_of(alloc: Global, word: &[u8]) -> Result<(Name, Name), AllocError>
+    ensures { IfOk result (λ pair. pair ≡ pair_of word.now) }
+{
+    let formal = name_of(alloc, formal_of(word))?;
+    let actual = name_of(alloc, actual_of(word))?;
+    Ok((formal, actual))
+}
+
+#[tactic(auto, using(crate::proofs::PartLemmas::pair_next, crate::proofs::PartLemmas::pair_none, crate::proofs::PartLemmas::pair_all))]
+fn part_of(alloc: Global, lines: &Lines, i: usize) -> Result<PartLine, AllocError>
+    requires line { i < length lines.now }
+    requires words { 2 ≤ length (line_at lines.now i).words }
+    ensures { IfOk result (λ part. part ≡ part_of (arguments (line_at lines.now i))) }
+{
+    let model = name_of(alloc, lines.word(i, 1))?;
+    let mut pairs = Vec::with_capacity(alloc, lines.words(i) - 2)?;
+    for k in 2..lines.words(i) {
+        pairs.push(pair_of(alloc, lines.word(i, k))?)?;
+    }
+    let pairs = Items::of(pairs);
+    Ok(PartLine { model, pairs })
+}
+
+pub fn read_part(alloc: Global, lines: &Lines, i: usize) -> Result<Statement, BlifFault>
+    requires { i < length lines.now }
+    ensures { let line = line_at lines.now i in
+        Reads result (subckt_fault line.number (arguments line)) (Statement.Part (part_of (arguments line))) }
+{
+    check_part(lines, i)?;
+    Ok(Statement::Part(part_of(alloc, lines, i)?))
+}

@@ -1,0 +1,49 @@
+// Words of a line as names.
+ghost use Rattle.std.specs.Prelude.{◌≡◌, ◌<◌, ◌≤◌, IfOk, length, slice_range};
+ghost use Rattle.blif_text.specs.Lines.{line_at};
+ghost use Rattle.blif_read.specs.Kinds.{arguments, word_at};
+
+use blif_text::Lines;
+use cyc_base::{Items, Name};
+use std::alloc::{AllocError, Global};
+
+// The name that has these bytes.
+pub fn name_of(alloc: Global, bytes: &[u8]) -> Result<Name, AllocError>
+    ensures { IfOk result (λ name. name ≡ bytes.now) }
+{
+    Ok(Name::new(bytes.to_vec(alloc)?))
+}
+
+#[tactic(auto, using(crate::proofs::WordLemmas::slice_more, crate::proofs::WordLemmas::slice_none))]
+// The words of a line from one place up to another.
+pub fn names_between(
+    alloc: Global,
+    lines: &Lines,
+    i: usize,
+    from: usize,
+    to: usize,
+) -> Result<Items<Name>, AllocError>
+    requires line { i < length lines.now }
+    requires low { from ≤ to }
+    requires high { to ≤ length (line_at lines.now i).words }
+    ensures { IfOk result (λ names. names ≡ slice_range (line_at lines.now i).words from to) }
+{
+    let mut names = Vec::with_capacity(alloc, to - from)?;
+    for k in from..to {
+        names.push(name_of(alloc, lines.word(i, k))?)?;
+    }
+    Ok(Items::of(names))
+}
+
+#[tactic(auto, using(crate::proofs::WordLemmas::slice_rest))]
+// The words of a line behind the first.
+pub fn argument_names(alloc: Global, lines: &Lines, i: usize) -> Result<Items<Name>, AllocError>
+    requires { i < length lines.now }
+    ensures { IfOk result (λ names. names ≡ arguments (line_at lines.now i)) }
+{
+    let words = lines.words(i);
+    if words == 0 {
+        return Ok(Items::of(Vec::new(alloc)));
+    }
+    Ok(names_between(alloc, lines, i, 1, words)?)
+}
