@@ -1,3 +1,4 @@
 pub mod WordLemmas
 pub mod LatchLemmas
 pub mod PartLemmas
+pub mod GateLemmas

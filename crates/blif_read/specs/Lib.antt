@@ -8,3 +8,5 @@ pub mod Reads
 pub mod Flattening
 pub mod Answers
 pub mod Running
+pub mod Progress
+pub mod Readers

@@ -1,0 +1,25 @@
+-- Rows that fit make a cover.
+use Rattle.std.proofs.Common.{◌≡◌, ◌≤◌, ℕ, ◌+◌, Bool, true, false, not, cond, List, [], ◌∷◌, length, All, Some, None, refl, ap, ◌∙◌, arith, leb, eq-eqb}
+use Rattle.std.proofs.lemmas.List.Elements.{All-head, All-tail}
+use Rattle.std.proofs.lemmas.Bool.Decides.{nat_tests}
+use Rattle.std.specs.Prelude.{nat_le, if◌then◌else◌, option_map, Option}
+use Rattle.std.specs.List.{position_from}
+use Rattle.cover_logic.specs.declared.row.Row.{Row}
+use Rattle.cover_logic.specs.declared.cover.CoverFault.{CoverFault}
+use Rattle.cover_logic.specs.declared.cover.CoverFault.TheVariants.{TooManyPins, Width}
+use Rattle.cover_logic.specs.Covers.{has_width, first_fault}
+
+none_of_other_width : (pins : ℕ) (rows : List Row) (i : ℕ) → All (λ row. length row.lits ≡ pins) rows → position_from (λ row. not (has_width pins row)) i rows ≡ None
+none_of_other_width pins [] i each = refl
+none_of_other_width pins (row ∷ rows) i each =
+    let is = eq-eqb (length row.lits) pins (All-head (λ r. length r.lits ≡ pins) row rows each) in
+    ap (λ (t : Bool). cond (not t) (Some i) (position_from (λ r. not (has_width pins r)) (i + 1) rows)) is
+    ∙ none_of_other_width pins rows (i + 1) (All-tail (λ r. length r.lits ≡ pins) row rows each)
+
+few : (pins : ℕ) → pins ≤ 1024 → nat_le pins 1024 ≡ true
+few pins fits = grind (arith, nat_tests)
+
+pub no_fault : (pins : ℕ) (rows : List Row) → pins ≤ 1024 → All (λ row. length row.lits ≡ pins) rows → first_fault pins rows ≡ None
+no_fault pins rows fits each =
+    ap (λ (t : Bool). if t then option_map Width (position_from (λ row. not (has_width pins row)) 0 rows) else Some TooManyPins) (few pins fits)
+    ∙ ap (option_map Width) (none_of_other_width pins rows 0 each)
