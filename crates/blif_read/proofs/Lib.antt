@@ -2,3 +2,4 @@ pub mod WordLemmas
 pub mod LatchLemmas
 pub mod PartLemmas
 pub mod GateLemmas
+pub mod FollowLemmas

@@ -136,3 +136,7 @@ abbrev pub FitsModel : OpenModel → Statement → Type 0
 FitsModel open_model (Names pins output) = length pins ≤ 1024
 FitsModel open_model (Row row plane) = FitsGate open_model.gate row
 FitsModel open_model other = Unit {0}
+
+abbrev pub FitsProgress : Option OpenModel → Statement → Type 0
+FitsProgress None said = Unit {0}
+FitsProgress (Some open_model) said = FitsModel open_model said

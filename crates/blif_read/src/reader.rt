@@ -1,14 +1,14 @@
 // The reader: the models that are ended, and the one in progress.
-ghost use Rattle.std.specs.Prelude.{◌≡◌, ◌≢◌, ◌<◌, ◌++◌, ◌∷◌, [], IfOk, OnOk, MatchResult, Some, None, length};
+ghost use Rattle.std.specs.Prelude.{◌≡◌, ◌≢◌, ◌<◌, ◌++◌, ◌∷◌, [], IfOk, OnOk, MatchResult, Some, None, length, if◌then◌else◌};
 ghost use Rattle.std.specs.Result.{result_err};
 ghost use Rattle.std.specs.List.{list_any};
 ghost use Rattle.std.specs.Str.{bytes_eq};
 ghost use Rattle.blif_text.specs.Lines.{line_at};
 ghost use Rattle.blif_read.specs.Kinds.{arguments, kind, model_name};
-ghost use Rattle.blif_read.specs.Faults.{model_fault};
-ghost use Rattle.blif_read.specs.Statements.{statement};
-ghost use Rattle.blif_read.specs.Answers.{Reads, IsFault};
-ghost use Rattle.blif_read.specs.Running.{Progress, all_ended, follow, fault_next, place_in};
+ghost use Rattle.blif_read.specs.Faults.{model_fault, fault_inside};
+ghost use Rattle.blif_read.specs.Statements.{statement, statement_of_kind};
+ghost use Rattle.blif_read.specs.Answers.{IsRead, Reads, IsFault};
+ghost use Rattle.blif_read.specs.Running.{Progress, all_ended, begin, end, go_on, follow, fault_next, place_in, FitsProgress};
 ghost use Rattle.blif_read.specs.Readers.{progress_of, start};
 
 use crate::fault::BlifFault;
@@ -55,5 +55,105 @@ impl Reader {
                 first: None,
             },
         }
+    }
+
+    // Ends the model in progress, where there is one.
+    fn end_model(&mut self) -> Result<(), AllocError>
+        ensures { OnOk result (progress_of self.new ≡ end (progress_of self.old)) }
+    {
+        if let Some(model) = self.in_progress.take() {
+            self.ended.push(model.end()?)?;
+        }
+        Ok(())
+    }
+
+    // Adds what a line says that isn't a `.model` line.
+    fn follow(&mut self, alloc: Global, said: Statement) -> Result<(), AllocError>
+        requires { FitsProgress (progress_of self.old).in_progress said }
+        ensures { OnOk result (progress_of self.new ≡ go_on (progress_of self.old) said) }
+    {
+        if let Some(model) = &mut self.in_progress {
+            model.add(alloc, said)?;
+        }
+        Ok(())
+    }
+
+    // Takes a `.model` line.
+    fn take_model(&mut self, alloc: Global, lines: &Lines, i: usize) -> Result<(), BlifFault>
+        requires { i < length lines.now }
+        ensures { let line = line_at lines.now i in
+            let fault = model_fault line.number (arguments line) (list_any (bytes_eq (model_name line)) self.old.names.keys) in
+            MatchResult result
+            (λ _. IsRead fault (begin (progress_of self.old) (model_name line)) (progress_of self.new))
+            (IsFault fault) }
+    {
+        let line = lines.number(i);
+        if lines.words(i) != 2 {
+            return Err(BlifFault::BadModel { line });
+        }
+        let name = name_of(alloc, lines.word(i, 1))?;
+        let (_, is_new) = self.names.insert_full(name.copy()?)?;
+        if !is_new {
+            return Err(BlifFault::ModelTwice { line });
+        }
+        self.end_model()?;
+        self.in_progress = Some(OpenModel::new(alloc, name));
+        Ok(())
+    }
+
+    // Takes a line that isn't a `.model` line.
+    #[tactic(auto, using(crate::proofs::FollowLemmas::fits, crate::proofs::FollowLemmas::fault_of_other, crate::proofs::FollowLemmas::goes_on))]
+    fn take_other(
+        &mut self,
+        alloc: Global,
+        kind: Kind,
+        lines: &Lines,
+        i: usize,
+    ) -> Result<(), BlifFault>
+        requires line { i < length lines.now }
+        requires kind { kind ≢ Kind.Model }
+        ensures { let line = line_at lines.now i in
+            let before = progress_of self.old in
+            let fault = if (place_in before.in_progress).in_model then fault_inside kind line (place_in before.in_progress) else Some (BlifFault.OutsideModel line.number) in
+            MatchResult result
+            (λ _. IsRead fault (follow before (statement_of_kind kind line)) (progress_of self.new))
+            (IsFault fault) }
+    {
+        let place = self.place();
+        if !place.in_model {
+            return Err(BlifFault::OutsideModel {
+                line: lines.number(i),
+            });
+        }
+        let said = read_inside(alloc, kind, place, lines, i)?;
+        match kind {
+            Kind::End => self.end_model()?,
+            _ => self.follow(alloc, said)?,
+        }
+        Ok(())
+    }
+
+    // Takes the next line.
+    #[tactic(auto, using(crate::proofs::FollowLemmas::fault_of_other))]
+    pub fn take_line(&mut self, alloc: Global, lines: &Lines, i: usize) -> Result<(), BlifFault>
+        requires { i < length lines.now }
+        ensures { let line = line_at lines.now i in
+            let before = progress_of self.old in
+            MatchResult result
+            (λ _. IsRead (fault_next before line) (follow before (statement line)) (progress_of self.new))
+            (IsFault (fault_next before line)) }
+    {
+        match kind_at(lines, i) {
+            Kind::Model => self.take_model(alloc, lines, i),
+            kind => self.take_other(alloc, kind, lines, i),
+        }
+    }
+
+    // The models, where no line follows.
+    pub fn finish(mut self) -> Result<Vec<BlifModel>, AllocError>
+        ensures { IfOk result (λ models. models.items ≡ all_ended (progress_of self)) }
+    {
+        self.end_model()?;
+        Ok(self.ended)
     }
 }

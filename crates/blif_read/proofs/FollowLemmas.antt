@@ -1,0 +1,110 @@
+-- A line without a fault fits the model in progress.
+use Rattle.std.proofs.Common.{◌≡◌, ◌≢◌, ◌≤◌, ◌<◌, ℕ, zero, suc, ◌+◌, ◌-◌, Bool, true, false, not, List, [], ◌∷◌, ◌++◌, length, take, drop, map, Some, None, refl, sym, ap, ◌∙◌, arith, eqb-true, length-take, length-drop}
+use Rattle.std.specs.Prelude.{◌&&◌, ◌==◌, nat_lt, if◌then◌else◌, option_map, Option, codes, bytes_eq}
+use Rattle.std.specs.List.{list_all, list_any}
+use Rattle.std.proofs.lemmas.Bool.Decides.{nat_tests}
+use Rattle.blif_text.specs.Texts.{Line}
+use Rattle.blif_read.specs.declared.fault.BlifFault.{BlifFault}
+use Rattle.blif_read.specs.declared.fault.BlifFault.TheVariants as fault
+use Rattle.blif_read.specs.declared.kind.Kind.{Kind}
+use Rattle.blif_read.specs.declared.kind.Kind.TheVariants.{Row, Model, Inputs, Outputs, Clock, Names, Latch, Subckt, End, ReadOver, LeftOut, Unknown}
+use Rattle.blif_read.specs.declared.place.Place.{Place}
+use Rattle.blif_read.specs.Kinds.{kind, arguments, pin_count, is_on, model_name}
+use Rattle.blif_read.specs.Faults.{fault_inside, fault_at, names_fault, row_fault, row_fault_in, is_row_of, is_lit, is_plane, differs}
+use Rattle.blif_read.specs.Statements.{statement_of_kind, pins_of, lits_of, lit_of}
+use Rattle.blif_read.specs.Running.{OpenGate, OpenModel, Progress, FitsGate, FitsModel, FitsProgress, place_in, follow, go_on, end}
+
+-- Pins.
+
+few_pins : (names : List (List ℕ)) (t : Bool) (n : ℕ) → nat_lt 1024 (length names) ≡ t → (if t then Some (fault.TooManyPins n) else None) ≡ None → length names ≤ 1024
+few_pins names true n is none = absurd (cc none)
+few_pins names false n is none = grind (arith, nat_tests)
+
+pub pins_fit : (n : ℕ) (names : List (List ℕ)) → names_fault n names ≡ None → length (pins_of names) ≤ 1024
+pins_fit n [] none = absurd (cc none)
+pins_fit n (name ∷ names) none =
+    let few = few_pins names (nat_lt 1024 (length names)) n refl none in
+    simp length-take (omega (arith, few))
+
+-- Literals.
+
+length_lits : (word : List ℕ) → length (map lit_of word) ≡ length word
+length_lits [] = refl
+length_lits (b ∷ rest) = ap suc (length_lits rest)
+
+first_of_and : (a b c : Bool) → (a && b && c) ≡ true → a ≡ true
+first_of_and true b c is = refl
+first_of_and false b c is = is
+
+row_width : (pins : ℕ) (words : List (List ℕ)) → is_row_of pins words ≡ true → length (lits_of words) ≡ pins
+row_width zero [] is = absurd (cc is)
+row_width zero (plane ∷ []) is = refl
+row_width zero (a ∷ b ∷ rest) is = absurd (cc is)
+row_width (suc n) [] is = absurd (cc is)
+row_width (suc n) (a ∷ []) is = absurd (cc is)
+row_width (suc n) (lits ∷ plane ∷ []) is =
+    length_lits lits ∙ eqb-true (length lits) (suc n) (first_of_and (length lits == suc n) (list_all is_lit lits) (is_plane plane) is)
+row_width (suc n) (a ∷ b ∷ c ∷ rest) is = absurd (cc is)
+
+row_is : (t : Bool) (pins n : ℕ) (words : List (List ℕ)) (next : Option BlifFault) → is_row_of pins words ≡ t → (if t then next else Some (fault.BadRow n)) ≡ None → is_row_of pins words ≡ true
+row_is true pins n words next is none = is
+row_is false pins n words next is none = absurd (cc none)
+
+pub row_fits : (pins : ℕ) (first : Option Bool) (line : Line) → row_fault_in pins first line ≡ None → length (lits_of line.words) ≡ pins
+row_fits pins first line none =
+    row_width pins line.words
+    (row_is (is_row_of pins line.words) pins line.number line.words (if differs first (is_on line) then Some (fault.MixedRows line.number) else None) refl none)
+
+gate_fits : (gate : Option OpenGate) (first : Option Bool) (line : Line) → row_fault (option_map (λ g. length g.pins) gate) first line ≡ None
+    → FitsGate gate (record { lits = lits_of line.words })
+gate_fits None first line none = tt
+gate_fits (Some gate) first line none = row_fits (length gate.pins) first line none
+
+model_fits : (open_model : OpenModel) (k : Kind) (line : Line) → fault_inside k line (place_in (Some open_model)) ≡ None → FitsModel open_model (statement_of_kind k line)
+model_fits m Row line none = gate_fits m.gate (place_in (Some m)).first line none
+model_fits m Names line none = pins_fit line.number (arguments line) none
+model_fits m Model line none = tt
+model_fits m Inputs line none = tt
+model_fits m Outputs line none = tt
+model_fits m Clock line none = tt
+model_fits m Latch line none = tt
+model_fits m Subckt line none = tt
+model_fits m End line none = tt
+model_fits m ReadOver line none = tt
+model_fits m LeftOut line none = tt
+model_fits m Unknown line none = tt
+
+pub fits : (in_progress : Option OpenModel) (k : Kind) (line : Line) → fault_inside k line (place_in in_progress) ≡ None → FitsProgress in_progress (statement_of_kind k line)
+fits None k line none = tt
+fits (Some m) k line none = model_fits m k line none
+
+-- Lines that aren't `.model` lines.
+
+pub fault_of_other : (k : Kind) (line : Line) (place : Place) (taken : Bool) → k ≢ Model
+    → fault_at k line place taken ≡ (if place.in_model then fault_inside k line place else Some (fault.OutsideModel line.number))
+fault_of_other Model line place taken other = absurd (other refl)
+fault_of_other Row line place taken other = refl
+fault_of_other Inputs line place taken other = refl
+fault_of_other Outputs line place taken other = refl
+fault_of_other Clock line place taken other = refl
+fault_of_other Names line place taken other = refl
+fault_of_other Latch line place taken other = refl
+fault_of_other Subckt line place taken other = refl
+fault_of_other End line place taken other = refl
+fault_of_other ReadOver line place taken other = refl
+fault_of_other LeftOut line place taken other = refl
+fault_of_other Unknown line place taken other = refl
+
+pub goes_on : (progress : Progress) (k : Kind) (line : Line) → k ≢ Model → k ≢ End → follow progress (statement_of_kind k line) ≡ go_on progress (statement_of_kind k line)
+goes_on progress Model line other more = absurd (other refl)
+goes_on progress End line other more = absurd (more refl)
+goes_on progress Row line other more = refl
+goes_on progress Inputs line other more = refl
+goes_on progress Outputs line other more = refl
+goes_on progress Clock line other more = refl
+goes_on progress Names line other more = refl
+goes_on progress Latch line other more = refl
+goes_on progress Subckt line other more = refl
+goes_on progress ReadOver line other more = refl
+goes_on progress LeftOut line other more = refl
+goes_on progress Unknown line other more = refl
