@@ -3,3 +3,4 @@ pub mod LatchLemmas
 pub mod PartLemmas
 pub mod GateLemmas
 pub mod FollowLemmas
+pub mod WholeLemmas

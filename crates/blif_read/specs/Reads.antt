@@ -16,18 +16,14 @@ abbrev pub if_any : List BlifModel → Result (List BlifModel) BlifFault
 if_any [] = Err NoModel
 if_any (model ∷ more) = Ok (model ∷ more)
 
-abbrev pub unless_fault : Option BlifFault → List Statement → Result (List BlifModel) BlifFault
-unless_fault (Some fault) statements = Err fault
-unless_fault None statements = if_any (models statements)
+abbrev pub unless_fault : Option BlifFault → List BlifModel → Result (List BlifModel) BlifFault
+unless_fault (Some fault) found = Err fault
+unless_fault None found = if_any found
 
 -- the first line with a fault decides; without one there are the models of what the lines say
 abbrev pub reads_lines : Result (List Line) ℕ → Result (List BlifModel) BlifFault
 reads_lines (Err bad) = Err (BadByte bad)
-reads_lines (Ok found) = unless_fault (first_fault [] found) (map statement found)
+reads_lines (Ok found) = unless_fault (first_fault [] found) (models (map statement found))
 
 abbrev pub reads : List ℕ → Result (List BlifModel) BlifFault
 reads text = reads_lines (lines text true)
-
--- an answer is the wanted one, or memory ran out
-abbrev pub Answers : {X : Type 0} → Result X BlifFault → Result X BlifFault → Type 0
-Answers result wanted = MatchResult result (λ x. wanted ≡ Ok x) (λ fault. fault ≢ Memory → wanted ≡ Err fault)

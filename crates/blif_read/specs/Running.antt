@@ -1,5 +1,5 @@
 -- The running state of the reader: the models that are ended, and the one in progress.
-use Rattle.std.specs.Prelude.{◌≡◌, ◌≤◌, ℕ, Bool, true, false, List, [], ◌∷◌, ◌++◌, All, length, map, Some, None, option_map, option_and_then, option_to_list, bytes_eq}
+use Rattle.std.specs.Prelude.{◌≡◌, ◌≤◌, ℕ, Bool, true, false, List, [], ◌∷◌, ◌++◌, All, length, map, Some, None, option_map, option_and_then, option_to_list, unwrap_or, bytes_eq}
 use Rattle.std.specs.List.{list_any}
 use Rattle.std.specs.declared.option.Option.{Option}
 use Rattle.cover_logic.specs.declared.row.Row as rows
@@ -22,24 +22,25 @@ use Rattle.blif_read.specs.Statements.{statement}
 pub record OpenGate : Type 0 where
   pub pins : List (List ℕ)
   pub output : List ℕ
-  pub plane : Bool
+  -- whether its first row is of the on-plane, if it has a row
+  pub first : Option Bool
   pub rows : List rows.Row
 
 -- what makes its cover one
 pub record IsOpenGate (gate : OpenGate) : Type 0 where
   pub pins : length gate.pins ≤ 1024
   pub width : All (λ row. length row.lits ≡ length gate.pins) gate.rows
-  pub plane : gate.rows ≡ [] → gate.plane ≡ true
+  pub first : gate.rows ≡ [] → gate.first ≡ None
 
 abbrev pub new_gate : List (List ℕ) → List ℕ → OpenGate
-new_gate pins output = record { pins = pins; output = output; plane = true; rows = [] }
+new_gate pins output = record { pins = pins; output = output; first = None; rows = [] }
 
 abbrev pub add_row : rows.Row → Bool → OpenGate → OpenGate
-add_row row plane gate = record gate { plane = plane; rows = gate.rows ++ row ∷ [] }
+add_row row plane gate = record gate { first = Some (unwrap_or gate.first plane); rows = gate.rows ++ row ∷ [] }
 
 abbrev pub gate_line : OpenGate → GateLine
 gate_line gate =
-    let cover : Cover = record { pins = length gate.pins; plane = gate.plane; rows = gate.rows } in
+    let cover : Cover = record { pins = length gate.pins; plane = unwrap_or gate.first true; rows = gate.rows } in
     record { pins = gate.pins; output = gate.output; cover = cover }
 
 -- a model in progress: what it has so far, and the gate whose rows may go on
@@ -108,18 +109,13 @@ follow progress (Model name) = begin progress name
 follow progress End = end progress
 follow progress other = go_on progress other
 
--- whether the first row is of the on-plane, if there is a row
-abbrev pub plane_if_any : Bool → List rows.Row → Option Bool
-plane_if_any plane [] = None
-plane_if_any plane (row ∷ more) = Some plane
-
 -- where the next line lies
 abbrev pub place_in : Option OpenModel → Place
 place_in None = record { in_model = false; pins = None; first = None }
 place_in (Some open_model) = record {
   in_model = true;
   pins = option_map (λ gate. length gate.pins) open_model.gate;
-  first = option_and_then (λ gate. plane_if_any gate.plane gate.rows) open_model.gate;
+  first = option_and_then (λ gate. gate.first) open_model.gate;
 }
 
 -- the fault of the next line

@@ -1,6 +1,6 @@
 // A gate whose rows may go on.
-ghost use Rattle.std.specs.Prelude.{◌≡◌, ◌≤◌, [], All, OnOk, Some, length, option_map, true};
-ghost use Rattle.blif_read.specs.Running.{IsOpenGate, new_gate, add_row, gate_line, plane_if_any};
+ghost use Rattle.std.specs.Prelude.{◌≡◌, ◌≤◌, [], All, OnOk, Some, length, unwrap_or, true, None};
+ghost use Rattle.blif_read.specs.Running.{IsOpenGate, new_gate, add_row, gate_line};
 
 use crate::models::GateLine;
 use cover_logic::{Cover, Row};
@@ -12,7 +12,8 @@ use std::marker::Model;
 pub struct OpenGate {
     pins: Items<Name>,
     output: Name,
-    plane: bool,
+    // whether the first row is of the on-plane, if there is a row
+    first: Option<bool>,
     rows: Vec<Row>,
 }
 
@@ -21,9 +22,9 @@ impl Model for OpenGate {
 
     ghost Value = { RowsSoFar };
 
-    ghost view = { λ gate. record { pins = gate.pins; output = gate.output; plane = gate.plane; rows = gate.rows.items } };
+    ghost view = { λ gate. record { pins = gate.pins; output = gate.output; first = gate.first; rows = gate.rows.items } };
 
-    ghost invariant = { λ gate. IsOpenGate (record { pins = gate.pins; output = gate.output; plane = gate.plane; rows = gate.rows.items }) };
+    ghost invariant = { λ gate. IsOpenGate (record { pins = gate.pins; output = gate.output; first = gate.first; rows = gate.rows.items }) };
 }
 
 impl OpenGate {
@@ -34,7 +35,7 @@ impl OpenGate {
         OpenGate {
             pins,
             output,
-            plane: true,
+            first: None,
             rows: Vec::new(alloc),
         }
     }
@@ -44,7 +45,7 @@ impl OpenGate {
         ensures { OnOk result (self.new ≡ add_row row plane self.old) }
     {
         self.rows.push(row)?;
-        self.plane = plane;
+        self.first = Some(self.first.unwrap_or(plane));
         Ok(())
     }
 
@@ -54,17 +55,16 @@ impl OpenGate {
         self.pins.items().len()
     }
 
-    // Whether the first row is of the on-plane, if there is a row.
     pub fn first(&self) -> Option<bool>
-        ensures { result ≡ plane_if_any self.now.plane self.now.rows }
+        ensures { result ≡ self.now.first }
     {
-        plane_if_any(self.plane, &self.rows)
+        self.first
     }
 
     pub fn into_line(self) -> GateLine
         ensures { result ≡ gate_line self }
     {
-        let cover = whole_cover(self.pins.items().len(), self.plane, self.rows);
+        let cover = whole_cover(self.pins.items().len(), self.first, self.rows);
         GateLine {
             pins: self.pins,
             output: self.output,
@@ -73,23 +73,14 @@ impl OpenGate {
     }
 }
 
-fn plane_if_any(plane: bool, rows: &[Row]) -> Option<bool>
-    ensures { result ≡ plane_if_any plane rows.now }
-{
-    match rows {
-        [] => None,
-        [..] => Some(plane),
-    }
-}
-
 // The cover of rows that fit.
-fn whole_cover(pins: usize, plane: bool, rows: Vec<Row>) -> Cover
+fn whole_cover(pins: usize, first: Option<bool>, rows: Vec<Row>) -> Cover
     requires pins { pins ≤ 1024 }
     requires width { All (λ row. length row.lits ≡ pins) rows.items }
-    requires plane { rows.items ≡ [] → plane ≡ true }
-    ensures { result ≡ record { pins = pins; plane = plane; rows = rows.items } }
+    requires first { rows.items ≡ [] → first ≡ None }
+    ensures { result ≡ record { pins = pins; plane = unwrap_or first true; rows = rows.items } }
 {
-    match Cover::new(pins, plane, rows) {
+    match Cover::new(pins, first.unwrap_or(true), rows) {
         Ok(cover) => cover,
         Err(_) => unreachable!(),
     }

@@ -1,0 +1,153 @@
+-- The models that there are once more statements follow.
+use Rattle.std.proofs.Common.{◌≡◌, ℕ, Bool, true, false, List, [], ◌∷◌, ◌++◌, length, Some, None, refl, sym, ap, ap₂, ◌∙◌, append_assoc, append-nil}
+use Rattle.std.specs.Prelude.{flat_map, option_map, option_to_list, unwrap_or, Option}
+use Rattle.cover_logic.specs.declared.row.Row as rows
+use Rattle.cover_logic.specs.Covers.{Cover}
+use Rattle.blif_read.specs.declared.models.BlifModel.{BlifModel}
+use Rattle.blif_read.specs.declared.models.GateLine.{GateLine}
+use Rattle.blif_read.specs.declared.models.Item.{Item}
+use Rattle.blif_read.specs.declared.models.Item.TheVariants as item
+use Rattle.blif_read.specs.declared.statement.Statement.{Statement}
+use Rattle.blif_read.specs.declared.statement.Statement.TheVariants.{Model, Inputs, Outputs, Clocks, Names, Row, Latch, Part, End, Nothing}
+use Rattle.blif_read.specs.Models.{members, inputs_in, outputs_in, clocks_in, rows_of, plane_of, body_of, model_of, models}
+use Rattle.blif_read.specs.Running.{OpenGate, OpenModel, Progress, new_gate, add_row, gate_line, new_model, gate_items, ended, add, all_ended, follow}
+
+-- the plane of the first row, where more rows follow
+abbrev pub plane_then : Option Bool → List Statement → Bool
+plane_then (Some plane) inside = plane
+plane_then None inside = plane_of inside
+
+abbrev pub cover_line : List (List ℕ) → List ℕ → Bool → List rows.Row → GateLine
+cover_line pins output plane rows =
+    let cover : Cover = record { pins = length pins; plane = plane; rows = rows } in
+    record { pins = pins; output = output; cover = cover }
+
+abbrev pub gate_then : Option OpenGate → List Statement → List Item
+gate_then None inside = body_of inside
+gate_then (Some gate) inside =
+    item.Gate (cover_line gate.pins gate.output (plane_then gate.first inside) (gate.rows ++ rows_of inside)) ∷ body_of inside
+
+abbrev pub model_with : List ℕ → List (List ℕ) → List (List ℕ) → List (List ℕ) → List Item → BlifModel
+model_with name inputs outputs clocks body = record { name = name; inputs = inputs; outputs = outputs; clocks = clocks; body = body }
+
+-- the model in progress, where these statements follow in it
+abbrev pub extended : OpenModel → List Statement → BlifModel
+extended m inside =
+    model_with m.model.name (m.model.inputs ++ flat_map inputs_in inside) (m.model.outputs ++ flat_map outputs_in inside)
+    (m.model.clocks ++ flat_map clocks_in inside) (m.model.body ++ gate_then m.gate inside)
+
+abbrev pub open_then : Option OpenModel → List Statement → List BlifModel
+open_then None rest = []
+open_then (Some m) rest = extended m (members rest) ∷ []
+
+abbrev pub whole : Progress → List Statement → List BlifModel
+whole progress rest = (progress.done ++ open_then progress.in_progress rest) ++ models rest
+
+-- Where no row follows, the gate is as it stands.
+
+plane_ended : (first : Option Bool) (inside : List Statement) → plane_of inside ≡ true → plane_then first inside ≡ unwrap_or first true
+plane_ended (Some plane) inside is = refl
+plane_ended None inside is = is
+
+gate_ended : (gate : Option OpenGate) (inside : List Statement) → plane_of inside ≡ true → rows_of inside ≡ [] → gate_then gate inside ≡ gate_items gate ++ body_of inside
+gate_ended None inside plane rows = refl
+gate_ended (Some gate) inside plane rows =
+    ap₂ (λ p rs. item.Gate (cover_line gate.pins gate.output p rs) ∷ body_of inside)
+    (plane_ended gate.first inside plane)
+    (ap (λ more. gate.rows ++ more) rows ∙ append-nil gate.rows)
+
+body_ended : (body : List Item) (gate : Option OpenGate) (inside : List Statement) → plane_of inside ≡ true → rows_of inside ≡ []
+    → (body ++ gate_items gate) ++ body_of inside ≡ body ++ gate_then gate inside
+body_ended body gate inside plane rows =
+    append_assoc body (gate_items gate) (body_of inside) ∙ ap (λ more. body ++ more) (sym (gate_ended gate inside plane rows))
+
+-- One statement more in the model.
+
+plane_added : (first : Option Bool) (row : rows.Row) (plane : Bool) (inside : List Statement) → unwrap_or first plane ≡ plane_then first (Row row plane ∷ inside)
+plane_added None row plane inside = refl
+plane_added (Some p) row plane inside = refl
+
+row_added : (gate : Option OpenGate) (row : rows.Row) (plane : Bool) (inside : List Statement)
+    → gate_then (option_map (add_row row plane) gate) inside ≡ gate_then gate (Row row plane ∷ inside)
+row_added None row plane inside = refl
+row_added (Some gate) row plane inside =
+    ap₂ (λ p rs. item.Gate (cover_line gate.pins gate.output p rs) ∷ body_of inside)
+    (plane_added gate.first row plane inside)
+    (append_assoc gate.rows (row ∷ []) (rows_of inside))
+
+abbrev StandsInside : Statement → Type 0
+StandsInside (Model name) = Unit {0} → ⊥
+StandsInside End = Unit {0} → ⊥
+StandsInside other = Unit {0}
+
+extended_by : (m : OpenModel) (said : Statement) (inside : List Statement) → StandsInside said → extended (add m said) inside ≡ extended m (said ∷ inside)
+extended_by m (Model name) inside stands = absurd (stands tt)
+extended_by m End inside stands = absurd (stands tt)
+extended_by m (Inputs names) inside stands =
+    ap₂ (λ inputs body. model_with m.model.name inputs (m.model.outputs ++ flat_map outputs_in inside) (m.model.clocks ++ flat_map clocks_in inside) body)
+    (append_assoc m.model.inputs names (flat_map inputs_in inside))
+    (body_ended m.model.body m.gate (Inputs names ∷ inside) refl refl)
+extended_by m (Outputs names) inside stands =
+    ap₂ (λ outputs body. model_with m.model.name (m.model.inputs ++ flat_map inputs_in inside) outputs (m.model.clocks ++ flat_map clocks_in inside) body)
+    (append_assoc m.model.outputs names (flat_map outputs_in inside))
+    (body_ended m.model.body m.gate (Outputs names ∷ inside) refl refl)
+extended_by m (Clocks names) inside stands =
+    ap₂ (λ clocks body. model_with m.model.name (m.model.inputs ++ flat_map inputs_in inside) (m.model.outputs ++ flat_map outputs_in inside) clocks body)
+    (append_assoc m.model.clocks names (flat_map clocks_in inside))
+    (body_ended m.model.body m.gate (Clocks names ∷ inside) refl refl)
+extended_by m (Names pins output) inside stands =
+    ap (λ body. model_with m.model.name (m.model.inputs ++ flat_map inputs_in inside) (m.model.outputs ++ flat_map outputs_in inside) (m.model.clocks ++ flat_map clocks_in inside) body)
+    (body_ended m.model.body m.gate (Names pins output ∷ inside) refl refl)
+extended_by m (Row row plane) inside stands =
+    ap (λ items. model_with m.model.name (m.model.inputs ++ flat_map inputs_in inside) (m.model.outputs ++ flat_map outputs_in inside) (m.model.clocks ++ flat_map clocks_in inside) (m.model.body ++ items))
+    (row_added m.gate row plane inside)
+extended_by m (Latch latch) inside stands =
+    ap (λ body. model_with m.model.name (m.model.inputs ++ flat_map inputs_in inside) (m.model.outputs ++ flat_map outputs_in inside) (m.model.clocks ++ flat_map clocks_in inside) body)
+    (append_assoc (m.model.body ++ gate_items m.gate) (item.Latch latch ∷ []) (body_of inside) ∙ body_ended m.model.body m.gate (Latch latch ∷ inside) refl refl)
+extended_by m (Part part) inside stands =
+    ap (λ body. model_with m.model.name (m.model.inputs ++ flat_map inputs_in inside) (m.model.outputs ++ flat_map outputs_in inside) (m.model.clocks ++ flat_map clocks_in inside) body)
+    (append_assoc (m.model.body ++ gate_items m.gate) (item.Part part ∷ []) (body_of inside) ∙ body_ended m.model.body m.gate (Part part ∷ inside) refl refl)
+extended_by m Nothing inside stands =
+    ap (λ body. model_with m.model.name (m.model.inputs ++ flat_map inputs_in inside) (m.model.outputs ++ flat_map outputs_in inside) (m.model.clocks ++ flat_map clocks_in inside) body)
+    (body_ended m.model.body m.gate (Nothing ∷ inside) refl refl)
+
+-- Nothing more in the model.
+extended_no_more : (m : OpenModel) → extended m [] ≡ ended m
+extended_no_more m =
+    ap₂ (λ inputs outputs. model_with m.model.name inputs outputs (m.model.clocks ++ []) (m.model.body ++ gate_then m.gate [])) (append-nil m.model.inputs) (append-nil m.model.outputs)
+    ∙ ap₂ (λ clocks items. model_with m.model.name m.model.inputs m.model.outputs clocks (m.model.body ++ items)) (append-nil m.model.clocks)
+    (gate_ended m.gate [] refl refl ∙ append-nil (gate_items m.gate))
+
+open_ended : (in_progress : Option OpenModel) (rest : List Statement) → members rest ≡ [] → open_then in_progress rest ≡ option_to_list (option_map ended in_progress)
+open_ended None rest none = refl
+open_ended (Some m) rest none = ap (λ inside. extended m inside ∷ []) none ∙ ap (λ model. model ∷ []) (extended_no_more m)
+
+open_by : (in_progress : Option OpenModel) (said : Statement) (rest : List Statement) → StandsInside said → members (said ∷ rest) ≡ said ∷ members rest
+    → open_then (option_map (λ m. add m said) in_progress) rest ≡ open_then in_progress (said ∷ rest)
+open_by None said rest stands inside = refl
+open_by (Some m) said rest stands inside =
+    ap (λ model. model ∷ []) (extended_by m said (members rest) stands) ∙ ap (λ all. extended m all ∷ []) (sym inside)
+
+-- A statement in the model in progress, and outside of one nothing.
+within : (p : Progress) (said : Statement) (rest : List Statement) → StandsInside said → members (said ∷ rest) ≡ said ∷ members rest
+    → (p.done ++ open_then (option_map (λ m. add m said) p.in_progress) rest) ++ models rest ≡ (p.done ++ open_then p.in_progress (said ∷ rest)) ++ models rest
+within p said rest stands inside = ap (λ more. (p.done ++ more) ++ models rest) (open_by p.in_progress said rest stands inside)
+
+-- The models stay the same when a statement is taken from those that follow.
+pub whole_step : (p : Progress) (said : Statement) (rest : List Statement) → whole (follow p said) rest ≡ whole p (said ∷ rest)
+whole_step p (Model name) rest =
+    append_assoc (all_ended p) (model_of name (members rest) ∷ []) (models rest)
+    ∙ ap (λ more. (p.done ++ more) ++ model_of name (members rest) ∷ models rest) (sym (open_ended p.in_progress (Model name ∷ rest) refl))
+whole_step p End rest =
+    ap (λ front. front ++ models rest) (append-nil (all_ended p) ∙ ap (λ more. p.done ++ more) (sym (open_ended p.in_progress (End ∷ rest) refl)))
+whole_step p (Inputs names) rest = within p (Inputs names) rest tt refl
+whole_step p (Outputs names) rest = within p (Outputs names) rest tt refl
+whole_step p (Clocks names) rest = within p (Clocks names) rest tt refl
+whole_step p (Names pins output) rest = within p (Names pins output) rest tt refl
+whole_step p (Row row plane) rest = within p (Row row plane) rest tt refl
+whole_step p (Latch latch) rest = within p (Latch latch) rest tt refl
+whole_step p (Part part) rest = within p (Part part) rest tt refl
+whole_step p Nothing rest = within p Nothing rest tt refl
+
+pub whole_end : (p : Progress) → whole p [] ≡ all_ended p
+whole_end p = append-nil (p.done ++ open_then p.in_progress []) ∙ ap (λ more. p.done ++ more) (open_ended p.in_progress [] refl)
