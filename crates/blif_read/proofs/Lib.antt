@@ -4,3 +4,5 @@ pub mod PartLemmas
 pub mod GateLemmas
 pub mod FollowLemmas
 pub mod WholeLemmas
+pub mod PlaceLemmas
+pub mod ReadLemmas

@@ -1,0 +1,142 @@
+-- The running state is what looking back finds.
+use Rattle.std.proofs.Common.{◌≡◌, ◌≢◌, ◌≤◌, ◌<◌, ℕ, zero, suc, ◌+◌, ◌-◌, Bool, true, false, not, List, [], ◌∷◌, ◌++◌, length, take, drop, map, Some, None, refl, sym, ap, ap₂, subst, ◌∙◌, arith, length-take}
+use Rattle.std.specs.Prelude.{◌&&◌, ◌||◌, if◌then◌else◌, option_map, option_and_then, unwrap_or, Option, bytes_eq}
+use Rattle.std.specs.List.{list_any}
+use Rattle.blif_text.specs.Texts.{Line}
+use Rattle.blif_read.specs.declared.fault.BlifFault.{BlifFault}
+use Rattle.blif_read.specs.declared.fault.BlifFault.TheVariants as fault
+use Rattle.blif_read.specs.declared.kind.Kind.{Kind}
+use Rattle.blif_read.specs.declared.kind.Kind.TheVariants.{Row, Model, Inputs, Outputs, Clock, Names, Latch, Subckt, End, ReadOver, LeftOut, Unknown}
+use Rattle.blif_read.specs.declared.place.Place.{Place}
+use Rattle.blif_read.specs.Kinds.{kind, arguments, pin_count, is_on, model_name}
+use Rattle.blif_read.specs.Places.{is_model, is_end, is_names, is_row, in_model, cover_line, this_unless, first_row, place_behind, is_model_name}
+use Rattle.blif_read.specs.Faults.{fault_inside, fault_at, row_fault}
+use Rattle.blif_read.specs.Statements.{statement, statement_of_kind, pins_of, lits_of}
+use Rattle.blif_read.specs.Running.{OpenGate, OpenModel, Progress, add, add_row, place_in, follow, fault_next}
+use Rattle.blif_read.proofs.FollowLemmas.{fault_of_other, goes_on}
+
+abbrev pub place : Bool → Option ℕ → Option Bool → Place
+place in_model pins first = record { in_model = in_model; pins = pins; first = first }
+
+-- the place behind a line of this kind
+abbrev pub place_by : Kind → Line → List Line → Place
+place_by k line earlier =
+    place (if is_model k then true else (if is_end k then false else in_model earlier))
+    (option_map (λ names. pin_count (arguments names)) (if is_row k then cover_line earlier else (if is_names k then Some line else None)))
+    (option_map is_on (if is_row k then this_unless line (first_row earlier) else None))
+
+length_pins : (names : List (List ℕ)) → length (pins_of names) ≡ pin_count names
+length_pins names = simp length-take (omega arith)
+
+-- The first row.
+
+first_is : (found : Option Line) (first : Option Bool) (line : Line) → first ≡ option_map is_on found → Some (unwrap_or first (is_on line)) ≡ option_map is_on (this_unless line found)
+first_is None first line same = ap (λ f. Some (unwrap_or f (is_on line))) same
+first_is (Some row) first line same = ap (λ f. Some (unwrap_or f (is_on line))) same
+
+row_place : (gate : Option OpenGate) (line : Line) (earlier : List Line)
+    → option_map (λ g. length g.pins) gate ≡ option_map (λ names. pin_count (arguments names)) (cover_line earlier)
+    → option_and_then (λ g. g.first) gate ≡ option_map is_on (first_row earlier)
+    → row_fault (option_map (λ g. length g.pins) gate) (option_and_then (λ g. g.first) gate) line ≡ None
+    → (let now : Option OpenGate = option_map (add_row (record { lits = lits_of line.words }) (is_on line)) gate in
+    place true (option_map (λ g. length g.pins) now) (option_and_then (λ g. g.first) now))
+    ≡ place true (option_map (λ names. pin_count (arguments names)) (cover_line earlier)) (option_map is_on (this_unless line (first_row earlier)))
+row_place None line earlier pins first none = absurd (cc none)
+row_place (Some gate) line earlier pins first none = ap₂ (place true) pins (first_is (first_row earlier) gate.first line first)
+
+-- A line of each kind.
+
+inside_place : (m : OpenModel) (k : Kind) (line : Line) (earlier : List Line) → k ≢ Model → k ≢ End → place_in (Some m) ≡ place_behind earlier
+    → fault_inside k line (place_in (Some m)) ≡ None
+    → place_in (Some (add m (statement_of_kind k line))) ≡ place_by k line earlier
+inside_place m Model line earlier other more same none = absurd (other refl)
+inside_place m End line earlier other more same none = absurd (more refl)
+inside_place m Row line earlier other more same none =
+    row_place m.gate line earlier (ap (λ at. at.pins) same) (ap (λ at. at.first) same) none
+    ∙ ap (λ t. place t (option_map (λ names. pin_count (arguments names)) (cover_line earlier)) (option_map is_on (this_unless line (first_row earlier)))) (ap (λ at. at.in_model) same)
+inside_place m Names line earlier other more same none =
+    ap₂ (λ t pins. place t (Some pins) None) (ap (λ at. at.in_model) same) (length_pins (arguments line))
+inside_place m Inputs line earlier other more same none = ap (λ t. place t None None) (ap (λ at. at.in_model) same)
+inside_place m Outputs line earlier other more same none = ap (λ t. place t None None) (ap (λ at. at.in_model) same)
+inside_place m Clock line earlier other more same none = ap (λ t. place t None None) (ap (λ at. at.in_model) same)
+inside_place m Latch line earlier other more same none = ap (λ t. place t None None) (ap (λ at. at.in_model) same)
+inside_place m Subckt line earlier other more same none = ap (λ t. place t None None) (ap (λ at. at.in_model) same)
+inside_place m ReadOver line earlier other more same none = ap (λ t. place t None None) (ap (λ at. at.in_model) same)
+inside_place m LeftOut line earlier other more same none = ap (λ t. place t None None) (ap (λ at. at.in_model) same)
+inside_place m Unknown line earlier other more same none = ap (λ t. place t None None) (ap (λ at. at.in_model) same)
+
+some_place : (in_progress : Option OpenModel) (k : Kind) (line : Line) (earlier : List Line) → k ≢ Model → k ≢ End → place_in in_progress ≡ place_behind earlier
+    → (if (place_in in_progress).in_model then fault_inside k line (place_in in_progress) else Some (fault.OutsideModel line.number)) ≡ None
+    → place_in (option_map (λ m. add m (statement_of_kind k line)) in_progress) ≡ place_by k line earlier
+some_place None k line earlier other more same none = absurd (cc none)
+some_place (Some m) k line earlier other more same none = inside_place m k line earlier other more same none
+
+other_place : (p : Progress) (k : Kind) (line : Line) (earlier : List Line) (taken : Bool) → k ≢ Model → k ≢ End → place_in p.in_progress ≡ place_behind earlier
+    → fault_at k line (place_in p.in_progress) taken ≡ None
+    → place_in (follow p (statement_of_kind k line)).in_progress ≡ place_by k line earlier
+other_place p k line earlier taken other more same none =
+    ap (λ now. place_in now.in_progress) (goes_on p k line other more)
+    ∙ some_place p.in_progress k line earlier other more same (sym (fault_of_other k line (place_in p.in_progress) taken other) ∙ none)
+
+place_by_kind : (p : Progress) (k : Kind) (line : Line) (earlier : List Line) (taken : Bool) → place_in p.in_progress ≡ place_behind earlier
+    → fault_at k line (place_in p.in_progress) taken ≡ None
+    → place_in (follow p (statement_of_kind k line)).in_progress ≡ place_by k line earlier
+place_by_kind p Model line earlier taken same none = refl
+place_by_kind p End line earlier taken same none = refl
+place_by_kind p Row line earlier taken same none = other_place p Row line earlier taken (λ e. cc e) (λ e. cc e) same none
+place_by_kind p Inputs line earlier taken same none = other_place p Inputs line earlier taken (λ e. cc e) (λ e. cc e) same none
+place_by_kind p Outputs line earlier taken same none = other_place p Outputs line earlier taken (λ e. cc e) (λ e. cc e) same none
+place_by_kind p Clock line earlier taken same none = other_place p Clock line earlier taken (λ e. cc e) (λ e. cc e) same none
+place_by_kind p Names line earlier taken same none = other_place p Names line earlier taken (λ e. cc e) (λ e. cc e) same none
+place_by_kind p Latch line earlier taken same none = other_place p Latch line earlier taken (λ e. cc e) (λ e. cc e) same none
+place_by_kind p Subckt line earlier taken same none = other_place p Subckt line earlier taken (λ e. cc e) (λ e. cc e) same none
+place_by_kind p ReadOver line earlier taken same none = other_place p ReadOver line earlier taken (λ e. cc e) (λ e. cc e) same none
+place_by_kind p LeftOut line earlier taken same none = other_place p LeftOut line earlier taken (λ e. cc e) (λ e. cc e) same none
+place_by_kind p Unknown line earlier taken same none = other_place p Unknown line earlier taken (λ e. cc e) (λ e. cc e) same none
+
+-- Names of models.
+
+swapped : (a b c : Bool) → (a || (b || c)) ≡ (b || (a || c))
+swapped true true c = refl
+swapped true false c = refl
+swapped false true c = refl
+swapped false false c = refl
+
+any_push : (test : List ℕ → Bool) (names : List (List ℕ)) (name : List ℕ) → list_any test (names ++ name ∷ []) ≡ (test name || list_any test names)
+any_push test [] name = refl
+any_push test (x ∷ xs) name = ap (λ t. test x || t) (any_push test xs name) ∙ swapped (test x) (test name) (list_any test xs)
+
+-- The names are those of the earlier models.
+abbrev pub AreNames : List (List ℕ) → List Line → Type 0
+AreNames names earlier = (name : List ℕ) → list_any (bytes_eq name) names ≡ is_model_name name earlier
+
+names_by_kind : (p : Progress) (k : Kind) (line : Line) (earlier : List Line) → AreNames p.names earlier → (name : List ℕ)
+    → list_any (bytes_eq name) (follow p (statement_of_kind k line)).names ≡ ((is_model k && bytes_eq name (model_name line)) || is_model_name name earlier)
+names_by_kind p Model line earlier are name =
+    any_push (bytes_eq name) p.names (model_name line) ∙ ap (λ t. bytes_eq name (model_name line) || t) (are name)
+names_by_kind p Row line earlier are name = are name
+names_by_kind p Inputs line earlier are name = are name
+names_by_kind p Outputs line earlier are name = are name
+names_by_kind p Clock line earlier are name = are name
+names_by_kind p Names line earlier are name = are name
+names_by_kind p Latch line earlier are name = are name
+names_by_kind p Subckt line earlier are name = are name
+names_by_kind p End line earlier are name = are name
+names_by_kind p ReadOver line earlier are name = are name
+names_by_kind p LeftOut line earlier are name = are name
+names_by_kind p Unknown line earlier are name = are name
+
+-- The running state agrees with the lines so far.
+pub record Agrees (p : Progress) (earlier : List Line) : Type 0 where
+  pub place : place_in p.in_progress ≡ place_behind earlier
+  pub names : AreNames p.names earlier
+
+pub agrees_next : (p : Progress) (line : Line) (earlier : List Line) → Agrees p earlier → fault_next p line ≡ None → Agrees (follow p (statement line)) (line ∷ earlier)
+agrees_next p line earlier agrees none = record {
+  place = place_by_kind p (kind line) line earlier (list_any (bytes_eq (model_name line)) p.names) agrees.place none;
+  names = names_by_kind p (kind line) line earlier agrees.names;
+}
+
+-- So the fault of the next line is the one that looking back finds.
+pub fault_is : (p : Progress) (line : Line) (earlier : List Line) → Agrees p earlier → fault_next p line ≡ fault_at (kind line) line (place_behind earlier) (is_model_name (model_name line) earlier)
+fault_is p line earlier agrees = ap₂ (fault_at (kind line) line) agrees.place (agrees.names (model_name line))
