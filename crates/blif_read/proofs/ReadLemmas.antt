@@ -10,6 +10,7 @@ use Rattle.blif_read.specs.Faults.{fault, first_fault, or_else}
 use Rattle.blif_read.specs.Statements.{statement}
 use Rattle.blif_read.specs.Reads.{if_any, unless_fault, reads_lines}
 use Rattle.blif_read.specs.Running.{Progress, all_ended, follow, fault_next}
+use Rattle.blif_read.specs.Answers.{Answers, IsFault}
 use Rattle.blif_read.specs.Readers.{start}
 use Rattle.blif_read.proofs.WholeLemmas.{whole, whole_step, whole_end}
 use Rattle.blif_read.proofs.PlaceLemmas.{Agrees, agrees_next, fault_is}
@@ -65,3 +66,7 @@ at_end lines p i at over =
     sym at.answers
     ∙ ap (answer p (before lines i)) (drop_of_length-le lines over)
     ∙ ap if_any (whole_end p)
+
+pub answers_same : {X : Type 0} (result wanted : Result X BlifFault) → result ≡ wanted → Answers result wanted
+answers_same (Ok x) wanted is = sym is
+answers_same (Err found) wanted is = λ _. sym is

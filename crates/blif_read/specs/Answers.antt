@@ -16,3 +16,7 @@ IsFault fault found = found ≢ Memory → fault ≡ Some found
 
 abbrev pub Reads : {X : Type 0} → Result X BlifFault → Option BlifFault → X → Type 0
 Reads result fault meant = MatchResult result (IsRead fault meant) (IsFault fault)
+
+-- an answer is the wanted one, or memory ran out
+abbrev pub Answers : {X : Type 0} → Result X BlifFault → Result X BlifFault → Type 0
+Answers result wanted = MatchResult result (λ x. wanted ≡ Ok x) (λ found. found ≢ Memory → wanted ≡ Err found)

@@ -10,3 +10,4 @@ pub mod Answers
 pub mod Running
 pub mod Progress
 pub mod Readers
+pub mod TextFaults

@@ -1,6 +1,8 @@
 ghost use Rattle.std.specs.Prelude.{◌≡◌};
 ghost use Rattle.blif_read.specs.declared.fault.BlifFault.TheVariants.{Memory};
+ghost use Rattle.blif_read.specs.TextFaults.{of_text};
 
+use blif_text::TextFault;
 use std::alloc::{AllocError, AllocFailed};
 use thiserror::Error;
 
@@ -71,5 +73,16 @@ impl<T: Drop> From<AllocFailed<T>> for BlifFault {
 
     fn from(_e: AllocFailed<T>) -> BlifFault {
         BlifFault::Memory
+    }
+}
+
+impl From<TextFault> for BlifFault {
+    ghost from_gives = { λ fault e. e ≡ of_text fault };
+
+    fn from(fault: TextFault) -> BlifFault {
+        match fault {
+            TextFault::BadByte { line } => BlifFault::BadByte { line },
+            TextFault::Memory => BlifFault::Memory,
+        }
     }
 }

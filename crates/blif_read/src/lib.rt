@@ -18,7 +18,9 @@ mod place;
 mod reader;
 mod rows;
 mod statement;
+mod text;
 mod words;
 
 pub use fault::BlifFault;
 pub use models::{BlifModel, GateLine, Item, LatchLine, Models, PartLine};
+pub use text::read;

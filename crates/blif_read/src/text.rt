@@ -1,0 +1,47 @@
+ghost use Rattle.std.specs.Prelude.{◌≡◌, ◌≢◌, MatchResult, Ok, Err};
+ghost use Rattle.blif_read.specs.Reads.{if_any, reads_lines, reads};
+ghost use Rattle.blif_read.specs.Answers.{Answers};
+ghost use Rattle.blif_read.specs.declared.fault.BlifFault.TheVariants.{Memory};
+
+use crate::fault::BlifFault;
+use crate::models::{BlifModel, Models};
+use crate::reader::Reader;
+use blif_text::Lines;
+use cyc_base::Items;
+use std::alloc::Global;
+
+fn if_any(models: Vec<BlifModel>) -> Result<Items<BlifModel>, BlifFault>
+    ensures { result ≡ if_any models.items }
+{
+    if models.is_empty() {
+        return Err(BlifFault::NoModel);
+    }
+    Ok(Items::of(models))
+}
+
+#[tactic(auto, using(crate::proofs::ReadLemmas::at_start, crate::proofs::ReadLemmas::at_next, crate::proofs::ReadLemmas::at_fault, crate::proofs::ReadLemmas::at_end))]
+fn read_lines(alloc: Global, lines: &Lines) -> Result<Items<BlifModel>, BlifFault>
+    ensures { Answers result (reads_lines (Ok lines.now)) }
+{
+    let mut reader = Reader::new(alloc);
+    for i in 0..lines.len() {
+        reader.take_line(alloc, lines, i)?;
+    }
+    let models = reader.finish()?;
+    if_any(models)
+}
+
+/// The models of a BLIF text, in the order of the text (the Berkeley BLIF manual, in this project's
+/// profile).
+///
+/// Each fault but `Memory` comes exactly where the text has it, and it is the text's first: a bad byte
+/// anywhere comes before all others, and then the first line with a fault decides.
+pub fn read(alloc: Global, bytes: &[u8]) -> Result<Models, BlifFault>
+    ensures { MatchResult result
+        (λ models. reads bytes.now ≡ Ok models.list)
+        (λ fault. fault ≢ Memory → reads bytes.now ≡ Err fault) }
+{
+    let lines = Lines::of(alloc, bytes, true)?;
+    let list = read_lines(alloc, &lines)?;
+    Ok(Models { list })
+}
