@@ -1,0 +1,4 @@
+pub mod Arena
+pub mod Growth
+pub mod Soundness
+pub mod Subfunctions

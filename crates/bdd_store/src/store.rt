@@ -1,0 +1,230 @@
+ghost use Rattle.std.specs.Prelude.{◌≡◌, ◌↔◌, ℕ, ◌+◌, ◌<◌, ◌≤◌, ◌⊎◌, Bool, List, [], Some, length, slice_get, Contains, IsTrue, IfOk, OnOk, OnErr, false, true};
+ghost use Rattle.std.specs.List.{slice_index_or};
+ghost use Rattle.bdd_store.specs.Arena.{den, value_at, choice, top_of, IsNodeOf, IsBranching};
+ghost use Rattle.bdd_store.specs.Soundness.{IsSound, SameFunction, IsLawful};
+ghost use Rattle.bdd_store.specs.Growth.{KeepsNodes, IsEntered, IsRefused, IsNewFunction, AddsAtMost};
+
+use crate::fault::StoreFault;
+use crate::node::{Entry, Node};
+use cyc_base::MAX_NODES;
+use indexmap::IndexSet;
+use std::alloc::{AllocError, Global};
+use std::marker::Model;
+
+// The position of an entry, which goes last if it is new.
+fn enter(entries: &mut IndexSet<Entry>, limit: u32, entry: Entry) -> Result<u32, StoreFault>
+    requires limit { limit ≤ MAX_NODES }
+    requires room { length entries.old.keys ≤ limit }
+    ensures at { IfOk result (λ p. slice_get entries.new.keys p ≡ Some entry) }
+    ensures ok { OnOk result (IsEntered entries.old.keys entries.new.keys limit entry) }
+    ensures full { (result ≡ Err StoreFault.Full) ↔ ((length entries.old.keys ≡ limit) × (¬ Contains entries.old.keys entry)) }
+    ensures err { OnErr result (entries.new.keys ≡ entries.old.keys) }
+{
+    if entries.len() < limit as usize {
+        match entries.insert_full(entry) {
+            Ok((at, _)) => Ok(at as u32),
+            Err(_) => Err(StoreFault::Memory),
+        }
+    } else {
+        match entries.get_index_of(&entry) {
+            Some(at) => Ok(at as u32),
+            None => Err(StoreFault::Full),
+        }
+    }
+}
+
+// The value of the node with this number.
+fn value_in(entries: &[Entry], number: u32, bits: &[bool]) -> bool
+    requires sound { IsSound (length bits.now) entries.now }
+    requires node { number < length entries.now + 2 }
+    ensures { result ≡ value_at entries.now number bits.now }
+{
+    let mut at = number;
+    while at >= 2 {
+        let entry = &entries[at as usize - 2];
+        at = if bits[entry.var as usize] {
+            entry.hi.number
+        } else {
+            entry.lo.number
+        };
+    }
+    at == 1
+}
+
+/// Nodes of reduced ordered decision diagrams. The variables are numbered from 0 in their order, and a
+/// node's function reads the bit at its variable. The unique table has each triple of a variable and two
+/// branches once.
+#[derive(Drop)]
+pub struct Store {
+    vars: u32,
+    limit: u32,
+    entries: IndexSet<Entry>,
+}
+
+// The number in the invariant is `MAX_NODES`.
+impl Model for Store {
+    ghost use Rattle.std.specs.Prelude.{◌≤◌, length};
+    ghost use Rattle.bdd_store.specs.Arena.{Arena};
+    ghost use Rattle.bdd_store.specs.Soundness.{IsSound};
+
+    ghost Value = { Arena };
+
+    ghost view = { λ s. record { vars = s.vars; limit = s.limit; entries = s.entries.keys } };
+
+    ghost invariant = { λ s. (s.limit ≤ 50000000) × (length s.entries.keys ≤ s.limit) × IsSound s.vars s.entries.keys };
+}
+
+impl Store {
+    /// A store without nodes but the constants, over so many variables, which may come to hold `limit`
+    /// nodes. Constants aren't counted.
+    pub fn new(alloc: Global, vars: u32, limit: u32) -> Result<Store, AllocError>
+        requires { limit ≤ MAX_NODES }
+        ensures { IfOk result (λ s. s ≡ record { vars = vars; limit = limit; entries = [] }) }
+    {
+        let entries = IndexSet::with_capacity(alloc, 1)?;
+        Ok(Store {
+            vars,
+            limit,
+            entries,
+        })
+    }
+
+    /// How many variables there are.
+    pub fn vars(&self) -> u32
+        ensures { result ≡ self.now.vars }
+    {
+        self.vars
+    }
+
+    /// How many nodes there may be, without the constants.
+    pub fn limit(&self) -> u32
+        ensures { result ≡ self.now.limit }
+    {
+        self.limit
+    }
+
+    /// How many nodes there are, without the constants.
+    pub fn count(&self) -> u32
+        ensures count { result ≡ length self.now.entries }
+        ensures within { result ≤ self.now.limit }
+    {
+        self.entries.len() as u32
+    }
+
+    /// What holds of each store, as the contract of a call that does nothing: its diagrams are ordered and
+    /// reduced, and nodes of one function are one node.
+    pub fn laws(&self)
+        ensures { IsLawful self.now }
+    {
+        let _ = &self.entries;
+    }
+
+    /// The node that is `hi` where the bit at `var` is 1, and `lo` where it is 0. On `Full` and on `Memory`
+    /// the store is unchanged.
+    pub fn make(&mut self, var: u32, lo: Node, hi: Node) -> Result<Node, StoreFault>
+        requires var { var < self.old.vars }
+        requires lo { IsNodeOf self.old lo }
+        requires hi { IsNodeOf self.old hi }
+        requires above_lo { var < top_of self.old lo }
+        requires above_hi { var < top_of self.old hi }
+
+        ensures node { IfOk result (IsNodeOf self.new) }
+        ensures function { IfOk result (λ n. (bits : List Bool) → den self.new n bits ≡ choice self.old var lo hi bits) }
+        ensures top { IfOk result (λ n. var ≤ top_of self.new n) }
+        ensures equal { lo ≡ hi → result ≡ Ok lo }
+
+        // At most one node is added, which is the answer, and each earlier one keeps its function.
+        ensures keeps { KeepsNodes self.old self.new }
+        ensures added { AddsAtMost self.old self.new 1 }
+        ensures new_node { (n : Node) → IsNodeOf self.new n → IsNodeOf self.old n ⊎ (result ≡ Ok n) }
+        ensures equal_adds_none { lo ≡ hi → self.new ≡ self.old }
+
+        // It is full exactly where a new triple finds no room. No node has the wanted function then.
+        ensures full { (result ≡ Err StoreFault.Full) ↔ IsRefused self.old var lo hi }
+        ensures new_function { result ≡ Err StoreFault.Full → IsNewFunction self.old (choice self.old var lo hi) }
+        ensures err { OnErr result (self.new ≡ self.old) }
+    {
+        if lo == hi {
+            return Ok(lo);
+        }
+        let at = enter(&mut self.entries, self.limit, Entry { var, lo, hi })?;
+        Ok(Node { number: at + 2 })
+    }
+
+    /// The value of a node's function at bits, one for each variable.
+    pub fn value(&self, n: Node, bits: &[bool]) -> bool
+        requires node { IsNodeOf self.now n }
+        requires bits { length bits.now ≡ self.now.vars }
+        ensures { result ≡ den self.now n bits.now }
+    {
+        value_in(self.entries.as_slice(), n.number, bits)
+    }
+
+    /// The variable of a node, or `vars` for a constant.
+    pub fn top(&self, n: Node) -> u32
+        requires { IsNodeOf self.now n }
+        ensures variable { result ≡ top_of self.now n }
+        ensures branching { IsBranching n ↔ (result < self.now.vars) }
+    {
+        if n.number < 2 {
+            self.vars
+        } else {
+            self.entries.as_slice()[n.number as usize - 2].var
+        }
+    }
+
+    /// The branch of a node that is no constant, where the bit at its variable is 0.
+    pub fn lo(&self, n: Node) -> Node
+        requires node { IsNodeOf self.now n }
+        requires entry { IsBranching n }
+        ensures node { IsNodeOf self.now result }
+        ensures earlier { result.number < n.number }
+        ensures lower { top_of self.now n < top_of self.now result }
+        ensures within { top_of self.now n < self.now.vars }
+        ensures function { (bits : List Bool) → slice_index_or bits (top_of self.now n) false ≡ false → den self.now n bits ≡ den self.now result bits }
+    {
+        self.entries.as_slice()[n.number as usize - 2].lo
+    }
+
+    /// The branch of a node that is no constant, where the bit at its variable is 1.
+    pub fn hi(&self, n: Node) -> Node
+        requires node { IsNodeOf self.now n }
+        requires entry { IsBranching n }
+        ensures node { IsNodeOf self.now result }
+        ensures earlier { result.number < n.number }
+        ensures lower { top_of self.now n < top_of self.now result }
+        ensures within { top_of self.now n < self.now.vars }
+        ensures function { (bits : List Bool) → slice_index_or bits (top_of self.now n) false ≡ true → den self.now n bits ≡ den self.now result bits }
+    {
+        self.entries.as_slice()[n.number as usize - 2].hi
+    }
+
+    /// The node that was made after so many others.
+    pub fn at(&self, position: u32) -> Node
+        requires { position < length self.now.entries }
+        ensures { result.number ≡ position + 2 }
+    {
+        let _ = &self.entries;
+        Node {
+            number: position + 2,
+        }
+    }
+
+    /// Whether a node is one of this store.
+    pub fn contains(&self, n: Node) -> bool
+        ensures { IsTrue result ↔ IsNodeOf self.now n }
+    {
+        (n.number as usize) < self.entries.len() + 2
+    }
+
+    /// Whether two nodes have one function. They are then one node.
+    pub fn same_function(&self, m: Node, n: Node) -> bool
+        requires m { IsNodeOf self.now m }
+        requires n { IsNodeOf self.now n }
+        ensures same { IsTrue result ↔ SameFunction self.now m n }
+        ensures canonical { SameFunction self.now m n → m ≡ n }
+    {
+        let _ = &self.entries;
+        m == n
+    }
+}
