@@ -1,0 +1,176 @@
+-- One step of an operation: from the answers to the cofactors to the answer to the operands.
+use Rattle.std.proofs.Common.{◌≡◌, ℕ, ◌+◌, ◌<◌, ◌≤◌, ◌⊎◌, Bool, true, false, List, [], ◌∷◌, ◌++◌, length, drop, get_or, replicate, Option, Some, None, IfSome, Result, Ok, Err, is_err, OnOk, IfOk, cond, ◌&&◌, if◌then◌else◌, refl, sym, ap, subst, ◌∙◌, arith, append_assoc, true≢false}
+use Rattle.std.proofs.lemmas.List.{length-replicate, drop_at, get_or_at, length_push}
+use Rattle.std.proofs.lemmas.Option.{same_Some}
+use Rattle.std.proofs.lemmas.Bool.{eqb-true}
+use Rattle.std.proofs.Math.Dec.{eqb}
+use Rattle.std.specs.HashMap.{get}
+use Rattle.bdd_store.specs.declared.node.Node.{Node}
+use Rattle.bdd_store.specs.Arena.{Arena, den, top_of, IsNodeOf, choice}
+use Rattle.bdd_store.specs.Soundness.{IsLawful}
+use Rattle.bdd_store.specs.Growth.{KeepsNodes, NewAreParts, IsNewFunction, IsRefusedPart}
+use Rattle.bdd_store.specs.Subfunctions.{IsPart}
+use Rattle.bdd_store.proofs.SubfunctionLemmas.{IsPart-whole, IsPart-alike}
+use Rattle.bdd_store.proofs.GrowthLemmas.{IsNodeOf-kept, NewAreParts-made, NewAreParts-part, IsRefusedPart-made, IsRefusedPart-part}
+use Rattle.bdd_ops.specs.declared.operands.Operation.{Operation}
+use Rattle.bdd_ops.specs.declared.operands.Operands.{Operands}
+use Rattle.bdd_ops.specs.Apply.{combine, value, AreNodesOf, IsBelow, IsAnswer, IsCofactor, AreCofactors, IsSplit, AreAnswered, Memo, operands_eq, IsMemo}
+
+-- ---- what a store that keeps its nodes keeps
+
+pub AreNodesOf-kept : {s t : Arena} {q : Operands} → KeepsNodes s t → AreNodesOf s q → AreNodesOf t q
+AreNodesOf-kept {q = q} k h = record { a = IsNodeOf-kept k q.a h.a; b = IsNodeOf-kept k q.b h.b; c = IsNodeOf-kept k q.c h.c; d = IsNodeOf-kept k q.d h.d }
+
+pub value-kept : {s t : Arena} (operation : Operation) (q : Operands) → KeepsNodes s t → AreNodesOf s q → (bits : List Bool) → value operation t q bits ≡ value operation s q bits
+value-kept operation q k h bits = λ j. combine operation (k.function q.a bits h.a j) (k.function q.b bits h.b j) (k.function q.c bits h.c j) (k.function q.d bits h.d j)
+
+pub IsBelow-kept : {s t : Arena} {q : Operands} {v : ℕ} → KeepsNodes s t → AreNodesOf s q → IsBelow t q v → IsBelow s q v
+IsBelow-kept {q = q} k h b = record {
+  a = omega (arith, b.a, k.variable q.a h.a);
+  b = omega (arith, b.b, k.variable q.b h.b);
+  c = omega (arith, b.c, k.variable q.c h.c);
+  d = omega (arith, b.d, k.variable q.d h.d);
+}
+
+pub IsAnswer-kept : {operation : Operation} {s t : Arena} {q : Operands} {n : Node} → KeepsNodes s t → AreNodesOf s q → IsAnswer operation s q n → IsAnswer operation t q n
+IsAnswer-kept {operation} {s} {t} {q} {n} k h a = record {
+  node = IsNodeOf-kept k n a.node;
+  function = λ bits. k.function n bits a.node ∙ a.function bits ∙ sym (value-kept operation q k h bits);
+  top = λ v w b. omega (arith, a.top v (omega (arith, k.vars)) (IsBelow-kept k h b), k.variable n a.node);
+}
+
+IsCofactor-kept : {s t : Arena} {n m : Node} {var : ℕ} {bit : Bool} → KeepsNodes s t → IsNodeOf s n → IsCofactor s n var bit m → IsCofactor t n var bit m
+IsCofactor-kept {n = n} {m = m} k h c = record {
+  node = IsNodeOf-kept k m c.node;
+  lower = omega (arith, c.lower, k.variable m c.node);
+  function = λ bits read. k.function n bits h ∙ c.function bits read ∙ sym (k.function m bits c.node);
+}
+
+AreCofactors-kept : {s t : Arena} {q p : Operands} {var : ℕ} {bit : Bool} → KeepsNodes s t → AreNodesOf s q → AreCofactors s q var bit p → AreCofactors t q var bit p
+AreCofactors-kept k h c = record { a = IsCofactor-kept k h.a c.a; b = IsCofactor-kept k h.b c.b; c = IsCofactor-kept k h.c c.c; d = IsCofactor-kept k h.d c.d }
+
+pub IsSplit-kept : {s t : Arena} {q lo hi : Operands} {var : ℕ} → KeepsNodes s t → IsSplit s q var lo hi → IsSplit t q var lo hi
+IsSplit-kept k h = record {
+  nodes = AreNodesOf-kept k h.nodes;
+  within = omega (arith, h.within, k.vars);
+  most = λ v b. h.most v (IsBelow-kept k h.nodes b);
+  low = AreCofactors-kept k h.nodes h.low;
+  high = AreCofactors-kept k h.nodes h.high;
+}
+
+pub IsMemo-kept : (operation : Operation) (s t : Arena) (memo : Memo) → KeepsNodes s t → IsMemo operation s memo → IsMemo operation t memo
+IsMemo-kept operation s t memo k h = record { each = λ q n at. let m = h.each q n at in (AreNodesOf-kept k m.0, IsAnswer-kept k m.0 m.1) }
+
+-- ---- the memo
+
+pub same_operands : (p q : Operands) → operands_eq p q ≡ true → p ≡ q
+same_operands p q h =
+    let first = and_true (eqb p.a.number q.a.number) _ h in
+    let second = and_true (eqb p.b.number q.b.number) _ first.1 in
+    let third = and_true (eqb p.c.number q.c.number) _ second.1 in
+    λ j. record {
+      a = record { number = eqb-true p.a.number q.a.number first.0 j };
+      b = record { number = eqb-true p.b.number q.b.number second.0 j };
+      c = record { number = eqb-true p.c.number q.c.number third.0 j };
+      d = record { number = eqb-true p.d.number q.d.number third.1 j };
+    }
+  where
+    and_true : (x y : Bool) → (x && y) ≡ true → (x ≡ true) × (y ≡ true)
+    and_true true y g = (refl, g)
+    and_true false y g = absurd (true≢false (sym g))
+
+-- what the memo has
+pub IsMemo-found : (operation : Operation) (memo : Memo) (q : Operands) (r : Option Node) → r ≡ get operands_eq memo q → IfSome r (λ n. (s : Arena) → IsMemo operation s memo → AreNodesOf s q → IsAnswer operation s q n)
+IsMemo-found operation memo q None e = tt
+IsMemo-found operation memo q (Some n) e = λ s h nodes. (h.each q n (sym e)).1
+
+-- the memo with one more answer
+pub IsMemo-insert : (operation : Operation) (s : Arena) (old new : Memo) (p : Operands) (n : Node)
+    → IsMemo operation s old → AreNodesOf s p → IsAnswer operation s p n
+    → ((q : Operands) → get operands_eq new q ≡ cond (operands_eq p q) (Some n) (get operands_eq old q)) → IsMemo operation s new
+IsMemo-insert operation s old new p n memo nodes answer updates = record { each = λ q m at. by q m (operands_eq p q) refl (sym (updates q) ∙ at) }
+  where
+    by : (q : Operands) (m : Node) (b : Bool) → operands_eq p q ≡ b → cond b (Some n) (get operands_eq old q) ≡ Some m → AreNodesOf s q × IsAnswer operation s q m
+    by q m true e h = subst (λ (r : Operands). AreNodesOf s r × IsAnswer operation s r m) (same_operands p q e) (nodes, subst (λ (k : Node). IsAnswer operation s p k) (same_Some n m h) answer)
+    by q m false e h = memo.each q m h
+
+-- ---- cofactors
+
+module _ (operation : Operation) (s : Arena) (q : Operands) (var : ℕ) (bit : Bool) (p : Operands) (of : AreCofactors s q var bit p) where
+  pub AreNodesOf-cofactors : AreNodesOf s p
+  AreNodesOf-cofactors = record { a = of.a.node; b = of.b.node; c = of.c.node; d = of.d.node }
+
+  -- where the bit is so, the values are those of the cofactors
+  pub value-cofactors : (bits : List Bool) → get_or bits var false ≡ bit → value operation s q bits ≡ value operation s p bits
+  value-cofactors bits read = λ j. combine operation (of.a.function bits read j) (of.b.function bits read j) (of.c.function bits read j) (of.d.function bits read j)
+
+  -- the cofactors' node reads later bits alone
+  pub below_answer : var < s.vars → (n : Node) → IsAnswer operation s p n → var < top_of s n
+  below_answer within n is =
+      let low : IsBelow s p (var + 1) = record { a = omega (arith, of.a.lower); b = omega (arith, of.b.lower); c = omega (arith, of.c.lower); d = omega (arith, of.d.lower) } in
+      omega (arith, is.top (var + 1) (omega (arith, within)) low)
+
+  module _ (lawful : IsLawful s) (within : var < s.vars) where
+    abbrev first : List Bool
+    first = replicate var false ++ bit ∷ []
+
+    length-first : length first ≡ var + 1
+    length-first = omega (arith, length_push (replicate var false) bit, length-replicate var false)
+
+    cofactor_value : (n m : Node) → IsCofactor s n var bit m → (bits : List Bool) → den s m bits ≡ den s n (first ++ drop (length first) bits)
+    cofactor_value n m is bits =
+        let rest = drop (length first) bits in
+        let read : get_or (first ++ rest) var false ≡ bit = ap (λ l. get_or l var false) (append_assoc (replicate var false) (bit ∷ []) rest) ∙ get_or_at (replicate var false) bit rest false var (length-replicate var false) in
+        sym (is.function (first ++ rest) read
+        ∙ lawful.support m (length first) (first ++ rest) bits is.node (omega (arith, is.lower, length-first)) (drop_at first rest (length first) refl))
+
+    -- the cofactors' function is the operands' with its first bits fixed
+    pub IsPart-cofactors : IsPart s.vars (value operation s q) (value operation s p)
+    IsPart-cofactors = record {
+      first = first;
+      short = omega (arith, length-first);
+      same = λ bits len. λ j. combine operation (cofactor_value q.a p.a of.a bits j) (cofactor_value q.b p.b of.b bits j) (cofactor_value q.c p.c of.c bits j) (cofactor_value q.d p.d of.d bits j);
+    }
+
+-- ---- the made node
+
+module _ (operation : Operation) (s : Arena) (asked : Operands) (var : ℕ) (low high : Node) (answered : AreAnswered operation s asked var low high) where
+  abbrev made : List Bool → Bool
+  made = choice s var low high
+
+  pub low_below : var < top_of s low
+  low_below = below_answer operation s asked var false answered.0 answered.2.low answered.2.within low answered.3
+
+  pub high_below : var < top_of s high
+  high_below = below_answer operation s asked var true answered.1 answered.2.high answered.2.within high answered.4
+
+  -- Shannon's expansion
+  pub made-value : (bits : List Bool) → made bits ≡ value operation s asked bits
+  made-value bits = by (get_or bits var false) refl
+    where
+      by : (c : Bool) → get_or bits var false ≡ c → (if c then den s high bits else den s low bits) ≡ value operation s asked bits
+      by true e = answered.4.function bits ∙ sym (value-cofactors operation s asked var true answered.1 answered.2.high bits e)
+      by false e = answered.3.function bits ∙ sym (value-cofactors operation s asked var false answered.0 answered.2.low bits e)
+
+  IsPart-made : IsPart s.vars (value operation s asked) made
+  IsPart-made = IsPart-alike (IsPart-whole s.vars (value operation s asked)) (λ bits len. made-value bits)
+
+  module _ (t : Arena) (keeps : KeepsNodes s t) where
+    -- the made node answers the operands
+    pub IsAnswer-made : (n : Node) → IsNodeOf t n → ((bits : List Bool) → den t n bits ≡ made bits) → var ≤ top_of t n → IsAnswer operation t asked n
+    IsAnswer-made n node function top = record {
+      node = node;
+      function = λ bits. function bits ∙ made-value bits ∙ sym (value-kept operation asked keeps answered.2.nodes bits);
+      top = λ v w b. omega (arith, answered.2.most v (IsBelow-kept keeps answered.2.nodes b), top);
+    }
+
+  pub NewAreParts-close : {E : Type 0} (t : Arena) (r : Result Node E) → ((n : Node) → IsNodeOf t n → IsNodeOf s n ⊎ (r ≡ Ok n)) → IfOk r (λ n. (bits : List Bool) → den t n bits ≡ made bits) → NewAreParts s t (value operation s asked)
+  NewAreParts-close t r one function = NewAreParts-part IsPart-made (NewAreParts-made s t made r one function)
+
+  pub IsRefusedPart-close : (t : Arena) → t ≡ s → length s.entries ≡ s.limit → IsNewFunction s made → IsRefusedPart t (value operation s asked)
+  IsRefusedPart-close t e full absent = IsRefusedPart-part (subst (λ (u : Arena). IsPart u.vars (value operation s asked) made) (sym e) IsPart-made) (IsRefusedPart-made s t made e full absent)
+
+-- the clause of an `Ok`
+pub on_ok : {X E : Type 0} {P : Type 0} (r : Result X E) → false ≡ is_err r → OnOk r P → P
+on_ok (Ok x) e h = h
+on_ok (Err x) e h = absurd (true≢false (sym e))

@@ -1,0 +1,3 @@
+mod ApplyLemmas
+mod ChainLemmas
+mod LeastLemmas

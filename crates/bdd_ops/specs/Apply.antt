@@ -1,0 +1,112 @@
+-- An operation on up to four nodes, the questions that wait while it runs, and what answers them.
+use Rattle.std.specs.Prelude.{◌≡◌, ℕ, ◌<◌, ◌≤◌, ◌⊎◌, Bool, true, false, ◌&&◌, ◌||◌, List, [], ◌∷◌, Some, if◌then◌else◌, nat_eq}
+use Rattle.std.specs.List.{slice_index_or}
+use Rattle.std.specs.HashMap.{HashMap, get}
+use Rattle.std.specs.declared.hash.FoldHasher.{FoldHasher}
+use Rattle.std.specs.declared.hash.BuildHasherDefault.{BuildHasherDefault}
+use Rattle.bdd_store.specs.declared.node.Node.{Node}
+use Rattle.bdd_store.specs.Arena.{Arena, den, top_of, IsNodeOf, IsBranching}
+use Rattle.bdd_ops.specs.declared.operands.Operation.{Operation}
+use Rattle.bdd_ops.specs.declared.operands.Operation.TheVariants.{And, Or, Xor, Ite, Select}
+use Rattle.bdd_ops.specs.declared.operands.Operands.{Operands}
+use Rattle.bdd_ops.specs.declared.apply.Question.{Question}
+use Rattle.bdd_ops.specs.declared.apply.Question.TheVariants.{Low, High}
+use Rattle.bdd_ops.specs.declared.apply.Turn.{Turn}
+use Rattle.bdd_ops.specs.declared.apply.Turn.TheVariants.{Ask, Answer}
+use Rattle.bdd_ops.specs.Operations.{xor, select}
+
+-- an operation's value at its operands' values, of which it may leave the last ones unread
+abbrev pub combine : Operation → Bool → Bool → Bool → Bool → Bool
+combine And a b c d = a && b
+combine Or a b c d = a || b
+combine Xor a b c d = xor a b
+combine Ite a b c d = if a then b else c
+combine Select a b c d = select a b c d
+
+-- the operands' functions, combined
+abbrev pub value : Operation → Arena → Operands → List Bool → Bool
+value operation s q bits = combine operation (den s q.a bits) (den s q.b bits) (den s q.c bits) (den s q.d bits)
+
+pub record AreNodesOf (s : Arena) (q : Operands) : Type 0 where
+  pub a : IsNodeOf s q.a
+  pub b : IsNodeOf s q.b
+  pub c : IsNodeOf s q.c
+  pub d : IsNodeOf s q.d
+
+-- v is at most the variable of each operand
+pub record IsBelow (s : Arena) (q : Operands) (v : ℕ) : Type 0 where
+  pub a : v ≤ top_of s q.a
+  pub b : v ≤ top_of s q.b
+  pub c : v ≤ top_of s q.c
+  pub d : v ≤ top_of s q.d
+
+-- some operand is no constant
+abbrev pub SomeBranching : Operands → Type 0
+SomeBranching q = (IsBranching q.a ⊎ IsBranching q.b) ⊎ (IsBranching q.c ⊎ IsBranching q.d)
+
+-- n is the node of the operands' function, and reads no bit that none of them reads
+pub record IsAnswer (operation : Operation) (s : Arena) (q : Operands) (n : Node) : Type 0 where
+  pub node : IsNodeOf s n
+  pub function : (bits : List Bool) → den s n bits ≡ value operation s q bits
+  pub top : (v : ℕ) → v ≤ s.vars → IsBelow s q v → v ≤ top_of s n
+
+-- m is n's function where the bit at var is so, and reads later bits alone
+pub record IsCofactor (s : Arena) (n : Node) (var : ℕ) (bit : Bool) (m : Node) : Type 0 where
+  pub node : IsNodeOf s m
+  pub lower : var < top_of s m
+  pub function : (bits : List Bool) → slice_index_or bits var false ≡ bit → den s n bits ≡ den s m bits
+
+pub record AreCofactors (s : Arena) (q : Operands) (var : ℕ) (bit : Bool) (p : Operands) : Type 0 where
+  pub a : IsCofactor s q.a var bit p.a
+  pub b : IsCofactor s q.b var bit p.b
+  pub c : IsCofactor s q.c var bit p.c
+  pub d : IsCofactor s q.d var bit p.d
+
+-- var is the first variable that an operand reads, and lo and hi are the cofactors there
+pub record IsSplit (s : Arena) (q : Operands) (var : ℕ) (lo hi : Operands) : Type 0 where
+  pub nodes : AreNodesOf s q
+  pub within : var < s.vars
+  pub most : (v : ℕ) → IsBelow s q v → v ≤ var
+  pub low : AreCofactors s q var false lo
+  pub high : AreCofactors s q var true hi
+
+-- low and high answer the cofactors of the operands at var
+abbrev pub AreAnswered : Operation → Arena → Operands → ℕ → Node → Node → Type 0
+AreAnswered operation s asked var low high = (p : Operands) × (q : Operands) × IsSplit s asked var p q × IsAnswer operation s p low × IsAnswer operation s q high
+
+abbrev pub Memo : Type 0
+Memo = HashMap Operands Node (BuildHasherDefault FoldHasher)
+
+abbrev pub operands_eq : Operands → Operands → Bool
+operands_eq p q = nat_eq p.a.number q.a.number && (nat_eq p.b.number q.b.number && (nat_eq p.c.number q.c.number && nat_eq p.d.number q.d.number))
+
+-- what the memo has for operands answers them
+pub record IsMemo (operation : Operation) (s : Arena) (memo : Memo) : Type 0 where
+  pub each : (q : Operands) (n : Node) → get operands_eq memo q ≡ Some n → AreNodesOf s q × IsAnswer operation s q n
+
+-- the operands whose answer is open
+abbrev pub asked_of : Question → Operands
+asked_of (Low asked var high) = asked
+asked_of (High asked var low) = asked
+
+-- it waits for the answer to these operands: to the cofactors at 0, or, once those are answered, to the ones at 1
+abbrev pub WaitsFor : Operation → Arena → Question → Operands → Type 0
+WaitsFor operation s (Low asked var high) q = IsSplit s asked var q high
+WaitsFor operation s (High asked var low) q = (p : Operands) × IsSplit s asked var p q × IsAnswer operation s p low
+
+-- n is the answer that it waits for
+abbrev pub IsAnswered : Operation → Arena → Question → Node → Type 0
+IsAnswered operation s w n = (q : Operands) × WaitsFor operation s w q × IsAnswer operation s q n
+
+-- each question that waits, the last first, waits for the one before, and the first one asked is the root
+abbrev pub IsChain : Operation → Arena → Operands → List Question → Operands → Type 0
+IsChain operation s root [] q = q ≡ root
+IsChain operation s root (w ∷ ws) q = WaitsFor operation s w q × IsChain operation s root ws (asked_of w)
+
+-- the question that comes next, or the answer to the last one
+abbrev pub IsTurn : Operation → Arena → Operands → List Question → Turn → Type 0
+IsTurn operation s root ws (Ask q) = IsChain operation s root ws q
+IsTurn operation s root ws (Answer n) = (q : Operands) × IsChain operation s root ws q × IsAnswer operation s q n
+
+abbrev pub IsTurnOfSome : Operation → Arena → List Question → Turn → Type 0
+IsTurnOfSome operation s ws turn = (root : Operands) × AreNodesOf s root × IsTurn operation s root ws turn
