@@ -1,28 +1,49 @@
+ghost use Rattle.std.specs.Prelude.{◌≡◌, ◌<◌, IfOk};
+ghost use Rattle.bdd_store.specs.Arena.{IsNodeOf};
+ghost use Rattle.bdd_store.specs.Growth.{KeepsNodes};
+
 use crate::Diagrams;
-use bdd_store::Node;
+use bdd_store::{Node, StoreFault};
+use std::process::Abort;
 use std::test::Fail;
 
+// The values at 00, 01, 10 and 11.
+fn assert_values(rt: &impl Abort, d: &Diagrams, n: Node, values: [bool; 4])
+    requires vars { d.now.vars ≡ 2 }
+    requires node { IsNodeOf d.now n }
+{
+    assert_eq!(rt; d.store().value(n, [false, false].as_slice()), values[0]);
+    assert_eq!(rt; d.store().value(n, [false, true].as_slice()), values[1]);
+    assert_eq!(rt; d.store().value(n, [true, false].as_slice()), values[2]);
+    assert_eq!(rt; d.store().value(n, [true, true].as_slice()), values[3]);
+}
+
 #[test]
-fn operations_on_two_variables(rt: HostRuntime) -> Result<(), Fail> {
+fn and_xor_and_ite(rt: HostRuntime) -> Result<(), Fail> {
     let mut d = Diagrams::new(rt.alloc(), 2, 100)?;
     let x = d.var(0)?;
     let y = d.var(1)?;
     let both = d.and(x, y)?;
+    assert_values(&rt, &d, both, [false, false, false, true]);
     let differ = d.xor(x, y)?;
+    assert_values(&rt, &d, differ, [false, true, true, false]);
     let chosen = d.ite(x, y, differ)?;
-    // 00, 01, 10, 11
-    let cases = [
-        (false, false, false, false, false),
-        (false, true, false, true, true),
-        (true, false, false, true, false),
-        (true, true, true, false, true),
-    ];
-    for (a, b, and, xor, ite) in cases {
-        let bits = [a, b];
-        assert_eq!(rt; d.store().value(both, bits.as_slice()), and);
-        assert_eq!(rt; d.store().value(differ, bits.as_slice()), xor);
-        assert_eq!(rt; d.store().value(chosen, bits.as_slice()), ite);
-    }
+    assert_values(&rt, &d, chosen, [false, true, false, true]);
+    Ok(())
+}
+
+#[test]
+fn not_or_and_select(rt: HostRuntime) -> Result<(), Fail> {
+    let mut d = Diagrams::new(rt.alloc(), 1, 1)?;
+    d.start(2, 100)?;
+    let x = d.var(0)?;
+    let y = d.var(1)?;
+    let not_x = d.not(x)?;
+    assert_values(&rt, &d, not_x, [true, true, false, false]);
+    let some = d.or(x, y)?;
+    assert_values(&rt, &d, some, [false, true, true, true]);
+    let selected = d.select(x, not_x, y, some)?;
+    assert_values(&rt, &d, selected, [false, true, false, true]);
     Ok(())
 }
 
@@ -32,5 +53,36 @@ fn least_of_the_constant_false(rt: HostRuntime) -> Result<(), Fail> {
     let mut out = [true, false];
     assert!(rt; !d.least(Node::of(false), out.as_mut_slice()));
     assert_eq!(rt; out, [true, false]);
+    assert!(rt; d.least(Node::of(true), out.as_mut_slice()));
+    assert_eq!(rt; out, [false, false]);
+    Ok(())
+}
+
+const MANY: u32 = 200_000;
+
+// The conjunction of every second variable.
+fn every_second(d: &mut Diagrams, from: u32) -> Result<Node, StoreFault>
+    requires vars { d.old.vars ≡ MANY }
+    requires from { from < 2 }
+    ensures node { IfOk result (IsNodeOf d.new) }
+    ensures keeps { KeepsNodes d.old d.new }
+{
+    let mut all = Node::of(true);
+    for k in (0..MANY / 2).rev() {
+        let bit = d.var(2 * k + from)?;
+        all = d.and(bit, all)?;
+    }
+    Ok(all)
+}
+
+// A recursion would be as deep as there are variables.
+#[test]
+fn many_variables(rt: HostRuntime) -> Result<(), Fail> {
+    let mut d = Diagrams::new(rt.alloc(), MANY, 1_000_000)?;
+    let even = every_second(&mut d, 0)?;
+    let odd = every_second(&mut d, 1)?;
+    let all = d.and(even, odd)?;
+    let bits = vec![in rt.alloc(); true; MANY as usize]?;
+    assert!(rt; d.store().value(all, bits.as_slice()));
     Ok(())
 }
