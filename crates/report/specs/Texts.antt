@@ -69,11 +69,20 @@ abbrev pub place_text : List ℕ → Option ℕ → List ℕ
 place_text file None = file
 place_text file (Some line) = file ++ (codes ":" ++ decimal line)
 
--- the tail, and the end of the line
-abbrev pub tail_text : Tail → List ℕ
-tail_text Nothing = codes "\n"
-tail_text (Name name) = codes " " ++ (name.now ++ codes "\n")
-tail_text (Number n) = codes " " ++ (decimal n ++ codes "\n")
+-- what stands behind the words, with the end of the line
+abbrev pub no_tail : List ℕ
+no_tail = codes "\n"
 
-abbrev pub fault_text : List ℕ → ℕ → Option ℕ → Tail → List ℕ
-fault_text file code line tail = place_text file line ++ (code_text code ++ words_of code ++ tail_text tail)
+abbrev pub name_tail : List ℕ → List ℕ
+name_tail name = codes " " ++ (name ++ codes "\n")
+
+abbrev pub number_tail : ℕ → List ℕ
+number_tail n = codes " " ++ (decimal n ++ codes "\n")
+
+abbrev pub tail_text : Tail → List ℕ
+tail_text Nothing = no_tail
+tail_text (Name name) = name_tail name.now
+tail_text (Number n) = number_tail n
+
+abbrev pub fault_text : List ℕ → ℕ → Option ℕ → List ℕ → List ℕ
+fault_text file code line tail = place_text file line ++ (code_text code ++ words_of code ++ tail)

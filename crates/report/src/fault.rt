@@ -4,7 +4,6 @@ ghost use Rattle.cyc_io.specs.Faults.{Rose};
 ghost use Rattle.cyc_io.specs.Taken.{AppendsPrefix};
 ghost use Rattle.report.specs.Texts.{words_of, IsCode, code_text, place_text, tail_text, fault_text};
 
-
 use crate::put::{put_three, put_two};
 use cyc_base::Name;
 use cyc_io::{Failed, Sink, write_whole};
@@ -77,7 +76,12 @@ fn put_place<K: Sink>(sink: &mut K, file: &Name, line: Option<u64>) -> Result<()
     ensures cause { OnErr result (Rose (K.faults sink.old) (K.faults sink.new)) }
 {
     match line {
-        Some(line) => Ok(put_three(sink, file.bytes(), b":", Buffer::new().format(line).as_bytes())?),
+        Some(line) => Ok(put_three(
+            sink,
+            file.bytes(),
+            b":",
+            Buffer::new().format(line).as_bytes(),
+        )?),
         None => Ok(write_whole(sink, file.bytes())?),
     }
 }
@@ -128,8 +132,8 @@ pub fn put_fault<K: Sink>(
     sink: &mut K,
 ) -> Result<(), Failed>
     requires { IsCode code }
-    ensures taken { OnOk result (Appends (K.put sink.old) (K.put sink.new) (fault_text file.now code line tail.entry)) }
-    ensures prefix { OnErr result (AppendsPrefix (K.put sink.old) (K.put sink.new) (fault_text file.now code line tail.entry)) }
+    ensures taken { OnOk result (Appends (K.put sink.old) (K.put sink.new) (fault_text file.now code line (tail_text tail.entry))) }
+    ensures prefix { OnErr result (AppendsPrefix (K.put sink.old) (K.put sink.new) (fault_text file.now code line (tail_text tail.entry))) }
     ensures later { K.faults sink.old ≤ K.faults sink.new }
     ensures cause { OnErr result (Rose (K.faults sink.old) (K.faults sink.new)) }
 {
