@@ -1,4 +1,4 @@
-ghost use Rattle.std.specs.Prelude.{◌≡◌, ◌↔◌, ◌<◌, ◌≤◌, Bool, false, List, [], length, IfOk, OnErr};
+ghost use Rattle.std.specs.Prelude.{◌≡◌, ◌↔◌, ◌<◌, ◌≤◌, Bool, false, List, [], length, IfOk, OnOk, OnErr};
 ghost use Rattle.std.specs.Bool.{OnTrue, OnFalse};
 ghost use Rattle.bdd_store.specs.Arena.{constant, den, IsNodeOf};
 ghost use Rattle.bdd_store.specs.Growth.{KeepsNodes, AddsAtMost, IsFullOnlyPast};
@@ -54,7 +54,7 @@ impl Diagrams {
     /// stays as it was.
     pub fn start(&mut self, vars: u32, limit: u32) -> Result<(), AllocError>
         requires { limit ≤ MAX_NODES }
-        ensures ok { IfOk result (λ _. self.new ≡ record { vars = vars; limit = limit; entries = [] }) }
+        ensures ok { OnOk result (self.new ≡ record { vars = vars; limit = limit; entries = [] }) }
         ensures err { OnErr result (self.new ≡ self.old) }
     {
         self.store = Store::new(self.alloc, vars, limit)?;

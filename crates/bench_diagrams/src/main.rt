@@ -1,0 +1,53 @@
+//! Times the operations of `bdd_ops` on functions that it makes itself: n-queens, parity, adders and the
+//! hidden weighted bit. `bench_diagrams NAME SIZE` times one of them; without words it makes a small one of
+//! each. Nodes and operations go to out, times to err.
+//!
+//! `bench/buddy.c` does the same in BuDDy, by the same operations in the same order.
+#![tactic(auto)]
+
+mod functions;
+mod queens;
+mod work;
+
+use functions::{adder, hidden_weighted_bit, parity};
+use queens::queens;
+use std::alloc::Global;
+use std::env;
+use std::rt::Runtime;
+use std::time::Instant;
+use work::Work;
+
+// Makes one function, and prints what that took.
+fn time<R: Runtime>(rt: &R, alloc: Global, name: &str, size: u32) -> anyhow::Result<()> {
+    let mut work = Work::new(alloc)?;
+    let start = Instant::now(rt)?;
+    match name {
+        "queens" => queens(&mut work, size)?,
+        "parity" => parity(&mut work, size)?,
+        "adder" => adder(&mut work, alloc, size)?,
+        "hidden" => hidden_weighted_bit(&mut work, alloc, size)?,
+        _ => anyhow::bail!("no function has the name {name}"),
+    }
+    let micros = start.elapsed(rt)?.as_micros();
+    let nodes = work.nodes();
+    let operations = work.operations();
+    println!(rt; "{name} {size}: {nodes} nodes, {operations} operations")?;
+    let rate = (nodes as u128).wrapping_mul(1_000_000) / micros.max(1);
+    eprintln!(rt; "{name} {size}: {micros} us, {rate} nodes per second")?;
+    Ok(())
+}
+
+fn main(rt: HostRuntime) -> anyhow::Result<()> {
+    let alloc = rt.alloc();
+    let mut words = env::args(&rt)?.skip(1);
+    if let Some(name) = words.next() {
+        let Some(size) = words.next() else {
+            anyhow::bail!("usage: bench_diagrams NAME SIZE");
+        };
+        return time(&rt, alloc, name.as_str(), size.as_str().parse()?);
+    }
+    for (name, size) in [("queens", 4), ("parity", 8), ("adder", 4), ("hidden", 6)] {
+        time(&rt, alloc, name, size)?;
+    }
+    Ok(())
+}
