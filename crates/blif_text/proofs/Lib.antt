@@ -4,3 +4,4 @@ pub mod CutLemmas
 pub mod WordBufferLemmas
 pub mod LineBufferLemmas
 pub mod LoopLemmas
+pub mod LineFacts
