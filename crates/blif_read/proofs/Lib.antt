@@ -6,3 +6,5 @@ pub mod FollowLemmas
 pub mod WholeLemmas
 pub mod PlaceLemmas
 pub mod ReadLemmas
+pub mod SoundLemmas
+pub mod FlattenLemmas

@@ -1,6 +1,7 @@
-ghost use Rattle.std.specs.Prelude.{◌≡◌, ◌≢◌, MatchResult, Ok, Err};
+ghost use Rattle.std.specs.Prelude.{◌≡◌, ◌≢◌, ◌≤◌, MatchResult, IfOk, Ok, Err, length};
 ghost use Rattle.blif_read.specs.Reads.{if_any, reads_lines, reads};
 ghost use Rattle.blif_read.specs.Answers.{Answers};
+ghost use Rattle.blif_read.specs.Flattening.{CanBeFlattened};
 ghost use Rattle.blif_read.specs.declared.fault.BlifFault.TheVariants.{Memory};
 
 use crate::fault::BlifFault;
@@ -36,10 +37,15 @@ fn read_lines(alloc: Global, lines: &Lines) -> Result<Items<BlifModel>, BlifFaul
 ///
 /// Each fault but `Memory` comes exactly where the text has it, and it is the text's first: a bad byte
 /// anywhere comes before all others, and then the first line with a fault decides.
+///
+/// The models of a text of at most 4,000,000,000 bytes can be flattened: all names are BLIF names, the
+/// models' names differ, each gate has as many pins as its cover, no control is named `NIL`, and no model
+/// has over 4,000,000,000 inputs.
 pub fn read(alloc: Global, bytes: &[u8]) -> Result<Models, BlifFault>
-    ensures { MatchResult result
+    ensures models { MatchResult result
         (λ models. reads bytes.now ≡ Ok models.list)
         (λ fault. fault ≢ Memory → reads bytes.now ≡ Err fault) }
+    ensures flat { length bytes.now ≤ 4000000000 → IfOk result (λ models. CanBeFlattened models.list) }
 {
     let lines = Lines::of(alloc, bytes, true)?;
     let list = read_lines(alloc, &lines)?;

@@ -1,0 +1,281 @@
+-- The models of a text can be flattened.
+use Rattle.std.proofs.Common.{◌≡◌, ◌≢◌, ◌≤◌, ◌<◌, ℕ, suc, zero, ◌+◌, ◌-◌, List, [], ◌∷◌, ◌++◌, length, take, drop, get_or, map, true, false, refl, sym, ap, subst, ◌∙◌, arith, length-append, length-drop, All, eq-eqb}
+use Rattle.std.specs.Prelude.{Bool, ◌&&◌, ◌||◌, if◌then◌else◌, Some, None, Ok, Err, Option, Result, bytes_eq, flat_map, AllPairs}
+use Rattle.std.proofs.lemmas.List.Elements.{All-nil, All-cons, All-head, All-tail, All-append}
+use Rattle.std.proofs.lemmas.List.Kept.{AllPairs-cons}
+use Rattle.cyc_base.specs.Names.{IsBlifName}
+use Rattle.blif_text.specs.Texts.{Line, lines}
+use Rattle.blif_text.proofs.LineFacts.{HasNames, word_count, total, words_are_names, words_are_few}
+use Rattle.blif_read.specs.declared.fault.BlifFault.{BlifFault}
+use Rattle.blif_read.specs.declared.fault.BlifFault.TheVariants as fault
+use Rattle.blif_read.specs.declared.kind.Kind.{Kind}
+use Rattle.blif_read.specs.declared.kind.Kind.TheVariants as of
+use Rattle.blif_read.specs.declared.models.BlifModel.{BlifModel}
+use Rattle.blif_read.specs.declared.models.Item.{Item}
+use Rattle.blif_read.specs.declared.models.Item.TheVariants as item
+use Rattle.blif_read.specs.declared.statement.Statement.{Statement}
+use Rattle.blif_read.specs.declared.statement.Statement.TheVariants.{Model, Inputs, Outputs, Clocks, Names, Row, Latch, Part, End, Nothing}
+use Rattle.blif_read.specs.Kinds.{kind, arguments, model_name, word_at}
+use Rattle.blif_read.specs.Places.{is_model, place_behind, is_model_name}
+use Rattle.blif_read.specs.Faults.{fault as fault_of, fault_at, first_fault, model_fault}
+use Rattle.blif_read.specs.Statements.{statement, statement_of_kind}
+use Rattle.blif_read.specs.Models.{members, inputs_in, outputs_in, clocks_in, gate_of, body_of, model_of, models}
+use Rattle.blif_read.specs.Reads.{reads, reads_lines, unless_fault, if_any}
+use Rattle.blif_read.specs.Flattening.{IsSoundGate, IsSoundLatch, IsSoundPart, IsSoundItem, IsSoundModel, CanBeFlattened}
+use Rattle.blif_read.proofs.SoundLemmas.{IsSoundStatement, sound_statements, or_none}
+
+-- What stands in a model.
+
+abbrev AreSound : List Statement → Type 0
+AreSound said = All IsSoundStatement said
+
+sound_members : (said : List Statement) → AreSound said → AreSound (members said)
+sound_members [] each = each
+sound_members (Model name ∷ rest) each = All-nil IsSoundStatement
+sound_members (End ∷ rest) each = All-nil IsSoundStatement
+sound_members (Inputs names ∷ rest) each = All-cons IsSoundStatement (Inputs names) (members rest) (All-head IsSoundStatement (Inputs names) rest each) (sound_members rest (All-tail IsSoundStatement (Inputs names) rest each))
+sound_members (Outputs names ∷ rest) each = All-cons IsSoundStatement (Outputs names) (members rest) (All-head IsSoundStatement (Outputs names) rest each) (sound_members rest (All-tail IsSoundStatement (Outputs names) rest each))
+sound_members (Clocks names ∷ rest) each = All-cons IsSoundStatement (Clocks names) (members rest) (All-head IsSoundStatement (Clocks names) rest each) (sound_members rest (All-tail IsSoundStatement (Clocks names) rest each))
+sound_members (Names pins output ∷ rest) each = All-cons IsSoundStatement (Names pins output) (members rest) (All-head IsSoundStatement (Names pins output) rest each) (sound_members rest (All-tail IsSoundStatement (Names pins output) rest each))
+sound_members (Row row plane ∷ rest) each = All-cons IsSoundStatement (Row row plane) (members rest) tt (sound_members rest (All-tail IsSoundStatement (Row row plane) rest each))
+sound_members (Latch latch ∷ rest) each = All-cons IsSoundStatement (Latch latch) (members rest) (All-head IsSoundStatement (Latch latch) rest each) (sound_members rest (All-tail IsSoundStatement (Latch latch) rest each))
+sound_members (Part part ∷ rest) each = All-cons IsSoundStatement (Part part) (members rest) (All-head IsSoundStatement (Part part) rest each) (sound_members rest (All-tail IsSoundStatement (Part part) rest each))
+sound_members (Nothing ∷ rest) each = All-cons IsSoundStatement Nothing (members rest) tt (sound_members rest (All-tail IsSoundStatement Nothing rest each))
+
+each_of_flat : (names_in : Statement → List (List ℕ)) → ((said : Statement) → IsSoundStatement said → All IsBlifName (names_in said))
+    → (said : List Statement) → AreSound said → All IsBlifName (flat_map names_in said)
+each_of_flat names_in each_in [] each = All-nil IsBlifName
+each_of_flat names_in each_in (s ∷ rest) each =
+    All-append IsBlifName (names_in s) (flat_map names_in rest) (each_in s (All-head IsSoundStatement s rest each)) (each_of_flat names_in each_in rest (All-tail IsSoundStatement s rest each))
+
+sound_inputs : (said : Statement) → IsSoundStatement said → All IsBlifName (inputs_in said)
+sound_inputs (Inputs names) sound = sound
+sound_inputs (Model name) sound = All-nil IsBlifName
+sound_inputs (Outputs names) sound = All-nil IsBlifName
+sound_inputs (Clocks names) sound = All-nil IsBlifName
+sound_inputs (Names pins output) sound = All-nil IsBlifName
+sound_inputs (Row row plane) sound = All-nil IsBlifName
+sound_inputs (Latch latch) sound = All-nil IsBlifName
+sound_inputs (Part part) sound = All-nil IsBlifName
+sound_inputs End sound = All-nil IsBlifName
+sound_inputs Nothing sound = All-nil IsBlifName
+
+sound_outputs : (said : Statement) → IsSoundStatement said → All IsBlifName (outputs_in said)
+sound_outputs (Outputs names) sound = sound
+sound_outputs (Model name) sound = All-nil IsBlifName
+sound_outputs (Inputs names) sound = All-nil IsBlifName
+sound_outputs (Clocks names) sound = All-nil IsBlifName
+sound_outputs (Names pins output) sound = All-nil IsBlifName
+sound_outputs (Row row plane) sound = All-nil IsBlifName
+sound_outputs (Latch latch) sound = All-nil IsBlifName
+sound_outputs (Part part) sound = All-nil IsBlifName
+sound_outputs End sound = All-nil IsBlifName
+sound_outputs Nothing sound = All-nil IsBlifName
+
+sound_clocks : (said : Statement) → IsSoundStatement said → All IsBlifName (clocks_in said)
+sound_clocks (Clocks names) sound = sound
+sound_clocks (Model name) sound = All-nil IsBlifName
+sound_clocks (Inputs names) sound = All-nil IsBlifName
+sound_clocks (Outputs names) sound = All-nil IsBlifName
+sound_clocks (Names pins output) sound = All-nil IsBlifName
+sound_clocks (Row row plane) sound = All-nil IsBlifName
+sound_clocks (Latch latch) sound = All-nil IsBlifName
+sound_clocks (Part part) sound = All-nil IsBlifName
+sound_clocks End sound = All-nil IsBlifName
+sound_clocks Nothing sound = All-nil IsBlifName
+
+sound_body : (said : List Statement) → AreSound said → All IsSoundItem (body_of said)
+sound_body [] each = All-nil IsSoundItem
+sound_body (Names pins output ∷ rest) each =
+    let gate = All-head IsSoundStatement (Names pins output) rest each in
+    All-cons IsSoundItem (item.Gate (gate_of pins output rest)) (body_of rest) (record { pins = gate.0; output = gate.1; width = refl }) (sound_body rest (All-tail IsSoundStatement (Names pins output) rest each))
+sound_body (Latch latch ∷ rest) each =
+    All-cons IsSoundItem (item.Latch latch) (body_of rest) (All-head IsSoundStatement (Latch latch) rest each) (sound_body rest (All-tail IsSoundStatement (Latch latch) rest each))
+sound_body (Part part ∷ rest) each =
+    All-cons IsSoundItem (item.Part part) (body_of rest) (All-head IsSoundStatement (Part part) rest each) (sound_body rest (All-tail IsSoundStatement (Part part) rest each))
+sound_body (Model name ∷ rest) each = sound_body rest (All-tail IsSoundStatement (Model name) rest each)
+sound_body (Inputs names ∷ rest) each = sound_body rest (All-tail IsSoundStatement (Inputs names) rest each)
+sound_body (Outputs names ∷ rest) each = sound_body rest (All-tail IsSoundStatement (Outputs names) rest each)
+sound_body (Clocks names ∷ rest) each = sound_body rest (All-tail IsSoundStatement (Clocks names) rest each)
+sound_body (Row row plane ∷ rest) each = sound_body rest (All-tail IsSoundStatement (Row row plane) rest each)
+sound_body (End ∷ rest) each = sound_body rest (All-tail IsSoundStatement End rest each)
+sound_body (Nothing ∷ rest) each = sound_body rest (All-tail IsSoundStatement Nothing rest each)
+
+-- How many inputs a model has.
+
+abbrev input_count : Statement → ℕ
+input_count said = length (inputs_in said)
+
+flat_count : (said : List Statement) → length (flat_map inputs_in said) ≡ total input_count said
+flat_count [] = refl
+flat_count (s ∷ rest) = length-append (inputs_in s) (flat_map inputs_in rest) ∙ ap (λ n. length (inputs_in s) + n) (flat_count rest)
+
+members_count : (said : List Statement) → total input_count (members said) ≤ total input_count said
+members_count [] = omega arith
+members_count (Model name ∷ rest) = omega arith
+members_count (End ∷ rest) = omega arith
+members_count (Inputs names ∷ rest) = let more = members_count rest in omega arith
+members_count (Outputs names ∷ rest) = let more = members_count rest in omega arith
+members_count (Clocks names ∷ rest) = let more = members_count rest in omega arith
+members_count (Names pins output ∷ rest) = let more = members_count rest in omega arith
+members_count (Row row plane ∷ rest) = let more = members_count rest in omega arith
+members_count (Latch latch ∷ rest) = let more = members_count rest in omega arith
+members_count (Part part ∷ rest) = let more = members_count rest in omega arith
+members_count (Nothing ∷ rest) = let more = members_count rest in omega arith
+
+kind_count : (k : Kind) (line : Line) → input_count (statement_of_kind k line) ≤ word_count line
+kind_count of.Inputs line = let e = length-drop 1 line.words in omega arith
+kind_count of.Model line = omega arith
+kind_count of.Outputs line = omega arith
+kind_count of.Clock line = omega arith
+kind_count of.Names line = omega arith
+kind_count of.Row line = omega arith
+kind_count of.Latch line = omega arith
+kind_count of.Subckt line = omega arith
+kind_count of.End line = omega arith
+kind_count of.ReadOver line = omega arith
+kind_count of.LeftOut line = omega arith
+kind_count of.Unknown line = omega arith
+
+lines_count : (found : List Line) → total input_count (map statement found) ≤ total word_count found
+lines_count [] = omega arith
+lines_count (line ∷ rest) = let here = kind_count (kind line) line in let more = lines_count rest in omega arith
+
+-- Each model.
+
+sound_model : (name : List ℕ) (rest : List Statement) → IsBlifName name → AreSound rest → total input_count rest ≤ 4000000000 → IsSoundModel (model_of name (members rest))
+sound_model name rest blif each few =
+    let inside = sound_members rest each in
+    let count = flat_count (members rest) in
+    let fewer = members_count rest in
+    record {
+      name = blif;
+      inputs = each_of_flat inputs_in sound_inputs (members rest) inside;
+      outputs = each_of_flat outputs_in sound_outputs (members rest) inside;
+      clocks = each_of_flat clocks_in sound_clocks (members rest) inside;
+      body = sound_body (members rest) inside;
+      few_inputs = omega arith;
+    }
+
+few_behind : (s : Statement) (rest : List Statement) → total input_count (s ∷ rest) ≤ 4000000000 → total input_count rest ≤ 4000000000
+few_behind s rest few = omega arith
+
+sound_models : (said : List Statement) → AreSound said → total input_count said ≤ 4000000000 → All IsSoundModel (models said)
+sound_models [] each few = All-nil IsSoundModel
+sound_models (Model name ∷ rest) each few =
+    let behind = All-tail IsSoundStatement (Model name) rest each in
+    let fewer = few_behind (Model name) rest few in
+    All-cons IsSoundModel (model_of name (members rest)) (models rest) (sound_model name rest (All-head IsSoundStatement (Model name) rest each) behind fewer) (sound_models rest behind fewer)
+sound_models (Inputs names ∷ rest) each few = sound_models rest (All-tail IsSoundStatement (Inputs names) rest each) (few_behind (Inputs names) rest few)
+sound_models (Outputs names ∷ rest) each few = sound_models rest (All-tail IsSoundStatement (Outputs names) rest each) (few_behind (Outputs names) rest few)
+sound_models (Clocks names ∷ rest) each few = sound_models rest (All-tail IsSoundStatement (Clocks names) rest each) (few_behind (Clocks names) rest few)
+sound_models (Names pins output ∷ rest) each few = sound_models rest (All-tail IsSoundStatement (Names pins output) rest each) (few_behind (Names pins output) rest few)
+sound_models (Row row plane ∷ rest) each few = sound_models rest (All-tail IsSoundStatement (Row row plane) rest each) (few_behind (Row row plane) rest few)
+sound_models (Latch latch ∷ rest) each few = sound_models rest (All-tail IsSoundStatement (Latch latch) rest each) (few_behind (Latch latch) rest few)
+sound_models (Part part ∷ rest) each few = sound_models rest (All-tail IsSoundStatement (Part part) rest each) (few_behind (Part part) rest few)
+sound_models (End ∷ rest) each few = sound_models rest (All-tail IsSoundStatement End rest each) (few_behind End rest few)
+sound_models (Nothing ∷ rest) each few = sound_models rest (All-tail IsSoundStatement Nothing rest each) (few_behind Nothing rest few)
+
+-- The names of models differ.
+
+abbrev IsNewTo : List Line → BlifModel → Type 0
+IsNewTo earlier model = is_model_name model.name earlier ≡ false
+
+abbrev NamesDiffer : BlifModel → BlifModel → Type 0
+NamesDiffer a b = a.name ≢ b.name
+
+neither : (a b : Bool) → (a || b) ≡ false → (a ≡ false) × (b ≡ false)
+neither true b is = absurd (cc is)
+neither false b is = (refl, is)
+
+same_bytes : (name : List ℕ) → bytes_eq name name ≡ true
+same_bytes [] = refl
+same_bytes (b ∷ rest) = ap (λ t. t && bytes_eq rest rest) (eq-eqb b b refl) ∙ same_bytes rest
+
+new_name : (n : ℕ) (words : List (List ℕ)) (taken : Bool) → model_fault n (drop 1 words) taken ≡ None → taken ≡ false
+new_name n [] taken none = absurd (cc none)
+new_name n (a ∷ []) taken none = absurd (cc none)
+new_name n (a ∷ b ∷ []) true none = absurd (cc none)
+new_name n (a ∷ b ∷ []) false none = refl
+new_name n (a ∷ b ∷ c ∷ rest) taken none = absurd (cc none)
+
+pub record AreNew (earlier : List Line) (found : List BlifModel) : Type 0 where
+  pub each : All (IsNewTo earlier) found
+  pub differ : AllPairs NamesDiffer found
+
+-- behind a line of this kind, of which the rest is new to the line and to those before
+abbrev new_behind : Kind → Line → List Line → List ℕ → Bool
+new_behind k line earlier name = (is_model k && bytes_eq name (model_name line)) || is_model_name name earlier
+
+weaker : (k : Kind) (line : Line) (earlier : List Line) (found : List BlifModel) → All (λ m. new_behind k line earlier m.name ≡ false) found → All (IsNewTo earlier) found
+weaker k line earlier [] each = All-nil (IsNewTo earlier)
+weaker k line earlier (m ∷ ms) each =
+    All-cons (IsNewTo earlier) m ms
+    (neither (is_model k && bytes_eq m.name (model_name line)) (is_model_name m.name earlier) (All-head (λ m. new_behind k line earlier m.name ≡ false) m ms each)).1
+    (weaker k line earlier ms (All-tail (λ m. new_behind k line earlier m.name ≡ false) m ms each))
+
+other_names : (line : Line) (earlier : List Line) (name : List ℕ) → new_behind of.Model line earlier name ≡ false → model_name line ≢ name
+other_names line earlier name is same =
+    let no = (neither (bytes_eq name (model_name line)) (is_model_name name earlier) is).0 in
+    let yes : bytes_eq name (model_name line) ≡ true = ap (bytes_eq name) same ∙ same_bytes name in
+    let both = sym no ∙ yes in
+    cc both
+
+all_other : (line : Line) (earlier : List Line) (found : List BlifModel) (model : BlifModel) → model.name ≡ model_name line → All (λ m. new_behind of.Model line earlier m.name ≡ false) found → All (NamesDiffer model) found
+all_other line earlier [] model is each = All-nil (NamesDiffer model)
+all_other line earlier (m ∷ ms) model is each =
+    All-cons (NamesDiffer model) m ms
+    (λ same. other_names line earlier m.name (All-head (λ m. new_behind of.Model line earlier m.name ≡ false) m ms each) (sym is ∙ same))
+    (all_other line earlier ms model is (All-tail (λ m. new_behind of.Model line earlier m.name ≡ false) m ms each))
+
+pub record AreNewBehind (k : Kind) (line : Line) (earlier : List Line) (found : List BlifModel) : Type 0 where
+  pub each : All (λ m. new_behind k line earlier m.name ≡ false) found
+  pub differ : AllPairs NamesDiffer found
+
+new_by_kind : (k : Kind) (line : Line) (earlier : List Line) (rest : List Statement) → fault_at k line (place_behind earlier) (is_model_name (model_name line) earlier) ≡ None
+    → AreNewBehind k line earlier (models rest) → AreNew earlier (models (statement_of_kind k line ∷ rest))
+new_by_kind of.Model line earlier rest none new =
+    let here = model_of (model_name line) (members rest) in
+    record {
+      each = All-cons (IsNewTo earlier) here (models rest) (new_name line.number line.words (is_model_name (model_name line) earlier) none) (weaker of.Model line earlier (models rest) new.each);
+      differ = AllPairs-cons NamesDiffer here (models rest) (all_other line earlier (models rest) here refl new.each) new.differ;
+    }
+new_by_kind of.Inputs line earlier rest none new = record { each = new.each; differ = new.differ }
+new_by_kind of.Outputs line earlier rest none new = record { each = new.each; differ = new.differ }
+new_by_kind of.Clock line earlier rest none new = record { each = new.each; differ = new.differ }
+new_by_kind of.Names line earlier rest none new = record { each = new.each; differ = new.differ }
+new_by_kind of.Row line earlier rest none new = record { each = new.each; differ = new.differ }
+new_by_kind of.Latch line earlier rest none new = record { each = new.each; differ = new.differ }
+new_by_kind of.Subckt line earlier rest none new = record { each = new.each; differ = new.differ }
+new_by_kind of.End line earlier rest none new = record { each = new.each; differ = new.differ }
+new_by_kind of.ReadOver line earlier rest none new = record { each = new.each; differ = new.differ }
+new_by_kind of.LeftOut line earlier rest none new = record { each = new.each; differ = new.differ }
+new_by_kind of.Unknown line earlier rest none new = record { each = new.each; differ = new.differ }
+
+new_models : (earlier rest : List Line) → first_fault earlier rest ≡ None → AreNew earlier (models (map statement rest))
+new_models earlier [] none = record { each = All-nil (IsNewTo earlier); differ = λ i j d below inside. absurd (omega arith) }
+new_models earlier (line ∷ rest) none =
+    let both = or_none (fault_of line earlier) (first_fault (line ∷ earlier) rest) none in
+    let more = new_models (line ∷ earlier) rest both.1 in
+    new_by_kind (kind line) line earlier (map statement rest) both.0 (record { each = more.each; differ = more.differ })
+
+-- Where there are models there is no fault.
+models_are : (fault : Option BlifFault) (all found : List BlifModel) → unless_fault fault all ≡ Ok found → (fault ≡ None) × (all ≡ found)
+models_are (Some f) all found is = absurd (cc is)
+models_are None [] found is = absurd (cc is)
+models_are None (m ∷ ms) found is = (refl, cc is)
+
+of_lines : (text : List ℕ) (all : Result (List Line) ℕ) (found : List BlifModel) → lines text true ≡ all → reads_lines all ≡ Ok found → length text ≤ 4000000000 → CanBeFlattened found
+of_lines text (Err n) found are is few = absurd (cc is)
+of_lines text (Ok all) found are is few =
+    let both = models_are (first_fault [] all) (models (map statement all)) found is in
+    let names = words_are_names text true all are in
+    let words = words_are_few text true all are in
+    let inputs = lines_count all in
+    let sound : All IsSoundModel (models (map statement all)) = sound_models (map statement all) (sound_statements [] all names both.0) (omega arith) in
+    let new = new_models [] all both.0 in
+    let P : List BlifModel → Type 0 = λ ms. CanBeFlattened ms in
+    subst P both.1 (record { sound = sound; names_differ = new.differ })
+
+pub can_be_flattened : (text : List ℕ) (found : List BlifModel) → reads text ≡ Ok found → length text ≤ 4000000000 → CanBeFlattened found
+can_be_flattened text found is few = of_lines text (lines text true) found refl is few

@@ -1,0 +1,170 @@
+-- What the lines of a text say is sound.
+use Rattle.std.proofs.Common.{◌≡◌, ◌≢◌, ◌≤◌, ◌<◌, ℕ, suc, zero, ◌+◌, ◌-◌, List, [], ◌∷◌, ◌++◌, length, take, drop, get_or, map, true, false, refl, sym, ap, subst, ◌∙◌, arith, length-append, length-drop, length-take, All}
+use Rattle.std.specs.Prelude.{Bool, ◌&&◌, ◌||◌, ◌==◌, nat_le, nat_lt, if◌then◌else◌, Some, None, Ok, Err, Option, Result, codes, bytes_eq, flat_map, AllPairs}
+use Rattle.std.specs.List.{list_all, position_or_len}
+use Rattle.std.proofs.lemmas.List.Elements.{All-nil, All-cons, All-head, All-tail, All-append, All-map, All-take, All-drop}
+use Rattle.std.proofs.lemmas.List.Kept.{AllPairs-cons}
+use Rattle.cyc_base.specs.Names.{IsBlifName, IsBlifByte}
+use Rattle.netlist.specs.declared.parts.Edge.{Edge}
+use Rattle.blif_text.specs.Texts.{Line, is_filled, lines}
+use Rattle.blif_text.proofs.LineFacts.{HasNames, word_count, total, words_are_names, words_are_few}
+use Rattle.blif_read.specs.declared.fault.BlifFault.{BlifFault}
+use Rattle.blif_read.specs.declared.fault.BlifFault.TheVariants as fault
+use Rattle.blif_read.specs.declared.kind.Kind.{Kind}
+use Rattle.blif_read.specs.declared.kind.Kind.TheVariants as of
+use Rattle.blif_read.specs.declared.models.BlifModel.{BlifModel}
+use Rattle.blif_read.specs.declared.models.Item.{Item}
+use Rattle.blif_read.specs.declared.models.Item.TheVariants as item
+use Rattle.blif_read.specs.declared.place.Place.{Place}
+use Rattle.blif_read.specs.declared.statement.Statement.{Statement}
+use Rattle.blif_read.specs.declared.statement.Statement.TheVariants.{Model, Inputs, Outputs, Clocks, Names, Row, Latch, Part, End, Nothing}
+use Rattle.blif_read.specs.Kinds.{kind, arguments, model_name, pin_count, word_at}
+use Rattle.blif_read.specs.Places.{is_model, place_behind, is_model_name}
+use Rattle.blif_read.specs.Faults.{fault as fault_of, fault_at, fault_inside, first_fault, or_else, model_fault, names_fault, latch_fault, subckt_fault, is_pair, is_equals, formal_of, actual_of}
+use Rattle.blif_read.specs.Statements.{statement, statement_of_kind, pins_of, output_of, latch_of, latch_control, control_of, edge_of, part_of, pair_of}
+use Rattle.blif_read.specs.Models.{members, inputs_in, outputs_in, clocks_in, body_of, model_of, models}
+use Rattle.blif_read.specs.Reads.{reads, reads_lines, unless_fault, if_any}
+use Rattle.blif_read.specs.Flattening.{IsSoundGate, IsSoundControl, IsSoundLatch, IsSoundPart, IsSoundItem, IsSoundModel, CanBeFlattened}
+use Rattle.blif_read.proofs.FollowLemmas.{fault_of_other}
+
+abbrev pub IsSoundStatement : Statement → Type 0
+IsSoundStatement (Model name) = IsBlifName name
+IsSoundStatement (Inputs names) = All IsBlifName names
+IsSoundStatement (Outputs names) = All IsBlifName names
+IsSoundStatement (Clocks names) = All IsBlifName names
+IsSoundStatement (Names pins output) = All IsBlifName pins × IsBlifName output
+IsSoundStatement (Row row plane) = Unit {0}
+IsSoundStatement (Latch latch) = IsSoundLatch latch
+IsSoundStatement (Part part) = IsSoundPart part
+IsSoundStatement End = Unit {0}
+IsSoundStatement Nothing = Unit {0}
+
+names_behind : (line : Line) → HasNames line → All IsBlifName (arguments line)
+names_behind line each = All-drop IsBlifName 1 line.words each
+
+-- `.model` lines.
+
+sound_model_name : (n : ℕ) (words : List (List ℕ)) (taken : Bool) → All IsBlifName words → model_fault n (drop 1 words) taken ≡ None → IsBlifName (word_at words 1)
+sound_model_name n [] taken each none = absurd (cc none)
+sound_model_name n (a ∷ []) taken each none = absurd (cc none)
+sound_model_name n (a ∷ b ∷ []) taken each none = each 1 [] (omega arith)
+sound_model_name n (a ∷ b ∷ c ∷ rest) taken each none = absurd (cc none)
+
+-- `.names` lines.
+
+sound_gate : (n : ℕ) (names : List (List ℕ)) → All IsBlifName names → names_fault n names ≡ None → All IsBlifName (pins_of names) × IsBlifName (output_of names)
+sound_gate n [] each none = absurd (cc none)
+sound_gate n (name ∷ names) each none =
+    (All-take IsBlifName (pin_count (name ∷ names)) (name ∷ names) each, each (pin_count (name ∷ names)) [] (omega arith))
+
+-- `.latch` lines.
+
+sound_choice : (t : Bool) (edge : Edge) (name : List ℕ) → bytes_eq name (codes "NIL") ≡ t → IsBlifName name
+    → IsSoundControl (if t then None else Some (record { edge = edge; name = name }))
+sound_choice true edge name is blif = tt
+sound_choice false edge name is blif =
+    (blif, λ e. let same : bytes_eq name (codes "NIL") ≡ true = ap (λ n. bytes_eq n (codes "NIL")) e in let both = sym is ∙ same in cc both)
+
+sound_control : (edge : Edge) (name : List ℕ) → IsBlifName name → IsSoundControl (control_of edge name)
+sound_control edge name blif = sound_choice (bytes_eq name (codes "NIL")) edge name refl blif
+
+sound_latch : (n : ℕ) (words : List (List ℕ)) → All IsBlifName words → latch_fault n words ≡ None → IsSoundLatch (latch_of words)
+sound_latch n [] each none = absurd (cc none)
+sound_latch n (a ∷ []) each none = absurd (cc none)
+sound_latch n (a ∷ b ∷ []) each none = record { from = each 0 [] (omega arith); output = each 1 [] (omega arith); control = tt }
+sound_latch n (a ∷ b ∷ c ∷ []) each none = record { from = each 0 [] (omega arith); output = each 1 [] (omega arith); control = tt }
+sound_latch n (a ∷ b ∷ c ∷ d ∷ []) each none =
+    record { from = each 0 [] (omega arith); output = each 1 [] (omega arith); control = sound_control (edge_of c) d (each 3 [] (omega arith)) }
+sound_latch n (a ∷ b ∷ c ∷ d ∷ e ∷ []) each none =
+    record { from = each 0 [] (omega arith); output = each 1 [] (omega arith); control = sound_control (edge_of c) d (each 3 [] (omega arith)) }
+sound_latch n (a ∷ b ∷ c ∷ d ∷ e ∷ f ∷ rest) each none = absurd (cc none)
+
+-- `.subckt` lines.
+
+both_filled : (a b : Bool) → (a && b) ≡ true → (a ≡ true) × (b ≡ true)
+both_filled true true is = (refl, refl)
+both_filled true false is = absurd (cc is)
+both_filled false b is = absurd (cc is)
+
+filled_name : (name : List ℕ) → is_filled name ≡ true → All IsBlifByte name → IsBlifName name
+filled_name [] filled each = absurd (cc filled)
+filled_name (b ∷ rest) filled each = ((λ e. cc e), each)
+
+sound_pair : (word : List ℕ) → IsBlifName word → is_pair word ≡ true → IsBlifName (formal_of word) × IsBlifName (actual_of word)
+sound_pair word blif pair =
+    let both = both_filled (is_filled (formal_of word)) (is_filled (actual_of word)) pair in
+    let at = position_or_len is_equals word in
+    (filled_name (formal_of word) both.0 (All-take IsBlifByte at word blif.1), filled_name (actual_of word) both.1 (All-drop IsBlifByte (at + 1) word blif.1))
+
+abbrev IsSoundWord : List ℕ → Type 0
+IsSoundWord word = IsBlifName (formal_of word) × IsBlifName (actual_of word)
+
+sound_pairs : (words : List (List ℕ)) → All IsBlifName words → list_all is_pair words ≡ true → All IsSoundWord words
+sound_pairs [] each pairs = All-nil IsSoundWord
+sound_pairs (word ∷ words) each pairs =
+    let both = both_filled (is_pair word) (list_all is_pair words) pairs in
+    All-cons IsSoundWord word words (sound_pair word (All-head IsBlifName word words each) both.0) (sound_pairs words (All-tail IsBlifName word words each) both.1)
+
+are_pairs : (t : Bool) (n : ℕ) (words : List (List ℕ)) → list_all is_pair words ≡ t → (if t then None else Some (fault.BadSubckt n)) ≡ None → list_all is_pair words ≡ true
+are_pairs true n words is none = is
+are_pairs false n words is none = absurd (cc none)
+
+sound_part : (n : ℕ) (words : List (List ℕ)) → All IsBlifName words → subckt_fault n words ≡ None → IsSoundPart (part_of words)
+sound_part n [] each none = absurd (cc none)
+sound_part n (model ∷ pairs) each none = record {
+  model = each 0 [] (omega arith);
+  pairs =
+      All-map (λ pair. IsBlifName pair.0 × IsBlifName pair.1) pair_of pairs
+      (sound_pairs pairs (All-tail IsBlifName model pairs each) (are_pairs (list_all is_pair pairs) n pairs refl none));
+}
+
+-- Each statement.
+
+sound_inside : (k : Kind) (line : Line) (place : Place) → k ≢ of.Model → HasNames line → fault_inside k line place ≡ None → IsSoundStatement (statement_of_kind k line)
+sound_inside of.Model line place other each none = absurd (other refl)
+sound_inside of.Inputs line place other each none = names_behind line each
+sound_inside of.Outputs line place other each none = names_behind line each
+sound_inside of.Clock line place other each none = names_behind line each
+sound_inside of.Names line place other each none = sound_gate line.number (arguments line) (names_behind line each) none
+sound_inside of.Row line place other each none = tt
+sound_inside of.Latch line place other each none = sound_latch line.number (arguments line) (names_behind line each) none
+sound_inside of.Subckt line place other each none = sound_part line.number (arguments line) (names_behind line each) none
+sound_inside of.End line place other each none = tt
+sound_inside of.ReadOver line place other each none = tt
+sound_inside of.LeftOut line place other each none = tt
+sound_inside of.Unknown line place other each none = tt
+
+no_fault_inside : (t : Bool) (n : ℕ) (inside : Option BlifFault) → (if t then inside else Some (fault.OutsideModel n)) ≡ None → inside ≡ None
+no_fault_inside true n inside none = none
+no_fault_inside false n inside none = absurd (cc none)
+
+sound_other : (k : Kind) (line : Line) (place : Place) (taken : Bool) → k ≢ of.Model → HasNames line → fault_at k line place taken ≡ None → IsSoundStatement (statement_of_kind k line)
+sound_other k line place taken other each none =
+    sound_inside k line place other each
+    (no_fault_inside place.in_model line.number (fault_inside k line place) (sym (fault_of_other k line place taken other) ∙ none))
+
+sound_statement : (k : Kind) (line : Line) (place : Place) (taken : Bool) → HasNames line → fault_at k line place taken ≡ None → IsSoundStatement (statement_of_kind k line)
+sound_statement of.Model line place taken each none = sound_model_name line.number line.words taken each none
+sound_statement of.Inputs line place taken each none = sound_other of.Inputs line place taken (λ e. cc e) each none
+sound_statement of.Outputs line place taken each none = sound_other of.Outputs line place taken (λ e. cc e) each none
+sound_statement of.Clock line place taken each none = sound_other of.Clock line place taken (λ e. cc e) each none
+sound_statement of.Names line place taken each none = sound_other of.Names line place taken (λ e. cc e) each none
+sound_statement of.Row line place taken each none = tt
+sound_statement of.Latch line place taken each none = sound_other of.Latch line place taken (λ e. cc e) each none
+sound_statement of.Subckt line place taken each none = sound_other of.Subckt line place taken (λ e. cc e) each none
+sound_statement of.End line place taken each none = tt
+sound_statement of.ReadOver line place taken each none = tt
+sound_statement of.LeftOut line place taken each none = tt
+sound_statement of.Unknown line place taken each none = tt
+
+pub or_none : (here next : Option BlifFault) → or_else here next ≡ None → (here ≡ None) × (next ≡ None)
+or_none (Some f) next none = absurd (cc none)
+or_none None next none = (refl, none)
+
+pub sound_statements : (earlier rest : List Line) → All HasNames rest → first_fault earlier rest ≡ None → All IsSoundStatement (map statement rest)
+sound_statements earlier [] each none = All-nil IsSoundStatement
+sound_statements earlier (line ∷ rest) each none =
+    let both = or_none (fault_of line earlier) (first_fault (line ∷ earlier) rest) none in
+    All-cons IsSoundStatement (statement line) (map statement rest)
+    (sound_statement (kind line) line (place_behind earlier) (is_model_name (model_name line) earlier) (All-head HasNames line rest each) both.0)
+    (sound_statements (line ∷ earlier) rest (All-tail HasNames line rest each) both.1)
