@@ -1,27 +1,25 @@
 -- The models of a text can be flattened.
-use Rattle.std.proofs.Common.{◌≡◌, ◌≢◌, ◌≤◌, ◌<◌, ℕ, suc, zero, ◌+◌, ◌-◌, List, [], ◌∷◌, ◌++◌, length, take, drop, get_or, map, true, false, refl, sym, ap, subst, ◌∙◌, arith, length-append, length-drop, All, eq-eqb}
-use Rattle.std.specs.Prelude.{Bool, ◌&&◌, ◌||◌, if◌then◌else◌, Some, None, Ok, Err, Option, Result, bytes_eq, flat_map, AllPairs}
+use Rattle.std.proofs.Common.{◌≡◌, ◌≢◌, ◌≤◌, ℕ, ◌+◌, List, [], ◌∷◌, length, drop, map, true, false, refl, sym, ap, subst, ◌∙◌, arith, length-append, length-drop, All, eq-eqb}
+use Rattle.std.specs.Prelude.{Bool, ◌&&◌, ◌||◌, Some, None, Ok, Err, Option, Result, bytes_eq, flat_map, AllPairs}
 use Rattle.std.proofs.lemmas.List.Elements.{All-nil, All-cons, All-head, All-tail, All-append}
 use Rattle.std.proofs.lemmas.List.Kept.{AllPairs-cons}
 use Rattle.cyc_base.specs.Names.{IsBlifName}
 use Rattle.blif_text.specs.Texts.{Line, lines}
-use Rattle.blif_text.proofs.LineFacts.{HasNames, word_count, total, words_are_names, words_are_few}
+use Rattle.blif_text.proofs.LineFacts.{word_count, total, words_are_names, words_are_few}
 use Rattle.blif_read.specs.declared.fault.BlifFault.{BlifFault}
-use Rattle.blif_read.specs.declared.fault.BlifFault.TheVariants as fault
 use Rattle.blif_read.specs.declared.kind.Kind.{Kind}
 use Rattle.blif_read.specs.declared.kind.Kind.TheVariants as of
 use Rattle.blif_read.specs.declared.models.BlifModel.{BlifModel}
-use Rattle.blif_read.specs.declared.models.Item.{Item}
 use Rattle.blif_read.specs.declared.models.Item.TheVariants as item
 use Rattle.blif_read.specs.declared.statement.Statement.{Statement}
 use Rattle.blif_read.specs.declared.statement.Statement.TheVariants.{Model, Inputs, Outputs, Clocks, Names, Row, Latch, Part, End, Nothing}
-use Rattle.blif_read.specs.Kinds.{kind, arguments, model_name, word_at}
+use Rattle.blif_read.specs.Kinds.{kind, model_name}
 use Rattle.blif_read.specs.Places.{is_model, place_behind, is_model_name}
 use Rattle.blif_read.specs.Faults.{fault as fault_of, fault_at, first_fault, model_fault}
 use Rattle.blif_read.specs.Statements.{statement, statement_of_kind}
 use Rattle.blif_read.specs.Models.{members, inputs_in, outputs_in, clocks_in, gate_of, body_of, model_of, models}
-use Rattle.blif_read.specs.Reads.{reads, reads_lines, unless_fault, if_any}
-use Rattle.blif_read.specs.Flattening.{IsSoundGate, IsSoundLatch, IsSoundPart, IsSoundItem, IsSoundModel, CanBeFlattened}
+use Rattle.blif_read.specs.Reads.{reads, reads_lines, unless_fault}
+use Rattle.blif_read.specs.Flattening.{IsSoundItem, IsSoundModel, CanBeFlattened}
 use Rattle.blif_read.proofs.SoundLemmas.{IsSoundStatement, sound_statements, or_none}
 
 -- What stands in a model.

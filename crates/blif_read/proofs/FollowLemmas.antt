@@ -1,7 +1,7 @@
 -- A line without a fault fits the model in progress.
-use Rattle.std.proofs.Common.{◌≡◌, ◌≢◌, ◌≤◌, ◌<◌, ℕ, zero, suc, ◌+◌, ◌-◌, Bool, true, false, not, List, [], ◌∷◌, ◌++◌, length, take, drop, map, Some, None, refl, sym, ap, ◌∙◌, arith, eqb-true, length-take, length-drop}
-use Rattle.std.specs.Prelude.{◌&&◌, ◌==◌, nat_lt, if◌then◌else◌, option_map, Option, codes, bytes_eq}
-use Rattle.std.specs.List.{list_all, list_any}
+use Rattle.std.proofs.Common.{◌≡◌, ◌≢◌, ◌≤◌, ℕ, zero, suc, Bool, true, false, List, [], ◌∷◌, length, map, Some, None, refl, ap, ◌∙◌, arith, eqb-true, length-take}
+use Rattle.std.specs.Prelude.{◌&&◌, ◌==◌, nat_lt, if◌then◌else◌, option_map, Option}
+use Rattle.std.specs.List.{list_all}
 use Rattle.std.proofs.lemmas.Bool.Decides.{nat_tests}
 use Rattle.blif_text.specs.Texts.{Line}
 use Rattle.blif_read.specs.declared.fault.BlifFault.{BlifFault}
@@ -9,10 +9,10 @@ use Rattle.blif_read.specs.declared.fault.BlifFault.TheVariants as fault
 use Rattle.blif_read.specs.declared.kind.Kind.{Kind}
 use Rattle.blif_read.specs.declared.kind.Kind.TheVariants.{Row, Model, Inputs, Outputs, Clock, Names, Latch, Subckt, End, ReadOver, LeftOut, Unknown}
 use Rattle.blif_read.specs.declared.place.Place.{Place}
-use Rattle.blif_read.specs.Kinds.{kind, arguments, pin_count, is_on, model_name}
+use Rattle.blif_read.specs.Kinds.{arguments, is_on}
 use Rattle.blif_read.specs.Faults.{fault_inside, fault_at, names_fault, row_fault, row_fault_in, is_row_of, is_lit, is_plane, differs}
 use Rattle.blif_read.specs.Statements.{statement_of_kind, pins_of, lits_of, lit_of}
-use Rattle.blif_read.specs.Running.{OpenGate, OpenModel, Progress, FitsGate, FitsModel, FitsProgress, place_in, follow, go_on, end}
+use Rattle.blif_read.specs.Running.{OpenGate, OpenModel, Progress, FitsGate, FitsModel, FitsProgress, place_in, follow, go_on}
 
 -- Pins.
 

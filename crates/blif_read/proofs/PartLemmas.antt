@@ -1,6 +1,6 @@
 -- The pairs of a `.subckt` line.
-use Rattle.std.proofs.Common.{◌≡◌, ℕ, suc, zero, ◌+◌, ◌-◌, ◌<◌, ◌≤◌, List, [], ◌∷◌, ◌++◌, take, drop, length, get_or, true, false, refl, sym, ap, ◌∙◌, arith, add-one, drop_of_length-le, map}
-use Rattle.std.specs.Prelude.{slice_range, Bool, ◌&&◌}
+use Rattle.std.proofs.Common.{◌≡◌, ℕ, suc, ◌+◌, ◌<◌, ◌≤◌, List, [], ◌∷◌, ◌++◌, drop, length, get_or, true, refl, ap, ◌∙◌, arith, drop_of_length-le, map}
+use Rattle.std.specs.Prelude.{slice_range, ◌&&◌}
 use Rattle.std.specs.List.{list_all}
 use Rattle.std.proofs.Math.Seq.{drop-cons}
 use Rattle.blif_read.specs.Faults.{is_pair}

@@ -1,16 +1,16 @@
 -- The answer that there is once the lines that are left are read.
-use Rattle.std.proofs.Common.{◌≡◌, ◌≤◌, ◌<◌, ℕ, zero, suc, ◌+◌, List, [], ◌∷◌, length, drop, map, get_or, Some, None, Ok, Err, refl, sym, ap, ap₂, subst, ◌∙◌, arith, add-one, drop_of_length-le}
+use Rattle.std.proofs.Common.{◌≡◌, ◌≤◌, ◌<◌, ℕ, zero, suc, ◌+◌, List, [], ◌∷◌, length, drop, map, Some, None, Ok, Err, refl, sym, ap, subst, ◌∙◌, arith, drop_of_length-le}
 use Rattle.std.specs.Prelude.{Option, Result}
 use Rattle.std.proofs.Math.Seq.{drop-cons}
 use Rattle.blif_text.specs.Texts.{Line}
 use Rattle.blif_text.specs.Lines.{line_at}
 use Rattle.blif_read.specs.declared.fault.BlifFault.{BlifFault}
 use Rattle.blif_read.specs.declared.models.BlifModel.{BlifModel}
-use Rattle.blif_read.specs.Faults.{fault, first_fault, or_else}
+use Rattle.blif_read.specs.Faults.{first_fault, or_else}
 use Rattle.blif_read.specs.Statements.{statement}
 use Rattle.blif_read.specs.Reads.{if_any, unless_fault, reads_lines}
 use Rattle.blif_read.specs.Running.{Progress, all_ended, follow, fault_next}
-use Rattle.blif_read.specs.Answers.{Answers, IsFault}
+use Rattle.blif_read.specs.Answers.{Answers}
 use Rattle.blif_read.specs.Readers.{start}
 use Rattle.blif_read.proofs.WholeLemmas.{whole, whole_step, whole_end}
 use Rattle.blif_read.proofs.PlaceLemmas.{Agrees, agrees_next, fault_is}

@@ -1,30 +1,24 @@
 -- What the lines of a text say is sound.
-use Rattle.std.proofs.Common.{◌≡◌, ◌≢◌, ◌≤◌, ◌<◌, ℕ, suc, zero, ◌+◌, ◌-◌, List, [], ◌∷◌, ◌++◌, length, take, drop, get_or, map, true, false, refl, sym, ap, subst, ◌∙◌, arith, length-append, length-drop, length-take, All}
-use Rattle.std.specs.Prelude.{Bool, ◌&&◌, ◌||◌, ◌==◌, nat_le, nat_lt, if◌then◌else◌, Some, None, Ok, Err, Option, Result, codes, bytes_eq, flat_map, AllPairs}
+use Rattle.std.proofs.Common.{◌≡◌, ◌≢◌, ℕ, ◌+◌, List, [], ◌∷◌, drop, map, true, false, refl, sym, ap, ◌∙◌, arith, All}
+use Rattle.std.specs.Prelude.{Bool, ◌&&◌, if◌then◌else◌, Some, None, Option, codes, bytes_eq}
 use Rattle.std.specs.List.{list_all, position_or_len}
-use Rattle.std.proofs.lemmas.List.Elements.{All-nil, All-cons, All-head, All-tail, All-append, All-map, All-take, All-drop}
-use Rattle.std.proofs.lemmas.List.Kept.{AllPairs-cons}
+use Rattle.std.proofs.lemmas.List.Elements.{All-nil, All-cons, All-head, All-tail, All-map, All-take, All-drop}
 use Rattle.cyc_base.specs.Names.{IsBlifName, IsBlifByte}
 use Rattle.netlist.specs.declared.parts.Edge.{Edge}
-use Rattle.blif_text.specs.Texts.{Line, is_filled, lines}
-use Rattle.blif_text.proofs.LineFacts.{HasNames, word_count, total, words_are_names, words_are_few}
+use Rattle.blif_text.specs.Texts.{Line, is_filled}
+use Rattle.blif_text.proofs.LineFacts.{HasNames}
 use Rattle.blif_read.specs.declared.fault.BlifFault.{BlifFault}
 use Rattle.blif_read.specs.declared.fault.BlifFault.TheVariants as fault
 use Rattle.blif_read.specs.declared.kind.Kind.{Kind}
 use Rattle.blif_read.specs.declared.kind.Kind.TheVariants as of
-use Rattle.blif_read.specs.declared.models.BlifModel.{BlifModel}
-use Rattle.blif_read.specs.declared.models.Item.{Item}
-use Rattle.blif_read.specs.declared.models.Item.TheVariants as item
 use Rattle.blif_read.specs.declared.place.Place.{Place}
 use Rattle.blif_read.specs.declared.statement.Statement.{Statement}
 use Rattle.blif_read.specs.declared.statement.Statement.TheVariants.{Model, Inputs, Outputs, Clocks, Names, Row, Latch, Part, End, Nothing}
 use Rattle.blif_read.specs.Kinds.{kind, arguments, model_name, pin_count, word_at}
-use Rattle.blif_read.specs.Places.{is_model, place_behind, is_model_name}
+use Rattle.blif_read.specs.Places.{place_behind, is_model_name}
 use Rattle.blif_read.specs.Faults.{fault as fault_of, fault_at, fault_inside, first_fault, or_else, model_fault, names_fault, latch_fault, subckt_fault, is_pair, is_equals, formal_of, actual_of}
-use Rattle.blif_read.specs.Statements.{statement, statement_of_kind, pins_of, output_of, latch_of, latch_control, control_of, edge_of, part_of, pair_of}
-use Rattle.blif_read.specs.Models.{members, inputs_in, outputs_in, clocks_in, body_of, model_of, models}
-use Rattle.blif_read.specs.Reads.{reads, reads_lines, unless_fault, if_any}
-use Rattle.blif_read.specs.Flattening.{IsSoundGate, IsSoundControl, IsSoundLatch, IsSoundPart, IsSoundItem, IsSoundModel, CanBeFlattened}
+use Rattle.blif_read.specs.Statements.{statement, statement_of_kind, pins_of, output_of, latch_of, control_of, edge_of, part_of, pair_of}
+use Rattle.blif_read.specs.Flattening.{IsSoundControl, IsSoundLatch, IsSoundPart}
 use Rattle.blif_read.proofs.FollowLemmas.{fault_of_other}
 
 abbrev pub IsSoundStatement : Statement → Type 0

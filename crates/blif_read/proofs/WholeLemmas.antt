@@ -1,5 +1,5 @@
 -- The models that there are once more statements follow.
-use Rattle.std.proofs.Common.{◌≡◌, ℕ, Bool, true, false, List, [], ◌∷◌, ◌++◌, length, Some, None, refl, sym, ap, ap₂, ◌∙◌, append_assoc, append-nil}
+use Rattle.std.proofs.Common.{◌≡◌, ℕ, Bool, true, List, [], ◌∷◌, ◌++◌, length, Some, None, refl, sym, ap, ap₂, ◌∙◌, append_assoc, append-nil}
 use Rattle.std.specs.Prelude.{flat_map, option_map, option_to_list, unwrap_or, Option}
 use Rattle.cover_logic.specs.declared.row.Row as rows
 use Rattle.cover_logic.specs.Covers.{Cover}
@@ -10,7 +10,7 @@ use Rattle.blif_read.specs.declared.models.Item.TheVariants as item
 use Rattle.blif_read.specs.declared.statement.Statement.{Statement}
 use Rattle.blif_read.specs.declared.statement.Statement.TheVariants.{Model, Inputs, Outputs, Clocks, Names, Row, Latch, Part, End, Nothing}
 use Rattle.blif_read.specs.Models.{members, inputs_in, outputs_in, clocks_in, rows_of, plane_of, body_of, model_of, models}
-use Rattle.blif_read.specs.Running.{OpenGate, OpenModel, Progress, new_gate, add_row, gate_line, new_model, gate_items, ended, add, all_ended, follow}
+use Rattle.blif_read.specs.Running.{OpenGate, OpenModel, Progress, add_row, gate_items, ended, add, all_ended, follow}
 
 -- the plane of the first row, where more rows follow
 abbrev pub plane_then : Option Bool → List Statement → Bool

@@ -1,14 +1,14 @@
 -- The fault of a line.
-use Rattle.std.specs.Prelude.{ℕ, zero, suc, ◌-◌, Bool, true, false, not, List, [], ◌∷◌, ◌&&◌, ◌||◌, ◌==◌, nat_lt, length, drop, codes, bytes_eq, if◌then◌else◌, Some, None, option_map}
+use Rattle.std.specs.Prelude.{ℕ, zero, suc, Bool, true, false, not, List, [], ◌∷◌, ◌&&◌, ◌||◌, ◌==◌, nat_lt, length, codes, bytes_eq, if◌then◌else◌, Some, None}
 use Rattle.std.specs.List.{list_all, before_first, after_first}
 use Rattle.std.specs.declared.option.Option.{Option}
 use Rattle.blif_text.specs.Texts.{Line, is_filled}
 use Rattle.blif_read.specs.declared.kind.Kind.{Kind}
-use Rattle.blif_read.specs.declared.kind.Kind.TheVariants.{Row, Model, Inputs, Outputs, Clock, Names, Latch, Subckt, End, ReadOver, LeftOut as LeavesOut, Unknown}
+use Rattle.blif_read.specs.declared.kind.Kind.TheVariants.{Row, Model, Names, Latch, Subckt, LeftOut as LeavesOut, Unknown}
 use Rattle.blif_read.specs.declared.fault.BlifFault.{BlifFault}
 use Rattle.blif_read.specs.declared.fault.BlifFault.TheVariants.{OutsideModel, BadModel, ModelTwice, LeftOut, UnknownDirective, StrayRow, BadRow, MixedRows, NoOutputName, TooManyPins, BadLatch, LevelLatch, BadSubckt}
 use Rattle.blif_read.specs.declared.place.Place.{Place}
-use Rattle.blif_read.specs.Kinds.{kind, word_at, arguments, model_name, is_on}
+use Rattle.blif_read.specs.Kinds.{kind, arguments, model_name, is_on}
 use Rattle.blif_read.specs.Places.{place_behind, is_model_name}
 
 -- `.model`: one word, a name that no earlier model has

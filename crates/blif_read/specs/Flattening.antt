@@ -1,5 +1,5 @@
 -- What flattening asks of models.
-use Rattle.std.specs.Prelude.{◌≡◌, ◌≢◌, ◌≤◌, ℕ, List, length, codes, All, AllPairs, Some, None}
+use Rattle.std.specs.Prelude.{◌≡◌, ◌≢◌, ◌≤◌, List, length, codes, All, AllPairs, Some, None}
 use Rattle.std.specs.declared.option.Option.{Option}
 use Rattle.cyc_base.specs.Names.{IsBlifName}
 use Rattle.netlist.specs.declared.parts.Clock.{Clock}

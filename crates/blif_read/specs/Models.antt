@@ -1,5 +1,5 @@
 -- The models of a list of statements.
-use Rattle.std.specs.Prelude.{ℕ, Bool, true, List, [], ◌∷◌, ◌++◌, length, flat_map}
+use Rattle.std.specs.Prelude.{ℕ, Bool, true, List, [], ◌∷◌, length, flat_map}
 use Rattle.cover_logic.specs.declared.row.Row as rows
 use Rattle.cover_logic.specs.Covers.{Cover}
 use Rattle.blif_read.specs.declared.models.BlifModel.{BlifModel}
@@ -7,7 +7,7 @@ use Rattle.blif_read.specs.declared.models.GateLine.{GateLine}
 use Rattle.blif_read.specs.declared.models.Item.{Item}
 use Rattle.blif_read.specs.declared.models.Item.TheVariants as item
 use Rattle.blif_read.specs.declared.statement.Statement.{Statement}
-use Rattle.blif_read.specs.declared.statement.Statement.TheVariants.{Model, Inputs, Outputs, Clocks, Names, Row, Latch, Part, End, Nothing}
+use Rattle.blif_read.specs.declared.statement.Statement.TheVariants.{Model, Inputs, Outputs, Clocks, Names, Row, Latch, Part, End}
 
 -- A model ends at `.end`, at the next `.model` or at the end of the text.
 abbrev pub members : List Statement → List Statement

@@ -1,9 +1,9 @@
 -- Where a line lies, by looking back. The lines before it stand with the nearest first.
-use Rattle.std.specs.Prelude.{ℕ, Bool, true, false, List, [], ◌∷◌, ◌||◌, ◌&&◌, ◌-◌, length, bytes_eq, codes, if◌then◌else◌, Some, None, option_map}
+use Rattle.std.specs.Prelude.{ℕ, Bool, true, false, List, [], ◌∷◌, ◌||◌, ◌&&◌, bytes_eq, if◌then◌else◌, Some, None, option_map}
 use Rattle.std.specs.declared.option.Option.{Option}
 use Rattle.blif_text.specs.Texts.{Line}
 use Rattle.blif_read.specs.declared.kind.Kind.{Kind}
-use Rattle.blif_read.specs.declared.kind.Kind.TheVariants.{Row, Model, Inputs, Outputs, Clock, Names, Latch, Subckt, End, ReadOver, LeftOut, Unknown}
+use Rattle.blif_read.specs.declared.kind.Kind.TheVariants.{Row, Model, Names, End}
 use Rattle.blif_read.specs.declared.place.Place.{Place}
 use Rattle.blif_read.specs.Kinds.{kind, arguments, model_name, pin_count, is_on}
 

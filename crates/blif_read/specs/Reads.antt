@@ -1,12 +1,11 @@
 -- The models of a text, or its first fault.
-use Rattle.std.specs.Prelude.{◌≡◌, ◌≢◌, ℕ, Bool, true, List, [], ◌∷◌, map, Some, None, Ok, Err, MatchResult}
+use Rattle.std.specs.Prelude.{ℕ, true, List, [], ◌∷◌, map, Some, None, Ok, Err}
 use Rattle.std.specs.declared.option.Option.{Option}
 use Rattle.std.specs.declared.result.Result.{Result}
 use Rattle.blif_text.specs.Texts.{Line, lines}
 use Rattle.blif_read.specs.declared.fault.BlifFault.{BlifFault}
-use Rattle.blif_read.specs.declared.fault.BlifFault.TheVariants.{BadByte, NoModel, Memory}
+use Rattle.blif_read.specs.declared.fault.BlifFault.TheVariants.{BadByte, NoModel}
 use Rattle.blif_read.specs.declared.models.BlifModel.{BlifModel}
-use Rattle.blif_read.specs.declared.statement.Statement.{Statement}
 use Rattle.blif_read.specs.Faults.{first_fault}
 use Rattle.blif_read.specs.Statements.{statement}
 use Rattle.blif_read.specs.Models.{models}

@@ -1,22 +1,20 @@
 -- The running state of the reader: the models that are ended, and the one in progress.
-use Rattle.std.specs.Prelude.{◌≡◌, ◌≤◌, ℕ, Bool, true, false, List, [], ◌∷◌, ◌++◌, All, length, map, Some, None, option_map, option_and_then, option_to_list, unwrap_or, bytes_eq}
+use Rattle.std.specs.Prelude.{◌≡◌, ◌≤◌, ℕ, Bool, true, false, List, [], ◌∷◌, ◌++◌, All, length, Some, None, option_map, option_and_then, option_to_list, unwrap_or, bytes_eq}
 use Rattle.std.specs.List.{list_any}
 use Rattle.std.specs.declared.option.Option.{Option}
 use Rattle.cover_logic.specs.declared.row.Row as rows
 use Rattle.cover_logic.specs.Covers.{Cover}
 use Rattle.blif_text.specs.Texts.{Line}
 use Rattle.blif_read.specs.declared.fault.BlifFault.{BlifFault}
-use Rattle.blif_read.specs.declared.kind.Kind.{Kind}
 use Rattle.blif_read.specs.declared.place.Place.{Place}
 use Rattle.blif_read.specs.declared.models.BlifModel.{BlifModel}
 use Rattle.blif_read.specs.declared.models.GateLine.{GateLine}
 use Rattle.blif_read.specs.declared.models.Item.{Item}
 use Rattle.blif_read.specs.declared.models.Item.TheVariants as item
 use Rattle.blif_read.specs.declared.statement.Statement.{Statement}
-use Rattle.blif_read.specs.declared.statement.Statement.TheVariants.{Model, Inputs, Outputs, Clocks, Names, Row, Latch, Part, End, Nothing}
+use Rattle.blif_read.specs.declared.statement.Statement.TheVariants.{Model, Inputs, Outputs, Clocks, Names, Row, Latch, Part, End}
 use Rattle.blif_read.specs.Kinds.{kind, model_name}
 use Rattle.blif_read.specs.Faults.{fault_at}
-use Rattle.blif_read.specs.Statements.{statement}
 
 -- a gate whose rows may go on
 pub record OpenGate : Type 0 where

@@ -1,9 +1,8 @@
 -- What a line says, where it has no fault.
-use Rattle.std.specs.Prelude.{ℕ, zero, suc, ◌-◌, Bool, true, false, List, [], ◌∷◌, ◌==◌, nat_le, map, length, take, drop, codes, bytes_eq, if◌then◌else◌, Some, None}
+use Rattle.std.specs.Prelude.{ℕ, List, [], ◌∷◌, ◌==◌, nat_le, map, length, take, drop, codes, bytes_eq, if◌then◌else◌, Some, None}
 use Rattle.std.specs.declared.option.Option.{Option}
 use Rattle.cover_logic.specs.declared.row.Lit.{Lit}
 use Rattle.cover_logic.specs.declared.row.Lit.TheVariants.{Zero, One, Any}
-use Rattle.cover_logic.specs.declared.row.Row as rows
 use Rattle.netlist.specs.declared.parts.Clock.{Clock as Control}
 use Rattle.netlist.specs.declared.parts.Edge.{Edge}
 use Rattle.netlist.specs.declared.parts.Edge.TheVariants.{Rise, Fall}

@@ -18,6 +18,8 @@ mod place;
 mod reader;
 mod rows;
 mod statement;
+#[cfg(test)]
+mod tests;
 mod text;
 mod words;
 
