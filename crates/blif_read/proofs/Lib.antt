@@ -8,3 +8,4 @@ pub mod PlaceLemmas
 pub mod ReadLemmas
 pub mod SoundLemmas
 pub mod FlattenLemmas
+pub mod LookBackLemmas

@@ -11,3 +11,4 @@ pub mod Running
 pub mod Progress
 pub mod Readers
 pub mod TextFaults
+pub mod Laws

@@ -10,6 +10,7 @@ mod gates;
 mod inside;
 mod kind;
 mod latches;
+pub mod laws;
 mod models;
 mod open_gate;
 mod open_model;

@@ -1,8 +1,8 @@
 //! The logical lines of a text: its lines without comments, joined where they end in `\`, as words
 //! with line numbers.
 //!
-//! It stands on std alone. The crates above use that `Lines::of` gives the lines which the text has by
-//! definition, or the first line with a byte that isn't allowed.
+//! It stands on `cyc_base`, for what a BLIF name is. The crates above use that `Lines::of` gives the lines
+//! which the text has by definition, or the first line with a byte that isn't allowed.
 #![tactic(auto)]
 
 mod fault;
