@@ -1,6 +1,6 @@
 -- What follows up to the next end is what looks back.
 use Rattle.std.proofs.Common.{◌≡◌, Bool, true, false, not, List, [], ◌∷◌, map, refl, sym, ap, ◌∙◌}
-use Rattle.std.specs.Prelude.{◌&&◌, ◌||◌, if◌then◌else◌}
+use Rattle.std.specs.Prelude.{◌&&◌, if◌then◌else◌}
 use Rattle.cover_logic.specs.declared.row.Row.{Row as CoverRow}
 use Rattle.blif_text.specs.Texts.{Line}
 use Rattle.blif_read.specs.declared.kind.Kind.{Kind}
