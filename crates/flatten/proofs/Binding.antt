@@ -1,0 +1,117 @@
+-- Tables of formals: what they have, and where a pair or an input is at fault.
+use Rattle.std.proofs.Common.{◌≡◌, ℕ, ◌+◌, ◌<◌, nat_lt, nat_le, Bool, true, false, not, ◌||◌, List, [], ◌∷◌, ◌++◌, length, get_or, take, drop, map, refl, sym, ap, ◌∙◌, arith, cond, if◌then◌else◌, Some, None, Ok, Err, is_some, option_map}
+use Rattle.std.proofs.lemmas.Grind.{common_steps}
+use Rattle.std.specs.List.{list_any, find}
+use Rattle.std.specs.Str.{bytes_eq}
+use Rattle.std.specs.declared.option.Option.{Option}
+use Rattle.std.specs.declared.result.Result.{Result}
+use Rattle.std.specs.Option.{option_or}
+use Rattle.blif_read.specs.declared.models.BlifModel.{BlifModel}
+use Rattle.blif_read.specs.declared.models.PartLine.{PartLine}
+use Rattle.flatten.specs.declared.fault.FlatFault.{FlatFault}
+use Rattle.flatten.specs.declared.fault.FlatFault.TheVariants.{UnknownFormal, FormalTwice, OpenInput}
+use Rattle.flatten.specs.declared.walk.Level.{Level}
+use Rattle.flatten.specs.Paths.{actual_of}
+use Rattle.flatten.specs.Instances.{is_among, model_at, find_model, formals, pair_fault, first_open, pairs_fault, entry}
+use Rattle.flatten.specs.Levels.{entered_on}
+use Rattle.flatten.specs.Linking.{each_once}
+use Rattle.flatten.specs.Laws.{resolved, bound}
+use Rattle.flatten.proofs.Names.{dropped, taken, item_at_default}
+use Rattle.flatten.proofs.Libraries.{among_once}
+
+some_by : (b : Bool) (x y : List ℕ) (o p : Option (List ℕ)) → is_some o ≡ is_some p → is_some (cond b (Some x) o) ≡ is_some (cond b (Some y) p)
+some_by true x y o p e = refl
+some_by false x y o p e = e
+
+-- a table has the formals of its pairs
+pub bound_has : (prefix : List ℕ) (table pairs : List (List ℕ × List ℕ)) (name : List ℕ) → is_some (actual_of (bound prefix table pairs) name) ≡ is_some (actual_of pairs name)
+bound_has prefix table [] name = refl
+bound_has prefix table (p ∷ pairs) name =
+    some_by (bytes_eq name p.0) (resolved prefix table p.1) p.1 (actual_of (bound prefix table pairs) name) (actual_of pairs name) (bound_has prefix table pairs name)
+
+pub bound_open : (prefix : List ℕ) (table pairs : List (List ℕ × List ℕ)) (names : List (List ℕ)) → first_open (bound prefix table pairs) names ≡ first_open pairs names
+bound_open prefix table pairs [] = refl
+bound_open prefix table pairs (n ∷ names) =
+    ap (λ b. cond (not b) (Some n) (first_open (bound prefix table pairs) names)) (bound_has prefix table pairs n)
+    ∙ ap (λ o. cond (not (is_some (actual_of pairs n))) (Some n) o) (bound_open prefix table pairs names)
+
+pub bound_taken : (prefix : List ℕ) (table pairs : List (List ℕ × List ℕ)) (i : ℕ) (p : List ℕ × List ℕ) → i < length pairs → p ≡ get_or pairs i p → bound prefix table (take (i + 1) pairs) ≡ bound prefix table (take i pairs) ++ (p.0, resolved prefix table p.1) ∷ []
+bound_taken prefix table pairs i p l e = ap (λ ps. bound prefix table ps) (taken pairs i p l e) ∙ bound_onto (take i pairs)
+  where
+    bound_onto : (ps : List (List ℕ × List ℕ)) → bound prefix table (ps ++ p ∷ []) ≡ bound prefix table ps ++ (p.0, resolved prefix table p.1) ∷ []
+    bound_onto [] = refl
+    bound_onto (q ∷ ps) = ap (λ ys. (q.0, resolved prefix table q.1) ∷ ys) (bound_onto ps)
+
+-- the first fault of the pairs, at the pair that the loop stands at
+pub pair_unknown : (names : List (List ℕ)) (pairs : List (List ℕ × List ℕ)) (i : ℕ) (p : List ℕ × List ℕ) → i < length pairs → p ≡ get_or pairs i p → is_among names p.0 ≡ false → pair_fault names (take i pairs) (drop i pairs) ≡ Some (UnknownFormal p.0)
+pair_unknown names pairs i p l e h = rw (dropped pairs i p l e, h) refl
+
+pub pair_twice : (names : List (List ℕ)) (pairs : List (List ℕ × List ℕ)) (i : ℕ) (p : List ℕ × List ℕ) → i < length pairs → p ≡ get_or pairs i p → is_among names p.0 ≡ true → is_some (actual_of (take i pairs) p.0) ≡ true → pair_fault names (take i pairs) (drop i pairs) ≡ Some (FormalTwice p.0)
+pair_twice names pairs i p l e h k = rw (dropped pairs i p l e, h, k) refl
+
+pub pair_later : (names : List (List ℕ)) (pairs : List (List ℕ × List ℕ)) (i : ℕ) (p : List ℕ × List ℕ) → i < length pairs → p ≡ get_or pairs i p → is_among names p.0 ≡ true → is_some (actual_of (take i pairs) p.0) ≡ false → pair_fault names (take i pairs) (drop i pairs) ≡ pair_fault names (take (i + 1) pairs) (drop (i + 1) pairs)
+pair_later names pairs i p l e h k = rw (dropped pairs i p l e, h, k, taken pairs i p l e) refl
+
+cond_eq : (a b : Bool) (x : Option FlatFault) (y z : Option FlatFault) → a ≡ b → y ≡ z → cond a y x ≡ cond b z x
+cond_eq a b x y z e f = cc
+
+-- the same by the formals once each
+pub pair_fault_once : (names : List (List ℕ)) (before pairs : List (List ℕ × List ℕ)) → pair_fault (each_once names) before pairs ≡ pair_fault names before pairs
+pair_fault_once names before [] = refl
+pair_fault_once names before (p ∷ pairs) = rw (among_once names p.0, pair_fault_once names (before ++ p ∷ []) pairs) refl
+
+-- levels by the name of their model
+pub open_level : (models : List BlifModel) (name : List ℕ) (levels : List Level) (i : ℕ) (x : Level) (model : BlifModel) → i < length levels → x ≡ get_or levels i x → x.model < length models → model ≡ get_or models x.model model → bytes_eq model.name name ≡ true → list_any (λ l. bytes_eq (model_at models l.model).name name) (drop i levels) ≡ true
+open_level models name levels i x model l e w g h =
+    let m : model_at models x.model ≡ model = item_at_default models x.model model _ w g in
+    rw (dropped levels i x l e, m, h) refl
+
+pub other_level : (models : List BlifModel) (name : List ℕ) (levels : List Level) (i : ℕ) (x : Level) (model : BlifModel) → i < length levels → x ≡ get_or levels i x → x.model < length models → model ≡ get_or models x.model model → bytes_eq model.name name ≡ false → list_any (λ l. bytes_eq (model_at models l.model).name name) (drop i levels) ≡ list_any (λ l. bytes_eq (model_at models l.model).name name) (drop (i + 1) levels)
+other_level models name levels i x model l e w g h =
+    let m : model_at models x.model ≡ model = item_at_default models x.model model _ w g in
+    rw (dropped levels i x l e, m, h) refl
+
+pub entry_err : (name : List ℕ) (a b : Bool) (f : ℕ → Option FlatFault) (x : Option ℕ) (i : ℕ) (fault : FlatFault) → x ≡ Some i → a ≡ false → b ≡ false → f i ≡ Some fault → entry name a b f x ≡ Err fault
+entry_err name a b f x i fault e h k l = rw (e, h, k, l) refl
+
+pub entry_ok : (name : List ℕ) (a b : Bool) (f : ℕ → Option FlatFault) (x : Option ℕ) (i : ℕ) → x ≡ Some i → a ≡ false → b ≡ false → f i ≡ None → entry name a b f x ≡ Ok i
+entry_ok name a b f x i e h k l = rw (e, h, k, l) refl
+
+pub none_there : (o : Option (List ℕ)) → is_some o ≡ false → o ≡ None
+none_there None h = refl
+none_there (Some x) h = absurd (cc)
+
+-- what entering an instance comes to, once its model is found and neither open nor too deep
+module _ (depth : ℕ) (models : List BlifModel) (below : List Level) (level : Level) (part : PartLine) (i : ℕ)
+    (found : find_model models part.model ≡ Some i)
+    (here : bytes_eq (model_at models level.model).name part.model ≡ false)
+    (there : list_any (λ l. bytes_eq (model_at models l.model).name part.model) below ≡ false)
+    (deep : length below < depth) where
+  opened : Bool
+  opened = bytes_eq (model_at models level.model).name part.model || list_any (λ l. bytes_eq (model_at models l.model).name part.model) below
+
+  closed : opened ≡ false
+  unfolding opened
+  closed = rw (here, there) refl
+
+  shallow : nat_le depth (length below) ≡ false
+  shallow = grind (arith, common_steps)
+
+  pub enters_not : (fault : FlatFault) → pairs_fault (model_at models i) part.pairs ≡ Some fault → entered_on depth models below level part ≡ Err fault
+  unfolding opened
+  enters_not fault e = entry_err part.model opened _ (λ j. pairs_fault (model_at models j) part.pairs) (find_model models part.model) i fault found closed shallow e
+
+  pub enters : pairs_fault (model_at models i) part.pairs ≡ None → entered_on depth models below level part ≡ Ok i
+  unfolding opened
+  enters e = entry_ok part.model opened _ (λ j. pairs_fault (model_at models j) part.pairs) (find_model models part.model) i found closed shallow e
+
+-- the first fault of the pairs, and then the first open input or clock
+pub pairs_fault_at : (model : BlifModel) (keys : List (List ℕ)) (pairs : List (List ℕ × List ℕ)) (fault : FlatFault) → keys ≡ each_once (formals model) → pair_fault keys [] pairs ≡ Some fault → pairs_fault model pairs ≡ Some fault
+pairs_fault_at model keys pairs fault k e =
+    let f : pair_fault (formals model) [] pairs ≡ Some fault = sym (pair_fault_once (formals model) [] pairs) ∙ ap (λ ks. pair_fault ks [] pairs) (sym k) ∙ e in
+    ap (λ o. option_or o (option_map OpenInput (first_open pairs (model.inputs ++ model.clocks)))) f
+
+pub pairs_fault_open : (model : BlifModel) (keys : List (List ℕ)) (prefix : List ℕ) (table pairs : List (List ℕ × List ℕ)) → keys ≡ each_once (formals model) → pair_fault keys [] pairs ≡ None → pairs_fault model pairs ≡ option_map OpenInput (first_open (bound prefix table pairs) (model.inputs ++ model.clocks))
+pairs_fault_open model keys prefix table pairs k e =
+    let f : pair_fault (formals model) [] pairs ≡ None = sym (pair_fault_once (formals model) [] pairs) ∙ ap (λ ks. pair_fault ks [] pairs) (sym k) ∙ e in
+    ap (λ o. option_or o (option_map OpenInput (first_open pairs (model.inputs ++ model.clocks)))) f ∙ ap (λ o. option_map OpenInput o) (sym (bound_open prefix table pairs (model.inputs ++ model.clocks)))

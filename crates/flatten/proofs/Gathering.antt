@@ -1,0 +1,213 @@
+-- Drivers are gathered in their order; the first that comes twice, and the place of each.
+use Rattle.std.proofs.Common.{◌≡◌, ℕ, zero, suc, ◌+◌, ◌-◌, ◌<◌, ◌≤◌, nat_lt, Bool, true, false, not, ◌||◌, ◌&&◌, List, [], ◌∷◌, ◌++◌, length, get_or, take, drop, map, filter, fold, refl, sym, ap, ◌∙◌, arith, cond, if◌then◌else◌, append_assoc, Some, None, is_some, option_map, subst}
+use Rattle.std.proofs.lemmas.List.{append-nil, map-append}
+use Rattle.std.proofs.lemmas.List.Folds.{list_any-append, find-append}
+use Rattle.std.proofs.lemmas.Map.Keys.{IsDistinct-cons, IsDistinct-push}
+use Rattle.std.specs.Cmp.Lexicographic.{nat_list_eq_equiv}
+use Rattle.std.specs.List.{IsDistinct, AllByRecursion, find, flat_map}
+use Rattle.std.specs.Option.{option_or, option_map_or}
+use Rattle.std.specs.Str.{bytes_eq}
+use Rattle.std.specs.declared.option.Option.{Option}
+use Rattle.indexmap.specs.IndexSet.{insert_key}
+use Rattle.flatten.specs.Instances.{is_among}
+use Rattle.cyc_base.specs.declared.sig.Sig.{Sig}
+use Rattle.netlist.specs.declared.parts.Clock.{Clock}
+use Rattle.blif_read.specs.declared.models.BlifModel.{BlifModel}
+use Rattle.blif_read.specs.declared.models.GateLine.{GateLine}
+use Rattle.blif_read.specs.declared.models.LatchLine.{LatchLine}
+use Rattle.flatten.specs.declared.fault.FlatFault.{FlatFault}
+use Rattle.flatten.specs.declared.fault.FlatFault.TheVariants.{DeclaredTwice, DrivenTwice, Undriven}
+use Rattle.flatten.specs.Walk.{FlatLines}
+use Rattle.flatten.specs.Linking.{each_once, own_clocks, twice_after, first_twice, latch_outputs, gate_outputs, drivers, declared_twice, driven_twice, edge_eq, is_clock_of, is_fitting, has_bad_control, is_other_control, has_other_control, gate_with, undriven}
+use Rattle.flatten.proofs.Names.{bytes_sym, bytes_same, bytes_refl, taken, dropped}
+use Rattle.flatten.proofs.Libraries.{among_push, fresh_gathered, distinct_fresh}
+
+neither : (a b : Bool) → (a || b) ≡ false → (a ≡ false) × (b ≡ false)
+neither true b e = absurd (cc)
+neither false b e = (refl, e)
+
+and_false : (b : Bool) → (b && false) ≡ false
+and_false true = refl
+and_false false = refl
+
+IsDistinct-nil : IsDistinct bytes_eq []
+unfolding IsDistinct
+IsDistinct-nil = tt
+
+-- the first name that comes twice, at the name that a loop stands at
+pub twice_here : (old names : List (List ℕ)) (i : ℕ) (x : List ℕ) → i < length names → x ≡ get_or names i x → is_among old x ≡ true → twice_after old (drop i names) ≡ Some x
+twice_here old names i x l e h = rw (dropped names i x l e, h) refl
+
+pub twice_later : (old names : List (List ℕ)) (i : ℕ) (x : List ℕ) → i < length names → x ≡ get_or names i x → is_among old x ≡ false → twice_after old (drop i names) ≡ twice_after (old ++ x ∷ []) (drop (i + 1) names)
+twice_later old names i x l e h = rw (dropped names i x l e, h) refl
+
+cond_or : (b : Bool) (x : List ℕ) (o p q : Option (List ℕ)) → p ≡ option_or o q → (if b then Some x else p) ≡ option_or (if b then Some x else o) q
+cond_or true x o p q e = refl
+cond_or false x o p q e = e
+
+-- over a list in two parts
+pub twice-append : (old xs ys : List (List ℕ)) → twice_after old (xs ++ ys) ≡ option_or (twice_after old xs) (twice_after (old ++ xs) ys)
+twice-append old [] ys = ap (λ o. twice_after o ys) (sym (append-nil old))
+twice-append old (x ∷ xs) ys =
+    cond_or (is_among old x) x (twice_after (old ++ x ∷ []) xs) (twice_after (old ++ x ∷ []) (xs ++ ys)) (twice_after (old ++ (x ∷ xs)) ys)
+    (twice-append (old ++ x ∷ []) xs ys ∙ ap (λ o. option_or (twice_after (old ++ x ∷ []) xs) (twice_after o ys)) (append_assoc old (x ∷ []) xs))
+
+-- the same, where the names are those of other items
+pub twice_here_by : {T : Type 0} (name : T → List ℕ) (old : List (List ℕ)) (items : List T) (i : ℕ) (x : T) → i < length items → x ≡ get_or items i x → is_among old (name x) ≡ true → twice_after old (map name (drop i items)) ≡ Some (name x)
+twice_here_by name old items i x l e h = rw (dropped items i x l e, h) refl
+
+pub twice_later_by : {T : Type 0} (name : T → List ℕ) (old : List (List ℕ)) (items : List T) (i : ℕ) (x : T) → i < length items → x ≡ get_or items i x → is_among old (name x) ≡ false → twice_after old (map name (drop i items)) ≡ twice_after (old ++ name x ∷ []) (map name (drop (i + 1) items))
+twice_later_by name old items i x l e h = rw (dropped items i x l e, h) refl
+
+-- the list so far, and the one more that is new
+pub names_so_far : {T : Type 0} (name : T → List ℕ) (old keys new : List (List ℕ)) (items : List T) (i : ℕ) (x : T) → i < length items → x ≡ get_or items i x → keys ≡ old ++ map name (take i items) → new ≡ keys ++ name x ∷ [] → new ≡ old ++ map name (take (i + 1) items)
+names_so_far name old keys new items i x l e k n =
+    n ∙ ap (λ ks. ks ++ name x ∷ []) k ∙ append_assoc old (map name (take i items)) (name x ∷ []) ∙ ap (λ ks. old ++ ks) (sym (map-append name (take i items) (x ∷ []))) ∙ ap (λ ts. old ++ map name ts) (sym (taken items i x l e))
+
+-- clocks that are gathered behind the inputs are those that aren't inputs, each once
+pub clocks_gathered : (inputs done clocks : List (List ℕ)) → fold (insert_key bytes_eq) (inputs ++ done) clocks ≡ inputs ++ fold (insert_key bytes_eq) done (filter (λ n. not (is_among inputs n)) clocks)
+clocks_gathered inputs done [] = refl
+clocks_gathered inputs done (x ∷ clocks) = by (is_among inputs x) (is_among done x) refl refl (clocks_gathered inputs done clocks) (clocks_gathered inputs (done ++ x ∷ []) clocks)
+  where
+    kept : List (List ℕ)
+    kept = filter (λ n. not (is_among inputs n)) clocks
+
+    by : (a b : Bool) → is_among inputs x ≡ a → is_among done x ≡ b → fold (insert_key bytes_eq) (inputs ++ done) clocks ≡ inputs ++ fold (insert_key bytes_eq) done (filter (λ n. not (is_among inputs n)) clocks) → fold (insert_key bytes_eq) (inputs ++ (done ++ x ∷ [])) clocks ≡ inputs ++ fold (insert_key bytes_eq) (done ++ x ∷ []) (filter (λ n. not (is_among inputs n)) clocks) → fold (insert_key bytes_eq) (inputs ++ done) (x ∷ clocks) ≡ inputs ++ fold (insert_key bytes_eq) done (filter (λ n. not (is_among inputs n)) (x ∷ clocks))
+    by true b e f rest more = rw (list_any-append (bytes_eq x) inputs done, e) rest
+    by false true e f rest more = rw (list_any-append (bytes_eq x) inputs done, e, f) rest
+    by false false e f rest more = rw (list_any-append (bytes_eq x) inputs done, e, f, append_assoc) more
+
+pub own_clocks_gathered : (top : BlifModel) → fold (insert_key bytes_eq) top.inputs top.clocks ≡ top.inputs ++ own_clocks top
+own_clocks_gathered top = ap (λ ks. fold (insert_key bytes_eq) ks top.clocks) (sym (append-nil top.inputs)) ∙ clocks_gathered top.inputs [] top.clocks
+
+-- names of which none comes twice differ
+pub fresh_apart : (old names : List (List ℕ)) → twice_after old names ≡ None → AllByRecursion (λ y. is_among old y ≡ false) names × IsDistinct bytes_eq names
+fresh_apart old [] h = (tt, IsDistinct-nil)
+fresh_apart old (x ∷ names) h = by (is_among old x) refl (λ k. fresh_apart (old ++ x ∷ []) names k)
+  where
+    apart : (ys : List (List ℕ)) → AllByRecursion (λ y. is_among (old ++ x ∷ []) y ≡ false) ys → AllByRecursion (λ y. is_among old y ≡ false) ys × AllByRecursion (λ y. bytes_eq x y ≡ false) ys
+    apart [] a = (tt, tt)
+    apart (y ∷ ys) a =
+        let o = neither (is_among old y) (bytes_eq y x) (sym (among_push old x y) ∙ a.0) in
+        let r = apart ys a.1 in
+        ((o.0, r.0), (bytes_sym x y ∙ o.1, r.1))
+
+    by : (b : Bool) → is_among old x ≡ b → (twice_after (old ++ x ∷ []) names ≡ None → AllByRecursion (λ y. is_among (old ++ x ∷ []) y ≡ false) names × IsDistinct bytes_eq names) → AllByRecursion (λ y. is_among old y ≡ false) (x ∷ names) × IsDistinct bytes_eq (x ∷ names)
+    by true e rest = absurd (let k : Some x ≡ None = sym (ap (λ b. if b then Some x else twice_after (old ++ x ∷ []) names) e) ∙ h in cc)
+    by false e rest =
+        let k : twice_after (old ++ x ∷ []) names ≡ None = sym (ap (λ b. if b then Some x else twice_after (old ++ x ∷ []) names) e) ∙ h in
+        let r = rest k in
+        let a = apart names r.0 in
+        ((e, a.0), IsDistinct-cons bytes_eq x names a.1 r.1)
+
+distinct_inserted : (names : List (List ℕ)) (x : List ℕ) → IsDistinct bytes_eq names → IsDistinct bytes_eq (insert_key bytes_eq names x)
+distinct_inserted names x d = by (is_among names x) refl
+  where
+    by : (b : Bool) → is_among names x ≡ b → IsDistinct bytes_eq (insert_key bytes_eq names x)
+    by true e = subst (λ (b : Bool). IsDistinct bytes_eq (if b then names else names ++ x ∷ [])) (sym e) d
+    by false e = subst (λ (b : Bool). IsDistinct bytes_eq (if b then names else names ++ x ∷ [])) (sym e) (IsDistinct-push nat_list_eq_equiv names x d e)
+
+distinct_gathered : (old names : List (List ℕ)) → IsDistinct bytes_eq old → IsDistinct bytes_eq (fold (insert_key bytes_eq) old names)
+distinct_gathered old [] d = d
+distinct_gathered old (x ∷ names) d = distinct_gathered (insert_key bytes_eq old x) names (distinct_inserted old x d)
+
+none_old : (names : List (List ℕ)) → AllByRecursion (λ y. is_among [] y ≡ false) names
+none_old [] = tt
+none_old (x ∷ names) = (refl, none_old names)
+
+-- the inputs and the own clocks differ where the inputs do
+clocks_once : (top : BlifModel) → first_twice top.inputs ≡ None → first_twice (top.inputs ++ own_clocks top) ≡ None
+clocks_once top h =
+    let d = distinct_gathered top.inputs top.clocks (fresh_apart [] top.inputs h).1 in
+    let e : IsDistinct bytes_eq (top.inputs ++ own_clocks top) = subst (λ (ks : List (List ℕ)). IsDistinct bytes_eq ks) (own_clocks_gathered top) d in
+    distinct_fresh [] (top.inputs ++ own_clocks top) (none_old (top.inputs ++ own_clocks top)) e
+
+pub some_first : {X Y : Type 0} (f : X → Y) (o p : Option X) (y : Y) → option_map f o ≡ Some y → option_map f (option_or o p) ≡ Some y
+some_first f None p y e = absurd (cc)
+some_first f (Some x) p y e = e
+
+-- the first fault of declared names and drivers, once no name is declared twice
+module _ (top : BlifModel) (lines : FlatLines) (inputs_once : first_twice top.inputs ≡ None) (outputs_once : first_twice top.outputs ≡ None) where
+  twice_of_drivers : first_twice (drivers top lines) ≡ option_or (twice_after (top.inputs ++ own_clocks top) (latch_outputs lines)) (twice_after ((top.inputs ++ own_clocks top) ++ latch_outputs lines) (gate_outputs lines))
+  twice_of_drivers =
+      ap first_twice (sym (append_assoc top.inputs (own_clocks top) (latch_outputs lines ++ gate_outputs lines)))
+      ∙ twice-append [] (top.inputs ++ own_clocks top) (latch_outputs lines ++ gate_outputs lines)
+      ∙ ap (λ o. option_or o (twice_after (top.inputs ++ own_clocks top) (latch_outputs lines ++ gate_outputs lines))) (clocks_once top inputs_once)
+      ∙ twice-append (top.inputs ++ own_clocks top) (latch_outputs lines) (gate_outputs lines)
+
+  none_declared : declared_twice top ≡ None
+  none_declared =
+      ap (λ o. option_map DeclaredTwice (option_or o (first_twice top.outputs))) inputs_once ∙ ap (λ o. option_map DeclaredTwice o) outputs_once
+
+  both : option_or (declared_twice top) (driven_twice top lines) ≡ option_map DrivenTwice (option_or (twice_after (top.inputs ++ own_clocks top) (latch_outputs lines)) (twice_after ((top.inputs ++ own_clocks top) ++ latch_outputs lines) (gate_outputs lines)))
+  both = ap (λ o. option_or o (driven_twice top lines)) none_declared ∙ ap (λ o. option_map DrivenTwice o) twice_of_drivers
+
+  pub latch_twice : (fault : FlatFault) → option_map DrivenTwice (twice_after (top.inputs ++ own_clocks top) (latch_outputs lines)) ≡ Some fault → option_or (declared_twice top) (driven_twice top lines) ≡ Some fault
+  latch_twice fault e = both ∙ some_first DrivenTwice _ _ fault e
+
+  pub gate_twice : (fault : FlatFault) → twice_after (top.inputs ++ own_clocks top) (latch_outputs lines) ≡ None → option_map DrivenTwice (twice_after ((top.inputs ++ own_clocks top) ++ latch_outputs lines) (gate_outputs lines)) ≡ Some fault → option_or (declared_twice top) (driven_twice top lines) ≡ Some fault
+  gate_twice fault n e =
+      both ∙ ap (λ o. option_map DrivenTwice (option_or o (twice_after ((top.inputs ++ own_clocks top) ++ latch_outputs lines) (gate_outputs lines)))) n ∙ e
+
+  pub none_twice : twice_after (top.inputs ++ own_clocks top) (latch_outputs lines) ≡ None → twice_after ((top.inputs ++ own_clocks top) ++ latch_outputs lines) (gate_outputs lines) ≡ None → option_or (declared_twice top) (driven_twice top lines) ≡ None
+  none_twice n e =
+      both ∙ ap (λ o. option_map DrivenTwice (option_or o (twice_after ((top.inputs ++ own_clocks top) ++ latch_outputs lines) (gate_outputs lines)))) n ∙ ap (λ o. option_map DrivenTwice o) e
+
+-- finding, at the item that a loop stands at
+pub find_here_by : {T : Type 0} (p : List ℕ → Bool) (name : T → List ℕ) (items : List T) (i : ℕ) (x : T) → i < length items → x ≡ get_or items i x → p (name x) ≡ true → find p (map name (drop i items)) ≡ Some (name x)
+find_here_by p name items i x l e h = rw (dropped items i x l e, h) refl
+
+pub find_later_by : {T : Type 0} (p : List ℕ → Bool) (name : T → List ℕ) (items : List T) (i : ℕ) (x : T) → i < length items → x ≡ get_or items i x → p (name x) ≡ false → find p (map name (drop i items)) ≡ find p (map name (drop (i + 1) items))
+find_later_by p name items i x l e h = rw (dropped items i x l e, h) refl
+
+pub find_in_pins : (p : List ℕ → Bool) (gates : List GateLine) (i : ℕ) (x : GateLine) → i < length gates → x ≡ get_or gates i x → find p (flat_map (λ g. g.pins) (drop i gates)) ≡ option_or (find p x.pins) (find p (flat_map (λ g. g.pins) (drop (i + 1) gates)))
+find_in_pins p gates i x l e =
+    ap (λ gs. find p (flat_map (λ (g : GateLine). g.pins) gs)) (dropped gates i x l e) ∙ find-append p x.pins (flat_map (λ (g : GateLine). g.pins) (drop (i + 1) gates))
+
+pub find_reads : (p : List ℕ → Bool) (a b c : List (List ℕ)) → find p (a ++ (b ++ c)) ≡ option_or (find p a) (option_or (find p b) (find p c))
+find_reads p a b c = find-append p a (b ++ c) ∙ ap (λ o. option_or (find p a) o) (find-append p b c)
+
+-- the first of several findings
+pub some_or : {X : Type 0} (o p : Option X) (x : X) → o ≡ Some x → option_or o p ≡ Some x
+some_or o p x e = ap (λ t. option_or t p) e
+
+pub none_or_is : {X : Type 0} (o p : Option X) → o ≡ None → option_or o p ≡ p
+none_or_is o p e = ap (λ t. option_or t p) e
+
+-- controls by the first one
+other_is : (top : BlifModel) (f c : Clock) → is_other_control (is_clock_of top f.name) f c ≡ not (is_fitting top f c)
+other_is top f c = by (bytes_eq c.name f.name) refl
+  where
+    by : (b : Bool) → bytes_eq c.name f.name ≡ b → is_other_control (is_clock_of top f.name) f c ≡ not (is_fitting top f c)
+    by true e =
+        ap (λ n. not (is_clock_of top n && edge_eq c.edge f.edge && bytes_eq c.name f.name)) (sym (bytes_same c.name f.name e))
+    by false e =
+        ap (λ b. not (is_clock_of top f.name && edge_eq c.edge f.edge && b)) e
+        ∙ ap not (and_false (is_clock_of top f.name && edge_eq c.edge f.edge) ∙ sym (and_false (is_clock_of top c.name && edge_eq c.edge f.edge)))
+        ∙ sym (ap (λ b. not (is_clock_of top c.name && edge_eq c.edge f.edge && b)) e)
+
+other_at : (top : BlifModel) (f : Clock) (o : Option Clock) → option_map_or (is_other_control (is_clock_of top f.name) f) o false ≡ option_map_or (λ control. option_map_or (λ y. not (is_fitting top y control)) (Some f) false) o false
+other_at top f None = refl
+other_at top f (Some c) = other_is top f c
+
+pub find_other : (top : BlifModel) (f : Clock) (latches : List LatchLine) → find (has_other_control (is_clock_of top f.name) f) latches ≡ find (has_bad_control top (Some f)) latches
+find_other top f [] = refl
+find_other top f (l ∷ latches) =
+    ap (λ b. cond b (Some l) (find (has_other_control (is_clock_of top f.name) f) latches)) (other_at top f l.control)
+    ∙ ap (λ o. cond (has_bad_control top (Some f) l) (Some l) o) (find_other top f latches)
+
+pub find_none : (top : BlifModel) (latches : List LatchLine) → find (has_bad_control top None) latches ≡ None
+find_none top [] = refl
+find_none top (l ∷ latches) = never l.control (find_none top latches)
+  where
+    never : (o : Option Clock) → find (has_bad_control top None) latches ≡ None → cond (option_map_or (λ control. option_map_or (λ (f : Clock). not (is_fitting top f control)) None false) o false) (Some l) (find (has_bad_control top None) latches) ≡ None
+    never None h = h
+    never (Some c) h = h
+
+-- one more gate
+pub gates_taken : (sig : List ℕ → Sig) (gates : List GateLine) (i : ℕ) (x : GateLine) → i < length gates → x ≡ get_or gates i x → map (gate_with sig) (take (i + 1) gates) ≡ map (gate_with sig) (take i gates) ++ gate_with sig x ∷ []
+gates_taken sig gates i x l e = ap (λ gs. map (gate_with sig) gs) (taken gates i x l e) ∙ map-append (gate_with sig) (take i gates) (x ∷ [])
+
+-- the first wire that isn't driven, by the table of drivers
+pub undriven_at : (top : BlifModel) (lines : FlatLines) (keys : List (List ℕ)) (latches : List LatchLine) (gates : List GateLine) → keys ≡ drivers top lines → latches ≡ lines.latches → gates ≡ lines.gates → undriven top lines ≡ option_map Undriven (find (λ name. not (is_among keys name)) (top.outputs ++ (map (λ l. l.from) latches ++ flat_map (λ g. g.pins) gates)))
+undriven_at top lines keys latches gates k l g = rw (k, l, g) refl

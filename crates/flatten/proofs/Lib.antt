@@ -1,0 +1,13 @@
+pub mod Names
+pub mod Marks
+pub mod Libraries
+pub mod Binding
+pub mod Printing
+pub mod Climbing
+pub mod Telling
+pub mod Waiting
+pub mod Stepping
+pub mod Gathering
+pub mod Placing
+pub mod Printable
+pub mod Valid

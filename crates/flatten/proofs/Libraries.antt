@@ -1,0 +1,123 @@
+-- Names that are gathered once each, and the tables of models and formals.
+use Rattle.std.proofs.Common.{◌≡◌, ℕ, zero, suc, ◌+◌, ◌<◌, ◌≢◌, slice_index_or, nat_lt, Bool, true, false, ◌||◌, List, [], ◌∷◌, ◌++◌, length, get_or, take, map, fold, refl, sym, ap, ◌∙◌, arith, if◌then◌else◌, append_assoc, Some, None}
+use Rattle.std.proofs.lemmas.List.Folds.{list_any-append}
+use Rattle.std.proofs.lemmas.List.Sums.{fold-append}
+use Rattle.std.proofs.lemmas.List.{append-nil, length-map, map-append}
+use Rattle.std.proofs.lemmas.Map.Keys.{IsDistinct-head, IsDistinct-tail}
+use Rattle.std.proofs.lemmas.Map.Made.{IsDistinct-from_AllPairs}
+use Rattle.std.proofs.lemmas.Slice.Eq.{bytes_eq-Decides}
+use Rattle.std.specs.List.{list_any, IsDistinct, AllPairs, position, position_or_len, AllByRecursion}
+use Rattle.std.specs.Str.{bytes_eq}
+use Rattle.std.specs.declared.option.Option.{Option}
+use Rattle.indexmap.specs.IndexSet.{insert_key}
+use Rattle.blif_read.specs.Find.{has_name}
+use Rattle.blif_read.specs.declared.models.BlifModel.{BlifModel}
+use Rattle.flatten.specs.Instances.{is_among, formals, find_model, no_model, model_at}
+use Rattle.flatten.specs.Linking.{each_once, twice_after}
+use Rattle.flatten.proofs.Names.{bytes_sym, bytes_same, bytes_refl, taken}
+
+pub fold_taken : (old names : List (List ℕ)) (i : ℕ) (name : List ℕ) → i < length names → name ≡ get_or names i name → fold (insert_key bytes_eq) old (take (i + 1) names) ≡ insert_key bytes_eq (fold (insert_key bytes_eq) old (take i names)) name
+fold_taken old names i name l e =
+    ap (λ xs. fold (insert_key bytes_eq) old xs) (taken names i name l e) ∙ fold-append (insert_key bytes_eq) old (take i names) (name ∷ [])
+
+or_false : (b : Bool) → (b || false) ≡ b
+or_false true = refl
+or_false false = refl
+
+pub among_push : (names : List (List ℕ)) (x n : List ℕ) → is_among (names ++ x ∷ []) n ≡ (is_among names n || bytes_eq n x)
+among_push names x n = list_any-append (bytes_eq n) names (x ∷ []) ∙ ap (λ b. is_among names n || b) (or_false (bytes_eq n x))
+
+or_there : (b a : Bool) → (b ≡ true → a ≡ true) → a ≡ (a || b)
+or_there true a h = h refl ∙ sym (ap (λ c. c || true) (h refl))
+or_there false a h = sym (or_false a)
+
+pub among_inserted : (names : List (List ℕ)) (x n : List ℕ) → is_among (insert_key bytes_eq names x) n ≡ (is_among names n || bytes_eq n x)
+among_inserted names x n = by (is_among names x) refl
+  where
+    by : (b : Bool) → is_among names x ≡ b → is_among (insert_key bytes_eq names x) n ≡ (is_among names n || bytes_eq n x)
+    by true e = ap (λ b. is_among (if b then names else names ++ x ∷ []) n) e ∙ or_there (bytes_eq n x) (is_among names n) (λ h. ap (λ y. is_among names y) (bytes_same n x h) ∙ e)
+    by false e = ap (λ b. is_among (if b then names else names ++ x ∷ []) n) e ∙ among_push names x n
+
+or_assoc : (a b c : Bool) → ((a || b) || c) ≡ (a || (b || c))
+or_assoc true b c = refl
+or_assoc false b c = refl
+
+-- what is gathered is what there was and what came
+pub among_gathered : (old names : List (List ℕ)) (n : List ℕ) → is_among (fold (insert_key bytes_eq) old names) n ≡ (is_among old n || is_among names n)
+among_gathered old [] n = sym (or_false (is_among old n))
+among_gathered old (x ∷ names) n =
+    among_gathered (insert_key bytes_eq old x) names n
+    ∙ ap (λ b. b || is_among names n) (among_inserted old x n)
+    ∙ or_assoc (is_among old n) (bytes_eq n x) (is_among names n)
+
+pub among_once : (names : List (List ℕ)) (n : List ℕ) → is_among (each_once names) n ≡ is_among names n
+among_once names n = among_gathered [] names n
+
+-- names that are new and differ are all gathered
+pub fresh_gathered : (old names : List (List ℕ)) → twice_after old names ≡ None → fold (insert_key bytes_eq) old names ≡ old ++ names
+fresh_gathered old [] h = sym (append-nil old)
+fresh_gathered old (x ∷ names) h = by (is_among old x) refl (λ k. fresh_gathered (old ++ x ∷ []) names k)
+  where
+    by : (b : Bool) → is_among old x ≡ b → (twice_after (old ++ x ∷ []) names ≡ None → fold (insert_key bytes_eq) (old ++ x ∷ []) names ≡ (old ++ x ∷ []) ++ names) → fold (insert_key bytes_eq) old (x ∷ names) ≡ old ++ (x ∷ names)
+    by true e rest = absurd (let k : Some x ≡ None = sym (ap (λ b. if b then Some x else twice_after (old ++ x ∷ []) names) e) ∙ h in cc)
+    by false e rest =
+        let k : twice_after (old ++ x ∷ []) names ≡ None = sym (ap (λ b. if b then Some x else twice_after (old ++ x ∷ []) names) e) ∙ h in
+        ap (λ b. fold (insert_key bytes_eq) (if b then old else old ++ x ∷ []) names) e ∙ rest k ∙ append_assoc old (x ∷ []) names
+
+pub distinct_fresh : (old names : List (List ℕ)) → AllByRecursion (λ y. is_among old y ≡ false) names → IsDistinct bytes_eq names → twice_after old names ≡ None
+distinct_fresh old [] new apart = refl
+distinct_fresh old (x ∷ names) new apart =
+    ap (λ b. if b then Some x else twice_after (old ++ x ∷ []) names) new.0
+    ∙ distinct_fresh (old ++ x ∷ []) names (still names new.1 (IsDistinct-head bytes_eq x names apart)) (IsDistinct-tail bytes_eq x names apart)
+  where
+    still : (ys : List (List ℕ)) → AllByRecursion (λ y. is_among old y ≡ false) ys → AllByRecursion (λ y. bytes_eq x y ≡ false) ys → AllByRecursion (λ y. is_among (old ++ x ∷ []) y ≡ false) ys
+    still [] a b = tt
+    still (y ∷ ys) a b = (among_push old x y ∙ ap (λ c. c || bytes_eq y x) a.0 ∙ bytes_sym y x ∙ b.0, still ys a.1 b.1)
+
+none_among : (names : List (List ℕ)) → AllByRecursion (λ y. is_among [] y ≡ false) names
+none_among [] = tt
+none_among (x ∷ names) = (refl, none_among names)
+
+pub distinct_once : (names : List (List ℕ)) → IsDistinct bytes_eq names → each_once names ≡ names
+distinct_once names apart = fresh_gathered [] names (distinct_fresh [] names (none_among names) apart)
+
+-- a model is found by the table of names
+pub place_of : (models : List BlifModel) (name : List ℕ) → position (bytes_eq name) (map (λ model. model.name) models) ≡ find_model models name
+place_of models name =
+    ap (λ n. if nat_lt n (length (map (λ (m : BlifModel). m.name) models)) then Some n else None) (same_place models)
+    ∙ ap (λ n. if nat_lt (position_or_len (has_name name) models) n then Some (position_or_len (has_name name) models) else None) (length-map models (λ (m : BlifModel). m.name))
+  where
+    same_place : (ms : List BlifModel) → position_or_len (bytes_eq name) (map (λ m. m.name) ms) ≡ position_or_len (has_name name) ms
+    same_place [] = refl
+    same_place (m ∷ ms) = rw (bytes_sym name m.name, same_place ms) refl
+
+-- the item of a table that is in step with the models
+pub formals_at : {S : Type 0} (keys : S → List (List ℕ)) (sets : List S) (models : List BlifModel) (i : ℕ) (set : S) → map keys sets ≡ map (λ model. each_once (formals model)) models → i < length models → set ≡ get_or sets i set → keys set ≡ each_once (formals (model_at models i))
+formals_at keys sets [] i set e l h = absurd (omega arith)
+formals_at keys [] (m ∷ models) i set e l h = absurd (cc)
+formals_at keys (s ∷ sets) (m ∷ models) zero set e l h = ap keys h ∙ (let k : keys s ≡ each_once (formals m) = cc in k)
+formals_at keys (s ∷ sets) (m ∷ models) (suc i) set e l h =
+    formals_at keys sets models i set (let k : map keys sets ≡ map (λ (model : BlifModel). each_once (formals model)) models = cc in k) (omega arith) h
+
+-- one more model
+pub names_taken : (models : List BlifModel) (i : ℕ) (x : BlifModel) → i < length models → x ≡ get_or models i x → fold (insert_key bytes_eq) [] (map (λ model. model.name) (take (i + 1) models)) ≡ insert_key bytes_eq (fold (insert_key bytes_eq) [] (map (λ model. model.name) (take i models))) x.name
+names_taken models i x l e =
+    ap (λ ms. fold (insert_key bytes_eq) [] (map (λ (m : BlifModel). m.name) ms)) (taken models i x l e)
+    ∙ ap (λ ns. fold (insert_key bytes_eq) [] ns) (map-append (λ (m : BlifModel). m.name) (take i models) (x ∷ []))
+    ∙ fold-append (insert_key bytes_eq) [] (map (λ (m : BlifModel). m.name) (take i models)) (x.name ∷ [])
+
+-- models whose names differ
+pub names_apart : (models : List BlifModel) → AllPairs (λ (a b : BlifModel). a.name ≢ b.name) models → IsDistinct bytes_eq (map (λ model. model.name) models)
+names_apart models h = IsDistinct-from_AllPairs bytes_eq-Decides (map (λ model. model.name) models) (mapped models h)
+  where
+    name_at : (ms : List BlifModel) (i : ℕ) (d : List ℕ) (e : BlifModel) → i < length ms → slice_index_or (map (λ model. model.name) ms) i d ≡ (slice_index_or ms i e).name
+    name_at [] i d e l = absurd (omega arith)
+    name_at (m ∷ ms) zero d e l = refl
+    name_at (m ∷ ms) (suc i) d e l = name_at ms i d e (omega arith)
+
+    mapped : (ms : List BlifModel) → AllPairs (λ (a b : BlifModel). a.name ≢ b.name) ms → AllPairs (λ x y. x ≢ y) (map (λ model. model.name) ms)
+    mapped ms g = λ i j d lt l e.
+        let n = length-map ms (λ (m : BlifModel). m.name) in
+        let li : i < length ms = omega arith in
+        let lj : j < length ms = omega arith in
+        g i j no_model lt lj (sym (name_at ms i d no_model li) ∙ e ∙ name_at ms j d no_model lj)

@@ -1,0 +1,289 @@
+-- The signal of a driver, by its place in the table of drivers.
+use Rattle.std.proofs.Common.{◌≡◌, inl, inr, ⊎_elim, ◌⊎◌, ℕ, zero, suc, ◌+◌, ◌-◌, ◌<◌, ◌≤◌, nat_lt, Bool, true, false, not, ◌||◌, List, [], ◌∷◌, ◌++◌, length, length-append, map, filter, refl, sym, ap, ◌∙◌, arith, cond, if◌then◌else◌, Some, None, Ok, Err, is_some, option_map, unwrap_or}
+use Rattle.std.proofs.lemmas.Grind.{common_steps}
+use Rattle.std.proofs.lemmas.List.{length-map}
+use Rattle.std.proofs.lemmas.List.Folds.{list_any-append, find-append}
+use Rattle.std.specs.List.{list_any, find, flat_map, position, position_or_len}
+use Rattle.std.specs.Option.{option_or, option_and_then}
+use Rattle.std.specs.Str.{bytes_eq}
+use Rattle.std.specs.declared.option.Option.{Option}
+use Rattle.std.specs.declared.result.Result.{Result}
+use Rattle.cyc_base.specs.declared.sig.Sig.{Sig}
+use Rattle.netlist.specs.Netlists.{signal}
+use Rattle.netlist.specs.declared.parts.Gate.{Gate}
+use Rattle.netlist.specs.declared.parts.Latch.{Latch}
+use Rattle.netlist.specs.declared.parts.Parts.{Parts}
+use Rattle.blif_read.specs.declared.models.BlifModel.{BlifModel}
+use Rattle.blif_read.specs.declared.models.GateLine.{GateLine}
+use Rattle.blif_read.specs.declared.models.LatchLine.{LatchLine}
+use Rattle.flatten.specs.declared.fault.FlatFault.{FlatFault}
+use Rattle.flatten.specs.declared.fault.FlatFault.TheVariants.{ClockRead}
+use Rattle.flatten.specs.declared.link.Drivers.{Drivers as DriverTable}
+use Rattle.flatten.specs.Instances.{is_among}
+use Rattle.flatten.specs.Walk.{FlatLines}
+use Rattle.flatten.specs.Linking.{own_clocks, latch_outputs, gate_outputs, drivers, reads, signal_list, sig_of, clock_read, declared_twice, driven_twice, undriven, bad_clock, link_fault, latch_with, gate_with, netlist_by, linked}
+use Rattle.flatten.specs.Drivers.{IsDriversOf, HasSignals, sig_of_place, sig_at, sig_or, is_unread}
+use Rattle.flatten.proofs.Names.{bytes_same, bytes_refl}
+use Rattle.flatten.proofs.Libraries.{among_once}
+
+module _ {X : Type 0} (p : X → Bool) where
+  pub step_no : (x : X) (xs : List X) → p x ≡ false → position_or_len p (x ∷ xs) ≡ 1 + position_or_len p xs
+  step_no x xs e = ap (λ b. cond (not b) (1 + position_or_len p xs) 0) e
+
+  pub step_yes : (x : X) (xs : List X) → p x ≡ true → position_or_len p (x ∷ xs) ≡ 0
+  step_yes x xs e = ap (λ b. cond (not b) (1 + position_or_len p xs) 0) e
+
+  pub place_none : (xs : List X) → list_any p xs ≡ false → position_or_len p xs ≡ length xs
+  place_none [] h = refl
+  place_none (x ∷ xs) h = by (p x) refl (λ k. place_none xs k)
+    where
+      by : (b : Bool) → p x ≡ b → (list_any p xs ≡ false → position_or_len p xs ≡ length xs) → position_or_len p (x ∷ xs) ≡ length (x ∷ xs)
+      by true e rest = absurd (let k : true ≡ false = sym (ap (λ b. b || list_any p xs) e) ∙ h in cc)
+      by false e rest = let k : list_any p xs ≡ false = sym (ap (λ b. b || list_any p xs) e) ∙ h in omega (arith, step_no x xs e, rest k)
+
+  pub place_some : (xs : List X) → list_any p xs ≡ true → position_or_len p xs < length xs
+  place_some [] h = absurd (cc)
+  place_some (x ∷ xs) h = by (p x) refl (λ k. place_some xs k)
+    where
+      by : (b : Bool) → p x ≡ b → (list_any p xs ≡ true → position_or_len p xs < length xs) → position_or_len p (x ∷ xs) < length (x ∷ xs)
+      by true e rest = omega (arith, step_yes x xs e)
+      by false e rest = let k : list_any p xs ≡ true = sym (ap (λ b. b || list_any p xs) e) ∙ h in omega (arith, step_no x xs e, rest k)
+
+  pub place_front : (xs ys : List X) → list_any p xs ≡ true → position_or_len p (xs ++ ys) ≡ position_or_len p xs
+  place_front [] ys h = absurd (cc)
+  place_front (x ∷ xs) ys h = by (p x) refl (λ k. place_front xs ys k)
+    where
+      by : (b : Bool) → p x ≡ b → (list_any p xs ≡ true → position_or_len p (xs ++ ys) ≡ position_or_len p xs) → position_or_len p (x ∷ (xs ++ ys)) ≡ position_or_len p (x ∷ xs)
+      by true e rest = step_yes x (xs ++ ys) e ∙ sym (step_yes x xs e)
+      by false e rest = let k : list_any p xs ≡ true = sym (ap (λ b. b || list_any p xs) e) ∙ h in step_no x (xs ++ ys) e ∙ ap (λ n. 1 + n) (rest k) ∙ sym (step_no x xs e)
+
+  pub place_behind : (xs ys : List X) → list_any p xs ≡ false → position_or_len p (xs ++ ys) ≡ length xs + position_or_len p ys
+  place_behind [] ys h = omega arith
+  place_behind (x ∷ xs) ys h = by (p x) refl (λ k. place_behind xs ys k)
+    where
+      by : (b : Bool) → p x ≡ b → (list_any p xs ≡ false → position_or_len p (xs ++ ys) ≡ length xs + position_or_len p ys) → position_or_len p (x ∷ (xs ++ ys)) ≡ length (x ∷ xs) + position_or_len p ys
+      by true e rest = absurd (let k : true ≡ false = sym (ap (λ b. b || list_any p xs) e) ∙ h in cc)
+      by false e rest = let k : list_any p xs ≡ false = sym (ap (λ b. b || list_any p xs) e) ∙ h in omega (arith, step_no x (xs ++ ys) e, rest k)
+
+lt_true : (a b : ℕ) → a < b → nat_lt a b ≡ true
+lt_true a b h = grind (arith, common_steps)
+
+lt_false : (a b : ℕ) → b ≤ a → nat_lt a b ≡ false
+lt_false a b h = grind (arith, common_steps)
+
+found_at : {X : Type 0} (p : X → Bool) (xs : List X) → position_or_len p xs < length xs → position p xs ≡ Some (position_or_len p xs)
+found_at p xs h = ap (λ b. if b then Some (position_or_len p xs) else None) (lt_true (position_or_len p xs) (length xs) h)
+
+place_input : (a b k : ℕ) → k < a → sig_of_place a b k ≡ Some (signal k)
+place_input a b k h = ap (λ t. if t then Some (signal k) else (if nat_lt k (a + b) then None else Some (signal (k - b)))) (lt_true k a h)
+
+place_clock : (a b k : ℕ) → a ≤ k → k < a + b → sig_of_place a b k ≡ None
+place_clock a b k h i =
+    ap (λ t. if t then Some (signal k) else (if nat_lt k (a + b) then None else Some (signal (k - b)))) (lt_false k a h)
+    ∙ ap (λ t. if t then None else Some (signal (k - b))) (lt_true k (a + b) i)
+
+place_driven : (a b k : ℕ) → a + b ≤ k → sig_of_place a b k ≡ Some (signal (k - b))
+place_driven a b k h =
+    ap (λ t. if t then Some (signal k) else (if nat_lt k (a + b) then None else Some (signal (k - b)))) (lt_false k a (omega arith))
+    ∙ ap (λ t. if t then None else Some (signal (k - b))) (lt_false k (a + b) h)
+
+-- the signal of a name among inputs I, clocks C and other drivers R
+module _ (I C R : List (List ℕ)) (n : List ℕ) where
+  abbrev pub at : Option Sig
+  at = option_and_then (sig_of_place (length I) (length C)) (position (bytes_eq n) (I ++ (C ++ R)))
+
+  among_all : is_among (I ++ (C ++ R)) n ≡ (is_among I n || (is_among C n || is_among R n))
+  among_all = list_any-append (bytes_eq n) I (C ++ R) ∙ ap (λ b. is_among I n || b) (list_any-append (bytes_eq n) C R)
+
+  there : is_among (I ++ (C ++ R)) n ≡ true → position (bytes_eq n) (I ++ (C ++ R)) ≡ Some (position_or_len (bytes_eq n) (I ++ (C ++ R)))
+  there h = found_at (bytes_eq n) (I ++ (C ++ R)) (place_some (bytes_eq n) (I ++ (C ++ R)) h)
+
+  pub at_input : is_among I n ≡ true → at ≡ Some (sig_of (I ++ R) n)
+  at_input h =
+      let e = there (among_all ∙ ap (λ b. b || (is_among C n || is_among R n)) h) in
+      let f = place_front (bytes_eq n) I (C ++ R) h in
+      let g = place_front (bytes_eq n) I R h in
+      ap (λ o. option_and_then (sig_of_place (length I) (length C)) o) e
+      ∙ ap (λ k. sig_of_place (length I) (length C) k) f
+      ∙ place_input (length I) (length C) (position_or_len (bytes_eq n) I) (place_some (bytes_eq n) I h)
+      ∙ ap (λ k. Some (signal k)) (sym g)
+
+  pub at_clock : is_among I n ≡ false → is_among C n ≡ true → at ≡ None
+  at_clock h c =
+      let e = there (among_all ∙ ap (λ b. b || (is_among C n || is_among R n)) h ∙ ap (λ b. b || is_among R n) c) in
+      let f = place_behind (bytes_eq n) I (C ++ R) h ∙ ap (λ k. length I + k) (place_front (bytes_eq n) C R c) in
+      let l = place_some (bytes_eq n) C c in
+      ap (λ o. option_and_then (sig_of_place (length I) (length C)) o) e
+      ∙ ap (λ k. sig_of_place (length I) (length C) k) f
+      ∙ place_clock (length I) (length C) (length I + position_or_len (bytes_eq n) C) (omega arith) (omega (arith, l))
+
+  pub at_driven : is_among I n ≡ false → is_among C n ≡ false → is_among R n ≡ true → at ≡ Some (sig_of (I ++ R) n)
+  at_driven h c r =
+      let e = there (among_all ∙ ap (λ b. b || (is_among C n || is_among R n)) h ∙ ap (λ b. b || is_among R n) c ∙ r) in
+      let f = place_behind (bytes_eq n) I (C ++ R) h ∙ ap (λ k. length I + k) (place_behind (bytes_eq n) C R c) in
+      let g = place_behind (bytes_eq n) I R h in
+      let k = length I + (length C + position_or_len (bytes_eq n) R) in
+      ap (λ o. option_and_then (sig_of_place (length I) (length C)) o) e
+      ∙ ap (λ j. sig_of_place (length I) (length C) j) f
+      ∙ place_driven (length I) (length C) k (omega arith)
+      ∙ ap (λ j. Some (signal j)) (let s : k - length C ≡ position_or_len (bytes_eq n) (I ++ R) = omega (arith, g) in s)
+
+  pub at_none : is_among I n ≡ false → is_among C n ≡ false → at ≡ Some (sig_of (I ++ R) n) ⊎ (is_among (I ++ (C ++ R)) n ≡ false)
+  at_none h c = by (is_among R n) refl
+    where
+      by : (b : Bool) → is_among R n ≡ b → at ≡ Some (sig_of (I ++ R) n) ⊎ (is_among (I ++ (C ++ R)) n ≡ false)
+      by true e = inl (at_driven h c e)
+      by false e = inr (among_all ∙ ap (λ b. b || (is_among C n || is_among R n)) h ∙ ap (λ b. b || is_among R n) c ∙ e)
+
+-- own clocks are no inputs
+filtered : (I xs : List (List ℕ)) (n : List ℕ) → is_among (filter (λ x. not (is_among I x)) xs) n ≡ true → is_among I n ≡ false
+filtered I [] n h = absurd (cc)
+filtered I (x ∷ xs) n h = by (is_among I x) (bytes_eq n x) refl refl (λ k. filtered I xs n k)
+  where
+    rest_of : List (List ℕ)
+    rest_of = filter (λ y. not (is_among I y)) xs
+
+    by : (a b : Bool) → is_among I x ≡ a → bytes_eq n x ≡ b → (is_among (filter (λ y. not (is_among I y)) xs) n ≡ true → is_among I n ≡ false) → is_among I n ≡ false
+    by true b e f rest = rest (sym (ap (λ t. is_among (cond (not t) (x ∷ filter (λ y. not (is_among I y)) xs) (filter (λ y. not (is_among I y)) xs)) n) e) ∙ h)
+    by false true e f rest = ap (λ y. is_among I y) (bytes_same n x f) ∙ e
+    by false false e f rest =
+        rest (sym (ap (λ t. is_among (cond (not t) (x ∷ filter (λ y. not (is_among I y)) xs) (filter (λ y. not (is_among I y)) xs)) n) e ∙ ap (λ t. t || is_among (filter (λ y. not (is_among I y)) xs) n) f) ∙ h)
+
+pub clock_no_input : (top : BlifModel) (n : List ℕ) → is_among (own_clocks top) n ≡ true → is_among top.inputs n ≡ false
+clock_no_input top n h =
+    filtered top.inputs top.clocks n (sym (among_once (filter (λ x. not (is_among top.inputs x)) top.clocks) n) ∙ h)
+
+pub first_of : {X : Type 0} (p : X → Bool) (x : X) (xs : List X) → find p (x ∷ xs) ≡ None → (p x ≡ false) × (find p xs ≡ None)
+first_of p x xs h = by (p x) refl
+  where
+    by : (b : Bool) → p x ≡ b → (p x ≡ false) × (find p xs ≡ None)
+    by true e = absurd (let k : Some x ≡ None = sym (ap (λ b. cond b (Some x) (find p xs)) e) ∙ h in cc)
+    by false e = (e, sym (ap (λ b. cond b (Some x) (find p xs)) e) ∙ h)
+
+pub none_or : {X : Type 0} (o p : Option X) → option_or o p ≡ None → (o ≡ None) × (p ≡ None)
+none_or None p h = (refl, h)
+none_or (Some x) p h = absurd (cc)
+
+pub both_none : {X : Type 0} (p : X → Bool) (xs ys : List X) → find p (xs ++ ys) ≡ None → (find p xs ≡ None) × (find p ys ≡ None)
+both_none p xs ys h = none_or (find p xs) (find p ys) (sym (find-append p xs ys) ∙ h)
+
+pub not_false : (b : Bool) → not b ≡ false → b ≡ true
+not_false true e = refl
+not_false false e = absurd (cc)
+
+module _ (top : BlifModel) (lines : FlatLines) (table : DriverTable) (of : IsDriversOf top lines table) where
+  at_table : (n : List ℕ) → sig_at table n ≡ option_and_then (sig_of_place (length top.inputs) (length (own_clocks top))) (position (bytes_eq n) (drivers top lines))
+  at_table n =
+      ap (λ ks. option_and_then (sig_of_place table.inputs table.clocks) (position (bytes_eq n) ks)) of.names
+      ∙ ap (λ k. option_and_then (sig_of_place k table.clocks) (position (bytes_eq n) (drivers top lines))) of.inputs
+      ∙ ap (λ k. option_and_then (sig_of_place (length top.inputs) k) (position (bytes_eq n) (drivers top lines))) of.clocks
+
+  abbrev missing : List ℕ → Bool
+  missing name = not (is_among (drivers top lines) name)
+
+  sig_clock : (n : List ℕ) → is_among (own_clocks top) n ≡ true → sig_at table n ≡ None
+  sig_clock n h = at_table n ∙ at_clock top.inputs (own_clocks top) (latch_outputs lines ++ gate_outputs lines) n (clock_no_input top n h) h
+
+  sig_found : (n : List ℕ) → missing n ≡ false → is_among (own_clocks top) n ≡ false → sig_at table n ≡ Some (sig_of (signal_list top lines) n)
+  sig_found n d c = by (is_among top.inputs n) refl
+    where
+      driven : is_among (drivers top lines) n ≡ true
+      driven = not_false (is_among (drivers top lines) n) d
+
+      by : (b : Bool) → is_among top.inputs n ≡ b → sig_at table n ≡ Some (sig_of (signal_list top lines) n)
+      by true e = at_table n ∙ at_input top.inputs (own_clocks top) (latch_outputs lines ++ gate_outputs lines) n e
+      by false e = ⊎_elim (λ f. at_table n ∙ f) (λ f. absurd (let k : true ≡ false = sym driven ∙ f in cc)) (at_none top.inputs (own_clocks top) (latch_outputs lines ++ gate_outputs lines) n e c)
+
+  unread_is : (n : List ℕ) → missing n ≡ false → is_unread table n ≡ is_among (own_clocks top) n
+  unread_is n d = by (is_among (own_clocks top) n) refl
+    where
+      by : (b : Bool) → is_among (own_clocks top) n ≡ b → is_unread table n ≡ is_among (own_clocks top) n
+      by true e = ap (λ o. not (is_some o)) (sig_clock n e) ∙ sym e
+      by false e = ap (λ o. not (is_some o)) (sig_found n d e) ∙ sym e
+
+  -- the first clock that is read, where all that is read is driven
+  pub find_unread : (names : List (List ℕ)) → find missing names ≡ None → find (is_unread table) names ≡ find (is_among (own_clocks top)) names
+  find_unread [] h = refl
+  find_unread (x ∷ names) h =
+      let f = first_of missing x names h in
+      ap (λ b. cond b (Some x) (find (is_unread table) names)) (unread_is x f.0) ∙ ap (λ o. cond (is_among (own_clocks top) x) (Some x) o) (find_unread names f.1)
+
+  sig_same : (n : List ℕ) → missing n ≡ false → is_unread table n ≡ false → sig_or table n ≡ sig_of (signal_list top lines) n
+  sig_same n d r = ap (λ o. unwrap_or o (signal 0)) (sig_found n d (sym (unread_is n d) ∙ r))
+
+  pub sigs_same : (names : List (List ℕ)) → find missing names ≡ None → find (is_unread table) names ≡ None → map (sig_or table) names ≡ map (sig_of (signal_list top lines)) names
+  sigs_same [] h r = refl
+  sigs_same (x ∷ names) h r =
+      let f = first_of missing x names h in
+      let g = first_of (is_unread table) x names r in
+      let a = sig_same x f.0 g.0 in
+      let b = sigs_same names f.1 g.1 in
+      cc
+
+  latches_same : (latches : List LatchLine) → find missing (map (λ l. l.from) latches) ≡ None → find (is_unread table) (map (λ l. l.from) latches) ≡ None → map (latch_with (sig_or table)) latches ≡ map (latch_with (sig_of (signal_list top lines))) latches
+  latches_same [] h r = refl
+  latches_same (l ∷ latches) h r =
+      let f = first_of missing l.from (map (λ (x : LatchLine). x.from) latches) h in
+      let g = first_of (is_unread table) l.from (map (λ (x : LatchLine). x.from) latches) r in
+      let a = sig_same l.from f.0 g.0 in
+      let b = latches_same latches f.1 g.1 in
+      cc
+
+  gates_same : (gates : List GateLine) → find missing (flat_map (λ g. g.pins) gates) ≡ None → find (is_unread table) (flat_map (λ g. g.pins) gates) ≡ None → map (gate_with (sig_or table)) gates ≡ map (gate_with (sig_of (signal_list top lines))) gates
+  gates_same [] h r = refl
+  gates_same (x ∷ gates) h r =
+      let f = both_none missing x.pins (flat_map (λ (g : GateLine). g.pins) gates) h in
+      let g = both_none (is_unread table) x.pins (flat_map (λ (y : GateLine). y.pins) gates) r in
+      let a = sigs_same x.pins f.0 g.0 in
+      let b = gates_same gates f.1 g.1 in
+      cc
+
+  pub parts_same : find missing (reads top lines) ≡ None → find (is_unread table) (reads top lines) ≡ None → netlist_by (sig_or table) top lines ≡ netlist_by (sig_of (signal_list top lines)) top lines
+  parts_same h r =
+      let f = both_none missing top.outputs (map (λ (l : LatchLine). l.from) lines.latches ++ flat_map (λ (g : GateLine). g.pins) lines.gates) h in
+      let g = both_none (is_unread table) top.outputs (map (λ (l : LatchLine). l.from) lines.latches ++ flat_map (λ (x : GateLine). x.pins) lines.gates) r in
+      let f' = both_none missing (map (λ (l : LatchLine). l.from) lines.latches) (flat_map (λ (x : GateLine). x.pins) lines.gates) f.1 in
+      let g' = both_none (is_unread table) (map (λ (l : LatchLine). l.from) lines.latches) (flat_map (λ (x : GateLine). x.pins) lines.gates) g.1 in
+      let a = sigs_same top.outputs f.0 g.0 in
+      let b = latches_same lines.latches f'.0 g'.0 in
+      let d = gates_same lines.gates f'.1 g'.1 in
+      cc
+
+  none_of_map : (o : Option (List ℕ)) (g : List ℕ → FlatFault) → option_map g o ≡ None → o ≡ None
+  none_of_map None g h = refl
+  none_of_map (Some x) g h = absurd (cc)
+
+  -- the answer, once drivers, reads and controls are without a fault
+  module _ (once : option_or (declared_twice top) (driven_twice top lines) ≡ None) (fits : option_or (undriven top lines) (bad_clock top lines) ≡ None) where
+    all_driven : find missing (reads top lines) ≡ None
+    all_driven = none_of_map (find missing (reads top lines)) _ (none_or (undriven top lines) (bad_clock top lines) fits).0
+
+    fault_is : link_fault top lines ≡ option_map ClockRead (find (is_unread table) (reads top lines))
+    fault_is =
+        ap (λ o. option_or o (option_or (option_or (undriven top lines) (bad_clock top lines)) (clock_read top lines))) once
+        ∙ ap (λ o. option_or o (clock_read top lines)) fits
+        ∙ ap (λ o. option_map ClockRead o) (sym (find_unread (reads top lines) all_driven))
+
+    pub linked_clock : (fault : FlatFault) → option_map ClockRead (find (is_unread table) (reads top lines)) ≡ Some fault → linked top lines ≡ Err fault
+    linked_clock fault e = linked_by (link_fault top lines) (fault_is ∙ e)
+      where
+        linked_by : (o : Option FlatFault) → o ≡ Some fault → ◌≡◌ {A = Result Parts FlatFault} (elim o [ Some f ↦ Err f | None ↦ Ok (netlist_by (sig_of (signal_list top lines)) top lines) ]) (Err fault)
+        linked_by (Some f) h = cc
+        linked_by None h = absurd (cc)
+
+    pub linked_parts : (parts : Parts) → parts ≡ netlist_by (sig_or table) top lines → find (is_unread table) (reads top lines) ≡ None → linked top lines ≡ Ok parts
+    linked_parts parts p r = linked_by (link_fault top lines) (fault_is ∙ ap (λ o. option_map ClockRead o) r) ∙ ap (λ x. Ok x) (sym (p ∙ parts_same all_driven r))
+      where
+        linked_by : (o : Option FlatFault) → o ≡ None → ◌≡◌ {A = Result Parts FlatFault} (elim o [ Some f ↦ Err f | None ↦ Ok (netlist_by (sig_of (signal_list top lines)) top lines) ]) (Ok (netlist_by (sig_of (signal_list top lines)) top lines))
+        linked_by (Some f) h = absurd (cc)
+        linked_by None h = refl
+
+-- the numbers of the signals of a table fit
+pub has_signals : (top : BlifModel) (lines : FlatLines) (table : DriverTable) → IsDriversOf top lines table → length top.inputs ≤ 4000000000 → length lines.latches + length lines.gates ≤ 4000000 → HasSignals table
+has_signals top lines table of few small =
+    let n = ap length of.names ∙ length-append top.inputs (own_clocks top ++ (latch_outputs lines ++ gate_outputs lines)) in
+    let m = length-append (own_clocks top) (latch_outputs lines ++ gate_outputs lines) in
+    let k = length-append (latch_outputs lines) (gate_outputs lines) in
+    let a = length-map lines.latches (λ (l : LatchLine). l.output) in
+    let b = length-map lines.gates (λ (g : GateLine). g.output) in
+    record { within = omega (arith, of.inputs, of.clocks); fit = omega (arith, of.clocks) }

@@ -1,0 +1,290 @@
+-- The walk on a list comes to what the walk by recursion comes to.
+use Rattle.std.proofs.Common.{get_or, length-append, ◌*◌, ◌≡◌, inl, inr, ℕ, zero, suc, ◌+◌, ◌-◌, ◌<◌, ◌≤◌, ◌⊎◌, nat_le, nat_lt, Bool, true, false, ◌||◌, List, [], ◌∷◌, ◌++◌, length, drop, reverse, refl, ap, sym, ◌∙◌, subst, arith, append_assoc, if◌then◌else◌, Some, None, Ok, Err, All}
+use Rattle.std.proofs.lemmas.Grind.{common_steps, reverse_onto}
+use Rattle.std.proofs.lemmas.List.Folds.{list_any-append}
+use Rattle.std.proofs.lemmas.List.Sums.{passes_at_first}
+use Rattle.std.proofs.lemmas.List.{append-nil, reverse-append, length-reverse, reverse-reverse, get_or_default}
+use Rattle.std.proofs.lemmas.List.Elements.{All-head, All-tail, All-same, All-push}
+use Rattle.std.specs.List.{list_any, position_or_len}
+use Rattle.std.specs.Str.{bytes_eq}
+use Rattle.std.specs.declared.option.Option.{Option}
+use Rattle.std.specs.declared.result.Result.{Result}
+use Rattle.blif_read.specs.Find.{has_name}
+use Rattle.blif_read.specs.declared.models.BlifModel.{BlifModel}
+use Rattle.blif_read.specs.declared.models.GateLine.{GateLine}
+use Rattle.blif_read.specs.declared.models.LatchLine.{LatchLine}
+use Rattle.blif_read.specs.declared.models.PartLine.{PartLine}
+use Rattle.blif_read.specs.declared.models.Item.TheVariants.{Gate, Latch, Part}
+use Rattle.flatten.specs.declared.fault.FlatFault.{FlatFault}
+use Rattle.flatten.specs.declared.fault.FlatFault.TheVariants.{TooLarge}
+use Rattle.flatten.specs.declared.walk.Level.{Level}
+use Rattle.flatten.specs.declared.walk.Walk.{Walk}
+use Rattle.flatten.specs.Wires.{mark_of}
+use Rattle.flatten.specs.Paths.{Instance}
+use Rattle.flatten.specs.Instances.{no_model, model_at, is_open, entry, entered, pairs_fault, find_model}
+use Rattle.flatten.specs.Walk.{Event, FlatLines, gate, latch, opens, fails, events, decided, then_gate, then_latch, flat_lines}
+use Rattle.flatten.specs.Levels.{gate_by, latch_by, entered_on, passed_line, passed_part, Enters, IsAt, Waits, remaining, then_lines, Walking, PassesGate, PassesLatch, PassesPart, PartFails, WalkingAt, WalkingWith, StepsOn, IsBegun}
+use Rattle.flatten.proofs.Names.{bytes_same}
+use Rattle.flatten.proofs.Waiting.{waits_size, waits_open, waits_within, top_of, gate_step, latch_step, end_step, fault_step, opens_step, open_step}
+
+-- counting
+dec_gate : (room : ℕ) (g : GateLine) (rest : List Event) → 0 < room → decided room (gate g ∷ rest) ≡ then_gate g (decided (room - 1) rest)
+dec_gate zero g rest h = absurd (omega arith)
+dec_gate (suc room) g rest h = let e : room ≡ suc room - 1 = omega arith in ap (λ r. then_gate g (decided r rest)) e
+
+dec_latch : (room : ℕ) (l : LatchLine) (rest : List Event) → 0 < room → decided room (latch l ∷ rest) ≡ then_latch l (decided (room - 1) rest)
+dec_latch zero l rest h = absurd (omega arith)
+dec_latch (suc room) l rest h = let e : room ≡ suc room - 1 = omega arith in ap (λ r. then_latch l (decided r rest)) e
+
+dec_open : (room : ℕ) (rest : List Event) → 0 < room → decided room (opens ∷ rest) ≡ decided (room - 1) rest
+dec_open zero rest h = absurd (omega arith)
+dec_open (suc room) rest h = let e : room ≡ suc room - 1 = omega arith in ap (λ r. decided r rest) e
+
+then_none : (r : Result FlatLines FlatFault) → r ≡ then_lines [] [] r
+then_none (Ok lines) = refl
+then_none (Err fault) = refl
+
+more_gates : (latches : List LatchLine) (gates : List GateLine) (g : GateLine) (r : Result FlatLines FlatFault) → then_lines latches gates (then_gate g r) ≡ then_lines latches (gates ++ (g ∷ [])) r
+more_gates latches gates g (Ok more) = let e = sym (append_assoc gates (g ∷ []) more.gates) in cc
+more_gates latches gates g (Err fault) = refl
+
+more_latches : (latches : List LatchLine) (gates : List GateLine) (l : LatchLine) (r : Result FlatLines FlatFault) → then_lines latches gates (then_latch l r) ≡ then_lines (latches ++ (l ∷ [])) gates r
+more_latches latches gates l (Ok more) = let e = sym (append_assoc latches (l ∷ []) more.latches) in cc
+more_latches latches gates l (Err fault) = refl
+
+fails_at : (room : ℕ) (fault : FlatFault) (rest : List Event) (latches : List LatchLine) (gates : List GateLine) → then_lines latches gates (decided room (fails fault ∷ rest)) ≡ Err fault
+fails_at zero fault rest latches gates = refl
+fails_at (suc room) fault rest latches gates = refl
+
+rev_push : (s : List Level) (l : Level) → reverse (s ++ (l ∷ [])) ≡ l ∷ reverse s
+rev_push s l = reverse-append s (l ∷ [])
+
+or_swap : (a b : Bool) → (a || b) ≡ (b || a)
+or_swap true true = refl
+or_swap true false = refl
+or_swap false true = refl
+or_swap false false = refl
+
+or_false : (b : Bool) → (b || false) ≡ b
+or_false true = refl
+or_false false = refl
+
+or_eq : (a b c d : Bool) → a ≡ b → c ≡ d → (a || c) ≡ (b || d)
+or_eq a b c d e f = cc
+
+any_reverse : (p : Level → Bool) (xs : List Level) → list_any p (reverse xs) ≡ list_any p xs
+any_reverse p [] = refl
+any_reverse p (x ∷ xs) =
+    ap (λ ys. list_any p ys) (reverse_onto xs x [])
+    ∙ list_any-append p (reverse xs) (x ∷ [])
+    ∙ or_eq _ _ _ _ (any_reverse p xs) (or_false (p x))
+    ∙ or_swap (list_any p xs) (p x)
+
+cond_some : (b : Bool) (k i : ℕ) → ◌≡◌ {A = Option ℕ} (if b then Some k else None) (Some i) → (b ≡ true) × (k ≡ i)
+cond_some true k i e = (refl, cc)
+cond_some false k i e = absurd (cc)
+
+below_at : (a b : ℕ) → nat_lt a b ≡ true → a < b
+below_at a b h = grind (arith, common_steps)
+
+-- a model that is found has the name
+pub find_name : (models : List BlifModel) (name : List ℕ) (i : ℕ) → find_model models name ≡ Some i → (i < length models) × ((model_at models i).name ≡ name)
+find_name models name i e =
+    let k = position_or_len (has_name name) models in
+    let h = cond_some (nat_lt k (length models)) k i e in
+    let l = below_at k (length models) h.0 in
+    let t = passes_at_first (has_name name) models no_model l in
+    (omega (arith, h.1), ap (λ j. (model_at models j).name) (sym h.1) ∙ bytes_same (model_at models k).name name t)
+
+last_case : (x : Option FlatFault) (j i : ℕ) → ◌≡◌ {A = Result ℕ FlatFault} (elim x [ Some fault ↦ Err fault | None ↦ Ok j ]) (Ok i) → j ≡ i
+last_case (Some fault) j i e = absurd (cc)
+last_case None j i e = cc
+
+entry_found : (name : List ℕ) (a b : Bool) (f : ℕ → Option FlatFault) (x : Option ℕ) (i : ℕ) → entry name a b f x ≡ Ok i → x ≡ Some i
+entry_found name a b f None i e = absurd (cc)
+entry_found name true b f (Some j) i e = absurd (cc)
+entry_found name false true f (Some j) i e = absurd (cc)
+entry_found name false false f (Some j) i e = ap (λ k. Some k) (last_case (f j) j i e)
+
+backward : (models : List BlifModel) (s : List Level) → All (λ x. x.model < length models) s → All (λ x. x.model < length models) (reverse s)
+backward models [] h = h
+backward models (x ∷ s) h =
+    let P = λ (y : Level). y.model < length models in
+    All-same P _ _ (reverse_onto s x []) (All-push P (reverse s) x (backward models s (All-tail P x s h)) (All-head P x s h))
+
+all_reverse : (models : List BlifModel) (s : List Level) → All (λ x. x.model < length models) (reverse s) → All (λ x. x.model < length models) s
+all_reverse models s h = subst (λ (ls : List Level). All (λ x. x.model < length models) ls) (reverse-reverse s) (backward models (reverse s) h)
+
+-- the levels, with the top's first, between two steps
+module _ (depth : ℕ) (models : List BlifModel) (top m : List ℕ) (answer : Result FlatLines FlatFault) where
+  entered_same : (s : List Level) (l : Level) (path : List Instance) (rest : List Event) (p : PartLine) → Waits depth models top m (l ∷ reverse s) path rest → entered_on depth models s l p ≡ entered depth models top path p
+  entered_same s l path rest p w =
+      let same = λ (x : Level). bytes_eq (model_at models x.model).name p.model in
+      let a = ap (λ b. same l || b) (sym (any_reverse same s)) ∙ waits_open depth models top m l (reverse s) path rest p.model w in
+      let n = sym (length-reverse s) ∙ waits_size depth models top m l (reverse s) path rest w in
+      ap (λ b. entry p.model b (nat_le depth (length s)) (λ i. pairs_fault (model_at models i) p.pairs) (find_model models p.model)) a
+      ∙ ap (λ k. entry p.model (is_open top path p.model) (nat_le depth k) (λ i. pairs_fault (model_at models i) p.pairs) (find_model models p.model)) n
+
+  pub walking_end : (latches : List LatchLine) (gates : List GateLine) (room : ℕ) → Walking depth models top m [] latches gates room answer → answer ≡ Ok (record { latches = latches; gates = gates })
+  walking_end latches gates room w =
+      let e = append-nil latches in
+      let f = append-nil gates in
+      w.answers ∙ ap (λ es. then_lines latches gates (decided room es)) w.waits ∙ (let g : then_lines latches gates (decided room []) ≡ Ok (record { latches = latches; gates = gates }) = cc in g)
+
+  module _ (walk : Walk) (l : Level) (w : WalkingWith depth models top m answer walk l) where
+    waits_at : Waits depth models top m (l ∷ reverse walk.levels.items) w.path w.rest
+    waits_at = subst (λ (ls : List Level). Waits depth models top m ls w.path w.rest) (rev_push walk.levels.items l) w.waits
+
+    pub walking_at : (l.model < length models) × (l.parts ≤ l.next) × All (λ x. x.model < length models) walk.levels.items
+    walking_at =
+        let t = top_of depth models top m l (reverse walk.levels.items) w.path w.rest waits_at in
+        (t.at.within, t.at.counted, all_reverse models walk.levels.items (waits_within depth models top m (reverse walk.levels.items) t.up t.later t.back))
+
+    pub walking_pop : drop l.next (model_at models l.model).body ≡ [] → WalkingAt depth models top m answer walk × (walk.room * 2 + length walk.levels.items < walk.room * 2 + (length walk.levels.items + 1))
+    walking_pop e =
+        let n = end_step depth models top m l (reverse walk.levels.items) w.path w.rest waits_at e in
+        (record { path = n.0; rest = w.rest; waits = n.1; answers = w.answers }, omega arith)
+
+    pub walking_gate : (new : Walk) (g : GateLine) → drop l.next (model_at models l.model).body ≡ Gate g ∷ drop (suc l.next) (model_at models l.model).body → PassesGate walk l g new → WalkingAt depth models top m answer new × (new.room * 2 + length new.levels.items < walk.room * 2 + (length walk.levels.items + 1))
+    walking_gate new g e h =
+        let n = gate_step depth models top m l (reverse walk.levels.items) w.path w.rest g waits_at e in
+        let f = gate_by l.scope.prefix l.scope.table.entries g in
+        let r : reverse new.levels.items ≡ passed_line l ∷ reverse walk.levels.items = ap (λ ls. reverse ls) h.levels ∙ rev_push walk.levels.items (passed_line l) in (
+          record {
+            path = w.path;
+            rest = n.0;
+            waits = subst (λ (ls : List Level). Waits depth models top m ls w.path n.0) (sym r) n.1;
+            answers =
+                w.answers
+                ∙ ap (λ es. then_lines walk.latches.items walk.gates.items (decided walk.room es)) n.2
+                ∙ ap (λ x. then_lines walk.latches.items walk.gates.items x) (dec_gate walk.room f n.0 h.some)
+                ∙ more_gates walk.latches.items walk.gates.items f (decided (walk.room - 1) n.0)
+                ∙ ap (λ ls. then_lines ls (walk.gates.items ++ (f ∷ [])) (decided (walk.room - 1) n.0)) (sym h.latches)
+                ∙ ap (λ gs. then_lines new.latches.items gs (decided (walk.room - 1) n.0)) (sym h.gates)
+                ∙ ap (λ k. then_lines new.latches.items new.gates.items (decided k n.0)) (sym h.left);
+          },
+          let k = ap length h.levels ∙ length-append walk.levels.items (passed_line l ∷ []) in omega (arith, k, h.left, h.some),
+        )
+
+    pub walking_latch : (new : Walk) (x : LatchLine) → drop l.next (model_at models l.model).body ≡ Latch x ∷ drop (suc l.next) (model_at models l.model).body → PassesLatch walk l x new → WalkingAt depth models top m answer new × (new.room * 2 + length new.levels.items < walk.room * 2 + (length walk.levels.items + 1))
+    walking_latch new x e h =
+        let n = latch_step depth models top m l (reverse walk.levels.items) w.path w.rest x waits_at e in
+        let f = latch_by l.scope.prefix l.scope.table.entries x in
+        let r : reverse new.levels.items ≡ passed_line l ∷ reverse walk.levels.items = ap (λ ls. reverse ls) h.levels ∙ rev_push walk.levels.items (passed_line l) in (
+          record {
+            path = w.path;
+            rest = n.0;
+            waits = subst (λ (ls : List Level). Waits depth models top m ls w.path n.0) (sym r) n.1;
+            answers =
+                w.answers
+                ∙ ap (λ es. then_lines walk.latches.items walk.gates.items (decided walk.room es)) n.2
+                ∙ ap (λ y. then_lines walk.latches.items walk.gates.items y) (dec_latch walk.room f n.0 h.some)
+                ∙ more_latches walk.latches.items walk.gates.items f (decided (walk.room - 1) n.0)
+                ∙ ap (λ ls. then_lines ls walk.gates.items (decided (walk.room - 1) n.0)) (sym h.latches)
+                ∙ ap (λ gs. then_lines new.latches.items gs (decided (walk.room - 1) n.0)) (sym h.gates)
+                ∙ ap (λ k. then_lines new.latches.items new.gates.items (decided k n.0)) (sym h.left);
+          },
+          let k = ap length h.levels ∙ length-append walk.levels.items (passed_line l ∷ []) in omega (arith, k, h.left, h.some),
+        )
+
+    pub full_gate : (g : GateLine) → drop l.next (model_at models l.model).body ≡ Gate g ∷ drop (suc l.next) (model_at models l.model).body → walk.room ≡ 0 → answer ≡ Err TooLarge
+    full_gate g e h =
+        let n = gate_step depth models top m l (reverse walk.levels.items) w.path w.rest g waits_at e in
+        w.answers ∙ ap (λ es. then_lines walk.latches.items walk.gates.items (decided walk.room es)) n.2 ∙ ap (λ r. then_lines walk.latches.items walk.gates.items (decided r (gate (gate_by l.scope.prefix l.scope.table.entries g) ∷ n.0))) h
+
+    pub full_latch : (x : LatchLine) → drop l.next (model_at models l.model).body ≡ Latch x ∷ drop (suc l.next) (model_at models l.model).body → walk.room ≡ 0 → answer ≡ Err TooLarge
+    full_latch x e h =
+        let n = latch_step depth models top m l (reverse walk.levels.items) w.path w.rest x waits_at e in
+        w.answers ∙ ap (λ es. then_lines walk.latches.items walk.gates.items (decided walk.room es)) n.2 ∙ ap (λ r. then_lines walk.latches.items walk.gates.items (decided r (latch (latch_by l.scope.prefix l.scope.table.entries x) ∷ n.0))) h
+
+    pub failing_part : (p : PartLine) (fault : FlatFault) → drop l.next (model_at models l.model).body ≡ Part p ∷ drop (suc l.next) (model_at models l.model).body → PartFails depth models walk l p fault → answer ≡ Err fault
+    failing_part p fault e (inl h) =
+        let n = fault_step depth models top m l (reverse walk.levels.items) w.path w.rest p fault waits_at e (sym (entered_same walk.levels.items l w.path w.rest p waits_at) ∙ h) in
+        w.answers ∙ ap (λ es. then_lines walk.latches.items walk.gates.items (decided walk.room es)) n.1 ∙ fails_at walk.room fault n.0 walk.latches.items walk.gates.items
+    failing_part p fault e (inr h) =
+        let n = opens_step depth models top m l (reverse walk.levels.items) w.path w.rest p h.2.0 waits_at e (sym (entered_same walk.levels.items l w.path w.rest p waits_at) ∙ h.2.1) in
+        w.answers ∙ ap (λ es. then_lines walk.latches.items walk.gates.items (decided walk.room es)) n.1 ∙ ap (λ r. then_lines walk.latches.items walk.gates.items (decided r (opens ∷ n.0))) h.0 ∙ ap (λ f. Err f) (sym h.1)
+
+    pub walking_part : (new : Walk) (p : PartLine) → drop l.next (model_at models l.model).body ≡ Part p ∷ drop (suc l.next) (model_at models l.model).body → PassesPart depth models m walk l p new → WalkingAt depth models top m answer new × (new.room * 2 + length new.levels.items < walk.room * 2 + (length walk.levels.items + 1))
+    walking_part new p e h =
+        let s = walk.levels.items in
+        let found = entry_found p.model _ _ (λ i. pairs_fault (model_at models i) p.pairs) (find_model models p.model) h.inner.model h.enters.model in
+        let named = find_name models p.model h.inner.model found in
+        let t = open_step depth models top m l (reverse s) w.path w.rest p h.inner waits_at e (sym (entered_same s l w.path w.rest p waits_at) ∙ h.enters.model) h.enters.inside named.0 named.1 in
+        let r : reverse new.levels.items ≡ h.inner ∷ passed_part l ∷ reverse s = ap (λ ls. reverse ls) h.enters.levels ∙ rev_push (s ++ (passed_part l ∷ [])) h.inner ∙ ap (λ ls. h.inner ∷ ls) (rev_push s (passed_part l)) in (
+          record {
+            path = t.0;
+            rest = t.1.0;
+            waits = subst (λ (ls : List Level). Waits depth models top m ls t.0 t.1.0) (sym r) t.1.1;
+            answers =
+                w.answers
+                ∙ ap (λ es. then_lines walk.latches.items walk.gates.items (decided walk.room es)) t.1.2
+                ∙ ap (λ x. then_lines walk.latches.items walk.gates.items x) (dec_open walk.room t.1.0 h.some)
+                ∙ ap (λ ls. then_lines ls walk.gates.items (decided (walk.room - 1) t.1.0)) (sym h.latches)
+                ∙ ap (λ gs. then_lines new.latches.items gs (decided (walk.room - 1) t.1.0)) (sym h.gates)
+                ∙ ap (λ k. then_lines new.latches.items new.gates.items (decided k t.1.0)) (sym h.left);
+          },
+          let k = ap length h.enters.levels ∙ length-append (s ++ (passed_part l ∷ [])) (h.inner ∷ []) ∙ ap (λ j. j + 1) (length-append s (passed_part l ∷ [])) in omega (arith, k, h.left, h.some),
+        )
+
+-- a walk that stands before its first item
+pub walking_start : (depth : ℕ) (models : List BlifModel) (i limit : ℕ) (walk : Walk) → i < length models → IsBegun i limit walk → WalkingAt depth models (model_at models i).name (mark_of models) (flat_lines depth limit models i) walk
+walking_start depth models i limit walk within b =
+    let top = (model_at models i).name in
+    let m = mark_of models in
+    let l = b.level in
+    let rest = events depth depth models top m [] 1 (model_at models i).body in
+    let same : rest ≡ remaining depth models top m l [] =
+    sym (
+    ap (λ j. events (depth - 0) depth models top m [] (suc j) (drop l.next (model_at models l.model).body)) b.parts
+    ∙ ap (λ j. events (depth - 0) depth models top m [] 1 (drop j (model_at models l.model).body)) b.next
+    ∙ ap (λ j. events (depth - 0) depth models top m [] 1 (model_at models j).body) b.place
+    ∙ ap (λ j. events j depth models top m [] 1 (model_at models i).body) (let z : depth - 0 ≡ depth = omega arith in z)) in
+    let there : Waits depth models top m (l ∷ []) [] rest =
+    (record { within = omega (arith, b.place, within); counted = omega (arith, b.next, b.parts); prefix = b.prefix; table = b.table }, ap (λ j. (model_at models j).name) b.place, refl, same) in
+    record {
+      path = [];
+      rest = rest;
+      waits = subst (λ (ls : List Level). Waits depth models top m (reverse ls) [] rest) (sym b.levels) there;
+      answers =
+          then_none (decided limit rest)
+          ∙ ap (λ ls. then_lines ls [] (decided limit rest)) (sym b.latches)
+          ∙ ap (λ gs. then_lines walk.latches.items gs (decided limit rest)) (sym b.gates)
+          ∙ ap (λ k. then_lines walk.latches.items walk.gates.items (decided k rest)) (sym b.room_is);
+    }
+
+pub popped : (depth : ℕ) (models : List BlifModel) (top m : List ℕ) (answer : Result FlatLines FlatFault) (s below : List Level) (l : Level) (latches : List LatchLine) (gates : List GateLine) (room : ℕ) → s ≡ below ++ (l ∷ []) → Walking depth models top m s latches gates room answer → Walking depth models top m (below ++ (l ∷ [])) latches gates room answer
+popped depth models top m answer s below l latches gates room e w = subst (λ (ls : List Level). Walking depth models top m ls latches gates room answer) e w
+
+-- no more lines come than there is room for
+after_gate : (g : GateLine) (room : ℕ) (r : Result FlatLines FlatFault) (lines : FlatLines) → then_gate g r ≡ Ok lines → ((more : FlatLines) → r ≡ Ok more → length more.latches + length more.gates ≤ room) → length lines.latches + length lines.gates ≤ suc room
+after_gate g room (Ok more) lines e h =
+    let a : lines.latches ≡ more.latches = cc in
+    let b : lines.gates ≡ g ∷ more.gates = cc in
+    omega (arith, h more refl, ap length a, ap length b)
+after_gate g room (Err fault) lines e h = absurd (cc)
+
+after_latch : (l : LatchLine) (room : ℕ) (r : Result FlatLines FlatFault) (lines : FlatLines) → then_latch l r ≡ Ok lines → ((more : FlatLines) → r ≡ Ok more → length more.latches + length more.gates ≤ room) → length lines.latches + length lines.gates ≤ suc room
+after_latch l room (Ok more) lines e h =
+    let a : lines.latches ≡ l ∷ more.latches = cc in
+    let b : lines.gates ≡ more.gates = cc in
+    omega (arith, h more refl, ap length a, ap length b)
+after_latch l room (Err fault) lines e h = absurd (cc)
+
+pub few_lines : (room : ℕ) (es : List Event) (lines : FlatLines) → decided room es ≡ Ok lines → length lines.latches + length lines.gates ≤ room
+few_lines zero [] lines e =
+    let a : lines.latches ≡ [] = cc in
+    let b : lines.gates ≡ [] = cc in
+    omega (arith, ap length a, ap length b)
+few_lines (suc room) [] lines e =
+    let a : lines.latches ≡ [] = cc in
+    let b : lines.gates ≡ [] = cc in
+    omega (arith, ap length a, ap length b)
+few_lines zero (fails fault ∷ es) lines e = absurd (cc)
+few_lines (suc room) (fails fault ∷ es) lines e = absurd (cc)
+few_lines zero (gate g ∷ es) lines e = absurd (cc)
+few_lines (suc room) (gate g ∷ es) lines e = after_gate g room (decided room es) lines e (λ more h. few_lines room es more h)
+few_lines zero (latch l ∷ es) lines e = absurd (cc)
+few_lines (suc room) (latch l ∷ es) lines e = after_latch l room (decided room es) lines e (λ more h. few_lines room es more h)
+few_lines zero (opens ∷ es) lines e = absurd (cc)
+few_lines (suc room) (opens ∷ es) lines e = let h = few_lines room es lines e in omega arith

@@ -1,0 +1,335 @@
+-- The parts of a flat netlist meet all conditions of a netlist.
+use Rattle.std.proofs.Common.{◌≡◌, ◌≢◌, inl, inr, ⊎_elim, ◌⊎◌, append_assoc, codes, nat_eq, ℕ, zero, suc, ◌+◌, ◌<◌, ◌≤◌, Bool, true, false, not, ◌||◌, ◌&&◌, List, [], ◌∷◌, ◌++◌, length, length-append, map, refl, sym, ap, ◌∙◌, subst, arith, All, Some, None, Ok, Err, is_some, cond, IfSome, option_map}
+use Rattle.std.proofs.lemmas.Grind.{common_steps}
+use Rattle.std.proofs.lemmas.List.{length-map}
+use Rattle.std.proofs.lemmas.List.Elements.{All-nil, All-cons, All-head, All-tail, All-append}
+use Rattle.std.proofs.lemmas.List.Folds.{list_any-append}
+use Rattle.std.proofs.lemmas.Map.Keys.{IsDistinct-cons, IsDistinct-head, IsDistinct-tail}
+use Rattle.std.specs.List.{list_any, find, flat_map, position_or_len, IsDistinct, AllByRecursion}
+use Rattle.std.specs.Option.{option_or, option_and_then, option_map_or}
+use Rattle.std.specs.Str.{bytes_eq}
+use Rattle.std.specs.declared.option.Option.{Option}
+use Rattle.std.specs.declared.result.Result.{Result}
+use Rattle.cyc_base.specs.Names.{IsBlifName}
+use Rattle.cyc_base.specs.declared.sig.Sig.{Sig}
+use Rattle.netlist.specs.declared.parts.Clock.{Clock}
+use Rattle.netlist.specs.declared.parts.Gate.{Gate as FlatGate}
+use Rattle.netlist.specs.declared.parts.Latch.{Latch as FlatLatch}
+use Rattle.netlist.specs.declared.parts.Parts.{Parts}
+use Rattle.netlist.specs.Netlists.{count, signal_names, IsSignal, IsClockName, IsNetlist, sig_eq}
+use Rattle.blif_read.specs.Flattening.{IsSoundModel}
+use Rattle.blif_read.specs.declared.models.BlifModel.{BlifModel}
+use Rattle.blif_read.specs.declared.models.GateLine.{GateLine}
+use Rattle.blif_read.specs.declared.models.LatchLine.{LatchLine}
+use Rattle.flatten.specs.declared.fault.FlatFault.{FlatFault}
+use Rattle.flatten.specs.Instances.{is_among}
+use Rattle.flatten.specs.Walk.{FlatLines}
+use Rattle.flatten.specs.Printable.{IsPrintedGate, IsPrintedLatch, ArePrintedLines}
+use Rattle.flatten.specs.Linking.{own_clocks, latch_outputs, gate_outputs, drivers, reads, first_twice, twice_after, signal_list, sig_of, has_control, first_control, is_clock_of, is_fitting, has_bad_control, declared_twice, driven_twice, undriven, bad_clock, clock_read, link_fault, latch_with, gate_with, netlist_by, linked}
+use Rattle.flatten.proofs.Names.{bytes_same, bytes_refl}
+use Rattle.flatten.proofs.Libraries.{among_once, among_gathered}
+use Rattle.flatten.proofs.Gathering.{fresh_apart, twice-append, own_clocks_gathered}
+use Rattle.flatten.proofs.Placing.{place_some, step_yes, step_no, both_none, none_or, first_of, not_false}
+
+-- one list within another
+distinct_without : (xs ys zs : List (List ℕ)) → IsDistinct bytes_eq (xs ++ (ys ++ zs)) → IsDistinct bytes_eq (xs ++ zs)
+distinct_without [] ys zs d = behind ys d
+  where
+    behind : (bs : List (List ℕ)) → IsDistinct bytes_eq (bs ++ zs) → IsDistinct bytes_eq zs
+    behind [] e = e
+    behind (b ∷ bs) e = behind bs (IsDistinct-tail bytes_eq b (bs ++ zs) e)
+distinct_without (x ∷ xs) ys zs d =
+    IsDistinct-cons bytes_eq x (xs ++ zs) (shorter xs (IsDistinct-head bytes_eq x (xs ++ (ys ++ zs)) d)) (distinct_without xs ys zs (IsDistinct-tail bytes_eq x (xs ++ (ys ++ zs)) d))
+  where
+    past : (bs : List (List ℕ)) → AllByRecursion (λ y. bytes_eq x y ≡ false) (bs ++ zs) → AllByRecursion (λ y. bytes_eq x y ≡ false) zs
+    past [] a = a
+    past (b ∷ bs) a = past bs a.1
+
+    shorter : (bs : List (List ℕ)) → AllByRecursion (λ y. bytes_eq x y ≡ false) (bs ++ (ys ++ zs)) → AllByRecursion (λ y. bytes_eq x y ≡ false) (bs ++ zs)
+    shorter [] a = past ys a
+    shorter (b ∷ bs) a = (a.0, shorter bs a.1)
+
+-- the place of a name tells the name
+same_place : (names : List (List ℕ)) (a b : List ℕ) → is_among names a ≡ true → position_or_len (bytes_eq a) names ≡ position_or_len (bytes_eq b) names → a ≡ b
+same_place [] a b h e = absurd (cc)
+same_place (x ∷ names) a b h e = by (bytes_eq a x) (bytes_eq b x) refl refl (λ k f. same_place names a b k f)
+  where
+    by : (p q : Bool) → bytes_eq a x ≡ p → bytes_eq b x ≡ q → (is_among names a ≡ true → position_or_len (bytes_eq a) names ≡ position_or_len (bytes_eq b) names → a ≡ b) → a ≡ b
+    by true true f g rest = bytes_same a x f ∙ sym (bytes_same b x g)
+    by true false f g rest =
+        let i = step_yes (bytes_eq a) x names f in
+        let j = step_no (bytes_eq b) x names g in
+        absurd (omega (arith, e, i, j))
+    by false true f g rest =
+        let i = step_no (bytes_eq a) x names f in
+        let j = step_yes (bytes_eq b) x names g in
+        absurd (omega (arith, e, i, j))
+    by false false f g rest =
+        let i = step_no (bytes_eq a) x names f in
+        let j = step_no (bytes_eq b) x names g in
+        rest (sym (ap (λ t. t || is_among names a) f) ∙ h) (omega (arith, e, i, j))
+
+among_all : (P : List ℕ → Type 0) (names : List (List ℕ)) (n : List ℕ) → All P names → is_among names n ≡ true → P n
+among_all P [] n h a = absurd (cc)
+among_all P (x ∷ names) n h a = by (bytes_eq n x) refl (λ k. among_all P names n (All-tail P x names h) k)
+  where
+    by : (b : Bool) → bytes_eq n x ≡ b → (is_among names n ≡ true → P n) → P n
+    by true e rest = subst P (sym (bytes_same n x e)) (All-head P x names h)
+    by false e rest = rest (sym (ap (λ t. t || is_among names n) e) ∙ a)
+
+apart_among : (old names : List (List ℕ)) (n : List ℕ) → AllByRecursion (λ y. is_among old y ≡ false) names → is_among old n ≡ true → is_among names n ≡ false
+apart_among old [] n h a = refl
+apart_among old (x ∷ names) n h a = by (bytes_eq n x) refl (apart_among old names n h.1 a)
+  where
+    by : (b : Bool) → bytes_eq n x ≡ b → is_among names n ≡ false → is_among (x ∷ names) n ≡ false
+    by true e rest = absurd (let k : true ≡ false = sym a ∙ ap (λ y. is_among old y) (bytes_same n x e) ∙ h.0 in cc)
+    by false e rest = ap (λ t. t || is_among names n) e ∙ rest
+
+and_left : (a b : Bool) → (a && b) ≡ true → a ≡ true
+and_left true b e = refl
+and_left false b e = absurd (cc)
+
+and_right : (a b : Bool) → (a && b) ≡ true → b ≡ true
+and_right true b e = e
+and_right false b e = absurd (cc)
+
+or_of : (a b : Bool) → (a || b) ≡ true → (a ≡ true) ⊎ (b ≡ true)
+or_of true b e = inl refl
+or_of false b e = inr e
+
+eq_false : (a b : ℕ) → (a ≡ b → ⊥) → nat_eq a b ≡ false
+eq_false a b h = grind (arith, common_steps)
+
+-- controls
+first_fits : (top : BlifModel) (latches : List LatchLine) (f : Clock) → first_control latches ≡ Some f → find (has_bad_control top (Some f)) latches ≡ None → is_clock_of top f.name ≡ true
+first_fits top [] f e h = absurd (cc)
+first_fits top (l ∷ latches) f e h = by l.control refl (λ k m. first_fits top latches f k m)
+  where
+    by : (o : Option Clock) → l.control ≡ o → (first_control latches ≡ Some f → find (has_bad_control top (Some f)) latches ≡ None → is_clock_of top f.name ≡ true) → is_clock_of top f.name ≡ true
+    by (Some c) o rest =
+        let a : first_control (l ∷ latches) ≡ Some c = ap (λ t. option_and_then (λ (x : LatchLine). x.control) (cond t (Some l) (find has_control latches))) (ap is_some o) ∙ o in
+        let b : c ≡ f = (let k : Some c ≡ Some f = sym a ∙ e in cc) in
+        let d = (first_of (has_bad_control top (Some f)) l latches h).0 in
+        let g : not (is_fitting top f c) ≡ false = sym (ap (λ (x : Option Clock). option_map_or (λ control. option_map_or (λ (y : Clock). not (is_fitting top y control)) (Some f) false) x false) o) ∙ d in
+        ap (λ (x : Clock). is_clock_of top x.name) (sym b) ∙ and_left _ _ (and_left _ _ (not_false (is_fitting top f c) g))
+    by None o rest =
+        let a : first_control (l ∷ latches) ≡ first_control latches = ap (λ t. option_and_then (λ (x : LatchLine). x.control) (cond t (Some l) (find has_control latches))) (ap is_some o) in
+        rest (sym a ∙ e) (first_of (has_bad_control top (Some f)) l latches h).1
+
+clocked_is : (sig : List ℕ → Sig) (latches : List LatchLine) → list_any (λ latch. latch.clocked) (map (latch_with sig) latches) ≡ is_some (first_control latches)
+clocked_is sig [] = refl
+clocked_is sig (l ∷ latches) = by l.control refl (clocked_is sig latches)
+  where
+    by : (o : Option Clock) → l.control ≡ o → list_any (λ latch. latch.clocked) (map (latch_with sig) latches) ≡ is_some (first_control latches) → list_any (λ latch. latch.clocked) (map (latch_with sig) (l ∷ latches)) ≡ is_some (first_control (l ∷ latches))
+    by (Some c) o rest =
+        ap (λ t. t || list_any (λ (x : FlatLatch). x.clocked) (map (latch_with sig) latches)) (ap is_some o)
+        ∙ sym (ap is_some (ap (λ t. option_and_then (λ (x : LatchLine). x.control) (cond t (Some l) (find has_control latches))) (ap is_some o) ∙ o))
+    by None o rest =
+        ap (λ t. t || list_any (λ (x : FlatLatch). x.clocked) (map (latch_with sig) latches)) (ap is_some o)
+        ∙ rest
+        ∙ sym (ap is_some (ap (λ t. option_and_then (λ (x : LatchLine). x.control) (cond t (Some l) (find has_control latches))) (ap is_some o)))
+
+module _ (sig : List ℕ → Sig) where
+  latch_names : (latches : List LatchLine) → map (λ latch. latch.name) (map (latch_with sig) latches) ≡ map (λ l. l.output) latches
+  latch_names [] = refl
+  latch_names (l ∷ latches) = ap (λ ns. l.output ∷ ns) (latch_names latches)
+
+  gate_names : (gates : List GateLine) → map (λ gate. gate.name) (map (gate_with sig) gates) ≡ map (λ g. g.output) gates
+  gate_names [] = refl
+  gate_names (g ∷ gates) = ap (λ ns. g.output ∷ ns) (gate_names gates)
+
+module _ (sig : List ℕ → Sig) (n : List ℕ) where
+  latch_any : (latches : List LatchLine) → list_any (λ latch. bytes_eq n latch.name) (map (latch_with sig) latches) ≡ is_among (map (λ l. l.output) latches) n
+  latch_any [] = refl
+  latch_any (l ∷ latches) = ap (λ b. bytes_eq n l.output || b) (latch_any latches)
+
+  gate_any : (gates : List GateLine) → list_any (λ gate. bytes_eq n gate.name) (map (gate_with sig) gates) ≡ is_among (map (λ g. g.output) gates) n
+  gate_any [] = refl
+  gate_any (g ∷ gates) = ap (λ b. bytes_eq n g.output || b) (gate_any gates)
+
+none_differ : IsDistinct sig_eq []
+unfolding IsDistinct
+none_differ = tt
+
+-- the netlist of sound lines without a fault
+module _ (top : BlifModel) (lines : FlatLines) (sound : IsSoundModel top) (printed : ArePrintedLines lines)
+    (few : length lines.latches + length lines.gates ≤ 4000000) (none : link_fault top lines ≡ None) where
+  S : List (List ℕ)
+  S = signal_list top lines
+
+  net : Parts
+  net = netlist_by (sig_of (signal_list top lines)) top lines
+
+  abbrev missing : List ℕ → Bool
+  missing name = not (is_among (drivers top lines) name)
+
+  drivers_ok : (declared_twice top ≡ None) × (driven_twice top lines ≡ None)
+  drivers_ok = none_or (declared_twice top) (driven_twice top lines) (none_or (option_or (declared_twice top) (driven_twice top lines)) _ none).0
+
+  others_ok : (option_or (undriven top lines) (bad_clock top lines) ≡ None) × (clock_read top lines ≡ None)
+  others_ok =
+      none_or (option_or (undriven top lines) (bad_clock top lines)) (clock_read top lines) (none_or (option_or (declared_twice top) (driven_twice top lines)) _ none).1
+
+  lines_ok : (undriven top lines ≡ None) × (bad_clock top lines ≡ None)
+  lines_ok = none_or (undriven top lines) (bad_clock top lines) others_ok.0
+
+  unmapped : {X : Type 0} (f : X → FlatFault) (o : Option X) → option_map f o ≡ None → o ≡ None
+  unmapped f None h = refl
+  unmapped f (Some x) h = absurd (cc)
+
+  all_driven : find missing (reads top lines) ≡ None
+  all_driven = unmapped _ (find missing (reads top lines)) lines_ok.0
+
+  none_clock : find (is_among (own_clocks top)) (reads top lines) ≡ None
+  none_clock = unmapped _ (find (is_among (own_clocks top)) (reads top lines)) others_ok.1
+
+  drivers_once : first_twice (drivers top lines) ≡ None
+  drivers_once = unmapped _ (first_twice (drivers top lines)) drivers_ok.1
+
+  names_are : signal_names net ≡ S
+  unfolding S net
+  names_are =
+      ap (λ ns. top.inputs ++ (ns ++ map (λ (g : FlatGate). g.name) (map (gate_with (sig_of (signal_list top lines))) lines.gates))) (latch_names (sig_of (signal_list top lines)) lines.latches)
+      ∙ ap (λ ns. top.inputs ++ (latch_outputs lines ++ ns)) (gate_names (sig_of (signal_list top lines)) lines.gates)
+
+  count_is : count net ≡ length S
+  unfolding S net
+  count_is =
+      let a = length-map lines.latches (latch_with (sig_of (signal_list top lines))) in
+      let b = length-map lines.gates (gate_with (sig_of (signal_list top lines))) in
+      let c = length-map lines.latches (λ (l : LatchLine). l.output) in
+      let d = length-map lines.gates (λ (g : GateLine). g.output) in
+      omega (arith, length-append top.inputs (latch_outputs lines ++ gate_outputs lines), length-append (latch_outputs lines) (gate_outputs lines))
+
+  among_signals : (n : List ℕ) → missing n ≡ false → is_among (own_clocks top) n ≡ false → is_among S n ≡ true
+  unfolding S
+  among_signals n d c =
+      let e = not_false (is_among (drivers top lines) n) d in
+      list_any-append (bytes_eq n) top.inputs (latch_outputs lines ++ gate_outputs lines)
+      ∙ sym (ap (λ b. is_among top.inputs n || (b || is_among (latch_outputs lines ++ gate_outputs lines) n)) c)
+      ∙ sym (list_any-append (bytes_eq n) top.inputs (own_clocks top ++ (latch_outputs lines ++ gate_outputs lines)) ∙ ap (λ b. is_among top.inputs n || b) (list_any-append (bytes_eq n) (own_clocks top) (latch_outputs lines ++ gate_outputs lines)))
+      ∙ e
+
+  sig_fits : (n : List ℕ) → missing n ≡ false → is_among (own_clocks top) n ≡ false → IsSignal net (sig_of S n)
+  sig_fits n d c = omega (arith, place_some (bytes_eq n) S (among_signals n d c), count_is)
+
+  sigs_fit : (names : List (List ℕ)) → find missing names ≡ None → find (is_among (own_clocks top)) names ≡ None → All (IsSignal net) (map (sig_of S) names)
+  sigs_fit [] h r = All-nil (IsSignal net)
+  sigs_fit (x ∷ names) h r =
+      let f = first_of missing x names h in
+      let g = first_of (is_among (own_clocks top)) x names r in
+      All-cons (IsSignal net) (sig_of S x) (map (sig_of S) names) (sig_fits x f.0 g.0) (sigs_fit names f.1 g.1)
+
+  sources_fit : (latches : List LatchLine) → find missing (map (λ l. l.from) latches) ≡ None → find (is_among (own_clocks top)) (map (λ l. l.from) latches) ≡ None → All (λ latch. IsSignal net latch.from) (map (latch_with (sig_of S)) latches)
+  sources_fit [] h r = All-nil (λ latch. IsSignal net latch.from)
+  sources_fit (l ∷ latches) h r =
+      let f = first_of missing l.from (map (λ (x : LatchLine). x.from) latches) h in
+      let g = first_of (is_among (own_clocks top)) l.from (map (λ (x : LatchLine). x.from) latches) r in
+      All-cons (λ latch. IsSignal net latch.from) (latch_with (sig_of S) l) (map (latch_with (sig_of S)) latches) (sig_fits l.from f.0 g.0) (sources_fit latches f.1 g.1)
+
+  pins_fit : (gates : List GateLine) → find missing (flat_map (λ g. g.pins) gates) ≡ None → find (is_among (own_clocks top)) (flat_map (λ g. g.pins) gates) ≡ None → All (λ gate. All (IsSignal net) gate.pins) (map (gate_with (sig_of S)) gates)
+  pins_fit [] h r = All-nil (λ gate. All (IsSignal net) gate.pins)
+  pins_fit (x ∷ gates) h r =
+      let f = both_none missing x.pins (flat_map (λ (g : GateLine). g.pins) gates) h in
+      let g = both_none (is_among (own_clocks top)) x.pins (flat_map (λ (y : GateLine). y.pins) gates) r in
+      All-cons (λ gate. All (IsSignal net) gate.pins) (gate_with (sig_of S) x) (map (gate_with (sig_of S)) gates) (sigs_fit x.pins f.0 g.0) (pins_fit gates f.1 g.1)
+
+  widths_fit : (gates : List GateLine) → All IsPrintedGate gates → All (λ gate. length gate.pins ≡ gate.cover.pins) (map (gate_with (sig_of S)) gates)
+  widths_fit [] h = All-nil (λ gate. length gate.pins ≡ gate.cover.pins)
+  widths_fit (x ∷ gates) h =
+      All-cons (λ gate. length gate.pins ≡ gate.cover.pins) (gate_with (sig_of S) x) (map (gate_with (sig_of S)) gates) (length-map x.pins (sig_of S) ∙ (All-head IsPrintedGate x gates h).width) (widths_fit gates (All-tail IsPrintedGate x gates h))
+
+  latch_names_fit : (latches : List LatchLine) → All IsPrintedLatch latches → All IsBlifName (map (λ l. l.output) latches)
+  latch_names_fit [] h = All-nil IsBlifName
+  latch_names_fit (l ∷ latches) h = All-cons IsBlifName l.output (map (λ (x : LatchLine). x.output) latches) (All-head IsPrintedLatch l latches h) (latch_names_fit latches (All-tail IsPrintedLatch l latches h))
+
+  gate_names_fit : (gates : List GateLine) → All IsPrintedGate gates → All IsBlifName (map (λ g. g.output) gates)
+  gate_names_fit [] h = All-nil IsBlifName
+  gate_names_fit (x ∷ gates) h = All-cons IsBlifName x.output (map (λ (g : GateLine). g.output) gates) (All-head IsPrintedGate x gates h).output (gate_names_fit gates (All-tail IsPrintedGate x gates h))
+
+  names_fit : All IsBlifName S
+  unfolding S
+  names_fit =
+      All-append IsBlifName top.inputs (latch_outputs lines ++ gate_outputs lines) sound.inputs (All-append IsBlifName (latch_outputs lines) (gate_outputs lines) (latch_names_fit lines.latches printed.latches) (gate_names_fit lines.gates printed.gates))
+
+  names_once : IsDistinct bytes_eq S
+  unfolding S
+  names_once = distinct_without top.inputs (own_clocks top) (latch_outputs lines ++ gate_outputs lines) (fresh_apart [] (drivers top lines) drivers_once).1
+
+  outputs_apart : (names : List (List ℕ)) → IsDistinct bytes_eq names → find missing names ≡ None → find (is_among (own_clocks top)) names ≡ None → IsDistinct sig_eq (map (sig_of S) names)
+  outputs_apart [] d h r = none_differ
+  outputs_apart (x ∷ names) d h r =
+      let f = first_of missing x names h in
+      let g = first_of (is_among (own_clocks top)) x names r in
+      IsDistinct-cons sig_eq (sig_of S x) (map (sig_of S) names) (apart names (IsDistinct-head bytes_eq x names d)) (outputs_apart names (IsDistinct-tail bytes_eq x names d) f.1 g.1)
+    where
+      here : is_among S x ≡ true
+      here = among_signals x (first_of missing x names h).0 (first_of (is_among (own_clocks top)) x names r).0
+
+      apart : (ys : List (List ℕ)) → AllByRecursion (λ y. bytes_eq x y ≡ false) ys → AllByRecursion (λ y. sig_eq (sig_of S x) y ≡ false) (map (sig_of S) ys)
+      apart [] a = tt
+      apart (y ∷ ys) a =
+          (eq_false (position_or_len (bytes_eq x) S) (position_or_len (bytes_eq y) S) (λ e. let k : true ≡ false = sym (bytes_refl x) ∙ ap (λ z. bytes_eq x z) (same_place S x y here e) ∙ a.0 in cc), apart ys a.1)
+
+  outputs_once : first_twice top.outputs ≡ None
+  outputs_once = (none_or (first_twice top.inputs) (first_twice top.outputs) (unmapped _ (option_or (first_twice top.inputs) (first_twice top.outputs)) drivers_ok.0)).1
+
+  base_is : (n : List ℕ) → is_among (top.inputs ++ own_clocks top) n ≡ (is_among top.inputs n || is_among top.clocks n)
+  base_is n = ap (λ ks. is_among ks n) (sym (own_clocks_gathered top)) ∙ among_gathered top.inputs top.clocks n
+
+  driven_apart : AllByRecursion (λ y. is_among (top.inputs ++ own_clocks top) y ≡ false) (latch_outputs lines ++ gate_outputs lines)
+  driven_apart =
+      (fresh_apart (top.inputs ++ own_clocks top) (latch_outputs lines ++ gate_outputs lines)
+      (none_or (first_twice (top.inputs ++ own_clocks top)) (twice_after (top.inputs ++ own_clocks top) (latch_outputs lines ++ gate_outputs lines))
+      (sym (ap first_twice (sym (append_assoc top.inputs (own_clocks top) (latch_outputs lines ++ gate_outputs lines))) ∙ twice-append [] (top.inputs ++ own_clocks top) (latch_outputs lines ++ gate_outputs lines)) ∙ drivers_once)).1).0
+
+  clock_name : (n : List ℕ) → is_clock_of top n ≡ true → IsClockName net n
+  unfolding net
+  clock_name n h =
+      let a = and_left (not (bytes_eq n (codes "NIL"))) (is_among top.inputs n || is_among top.clocks n) h in
+      let b = and_right (not (bytes_eq n (codes "NIL"))) (is_among top.inputs n || is_among top.clocks n) h in
+      record {
+        blif = ⊎_elim (λ i. among_all IsBlifName top.inputs n sound.inputs i) (λ i. among_all IsBlifName top.clocks n sound.clocks i) (or_of (is_among top.inputs n) (is_among top.clocks n) b);
+        named = λ e. let k : false ≡ true = sym (ap not (ap (λ x. bytes_eq n x) (sym e) ∙ bytes_refl n)) ∙ a in absurd (cc);
+        undriven =
+            ap (λ x. x || list_any (λ (g : FlatGate). bytes_eq n g.name) (map (gate_with (sig_of (signal_list top lines))) lines.gates)) (latch_any (sig_of (signal_list top lines)) n lines.latches)
+            ∙ ap (λ x. is_among (latch_outputs lines) n || x) (gate_any (sig_of (signal_list top lines)) n lines.gates)
+            ∙ sym (list_any-append (bytes_eq n) (latch_outputs lines) (gate_outputs lines))
+            ∙ apart_among (top.inputs ++ own_clocks top) (latch_outputs lines ++ gate_outputs lines) n driven_apart (base_is n ∙ b);
+      }
+
+  clock_fits : (o : Option Clock) → first_control lines.latches ≡ o → IfSome o (λ clock. IsClockName net clock.name)
+  clock_fits None e = tt
+  clock_fits (Some f) e =
+      clock_name f.name (first_fits top lines.latches f e (ap (λ o. find (has_bad_control top o) lines.latches) (sym e) ∙ unmapped _ (find (has_bad_control top (first_control lines.latches)) lines.latches) lines_ok.1))
+
+  pub is_netlist : IsNetlist (netlist_by (sig_of (signal_list top lines)) top lines)
+  unfolding S net
+  is_netlist =
+      let r = both_none missing top.outputs (map (λ (l : LatchLine). l.from) lines.latches ++ flat_map (λ (g : GateLine). g.pins) lines.gates) all_driven in
+      let c = both_none (is_among (own_clocks top)) top.outputs (map (λ (l : LatchLine). l.from) lines.latches ++ flat_map (λ (g : GateLine). g.pins) lines.gates) none_clock in
+      let r' = both_none missing (map (λ (l : LatchLine). l.from) lines.latches) (flat_map (λ (g : GateLine). g.pins) lines.gates) r.1 in
+      let c' = both_none (is_among (own_clocks top)) (map (λ (l : LatchLine). l.from) lines.latches) (flat_map (λ (g : GateLine). g.pins) lines.gates) c.1 in
+      record {
+        fits = omega (arith, count_is, sound.few_inputs, few, length-append top.inputs (latch_outputs lines ++ gate_outputs lines), length-append (latch_outputs lines) (gate_outputs lines), length-map lines.latches (λ (l : LatchLine). l.output), length-map lines.gates (λ (g : GateLine). g.output));
+        pins = pins_fit lines.gates r'.1 c'.1;
+        sources = sources_fit lines.latches r'.0 c'.0;
+        outputs = sigs_fit top.outputs r.0 c.0;
+        pin_counts = widths_fit lines.gates printed.gates;
+        name = sound.name;
+        names = subst (λ (ns : List (List ℕ)). All IsBlifName ns) (sym names_are) names_fit;
+        names_differ = subst (λ (ns : List (List ℕ)). IsDistinct bytes_eq ns) (sym names_are) names_once;
+        outputs_differ = outputs_apart top.outputs (fresh_apart [] top.outputs outputs_once).1 r.0 c.0;
+        clocked = clocked_is (sig_of (signal_list top lines)) lines.latches;
+        clock = clock_fits (first_control lines.latches) refl;
+      }
+
+-- what links without a fault is a netlist
+pub linked_valid : (top : BlifModel) (lines : FlatLines) (parts : Parts) → IsSoundModel top → ArePrintedLines lines → length lines.latches + length lines.gates ≤ 4000000 → linked top lines ≡ Ok parts → IsNetlist parts
+linked_valid top lines parts sound printed few e = by (link_fault top lines) refl e
+  where
+    by : (o : Option FlatFault) → link_fault top lines ≡ o → ◌≡◌ {A = Result Parts FlatFault} (elim o [ Some f ↦ Err f | None ↦ Ok (netlist_by (sig_of (signal_list top lines)) top lines) ]) (Ok parts) → IsNetlist parts
+    by (Some f) h k = absurd (cc)
+    by None h k =
+        let p : netlist_by (sig_of (signal_list top lines)) top lines ≡ parts = cc in
+        subst (λ (x : Parts). IsNetlist x) p (is_netlist top lines sound printed few h)

@@ -1,0 +1,9 @@
+use Rattle.std.proofs.Common.{◌≡◌, drop}
+use Rattle.std.specs.List.{list_any}
+use Rattle.std.specs.Str.{bytes_eq}
+use Rattle.flatten.specs.Instances.{model_at}
+use Rattle.flatten.proofs.bind.is_open.Given as goal
+
+abbrev pub invariant-loop-level : goal.invariant-loop-level
+invariant-loop-level l =
+    list_any (λ x. bytes_eq (model_at l.models x.model).name l.name) (drop l.level-index l.levels) ≡ list_any (λ x. bytes_eq (model_at l.models x.model).name l.name) l.levels

@@ -1,0 +1,17 @@
+use Rattle.std.proofs.Common.{◌<◌, ◌+◌, length, take, ◌∙◌, arith}
+use Rattle.std.specs.List.{flat_map}
+use Rattle.flatten.specs.Wires.{item_names}
+use Rattle.flatten.proofs.Marks.{max_is, longest_items, longest_model}
+use Rattle.flatten.proofs.mark.longest_in_model.Goals as goal
+
+pub loop-item-preserved : goal.loop-item-preserved
+loop-item-preserved c =
+    let model = c.args.model.now in
+    let body = c.items-item-items.result.now in
+    let i = c.loop-item.item-index in
+    let l : i < length body = omega arith in
+    let h = longest_items body i c.item-item.result l c.item-item.is in
+    let a = longest_model model.inputs model.outputs model.clocks (flat_map item_names (take i body)) in
+    let b = longest_model model.inputs model.outputs model.clocks (flat_map item_names (take (i + 1) body)) in
+    let m = max_is c.loop-item.longest c.longest_in_item.result in
+    omega (arith, c.max-longest-in-loop-item.ensures, c.longest_in_item.ensures, c.loop-item.invariant)

@@ -1,0 +1,6 @@
+use Rattle.std.proofs.Common.{◌≡◌, take}
+use Rattle.flatten.specs.Wires.{longest_run_of, wire_names}
+use Rattle.flatten.proofs.mark.mark.Given as goal
+
+abbrev pub invariant-loop-model : goal.invariant-loop-model
+invariant-loop-model l = l.longest ≡ longest_run_of (wire_names (take l.model-index l.models))

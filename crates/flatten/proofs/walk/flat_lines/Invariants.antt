@@ -1,0 +1,15 @@
+use Rattle.std.proofs.Common.{◌+◌, ◌*◌, length}
+use Rattle.flatten.specs.Instances.{model_at}
+use Rattle.flatten.specs.Walk.{flat_lines}
+use Rattle.flatten.specs.Levels.{WalkingAt}
+use Rattle.flatten.specs.Printable.{IsPrinted}
+use Rattle.flatten.proofs.walk.flat_lines.Given as goal
+
+abbrev pub invariant-loop-level : goal.invariant-loop-level
+invariant-loop-level l = record {
+  walks : WalkingAt l.depth l.models (model_at l.models l.top).name l.mark (flat_lines l.depth l.limit l.models l.top) l.walk;
+  printed : IsPrinted l.walk;
+}
+
+abbrev pub decreases-loop-level : goal.decreases-loop-level
+decreases-loop-level l = l.walk.room * 2 + length l.walk.levels.items

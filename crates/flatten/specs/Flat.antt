@@ -1,0 +1,34 @@
+-- The flat netlist of a top in a file of models.
+use Rattle.std.specs.Prelude.{ℕ, List, Some, None, Ok, Err}
+use Rattle.std.specs.declared.option.Option.{Option}
+use Rattle.std.specs.declared.result.Result.{Result}
+use Rattle.netlist.specs.declared.parts.Parts.{Parts}
+use Rattle.blif_read.specs.declared.models.BlifModel.{BlifModel}
+use Rattle.flatten.specs.declared.fault.FlatFault.{FlatFault}
+use Rattle.flatten.specs.declared.fault.FlatFault.TheVariants.{UnknownModel}
+use Rattle.flatten.specs.Instances.{find_model, model_at}
+use Rattle.flatten.specs.Walk.{FlatLines, flat_lines}
+use Rattle.flatten.specs.Linking.{linked}
+
+abbrev pub linked_lines : BlifModel → Result FlatLines FlatFault → Result Parts FlatFault
+linked_lines top (Ok lines) = linked top lines
+linked_lines top (Err fault) = Err fault
+
+abbrev pub flat_from : ℕ → ℕ → List BlifModel → List ℕ → Option ℕ → Result Parts FlatFault
+flat_from depth limit models top None = Err (UnknownModel top)
+flat_from depth limit models top (Some i) = linked_lines (model_at models i) (flat_lines depth limit models i)
+
+-- the flat netlist or its first fault, where at most `depth` instances lie in one another, and at most `limit`
+-- gates, latches and instances come
+abbrev pub flat_within : ℕ → ℕ → List BlifModel → List ℕ → Result Parts FlatFault
+flat_within depth limit models top = flat_from depth limit models top (find_model models top)
+
+abbrev pub max_depth : ℕ
+max_depth = 200
+
+abbrev pub max_items : ℕ
+max_items = 4000000
+
+-- the flat netlist or its first fault
+abbrev pub flat : List BlifModel → List ℕ → Result Parts FlatFault
+flat models top = flat_within max_depth max_items models top

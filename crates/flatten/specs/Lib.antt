@@ -1,0 +1,10 @@
+pub mod Wires
+pub mod Paths
+pub mod Instances
+pub mod Walk
+pub mod Linking
+pub mod Drivers
+pub mod Flat
+pub mod Laws
+pub mod Levels
+pub mod Printable

@@ -1,0 +1,69 @@
+ghost use Rattle.std.specs.Prelude.{◌≡◌, ◌≤◌, ◌⊎◌, Ok, Err, IfOk, IfErr};
+ghost use Rattle.blif_read.specs.Flattening.{CanBeFlattened};
+ghost use Rattle.flatten.specs.Flat.{flat, flat_within};
+
+use crate::fault::FlatFault;
+use crate::library::{find, library_of};
+use crate::link::link;
+use crate::mark::mark;
+use crate::walk::flat_lines;
+use blif_read::{BlifModel, Models};
+use cyc_base::{MAX_DEPTH, MAX_FLAT_ITEMS, Name};
+use netlist::{Netlist, PartsFault};
+use std::alloc::Global;
+
+/// Parts of a netlist are refused for want of memory alone.
+fn want_of_memory(_fault: PartsFault) -> FlatFault
+    requires { _fault ≡ PartsFault.Memory }
+    ensures { result ≡ FlatFault.Memory }
+{
+    FlatFault::Memory
+}
+
+/// The flat netlist, where at most `depth` instances may lie in one another, and at most `limit` gates,
+/// latches and instances may come.
+fn flatten_within(
+    alloc: Global,
+    models: &[BlifModel],
+    top: &Name,
+    depth: usize,
+    limit: u32,
+) -> Result<Netlist, FlatFault>
+    requires sound { CanBeFlattened models.now }
+    requires limit { limit ≤ 4000000 }
+    ensures netlist { IfOk result (λ net. flat_within depth limit models.now top.now ≡ Ok net) }
+    ensures fault { IfErr result
+        (λ fault. (fault ≡ FlatFault.Memory) ⊎ (flat_within depth limit models.now top.now ≡ Err fault)) }
+{
+    let library = library_of(alloc, models)?;
+    let Some(place) = find(models, &library, top) else {
+        return Err(FlatFault::UnknownModel { name: top.copy()? });
+    };
+    let mark = mark(alloc, models)?;
+    let lines = flat_lines(alloc, models, &library, &mark, place, depth, limit)?;
+    let parts = link(alloc, &models[place], &lines)?;
+    match Netlist::new(alloc, parts) {
+        Ok(net) => Ok(net),
+        Err(fault) => Err(want_of_memory(fault)),
+    }
+}
+
+/// The flat netlist of a model of the file, with all instances below it: its gates and latches in depth-first
+/// order of the text. A wire of an instance has the numbers of the instances on the way to it before its name.
+///
+/// The first fault is answered, in the order of `FlatFault`. It is linear in the size of the flat netlist, and
+/// keeps the instances that are open in a list.
+pub fn flatten(alloc: Global, models: &Models, top: &Name) -> Result<Netlist, FlatFault>
+    requires { CanBeFlattened models.now.list }
+    ensures netlist { IfOk result (λ net. flat models.now.list top.now ≡ Ok net) }
+    ensures fault { IfErr result
+        (λ fault. (fault ≡ FlatFault.Memory) ⊎ (flat models.now.list top.now ≡ Err fault)) }
+{
+    flatten_within(
+        alloc,
+        models.list.items(),
+        top,
+        MAX_DEPTH as usize,
+        MAX_FLAT_ITEMS,
+    )
+}

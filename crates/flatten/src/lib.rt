@@ -1,0 +1,20 @@
+//! Flattening: one netlist from a hierarchy of models.
+//!
+//! It stands on `blif_read` for the models and on `netlist` for the netlist. The layer above uses that
+//! `flatten` gives the flat netlist by definition (`specs/Flat.antt`), or its first fault.
+#![tactic(auto)]
+
+mod bind;
+mod fault;
+mod hierarchy;
+pub mod laws;
+mod library;
+mod link;
+mod mark;
+mod scope;
+#[cfg(test)]
+mod tests;
+mod walk;
+
+pub use fault::FlatFault;
+pub use hierarchy::flatten;

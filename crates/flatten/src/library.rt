@@ -1,0 +1,66 @@
+ghost use Rattle.std.specs.Prelude.{◌≡◌, map, fold, IfOk, OnOk, IfSome, length, ◌<◌};
+ghost use Rattle.std.specs.List.{IsDistinct};
+ghost use Rattle.std.specs.Str.{bytes_eq};
+ghost use Rattle.flatten.specs.Instances.{formals, find_model};
+ghost use Rattle.flatten.specs.Linking.{each_once};
+ghost use Rattle.flatten.specs.Levels.{IsLibraryOf};
+ghost use Rattle.indexmap.specs.IndexSet.{insert_key};
+
+use blif_read::BlifModel;
+use cyc_base::Name;
+use indexmap::IndexSet;
+use std::alloc::{AllocError, Global};
+
+/// Where the models of a file stand, and what their instances may bind.
+#[derive(Drop)]
+pub(crate) struct Library {
+    /// The models' names, in the order of the file.
+    pub(crate) places: IndexSet<Name>,
+    /// The formals of each model.
+    pub(crate) formals: Vec<IndexSet<Name>>,
+}
+
+/// Adds copies of the names that aren't there yet.
+#[tactic(auto, using(crate::proofs::Libraries::fold_taken))]
+pub(crate) fn add_all(set: &mut IndexSet<Name>, names: &[Name]) -> Result<(), AllocError>
+    ensures { OnOk result (set.new.keys ≡ fold (insert_key bytes_eq) set.old.keys names.now) }
+{
+    for name in names {
+        set.insert(name.copy()?)?;
+    }
+    Ok(())
+}
+
+fn formals_of(alloc: Global, model: &BlifModel) -> Result<IndexSet<Name>, AllocError>
+    ensures { IfOk result (λ set. set.keys ≡ each_once (formals model.now)) }
+{
+    let mut set = IndexSet::new(alloc);
+    add_all(&mut set, model.inputs.items())?;
+    add_all(&mut set, model.outputs.items())?;
+    add_all(&mut set, model.clocks.items())?;
+    Ok(set)
+}
+
+/// The tables of these models.
+#[tactic(auto, using(crate::proofs::Libraries::names_taken))]
+pub(crate) fn library_of(alloc: Global, models: &[BlifModel]) -> Result<Library, AllocError>
+    requires { IsDistinct bytes_eq (map (λ model. model.name) models.now) }
+    ensures { IfOk result (λ library. IsLibraryOf models.now library) }
+{
+    let mut places = IndexSet::new(alloc);
+    let mut formals = Vec::with_capacity(alloc, models.len())?;
+    for model in models {
+        places.insert(model.name.copy()?)?;
+        formals.push(formals_of(alloc, model)?)?;
+    }
+    Ok(Library { places, formals })
+}
+
+/// The place of the model of this name.
+pub(crate) fn find(models: &[BlifModel], library: &Library, name: &Name) -> Option<usize>
+    requires { IsLibraryOf models.now library.now }
+    ensures found { result ≡ find_model models.now name.now }
+    ensures within { IfSome result (λ i. i < length models.now) }
+{
+    library.places.get_index_of(name)
+}

@@ -1,0 +1,115 @@
+ghost use Rattle.std.specs.Prelude.{◌≡◌, ◌++◌, IfOk, map};
+ghost use Rattle.std.specs.Fmt.{decimal};
+ghost use Rattle.flatten.specs.Laws.{resolved};
+ghost use Rattle.flatten.specs.Levels.{gate_by, latch_by, clock_by};
+
+use blif_read::{GateLine, LatchLine};
+use cyc_base::{Items, Name};
+use indexmap::IndexMap;
+use netlist::Clock;
+use std::alloc::{AllocError, Global};
+
+/// How the names of a body are resolved on one path: a formal to the printed name that it is bound to, and
+/// any other name behind the prefix of the path.
+#[derive(Drop)]
+pub(crate) struct Scope {
+    pub(crate) prefix: Name,
+    pub(crate) table: IndexMap<Name, Name>,
+}
+
+fn joined(alloc: Global, first: &Name, second: &Name) -> Result<Name, AllocError>
+    ensures { IfOk result (λ name. name ≡ first.now ++ second.now) }
+{
+    let mut bytes = Vec::with_capacity(alloc, first.bytes().len())?;
+    bytes.extend_from_slice(first.bytes())?;
+    bytes.extend_from_slice(second.bytes())?;
+    Ok(Name::new(bytes))
+}
+
+/// The printed name.
+pub(crate) fn resolve(alloc: Global, scope: &Scope, name: &Name) -> Result<Name, AllocError>
+    ensures { IfOk result (λ printed. printed ≡ resolved scope.now.prefix scope.now.table.entries name.now) }
+{
+    match scope.table.get(name) {
+        Some(printed) => Ok(printed.copy()?),
+        None => Ok(joined(alloc, &scope.prefix, name)?),
+    }
+}
+
+fn resolve_all(alloc: Global, scope: &Scope, names: &[Name]) -> Result<Vec<Name>, AllocError>
+    ensures { IfOk result
+        (λ printed. printed.items ≡ map (resolved scope.now.prefix scope.now.table.entries) names.now) }
+{
+    let mut printed = Vec::with_capacity(alloc, names.len())?;
+    for name in names {
+        printed.push(resolve(alloc, scope, name)?)?;
+    }
+    Ok(printed)
+}
+
+/// The prefix of an instance, by the prefix of its parent and its number there.
+pub(crate) fn inner_prefix(
+    alloc: Global,
+    prefix: &Name,
+    number: usize,
+    mark: &Name,
+) -> Result<Name, AllocError>
+    ensures { IfOk result (λ inner. inner ≡ prefix.now ++ (decimal number ++ mark.now)) }
+{
+    let digits = format!(in alloc; "{number}")?;
+    let mut bytes = Vec::new(alloc);
+    bytes.extend_from_slice(prefix.bytes())?;
+    bytes.extend_from_slice(digits.as_bytes())?;
+    bytes.extend_from_slice(mark.bytes())?;
+    Ok(Name::new(bytes))
+}
+
+/// The gate with printed names.
+pub(crate) fn flat_gate(
+    alloc: Global,
+    scope: &Scope,
+    gate: &GateLine,
+) -> Result<GateLine, AllocError>
+    ensures { IfOk result (λ flat. flat ≡ gate_by scope.now.prefix scope.now.table.entries gate.now) }
+{
+    let pins = Items::of(resolve_all(alloc, scope, gate.pins.items())?);
+    let output = resolve(alloc, scope, &gate.output)?;
+    let cover = gate.cover.copy()?;
+    Ok(GateLine {
+        pins,
+        output,
+        cover,
+    })
+}
+
+fn flat_clock(alloc: Global, scope: &Scope, clock: &Clock) -> Result<Clock, AllocError>
+    ensures { IfOk result (λ flat. flat ≡ clock_by scope.now.prefix scope.now.table.entries clock.now) }
+{
+    let name = resolve(alloc, scope, &clock.name)?;
+    Ok(Clock {
+        edge: clock.edge,
+        name,
+    })
+}
+
+/// The latch with printed names.
+pub(crate) fn flat_latch(
+    alloc: Global,
+    scope: &Scope,
+    latch: &LatchLine,
+) -> Result<LatchLine, AllocError>
+    ensures { IfOk result (λ flat. flat ≡ latch_by scope.now.prefix scope.now.table.entries latch.now) }
+{
+    let from = resolve(alloc, scope, &latch.from)?;
+    let output = resolve(alloc, scope, &latch.output)?;
+    let control = match &latch.control {
+        Some(clock) => Some(flat_clock(alloc, scope, clock)?),
+        None => None,
+    };
+    Ok(LatchLine {
+        from,
+        output,
+        control,
+        init: latch.init,
+    })
+}

@@ -1,0 +1,216 @@
+ghost use Rattle.std.specs.Prelude.{◌≡◌, ◌<◌, ◌≤◌, ◌⊎◌, ◌^◌, ◌++◌, ◌+◌, [], ◌∷◌, suc, length, drop, All, Ok, Err, IfOk, IfErr, OnOk, MatchOption};
+ghost use Rattle.flatten.specs.Instances.{model_at};
+ghost use Rattle.flatten.specs.Wires.{mark_of};
+ghost use Rattle.flatten.specs.Walk.{flat_lines as flat_lines_by};
+ghost use Rattle.blif_read.specs.Flattening.{CanBeFlattened};
+ghost use Rattle.flatten.specs.Printable.{PrintsOn, ArePrintedLines};
+ghost use Rattle.flatten.specs.Levels.{IsLibraryOf, PartFails, PassesGate, PassesLatch, PassesPart, Goes, StepsOn, StepsTo, IsBegun, lines_of};
+
+use crate::bind::enter;
+use crate::fault::FlatFault;
+use crate::library::Library;
+use crate::scope::{Scope, flat_gate, flat_latch, inner_prefix};
+use blif_read::{BlifModel, GateLine, Item, LatchLine, PartLine};
+use cyc_base::Name;
+use indexmap::IndexMap;
+use std::alloc::{AllocError, Global};
+
+/// The top or an open instance: its model, the next item of the body, how many instances of the body were
+/// passed, and how its names are resolved.
+#[derive(Drop)]
+pub(crate) struct Level {
+    pub(crate) model: usize,
+    pub(crate) next: usize,
+    pub(crate) parts: usize,
+    pub(crate) scope: Scope,
+}
+
+/// How far the walk is: the levels that are open with the top first, the lines so far, and how many gates,
+/// latches and instances may still come.
+#[derive(Drop)]
+pub(crate) struct Walk {
+    pub(crate) levels: Vec<Level>,
+    pub(crate) latches: Vec<LatchLine>,
+    pub(crate) gates: Vec<GateLine>,
+    pub(crate) room: u32,
+}
+
+fn item_at(models: &[BlifModel], model: usize, next: usize) -> Option<&Item>
+    requires { model < length models.now }
+    ensures { let body = (model_at models.now model).body in
+        MatchOption result (drop next body ≡ [])
+        (λ item. (drop next body ≡ item.now ∷ drop (suc next) body) × (suc next < 2 ^ 64)) }
+{
+    let body = models[model].body.items();
+    if next < body.len() {
+        Some(&body[next])
+    } else {
+        None
+    }
+}
+
+fn pass_gate(alloc: Global, walk: &mut Walk, level: Level, gate: &GateLine) -> Result<(), FlatFault>
+    requires { suc level.next < 2 ^ 64 }
+    ensures passed { OnOk result (PassesGate walk.old level gate.now walk.new) }
+    ensures fault { IfErr result
+        (λ fault. (fault ≡ FlatFault.Memory) ⊎ ((walk.old.room ≡ 0) × (fault ≡ FlatFault.TooLarge))) }
+{
+    if walk.room == 0 {
+        return Err(FlatFault::TooLarge);
+    }
+    walk.room -= 1;
+    walk.gates.push(flat_gate(alloc, &level.scope, gate)?)?;
+    walk.levels.push(Level {
+        next: level.next + 1,
+        ..level
+    })?;
+    Ok(())
+}
+
+fn pass_latch(
+    alloc: Global,
+    walk: &mut Walk,
+    level: Level,
+    latch: &LatchLine,
+) -> Result<(), FlatFault>
+    requires { suc level.next < 2 ^ 64 }
+    ensures passed { OnOk result (PassesLatch walk.old level latch.now walk.new) }
+    ensures fault { IfErr result
+        (λ fault. (fault ≡ FlatFault.Memory) ⊎ ((walk.old.room ≡ 0) × (fault ≡ FlatFault.TooLarge))) }
+{
+    if walk.room == 0 {
+        return Err(FlatFault::TooLarge);
+    }
+    walk.room -= 1;
+    walk.latches.push(flat_latch(alloc, &level.scope, latch)?)?;
+    walk.levels.push(Level {
+        next: level.next + 1,
+        ..level
+    })?;
+    Ok(())
+}
+
+fn pass_part(
+    alloc: Global,
+    models: &[BlifModel],
+    library: &Library,
+    mark: &Name,
+    depth: usize,
+    walk: &mut Walk,
+    level: Level,
+    part: &PartLine,
+) -> Result<(), FlatFault>
+    requires library { IsLibraryOf models.now library.now }
+    requires within { All (λ l. l.model < length models.now) walk.old.levels.items }
+    requires here { level.model < length models.now }
+    requires counted { level.parts ≤ level.next }
+    requires fits { suc level.next < 2 ^ 64 }
+    ensures passed { OnOk result (PassesPart depth models.now mark.now walk.old level part.now walk.new) }
+    ensures fault { IfErr result
+        (λ fault. (fault ≡ FlatFault.Memory) ⊎ PartFails depth models.now walk.old level part.now fault) }
+{
+    let below = walk.levels.as_slice();
+    let (model, table) = enter(alloc, models, library, depth, below, &level, part)?;
+    if walk.room == 0 {
+        return Err(FlatFault::TooLarge);
+    }
+    walk.room -= 1;
+    let prefix = inner_prefix(alloc, &level.scope.prefix, level.parts + 1, mark)?;
+    walk.levels.push(Level {
+        next: level.next + 1,
+        parts: level.parts + 1,
+        ..level
+    })?;
+    walk.levels.push(Level {
+        model,
+        next: 0,
+        parts: 0,
+        scope: Scope { prefix, table },
+    })?;
+    Ok(())
+}
+
+/// One step: past the next item of the innermost level, or out of it where there is none.
+fn step(
+    alloc: Global,
+    models: &[BlifModel],
+    library: &Library,
+    mark: &Name,
+    depth: usize,
+    walk: &mut Walk,
+    level: Level,
+) -> Result<(), FlatFault>
+    requires library { IsLibraryOf models.now library.now }
+    requires goes { Goes depth models.now mark.now walk.old level }
+    ensures on { OnOk result (StepsOn depth models.now mark.now walk.old level walk.new) }
+    ensures prints { OnOk result (PrintsOn models.now mark.now walk.old level walk.new) }
+    ensures fault { IfErr result
+        (λ fault. (fault ≡ FlatFault.Memory) ⊎ StepsTo depth models.now mark.now walk.old level fault) }
+{
+    match item_at(models, level.model, level.next) {
+        None => Ok(()),
+        Some(Item::Gate(gate)) => Ok(pass_gate(alloc, walk, level, gate)?),
+        Some(Item::Latch(latch)) => Ok(pass_latch(alloc, walk, level, latch)?),
+        Some(Item::Part(part)) => Ok(pass_part(
+            alloc, models, library, mark, depth, walk, level, part,
+        )?),
+    }
+}
+
+/// The latches and the gates of a flat netlist, by their printed names.
+#[derive(Drop)]
+pub(crate) struct Lines {
+    pub(crate) latches: Vec<LatchLine>,
+    pub(crate) gates: Vec<GateLine>,
+}
+
+fn begun(alloc: Global, model: usize, room: u32) -> Result<Walk, AllocError>
+    ensures { IfOk result (λ walk. IsBegun model room walk) }
+{
+    let mut levels = Vec::new(alloc);
+    levels.push(Level {
+        model,
+        next: 0,
+        parts: 0,
+        scope: Scope {
+            prefix: Name::new(Vec::new(alloc)),
+            table: IndexMap::new(alloc),
+        },
+    })?;
+    Ok(Walk {
+        levels,
+        latches: Vec::new(alloc),
+        gates: Vec::new(alloc),
+        room,
+    })
+}
+
+/// The lines below the model at this place, or the first fault of the walk. At most `depth` instances may lie
+/// in one another, and at most `limit` gates, latches and instances may come.
+pub(crate) fn flat_lines(
+    alloc: Global,
+    models: &[BlifModel],
+    library: &Library,
+    mark: &Name,
+    top: usize,
+    depth: usize,
+    limit: u32,
+) -> Result<Lines, FlatFault>
+    requires library { IsLibraryOf models.now library.now }
+    requires mark { mark.now ≡ mark_of models.now }
+    requires sound { CanBeFlattened models.now }
+    requires top { top < length models.now }
+    ensures lines { IfOk result (λ lines. flat_lines_by depth limit models.now top ≡ Ok (lines_of lines)) }
+    ensures printed { IfOk result (λ lines. ArePrintedLines (lines_of lines)) }
+    ensures fault { IfErr result
+        (λ fault. (fault ≡ FlatFault.Memory) ⊎ (flat_lines_by depth limit models.now top ≡ Err fault)) }
+{
+    let mut walk = begun(alloc, top, limit)?;
+    while let Some(level) = walk.levels.pop() {
+        step(alloc, models, library, mark, depth, &mut walk, level)?;
+    }
+    Ok(Lines {
+        latches: walk.latches,
+        gates: walk.gates,
+    })
+}
