@@ -7,8 +7,6 @@
 
 mod readers;
 mod settling;
-#[cfg(test)]
-mod tests;
 mod ticks;
 
 pub use readers::{Read, Readers};
