@@ -1,5 +1,5 @@
 -- Drivers are gathered in their order; the first that comes twice, and the place of each.
-use Rattle.std.proofs.Common.{◌≡◌, ℕ, zero, suc, ◌+◌, ◌-◌, ◌<◌, ◌≤◌, nat_lt, Bool, true, false, not, ◌||◌, ◌&&◌, List, [], ◌∷◌, ◌++◌, length, get_or, take, drop, map, filter, fold, refl, sym, ap, ◌∙◌, arith, cond, if◌then◌else◌, append_assoc, Some, None, is_some, option_map, subst}
+use Rattle.std.proofs.Common.{◌≡◌, ℕ, ◌+◌, ◌<◌, Bool, true, false, not, ◌||◌, ◌&&◌, List, [], ◌∷◌, ◌++◌, length, get_or, take, drop, map, filter, fold, refl, sym, ap, ◌∙◌, cond, if◌then◌else◌, append_assoc, Some, None, option_map, subst}
 use Rattle.std.proofs.lemmas.List.{append-nil, map-append}
 use Rattle.std.proofs.lemmas.List.Folds.{list_any-append, find-append}
 use Rattle.std.proofs.lemmas.Map.Keys.{IsDistinct-cons, IsDistinct-push}
@@ -18,9 +18,9 @@ use Rattle.blif_read.specs.declared.models.LatchLine.{LatchLine}
 use Rattle.flatten.specs.declared.fault.FlatFault.{FlatFault}
 use Rattle.flatten.specs.declared.fault.FlatFault.TheVariants.{DeclaredTwice, DrivenTwice, Undriven}
 use Rattle.flatten.specs.Walk.{FlatLines}
-use Rattle.flatten.specs.Linking.{each_once, own_clocks, twice_after, first_twice, latch_outputs, gate_outputs, drivers, declared_twice, driven_twice, edge_eq, is_clock_of, is_fitting, has_bad_control, is_other_control, has_other_control, gate_with, undriven}
-use Rattle.flatten.proofs.Names.{bytes_sym, bytes_same, bytes_refl, taken, dropped}
-use Rattle.flatten.proofs.Libraries.{among_push, fresh_gathered, distinct_fresh}
+use Rattle.flatten.specs.Linking.{own_clocks, twice_after, first_twice, latch_outputs, gate_outputs, drivers, declared_twice, driven_twice, edge_eq, is_clock_of, is_fitting, has_bad_control, is_other_control, has_other_control, gate_with, undriven}
+use Rattle.flatten.proofs.Names.{bytes_sym, bytes_same, taken, dropped}
+use Rattle.flatten.proofs.Libraries.{among_push, distinct_fresh}
 
 neither : (a b : Bool) → (a || b) ≡ false → (a ≡ false) × (b ≡ false)
 neither true b e = absurd (cc)

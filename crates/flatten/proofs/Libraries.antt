@@ -6,15 +6,14 @@ use Rattle.std.proofs.lemmas.List.{append-nil, length-map, map-append}
 use Rattle.std.proofs.lemmas.Map.Keys.{IsDistinct-head, IsDistinct-tail}
 use Rattle.std.proofs.lemmas.Map.Made.{IsDistinct-from_AllPairs}
 use Rattle.std.proofs.lemmas.Slice.Eq.{bytes_eq-Decides}
-use Rattle.std.specs.List.{list_any, IsDistinct, AllPairs, position, position_or_len, AllByRecursion}
+use Rattle.std.specs.List.{IsDistinct, AllPairs, position, position_or_len, AllByRecursion}
 use Rattle.std.specs.Str.{bytes_eq}
-use Rattle.std.specs.declared.option.Option.{Option}
 use Rattle.indexmap.specs.IndexSet.{insert_key}
 use Rattle.blif_read.specs.Find.{has_name}
 use Rattle.blif_read.specs.declared.models.BlifModel.{BlifModel}
 use Rattle.flatten.specs.Instances.{is_among, formals, find_model, no_model, model_at}
 use Rattle.flatten.specs.Linking.{each_once, twice_after}
-use Rattle.flatten.proofs.Names.{bytes_sym, bytes_same, bytes_refl, taken}
+use Rattle.flatten.proofs.Names.{bytes_sym, bytes_same, taken}
 
 pub fold_taken : (old names : List (List ℕ)) (i : ℕ) (name : List ℕ) → i < length names → name ≡ get_or names i name → fold (insert_key bytes_eq) old (take (i + 1) names) ≡ insert_key bytes_eq (fold (insert_key bytes_eq) old (take i names)) name
 fold_taken old names i name l e =

@@ -8,7 +8,7 @@ use Rattle.std.specs.Ordering.{ord_max, nat_cmp}
 use Rattle.blif_read.specs.declared.models.BlifModel.{BlifModel}
 use Rattle.blif_read.specs.declared.models.Item.{Item}
 use Rattle.flatten.specs.Wires.{leading_run, longest_run, longest_run_of, item_names, model_names, pair_names, tildes}
-use Rattle.flatten.proofs.Names.{taken, dropped}
+use Rattle.flatten.proofs.Names.{taken}
 
 -- `max` of the code
 pub max_is : (a b : ℕ) → ord_max nat_cmp a b ≡ max a b

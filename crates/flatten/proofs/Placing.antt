@@ -1,5 +1,5 @@
 -- The signal of a driver, by its place in the table of drivers.
-use Rattle.std.proofs.Common.{◌≡◌, inl, inr, ⊎_elim, ◌⊎◌, ℕ, zero, suc, ◌+◌, ◌-◌, ◌<◌, ◌≤◌, nat_lt, Bool, true, false, not, ◌||◌, List, [], ◌∷◌, ◌++◌, length, length-append, map, filter, refl, sym, ap, ◌∙◌, arith, cond, if◌then◌else◌, Some, None, Ok, Err, is_some, option_map, unwrap_or}
+use Rattle.std.proofs.Common.{◌≡◌, inl, inr, ⊎_elim, ◌⊎◌, ℕ, ◌+◌, ◌-◌, ◌<◌, ◌≤◌, nat_lt, Bool, true, false, not, ◌||◌, List, [], ◌∷◌, ◌++◌, length, length-append, map, filter, refl, sym, ap, ◌∙◌, arith, cond, if◌then◌else◌, Some, None, Ok, Err, is_some, option_map, unwrap_or}
 use Rattle.std.proofs.lemmas.Grind.{common_steps}
 use Rattle.std.proofs.lemmas.List.{length-map}
 use Rattle.std.proofs.lemmas.List.Folds.{list_any-append, find-append}
@@ -10,8 +10,6 @@ use Rattle.std.specs.declared.option.Option.{Option}
 use Rattle.std.specs.declared.result.Result.{Result}
 use Rattle.cyc_base.specs.declared.sig.Sig.{Sig}
 use Rattle.netlist.specs.Netlists.{signal}
-use Rattle.netlist.specs.declared.parts.Gate.{Gate}
-use Rattle.netlist.specs.declared.parts.Latch.{Latch}
 use Rattle.netlist.specs.declared.parts.Parts.{Parts}
 use Rattle.blif_read.specs.declared.models.BlifModel.{BlifModel}
 use Rattle.blif_read.specs.declared.models.GateLine.{GateLine}
@@ -23,7 +21,7 @@ use Rattle.flatten.specs.Instances.{is_among}
 use Rattle.flatten.specs.Walk.{FlatLines}
 use Rattle.flatten.specs.Linking.{own_clocks, latch_outputs, gate_outputs, drivers, reads, signal_list, sig_of, clock_read, declared_twice, driven_twice, undriven, bad_clock, link_fault, latch_with, gate_with, netlist_by, linked}
 use Rattle.flatten.specs.Drivers.{IsDriversOf, HasSignals, sig_of_place, sig_at, sig_or, is_unread}
-use Rattle.flatten.proofs.Names.{bytes_same, bytes_refl}
+use Rattle.flatten.proofs.Names.{bytes_same}
 use Rattle.flatten.proofs.Libraries.{among_once}
 
 module _ {X : Type 0} (p : X → Bool) where

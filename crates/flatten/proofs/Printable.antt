@@ -1,5 +1,5 @@
 -- What the walk prints may stand in a BLIF text, and each gate has as many pins as its cover.
-use Rattle.std.proofs.Common.{◌≡◌, ◌≢◌, ℕ, zero, suc, ◌+◌, ◌<◌, ◌≤◌, ◌^◌, Bool, true, false, List, [], ◌∷◌, ◌++◌, length, drop, map, refl, sym, ap, ◌∙◌, subst, arith, cond, get_or, All, Some, None, add-one}
+use Rattle.std.proofs.Common.{◌≡◌, ℕ, zero, suc, ◌+◌, ◌<◌, ◌≤◌, ◌^◌, Bool, true, false, List, [], ◌∷◌, ◌++◌, length, drop, sym, ◌∙◌, subst, arith, cond, get_or, All, Some, None}
 use Rattle.std.proofs.lemmas.List.{length-map}
 use Rattle.std.proofs.lemmas.List.Elements.{All-nil, All-cons, All-head, All-tail, All-append, All-push}
 use Rattle.std.proofs.lemmas.Fmt.{decimal_is_IsNumeral}
@@ -19,7 +19,7 @@ use Rattle.flatten.specs.declared.walk.Level.{Level}
 use Rattle.flatten.specs.declared.walk.Walk.{Walk}
 use Rattle.flatten.specs.Wires.{tildes}
 use Rattle.flatten.specs.Paths.{actual_of}
-use Rattle.flatten.specs.Instances.{no_model, model_at}
+use Rattle.flatten.specs.Instances.{model_at}
 use Rattle.flatten.specs.Laws.{resolved, bound}
 use Rattle.flatten.specs.Levels.{gate_by, latch_by, passed_line, passed_part, PassesGate, PassesLatch, PassesPart, IsBegun}
 use Rattle.flatten.specs.Printable.{IsPrintedGate, IsPrintedLatch, IsPrintedPair, IsPrintedLevel, IsPrinted}

@@ -1,9 +1,9 @@
 -- The walk on a list comes to what the walk by recursion comes to.
-use Rattle.std.proofs.Common.{get_or, length-append, ◌*◌, ◌≡◌, inl, inr, ℕ, zero, suc, ◌+◌, ◌-◌, ◌<◌, ◌≤◌, ◌⊎◌, nat_le, nat_lt, Bool, true, false, ◌||◌, List, [], ◌∷◌, ◌++◌, length, drop, reverse, refl, ap, sym, ◌∙◌, subst, arith, append_assoc, if◌then◌else◌, Some, None, Ok, Err, All}
+use Rattle.std.proofs.Common.{length-append, ◌*◌, ◌≡◌, inl, inr, ℕ, zero, suc, ◌+◌, ◌-◌, ◌<◌, ◌≤◌, nat_le, nat_lt, Bool, true, false, ◌||◌, List, [], ◌∷◌, ◌++◌, length, drop, reverse, refl, ap, sym, ◌∙◌, subst, arith, append_assoc, if◌then◌else◌, Some, None, Ok, Err, All}
 use Rattle.std.proofs.lemmas.Grind.{common_steps, reverse_onto}
 use Rattle.std.proofs.lemmas.List.Folds.{list_any-append}
 use Rattle.std.proofs.lemmas.List.Sums.{passes_at_first}
-use Rattle.std.proofs.lemmas.List.{append-nil, reverse-append, length-reverse, reverse-reverse, get_or_default}
+use Rattle.std.proofs.lemmas.List.{append-nil, reverse-append, length-reverse, reverse-reverse}
 use Rattle.std.proofs.lemmas.List.Elements.{All-head, All-tail, All-same, All-push}
 use Rattle.std.specs.List.{list_any, position_or_len}
 use Rattle.std.specs.Str.{bytes_eq}
@@ -23,7 +23,7 @@ use Rattle.flatten.specs.Wires.{mark_of}
 use Rattle.flatten.specs.Paths.{Instance}
 use Rattle.flatten.specs.Instances.{no_model, model_at, is_open, entry, entered, pairs_fault, find_model}
 use Rattle.flatten.specs.Walk.{Event, FlatLines, gate, latch, opens, fails, events, decided, then_gate, then_latch, flat_lines}
-use Rattle.flatten.specs.Levels.{gate_by, latch_by, entered_on, passed_line, passed_part, Enters, IsAt, Waits, remaining, then_lines, Walking, PassesGate, PassesLatch, PassesPart, PartFails, WalkingAt, WalkingWith, StepsOn, IsBegun}
+use Rattle.flatten.specs.Levels.{gate_by, latch_by, entered_on, passed_line, passed_part, Waits, remaining, then_lines, Walking, PassesGate, PassesLatch, PassesPart, PartFails, WalkingAt, WalkingWith, IsBegun}
 use Rattle.flatten.proofs.Names.{bytes_same}
 use Rattle.flatten.proofs.Waiting.{waits_size, waits_open, waits_within, top_of, gate_step, latch_step, end_step, fault_step, opens_step, open_step}
 

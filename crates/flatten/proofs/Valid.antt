@@ -1,5 +1,5 @@
 -- The parts of a flat netlist meet all conditions of a netlist.
-use Rattle.std.proofs.Common.{◌≡◌, ◌≢◌, inl, inr, ⊎_elim, ◌⊎◌, append_assoc, codes, nat_eq, ℕ, zero, suc, ◌+◌, ◌<◌, ◌≤◌, Bool, true, false, not, ◌||◌, ◌&&◌, List, [], ◌∷◌, ◌++◌, length, length-append, map, refl, sym, ap, ◌∙◌, subst, arith, All, Some, None, Ok, Err, is_some, cond, IfSome, option_map}
+use Rattle.std.proofs.Common.{◌≡◌, inl, inr, ⊎_elim, ◌⊎◌, append_assoc, codes, nat_eq, ℕ, ◌+◌, ◌≤◌, Bool, true, false, not, ◌||◌, ◌&&◌, List, [], ◌∷◌, ◌++◌, length, length-append, map, refl, sym, ap, ◌∙◌, subst, arith, All, Some, None, Ok, Err, is_some, cond, IfSome, option_map}
 use Rattle.std.proofs.lemmas.Grind.{common_steps}
 use Rattle.std.proofs.lemmas.List.{length-map}
 use Rattle.std.proofs.lemmas.List.Elements.{All-nil, All-cons, All-head, All-tail, All-append}
@@ -27,7 +27,7 @@ use Rattle.flatten.specs.Walk.{FlatLines}
 use Rattle.flatten.specs.Printable.{IsPrintedGate, IsPrintedLatch, ArePrintedLines}
 use Rattle.flatten.specs.Linking.{own_clocks, latch_outputs, gate_outputs, drivers, reads, first_twice, twice_after, signal_list, sig_of, has_control, first_control, is_clock_of, is_fitting, has_bad_control, declared_twice, driven_twice, undriven, bad_clock, clock_read, link_fault, latch_with, gate_with, netlist_by, linked}
 use Rattle.flatten.proofs.Names.{bytes_same, bytes_refl}
-use Rattle.flatten.proofs.Libraries.{among_once, among_gathered}
+use Rattle.flatten.proofs.Libraries.{among_gathered}
 use Rattle.flatten.proofs.Gathering.{fresh_apart, twice-append, own_clocks_gathered}
 use Rattle.flatten.proofs.Placing.{place_some, step_yes, step_no, both_none, none_or, first_of, not_false}
 

@@ -1,8 +1,7 @@
 -- Laws of names: tables give what climbing gives, and names print alike only where they mean one wire.
 use Rattle.std.specs.Prelude.{◌≡◌, ◌<◌, ◌^◌, ℕ, List, [], ◌∷◌, ◌++◌, map, All, Contains, Some, None}
 use Rattle.std.specs.Fmt.{decimal}
-use Rattle.blif_read.specs.declared.models.BlifModel.{BlifModel}
-use Rattle.flatten.specs.Wires.{Wire, wire_names, mark, mark_of, printed}
+use Rattle.flatten.specs.Wires.{mark, printed}
 use Rattle.flatten.specs.Paths.{Instance, actual_of, climb, name_at}
 
 -- what the names of the wires of an instance begin with

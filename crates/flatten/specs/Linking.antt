@@ -1,8 +1,8 @@
 -- From the lines of a flat netlist to its signals: what is wrong with them, and the netlist that they make.
-use Rattle.std.specs.Prelude.{◌==◌, ◌&&◌, ◌||◌, ℕ, Bool, true, false, not, if◌then◌else◌, List, [], ◌∷◌, ◌++◌, map, filter, fold, Some, None, Ok, Err, option_map, is_some, codes}
+use Rattle.std.specs.Prelude.{◌&&◌, ◌||◌, ℕ, Bool, true, false, not, if◌then◌else◌, List, [], ◌∷◌, ◌++◌, map, filter, fold, Some, None, Ok, Err, option_map, is_some, codes}
 use Rattle.std.specs.declared.option.Option.{Option}
 use Rattle.std.specs.declared.result.Result.{Result}
-use Rattle.std.specs.List.{find, list_any, flat_map, position_or_len}
+use Rattle.std.specs.List.{find, flat_map, position_or_len}
 use Rattle.std.specs.Option.{option_or, option_map_or, option_and_then}
 use Rattle.std.specs.Str.{bytes_eq}
 use Rattle.cyc_base.specs.declared.sig.Sig.{Sig}

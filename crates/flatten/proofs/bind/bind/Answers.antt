@@ -1,11 +1,10 @@
-use Rattle.std.proofs.Common.{◌≡◌, inr, ℕ, List, [], ◌∷◌, ◌++◌, ◌<◌, Bool, true, false, not, length, take, drop, sym, ap, ◌∙◌, arith, Some, None, is_some}
+use Rattle.std.proofs.Common.{◌≡◌, inr, ℕ, List, [], ◌∷◌, ◌++◌, ◌<◌, true, false, length, take, sym, ap, ◌∙◌, arith, Some, is_some}
 use Rattle.std.specs.Str.{bytes_eq}
-use Rattle.std.specs.Map.{lookup}
 use Rattle.indexmap.proofs.CallerLemmas.{insert_entry-new}
 use Rattle.indexmap.specs.IndexMap.{insert_entry}
 use Rattle.flatten.specs.declared.fault.FlatFault.TheVariants.{FormalTwice}
 use Rattle.flatten.specs.Paths.{actual_of}
-use Rattle.flatten.specs.Instances.{is_among, pair_fault}
+use Rattle.flatten.specs.Instances.{is_among}
 use Rattle.flatten.proofs.Binding.{bound_has, bound_taken, pair_twice, pair_later, none_there}
 use Rattle.flatten.proofs.bind.bind.Goals as goal
 

@@ -1,9 +1,8 @@
-use Rattle.std.proofs.Common.{rules, inl, inr, ap, ◌≡◌, ℕ, List, [], ◌<◌, ◌++◌, ⊎_elim, false, get_or, length, map, sym, ◌∙◌, arith, Some, None, Err, option_map}
+use Rattle.std.proofs.Common.{rules, inl, inr, ap, ◌≡◌, ℕ, List, [], ◌<◌, ◌++◌, ⊎_elim, false, get_or, length, sym, ◌∙◌, arith, Some, None, option_map}
 use Rattle.std.proofs.lemmas.List.{get_or_default}
 use Rattle.std.proofs.lemmas.Result.{err_from_is_err_and}
 use Rattle.std.specs.List.{list_any}
 use Rattle.std.specs.Str.{bytes_eq}
-use Rattle.std.specs.declared.option.Option.{Option}
 use Rattle.std.specs.Option.{option_copied}
 use Rattle.blif_read.specs.declared.models.BlifModel.{BlifModel}
 use Rattle.flatten.specs.declared.fault.FlatFault.TheVariants.{OpenInput}

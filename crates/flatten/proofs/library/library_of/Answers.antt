@@ -1,4 +1,4 @@
-use Rattle.std.proofs.Common.{rules, ◌≡◌, ◌≤◌, length, take, map, ap, ◌∙◌, arith}
+use Rattle.std.proofs.Common.{map, ap, ◌∙◌, arith}
 use Rattle.std.proofs.lemmas.List.{take_all}
 use Rattle.blif_read.specs.declared.models.BlifModel.{BlifModel}
 use Rattle.flatten.specs.Instances.{formals}

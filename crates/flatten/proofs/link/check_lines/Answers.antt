@@ -1,10 +1,9 @@
-use Rattle.std.proofs.Common.{◌≡◌, inr, ℕ, List, Bool, not, sym, ap, ◌∙◌, Some, None, option_map}
+use Rattle.std.proofs.Common.{◌≡◌, inr, ℕ, List, sym, ap, ◌∙◌, Some, None, option_map}
 use Rattle.std.specs.List.{find}
-use Rattle.std.specs.Option.{option_or, option_copied}
+use Rattle.std.specs.Option.{option_copied}
 use Rattle.blif_read.specs.declared.models.LatchLine.{LatchLine}
 use Rattle.flatten.specs.declared.fault.FlatFault.TheVariants.{Undriven, BadClock}
-use Rattle.flatten.specs.Instances.{is_among}
-use Rattle.flatten.specs.Linking.{drivers, reads, undriven, bad_clock, has_bad_control, first_control}
+use Rattle.flatten.specs.Linking.{undriven, bad_clock, has_bad_control, first_control}
 use Rattle.flatten.specs.Levels.{lines_of}
 use Rattle.flatten.proofs.Gathering.{some_or, none_or_is, undriven_at}
 use Rattle.flatten.proofs.link.check_lines.Goals as goal

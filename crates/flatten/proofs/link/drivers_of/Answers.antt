@@ -1,4 +1,4 @@
-use Rattle.std.proofs.Common.{◌≡◌, inl, inr, ⊎_elim, ℕ, List, ◌++◌, map, sym, ap, ◌∙◌, Some, None, option_map}
+use Rattle.std.proofs.Common.{◌≡◌, inl, inr, ⊎_elim, List, ◌++◌, map, sym, ap, ◌∙◌, None, option_map}
 use Rattle.std.proofs.lemmas.Result.{err_from_is_err_and}
 use Rattle.blif_read.specs.declared.models.GateLine.{GateLine}
 use Rattle.blif_read.specs.declared.models.LatchLine.{LatchLine}

@@ -1,9 +1,7 @@
-use Rattle.std.proofs.Common.{◌≡◌, inl, inr, ⊎_elim, ℕ, ◌<◌, List, Bool, length, map, take, sym, ap, ◌∙◌, arith, Some, None, option_map}
+use Rattle.std.proofs.Common.{◌≡◌, inl, inr, ⊎_elim, ◌<◌, length, map, sym, ap, ◌∙◌, arith, None, option_map}
 use Rattle.std.proofs.lemmas.Result.{err_from_is_err_and}
-use Rattle.std.specs.List.{find, flat_map}
-use Rattle.blif_read.specs.declared.models.GateLine.{GateLine}
+use Rattle.std.specs.List.{find}
 use Rattle.flatten.specs.declared.fault.FlatFault.TheVariants.{ClockRead}
-use Rattle.flatten.specs.Linking.{gate_with}
 use Rattle.flatten.specs.Drivers.{sig_or, is_unread}
 use Rattle.flatten.proofs.Gathering.{find_in_pins, some_first, none_or_is, gates_taken}
 use Rattle.flatten.proofs.link.flat_gates.Goals as goal
@@ -34,5 +32,5 @@ loop-gate-preserved c =
     let name = c.in_ok-copy.ensures in
     let cover = c.in_ok-copy-2.ensures in
     let pins : c.of-pins.result ≡ map (sig_or d) c.gate-item.result.pins =
-      c.of-pins.ensures ∙ c.in_ok-read_all.ensures.sigs ∙ ap (λ ns. map (sig_or d) ns) c.items.ensures in
+    c.of-pins.ensures ∙ c.in_ok-read_all.ensures.sigs ∙ ap (λ ns. map (sig_or d) ns) c.items.ensures in
     record { flat = cc; rest = sym (e ∙ none_or_is _ _ n) ∙ c.loop-gate.invariant.rest }

@@ -1,4 +1,4 @@
-use Rattle.std.proofs.Common.{◌<◌, ◌+◌, length, take, ◌∙◌, arith}
+use Rattle.std.proofs.Common.{◌<◌, ◌+◌, length, take, arith}
 use Rattle.std.specs.List.{flat_map}
 use Rattle.flatten.specs.Wires.{item_names}
 use Rattle.flatten.proofs.Marks.{max_is, longest_items, longest_model}

@@ -1,4 +1,4 @@
-use Rattle.std.proofs.Common.{◌≡◌, ◌+◌, ◌<◌, ◌≤◌, max, length, get_or, drop, sym, ap, ◌∙◌, arith, tests, rules}
+use Rattle.std.proofs.Common.{◌≡◌, ◌+◌, ◌<◌, max, length, drop, ap, ◌∙◌, arith}
 use Rattle.flatten.specs.Wires.{leading_run, longest_run}
 use Rattle.flatten.proofs.Marks.{leading_longest, run_goes_on, run_ends, max_is}
 use Rattle.flatten.proofs.mark.longest_run.Goals as goal

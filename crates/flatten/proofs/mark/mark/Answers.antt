@@ -1,4 +1,4 @@
-use Rattle.std.proofs.Common.{rules, ◌≡◌, ◌≤◌, length, replicate, ap, ◌∙◌, arith, ◌++◌, ◌∷◌, []}
+use Rattle.std.proofs.Common.{rules, ◌≡◌, replicate, ap, ◌∙◌, arith, ◌++◌, ◌∷◌, []}
 use Rattle.std.proofs.lemmas.List.{take_all}
 use Rattle.flatten.specs.Wires.{longest_run_of, wire_names, tildes}
 use Rattle.flatten.proofs.Marks.{tildes_push, tildes_all}
