@@ -4,9 +4,9 @@ use Rattle.std.specs.Prelude.{IfSome, unwrap_or}
 use Rattle.std.specs.Option.{option_or}
 use Rattle.std.specs.declared.option.Option.{Option}
 use Rattle.cyc_io.specs.Files.{Files, IsFile}
-use Rattle.cyc_tool.specs.Texts.{Outcome, accepted, no_memory}
+use Rattle.cyc_tool.specs.Texts.{Outcome, no_memory}
 use Rattle.cyc_tool.specs.Words.{Command, Check, command_of}
-use Rattle.cyc_tool.specs.Answer.{Netlist, Given, given_by, files_of_words, netlist_stop, outcome_of_command, answer}
+use Rattle.cyc_tool.specs.Answer.{Netlist, Given, given_by, files_of_words, netlist_stop, of_netlist, decided, outcome_of_command, answer}
 use Rattle.cyc_tool.specs.Calls.{ShelfCall, SinkCall, ReadFailed, WriteFailed, Gave, GaveInOrder, ComesTo, Answers, WantsMemory, IsTold, Tells, Runs}
 use Rattle.cyc_tool.specs.Causes.{NoneFailed, GivesAnswer}
 
@@ -28,7 +28,7 @@ gave_told : (shelf : ShelfCall) (told : Files) (command : Option Command) (given
     → outcome_of_command command given ≡ outcome_of_command command (given_by told (files_of_words command))
 gave_told shelf told None given is none_failed gave = refl
 gave_told shelf told (Some (Check name)) given is none_failed gave =
-    ap (λ (g : Option (List ℕ)). unwrap_or (option_or (netlist_stop name g) None) accepted)
+    ap (λ (g : Option (List ℕ)). unwrap_or (option_or (netlist_stop name g) None) (of_netlist name g (decided name)))
     (gave_file shelf told name (given Netlist) is none_failed.0 gave.0)
 
 answer_told : (words : List (List ℕ)) (shelf : ShelfCall) (end : Outcome) (told : Files) → ComesTo words shelf end → shelf.files ≡ Some told

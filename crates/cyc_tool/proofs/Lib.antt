@@ -1,7 +1,8 @@
 pub mod AnswerLemmas
 pub mod CauseLemmas
-pub mod LinesLemmas
+pub mod DecisionLemmas
 pub mod ReadingLemmas
 pub mod RunLemmas
-pub mod RunsOfBytes
+pub mod SearchLemmas
 pub mod TellLemmas
+pub mod TextLemmas

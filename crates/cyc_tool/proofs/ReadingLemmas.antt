@@ -1,31 +1,107 @@
 -- What came of reading one file.
-use Rattle.std.proofs.Common.{◌≡◌, ℕ, ◌<◌, List, length, Some, None, false, sym, ap, ◌∙◌, arith}
-use Rattle.std.specs.Prelude.{nat_le, ◌&&◌, Bool, if◌then◌else◌}
+use Rattle.std.proofs.Common.{◌≡◌, ◌≢◌, ◌⊎◌, inl, inr, ℕ, ◌<◌, ◌≤◌, List, [], ◌∷◌, length, get_or, map, Some, None, Ok, Err, Bool, true, false, refl, sym, ap, ◌∙◌, arith}
+use Rattle.std.specs.Prelude.{nat_le, if◌then◌else◌, IfSome, IfOk, IfErr}
 use Rattle.std.specs.declared.option.Option.{Option}
+use Rattle.std.specs.declared.result.Result.{Result}
+use Rattle.std.proofs.lemmas.Option.{none-some}
 use Rattle.cyc_base.specs.declared.limits.TheConstants.{MAX_FILE_BYTES}
 use Rattle.cyc_io.specs.Files.{IsFile}
-use Rattle.cyc_tool.specs.FirstForm.{is_first_form}
-use Rattle.cyc_tool.specs.Texts.{Outcome, form_not_built, read_failed}
-use Rattle.cyc_tool.specs.Answer.{netlist_stop}
+use Rattle.netlist.specs.declared.parts.Parts.{Parts}
+use Rattle.blif_text.specs.Texts.{Line, lines}
+use Rattle.blif_read.specs.Faults.{first_fault}
+use Rattle.blif_read.specs.Models.{models as models_of}
+use Rattle.blif_read.specs.Statements.{statement}
+use Rattle.blif_read.specs.Reads.{reads, reads_lines, unless_fault}
+use Rattle.blif_read.specs.declared.fault.BlifFault.{BlifFault}
+use Rattle.blif_read.specs.declared.models.BlifModel.{BlifModel}
+use Rattle.flatten.specs.Flat.{flat}
+use Rattle.flatten.specs.declared.fault.FlatFault.{FlatFault}
+use Rattle.cyc_tool.specs.Seen.{stop_of}
+use Rattle.cyc_tool.specs.declared.outcome.Stop.{Stop}
+use Rattle.cyc_tool.specs.Faults.{Fault, flat_fault, flat_result, too_long, models_result, netlist_of, top_of}
+use Rattle.cyc_tool.specs.Texts.{Outcome, has_fault, read_failed}
+use Rattle.cyc_tool.specs.Answer.{fault_stop}
 use Rattle.cyc_tool.specs.Calls.{ShelfCall, ReadFailed}
-use Rattle.cyc_tool.specs.Reading.{ReadsNetlist}
+use Rattle.cyc_tool.specs.Causes.{GaveNetlist}
+use Rattle.cyc_tool.specs.Reading.{StopsAtNetlist, EndsWithFault, StopsWith}
 
-pub reads_text : (name bytes : List ℕ) (shelf : ShelfCall) (stop : Option Outcome) → IsFile shelf.files name bytes
-    → netlist_stop name (Some bytes) ≡ stop → ReadsNetlist shelf name stop
-reads_text name bytes shelf stop is told = record { given = Some bytes; gave = is; is = told }
+-- a file that isn't too long has the netlist of its text
+pub netlist_of_short : (bytes : List ℕ) → length bytes ≤ MAX_FILE_BYTES → netlist_of bytes ≡ models_result (reads bytes)
+netlist_of_short bytes short = ap (λ (t : Bool). if t then models_result (reads bytes) else Err too_long) (let e : nat_le (length bytes) MAX_FILE_BYTES ≡ true = grind (arith, short) in e)
 
-long_test : (bytes : List ℕ) → MAX_FILE_BYTES < length bytes → nat_le (length bytes) MAX_FILE_BYTES ≡ false
-long_test bytes over = grind (arith)
+netlist_of_long : (bytes : List ℕ) → MAX_FILE_BYTES < length bytes → netlist_of bytes ≡ Err too_long
+netlist_of_long bytes long = ap (λ (t : Bool). if t then models_result (reads bytes) else Err too_long) (let e : nat_le (length bytes) MAX_FILE_BYTES ≡ false = grind (arith, long) in e)
 
-pub reads_too_long : (name : List ℕ) (shelf : ShelfCall) (end : Outcome)
-    → (bytes : List ℕ) × (MAX_FILE_BYTES < length bytes) × IsFile shelf.files name bytes → end ≡ form_not_built name
-    → ReadsNetlist shelf name (Some end)
-reads_too_long name shelf end (bytes, over, is) told = record {
+pub stops_at_fault : (name bytes : List ℕ) (shelf : ShelfCall) (end : Outcome) → IsFile shelf.files name bytes
+    → EndsWithFault name (netlist_of bytes) end → StopsAtNetlist shelf name end
+stops_at_fault name bytes shelf end is ends = record {
   given = Some bytes;
   gave = is;
-  is = ap (λ (t : Bool). if t && is_first_form bytes then None else Some (form_not_built name)) (long_test bytes over) ∙ ap Some (sym told);
+  is = ap (fault_stop name) ends.has ∙ ap Some (sym ends.is);
 }
 
-pub reads_failed : (name : List ℕ) (shelf : ShelfCall) (end : Outcome) → ReadFailed shelf name → end ≡ read_failed name
-    → ReadsNetlist shelf name (Some end)
-reads_failed name shelf end rose told = record { given = None; gave = rose; is = ap Some (sym told) }
+pub stops_if_fault : (name bytes : List ℕ) (shelf : ShelfCall) (end : Option Outcome) → IsFile shelf.files name bytes
+    → StopsWith name (netlist_of bytes) end → IfSome end (StopsAtNetlist shelf name)
+stops_if_fault name bytes shelf None is ends = tt
+stops_if_fault name bytes shelf (Some end) is ends = stops_at_fault name bytes shelf end is ends
+
+pub stops_too_long : (name : List ℕ) (shelf : ShelfCall) (end : Option Outcome)
+    → (bytes : List ℕ) × (MAX_FILE_BYTES < length bytes) × IsFile shelf.files name bytes → IfSome end (λ e. e ≡ has_fault name too_long)
+    → IfSome end (StopsAtNetlist shelf name)
+stops_too_long name shelf None long told = tt
+stops_too_long name shelf (Some end) (bytes, over, is) told =
+    stops_at_fault name bytes shelf end is (record { fault = too_long; has = netlist_of_long bytes over; is = told })
+
+pub stops_unread : (name : List ℕ) (shelf : ShelfCall) (end : Outcome) → ReadFailed shelf name → end ≡ read_failed name → StopsAtNetlist shelf name end
+stops_unread name shelf end rose told = record { given = None; gave = rose; is = ap Some (sym told) }
+
+-- Where a call ends at a fault that isn't want of memory, it ends with the fault that is there.
+pub stops_with : {F : Type 0} (name : List ℕ) (netlist : Result Parts Fault) (found memory : F) (fault : Fault) (stop : Option Outcome)
+    → (found ≡ memory) ⊎ (netlist ≡ Err fault) → IfSome stop (λ end. end ≡ has_fault name fault) → (found ≡ memory → stop ≡ None)
+    → StopsWith name netlist stop
+stops_with name netlist found memory fault None there told none = tt
+stops_with name netlist found memory fault (Some end) (inl same) told none = absurd (none-some end (sym (none same)))
+stops_with name netlist found memory fault (Some end) (inr there) told none = record { fault = fault; has = there; is = told }
+
+-- Models that were read are some, so the first one is there.
+pub top_at : (models : List BlifModel) (d : BlifModel) → 0 < length models → (get_or models 0 d).name ≡ top_of models
+top_at [] d some = absurd (omega (arith, some))
+top_at (model ∷ models) d some = refl
+
+pub some_models : (text : List ℕ) (models : List BlifModel) → reads text ≡ Ok models → 0 < length models
+some_models text [] is = absurd (by_lines (lines text true) is)
+  where
+    nothing : (fault : Option BlifFault) (found : List BlifModel) → unless_fault fault found ≡ Ok [] → ⊥
+    nothing (Some fault) found e = cc
+    nothing None [] e = cc
+    nothing None (model ∷ found) e = cc
+
+    by_lines : (r : Result (List Line) ℕ) → reads_lines r ≡ Ok [] → ⊥
+    by_lines (Err bad) e = cc
+    by_lines (Ok found) e = nothing (first_fault [] found) (models_of (map statement found)) e
+some_models text (model ∷ models) is = omega (arith)
+
+-- the same, where the fault is there unless it is want of memory
+pub stops_unless : {F : Type 0} (name : List ℕ) (netlist : Result Parts Fault) (found memory : F) (fault : Fault) (stop : Option Outcome)
+    → (found ≢ memory → netlist ≡ Err fault) → IfSome stop (λ end. end ≡ has_fault name fault) → (found ≡ memory → stop ≡ None)
+    → StopsWith name netlist stop
+stops_unless name netlist found memory fault None there told none = tt
+stops_unless name netlist found memory fault (Some end) there told none =
+    record { fault = fault; has = there (λ same. none-some end (sym (none same))); is = told }
+
+-- a fault of flattening at the first model is one of the models
+pub ends_at : (models : List BlifModel) (name : List ℕ) (found lack : FlatFault) → name ≡ top_of models
+    → (found ≡ lack) ⊎ (flat models name ≡ Err found) → (found ≡ lack) ⊎ (models_result (Ok models) ≡ Err (flat_fault found))
+ends_at models name found lack is (inl same) = inl same
+ends_at models name found lack is (inr there) = inr (ap flat_result (ap (flat models) (sym is) ∙ there))
+
+-- what the use of the bytes says of the file that they are
+pub stops_through : (name bytes : List ℕ) (shelf : ShelfCall) (r : Result Parts Stop) → IsFile shelf.files name bytes
+    → IfErr r (λ s. StopsWith name (netlist_of bytes) (stop_of s)) → IfErr r (λ s. IfSome (stop_of s) (StopsAtNetlist shelf name))
+stops_through name bytes shelf (Ok net) file ends = tt
+stops_through name bytes shelf (Err stop) file ends = stops_if_fault name bytes shelf (stop_of stop) file ends
+
+pub gave_through : (name bytes : List ℕ) (shelf : ShelfCall) (r : Result Parts Stop) → IsFile shelf.files name bytes
+    → IfOk r (λ net. netlist_of bytes ≡ Ok net) → IfOk r (GaveNetlist shelf name)
+gave_through name bytes shelf (Ok net) file is = record { bytes = bytes; gave = file; is = is }
+gave_through name bytes shelf (Err stop) file is = tt

@@ -1,8 +1,11 @@
 pub mod Answer
 pub mod Calls
 pub mod Causes
-pub mod FirstForm
+pub mod Decision
+pub mod Faults
 pub mod Reading
+pub mod Search
 pub mod Seen
 pub mod Texts
+pub mod Witnesses
 pub mod Words

@@ -4,7 +4,8 @@
 //! answer of its words (`specs/Answer.antt`) at what the shelf gave, or wants memory, or that a write failed.
 #![tactic(auto)]
 
-mod first_form;
+mod decision;
+mod faults;
 mod outcome;
 mod reading;
 #[cfg(test)]

@@ -1,3 +1,6 @@
+ghost use Rattle.report.specs.Texts.{IsCode};
+
+use cyc_base::Name;
 use std::alloc::AllocError;
 
 // A status, and the texts for out and err.
@@ -8,11 +11,28 @@ pub(crate) struct Told {
     pub err: Vec<u8>,
 }
 
+// A fault of a file: its code, its line where it has one, and the name behind its words where they want one.
+#[derive(Drop)]
+pub(crate) struct FileFault {
+    pub file: Name,
+    pub code: u8,
+    pub line: Option<u64>,
+    pub name: Option<Name>,
+    ghost is_code: { IsCode code },
+}
+
+// What a call has to tell in the end.
+#[derive(Drop)]
+pub(crate) enum End {
+    Text(Told),
+    Fault(FileFault),
+}
+
 // Why a call ends before its command is done.
 #[derive(Drop)]
 pub(crate) enum Stop {
-    // A file can't be used, and this is told.
-    At(Told),
+    // A file can't be used.
+    At(End),
     Memory,
 }
 
