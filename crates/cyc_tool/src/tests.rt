@@ -79,34 +79,81 @@ fn row(number: u32) -> (&'static str, u8, &'static str) {
             0,
             "accepted gates=5\n",
         ),
-        8 => (
+        _ => (
             ".model m\n.inputs a b c d e f g h i j k\n.end\n",
             3,
             "m.blif: E00 form not built yet\n",
         ),
-        9 => (
-            ".model m\n.inputs x\n.outputs a\n.names x a a\n1-\n",
-            3,
-            "m.blif:5: E09 bad row\n",
-        ),
-        10 => (
-            ".model m\n.subckt m\n.end\n",
-            3,
-            "m.blif: E22 recursive model m\n",
-        ),
-        11 => (
-            ".model m\n.inputs a\n.names a\n",
-            3,
-            "m.blif: E29 driven twice a\n",
-        ),
-        _ => ("", 3, "m.blif: E16 no model\n"),
     }
+}
+
+// A text with a fault, and what is told of it behind the file's name.
+fn faulty(number: u32) -> (&'static str, &'static str) {
+    match number {
+        0 => (".model m\n\x07\n", ":2: E02 bad byte\n"),
+        1 => (".inputs a\n", ":1: E03 line outside a model\n"),
+        2 => (".model a b\n", ":1: E04 bad model line\n"),
+        3 => (".model m\n.model m\n", ":2: E05 model twice\n"),
+        4 => (
+            ".model m\n.gate n A=x O=z\n",
+            ":2: E06 directive left out\n",
+        ),
+        5 => (".model m\n.foo\n", ":2: E07 unknown directive\n"),
+        6 => (".model m\n.inputs a\n1 1\n", ":3: E08 stray row\n"),
+        7 => (
+            ".model m\n.inputs x\n.outputs a\n.names x a a\n1-\n",
+            ":5: E09 bad row\n",
+        ),
+        8 => (".model m\n.names a b\n1 1\n0 0\n", ":4: E10 mixed rows\n"),
+        9 => (".model m\n.names\n", ":2: E11 no output name\n"),
+        10 => (".model m\n.latch a b 4\n", ":2: E13 bad latch line\n"),
+        11 => (".model m\n.latch a b ah c 0\n", ":2: E14 level latch\n"),
+        12 => (".model m\n.subckt s a\n", ":2: E15 bad subcircuit line\n"),
+        13 => ("", ": E16 no model\n"),
+        14 => (".model m\n.subckt s\n", ": E21 unknown model s\n"),
+        15 => (".model m\n.subckt m\n.end\n", ": E22 recursive model m\n"),
+        16 => (
+            ".model t\n.inputs a\n.subckt n k=a o=w\n.end\n.model n\n.inputs i\n.outputs o\n.names i o\n",
+            ": E23 unknown formal k\n",
+        ),
+        17 => (
+            ".model t\n.inputs a\n.subckt n i=a i=a\n.end\n.model n\n.inputs i\n.outputs o\n.names i o\n",
+            ": E24 formal twice i\n",
+        ),
+        18 => (
+            ".model t\n.inputs a\n.subckt n o=w\n.end\n.model n\n.inputs i\n.outputs o\n.names i o\n",
+            ": E25 open input i\n",
+        ),
+        19 => (".model m\n.inputs a a\n", ": E28 declared twice a\n"),
+        20 => (".model m\n.inputs a\n.names a\n", ": E29 driven twice a\n"),
+        21 => (".model m\n.outputs a\n", ": E30 not driven a\n"),
+        22 => (
+            ".model m\n.inputs d\n.latch d q re c 0\n",
+            ": E31 bad clock q\n",
+        ),
+        _ => (".model m\n.clock c\n.outputs c\n", ": E32 clock read c\n"),
+    }
+}
+
+#[test]
+fn faults_are_told_with_their_place(rt: HostRuntime) -> Result<(), Fail> {
+    let alloc = rt.alloc();
+    for number in 0..24 {
+        let (text, told) = faulty(number);
+        let seen = call(alloc, "check m.blif", text, &[], &[])?;
+        assert_eq!(rt; seen.status, 3, "at {number}");
+        assert!(rt; seen.err.bytes().starts_with(b"m.blif:"), "at {number}");
+        assert!(rt; seen.err.bytes().ends_with(told.as_bytes()), "at {number}");
+        assert_eq!(rt; seen.err.bytes().len(), told.len() + 6, "at {number}");
+        assert!(rt; seen.out.bytes().is_empty(), "at {number}");
+    }
+    Ok(())
 }
 
 #[test]
 fn files_are_decided(rt: HostRuntime) -> Result<(), Fail> {
     let alloc = rt.alloc();
-    for number in 0..13 {
+    for number in 0..9 {
         let (text, status, line) = row(number);
         let seen = call(alloc, "check m.blif", text, &[], &[])?;
         assert_eq!(rt; seen.status, status, "at {number}");
@@ -150,7 +197,7 @@ fn wrong_words_get_the_usage(rt: HostRuntime) -> Result<(), Fail> {
 fn failing_calls_show_their_cause(rt: HostRuntime) -> Result<(), Fail> {
     let alloc = rt.alloc();
     let (good, _, accepted) = row(0);
-    let (bad, _, fault) = row(11);
+    let (bad, _, fault) = row(8);
     for number in [0, 1] {
         let seen = call(alloc, "check m.blif", good, &[number], &[])?;
         assert_eq!(rt; seen.status, 4);
