@@ -1,0 +1,7 @@
+mod ExpansionLemmas
+mod MemoLemmas
+mod SizeLemmas
+mod SurelyLemmas
+mod WidthLemmas
+mod TableLemmas
+mod LocalLemmas

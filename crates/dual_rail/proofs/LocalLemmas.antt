@@ -1,0 +1,59 @@
+-- The diagram of a cover.
+use Rattle.std.proofs.Common.{◌≡◌, ℕ, zero, suc, ◌+◌, ◌-◌, ◌^◌, ◌<◌, ◌≤◌, ◌⊎◌, Bool, List, [], ◌∷◌, ◌++◌, length, inl, inr, Result, Ok, Err, IfOk, refl, sym, ap, subst, ◌∙◌, arith}
+use Rattle.std.specs.List.{range_with_len}
+use Rattle.bdd_store.specs.declared.node.Node.{Node}
+use Rattle.bdd_store.specs.Arena.{Arena, den, IsNodeOf, IsBranching}
+use Rattle.bdd_store.specs.Soundness.{IsLawful}
+use Rattle.bdd_store.specs.Subfunctions.{nodes, IsPart, Alike}
+use Rattle.bdd_store.specs.Growth.{KeepsNodes, NewAreParts, IsRefusedPart}
+use Rattle.bdd_store.proofs.SubfunctionLemmas.{IsPart-of_alike, nodes-alike}
+use Rattle.bdd_store.proofs.GrowthLemmas.{added-parts, refused-parts}
+use Rattle.cover_logic.specs.declared.row.Row.{Row}
+use Rattle.cover_logic.specs.Covers.{Cover, IsCover, value, value_of_rows}
+use Rattle.dual_rail.specs.Expansion.{remainder, IsExpansion}
+use Rattle.dual_rail.specs.Local.{Local, function, IsLocal, IsDiagramOf, size}
+use Rattle.dual_rail.proofs.ExpansionLemmas.{remainder-whole}
+use Rattle.dual_rail.proofs.SizeLemmas.{nodes-below_power}
+
+-- at the first pin all is left
+pub remainder-cover : (cover : Cover) → IsCover cover → (rows : List Row) (plane : Bool) (pin : ℕ) (live : List ℕ) → rows ≡ cover.rows → plane ≡ cover.plane → pin ≡ 0 → live ≡ range_with_len 0 (length rows) → (bits : List Bool) → remainder rows plane pin live bits ≡ value cover bits
+remainder-cover cover is rows plane pin live rows_are plane_is pin_is all bits =
+    (λ j. remainder (rows_are j) (plane_is j) (pin_is j) (all j) bits)
+    ∙ (λ j. remainder cover.rows cover.plane 0 (range_with_len 0 (length (rows_are j))) bits)
+    ∙ remainder-whole cover.rows cover.plane is.plane bits
+
+pub function-cover : {E : Type 0} (cover : Cover) (is : IsCover cover) (rows : List Row) (plane : Bool) (pin : ℕ) (live : List ℕ) → rows ≡ cover.rows → plane ≡ cover.plane → pin ≡ 0 → live ≡ range_with_len 0 (length rows) → (s : Arena) → s.vars ≡ cover.pins → (r : Result Node E) → IfOk r (IsExpansion rows plane s pin live) → IfOk r (λ n. (bits : List Bool) → length bits ≡ cover.pins → den s n bits ≡ value cover bits)
+function-cover cover is rows plane pin live rows_are plane_is pin_is all s vars (Ok n) e = λ bits len. e.function bits (len ∙ sym vars) ∙ remainder-cover cover is rows plane pin live rows_are plane_is pin_is all bits
+function-cover cover is rows plane pin live rows_are plane_is pin_is all s vars (Err x) e = tt
+
+pub NewAreParts-alike : {s t : Arena} {f g : List Bool → Bool} → Alike s.vars f g → NewAreParts s t f → NewAreParts s t g
+NewAreParts-alike same new = record { each = λ n node. elim (new.each n node) [ inl was ↦ inl was | inr part ↦ inr (IsPart-of_alike part same) ] }
+
+pub IsRefusedPart-alike : {a : Arena} {f g : List Bool → Bool} → Alike a.vars f g → IsRefusedPart a f → IsRefusedPart a g
+IsRefusedPart-alike same r = record { full = r.full; part = r.part; is_part = IsPart-of_alike r.is_part same; absent = r.absent }
+
+module _ (cover : Cover) (old new : Arena) (pins_are : old.vars ≡ cover.pins) (empty : old.entries ≡ []) (lawful : IsLawful new) (kept : KeepsNodes old new) (parts : NewAreParts old new (value cover)) where
+  pub local-size : length new.entries ≤ size cover
+  local-size = omega (arith, added-parts old new (value cover) lawful kept parts, ap (λ v. nodes v (value cover)) pins_are, ap length empty)
+
+  pub local-most : length new.entries ≤ 2 ^ cover.pins - 1
+  local-most = omega (arith, local-size, nodes-below_power cover.pins (value cover))
+
+  pub local-full : IsRefusedPart new (value cover) → old.limit < size cover
+  local-full r =
+      let past = (refused-parts old new (value cover) lawful kept parts r).past in
+      omega (arith, past, ap (λ v. nodes v (value cover)) pins_are, ap length empty, kept.limit)
+
+  module _ (top : Node) (node : IsNodeOf new top) (function_is : (bits : List Bool) → length bits ≡ cover.pins → den new top bits ≡ value cover bits) (pins : ℕ) (at : pins ≡ cover.pins) where
+    pub local-is : IsLocal (record { store = new; top = top; pins = pins })
+    local-is = record {
+      pins = at ∙ sym (kept.vars ∙ pins_are);
+      node = node;
+      parts = λ n in_n more. elim (parts.each n in_n) [
+        | inl was ↦ absurd (omega (arith, was, more, ap length empty))
+        | inr part ↦ IsPart-of_alike (subst (λ (v : ℕ). IsPart v (value cover) (den new n)) (sym kept.vars) part) (λ bits len. sym (function_is bits (len ∙ kept.vars ∙ pins_are)))
+      ];
+    }
+
+    pub local-of : IsDiagramOf (record { store = new; top = top; pins = pins }) cover
+    local-of = record { pins = at; function = function_is }

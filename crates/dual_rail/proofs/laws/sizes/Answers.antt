@@ -1,0 +1,9 @@
+use Rattle.std.proofs.Common.{ap, ◌∙◌}
+use Rattle.bdd_store.specs.Subfunctions.{nodes}
+use Rattle.bdd_store.proofs.SubfunctionLemmas.{nodes-alike}
+use Rattle.cover_logic.specs.Covers.{value}
+use Rattle.dual_rail.specs.Local.{function}
+use Rattle.dual_rail.proofs.laws.sizes.Goals as goal
+
+pub returns : goal.returns
+returns c l cover is = ap (λ n. nodes n (function l)) is.pins ∙ nodes-alike cover.pins (function l) (value cover) is.function

@@ -1,0 +1,93 @@
+use Rattle.std.proofs.Common.{◌≡◌, ◌+◌, ◌*◌, ◌≤◌, Bool, List, [], ◌∷◌, ◌++◌, length, Err, sym, ap, ap₂, subst, ◌∙◌, arith}
+use Rattle.std.specs.List.{slice_index_or, All}
+use Rattle.std.proofs.lemmas.List.{length_push}
+use Rattle.bdd_store.specs.declared.fault.StoreFault.{StoreFault}
+use Rattle.bdd_store.specs.declared.node.Node.{Node}
+use Rattle.bdd_store.specs.Arena.{Arena}
+use Rattle.bdd_store.specs.Soundness.{IsLawful}
+use Rattle.bdd_store.specs.Growth.{KeepsNodes}
+use Rattle.bdd_store.proofs.GrowthLemmas.{KeepsNodes-refl, KeepsNodes-chain}
+use Rattle.cover_logic.specs.Covers.{value}
+use Rattle.cover_logic.specs.Extensions.{exact}
+use Rattle.dual_rail.specs.declared.rail.Rails.{Rails}
+use Rattle.dual_rail.specs.Rails.{values_of, AreRailsOf}
+use Rattle.dual_rail.specs.Local.{function, local_size}
+use Rattle.dual_rail.specs.Lifts.{IsLift, IsTable}
+use Rattle.dual_rail.proofs.SurelyLemmas.{All-rails-kept, IsLift-rails, IsLift-exact, values_of-kept, exact-alike, length-values}
+use Rattle.dual_rail.proofs.WidthLemmas.{IsWide-kept}
+use Rattle.dual_rail.proofs.TableLemmas.{base_rails, base-table, step-table, added-next, added-within, full-within, local-count, pushed}
+use Rattle.dual_rail.proofs.lifting.lift.Goals as goal
+
+pub loop-position-init : goal.loop-position-init
+loop-position-init c =
+    let items : c.in-Ok.table.items ≡ base_rails = c.in-Ok.ensures.items ∙ ap₂ (λ (r s : Rails). r ∷ s ∷ []) (ap₂ (λ n m. record { one = n; zero = m }) c.rails_of.ensures.one c.rails_of.ensures.zero) (ap₂ (λ n m. record { one = n; zero = m }) c.rails_of-2.ensures.one c.rails_of-2.ensures.zero) in
+    record {
+      keeps = KeepsNodes-refl c.args.d.now;
+      long = ap length items;
+      table = subst (IsTable c.args.local.now c.args.d.now c.args.pins.now) (sym items) (base-table c.args.local.now c.args.d.now c.args.pins.now);
+      within = omega arith;
+      added = λ w wide. omega arith;
+    }
+
+pub loop-position-preserved : goal.loop-position-preserved
+loop-position-preserved c =
+    let kept : KeepsNodes c.args.d.now c.loop-position.d = c.loop-position.invariant.keeps in
+    let all : All (AreRailsOf c.loop-position.d) c.args.pins.now = All-rails-kept kept c.args.pins.now c.requires.rails in
+    let items : c.push.new.self.items ≡ c.loop-position.table.items ++ c.in_ok-rails.rails ∷ [] = pushed c.push.result c.push.new.self.items (c.loop-position.table.items ++ c.in_ok-rails.rails ∷ []) c.loop-position.table.items c.if-is_err.ensures.value c.push.ensures.items in
+    record {
+      keeps = KeepsNodes-chain kept c.lift_node.ensures.keeps;
+      long = ap length items ∙ omega (arith, length_push c.loop-position.table.items c.in_ok-rails.rails, c.loop-position.invariant.long);
+      table = step-table c.push.new.self.items c.at.result c.in_ok-rails.rails c.loop-position.invariant.table c.lift_node.ensures.keeps all (c.loop-position.invariant.long ∙ sym c.at.ensures) c.in_ok-rails.ensures.lift items;
+      within = omega (arith, c.loop-position-test.true);
+      added = λ w wide. added-next c.args.d.now c.loop-position.d c.lift_node.new.d (2 * w) c.loop-position.position (c.loop-position.invariant.added w wide) (c.lift_node.ensures.added w (IsWide-kept kept c.requires.rails wide));
+    }
+
+pub returns-clause-rails : goal.returns-clause-rails
+returns-clause-rails c =
+    let count : c.count-position-end.result ≡ length c.args.local.now.store.entries = c.count-position-end.ensures.count ∙ ap (λ (u : Arena). length u.entries) c.store-store.ensures.store in
+    let here : c.index.result.now ≡ slice_index_or c.loop-position.table.items c.args.local.now.top.number c.index.result.now = c.index.ensures ∙ ap (λ n. slice_index_or c.loop-position.table.items n c.index.result.now) (c.number.ensures ∙ ap (λ (m : Node). m.number) c.top-top.ensures.top) in
+    let lift : IsLift c.loop-position.d c.args.pins.now (function c.args.local.now) c.index.result.now = subst (IsLift c.loop-position.d c.args.pins.now (function c.args.local.now)) (sym here) (c.loop-position.invariant.table.each c.args.local.now.top c.index.result.now (omega (arith, c.top-top.ensures.local.node, c.loop-position.invariant.long, c.loop-position-test.false, count))) in
+    IsLift-rails lift
+
+pub returns-clause-value : goal.returns-clause-value
+returns-clause-value c bits =
+    let count : c.count-position-end.result ≡ length c.args.local.now.store.entries = c.count-position-end.ensures.count ∙ ap (λ (u : Arena). length u.entries) c.store-store.ensures.store in
+    let here : c.index.result.now ≡ slice_index_or c.loop-position.table.items c.args.local.now.top.number c.index.result.now = c.index.ensures ∙ ap (λ n. slice_index_or c.loop-position.table.items n c.index.result.now) (c.number.ensures ∙ ap (λ (m : Node). m.number) c.top-top.ensures.top) in
+    let lift : IsLift c.loop-position.d c.args.pins.now (function c.args.local.now) c.index.result.now = subst (IsLift c.loop-position.d c.args.pins.now (function c.args.local.now)) (sym here) (c.loop-position.invariant.table.each c.args.local.now.top c.index.result.now (omega (arith, c.top-top.ensures.local.node, c.loop-position.invariant.long, c.loop-position-test.false, count))) in
+    IsLift-exact lift bits ∙ ap (exact (function c.args.local.now)) (values_of-kept c.loop-position.invariant.keeps c.args.pins.now c.requires.rails bits)
+
+pub returns-clause-cover : goal.returns-clause-cover
+returns-clause-cover c cover is bits =
+    let count : c.count-position-end.result ≡ length c.args.local.now.store.entries = c.count-position-end.ensures.count ∙ ap (λ (u : Arena). length u.entries) c.store-store.ensures.store in
+    let here : c.index.result.now ≡ slice_index_or c.loop-position.table.items c.args.local.now.top.number c.index.result.now = c.index.ensures ∙ ap (λ n. slice_index_or c.loop-position.table.items n c.index.result.now) (c.number.ensures ∙ ap (λ (m : Node). m.number) c.top-top.ensures.top) in
+    let lift : IsLift c.loop-position.d c.args.pins.now (function c.args.local.now) c.index.result.now = subst (IsLift c.loop-position.d c.args.pins.now (function c.args.local.now)) (sym here) (c.loop-position.invariant.table.each c.args.local.now.top c.index.result.now (omega (arith, c.top-top.ensures.local.node, c.loop-position.invariant.long, c.loop-position-test.false, count))) in
+    IsLift-exact lift bits ∙ ap (exact (function c.args.local.now)) (values_of-kept c.loop-position.invariant.keeps c.args.pins.now c.requires.rails bits)
+    ∙ exact-alike (function c.args.local.now) (value cover) (values_of c.args.d.now c.args.pins.now bits) (λ bs len. is.function bs (len ∙ length-values c.args.d.now c.args.pins.now bits ∙ c.requires.pins ∙ is.pins))
+
+pub returns-clause-added : goal.returns-clause-added
+returns-clause-added c w wide =
+    let count : c.count-position-end.result ≡ length c.args.local.now.store.entries = c.count-position-end.ensures.count ∙ ap (λ (u : Arena). length u.entries) c.store-store.ensures.store in
+    let size : length c.args.local.now.store.entries ≤ local_size c.args.local.now = local-count c.args.local.now (subst IsLawful c.store-store.ensures.store c.laws.ensures) c.top-top.ensures.local in
+    added-within c.args.d.now c.loop-position.d (2 * w) c.loop-position.position (local_size c.args.local.now) (omega (arith, c.loop-position.invariant.within, count, size)) (c.loop-position.invariant.added w wide)
+
+pub returns-in_err-rails-clause-added : goal.returns-in_err-rails-clause-added
+returns-in_err-rails-clause-added c w wide =
+    let count : c.count-position-end.result ≡ length c.args.local.now.store.entries = c.count-position-end.ensures.count ∙ ap (λ (u : Arena). length u.entries) c.store-store.ensures.store in
+    let size : length c.args.local.now.store.entries ≤ local_size c.args.local.now = local-count c.args.local.now (subst IsLawful c.store-store.ensures.store c.laws.ensures) c.top-top.ensures.local in
+    added-within c.args.d.now c.lift_node.new.d (2 * w) (c.loop-position.position + 1) (local_size c.args.local.now) (omega (arith, c.loop-position-test.true, count, size))
+    (added-next c.args.d.now c.loop-position.d c.lift_node.new.d (2 * w) c.loop-position.position (c.loop-position.invariant.added w wide) (c.lift_node.ensures.added w (IsWide-kept c.loop-position.invariant.keeps c.requires.rails wide)))
+
+pub returns-then-is_err-clause-added : goal.returns-then-is_err-clause-added
+returns-then-is_err-clause-added c w wide =
+    let count : c.count-position-end.result ≡ length c.args.local.now.store.entries = c.count-position-end.ensures.count ∙ ap (λ (u : Arena). length u.entries) c.store-store.ensures.store in
+    let size : length c.args.local.now.store.entries ≤ local_size c.args.local.now = local-count c.args.local.now (subst IsLawful c.store-store.ensures.store c.laws.ensures) c.top-top.ensures.local in
+    added-within c.args.d.now c.lift_node.new.d (2 * w) (c.loop-position.position + 1) (local_size c.args.local.now) (omega (arith, c.loop-position-test.true, count, size))
+    (added-next c.args.d.now c.loop-position.d c.lift_node.new.d (2 * w) c.loop-position.position (c.loop-position.invariant.added w wide) (c.lift_node.ensures.added w (IsWide-kept c.loop-position.invariant.keeps c.requires.rails wide)))
+
+pub returns-in_err-rails-clause-full : goal.returns-in_err-rails-clause-full
+returns-in_err-rails-clause-full c w wide is_full =
+    let count : c.count-position-end.result ≡ length c.args.local.now.store.entries = c.count-position-end.ensures.count ∙ ap (λ (u : Arena). length u.entries) c.store-store.ensures.store in
+    let size : length c.args.local.now.store.entries ≤ local_size c.args.local.now = local-count c.args.local.now (subst IsLawful c.store-store.ensures.store c.laws.ensures) c.top-top.ensures.local in
+    let refused = ap {A = StoreFault} Err (sym (rw is_full at c.from_residual.ensures.1)) in
+    full-within c.args.d.now c.loop-position.d c.lift_node.new.d (2 * w) c.loop-position.position (local_size c.args.local.now) (omega (arith, c.loop-position-test.true, count, size)) (c.loop-position.invariant.added w wide)
+    (c.in_err-rails.ensures.full w (IsWide-kept c.loop-position.invariant.keeps c.requires.rails wide) refused)

@@ -1,0 +1,106 @@
+//! The rails of a cover's function, from those of its pins.
+ghost use Rattle.std.specs.Prelude.{◌≡◌, ℕ, ◌*◌, Bool, List, length, All, IfOk};
+ghost use Rattle.bdd_store.specs.Arena.{Arena, den, IsNodeOf, IsBranching};
+ghost use Rattle.bdd_store.specs.Growth.{KeepsNodes, AddsAtMost, IsFullOnlyPast};
+ghost use Rattle.bdd_store.specs.Subfunctions.{IsPart};
+ghost use Rattle.cover_logic.specs.Covers.{Cover};
+ghost use Rattle.cover_logic.specs.Extensions.{exact, ext};
+ghost use Rattle.dual_rail.specs.Rails.{AreRailsOf, value_of, values_of};
+ghost use Rattle.dual_rail.specs.Local.{function, local_size, IsDiagramOf};
+ghost use Rattle.dual_rail.specs.Lifts.{IsFork, IsLift, IsTable};
+ghost use Rattle.dual_rail.specs.WorkingLists.{IsWide, IsListed};
+
+use crate::diagram::LocalDiagram;
+use crate::rail::{Rails, rails_of};
+use bdd_ops::Diagrams;
+use bdd_store::{Node, StoreFault};
+use std::alloc::Global;
+
+/// What the rails of a node are selected from: those of its pin, and those of its branches.
+#[derive(Clone, Copy, Debug)]
+pub struct Fork {
+    pub pin: Rails,
+    pub hi: Rails,
+    pub lo: Rails,
+}
+
+// The rails of earlier nodes stand in a table by their numbers.
+fn fork_at(local: &LocalDiagram, pins: &[Rails], table: &[Rails], node: Node) -> Fork
+    requires node { IsNodeOf local.now.store node }
+    requires branching { IsBranching node }
+    requires at { length table.now ≡ node.number }
+    requires pins { length pins.now ≡ local.now.pins }
+    ensures fork { (s : Arena) → IsTable local.now s pins.now table.now → All (AreRailsOf s) pins.now → IsFork s pins.now (den local.now.store node) result }
+    ensures part { IsPart local.now.pins (function local.now) (den local.now.store node) }
+{
+    let store = local.store();
+    let pin = pins[store.top(node) as usize];
+    let hi = table[store.hi(node).number() as usize];
+    let lo = table[store.lo(node).number() as usize];
+    store.laws();
+    Fork { pin, hi, lo }
+}
+
+// The rails of one node.
+fn lift_node(
+    d: &mut Diagrams,
+    local: &LocalDiagram,
+    pins: &[Rails],
+    table: &[Rails],
+    node: Node,
+) -> Result<Rails, StoreFault>
+    requires node { IsNodeOf local.now.store node }
+    requires branching { IsBranching node }
+    requires table { IsTable local.now d.old pins.now table.now }
+    requires at { length table.now ≡ node.number }
+    requires pins { length pins.now ≡ local.now.pins }
+    requires rails { All (AreRailsOf d.old) pins.now }
+
+    ensures lift { IfOk result (IsLift d.new pins.now (den local.now.store node)) }
+    ensures keeps { KeepsNodes d.old d.new }
+    ensures added { (w : ℕ) → IsWide d.old.vars (IsListed d.old pins.now (function local.now)) w → AddsAtMost d.old d.new (2 * w) }
+    ensures full { (w : ℕ) → IsWide d.old.vars (IsListed d.old pins.now (function local.now)) w → result ≡ Err StoreFault.Full → IsFullOnlyPast d.old d.new (2 * w) }
+{
+    let fork = fork_at(local, pins, table, node);
+    let one = d.select(fork.pin.one, fork.pin.zero, fork.hi.one, fork.lo.one)?;
+    let zero = d.select(fork.pin.one, fork.pin.zero, fork.hi.zero, fork.lo.zero)?;
+    Ok(Rails { one, zero })
+}
+
+/// The rails of the exact ternary extension of a cover's function, on the values of the pins (Malik 1994). It
+/// leaves every earlier node its function, after a refusal too.
+///
+/// Let w be at least the number of variables plus one, and at least the number of subfunctions of each Boolean
+/// combination of three functions: the pins' rails, and where the function, with some first pins fixed, is
+/// surely 1 or surely 0. Then it adds at most two times w nodes for each node of the cover's function, and
+/// `Full` comes only where so many more would be over the limit.
+pub fn lift(
+    alloc: Global,
+    d: &mut Diagrams,
+    local: &LocalDiagram,
+    pins: &[Rails],
+) -> Result<Rails, StoreFault>
+    requires pins { length pins.now ≡ local.now.pins }
+    requires rails { All (AreRailsOf d.old) pins.now }
+
+    ensures rails { IfOk result (AreRailsOf d.new) }
+    ensures value { IfOk result (λ r. (bits : List Bool) → value_of d.new r bits ≡ exact (function local.now) (values_of d.old pins.now bits)) }
+    ensures cover { (cover : Cover) → IsDiagramOf local.now cover → IfOk result (λ r. (bits : List Bool) → value_of d.new r bits ≡ ext cover (values_of d.old pins.now bits)) }
+    ensures keeps { KeepsNodes d.old d.new }
+    ensures added { (w : ℕ) → IsWide d.old.vars (IsListed d.old pins.now (function local.now)) w → AddsAtMost d.old d.new (2 * w * local_size local.now) }
+    ensures full { (w : ℕ) → IsWide d.old.vars (IsListed d.old pins.now (function local.now)) w → result ≡ Err StoreFault.Full → IsFullOnlyPast d.old d.new (2 * w * local_size local.now) }
+{
+    let Ok(mut table) = vec![in alloc; rails_of(false), rails_of(true)] else {
+        return Err(StoreFault::Memory);
+    };
+    let top = local.top();
+    let store = local.store();
+    store.laws();
+    for position in 0..store.count() {
+        let rails = lift_node(d, local, pins, &table, store.at(position))?;
+        if table.push(rails).is_err() {
+            return Err(StoreFault::Memory);
+        }
+    }
+    Ok(table[top.number() as usize])
+}
