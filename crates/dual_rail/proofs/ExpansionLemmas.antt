@@ -1,10 +1,9 @@
 -- Shannon's expansion of rows.
-use Rattle.std.proofs.Common.{◌≡◌, ℕ, zero, suc, ◌+◌, ◌-◌, ◌<◌, ◌≤◌, Bool, true, false, not, cond, ◌&&◌, ◌||◌, ◌⊎◌, inl, inr, List, [], ◌∷◌, ◌++◌, length, take, drop, replicate, get_or, Option, Some, None, IfNone, Result, Ok, IfOk, if◌then◌else◌, refl, sym, ap, subst, ◌∙◌, arith, add-one, append_assoc, length-append, length-drop, true≢false}
+use Rattle.std.proofs.Common.{◌≡◌, ℕ, zero, suc, ◌+◌, ◌<◌, ◌≤◌, Bool, true, false, not, cond, ◌&&◌, ◌||◌, ◌⊎◌, inl, inr, List, [], ◌∷◌, ◌++◌, length, drop, replicate, get_or, Result, Ok, IfOk, if◌then◌else◌, refl, sym, ap, subst, ◌∙◌, arith, add-one, append_assoc, length-append, length-drop, true≢false}
 use Rattle.std.proofs.lemmas.List.FromFn.{map-range_with_len_more}
 use Rattle.std.proofs.lemmas.List.{map-id, get_or_at, drop_at, length-replicate, length_push}
 use Rattle.std.proofs.lemmas.List.Elements.{All-get_or}
-use Rattle.std.specs.List.{list_any, list_all, filter, zip, All, range_with_len}
-use Rattle.std.specs.Prelude.{slice_get}
+use Rattle.std.specs.List.{list_any, list_all, filter, All, range_with_len}
 use Rattle.bdd_store.specs.declared.node.Node.{Node}
 use Rattle.bdd_store.specs.Arena.{Arena, den, top_of, IsNodeOf, choice}
 use Rattle.bdd_store.specs.Growth.{KeepsNodes, NewAreParts, IsNewFunction, IsRefusedPart}

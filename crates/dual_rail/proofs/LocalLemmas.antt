@@ -1,17 +1,17 @@
 -- The diagram of a cover.
-use Rattle.std.proofs.Common.{◌≡◌, ℕ, zero, suc, ◌+◌, ◌-◌, ◌^◌, ◌<◌, ◌≤◌, ◌⊎◌, Bool, List, [], ◌∷◌, ◌++◌, length, inl, inr, Result, Ok, Err, IfOk, refl, sym, ap, subst, ◌∙◌, arith}
+use Rattle.std.proofs.Common.{◌≡◌, ℕ, ◌-◌, ◌^◌, ◌<◌, ◌≤◌, Bool, List, [], length, inl, inr, Result, Ok, Err, IfOk, sym, ap, subst, ◌∙◌, arith}
 use Rattle.std.specs.List.{range_with_len}
 use Rattle.bdd_store.specs.declared.node.Node.{Node}
-use Rattle.bdd_store.specs.Arena.{Arena, den, IsNodeOf, IsBranching}
+use Rattle.bdd_store.specs.Arena.{Arena, den, IsNodeOf}
 use Rattle.bdd_store.specs.Soundness.{IsLawful}
 use Rattle.bdd_store.specs.Subfunctions.{nodes, IsPart, Alike}
 use Rattle.bdd_store.specs.Growth.{KeepsNodes, NewAreParts, IsRefusedPart}
-use Rattle.bdd_store.proofs.SubfunctionLemmas.{IsPart-of_alike, nodes-alike}
+use Rattle.bdd_store.proofs.SubfunctionLemmas.{IsPart-of_alike}
 use Rattle.bdd_store.proofs.GrowthLemmas.{added-parts, refused-parts}
 use Rattle.cover_logic.specs.declared.row.Row.{Row}
-use Rattle.cover_logic.specs.Covers.{Cover, IsCover, value, value_of_rows}
+use Rattle.cover_logic.specs.Covers.{Cover, IsCover, value}
 use Rattle.dual_rail.specs.Expansion.{remainder, IsExpansion}
-use Rattle.dual_rail.specs.Local.{Local, function, IsLocal, IsDiagramOf, size}
+use Rattle.dual_rail.specs.Local.{IsLocal, IsDiagramOf, size}
 use Rattle.dual_rail.proofs.ExpansionLemmas.{remainder-whole}
 use Rattle.dual_rail.proofs.SizeLemmas.{nodes-below_power}
 

@@ -1,13 +1,12 @@
 -- Bounds on the number of subfunctions.
-use Rattle.std.proofs.Common.{◌≡◌, ℕ, zero, suc, ◌+◌, ◌-◌, ◌*◌, ◌^◌, ◌<◌, ◌≤◌, Bool, true, false, not, cond, ◌&&◌, ◌||◌, ◌⊎◌, inl, inr, List, [], ◌∷◌, ◌++◌, length, drop, map, filter, get_or, Contains, refl, sym, ap, subst, ◌∙◌, arith, length-append, length-drop, true≢false}
+use Rattle.std.proofs.Common.{◌≡◌, ℕ, zero, suc, ◌+◌, ◌-◌, ◌^◌, ◌<◌, ◌≤◌, Bool, true, false, not, cond, ◌||◌, ◌⊎◌, inl, inr, List, [], ◌∷◌, ◌++◌, length, drop, map, filter, get_or, Contains, refl, sym, ap, subst, ◌∙◌, arith, length-append, true≢false}
 use Rattle.std.proofs.Math.Nat.{pow-suc}
 use Rattle.std.proofs.lemmas.Bool.{cases_lt}
 use Rattle.std.proofs.lemmas.List.{length-map, drop_all, append-nil, get_or_append_left, get_or-append_right, get_or-drop}
 use Rattle.std.proofs.lemmas.Map.Keys.{IsDistinct-cons}
 use Rattle.std.proofs.lemmas.Map.Made.{length-le_from_is_member, is_member-Decides}
-use Rattle.std.specs.Bool.{beq}
 use Rattle.std.specs.Cmp.{IsEquivalence, bool_eq_equiv}
-use Rattle.std.specs.Cmp.Lexicographic.{pointwise, lists_equiv}
+use Rattle.std.specs.Cmp.Lexicographic.{lists_equiv}
 use Rattle.std.specs.List.{AllByRecursion, IsDistinct, list_all}
 use Rattle.std.specs.Set.{is_member, unique_keys}
 use Rattle.bdd_store.specs.Subfunctions.{fixed, vectors, prefixes, table, is_constant, nodes}

@@ -13,7 +13,7 @@ use Rattle.bdd_ops.specs.Operations.{select, selection}
 use Rattle.cyc_base.proofs.OrderLemmas.{Below-at, same_bit, Completes-at, Completes-length, Completes-set}
 use Rattle.cyc_base.specs.declared.trit.Trit.{Trit}
 use Rattle.cyc_base.specs.declared.trit.Trit.TheVariants.{Zero, One, X}
-use Rattle.cyc_base.specs.Values.{bit, Below, Completes}
+use Rattle.cyc_base.specs.Values.{bit, Completes}
 use Rattle.cover_logic.specs.Extensions.{exact}
 use Rattle.cover_logic.proofs.ExtensionLemmas.{passes_above, passes_listed, some_completion}
 use Rattle.dual_rail.specs.declared.rail.Rails.{Rails}

@@ -1,19 +1,18 @@
 -- Counting the nodes of a lift.
-use Rattle.std.proofs.Common.{◌≡◌, ℕ, zero, suc, ◌+◌, ◌<◌, ◌≤◌, Bool, true, false, not, ◌&&◌, ◌||◌, ◌⊎◌, inl, inr, List, [], ◌∷◌, ◌++◌, length, map, drop, get_or, refl, sym, ap, ap₂, subst, ◌∙◌, arith}
+use Rattle.std.proofs.Common.{◌≡◌, ℕ, zero, suc, ◌+◌, ◌≤◌, Bool, true, false, not, ◌&&◌, inl, inr, List, [], ◌∷◌, ◌++◌, length, map, drop, refl, sym, ap, ap₂, subst, ◌∙◌, arith}
 use Rattle.std.proofs.Common.{cond, filter}
 use Rattle.std.specs.List.{All}
 use Rattle.std.specs.Bool.{beq}
 use Rattle.std.specs.Cmp.Lexicographic.{pointwise}
 use Rattle.std.proofs.lemmas.List.{length-map}
-use Rattle.std.proofs.lemmas.List.Elements.{All-contains, Contains-get_or}
+use Rattle.std.proofs.lemmas.List.Elements.{All-contains}
 use Rattle.std.proofs.lemmas.List.Filters.{length-filter_both}
 use Rattle.std.proofs.lemmas.List.Folds.{list_all-append, list_all-map}
 use Rattle.std.proofs.lemmas.Map.Made.{distinct_count-le}
 use Rattle.bdd_store.specs.declared.node.Node.{Node}
-use Rattle.bdd_store.specs.Arena.{Arena, den, IsNodeOf}
-use Rattle.bdd_store.specs.Growth.{KeepsNodes, AddsAtMost, IsFullOnlyPast}
+use Rattle.bdd_store.specs.Arena.{Arena, den}
+use Rattle.bdd_store.specs.Growth.{KeepsNodes}
 use Rattle.bdd_store.specs.Subfunctions.{nodes, fixed, table, prefixes, is_constant, IsPart}
-use Rattle.bdd_store.proofs.SubfunctionLemmas.{nodes-alike}
 use Rattle.cyc_base.specs.declared.trit.Trit.{Trit}
 use Rattle.cyc_base.specs.declared.trit.Trit.TheVariants.{Zero, One, X}
 use Rattle.cover_logic.specs.Extensions.{completions, exact}

@@ -1,5 +1,5 @@
 -- What was expanded, by the pin and the rows that are still live there.
-use Rattle.std.specs.Prelude.{◌≡◌, ◌&&◌, ◌==◌, ℕ, nat_eq, Bool, List, Some}
+use Rattle.std.specs.Prelude.{◌≡◌, ◌&&◌, nat_eq, Bool, List, Some}
 use Rattle.std.specs.Cmp.Lexicographic.{pointwise}
 use Rattle.std.specs.HashMap.{HashMap, get}
 use Rattle.std.specs.declared.hash.FoldHasher.{FoldHasher}

@@ -1,6 +1,5 @@
 -- Three values as two nodes: where a value is surely 1, and where it is surely 0.
-use Rattle.std.specs.Prelude.{◌≡◌, ◌<◌, ℕ, Bool, false, not, List, ◌&&◌, if◌then◌else◌, map}
-use Rattle.bdd_store.specs.declared.node.Node.{Node}
+use Rattle.std.specs.Prelude.{◌≡◌, Bool, false, List, ◌&&◌, if◌then◌else◌, map}
 use Rattle.bdd_store.specs.Arena.{Arena, den, IsNodeOf}
 use Rattle.cyc_base.specs.declared.trit.Trit.{Trit}
 use Rattle.cyc_base.specs.declared.trit.Trit.TheVariants.{Zero, One, X}

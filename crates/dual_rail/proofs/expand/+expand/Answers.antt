@@ -1,9 +1,7 @@
-use Rattle.std.proofs.Common.{◌≡◌, ◌<◌, ◌+◌, ◌-◌, ◌*◌, ℕ, Bool, List, Err, sym, ap, subst, ◌∙◌, arith}
-use Rattle.bdd_store.specs.declared.fault.StoreFault.{StoreFault}
+use Rattle.std.proofs.Common.{◌<◌, ℕ, sym, subst, ◌∙◌, arith}
 use Rattle.bdd_store.specs.Subfunctions.{IsPart}
-use Rattle.bdd_store.specs.Growth.{KeepsNodes, NewAreParts}
 use Rattle.bdd_store.proofs.GrowthLemmas.{KeepsNodes-chain, NewAreParts-chain, NewAreParts-part, IsRefusedPart-part}
-use Rattle.dual_rail.specs.Expansion.{remainder, narrowed, AreBranches}
+use Rattle.dual_rail.specs.Expansion.{remainder, AreBranches}
 use Rattle.dual_rail.proofs.ExpansionLemmas.{IsPart-next, IsExpansion-kept}
 use Rattle.dual_rail.proofs.MemoLemmas.{IsMemo-found}
 use Rattle.dual_rail.proofs.expand.+expand.Goals as goal

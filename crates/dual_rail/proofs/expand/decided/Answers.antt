@@ -1,4 +1,4 @@
-use Rattle.std.proofs.Common.{◌≡◌, List, ℕ, [], length, false, sym, ap, ◌∙◌, true≢false}
+use Rattle.std.proofs.Common.{length, sym, ap, ◌∙◌, true≢false}
 use Rattle.std.specs.Bool.{◌==◌}
 use Rattle.dual_rail.proofs.ExpansionLemmas.{remainder-settled, asks_within}
 use Rattle.dual_rail.proofs.expand.decided.Goals as goal

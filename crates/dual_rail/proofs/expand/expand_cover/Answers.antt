@@ -1,6 +1,4 @@
-use Rattle.std.proofs.Common.{◌≡◌, ap, sym, ◌∙◌, subst, Bool, List}
-use Rattle.cover_logic.specs.Covers.{value}
-use Rattle.dual_rail.specs.Expansion.{remainder}
+use Rattle.std.proofs.Common.{◌∙◌}
 use Rattle.dual_rail.proofs.LocalLemmas.{remainder-cover, function-cover, NewAreParts-alike, IsRefusedPart-alike}
 use Rattle.dual_rail.proofs.expand.expand_cover.Goals as goal
 

@@ -1,7 +1,6 @@
-use Rattle.std.proofs.Common.{Result, Err, Ok, sym, ap, subst}
+use Rattle.std.proofs.Common.{Result, Err, Ok, sym, ap}
 use Rattle.bdd_store.specs.declared.node.Node.{Node}
 use Rattle.bdd_store.specs.declared.fault.StoreFault.{StoreFault}
-use Rattle.bdd_store.specs.Arena.{choice}
 use Rattle.dual_rail.proofs.ExpansionLemmas.{IsExpansion-made, NewAreParts-choice, IsRefusedPart-choice}
 use Rattle.dual_rail.proofs.MemoLemmas.{IsMemo-kept, IsMemo-insert, on_ok}
 use Rattle.dual_rail.proofs.expand.join.Goals as goal

@@ -1,12 +1,10 @@
-use Rattle.std.proofs.Common.{◌*◌, Err, sym, ap, ◌∙◌, arith, ℕ, Bool, List, not, length}
+use Rattle.std.proofs.Common.{Err, sym, ap, arith}
 use Rattle.std.specs.List.{All}
 use Rattle.bdd_store.specs.declared.fault.StoreFault.{StoreFault}
 use Rattle.bdd_store.specs.Arena.{den}
-use Rattle.bdd_store.specs.Growth.{IsFullOnlyPast}
 use Rattle.bdd_ops.specs.Operations.{selection}
-use Rattle.dual_rail.specs.Local.{function}
 use Rattle.dual_rail.specs.Rails.{AreRailsOf}
-use Rattle.dual_rail.specs.Lifts.{IsFork, IsTable}
+use Rattle.dual_rail.specs.Lifts.{IsFork}
 use Rattle.dual_rail.proofs.SurelyLemmas.{All-rails-kept, IsSurely-made, IsSurely-kept}
 use Rattle.dual_rail.proofs.TableLemmas.{IsTable-kept}
 use Rattle.dual_rail.proofs.WidthLemmas.{one-nodes, zero-nodes, IsWide-kept}

@@ -1,6 +1,5 @@
-use Rattle.std.proofs.Common.{Err, Bool, List, not, sym, ap, ◌∙◌, subst, arith, ◌≤◌, ℕ}
+use Rattle.std.proofs.Common.{Err, not, sym, ap, subst, arith, ◌≤◌}
 use Rattle.bdd_store.specs.declared.fault.StoreFault.{StoreFault}
-use Rattle.bdd_store.specs.Arena.{den}
 use Rattle.bdd_store.specs.Subfunctions.{nodes}
 use Rattle.bdd_store.proofs.SubfunctionLemmas.{nodes-alike}
 use Rattle.bdd_ops.specs.Operations.{bit_at, complement}
