@@ -1,5 +1,6 @@
 pub mod Decisions
 pub mod Differ
 pub mod FixpointLemmas
+pub mod GraphLemmas
 pub mod Repeats
 pub mod Validity

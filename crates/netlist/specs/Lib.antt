@@ -3,4 +3,5 @@ pub mod Fixpoint
 pub mod Laws
 pub mod Naming
 pub mod Netlists
+pub mod Orders
 pub mod Walks

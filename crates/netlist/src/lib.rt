@@ -10,6 +10,7 @@ pub mod laws;
 mod named;
 mod names;
 mod netlist;
+mod order;
 mod parts;
 #[cfg(test)]
 mod tests;

@@ -161,6 +161,14 @@ impl Netlist {
         &self.parts.gates.items()[i as usize]
     }
 
+    /// All gates, in flat order.
+    pub(crate) fn gate_list(&self) -> &[Gate]
+        ensures gates { result.now ≡ self.now.gates }
+        ensures valid { IsNetlist self.now }
+    {
+        self.parts.gates.items()
+    }
+
     /// The signal of a gate.
     pub fn gate_sig(&self, i: u32) -> Sig
         requires { i < length self.now.gates }
