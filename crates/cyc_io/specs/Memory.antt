@@ -6,6 +6,7 @@ use Rattle.cyc_io.specs.Files.{Files}
 use Rattle.cyc_io.specs.MemoryFiles.{file_of}
 use Rattle.cyc_io.specs.declared.memory.MemoryShelf.{MemoryShelf}
 use Rattle.cyc_io.specs.declared.memory.MemorySink.{MemorySink}
+use Rattle.cyc_io.specs.declared.text.TextSink.{TextSink}
 
 abbrev pub memory_files : MemoryShelf → Files
 memory_files shelf = file_of shelf.files.items
@@ -27,3 +28,6 @@ WriteIsToFail sink = Contains sink.fail.items sink.calls ⊎ sink.room ≤ lengt
 -- how much of a piece the next write takes
 abbrev pub count_to_take : MemorySink → ℕ → ℕ
 count_to_take sink size = min (min size sink.most) (sink.room - length sink.bytes.items)
+
+abbrev pub text_bytes : TextSink → List ℕ
+text_bytes sink = sink.bytes.items

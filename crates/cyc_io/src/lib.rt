@@ -12,8 +12,10 @@ mod shelf;
 mod sink;
 #[cfg(test)]
 mod tests;
+mod text;
 
 pub use host::{HostShelf, HostSink};
 pub use memory::{MemoryShelf, MemorySink};
 pub use shelf::{ReadFault, Shelf, ShelfFault, read_whole};
 pub use sink::{Failed, Sink, write_whole};
+pub use text::TextSink;

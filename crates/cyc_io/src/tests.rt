@@ -1,6 +1,6 @@
 use crate::{
     Failed, HostShelf, HostSink, MemoryShelf, MemorySink, ReadFault, Shelf, ShelfFault, Sink,
-    read_whole, write_whole,
+    TextSink, read_whole, write_whole,
 };
 use cyc_base::Name;
 use std::alloc::{AllocError, Global};
@@ -46,6 +46,16 @@ fn writes_in_memory_fail_on_demand(rt: HostRuntime) -> Result<(), Fail> {
         assert_eq!(rt; done.is_ok(), want.len() == 7);
         assert_eq!(rt; sink.bytes(), want.as_bytes());
     }
+    Ok(())
+}
+
+#[test]
+fn a_text_is_kept_whole(rt: HostRuntime) -> Result<(), Fail> {
+    let mut sink = TextSink::new(rt.alloc());
+    for piece in ["one ", "two"] {
+        assert_eq!(rt; write_whole(&mut sink, piece.as_bytes()), Ok(()));
+    }
+    assert_eq!(rt; sink.into_vec().as_slice(), b"one two".as_slice());
     Ok(())
 }
 
