@@ -11,3 +11,4 @@ pub mod Gathering
 pub mod Placing
 pub mod Printable
 pub mod Valid
+pub mod Files

@@ -1,4 +1,5 @@
 ghost use Rattle.std.specs.Prelude.{◌≡◌, ◌≤◌, ◌⊎◌, Ok, Err, IfOk, IfErr};
+ghost use Rattle.netlist.specs.Netlists.{IsNetlist};
 ghost use Rattle.blif_read.specs.Flattening.{CanBeFlattened};
 ghost use Rattle.flatten.specs.Flat.{flat, flat_within};
 
@@ -32,6 +33,7 @@ fn flatten_within(
     requires sound { CanBeFlattened models.now }
     requires limit { limit ≤ 4000000 }
     ensures netlist { IfOk result (λ net. flat_within depth limit models.now top.now ≡ Ok net) }
+    ensures valid { IfOk result IsNetlist }
     ensures fault { IfErr result
         (λ fault. (fault ≡ FlatFault.Memory) ⊎ (flat_within depth limit models.now top.now ≡ Err fault)) }
 {
@@ -56,6 +58,7 @@ fn flatten_within(
 pub fn flatten(alloc: Global, models: &Models, top: &Name) -> Result<Netlist, FlatFault>
     requires { CanBeFlattened models.now.list }
     ensures netlist { IfOk result (λ net. flat models.now.list top.now ≡ Ok net) }
+    ensures valid { IfOk result IsNetlist }
     ensures fault { IfErr result
         (λ fault. (fault ≡ FlatFault.Memory) ⊎ (flat models.now.list top.now ≡ Err fault)) }
 {
