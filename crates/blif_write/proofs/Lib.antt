@@ -1,0 +1,10 @@
+pub mod LineLemmas
+pub mod NameLemmas
+pub mod PutLemmas
+pub mod ReadLines
+pub mod Faultless
+pub mod Said
+pub mod Flattened
+pub mod Linked
+pub mod Named
+pub mod ReadingBack

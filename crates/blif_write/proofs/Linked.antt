@@ -1,0 +1,444 @@
+-- The lines of a written netlist link to the netlist.
+use Rattle.std.proofs.Common.{◌≡◌, ◌&&◌, ◌||◌, ℕ, zero, suc, ◌<◌, not, Bool, true, false, List, [], ◌∷◌, ◌++◌, length, map, get_or, refl, sym, ap, ◌∙◌, subst, arith, eq-eqb, if◌then◌else◌, None, Some, option_map, is_some, Ok, Err, cond}
+use Rattle.std.specs.Prelude.{codes, All, IfSome, filter}
+use Rattle.std.specs.List.{flat_map, list_any, find, position_or_len, IsDistinct, AllByRecursion}
+use Rattle.std.specs.Option.{option_or, option_and_then, option_map_or}
+use Rattle.std.specs.Str.{bytes_eq}
+use Rattle.std.specs.declared.option.Option.{Option}
+use Rattle.std.proofs.lemmas.List.{length-map, length-append}
+use Rattle.std.proofs.lemmas.List.Elements.{All-head, All-tail, All-nil, All-cons, All-append}
+use Rattle.std.proofs.lemmas.List.Folds.{list_any-append}
+use Rattle.cyc_base.specs.declared.sig.Sig.{Sig}
+use Rattle.netlist.specs.declared.parts.Clock.{Clock}
+use Rattle.netlist.specs.declared.parts.Edge.{Edge}
+use Rattle.netlist.specs.declared.parts.Edge.TheVariants.{Rise, Fall}
+use Rattle.netlist.specs.declared.parts.Gate.{Gate}
+use Rattle.netlist.specs.declared.parts.Latch.{Latch}
+use Rattle.netlist.specs.declared.parts.Parts.{Parts}
+use Rattle.netlist.specs.Netlists.{signal, count, sig_eq, signal_names, driven_names, IsSignal, IsNetlist, IsClockName}
+use Rattle.netlist.specs.Faults.{repeat_after}
+use Rattle.netlist.proofs.Differ.{no_repeat_from_differ}
+use Rattle.blif_read.specs.declared.models.BlifModel.{BlifModel}
+use Rattle.blif_read.specs.declared.models.GateLine.{GateLine}
+use Rattle.blif_read.specs.declared.models.LatchLine.{LatchLine}
+use Rattle.flatten.specs.declared.fault.FlatFault.{FlatFault}
+use Rattle.flatten.specs.declared.fault.FlatFault.TheVariants.{DeclaredTwice, DrivenTwice, Undriven, BadClock, ClockRead}
+use Rattle.flatten.specs.Instances.{is_among}
+use Rattle.flatten.specs.Linking.{twice_after, first_twice, each_once, own_clocks, latch_outputs, gate_outputs, drivers, reads, has_control, first_control, edge_eq, is_fitting, has_bad_control, link_fault, signal_list, sig_of, latch_with, gate_with, netlist_by, linked}
+use Rattle.flatten.proofs.Names.{bytes_same, bytes_refl, bytes_sym}
+use Rattle.flatten.proofs.Placing.{step_yes, step_no}
+use Rattle.blif_write.specs.Written.{name_of}
+use Rattle.blif_write.proofs.NameLemmas.{driven_any, or_right}
+use Rattle.blif_write.proofs.Said.{control_if, clock_names, latch_of_text, gate_of_text, model_of_text}
+use Rattle.blif_write.proofs.Flattened.{lines_of_text}
+
+-- Names that differ.
+
+twice_is : (earlier names : List (List ℕ)) → twice_after earlier names ≡ option_map (λ p. p.1) (repeat_after bytes_eq earlier names)
+twice_is earlier [] = refl
+twice_is earlier (name ∷ names) = by (list_any (bytes_eq name) earlier) (twice_is (earlier ++ name ∷ []) names)
+  where
+    by : (t : Bool) → twice_after (earlier ++ name ∷ []) names ≡ option_map (λ p. p.1) (repeat_after bytes_eq (earlier ++ name ∷ []) names)
+        → (if t then Some name else twice_after (earlier ++ name ∷ []) names)
+        ≡ option_map (λ p. p.1) (if t then Some (length earlier, name) else repeat_after bytes_eq (earlier ++ name ∷ []) names)
+    by true rest = refl
+    by false rest = rest
+
+once : (names : List (List ℕ)) → IsDistinct bytes_eq names → first_twice names ≡ None
+once names d = twice_is [] names ∙ ap (option_map (λ p. p.1)) (no_repeat_from_differ bytes_eq bytes_sym names d)
+
+distinct_front : (xs ys : List (List ℕ)) → IsDistinct bytes_eq (xs ++ ys) → IsDistinct bytes_eq xs
+unfolding IsDistinct
+distinct_front [] ys d = tt
+distinct_front (x ∷ xs) ys d = (front xs d.0, distinct_front xs ys d.1)
+  where
+    front : (zs : List (List ℕ)) → AllByRecursion (λ y. bytes_eq x y ≡ false) (zs ++ ys) → AllByRecursion (λ y. bytes_eq x y ≡ false) zs
+    front [] a = tt
+    front (z ∷ zs) a = (a.0, front zs a.1)
+
+or_false : (a b : Bool) → (a || b) ≡ false → (a ≡ false) × (b ≡ false)
+or_false true b e = cc
+or_false false b e = (refl, e)
+
+each_apart : (name : List ℕ) (names : List (List ℕ)) → is_among names name ≡ false → AllByRecursion (λ y. bytes_eq name y ≡ false) names
+each_apart name [] e = tt
+each_apart name (other ∷ names) e =
+    let both = or_false (bytes_eq name other) (is_among names name) e in
+    (both.0, each_apart name names both.1)
+
+-- a name that is none of these may stand anywhere among them
+put_in : (name : List ℕ) (xs ys : List (List ℕ)) → IsDistinct bytes_eq (xs ++ ys) → is_among xs name ≡ false → is_among ys name ≡ false
+    → IsDistinct bytes_eq (xs ++ (name ∷ ys))
+unfolding IsDistinct
+put_in name [] ys d no_x no_y = (each_apart name ys no_y, d)
+put_in name (x ∷ xs) ys d no_x no_y =
+    let both = or_false (bytes_eq name x) (is_among xs name) no_x in
+    (longer xs d.0 (bytes_sym x name ∙ both.0), put_in name xs ys d.1 both.1 no_y)
+  where
+    longer : (zs : List (List ℕ)) → AllByRecursion (λ y. bytes_eq x y ≡ false) (zs ++ ys) → bytes_eq x name ≡ false
+        → AllByRecursion (λ y. bytes_eq x y ≡ false) (zs ++ (name ∷ ys))
+    longer [] a e = (e, a)
+    longer (z ∷ zs) a e = (a.0, longer zs a.1 e)
+
+-- The place of a name among names that differ.
+
+apart_at : (name : List ℕ) (names : List (List ℕ)) (i : ℕ) → AllByRecursion (λ y. bytes_eq name y ≡ false) names → i < length names
+    → bytes_eq name (get_or names i []) ≡ false
+apart_at name [] i a l = absurd (omega arith)
+apart_at name (x ∷ names) zero a l = a.0
+apart_at name (x ∷ names) (suc i) a l = apart_at name names i a.1 (omega arith)
+
+place_of : (names : List (List ℕ)) (i : ℕ) → IsDistinct bytes_eq names → i < length names → position_or_len (bytes_eq (get_or names i [])) names ≡ i
+unfolding IsDistinct
+place_of [] i d l = absurd (omega arith)
+place_of (x ∷ names) zero d l = step_yes (bytes_eq x) x names (bytes_refl x)
+place_of (x ∷ names) (suc i) d l =
+    let name = get_or names i [] in
+    omega (arith, step_no (bytes_eq name) x names (bytes_sym name x ∙ apart_at x names i d.0 (omega arith)), place_of names i d.1 (omega arith))
+
+among_at : (names : List (List ℕ)) (i : ℕ) → i < length names → is_among names (get_or names i []) ≡ true
+among_at [] i l = absurd (omega arith)
+among_at (x ∷ names) zero l = ap (λ t. t || is_among names x) (bytes_refl x)
+among_at (x ∷ names) (suc i) l = or_right (bytes_eq (get_or names i []) x) _ (among_at names i (omega arith))
+
+-- The signals of a netlist and their names.
+
+map_twice : {X Y Z : Type 0} (g : Y → Z) (f : X → Y) (xs : List X) → map g (map f xs) ≡ map (λ x. g (f x)) xs
+map_twice g f [] = refl
+map_twice g f (x ∷ xs) = ap (λ rest. g (f x) ∷ rest) (map_twice g f xs)
+
+map_all : {X : Type 0} (P : X → Type 0) (f : X → X) → ((x : X) → P x → f x ≡ x) → (xs : List X) → All P xs → map f xs ≡ xs
+map_all P f same [] each = refl
+map_all P f same (x ∷ xs) each =
+    ap (λ y. y ∷ map f xs) (same x (All-head P x xs each)) ∙ ap (λ rest. x ∷ rest) (map_all P f same xs (All-tail P x xs each))
+
+driven_are : (net : Parts) → latch_outputs (lines_of_text net) ++ gate_outputs (lines_of_text net) ≡ driven_names net
+driven_are net =
+    ap (λ names. names ++ gate_outputs (lines_of_text net)) (map_twice (λ (l : LatchLine). l.output) (latch_of_text net) net.latches)
+    ∙ ap (λ names. map (λ (latch : Latch). latch.name) net.latches ++ names) (map_twice (λ (g : GateLine). g.output) (gate_of_text net) net.gates)
+
+signals_are : (net : Parts) → signal_list (model_of_text net) (lines_of_text net) ≡ signal_names net
+signals_are net = ap (λ names. net.inputs ++ names) (driven_are net)
+
+pub name_count : (net : Parts) → length (signal_names net) ≡ count net
+name_count net =
+    omega (
+      arith,
+      length-append net.inputs (driven_names net),
+      length-append (map (λ (latch : Latch). latch.name) net.latches) (map (λ (gate : Gate). gate.name) net.gates),
+      length-map net.latches (λ (latch : Latch). latch.name),
+      length-map net.gates (λ (gate : Gate). gate.name),
+    )
+
+sig_same : (net : Parts) → IsNetlist net → (s : Sig) → IsSignal net s → sig_of (signal_names net) (name_of net s) ≡ s
+sig_same net valid s is = ap signal (place_of (signal_names net) s.0 valid.names_differ (omega (arith, is, name_count net)))
+
+sigs_same : (net : Parts) → IsNetlist net → (sigs : List Sig) → All (IsSignal net) sigs → map (sig_of (signal_names net)) (map (name_of net) sigs) ≡ sigs
+sigs_same net valid sigs each =
+    map_twice (sig_of (signal_names net)) (name_of net) sigs
+    ∙ map_all (IsSignal net) (λ s. sig_of (signal_names net) (name_of net s)) (sig_same net valid) sigs each
+
+-- The clock.
+
+abbrev ClockFits : Parts → Option Clock → Type 0
+ClockFits net clock = IfSome clock (λ clock. IsClockName net clock.name)
+
+no_clocks : (net : Parts) (clock : Option Clock) → own_clocks (record { name = net.name; inputs = net.inputs; outputs = []; clocks = clock_names net clock; body = [] }) ≡ clock_names net clock
+no_clocks net None = refl
+no_clocks net (Some clock) = by (is_among net.inputs clock.name) refl
+  where
+    by : (t : Bool) → is_among net.inputs clock.name ≡ t
+        → each_once (filter (λ name. not (is_among net.inputs name)) (if t then [] else clock.name ∷ [])) ≡ (if t then [] else clock.name ∷ [])
+    by true e = refl
+    by false e = ap (λ t. each_once (cond (not t) (clock.name ∷ []) [])) e
+
+clocks_are : (net : Parts) → own_clocks (model_of_text net) ≡ clock_names net net.clock
+clocks_are net = no_clocks net net.clock
+
+drivers_are : (net : Parts) → drivers (model_of_text net) (lines_of_text net) ≡ net.inputs ++ (clock_names net net.clock ++ driven_names net)
+drivers_are net =
+    ap (λ names. net.inputs ++ (names ++ (latch_outputs (lines_of_text net) ++ gate_outputs (lines_of_text net)))) (clocks_are net)
+    ∙ ap (λ names. net.inputs ++ (clock_names net net.clock ++ names)) (driven_are net)
+
+-- with the clock among them the names still differ, and none but an input has its name
+with_clock : (net : Parts) (clock : Option Clock) → IsNetlist net → ClockFits net clock → IsDistinct bytes_eq (net.inputs ++ (clock_names net clock ++ driven_names net))
+with_clock net None valid fits = valid.names_differ
+with_clock net (Some clock) valid fits = by (is_among net.inputs clock.name) refl
+  where
+    by : (t : Bool) → is_among net.inputs clock.name ≡ t
+        → IsDistinct bytes_eq (net.inputs ++ ((if t then [] else clock.name ∷ []) ++ driven_names net))
+    by true e = valid.names_differ
+    by false e = put_in clock.name net.inputs (driven_names net) valid.names_differ e (driven_any net clock.name ∙ fits.undriven)
+
+no_signal : (net : Parts) (clock : Option Clock) (name : List ℕ) → ClockFits net clock → is_among (signal_names net) name ≡ true
+    → is_among (clock_names net clock) name ≡ false
+no_signal net None name fits among = refl
+no_signal net (Some clock) name fits among = by (is_among net.inputs clock.name) refl
+  where
+    apart : is_among net.inputs clock.name ≡ false → (t : Bool) → bytes_eq name clock.name ≡ t → t ≡ false
+    apart e false same = refl
+    apart e true same =
+        let is : name ≡ clock.name = bytes_same name clock.name same in
+        let there : is_among (signal_names net) clock.name ≡ true = ap (is_among (signal_names net)) (sym is) ∙ among in
+        let split = list_any-append (bytes_eq clock.name) net.inputs (driven_names net) in
+        let none : is_among (signal_names net) clock.name ≡ false = split ∙ ap (λ b. b || is_among (driven_names net) clock.name) e ∙ driven_any net clock.name ∙ fits.undriven in
+        cc
+
+    by : (t : Bool) → is_among net.inputs clock.name ≡ t → is_among (if t then [] else clock.name ∷ []) name ≡ false
+    by true e = refl
+    by false e = ap (λ b. b || false) (apart e (bytes_eq name clock.name) refl)
+
+-- What is read.
+
+abbrev IsRead : Parts → List ℕ → Type 0
+IsRead net name = is_among (signal_names net) name ≡ true
+
+read_signal : (net : Parts) (s : Sig) → IsSignal net s → IsRead net (name_of net s)
+read_signal net s is = among_at (signal_names net) s.0 (omega (arith, is, name_count net))
+
+All-mapped : {X Y : Type 0} (P : X → Type 0) (Q : Y → Type 0) (f : X → Y) → ((x : X) → P x → Q (f x)) → (xs : List X) → All P xs → All Q (map f xs)
+All-mapped P Q f gives [] each = All-nil Q
+All-mapped P Q f gives (x ∷ xs) each =
+    All-cons Q (f x) (map f xs) (gives x (All-head P x xs each)) (All-mapped P Q f gives xs (All-tail P x xs each))
+
+sources_read : (net : Parts) (ls : List Latch) → All (λ latch. IsSignal net latch.from) ls
+    → All (IsRead net) (map (λ (l : LatchLine). l.from) (map (latch_of_text net) ls))
+sources_read net [] each = All-nil (IsRead net)
+sources_read net (latch ∷ ls) each =
+    let S = λ (latch : Latch). IsSignal net latch.from in
+    All-cons (IsRead net) (name_of net latch.from) _ (read_signal net latch.from (All-head S latch ls each)) (sources_read net ls (All-tail S latch ls each))
+
+pins_read : (net : Parts) (gs : List Gate) → All (λ gate. All (IsSignal net) gate.pins) gs
+    → All (IsRead net) (flat_map (λ (g : GateLine). g.pins) (map (gate_of_text net) gs))
+pins_read net [] each = All-nil (IsRead net)
+pins_read net (gate ∷ gs) each =
+    let G = λ (gate : Gate). All (IsSignal net) gate.pins in
+    All-append (IsRead net) (map (name_of net) gate.pins) _
+    (All-mapped (IsSignal net) (IsRead net) (name_of net) (read_signal net) gate.pins (All-head G gate gs each))
+    (pins_read net gs (All-tail G gate gs each))
+
+all_read : (net : Parts) → IsNetlist net → All (IsRead net) (reads (model_of_text net) (lines_of_text net))
+all_read net valid =
+    All-append (IsRead net) (map (name_of net) net.outputs) _
+    (All-mapped (IsSignal net) (IsRead net) (name_of net) (read_signal net) net.outputs valid.outputs)
+    (All-append (IsRead net) _ _ (sources_read net net.latches valid.sources) (pins_read net net.gates valid.pins))
+
+none_passes : {X : Type 0} (P : X → Type 0) (p : X → Bool) → ((x : X) → P x → p x ≡ false) → (xs : List X) → All P xs → find p xs ≡ None
+none_passes P p fails [] each = refl
+none_passes P p fails (x ∷ xs) each =
+    ap (λ t. cond t (Some x) (find p xs)) (fails x (All-head P x xs each)) ∙ none_passes P p fails xs (All-tail P x xs each)
+
+among_more : (xs ys zs : List (List ℕ)) (name : List ℕ) → is_among (xs ++ zs) name ≡ true → is_among (xs ++ (ys ++ zs)) name ≡ true
+among_more xs ys zs name e =
+    list_any-append (bytes_eq name) xs (ys ++ zs)
+    ∙ ap (λ b. is_among xs name || b) (list_any-append (bytes_eq name) ys zs)
+    ∙ by (is_among xs name) (is_among ys name) (is_among zs name) (sym (list_any-append (bytes_eq name) xs zs) ∙ e)
+  where
+    by : (a b c : Bool) → (a || c) ≡ true → (a || (b || c)) ≡ true
+    by true b c e = refl
+    by false true c e = refl
+    by false false c e = e
+
+-- Outputs differ by name.
+
+sigs_apart : (net : Parts) → IsNetlist net → (a b : Sig) → IsSignal net a → IsSignal net b → sig_eq a b ≡ false
+    → bytes_eq (name_of net a) (name_of net b) ≡ false
+sigs_apart net valid a b is_a is_b differ = by (bytes_eq (name_of net a) (name_of net b)) refl
+  where
+    by : (t : Bool) → bytes_eq (name_of net a) (name_of net b) ≡ t → t ≡ false
+    by false e = refl
+    by true e =
+        let same : name_of net a ≡ name_of net b = bytes_same _ _ e in
+        let is : a ≡ b = sym (sig_same net valid a is_a) ∙ ap (sig_of (signal_names net)) same ∙ sig_same net valid b is_b in
+        let same_sig : sig_eq a b ≡ true = ap (λ s. sig_eq s b) is ∙ eq-eqb b.0 b.0 refl in
+        cc
+
+outputs_apart : (net : Parts) → IsNetlist net → (a : Sig) (sigs : List Sig) → IsSignal net a → All (IsSignal net) sigs
+    → AllByRecursion (λ b. sig_eq a b ≡ false) sigs → AllByRecursion (λ name. bytes_eq (name_of net a) name ≡ false) (map (name_of net) sigs)
+outputs_apart net valid a [] is each apart = tt
+outputs_apart net valid a (b ∷ sigs) is each apart = (
+  sigs_apart net valid a b is (All-head (IsSignal net) b sigs each) apart.0,
+  outputs_apart net valid a sigs is (All-tail (IsSignal net) b sigs each) apart.1,
+)
+
+outputs_distinct : (net : Parts) → IsNetlist net → (sigs : List Sig) → All (IsSignal net) sigs → IsDistinct sig_eq sigs
+    → IsDistinct bytes_eq (map (name_of net) sigs)
+unfolding IsDistinct
+outputs_distinct net valid [] each d = tt
+outputs_distinct net valid (a ∷ sigs) each d = (
+  outputs_apart net valid a sigs (All-head (IsSignal net) a sigs each) (All-tail (IsSignal net) a sigs each) d.0,
+  outputs_distinct net valid sigs (All-tail (IsSignal net) a sigs each) d.1,
+)
+
+-- The controls are all the clock.
+
+unclocked : (clock : Option Clock) (clocked : Bool) → clocked ≡ false → control_if clock clocked ≡ None
+unclocked None clocked e = refl
+unclocked (Some clock) true e = cc
+unclocked (Some clock) false e = refl
+
+controlled : (the : Option Clock) (clock : Clock) (clocked : Bool) → the ≡ Some clock → clocked ≡ true → control_if the clocked ≡ Some clock
+controlled the clock clocked e f = rw (e, f) refl
+
+module _ (line : LatchLine) (latches : List LatchLine) where
+  first_here : (clock : Clock) → line.control ≡ Some clock → first_control (line ∷ latches) ≡ Some clock
+  first_here clock e =
+      ap (λ t. option_and_then (λ (l : LatchLine). l.control) (cond t (Some line) (find has_control latches))) (ap is_some e) ∙ e
+
+  first_later : line.control ≡ None → first_control (line ∷ latches) ≡ first_control latches
+  first_later e = ap (λ t. option_and_then (λ (l : LatchLine). l.control) (cond t (Some line) (find has_control latches))) (ap is_some e)
+
+first_is : (net : Parts) (clock : Clock) (ls : List Latch) → net.clock ≡ Some clock → list_any (λ latch. latch.clocked) ls ≡ true
+    → first_control (map (latch_of_text net) ls) ≡ Some clock
+first_is net clock [] e some = cc
+first_is net clock (latch ∷ ls) e some = by latch.clocked refl (first_is net clock ls e)
+  where
+    by : (t : Bool) → latch.clocked ≡ t → (list_any (λ latch. latch.clocked) ls ≡ true → first_control (map (latch_of_text net) ls) ≡ Some clock)
+        → first_control (map (latch_of_text net) (latch ∷ ls)) ≡ Some clock
+    by true is rest = first_here (latch_of_text net latch) (map (latch_of_text net) ls) clock (controlled net.clock clock latch.clocked e is)
+    by false is rest =
+        first_later (latch_of_text net latch) (map (latch_of_text net) ls) (unclocked net.clock latch.clocked is)
+        ∙ rest (sym (ap (λ t. t || list_any (λ (latch : Latch). latch.clocked) ls) is) ∙ some)
+
+none_first : (net : Parts) (ls : List Latch) → net.clock ≡ None → first_control (map (latch_of_text net) ls) ≡ None
+none_first net [] e = refl
+none_first net (latch ∷ ls) e =
+    first_later (latch_of_text net latch) (map (latch_of_text net) ls) (ap (λ clock. control_if clock latch.clocked) e)
+    ∙ none_first net ls e
+
+control_is : (net : Parts) → IsNetlist net → first_control (map (latch_of_text net) net.latches) ≡ net.clock
+control_is net valid = by net.clock refl
+  where
+    by : (clock : Option Clock) → net.clock ≡ clock → first_control (map (latch_of_text net) net.latches) ≡ clock
+    by None e = none_first net net.latches e
+    by (Some clock) e = first_is net clock net.latches e (valid.clocked ∙ ap is_some e)
+
+fitting : (net : Parts) (clock : Clock) → net.clock ≡ Some clock → IsClockName net clock.name → is_fitting (model_of_text net) clock clock ≡ true
+fitting net clock e is =
+    all_true (not (bytes_eq clock.name (codes "NIL"))) (is_among net.inputs clock.name || is_among (clock_names net net.clock) clock.name) (edge_eq clock.edge clock.edge) (bytes_eq clock.name clock.name)
+    (ap not (other_name (bytes_eq clock.name (codes "NIL")) refl))
+    (ap (λ the. is_among net.inputs clock.name || is_among (clock_names net the) clock.name) e ∙ either (is_among net.inputs clock.name))
+    (same_edge clock.edge)
+    (bytes_refl clock.name)
+  where
+    all_true : (a b c d : Bool) → a ≡ true → b ≡ true → c ≡ true → d ≡ true → ((a && b) && c && d) ≡ true
+    all_true a b c d e f g h = rw (e, f, g, h) refl
+
+    other_name : (t : Bool) → bytes_eq clock.name (codes "NIL") ≡ t → bytes_eq clock.name (codes "NIL") ≡ false
+    other_name true same = absurd (is.named (bytes_same clock.name (codes "NIL") same))
+    other_name false same = same
+
+    either : (t : Bool) → (t || is_among (if t then [] else clock.name ∷ []) clock.name) ≡ true
+    either true = refl
+    either false = ap (λ b. b || false) (bytes_refl clock.name)
+
+    same_edge : (edge : Edge) → edge_eq edge edge ≡ true
+    same_edge Rise = refl
+    same_edge Fall = refl
+
+abbrev is_bad : BlifModel → Option Clock → Option Clock → Bool
+is_bad top first control = option_map_or (λ control. option_map_or (λ f. not (is_fitting top f control)) first false) control false
+
+good_control : (net : Parts) (latch : Latch) → ClockFits net net.clock → has_bad_control (model_of_text net) net.clock (latch_of_text net latch) ≡ false
+good_control net latch fits = by net.clock refl latch.clocked
+  where
+    by : (clock : Option Clock) → net.clock ≡ clock → (clocked : Bool) → is_bad (model_of_text net) net.clock (control_if net.clock clocked) ≡ false
+    by None e clocked = ap (λ the. is_bad (model_of_text net) net.clock (control_if the clocked)) e
+    by (Some clock) e false = ap (λ the. is_bad (model_of_text net) net.clock (control_if the false)) e
+    by (Some clock) e true =
+        let P : Option Clock → Type 0 = λ the. ClockFits net the in
+        ap (λ the. is_bad (model_of_text net) the (control_if the true)) e
+        ∙ ap not (fitting net clock e (subst P e fits))
+
+good_controls : (net : Parts) (ls : List Latch) → ClockFits net net.clock → find (has_bad_control (model_of_text net) net.clock) (map (latch_of_text net) ls) ≡ None
+good_controls net [] fits = refl
+good_controls net (latch ∷ ls) fits =
+    ap (λ t. cond t (Some (latch_of_text net latch)) (find (has_bad_control (model_of_text net) net.clock) (map (latch_of_text net) ls))) (good_control net latch fits)
+    ∙ good_controls net ls fits
+
+-- There is no fault.
+
+all_none : (a b c d e : Option FlatFault) → a ≡ None → b ≡ None → c ≡ None → d ≡ None → e ≡ None → option_or (option_or a b) (option_or (option_or c d) e) ≡ None
+all_none a b c d e p q r s t = rw (p, q, r, s, t) refl
+
+no_link_fault : (net : Parts) → IsNetlist net → link_fault (model_of_text net) (lines_of_text net) ≡ None
+no_link_fault net valid =
+    let top = model_of_text net in
+    let lines = lines_of_text net in
+    let D = drivers top lines in
+    let fails : (name : List ℕ) → IsRead net name → not (is_among D name) ≡ false = λ name is.
+    ap not (ap (λ names. is_among names name) (drivers_are net) ∙ among_more net.inputs (clock_names net net.clock) (driven_names net) name is) in
+    let no_clock : (name : List ℕ) → IsRead net name → is_among (own_clocks top) name ≡ false = λ name is.
+    ap (λ names. is_among names name) (clocks_are net) ∙ no_signal net net.clock name valid.clock is in
+    all_none _ _ _ _ _
+    (ap (option_map DeclaredTwice)
+    (both _ _ (once net.inputs (distinct_front net.inputs (driven_names net) valid.names_differ))
+    (once (map (name_of net) net.outputs) (outputs_distinct net valid net.outputs valid.outputs valid.outputs_differ))))
+    (ap (option_map DrivenTwice) (ap first_twice (drivers_are net) ∙ once _ (with_clock net net.clock valid valid.clock)))
+    (ap (option_map Undriven) (none_passes (IsRead net) (λ name. not (is_among D name)) fails (reads top lines) (all_read net valid)))
+    (ap (option_map (λ (l : LatchLine). BadClock l.output))
+    (ap (λ first. find (has_bad_control top first) lines.latches) (control_is net valid) ∙ good_controls net net.latches valid.clock))
+    (ap (option_map ClockRead) (none_passes (IsRead net) (is_among (own_clocks top)) no_clock (reads top lines) (all_read net valid)))
+  where
+    both : (a b : Option (List ℕ)) → a ≡ None → b ≡ None → option_or a b ≡ None
+    both a b p q = rw (p, q) refl
+
+-- The netlist is linked again.
+
+all_clocked : (some : Bool) (ls : List Latch) → (list_any (λ latch. latch.clocked) ls ≡ true → some ≡ true)
+    → All (λ latch. latch.clocked ≡ true → some ≡ true) ls
+all_clocked some [] h = All-nil (λ (latch : Latch). latch.clocked ≡ true → some ≡ true)
+all_clocked some (latch ∷ ls) h =
+    All-cons (λ (latch : Latch). latch.clocked ≡ true → some ≡ true) latch ls
+    (λ e. h (ap (λ t. t || list_any (λ (latch : Latch). latch.clocked) ls) e))
+    (all_clocked some ls (λ e. h (or_right latch.clocked _ e)))
+
+still_clocked : (clock : Option Clock) (clocked : Bool) → (clocked ≡ true → is_some clock ≡ true) → is_some (control_if clock clocked) ≡ clocked
+still_clocked None true h = h refl
+still_clocked None false h = refl
+still_clocked (Some clock) true h = refl
+still_clocked (Some clock) false h = refl
+
+record IsLatchOf (net : Parts) (latch : Latch) : Type 0 where
+  from : IsSignal net latch.from
+  clocked : latch.clocked ≡ true → is_some net.clock ≡ true
+
+latch_again : (net : Parts) → IsNetlist net → (latch : Latch) → IsLatchOf net latch
+    → latch_with (sig_of (signal_names net)) (latch_of_text net latch) ≡ latch
+latch_again net valid latch is =
+    let made = λ (from : Sig) (clocked : Bool). let l : Latch = record { name = latch.name; from = from; init = latch.init; clocked = clocked } in l in
+    ap (λ from. made from (is_some (control_if net.clock latch.clocked))) (sig_same net valid latch.from is.from)
+    ∙ ap (made latch.from) (still_clocked net.clock latch.clocked is.clocked)
+
+gate_again : (net : Parts) → IsNetlist net → (gate : Gate) → All (IsSignal net) gate.pins
+    → gate_with (sig_of (signal_names net)) (gate_of_text net gate) ≡ gate
+gate_again net valid gate is =
+    let made = λ (pins : List Sig). let g : Gate = record { name = gate.name; pins = pins; cover = gate.cover } in g in
+    ap made (sigs_same net valid gate.pins is)
+
+linked_again : (net : Parts) → IsNetlist net → netlist_by (sig_of (signal_names net)) (model_of_text net) (lines_of_text net) ≡ net
+linked_again net valid =
+    let sig = sig_of (signal_names net) in
+    let made = λ (clock : Option Clock) (latches : List Latch) (gates : List Gate) (outputs : List Sig).
+    let parts : Parts = record { name = net.name; inputs = net.inputs; clock = clock; latches = latches; gates = gates; outputs = outputs } in parts in
+    let ls = map (latch_with sig) (map (latch_of_text net) net.latches) in
+    let gs = map (gate_with sig) (map (gate_of_text net) net.gates) in
+    let outs = map sig (map (name_of net) net.outputs) in
+    let clocked = all_clocked (is_some net.clock) net.latches (λ e. sym valid.clocked ∙ e) in
+    let each : All (IsLatchOf net) net.latches = λ k d l. record { from = valid.sources k d l; clocked = clocked k d l } in
+    ap (λ clock. made clock ls gs outs) (control_is net valid)
+    ∙ ap (λ latches. made net.clock latches gs outs)
+    (map_twice (latch_with sig) (latch_of_text net) net.latches
+    ∙ map_all (IsLatchOf net) (λ latch. latch_with sig (latch_of_text net latch)) (latch_again net valid) net.latches each)
+    ∙ ap (λ gates. made net.clock net.latches gates outs)
+    (map_twice (gate_with sig) (gate_of_text net) net.gates
+    ∙ map_all (λ (gate : Gate). All (IsSignal net) gate.pins) (λ gate. gate_with sig (gate_of_text net gate)) (gate_again net valid) net.gates valid.pins)
+    ∙ ap (λ outputs. made net.clock net.latches net.gates outputs) (sigs_same net valid net.outputs valid.outputs)
+
+pub lines_link : (net : Parts) → IsNetlist net → linked (model_of_text net) (lines_of_text net) ≡ Ok net
+lines_link net valid =
+    let top = model_of_text net in
+    let lines = lines_of_text net in
+    ap (λ (fault : Option FlatFault). elim fault [ Some f ↦ Err f | None ↦ Ok (netlist_by (sig_of (signal_list top lines)) top lines) ]) (no_link_fault net valid)
+    ∙ ap (λ names. Ok (netlist_by (sig_of names) top lines)) (signals_are net)
+    ∙ ap Ok (linked_again net valid)

@@ -1,0 +1,173 @@
+-- Each line of a written netlist has words, all of which are names.
+use Rattle.std.proofs.Common.{◌≡◌, ◌≢◌, ℕ, if◌then◌else◌, Bool, true, false, List, [], ◌∷◌, ◌++◌, map, refl, arith, None, Some}
+use Rattle.std.specs.Prelude.{codes, All, IfSome}
+use Rattle.std.specs.List.{flat_map, list_any}
+use Rattle.std.specs.Str.{bytes_eq}
+use Rattle.std.specs.declared.option.Option.{Option}
+use Rattle.std.proofs.lemmas.List.Elements.{All-head, All-tail, All-nil, All-cons, All-append, All-get_or}
+use Rattle.cyc_base.specs.Names.{IsBlifByte, IsBlifName}
+use Rattle.cyc_base.specs.declared.sig.Sig.{Sig}
+use Rattle.cover_logic.specs.declared.row.Lit.{Lit}
+use Rattle.cover_logic.specs.declared.row.Lit.TheVariants.{Zero, One, Any}
+use Rattle.cover_logic.specs.declared.row.Row.{Row}
+use Rattle.netlist.specs.declared.parts.Clock.{Clock}
+use Rattle.netlist.specs.declared.parts.Edge.{Edge}
+use Rattle.netlist.specs.declared.parts.Edge.TheVariants.{Rise, Fall}
+use Rattle.netlist.specs.declared.parts.Init.{Init}
+use Rattle.netlist.specs.declared.parts.Init.TheVariants as starts
+use Rattle.netlist.specs.declared.parts.Gate.{Gate}
+use Rattle.netlist.specs.declared.parts.Latch.{Latch}
+use Rattle.netlist.specs.declared.parts.Parts.{Parts}
+use Rattle.netlist.specs.Netlists.{signal_names, driven_names, IsSignal, IsNetlist, IsClockName}
+use Rattle.netlist.specs.Faults.{is_blif_name}
+use Rattle.netlist.proofs.Decisions.{is_blif_name_decides}
+use Rattle.blif_write.specs.Written.{name_of, clock_lines, head_lines, edge_word, init_word, control_words, latch_line, latch_lines, lit_byte, plane_word, lits_words, row_line, gate_lines, all_gate_lines, lines_of}
+use Rattle.blif_write.proofs.ReadLines.{IsLine}
+use Rattle.blif_write.proofs.Linked.{name_count}
+
+cons_filled : {X : Type 0} (x : X) (xs : List X) → (x ∷ xs) ≢ []
+cons_filled x xs e = cc
+
+constant : (word : List ℕ) → is_blif_name word ≡ true → IsBlifName word
+constant word e = (is_blif_name_decides word).0 e
+
+-- a line of a directive and names
+line_of_names : (first : List ℕ) (names : List (List ℕ)) → IsBlifName first → All IsBlifName names → IsLine (first ∷ names)
+line_of_names first names is each = record { filled = cons_filled first names; names = All-cons IsBlifName first names is each }
+
+one : (word : List ℕ) → IsBlifName word → All IsBlifName (word ∷ [])
+one word is = All-cons IsBlifName word [] is (All-nil IsBlifName)
+
+front_named : (xs ys : List (List ℕ)) → All IsBlifName (xs ++ ys) → All IsBlifName xs
+front_named [] ys each = All-nil IsBlifName
+front_named (x ∷ xs) ys each =
+    All-cons IsBlifName x xs (All-head IsBlifName x (xs ++ ys) each) (front_named xs ys (All-tail IsBlifName x (xs ++ ys) each))
+
+signal_named : (net : Parts) → IsNetlist net → (s : Sig) → IsSignal net s → IsBlifName (name_of net s)
+signal_named net valid s is = All-get_or IsBlifName (signal_names net) s.0 [] (omega (arith, is, name_count net)) valid.names
+
+signals_named : (net : Parts) → IsNetlist net → (sigs : List Sig) → All (IsSignal net) sigs → All IsBlifName (map (name_of net) sigs)
+signals_named net valid [] each = All-nil IsBlifName
+signals_named net valid (s ∷ sigs) each =
+    All-cons IsBlifName (name_of net s) (map (name_of net) sigs) (signal_named net valid s (All-head (IsSignal net) s sigs each))
+    (signals_named net valid sigs (All-tail (IsSignal net) s sigs each))
+
+driven_named : (net : Parts) → IsNetlist net → All IsBlifName (driven_names net)
+driven_named net valid = behind net.inputs valid.names
+  where
+    behind : (xs : List (List ℕ)) → All IsBlifName (xs ++ driven_names net) → All IsBlifName (driven_names net)
+    behind [] each = each
+    behind (x ∷ xs) each = behind xs (All-tail IsBlifName x (xs ++ driven_names net) each)
+
+-- The head.
+
+clock_named : (net : Parts) (clock : Option Clock) → IfSome clock (λ clock. IsClockName net clock.name) → All IsLine (clock_lines net clock)
+clock_named net None is = All-nil IsLine
+clock_named net (Some clock) is = by (list_any (bytes_eq clock.name) net.inputs)
+  where
+    by : (t : Bool) → All IsLine (if t then [] else (codes ".clock" ∷ clock.name ∷ []) ∷ [])
+    by true = All-nil IsLine
+    by false =
+        All-cons IsLine (codes ".clock" ∷ clock.name ∷ []) [] (line_of_names (codes ".clock") (clock.name ∷ []) (constant (codes ".clock") refl) (one clock.name is.blif)) (All-nil IsLine)
+
+-- Latches.
+
+edge_named : (edge : Edge) → IsBlifName (edge_word edge)
+edge_named Rise = constant (codes "re") refl
+edge_named Fall = constant (codes "fe") refl
+
+init_named : (init : Init) → IsBlifName (init_word init)
+init_named starts.Zero = constant (codes "0") refl
+init_named starts.One = constant (codes "1") refl
+init_named starts.Either = constant (codes "3") refl
+
+control_named : (net : Parts) (clock : Option Clock) (clocked : Bool) (init : Init) → IfSome clock (λ clock. IsClockName net clock.name)
+    → All IsBlifName (control_words clock clocked ++ init_word init ∷ [])
+control_named net None clocked init is = one (init_word init) (init_named init)
+control_named net (Some clock) false init is = one (init_word init) (init_named init)
+control_named net (Some clock) true init is =
+    All-cons IsBlifName (edge_word clock.edge) (clock.name ∷ init_word init ∷ []) (edge_named clock.edge)
+    (All-cons IsBlifName clock.name (init_word init ∷ []) is.blif (one (init_word init) (init_named init)))
+
+latch_named : (net : Parts) (latch : Latch) → IsNetlist net → IsSignal net latch.from → IsBlifName latch.name → IsLine (latch_line net latch)
+latch_named net latch valid from name =
+    let words = control_words net.clock latch.clocked ++ init_word latch.init ∷ [] in
+    line_of_names (codes ".latch") (name_of net latch.from ∷ latch.name ∷ words) (constant (codes ".latch") refl)
+    (All-cons IsBlifName (name_of net latch.from) (latch.name ∷ words) (signal_named net valid latch.from from)
+    (All-cons IsBlifName latch.name words name (control_named net net.clock latch.clocked latch.init valid.clock)))
+
+latches_named : (net : Parts) (ls : List Latch) → IsNetlist net → All (λ latch. IsSignal net latch.from) ls
+    → All IsBlifName (map (λ latch. latch.name) ls) → All IsLine (map (latch_line net) ls)
+latches_named net [] valid from names = All-nil IsLine
+latches_named net (latch ∷ ls) valid from names =
+    let S = λ (latch : Latch). IsSignal net latch.from in
+    let more : List (List ℕ) = map (λ (latch : Latch). latch.name) ls in
+    All-cons IsLine (latch_line net latch) (map (latch_line net) ls)
+    (latch_named net latch valid (All-head S latch ls from) (All-head IsBlifName latch.name more names))
+    (latches_named net ls valid (All-tail S latch ls from) (All-tail IsBlifName latch.name more names))
+
+-- Gates.
+
+lit_named : (lit : Lit) → IsBlifByte (lit_byte lit)
+lit_named Zero = (omega arith, omega arith, omega arith)
+lit_named One = (omega arith, omega arith, omega arith)
+lit_named Any = (omega arith, omega arith, omega arith)
+
+lits_bytes : (lits : List Lit) → All IsBlifByte (map lit_byte lits)
+lits_bytes [] = All-nil IsBlifByte
+lits_bytes (lit ∷ lits) = All-cons IsBlifByte (lit_byte lit) (map lit_byte lits) (lit_named lit) (lits_bytes lits)
+
+plane_named : (plane : Bool) → IsBlifName (plane_word plane)
+plane_named true = constant (codes "1") refl
+plane_named false = constant (codes "0") refl
+
+row_named : (plane : Bool) (row : Row) → IsLine (row_line plane row)
+row_named plane row = by row.lits
+  where
+    by : (lits : List Lit) → IsLine (lits_words lits ++ plane_word plane ∷ [])
+    by [] = line_of_names (plane_word plane) [] (plane_named plane) (All-nil IsBlifName)
+    by (lit ∷ lits) =
+        line_of_names (map lit_byte (lit ∷ lits)) (plane_word plane ∷ [])
+        (cons_filled (lit_byte lit) (map lit_byte lits), lits_bytes (lit ∷ lits))
+        (one (plane_word plane) (plane_named plane))
+
+rows_named : (plane : Bool) (rows : List Row) → All IsLine (map (row_line plane) rows)
+rows_named plane [] = All-nil IsLine
+rows_named plane (row ∷ rows) = All-cons IsLine (row_line plane row) (map (row_line plane) rows) (row_named plane row) (rows_named plane rows)
+
+gates_named : (net : Parts) (gs : List Gate) → IsNetlist net → All (λ gate. All (IsSignal net) gate.pins) gs
+    → All IsBlifName (map (λ gate. gate.name) gs) → All IsLine (flat_map (gate_lines net) gs)
+gates_named net [] valid pins names = All-nil IsLine
+gates_named net (gate ∷ gs) valid pins names =
+    let S = λ (gate : Gate). All (IsSignal net) gate.pins in
+    let more : List (List ℕ) = map (λ (gate : Gate). gate.name) gs in
+    All-append IsLine (gate_lines net gate) (flat_map (gate_lines net) gs)
+    (All-cons IsLine (codes ".names" ∷ (map (name_of net) gate.pins ++ gate.name ∷ [])) (map (row_line gate.cover.plane) gate.cover.rows)
+    (line_of_names (codes ".names") (map (name_of net) gate.pins ++ gate.name ∷ []) (constant (codes ".names") refl)
+    (All-append IsBlifName (map (name_of net) gate.pins) (gate.name ∷ []) (signals_named net valid gate.pins (All-head S gate gs pins))
+    (one gate.name (All-head IsBlifName gate.name more names))))
+    (rows_named gate.cover.plane gate.cover.rows))
+    (gates_named net gs valid (All-tail S gate gs pins) (All-tail IsBlifName gate.name more names))
+
+-- The whole text.
+
+back_named : (xs ys : List (List ℕ)) → All IsBlifName (xs ++ ys) → All IsBlifName ys
+back_named [] ys each = each
+back_named (x ∷ xs) ys each = back_named xs ys (All-tail IsBlifName x (xs ++ ys) each)
+
+pub lines_named : (net : Parts) → IsNetlist net → All IsLine (lines_of net)
+lines_named net valid =
+    let latch_names : List (List ℕ) = map (λ (latch : Latch). latch.name) net.latches in
+    let gate_names : List (List ℕ) = map (λ (gate : Gate). gate.name) net.gates in
+    let driven = driven_named net valid in
+    let outs = map (name_of net) net.outputs in
+    let clock = clock_lines net net.clock in
+    let end : List (List (List ℕ)) = (codes ".end" ∷ []) ∷ [] in
+    All-append IsLine (head_lines net) (latch_lines net ++ (all_gate_lines net ++ end))
+    (All-cons IsLine (codes ".model" ∷ net.name ∷ []) ((codes ".inputs" ∷ net.inputs) ∷ (codes ".outputs" ∷ outs) ∷ clock) (line_of_names (codes ".model") (net.name ∷ []) (constant (codes ".model") refl) (one net.name valid.name))
+    (All-cons IsLine (codes ".inputs" ∷ net.inputs) ((codes ".outputs" ∷ outs) ∷ clock) (line_of_names (codes ".inputs") net.inputs (constant (codes ".inputs") refl) (front_named net.inputs (driven_names net) valid.names))
+    (All-cons IsLine (codes ".outputs" ∷ outs) clock (line_of_names (codes ".outputs") outs (constant (codes ".outputs") refl) (signals_named net valid net.outputs valid.outputs))
+    (clock_named net net.clock valid.clock))))
+    (All-append IsLine (latch_lines net) (all_gate_lines net ++ end) (latches_named net net.latches valid valid.sources (front_named latch_names gate_names driven))
+    (All-append IsLine (all_gate_lines net) end (gates_named net net.gates valid valid.pins (back_named latch_names gate_names driven))
+    (All-cons IsLine (codes ".end" ∷ []) [] (line_of_names (codes ".end") [] (constant (codes ".end") refl) (All-nil IsBlifName)) (All-nil IsLine))))

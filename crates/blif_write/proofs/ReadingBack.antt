@@ -1,0 +1,55 @@
+-- A written netlist reads back.
+use Rattle.std.proofs.Common.{◌≡◌, ◌+◌, ◌≤◌, ℕ, Bool, true, false, [], ◌∷◌, length, map, ap, ◌∙◌, refl, None, Some, Ok}
+use Rattle.std.specs.Prelude.{codes, bytes_eq, All, IfSome}
+use Rattle.std.specs.declared.option.Option.{Option}
+use Rattle.netlist.specs.declared.parts.Clock.{Clock}
+use Rattle.netlist.specs.declared.parts.Parts.{Parts}
+use Rattle.netlist.specs.Netlists.{IsNetlist, IsClockName}
+use Rattle.blif_read.specs.Models.{models}
+use Rattle.blif_read.specs.Statements.{statement}
+use Rattle.blif_read.specs.Reads.{reads, reads_lines, unless_fault, if_any}
+use Rattle.flatten.specs.Flat.{flat_within, flat_from, linked_lines}
+use Rattle.flatten.proofs.Names.{bytes_same}
+use Rattle.blif_write.specs.Written.{lines_of, written}
+use Rattle.blif_write.specs.Laws.{HasCovers, WrittenReadsBack}
+use Rattle.blif_write.proofs.ReadLines.{numbered, written_lines}
+use Rattle.blif_write.proofs.Faultless.{IsWhole, no_fault}
+use Rattle.blif_write.proofs.Said.{IsNamed, model_of_text, models_are}
+use Rattle.blif_write.proofs.Flattened.{model_found, lines_flat}
+use Rattle.blif_write.proofs.Linked.{lines_link}
+use Rattle.blif_write.proofs.Named.{lines_named}
+
+whole_gates : (net : Parts) → IsNetlist net → HasCovers net → All IsWhole net.gates
+whole_gates net valid covers = λ k d l. record { cover = covers k d l; width = valid.pin_counts k d l }
+
+clock_is_named : (net : Parts) (clock : Option Clock) → IfSome clock (λ clock. IsClockName net clock.name) → IsNamed clock
+clock_is_named net None is = tt
+clock_is_named net (Some clock) is = by (bytes_eq clock.name (codes "NIL")) refl
+  where
+    by : (t : Bool) → bytes_eq clock.name (codes "NIL") ≡ t → t ≡ false
+    by true same = absurd (is.named (bytes_same clock.name (codes "NIL") same))
+    by false same = refl
+
+read_again : (net : Parts) → IsNetlist net → HasCovers net → reads (written net) ≡ Ok (model_of_text net ∷ [])
+read_again net valid covers =
+    let whole = whole_gates net valid covers in
+    let found = numbered 1 (lines_of net) in
+    ap reads_lines (written_lines (lines_of net) true (lines_named net valid))
+    ∙ ap (λ fault. unless_fault fault (models (map statement found))) (no_fault net whole)
+    ∙ ap if_any (models_are net whole (clock_is_named net net.clock valid.clock))
+
+flat_again : (depth limit : ℕ) (net : Parts) → IsNetlist net → length net.latches + length net.gates ≤ limit
+    → flat_within depth limit (model_of_text net ∷ []) net.name ≡ Ok net
+flat_again depth limit net valid few =
+    let model = model_of_text net in
+    ap (flat_from depth limit (model ∷ []) net.name) (model_found model)
+    ∙ ap (linked_lines model) (lines_flat depth limit net few)
+    ∙ lines_link net valid
+
+pub reads_back : WrittenReadsBack
+reads_back net valid covers few = record {
+  model = model_of_text net;
+  named = refl;
+  read = read_again net valid covers;
+  flat = flat_again 200 4000000 net valid few;
+}

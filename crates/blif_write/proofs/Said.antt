@@ -1,0 +1,446 @@
+-- What the lines of a written netlist say: one model.
+use Rattle.std.proofs.Common.{◌≡◌, ℕ, ◌+◌, Bool, true, false, List, [], ◌∷◌, ◌++◌, length, map, take, refl, sym, ap, ◌∙◌, append_assoc, append-nil, if◌then◌else◌, None, Some}
+use Rattle.std.specs.Prelude.{codes, bytes_eq, All}
+use Rattle.std.specs.List.{flat_map, list_any}
+use Rattle.std.specs.declared.option.Option.{Option}
+use Rattle.std.proofs.lemmas.List.{length-map, map-append, take_at, get_or_at}
+use Rattle.std.proofs.lemmas.List.Elements.{All-head, All-tail}
+use Rattle.cover_logic.specs.Covers.{Cover}
+use Rattle.cover_logic.specs.declared.row.Lit.{Lit}
+use Rattle.cover_logic.specs.declared.row.Lit.TheVariants.{Zero, One, Any}
+use Rattle.cover_logic.specs.declared.row.Row as rows
+use Rattle.netlist.specs.declared.parts.Clock as clocks
+use Rattle.netlist.specs.declared.parts.Edge.{Edge}
+use Rattle.netlist.specs.declared.parts.Edge.TheVariants.{Rise, Fall}
+use Rattle.netlist.specs.declared.parts.Init.{Init}
+use Rattle.netlist.specs.declared.parts.Init.TheVariants as starts
+use Rattle.netlist.specs.declared.parts.Gate as gates
+use Rattle.netlist.specs.declared.parts.Latch as latches
+use Rattle.netlist.specs.declared.parts.Parts.{Parts}
+use Rattle.blif_text.specs.Texts.{Line}
+use Rattle.blif_read.specs.declared.kind.Kind as kinds
+use Rattle.blif_read.specs.declared.kind.Kind.TheVariants as of
+use Rattle.blif_read.specs.declared.models.BlifModel.{BlifModel}
+use Rattle.blif_read.specs.declared.models.GateLine.{GateLine}
+use Rattle.blif_read.specs.declared.models.LatchLine.{LatchLine}
+use Rattle.blif_read.specs.declared.models.Item.{Item}
+use Rattle.blif_read.specs.declared.models.Item.TheVariants as item
+use Rattle.blif_read.specs.declared.statement.Statement.{Statement}
+use Rattle.blif_read.specs.declared.statement.Statement.TheVariants.{Model, Inputs, Outputs, Clocks, Names, Row, Latch, End}
+use Rattle.blif_read.specs.Kinds.{kind, is_on, pin_count}
+use Rattle.blif_read.specs.Statements.{lit_of, lits_of, latch_of, control_of, pins_of, output_of, statement, statement_of_kind}
+use Rattle.blif_read.specs.Models.{members, inputs_in, outputs_in, clocks_in, rows_of, plane_of, gate_of, body_of, model_of, models}
+use Rattle.blif_write.specs.Written.{name_of, clock_lines, control_words, edge_word, init_word, latch_line, latch_lines, lit_byte, plane_word, lits_words, row_line, gate_lines, all_gate_lines, lines_of}
+use Rattle.blif_write.proofs.ReadLines.{numbered}
+use Rattle.blif_write.proofs.Faultless.{line, IsWhole, counted, row_on, row_kind}
+
+-- The model of a written netlist.
+
+-- the control of a latch
+abbrev pub control_if : Option clocks.Clock → Bool → Option clocks.Clock
+control_if (Some clock) true = Some clock
+control_if clock clocked = None
+
+abbrev pub latch_of_text : Parts → latches.Latch → LatchLine
+latch_of_text net latch = record {
+  from = name_of net latch.from;
+  output = latch.name;
+  control = control_if net.clock latch.clocked;
+  init = latch.init;
+}
+
+abbrev pub gate_of_text : Parts → gates.Gate → GateLine
+gate_of_text net gate = record { pins = map (name_of net) gate.pins; output = gate.name; cover = gate.cover }
+
+abbrev pub clock_names : Parts → Option clocks.Clock → List (List ℕ)
+clock_names net None = []
+clock_names net (Some clock) = if list_any (bytes_eq clock.name) net.inputs then [] else clock.name ∷ []
+
+abbrev latch_items : Parts → List latches.Latch → List Item
+latch_items net ls = map (λ latch. item.Latch (latch_of_text net latch)) ls
+
+abbrev gate_items : Parts → List gates.Gate → List Item
+gate_items net gs = map (λ gate. item.Gate (gate_of_text net gate)) gs
+
+abbrev pub model_of_text : Parts → BlifModel
+model_of_text net = record {
+  name = net.name;
+  inputs = net.inputs;
+  outputs = map (name_of net) net.outputs;
+  clocks = clock_names net net.clock;
+  body = latch_items net net.latches ++ gate_items net net.gates;
+}
+
+-- What each line says.
+
+abbrev says : List (List ℕ) → Statement
+says words = statement (record { number = 0; words = words })
+
+number_aside : (k : kinds.Kind) (n : ℕ) (words : List (List ℕ)) → statement_of_kind k (line n words) ≡ statement_of_kind k (line 0 words)
+number_aside of.Row n words = refl
+number_aside of.Model n words = refl
+number_aside of.Inputs n words = refl
+number_aside of.Outputs n words = refl
+number_aside of.Clock n words = refl
+number_aside of.Names n words = refl
+number_aside of.Latch n words = refl
+number_aside of.Subckt n words = refl
+number_aside of.End n words = refl
+number_aside of.ReadOver n words = refl
+number_aside of.LeftOut n words = refl
+number_aside of.Unknown n words = refl
+
+says_all : (n : ℕ) (ws : List (List (List ℕ))) → map statement (numbered n ws) ≡ map says ws
+says_all n [] = refl
+says_all n (words ∷ ws) =
+    ap (λ said. said ∷ map statement (numbered (n + 1) ws)) (number_aside (kind (line 0 words)) n words)
+    ∙ ap (λ rest. says words ∷ rest) (says_all (n + 1) ws)
+
+abbrev row_said : Bool → rows.Row → Statement
+row_said plane row = Row row plane
+
+abbrev latch_said : Parts → latches.Latch → Statement
+latch_said net latch = Latch (latch_of_text net latch)
+
+abbrev gate_said : Parts → gates.Gate → List Statement
+gate_said net gate = Names (map (name_of net) gate.pins) gate.name ∷ map (row_said gate.cover.plane) gate.cover.rows
+
+abbrev clock_said : Parts → Option clocks.Clock → List Statement
+clock_said net None = []
+clock_said net (Some clock) = if list_any (bytes_eq clock.name) net.inputs then [] else Clocks (clock.name ∷ []) ∷ []
+
+lit_same : (lit : Lit) → lit_of (lit_byte lit) ≡ lit
+lit_same Zero = refl
+lit_same One = refl
+lit_same Any = refl
+
+lits_same : (lits : List Lit) → map lit_of (map lit_byte lits) ≡ lits
+lits_same [] = refl
+lits_same (lit ∷ lits) = ap (λ l. l ∷ map lit_of (map lit_byte lits)) (lit_same lit) ∙ ap (λ ls. lit ∷ ls) (lits_same lits)
+
+row_lits : (plane : Bool) (lits : List Lit) → lits_of (lits_words lits ++ plane_word plane ∷ []) ≡ lits
+row_lits plane [] = refl
+row_lits plane (lit ∷ lits) = lits_same (lit ∷ lits)
+
+abbrev row_with : List Lit → rows.Row
+row_with lits = record { lits = lits }
+
+row_says : (plane : Bool) (row : rows.Row) → says (row_line plane row) ≡ row_said plane row
+row_says plane row =
+    let at : Line = record { number = 0; words = row_line plane row } in
+    ap (λ k. statement_of_kind k at) (row_kind 0 plane row.lits)
+    ∙ ap (λ lits. Row (row_with lits) (is_on at)) (row_lits plane row.lits)
+    ∙ ap (λ on. Row row on) (row_on 0 plane row.lits)
+
+rows_say : (plane : Bool) (rs : List rows.Row) → map says (map (row_line plane) rs) ≡ map (row_said plane) rs
+rows_say plane [] = refl
+rows_say plane (row ∷ rs) =
+    ap (λ said. said ∷ map says (map (row_line plane) rs)) (row_says plane row)
+    ∙ ap (λ rest. row_said plane row ∷ rest) (rows_say plane rs)
+
+front_of : (names : List (List ℕ)) (last : List ℕ) → pins_of (names ++ last ∷ []) ≡ names
+front_of names last = ap (λ n. take n (names ++ last ∷ [])) (counted names last) ∙ take_at names (last ∷ []) (length names) refl
+
+last_is : (names : List (List ℕ)) (last : List ℕ) → output_of (names ++ last ∷ []) ≡ last
+last_is names last = get_or_at names last [] [] (pin_count (names ++ last ∷ [])) (sym (counted names last))
+
+gate_says : (net : Parts) (gate : gates.Gate) → map says (gate_lines net gate) ≡ gate_said net gate
+gate_says net gate =
+    let names = map (name_of net) gate.pins in
+    ap (λ pins. Names pins (output_of (names ++ gate.name ∷ [])) ∷ map says (map (row_line gate.cover.plane) gate.cover.rows)) (front_of names gate.name)
+    ∙ ap (λ output. Names names output ∷ map says (map (row_line gate.cover.plane) gate.cover.rows)) (last_is names gate.name)
+    ∙ ap (λ rest. Names names gate.name ∷ rest) (rows_say gate.cover.plane gate.cover.rows)
+
+gates_say : (net : Parts) (gs : List gates.Gate) → map says (flat_map (gate_lines net) gs) ≡ flat_map (gate_said net) gs
+gates_say net [] = refl
+gates_say net (gate ∷ gs) =
+    map-append says (gate_lines net gate) (flat_map (gate_lines net) gs)
+    ∙ ap (λ said. said ++ map says (flat_map (gate_lines net) gs)) (gate_says net gate)
+    ∙ ap (λ rest. gate_said net gate ++ rest) (gates_say net gs)
+
+-- no clock is named `NIL`
+abbrev pub IsNamed : Option clocks.Clock → Type 0
+IsNamed None = Unit {0}
+IsNamed (Some clock) = bytes_eq clock.name (codes "NIL") ≡ false
+
+init_same : (from name : List ℕ) (init : Init) → latch_of (from ∷ name ∷ init_word init ∷ []) ≡ record { from = from; output = name; control = None; init = init }
+init_same from name starts.Zero = refl
+init_same from name starts.One = refl
+init_same from name starts.Either = refl
+
+abbrev clock_with : Edge → List ℕ → clocks.Clock
+clock_with edge name = record { edge = edge; name = name }
+
+abbrev line_with : List ℕ → List ℕ → Init → Option clocks.Clock → LatchLine
+line_with from name init control = record { from = from; output = name; control = control; init = init }
+
+control_same : (from name : List ℕ) (edge : Edge) (clock : List ℕ) (init : Init) → bytes_eq clock (codes "NIL") ≡ false
+    → latch_of (from ∷ name ∷ edge_word edge ∷ clock ∷ init_word init ∷ [])
+    ≡ record { from = from; output = name; control = Some (clock_with edge clock); init = init }
+control_same from name edge clock init named = by edge init
+  where
+    named_control : (edge : Edge) → control_of edge clock ≡ Some (clock_with edge clock)
+    named_control edge = ap (λ t. if t then None else Some (clock_with edge clock)) named
+
+    by : (edge : Edge) (init : Init) → latch_of (from ∷ name ∷ edge_word edge ∷ clock ∷ init_word init ∷ []) ≡ line_with from name init (Some (clock_with edge clock))
+    by Rise starts.Zero = ap (line_with from name starts.Zero) (named_control Rise)
+    by Rise starts.One = ap (line_with from name starts.One) (named_control Rise)
+    by Rise starts.Either = ap (line_with from name starts.Either) (named_control Rise)
+    by Fall starts.Zero = ap (line_with from name starts.Zero) (named_control Fall)
+    by Fall starts.One = ap (line_with from name starts.One) (named_control Fall)
+    by Fall starts.Either = ap (line_with from name starts.Either) (named_control Fall)
+
+latch_same : (from name : List ℕ) (clock : Option clocks.Clock) (clocked : Bool) (init : Init) → IsNamed clock
+    → latch_of (from ∷ name ∷ (control_words clock clocked ++ init_word init ∷ []))
+    ≡ record { from = from; output = name; control = control_if clock clocked; init = init }
+latch_same from name None clocked init named = init_same from name init
+latch_same from name (Some clock) false init named = init_same from name init
+latch_same from name (Some clock) true init named = control_same from name clock.edge clock.name init named
+
+latch_says : (net : Parts) (latch : latches.Latch) → IsNamed net.clock → says (latch_line net latch) ≡ latch_said net latch
+latch_says net latch named =
+    ap (λ l. Latch l) (latch_same (name_of net latch.from) latch.name net.clock latch.clocked latch.init named)
+
+latches_say : (net : Parts) (ls : List latches.Latch) → IsNamed net.clock → map says (map (latch_line net) ls) ≡ map (latch_said net) ls
+latches_say net [] named = refl
+latches_say net (latch ∷ ls) named =
+    ap (λ said. said ∷ map says (map (latch_line net) ls)) (latch_says net latch named)
+    ∙ ap (λ rest. latch_said net latch ∷ rest) (latches_say net ls named)
+
+clock_says : (net : Parts) (clock : Option clocks.Clock) → map says (clock_lines net clock) ≡ clock_said net clock
+clock_says net None = refl
+clock_says net (Some clock) = by (list_any (bytes_eq clock.name) net.inputs)
+  where
+    by : (t : Bool) → map says (if t then [] else (codes ".clock" ∷ clock.name ∷ []) ∷ []) ≡ (if t then [] else Clocks (clock.name ∷ []) ∷ [])
+    by true = refl
+    by false = refl
+
+abbrev body_said : Parts → List Statement
+body_said net = map (latch_said net) net.latches ++ (flat_map (gate_said net) net.gates ++ End ∷ [])
+
+all_said : (net : Parts) → IsNamed net.clock → map says (lines_of net)
+    ≡ Model net.name ∷ Inputs net.inputs ∷ Outputs (map (name_of net) net.outputs) ∷ (clock_said net net.clock ++ body_said net)
+all_said net named =
+    let end : List (List (List ℕ)) = (codes ".end" ∷ []) ∷ [] in
+    let gs = all_gate_lines net ++ end in
+    ap (λ rest. Model net.name ∷ Inputs net.inputs ∷ Outputs (map (name_of net) net.outputs) ∷ rest)
+    (map-append says (clock_lines net net.clock) (latch_lines net ++ gs)
+    ∙ ap (λ said. said ++ map says (latch_lines net ++ gs)) (clock_says net net.clock)
+    ∙ ap (λ rest. clock_said net net.clock ++ rest)
+    (map-append says (latch_lines net) gs
+    ∙ ap (λ said. said ++ map says gs) (latches_say net net.latches named)
+    ∙ ap (λ rest. map (latch_said net) net.latches ++ rest)
+    (map-append says (all_gate_lines net) end ∙ ap (λ said. said ++ End ∷ []) (gates_say net net.gates))))
+
+-- The statements lie in one model, which ends at the last.
+
+clock_members : (net : Parts) (clock : Option clocks.Clock) (rest : List Statement) → members (clock_said net clock ++ rest) ≡ clock_said net clock ++ members rest
+clock_members net None rest = refl
+clock_members net (Some clock) rest = by (list_any (bytes_eq clock.name) net.inputs)
+  where
+    by : (t : Bool) → members ((if t then [] else Clocks (clock.name ∷ []) ∷ []) ++ rest) ≡ (if t then [] else Clocks (clock.name ∷ []) ∷ []) ++ members rest
+    by true = refl
+    by false = refl
+
+latch_members : (net : Parts) (ls : List latches.Latch) (rest : List Statement) → members (map (latch_said net) ls ++ rest) ≡ map (latch_said net) ls ++ members rest
+latch_members net [] rest = refl
+latch_members net (latch ∷ ls) rest = ap (λ said. latch_said net latch ∷ said) (latch_members net ls rest)
+
+row_members : (plane : Bool) (rs : List rows.Row) (rest : List Statement) → members (map (row_said plane) rs ++ rest) ≡ map (row_said plane) rs ++ members rest
+row_members plane [] rest = refl
+row_members plane (row ∷ rs) rest = ap (λ said. row_said plane row ∷ said) (row_members plane rs rest)
+
+gate_members : (net : Parts) (gs : List gates.Gate) (rest : List Statement) → members (flat_map (gate_said net) gs ++ rest) ≡ flat_map (gate_said net) gs ++ members rest
+gate_members net [] rest = refl
+gate_members net (gate ∷ gs) rest =
+    let more = flat_map (gate_said net) gs in
+    ap members (append_assoc (gate_said net gate) more rest)
+    ∙ ap (λ said. Names (map (name_of net) gate.pins) gate.name ∷ said) (row_members gate.cover.plane gate.cover.rows (more ++ rest))
+    ∙ ap (λ said. gate_said net gate ++ said) (gate_members net gs rest)
+    ∙ sym (append_assoc (gate_said net gate) more (members rest))
+
+clock_models : (net : Parts) (clock : Option clocks.Clock) (rest : List Statement) → models (clock_said net clock ++ rest) ≡ models rest
+clock_models net None rest = refl
+clock_models net (Some clock) rest = by (list_any (bytes_eq clock.name) net.inputs)
+  where
+    by : (t : Bool) → models ((if t then [] else Clocks (clock.name ∷ []) ∷ []) ++ rest) ≡ models rest
+    by true = refl
+    by false = refl
+
+latch_models : (net : Parts) (ls : List latches.Latch) (rest : List Statement) → models (map (latch_said net) ls ++ rest) ≡ models rest
+latch_models net [] rest = refl
+latch_models net (latch ∷ ls) rest = latch_models net ls rest
+
+row_models : (plane : Bool) (rs : List rows.Row) (rest : List Statement) → models (map (row_said plane) rs ++ rest) ≡ models rest
+row_models plane [] rest = refl
+row_models plane (row ∷ rs) rest = row_models plane rs rest
+
+gate_models : (net : Parts) (gs : List gates.Gate) (rest : List Statement) → models (flat_map (gate_said net) gs ++ rest) ≡ models rest
+gate_models net [] rest = refl
+gate_models net (gate ∷ gs) rest =
+    let more = flat_map (gate_said net) gs in
+    ap models (append_assoc (gate_said net gate) more rest)
+    ∙ row_models gate.cover.plane gate.cover.rows (more ++ rest)
+    ∙ gate_models net gs rest
+
+-- What a model collects of them, where latches and gates give nothing.
+
+module _ (f : Statement → List (List ℕ)) (no_latch : (l : LatchLine) → f (Latch l) ≡ []) (no_names : (pins : List (List ℕ)) (output : List ℕ) → f (Names pins output) ≡ [])
+    (no_row : (row : rows.Row) (plane : Bool) → f (Row row plane) ≡ []) where
+  nothing_front : (said : Statement) (rest : List Statement) → f said ≡ [] → flat_map f rest ≡ [] → flat_map f (said ∷ rest) ≡ []
+  nothing_front said rest e h = ap (λ found. found ++ flat_map f rest) e ∙ h
+
+  latches_nothing : (net : Parts) (ls : List latches.Latch) (rest : List Statement) → flat_map f rest ≡ [] → flat_map f (map (latch_said net) ls ++ rest) ≡ []
+  latches_nothing net [] rest h = h
+  latches_nothing net (latch ∷ ls) rest h = nothing_front (latch_said net latch) _ (no_latch _) (latches_nothing net ls rest h)
+
+  rows_nothing : (plane : Bool) (rs : List rows.Row) (rest : List Statement) → flat_map f rest ≡ [] → flat_map f (map (row_said plane) rs ++ rest) ≡ []
+  rows_nothing plane [] rest h = h
+  rows_nothing plane (row ∷ rs) rest h = nothing_front (row_said plane row) _ (no_row row plane) (rows_nothing plane rs rest h)
+
+  gates_nothing : (net : Parts) (gs : List gates.Gate) → flat_map f (flat_map (gate_said net) gs) ≡ []
+  gates_nothing net [] = refl
+  gates_nothing net (gate ∷ gs) =
+      nothing_front (Names (map (name_of net) gate.pins) gate.name) _ (no_names _ _)
+      (rows_nothing gate.cover.plane gate.cover.rows _ (gates_nothing net gs))
+
+  pub body_nothing : (net : Parts) → flat_map f (map (latch_said net) net.latches ++ flat_map (gate_said net) net.gates) ≡ []
+  body_nothing net = latches_nothing net net.latches _ (gates_nothing net net.gates)
+
+inputs_nothing : (net : Parts) (clock : Option clocks.Clock) (rest : List Statement) → flat_map inputs_in (clock_said net clock ++ rest) ≡ flat_map inputs_in rest
+inputs_nothing net None rest = refl
+inputs_nothing net (Some clock) rest = by (list_any (bytes_eq clock.name) net.inputs)
+  where
+    by : (t : Bool) → flat_map inputs_in ((if t then [] else Clocks (clock.name ∷ []) ∷ []) ++ rest) ≡ flat_map inputs_in rest
+    by true = refl
+    by false = refl
+
+outputs_nothing : (net : Parts) (clock : Option clocks.Clock) (rest : List Statement) → flat_map outputs_in (clock_said net clock ++ rest) ≡ flat_map outputs_in rest
+outputs_nothing net None rest = refl
+outputs_nothing net (Some clock) rest = by (list_any (bytes_eq clock.name) net.inputs)
+  where
+    by : (t : Bool) → flat_map outputs_in ((if t then [] else Clocks (clock.name ∷ []) ∷ []) ++ rest) ≡ flat_map outputs_in rest
+    by true = refl
+    by false = refl
+
+clocks_there : (net : Parts) (clock : Option clocks.Clock) (rest : List Statement) → flat_map clocks_in (clock_said net clock ++ rest) ≡ clock_names net clock ++ flat_map clocks_in rest
+clocks_there net None rest = refl
+clocks_there net (Some clock) rest = by (list_any (bytes_eq clock.name) net.inputs)
+  where
+    by : (t : Bool) → flat_map clocks_in ((if t then [] else Clocks (clock.name ∷ []) ∷ []) ++ rest) ≡ (if t then [] else clock.name ∷ []) ++ flat_map clocks_in rest
+    by true = refl
+    by false = refl
+
+clock_body : (net : Parts) (clock : Option clocks.Clock) (rest : List Statement) → body_of (clock_said net clock ++ rest) ≡ body_of rest
+clock_body net None rest = refl
+clock_body net (Some clock) rest = by (list_any (bytes_eq clock.name) net.inputs)
+  where
+    by : (t : Bool) → body_of ((if t then [] else Clocks (clock.name ∷ []) ∷ []) ++ rest) ≡ body_of rest
+    by true = refl
+    by false = refl
+
+-- The items of the body.
+
+latches_body : (net : Parts) (ls : List latches.Latch) (rest : List Statement) → body_of (map (latch_said net) ls ++ rest) ≡ latch_items net ls ++ body_of rest
+latches_body net [] rest = refl
+latches_body net (latch ∷ ls) rest = ap (λ items. item.Latch (latch_of_text net latch) ∷ items) (latches_body net ls rest)
+
+rows_body : (plane : Bool) (rs : List rows.Row) (rest : List Statement) → body_of (map (row_said plane) rs ++ rest) ≡ body_of rest
+rows_body plane [] rest = refl
+rows_body plane (row ∷ rs) rest = rows_body plane rs rest
+
+-- the rows of a cover end where these statements begin
+record StartsNoRow (rest : List Statement) : Type 0 where
+  rows : rows_of rest ≡ []
+  plane : plane_of rest ≡ true
+
+starts_no_row : (net : Parts) (gs : List gates.Gate) → StartsNoRow (flat_map (gate_said net) gs)
+starts_no_row net [] = record { rows = refl; plane = refl }
+starts_no_row net (gate ∷ gs) = record { rows = refl; plane = refl }
+
+rows_are : (plane : Bool) (rs : List rows.Row) (rest : List Statement) → StartsNoRow rest → rows_of (map (row_said plane) rs ++ rest) ≡ rs
+rows_are plane [] rest none = none.rows
+rows_are plane (row ∷ rs) rest none = ap (λ more. row ∷ more) (rows_are plane rs rest none)
+
+plane_is : (plane : Bool) (rs : List rows.Row) (rest : List Statement) → StartsNoRow rest → (rs ≡ [] → plane ≡ true) → plane_of (map (row_said plane) rs ++ rest) ≡ plane
+plane_is plane [] rest none on = none.plane ∙ sym (on refl)
+plane_is plane (row ∷ rs) rest none on = refl
+
+abbrev cover_with : ℕ → Bool → List rows.Row → Cover
+cover_with pins plane rs = record { pins = pins; plane = plane; rows = rs }
+
+gate_same : (net : Parts) (gate : gates.Gate) (rest : List Statement) → IsWhole gate → StartsNoRow rest
+    → gate_of (map (name_of net) gate.pins) gate.name (map (row_said gate.cover.plane) gate.cover.rows ++ rest) ≡ gate_of_text net gate
+gate_same net gate rest whole none =
+    let names = map (name_of net) gate.pins in
+    let made = λ (cover : Cover). let g : GateLine = record { pins = names; output = gate.name; cover = cover } in g in
+    let said = map (row_said gate.cover.plane) gate.cover.rows ++ rest in
+    ap (λ n. made (cover_with n (plane_of said) (rows_of said))) (length-map gate.pins (name_of net) ∙ whole.width)
+    ∙ ap (λ p. made (cover_with gate.cover.pins p (rows_of said))) (plane_is gate.cover.plane gate.cover.rows rest none whole.cover.plane)
+    ∙ ap (λ rs. made (cover_with gate.cover.pins gate.cover.plane rs)) (rows_are gate.cover.plane gate.cover.rows rest none)
+
+gates_body : (net : Parts) (gs : List gates.Gate) → All IsWhole gs → body_of (flat_map (gate_said net) gs) ≡ gate_items net gs
+gates_body net [] whole = refl
+gates_body net (gate ∷ gs) whole =
+    let rest = flat_map (gate_said net) gs in
+    let said = map (row_said gate.cover.plane) gate.cover.rows ++ rest in
+    ap (λ g. item.Gate g ∷ body_of said) (gate_same net gate rest (All-head IsWhole gate gs whole) (starts_no_row net gs))
+    ∙ ap (λ items. item.Gate (gate_of_text net gate) ∷ items)
+    (rows_body gate.cover.plane gate.cover.rows rest ∙ gates_body net gs (All-tail IsWhole gate gs whole))
+
+-- The whole model.
+
+abbrev inner : Parts → List Statement
+inner net = map (latch_said net) net.latches ++ flat_map (gate_said net) net.gates
+
+inner_members : (net : Parts) → members (clock_said net net.clock ++ body_said net) ≡ clock_said net net.clock ++ inner net
+inner_members net =
+    let end : List Statement = End ∷ [] in
+    clock_members net net.clock (body_said net)
+    ∙ ap (λ said. clock_said net net.clock ++ said)
+    (latch_members net net.latches (flat_map (gate_said net) net.gates ++ end)
+    ∙ ap (λ said. map (latch_said net) net.latches ++ said)
+    (gate_members net net.gates end ∙ append-nil (flat_map (gate_said net) net.gates)))
+
+no_more_models : (net : Parts) → models (clock_said net net.clock ++ body_said net) ≡ []
+no_more_models net =
+    let end : List Statement = End ∷ [] in
+    clock_models net net.clock (body_said net)
+    ∙ latch_models net net.latches (flat_map (gate_said net) net.gates ++ end)
+    ∙ gate_models net net.gates end
+
+abbrev with_parts : List ℕ → List (List ℕ) → List (List ℕ) → List (List ℕ) → List Item → BlifModel
+with_parts name inputs outputs clock body = record { name = name; inputs = inputs; outputs = outputs; clocks = clock; body = body }
+
+model_is : (net : Parts) → All IsWhole net.gates
+    → model_of net.name (Inputs net.inputs ∷ Outputs (map (name_of net) net.outputs) ∷ (clock_said net net.clock ++ inner net)) ≡ model_of_text net
+model_is net whole =
+    let rest = clock_said net net.clock ++ inner net in
+    let outs = map (name_of net) net.outputs in
+    let no_inputs : flat_map inputs_in rest ≡ [] =
+    inputs_nothing net net.clock (inner net) ∙ body_nothing inputs_in (λ l. refl) (λ p o. refl) (λ r b. refl) net in
+    let no_outputs : flat_map outputs_in rest ≡ [] =
+    outputs_nothing net net.clock (inner net) ∙ body_nothing outputs_in (λ l. refl) (λ p o. refl) (λ r b. refl) net in
+    let the_clocks : flat_map clocks_in rest ≡ clock_names net net.clock =
+    clocks_there net net.clock (inner net)
+    ∙ ap (λ more. clock_names net net.clock ++ more) (body_nothing clocks_in (λ l. refl) (λ p o. refl) (λ r b. refl) net)
+    ∙ append-nil (clock_names net net.clock) in
+    let the_body : body_of rest ≡ latch_items net net.latches ++ gate_items net net.gates =
+    clock_body net net.clock (inner net)
+    ∙ latches_body net net.latches (flat_map (gate_said net) net.gates)
+    ∙ ap (λ items. latch_items net net.latches ++ items) (gates_body net net.gates whole) in
+    ap (λ more. with_parts net.name (net.inputs ++ more) (outs ++ flat_map outputs_in rest) (flat_map clocks_in rest) (body_of rest)) no_inputs
+    ∙ ap (λ ins. with_parts net.name ins (outs ++ flat_map outputs_in rest) (flat_map clocks_in rest) (body_of rest)) (append-nil net.inputs)
+    ∙ ap (λ more. with_parts net.name net.inputs (outs ++ more) (flat_map clocks_in rest) (body_of rest)) no_outputs
+    ∙ ap (λ names. with_parts net.name net.inputs names (flat_map clocks_in rest) (body_of rest)) (append-nil outs)
+    ∙ ap (λ names. with_parts net.name net.inputs outs names (body_of rest)) the_clocks
+    ∙ ap (λ items. with_parts net.name net.inputs outs (clock_names net net.clock) items) the_body
+
+pub models_are : (net : Parts) → All IsWhole net.gates → IsNamed net.clock → models (map statement (numbered 1 (lines_of net))) ≡ model_of_text net ∷ []
+models_are net whole named =
+    let outs = map (name_of net) net.outputs in
+    let rest = clock_said net net.clock ++ body_said net in
+    ap models (says_all 1 (lines_of net) ∙ all_said net named)
+    ∙ ap (λ more. model_of net.name (Inputs net.inputs ∷ Outputs outs ∷ more) ∷ models rest) (inner_members net)
+    ∙ ap (λ model. model ∷ models rest) (model_is net whole)
+    ∙ ap (λ more. model_of_text net ∷ more) (no_more_models net)

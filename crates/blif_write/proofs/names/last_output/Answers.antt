@@ -1,0 +1,11 @@
+use Rattle.std.proofs.Common.{◌<◌, length, sym, ◌∙◌, arith}
+use Rattle.std.specs.Prelude.{codes}
+use Rattle.blif_write.specs.Written.{name_of}
+use Rattle.blif_write.proofs.NameLemmas.{last_mapped}
+use Rattle.blif_write.proofs.names.last_output.Goals as goal
+
+pub returns-in-len1-up : goal.returns-in-len1-up
+returns-in-len1-up c =
+    let some : 0 < length c.outputs.result.now = omega arith in
+    c.name_of.ensures
+    ∙ rw (← c.outputs.ensures.outputs) (sym (last_mapped (name_of c.args.net.now) (codes ".outputs") c.outputs.result.now _ some))

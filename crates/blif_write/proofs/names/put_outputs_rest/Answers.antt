@@ -1,0 +1,11 @@
+use Rattle.cyc_io.proofs.TakenLemmas.{appends_start, prefix_of_front, on_err}
+use Rattle.blif_write.proofs.names.put_outputs_rest.Goals as goal
+
+pub returns-in_err-put_names-clause-prefix : goal.returns-in_err-put_names-clause-prefix
+returns-in_err-put_names-clause-prefix g c =
+    rw (← c.outputs.ensures.outputs) (on_err _ (prefix_of_front _ _ _ _ c.in_err-put_names.ensures.prefix))
+
+pub returns-in_err-put_end-clause-prefix : goal.returns-in_err-put_end-clause-prefix
+returns-in_err-put_end-clause-prefix g c =
+    rw (← c.last_output.ensures, ← c.outputs.ensures.outputs)
+    (on_err _ (appends_start _ _ _ _ _ c.in_ok-put_names.ensures.taken c.in_err-put_end.ensures.prefix))

@@ -1,0 +1,3 @@
+pub mod Written
+pub mod Putting
+pub mod Laws

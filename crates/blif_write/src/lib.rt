@@ -1,0 +1,17 @@
+//! The BLIF text of a netlist.
+//!
+//! It stands on `netlist` for the netlist and on `cyc_io` for the sink; its law stands on `blif_read` and
+//! `flatten`. The tool uses that `write` appends exactly the netlist's text (`specs/Written.antt`), or a prefix
+//! of it where a write failed, and that the text reads back as the netlist (`specs/Laws.antt`).
+#![tactic(auto)]
+
+mod gates;
+mod latches;
+pub mod laws;
+mod names;
+mod put;
+#[cfg(test)]
+mod tests;
+mod text;
+
+pub use text::write;
