@@ -1,0 +1,241 @@
+-- Gates grouped by the numbers of their components are the blocks of a netlist.
+use Rattle.std.proofs.Common.{◌≡◌, ◌≢◌, inl, inr, ◌↔◌, ℕ, zero, suc, ◌+◌, ◌<◌, Bool, true, false, cond, eqb, List, [], ◌∷◌, ◌++◌, length, map, get_or, set, replicate, refl, ap, sym, ◌∙◌, subst, arith, true≢false, Contains, eq-eqb, add-one}
+use Rattle.std.specs.List.{All, AllPairs, filter, range_with_len}
+use Rattle.std.proofs.lemmas.Bool.{cases_eq, cases_Bool, eqb-true}
+use Rattle.std.proofs.lemmas.List.{get_or-map, length-map, get_or-set_same, get_or-set_other, length-set, same_lists, append-nil}
+use Rattle.std.proofs.lemmas.List.FromFn.{length-range_with_len, get_or-range_with_len, get_or-map-range_with_len, length-map-range_with_len}
+use Rattle.std.proofs.lemmas.List.Elements.{All-filter, filter-append, filter_passes}
+use Rattle.std.proofs.lemmas.List.Folds.{list_any_at}
+use Rattle.std.proofs.lemmas.Map.Views.{Contains-from_any}
+use Rattle.std.proofs.lemmas.List.Kept.{AllPairs-filter}
+use Rattle.components.specs.declared.components.Components.{Components}
+use Rattle.components.specs.Graphs.{Edge, Reaches, AreComponentsOf}
+use Rattle.netlist.specs.declared.parts.Parts.{Parts}
+use Rattle.netlist.specs.Walks.{Feeds, Walk}
+use Rattle.netlist.specs.Orders.{gate_graph}
+use Rattle.netlist.proofs.GraphLemmas.{length-gate_graph, feeds_edge, edge_feeds, walk_reaches, reaches_walk}
+use Rattle.loops.specs.declared.parts.Block.{Block}
+use Rattle.loops.specs.Walks.{Leads, AnyGate, SameBlock}
+use Rattle.loops.specs.Blocks.{no_block, block_at, AreBlocksOf}
+use Rattle.loops.specs.Members.{members_below, members, is_loop, block_of}
+use Rattle.loops.proofs.Walks.{leads-any, leads-step, leads-trans}
+
+range-suc : (a n : ℕ) → range_with_len a (suc n) ≡ range_with_len a n ++ (a + n) ∷ []
+range-suc a zero = ap (λ (x : ℕ). x ∷ []) (omega arith)
+range-suc a (suc n) =
+    let same : a + 1 + n ≡ a + suc n = omega arith in
+    ap (λ (rest : List ℕ). a ∷ rest) (range-suc (a + 1) n ∙ ap (λ (x : ℕ). range_with_len (a + 1) n ++ x ∷ []) same)
+
+-- one more gate is a member of its number, and of no other
+members-suc : (homes : List ℕ) (gate number : ℕ) → members_below homes (gate + 1) number ≡ members_below homes gate number ++ cond (eqb (get_or homes gate 0) number) (gate ∷ []) []
+members-suc homes gate number =
+    let range : range_with_len 0 (gate + 1) ≡ range_with_len 0 gate ++ gate ∷ [] =
+    ap (range_with_len 0) (add-one gate) ∙ range-suc 0 gate ∙ ap (λ (x : ℕ). range_with_len 0 gate ++ x ∷ []) (omega arith) in
+    ap (filter (λ n. eqb (get_or homes n 0) number)) range ∙ filter-append (λ n. eqb (get_or homes n 0) number) (range_with_len 0 gate) (gate ∷ [])
+
+members-yes : (homes : List ℕ) (gate number : ℕ) → get_or homes gate 0 ≡ number → members_below homes (gate + 1) number ≡ members_below homes gate number ++ gate ∷ []
+members-yes homes gate number e =
+    members-suc homes gate number ∙ ap (λ b. members_below homes gate number ++ cond b (gate ∷ []) []) (eq-eqb (get_or homes gate 0) number e)
+
+members-no : (homes : List ℕ) (gate number : ℕ) → get_or homes gate 0 ≢ number → members_below homes (gate + 1) number ≡ members_below homes gate number
+members-no homes gate number ne =
+    members-suc homes gate number ∙ ap (λ b. members_below homes gate number ++ cond b (gate ∷ []) []) (differs (eqb (get_or homes gate 0) number) refl) ∙ append-nil (members_below homes gate number)
+  where
+    differs : (b : Bool) → eqb (get_or homes gate 0) number ≡ b → eqb (get_or homes gate 0) number ≡ false
+    differs true e = absurd (ne (eqb-true (get_or homes gate 0) number e))
+    differs false e = e
+
+pub grouped_none : (homes : List ℕ) (count : ℕ) → replicate count [] ≡ map (members_below homes 0) (range_with_len 0 count)
+grouped_none homes count = none 0 count
+  where
+    none : (a n : ℕ) → replicate n [] ≡ map (members_below homes 0) (range_with_len a n)
+    none a zero = refl
+    none a (suc n) = ap (λ (rest : List (List ℕ)). [] ∷ rest) (none (a + 1) n)
+
+pub length-grouped : (homes : List ℕ) (count gate : ℕ) (lists : List (List ℕ)) → lists ≡ map (members_below homes gate) (range_with_len 0 count) → length lists ≡ count
+length-grouped homes count gate lists e = ap (λ (ls : List (List ℕ)). length ls) e ∙ length-map-range_with_len (members_below homes gate) 0 count
+
+pub grouped_more : (homes : List ℕ) (lists : List (List ℕ)) (old : List ℕ) (count gate : ℕ) → get_or homes gate 0 < count →
+    lists ≡ map (members_below homes gate) (range_with_len 0 count) → old ≡ get_or lists (get_or homes gate 0) old →
+    set lists (get_or homes gate 0) (old ++ gate ∷ []) ≡ map (members_below homes (gate + 1)) (range_with_len 0 count)
+grouped_more homes lists old count gate within e read =
+    let len = length-grouped homes count gate lists e in
+    let sets = length-set lists (get_or homes gate 0) (old ++ gate ∷ []) in
+    same_lists (set lists (get_or homes gate 0) (old ++ gate ∷ [])) (map (members_below homes (gate + 1)) (range_with_len 0 count))
+    (sets ∙ len ∙ sym (length-map-range_with_len (members_below homes (gate + 1)) 0 count))
+    (λ k d l.
+    let below : k < count = omega arith in
+    at k d below ∙ sym (get_or-map-range_with_len (members_below homes (gate + 1)) 0 count k k d below (omega arith)))
+  where
+    was : (k : ℕ) (d : List ℕ) → k < count → get_or lists k d ≡ members_below homes gate k
+    was k d l = ap (λ (ls : List (List ℕ)). get_or ls k d) e ∙ get_or-map-range_with_len (members_below homes gate) 0 count k k d l (omega arith)
+
+    at : (k : ℕ) (d : List ℕ) → k < count → get_or (set lists (get_or homes gate 0) (old ++ gate ∷ [])) k d ≡ members_below homes (gate + 1) k
+    at k d l =
+        elim (cases_eq k (get_or homes gate 0)) [
+          | inl same ↦
+              let len = length-grouped homes count gate lists e in
+              rw (same, get_or-set_same lists (get_or homes gate 0) (old ++ gate ∷ []) d (omega arith))
+              (ap (λ (xs : List ℕ). xs ++ gate ∷ []) (read ∙ was (get_or homes gate 0) old within) ∙ sym (members-yes homes gate (get_or homes gate 0) refl))
+          | inr ne ↦
+              get_or-set_other lists (get_or homes gate 0) k (old ++ gate ∷ []) d ne ∙ was k d l
+              ∙ sym (members-no homes gate k (λ e. ne (sym e)))
+        ]
+
+contains_filter : (p : ℕ → Bool) (xs : List ℕ) (x : ℕ) → p x ≡ true → Contains xs x → Contains (filter p xs) x
+contains_filter p [] x e c = absurd (let l = c.1 in omega arith)
+contains_filter p (y ∷ ys) x e (zero, l, same) =
+    let at : p y ≡ true = ap p same ∙ e in
+    rw at (zero, omega arith, same)
+contains_filter p (y ∷ ys) x e (suc k, l, same) =
+    let found = contains_filter p ys x e (k, omega arith, same) in
+    elim (cases_Bool (p y)) [
+      | inl at ↦ rw at (suc found.0, (let m = found.1 in omega arith), found.2)
+      | inr at ↦ rw at found
+    ]
+
+module _ (homes : List ℕ) (number : ℕ) where
+  is_member : (n : ℕ) → n < length homes → get_or homes n 0 ≡ number → Contains (members homes number) n
+  is_member n l e =
+      let len = length-range_with_len 0 (length homes) in
+      contains_filter (λ m. eqb (get_or homes m 0) number) (range_with_len 0 (length homes)) n (eq-eqb (get_or homes n 0) number e)
+      (n, omega arith, get_or-range_with_len 0 (length homes) n n l ∙ omega arith)
+
+  members_have : All (λ n. get_or homes n 0 ≡ number) (members homes number)
+  members_have k d l = eqb-true (get_or homes (get_or (members homes number) k d) 0) number (filter_passes (λ m. eqb (get_or homes m 0) number) (range_with_len 0 (length homes)) k d l)
+
+  pub members_within : All (λ n. n < length homes) (members homes number)
+  members_within = All-filter (λ m. eqb (get_or homes m 0) number) (λ n. n < length homes) (range_with_len 0 (length homes)) (λ k d l.
+      let len = length-range_with_len 0 (length homes) in
+      let at = get_or-range_with_len 0 (length homes) k d (omega arith) in
+      omega arith)
+
+  members_rise : AllPairs (λ x y. x < y) (members homes number)
+  members_rise = AllPairs-filter (λ x y. x < y) (λ m. eqb (get_or homes m 0) number) (range_with_len 0 (length homes)) (λ i j d l m.
+      let len = length-range_with_len 0 (length homes) in
+      let one = get_or-range_with_len 0 (length homes) i d (omega arith) in
+      let two = get_or-range_with_len 0 (length homes) j d (omega arith) in
+      omega arith)
+
+alone_in : (g n : ℕ) → Contains (g ∷ []) n → g ≡ n
+alone_in g n (zero, l, e) = e
+alone_in g n (suc k, l, e) = absurd (omega arith)
+
+-- the members of all numbers are gates
+pub lists_within : (homes : List ℕ) (count len : ℕ) (lists : List (List ℕ)) → lists ≡ map (members homes) (range_with_len 0 count) → length homes ≡ len → All (All (λ n. n < len)) lists
+lists_within homes count len lists e size k d l =
+    let within : k < count = (let c = length-grouped homes count (length homes) lists e in omega arith) in
+    let at : get_or lists k d ≡ members homes k =
+    ap (λ (ls : List (List ℕ)). get_or ls k d) e ∙ get_or-map-range_with_len (members homes) 0 count k k d within (omega arith) in
+    let below = subst (λ m. All (λ n. n < m) (members homes k)) size (members_within homes k) in
+    subst (λ (xs : List ℕ). All (λ n. n < len) xs) (sym at) below
+
+module _ (net : Parts) (found : Components) (are : AreComponentsOf (gate_graph net) found) where
+  gates : length found.home ≡ length net.gates
+  gates = are.nodes ∙ length-gate_graph net
+
+  leads_of : (a b : ℕ) → Reaches (gate_graph net) b a → Leads net AnyGate a b
+  leads_of a b reaches = (let walks = reaches_walk net b a reaches.via reaches.walk in leads-any net a b walks.via walks.walk)
+
+  reaches_of : (a b : ℕ) → Leads net AnyGate a b → Reaches (gate_graph net) b a
+  reaches_of a b leads = walk_reaches net a b leads.via leads.walk
+
+  same_block : (a b : ℕ) → a < length net.gates → b < length net.gates → (get_or found.home a 0 ≡ get_or found.home b 0) ↔ SameBlock net a b
+  same_block a b al bl = (to, from)
+    where
+      to : get_or found.home a 0 ≡ get_or found.home b 0 → SameBlock net a b
+      to e =
+          let len = length-gate_graph net in
+          elim (are.connected a b (omega arith) (omega arith) e) [
+            | inl same ↦ inl same
+            | inr both ↦ inr (record { there = leads_of a b both.1; back = leads_of b a both.0 })
+          ]
+
+      from : SameBlock net a b → get_or found.home a 0 ≡ get_or found.home b 0
+      from (inl e) = are.same a b (inl e)
+      from (inr loop) = are.same a b (inr (reaches_of b a loop.back, reaches_of a b loop.there))
+
+  module _ (n : ℕ) (l : n < length net.gates) where
+    -- two gates of one component lead to each other
+    twice : (m : ℕ) → m < length net.gates → m ≢ n → get_or found.home n 0 ≡ get_or found.home m 0 → Leads net AnyGate n n
+    twice m ml apart e =
+        let len = length-gate_graph net in
+        elim (are.connected n m (omega arith) (omega arith) e) [
+          | inl same ↦ absurd (apart (sym same))
+          | inr both ↦ leads-trans net n m n (leads_of n m both.1) (leads_of m n both.0)
+        ]
+
+    -- a loop reads itself within its component
+    within : Leads net AnyGate n n → ((x : ℕ) → x < length net.gates → get_or found.home x 0 ≡ get_or found.home n 0 → x ≡ n) → Feeds net n n
+    within leads alone = by_via leads.via leads.walk
+      where
+        by_via : (via : List ℕ) → Walk net n via n → Feeds net n n
+        by_via [] walk = walk
+        by_via (x ∷ via) walk =
+            let same = are.same x n (inr (walk_reaches net n x [] walk.0, walk_reaches net x n via walk.1)) in
+            subst (λ (y : ℕ). Feeds net n y) (alone x walk.0.reader same) walk.0
+
+    to : (ms : List ℕ) → members found.home (get_or found.home n 0) ≡ ms → is_loop (gate_graph net) ms ≡ true → Leads net AnyGate n n
+    to [] e h = absurd (true≢false (sym h))
+    to (g ∷ []) e h =
+        let count = gates in
+        let len = length-gate_graph net in
+        let only = alone_in g n (subst (λ (xs : List ℕ). Contains xs n) e (is_member found.home (get_or found.home n 0) n (omega arith) refl)) in
+        let edge : Edge (gate_graph net) g g = record {
+          source = omega arith;
+          target = omega arith;
+          listed = Contains-from_any {eq = λ a b. eqb b a} (λ x y t. sym (eqb-true y x t)) g (get_or (gate_graph net) g []) h;
+        } in
+        subst (λ (x : ℕ). Leads net AnyGate x x) only (leads-step net g g (edge_feeds net g g edge))
+    to (g ∷ h ∷ ms) e is =
+        let count = gates in
+        let rise = subst (λ (xs : List ℕ). AllPairs (λ x y. x < y) xs) e (members_rise found.home (get_or found.home n 0)) 0 1 0 (omega arith) (omega arith) in
+        let have = subst (λ (xs : List ℕ). All (λ m. get_or found.home m 0 ≡ get_or found.home n 0) xs) e (members_have found.home (get_or found.home n 0)) in
+        let below = subst (λ (xs : List ℕ). All (λ m. m < length found.home) xs) e (members_within found.home (get_or found.home n 0)) in
+        let first = below 0 0 (omega arith) in
+        let second = below 1 0 (omega arith) in
+        elim (cases_eq g n) [
+          | inl same ↦ twice h (omega arith) (omega arith) (sym (have 1 0 (omega arith)))
+          | inr apart ↦ twice g (omega arith) apart (sym (have 0 0 (omega arith)))
+        ]
+
+    from : (ms : List ℕ) → members found.home (get_or found.home n 0) ≡ ms → Leads net AnyGate n n → is_loop (gate_graph net) ms ≡ true
+    from [] e leads =
+        let count = gates in
+        let none = subst (λ (xs : List ℕ). Contains xs n) e (is_member found.home (get_or found.home n 0) n (omega arith) refl) in
+        absurd (let k = none.1 in omega arith)
+    from (g ∷ []) e leads =
+        let count = gates in
+        let only = alone_in g n (subst (λ (xs : List ℕ). Contains xs n) e (is_member found.home (get_or found.home n 0) n (omega arith) refl)) in
+        let feeds = within leads (λ x xl same. sym (alone_in g x (subst (λ (xs : List ℕ). Contains xs x) e (is_member found.home (get_or found.home n 0) x (omega arith) same))) ∙ only) in
+        let listed = subst (λ (x : ℕ). Contains (get_or (gate_graph net) x []) x) (sym only) (feeds_edge net n n feeds).listed in
+        list_any_at (λ read. eqb read g) (get_or (gate_graph net) g []) listed.0 g listed.1 (eq-eqb _ g listed.2)
+    from (g ∷ h ∷ ms) e leads = refl
+
+    looped : (is_loop (gate_graph net) (members found.home (get_or found.home n 0)) ≡ true) ↔ Leads net AnyGate n n
+    looped = (to (members found.home (get_or found.home n 0)) refl, from (members found.home (get_or found.home n 0)) refl)
+
+  pub are_blocks : AreBlocksOf net (record { list = map (block_of (gate_graph net)) (map (members found.home) (range_with_len 0 found.count)); home = found.home })
+  are_blocks =
+      let len = length-map (map (members found.home) (range_with_len 0 found.count)) (block_of (gate_graph net)) in
+      let lists = length-map-range_with_len (members found.home) 0 found.count in
+      let count = gates in
+      record {
+        homes = gates;
+        home = λ n l. (let within = are.within n (let g = length-gate_graph net in omega arith) in omega arith);
+        same = same_block;
+        gates = λ b l. ap (λ (block : Block). block.gates) (block b (omega arith));
+        filled = λ b l.
+            let has = are.used b (omega arith) in
+            let member = is_member found.home b has.node has.within has.is in
+            rw (block b (omega arith)) (let within = member.1 in omega arith);
+        after_reads = λ a b feeds. are.order b a (feeds_edge net a b feeds);
+        looped = λ n l. (let within = are.within n (let g = length-gate_graph net in omega arith) in rw (block (get_or found.home n 0) within) (looped n l));
+      }
+    where
+      block : (b : ℕ) → b < found.count →
+          block_at (record { list = map (block_of (gate_graph net)) (map (members found.home) (range_with_len 0 found.count)); home = found.home }) b ≡ block_of (gate_graph net) (members found.home b)
+      block b l =
+          let lists = length-map-range_with_len (members found.home) 0 found.count in
+          get_or-map (block_of (gate_graph net)) (map (members found.home) (range_with_len 0 found.count)) b [] no_block (omega arith)
+          ∙ ap (block_of (gate_graph net)) (get_or-map-range_with_len (members found.home) 0 found.count b b [] l (omega arith))

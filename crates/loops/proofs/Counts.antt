@@ -1,0 +1,36 @@
+-- The number of sweeps is one for each loop.
+use Rattle.std.proofs.Common.{◌≡◌, ℕ, true, ◌&&◌, List, length, map, get_or, ap, subst, arith}
+use Rattle.std.proofs.lemmas.List.Elements.{filter_agree}
+use Rattle.std.specs.List.{range_with_len}
+use Rattle.cyc_base.specs.declared.trit.Trit.{Trit}
+use Rattle.cyc_base.specs.declared.trit.Trit.TheVariants.{X}
+use Rattle.netlist.specs.declared.parts.Parts.{Parts}
+use Rattle.netlist.specs.Fixpoint.{fix_gates}
+use Rattle.loops.specs.Cuts.{Loops, AreLoopsOf}
+use Rattle.loops.specs.Sweeps.{sweeps, cuts_of, CutsAreFixed}
+use Rattle.loops.specs.Laws.{CountIsOfLoops}
+use Rattle.loops.proofs.Walks.{same_truth}
+use Rattle.loops.proofs.Sweeps.{same-sym, same-trans}
+
+module _ (net : Parts) (loops : Loops) (are : AreLoopsOf net loops) where
+  cuts_same : (a b : ℕ) → loops.same a b ≡ true → cuts_of net loops a ≡ cuts_of net loops b
+  cuts_same a b e =
+      filter_agree (λ n. loops.same a n && loops.cut n) (λ n. loops.same b n && loops.cut n)
+      (λ n. ap (λ t. t && loops.cut n)
+      (same_truth (loops.same a n) (loops.same b n)
+      (λ h. same-trans net loops are b a n (same-sym net loops are a b e) h)
+      (λ h. same-trans net loops are a b n e h)))
+      (range_with_len 0 (length net.gates))
+
+  fixed_of : (v : List Trit) (a b k : ℕ) → loops.same a b ≡ true → CutsAreFixed net loops v a k → CutsAreFixed net loops v b k
+  fixed_of v a b k e h =
+      subst (λ (ns : List ℕ). map (λ n. get_or (sweeps net loops v k) n X) ns ≡ map (λ n. get_or (fix_gates net v) n X) ns) (cuts_same a b e) h
+
+pub count_is_of_loops : CountIsOfLoops
+count_is_of_loops net loops are care m count a b e =
+    let back = same-sym net loops are a b e in
+    let one = count a (same-trans net loops are a b a e back) in
+    let two = count b (same-trans net loops are b a b back e) in
+    let low = one.least (m b) (λ v h. fixed_of net loops are v b a (m b) back (two.enough v h)) in
+    let high = two.least (m a) (λ v h. fixed_of net loops are v a b (m a) e (one.enough v h)) in
+    omega arith

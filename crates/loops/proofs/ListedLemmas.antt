@@ -1,0 +1,148 @@
+-- The loops of a netlist are told by its blocks, and their cut wires by its cut.
+use Rattle.std.proofs.Common.{◌≡◌, ◌==◌, ℕ, zero, suc, ◌+◌, ◌<◌, ◌≤◌, ltb, Bool, true, false, cond, ◌&&◌, List, [], ◌∷◌, ◌++◌, length, filter, All, refl, sym, ap, ap₂, ◌∙◌, subst, arith, Contains, true≢false, append-nil}
+use Rattle.std.proofs.lemmas.Bool.{lt-ltb}
+use Rattle.std.proofs.lemmas.List.Elements.{All-filter, All-from_recursion, filter-append}
+use Rattle.std.specs.List.{AllByRecursion, range_with_len}
+use Rattle.netlist.specs.declared.parts.Parts.{Parts}
+use Rattle.loops.specs.declared.parts.Block.{Block}
+use Rattle.loops.specs.declared.parts.Blocks.{Blocks}
+use Rattle.loops.specs.declared.parts.Cut.{Cut}
+use Rattle.loops.specs.Blocks.{AreBlocksOf, block_at, home_of, gates_at}
+use Rattle.loops.specs.Cuts.{AreCutWires, IsCutOf, in_one_loop, is_cut}
+use Rattle.loops.specs.Found.{loops_of}
+use Rattle.loops.specs.Listed.{gate_numbers, loop_of, cut_wires_of, begins_with, first_gates}
+use Rattle.loops.proofs.Existence.{loops_exist}
+use Rattle.loops.proofs.Told.{told_from, told_to}
+use Rattle.loops.proofs.Walks.{loops_are_unique}
+
+same_truth : (s t : Bool) → (s ≡ true → t ≡ true) → (t ≡ true → s ≡ true) → s ≡ t
+same_truth true t there back = sym (there refl)
+same_truth false true there back = absurd (true≢false (sym (back refl)))
+same_truth false false there back = refl
+
+-- numbers of a range that are kept by two tests which agree below a bound
+kept_below : (p q : ℕ → Bool) (a n bound : ℕ) → a + n ≡ bound → ((k : ℕ) → k < bound → p k ≡ q k)
+    → filter p (range_with_len a n) ≡ filter q (range_with_len a n)
+kept_below p q a zero bound is agree = refl
+kept_below p q a (suc n) bound is agree =
+    ap₂ (λ t ns. cond t (a ∷ ns) ns) (agree a (omega (arith, is))) (kept_below p q (a + 1) n bound (omega (arith, is)) agree)
+
+none_kept : (p : ℕ → Bool) (a n bound : ℕ) → a + n ≡ bound → ((k : ℕ) → k < bound → p k ≡ false) → filter p (range_with_len a n) ≡ []
+none_kept p a zero bound is none = refl
+none_kept p a (suc n) bound is none =
+    ap₂ (λ t ns. cond t (a ∷ ns) ns) (none a (omega (arith, is))) (none_kept p (a + 1) n bound (omega (arith, is)) none)
+
+filter_agree : (p q : ℕ → Bool) (ns : List ℕ) → ((n : ℕ) → p n ≡ q n) → filter p ns ≡ filter q ns
+filter_agree p q [] agree = refl
+filter_agree p q (n ∷ ns) agree = ap₂ (λ t rest. cond t (n ∷ rest) rest) (agree n) (filter_agree p q ns agree)
+
+module _ (net : Parts) (blocks : Blocks) (are : AreBlocksOf net blocks) where
+  -- blocks tell which gates are in one loop
+  same_told : (a b : ℕ) → (loops_of net).same a b ≡ in_one_loop blocks a b
+  same_told a b = same_truth ((loops_of net).same a b) (in_one_loop blocks a b)
+      (λ same. told_from net blocks are a b (((loops_exist net).same a b).0 same))
+      (λ told. ((loops_exist net).same a b).1 (told_to net blocks are a b told))
+
+  -- the gates of a loop are those of its block
+  pub loop_is_block : (a : ℕ) → a < length net.gates → (block_at blocks (home_of blocks a)).looped ≡ true
+      → loop_of net a ≡ (block_at blocks (home_of blocks a)).gates
+  loop_is_block a inside looped =
+      kept_below ((loops_of net).same a) (λ n. home_of blocks n == home_of blocks a) 0 (length net.gates) (length net.gates) (omega arith) agree
+      ∙ ap (λ count. filter (λ n. home_of blocks n == home_of blocks a) (range_with_len 0 count)) (sym are.homes)
+      ∙ sym (are.gates (home_of blocks a) (are.home a inside))
+    where
+      within : (k : ℕ) → k < length net.gates → ltb k (length blocks.home) ≡ true
+      within k below = lt-ltb k (length blocks.home) (let homes = are.homes in omega (arith, below, homes))
+
+      swapped : (x y : ℕ) → (x == y) ≡ (y == x)
+      swapped x y = grind arith
+
+      agree : (k : ℕ) → k < length net.gates → (loops_of net).same a k ≡ (home_of blocks k == home_of blocks a)
+      agree k below =
+          same_told a k
+          ∙ ap₂ (λ s t. s && (t && ((block_at blocks (home_of blocks a)).looped && home_of blocks a == home_of blocks k))) (within a inside) (within k below)
+          ∙ ap (λ t. t && home_of blocks a == home_of blocks k) looped
+          ∙ swapped (home_of blocks a) (home_of blocks k)
+
+  -- a gate whose block is no loop is in none
+  pub no_loop : (a : ℕ) → (block_at blocks (home_of blocks a)).looped ≡ false → loop_of net a ≡ []
+  no_loop a not = none_kept ((loops_of net).same a) 0 (length net.gates) (length net.gates) (omega arith) (λ k below. same_told a k ∙ out k)
+    where
+      nothing : (s t : Bool) → (s && (t && false)) ≡ false
+      nothing true true = refl
+      nothing true false = refl
+      nothing false t = refl
+
+      out : (k : ℕ) → in_one_loop blocks a k ≡ false
+      out k =
+          ap (λ t. ltb a (length blocks.home) && (ltb k (length blocks.home) && (t && home_of blocks a == home_of blocks k))) not
+          ∙ nothing (ltb a (length blocks.home)) (ltb k (length blocks.home))
+
+  -- whether a loop begins at a gate
+  pub begins_in_loop : (a : ℕ) (block : Block) → a < length net.gates → block ≡ block_at blocks (home_of blocks a) → block.looped ≡ true
+      → begins_with block.gates a ≡ begins_with (loop_of net a) a
+  begins_in_loop a block inside is looped =
+      ap (λ (b : Block). begins_with b.gates a) is
+      ∙ ap (λ gates. begins_with gates a) (sym (loop_is_block a inside (sym (ap (λ (b : Block). b.looped) is) ∙ looped)))
+
+  pub begins_no_loop : (a : ℕ) (block : Block) → block ≡ block_at blocks (home_of blocks a) → block.looped ≡ false → begins_with (loop_of net a) a ≡ false
+  begins_no_loop a block is not = ap (λ gates. begins_with gates a) (no_loop a (sym (ap (λ (b : Block). b.looped) is) ∙ not))
+
+  -- the loop that begins there
+  pub loop_begun : (a : ℕ) → a < length net.gates → begins_with (loop_of net a) a ≡ true → (block_at blocks (home_of blocks a)).gates ≡ loop_of net a
+  loop_begun a inside begun = by_test ((block_at blocks (home_of blocks a)).looped) refl
+    where
+      by_test : (t : Bool) → (block_at blocks (home_of blocks a)).looped ≡ t → (block_at blocks (home_of blocks a)).gates ≡ loop_of net a
+      by_test true looped = sym (loop_is_block a inside looped)
+      by_test false not = absurd (true≢false (sym begun ∙ ap (λ gates. begins_with gates a) (no_loop a not)))
+
+-- a cut tells the cut wires
+cut_told : (net : Parts) (cut : Cut) → IsCutOf net cut → (n : ℕ) → (loops_of net).cut n ≡ is_cut cut.wires n
+cut_told net cut is =
+    (loops_are_unique net (loops_of net) (record { same = (loops_of net).same; cut = is_cut cut.wires }) (loops_exist net)
+    (record { same = (loops_exist net).same; cut = is.wires })).1
+
+pub cut_wires_told : (net : Parts) (cut : Cut) (a : ℕ) (gates : List ℕ) → IsCutOf net cut → loop_of net a ≡ gates
+    → cut_wires_of net a ≡ filter (is_cut cut.wires) gates
+cut_wires_told net cut a gates is loop =
+    filter_agree (loops_of net).cut (is_cut cut.wires) (loop_of net a) (cut_told net cut is)
+    ∙ ap (filter (is_cut cut.wires)) loop
+
+-- the gates of a loop are gates
+pub loop_gates_inside : (net : Parts) (a : ℕ) → All (λ n. n < length net.gates) (loop_of net a)
+loop_gates_inside net a =
+    All-filter ((loops_of net).same a) (λ n. n < length net.gates) (gate_numbers net)
+    (All-from_recursion (λ n. n < length net.gates) (gate_numbers net) (range_inside 0 (length net.gates) (length net.gates) (omega arith)))
+  where
+    range_inside : (from n bound : ℕ) → from + n ≡ bound → AllByRecursion (λ k. k < bound) (range_with_len from n)
+    range_inside from zero bound is = tt
+    range_inside from (suc n) bound is = (omega (arith, is), range_inside (from + 1) n bound (omega (arith, is)))
+
+pub at_most_one : (b : Bool) → cond b 1 0 ≤ 1
+at_most_one true = omega arith
+at_most_one false = omega arith
+
+-- one more gate of the range
+range_more : (a n : ℕ) → range_with_len a (n + 1) ≡ range_with_len a n ++ (a + n) ∷ []
+range_more a zero = ap (λ k. k ∷ []) (let e : a ≡ a + 0 = omega arith in e)
+range_more a (suc n) =
+    ap (range_with_len a) (let e : suc n + 1 ≡ suc (n + 1) = omega arith in e)
+    ∙ ap (λ ns. a ∷ ns) (range_more (a + 1) n ∙ ap (λ k. range_with_len (a + 1) n ++ k ∷ []) (let e : a + 1 + n ≡ a + suc n = omega arith in e))
+
+-- what is kept goes on by one gate
+pub kept_more : (p : ℕ → Bool) (n : ℕ) → filter p (range_with_len 0 (n + 1)) ≡ filter p (range_with_len 0 n) ++ cond (p n) (n ∷ []) []
+kept_more p n =
+    ap (filter p) (range_more 0 n)
+    ∙ ap (λ k. filter p (range_with_len 0 n ++ k ∷ [])) (let e : 0 + n ≡ n = omega arith in e)
+    ∙ filter-append p (range_with_len 0 n) (n ∷ [])
+
+pub counted_more : (p : ℕ → Bool) (n : ℕ) → length (filter p (range_with_len 0 (n + 1))) ≡ length (filter p (range_with_len 0 n)) + cond (p n) 1 0
+counted_more p n = ap length (kept_more p n) ∙ by_test (p n)
+  where
+    by_test : (t : Bool) → length (filter p (range_with_len 0 n) ++ cond t (n ∷ []) []) ≡ length (filter p (range_with_len 0 n)) + cond t 1 0
+    by_test true = length_more (filter p (range_with_len 0 n))
+      where
+        length_more : (ns : List ℕ) → length (ns ++ n ∷ []) ≡ length ns + 1
+        length_more [] = refl
+        length_more (m ∷ ns) = ap suc (length_more ns) ∙ let e : suc (length ns + 1) ≡ suc (length ns) + 1 = omega arith in e
+    by_test false = ap length (append-nil (filter p (range_with_len 0 n))) ∙ let e : length (filter p (range_with_len 0 n)) ≡ length (filter p (range_with_len 0 n)) + 0 = omega arith in e

@@ -1,0 +1,118 @@
+-- Reading lists, wires and gates by number.
+use Rattle.std.proofs.Common.{◌≡◌, ℕ, zero, suc, ◌-◌, ◌<◌, ◌≤◌, leb, Bool, true, false, if◌then◌else◌, List, [], ◌∷◌, ◌++◌, length, map, filter, get_or, refl, ap, ap₂, sym, ◌∙◌, arith, Contains, true≢false}
+use Rattle.std.proofs.lemmas.Bool.{and_parts, leb-true}
+use Rattle.std.proofs.lemmas.List.{get_or-map, get_or-append_right, length-map}
+use Rattle.std.proofs.lemmas.List.FromFn.{fill_by_all, length-range_with_len, get_or-range_with_len}
+use Rattle.std.specs.List.{range_with_len}
+use Rattle.cyc_base.specs.declared.sig.Sig.{Sig}
+use Rattle.cyc_base.specs.declared.trit.Trit.{Trit}
+use Rattle.cyc_base.specs.declared.trit.Trit.TheVariants.{X}
+use Rattle.cyc_base.specs.Values.{Below}
+use Rattle.netlist.specs.declared.parts.Parts.{Parts}
+use Rattle.netlist.specs.Netlists.{gate_at}
+use Rattle.netlist.specs.Fixpoint.{wires, gate_value, step, fix, fix_gates}
+use Rattle.netlist.proofs.FixpointLemmas.{fix_is_fixpoint}
+use Rattle.loops.specs.Cuts.{Loops}
+use Rattle.loops.specs.Sweeps.{first_gate, gate_of, in_loop_of}
+
+-- a choice among three
+abbrev pub choice : Bool → Bool → Trit → Trit → Trit → Trit
+choice b d x y z = if b then (if d then x else y) else z
+
+pub choice_mono : (b d : Bool) (x y z x' y' z' : Trit) → Below x x' → Below y y' → Below z z' → Below (choice b d x y z) (choice b d x' y' z')
+choice_mono true true x y z x' y' z' h k l = h
+choice_mono true false x y z x' y' z' h k l = k
+choice_mono false d x y z x' y' z' h k l = l
+
+pub choice_below : (b d : Bool) (x y z w : Trit) → (b ≡ true → d ≡ true → Below x w) → (b ≡ true → d ≡ false → Below y w) → (b ≡ false → Below z w) → Below (choice b d x y z) w
+choice_below true true x y z w h k l = h refl refl
+choice_below true false x y z w h k l = k refl refl
+choice_below false d x y z w h k l = l refl
+
+pub choice_above : (b d : Bool) (x y z w : Trit) → (b ≡ true → d ≡ true → Below w x) → (b ≡ true → d ≡ false → Below w y) → (b ≡ false → Below w z) → Below w (choice b d x y z)
+choice_above true true x y z w h k l = h refl refl
+choice_above true false x y z w h k l = k refl refl
+choice_above false d x y z w h k l = l refl
+
+pub choice_same : (b d : Bool) (x y z y' : Trit) → (b ≡ true → d ≡ false → y ≡ y') → choice b d x y z ≡ choice b d x y' z
+choice_same true true x y z y' h = refl
+choice_same true false x y z y' h = h refl refl
+choice_same false d x y z y' h = refl
+
+-- what a gate's signal reads
+pub wire_of_gate : (v s : List Trit) (first signal : ℕ) → length v ≡ first → first ≤ signal → get_or (v ++ s) signal X ≡ get_or s (signal - first) X
+wire_of_gate v s first signal e l = get_or-append_right v s first signal X e l
+
+pub in_loop_from : (net : Parts) (loops : Loops) (n : ℕ) (s : Sig) → in_loop_of net loops n s ≡ true → (first_gate net ≤ s.0) × (loops.same n (gate_of net s) ≡ true)
+in_loop_from net loops n s e =
+    let p = and_parts (leb (first_gate net) s.0) (loops.same n (gate_of net s)) e in
+    (leb-true (first_gate net) s.0 p.0, p.1)
+
+pub map_agree : {A B : Type 0} (f g : A → B) (xs : List A) → ((k : ℕ) (d : A) → k < length xs → f (get_or xs k d) ≡ g (get_or xs k d)) → map f xs ≡ map g xs
+map_agree f g [] h = refl
+map_agree f g (x ∷ xs) h =
+    ap₂ (λ y ys. y ∷ ys) (h zero x (omega arith)) (map_agree f g xs (λ k d l. h (suc k) d (omega arith)))
+
+pub get_or-step : (net : Parts) (v s : List Trit) (n : ℕ) → n < length net.gates → get_or (step net v s) n X ≡ gate_value (wires v s) (gate_at net n)
+get_or-step net v s n l = get_or-map (gate_value (wires v s)) net.gates n _ X l
+
+pub get_or-fix : (net : Parts) (v : List Trit) (n : ℕ) → n < length net.gates → get_or (fix_gates net v) n X ≡ gate_value (fix net v) (gate_at net n)
+get_or-fix net v n l = ap (λ s. get_or s n X) (sym (fix_is_fixpoint net v)) ∙ get_or-step net v (fix_gates net v) n l
+
+pub fix_by_place : (net : Parts) (v : List Trit) → fix_gates net v ≡ map (λ n. gate_value (fix net v) (gate_at net n)) (range_with_len 0 (length net.gates))
+fix_by_place net v =
+    fill_by_all (λ n. gate_value (fix net v) (gate_at net n)) (fix_gates net v) (length net.gates) X
+    (ap length (sym (fix_is_fixpoint net v)) ∙ length-map net.gates (gate_value (fix net v)))
+    (λ n l. get_or-fix net v n l)
+
+pub Contains-map : {A B : Type 0} (f : A → B) (xs : List A) (x : A) → Contains xs x → Contains (map f xs) (f x)
+Contains-map f xs x c =
+    let l = c.1 in
+    let e = length-map xs f in
+    (c.0, omega arith, get_or-map f xs c.0 x (f x) l ∙ ap f c.2)
+
+pub Contains-filter : {A : Type 0} (p : A → Bool) (xs : List A) (x : A) → p x ≡ true → Contains xs x → Contains (filter p xs) x
+Contains-filter p [] x h c = absurd (let l = c.1 in omega arith)
+Contains-filter p (y ∷ ys) x h (zero, l, e) = by (p y) refl
+  where
+    by : (b : Bool) → p y ≡ b → Contains (filter p (y ∷ ys)) x
+    by true is = rw is (zero, omega arith, e)
+    by false is = absurd (true≢false (sym h ∙ ap p (sym e) ∙ is))
+Contains-filter p (y ∷ ys) x h (suc k, l, e) = by (p y) refl (Contains-filter p ys x h (k, omega arith, e))
+  where
+    by : (b : Bool) → p y ≡ b → Contains (filter p ys) x → Contains (filter p (y ∷ ys)) x
+    by true is rest = rw is (let l2 = rest.1 in (suc rest.0, omega arith, rest.2))
+    by false is rest = rw is rest
+
+pub Contains-range : (n k : ℕ) → k < n → Contains (range_with_len 0 n) k
+Contains-range n k l =
+    let e = length-range_with_len 0 n in
+    let r = get_or-range_with_len 0 n k k l in
+    (k, omega arith, omega arith)
+
+pub Contains-filter_from : (p : ℕ → Bool) (xs : List ℕ) (x : ℕ) → Contains (filter p xs) x → (p x ≡ true) × Contains xs x
+Contains-filter_from p [] x c = absurd (let l = c.1 in omega arith)
+Contains-filter_from p (y ∷ ys) x c = by (p y) refl c (λ d. Contains-filter_from p ys x d)
+  where
+    by : (b : Bool) → p y ≡ b → Contains (filter p (y ∷ ys)) x → (Contains (filter p ys) x → (p x ≡ true) × Contains ys x) → (p x ≡ true) × Contains (y ∷ ys) x
+    by false is c rest =
+        let kept : Contains (filter p ys) x = rw is at c in
+        let r = rest kept in
+        (r.0, (suc r.1.0, (let l = r.1.1 in omega arith), r.1.2))
+    by true is c rest =
+        let kept : Contains (y ∷ filter p ys) x = rw is at c in
+        here kept.0 kept.1 kept.2
+      where
+        here : (k : ℕ) → k < length (y ∷ filter p ys) → get_or (y ∷ filter p ys) k x ≡ x → (p x ≡ true) × Contains (y ∷ ys) x
+        here zero l e = (ap p (sym e) ∙ is, (zero, omega arith, e))
+        here (suc k) l e =
+            let r = rest (k, omega arith, e) in
+            (r.0, (suc r.1.0, (let l2 = r.1.1 in omega arith), r.1.2))
+
+pub Contains-range_from : (n k : ℕ) → Contains (range_with_len 0 n) k → k < n
+Contains-range_from n k c =
+    let len = length-range_with_len 0 n in
+    let l = c.1 in
+    let at = get_or-range_with_len 0 n c.0 k (omega arith) in
+    let is = c.2 in
+    omega arith

@@ -1,0 +1,11 @@
+use Rattle.std.proofs.Common.{length}
+use Rattle.loops.specs.Searching.{IsReady}
+use Rattle.loops.proofs.CutLemmas.{AreCutsBelow}
+use Rattle.loops.proofs.cuts.find_cut.Given as goal
+
+abbrev pub invariant-loop-gate : goal.invariant-loop-gate
+invariant-loop-gate l = record {
+  cut : AreCutsBelow l.net l.gate l.cut.items;
+  forth : IsReady (length l.net.gates) l.gate l.forth.marks.items;
+  back : IsReady (length l.net.gates) l.gate l.back.marks.items;
+}

@@ -1,0 +1,5 @@
+use Rattle.loops.specs.Placing.{ArePlacesRead}
+use Rattle.loops.proofs.orders.places_read.Given as goal
+
+abbrev pub invariant-loop-pin : goal.invariant-loop-pin
+invariant-loop-pin l = ArePlacesRead l.net l.blocks l.cut l.gates l.gate l.pin-index l.places.items

@@ -1,0 +1,18 @@
+use Rattle.std.proofs.Common.{◌++◌, ◌+◌, [], ◌∷◌, ℕ, List, refl, ap, sym, ◌∙◌, subst, arith}
+use Rattle.loops.specs.Placing.{AreUncutReads}
+use Rattle.loops.proofs.OrderLemmas.{at_least_place, reads_more}
+use Rattle.loops.proofs.orders.uncut_reads.Goals as goal
+
+pub add_node-requires : goal.add_node-requires
+add_node-requires c =
+    let low = at_least_place c.args.gates.now c.requires.rise c.loop-gate.gate-index c.loop-gate-test.true in
+    let within = c.requires.gates c.loop-gate.gate-index c.loop-gate-test.true in
+    let fits = c.places_read.ensures.valid.fits in
+    let nodes = c.loop-gate.invariant.nodes in
+    omega arith
+
+pub loop-gate-preserved : goal.loop-gate-preserved
+loop-gate-preserved c =
+    subst (λ (g : List (List ℕ)). AreUncutReads c.args.net.now c.args.blocks.now c.args.cut.now c.args.gates.now (c.loop-gate.gate-index + 1) g)
+    (sym (c.in_ok-add_node.ensures.added ∙ ap (λ (xs : List ℕ). c.loop-gate.graph ++ xs ∷ []) c.deref.ensures.value))
+    (reads_more c.args.net.now c.args.blocks.now c.args.cut.now c.args.gates.now c.loop-gate.gate-index _ c.loop-gate.graph c.in_ok-places.places.items refl c.loop-gate.invariant c.in_ok-places.ensures.places)

@@ -1,0 +1,5 @@
+use Rattle.loops.specs.Placing.{AreUncutReads}
+use Rattle.loops.proofs.orders.uncut_reads.Given as goal
+
+abbrev pub invariant-loop-gate : goal.invariant-loop-gate
+invariant-loop-gate l = AreUncutReads l.net l.blocks l.cut l.gates l.gate-index l.graph

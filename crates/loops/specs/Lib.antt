@@ -1,0 +1,12 @@
+pub mod Walks
+pub mod Blocks
+pub mod Cuts
+pub mod Found
+pub mod Sweeps
+pub mod Members
+pub mod Orders
+pub mod Laws
+pub mod Links
+pub mod Placing
+pub mod Searching
+pub mod Listed

@@ -1,0 +1,23 @@
+//! Loops of a netlist: its blocks, which are its strongly connected components, cut wires that open each
+//! loop, and sweeps of a loop from its cut wires (Malik 1994; Shiple, Berry and Touati 1996).
+//!
+//! It stands on `netlist`, for walks and the fixpoint. The layers above use the blocks in order, the cut
+//! wires, an order of a loop's gates, and the laws of sweeps (`laws`).
+#![tactic(auto)]
+
+mod blocks;
+mod cuts;
+pub mod laws;
+mod links;
+mod listing;
+mod orders;
+mod parts;
+mod search;
+#[cfg(test)]
+mod tests;
+
+pub use blocks::find_blocks;
+pub use cuts::find_cut;
+pub use listing::{count_loops, loop_from};
+pub use orders::order_of_block;
+pub use parts::{Block, Blocks, Cut};

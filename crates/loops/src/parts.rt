@@ -1,0 +1,26 @@
+use cyc_base::{Bits, Items};
+
+/// Gates that reach each other along pins, or one gate: a strongly connected component.
+#[derive(Debug, Drop)]
+pub struct Block {
+    /// The numbers of its gates, in flat order.
+    pub gates: Items<u32>,
+    /// Whether it is a loop: a walk along pins leads from one of its gates back to that gate.
+    pub looped: bool,
+}
+
+/// The blocks of a netlist. Each gate is in one of them.
+#[derive(Debug, Drop)]
+pub struct Blocks {
+    /// A block stands after the blocks that it reads.
+    pub list: Items<Block>,
+    /// For each gate the place of its block.
+    pub home: Items<u32>,
+}
+
+/// Which gates are cut wires. Without them no loop is left, and none of them can be left out.
+#[derive(Debug, Drop)]
+pub struct Cut {
+    /// One entry for each gate.
+    pub wires: Bits,
+}
