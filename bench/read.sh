@@ -1,7 +1,7 @@
 #!/usr/bin/env bash
 # Reads a BLIF text of about 50 MB with a million gates, by `./cyc` and, where they are installed, by `yosys` and
-# `berkeley-abc`, and prints time and peak memory of each, and the ratios to ours. Eleven inputs make `check` end
-# behind the reading and the flattening, since it decides up to ten columns.
+# `berkeley-abc`, and prints time and peak memory of each, and the ratios to ours. `loops` also flattens the netlist
+# and finds its strongly connected components.
 set -u
 top=$(cd "$(dirname "$0")/.." && pwd) || exit 1
 gates=${1:-1000000}
@@ -28,9 +28,9 @@ measure() {
     tail -n 1 "$dir/time" | awk -v name="$name" '{ printf "%s %.2f %d\n", name, $1 + $2, $3 }'
 }
 
-"$top/cyc" check "$file" >/dev/null 2>&1 # builds the program where it isn't built
+"$top/cyc" loops "$file" >/dev/null 2>&1 # builds the program where it isn't built
 {
-    measure cyc "$top/cyc" check "$file"
+    measure cyc "$top/cyc" loops "$file"
     if command -v yosys >/dev/null; then measure yosys yosys -q -p "read_blif $file"; fi
     if command -v berkeley-abc >/dev/null; then measure abc berkeley-abc -c "read_blif $file"; fi
 } | awk '

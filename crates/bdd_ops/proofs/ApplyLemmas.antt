@@ -1,10 +1,6 @@
 -- One step of an operation: from the answers to the cofactors to the answer to the operands.
-use Rattle.std.proofs.Common.{◌≡◌, ℕ, ◌+◌, ◌<◌, ◌≤◌, ◌⊎◌, Bool, true, false, List, [], ◌∷◌, ◌++◌, length, drop, get_or, replicate, Option, Some, None, IfSome, Result, Ok, Err, is_err, OnOk, IfOk, cond, ◌&&◌, if◌then◌else◌, refl, sym, ap, subst, ◌∙◌, arith, append_assoc, true≢false}
+use Rattle.std.proofs.Common.{◌≡◌, ℕ, ◌+◌, ◌<◌, ◌≤◌, ◌⊎◌, Bool, true, false, List, [], ◌∷◌, ◌++◌, length, drop, get_or, replicate, Result, Ok, IfOk, if◌then◌else◌, refl, sym, ap, subst, ◌∙◌, arith, append_assoc}
 use Rattle.std.proofs.lemmas.List.{length-replicate, drop_at, get_or_at, length_push}
-use Rattle.std.proofs.lemmas.Option.{same_Some}
-use Rattle.std.proofs.lemmas.Bool.{eqb-true}
-use Rattle.std.proofs.Math.Dec.{eqb}
-use Rattle.std.specs.HashMap.{get}
 use Rattle.bdd_store.specs.declared.node.Node.{Node}
 use Rattle.bdd_store.specs.Arena.{Arena, den, top_of, IsNodeOf, choice}
 use Rattle.bdd_store.specs.Soundness.{IsLawful}
@@ -14,7 +10,7 @@ use Rattle.bdd_store.proofs.SubfunctionLemmas.{IsPart-whole, IsPart-alike}
 use Rattle.bdd_store.proofs.GrowthLemmas.{IsNodeOf-kept, NewAreParts-made, NewAreParts-part, IsRefusedPart-made, IsRefusedPart-part}
 use Rattle.bdd_ops.specs.declared.operands.Operation.{Operation}
 use Rattle.bdd_ops.specs.declared.operands.Operands.{Operands}
-use Rattle.bdd_ops.specs.Apply.{combine, value, AreNodesOf, IsBelow, IsAnswer, IsCofactor, AreCofactors, IsSplit, AreAnswered, Memo, operands_eq, IsMemo}
+use Rattle.bdd_ops.specs.Apply.{combine, value, AreNodesOf, IsBelow, IsAnswer, IsCofactor, AreCofactors, IsSplit, AreAnswered}
 
 -- ---- what a store that keeps its nodes keeps
 
@@ -57,42 +53,6 @@ IsSplit-kept k h = record {
   low = AreCofactors-kept k h.nodes h.low;
   high = AreCofactors-kept k h.nodes h.high;
 }
-
-pub IsMemo-kept : (operation : Operation) (s t : Arena) (memo : Memo) → KeepsNodes s t → IsMemo operation s memo → IsMemo operation t memo
-IsMemo-kept operation s t memo k h = record { each = λ q n at. let m = h.each q n at in (AreNodesOf-kept k m.0, IsAnswer-kept k m.0 m.1) }
-
--- ---- the memo
-
-pub same_operands : (p q : Operands) → operands_eq p q ≡ true → p ≡ q
-same_operands p q h =
-    let first = and_true (eqb p.a.number q.a.number) _ h in
-    let second = and_true (eqb p.b.number q.b.number) _ first.1 in
-    let third = and_true (eqb p.c.number q.c.number) _ second.1 in
-    λ j. record {
-      a = record { number = eqb-true p.a.number q.a.number first.0 j };
-      b = record { number = eqb-true p.b.number q.b.number second.0 j };
-      c = record { number = eqb-true p.c.number q.c.number third.0 j };
-      d = record { number = eqb-true p.d.number q.d.number third.1 j };
-    }
-  where
-    and_true : (x y : Bool) → (x && y) ≡ true → (x ≡ true) × (y ≡ true)
-    and_true true y g = (refl, g)
-    and_true false y g = absurd (true≢false (sym g))
-
--- what the memo has
-pub IsMemo-found : (operation : Operation) (memo : Memo) (q : Operands) (r : Option Node) → r ≡ get operands_eq memo q → IfSome r (λ n. (s : Arena) → IsMemo operation s memo → AreNodesOf s q → IsAnswer operation s q n)
-IsMemo-found operation memo q None e = tt
-IsMemo-found operation memo q (Some n) e = λ s h nodes. (h.each q n (sym e)).1
-
--- the memo with one more answer
-pub IsMemo-insert : (operation : Operation) (s : Arena) (old new : Memo) (p : Operands) (n : Node)
-    → IsMemo operation s old → AreNodesOf s p → IsAnswer operation s p n
-    → ((q : Operands) → get operands_eq new q ≡ cond (operands_eq p q) (Some n) (get operands_eq old q)) → IsMemo operation s new
-IsMemo-insert operation s old new p n memo nodes answer updates = record { each = λ q m at. by q m (operands_eq p q) refl (sym (updates q) ∙ at) }
-  where
-    by : (q : Operands) (m : Node) (b : Bool) → operands_eq p q ≡ b → cond b (Some n) (get operands_eq old q) ≡ Some m → AreNodesOf s q × IsAnswer operation s q m
-    by q m true e h = subst (λ (r : Operands). AreNodesOf s r × IsAnswer operation s r m) (same_operands p q e) (nodes, subst (λ (k : Node). IsAnswer operation s p k) (same_Some n m h) answer)
-    by q m false e h = memo.each q m h
 
 -- ---- cofactors
 
@@ -169,8 +129,3 @@ module _ (operation : Operation) (s : Arena) (asked : Operands) (var : ℕ) (low
 
   pub IsRefusedPart-close : (t : Arena) → t ≡ s → length s.entries ≡ s.limit → IsNewFunction s made → IsRefusedPart t (value operation s asked)
   IsRefusedPart-close t e full absent = IsRefusedPart-part (subst (λ (u : Arena). IsPart u.vars (value operation s asked) made) (sym e) IsPart-made) (IsRefusedPart-made s t made e full absent)
-
--- the clause of an `Ok`
-pub on_ok : {X E : Type 0} {P : Type 0} (r : Result X E) → false ≡ is_err r → OnOk r P → P
-on_ok (Ok x) e h = h
-on_ok (Err x) e h = absurd (true≢false (sym e))

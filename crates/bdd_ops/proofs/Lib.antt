@@ -1,3 +1,4 @@
 mod ApplyLemmas
 mod ChainLemmas
+mod ComputedLemmas
 mod LeastLemmas

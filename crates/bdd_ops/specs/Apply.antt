@@ -1,14 +1,12 @@
 -- An operation on up to four nodes, the questions that wait while it runs, and what answers them.
-use Rattle.std.specs.Prelude.{◌≡◌, ℕ, ◌<◌, ◌≤◌, ◌⊎◌, Bool, true, false, ◌&&◌, ◌||◌, List, [], ◌∷◌, Some, if◌then◌else◌, nat_eq}
-use Rattle.std.specs.List.{slice_index_or}
-use Rattle.std.specs.HashMap.{HashMap, get}
-use Rattle.std.specs.declared.hash.FoldHasher.{FoldHasher}
-use Rattle.std.specs.declared.hash.BuildHasherDefault.{BuildHasherDefault}
+use Rattle.std.specs.Prelude.{◌≡◌, ℕ, ◌<◌, ◌≤◌, ◌⊎◌, Bool, true, false, ◌&&◌, ◌||◌, List, [], ◌∷◌, if◌then◌else◌}
+use Rattle.std.specs.List.{slice_index_or, All}
 use Rattle.bdd_store.specs.declared.node.Node.{Node}
-use Rattle.bdd_store.specs.Arena.{Arena, den, top_of, IsNodeOf, IsBranching}
+use Rattle.bdd_store.specs.Arena.{Arena, den, choice, top_of, IsNodeOf, IsBranching}
 use Rattle.bdd_ops.specs.declared.operands.Operation.{Operation}
 use Rattle.bdd_ops.specs.declared.operands.Operation.TheVariants.{And, Or, Xor, Ite, Select}
 use Rattle.bdd_ops.specs.declared.operands.Operands.{Operands}
+use Rattle.bdd_ops.specs.declared.computed.Computed.{Computed}
 use Rattle.bdd_ops.specs.declared.apply.Question.{Question}
 use Rattle.bdd_ops.specs.declared.apply.Question.TheVariants.{Low, High}
 use Rattle.bdd_ops.specs.declared.apply.Turn.{Turn}
@@ -70,19 +68,23 @@ pub record IsSplit (s : Arena) (q : Operands) (var : ℕ) (lo hi : Operands) : T
   pub low : AreCofactors s q var false lo
   pub high : AreCofactors s q var true hi
 
+-- n is high's function where the bit at var is 1, and low's where it is 0, and reads no bit before
+pub record HasBranches (s : Arena) (n : Node) (var : ℕ) (low high : Node) : Type 0 where
+  pub node : IsNodeOf s n
+  pub function : (bits : List Bool) → den s n bits ≡ choice s var low high bits
+  pub top : var ≤ top_of s n
+
 -- low and high answer the cofactors of the operands at var
 abbrev pub AreAnswered : Operation → Arena → Operands → ℕ → Node → Node → Type 0
 AreAnswered operation s asked var low high = (p : Operands) × (q : Operands) × IsSplit s asked var p q × IsAnswer operation s p low × IsAnswer operation s q high
 
-abbrev pub Memo : Type 0
-Memo = HashMap Operands Node (BuildHasherDefault FoldHasher)
+-- what the computed table has in a slot is the operation's answer
+pub record IsComputed (s : Arena) (c : Computed) : Type 0 where
+  pub nodes : AreNodesOf s c.operands
+  pub answer : IsAnswer c.operation s c.operands c.answer
 
-abbrev pub operands_eq : Operands → Operands → Bool
-operands_eq p q = nat_eq p.a.number q.a.number && (nat_eq p.b.number q.b.number && (nat_eq p.c.number q.c.number && nat_eq p.d.number q.d.number))
-
--- what the memo has for operands answers them
-pub record IsMemo (operation : Operation) (s : Arena) (memo : Memo) : Type 0 where
-  pub each : (q : Operands) (n : Node) → get operands_eq memo q ≡ Some n → AreNodesOf s q × IsAnswer operation s q n
+abbrev pub AreComputed : Arena → List Computed → Type 0
+AreComputed s table = All (IsComputed s) table
 
 -- the operands whose answer is open
 abbrev pub asked_of : Question → Operands

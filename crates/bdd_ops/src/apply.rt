@@ -1,15 +1,15 @@
 //! What all operations share. Operands are answered from their cofactors, on a stack of the program's own:
 //! a recursion would go as deep as there are variables.
-ghost use Rattle.std.specs.Prelude.{◌≡◌, Bool, List, [], reverse, IfOk, OnOk, IfSome, IfNone};
-ghost use Rattle.bdd_store.specs.Arena.{Arena, den, IsNodeOf};
-ghost use Rattle.bdd_store.specs.Growth.{KeepsNodes, NewAreParts, IsRefusedPart};
-ghost use Rattle.bdd_ops.specs.Apply.{value, AreNodesOf, SomeBranching, IsAnswer, AreAnswered, IsAnswered, IsMemo, WaitsFor, IsChain, IsTurn, IsTurnOfSome, asked_of};
+ghost use Rattle.std.specs.Prelude.{◌≡◌, ◌<◌, ◌≤◌, ◌⊎◌, Bool, List, [], reverse, IsTrue, IfOk, OnOk, OnErr, IfSome, IfNone};
+ghost use Rattle.bdd_store.specs.Arena.{Arena, den, choice, top_of, IsNodeOf};
+ghost use Rattle.bdd_store.specs.Growth.{KeepsNodes, NewAreParts, IsRefused, IsNewFunction, IsRefusedPart};
+ghost use Rattle.bdd_ops.specs.Apply.{value, HasBranches, AreNodesOf, SomeBranching, IsAnswer, AreAnswered, IsAnswered, AreComputed, WaitsFor, IsChain, IsTurn, IsTurnOfSome, asked_of};
 
+use crate::computed::{Computed, ComputedTable};
 use crate::operands::{Operands, Operation, first_variable, split};
 use crate::terminal::terminal;
 use bdd_store::{Node, Store, StoreFault};
 use std::alloc::{AllocError, Global};
-use std::collections::HashMap;
 
 /// Operands whose answer waits for those of their cofactors.
 #[derive(Clone, Copy, Debug)]
@@ -36,14 +36,15 @@ pub enum Turn {
 }
 
 // The answer, where it takes no new node.
-fn known(memo: &HashMap<Operands, Node>, operation: Operation, q: Operands) -> Option<Node>
-    ensures found { IfSome result (λ n. (s : Arena) → IsMemo operation s memo.now → AreNodesOf s q → IsAnswer operation s q n) }
+fn known(computed: &mut ComputedTable, operation: Operation, q: Operands) -> Option<Node>
+    ensures same { computed.new ≡ computed.old }
+    ensures found { IfSome result (λ n. (s : Arena) → AreComputed s computed.old → AreNodesOf s q → IsAnswer operation s q n) }
     ensures open { IfNone result (SomeBranching q) }
 {
     if let Some(n) = terminal(operation, q) {
         return Some(n);
     }
-    memo.get(&q).copied()
+    computed.get(operation, q)
 }
 
 // Operands that no case decides wait, and their cofactors at 0 are asked first.
@@ -68,16 +69,17 @@ fn pose(store: &Store, q: Operands) -> (Question, Operands)
 // Answers a question where that takes no new node, or lets it wait.
 fn ask(
     store: &Store,
-    memo: &HashMap<Operands, Node>,
+    computed: &mut ComputedTable,
     waiting: &mut Vec<Question>,
     operation: Operation,
     q: Operands,
 ) -> Result<Turn, AllocError>
     requires nodes { AreNodesOf store.now q }
-    requires memo { IsMemo operation store.now memo.now }
-    ensures { (root : Operands) → IsChain operation store.now root (reverse waiting.old.items) q → IfOk result (IsTurn operation store.now root (reverse waiting.new.items)) }
+    requires computed { AreComputed store.now computed.old }
+    ensures same { computed.new ≡ computed.old }
+    ensures ok { (root : Operands) → IsChain operation store.now root (reverse waiting.old.items) q → IfOk result (IsTurn operation store.now root (reverse waiting.new.items)) }
 {
-    if let Some(n) = known(memo, operation, q) {
+    if let Some(n) = known(computed, operation, q) {
         return Ok(Turn::Answer(n));
     }
     let (question, low) = pose(store, q);
@@ -85,10 +87,71 @@ fn ask(
     Ok(Turn::Ask(low))
 }
 
+// Whether the node reads this variable first, and has these branches there.
+fn has_branches(store: &Store, n: Node, var: u32, low: Node, high: Node) -> bool
+    requires node { IsNodeOf store.now n }
+    requires var { var < store.now.vars }
+    ensures { IsTrue result → HasBranches store.now n var low high }
+{
+    if store.top(n) != var {
+        return false;
+    }
+    store.lo(n) == low && store.hi(n) == high
+}
+
+// An operand that has these branches, so that no table needs to be asked for it.
+fn operand_with(store: &Store, q: Operands, var: u32, low: Node, high: Node) -> Option<Node>
+    requires nodes { AreNodesOf store.now q }
+    requires var { var < store.now.vars }
+    ensures { IfSome result (λ n. HasBranches store.now n var low high) }
+{
+    if has_branches(store, q.a, var, low, high) {
+        Some(q.a)
+    } else if has_branches(store, q.b, var, low, high) {
+        Some(q.b)
+    } else if has_branches(store, q.c, var, low, high) {
+        Some(q.c)
+    } else if has_branches(store, q.d, var, low, high) {
+        Some(q.d)
+    } else {
+        None
+    }
+}
+
+// What `make` gives. Where an operand is that node, it is found without the unique table.
+fn join(
+    store: &mut Store,
+    asked: Operands,
+    var: u32,
+    low: Node,
+    high: Node,
+) -> Result<Node, StoreFault>
+    requires nodes { AreNodesOf store.old asked }
+    requires var { var < store.old.vars }
+    requires low { IsNodeOf store.old low }
+    requires high { IsNodeOf store.old high }
+    requires above_low { var < top_of store.old low }
+    requires above_high { var < top_of store.old high }
+
+    ensures node { IfOk result (IsNodeOf store.new) }
+    ensures function { IfOk result (λ n. (bits : List Bool) → den store.new n bits ≡ choice store.old var low high bits) }
+    ensures top { IfOk result (λ n. var ≤ top_of store.new n) }
+    ensures keeps { KeepsNodes store.old store.new }
+    ensures new_node { (n : Node) → IsNodeOf store.new n → IsNodeOf store.old n ⊎ (result ≡ Ok n) }
+    ensures full { result ≡ Err StoreFault.Full → IsRefused store.old var low high }
+    ensures new_function { result ≡ Err StoreFault.Full → IsNewFunction store.old (choice store.old var low high) }
+    ensures err { OnErr result (store.new ≡ store.old) }
+{
+    match operand_with(store, asked, var, low, high) {
+        Some(n) => Ok(n),
+        None => Ok(store.make(var, low, high)?),
+    }
+}
+
 // The node of operands whose cofactors are answered.
 fn close(
     store: &mut Store,
-    memo: &mut HashMap<Operands, Node>,
+    computed: &mut ComputedTable,
     operation: Operation,
     asked: Operands,
     var: u32,
@@ -96,35 +159,37 @@ fn close(
     high: Node,
 ) -> Result<Node, StoreFault>
     requires answers { AreAnswered operation store.old asked var low high }
-    requires memo { IsMemo operation store.old memo.old }
+    requires computed { AreComputed store.old computed.old }
 
     ensures answer { IfOk result (IsAnswer operation store.new asked) }
-    ensures memo { OnOk result (IsMemo operation store.new memo.new) }
+    ensures computed { AreComputed store.new computed.new }
     ensures keeps { KeepsNodes store.old store.new }
     ensures parts { NewAreParts store.old store.new (value operation store.old asked) }
     ensures full { result ≡ Err StoreFault.Full → IsRefusedPart store.new (value operation store.old asked) }
 {
-    let n = store.make(var, low, high)?;
-    if memo.insert(asked, n).is_err() {
-        return Err(StoreFault::Memory);
-    }
+    let n = join(store, asked, var, low, high)?;
+    computed.insert(Computed {
+        operation,
+        operands: asked,
+        answer: n,
+    });
     Ok(n)
 }
 
 // Takes an answer to the question that waits for it.
 fn resume(
     store: &mut Store,
-    memo: &mut HashMap<Operands, Node>,
+    computed: &mut ComputedTable,
     waiting: &mut Vec<Question>,
     operation: Operation,
     question: Question,
     n: Node,
 ) -> Result<Turn, StoreFault>
     requires answer { IsAnswered operation store.old question n }
-    requires memo { IsMemo operation store.old memo.old }
+    requires computed { AreComputed store.old computed.old }
 
     ensures ok { (root : Operands) → IsChain operation store.new root (reverse waiting.old.items) (asked_of question) → IfOk result (IsTurn operation store.new root (reverse waiting.new.items)) }
-    ensures memo { OnOk result (IsMemo operation store.new memo.new) }
+    ensures computed { AreComputed store.new computed.new }
     ensures keeps { KeepsNodes store.old store.new }
     ensures parts { NewAreParts store.old store.new (value operation store.old (asked_of question)) }
     ensures full { result ≡ Err StoreFault.Full → IsRefusedPart store.new (value operation store.old (asked_of question)) }
@@ -138,7 +203,7 @@ fn resume(
             Ok(Turn::Ask(high))
         }
         Question::High { asked, var, low } => {
-            let n = close(store, memo, operation, asked, var, low, n)?;
+            let n = close(store, computed, operation, asked, var, low, n)?;
             Ok(Turn::Answer(n))
         }
     }
@@ -147,28 +212,28 @@ fn resume(
 // One turn. An answer that no question waits for stays.
 fn step(
     store: &mut Store,
-    memo: &mut HashMap<Operands, Node>,
+    computed: &mut ComputedTable,
     waiting: &mut Vec<Question>,
     operation: Operation,
     turn: Turn,
 ) -> Result<Turn, StoreFault>
     requires turn { IsTurnOfSome operation store.old (reverse waiting.old.items) turn }
-    requires memo { IsMemo operation store.old memo.old }
+    requires computed { AreComputed store.old computed.old }
 
     ensures ok { (root : Operands) → AreNodesOf store.old root → IsTurn operation store.old root (reverse waiting.old.items) turn → IfOk result (IsTurn operation store.new root (reverse waiting.new.items)) }
-    ensures memo { OnOk result (IsMemo operation store.new memo.new) }
+    ensures computed { AreComputed store.new computed.new }
     ensures keeps { KeepsNodes store.old store.new }
     ensures parts { (root : Operands) → AreNodesOf store.old root → IsTurn operation store.old root (reverse waiting.old.items) turn → NewAreParts store.old store.new (value operation store.old root) }
     ensures full { (root : Operands) → AreNodesOf store.old root → IsTurn operation store.old root (reverse waiting.old.items) turn → result ≡ Err StoreFault.Full → IsRefusedPart store.new (value operation store.old root) }
 {
     store.laws();
     match turn {
-        Turn::Ask(q) => match ask(store, memo, waiting, operation, q) {
+        Turn::Ask(q) => match ask(store, computed, waiting, operation, q) {
             Ok(next) => Ok(next),
             Err(_) => Err(StoreFault::Memory),
         },
         Turn::Answer(n) => match waiting.pop() {
-            Some(question) => resume(store, memo, waiting, operation, question, n),
+            Some(question) => resume(store, computed, waiting, operation, question, n),
             None => Ok(turn),
         },
     }
@@ -188,25 +253,27 @@ fn finished(turn: Turn, waiting: &Vec<Question>) -> Option<Node>
 pub(crate) fn apply(
     alloc: Global,
     store: &mut Store,
+    computed: &mut ComputedTable,
     operation: Operation,
     root: Operands,
 ) -> Result<Node, StoreFault>
-    requires { AreNodesOf store.old root }
+    requires nodes { AreNodesOf store.old root }
+    requires computed { AreComputed store.old computed.old }
 
     ensures node { IfOk result (IsNodeOf store.new) }
     ensures function { IfOk result (λ n. (bits : List Bool) → den store.new n bits ≡ value operation store.old root bits) }
+    ensures computed { AreComputed store.new computed.new }
     ensures keeps { KeepsNodes store.old store.new }
     ensures parts { NewAreParts store.old store.new (value operation store.old root) }
     ensures full { result ≡ Err StoreFault.Full → IsRefusedPart store.new (value operation store.old root) }
 {
-    let mut memo = HashMap::new(alloc);
     let mut waiting: Vec<Question> = Vec::new(alloc);
     let mut turn = Turn::Ask(root);
     for _ in 0..u64::MAX {
         if let Some(n) = finished(turn, &waiting) {
             return Ok(n);
         }
-        turn = step(store, &mut memo, &mut waiting, operation, turn)?;
+        turn = step(store, computed, &mut waiting, operation, turn)?;
     }
     // No machine counts as far.
     Err(StoreFault::Memory)

@@ -8,6 +8,7 @@ ghost use Rattle.bdd_ops.specs.Least.{IsLeast};
 ghost use Rattle.bdd_ops.specs.Operations.{bit_at, complement, conjunction, disjunction, exclusive_or, if_then_else, selection};
 
 use crate::apply::apply;
+use crate::computed::ComputedTable;
 use crate::least::least;
 use crate::operands::{Operands, Operation};
 use bdd_store::{Node, Store, StoreFault};
@@ -22,15 +23,19 @@ use std::marker::Model;
 #[derive(Drop)]
 pub struct Diagrams {
     store: Store,
+    computed: ComputedTable,
     alloc: Global,
 }
 
 impl Model for Diagrams {
     ghost use Rattle.bdd_store.specs.Arena.{Arena};
+    ghost use Rattle.bdd_ops.specs.Apply.{AreComputed};
 
     ghost Value = { Arena };
 
     ghost view = { λ d. d.store };
+
+    ghost invariant = { λ d. AreComputed d.store d.computed };
 }
 
 impl Diagrams {
@@ -40,7 +45,12 @@ impl Diagrams {
         ensures { IfOk result (λ d. d ≡ record { vars = vars; limit = limit; entries = [] }) }
     {
         let store = Store::new(alloc, vars, limit)?;
-        Ok(Diagrams { store, alloc })
+        let computed = ComputedTable::new(alloc)?;
+        Ok(Diagrams {
+            store,
+            computed,
+            alloc,
+        })
     }
 
     /// The nodes.
@@ -57,7 +67,7 @@ impl Diagrams {
         ensures ok { OnOk result (self.new ≡ record { vars = vars; limit = limit; entries = [] }) }
         ensures err { OnErr result (self.new ≡ self.old) }
     {
-        self.store = Store::new(self.alloc, vars, limit)?;
+        *self = Diagrams::new(self.alloc, vars, limit)?;
         Ok(())
     }
 
@@ -84,7 +94,13 @@ impl Diagrams {
         ensures added { AddsAtMost self.old self.new (nodes self.old.vars (value operation self.old operands)) }
         ensures full { result ≡ Err StoreFault.Full → IsFullOnlyPast self.old self.new (nodes self.old.vars (value operation self.old operands)) }
     {
-        let answer = apply(self.alloc, &mut self.store, operation, operands);
+        let answer = apply(
+            self.alloc,
+            &mut self.store,
+            &mut self.computed,
+            operation,
+            operands,
+        );
         self.store.laws();
         answer
     }

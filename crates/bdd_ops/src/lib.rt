@@ -6,6 +6,7 @@
 #![tactic(auto)]
 
 mod apply;
+mod computed;
 mod diagrams;
 mod least;
 mod operands;

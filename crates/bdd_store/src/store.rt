@@ -98,7 +98,8 @@ impl Store {
 
     /// How many nodes there may be, without the constants.
     pub fn limit(&self) -> u32
-        ensures { result ≡ self.now.limit }
+        ensures limit { result ≡ self.now.limit }
+        ensures within { result ≤ MAX_NODES }
     {
         self.limit
     }
