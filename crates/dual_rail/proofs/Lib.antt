@@ -1,7 +1,7 @@
 mod ExpansionLemmas
 mod MemoLemmas
 mod SizeLemmas
-mod SurelyLemmas
-mod WidthLemmas
+pub mod SurelyLemmas
+pub mod WidthLemmas
 mod TableLemmas
 mod LocalLemmas
