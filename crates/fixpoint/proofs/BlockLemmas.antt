@@ -1,0 +1,314 @@
+-- Block by block to the fixpoint of a netlist.
+use Rattle.std.proofs.Common.{◌≡◌, ◌≢◌, inl, inr, ◌⊎◌, ℕ, ◌+◌, ◌-◌, ◌<◌, ◌≤◌, leb, Bool, true, false, ◌&&◌, if◌then◌else◌, List, [], ◌∷◌, ◌++◌, length, map, take, drop, replicate, get_or, refl, sym, ap, ap₂, ◌∙◌, subst, arith, Contains, true≢false}
+use Rattle.std.proofs.lemmas.Bool.{cases_lt, cases_eq, leb-true, leb-false}
+use Rattle.std.proofs.lemmas.List.{get_or-set_same, get_or-set_other, get_or_append_left, get_or_default, get_or_push, length_push, length-append, length-replicate, get_or-replicate, get_or-take, get_or-map, length-map, length-take, take-set-le, ext_get_or}
+use Rattle.std.proofs.Math.Seq.{take-append_seam}
+use Rattle.std.proofs.lemmas.List.Elements.{All-get_or, All-push, All-append, All-replicate, All-take, Contains-append_left, Contains-push}
+use Rattle.std.specs.List.{All}
+use Rattle.bdd_store.specs.Arena.{Arena}
+use Rattle.bdd_store.specs.Growth.{KeepsNodes}
+use Rattle.cover_logic.specs.Extensions.{ext}
+use Rattle.cyc_base.specs.declared.sig.Sig.{Sig}
+use Rattle.cyc_base.specs.declared.trit.Trit.{Trit}
+use Rattle.cyc_base.specs.declared.trit.Trit.TheVariants.{X}
+use Rattle.dual_rail.specs.declared.rail.Rails.{Rails}
+use Rattle.dual_rail.specs.Rails.{AreRailsOf, value_of, values_of}
+use Rattle.dual_rail.proofs.SurelyLemmas.{value_of-kept, values_of-kept, All-rails-kept}
+use Rattle.netlist.specs.declared.parts.Gate.{Gate}
+use Rattle.netlist.specs.declared.parts.Parts.{Parts}
+use Rattle.netlist.specs.Netlists.{IsNetlist, IsSignal, count, gate_at, no_gate}
+use Rattle.netlist.specs.Fixpoint.{wire, fix, fix_gates}
+use Rattle.netlist.specs.Walks.{Feeds}
+use Rattle.loops.specs.declared.parts.Block.{Block}
+use Rattle.loops.specs.declared.parts.Blocks.{Blocks}
+use Rattle.loops.specs.declared.parts.Cut.{Cut}
+use Rattle.loops.specs.Blocks.{AreBlocksOf, block_at, home_of, no_block}
+use Rattle.loops.specs.Cuts.{IsCutOf, is_cut, loops_by}
+use Rattle.loops.specs.Sweeps.{first_gate, gate_of, value_in, cuts as cuts_after, cut_values}
+use Rattle.loops.specs.Walks.{AnyGate, Leads}
+use Rattle.netlist.proofs.FixpointLemmas.{length-steps}
+use Rattle.loops.proofs.Reading.{map_agree, wire_of_gate, get_or-fix}
+use Rattle.loops.proofs.Unique.{feeds_at}
+use Rattle.loops.proofs.Walks.{leads-step, leads-trans, leads-any}
+use Rattle.loops.proofs.Told.{gate_home}
+use Rattle.fixpoint.specs.declared.solved.LoopSteps.{LoopSteps}
+use Rattle.fixpoint.specs.declared.solved.Solved.{Solved}
+use Rattle.fixpoint.specs.Solved.{Vectors, IsLoopAt, AreStepsOf, HasEachLoopOnce, IsSolution, step_at, last_step}
+use Rattle.fixpoint.specs.Sweeping.{unknown, rails_at, rails_read, vectors, IsGateSet, IsSolvedBelow, AreFresh}
+use Rattle.fixpoint.proofs.WireLemmas.{rails_at-proper, unknown-rails, AreWires-set}
+
+-- ---- the same vectors, and kept nodes
+
+pub solved-same : {net : Parts} {blocks : Blocks} {cut : Cut} {a : Arena} {b : ℕ} {before rails : List Rails} (v w : Vectors) → ((bits : List Bool) → v bits ≡ w bits) → IsSolvedBelow net blocks cut a v b before rails → IsSolvedBelow net blocks cut a w b before rails
+solved-same {net} v w same is = record {
+  wires = is.wires;
+  vector = λ bits. ap length (sym (same bits)) ∙ is.vector bits;
+  given = λ s bits low. is.given s bits low ∙ ap (λ (t : List Trit). value_in t s) (same bits);
+  gates = λ n bits less low. is.gates n bits less low ∙ ap (λ (t : List Trit). value_in (fix_gates net t) n) (same bits);
+  cuts = λ n bits less low cut_wire. is.cuts n bits less low cut_wire ∙ ap (λ (t : List Trit). value_in (fix_gates net t) n) (same bits);
+}
+
+pub steps-same : {net : Parts} {blocks : Blocks} {cut : Cut} {a : Arena} (v w : Vectors) → ((bits : List Bool) → v bits ≡ w bits) → (found : LoopSteps) → AreStepsOf net blocks cut a v found → AreStepsOf net blocks cut a w found
+steps-same {net} {blocks} {cut} {a} v w same found is = record {
+  block = is.block;
+  wires = is.wires;
+  rails = is.rails;
+  each = λ gate k bits has less. subst (λ (t : List Trit). values_of a (step_at found.steps k) bits ≡ cuts_after net (loops_by blocks cut) t gate k) (same bits) (is.each gate k bits has less);
+  last = λ gate bits has. subst (λ (t : List Trit). values_of a (last_step found.steps) bits ≡ cut_values net (loops_by blocks cut) gate (fix_gates net t)) (same bits) (is.last gate bits has);
+  some = is.some;
+  few = is.few;
+}
+
+pub steps-kept : {net : Parts} {blocks : Blocks} {cut : Cut} {d e : Arena} {v : Vectors} → KeepsNodes d e → (found : LoopSteps) → AreStepsOf net blocks cut d v found → AreStepsOf net blocks cut e v found
+steps-kept {net} {blocks} {cut} {d} {e} {v} keeps found is = record {
+  block = is.block;
+  wires = is.wires;
+  rails = λ k none less. All-rails-kept keeps (get_or found.steps k none) (is.rails k none less);
+  each = λ gate k bits has less. values_of-kept keeps (step_at found.steps k) (is.rails k [] less) bits ∙ is.each gate k bits has less;
+  last = λ gate bits has. let some = is.some in values_of-kept keeps (last_step found.steps) (is.rails (length found.steps - 1) [] (omega (arith, some))) bits ∙ is.last gate bits has;
+  some = is.some;
+  few = is.few;
+}
+
+-- the vectors stay while inputs and latches do
+pub same-vectors : (net : Parts) (d e : Arena) (old rails : List Rails) → KeepsNodes d e → All (AreRailsOf d) old → take (first_gate net) rails ≡ take (first_gate net) old → (bits : List Bool) → vectors net e rails bits ≡ vectors net d old bits
+same-vectors net d e old rails keeps all same bits =
+    ap (λ (r : List Rails). values_of e r bits) same ∙ values_of-kept keeps (take (first_gate net) old) (All-take (AreRailsOf d) (first_gate net) old all) bits
+
+-- ---- a block that is no loop
+
+module _ (net : Parts) (valid : IsNetlist net) (blocks : Blocks) (are : AreBlocksOf net blocks) (cut : Cut) (cut_is : IsCutOf net cut) (n : ℕ) (less : n < length net.gates)
+    (plain : (block_at blocks (home_of blocks n)).looped ≡ false) where
+  no-walk : ¬ Leads net AnyGate n n
+  no-walk leads = true≢false (sym ((are.looped n less).1 leads) ∙ plain)
+
+  -- it is the gate alone
+  alone : (m : ℕ) → m < length net.gates → home_of blocks m ≡ home_of blocks n → m ≡ n
+  alone m inside home = elim ((are.same m n inside less).0 home) [
+    | inl same ↦ same
+    | inr loop ↦ absurd (no-walk (leads-trans net n m n loop.back loop.there))
+  ]
+
+  -- which reads gates of earlier blocks
+  earlier : (g : ℕ) → Feeds net g n → home_of blocks g < home_of blocks n
+  earlier g feeds = elim (cases_eq (home_of blocks g) (home_of blocks n)) [
+    | inl same ↦ absurd (no-walk (leads-step net n n (subst (λ (m : ℕ). Feeds net m n) (alone g feeds.source same) feeds)))
+    | inr other ↦ let after = are.after_reads g n feeds in omega (arith, after, other)
+  ]
+
+  no-cut : is_cut cut.wires n ≡ true → ⊥
+  no-cut cut_wire = let leads = (cut_is.wires n).0 cut_wire in no-walk (leads-any net n n leads.via leads.walk)
+
+  module _ (d : Arena) (v : Vectors) (before rails : List Rails) (solved : IsSolvedBelow net blocks cut d v (home_of blocks n) before rails) where
+    reads-wire : (bits : List Bool) (pin : Sig) (early : Bool) → leb (first_gate net) pin.0 ≡ early → pin.0 < count net → (first_gate net ≤ pin.0 → Feeds net (gate_of net pin) n) →
+        value_of d (if early && is_cut cut.wires (gate_of net pin) then rails_at before (gate_of net pin) else rails_at rails pin.0) bits ≡ wire (fix net (v bits)) pin
+    reads-wire bits pin false early within feeds =
+        let low : pin.0 < first_gate net = leb-false (first_gate net) pin.0 early in
+        let width = solved.vector bits in
+        solved.given pin.0 bits low ∙ sym (get_or_append_left (v bits) (fix_gates net (v bits)) X pin.0 (omega (arith, low, width)))
+    reads-wire bits pin true early within feeds =
+        let above : first_gate net ≤ pin.0 = leb-true (first_gate net) pin.0 early in
+        let fed : Feeds net (gate_of net pin) n = feeds above in
+        by (is_cut cut.wires (gate_of net pin)) refl (earlier (gate_of net pin) fed) fed.source (omega (arith, above))
+        ∙ sym (wire_of_gate (v bits) (fix_gates net (v bits)) (first_gate net) pin.0 (solved.vector bits) above)
+      where
+        by : (x : Bool) → is_cut cut.wires (gate_of net pin) ≡ x → home_of blocks (gate_of net pin) < home_of blocks n → gate_of net pin < length net.gates → pin.0 ≡ first_gate net + gate_of net pin →
+            value_of d (if x then rails_at before (gate_of net pin) else rails_at rails pin.0) bits ≡ value_in (fix_gates net (v bits)) (gate_of net pin)
+        by true cut_wire low inside place = solved.cuts (gate_of net pin) bits inside low cut_wire
+        by false cut_wire low inside place = subst (λ (p : ℕ). value_of d (rails_at rails p) bits ≡ value_in (fix_gates net (v bits)) (gate_of net pin)) (sym place) (solved.gates (gate_of net pin) bits inside low)
+
+    pin-within : (k : ℕ) (none : Sig) → k < length (gate_at net n).pins → (get_or (gate_at net n).pins k none).0 < count net
+    pin-within k none inside = All-get_or (λ (g : Gate). All (IsSignal net) g.pins) net.gates n no_gate less valid.pins k none inside
+
+    pub plain-reads : (bits : List Bool) → map (λ pin. value_of d (rails_read net cut before rails pin) bits) (gate_at net n).pins ≡ map (wire (fix net (v bits))) (gate_at net n).pins
+    plain-reads bits =
+        map_agree (λ pin. value_of d (rails_read net cut before rails pin) bits) (wire (fix net (v bits))) (gate_at net n).pins
+        (λ k none inside.
+        let pin : Sig = get_or (gate_at net n).pins k none in
+        reads-wire bits pin (leb (first_gate net) pin.0) refl (pin-within k none inside)
+        (λ above. let within = pin-within k none inside in feeds_at net n k none less inside above (omega (arith, within, above))))
+
+    module _ (e : Arena) (after : List Rails) (keeps : KeepsNodes d e) (done : IsGateSet net cut d e before rails after n) where
+      made-is-fix : (bits : List Bool) → value_of e done.made bits ≡ value_in (fix_gates net (v bits)) n
+      made-is-fix bits = done.value bits ∙ ap (ext (gate_at net n).cover) (plain-reads bits) ∙ sym (get_or-fix net (v bits) n less)
+
+      stays : (s : ℕ) (bits : List Bool) → (s ≢ first_gate net + n) → value_of e (rails_at after s) bits ≡ value_of d (rails_at rails s) bits
+      stays s bits other =
+          ap (λ (r : List Rails). value_of e (rails_at r s) bits) done.is
+          ∙ ap (λ (r : Rails). value_of e r bits) (get_or-set_other rails (first_gate net + n) s done.made unknown other)
+          ∙ value_of-kept keeps (rails_at rails s) (rails_at-proper d rails solved.wires.proper s) bits
+
+      pub plain-solved : IsSolvedBelow net blocks cut e v (home_of blocks n + 1) before after
+      plain-solved = record {
+        wires = AreWires-set n keeps solved.wires done;
+        vector = solved.vector;
+        given = λ s bits low. stays s bits (λ same. omega (arith, low, same)) ∙ solved.given s bits low;
+        gates = λ m bits inside low. elim (cases_eq m n) [
+          | inl same ↦
+              let width = solved.wires.width in
+              subst (λ (p : ℕ). value_of e (rails_at after (first_gate net + p)) bits ≡ value_in (fix_gates net (v bits)) p) (sym same)
+              (ap (λ (r : List Rails). value_of e (rails_at r (first_gate net + n)) bits) done.is
+              ∙ ap (λ (r : Rails). value_of e r bits) (get_or-set_same rails (first_gate net + n) done.made unknown (omega (arith, less, width)))
+              ∙ made-is-fix bits)
+          | inr other ↦
+              stays (first_gate net + m) bits (λ same. other (omega (arith, same)))
+              ∙ solved.gates m bits inside (elim (cases_eq (home_of blocks m) (home_of blocks n)) [ inl same ↦ absurd (other (alone m inside same)) | inr apart ↦ omega (arith, low, apart) ])
+        ];
+        cuts = λ m bits inside low cut_wire. elim (cases_eq (home_of blocks m) (home_of blocks n)) [
+          | inl same ↦ absurd (no-cut (subst (λ (p : ℕ). is_cut cut.wires p ≡ true) (alone m inside same) cut_wire))
+          | inr apart ↦
+              value_of-kept keeps (rails_at before m) (rails_at-proper d before solved.wires.before_proper m) bits
+              ∙ solved.cuts m bits inside (omega (arith, low, apart)) cut_wire
+        ];
+      }
+
+      pub plain-given : take (first_gate net) after ≡ take (first_gate net) rails
+      plain-given = ap (take (first_gate net)) done.is ∙ take-set-le (first_gate net) rails (first_gate net + n) done.made (omega arith)
+
+-- ---- the loops that were found
+
+block_of : LoopSteps → ℕ
+block_of found = found.block
+
+pub record HasLoopsBelow (blocks : Blocks) (b : ℕ) (loops : List LoopSteps) : Type 0 where
+  pub only : All (λ found. IsLoopAt blocks found.block × (found.block < b)) loops
+  pub each : (p : ℕ) → p < b → IsLoopAt blocks p → Contains (map (λ (found : LoopSteps). found.block) loops) p
+  pub once : (i j : ℕ) (none : LoopSteps) → i < length loops → j < length loops → (get_or loops i none).block ≡ (get_or loops j none).block → i ≡ j
+
+pub loops-start : (blocks : Blocks) → HasLoopsBelow blocks 0 []
+loops-start blocks = record {
+  only = λ k none less. absurd (omega (arith, less));
+  each = λ p less loop. absurd (omega (arith, less));
+  once = λ i j none li lj same. absurd (omega (arith, li));
+}
+
+pub loops-skip : (blocks : Blocks) (b : ℕ) (loops : List LoopSteps) → ¬ IsLoopAt blocks b → HasLoopsBelow blocks b loops → HasLoopsBelow blocks (b + 1) loops
+loops-skip blocks b loops plain has = record {
+  only = λ k none less. let o = has.only k none less in (o.0, omega (arith, o.1));
+  each = λ p less loop. elim (cases_eq p b) [
+    | inl same ↦ absurd (plain (subst (IsLoopAt blocks) same loop))
+    | inr other ↦ has.each p (omega (arith, less, other)) loop
+  ];
+  once = has.once;
+}
+
+map-push : (xs : List LoopSteps) (x : LoopSteps) → map (λ (found : LoopSteps). found.block) (xs ++ x ∷ []) ≡ map (λ (found : LoopSteps). found.block) xs ++ x.block ∷ []
+map-push [] x = refl
+map-push (y ∷ ys) x = ap (λ bs. y.block ∷ bs) (map-push ys x)
+
+pub loops-push : (blocks : Blocks) (b : ℕ) (loops : List LoopSteps) (found : LoopSteps) → IsLoopAt blocks b → found.block ≡ b → HasLoopsBelow blocks b loops → HasLoopsBelow blocks (b + 1) (loops ++ found ∷ [])
+loops-push blocks b loops found loop is has = record {
+  only = All-push (λ x. IsLoopAt blocks x.block × (x.block < b + 1)) loops found (λ k none less. let o = has.only k none less in (o.0, omega (arith, o.1))) (subst (IsLoopAt blocks) (sym is) loop, omega (arith, is));
+  each = λ p less at. subst (λ (ns : List ℕ). Contains ns p) (sym (map-push loops found)) (elim (cases_eq p b) [
+    | inl same ↦ subst (Contains (map (λ (x : LoopSteps). x.block) loops ++ found.block ∷ [])) (is ∙ sym same) (Contains-push (map (λ (x : LoopSteps). x.block) loops) found.block)
+    | inr other ↦ Contains-append_left (map (λ (x : LoopSteps). x.block) loops) (found.block ∷ []) p (has.each p (omega (arith, less, other)) at)
+  ]);
+  once = λ i j none li lj same. by i j none li lj same (cases_lt i (length loops)) (cases_lt j (length loops));
+}
+  where
+    low-block : (i : ℕ) (none : LoopSteps) → i < length loops → (get_or (loops ++ found ∷ []) i none).block < b
+    low-block i none low =
+        let e = ap (λ (x : LoopSteps). x.block) (get_or_append_left loops (found ∷ []) none i low) in
+        let o = has.only i none low in omega (arith, e, o.1)
+
+    last-block : (i : ℕ) (none : LoopSteps) → length loops ≡ i → (get_or (loops ++ found ∷ []) i none).block ≡ b
+    last-block i none here = ap (λ (x : LoopSteps). x.block) (get_or_push loops found none i here) ∙ is
+
+    by : (i j : ℕ) (none : LoopSteps) → i < length (loops ++ found ∷ []) → j < length (loops ++ found ∷ []) → (get_or (loops ++ found ∷ []) i none).block ≡ (get_or (loops ++ found ∷ []) j none).block
+        → (i < length loops) ⊎ (length loops ≤ i) → (j < length loops) ⊎ (length loops ≤ j) → i ≡ j
+    by i j none li lj same (inl low) (inl low2) =
+        has.once i j none low low2 (ap (λ (x : LoopSteps). x.block) (sym (get_or_append_left loops (found ∷ []) none i low)) ∙ same ∙ ap (λ (x : LoopSteps). x.block) (get_or_append_left loops (found ∷ []) none j low2))
+    by i j none li lj same (inl low) (inr high) =
+        let l = low-block i none low in
+        let r = last-block j none (omega (arith, lj, high, length_push loops found)) in
+        absurd (omega (arith, l, r, same))
+    by i j none li lj same (inr high) (inl low) =
+        let l = low-block j none low in
+        let r = last-block i none (omega (arith, li, high, length_push loops found)) in
+        absurd (omega (arith, l, r, same))
+    by i j none li lj same (inr high) (inr high2) = omega (arith, li, lj, high, high2, length_push loops found)
+
+pub loops-end : (blocks : Blocks) (b : ℕ) (loops : List LoopSteps) → length blocks.list ≤ b → HasLoopsBelow blocks b loops → HasEachLoopOnce blocks loops
+loops-end blocks b loops all has = record {
+  only = λ k none less. (has.only k none less).0;
+  each = λ p loop. has.each p (let w = loop.within in omega (arith, w, all)) loop;
+  once = has.once;
+}
+
+-- ---- the whole netlist
+
+-- at first the inputs and latches have their rails, and all gates are X
+pub solved-start : (net : Parts) (blocks : Blocks) (cut : Cut) (a : Arena) (given before rails : List Rails) → length given ≡ first_gate net → All (AreRailsOf a) given → before ≡ replicate (length net.gates) unknown → rails ≡ given ++ before
+    → IsSolvedBelow net blocks cut a (vectors net a rails) 0 before rails
+solved-start net blocks cut a given before rails width proper before_is rails_is =
+    let long : length before ≡ length net.gates = ap length before_is ∙ length-replicate {A = Rails} (length net.gates) unknown in
+    let all_before : All (AreRailsOf a) before = subst (All (AreRailsOf a)) (sym before_is) (All-replicate (AreRailsOf a) (length net.gates) unknown (unknown-rails a)) in
+    let len : length rails ≡ first_gate net + length net.gates = ap length rails_is ∙ length-append given before ∙ ap₂ (λ x y. x + y) width long in
+    record {
+      wires = record {
+        width = len;
+        before_width = long;
+        proper = subst (All (AreRailsOf a)) (sym rails_is) (All-append (AreRailsOf a) given before proper all_before);
+        before_proper = all_before;
+      };
+      vector = λ bits. length-map {B = Trit} (take (first_gate net) rails) (λ r. value_of a r bits) ∙ omega (arith, len, length-take (first_gate net) rails);
+      given = λ s bits low.
+          sym (get_or-map (λ (r : Rails). value_of a r bits) (take (first_gate net) rails) s unknown X (omega (arith, low, len, length-take (first_gate net) rails))
+          ∙ ap (λ (r : Rails). value_of a r bits) (get_or-take (first_gate net) rails s unknown low));
+      gates = λ n bits less low. absurd (omega (arith, low));
+      cuts = λ n bits less low cut_wire. absurd (omega (arith, low));
+    }
+
+pub fresh-start : (net : Parts) (blocks : Blocks) (before : List Rails) → before ≡ replicate (length net.gates) unknown → AreFresh net blocks 0 before
+fresh-start net blocks before is n less later = ap (λ (r : List Rails). rails_at r n) is ∙ get_or-replicate {A = Rails} (length net.gates) n unknown unknown less
+
+-- in the end each signal is solved
+pub values-are-fix : (net : Parts) (blocks : Blocks) (cut : Cut) (a : Arena) (v : Vectors) (before rails : List Rails) → AreBlocksOf net blocks → IsSolvedBelow net blocks cut a v (length blocks.list) before rails → (bits : List Bool) → values_of a rails bits ≡ fix net (v bits)
+values-are-fix net blocks cut a v before rails are solved bits =
+    let long : length (values_of a rails bits) ≡ length rails = length-map {B = Trit} rails (λ r. value_of a r bits) in
+    let width = solved.wires.width in
+    let vector = solved.vector bits in
+    let gates : length (fix_gates net (v bits)) ≡ length net.gates = length-steps net (v bits) (length net.gates) in
+    let total : length (fix net (v bits)) ≡ length (v bits) + length (fix_gates net (v bits)) = length-append (v bits) (fix_gates net (v bits)) in
+    ext_get_or X (values_of a rails bits) (fix net (v bits)) (omega (arith, long, width, vector, gates, total))
+    (λ s less.
+    let inside : s < length rails = omega (arith, less, long) in
+    get_or-map (λ (r : Rails). value_of a r bits) rails s unknown X inside
+    ∙ elim (cases_lt s (first_gate net)) [
+      | inl low ↦ solved.given s bits low ∙ sym (get_or_append_left (v bits) (fix_gates net (v bits)) X s (omega (arith, low, vector)))
+      | inr high ↦
+          let place : first_gate net + (s - first_gate net) ≡ s = omega (arith, high) in
+          let n_less : s - first_gate net < length net.gates = omega (arith, inside, width, high) in
+          ap (λ (p : ℕ). value_of a (rails_at rails p) bits) (sym place)
+          ∙ solved.gates (s - first_gate net) bits n_less (are.home (s - first_gate net) n_less)
+          ∙ sym (wire_of_gate (v bits) (fix_gates net (v bits)) (first_gate net) s vector high)
+    ])
+
+-- the first gate of a block is at home there
+pub first-of-block : (net : Parts) (blocks : Blocks) → AreBlocksOf net blocks → (items : List Block) (b : ℕ) (r : Block) (gates : List ℕ) → items ≡ blocks.list → b < length items → r ≡ get_or items b r → gates ≡ r.gates
+    → (get_or gates 0 0 < length net.gates) × (home_of blocks (get_or gates 0 0) ≡ b)
+first-of-block net blocks are items b r gates same inside is gates_are =
+    let within : b < length blocks.list = omega (arith, inside, ap length same) in
+    let here : gates ≡ (block_at blocks b).gates = gates_are ∙ ap (λ (x : Block). x.gates) (is ∙ ap (λ (xs : List Block). get_or xs b r) same ∙ get_or_default blocks.list b r no_block within) in
+    let filled = are.filled b within in
+    let some : 0 < length gates = omega (arith, filled, ap length here) in
+    gate_home net blocks are b (get_or gates 0 0) within (subst (λ (ns : List ℕ). Contains ns (get_or gates 0 0)) here (0, some, get_or_default gates 0 (get_or gates 0 0) 0 some))
+
+-- what is written back to a list through a slice
+pub written : {T : Type 0} (n : ℕ) (xs ys : List T) → n ≡ length ys → length xs ≡ length ys → take n (xs ++ drop (length xs) ys) ≡ xs
+written n xs ys long same = ap (λ (m : ℕ). take m (xs ++ drop (length xs) ys)) (long ∙ sym same) ∙ take-append_seam xs (drop (length xs) ys)
+
+-- what was solved at the rails of inputs and latches is the solution at the given ones
+pub solution-end : (net : Parts) (blocks : Blocks) (cut : Cut) (d e : Arena) (given rest old before rails : List Rails) (loops : List LoopSteps) (solved : Solved) → AreBlocksOf net blocks → KeepsNodes d e
+    → All (AreRailsOf d) given → length given ≡ first_gate net → old ≡ given ++ rest → IsSolvedBelow net blocks cut e (vectors net d old) (length blocks.list) before rails
+    → HasEachLoopOnce blocks loops → All (AreStepsOf net blocks cut e (vectors net d old)) loops → solved.rails ≡ rails → solved.loops ≡ loops → IsSolution net blocks cut e given solved
+solution-end net blocks cut d e given rest old before rails loops solved are keeps proper width old_is done once steps rails_is loops_is =
+    let first : take (first_gate net) old ≡ given = ap₂ (λ (n : ℕ) (xs : List Rails). take n xs) (sym width) old_is ∙ take-append_seam given rest in
+    let same : (bits : List Bool) → vectors net d old bits ≡ values_of e given bits = λ bits. ap (λ (xs : List Rails). values_of d xs bits) first ∙ sym (values_of-kept keeps given proper bits) in
+    record {
+      width = width;
+      rails = subst (All (AreRailsOf e)) (sym rails_is) done.wires.proper;
+      values = λ bits. ap (λ (xs : List Rails). values_of e xs bits) rails_is ∙ values-are-fix net blocks cut e (vectors net d old) before rails are done bits ∙ ap (fix net) (same bits);
+      loops = subst (HasEachLoopOnce blocks) (sym loops_is) once;
+      steps = subst (All (AreStepsOf net blocks cut e (values_of e given))) (sym loops_is) (λ k none less. steps-same (vectors net d old) (values_of e given) same (get_or loops k none) (steps k none less));
+    }

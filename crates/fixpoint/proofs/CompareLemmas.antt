@@ -1,0 +1,176 @@
+-- Counting the nodes that a comparison of steps adds.
+use Rattle.std.proofs.Common.{◌≡◌, inl, inr, ◌⊎◌, ℕ, zero, suc, ◌+◌, ◌*◌, ◌<◌, ◌≤◌, Bool, ◌&&◌, List, [], ◌∷◌, length, take, get_or, refl, sym, ap, ap₂, ◌∙◌, subst, arith, Contains}
+use Rattle.std.proofs.lemmas.List.{get_or_default}
+use Rattle.std.proofs.lemmas.List.Elements.{All-contains}
+use Rattle.std.proofs.Math.Nat.{mul-le-mul_left}
+use Rattle.std.proofs.lemmas.List.Sums.{sum_by-take-le, sum_by_more}
+use Rattle.std.specs.List.{All, sum_by}
+use Rattle.bdd_store.specs.declared.node.Node.{Node}
+use Rattle.bdd_store.specs.Arena.{Arena, den, IsNodeOf}
+use Rattle.bdd_store.specs.Growth.{KeepsNodes, AddsAtMost, IsFullOnlyPast}
+use Rattle.bdd_store.specs.Subfunctions.{nodes}
+use Rattle.bdd_store.proofs.SubfunctionLemmas.{nodes-alike}
+use Rattle.bdd_ops.specs.Operations.{xor, conjunction, exclusive_or}
+use Rattle.dual_rail.specs.declared.rail.Rails.{Rails}
+use Rattle.dual_rail.specs.WorkingLists.{IsWide}
+use Rattle.dual_rail.proofs.WidthLemmas.{IsWide-fewer}
+use Rattle.fixpoint.specs.declared.solved.LoopSteps.{LoopSteps}
+use Rattle.fixpoint.specs.Solved.{step_at}
+use Rattle.fixpoint.specs.Sweeping.{unknown, rails_at}
+use Rattle.fixpoint.specs.Counts.{AreNodes, IsStepNode, IsCompared, IsComparedIn, difference}
+
+-- ---- lists of fewer functions
+
+-- where each node that one list may have is one that the other may have
+module _ {s t : Arena} (keeps : KeepsNodes s t) (care : Node) (cared : IsNodeOf s care) (more fewer : List (List Rails))
+    (nodes_of : (n : Node) → IsStepNode fewer n → IsNodeOf s n) (into : (n : Node) → IsStepNode fewer n → IsStepNode more n) where
+  compared-into : (g : List Bool → Bool) → IsCompared t care fewer g → IsCompared s care more g
+  compared-into g is = record {
+    node = is.node;
+    of = elim is.of [ inl e ↦ inl e | inr n ↦ inr (into is.node n) ];
+    same = λ bits. is.same bits ∙ keeps.function is.node bits (elim is.of [ inl e ↦ subst (IsNodeOf s) (sym e) cared | inr n ↦ nodes_of is.node n ]);
+  }
+
+  pub wide-compared : {w : ℕ} → IsWide s.vars (IsCompared s care more) w → IsWide t.vars (IsCompared t care fewer) w
+  wide-compared {w} wide = subst (λ (v : ℕ). IsWide v (IsCompared t care fewer) w) (sym keeps.vars) (IsWide-fewer (IsCompared s care more) (IsCompared t care fewer) w compared-into wide)
+
+pub step-nodes : (s : Arena) (steps : List (List Rails)) → All (All (AreNodes s)) steps → (n : Node) → IsStepNode steps n → IsNodeOf s n
+step-nodes s steps all n is =
+    let inside : All (AreNodes s) is.step = All-contains (All (AreNodes s)) steps is.step all is.among in
+    let of : AreNodes s is.rails = All-contains (AreNodes s) is.step is.rails inside is.within in
+    elim is.is [ inl e ↦ subst (IsNodeOf s) (sym e) of.one | inr e ↦ subst (IsNodeOf s) (sym e) of.zero ]
+
+-- a node of two rails is one of the steps that have them
+pair-contains : {A : Type 0} (x y z : A) → Contains (x ∷ y ∷ []) z → (x ≡ z) ⊎ (y ≡ z)
+pair-contains x y z (zero, l, e) = inl e
+pair-contains x y z (suc zero, l, e) = inr e
+pair-contains x y z (suc (suc k), l, e) = absurd (omega (arith, l))
+
+one-contains : {A : Type 0} (x z : A) → Contains (x ∷ []) z → x ≡ z
+one-contains x z (zero, l, e) = e
+one-contains x z (suc k, l, e) = absurd (omega (arith, l))
+
+pub pair-into : (r q : Rails) (step last : List Rails) → Contains step r → Contains last q → (n : Node) → IsStepNode ((r ∷ q ∷ []) ∷ []) n → IsStepNode (step ∷ last ∷ []) n
+pair-into r q step last rc qc n is =
+    let e : r ∷ q ∷ [] ≡ is.step = one-contains (r ∷ q ∷ []) is.step is.among in
+    let has : Contains (r ∷ q ∷ []) is.rails = subst (λ (xs : List Rails). Contains xs is.rails) (sym e) is.within in
+    elim (pair-contains r q is.rails has) [
+      | inl same ↦ record { step = step; among = (zero, omega arith, refl); rails = is.rails; within = subst (Contains step) same rc; is = is.is }
+      | inr same ↦ record { step = last; among = (suc zero, omega arith, refl); rails = is.rails; within = subst (Contains last) same qc; is = is.is }
+    ]
+
+pub steps-into : (step last : List Rails) (steps : List (List Rails)) → Contains steps step → Contains steps last → (n : Node) → IsStepNode (step ∷ last ∷ []) n → IsStepNode steps n
+steps-into step last steps sc lc n is = elim (pair-contains step last is.step is.among) [
+  | inl same ↦ record { step = is.step; among = subst (Contains steps) same sc; rails = is.rails; within = is.within; is = is.is }
+  | inr same ↦ record { step = is.step; among = subst (Contains steps) same lc; rails = is.rails; within = is.within; is = is.is }
+]
+
+-- ---- one comparison
+
+module _ (s : Arena) (care r q : Node) (steps : List (List Rails)) (rn : IsStepNode steps r) (qn : IsStepNode steps q) {w : ℕ} (wide : IsWide s.vars (IsCompared s care steps) w) where
+  function-of : (n : Node) → IsStepNode steps n → IsCompared s care steps (den s n)
+  function-of n is = record { node = n; of = inr is; same = λ bits. refl }
+
+  pub either-nodes : nodes s.vars (exclusive_or s r q) ≤ w
+  either-nodes = wide.combinations (λ x y z. xor x y) (den s r) (den s q) (den s q) (function-of r rn) (function-of q qn) (function-of q qn)
+
+  pub difference-nodes : nodes s.vars (difference s care r q) ≤ w
+  difference-nodes = wide.combinations (λ x y z. x && xor y z) (den s care) (den s r) (den s q) (record { node = care; of = inl refl; same = λ bits. refl }) (function-of r rn) (function-of q qn)
+
+-- the second operation is on the difference
+pub difference-is : (s t : Arena) (care m n differ : Node) → KeepsNodes s t → IsNodeOf s care → ((bits : List Bool) → den t differ bits ≡ exclusive_or s m n bits) → nodes t.vars (conjunction t care differ) ≡ nodes s.vars (difference s care m n)
+difference-is s t care m n differ keeps cared differs =
+    nodes-alike t.vars (conjunction t care differ) (difference s care m n) (λ bits len. ap₂ (λ x y. x && y) (keeps.function care bits cared) (differs bits))
+    ∙ ap (λ (v : ℕ). nodes v (difference s care m n)) keeps.vars
+
+-- ---- adding up
+
+pub added-within : (s t : Arena) (w p n : ℕ) → p ≤ n → AddsAtMost s t (w * p) → AddsAtMost s t (w * n)
+added-within s t w p n less before = omega (arith, before, mul-le-mul_left {m = p} {n = n} w less)
+
+pub added-more : (s t u : Arena) (w p q n : ℕ) → p + q ≤ n → AddsAtMost s t (w * p) → AddsAtMost t u (w * q) → AddsAtMost s u (w * n)
+added-more s t u w p q n less before now = omega (arith, before, now, mul-le-mul_left {m = p + q} {n = n} w less)
+
+pub full-more : (s t u : Arena) (w p q n : ℕ) → p + q ≤ n → AddsAtMost s t (w * p) → IsFullOnlyPast t u (w * q) → IsFullOnlyPast s u (w * n)
+full-more s t u w p q n less before now = record { full = now.full; past = omega (arith, before, now.past, mul-le-mul_left {m = p + q} {n = n} w less) }
+
+pub full-first : (s t : Arena) (w q n : ℕ) → q ≤ n → IsFullOnlyPast s t (w * q) → IsFullOnlyPast s t (w * n)
+full-first s t w q n less now = record { full = now.full; past = omega (arith, now.past, mul-le-mul_left {m = q} {n = n} w less) }
+
+-- ---- two rails
+
+pair-first : (r q : Rails) (n : Node) → (n ≡ r.one) ⊎ (n ≡ r.zero) → IsStepNode ((r ∷ q ∷ []) ∷ []) n
+pair-first r q n is = record { step = r ∷ q ∷ []; among = (zero, omega arith, refl); rails = r; within = (zero, omega arith, refl); is = is }
+
+pair-second : (r q : Rails) (n : Node) → (n ≡ q.one) ⊎ (n ≡ q.zero) → IsStepNode ((r ∷ q ∷ []) ∷ []) n
+pair-second r q n is = record { step = r ∷ q ∷ []; among = (zero, omega arith, refl); rails = q; within = (suc zero, omega arith, refl); is = is }
+
+pub pair-nodes : (s : Arena) (r q : Rails) → AreNodes s r → AreNodes s q → (n : Node) → IsStepNode ((r ∷ q ∷ []) ∷ []) n → IsNodeOf s n
+pair-nodes s r q rn qn n is =
+    let e : r ∷ q ∷ [] ≡ is.step = one-contains (r ∷ q ∷ []) is.step is.among in
+    let has : Contains (r ∷ q ∷ []) is.rails = subst (λ (xs : List Rails). Contains xs is.rails) (sym e) is.within in
+    let of : AreNodes s is.rails = elim (pair-contains r q is.rails has) [ inl same ↦ subst (AreNodes s) same rn | inr same ↦ subst (AreNodes s) same qn ] in
+    elim is.is [ inl x ↦ subst (IsNodeOf s) (sym x) of.one | inr x ↦ subst (IsNodeOf s) (sym x) of.zero ]
+
+module _ (s : Arena) (care : Node) (cared : IsNodeOf s care) (r q : Rails) (rn : AreNodes s r) (qn : AreNodes s q) {w : ℕ} (wide : IsWide s.vars (IsCompared s care ((r ∷ q ∷ []) ∷ [])) w) where
+  pub ones-either : nodes s.vars (exclusive_or s r.one q.one) ≤ w
+  ones-either = either-nodes s care r.one q.one ((r ∷ q ∷ []) ∷ []) (pair-first r q r.one (inl refl)) (pair-second r q q.one (inl refl)) wide
+
+  pub ones-difference : nodes s.vars (difference s care r.one q.one) ≤ w
+  ones-difference = difference-nodes s care r.one q.one ((r ∷ q ∷ []) ∷ []) (pair-first r q r.one (inl refl)) (pair-second r q q.one (inl refl)) wide
+
+  pub pair-wide : (t : Arena) → KeepsNodes s t → IsWide t.vars (IsCompared t care ((r ∷ q ∷ []) ∷ [])) w
+  pair-wide t keeps = wide-compared keeps care cared ((r ∷ q ∷ []) ∷ []) ((r ∷ q ∷ []) ∷ []) (pair-nodes s r q rn qn) (λ n is. is) wide
+
+  pub zeros-either : (t : Arena) → KeepsNodes s t → nodes t.vars (exclusive_or t r.zero q.zero) ≤ w
+  zeros-either t keeps = either-nodes t care r.zero q.zero ((r ∷ q ∷ []) ∷ []) (pair-first r q r.zero (inr refl)) (pair-second r q q.zero (inr refl)) (pair-wide t keeps)
+
+  pub zeros-difference : (t : Arena) → KeepsNodes s t → nodes t.vars (difference t care r.zero q.zero) ≤ w
+  zeros-difference t keeps = difference-nodes t care r.zero q.zero ((r ∷ q ∷ []) ∷ []) (pair-first r q r.zero (inr refl)) (pair-second r q q.zero (inr refl)) (pair-wide t keeps)
+
+-- at one place of two steps
+pub place-wide : (s t : Arena) (care : Node) (step last : List Rails) (place : ℕ) {w : ℕ} → KeepsNodes s t → IsNodeOf s care → place < length step → place < length last → All (AreNodes s) step → All (AreNodes s) last
+    → IsWide s.vars (IsCompared s care (step ∷ last ∷ [])) w → IsWide t.vars (IsCompared t care ((rails_at step place ∷ rails_at last place ∷ []) ∷ [])) w
+place-wide s t care step last place keeps cared ls ll ns nl wide =
+    wide-compared keeps care cared (step ∷ last ∷ []) ((rails_at step place ∷ rails_at last place ∷ []) ∷ [])
+    (pair-nodes s (rails_at step place) (rails_at last place) (ns place unknown ls) (nl place unknown ll))
+    (pair-into (rails_at step place) (rails_at last place) step last (place, ls, get_or_default step place (rails_at step place) unknown ls) (place, ll, get_or_default last place (rails_at last place) unknown ll)) wide
+
+-- two steps of a loop
+pub steps-wide : (s t : Arena) (care : Node) (steps : List (List Rails)) (step last : List Rails) (i j : ℕ) {w : ℕ} → KeepsNodes s t → IsNodeOf s care → All (All (AreNodes s)) steps → i < length steps → j < length steps
+    → step ≡ step_at steps i → last ≡ step_at steps j → IsWide s.vars (IsCompared s care steps) w → IsWide t.vars (IsCompared t care (step ∷ last ∷ [])) w
+steps-wide s t care steps step last i j keeps cared all li lj is js wide =
+    let sc : Contains steps step = (i, li, get_or_default steps i step [] li ∙ sym is) in
+    let lc : Contains steps last = (j, lj, get_or_default steps j last [] lj ∙ sym js) in
+    wide-compared keeps care cared steps (step ∷ last ∷ []) (λ n has. step-nodes s steps all n (steps-into step last steps sc lc n has)) (steps-into step last steps sc lc) wide
+
+-- the steps of one of the loops
+pub loop-wide : (s t : Arena) (care : Node) (loops : List LoopSteps) (loop : LoopSteps) {w : ℕ} → KeepsNodes s t → IsNodeOf s care → All (All (AreNodes s)) loop.steps → Contains loops loop
+    → IsWide s.vars (IsComparedIn s care loops) w → IsWide t.vars (IsCompared t care loop.steps) w
+loop-wide s t care loops loop {w} keeps cared all has wide =
+    subst (λ (v : ℕ). IsWide v (IsCompared t care loop.steps) w) (sym keeps.vars)
+    (IsWide-fewer (IsComparedIn s care loops) (IsCompared t care loop.steps) w
+    (λ g is. record {
+      node = is.node;
+      of = elim is.of [ inl e ↦ inl e | inr n ↦ inr (record { loop = loop; among = has; node = n }) ];
+      same = λ bits. is.same bits ∙ keeps.function is.node bits (elim is.of [ inl e ↦ subst (IsNodeOf s) (sym e) cared | inr n ↦ step-nodes s loop.steps all is.node n ]);
+    }) wide)
+
+-- ---- the cut wires of the first loops
+
+pub count-more : (loops : List LoopSteps) (i : ℕ) (none : LoopSteps) → i < length loops
+    → sum_by (λ (loop : LoopSteps). length loop.cuts) (take (i + 1) loops) ≡ sum_by (λ (loop : LoopSteps). length loop.cuts) (take i loops) + length (get_or loops i none).cuts
+count-more loops i none less = sum_by_more (λ (loop : LoopSteps). length loop.cuts) loops i none less
+
+pub count-within : (loops : List LoopSteps) (i : ℕ) → sum_by (λ (loop : LoopSteps). length loop.cuts) (take i loops) ≤ sum_by (λ (loop : LoopSteps). length loop.cuts) loops
+count-within loops i = sum_by-take-le (λ (loop : LoopSteps). length loop.cuts) loops i
+
+pub loops-more : (G before now c len : ℕ) → now ≡ before + c → now ≤ G → len ≤ c + 2 → 4 * (G + 2) * before + 4 * c * len ≤ 4 * (G + 2) * now
+loops-more G before now c len e within few =
+    let most = mul-le-mul_left {m = len} {n = G + 2} (4 * c) (omega (arith, e, within, few)) in
+    subst (λ (x : ℕ). 4 * (G + 2) * before + 4 * c * len ≤ 4 * (G + 2) * x) (sym e) (omega (arith, most))
+
+pub loops-within : (G now : ℕ) → now ≤ G → 4 * (G + 2) * now ≤ 6 * G * (G + 2)
+loops-within G now less =
+    let most = mul-le-mul_left {m = now} {n = G} (4 * (G + 2)) less in
+    omega (arith, most)

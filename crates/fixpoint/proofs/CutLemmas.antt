@@ -1,0 +1,156 @@
+-- The cut wires of one loop, and that they stand still once they stand at the fixpoint.
+use Rattle.std.proofs.Common.{◌≡◌, ◌==◌, inl, inr, ℕ, zero, suc, ◌+◌, ◌-◌, ◌<◌, ◌≤◌, Bool, true, false, ◌&&◌, List, [], ◌∷◌, length, filter, take, set, get_or, refl, sym, ap, ap₂, ◌∙◌, subst, arith, Contains, true≢false}
+use Rattle.std.proofs.lemmas.Bool.{cases_eq, eqb-true, eq-eqb}
+use Rattle.std.proofs.lemmas.List.{get_or-set_same, get_or-set_other, get_or_default}
+use Rattle.std.proofs.lemmas.List.Elements.{All-set}
+use Rattle.std.specs.List.{All, range_with_len}
+use Rattle.bdd_store.specs.declared.node.Node.{Node}
+use Rattle.bdd_store.specs.Arena.{Arena, den}
+use Rattle.bdd_store.specs.Soundness.{IsLawful}
+use Rattle.cyc_base.specs.declared.trit.Trit.{Trit}
+use Rattle.dual_rail.specs.declared.rail.Rails.{Rails}
+use Rattle.dual_rail.specs.Rails.{AreRailsOf, trit_of, value_of}
+use Rattle.dual_rail.specs.WorkingLists.{is_bit}
+use Rattle.netlist.specs.declared.parts.Parts.{Parts}
+use Rattle.netlist.specs.Fixpoint.{fix_gates}
+use Rattle.loops.specs.declared.parts.Blocks.{Blocks}
+use Rattle.loops.specs.declared.parts.Cut.{Cut}
+use Rattle.loops.specs.Blocks.{AreBlocksOf, block_at, home_of, no_block}
+use Rattle.loops.specs.declared.parts.Block.{Block}
+use Rattle.loops.specs.Orders.{IsOrderOf}
+use Rattle.loops.specs.Cuts.{IsCutOf, is_cut, in_one_loop, loops_by}
+use Rattle.loops.specs.Sweeps.{first_gate, value_in, cuts_of, sweeps, CutsAreFixed}
+use Rattle.loops.proofs.Reading.{Contains-filter, Contains-filter_from, Contains-range_from}
+use Rattle.loops.proofs.Sweeps.{cut_values_agree, few_sweeps_are_enough, fixed_cuts_give_fix}
+use Rattle.loops.proofs.Told.{told_parts, gate_home, home_gate, blocks_tell_loops, blocks_have_loops}
+use Rattle.loops.proofs.Walks.{same_truth}
+use Rattle.fixpoint.specs.Solved.{IsLoopAt}
+use Rattle.fixpoint.specs.Sweeping.{unknown, rails_at}
+use Rattle.fixpoint.proofs.WireLemmas.{rails_at-proper}
+use Rattle.fixpoint.proofs.SweepLemmas.{next-or-before, next-is-taken, before-is-taken}
+
+-- ---- keeping cut wires for the next sweep
+
+pub kept-step : (cuts : List ℕ) (first : ℕ) (rails before : List Rails) (i : ℕ) → i < length cuts → get_or cuts i 0 < length before
+    → ((n : ℕ) → Contains (take i cuts) n → rails_at before n ≡ rails_at rails (first + n))
+    → (n : ℕ) → Contains (take (i + 1) cuts) n → rails_at (set before (get_or cuts i 0) (rails_at rails (first + get_or cuts i 0))) n ≡ rails_at rails (first + n)
+kept-step cuts first rails before i inside room kept n has = elim (cases_eq n (get_or cuts i 0)) [
+  | inl same ↦ subst (λ (m : ℕ). rails_at (set before (get_or cuts i 0) (rails_at rails (first + get_or cuts i 0))) m ≡ rails_at rails (first + m)) (sym same)
+      (get_or-set_same before (get_or cuts i 0) (rails_at rails (first + get_or cuts i 0)) unknown room)
+  | inr other ↦ get_or-set_other before (get_or cuts i 0) n (rails_at rails (first + get_or cuts i 0)) unknown other
+      ∙ kept n (elim (next-or-before cuts i n inside has) [ inl next ↦ absurd (other next) | inr taken ↦ taken ])
+]
+
+pub others-kept-step : (cuts : List ℕ) (first : ℕ) (rails old before : List Rails) (i : ℕ) → i < length cuts
+    → ((n : ℕ) → ¬ Contains (take i cuts) n → rails_at before n ≡ rails_at old n)
+    → (n : ℕ) → ¬ Contains (take (i + 1) cuts) n → rails_at (set before (get_or cuts i 0) (rails_at rails (first + get_or cuts i 0))) n ≡ rails_at old n
+others-kept-step cuts first rails old before i inside others n free =
+    get_or-set_other before (get_or cuts i 0) n (rails_at rails (first + get_or cuts i 0)) unknown (λ same. free (subst (Contains (take (i + 1) cuts)) (sym same) (next-is-taken cuts i inside)))
+    ∙ others n (λ taken. free (before-is-taken cuts i n taken))
+
+pub proper-step : (a : Arena) (cuts : List ℕ) (first : ℕ) (rails before : List Rails) (i : ℕ) → All (AreRailsOf a) rails → All (AreRailsOf a) before
+    → All (AreRailsOf a) (set before (get_or cuts i 0) (rails_at rails (first + get_or cuts i 0)))
+proper-step a cuts first rails before i all old = All-set (AreRailsOf a) before (get_or cuts i 0) (rails_at rails (first + get_or cuts i 0)) (rails_at-proper a rails all (first + get_or cuts i 0)) old
+
+-- ---- the list of cut wires
+
+filter-both : (p q : ℕ → Bool) (xs : List ℕ) → filter p (filter q xs) ≡ filter (λ n. q n && p n) xs
+filter-both p q [] = refl
+filter-both p q (x ∷ xs) = by (q x) refl (p x) refl (filter-both p q xs)
+  where
+    by : (a : Bool) → q x ≡ a → (b : Bool) → p x ≡ b → filter p (filter q xs) ≡ filter (λ n. q n && p n) xs → filter p (filter q (x ∷ xs)) ≡ filter (λ n. q n && p n) (x ∷ xs)
+    by true is true is2 again = simp (is, is2) (ap (λ ys. x ∷ ys) again)
+    by true is false is2 again = simp (is, is2) again
+    by false is b is2 again = simp is again
+
+filter-agree : (p q : ℕ → Bool) (xs : List ℕ) → ((n : ℕ) → Contains xs n → p n ≡ q n) → filter p xs ≡ filter q xs
+filter-agree p q [] same = refl
+filter-agree p q (x ∷ xs) same = by (q x) refl (same x (zero, omega arith, refl)) (filter-agree p q xs (λ n has. same n (suc has.0, (let l = has.1 in omega (arith, l)), has.2)))
+  where
+    by : (b : Bool) → q x ≡ b → p x ≡ q x → filter p xs ≡ filter q xs → filter p (x ∷ xs) ≡ filter q (x ∷ xs)
+    by true is e again = let is2 : p x ≡ true = e ∙ is in simp (is, is2) (ap (λ ys. x ∷ ys) again)
+    by false is e again = let is2 : p x ≡ false = e ∙ is in simp (is, is2) again
+
+module _ (net : Parts) (blocks : Blocks) (are : AreBlocksOf net blocks) (cut : Cut) (b : ℕ) (loop : IsLoopAt blocks b) where
+  -- one loop are the gates of a block
+  pub one-block : (gate n : ℕ) → gate < length net.gates → home_of blocks gate ≡ b → n < length net.gates → home_of blocks n ≡ b → in_one_loop blocks gate n ≡ true
+  one-block gate n gl gh nl nh =
+      let looped : (block_at blocks (home_of blocks gate)).looped ≡ true = ap (λ (p : ℕ). (block_at blocks p).looped) gh ∙ loop.looped in
+      (blocks_have_loops net blocks cut are gate gl looped).1 n
+      (subst (λ (p : ℕ). Contains (block_at blocks p).gates n) (nh ∙ sym gh) (home_gate net blocks are n nl))
+
+  pub cuts-are : (gate : ℕ) → Contains (block_at blocks b).gates gate → filter (is_cut cut.wires) (block_at blocks b).gates ≡ cuts_of net (loops_by blocks cut) gate
+  cuts-are gate has =
+      let gate_is = gate_home net blocks are b gate loop.within has in
+      ap (filter (is_cut cut.wires)) (are.gates b loop.within)
+      ∙ filter-both (is_cut cut.wires) (λ n. home_of blocks n == b) (range_with_len 0 (length blocks.home))
+      ∙ filter-agree (λ n. (home_of blocks n == b) && is_cut cut.wires n) (λ n. in_one_loop blocks gate n && is_cut cut.wires n) (range_with_len 0 (length blocks.home))
+      (λ n listed. ap (λ (x : Bool). x && is_cut cut.wires n) (same_truth (home_of blocks n == b) (in_one_loop blocks gate n)
+      (λ e. one-block gate n gate_is.0 gate_is.1 (let l = Contains-range_from (length blocks.home) n listed in let h = are.homes in omega (arith, l, h)) (eqb-true (home_of blocks n) b e))
+      (λ e. eq-eqb (home_of blocks n) b (sym (told_parts net blocks are gate n e).homes ∙ gate_is.1))))
+      ∙ ap (λ (m : ℕ). filter (λ n. in_one_loop blocks gate n && is_cut cut.wires n) (range_with_len 0 m)) are.homes
+
+  pub in-cuts : (n : ℕ) → n < length net.gates → home_of blocks n ≡ b → is_cut cut.wires n ≡ true → Contains (filter (is_cut cut.wires) (block_at blocks b).gates) n
+  in-cuts n less home cut_wire = Contains-filter (is_cut cut.wires) (block_at blocks b).gates n cut_wire (subst (λ (p : ℕ). Contains (block_at blocks p).gates n) home (home_gate net blocks are n less))
+
+  pub from-cuts : (n : ℕ) → Contains (filter (is_cut cut.wires) (block_at blocks b).gates) n → ((n < length net.gates) × (home_of blocks n ≡ b)) × (is_cut cut.wires n ≡ true)
+  from-cuts n has =
+      let p = Contains-filter_from (is_cut cut.wires) (block_at blocks b).gates n has in
+      (gate_home net blocks are b n loop.within p.1, p.0)
+
+  -- from as many sweeps on as there are cut wires, they stand at the fixpoint
+  module _ (cut_is : IsCutOf net cut) (v : List Trit) (width : length v ≡ first_gate net) where
+    fixed-from : (gate k m : ℕ) → k ≡ length (cuts_of net (loops_by blocks cut) gate) + m → CutsAreFixed net (loops_by blocks cut) v gate k
+    fixed-from gate k zero e =
+        let same : length (cuts_of net (loops_by blocks cut) gate) ≡ k = omega (arith, e) in
+        subst (λ (j : ℕ). CutsAreFixed net (loops_by blocks cut) v gate j) same (few_sweeps_are_enough net (loops_by blocks cut) (blocks_tell_loops net blocks cut are cut_is) gate v width)
+    fixed-from gate k (suc m) e =
+        let same : suc (length (cuts_of net (loops_by blocks cut) gate) + m) ≡ k = omega (arith, e) in
+        subst (λ (j : ℕ). CutsAreFixed net (loops_by blocks cut) v gate j) same
+        (fixed_cuts_give_fix net (loops_by blocks cut) (blocks_tell_loops net blocks cut are cut_is) v width gate (length (cuts_of net (loops_by blocks cut) gate) + m) (fixed-from gate (length (cuts_of net (loops_by blocks cut) gate) + m) m refl)).0
+
+    pub fixed-at : (n k : ℕ) → Contains (filter (is_cut cut.wires) (block_at blocks b).gates) n → length (filter (is_cut cut.wires) (block_at blocks b).gates) ≤ k →
+        value_in (sweeps net (loops_by blocks cut) v k) n ≡ value_in (fix_gates net v) n
+    fixed-at n k has enough =
+        let is = from-cuts n has in
+        let listed : Contains (block_at blocks b).gates n = subst (λ (p : ℕ). Contains (block_at blocks p).gates n) is.0.1 (home_gate net blocks are n is.0.0) in
+        let same : length (filter (is_cut cut.wires) (block_at blocks b).gates) ≡ length (cuts_of net (loops_by blocks cut) n) = ap length (cuts-are n listed) in
+        cut_values_agree net (loops_by blocks cut) (blocks_tell_loops net blocks cut are cut_is) n (sweeps net (loops_by blocks cut) v k) (fix_gates net v)
+        (fixed-from n k (k - length (cuts_of net (loops_by blocks cut) n)) (omega (arith, enough, same)))
+        n (one-block n n is.0.0 is.0.1 is.0.0 is.0.1) is.1
+
+-- ---- equal values are equal nodes
+
+pub one-of : (a b : Bool) → is_bit true (trit_of a b) ≡ a
+one-of true b = refl
+one-of false true = refl
+one-of false false = refl
+
+pub zero-of : (a b : Bool) → (a && b) ≡ false → is_bit false (trit_of a b) ≡ b
+zero-of true true e = absurd (true≢false e)
+zero-of true false e = refl
+zero-of false true e = refl
+zero-of false false e = refl
+
+pub rails-canonical : (a : Arena) → IsLawful a → (r q : Rails) → AreRailsOf a r → AreRailsOf a q → ((bits : List Bool) → value_of a r bits ≡ value_of a q bits) → r ≡ q
+rails-canonical a lawful r q rp qp same =
+    let ones : r.one ≡ q.one = lawful.canonical r.one q.one rp.one qp.one (λ bits len. sym (one-of (den a r.one bits) (den a r.zero bits)) ∙ ap (is_bit true) (same bits) ∙ one-of (den a q.one bits) (den a q.zero bits)) in
+    let zeros : r.zero ≡ q.zero = lawful.canonical r.zero q.zero rp.zero qp.zero (λ bits len. sym (zero-of (den a r.one bits) (den a r.zero bits) (rp.proper bits)) ∙ ap (is_bit false) (same bits) ∙ zero-of (den a q.one bits) (den a q.zero bits) (qp.proper bits)) in
+    ap₂ (λ (x y : Node). let z : Rails = record { one = x; zero = y } in z) ones zeros
+
+-- ---- where gates, cut wires and orders lie
+
+pub block-gates : (list items : List Block) (b : ℕ) (r : Block) (gates : List ℕ) → items ≡ list → b < length list → gates ≡ (get_or items b r).gates → gates ≡ (get_or list b no_block).gates
+block-gates list items b r gates same inside is = is ∙ ap (λ (xs : List Block). (get_or xs b r).gates) same ∙ ap (λ (x : Block). x.gates) (get_or_default list b r no_block inside)
+
+pub gates-within : (net : Parts) (blocks : Blocks) → AreBlocksOf net blocks → (b : ℕ) → b < length blocks.list → (gates : List ℕ) → gates ≡ (block_at blocks b).gates → All (λ n. n < length net.gates) gates
+gates-within net blocks are b inside gates is k d less =
+    (gate_home net blocks are b (get_or gates k d) inside (subst (λ (ns : List ℕ). Contains ns (get_or gates k d)) is (k, less, get_or_default gates k (get_or gates k d) d less))).0
+
+pub cuts-within : (net : Parts) (blocks : Blocks) → AreBlocksOf net blocks → (cut : Cut) (b : ℕ) → IsLoopAt blocks b → (cuts : List ℕ) → cuts ≡ filter (is_cut cut.wires) (block_at blocks b).gates → (list : List ℕ) → list ≡ cuts → All (λ n. n < length net.gates) list
+cuts-within net blocks are cut b loop cuts is list same k d less =
+    (from-cuts net blocks are cut b loop (get_or list k d) (subst (λ (ns : List ℕ). Contains ns (get_or list k d)) (same ∙ is) (k, less, get_or_default list k (get_or list k d) d less))).0.0
+
+pub order-within : (net : Parts) (blocks : Blocks) → AreBlocksOf net blocks → (cut : Cut) (b : ℕ) → IsLoopAt blocks b → (order : List ℕ) → IsOrderOf net (is_cut cut.wires) (block_at blocks b).gates order → (list : List ℕ) → list ≡ order → All (λ n. n < length net.gates) list
+order-within net blocks are cut b loop order follows list same k d less =
+    (gate_home net blocks are b (get_or list k d) loop.within (follows.only (get_or list k d) (subst (λ (ns : List ℕ). Contains ns (get_or list k d)) same (k, less, get_or_default list k (get_or list k d) d less)))).0

@@ -1,0 +1,12 @@
+mod CountLemmas
+mod CompareLemmas
+mod WireLemmas
+mod SweepLemmas
+mod CutLemmas
+mod LoopLemmas
+mod BlockLemmas
+mod MinimumLemmas
+mod WorkLemmas
+mod CostLemmas
+mod BoundLemmas
+mod SolutionLemmas

@@ -1,0 +1,176 @@
+-- The loops of a solution can be counted, and a solution stays one while nodes are kept.
+use Rattle.std.proofs.Common.{◌≡◌, ◌==◌, inl, inr, ◌⊎◌, ℕ, zero, suc, ◌+◌, ◌<◌, ◌≤◌, Bool, true, false, ◌||◌, cond, List, [], ◌∷◌, length, filter, take, get_or, refl, sym, ap, ◌∙◌, subst, arith, Contains, true≢false}
+use Rattle.std.proofs.lemmas.Bool.{cases_Bool, eqb-true}
+use Rattle.std.proofs.lemmas.List.{get_or_default, take_all, length-map}
+use Rattle.std.proofs.lemmas.List.FromFn.{length-range_with_len, get_or-range_with_len}
+use Rattle.std.proofs.lemmas.List.Sums.{sum_by-cons, sum_by_more, length-filter, count_by-le-length}
+use Rattle.std.specs.List.{All, sum_by, count_by, range_with_len}
+use Rattle.bdd_store.specs.declared.node.Node.{Node}
+use Rattle.bdd_store.specs.Arena.{Arena}
+use Rattle.cyc_base.specs.declared.trit.Trit.{Trit}
+use Rattle.dual_rail.specs.declared.rail.Rails.{Rails}
+use Rattle.dual_rail.specs.Rails.{value_of, values_of}
+use Rattle.dual_rail.proofs.SurelyLemmas.{values_of-kept, All-rails-kept}
+use Rattle.netlist.specs.declared.parts.Parts.{Parts}
+use Rattle.netlist.specs.Fixpoint.{fix}
+use Rattle.netlist.specs.Netlists.{IsNetlist}
+use Rattle.loops.specs.declared.parts.Blocks.{Blocks}
+use Rattle.loops.specs.declared.parts.Cut.{Cut}
+use Rattle.loops.specs.Blocks.{AreBlocksOf, block_at, home_of}
+use Rattle.loops.specs.Cuts.{IsCutOf, is_cut, loops_by}
+use Rattle.loops.specs.Sweeps.{first_gate, cuts_of}
+use Rattle.fixpoint.specs.declared.solved.LoopSteps.{LoopSteps}
+use Rattle.fixpoint.specs.declared.solved.Solved.{Solved}
+use Rattle.fixpoint.specs.Solved.{AreStepsOf, IsSolution}
+use Rattle.fixpoint.specs.Counts.{AreCountable, AreLoopsToCount}
+use Rattle.fixpoint.specs.Laws.{SolutionsCount, SolutionsStay}
+use Rattle.fixpoint.specs.Working.{total}
+use Rattle.fixpoint.proofs.BlockLemmas.{steps-same, steps-kept}
+use Rattle.fixpoint.proofs.BoundLemmas.{cuts-few}
+use Rattle.fixpoint.proofs.CostLemmas.{total-split}
+use Rattle.fixpoint.proofs.CutLemmas.{cuts-are}
+use Rattle.fixpoint.proofs.MinimumLemmas.{step-width, few-sweeps}
+
+-- ---- each gate is counted once
+
+count-total : (p : ℕ → Bool) (n : ℕ) → count_by p (range_with_len 0 n) ≡ total p (λ m. 1) n
+count-total p n = ap (count_by p) (sym (take_all n (range_with_len 0 n) (let e = length-range_with_len 0 n in omega (arith, e)))) ∙ by n (omega arith)
+  where
+    by : (k : ℕ) → k ≤ n → count_by p (take k (range_with_len 0 n)) ≡ total p (λ m. 1) k
+    by zero less = refl
+    by (suc k) less =
+        let rest = by k (omega (arith, less)) in
+        let long = length-range_with_len 0 n in
+        let next : k + 1 ≡ suc k = omega arith in
+        let at : get_or (range_with_len 0 n) k 0 ≡ k = omega (arith, get_or-range_with_len 0 n k 0 (omega (arith, less))) in
+        let more : count_by p (take (suc k) (range_with_len 0 n)) ≡ count_by p (take k (range_with_len 0 n)) + cond (p (get_or (range_with_len 0 n) k 0)) 1 0 =
+        subst (λ (m : ℕ). count_by p (take m (range_with_len 0 n)) ≡ count_by p (take k (range_with_len 0 n)) + cond (p (get_or (range_with_len 0 n) k 0)) 1 0) next (sum_by_more (λ x. cond (p x) 1 0) (range_with_len 0 n) k 0 (omega (arith, less, long))) in
+        more ∙ ap (λ (m : ℕ). count_by p (take k (range_with_len 0 n)) + cond (p m) 1 0) at ∙ ap (λ (m : ℕ). m + cond (p k) 1 0) rest
+
+total-bound : (p : ℕ → Bool) (n : ℕ) → total p (λ m. 1) n ≤ n
+total-bound p zero = omega arith
+total-bound p (suc n) = let rest = total-bound p n in by (p n) rest
+  where
+    by : (b : Bool) → total p (λ m. 1) n ≤ n → total p (λ m. 1) n + cond b 1 0 ≤ suc n
+    by true rest = omega (arith, rest)
+    by false rest = omega (arith, rest)
+
+cuts-total : (net : Parts) (blocks : Blocks) (cut : Cut) → AreBlocksOf net blocks → (b : ℕ) → b < length blocks.list → length (filter (is_cut cut.wires) (block_at blocks b).gates) ≤ total (λ n. home_of blocks n == b) (λ m. 1) (length blocks.home)
+cuts-total net blocks cut are b inside =
+    let one = length-filter (is_cut cut.wires) (block_at blocks b).gates in
+    let two = count_by-le-length (is_cut cut.wires) (block_at blocks b).gates in
+    let gates : length (block_at blocks b).gates ≡ length (filter (λ n. home_of blocks n == b) (range_with_len 0 (length blocks.home))) = ap length (are.gates b inside) in
+    let three = length-filter (λ n. home_of blocks n == b) (range_with_len 0 (length blocks.home)) in
+    let four = count-total (λ n. home_of blocks n == b) (length blocks.home) in
+    omega (arith, one, two, gates, three, four)
+
+-- whether one of the loops has a gate
+abbrev within : (ℕ → ℕ) → List LoopSteps → ℕ → Bool
+within home [] n = false
+within home (x ∷ xs) n = (home n == x.block) || within home xs n
+
+or-cases : (a b : Bool) → (a || b) ≡ true → (a ≡ true) ⊎ (b ≡ true)
+or-cases true b e = inl refl
+or-cases false b e = inr e
+
+or-left : (a b : Bool) → a ≡ true → (a || b) ≡ true
+or-left true b e = refl
+or-left false b e = absurd (true≢false (sym e))
+
+or-right : (a b : Bool) → b ≡ true → (a || b) ≡ true
+or-right true b e = refl
+or-right false b e = e
+
+or-none : (a b : Bool) → a ≡ false → b ≡ false → (a || b) ≡ false
+or-none true b e d = absurd (true≢false e)
+or-none false b e d = d
+
+apart-within : (home : ℕ → ℕ) (xs : List LoopSteps) (b n : ℕ) → All (λ y. ¬ (y.block ≡ b)) xs → home n ≡ b → within home xs n ≡ false
+apart-within home [] b n apart at = refl
+apart-within home (x ∷ xs) b n apart at =
+    let here : ¬ (x.block ≡ b) = apart 0 x (omega arith) in
+    or-none (home n == x.block) (within home xs n)
+    (elim (cases_Bool (home n == x.block)) [ inl e ↦ absurd (here (sym (eqb-true (home n) x.block e) ∙ at)) | inr e ↦ e ])
+    (apart-within home xs b n (λ k none less. apart (suc k) none (omega (arith, less))) at)
+
+sum-within : (home : ℕ → ℕ) (G : ℕ) (xs : List LoopSteps) → All (λ x. length x.cuts ≤ total (λ n. home n == x.block) (λ m. 1) G) xs
+    → ((i j : ℕ) (none : LoopSteps) → i < length xs → j < length xs → (get_or xs i none).block ≡ (get_or xs j none).block → i ≡ j)
+    → sum_by (λ (x : LoopSteps). length x.cuts) xs ≤ total (within home xs) (λ m. 1) G
+sum-within home G [] each once = omega arith
+sum-within home G (x ∷ xs) each once =
+    let here : length x.cuts ≤ total (λ n. home n == x.block) (λ m. 1) G = each 0 x (omega arith) in
+    let rest = sum-within home G xs (λ k none less. each (suc k) none (omega (arith, less))) (λ i j none li lj same. let e = once (suc i) (suc j) none (omega (arith, li)) (omega (arith, lj)) same in omega (arith, e)) in
+    let apart : All (λ y. ¬ (y.block ≡ x.block)) xs = λ k none less same. let e = once 0 (suc k) none (omega arith) (omega (arith, less)) (sym same) in omega (arith, e) in
+    let split = total-split (λ n. home n == x.block) (within home xs) (λ n. (home n == x.block) || within home xs n) (λ m. 1) G
+    (λ n e. apart-within home xs x.block n apart (eqb-true (home n) x.block e))
+    (λ n e. or-left (home n == x.block) (within home xs n) e)
+    (λ n e. or-right (home n == x.block) (within home xs n) e)
+    (λ n e. or-cases (home n == x.block) (within home xs n) e) in
+    let sum = sum_by-cons (λ (y : LoopSteps). length y.cuts) x xs in
+    omega (arith, here, rest, split, sum)
+
+-- ---- solutions
+
+module _ (net : Parts) (blocks : Blocks) (cut : Cut) (a : Arena) (given : List Rails) (solved : Solved) (valid : IsNetlist net) (are : AreBlocksOf net blocks) (cut_is : IsCutOf net cut)
+    (solution : IsSolution net blocks cut a given solved) where
+  first-gate : (found : LoopSteps) → AreStepsOf net blocks cut a (values_of a given) found → Contains (block_at blocks found.block).gates (get_or (block_at blocks found.block).gates 0 0)
+  first-gate found steps =
+      let some = are.filled found.block steps.block.within in
+      (0, some, get_or_default (block_at blocks found.block).gates 0 (get_or (block_at blocks found.block).gates 0 0) 0 some)
+
+  width : (bits : List Bool) → length (values_of a given bits) ≡ first_gate net
+  width bits = length-map {B = Trit} given (λ r. value_of a r bits) ∙ solution.width
+
+  cut-count : (found : LoopSteps) → AreStepsOf net blocks cut a (values_of a given) found → length found.cuts ≡ length (filter (is_cut cut.wires) (block_at blocks found.block).gates)
+  cut-count found steps =
+      let has = first-gate found steps in
+      ap length (steps.wires (get_or (block_at blocks found.block).gates 0 0) has ∙ sym (cuts-are net blocks are cut found.block steps.block (get_or (block_at blocks found.block).gates 0 0) has))
+
+  countable : (care : Node) (found : LoopSteps) → AreStepsOf net blocks cut a (values_of a given) found → AreCountable a care found
+  countable care found steps =
+      let gate : ℕ = get_or (block_at blocks found.block).gates 0 0 in
+      let has = first-gate found steps in
+      let cuts : length found.cuts ≡ length (cuts_of net (loops_by blocks cut) gate) = ap length (steps.wires (get_or (block_at blocks found.block).gates 0 0) has) in
+      record {
+        nodes = λ j none less i none2 inside. let r = steps.rails j none less i none2 inside in record { one = r.one; zero = r.zero };
+        widths = λ j none less.
+            ap length (get_or_default found.steps j none [] less) ∙ step-width net blocks cut are cut_is a (values_of a given) width care found steps (get_or (block_at blocks found.block).gates 0 0) has j less ∙ sym cuts;
+        some = steps.some;
+        few = steps.few;
+        fits = λ k least.
+            let most = few-sweeps net blocks cut are cut_is a (values_of a given) width care found steps (get_or (block_at blocks found.block).gates 0 0) has k least in
+            let few = cuts-few net blocks cut are found.block steps.block in
+            let same = cut-count found steps in
+            let fits = valid.fits in
+            omega (arith, most, few, same, cuts, fits);
+      }
+
+  pub counted : (care : Node) → AreLoopsToCount a blocks care solved
+  counted care = record {
+    loops = solution.loops;
+    countable = λ k none less. countable care (get_or solved.loops k none) (solution.steps k none less);
+    cuts =
+        let sum = sum-within (home_of blocks) (length blocks.home) solved.loops
+        (λ k none less.
+        let steps = solution.steps k none less in
+        let same = cut-count (get_or solved.loops k none) steps in
+        let most = cuts-total net blocks cut are (get_or solved.loops k none).block steps.block.within in
+        omega (arith, same, most))
+        solution.loops.once in
+        let bound = total-bound (within (home_of blocks) solved.loops) (length blocks.home) in
+        omega (arith, sum, bound);
+  }
+
+pub solutions-count : SolutionsCount
+solutions-count net blocks cut a given solved valid are cut_is solution care = counted net blocks cut a given solved valid are cut_is solution care
+
+pub solutions-stay : SolutionsStay
+solutions-stay net blocks cut old new given solved keeps proper solution =
+    let same : (bits : List Bool) → values_of old given bits ≡ values_of new given bits = λ bits. sym (values_of-kept keeps given proper bits) in
+    record {
+      width = solution.width;
+      rails = All-rails-kept keeps solved.rails solution.rails;
+      values = λ bits. values_of-kept keeps solved.rails solution.rails bits ∙ solution.values bits ∙ ap (fix net) (same bits);
+      loops = solution.loops;
+      steps = λ k none less. steps-same (values_of old given) (values_of new given) same (get_or solved.loops k none) (steps-kept keeps (get_or solved.loops k none) (solution.steps k none less));
+    }

@@ -1,0 +1,14 @@
+use Rattle.std.proofs.Common.{◌*◌, ◌<◌, ◌≤◌, ℕ, [], ◌∷◌, slice_index_or}
+use Rattle.bdd_store.specs.Growth.{KeepsNodes, AddsAtMost}
+use Rattle.dual_rail.specs.WorkingLists.{IsWide}
+use Rattle.dual_rail.specs.declared.rail.Rails.{Rails}
+use Rattle.fixpoint.specs.Counts.{SameRailsOn, IsCompared}
+use Rattle.fixpoint.proofs.counting.agree_on.Given as goal
+
+abbrev pub invariant-loop-place : goal.invariant-loop-place
+invariant-loop-place l = record {
+  keeps : KeepsNodes l.fn.d l.d;
+  added : (w : ℕ) → IsWide l.fn.d.vars (IsCompared l.fn.d l.care (l.step ∷ l.last ∷ [])) w → AddsAtMost l.fn.d l.d (w * (4 * l.place));
+  within : l.place ≤ l.place-end;
+  same : (place : ℕ) (none : Rails) → place < l.place → SameRailsOn l.fn.d l.care (slice_index_or l.step place none) (slice_index_or l.last place none);
+}

@@ -1,0 +1,6 @@
+use Rattle.dual_rail.proofs.WidthLemmas.{IsWide-some}
+use Rattle.fixpoint.specs.Working.{IsWorking}
+use Rattle.fixpoint.proofs.laws.working_lists.Goals as goal
+
+pub returns : goal.returns
+returns c net blocks cut v vars = IsWide-some vars (IsWorking net blocks cut v)

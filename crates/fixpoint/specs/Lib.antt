@@ -1,0 +1,5 @@
+pub mod Solved
+pub mod Sweeping
+pub mod Counts
+pub mod Working
+pub mod Laws

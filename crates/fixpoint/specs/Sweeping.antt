@@ -1,0 +1,104 @@
+-- The wires of a netlist as rails while it is solved block by block, and one loop sweep by sweep.
+use Rattle.std.specs.Prelude.{◌≡◌, ◌<◌, ◌≤◌, ◌+◌, ◌&&◌, ℕ, nat_le, Bool, true, if◌then◌else◌, List, length, map, take, All, Contains, Some, None, slice_index_or, slice_set}
+use Rattle.std.specs.declared.option.Option.{Option}
+use Rattle.bdd_store.specs.Arena.{Arena}
+use Rattle.cover_logic.specs.Extensions.{ext}
+use Rattle.cyc_base.specs.declared.sig.Sig.{Sig}
+use Rattle.cyc_base.specs.declared.trit.Trit.{Trit}
+use Rattle.dual_rail.specs.declared.rail.Rails.{Rails}
+use Rattle.dual_rail.specs.Rails.{AreRailsOf, value_of, values_of}
+use Rattle.netlist.specs.declared.parts.Parts.{Parts}
+use Rattle.netlist.specs.Fixpoint.{fix_gates}
+use Rattle.netlist.specs.Netlists.{count, gate_at}
+use Rattle.loops.specs.declared.parts.Blocks.{Blocks}
+use Rattle.loops.specs.declared.parts.Cut.{Cut}
+use Rattle.loops.specs.Blocks.{AreBlocksOf, block_at, home_of}
+use Rattle.loops.specs.Cuts.{is_cut, loops_by}
+use Rattle.loops.specs.Orders.{IsOrderOf}
+use Rattle.loops.specs.Sweeps.{first_gate, gate_of, value_in, sweep, sweeps}
+use Rattle.fixpoint.specs.declared.solved.LoopSteps.{LoopSteps}
+use Rattle.fixpoint.specs.Solved.{Vectors, IsLoopAt, AreStepsOf}
+
+-- the rails of X
+abbrev pub unknown : Rails
+unknown = record { one = record { number = 0 }; zero = record { number = 0 } }
+
+abbrev pub rails_at : List Rails → ℕ → Rails
+rails_at rails s = slice_index_or rails s unknown
+
+-- the rails of a signal as gates read it: a cut wire as it was before the sweep
+abbrev pub rails_read : Parts → Cut → List Rails → List Rails → Sig → Rails
+rails_read net cut before rails pin =
+    if nat_le (first_gate net) pin.0 && is_cut cut.wires (gate_of net pin)
+    then rails_at before (gate_of net pin)
+    else rails_at rails pin.0
+
+-- proper rails of each signal, and of each gate before the sweep
+pub record AreWires (net : Parts) (a : Arena) (before rails : List Rails) : Type 0 where
+  pub width : length rails ≡ count net
+  pub before_width : length before ≡ length net.gates
+  pub proper : All (AreRailsOf a) rails
+  pub before_proper : All (AreRailsOf a) before
+
+-- the gate alone has new rails: its cover's on what it reads
+pub record IsGateSet (net : Parts) (cut : Cut) (old new : Arena) (before rails set : List Rails) (gate : ℕ) : Type 0 where
+  pub made : Rails
+  pub is : set ≡ slice_set rails (first_gate net + gate) made
+  pub proper : AreRailsOf new made
+  pub value : (bits : List Bool) → value_of new made bits
+      ≡ ext (gate_at net gate).cover (map (λ pin. value_of old (rails_read net cut before rails pin) bits) (gate_at net gate).pins)
+
+-- a state of all gates for each list of bits
+abbrev pub States : Type 0
+States = List Bool → List Trit
+
+-- the vectors that the rails of inputs and latches stand for
+abbrev pub vectors : Parts → Arena → List Rails → Vectors
+vectors net a rails bits = values_of a (take (first_gate net) rails) bits
+
+-- Inputs and latches have the values of the vector, and the gates of the blocks before place b stand at the fixpoint,
+-- their cut wires before the sweep too.
+pub record IsSolvedBelow (net : Parts) (blocks : Blocks) (cut : Cut) (a : Arena) (v : Vectors) (b : ℕ) (before rails : List Rails) : Type 0 where
+  pub wires : AreWires net a before rails
+  pub vector : (bits : List Bool) → length (v bits) ≡ first_gate net
+  pub given : (s : ℕ) (bits : List Bool) → s < first_gate net → value_of a (rails_at rails s) bits ≡ value_in (v bits) s
+  pub gates : (n : ℕ) (bits : List Bool) → n < length net.gates → home_of blocks n < b →
+      value_of a (rails_at rails (first_gate net + n)) bits ≡ value_in (fix_gates net (v bits)) n
+  pub cuts : (n : ℕ) (bits : List Bool) → n < length net.gates → home_of blocks n < b → is_cut cut.wires n ≡ true →
+      value_of a (rails_at before n) bits ≡ value_in (fix_gates net (v bits)) n
+
+-- the cut wires of later blocks are still X
+abbrev pub AreFresh : Parts → Blocks → ℕ → List Rails → Type 0
+AreFresh net blocks b before = (n : ℕ) → n < length net.gates → b ≤ home_of blocks n → rails_at before n ≡ unknown
+
+-- before the sweep, the cut wires of block b are as in these states
+abbrev pub CutsAre : Parts → Blocks → Cut → Arena → States → ℕ → List Rails → Type 0
+CutsAre net blocks cut a c b before = (n : ℕ) (bits : List Bool) → n < length net.gates → home_of blocks n ≡ b →
+    is_cut cut.wires n ≡ true → value_of a (rails_at before n) bits ≡ value_in (c bits) n
+
+-- the gates of a kind are set as by the sweep from these states
+abbrev pub AreSwept : Parts → Blocks → Cut → Arena → Vectors → States → (ℕ → Type 0) → List Rails → Type 0
+AreSwept net blocks cut a v c Kind rails = (n : ℕ) (bits : List Bool) → n < length net.gates → Kind n →
+    value_of a (rails_at rails (first_gate net + n)) bits ≡ value_in (sweep net (loops_by blocks cut) (v bits) (c bits)) n
+
+-- block b is a loop of the netlist, and all that a sweep of it reads is there: the blocks before it are solved, its
+-- cut wires are as in these states, and its gates have an order for sweeps
+pub record IsSweepable (net : Parts) (blocks : Blocks) (cut : Cut) (a : Arena) (v : Vectors) (c : States) (b : ℕ) (order : List ℕ) (before rails : List Rails) : Type 0 where
+  pub blocks_are : AreBlocksOf net blocks
+  pub loop : IsLoopAt blocks b
+  pub follows : IsOrderOf net (is_cut cut.wires) (block_at blocks b).gates order
+  pub solved : IsSolvedBelow net blocks cut a v b before rails
+  pub cuts : CutsAre net blocks cut a c b before
+
+-- signals but these gates are as they were
+abbrev pub OthersStay : Parts → List ℕ → List Rails → List Rails → Type 0
+OthersStay net gates old new = (s : ℕ) → ((n : ℕ) → s ≡ first_gate net + n → ¬ Contains gates n) → rails_at new s ≡ rails_at old s
+
+-- the states after k sweeps
+abbrev pub after_sweeps : Parts → Blocks → Cut → Vectors → ℕ → States
+after_sweeps net blocks cut v k bits = sweeps net (loops_by blocks cut) (v bits) k
+
+-- what was found of the block at place b: the steps of a loop, or nothing of another block
+abbrev pub IsFoundAt : Parts → Blocks → Cut → Arena → Vectors → ℕ → Option LoopSteps → Type 0
+IsFoundAt net blocks cut a v b (Some steps) = AreStepsOf net blocks cut a v steps × (steps.block ≡ b)
+IsFoundAt net blocks cut a v b None = ¬ IsLoopAt blocks b

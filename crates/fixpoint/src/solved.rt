@@ -1,0 +1,29 @@
+use cyc_base::Items;
+use dual_rail::Rails;
+
+/// The cut wires of a loop, sweep by sweep.
+#[derive(Debug, Drop)]
+pub struct LoopSteps {
+    /// The place of the loop among the blocks.
+    pub block: u32,
+    /// The numbers of the loop's cut wires, in flat order.
+    pub cuts: Items<u32>,
+    /// What the cut wires are after so many sweeps: at first all X, and in the end at the fixpoint.
+    pub steps: Items<Items<Rails>>,
+}
+
+/// The fixpoint of a netlist at every vector.
+#[derive(Debug, Drop)]
+pub struct Solved {
+    /// One for each signal.
+    pub rails: Items<Rails>,
+    /// The loops, in the order of the blocks.
+    pub loops: Items<LoopSteps>,
+}
+
+/// How many sweeps loops need.
+#[derive(Debug, Drop)]
+pub struct SweepCounts {
+    /// One for each block, and 0 for a block that is no loop.
+    pub per_block: Items<u32>,
+}

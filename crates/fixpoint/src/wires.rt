@@ -1,0 +1,141 @@
+//! The wires of a netlist while it is solved, and the lifting of one gate.
+
+ghost use Rattle.std.specs.Prelude.{◌≡◌, ◌<◌, ◌+◌, ◌*◌, ◌++◌, ◌⊎◌, ℕ, List, Bool, length, map, replicate, All, IfOk, OnOk};
+ghost use Rattle.bdd_store.specs.Growth.{KeepsNodes, AddsAtMost, IsFullOnlyPast};
+ghost use Rattle.cover_logic.specs.Covers.{value as cover_value};
+ghost use Rattle.cover_logic.specs.Extensions.{ext};
+ghost use Rattle.dual_rail.specs.Rails.{AreRailsOf, value_of, values_of};
+ghost use Rattle.dual_rail.specs.Local.{size};
+ghost use Rattle.dual_rail.specs.WorkingLists.{IsWide, IsListed};
+ghost use Rattle.netlist.specs.Netlists.{IsNetlist, IsSignal, gate_at};
+ghost use Rattle.loops.specs.Sweeps.{first_gate};
+ghost use Rattle.fixpoint.specs.Sweeping.{unknown as unknown_rails, rails_read as rails_read_of, AreWires, IsGateSet};
+ghost use Rattle.fixpoint.specs.Working.{HasLargeCover};
+
+use bdd_ops::Diagrams;
+use bdd_store::{Node, StoreFault};
+use cyc_base::Sig;
+use dual_rail::{Rails, lift, local, sizes};
+use loops::Cut;
+use netlist::Netlist;
+use std::alloc::{AllocError, Global};
+
+/// The rails of X.
+fn unknown() -> Rails
+    ensures { result ≡ unknown_rails }
+{
+    Rails {
+        one: Node::of(false),
+        zero: Node::of(false),
+    }
+}
+
+/// As many rails of X.
+pub(crate) fn unknowns(alloc: Global, gates: usize) -> Result<Vec<Rails>, AllocError>
+    ensures { IfOk result (λ rails. rails.items ≡ replicate gates unknown_rails) }
+{
+    Ok(vec![in alloc; unknown(); gates]?)
+}
+
+/// The given rails of inputs and latches, and then those of gates.
+pub(crate) fn wires(
+    alloc: Global,
+    given: &[Rails],
+    gates: &[Rails],
+) -> Result<Vec<Rails>, AllocError>
+    ensures { IfOk result (λ rails. rails.items ≡ given.now ++ gates.now) }
+{
+    let mut rails: Vec<Rails> = given.iter().copied().collect(alloc)?;
+    rails.extend_from_slice(gates)?;
+    Ok(rails)
+}
+
+/// The rails of a signal as gates read it: a cut wire as it was before the sweep.
+fn rails_read(net: &Netlist, cut: &Cut, before: &[Rails], rails: &[Rails], pin: Sig) -> Rails
+    requires pin { IsSignal net.now pin }
+    requires width { length rails.now ≡ first_gate net.now + length net.now.gates }
+    requires before { length before.now ≡ length net.now.gates }
+    requires cut { length cut.now.wires ≡ length net.now.gates }
+    ensures { result ≡ rails_read_of net.now cut.now before.now rails.now pin }
+{
+    let first = net.inputs() + net.latches();
+    if pin.0 >= first {
+        let gate = (pin.0 - first) as usize;
+        if cut.wires.items()[gate] {
+            return before[gate];
+        }
+    }
+    rails[pin.0 as usize]
+}
+
+/// The rails that the pins of a gate read.
+fn pins_read(
+    alloc: Global,
+    net: &Netlist,
+    cut: &Cut,
+    before: &[Rails],
+    rails: &[Rails],
+    pins: &[Sig],
+) -> Result<Vec<Rails>, AllocError>
+    requires pins { All (IsSignal net.now) pins.now }
+    requires width { length rails.now ≡ first_gate net.now + length net.now.gates }
+    requires before { length before.now ≡ length net.now.gates }
+    requires cut { length cut.now.wires ≡ length net.now.gates }
+    ensures { IfOk result (λ list. list.items ≡ map (rails_read_of net.now cut.now before.now rails.now) pins.now) }
+{
+    pins.iter()
+        .map(|pin| rails_read(net, cut, before, rails, *pin))
+        .collect(alloc)
+}
+
+/// The rails of a gate's cover on those of its pins.
+fn gate_rails(
+    alloc: Global,
+    d: &mut Diagrams,
+    net: &Netlist,
+    gate: u32,
+    pins: &[Rails],
+) -> Result<Rails, StoreFault>
+    requires gate { gate < length net.now.gates }
+    requires pins { length pins.now ≡ length (gate_at net.now gate).pins }
+    requires rails { All (AreRailsOf d.old) pins.now }
+    ensures rails { IfOk result (AreRailsOf d.new) }
+    ensures value { IfOk result (λ r. (bits : List Bool) → value_of d.new r bits ≡ ext (gate_at net.now gate).cover (values_of d.old pins.now bits)) }
+    ensures keeps { KeepsNodes d.old d.new }
+    ensures added { (w : ℕ) → IsWide d.old.vars (IsListed d.old pins.now (cover_value (gate_at net.now gate).cover)) w → AddsAtMost d.old d.new (w * (2 * size (gate_at net.now gate).cover)) }
+    ensures full { (w : ℕ) → IsWide d.old.vars (IsListed d.old pins.now (cover_value (gate_at net.now gate).cover)) w → result ≡ Err StoreFault.Full → HasLargeCover net.now d.old.limit ⊎ IsFullOnlyPast d.old d.new (w * (2 * size (gate_at net.now gate).cover)) }
+{
+    sizes();
+    let diagram = local(alloc, &net.gate(gate).cover, d.store().limit())?;
+    let rails = lift(alloc, d, &diagram, pins)?;
+    Ok(rails)
+}
+
+/// Sets a gate to the rails of its cover on what it reads.
+pub(crate) fn set_gate(
+    alloc: Global,
+    d: &mut Diagrams,
+    net: &Netlist,
+    cut: &Cut,
+    before: &[Rails],
+    rails: &mut [Rails],
+    gate: u32,
+) -> Result<(), StoreFault>
+    requires gate { gate < length net.now.gates }
+    requires cut { length cut.now.wires ≡ length net.now.gates }
+    requires wires { AreWires net.now d.old before.now rails.old }
+    ensures valid { IsNetlist net.now }
+    ensures set { OnOk result (IsGateSet net.now cut.now d.old d.new before.now rails.old rails.new gate) }
+    ensures keeps { KeepsNodes d.old d.new }
+    ensures added { (w : ℕ) → IsWide d.old.vars (IsListed d.old (map (rails_read_of net.now cut.now before.now rails.old) (gate_at net.now gate).pins) (cover_value (gate_at net.now gate).cover)) w →
+        AddsAtMost d.old d.new (w * (2 * size (gate_at net.now gate).cover)) }
+    ensures full { (w : ℕ) → IsWide d.old.vars (IsListed d.old (map (rails_read_of net.now cut.now before.now rails.old) (gate_at net.now gate).pins) (cover_value (gate_at net.now gate).cover)) w →
+        result ≡ Err StoreFault.Full → HasLargeCover net.now d.old.limit ⊎ IsFullOnlyPast d.old d.new (w * (2 * size (gate_at net.now gate).cover)) }
+{
+    let Ok(pins) = pins_read(alloc, net, cut, before, rails, net.gate(gate).pins.items()) else {
+        return Err(StoreFault::Memory);
+    };
+    let made = gate_rails(alloc, d, net, gate, &pins)?;
+    rails[(net.inputs() + net.latches() + gate) as usize] = made;
+    Ok(())
+}
