@@ -7,6 +7,8 @@
 
 mod readers;
 mod settling;
+#[cfg(test)]
+mod tests;
 mod ticks;
 
 pub use readers::{Read, Readers};
