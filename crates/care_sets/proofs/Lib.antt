@@ -1,0 +1,4 @@
+pub mod BindingLemmas
+pub mod CareLemmas
+pub mod FaultLemmas
+pub mod ModelLemmas

@@ -1,0 +1,44 @@
+-- The output of a care model, among the values of its signals.
+use Rattle.std.proofs.Common.{◌≡◌, ℕ, ◌+◌, ◌-◌, ◌<◌, Bool, false, List, [], ◌∷◌, length, map, get_or, refl, sym, ap, subst, ◌∙◌, arith}
+use Rattle.std.proofs.lemmas.List.{get_or-map, length-append, length-map}
+use Rattle.cyc_base.specs.declared.sig.Sig.{Sig}
+use Rattle.cyc_base.specs.declared.trit.Trit.{Trit}
+use Rattle.cyc_base.specs.declared.trit.Trit.TheVariants.{X}
+use Rattle.cyc_base.specs.Values.{bit, bits}
+use Rattle.netlist.specs.declared.parts.Parts.{Parts}
+use Rattle.netlist.specs.Netlists.{count, IsNetlist}
+use Rattle.netlist.specs.Fixpoint.{wire, fix, outs, fix_gates}
+use Rattle.netlist.proofs.FixpointLemmas.{length-steps}
+use Rattle.care_sets.specs.declared.model.CareModel.{CareModel}
+use Rattle.care_sets.specs.Care.{inputs_at, holds_at, is_one}
+
+-- the fixpoint has a value for each signal
+pub length-fix : (net : Parts) (v : List Trit) → length v ≡ length net.inputs + length net.latches → length (fix net v) ≡ count net
+length-fix net v w = omega (arith, length-append v (fix_gates net v), length-steps net v (length net.gates))
+
+-- the given values of the model's inputs
+abbrev pub given_at : CareModel → List Bool → List Trit
+given_at model values = map (λ column. bit (get_or values (column - model.first) false)) model.columns
+
+pub output_within_at : (model : CareModel) (values : List Bool) (v wires : List Trit) (outputs : List Sig) (d : Sig) → IsNetlist model.net →
+    length model.net.outputs ≡ 1 → length model.net.latches ≡ 0 → length model.columns ≡ length model.net.inputs →
+    v ≡ given_at model values → wires ≡ fix model.net v → outputs ≡ model.net.outputs → (get_or outputs 0 d).0 < length wires
+output_within_at model values v wires outputs d h one none width e f g =
+    let inside : (get_or model.net.outputs 0 d).0 < count model.net = h.outputs 0 d (omega arith) in
+    let same : (get_or outputs 0 d).0 ≡ (get_or model.net.outputs 0 d).0 = ap (λ (l : List Sig). (get_or l 0 d).0) g in
+    let long : length v ≡ length model.net.inputs + length model.net.latches =
+    omega (arith, ap length e, length-map model.columns (λ column. bit (get_or values (column - model.first) false))) in
+    omega (arith, ap length f, length-fix model.net v long)
+
+bits_of_map : (f : ℕ → Bool) (xs : List ℕ) → map (λ x. bit (f x)) xs ≡ bits (map f xs)
+bits_of_map f [] = refl
+bits_of_map f (x ∷ xs) = ap (λ l. bit (f x) ∷ l) (bits_of_map f xs)
+
+-- what is read there is the model's value
+pub model_value_at : (model : CareModel) (values : List Bool) (v wires : List Trit) (outputs : List Sig) (d : Sig) → length model.net.outputs ≡ 1 →
+    v ≡ given_at model values → wires ≡ fix model.net v → outputs ≡ model.net.outputs → is_one (wire wires (get_or outputs 0 d)) ≡ holds_at model values
+model_value_at model values v wires outputs d one e f g =
+    let given : v ≡ bits (inputs_at model values) = e ∙ bits_of_map (λ column. get_or values (column - model.first) false) model.columns in
+    ap (λ (l : List Sig). is_one (wire wires (get_or l 0 d))) g
+    ∙ ap (λ w. is_one (wire w (get_or model.net.outputs 0 d))) (f ∙ ap (fix model.net) given)
+    ∙ ap is_one (sym (get_or-map (wire (fix model.net (bits (inputs_at model values)))) model.net.outputs 0 d X (omega arith)))
