@@ -1,0 +1,5 @@
+pub mod FirstLemmas
+pub mod LawLemmas
+pub mod RefusalLemmas
+pub mod ShowingLemmas
+pub mod VectorLemmas

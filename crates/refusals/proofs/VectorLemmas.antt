@@ -1,0 +1,98 @@
+-- All vectors of a width are listed, once and in order.
+use Rattle.std.proofs.Common.{◌≡◌, ◌≢◌, ◌⊎◌, inl, inr, ℕ, zero, suc, ◌+◌, ◌-◌, ◌<◌, ◌≤◌, Bool, true, false, List, [], ◌∷◌, ◌++◌, length, map, get_or, refl, sym, ap, ap₂, subst, ◌∙◌, arith}
+use Rattle.std.specs.List.{AllPairs, Contains}
+use Rattle.std.proofs.lemmas.Bool.{cases_lt}
+use Rattle.std.proofs.lemmas.List.{get_or-map, get_or_append_left, get_or-append_right, get_or_default, length-append, length-map}
+use Rattle.std.proofs.lemmas.List.Elements.{Contains-append_left, Contains-append_right, Contains-append_cases}
+use Rattle.refusals.specs.Vectors.{vectors, AtMost, IsBefore, ListsEachVector, VectorsAreListed}
+
+contains-map : {X Y : Type 0} (f : X → Y) (xs : List X) (x : X) → Contains xs x → Contains (map f xs) (f x)
+contains-map f xs x c = (c.0, omega (arith, c.1, length-map xs f), get_or-map f xs c.0 x (f x) c.1 ∙ ap f c.2)
+
+-- an item of a mapped list is one's image
+record IsImage {X Y : Type 0} (f : X → Y) (xs : List X) (y : Y) : Type 0 where
+  pub item : X
+  pub there : Contains xs item
+  pub is : y ≡ f item
+
+image : {Y : Type 0} (f : List Bool → Y) (xs : List (List Bool)) (y : Y) → Contains (map f xs) y → IsImage f xs y
+image f xs y c =
+    let inside : c.0 < length xs = omega (arith, c.1, length-map xs f) in
+    record {
+      item = get_or xs c.0 [];
+      there = (c.0, inside, get_or_default xs c.0 (get_or xs c.0 []) [] inside);
+      is = sym c.2 ∙ get_or-map f xs c.0 [] y inside;
+    }
+
+listed_wide : (n : ℕ) (v : List Bool) → Contains (vectors n) v → length v ≡ n
+listed_wide zero v c = let e : c.0 ≡ 0 = omega (arith, c.1) in ap length (sym (ap (λ k. let one : List (List Bool) = [] ∷ [] in get_or one k v) (sym e) ∙ c.2))
+listed_wide (suc n) v c =
+    elim (Contains-append_cases (map (λ u. false ∷ u) (vectors n)) (map (λ u. true ∷ u) (vectors n)) v c) [
+      | inl low ↦ let m = image (λ u. false ∷ u) (vectors n) v low in ap length m.is ∙ ap suc (listed_wide n m.item m.there)
+      | inr high ↦ let m = image (λ u. true ∷ u) (vectors n) v high in ap length m.is ∙ ap suc (listed_wide n m.item m.there)
+    ]
+
+all_listed : (n : ℕ) (v : List Bool) → length v ≡ n → Contains (vectors n) v
+all_listed zero [] wide = (0, omega arith, refl)
+all_listed zero (b ∷ v) wide = absurd (omega arith)
+all_listed (suc n) [] wide = absurd (omega arith)
+all_listed (suc n) (false ∷ v) wide =
+    Contains-append_left (map (λ u. false ∷ u) (vectors n)) (map (λ u. true ∷ u) (vectors n)) (false ∷ v)
+    (contains-map (λ u. false ∷ u) (vectors n) v (all_listed n v (omega arith)))
+all_listed (suc n) (true ∷ v) wide =
+    Contains-append_right (map (λ u. false ∷ u) (vectors n)) (map (λ u. true ∷ u) (vectors n)) (true ∷ v)
+    (contains-map (λ u. true ∷ u) (vectors n) v (all_listed n v (omega arith)))
+
+before_low : (v w : List Bool) → IsBefore v w → IsBefore (false ∷ v) (false ∷ w)
+before_low v w h = record { most = h.most; other = λ e. h.other cc }
+
+before_high : (v w : List Bool) → IsBefore v w → IsBefore (true ∷ v) (true ∷ w)
+before_high v w h = record { most = h.most; other = λ e. h.other cc }
+
+low_before_high : (v w : List Bool) → IsBefore (false ∷ v) (true ∷ w)
+low_before_high v w = record { most = tt; other = λ e. cc }
+
+-- an item of either half
+low_at : (n k : ℕ) (d : List Bool) → k < length (vectors n) → get_or (vectors (suc n)) k d ≡ false ∷ get_or (vectors n) k []
+low_at n k d inside =
+    get_or_append_left (map (λ u. false ∷ u) (vectors n)) (map (λ u. true ∷ u) (vectors n)) d k (omega (arith, length-map (vectors n) (λ (u : List Bool). false ∷ u)))
+    ∙ get_or-map (λ u. false ∷ u) (vectors n) k [] d inside
+
+high_at : (n k : ℕ) (d : List Bool) → length (vectors n) ≤ k → k < length (vectors n) + length (vectors n) → get_or (vectors (suc n)) k d ≡ true ∷ get_or (vectors n) (k - length (vectors n)) []
+high_at n k d behind inside =
+    get_or-append_right (map (λ u. false ∷ u) (vectors n)) (map (λ u. true ∷ u) (vectors n)) (length (vectors n)) k d (length-map (vectors n) (λ (u : List Bool). false ∷ u)) behind
+    ∙ get_or-map (λ u. true ∷ u) (vectors n) (k - length (vectors n)) [] d (omega arith)
+
+length-vectors : (n : ℕ) → length (vectors (suc n)) ≡ length (vectors n) + length (vectors n)
+length-vectors n =
+    omega (
+      arith,
+      length-append (map (λ (u : List Bool). false ∷ u) (vectors n)) (map (λ (u : List Bool). true ∷ u) (vectors n)),
+      length-map (vectors n) (λ (u : List Bool). false ∷ u),
+      length-map (vectors n) (λ (u : List Bool). true ∷ u),
+    )
+
+in_order : (n i j : ℕ) (d : List Bool) → i < j → j < length (vectors n) → IsBefore (get_or (vectors n) i d) (get_or (vectors n) j d)
+in_order zero i j d lt inside = absurd (omega arith)
+in_order (suc n) i j d lt inside =
+    let size : length (vectors (suc n)) ≡ length (vectors n) + length (vectors n) = length-vectors n in
+    elim (cases_lt j (length (vectors n))) [
+      | inl low ↦
+          subst (λ x. IsBefore x (get_or (vectors (suc n)) j d)) (sym (low_at n i d (omega arith)))
+          (subst (λ x. IsBefore (false ∷ get_or (vectors n) i []) x) (sym (low_at n j d low))
+          (before_low (get_or (vectors n) i []) (get_or (vectors n) j []) (in_order n i j [] lt low)))
+      | inr high ↦
+          subst (λ x. IsBefore (get_or (vectors (suc n)) i d) x) (sym (high_at n j d high (omega arith)))
+          (elim (cases_lt i (length (vectors n))) [
+            | inl low ↦
+                subst (λ x. IsBefore x (true ∷ get_or (vectors n) (j - length (vectors n)) [])) (sym (low_at n i d low))
+                (low_before_high (get_or (vectors n) i []) (get_or (vectors n) (j - length (vectors n)) []))
+            | inr higher ↦
+                subst (λ x. IsBefore x (true ∷ get_or (vectors n) (j - length (vectors n)) [])) (sym (high_at n i d higher (omega arith)))
+                (before_high (get_or (vectors n) (i - length (vectors n)) []) (get_or (vectors n) (j - length (vectors n)) [])
+                (in_order n (i - length (vectors n)) (j - length (vectors n)) [] (omega arith) (omega arith)))
+          ])
+    ]
+
+pub vectors_are_listed : VectorsAreListed
+vectors_are_listed n = record { widths = listed_wide n; all = all_listed n; order = λ i j d lt inside. in_order n i j d lt inside }

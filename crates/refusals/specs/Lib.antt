@@ -1,0 +1,4 @@
+pub mod Acceptance
+pub mod Laws
+pub mod Refusals
+pub mod Vectors
