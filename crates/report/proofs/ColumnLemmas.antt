@@ -1,0 +1,92 @@
+-- The columns of a vector, appended one after another.
+use Rattle.std.proofs.Common.{◌≡◌, ℕ, zero, suc, ◌+◌, ◌-◌, ◌<◌, ◌≤◌, Bool, List, [], ◌∷◌, ◌++◌, length, map, take, drop, get_or, zip, slice_get, Some, refl, sym, ap, ◌∙◌, arith, subst, append-nil}
+use Rattle.std.specs.List.{flat_map}
+use Rattle.std.specs.declared.option.Option.{Option}
+use Rattle.std.specs.Io.KnownBytes.{Appends}
+use Rattle.std.proofs.KnownBytes.{Appends-nil, Appends-trans}
+use Rattle.std.proofs.lemmas.List.{take_more, take-append-drop, drop_more, get_or-drop, length-drop, length-append, length-map, take_all}
+use Rattle.std.proofs.lemmas.List.Concat.{flat_map-append}
+use Rattle.std.proofs.lemmas.Option.{same_Some, get_or_from_slice_get, slice_get-get_or, none-some}
+use Rattle.cyc_io.specs.Taken.{AppendsPrefix}
+use Rattle.cyc_io.proofs.TakenLemmas.{appends_start, prefix_of_front}
+use Rattle.netlist.specs.declared.parts.Gate.{Gate}
+use Rattle.netlist.specs.declared.parts.Latch.{Latch}
+use Rattle.netlist.specs.declared.parts.Parts.{Parts}
+use Rattle.netlist.specs.Netlists.{count, signal_names, driven_names}
+use Rattle.report.specs.Verdicts.{column_text, columns_text}
+
+length-signal_names : (net : Parts) → length (signal_names net) ≡ count net
+length-signal_names net =
+    omega (
+      arith,
+      length-append net.inputs (driven_names net),
+      length-append (map (λ (l : Latch). l.name) net.latches) (map (λ (g : Gate). g.name) net.gates),
+      length-map net.latches (λ (l : Latch). l.name),
+      length-map net.gates (λ (g : Gate). g.name),
+    )
+
+zip_item : (names : List (List ℕ)) (values : List Bool) (i : ℕ) (name : List ℕ) (d : Bool) (e : List ℕ × Bool) → slice_get names i ≡ Some name → i < length values →
+    get_or (zip names values) i e ≡ (name, get_or values i d)
+zip_item [] values i name d e found inside = absurd (none-some name found)
+zip_item (n ∷ names) [] i name d e found inside = absurd (omega arith)
+zip_item (n ∷ names) (v ∷ values) zero name d e found inside = ap (λ (x : List ℕ). (x, v)) (same_Some n name found)
+zip_item (n ∷ names) (v ∷ values) (suc i) name d e found inside = zip_item names values i name d e found (omega arith)
+
+length-zip : (names : List (List ℕ)) (values : List Bool) → length values ≤ length names → length (zip names values) ≡ length values
+length-zip [] [] le = refl
+length-zip [] (v ∷ values) le = absurd (omega arith)
+length-zip (n ∷ names) [] le = refl
+length-zip (n ∷ names) (v ∷ values) le = ap suc (length-zip names values (omega arith))
+
+-- the columns from the first one on
+abbrev pub columns_of : Parts → ℕ → List Bool → List (List ℕ × Bool)
+columns_of net first values = zip (drop first (signal_names net)) values
+
+module _ (net : Parts) (first : ℕ) (values : List Bool) (fits : first + length values ≤ count net) where
+  pub length-columns : length (columns_of net first values) ≡ length values
+  length-columns = length-zip (drop first (signal_names net)) values (omega (arith, length-drop first (signal_names net), length-signal_names net))
+
+  column_is : (i : ℕ) (name : List ℕ) (d : Bool) (e : List ℕ × Bool) → slice_get (signal_names net) (first + i) ≡ Some name → i < length values →
+      get_or (columns_of net first values) i e ≡ (name, get_or values i d)
+  column_is i name d e found inside =
+      zip_item (drop first (signal_names net)) values i name d e
+      (slice_get-get_or (drop first (signal_names net)) i [] (omega (arith, length-drop first (signal_names net), length-signal_names net))
+      ∙ ap (λ (n : List ℕ). Some n) (get_or-drop first (signal_names net) i [] ∙ get_or_from_slice_get (signal_names net) (first + i) name [] found))
+      inside
+
+  abbrev upto : ℕ → List ℕ
+  upto i = flat_map column_text (take i (columns_of net first values))
+
+  pub columns_more : (i : ℕ) (name : List ℕ) (d : Bool) (a b c : Option (List ℕ)) → slice_get (signal_names net) (first + i) ≡ Some name → i < length values →
+      Appends a b (upto i) → Appends b c (column_text (name, get_or values i d)) → Appends a c (upto (i + 1))
+  columns_more i name d a b c found inside so_far now =
+      let column : List ℕ × Bool = (name, get_or values i d) in
+      let P : List ℕ → Type 0 = λ text. Appends a c text in
+      let whole : upto (i + 1) ≡ upto i ++ column_text column =
+      ap (flat_map column_text) (take_more (columns_of net first values) i column (omega (arith, length-columns)))
+      ∙ flat_map-append column_text (take i (columns_of net first values)) (get_or (columns_of net first values) i column ∷ [])
+      ∙ ap (λ (y : List ℕ × Bool). upto i ++ (column_text y ++ [])) (column_is i name d column found inside)
+      ∙ ap (λ text. upto i ++ text) (append-nil (column_text column)) in
+      subst P (sym whole) (Appends-trans a b c (upto i) (column_text column) so_far now)
+
+  -- the start of the next one
+  pub columns_cut : (i : ℕ) (name : List ℕ) (d : Bool) (a b c : Option (List ℕ)) → slice_get (signal_names net) (first + i) ≡ Some name → i < length values →
+      Appends a b (upto i) → AppendsPrefix b c (column_text (name, get_or values i d)) → AppendsPrefix a c (columns_text net first values)
+  columns_cut i name d a b c found inside so_far now =
+      let column : List ℕ × Bool = (name, get_or values i d) in
+      let rest : List (List ℕ × Bool) = drop (i + 1) (columns_of net first values) in
+      let P : List ℕ → Type 0 = λ text. AppendsPrefix a c text in
+      let whole : upto i ++ (column_text column ++ flat_map column_text rest) ≡ columns_text net first values =
+      ap (λ (y : List ℕ × Bool). upto i ++ (column_text y ++ flat_map column_text rest)) (sym (column_is i name d column found inside))
+      ∙ sym (flat_map-append column_text (take i (columns_of net first values)) (get_or (columns_of net first values) i column ∷ rest))
+      ∙ ap (λ (l : List (List ℕ × Bool)). flat_map column_text (take i (columns_of net first values) ++ l)) (sym (drop_more (columns_of net first values) i column (omega (arith, length-columns))))
+      ∙ ap (flat_map column_text) (take-append-drop i (columns_of net first values)) in
+      subst P whole (appends_start a b c (upto i) (column_text column ++ flat_map column_text rest) so_far (prefix_of_front b c (column_text column) (flat_map column_text rest) now))
+
+  pub columns_whole : (i : ℕ) (a b : Option (List ℕ)) → length values ≤ i → Appends a b (upto i) → Appends a b (columns_text net first values)
+  columns_whole i a b over so_far =
+      let P : List (List ℕ × Bool) → Type 0 = λ l. Appends a b (flat_map column_text l) in
+      subst P (take_all i (columns_of net first values) (omega (arith, length-columns))) so_far
+
+  pub no_columns : (a : Option (List ℕ)) → Appends a a (upto 0)
+  no_columns a = Appends-nil a

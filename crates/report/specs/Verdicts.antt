@@ -1,0 +1,47 @@
+-- The texts of verdicts. Each is one line.
+use Rattle.std.specs.Prelude.{ℕ, Bool, true, false, List, [], ◌∷◌, ◌++◌, length, zip, drop, slice_index_or, codes, decimal}
+use Rattle.std.specs.List.{flat_map}
+use Rattle.cyc_base.specs.declared.sig.Sig.{Sig}
+use Rattle.netlist.specs.declared.parts.Parts.{Parts}
+use Rattle.netlist.specs.Netlists.{signal_names}
+use Rattle.refusals.specs.declared.refusal.Refusal.{Refusal}
+use Rattle.refusals.specs.declared.refusal.Refusal.TheVariants.{Initial, EmptyCare, Undetermined, Leaves}
+
+-- ` NAME=B`
+abbrev pub value_text : Bool → List ℕ
+value_text false = codes "=0"
+value_text true = codes "=1"
+
+abbrev pub column_text : List ℕ × Bool → List ℕ
+column_text column = codes " " ++ (column.0 ++ value_text column.1)
+
+-- that of each of these values, which are those of the signals from `first` on
+abbrev pub columns_text : Parts → ℕ → List Bool → List ℕ
+columns_text net first values = flat_map column_text (zip (drop first (signal_names net)) values)
+
+-- the line ends behind them
+abbrev pub last_columns : Parts → ℕ → List Bool → List ℕ
+last_columns net first values = columns_text net first values ++ codes "\n"
+
+abbrev pub signal_name : Parts → Sig → List ℕ
+signal_name net s = slice_index_or (signal_names net) s.0 []
+
+-- a vector, where there is a column
+abbrev pub vector_text : Parts → List Bool → List ℕ
+vector_text net [] = codes "\n"
+vector_text net (b ∷ v) = codes " at" ++ last_columns net 0 (b ∷ v)
+
+-- The columns of a vector are the first signals, and those of a state are the latches.
+abbrev pub refusal_text : Parts → Refusal → List ℕ
+refusal_text net (Initial q) = codes "refused initial" ++ last_columns net (length net.inputs) q
+refusal_text net EmptyCare = codes "refused empty care\n"
+refusal_text net (Undetermined v s) = (codes "refused undetermined wire=" ++ signal_name net s) ++ vector_text net v
+refusal_text net (Leaves v q) =
+    codes "refused leaves at" ++ (columns_text net 0 v ++ (codes " next" ++ last_columns net (length net.inputs) q))
+
+abbrev pub counts_text : ℕ → ℕ → List ℕ
+counts_text loops latches = (codes " loops=" ++ decimal loops) ++ (codes " latches=" ++ (decimal latches ++ codes "\n"))
+
+-- the numbers of gates, of loops and of latches
+abbrev pub accepted_text : Parts → ℕ → List ℕ
+accepted_text net loops = (codes "accepted gates=" ++ decimal (length net.gates)) ++ counts_text loops (length net.latches)
