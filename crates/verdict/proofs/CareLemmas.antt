@@ -1,0 +1,88 @@
+-- Care models on rails.
+use Rattle.std.proofs.Common.{◌≡◌, ℕ, ◌-◌, ◌<◌, Bool, true, false, List, [], length, map, get_or, Option, Some, None, refl, sym, ap, ap₂, ◌∙◌, subst, arith}
+use Rattle.std.specs.Prelude.{IfSome}
+use Rattle.std.specs.Option.{option_map, option_map_or}
+use Rattle.std.proofs.lemmas.List.{get_or-map, length-map}
+use Rattle.std.proofs.lemmas.List.Elements.{All-map}
+use Rattle.std.proofs.lemmas.Option.{same_Some}
+use Rattle.std.specs.List.{All, slice_index_or}
+use Rattle.bdd_store.specs.Arena.{Arena, den}
+use Rattle.cyc_base.specs.declared.sig.Sig.{Sig}
+use Rattle.cyc_base.specs.declared.trit.Trit.{Trit}
+use Rattle.cyc_base.specs.declared.trit.Trit.TheVariants.{X}
+use Rattle.cyc_base.specs.Values.{bit, bits}
+use Rattle.dual_rail.specs.declared.rail.Rails.{Rails}
+use Rattle.dual_rail.specs.Rails.{AreRailsOf, trit_of, value_of, values_of}
+use Rattle.netlist.specs.declared.parts.Parts.{Parts}
+use Rattle.netlist.specs.Fixpoint.{wire, fix}
+use Rattle.netlist.specs.Netlists.{IsNetlist, count}
+use Rattle.loops.proofs.Reading.{map_agree}
+use Rattle.care_sets.specs.declared.model.CareModel.{CareModel}
+use Rattle.care_sets.specs.Care.{is_one, inputs_at, holds_at}
+use Rattle.verdict.specs.Models.{unknown, rails_at}
+use Rattle.verdict.specs.Sets.{model_of, ReadsWithin}
+use Rattle.verdict.proofs.ModelLemmas.{rails_at-proper, map-map}
+
+-- the first rail says where a value is 1
+pub one_rail : (a : Arena) (r : Rails) (v : List Bool) → den a r.one v ≡ is_one (value_of a r v)
+one_rail a r v = by (den a r.one v) (den a r.zero v)
+  where
+    by : (one zero_ : Bool) → one ≡ is_one (trit_of one zero_)
+    by true z = refl
+    by false true = refl
+    by false false = refl
+
+-- the value of the rails at a place
+pub value_at-place : (a : Arena) (rails : List Rails) (k : ℕ) (v : List Bool) → k < length rails → value_of a (rails_at rails k) v ≡ get_or (values_of a rails v) k X
+value_at-place a rails k v less = sym (get_or-map (λ (r : Rails). value_of a r v) rails k unknown X less)
+
+-- where the rails stand for bits, so do those of some columns
+pub inputs-values : (a : Arena) (net : Parts) (columns : List ℕ) (first : ℕ) (rails list : List Rails) (values v : List Bool) →
+    All (λ column. column - first < length rails) columns → list ≡ map (λ column. rails_at rails (column - first)) columns →
+    values_of a rails v ≡ bits values → values_of a list v ≡ bits (inputs_at (model_of net first columns) values)
+inputs-values a net columns first rails list values v within is are =
+    ap (λ (l : List Rails). values_of a l v) is
+    ∙ map-map {C = Trit} (λ r. value_of a r v) (λ column. rails_at rails (column - first)) columns
+    ∙ map_agree (λ column. value_of a (rails_at rails (column - first)) v) (λ column. bit (get_or values (column - first) false)) columns
+    (λ k d less.
+    let place : ℕ = get_or columns k d - first in
+    let inside : place < length rails = within k d less in
+    let long : length rails ≡ length values = sym (length-map rails (λ (r : Rails). value_of a r v)) ∙ ap length are ∙ length-map values bit in
+    value_at-place a rails place v inside
+    ∙ ap (λ (ts : List Trit). get_or ts place X) are
+    ∙ get_or-map bit values place false X (omega (arith, inside, long)))
+    ∙ sym (map-map {C = Trit} bit (λ column. get_or values (column - first) false) columns)
+
+pub inputs-proper : (a : Arena) (columns : List ℕ) (first : ℕ) (rails list : List Rails) → All (AreRailsOf a) rails →
+    list ≡ map (λ column. rails_at rails (column - first)) columns → All (AreRailsOf a) list
+inputs-proper a columns first rails list proper is = subst (All (AreRailsOf a)) (sym is)
+    (All-map (AreRailsOf a) (λ column. rails_at rails (column - first)) columns (λ k d less. rails_at-proper a rails proper (slice_index_or columns k d - first)))
+
+-- so the output's first rail tells whether the model holds
+pub output-holds : (a : Arena) (net : Parts) (columns : List ℕ) (first : ℕ) (wires : List Rails) (none : Sig) (values v : List Bool) →
+    length wires ≡ count net → IsNetlist net → 0 < length net.outputs →
+    values_of a wires v ≡ fix net (bits (inputs_at (model_of net first columns) values)) →
+    den a (rails_at wires (get_or net.outputs 0 none).0).one v ≡ holds_at (model_of net first columns) values
+output-holds a net columns first wires none values v wide valid some are =
+    let output : Sig = get_or net.outputs 0 none in
+    let inside : output.0 < count net = valid.outputs 0 none some in
+    one_rail a (rails_at wires output.0) v
+    ∙ ap is_one (value_at-place a wires output.0 v (omega (arith, wide, inside))
+    ∙ ap (λ (ts : List Trit). get_or ts output.0 X) are
+    ∙ sym (get_or-map (wire (fix net (bits (inputs_at (model_of net first columns) values)))) net.outputs 0 none X some))
+
+-- a model that is there, of its parts
+pub model_there : (o : Option CareModel) (net : Parts) (columns : List ℕ) (first width : ℕ) → Some net ≡ option_map (λ model. model.net) o →
+    columns ≡ option_map_or (λ model. model.columns) o [] → IfSome o (ReadsWithin first width) → o ≡ Some (model_of net first columns)
+model_there None net columns first width there are reads = cc
+model_there (Some model) net columns first width there are reads =
+    let net_is : net ≡ model.net = same_Some net model.net there in
+    ap₂ (λ (n : Parts) (cs : List ℕ). Some (model_of n model.first cs)) (sym net_is) (sym are)
+    ∙ ap (λ (f : ℕ). Some (model_of net f columns)) reads.start
+
+pub model_is : (o : Option CareModel) (model : CareModel) (P : CareModel → Type 0) → o ≡ Some model → IfSome o P → P model
+model_is o model P is holds = subst (λ (p : Option CareModel). IfSome p P) is holds
+
+pub none_there : (o : Option CareModel) → (let nothing : Option Parts = None in nothing) ≡ option_map (λ model. model.net) o → o ≡ None
+none_there None e = refl
+none_there (Some model) e = cc

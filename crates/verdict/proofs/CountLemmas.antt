@@ -1,0 +1,111 @@
+-- Numbers of sweeps on the vectors of a care set.
+use Rattle.std.proofs.Common.{◌≡◌, ◌==◌, ℕ, zero, suc, ◌<◌, ◌≤◌, Bool, true, false, not, ◌&&◌, if◌then◌else◌, List, [], ◌∷◌, length, map, get_or, slice_get, Option, Some, None, refl, sym, ap, ap₂, ◌∙◌, subst, arith}
+use Rattle.std.specs.List.{list_all}
+use Rattle.std.specs.Option.{option_map_or}
+use Rattle.std.proofs.lemmas.Bool.{and_parts, and_from, eqb-true, eq-eqb}
+use Rattle.std.proofs.lemmas.List.{length-map}
+use Rattle.bdd_store.specs.declared.node.Node.{Node}
+use Rattle.bdd_store.specs.declared.node.Entry.{Entry}
+use Rattle.bdd_store.specs.Arena.{Arena, chosen, den, den_within}
+use Rattle.bdd_store.specs.Soundness.{IsSound}
+use Rattle.cyc_base.specs.declared.trit.Trit.{Trit}
+use Rattle.cyc_base.specs.declared.trit.Trit.TheVariants.{Zero, One, X}
+use Rattle.cyc_base.specs.Values.{bit, bits}
+use Rattle.dual_rail.specs.declared.rail.Rails.{Rails}
+use Rattle.dual_rail.specs.Rails.{trit_of, value_of, values_of}
+use Rattle.netlist.specs.declared.parts.Parts.{Parts}
+use Rattle.loops.specs.Cuts.{Loops}
+use Rattle.loops.specs.Sweeps.{CutsAreFixed, IsCountOfSweeps}
+use Rattle.loops.proofs.Reading.{map_agree}
+use Rattle.care_sets.specs.Care.{CareSet, columns, is_one, is_care_vector}
+use Rattle.refusals.specs.Refusals.{is_x}
+use Rattle.refusals.proofs.RefusalLemmas.{bits_back, length-bits}
+use Rattle.verdict.specs.Sets.{Tells, AreColumns}
+use Rattle.verdict.specs.Verdicts.{are_care_values}
+
+-- ---- lists of any length
+
+-- the first bits of a list, with 0 where it has none
+fit : ℕ → List Bool → List Bool
+fit zero bs = []
+fit (suc n) [] = false ∷ fit n []
+fit (suc n) (b ∷ bs) = b ∷ fit n bs
+
+length-fit : (n : ℕ) (bs : List Bool) → length (fit n bs) ≡ n
+unfolding fit
+length-fit zero bs = refl
+length-fit (suc n) [] = ap suc (length-fit n [])
+length-fit (suc n) (b ∷ bs) = ap suc (length-fit n bs)
+
+get_or-fit : (n : ℕ) (bs : List Bool) (i : ℕ) → i < n → get_or (fit n bs) i false ≡ get_or bs i false
+unfolding fit
+get_or-fit zero bs i inside = absurd (omega (arith, inside))
+get_or-fit (suc n) [] zero inside = refl
+get_or-fit (suc n) [] (suc i) inside = get_or-fit n [] i (omega (arith, inside))
+get_or-fit (suc n) (b ∷ bs) zero inside = refl
+get_or-fit (suc n) (b ∷ bs) (suc i) inside = get_or-fit n bs i (omega (arith, inside))
+
+-- a node reads the bits at variables of its store alone
+within-fit : (vars : ℕ) (es : List Entry) → IsSound vars es → (bs : List Bool) (k n : ℕ) → den_within k es n (fit vars bs) ≡ den_within k es n bs
+unfolding den_within
+within-fit vars es sound bs zero n = refl
+within-fit vars es sound bs (suc k) zero = refl
+within-fit vars es sound bs (suc k) (suc zero) = refl
+within-fit vars es sound bs (suc k) (suc (suc p)) = by (within-fit vars es sound bs k) (slice_get es p) refl
+  where
+    by : ((n : ℕ) → den_within k es n (fit vars bs) ≡ den_within k es n bs) → (o : Option Entry) → slice_get es p ≡ o →
+        option_map_or (λ e. den_within k es (chosen e (fit vars bs)) (fit vars bs)) o false ≡ option_map_or (λ e. den_within k es (chosen e bs) bs) o false
+    by before None is = refl
+    by before (Some e) is =
+        before (chosen e (fit vars bs))
+        ∙ ap (λ (t : Bool). den_within k es (if t then e.hi.number else e.lo.number) bs) (get_or-fit vars bs e.var (sound.each p e is).within)
+
+den-fit : (a : Arena) → IsSound a.vars a.entries → (n : Node) (bs : List Bool) → den a n (fit a.vars bs) ≡ den a n bs
+den-fit a sound n bs = within-fit a.vars a.entries sound bs (suc n.number) n.number
+
+values_of-fit : (a : Arena) → IsSound a.vars a.entries → (rails : List Rails) (bs : List Bool) → values_of a rails (fit a.vars bs) ≡ values_of a rails bs
+values_of-fit a sound rails bs =
+    map_agree (λ r. value_of a r (fit a.vars bs)) (λ r. value_of a r bs) rails
+    (λ k d less. ap₂ trit_of (den-fit a sound (get_or rails k d).one bs) (den-fit a sound (get_or rails k d).zero bs))
+
+-- ---- values of care vectors
+
+known-bits : (ts : List Trit) → list_all (λ value. not (is_x value)) ts ≡ true → ts ≡ bits (map is_one ts)
+known-bits [] e = refl
+known-bits (t ∷ ts) e =
+    let p = and_parts (not (is_x t)) (list_all (λ value. not (is_x value)) ts) e in
+    ap₂ (λ x xs. x ∷ xs) (one t p.0) (known-bits ts p.1)
+  where
+    one : (t : Trit) → not (is_x t) ≡ true → t ≡ bit (is_one t)
+    one Zero e = refl
+    one One e = refl
+    one X e = cc
+
+bits-known : (w : List Bool) → list_all (λ value. not (is_x value)) (bits w) ≡ true
+bits-known [] = refl
+bits-known (false ∷ w) = bits-known w
+bits-known (true ∷ w) = bits-known w
+
+care-values : (net : Parts) (care : CareSet) (w : List Bool) → length w ≡ columns net → is_care_vector net care w ≡ true → are_care_values net care (bits w) ≡ true
+care-values net care w wide counts =
+    and_from _ _ (bits-known w) (and_from _ _ (eq-eqb (length (bits w)) (columns net) (length-bits w ∙ wide)) (ap (is_care_vector net care) (bits_back w) ∙ counts))
+
+-- a number of sweeps on the vectors of a set is one on care
+pub count-on-care : (net : Parts) (care : CareSet) (loops : Loops) (a : Arena) (given : List Rails) (set : Node) (gate k : ℕ) → IsSound a.vars a.entries → AreColumns a given → a.vars ≡ columns net →
+    Tells a set (is_care_vector net care) →
+    ((bs : List Bool) → den a set bs ≡ true → CutsAreFixed net loops (values_of a given bs) gate k) →
+    ((j : ℕ) → ((bs : List Bool) → den a set bs ≡ true → CutsAreFixed net loops (values_of a given bs) gate j) → k ≤ j) →
+    IsCountOfSweeps net loops (are_care_values net care) gate k
+count-on-care net care loops a given set gate k sound are vars told enough least = record {
+  enough = λ v is.
+      let first = and_parts (list_all (λ value. not (is_x value)) v) (length v == columns net && is_care_vector net care (map is_one v)) is in
+      let second = and_parts (length v == columns net) (is_care_vector net care (map is_one v)) first.1 in
+      let w : List Bool = map is_one v in
+      let wide : length w ≡ a.vars = length-map v is_one ∙ eqb-true (length v) (columns net) second.0 ∙ sym vars in
+      subst (λ (u : List Trit). CutsAreFixed net loops u gate k) (are.values w wide ∙ sym (known-bits v first.0)) (enough w (told.value w wide ∙ second.1));
+  least = λ j fixed. least j (λ bs is.
+      let w : List Bool = fit a.vars bs in
+      let wide : length w ≡ a.vars = length-fit a.vars bs in
+      let counts : is_care_vector net care w ≡ true = sym (told.value w wide) ∙ den-fit a sound set bs ∙ is in
+      subst (λ (u : List Trit). CutsAreFixed net loops u gate j) (sym (are.values w wide) ∙ values_of-fit a sound given bs) (fixed (bits w) (care-values net care w (wide ∙ vars) counts)));
+}

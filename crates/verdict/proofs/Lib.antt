@@ -1,0 +1,10 @@
+mod CareLemmas
+mod CauseLemmas
+mod ColumnLemmas
+mod CountLemmas
+mod ModelLemmas
+mod NextLemmas
+mod PartLemmas
+mod SetLemmas
+mod StartLemmas
+mod VerdictLemmas

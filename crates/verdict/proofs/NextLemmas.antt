@@ -1,0 +1,120 @@
+-- The rails of what the latches load, one after another.
+use Rattle.std.proofs.Common.{◌≡◌, ℕ, zero, suc, ◌+◌, ◌<◌, Bool, true, false, ◌&&◌, List, [], ◌∷◌, ◌++◌, length, map, get_or, take, slice_get, Some, refl, sym, ap, ap₂, ◌∙◌, subst, arith}
+use Rattle.std.proofs.lemmas.List.{map-append, take-map, take_all, take_more, length_push, get_or-map, length-map}
+use Rattle.std.proofs.lemmas.List.Elements.{All-append}
+use Rattle.std.proofs.lemmas.Option.{get_or_from_slice_get, slice_get_within}
+use Rattle.std.specs.List.{All}
+use Rattle.bdd_store.specs.declared.node.Node.{Node}
+use Rattle.bdd_store.specs.Arena.{Arena, den, IsNodeOf}
+use Rattle.bdd_store.specs.Growth.{KeepsNodes}
+use Rattle.cyc_base.specs.declared.trit.Trit.{Trit}
+use Rattle.cyc_base.specs.declared.trit.Trit.TheVariants.{X}
+use Rattle.cyc_base.specs.Values.{bits}
+use Rattle.dual_rail.specs.declared.rail.Rails.{Rails}
+use Rattle.dual_rail.specs.Rails.{AreRailsOf, trit_of, value_of, values_of}
+use Rattle.dual_rail.proofs.SurelyLemmas.{All-rails-kept, value_of-kept, values_of-kept}
+use Rattle.netlist.specs.declared.parts.Latch.{Latch}
+use Rattle.netlist.specs.declared.parts.Parts.{Parts}
+use Rattle.netlist.specs.Fixpoint.{wire, fix, next}
+use Rattle.netlist.specs.Netlists.{IsNetlist, count}
+use Rattle.care_sets.specs.Care.{is_one}
+use Rattle.refusals.specs.Refusals.{next_state}
+use Rattle.verdict.specs.Models.{rails_at}
+use Rattle.verdict.specs.Sets.{AreFixed}
+use Rattle.verdict.proofs.CareLemmas.{one_rail, value_at-place}
+use Rattle.verdict.proofs.ModelLemmas.{rails_at-proper}
+
+-- ---- rails on a set
+
+restricted-values : (c one zero_ : Bool) → c ≡ true → trit_of (c && one) (c && zero_) ≡ trit_of one zero_
+restricted-values true one z e = refl
+restricted-values false one z e = cc
+
+restricted-apart : (c one zero_ : Bool) → (one && zero_) ≡ false → ((c && one) && (c && zero_)) ≡ false
+restricted-apart true one z e = e
+restricted-apart false one z e = refl
+
+pub restricted-value : (s t : Arena) (set : Node) (r made : Rails) (v : List Bool) → den t made.one v ≡ (den s set v && den s r.one v) → den t made.zero v ≡ (den s set v && den s r.zero v) →
+    den s set v ≡ true → value_of t made v ≡ value_of s r v
+restricted-value s t set r made v one_is zero_is in_set = ap₂ trit_of one_is zero_is ∙ restricted-values (den s set v) (den s r.one v) (den s r.zero v) in_set
+
+pub restricted-proper : (s t : Arena) (set : Node) (r made : Rails) → AreRailsOf s r → IsNodeOf t made.one → IsNodeOf t made.zero →
+    ((v : List Bool) → den t made.one v ≡ (den s set v && den s r.one v)) → ((v : List Bool) → den t made.zero v ≡ (den s set v && den s r.zero v)) → AreRailsOf t made
+restricted-proper s t set r made is one zero_ one_is zero_is = record {
+  one = one;
+  zero = zero_;
+  proper = λ v. ap₂ (λ x y. x && y) (one_is v) (zero_is v) ∙ restricted-apart (den s set v) (den s r.one v) (den s r.zero v) (is.proper v);
+}
+
+-- ---- latch by latch
+
+-- the rails of what the first n latches load, where the set is true
+pub record AreFirstNext (net : Parts) (s : Arena) (set : Node) (a : Arena) (n : ℕ) (list : List Rails) : Type 0 where
+  pub width : length list ≡ n
+  pub proper : All (AreRailsOf a) list
+  pub values : (v : List Bool) → length v ≡ s.vars → den s set v ≡ true → values_of a list v ≡ take n (next net (bits v))
+
+pub next-start : (net : Parts) (s : Arena) (set : Node) → AreFirstNext net s set s 0 []
+next-start net s set = record { width = refl; proper = λ k d less. absurd (omega (arith, less)); values = λ v wide in_set. refl }
+
+one_proper : (a : Arena) (r : Rails) → AreRailsOf a r → All (AreRailsOf a) (r ∷ [])
+one_proper a r is zero d less = is
+one_proper a r is (suc k) d less = absurd (omega (arith, less))
+
+-- what one latch loads
+next-more-list : (net : Parts) (v : List Trit) (n : ℕ) (latch : Latch) → slice_get net.latches n ≡ Some latch → take (n + 1) (next net v) ≡ take n (next net v) ++ wire (fix net v) latch.from ∷ []
+next-more-list net v n latch found =
+    let inside : n < length net.latches = slice_get_within net.latches n latch found in
+    let long = length-map net.latches (λ (l : Latch). wire (fix net v) l.from) in
+    take_more (next net v) n X (omega (arith, inside, long))
+    ∙ ap (λ (t : Trit). take n (next net v) ++ t ∷ []) (get_or-map (λ (l : Latch). wire (fix net v) l.from) net.latches n latch X inside
+    ∙ ap (λ (l : Latch). wire (fix net v) l.from) (get_or_from_slice_get net.latches n latch latch found))
+
+-- the source's rails
+pub source-value : (net : Parts) (a : Arena) (rails : List Rails) (n : ℕ) (latch : Latch) (v : List Bool) → IsNetlist net → AreFixed net a rails → slice_get net.latches n ≡ Some latch → length v ≡ a.vars →
+    value_of a (rails_at rails latch.from.0) v ≡ wire (fix net (bits v)) latch.from
+source-value net a rails n latch v valid fixed found wide =
+    value_at-place a rails latch.from.0 v (let w = fixed.width in let s = source-within net n latch valid found in omega (arith, w, s))
+    ∙ ap (λ (ts : List Trit). get_or ts latch.from.0 X) (fixed.values v wide)
+  where
+    source-within : (net : Parts) (n : ℕ) (latch : Latch) → IsNetlist net → slice_get net.latches n ≡ Some latch → latch.from.0 < count net
+    source-within net n latch valid found =
+        subst (λ (l : Latch). l.from.0 < count net) (get_or_from_slice_get net.latches n latch latch found) (valid.sources n latch (slice_get_within net.latches n latch found))
+
+pub next-more : (net : Parts) (s d e : Arena) (set : Node) (rails list : List Rails) (n : ℕ) (latch : Latch) (made : Rails) → IsNetlist net → IsNodeOf s set → KeepsNodes s d → KeepsNodes d e →
+    AreFixed net s rails → slice_get net.latches n ≡ Some latch → AreFirstNext net s set d n list → AreRailsOf e made →
+    ((v : List Bool) → den d set v ≡ true → value_of e made v ≡ value_of d (rails_at rails latch.from.0) v) →
+    AreFirstNext net s set e (n + 1) (list ++ made ∷ [])
+next-more net s d e set rails list n latch made valid in_set first second fixed found before proper value = record {
+  width = length_push list made ∙ ap (λ k. k + 1) before.width;
+  proper = All-append (AreRailsOf e) list (made ∷ []) (All-rails-kept second list before.proper) (one_proper e made proper);
+  values = λ v wide is_in.
+      map-append (λ (q : Rails). value_of e q v) list (made ∷ [])
+      ∙ ap₂ (λ (xs : List Trit) (x : Trit). xs ++ x ∷ [])
+      (values_of-kept second list before.proper v ∙ before.values v wide is_in)
+      (value v (first.function set v in_set ∙ is_in)
+      ∙ value_of-kept first (rails_at rails latch.from.0) (rails_at-proper s rails fixed.proper latch.from.0) v
+      ∙ source-value net s rails n latch v valid fixed found wide)
+      ∙ sym (next-more-list net (bits v) n latch found);
+}
+
+pub next-end : (net : Parts) (s a : Arena) (set : Node) (n : ℕ) (list : List Rails) → n ≡ length net.latches → AreFirstNext net s set a n list →
+    (v : List Bool) → length v ≡ s.vars → den s set v ≡ true → values_of a list v ≡ next net (bits v)
+next-end net s a set n list end is v wide is_in =
+    is.values v wide is_in ∙ take_all n (next net (bits v)) (let long = length-map net.latches (λ (l : Latch). wire (fix net (bits v)) l.from) in omega (arith, long, end))
+
+-- ---- at one vector
+
+pub state-more : (net : Parts) (a : Arena) (rails : List Rails) (v : List Bool) (n : ℕ) (latch : Latch) (b : Bool) → IsNetlist net → AreFixed net a rails → length v ≡ a.vars →
+    slice_get net.latches n ≡ Some latch → b ≡ den a (rails_at rails latch.from.0).one v →
+    take n (next_state net v) ++ b ∷ [] ≡ take (n + 1) (next_state net v)
+state-more net a rails v n latch b valid fixed wide found is =
+    ap₂ (λ (xs : List Bool) (x : Bool). xs ++ x ∷ []) (take-map is_one n (next net (bits v)))
+    (is ∙ one_rail a (rails_at rails latch.from.0) v ∙ ap is_one (source-value net a rails n latch v valid fixed found wide))
+    ∙ sym (map-append is_one (take n (next net (bits v))) (wire (fix net (bits v)) latch.from ∷ []))
+    ∙ ap (map is_one) (sym (next-more-list net (bits v) n latch found))
+    ∙ sym (take-map is_one (n + 1) (next net (bits v)))
+
+pub state-end : (net : Parts) (v : List Bool) (n : ℕ) → n ≡ length net.latches → take n (next_state net v) ≡ next_state net v
+state-end net v n end =
+    take_all n (next_state net v) (let one = length-map (next net (bits v)) is_one in let two = length-map net.latches (λ (l : Latch). wire (fix net (bits v)) l.from) in omega (arith, one, two, end))

@@ -1,0 +1,72 @@
+-- The least vector of a set.
+use Rattle.std.proofs.Common.{◌≡◌, ◌==◌, ℕ, zero, suc, Bool, true, false, cond, List, [], ◌∷◌, length, map, Option, Some, None, refl, sym, ap, ap₂, ◌∙◌, arith, true≢false}
+use Rattle.std.specs.Prelude.{find, is_none}
+use Rattle.std.specs.Option.{option_or, option_map}
+use Rattle.std.proofs.lemmas.Bool.{eqb-true, eq-eqb}
+use Rattle.std.proofs.lemmas.List.Folds.{find-append}
+use Rattle.bdd_store.specs.declared.node.Node.{Node}
+use Rattle.bdd_store.specs.Arena.{Arena, constant, den, den_within, IsNodeOf}
+use Rattle.bdd_store.specs.Soundness.{IsLawful}
+use Rattle.bdd_ops.specs.Least.{IsLeast}
+use Rattle.bdd_ops.specs.Least as ops
+use Rattle.refusals.specs.Vectors.{vectors, AtMost}
+use Rattle.refusals.proofs.FirstLemmas.{find-map, found_passes, none_passes, nothing_passes, found_wide, found_least}
+
+-- two vectors of one width that are each at most the other
+same_vectors : (v w : List Bool) → length v ≡ length w → ops.AtMost v w → AtMost w v → v ≡ w
+same_vectors [] [] long there back = refl
+same_vectors [] (b ∷ w) long there back = absurd (omega arith)
+same_vectors (b ∷ v) [] long there back = absurd (omega arith)
+same_vectors (false ∷ v) (false ∷ w) long there back = ap (λ u. false ∷ u) (same_vectors v w (omega arith) there back)
+same_vectors (false ∷ v) (true ∷ w) long there back = absurd back
+same_vectors (true ∷ v) (false ∷ w) long there back = absurd there
+same_vectors (true ∷ v) (true ∷ w) long there back = ap (λ u. true ∷ u) (same_vectors v w (omega arith) there back)
+
+-- the least vector is the first of all
+pub least-first : (n : ℕ) (f : List Bool → Bool) (v : List Bool) → length v ≡ n → IsLeast f v → find f (vectors n) ≡ Some v
+least-first n f v wide least = by_found (find f (vectors n)) refl
+  where
+    by_found : (o : Option (List Bool)) → find f (vectors n) ≡ o → find f (vectors n) ≡ Some v
+    by_found None is = absurd (true≢false (sym least.true_there ∙ none_passes n f v is wide))
+    by_found (Some u) is =
+        let wide_u : length u ≡ n = found_wide n f u is in
+        is ∙ ap (λ w. Some w) (sym (same_vectors v u (wide ∙ sym wide_u) (least.before_all u (wide_u ∙ sym wide) (found_passes f (vectors n) u is)) (found_least n f u v is wide least.true_there)))
+
+-- tests that agree at all vectors of the width find the same
+pub find-alike : (n : ℕ) (f g : List Bool → Bool) → ((v : List Bool) → length v ≡ n → f v ≡ g v) → find f (vectors n) ≡ find g (vectors n)
+find-alike zero f g same = ap (λ t. let nothing : Option (List Bool) = None in cond t (Some []) nothing) (same [] refl)
+find-alike (suc n) f g same =
+    halves f
+    ∙ ap₂ (λ low high. option_or (option_map (λ (u : List Bool). false ∷ u) low) (option_map (λ (u : List Bool). true ∷ u) high))
+    (find-alike n (λ u. f (false ∷ u)) (λ u. g (false ∷ u)) (λ v wide. same (false ∷ v) (ap suc wide)))
+    (find-alike n (λ u. f (true ∷ u)) (λ u. g (true ∷ u)) (λ v wide. same (true ∷ v) (ap suc wide)))
+    ∙ sym (halves g)
+  where
+    halves : (p : List Bool → Bool) →
+        find p (vectors (suc n)) ≡ option_or (option_map (λ v. false ∷ v) (find (λ v. p (false ∷ v)) (vectors n))) (option_map (λ v. true ∷ v) (find (λ v. p (true ∷ v)) (vectors n)))
+    halves p =
+        find-append p (map (λ v. false ∷ v) (vectors n)) (map (λ v. true ∷ v) (vectors n))
+        ∙ ap₂ option_or (find-map p (λ v. false ∷ v) (vectors n)) (find-map p (λ v. true ∷ v) (vectors n))
+
+-- the constant false finds nothing
+pub never-none : (a : Arena) (n : Node) → n ≡ constant false → find (den a n) (vectors a.vars) ≡ None
+unfolding den_within
+never-none a n is = nothing_passes a.vars (den a n) (λ v wide. ap (λ (m : Node). den a m v) is)
+
+-- and no other node
+pub none-never : (a : Arena) → IsLawful a → (n : Node) → IsNodeOf a n → find (den a n) (vectors a.vars) ≡ None → n ≡ constant false
+none-never a lawful n in_n none =
+    lawful.canonical n (constant false) in_n (omega arith) (λ v wide. none_passes a.vars (den a n) v none wide ∙ sym (lawful.constants false v))
+
+-- the test for the constant false
+pub never_is : (a : Arena) → IsLawful a → (n c : Node) → IsNodeOf a n → c ≡ constant false → (r : Bool) → r ≡ (n.number == c.number) → r ≡ is_none (find (den a n) (vectors a.vars))
+never_is a lawful n c in_n c_is true is =
+    let same : n ≡ c = ap (λ (k : ℕ). let m : Node = record { number = k } in m) (eqb-true n.number c.number (sym is)) in
+    sym (ap is_none (never-none a n (same ∙ c_is)))
+never_is a lawful n c in_n c_is false is = by_found (find (den a n) (vectors a.vars)) refl
+  where
+    by_found : (o : Option (List Bool)) → find (den a n) (vectors a.vars) ≡ o → false ≡ is_none (find (den a n) (vectors a.vars))
+    by_found (Some v) found = sym (ap is_none found)
+    by_found None found =
+        let same : n ≡ c = none-never a lawful n in_n found ∙ sym c_is in
+        absurd (true≢false (sym (is ∙ eq-eqb n.number c.number (ap (λ (m : Node). m.number) same))))

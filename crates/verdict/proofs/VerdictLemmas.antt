@@ -1,0 +1,97 @@
+-- How the parts make the verdict.
+use Rattle.std.proofs.Common.{◌≡◌, ◌+◌, Bool, ◌&&◌, List, [], length, drop, Option, Some, None, refl, sym, ap, ap₂, ◌∙◌}
+use Rattle.std.specs.Prelude.{find, is_none, if◌then◌else◌}
+use Rattle.std.specs.Option.{option_or}
+use Rattle.std.proofs.lemmas.List.{length-append, drop-map}
+use Rattle.bdd_store.specs.declared.node.Node.{Node}
+use Rattle.bdd_store.specs.Arena.{Arena, den, IsNodeOf}
+use Rattle.bdd_store.specs.Growth.{KeepsNodes}
+use Rattle.cyc_base.specs.Values.{bit, bits}
+use Rattle.dual_rail.specs.declared.rail.Rails.{Rails}
+use Rattle.dual_rail.specs.Rails.{value_of, values_of}
+use Rattle.dual_rail.proofs.SurelyLemmas.{length-values}
+use Rattle.netlist.specs.declared.parts.Parts.{Parts}
+use Rattle.netlist.specs.Netlists.{IsNetlist}
+use Rattle.netlist.specs.Fixpoint.{fix, fix_gates}
+use Rattle.loops.specs.declared.parts.Blocks.{Blocks}
+use Rattle.loops.specs.declared.parts.Cut.{Cut}
+use Rattle.fixpoint.specs.declared.solved.Solved.{Solved}
+use Rattle.fixpoint.specs.Solved.{IsSolution}
+use Rattle.care_sets.specs.Care.{CareSet, columns, state_of, is_allowed, is_care_vector}
+use Rattle.refusals.specs.declared.refusal.Refusal.{Refusal}
+use Rattle.refusals.specs.declared.refusal.Refusal.TheVariants.{EmptyCare}
+use Rattle.refusals.specs.Acceptance.{Accepts}
+use Rattle.refusals.specs.Refusals.{initial_refusal, empty_refusal, undetermined_refusal, leaves_refusal, refusal}
+use Rattle.refusals.specs.Vectors.{vectors}
+use Rattle.refusals.proofs.FirstLemmas.{empty-filter}
+use Rattle.refusals.proofs.LawLemmas.{accepted_without_refusal}
+use Rattle.refusals.proofs.RefusalLemmas.{length-fix_gates}
+use Rattle.verdict.specs.Sets.{Tells, AreColumns, AreFixed, has_state_inside}
+use Rattle.verdict.specs.Verdicts.{later_refusal}
+use Rattle.verdict.proofs.PartLemmas.{told-first}
+
+-- ---- which part decides
+
+pub refused-initial : (net : Parts) (care : CareSet) (r : Refusal) → Some r ≡ initial_refusal net care → refusal net care ≡ Some r
+refused-initial net care r is =
+    ap (λ o. option_or o (option_or (empty_refusal net care) (option_or (undetermined_refusal net care) (option_or (leaves_refusal net care) None)))) (sym is)
+
+pub refused-empty : (net : Parts) (care : CareSet) → initial_refusal net care ≡ None → empty_refusal net care ≡ Some EmptyCare → refusal net care ≡ Some EmptyCare
+refused-empty net care initial is =
+    ap₂ (λ o p. option_or o (option_or p (option_or (undetermined_refusal net care) (option_or (leaves_refusal net care) None)))) initial is
+
+later-whole : (u l : Option Refusal) → option_or u (option_or l None) ≡ option_or u l
+later-whole (Some r) l = refl
+later-whole None None = refl
+later-whole None (Some r) = refl
+
+pub refused-later : (net : Parts) (care : CareSet) (found : Option Refusal) → initial_refusal net care ≡ None → empty_refusal net care ≡ None → found ≡ later_refusal net care → refusal net care ≡ found
+refused-later net care found initial empty is =
+    ap₂ (λ o p. option_or o (option_or p (option_or (undetermined_refusal net care) (option_or (leaves_refusal net care) None)))) initial empty
+    ∙ later-whole (undetermined_refusal net care) (leaves_refusal net care) ∙ sym is
+
+pub accepts-is : (net : Parts) (care : CareSet) → IsNetlist net → refusal net care ≡ None → Accepts net care
+accepts-is net care valid none = (accepted_without_refusal net care valid).0 none
+
+-- ---- the set of care vectors
+
+pub care-told : (net : Parts) (care : CareSet) (s t : Arena) (inside allowed set : Node) → Tells s inside (has_state_inside net care) → IsNodeOf s allowed →
+    ((v : List Bool) → length v ≡ s.vars → den s allowed v ≡ is_allowed care v) → KeepsNodes s t → IsNodeOf t set → ((v : List Bool) → den t set v ≡ (den s inside v && den s allowed v)) →
+    Tells t set (is_care_vector net care)
+care-told net care s t inside allowed set inside_is allowed_in allowed_is keeps set_in set_is = record {
+  node = set_in;
+  value = λ v wide. set_is v ∙ ap₂ (λ x y. x && y) (inside_is.value v (wide ∙ keeps.vars)) (allowed_is v (wide ∙ keeps.vars));
+}
+
+pub empty-is : (net : Parts) (care : CareSet) (a : Arena) (set : Node) (b : Bool) → a.vars ≡ columns net → Tells a set (is_care_vector net care) →
+    b ≡ is_none (find (den a set) (vectors a.vars)) → empty_refusal net care ≡ (let nothing : Option Refusal = None in if b then Some EmptyCare else nothing)
+empty-is net care a set b vars told is =
+    ap (λ t. let nothing : Option Refusal = None in if t then Some EmptyCare else nothing)
+    (empty-filter (is_care_vector net care) (vectors (columns net))
+    ∙ ap is_none (sym (told-first a set (is_care_vector net care) (columns net) vars (λ v wide. told.value v (wide ∙ sym vars))))
+    ∙ sym is)
+
+-- the latches' columns stand for the state
+pub state-values : (net : Parts) (a : Arena) (rails latches : List Rails) (v : List Bool) → AreColumns a rails → latches ≡ drop (length net.inputs) rails → length v ≡ a.vars →
+    values_of a latches v ≡ bits (state_of net v)
+state-values net a rails latches v are is wide =
+    ap (λ (l : List Rails). values_of a l v) is
+    ∙ sym (drop-map (λ (r : Rails). value_of a r v) (length net.inputs) rails)
+    ∙ ap (drop (length net.inputs)) (are.values v wide)
+    ∙ drop-map bit (length net.inputs) v
+
+-- ---- the fixpoint at the columns
+
+pub fixed-is : (net : Parts) (blocks : Blocks) (cut : Cut) (a : Arena) (given : List Rails) (solved : Solved) → AreColumns a given → a.vars ≡ columns net → IsSolution net blocks cut a given solved →
+    AreFixed net a solved.rails
+fixed-is net blocks cut a given solved are vars is = record {
+  width =
+      let w = are.width in
+      let given_wide = length-values a given [] in
+      sym (length-values a solved.rails [])
+      ∙ ap length (is.values [])
+      ∙ length-append (values_of a given []) (fix_gates net (values_of a given []))
+      ∙ ap₂ (λ m n. m + n) (given_wide ∙ w ∙ vars) (length-fix_gates net (values_of a given []));
+  proper = is.rails;
+  values = λ v wide. is.values v ∙ ap (fix net) (are.values v wide);
+}

@@ -1,0 +1,31 @@
+use Rattle.std.proofs.Common.{◌≡◌, ◌<◌, ◌∙◌, List, length, ap, get_or, arith}
+use Rattle.std.proofs.lemmas.List.{get_or_read}
+use Rattle.bdd_store.specs.Arena.{den}
+use Rattle.cyc_base.specs.declared.sig.Sig.{Sig}
+use Rattle.dual_rail.specs.declared.rail.Rails.{Rails}
+use Rattle.netlist.specs.Fixpoint.{fix}
+use Rattle.netlist.specs.Netlists.{count}
+use Rattle.verdict.specs.Models.{unknown, rails_at}
+use Rattle.verdict.proofs.CareLemmas.{inputs-proper, inputs-values, output-holds}
+use Rattle.verdict.proofs.care.holds_on.Goals as goal
+
+pub lift_gates-requires-clause-rails : goal.lift_gates-requires-clause-rails
+lift_gates-requires-clause-rails c =
+    inputs-proper c.args.d.now c.args.columns.now c.args.first c.args.rails.now c.deref.result.now c.requires.rails (c.deref.ensures.value ∙ c.in-Ok.ensures)
+
+pub returns-clause-holds : goal.returns-clause-holds
+returns-clause-holds c values v are =
+    let net = c.args.model.now in
+    let wires = c.in_ok-wires.wires.items in
+    let none : Sig = record { 0 = 0 } in
+    let outputs : c.outputs.result.now ≡ net.outputs = c.outputs.ensures.outputs in
+    let some : 0 < length net.outputs = omega (arith, c.requires.model.outputs) in
+    let output : Sig = get_or c.outputs.result.now 0 none in
+    let same : output ≡ get_or net.outputs 0 none = ap (λ (os : List Sig). get_or os 0 none) outputs in
+    let within : (get_or net.outputs 0 none).0 < count net = c.outputs.ensures.valid.outputs 0 none some in
+    let inside : output.0 < length wires = omega (arith, within, c.in_ok-wires.ensures.width, ap (λ (s : Sig). s.0) same) in
+    ap (λ (r : Rails). den c.lift_gates.new.d r.one v) (get_or_read wires output.0 c.index.result.now inside c.index.ensures unknown)
+    ∙ ap (λ (s : Sig). den c.lift_gates.new.d (rails_at wires s.0).one v) same
+    ∙ output-holds c.lift_gates.new.d net c.args.columns.now c.args.first wires none values v c.in_ok-wires.ensures.width c.outputs.ensures.valid some
+    (c.in_ok-wires.ensures.values v
+    ∙ ap (fix net) (inputs-values c.args.d.now net c.args.columns.now c.args.first c.args.rails.now c.deref.result.now values v c.requires.columns (c.deref.ensures.value ∙ c.in-Ok.ensures) are))

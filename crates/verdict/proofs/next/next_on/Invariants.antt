@@ -1,0 +1,9 @@
+use Rattle.bdd_store.specs.Growth.{KeepsNodes}
+use Rattle.verdict.proofs.NextLemmas.{AreFirstNext}
+use Rattle.verdict.proofs.next.next_on.Given as goal
+
+abbrev pub invariant-loop-number : goal.invariant-loop-number
+invariant-loop-number l = record {
+  keeps : KeepsNodes l.fn.d l.d;
+  first : AreFirstNext l.net l.fn.d l.set l.d l.number l.list.items;
+}

@@ -1,0 +1,16 @@
+use Rattle.std.proofs.Common.{◌≡◌, ◌&&◌, ◌<◌, ℕ, None}
+use Rattle.std.specs.Prelude.{find}
+use Rattle.bdd_store.specs.Growth.{KeepsNodes}
+use Rattle.netlist.specs.Netlists.{gate_sig}
+use Rattle.care_sets.specs.Care.{CareSet, columns, is_care_vector}
+use Rattle.refusals.specs.Refusals.{is_undetermined}
+use Rattle.refusals.specs.Vectors.{vectors}
+use Rattle.verdict.specs.Sets.{Tells}
+use Rattle.verdict.proofs.parts.undetermined.Given as goal
+
+abbrev pub invariant-loop-gate : goal.invariant-loop-gate
+invariant-loop-gate l = record {
+  keeps : KeepsNodes l.fn.d l.d;
+  none : (care : CareSet) → Tells l.fn.d l.set (is_care_vector l.net care) → (k : ℕ) → k < l.gate →
+      find (λ v. is_care_vector l.net care v && is_undetermined l.net (gate_sig l.net k) v) (vectors (columns l.net)) ≡ None;
+}

@@ -1,0 +1,4 @@
+pub mod Causes
+pub mod Models
+pub mod Sets
+pub mod Verdicts

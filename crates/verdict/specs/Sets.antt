@@ -1,0 +1,57 @@
+-- Sets of vectors as nodes of diagrams, whose variables are a netlist's columns.
+use Rattle.std.specs.Prelude.{◌≡◌, ◌-◌, ◌<◌, ◌&&◌, ℕ, Bool, not, List, length, All, take}
+use Rattle.bdd_store.specs.declared.node.Node.{Node}
+use Rattle.bdd_store.specs.Arena.{Arena, den, IsNodeOf}
+use Rattle.cyc_base.specs.Values.{bits}
+use Rattle.dual_rail.specs.declared.rail.Rails.{Rails}
+use Rattle.dual_rail.specs.Rails.{AreRailsOf, values_of}
+use Rattle.netlist.specs.declared.parts.Parts.{Parts}
+use Rattle.netlist.specs.Netlists.{count}
+use Rattle.netlist.specs.Fixpoint.{fix}
+use Rattle.care_sets.specs.declared.model.CareModel.{CareModel}
+use Rattle.care_sets.specs.Care.{CareSet, state_of, is_in_invariant}
+use Rattle.refusals.specs.Refusals.{is_initial}
+
+-- the node is true at the vectors that pass the test
+pub record Tells (a : Arena) (n : Node) (test : List Bool → Bool) : Type 0 where
+  pub node : IsNodeOf a n
+  pub value : (v : List Bool) → length v ≡ a.vars → den a n v ≡ test v
+
+-- true where the first node is and the second isn't
+abbrev pub difference : Arena → Node → Node → List Bool → Bool
+difference a m n v = den a m v && not (den a n v)
+
+-- the inits permit the vector's state
+abbrev pub starts : Parts → List Bool → Bool
+starts net v = is_initial net (state_of net v)
+
+-- the vector's state is in the invariant
+abbrev pub has_state_inside : Parts → CareSet → List Bool → Bool
+has_state_inside net care v = is_in_invariant care (state_of net v)
+
+-- the rails of the first columns
+pub record AreFirstColumns (a : Arena) (k : ℕ) (rails : List Rails) : Type 0 where
+  pub width : length rails ≡ k
+  pub proper : All (AreRailsOf a) rails
+  pub values : (v : List Bool) → length v ≡ a.vars → values_of a rails v ≡ bits (take k v)
+
+-- the rails of all columns: at each vector they stand for it
+pub record AreColumns (a : Arena) (rails : List Rails) : Type 0 where
+  pub width : length rails ≡ a.vars
+  pub proper : All (AreRailsOf a) rails
+  pub values : (v : List Bool) → length v ≡ a.vars → values_of a rails v ≡ bits v
+
+-- the rails of all signals: at each vector they stand for the fixpoint
+pub record AreFixed (net : Parts) (a : Arena) (rails : List Rails) : Type 0 where
+  pub width : length rails ≡ count net
+  pub proper : All (AreRailsOf a) rails
+  pub values : (v : List Bool) → length v ≡ a.vars → values_of a rails v ≡ fix net (bits v)
+
+-- a care model, of its parts
+abbrev pub model_of : Parts → ℕ → List ℕ → CareModel
+model_of net first columns = record { net = net; first = first; columns = columns }
+
+-- the model reads so many columns at most, from `first` on
+pub record ReadsWithin (first width : ℕ) (model : CareModel) : Type 0 where
+  pub start : model.first ≡ first
+  pub within : All (λ column. column - first < width) model.columns

@@ -1,0 +1,62 @@
+-- The verdict of a netlist on a care set.
+use Rattle.std.specs.Prelude.{◌≡◌, ◌<◌, ◌==◌, ◌&&◌, ℕ, Bool, true, false, not, List, length, map, None, Some}
+use Rattle.std.specs.declared.option.Option.{Option}
+use Rattle.std.specs.List.{list_all}
+use Rattle.std.specs.Option.{option_or}
+use Rattle.bdd_store.specs.declared.node.Node.{Node}
+use Rattle.bdd_store.specs.Arena.{Arena}
+use Rattle.cyc_base.specs.declared.trit.Trit.{Trit}
+use Rattle.netlist.specs.declared.parts.Parts.{Parts}
+use Rattle.loops.specs.declared.parts.Blocks.{Blocks}
+use Rattle.loops.specs.declared.parts.Cut.{Cut}
+use Rattle.loops.specs.Blocks.{block_at, home_of}
+use Rattle.loops.specs.Cuts.{loops_by}
+use Rattle.loops.specs.Sweeps.{IsCountOfSweeps}
+use Rattle.fixpoint.specs.declared.solved.SweepCounts.{SweepCounts}
+use Rattle.fixpoint.specs.Counts.{count_at}
+use Rattle.care_sets.specs.Care.{CareSet, columns, is_one, is_care_vector}
+use Rattle.refusals.specs.Acceptance.{Accepts}
+use Rattle.refusals.specs.Refusals.{is_x, initial_refusal, empty_refusal, undetermined_refusal, leaves_refusal, refusal}
+use Rattle.refusals.specs.declared.refusal.Refusal.{Refusal}
+use Rattle.verdict.specs.declared.start.Start.{Start}
+use Rattle.verdict.specs.declared.start.Start.TheVariants as starts
+use Rattle.verdict.specs.declared.verdict.Verdict.{Verdict}
+use Rattle.verdict.specs.declared.verdict.Verdict.TheVariants.{Accepted, Refused}
+use Rattle.verdict.specs.Sets.{Tells}
+
+-- the values are known, and those of a care vector
+abbrev pub are_care_values : Parts → CareSet → List Trit → Bool
+are_care_values net care values =
+    list_all (λ value. not (is_x value)) values && (length values == columns net && is_care_vector net care (map is_one values))
+
+-- each loop has the number of sweeps that it needs on care, and another block has 0
+pub record AreSweepsOnCare (net : Parts) (blocks : Blocks) (cut : Cut) (care : CareSet) (counts : SweepCounts) : Type 0 where
+  pub width : length counts.per_block ≡ length blocks.list
+  pub loops : (gate : ℕ) → gate < length net.gates → (block_at blocks (home_of blocks gate)).looped ≡ true →
+      IsCountOfSweeps net (loops_by blocks cut) (are_care_values net care) gate (count_at counts (home_of blocks gate))
+  pub others : (b : ℕ) → (block_at blocks b).looped ≡ false → count_at counts b ≡ 0
+
+-- a netlist that is accepted, with the sweeps of its loops
+pub record IsAcceptance (net : Parts) (blocks : Blocks) (cut : Cut) (care : CareSet) (counts : SweepCounts) : Type 0 where
+  pub accepts : Accepts net care
+  pub sweeps : AreSweepsOnCare net blocks cut care counts
+
+-- accepted, or refused as the definition says
+abbrev pub IsVerdict : Parts → Blocks → Cut → CareSet → Verdict → Type 0
+IsVerdict net blocks cut care (Accepted counts) = IsAcceptance net blocks cut care counts
+IsVerdict net blocks cut care (Refused r) = refusal net care ≡ Some r
+
+-- the care vectors of a netlist whose initial states are in the invariant, and that has some
+pub record IsCareStart (net : Parts) (care : CareSet) (a : Arena) (set : Node) : Type 0 where
+  pub told : Tells a set (is_care_vector net care)
+  pub initial : initial_refusal net care ≡ None
+  pub some : empty_refusal net care ≡ None
+
+-- how far the decision comes without the gates
+abbrev pub IsStart : Parts → CareSet → Arena → Start → Type 0
+IsStart net care a (starts.Care set) = IsCareStart net care a set
+IsStart net care a (starts.Refused r) = refusal net care ≡ Some r
+
+-- what refuses a netlist for its gates: one that is undetermined, or else a state that leaves the invariant
+abbrev pub later_refusal : Parts → CareSet → Option Refusal
+later_refusal net care = option_or (undetermined_refusal net care) (leaves_refusal net care)

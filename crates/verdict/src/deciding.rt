@@ -1,0 +1,121 @@
+//! The decision.
+
+ghost use Rattle.std.specs.Prelude.{◌≡◌, ◌≤◌, ◌⊎◌, None, IfOk, IfErr};
+ghost use Rattle.bdd_store.specs.Growth.{KeepsNodes};
+ghost use Rattle.care_sets.specs.Binding.{IsCareOf};
+ghost use Rattle.care_sets.specs.Care.{columns, is_care_vector};
+ghost use Rattle.loops.specs.Blocks.{AreBlocksOf};
+ghost use Rattle.loops.specs.Cuts.{IsCutOf};
+ghost use Rattle.verdict.specs.Causes.{IsLimitedByCare, IsOutOfNodes};
+ghost use Rattle.verdict.specs.Sets.{AreFixed, Tells};
+ghost use Rattle.verdict.specs.Verdicts.{later_refusal, IsVerdict};
+
+use crate::columns::column_rails;
+use crate::fault::DecideFault;
+use crate::parts::{leaves, undetermined};
+use crate::start::{Start, begin};
+use crate::verdict::Verdict;
+use bdd_ops::Diagrams;
+use bdd_store::{Node, StoreFault};
+use care_sets::Care;
+use cyc_base::MAX_NODES;
+use dual_rail::Rails;
+use fixpoint::laws::solutions;
+use fixpoint::{solve, sweeps};
+use loops::{Blocks, Cut};
+use netlist::Netlist;
+use refusals::Refusal;
+use std::alloc::Global;
+
+/// The refusal of an undetermined gate, or else of a state that leaves the invariant. `set` are the vectors of
+/// care, and the rails of all signals stand for the fixpoint.
+#[tactic(auto, using(crate::proofs::CauseLemmas::full_limits_care))]
+fn later(
+    alloc: Global,
+    d: &mut Diagrams,
+    net: &Netlist,
+    care: &Care,
+    rails: &[Rails],
+    set: Node,
+) -> Result<Option<Refusal>, StoreFault>
+    requires vars { d.old.vars ≡ columns net.now }
+    requires care { IsCareOf net.now care.now }
+    requires fixed { AreFixed net.now d.old rails.now }
+    requires set { Tells d.old set (is_care_vector net.now care.now) }
+    ensures refusal { IfOk result (λ found. found ≡ later_refusal net.now care.now) }
+    ensures keeps { KeepsNodes d.old d.new }
+    ensures full { result ≡ Err StoreFault.Full → IsLimitedByCare d.new care.now }
+{
+    if let Some(refusal) = undetermined(alloc, d, net, rails, set)? {
+        return Ok(Some(refusal));
+    }
+    Ok(leaves(alloc, d, net, care, rails, set)?)
+}
+
+/// The verdict, on diagrams that have a variable for each column and no nodes.
+fn judge(
+    alloc: Global,
+    d: &mut Diagrams,
+    net: &Netlist,
+    blocks: &Blocks,
+    cut: &Cut,
+    care: &Care,
+) -> Result<Verdict, StoreFault>
+    requires blocks { AreBlocksOf net.now blocks.now }
+    requires cut { IsCutOf net.now cut.now }
+    requires care { IsCareOf net.now care.now }
+    requires vars { d.old.vars ≡ columns net.now }
+    ensures verdict { IfOk result (IsVerdict net.now blocks.now cut.now care.now) }
+    ensures full { result ≡ Err StoreFault.Full → IsOutOfNodes d.new net.now care.now d.old.limit }
+{
+    solutions();
+    let rails = column_rails(alloc, d)?;
+    let set = match begin(alloc, d, net, care, &rails)? {
+        Start::Care(set) => set,
+        Start::Refused(refusal) => return Ok(Verdict::Refused(refusal)),
+    };
+    let solved = solve(alloc, d, net, blocks, cut, &rails)?;
+    if let Some(refusal) = later(alloc, d, net, care, solved.rails.items(), set)? {
+        return Ok(Verdict::Refused(refusal));
+    }
+    d.store().laws();
+    let counts = sweeps(alloc, d, &solved, blocks, set)?;
+    Ok(Verdict::Accepted(counts))
+}
+
+/// Decides a netlist on a care set, by ternary simulation of all care vectors at once (Malik 1994; Shiple, Berry
+/// and Touati 1996). It starts the diagrams anew, with a variable for each column and the limit.
+///
+/// The answer is `Accepted` exactly where each permitted initial state is in the invariant, a care vector exists,
+/// and on every care vector each gate is determined and the next state is in the invariant; then with the number
+/// of sweeps that each loop needs on care. Else it is the refusal of the first of these parts that fails, with
+/// its least state or vector. `NodeLimit` carries the limit, and comes only where the diagrams hold as many nodes
+/// as the call ends, or a cover of the netlist or of a care model has more. Nothing more is said of the diagrams after the call.
+///
+/// The condition is that blocks, cut and care are the netlist's, and that the limit is at most 50,000,000.
+pub fn decide(
+    alloc: Global,
+    d: &mut Diagrams,
+    net: &Netlist,
+    blocks: &Blocks,
+    cut: &Cut,
+    care: &Care,
+    limit: u32,
+) -> Result<Verdict, DecideFault>
+    requires blocks { AreBlocksOf net.now blocks.now }
+    requires cut { IsCutOf net.now cut.now }
+    requires care { IsCareOf net.now care.now }
+    requires limit { limit ≤ MAX_NODES }
+    ensures verdict { IfOk result (IsVerdict net.now blocks.now cut.now care.now) }
+    ensures fault { IfErr result (λ fault. (fault ≡ DecideFault.Memory) ⊎ (fault ≡ DecideFault.NodeLimit limit)) }
+    ensures cause { result ≡ Err (DecideFault.NodeLimit limit) → IsOutOfNodes d.new net.now care.now limit }
+{
+    if d.start(net.inputs() + net.latches(), limit).is_err() {
+        return Err(DecideFault::Memory);
+    }
+    match judge(alloc, d, net, blocks, cut, care) {
+        Ok(verdict) => Ok(verdict),
+        Err(StoreFault::Full) => Err(DecideFault::NodeLimit { nodes: limit }),
+        Err(StoreFault::Memory) => Err(DecideFault::Memory),
+    }
+}

@@ -1,0 +1,130 @@
+//! The parts of acceptance: where one fails, its refusal.
+
+ghost use Rattle.std.specs.Prelude.{◌≡◌, ◌&&◌, ◌<◌, Bool, List, None, IfOk, drop, length, is_none};
+ghost use Rattle.bdd_store.specs.Arena.{den, IsNodeOf};
+ghost use Rattle.bdd_store.specs.Growth.{KeepsNodes};
+ghost use Rattle.dual_rail.specs.Rails.{value_of};
+ghost use Rattle.care_sets.specs.Binding.{IsCareOf};
+ghost use Rattle.care_sets.specs.Care.{CareSet, columns, is_care_vector};
+ghost use Rattle.refusals.specs.Refusals.{is_x, initial_refusal as initial_refusal_of, empty_refusal, undetermined_refusal, leaves_refusal};
+ghost use Rattle.verdict.specs.Causes.{IsFull, IsLimitedByCare};
+ghost use Rattle.verdict.specs.Sets.{Tells, AreFixed, starts as starts_in, has_state_inside};
+
+use crate::care::invariant_on;
+use crate::next::{next_of, next_on};
+use crate::sets::{least_of, minus};
+use bdd_ops::Diagrams;
+use bdd_store::{Node, StoreFault};
+use care_sets::Care;
+use cyc_base::Bits;
+use dual_rail::Rails;
+use netlist::Netlist;
+use refusals::Refusal;
+use std::alloc::{AllocError, Global};
+
+/// The values of the latches, where `first` is the column of the first.
+fn state_of(alloc: Global, first: usize, vector: &[bool]) -> Result<Vec<bool>, AllocError>
+    ensures { IfOk result (λ state. state.items ≡ drop first vector.now) }
+{
+    vector.iter().skip(first).copied().collect(alloc)
+}
+
+/// The least state that the inits permit and that isn't in the invariant, as a refusal. `starts` are the
+/// vectors of permitted states, and `inside` those of states in the invariant.
+pub(crate) fn initial_refusal(
+    alloc: Global,
+    d: &mut Diagrams,
+    net: &Netlist,
+    starts: Node,
+    inside: Node,
+) -> Result<Option<Refusal>, StoreFault>
+    requires vars { d.old.vars ≡ columns net.now }
+    requires starts { Tells d.old starts (starts_in net.now) }
+    requires inside { IsNodeOf d.old inside }
+    ensures refusal { (care : CareSet) → Tells d.old inside (has_state_inside net.now care) → IfOk result (λ found. found ≡ initial_refusal_of net.now care) }
+    ensures keeps { KeepsNodes d.old d.new }
+    ensures full { result ≡ Err StoreFault.Full → IsFull d.new }
+{
+    let outside = minus(d, starts, inside)?;
+    let Some(vector) = least_of(alloc, d, outside)? else {
+        return Ok(None);
+    };
+    let state = state_of(alloc, net.inputs() as usize, &vector)?;
+    Ok(Some(Refusal::Initial {
+        state: Bits::of(state),
+    }))
+}
+
+/// The vectors of a set on which these rails are unknown.
+fn unknown_on(d: &mut Diagrams, set: Node, rails: Rails) -> Result<Node, StoreFault>
+    requires set { IsNodeOf d.old set }
+    requires one { IsNodeOf d.old rails.one }
+    requires zero { IsNodeOf d.old rails.zero }
+    ensures node { IfOk result (IsNodeOf d.new) }
+    ensures unknown { IfOk result (λ found. (v : List Bool) → den d.new found v ≡ (den d.old set v && is_x (value_of d.old rails v))) }
+    ensures keeps { KeepsNodes d.old d.new }
+    ensures full { result ≡ Err StoreFault.Full → IsFull d.new }
+{
+    let open = minus(d, set, rails.one)?;
+    Ok(minus(d, open, rails.zero)?)
+}
+
+/// The first gate that is unknown at a vector of care, with the least such vector, as a refusal.
+pub(crate) fn undetermined(
+    alloc: Global,
+    d: &mut Diagrams,
+    net: &Netlist,
+    rails: &[Rails],
+    set: Node,
+) -> Result<Option<Refusal>, StoreFault>
+    requires vars { d.old.vars ≡ columns net.now }
+    requires fixed { AreFixed net.now d.old rails.now }
+    requires set { IsNodeOf d.old set }
+    ensures refusal { (care : CareSet) → Tells d.old set (is_care_vector net.now care) → IfOk result (λ found. found ≡ undetermined_refusal net.now care) }
+    ensures keeps { KeepsNodes d.old d.new }
+    ensures full { result ≡ Err StoreFault.Full → IsFull d.new }
+{
+    let first = net.inputs() + net.latches();
+    for gate in 0..net.gates() {
+        let unknown = unknown_on(d, set, rails[(first + gate) as usize])?;
+        if let Some(vector) = least_of(alloc, d, unknown)? {
+            return Ok(Some(Refusal::Undetermined {
+                vector: Bits::of(vector),
+                wire: net.gate_sig(gate),
+            }));
+        }
+    }
+    Ok(None)
+}
+
+/// The least vector of care whose next state isn't in the invariant, as a refusal. No gate is unknown on care.
+#[tactic(auto, using(crate::proofs::CauseLemmas::full_limits_care))]
+pub(crate) fn leaves(
+    alloc: Global,
+    d: &mut Diagrams,
+    net: &Netlist,
+    care: &Care,
+    rails: &[Rails],
+    set: Node,
+) -> Result<Option<Refusal>, StoreFault>
+    requires vars { d.old.vars ≡ columns net.now }
+    requires care { IsCareOf net.now care.now }
+    requires fixed { AreFixed net.now d.old rails.now }
+    requires set { Tells d.old set (is_care_vector net.now care.now) }
+    requires determined { undetermined_refusal net.now care.now ≡ None }
+    ensures refusal { IfOk result (λ found. found ≡ leaves_refusal net.now care.now) }
+    ensures keeps { KeepsNodes d.old d.new }
+    ensures full { result ≡ Err StoreFault.Full → IsLimitedByCare d.new care.now }
+{
+    let next = next_on(alloc, d, net, rails, set)?;
+    let inside = invariant_on(alloc, d, care, net.inputs(), &next)?;
+    let outside = minus(d, set, inside)?;
+    let Some(vector) = least_of(alloc, d, outside)? else {
+        return Ok(None);
+    };
+    let state = next_of(alloc, d, net, rails, &vector)?;
+    Ok(Some(Refusal::Leaves {
+        vector: Bits::of(vector),
+        next: Bits::of(state),
+    }))
+}

@@ -1,0 +1,104 @@
+//! What is decided before the gates: the initial states, and whether any vector counts.
+
+ghost use Rattle.std.specs.Prelude.{◌≡◌, ◌&&◌, Bool, List, length, All, IfOk, IfSome};
+ghost use Rattle.bdd_store.specs.Arena.{den, IsNodeOf};
+ghost use Rattle.bdd_store.specs.Growth.{KeepsNodes};
+ghost use Rattle.cyc_base.specs.Values.{bits};
+ghost use Rattle.dual_rail.specs.Rails.{AreRailsOf, values_of};
+ghost use Rattle.netlist.specs.Netlists.{IsNetlist};
+ghost use Rattle.care_sets.specs.Binding.{IsCareOf};
+ghost use Rattle.care_sets.specs.Care.{columns, is_allowed};
+ghost use Rattle.verdict.specs.Causes.{IsLimitedByCare};
+ghost use Rattle.verdict.specs.Sets.{AreColumns, Tells, ReadsWithin, has_state_inside};
+ghost use Rattle.verdict.specs.Verdicts.{IsStart};
+
+use crate::care::{assume_on, invariant_on};
+use crate::parts::initial_refusal;
+use crate::sets::is_never;
+use crate::starting::starts_on;
+use bdd_ops::Diagrams;
+use bdd_store::{Node, StoreFault};
+use care_sets::Care;
+use dual_rail::Rails;
+use netlist::Netlist;
+use refusals::Refusal;
+use std::alloc::Global;
+
+/// How far the decision comes without the gates.
+#[derive(Drop)]
+pub enum Start {
+    /// The vectors of care, of which there are some.
+    Care(Node),
+    Refused(Refusal),
+}
+
+/// The vectors whose states are in the invariant.
+fn inside_on(
+    alloc: Global,
+    d: &mut Diagrams,
+    net: &Netlist,
+    care: &Care,
+    rails: &[Rails],
+) -> Result<Node, StoreFault>
+    requires care { IsCareOf net.now care.now }
+    requires vars { d.old.vars ≡ columns net.now }
+    requires columns { AreColumns d.old rails.now }
+    ensures valid { IsNetlist net.now }
+    ensures told { IfOk result (λ set. Tells d.new set (has_state_inside net.now care.now)) }
+    ensures keeps { KeepsNodes d.old d.new }
+    ensures full { result ≡ Err StoreFault.Full → IsLimitedByCare d.new care.now }
+{
+    let first = net.inputs();
+    let latches = &rails[first as usize..];
+    Ok(invariant_on(alloc, d, care, first, latches)?)
+}
+
+/// The vectors of a set on which the assumption holds.
+#[tactic(auto, using(crate::proofs::CauseLemmas::full_limits_care, crate::proofs::CauseLemmas::past_is_full))]
+fn care_on(
+    alloc: Global,
+    d: &mut Diagrams,
+    care: &Care,
+    inside: Node,
+    rails: &[Rails],
+) -> Result<Node, StoreFault>
+    requires reads { IfSome care.now.assume (ReadsWithin 0 (length rails.now)) }
+    requires inside { IsNodeOf d.old inside }
+    requires rails { All (AreRailsOf d.old) rails.now }
+    ensures node { IfOk result (IsNodeOf d.new) }
+    ensures allowed { IfOk result (λ set. (values v : List Bool) → values_of d.old rails.now v ≡ bits values → den d.new set v ≡ (den d.old inside v && is_allowed care.now values)) }
+    ensures keeps { KeepsNodes d.old d.new }
+    ensures full { result ≡ Err StoreFault.Full → IsLimitedByCare d.new care.now }
+{
+    let allowed = assume_on(alloc, d, care, rails)?;
+    Ok(d.and(inside, allowed)?)
+}
+
+/// The vectors of care, or the refusal of an initial state or of an empty care set.
+#[tactic(auto, using(crate::proofs::CauseLemmas::full_limits_care))]
+pub(crate) fn begin(
+    alloc: Global,
+    d: &mut Diagrams,
+    net: &Netlist,
+    care: &Care,
+    rails: &[Rails],
+) -> Result<Start, StoreFault>
+    requires care { IsCareOf net.now care.now }
+    requires vars { d.old.vars ≡ columns net.now }
+    requires columns { AreColumns d.old rails.now }
+    ensures valid { IsNetlist net.now }
+    ensures start { IfOk result (IsStart net.now care.now d.new) }
+    ensures keeps { KeepsNodes d.old d.new }
+    ensures full { result ≡ Err StoreFault.Full → IsLimitedByCare d.new care.now }
+{
+    let inside = inside_on(alloc, d, net, care, rails)?;
+    let permitted = starts_on(d, net, rails)?;
+    if let Some(refusal) = initial_refusal(alloc, d, net, permitted, inside)? {
+        return Ok(Start::Refused(refusal));
+    }
+    let set = care_on(alloc, d, care, inside, rails)?;
+    if is_never(d, set) {
+        return Ok(Start::Refused(Refusal::EmptyCare));
+    }
+    Ok(Start::Care(set))
+}
