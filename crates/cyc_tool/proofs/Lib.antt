@@ -1,8 +1,8 @@
 pub mod AnswerLemmas
+pub mod CareLemmas
 pub mod CauseLemmas
-pub mod DecisionLemmas
+pub mod LoopTextLemmas
 pub mod ReadingLemmas
 pub mod RunLemmas
-pub mod SearchLemmas
 pub mod TellLemmas
-pub mod TextLemmas
+pub mod WordLemmas

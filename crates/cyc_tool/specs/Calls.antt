@@ -1,13 +1,20 @@
 -- What a call of `run` did with its shelf and its sinks.
-use Rattle.std.specs.Prelude.{◌≡◌, ◌⊎◌, ℕ, List, [], ◌∷◌, None, MatchOption}
+use Rattle.std.specs.Prelude.{◌≡◌, ◌⊎◌, ℕ, List, [], ◌∷◌, Some, None, Ok, IfSome, MatchOption}
 use Rattle.std.specs.declared.option.Option.{Option}
 use Rattle.std.specs.Io.KnownBytes.{Appends}
 use Rattle.cyc_io.specs.Faults.{Rose, Counts}
 use Rattle.cyc_io.specs.Files.{Files, IsFile}
 use Rattle.cyc_io.specs.Taken.{AppendsPrefix}
-use Rattle.cyc_tool.specs.Texts.{Outcome, no_memory}
-use Rattle.cyc_tool.specs.Words.{command_of}
-use Rattle.cyc_tool.specs.Answer.{File, Given, files_of_words, stop_at, outcome}
+use Rattle.bdd_store.specs.Arena.{Arena}
+use Rattle.cyc_tool.specs.Texts.{Outcome, limit_reached, no_memory}
+use Rattle.cyc_tool.specs.Words.{Options, Command, Check, command_of}
+use Rattle.cyc_tool.specs.Answer.{Netlist, File, Given, given_net, netlist_file, care_file, files_of_words, stop_at, limit_of, outcome}
+use Rattle.cyc_tool.specs.CareFiles.{no_care, care_of}
+use Rattle.cyc_tool.specs.Faults.{netlist_of}
+use Rattle.netlist.specs.declared.parts.Parts.{Parts}
+use Rattle.netlist.specs.Netlists.{IsNetlist}
+use Rattle.care_sets.specs.Care.{CareSet}
+use Rattle.verdict.specs.Causes.{IsOutOfNodes}
 
 -- a shelf over a call: its files, where it tells them, and its counts of faults before and after
 pub record ShelfCall : Type 0 where
@@ -51,11 +58,49 @@ GaveInOrder shelf given [] = Unit {0}
 GaveInOrder shelf given (file ∷ files) =
     Gave shelf file.1 (given file.0) × (stop_at given file ≡ None → GaveInOrder shelf given files)
 
--- The call came to this outcome: that of its words, at what the shelf gave; or it wants memory.
-pub data ComesTo (words : List (List ℕ)) (shelf : ShelfCall) (end : Outcome) : Type 0 where
-  Answers : (given : Given) → GaveInOrder shelf given (files_of_words (command_of words)) → end ≡ outcome words given
-      → ComesTo words shelf end
-  WantsMemory : end ≡ no_memory → ComesTo words shelf end
+-- A netlist that was given meets all conditions of one.
+abbrev pub GivenIsValid : Given → Type 0
+GivenIsValid given = IfSome (given_net (given Netlist)) IsNetlist
+
+-- The shelf gave the netlist of this name.
+pub record GaveNetlist (shelf : ShelfCall) (name : List ℕ) (net : Parts) : Type 0 where
+  pub bytes : List ℕ
+  pub gave : IsFile shelf.files name bytes
+  pub is : netlist_of bytes ≡ Ok net
+
+-- The shelf gave the care set of this name for the netlist.
+pub record GaveCareFile (shelf : ShelfCall) (name : List ℕ) (net : Parts) (care : CareSet) : Type 0 where
+  pub bytes : List ℕ
+  pub gave : IsFile shelf.files name bytes
+  pub is : care_of net bytes ≡ Ok care
+
+-- The same, where there is a care file.
+abbrev pub GaveCare : ShelfCall → Option (List ℕ) → Parts → CareSet → Type 0
+GaveCare shelf None net care = care ≡ no_care
+GaveCare shelf (Some name) net care = GaveCareFile shelf name net care
+
+-- The shelf gave all that a command works on, without a fault.
+pub record GaveAll (shelf : ShelfCall) (command : Command) (net : Parts) (care : CareSet) : Type 0 where
+  pub netlist : GaveNetlist shelf (netlist_file command) net
+  pub care_set : GaveCare shelf (care_file command) net care
+
+-- A decision met its limit: no file has a fault, and the diagrams are full or a cover is too
+-- large for it.
+pub record StopsAtLimit (shelf : ShelfCall) (nodes : Arena) (name : List ℕ) (options : Options) (end : Outcome) : Type 0 where
+  pub net : Parts
+  pub care : CareSet
+  pub gave : GaveAll shelf (Check name options) net care
+  pub cause : IsOutOfNodes nodes net care (limit_of options)
+  pub is : end ≡ limit_reached (limit_of options)
+
+-- The call came to this outcome: that of its words, at what the shelf gave; or its decision met the limit of nodes,
+-- which these diagrams show; or it wants memory.
+pub data ComesTo (words : List (List ℕ)) (shelf : ShelfCall) (nodes : Arena) (end : Outcome) : Type 0 where
+  Answers : (given : Given) → GaveInOrder shelf given (files_of_words (command_of words)) → GivenIsValid given
+      → end ≡ outcome words given → ComesTo words shelf nodes end
+  MeetsLimit : (name : List ℕ) (options : Options) → command_of words ≡ Some (Check name options)
+      → StopsAtLimit shelf nodes name options end → ComesTo words shelf nodes end
+  WantsMemory : end ≡ no_memory → ComesTo words shelf nodes end
 
 -- This was told whole.
 pub record IsTold (end : Outcome) (out err : SinkCall) (status : ℕ) : Type 0 where
@@ -75,7 +120,7 @@ abbrev pub Tells : Outcome → SinkCall → SinkCall → ℕ → Type 0
 Tells end out err status = IsTold end out err status ⊎ IsCutOff end out err status
 
 -- the theorem of a run, from which all the others follow
-pub record Runs (words : List (List ℕ)) (shelf : ShelfCall) (out err : SinkCall) (status : ℕ) : Type 0 where
+pub record Runs (words : List (List ℕ)) (shelf : ShelfCall) (nodes : Arena) (out err : SinkCall) (status : ℕ) : Type 0 where
   pub end : Outcome
-  pub comes : ComesTo words shelf end
+  pub comes : ComesTo words shelf nodes end
   pub tells : Tells end out err status

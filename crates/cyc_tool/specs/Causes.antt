@@ -1,14 +1,19 @@
 -- What follows of a run for each status, and where the files are told.
-use Rattle.std.specs.Prelude.{◌≡◌, ◌⊎◌, ◌<◌, ◌≤◌, ℕ, Bool, List, [], ◌∷◌, Some, None, Ok, IfSome, IsSomeAnd}
+use Rattle.std.specs.Prelude.{◌≡◌, ◌≢◌, ◌⊎◌, ℕ, List, [], ◌∷◌, Some, None, IfSome, IsSomeAnd}
 use Rattle.std.specs.declared.option.Option.{Option}
-use Rattle.cyc_io.specs.Files.{Files, IsFile}
+use Rattle.bdd_store.specs.Arena.{Arena}
+use Rattle.cyc_io.specs.Files.{Files}
 use Rattle.netlist.specs.declared.parts.Parts.{Parts}
-use Rattle.cyc_tool.specs.Decision.{columns, refusal}
-use Rattle.cyc_tool.specs.Faults.{netlist_of}
+use Rattle.care_sets.specs.Care.{CareSet}
+use Rattle.refusals.specs.Acceptance.{Accepts}
+use Rattle.refusals.specs.Refusals.{refusal, Proves}
+use Rattle.refusals.specs.declared.refusal.Refusal.{Refusal}
+use Rattle.refusals.specs.declared.refusal.Refusal.TheVariants.{EmptyCare}
 use Rattle.cyc_tool.specs.Texts.{no_memory}
-use Rattle.cyc_tool.specs.Words.{Command, Check, command_of}
-use Rattle.cyc_tool.specs.Answer.{File, Given, files_of_words, stop_at, first_stop, answer}
-use Rattle.cyc_tool.specs.Calls.{ShelfCall, SinkCall, ReadFailed, WriteFailed, GaveInOrder, IsTold}
+use Rattle.cyc_tool.specs.Words.{Options, Command, Check, Flat, Loops, command_of}
+use Rattle.cyc_tool.specs.Answer.{File, Given, files_of_words, stop_at, first_stop, limit_of, answer}
+use Rattle.verdict.specs.Causes.{IsOutOfNodes}
+use Rattle.cyc_tool.specs.Calls.{ShelfCall, SinkCall, ReadFailed, WriteFailed, GaveInOrder, GaveAll, IsTold}
 
 -- Words outside the grammar get their status, unless a write failed or memory ran out.
 abbrev pub IsWithoutCommand : Option Command → ℕ → Type 0
@@ -21,17 +26,6 @@ pub record HasFault (shelf : ShelfCall) (files : List File) : Type 0 where
   pub gave : GaveInOrder shelf given files
   pub fault : IsSomeAnd (first_stop given files) (λ end. end.status ≡ 3)
 
--- The shelf gave the bytes of this netlist for the file of this name.
-pub record GaveNetlist (shelf : ShelfCall) (name : List ℕ) (net : Parts) : Type 0 where
-  pub bytes : List ℕ
-  pub gave : IsFile shelf.files name bytes
-  pub is : netlist_of bytes ≡ Ok net
-
--- The netlist has no fault, but more columns than this version decides.
-abbrev pub IsNotBuilt : ShelfCall → Option Command → Type 0
-IsNotBuilt shelf None = ⊥
-IsNotBuilt shelf (Some (Check name)) = (net : Parts) × GaveNetlist shelf name net × (10 < columns net)
-
 -- A read of one of these files failed, and no file before it has a fault.
 abbrev pub ReadFailedInOrder : ShelfCall → Given → List File → Type 0
 ReadFailedInOrder shelf given [] = ⊥
@@ -41,24 +35,63 @@ ReadFailedInOrder shelf given (file ∷ files) =
 abbrev pub ReadOfWordsFailed : ShelfCall → List File → Type 0
 ReadOfWordsFailed shelf files = (given : Given) × GaveInOrder shelf given files × ReadFailedInOrder shelf given files
 
+-- The files of the words were given without a fault, and the netlist is accepted on the care set.
+pub record IsAccepted (shelf : ShelfCall) (command : Command) : Type 0 where
+  pub net : Parts
+  pub care : CareSet
+  pub gave : GaveAll shelf command net care
+  pub accepts : Accepts net care
+
+-- They were given without a fault.
+pub record IsGiven (shelf : ShelfCall) (command : Command) : Type 0 where
+  pub net : Parts
+  pub care : CareSet
+  pub gave : GaveAll shelf command net care
+
+-- What a command shows that is done: a netlist that was decided is accepted, any other was given.
+abbrev pub IsDone : ShelfCall → Option Command → Type 0
+IsDone shelf None = ⊥
+IsDone shelf (Some (Check name options)) = IsAccepted shelf (Check name options)
+IsDone shelf (Some (Flat name)) = IsGiven shelf (Flat name)
+IsDone shelf (Some (Loops name)) = IsGiven shelf (Loops name)
+
+-- The files were given without a fault, and this refuses the netlist. Its vector shows why; an empty care set alone has none.
+pub record IsRefusedBy (shelf : ShelfCall) (command : Command) : Type 0 where
+  pub net : Parts
+  pub care : CareSet
+  pub refused : Refusal
+  pub gave : GaveAll shelf command net care
+  pub refuses : refusal net care ≡ Some refused
+  pub shown : refused ≢ EmptyCare → Proves net care refused
+
+-- A command that decides was asked for.
+abbrev pub IsRefused : ShelfCall → Option Command → Type 0
+IsRefused shelf None = ⊥
+IsRefused shelf (Some (Check name options)) = IsRefusedBy shelf (Check name options)
+IsRefused shelf (Some (Flat name)) = ⊥
+IsRefused shelf (Some (Loops name)) = ⊥
+
+-- A decision was asked for and met its limit of nodes.
+pub record IsLimited (shelf : ShelfCall) (nodes : Arena) (name : List ℕ) (options : Options) : Type 0 where
+  pub net : Parts
+  pub care : CareSet
+  pub gave : GaveAll shelf (Check name options) net care
+  pub cause : IsOutOfNodes nodes net care (limit_of options)
+
+abbrev pub MetLimit : ShelfCall → Arena → Option Command → Type 0
+MetLimit shelf nodes None = ⊥
+MetLimit shelf nodes (Some (Check name options)) = IsLimited shelf nodes name options
+MetLimit shelf nodes (Some (Flat name)) = ⊥
+MetLimit shelf nodes (Some (Loops name)) = ⊥
+
 -- No read failed of a file of these that is there.
 abbrev pub NoneFailed : ShelfCall → Files → List File → Type 0
 NoneFailed shelf told [] = Unit {0}
 NoneFailed shelf told (file ∷ files) = IfSome (told file.1) (λ bytes. ReadFailed shelf file.1 → ⊥) × NoneFailed shelf told files
 
--- Over files that are told, where no read or write failed, the call gives the answer or wants memory.
-abbrev pub GivesAnswer : List (List ℕ) → ShelfCall → SinkCall → SinkCall → ℕ → Type 0
-GivesAnswer words shelf out err status = IfSome shelf.files (λ told.
+-- Over files that are told, where no read or write failed, the call gives the answer, or met the limit of nodes, or
+-- wants memory.
+abbrev pub GivesAnswer : List (List ℕ) → ShelfCall → Arena → SinkCall → SinkCall → ℕ → Type 0
+GivesAnswer words shelf nodes out err status = IfSome shelf.files (λ told.
     NoneFailed shelf told (files_of_words (command_of words)) → (WriteFailed out → ⊥) → (WriteFailed err → ⊥)
-    → IsTold (answer words told) out err status ⊎ IsTold no_memory out err status)
-
--- The netlist of the words was given, and no vector leaves a gate unknown. What else is to hold of an accepted netlist
--- joins here.
-abbrev pub IsAccepted : ShelfCall → Option Command → Type 0
-IsAccepted shelf None = ⊥
-IsAccepted shelf (Some (Check name)) = (net : Parts) × GaveNetlist shelf name net × (columns net ≤ 10) × (refusal net ≡ None)
-
--- It was given, and this is what refuses it.
-abbrev pub IsRefused : ShelfCall → Option Command → Type 0
-IsRefused shelf None = ⊥
-IsRefused shelf (Some (Check name)) = (net : Parts) × (refused : ℕ × List Bool) × GaveNetlist shelf name net × (refusal net ≡ Some refused)
+    → IsTold (answer words told) out err status ⊎ (MetLimit shelf nodes (command_of words) × (status ≡ 6)) ⊎ IsTold no_memory out err status)

@@ -11,6 +11,8 @@ use Rattle.blif_read.specs.declared.fault.BlifFault.TheVariants as blif
 use Rattle.flatten.specs.Flat.{flat}
 use Rattle.flatten.specs.declared.fault.FlatFault.{FlatFault}
 use Rattle.flatten.specs.declared.fault.FlatFault.TheVariants as walk
+use Rattle.care_sets.specs.declared.fault.CareFault.{CareFault}
+use Rattle.care_sets.specs.declared.fault.CareFault.TheVariants as care
 use Rattle.report.specs.Texts.{no_tail, name_tail}
 
 -- a fault: its code, its line where it has one, and what stands behind its words
@@ -65,6 +67,16 @@ flat_fault (walk.Undriven name) = of_name 30 name
 flat_fault (walk.BadClock name) = of_name 31 name
 flat_fault (walk.ClockRead name) = of_name 32 name
 flat_fault walk.Memory = of_file 0
+
+-- the faults of binding care models; want of memory is none
+abbrev pub care_fault : CareFault → Fault
+care_fault care.NoModels = of_file 41
+care_fault (care.HasLatch model) = of_name 42 model
+care_fault (care.NotOneOutput model) = of_name 43 model
+care_fault (care.UnknownName name) = of_name 44 name
+care_fault (care.NotLatch name) = of_name 45 name
+care_fault (care.Loop model) = of_name 46 model
+care_fault care.Memory = of_file 0
 
 -- the name of the first model, which is the top
 abbrev pub top_of : List BlifModel → List ℕ

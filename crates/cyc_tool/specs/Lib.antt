@@ -1,11 +1,10 @@
+pub mod Words
+pub mod Faults
+pub mod CareFiles
+pub mod LoopTexts
+pub mod Texts
 pub mod Answer
 pub mod Calls
 pub mod Causes
-pub mod Decision
-pub mod Faults
 pub mod Reading
-pub mod Search
 pub mod Seen
-pub mod Texts
-pub mod Witnesses
-pub mod Words

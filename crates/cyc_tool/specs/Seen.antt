@@ -1,5 +1,5 @@
 -- How clauses see the values of the code.
-use Rattle.std.specs.Prelude.{ℕ, List, Some, None, Ok, Err}
+use Rattle.std.specs.Prelude.{ℕ, List, Some, None, Ok, Err, option_copied}
 use Rattle.std.specs.declared.option.Option.{Option}
 use Rattle.std.specs.declared.result.Result.{Result}
 use Rattle.report.specs.Texts.{no_tail, name_tail}
@@ -12,8 +12,9 @@ use Rattle.cyc_tool.specs.declared.outcome.End.{End}
 use Rattle.cyc_tool.specs.declared.outcome.End.TheVariants.{Text, Fault as OfFault}
 use Rattle.cyc_tool.specs.declared.outcome.Stop.{Stop}
 use Rattle.cyc_tool.specs.declared.outcome.Stop.TheVariants.{At, Memory}
+use Rattle.cyc_tool.specs.declared.words.Options.{Options}
 use Rattle.cyc_tool.specs.declared.words.Command.{Command}
-use Rattle.cyc_tool.specs.declared.words.Command.TheVariants.{Check}
+use Rattle.cyc_tool.specs.declared.words.Command.TheVariants.{Check, Flat, Loops}
 
 abbrev pub told_outcome : Told → Outcome
 told_outcome told = record { status = told.status; out = told.out.items; err = told.err.items }
@@ -29,8 +30,13 @@ abbrev pub outcome_of : End → Outcome
 outcome_of (Text told) = told_outcome told
 outcome_of (OfFault fault) = has_fault fault.file (fault_of fault)
 
+abbrev pub options_seen : Options → asked.Options
+options_seen options = record { care = option_copied options.care; nodes = options.nodes }
+
 abbrev pub command_seen : Command → asked.Command
-command_seen (Check netlist) = asked.Check netlist.now
+command_seen (Check netlist options) = asked.Check netlist.now (options_seen options)
+command_seen (Flat netlist) = asked.Flat netlist.now
+command_seen (Loops netlist) = asked.Loops netlist.now
 
 -- want of memory
 abbrev pub no_memory : Stop

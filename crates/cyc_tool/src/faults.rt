@@ -1,12 +1,13 @@
 // The faults of netlist files.
 ghost use Rattle.std.specs.Prelude.{◌≡◌, IfSome, None};
 ghost use Rattle.report.specs.Texts.{IsCode};
-ghost use Rattle.cyc_tool.specs.Faults.{of_file, at_line, of_name, too_long, blif_fault, flat_fault};
+ghost use Rattle.cyc_tool.specs.Faults.{of_file, at_line, of_name, too_long, blif_fault, care_fault, flat_fault};
 ghost use Rattle.cyc_tool.specs.Texts.{has_fault};
 ghost use Rattle.cyc_tool.specs.Seen.{stop_of};
 
 use crate::outcome::{End, FileFault, Stop};
 use blif_read::BlifFault;
+use care_sets::CareFault;
 use cyc_base::Name;
 use flatten::FlatFault;
 
@@ -106,5 +107,21 @@ pub(crate) fn stop_at_walk(file: &Name, fault: FlatFault) -> Stop
         FlatFault::BadClock { name } => naming(file, 31, name),
         FlatFault::ClockRead { name } => naming(file, 32, name),
         FlatFault::Memory => Stop::Memory,
+    }
+}
+
+// Where a call ends at a fault of the care models.
+pub(crate) fn stop_at_care(file: &Name, fault: CareFault) -> Stop
+    ensures told { IfSome (stop_of result) (λ end. end ≡ has_fault file.now (care_fault fault)) }
+    ensures memory { fault ≡ CareFault.Memory → stop_of result ≡ None }
+{
+    match fault {
+        CareFault::NoModels => of_whole(file, 41),
+        CareFault::HasLatch { model } => naming(file, 42, model),
+        CareFault::NotOneOutput { model } => naming(file, 43, model),
+        CareFault::UnknownName { name } => naming(file, 44, name),
+        CareFault::NotLatch { name } => naming(file, 45, name),
+        CareFault::Loop { model } => naming(file, 46, model),
+        CareFault::Memory => Stop::Memory,
     }
 }

@@ -6,6 +6,7 @@
 
 mod decision;
 mod faults;
+mod loop_texts;
 mod outcome;
 mod reading;
 #[cfg(test)]

@@ -1,15 +1,21 @@
 // The texts of a call's outcomes.
-ghost use Rattle.std.specs.Prelude.{◌≡◌, ◌≤◌, ◌<◌, ◌++◌, IfOk, OnOk, length, zip};
-ghost use Rattle.std.specs.List.{flat_map};
-ghost use Rattle.netlist.specs.Netlists.{count, signal_names};
-ghost use Rattle.cyc_tool.specs.Decision.{columns};
-ghost use Rattle.cyc_tool.specs.Texts.{line, refused, usage, form_not_built, read_failed, accepted, bit_text, column_text, vector_text, undetermined_text, undetermined};
+ghost use Rattle.std.specs.Prelude.{◌≡◌, ◌++◌, [], IfOk};
+ghost use Rattle.loops.specs.Blocks.{AreBlocksOf};
+ghost use Rattle.refusals.specs.Refusals.{IsRefusalOf};
+ghost use Rattle.cyc_tool.specs.LoopTexts.{line};
+ghost use Rattle.cyc_tool.specs.Texts.{refused, usage, read_failed, limit_reached, accepted, refusal_told as told_of_refusal, flat_netlist, loops};
 ghost use Rattle.cyc_tool.specs.Seen.{told_outcome};
 
+use crate::loop_texts::loops_text;
 use crate::outcome::Told;
-use cyc_base::{Name, Sig};
+use blif_write::write;
+use cyc_base::Name;
+use cyc_io::TextSink;
 use itoa::Buffer;
+use loops::{Blocks, count_loops, find_blocks, find_cut};
 use netlist::Netlist;
+use refusals::Refusal;
+use report::{put_accepted, put_refusal};
 use std::alloc::{AllocError, Global};
 
 // A line of two parts.
@@ -33,16 +39,20 @@ fn on_err(alloc: Global, status: u8, front: &[u8], back: &[u8]) -> Result<Told, 
     })
 }
 
+fn on_out(alloc: Global, status: u8, out: Vec<u8>) -> Told
+    ensures { told_outcome result ≡ record { status = status; out = out.items; err = [] } }
+{
+    Told {
+        status,
+        out,
+        err: Vec::new(alloc),
+    }
+}
+
 pub(crate) fn tell_usage(alloc: Global) -> Result<Told, AllocError>
     ensures { IfOk result (λ told. told_outcome told ≡ usage) }
 {
-    on_err(alloc, 2, b"", b"usage: cyc COMMAND FILES OPTIONS")
-}
-
-pub(crate) fn tell_form_not_built(alloc: Global, file: &Name) -> Result<Told, AllocError>
-    ensures { IfOk result (λ told. told_outcome told ≡ form_not_built file.now) }
-{
-    on_err(alloc, 3, file.bytes(), b": E00 form not built yet")
+    on_err(alloc, 2, b"usage: cyc COMMAND FILES OPTIONS", b"")
 }
 
 pub(crate) fn tell_read_failed(alloc: Global, file: &Name) -> Result<Told, AllocError>
@@ -51,92 +61,60 @@ pub(crate) fn tell_read_failed(alloc: Global, file: &Name) -> Result<Told, Alloc
     on_err(alloc, 4, file.bytes(), b": read failed")
 }
 
-pub(crate) fn tell_accepted(alloc: Global, net: &Netlist) -> Result<Told, AllocError>
+pub(crate) fn tell_limit(alloc: Global, limit: u32) -> Result<Told, AllocError>
+    ensures { IfOk result (λ told. told_outcome told ≡ limit_reached limit) }
+{
+    let mut front = Vec::new(alloc);
+    front.extend_from_slice(b"node limit ")?;
+    front.extend_from_slice(Buffer::new().format(limit).as_bytes())?;
+    Ok(on_err(alloc, 6, &front, b" reached")?)
+}
+
+pub(crate) fn tell_accepted(
+    alloc: Global,
+    net: &Netlist,
+    blocks: &Blocks,
+) -> Result<Told, AllocError>
+    requires { AreBlocksOf net.now blocks.now }
     ensures { IfOk result (λ told. told_outcome told ≡ accepted net.now) }
 {
-    let mut buffer = Buffer::new();
-    let gates = buffer.format(net.gates()).as_bytes();
-    Ok(Told {
-        status: 0,
-        out: line_of(alloc, b"accepted gates=", gates)?,
-        err: Vec::new(alloc),
-    })
-}
-
-fn bit(b: bool) -> &'static [u8]
-    ensures { result.now ≡ bit_text b }
-{
-    if b { b"1" } else { b"0" }
-}
-
-fn push_column(text: &mut Vec<u8>, name: &Name, value: bool) -> Result<(), AllocError>
-    ensures { OnOk result (text.new.items ≡ text.old.items ++ column_text (name.now, value)) }
-{
-    text.push(b' ')?;
-    text.extend_from_slice(name.bytes())?;
-    text.push(b'=')?;
-    text.extend_from_slice(bit(value))?;
-    Ok(())
-}
-
-// The columns of a vector.
-#[tactic(auto, using(crate::proofs::TextLemmas::columns_all))]
-fn push_columns(text: &mut Vec<u8>, net: &Netlist, vector: &[bool]) -> Result<(), AllocError>
-    requires width { length vector.now ≤ count net.now }
-    requires few { length vector.now ≤ 10 }
-    ensures { OnOk result (text.new.items ≡ text.old.items ++ flat_map column_text (zip (signal_names net.now) vector.now)) }
-{
-    for i in 0..vector.len() {
-        push_column(text, net.name_of(Sig(i as u32)), vector[i])?;
+    let mut sink = TextSink::new(alloc);
+    match put_accepted(net, count_loops(net, blocks), &mut sink) {
+        Ok(()) => Ok(on_out(alloc, 0, sink.into_vec())),
+        Err(_) => Err(AllocError),
     }
-    Ok(())
 }
 
-fn push_vector(text: &mut Vec<u8>, net: &Netlist, vector: &[bool]) -> Result<(), AllocError>
-    requires width { length vector.now ≤ count net.now }
-    requires few { length vector.now ≤ 10 }
-    ensures { OnOk result (text.new.items ≡ text.old.items ++ vector_text net.now vector.now) }
-{
-    if !vector.is_empty() {
-        text.extend_from_slice(b" at")?;
-        push_columns(text, net, vector)?;
-    }
-    Ok(())
-}
-
-fn undetermined_line(
+pub(crate) fn tell_refusal(
     alloc: Global,
     net: &Netlist,
-    gate: u32,
-    vector: &[bool],
-) -> Result<Vec<u8>, AllocError>
-    requires gate { gate < length net.now.gates }
-    requires width { length vector.now ≡ columns net.now }
-    requires few { columns net.now ≤ 10 }
-    ensures { IfOk result (λ text. text.items ≡ line (undetermined_text net.now gate vector.now)) }
-{
-    let mut text = Vec::new(alloc);
-    text.extend_from_slice(b"refused undetermined wire=")?;
-    text.extend_from_slice(net.gate(gate).name.bytes())?;
-    push_vector(&mut text, net, vector)?;
-    text.push(b'\n')?;
-    Ok(text)
-}
-
-pub(crate) fn tell_undetermined(
-    alloc: Global,
-    net: &Netlist,
-    gate: u32,
-    vector: &[bool],
+    refusal: &Refusal,
 ) -> Result<Told, AllocError>
-    requires gate { gate < length net.now.gates }
-    requires width { length vector.now ≡ columns net.now }
-    requires few { columns net.now ≤ 10 }
-    ensures { IfOk result (λ told. told_outcome told ≡ undetermined net.now gate vector.now) }
+    requires { IsRefusalOf net.now refusal.now }
+    ensures { IfOk result (λ told. told_outcome told ≡ told_of_refusal net.now refusal.now) }
 {
-    Ok(Told {
-        status: 1,
-        out: undetermined_line(alloc, net, gate, vector)?,
-        err: Vec::new(alloc),
-    })
+    let mut sink = TextSink::new(alloc);
+    match put_refusal(net, refusal, &mut sink) {
+        Ok(()) => Ok(on_out(alloc, 1, sink.into_vec())),
+        Err(_) => Err(AllocError),
+    }
+}
+
+pub(crate) fn tell_flat(alloc: Global, net: &Netlist) -> Result<Told, AllocError>
+    ensures { IfOk result (λ told. told_outcome told ≡ flat_netlist net.now) }
+{
+    let mut sink = TextSink::new(alloc);
+    match write(net, &mut sink) {
+        Ok(()) => Ok(on_out(alloc, 0, sink.into_vec())),
+        Err(_) => Err(AllocError),
+    }
+}
+
+pub(crate) fn tell_loops(alloc: Global, net: &Netlist) -> Result<Told, AllocError>
+    ensures { IfOk result (λ told. told_outcome told ≡ loops net.now) }
+{
+    let blocks = find_blocks(alloc, net)?;
+    let cut = find_cut(alloc, net, &blocks)?;
+    let text = loops_text(alloc, net, &blocks, &cut)?;
+    Ok(on_out(alloc, 0, text))
 }

@@ -1,78 +1,90 @@
 // The top call.
-ghost use Rattle.std.specs.Prelude.{◌≡◌, ◌≤◌, ◌⊎◌, nat_le, None, IfSome, IfOk};
+ghost use Rattle.std.specs.Prelude.{◌≡◌, ◌⊎◌, ◌≤◌, None, IfOk, IfSome};
 ghost use Rattle.report.specs.Texts.{tail_text};
-ghost use Rattle.cyc_tool.specs.Answer.{files_of_words, verdict, decided};
+ghost use Rattle.cyc_tool.specs.Answer.{files_of_words};
 ghost use Rattle.cyc_tool.specs.Calls.{shelf_call, sink_call, ComesTo, Tells, Runs, WriteFailed};
-ghost use Rattle.cyc_tool.specs.Causes.{HasFault, IsNotBuilt, ReadOfWordsFailed, IsAccepted, IsRefused, GivesAnswer, IsWithoutCommand};
-ghost use Rattle.cyc_tool.specs.Decision.{columns, refusal};
-ghost use Rattle.cyc_tool.specs.Reading.{CarriesOut};
-ghost use Rattle.cyc_tool.specs.Seen.{outcome_of, told_outcome, fault_of, tail_of as tail_seen, end_of, command_seen};
+ghost use Rattle.cyc_tool.specs.Causes.{HasFault, ReadOfWordsFailed, IsDone, IsRefused, MetLimit, GivesAnswer, IsWithoutCommand};
+ghost use Rattle.cyc_tool.specs.Reading.{CarriesOut, ComesOut};
+ghost use Rattle.cyc_tool.specs.Seen.{outcome_of, told_outcome, fault_of, tail_of as tail_seen, end_of, command_seen, options_seen};
 ghost use Rattle.cyc_tool.specs.Texts.{has_fault};
-ghost use Rattle.cyc_tool.specs.Words.{command_of, Check};
+ghost use Rattle.cyc_tool.specs.Words.{command_of, Check, Flat, Loops};
 
-use crate::decision::decide;
+use crate::decision::decide_netlist;
 use crate::outcome::{End, FileFault, Stop, Told};
-use crate::reading::read_netlist;
-use crate::texts::{tell_accepted, tell_form_not_built, tell_undetermined, tell_usage};
-use crate::words::{Command, command_of_words};
-use cyc_base::Name;
+use crate::reading::{read_care, read_netlist};
+use crate::texts::{tell_flat, tell_loops, tell_usage};
+use crate::words::{Command, Options, command_of_words};
+use bdd_ops::Diagrams;
+use cyc_base::{DEFAULT_NODES, Name};
 use cyc_io::{Shelf, Sink, write_whole};
-use netlist::Netlist;
 use report::{Tail, put_fault};
-use std::alloc::{AllocError, Global};
+use std::alloc::Global;
 
 const NO_MEMORY: &[u8] = b"no memory\n";
 
-// Whether this version decides the netlist.
-fn is_built(net: &Netlist) -> bool
-    ensures { result ≡ nat_le (columns net.now) 10 }
-{
-    u64::from(net.inputs()) + u64::from(net.latches()) <= 10
-}
-
-// The verdict on a netlist of at most 10 columns.
-fn judge(alloc: Global, net: &Netlist) -> Result<Told, AllocError>
-    requires { columns net.now ≤ 10 }
-    ensures { IfOk result (λ told. told_outcome told ≡ verdict net.now (refusal net.now)) }
-{
-    match decide(alloc, net)? {
-        Some(witness) => Ok(tell_undetermined(alloc, net, witness.gate as u32, &witness.vector)?),
-        None => Ok(tell_accepted(alloc, net)?),
-    }
-}
-
-fn decide_file(alloc: Global, file: &Name, net: &Netlist) -> Result<Told, AllocError>
-    ensures { IfOk result (λ told. told_outcome told ≡ decided file.now net.now) }
-{
-    if is_built(net) {
-        Ok(judge(alloc, net)?)
-    } else {
-        Ok(tell_form_not_built(alloc, file)?)
-    }
-}
-
-// Decides the netlist of a file.
-#[tactic(auto, using(crate::proofs::RunLemmas::check_stops, crate::proofs::RunLemmas::check_goes_on))]
-fn check<S: Shelf>(alloc: Global, shelf: &mut S, netlist: &Name) -> Result<End, Stop>
-    ensures { IfSome (end_of result) (CarriesOut (Check netlist.now) (shelf_call S.files S.faults shelf.old shelf.new)) }
+// Decides the netlist of a file on its care set.
+#[tactic(auto, using(crate::proofs::RunLemmas::netlist_stops_out_if, crate::proofs::RunLemmas::care_stops_out_if))]
+fn check<S: Shelf>(
+    alloc: Global,
+    shelf: &mut S,
+    netlist: &Name,
+    options: Options,
+    d: &mut Diagrams,
+) -> Result<End, Stop>
+    ensures { IfSome (end_of result)
+        (ComesOut (Check netlist.now (options_seen options.entry)) (shelf_call S.files S.faults shelf.old shelf.new) d.new) }
 {
     let net = read_netlist(alloc, shelf, netlist)?;
-    Ok(End::Text(decide_file(alloc, netlist, &net)?))
+    let care = read_care(alloc, shelf, &net, options.care)?;
+    let limit = options.nodes.unwrap_or(DEFAULT_NODES);
+    Ok(End::Text(decide_netlist(alloc, &net, &care, limit, d)?))
 }
 
-fn carry_out<S: Shelf>(alloc: Global, shelf: &mut S, command: Command) -> Result<End, Stop>
-    ensures { IfSome (end_of result) (CarriesOut (command_seen command.entry) (shelf_call S.files S.faults shelf.old shelf.new)) }
+// Writes the flat netlist of a file.
+#[tactic(auto, using(crate::proofs::RunLemmas::stops_at_netlist))]
+fn flat<S: Shelf>(alloc: Global, shelf: &mut S, netlist: &Name) -> Result<End, Stop>
+    ensures { IfSome (end_of result) (CarriesOut (Flat netlist.now) (shelf_call S.files S.faults shelf.old shelf.new)) }
+{
+    let net = read_netlist(alloc, shelf, netlist)?;
+    Ok(End::Text(tell_flat(alloc, &net)?))
+}
+
+// Prints the loops of a file's netlist.
+#[tactic(auto, using(crate::proofs::RunLemmas::stops_at_netlist))]
+fn loops<S: Shelf>(alloc: Global, shelf: &mut S, netlist: &Name) -> Result<End, Stop>
+    ensures { IfSome (end_of result) (CarriesOut (Loops netlist.now) (shelf_call S.files S.faults shelf.old shelf.new)) }
+{
+    let net = read_netlist(alloc, shelf, netlist)?;
+    Ok(End::Text(tell_loops(alloc, &net)?))
+}
+
+#[tactic(auto, using(crate::proofs::RunLemmas::comes_out_if))]
+fn carry_out<S: Shelf>(
+    alloc: Global,
+    shelf: &mut S,
+    command: Command,
+    d: &mut Diagrams,
+) -> Result<End, Stop>
+    ensures { IfSome (end_of result)
+        (ComesOut (command_seen command.entry) (shelf_call S.files S.faults shelf.old shelf.new) d.new) }
 {
     match command {
-        Command::Check(netlist) => check(alloc, shelf, netlist),
+        Command::Check(netlist, options) => check(alloc, shelf, netlist, options, d),
+        Command::Flat(netlist) => flat(alloc, shelf, netlist),
+        Command::Loops(netlist) => loops(alloc, shelf, netlist),
     }
 }
 
-fn find_outcome<S: Shelf>(alloc: Global, words: &[Name], shelf: &mut S) -> Result<End, Stop>
-    ensures { IfSome (end_of result) (ComesTo words.now (shelf_call S.files S.faults shelf.old shelf.new)) }
+fn find_outcome<S: Shelf>(
+    alloc: Global,
+    words: &[Name],
+    shelf: &mut S,
+    d: &mut Diagrams,
+) -> Result<End, Stop>
+    ensures { IfSome (end_of result) (ComesTo words.now (shelf_call S.files S.faults shelf.old shelf.new) d.new) }
 {
     match command_of_words(words) {
-        Some(command) => carry_out(alloc, shelf, command),
+        Some(command) => carry_out(alloc, shelf, command, d),
         None => Ok(End::Text(tell_usage(alloc)?)),
     }
 }
@@ -147,11 +159,12 @@ fn answer_and_tell<S: Shelf, O: Sink, E: Sink>(
     shelf: &mut S,
     out: &mut O,
     err: &mut E,
+    d: &mut Diagrams,
 ) -> u8
-    ensures { Runs words.now (shelf_call S.files S.faults shelf.old shelf.new)
+    ensures { Runs words.now (shelf_call S.files S.faults shelf.old shelf.new) d.new
         (sink_call O.put O.faults out.old out.new) (sink_call E.put E.faults err.old err.new) result }
 {
-    match find_outcome(alloc, words, shelf) {
+    match find_outcome(alloc, words, shelf, d) {
         Ok(end) => tell_end(&end, out, err),
         Err(Stop::At(end)) => tell_end(&end, out, err),
         Err(Stop::Memory) => tell(7, b"", NO_MEMORY, out, err),
@@ -159,10 +172,13 @@ fn answer_and_tell<S: Shelf, O: Sink, E: Sink>(
 }
 
 /// Does what the words ask for: reads their files from the shelf in order, and writes to out and to err only when all
-/// computing is done. It answers the status.
+/// computing is done. Answers the status.
 ///
-/// 0: accepted, with its line on out. 1: refused, with its line on out. 2: the words aren't in the grammar. 3: a file has a fault. 4: a file wasn't read.
-/// 5: a write failed; each sink has a prefix of its text. 7: want of memory.
+/// `d` may hold anything when the call starts. A command that decides starts it anew, and its nodes at the end of
+/// the call show the cause of status 6.
+///
+/// 0: done or accepted. 1: refused. 2: the words aren't in the grammar. 3: a file has a fault. 4: a file wasn't read.
+/// 5: a write failed; each sink has a prefix of its text. 6: the limit of nodes was met. 7: want of memory.
 #[tactic(auto, using(crate::proofs::CauseLemmas::usage_cause, crate::proofs::CauseLemmas::usage_told, crate::proofs::CauseLemmas::write_cause))]
 pub fn run<S: Shelf, O: Sink, E: Sink>(
     alloc: Global,
@@ -170,28 +186,30 @@ pub fn run<S: Shelf, O: Sink, E: Sink>(
     shelf: &mut S,
     out: &mut O,
     err: &mut E,
+    d: &mut Diagrams,
 ) -> u8
-    ensures runs { Runs words.now (shelf_call S.files S.faults shelf.old shelf.new)
+    ensures runs { Runs words.now (shelf_call S.files S.faults shelf.old shelf.new) d.new
         (sink_call O.put O.faults out.old out.new) (sink_call E.put E.faults err.old err.new) result }
 
     // What follows for each status, over any shelf and any sinks.
     ensures usage { result ≡ 2 → command_of words.now ≡ None }
     ensures no_command { IsWithoutCommand (command_of words.now) result }
     ensures fault { result ≡ 3
-        → HasFault (shelf_call S.files S.faults shelf.old shelf.new) (files_of_words (command_of words.now))
-        ⊎ IsNotBuilt (shelf_call S.files S.faults shelf.old shelf.new) (command_of words.now) }
+        → HasFault (shelf_call S.files S.faults shelf.old shelf.new) (files_of_words (command_of words.now)) }
     ensures read_failed { result ≡ 4
         → ReadOfWordsFailed (shelf_call S.files S.faults shelf.old shelf.new) (files_of_words (command_of words.now)) }
     ensures write_failed { result ≡ 5
         → WriteFailed (sink_call O.put O.faults out.old out.new) ⊎ WriteFailed (sink_call E.put E.faults err.old err.new) }
-    ensures accepted { result ≡ 0
-        → IsAccepted (shelf_call S.files S.faults shelf.old shelf.new) (command_of words.now) }
+    ensures limited { result ≡ 6
+        → MetLimit (shelf_call S.files S.faults shelf.old shelf.new) d.new (command_of words.now) }
+    ensures done { result ≡ 0
+        → IsDone (shelf_call S.files S.faults shelf.old shelf.new) (command_of words.now) }
     ensures refused { result ≡ 1
         → IsRefused (shelf_call S.files S.faults shelf.old shelf.new) (command_of words.now) }
 
     // What follows where the files are told.
-    ensures answer { GivesAnswer words.now (shelf_call S.files S.faults shelf.old shelf.new)
+    ensures answer { GivesAnswer words.now (shelf_call S.files S.faults shelf.old shelf.new) d.new
         (sink_call O.put O.faults out.old out.new) (sink_call E.put E.faults err.old err.new) result }
 {
-    answer_and_tell(alloc, words, shelf, out, err)
+    answer_and_tell(alloc, words, shelf, out, err, d)
 }
