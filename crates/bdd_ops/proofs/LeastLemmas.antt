@@ -7,7 +7,8 @@ use Rattle.std.proofs.Math.Seq.{drop-cons, set-append_seam}
 use Rattle.bdd_store.specs.declared.node.Node.{Node}
 use Rattle.bdd_store.specs.Arena.{Arena, constant, den, top_of, IsNodeOf}
 use Rattle.bdd_store.specs.Soundness.{IsLawful}
-use Rattle.bdd_ops.specs.Least.{AtMost, IsLeast}
+use Rattle.cyc_base.specs.Vectors.{AtMost}
+use Rattle.bdd_ops.specs.Least.{IsLeast}
 
 -- one more bit of a list is cleared
 pub cleared-more : (n : ℕ) (d : List Bool) → n < length d → set (replicate n false ++ drop n d) n false ≡ replicate (n + 1) false ++ drop (n + 1) d

@@ -7,7 +7,8 @@ use Rattle.std.specs.List.{list_all, AllByRecursion}
 use Rattle.std.specs.Set.{distinct_count}
 use Rattle.std.specs.Bool.{beq}
 use Rattle.std.specs.Cmp.Lexicographic.{pointwise}
-use Rattle.bdd_store.specs.Subfunctions.{fixed, vectors, prefixes, table, is_constant, nodes, IsPart}
+use Rattle.cyc_base.specs.Vectors.{vectors}
+use Rattle.bdd_store.specs.Subfunctions.{fixed, prefixes, table, is_constant, nodes, IsPart}
 
 -- ---- parts
 

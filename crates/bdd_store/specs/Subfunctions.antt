@@ -1,18 +1,14 @@
 -- A Boolean function of a list of bits with its first bits fixed, and how many such functions there are.
-use Rattle.std.specs.Prelude.{◌≡◌, ℕ, zero, suc, ◌≤◌, Bool, true, false, not, ◌||◌, List, [], ◌∷◌, ◌++◌, length, drop, map, filter}
+use Rattle.std.specs.Prelude.{◌≡◌, ℕ, zero, suc, ◌≤◌, Bool, not, ◌||◌, List, [], ◌∷◌, ◌++◌, length, drop, map, filter}
 use Rattle.std.specs.List.{list_all}
 use Rattle.std.specs.Set.{distinct_count}
 use Rattle.std.specs.Bool.{beq}
 use Rattle.std.specs.Cmp.Lexicographic.{pointwise}
+use Rattle.cyc_base.specs.Vectors.{vectors}
 
 -- f, with its first bits fixed as in p
 abbrev pub fixed : (List Bool → Bool) → List Bool → List Bool → Bool
 fixed f p bits = f (p ++ drop (length p) bits)
-
--- all lists of so many bits
-abbrev pub vectors : ℕ → List (List Bool)
-vectors zero = [] ∷ []
-vectors (suc n) = map (λ v. false ∷ v) (vectors n) ++ map (λ v. true ∷ v) (vectors n)
 
 -- all lists of at most so many bits
 abbrev pub prefixes : ℕ → List (List Bool)

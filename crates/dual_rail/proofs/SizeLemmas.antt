@@ -9,7 +9,8 @@ use Rattle.std.specs.Cmp.{IsEquivalence, bool_eq_equiv}
 use Rattle.std.specs.Cmp.Lexicographic.{lists_equiv}
 use Rattle.std.specs.List.{AllByRecursion, IsDistinct, list_all}
 use Rattle.std.specs.Set.{is_member, unique_keys}
-use Rattle.bdd_store.specs.Subfunctions.{fixed, vectors, prefixes, table, is_constant, nodes}
+use Rattle.cyc_base.specs.Vectors.{vectors}
+use Rattle.bdd_store.specs.Subfunctions.{fixed, prefixes, table, is_constant, nodes}
 use Rattle.bdd_store.proofs.SubfunctionLemmas.{Contains-map, prefixes-all, table-alike}
 use Rattle.bdd_store.proofs.PigeonholeLemmas.{table_eq, table_decides}
 

@@ -1,26 +1,25 @@
 -- The laws of refusals.
-use Rattle.std.proofs.Common.{◌≡◌, ◌≢◌, ◌⊎◌, inl, inr, ℕ, zero, suc, ◌+◌, ◌-◌, ◌<◌, ◌≤◌, Bool, true, false, not, ◌&&◌, cond, List, [], ◌∷◌, ◌++◌, length, map, get_or, Option, Some, None, refl, sym, ap, ap₂, subst, ◌∙◌, arith, true≢false}
-use Rattle.std.specs.Prelude.{find, filter, is_none, ◌↔◌, if◌then◌else◌}
+use Rattle.std.proofs.Common.{◌≡◌, ◌≢◌, ℕ, zero, suc, ◌<◌, Bool, true, false, not, ◌&&◌, cond, List, [], ◌∷◌, ◌++◌, length, map, get_or, Option, Some, None, refl, sym, ap, ap₂, subst, ◌∙◌, arith, true≢false}
+use Rattle.std.specs.Prelude.{find, filter, is_none, if◌then◌else◌}
 use Rattle.std.specs.List.{All, list_any}
 use Rattle.std.specs.Option.{option_or, option_map, option_map_or}
 use Rattle.std.proofs.lemmas.List.{get_or_default}
 use Rattle.cyc_base.specs.declared.sig.Sig.{Sig}
-use Rattle.cyc_base.specs.declared.trit.Trit.{Trit}
 use Rattle.cyc_base.specs.declared.trit.Trit.TheVariants.{X}
 use Rattle.cyc_base.specs.Values.{bits}
 use Rattle.netlist.specs.declared.parts.Parts.{Parts}
 use Rattle.netlist.specs.Netlists.{gate_sig, IsNetlist}
-use Rattle.netlist.specs.Fixpoint.{wire, fix, fix_gates, next, IsInitialState}
+use Rattle.netlist.specs.Fixpoint.{wire, fix, fix_gates, IsInitialState}
 use Rattle.care_sets.specs.Care.{CareSet, columns, is_one, is_in_invariant, is_allowed, is_care_vector, holds_at, state_of, IsCareVector}
 use Rattle.refusals.specs.declared.refusal.Refusal.{Refusal}
 use Rattle.refusals.specs.declared.refusal.Refusal.TheVariants.{Initial, EmptyCare, Undetermined, Leaves}
-use Rattle.refusals.specs.Acceptance.{Accepts, SomeCareVector, NextIsInInvariant}
+use Rattle.refusals.specs.Acceptance.{Accepts}
 use Rattle.refusals.specs.Laws.{AcceptedWithoutRefusal, RefusalIsShown, InitialIsLeast, UndeterminedIsLeast, EarlierGatesAreDetermined, LeavesIsLeast, WithoutCareGatesAlone}
 use Rattle.refusals.specs.Refusals.{is_initial, initial_states, care_vectors, is_empty, is_x, is_undetermined, gate_sigs, first_failing, next_state, leaves, undetermined_refusal, refusal, IsRefusalOf, Proves}
-use Rattle.refusals.specs.Vectors.{vectors, AtMost}
+use Rattle.cyc_base.specs.Vectors.{vectors, AtMost}
 use Rattle.refusals.proofs.FirstLemmas.{find-filter, empty-filter, any-find, found_passes, none_passes, nothing_passes, found_wide, found_least}
 use Rattle.refusals.proofs.ShowingLemmas.{is_initial_decides, initial_state_is, length-initial_state, care_vector_decides, care_vector_is}
-use Rattle.refusals.proofs.RefusalLemmas.{both, not_true, not_false, second_fails, fails_after, is_x_decides, known-is_x, is_x-known, gate_wire, length-fix_gates, next_state_is, bits_back, length-next_state, FirstAt, first_at, none_first, no_first, find_none-all, all-find_none, length-gate_sigs, gate_sig_at, FoundGate, found_gate, neither, nothing_mapped, RefusedAt, AtInitial, AtEmpty, AtUndetermined, AtLeaves, refused_at}
+use Rattle.refusals.proofs.RefusalLemmas.{both, not_true, not_false, second_fails, fails_after, is_x_decides, known-is_x, is_x-known, gate_wire, length-fix_gates, next_state_is, bits_back, length-next_state, first_at, none_first, no_first, find_none-all, all-find_none, length-gate_sigs, gate_sig_at, found_gate, neither, nothing_mapped, RefusedAt, AtInitial, AtEmpty, AtUndetermined, AtLeaves, refused_at}
 
 -- a test of the care vectors, as one of all vectors
 pub care_test : (net : Parts) (care : CareSet) (p : List Bool → Bool) → find p (care_vectors net care) ≡ find (λ v. is_care_vector net care v && p v) (vectors (columns net))

@@ -1,31 +1,28 @@
 -- The refusal of a netlist, part by part.
-use Rattle.std.proofs.Common.{◌≡◌, ◌≢◌, ◌⊎◌, inl, inr, ℕ, zero, suc, ◌+◌, ◌-◌, ◌<◌, ◌≤◌, Bool, true, false, not, ◌&&◌, cond, List, [], ◌∷◌, ◌++◌, length, map, get_or, slice_get, Option, Some, None, refl, sym, ap, ap₂, subst, ◌∙◌, arith, true≢false}
-use Rattle.std.specs.Prelude.{find, filter, is_none, ◌↔◌, if◌then◌else◌}
+use Rattle.std.proofs.Common.{◌≡◌, ◌≢◌, ◌⊎◌, inl, inr, ℕ, zero, suc, ◌+◌, ◌-◌, ◌<◌, ◌≤◌, Bool, true, false, not, ◌&&◌, cond, List, [], ◌∷◌, length, map, get_or, slice_get, Option, Some, None, refl, sym, ap, ap₂, ◌∙◌, arith, true≢false}
+use Rattle.std.specs.Prelude.{find, is_none, if◌then◌else◌}
 use Rattle.std.specs.List.{All, list_any, range_with_len, position_or_len}
-use Rattle.std.specs.Option.{option_or, option_map, option_and_then, option_map_or}
+use Rattle.std.specs.Option.{option_or, option_map, option_and_then}
 use Rattle.std.proofs.lemmas.Bool.{cases_lt}
-use Rattle.std.proofs.lemmas.List.{get_or-map, get_or-append-add, get_or_append_left, get_or_default, length-append, length-map}
+use Rattle.std.proofs.lemmas.List.{get_or-map, get_or-append-add, get_or_append_left, length-map}
 use Rattle.std.proofs.lemmas.List.Folds.{find_at}
 use Rattle.std.proofs.lemmas.List.FromFn.{get_or-map-range_with_len, length-range_with_len}
 use Rattle.std.proofs.lemmas.List.Sums.{fails_before_first}
-use Rattle.std.proofs.lemmas.Option.{same_Some, none-some, get_or_from_slice_get, slice_get_within}
+use Rattle.std.proofs.lemmas.Option.{same_Some, get_or_from_slice_get, slice_get_within}
 use Rattle.cyc_base.specs.declared.sig.Sig.{Sig}
 use Rattle.cyc_base.specs.declared.trit.Trit.{Trit}
 use Rattle.cyc_base.specs.declared.trit.Trit.TheVariants.{Zero, One, X}
 use Rattle.cyc_base.specs.Values.{bit, bits}
 use Rattle.netlist.specs.declared.parts.Latch.{Latch}
 use Rattle.netlist.specs.declared.parts.Parts.{Parts}
-use Rattle.netlist.specs.Netlists.{count, signal, gate_sig, IsSignal, IsNetlist}
-use Rattle.netlist.specs.Fixpoint.{wire, wires, fix, fix_gates, next, loaded, IsInitialState}
+use Rattle.netlist.specs.Netlists.{count, signal, gate_sig, IsNetlist}
+use Rattle.netlist.specs.Fixpoint.{wire, fix, fix_gates, next}
 use Rattle.netlist.proofs.FixpointLemmas.{length-steps}
-use Rattle.care_sets.specs.Care.{CareSet, columns, is_one, is_in_invariant, is_allowed, is_care_vector, holds_at, state_of, IsCareVector}
+use Rattle.care_sets.specs.Care.{CareSet, columns, is_one, is_in_invariant}
 use Rattle.refusals.specs.declared.refusal.Refusal.{Refusal}
 use Rattle.refusals.specs.declared.refusal.Refusal.TheVariants.{Initial, EmptyCare, Undetermined, Leaves}
-use Rattle.refusals.specs.Acceptance.{Accepts, SomeCareVector, NextIsInInvariant}
-use Rattle.refusals.specs.Refusals.{is_initial, initial_states, care_vectors, is_empty, is_x, is_undetermined, gate_sigs, first_failing, next_state, leaves, initial_refusal, empty_refusal, undetermined_refusal, leaves_refusal, refusal, IsGate, IsAt, IsStepTo, IsRefusalOf, IsOutside, IsUnknownAt, LeavesTo, Proves}
-use Rattle.refusals.specs.Vectors.{vectors}
-use Rattle.refusals.proofs.FirstLemmas.{find-filter, empty-filter, any-find, found_passes, none_passes, nothing_passes, found_wide}
-use Rattle.refusals.proofs.ShowingLemmas.{is_initial_decides, initial_state_is, length-initial_state, care_vector_decides, care_vector_is}
+use Rattle.refusals.specs.Refusals.{initial_states, care_vectors, is_empty, is_x, is_undetermined, gate_sigs, first_failing, next_state, leaves, undetermined_refusal, refusal, IsGate}
+use Rattle.refusals.proofs.FirstLemmas.{any-find, found_passes}
 
 pub both : (a b : Bool) → (a && b) ≡ true → (a ≡ true) × (b ≡ true)
 both true b e = (refl, e)

@@ -1,16 +1,15 @@
 -- The laws of refusals.
-use Rattle.std.specs.Prelude.{◌≡◌, ◌≢◌, ◌<◌, ◌≤◌, ◌↔◌, ℕ, Bool, true, false, List, length, Some, None, not, option_map}
-use Rattle.std.specs.declared.option.Option.{Option}
+use Rattle.std.specs.Prelude.{◌≡◌, ◌≢◌, ◌<◌, ◌≤◌, ◌↔◌, Bool, true, false, List, Some, None, option_map}
 use Rattle.cyc_base.specs.declared.sig.Sig.{Sig}
 use Rattle.netlist.specs.declared.parts.Parts.{Parts}
 use Rattle.netlist.specs.Fixpoint.{IsInitialState}
 use Rattle.netlist.specs.Netlists.{IsNetlist}
-use Rattle.care_sets.specs.Care.{CareSet, columns, is_in_invariant, is_care_vector, IsCareVector}
+use Rattle.care_sets.specs.Care.{CareSet, columns, is_in_invariant, IsCareVector}
 use Rattle.refusals.specs.declared.refusal.Refusal.{Refusal}
 use Rattle.refusals.specs.declared.refusal.Refusal.TheVariants.{Initial, EmptyCare, Undetermined, Leaves}
 use Rattle.refusals.specs.Acceptance.{Accepts}
 use Rattle.refusals.specs.Refusals.{refusal, Proves, IsRefusalOf, is_undetermined, first_failing, gate_sigs, leaves}
-use Rattle.refusals.specs.Vectors.{vectors, AtMost}
+use Rattle.cyc_base.specs.Vectors.{vectors, AtMost}
 
 -- a netlist is accepted exactly where nothing refuses it
 abbrev pub AcceptedWithoutRefusal : Type 0

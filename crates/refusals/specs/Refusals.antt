@@ -1,5 +1,5 @@
 -- The refusal of a netlist on a care set: the first part of acceptance that fails, with its least witness.
-use Rattle.std.specs.Prelude.{◌≡◌, ◌≤◌, ◌<◌, ◌&&◌, ℕ, Bool, true, false, not, List, [], ◌∷◌, length, map, zip, filter, find, Some, None, if◌then◌else◌, option_map}
+use Rattle.std.specs.Prelude.{◌≡◌, ◌≤◌, ◌<◌, Bool, true, false, not, List, [], ◌∷◌, length, map, zip, filter, find, Some, None, if◌then◌else◌, option_map}
 use Rattle.std.specs.declared.option.Option.{Option}
 use Rattle.std.specs.List.{list_all, list_any, range_with_len}
 use Rattle.std.specs.Option.{option_and_then}
@@ -16,7 +16,7 @@ use Rattle.netlist.specs.Netlists.{count, gate_sig}
 use Rattle.care_sets.specs.Care.{CareSet, columns, is_one, is_in_invariant, is_care_vector, IsCareVector}
 use Rattle.refusals.specs.declared.refusal.Refusal.{Refusal}
 use Rattle.refusals.specs.declared.refusal.Refusal.TheVariants.{Initial, EmptyCare, Undetermined, Leaves}
-use Rattle.refusals.specs.Vectors.{vectors}
+use Rattle.cyc_base.specs.Vectors.{vectors}
 
 -- a latch may start with this value
 abbrev pub may_start : Init → Bool → Bool

@@ -1,19 +1,6 @@
--- Vectors and their order.
-use Rattle.std.specs.Prelude.{◌≡◌, ◌≢◌, ℕ, zero, suc, Bool, true, false, List, [], ◌∷◌, ◌++◌, length, map, AllPairs, Contains}
-
--- all vectors of so many columns, in lexicographic order, 0 before 1
-abbrev pub vectors : ℕ → List (List Bool)
-vectors zero = [] ∷ []
-vectors (suc columns) = map (λ v. false ∷ v) (vectors columns) ++ map (λ v. true ∷ v) (vectors columns)
-
--- at the first place where the two lists differ the first has 0. A list is at most each one that it begins.
-abbrev pub AtMost : List Bool → List Bool → Type 0
-AtMost [] ws = Unit {0}
-AtMost (v ∷ vs) [] = ⊥
-AtMost (false ∷ vs) (false ∷ ws) = AtMost vs ws
-AtMost (false ∷ vs) (true ∷ ws) = Unit {0}
-AtMost (true ∷ vs) (false ∷ ws) = ⊥
-AtMost (true ∷ vs) (true ∷ ws) = AtMost vs ws
+-- That the list of all vectors is complete and in order.
+use Rattle.std.specs.Prelude.{◌≡◌, ◌≢◌, ℕ, Bool, List, length, AllPairs, Contains}
+use Rattle.cyc_base.specs.Vectors.{vectors, AtMost}
 
 -- it is at most the other, and another
 pub record IsBefore (v w : List Bool) : Type 0 where

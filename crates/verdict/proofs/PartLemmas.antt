@@ -26,7 +26,7 @@ use Rattle.care_sets.proofs.CareLemmas.{vectors_serve_assume, states_serve_invar
 use Rattle.refusals.specs.declared.refusal.Refusal.{Refusal}
 use Rattle.refusals.specs.declared.refusal.Refusal.TheVariants.{Initial, Undetermined, Leaves}
 use Rattle.refusals.specs.Refusals.{is_initial, is_x, is_undetermined, gate_sigs, care_vectors, next_state, leaves, initial_refusal, undetermined_refusal, leaves_refusal}
-use Rattle.refusals.specs.Vectors.{vectors}
+use Rattle.cyc_base.specs.Vectors.{vectors}
 use Rattle.refusals.proofs.FirstLemmas.{find-map, find-filter, any-find}
 use Rattle.refusals.proofs.ShowingLemmas.{care_vector_decides}
 use Rattle.refusals.proofs.RefusalLemmas.{length-gate_sigs, gate_sig_at, find_none-all, no_first, next_state_is}

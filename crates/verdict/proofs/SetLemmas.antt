@@ -8,12 +8,11 @@ use Rattle.bdd_store.specs.declared.node.Node.{Node}
 use Rattle.bdd_store.specs.Arena.{Arena, constant, den, den_within, IsNodeOf}
 use Rattle.bdd_store.specs.Soundness.{IsLawful}
 use Rattle.bdd_ops.specs.Least.{IsLeast}
-use Rattle.bdd_ops.specs.Least as ops
-use Rattle.refusals.specs.Vectors.{vectors, AtMost}
+use Rattle.cyc_base.specs.Vectors.{vectors, AtMost}
 use Rattle.refusals.proofs.FirstLemmas.{find-map, found_passes, none_passes, nothing_passes, found_wide, found_least}
 
 -- two vectors of one width that are each at most the other
-same_vectors : (v w : List Bool) → length v ≡ length w → ops.AtMost v w → AtMost w v → v ≡ w
+same_vectors : (v w : List Bool) → length v ≡ length w → AtMost v w → AtMost w v → v ≡ w
 same_vectors [] [] long there back = refl
 same_vectors [] (b ∷ w) long there back = absurd (omega arith)
 same_vectors (b ∷ v) [] long there back = absurd (omega arith)

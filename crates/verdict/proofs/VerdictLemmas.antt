@@ -22,7 +22,7 @@ use Rattle.refusals.specs.declared.refusal.Refusal.{Refusal}
 use Rattle.refusals.specs.declared.refusal.Refusal.TheVariants.{EmptyCare}
 use Rattle.refusals.specs.Acceptance.{Accepts}
 use Rattle.refusals.specs.Refusals.{initial_refusal, empty_refusal, undetermined_refusal, leaves_refusal, refusal}
-use Rattle.refusals.specs.Vectors.{vectors}
+use Rattle.cyc_base.specs.Vectors.{vectors}
 use Rattle.refusals.proofs.FirstLemmas.{empty-filter}
 use Rattle.refusals.proofs.LawLemmas.{accepted_without_refusal}
 use Rattle.refusals.proofs.RefusalLemmas.{length-fix_gates}

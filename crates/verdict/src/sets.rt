@@ -3,7 +3,7 @@
 ghost use Rattle.std.specs.Prelude.{◌≡◌, Bool, List, IfOk, find, is_none, option_map};
 ghost use Rattle.bdd_store.specs.Arena.{den, IsNodeOf};
 ghost use Rattle.bdd_store.specs.Growth.{KeepsNodes};
-ghost use Rattle.refusals.specs.Vectors.{vectors};
+ghost use Rattle.cyc_base.specs.Vectors.{vectors};
 ghost use Rattle.verdict.specs.Causes.{IsFull};
 ghost use Rattle.verdict.specs.Sets.{difference};
 

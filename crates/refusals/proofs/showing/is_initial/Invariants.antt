@@ -1,4 +1,4 @@
-use Rattle.std.proofs.Common.{◌≡◌, zip, drop}
+use Rattle.std.proofs.Common.{◌≡◌, drop}
 use Rattle.refusals.specs.Refusals.{is_initial}
 use Rattle.refusals.proofs.ShowingLemmas.{all_may_start}
 use Rattle.refusals.proofs.showing.is_initial.Given as goal

@@ -4,7 +4,7 @@ use Rattle.bdd_store.specs.Growth.{KeepsNodes}
 use Rattle.netlist.specs.Netlists.{gate_sig}
 use Rattle.care_sets.specs.Care.{CareSet, columns, is_care_vector}
 use Rattle.refusals.specs.Refusals.{is_undetermined}
-use Rattle.refusals.specs.Vectors.{vectors}
+use Rattle.cyc_base.specs.Vectors.{vectors}
 use Rattle.verdict.specs.Sets.{Tells}
 use Rattle.verdict.proofs.parts.undetermined.Given as goal
 
