@@ -1,6 +1,5 @@
 pub mod LineLemmas
 pub mod NameLemmas
-pub mod PutLemmas
 pub mod ReadLines
 pub mod Faultless
 pub mod Said

@@ -22,12 +22,13 @@ pub struct MemoryShelf {
 }
 
 impl MemoryShelf {
-    ghost use Rattle.cyc_io.specs.Memory.{memory_files};
+    ghost use Rattle.cyc_io.specs.Memory.{memory_files, IsPlanned};
 
     /// The shelf of these files. It takes no memory before its first read.
     pub fn new(alloc: Global, files: Vec<(Name, Vec<u8>)>, fail: Vec<u64>) -> MemoryShelf
         requires { AreDistinct files.items }
-        ensures { memory_files result ≡ file_of files.items }
+        ensures files { memory_files result ≡ file_of files.items }
+        ensures plan { IsPlanned result fail.items }
     {
         MemoryShelf {
             files,
@@ -113,7 +114,7 @@ pub struct MemorySink {
 }
 
 impl MemorySink {
-    ghost use Rattle.cyc_io.specs.Memory.{memory_bytes};
+    ghost use Rattle.cyc_io.specs.Memory.{memory_bytes, IsEmptySink};
 
     /// A sink with room for so many bytes, of which one write takes at most some.
     pub fn new(
@@ -123,7 +124,7 @@ impl MemorySink {
         most: usize,
     ) -> Result<MemorySink, AllocError>
         requires { 1 ≤ most }
-        ensures { IfOk result (λ sink. memory_bytes sink ≡ []) }
+        ensures { IfOk result (IsEmptySink room fail.items most) }
     {
         let bytes = Vec::with_capacity(alloc, room)?;
         Ok(MemorySink {

@@ -1,14 +1,13 @@
 -- The columns of a vector, appended one after another.
-use Rattle.std.proofs.Common.{◌≡◌, ℕ, zero, suc, ◌+◌, ◌-◌, ◌<◌, ◌≤◌, Bool, List, [], ◌∷◌, ◌++◌, length, map, take, drop, get_or, zip, slice_get, Some, refl, sym, ap, ◌∙◌, arith, subst, append-nil}
+use Rattle.std.proofs.Common.{◌≡◌, ℕ, zero, suc, ◌+◌, ◌<◌, ◌≤◌, Bool, List, [], ◌∷◌, length, map, take, drop, get_or, zip, slice_get, Some, refl, sym, ap, ◌∙◌, arith, subst}
 use Rattle.std.specs.List.{flat_map}
 use Rattle.std.specs.declared.option.Option.{Option}
 use Rattle.std.specs.Io.KnownBytes.{Appends}
-use Rattle.std.proofs.KnownBytes.{Appends-nil, Appends-trans}
-use Rattle.std.proofs.lemmas.List.{take_more, take-append-drop, drop_more, get_or-drop, length-drop, length-append, length-map, take_all}
-use Rattle.std.proofs.lemmas.List.Concat.{flat_map-append}
+use Rattle.std.proofs.KnownBytes.{Appends-nil}
+use Rattle.std.proofs.lemmas.List.{get_or-drop, length-drop, length-append, length-map, take_all}
 use Rattle.std.proofs.lemmas.Option.{same_Some, get_or_from_slice_get, slice_get-get_or, none-some}
 use Rattle.cyc_io.specs.Taken.{AppendsPrefix}
-use Rattle.cyc_io.proofs.TakenLemmas.{appends_start, prefix_of_front}
+use Rattle.cyc_io.proofs.ItemLemmas.{appends_item, appends_in_item}
 use Rattle.netlist.specs.declared.parts.Gate.{Gate}
 use Rattle.netlist.specs.declared.parts.Latch.{Latch}
 use Rattle.netlist.specs.declared.parts.Parts.{Parts}
@@ -59,29 +58,16 @@ module _ (net : Parts) (first : ℕ) (values : List Bool) (fits : first + length
 
   pub columns_more : (i : ℕ) (name : List ℕ) (d : Bool) (a b c : Option (List ℕ)) → slice_get (signal_names net) (first + i) ≡ Some name → i < length values →
       Appends a b (upto i) → Appends b c (column_text (name, get_or values i d)) → Appends a c (upto (i + 1))
-  columns_more i name d a b c found inside so_far now =
+  columns_more i name d a b c found inside =
       let column : List ℕ × Bool = (name, get_or values i d) in
-      let P : List ℕ → Type 0 = λ text. Appends a c text in
-      let whole : upto (i + 1) ≡ upto i ++ column_text column =
-      ap (flat_map column_text) (take_more (columns_of net first values) i column (omega (arith, length-columns)))
-      ∙ flat_map-append column_text (take i (columns_of net first values)) (get_or (columns_of net first values) i column ∷ [])
-      ∙ ap (λ (y : List ℕ × Bool). upto i ++ (column_text y ++ [])) (column_is i name d column found inside)
-      ∙ ap (λ text. upto i ++ text) (append-nil (column_text column)) in
-      subst P (sym whole) (Appends-trans a b c (upto i) (column_text column) so_far now)
+      appends_item column_text (columns_of net first values) i column a b c (omega (arith, length-columns)) (sym (column_is i name d column found inside))
 
   -- the start of the next one
   pub columns_cut : (i : ℕ) (name : List ℕ) (d : Bool) (a b c : Option (List ℕ)) → slice_get (signal_names net) (first + i) ≡ Some name → i < length values →
       Appends a b (upto i) → AppendsPrefix b c (column_text (name, get_or values i d)) → AppendsPrefix a c (columns_text net first values)
-  columns_cut i name d a b c found inside so_far now =
+  columns_cut i name d a b c found inside =
       let column : List ℕ × Bool = (name, get_or values i d) in
-      let rest : List (List ℕ × Bool) = drop (i + 1) (columns_of net first values) in
-      let P : List ℕ → Type 0 = λ text. AppendsPrefix a c text in
-      let whole : upto i ++ (column_text column ++ flat_map column_text rest) ≡ columns_text net first values =
-      ap (λ (y : List ℕ × Bool). upto i ++ (column_text y ++ flat_map column_text rest)) (sym (column_is i name d column found inside))
-      ∙ sym (flat_map-append column_text (take i (columns_of net first values)) (get_or (columns_of net first values) i column ∷ rest))
-      ∙ ap (λ (l : List (List ℕ × Bool)). flat_map column_text (take i (columns_of net first values) ++ l)) (sym (drop_more (columns_of net first values) i column (omega (arith, length-columns))))
-      ∙ ap (flat_map column_text) (take-append-drop i (columns_of net first values)) in
-      subst P whole (appends_start a b c (upto i) (column_text column ++ flat_map column_text rest) so_far (prefix_of_front b c (column_text column) (flat_map column_text rest) now))
+      appends_in_item column_text (columns_of net first values) i column a b c (omega (arith, length-columns)) (sym (column_is i name d column found inside))
 
   pub columns_whole : (i : ℕ) (a b : Option (List ℕ)) → length values ≤ i → Appends a b (upto i) → Appends a b (columns_text net first values)
   columns_whole i a b over so_far =

@@ -5,7 +5,7 @@ use Rattle.netlist.specs.declared.parts.Gate.{Gate}
 use Rattle.blif_write.specs.Putting.{gate_text}
 use Rattle.blif_write.proofs.NameLemmas.{item_at}
 use Rattle.cyc_io.proofs.TakenLemmas.{on_err}
-use Rattle.blif_write.proofs.PutLemmas.{appends_item, appends_in_item}
+use Rattle.cyc_io.proofs.ItemLemmas.{appends_item, appends_in_item}
 use Rattle.blif_write.proofs.gates.put_gates.Goals as goal
 
 pub returns-in_err-put_gate-clause-prefix : goal.returns-in_err-put_gate-clause-prefix

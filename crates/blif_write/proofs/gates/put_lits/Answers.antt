@@ -2,7 +2,7 @@ use Rattle.std.proofs.Common.{arith}
 use Rattle.std.proofs.Common.{[], ◌∷◌}
 use Rattle.blif_write.specs.Written.{lit_byte}
 use Rattle.cyc_io.proofs.TakenLemmas.{on_err}
-use Rattle.blif_write.proofs.PutLemmas.{appends_copied, appends_in_copied}
+use Rattle.cyc_io.proofs.ItemLemmas.{appends_copied, appends_in_copied}
 use Rattle.blif_write.proofs.gates.put_lits.Goals as goal
 
 pub returns-in_err-write_whole-clause-prefix : goal.returns-in_err-write_whole-clause-prefix

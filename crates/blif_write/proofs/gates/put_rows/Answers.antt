@@ -1,7 +1,7 @@
 use Rattle.std.proofs.Common.{arith}
 use Rattle.blif_write.specs.Written.{line_text, row_line}
 use Rattle.cyc_io.proofs.TakenLemmas.{on_err}
-use Rattle.blif_write.proofs.PutLemmas.{appends_item, appends_in_item}
+use Rattle.cyc_io.proofs.ItemLemmas.{appends_item, appends_in_item}
 use Rattle.blif_write.proofs.gates.put_rows.Goals as goal
 
 pub returns-in_err-put_row-clause-prefix : goal.returns-in_err-put_row-clause-prefix

@@ -2,7 +2,7 @@ use Rattle.std.proofs.Common.{arith}
 use Rattle.blif_write.specs.Written.{line_text, latch_line}
 use Rattle.blif_write.proofs.NameLemmas.{item_at}
 use Rattle.cyc_io.proofs.TakenLemmas.{on_err}
-use Rattle.blif_write.proofs.PutLemmas.{appends_item, appends_in_item}
+use Rattle.cyc_io.proofs.ItemLemmas.{appends_item, appends_in_item}
 use Rattle.blif_write.proofs.latches.put_latches.Goals as goal
 
 pub returns-in_err-put_latch-clause-prefix : goal.returns-in_err-put_latch-clause-prefix

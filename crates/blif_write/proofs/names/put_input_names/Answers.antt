@@ -4,7 +4,7 @@ use Rattle.blif_write.specs.Written.{name_of}
 use Rattle.blif_write.specs.Putting.{behind}
 use Rattle.blif_write.proofs.NameLemmas.{input_item}
 use Rattle.cyc_io.proofs.TakenLemmas.{on_err}
-use Rattle.blif_write.proofs.PutLemmas.{appends_item, appends_in_item}
+use Rattle.cyc_io.proofs.ItemLemmas.{appends_item, appends_in_item}
 use Rattle.blif_write.proofs.names.put_input_names.Goals as goal
 
 pub returns-in_err-put_name-clause-prefix : goal.returns-in_err-put_name-clause-prefix

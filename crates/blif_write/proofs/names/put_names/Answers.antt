@@ -2,7 +2,7 @@ use Rattle.std.proofs.Common.{arith}
 use Rattle.blif_write.specs.Written.{name_of}
 use Rattle.blif_write.specs.Putting.{behind}
 use Rattle.cyc_io.proofs.TakenLemmas.{on_err}
-use Rattle.blif_write.proofs.PutLemmas.{appends_copied, appends_in_copied}
+use Rattle.cyc_io.proofs.ItemLemmas.{appends_copied, appends_in_copied}
 use Rattle.blif_write.proofs.names.put_names.Goals as goal
 
 pub returns-in_err-put_name-clause-prefix : goal.returns-in_err-put_name-clause-prefix

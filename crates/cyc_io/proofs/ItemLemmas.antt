@@ -1,9 +1,9 @@
--- Texts of several parts, appended one after another.
+-- The texts of the items of a list, appended one after another.
 use Rattle.std.proofs.Common.{◌≡◌, ℕ, ◌+◌, ◌<◌, List, [], ◌∷◌, ◌++◌, length, take, drop, get_or, sym, ap, ◌∙◌, subst, append-nil}
 use Rattle.std.specs.List.{flat_map}
 use Rattle.std.specs.declared.option.Option.{Option}
 use Rattle.std.specs.Io.KnownBytes.{Appends}
-use Rattle.std.proofs.KnownBytes.{Appends-nil, Appends-trans}
+use Rattle.std.proofs.KnownBytes.{Appends-trans}
 use Rattle.std.proofs.lemmas.List.{take_more, take-append-drop, drop_more, get_or_default}
 use Rattle.std.proofs.lemmas.List.Concat.{flat_map-append}
 use Rattle.cyc_io.specs.Taken.{AppendsPrefix}
@@ -24,9 +24,6 @@ item_within f xs i x l is =
     ∙ sym (flat_map-append f (take i xs) (get_or xs i x ∷ drop (i + 1) xs))
     ∙ ap (λ rest. flat_map f (take i xs ++ rest)) (sym (drop_more xs i x l))
     ∙ ap (flat_map f) (take-append-drop i xs)
-
-pub appends_nothing : (a : Option (List ℕ)) → Appends a a []
-appends_nothing a = Appends-nil a
 
 -- one more item of a list
 pub appends_item : {X : Type 0} (f : X → List ℕ) (xs : List X) (i : ℕ) (x : X) (a b c : Option (List ℕ))
