@@ -1,8 +1,8 @@
 -- Each word of a line is a BLIF name, and a text has at least as many bytes as words.
-use Rattle.std.proofs.Common.{◌≡◌, ◌≢◌, ◌≤◌, ℕ, suc, zero, ◌+◌, List, [], ◌∷◌, ◌++◌, length, true, false, refl, sym, ap, subst, ◌∙◌, arith, length-append, All, eqb-true}
-use Rattle.std.specs.Prelude.{filter, map, Bool, ◌==◌, ◌&&◌, ◌||◌, if◌then◌else◌, Some, None, Ok, Err, Option}
+use Rattle.std.proofs.Common.{◌≡◌, ◌≢◌, ◌≤◌, ℕ, ◌+◌, List, [], ◌∷◌, ◌++◌, length, true, false, refl, sym, ap, subst, ◌∙◌, arith, length-append, All}
+use Rattle.std.specs.Prelude.{filter, map, Bool, ◌==◌, ◌&&◌, ◌||◌, if◌then◌else◌, Some, None, Ok, Option}
 use Rattle.std.specs.List.{list_all}
-use Rattle.std.proofs.lemmas.List.Elements.{All-nil, All-cons, All-head, All-tail, All-append, All-filter, All-map}
+use Rattle.std.proofs.lemmas.List.Elements.{All-nil, All-cons, All-head, All-tail, All-append, All-filter}
 use Rattle.std.proofs.lemmas.Bool.Decides.{nat_tests}
 use Rattle.cyc_base.specs.Names.{IsBlifByte, IsBlifName}
 use Rattle.blif_text.specs.Texts.{pieces, in_front, is_filled, is_blank, is_lf, is_printed, is_allowed, begins_with, without_cr, before_hash, physical, bad_byte, Joined, Line, ends_in_backslash, without_last, continued, joined, words_of, in_words, has_words, logical, unless_bad, lines}

@@ -1,5 +1,5 @@
 -- The columns that a care model's inputs name.
-use Rattle.std.proofs.Common.{◌≡◌, ◌≢◌, ℕ, zero, suc, ◌+◌, ◌<◌, ◌≤◌, nat_lt, Bool, true, false, cond, List, [], ◌∷◌, ◌++◌, length, map, get_or, position, slice_get, take, drop, Option, Some, None, refl, sym, ap, ap₂, subst, ◌∙◌, arith, true≢false, inl, inr, ◌⊎◌}
+use Rattle.std.proofs.Common.{◌≡◌, ◌≢◌, ℕ, ◌+◌, ◌<◌, ◌≤◌, nat_lt, Bool, true, false, cond, List, [], ◌∷◌, ◌++◌, length, map, get_or, position, slice_get, take, drop, Option, Some, None, refl, sym, ap, ap₂, subst, ◌∙◌, arith, true≢false, inl, inr, ◌⊎◌}
 use Rattle.std.specs.List.{All, AllPairs, position_or_len, position_from, list_any}
 use Rattle.std.specs.Prelude.{find, option_map, is_none}
 use Rattle.std.specs.Option.{option_or, option_map_or}

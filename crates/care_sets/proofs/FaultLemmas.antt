@@ -1,5 +1,5 @@
 -- The first fault of a care model, as the checks find it.
-use Rattle.std.proofs.Common.{◌≡◌, ◌⊎◌, inl, inr, ℕ, zero, suc, Bool, true, false, ◌==◌, ◌||◌, ◌≤◌, nat_eq, List, length, Option, Some, None, refl, sym, ap, subst, ◌∙◌, eqb-true}
+use Rattle.std.proofs.Common.{◌≡◌, ◌⊎◌, inl, inr, ℕ, Bool, true, false, ◌==◌, ◌||◌, ◌≤◌, List, length, Option, Some, None, refl, sym, subst, ◌∙◌, eqb-true}
 use Rattle.std.specs.Prelude.{All, IfSome, IsSomeAnd, is_some, find, option_map}
 use Rattle.std.specs.Option.{option_or}
 use Rattle.std.proofs.lemmas.Option.{same_Some}
@@ -9,7 +9,7 @@ use Rattle.care_sets.proofs.BindingLemmas.{same_length}
 use Rattle.care_sets.specs.declared.fault.CareFault.{CareFault}
 use Rattle.care_sets.specs.declared.fault.CareFault.TheVariants.{HasLatch, NotOneOutput, UnknownName, NotLatch, Memory}
 use Rattle.care_sets.specs.declared.model.CareModel.{CareModel}
-use Rattle.care_sets.specs.Binding.{fault_but_loops, is_unknown_name, is_before, unless, AreColumnsOf, HasNoFault, HasLoopAlone, LoopsIn, IsFaultOf, IsFirstFault, InvariantFails, IsCareModel, IsBoundTo, Binds, BindsAny}
+use Rattle.care_sets.specs.Binding.{fault_but_loops, is_unknown_name, is_before, unless, AreColumnsOf, HasNoFault, LoopsIn, IsFaultOf, IsFirstFault, Binds, BindsAny}
 use Rattle.care_sets.specs.Laws.{BoundModelsHaveNoFault, FirstFaultIsOne}
 
 module _ (net : Parts) (first : ℕ) (model : Parts) (none : length model.latches ≡ 0) (one : length model.outputs ≡ 1) where

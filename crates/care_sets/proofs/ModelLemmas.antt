@@ -1,5 +1,5 @@
 -- The output of a care model, among the values of its signals.
-use Rattle.std.proofs.Common.{◌≡◌, ℕ, ◌+◌, ◌-◌, ◌<◌, Bool, false, List, [], ◌∷◌, length, map, get_or, refl, sym, ap, subst, ◌∙◌, arith}
+use Rattle.std.proofs.Common.{◌≡◌, ℕ, ◌+◌, ◌-◌, ◌<◌, Bool, false, List, [], ◌∷◌, length, map, get_or, refl, sym, ap, ◌∙◌, arith}
 use Rattle.std.proofs.lemmas.List.{get_or-map, length-append, length-map}
 use Rattle.cyc_base.specs.declared.sig.Sig.{Sig}
 use Rattle.cyc_base.specs.declared.trit.Trit.{Trit}
@@ -7,7 +7,7 @@ use Rattle.cyc_base.specs.declared.trit.Trit.TheVariants.{X}
 use Rattle.cyc_base.specs.Values.{bit, bits}
 use Rattle.netlist.specs.declared.parts.Parts.{Parts}
 use Rattle.netlist.specs.Netlists.{count, IsNetlist}
-use Rattle.netlist.specs.Fixpoint.{wire, fix, outs, fix_gates}
+use Rattle.netlist.specs.Fixpoint.{wire, fix, fix_gates}
 use Rattle.netlist.proofs.FixpointLemmas.{length-steps}
 use Rattle.care_sets.specs.declared.model.CareModel.{CareModel}
 use Rattle.care_sets.specs.Care.{inputs_at, holds_at, is_one}

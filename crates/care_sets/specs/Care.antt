@@ -1,6 +1,6 @@
 -- Care sets: which vectors count. A care file may hold a model `assume` over inputs and latches, and a model
 -- `invariant` over latches alone.
-use Rattle.std.specs.Prelude.{◌≡◌, ◌+◌, ◌-◌, ◌<◌, ◌++◌, ◌&&◌, ℕ, Bool, true, false, List, length, map, drop, All, IfSome, slice_index_or}
+use Rattle.std.specs.Prelude.{◌≡◌, ◌+◌, ◌-◌, ◌<◌, ◌++◌, ◌&&◌, ℕ, Bool, true, false, List, length, map, drop, All, slice_index_or}
 use Rattle.std.specs.declared.option.Option.{Option}
 use Rattle.std.specs.Option.{option_map_or}
 use Rattle.cyc_base.specs.declared.trit.Trit.{Trit}

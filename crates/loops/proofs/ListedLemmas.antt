@@ -1,5 +1,5 @@
 -- The loops of a netlist are told by its blocks, and their cut wires by its cut.
-use Rattle.std.proofs.Common.{◌≡◌, ◌==◌, ℕ, zero, suc, ◌+◌, ◌<◌, ◌≤◌, ltb, Bool, true, false, cond, ◌&&◌, List, [], ◌∷◌, ◌++◌, length, filter, All, refl, sym, ap, ap₂, ◌∙◌, subst, arith, Contains, true≢false, append-nil}
+use Rattle.std.proofs.Common.{◌≡◌, ◌==◌, ℕ, zero, suc, ◌+◌, ◌<◌, ◌≤◌, ltb, Bool, true, false, cond, ◌&&◌, List, [], ◌∷◌, ◌++◌, length, filter, All, refl, sym, ap, ap₂, ◌∙◌, arith, true≢false, append-nil}
 use Rattle.std.proofs.lemmas.Bool.{lt-ltb}
 use Rattle.std.proofs.lemmas.List.Elements.{All-filter, All-from_recursion, filter-append}
 use Rattle.std.specs.List.{AllByRecursion, range_with_len}
@@ -7,10 +7,10 @@ use Rattle.netlist.specs.declared.parts.Parts.{Parts}
 use Rattle.loops.specs.declared.parts.Block.{Block}
 use Rattle.loops.specs.declared.parts.Blocks.{Blocks}
 use Rattle.loops.specs.declared.parts.Cut.{Cut}
-use Rattle.loops.specs.Blocks.{AreBlocksOf, block_at, home_of, gates_at}
-use Rattle.loops.specs.Cuts.{AreCutWires, IsCutOf, in_one_loop, is_cut}
+use Rattle.loops.specs.Blocks.{AreBlocksOf, block_at, home_of}
+use Rattle.loops.specs.Cuts.{IsCutOf, in_one_loop, is_cut}
 use Rattle.loops.specs.Found.{loops_of}
-use Rattle.loops.specs.Listed.{gate_numbers, loop_of, cut_wires_of, begins_with, first_gates}
+use Rattle.loops.specs.Listed.{gate_numbers, loop_of, cut_wires_of, begins_with}
 use Rattle.loops.proofs.Existence.{loops_exist}
 use Rattle.loops.proofs.Told.{told_from, told_to}
 use Rattle.loops.proofs.Walks.{loops_are_unique}

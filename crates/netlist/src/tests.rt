@@ -186,3 +186,34 @@ fn accessors_show_the_parts(rt: HostRuntime) -> Result<(), Fail> {
     assert_eq!(rt; net.find(&make_name(alloc, b"clk")?), None);
     Ok(())
 }
+
+/// Gates that each read the next one, and the last one reads a gate or an input.
+fn make_chain(alloc: Global, last: Sig) -> Result<Netlist, Fail> {
+    let mut gates = Vec::new(alloc);
+    for (name, pin) in [(b"a", Sig(2)), (b"b", Sig(3)), (b"c", last)] {
+        gates.push(Gate {
+            name: make_name(alloc, name.as_slice())?,
+            pins: Items::of(vec![in alloc; pin]?),
+            cover: Cover::new(1, true, Vec::new(alloc))?,
+        })?;
+    }
+    let parts = Parts {
+        name: make_name(alloc, b"m")?,
+        inputs: Items::of(vec![in alloc; make_name(alloc, b"x")?]?),
+        clock: None,
+        latches: Items::of(Vec::new(alloc)),
+        gates: Items::of(gates),
+        outputs: Items::of(Vec::new(alloc)),
+    };
+    Ok(Netlist::new(alloc, parts)?)
+}
+
+#[test]
+fn gates_come_after_those_that_they_read(rt: HostRuntime) -> Result<(), Fail> {
+    let alloc = rt.alloc();
+    let order = make_chain(alloc, Sig(0))?.in_order(alloc)?;
+    assert_eq!(rt; order.as_deref(), Some([2u32, 1, 0].as_slice()));
+    let looped = make_chain(alloc, Sig(2))?.in_order(alloc)?;
+    assert!(rt; looped.is_none());
+    Ok(())
+}

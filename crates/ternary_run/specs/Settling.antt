@@ -1,5 +1,5 @@
 -- Settling gate by gate.
-use Rattle.std.specs.Prelude.{◌≡◌, ◌≢◌, ℕ, zero, suc, List, [], ◌∷◌, ◌++◌, length, replicate, Some, None}
+use Rattle.std.specs.Prelude.{◌≡◌, ◌≢◌, ℕ, List, length, replicate, Some, None}
 use Rattle.std.specs.declared.option.Option.{Option}
 use Rattle.cyc_base.specs.declared.trit.Trit.{Trit}
 use Rattle.cyc_base.specs.declared.trit.Trit.TheVariants.{X}

@@ -1,8 +1,7 @@
-use Rattle.std.proofs.Common.{◌≡◌, ◌<◌, length, nat_lt, ap, sym, inr, arith, ◌∙◌, Some, None, slice_get}
+use Rattle.std.proofs.Common.{◌≡◌, ◌<◌, length, nat_lt, ap, sym, inr, arith, ◌∙◌, Some, None}
 use Rattle.std.specs.Prelude.{find}
 use Rattle.std.specs.List.{position_from}
-use Rattle.care_sets.specs.Binding.{is_unknown_name, is_before}
-use Rattle.care_sets.specs.declared.fault.CareFault.TheVariants.{NotLatch}
+use Rattle.care_sets.specs.Binding.{is_before}
 use Rattle.care_sets.proofs.BindingLemmas.{early_within, early_name, same_length, no_unknown_name, no_early_name, columns_from_first}
 use Rattle.care_sets.proofs.FaultLemmas.{not_latch, no_fault}
 use Rattle.care_sets.proofs.binding.checked_columns.Goals as goal

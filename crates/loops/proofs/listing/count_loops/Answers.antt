@@ -1,5 +1,4 @@
-use Rattle.std.proofs.Common.{◌+◌, sym, ap, ap₂, ◌∙◌, refl, arith, subst, ◌≤◌, cond}
-use Rattle.std.specs.List.{range_with_len}
+use Rattle.std.proofs.Common.{◌+◌, sym, ap₂, ◌∙◌, arith, subst, ◌≤◌}
 use Rattle.loops.specs.Listed.{loop_of, begins_with}
 use Rattle.loops.proofs.ListedLemmas.{counted_more, at_most_one}
 use Rattle.loops.proofs.listing.count_loops.Goals as goal

@@ -1,7 +1,6 @@
 -- Sorting keeps the pins.
-use Rattle.std.proofs.Common.{rules, ◌≡◌, sym, subst, List}
+use Rattle.std.proofs.Common.{rules}
 use Rattle.std.proofs.lemmas.List.Sorted.{IsNonDecreasingBy-from_sort_by_key}
-use Rattle.std.specs.List.Sorted.{IsPermutation}
 use Rattle.ternary_run.specs.declared.readers.Read.{Read}
 use Rattle.ternary_run.proofs.readers.Readers.of.Goals as goal
 
