@@ -1,5 +1,6 @@
 -- How a store grows: what is kept, which nodes are new, and how many.
-use Rattle.std.proofs.Common.{◌≡◌, ◌≢◌, ℕ, zero, suc, ◌+◌, ◌-◌, ◌<◌, ◌≤◌, Bool, true, false, List, [], ◌∷◌, inl, inr, length, refl, sym, ap, subst, ◌∙◌, arith}
+use Rattle.std.proofs.Common.{◌≡◌, ◌≢◌, ℕ, zero, suc, ◌+◌, ◌-◌, ◌*◌, ◌<◌, ◌≤◌, Bool, true, false, List, [], ◌∷◌, inl, inr, length, refl, sym, ap, subst, ◌∙◌, arith}
+use Rattle.std.proofs.Math.Nat.{mul-le-mul_left}
 use Rattle.std.proofs.lemmas.Map.Keys.{IsDistinct-cons}
 use Rattle.std.specs.List.{AllByRecursion, IsDistinct}
 use Rattle.std.specs.Set.{is_member}
@@ -152,3 +153,28 @@ refused-parts old new f lawful kept parts r =
     let past = subst (λ v. length new.entries < length old.entries + nodes v f) kept.vars
     (count-refused new lawful.canonical f lawful.constants old kept.more (λ n in_n. subst (λ v. IsNodeOf old n ⊎ IsPart v f (den new n)) (sym kept.vars) (parts.each n in_n)) r.part r.is_part r.absent) in
     record { full = r.full; past = omega (arith, past, r.full) }
+
+-- ---- adding up
+
+pub added-within : (s t : Arena) (w p n : ℕ) → p ≤ n → AddsAtMost s t (w * p) → AddsAtMost s t (w * n)
+added-within s t w p n less before = omega (arith, before, mul-le-mul_left {m = p} {n = n} w less)
+
+pub added-more : (s t u : Arena) (w p q n : ℕ) → p + q ≤ n → AddsAtMost s t (w * p) → AddsAtMost t u (w * q) → AddsAtMost s u (w * n)
+added-more s t u w p q n less before now = omega (arith, before, now, mul-le-mul_left {m = p + q} {n = n} w less)
+
+pub full-more : (s t u : Arena) (w p q n : ℕ) → p + q ≤ n → AddsAtMost s t (w * p) → IsFullOnlyPast t u (w * q) → IsFullOnlyPast s u (w * n)
+full-more s t u w p q n less before now = record { full = now.full; past = omega (arith, before, now.past, mul-le-mul_left {m = p + q} {n = n} w less) }
+
+pub full-first : (s t : Arena) (w q n : ℕ) → q ≤ n → IsFullOnlyPast s t (w * q) → IsFullOnlyPast s t (w * n)
+full-first s t w q n less now = record { full = now.full; past = omega (arith, now.past, mul-le-mul_left {m = q} {n = n} w less) }
+
+-- one step more, of w nodes each
+
+one-more : (w p : ℕ) → w * (p + 1) ≡ w * p + w
+one-more w p = omega arith
+
+pub added-next : (s t u : Arena) (w p : ℕ) → AddsAtMost s t (w * p) → AddsAtMost t u w → AddsAtMost s u (w * (p + 1))
+added-next s t u w p before now = omega (arith, before, now, one-more w p)
+
+pub full-next : (s t u : Arena) (w p n : ℕ) → p + 1 ≤ n → AddsAtMost s t (w * p) → IsFullOnlyPast t u w → IsFullOnlyPast s u (w * n)
+full-next s t u w p n less before now = record { full = now.full; past = omega (arith, before, now.past, one-more w p, mul-le-mul_left {m = p + 1} {n = n} w less) }

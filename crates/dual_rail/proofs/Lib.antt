@@ -1,6 +1,6 @@
 mod ExpansionLemmas
 mod MemoLemmas
-mod SizeLemmas
+pub mod SizeLemmas
 pub mod SurelyLemmas
 pub mod WidthLemmas
 mod TableLemmas

@@ -1,15 +1,14 @@
 -- The table of rails, and what a loop over the nodes adds.
-use Rattle.std.proofs.Common.{◌≡◌, ℕ, zero, suc, ◌+◌, ◌*◌, ◌<◌, ◌≤◌, Bool, true, false, not, ◌⊎◌, inl, inr, List, [], ◌∷◌, ◌++◌, length, Result, Ok, Err, is_err, is_ok, if◌then◌else◌, refl, sym, ap, subst, ◌∙◌, arith, true≢false}
+use Rattle.std.proofs.Common.{◌≡◌, ℕ, zero, suc, ◌<◌, ◌≤◌, Bool, true, false, not, ◌⊎◌, inl, inr, List, [], ◌∷◌, ◌++◌, length, Result, Ok, Err, is_err, is_ok, if◌then◌else◌, refl, sym, ap, subst, ◌∙◌, arith, true≢false}
 use Rattle.std.proofs.lemmas.Bool.{cases_lt}
 use Rattle.std.proofs.lemmas.List.{get_or_append_left, get_or_push, length_push}
-use Rattle.std.proofs.Math.Nat.{mul-le-mul_left}
 use Rattle.std.specs.List.{All, slice_index_or}
 use Rattle.bdd_store.specs.declared.node.Node.{Node}
 use Rattle.bdd_store.specs.Arena.{Arena, den, den_within, value_at, constant, IsNodeOf}
 use Rattle.bdd_store.specs.Soundness.{IsLawful}
 use Rattle.bdd_store.specs.Subfunctions.{nodes, IsPart}
 use Rattle.bdd_store.proofs.GrowthLemmas.{count-parts}
-use Rattle.bdd_store.specs.Growth.{KeepsNodes, AddsAtMost, IsFullOnlyPast}
+use Rattle.bdd_store.specs.Growth.{KeepsNodes}
 use Rattle.dual_rail.specs.declared.rail.Rails.{Rails}
 use Rattle.dual_rail.specs.Rails.{values_of, AreRailsOf}
 use Rattle.dual_rail.specs.Local.{Local, function, local_size, IsLocal}
@@ -64,15 +63,3 @@ local-count l lawful local =
     let parts : (n : Node) → IsNodeOf l.store n → IsNodeOf (record { vars = l.store.vars; limit = l.store.limit; entries = [] }) n ⊎ IsPart l.store.vars (function l) (den l.store n) = λ n node. elim (cases_lt n.number 2) [ inl less ↦ inl (omega arith) | inr more ↦ inr (local.parts n node more) ] in
     let most = count-parts l.store lawful.canonical (function l) lawful.constants (record { vars = l.store.vars; limit = l.store.limit; entries = [] }) (omega arith) parts in
     omega (arith, most, ap (λ v. nodes v (function l)) local.pins)
-
-one-more : (W p : ℕ) → W * (p + 1) ≡ W * p + W
-one-more W p = omega arith
-
-pub added-next : (s t u : Arena) (W p : ℕ) → AddsAtMost s t (W * p) → AddsAtMost t u W → AddsAtMost s u (W * (p + 1))
-added-next s t u W p before now = omega (arith, before, now, one-more W p)
-
-pub added-within : (s t : Arena) (W p n : ℕ) → p ≤ n → AddsAtMost s t (W * p) → AddsAtMost s t (W * n)
-added-within s t W p n less before = omega (arith, before, mul-le-mul_left {m = p} {n = n} W less)
-
-pub full-within : (s t u : Arena) (W p n : ℕ) → p + 1 ≤ n → AddsAtMost s t (W * p) → IsFullOnlyPast t u W → IsFullOnlyPast s u (W * n)
-full-within s t u W p n less before now = record { full = now.full; past = omega (arith, before, now.past, one-more W p, mul-le-mul_left {m = p + 1} {n = n} W less) }

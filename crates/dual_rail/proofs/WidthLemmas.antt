@@ -1,11 +1,10 @@
 -- Counting the nodes of a lift.
-use Rattle.std.proofs.Common.{◌≡◌, ℕ, zero, suc, ◌+◌, ◌≤◌, Bool, true, false, not, ◌&&◌, inl, inr, List, [], ◌∷◌, ◌++◌, length, map, drop, refl, sym, ap, ap₂, subst, ◌∙◌, arith}
+use Rattle.std.proofs.Common.{◌≡◌, ℕ, zero, suc, ◌+◌, ◌≤◌, Bool, true, false, not, ◌&&◌, List, [], ◌∷◌, ◌++◌, length, map, drop, refl, sym, ap, ap₂, subst, ◌∙◌, arith}
 use Rattle.std.proofs.Common.{cond, filter}
 use Rattle.std.specs.List.{All}
 use Rattle.std.specs.Bool.{beq}
 use Rattle.std.specs.Cmp.Lexicographic.{pointwise}
 use Rattle.std.proofs.lemmas.List.{length-map}
-use Rattle.std.proofs.lemmas.List.Elements.{All-contains}
 use Rattle.std.proofs.lemmas.List.Filters.{length-filter_both}
 use Rattle.std.proofs.lemmas.List.Folds.{list_all-append, list_all-map}
 use Rattle.std.proofs.lemmas.Map.Made.{distinct_count-le}
@@ -22,7 +21,7 @@ use Rattle.bdd_ops.specs.Operations.{selection}
 use Rattle.dual_rail.specs.declared.lifting.Fork.{Fork}
 use Rattle.dual_rail.specs.Local.{Local, function}
 use Rattle.dual_rail.specs.Lifts.{surely, IsFork}
-use Rattle.dual_rail.specs.WorkingLists.{IsWide, IsExtended, IsListed, is_bit}
+use Rattle.dual_rail.specs.WorkingLists.{IsWide, BoundsEach, IsExtended, is_bit}
 use Rattle.dual_rail.proofs.SurelyLemmas.{surely-alike, surely-apart, values_of-kept}
 
 -- fewer functions have no more nodes
@@ -89,21 +88,11 @@ module _ (s : Arena) (pins : List Rails) (vars : ℕ) (len : length pins ≡ var
   }
 
 -- the list stays as it was while nodes are kept
-pub IsListed-back : {s t : Arena} {pins : List Rails} {F : List Bool → Bool} → KeepsNodes s t → All (AreRailsOf s) pins → (g : List Bool → Bool) → IsListed t pins F g → IsListed s pins F g
-IsListed-back {s} {t} {pins} {F} k all g (inl rail) =
-    let is : AreRailsOf s rail.pin = All-contains (AreRailsOf s) pins rail.pin all rail.among in
-    inl (record {
-      pin = rail.pin;
-      among = rail.among;
-      same = elim rail.same [
-        | inl same ↦ inl (λ bits. same bits ∙ k.function rail.pin.one bits is.one)
-        | inr same ↦ inr (λ bits. same bits ∙ k.function rail.pin.zero bits is.zero)
-      ];
-    })
-IsListed-back {s} {t} {pins} {F} k all g (inr e) = inr (record { first = e.first; short = e.short; bit = e.bit; same = λ bits. e.same bits ∙ ap (λ trits. is_bit e.bit (exact (λ rest. F (e.first ++ rest)) (drop (length e.first) trits))) (values_of-kept k pins all bits) })
+pub IsExtended-back : {s t : Arena} {pins : List Rails} {F : List Bool → Bool} → KeepsNodes s t → All (AreRailsOf s) pins → (g : List Bool → Bool) → IsExtended t pins F g → IsExtended s pins F g
+IsExtended-back {s} {t} {pins} {F} k all g e = record { first = e.first; short = e.short; bit = e.bit; same = λ bits. e.same bits ∙ ap (λ trits. is_bit e.bit (exact (λ rest. F (e.first ++ rest)) (drop (length e.first) trits))) (values_of-kept k pins all bits) }
 
-pub IsWide-kept : {s t : Arena} {pins : List Rails} {F : List Bool → Bool} {w : ℕ} → KeepsNodes s t → All (AreRailsOf s) pins → IsWide s.vars (IsListed s pins F) w → IsWide t.vars (IsListed t pins F) w
-IsWide-kept {s} {t} {pins} {F} {w} k all wide = subst (λ v. IsWide v (IsListed t pins F) w) (sym k.vars) (IsWide-fewer (IsListed s pins F) (IsListed t pins F) w (IsListed-back k all) wide)
+pub BoundsEach-kept : {s t : Arena} {pins : List Rails} {F : List Bool → Bool} {w : ℕ} → KeepsNodes s t → All (AreRailsOf s) pins → BoundsEach s.vars (IsExtended s pins F) w → BoundsEach t.vars (IsExtended t pins F) w
+BoundsEach-kept {s} {t} {pins} {F} {w} k all bounds g is = subst (λ v. nodes v g ≤ w) (sym k.vars) (bounds g (IsExtended-back k all g is))
 
 -- one function of a list has at most w nodes
 pub wide-one : {vars : ℕ} {P : (List Bool → Bool) → Type 0} {w : ℕ} → IsWide vars P w → (f : List Bool → Bool) → P f → nodes vars f ≤ w
@@ -111,18 +100,20 @@ wide-one wide f is = wide.combinations (λ x y z. x) f f f is is is
 
 -- ---- the two operations of a node
 
-module _ (l : Local) (node : Node) {s : Arena} {pins : List Rails} {fork : Fork} (len : length pins ≡ l.pins) (part : IsPart l.pins (function l) (den l.store node)) (is : IsFork s pins (den l.store node) fork) {w : ℕ} (wide : IsWide s.vars (IsListed s pins (function l)) w) where
+module _ (l : Local) (node : Node) {s : Arena} {pins : List Rails} {fork : Fork} (len : length pins ≡ l.pins) (part : IsPart l.pins (function l) (den l.store node)) (is : IsFork s pins (den l.store node) fork) {w : ℕ} (bounds : BoundsEach s.vars (IsExtended s pins (function l)) w) where
   pub one-nodes : nodes s.vars (selection s fork.pin.one fork.pin.zero fork.hi.one fork.lo.one) ≤ w
   one-nodes =
       let f : List Bool → Bool = selection s fork.pin.one fork.pin.zero fork.hi.one fork.lo.one in
-      wide-one wide (selection s fork.pin.one fork.pin.zero fork.hi.one fork.lo.one) (inr (extended-one s pins l.pins len (function l) (den l.store node) part (selection s fork.pin.one fork.pin.zero fork.hi.one fork.lo.one) is.one))
+      bounds f (extended-one s pins l.pins len (function l) (den l.store node) part f is.one)
 
   pub zero-nodes : nodes s.vars (selection s fork.pin.one fork.pin.zero fork.hi.zero fork.lo.zero) ≤ w
-  zero-nodes = wide-one wide (selection s fork.pin.one fork.pin.zero fork.hi.zero fork.lo.zero) (inr (extended-zero s pins l.pins len (function l) (den l.store node) part (selection s fork.pin.one fork.pin.zero fork.hi.zero fork.lo.zero) is.zero))
+  zero-nodes =
+      let f : List Bool → Bool = selection s fork.pin.one fork.pin.zero fork.hi.zero fork.lo.zero in
+      bounds f (extended-zero s pins l.pins len (function l) (den l.store node) part f is.zero)
 
--- ---- a width
+-- ---- a bound of every function
 
-nodes-bounded : (vars : ℕ) (f : List Bool → Bool) → nodes vars f ≤ length (prefixes vars)
+pub nodes-bounded : (vars : ℕ) (f : List Bool → Bool) → nodes vars f ≤ length (prefixes vars)
 unfolding nodes
 nodes-bounded vars f =
     let tables : List (List Bool) = map (λ p. table vars (fixed f p)) (prefixes vars) in

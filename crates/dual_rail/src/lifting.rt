@@ -8,7 +8,7 @@ ghost use Rattle.cover_logic.specs.Extensions.{exact, ext};
 ghost use Rattle.dual_rail.specs.Rails.{AreRailsOf, value_of, values_of};
 ghost use Rattle.dual_rail.specs.Local.{function, local_size, IsDiagramOf};
 ghost use Rattle.dual_rail.specs.Lifts.{IsFork, IsLift, IsTable};
-ghost use Rattle.dual_rail.specs.WorkingLists.{IsWide, IsListed};
+ghost use Rattle.dual_rail.specs.WorkingLists.{BoundsEach, IsExtended};
 
 use crate::diagram::LocalDiagram;
 use crate::rail::{Rails, rails_of};
@@ -58,8 +58,8 @@ fn lift_node(
 
     ensures lift { IfOk result (IsLift d.new pins.now (den local.now.store node)) }
     ensures keeps { KeepsNodes d.old d.new }
-    ensures added { (w : ℕ) → IsWide d.old.vars (IsListed d.old pins.now (function local.now)) w → AddsAtMost d.old d.new (2 * w) }
-    ensures full { (w : ℕ) → IsWide d.old.vars (IsListed d.old pins.now (function local.now)) w → result ≡ Err StoreFault.Full → IsFullOnlyPast d.old d.new (2 * w) }
+    ensures added { (w : ℕ) → BoundsEach d.old.vars (IsExtended d.old pins.now (function local.now)) w → AddsAtMost d.old d.new (2 * w) }
+    ensures full { (w : ℕ) → BoundsEach d.old.vars (IsExtended d.old pins.now (function local.now)) w → result ≡ Err StoreFault.Full → IsFullOnlyPast d.old d.new (2 * w) }
 {
     let fork = fork_at(local, pins, table, node);
     let one = d.select(fork.pin.one, fork.pin.zero, fork.hi.one, fork.lo.one)?;
@@ -70,10 +70,9 @@ fn lift_node(
 /// The rails of the exact ternary extension of a cover's function, on the values of the pins (Malik 1994). It
 /// leaves every earlier node its function, after a refusal too.
 ///
-/// Let w be at least the number of variables plus one, and at least the number of subfunctions of each Boolean
-/// combination of three functions: the pins' rails, and where the function, with some first pins fixed, is
-/// surely 1 or surely 0. Then it adds at most two times w nodes for each node of the cover's function, and
-/// `Full` comes only where so many more would be over the limit.
+/// Let w be at least the number of subfunctions of each function that says where the cover's function, with some
+/// first pins fixed, is surely 1 or surely 0. Then it adds at most two times w nodes for each node of the cover's
+/// function, and `Full` comes only where so many more would be over the limit.
 pub fn lift(
     alloc: Global,
     d: &mut Diagrams,
@@ -87,8 +86,8 @@ pub fn lift(
     ensures value { IfOk result (λ r. (bits : List Bool) → value_of d.new r bits ≡ exact (function local.now) (values_of d.old pins.now bits)) }
     ensures cover { (cover : Cover) → IsDiagramOf local.now cover → IfOk result (λ r. (bits : List Bool) → value_of d.new r bits ≡ ext cover (values_of d.old pins.now bits)) }
     ensures keeps { KeepsNodes d.old d.new }
-    ensures added { (w : ℕ) → IsWide d.old.vars (IsListed d.old pins.now (function local.now)) w → AddsAtMost d.old d.new (2 * w * local_size local.now) }
-    ensures full { (w : ℕ) → IsWide d.old.vars (IsListed d.old pins.now (function local.now)) w → result ≡ Err StoreFault.Full → IsFullOnlyPast d.old d.new (2 * w * local_size local.now) }
+    ensures added { (w : ℕ) → BoundsEach d.old.vars (IsExtended d.old pins.now (function local.now)) w → AddsAtMost d.old d.new (2 * w * local_size local.now) }
+    ensures full { (w : ℕ) → BoundsEach d.old.vars (IsExtended d.old pins.now (function local.now)) w → result ≡ Err StoreFault.Full → IsFullOnlyPast d.old d.new (2 * w * local_size local.now) }
 {
     let Ok(mut table) = vec![in alloc; rails_of(false), rails_of(true)] else {
         return Err(StoreFault::Memory);

@@ -1,7 +1,7 @@
 -- The bounds of sweeps, of loops, and of all blocks.
-use Rattle.std.proofs.Common.{◌≡◌, ◌==◌, inl, inr, ℕ, ◌+◌, ◌*◌, ◌<◌, ◌≤◌, ltb, Bool, true, false, List, ◌++◌, length, map, filter, take, get_or, refl, sym, ap, ap₂, ◌∙◌, subst, arith, Contains}
-use Rattle.std.proofs.lemmas.Bool.{eq-eqb}
-use Rattle.std.proofs.lemmas.List.{get_or_default}
+use Rattle.std.proofs.Common.{◌≡◌, ◌==◌, inl, inr, ℕ, ◌+◌, ◌*◌, ◌<◌, ◌≤◌, ltb, Bool, false, List, ◌++◌, length, map, filter, take, get_or, refl, sym, ap, ap₂, ◌∙◌, subst, arith, Contains, true≢false}
+use Rattle.std.proofs.lemmas.Bool.{eq-eqb, cases_Bool}
+use Rattle.std.proofs.lemmas.List.{get_or_default, length-map}
 use Rattle.std.proofs.lemmas.List.Sums.{length-filter, count_by-le-length}
 use Rattle.std.proofs.lemmas.List.FromFn.{length-range_with_len}
 use Rattle.std.proofs.Math.Nat.{mul-le-mul_left, mul-le-mul_right}
@@ -12,9 +12,9 @@ use Rattle.bdd_store.specs.Growth.{KeepsNodes}
 use Rattle.cover_logic.specs.Covers.{value}
 use Rattle.cyc_base.specs.declared.trit.Trit.{Trit}
 use Rattle.dual_rail.specs.declared.rail.Rails.{Rails}
-use Rattle.dual_rail.specs.WorkingLists.{IsWide, IsListed, is_bit}
+use Rattle.dual_rail.specs.WorkingLists.{IsWide, BoundsEach, IsExtended, is_bit}
 use Rattle.dual_rail.specs.Local.{size}
-use Rattle.dual_rail.specs.Rails.{values_of}
+use Rattle.dual_rail.specs.Rails.{value_of, values_of}
 use Rattle.dual_rail.proofs.WidthLemmas.{IsWide-fewer}
 use Rattle.netlist.specs.declared.parts.Gate.{Gate}
 use Rattle.netlist.specs.declared.parts.Parts.{Parts}
@@ -22,36 +22,45 @@ use Rattle.netlist.specs.Netlists.{IsNetlist, gate_at, no_gate}
 use Rattle.loops.specs.declared.parts.Blocks.{Blocks}
 use Rattle.loops.specs.declared.parts.Cut.{Cut}
 use Rattle.loops.specs.Blocks.{AreBlocksOf, block_at, home_of}
-use Rattle.loops.specs.Cuts.{IsCutOf, is_cut, loops_by}
+use Rattle.loops.specs.Cuts.{IsCutOf, Loops, is_cut, in_one_loop, loops_by}
 use Rattle.loops.specs.Orders.{IsOrderOf}
 use Rattle.loops.specs.Sweeps.{first_gate, cuts_of, value_in}
-use Rattle.loops.proofs.Told.{gate_home}
+use Rattle.loops.proofs.Told.{told_parts, gate_home}
 use Rattle.fixpoint.specs.Solved.{Vectors, IsLoopAt}
-use Rattle.fixpoint.specs.Sweeping.{rails_read, AreWires, AreSwept, IsSolvedBelow, IsSweepable, vectors, OthersStay, after_sweeps}
+use Rattle.fixpoint.specs.Sweeping.{rails_read, AreSwept, IsSolvedBelow, IsSweepable, vectors, OthersStay, after_sweeps}
 use Rattle.fixpoint.specs.Working.{IsWorking, HasLargeCover, cost, order_cost, block_cost, below_cost, effort, total, read_in_sweep, read_at_fix}
-use Rattle.fixpoint.proofs.CutLemmas.{cuts-are}
+use Rattle.fixpoint.proofs.CutLemmas.{one-block, cuts-are}
 use Rattle.fixpoint.proofs.SweepLemmas.{reads-all}
-use Rattle.fixpoint.proofs.WorkLemmas.{wide-in-sweep, wide-at-fix}
+use Rattle.fixpoint.proofs.WorkLemmas.{bounds-lift}
+use Rattle.fixpoint.proofs.WireLemmas.{pins-values}
 use Rattle.fixpoint.proofs.BlockLemmas.{plain-reads}
 use Rattle.fixpoint.proofs.CostLemmas.{order-total, total-at, total-next, total-all}
 
 pub large-kept : {net : Parts} {s t : Arena} → KeepsNodes s t → HasLargeCover net t.limit → HasLargeCover net s.limit
 large-kept keeps large = record { gate = large.gate; within = large.within; over = omega (arith, large.over, keeps.limit) }
 
+-- what a lift of `solve` reads
+module _ (net : Parts) (cut : Cut) (d : Arena) (before rails : List Rails) (n : ℕ) where
+  list-width : length (map (rails_read net cut before rails) (gate_at net n).pins) ≡ length (gate_at net n).pins
+  list-width = length-map {B = Rails} (gate_at net n).pins (rails_read net cut before rails)
+
+  list-values : (bits : List Bool) → values_of d (map (rails_read net cut before rails) (gate_at net n).pins) bits ≡ map (λ pin. value_of d (rails_read net cut before rails pin) bits) (gate_at net n).pins
+  list-values bits = pins-values net cut d before rails (gate_at net n).pins (map (rails_read net cut before rails) (gate_at net n).pins) bits refl
+
 -- a width of the working list serves the lift of each gate of a sweep
-pub sweep-wide : (net : Parts) → IsNetlist net → (cut : Cut) → IsCutOf net cut → (blocks : Blocks) (b : ℕ) (v : Vectors) (k : ℕ) (order : List ℕ) (s d : Arena) (before old rails : List Rails)
+pub sweep-bounds : (net : Parts) → IsNetlist net → (cut : Cut) → IsCutOf net cut → (blocks : Blocks) (b : ℕ) (v : Vectors) (k : ℕ) (order : List ℕ) (s d : Arena) (before old rails : List Rails)
     → (ready : IsSweepable net blocks cut s v (after_sweeps net blocks cut v k) b order before old) → KeepsNodes s d → (i : ℕ) → i < length order → OthersStay net (take i order) old rails
-    → AreSwept net blocks cut d v (after_sweeps net blocks cut v k) (Contains (take i order)) rails → AreWires net d before rails → k ≤ length (filter (is_cut cut.wires) (block_at blocks b).gates)
-    → {w : ℕ} → IsWide s.vars (IsWorking net blocks cut v) w → IsWide d.vars (IsListed d (map (rails_read net cut before rails) (gate_at net (get_or order i 0)).pins) (value (gate_at net (get_or order i 0)).cover)) w
-sweep-wide net valid cut cut_is blocks b v k order s d before old rails ready keeps i inside others swept wires few {w} wide =
+    → AreSwept net blocks cut d v (after_sweeps net blocks cut v k) (Contains (take i order)) rails → k ≤ length (filter (is_cut cut.wires) (block_at blocks b).gates)
+    → {w : ℕ} → IsWide s.vars (IsWorking net (loops_by blocks cut) v) w → BoundsEach d.vars (IsExtended d (map (rails_read net cut before rails) (gate_at net (get_or order i 0)).pins) (value (gate_at net (get_or order i 0)).cover)) w
+sweep-bounds net valid cut cut_is blocks b v k order s d before old rails ready keeps i inside others swept few {w} wide =
     let n : ℕ = get_or order i 0 in
-    let listed : Contains (block_at blocks b).gates (get_or order i 0) = ready.follows.only (get_or order i 0) (i, inside, get_or_default order i (get_or order i 0) 0 inside) in
-    let at = gate_home net blocks ready.blocks_are b (get_or order i 0) ready.loop.within listed in
-    let looped : (block_at blocks (home_of blocks (get_or order i 0))).looped ≡ true = ap (λ (p : ℕ). (block_at blocks p).looped) at.1 ∙ ready.loop.looped in
-    let same : length (filter (is_cut cut.wires) (block_at blocks b).gates) ≡ length (cuts_of net (loops_by blocks cut) (get_or order i 0)) = ap length (cuts-are net blocks ready.blocks_are cut b ready.loop (get_or order i 0) listed) in
-    let wide2 : IsWide d.vars (IsWorking net blocks cut v) w = subst (λ (x : ℕ). IsWide x (IsWorking net blocks cut v) w) (sym keeps.vars) wide in
-    wide-in-sweep net valid blocks ready.blocks_are cut cut_is v ready.solved.vector d before rails wires (get_or order i 0) at.0 k looped (omega (arith, few, same))
-    (λ bits. reads-all net valid cut cut_is blocks b v (after_sweeps net blocks cut v k) order s d before old rails ready keeps i inside others swept bits (get_or order i 0) refl) wide2
+    let listed : Contains (block_at blocks b).gates n = ready.follows.only n (i, inside, get_or_default order i n 0 inside) in
+    let at = gate_home net blocks ready.blocks_are b n ready.loop.within listed in
+    let same : length (filter (is_cut cut.wires) (block_at blocks b).gates) ≡ length (cuts_of net (loops_by blocks cut) n) = ap length (cuts-are net blocks ready.blocks_are cut b ready.loop n listed) in
+    let wide2 : IsWide d.vars (IsWorking net (loops_by blocks cut) v) w = subst (λ (x : ℕ). IsWide x (IsWorking net (loops_by blocks cut) v) w) (sym keeps.vars) wide in
+    bounds-lift net (loops_by blocks cut) v d n at.0 (map (rails_read net cut before rails) (gate_at net n).pins) (λ bits. read_in_sweep net (loops_by blocks cut) (v bits) k n) (list-width net cut d before rails n)
+    (λ bits. list-values net cut d before rails n bits ∙ reads-all net valid cut cut_is blocks b v (after_sweeps net blocks cut v k) order s d before old rails ready keeps i inside others swept bits n refl)
+    (inl (record { looped = one-block net blocks ready.blocks_are cut b ready.loop n n at.0 at.1 at.0 at.1; sweep = k; few = omega (arith, few, same); is = λ bits. refl })) wide2
 
 -- a loop has at most as many cut wires as the netlist has gates
 pub cuts-few : (net : Parts) (blocks : Blocks) (cut : Cut) → AreBlocksOf net blocks → (b : ℕ) → IsLoopAt blocks b → length (filter (is_cut cut.wires) (block_at blocks b).gates) ≤ length net.gates
@@ -89,16 +98,22 @@ pub gate-few : (net : Parts) (blocks : Blocks) (n : ℕ) → n < length net.gate
 gate-few net blocks n less = total-at (cost net) (λ m. home_of blocks m == home_of blocks n) n (length net.gates) less (eq-eqb (home_of blocks n) (home_of blocks n) refl)
 
 -- a width of the working list serves the lift of a gate of no loop
-pub plain-wide : (net : Parts) → IsNetlist net → (blocks : Blocks) → AreBlocksOf net blocks → (cut : Cut) → IsCutOf net cut → (n : ℕ) → n < length net.gates → (block_at blocks (home_of blocks n)).looped ≡ false
+pub plain-bounds : (net : Parts) → IsNetlist net → (blocks : Blocks) → AreBlocksOf net blocks → (cut : Cut) → IsCutOf net cut → (n : ℕ) → n < length net.gates → (block_at blocks (home_of blocks n)).looped ≡ false
     → (d : Arena) (v : Vectors) (before rails : List Rails) → IsSolvedBelow net blocks cut d v (home_of blocks n) before rails
-    → {w : ℕ} → IsWide d.vars (IsWorking net blocks cut v) w → IsWide d.vars (IsListed d (map (rails_read net cut before rails) (gate_at net n).pins) (value (gate_at net n).cover)) w
-plain-wide net valid blocks are cut cut_is n less plain d v before rails solved wide =
-    wide-at-fix net valid blocks are cut cut_is v solved.vector d before rails solved.wires n less plain (plain-reads net valid blocks are cut cut_is n less plain d v before rails solved) wide
+    → {w : ℕ} → IsWide d.vars (IsWorking net (loops_by blocks cut) v) w → BoundsEach d.vars (IsExtended d (map (rails_read net cut before rails) (gate_at net n).pins) (value (gate_at net n).cover)) w
+plain-bounds net valid blocks are cut cut_is n less plain d v before rails solved wide =
+    let alone : in_one_loop blocks n n ≡ false = elim (cases_Bool (in_one_loop blocks n n)) [
+      | inl one ↦ absurd (true≢false (sym (told_parts net blocks are n n one).looped ∙ plain))
+      | inr isnt ↦ isnt
+    ] in
+    bounds-lift net (loops_by blocks cut) v d n less (map (rails_read net cut before rails) (gate_at net n).pins) (λ bits. read_at_fix net (v bits) n) (list-width net cut d before rails n)
+    (λ bits. list-values net cut d before rails n bits ∙ plain-reads net valid blocks are cut cut_is n less plain d v before rails solved bits)
+    (inr (record { plain = alone; is = λ bits. refl })) wide
 
 -- the working list goes by the vectors alone
-working-same : (net : Parts) (blocks : Blocks) (cut : Cut) (v u : Vectors) → ((bits : List Bool) → v bits ≡ u bits) → (g : List Bool → Bool) → IsWorking net blocks cut v g → IsWorking net blocks cut u g
-working-same net blocks cut v u same g (inl is) = inl (record { signal = is.signal; within = is.within; bit = is.bit; same = λ bits. is.same bits ∙ ap (λ (t : List Trit). is_bit is.bit (value_in t is.signal)) (same bits) })
-working-same net blocks cut v u same g (inr is) = inr (record {
+working-same : (net : Parts) (loops : Loops) (v u : Vectors) → ((bits : List Bool) → v bits ≡ u bits) → (g : List Bool → Bool) → IsWorking net loops v g → IsWorking net loops u g
+working-same net loops v u same g (inl is) = inl (record { signal = is.signal; within = is.within; bit = is.bit; same = λ bits. is.same bits ∙ ap (λ (t : List Trit). is_bit is.bit (value_in t is.signal)) (same bits) })
+working-same net loops v u same g (inr is) = inr (record {
   gate = is.gate;
   within = is.within;
   first = is.first;
@@ -106,15 +121,15 @@ working-same net blocks cut v u same g (inr is) = inr (record {
   bit = is.bit;
   read = is.read;
   reads = elim is.reads [
-    | inl r ↦ inl (record { looped = r.looped; sweep = r.sweep; few = r.few; is = λ bits. r.is bits ∙ ap (λ (t : List Trit). read_in_sweep net (loops_by blocks cut) t r.sweep is.gate) (same bits) })
+    | inl r ↦ inl (record { looped = r.looped; sweep = r.sweep; few = r.few; is = λ bits. r.is bits ∙ ap (λ (t : List Trit). read_in_sweep net loops t r.sweep is.gate) (same bits) })
     | inr r ↦ inr (record { plain = r.plain; is = λ bits. r.is bits ∙ ap (λ (t : List Trit). read_at_fix net t is.gate) (same bits) })
   ];
   same = is.same;
 })
 
-pub wide-same : (net : Parts) (blocks : Blocks) (cut : Cut) (v u : Vectors) (s t : Arena) → KeepsNodes s t → ((bits : List Bool) → v bits ≡ u bits) → {w : ℕ} → IsWide s.vars (IsWorking net blocks cut u) w → IsWide t.vars (IsWorking net blocks cut v) w
-wide-same net blocks cut v u s t keeps same {w} wide =
-    subst (λ (x : ℕ). IsWide x (IsWorking net blocks cut v) w) (sym keeps.vars) (IsWide-fewer (IsWorking net blocks cut u) (IsWorking net blocks cut v) w (working-same net blocks cut v u same) wide)
+pub wide-same : (net : Parts) (loops : Loops) (v u : Vectors) (s t : Arena) → KeepsNodes s t → ((bits : List Bool) → v bits ≡ u bits) → {w : ℕ} → IsWide s.vars (IsWorking net loops u) w → IsWide t.vars (IsWorking net loops v) w
+wide-same net loops v u s t keeps same {w} wide =
+    subst (λ (x : ℕ). IsWide x (IsWorking net loops v) w) (sym keeps.vars) (IsWide-fewer (IsWorking net loops u) (IsWorking net loops v) w (working-same net loops v u same) wide)
 
 -- one block more, and all of them
 pub below-next : (net : Parts) (blocks : Blocks) (b : ℕ) → 2 * ((length net.gates + 1) * below_cost net blocks b) + 2 * ((length net.gates + 1) * block_cost net blocks b) ≤ 2 * ((length net.gates + 1) * below_cost net blocks (b + 1))

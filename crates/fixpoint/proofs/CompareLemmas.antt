@@ -7,7 +7,7 @@ use Rattle.std.proofs.lemmas.List.Sums.{sum_by-take-le, sum_by_more}
 use Rattle.std.specs.List.{All, sum_by}
 use Rattle.bdd_store.specs.declared.node.Node.{Node}
 use Rattle.bdd_store.specs.Arena.{Arena, den, IsNodeOf}
-use Rattle.bdd_store.specs.Growth.{KeepsNodes, AddsAtMost, IsFullOnlyPast}
+use Rattle.bdd_store.specs.Growth.{KeepsNodes}
 use Rattle.bdd_store.specs.Subfunctions.{nodes}
 use Rattle.bdd_store.proofs.SubfunctionLemmas.{nodes-alike}
 use Rattle.bdd_ops.specs.Operations.{xor, conjunction, exclusive_or}
@@ -82,20 +82,6 @@ pub difference-is : (s t : Arena) (care m n differ : Node) → KeepsNodes s t �
 difference-is s t care m n differ keeps cared differs =
     nodes-alike t.vars (conjunction t care differ) (difference s care m n) (λ bits len. ap₂ (λ x y. x && y) (keeps.function care bits cared) (differs bits))
     ∙ ap (λ (v : ℕ). nodes v (difference s care m n)) keeps.vars
-
--- ---- adding up
-
-pub added-within : (s t : Arena) (w p n : ℕ) → p ≤ n → AddsAtMost s t (w * p) → AddsAtMost s t (w * n)
-added-within s t w p n less before = omega (arith, before, mul-le-mul_left {m = p} {n = n} w less)
-
-pub added-more : (s t u : Arena) (w p q n : ℕ) → p + q ≤ n → AddsAtMost s t (w * p) → AddsAtMost t u (w * q) → AddsAtMost s u (w * n)
-added-more s t u w p q n less before now = omega (arith, before, now, mul-le-mul_left {m = p + q} {n = n} w less)
-
-pub full-more : (s t u : Arena) (w p q n : ℕ) → p + q ≤ n → AddsAtMost s t (w * p) → IsFullOnlyPast t u (w * q) → IsFullOnlyPast s u (w * n)
-full-more s t u w p q n less before now = record { full = now.full; past = omega (arith, before, now.past, mul-le-mul_left {m = p + q} {n = n} w less) }
-
-pub full-first : (s t : Arena) (w q n : ℕ) → q ≤ n → IsFullOnlyPast s t (w * q) → IsFullOnlyPast s t (w * n)
-full-first s t w q n less now = record { full = now.full; past = omega (arith, now.past, mul-le-mul_left {m = q} {n = n} w less) }
 
 -- ---- two rails
 

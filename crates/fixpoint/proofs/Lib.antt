@@ -6,7 +6,7 @@ mod CutLemmas
 mod LoopLemmas
 mod BlockLemmas
 mod MinimumLemmas
-mod WorkLemmas
-mod CostLemmas
+pub mod WorkLemmas
+pub mod CostLemmas
 mod BoundLemmas
 mod SolutionLemmas

@@ -1,6 +1,7 @@
 -- The functions of a vector that `solve` works with, and what the gates of a netlist cost.
 use Rattle.std.specs.Prelude.{◌≡◌, ◌==◌, ◌<◌, ◌≤◌, ◌+◌, ◌⊎◌, ℕ, nat_lt, zero, suc, Bool, true, false, if◌then◌else◌, List, ◌++◌, length, map, drop}
 use Rattle.std.specs.List.{sum_by}
+use Rattle.bdd_store.specs.Subfunctions.{Alike}
 use Rattle.cyc_base.specs.declared.trit.Trit.{Trit}
 use Rattle.cover_logic.specs.Covers.{value}
 use Rattle.cover_logic.specs.Extensions.{exact}
@@ -10,9 +11,8 @@ use Rattle.netlist.specs.declared.parts.Parts.{Parts}
 use Rattle.netlist.specs.Fixpoint.{wire, fix}
 use Rattle.netlist.specs.Netlists.{gate_at}
 use Rattle.loops.specs.declared.parts.Blocks.{Blocks}
-use Rattle.loops.specs.declared.parts.Cut.{Cut}
-use Rattle.loops.specs.Blocks.{block_at, home_of}
-use Rattle.loops.specs.Cuts.{Loops, loops_by}
+use Rattle.loops.specs.Blocks.{home_of}
+use Rattle.loops.specs.Cuts.{Loops}
 use Rattle.loops.specs.Sweeps.{first_gate, value_in, pin_in, sweeps, cuts_of}
 use Rattle.fixpoint.specs.Solved.{Vectors}
 
@@ -24,15 +24,15 @@ abbrev pub read_at_fix : Parts → List Trit → ℕ → List Trit
 read_at_fix net v n = map (wire (fix net v)) (gate_at net n).pins
 
 -- what a gate of a loop reads, after at most as many sweeps as the loop has cut wires
-pub record IsReadInSweep (net : Parts) (blocks : Blocks) (cut : Cut) (v : Vectors) (gate : ℕ) (read : List Bool → List Trit) : Type 0 where
-  pub looped : (block_at blocks (home_of blocks gate)).looped ≡ true
+pub record IsReadInSweep (net : Parts) (loops : Loops) (v : Vectors) (gate : ℕ) (read : List Bool → List Trit) : Type 0 where
+  pub looped : loops.same gate gate ≡ true
   pub sweep : ℕ
-  pub few : sweep ≤ length (cuts_of net (loops_by blocks cut) gate)
-  pub is : (bits : List Bool) → read bits ≡ read_in_sweep net (loops_by blocks cut) (v bits) sweep gate
+  pub few : sweep ≤ length (cuts_of net loops gate)
+  pub is : (bits : List Bool) → read bits ≡ read_in_sweep net loops (v bits) sweep gate
 
 -- what any other gate reads
-pub record IsReadAtFix (net : Parts) (blocks : Blocks) (v : Vectors) (gate : ℕ) (read : List Bool → List Trit) : Type 0 where
-  pub plain : (block_at blocks (home_of blocks gate)).looped ≡ false
+pub record IsReadAtFix (net : Parts) (loops : Loops) (v : Vectors) (gate : ℕ) (read : List Bool → List Trit) : Type 0 where
+  pub plain : loops.same gate gate ≡ false
   pub is : (bits : List Bool) → read bits ≡ read_at_fix net (v bits) gate
 
 -- the function says that the value of an input or latch is 1, or that it is 0: it is one of the given rails
@@ -44,19 +44,25 @@ pub record IsGivenRail (net : Parts) (v : Vectors) (g : List Bool → Bool) : Ty
 
 -- the function says that the extension of a gate's cover, with some first pins fixed, is 1, or that it is 0, on what
 -- the gate's other pins read
-pub record IsGatePart (net : Parts) (blocks : Blocks) (cut : Cut) (v : Vectors) (g : List Bool → Bool) : Type 0 where
+pub record IsGatePart (net : Parts) (loops : Loops) (v : Vectors) (g : List Bool → Bool) : Type 0 where
   pub gate : ℕ
   pub within : gate < length net.gates
   pub first : List Bool
   pub short : length first ≤ length (gate_at net gate).pins
   pub bit : Bool
   pub read : List Bool → List Trit
-  pub reads : IsReadInSweep net blocks cut v gate read ⊎ IsReadAtFix net blocks v gate read
+  pub reads : IsReadInSweep net loops v gate read ⊎ IsReadAtFix net loops v gate read
   pub same : (bits : List Bool) → g bits ≡ is_bit bit (exact (λ rest. value (gate_at net gate).cover (first ++ rest)) (drop (length first) (read bits)))
 
 -- the working list of a netlist on the given rails
-abbrev pub IsWorking : Parts → Blocks → Cut → Vectors → (List Bool → Bool) → Type 0
-IsWorking net blocks cut v g = IsGivenRail net v g ⊎ IsGatePart net blocks cut v g
+abbrev pub IsWorking : Parts → Loops → Vectors → (List Bool → Bool) → Type 0
+IsWorking net loops v g = IsGivenRail net v g ⊎ IsGatePart net loops v g
+
+-- a function of this kind has the values of g at each list of so many bits
+pub record HasAlike (vars : ℕ) (Kind : (List Bool → Bool) → Type 0) (g : List Bool → Bool) : Type 0 where
+  pub of : List Bool → Bool
+  pub is : Kind of
+  pub alike : Alike vars g of
 
 -- the sizes of the covers, and one for each gate
 abbrev pub effort : Parts → ℕ

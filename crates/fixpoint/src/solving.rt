@@ -7,7 +7,7 @@ ghost use Rattle.bdd_store.specs.Growth.{KeepsNodes, AddsAtMost, IsFullOnlyPast}
 ghost use Rattle.dual_rail.specs.Rails.{AreRailsOf, value_of, values_of};
 ghost use Rattle.loops.specs.declared.parts.Blocks.{Blocks as TheBlocks};
 ghost use Rattle.loops.specs.Blocks.{AreBlocksOf, block_at, home_of};
-ghost use Rattle.loops.specs.Cuts.{IsCutOf, is_cut};
+ghost use Rattle.loops.specs.Cuts.{IsCutOf, is_cut, loops_by};
 ghost use Rattle.loops.specs.Orders.{IsOrderOf};
 ghost use Rattle.loops.specs.Sweeps.{first_gate};
 ghost use Rattle.fixpoint.specs.Solved.{Vectors, IsLoopAt, AreStepsOf, HasEachLoopOnce, IsSolution};
@@ -47,11 +47,11 @@ fn sweep(
     ensures keeps { KeepsNodes d.old d.new }
     ensures added { (blocks : TheBlocks) (b k w : ℕ) (v : Vectors) →
         IsSweepable net.now blocks cut.now d.old v (after_sweeps net.now blocks cut.now v k) b order.now before.now rails.old →
-        k ≤ length (filter (is_cut cut.now.wires) (block_at blocks b).gates) → IsWide d.old.vars (IsWorking net.now blocks cut.now v) w →
+        k ≤ length (filter (is_cut cut.now.wires) (block_at blocks b).gates) → IsWide d.old.vars (IsWorking net.now (loops_by blocks cut.now) v) w →
         AddsAtMost d.old d.new (w * (2 * order_cost net.now order.now)) }
     ensures full { (blocks : TheBlocks) (b k w : ℕ) (v : Vectors) →
         IsSweepable net.now blocks cut.now d.old v (after_sweeps net.now blocks cut.now v k) b order.now before.now rails.old →
-        k ≤ length (filter (is_cut cut.now.wires) (block_at blocks b).gates) → IsWide d.old.vars (IsWorking net.now blocks cut.now v) w →
+        k ≤ length (filter (is_cut cut.now.wires) (block_at blocks b).gates) → IsWide d.old.vars (IsWorking net.now (loops_by blocks cut.now) v) w →
         result ≡ Err StoreFault.Full → HasLargeCover net.now d.old.limit ⊎ IsFullOnlyPast d.old d.new (w * (2 * order_cost net.now order.now)) }
 {
     for gate in order {
@@ -132,9 +132,9 @@ fn solve_loop(
     ensures fresh { OnOk result (AreFresh net.now blocks.now (place + 1) before.new) }
     ensures given { OnOk result (take (first_gate net.now) rails.new ≡ take (first_gate net.now) rails.old) }
     ensures keeps { KeepsNodes d.old d.new }
-    ensures added { (w : ℕ) → IsWide d.old.vars (IsWorking net.now blocks.now cut.now (vectors net.now d.old rails.old)) w →
+    ensures added { (w : ℕ) → IsWide d.old.vars (IsWorking net.now (loops_by blocks.now cut.now) (vectors net.now d.old rails.old)) w →
         AddsAtMost d.old d.new (w * (2 * ((length net.now.gates + 1) * block_cost net.now blocks.now place))) }
-    ensures full { (w : ℕ) → IsWide d.old.vars (IsWorking net.now blocks.now cut.now (vectors net.now d.old rails.old)) w →
+    ensures full { (w : ℕ) → IsWide d.old.vars (IsWorking net.now (loops_by blocks.now cut.now) (vectors net.now d.old rails.old)) w →
         result ≡ Err StoreFault.Full → HasLargeCover net.now d.old.limit ⊎ IsFullOnlyPast d.old d.new (w * (2 * ((length net.now.gates + 1) * block_cost net.now blocks.now place))) }
 {
     let Ok(order) = order_of_block(alloc, net, blocks, cut, place) else {
@@ -190,9 +190,9 @@ fn solve_block(
     ensures fresh { OnOk result (AreFresh net.now blocks.now (home_of blocks.now gate + 1) before.new) }
     ensures given { OnOk result (take (first_gate net.now) rails.new ≡ take (first_gate net.now) rails.old) }
     ensures keeps { KeepsNodes d.old d.new }
-    ensures added { (w : ℕ) → IsWide d.old.vars (IsWorking net.now blocks.now cut.now (vectors net.now d.old rails.old)) w →
+    ensures added { (w : ℕ) → IsWide d.old.vars (IsWorking net.now (loops_by blocks.now cut.now) (vectors net.now d.old rails.old)) w →
         AddsAtMost d.old d.new (w * (2 * ((length net.now.gates + 1) * block_cost net.now blocks.now (home_of blocks.now gate)))) }
-    ensures full { (w : ℕ) → IsWide d.old.vars (IsWorking net.now blocks.now cut.now (vectors net.now d.old rails.old)) w →
+    ensures full { (w : ℕ) → IsWide d.old.vars (IsWorking net.now (loops_by blocks.now cut.now) (vectors net.now d.old rails.old)) w →
         result ≡ Err StoreFault.Full → HasLargeCover net.now d.old.limit ⊎ IsFullOnlyPast d.old d.new (w * (2 * ((length net.now.gates + 1) * block_cost net.now blocks.now (home_of blocks.now gate)))) }
 {
     let place = blocks.home.items()[gate as usize];
@@ -222,9 +222,9 @@ fn solve_blocks(
     ensures steps { IfOk result (λ loops. All (AreStepsOf net.now blocks.now cut.now d.new (vectors net.now d.old rails.old)) loops.items) }
     ensures solved { OnOk result (IsSolvedBelow net.now blocks.now cut.now d.new (vectors net.now d.old rails.old) (length blocks.now.list) before.new rails.new) }
     ensures keeps { KeepsNodes d.old d.new }
-    ensures added { (w : ℕ) → IsWide d.old.vars (IsWorking net.now blocks.now cut.now (vectors net.now d.old rails.old)) w →
+    ensures added { (w : ℕ) → IsWide d.old.vars (IsWorking net.now (loops_by blocks.now cut.now) (vectors net.now d.old rails.old)) w →
         AddsAtMost d.old d.new (w * (2 * ((length net.now.gates + 1) * effort net.now))) }
-    ensures full { (w : ℕ) → IsWide d.old.vars (IsWorking net.now blocks.now cut.now (vectors net.now d.old rails.old)) w →
+    ensures full { (w : ℕ) → IsWide d.old.vars (IsWorking net.now (loops_by blocks.now cut.now) (vectors net.now d.old rails.old)) w →
         result ≡ Err StoreFault.Full → HasLargeCover net.now d.old.limit ⊎ IsFullOnlyPast d.old d.new (w * (2 * ((length net.now.gates + 1) * effort net.now))) }
 {
     let mut loops = Vec::new(alloc);
@@ -263,9 +263,9 @@ pub fn solve(
     requires rails { All (AreRailsOf d.old) given.now }
     ensures solution { IfOk result (IsSolution net.now blocks.now cut.now d.new given.now) }
     ensures keeps { KeepsNodes d.old d.new }
-    ensures added { (w : ℕ) → IsWide d.old.vars (IsWorking net.now blocks.now cut.now (values_of d.old given.now)) w →
+    ensures added { (w : ℕ) → IsWide d.old.vars (IsWorking net.now (loops_by blocks.now cut.now) (values_of d.old given.now)) w →
         AddsAtMost d.old d.new (10 * w * (length net.now.gates + 2) * effort net.now) }
-    ensures full { (w : ℕ) → IsWide d.old.vars (IsWorking net.now blocks.now cut.now (values_of d.old given.now)) w →
+    ensures full { (w : ℕ) → IsWide d.old.vars (IsWorking net.now (loops_by blocks.now cut.now) (values_of d.old given.now)) w →
         result ≡ Err StoreFault.Full → HasLargeCover net.now d.old.limit ⊎ IsFullOnlyPast d.old d.new (10 * w * (length net.now.gates + 2) * effort net.now) }
 {
     let Ok(mut before) = unknowns(alloc, net.gates() as usize) else {

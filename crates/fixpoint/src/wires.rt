@@ -6,7 +6,7 @@ ghost use Rattle.cover_logic.specs.Covers.{value as cover_value};
 ghost use Rattle.cover_logic.specs.Extensions.{ext};
 ghost use Rattle.dual_rail.specs.Rails.{AreRailsOf, value_of, values_of};
 ghost use Rattle.dual_rail.specs.Local.{size};
-ghost use Rattle.dual_rail.specs.WorkingLists.{IsWide, IsListed};
+ghost use Rattle.dual_rail.specs.WorkingLists.{BoundsEach, IsExtended};
 ghost use Rattle.netlist.specs.Netlists.{IsNetlist, IsSignal, gate_at};
 ghost use Rattle.loops.specs.Sweeps.{first_gate};
 ghost use Rattle.fixpoint.specs.Sweeping.{unknown as unknown_rails, rails_read as rails_read_of, AreWires, IsGateSet};
@@ -102,8 +102,8 @@ fn gate_rails(
     ensures rails { IfOk result (AreRailsOf d.new) }
     ensures value { IfOk result (λ r. (bits : List Bool) → value_of d.new r bits ≡ ext (gate_at net.now gate).cover (values_of d.old pins.now bits)) }
     ensures keeps { KeepsNodes d.old d.new }
-    ensures added { (w : ℕ) → IsWide d.old.vars (IsListed d.old pins.now (cover_value (gate_at net.now gate).cover)) w → AddsAtMost d.old d.new (w * (2 * size (gate_at net.now gate).cover)) }
-    ensures full { (w : ℕ) → IsWide d.old.vars (IsListed d.old pins.now (cover_value (gate_at net.now gate).cover)) w → result ≡ Err StoreFault.Full → HasLargeCover net.now d.old.limit ⊎ IsFullOnlyPast d.old d.new (w * (2 * size (gate_at net.now gate).cover)) }
+    ensures added { (w : ℕ) → BoundsEach d.old.vars (IsExtended d.old pins.now (cover_value (gate_at net.now gate).cover)) w → AddsAtMost d.old d.new (w * (2 * size (gate_at net.now gate).cover)) }
+    ensures full { (w : ℕ) → BoundsEach d.old.vars (IsExtended d.old pins.now (cover_value (gate_at net.now gate).cover)) w → result ≡ Err StoreFault.Full → HasLargeCover net.now d.old.limit ⊎ IsFullOnlyPast d.old d.new (w * (2 * size (gate_at net.now gate).cover)) }
 {
     sizes();
     let diagram = local(alloc, &net.gate(gate).cover, d.store().limit())?;
@@ -127,9 +127,9 @@ pub(crate) fn set_gate(
     ensures valid { IsNetlist net.now }
     ensures set { OnOk result (IsGateSet net.now cut.now d.old d.new before.now rails.old rails.new gate) }
     ensures keeps { KeepsNodes d.old d.new }
-    ensures added { (w : ℕ) → IsWide d.old.vars (IsListed d.old (map (rails_read_of net.now cut.now before.now rails.old) (gate_at net.now gate).pins) (cover_value (gate_at net.now gate).cover)) w →
+    ensures added { (w : ℕ) → BoundsEach d.old.vars (IsExtended d.old (map (rails_read_of net.now cut.now before.now rails.old) (gate_at net.now gate).pins) (cover_value (gate_at net.now gate).cover)) w →
         AddsAtMost d.old d.new (w * (2 * size (gate_at net.now gate).cover)) }
-    ensures full { (w : ℕ) → IsWide d.old.vars (IsListed d.old (map (rails_read_of net.now cut.now before.now rails.old) (gate_at net.now gate).pins) (cover_value (gate_at net.now gate).cover)) w →
+    ensures full { (w : ℕ) → BoundsEach d.old.vars (IsExtended d.old (map (rails_read_of net.now cut.now before.now rails.old) (gate_at net.now gate).pins) (cover_value (gate_at net.now gate).cover)) w →
         result ≡ Err StoreFault.Full → HasLargeCover net.now d.old.limit ⊎ IsFullOnlyPast d.old d.new (w * (2 * size (gate_at net.now gate).cover)) }
 {
     let Ok(pins) = pins_read(alloc, net, cut, before, rails, net.gate(gate).pins.items()) else {

@@ -1,4 +1,5 @@
 pub mod Causes
+pub mod Enough
 pub mod Models
 pub mod Sets
 pub mod Verdicts

@@ -6,7 +6,7 @@ use Rattle.bdd_store.specs.declared.node.Node.{Node}
 use Rattle.bdd_store.specs.Arena.{Arena}
 use Rattle.bdd_store.specs.Soundness.{IsLawful}
 use Rattle.bdd_store.specs.Growth.{KeepsNodes}
-use Rattle.bdd_store.proofs.GrowthLemmas.{KeepsNodes-refl, KeepsNodes-chain}
+use Rattle.bdd_store.proofs.GrowthLemmas.{KeepsNodes-refl, KeepsNodes-chain, added-next, added-within, full-next}
 use Rattle.cover_logic.specs.Covers.{value}
 use Rattle.cover_logic.specs.Extensions.{exact}
 use Rattle.dual_rail.specs.declared.rail.Rails.{Rails}
@@ -14,8 +14,8 @@ use Rattle.dual_rail.specs.Rails.{values_of, AreRailsOf}
 use Rattle.dual_rail.specs.Local.{function, local_size}
 use Rattle.dual_rail.specs.Lifts.{IsLift, IsTable}
 use Rattle.dual_rail.proofs.SurelyLemmas.{All-rails-kept, IsLift-rails, IsLift-exact, values_of-kept, exact-alike, length-values}
-use Rattle.dual_rail.proofs.WidthLemmas.{IsWide-kept}
-use Rattle.dual_rail.proofs.TableLemmas.{base_rails, base-table, step-table, added-next, added-within, full-within, local-count, pushed}
+use Rattle.dual_rail.proofs.WidthLemmas.{BoundsEach-kept}
+use Rattle.dual_rail.proofs.TableLemmas.{base_rails, base-table, step-table, local-count, pushed}
 use Rattle.dual_rail.proofs.lifting.lift.Goals as goal
 
 pub loop-position-init : goal.loop-position-init
@@ -26,7 +26,7 @@ loop-position-init c =
       long = ap length items;
       table = subst (IsTable c.args.local.now c.args.d.now c.args.pins.now) (sym items) (base-table c.args.local.now c.args.d.now c.args.pins.now);
       within = omega arith;
-      added = λ w wide. omega arith;
+      added = λ w bounds. omega arith;
     }
 
 pub loop-position-preserved : goal.loop-position-preserved
@@ -39,7 +39,7 @@ loop-position-preserved c =
       long = ap length items ∙ omega (arith, length_push c.loop-position.table.items c.in_ok-rails.rails, c.loop-position.invariant.long);
       table = step-table c.push.new.self.items c.at.result c.in_ok-rails.rails c.loop-position.invariant.table c.lift_node.ensures.keeps all (c.loop-position.invariant.long ∙ sym c.at.ensures) c.in_ok-rails.ensures.lift items;
       within = omega (arith, c.loop-position-test.true);
-      added = λ w wide. added-next c.args.d.now c.loop-position.d c.lift_node.new.d (2 * w) c.loop-position.position (c.loop-position.invariant.added w wide) (c.lift_node.ensures.added w (IsWide-kept kept c.requires.rails wide));
+      added = λ w bounds. added-next c.args.d.now c.loop-position.d c.lift_node.new.d (2 * w) c.loop-position.position (c.loop-position.invariant.added w bounds) (c.lift_node.ensures.added w (BoundsEach-kept kept c.requires.rails bounds));
     }
 
 pub returns-clause-rails : goal.returns-clause-rails
@@ -65,29 +65,29 @@ returns-clause-cover c cover is bits =
     ∙ exact-alike (function c.args.local.now) (value cover) (values_of c.args.d.now c.args.pins.now bits) (λ bs len. is.function bs (len ∙ length-values c.args.d.now c.args.pins.now bits ∙ c.requires.pins ∙ is.pins))
 
 pub returns-clause-added : goal.returns-clause-added
-returns-clause-added c w wide =
+returns-clause-added c w bounds =
     let count : c.count-position-end.result ≡ length c.args.local.now.store.entries = c.count-position-end.ensures.count ∙ ap (λ (u : Arena). length u.entries) c.store-store.ensures.store in
     let size : length c.args.local.now.store.entries ≤ local_size c.args.local.now = local-count c.args.local.now (subst IsLawful c.store-store.ensures.store c.laws.ensures) c.top-top.ensures.local in
-    added-within c.args.d.now c.loop-position.d (2 * w) c.loop-position.position (local_size c.args.local.now) (omega (arith, c.loop-position.invariant.within, count, size)) (c.loop-position.invariant.added w wide)
+    added-within c.args.d.now c.loop-position.d (2 * w) c.loop-position.position (local_size c.args.local.now) (omega (arith, c.loop-position.invariant.within, count, size)) (c.loop-position.invariant.added w bounds)
 
 pub returns-in_err-rails-clause-added : goal.returns-in_err-rails-clause-added
-returns-in_err-rails-clause-added c w wide =
+returns-in_err-rails-clause-added c w bounds =
     let count : c.count-position-end.result ≡ length c.args.local.now.store.entries = c.count-position-end.ensures.count ∙ ap (λ (u : Arena). length u.entries) c.store-store.ensures.store in
     let size : length c.args.local.now.store.entries ≤ local_size c.args.local.now = local-count c.args.local.now (subst IsLawful c.store-store.ensures.store c.laws.ensures) c.top-top.ensures.local in
     added-within c.args.d.now c.lift_node.new.d (2 * w) (c.loop-position.position + 1) (local_size c.args.local.now) (omega (arith, c.loop-position-test.true, count, size))
-    (added-next c.args.d.now c.loop-position.d c.lift_node.new.d (2 * w) c.loop-position.position (c.loop-position.invariant.added w wide) (c.lift_node.ensures.added w (IsWide-kept c.loop-position.invariant.keeps c.requires.rails wide)))
+    (added-next c.args.d.now c.loop-position.d c.lift_node.new.d (2 * w) c.loop-position.position (c.loop-position.invariant.added w bounds) (c.lift_node.ensures.added w (BoundsEach-kept c.loop-position.invariant.keeps c.requires.rails bounds)))
 
 pub returns-then-is_err-clause-added : goal.returns-then-is_err-clause-added
-returns-then-is_err-clause-added c w wide =
+returns-then-is_err-clause-added c w bounds =
     let count : c.count-position-end.result ≡ length c.args.local.now.store.entries = c.count-position-end.ensures.count ∙ ap (λ (u : Arena). length u.entries) c.store-store.ensures.store in
     let size : length c.args.local.now.store.entries ≤ local_size c.args.local.now = local-count c.args.local.now (subst IsLawful c.store-store.ensures.store c.laws.ensures) c.top-top.ensures.local in
     added-within c.args.d.now c.lift_node.new.d (2 * w) (c.loop-position.position + 1) (local_size c.args.local.now) (omega (arith, c.loop-position-test.true, count, size))
-    (added-next c.args.d.now c.loop-position.d c.lift_node.new.d (2 * w) c.loop-position.position (c.loop-position.invariant.added w wide) (c.lift_node.ensures.added w (IsWide-kept c.loop-position.invariant.keeps c.requires.rails wide)))
+    (added-next c.args.d.now c.loop-position.d c.lift_node.new.d (2 * w) c.loop-position.position (c.loop-position.invariant.added w bounds) (c.lift_node.ensures.added w (BoundsEach-kept c.loop-position.invariant.keeps c.requires.rails bounds)))
 
 pub returns-in_err-rails-clause-full : goal.returns-in_err-rails-clause-full
-returns-in_err-rails-clause-full c w wide is_full =
+returns-in_err-rails-clause-full c w bounds is_full =
     let count : c.count-position-end.result ≡ length c.args.local.now.store.entries = c.count-position-end.ensures.count ∙ ap (λ (u : Arena). length u.entries) c.store-store.ensures.store in
     let size : length c.args.local.now.store.entries ≤ local_size c.args.local.now = local-count c.args.local.now (subst IsLawful c.store-store.ensures.store c.laws.ensures) c.top-top.ensures.local in
     let refused = ap {A = StoreFault} Err (sym (rw is_full at c.from_residual.ensures.1)) in
-    full-within c.args.d.now c.loop-position.d c.lift_node.new.d (2 * w) c.loop-position.position (local_size c.args.local.now) (omega (arith, c.loop-position-test.true, count, size)) (c.loop-position.invariant.added w wide)
-    (c.in_err-rails.ensures.full w (IsWide-kept c.loop-position.invariant.keeps c.requires.rails wide) refused)
+    full-next c.args.d.now c.loop-position.d c.lift_node.new.d (2 * w) c.loop-position.position (local_size c.args.local.now) (omega (arith, c.loop-position-test.true, count, size)) (c.loop-position.invariant.added w bounds)
+    (c.in_err-rails.ensures.full w (BoundsEach-kept c.loop-position.invariant.keeps c.requires.rails bounds) refused)

@@ -5,7 +5,8 @@ use Rattle.dual_rail.specs.declared.rail.Rails.{Rails}
 use Rattle.fixpoint.specs.Counts.{SameRailsOn}
 use Rattle.fixpoint.specs.Sweeping.{rails_at, unknown}
 use Rattle.bdd_store.specs.declared.fault.StoreFault.{StoreFault}
-use Rattle.fixpoint.proofs.CompareLemmas.{place-wide, added-within, added-more, full-more}
+use Rattle.bdd_store.proofs.GrowthLemmas.{added-within, added-more, full-more}
+use Rattle.fixpoint.proofs.CompareLemmas.{place-wide}
 use Rattle.fixpoint.proofs.CountLemmas.{SameRailsOn-back, SameRailsOn-forth, more_agree}
 use Rattle.fixpoint.proofs.counting.agree_on.Goals as goal
 

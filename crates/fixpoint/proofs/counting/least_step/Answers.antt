@@ -5,7 +5,8 @@ use Rattle.fixpoint.specs.Solved.{step_at}
 use Rattle.fixpoint.specs.Counts.{IsLeastStep}
 use Rattle.std.proofs.Math.Nat.{mul-le-mul_left}
 use Rattle.bdd_store.specs.declared.fault.StoreFault.{StoreFault}
-use Rattle.fixpoint.proofs.CompareLemmas.{steps-wide, added-within, added-more, full-more}
+use Rattle.bdd_store.proofs.GrowthLemmas.{added-within, added-more, full-more}
+use Rattle.fixpoint.proofs.CompareLemmas.{steps-wide}
 use Rattle.fixpoint.proofs.CountLemmas.{least_here, none_more, least_last}
 use Rattle.fixpoint.proofs.counting.least_step.Goals as goal
 

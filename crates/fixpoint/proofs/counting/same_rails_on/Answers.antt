@@ -1,6 +1,7 @@
 use Rattle.std.proofs.Common.{Err, sym, ap, arith}
 use Rattle.bdd_store.specs.declared.fault.StoreFault.{StoreFault}
-use Rattle.fixpoint.proofs.CompareLemmas.{added-within, added-more, full-more, full-first, ones-either, ones-difference, zeros-either, zeros-difference}
+use Rattle.bdd_store.proofs.GrowthLemmas.{added-within, added-more, full-more, full-first}
+use Rattle.fixpoint.proofs.CompareLemmas.{ones-either, ones-difference, zeros-either, zeros-difference}
 use Rattle.fixpoint.proofs.counting.same_rails_on.Goals as goal
 
 pub returns-clause-added : goal.returns-clause-added

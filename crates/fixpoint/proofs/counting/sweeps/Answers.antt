@@ -6,7 +6,8 @@ use Rattle.fixpoint.specs.Counts.{AreCountable, IsLeastStep, IsCompared}
 use Rattle.fixpoint.specs.declared.solved.LoopSteps.{LoopSteps}
 use Rattle.bdd_store.specs.declared.fault.StoreFault.{StoreFault}
 use Rattle.dual_rail.specs.WorkingLists.{IsWide}
-use Rattle.fixpoint.proofs.CompareLemmas.{loop-wide, count-more, count-within, loops-more, loops-within, added-within, added-more, full-more}
+use Rattle.bdd_store.proofs.GrowthLemmas.{added-within, added-more, full-more}
+use Rattle.fixpoint.proofs.CompareLemmas.{loop-wide, count-more, count-within, loops-more, loops-within}
 use Rattle.fixpoint.proofs.MinimumLemmas.{counts-are-sweeps}
 use Rattle.fixpoint.proofs.CountLemmas.{IsCounting, counting-end, counting-step, IsLeastStep-back}
 use Rattle.fixpoint.proofs.counting.sweeps.Goals as goal

@@ -3,4 +3,4 @@ use Rattle.fixpoint.specs.Working.{IsWorking}
 use Rattle.fixpoint.proofs.laws.working_lists.Goals as goal
 
 pub returns : goal.returns
-returns c net blocks cut v vars = IsWide-some vars (IsWorking net blocks cut v)
+returns c net loops v vars = IsWide-some vars (IsWorking net loops v)

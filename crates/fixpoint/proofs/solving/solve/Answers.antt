@@ -3,6 +3,7 @@ use Rattle.bdd_store.specs.declared.fault.StoreFault.{StoreFault}
 use Rattle.bdd_store.proofs.GrowthLemmas.{KeepsNodes-refl}
 use Rattle.dual_rail.specs.Rails.{values_of}
 use Rattle.dual_rail.specs.WorkingLists.{IsWide}
+use Rattle.loops.specs.Cuts.{loops_by}
 use Rattle.fixpoint.specs.Working.{IsWorking}
 use Rattle.fixpoint.proofs.BoundLemmas.{wide-same, given-vectors}
 use Rattle.dual_rail.specs.declared.rail.Rails.{Rails}
@@ -32,24 +33,24 @@ returns-clause-solution c =
 pub returns-clause-added : goal.returns-clause-added
 returns-clause-added c w wide =
     let rails : c.deref_mut-2.result.now ≡ c.args.given.now ++ c.deref_mut.result.now = c.deref_mut-2.ensures.value ∙ c.in-Ok-wires.ensures ∙ ap (λ (xs : List Rails). c.args.given.now ++ xs) (c.deref.ensures.value ∙ sym c.deref_mut.ensures.value) in
-    let wide2 : IsWide c.args.d.now.vars (IsWorking c.args.net.now c.args.blocks.now c.args.cut.now (vectors c.args.net.now c.args.d.now c.deref_mut-2.result.now)) w =
-    wide-same c.args.net.now c.args.blocks.now c.args.cut.now (vectors c.args.net.now c.args.d.now c.deref_mut-2.result.now) (values_of c.args.d.now c.args.given.now) c.args.d.now c.args.d.now (KeepsNodes-refl c.args.d.now)
+    let wide2 : IsWide c.args.d.now.vars (IsWorking c.args.net.now (loops_by c.args.blocks.now c.args.cut.now) (vectors c.args.net.now c.args.d.now c.deref_mut-2.result.now)) w =
+    wide-same c.args.net.now (loops_by c.args.blocks.now c.args.cut.now) (vectors c.args.net.now c.args.d.now c.deref_mut-2.result.now) (values_of c.args.d.now c.args.given.now) c.args.d.now c.args.d.now (KeepsNodes-refl c.args.d.now)
     (given-vectors c.args.net.now c.args.d.now c.args.given.now c.deref_mut.result.now c.deref_mut-2.result.now c.requires.width rails) wide in
     omega (arith, c.solve_blocks.ensures.added w wide2)
 
 pub returns-in_err-loops-clause-added : goal.returns-in_err-loops-clause-added
 returns-in_err-loops-clause-added c w wide =
     let rails : c.deref_mut-2.result.now ≡ c.args.given.now ++ c.deref_mut.result.now = c.deref_mut-2.ensures.value ∙ c.in-Ok-wires.ensures ∙ ap (λ (xs : List Rails). c.args.given.now ++ xs) (c.deref.ensures.value ∙ sym c.deref_mut.ensures.value) in
-    let wide2 : IsWide c.args.d.now.vars (IsWorking c.args.net.now c.args.blocks.now c.args.cut.now (vectors c.args.net.now c.args.d.now c.deref_mut-2.result.now)) w =
-    wide-same c.args.net.now c.args.blocks.now c.args.cut.now (vectors c.args.net.now c.args.d.now c.deref_mut-2.result.now) (values_of c.args.d.now c.args.given.now) c.args.d.now c.args.d.now (KeepsNodes-refl c.args.d.now)
+    let wide2 : IsWide c.args.d.now.vars (IsWorking c.args.net.now (loops_by c.args.blocks.now c.args.cut.now) (vectors c.args.net.now c.args.d.now c.deref_mut-2.result.now)) w =
+    wide-same c.args.net.now (loops_by c.args.blocks.now c.args.cut.now) (vectors c.args.net.now c.args.d.now c.deref_mut-2.result.now) (values_of c.args.d.now c.args.given.now) c.args.d.now c.args.d.now (KeepsNodes-refl c.args.d.now)
     (given-vectors c.args.net.now c.args.d.now c.args.given.now c.deref_mut.result.now c.deref_mut-2.result.now c.requires.width rails) wide in
     omega (arith, c.solve_blocks.ensures.added w wide2)
 
 pub returns-in_err-loops-clause-full : goal.returns-in_err-loops-clause-full
 returns-in_err-loops-clause-full c w wide is_full =
     let rails : c.deref_mut-2.result.now ≡ c.args.given.now ++ c.deref_mut.result.now = c.deref_mut-2.ensures.value ∙ c.in-Ok-wires.ensures ∙ ap (λ (xs : List Rails). c.args.given.now ++ xs) (c.deref.ensures.value ∙ sym c.deref_mut.ensures.value) in
-    let wide2 : IsWide c.args.d.now.vars (IsWorking c.args.net.now c.args.blocks.now c.args.cut.now (vectors c.args.net.now c.args.d.now c.deref_mut-2.result.now)) w =
-    wide-same c.args.net.now c.args.blocks.now c.args.cut.now (vectors c.args.net.now c.args.d.now c.deref_mut-2.result.now) (values_of c.args.d.now c.args.given.now) c.args.d.now c.args.d.now (KeepsNodes-refl c.args.d.now)
+    let wide2 : IsWide c.args.d.now.vars (IsWorking c.args.net.now (loops_by c.args.blocks.now c.args.cut.now) (vectors c.args.net.now c.args.d.now c.deref_mut-2.result.now)) w =
+    wide-same c.args.net.now (loops_by c.args.blocks.now c.args.cut.now) (vectors c.args.net.now c.args.d.now c.deref_mut-2.result.now) (values_of c.args.d.now c.args.given.now) c.args.d.now c.args.d.now (KeepsNodes-refl c.args.d.now)
     (given-vectors c.args.net.now c.args.d.now c.args.given.now c.deref_mut.result.now c.deref_mut-2.result.now c.requires.width rails) wide in
     let refused = ap {A = StoreFault} Err (sym (rw is_full at c.from_residual.ensures.1)) in
     elim (c.in_err-loops.ensures.full w wide2 refused) [

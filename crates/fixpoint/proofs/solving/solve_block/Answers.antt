@@ -4,8 +4,8 @@ use Rattle.bdd_store.specs.declared.fault.StoreFault.{StoreFault}
 use Rattle.dual_rail.specs.Local.{size}
 use Rattle.netlist.specs.Netlists.{gate_at}
 use Rattle.fixpoint.specs.Working.{block_cost}
-use Rattle.fixpoint.proofs.CompareLemmas.{added-within, full-first}
-use Rattle.fixpoint.proofs.BoundLemmas.{plain-wide, plain-cost, gate-few}
+use Rattle.bdd_store.proofs.GrowthLemmas.{added-within, full-first}
+use Rattle.fixpoint.proofs.BoundLemmas.{plain-bounds, plain-cost, gate-few}
 use Rattle.loops.specs.declared.parts.Block.{Block}
 use Rattle.loops.specs.Blocks.{block_at, home_of, no_block}
 use Rattle.fixpoint.specs.Sweeping.{vectors}
@@ -33,7 +33,7 @@ returns-clause-added c w wide =
     let less : 2 * size (gate_at c.args.net.now c.args.gate).cover ≤ 2 * ((length c.args.net.now.gates + 1) * block_cost c.args.net.now c.args.blocks.now (home_of c.args.blocks.now c.args.gate)) =
     plain-cost (size (gate_at c.args.net.now c.args.gate).cover) (length c.args.net.now.gates) (block_cost c.args.net.now c.args.blocks.now (home_of c.args.blocks.now c.args.gate)) few in
     added-within c.args.d.now c.set_gate.new.d w (2 * size (gate_at c.args.net.now c.args.gate).cover) (2 * ((length c.args.net.now.gates + 1) * block_cost c.args.net.now c.args.blocks.now (home_of c.args.blocks.now c.args.gate))) less
-    (c.set_gate.ensures.added w (plain-wide c.args.net.now c.set_gate.ensures.valid c.args.blocks.now c.requires.blocks c.args.cut.now c.requires.cut c.args.gate c.requires.gate plain c.args.d.now (vectors c.args.net.now c.args.d.now c.args.rails.now) c.args.before.now c.args.rails.now c.requires.solved wide))
+    (c.set_gate.ensures.added w (plain-bounds c.args.net.now c.set_gate.ensures.valid c.args.blocks.now c.requires.blocks c.args.cut.now c.requires.cut c.args.gate c.requires.gate plain c.args.d.now (vectors c.args.net.now c.args.d.now c.args.rails.now) c.args.before.now c.args.rails.now c.requires.solved wide))
 
 pub returns-in_err-set_gate-clause-added : goal.returns-in_err-set_gate-clause-added
 returns-in_err-set_gate-clause-added c w wide =
@@ -46,7 +46,7 @@ returns-in_err-set_gate-clause-added c w wide =
     let less : 2 * size (gate_at c.args.net.now c.args.gate).cover ≤ 2 * ((length c.args.net.now.gates + 1) * block_cost c.args.net.now c.args.blocks.now (home_of c.args.blocks.now c.args.gate)) =
     plain-cost (size (gate_at c.args.net.now c.args.gate).cover) (length c.args.net.now.gates) (block_cost c.args.net.now c.args.blocks.now (home_of c.args.blocks.now c.args.gate)) few in
     added-within c.args.d.now c.set_gate.new.d w (2 * size (gate_at c.args.net.now c.args.gate).cover) (2 * ((length c.args.net.now.gates + 1) * block_cost c.args.net.now c.args.blocks.now (home_of c.args.blocks.now c.args.gate))) less
-    (c.set_gate.ensures.added w (plain-wide c.args.net.now c.set_gate.ensures.valid c.args.blocks.now c.requires.blocks c.args.cut.now c.requires.cut c.args.gate c.requires.gate plain c.args.d.now (vectors c.args.net.now c.args.d.now c.args.rails.now) c.args.before.now c.args.rails.now c.requires.solved wide))
+    (c.set_gate.ensures.added w (plain-bounds c.args.net.now c.set_gate.ensures.valid c.args.blocks.now c.requires.blocks c.args.cut.now c.requires.cut c.args.gate c.requires.gate plain c.args.d.now (vectors c.args.net.now c.args.d.now c.args.rails.now) c.args.before.now c.args.rails.now c.requires.solved wide))
 
 pub returns-in_err-set_gate-clause-full : goal.returns-in_err-set_gate-clause-full
 returns-in_err-set_gate-clause-full c w wide is_full =
@@ -59,7 +59,7 @@ returns-in_err-set_gate-clause-full c w wide is_full =
     let less : 2 * size (gate_at c.args.net.now c.args.gate).cover ≤ 2 * ((length c.args.net.now.gates + 1) * block_cost c.args.net.now c.args.blocks.now (home_of c.args.blocks.now c.args.gate)) =
     plain-cost (size (gate_at c.args.net.now c.args.gate).cover) (length c.args.net.now.gates) (block_cost c.args.net.now c.args.blocks.now (home_of c.args.blocks.now c.args.gate)) few in
     let refused = ap {A = StoreFault} Err (sym (rw is_full at c.from_residual-in_err-set_gate.ensures.1)) in
-    elim (c.in_err-set_gate.ensures.full w (plain-wide c.args.net.now c.set_gate.ensures.valid c.args.blocks.now c.requires.blocks c.args.cut.now c.requires.cut c.args.gate c.requires.gate plain c.args.d.now (vectors c.args.net.now c.args.d.now c.args.rails.now) c.args.before.now c.args.rails.now c.requires.solved wide) refused) [
+    elim (c.in_err-set_gate.ensures.full w (plain-bounds c.args.net.now c.set_gate.ensures.valid c.args.blocks.now c.requires.blocks c.args.cut.now c.requires.cut c.args.gate c.requires.gate plain c.args.d.now (vectors c.args.net.now c.args.d.now c.args.rails.now) c.args.before.now c.args.rails.now c.requires.solved wide) refused) [
       | inl large ↦ inl large
       | inr full ↦ inr (full-first c.args.d.now c.set_gate.new.d w (2 * size (gate_at c.args.net.now c.args.gate).cover) (2 * ((length c.args.net.now.gates + 1) * block_cost c.args.net.now c.args.blocks.now (home_of c.args.blocks.now c.args.gate))) less full)
     ]

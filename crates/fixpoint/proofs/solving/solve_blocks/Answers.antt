@@ -3,8 +3,9 @@ use Rattle.std.proofs.lemmas.List.Elements.{All-push}
 use Rattle.std.specs.List.{All}
 use Rattle.bdd_store.specs.declared.fault.StoreFault.{StoreFault}
 use Rattle.dual_rail.specs.WorkingLists.{IsWide}
+use Rattle.loops.specs.Cuts.{loops_by}
 use Rattle.fixpoint.specs.Working.{IsWorking, block_cost, below_cost, effort}
-use Rattle.fixpoint.proofs.CompareLemmas.{added-within, added-more, full-more}
+use Rattle.bdd_store.proofs.GrowthLemmas.{added-within, added-more, full-more}
 use Rattle.fixpoint.proofs.BoundLemmas.{large-kept, wide-same, below-next, below-all}
 use Rattle.bdd_store.proofs.GrowthLemmas.{KeepsNodes-chain}
 use Rattle.loops.specs.Blocks.{home_of}
@@ -61,7 +62,7 @@ loop-block-preserved c =
           let first = first-of-block c.args.net.now c.args.blocks.now c.requires.blocks c.items-block-items.result.now c.loop-block.block-index c.block-item.result c.items.result.now c.items-block-items.ensures c.loop-block-test.true c.block-item.is c.items.ensures in
           let same : (bits : List Bool) → vectors c.args.net.now c.loop-block.d c.loop-block.rails bits ≡ vectors c.args.net.now c.args.d.now c.args.rails.now bits =
           same-vectors c.args.net.now c.args.d.now c.loop-block.d c.args.rails.now c.loop-block.rails inv.keeps c.requires.solved.wires.proper inv.given in
-          let wide2 : IsWide c.loop-block.d.vars (IsWorking net blocks cut u) w2 = wide-same net blocks cut u v c.args.d.now c.loop-block.d inv.keeps same wide in
+          let wide2 : IsWide c.loop-block.d.vars (IsWorking net (loops_by blocks cut) u) w2 = wide-same net (loops_by blocks cut) u v c.args.d.now c.loop-block.d inv.keeps same wide in
           let gate : ℕ = get_or c.items.result.now 0 0 in
           let cost_same : block_cost net blocks (home_of c.args.blocks.now gate) ≡ block_cost net blocks i = ap (block_cost net blocks) first.1 in
           let more : 2 * ((length net.gates + 1) * below_cost net blocks i) + 2 * ((length net.gates + 1) * block_cost net blocks (home_of c.args.blocks.now gate)) ≤ 2 * ((length net.gates + 1) * below_cost net blocks (i + 1)) =
@@ -112,7 +113,7 @@ returns-in_err-steps-clause-added c w wide =
     let first = first-of-block c.args.net.now c.args.blocks.now c.requires.blocks c.items-block-items.result.now c.loop-block.block-index c.block-item.result c.items.result.now c.items-block-items.ensures c.loop-block-test.true c.block-item.is c.items.ensures in
     let same : (bits : List Bool) → vectors c.args.net.now c.loop-block.d c.loop-block.rails bits ≡ vectors c.args.net.now c.args.d.now c.args.rails.now bits =
     same-vectors c.args.net.now c.args.d.now c.loop-block.d c.args.rails.now c.loop-block.rails inv.keeps c.requires.solved.wires.proper inv.given in
-    let wide2 : IsWide c.loop-block.d.vars (IsWorking net blocks cut u) w = wide-same net blocks cut u v c.args.d.now c.loop-block.d inv.keeps same wide in
+    let wide2 : IsWide c.loop-block.d.vars (IsWorking net (loops_by blocks cut) u) w = wide-same net (loops_by blocks cut) u v c.args.d.now c.loop-block.d inv.keeps same wide in
     let gate : ℕ = get_or c.items.result.now 0 0 in
     let cost_same : block_cost net blocks (home_of c.args.blocks.now gate) ≡ block_cost net blocks i = ap (block_cost net blocks) first.1 in
     let more : 2 * ((length net.gates + 1) * below_cost net blocks i) + 2 * ((length net.gates + 1) * block_cost net blocks (home_of c.args.blocks.now gate)) ≤ 2 * ((length net.gates + 1) * below_cost net blocks (i + 1)) =
@@ -132,7 +133,7 @@ returns-then-is_err-clause-added c w wide =
     let first = first-of-block c.args.net.now c.args.blocks.now c.requires.blocks c.items-block-items.result.now c.loop-block.block-index c.block-item.result c.items.result.now c.items-block-items.ensures c.loop-block-test.true c.block-item.is c.items.ensures in
     let same : (bits : List Bool) → vectors c.args.net.now c.loop-block.d c.loop-block.rails bits ≡ vectors c.args.net.now c.args.d.now c.args.rails.now bits =
     same-vectors c.args.net.now c.args.d.now c.loop-block.d c.args.rails.now c.loop-block.rails inv.keeps c.requires.solved.wires.proper inv.given in
-    let wide2 : IsWide c.loop-block.d.vars (IsWorking net blocks cut u) w = wide-same net blocks cut u v c.args.d.now c.loop-block.d inv.keeps same wide in
+    let wide2 : IsWide c.loop-block.d.vars (IsWorking net (loops_by blocks cut) u) w = wide-same net (loops_by blocks cut) u v c.args.d.now c.loop-block.d inv.keeps same wide in
     let gate : ℕ = get_or c.items.result.now 0 0 in
     let cost_same : block_cost net blocks (home_of c.args.blocks.now gate) ≡ block_cost net blocks i = ap (block_cost net blocks) first.1 in
     let more : 2 * ((length net.gates + 1) * below_cost net blocks i) + 2 * ((length net.gates + 1) * block_cost net blocks (home_of c.args.blocks.now gate)) ≤ 2 * ((length net.gates + 1) * below_cost net blocks (i + 1)) =
@@ -152,7 +153,7 @@ returns-in_err-steps-clause-full c w wide is_full =
     let first = first-of-block c.args.net.now c.args.blocks.now c.requires.blocks c.items-block-items.result.now c.loop-block.block-index c.block-item.result c.items.result.now c.items-block-items.ensures c.loop-block-test.true c.block-item.is c.items.ensures in
     let same : (bits : List Bool) → vectors c.args.net.now c.loop-block.d c.loop-block.rails bits ≡ vectors c.args.net.now c.args.d.now c.args.rails.now bits =
     same-vectors c.args.net.now c.args.d.now c.loop-block.d c.args.rails.now c.loop-block.rails inv.keeps c.requires.solved.wires.proper inv.given in
-    let wide2 : IsWide c.loop-block.d.vars (IsWorking net blocks cut u) w = wide-same net blocks cut u v c.args.d.now c.loop-block.d inv.keeps same wide in
+    let wide2 : IsWide c.loop-block.d.vars (IsWorking net (loops_by blocks cut) u) w = wide-same net (loops_by blocks cut) u v c.args.d.now c.loop-block.d inv.keeps same wide in
     let gate : ℕ = get_or c.items.result.now 0 0 in
     let cost_same : block_cost net blocks (home_of c.args.blocks.now gate) ≡ block_cost net blocks i = ap (block_cost net blocks) first.1 in
     let more : 2 * ((length net.gates + 1) * below_cost net blocks i) + 2 * ((length net.gates + 1) * block_cost net blocks (home_of c.args.blocks.now gate)) ≤ 2 * ((length net.gates + 1) * below_cost net blocks (i + 1)) =

@@ -6,11 +6,11 @@ use Rattle.bdd_store.proofs.GrowthLemmas.{KeepsNodes-refl, KeepsNodes-chain}
 use Rattle.bdd_store.specs.declared.fault.StoreFault.{StoreFault}
 use Rattle.dual_rail.specs.WorkingLists.{IsWide}
 use Rattle.fixpoint.specs.Working.{IsWorking, order_cost, block_cost}
-use Rattle.fixpoint.proofs.CompareLemmas.{added-within, added-more, full-more}
+use Rattle.bdd_store.proofs.GrowthLemmas.{added-within, added-more, full-more}
 use Rattle.fixpoint.proofs.BoundLemmas.{large-kept, cuts-few, order-few, loop-cost}
 use Rattle.dual_rail.specs.declared.rail.Rails.{Rails}
 use Rattle.loops.specs.Blocks.{block_at, home_of}
-use Rattle.loops.specs.Cuts.{is_cut}
+use Rattle.loops.specs.Cuts.{is_cut, loops_by}
 use Rattle.loops.specs.Orders.{IsOrderOf}
 use Rattle.loops.specs.Sweeps.{first_gate}
 use Rattle.fixpoint.specs.Solved.{Vectors}
@@ -277,7 +277,7 @@ loop-step-preserved c =
     record {
       keeps = KeepsNodes-chain c.loop-step.invariant.keeps keeps;
       added = λ w wide.
-          let wide2 : IsWide c.loop-step.d.vars (IsWorking net blocks cut v) w = subst (λ (x : ℕ). IsWide x (IsWorking net blocks cut v) w) (sym c.loop-step.invariant.keeps.vars) wide in
+          let wide2 : IsWide c.loop-step.d.vars (IsWorking net (loops_by blocks cut) v) w = subst (λ (x : ℕ). IsWide x (IsWorking net (loops_by blocks cut) v) w) (sym c.loop-step.invariant.keeps.vars) wide in
           let limit : length steps ≤ length (filter (is_cut c.args.cut.now.wires) (block_at c.args.blocks.now c.args.place).gates) = omega (arith, inv.few, ap length cuts_is) in
           let order_same : order_cost net c.deref-in-loop-step.result.now ≡ order_cost net c.in-Ok.order.items = ap (order_cost net) order_is in
           let long : length c.push.new.self.items ≡ length steps + 1 = ap length steps_is ∙ length_push steps (map (rails_at before) cuts) in
@@ -333,7 +333,7 @@ returns-then-are_still-clause-added c w wide =
       solved = inv.solved;
       cuts = inv.cuts_are;
     } in
-    let wide2 : IsWide c.loop-step.d.vars (IsWorking net blocks cut v) w = subst (λ (x : ℕ). IsWide x (IsWorking net blocks cut v) w) (sym c.loop-step.invariant.keeps.vars) wide in
+    let wide2 : IsWide c.loop-step.d.vars (IsWorking net (loops_by blocks cut) v) w = subst (λ (x : ℕ). IsWide x (IsWorking net (loops_by blocks cut) v) w) (sym c.loop-step.invariant.keeps.vars) wide in
     let limit : length steps ≤ length (filter (is_cut c.args.cut.now.wires) (block_at c.args.blocks.now c.args.place).gates) = omega (arith, inv.few, ap length cuts_is) in
     let order_same : order_cost net c.deref-in-loop-step.result.now ≡ order_cost net c.in-Ok.order.items = ap (order_cost net) order_is in
     let gates_few = cuts-few net blocks cut c.requires.blocks b c.requires.at in
@@ -363,7 +363,7 @@ returns-then-is_err-clause-added c w wide =
       solved = inv.solved;
       cuts = inv.cuts_are;
     } in
-    let wide2 : IsWide c.loop-step.d.vars (IsWorking net blocks cut v) w = subst (λ (x : ℕ). IsWide x (IsWorking net blocks cut v) w) (sym c.loop-step.invariant.keeps.vars) wide in
+    let wide2 : IsWide c.loop-step.d.vars (IsWorking net (loops_by blocks cut) v) w = subst (λ (x : ℕ). IsWide x (IsWorking net (loops_by blocks cut) v) w) (sym c.loop-step.invariant.keeps.vars) wide in
     let limit : length steps ≤ length (filter (is_cut c.args.cut.now.wires) (block_at c.args.blocks.now c.args.place).gates) = omega (arith, inv.few, ap length cuts_is) in
     let order_same : order_cost net c.deref-in-loop-step.result.now ≡ order_cost net c.in-Ok.order.items = ap (order_cost net) order_is in
     let gates_few = cuts-few net blocks cut c.requires.blocks b c.requires.at in
@@ -393,7 +393,7 @@ returns-in_err-sweep-clause-added c w wide =
       solved = inv.solved;
       cuts = inv.cuts_are;
     } in
-    let wide2 : IsWide c.loop-step.d.vars (IsWorking net blocks cut v) w = subst (λ (x : ℕ). IsWide x (IsWorking net blocks cut v) w) (sym c.loop-step.invariant.keeps.vars) wide in
+    let wide2 : IsWide c.loop-step.d.vars (IsWorking net (loops_by blocks cut) v) w = subst (λ (x : ℕ). IsWide x (IsWorking net (loops_by blocks cut) v) w) (sym c.loop-step.invariant.keeps.vars) wide in
     let limit : length steps ≤ length (filter (is_cut c.args.cut.now.wires) (block_at c.args.blocks.now c.args.place).gates) = omega (arith, inv.few, ap length cuts_is) in
     let order_same : order_cost net c.deref-in-loop-step.result.now ≡ order_cost net c.in-Ok.order.items = ap (order_cost net) order_is in
     let gates_few = cuts-few net blocks cut c.requires.blocks b c.requires.at in
@@ -423,7 +423,7 @@ returns-in_err-sweep-clause-full c w wide is_full =
       solved = inv.solved;
       cuts = inv.cuts_are;
     } in
-    let wide2 : IsWide c.loop-step.d.vars (IsWorking net blocks cut v) w = subst (λ (x : ℕ). IsWide x (IsWorking net blocks cut v) w) (sym c.loop-step.invariant.keeps.vars) wide in
+    let wide2 : IsWide c.loop-step.d.vars (IsWorking net (loops_by blocks cut) v) w = subst (λ (x : ℕ). IsWide x (IsWorking net (loops_by blocks cut) v) w) (sym c.loop-step.invariant.keeps.vars) wide in
     let limit : length steps ≤ length (filter (is_cut c.args.cut.now.wires) (block_at c.args.blocks.now c.args.place).gates) = omega (arith, inv.few, ap length cuts_is) in
     let order_same : order_cost net c.deref-in-loop-step.result.now ≡ order_cost net c.in-Ok.order.items = ap (order_cost net) order_is in
     let gates_few = cuts-few net blocks cut c.requires.blocks b c.requires.at in

@@ -7,8 +7,8 @@ use Rattle.dual_rail.specs.Local.{size}
 use Rattle.netlist.specs.Netlists.{gate_at}
 use Rattle.fixpoint.specs.Sweeping.{OthersStay, after_sweeps}
 use Rattle.fixpoint.specs.Working.{cost, order_cost}
-use Rattle.fixpoint.proofs.CompareLemmas.{added-within, added-more, full-more}
-use Rattle.fixpoint.proofs.BoundLemmas.{sweep-wide, large-kept}
+use Rattle.bdd_store.proofs.GrowthLemmas.{added-within, added-more, full-more}
+use Rattle.fixpoint.proofs.BoundLemmas.{sweep-bounds, large-kept}
 use Rattle.fixpoint.proofs.WireLemmas.{AreWires-set}
 use Rattle.fixpoint.proofs.SweepLemmas.{sweeping-step, sweeping-end, others-step}
 use Rattle.fixpoint.proofs.solving.sweep.Goals as goal
@@ -25,7 +25,7 @@ loop-gate-preserved c =
       keeps = KeepsNodes-chain inv.keeps c.set_gate.ensures.keeps;
       added = λ blocks b k w v ready few wide.
           added-more c.args.d.now c.loop-gate.d c.set_gate.new.d w (2 * order_cost net (take i order)) (2 * size (gate_at net (get_or order i 0)).cover) (2 * order_cost net (take (i + 1) order)) (omega (arith, sum_by_more (cost net) order i 0 inside))
-          (inv.added blocks b k w v ready few wide) (c.set_gate.ensures.added w (sweep-wide c.args.net.now c.in_ok-set_gate.ensures.valid c.args.cut.now c.requires.cut blocks b v k c.args.order.now c.args.d.now c.loop-gate.d c.args.before.now c.args.rails.now c.loop-gate.rails ready c.loop-gate.invariant.keeps c.loop-gate.gate-index c.loop-gate-test.true c.loop-gate.invariant.others (c.loop-gate.invariant.swept blocks b v (after_sweeps c.args.net.now blocks c.args.cut.now v k) ready) c.loop-gate.invariant.wires few wide));
+          (inv.added blocks b k w v ready few wide) (c.set_gate.ensures.added w (sweep-bounds c.args.net.now c.in_ok-set_gate.ensures.valid c.args.cut.now c.requires.cut blocks b v k c.args.order.now c.args.d.now c.loop-gate.d c.args.before.now c.args.rails.now c.loop-gate.rails ready c.loop-gate.invariant.keeps c.loop-gate.gate-index c.loop-gate-test.true c.loop-gate.invariant.others (c.loop-gate.invariant.swept blocks b v (after_sweeps c.args.net.now blocks c.args.cut.now v k) ready) few wide));
       wires = AreWires-set (get_or order i 0) c.set_gate.ensures.keeps inv.wires done;
       others = others-step net c.args.cut.now order c.loop-gate.d c.set_gate.new.d c.args.before.now c.args.rails.now c.loop-gate.rails c.set_gate.new.rails i (get_or order i 0) inside refl inv.others done;
       swept = sweeping-step net c.in_ok-set_gate.ensures.valid c.args.cut.now c.requires.cut order c.args.d.now c.loop-gate.d c.set_gate.new.d c.args.before.now c.args.rails.now c.loop-gate.rails c.set_gate.new.rails i (get_or order i 0)
@@ -50,7 +50,7 @@ returns-in_err-set_gate-clause-added c blocks b k w v ready few wide =
     let i = c.loop-gate.gate-index in
     added-more c.args.d.now c.loop-gate.d c.set_gate.new.d w (2 * order_cost net (take i order)) (2 * size (gate_at net (get_or order i 0)).cover) (2 * order_cost net order)
     (omega (arith, sum_by_more (cost net) order i 0 c.loop-gate-test.true, sum_by-take-le (cost net) order (i + 1)))
-    (c.loop-gate.invariant.added blocks b k w v ready few wide) (c.set_gate.ensures.added w (sweep-wide c.args.net.now c.set_gate.ensures.valid c.args.cut.now c.requires.cut blocks b v k c.args.order.now c.args.d.now c.loop-gate.d c.args.before.now c.args.rails.now c.loop-gate.rails ready c.loop-gate.invariant.keeps c.loop-gate.gate-index c.loop-gate-test.true c.loop-gate.invariant.others (c.loop-gate.invariant.swept blocks b v (after_sweeps c.args.net.now blocks c.args.cut.now v k) ready) c.loop-gate.invariant.wires few wide))
+    (c.loop-gate.invariant.added blocks b k w v ready few wide) (c.set_gate.ensures.added w (sweep-bounds c.args.net.now c.set_gate.ensures.valid c.args.cut.now c.requires.cut blocks b v k c.args.order.now c.args.d.now c.loop-gate.d c.args.before.now c.args.rails.now c.loop-gate.rails ready c.loop-gate.invariant.keeps c.loop-gate.gate-index c.loop-gate-test.true c.loop-gate.invariant.others (c.loop-gate.invariant.swept blocks b v (after_sweeps c.args.net.now blocks c.args.cut.now v k) ready) few wide))
 
 pub returns-in_err-set_gate-clause-full : goal.returns-in_err-set_gate-clause-full
 returns-in_err-set_gate-clause-full c blocks b k w v ready few wide is_full =
@@ -58,7 +58,7 @@ returns-in_err-set_gate-clause-full c blocks b k w v ready few wide is_full =
     let order = c.args.order.now in
     let i = c.loop-gate.gate-index in
     let refused = ap {A = StoreFault} Err (sym (rw is_full at c.from_residual.ensures.1)) in
-    elim (c.in_err-set_gate.ensures.full w (sweep-wide c.args.net.now c.set_gate.ensures.valid c.args.cut.now c.requires.cut blocks b v k c.args.order.now c.args.d.now c.loop-gate.d c.args.before.now c.args.rails.now c.loop-gate.rails ready c.loop-gate.invariant.keeps c.loop-gate.gate-index c.loop-gate-test.true c.loop-gate.invariant.others (c.loop-gate.invariant.swept blocks b v (after_sweeps c.args.net.now blocks c.args.cut.now v k) ready) c.loop-gate.invariant.wires few wide) refused) [
+    elim (c.in_err-set_gate.ensures.full w (sweep-bounds c.args.net.now c.set_gate.ensures.valid c.args.cut.now c.requires.cut blocks b v k c.args.order.now c.args.d.now c.loop-gate.d c.args.before.now c.args.rails.now c.loop-gate.rails ready c.loop-gate.invariant.keeps c.loop-gate.gate-index c.loop-gate-test.true c.loop-gate.invariant.others (c.loop-gate.invariant.swept blocks b v (after_sweeps c.args.net.now blocks c.args.cut.now v k) ready) few wide) refused) [
       | inl large ↦ inl (large-kept c.loop-gate.invariant.keeps large)
       | inr full ↦ inr (full-more c.args.d.now c.loop-gate.d c.set_gate.new.d w (2 * order_cost net (take i order)) (2 * size (gate_at net (get_or order i 0)).cover) (2 * order_cost net order)
           (omega (arith, sum_by_more (cost net) order i 0 c.loop-gate-test.true, sum_by-take-le (cost net) order (i + 1)))

@@ -3,7 +3,7 @@ use Rattle.bdd_store.specs.Growth.{KeepsNodes, AddsAtMost}
 use Rattle.dual_rail.specs.WorkingLists.{IsWide}
 use Rattle.loops.specs.declared.parts.Blocks.{Blocks}
 use Rattle.loops.specs.Blocks.{block_at}
-use Rattle.loops.specs.Cuts.{is_cut}
+use Rattle.loops.specs.Cuts.{is_cut, loops_by}
 use Rattle.fixpoint.specs.Solved.{Vectors}
 use Rattle.fixpoint.specs.Working.{IsWorking, order_cost}
 use Rattle.fixpoint.specs.Sweeping.{AreWires, IsSweepable, OthersStay, after_sweeps}
@@ -14,7 +14,7 @@ abbrev pub invariant-loop-gate : goal.invariant-loop-gate
 invariant-loop-gate l = record {
   keeps : KeepsNodes l.fn.d l.d;
   added : (blocks : Blocks) (b k w : ℕ) (v : Vectors) → IsSweepable l.net blocks l.cut l.fn.d v (after_sweeps l.net blocks l.cut v k) b l.order l.before l.fn.rails
-      → k ≤ length (filter (is_cut l.cut.wires) (block_at blocks b).gates) → IsWide l.fn.d.vars (IsWorking l.net blocks l.cut v) w
+      → k ≤ length (filter (is_cut l.cut.wires) (block_at blocks b).gates) → IsWide l.fn.d.vars (IsWorking l.net (loops_by blocks l.cut) v) w
       → AddsAtMost l.fn.d l.d (w * (2 * order_cost l.net (take l.gate-index l.order)));
   wires : AreWires l.net l.d l.before l.rails;
   others : OthersStay l.net (take l.gate-index l.order) l.initial.rails l.rails;

@@ -1,7 +1,7 @@
 use Rattle.std.proofs.Common.{Err, ◌≡◌, ◌∙◌, sym, List, set, subst, ap, arith, map}
 use Rattle.bdd_store.specs.declared.fault.StoreFault.{StoreFault}
 use Rattle.cover_logic.specs.Covers.{value}
-use Rattle.dual_rail.specs.WorkingLists.{IsWide, IsListed}
+use Rattle.dual_rail.specs.WorkingLists.{BoundsEach, IsExtended}
 use Rattle.cover_logic.specs.Extensions.{ext}
 use Rattle.dual_rail.specs.declared.rail.Rails.{Rails}
 use Rattle.netlist.specs.declared.parts.Gate.{Gate}
@@ -29,31 +29,31 @@ returns-clause-set c =
     }
 
 pub returns-clause-added : goal.returns-clause-added
-returns-clause-added c w wide =
+returns-clause-added c w bounds =
     let net = c.args.net.now in
     let pins : c.items.result.now ≡ (gate_at c.args.net.now c.args.gate).pins = c.items.ensures ∙ ap (λ (g : Gate). g.pins) c.gate.ensures.at in
     let list : c.deref.result.now ≡ map (rails_read c.args.net.now c.args.cut.now c.args.before.now c.args.rails.now) (gate_at c.args.net.now c.args.gate).pins =
     c.deref.ensures.value ∙ c.in-Ok.ensures ∙ ap (map (rails_read c.args.net.now c.args.cut.now c.args.before.now c.args.rails.now)) pins in
-    let wide2 : IsWide c.args.d.now.vars (IsListed c.args.d.now c.deref.result.now (value (gate_at c.args.net.now c.args.gate).cover)) w =
-    subst (λ (xs : List Rails). IsWide c.args.d.now.vars (IsListed c.args.d.now xs (value (gate_at c.args.net.now c.args.gate).cover)) w) (sym list) wide in
-    c.gate_rails.ensures.added w wide2
+    let bounds2 : BoundsEach c.args.d.now.vars (IsExtended c.args.d.now c.deref.result.now (value (gate_at c.args.net.now c.args.gate).cover)) w =
+    subst (λ (xs : List Rails). BoundsEach c.args.d.now.vars (IsExtended c.args.d.now xs (value (gate_at c.args.net.now c.args.gate).cover)) w) (sym list) bounds in
+    c.gate_rails.ensures.added w bounds2
 
 pub returns-in_err-made-clause-added : goal.returns-in_err-made-clause-added
-returns-in_err-made-clause-added c w wide =
+returns-in_err-made-clause-added c w bounds =
     let net = c.args.net.now in
     let pins : c.items.result.now ≡ (gate_at c.args.net.now c.args.gate).pins = c.items.ensures ∙ ap (λ (g : Gate). g.pins) c.gate.ensures.at in
     let list : c.deref.result.now ≡ map (rails_read c.args.net.now c.args.cut.now c.args.before.now c.args.rails.now) (gate_at c.args.net.now c.args.gate).pins =
     c.deref.ensures.value ∙ c.in-Ok.ensures ∙ ap (map (rails_read c.args.net.now c.args.cut.now c.args.before.now c.args.rails.now)) pins in
-    let wide2 : IsWide c.args.d.now.vars (IsListed c.args.d.now c.deref.result.now (value (gate_at c.args.net.now c.args.gate).cover)) w =
-    subst (λ (xs : List Rails). IsWide c.args.d.now.vars (IsListed c.args.d.now xs (value (gate_at c.args.net.now c.args.gate).cover)) w) (sym list) wide in
-    c.gate_rails.ensures.added w wide2
+    let bounds2 : BoundsEach c.args.d.now.vars (IsExtended c.args.d.now c.deref.result.now (value (gate_at c.args.net.now c.args.gate).cover)) w =
+    subst (λ (xs : List Rails). BoundsEach c.args.d.now.vars (IsExtended c.args.d.now xs (value (gate_at c.args.net.now c.args.gate).cover)) w) (sym list) bounds in
+    c.gate_rails.ensures.added w bounds2
 
 pub returns-in_err-made-clause-full : goal.returns-in_err-made-clause-full
-returns-in_err-made-clause-full c w wide is_full =
+returns-in_err-made-clause-full c w bounds is_full =
     let net = c.args.net.now in
     let pins : c.items.result.now ≡ (gate_at c.args.net.now c.args.gate).pins = c.items.ensures ∙ ap (λ (g : Gate). g.pins) c.gate.ensures.at in
     let list : c.deref.result.now ≡ map (rails_read c.args.net.now c.args.cut.now c.args.before.now c.args.rails.now) (gate_at c.args.net.now c.args.gate).pins =
     c.deref.ensures.value ∙ c.in-Ok.ensures ∙ ap (map (rails_read c.args.net.now c.args.cut.now c.args.before.now c.args.rails.now)) pins in
-    let wide2 : IsWide c.args.d.now.vars (IsListed c.args.d.now c.deref.result.now (value (gate_at c.args.net.now c.args.gate).cover)) w =
-    subst (λ (xs : List Rails). IsWide c.args.d.now.vars (IsListed c.args.d.now xs (value (gate_at c.args.net.now c.args.gate).cover)) w) (sym list) wide in
-    c.in_err-made.ensures.full w wide2 (ap {A = StoreFault} Err (sym (rw is_full at c.from_residual.ensures.1)))
+    let bounds2 : BoundsEach c.args.d.now.vars (IsExtended c.args.d.now c.deref.result.now (value (gate_at c.args.net.now c.args.gate).cover)) w =
+    subst (λ (xs : List Rails). BoundsEach c.args.d.now.vars (IsExtended c.args.d.now xs (value (gate_at c.args.net.now c.args.gate).cover)) w) (sym list) bounds in
+    c.in_err-made.ensures.full w bounds2 (ap {A = StoreFault} Err (sym (rw is_full at c.from_residual.ensures.1)))

@@ -1,0 +1,56 @@
+-- The functions that a decision works with, and how many nodes are enough for it.
+use Rattle.std.specs.Prelude.{◌≡◌, ◌<◌, ◌+◌, ◌-◌, ◌*◌, ℕ, Bool, false, List, length, map, IsSomeAnd, slice_index_or}
+use Rattle.std.specs.Option.{option_map_or}
+use Rattle.bdd_ops.specs.Operations.{bit_at}
+use Rattle.cyc_base.specs.declared.trit.Trit.{Trit}
+use Rattle.cyc_base.specs.declared.trit.Trit.TheVariants.{X}
+use Rattle.cyc_base.specs.Values.{bits}
+use Rattle.dual_rail.specs.WorkingLists.{IsWide}
+use Rattle.netlist.specs.declared.parts.Parts.{Parts}
+use Rattle.netlist.specs.Fixpoint.{next}
+use Rattle.loops.specs.Cuts.{Loops}
+use Rattle.loops.specs.Found.{loops_of}
+use Rattle.fixpoint.specs.Working.{IsGatePart, effort}
+use Rattle.care_sets.specs.declared.model.CareModel.{CareModel}
+use Rattle.care_sets.specs.Care.{CareSet, columns, state_of, is_allowed, is_care_vector}
+use Rattle.verdict.specs.Sets.{starts, has_state_inside}
+
+-- a netlist without loops has these
+abbrev pub no_loops : Loops
+no_loops = record { same = λ a b. false; cut = λ n. false }
+
+-- the values of a model's inputs, where the columns from its first one on have these values
+abbrev pub read_by : CareModel → List Trit → List Trit
+read_by model values = map (λ column. slice_index_or values (column - model.first) X) model.columns
+
+-- a function that a care model works with, on these values of the columns
+abbrev pub IsOfModel : CareModel → (List Bool → List Trit) → (List Bool → Bool) → Type 0
+IsOfModel model values g = IsGatePart model.net no_loops (λ v. read_by model (values v)) g
+
+-- A function of a vector that a decision works with: a column, the states that the inits permit, the assumption, the
+-- invariant, both of them, or one of the working list of the netlist, of the assumption, of the invariant, or of the
+-- invariant on the next state.
+pub data IsOfDecision (net : Parts) (care : CareSet) (g : List Bool → Bool) : Type 0 where
+  IsColumn : (column : ℕ) → column < columns net → ((v : List Bool) → g v ≡ bit_at column v) → IsOfDecision net care g
+  SaysStart : ((v : List Bool) → g v ≡ starts net v) → IsOfDecision net care g
+  SaysAllowed : ((v : List Bool) → g v ≡ is_allowed care v) → IsOfDecision net care g
+  SaysInside : ((v : List Bool) → g v ≡ has_state_inside net care v) → IsOfDecision net care g
+  SaysCare : ((v : List Bool) → g v ≡ is_care_vector net care v) → IsOfDecision net care g
+  IsOfNetlist : IsGatePart net (loops_of net) bits g → IsOfDecision net care g
+  IsOfAssumption : IsSomeAnd care.assume (λ model. IsOfModel model bits g) → IsOfDecision net care g
+  IsOfInvariant : IsSomeAnd care.invariant (λ model. IsOfModel model (λ v. bits (state_of net v)) g) → IsOfDecision net care g
+  IsOfNext : IsSomeAnd care.invariant (λ model. IsOfModel model (λ v. next net (bits v)) g) → IsOfDecision net care g
+
+-- a number of the netlist and of both care models together
+abbrev pub in_all : (Parts → ℕ) → Parts → CareSet → ℕ
+in_all f net care = f net + (option_map_or (λ model. f model.net) care.assume 0 + option_map_or (λ model. f model.net) care.invariant 0)
+
+-- So many nodes are enough: w is at least the number of subfunctions of each Boolean combination of at most three
+-- functions of the decision.
+abbrev pub enough : Parts → CareSet → ℕ → ℕ
+enough net care w =
+    16 * w * (in_all (λ n. length n.gates) net care + 2) * (in_all effort net care + columns net + 4)
+
+-- the limit is below what is enough
+pub record IsBelowEnough (net : Parts) (care : CareSet) (limit : ℕ) : Type 0 where
+  pub below : (w : ℕ) → IsWide (columns net) (IsOfDecision net care) w → limit < enough net care w
