@@ -1,10 +1,10 @@
 -- Why a call finds the diagrams full.
-use Rattle.std.proofs.Common.{◌≡◌, ◌⊎◌, inl, inr, ℕ, ◌<◌, Option, Some, None, length, subst, ◌∙◌}
+use Rattle.std.proofs.Common.{◌≡◌, ◌⊎◌, inl, inr, ℕ, ◌<◌, ◌≤◌, Option, Some, None, length, subst, ◌∙◌, arith}
 use Rattle.std.specs.Prelude.{IsSomeAnd}
 use Rattle.std.specs.Option.{option_map}
 use Rattle.std.proofs.lemmas.Option.{same_Some}
 use Rattle.bdd_store.specs.Arena.{Arena}
-use Rattle.bdd_store.specs.Growth.{IsFullOnlyPast}
+use Rattle.bdd_store.specs.Growth.{AddsAtMost, IsFullOnlyPast}
 use Rattle.dual_rail.specs.Local.{size}
 use Rattle.netlist.specs.declared.parts.Gate.{Gate}
 use Rattle.netlist.specs.declared.parts.Parts.{Parts}
@@ -13,6 +13,16 @@ use Rattle.care_sets.specs.declared.model.CareModel.{CareModel}
 use Rattle.care_sets.specs.Care.{CareSet}
 use Rattle.fixpoint.specs.Working.{HasLargeCover}
 use Rattle.verdict.specs.Causes.{IsFull, HasModelOver, IsLimitedBy, IsLimitedByCare, IsOutOfNodes}
+
+-- a bound serves where a lower one does
+
+pub added-to : (s t : Arena) (n w : ℕ) → n ≤ w → AddsAtMost s t n → AddsAtMost s t w
+added-to s t n w less added = omega (arith, less, added)
+
+pub full-to : (s t : Arena) (n w : ℕ) → n ≤ w → IsFullOnlyPast s t n → IsFullOnlyPast s t w
+full-to s t n w less is = record { full = is.full; past = omega (arith, less, is.past) }
+
+-- ---- what a refusal says
 
 pub past_is_full : (old new : Arena) (n : ℕ) → IsFullOnlyPast old new n → IsFull new
 past_is_full old new n is = record { full = is.full }

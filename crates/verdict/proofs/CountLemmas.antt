@@ -26,12 +26,12 @@ use Rattle.verdict.specs.Verdicts.{are_care_values}
 -- ---- lists of any length
 
 -- the first bits of a list, with 0 where it has none
-fit : ℕ → List Bool → List Bool
+pub fit : ℕ → List Bool → List Bool
 fit zero bs = []
 fit (suc n) [] = false ∷ fit n []
 fit (suc n) (b ∷ bs) = b ∷ fit n bs
 
-length-fit : (n : ℕ) (bs : List Bool) → length (fit n bs) ≡ n
+pub length-fit : (n : ℕ) (bs : List Bool) → length (fit n bs) ≡ n
 unfolding fit
 length-fit zero bs = refl
 length-fit (suc n) [] = ap suc (length-fit n [])
@@ -44,6 +44,13 @@ get_or-fit (suc n) [] zero inside = refl
 get_or-fit (suc n) [] (suc i) inside = get_or-fit n [] i (omega (arith, inside))
 get_or-fit (suc n) (b ∷ bs) zero inside = refl
 get_or-fit (suc n) (b ∷ bs) (suc i) inside = get_or-fit n bs i (omega (arith, inside))
+
+pub fit-whole : (n : ℕ) (bs : List Bool) → length bs ≡ n → fit n bs ≡ bs
+unfolding fit
+fit-whole zero [] long = refl
+fit-whole zero (b ∷ bs) long = absurd (omega (arith, long))
+fit-whole (suc n) [] long = absurd (omega (arith, long))
+fit-whole (suc n) (b ∷ bs) long = ap (λ l. b ∷ l) (fit-whole n bs (omega (arith, long)))
 
 -- a node reads the bits at variables of its store alone
 within-fit : (vars : ℕ) (es : List Entry) → IsSound vars es → (bs : List Bool) (k n : ℕ) → den_within k es n (fit vars bs) ≡ den_within k es n bs

@@ -2,6 +2,9 @@ mod CareLemmas
 mod CauseLemmas
 mod ColumnLemmas
 mod CountLemmas
+mod DecisionLemmas
+mod EnoughLemmas
+mod SizeLemmas
 mod ModelLemmas
 mod NextLemmas
 mod PartLemmas

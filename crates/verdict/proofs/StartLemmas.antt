@@ -1,15 +1,21 @@
 -- The states that the inits permit, latch by latch.
-use Rattle.std.proofs.Common.{◌≡◌, ℕ, ◌+◌, ◌-◌, ◌<◌, ◌≤◌, Bool, true, false, not, ◌&&◌, List, ◌∷◌, length, drop, get_or, slice_get, Some, refl, sym, ap, ap₂, ◌∙◌, arith, true≢false}
-use Rattle.std.proofs.lemmas.List.{drop_more, drop_all, get_or-map, get_or-drop, length-drop}
+use Rattle.std.proofs.Common.{◌≡◌, ℕ, zero, suc, ◌+◌, ◌-◌, ◌<◌, ◌≤◌, Bool, true, false, not, ◌&&◌, List, [], ◌∷◌, ◌++◌, length, map, take, drop, get_or, slice_get, Some, refl, sym, ap, ap₂, ◌∙◌, subst, arith, append_assoc, length-append, true≢false}
+use Rattle.std.specs.Prelude.{replicate}
+use Rattle.std.proofs.lemmas.List.{drop_more, drop_all, drop_at, drop-drop, get_or-map, get_or-drop, length-drop, length-map, length-replicate, length-take-le}
 use Rattle.std.proofs.lemmas.Option.{get_or_from_slice_get, slice_get_within}
 use Rattle.bdd_store.specs.declared.node.Node.{Node}
 use Rattle.bdd_store.specs.Arena.{Arena, den, IsNodeOf}
 use Rattle.bdd_store.specs.Growth.{KeepsNodes}
+use Rattle.bdd_store.specs.Subfunctions.{nodes, IsPart}
+use Rattle.bdd_store.proofs.SubfunctionLemmas.{nodes-alike}
+use Rattle.bdd_ops.specs.Operations.{conjunction}
 use Rattle.cyc_base.specs.declared.trit.Trit.{Trit}
 use Rattle.cyc_base.specs.declared.trit.Trit.TheVariants.{X}
 use Rattle.cyc_base.specs.Values.{bit}
 use Rattle.dual_rail.specs.declared.rail.Rails.{Rails}
 use Rattle.dual_rail.specs.Rails.{AreRailsOf, trit_of, value_of}
+use Rattle.netlist.specs.declared.parts.Init.{Init}
+use Rattle.netlist.specs.declared.parts.Init.TheVariants as inits
 use Rattle.netlist.specs.declared.parts.Latch.{Latch}
 use Rattle.netlist.specs.declared.parts.Parts.{Parts}
 use Rattle.care_sets.specs.Care.{columns, state_of}
@@ -18,6 +24,7 @@ use Rattle.refusals.proofs.ShowingLemmas.{all_may_start}
 use Rattle.verdict.specs.Models.{rails_at}
 use Rattle.verdict.specs.Sets.{AreColumns, starts}
 use Rattle.verdict.proofs.CareLemmas.{value_at-place}
+use Rattle.verdict.proofs.SizeLemmas.{nodes-part}
 
 one_of_bit : (one zero_ b : Bool) → trit_of one zero_ ≡ bit b → one ≡ b
 one_of_bit true z true e = refl
@@ -69,20 +76,82 @@ column-bit net a rails n v vars are inside wide =
     ∙ get_or-map bit v (length net.inputs + n) false X (omega (arith, wide, vars, inside))
     ∙ ap bit (sym (get_or-drop (length net.inputs) v n false))
 
-pub later-more : (net : Parts) (s t : Arena) (rails : List Rails) (column : Rails) (set one new : Node) (m n : ℕ) (latch : Latch) →
-    m ≡ n + 1 → KeepsNodes s t → s.vars ≡ columns net → AreColumns s rails → column ≡ rails_at rails (length net.inputs + n) →
+-- the latch and those after it
+pub later-both : (net : Parts) (s : Arena) (rails : List Rails) (column : Rails) (set one : Node) (m n : ℕ) (latch : Latch) →
+    m ≡ n + 1 → s.vars ≡ columns net → AreColumns s rails → column ≡ rails_at rails (length net.inputs + n) →
     slice_get net.latches n ≡ Some latch → n < length net.latches → TellsLater net s set m →
     ((b : Bool) (v : List Bool) → value_of s column v ≡ bit b → den s one v ≡ may_start latch.init b) →
-    IsNodeOf t new → ((v : List Bool) → den t new v ≡ (den s one v && den s set v)) → TellsLater net t new n
-later-more net s t rails column set one new m n latch m_is keeps vars are column_is found inside later starts in_new conj = record {
+    (v : List Bool) → length v ≡ s.vars → conjunction s one set v ≡ all_may_start (drop n net.latches) (drop n (state_of net v))
+later-both net s rails column set one m n latch m_is vars are column_is found inside later starts v wide =
+    let q : List Bool = state_of net v in
+    let long : length q ≡ length v - length net.inputs = length-drop (length net.inputs) v in
+    ap₂ (λ x y. x && y)
+    (starts (get_or q n false) v (ap (λ (r : Rails). value_of s r v) column_is ∙ column-bit net s rails n v vars are inside wide))
+    (later.value v wide ∙ ap (λ k. all_may_start (drop k net.latches) (drop k q)) m_is)
+    ∙ sym (next_latch net.latches q n latch false found (omega (arith, long, wide, vars, inside)))
+
+pub later-more : (net : Parts) (s t : Arena) (set one new : Node) (n : ℕ) → KeepsNodes s t →
+    ((v : List Bool) → length v ≡ s.vars → conjunction s one set v ≡ all_may_start (drop n net.latches) (drop n (state_of net v))) →
+    IsNodeOf t new → ((v : List Bool) → den t new v ≡ conjunction s one set v) → TellsLater net t new n
+later-more net s t set one new n keeps both in_new conj = record {
   node = in_new;
-  value = λ v wide.
-      let wide_s : length v ≡ s.vars = wide ∙ keeps.vars in
-      let q : List Bool = state_of net v in
-      let long : length q ≡ length v - length net.inputs = length-drop (length net.inputs) v in
-      conj v
-      ∙ ap₂ (λ x y. x && y)
-      (starts (get_or q n false) v (ap (λ (r : Rails). value_of s r v) column_is ∙ column-bit net s rails n v vars are inside wide_s))
-      (later.value v wide_s ∙ ap (λ k. all_may_start (drop k net.latches) (drop k q)) m_is)
-      ∙ sym (next_latch net.latches q n latch false found (omega (arith, long, wide_s, vars, inside)));
+  value = λ v wide. conj v ∙ both v (wide ∙ keeps.vars);
 }
+
+-- ---- the latches from one on are a part of all
+
+-- a value that a latch may start with
+abbrev permitted : Init → Bool
+permitted inits.Zero = false
+permitted inits.One = true
+permitted inits.Either = true
+
+permitted-may : (init : Init) → may_start init (permitted init) ≡ true
+permitted-may inits.Zero = refl
+permitted-may inits.One = refl
+permitted-may inits.Either = refl
+
+drop-none : (n : ℕ) → (let none : List Bool = [] in drop n none) ≡ []
+drop-none zero = refl
+drop-none (suc n) = refl
+
+permitted-first : (n : ℕ) (latches : List Latch) (q : List Bool) → all_may_start latches (map (λ latch. permitted latch.init) (take n latches) ++ drop n q) ≡ all_may_start (drop n latches) (drop n q)
+permitted-first zero latches q = refl
+permitted-first (suc n) [] q = refl
+permitted-first (suc n) (latch ∷ latches) [] =
+    ap (λ t. t && all_may_start latches (map (λ l. permitted l.init) (take n latches) ++ [])) (permitted-may latch.init)
+    ∙ ap (λ (q : List Bool). all_may_start latches (map (λ l. permitted l.init) (take n latches) ++ q)) (sym (drop-none n))
+    ∙ permitted-first n latches []
+    ∙ ap (all_may_start (drop n latches)) (drop-none n)
+permitted-first (suc n) (latch ∷ latches) (b ∷ q) =
+    ap (λ t. t && all_may_start latches (map (λ l. permitted l.init) (take n latches) ++ drop n q)) (permitted-may latch.init) ∙ permitted-first n latches q
+
+later-part : (net : Parts) (n : ℕ) → n ≤ length net.latches → IsPart (columns net) (starts net) (λ v. all_may_start (drop n net.latches) (drop n (state_of net v)))
+later-part net n few =
+    let low : List Bool = replicate (length net.inputs) false in
+    let high : List Bool = map (λ latch. permitted latch.init) (take n net.latches) in
+    let first : List Bool = low ++ high in
+    let long : length first ≡ length net.inputs + n =
+    length-append low high ∙ ap₂ (λ x y. x + y) (length-replicate (length net.inputs) false) (length-map (take n net.latches) (λ latch. permitted latch.init) ∙ length-take-le n net.latches few) in
+    record {
+      first = first;
+      short = omega (arith, long, few);
+      same = λ v wide. sym (
+          ap (λ (q : List Bool). all_may_start net.latches q) (
+          ap (drop (length net.inputs)) (append_assoc low high (drop (length first) v))
+          ∙ drop_at low (high ++ drop (length first) v) (length net.inputs) (length-replicate (length net.inputs) false)
+          ∙ ap (λ (r : List Bool). high ++ r) (ap (λ k. drop k v) long ∙ sym (drop-drop n (length net.inputs) v)))
+          ∙ permitted-first n net.latches (state_of net v));
+    }
+
+-- so making it costs no more
+pub later-nodes : (net : Parts) (s : Arena) (set one : Node) (n w : ℕ) → n ≤ length net.latches → s.vars ≡ columns net →
+    ((v : List Bool) → length v ≡ s.vars → conjunction s one set v ≡ all_may_start (drop n net.latches) (drop n (state_of net v))) →
+    nodes (columns net) (starts net) ≤ w → nodes s.vars (conjunction s one set) ≤ w
+later-nodes net s set one n w few vars both fits =
+    let part = nodes-part (columns net) (starts net) (λ v. all_may_start (drop n net.latches) (drop n (state_of net v))) (later-part net n few) in
+    let alike : nodes s.vars (conjunction s one set) ≡ nodes s.vars (λ v. all_may_start (drop n net.latches) (drop n (state_of net v))) =
+    nodes-alike s.vars (conjunction s one set) (λ v. all_may_start (drop n net.latches) (drop n (state_of net v))) both in
+    let width : nodes s.vars (λ v. all_may_start (drop n net.latches) (drop n (state_of net v))) ≡ nodes (columns net) (λ v. all_may_start (drop n net.latches) (drop n (state_of net v))) =
+    ap (λ k. nodes k (λ v. all_may_start (drop n net.latches) (drop n (state_of net v)))) vars in
+    omega (arith, part, alike, width, fits)

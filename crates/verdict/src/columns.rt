@@ -1,8 +1,7 @@
 //! The columns of a netlist's vectors as variables of diagrams.
 
-ghost use Rattle.std.specs.Prelude.{◌≡◌, IfOk};
-ghost use Rattle.bdd_store.specs.Growth.{KeepsNodes};
-ghost use Rattle.verdict.specs.Causes.{IsFull};
+ghost use Rattle.std.specs.Prelude.{◌≡◌, ◌*◌, IfOk};
+ghost use Rattle.bdd_store.specs.Growth.{KeepsNodes, AddsAtMost, IsFullOnlyPast};
 ghost use Rattle.verdict.specs.Sets.{AreColumns};
 
 use bdd_ops::Diagrams;
@@ -11,11 +10,11 @@ use dual_rail::{Rails, var_rails};
 use std::alloc::Global;
 
 /// The rails of all variables, one for each column.
-#[tactic(auto, using(crate::proofs::CauseLemmas::past_is_full))]
 pub(crate) fn column_rails(alloc: Global, d: &mut Diagrams) -> Result<Vec<Rails>, StoreFault>
     ensures rails { IfOk result (λ rails. AreColumns d.new rails.items) }
     ensures keeps { KeepsNodes d.old d.new }
-    ensures full { result ≡ Err StoreFault.Full → IsFull d.new }
+    ensures added { AddsAtMost d.old d.new (2 * d.old.vars) }
+    ensures full { result ≡ Err StoreFault.Full → IsFullOnlyPast d.old d.new (2 * d.old.vars) }
 {
     let mut rails = Vec::new(alloc);
     for column in 0..d.store().vars() {

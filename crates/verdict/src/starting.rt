@@ -1,13 +1,13 @@
 //! The vectors whose states the inits permit.
 
-ghost use Rattle.std.specs.Prelude.{◌≡◌, Bool, List, IfOk, length};
+ghost use Rattle.std.specs.Prelude.{◌≡◌, ◌≤◌, ◌*◌, ℕ, Bool, List, IfOk, length};
 ghost use Rattle.bdd_store.specs.Arena.{Arena, den, IsNodeOf};
-ghost use Rattle.bdd_store.specs.Growth.{KeepsNodes};
+ghost use Rattle.bdd_store.specs.Growth.{KeepsNodes, AddsAtMost, IsFullOnlyPast};
+ghost use Rattle.bdd_store.specs.Subfunctions.{nodes};
 ghost use Rattle.cyc_base.specs.Values.{bit};
 ghost use Rattle.dual_rail.specs.Rails.{AreRailsOf, value_of};
 ghost use Rattle.care_sets.specs.Care.{columns};
 ghost use Rattle.refusals.specs.Refusals.{may_start as may_start_with};
-ghost use Rattle.verdict.specs.Causes.{IsFull};
 ghost use Rattle.verdict.specs.Sets.{AreColumns, Tells, starts};
 
 use bdd_ops::Diagrams;
@@ -28,7 +28,6 @@ fn may_start_on(init: Init, column: Rails) -> Node
 }
 
 /// The vectors whose states the inits permit.
-#[tactic(auto, using(crate::proofs::CauseLemmas::past_is_full))]
 pub(crate) fn starts_on(
     d: &mut Diagrams,
     net: &Netlist,
@@ -38,7 +37,8 @@ pub(crate) fn starts_on(
     requires columns { AreColumns d.old rails.now }
     ensures starts { IfOk result (λ set. Tells d.new set (starts net.now)) }
     ensures keeps { KeepsNodes d.old d.new }
-    ensures full { result ≡ Err StoreFault.Full → IsFull d.new }
+    ensures added { (w : ℕ) → nodes d.old.vars (starts net.now) ≤ w → AddsAtMost d.old d.new (w * length net.now.latches) }
+    ensures full { (w : ℕ) → nodes d.old.vars (starts net.now) ≤ w → result ≡ Err StoreFault.Full → IsFullOnlyPast d.old d.new (w * length net.now.latches) }
 {
     let mut set = Node::of(true);
     for number in (0..net.latches()).rev() {

@@ -1,0 +1,129 @@
+-- Functions that are made of those of a decision.
+use Rattle.std.proofs.Common.{◌≡◌, inl, inr, ℕ, ◌+◌, ◌<◌, ◌≤◌, Bool, true, false, not, ◌&&◌, List, length, get_or, refl, sym, ap, ap₂, subst, ◌∙◌, arith}
+use Rattle.std.proofs.lemmas.List.{get_or-map}
+use Rattle.bdd_store.specs.declared.node.Node.{Node}
+use Rattle.bdd_store.specs.Arena.{Arena, den}
+use Rattle.bdd_store.specs.Subfunctions.{nodes}
+use Rattle.bdd_store.proofs.SubfunctionLemmas.{nodes-alike}
+use Rattle.bdd_ops.specs.Operations.{bit_at}
+use Rattle.cyc_base.specs.declared.trit.Trit.{Trit}
+use Rattle.cyc_base.specs.declared.trit.Trit.TheVariants.{X}
+use Rattle.cyc_base.specs.Values.{bit, bits}
+use Rattle.dual_rail.specs.declared.rail.Rails.{Rails}
+use Rattle.dual_rail.specs.Rails.{AreRailsOf, trit_of, value_of, values_of}
+use Rattle.dual_rail.specs.WorkingLists.{IsWide, is_bit}
+use Rattle.netlist.specs.declared.parts.Parts.{Parts}
+use Rattle.netlist.specs.Fixpoint.{fix}
+use Rattle.netlist.specs.Netlists.{count}
+use Rattle.loops.specs.Found.{loops_of}
+use Rattle.loops.specs.Sweeps.{value_in}
+use Rattle.loops.proofs.Existence.{loops_exist}
+use Rattle.fixpoint.specs.Working.{IsGatePart, IsWorking}
+use Rattle.fixpoint.proofs.WorkLemmas.{fix_is_working, gate_parts_agree}
+use Rattle.care_sets.specs.Care.{CareSet, columns}
+use Rattle.refusals.proofs.RefusalLemmas.{length-bits}
+use Rattle.verdict.specs.Enough.{IsOfDecision, IsColumn, IsOfNetlist}
+use Rattle.verdict.specs.Models.{rails_at}
+use Rattle.verdict.specs.Sets.{Tells, AreFixed}
+use Rattle.verdict.proofs.CareLemmas.{value_at-place}
+use Rattle.verdict.proofs.CountLemmas.{fit, length-fit, fit-whole}
+use Rattle.verdict.proofs.ModelLemmas.{rails_at-proper}
+
+-- at vectors of the netlist's width, g is made of one function of the decision
+pub record IsMade (net : Parts) (care : CareSet) (g : List Bool → Bool) : Type 0 where
+  pub of : List Bool → Bool
+  pub listed : IsOfDecision net care of
+  pub by : Bool → Bool
+  pub same : (v : List Bool) → length v ≡ columns net → g v ≡ by (of v)
+
+pub made-listed : {net : Parts} {care : CareSet} {f g : List Bool → Bool} → IsOfDecision net care f → ((v : List Bool) → length v ≡ columns net → g v ≡ f v) → IsMade net care g
+made-listed {f = f} is same = record { of = f; listed = is; by = λ x. x; same = same }
+
+-- a width serves them too
+pub made-wide : {net : Parts} {care : CareSet} {w : ℕ} → IsWide (columns net) (IsOfDecision net care) w → IsWide (columns net) (IsMade net care) w
+made-wide {net} {care} {w} wide = record {
+  variables = wide.variables;
+  combinations = λ c f g h x y z.
+      let most = wide.combinations (λ p q r. c (x.by p) (y.by q) (z.by r)) x.of y.of z.of x.listed y.listed z.listed in
+      let same : nodes (columns net) (λ v. c (f v) (g v) (h v)) ≡ nodes (columns net) (λ v. c (x.by (x.of v)) (y.by (y.of v)) (z.by (z.of v))) =
+      nodes-alike (columns net) (λ v. c (f v) (g v) (h v)) (λ v. c (x.by (x.of v)) (y.by (y.of v)) (z.by (z.of v)))
+      (λ v long. ap (λ p. c p (g v) (h v)) (x.same v long) ∙ ap₂ (λ q r. c (x.by (x.of v)) q r) (y.same v long) (z.same v long)) in
+      omega (arith, most, same);
+}
+
+-- two of them, and one
+pub made-two : {net : Parts} {care : CareSet} {w n : ℕ} → n ≡ columns net → IsWide n (IsOfDecision net care) w → (c : Bool → Bool → Bool) (f g h : List Bool → Bool) →
+    IsMade net care f → IsMade net care g → ((v : List Bool) → length v ≡ n → h v ≡ c (f v) (g v)) → nodes n h ≤ w
+made-two {net} {care} {w} {n} vars wide c f g h x y same =
+    let most : nodes n (λ v. c (f v) (g v)) ≤ w = subst (λ k. IsWide k (IsOfDecision net care) w → nodes k (λ v. c (f v) (g v)) ≤ w) (sym vars) (λ is. (made-wide is).combinations (λ p q r. c p q) f g g x y y) wide in
+    let alike : nodes n h ≡ nodes n (λ v. c (f v) (g v)) = nodes-alike n h (λ v. c (f v) (g v)) same in
+    omega (arith, most, alike)
+
+pub made-one : {net : Parts} {care : CareSet} {w n : ℕ} → n ≡ columns net → IsWide n (IsOfDecision net care) w → (f : List Bool → Bool) → IsMade net care f → nodes n f ≤ w
+made-one vars wide f x = made-two vars wide (λ p q. p) f f f x x (λ v long. refl)
+
+-- a node of a set
+pub made-told : {net : Parts} {care : CareSet} {a : Arena} {n : Node} {test : List Bool → Bool} → a.vars ≡ columns net → IsOfDecision net care test → Tells a n test → IsMade net care (den a n)
+made-told vars is told = made-listed is (λ v long. told.value v (long ∙ sym vars))
+
+-- ---- signals at the fixpoint
+
+module _ (net : Parts) (care : CareSet) where
+  abbrev fitted : List Bool → List Trit
+  fitted v = bits (fit (columns net) v)
+
+  at-width : (v : List Bool) → length v ≡ columns net → bits v ≡ fitted v
+  at-width v long = ap bits (sym (fit-whole (columns net) v long))
+
+  pub made-signal : (signal : ℕ) → signal < count net → (b : Bool) → IsMade net care (λ v. is_bit b (value_in (fix net (bits v)) signal))
+  made-signal signal within b =
+      let work : IsWorking net (loops_of net) fitted (λ v. is_bit b (value_in (fix net (fitted v)) signal)) =
+      fix_is_working net (loops_of net) (loops_exist net) fitted (λ v. length-bits (fit (columns net) v) ∙ length-fit (columns net) v) signal within b in
+      elim work [
+        | inl given ↦ record {
+            of = bit_at given.signal;
+            listed = IsColumn given.signal given.within (λ v. refl);
+            by = λ x. is_bit given.bit (bit x);
+            same = λ v long.
+                let low = given.within in
+                ap (λ (u : List Trit). is_bit b (value_in (fix net u) signal)) (at-width v long)
+                ∙ given.same v
+                ∙ ap (λ (u : List Trit). is_bit given.bit (value_in u given.signal)) (sym (at-width v long))
+                ∙ ap (is_bit given.bit) (get_or-map bit v given.signal false X (omega (arith, low, long)));
+          }
+        | inr part ↦
+            let h = gate_parts_agree net (loops_of net) (columns net) fitted bits (λ v long. sym (at-width v long)) (λ v. is_bit b (value_in (fix net (fitted v)) signal)) part in
+            made-listed (IsOfNetlist h.is) (λ v long. ap (λ (u : List Trit). is_bit b (value_in (fix net u) signal)) (at-width v long) ∙ h.alike v long)
+      ]
+
+  -- and the rails that stand for them
+
+  one-of : (one zero_ : Bool) → one ≡ is_bit true (trit_of one zero_)
+  one-of true z = refl
+  one-of false true = refl
+  one-of false false = refl
+
+  zero-of : (one zero_ : Bool) → (one && zero_) ≡ false → zero_ ≡ is_bit false (trit_of one zero_)
+  zero-of true true apart = apart
+  zero-of true false apart = refl
+  zero-of false true apart = refl
+  zero-of false false apart = refl
+
+  module _ (a : Arena) (rails : List Rails) (vars : a.vars ≡ columns net) (fixed : AreFixed net a rails) (signal : ℕ) (within : signal < count net) where
+    signal-value : (v : List Bool) → length v ≡ columns net → value_of a (rails_at rails signal) v ≡ value_in (fix net (bits v)) signal
+    signal-value v long =
+        let wide = fixed.width in
+        value_at-place a rails signal v (omega (arith, wide, within)) ∙ ap (λ (ts : List Trit). value_in ts signal) (fixed.values v (long ∙ sym vars))
+
+    pub made-one_rail : IsMade net care (den a (rails_at rails signal).one)
+    made-one_rail =
+        let r : Rails = rails_at rails signal in
+        let m = made-signal signal within true in
+        record { of = m.of; listed = m.listed; by = m.by; same = λ v long. one-of (den a r.one v) (den a r.zero v) ∙ ap (is_bit true) (signal-value v long) ∙ m.same v long }
+
+    pub made-zero_rail : IsMade net care (den a (rails_at rails signal).zero)
+    made-zero_rail =
+        let r : Rails = rails_at rails signal in
+        let proper : AreRailsOf a r = rails_at-proper a rails fixed.proper signal in
+        let m = made-signal signal within false in
+        record { of = m.of; listed = m.listed; by = m.by; same = λ v long. zero-of (den a r.one v) (den a r.zero v) (proper.proper v) ∙ ap (is_bit false) (signal-value v long) ∙ m.same v long }

@@ -1,0 +1,28 @@
+-- A function has at least as many nodes as it has with some first bits fixed.
+use Rattle.std.proofs.Common.{◌≡◌, ℕ, ◌≤◌, Bool, true, false, not, cond, ◌||◌, List, [], ◌∷◌, length, refl, ap, ◌∙◌}
+use Rattle.std.proofs.lemmas.Map.Made.{is_member-Decides}
+
+use Rattle.std.specs.Set.{is_member, unique_keys}
+use Rattle.bdd_store.specs.Subfunctions.{fixed, table, is_constant, nodes, IsPart}
+use Rattle.bdd_store.proofs.PigeonholeLemmas.{table_eq, table_decides, counted, counted-part}
+use Rattle.bdd_store.proofs.SubfunctionLemmas.{IsPart-chain}
+use Rattle.dual_rail.proofs.SizeLemmas.{nodes-at_most}
+
+keys-member : (ts : List (List Bool)) (q : List Bool) → is_member table_eq ts q ≡ true → is_member table_eq (unique_keys table_eq ts) q ≡ true
+keys-member [] q h = h
+keys-member (t ∷ ts) q h = by (is_member table_eq ts t) (table_eq q t) refl refl h (keys-member ts q)
+  where
+    by : (b c : Bool) → is_member table_eq ts t ≡ b → table_eq q t ≡ c → (c || is_member table_eq ts q) ≡ true → (is_member table_eq ts q ≡ true → is_member table_eq (unique_keys table_eq ts) q ≡ true) →
+        is_member table_eq (cond b (unique_keys table_eq ts) (t ∷ unique_keys table_eq ts)) q ≡ true
+    by true true again same g rest = rest (ap (is_member table_eq ts) ((table_decides q t).0 same) ∙ again)
+    by true false again other g rest = rest g
+    by false true new same g rest = ap (λ v. v || is_member table_eq (unique_keys table_eq ts) q) same
+    by false false new other g rest = ap (λ v. v || is_member table_eq (unique_keys table_eq ts) q) other ∙ rest g
+
+pub nodes-part : (vars : ℕ) (f g : List Bool → Bool) → IsPart vars f g → nodes vars g ≤ nodes vars f
+unfolding nodes
+nodes-part vars f g part =
+    nodes-at_most vars g (unique_keys table_eq (counted vars f)) (λ p short varies.
+    (is_member-Decides table_decides (unique_keys table_eq (counted vars f)) (table vars (fixed g p))).0
+    (keys-member (counted vars f) (table vars (fixed g p))
+    (counted-part vars f (fixed g p) (IsPart-chain part (record { first = p; short = short; same = λ bits long. refl })) varies)))
