@@ -1,5 +1,5 @@
 -- Why a call finds the diagrams full.
-use Rattle.std.proofs.Common.{◌≡◌, ◌⊎◌, inl, inr, ℕ, ◌<◌, ◌≤◌, Option, Some, None, length, subst, ◌∙◌, arith}
+use Rattle.std.proofs.Common.{◌≡◌, ◌⊎◌, inl, inr, ℕ, ◌*◌, ◌<◌, ◌≤◌, Option, Some, None, length, subst, ◌∙◌, arith}
 use Rattle.std.specs.Prelude.{IsSomeAnd}
 use Rattle.std.specs.Option.{option_map}
 use Rattle.std.proofs.lemmas.Option.{same_Some}
@@ -21,6 +21,14 @@ added-to s t n w less added = omega (arith, less, added)
 
 pub full-to : (s t : Arena) (n w : ℕ) → n ≤ w → IsFullOnlyPast s t n → IsFullOnlyPast s t w
 full-to s t n w less is = record { full = is.full; past = omega (arith, less, is.past) }
+
+-- two operations
+
+pub added-both : (s t u : Arena) (w : ℕ) → AddsAtMost s t w → AddsAtMost t u w → AddsAtMost s u (w * 2)
+added-both s t u w before now = omega (arith, before, now)
+
+pub full-both : (s t u : Arena) (w : ℕ) → AddsAtMost s t w → IsFullOnlyPast t u w → IsFullOnlyPast s u (w * 2)
+full-both s t u w before now = record { full = now.full; past = omega (arith, before, now.past) }
 
 -- ---- what a refusal says
 

@@ -20,14 +20,16 @@ use Rattle.loops.specs.Sweeps.{value_in}
 use Rattle.loops.proofs.Existence.{loops_exist}
 use Rattle.fixpoint.specs.Working.{IsGatePart, IsWorking}
 use Rattle.fixpoint.proofs.WorkLemmas.{fix_is_working, gate_parts_agree}
-use Rattle.care_sets.specs.Care.{CareSet, columns}
+use Rattle.care_sets.specs.Care.{CareSet, columns, is_care_vector}
+use Rattle.refusals.specs.Refusals.{is_x}
 use Rattle.refusals.proofs.RefusalLemmas.{length-bits}
-use Rattle.verdict.specs.Enough.{IsOfDecision, IsColumn, IsOfNetlist}
+use Rattle.verdict.specs.Enough.{IsOfDecision, IsColumn, SaysCare, IsOfNetlist}
 use Rattle.verdict.specs.Models.{rails_at}
-use Rattle.verdict.specs.Sets.{Tells, AreFixed}
+use Rattle.verdict.specs.Sets.{Tells, AreFixed, difference}
 use Rattle.verdict.proofs.CareLemmas.{value_at-place}
 use Rattle.verdict.proofs.CountLemmas.{fit, length-fit, fit-whole}
 use Rattle.verdict.proofs.ModelLemmas.{rails_at-proper}
+use Rattle.verdict.proofs.PartLemmas.{unknown-values}
 
 -- at vectors of the netlist's width, g is made of one function of the decision
 pub record IsMade (net : Parts) (care : CareSet) (g : List Bool → Bool) : Type 0 where
@@ -51,13 +53,19 @@ made-wide {net} {care} {w} wide = record {
       omega (arith, most, same);
 }
 
--- two of them, and one
-pub made-two : {net : Parts} {care : CareSet} {w n : ℕ} → n ≡ columns net → IsWide n (IsOfDecision net care) w → (c : Bool → Bool → Bool) (f g h : List Bool → Bool) →
-    IsMade net care f → IsMade net care g → ((v : List Bool) → length v ≡ n → h v ≡ c (f v) (g v)) → nodes n h ≤ w
-made-two {net} {care} {w} {n} vars wide c f g h x y same =
-    let most : nodes n (λ v. c (f v) (g v)) ≤ w = subst (λ k. IsWide k (IsOfDecision net care) w → nodes k (λ v. c (f v) (g v)) ≤ w) (sym vars) (λ is. (made-wide is).combinations (λ p q r. c p q) f g g x y y) wide in
-    let alike : nodes n h ≡ nodes n (λ v. c (f v) (g v)) = nodes-alike n h (λ v. c (f v) (g v)) same in
+-- three of them, two, and one
+
+pub made-three : {net : Parts} {care : CareSet} {w n : ℕ} → n ≡ columns net → IsWide n (IsOfDecision net care) w → (c : Bool → Bool → Bool → Bool) (f g h made : List Bool → Bool) →
+    IsMade net care f → IsMade net care g → IsMade net care h → ((v : List Bool) → length v ≡ n → made v ≡ c (f v) (g v) (h v)) → nodes n made ≤ w
+made-three {net} {care} {w} {n} vars wide c f g h made x y z same =
+    let most : nodes n (λ v. c (f v) (g v) (h v)) ≤ w =
+    subst (λ k. IsWide k (IsOfDecision net care) w → nodes k (λ v. c (f v) (g v) (h v)) ≤ w) (sym vars) (λ is. (made-wide is).combinations c f g h x y z) wide in
+    let alike : nodes n made ≡ nodes n (λ v. c (f v) (g v) (h v)) = nodes-alike n made (λ v. c (f v) (g v) (h v)) same in
     omega (arith, most, alike)
+
+pub made-two : {net : Parts} {care : CareSet} {w n : ℕ} → n ≡ columns net → IsWide n (IsOfDecision net care) w → (c : Bool → Bool → Bool) (f g made : List Bool → Bool) →
+    IsMade net care f → IsMade net care g → ((v : List Bool) → length v ≡ n → made v ≡ c (f v) (g v)) → nodes n made ≤ w
+made-two vars wide c f g made x y same = made-three vars wide (λ p q r. c p q) f g g made x y y same
 
 pub made-one : {net : Parts} {care : CareSet} {w n : ℕ} → n ≡ columns net → IsWide n (IsOfDecision net care) w → (f : List Bool → Bool) → IsMade net care f → nodes n f ≤ w
 made-one vars wide f x = made-two vars wide (λ p q. p) f f f x x (λ v long. refl)
@@ -127,3 +135,16 @@ module _ (net : Parts) (care : CareSet) where
         let proper : AreRailsOf a r = rails_at-proper a rails fixed.proper signal in
         let m = made-signal signal within false in
         record { of = m.of; listed = m.listed; by = m.by; same = λ v long. zero-of (den a r.one v) (den a r.zero v) (proper.proper v) ∙ ap (is_bit false) (signal-value v long) ∙ m.same v long }
+
+    -- where one is unknown in a set
+    module _ (set : Node) (told : Tells a set (is_care_vector net care)) {w : ℕ} (wide : IsWide a.vars (IsOfDecision net care) w) where
+      pub open-fits : nodes a.vars (difference a set (rails_at rails signal).one) ≤ w
+      open-fits =
+          made-two vars wide (λ p q. p && not q) (den a set) (den a (rails_at rails signal).one) (difference a set (rails_at rails signal).one)
+          (made-told vars (SaysCare (λ v. refl)) told) made-one_rail (λ v long. refl)
+
+      pub unknown-fits : nodes a.vars (λ v. den a set v && is_x (value_of a (rails_at rails signal) v)) ≤ w
+      unknown-fits =
+          let r : Rails = rails_at rails signal in
+          made-three vars wide (λ p q o. (p && not q) && not o) (den a set) (den a r.one) (den a r.zero) (λ v. den a set v && is_x (value_of a r v))
+          (made-told vars (SaysCare (λ v. refl)) told) made-one_rail made-zero_rail (λ v long. sym (unknown-values (den a set v) (den a r.one v) (den a r.zero v)))

@@ -7,8 +7,10 @@ use Rattle.std.proofs.lemmas.Bool.{cases_lt}
 use Rattle.std.proofs.lemmas.List.{length-drop}
 use Rattle.std.proofs.lemmas.List.Folds.{find-append}
 use Rattle.bdd_store.specs.declared.node.Node.{Node}
-use Rattle.bdd_store.specs.Arena.{Arena, den}
+use Rattle.bdd_store.specs.Arena.{Arena, den, IsNodeOf}
 use Rattle.bdd_store.specs.Growth.{KeepsNodes}
+use Rattle.bdd_store.specs.Subfunctions.{nodes}
+use Rattle.bdd_store.proofs.SubfunctionLemmas.{nodes-alike}
 use Rattle.cyc_base.specs.declared.sig.Sig.{Sig}
 use Rattle.cyc_base.specs.declared.trit.Trit.{Trit}
 use Rattle.cyc_base.specs.declared.trit.Trit.TheVariants.{X}
@@ -96,6 +98,15 @@ unknown-values true true z = refl
 unknown-values true false true = refl
 unknown-values true false false = refl
 unknown-values false o z = refl
+
+-- what the second difference costs
+pub unknown-nodes : (s t : Arena) (set first : Node) (rails : Rails) (w : ℕ) → KeepsNodes s t → IsNodeOf s rails.zero → ((v : List Bool) → den t first v ≡ difference s set rails.one v) →
+    nodes s.vars (λ v. den s set v && is_x (value_of s rails v)) ≤ w → nodes t.vars (difference t first rails.zero) ≤ w
+unknown-nodes s t set first rails w keeps zero_in open_is fits =
+    let alike : nodes s.vars (difference t first rails.zero) ≡ nodes s.vars (λ v. den s set v && is_x (value_of s rails v)) =
+    nodes-alike s.vars (difference t first rails.zero) (λ v. den s set v && is_x (value_of s rails v))
+    (λ v wide. ap₂ (λ x y. x && not y) (open_is v) (keeps.function rails.zero v zero_in) ∙ unknown-values (den s set v) (den s rails.one v) (den s rails.zero v)) in
+    subst (λ k. nodes k (difference t first rails.zero) ≤ w) (sym keeps.vars) (omega (arith, alike, fits))
 
 -- the vectors of care on which a gate is unknown
 pub unknown-first : (net : Parts) (care : CareSet) (s d e : Arena) (set found : Node) (rails : List Rails) (k : ℕ) → s.vars ≡ columns net → AreFixed net s rails →

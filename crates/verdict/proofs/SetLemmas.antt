@@ -1,5 +1,5 @@
 -- The least vector of a set.
-use Rattle.std.proofs.Common.{◌≡◌, ◌==◌, ℕ, zero, suc, Bool, true, false, cond, List, [], ◌∷◌, length, map, Option, Some, None, refl, sym, ap, ap₂, ◌∙◌, arith, true≢false}
+use Rattle.std.proofs.Common.{◌≡◌, ◌==◌, ℕ, zero, suc, ◌≤◌, Bool, true, false, not, ◌&&◌, if◌then◌else◌, cond, List, [], ◌∷◌, length, map, Option, Some, None, refl, sym, ap, ap₂, ◌∙◌, arith, true≢false}
 use Rattle.std.specs.Prelude.{find, is_none}
 use Rattle.std.specs.Option.{option_or, option_map}
 use Rattle.std.proofs.lemmas.Bool.{eqb-true, eq-eqb}
@@ -7,8 +7,12 @@ use Rattle.std.proofs.lemmas.List.Folds.{find-append}
 use Rattle.bdd_store.specs.declared.node.Node.{Node}
 use Rattle.bdd_store.specs.Arena.{Arena, constant, den, den_within, IsNodeOf}
 use Rattle.bdd_store.specs.Soundness.{IsLawful}
+use Rattle.bdd_store.specs.Subfunctions.{nodes}
+use Rattle.bdd_store.proofs.SubfunctionLemmas.{nodes-alike}
 use Rattle.bdd_ops.specs.Least.{IsLeast}
+use Rattle.bdd_ops.specs.Operations.{if_then_else}
 use Rattle.cyc_base.specs.Vectors.{vectors, AtMost}
+use Rattle.verdict.specs.Sets.{difference}
 use Rattle.refusals.proofs.FirstLemmas.{find-map, found_passes, none_passes, nothing_passes, found_wide, found_least}
 
 -- two vectors of one width that are each at most the other
@@ -69,3 +73,18 @@ never_is a lawful n c in_n c_is false is = by_found (find (den a n) (vectors a.v
     by_found None found =
         let same : n ≡ c = none-never a lawful n in_n found ∙ sym c_is in
         absurd (true≢false (sym (is ∙ eq-eqb n.number c.number (ap (λ (m : Node). m.number) same))))
+
+-- what the choice of a difference costs
+pub difference-nodes : (a : Arena) (m n never : Node) (w : ℕ) → never ≡ constant false → nodes a.vars (difference a m n) ≤ w → nodes a.vars (if_then_else a n never m) ≤ w
+unfolding den_within
+difference-nodes a m n never w is fits =
+    let same : nodes a.vars (if_then_else a n never m) ≡ nodes a.vars (difference a m n) =
+    nodes-alike a.vars (if_then_else a n never m) (difference a m n)
+    (λ v wide. by (den a n v) (den a m v) (den a never v) (ap (λ (k : Node). den a k v) is)) in
+    omega (arith, same, fits)
+  where
+    by : (x y z : Bool) → z ≡ false → (if x then z else y) ≡ (y && not x)
+    by true true z e = e
+    by true false z e = e
+    by false true z e = refl
+    by false false z e = refl

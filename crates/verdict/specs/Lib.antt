@@ -3,3 +3,4 @@ pub mod Enough
 pub mod Models
 pub mod Sets
 pub mod Verdicts
+pub mod Costs

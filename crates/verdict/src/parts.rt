@@ -1,14 +1,18 @@
 //! The parts of acceptance: where one fails, its refusal.
 
-ghost use Rattle.std.specs.Prelude.{◌≡◌, ◌&&◌, ◌<◌, Bool, List, None, IfOk, drop, length, is_none};
+ghost use Rattle.std.specs.Prelude.{◌≡◌, ◌&&◌, ◌<◌, ◌≤◌, ◌+◌, ◌*◌, ◌⊎◌, ℕ, Bool, List, None, IfOk, drop, length, is_none};
 ghost use Rattle.bdd_store.specs.Arena.{den, IsNodeOf};
-ghost use Rattle.bdd_store.specs.Growth.{KeepsNodes};
+ghost use Rattle.bdd_store.specs.Growth.{KeepsNodes, AddsAtMost, IsFullOnlyPast};
+ghost use Rattle.bdd_store.specs.Subfunctions.{nodes};
 ghost use Rattle.dual_rail.specs.Rails.{value_of};
+ghost use Rattle.dual_rail.specs.WorkingLists.{IsWide};
 ghost use Rattle.care_sets.specs.Binding.{IsCareOf};
 ghost use Rattle.care_sets.specs.Care.{CareSet, columns, is_care_vector};
 ghost use Rattle.refusals.specs.Refusals.{is_x, initial_refusal as initial_refusal_of, empty_refusal, undetermined_refusal, leaves_refusal};
-ghost use Rattle.verdict.specs.Causes.{IsFull, IsLimitedByCare};
-ghost use Rattle.verdict.specs.Sets.{Tells, AreFixed, starts as starts_in, has_state_inside};
+ghost use Rattle.verdict.specs.Causes.{HasModelOver};
+ghost use Rattle.verdict.specs.Costs.{invariant_effort};
+ghost use Rattle.verdict.specs.Enough.{IsOfDecision};
+ghost use Rattle.verdict.specs.Sets.{Tells, AreFixed, difference, starts as starts_in, has_state_inside};
 
 use crate::care::invariant_on;
 use crate::next::{next_of, next_on};
@@ -43,7 +47,8 @@ pub(crate) fn initial_refusal(
     requires inside { IsNodeOf d.old inside }
     ensures refusal { (care : CareSet) → Tells d.old inside (has_state_inside net.now care) → IfOk result (λ found. found ≡ initial_refusal_of net.now care) }
     ensures keeps { KeepsNodes d.old d.new }
-    ensures full { result ≡ Err StoreFault.Full → IsFull d.new }
+    ensures added { (w : ℕ) → nodes d.old.vars (difference d.old starts inside) ≤ w → AddsAtMost d.old d.new w }
+    ensures full { (w : ℕ) → nodes d.old.vars (difference d.old starts inside) ≤ w → result ≡ Err StoreFault.Full → IsFullOnlyPast d.old d.new w }
 {
     let outside = minus(d, starts, inside)?;
     let Some(vector) = least_of(alloc, d, outside)? else {
@@ -63,7 +68,10 @@ fn unknown_on(d: &mut Diagrams, set: Node, rails: Rails) -> Result<Node, StoreFa
     ensures node { IfOk result (IsNodeOf d.new) }
     ensures unknown { IfOk result (λ found. (v : List Bool) → den d.new found v ≡ (den d.old set v && is_x (value_of d.old rails v))) }
     ensures keeps { KeepsNodes d.old d.new }
-    ensures full { result ≡ Err StoreFault.Full → IsFull d.new }
+    ensures added { (w : ℕ) → nodes d.old.vars (difference d.old set rails.one) ≤ w →
+        nodes d.old.vars (λ v. den d.old set v && is_x (value_of d.old rails v)) ≤ w → AddsAtMost d.old d.new (w * 2) }
+    ensures full { (w : ℕ) → nodes d.old.vars (difference d.old set rails.one) ≤ w →
+        nodes d.old.vars (λ v. den d.old set v && is_x (value_of d.old rails v)) ≤ w → result ≡ Err StoreFault.Full → IsFullOnlyPast d.old d.new (w * 2) }
 {
     let open = minus(d, set, rails.one)?;
     Ok(minus(d, open, rails.zero)?)
@@ -82,7 +90,10 @@ pub(crate) fn undetermined(
     requires set { IsNodeOf d.old set }
     ensures refusal { (care : CareSet) → Tells d.old set (is_care_vector net.now care) → IfOk result (λ found. found ≡ undetermined_refusal net.now care) }
     ensures keeps { KeepsNodes d.old d.new }
-    ensures full { result ≡ Err StoreFault.Full → IsFull d.new }
+    ensures added { (care : CareSet) (w : ℕ) → Tells d.old set (is_care_vector net.now care) → IsWide d.old.vars (IsOfDecision net.now care) w →
+        AddsAtMost d.old d.new (w * (2 * length net.now.gates)) }
+    ensures full { (care : CareSet) (w : ℕ) → Tells d.old set (is_care_vector net.now care) → IsWide d.old.vars (IsOfDecision net.now care) w →
+        result ≡ Err StoreFault.Full → IsFullOnlyPast d.old d.new (w * (2 * length net.now.gates)) }
 {
     let first = net.inputs() + net.latches();
     for gate in 0..net.gates() {
@@ -98,7 +109,6 @@ pub(crate) fn undetermined(
 }
 
 /// The least vector of care whose next state isn't in the invariant, as a refusal. No gate is unknown on care.
-#[tactic(auto, using(crate::proofs::CauseLemmas::full_limits_care))]
 pub(crate) fn leaves(
     alloc: Global,
     d: &mut Diagrams,
@@ -114,7 +124,10 @@ pub(crate) fn leaves(
     requires determined { undetermined_refusal net.now care.now ≡ None }
     ensures refusal { IfOk result (λ found. found ≡ leaves_refusal net.now care.now) }
     ensures keeps { KeepsNodes d.old d.new }
-    ensures full { result ≡ Err StoreFault.Full → IsLimitedByCare d.new care.now }
+    ensures added { (w : ℕ) → IsWide d.old.vars (IsOfDecision net.now care.now) w →
+        AddsAtMost d.old d.new (w * (2 * length net.now.latches + 2 * invariant_effort care.now + 1)) }
+    ensures full { (w : ℕ) → IsWide d.old.vars (IsOfDecision net.now care.now) w → result ≡ Err StoreFault.Full →
+        HasModelOver care.now d.old.limit ⊎ IsFullOnlyPast d.old d.new (w * (2 * length net.now.latches + 2 * invariant_effort care.now + 1)) }
 {
     let next = next_on(alloc, d, net, rails, set)?;
     let inside = invariant_on(alloc, d, care, net.inputs(), &next)?;

@@ -1,10 +1,10 @@
 //! Sets of vectors as nodes, and their least vectors.
 
-ghost use Rattle.std.specs.Prelude.{◌≡◌, Bool, List, IfOk, find, is_none, option_map};
+ghost use Rattle.std.specs.Prelude.{◌≡◌, ◌≤◌, ℕ, Bool, List, IfOk, find, is_none, option_map};
 ghost use Rattle.bdd_store.specs.Arena.{den, IsNodeOf};
-ghost use Rattle.bdd_store.specs.Growth.{KeepsNodes};
+ghost use Rattle.bdd_store.specs.Growth.{KeepsNodes, AddsAtMost, IsFullOnlyPast};
+ghost use Rattle.bdd_store.specs.Subfunctions.{nodes};
 ghost use Rattle.cyc_base.specs.Vectors.{vectors};
-ghost use Rattle.verdict.specs.Causes.{IsFull};
 ghost use Rattle.verdict.specs.Sets.{difference};
 
 use bdd_ops::Diagrams;
@@ -12,14 +12,14 @@ use bdd_store::{Node, StoreFault};
 use std::alloc::{AllocError, Global};
 
 /// The vectors of the first set that aren't in the second.
-#[tactic(auto, using(crate::proofs::CauseLemmas::past_is_full))]
 pub(crate) fn minus(d: &mut Diagrams, m: Node, n: Node) -> Result<Node, StoreFault>
     requires m { IsNodeOf d.old m }
     requires n { IsNodeOf d.old n }
     ensures node { IfOk result (IsNodeOf d.new) }
     ensures function { IfOk result (λ set. (v : List Bool) → den d.new set v ≡ difference d.old m n v) }
     ensures keeps { KeepsNodes d.old d.new }
-    ensures full { result ≡ Err StoreFault.Full → IsFull d.new }
+    ensures added { (w : ℕ) → nodes d.old.vars (difference d.old m n) ≤ w → AddsAtMost d.old d.new w }
+    ensures full { (w : ℕ) → nodes d.old.vars (difference d.old m n) ≤ w → result ≡ Err StoreFault.Full → IsFullOnlyPast d.old d.new w }
 {
     Ok(d.ite(n, Node::of(false), m)?)
 }
