@@ -2,7 +2,7 @@ mod CountLemmas
 mod CompareLemmas
 mod WireLemmas
 mod SweepLemmas
-mod CutLemmas
+pub mod CutLemmas
 mod LoopLemmas
 mod BlockLemmas
 mod MinimumLemmas
