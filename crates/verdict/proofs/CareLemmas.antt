@@ -3,6 +3,7 @@ use Rattle.std.proofs.Common.{◌≡◌, ℕ, ◌-◌, ◌<◌, Bool, true, fals
 use Rattle.std.specs.Prelude.{IfSome}
 use Rattle.std.specs.Option.{option_map, option_map_or}
 use Rattle.std.proofs.lemmas.List.{get_or-map, length-map}
+use Rattle.std.proofs.Math.Path.{fun_ext}
 use Rattle.std.proofs.lemmas.List.Elements.{All-map}
 use Rattle.std.proofs.lemmas.Option.{same_Some}
 use Rattle.std.specs.List.{All, slice_index_or}
@@ -13,12 +14,15 @@ use Rattle.cyc_base.specs.declared.trit.Trit.TheVariants.{X}
 use Rattle.cyc_base.specs.Values.{bit, bits}
 use Rattle.dual_rail.specs.declared.rail.Rails.{Rails}
 use Rattle.dual_rail.specs.Rails.{AreRailsOf, trit_of, value_of, values_of}
+use Rattle.dual_rail.specs.WorkingLists.{BoundsEach}
 use Rattle.netlist.specs.declared.parts.Parts.{Parts}
 use Rattle.netlist.specs.Fixpoint.{wire, fix}
 use Rattle.netlist.specs.Netlists.{IsNetlist, count}
 use Rattle.loops.proofs.Reading.{map_agree}
 use Rattle.care_sets.specs.declared.model.CareModel.{CareModel}
 use Rattle.care_sets.specs.Care.{is_one, inputs_at, holds_at}
+use Rattle.fixpoint.specs.Working.{IsGatePart}
+use Rattle.verdict.specs.Enough.{no_loops, read_by, IsOfModel}
 use Rattle.verdict.specs.Models.{unknown, rails_at}
 use Rattle.verdict.specs.Sets.{model_of, ReadsWithin}
 use Rattle.verdict.proofs.ModelLemmas.{rails_at-proper, map-map}
@@ -57,6 +61,19 @@ pub inputs-proper : (a : Arena) (columns : List ℕ) (first : ℕ) (rails list :
     list ≡ map (λ column. rails_at rails (column - first)) columns → All (AreRailsOf a) list
 inputs-proper a columns first rails list proper is = subst (All (AreRailsOf a)) (sym is)
     (All-map (AreRailsOf a) (λ column. rails_at rails (column - first)) columns (λ k d less. rails_at-proper a rails proper (slice_index_or columns k d - first)))
+
+-- what those of some columns read is what the model reads of all
+pub inputs-bounded : (a : Arena) (net : Parts) (columns : List ℕ) (first : ℕ) (rails list : List Rails) →
+    All (λ column. column - first < length rails) columns → list ≡ map (λ column. rails_at rails (column - first)) columns → {w : ℕ} →
+    BoundsEach a.vars (IsOfModel (model_of net first columns) (values_of a rails)) w → BoundsEach a.vars (IsGatePart net no_loops (values_of a list)) w
+inputs-bounded a net columns first rails list within is {w} bounds = subst (λ v. BoundsEach a.vars (IsGatePart net no_loops v) w) (sym (fun_ext reads)) bounds
+  where
+    reads : (v : List Bool) → values_of a list v ≡ read_by (model_of net first columns) (values_of a rails v)
+    reads v =
+        ap (λ (l : List Rails). values_of a l v) is
+        ∙ map-map {C = Trit} (λ r. value_of a r v) (λ column. rails_at rails (column - first)) columns
+        ∙ map_agree (λ column. value_of a (rails_at rails (column - first)) v) (λ column. get_or (values_of a rails v) (column - first) X) columns
+        (λ k d less. value_at-place a rails (get_or columns k d - first) v (within k d less))
 
 -- so the output's first rail tells whether the model holds
 pub output-holds : (a : Arena) (net : Parts) (columns : List ℕ) (first : ℕ) (wires : List Rails) (none : Sig) (values v : List Bool) →

@@ -2,9 +2,7 @@ mod CareLemmas
 mod CauseLemmas
 mod ColumnLemmas
 mod CountLemmas
-mod DecisionLemmas
-mod EnoughLemmas
-mod SizeLemmas
+mod EffortLemmas
 mod ModelLemmas
 mod NextLemmas
 mod PartLemmas

@@ -1,17 +1,20 @@
 -- Gates lifted one by one, each after those that it reads.
-use Rattle.std.proofs.Common.{◌≡◌, ◌≢◌, inl, inr, ℕ, ◌+◌, ◌-◌, ◌<◌, Bool, List, [], ◌∷◌, ◌++◌, length, map, get_or, take, drop, replicate, refl, sym, ap, ap₂, ◌∙◌, subst, arith}
+use Rattle.std.proofs.Common.{◌≡◌, ◌≢◌, inl, inr, ℕ, ◌+◌, ◌-◌, ◌*◌, ◌<◌, Bool, List, [], ◌∷◌, ◌++◌, length, map, get_or, take, drop, replicate, refl, sym, ap, ap₂, ◌∙◌, subst, arith}
 use Rattle.std.proofs.lemmas.Bool.{cases_lt}
-use Rattle.std.proofs.lemmas.List.{get_or_past, get_or_default, get_or-set_same, get_or-set_other, length-set, length-append, length-replicate, get_or-replicate, get_or_append_left, get_or-map, ext_get_or, take_at}
+use Rattle.std.proofs.lemmas.List.{get_or_past, get_or_default, get_or-set_same, get_or-set_other, length-set, length-append, length-replicate, get_or-replicate, get_or_append_left, get_or-map, length-map, ext_get_or, take_at}
 use Rattle.std.proofs.lemmas.List.Elements.{All-map, All-set, All-append, All-get_or}
 use Rattle.std.specs.List.{All, slice_index, slice_index_or}
 use Rattle.bdd_store.specs.Arena.{Arena, den_within}
-use Rattle.bdd_store.specs.Growth.{KeepsNodes}
-use Rattle.cover_logic.specs.Extensions.{ext}
+use Rattle.bdd_store.specs.Growth.{KeepsNodes, AddsAtMost, IsFullOnlyPast}
+use Rattle.cover_logic.specs.Covers.{Cover, value}
+use Rattle.cover_logic.specs.Extensions.{ext, exact}
 use Rattle.cyc_base.specs.declared.sig.Sig.{Sig}
 use Rattle.cyc_base.specs.declared.trit.Trit.{Trit}
 use Rattle.cyc_base.specs.declared.trit.Trit.TheVariants.{X}
 use Rattle.dual_rail.specs.declared.rail.Rails.{Rails}
+use Rattle.dual_rail.specs.Local.{Local, IsDiagramOf, function, local_size, size}
 use Rattle.dual_rail.specs.Rails.{AreRailsOf, value_of, values_of}
+use Rattle.dual_rail.specs.WorkingLists.{BoundsEach, IsExtended, is_bit}
 use Rattle.dual_rail.proofs.SurelyLemmas.{All-rails-kept, value_of-kept, length-values}
 use Rattle.netlist.specs.declared.parts.Gate.{Gate}
 use Rattle.netlist.specs.declared.parts.Parts.{Parts}
@@ -23,7 +26,10 @@ use Rattle.netlist.proofs.FixpointLemmas.{length-steps}
 use Rattle.loops.specs.Sweeps.{first_gate, gate_of, value_in}
 use Rattle.loops.proofs.Reading.{map_agree, wire_of_gate, get_or-fix}
 use Rattle.loops.proofs.Unique.{feeds_at}
-use Rattle.verdict.specs.Models.{unknown, rails_at, rails_of_pin, AreWires, IsLifted, Inputs, AreLifted}
+use Rattle.fixpoint.specs.Working.{IsGatePart, read_at_fix}
+use Rattle.fixpoint.proofs.WorkLemmas.{bounds-diagram}
+use Rattle.verdict.specs.Enough.{no_loops}
+use Rattle.verdict.specs.Models.{unknown, rails_at, rails_of_pin, AreWires, BoundsGate, IsLifted, Inputs, AreLifted}
 
 -- the rails of X are proper
 pub unknown-rails : (a : Arena) → AreRailsOf a unknown
@@ -48,6 +54,30 @@ pub pins-values : (a : Arena) (rails : List Rails) (pins : List Sig) (list : Lis
     values_of a list bits ≡ map (λ pin. value_of a (rails_of_pin rails pin) bits) pins
 pins-values a rails pins list bits is = ap (λ (l : List Rails). values_of a l bits) is ∙ map-map {C = Trit} (λ r. value_of a r bits) (rails_of_pin rails) pins
 
+-- ---- one gate by the diagram of its cover
+
+module _ (net : Parts) (valid : IsNetlist net) (n : ℕ) (less : n < length net.gates) (gate : Gate) (at : gate ≡ gate_at net n) (l : Local) (is : IsDiagramOf l gate.cover)
+    (sizes : (l : Local) (cover : Cover) → IsDiagramOf l cover → local_size l ≡ size cover) where
+  cover-diagram : IsDiagramOf l (gate_at net n).cover
+  cover-diagram = subst (λ (g : Gate). IsDiagramOf l g.cover) at is
+
+  pub cover-bounds : (a : Arena) (pins : List Rails) → length pins ≡ length (gate_at net n).pins → {w : ℕ} →
+      BoundsEach a.vars (IsExtended a pins (value (gate_at net n).cover)) w → BoundsEach a.vars (IsExtended a pins (function l)) w
+  cover-bounds a pins width =
+      bounds-diagram a pins l (value (gate_at net n).cover) (gate_at net n).cover.pins (width ∙ valid.pin_counts n no_gate less) cover-diagram.function
+
+  pub cover-added : (old new : Arena) (w : ℕ) → AddsAtMost old new (2 * w * local_size l) → AddsAtMost old new (w * (2 * size (gate_at net n).cover))
+  cover-added old new w adds =
+      let all : AddsAtMost old new (2 * w * size (gate_at net n).cover) = subst (λ m. AddsAtMost old new (2 * w * m)) (sizes l (gate_at net n).cover cover-diagram) adds in
+      omega (arith, all)
+
+  pub cover-full : (old new : Arena) (w : ℕ) → IsFullOnlyPast old new (2 * w * local_size l) → IsFullOnlyPast old new (w * (2 * size (gate_at net n).cover))
+  cover-full old new w full =
+      let all : IsFullOnlyPast old new (2 * w * size (gate_at net n).cover) = subst (λ m. IsFullOnlyPast old new (2 * w * m)) (sizes l (gate_at net n).cover cover-diagram) full in
+      record { full = all.full; past = omega (arith, all.past) }
+
+-- ---- gate after gate
+
 -- the wires stay proper when nodes are kept, and when a gate is set
 pub AreWires-set : {net : Parts} {s t : Arena} {rails after : List Rails} (gate : ℕ) → KeepsNodes s t → AreWires net s rails → IsLifted net s t rails after gate → AreWires net t after
 AreWires-set {net} {s} {t} {rails} {after} gate k is done = record {
@@ -66,9 +96,8 @@ place_of net order is g within =
     let c = is.each g within in
     record { place = c.0; inside = c.1; is = get_or_default order c.0 0 g c.1 ∙ c.2 }
 
-module _ (net : Parts) (valid : IsNetlist net) (order : List ℕ) (ordered : IsGateOrder net order) (s t : Arena) (keeps : KeepsNodes s t)
-    (rails after : List Rails) (v : Inputs) (i n : ℕ) (inside : i < length order) (n_is : n ≡ slice_index order i)
-    (done : IsLifted net s t rails after n) (before : AreLifted net order s v i rails) where
+module _ (net : Parts) (valid : IsNetlist net) (order : List ℕ) (ordered : IsGateOrder net order) (s : Arena) (rails : List Rails) (v : Inputs)
+    (i n : ℕ) (inside : i < length order) (n_is : n ≡ slice_index order i) (before : AreLifted net order s v i rails) where
   within : n < length net.gates
   within = subst (λ m. m < length net.gates) (sym n_is) (ordered.within i inside)
 
@@ -96,14 +125,37 @@ module _ (net : Parts) (valid : IsNetlist net) (order : List ℕ) (ordered : IsG
             ∙ sym (wire_of_gate (v bits) (fix_gates net (v bits)) (first_gate net) pin.0 width high)
       ]
 
+  pins-fixed : (bits : List Bool) → map (λ pin. value_of s (rails_of_pin rails pin) bits) (gate_at net n).pins ≡ read_at_fix net (v bits) n
+  pins-fixed bits = map_agree (λ pin. value_of s (rails_of_pin rails pin) bits) (wire (fix net (v bits))) (gate_at net n).pins (reads-pin bits)
+
+  -- so its lift works with functions of the working list
+  pub gate-bounded : {w : ℕ} → BoundsEach s.vars (IsGatePart net no_loops v) w → BoundsGate net s rails n w
+  gate-bounded bounds = λ f is.
+      let short = is.short in
+      bounds f (record {
+        gate = n;
+        within = within;
+        first = is.first;
+        short = omega (arith, short, length-map {B = Rails} (gate_at net n).pins (rails_of_pin rails));
+        bit = is.bit;
+        read = λ bits. read_at_fix net (v bits) n;
+        reads = inr (record { plain = refl; is = λ bits. refl });
+        same = λ bits. is.same bits
+            ∙ ap (λ (ts : List Trit). is_bit is.bit (exact (λ rest. value (gate_at net n).cover (is.first ++ rest)) (drop (length is.first) ts)))
+            (pins-values s rails (gate_at net n).pins (map (rails_of_pin rails) (gate_at net n).pins) bits refl ∙ pins-fixed bits);
+      })
+
+module _ (net : Parts) (valid : IsNetlist net) (order : List ℕ) (ordered : IsGateOrder net order) (s t : Arena) (keeps : KeepsNodes s t)
+    (rails after : List Rails) (v : Inputs) (i n : ℕ) (inside : i < length order) (n_is : n ≡ slice_index order i)
+    (done : IsLifted net s t rails after n) (before : AreLifted net order s v i rails) where
   gate-fixed : (bits : List Bool) → value_of t done.made bits ≡ value_in (fix_gates net (v bits)) n
   gate-fixed bits =
       done.value bits
-      ∙ ap (ext (gate_at net n).cover) (map_agree (λ pin. value_of s (rails_of_pin rails pin) bits) (wire (fix net (v bits))) (gate_at net n).pins (reads-pin bits))
-      ∙ sym (get_or-fix net (v bits) n within)
+      ∙ ap (ext (gate_at net n).cover) (pins-fixed net valid order ordered s rails v i n inside n_is before bits)
+      ∙ sym (get_or-fix net (v bits) n (within net valid order ordered s rails v i n inside n_is before))
 
   room : first_gate net + n < length rails
-  room = let w = before.wires.width in omega (arith, within, w)
+  room = let w = before.wires.width in omega (arith, within net valid order ordered s rails v i n inside n_is before, w)
 
   -- another signal stays
   stays : (m : ℕ) (bits : List Bool) → m ≢ first_gate net + n → value_of t (rails_at after m) bits ≡ value_of s (rails_at rails m) bits

@@ -1,42 +1,49 @@
 -- The rails of what the latches load, one after another.
-use Rattle.std.proofs.Common.{◌≡◌, ℕ, zero, suc, ◌+◌, ◌<◌, Bool, true, false, ◌&&◌, List, [], ◌∷◌, ◌++◌, length, map, get_or, take, slice_get, Some, refl, sym, ap, ap₂, ◌∙◌, subst, arith}
-use Rattle.std.proofs.lemmas.List.{map-append, take-map, take_all, take_more, length_push, get_or-map, length-map}
+use Rattle.std.proofs.Common.{◌≡◌, ℕ, zero, suc, ◌+◌, ◌<◌, ◌≤◌, Bool, true, false, ◌&&◌, if◌then◌else◌, List, [], ◌∷◌, ◌++◌, length, map, get_or, take, replicate, slice_get, Some, refl, sym, ap, ap₂, ◌∙◌, subst, arith}
+use Rattle.std.proofs.lemmas.List.{map-append, take-map, take_all, take_more, length_push, get_or-map, length-map, length-replicate, get_or-replicate}
 use Rattle.std.proofs.lemmas.List.Elements.{All-append}
 use Rattle.std.proofs.lemmas.Option.{get_or_from_slice_get, slice_get_within}
 use Rattle.std.specs.List.{All}
 use Rattle.bdd_store.specs.declared.node.Node.{Node}
 use Rattle.bdd_store.specs.Arena.{Arena, den, IsNodeOf}
 use Rattle.bdd_store.specs.Growth.{KeepsNodes}
+use Rattle.bdd_store.specs.Subfunctions.{nodes}
+use Rattle.bdd_store.proofs.SubfunctionLemmas.{nodes-alike}
+use Rattle.bdd_ops.specs.Operations.{conjunction}
 use Rattle.cyc_base.specs.declared.trit.Trit.{Trit}
 use Rattle.cyc_base.specs.declared.trit.Trit.TheVariants.{X}
 use Rattle.cyc_base.specs.Values.{bits}
 use Rattle.dual_rail.specs.declared.rail.Rails.{Rails}
 use Rattle.dual_rail.specs.Rails.{AreRailsOf, trit_of, value_of, values_of}
+use Rattle.dual_rail.specs.WorkingLists.{is_bit}
 use Rattle.dual_rail.proofs.SurelyLemmas.{All-rails-kept, value_of-kept, values_of-kept}
 use Rattle.netlist.specs.declared.parts.Latch.{Latch}
 use Rattle.netlist.specs.declared.parts.Parts.{Parts}
 use Rattle.netlist.specs.Fixpoint.{wire, fix, next}
 use Rattle.netlist.specs.Netlists.{IsNetlist, count}
+use Rattle.loops.specs.Sweeps.{value_in}
+use Rattle.fixpoint.proofs.CutLemmas.{one-of, zero-of}
 use Rattle.care_sets.specs.Care.{is_one}
 use Rattle.refusals.specs.Refusals.{next_state}
 use Rattle.verdict.specs.Models.{rails_at}
+use Rattle.verdict.specs.Next.{next_within, BoundsSignals}
 use Rattle.verdict.specs.Sets.{AreFixed}
 use Rattle.verdict.proofs.CareLemmas.{one_rail, value_at-place}
 use Rattle.verdict.proofs.ModelLemmas.{rails_at-proper}
 
 -- ---- rails on a set
 
-restricted-values : (c one zero_ : Bool) → c ≡ true → trit_of (c && one) (c && zero_) ≡ trit_of one zero_
-restricted-values true one z e = refl
-restricted-values false one z e = cc
+restricted-values : (c one zero_ : Bool) → trit_of (c && one) (c && zero_) ≡ (if c then trit_of one zero_ else X)
+restricted-values true one z = refl
+restricted-values false one z = refl
 
 restricted-apart : (c one zero_ : Bool) → (one && zero_) ≡ false → ((c && one) && (c && zero_)) ≡ false
 restricted-apart true one z e = e
 restricted-apart false one z e = refl
 
 pub restricted-value : (s t : Arena) (set : Node) (r made : Rails) (v : List Bool) → den t made.one v ≡ (den s set v && den s r.one v) → den t made.zero v ≡ (den s set v && den s r.zero v) →
-    den s set v ≡ true → value_of t made v ≡ value_of s r v
-restricted-value s t set r made v one_is zero_is in_set = ap₂ trit_of one_is zero_is ∙ restricted-values (den s set v) (den s r.one v) (den s r.zero v) in_set
+    value_of t made v ≡ (if den s set v then value_of s r v else X)
+restricted-value s t set r made v one_is zero_is = ap₂ trit_of one_is zero_is ∙ restricted-values (den s set v) (den s r.one v) (den s r.zero v)
 
 pub restricted-proper : (s t : Arena) (set : Node) (r made : Rails) → AreRailsOf s r → IsNodeOf t made.one → IsNodeOf t made.zero →
     ((v : List Bool) → den t made.one v ≡ (den s set v && den s r.one v)) → ((v : List Bool) → den t made.zero v ≡ (den s set v && den s r.zero v)) → AreRailsOf t made
@@ -46,16 +53,22 @@ restricted-proper s t set r made is one zero_ one_is zero_is = record {
   proper = λ v. ap₂ (λ x y. x && y) (one_is v) (zero_is v) ∙ restricted-apart (den s set v) (den s r.one v) (den s r.zero v) (is.proper v);
 }
 
+-- the second rail is restricted where the first one is there
+pub conjunction-kept : (s t : Arena) (m n : Node) → KeepsNodes s t → IsNodeOf s m → IsNodeOf s n → nodes t.vars (conjunction t m n) ≡ nodes s.vars (conjunction s m n)
+conjunction-kept s t m n keeps in_m in_n =
+    ap (λ k. nodes k (conjunction t m n)) keeps.vars
+    ∙ nodes-alike s.vars (conjunction t m n) (conjunction s m n) (λ v wide. ap₂ (λ x y. x && y) (keeps.function m v in_m) (keeps.function n v in_n))
+
 -- ---- latch by latch
 
--- the rails of what the first n latches load, where the set is true
+-- the rails of what the first n latches load, at the vectors of the set
 pub record AreFirstNext (net : Parts) (s : Arena) (set : Node) (a : Arena) (n : ℕ) (list : List Rails) : Type 0 where
   pub width : length list ≡ n
   pub proper : All (AreRailsOf a) list
-  pub values : (v : List Bool) → length v ≡ s.vars → den s set v ≡ true → values_of a list v ≡ take n (next net (bits v))
+  pub values : (v : List Bool) → length v ≡ s.vars → values_of a list v ≡ take n (next_within net s set v)
 
 pub next-start : (net : Parts) (s : Arena) (set : Node) → AreFirstNext net s set s 0 []
-next-start net s set = record { width = refl; proper = λ k d less. absurd (omega (arith, less)); values = λ v wide in_set. refl }
+next-start net s set = record { width = refl; proper = λ k d less. absurd (omega (arith, less)); values = λ v wide. refl }
 
 one_proper : (a : Arena) (r : Rails) → AreRailsOf a r → All (AreRailsOf a) (r ∷ [])
 one_proper a r is zero d less = is
@@ -70,38 +83,76 @@ next-more-list net v n latch found =
     ∙ ap (λ (t : Trit). take n (next net v) ++ t ∷ []) (get_or-map (λ (l : Latch). wire (fix net v) l.from) net.latches n latch X inside
     ∙ ap (λ (l : Latch). wire (fix net v) l.from) (get_or_from_slice_get net.latches n latch latch found))
 
--- the source's rails
+-- and of a vector
+within-more : (net : Parts) (s : Arena) (set : Node) (v : List Bool) (n : ℕ) (latch : Latch) → slice_get net.latches n ≡ Some latch →
+    take (n + 1) (next_within net s set v) ≡ take n (next_within net s set v) ++ (if den s set v then wire (fix net (bits v)) latch.from else X) ∷ []
+within-more net s set v n latch found = by (den s set v)
+  where
+    by : (c : Bool) → take (n + 1) (if c then next net (bits v) else replicate (length net.latches) X) ≡ take n (if c then next net (bits v) else replicate (length net.latches) X) ++ (if c then wire (fix net (bits v)) latch.from else X) ∷ []
+    by true = next-more-list net (bits v) n latch found
+    by false =
+        let inside : n < length net.latches = slice_get_within net.latches n latch found in
+        take_more (replicate (length net.latches) X) n X (omega (arith, inside, length-replicate (length net.latches) X))
+        ∙ ap (λ (t : Trit). take n (replicate (length net.latches) X) ++ t ∷ []) (get_or-replicate (length net.latches) n X X inside)
+
+-- the source
+source-within : (net : Parts) (n : ℕ) (latch : Latch) → IsNetlist net → slice_get net.latches n ≡ Some latch → latch.from.0 < count net
+source-within net n latch valid found =
+    subst (λ (l : Latch). l.from.0 < count net) (get_or_from_slice_get net.latches n latch latch found) (valid.sources n latch (slice_get_within net.latches n latch found))
+
 pub source-value : (net : Parts) (a : Arena) (rails : List Rails) (n : ℕ) (latch : Latch) (v : List Bool) → IsNetlist net → AreFixed net a rails → slice_get net.latches n ≡ Some latch → length v ≡ a.vars →
     value_of a (rails_at rails latch.from.0) v ≡ wire (fix net (bits v)) latch.from
 source-value net a rails n latch v valid fixed found wide =
     value_at-place a rails latch.from.0 v (let w = fixed.width in let s = source-within net n latch valid found in omega (arith, w, s))
     ∙ ap (λ (ts : List Trit). get_or ts latch.from.0 X) (fixed.values v wide)
-  where
-    source-within : (net : Parts) (n : ℕ) (latch : Latch) → IsNetlist net → slice_get net.latches n ≡ Some latch → latch.from.0 < count net
-    source-within net n latch valid found =
-        subst (λ (l : Latch). l.from.0 < count net) (get_or_from_slice_get net.latches n latch latch found) (valid.sources n latch (slice_get_within net.latches n latch found))
 
-pub next-more : (net : Parts) (s d e : Arena) (set : Node) (rails list : List Rails) (n : ℕ) (latch : Latch) (made : Rails) → IsNetlist net → IsNodeOf s set → KeepsNodes s d → KeepsNodes d e →
-    AreFixed net s rails → slice_get net.latches n ≡ Some latch → AreFirstNext net s set d n list → AreRailsOf e made →
-    ((v : List Bool) → den d set v ≡ true → value_of e made v ≡ value_of d (rails_at rails latch.from.0) v) →
-    AreFirstNext net s set e (n + 1) (list ++ made ∷ [])
-next-more net s d e set rails list n latch made valid in_set first second fixed found before proper value = record {
-  width = length_push list made ∙ ap (λ k. k + 1) before.width;
-  proper = All-append (AreRailsOf e) list (made ∷ []) (All-rails-kept second list before.proper) (one_proper e made proper);
-  values = λ v wide is_in.
-      map-append (λ (q : Rails). value_of e q v) list (made ∷ [])
-      ∙ ap₂ (λ (xs : List Trit) (x : Trit). xs ++ x ∷ [])
-      (values_of-kept second list before.proper v ∙ before.values v wide is_in)
-      (value v (first.function set v in_set ∙ is_in)
-      ∙ value_of-kept first (rails_at rails latch.from.0) (rails_at-proper s rails fixed.proper latch.from.0) v
-      ∙ source-value net s rails n latch v valid fixed found wide)
-      ∙ sym (next-more-list net (bits v) n latch found);
-}
+module _ (net : Parts) (s d : Arena) (set : Node) (rails : List Rails) (n : ℕ) (latch : Latch) (valid : IsNetlist net) (in_set : IsNodeOf s set) (first : KeepsNodes s d)
+    (fixed : AreFixed net s rails) (found : slice_get net.latches n ≡ Some latch) where
+  source-kept : (v : List Bool) → length v ≡ s.vars → value_of d (rails_at rails latch.from.0) v ≡ wire (fix net (bits v)) latch.from
+  source-kept v wide =
+      value_of-kept first (rails_at rails latch.from.0) (rails_at-proper s rails fixed.proper latch.from.0) v
+      ∙ source-value net s rails n latch v valid fixed found wide
+
+  pub next-more : (e : Arena) (list : List Rails) (made : Rails) → KeepsNodes d e → AreFirstNext net s set d n list → AreRailsOf e made →
+      ((v : List Bool) → value_of e made v ≡ (if den d set v then value_of d (rails_at rails latch.from.0) v else X)) →
+      AreFirstNext net s set e (n + 1) (list ++ made ∷ [])
+  next-more e list made second before proper value = record {
+    width = length_push list made ∙ ap (λ k. k + 1) before.width;
+    proper = All-append (AreRailsOf e) list (made ∷ []) (All-rails-kept second list before.proper) (one_proper e made proper);
+    values = λ v wide.
+        map-append (λ (q : Rails). value_of e q v) list (made ∷ [])
+        ∙ ap₂ (λ (xs : List Trit) (x : Trit). xs ++ x ∷ [])
+        (values_of-kept second list before.proper v ∙ before.values v wide)
+        (value v ∙ ap₂ (λ (c : Bool) (x : Trit). if c then x else X) (first.function set v in_set) (source-kept v wide))
+        ∙ sym (within-more net s set v n latch found);
+  }
+
+  -- how many nodes the two rails have
+  module _ (w : ℕ) (bounds : BoundsSignals net s set w) where
+    bounded-rail : (bit : Bool) (rail : Node) → ((v : List Bool) → den d rail v ≡ is_bit bit (value_of d (rails_at rails latch.from.0) v)) → nodes d.vars (conjunction d set rail) ≤ w
+    bounded-rail bit rail says =
+        let same : nodes d.vars (conjunction d set rail) ≡ nodes s.vars (λ v. den s set v && is_bit bit (value_in (fix net (bits v)) latch.from.0)) =
+        ap (λ k. nodes k (conjunction d set rail)) first.vars
+        ∙ nodes-alike s.vars (conjunction d set rail) (λ v. den s set v && is_bit bit (value_in (fix net (bits v)) latch.from.0))
+        (λ v wide. ap₂ (λ x y. x && y) (first.function set v in_set) (says v ∙ ap (is_bit bit) (source-kept v wide))) in
+        omega (arith, bounds latch.from.0 bit (source-within net n latch valid found), same)
+
+    pub rails-bounded : (nodes d.vars (conjunction d set (rails_at rails latch.from.0).one) ≤ w) × (nodes d.vars (conjunction d set (rails_at rails latch.from.0).zero) ≤ w)
+    rails-bounded =
+        let r : Rails = rails_at rails latch.from.0 in
+        let in_s : AreRailsOf s (rails_at rails latch.from.0) = rails_at-proper s rails fixed.proper latch.from.0 in (
+          bounded-rail true r.one (λ v. sym (one-of (den d r.one v) (den d r.zero v))),
+          bounded-rail false r.zero (λ v. sym (zero-of (den d r.one v) (den d r.zero v)
+              (ap₂ (λ x y. x && y) (first.function r.one v in_s.one) (first.function r.zero v in_s.zero) ∙ in_s.proper v))),
+        )
 
 pub next-end : (net : Parts) (s a : Arena) (set : Node) (n : ℕ) (list : List Rails) → n ≡ length net.latches → AreFirstNext net s set a n list →
-    (v : List Bool) → length v ≡ s.vars → den s set v ≡ true → values_of a list v ≡ next net (bits v)
-next-end net s a set n list end is v wide is_in =
-    is.values v wide is_in ∙ take_all n (next net (bits v)) (let long = length-map net.latches (λ (l : Latch). wire (fix net (bits v)) l.from) in omega (arith, long, end))
+    (v : List Bool) → length v ≡ s.vars → values_of a list v ≡ next_within net s set v
+next-end net s a set n list end is v wide = is.values v wide ∙ take_all n (next_within net s set v) (let long = wide-next (den s set v) in omega (arith, long, end))
+  where
+    wide-next : (c : Bool) → length (if c then next net (bits v) else replicate (length net.latches) X) ≡ length net.latches
+    wide-next true = length-map net.latches (λ (l : Latch). wire (fix net (bits v)) l.from)
+    wide-next false = length-replicate (length net.latches) X
 
 -- ---- at one vector
 

@@ -1,11 +1,13 @@
 -- The rails of a netlist without loops while its gates are lifted in an order.
 use Rattle.std.specs.Prelude.{◌≡◌, ◌<◌, ◌+◌, ℕ, Bool, List, length, map, All, slice_index, slice_index_or, slice_set}
 use Rattle.bdd_store.specs.Arena.{Arena}
+use Rattle.cover_logic.specs.Covers.{value}
 use Rattle.cover_logic.specs.Extensions.{ext}
 use Rattle.cyc_base.specs.declared.sig.Sig.{Sig}
 use Rattle.cyc_base.specs.declared.trit.Trit.{Trit}
 use Rattle.dual_rail.specs.declared.rail.Rails.{Rails}
 use Rattle.dual_rail.specs.Rails.{AreRailsOf, value_of}
+use Rattle.dual_rail.specs.WorkingLists.{BoundsEach, IsExtended}
 use Rattle.netlist.specs.declared.parts.Parts.{Parts}
 use Rattle.netlist.specs.Fixpoint.{fix_gates}
 use Rattle.netlist.specs.Netlists.{count, gate_at}
@@ -26,6 +28,11 @@ rails_of_pin rails pin = rails_at rails pin.0
 pub record AreWires (net : Parts) (a : Arena) (rails : List Rails) : Type 0 where
   pub width : length rails ≡ count net
   pub proper : All (AreRailsOf a) rails
+
+-- w bounds each function that the gate's lift works with
+abbrev pub BoundsGate : Parts → Arena → List Rails → ℕ → ℕ → Type 0
+BoundsGate net a rails gate w =
+    BoundsEach a.vars (IsExtended a (map (rails_of_pin rails) (gate_at net gate).pins) (value (gate_at net gate).cover)) w
 
 -- the gate alone has new rails: its cover's on what its pins read
 pub record IsLifted (net : Parts) (old new : Arena) (rails set : List Rails) (gate : ℕ) : Type 0 where

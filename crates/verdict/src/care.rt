@@ -1,13 +1,17 @@
 //! The vectors on which the models of a care set hold.
 
-ghost use Rattle.std.specs.Prelude.{◌≡◌, ◌-◌, ◌<◌, ◌≤◌, Bool, List, length, map, All, IfOk, IfSome};
+ghost use Rattle.std.specs.Prelude.{◌≡◌, ◌-◌, ◌<◌, ◌≤◌, ◌*◌, ◌⊎◌, ℕ, Bool, List, length, map, All, IfOk, IfSome};
+ghost use Rattle.std.specs.Option.{option_map_or};
 ghost use Rattle.bdd_store.specs.Arena.{den, IsNodeOf};
-ghost use Rattle.bdd_store.specs.Growth.{KeepsNodes};
+ghost use Rattle.bdd_store.specs.Growth.{KeepsNodes, AddsAtMost, IsFullOnlyPast};
 ghost use Rattle.cyc_base.specs.Values.{bits};
 ghost use Rattle.dual_rail.specs.Rails.{AreRailsOf, values_of};
+ghost use Rattle.dual_rail.specs.WorkingLists.{BoundsEach};
 ghost use Rattle.care_sets.specs.Binding.{IsCareModel};
 ghost use Rattle.care_sets.specs.Care.{holds_at, is_allowed, is_in_invariant};
-ghost use Rattle.verdict.specs.Causes.{IsLimitedBy, IsLimitedByCare};
+ghost use Rattle.fixpoint.specs.Working.{HasLargeCover, effort};
+ghost use Rattle.verdict.specs.Causes.{HasModelOver};
+ghost use Rattle.verdict.specs.Enough.{IsOfModel};
 ghost use Rattle.verdict.specs.Models.{rails_at};
 ghost use Rattle.verdict.specs.Sets.{model_of, ReadsWithin};
 
@@ -51,7 +55,10 @@ fn holds_on(
     ensures node { IfOk result (IsNodeOf d.new) }
     ensures holds { IfOk result (λ node. (values v : List Bool) → values_of d.old rails.now v ≡ bits values → den d.new node v ≡ holds_at (model_of model.now first columns.now) values) }
     ensures keeps { KeepsNodes d.old d.new }
-    ensures full { result ≡ Err StoreFault.Full → IsLimitedBy d.new model.now }
+    ensures added { (w : ℕ) → BoundsEach d.old.vars (IsOfModel (model_of model.now first columns.now) (values_of d.old rails.now)) w →
+        AddsAtMost d.old d.new (w * (2 * effort model.now)) }
+    ensures full { (w : ℕ) → BoundsEach d.old.vars (IsOfModel (model_of model.now first columns.now) (values_of d.old rails.now)) w →
+        result ≡ Err StoreFault.Full → HasLargeCover model.now d.old.limit ⊎ IsFullOnlyPast d.old d.new (w * (2 * effort model.now)) }
 {
     let Ok(given) = inputs_of(alloc, columns, first, rails) else {
         return Err(StoreFault::Memory);
@@ -62,7 +69,6 @@ fn holds_on(
 }
 
 /// The vectors on which the assumption holds, where its columns have these rails.
-#[tactic(auto, using(crate::proofs::CauseLemmas::assume_limits))]
 pub(crate) fn assume_on(
     alloc: Global,
     d: &mut Diagrams,
@@ -74,7 +80,10 @@ pub(crate) fn assume_on(
     ensures node { IfOk result (IsNodeOf d.new) }
     ensures allowed { IfOk result (λ node. (values v : List Bool) → values_of d.old rails.now v ≡ bits values → den d.new node v ≡ is_allowed care.now values) }
     ensures keeps { KeepsNodes d.old d.new }
-    ensures full { result ≡ Err StoreFault.Full → IsLimitedByCare d.new care.now }
+    ensures added { (w : ℕ) → IfSome care.now.assume (λ model. BoundsEach d.old.vars (IsOfModel model (values_of d.old rails.now)) w) →
+        AddsAtMost d.old d.new (w * (2 * option_map_or (λ model. effort model.net) care.now.assume 0)) }
+    ensures full { (w : ℕ) → IfSome care.now.assume (λ model. BoundsEach d.old.vars (IsOfModel model (values_of d.old rails.now)) w) →
+        result ≡ Err StoreFault.Full → HasModelOver care.now d.old.limit ⊎ IsFullOnlyPast d.old d.new (w * (2 * option_map_or (λ model. effort model.net) care.now.assume 0)) }
 {
     let Some(model) = care.assume() else {
         return Ok(Node::of(true));
@@ -84,7 +93,6 @@ pub(crate) fn assume_on(
 
 /// The vectors on which the invariant holds of a state, where the latches have these rails. `first` is the
 /// column of the first latch.
-#[tactic(auto, using(crate::proofs::CauseLemmas::invariant_limits))]
 pub(crate) fn invariant_on(
     alloc: Global,
     d: &mut Diagrams,
@@ -97,7 +105,10 @@ pub(crate) fn invariant_on(
     ensures node { IfOk result (IsNodeOf d.new) }
     ensures inside { IfOk result (λ node. (state v : List Bool) → values_of d.old latches.now v ≡ bits state → den d.new node v ≡ is_in_invariant care.now state) }
     ensures keeps { KeepsNodes d.old d.new }
-    ensures full { result ≡ Err StoreFault.Full → IsLimitedByCare d.new care.now }
+    ensures added { (w : ℕ) → IfSome care.now.invariant (λ model. BoundsEach d.old.vars (IsOfModel model (values_of d.old latches.now)) w) →
+        AddsAtMost d.old d.new (w * (2 * option_map_or (λ model. effort model.net) care.now.invariant 0)) }
+    ensures full { (w : ℕ) → IfSome care.now.invariant (λ model. BoundsEach d.old.vars (IsOfModel model (values_of d.old latches.now)) w) →
+        result ≡ Err StoreFault.Full → HasModelOver care.now d.old.limit ⊎ IsFullOnlyPast d.old d.new (w * (2 * option_map_or (λ model. effort model.net) care.now.invariant 0)) }
 {
     let Some(model) = care.invariant() else {
         return Ok(Node::of(true));

@@ -1,21 +1,25 @@
 //! The rails of a netlist without loops, gate by gate.
 
-ghost use Rattle.std.specs.Prelude.{◌≡◌, ◌<◌, ◌++◌, Bool, List, length, map, replicate, All, IfOk, OnOk};
-ghost use Rattle.bdd_store.specs.Growth.{KeepsNodes};
+ghost use Rattle.std.specs.Prelude.{◌≡◌, ◌<◌, ◌*◌, ◌++◌, ◌⊎◌, ℕ, Bool, List, length, map, replicate, All, IfOk, OnOk};
+ghost use Rattle.bdd_store.specs.Growth.{KeepsNodes, AddsAtMost, IsFullOnlyPast};
+ghost use Rattle.cover_logic.specs.Covers.{value as cover_value};
 ghost use Rattle.cover_logic.specs.Extensions.{ext};
+ghost use Rattle.dual_rail.specs.Local.{size};
 ghost use Rattle.dual_rail.specs.Rails.{AreRailsOf, value_of, values_of};
+ghost use Rattle.dual_rail.specs.WorkingLists.{BoundsEach, IsExtended};
 ghost use Rattle.netlist.specs.Fixpoint.{fix};
 ghost use Rattle.netlist.specs.Netlists.{count, gate_at, IsNetlist};
 ghost use Rattle.netlist.specs.Orders.{IsGateOrder};
 ghost use Rattle.netlist.specs.Walks.{IsLoopFree};
 ghost use Rattle.loops.specs.Sweeps.{first_gate};
-ghost use Rattle.verdict.specs.Causes.{IsLimitedBy};
-ghost use Rattle.verdict.specs.Models.{unknown as unknown_rails, rails_of_pin as rails_of_pin_in, Inputs, AreWires, IsLifted, AreLifted};
+ghost use Rattle.fixpoint.specs.Working.{IsGatePart, HasLargeCover, effort};
+ghost use Rattle.verdict.specs.Enough.{no_loops};
+ghost use Rattle.verdict.specs.Models.{unknown as unknown_rails, rails_of_pin as rails_of_pin_in, Inputs, AreWires, IsLifted, AreLifted, BoundsGate};
 
 use bdd_ops::Diagrams;
 use bdd_store::{Node, StoreFault};
 use cyc_base::Sig;
-use dual_rail::{Rails, lift, local};
+use dual_rail::{Rails, lift, local, sizes};
 use netlist::Netlist;
 use std::alloc::{AllocError, Global};
 
@@ -61,8 +65,12 @@ fn gate_rails(
     ensures rails { IfOk result (AreRailsOf d.new) }
     ensures value { IfOk result (λ r. (bits : List Bool) → value_of d.new r bits ≡ ext (gate_at net.now gate).cover (values_of d.old pins.now bits)) }
     ensures keeps { KeepsNodes d.old d.new }
-    ensures full { result ≡ Err StoreFault.Full → IsLimitedBy d.new net.now }
+    ensures added { (w : ℕ) → BoundsEach d.old.vars (IsExtended d.old pins.now (cover_value (gate_at net.now gate).cover)) w →
+        AddsAtMost d.old d.new (w * (2 * size (gate_at net.now gate).cover)) }
+    ensures full { (w : ℕ) → BoundsEach d.old.vars (IsExtended d.old pins.now (cover_value (gate_at net.now gate).cover)) w →
+        result ≡ Err StoreFault.Full → HasLargeCover net.now d.old.limit ⊎ IsFullOnlyPast d.old d.new (w * (2 * size (gate_at net.now gate).cover)) }
 {
+    sizes();
     let diagram = local(alloc, &net.gate(gate).cover, d.store().limit())?;
     let rails = lift(alloc, d, &diagram, pins)?;
     Ok(rails)
@@ -81,7 +89,10 @@ fn set_gate(
     ensures valid { IsNetlist net.now }
     ensures set { OnOk result (IsLifted net.now d.old d.new rails.old rails.new gate) }
     ensures keeps { KeepsNodes d.old d.new }
-    ensures full { result ≡ Err StoreFault.Full → IsLimitedBy d.new net.now }
+    ensures added { (w : ℕ) → BoundsGate net.now d.old rails.old gate w →
+        AddsAtMost d.old d.new (w * (2 * size (gate_at net.now gate).cover)) }
+    ensures full { (w : ℕ) → BoundsGate net.now d.old rails.old gate w →
+        result ≡ Err StoreFault.Full → HasLargeCover net.now d.old.limit ⊎ IsFullOnlyPast d.old d.new (w * (2 * size (gate_at net.now gate).cover)) }
 {
     let Ok(pins) = pins_read(alloc, rails, net.gate(gate).pins.items()) else {
         return Err(StoreFault::Memory);
@@ -104,7 +115,10 @@ fn set_gates(
     ensures values { (v : Inputs) → AreLifted net.now order.now d.old v 0 rails.old → OnOk result ((bits : List Bool) → values_of d.new rails.new bits ≡ fix net.now (v bits)) }
     ensures wires { OnOk result (AreWires net.now d.new rails.new) }
     ensures keeps { KeepsNodes d.old d.new }
-    ensures full { result ≡ Err StoreFault.Full → IsLimitedBy d.new net.now }
+    ensures added { (v : Inputs) (w : ℕ) → AreLifted net.now order.now d.old v 0 rails.old → BoundsEach d.old.vars (IsGatePart net.now no_loops v) w →
+        AddsAtMost d.old d.new (w * (2 * effort net.now)) }
+    ensures full { (v : Inputs) (w : ℕ) → AreLifted net.now order.now d.old v 0 rails.old → BoundsEach d.old.vars (IsGatePart net.now no_loops v) w →
+        result ≡ Err StoreFault.Full → HasLargeCover net.now d.old.limit ⊎ IsFullOnlyPast d.old d.new (w * (2 * effort net.now)) }
 {
     for gate in order {
         set_gate(alloc, d, net, rails, *gate)?;
@@ -127,7 +141,10 @@ pub(crate) fn lift_gates(
     ensures rails { IfOk result (λ rails. All (AreRailsOf d.new) rails.items) }
     ensures values { IfOk result (λ rails. (bits : List Bool) → values_of d.new rails.items bits ≡ fix net.now (values_of d.old given.now bits)) }
     ensures keeps { KeepsNodes d.old d.new }
-    ensures full { result ≡ Err StoreFault.Full → IsLimitedBy d.new net.now }
+    ensures added { (w : ℕ) → BoundsEach d.old.vars (IsGatePart net.now no_loops (values_of d.old given.now)) w →
+        AddsAtMost d.old d.new (w * (2 * effort net.now)) }
+    ensures full { (w : ℕ) → BoundsEach d.old.vars (IsGatePart net.now no_loops (values_of d.old given.now)) w →
+        result ≡ Err StoreFault.Full → HasLargeCover net.now d.old.limit ⊎ IsFullOnlyPast d.old d.new (w * (2 * effort net.now)) }
 {
     let Ok(Some(order)) = net.in_order(alloc) else {
         return Err(StoreFault::Memory);

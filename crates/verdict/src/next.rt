@@ -1,14 +1,14 @@
 //! The latches' next values.
 
-ghost use Rattle.std.specs.Prelude.{◌≡◌, Bool, List, true, length, All, IfOk};
+ghost use Rattle.std.specs.Prelude.{◌≡◌, ◌≤◌, ◌*◌, ℕ, Bool, List, length, All, IfOk, if◌then◌else◌};
 ghost use Rattle.bdd_store.specs.Arena.{den, IsNodeOf};
-ghost use Rattle.bdd_store.specs.Growth.{KeepsNodes};
-ghost use Rattle.cyc_base.specs.Values.{bits};
+ghost use Rattle.bdd_store.specs.Growth.{KeepsNodes, AddsAtMost, IsFullOnlyPast};
+ghost use Rattle.bdd_store.specs.Subfunctions.{nodes};
+ghost use Rattle.bdd_ops.specs.Operations.{conjunction};
+ghost use Rattle.cyc_base.specs.declared.trit.Trit.TheVariants.{X};
 ghost use Rattle.dual_rail.specs.Rails.{AreRailsOf, value_of, values_of};
-ghost use Rattle.netlist.specs.Fixpoint.{next};
-ghost use Rattle.care_sets.specs.Care.{columns};
 ghost use Rattle.refusals.specs.Refusals.{next_state};
-ghost use Rattle.verdict.specs.Causes.{IsFull};
+ghost use Rattle.verdict.specs.Next.{next_within, BoundsSignals};
 ghost use Rattle.verdict.specs.Sets.{AreFixed};
 
 use bdd_ops::Diagrams;
@@ -18,14 +18,16 @@ use netlist::Netlist;
 use std::alloc::{AllocError, Global};
 
 /// Rails that are as given at the vectors of a set, and X elsewhere.
-#[tactic(auto, using(crate::proofs::CauseLemmas::past_is_full))]
 fn restricted(d: &mut Diagrams, set: Node, rails: Rails) -> Result<Rails, StoreFault>
     requires set { IsNodeOf d.old set }
     requires rails { AreRailsOf d.old rails }
     ensures rails { IfOk result (AreRailsOf d.new) }
-    ensures value { IfOk result (λ r. (v : List Bool) → den d.old set v ≡ true → value_of d.new r v ≡ value_of d.old rails v) }
+    ensures value { IfOk result (λ r. (v : List Bool) → value_of d.new r v ≡ (if den d.old set v then value_of d.old rails v else X)) }
     ensures keeps { KeepsNodes d.old d.new }
-    ensures full { result ≡ Err StoreFault.Full → IsFull d.new }
+    ensures added { (w : ℕ) → nodes d.old.vars (conjunction d.old set rails.one) ≤ w → nodes d.old.vars (conjunction d.old set rails.zero) ≤ w →
+        AddsAtMost d.old d.new (w * 2) }
+    ensures full { (w : ℕ) → nodes d.old.vars (conjunction d.old set rails.one) ≤ w → nodes d.old.vars (conjunction d.old set rails.zero) ≤ w →
+        result ≡ Err StoreFault.Full → IsFullOnlyPast d.old d.new (w * 2) }
 {
     let one = d.and(set, rails.one)?;
     let zero = d.and(set, rails.zero)?;
@@ -45,9 +47,12 @@ pub(crate) fn next_on(
     requires set { IsNodeOf d.old set }
     ensures width { IfOk result (λ list. length list.items ≡ length net.now.latches) }
     ensures rails { IfOk result (λ list. All (AreRailsOf d.new) list.items) }
-    ensures values { IfOk result (λ list. (v : List Bool) → length v ≡ d.old.vars → den d.old set v ≡ true → values_of d.new list.items v ≡ next net.now (bits v)) }
+    ensures values { IfOk result (λ list. (v : List Bool) → length v ≡ d.old.vars → values_of d.new list.items v ≡ next_within net.now d.old set v) }
     ensures keeps { KeepsNodes d.old d.new }
-    ensures full { result ≡ Err StoreFault.Full → IsFull d.new }
+    ensures added { (w : ℕ) → BoundsSignals net.now d.old set w →
+        AddsAtMost d.old d.new (w * (2 * length net.now.latches)) }
+    ensures full { (w : ℕ) → BoundsSignals net.now d.old set w →
+        result ≡ Err StoreFault.Full → IsFullOnlyPast d.old d.new (w * (2 * length net.now.latches)) }
 {
     let mut list = Vec::new(alloc);
     for number in 0..net.latches() {

@@ -1,17 +1,39 @@
-use Rattle.std.proofs.Common.{◌≡◌, ◌<◌, ◌∙◌, List, length, ap, get_or, arith}
+use Rattle.std.proofs.Common.{Err, ◌≡◌, ◌<◌, ◌∙◌, ℕ, List, length, sym, ap, get_or, arith}
 use Rattle.std.proofs.lemmas.List.{get_or_read}
+use Rattle.bdd_store.specs.declared.fault.StoreFault.{StoreFault}
 use Rattle.bdd_store.specs.Arena.{den}
 use Rattle.cyc_base.specs.declared.sig.Sig.{Sig}
 use Rattle.dual_rail.specs.declared.rail.Rails.{Rails}
+use Rattle.dual_rail.specs.Rails.{values_of}
+use Rattle.dual_rail.specs.WorkingLists.{BoundsEach}
 use Rattle.netlist.specs.Fixpoint.{fix}
 use Rattle.netlist.specs.Netlists.{count}
+use Rattle.fixpoint.specs.Working.{IsGatePart}
+use Rattle.verdict.specs.Enough.{no_loops, IsOfModel}
 use Rattle.verdict.specs.Models.{unknown, rails_at}
-use Rattle.verdict.proofs.CareLemmas.{inputs-proper, inputs-values, output-holds}
+use Rattle.verdict.specs.Sets.{model_of}
+use Rattle.verdict.proofs.CareLemmas.{inputs-proper, inputs-values, inputs-bounded, output-holds}
 use Rattle.verdict.proofs.care.holds_on.Goals as goal
+use Rattle.verdict.proofs.care.holds_on.Goals.{After-lift_gates}
 
 pub lift_gates-requires-clause-rails : goal.lift_gates-requires-clause-rails
 lift_gates-requires-clause-rails c =
     inputs-proper c.args.d.now c.args.columns.now c.args.first c.args.rails.now c.deref.result.now c.requires.rails (c.deref.ensures.value ∙ c.in-Ok.ensures)
+
+-- what the lift of the model works with
+bounded : (c : After-lift_gates) (w : ℕ) → BoundsEach c.args.d.now.vars (IsOfModel (model_of c.args.model.now c.args.first c.args.columns.now) (values_of c.args.d.now c.args.rails.now)) w →
+    BoundsEach c.args.d.now.vars (IsGatePart c.args.model.now no_loops (values_of c.args.d.now c.deref.result.now)) w
+bounded c w bounds = inputs-bounded c.args.d.now c.args.model.now c.args.columns.now c.args.first c.args.rails.now c.deref.result.now c.requires.columns (c.deref.ensures.value ∙ c.in-Ok.ensures) bounds
+
+pub returns-clause-added : goal.returns-clause-added
+returns-clause-added c w bounds = c.lift_gates.ensures.added w (bounded (goal.at.returns-clause-added c).After-lift_gates w bounds)
+
+pub returns-in_err-wires-clause-added : goal.returns-in_err-wires-clause-added
+returns-in_err-wires-clause-added c w bounds = c.lift_gates.ensures.added w (bounded (goal.at.returns-in_err-wires-clause-added c).After-lift_gates w bounds)
+
+pub returns-in_err-wires-clause-full : goal.returns-in_err-wires-clause-full
+returns-in_err-wires-clause-full c w bounds is_full =
+    c.in_err-wires.ensures.full w (bounded (goal.at.returns-in_err-wires-clause-full c).After-lift_gates w bounds) (ap {A = StoreFault} Err (sym (rw is_full at c.from_residual.ensures.1)))
 
 pub returns-clause-holds : goal.returns-clause-holds
 returns-clause-holds c values v are =

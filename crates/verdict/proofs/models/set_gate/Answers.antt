@@ -1,25 +1,45 @@
-use Rattle.std.proofs.Common.{◌≡◌, ◌∙◌, set, ap, arith, map}
+use Rattle.std.proofs.Common.{Err, ◌≡◌, ◌∙◌, ℕ, List, set, sym, ap, subst, arith, map}
+use Rattle.bdd_store.specs.declared.fault.StoreFault.{StoreFault}
+use Rattle.cover_logic.specs.Covers.{value}
 use Rattle.cover_logic.specs.Extensions.{ext}
+use Rattle.dual_rail.specs.declared.rail.Rails.{Rails}
+use Rattle.dual_rail.specs.WorkingLists.{BoundsEach, IsExtended}
 use Rattle.netlist.specs.declared.parts.Gate.{Gate}
 use Rattle.netlist.specs.Netlists.{gate_at}
-use Rattle.verdict.specs.Models.{rails_of_pin}
+use Rattle.verdict.specs.Models.{rails_of_pin, BoundsGate}
 use Rattle.verdict.proofs.ModelLemmas.{pins-proper, pins-values}
 use Rattle.verdict.proofs.models.set_gate.Goals as goal
+use Rattle.verdict.proofs.models.set_gate.Goals.{After-gate_rails}
 
 pub gate_rails-requires-clause-rails : goal.gate_rails-requires-clause-rails
 gate_rails-requires-clause-rails c =
     pins-proper c.args.d.now c.args.rails.now c.items.result.now c.deref.result.now c.requires.wires.proper (c.deref.ensures.value ∙ c.in-Ok.ensures)
 
+-- the rails that the pins read
+listed : (c : After-gate_rails) → c.deref.result.now ≡ map (rails_of_pin c.args.rails.now) (gate_at c.args.net.now c.args.gate).pins
+listed c = c.deref.ensures.value ∙ c.in-Ok.ensures ∙ ap (map (rails_of_pin c.args.rails.now)) (c.items.ensures ∙ ap (λ (g : Gate). g.pins) c.gate.ensures.at)
+
+bounded : (c : After-gate_rails) (w : ℕ) → BoundsGate c.args.net.now c.args.d.now c.args.rails.now c.args.gate w →
+    BoundsEach c.args.d.now.vars (IsExtended c.args.d.now c.deref.result.now (value (gate_at c.args.net.now c.args.gate).cover)) w
+bounded c w bounds =
+    subst (λ (list : List Rails). BoundsEach c.args.d.now.vars (IsExtended c.args.d.now list (value (gate_at c.args.net.now c.args.gate).cover)) w) (sym (listed c)) bounds
+
 pub returns-clause-set : goal.returns-clause-set
-returns-clause-set c =
-    let net = c.args.net.now in
-    let pins : c.items.result.now ≡ (gate_at net c.args.gate).pins = c.items.ensures ∙ ap (λ (g : Gate). g.pins) c.gate.ensures.at in
-    let list : c.deref.result.now ≡ map (rails_of_pin c.args.rails.now) (gate_at net c.args.gate).pins =
-    c.deref.ensures.value ∙ c.in-Ok.ensures ∙ ap (map (rails_of_pin c.args.rails.now)) pins in
-    record {
-      made = c.in_ok-made.made;
-      is = ap (λ n. set c.args.rails.now n c.in_ok-made.made) (omega (arith, c.inputs.ensures.inputs, c.latches.ensures.latches));
-      proper = c.in_ok-made.ensures.rails;
-      value = λ bits. c.in_ok-made.ensures.value bits
-          ∙ ap (ext (gate_at net c.args.gate).cover) (pins-values c.args.d.now c.args.rails.now (gate_at net c.args.gate).pins c.deref.result.now bits list);
-    }
+returns-clause-set c = record {
+  made = c.in_ok-made.made;
+  is = ap (λ n. set c.args.rails.now n c.in_ok-made.made) (omega (arith, c.inputs.ensures.inputs, c.latches.ensures.latches));
+  proper = c.in_ok-made.ensures.rails;
+  value = λ bits. c.in_ok-made.ensures.value bits
+      ∙ ap (ext (gate_at c.args.net.now c.args.gate).cover)
+      (pins-values c.args.d.now c.args.rails.now (gate_at c.args.net.now c.args.gate).pins c.deref.result.now bits (listed (goal.at.returns-clause-set c).After-gate_rails));
+}
+
+pub returns-clause-added : goal.returns-clause-added
+returns-clause-added c w bounds = c.gate_rails.ensures.added w (bounded (goal.at.returns-clause-added c).After-gate_rails w bounds)
+
+pub returns-in_err-made-clause-added : goal.returns-in_err-made-clause-added
+returns-in_err-made-clause-added c w bounds = c.gate_rails.ensures.added w (bounded (goal.at.returns-in_err-made-clause-added c).After-gate_rails w bounds)
+
+pub returns-in_err-made-clause-full : goal.returns-in_err-made-clause-full
+returns-in_err-made-clause-full c w bounds is_full =
+    c.in_err-made.ensures.full w (bounded (goal.at.returns-in_err-made-clause-full c).After-gate_rails w bounds) (ap {A = StoreFault} Err (sym (rw is_full at c.from_residual.ensures.1)))
