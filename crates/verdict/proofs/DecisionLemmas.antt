@@ -19,12 +19,14 @@ use Rattle.loops.specs.Found.{loops_of}
 use Rattle.loops.specs.Sweeps.{value_in}
 use Rattle.loops.proofs.Existence.{loops_exist}
 use Rattle.fixpoint.specs.Working.{IsGatePart, IsWorking}
+use Rattle.fixpoint.proofs.CutLemmas.{one-of, zero-of}
 use Rattle.fixpoint.proofs.WorkLemmas.{fix_is_working, gate_parts_agree}
 use Rattle.care_sets.specs.Care.{CareSet, columns, is_care_vector}
 use Rattle.refusals.specs.Refusals.{is_x}
 use Rattle.refusals.proofs.RefusalLemmas.{length-bits}
 use Rattle.verdict.specs.Enough.{IsOfDecision, IsColumn, SaysCare, IsOfNetlist}
 use Rattle.verdict.specs.Models.{rails_at}
+use Rattle.verdict.specs.Next.{BoundsSignals}
 use Rattle.verdict.specs.Sets.{Tells, AreFixed, difference}
 use Rattle.verdict.proofs.CareLemmas.{value_at-place}
 use Rattle.verdict.proofs.CountLemmas.{fit, length-fit, fit-whole}
@@ -104,18 +106,12 @@ module _ (net : Parts) (care : CareSet) where
             made-listed (IsOfNetlist h.is) (λ v long. ap (λ (u : List Trit). is_bit b (value_in (fix net u) signal)) (at-width v long) ∙ h.alike v long)
       ]
 
+  pub signals-bounded : (a : Arena) (set : Node) {w : ℕ} → a.vars ≡ columns net → Tells a set (is_care_vector net care) → IsWide a.vars (IsOfDecision net care) w → BoundsSignals net a set w
+  signals-bounded a set vars told wide signal b within =
+      made-two vars wide (λ p q. p && q) (den a set) (λ v. is_bit b (value_in (fix net (bits v)) signal)) (λ v. den a set v && is_bit b (value_in (fix net (bits v)) signal))
+      (made-told vars (SaysCare (λ v. refl)) told) (made-signal signal within b) (λ v long. refl)
+
   -- and the rails that stand for them
-
-  one-of : (one zero_ : Bool) → one ≡ is_bit true (trit_of one zero_)
-  one-of true z = refl
-  one-of false true = refl
-  one-of false false = refl
-
-  zero-of : (one zero_ : Bool) → (one && zero_) ≡ false → zero_ ≡ is_bit false (trit_of one zero_)
-  zero-of true true apart = apart
-  zero-of true false apart = refl
-  zero-of false true apart = refl
-  zero-of false false apart = refl
 
   module _ (a : Arena) (rails : List Rails) (vars : a.vars ≡ columns net) (fixed : AreFixed net a rails) (signal : ℕ) (within : signal < count net) where
     signal-value : (v : List Bool) → length v ≡ columns net → value_of a (rails_at rails signal) v ≡ value_in (fix net (bits v)) signal
@@ -127,14 +123,14 @@ module _ (net : Parts) (care : CareSet) where
     made-one_rail =
         let r : Rails = rails_at rails signal in
         let m = made-signal signal within true in
-        record { of = m.of; listed = m.listed; by = m.by; same = λ v long. one-of (den a r.one v) (den a r.zero v) ∙ ap (is_bit true) (signal-value v long) ∙ m.same v long }
+        record { of = m.of; listed = m.listed; by = m.by; same = λ v long. sym (one-of (den a r.one v) (den a r.zero v)) ∙ ap (is_bit true) (signal-value v long) ∙ m.same v long }
 
     pub made-zero_rail : IsMade net care (den a (rails_at rails signal).zero)
     made-zero_rail =
         let r : Rails = rails_at rails signal in
         let proper : AreRailsOf a r = rails_at-proper a rails fixed.proper signal in
         let m = made-signal signal within false in
-        record { of = m.of; listed = m.listed; by = m.by; same = λ v long. zero-of (den a r.one v) (den a r.zero v) (proper.proper v) ∙ ap (is_bit false) (signal-value v long) ∙ m.same v long }
+        record { of = m.of; listed = m.listed; by = m.by; same = λ v long. sym (zero-of (den a r.one v) (den a r.zero v) (proper.proper v)) ∙ ap (is_bit false) (signal-value v long) ∙ m.same v long }
 
     -- where one is unknown in a set
     module _ (set : Node) (told : Tells a set (is_care_vector net care)) {w : ℕ} (wide : IsWide a.vars (IsOfDecision net care) w) where

@@ -7,5 +7,7 @@ mod ModelLemmas
 mod NextLemmas
 mod PartLemmas
 mod SetLemmas
+mod SizeLemmas
+mod SolutionLemmas
 mod StartLemmas
 mod VerdictLemmas
