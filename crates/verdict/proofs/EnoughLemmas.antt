@@ -1,22 +1,101 @@
--- What a decision costs, added up.
-use Rattle.std.proofs.Common.{◌≡◌, ℕ, ◌+◌, ◌*◌, ◌<◌, ◌≤◌, List, [], ◌∷◌, length, arith}
+-- What a decision costs, added up, and covers over the limit.
+use Rattle.std.proofs.Common.{◌≡◌, ◌⊎◌, inl, inr, ℕ, ◌+◌, ◌*◌, ◌<◌, ◌≤◌, List, [], ◌∷◌, Option, Some, None, length, sym, subst, arith}
+use Rattle.std.specs.Prelude.{IsSomeAnd}
 use Rattle.std.specs.List.{sum_by}
+use Rattle.std.specs.Option.{option_map_or}
 use Rattle.std.proofs.lemmas.List.Sums.{sum_by-cons, get_or-le-sum_by}
-use Rattle.std.proofs.Math.Nat.{mul-le-mul_left}
+use Rattle.std.proofs.Math.Nat.{mul-le-mul_left, mul-le-mul_right}
 use Rattle.dual_rail.specs.Local.{size}
+use Rattle.dual_rail.specs.WorkingLists.{IsWide}
 use Rattle.netlist.specs.declared.parts.Gate.{Gate}
 use Rattle.netlist.specs.declared.parts.Parts.{Parts}
 use Rattle.netlist.specs.Netlists.{no_gate}
 use Rattle.fixpoint.specs.Working.{HasLargeCover, effort}
+use Rattle.care_sets.specs.declared.model.CareModel.{CareModel}
+use Rattle.care_sets.specs.Care.{CareSet, columns}
+use Rattle.verdict.specs.Causes.{HasModelOver}
+use Rattle.verdict.specs.Costs.{assume_effort, invariant_effort}
+use Rattle.verdict.specs.Enough.{IsOfDecision, enough}
+
+-- ---- the sum
 
 -- the columns, what comes before the gates, the fixpoint, what comes after it, and the sweeps
-pub costs-enough : (w v latches gates assumed invariant effort effort_assumed effort_invariant : ℕ) →
+abbrev pub cost_of_columns : Parts → ℕ
+cost_of_columns net = 2 * columns net
+
+abbrev pub cost_before : Parts → CareSet → ℕ → ℕ
+cost_before net care w = w * (2 * invariant_effort care + length net.latches + 1 + (2 * assume_effort care + 1))
+
+abbrev pub cost_of_fix : Parts → ℕ → ℕ
+cost_of_fix net w = 10 * w * (length net.gates + 2) * effort net
+
+abbrev pub cost_after : Parts → CareSet → ℕ → ℕ
+cost_after net care w = w * (2 * length net.gates + (2 * length net.latches + 2 * invariant_effort care + 1))
+
+abbrev pub cost_of_sweeps : Parts → ℕ → ℕ
+cost_of_sweeps net w = 6 * w * length net.gates * (length net.gates + 2)
+
+sum-enough : (w v latches gates assumed invariant effort effort_assumed effort_invariant : ℕ) →
     v + 1 ≤ w → latches ≤ v → gates ≤ effort →
     2 * v + w * (2 * effort_invariant + latches + 1 + (2 * effort_assumed + 1)) + 10 * w * (gates + 2) * effort
     + w * (2 * gates + (2 * latches + 2 * effort_invariant + 1)) + 6 * w * gates * (gates + 2)
     ≤ 16 * w * (gates + (assumed + invariant) + 2) * (effort + (effort_assumed + effort_invariant) + v + 4)
-costs-enough w v latches gates assumed invariant effort effort_assumed effort_invariant wide few less =
+sum-enough w v latches gates assumed invariant effort effort_assumed effort_invariant wide few less =
     let one : w * latches ≤ w * v = mul-le-mul_left {m = latches} {n = v} w few in
     let two : w * gates ≤ w * effort = mul-le-mul_left {m = gates} {n = effort} w less in
     let three : w * gates * gates ≤ w * gates * effort = mul-le-mul_left {m = gates} {n = effort} (w * gates) less in
     omega (arith, wide, one, two, three)
+
+-- each gate counts one at least
+gates-effort : (gates : List Gate) → length gates ≤ sum_by (λ gate. size gate.cover + 1) gates
+gates-effort [] = omega arith
+gates-effort (gate ∷ gates) =
+    let rest = gates-effort gates in
+    let sum = sum_by-cons (λ (g : Gate). size g.cover + 1) gate gates in
+    omega (arith, rest, sum)
+
+-- the parts together cost no more than is enough
+pub costs-enough : (net : Parts) (care : CareSet) (w : ℕ) → IsWide (columns net) (IsOfDecision net care) w →
+    cost_of_columns net + cost_before net care w + cost_of_fix net w + cost_after net care w + cost_of_sweeps net w ≤ enough net care w
+costs-enough net care w wide =
+    sum-enough w (columns net) (length net.latches) (length net.gates) (option_map_or (λ model. length model.net.gates) care.assume 0) (option_map_or (λ model. length model.net.gates) care.invariant 0)
+    (effort net) (assume_effort care) (invariant_effort care) wide.variables (omega arith) (gates-effort net.gates)
+
+-- the room that is used, and what would be too many
+pub past-below : (limit used before cost rest most : ℕ) → limit < used + cost → used ≤ before → before + cost + rest ≤ most → limit < most
+past-below limit used before cost rest most past within enough_is = omega (arith, past, within, enough_is)
+
+-- ---- covers over the limit
+
+large-effort : (net : Parts) (limit : ℕ) → HasLargeCover net limit → limit < effort net
+large-effort net limit is =
+    let over = is.over in
+    let most = get_or-le-sum_by (λ (g : Gate). size g.cover + 1) net.gates is.gate no_gate is.within in
+    omega (arith, over, most)
+
+model-effort : (o : Option CareModel) (limit : ℕ) → IsSomeAnd o (λ model. HasLargeCover model.net limit) → limit < option_map_or (λ model. effort model.net) o 0
+model-effort None limit is = absurd is
+model-effort (Some model) limit is = large-effort model.net limit is
+
+effort-enough : (limit x e w gates v : ℕ) → limit < x → x ≤ e → v + 1 ≤ w → limit < 16 * w * (gates + 2) * (e + v + 4)
+effort-enough limit x e w gates v less within wide =
+    let one : 1 * e ≤ w * e = mul-le-mul_right {m = 1} {n = w} e (omega (arith, wide)) in
+    omega (arith, less, within, wide, one)
+
+pub over-net : (net : Parts) (care : CareSet) (w limit : ℕ) → IsWide (columns net) (IsOfDecision net care) w → HasLargeCover net limit → limit < enough net care w
+over-net net care w limit wide is =
+    effort-enough limit (effort net) (effort net + (assume_effort care + invariant_effort care)) w
+    (length net.gates + (option_map_or (λ model. length model.net.gates) care.assume 0 + option_map_or (λ model. length model.net.gates) care.invariant 0))
+    (columns net) (large-effort net limit is) (omega arith) wide.variables
+
+pub over-model : (net : Parts) (care : CareSet) (w limit : ℕ) → IsWide (columns net) (IsOfDecision net care) w → HasModelOver care limit → limit < enough net care w
+over-model net care w limit wide is = elim is [
+  | inl over ↦ by (assume_effort care) (model-effort care.assume limit over) (omega arith)
+  | inr over ↦ by (invariant_effort care) (model-effort care.invariant limit over) (omega arith)
+]
+  where
+    by : (x : ℕ) → limit < x → x ≤ effort net + (assume_effort care + invariant_effort care) → limit < enough net care w
+    by x less within =
+        effort-enough limit x (effort net + (assume_effort care + invariant_effort care)) w
+        (length net.gates + (option_map_or (λ model. length model.net.gates) care.assume 0 + option_map_or (λ model. length model.net.gates) care.invariant 0))
+        (columns net) less within wide.variables
