@@ -11,3 +11,4 @@ mod SizeLemmas
 mod SolutionLemmas
 mod StartLemmas
 mod VerdictLemmas
+mod WorkLemmas
