@@ -1,10 +1,11 @@
 -- Why a call finds the diagrams full.
-use Rattle.std.proofs.Common.{◌≡◌, ◌⊎◌, inl, inr, ℕ, ◌*◌, ◌<◌, ◌≤◌, Option, Some, None, length, subst, ◌∙◌, arith}
+use Rattle.std.proofs.Common.{◌≡◌, ◌⊎◌, inl, inr, ℕ, ◌+◌, ◌*◌, ◌<◌, ◌≤◌, Option, Some, None, length, subst, ◌∙◌, arith}
 use Rattle.std.specs.Prelude.{IsSomeAnd}
 use Rattle.std.specs.Option.{option_map}
 use Rattle.std.proofs.lemmas.Option.{same_Some}
 use Rattle.bdd_store.specs.Arena.{Arena}
-use Rattle.bdd_store.specs.Growth.{AddsAtMost, IsFullOnlyPast}
+use Rattle.bdd_store.specs.Growth.{KeepsNodes, AddsAtMost, IsFullOnlyPast}
+use Rattle.bdd_store.proofs.GrowthLemmas.{full-first, full-more}
 use Rattle.dual_rail.specs.Local.{size}
 use Rattle.netlist.specs.declared.parts.Gate.{Gate}
 use Rattle.netlist.specs.declared.parts.Parts.{Parts}
@@ -29,6 +30,17 @@ added-both s t u w before now = omega (arith, before, now)
 
 pub full-both : (s t u : Arena) (w : ℕ) → AddsAtMost s t w → IsFullOnlyPast t u w → IsFullOnlyPast s u (w * 2)
 full-both s t u w before now = record { full = now.full; past = omega (arith, before, now.past) }
+
+-- a refusal that a large cover may explain, after other calls
+
+pub over-first : (Over : ℕ → Type 0) (s t : Arena) (w q n : ℕ) → q ≤ n → Over s.limit ⊎ IsFullOnlyPast s t (w * q) → Over s.limit ⊎ IsFullOnlyPast s t (w * n)
+over-first Over s t w q n less is = elim is [ inl over ↦ inl over | inr full ↦ inr (full-first s t w q n less full) ]
+
+pub over-more : (Over : ℕ → Type 0) (s t u : Arena) (w p q n : ℕ) → KeepsNodes s t → p + q ≤ n → AddsAtMost s t (w * p) → Over t.limit ⊎ IsFullOnlyPast t u (w * q) → Over s.limit ⊎ IsFullOnlyPast s u (w * n)
+over-more Over s t u w p q n keeps less before is = elim is [
+  | inl over ↦ inl (subst Over keeps.limit over)
+  | inr full ↦ inr (full-more s t u w p q n less before full)
+]
 
 -- ---- what a refusal says
 

@@ -3,6 +3,7 @@ use Rattle.std.proofs.Common.{◌≡◌, inl, inr, ℕ, ◌+◌, ◌<◌, ◌≤
 use Rattle.std.proofs.lemmas.List.{get_or-map}
 use Rattle.bdd_store.specs.declared.node.Node.{Node}
 use Rattle.bdd_store.specs.Arena.{Arena, den}
+use Rattle.bdd_store.specs.Growth.{KeepsNodes}
 use Rattle.bdd_store.specs.Subfunctions.{nodes}
 use Rattle.bdd_store.proofs.SubfunctionLemmas.{nodes-alike}
 use Rattle.bdd_ops.specs.Operations.{bit_at}
@@ -54,6 +55,9 @@ made-wide {net} {care} {w} wide = record {
       (λ v long. ap (λ p. c p (g v) (h v)) (x.same v long) ∙ ap₂ (λ q r. c (x.by (x.of v)) q r) (y.same v long) (z.same v long)) in
       omega (arith, most, same);
 }
+
+pub wide-kept : {net : Parts} {care : CareSet} {s t : Arena} {w : ℕ} → KeepsNodes s t → IsWide s.vars (IsOfDecision net care) w → IsWide t.vars (IsOfDecision net care) w
+wide-kept {net} {care} {w = w} keeps wide = subst (λ n. IsWide n (IsOfDecision net care) w) (sym keeps.vars) wide
 
 -- three of them, two, and one
 

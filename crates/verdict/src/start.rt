@@ -1,14 +1,18 @@
 //! What is decided before the gates: the initial states, and whether any vector counts.
 
-ghost use Rattle.std.specs.Prelude.{◌≡◌, ◌&&◌, Bool, List, length, All, IfOk, IfSome};
+ghost use Rattle.std.specs.Prelude.{◌≡◌, ◌&&◌, ◌+◌, ◌*◌, ◌⊎◌, ℕ, Bool, List, length, All, IfOk, IfSome};
 ghost use Rattle.bdd_store.specs.Arena.{den, IsNodeOf};
-ghost use Rattle.bdd_store.specs.Growth.{KeepsNodes};
+ghost use Rattle.bdd_store.specs.Growth.{KeepsNodes, AddsAtMost, IsFullOnlyPast};
 ghost use Rattle.cyc_base.specs.Values.{bits};
 ghost use Rattle.dual_rail.specs.Rails.{AreRailsOf, values_of};
+ghost use Rattle.dual_rail.specs.WorkingLists.{IsWide};
+ghost use Rattle.netlist.specs.declared.parts.Parts.{Parts};
 ghost use Rattle.netlist.specs.Netlists.{IsNetlist};
 ghost use Rattle.care_sets.specs.Binding.{IsCareOf};
 ghost use Rattle.care_sets.specs.Care.{columns, is_allowed};
-ghost use Rattle.verdict.specs.Causes.{IsLimitedByCare};
+ghost use Rattle.verdict.specs.Causes.{HasModelOver};
+ghost use Rattle.verdict.specs.Costs.{assume_effort, invariant_effort};
+ghost use Rattle.verdict.specs.Enough.{IsOfDecision};
 ghost use Rattle.verdict.specs.Sets.{AreColumns, Tells, ReadsWithin, has_state_inside};
 ghost use Rattle.verdict.specs.Verdicts.{IsStart};
 
@@ -46,7 +50,10 @@ fn inside_on(
     ensures valid { IsNetlist net.now }
     ensures told { IfOk result (λ set. Tells d.new set (has_state_inside net.now care.now)) }
     ensures keeps { KeepsNodes d.old d.new }
-    ensures full { result ≡ Err StoreFault.Full → IsLimitedByCare d.new care.now }
+    ensures added { (w : ℕ) → IsWide d.old.vars (IsOfDecision net.now care.now) w →
+        AddsAtMost d.old d.new (w * (2 * invariant_effort care.now)) }
+    ensures full { (w : ℕ) → IsWide d.old.vars (IsOfDecision net.now care.now) w → result ≡ Err StoreFault.Full →
+        HasModelOver care.now d.old.limit ⊎ IsFullOnlyPast d.old d.new (w * (2 * invariant_effort care.now)) }
 {
     let first = net.inputs();
     let latches = &rails[first as usize..];
@@ -54,7 +61,6 @@ fn inside_on(
 }
 
 /// The vectors of a set on which the assumption holds.
-#[tactic(auto, using(crate::proofs::CauseLemmas::full_limits_care, crate::proofs::CauseLemmas::past_is_full))]
 fn care_on(
     alloc: Global,
     d: &mut Diagrams,
@@ -68,14 +74,18 @@ fn care_on(
     ensures node { IfOk result (IsNodeOf d.new) }
     ensures allowed { IfOk result (λ set. (values v : List Bool) → values_of d.old rails.now v ≡ bits values → den d.new set v ≡ (den d.old inside v && is_allowed care.now values)) }
     ensures keeps { KeepsNodes d.old d.new }
-    ensures full { result ≡ Err StoreFault.Full → IsLimitedByCare d.new care.now }
+    ensures added { (net : Parts) (w : ℕ) → IsCareOf net care.now → d.old.vars ≡ columns net → AreColumns d.old rails.now →
+        Tells d.old inside (has_state_inside net care.now) → IsWide d.old.vars (IsOfDecision net care.now) w →
+        AddsAtMost d.old d.new (w * (2 * assume_effort care.now + 1)) }
+    ensures full { (net : Parts) (w : ℕ) → IsCareOf net care.now → d.old.vars ≡ columns net → AreColumns d.old rails.now →
+        Tells d.old inside (has_state_inside net care.now) → IsWide d.old.vars (IsOfDecision net care.now) w → result ≡ Err StoreFault.Full →
+        HasModelOver care.now d.old.limit ⊎ IsFullOnlyPast d.old d.new (w * (2 * assume_effort care.now + 1)) }
 {
     let allowed = assume_on(alloc, d, care, rails)?;
     Ok(d.and(inside, allowed)?)
 }
 
 /// The vectors of care, or the refusal of an initial state or of an empty care set.
-#[tactic(auto, using(crate::proofs::CauseLemmas::full_limits_care))]
 pub(crate) fn begin(
     alloc: Global,
     d: &mut Diagrams,
@@ -89,7 +99,10 @@ pub(crate) fn begin(
     ensures valid { IsNetlist net.now }
     ensures start { IfOk result (IsStart net.now care.now d.new) }
     ensures keeps { KeepsNodes d.old d.new }
-    ensures full { result ≡ Err StoreFault.Full → IsLimitedByCare d.new care.now }
+    ensures added { (w : ℕ) → IsWide d.old.vars (IsOfDecision net.now care.now) w →
+        AddsAtMost d.old d.new (w * (2 * invariant_effort care.now + length net.now.latches + 1 + (2 * assume_effort care.now + 1))) }
+    ensures full { (w : ℕ) → IsWide d.old.vars (IsOfDecision net.now care.now) w → result ≡ Err StoreFault.Full →
+        HasModelOver care.now d.old.limit ⊎ IsFullOnlyPast d.old d.new (w * (2 * invariant_effort care.now + length net.now.latches + 1 + (2 * assume_effort care.now + 1))) }
 {
     let inside = inside_on(alloc, d, net, care, rails)?;
     let permitted = starts_on(d, net, rails)?;
