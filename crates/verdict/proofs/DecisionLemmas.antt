@@ -25,10 +25,10 @@ use Rattle.fixpoint.proofs.WorkLemmas.{fix_is_working, gate_parts_agree}
 use Rattle.care_sets.specs.Care.{CareSet, columns, is_care_vector}
 use Rattle.refusals.specs.Refusals.{is_x}
 use Rattle.refusals.proofs.RefusalLemmas.{length-bits}
-use Rattle.verdict.specs.Enough.{IsOfDecision, IsColumn, SaysCare, IsOfNetlist}
+use Rattle.verdict.specs.Enough.{IsOfDecision, IsColumn, SaysStart, SaysInside, SaysCare, IsOfNetlist}
 use Rattle.verdict.specs.Models.{rails_at}
 use Rattle.verdict.specs.Next.{BoundsSignals}
-use Rattle.verdict.specs.Sets.{Tells, AreFixed, difference}
+use Rattle.verdict.specs.Sets.{Tells, AreFixed, starts, has_state_inside, difference}
 use Rattle.verdict.proofs.CareLemmas.{value_at-place}
 use Rattle.verdict.proofs.CountLemmas.{fit, length-fit, fit-whole}
 use Rattle.verdict.proofs.ModelLemmas.{rails_at-proper}
@@ -79,6 +79,16 @@ made-one vars wide f x = made-two vars wide (λ p q. p) f f f x x (λ v long. re
 -- a node of a set
 pub made-told : {net : Parts} {care : CareSet} {a : Arena} {n : Node} {test : List Bool → Bool} → a.vars ≡ columns net → IsOfDecision net care test → Tells a n test → IsMade net care (den a n)
 made-told vars is told = made-listed is (λ v long. told.value v (long ∙ sym vars))
+
+-- the permitted states, and those outside of the invariant
+pub starts-fit : {net : Parts} {care : CareSet} {n w : ℕ} → n ≡ columns net → IsWide n (IsOfDecision net care) w → nodes n (starts net) ≤ w
+starts-fit {net} vars wide = made-one vars wide (starts net) (made-listed (SaysStart (λ v. refl)) (λ v long. refl))
+
+pub outside-fits : {net : Parts} {care : CareSet} {w : ℕ} (a : Arena) (permitted inside : Node) → a.vars ≡ columns net → Tells a permitted (starts net) → Tells a inside (has_state_inside net care) →
+    IsWide a.vars (IsOfDecision net care) w → nodes a.vars (difference a permitted inside) ≤ w
+outside-fits a permitted inside vars permitted_is inside_is wide =
+    made-two vars wide (λ p q. p && not q) (den a permitted) (den a inside) (difference a permitted inside)
+    (made-told vars (SaysStart (λ v. refl)) permitted_is) (made-told vars (SaysInside (λ v. refl)) inside_is) (λ v long. refl)
 
 -- ---- signals at the fixpoint
 

@@ -1,14 +1,23 @@
-use Rattle.std.proofs.Common.{◌≡◌, ◌∙◌, ◌&&◌, true, false, None, sym, ap}
-use Rattle.bdd_store.specs.Growth.{KeepsNodes}
-use Rattle.bdd_store.proofs.GrowthLemmas.{KeepsNodes-chain}
+use Rattle.std.proofs.Common.{◌≡◌, ◌∙◌, ◌⊎◌, inr, ◌&&◌, ◌+◌, ◌*◌, ◌≤◌, Err, ℕ, length, not, true, false, None, refl, sym, ap, arith}
+use Rattle.bdd_store.specs.declared.fault.StoreFault.{StoreFault}
+use Rattle.bdd_store.specs.Arena.{den}
+use Rattle.bdd_store.specs.Growth.{KeepsNodes, AddsAtMost, IsFullOnlyPast}
+use Rattle.bdd_store.specs.Subfunctions.{nodes}
+use Rattle.bdd_store.proofs.GrowthLemmas.{KeepsNodes-chain, added-more, added-next, added-within, full-more, full-next}
+use Rattle.dual_rail.specs.WorkingLists.{IsWide}
 use Rattle.care_sets.specs.Care.{columns, is_allowed, is_care_vector}
 use Rattle.refusals.specs.Refusals.{initial_refusal}
-use Rattle.verdict.specs.Sets.{Tells, AreColumns, has_state_inside}
+use Rattle.verdict.specs.Causes.{HasModelOver}
+use Rattle.verdict.specs.Costs.{assume_effort, invariant_effort}
+use Rattle.verdict.specs.Enough.{IsOfDecision, SaysStart, SaysInside}
+use Rattle.verdict.specs.Sets.{Tells, AreColumns, starts, has_state_inside, difference}
+use Rattle.verdict.proofs.CauseLemmas.{over-first, over-more}
 use Rattle.verdict.proofs.ColumnLemmas.{AreColumns-kept}
+use Rattle.verdict.proofs.DecisionLemmas.{wide-kept, starts-fit, outside-fits}
 use Rattle.verdict.proofs.PartLemmas.{Tells-kept, assume-reads}
 use Rattle.verdict.proofs.VerdictLemmas.{refused-empty, empty-is}
 use Rattle.verdict.proofs.start.begin.Goals as goal
-use Rattle.verdict.proofs.start.begin.Goals.{After-is_never}
+use Rattle.verdict.proofs.start.begin.Goals.{After-inside_on, After-starts_on, After-initial_refusal, After-care_on, After-is_never}
 
 pub starts_on-requires-clause-columns : goal.starts_on-requires-clause-columns
 starts_on-requires-clause-columns c = AreColumns-kept c.inside_on.ensures.keeps c.requires.columns
@@ -54,3 +63,110 @@ returns-clause-start g =
       initial = initial-none c;
       some = empty-is c.args.net.now c.args.care.now c.care_on.new.d c.in_ok-set.set false (set-vars c) (set-told c) (sym g.if-is_never.false ∙ c.is_never.ensures);
     }
+
+-- ---- what is added, call by call
+
+starts-added : (c : After-starts_on) (w : ℕ) → IsWide c.args.d.now.vars (IsOfDecision c.args.net.now c.args.care.now) w →
+    AddsAtMost c.args.d.now c.starts_on.new.d (w * (2 * invariant_effort c.args.care.now + length c.args.net.now.latches))
+starts-added c w wide =
+    let keeps = c.inside_on.ensures.keeps in
+    added-more c.args.d.now c.inside_on.new.d c.starts_on.new.d w (2 * invariant_effort c.args.care.now) (length c.args.net.now.latches) (2 * invariant_effort c.args.care.now + length c.args.net.now.latches) (omega arith)
+    (c.inside_on.ensures.added w wide) (c.starts_on.ensures.added w (starts-fit (keeps.vars ∙ c.requires.vars) (wide-kept keeps wide)))
+
+-- permitted states outside the invariant
+fits : (c : After-initial_refusal) (w : ℕ) → IsWide c.args.d.now.vars (IsOfDecision c.args.net.now c.args.care.now) w →
+    nodes c.starts_on.new.d.vars (difference c.starts_on.new.d c.in_ok-permitted.permitted c.in_ok-inside.inside) ≤ w
+fits c w wide =
+    let keeps : KeepsNodes c.args.d.now c.starts_on.new.d = KeepsNodes-chain c.inside_on.ensures.keeps c.starts_on.ensures.keeps in
+    outside-fits c.starts_on.new.d c.in_ok-permitted.permitted c.in_ok-inside.inside (keeps.vars ∙ c.requires.vars) c.in_ok-permitted.ensures.starts
+    (Tells-kept c.starts_on.ensures.keeps c.in_ok-inside.ensures.told) (wide-kept keeps wide)
+
+refusal-added : (c : After-initial_refusal) (w : ℕ) → IsWide c.args.d.now.vars (IsOfDecision c.args.net.now c.args.care.now) w →
+    AddsAtMost c.args.d.now c.starts_on.new.d (w * (2 * invariant_effort c.args.care.now + length c.args.net.now.latches)) →
+    AddsAtMost c.args.d.now c.initial_refusal.new.d (w * (2 * invariant_effort c.args.care.now + length c.args.net.now.latches + 1))
+refusal-added c w wide before =
+    added-next c.args.d.now c.starts_on.new.d c.initial_refusal.new.d w (2 * invariant_effort c.args.care.now + length c.args.net.now.latches)
+    before (c.initial_refusal.ensures.added w (fits c w wide))
+
+before-set : (c : After-care_on) → KeepsNodes c.args.d.now c.initial_refusal.new.d
+before-set c = KeepsNodes-chain (KeepsNodes-chain c.inside_on.ensures.keeps c.starts_on.ensures.keeps) c.initial_refusal.ensures.keeps
+
+inside-is : (c : After-care_on) → Tells c.initial_refusal.new.d c.in_ok-inside.inside (has_state_inside c.args.net.now c.args.care.now)
+inside-is c = Tells-kept (KeepsNodes-chain c.starts_on.ensures.keeps c.initial_refusal.ensures.keeps) c.in_ok-inside.ensures.told
+
+set-added : (c : After-care_on) (w : ℕ) → IsWide c.args.d.now.vars (IsOfDecision c.args.net.now c.args.care.now) w →
+    AddsAtMost c.args.d.now c.initial_refusal.new.d (w * (2 * invariant_effort c.args.care.now + length c.args.net.now.latches + 1)) →
+    AddsAtMost c.args.d.now c.care_on.new.d (w * (2 * invariant_effort c.args.care.now + length c.args.net.now.latches + 1 + (2 * assume_effort c.args.care.now + 1)))
+set-added c w wide before =
+    let keeps = before-set c in
+    added-more c.args.d.now c.initial_refusal.new.d c.care_on.new.d w (2 * invariant_effort c.args.care.now + length c.args.net.now.latches + 1) (2 * assume_effort c.args.care.now + 1)
+    (2 * invariant_effort c.args.care.now + length c.args.net.now.latches + 1 + (2 * assume_effort c.args.care.now + 1)) (omega arith) before
+    (c.care_on.ensures.added c.args.net.now w c.requires.care (keeps.vars ∙ c.requires.vars) (AreColumns-kept keeps c.requires.columns) (inside-is c) (wide-kept keeps wide))
+
+pub returns-in_err-inside-clause-full : goal.returns-in_err-inside-clause-full
+returns-in_err-inside-clause-full c w wide is_full =
+    let refused = ap {A = StoreFault} Err (sym (rw is_full at c.from_residual.ensures.1)) in
+    over-first (HasModelOver c.args.care.now) c.args.d.now c.inside_on.new.d w (2 * invariant_effort c.args.care.now) (2 * invariant_effort c.args.care.now + length c.args.net.now.latches + 1 + (2 * assume_effort c.args.care.now + 1))
+    (omega arith) (c.in_err-inside.ensures.full w wide refused)
+
+pub returns-in_err-permitted-clause-added : goal.returns-in_err-permitted-clause-added
+returns-in_err-permitted-clause-added g w wide =
+    let c : After-starts_on = (goal.at.returns-in_err-permitted-clause-added g).After-starts_on in
+    added-within c.args.d.now c.starts_on.new.d w (2 * invariant_effort c.args.care.now + length c.args.net.now.latches) (2 * invariant_effort c.args.care.now + length c.args.net.now.latches + 1 + (2 * assume_effort c.args.care.now + 1))
+    (omega arith) (starts-added c w wide)
+
+pub returns-in_err-permitted-clause-full : goal.returns-in_err-permitted-clause-full
+returns-in_err-permitted-clause-full g w wide is_full =
+    let c : After-starts_on = (goal.at.returns-in_err-permitted-clause-full g).After-starts_on in
+    let refused = ap {A = StoreFault} Err (sym (rw is_full at g.from_residual-in_err-permitted.ensures.1)) in
+    let keeps = c.inside_on.ensures.keeps in
+    inr (full-more c.args.d.now c.inside_on.new.d c.starts_on.new.d w (2 * invariant_effort c.args.care.now) (length c.args.net.now.latches) (2 * invariant_effort c.args.care.now + length c.args.net.now.latches + 1 + (2 * assume_effort c.args.care.now + 1))
+    (omega arith) (c.inside_on.ensures.added w wide) (g.in_err-permitted.ensures.full w (starts-fit (keeps.vars ∙ c.requires.vars) (wide-kept keeps wide)) refused))
+
+pub returns-in_err-refusal-clause-added : goal.returns-in_err-refusal-clause-added
+returns-in_err-refusal-clause-added g w wide =
+    let at = goal.at.returns-in_err-refusal-clause-added g in
+    let c : After-initial_refusal = at.After-initial_refusal in
+    added-within c.args.d.now c.initial_refusal.new.d w (2 * invariant_effort c.args.care.now + length c.args.net.now.latches + 1) (2 * invariant_effort c.args.care.now + length c.args.net.now.latches + 1 + (2 * assume_effort c.args.care.now + 1))
+    (omega arith) (refusal-added c w wide (starts-added at.After-starts_on w wide))
+
+pub returns-in_err-refusal-clause-full : goal.returns-in_err-refusal-clause-full
+returns-in_err-refusal-clause-full g w wide is_full =
+    let at = goal.at.returns-in_err-refusal-clause-full g in
+    let c : After-initial_refusal = at.After-initial_refusal in
+    let refused = ap {A = StoreFault} Err (sym (rw is_full at g.from_residual-in_err-refusal.ensures.1)) in
+    inr (full-next c.args.d.now c.starts_on.new.d c.initial_refusal.new.d w (2 * invariant_effort c.args.care.now + length c.args.net.now.latches) (2 * invariant_effort c.args.care.now + length c.args.net.now.latches + 1 + (2 * assume_effort c.args.care.now + 1))
+    (omega arith) (starts-added at.After-starts_on w wide) (g.in_err-refusal.ensures.full w (fits c w wide) refused))
+
+pub returns-in-Some-clause-added : goal.returns-in-Some-clause-added
+returns-in-Some-clause-added g w wide =
+    let at = goal.at.returns-in-Some-clause-added g in
+    let c : After-initial_refusal = at.After-initial_refusal in
+    added-within c.args.d.now c.initial_refusal.new.d w (2 * invariant_effort c.args.care.now + length c.args.net.now.latches + 1) (2 * invariant_effort c.args.care.now + length c.args.net.now.latches + 1 + (2 * assume_effort c.args.care.now + 1))
+    (omega arith) (refusal-added c w wide (starts-added at.After-starts_on w wide))
+
+pub returns-in_err-set-clause-added : goal.returns-in_err-set-clause-added
+returns-in_err-set-clause-added g w wide =
+    let at = goal.at.returns-in_err-set-clause-added g in
+    set-added at.After-care_on w wide (refusal-added at.After-initial_refusal w wide (starts-added at.After-starts_on w wide))
+
+pub returns-in_err-set-clause-full : goal.returns-in_err-set-clause-full
+returns-in_err-set-clause-full g w wide is_full =
+    let at = goal.at.returns-in_err-set-clause-full g in
+    let c : After-care_on = at.After-care_on in
+    let refused = ap {A = StoreFault} Err (sym (rw is_full at g.from_residual-in_err-set.ensures.1)) in
+    let keeps = before-set c in
+    over-more (HasModelOver c.args.care.now) c.args.d.now c.initial_refusal.new.d c.care_on.new.d w (2 * invariant_effort c.args.care.now + length c.args.net.now.latches + 1) (2 * assume_effort c.args.care.now + 1)
+    (2 * invariant_effort c.args.care.now + length c.args.net.now.latches + 1 + (2 * assume_effort c.args.care.now + 1)) keeps (omega arith)
+    (refusal-added at.After-initial_refusal w wide (starts-added at.After-starts_on w wide))
+    (g.in_err-set.ensures.full c.args.net.now w c.requires.care (keeps.vars ∙ c.requires.vars) (AreColumns-kept keeps c.requires.columns) (inside-is c) (wide-kept keeps wide) refused)
+
+pub returns-then-is_never-clause-added : goal.returns-then-is_never-clause-added
+returns-then-is_never-clause-added g w wide =
+    let at = goal.at.returns-then-is_never-clause-added g in
+    set-added at.After-care_on w wide (refusal-added at.After-initial_refusal w wide (starts-added at.After-starts_on w wide))
+
+pub returns-clause-added : goal.returns-clause-added
+returns-clause-added g w wide =
+    let at = goal.at.returns-clause-added g in
+    set-added at.After-care_on w wide (refusal-added at.After-initial_refusal w wide (starts-added at.After-starts_on w wide))
