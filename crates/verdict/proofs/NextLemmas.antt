@@ -53,7 +53,7 @@ restricted-proper s t set r made is one zero_ one_is zero_is = record {
   proper = λ v. ap₂ (λ x y. x && y) (one_is v) (zero_is v) ∙ restricted-apart (den s set v) (den s r.one v) (den s r.zero v) (is.proper v);
 }
 
--- the second rail is restricted where the first one is there
+-- a conjunction has as many nodes after more operations
 pub conjunction-kept : (s t : Arena) (m n : Node) → KeepsNodes s t → IsNodeOf s m → IsNodeOf s n → nodes t.vars (conjunction t m n) ≡ nodes s.vars (conjunction s m n)
 conjunction-kept s t m n keeps in_m in_n =
     ap (λ k. nodes k (conjunction t m n)) keeps.vars
@@ -61,7 +61,7 @@ conjunction-kept s t m n keeps in_m in_n =
 
 -- ---- latch by latch
 
--- the rails of what the first n latches load, at the vectors of the set
+-- the rails of what the first n latches load at the vectors of the set: elsewhere they are X
 pub record AreFirstNext (net : Parts) (s : Arena) (set : Node) (a : Arena) (n : ℕ) (list : List Rails) : Type 0 where
   pub width : length list ≡ n
   pub proper : All (AreRailsOf a) list
@@ -83,7 +83,7 @@ next-more-list net v n latch found =
     ∙ ap (λ (t : Trit). take n (next net v) ++ t ∷ []) (get_or-map (λ (l : Latch). wire (fix net v) l.from) net.latches n latch X inside
     ∙ ap (λ (l : Latch). wire (fix net v) l.from) (get_or_from_slice_get net.latches n latch latch found))
 
--- and of a vector
+-- and within the set
 within-more : (net : Parts) (s : Arena) (set : Node) (v : List Bool) (n : ℕ) (latch : Latch) → slice_get net.latches n ≡ Some latch →
     take (n + 1) (next_within net s set v) ≡ take n (next_within net s set v) ++ (if den s set v then wire (fix net (bits v)) latch.from else X) ∷ []
 within-more net s set v n latch found = by (den s set v)
