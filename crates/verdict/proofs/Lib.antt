@@ -3,6 +3,8 @@ mod CauseLemmas
 mod ColumnLemmas
 mod CountLemmas
 mod EffortLemmas
+mod EnoughLemmas
+mod LeavesLemmas
 mod ModelLemmas
 mod NextLemmas
 mod PartLemmas

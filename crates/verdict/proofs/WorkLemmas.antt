@@ -53,7 +53,7 @@ there_each : (o : Option CareModel) (P : CareModel → Type 0) → ((model : Car
 there_each None P each = tt
 there_each (Some model) P each = each model refl
 
-there_and : (o : Option CareModel) (model : CareModel) (P : CareModel → Type 0) → o ≡ Some model → P model → IsSomeAnd o P
+pub there_and : (o : Option CareModel) (model : CareModel) (P : CareModel → Type 0) → o ≡ Some model → P model → IsSomeAnd o P
 there_and o model P there is = subst (λ (p : Option CareModel). IsSomeAnd p P) (sym there) is
 
 module _ (net : Parts) (care : CareSet) (n : ℕ) (vars : n ≡ columns net) {w : ℕ} (wide : IsWide n (IsOfDecision net care) w) where

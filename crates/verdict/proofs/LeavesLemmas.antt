@@ -1,0 +1,172 @@
+-- The invariant on the next state, as a function of the decision.
+use Rattle.std.proofs.Common.{◌≡◌, inl, inr, ◌⊎◌, ℕ, ◌+◌, ◌-◌, ◌<◌, ◌≤◌, Bool, true, false, not, ◌&&◌, if◌then◌else◌, List, [], ◌∷◌, length, map, get_or, Option, Some, None, refl, sym, ap, ap₂, ◌∙◌, arith}
+use Rattle.std.specs.Prelude.{IfSome, replicate}
+use Rattle.std.specs.Option.{option_map_or}
+use Rattle.std.proofs.lemmas.Bool.{cases_lt}
+use Rattle.std.proofs.lemmas.List.{get_or-map, get_or_past, get_or_append_left, length-map}
+use Rattle.bdd_store.specs.declared.node.Node.{Node}
+use Rattle.bdd_store.specs.Arena.{Arena, den}
+use Rattle.bdd_store.specs.Subfunctions.{nodes}
+use Rattle.cyc_base.specs.declared.sig.Sig.{Sig}
+use Rattle.cyc_base.specs.declared.trit.Trit.{Trit}
+use Rattle.cyc_base.specs.declared.trit.Trit.TheVariants.{Zero, One, X}
+use Rattle.cyc_base.specs.Values.{bit, bits}
+use Rattle.dual_rail.specs.WorkingLists.{IsWide, is_bit}
+use Rattle.netlist.specs.declared.parts.Init.TheVariants as inits
+use Rattle.netlist.specs.declared.parts.Latch.{Latch}
+use Rattle.netlist.specs.declared.parts.Parts.{Parts}
+use Rattle.netlist.specs.Fixpoint.{wire, fix, fix_gates, next, outs}
+use Rattle.netlist.specs.Netlists.{IsNetlist}
+use Rattle.loops.specs.Sweeps.{value_in}
+use Rattle.loops.proofs.Reading.{get_or-fix, map_agree, wire_of_gate}
+use Rattle.fixpoint.specs.Working.{read_at_fix}
+use Rattle.care_sets.specs.declared.model.CareModel.{CareModel}
+use Rattle.care_sets.specs.Binding.{IsCareOf}
+use Rattle.care_sets.specs.Care.{CareSet, columns, is_one, inputs_at, holds_at, is_in_invariant, is_care_vector, IsCareVector, HasValues}
+use Rattle.care_sets.proofs.CareLemmas.{states_serve_invariant}
+use Rattle.refusals.specs.Refusals.{next_state, undetermined_refusal}
+use Rattle.refusals.proofs.LawLemmas.{all_determined}
+use Rattle.refusals.proofs.RefusalLemmas.{next_state_is, length-fix_gates, length-next_state}
+use Rattle.refusals.proofs.ShowingLemmas.{care_vector_decides}
+use Rattle.verdict.specs.Enough.{read_by, IsOfModel, IsOfDecision, SaysCare, IsOfNext}
+use Rattle.verdict.specs.Next.{next_within}
+use Rattle.verdict.specs.Sets.{Tells, difference}
+use Rattle.verdict.proofs.CareLemmas.{model_is}
+use Rattle.verdict.proofs.DecisionLemmas.{IsMade, made-listed, made-told, made-two, made-signal}
+use Rattle.verdict.proofs.ModelLemmas.{map-map}
+use Rattle.verdict.proofs.WorkLemmas.{there_and}
+
+-- what latches load at a vector of the set
+pub within-set : (net : Parts) (a : Arena) (set : Node) (v : List Bool) → den a set v ≡ true → next_within net a set v ≡ next net (bits v)
+within-set net a set v is = ap (λ (t : Bool). if t then next net (bits v) else replicate (length net.latches) X) is
+
+-- ---- the model's output on the next values
+
+module _ (net : Parts) (care : CareSet) where
+  -- where a value is 1, and where it is 0
+  abbrev IsKnown : (List Bool → Trit) → Type 0
+  IsKnown x = (b : Bool) → IsMade net care (λ v. is_bit b (x v))
+
+  known-same : (x y : List Bool → Trit) → ((v : List Bool) → y v ≡ x v) → IsKnown x → IsKnown y
+  known-same x y same known b = let m = known b in record { of = m.of; listed = m.listed; by = m.by; same = λ v long. ap (is_bit b) (same v) ∙ m.same v long }
+
+  unknown : (x : List Bool → Trit) → ((v : List Bool) → x v ≡ X) → IsKnown x
+  unknown x is b = record { of = is_care_vector net care; listed = SaysCare (λ v. refl); by = λ t. is_bit b X; same = λ v long. ap (is_bit b) (is v) }
+
+  module _ (valid : IsNetlist net) (model : CareModel) (there : care.invariant ≡ Some model) where
+    -- what the model reads
+    abbrev reads : List Bool → List Trit
+    reads v = read_by model (next net (bits v))
+
+    width : (v : List Bool) → length (reads v) ≡ length model.columns
+    width v = length-map model.columns (λ column. get_or (next net (bits v)) (column - model.first) X)
+
+    abbrev no_latch : Latch
+    no_latch = record { name = []; from = record { 0 = 0 }; init = inits.Zero; clocked = false }
+
+    next-known : (place : ℕ) → IsKnown (λ v. get_or (next net (bits v)) place X)
+    next-known place = elim (cases_lt place (length net.latches)) [
+      | inl less ↦ known-same (λ v. value_in (fix net (bits v)) (get_or net.latches place no_latch).from.0) (λ v. get_or (next net (bits v)) place X)
+          (λ v. get_or-map (λ (l : Latch). wire (fix net (bits v)) l.from) net.latches place no_latch X less)
+          (λ b. made-signal net care (get_or net.latches place no_latch).from.0 (valid.sources place no_latch less) b)
+      | inr past ↦ unknown (λ v. get_or (next net (bits v)) place X)
+          (λ v. let long = length-map net.latches (λ (l : Latch). wire (fix net (bits v)) l.from) in get_or_past (next net (bits v)) place X (omega (arith, past, long)))
+    ]
+
+    read-known : (i : ℕ) → IsKnown (λ v. value_in (reads v) i)
+    read-known i = elim (cases_lt i (length model.columns)) [
+      | inl less ↦ known-same (λ v. get_or (next net (bits v)) (get_or model.columns i 0 - model.first) X) (λ v. value_in (reads v) i)
+          (λ v. get_or-map (λ column. get_or (next net (bits v)) (column - model.first) X) model.columns i 0 X less)
+          (next-known (get_or model.columns i 0 - model.first))
+      | inr past ↦ unknown (λ v. value_in (reads v) i) (λ v. let long = width v in get_or_past (reads v) i X (omega (arith, past, long)))
+    ]
+
+    gate-known : (gate : ℕ) → IsKnown (λ v. value_in (fix_gates model.net (reads v)) gate)
+    gate-known gate = elim (cases_lt gate (length model.net.gates)) [
+      | inl less ↦ λ b. made-listed (IsOfNext (there_and care.invariant model (λ m. IsOfModel m (λ v. next net (bits v)) (λ v. is_bit b (value_in (fix_gates model.net (reads v)) gate))) there (record {
+          gate = gate;
+          within = less;
+          first = [];
+          short = omega arith;
+          bit = b;
+          read = λ v. read_at_fix model.net (reads v) gate;
+          reads = inr (record { plain = refl; is = λ v. refl });
+          same = λ v. ap (is_bit b) (get_or-fix model.net (reads v) gate less);
+        }))) (λ v long. refl)
+      | inr past ↦ unknown (λ v. value_in (fix_gates model.net (reads v)) gate)
+          (λ v. let long = length-fix_gates model.net (reads v) in get_or_past (fix_gates model.net (reads v)) gate X (omega (arith, past, long)))
+    ]
+
+    signal-known : (i : ℕ) → IsKnown (λ v. value_in (fix model.net (reads v)) i)
+    signal-known i = elim (cases_lt i (length model.columns)) [
+      | inl low ↦ known-same (λ v. value_in (reads v) i) (λ v. value_in (fix model.net (reads v)) i)
+          (λ v. let long = width v in get_or_append_left (reads v) (fix_gates model.net (reads v)) X i (omega (arith, low, long))) (read-known i)
+      | inr high ↦ known-same (λ v. value_in (fix_gates model.net (reads v)) (i - length model.columns)) (λ v. value_in (fix model.net (reads v)) i)
+          (λ v. wire_of_gate (reads v) (fix_gates model.net (reads v)) (length model.columns) i (width v) high) (gate-known (i - length model.columns))
+    ]
+
+    output-known : (outputs : List Sig) → IsKnown (λ v. get_or (map (wire (fix model.net (reads v))) outputs) 0 X)
+    output-known [] = unknown (λ v. X) (λ v. refl)
+    output-known (s ∷ rest) = signal-known s.0
+
+    -- at a vector of care this is whether the next state is in the invariant
+    one-bit : (t : Trit) → is_one t ≡ is_bit true t
+    one-bit One = refl
+    one-bit Zero = refl
+    one-bit X = refl
+
+    reads-bits : (q v : List Bool) → HasValues q model → next net (bits v) ≡ bits q → reads v ≡ bits (inputs_at model q)
+    reads-bits q v has same =
+        map_agree (λ column. get_or (next net (bits v)) (column - model.first) X) (λ column. bit (get_or q (column - model.first) false)) model.columns
+        (λ k d less.
+        ap (λ (ts : List Trit). get_or ts (get_or model.columns k d - model.first) X) same
+        ∙ get_or-map bit q (get_or model.columns k d - model.first) false X (has.each k d less))
+        ∙ sym (map-map {C = Trit} bit (λ column. get_or q (column - model.first) false) model.columns)
+
+    holds-is : (q v : List Bool) → HasValues q model → next net (bits v) ≡ bits q → holds_at model q ≡ is_bit true (get_or (outs model.net (reads v)) 0 X)
+    holds-is q v has same =
+        ap (λ (ts : List Trit). is_one (get_or (outs model.net ts) 0 X)) (sym (reads-bits q v has same))
+        ∙ one-bit (get_or (outs model.net (reads v)) 0 X)
+
+-- ---- care vectors whose next state is not in the invariant
+
+-- whether the next state is in the invariant, at vectors of care
+record IsNextInside (net : Parts) (care : CareSet) : Type 0 where
+  pub of : List Bool → Bool
+  pub made : IsMade net care of
+  pub same : (v : List Bool) → length v ≡ columns net → is_care_vector net care v ≡ true → is_in_invariant care (next_state net v) ≡ of v
+
+next-inside : (net : Parts) (care : CareSet) → IsNetlist net → IsCareOf net care → undetermined_refusal net care ≡ None → IsNextInside net care
+next-inside net care valid bound determined = by care.invariant refl
+  where
+    by : (o : Option CareModel) → care.invariant ≡ o → IsNextInside net care
+    by None none = record {
+      of = λ v. true;
+      made = record { of = is_care_vector net care; listed = SaysCare (λ v. refl); by = λ t. true; same = λ v long. refl };
+      same = λ v long counts. ap (λ p. option_map_or (λ model. holds_at model (next_state net v)) p true) none;
+    }
+    by (Some model) there = record {
+      of = λ v. is_bit true (get_or (outs model.net (read_by model (next net (bits v)))) 0 X);
+      made = output-known net care valid model there model.net.outputs true;
+      same = λ v long counts.
+          let q : List Bool = next_state net v in
+          let has : HasValues q model = model_is care.invariant model (HasValues q) there (states_serve_invariant net care q bound (length-next_state net v)) in
+          let state : next net (bits v) ≡ bits q = next_state_is net v valid long (all_determined net care v determined (care_vector_decides net care v long counts)) in
+          ap (λ p. option_map_or (λ m. holds_at m q) p true) there ∙ holds-is net care valid model there q v has state;
+    }
+
+pub leaves-fit : (net : Parts) (care : CareSet) (a : Arena) (set inside : Node) {w : ℕ} → IsNetlist net → IsCareOf net care → undetermined_refusal net care ≡ None → a.vars ≡ columns net → Tells a set (is_care_vector net care) →
+    ((q v : List Bool) → length v ≡ a.vars → den a set v ≡ true → next net (bits v) ≡ bits q → den a inside v ≡ is_in_invariant care q) → IsWide a.vars (IsOfDecision net care) w →
+    nodes a.vars (difference a set inside) ≤ w
+leaves-fit net care a set inside valid bound determined vars told inside_is wide =
+    let n = next-inside net care valid bound determined in
+    made-two vars wide (λ p q. p && not q) (den a set) n.of (difference a set inside) (made-told vars (SaysCare (λ v. refl)) told) n.made
+    (λ v long. by v long n (den a set v) refl)
+  where
+    by : (v : List Bool) → length v ≡ a.vars → (n : IsNextInside net care) → (b : Bool) → den a set v ≡ b → (b && not (den a inside v)) ≡ (b && not (n.of v))
+    by v long n false is = refl
+    by v long n true is =
+        let wide_v : length v ≡ columns net = long ∙ vars in
+        let counts : is_care_vector net care v ≡ true = sym (told.value v long) ∙ is in
+        let state : next net (bits v) ≡ bits (next_state net v) = next_state_is net v valid wide_v (all_determined net care v determined (care_vector_decides net care v wide_v counts)) in
+        ap not (inside_is (next_state net v) v long is state ∙ n.same v wide_v counts)
