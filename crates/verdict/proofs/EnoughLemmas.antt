@@ -5,6 +5,8 @@ use Rattle.std.specs.List.{sum_by}
 use Rattle.std.specs.Option.{option_map_or}
 use Rattle.std.proofs.lemmas.List.Sums.{sum_by-cons, get_or-le-sum_by}
 use Rattle.std.proofs.Math.Nat.{mul-le-mul_left, mul-le-mul_right}
+use Rattle.bdd_store.specs.Arena.{Arena}
+use Rattle.bdd_store.specs.Growth.{AddsAtMost, IsFullOnlyPast}
 use Rattle.dual_rail.specs.Local.{size}
 use Rattle.dual_rail.specs.WorkingLists.{IsWide}
 use Rattle.netlist.specs.declared.parts.Gate.{Gate}
@@ -61,9 +63,13 @@ costs-enough net care w wide =
     sum-enough w (columns net) (length net.latches) (length net.gates) (option_map_or (λ model. length model.net.gates) care.assume 0) (option_map_or (λ model. length model.net.gates) care.invariant 0)
     (effort net) (assume_effort care) (invariant_effort care) wide.variables (omega arith) (gates-effort net.gates)
 
--- the room that is used, and what would be too many
-pub past-below : (limit used before cost rest most : ℕ) → limit < used + cost → used ≤ before → before + cost + rest ≤ most → limit < most
-past-below limit used before cost rest most past within enough_is = omega (arith, past, within, enough_is)
+-- what a part leaves used, and that so many more nodes as it wants would be too many
+
+pub used-more : (s t : Arena) (before cost : ℕ) → length s.entries ≤ before → AddsAtMost s t cost → length t.entries ≤ before + cost
+used-more s t before cost within added = omega (arith, within, added)
+
+pub past-enough : (s t : Arena) (limit before cost rest most : ℕ) → t.limit ≡ limit → length s.entries ≤ before → IsFullOnlyPast s t cost → before + cost + rest ≤ most → limit < most
+past-enough s t limit before cost rest most is within full enough_is = omega (arith, is, within, full.past, enough_is)
 
 -- ---- covers over the limit
 

@@ -5,22 +5,10 @@ use Rattle.netlist.specs.declared.parts.Parts.{Parts}
 use Rattle.fixpoint.specs.Working.{HasLargeCover}
 use Rattle.care_sets.specs.Care.{CareSet}
 
--- all room is taken
-pub record IsFull (a : Arena) : Type 0 where
-  pub full : length a.entries ≡ a.limit
-
 -- a model of the care set has a cover of more nodes than the limit
 abbrev pub HasModelOver : CareSet → ℕ → Type 0
 HasModelOver care limit =
     IsSomeAnd care.assume (λ model. HasLargeCover model.net limit) ⊎ IsSomeAnd care.invariant (λ model. HasLargeCover model.net limit)
-
--- the diagrams are full, or a cover of the netlist is over their limit
-pub record IsLimitedBy (a : Arena) (net : Parts) : Type 0 where
-  pub cause : IsFull a ⊎ HasLargeCover net a.limit
-
--- or one of the care models
-pub record IsLimitedByCare (a : Arena) (care : CareSet) : Type 0 where
-  pub cause : IsFull a ⊎ HasModelOver care a.limit
 
 -- what a node limit rests on: there are as many nodes, or a cover of the netlist or of a care model has more
 pub record IsOutOfNodes (a : Arena) (net : Parts) (care : CareSet) (limit : ℕ) : Type 0 where

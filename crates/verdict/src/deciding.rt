@@ -1,12 +1,15 @@
 //! The decision.
 
-ghost use Rattle.std.specs.Prelude.{◌≡◌, ◌≤◌, ◌⊎◌, None, IfOk, IfErr};
-ghost use Rattle.bdd_store.specs.Growth.{KeepsNodes};
+ghost use Rattle.std.specs.Prelude.{◌≡◌, ◌≤◌, ◌+◌, ◌*◌, ◌⊎◌, ℕ, None, length, IfOk, IfErr};
+ghost use Rattle.bdd_store.specs.Growth.{KeepsNodes, AddsAtMost, IsFullOnlyPast};
+ghost use Rattle.dual_rail.specs.WorkingLists.{IsWide};
 ghost use Rattle.care_sets.specs.Binding.{IsCareOf};
 ghost use Rattle.care_sets.specs.Care.{columns, is_care_vector};
 ghost use Rattle.loops.specs.Blocks.{AreBlocksOf};
 ghost use Rattle.loops.specs.Cuts.{IsCutOf};
-ghost use Rattle.verdict.specs.Causes.{IsLimitedByCare, IsOutOfNodes};
+ghost use Rattle.verdict.specs.Causes.{HasModelOver, IsOutOfNodes};
+ghost use Rattle.verdict.specs.Costs.{invariant_effort};
+ghost use Rattle.verdict.specs.Enough.{IsOfDecision, IsBelowEnough};
 ghost use Rattle.verdict.specs.Sets.{AreFixed, Tells};
 ghost use Rattle.verdict.specs.Verdicts.{later_refusal, IsVerdict};
 
@@ -29,7 +32,6 @@ use std::alloc::Global;
 
 /// The refusal of an undetermined gate, or else of a state that leaves the invariant. `set` are the vectors of
 /// care, and the rails of all signals stand for the fixpoint.
-#[tactic(auto, using(crate::proofs::CauseLemmas::full_limits_care))]
 fn later(
     alloc: Global,
     d: &mut Diagrams,
@@ -44,7 +46,10 @@ fn later(
     requires set { Tells d.old set (is_care_vector net.now care.now) }
     ensures refusal { IfOk result (λ found. found ≡ later_refusal net.now care.now) }
     ensures keeps { KeepsNodes d.old d.new }
-    ensures full { result ≡ Err StoreFault.Full → IsLimitedByCare d.new care.now }
+    ensures added { (w : ℕ) → IsWide d.old.vars (IsOfDecision net.now care.now) w →
+        AddsAtMost d.old d.new (w * (2 * length net.now.gates + (2 * length net.now.latches + 2 * invariant_effort care.now + 1))) }
+    ensures full { (w : ℕ) → IsWide d.old.vars (IsOfDecision net.now care.now) w → result ≡ Err StoreFault.Full →
+        HasModelOver care.now d.old.limit ⊎ IsFullOnlyPast d.old d.new (w * (2 * length net.now.gates + (2 * length net.now.latches + 2 * invariant_effort care.now + 1))) }
 {
     if let Some(refusal) = undetermined(alloc, d, net, rails, set)? {
         return Ok(Some(refusal));
@@ -67,6 +72,7 @@ fn judge(
     requires vars { d.old.vars ≡ columns net.now }
     ensures verdict { IfOk result (IsVerdict net.now blocks.now cut.now care.now) }
     ensures full { result ≡ Err StoreFault.Full → IsOutOfNodes d.new net.now care.now d.old.limit }
+    ensures enough { result ≡ Err StoreFault.Full → length d.old.entries ≡ 0 → IsBelowEnough net.now care.now d.old.limit }
 {
     solutions();
     let rails = column_rails(alloc, d)?;
@@ -109,6 +115,7 @@ pub fn decide(
     ensures verdict { IfOk result (IsVerdict net.now blocks.now cut.now care.now) }
     ensures fault { IfErr result (λ fault. (fault ≡ DecideFault.Memory) ⊎ (fault ≡ DecideFault.NodeLimit limit)) }
     ensures cause { result ≡ Err (DecideFault.NodeLimit limit) → IsOutOfNodes d.new net.now care.now limit }
+    ensures enough { result ≡ Err (DecideFault.NodeLimit limit) → IsBelowEnough net.now care.now limit }
 {
     if d.start(net.inputs() + net.latches(), limit).is_err() {
         return Err(DecideFault::Memory);

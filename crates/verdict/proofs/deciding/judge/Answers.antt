@@ -1,27 +1,34 @@
-use Rattle.std.proofs.Common.{◌≡◌, ◌∙◌, ◌+◌, Err, None, List, length, sym, ap, subst}
+use Rattle.std.proofs.Common.{◌≡◌, ◌∙◌, ◌⊎◌, inl, inr, ◌+◌, ◌*◌, ◌<◌, ◌≤◌, ℕ, Bool, Err, None, List, length, sym, ap, subst, arith}
 use Rattle.bdd_store.specs.declared.fault.StoreFault.{StoreFault}
-use Rattle.bdd_store.specs.Subfunctions.{prefixes}
-use Rattle.dual_rail.proofs.WidthLemmas.{IsWide-some}
-use Rattle.fixpoint.specs.Working.{IsWorking}
-use Rattle.verdict.proofs.CauseLemmas.{past_is_full, out_full, out_care, out_solved}
+use Rattle.bdd_store.specs.Growth.{IsFullOnlyPast}
 use Rattle.bdd_store.specs.Soundness.{IsLawful}
+use Rattle.bdd_store.specs.Subfunctions.{prefixes}
 use Rattle.bdd_store.proofs.GrowthLemmas.{KeepsNodes-chain}
 use Rattle.dual_rail.specs.declared.rail.Rails.{Rails}
 use Rattle.dual_rail.specs.Rails.{values_of}
+use Rattle.dual_rail.specs.WorkingLists.{IsWide}
+use Rattle.dual_rail.proofs.WidthLemmas.{IsWide-some}
+use Rattle.netlist.specs.declared.parts.Parts.{Parts}
 use Rattle.loops.specs.Blocks.{home_of}
 use Rattle.loops.specs.Cuts.{loops_by}
 use Rattle.fixpoint.specs.Solved.{IsSolution}
 use Rattle.fixpoint.specs.Counts.{CountSweeps, IsComparedIn, count_at}
-use Rattle.care_sets.specs.Care.{columns, is_care_vector}
+use Rattle.fixpoint.specs.Working.{IsWorking, HasLargeCover}
+use Rattle.care_sets.specs.Care.{CareSet, columns, is_care_vector}
 use Rattle.refusals.specs.Refusals.{refusal}
+use Rattle.verdict.specs.Causes.{HasModelOver}
+use Rattle.verdict.specs.Enough.{IsOfDecision, enough}
 use Rattle.verdict.specs.Sets.{Tells, AreColumns, AreFixed}
 use Rattle.verdict.specs.Verdicts.{IsStart, IsCareStart}
+use Rattle.verdict.proofs.CauseLemmas.{out_past, out_care, out_solved}
 use Rattle.verdict.proofs.ColumnLemmas.{AreColumns-kept}
 use Rattle.verdict.proofs.CountLemmas.{count-on-care}
+use Rattle.verdict.proofs.EnoughLemmas.{cost_of_columns, cost_before, cost_of_fix, cost_after, cost_of_sweeps, costs-enough, used-more, past-enough, over-net, over-model}
 use Rattle.verdict.proofs.PartLemmas.{Tells-kept}
+use Rattle.verdict.proofs.SolutionLemmas.{loops-are, working-wide, compared-wide}
 use Rattle.verdict.proofs.VerdictLemmas.{refused-later, accepts-is, fixed-is}
 use Rattle.verdict.proofs.deciding.judge.Goals as goal
-use Rattle.verdict.proofs.deciding.judge.Goals.{In_default}
+use Rattle.verdict.proofs.deciding.judge.Goals.{After-column_rails, After-begin, After-solve, After-later, In_default}
 
 pub later-requires-clause-fixed : goal.later-requires-clause-fixed
 later-requires-clause-fixed c =
@@ -80,35 +87,181 @@ returns-clause-verdict g =
       };
     }
 
+-- ---- why it ends without a verdict
+
+-- some width, since each list has one
+
+abbrev some_width : ℕ → ℕ
+some_width vars = vars + 1 + length (prefixes vars)
+
+some-wide : (vars : ℕ) (P : (List Bool → Bool) → Type 0) → IsWide vars P (some_width vars)
+some-wide vars P = IsWide-some vars P
+
 pub returns-in_err-rails-clause-full : goal.returns-in_err-rails-clause-full
 returns-in_err-rails-clause-full c is_full =
     let refused = ap {A = StoreFault} Err (sym (rw is_full at c.from_residual.ensures.1)) in
-    out_full c.column_rails.new.d c.args.net.now c.args.care.now c.args.d.now.limit c.column_rails.ensures.keeps.limit (c.in_err-rails.ensures.full refused)
+    out_past c.args.d.now c.column_rails.new.d c.args.net.now c.args.care.now c.args.d.now.limit _ c.column_rails.ensures.keeps.limit (c.in_err-rails.ensures.full refused)
 
 pub returns-in_err-set-clause-full : goal.returns-in_err-set-clause-full
 returns-in_err-set-clause-full c is_full =
     let refused = ap {A = StoreFault} Err (sym (rw is_full at c.from_residual-in_err-set.ensures.1)) in
-    out_care c.begin.new.d c.args.net.now c.args.care.now c.args.d.now.limit (c.begin.ensures.keeps.limit ∙ c.column_rails.ensures.keeps.limit) (c.in_err-set.ensures.full refused)
+    let vars = c.column_rails.new.d.vars in
+    out_care c.column_rails.new.d c.begin.new.d c.args.net.now c.args.care.now c.args.d.now.limit _ c.column_rails.ensures.keeps.limit c.begin.ensures.keeps
+    (c.in_err-set.ensures.full (some_width vars) (some-wide vars (IsOfDecision c.args.net.now c.args.care.now)) refused)
 
 pub returns-in_err-solved-clause-full : goal.returns-in_err-solved-clause-full
 returns-in_err-solved-clause-full c is_full =
     let refused = ap {A = StoreFault} Err (sym (rw is_full at c.from_residual-in_err-solved.ensures.1)) in
     let vars = c.begin.new.d.vars in
-    let limit = c.begin.ensures.keeps.limit ∙ c.column_rails.ensures.keeps.limit in
-    out_solved c.begin.new.d c.solve.new.d c.args.net.now c.args.care.now c.args.d.now.limit _ limit (c.solve.ensures.keeps.limit ∙ limit)
-    (c.in_err-solved.ensures.full (vars + 1 + length (prefixes vars)) (IsWide-some vars (IsWorking c.args.net.now c.args.blocks.now c.args.cut.now (values_of c.begin.new.d c.deref-2.result.now))) refused)
+    out_solved c.begin.new.d c.solve.new.d c.args.net.now c.args.care.now c.args.d.now.limit _ (c.begin.ensures.keeps.limit ∙ c.column_rails.ensures.keeps.limit) c.solve.ensures.keeps
+    (c.in_err-solved.ensures.full (some_width vars) (some-wide vars (IsWorking c.args.net.now (loops_by c.args.blocks.now c.args.cut.now) (values_of c.begin.new.d c.deref-2.result.now))) refused)
 
 pub returns-in_err-refusal-clause-full : goal.returns-in_err-refusal-clause-full
 returns-in_err-refusal-clause-full c is_full =
     let refused = ap {A = StoreFault} Err (sym (rw is_full at c.from_residual-in_err-refusal.ensures.1)) in
-    out_care c.later.new.d c.args.net.now c.args.care.now c.args.d.now.limit
-    (c.later.ensures.keeps.limit ∙ c.solve.ensures.keeps.limit ∙ c.begin.ensures.keeps.limit ∙ c.column_rails.ensures.keeps.limit) (c.in_err-refusal.ensures.full refused)
+    let vars = c.solve.new.d.vars in
+    out_care c.solve.new.d c.later.new.d c.args.net.now c.args.care.now c.args.d.now.limit _
+    (c.solve.ensures.keeps.limit ∙ c.begin.ensures.keeps.limit ∙ c.column_rails.ensures.keeps.limit) c.later.ensures.keeps
+    (c.in_err-refusal.ensures.full (some_width vars) (some-wide vars (IsOfDecision c.args.net.now c.args.care.now)) refused)
 
 pub returns-in_err-counts-clause-full : goal.returns-in_err-counts-clause-full
 returns-in_err-counts-clause-full c is_full =
     let refused = ap {A = StoreFault} Err (sym (rw is_full at c.from_residual-in_err-counts.ensures.1)) in
     let vars = c.later.new.d.vars in
-    out_full c.sweeps.new.d c.args.net.now c.args.care.now c.args.d.now.limit
+    out_past c.later.new.d c.sweeps.new.d c.args.net.now c.args.care.now c.args.d.now.limit _
     (c.sweeps.ensures.keeps.limit ∙ c.later.ensures.keeps.limit ∙ c.solve.ensures.keeps.limit ∙ c.begin.ensures.keeps.limit ∙ c.column_rails.ensures.keeps.limit)
-    (past_is_full c.later.new.d c.sweeps.new.d _
-    (c.in_err-counts.ensures.full (vars + 1 + length (prefixes vars)) (IsWide-some vars (IsComparedIn c.later.new.d c.in-Care.set c.in_ok-solved.solved.loops)) refused))
+    (c.in_err-counts.ensures.full (some_width vars) (some-wide vars (IsComparedIn c.later.new.d c.in-Care.set c.in_ok-solved.solved.loops)) refused)
+
+-- ---- what is used after each part, where none was before
+
+abbrev Wide : Parts → CareSet → ℕ → Type 0
+Wide net care w = IsWide (columns net) (IsOfDecision net care) w
+
+wide-at : (net : Parts) (care : CareSet) (n w : ℕ) → n ≡ columns net → Wide net care w → IsWide n (IsOfDecision net care) w
+wide-at net care n w vars wide = subst (λ k. IsWide k (IsOfDecision net care) w) (sym vars) wide
+
+used-by-columns : (c : After-column_rails) → length c.args.d.now.entries ≡ 0 → length c.column_rails.new.d.entries ≤ cost_of_columns c.args.net.now
+used-by-columns c none = omega (arith, c.column_rails.ensures.added, none, c.requires.vars)
+
+begin-vars : (c : After-begin) → c.column_rails.new.d.vars ≡ columns c.args.net.now
+begin-vars c = c.column_rails.ensures.keeps.vars ∙ c.requires.vars
+
+used-before : (c : After-begin) (w : ℕ) → Wide c.args.net.now c.args.care.now w → length c.column_rails.new.d.entries ≤ cost_of_columns c.args.net.now →
+    length c.begin.new.d.entries ≤ cost_of_columns c.args.net.now + cost_before c.args.net.now c.args.care.now w
+used-before c w wide before =
+    used-more c.column_rails.new.d c.begin.new.d (cost_of_columns c.args.net.now) (cost_before c.args.net.now c.args.care.now w) before
+    (c.begin.ensures.added w (wide-at c.args.net.now c.args.care.now c.column_rails.new.d.vars w (begin-vars c) wide))
+
+-- the working list of the fixpoint
+solve-wide : (c : After-solve) (w : ℕ) → Wide c.args.net.now c.args.care.now w →
+    IsWide c.begin.new.d.vars (IsWorking c.args.net.now (loops_by c.args.blocks.now c.args.cut.now) (values_of c.begin.new.d c.deref-2.result.now)) w
+solve-wide c w wide =
+    let net = c.args.net.now in
+    let d = c.begin.new.d in
+    let vars : d.vars ≡ columns net = c.begin.ensures.keeps.vars ∙ c.column_rails.ensures.keeps.vars ∙ c.requires.vars in
+    let are : AreColumns d c.deref-2.result.now = subst (AreColumns d) (sym c.deref-2.ensures.value) (AreColumns-kept c.begin.ensures.keeps c.in_ok-rails.ensures.rails) in
+    working-wide net c.args.care.now d c.deref-2.result.now vars are (loops_by c.args.blocks.now c.args.cut.now)
+    (loops-are net c.args.blocks.now c.args.cut.now c.requires.blocks c.requires.cut) (wide-at net c.args.care.now d.vars w vars wide)
+
+used-by-fix : (c : After-solve) (w : ℕ) → Wide c.args.net.now c.args.care.now w →
+    length c.begin.new.d.entries ≤ cost_of_columns c.args.net.now + cost_before c.args.net.now c.args.care.now w →
+    length c.solve.new.d.entries ≤ cost_of_columns c.args.net.now + cost_before c.args.net.now c.args.care.now w + cost_of_fix c.args.net.now w
+used-by-fix c w wide before =
+    used-more c.begin.new.d c.solve.new.d (cost_of_columns c.args.net.now + cost_before c.args.net.now c.args.care.now w) (cost_of_fix c.args.net.now w) before
+    (c.solve.ensures.added w (solve-wide c w wide))
+
+after-wide : (c : After-later) (w : ℕ) → Wide c.args.net.now c.args.care.now w → IsWide c.solve.new.d.vars (IsOfDecision c.args.net.now c.args.care.now) w
+after-wide c w wide =
+    wide-at c.args.net.now c.args.care.now c.solve.new.d.vars w (c.solve.ensures.keeps.vars ∙ c.begin.ensures.keeps.vars ∙ c.column_rails.ensures.keeps.vars ∙ c.requires.vars) wide
+
+used-after : (c : After-later) (w : ℕ) → Wide c.args.net.now c.args.care.now w →
+    length c.solve.new.d.entries ≤ cost_of_columns c.args.net.now + cost_before c.args.net.now c.args.care.now w + cost_of_fix c.args.net.now w →
+    length c.later.new.d.entries ≤ cost_of_columns c.args.net.now + cost_before c.args.net.now c.args.care.now w + cost_of_fix c.args.net.now w + cost_after c.args.net.now c.args.care.now w
+used-after c w wide before =
+    used-more c.solve.new.d c.later.new.d (cost_of_columns c.args.net.now + cost_before c.args.net.now c.args.care.now w + cost_of_fix c.args.net.now w) (cost_after c.args.net.now c.args.care.now w) before
+    (c.later.ensures.added w (after-wide c w wide))
+
+-- what the comparison of sweeps works with
+sweeps-wide : (c : In_default) (w : ℕ) → Wide c.args.net.now c.args.care.now w → IsWide c.later.new.d.vars (IsComparedIn c.later.new.d c.in-Care.set c.in_ok-solved.solved.loops) w
+sweeps-wide c w wide =
+    compared-wide c.args.net.now c.args.care.now c.later.new.d c.deref-2.result.now (later-vars c) (AreColumns-kept c.later.ensures.keeps (given-columns c))
+    c.args.blocks.now c.args.cut.now c.requires.blocks c.requires.cut c.in-Care.set c.in_ok-solved.solved (later-told c) (later-solution c).steps
+    (wide-at c.args.net.now c.args.care.now c.later.new.d.vars w (later-vars c) wide)
+
+-- ---- at each part, so many more nodes would have been more than is enough
+
+pub returns-in_err-rails-clause-enough : goal.returns-in_err-rails-clause-enough
+returns-in_err-rails-clause-enough c is_full none = record {
+  below = λ w wide.
+      let refused = ap {A = StoreFault} Err (sym (rw is_full at c.from_residual.ensures.1)) in
+      let sum = costs-enough c.args.net.now c.args.care.now w wide in
+      let past = (c.in_err-rails.ensures.full refused).past in
+      omega (arith, past, none, sum, c.requires.vars, c.column_rails.ensures.keeps.limit);
+}
+
+pub returns-in_err-set-clause-enough : goal.returns-in_err-set-clause-enough
+returns-in_err-set-clause-enough g is_full none = record {
+  below = λ w wide.
+      let at = goal.at.returns-in_err-set-clause-enough g in
+      let c : After-begin = at.After-begin in
+      let net = c.args.net.now in
+      let care = c.args.care.now in
+      let refused = ap {A = StoreFault} Err (sym (rw is_full at g.from_residual-in_err-set.ensures.1)) in
+      let sum = costs-enough net care w wide in
+      elim (g.in_err-set.ensures.full w (wide-at net care c.column_rails.new.d.vars w (begin-vars c) wide) refused) [
+        | inl over ↦ over-model net care w c.args.d.now.limit wide (subst (HasModelOver care) c.column_rails.ensures.keeps.limit over)
+        | inr full ↦ past-enough c.column_rails.new.d c.begin.new.d c.args.d.now.limit (cost_of_columns net) (cost_before net care w) (cost_of_fix net w + cost_after net care w + cost_of_sweeps net w) (enough net care w)
+            (c.begin.ensures.keeps.limit ∙ c.column_rails.ensures.keeps.limit) (used-by-columns at.After-column_rails none) full (omega (arith, sum))
+      ];
+}
+
+pub returns-in_err-solved-clause-enough : goal.returns-in_err-solved-clause-enough
+returns-in_err-solved-clause-enough g is_full none = record {
+  below = λ w wide.
+      let at = goal.at.returns-in_err-solved-clause-enough g in
+      let c : After-solve = at.After-solve in
+      let net = c.args.net.now in
+      let care = c.args.care.now in
+      let limit = c.begin.ensures.keeps.limit ∙ c.column_rails.ensures.keeps.limit in
+      let refused = ap {A = StoreFault} Err (sym (rw is_full at g.from_residual-in_err-solved.ensures.1)) in
+      let sum = costs-enough net care w wide in
+      elim (g.in_err-solved.ensures.full w (solve-wide c w wide) refused) [
+        | inl over ↦ over-net net care w c.args.d.now.limit wide (subst (HasLargeCover net) limit over)
+        | inr full ↦ past-enough c.begin.new.d c.solve.new.d c.args.d.now.limit (cost_of_columns net + cost_before net care w) (cost_of_fix net w) (cost_after net care w + cost_of_sweeps net w) (enough net care w)
+            (c.solve.ensures.keeps.limit ∙ limit) (used-before at.After-begin w wide (used-by-columns at.After-column_rails none)) full (omega (arith, sum))
+      ];
+}
+
+pub returns-in_err-refusal-clause-enough : goal.returns-in_err-refusal-clause-enough
+returns-in_err-refusal-clause-enough g is_full none = record {
+  below = λ w wide.
+      let at = goal.at.returns-in_err-refusal-clause-enough g in
+      let c : After-later = at.After-later in
+      let net = c.args.net.now in
+      let care = c.args.care.now in
+      let limit = c.solve.ensures.keeps.limit ∙ c.begin.ensures.keeps.limit ∙ c.column_rails.ensures.keeps.limit in
+      let refused = ap {A = StoreFault} Err (sym (rw is_full at g.from_residual-in_err-refusal.ensures.1)) in
+      let sum = costs-enough net care w wide in
+      elim (g.in_err-refusal.ensures.full w (after-wide c w wide) refused) [
+        | inl over ↦ over-model net care w c.args.d.now.limit wide (subst (HasModelOver care) limit over)
+        | inr full ↦ past-enough c.solve.new.d c.later.new.d c.args.d.now.limit (cost_of_columns net + cost_before net care w + cost_of_fix net w) (cost_after net care w) (cost_of_sweeps net w) (enough net care w)
+            (c.later.ensures.keeps.limit ∙ limit) (used-by-fix at.After-solve w wide (used-before at.After-begin w wide (used-by-columns at.After-column_rails none))) full (omega (arith, sum))
+      ];
+}
+
+pub returns-in_err-counts-clause-enough : goal.returns-in_err-counts-clause-enough
+returns-in_err-counts-clause-enough g is_full none = record {
+  below = λ w wide.
+      let at = goal.at.returns-in_err-counts-clause-enough g in
+      let c : In_default = at.In_default in
+      let net = c.args.net.now in
+      let care = c.args.care.now in
+      let refused = ap {A = StoreFault} Err (sym (rw is_full at g.from_residual-in_err-counts.ensures.1)) in
+      let sum = costs-enough net care w wide in
+      let full : IsFullOnlyPast c.later.new.d g.sweeps.new.d (cost_of_sweeps net w) =
+      subst (λ n. IsFullOnlyPast c.later.new.d g.sweeps.new.d (6 * w * n * (n + 2))) c.requires.blocks.homes (g.in_err-counts.ensures.full w (sweeps-wide c w wide) refused) in
+      past-enough c.later.new.d g.sweeps.new.d c.args.d.now.limit
+      (cost_of_columns net + cost_before net care w + cost_of_fix net w + cost_after net care w) (cost_of_sweeps net w) 0 (enough net care w)
+      (g.sweeps.ensures.keeps.limit ∙ c.later.ensures.keeps.limit ∙ c.solve.ensures.keeps.limit ∙ c.begin.ensures.keeps.limit ∙ c.column_rails.ensures.keeps.limit)
+      (used-after at.After-later w wide (used-by-fix at.After-solve w wide (used-before at.After-begin w wide (used-by-columns at.After-column_rails none)))) full (omega (arith, sum));
+}
