@@ -95,8 +95,12 @@ fn judge(
 /// The answer is `Accepted` exactly where each permitted initial state is in the invariant, a care vector exists,
 /// and on every care vector each gate is determined and the next state is in the invariant; then with the number
 /// of sweeps that each loop needs on care. Else it is the refusal of the first of these parts that fails, with
-/// its least state or vector. `NodeLimit` carries the limit, and comes only where the diagrams hold as many nodes
-/// as the call ends, or a cover of the netlist or of a care model has more. Nothing more is said of the diagrams after the call.
+/// its least state or vector.
+///
+/// `NodeLimit` carries the limit, and comes only where the diagrams hold as many nodes as the call ends, or a cover
+/// of the netlist or of a care model has more. It never comes at a limit of at least `16 * w * (G + 2) * (E + V + 4)`
+/// (`enough`), for each w that is wide for the functions of the decision: G are the gates of the netlist and of both
+/// care models, E is their effort, and V is the number of columns. Nothing more is said of the diagrams after the call.
 ///
 /// The condition is that blocks, cut and care are the netlist's, and that the limit is at most 50,000,000.
 pub fn decide(

@@ -9,6 +9,7 @@ mod care;
 mod columns;
 mod deciding;
 mod fault;
+pub mod laws;
 mod models;
 mod next;
 mod parts;
