@@ -1,5 +1,5 @@
 -- Functions that are made of those of a decision.
-use Rattle.std.proofs.Common.{◌≡◌, inl, inr, ℕ, ◌+◌, ◌<◌, ◌≤◌, Bool, true, false, not, ◌&&◌, List, length, get_or, refl, sym, ap, ap₂, subst, ◌∙◌, arith}
+use Rattle.std.proofs.Common.{◌≡◌, inl, inr, ℕ, ◌<◌, ◌≤◌, Bool, true, false, not, ◌&&◌, List, length, refl, sym, ap, ap₂, subst, ◌∙◌, arith}
 use Rattle.std.proofs.lemmas.List.{get_or-map}
 use Rattle.bdd_store.specs.declared.node.Node.{Node}
 use Rattle.bdd_store.specs.Arena.{Arena, den}
@@ -11,7 +11,7 @@ use Rattle.cyc_base.specs.declared.trit.Trit.{Trit}
 use Rattle.cyc_base.specs.declared.trit.Trit.TheVariants.{X}
 use Rattle.cyc_base.specs.Values.{bit, bits}
 use Rattle.dual_rail.specs.declared.rail.Rails.{Rails}
-use Rattle.dual_rail.specs.Rails.{AreRailsOf, trit_of, value_of, values_of}
+use Rattle.dual_rail.specs.Rails.{AreRailsOf, value_of}
 use Rattle.dual_rail.specs.WorkingLists.{IsWide, is_bit}
 use Rattle.netlist.specs.declared.parts.Parts.{Parts}
 use Rattle.netlist.specs.Fixpoint.{fix}
@@ -19,7 +19,7 @@ use Rattle.netlist.specs.Netlists.{count}
 use Rattle.loops.specs.Found.{loops_of}
 use Rattle.loops.specs.Sweeps.{value_in}
 use Rattle.loops.proofs.Existence.{loops_exist}
-use Rattle.fixpoint.specs.Working.{IsGatePart, IsWorking}
+use Rattle.fixpoint.specs.Working.{IsWorking}
 use Rattle.fixpoint.proofs.CutLemmas.{one-of, zero-of}
 use Rattle.fixpoint.proofs.WorkLemmas.{fix_is_working, gate_parts_agree}
 use Rattle.care_sets.specs.Care.{CareSet, columns, is_care_vector}
@@ -105,16 +105,16 @@ module _ (net : Parts) (care : CareSet) where
       fix_is_working net (loops_of net) (loops_exist net) fitted (λ v. length-bits (fit (columns net) v) ∙ length-fit (columns net) v) signal within b in
       elim work [
         | inl given ↦ record {
-            of = bit_at given.signal;
-            listed = IsColumn given.signal given.within (λ v. refl);
-            by = λ x. is_bit given.bit (bit x);
-            same = λ v long.
-                let low = given.within in
-                ap (λ (u : List Trit). is_bit b (value_in (fix net u) signal)) (at-width v long)
-                ∙ given.same v
-                ∙ ap (λ (u : List Trit). is_bit given.bit (value_in u given.signal)) (sym (at-width v long))
-                ∙ ap (is_bit given.bit) (get_or-map bit v given.signal false X (omega (arith, low, long)));
-          }
+          of = bit_at given.signal;
+          listed = IsColumn given.signal given.within (λ v. refl);
+          by = λ x. is_bit given.bit (bit x);
+          same = λ v long.
+              let low = given.within in
+              ap (λ (u : List Trit). is_bit b (value_in (fix net u) signal)) (at-width v long)
+              ∙ given.same v
+              ∙ ap (λ (u : List Trit). is_bit given.bit (value_in u given.signal)) (sym (at-width v long))
+              ∙ ap (is_bit given.bit) (get_or-map bit v given.signal false X (omega (arith, low, long)));
+        }
         | inr part ↦
             let h = gate_parts_agree net (loops_of net) (columns net) fitted bits (λ v long. sym (at-width v long)) (λ v. is_bit b (value_in (fix net (fitted v)) signal)) part in
             made-listed (IsOfNetlist h.is) (λ v long. ap (λ (u : List Trit). is_bit b (value_in (fix net u) signal)) (at-width v long) ∙ h.alike v long)

@@ -1,6 +1,6 @@
 -- The invariant on the next state, as a function of the decision.
-use Rattle.std.proofs.Common.{◌≡◌, inl, inr, ◌⊎◌, ℕ, ◌+◌, ◌-◌, ◌<◌, ◌≤◌, Bool, true, false, not, ◌&&◌, if◌then◌else◌, List, [], ◌∷◌, length, map, get_or, Option, Some, None, refl, sym, ap, ap₂, ◌∙◌, arith}
-use Rattle.std.specs.Prelude.{IfSome, replicate}
+use Rattle.std.proofs.Common.{◌≡◌, inl, inr, ℕ, ◌-◌, ◌≤◌, Bool, true, false, not, ◌&&◌, if◌then◌else◌, List, [], ◌∷◌, length, map, get_or, Option, Some, None, refl, sym, ap, ◌∙◌, arith}
+use Rattle.std.specs.Prelude.{replicate}
 use Rattle.std.specs.Option.{option_map_or}
 use Rattle.std.proofs.lemmas.Bool.{cases_lt}
 use Rattle.std.proofs.lemmas.List.{get_or-map, get_or_past, get_or_append_left, length-map}
@@ -22,7 +22,7 @@ use Rattle.loops.proofs.Reading.{get_or-fix, map_agree, wire_of_gate}
 use Rattle.fixpoint.specs.Working.{read_at_fix}
 use Rattle.care_sets.specs.declared.model.CareModel.{CareModel}
 use Rattle.care_sets.specs.Binding.{IsCareOf}
-use Rattle.care_sets.specs.Care.{CareSet, columns, is_one, inputs_at, holds_at, is_in_invariant, is_care_vector, IsCareVector, HasValues}
+use Rattle.care_sets.specs.Care.{CareSet, columns, is_one, inputs_at, holds_at, is_in_invariant, is_care_vector, HasValues}
 use Rattle.care_sets.proofs.CareLemmas.{states_serve_invariant}
 use Rattle.refusals.specs.Refusals.{next_state, undetermined_refusal}
 use Rattle.refusals.proofs.LawLemmas.{all_determined}
@@ -84,15 +84,15 @@ module _ (net : Parts) (care : CareSet) where
     gate-known : (gate : ℕ) → IsKnown (λ v. value_in (fix_gates model.net (reads v)) gate)
     gate-known gate = elim (cases_lt gate (length model.net.gates)) [
       | inl less ↦ λ b. made-listed (IsOfNext (there_and care.invariant model (λ m. IsOfModel m (λ v. next net (bits v)) (λ v. is_bit b (value_in (fix_gates model.net (reads v)) gate))) there (record {
-          gate = gate;
-          within = less;
-          first = [];
-          short = omega arith;
-          bit = b;
-          read = λ v. read_at_fix model.net (reads v) gate;
-          reads = inr (record { plain = refl; is = λ v. refl });
-          same = λ v. ap (is_bit b) (get_or-fix model.net (reads v) gate less);
-        }))) (λ v long. refl)
+        gate = gate;
+        within = less;
+        first = [];
+        short = omega arith;
+        bit = b;
+        read = λ v. read_at_fix model.net (reads v) gate;
+        reads = inr (record { plain = refl; is = λ v. refl });
+        same = λ v. ap (is_bit b) (get_or-fix model.net (reads v) gate less);
+      }))) (λ v long. refl)
       | inr past ↦ unknown (λ v. value_in (fix_gates model.net (reads v)) gate)
           (λ v. let long = length-fix_gates model.net (reads v) in get_or_past (fix_gates model.net (reads v)) gate X (omega (arith, past, long)))
     ]

@@ -1,9 +1,8 @@
 -- A function has at least as many nodes as it has with some first bits fixed.
-use Rattle.std.proofs.Common.{◌≡◌, ℕ, ◌≤◌, Bool, true, false, not, cond, ◌||◌, List, [], ◌∷◌, length, refl, ap, ◌∙◌}
+use Rattle.std.proofs.Common.{◌≡◌, ℕ, ◌≤◌, Bool, true, false, cond, ◌||◌, List, [], ◌∷◌, refl, ap, ◌∙◌}
 use Rattle.std.proofs.lemmas.Map.Made.{is_member-Decides}
-
 use Rattle.std.specs.Set.{is_member, unique_keys}
-use Rattle.bdd_store.specs.Subfunctions.{fixed, table, is_constant, nodes, IsPart}
+use Rattle.bdd_store.specs.Subfunctions.{fixed, table, nodes, IsPart}
 use Rattle.bdd_store.proofs.PigeonholeLemmas.{table_eq, table_decides, counted, counted-part}
 use Rattle.bdd_store.proofs.SubfunctionLemmas.{IsPart-chain}
 use Rattle.dual_rail.proofs.SizeLemmas.{nodes-at_most}

@@ -1,5 +1,5 @@
 -- The functions that the fixpoint and the comparison of its sweeps work with are made of those of the decision.
-use Rattle.std.proofs.Common.{◌≡◌, inl, inr, ℕ, zero, suc, ◌+◌, ◌<◌, ◌≤◌, Bool, true, false, ◌&&◌, List, [], length, filter, map, get_or, refl, sym, ap, ap₂, ◌∙◌, subst, arith, Contains}
+use Rattle.std.proofs.Common.{◌≡◌, inl, inr, ℕ, zero, suc, ◌+◌, ◌<◌, ◌≤◌, Bool, true, false, ◌&&◌, List, [], length, filter, get_or, refl, sym, ap, ap₂, ◌∙◌, subst, arith, Contains}
 use Rattle.std.proofs.Math.Path.{fun_ext}
 use Rattle.std.proofs.lemmas.Bool.{and_parts}
 use Rattle.std.proofs.lemmas.List.{get_or-map, get_or_default, get_or-replicate, length-map}
@@ -29,9 +29,9 @@ use Rattle.loops.proofs.Told.{blocks_tell_loops}
 use Rattle.loops.proofs.Walks.{loops_are_unique, same_truth}
 use Rattle.fixpoint.specs.declared.solved.LoopSteps.{LoopSteps}
 use Rattle.fixpoint.specs.declared.solved.Solved.{Solved}
-use Rattle.fixpoint.specs.Solved.{AreStepsOf, IsSolution, step_at}
+use Rattle.fixpoint.specs.Solved.{AreStepsOf, step_at}
 use Rattle.fixpoint.specs.Counts.{IsStepNode, IsComparedIn}
-use Rattle.fixpoint.specs.Working.{IsGatePart, IsWorking}
+use Rattle.fixpoint.specs.Working.{IsWorking}
 use Rattle.fixpoint.proofs.CutLemmas.{one-of, zero-of}
 use Rattle.fixpoint.proofs.WorkLemmas.{sweeps_are_working, gate_parts_agree}
 use Rattle.care_sets.specs.Care.{CareSet, columns, is_care_vector}
@@ -79,7 +79,7 @@ module _ (net : Parts) (care : CareSet) (a : Arena) (given : List Rails) (vars :
       let back = same-sym net loops are gate n there.0 in (
         same-trans net loops are n gate n back there.0,
         ap (λ (same : ℕ → Bool). filter (λ m. same m && loops.cut m) (range_with_len 0 (length net.gates)))
-        (fun_ext (λ m. same_truth (loops.same n m) (loops.same gate m) (λ e. same-trans net loops are gate n m there.0 e) (λ e. same-trans net loops are n gate m back e))),
+            (fun_ext (λ m. same_truth (loops.same n m) (loops.same gate m) (λ e. same-trans net loops are gate n m there.0 e) (λ e. same-trans net loops are n gate m back e))),
       )
 
   -- a cut wire after so many sweeps

@@ -1,4 +1,4 @@
-use Rattle.std.proofs.Common.{◌∙◌, ◌⊎◌, inr, ◌+◌, ◌*◌, ◌≤◌, ℕ, Err, length, sym, ap, arith}
+use Rattle.std.proofs.Common.{◌∙◌, inr, ◌+◌, ◌*◌, ℕ, Err, length, sym, ap, arith}
 use Rattle.std.specs.Option.{option_or}
 use Rattle.bdd_store.specs.declared.fault.StoreFault.{StoreFault}
 use Rattle.bdd_store.specs.Growth.{AddsAtMost}

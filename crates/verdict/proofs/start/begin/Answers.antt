@@ -1,7 +1,6 @@
-use Rattle.std.proofs.Common.{◌≡◌, ◌∙◌, ◌⊎◌, inr, ◌&&◌, ◌+◌, ◌*◌, ◌≤◌, Err, ℕ, length, not, true, false, None, refl, sym, ap, arith}
+use Rattle.std.proofs.Common.{◌≡◌, ◌∙◌, inr, ◌&&◌, ◌+◌, ◌*◌, ◌≤◌, Err, ℕ, length, true, false, None, sym, ap, arith}
 use Rattle.bdd_store.specs.declared.fault.StoreFault.{StoreFault}
-use Rattle.bdd_store.specs.Arena.{den}
-use Rattle.bdd_store.specs.Growth.{KeepsNodes, AddsAtMost, IsFullOnlyPast}
+use Rattle.bdd_store.specs.Growth.{KeepsNodes, AddsAtMost}
 use Rattle.bdd_store.specs.Subfunctions.{nodes}
 use Rattle.bdd_store.proofs.GrowthLemmas.{KeepsNodes-chain, added-more, added-next, added-within, full-more, full-next}
 use Rattle.dual_rail.specs.WorkingLists.{IsWide}
@@ -9,8 +8,8 @@ use Rattle.care_sets.specs.Care.{columns, is_allowed, is_care_vector}
 use Rattle.refusals.specs.Refusals.{initial_refusal}
 use Rattle.verdict.specs.Causes.{HasModelOver}
 use Rattle.verdict.specs.Costs.{assume_effort, invariant_effort}
-use Rattle.verdict.specs.Enough.{IsOfDecision, SaysStart, SaysInside}
-use Rattle.verdict.specs.Sets.{Tells, AreColumns, starts, has_state_inside, difference}
+use Rattle.verdict.specs.Enough.{IsOfDecision}
+use Rattle.verdict.specs.Sets.{Tells, AreColumns, has_state_inside, difference}
 use Rattle.verdict.proofs.CauseLemmas.{over-first, over-more}
 use Rattle.verdict.proofs.ColumnLemmas.{AreColumns-kept}
 use Rattle.verdict.proofs.DecisionLemmas.{wide-kept, starts-fit, outside-fits}

@@ -1,4 +1,4 @@
-use Rattle.std.proofs.Common.{◌≡◌, ◌∙◌, ◌⊎◌, inr, refl, ◌&&◌, ◌+◌, ◌*◌, ◌≤◌, Err, ℕ, sym, ap, ap₂, arith}
+use Rattle.std.proofs.Common.{◌≡◌, ◌∙◌, inr, refl, ◌&&◌, ◌+◌, ◌*◌, ◌≤◌, Err, ℕ, sym, ap, ap₂, arith}
 use Rattle.std.specs.Prelude.{IfSome}
 use Rattle.bdd_store.specs.declared.fault.StoreFault.{StoreFault}
 use Rattle.bdd_store.specs.Growth.{AddsAtMost}

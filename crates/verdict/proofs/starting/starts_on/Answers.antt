@@ -6,7 +6,7 @@ use Rattle.bdd_store.proofs.GrowthLemmas.{KeepsNodes-chain, added-next, added-wi
 use Rattle.bdd_ops.specs.Operations.{conjunction}
 use Rattle.dual_rail.specs.declared.rail.Rails.{Rails}
 use Rattle.dual_rail.specs.Rails.{AreRailsOf}
-use Rattle.care_sets.specs.Care.{columns, state_of}
+use Rattle.care_sets.specs.Care.{state_of}
 use Rattle.refusals.proofs.ShowingLemmas.{all_may_start}
 use Rattle.verdict.specs.Models.{rails_at}
 use Rattle.verdict.specs.Sets.{AreColumns, starts}
