@@ -10,6 +10,8 @@ mod counting;
 pub mod laws;
 mod solved;
 mod solving;
+#[cfg(test)]
+mod tests;
 mod wires;
 
 pub use counting::sweeps;
