@@ -1,7 +1,7 @@
 -- Block by block to the fixpoint of a netlist.
 use Rattle.std.proofs.Common.{◌≡◌, ◌≢◌, inl, inr, ◌⊎◌, ℕ, ◌+◌, ◌-◌, ◌<◌, ◌≤◌, leb, Bool, true, false, ◌&&◌, if◌then◌else◌, List, [], ◌∷◌, ◌++◌, length, map, take, drop, replicate, get_or, refl, sym, ap, ap₂, ◌∙◌, subst, arith, Contains, true≢false}
 use Rattle.std.proofs.lemmas.Bool.{cases_lt, cases_eq, leb-true, leb-false}
-use Rattle.std.proofs.lemmas.List.{get_or-set_same, get_or-set_other, get_or_append_left, get_or_default, get_or_push, length_push, length-append, length-replicate, get_or-replicate, get_or-take, get_or-map, length-map, length-take, take-set-le, ext_get_or}
+use Rattle.std.proofs.lemmas.List.{get_or_append_left, get_or_default, get_or_push, length_push, length-append, length-replicate, get_or-replicate, get_or-take, get_or-map, length-map, length-take, take-set-le}
 use Rattle.std.proofs.Math.Seq.{take-append_seam}
 use Rattle.std.proofs.lemmas.List.Elements.{All-get_or, All-push, All-append, All-replicate, All-take, Contains-append_left, Contains-push}
 use Rattle.std.specs.List.{All}
@@ -26,7 +26,6 @@ use Rattle.loops.specs.Blocks.{AreBlocksOf, block_at, home_of, no_block}
 use Rattle.loops.specs.Cuts.{IsCutOf, is_cut, loops_by}
 use Rattle.loops.specs.Sweeps.{first_gate, gate_of, value_in, cuts as cuts_after, cut_values}
 use Rattle.loops.specs.Walks.{AnyGate, Leads}
-use Rattle.netlist.proofs.FixpointLemmas.{length-steps}
 use Rattle.loops.proofs.Reading.{map_agree, wire_of_gate, get_or-fix}
 use Rattle.loops.proofs.Unique.{feeds_at}
 use Rattle.loops.proofs.Walks.{leads-step, leads-trans, leads-any}
@@ -35,7 +34,7 @@ use Rattle.fixpoint.specs.declared.solved.LoopSteps.{LoopSteps}
 use Rattle.fixpoint.specs.declared.solved.Solved.{Solved}
 use Rattle.fixpoint.specs.Solved.{Vectors, IsLoopAt, AreStepsOf, HasEachLoopOnce, IsSolution, step_at, last_step}
 use Rattle.fixpoint.specs.Sweeping.{unknown, rails_at, rails_read, vectors, IsGateSet, IsSolvedBelow, AreFresh}
-use Rattle.fixpoint.proofs.WireLemmas.{rails_at-proper, unknown-rails, AreWires-set}
+use Rattle.fixpoint.proofs.WireLemmas.{rails_at-proper, unknown-rails, AreWires-set, set-same, set-other, values-fixed}
 
 -- ---- the same vectors, and kept nodes
 
@@ -133,10 +132,7 @@ module _ (net : Parts) (valid : IsNetlist net) (blocks : Blocks) (are : AreBlock
       made-is-fix bits = done.value bits ∙ ap (ext (gate_at net n).cover) (plain-reads bits) ∙ sym (get_or-fix net (v bits) n less)
 
       stays : (s : ℕ) (bits : List Bool) → (s ≢ first_gate net + n) → value_of e (rails_at after s) bits ≡ value_of d (rails_at rails s) bits
-      stays s bits other =
-          ap (λ (r : List Rails). value_of e (rails_at r s) bits) done.is
-          ∙ ap (λ (r : Rails). value_of e r bits) (get_or-set_other rails (first_gate net + n) s done.made unknown other)
-          ∙ value_of-kept keeps (rails_at rails s) (rails_at-proper d rails solved.wires.proper s) bits
+      stays = set-other rails after (first_gate net + n) done.made keeps solved.wires.proper done.is
 
       pub plain-solved : IsSolvedBelow net blocks cut e v (home_of blocks n + 1) before after
       plain-solved = record {
@@ -147,9 +143,7 @@ module _ (net : Parts) (valid : IsNetlist net) (blocks : Blocks) (are : AreBlock
           | inl same ↦
               let width = solved.wires.width in
               subst (λ (p : ℕ). value_of e (rails_at after (first_gate net + p)) bits ≡ value_in (fix_gates net (v bits)) p) (sym same)
-              (ap (λ (r : List Rails). value_of e (rails_at r (first_gate net + n)) bits) done.is
-              ∙ ap (λ (r : Rails). value_of e r bits) (get_or-set_same rails (first_gate net + n) done.made unknown (omega (arith, less, width)))
-              ∙ made-is-fix bits)
+              (set-same e rails after (first_gate net + n) done.made done.is (omega (arith, less, width)) bits ∙ made-is-fix bits)
           | inr other ↦
               stays (first_gate net + m) bits (λ same. other (omega (arith, same)))
               ∙ solved.gates m bits inside (elim (cases_eq (home_of blocks m) (home_of blocks n)) [ inl same ↦ absurd (other (alone m inside same)) | inr apart ↦ omega (arith, low, apart) ])
@@ -264,25 +258,8 @@ fresh-start net blocks before is n less later = ap (λ (r : List Rails). rails_a
 
 -- in the end each signal is solved
 pub values-are-fix : (net : Parts) (blocks : Blocks) (cut : Cut) (a : Arena) (v : Vectors) (before rails : List Rails) → AreBlocksOf net blocks → IsSolvedBelow net blocks cut a v (length blocks.list) before rails → (bits : List Bool) → values_of a rails bits ≡ fix net (v bits)
-values-are-fix net blocks cut a v before rails are solved bits =
-    let long : length (values_of a rails bits) ≡ length rails = length-map {B = Trit} rails (λ r. value_of a r bits) in
-    let width = solved.wires.width in
-    let vector = solved.vector bits in
-    let gates : length (fix_gates net (v bits)) ≡ length net.gates = length-steps net (v bits) (length net.gates) in
-    let total : length (fix net (v bits)) ≡ length (v bits) + length (fix_gates net (v bits)) = length-append (v bits) (fix_gates net (v bits)) in
-    ext_get_or X (values_of a rails bits) (fix net (v bits)) (omega (arith, long, width, vector, gates, total))
-    (λ s less.
-    let inside : s < length rails = omega (arith, less, long) in
-    get_or-map (λ (r : Rails). value_of a r bits) rails s unknown X inside
-    ∙ elim (cases_lt s (first_gate net)) [
-      | inl low ↦ solved.given s bits low ∙ sym (get_or_append_left (v bits) (fix_gates net (v bits)) X s (omega (arith, low, vector)))
-      | inr high ↦
-          let place : first_gate net + (s - first_gate net) ≡ s = omega (arith, high) in
-          let n_less : s - first_gate net < length net.gates = omega (arith, inside, width, high) in
-          ap (λ (p : ℕ). value_of a (rails_at rails p) bits) (sym place)
-          ∙ solved.gates (s - first_gate net) bits n_less (are.home (s - first_gate net) n_less)
-          ∙ sym (wire_of_gate (v bits) (fix_gates net (v bits)) (first_gate net) s vector high)
-    ])
+values-are-fix net blocks cut a v before rails are solved =
+    values-fixed net a v rails solved.wires.width solved.vector solved.given (λ n bits less. solved.gates n bits less (are.home n less))
 
 -- the first gate of a block is at home there
 pub first-of-block : (net : Parts) (blocks : Blocks) → AreBlocksOf net blocks → (items : List Block) (b : ℕ) (r : Block) (gates : List ℕ) → items ≡ blocks.list → b < length items → r ≡ get_or items b r → gates ≡ r.gates

@@ -31,7 +31,7 @@ use Rattle.fixpoint.specs.Sweeping.{rails_read, AreSwept, IsSolvedBelow, IsSweep
 use Rattle.fixpoint.specs.Working.{IsWorking, HasLargeCover, cost, order_cost, block_cost, below_cost, effort, total, read_in_sweep, read_at_fix}
 use Rattle.fixpoint.proofs.CutLemmas.{one-block, cuts-are}
 use Rattle.fixpoint.proofs.SweepLemmas.{reads-all}
-use Rattle.fixpoint.proofs.WorkLemmas.{bounds-lift}
+use Rattle.fixpoint.proofs.WorkLemmas.{bounds-lift, parts-bounded}
 use Rattle.fixpoint.proofs.WireLemmas.{pins-values}
 use Rattle.fixpoint.proofs.BlockLemmas.{plain-reads}
 use Rattle.fixpoint.proofs.CostLemmas.{order-total, total-at, total-next, total-all}
@@ -45,7 +45,7 @@ module _ (net : Parts) (cut : Cut) (d : Arena) (before rails : List Rails) (n : 
   list-width = length-map {B = Rails} (gate_at net n).pins (rails_read net cut before rails)
 
   list-values : (bits : List Bool) → values_of d (map (rails_read net cut before rails) (gate_at net n).pins) bits ≡ map (λ pin. value_of d (rails_read net cut before rails pin) bits) (gate_at net n).pins
-  list-values bits = pins-values net cut d before rails (gate_at net n).pins (map (rails_read net cut before rails) (gate_at net n).pins) bits refl
+  list-values bits = pins-values d (rails_read net cut before rails) (gate_at net n).pins (map (rails_read net cut before rails) (gate_at net n).pins) bits refl
 
 -- a width of the working list serves the lift of each gate of a sweep
 pub sweep-bounds : (net : Parts) → IsNetlist net → (cut : Cut) → IsCutOf net cut → (blocks : Blocks) (b : ℕ) (v : Vectors) (k : ℕ) (order : List ℕ) (s d : Arena) (before old rails : List Rails)
@@ -60,7 +60,7 @@ sweep-bounds net valid cut cut_is blocks b v k order s d before old rails ready 
     let wide2 : IsWide d.vars (IsWorking net (loops_by blocks cut) v) w = subst (λ (x : ℕ). IsWide x (IsWorking net (loops_by blocks cut) v) w) (sym keeps.vars) wide in
     bounds-lift net (loops_by blocks cut) v d n at.0 (map (rails_read net cut before rails) (gate_at net n).pins) (λ bits. read_in_sweep net (loops_by blocks cut) (v bits) k n) (list-width net cut d before rails n)
     (λ bits. list-values net cut d before rails n bits ∙ reads-all net valid cut cut_is blocks b v (after_sweeps net blocks cut v k) order s d before old rails ready keeps i inside others swept bits n refl)
-    (inl (record { looped = one-block net blocks ready.blocks_are cut b ready.loop n n at.0 at.1 at.0 at.1; sweep = k; few = omega (arith, few, same); is = λ bits. refl })) wide2
+    (inl (record { looped = one-block net blocks ready.blocks_are cut b ready.loop n n at.0 at.1 at.0 at.1; sweep = k; few = omega (arith, few, same); is = λ bits. refl })) (parts-bounded net (loops_by blocks cut) v wide2)
 
 -- a loop has at most as many cut wires as the netlist has gates
 pub cuts-few : (net : Parts) (blocks : Blocks) (cut : Cut) → AreBlocksOf net blocks → (b : ℕ) → IsLoopAt blocks b → length (filter (is_cut cut.wires) (block_at blocks b).gates) ≤ length net.gates
@@ -108,7 +108,7 @@ plain-bounds net valid blocks are cut cut_is n less plain d v before rails solve
     ] in
     bounds-lift net (loops_by blocks cut) v d n less (map (rails_read net cut before rails) (gate_at net n).pins) (λ bits. read_at_fix net (v bits) n) (list-width net cut d before rails n)
     (λ bits. list-values net cut d before rails n bits ∙ plain-reads net valid blocks are cut cut_is n less plain d v before rails solved bits)
-    (inr (record { plain = alone; is = λ bits. refl })) wide
+    (inr (record { plain = alone; is = λ bits. refl })) (parts-bounded net (loops_by blocks cut) v wide)
 
 -- the working list goes by the vectors alone
 working-same : (net : Parts) (loops : Loops) (v u : Vectors) → ((bits : List Bool) → v bits ≡ u bits) → (g : List Bool → Bool) → IsWorking net loops v g → IsWorking net loops u g

@@ -1,6 +1,6 @@
 mod CountLemmas
 mod CompareLemmas
-mod WireLemmas
+pub mod WireLemmas
 mod SweepLemmas
 pub mod CutLemmas
 mod LoopLemmas
@@ -10,3 +10,5 @@ pub mod WorkLemmas
 pub mod CostLemmas
 mod BoundLemmas
 mod SolutionLemmas
+mod EffortLemmas
+mod LiftLemmas

@@ -1,7 +1,7 @@
 -- A sweep of one loop on rails is the sweep at each vector.
 use Rattle.std.proofs.Common.{◌≡◌, ◌≢◌, inl, inr, ◌⊎◌, ℕ, zero, suc, ◌+◌, ◌<◌, ◌≤◌, leb, add-one, Bool, true, false, ◌&&◌, if◌then◌else◌, List, [], ◌∷◌, length, map, take, get_or, refl, sym, ap, ◌∙◌, subst, arith, Contains}
 use Rattle.std.proofs.lemmas.Bool.{cases_eq, cases_Bool, leb-true, leb-false}
-use Rattle.std.proofs.lemmas.List.{get_or-set_same, get_or-set_other, get_or_append_left, get_or_default, take_all}
+use Rattle.std.proofs.lemmas.List.{get_or-set_other, get_or_append_left, get_or_default, take_all}
 use Rattle.std.proofs.lemmas.List.Elements.{All-from_recursion, All-contains, All-get_or}
 use Rattle.std.specs.List.{All}
 use Rattle.bdd_store.specs.Arena.{Arena}
@@ -29,7 +29,7 @@ use Rattle.loops.proofs.Unique.{feeds_at, uncut-irreflexive}
 use Rattle.loops.proofs.Told.{told_parts, gate_home, home_gate, blocks_tell_loops, blocks_have_loops}
 use Rattle.fixpoint.specs.Solved.{Vectors}
 use Rattle.fixpoint.specs.Sweeping.{unknown, rails_at, rails_read, AreWires, IsGateSet, States, AreSwept, IsSweepable, OthersStay}
-use Rattle.fixpoint.proofs.WireLemmas.{rails_at-proper}
+use Rattle.fixpoint.proofs.WireLemmas.{rails_at-proper, set-same, set-other}
 
 -- ---- orders
 
@@ -220,14 +220,11 @@ sweeping-step net valid cut cut_is order s d e before old rails after i n first 
     elim (cases_eq m n) [
       | inl same ↦
           subst (λ (p : ℕ). value_of e (rails_at after (first_gate net + p)) bits ≡ value_in (sweep net (loops_by blocks cut) (v bits) (c bits)) p) (sym same)
-          (ap (λ (r : List Rails). value_of e (rails_at r (first_gate net + n)) bits) done.is
-          ∙ ap (λ (r : Rails). value_of e r bits) (get_or-set_same rails (first_gate net + n) done.made unknown room)
+          (set-same e rails after (first_gate net + n) done.made done.is room bits
           ∙ gate-swept net valid cut cut_is blocks b v c order s d before old rails ready first i inside others swept bits n n_is e after done)
       | inr other ↦
           let earlier : Contains (take i order) m = elim (next-or-before order i m inside has) [ inl next ↦ absurd (other (next ∙ sym n_is)) | inr taken ↦ taken ] in
-          ap (λ (r : List Rails). value_of e (rails_at r (first_gate net + m)) bits) done.is
-          ∙ ap (λ (r : Rails). value_of e r bits) (get_or-set_other rails (first_gate net + n) (first_gate net + m) done.made unknown (λ same. other (omega (arith, same))))
-          ∙ value_of-kept second (rails_at rails (first_gate net + m)) (rails_at-proper d rails wires.proper (first_gate net + m)) bits
+          set-other rails after (first_gate net + n) done.made second wires.proper done.is (first_gate net + m) bits (λ same. other (omega (arith, same)))
           ∙ swept m bits less earlier
     ]
 

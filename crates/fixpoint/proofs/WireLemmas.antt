@@ -1,9 +1,9 @@
 -- Rails of wires, and of what a gate reads.
-use Rattle.std.proofs.Common.{◌≡◌, inl, inr, ℕ, ◌+◌, leb, Bool, true, false, ◌&&◌, if◌then◌else◌, List, [], ◌∷◌, length, map, refl, sym, ap, ◌∙◌, subst, arith}
+use Rattle.std.proofs.Common.{◌≡◌, ◌≢◌, inl, inr, ℕ, ◌+◌, ◌-◌, ◌<◌, leb, Bool, true, false, ◌&&◌, if◌then◌else◌, List, [], ◌∷◌, length, map, refl, sym, ap, ◌∙◌, subst, arith}
 use Rattle.std.proofs.lemmas.Bool.{cases_lt}
-use Rattle.std.proofs.lemmas.List.{get_or_past, length-set}
+use Rattle.std.proofs.lemmas.List.{get_or_past, get_or-set_same, get_or-set_other, length-set, get_or-map, get_or_append_left, length-append, ext_get_or}
 use Rattle.std.proofs.lemmas.List.Elements.{All-map, All-set}
-use Rattle.std.specs.List.{All, slice_index_or}
+use Rattle.std.specs.List.{All, slice_index_or, slice_set}
 use Rattle.bdd_store.specs.Arena.{Arena, den_within}
 use Rattle.bdd_store.specs.Growth.{KeepsNodes}
 use Rattle.cyc_base.specs.declared.sig.Sig.{Sig}
@@ -11,11 +11,16 @@ use Rattle.cyc_base.specs.declared.trit.Trit.{Trit}
 use Rattle.cyc_base.specs.declared.trit.Trit.TheVariants.{X}
 use Rattle.dual_rail.specs.declared.rail.Rails.{Rails}
 use Rattle.dual_rail.specs.Rails.{AreRailsOf, value_of, values_of}
-use Rattle.dual_rail.proofs.SurelyLemmas.{All-rails-kept}
+use Rattle.dual_rail.proofs.SurelyLemmas.{All-rails-kept, value_of-kept, length-values}
 use Rattle.netlist.specs.declared.parts.Parts.{Parts}
+use Rattle.netlist.specs.Fixpoint.{fix, fix_gates}
+use Rattle.netlist.specs.Netlists.{count}
+use Rattle.netlist.proofs.FixpointLemmas.{length-steps}
 use Rattle.loops.specs.declared.parts.Cut.{Cut}
 use Rattle.loops.specs.Cuts.{is_cut}
-use Rattle.loops.specs.Sweeps.{first_gate, gate_of}
+use Rattle.loops.specs.Sweeps.{first_gate, gate_of, value_in}
+use Rattle.loops.proofs.Reading.{wire_of_gate}
+use Rattle.fixpoint.specs.Solved.{Vectors}
 use Rattle.fixpoint.specs.Sweeping.{unknown, rails_at, rails_read, AreWires, IsGateSet}
 
 -- the rails of X are proper
@@ -40,17 +45,16 @@ rails_read-proper net cut a before rails wires pin = by (leb (first_gate net) pi
     by true = rails_at-proper a before wires.before_proper (gate_of net pin)
     by false = rails_at-proper a rails wires.proper pin.0
 
-pub pins-proper : (net : Parts) (cut : Cut) (a : Arena) (before rails : List Rails) (pins : List Sig) (list : List Rails) → AreWires net a before rails → list ≡ map (rails_read net cut before rails) pins → All (AreRailsOf a) list
-pins-proper net cut a before rails pins list wires is = subst (All (AreRailsOf a)) (sym is)
-    (All-map (AreRailsOf a) (rails_read net cut before rails) pins (λ k d less. rails_read-proper net cut a before rails wires (slice_index_or pins k d)))
+-- the rails of a gate's pins, however they are read
+pub pins-proper : (a : Arena) (read : Sig → Rails) (pins : List Sig) (list : List Rails) → ((pin : Sig) → AreRailsOf a (read pin)) → list ≡ map read pins → All (AreRailsOf a) list
+pins-proper a read pins list proper is = subst (All (AreRailsOf a)) (sym is) (All-map (AreRailsOf a) read pins (λ k d less. proper (slice_index_or pins k d)))
 
 pub map-map : {A B C : Type 0} (f : B → C) (g : A → B) (xs : List A) → map f (map g xs) ≡ map (λ x. f (g x)) xs
 map-map f g [] = refl
 map-map f g (x ∷ xs) = ap (λ ys. f (g x) ∷ ys) (map-map f g xs)
 
-pub pins-values : (net : Parts) (cut : Cut) (a : Arena) (before rails : List Rails) (pins : List Sig) (list : List Rails) (bits : List Bool) → list ≡ map (rails_read net cut before rails) pins →
-    values_of a list bits ≡ map (λ pin. value_of a (rails_read net cut before rails pin) bits) pins
-pins-values net cut a before rails pins list bits is = ap (λ (l : List Rails). values_of a l bits) is ∙ map-map {C = Trit} (λ r. value_of a r bits) (rails_read net cut before rails) pins
+pub pins-values : (a : Arena) (read : Sig → Rails) (pins : List Sig) (list : List Rails) (bits : List Bool) → list ≡ map read pins → values_of a list bits ≡ map (λ pin. value_of a (read pin) bits) pins
+pins-values a read pins list bits is = ap (λ (l : List Rails). values_of a l bits) is ∙ map-map {C = Trit} (λ r. value_of a r bits) read pins
 
 -- the wires stay proper when nodes are kept, and when a gate is set
 pub AreWires-kept : {net : Parts} {s t : Arena} {before rails : List Rails} → KeepsNodes s t → AreWires net s before rails → AreWires net t before rails
@@ -68,3 +72,41 @@ AreWires-set {net} {cut} {s} {t} {before} {rails} {after} gate k is done = recor
   proper = subst (All (AreRailsOf t)) (sym done.is) (All-set (AreRailsOf t) rails (first_gate net + gate) done.made done.proper (All-rails-kept k rails is.proper));
   before_proper = All-rails-kept k before is.before_proper;
 }
+
+-- ---- one signal is set
+
+-- it has its new rails
+pub set-same : (a : Arena) (rails after : List Rails) (p : ℕ) (made : Rails) → after ≡ slice_set rails p made → p < length rails → (bits : List Bool) → value_of a (rails_at after p) bits ≡ value_of a made bits
+set-same a rails after p made is less bits = ap (λ (r : List Rails). value_of a (rails_at r p) bits) is ∙ ap (λ (r : Rails). value_of a r bits) (get_or-set_same rails p made unknown less)
+
+-- and another one has the value that it had
+pub set-other : {s t : Arena} (rails after : List Rails) (p : ℕ) (made : Rails) → KeepsNodes s t → All (AreRailsOf s) rails → after ≡ slice_set rails p made →
+    (m : ℕ) (bits : List Bool) → m ≢ p → value_of t (rails_at after m) bits ≡ value_of s (rails_at rails m) bits
+set-other {s} {t} rails after p made keeps proper is m bits other =
+    ap (λ (r : List Rails). value_of t (rails_at r m) bits) is
+    ∙ ap (λ (r : Rails). value_of t r bits) (get_or-set_other rails p m made unknown other)
+    ∙ value_of-kept keeps (rails_at rails m) (rails_at-proper s rails proper m) bits
+
+-- ---- when all gates stand at the fixpoint
+
+pub values-fixed : (net : Parts) (a : Arena) (v : Vectors) (rails : List Rails) → length rails ≡ count net → ((bits : List Bool) → length (v bits) ≡ first_gate net) →
+    ((s : ℕ) (bits : List Bool) → s < first_gate net → value_of a (rails_at rails s) bits ≡ value_in (v bits) s) →
+    ((n : ℕ) (bits : List Bool) → n < length net.gates → value_of a (rails_at rails (first_gate net + n)) bits ≡ value_in (fix_gates net (v bits)) n) →
+    (bits : List Bool) → values_of a rails bits ≡ fix net (v bits)
+values-fixed net a v rails width vector given gates bits =
+    let long : length (values_of a rails bits) ≡ length rails = length-values a rails bits in
+    let vector_long = vector bits in
+    let gates_long : length (fix_gates net (v bits)) ≡ length net.gates = length-steps net (v bits) (length net.gates) in
+    let total : length (fix net (v bits)) ≡ length (v bits) + length (fix_gates net (v bits)) = length-append (v bits) (fix_gates net (v bits)) in
+    ext_get_or X (values_of a rails bits) (fix net (v bits)) (omega (arith, long, width, vector_long, gates_long, total))
+    (λ s less.
+    let inside : s < length rails = omega (arith, less, long) in
+    get_or-map (λ (r : Rails). value_of a r bits) rails s unknown X inside
+    ∙ elim (cases_lt s (first_gate net)) [
+      | inl low ↦ given s bits low ∙ sym (get_or_append_left (v bits) (fix_gates net (v bits)) X s (omega (arith, low, vector_long)))
+      | inr high ↦
+          let place : first_gate net + (s - first_gate net) ≡ s = omega (arith, high) in
+          ap (λ (p : ℕ). value_of a (rails_at rails p) bits) (sym place)
+          ∙ gates (s - first_gate net) bits (omega (arith, inside, width, high))
+          ∙ sym (wire_of_gate (v bits) (fix_gates net (v bits)) (first_gate net) s vector_long high)
+    ])

@@ -79,10 +79,10 @@ module _ (net : Parts) (loops : Loops) (v : Vectors) where
   -- a lift of a gate on rails that stand for what it reads
   pub bounds-lift : (d : Arena) (gate : ℕ) → gate < length net.gates → (list : List Rails) (read : List Bool → List Trit) → length list ≡ length (gate_at net gate).pins → ((bits : List Bool) → values_of d list bits ≡ read bits)
       → IsReadInSweep net loops v gate read ⊎ IsReadAtFix net loops v gate read
-      → {w : ℕ} → IsWide d.vars (IsWorking net loops v) w → BoundsEach d.vars (IsExtended d list (value (gate_at net gate).cover)) w
-  bounds-lift d gate less list read width values reads wide g e =
+      → {w : ℕ} → BoundsEach d.vars (IsGatePart net loops v) w → BoundsEach d.vars (IsExtended d list (value (gate_at net gate).cover)) w
+  bounds-lift d gate less list read width values reads bounds g e =
       let short = e.short in
-      wide-one wide g (inr (record {
+      bounds g (record {
         gate = gate;
         within = less;
         first = e.first;
@@ -91,7 +91,11 @@ module _ (net : Parts) (loops : Loops) (v : Vectors) where
         read = read;
         reads = reads;
         same = λ bits. e.same bits ∙ ap (λ (ts : List Trit). is_bit e.bit (exact (λ rest. value (gate_at net gate).cover (e.first ++ rest)) (drop (length e.first) ts))) (values bits);
-      }))
+      })
+
+  -- a width of the working list serves each function of a gate
+  pub parts-bounded : {vars w : ℕ} → IsWide vars (IsWorking net loops v) w → BoundsEach vars (IsGatePart net loops v) w
+  parts-bounded wide g part = wide-one wide g (inr part)
 
   -- a gate's extension on what it reads
   whole : (gate : ℕ) → gate < length net.gates → (read : List Bool → List Trit) → IsReadInSweep net loops v gate read ⊎ IsReadAtFix net loops v gate read → (bit : Bool)

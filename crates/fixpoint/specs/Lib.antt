@@ -1,5 +1,6 @@
 pub mod Solved
 pub mod Sweeping
+pub mod Lifting
 pub mod Counts
 pub mod Working
 pub mod Laws

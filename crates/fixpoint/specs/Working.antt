@@ -64,6 +64,10 @@ pub record HasAlike (vars : ℕ) (Kind : (List Bool → Bool) → Type 0) (g : L
   pub is : Kind of
   pub alike : Alike vars g of
 
+-- a netlist without loops has these
+abbrev pub no_loops : Loops
+no_loops = record { same = λ a b. false; cut = λ n. false }
+
 -- the sizes of the covers, and one for each gate
 abbrev pub effort : Parts → ℕ
 effort net = sum_by (λ gate. size gate.cover + 1) net.gates

@@ -1,13 +1,15 @@
 //! The fixpoint of a netlist at all vectors at once: block by block on dual rails, a loop by sweeps from its
-//! cut wires until they stand still (Malik 1994; Shiple, Berry and Touati 1996).
+//! cut wires until they stand still (Malik 1994; Shiple, Berry and Touati 1996). A netlist without loops is lifted
+//! gate by gate.
 //!
 //! It stands on `dual_rail`, for the exact extension of covers on rails, and on `loops`, for blocks, cut
-//! wires and the laws of sweeps. The layer above uses that `solve` gives the fixpoint at every vector, and
-//! `sweeps` for each loop the least number of sweeps after which it stands still on a care set.
+//! wires and the laws of sweeps. The layer above uses that `solve` and `lift_gates` give the fixpoint at every
+//! vector, and `sweeps` for each loop the least number of sweeps after which it stands still on a care set.
 #![tactic(auto)]
 
 mod counting;
 pub mod laws;
+mod lifting;
 mod solved;
 mod solving;
 #[cfg(test)]
@@ -15,5 +17,6 @@ mod tests;
 mod wires;
 
 pub use counting::sweeps;
+pub use lifting::lift_gates;
 pub use solved::{LoopSteps, Solved, SweepCounts};
 pub use solving::solve;

@@ -89,7 +89,7 @@ fn pins_read(
 }
 
 /// The rails of a gate's cover on those of its pins.
-fn gate_rails(
+pub(crate) fn gate_rails(
     alloc: Global,
     d: &mut Diagrams,
     net: &Netlist,

@@ -21,11 +21,11 @@ use Rattle.netlist.specs.Netlists.{IsNetlist, count}
 use Rattle.loops.proofs.Reading.{map_agree}
 use Rattle.care_sets.specs.declared.model.CareModel.{CareModel}
 use Rattle.care_sets.specs.Care.{is_one, inputs_at, holds_at}
-use Rattle.fixpoint.specs.Working.{IsGatePart}
-use Rattle.verdict.specs.Enough.{no_loops, read_by, IsOfModel}
-use Rattle.verdict.specs.Models.{unknown, rails_at}
+use Rattle.fixpoint.specs.Sweeping.{unknown, rails_at}
+use Rattle.fixpoint.specs.Working.{no_loops, IsGatePart}
+use Rattle.fixpoint.proofs.WireLemmas.{rails_at-proper, map-map}
+use Rattle.verdict.specs.Enough.{read_by, IsOfModel}
 use Rattle.verdict.specs.Sets.{model_of, ReadsWithin}
-use Rattle.verdict.proofs.ModelLemmas.{rails_at-proper, map-map}
 
 -- the first rail says where a value is 1
 pub one_rail : (a : Arena) (r : Rails) (v : List Bool) → den a r.one v ≡ is_one (value_of a r v)

@@ -2,10 +2,8 @@ mod CareLemmas
 mod CauseLemmas
 mod ColumnLemmas
 mod CountLemmas
-mod EffortLemmas
+mod DecisionLemmas
 mod EnoughLemmas
-mod LeavesLemmas
-mod ModelLemmas
 mod NextLemmas
 mod PartLemmas
 mod SetLemmas

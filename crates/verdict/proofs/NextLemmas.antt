@@ -22,14 +22,14 @@ use Rattle.netlist.specs.declared.parts.Parts.{Parts}
 use Rattle.netlist.specs.Fixpoint.{wire, fix, next}
 use Rattle.netlist.specs.Netlists.{IsNetlist, count}
 use Rattle.loops.specs.Sweeps.{value_in}
+use Rattle.fixpoint.specs.Sweeping.{rails_at}
 use Rattle.fixpoint.proofs.CutLemmas.{one-of, zero-of}
+use Rattle.fixpoint.proofs.WireLemmas.{rails_at-proper}
 use Rattle.care_sets.specs.Care.{is_one}
 use Rattle.refusals.specs.Refusals.{next_state}
-use Rattle.verdict.specs.Models.{rails_at}
 use Rattle.verdict.specs.Next.{next_within, BoundsSignals}
 use Rattle.verdict.specs.Sets.{AreFixed}
 use Rattle.verdict.proofs.CareLemmas.{one_rail, value_at-place}
-use Rattle.verdict.proofs.ModelLemmas.{rails_at-proper}
 
 -- ---- rails on a set
 

@@ -21,6 +21,8 @@ use Rattle.dual_rail.proofs.SurelyLemmas.{value_of-kept, values_of-kept, All-rai
 use Rattle.netlist.specs.declared.parts.Parts.{Parts}
 use Rattle.netlist.specs.Netlists.{IsNetlist, gate_sig}
 use Rattle.netlist.specs.Fixpoint.{next}
+use Rattle.fixpoint.specs.Sweeping.{rails_at}
+use Rattle.fixpoint.proofs.WireLemmas.{rails_at-proper}
 use Rattle.care_sets.specs.declared.model.CareModel.{CareModel}
 use Rattle.care_sets.specs.Binding.{IsCareOf, IsBoundTo}
 use Rattle.care_sets.specs.Care.{CareSet, columns, state_of, is_in_invariant, is_care_vector, IsCareVector, HasValues}
@@ -33,10 +35,8 @@ use Rattle.refusals.proofs.FirstLemmas.{find-map, find-filter, any-find}
 use Rattle.refusals.proofs.ShowingLemmas.{care_vector_decides}
 use Rattle.refusals.proofs.RefusalLemmas.{length-gate_sigs, gate_sig_at, find_none-all, no_first, next_state_is}
 use Rattle.refusals.proofs.LawLemmas.{care_test, all_determined}
-use Rattle.verdict.specs.Models.{rails_at}
 use Rattle.verdict.specs.Sets.{Tells, AreFixed, starts, has_state_inside, difference, ReadsWithin}
 use Rattle.verdict.proofs.CareLemmas.{value_at-place}
-use Rattle.verdict.proofs.ModelLemmas.{rails_at-proper}
 use Rattle.verdict.proofs.SetLemmas.{find-alike}
 
 -- ---- sets

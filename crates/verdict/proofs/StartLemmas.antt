@@ -18,10 +18,10 @@ use Rattle.netlist.specs.declared.parts.Init.{Init}
 use Rattle.netlist.specs.declared.parts.Init.TheVariants as inits
 use Rattle.netlist.specs.declared.parts.Latch.{Latch}
 use Rattle.netlist.specs.declared.parts.Parts.{Parts}
+use Rattle.fixpoint.specs.Sweeping.{rails_at}
 use Rattle.care_sets.specs.Care.{columns, state_of}
 use Rattle.refusals.specs.Refusals.{may_start}
 use Rattle.refusals.proofs.ShowingLemmas.{all_may_start}
-use Rattle.verdict.specs.Models.{rails_at}
 use Rattle.verdict.specs.Sets.{AreColumns, starts}
 use Rattle.verdict.proofs.CareLemmas.{value_at-place}
 use Rattle.verdict.proofs.SizeLemmas.{nodes-part}

@@ -1,5 +1,5 @@
 -- The functions that a decision works with, and how many nodes are enough for it.
-use Rattle.std.specs.Prelude.{◌≡◌, ◌<◌, ◌+◌, ◌-◌, ◌*◌, ℕ, Bool, false, List, length, map, IsSomeAnd, slice_index_or}
+use Rattle.std.specs.Prelude.{◌≡◌, ◌<◌, ◌+◌, ◌-◌, ◌*◌, ℕ, Bool, List, length, map, IsSomeAnd, slice_index_or}
 use Rattle.std.specs.Option.{option_map_or}
 use Rattle.bdd_ops.specs.Operations.{bit_at}
 use Rattle.cyc_base.specs.declared.trit.Trit.{Trit}
@@ -8,16 +8,11 @@ use Rattle.cyc_base.specs.Values.{bits}
 use Rattle.dual_rail.specs.WorkingLists.{IsWide}
 use Rattle.netlist.specs.declared.parts.Parts.{Parts}
 use Rattle.netlist.specs.Fixpoint.{next}
-use Rattle.loops.specs.Cuts.{Loops}
 use Rattle.loops.specs.Found.{loops_of}
-use Rattle.fixpoint.specs.Working.{IsGatePart, effort}
+use Rattle.fixpoint.specs.Working.{no_loops, IsGatePart, effort}
 use Rattle.care_sets.specs.declared.model.CareModel.{CareModel}
 use Rattle.care_sets.specs.Care.{CareSet, columns, state_of, is_allowed, is_care_vector}
 use Rattle.verdict.specs.Sets.{starts, has_state_inside}
-
--- a netlist without loops has these
-abbrev pub no_loops : Loops
-no_loops = record { same = λ a b. false; cut = λ n. false }
 
 -- the values of a model's inputs, where the columns from its first one on have these values
 abbrev pub read_by : CareModel → List Trit → List Trit

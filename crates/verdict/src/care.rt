@@ -9,17 +9,17 @@ ghost use Rattle.dual_rail.specs.Rails.{AreRailsOf, values_of};
 ghost use Rattle.dual_rail.specs.WorkingLists.{BoundsEach};
 ghost use Rattle.care_sets.specs.Binding.{IsCareModel};
 ghost use Rattle.care_sets.specs.Care.{holds_at, is_allowed, is_in_invariant};
+ghost use Rattle.fixpoint.specs.Sweeping.{rails_at};
 ghost use Rattle.fixpoint.specs.Working.{HasLargeCover, effort};
 ghost use Rattle.verdict.specs.Causes.{HasModelOver};
 ghost use Rattle.verdict.specs.Enough.{IsOfModel};
-ghost use Rattle.verdict.specs.Models.{rails_at};
 ghost use Rattle.verdict.specs.Sets.{model_of, ReadsWithin};
 
-use crate::models::lift_gates;
 use bdd_ops::Diagrams;
 use bdd_store::{Node, StoreFault};
 use care_sets::Care;
 use dual_rail::Rails;
+use fixpoint::lift_gates;
 use netlist::Netlist;
 use std::alloc::{AllocError, Global};
 

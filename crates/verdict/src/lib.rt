@@ -9,8 +9,6 @@ mod care;
 mod columns;
 mod deciding;
 mod fault;
-pub mod laws;
-mod models;
 mod next;
 mod parts;
 mod sets;

@@ -7,12 +7,13 @@ use Rattle.dual_rail.specs.declared.rail.Rails.{Rails}
 use Rattle.netlist.specs.declared.parts.Gate.{Gate}
 use Rattle.netlist.specs.Netlists.{gate_at}
 use Rattle.fixpoint.specs.Sweeping.{rails_read}
-use Rattle.fixpoint.proofs.WireLemmas.{pins-proper, pins-values}
+use Rattle.fixpoint.proofs.WireLemmas.{rails_read-proper, pins-proper, pins-values}
 use Rattle.fixpoint.proofs.wires.set_gate.Goals as goal
 
 pub gate_rails-requires-clause-rails : goal.gate_rails-requires-clause-rails
 gate_rails-requires-clause-rails c =
-    pins-proper c.args.net.now c.args.cut.now c.args.d.now c.args.before.now c.args.rails.now c.items.result.now c.deref.result.now c.requires.wires (c.deref.ensures.value ∙ c.in-Ok.ensures)
+    pins-proper c.args.d.now (rails_read c.args.net.now c.args.cut.now c.args.before.now c.args.rails.now) c.items.result.now c.deref.result.now
+    (rails_read-proper c.args.net.now c.args.cut.now c.args.d.now c.args.before.now c.args.rails.now c.requires.wires) (c.deref.ensures.value ∙ c.in-Ok.ensures)
 
 pub returns-clause-set : goal.returns-clause-set
 returns-clause-set c =
@@ -25,7 +26,7 @@ returns-clause-set c =
       is = ap (λ n. set c.args.rails.now n c.in_ok-made.made) (omega (arith, c.inputs.ensures.inputs, c.latches.ensures.latches));
       proper = c.in_ok-made.ensures.rails;
       value = λ bits. c.in_ok-made.ensures.value bits
-          ∙ ap (ext (gate_at net c.args.gate).cover) (pins-values net c.args.cut.now c.args.d.now c.args.before.now c.args.rails.now (gate_at net c.args.gate).pins c.deref.result.now bits list);
+          ∙ ap (ext (gate_at net c.args.gate).cover) (pins-values c.args.d.now (rails_read net c.args.cut.now c.args.before.now c.args.rails.now) (gate_at net c.args.gate).pins c.deref.result.now bits list);
     }
 
 pub returns-clause-added : goal.returns-clause-added

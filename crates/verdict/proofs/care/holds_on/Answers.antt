@@ -8,9 +8,9 @@ use Rattle.dual_rail.specs.Rails.{values_of}
 use Rattle.dual_rail.specs.WorkingLists.{BoundsEach}
 use Rattle.netlist.specs.Fixpoint.{fix}
 use Rattle.netlist.specs.Netlists.{count}
-use Rattle.fixpoint.specs.Working.{IsGatePart}
-use Rattle.verdict.specs.Enough.{no_loops, IsOfModel}
-use Rattle.verdict.specs.Models.{unknown, rails_at}
+use Rattle.fixpoint.specs.Sweeping.{unknown, rails_at}
+use Rattle.fixpoint.specs.Working.{no_loops, IsGatePart}
+use Rattle.verdict.specs.Enough.{IsOfModel}
 use Rattle.verdict.specs.Sets.{model_of}
 use Rattle.verdict.proofs.CareLemmas.{inputs-proper, inputs-values, inputs-bounded, output-holds}
 use Rattle.verdict.proofs.care.holds_on.Goals as goal

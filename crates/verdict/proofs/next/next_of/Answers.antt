@@ -1,6 +1,6 @@
 use Rattle.std.proofs.Common.{◌∷◌, [], ◌++◌, ◌∙◌, List, Bool, ap}
 use Rattle.bdd_store.specs.Arena.{Arena, den}
-use Rattle.verdict.specs.Models.{rails_at}
+use Rattle.fixpoint.specs.Sweeping.{rails_at}
 use Rattle.verdict.proofs.NextLemmas.{state-more}
 use Rattle.verdict.proofs.next.next_of.Goals as goal
 

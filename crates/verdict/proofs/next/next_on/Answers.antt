@@ -4,7 +4,7 @@ use Rattle.bdd_store.specs.Growth.{AddsAtMost}
 use Rattle.bdd_store.specs.Subfunctions.{nodes}
 use Rattle.bdd_ops.specs.Operations.{conjunction}
 use Rattle.bdd_store.proofs.GrowthLemmas.{KeepsNodes-chain, added-more, full-more}
-use Rattle.verdict.specs.Models.{rails_at}
+use Rattle.fixpoint.specs.Sweeping.{rails_at}
 use Rattle.verdict.specs.Next.{BoundsSignals}
 use Rattle.verdict.proofs.NextLemmas.{AreFirstNext, next-more, rails-bounded}
 use Rattle.verdict.proofs.next.next_on.Goals as goal

@@ -10,11 +10,11 @@ use Rattle.dual_rail.specs.declared.rail.Rails.{Rails}
 use Rattle.dual_rail.specs.Rails.{value_of}
 use Rattle.dual_rail.specs.WorkingLists.{IsWide}
 use Rattle.netlist.specs.Netlists.{count}
+use Rattle.fixpoint.specs.Sweeping.{rails_at}
 use Rattle.care_sets.specs.Care.{CareSet, columns, is_care_vector}
 use Rattle.refusals.specs.declared.refusal.Refusal.TheVariants.{Undetermined}
 use Rattle.refusals.specs.Refusals.{is_x}
 use Rattle.verdict.specs.Enough.{IsOfDecision}
-use Rattle.verdict.specs.Models.{rails_at}
 use Rattle.verdict.specs.Sets.{Tells, AreFixed, difference}
 use Rattle.verdict.proofs.DecisionLemmas.{open-fits, unknown-fits}
 use Rattle.verdict.proofs.PartLemmas.{unknown-first, undetermined-found, undetermined-none, known-more, AreFixed-kept, Tells-kept}

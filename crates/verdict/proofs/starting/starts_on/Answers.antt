@@ -6,13 +6,13 @@ use Rattle.bdd_store.proofs.GrowthLemmas.{KeepsNodes-chain, added-next, added-wi
 use Rattle.bdd_ops.specs.Operations.{conjunction}
 use Rattle.dual_rail.specs.declared.rail.Rails.{Rails}
 use Rattle.dual_rail.specs.Rails.{AreRailsOf}
-use Rattle.care_sets.specs.Care.{state_of}
+use Rattle.fixpoint.specs.Sweeping.{rails_at}
+use Rattle.fixpoint.proofs.WireLemmas.{rails_at-proper}
+use Rattle.care_sets.specs.Care.{columns, state_of}
 use Rattle.refusals.proofs.ShowingLemmas.{all_may_start}
-use Rattle.verdict.specs.Models.{rails_at}
 use Rattle.verdict.specs.Sets.{AreColumns, starts}
 use Rattle.verdict.proofs.CauseLemmas.{added-to, full-to}
 use Rattle.verdict.proofs.ColumnLemmas.{AreColumns-kept}
-use Rattle.verdict.proofs.ModelLemmas.{rails_at-proper}
 use Rattle.verdict.proofs.StartLemmas.{later-both, later-more, later-nodes}
 use Rattle.verdict.proofs.starting.starts_on.Goals as goal
 use Rattle.verdict.proofs.starting.starts_on.Goals.{After-and}

@@ -6,16 +6,17 @@ use Rattle.dual_rail.specs.declared.rail.Rails.{Rails}
 use Rattle.dual_rail.specs.WorkingLists.{BoundsEach, IsExtended}
 use Rattle.netlist.specs.declared.parts.Gate.{Gate}
 use Rattle.netlist.specs.Netlists.{gate_at}
-use Rattle.verdict.specs.Models.{rails_of_pin, BoundsGate}
-use Rattle.verdict.proofs.ModelLemmas.{pins-proper, pins-values}
-use Rattle.verdict.proofs.models.set_gate.Goals as goal
-use Rattle.verdict.proofs.models.set_gate.Goals.{After-gate_rails}
+use Rattle.fixpoint.specs.Lifting.{rails_of_pin, BoundsGate}
+use Rattle.fixpoint.proofs.WireLemmas.{rails_at-proper, pins-proper, pins-values}
+use Rattle.fixpoint.proofs.lifting.lift_gate.Goals as goal
+use Rattle.fixpoint.proofs.lifting.lift_gate.Goals.{After-gate_rails}
 
 pub gate_rails-requires-clause-rails : goal.gate_rails-requires-clause-rails
 gate_rails-requires-clause-rails c =
-    pins-proper c.args.d.now c.args.rails.now c.items.result.now c.deref.result.now c.requires.wires.proper (c.deref.ensures.value ∙ c.in-Ok.ensures)
+    pins-proper c.args.d.now (rails_of_pin c.args.rails.now) c.items.result.now c.deref.result.now
+    (λ pin. rails_at-proper c.args.d.now c.args.rails.now c.requires.wires.proper pin.0) (c.deref.ensures.value ∙ c.in-Ok.ensures)
 
--- the rails that the pins read
+-- the rails of the pins
 listed : (c : After-gate_rails) → c.deref.result.now ≡ map (rails_of_pin c.args.rails.now) (gate_at c.args.net.now c.args.gate).pins
 listed c = c.deref.ensures.value ∙ c.in-Ok.ensures ∙ ap (map (rails_of_pin c.args.rails.now)) (c.items.ensures ∙ ap (λ (g : Gate). g.pins) c.gate.ensures.at)
 
@@ -31,7 +32,7 @@ returns-clause-set c = record {
   proper = c.in_ok-made.ensures.rails;
   value = λ bits. c.in_ok-made.ensures.value bits
       ∙ ap (ext (gate_at c.args.net.now c.args.gate).cover)
-      (pins-values c.args.d.now c.args.rails.now (gate_at c.args.net.now c.args.gate).pins c.deref.result.now bits (listed (goal.at.returns-clause-set c).After-gate_rails));
+      (pins-values c.args.d.now (rails_of_pin c.args.rails.now) (gate_at c.args.net.now c.args.gate).pins c.deref.result.now bits (listed (goal.at.returns-clause-set c).After-gate_rails));
 }
 
 pub returns-clause-added : goal.returns-clause-added

@@ -1,0 +1,52 @@
+use Rattle.std.proofs.Common.{Err, ◌≡◌, ◌++◌, ◌∙◌, List, length, replicate, take, drop, sym, ap, subst}
+use Rattle.std.specs.List.{All}
+use Rattle.bdd_store.specs.declared.fault.StoreFault.{StoreFault}
+use Rattle.dual_rail.specs.declared.rail.Rails.{Rails}
+use Rattle.dual_rail.specs.Rails.{AreRailsOf, values_of}
+use Rattle.fixpoint.specs.Lifting.{AreLifted}
+use Rattle.fixpoint.specs.Sweeping.{unknown}
+use Rattle.fixpoint.proofs.BlockLemmas.{written}
+use Rattle.fixpoint.proofs.LiftLemmas.{rails-start, lifted-start}
+use Rattle.fixpoint.proofs.lifting.lift_gates.Goals as goal
+use Rattle.fixpoint.proofs.lifting.lift_gates.Goals.{After-lift_in_order}
+
+-- before the gates, inputs and latches have the given values
+start : (c : After-lift_in_order) → AreLifted c.args.net.now c.deref-2.result.now c.args.d.now (λ bits. values_of c.args.d.now c.args.given.now bits) 0 c.deref_mut.result.now
+start c =
+    lifted-start c.args.net.now c.deref-2.result.now c.args.d.now c.args.given.now c.deref_mut.result.now c.requires.width c.requires.rails
+    (c.deref_mut.ensures.value ∙ c.in-Ok-wires.ensures
+    ∙ ap (λ (rails : List Rails). c.args.given.now ++ rails) (c.deref.ensures.value ∙ c.in-Ok.ensures ∙ ap (λ n. replicate n unknown) c.gates.ensures.gates))
+
+-- after them, all rails are given back
+given-back : (c : After-lift_in_order) → take c.in-Ok-wires.rails.len (c.lift_in_order.new.rails ++ drop (length c.lift_in_order.new.rails) c.in-Ok-wires.rails.items) ≡ c.lift_in_order.new.rails
+given-back c =
+    written c.in-Ok-wires.rails.len c.lift_in_order.new.rails c.in-Ok-wires.rails.items
+    (sym c.deref_mut.ensures.len ∙ ap length c.deref_mut.ensures.value) (c.lift_in_order.auto.rails ∙ ap length c.deref_mut.ensures.value)
+
+pub lift_in_order-requires-clause-wires : goal.lift_in_order-requires-clause-wires
+lift_in_order-requires-clause-wires c =
+    rails-start c.args.net.now c.args.d.now c.args.given.now c.deref_mut.result.now c.requires.width c.requires.rails
+    (c.deref_mut.ensures.value ∙ c.in-Ok-wires.ensures
+    ∙ ap (λ (rails : List Rails). c.args.given.now ++ rails) (c.deref.ensures.value ∙ c.in-Ok.ensures ∙ ap (λ n. replicate n unknown) c.gates.ensures.gates))
+
+pub returns-clause-rails : goal.returns-clause-rails
+returns-clause-rails c =
+    subst (All (AreRailsOf c.lift_in_order.new.d)) (sym (given-back (goal.at.returns-clause-rails c).After-lift_in_order)) c.in_ok-lift_in_order.ensures.wires.proper
+
+pub returns-clause-values : goal.returns-clause-values
+returns-clause-values c bits =
+    ap (λ (rails : List Rails). values_of c.lift_in_order.new.d rails bits) (given-back (goal.at.returns-clause-values c).After-lift_in_order)
+    ∙ c.in_ok-lift_in_order.ensures.values (λ bs. values_of c.args.d.now c.args.given.now bs) (start (goal.at.returns-clause-values c).After-lift_in_order) bits
+
+pub returns-clause-added : goal.returns-clause-added
+returns-clause-added c w bounds =
+    c.lift_in_order.ensures.added (λ bits. values_of c.args.d.now c.args.given.now bits) w (start (goal.at.returns-clause-added c).After-lift_in_order) bounds
+
+pub returns-in_err-lift_in_order-clause-added : goal.returns-in_err-lift_in_order-clause-added
+returns-in_err-lift_in_order-clause-added c w bounds =
+    c.lift_in_order.ensures.added (λ bits. values_of c.args.d.now c.args.given.now bits) w (start (goal.at.returns-in_err-lift_in_order-clause-added c).After-lift_in_order) bounds
+
+pub returns-in_err-lift_in_order-clause-full : goal.returns-in_err-lift_in_order-clause-full
+returns-in_err-lift_in_order-clause-full c w bounds is_full =
+    c.in_err-lift_in_order.ensures.full (λ bits. values_of c.args.d.now c.args.given.now bits) w (start (goal.at.returns-in_err-lift_in_order-clause-full c).After-lift_in_order) bounds
+    (ap {A = StoreFault} Err (sym (rw is_full at c.from_residual.ensures.1)))
