@@ -1,41 +1,49 @@
-use Rattle.std.proofs.Common.{◌≡◌, ◌*◌, ◌<◌, inl, inr, Err, ℕ, length, sym, ap, subst, ◌∙◌, arith}
+use Rattle.std.proofs.Common.{◌≡◌, ◌*◌, ◌<◌, inl, inr, Err, ℕ, sym, ap, subst, ◌∙◌, arith}
 use Rattle.bdd_store.specs.declared.fault.StoreFault.{StoreFault}
 use Rattle.bdd_store.specs.Arena.{Arena}
 use Rattle.bdd_store.specs.Growth.{AddsAtMost, IsFullOnlyPast}
 use Rattle.cover_logic.specs.Covers.{value}
-use Rattle.dual_rail.specs.Local.{IsDiagramOf, function, size}
+use Rattle.dual_rail.specs.Local.{IsDiagramOf, function, local_size, size}
 use Rattle.dual_rail.specs.WorkingLists.{BoundsEach, IsExtended}
 use Rattle.netlist.specs.declared.parts.Gate.{Gate}
 use Rattle.netlist.specs.Netlists.{gate_at, no_gate}
 use Rattle.fixpoint.proofs.WorkLemmas.{bounds-diagram}
 use Rattle.fixpoint.proofs.wires.gate_rails.Goals as goal
+use Rattle.fixpoint.proofs.wires.gate_rails.Goals.{After-lift}
+
+-- the diagram is the cover's, and has its size
+of-cover : (c : After-lift) → IsDiagramOf c.in_ok-diagram.diagram (gate_at c.args.net.now c.args.gate).cover
+of-cover c = subst (λ (g : Gate). IsDiagramOf c.in_ok-diagram.diagram g.cover) c.gate.ensures.at c.in_ok-diagram.ensures.diagram
+
+as-large : (c : After-lift) → local_size c.in_ok-diagram.diagram ≡ size (gate_at c.args.net.now c.args.gate).cover
+as-large c = c.sizes.ensures c.in_ok-diagram.diagram (gate_at c.args.net.now c.args.gate).cover (of-cover c)
+
+-- a bound of the lift by the cover is one by its diagram
+bounded : (c : After-lift) (w : ℕ) → BoundsEach c.args.d.now.vars (IsExtended c.args.d.now c.args.pins.now (value (gate_at c.args.net.now c.args.gate).cover)) w →
+    BoundsEach c.args.d.now.vars (IsExtended c.args.d.now c.args.pins.now (function c.in_ok-diagram.diagram)) w
+bounded c w =
+    let cover = (gate_at c.args.net.now c.args.gate).cover in
+    bounds-diagram c.args.d.now c.args.pins.now c.in_ok-diagram.diagram (value cover) cover.pins (c.requires.pins ∙ c.gate.ensures.valid.pin_counts c.args.gate no_gate c.requires.gate) (of-cover c).function
+
+added : (c : After-lift) (w : ℕ) → BoundsEach c.args.d.now.vars (IsExtended c.args.d.now c.args.pins.now (value (gate_at c.args.net.now c.args.gate).cover)) w →
+    AddsAtMost c.args.d.now c.lift.new.d (w * (2 * size (gate_at c.args.net.now c.args.gate).cover))
+added c w bounds =
+    let all : AddsAtMost c.args.d.now c.lift.new.d (2 * w * size (gate_at c.args.net.now c.args.gate).cover) =
+    subst (λ m. AddsAtMost c.args.d.now c.lift.new.d (2 * w * m)) (as-large c) (c.lift.ensures.added w (bounded c w bounds)) in
+    omega (arith, all)
 
 pub returns-clause-added : goal.returns-clause-added
-returns-clause-added c w bounds =
-    let cover = (gate_at c.args.net.now c.args.gate).cover in
-    let is : IsDiagramOf c.in_ok-diagram.diagram (gate_at c.args.net.now c.args.gate).cover = subst (λ (g : Gate). IsDiagramOf c.in_ok-diagram.diagram g.cover) c.gate.ensures.at c.in_ok-diagram.ensures.diagram in
-    let len : length c.args.pins.now ≡ (gate_at c.args.net.now c.args.gate).cover.pins = c.requires.pins ∙ c.gate.ensures.valid.pin_counts c.args.gate no_gate c.requires.gate in
-    let bounds2 : BoundsEach c.args.d.now.vars (IsExtended c.args.d.now c.args.pins.now (function c.in_ok-diagram.diagram)) w = bounds-diagram c.args.d.now c.args.pins.now c.in_ok-diagram.diagram (value cover) cover.pins len is.function bounds in
-    let all : AddsAtMost c.args.d.now c.lift.new.d (2 * w * size cover) = subst (λ (m : ℕ). AddsAtMost c.args.d.now c.lift.new.d (2 * w * m)) (c.sizes.ensures c.in_ok-diagram.diagram cover is) (c.lift.ensures.added w bounds2) in
-    omega (arith, all)
+returns-clause-added c = added (goal.at.returns-clause-added c).After-lift
 
 pub returns-in_err-rails-clause-added : goal.returns-in_err-rails-clause-added
-returns-in_err-rails-clause-added c w bounds =
-    let cover = (gate_at c.args.net.now c.args.gate).cover in
-    let is : IsDiagramOf c.in_ok-diagram.diagram (gate_at c.args.net.now c.args.gate).cover = subst (λ (g : Gate). IsDiagramOf c.in_ok-diagram.diagram g.cover) c.gate.ensures.at c.in_ok-diagram.ensures.diagram in
-    let len : length c.args.pins.now ≡ (gate_at c.args.net.now c.args.gate).cover.pins = c.requires.pins ∙ c.gate.ensures.valid.pin_counts c.args.gate no_gate c.requires.gate in
-    let bounds2 : BoundsEach c.args.d.now.vars (IsExtended c.args.d.now c.args.pins.now (function c.in_ok-diagram.diagram)) w = bounds-diagram c.args.d.now c.args.pins.now c.in_ok-diagram.diagram (value cover) cover.pins len is.function bounds in
-    let all : AddsAtMost c.args.d.now c.lift.new.d (2 * w * size cover) = subst (λ (m : ℕ). AddsAtMost c.args.d.now c.lift.new.d (2 * w * m)) (c.sizes.ensures c.in_ok-diagram.diagram cover is) (c.lift.ensures.added w bounds2) in
-    omega (arith, all)
+returns-in_err-rails-clause-added c = added (goal.at.returns-in_err-rails-clause-added c).After-lift
 
 pub returns-in_err-rails-clause-full : goal.returns-in_err-rails-clause-full
 returns-in_err-rails-clause-full c w bounds is_full =
-    let cover = (gate_at c.args.net.now c.args.gate).cover in
-    let is : IsDiagramOf c.in_ok-diagram.diagram (gate_at c.args.net.now c.args.gate).cover = subst (λ (g : Gate). IsDiagramOf c.in_ok-diagram.diagram g.cover) c.gate.ensures.at c.in_ok-diagram.ensures.diagram in
-    let len : length c.args.pins.now ≡ (gate_at c.args.net.now c.args.gate).cover.pins = c.requires.pins ∙ c.gate.ensures.valid.pin_counts c.args.gate no_gate c.requires.gate in
-    let bounds2 : BoundsEach c.args.d.now.vars (IsExtended c.args.d.now c.args.pins.now (function c.in_ok-diagram.diagram)) w = bounds-diagram c.args.d.now c.args.pins.now c.in_ok-diagram.diagram (value cover) cover.pins len is.function bounds in
+    let after : After-lift = (goal.at.returns-in_err-rails-clause-full c).After-lift in
     let refused = ap {A = StoreFault} Err (sym (rw is_full at c.from_residual-in_err-rails.ensures.1)) in
-    let all : IsFullOnlyPast c.args.d.now c.lift.new.d (2 * w * size cover) = subst (λ (m : ℕ). IsFullOnlyPast c.args.d.now c.lift.new.d (2 * w * m)) (c.sizes.ensures c.in_ok-diagram.diagram cover is) (c.in_err-rails.ensures.full w bounds2 refused) in
+    let all : IsFullOnlyPast c.args.d.now c.lift.new.d (2 * w * size (gate_at c.args.net.now c.args.gate).cover) =
+    subst (λ m. IsFullOnlyPast c.args.d.now c.lift.new.d (2 * w * m)) (as-large after) (c.in_err-rails.ensures.full w (bounded after w bounds) refused) in
     inr (record { full = all.full; past = omega (arith, all.past) })
 
 pub returns-in_err-diagram-clause-full : goal.returns-in_err-diagram-clause-full
