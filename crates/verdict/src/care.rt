@@ -1,7 +1,6 @@
 //! The vectors on which the models of a care set hold.
 
 ghost use Rattle.std.specs.Prelude.{◌≡◌, ◌-◌, ◌<◌, ◌≤◌, ◌*◌, ◌⊎◌, ℕ, Bool, List, length, map, All, IfOk, IfSome};
-ghost use Rattle.std.specs.Option.{option_map_or};
 ghost use Rattle.bdd_store.specs.Arena.{den, IsNodeOf};
 ghost use Rattle.bdd_store.specs.Growth.{KeepsNodes, AddsAtMost, IsFullOnlyPast};
 ghost use Rattle.cyc_base.specs.Values.{bits};
@@ -12,6 +11,7 @@ ghost use Rattle.care_sets.specs.Care.{holds_at, is_allowed, is_in_invariant};
 ghost use Rattle.fixpoint.specs.Sweeping.{rails_at};
 ghost use Rattle.fixpoint.specs.Working.{HasLargeCover, effort};
 ghost use Rattle.verdict.specs.Causes.{HasModelOver};
+ghost use Rattle.verdict.specs.Costs.{assume_effort, invariant_effort};
 ghost use Rattle.verdict.specs.Enough.{IsOfModel};
 ghost use Rattle.verdict.specs.Sets.{model_of, ReadsWithin};
 
@@ -81,9 +81,9 @@ pub(crate) fn assume_on(
     ensures allowed { IfOk result (λ node. (values v : List Bool) → values_of d.old rails.now v ≡ bits values → den d.new node v ≡ is_allowed care.now values) }
     ensures keeps { KeepsNodes d.old d.new }
     ensures added { (w : ℕ) → IfSome care.now.assume (λ model. BoundsEach d.old.vars (IsOfModel model (values_of d.old rails.now)) w) →
-        AddsAtMost d.old d.new (w * (2 * option_map_or (λ model. effort model.net) care.now.assume 0)) }
+        AddsAtMost d.old d.new (w * (2 * assume_effort care.now)) }
     ensures full { (w : ℕ) → IfSome care.now.assume (λ model. BoundsEach d.old.vars (IsOfModel model (values_of d.old rails.now)) w) →
-        result ≡ Err StoreFault.Full → HasModelOver care.now d.old.limit ⊎ IsFullOnlyPast d.old d.new (w * (2 * option_map_or (λ model. effort model.net) care.now.assume 0)) }
+        result ≡ Err StoreFault.Full → HasModelOver care.now d.old.limit ⊎ IsFullOnlyPast d.old d.new (w * (2 * assume_effort care.now)) }
 {
     let Some(model) = care.assume() else {
         return Ok(Node::of(true));
@@ -106,9 +106,9 @@ pub(crate) fn invariant_on(
     ensures inside { IfOk result (λ node. (state v : List Bool) → values_of d.old latches.now v ≡ bits state → den d.new node v ≡ is_in_invariant care.now state) }
     ensures keeps { KeepsNodes d.old d.new }
     ensures added { (w : ℕ) → IfSome care.now.invariant (λ model. BoundsEach d.old.vars (IsOfModel model (values_of d.old latches.now)) w) →
-        AddsAtMost d.old d.new (w * (2 * option_map_or (λ model. effort model.net) care.now.invariant 0)) }
+        AddsAtMost d.old d.new (w * (2 * invariant_effort care.now)) }
     ensures full { (w : ℕ) → IfSome care.now.invariant (λ model. BoundsEach d.old.vars (IsOfModel model (values_of d.old latches.now)) w) →
-        result ≡ Err StoreFault.Full → HasModelOver care.now d.old.limit ⊎ IsFullOnlyPast d.old d.new (w * (2 * option_map_or (λ model. effort model.net) care.now.invariant 0)) }
+        result ≡ Err StoreFault.Full → HasModelOver care.now d.old.limit ⊎ IsFullOnlyPast d.old d.new (w * (2 * invariant_effort care.now)) }
 {
     let Some(model) = care.invariant() else {
         return Ok(Node::of(true));

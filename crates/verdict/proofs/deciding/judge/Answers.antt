@@ -1,8 +1,7 @@
-use Rattle.std.proofs.Common.{◌≡◌, ◌∙◌, inl, inr, ◌+◌, ◌*◌, ◌≤◌, ℕ, Bool, Err, None, List, length, sym, ap, subst, arith}
+use Rattle.std.proofs.Common.{◌≡◌, ◌∙◌, inl, inr, ◌+◌, ◌*◌, ◌≤◌, ℕ, Err, None, List, length, sym, ap, subst, arith}
 use Rattle.bdd_store.specs.declared.fault.StoreFault.{StoreFault}
 use Rattle.bdd_store.specs.Growth.{IsFullOnlyPast}
 use Rattle.bdd_store.specs.Soundness.{IsLawful}
-use Rattle.bdd_store.specs.Subfunctions.{prefixes}
 use Rattle.bdd_store.proofs.GrowthLemmas.{KeepsNodes-chain}
 use Rattle.dual_rail.specs.declared.rail.Rails.{Rails}
 use Rattle.dual_rail.specs.Rails.{values_of}
@@ -87,15 +86,7 @@ returns-clause-verdict g =
       };
     }
 
--- ---- why it ends without a verdict
-
--- some width, since each list has one
-
-abbrev some_width : ℕ → ℕ
-some_width vars = vars + 1 + length (prefixes vars)
-
-some-wide : (vars : ℕ) (P : (List Bool → Bool) → Type 0) → IsWide vars P (some_width vars)
-some-wide vars P = IsWide-some vars P
+-- ---- why it ends without a verdict: each list has some width
 
 pub returns-in_err-rails-clause-full : goal.returns-in_err-rails-clause-full
 returns-in_err-rails-clause-full c is_full =
@@ -107,14 +98,14 @@ returns-in_err-set-clause-full c is_full =
     let refused = ap {A = StoreFault} Err (sym (rw is_full at c.from_residual-in_err-set.ensures.1)) in
     let vars = c.column_rails.new.d.vars in
     out_care c.column_rails.new.d c.begin.new.d c.args.net.now c.args.care.now c.args.d.now.limit _ c.column_rails.ensures.keeps.limit c.begin.ensures.keeps
-    (c.in_err-set.ensures.full (some_width vars) (some-wide vars (IsOfDecision c.args.net.now c.args.care.now)) refused)
+    (c.in_err-set.ensures.full _ (IsWide-some vars (IsOfDecision c.args.net.now c.args.care.now)) refused)
 
 pub returns-in_err-solved-clause-full : goal.returns-in_err-solved-clause-full
 returns-in_err-solved-clause-full c is_full =
     let refused = ap {A = StoreFault} Err (sym (rw is_full at c.from_residual-in_err-solved.ensures.1)) in
     let vars = c.begin.new.d.vars in
     out_solved c.begin.new.d c.solve.new.d c.args.net.now c.args.care.now c.args.d.now.limit _ (c.begin.ensures.keeps.limit ∙ c.column_rails.ensures.keeps.limit) c.solve.ensures.keeps
-    (c.in_err-solved.ensures.full (some_width vars) (some-wide vars (IsWorking c.args.net.now (loops_by c.args.blocks.now c.args.cut.now) (values_of c.begin.new.d c.deref-2.result.now))) refused)
+    (c.in_err-solved.ensures.full _ (IsWide-some vars (IsWorking c.args.net.now (loops_by c.args.blocks.now c.args.cut.now) (values_of c.begin.new.d c.deref-2.result.now))) refused)
 
 pub returns-in_err-refusal-clause-full : goal.returns-in_err-refusal-clause-full
 returns-in_err-refusal-clause-full c is_full =
@@ -122,7 +113,7 @@ returns-in_err-refusal-clause-full c is_full =
     let vars = c.solve.new.d.vars in
     out_care c.solve.new.d c.later.new.d c.args.net.now c.args.care.now c.args.d.now.limit _
     (c.solve.ensures.keeps.limit ∙ c.begin.ensures.keeps.limit ∙ c.column_rails.ensures.keeps.limit) c.later.ensures.keeps
-    (c.in_err-refusal.ensures.full (some_width vars) (some-wide vars (IsOfDecision c.args.net.now c.args.care.now)) refused)
+    (c.in_err-refusal.ensures.full _ (IsWide-some vars (IsOfDecision c.args.net.now c.args.care.now)) refused)
 
 pub returns-in_err-counts-clause-full : goal.returns-in_err-counts-clause-full
 returns-in_err-counts-clause-full c is_full =
@@ -130,7 +121,7 @@ returns-in_err-counts-clause-full c is_full =
     let vars = c.later.new.d.vars in
     out_past c.later.new.d c.sweeps.new.d c.args.net.now c.args.care.now c.args.d.now.limit _
     (c.sweeps.ensures.keeps.limit ∙ c.later.ensures.keeps.limit ∙ c.solve.ensures.keeps.limit ∙ c.begin.ensures.keeps.limit ∙ c.column_rails.ensures.keeps.limit)
-    (c.in_err-counts.ensures.full (some_width vars) (some-wide vars (IsComparedIn c.later.new.d c.in-Care.set c.in_ok-solved.solved.loops)) refused)
+    (c.in_err-counts.ensures.full _ (IsWide-some vars (IsComparedIn c.later.new.d c.in-Care.set c.in_ok-solved.solved.loops)) refused)
 
 -- ---- what is used after each part, where none was before
 
