@@ -7,7 +7,7 @@ mod LoopLemmas
 mod BlockLemmas
 mod MinimumLemmas
 pub mod WorkLemmas
-pub mod CostLemmas
+mod CostLemmas
 mod BoundLemmas
 mod SolutionLemmas
 mod EffortLemmas

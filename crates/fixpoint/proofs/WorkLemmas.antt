@@ -3,8 +3,6 @@ use Rattle.std.proofs.Common.{◌≡◌, inl, inr, ◌⊎◌, ℕ, suc, ◌-◌,
 use Rattle.std.proofs.lemmas.Bool.{cases_lt, cases_Bool}
 use Rattle.std.proofs.lemmas.List.{length-map, get_or_append_left, length-append, length-drop}
 use Rattle.bdd_store.specs.Arena.{Arena}
-use Rattle.bdd_store.specs.Subfunctions.{nodes}
-use Rattle.bdd_store.proofs.SubfunctionLemmas.{nodes-alike}
 use Rattle.cover_logic.specs.Covers.{value}
 use Rattle.cover_logic.specs.Extensions.{ext, exact}
 use Rattle.cyc_base.specs.declared.trit.Trit.{Trit}
@@ -26,32 +24,6 @@ use Rattle.loops.proofs.Walks.{begins_at}
 use Rattle.fixpoint.specs.Laws.{FixIsWorking, SweepsAreWorking, GatePartsAgree}
 use Rattle.fixpoint.specs.Solved.{Vectors}
 use Rattle.fixpoint.specs.Working.{read_in_sweep, read_at_fix, IsReadInSweep, IsReadAtFix, IsGatePart, IsWorking, HasAlike}
-
--- ---- a width serves each function that is made of one of the list
-
--- g is made of one function of the list
-pub record Filled (P : (List Bool → Bool) → Type 0) (g : List Bool → Bool) : Type 0 where
-  pub of : List Bool → Bool
-  pub listed : P of
-  pub by : Bool → Bool
-  pub same : (bits : List Bool) → g bits ≡ by (of bits)
-
-pub filled-listed : (P : (List Bool → Bool) → Type 0) (f g : List Bool → Bool) → P f → ((bits : List Bool) → g bits ≡ f bits) → Filled P g
-filled-listed P f g is same = record { of = f; listed = is; by = λ x. x; same = same }
-
-pub wide-filled : {vars : ℕ} (P Q : (List Bool → Bool) → Type 0) (w : ℕ) → ((g : List Bool → Bool) → Q g → Filled P g) → IsWide vars P w → IsWide vars Q w
-wide-filled {vars} P Q w fill wide = record {
-  variables = wide.variables;
-  combinations = λ c f g h qf qg qh.
-      let x = fill f qf in
-      let y = fill g qg in
-      let z = fill h qh in
-      let most : nodes vars (λ bits. c (x.by (x.of bits)) (y.by (y.of bits)) (z.by (z.of bits))) ≤ w = wide.combinations (λ p q r. c (x.by p) (y.by q) (z.by r)) x.of y.of z.of x.listed y.listed z.listed in
-      let same : nodes vars (λ bits. c (f bits) (g bits) (h bits)) ≡ nodes vars (λ bits. c (x.by (x.of bits)) (y.by (y.of bits)) (z.by (z.of bits))) =
-      nodes-alike vars (λ bits. c (f bits) (g bits) (h bits)) (λ bits. c (x.by (x.of bits)) (y.by (y.of bits)) (z.by (z.of bits)))
-      (λ bits len. ap (λ p. c p (g bits) (h bits)) (x.same bits) ∙ ap (λ q. c (x.by (x.of bits)) q (h bits)) (y.same bits) ∙ ap (λ r. c (x.by (x.of bits)) (y.by (y.of bits)) r) (z.same bits)) in
-      omega (arith, most, same);
-}
 
 -- ---- the list of a lift by the cover, and by its diagram
 
