@@ -20,14 +20,14 @@ use Rattle.loops.specs.Found.{loops_of}
 use Rattle.loops.specs.Sweeps.{value_in}
 use Rattle.loops.proofs.Existence.{loops_exist}
 use Rattle.fixpoint.specs.Sweeping.{rails_at}
-use Rattle.fixpoint.specs.Working.{IsGatePart, IsWorking}
+use Rattle.fixpoint.specs.Working.{IsWorking}
 use Rattle.fixpoint.proofs.CutLemmas.{one-of, zero-of}
 use Rattle.fixpoint.proofs.WireLemmas.{rails_at-proper}
 use Rattle.fixpoint.proofs.WorkLemmas.{fix_is_working, gate_parts_agree}
 use Rattle.care_sets.specs.Care.{CareSet, columns, is_care_vector}
 use Rattle.refusals.specs.Refusals.{is_x}
 use Rattle.refusals.proofs.RefusalLemmas.{length-bits}
-use Rattle.verdict.specs.Enough.{IsOfDecision, IsColumn, SaysCare, IsOfNetlist}
+use Rattle.verdict.specs.Enough.{IsOfDecision, IsColumn, SaysStart, SaysInside, SaysCare, IsOfNetlist}
 use Rattle.verdict.specs.Next.{BoundsSignals}
 use Rattle.verdict.specs.Sets.{Tells, AreFixed, starts, has_state_inside, difference}
 use Rattle.verdict.proofs.CareLemmas.{value_at-place}

@@ -20,6 +20,7 @@ use Rattle.netlist.specs.Netlists.{IsNetlist}
 use Rattle.loops.specs.Sweeps.{value_in}
 use Rattle.loops.proofs.Reading.{get_or-fix, map_agree, wire_of_gate}
 use Rattle.fixpoint.specs.Working.{read_at_fix}
+use Rattle.fixpoint.proofs.WireLemmas.{map-map}
 use Rattle.care_sets.specs.declared.model.CareModel.{CareModel}
 use Rattle.care_sets.specs.Binding.{IsCareOf}
 use Rattle.care_sets.specs.Care.{CareSet, columns, is_one, inputs_at, holds_at, is_in_invariant, is_care_vector, HasValues}
@@ -33,7 +34,6 @@ use Rattle.verdict.specs.Next.{next_within}
 use Rattle.verdict.specs.Sets.{Tells, difference}
 use Rattle.verdict.proofs.CareLemmas.{model_is}
 use Rattle.verdict.proofs.DecisionLemmas.{IsMade, made-listed, made-told, made-two, made-signal}
-use Rattle.verdict.proofs.ModelLemmas.{map-map}
 use Rattle.verdict.proofs.WorkLemmas.{there_and}
 
 -- what latches load at a vector of the set

@@ -4,6 +4,7 @@ mod ColumnLemmas
 mod CountLemmas
 mod DecisionLemmas
 mod EnoughLemmas
+mod LeavesLemmas
 mod NextLemmas
 mod PartLemmas
 mod SetLemmas

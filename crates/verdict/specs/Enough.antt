@@ -1,5 +1,5 @@
 -- The functions that a decision works with, and how many nodes are enough for it.
-use Rattle.std.specs.Prelude.{◌≡◌, ◌<◌, ◌+◌, ◌-◌, ◌*◌, ℕ, Bool, List, length, map, IsSomeAnd, slice_index_or}
+use Rattle.std.specs.Prelude.{◌≡◌, ◌<◌, ◌≤◌, ◌+◌, ◌-◌, ◌*◌, ℕ, Bool, List, length, map, IsSomeAnd, slice_index_or}
 use Rattle.std.specs.Option.{option_map_or}
 use Rattle.bdd_ops.specs.Operations.{bit_at}
 use Rattle.cyc_base.specs.declared.trit.Trit.{Trit}
@@ -46,6 +46,12 @@ abbrev pub enough : Parts → CareSet → ℕ → ℕ
 enough net care w =
     16 * w * (in_all (λ n. length n.gates) net care + 2) * (in_all effort net care + columns net + 4)
 
--- the limit is below what is enough
+-- the limit is at least what is enough
+pub record IsEnough (net : Parts) (care : CareSet) (limit : ℕ) : Type 0 where
+  pub width : ℕ
+  pub wide : IsWide (columns net) (IsOfDecision net care) width
+  pub within : enough net care width ≤ limit
+
+-- it is below that
 pub record IsBelowEnough (net : Parts) (care : CareSet) (limit : ℕ) : Type 0 where
   pub below : (w : ℕ) → IsWide (columns net) (IsOfDecision net care) w → limit < enough net care w

@@ -9,6 +9,7 @@ mod care;
 mod columns;
 mod deciding;
 mod fault;
+pub mod laws;
 mod next;
 mod parts;
 mod sets;

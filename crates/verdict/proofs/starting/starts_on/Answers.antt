@@ -8,7 +8,7 @@ use Rattle.dual_rail.specs.declared.rail.Rails.{Rails}
 use Rattle.dual_rail.specs.Rails.{AreRailsOf}
 use Rattle.fixpoint.specs.Sweeping.{rails_at}
 use Rattle.fixpoint.proofs.WireLemmas.{rails_at-proper}
-use Rattle.care_sets.specs.Care.{columns, state_of}
+use Rattle.care_sets.specs.Care.{state_of}
 use Rattle.refusals.proofs.ShowingLemmas.{all_may_start}
 use Rattle.verdict.specs.Sets.{AreColumns, starts}
 use Rattle.verdict.proofs.CauseLemmas.{added-to, full-to}
