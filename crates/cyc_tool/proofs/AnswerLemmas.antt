@@ -1,18 +1,16 @@
 -- Over files that are told, a run gives the answer.
-use Rattle.std.proofs.Common.{◌≡◌, ◌⊎◌, ℕ, List, [], ◌∷◌, Some, None, refl, sym, ap, ap₂, subst, ◌∙◌, inl, inr}
+use Rattle.std.proofs.Common.{arith, ◌≡◌, ◌⊎◌, ℕ, List, ◌∷◌, Some, None, refl, sym, ap, subst, ◌∙◌, inl, inr}
 use Rattle.std.specs.Prelude.{IfSome, unwrap_or}
 use Rattle.std.specs.Option.{option_or}
 use Rattle.std.specs.declared.option.Option.{Option}
 use Rattle.bdd_store.specs.Arena.{Arena}
 use Rattle.cyc_io.specs.Files.{Files, IsFile}
-use Rattle.netlist.specs.declared.parts.Parts.{Parts}
-use Rattle.care_sets.specs.Care.{CareSet}
-use Rattle.cyc_tool.specs.Texts.{Outcome, limit_reached, no_memory}
-use Rattle.cyc_tool.specs.Words.{Options, Command, Check, command_of}
+use Rattle.cyc_tool.specs.Texts.{Outcome, no_memory}
+use Rattle.cyc_tool.specs.Words.{Options, Command, Check, command_of, Flat, Loops}
 use Rattle.cyc_tool.specs.Faults.{netlist_of}
-use Rattle.cyc_tool.specs.Answer.{Role, Netlist, Care, Given, netlist_file, care_file, care_files, given_by, files_of, files_of_words, file_stop, given_net, care_stop, stop_at, first_stop, of_file, on_care, outcome_on, outcome_of_command, limit_of, answer}
+use Rattle.cyc_tool.specs.Answer.{Netlist, Care, Given, netlist_file, care_file, care_files, given_by, files_of_words, file_stop, given_net, care_stop, first_stop, of_file, on_care, outcome_on, outcome_of_command, answer}
 use Rattle.cyc_tool.specs.Calls.{ShelfCall, SinkCall, ReadFailed, WriteFailed, Gave, GaveInOrder, ComesTo, Answers, MeetsLimit, StopsAtLimit, WantsMemory, IsTold, Tells, Runs}
-use Rattle.cyc_tool.specs.Causes.{IsLimited, MetLimit, NoneFailed, GivesAnswer}
+use Rattle.cyc_tool.specs.Causes.{MetLimit, NoneFailed, GivesAnswer, HasEnoughNodes, IsComplete}
 
 -- the shelf gave the file that is told, where no read of it failed
 gave_file : (shelf : ShelfCall) (told : Files) (name : List ℕ) (given : Option (List ℕ)) → shelf.files ≡ Some told
@@ -81,7 +79,7 @@ limited : (shelf : ShelfCall) (nodes : Arena) (words : List (List ℕ)) (name : 
     → command_of words ≡ Some (Check name options) → StopsAtLimit shelf nodes name options end → MetLimit shelf nodes (command_of words)
 limited shelf nodes words name options end is stops =
     let P : Option Command → Type 0 = MetLimit shelf nodes in
-    subst P (sym is) (record { net = stops.net; care = stops.care; gave = stops.gave; cause = stops.cause })
+    subst P (sym is) (record { net = stops.net; care = stops.care; gave = stops.gave; cause = stops.cause; below = stops.below })
 
 answer_told : (words : List (List ℕ)) (shelf : ShelfCall) (nodes : Arena) (end : Outcome) (told : Files) → ComesTo words shelf nodes end → shelf.files ≡ Some told
     → NoneFailed shelf told (files_of_words (command_of words)) → ComesToTold words shelf nodes told end
@@ -116,3 +114,28 @@ gives_answer words shelf nodes out err status runs = at_files shelf.files refl
     at_files None is = tt
     at_files (Some told) is = λ none_failed no_out no_err.
         by_telling told runs.tells (answer_told words shelf nodes runs.end told runs.comes is none_failed) no_out no_err
+
+-- a limit that is enough is not met
+not_limited : (shelf : ShelfCall) (nodes : Arena) (command : Option Command) → HasEnoughNodes shelf command → MetLimit shelf nodes command → ⊥
+not_limited shelf nodes None nodes_enough met = met
+not_limited shelf nodes (Some (Check name options)) nodes_enough met =
+    let is = nodes_enough met.net met.care met.gave in
+    let below = met.below.below is.width is.wide in
+    absurd (omega (arith, below, is.within))
+not_limited shelf nodes (Some (Flat name)) nodes_enough met = met
+not_limited shelf nodes (Some (Loops name)) nodes_enough met = met
+
+pub is_complete : (words : List (List ℕ)) (shelf : ShelfCall) (nodes : Arena) (out err : SinkCall) (status : ℕ) → Runs words shelf nodes out err status
+    → IsComplete words shelf out err status
+is_complete words shelf nodes out err status runs = at_files shelf.files (gives_answer words shelf nodes out err status runs)
+  where
+    at_files : (files : Option Files)
+        → IfSome files (λ told. NoneFailed shelf told (files_of_words (command_of words)) → (WriteFailed out → ⊥) → (WriteFailed err → ⊥)
+        → IsTold (answer words told) out err status ⊎ (MetLimit shelf nodes (command_of words) × (status ≡ 6)) ⊎ IsTold no_memory out err status)
+        → IfSome files (λ told. NoneFailed shelf told (files_of_words (command_of words)) → (WriteFailed out → ⊥) → (WriteFailed err → ⊥)
+        → HasEnoughNodes shelf (command_of words) → IsTold (answer words told) out err status ⊎ IsTold no_memory out err status)
+    at_files None gives = tt
+    at_files (Some told) gives = λ none_failed no_out no_err has. elim (gives none_failed no_out no_err) [
+      | inl whole ↦ inl whole
+      | inr rest ↦ elim rest [ inl met ↦ absurd (not_limited shelf nodes (command_of words) has met.0) | inr want ↦ inr want ]
+    ]

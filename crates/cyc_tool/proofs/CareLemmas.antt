@@ -1,9 +1,8 @@
 -- The care set of a file: what binding says of its models.
-use Rattle.std.proofs.Common.{◌≡◌, ◌⊎◌, inl, inr, ℕ, ◌+◌, ◌<◌, ◌≤◌, not, List, [], ◌∷◌, length, map, Some, None, Ok, Err, Bool, true, false, refl, sym, ap, ap₂, ◌∙◌, subst, arith, Contains, true≢false}
-use Rattle.std.specs.Prelude.{nat_le, if◌then◌else◌, IfSome, IfOk, IfErr, IsSomeAnd, option_map, unwrap_or, is_none, is_some, position, codes, ◌||◌, ◌&&◌}
+use Rattle.std.proofs.Common.{◌≡◌, ◌⊎◌, inl, inr, ℕ, ◌+◌, ◌<◌, ◌≤◌, not, List, [], ◌∷◌, length, map, Some, None, Ok, Err, Bool, true, false, refl, sym, ap, ap₂, ◌∙◌, subst, arith}
+use Rattle.std.specs.Prelude.{nat_le, if◌then◌else◌, IfSome, option_map, unwrap_or, is_none, is_some, position, codes, ◌||◌, ◌&&◌}
 use Rattle.std.specs.declared.option.Option.{Option}
-use Rattle.std.specs.declared.result.Result.{Result}
-use Rattle.std.specs.List.{AllByRecursion, range_with_len}
+use Rattle.std.specs.List.{AllByRecursion}
 use Rattle.std.specs.Option.{option_or, option_and_then}
 use Rattle.std.proofs.lemmas.List.Elements.{All-from_recursion}
 use Rattle.std.proofs.lemmas.List.Folds.{list_any_at, list_any_none}
@@ -20,7 +19,7 @@ use Rattle.loops.specs.Walks.{AnyGate, Leads}
 use Rattle.loops.proofs.Walks.{begins_at, leads-any}
 use Rattle.loops.proofs.Existence.{loops_exist}
 use Rattle.care_sets.specs.Care.{CareSet}
-use Rattle.care_sets.specs.Binding.{AreColumnsOf, Binds, BindsAny, BindsBoth, HasLoopAlone, HasNoFault, InvariantFails, IsBoundTo, IsCareOf, IsFaultOf, IsFirstFault, LacksModels, column_of, fault_but_loops}
+use Rattle.care_sets.specs.Binding.{Binds, BindsAny, BindsBoth, HasNoFault, IsCareOf, IsFaultOf, IsFirstFault, column_of}
 use Rattle.care_sets.specs.declared.fault.CareFault.{CareFault}
 use Rattle.care_sets.specs.declared.fault.CareFault.TheVariants.{NoModels, Loop}
 use Rattle.care_sets.specs.declared.model.CareModel.{CareModel}
@@ -30,11 +29,11 @@ use Rattle.cyc_io.specs.Faults.{Counts}
 use Rattle.flatten.specs.Flat.{flat}
 use Rattle.flatten.specs.declared.fault.FlatFault.{FlatFault}
 use Rattle.cyc_tool.specs.Calls.{ShelfCall, GaveCareFile}
-use Rattle.cyc_tool.specs.Reading.{EndsWithFault, GaveNone, GaveText, NoneFell, StopsAtFile, StopsWith}
+use Rattle.cyc_tool.specs.Reading.{GaveNone, GaveText, NoneFell, StopsAtFile, StopsWith}
 use Rattle.cyc_tool.specs.Texts.{Outcome, has_fault}
 use Rattle.cyc_tool.proofs.ReadingLemmas.{stops_if_fault, stops_with, stops_without_text}
 use Rattle.cyc_tool.specs.CareFiles.{no_care, part_of, some_part, with_assume, with_invariant, has_loop, model_fault, models_fault, bound_model, unless_fault, bound, care_of, care_models}
-use Rattle.cyc_tool.specs.Faults.{Fault, care_fault, flat_fault, flat_result, too_long}
+use Rattle.cyc_tool.specs.Faults.{care_fault, flat_fault, flat_result, too_long}
 
 -- a file that isn't too long has the care set of its text
 pub care_of_short : (net : Parts) (bytes : List ℕ) → length bytes ≤ MAX_FILE_BYTES → care_of net bytes ≡ care_models net (reads bytes)

@@ -1,5 +1,5 @@
 -- The cause of each status of a run.
-use Rattle.std.proofs.Common.{◌≡◌, ◌⊎◌, ℕ, ◌≤◌, List, [], ◌∷◌, Some, None, Ok, Err, Bool, true, false, refl, sym, ap, subst, ◌∙◌, inl, inr, arith}
+use Rattle.std.proofs.Common.{◌≡◌, ◌⊎◌, ℕ, List, [], ◌∷◌, Some, None, Ok, Err, refl, sym, ap, subst, ◌∙◌, inl, inr, arith}
 use Rattle.std.specs.Prelude.{IfSome, IsSomeAnd, unwrap_or}
 use Rattle.std.specs.Option.{option_or}
 use Rattle.std.specs.declared.option.Option.{Option}
@@ -16,9 +16,9 @@ use Rattle.cyc_tool.specs.CareFiles.{no_care, care_of}
 use Rattle.cyc_tool.specs.Faults.{Fault, netlist_of}
 use Rattle.cyc_tool.specs.Texts.{Outcome, has_fault, read_failed}
 use Rattle.cyc_tool.specs.Words.{Options, Command, Check, Flat, Loops, command_of}
-use Rattle.cyc_tool.specs.Answer.{Role, Netlist, Care, File, Given, given_net, netlist_file, care_file, care_files, files_of, files_of_words, fault_stop, file_stop, care_stop, ok_net, stop_at, first_stop, of_result, of_file, on_care, verdict, decided, outcome_on, outcome_of_command}
-use Rattle.cyc_tool.specs.Calls.{ShelfCall, SinkCall, ReadFailed, WriteFailed, Gave, GaveInOrder, GaveNetlist, GaveCare, GaveAll, StopsAtLimit, ComesTo, Answers, MeetsLimit, WantsMemory, Tells, Runs}
-use Rattle.cyc_tool.specs.Causes.{HasFault, ReadFailedInOrder, ReadOfWordsFailed, IsAccepted, IsGiven, IsDone, IsRefused, IsLimited, MetLimit, IsWithoutCommand}
+use Rattle.cyc_tool.specs.Answer.{Netlist, Care, File, Given, given_net, netlist_file, care_file, care_files, files_of, files_of_words, fault_stop, file_stop, care_stop, ok_net, stop_at, first_stop, of_result, of_file, on_care, verdict, decided, outcome_on, outcome_of_command}
+use Rattle.cyc_tool.specs.Calls.{ShelfCall, SinkCall, ReadFailed, WriteFailed, Gave, GaveInOrder, GaveNetlist, GaveCare, GaveAll, ComesTo, Answers, MeetsLimit, WantsMemory, Tells, Runs}
+use Rattle.cyc_tool.specs.Causes.{HasFault, ReadFailedInOrder, ReadOfWordsFailed, IsDone, IsRefused, MetLimit, IsWithoutCommand}
 
 -- what an outcome of this status came from
 pub data Ends (shelf : ShelfCall) (nodes : Arena) (command : Option Command) (status : ℕ) : Type 0 where
@@ -183,7 +183,7 @@ comes_ends words shelf nodes end (Answers given gave valid is) =
     subst P (sym is) (command_ends shelf nodes (command_of words) given gave valid)
 comes_ends words shelf nodes end (MeetsLimit name options asked stops) =
     let P : Option Command → Type 0 = MetLimit shelf nodes in
-    Limited (subst P (sym asked) (record { net = stops.net; care = stops.care; gave = stops.gave; cause = stops.cause })) (ap (λ (o : Outcome). o.status) stops.is)
+    Limited (subst P (sym asked) (record { net = stops.net; care = stops.care; gave = stops.gave; cause = stops.cause; below = stops.below })) (ap (λ (o : Outcome). o.status) stops.is)
 comes_ends words shelf nodes end (WantsMemory is) = Memory (ap (λ (o : Outcome). o.status) is)
 
 -- what a status came from, 5 being that of a failed write

@@ -1,14 +1,14 @@
 -- The lines of loops, one after another.
-use Rattle.std.proofs.Common.{◌≡◌, ℕ, ◌+◌, ◌<◌, ◌≤◌, Bool, true, false, cond, List, [], ◌∷◌, ◌++◌, length, filter, take, get_or, codes, refl, sym, ap, ap₂, ◌∙◌, arith, append-nil, append_assoc}
+use Rattle.std.proofs.Common.{◌≡◌, ℕ, ◌+◌, ◌<◌, Bool, true, false, cond, List, [], ◌∷◌, ◌++◌, length, filter, take, get_or, codes, refl, sym, ap, ap₂, ◌∙◌, arith, append-nil, append_assoc}
 use Rattle.std.specs.Prelude.{if◌then◌else◌}
 use Rattle.std.proofs.lemmas.List.{take_more}
 use Rattle.std.proofs.lemmas.List.Concat.{flat_map-append}
-use Rattle.std.specs.List.{flat_map, range_with_len}
+use Rattle.std.specs.List.{range_with_len}
 use Rattle.netlist.specs.declared.parts.Parts.{Parts}
 use Rattle.netlist.specs.Netlists.{gate_at}
 use Rattle.loops.specs.declared.parts.Cut.{Cut}
 use Rattle.loops.specs.Cuts.{IsCutOf, is_cut}
-use Rattle.loops.specs.Listed.{loop_of, cut_wires_of, begins_with, first_gates}
+use Rattle.loops.specs.Listed.{loop_of, begins_with}
 use Rattle.loops.proofs.ListedLemmas.{cut_wires_told, kept_more}
 use Rattle.cyc_tool.specs.LoopTexts.{names_text, loop_line, loop_lines, loop_at, numbered_loops}
 

@@ -1,11 +1,11 @@
 -- How a call comes to its outcome.
-use Rattle.std.proofs.Common.{◌≡◌, ℕ, ◌≤◌, List, [], ◌∷◌, Some, None, Ok, Err, refl, sym, ap, ◌∙◌, subst}
+use Rattle.std.proofs.Common.{◌≡◌, ℕ, List, ◌∷◌, Some, None, Ok, Err, refl, sym, ap, ◌∙◌, subst}
 use Rattle.std.specs.Prelude.{unwrap_or, IfSome}
 use Rattle.std.specs.Option.{option_or}
 use Rattle.std.specs.declared.option.Option.{Option}
 use Rattle.std.specs.declared.result.Result.{Result}
 use Rattle.bdd_store.specs.Arena.{Arena}
-use Rattle.cyc_io.specs.Faults.{Counts, Rose}
+use Rattle.cyc_io.specs.Faults.{Counts}
 use Rattle.cyc_io.specs.Files.{Files, IsFile}
 use Rattle.std.proofs.lemmas.Option.{none-some}
 use Rattle.cyc_io.proofs.FaultLemmas.{Rose_later}
@@ -23,9 +23,10 @@ use Rattle.cyc_tool.specs.declared.outcome.Stop.{Stop}
 use Rattle.cyc_tool.specs.declared.outcome.Stop.TheVariants.{At, Memory as LacksMemory}
 use Rattle.cyc_tool.specs.Texts.{Outcome, usage, accepted, refusal_told, limit_reached, no_memory}
 use Rattle.cyc_tool.specs.Words.{Options, Command, Check, command_of}
-use Rattle.cyc_tool.specs.Answer.{Role, Netlist, Care, Given, netlist_file, care_file, care_files, fault_stop, file_stop, given_net, ok_net, stop_at, care_stop, first_stop, of_result, of_file, on_care, verdict, outcome_on, files_of_words, limit_of, outcome_of_command}
+use Rattle.cyc_tool.specs.Answer.{Netlist, Care, Given, netlist_file, care_file, care_files, fault_stop, file_stop, given_net, ok_net, care_stop, first_stop, of_result, of_file, on_care, verdict, outcome_on, files_of_words, limit_of, outcome_of_command}
 use Rattle.verdict.specs.Causes.{IsOutOfNodes}
-use Rattle.cyc_tool.specs.Calls.{ShelfCall, Gave, GaveInOrder, GivenIsValid, GaveNetlist, GaveCareFile, GaveCare, GaveAll, ComesTo, Answers, MeetsLimit, WantsMemory}
+use Rattle.verdict.specs.Enough.{IsBelowEnough}
+use Rattle.cyc_tool.specs.Calls.{ShelfCall, Gave, GaveInOrder, GivenIsValid, GaveNetlist, GaveCare, GaveAll, ComesTo, Answers, MeetsLimit, WantsMemory}
 use Rattle.cyc_tool.specs.Reading.{CarriesOut, Comes, ComesOut, Decides, IsDecided, Lacks, LacksNodes, NoneFell, StopsAtCare, StopsAtFile}
 
 -- what the files of both roles gave
@@ -196,12 +197,13 @@ pub decided_out : (name : List ℕ) (options : Options) (shelf : ShelfCall) (nod
     → IsDecided net care limit nodes end → ComesOut (Check name options) shelf nodes end
 decided_out name options shelf nodes net care limit end valid gave gave_care is (Decides told) =
     Comes (goes_on (Check name options) shelf net care end valid (record { netlist = gave; care_set = gave_care }) told)
-decided_out name options shelf nodes net care limit end valid gave gave_care is (LacksNodes cause told) =
+decided_out name options shelf nodes net care limit end valid gave gave_care is (LacksNodes cause below told) =
     Lacks name options refl (record {
       net = net;
       care = care;
       gave = record { netlist = gave; care_set = gave_care };
       cause = (let P : ℕ → Type 0 = λ n. IsOutOfNodes nodes net care n in subst P is cause);
+      below = subst (IsBelowEnough net care) is below;
       is = told ∙ ap limit_reached is;
     })
 

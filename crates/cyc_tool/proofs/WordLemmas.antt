@@ -1,13 +1,12 @@
 -- The grammar of the words, read word by word.
-use Rattle.std.proofs.Common.{◌≡◌, ℕ, ◌+◌, ◌-◌, ◌*◌, ◌<◌, ◌≤◌, Bool, true, false, cond, ◌&&◌, List, [], ◌∷◌, length, take, drop, get_or, Some, None, refl, sym, ap, ap₂, ◌∙◌, subst, arith, codes}
-use Rattle.std.specs.Prelude.{if◌then◌else◌, nat_le, option_map, MatchOption}
+use Rattle.std.proofs.Common.{◌≡◌, ℕ, ◌+◌, ◌-◌, ◌*◌, ◌≤◌, Bool, true, false, ◌&&◌, List, [], ◌∷◌, length, take, drop, get_or, Some, None, refl, sym, ap, ap₂, ◌∙◌, arith, codes}
+use Rattle.std.specs.Prelude.{if◌then◌else◌, nat_le, option_map}
 use Rattle.std.proofs.Math.Seq.{take-length}
 use Rattle.std.specs.List.{list_all}
 use Rattle.std.specs.Option.{option_and_then}
 use Rattle.std.specs.Str.{bytes_eq}
-use Rattle.std.specs.declared.option.Option.{Option}
 use Rattle.cyc_base.specs.declared.limits.TheConstants.{MAX_NODES}
-use Rattle.cyc_tool.specs.Words.{Options, Command, Check, no_options, is_digit, with_digits, up_to_most, with_option, options_of, command_on}
+use Rattle.cyc_tool.specs.Words.{Options, Check, no_options, is_digit, with_digits, up_to_most, with_option, options_of, command_on}
 
 -- more digits make no less of a number
 no_less : (n : ℕ) (digits : List ℕ) → n ≤ with_digits n digits

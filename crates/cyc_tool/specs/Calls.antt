@@ -15,6 +15,7 @@ use Rattle.netlist.specs.declared.parts.Parts.{Parts}
 use Rattle.netlist.specs.Netlists.{IsNetlist}
 use Rattle.care_sets.specs.Care.{CareSet}
 use Rattle.verdict.specs.Causes.{IsOutOfNodes}
+use Rattle.verdict.specs.Enough.{IsBelowEnough}
 
 -- a shelf over a call: its files, where it tells them, and its counts of faults before and after
 pub record ShelfCall : Type 0 where
@@ -84,13 +85,14 @@ pub record GaveAll (shelf : ShelfCall) (command : Command) (net : Parts) (care :
   pub netlist : GaveNetlist shelf (netlist_file command) net
   pub care_set : GaveCare shelf (care_file command) net care
 
--- A decision met its limit: no file has a fault, and the diagrams are full or a cover is too
--- large for it.
+-- A decision met its limit: no file has a fault, the diagrams are full or a cover is too large for it, and it is
+-- below what is enough.
 pub record StopsAtLimit (shelf : ShelfCall) (nodes : Arena) (name : List ℕ) (options : Options) (end : Outcome) : Type 0 where
   pub net : Parts
   pub care : CareSet
   pub gave : GaveAll shelf (Check name options) net care
   pub cause : IsOutOfNodes nodes net care (limit_of options)
+  pub below : IsBelowEnough net care (limit_of options)
   pub is : end ≡ limit_reached (limit_of options)
 
 -- The call came to this outcome: that of its words, at what the shelf gave; or its decision met the limit of nodes,

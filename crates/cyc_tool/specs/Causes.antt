@@ -13,6 +13,7 @@ use Rattle.cyc_tool.specs.Texts.{no_memory}
 use Rattle.cyc_tool.specs.Words.{Options, Command, Check, Flat, Loops, command_of}
 use Rattle.cyc_tool.specs.Answer.{File, Given, files_of_words, stop_at, first_stop, limit_of, answer}
 use Rattle.verdict.specs.Causes.{IsOutOfNodes}
+use Rattle.verdict.specs.Enough.{IsEnough, IsBelowEnough}
 use Rattle.cyc_tool.specs.Calls.{ShelfCall, SinkCall, ReadFailed, WriteFailed, GaveInOrder, GaveAll, IsTold}
 
 -- Words outside the grammar get their status, unless a write failed or memory ran out.
@@ -71,12 +72,13 @@ IsRefused shelf (Some (Check name options)) = IsRefusedBy shelf (Check name opti
 IsRefused shelf (Some (Flat name)) = ⊥
 IsRefused shelf (Some (Loops name)) = ⊥
 
--- A decision was asked for and met its limit of nodes.
+-- A decision was asked for and met its limit of nodes, which is below what is enough.
 pub record IsLimited (shelf : ShelfCall) (nodes : Arena) (name : List ℕ) (options : Options) : Type 0 where
   pub net : Parts
   pub care : CareSet
   pub gave : GaveAll shelf (Check name options) net care
   pub cause : IsOutOfNodes nodes net care (limit_of options)
+  pub below : IsBelowEnough net care (limit_of options)
 
 abbrev pub MetLimit : ShelfCall → Arena → Option Command → Type 0
 MetLimit shelf nodes None = ⊥
@@ -95,3 +97,17 @@ abbrev pub GivesAnswer : List (List ℕ) → ShelfCall → Arena → SinkCall �
 GivesAnswer words shelf nodes out err status = IfSome shelf.files (λ told.
     NoneFailed shelf told (files_of_words (command_of words)) → (WriteFailed out → ⊥) → (WriteFailed err → ⊥)
     → IsTold (answer words told) out err status ⊎ (MetLimit shelf nodes (command_of words) × (status ≡ 6)) ⊎ IsTold no_memory out err status)
+
+-- The limit of nodes is enough for what the shelf gave. A command that doesn't decide has none.
+abbrev pub HasEnoughNodes : ShelfCall → Option Command → Type 0
+HasEnoughNodes shelf None = Unit {0}
+HasEnoughNodes shelf (Some (Check name options)) =
+    (net : Parts) (care : CareSet) → GaveAll shelf (Check name options) net care → IsEnough net care (limit_of options)
+HasEnoughNodes shelf (Some (Flat name)) = Unit {0}
+HasEnoughNodes shelf (Some (Loops name)) = Unit {0}
+
+-- With enough nodes it gives the answer, or wants memory.
+abbrev pub IsComplete : List (List ℕ) → ShelfCall → SinkCall → SinkCall → ℕ → Type 0
+IsComplete words shelf out err status = IfSome shelf.files (λ told.
+    NoneFailed shelf told (files_of_words (command_of words)) → (WriteFailed out → ⊥) → (WriteFailed err → ⊥)
+    → HasEnoughNodes shelf (command_of words) → IsTold (answer words told) out err status ⊎ IsTold no_memory out err status)

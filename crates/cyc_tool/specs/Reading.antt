@@ -9,6 +9,7 @@ use Rattle.netlist.specs.declared.parts.Parts.{Parts}
 use Rattle.bdd_store.specs.Arena.{Arena}
 use Rattle.care_sets.specs.Care.{CareSet}
 use Rattle.verdict.specs.Causes.{IsOutOfNodes}
+use Rattle.verdict.specs.Enough.{IsBelowEnough}
 use Rattle.cyc_tool.specs.CareFiles.{care_of}
 use Rattle.cyc_tool.specs.Faults.{Fault, too_long}
 use Rattle.cyc_tool.specs.Texts.{Outcome, has_fault, limit_reached, read_failed}
@@ -61,7 +62,7 @@ StopsAtCare shelf (Some name) net end = StopsAtFile (care_of net) shelf name end
 -- A decision came to its outcome, or met the limit of nodes.
 pub data IsDecided (net : Parts) (care : CareSet) (limit : ℕ) (nodes : Arena) (end : Outcome) : Type 0 where
   Decides : end ≡ decided net care → IsDecided net care limit nodes end
-  LacksNodes : IsOutOfNodes nodes net care limit → end ≡ limit_reached limit → IsDecided net care limit nodes end
+  LacksNodes : IsOutOfNodes nodes net care limit → IsBelowEnough net care limit → end ≡ limit_reached limit → IsDecided net care limit nodes end
 
 -- The command came to its outcome, or its decision met the limit of nodes.
 pub data ComesOut (command : Command) (shelf : ShelfCall) (nodes : Arena) (end : Outcome) : Type 0 where

@@ -1,5 +1,5 @@
 -- The outcomes of a call: a status, and the texts for out and err.
-use Rattle.std.specs.Prelude.{ℕ, List, [], ◌∷◌, ◌++◌, length, codes, decimal}
+use Rattle.std.specs.Prelude.{ℕ, List, [], ◌++◌, length, codes, decimal}
 use Rattle.netlist.specs.declared.parts.Parts.{Parts}
 use Rattle.blif_write.specs.Written.{written}
 use Rattle.loops.specs.Listed.{first_gates}

@@ -10,9 +10,13 @@ mod loop_texts;
 mod outcome;
 mod reading;
 #[cfg(test)]
+mod refusal_tests;
+pub mod status;
+#[cfg(test)]
 mod tests;
 mod texts;
 mod top;
 mod words;
 
+pub use texts::{NO_MEMORY_TEXT, USAGE_TEXT};
 pub use top::run;

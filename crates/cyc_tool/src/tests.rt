@@ -292,6 +292,20 @@ fn care_row(number: u32) -> (&'static str, &'static str, &'static str, u8, &'sta
             1,
             "refused empty care\n",
         ),
+        6 => (
+            "check m.blif",
+            ".model ring\n.inputs r0 r1 r2\n.outputs g0 g1 g2\n.latch t2 t0 1\n.latch t0 t1 0\n.latch t1 t2 0\n.names t0 p2 e0\n1- 1\n-1 1\n.names e0 r0 p0\n10 1\n.names e0 r0 g0\n11 1\n.names t1 p0 e1\n1- 1\n-1 1\n.names e1 r1 p1\n10 1\n.names e1 r1 g1\n11 1\n.names t2 p1 e2\n1- 1\n-1 1\n.names e2 r2 p2\n10 1\n.names e2 r2 g2\n11 1\n.end\n",
+            "",
+            1,
+            "refused undetermined wire=e0 at r0=0 r1=0 r2=0 t0=0 t1=0 t2=0\n",
+        ),
+        7 => (
+            "check m.blif --care c.blif",
+            ".model ring\n.inputs r0 r1 r2\n.outputs g0 g1 g2\n.latch t2 t0 1\n.latch t0 t1 0\n.latch t1 t2 0\n.names t0 p2 e0\n1- 1\n-1 1\n.names e0 r0 p0\n10 1\n.names e0 r0 g0\n11 1\n.names t1 p0 e1\n1- 1\n-1 1\n.names e1 r1 p1\n10 1\n.names e1 r1 g1\n11 1\n.names t2 p1 e2\n1- 1\n-1 1\n.names e2 r2 p2\n10 1\n.names e2 r2 g2\n11 1\n.end\n",
+            ".model invariant\n.inputs t0 t1 t2\n.outputs ok\n.names t0 t1 t2 ok\n100 1\n010 1\n001 1\n.end\n",
+            0,
+            "accepted gates=9 loops=1 latches=3\n",
+        ),
         _ => (
             "check m.blif --nodes 1296",
             ".model n\n.inputs a b\n.outputs y\n.names a b y\n11 1\n.end\n",
@@ -360,7 +374,7 @@ fn care_fault(number: u32) -> (&'static str, &'static str, &'static str, u8, &'s
 #[test]
 fn care_sets_are_decided(rt: HostRuntime) -> Result<(), Fail> {
     let alloc = rt.alloc();
-    for number in 0..7 {
+    for number in 0..9 {
         let (words, text, care, status, printed) = care_row(number);
         let text = text.as_bytes().to_vec(alloc)?;
         let seen = call_bytes(alloc, words, text, care.as_bytes(), &[], &[])?;

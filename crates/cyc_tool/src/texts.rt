@@ -8,6 +8,7 @@ ghost use Rattle.cyc_tool.specs.Seen.{told_outcome};
 
 use crate::loop_texts::loops_text;
 use crate::outcome::Told;
+use crate::status;
 use blif_write::write;
 use cyc_base::Name;
 use cyc_io::TextSink;
@@ -17,6 +18,12 @@ use netlist::Netlist;
 use refusals::Refusal;
 use report::{put_accepted, put_refusal};
 use std::alloc::{AllocError, Global};
+
+/// What words outside the grammar are told.
+pub const USAGE_TEXT: &[u8] = b"usage: cyc COMMAND FILES OPTIONS\n";
+
+/// What want of memory is told.
+pub const NO_MEMORY_TEXT: &[u8] = b"no memory\n";
 
 // A line of two parts.
 fn line_of(alloc: Global, front: &[u8], back: &[u8]) -> Result<Vec<u8>, AllocError>
@@ -52,13 +59,17 @@ fn on_out(alloc: Global, status: u8, out: Vec<u8>) -> Told
 pub(crate) fn tell_usage(alloc: Global) -> Result<Told, AllocError>
     ensures { IfOk result (λ told. told_outcome told ≡ usage) }
 {
-    on_err(alloc, 2, b"usage: cyc COMMAND FILES OPTIONS", b"")
+    Ok(Told {
+        status: status::USAGE,
+        out: Vec::new(alloc),
+        err: USAGE_TEXT.to_vec(alloc)?,
+    })
 }
 
 pub(crate) fn tell_read_failed(alloc: Global, file: &Name) -> Result<Told, AllocError>
     ensures { IfOk result (λ told. told_outcome told ≡ read_failed file.now) }
 {
-    on_err(alloc, 4, file.bytes(), b": read failed")
+    on_err(alloc, status::READ_FAILED, file.bytes(), b": read failed")
 }
 
 pub(crate) fn tell_limit(alloc: Global, limit: u32) -> Result<Told, AllocError>
@@ -67,7 +78,7 @@ pub(crate) fn tell_limit(alloc: Global, limit: u32) -> Result<Told, AllocError>
     let mut front = Vec::new(alloc);
     front.extend_from_slice(b"node limit ")?;
     front.extend_from_slice(Buffer::new().format(limit).as_bytes())?;
-    Ok(on_err(alloc, 6, &front, b" reached")?)
+    Ok(on_err(alloc, status::LIMIT_REACHED, &front, b" reached")?)
 }
 
 pub(crate) fn tell_accepted(
@@ -80,7 +91,7 @@ pub(crate) fn tell_accepted(
 {
     let mut sink = TextSink::new(alloc);
     match put_accepted(net, count_loops(net, blocks), &mut sink) {
-        Ok(()) => Ok(on_out(alloc, 0, sink.into_vec())),
+        Ok(()) => Ok(on_out(alloc, status::DONE, sink.into_vec())),
         Err(_) => Err(AllocError),
     }
 }
@@ -95,7 +106,7 @@ pub(crate) fn tell_refusal(
 {
     let mut sink = TextSink::new(alloc);
     match put_refusal(net, refusal, &mut sink) {
-        Ok(()) => Ok(on_out(alloc, 1, sink.into_vec())),
+        Ok(()) => Ok(on_out(alloc, status::REFUSED, sink.into_vec())),
         Err(_) => Err(AllocError),
     }
 }
@@ -105,7 +116,7 @@ pub(crate) fn tell_flat(alloc: Global, net: &Netlist) -> Result<Told, AllocError
 {
     let mut sink = TextSink::new(alloc);
     match write(net, &mut sink) {
-        Ok(()) => Ok(on_out(alloc, 0, sink.into_vec())),
+        Ok(()) => Ok(on_out(alloc, status::DONE, sink.into_vec())),
         Err(_) => Err(AllocError),
     }
 }
@@ -116,5 +127,5 @@ pub(crate) fn tell_loops(alloc: Global, net: &Netlist) -> Result<Told, AllocErro
     let blocks = find_blocks(alloc, net)?;
     let cut = find_cut(alloc, net, &blocks)?;
     let text = loops_text(alloc, net, &blocks, &cut)?;
-    Ok(on_out(alloc, 0, text))
+    Ok(on_out(alloc, status::DONE, text))
 }

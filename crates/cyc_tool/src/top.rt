@@ -3,7 +3,7 @@ ghost use Rattle.std.specs.Prelude.{◌≡◌, ◌⊎◌, ◌≤◌, None, IfOk,
 ghost use Rattle.report.specs.Texts.{tail_text};
 ghost use Rattle.cyc_tool.specs.Answer.{files_of_words};
 ghost use Rattle.cyc_tool.specs.Calls.{shelf_call, sink_call, ComesTo, Tells, Runs, WriteFailed};
-ghost use Rattle.cyc_tool.specs.Causes.{HasFault, ReadOfWordsFailed, IsDone, IsRefused, MetLimit, GivesAnswer, IsWithoutCommand};
+ghost use Rattle.cyc_tool.specs.Causes.{HasFault, ReadOfWordsFailed, IsDone, IsRefused, MetLimit, GivesAnswer, IsComplete, IsWithoutCommand};
 ghost use Rattle.cyc_tool.specs.Reading.{CarriesOut, ComesOut};
 ghost use Rattle.cyc_tool.specs.Seen.{outcome_of, told_outcome, fault_of, tail_of as tail_seen, end_of, command_seen, options_seen};
 ghost use Rattle.cyc_tool.specs.Texts.{has_fault};
@@ -12,15 +12,14 @@ ghost use Rattle.cyc_tool.specs.Words.{command_of, Check, Flat, Loops};
 use crate::decision::decide_netlist;
 use crate::outcome::{End, FileFault, Stop, Told};
 use crate::reading::{read_care, read_netlist};
-use crate::texts::{tell_flat, tell_loops, tell_usage};
+use crate::status;
+use crate::texts::{NO_MEMORY_TEXT, tell_flat, tell_loops, tell_usage};
 use crate::words::{Command, Options, command_of_words};
 use bdd_ops::Diagrams;
 use cyc_base::{DEFAULT_NODES, Name};
 use cyc_io::{Shelf, Sink, write_whole};
 use report::{Tail, put_fault};
 use std::alloc::Global;
-
-const NO_MEMORY: &[u8] = b"no memory\n";
 
 // Decides the netlist of a file on its care set.
 #[tactic(auto, using(crate::proofs::RunLemmas::netlist_stops_out_if, crate::proofs::RunLemmas::care_stops_out_if))]
@@ -101,10 +100,10 @@ fn tell<O: Sink, E: Sink>(
         (sink_call O.put O.faults out.old out.new) (sink_call E.put E.faults err.old err.new) result }
 {
     if write_whole(out, out_text).is_err() {
-        return 5;
+        return status::WRITE_FAILED;
     }
     if write_whole(err, err_text).is_err() {
-        return 5;
+        return status::WRITE_FAILED;
     }
     status
 }
@@ -137,8 +136,8 @@ fn tell_fault<O: Sink, E: Sink>(fault: &FileFault, out: &mut O, err: &mut E) -> 
         tail_of(&fault.name),
         err,
     ) {
-        Ok(()) => 3,
-        Err(_) => 5,
+        Ok(()) => status::FAULT,
+        Err(_) => status::WRITE_FAILED,
     }
 }
 
@@ -167,7 +166,7 @@ fn answer_and_tell<S: Shelf, O: Sink, E: Sink>(
     match find_outcome(alloc, words, shelf, d) {
         Ok(end) => tell_end(&end, out, err),
         Err(Stop::At(end)) => tell_end(&end, out, err),
-        Err(Stop::Memory) => tell(7, b"", NO_MEMORY, out, err),
+        Err(Stop::Memory) => tell(status::NO_MEMORY, b"", NO_MEMORY_TEXT, out, err),
     }
 }
 
@@ -178,7 +177,8 @@ fn answer_and_tell<S: Shelf, O: Sink, E: Sink>(
 /// the call show the cause of status 6.
 ///
 /// 0: done or accepted. 1: refused. 2: the words aren't in the grammar. 3: a file has a fault. 4: a file wasn't read.
-/// 5: a write failed; each sink has a prefix of its text. 6: the limit of nodes was met. 7: want of memory.
+/// 5: a write failed; each sink has a prefix of its text. 6: the limit of nodes was met, which is below what is enough.
+/// 7: want of memory.
 #[tactic(auto, using(crate::proofs::CauseLemmas::usage_cause, crate::proofs::CauseLemmas::usage_told, crate::proofs::CauseLemmas::write_cause))]
 pub fn run<S: Shelf, O: Sink, E: Sink>(
     alloc: Global,
@@ -209,6 +209,8 @@ pub fn run<S: Shelf, O: Sink, E: Sink>(
 
     // What follows where the files are told.
     ensures answer { GivesAnswer words.now (shelf_call S.files S.faults shelf.old shelf.new) d.new
+        (sink_call O.put O.faults out.old out.new) (sink_call E.put E.faults err.old err.new) result }
+    ensures complete { IsComplete words.now (shelf_call S.files S.faults shelf.old shelf.new)
         (sink_call O.put O.faults out.old out.new) (sink_call E.put E.faults err.old err.new) result }
 {
     answer_and_tell(alloc, words, shelf, out, err, d)

@@ -1,4 +1,4 @@
-use Rattle.std.proofs.Common.{ℕ, ◌+◌, ◌≤◌, cond, sym, ap, subst, ◌∙◌, arith}
+use Rattle.std.proofs.Common.{◌+◌, ◌≤◌, cond, sym, ap, ◌∙◌, arith}
 use Rattle.loops.specs.Listed.{loop_of, begins_with}
 use Rattle.loops.proofs.ListedLemmas.{at_most_one, counted_more}
 use Rattle.cyc_tool.proofs.LoopTextLemmas.{numbered_at}

@@ -1,4 +1,4 @@
-use Rattle.std.proofs.Common.{ap, ◌∙◌, arith}
+use Rattle.std.proofs.Common.{ap, ◌∙◌}
 use Rattle.netlist.specs.declared.parts.Gate.{Gate}
 use Rattle.cyc_tool.proofs.LoopTextLemmas.{names_more}
 use Rattle.cyc_tool.proofs.loop_texts.push_names.Goals as goal

@@ -1,4 +1,4 @@
-use Rattle.cyc_tool.proofs.AnswerLemmas.{gives_answer}
+use Rattle.cyc_tool.proofs.AnswerLemmas.{gives_answer, is_complete}
 use Rattle.cyc_tool.proofs.CauseLemmas.{usage_cause, write_cause, usage_told, fault_cause, read_cause, limit_cause, is_done, refuses}
 use Rattle.cyc_tool.proofs.top.run.Goals as goal
 
@@ -28,3 +28,6 @@ returns-clause-usage g c = usage_cause _ _ _ _ _ _ c.answer_and_tell.ensures
 
 pub returns-clause-write_failed : goal.returns-clause-write_failed
 returns-clause-write_failed g c = write_cause _ _ _ _ _ _ c.answer_and_tell.ensures
+
+pub returns-clause-complete : goal.returns-clause-complete
+returns-clause-complete g c = is_complete _ _ _ _ _ _ c.answer_and_tell.ensures
