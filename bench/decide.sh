@@ -1,6 +1,7 @@
 #!/usr/bin/env bash
-# Decides rings with one token, of 8 to 64 cells, and the examples with care files, and prints time and peak memory of
-# each.
+# Decides rings with one token, of 8 to 64 cells, and the examples with care files. It prints time and peak memory of
+# each, and the nodes that the diagrams hold at its end: no node is ever dropped, so that is the least limit that isn't
+# reached.
 set -u
 top=$(cd "$(dirname "$0")/.." && pwd) || exit 1
 dir=$(mktemp -d) || exit 1
@@ -28,12 +29,32 @@ ring() {
     }' >"$dir/ring.blif"
 }
 
+meets() {
+    local limit=$1
+    shift
+    "$top/cyc" check "$@" --nodes "$limit" >/dev/null 2>&1
+    [ $? -eq 6 ]
+}
+
+nodes() {
+    local low=0 high=1 middle
+    while meets "$high" "$@"; do
+        low=$high
+        high=$((high * 2))
+    done
+    while [ $((high - low)) -gt 1 ]; do
+        middle=$(((low + high) / 2))
+        if meets "$middle" "$@"; then low=$middle; else high=$middle; fi
+    done
+    echo "$high"
+}
+
 measure() {
     local name=$1
     shift
     /usr/bin/time -o "$dir/time" -f "%U %S %M" "$top/cyc" check "$@" >"$dir/out" 2>&1
-    tail -n 1 "$dir/time" | awk -v name="$name" -v line="$(head -n 1 "$dir/out" | cut -c1-60)" \
-        '{ printf "%-16s %7.2f s %9d kB   %s\n", name, $1 + $2, $3, line }'
+    tail -n 1 "$dir/time" | awk -v name="$name" -v nodes="$(nodes "$@")" -v line="$(head -n 1 "$dir/out" | cut -c1-60)" \
+        '{ printf "%-16s %7.2f s %9d kB %8d nodes   %s\n", name, $1 + $2, $3, nodes, line }'
 }
 
 "$top/cyc" check "$top/examples/full_adder.blif" >/dev/null 2>&1 # builds the program where it isn't built
