@@ -14,13 +14,11 @@ pub mod laws;
 mod models;
 mod open_gate;
 mod open_model;
-mod parts;
 mod place;
 mod reader;
 mod rows;
 mod statement;
-#[cfg(test)]
-mod tests;
+mod subckts;
 mod text;
 mod words;
 

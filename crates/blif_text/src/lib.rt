@@ -14,6 +14,3 @@ mod word_buffer;
 
 pub use fault::TextFault;
 pub use lines::{Lines, end_line};
-
-#[cfg(test)]
-mod tests;

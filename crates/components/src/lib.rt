@@ -9,8 +9,6 @@ mod components;
 mod graph;
 mod order;
 mod search;
-#[cfg(test)]
-mod tests;
 
 pub use components::Components;
 pub use graph::Graph;

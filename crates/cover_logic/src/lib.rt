@@ -8,8 +8,6 @@ mod cover;
 mod extend;
 pub mod laws;
 mod row;
-#[cfg(test)]
-mod tests;
 mod value;
 
 pub use cover::{Cover, CoverFault};

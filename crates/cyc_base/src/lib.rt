@@ -10,8 +10,6 @@ pub mod laws;
 mod limits;
 mod name;
 mod sig;
-#[cfg(test)]
-mod tests;
 mod trit;
 
 pub use items::{Bits, Items, Trits};

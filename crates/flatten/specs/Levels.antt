@@ -13,7 +13,7 @@ use Rattle.flatten.specs.declared.fault.FlatFault.{FlatFault}
 use Rattle.flatten.specs.declared.fault.FlatFault.TheVariants.{TooLarge}
 use Rattle.flatten.specs.declared.library.Library.{Library}
 use Rattle.flatten.specs.declared.walk.Level.{Level}
-use Rattle.flatten.specs.declared.walk.Lines.{Lines}
+use Rattle.flatten.specs.declared.walk.FlatBody.{FlatBody}
 use Rattle.flatten.specs.declared.walk.Walk.{Walk}
 use Rattle.flatten.specs.Paths.{Instance}
 use Rattle.flatten.specs.Instances.{find_model, model_at, formals, entry, pairs_fault}
@@ -172,5 +172,5 @@ pub record IsBegun (model room : ℕ) (walk : Walk) : Type 0 where
   pub room_is : walk.room ≡ room
 
 -- the lines that were collected
-abbrev pub lines_of : Lines → FlatLines
+abbrev pub lines_of : FlatBody → FlatLines
 lines_of lines = record { latches = lines.latches.items; gates = lines.gates.items }

@@ -12,8 +12,6 @@ mod library;
 mod link;
 mod mark;
 mod scope;
-#[cfg(test)]
-mod tests;
 mod walk;
 
 pub use fault::FlatFault;

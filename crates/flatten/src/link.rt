@@ -8,7 +8,7 @@ ghost use Rattle.flatten.specs.Levels.{lines_of};
 
 use crate::fault::FlatFault;
 use crate::library::add_all;
-use crate::walk::Lines;
+use crate::walk::FlatBody;
 use blif_read::{BlifModel, GateLine, LatchLine};
 use cyc_base::{Items, Name, Sig};
 use indexmap::IndexSet;
@@ -309,7 +309,7 @@ fn copy_control(latches: &[LatchLine]) -> Result<Option<Clock>, AllocError>
 }
 
 /// The drivers of these lines, all of them different.
-fn drivers_of(alloc: Global, top: &BlifModel, lines: &Lines) -> Result<Drivers, FlatFault>
+fn drivers_of(alloc: Global, top: &BlifModel, lines: &FlatBody) -> Result<Drivers, FlatFault>
     ensures drivers { IfOk result (λ drivers. IsDriversOf top.now (lines_of lines.now) drivers) }
     ensures once { OnOk result (option_or (declared_twice top.now) (driven_twice top.now (lines_of lines.now)) ≡ None) }
     ensures fault { IfErr result (λ fault. (fault ≡ FlatFault.Memory)
@@ -328,7 +328,7 @@ fn drivers_of(alloc: Global, top: &BlifModel, lines: &Lines) -> Result<Drivers, 
 }
 
 /// That each wire that is read is driven, and that the controls are one clock of the top.
-fn check_lines(drivers: &Drivers, top: &BlifModel, lines: &Lines) -> Result<(), FlatFault>
+fn check_lines(drivers: &Drivers, top: &BlifModel, lines: &FlatBody) -> Result<(), FlatFault>
     requires { IsDriversOf top.now (lines_of lines.now) drivers.now }
     ensures fits { OnOk result (option_or (undriven top.now (lines_of lines.now)) (bad_clock top.now (lines_of lines.now)) ≡ None) }
     ensures fault { IfErr result (λ fault. (fault ≡ FlatFault.Memory)
@@ -350,7 +350,7 @@ fn parts_of(
     alloc: Global,
     drivers: &Drivers,
     top: &BlifModel,
-    lines: &Lines,
+    lines: &FlatBody,
 ) -> Result<Parts, FlatFault>
     requires { HasSignals drivers.now }
     ensures parts { IfOk result (λ parts. parts ≡ netlist_by (sig_or drivers.now) top.now (lines_of lines.now)) }
@@ -374,7 +374,7 @@ fn parts_of(
 }
 
 /// The parts of the netlist of these lines, or their first fault.
-pub(crate) fn link(alloc: Global, top: &BlifModel, lines: &Lines) -> Result<Parts, FlatFault>
+pub(crate) fn link(alloc: Global, top: &BlifModel, lines: &FlatBody) -> Result<Parts, FlatFault>
     requires inputs { length top.now.inputs ≤ 4000000000 }
     requires lines { length lines.now.latches.items + length lines.now.gates.items ≤ 4000000 }
     ensures parts { IfOk result (λ parts. linked top.now (lines_of lines.now) ≡ Ok parts) }

@@ -159,7 +159,7 @@ fn step(
 
 /// The latches and the gates of a flat netlist, by their printed names.
 #[derive(Drop)]
-pub(crate) struct Lines {
+pub(crate) struct FlatBody {
     pub(crate) latches: Vec<LatchLine>,
     pub(crate) gates: Vec<GateLine>,
 }
@@ -195,7 +195,7 @@ pub(crate) fn flat_lines(
     top: usize,
     depth: usize,
     limit: u32,
-) -> Result<Lines, FlatFault>
+) -> Result<FlatBody, FlatFault>
     requires library { IsLibraryOf models.now library.now }
     requires mark { mark.now ≡ mark_of models.now }
     requires sound { CanBeFlattened models.now }
@@ -209,7 +209,7 @@ pub(crate) fn flat_lines(
     while let Some(level) = walk.levels.pop() {
         step(alloc, models, library, mark, depth, &mut walk, level)?;
     }
-    Ok(Lines {
+    Ok(FlatBody {
         latches: walk.latches,
         gates: walk.gates,
     })

@@ -13,11 +13,9 @@ mod listing;
 mod orders;
 mod parts;
 mod search;
-#[cfg(test)]
-mod tests;
 
 pub use blocks::find_blocks;
 pub use cuts::find_cut;
 pub use listing::{count_loops, loop_from};
 pub use orders::order_of_block;
-pub use parts::{Block, Blocks, Cut};
+pub use parts::{Block, Blocks, Cut, SweepCounts};

@@ -24,3 +24,10 @@ pub struct Cut {
     /// One entry for each gate.
     pub wires: Bits,
 }
+
+/// How many sweeps loops need.
+#[derive(Debug, Drop)]
+pub struct SweepCounts {
+    /// One for each block, and 0 for a block that is no loop.
+    pub per_block: Items<u32>,
+}

@@ -12,8 +12,6 @@ mod names;
 mod netlist;
 mod order;
 mod parts;
-#[cfg(test)]
-mod tests;
 
 pub use netlist::Netlist;
 pub use parts::{Clock, Edge, Gate, Init, Latch, Parts, PartsFault};

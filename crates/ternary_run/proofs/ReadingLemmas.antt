@@ -15,8 +15,8 @@ use Rattle.netlist.specs.declared.parts.Gate.{Gate}
 use Rattle.netlist.specs.declared.parts.Parts.{Parts}
 use Rattle.netlist.specs.Netlists.{gate_at, no_gate}
 use Rattle.netlist.specs.Fixpoint.{wire}
-use Rattle.ternary_run.specs.declared.readers.Read.{Read}
-use Rattle.ternary_run.specs.Reading.{reads_of_pins, reads_from, reads, reads_signal, readers_of, IsReadersOf}
+use Rattle.ternary_run.specs.declared.fanout.Read.{Read}
+use Rattle.ternary_run.specs.Reading.{reads_of_pins, reads_from, reads, reads_signal, readers_of, IsFanoutOf}
 use Rattle.ternary_run.proofs.Lists.{Contains-map, Contains-filter, Contains-here, Contains-there, drop-get}
 
 pub reads_from-drop : (gates : List Gate) (n : ℕ) (gate : Gate) → slice_get gates n ≡ Some gate → reads_from n (drop n gates) ≡ reads_of_pins n gate.pins ++ reads_from (n + 1) (drop (n + 1) gates)
@@ -87,7 +87,7 @@ reads_from-contain (gate ∷ gates) n (suc k) s l h =
     (reads_from-contain gates (n + 1) k s (omega arith) h))
 
 -- and so is its gate among the readers of the signal
-pub readers_of-contain : (net : Parts) (list : List Read) (g : ℕ) (s : Sig) → IsReadersOf net list → g < length net.gates → Contains (gate_at net g).pins s → Contains (readers_of list s) g
+pub readers_of-contain : (net : Parts) (list : List Read) (g : ℕ) (s : Sig) → IsFanoutOf net list → g < length net.gates → Contains (gate_at net g).pins s → Contains (readers_of list s) g
 readers_of-contain net list g s all l h =
     let e : 0 + g ≡ g = omega arith in
     let read : Read = record { signal = s; gate = g } in
@@ -105,7 +105,7 @@ reads_from-below (gate ∷ gates) n m l =
     (All-map P (λ (p : Sig). let read : Read = record { signal = p; gate = n } in read) gate.pins (λ k d below. here))
     (reads_from-below gates (n + 1) m (omega arith))
 
-pub readers_of-below : (net : Parts) (list : List Read) (s : Sig) → IsReadersOf net list → All (λ g. g < length net.gates) (readers_of list s)
+pub readers_of-below : (net : Parts) (list : List Read) (s : Sig) → IsFanoutOf net list → All (λ g. g < length net.gates) (readers_of list s)
 readers_of-below net list s all =
     let P : Read → Type 0 = λ r. r.gate < length net.gates in
     All-map (λ g. g < length net.gates) (λ (r : Read). r.gate) (filter (reads_signal s) list)

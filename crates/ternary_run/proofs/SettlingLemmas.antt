@@ -18,8 +18,8 @@ use Rattle.netlist.specs.declared.parts.Parts.{Parts}
 use Rattle.netlist.specs.Netlists.{count, gate_at, gate_sig, no_gate}
 use Rattle.netlist.specs.Fixpoint.{wires, wire, gate_value, step, fix_gates, fix}
 use Rattle.netlist.proofs.FixpointLemmas.{length-step, length-steps, step_is_monotone, fix_is_fixpoint, fix_is_below_closed, unknown_below_state, one_gate_stays_below_fix, known_count, known_count-le, same_or_more}
-use Rattle.ternary_run.specs.declared.readers.Read.{Read}
-use Rattle.ternary_run.specs.Reading.{readers_of, IsReadersOf}
+use Rattle.ternary_run.specs.declared.fanout.Read.{Read}
+use Rattle.ternary_run.specs.Reading.{readers_of, IsFanoutOf}
 use Rattle.ternary_run.specs.Settling.{all_unknown, Determines, IsNewValue}
 use Rattle.ternary_run.proofs.Lists.{Contains-cases, Contains-nothing, EachBelow-from_at}
 use Rattle.ternary_run.proofs.ReadingLemmas.{readers_of-contain, readers_of-below, readers_of-length, reads_or_same}
@@ -85,7 +85,7 @@ gate_unchanged net v values g queue w h none = record {
 step-gate : (net : Parts) (v state : List Trit) (g : ℕ) → g < length net.gates → get_or (step net v state) g X ≡ gate_value (wires v state) (gate_at net g)
 step-gate net v state g l = get_or-map (gate_value (wires v state)) net.gates g no_gate X l
 
-pub gate_determined : (net : Parts) (v values : List Trit) (g : ℕ) (queue : List ℕ) (list : List Read) (value : Trit) → HasWidth net v → IsReadersOf net list → IsSettling net v values (g ∷ queue) → Determines net values g value →
+pub gate_determined : (net : Parts) (v values : List Trit) (g : ℕ) (queue : List ℕ) (list : List Read) (value : Trit) → HasWidth net v → IsFanoutOf net list → IsSettling net v values (g ∷ queue) → Determines net values g value →
     IsSettling net v (set values (gate_sig net g).0 value) (queue ++ readers_of list (gate_sig net g))
 gate_determined net v values g queue list value w all h d =
     let in_range : g < length net.gates = All-head (λ k. k < length net.gates) g queue h.queued in
@@ -207,7 +207,7 @@ settled_at net v values queue e h = settled net v values (rw e at h)
 pub gate_unchanged_at : (net : Parts) (v values : List Trit) (g : ℕ) (queue rest : List ℕ) (r : Option Trit) → HasWidth net v → queue ≡ g ∷ rest → r ≡ None → IsSettling net v values queue → IsNewValue net values g r → IsSettling net v values rest
 gate_unchanged_at net v values g queue rest r w e n h d = gate_unchanged net v values g rest w (rw e at h) (rw n at d)
 
-pub gate_determined_at : (net : Parts) (v values : List Trit) (g : ℕ) (queue rest : List ℕ) (list : List Read) (r : Option Trit) (value : Trit) (s : Sig) (after : List ℕ) → HasWidth net v → IsReadersOf net list →
+pub gate_determined_at : (net : Parts) (v values : List Trit) (g : ℕ) (queue rest : List ℕ) (list : List Read) (r : Option Trit) (value : Trit) (s : Sig) (after : List ℕ) → HasWidth net v → IsFanoutOf net list →
     queue ≡ g ∷ rest → r ≡ Some value → s ≡ gate_sig net g → after ≡ rest ++ readers_of list s →
     IsSettling net v values queue → IsNewValue net values g r → IsSettling net v (set values s.0 value) after
 gate_determined_at net v values g queue rest list r value s after w all e n p f h d =

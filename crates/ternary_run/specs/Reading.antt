@@ -4,7 +4,7 @@ use Rattle.std.specs.List.Sorted.{IsPermutation, IsNonDecreasingBy}
 use Rattle.cyc_base.specs.declared.sig.Sig.{Sig}
 use Rattle.netlist.specs.declared.parts.Gate.{Gate}
 use Rattle.netlist.specs.declared.parts.Parts.{Parts}
-use Rattle.ternary_run.specs.declared.readers.Read.{Read}
+use Rattle.ternary_run.specs.declared.fanout.Read.{Read}
 
 -- the pins of the gate of this number
 abbrev pub reads_of_pins : ℕ → List Sig → List Read
@@ -27,6 +27,6 @@ abbrev pub readers_of : List Read → Sig → List ℕ
 readers_of list signal = map (λ read. read.gate) (filter (reads_signal signal) list)
 
 -- the pins of all gates, in the order of the signals that they read
-pub record IsReadersOf (net : Parts) (list : List Read) : Type 0 where
+pub record IsFanoutOf (net : Parts) (list : List Read) : Type 0 where
   pub complete : IsPermutation (reads net) list
   pub sorted : IsNonDecreasingBy (λ read. read.signal.0) list

@@ -5,12 +5,10 @@
 //! values of all signals at the fixpoint, and `tick` also the outputs and the latches' next values.
 #![tactic(auto)]
 
-mod readers;
+mod fanout;
 mod settling;
-#[cfg(test)]
-mod tests;
 mod ticks;
 
-pub use readers::{Read, Readers};
+pub use fanout::{Fanout, Read};
 pub use settling::settle;
 pub use ticks::{TickValues, tick};

@@ -5,10 +5,10 @@ ghost use Rattle.std.specs.List.{range_with_len};
 ghost use Rattle.cyc_base.specs.declared.trit.Trit.TheVariants.{X};
 ghost use Rattle.netlist.specs.Netlists.{count};
 ghost use Rattle.netlist.specs.Fixpoint.{wires, wire, gate_value as value_of_gate, fix};
-ghost use Rattle.ternary_run.specs.Reading.{reads_signal, IsReadersOf};
+ghost use Rattle.ternary_run.specs.Reading.{reads_signal, IsFanoutOf};
 ghost use Rattle.ternary_run.specs.Settling.{all_unknown, IsNewValue};
 
-use crate::readers::Readers;
+use crate::fanout::Fanout;
 use cyc_base::{Sig, Trit};
 use netlist::{Gate, Netlist};
 use std::alloc::{AllocError, Global};
@@ -85,7 +85,7 @@ fn new_value(
     }
 }
 
-impl Readers {
+impl Fanout {
     /// The values of all signals at the least fixpoint, where the inputs and then the latches have the
     /// given values.
     ///
@@ -99,7 +99,7 @@ impl Readers {
         given: &[Trit],
     ) -> Result<Vec<Trit>, AllocError>
         requires width { length given.now ≡ length net.now.inputs + length net.now.latches }
-        requires readers { IsReadersOf net.now self.now }
+        requires readers { IsFanoutOf net.now self.now }
         ensures { IfOk result (λ values. values.items ≡ fix net.now given.now) }
     {
         let mut values = unsettled(alloc, net, given)?;
@@ -115,12 +115,12 @@ impl Readers {
     }
 }
 
-/// The values of all signals at the least fixpoint, as by `Readers::settle`, where one vector alone is
+/// The values of all signals at the least fixpoint, as by `Fanout::settle`, where one vector alone is
 /// settled.
 pub fn settle(alloc: Global, net: &Netlist, given: &[Trit]) -> Result<Vec<Trit>, AllocError>
     requires { length given.now ≡ length net.now.inputs + length net.now.latches }
     ensures { IfOk result (λ values. values.items ≡ fix net.now given.now) }
 {
-    let readers = Readers::of(alloc, net)?;
-    readers.settle(alloc, net, given)
+    let fanout = Fanout::of(alloc, net)?;
+    fanout.settle(alloc, net, given)
 }

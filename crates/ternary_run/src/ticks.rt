@@ -3,10 +3,10 @@
 ghost use Rattle.std.specs.Prelude.{◌≡◌, ◌++◌, length, IfOk};
 ghost use Rattle.netlist.specs.Netlists.{count};
 ghost use Rattle.netlist.specs.Fixpoint.{loaded as loaded_values};
-ghost use Rattle.ternary_run.specs.Reading.{IsReadersOf};
+ghost use Rattle.ternary_run.specs.Reading.{IsFanoutOf};
 ghost use Rattle.ternary_run.specs.Ticks.{IsTickOf};
 
-use crate::readers::Readers;
+use crate::fanout::Fanout;
 use crate::settling::{value_of, values_of};
 use cyc_base::{Trit, Trits};
 use netlist::Netlist;
@@ -42,7 +42,7 @@ fn loaded(alloc: Global, net: &Netlist, values: &[Trit]) -> Result<Vec<Trit>, Al
     Ok(next)
 }
 
-impl Readers {
+impl Fanout {
     /// The tick in which the inputs and the latches have these values.
     pub fn tick(
         &self,
@@ -53,7 +53,7 @@ impl Readers {
     ) -> Result<TickValues, AllocError>
         requires inputs { length inputs.now ≡ length net.now.inputs }
         requires latches { length latches.now ≡ length net.now.latches }
-        requires readers { IsReadersOf net.now self.now }
+        requires readers { IsFanoutOf net.now self.now }
         ensures { IfOk result (IsTickOf net.now (inputs.now ++ latches.now)) }
     {
         let given = vector(alloc, inputs, latches)?;
@@ -68,7 +68,7 @@ impl Readers {
     }
 }
 
-/// The tick in which the inputs and the latches have these values, as by `Readers::tick`, where one
+/// The tick in which the inputs and the latches have these values, as by `Fanout::tick`, where one
 /// vector alone is looked at.
 pub fn tick(
     alloc: Global,
@@ -80,6 +80,6 @@ pub fn tick(
     requires latches { length latches.now ≡ length net.now.latches }
     ensures { IfOk result (IsTickOf net.now (inputs.now ++ latches.now)) }
 {
-    let readers = Readers::of(alloc, net)?;
-    readers.tick(alloc, net, inputs, latches)
+    let fanout = Fanout::of(alloc, net)?;
+    fanout.tick(alloc, net, inputs, latches)
 }

@@ -1,6 +1,0 @@
-use Rattle.std.proofs.Common.{◌≡◌, ℕ, ◌<◌, get_or, false}
-use Rattle.blif_read.specs.Faults.{is_equals}
-use Rattle.blif_read.proofs.parts.equals_at.Given as goal
-
-abbrev pub invariant-loop-at : goal.invariant-loop-at
-invariant-loop-at l = (k : ℕ) → k < l.at → is_equals (get_or l.word k 0) ≡ false

@@ -1,0 +1,58 @@
+-- The gates stay below the fixpoint, and the work falls, whether the gate is determined or not.
+use Rattle.std.proofs.Common.{◌≡◌, ◌<◌, [], length, ◌∙◌, ap, arith}
+use Rattle.cyc_base.specs.declared.sig.Sig.{Sig}
+use Rattle.netlist.specs.Netlists.{count, gate_sig}
+use Rattle.ternary_run.proofs.SettlingLemmas.{settling_starts_at, settled_at, gate_unchanged_at, gate_determined_at, determined_falls_at, unchanged_falls_at, waiting_gate, nothing_left, length-settling}
+use Rattle.ternary_run.proofs.fanout.Fanout.settle.Goals as goal
+
+pub loop-gate-init : goal.loop-gate-init
+loop-gate-init c =
+    settling_starts_at c.args.net.now c.args.given.now c.in_ok-values.values.items c.in_ok-queue.queue.items c.gates.result
+    c.in_ok-values.ensures c.gates.ensures.gates c.in_ok-queue.ensures
+
+pub new_value-requires-clause-width : goal.new_value-requires-clause-width
+new_value-requires-clause-width c =
+    ap length c.deref.ensures.value
+    ∙ length-settling c.args.net.now c.args.given.now c.loop-gate.values.items c.loop-gate.queue.items c.requires.width c.loop-gate.invariant
+
+pub new_value-requires-clause-gate : goal.new_value-requires-clause-gate
+new_value-requires-clause-gate c = waiting_gate c.args.net.now c.args.given.now c.loop-gate.values.items c.in-Some.gate c.loop-gate.queue.items c.pop_front.new.self.items c.in-Some.ensures.items c.loop-gate.invariant
+
+pub index_mut-requires : goal.index_mut-requires
+index_mut-requires c =
+    let net = c.args.net.now in
+    let values = c.loop-gate.values.items in
+    let queue = c.loop-gate.queue.items in
+    let is_gate : c.in-Some.gate < length net.gates =
+    waiting_gate net c.args.given.now values c.in-Some.gate queue c.pop_front.new.self.items c.in-Some.ensures.items c.loop-gate.invariant in
+    let width : length values ≡ count net = length-settling net c.args.given.now values queue c.requires.width c.loop-gate.invariant in
+    let signal : c.gate_sig-signal.result.0 ≡ (gate_sig net c.in-Some.gate).0 = ap (λ (s : Sig). s.0) c.gate_sig-signal.ensures.sig in
+    omega (arith, c.deref.ensures.len, ap length c.deref.ensures.value)
+
+pub loop-gate-smaller-in-Continue-branch-5 : goal.loop-gate-smaller-in-Continue-branch-5
+loop-gate-smaller-in-Continue-branch-5 c =
+    determined_falls_at c.args.net.now c.args.given.now c.loop-gate.values.items c.in-Some.gate c.loop-gate.queue.items c.pop_front.new.self.items
+    c.args.self.now c.in_ok-value.field-0 c.in-Some-2.value c.gate_sig-signal.result c.queue_readers.new.queue.items
+    c.requires.width c.in-Some.ensures.items c.in-Some-2.is c.gate_sig-signal.ensures.sig c.in_ok-queue_readers.ensures
+    c.loop-gate.invariant (rw c.deref.ensures.value at c.in_ok-value.ensures)
+
+pub loop-gate-preserved-in-Continue-branch-5 : goal.loop-gate-preserved-in-Continue-branch-5
+loop-gate-preserved-in-Continue-branch-5 c =
+    gate_determined_at c.args.net.now c.args.given.now c.loop-gate.values.items c.in-Some.gate c.loop-gate.queue.items c.pop_front.new.self.items
+    c.args.self.now c.in_ok-value.field-0 c.in-Some-2.value c.gate_sig-signal.result c.queue_readers.new.queue.items
+    c.requires.width c.requires.readers c.in-Some.ensures.items c.in-Some-2.is c.gate_sig-signal.ensures.sig c.in_ok-queue_readers.ensures
+    c.loop-gate.invariant (rw c.deref.ensures.value at c.in_ok-value.ensures)
+
+pub loop-gate-smaller : goal.loop-gate-smaller
+loop-gate-smaller c = unchanged_falls_at (length c.args.self.now) c.loop-gate.values.items c.in-Some.gate c.loop-gate.queue.items c.pop_front.new.self.items c.in-Some.ensures.items
+
+pub loop-gate-preserved : goal.loop-gate-preserved
+loop-gate-preserved c =
+    gate_unchanged_at c.args.net.now c.args.given.now c.loop-gate.values.items c.in-Some.gate c.loop-gate.queue.items c.pop_front.new.self.items
+    c.in_ok-value.field-0 c.requires.width c.in-Some.ensures.items c.in_default-2.is
+    c.loop-gate.invariant (rw c.deref.ensures.value at c.in_ok-value.ensures)
+
+pub returns : goal.returns
+returns c =
+    let empty : c.loop-gate.queue.items ≡ [] = nothing_left c.loop-gate.queue.items (omega (arith, c.in_default.ensures.cases)) in
+    settled_at c.args.net.now c.args.given.now c.loop-gate.values.items c.loop-gate.queue.items empty c.loop-gate.invariant

@@ -1,5 +1,0 @@
-use Rattle.std.proofs.Common.{◌≡◌, ◌++◌, take, map}
-use Rattle.ternary_run.proofs.readers.queue_gates.Given as goal
-
-abbrev pub invariant-loop-read : goal.invariant-loop-read
-invariant-loop-read l = l.queue.items ≡ l.initial.queue.items ++ map (λ read. read.gate) (take l.read-index l.reads)
