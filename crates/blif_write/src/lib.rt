@@ -10,8 +10,6 @@ mod latches;
 pub mod laws;
 mod names;
 mod put;
-#[cfg(test)]
-mod tests;
 mod text;
 
 pub use text::write;

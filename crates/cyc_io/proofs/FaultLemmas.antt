@@ -1,9 +1,8 @@
 -- Counts over several calls.
-use Rattle.std.proofs.Common.{◌≡◌, inl, inr, ℕ, ◌-◌, ◌^◌, ◌≤◌, nat_lt, Bool, true, false, List, refl, sym, subst, ◌∙◌, arith}
+use Rattle.std.proofs.Common.{◌≡◌, inl, inr, ℕ, ◌-◌, ◌^◌, ◌≤◌, nat_lt, Bool, true, false, List, refl, sym, subst, ap, ◌∙◌, arith}
 use Rattle.std.specs.Str.{bytes_eq}
 use Rattle.std.proofs.lemmas.Slice.Eq.{bytes_eq-Decides}
-use Rattle.cyc_io.specs.Counts.{Kept, count_of, next_count, RaisesOnly}
-use Rattle.cyc_io.specs.Faults.{Counts, ChangesCountOf, Rose}
+use Rattle.cyc_io.specs.Faults.{Counts, ChangesCountOf, RaisesOnly, Rose, SameCounts, next_count}
 
 -- a call that changes none
 pub ChangesCountOf_refl : (name : List ℕ) (counts : Counts) → ChangesCountOf name counts counts
@@ -34,31 +33,35 @@ next_rose n = cases (nat_lt n (2 ^ 64 - 1)) refl
     cases true e = inl (grind (arith))
     cases false e = inr (grind (arith))
 
--- a fault of a name, behind calls that changed no count
-pub raised_only : (old kept new : Kept) (name : List ℕ) → ((other : List ℕ) → count_of kept other ≡ count_of old other)
-    → RaisesOnly name kept new → ChangesCountOf name (count_of old) (count_of new)
+-- A fault of a name, behind calls that changed no count.
+
+pub raises_behind : (old kept new : Counts) (name : List ℕ) → SameCounts old kept → RaisesOnly name kept new → RaisesOnly name old new
+raises_behind old kept new name same raises = record {
+  raised = raises.raised ∙ ap next_count (same name);
+  others = λ other differs. raises.others other differs ∙ same other;
+}
+
+pub raised_only : (old kept new : Counts) (name : List ℕ) → SameCounts old kept → RaisesOnly name kept new → ChangesCountOf name old new
 raised_only old kept new name same raises = record {
   later = λ other. by_name other (bytes_eq other name) refl;
   others = λ other differs. raises.others other differs ∙ same other;
 }
   where
-    raised_later : count_of old name ≤ count_of new name
-    raised_later = rw raises.raised (omega (arith, next_later (count_of kept name), same name))
+    raised_later : old name ≤ new name
+    raised_later = rw raises.raised (omega (arith, next_later (kept name), same name))
 
-    by_name : (other : List ℕ) (t : Bool) → bytes_eq other name ≡ t → count_of old other ≤ count_of new other
+    by_name : (other : List ℕ) (t : Bool) → bytes_eq other name ≡ t → old other ≤ new other
     by_name other true e =
-        let P : List ℕ → Type 0 = λ n. count_of old n ≤ count_of new n in
+        let P : List ℕ → Type 0 = λ n. old n ≤ new n in
         subst P (sym ((bytes_eq-Decides other name).0 e)) raised_later
     by_name other false e =
         let differs : other ≡ name → ⊥ = λ is. let yes : bytes_eq other name ≡ true = (bytes_eq-Decides other name).1 is in cc in
         omega (arith, same other, raises.others other differs)
 
-pub raised_rose : (old kept new : Kept) (name : List ℕ) → ((other : List ℕ) → count_of kept other ≡ count_of old other)
-    → RaisesOnly name kept new → Rose (count_of old name) (count_of new name)
+pub raised_rose : (old kept new : Counts) (name : List ℕ) → SameCounts old kept → RaisesOnly name kept new → Rose (old name) (new name)
 raised_rose old kept new name same raises =
     let P : ℕ → Type 0 = λ n. Rose n (next_count n) in
-    rw (raises.raised, ← same name) (next_rose (count_of kept name))
+    rw (raises.raised, ← same name) (next_rose (kept name))
 
-pub same_only : (old kept : Kept) (name : List ℕ) → ((other : List ℕ) → count_of kept other ≡ count_of old other)
-    → ChangesCountOf name (count_of old) (count_of kept)
+pub same_only : (old kept : Counts) (name : List ℕ) → SameCounts old kept → ChangesCountOf name old kept
 same_only old kept name same = record { later = λ other. omega (arith, same other); others = λ other differs. same other }

@@ -1,13 +1,13 @@
 -- The texts of the items of a list, appended one after another.
-use Rattle.std.proofs.Common.{◌≡◌, ℕ, ◌+◌, ◌<◌, List, [], ◌∷◌, ◌++◌, length, take, drop, get_or, sym, ap, ◌∙◌, subst, append-nil}
+use Rattle.std.proofs.Common.{◌≡◌, ℕ, ◌+◌, ◌<◌, ◌≤◌, List, [], ◌∷◌, ◌++◌, length, take, drop, get_or, sym, ap, ◌∙◌, subst, append-nil}
+use Rattle.std.specs.Prelude.{Ok, Err, IsErr}
 use Rattle.std.specs.List.{flat_map}
 use Rattle.std.specs.declared.option.Option.{Option}
-use Rattle.std.specs.Io.KnownBytes.{Appends}
-use Rattle.std.proofs.KnownBytes.{Appends-trans}
-use Rattle.std.proofs.lemmas.List.{take_more, take-append-drop, drop_more, get_or_default}
+use Rattle.std.specs.declared.result.Result.{Result}
+use Rattle.std.proofs.lemmas.List.{take_more, take-append-drop, drop_more, get_or_default, take_all}
 use Rattle.std.proofs.lemmas.List.Concat.{flat_map-append}
-use Rattle.cyc_io.specs.Taken.{AppendsPrefix}
-use Rattle.cyc_io.proofs.TakenLemmas.{appends_start, prefix_of_front}
+use Rattle.cyc_io.specs.Taken.{SinkCall, IsAppended}
+use Rattle.cyc_io.proofs.TakenLemmas.{over, appended_as, appended_then, appended_cut}
 
 item_more : {X : Type 0} (f : X → List ℕ) (xs : List X) (i : ℕ) (x : X) → i < length xs → x ≡ get_or xs i x
     → flat_map f (take (i + 1) xs) ≡ flat_map f (take i xs) ++ f x
@@ -25,31 +25,39 @@ item_within f xs i x l is =
     ∙ ap (λ rest. flat_map f (take i xs ++ rest)) (sym (drop_more xs i x l))
     ∙ ap (flat_map f) (take-append-drop i xs)
 
--- one more item of a list
-pub appends_item : {X : Type 0} (f : X → List ℕ) (xs : List X) (i : ℕ) (x : X) (a b c : Option (List ℕ))
-    → i < length xs → x ≡ get_or xs i x → Appends a b (flat_map f (take i xs)) → Appends b c (f x)
-    → Appends a c (flat_map f (take (i + 1) xs))
-appends_item f xs i x a b c l is first second =
-    let P : List ℕ → Type 0 = λ text. Appends a c text in
-    subst P (sym (item_more f xs i x l is)) (Appends-trans a b c _ _ first second)
+-- all items
+pub appended_items : {T E X : Type 0} (f : X → List ℕ) (xs : List X) (i : ℕ) (sink : SinkCall) (t : T) → length xs ≤ i
+    → IsAppended {T = T} {E = E} (flat_map f (take i xs)) sink (Ok t) → IsAppended {T = T} {E = E} (flat_map f xs) sink (Ok t)
+appended_items {T = T} {E = E} {X = X} f xs i sink t all upto =
+    let P : List X → Type 0 = λ l. IsAppended {T = T} {E = E} (flat_map f l) sink (Ok t) in
+    subst P (take_all i xs all) upto
 
--- the start of an item of a list
-pub appends_in_item : {X : Type 0} (f : X → List ℕ) (xs : List X) (i : ℕ) (x : X) (a b c : Option (List ℕ))
-    → i < length xs → x ≡ get_or xs i x → Appends a b (flat_map f (take i xs)) → AppendsPrefix b c (f x)
-    → AppendsPrefix a c (flat_map f xs)
-appends_in_item f xs i x a b c l is first second =
-    let P : List ℕ → Type 0 = λ text. AppendsPrefix a c text in
-    subst P (item_within f xs i x l is)
-    (appends_start a b c _ _ first (prefix_of_front b c (f x) (flat_map f (drop (i + 1) xs)) second))
+module _ {T U E X : Type 0} (f : X → List ℕ) (xs : List X) (i : ℕ) where
+  -- one more item
+  pub appended_item : (x : X) (a b c : Option (List ℕ)) (m n o : ℕ) (t : T) (u : U) → i < length xs → x ≡ get_or xs i x
+      → IsAppended {T = T} {E = E} (flat_map f (take i xs)) (over a b m n) (Ok t) → IsAppended {T = U} {E = E} (f x) (over b c n o) (Ok u)
+      → IsAppended {T = T} {E = E} (flat_map f (take (i + 1) xs)) (over a c m o) (Ok t)
+  appended_item x a b c m n o t u l is first second =
+      let P : List ℕ → Type 0 = λ text. IsAppended {T = T} {E = E} text (over a c m o) (Ok t) in
+      subst P (sym (item_more f xs i x l is)) (appended_as (over a c m o) u t (appended_then a b c m n o _ _ t (Ok u) first second))
 
--- The same of an item that was copied out.
+  -- an item that is cut off
+  pub appended_in_item : (x : X) (a b c : Option (List ℕ)) (m n o : ℕ) (t : T) (e : E) (r : Result T E) → i < length xs → x ≡ get_or xs i x
+      → IsAppended {T = T} {E = E} (flat_map f (take i xs)) (over a b m n) (Ok t) → IsAppended {T = U} {E = E} (f x) (over b c n o) (Err e)
+      → IsErr r → IsAppended (flat_map f xs) (over a c m o) r
+  appended_in_item x a b c m n o t e r l is first second err =
+      let P : List ℕ → Type 0 = λ text. IsAppended text (over a c m o) r in
+      subst P (item_within f xs i x l is)
+      (appended_then a b c m n o _ _ t r first (appended_cut (over b c n o) (f x) (flat_map f (drop (i + 1) xs)) e r second err))
 
-pub appends_copied : {X : Type 0} (f : X → List ℕ) (xs : List X) (i : ℕ) (d : X) (a b c : Option (List ℕ))
-    → i < length xs → Appends a b (flat_map f (take i xs)) → Appends b c (f (get_or xs i d))
-    → Appends a c (flat_map f (take (i + 1) xs))
-appends_copied f xs i d a b c l = appends_item f xs i (get_or xs i d) a b c l (get_or_default xs i d (get_or xs i d) l)
+  -- The same of an item that was copied out.
 
-pub appends_in_copied : {X : Type 0} (f : X → List ℕ) (xs : List X) (i : ℕ) (d : X) (a b c : Option (List ℕ))
-    → i < length xs → Appends a b (flat_map f (take i xs)) → AppendsPrefix b c (f (get_or xs i d))
-    → AppendsPrefix a c (flat_map f xs)
-appends_in_copied f xs i d a b c l = appends_in_item f xs i (get_or xs i d) a b c l (get_or_default xs i d (get_or xs i d) l)
+  pub appended_copied : (d : X) (a b c : Option (List ℕ)) (m n o : ℕ) (t : T) (u : U) → i < length xs
+      → IsAppended {T = T} {E = E} (flat_map f (take i xs)) (over a b m n) (Ok t) → IsAppended {T = U} {E = E} (f (get_or xs i d)) (over b c n o) (Ok u)
+      → IsAppended {T = T} {E = E} (flat_map f (take (i + 1) xs)) (over a c m o) (Ok t)
+  appended_copied d a b c m n o t u l = appended_item (get_or xs i d) a b c m n o t u l (get_or_default xs i d (get_or xs i d) l)
+
+  pub appended_in_copied : (d : X) (a b c : Option (List ℕ)) (m n o : ℕ) (t : T) (e : E) (r : Result T E) → i < length xs
+      → IsAppended {T = T} {E = E} (flat_map f (take i xs)) (over a b m n) (Ok t) → IsAppended {T = U} {E = E} (f (get_or xs i d)) (over b c n o) (Err e)
+      → IsErr r → IsAppended (flat_map f xs) (over a c m o) r
+  appended_in_copied d a b c m n o t e r l = appended_in_item (get_or xs i d) a b c m n o t e r l (get_or_default xs i d (get_or xs i d) l)

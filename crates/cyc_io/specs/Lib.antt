@@ -1,7 +1,8 @@
-pub mod Counts
-pub mod Faults
 pub mod Files
-pub mod Memory
-pub mod MemoryFiles
+pub mod Faults
+pub mod Counts
 pub mod ReadFaults
 pub mod Taken
+pub mod MemoryFiles
+pub mod Memory
+pub mod Text

@@ -1,5 +1,5 @@
 // Real files, and standard output and standard error. Both tell no content.
-ghost use Rattle.std.specs.Prelude.{None};
+ghost use Rattle.std.specs.Prelude.{◌≡◌, ℕ, List, None};
 ghost use Rattle.std.specs.Io.{ReadsAtMost};
 ghost use Rattle.cyc_io.specs.Counts.{count_of};
 
@@ -20,7 +20,9 @@ pub struct HostShelf<'a, R: Files> {
 
 impl<'a, R: Files> HostShelf<'a, R> {
     /// The shelf of the files that the runtime opens.
-    pub fn new(alloc: Global, files: &'a R) -> Self {
+    pub fn new(alloc: Global, files: &'a R) -> Self
+        ensures { (name : List ℕ) → count_of result.counts name ≡ 0 }
+    {
         HostShelf {
             files,
             counts: Counts::new(alloc),
@@ -67,7 +69,9 @@ pub struct HostSink<W: Write + Drop> {
 
 impl<W: Write + Drop> HostSink<W> {
     /// The sink that writes to this stream.
-    pub fn new(stream: W) -> Self {
+    pub fn new(stream: W) -> Self
+        ensures { result.faults ≡ 0 }
+    {
         HostSink { stream, faults: 0 }
     }
 }

@@ -7,7 +7,8 @@
 
 mod counts;
 mod host;
-mod memory;
+mod memory_shelf;
+mod memory_sink;
 mod shelf;
 mod sink;
 #[cfg(test)]
@@ -15,7 +16,8 @@ mod tests;
 mod text;
 
 pub use host::{HostShelf, HostSink};
-pub use memory::{MemoryShelf, MemorySink};
+pub use memory_shelf::MemoryShelf;
+pub use memory_sink::MemorySink;
 pub use shelf::{ReadFault, Shelf, ShelfFault, read_whole};
 pub use sink::{Failed, Sink, write_whole};
 pub use text::TextSink;

@@ -1,7 +1,7 @@
-ghost use Rattle.std.specs.Prelude.{◌≡◌, ◌<◌, ◌≤◌, ℕ, List, Option, IfOk, OnOk, OnErr, length, take};
+ghost use Rattle.std.specs.Prelude.{◌<◌, ◌≤◌, ℕ, List, Option, IfOk, OnErr, length, take};
 ghost use Rattle.std.specs.Io.KnownBytes.{Appends, Keeps};
 ghost use Rattle.cyc_io.specs.Faults.{Rose};
-ghost use Rattle.cyc_io.specs.Taken.{AppendsPrefix};
+ghost use Rattle.cyc_io.specs.Taken.{IsAppended, sink_call};
 
 use thiserror::Error;
 
@@ -29,12 +29,9 @@ pub trait Sink {
 }
 
 /// Writes all the bytes, or a prefix of them where a write fails. It takes no memory.
-#[tactic(auto, using(crate::proofs::TakenLemmas::appends_more, crate::proofs::TakenLemmas::appends_prefix, crate::proofs::FaultLemmas::Rose_later))]
+#[tactic(auto, using(crate::proofs::TakenLemmas::appends_more, crate::proofs::TakenLemmas::appended_upto, crate::proofs::TakenLemmas::appended_fault))]
 pub fn write_whole<K: Sink>(sink: &mut K, bytes: &[u8]) -> Result<(), Failed>
-    ensures taken { OnOk result (Appends (K.put sink.old) (K.put sink.new) bytes.now) }
-    ensures prefix { OnErr result (AppendsPrefix (K.put sink.old) (K.put sink.new) bytes.now) }
-    ensures later { K.faults sink.old ≤ K.faults sink.new }
-    ensures cause { OnErr result (Rose (K.faults sink.old) (K.faults sink.new)) }
+    ensures { IsAppended bytes.now (sink_call K.put K.faults sink.old sink.new) result }
 {
     let mut at = 0;
     while at < bytes.len() {

@@ -15,11 +15,12 @@ pub struct TextSink {
 }
 
 impl TextSink {
-    ghost use Rattle.cyc_io.specs.Memory.{text_bytes};
+    ghost use Rattle.cyc_io.specs.Text.{text_bytes};
 
     /// An empty text. It takes no memory before its first write.
     pub fn new(alloc: Global) -> TextSink
-        ensures { text_bytes result ≡ [] }
+        ensures empty { text_bytes result ≡ [] }
+        ensures faults { result.faults ≡ 0 }
     {
         TextSink {
             bytes: Vec::new(alloc),
@@ -36,7 +37,7 @@ impl TextSink {
 }
 
 impl Sink for TextSink {
-    ghost use Rattle.cyc_io.specs.Memory.{text_bytes};
+    ghost use Rattle.cyc_io.specs.Text.{text_bytes};
 
     ghost put = { λ sink. Some (text_bytes sink) };
 

@@ -1,10 +1,7 @@
-use Rattle.std.proofs.Common.{◌≤◌, take}
-use Rattle.std.specs.Io.KnownBytes.{Appends}
+use Rattle.std.proofs.Common.{take}
 use Rattle.blif_write.specs.Putting.{lits_text}
+use Rattle.cyc_io.specs.Taken.{IsAppendedWhole, sink_call}
 use Rattle.blif_write.proofs.gates.put_lits.Given as goal
 
 abbrev pub invariant-loop-lit : goal.invariant-loop-lit
-invariant-loop-lit g l = record {
-  taken : Appends (g.K.Sink.put l.fn.sink) (g.K.Sink.put l.sink) (lits_text (take l.lit-index l.lits));
-  later : g.K.Sink.faults l.fn.sink ≤ g.K.Sink.faults l.sink;
-}
+invariant-loop-lit g l = IsAppendedWhole (lits_text (take l.lit-index l.lits)) (sink_call g.K.Sink.put g.K.Sink.faults l.fn.sink l.sink)

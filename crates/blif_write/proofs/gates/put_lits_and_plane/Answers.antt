@@ -1,9 +1,11 @@
-use Rattle.cyc_io.proofs.TakenLemmas.{appends_start, prefix_of_front, on_err}
+use Rattle.cyc_io.proofs.TakenLemmas.{appended_then, appended_cut}
 use Rattle.blif_write.proofs.gates.put_lits_and_plane.Goals as goal
 
-pub returns-in_err-put_lits-clause-prefix : goal.returns-in_err-put_lits-clause-prefix
-returns-in_err-put_lits-clause-prefix g c = on_err _ (prefix_of_front _ _ _ _ c.in_err-put_lits.ensures.prefix)
+pub returns-in_err-put_lits : goal.returns-in_err-put_lits
+returns-in_err-put_lits g c = appended_cut _ _ _ _ _ c.in_err-put_lits.ensures c.from_residual.ensures.0
 
-pub returns-in_err-put_plane-clause-prefix : goal.returns-in_err-put_plane-clause-prefix
-returns-in_err-put_plane-clause-prefix g c =
-    on_err _ (appends_start _ _ _ _ _ c.in_ok-put_lits.ensures.taken c.in_err-put_plane.ensures.prefix)
+pub returns-in_err-write_whole : goal.returns-in_err-write_whole
+returns-in_err-write_whole g c = appended_then _ _ _ _ _ _ _ _ _ _ c.in_ok-put_lits.ensures (appended_cut _ _ _ _ _ c.in_err-write_whole.ensures c.from_residual-in_err-write_whole.ensures.0)
+
+pub returns : goal.returns
+returns g c = rw (← c.plane_end.ensures) (appended_then _ _ _ _ _ _ _ _ _ _ c.in_ok-put_lits.ensures (appended_then _ _ _ _ _ _ _ _ _ _ c.in_ok-write_whole.ensures c.write_whole-2.ensures))

@@ -1,13 +1,11 @@
-use Rattle.std.proofs.Common.{◌∷◌}
-use Rattle.cyc_io.proofs.TakenLemmas.{appends_start, prefix_of_front, on_err}
-use Rattle.blif_write.proofs.LineLemmas.{with_nothing}
+use Rattle.std.proofs.Common.{◌++◌, ap, append-nil}
+use Rattle.blif_write.specs.Written.{edge_word}
+use Rattle.blif_write.specs.Putting.{behind}
+use Rattle.cyc_io.proofs.TakenLemmas.{appended_then, appended_cut, appended_equal}
 use Rattle.blif_write.proofs.latches.put_clock_words.Goals as goal
 
-pub returns-in_err-put_word-clause-prefix : goal.returns-in_err-put_word-clause-prefix
-returns-in_err-put_word-clause-prefix g c = rw (← c.edge_word.ensures) (on_err _ (prefix_of_front _ _ _ _ c.in_err-put_word.ensures.prefix))
+pub returns-in_err-put_word : goal.returns-in_err-put_word
+returns-in_err-put_word g c = appended_equal _ _ _ _ (ap (λ last. behind (edge_word c.args.clock.now.edge) ++ behind last) (append-nil c.args.clock.now.name)) (rw (← c.edge_word.ensures) (appended_cut _ _ _ _ _ c.in_err-put_word.ensures c.from_residual.ensures.0))
 
-pub returns-in_err-put_word-2-clause-prefix : goal.returns-in_err-put_word-2-clause-prefix
-returns-in_err-put_word-2-clause-prefix g c =
-    rw (← c.edge_word.ensures, ← c.bytes.ensures)
-    (on_err _ (with_nothing _ _ (32 ∷ c.edge_word.result.now) c.bytes.result.now
-    (appends_start _ _ _ _ _ c.in_ok-put_word.ensures.taken c.in_err-put_word-2.ensures.prefix)))
+pub returns : goal.returns
+returns g c = appended_equal _ _ _ _ (ap (λ last. behind (edge_word c.args.clock.now.edge) ++ behind last) (append-nil c.args.clock.now.name)) (rw (← c.edge_word.ensures, ← c.bytes.ensures) (appended_then _ _ _ _ _ _ _ _ _ _ c.in_ok-put_word.ensures c.put_word-2.ensures))

@@ -1,9 +1,8 @@
-use Rattle.cyc_io.proofs.TakenLemmas.{appends_start, prefix_of_front, on_err}
+use Rattle.cyc_io.proofs.TakenLemmas.{appended_then, appended_cut}
 use Rattle.blif_write.proofs.put.put_last_word.Goals as goal
 
-pub returns-in_err-put_word-clause-prefix : goal.returns-in_err-put_word-clause-prefix
-returns-in_err-put_word-clause-prefix g c = on_err _ (prefix_of_front _ _ _ _ c.in_err-put_word.ensures.prefix)
+pub returns-in_err-put_word : goal.returns-in_err-put_word
+returns-in_err-put_word g c = appended_cut _ _ _ _ _ c.in_err-put_word.ensures c.from_residual.ensures.0
 
-pub returns-in_err-put_end-clause-prefix : goal.returns-in_err-put_end-clause-prefix
-returns-in_err-put_end-clause-prefix g c =
-    on_err _ (appends_start _ _ _ _ _ c.in_ok-put_word.ensures.taken c.in_err-put_end.ensures.prefix)
+pub returns : goal.returns
+returns g c = appended_then _ _ _ _ _ _ _ _ _ _ c.in_ok-put_word.ensures c.put_end.ensures

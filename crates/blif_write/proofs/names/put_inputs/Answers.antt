@@ -1,0 +1,13 @@
+use Rattle.std.proofs.Common.{codes}
+use Rattle.blif_write.proofs.LineLemmas.{line_is}
+use Rattle.cyc_io.proofs.TakenLemmas.{appended_then, appended_cut, appended_equal}
+use Rattle.blif_write.proofs.names.put_inputs.Goals as goal
+
+pub returns-in_err-write_whole : goal.returns-in_err-write_whole
+returns-in_err-write_whole g c = appended_equal _ _ _ _ (line_is (codes ".inputs") c.args.net.now.inputs) (appended_cut _ _ _ _ _ c.in_err-write_whole.ensures c.from_residual.ensures.0)
+
+pub returns-in_err-put_input_names : goal.returns-in_err-put_input_names
+returns-in_err-put_input_names g c = appended_equal _ _ _ _ (line_is (codes ".inputs") c.args.net.now.inputs) (appended_then _ _ _ _ _ _ _ _ _ _ c.in_ok-write_whole.ensures (appended_cut _ _ _ _ _ c.in_err-put_input_names.ensures c.from_residual-in_err-put_input_names.ensures.0))
+
+pub returns : goal.returns
+returns g c = appended_equal _ _ _ _ (line_is (codes ".inputs") c.args.net.now.inputs) (rw (← c.last_input.ensures) (appended_then _ _ _ _ _ _ _ _ _ _ c.in_ok-write_whole.ensures (appended_then _ _ _ _ _ _ _ _ _ _ c.in_ok-put_input_names.ensures c.put_end.ensures)))
