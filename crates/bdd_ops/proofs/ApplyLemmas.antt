@@ -2,7 +2,7 @@
 use Rattle.std.proofs.Common.{◌≡◌, ℕ, ◌+◌, ◌<◌, ◌≤◌, ◌⊎◌, Bool, true, false, List, [], ◌∷◌, ◌++◌, length, drop, get_or, replicate, Result, Ok, IfOk, if◌then◌else◌, refl, sym, ap, subst, ◌∙◌, arith, append_assoc}
 use Rattle.std.proofs.lemmas.List.{length-replicate, drop_at, get_or_at, length_push}
 use Rattle.bdd_store.specs.declared.node.Node.{Node}
-use Rattle.bdd_store.specs.Arena.{Arena, den, top_of, IsNodeOf, choice}
+use Rattle.bdd_store.specs.Arena.{Arena, complemented, den, top_of, IsNodeOf, choice}
 use Rattle.bdd_store.specs.Soundness.{IsLawful}
 use Rattle.bdd_store.specs.Growth.{KeepsNodes, NewAreParts, IsNewFunction, IsRefusedPart}
 use Rattle.bdd_store.specs.Subfunctions.{IsPart}
@@ -124,7 +124,7 @@ module _ (operation : Operation) (s : Arena) (asked : Operands) (var : ℕ) (low
       top = λ v w b. omega (arith, answered.2.most v (IsBelow-kept keeps answered.2.nodes b), top);
     }
 
-  pub NewAreParts-close : {E : Type 0} (t : Arena) (r : Result Node E) → ((n : Node) → IsNodeOf t n → IsNodeOf s n ⊎ (r ≡ Ok n)) → IfOk r (λ n. (bits : List Bool) → den t n bits ≡ made bits) → NewAreParts s t (value operation s asked)
+  pub NewAreParts-close : {E : Type 0} (t : Arena) (r : Result Node E) → ((n : Node) → IsNodeOf t n → IsNodeOf s n ⊎ ((r ≡ Ok n) ⊎ (r ≡ Ok (complemented n)))) → IfOk r (λ n. (bits : List Bool) → den t n bits ≡ made bits) → NewAreParts s t (value operation s asked)
   NewAreParts-close t r one function = NewAreParts-part IsPart-made (NewAreParts-made s t made r one function)
 
   pub IsRefusedPart-close : (t : Arena) → t ≡ s → length s.entries ≡ s.limit → IsNewFunction s made → IsRefusedPart t (value operation s asked)

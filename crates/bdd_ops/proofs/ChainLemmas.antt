@@ -1,45 +1,78 @@
 -- The questions that wait: each is a part of the root's function.
-use Rattle.std.proofs.Common.{◌≡◌, ℕ, true, false, List, [], ◌∷◌, ◌++◌, sym, ap, subst, ◌∙◌, reverse}
+use Rattle.std.proofs.Common.{◌≡◌, ℕ, true, false, Bool, not, List, [], ◌∷◌, ◌++◌, ◌⊎◌, inl, inr, Result, Ok, Err, is_ok, is_err, if◌then◌else◌, true≢false, refl, sym, ap, subst, ◌∙◌, reverse}
 use Rattle.std.proofs.lemmas.List.{reverse-append}
 use Rattle.bdd_store.specs.declared.node.Node.{Node}
-use Rattle.bdd_store.specs.Arena.{Arena}
+use Rattle.bdd_store.specs.Arena.{Arena, complemented_if, flipped}
 use Rattle.bdd_store.specs.Soundness.{IsLawful}
 use Rattle.bdd_store.specs.Growth.{KeepsNodes, NewAreParts, IsRefusedPart}
 use Rattle.bdd_store.specs.Subfunctions.{IsPart}
 use Rattle.bdd_store.proofs.SubfunctionLemmas.{IsPart-whole, IsPart-alike, IsPart-chain}
-use Rattle.bdd_store.proofs.GrowthLemmas.{NewAreParts-chain, NewAreParts-part, IsRefusedPart-part}
+use Rattle.bdd_store.proofs.GrowthLemmas.{IsPart-complement, NewAreParts-chain, NewAreParts-part, NewAreParts-complement, IsRefusedPart-part, IsRefusedPart-complement}
+use Rattle.std.proofs.Math.Bool.{not-not}
 use Rattle.bdd_ops.specs.declared.operands.Operation.{Operation}
 use Rattle.bdd_ops.specs.declared.operands.Operands.{Operands}
 use Rattle.bdd_ops.specs.declared.apply.Question.{Question}
 use Rattle.bdd_ops.specs.declared.apply.Question.TheVariants.{Low, High}
 use Rattle.bdd_ops.specs.declared.apply.Turn.{Turn}
 use Rattle.bdd_ops.specs.declared.apply.Turn.TheVariants.{Ask, Answer}
-use Rattle.bdd_ops.specs.Apply.{value, AreNodesOf, IsAnswer, WaitsFor, IsChain, IsTurn, asked_of}
+use Rattle.bdd_ops.specs.Apply.{value, AreNodesOf, IsAnswer}
+use Rattle.bdd_ops.specs.Standard.{IsFormOf}
+use Rattle.bdd_ops.specs.Turns.{WaitsFor, IsAnswered, IsChain, IsTurn, asked_of, mark_of}
+use Rattle.bdd_ops.specs.declared.standard.Standard.{Standard}
+use Rattle.bdd_ops.proofs.StandardLemmas.{IsAnswer-back}
 use Rattle.bdd_ops.proofs.ApplyLemmas.{value-kept, IsSplit-kept, IsAnswer-kept, AreNodesOf-cofactors, IsPart-cofactors}
 
 WaitsFor-kept : (operation : Operation) (s t : Arena) (w : Question) (q : Operands) → KeepsNodes s t → WaitsFor operation s w q → WaitsFor operation t w q
 WaitsFor-kept operation s t (Low asked var high) q k h = IsSplit-kept k h
-WaitsFor-kept operation s t (High asked var low) q k h = (h.0, IsSplit-kept k h.1, IsAnswer-kept k (AreNodesOf-cofactors operation s asked var false h.0 h.1.low) h.2)
+WaitsFor-kept operation s t (High asked var low) q k h = (h.0, IsSplit-kept k h.1, IsAnswer-kept k (AreNodesOf-cofactors operation s asked.operands var false h.0 h.1.low) h.2)
 
 pub IsChain-kept : (operation : Operation) (s t : Arena) (root : Operands) (ws : List Question) (q : Operands) → KeepsNodes s t → IsChain operation s root ws q → IsChain operation t root ws q
 IsChain-kept operation s t root [] q k h = h
-IsChain-kept operation s t root (w ∷ ws) q k h = (WaitsFor-kept operation s t w q k h.0, IsChain-kept operation s t root ws (asked_of w) k h.1)
+IsChain-kept operation s t root (w ∷ ws) q k h = (WaitsFor-kept operation s t w q k h.0, h.1, h.2, IsChain-kept operation s t root ws h.1 k h.3)
 
 pub WaitsFor-nodes : (operation : Operation) (s : Arena) (w : Question) (q : Operands) → WaitsFor operation s w q → AreNodesOf s q
-WaitsFor-nodes operation s (Low asked var high) q h = AreNodesOf-cofactors operation s asked var false q h.low
-WaitsFor-nodes operation s (High asked var low) q h = AreNodesOf-cofactors operation s asked var true q h.1.high
+WaitsFor-nodes operation s (Low asked var high) q h = AreNodesOf-cofactors operation s asked.operands var false q h.low
+WaitsFor-nodes operation s (High asked var low) q h = AreNodesOf-cofactors operation s asked.operands var true q h.1.high
 
 pub IsChain-nodes : (operation : Operation) (s : Arena) (root : Operands) (ws : List Question) (q : Operands) → AreNodesOf s root → IsChain operation s root ws q → AreNodesOf s q
 IsChain-nodes operation s root [] q nodes h = subst (λ (r : Operands). AreNodesOf s r) (sym h) nodes
 IsChain-nodes operation s root (w ∷ ws) q nodes h = WaitsFor-nodes operation s w q h.0
 
 WaitsFor-part : (operation : Operation) (s : Arena) → IsLawful s → (w : Question) (q : Operands) → WaitsFor operation s w q → IsPart s.vars (value operation s (asked_of w)) (value operation s q)
-WaitsFor-part operation s lawful (Low asked var high) q h = IsPart-cofactors operation s asked var false q h.low lawful h.within
-WaitsFor-part operation s lawful (High asked var low) q h = IsPart-cofactors operation s asked var true q h.1.high lawful h.1.within
+WaitsFor-part operation s lawful (Low asked var high) q h = IsPart-cofactors operation s asked.operands var false q h.low lawful h.within
+WaitsFor-part operation s lawful (High asked var low) q h = IsPart-cofactors operation s asked.operands var true q h.1.high lawful h.1.within
 
-pub IsChain-part : (operation : Operation) (s : Arena) → IsLawful s → (root : Operands) (ws : List Question) (q : Operands) → IsChain operation s root ws q → IsPart s.vars (value operation s root) (value operation s q)
-IsChain-part operation s lawful root [] q h = subst (λ (r : Operands). IsPart s.vars (value operation s root) (value operation s r)) (sym h) (IsPart-whole s.vars (value operation s root))
-IsChain-part operation s lawful root (w ∷ ws) q h = IsPart-chain (IsChain-part operation s lawful root ws (asked_of w) h.1) (WaitsFor-part operation s lawful w q h.0)
+-- ---- parts up to complements
+
+-- g, or its complement, is f with some first bits fixed
+abbrev pub IsEither : ℕ → (List Bool → Bool) → (List Bool → Bool) → Type 0
+IsEither vars f g = IsPart vars f g ⊎ IsPart vars f (λ bits. not (g bits))
+
+IsEither-part : {vars : ℕ} {f g h : List Bool → Bool} → IsEither vars f g → IsPart vars g h → IsEither vars f h
+IsEither-part (inl p) q = inl (IsPart-chain p q)
+IsEither-part {h = h} (inr p) q = inr (IsPart-chain p (IsPart-complement (λ bits. not (h bits)) (λ bits len. refl) q (λ bits. refl)))
+
+IsEither-flipped : {vars : ℕ} {f g h : List Bool → Bool} (m : Bool) → ((bits : List Bool) → h bits ≡ flipped m (g bits)) → IsEither vars f g → IsEither vars f h
+IsEither-flipped false same (inl p) = inl (IsPart-alike p (λ bits len. same bits))
+IsEither-flipped false same (inr p) = inr (IsPart-alike p (λ bits len. ap not (same bits)))
+IsEither-flipped {g = g} true same (inl p) = inr (IsPart-alike p (λ bits len. ap not (same bits) ∙ not-not (g bits)))
+IsEither-flipped true same (inr p) = inl (IsPart-alike p (λ bits len. same bits))
+
+pub NewAreParts-either : {s t : Arena} {f g : List Bool → Bool} → IsEither s.vars f g → NewAreParts s t g → NewAreParts s t f
+NewAreParts-either (inl p) new = NewAreParts-part p new
+NewAreParts-either (inr p) new = NewAreParts-part p (NewAreParts-complement (λ bits len. refl) new)
+
+pub IsRefusedPart-either : {a : Arena} {f g : List Bool → Bool} → IsEither a.vars f g → IsRefusedPart a g → IsRefusedPart a f
+IsRefusedPart-either (inl p) r = IsRefusedPart-part p r
+IsRefusedPart-either (inr p) r = IsRefusedPart-part p (IsRefusedPart-complement (λ bits len. refl) r)
+
+pub IsChain-part : (operation : Operation) (s : Arena) → IsLawful s → (root : Operands) (ws : List Question) (q : Operands) → IsChain operation s root ws q → IsEither s.vars (value operation s root) (value operation s q)
+IsChain-part operation s lawful root [] q h = inl (subst (λ (r : Operands). IsPart s.vars (value operation s root) (value operation s r)) (sym h) (IsPart-whole s.vars (value operation s root)))
+IsChain-part operation s lawful root (w ∷ ws) q h = IsEither-part (IsEither-flipped (mark_of w) (h.2 s).value_is (IsChain-part operation s lawful root ws h.1 h.3)) (WaitsFor-part operation s lawful w q h.0)
+
+-- what the form of a part is
+pub asked-part : (operation : Operation) (s : Arena) → IsLawful s → (root : Operands) (ws : List Question) (r : Operands) (mark : Bool) (p : Operands) → IsFormOf operation r mark p → IsChain operation s root ws r → IsEither s.vars (value operation s root) (value operation s p)
+asked-part operation s lawful root ws r mark p form chain = IsEither-flipped mark (form s).value_is (IsChain-part operation s lawful root ws r chain)
 
 -- the last question is the first of the list turned round
 pub reverse-push : (ws : List Question) (w : Question) → reverse (ws ++ w ∷ []) ≡ w ∷ reverse ws
@@ -50,11 +83,11 @@ pub asked-turn : (operation : Operation) (s : Arena) (root : Operands) (ws : Lis
 asked-turn operation s root ws turn q is t = subst (IsTurn operation s root ws) is t
 
 -- the questions behind the one that is taken from the stack
-pub behind : (operation : Operation) (s : Arena) (root : Operands) (items rest : List Question) (w : Question) (turn : Turn) (n : Node) → turn ≡ Answer n → items ≡ rest ++ w ∷ [] → IsTurn operation s root (reverse items) turn → IsChain operation s root (reverse rest) (asked_of w)
+pub behind : (operation : Operation) (s : Arena) (root : Operands) (items rest : List Question) (w : Question) (turn : Turn) (n : Node) → turn ≡ Answer n → items ≡ rest ++ w ∷ [] → IsTurn operation s root (reverse items) turn → (r : Operands) × IsFormOf operation r (mark_of w) (asked_of w) × IsChain operation s root (reverse rest) r
 behind operation s root items rest w turn n is e t =
     let answered : IsTurn operation s root (reverse items) (Answer n) = subst (IsTurn operation s root (reverse items)) is t in
     let chain : IsChain operation s root (w ∷ reverse rest) answered.0 = subst (λ ws. IsChain operation s root ws answered.0) (ap reverse e ∙ reverse-push rest w) answered.1 in
-    chain.1
+    (chain.1, chain.2, chain.3)
 
 -- an answer that no question waits for is the root's
 pub answers_root : (operation : Operation) (s : Arena) (root : Operands) (items : List Question) (turn : Turn) (n : Node) → turn ≡ Answer n → items ≡ [] → IsTurn operation s root (reverse items) turn → IsAnswer operation s root n
@@ -72,3 +105,20 @@ NewAreParts-turn operation r s t root nodes k l before now = NewAreParts-chain k
 
 pub IsRefusedPart-turn : (operation : Operation) (r s t : Arena) (root : Operands) → AreNodesOf r root → KeepsNodes r s → IsRefusedPart t (value operation s root) → IsRefusedPart t (value operation r root)
 IsRefusedPart-turn operation r s t root nodes k h = IsRefusedPart-part (IsPart-root operation t.vars r s root nodes k) h
+
+-- once the answer at 0 is there, the one at 1 is waited for
+pub chain-high : (operation : Operation) (s : Arena) (root : Operands) (items more : List Question) (w : Question) (asked : Standard) (var : ℕ) (high : Operands) (n : Node) → w ≡ Low asked var high → more ≡ items ++ High asked var n ∷ [] → IsAnswered operation s w n
+    → (r : Operands) → IsFormOf operation r (mark_of w) (asked_of w) → IsChain operation s root (reverse items) r → IsChain operation s root (reverse more) high
+chain-high operation s root items more w asked var high n is e answered r form chain =
+    subst (λ ws. IsChain operation s root ws high) (sym (ap reverse e ∙ reverse-push items (High asked var n)))
+    (subst (λ v. IsAnswered operation s v n) is answered, r, subst (λ v. IsFormOf operation r (mark_of v) (asked_of v)) is form, chain)
+
+-- the answer to a form answers the operands, under the form's mark
+pub answer-behind : (operation : Operation) (s : Arena) (w : Question) (asked : Standard) (var : ℕ) (low n : Node) → w ≡ High asked var low → (r : Operands) → IsFormOf operation r (mark_of w) (asked_of w) → IsAnswer operation s asked.operands n → IsAnswer operation s r (complemented_if asked.mark n)
+answer-behind operation s w asked var low n is r form answer =
+    IsAnswer-back operation s r asked.mark asked.operands n (subst (λ v. IsFormOf operation r (mark_of v) (asked_of v)) is form s) answer
+
+-- what a push that did not fail left
+pub pushed : {T X E : Type 0} (r : Result X E) (xs ys zs : List T) → false ≡ is_err r → xs ≡ (if is_ok r then ys else zs) → xs ≡ ys
+pushed (Ok x) xs ys zs e h = h
+pushed (Err x) xs ys zs e h = absurd (true≢false (sym e))

@@ -1,13 +1,15 @@
 -- The computed table: what it holds stays right as the table grows, and as the store does.
-use Rattle.std.proofs.Common.{◌≡◌, ℕ, ◌++◌, Bool, true, false, List, [], Contains, Option, Some, None, IfSome, take, replicate, if◌then◌else◌}
+use Rattle.std.proofs.Common.{◌≡◌, ℕ, ◌++◌, Bool, true, false, List, [], Contains, take, replicate, if◌then◌else◌}
 use Rattle.std.proofs.lemmas.List.Elements.{All-nil, All-same, All-append, All-take, All-replicate, All-weaker, All-contains}
 use Rattle.bdd_store.specs.declared.node.Node.{Node}
-use Rattle.bdd_store.specs.Arena.{Arena}
+use Rattle.bdd_store.specs.Arena.{Arena, complemented_if}
 use Rattle.bdd_store.specs.Growth.{KeepsNodes}
 use Rattle.bdd_ops.specs.declared.operands.Operation.{Operation}
 use Rattle.bdd_ops.specs.declared.operands.Operands.{Operands}
 use Rattle.bdd_ops.specs.declared.computed.Computed.{Computed}
 use Rattle.bdd_ops.specs.Apply.{AreNodesOf, IsAnswer, IsComputed, AreComputed}
+use Rattle.bdd_ops.specs.Standard.{IsFormOf}
+use Rattle.bdd_ops.proofs.StandardLemmas.{IsAnswer-back, StandsFor-chain}
 use Rattle.bdd_ops.proofs.ApplyLemmas.{AreNodesOf-kept, IsAnswer-kept}
 
 IsComputed-kept : {s t : Arena} (c : Computed) → KeepsNodes s t → IsComputed s c → IsComputed t c
@@ -24,7 +26,11 @@ AreComputed-resized s old new n m c false e is h = All-same (IsComputed s) new o
 pub AreComputed-none : (s : Arena) (table : List Computed) → table ≡ [] → AreComputed s table
 AreComputed-none s table e = All-same (IsComputed s) table [] e (All-nil (IsComputed s))
 
--- what the table has at operands answers them
-pub IsAnswer-found : (operation : Operation) (table : List Computed) (q : Operands) (r : Option Node) → IfSome r (λ n. Contains table (record { operation = operation; operands = q; answer = n })) → IfSome r (λ n. (s : Arena) → AreComputed s table → AreNodesOf s q → IsAnswer operation s q n)
-IsAnswer-found operation table q None has = tt
-IsAnswer-found operation table q (Some n) has = λ s are nodes. (All-contains (IsComputed s) table (record { operation = operation; operands = q; answer = n }) are has).answer
+-- what the table has at the form of operands answers them, under its mark
+pub IsAnswer-found : (operation : Operation) (s : Arena) (table : List Computed) (q p : Operands) (mark : Bool) (form : Operands) (n : Node) → IsFormOf operation q false p → IsFormOf operation p mark form → Contains table (record { operation = operation; operands = form; answer = n }) → AreComputed s table → IsAnswer operation s q (complemented_if mark n)
+IsAnswer-found operation s table q p mark form n simple stands has are =
+    IsAnswer-back operation s q mark form n (StandsFor-chain (simple s) (stands s)) (All-contains (IsComputed s) table (record { operation = operation; operands = form; answer = n }) are has).answer
+
+-- and what decides their simple form
+pub IsAnswer-decided : (operation : Operation) (q p : Operands) (n : Node) → IsFormOf operation q false p → ((s : Arena) → AreNodesOf s p → IsAnswer operation s p n) → (s : Arena) → AreNodesOf s q → IsAnswer operation s q n
+IsAnswer-decided operation q p n simple found s nodes = IsAnswer-back operation s q false p n (simple s) (found s ((simple s).nodes nodes))

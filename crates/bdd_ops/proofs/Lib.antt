@@ -2,3 +2,6 @@ mod ApplyLemmas
 mod ChainLemmas
 mod ComputedLemmas
 mod LeastLemmas
+mod OperationLemmas
+mod StandardLemmas
+mod ChoiceLemmas

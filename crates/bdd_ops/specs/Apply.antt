@@ -1,23 +1,16 @@
--- An operation on up to four nodes, the questions that wait while it runs, and what answers them.
-use Rattle.std.specs.Prelude.{◌≡◌, ℕ, ◌<◌, ◌≤◌, ◌⊎◌, Bool, true, false, ◌&&◌, ◌||◌, List, [], ◌∷◌, if◌then◌else◌}
+-- An operation on up to four nodes, their cofactors, and what answers them.
+use Rattle.std.specs.Prelude.{◌≡◌, ℕ, ◌<◌, ◌≤◌, ◌⊎◌, Bool, true, false, List, if◌then◌else◌}
 use Rattle.std.specs.List.{slice_index_or, All}
 use Rattle.bdd_store.specs.declared.node.Node.{Node}
 use Rattle.bdd_store.specs.Arena.{Arena, den, choice, top_of, IsNodeOf, IsBranching}
 use Rattle.bdd_ops.specs.declared.operands.Operation.{Operation}
-use Rattle.bdd_ops.specs.declared.operands.Operation.TheVariants.{And, Or, Xor, Ite, Select}
+use Rattle.bdd_ops.specs.declared.operands.Operation.TheVariants.{Ite, Select}
 use Rattle.bdd_ops.specs.declared.operands.Operands.{Operands}
 use Rattle.bdd_ops.specs.declared.computed.Computed.{Computed}
-use Rattle.bdd_ops.specs.declared.apply.Question.{Question}
-use Rattle.bdd_ops.specs.declared.apply.Question.TheVariants.{Low, High}
-use Rattle.bdd_ops.specs.declared.apply.Turn.{Turn}
-use Rattle.bdd_ops.specs.declared.apply.Turn.TheVariants.{Ask, Answer}
-use Rattle.bdd_ops.specs.Operations.{xor, select}
+use Rattle.bdd_ops.specs.Operations.{select}
 
 -- an operation's value at its operands' values, of which it may leave the last ones unread
 abbrev pub combine : Operation → Bool → Bool → Bool → Bool → Bool
-combine And a b c d = a && b
-combine Or a b c d = a || b
-combine Xor a b c d = xor a b
 combine Ite a b c d = if a then b else c
 combine Select a b c d = select a b c d
 
@@ -85,30 +78,3 @@ pub record IsComputed (s : Arena) (c : Computed) : Type 0 where
 
 abbrev pub AreComputed : Arena → List Computed → Type 0
 AreComputed s table = All (IsComputed s) table
-
--- the operands whose answer is open
-abbrev pub asked_of : Question → Operands
-asked_of (Low asked var high) = asked
-asked_of (High asked var low) = asked
-
--- it waits for the answer to these operands: to the cofactors at 0, or, once those are answered, to the ones at 1
-abbrev pub WaitsFor : Operation → Arena → Question → Operands → Type 0
-WaitsFor operation s (Low asked var high) q = IsSplit s asked var q high
-WaitsFor operation s (High asked var low) q = (p : Operands) × IsSplit s asked var p q × IsAnswer operation s p low
-
--- n is the answer that it waits for
-abbrev pub IsAnswered : Operation → Arena → Question → Node → Type 0
-IsAnswered operation s w n = (q : Operands) × WaitsFor operation s w q × IsAnswer operation s q n
-
--- each question that waits, the last first, waits for the one before, and the first one asked is the root
-abbrev pub IsChain : Operation → Arena → Operands → List Question → Operands → Type 0
-IsChain operation s root [] q = q ≡ root
-IsChain operation s root (w ∷ ws) q = WaitsFor operation s w q × IsChain operation s root ws (asked_of w)
-
--- the question that comes next, or the answer to the last one
-abbrev pub IsTurn : Operation → Arena → Operands → List Question → Turn → Type 0
-IsTurn operation s root ws (Ask q) = IsChain operation s root ws q
-IsTurn operation s root ws (Answer n) = (q : Operands) × IsChain operation s root ws q × IsAnswer operation s q n
-
-abbrev pub IsTurnOfSome : Operation → Arena → List Question → Turn → Type 0
-IsTurnOfSome operation s ws turn = (root : Operands) × AreNodesOf s root × IsTurn operation s root ws turn

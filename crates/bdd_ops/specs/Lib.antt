@@ -1,3 +1,6 @@
 pub mod Apply
+pub mod Choices
 pub mod Least
 pub mod Operations
+pub mod Standard
+pub mod Turns

@@ -1,12 +1,15 @@
 //! What all operations share. Operands are answered from their cofactors, on a stack of the program's own:
 //! a recursion would go as deep as there are variables.
-ghost use Rattle.std.specs.Prelude.{◌≡◌, ◌<◌, ◌≤◌, ◌⊎◌, Bool, List, [], reverse, IsTrue, IfOk, OnOk, OnErr, IfSome, IfNone};
-ghost use Rattle.bdd_store.specs.Arena.{Arena, den, choice, top_of, IsNodeOf};
+ghost use Rattle.std.specs.Prelude.{◌≡◌, ◌<◌, ◌≤◌, ◌⊎◌, Bool, List, [], reverse, IsTrue, IfOk, OnOk, OnErr, IfSome, IfErr};
+ghost use Rattle.bdd_store.specs.Arena.{Arena, complemented, den, choice, top_of, IsNodeOf};
 ghost use Rattle.bdd_store.specs.Growth.{KeepsNodes, NewAreParts, IsRefused, IsNewFunction, IsRefusedPart};
-ghost use Rattle.bdd_ops.specs.Apply.{value, HasBranches, AreNodesOf, SomeBranching, IsAnswer, AreAnswered, IsAnswered, AreComputed, WaitsFor, IsChain, IsTurn, IsTurnOfSome, asked_of};
+ghost use Rattle.bdd_ops.specs.Apply.{value, HasBranches, AreNodesOf, SomeBranching, IsAnswer, AreAnswered, AreComputed};
+ghost use Rattle.bdd_ops.specs.Standard.{IsFormOf};
+ghost use Rattle.bdd_ops.specs.Turns.{asked_of, mark_of, WaitsFor, IsAnswered, IsChain, IsTurn, IsTurnOfSome};
 
 use crate::computed::{Computed, ComputedTable};
 use crate::operands::{Operands, Operation, first_variable, split};
+use crate::standard::{Standard, simplified, standard_form};
 use crate::terminal::terminal;
 use bdd_store::{Node, Store, StoreFault};
 use std::alloc::{AllocError, Global};
@@ -16,13 +19,13 @@ use std::alloc::{AllocError, Global};
 pub enum Question {
     /// For the answer at 0. Those at 1 are asked then.
     Low {
-        asked: Operands,
+        asked: Standard,
         var: u32,
         high: Operands,
     },
     /// For the answer at 1.
     High {
-        asked: Operands,
+        asked: Standard,
         var: u32,
         low: Node,
     },
@@ -35,35 +38,35 @@ pub enum Turn {
     Answer(Node),
 }
 
-// The answer, where it takes no new node.
-fn known(computed: &mut ComputedTable, operation: Operation, q: Operands) -> Option<Node>
+// The answer, where it takes no new node. Where it takes one, the form in which it is asked for.
+fn known(computed: &mut ComputedTable, operation: Operation, q: Operands) -> Result<Node, Standard>
     ensures same { computed.new ≡ computed.old }
-    ensures found { IfSome result (λ n. (s : Arena) → AreComputed s computed.old → AreNodesOf s q → IsAnswer operation s q n) }
-    ensures open { IfNone result (SomeBranching q) }
+    ensures found { IfOk result (λ n. (s : Arena) → AreComputed s computed.old → AreNodesOf s q → IsAnswer operation s q n) }
+    ensures form { IfErr result (λ form. IsFormOf operation q form.mark form.operands) }
+    ensures open { IfErr result (λ form. SomeBranching form.operands) }
 {
-    if let Some(n) = terminal(operation, q) {
-        return Some(n);
+    let simple = simplified(operation, q);
+    if let Some(n) = terminal(operation, simple) {
+        return Ok(n);
     }
-    computed.get(operation, q)
+    let form = standard_form(operation, simple);
+    match computed.get(operation, form.operands) {
+        Some(n) => Ok(n.complement_if(form.mark)),
+        None => Err(form),
+    }
 }
 
 // Operands that no case decides wait, and their cofactors at 0 are asked first.
-fn pose(store: &Store, q: Operands) -> (Question, Operands)
-    requires nodes { AreNodesOf store.now q }
-    requires open { SomeBranching q }
-    ensures asked { asked_of result.0 ≡ q }
+fn pose(store: &Store, asked: Standard) -> (Question, Operands)
+    requires nodes { AreNodesOf store.now asked.operands }
+    requires open { SomeBranching asked.operands }
+    ensures asked { asked_of result.0 ≡ asked.operands }
+    ensures mark { mark_of result.0 ≡ asked.mark }
     ensures waits { (operation : Operation) → WaitsFor operation store.now result.0 result.1 }
 {
-    let var = first_variable(store, q);
-    let (low, high) = split(store, q, var);
-    (
-        Question::Low {
-            asked: q,
-            var,
-            high,
-        },
-        low,
-    )
+    let var = first_variable(store, asked.operands);
+    let (low, high) = split(store, asked.operands, var);
+    (Question::Low { asked, var, high }, low)
 }
 
 // Answers a question where that takes no new node, or lets it wait.
@@ -79,12 +82,14 @@ fn ask(
     ensures same { computed.new ≡ computed.old }
     ensures ok { (root : Operands) → IsChain operation store.now root (reverse waiting.old.items) q → IfOk result (IsTurn operation store.now root (reverse waiting.new.items)) }
 {
-    if let Some(n) = known(computed, operation, q) {
-        return Ok(Turn::Answer(n));
+    match known(computed, operation, q) {
+        Ok(n) => Ok(Turn::Answer(n)),
+        Err(form) => {
+            let (question, low) = pose(store, form);
+            waiting.push(question)?;
+            Ok(Turn::Ask(low))
+        }
     }
-    let (question, low) = pose(store, q);
-    waiting.push(question)?;
-    Ok(Turn::Ask(low))
 }
 
 // Whether the node reads this variable first, and has these branches there.
@@ -136,8 +141,9 @@ fn join(
     ensures node { IfOk result (IsNodeOf store.new) }
     ensures function { IfOk result (λ n. (bits : List Bool) → den store.new n bits ≡ choice store.old var low high bits) }
     ensures top { IfOk result (λ n. var ≤ top_of store.new n) }
+    ensures answers { store.new.answers ≡ store.old.answers }
     ensures keeps { KeepsNodes store.old store.new }
-    ensures new_node { (n : Node) → IsNodeOf store.new n → IsNodeOf store.old n ⊎ (result ≡ Ok n) }
+    ensures new_node { (n : Node) → IsNodeOf store.new n → IsNodeOf store.old n ⊎ ((result ≡ Ok n) ⊎ (result ≡ Ok (complemented n))) }
     ensures full { result ≡ Err StoreFault.Full → IsRefused store.old var low high }
     ensures new_function { result ≡ Err StoreFault.Full → IsNewFunction store.old (choice store.old var low high) }
     ensures err { OnErr result (store.new ≡ store.old) }
@@ -163,6 +169,7 @@ fn close(
 
     ensures answer { IfOk result (IsAnswer operation store.new asked) }
     ensures computed { AreComputed store.new computed.new }
+    ensures answers { store.new.answers ≡ store.old.answers }
     ensures keeps { KeepsNodes store.old store.new }
     ensures parts { NewAreParts store.old store.new (value operation store.old asked) }
     ensures full { result ≡ Err StoreFault.Full → IsRefusedPart store.new (value operation store.old asked) }
@@ -188,8 +195,9 @@ fn resume(
     requires answer { IsAnswered operation store.old question n }
     requires computed { AreComputed store.old computed.old }
 
-    ensures ok { (root : Operands) → IsChain operation store.new root (reverse waiting.old.items) (asked_of question) → IfOk result (IsTurn operation store.new root (reverse waiting.new.items)) }
+    ensures ok { (root r : Operands) → IsFormOf operation r (mark_of question) (asked_of question) → IsChain operation store.new root (reverse waiting.old.items) r → IfOk result (IsTurn operation store.new root (reverse waiting.new.items)) }
     ensures computed { AreComputed store.new computed.new }
+    ensures answers { store.new.answers ≡ store.old.answers }
     ensures keeps { KeepsNodes store.old store.new }
     ensures parts { NewAreParts store.old store.new (value operation store.old (asked_of question)) }
     ensures full { result ≡ Err StoreFault.Full → IsRefusedPart store.new (value operation store.old (asked_of question)) }
@@ -203,8 +211,8 @@ fn resume(
             Ok(Turn::Ask(high))
         }
         Question::High { asked, var, low } => {
-            let n = close(store, computed, operation, asked, var, low, n)?;
-            Ok(Turn::Answer(n))
+            let n = close(store, computed, operation, asked.operands, var, low, n)?;
+            Ok(Turn::Answer(n.complement_if(asked.mark)))
         }
     }
 }
@@ -222,6 +230,7 @@ fn step(
 
     ensures ok { (root : Operands) → AreNodesOf store.old root → IsTurn operation store.old root (reverse waiting.old.items) turn → IfOk result (IsTurn operation store.new root (reverse waiting.new.items)) }
     ensures computed { AreComputed store.new computed.new }
+    ensures answers { store.new.answers ≡ store.old.answers }
     ensures keeps { KeepsNodes store.old store.new }
     ensures parts { (root : Operands) → AreNodesOf store.old root → IsTurn operation store.old root (reverse waiting.old.items) turn → NewAreParts store.old store.new (value operation store.old root) }
     ensures full { (root : Operands) → AreNodesOf store.old root → IsTurn operation store.old root (reverse waiting.old.items) turn → result ≡ Err StoreFault.Full → IsRefusedPart store.new (value operation store.old root) }
@@ -263,6 +272,7 @@ pub(crate) fn apply(
     ensures node { IfOk result (IsNodeOf store.new) }
     ensures function { IfOk result (λ n. (bits : List Bool) → den store.new n bits ≡ value operation store.old root bits) }
     ensures computed { AreComputed store.new computed.new }
+    ensures answers { store.new.answers ≡ store.old.answers }
     ensures keeps { KeepsNodes store.old store.new }
     ensures parts { NewAreParts store.old store.new (value operation store.old root) }
     ensures full { result ≡ Err StoreFault.Full → IsRefusedPart store.new (value operation store.old root) }

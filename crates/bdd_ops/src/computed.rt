@@ -26,25 +26,34 @@ fn idle() -> Computed
 {
     let no = Node::of(false);
     Computed {
-        operation: Operation::And,
-        operands: Operands::two(no, no),
+        operation: Operation::Ite,
+        operands: Operands::three(no, no, no),
         answer: no,
     }
 }
 
-// The slot of operands, by multiplicative hashing (Knuth 1973, 6.4).
-fn slot_of(q: Operands, slots: usize) -> usize
+// What tells the slots of the operations apart.
+fn kind_of(operation: Operation) -> u64 {
+    match operation {
+        Operation::Ite => 0,
+        Operation::Select => 0xc2b2_ae3d_27d4_eb4f,
+    }
+}
+
+// The slot of an operation on operands, by multiplicative hashing (Knuth 1973, 6.4).
+fn slot_of(operation: Operation, q: Operands, slots: usize) -> usize
     requires { 0 < slots }
     ensures { result < slots }
 {
     const SPREAD: u64 = 0x9e37_79b9_7f4a_7c15;
     let first = u64::from(q.a.number()) << 32 | u64::from(q.b.number());
     let last = u64::from(q.c.number()) << 32 | u64::from(q.d.number());
-    let spread = (first.wrapping_mul(SPREAD) ^ last).wrapping_mul(SPREAD);
+    let spread = ((first ^ kind_of(operation)).wrapping_mul(SPREAD) ^ last).wrapping_mul(SPREAD);
     (spread >> 32) as usize & (slots - 1)
 }
 
-/// Answers, each in the slot that its operands name, where it takes the place of the one before.
+/// Answers, each in the slot that its operands name, where it takes the place of the one before. They are in
+/// their standard form.
 #[derive(Drop)]
 pub struct ComputedTable {
     slots: Vec<Computed>,
@@ -78,7 +87,7 @@ impl ComputedTable {
         ensures same { self.new ≡ self.old }
         ensures found { IfSome result (λ n. Contains self.old (record { operation = operation; operands = q; answer = n })) }
     {
-        let slot = slot_of(q, self.slots.len());
+        let slot = slot_of(operation, q, self.slots.len());
         let computed = self.slots[slot];
         if computed.operation == operation && computed.operands == q {
             self.found = self.found.wrapping_add(1);
@@ -93,7 +102,7 @@ impl ComputedTable {
         ensures { (s : Arena) → AreComputed s self.old → IsComputed s computed → AreComputed s self.new }
     {
         self.grow();
-        let slot = slot_of(computed.operands, self.slots.len());
+        let slot = slot_of(computed.operation, computed.operands, self.slots.len());
         self.slots[slot] = computed;
     }
 

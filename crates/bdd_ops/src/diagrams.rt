@@ -1,9 +1,10 @@
-ghost use Rattle.std.specs.Prelude.{◌≡◌, ◌↔◌, ◌<◌, ◌≤◌, Bool, false, List, [], length, IfOk, OnOk, OnErr};
+ghost use Rattle.std.specs.Prelude.{◌≡◌, ◌↔◌, ◌<◌, ◌≤◌, ◌≢◌, Bool, false, List, Some, length, IfOk, OnOk, OnErr, IfSome};
 ghost use Rattle.std.specs.Bool.{OnTrue, OnFalse};
-ghost use Rattle.bdd_store.specs.Arena.{constant, den, IsNodeOf};
+ghost use Rattle.bdd_store.specs.Arena.{empty, with_answers, answer_to, complemented, constant, den, IsNodeOf, IsBranching};
 ghost use Rattle.bdd_store.specs.Growth.{KeepsNodes, AddsAtMost, IsFullOnlyPast};
 ghost use Rattle.bdd_store.specs.Subfunctions.{nodes};
 ghost use Rattle.bdd_ops.specs.Apply.{value, AreNodesOf};
+ghost use Rattle.bdd_ops.specs.Choices.{IsNodeOfChoice};
 ghost use Rattle.bdd_ops.specs.Least.{IsLeast};
 ghost use Rattle.bdd_ops.specs.Operations.{bit_at, complement, conjunction, disjunction, exclusive_or, if_then_else, selection};
 
@@ -11,7 +12,7 @@ use crate::apply::apply;
 use crate::computed::ComputedTable;
 use crate::least::least;
 use crate::operands::{Operands, Operation};
-use bdd_store::{Node, Store, StoreFault};
+use bdd_store::{Choice, Node, Store, StoreFault};
 use cyc_base::MAX_NODES;
 use std::alloc::{AllocError, Global};
 use std::marker::Model;
@@ -30,19 +31,20 @@ pub struct Diagrams {
 impl Model for Diagrams {
     ghost use Rattle.bdd_store.specs.Arena.{Arena};
     ghost use Rattle.bdd_ops.specs.Apply.{AreComputed};
+    ghost use Rattle.bdd_ops.specs.Choices.{AreRight};
 
     ghost Value = { Arena };
 
     ghost view = { λ d. d.store };
 
-    ghost invariant = { λ d. AreComputed d.store d.computed };
+    ghost invariant = { λ d. AreComputed d.store d.computed × AreRight d.store };
 }
 
 impl Diagrams {
     /// Diagrams without nodes but the constants.
     pub fn new(alloc: Global, vars: u32, limit: u32) -> Result<Diagrams, AllocError>
         requires { limit ≤ MAX_NODES }
-        ensures { IfOk result (λ d. d ≡ record { vars = vars; limit = limit; entries = [] }) }
+        ensures { IfOk result (λ d. d ≡ empty vars limit) }
     {
         let store = Store::new(alloc, vars, limit)?;
         let computed = ComputedTable::new(alloc)?;
@@ -64,7 +66,7 @@ impl Diagrams {
     /// stays as it was.
     pub fn start(&mut self, vars: u32, limit: u32) -> Result<(), AllocError>
         requires { limit ≤ MAX_NODES }
-        ensures ok { OnOk result (self.new ≡ record { vars = vars; limit = limit; entries = [] }) }
+        ensures ok { OnOk result (self.new ≡ empty vars limit) }
         ensures err { OnErr result (self.new ≡ self.old) }
     {
         *self = Diagrams::new(self.alloc, vars, limit)?;
@@ -90,6 +92,7 @@ impl Diagrams {
         requires { AreNodesOf self.old operands }
         ensures node { IfOk result (IsNodeOf self.new) }
         ensures function { IfOk result (λ n. (bits : List Bool) → den self.new n bits ≡ value operation self.old operands bits) }
+        ensures answers { self.new.answers ≡ self.old.answers }
         ensures keeps { KeepsNodes self.old self.new }
         ensures added { AddsAtMost self.old self.new (nodes self.old.vars (value operation self.old operands)) }
         ensures full { result ≡ Err StoreFault.Full → IsFullOnlyPast self.old self.new (nodes self.old.vars (value operation self.old operands)) }
@@ -105,7 +108,7 @@ impl Diagrams {
         answer
     }
 
-    /// True where `a` is false.
+    /// True where `a` is false. It adds nothing, takes no memory and always answers.
     pub fn not(&mut self, a: Node) -> Result<Node, StoreFault>
         requires { IsNodeOf self.old a }
         ensures node { IfOk result (IsNodeOf self.new) }
@@ -113,8 +116,11 @@ impl Diagrams {
         ensures keeps { KeepsNodes self.old self.new }
         ensures added { AddsAtMost self.old self.new (nodes self.old.vars (complement self.old a)) }
         ensures full { result ≡ Err StoreFault.Full → IsFullOnlyPast self.old self.new (nodes self.old.vars (complement self.old a)) }
+        ensures always { result ≡ Ok (complemented a) }
+        ensures unchanged { self.new ≡ self.old }
     {
-        self.xor(a, Node::of(true))
+        let _ = &self.store;
+        Ok(a.complement())
     }
 
     /// True where both are.
@@ -127,7 +133,7 @@ impl Diagrams {
         ensures added { AddsAtMost self.old self.new (nodes self.old.vars (conjunction self.old a b)) }
         ensures full { result ≡ Err StoreFault.Full → IsFullOnlyPast self.old self.new (nodes self.old.vars (conjunction self.old a b)) }
     {
-        self.operate(Operation::And, Operands::two(a, b))
+        self.ite(a, b, Node::of(false))
     }
 
     /// True where one of the two is.
@@ -140,7 +146,7 @@ impl Diagrams {
         ensures added { AddsAtMost self.old self.new (nodes self.old.vars (disjunction self.old a b)) }
         ensures full { result ≡ Err StoreFault.Full → IsFullOnlyPast self.old self.new (nodes self.old.vars (disjunction self.old a b)) }
     {
-        self.operate(Operation::Or, Operands::two(a, b))
+        self.ite(a, Node::of(true), b)
     }
 
     /// True where just one of the two is.
@@ -153,11 +159,32 @@ impl Diagrams {
         ensures added { AddsAtMost self.old self.new (nodes self.old.vars (exclusive_or self.old a b)) }
         ensures full { result ≡ Err StoreFault.Full → IsFullOnlyPast self.old self.new (nodes self.old.vars (exclusive_or self.old a b)) }
     {
-        self.operate(Operation::Xor, Operands::two(a, b))
+        self.ite(a, b.complement(), b)
     }
 
-    /// `b` where `a` is true, and `c` elsewhere.
-    pub fn ite(&mut self, a: Node, b: Node, c: Node) -> Result<Node, StoreFault>
+    /// The answer that is kept for a choice, where one is: the node of `ite`.
+    pub fn cached(&self, a: Node, b: Node, c: Node) -> Option<Node>
+        requires a { IsNodeOf self.now a }
+        requires b { IsNodeOf self.now b }
+        requires c { IsNodeOf self.now c }
+        ensures held { result ≡ answer_to self.now (record { a = a; b = b; c = c }) }
+        ensures node { IfSome result (IsNodeOf self.now) }
+        ensures function { IfSome result (λ n. (bits : List Bool) → den self.now n bits ≡ if_then_else self.now a b c bits) }
+    {
+        self.store.answer(Choice { a, b, c })
+    }
+
+    // Keeps an answer, which may have to wait for memory.
+    fn remember(&mut self, choice: Choice, n: Node) -> Result<(), AllocError>
+        requires { IsNodeOfChoice self.old choice n }
+        ensures kept { OnOk result (answer_to self.new choice ≡ Some n) }
+        ensures same { self.new ≡ with_answers self.old self.new.answers }
+    {
+        self.store.keep_answer(choice, n)
+    }
+
+    // The node of a choice. The answers that are kept are asked first.
+    fn choose(&mut self, a: Node, b: Node, c: Node) -> Result<Node, StoreFault>
         requires a { IsNodeOf self.old a }
         requires b { IsNodeOf self.old b }
         requires c { IsNodeOf self.old c }
@@ -167,8 +194,30 @@ impl Diagrams {
         ensures added { AddsAtMost self.old self.new (nodes self.old.vars (if_then_else self.old a b c)) }
         ensures full { result ≡ Err StoreFault.Full → IsFullOnlyPast self.old self.new (nodes self.old.vars (if_then_else self.old a b c)) }
     {
-        let d = Node::of(false);
-        self.operate(Operation::Ite, Operands { a, b, c, d })
+        if let Some(n) = self.cached(a, b, c) {
+            return Ok(n);
+        }
+        self.operate(Operation::Ite, Operands::three(a, b, c))
+    }
+
+    /// `b` where `a` is true, and `c` elsewhere. The answer is kept: `cached` gives it, until others take its
+    /// place. It is not where the choice is none, since `a` is a constant or `b` is `c`.
+    pub fn ite(&mut self, a: Node, b: Node, c: Node) -> Result<Node, StoreFault>
+        requires a { IsNodeOf self.old a }
+        requires b { IsNodeOf self.old b }
+        requires c { IsNodeOf self.old c }
+        ensures node { IfOk result (IsNodeOf self.new) }
+        ensures function { IfOk result (λ n. (bits : List Bool) → den self.new n bits ≡ if_then_else self.old a b c bits) }
+        ensures keeps { KeepsNodes self.old self.new }
+        ensures added { AddsAtMost self.old self.new (nodes self.old.vars (if_then_else self.old a b c)) }
+        ensures full { result ≡ Err StoreFault.Full → IsFullOnlyPast self.old self.new (nodes self.old.vars (if_then_else self.old a b c)) }
+        ensures cached { IfOk result (λ n. IsBranching a → b ≢ c → answer_to self.new (record { a = a; b = b; c = c }) ≡ Some n) }
+    {
+        let n = self.choose(a, b, c)?;
+        if a.is_branching() && b != c {
+            self.remember(Choice { a, b, c }, n)?;
+        }
+        Ok(n)
     }
 
     /// `hi` where `one` is true, `lo` where `zero` is, and what both have where neither is.

@@ -10,8 +10,7 @@ mod computed;
 mod diagrams;
 mod least;
 mod operands;
+mod standard;
 mod terminal;
-#[cfg(test)]
-mod tests;
 
 pub use diagrams::Diagrams;

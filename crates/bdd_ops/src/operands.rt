@@ -7,17 +7,13 @@ use bdd_store::{Node, Store};
 /// What an operation makes of the values of its operands.
 #[derive(Clone, Copy, Debug, PartialEq, Eq)]
 pub enum Operation {
-    And,
-    Or,
-    Xor,
-    /// `b` where `a` is true, and `c` elsewhere.
+    /// `b` where `a` is true, and `c` elsewhere. It leaves `d` unread.
     Ite,
     /// `c` where `a` is true, `d` where `b` is, and what both have elsewhere.
     Select,
 }
 
-/// The nodes that an operation is applied to. One that takes fewer than four leaves the last ones unread,
-/// and they are false.
+/// The nodes that an operation is applied to.
 #[derive(Clone, Copy, Debug, PartialEq, Eq, Hash)]
 pub struct Operands {
     pub a: Node,
@@ -27,12 +23,16 @@ pub struct Operands {
 }
 
 impl Operands {
-    // Two operands.
-    pub(crate) fn two(a: Node, b: Node) -> Operands
-        ensures { result ≡ record { a = a; b = b; c = constant false; d = constant false } }
+    // Three operands. The last one is unread, and false.
+    pub(crate) fn three(a: Node, b: Node, c: Node) -> Operands
+        ensures { result ≡ record { a = a; b = b; c = c; d = constant false } }
     {
-        let no = Node::of(false);
-        Operands { a, b, c: no, d: no }
+        Operands {
+            a,
+            b,
+            c,
+            d: Node::of(false),
+        }
     }
 }
 

@@ -7,56 +7,7 @@ ghost use Rattle.bdd_ops.specs.Apply.{AreNodesOf, SomeBranching, IsAnswer};
 use crate::operands::{Operands, Operation};
 use bdd_store::Node;
 
-fn and(q: Operands) -> Option<Node>
-    ensures found { IfSome result (λ n. (s : Arena) → AreNodesOf s q → IsAnswer Operation.And s q n) }
-    ensures open { IfNone result (IsBranching q.a) }
-{
-    let no = Node::of(false);
-    let yes = Node::of(true);
-    if q.a == no || q.b == no {
-        Some(no)
-    } else if q.a == yes || q.a == q.b {
-        Some(q.b)
-    } else if q.b == yes {
-        Some(q.a)
-    } else {
-        None
-    }
-}
-
-fn or(q: Operands) -> Option<Node>
-    ensures found { IfSome result (λ n. (s : Arena) → AreNodesOf s q → IsAnswer Operation.Or s q n) }
-    ensures open { IfNone result (IsBranching q.a) }
-{
-    let no = Node::of(false);
-    let yes = Node::of(true);
-    if q.a == yes || q.b == yes {
-        Some(yes)
-    } else if q.a == no || q.a == q.b {
-        Some(q.b)
-    } else if q.b == no {
-        Some(q.a)
-    } else {
-        None
-    }
-}
-
-fn xor(q: Operands) -> Option<Node>
-    ensures found { IfSome result (λ n. (s : Arena) → AreNodesOf s q → IsAnswer Operation.Xor s q n) }
-    ensures open { IfNone result (IsBranching q.a ⊎ IsBranching q.b) }
-{
-    let no = Node::of(false);
-    if q.a == q.b {
-        Some(no)
-    } else if q.a == no {
-        Some(q.b)
-    } else if q.b == no {
-        Some(q.a)
-    } else {
-        None
-    }
-}
-
+// The answer to a choice whose branches are simplified.
 fn ite(q: Operands) -> Option<Node>
     ensures found { IfSome result (λ n. (s : Arena) → AreNodesOf s q → IsAnswer Operation.Ite s q n) }
     ensures open { IfNone result (IsBranching q.a) }
@@ -69,6 +20,8 @@ fn ite(q: Operands) -> Option<Node>
         Some(q.c)
     } else if q.b == yes && q.c == no {
         Some(q.a)
+    } else if q.b == no && q.c == yes {
+        Some(q.a.complement())
     } else {
         None
     }
@@ -99,15 +52,12 @@ fn select(q: Operands) -> Option<Node>
     }
 }
 
-// The answer, where the operands decide it.
+// The answer, where the operands, which are simplified, decide it.
 pub(crate) fn terminal(operation: Operation, q: Operands) -> Option<Node>
     ensures found { IfSome result (λ n. (s : Arena) → AreNodesOf s q → IsAnswer operation s q n) }
     ensures open { IfNone result (SomeBranching q) }
 {
     match operation {
-        Operation::And => and(q),
-        Operation::Or => or(q),
-        Operation::Xor => xor(q),
         Operation::Ite => ite(q),
         Operation::Select => select(q),
     }

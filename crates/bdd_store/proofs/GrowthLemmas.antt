@@ -1,22 +1,26 @@
 -- How a store grows: what is kept, which nodes are new, and how many.
-use Rattle.std.proofs.Common.{◌≡◌, ◌≢◌, ℕ, zero, suc, ◌+◌, ◌-◌, ◌*◌, ◌<◌, ◌≤◌, Bool, true, false, List, [], ◌∷◌, inl, inr, length, refl, sym, ap, subst, ◌∙◌, arith}
+use Rattle.std.proofs.Common.{◌≡◌, ◌≢◌, ℕ, zero, suc, ◌+◌, ◌-◌, ◌*◌, ◌<◌, ◌≤◌, Bool, true, false, not, List, [], ◌∷◌, ◌++◌, inl, inr, length, drop, refl, sym, ap, subst, ◌∙◌, arith}
 use Rattle.std.proofs.Math.Nat.{mul-le-mul_left}
 use Rattle.std.proofs.lemmas.Map.Keys.{IsDistinct-cons}
 use Rattle.std.specs.List.{AllByRecursion, IsDistinct}
 use Rattle.std.specs.Set.{is_member}
 use Rattle.std.proofs.Common.{Result, Ok, IfOk, get_or, if◌then◌else◌, ◌⊎◌}
 use Rattle.bdd_store.specs.declared.node.Node.{Node}
-use Rattle.bdd_store.specs.Arena.{Arena, den, constant, IsNodeOf, choice}
+use Rattle.bdd_store.specs.Arena.{Arena, index, complemented, den, constant, IsNodeOf, choice}
 use Rattle.bdd_store.specs.Soundness.{IsCanonical, IsLawful}
 use Rattle.bdd_store.specs.Subfunctions.{table, is_constant, nodes, IsPart}
-use Rattle.bdd_store.specs.Growth.{KeepsNodes, IsNewFunction, NewAreParts, IsRefusedPart, AddsAtMost, IsFullOnlyPast}
-use Rattle.bdd_store.proofs.SubfunctionLemmas.{IsPart-whole, IsPart-alike, IsPart-chain, alike-from_table, constant_value}
+use Rattle.bdd_store.specs.Growth.{KeepsNodes, IsNewFunction, IsPartAt, NewAreParts, IsRefusedPart, AddsAtMost, IsFullOnlyPast}
+use Rattle.std.proofs.lemmas.Bool.{cases_lt}
+use Rattle.std.proofs.Math.Bool.{not-not}
+use Rattle.bdd_store.proofs.NodeLemmas.{index-complemented}
+use Rattle.bdd_store.proofs.ValueLemmas.{node_value-complemented}
+use Rattle.bdd_store.proofs.SubfunctionLemmas.{length-fixed, IsPart-whole, IsPart-alike, IsPart-chain, alike-from_table, constant_value}
 use Rattle.bdd_store.proofs.PigeonholeLemmas.{table_eq, counted, nodes-at_least, counted-part, false_or_true, tables_apart}
 
 -- ---- what is kept
 
 pub KeepsNodes-refl : (a : Arena) → KeepsNodes a a
-KeepsNodes-refl a = record { vars = refl; limit = refl; more = omega arith; function = λ n bits h. refl; variable = λ n h. refl }
+KeepsNodes-refl a = record { vars = refl; limit = refl; more = omega arith; function = λ n bits h. refl; variable = λ n h. refl; roots = refl }
 
 pub IsNodeOf-kept : {s t : Arena} → KeepsNodes s t → (n : Node) → IsNodeOf s n → IsNodeOf t n
 IsNodeOf-kept k n h = omega (arith, k.more)
@@ -28,6 +32,7 @@ KeepsNodes-chain k l = record {
   more = omega (arith, k.more, l.more);
   function = λ n bits h. l.function n bits (IsNodeOf-kept k n h) ∙ k.function n bits h;
   variable = λ n h. l.variable n (IsNodeOf-kept k n h) ∙ k.variable n h;
+  roots = l.roots ∙ k.roots;
 }
 
 -- ---- new nodes
@@ -35,28 +40,59 @@ KeepsNodes-chain k l = record {
 pub NewAreParts-none : {s : Arena} {f : List Bool → Bool} → NewAreParts s s f
 NewAreParts-none = record { each = λ n in_n. inl in_n }
 
+-- what is so of a node and its complement is so of a part at it
+pub IsPartAt-into : {vars wars : ℕ} {f g : List Bool → Bool} (s t : Arena) (n : Node) → ((m : Node) → index m ≡ index n → IsPart vars f (den s m) → IsPart wars g (den t m)) → IsPartAt vars f s n → IsPartAt wars g t n
+IsPartAt-into s t n into (inl part) = inl (into n refl part)
+IsPartAt-into s t n into (inr part) = inr (into (complemented n) (index-complemented n) part)
+
 pub NewAreParts-chain : {s t u : Arena} {f : List Bool → Bool} → KeepsNodes s t → KeepsNodes t u → NewAreParts s t f → NewAreParts t u f → NewAreParts s u f
 NewAreParts-chain {s} {t} {u} {f} k l one two = record {
   each = λ n in_n. elim (two.each n in_n) [
-    | inl in_t ↦ elim (one.each n in_t) [ inl in_s ↦ inl in_s | inr part ↦ inr (IsPart-alike part (λ bits len. l.function n bits in_t)) ]
-    | inr part ↦ inr (subst (λ v. IsPart v f (den u n)) k.vars part)
+    | inl in_t ↦ elim (one.each n in_t) [ inl in_s ↦ inl in_s | inr part ↦ inr (IsPartAt-into t u n (λ m at here. IsPart-alike here (λ bits len. l.function m bits (omega (arith, at, in_t)))) part) ]
+    | inr part ↦ inr (subst (λ v. IsPartAt v f u n) k.vars part)
   ];
 }
 
 pub NewAreParts-part : {s t : Arena} {f g : List Bool → Bool} → IsPart s.vars f g → NewAreParts s t g → NewAreParts s t f
-NewAreParts-part part new = record { each = λ n in_n. elim (new.each n in_n) [ inl was ↦ inl was | inr p ↦ inr (IsPart-chain part p) ] }
+NewAreParts-part {s} {t} part new = record { each = λ n in_n. elim (new.each n in_n) [ inl was ↦ inl was | inr p ↦ inr (IsPartAt-into t t n (λ m at here. IsPart-chain part here) p) ] }
+
+-- the parts of a function are the complements of those of its complement
+pub IsPart-complement : {vars : ℕ} {f g h : List Bool → Bool} (k : List Bool → Bool) → ((bits : List Bool) → length bits ≡ vars → f bits ≡ not (g bits)) → IsPart vars g h → ((bits : List Bool) → k bits ≡ not (h bits)) → IsPart vars f k
+IsPart-complement {vars} k opposite part is = record { first = part.first; short = part.short; same = λ bits len. is bits ∙ ap not (part.same bits len) ∙ sym (opposite (part.first ++ drop (length part.first) bits) (length-fixed vars part.first bits part.short len)) }
+
+pub NewAreParts-complement : {s t : Arena} {f g : List Bool → Bool} → ((bits : List Bool) → length bits ≡ s.vars → f bits ≡ not (g bits)) → NewAreParts s t g → NewAreParts s t f
+NewAreParts-complement {s} {t} opposite new = record {
+  each = λ n in_n. elim (new.each n in_n) [
+    | inl was ↦ inl was
+    | inr at ↦ elim at [
+      | inl part ↦ inr (inr (IsPart-complement (den t (complemented n)) opposite part (λ bits. node_value-complemented t.entries n bits)))
+      | inr part ↦ inr (inl (IsPart-complement (den t n) opposite part (λ bits. sym (not-not (den t n bits)) ∙ ap not (sym (node_value-complemented t.entries n bits)))))
+    ]
+  ];
+}
+
+pub IsRefusedPart-complement : {a : Arena} {f g : List Bool → Bool} → ((bits : List Bool) → length bits ≡ a.vars → f bits ≡ not (g bits)) → IsRefusedPart a g → IsRefusedPart a f
+IsRefusedPart-complement {a} opposite r = record {
+  full = r.full;
+  part = λ bits. not (r.part bits);
+  is_part = IsPart-complement (λ bits. not (r.part bits)) opposite r.is_part (λ bits. refl);
+  absent = λ n in_n same. r.absent (complemented n) (omega (arith, in_n, index-complemented n)) (λ bits len. node_value-complemented a.entries n bits ∙ ap not (same bits len) ∙ not-not (r.part bits));
+}
 
 pub IsRefusedPart-part : {a : Arena} {f g : List Bool → Bool} → IsPart a.vars f g → IsRefusedPart a g → IsRefusedPart a f
 IsRefusedPart-part part r = record { full = r.full; part = r.part; is_part = IsPart-chain part r.is_part; absent = r.absent }
 
 -- what a call of `make` adds
-pub NewAreParts-made : {E : Type 0} (s t : Arena) (f : List Bool → Bool) (r : Result Node E) → ((n : Node) → IsNodeOf t n → IsNodeOf s n ⊎ (r ≡ Ok n)) → IfOk r (λ n. (bits : List Bool) → den t n bits ≡ f bits) → NewAreParts s t f
+pub NewAreParts-made : {E : Type 0} (s t : Arena) (f : List Bool → Bool) (r : Result Node E) → ((n : Node) → IsNodeOf t n → IsNodeOf s n ⊎ ((r ≡ Ok n) ⊎ (r ≡ Ok (complemented n)))) → IfOk r (λ n. (bits : List Bool) → den t n bits ≡ f bits) → NewAreParts s t f
 NewAreParts-made s t f r one value = record {
   each = λ n in_n. elim (one n in_n) [
     | inl was ↦ inl was
-    | inr e ↦ let here : (bits : List Bool) → den t n bits ≡ f bits = subst (λ (o : Result Node _). IfOk o (λ m. (bits : List Bool) → den t m bits ≡ f bits)) e value in inr (IsPart-alike (IsPart-whole s.vars f) (λ bits len. here bits))
+    | inr is ↦ elim is [ inl e ↦ inr (inl (part n e)) | inr e ↦ inr (inr (part (complemented n) e)) ]
   ];
 }
+  where
+    part : (n : Node) → r ≡ Ok n → IsPart s.vars f (den t n)
+    part n e = let here : (bits : List Bool) → den t n bits ≡ f bits = subst (λ (o : Result Node _). IfOk o (λ m. (bits : List Bool) → den t m bits ≡ f bits)) e value in IsPart-alike (IsPart-whole s.vars f) (λ bits len. here bits)
 
 -- a refused `make` lacks the node of its function
 pub IsRefusedPart-made : (s t : Arena) (f : List Bool → Bool) → t ≡ s → length s.entries ≡ s.limit → IsNewFunction s f → IsRefusedPart t f
@@ -73,39 +109,41 @@ choice-bit s var lo hi low high bits = by (get_or bits var false)
 -- ---- how many
 
 module _ (a : Arena) (canonical : IsCanonical a) (f : List Bool → Bool) where
-  abbrev numbered : ℕ → Node
-  numbered n = record { number = n }
+  -- at each index the node that is a part, or its complement, where one of them is
+  abbrev Picked : ℕ → Type 0
+  Picked i = (m : Node) × (index m ≡ i)
 
-  abbrev node_table : ℕ → List Bool
-  node_table n = table a.vars (den a (numbered n))
+  module _ (pick : (i : ℕ) → Picked i) where
+    abbrev node_table : ℕ → List Bool
+    node_table i = table a.vars (den a (pick i).0)
 
-  -- the tables of so many nodes from a number on, the last first
-  abbrev tables_from : ℕ → ℕ → List (List Bool)
-  tables_from base zero = []
-  tables_from base (suc k) = node_table (base + k) ∷ tables_from base k
+    -- the tables at so many indices from one on, the last first
+    abbrev tables_from : ℕ → ℕ → List (List Bool)
+    tables_from base zero = []
+    tables_from base (suc k) = node_table (base + k) ∷ tables_from base k
 
-  length-tables_from : (base k : ℕ) → length (tables_from base k) ≡ k
-  length-tables_from base zero = refl
-  length-tables_from base (suc k) = ap suc (length-tables_from base k)
+    length-tables_from : (base k : ℕ) → length (tables_from base k) ≡ k
+    length-tables_from base zero = refl
+    length-tables_from base (suc k) = ap suc (length-tables_from base k)
 
-  all_tables : (P : List Bool → Type 0) (base k : ℕ) → ((i : ℕ) → base ≤ i → i < base + k → P (node_table i)) → AllByRecursion P (tables_from base k)
-  all_tables P base zero h = tt
-  all_tables P base (suc k) h = (h (base + k) (omega arith) (omega arith), all_tables P base k (λ i low high. h i low (omega arith)))
+    all_tables : (P : List Bool → Type 0) (base k : ℕ) → ((i : ℕ) → base ≤ i → i < base + k → P (node_table i)) → AllByRecursion P (tables_from base k)
+    all_tables P base zero h = tt
+    all_tables P base (suc k) h = (h (base + k) (omega arith) (omega arith), all_tables P base k (λ i low high. h i low (omega arith)))
 
-  nodes_apart : (m n : ℕ) → m < length a.entries + 2 → n < length a.entries + 2 → m ≢ n → table_eq (node_table m) (node_table n) ≡ false
-  nodes_apart m n in_m in_n ne = tables_apart a.vars (den a (numbered m)) (den a (numbered n)) (λ same. ne (ap (λ (k : Node). k.number) (canonical (numbered m) (numbered n) in_m in_n same)))
+    nodes_apart : (i j : ℕ) → i ≤ length a.entries → j ≤ length a.entries → i ≢ j → table_eq (node_table i) (node_table j) ≡ false
+    nodes_apart i j in_i in_j ne = tables_apart a.vars (den a (pick i).0) (den a (pick j).0) (λ same. ne (sym (pick i).1 ∙ ap index (canonical (pick i).0 (pick j).0 (omega (arith, in_i, (pick i).1)) (omega (arith, in_j, (pick j).1)) same) ∙ (pick j).1))
 
-  distinct_tables : (base k : ℕ) → base + k ≤ length a.entries + 2 → IsDistinct table_eq (tables_from base k)
-  unfolding IsDistinct
-  distinct_tables base zero h = tt
-  distinct_tables base (suc k) h =
-      IsDistinct-cons table_eq (node_table (base + k)) (tables_from base k)
-      (all_tables (λ t. table_eq (node_table (base + k)) t ≡ false) base k (λ i low high. nodes_apart (base + k) i (omega arith) (omega arith) (omega arith)))
-      (distinct_tables base k (omega arith))
+    distinct_tables : (base k : ℕ) → base + k ≤ length a.entries + 1 → IsDistinct table_eq (tables_from base k)
+    unfolding IsDistinct
+    distinct_tables base zero h = tt
+    distinct_tables base (suc k) h =
+        IsDistinct-cons table_eq (node_table (base + k)) (tables_from base k)
+        (all_tables (λ t. table_eq (node_table (base + k)) t ≡ false) base k (λ i low high. nodes_apart (base + k) i (omega arith) (omega arith) (omega arith)))
+        (distinct_tables base k (omega arith))
 
-  constant_number : (b : Bool) → (constant b).number < 2
-  constant_number true = omega arith
-  constant_number false = omega arith
+  constant_index : (b : Bool) → index (constant b) ≡ 0
+  constant_index true = refl
+  constant_index false = refl
 
   -- the table of a function that no constant has is no constant table
   varies : (values : (b : Bool) (bits : List Bool) → den a (constant b) bits ≡ b) (g : List Bool → Bool) → ((b : Bool) → ((bits : List Bool) → length bits ≡ a.vars → den a (constant b) bits ≡ g bits) → ⊥) → is_constant (table a.vars g) ≡ false
@@ -113,45 +151,71 @@ module _ (a : Arena) (canonical : IsCanonical a) (f : List Bool → Bool) where
       let v = constant_value a.vars g e in
       apart v.0 (λ bits len. values v.0 bits ∙ sym (alike-from_table a.vars g (λ x. v.0) v.1 bits len)))
 
-  module _ (values : (b : Bool) (bits : List Bool) → den a (constant b) bits ≡ b) (old : Arena) (more : length old.entries ≤ length a.entries) (parts : (n : Node) → IsNodeOf a n → IsNodeOf old n ⊎ IsPart a.vars f (den a n)) where
+  module _ (values : (b : Bool) (bits : List Bool) → den a (constant b) bits ≡ b) (old : Arena) (more : length old.entries ≤ length a.entries) (parts : (n : Node) → IsNodeOf a n → IsNodeOf old n ⊎ IsPartAt a.vars f a n) where
     abbrev base : ℕ
-    base = length old.entries + 2
+    base = length old.entries + 1
 
     abbrev added : ℕ
     added = length a.entries - length old.entries
 
-    counted_node : (i : ℕ) → base ≤ i → i < base + added → is_member table_eq (counted a.vars f) (node_table i) ≡ true
-    counted_node i low high =
-        let part : IsPart a.vars f (den a (numbered i)) = elim (parts (numbered i) (omega arith)) [ inl was ↦ absurd (omega arith) | inr p ↦ p ] in
-        counted-part a.vars f (den a (numbered i)) part (varies values (den a (numbered i)) (λ b same.
-        let e = ap (λ (k : Node). k.number) (canonical (constant b) (numbered i) (omega (arith, constant_number b)) (omega arith) same) in
-        omega (arith, constant_number b, e)))
+    numbered : (i : ℕ) → Picked i
+    numbered i = (record { number = 2 * i }, omega arith)
 
-    -- each node that was added is counted
+    -- an entry is counted by the one of its two functions that occurs
+    abbrev IsFound : ℕ → Type 0
+    IsFound i = (p : Picked i) × (base ≤ i → i < base + added → IsPart a.vars f (den a p.0))
+
+    found : (i : ℕ) → IsFound i
+    found i = elim (cases_lt i base) [
+      | inl low ↦ (numbered i, λ l h. absurd (omega (arith, low, l)))
+      | inr high ↦ elim (cases_lt i (base + added)) [
+        | inr past ↦ (numbered i, λ l h. absurd (omega (arith, past, h)))
+        | inl inside ↦ elim (parts (numbered i).0 (omega (arith, (numbered i).1, inside, more))) [
+          | inl was ↦ absurd (omega (arith, was, (numbered i).1, high))
+          | inr at ↦ elim at [
+            | inl part ↦ (numbered i, λ l h. part)
+            | inr part ↦ ((complemented (numbered i).0, index-complemented (numbered i).0 ∙ (numbered i).1), λ l h. part)
+          ]
+        ]
+      ]
+    ]
+
+    abbrev pick : (i : ℕ) → Picked i
+    pick i = (found i).0
+
+    counted_node : (i : ℕ) → base ≤ i → i < base + added → is_member table_eq (counted a.vars f) (node_table pick i) ≡ true
+    counted_node i low high =
+        let n = (pick i).0 in
+        let at : index n ≡ i = (pick i).1 in
+        counted-part a.vars f (den a n) ((found i).1 low high) (varies values (den a n) (λ b same.
+        let e = ap index (canonical (constant b) n (omega (arith, constant_index b)) (omega (arith, at, high, more)) same) in
+        omega (arith, constant_index b, e, at, low)))
+
+    -- each entry that was added is counted
     pub count-parts : length a.entries ≤ length old.entries + nodes a.vars f
     count-parts =
-        let least = nodes-at_least a.vars f (tables_from base added) (distinct_tables base added (omega arith)) (all_tables (λ t. is_member table_eq (counted a.vars f) t ≡ true) base added counted_node) in
-        omega (arith, least, length-tables_from base added)
+        let least = nodes-at_least a.vars f (tables_from pick base added) (distinct_tables pick base added (omega (arith, more))) (all_tables pick (λ t. is_member table_eq (counted a.vars f) t ≡ true) base added counted_node) in
+        omega (arith, least, length-tables_from pick base added)
 
     -- and so is a part that no node stands for
     pub count-refused : (g : List Bool → Bool) → IsPart a.vars f g → IsNewFunction a g → length a.entries < length old.entries + nodes a.vars f
     count-refused g part absent =
-        let apart : AllByRecursion (λ t. table_eq (table a.vars g) t ≡ false) (tables_from base added) = all_tables (λ t. table_eq (table a.vars g) t ≡ false) base added (λ i low high. tables_apart a.vars g (den a (numbered i)) (λ same. absent (numbered i) (omega arith) (λ bits len. sym (same bits len)))) in
-        let here = counted-part a.vars f g part (varies values g (λ b same. absent (constant b) (omega (arith, constant_number b)) same)) in
-        let least = nodes-at_least a.vars f (table a.vars g ∷ tables_from base added) (IsDistinct-cons table_eq (table a.vars g) (tables_from base added) apart (distinct_tables base added (omega arith))) (here, all_tables (λ t. is_member table_eq (counted a.vars f) t ≡ true) base added counted_node) in
-        omega (arith, least, length-tables_from base added)
+        let apart : AllByRecursion (λ t. table_eq (table a.vars g) t ≡ false) (tables_from pick base added) = all_tables pick (λ t. table_eq (table a.vars g) t ≡ false) base added (λ i low high. tables_apart a.vars g (den a (pick i).0) (λ same. absent (pick i).0 (omega (arith, (pick i).1, high, more)) (λ bits len. sym (same bits len)))) in
+        let here = counted-part a.vars f g part (varies values g (λ b same. absent (constant b) (omega (arith, constant_index b)) same)) in
+        let least = nodes-at_least a.vars f (table a.vars g ∷ tables_from pick base added) (IsDistinct-cons table_eq (table a.vars g) (tables_from pick base added) apart (distinct_tables pick base added (omega (arith, more)))) (here, all_tables pick (λ t. is_member table_eq (counted a.vars f) t ≡ true) base added counted_node) in
+        omega (arith, least, length-tables_from pick base added)
 
 -- what an operation whose new nodes are parts adds
 pub added-parts : (old new : Arena) (f : List Bool → Bool) → IsLawful new → KeepsNodes old new → NewAreParts old new f → AddsAtMost old new (nodes old.vars f)
 added-parts old new f lawful kept parts =
     subst (λ v. length new.entries ≤ length old.entries + nodes v f) kept.vars
-    (count-parts new lawful.canonical f lawful.constants old kept.more (λ n in_n. subst (λ v. IsNodeOf old n ⊎ IsPart v f (den new n)) (sym kept.vars) (parts.each n in_n)))
+    (count-parts new lawful.canonical f lawful.constants old kept.more (λ n in_n. subst (λ v. IsNodeOf old n ⊎ IsPartAt v f new n) (sym kept.vars) (parts.each n in_n)))
 
 -- and when it is refused
 pub refused-parts : (old new : Arena) (f : List Bool → Bool) → IsLawful new → KeepsNodes old new → NewAreParts old new f → IsRefusedPart new f → IsFullOnlyPast old new (nodes old.vars f)
 refused-parts old new f lawful kept parts r =
     let past = subst (λ v. length new.entries < length old.entries + nodes v f) kept.vars
-    (count-refused new lawful.canonical f lawful.constants old kept.more (λ n in_n. subst (λ v. IsNodeOf old n ⊎ IsPart v f (den new n)) (sym kept.vars) (parts.each n in_n)) r.part r.is_part r.absent) in
+    (count-refused new lawful.canonical f lawful.constants old kept.more (λ n in_n. subst (λ v. IsNodeOf old n ⊎ IsPartAt v f new n) (sym kept.vars) (parts.each n in_n)) r.part r.is_part r.absent) in
     record { full = r.full; past = omega (arith, past, r.full) }
 
 -- ---- adding up

@@ -1,7 +1,10 @@
+pub mod NodeLemmas
 mod Samples
-mod ValueLemmas
+pub mod ValueLemmas
 mod CanonicalLemmas
+mod BranchLemmas
 mod MakeLemmas
 pub mod SubfunctionLemmas
 pub mod PigeonholeLemmas
 pub mod GrowthLemmas
+pub mod AnswerLemmas

@@ -2,24 +2,27 @@
 use Rattle.std.specs.Prelude.{◌≡◌, ◌≢◌, ℕ, ◌+◌, ◌<◌, ◌≤◌, Bool, List, [], ◌∷◌, ◌++◌, ◌⊎◌, length, Contains}
 use Rattle.bdd_store.specs.declared.node.Node.{Node}
 use Rattle.bdd_store.specs.declared.node.Entry.{Entry}
-use Rattle.bdd_store.specs.Arena.{Arena, den, top_of, IsNodeOf}
+use Rattle.bdd_store.specs.Arena.{Arena, complemented, den, top_of, IsNodeOf}
 use Rattle.bdd_store.specs.Subfunctions.{IsPart, Alike}
 
--- each node of the old store is one of the new, with its function and its variable
+-- each node of the old store is one of the new, with its function and its variable, and the roots stay
 pub record KeepsNodes (old new : Arena) : Type 0 where
   pub vars : new.vars ≡ old.vars
   pub limit : new.limit ≡ old.limit
   pub more : length old.entries ≤ length new.entries
   pub function : (n : Node) (bits : List Bool) → IsNodeOf old n → den new n bits ≡ den old n bits
   pub variable : (n : Node) → IsNodeOf old n → top_of new n ≡ top_of old n
+  pub roots : new.roots ≡ old.roots
 
 -- the entry is there, and was there or went last where there was room
 abbrev pub IsEntered : List Entry → List Entry → ℕ → Entry → Type 0
 IsEntered old new limit e = (new ≡ old) ⊎ ((new ≡ old ++ e ∷ []) × (¬ Contains old e) × (length old < limit))
 
--- the triple is not there, and there is no room for it
+-- the triple is not there, nor is the one with both branches complemented, and there is no room for it
 abbrev pub IsRefused : Arena → ℕ → Node → Node → Type 0
-IsRefused a var lo hi = (lo ≢ hi) × (length a.entries ≡ a.limit) × (¬ Contains a.entries (record { var = var; lo = lo; hi = hi }))
+IsRefused a var lo hi = (lo ≢ hi) × (length a.entries ≡ a.limit)
+    × (¬ Contains a.entries (record { var = var; lo = lo; hi = hi }))
+    × (¬ Contains a.entries (record { var = var; lo = complemented lo; hi = complemented hi }))
 
 -- no node has this function
 abbrev pub IsNewFunction : Arena → (List Bool → Bool) → Type 0
@@ -34,9 +37,13 @@ pub record IsFullOnlyPast (old new : Arena) (n : ℕ) : Type 0 where
   pub full : length new.entries ≡ new.limit
   pub past : new.limit < length old.entries + n
 
--- each node that was not there stands for f with some first bits fixed
+-- the node or its complement stands for f with some first bits fixed
+abbrev pub IsPartAt : ℕ → (List Bool → Bool) → Arena → Node → Type 0
+IsPartAt vars f a n = IsPart vars f (den a n) ⊎ IsPart vars f (den a (complemented n))
+
+-- each node that was not there stands for f with some first bits fixed, or its complement does
 pub record NewAreParts (old new : Arena) (f : List Bool → Bool) : Type 0 where
-  pub each : (n : Node) → IsNodeOf new n → IsNodeOf old n ⊎ IsPart old.vars f (den new n)
+  pub each : (n : Node) → IsNodeOf new n → IsNodeOf old n ⊎ IsPartAt old.vars f new n
 
 -- the arena is full, and lacks a node for f with some first bits fixed
 pub record IsRefusedPart (a : Arena) (f : List Bool → Bool) : Type 0 where

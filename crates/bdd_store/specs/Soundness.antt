@@ -1,20 +1,21 @@
 -- Ordered and reduced diagrams, and what follows for their functions.
-use Rattle.std.specs.Prelude.{◌≡◌, ◌≢◌, ◌↔◌, ℕ, ◌+◌, ◌<◌, ◌≤◌, Bool, List, length, drop, Some, slice_get}
+use Rattle.std.specs.Prelude.{◌≡◌, ◌≢◌, ◌↔◌, ℕ, ◌<◌, ◌≤◌, Bool, false, List, length, drop, Some, slice_get}
 use Rattle.bdd_store.specs.declared.node.Node.{Node}
 use Rattle.bdd_store.specs.declared.node.Entry.{Entry}
-use Rattle.bdd_store.specs.Arena.{Arena, constant, den, top_at, top_of, IsNodeOf, IsBranching}
+use Rattle.bdd_store.specs.Arena.{Arena, index, is_marked, constant, den, top_at, top_of, IsNodeOf, IsBranching}
 
 -- the entry at position p is one that a sound store may have there
 pub record IsSoundEntry (vars : ℕ) (es : List Entry) (p : ℕ) (e : Entry) : Type 0 where
-  pub lo_earlier : e.lo.number < p + 2
-  pub hi_earlier : e.hi.number < p + 2
+  pub lo_earlier : index e.lo ≤ p
+  pub hi_earlier : index e.hi ≤ p
   pub apart : e.lo.number ≢ e.hi.number
+  pub unmarked : is_marked e.hi ≡ false
   pub within : e.var < vars
-  pub lo_below : e.var < top_at vars es e.lo.number
-  pub hi_below : e.var < top_at vars es e.hi.number
+  pub lo_below : e.var < top_at vars es (index e.lo)
+  pub hi_below : e.var < top_at vars es (index e.hi)
 
--- variables rise along branches, no entry has equal branches, no triple stands twice, and branches are constants
--- or stand at earlier positions
+-- variables rise along branches, no entry has equal branches, no triple stands twice, no high branch has a mark,
+-- and branches are constants or stand at earlier positions
 pub record IsSound (vars : ℕ) (es : List Entry) : Type 0 where
   pub each : (p : ℕ) (e : Entry) → slice_get es p ≡ Some e → IsSoundEntry vars es p e
   pub once : (p q : ℕ) (e : Entry) → slice_get es p ≡ Some e → slice_get es q ≡ Some e → p ≡ q

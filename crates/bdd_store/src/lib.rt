@@ -8,11 +8,11 @@
 mod fault;
 mod laws;
 mod node;
+mod root;
 mod store;
-#[cfg(test)]
-mod tests;
 
 pub use fault::StoreFault;
 pub use laws::nodes_by_values;
-pub use node::{Entry, Node};
+pub use node::{Choice, Entry, Node};
+pub use root::Root;
 pub use store::Store;

@@ -1,15 +1,21 @@
-ghost use Rattle.std.specs.Prelude.{◌≡◌, ◌↔◌, ℕ, ◌+◌, ◌<◌, ◌≤◌, ◌⊎◌, Bool, List, [], Some, length, slice_get, Contains, IsTrue, IfOk, OnOk, OnErr, false, true};
+ghost use Rattle.std.specs.Prelude.{◌≡◌, ◌↔◌, ℕ, ◌+◌, ◌*◌, ◌<◌, ◌≤◌, ◌⊎◌, Bool, List, Some, None, length, slice_get, Contains, IsSome, IsTrue, IfOk, OnOk, OnErr, false, true};
 ghost use Rattle.std.specs.List.{slice_index_or};
-ghost use Rattle.bdd_store.specs.Arena.{den, value_at, choice, top_of, IsNodeOf, IsBranching};
+ghost use Rattle.bdd_store.specs.Arena.{empty, root_at, HasRoot, answer_to, with_answers, index, complemented, node_value, den, choice, top_of, IsNodeOf, IsBranching};
 ghost use Rattle.bdd_store.specs.Soundness.{IsSound, SameFunction, IsLawful};
 ghost use Rattle.bdd_store.specs.Growth.{KeepsNodes, IsEntered, IsRefused, IsNewFunction, AddsAtMost};
 
 use crate::fault::StoreFault;
-use crate::node::{Entry, Node};
+use crate::node::{Choice, Entry, Node};
+use crate::root::Root;
 use cyc_base::MAX_NODES;
 use indexmap::IndexSet;
+use lru::LruCache;
+use slab::Slab;
 use std::alloc::{AllocError, Global};
 use std::marker::Model;
+use std::num::NonZeroUsize;
+
+const MOST_ANSWERS: usize = 65_536;
 
 // The position of an entry, which goes last if it is new.
 fn enter(entries: &mut IndexSet<Entry>, limit: u32, entry: Entry) -> Result<u32, StoreFault>
@@ -33,32 +39,47 @@ fn enter(entries: &mut IndexSet<Entry>, limit: u32, entry: Entry) -> Result<u32,
     }
 }
 
-// The value of the node with this number.
-fn value_in(entries: &[Entry], number: u32, bits: &[bool]) -> bool
-    requires sound { IsSound (length bits.now) entries.now }
-    requires node { number < length entries.now + 2 }
-    ensures { result ≡ value_at entries.now number bits.now }
+// The node of the entry at a position.
+fn node_at(position: u32) -> Node
+    requires { position < MAX_NODES }
+    ensures { result.number ≡ 2 * position + 3 }
 {
-    let mut at = number;
-    while at >= 2 {
-        let entry = &entries[at as usize - 2];
-        at = if bits[entry.var as usize] {
-            entry.hi.number
-        } else {
-            entry.lo.number
-        };
+    Node {
+        number: 2 * position + 3,
     }
-    at == 1
+}
+
+// The value of a node. Marks are gathered on the way.
+fn value_in(entries: &[Entry], node: Node, bits: &[bool]) -> bool
+    requires sound { IsSound (length bits.now) entries.now }
+    requires node { index node ≤ length entries.now }
+    ensures { result ≡ node_value entries.now node bits.now }
+{
+    let mut at = node;
+    while at.is_branching() {
+        let entry = &entries[at.index() as usize - 1];
+        let branch = if bits[entry.var as usize] {
+            entry.hi
+        } else {
+            entry.lo
+        };
+        at = branch.complement_if(at.is_marked());
+    }
+    !at.is_marked()
 }
 
 /// Nodes of reduced ordered decision diagrams. The variables are numbered from 0 in their order, and a
 /// node's function reads the bit at its variable. The unique table has each triple of a variable and two
-/// branches once.
+/// branches once. A function and its complement share one entry: no high branch has a mark (Brace, Rudell and
+/// Bryant 1990).
 #[derive(Drop)]
 pub struct Store {
     vars: u32,
     limit: u32,
     entries: IndexSet<Entry>,
+    roots: Slab<Node>,
+    // What the layer above found for choices.
+    answers: LruCache<Choice, Node>,
 }
 
 // The number in the invariant is `MAX_NODES`.
@@ -69,7 +90,7 @@ impl Model for Store {
 
     ghost Value = { Arena };
 
-    ghost view = { λ s. record { vars = s.vars; limit = s.limit; entries = s.entries.keys } };
+    ghost view = { λ s. record { vars = s.vars; limit = s.limit; entries = s.entries.keys; roots = s.roots.slots; answers = s.answers.entries } };
 
     ghost invariant = { λ s. (s.limit ≤ 50000000) × (length s.entries.keys ≤ s.limit) × IsSound s.vars s.entries.keys };
 }
@@ -79,13 +100,17 @@ impl Store {
     /// nodes. Constants aren't counted.
     pub fn new(alloc: Global, vars: u32, limit: u32) -> Result<Store, AllocError>
         requires { limit ≤ MAX_NODES }
-        ensures { IfOk result (λ s. s ≡ record { vars = vars; limit = limit; entries = [] }) }
+        ensures { IfOk result (λ s. s ≡ empty vars limit) }
     {
         let entries = IndexSet::with_capacity(alloc, 1)?;
+        let most = NonZeroUsize::new(MOST_ANSWERS).unwrap_or(NonZeroUsize::MIN);
+        let answers = LruCache::sparse(alloc, most)?;
         Ok(Store {
             vars,
             limit,
             entries,
+            roots: Slab::new(alloc),
+            answers,
         })
     }
 
@@ -134,13 +159,15 @@ impl Store {
         ensures top { IfOk result (λ n. var ≤ top_of self.new n) }
         ensures equal { lo ≡ hi → result ≡ Ok lo }
 
-        // At most one node is added, which is the answer, and each earlier one keeps its function.
+        // At most one entry is added, that of the answer, and each earlier node keeps its function.
         ensures keeps { KeepsNodes self.old self.new }
         ensures added { AddsAtMost self.old self.new 1 }
-        ensures new_node { (n : Node) → IsNodeOf self.new n → IsNodeOf self.old n ⊎ (result ≡ Ok n) }
+        ensures new_node { (n : Node) → IsNodeOf self.new n → IsNodeOf self.old n ⊎ ((result ≡ Ok n) ⊎ (result ≡ Ok (complemented n))) }
         ensures equal_adds_none { lo ≡ hi → self.new ≡ self.old }
+        ensures answers { self.new.answers ≡ self.old.answers }
 
-        // It is full exactly where a new triple finds no room. No node has the wanted function then.
+        // It is full exactly where a new entry finds no room: neither the triple nor the one with both branches
+        // complemented is there. No node has the wanted function then.
         ensures full { (result ≡ Err StoreFault.Full) ↔ IsRefused self.old var lo hi }
         ensures new_function { result ≡ Err StoreFault.Full → IsNewFunction self.old (choice self.old var lo hi) }
         ensures err { OnErr result (self.new ≡ self.old) }
@@ -148,8 +175,14 @@ impl Store {
         if lo == hi {
             return Ok(lo);
         }
-        let at = enter(&mut self.entries, self.limit, Entry { var, lo, hi })?;
-        Ok(Node { number: at + 2 })
+        let mark = hi.is_marked();
+        let entry = Entry {
+            var,
+            lo: lo.complement_if(mark),
+            hi: hi.complement_if(mark),
+        };
+        let at = enter(&mut self.entries, self.limit, entry)?;
+        Ok(node_at(at).complement_if(mark))
     }
 
     /// The value of a node's function at bits, one for each variable.
@@ -158,7 +191,7 @@ impl Store {
         requires bits { length bits.now ≡ self.now.vars }
         ensures { result ≡ den self.now n bits.now }
     {
-        value_in(self.entries.as_slice(), n.number, bits)
+        value_in(self.entries.as_slice(), n, bits)
     }
 
     /// The variable of a node, or `vars` for a constant.
@@ -167,55 +200,102 @@ impl Store {
         ensures variable { result ≡ top_of self.now n }
         ensures branching { IsBranching n ↔ (result < self.now.vars) }
     {
-        if n.number < 2 {
-            self.vars
+        if n.is_branching() {
+            self.entries.as_slice()[n.index() as usize - 1].var
         } else {
-            self.entries.as_slice()[n.number as usize - 2].var
+            self.vars
         }
     }
 
-    /// The branch of a node that is no constant, where the bit at its variable is 0.
+    /// The branch of a node that is no constant, where the bit at its variable is 0: complemented, where the node
+    /// has a mark.
     pub fn lo(&self, n: Node) -> Node
         requires node { IsNodeOf self.now n }
         requires entry { IsBranching n }
         ensures node { IsNodeOf self.now result }
-        ensures earlier { result.number < n.number }
+        ensures earlier { index result < index n }
         ensures lower { top_of self.now n < top_of self.now result }
         ensures within { top_of self.now n < self.now.vars }
         ensures function { (bits : List Bool) → slice_index_or bits (top_of self.now n) false ≡ false → den self.now n bits ≡ den self.now result bits }
     {
-        self.entries.as_slice()[n.number as usize - 2].lo
+        let entry = &self.entries.as_slice()[n.index() as usize - 1];
+        entry.lo.complement_if(n.is_marked())
     }
 
-    /// The branch of a node that is no constant, where the bit at its variable is 1.
+    /// The branch of a node that is no constant, where the bit at its variable is 1: complemented, where the node
+    /// has a mark.
     pub fn hi(&self, n: Node) -> Node
         requires node { IsNodeOf self.now n }
         requires entry { IsBranching n }
         ensures node { IsNodeOf self.now result }
-        ensures earlier { result.number < n.number }
+        ensures earlier { index result < index n }
         ensures lower { top_of self.now n < top_of self.now result }
         ensures within { top_of self.now n < self.now.vars }
         ensures function { (bits : List Bool) → slice_index_or bits (top_of self.now n) false ≡ true → den self.now n bits ≡ den self.now result bits }
     {
-        self.entries.as_slice()[n.number as usize - 2].hi
+        let entry = &self.entries.as_slice()[n.index() as usize - 1];
+        entry.hi.complement_if(n.is_marked())
     }
 
-    /// The node that was made after so many others.
+    /// The node without a mark whose entry was made after so many others.
     pub fn at(&self, position: u32) -> Node
         requires { position < length self.now.entries }
-        ensures { result.number ≡ position + 2 }
+        ensures { result.number ≡ 2 * position + 3 }
     {
         let _ = &self.entries;
-        Node {
-            number: position + 2,
-        }
+        node_at(position)
     }
 
     /// Whether a node is one of this store.
     pub fn contains(&self, n: Node) -> bool
         ensures { IsTrue result ↔ IsNodeOf self.now n }
     {
-        (n.number as usize) < self.entries.len() + 2
+        n.index() as usize <= self.entries.len()
+    }
+
+    /// Keeps a node as a root, under a key that was free.
+    pub fn keep(&mut self, n: Node) -> Result<Root, AllocError>
+        requires { IsNodeOf self.old n }
+        ensures free { IfOk result (λ r. root_at self.old r.key ≡ None) }
+        ensures kept { IfOk result (λ r. HasRoot self.old self.new r.key (Some n)) }
+        ensures err { OnErr result (self.new ≡ self.old) }
+    {
+        let key = self.roots.insert(n)?;
+        Ok(Root { key })
+    }
+
+    /// The node of a root.
+    pub fn root(&self, r: &Root) -> Node
+        requires { IsSome (root_at self.now r.now.key) }
+        ensures { root_at self.now r.now.key ≡ Some result }
+    {
+        self.roots[r.key]
+    }
+
+    /// Gives a root up. Its node stays, and is no root under this key.
+    pub fn release(&mut self, r: Root)
+        requires { IsSome (root_at self.old r.key) }
+        ensures { HasRoot self.old self.new r.key None }
+    {
+        self.roots.remove(r.key);
+    }
+
+    /// The answer that is kept for a choice.
+    pub fn answer(&self, choice: Choice) -> Option<Node>
+        ensures { result ≡ answer_to self.now choice }
+    {
+        self.answers.peek(&choice).copied()
+    }
+
+    /// Keeps an answer to a choice. The one that was used least recently may have to go for it.
+    pub fn keep_answer(&mut self, choice: Choice, n: Node) -> Result<(), AllocError>
+        ensures kept { OnOk result (answer_to self.new choice ≡ Some n) }
+        ensures others { (x : Choice) (m : Node) → Contains self.new.answers (x, m) → ((x ≡ choice) × (m ≡ n)) ⊎ Contains self.old.answers (x, m) }
+        ensures same { self.new ≡ with_answers self.old self.new.answers }
+        ensures err { OnErr result (self.new ≡ self.old) }
+    {
+        self.answers.put(choice, n)?;
+        Ok(())
     }
 
     /// Whether two nodes have one function. They are then one node.

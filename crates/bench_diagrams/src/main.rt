@@ -17,24 +17,41 @@ use std::rt::Runtime;
 use std::time::Instant;
 use work::Work;
 
-// Makes one function, and prints what that took.
-fn time<R: Runtime>(rt: &R, alloc: Global, name: &str, size: u32) -> anyhow::Result<()> {
-    let mut work = Work::new(alloc)?;
-    let start = Instant::now(rt)?;
+// Makes the function of this name.
+fn make(work: &mut Work, alloc: Global, name: &str, size: u32) -> anyhow::Result<()> {
     match name {
-        "queens" => queens(&mut work, size)?,
-        "parity" => parity(&mut work, size)?,
-        "adder" => adder(&mut work, alloc, size)?,
-        "hidden" => hidden_weighted_bit(&mut work, alloc, size)?,
+        "queens" => queens(work, size)?,
+        "parity" => parity(work, size)?,
+        "adder" => adder(work, alloc, size)?,
+        "hidden" => hidden_weighted_bit(work, alloc, size)?,
         _ => anyhow::bail!("no function has the name {name}"),
     }
-    let micros = start.elapsed(rt)?.as_micros();
+    Ok(())
+}
+
+// Prints what a function took.
+fn tell<R: Runtime>(
+    rt: &R,
+    work: &Work,
+    name: &str,
+    size: u32,
+    micros: u128,
+) -> anyhow::Result<()> {
     let nodes = work.nodes();
     let operations = work.operations();
     println!(rt; "{name} {size}: {nodes} nodes, {operations} operations")?;
     let rate = (nodes as u128).wrapping_mul(1_000_000) / micros.max(1);
     eprintln!(rt; "{name} {size}: {micros} us, {rate} nodes per second")?;
     Ok(())
+}
+
+// Makes one function, and prints what that took.
+fn time<R: Runtime>(rt: &R, alloc: Global, name: &str, size: u32) -> anyhow::Result<()> {
+    let mut work = Work::new(alloc)?;
+    let start = Instant::now(rt)?;
+    make(&mut work, alloc, name, size)?;
+    let micros = start.elapsed(rt)?.as_micros();
+    tell(rt, &work, name, size, micros)
 }
 
 fn main(rt: HostRuntime) -> anyhow::Result<()> {

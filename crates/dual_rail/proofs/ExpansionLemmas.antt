@@ -5,7 +5,7 @@ use Rattle.std.proofs.lemmas.List.{map-id, get_or_at, drop_at, length-replicate,
 use Rattle.std.proofs.lemmas.List.Elements.{All-get_or}
 use Rattle.std.specs.List.{list_any, list_all, filter, All, range_with_len}
 use Rattle.bdd_store.specs.declared.node.Node.{Node}
-use Rattle.bdd_store.specs.Arena.{Arena, den, top_of, IsNodeOf, choice}
+use Rattle.bdd_store.specs.Arena.{Arena, complemented, den, top_of, IsNodeOf, choice}
 use Rattle.bdd_store.specs.Growth.{KeepsNodes, NewAreParts, IsNewFunction, IsRefusedPart}
 use Rattle.bdd_store.proofs.SubfunctionLemmas.{IsPart-whole, IsPart-alike}
 use Rattle.bdd_store.proofs.GrowthLemmas.{NewAreParts-made, NewAreParts-part, IsRefusedPart-made, IsRefusedPart-part}
@@ -172,7 +172,7 @@ module _ {rows : List Row} {plane : Bool} {s : Arena} {pin : ℕ} {live : List �
   IsPart-choice : IsPart s.vars (remainder rows plane pin live) (choice s pin low high)
   IsPart-choice = IsPart-alike (IsPart-whole s.vars (remainder rows plane pin live)) (choice-remainder less are)
 
-  pub NewAreParts-choice : {E : Type 0} (r : Result Node E) → ((n : Node) → IsNodeOf t n → IsNodeOf s n ⊎ (r ≡ Ok n)) → IfOk r (λ n. (bits : List Bool) → den t n bits ≡ choice s pin low high bits) → NewAreParts s t (remainder rows plane pin live)
+  pub NewAreParts-choice : {E : Type 0} (r : Result Node E) → ((n : Node) → IsNodeOf t n → IsNodeOf s n ⊎ ((r ≡ Ok n) ⊎ (r ≡ Ok (complemented n)))) → IfOk r (λ n. (bits : List Bool) → den t n bits ≡ choice s pin low high bits) → NewAreParts s t (remainder rows plane pin live)
   NewAreParts-choice r one function = NewAreParts-part IsPart-choice (NewAreParts-made s t (choice s pin low high) r one function)
 
   pub IsRefusedPart-choice : t ≡ s → length s.entries ≡ s.limit → IsNewFunction s (choice s pin low high) → IsRefusedPart t (remainder rows plane pin live)

@@ -7,7 +7,7 @@ use Rattle.bdd_store.specs.Soundness.{IsLawful}
 use Rattle.bdd_store.specs.Subfunctions.{nodes, IsPart, Alike}
 use Rattle.bdd_store.specs.Growth.{KeepsNodes, NewAreParts, IsRefusedPart}
 use Rattle.bdd_store.proofs.SubfunctionLemmas.{IsPart-of_alike}
-use Rattle.bdd_store.proofs.GrowthLemmas.{added-parts, refused-parts}
+use Rattle.bdd_store.proofs.GrowthLemmas.{IsPartAt-into, added-parts, refused-parts}
 use Rattle.cover_logic.specs.declared.row.Row.{Row}
 use Rattle.cover_logic.specs.Covers.{Cover, IsCover, value}
 use Rattle.dual_rail.specs.Expansion.{remainder, IsExpansion}
@@ -27,7 +27,7 @@ function-cover cover is rows plane pin live rows_are plane_is pin_is all s vars 
 function-cover cover is rows plane pin live rows_are plane_is pin_is all s vars (Err x) e = tt
 
 pub NewAreParts-alike : {s t : Arena} {f g : List Bool → Bool} → Alike s.vars f g → NewAreParts s t f → NewAreParts s t g
-NewAreParts-alike same new = record { each = λ n node. elim (new.each n node) [ inl was ↦ inl was | inr part ↦ inr (IsPart-of_alike part same) ] }
+NewAreParts-alike {s} {t} same new = record { each = λ n node. elim (new.each n node) [ inl was ↦ inl was | inr part ↦ inr (IsPartAt-into t t n (λ m at here. IsPart-of_alike here same) part) ] }
 
 pub IsRefusedPart-alike : {a : Arena} {f g : List Bool → Bool} → Alike a.vars f g → IsRefusedPart a f → IsRefusedPart a g
 IsRefusedPart-alike same r = record { full = r.full; part = r.part; is_part = IsPart-of_alike r.is_part same; absent = r.absent }
@@ -51,7 +51,7 @@ module _ (cover : Cover) (old new : Arena) (pins_are : old.vars ≡ cover.pins) 
       node = node;
       parts = λ n in_n more. elim (parts.each n in_n) [
         | inl was ↦ absurd (omega (arith, was, more, ap length empty))
-        | inr part ↦ IsPart-of_alike (subst (λ (v : ℕ). IsPart v (value cover) (den new n)) (sym kept.vars) part) (λ bits len. sym (function_is bits (len ∙ kept.vars ∙ pins_are)))
+        | inr part ↦ IsPartAt-into new new n (λ m at here. IsPart-of_alike (subst (λ (v : ℕ). IsPart v (value cover) (den new m)) (sym kept.vars) here) (λ bits len. sym (function_is bits (len ∙ kept.vars ∙ pins_are)))) part
       ];
     }
 

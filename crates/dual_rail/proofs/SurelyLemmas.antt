@@ -3,10 +3,10 @@ use Rattle.std.proofs.Common.{◌≡◌, ℕ, zero, suc, ◌<◌, Bool, true, fa
 use Rattle.std.proofs.lemmas.Bool.{and_parts, and_from}
 use Rattle.std.proofs.lemmas.List.{get_or-set_same, drop-set-lt, length-map}
 use Rattle.std.proofs.lemmas.List.Elements.{All-get_or, All-from_get_or}
+use Rattle.std.proofs.Math.Bool.{not-not}
 use Rattle.std.specs.List.{All}
 use Rattle.bdd_store.specs.declared.node.Node.{Node}
-use Rattle.bdd_store.specs.declared.node.Entry.{Entry}
-use Rattle.bdd_store.specs.Arena.{Arena, den, den_within, value_at, top_of, IsNodeOf}
+use Rattle.bdd_store.specs.Arena.{Arena, den, top_of, IsNodeOf}
 use Rattle.bdd_store.specs.Soundness.{IsLawful}
 use Rattle.bdd_store.specs.Growth.{KeepsNodes}
 use Rattle.bdd_ops.specs.Operations.{select, selection}
@@ -221,8 +221,9 @@ surely-constant g false trits h =
     let some = some_completion trits in
     same_bool _ _ (λ all. sym (h some.0) ∙ passes_above g trits all some.0 some.1) (λ e. absurd (true≢false (sym e)))
 
-pub constant-den : (es : List Entry) (k : ℕ) → k < 2 → (b : Bool) × ((bs : List Bool) → value_at es k bs ≡ b)
-unfolding den_within
-constant-den es zero h = (false, λ bs. refl)
-constant-den es (suc zero) h = (true, λ bs. refl)
-constant-den es (suc (suc k)) h = absurd (omega arith)
+-- the rails of the complement are exchanged
+pub IsLift-complement : {a : Arena} {pins : List Rails} {f g : List Bool → Bool} {r : Rails} → ((bs : List Bool) → g bs ≡ not (f bs)) → IsLift a pins f r → IsLift a pins g (record { one = r.zero; zero = r.one })
+IsLift-complement {a} {pins} {f} {g} {r} opposite is = record {
+  one = record { node = is.zero.node; says = λ bits. is.zero.says bits ∙ surely-alike (λ bs. not (f bs)) g (values_of a pins bits) (λ bs len. sym (opposite bs)) };
+  zero = record { node = is.one.node; says = λ bits. is.one.says bits ∙ surely-alike f (λ bs. not (g bs)) (values_of a pins bits) (λ bs len. sym (not-not (f bs)) ∙ ap not (sym (opposite bs))) };
+}

@@ -1,65 +1,77 @@
 -- The table of rails, and what a loop over the nodes adds.
 use Rattle.std.proofs.Common.{◌≡◌, ℕ, zero, suc, ◌<◌, ◌≤◌, Bool, true, false, not, ◌⊎◌, inl, inr, List, [], ◌∷◌, ◌++◌, length, Result, Ok, Err, is_err, is_ok, if◌then◌else◌, refl, sym, ap, subst, ◌∙◌, arith, true≢false}
+use Rattle.std.proofs.Math.Bool.{not-not}
 use Rattle.std.proofs.lemmas.Bool.{cases_lt}
 use Rattle.std.proofs.lemmas.List.{get_or_append_left, get_or_push, length_push}
 use Rattle.std.specs.List.{All, slice_index_or}
 use Rattle.bdd_store.specs.declared.node.Node.{Node}
-use Rattle.bdd_store.specs.Arena.{Arena, den, den_within, value_at, constant, IsNodeOf}
+use Rattle.bdd_store.specs.Arena.{Arena, empty, index, is_marked, complemented, flipped, den, value_at, constant, IsNodeOf}
 use Rattle.bdd_store.specs.Soundness.{IsLawful}
-use Rattle.bdd_store.specs.Subfunctions.{nodes, IsPart}
+use Rattle.bdd_store.specs.Subfunctions.{nodes}
+use Rattle.bdd_store.proofs.NodeLemmas.{same_node, index-complemented, is_marked-complemented}
+use Rattle.bdd_store.proofs.ValueLemmas.{value_at-zero, node_value-complemented, den-constant}
 use Rattle.bdd_store.proofs.GrowthLemmas.{count-parts}
-use Rattle.bdd_store.specs.Growth.{KeepsNodes}
+use Rattle.bdd_store.specs.Growth.{KeepsNodes, IsPartAt}
 use Rattle.dual_rail.specs.declared.rail.Rails.{Rails}
 use Rattle.dual_rail.specs.Rails.{values_of, AreRailsOf}
 use Rattle.dual_rail.specs.Local.{Local, function, local_size, IsLocal}
 use Rattle.dual_rail.specs.Lifts.{IsSurely, IsLift, IsTable}
-use Rattle.dual_rail.proofs.SurelyLemmas.{surely-constant, IsLift-kept}
+use Rattle.dual_rail.proofs.SurelyLemmas.{surely-constant, IsLift-kept, IsLift-complement}
 
 -- what a push that did not fail left
 pub pushed : {T X E : Type 0} (r : Result X E) (xs ys zs : List T) → false ≡ is_err r → xs ≡ (if is_ok r then ys else zs) → xs ≡ ys
 pushed (Ok x) xs ys zs e h = h
 pushed (Err x) xs ys zs e h = absurd (true≢false (sym e))
 
--- the rails of the constants
+-- the rails of the constant without a mark
 abbrev pub base_rails : List Rails
-base_rails = (record { one = constant false; zero = constant true }) ∷ (record { one = constant true; zero = constant false }) ∷ []
-
-constant-surely : (a : Arena) (pins : List Rails) (f : List Bool → Bool) (b : Bool) → ((bs : List Bool) → f bs ≡ b) → IsSurely a pins f (constant b)
-unfolding den_within
-constant-surely a pins f false h = record { node = omega arith; says = λ bs. sym (surely-constant f false (values_of a pins bs) h) }
-constant-surely a pins f true h = record { node = omega arith; says = λ bs. sym (surely-constant f true (values_of a pins bs) h) }
+base_rails = (record { one = constant true; zero = constant false }) ∷ []
 
 pub base-table : (l : Local) (a : Arena) (pins : List Rails) → IsTable l a pins base_rails
-unfolding den_within
-base-table l a pins = record { each = λ n none less. by none n.number less }
+base-table l a pins = record { each = λ n none plain less. by n none plain (omega (arith, less)) }
   where
-    by : (none : Rails) (k : ℕ) → k < 2 → IsLift a pins (λ bs. value_at l.store.entries k bs) (slice_index_or base_rails k none)
-    by none zero h = record { one = constant-surely a pins (λ bs. value_at l.store.entries 0 bs) false (λ bs. refl); zero = constant-surely a pins (λ bs. not (value_at l.store.entries 0 bs)) true (λ bs. refl) }
-    by none (suc zero) h = record { one = constant-surely a pins (λ bs. value_at l.store.entries 1 bs) true (λ bs. refl); zero = constant-surely a pins (λ bs. not (value_at l.store.entries 1 bs)) false (λ bs. refl) }
-    by none (suc (suc k)) h = absurd (omega arith)
+    first : (none : Rails) (i : ℕ) → i ≡ 0 → slice_index_or base_rails i none ≡ record { one = constant true; zero = constant false }
+    first none i e = ap (λ k. slice_index_or base_rails k none) e
+
+    by : (n : Node) (none : Rails) → is_marked n ≡ false → index n ≡ 0 → IsLift a pins (den l.store n) (slice_index_or base_rails (index n) none)
+    by n none plain low =
+        let one : (bs : List Bool) → den l.store n bs ≡ true = λ bs. ap (λ m. flipped m (value_at l.store.entries (index n) bs)) plain ∙ ap (λ i. value_at l.store.entries i bs) low ∙ value_at-zero l.store.entries bs in
+        subst (IsLift a pins (den l.store n)) (sym (first none (index n) low)) (record {
+          one = record { node = omega arith; says = λ bs. den-constant true a bs ∙ sym (surely-constant (den l.store n) true (values_of a pins bs) one) };
+          zero = record { node = omega arith; says = λ bs. den-constant false a bs ∙ sym (surely-constant (λ cs. not (den l.store n cs)) false (values_of a pins bs) (λ cs. ap not (one cs))) };
+        })
 
 -- what the table stands for stays while nodes are kept
 pub IsTable-kept : {l : Local} {s t : Arena} {pins table : List Rails} → KeepsNodes s t → All (AreRailsOf s) pins → IsTable l s pins table → IsTable l t pins table
-IsTable-kept k all is = record { each = λ n none less. IsLift-kept k all (is.each n none less) }
+IsTable-kept k all is = record { each = λ n none plain less. IsLift-kept k all (is.each n none plain less) }
 
 -- with the rails of one more node
-pub step-table : {l : Local} {s t : Arena} {pins table : List Rails} (more : List Rails) (node : Node) (r : Rails) → IsTable l s pins table → KeepsNodes s t → All (AreRailsOf s) pins → length table ≡ node.number → IsLift t pins (den l.store node) r → more ≡ table ++ r ∷ [] → IsTable l t pins more
-step-table {l} {s} {t} {pins} {table} more node r before k all at is items = subst (IsTable l t pins) (sym items) (record { each = λ n none less. by n none less (cases_lt n.number (length table)) })
+pub step-table : {l : Local} {s t : Arena} {pins table : List Rails} (more : List Rails) (node : Node) (r : Rails) → IsTable l s pins table → KeepsNodes s t → All (AreRailsOf s) pins → length table ≡ index node → is_marked node ≡ false → IsLift t pins (den l.store node) r → more ≡ table ++ r ∷ [] → IsTable l t pins more
+step-table {l} {s} {t} {pins} {table} more node r before k all at unmarked is items = subst (IsTable l t pins) (sym items) (record { each = λ n none plain less. by n none plain less (cases_lt (index n) (length table)) })
   where
-    by : (n : Node) (none : Rails) → n.number < length (table ++ r ∷ []) → (n.number < length table) ⊎ (length table ≤ n.number) → IsLift t pins (den l.store n) (slice_index_or (table ++ r ∷ []) n.number none)
-    by n none less (inl low) = subst (IsLift t pins (den l.store n)) (sym (get_or_append_left table (r ∷ []) none n.number low)) (IsLift-kept k all (before.each n none low))
-    by n none less (inr high) =
-        let here : length table ≡ n.number = omega (arith, less, high, length_push table r) in
-        let same : node.number ≡ n.number = sym at ∙ here in
-        subst (IsLift t pins (den l.store n)) (sym (get_or_push table r none n.number here))
-        (subst (λ m. IsLift t pins (λ bs. value_at l.store.entries m bs) r) same is)
+    by : (n : Node) (none : Rails) → is_marked n ≡ false → index n < length (table ++ r ∷ []) → (index n < length table) ⊎ (length table ≤ index n) → IsLift t pins (den l.store n) (slice_index_or (table ++ r ∷ []) (index n) none)
+    by n none plain less (inl low) = subst (IsLift t pins (den l.store n)) (sym (get_or_append_left table (r ∷ []) none (index n) low)) (IsLift-kept k all (before.each n none plain low))
+    by n none plain less (inr high) =
+        let here : length table ≡ index n = omega (arith, less, high, length_push table r) in
+        let same : node ≡ n = same_node node n (sym at ∙ here) (unmarked ∙ sym plain) in
+        subst (IsLift t pins (den l.store n)) (sym (get_or_push table r none (index n) here))
+        (subst (λ (m : Node). IsLift t pins (den l.store m) r) same is)
+
+-- the rails of a node with a mark are those of the one without, exchanged
+pub IsLift-at : {l : Local} {s : Arena} {pins table : List Rails} (n : Node) (none : Rails) → IsTable l s pins table → index n < length table → (m : Bool) → m ≡ is_marked n → (r : Rails) → r ≡ slice_index_or table (index n) none
+    → IsLift s pins (den l.store n) (if m then (record { one = r.zero; zero = r.one }) else r)
+IsLift-at {l} {s} {pins} {table} n none is less true mark r at =
+    let m = complemented n in
+    let plain : is_marked (complemented n) ≡ false = is_marked-complemented n ∙ ap not (sym mark) in
+    let there : IsLift s pins (den l.store (complemented n)) r = subst (IsLift s pins (den l.store (complemented n))) (ap (λ i. slice_index_or table i none) (index-complemented n) ∙ sym at) (is.each (complemented n) none plain (omega (arith, less, index-complemented n))) in
+    IsLift-complement (λ bs. sym (not-not (den l.store n bs)) ∙ ap not (sym (node_value-complemented l.store.entries n bs))) there
+IsLift-at {l} {s} {pins} {table} n none is less false mark r at = subst (IsLift s pins (den l.store n)) (sym at) (is.each n none (sym mark) less)
 
 -- ---- counting
 
 -- a diagram has no more nodes than its function
 pub local-count : (l : Local) → IsLawful l.store → IsLocal l → length l.store.entries ≤ local_size l
 local-count l lawful local =
-    let empty : Arena = record { vars = l.store.vars; limit = l.store.limit; entries = [] } in
-    let parts : (n : Node) → IsNodeOf l.store n → IsNodeOf (record { vars = l.store.vars; limit = l.store.limit; entries = [] }) n ⊎ IsPart l.store.vars (function l) (den l.store n) = λ n node. elim (cases_lt n.number 2) [ inl less ↦ inl (omega arith) | inr more ↦ inr (local.parts n node more) ] in
-    let most = count-parts l.store lawful.canonical (function l) lawful.constants (record { vars = l.store.vars; limit = l.store.limit; entries = [] }) (omega arith) parts in
+    let parts : (n : Node) → IsNodeOf l.store n → IsNodeOf (empty l.store.vars l.store.limit) n ⊎ IsPartAt l.store.vars (function l) l.store n = λ n node. elim (cases_lt n.number 2) [ inl less ↦ inl (omega arith) | inr more ↦ inr (local.parts n node more) ] in
+    let most = count-parts l.store lawful.canonical (function l) lawful.constants (empty l.store.vars l.store.limit) (omega arith) parts in
     omega (arith, most, ap (λ v. nodes v (function l)) local.pins)

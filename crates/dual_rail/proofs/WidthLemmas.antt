@@ -1,5 +1,5 @@
 -- Counting the nodes of a lift.
-use Rattle.std.proofs.Common.{◌≡◌, ℕ, zero, suc, ◌+◌, ◌≤◌, Bool, true, false, not, ◌&&◌, List, [], ◌∷◌, ◌++◌, length, map, drop, refl, sym, ap, ap₂, subst, ◌∙◌, arith}
+use Rattle.std.proofs.Common.{inl, inr, ◌≡◌, ℕ, zero, suc, ◌+◌, ◌≤◌, Bool, true, false, not, ◌&&◌, List, [], ◌∷◌, ◌++◌, length, map, drop, refl, sym, ap, ap₂, subst, ◌∙◌, arith}
 use Rattle.std.proofs.Common.{cond, filter}
 use Rattle.std.specs.List.{All}
 use Rattle.std.specs.Bool.{beq}
@@ -9,8 +9,10 @@ use Rattle.std.proofs.lemmas.List.Filters.{length-filter_both}
 use Rattle.std.proofs.lemmas.List.Folds.{list_all-append, list_all-map}
 use Rattle.std.proofs.lemmas.Map.Made.{distinct_count-le}
 use Rattle.bdd_store.specs.declared.node.Node.{Node}
-use Rattle.bdd_store.specs.Arena.{Arena, den}
-use Rattle.bdd_store.specs.Growth.{KeepsNodes}
+use Rattle.bdd_store.specs.Arena.{Arena, complemented, den}
+use Rattle.bdd_store.proofs.ValueLemmas.{node_value-complemented}
+use Rattle.std.proofs.Math.Bool.{not-not}
+use Rattle.bdd_store.specs.Growth.{KeepsNodes, IsPartAt}
 use Rattle.bdd_store.specs.Subfunctions.{nodes, fixed, table, prefixes, is_constant, IsPart}
 use Rattle.cyc_base.specs.declared.trit.Trit.{Trit}
 use Rattle.cyc_base.specs.declared.trit.Trit.TheVariants.{Zero, One, X}
@@ -100,16 +102,28 @@ wide-one wide f is = wide.combinations (λ x y z. x) f f f is is is
 
 -- ---- the two operations of a node
 
-module _ (l : Local) (node : Node) {s : Arena} {pins : List Rails} {fork : Fork} (len : length pins ≡ l.pins) (part : IsPart l.pins (function l) (den l.store node)) (is : IsFork s pins (den l.store node) fork) {w : ℕ} (bounds : BoundsEach s.vars (IsExtended s pins (function l)) w) where
+module _ (l : Local) (node : Node) {s : Arena} {pins : List Rails} {fork : Fork} (len : length pins ≡ l.pins) (part : IsPartAt l.pins (function l) l.store node) (is : IsFork s pins (den l.store node) fork) {w : ℕ} (bounds : BoundsEach s.vars (IsExtended s pins (function l)) w) where
+  opposite : (bs : List Bool) → den l.store node bs ≡ not (den l.store (complemented node) bs)
+  opposite bs = sym (not-not (den l.store node bs)) ∙ ap not (sym (node_value-complemented l.store.entries node bs))
+
+  -- where the complement is the part, surely 1 of the node is surely 0 of the part
   pub one-nodes : nodes s.vars (selection s fork.pin.one fork.pin.zero fork.hi.one fork.lo.one) ≤ w
-  one-nodes =
-      let f : List Bool → Bool = selection s fork.pin.one fork.pin.zero fork.hi.one fork.lo.one in
-      bounds f (extended-one s pins l.pins len (function l) (den l.store node) part f is.one)
+  one-nodes = elim part [
+    | inl p ↦ bounds f (extended-one s pins l.pins len (function l) (den l.store node) p f is.one)
+    | inr p ↦ bounds f (extended-zero s pins l.pins len (function l) (den l.store (complemented node)) p f (λ bits. is.one bits ∙ surely-alike (den l.store node) (λ bs. not (den l.store (complemented node) bs)) (values_of s pins bits) (λ bs wide. opposite bs)))
+  ]
+    where
+      f : List Bool → Bool
+      f = selection s fork.pin.one fork.pin.zero fork.hi.one fork.lo.one
 
   pub zero-nodes : nodes s.vars (selection s fork.pin.one fork.pin.zero fork.hi.zero fork.lo.zero) ≤ w
-  zero-nodes =
-      let f : List Bool → Bool = selection s fork.pin.one fork.pin.zero fork.hi.zero fork.lo.zero in
-      bounds f (extended-zero s pins l.pins len (function l) (den l.store node) part f is.zero)
+  zero-nodes = elim part [
+    | inl p ↦ bounds f (extended-zero s pins l.pins len (function l) (den l.store node) p f is.zero)
+    | inr p ↦ bounds f (extended-one s pins l.pins len (function l) (den l.store (complemented node)) p f (λ bits. is.zero bits ∙ surely-alike (λ bs. not (den l.store node bs)) (den l.store (complemented node)) (values_of s pins bits) (λ bs wide. sym (node_value-complemented l.store.entries node bs))))
+  ]
+    where
+      f : List Bool → Bool
+      f = selection s fork.pin.one fork.pin.zero fork.hi.zero fork.lo.zero
 
 -- ---- a bound of every function
 

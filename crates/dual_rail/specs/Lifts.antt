@@ -1,8 +1,8 @@
 -- The rails of a function of ternary pins.
-use Rattle.std.specs.Prelude.{◌≡◌, ◌<◌, Bool, not, List, length}
+use Rattle.std.specs.Prelude.{◌≡◌, ◌<◌, Bool, false, not, List, length}
 use Rattle.std.specs.List.{list_all, slice_index_or}
 use Rattle.bdd_store.specs.declared.node.Node.{Node}
-use Rattle.bdd_store.specs.Arena.{Arena, den, IsNodeOf}
+use Rattle.bdd_store.specs.Arena.{Arena, index, is_marked, den, IsNodeOf}
 use Rattle.bdd_ops.specs.Operations.{selection}
 use Rattle.cyc_base.specs.declared.trit.Trit.{Trit}
 use Rattle.cover_logic.specs.Extensions.{completions}
@@ -34,6 +34,6 @@ pub record IsFork (a : Arena) (pins : List Rails) (f : List Bool → Bool) (fork
   pub one : (bits : List Bool) → selection a fork.pin.one fork.pin.zero fork.hi.one fork.lo.one bits ≡ surely f (values_of a pins bits)
   pub zero : (bits : List Bool) → selection a fork.pin.one fork.pin.zero fork.hi.zero fork.lo.zero bits ≡ surely (λ bs. not (f bs)) (values_of a pins bits)
 
--- the table holds the rails of the diagram's first nodes, by their numbers
+-- the table holds the rails of the diagram's first nodes without marks, by their indices
 pub record IsTable (l : Local) (a : Arena) (pins : List Rails) (table : List Rails) : Type 0 where
-  pub each : (n : Node) (none : Rails) → n.number < length table → IsLift a pins (den l.store n) (slice_index_or table n.number none)
+  pub each : (n : Node) (none : Rails) → is_marked n ≡ false → index n < length table → IsLift a pins (den l.store n) (slice_index_or table (index n) none)

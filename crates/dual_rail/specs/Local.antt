@@ -2,7 +2,8 @@
 use Rattle.std.specs.Prelude.{◌≡◌, ℕ, Bool, List, length}
 use Rattle.bdd_store.specs.declared.node.Node.{Node}
 use Rattle.bdd_store.specs.Arena.{Arena, den, IsNodeOf, IsBranching}
-use Rattle.bdd_store.specs.Subfunctions.{nodes, IsPart}
+use Rattle.bdd_store.specs.Subfunctions.{nodes}
+use Rattle.bdd_store.specs.Growth.{IsPartAt}
 use Rattle.cover_logic.specs.Covers.{Cover, value}
 
 -- what contracts see of a cover's diagram: a store over its pins, the node of its function, and how many pins
@@ -15,11 +16,11 @@ pub record Local : Type 0 where
 abbrev pub function : Local → List Bool → Bool
 function l = den l.store l.top
 
--- the variables are the pins, and each node stands for the function with some first pins fixed
+-- the variables are the pins, and each node or its complement stands for the function with some first pins fixed
 pub record IsLocal (l : Local) : Type 0 where
   pub pins : l.pins ≡ l.store.vars
   pub node : IsNodeOf l.store l.top
-  pub parts : (n : Node) → IsNodeOf l.store n → IsBranching n → IsPart l.store.vars (function l) (den l.store n)
+  pub parts : (n : Node) → IsNodeOf l.store n → IsBranching n → IsPartAt l.store.vars (function l) l.store n
 
 -- it has the cover's pins and the cover's function
 pub record IsDiagramOf (l : Local) (cover : Cover) : Type 0 where

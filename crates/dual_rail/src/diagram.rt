@@ -10,7 +10,7 @@ use std::alloc::Global;
 use std::marker::Model;
 
 /// The diagram of a cover in a store of its own, whose variables are the cover's pins in their order. The store
-/// has nodes of the cover's function alone: each stands for it with some first pins fixed.
+/// has nodes of the cover's function alone: each, or its complement, stands for it with some first pins fixed.
 #[derive(Drop)]
 pub struct LocalDiagram {
     store: Store,

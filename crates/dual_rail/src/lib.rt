@@ -10,8 +10,6 @@ mod expand;
 mod laws;
 mod lifting;
 mod rail;
-#[cfg(test)]
-mod tests;
 
 pub use diagram::{LocalDiagram, local};
 pub use laws::{sizes, working_lists};

@@ -1,12 +1,11 @@
 //! The rails of a cover's function, from those of its pins.
-ghost use Rattle.std.specs.Prelude.{◌≡◌, ℕ, ◌*◌, Bool, List, length, All, IfOk};
-ghost use Rattle.bdd_store.specs.Arena.{Arena, den, IsNodeOf, IsBranching};
-ghost use Rattle.bdd_store.specs.Growth.{KeepsNodes, AddsAtMost, IsFullOnlyPast};
-ghost use Rattle.bdd_store.specs.Subfunctions.{IsPart};
+ghost use Rattle.std.specs.Prelude.{◌≡◌, ℕ, ◌*◌, ◌<◌, Bool, false, List, length, All, IfOk};
+ghost use Rattle.bdd_store.specs.Arena.{Arena, index, is_marked, den, IsNodeOf, IsBranching};
+ghost use Rattle.bdd_store.specs.Growth.{KeepsNodes, AddsAtMost, IsFullOnlyPast, IsPartAt};
 ghost use Rattle.cover_logic.specs.Covers.{Cover};
 ghost use Rattle.cover_logic.specs.Extensions.{exact, ext};
 ghost use Rattle.dual_rail.specs.Rails.{AreRailsOf, value_of, values_of};
-ghost use Rattle.dual_rail.specs.Local.{function, local_size, IsDiagramOf};
+ghost use Rattle.dual_rail.specs.Local.{Local, function, local_size, IsDiagramOf};
 ghost use Rattle.dual_rail.specs.Lifts.{IsFork, IsLift, IsTable};
 ghost use Rattle.dual_rail.specs.WorkingLists.{BoundsEach, IsExtended};
 
@@ -24,19 +23,32 @@ pub struct Fork {
     pub lo: Rails,
 }
 
-// The rails of earlier nodes stand in a table by their numbers.
+// The rails of a node whose unmarked one stands in the table: those of a complement are exchanged.
+fn rails_at(table: &[Rails], node: Node) -> Rails
+    requires { index node < length table.now }
+    ensures { (l : Local) (s : Arena) (pins : List Rails) → IsTable l s pins table.now → IsLift s pins (den l.store node) result }
+{
+    let rails = table[node.index() as usize];
+    if node.is_marked() {
+        rails.complement()
+    } else {
+        rails
+    }
+}
+
+// The rails of earlier nodes without marks stand in a table by their indices.
 fn fork_at(local: &LocalDiagram, pins: &[Rails], table: &[Rails], node: Node) -> Fork
     requires node { IsNodeOf local.now.store node }
     requires branching { IsBranching node }
-    requires at { length table.now ≡ node.number }
+    requires at { length table.now ≡ index node }
     requires pins { length pins.now ≡ local.now.pins }
     ensures fork { (s : Arena) → IsTable local.now s pins.now table.now → All (AreRailsOf s) pins.now → IsFork s pins.now (den local.now.store node) result }
-    ensures part { IsPart local.now.pins (function local.now) (den local.now.store node) }
+    ensures part { IsPartAt local.now.pins (function local.now) local.now.store node }
 {
     let store = local.store();
     let pin = pins[store.top(node) as usize];
-    let hi = table[store.hi(node).number() as usize];
-    let lo = table[store.lo(node).number() as usize];
+    let hi = rails_at(table, store.hi(node));
+    let lo = rails_at(table, store.lo(node));
     store.laws();
     Fork { pin, hi, lo }
 }
@@ -51,8 +63,9 @@ fn lift_node(
 ) -> Result<Rails, StoreFault>
     requires node { IsNodeOf local.now.store node }
     requires branching { IsBranching node }
+    requires unmarked { is_marked node ≡ false }
     requires table { IsTable local.now d.old pins.now table.now }
-    requires at { length table.now ≡ node.number }
+    requires at { length table.now ≡ index node }
     requires pins { length pins.now ≡ local.now.pins }
     requires rails { All (AreRailsOf d.old) pins.now }
 
@@ -89,7 +102,7 @@ pub fn lift(
     ensures added { (w : ℕ) → BoundsEach d.old.vars (IsExtended d.old pins.now (function local.now)) w → AddsAtMost d.old d.new (2 * w * local_size local.now) }
     ensures full { (w : ℕ) → BoundsEach d.old.vars (IsExtended d.old pins.now (function local.now)) w → result ≡ Err StoreFault.Full → IsFullOnlyPast d.old d.new (2 * w * local_size local.now) }
 {
-    let Ok(mut table) = vec![in alloc; rails_of(false), rails_of(true)] else {
+    let Ok(mut table) = vec![in alloc; rails_of(true)] else {
         return Err(StoreFault::Memory);
     };
     let top = local.top();
@@ -101,5 +114,5 @@ pub fn lift(
             return Err(StoreFault::Memory);
         }
     }
-    Ok(table[top.number() as usize])
+    Ok(rails_at(&table, top))
 }

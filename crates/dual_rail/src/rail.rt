@@ -16,6 +16,18 @@ pub struct Rails {
     pub zero: Node,
 }
 
+impl Rails {
+    /// The rails of the complement, which are exchanged.
+    pub fn complement(self) -> Rails
+        ensures { result ≡ record { one = self.zero; zero = self.one } }
+    {
+        Rails {
+            one: self.zero,
+            zero: self.one,
+        }
+    }
+}
+
 /// The rails of a Boolean value, which are rails of each store.
 pub fn rails_of(b: bool) -> Rails
     ensures one { result.one ≡ constant b }

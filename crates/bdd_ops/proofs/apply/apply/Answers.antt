@@ -19,6 +19,7 @@ returns-in_err-turn-clause-full c is_full =
 pub loop-preserved : goal.loop-preserved
 loop-preserved c = record {
   keeps = KeepsNodes-chain c.loop.invariant.keeps c.step.ensures.keeps;
+  answers = c.step.ensures.answers ∙ c.loop.invariant.answers;
   computed = c.step.ensures.computed;
   parts = NewAreParts-turn c.args.operation c.args.store.now c.loop.store c.step.new.store c.args.root c.requires.nodes c.loop.invariant.keeps c.step.ensures.keeps c.loop.invariant.parts (c.step.ensures.parts c.args.root (AreNodesOf-kept c.loop.invariant.keeps c.requires.nodes) c.loop.invariant.turn);
   turn = c.in_ok-turn.ensures.ok c.args.root (AreNodesOf-kept c.loop.invariant.keeps c.requires.nodes) c.loop.invariant.turn;

@@ -1,3 +1,4 @@
+use Rattle.bdd_store.specs.Arena.{index}
 use Rattle.bdd_ops.proofs.LeastLemmas.{IsOnWay}
 use Rattle.bdd_ops.proofs.least.least.Given as goal
 
@@ -7,4 +8,4 @@ invariant-loop-no l = record {
 }
 
 abbrev pub decreases-loop-no : goal.decreases-loop-no
-decreases-loop-no l = l.at.number
+decreases-loop-no l = index l.at

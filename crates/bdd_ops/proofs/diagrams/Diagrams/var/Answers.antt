@@ -5,6 +5,8 @@ use Rattle.bdd_store.specs.Subfunctions.{nodes}
 use Rattle.bdd_store.proofs.SubfunctionLemmas.{nodes-alike}
 use Rattle.bdd_store.proofs.GrowthLemmas.{NewAreParts-made, IsRefusedPart-made, choice-bit, added-parts, refused-parts}
 use Rattle.bdd_ops.specs.Operations.{bit_at}
+use Rattle.bdd_ops.proofs.ChoiceLemmas.{AreRight-kept}
+use Rattle.bdd_ops.proofs.ComputedLemmas.{AreComputed-kept}
 use Rattle.bdd_ops.proofs.diagrams.Diagrams.var.Goals as goal
 
 pub returns-clause-added : goal.returns-clause-added
@@ -22,3 +24,9 @@ returns-clause-full c is_full =
     let unchanged : c.make-answer.new.self ≡ c.self.inside.store = rw is_full at c.make-answer.ensures.err in
     let refused : IsRefusedPart c.make-answer.new.self made = IsRefusedPart-made c.self.inside.store c.make-answer.new.self made unchanged (c.make-answer.ensures.full.0 is_full).1 (c.make-answer.ensures.new_function is_full) in
     rw (← c.self.view_is) (subst (IsFullOnlyPast c.self.inside.store c.make-answer.new.self) same (refused-parts c.self.inside.store c.make-answer.new.self made c.laws.ensures c.make-answer.ensures.keeps parts refused))
+
+pub invariant_of-self : goal.invariant_of-self
+invariant_of-self c = (
+  AreComputed-kept c.self.inside.store c.make-answer.new.self c.self.inside.computed c.make-answer.ensures.keeps c.self.invariant.0,
+  AreRight-kept c.self.inside.store c.make-answer.new.self c.make-answer.ensures.keeps c.make-answer.ensures.answers c.self.invariant.1,
+)

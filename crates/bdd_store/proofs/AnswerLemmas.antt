@@ -1,0 +1,43 @@
+-- Answers to choices: what is there after one is kept.
+use Rattle.std.proofs.Common.{◌≡◌, ℕ, Bool, true, false, ◌&&◌, ◌==◌, ◌⊎◌, inl, inr, Contains, refl, sym, ap, subst, ◌∙◌, eq-eqb, true≢false}
+use Rattle.std.proofs.lemmas.Bool.{eqb-true, and_parts, and_from}
+use Rattle.std.specs.Cmp.{IsEquivalence}
+use Rattle.bdd_store.specs.declared.node.Node.{Node}
+use Rattle.bdd_store.specs.declared.node.Choice.{Choice}
+use Rattle.bdd_store.specs.Arena.{same_choice}
+use Rattle.lru.specs.LruCache.{LruCache, put_entries}
+use Rattle.lru.proofs.CallerLemmas.{Contains-put_entries}
+
+pub same_choice-true : (x y : Choice) → same_choice x y ≡ true → x ≡ y
+same_choice-true x y h =
+    let a = and_parts (x.a.number == y.a.number) _ h in
+    let b = and_parts (x.b.number == y.b.number) _ a.1 in
+    λ j. record { a = record { number = eqb-true x.a.number y.a.number a.0 j }; b = record { number = eqb-true x.b.number y.b.number b.0 j }; c = record { number = eqb-true x.c.number y.c.number b.1 j } }
+
+pub same_choice-self : (x : Choice) → same_choice x x ≡ true
+same_choice-self x = and_from _ _ (eq-eqb x.a.number x.a.number refl) (and_from _ _ (eq-eqb x.b.number x.b.number refl) (eq-eqb x.c.number x.c.number refl))
+
+same_bool : (a b : Bool) → (a ≡ true → b ≡ true) → (b ≡ true → a ≡ true) → a ≡ b
+same_bool true b f g = sym (f refl)
+same_bool false true f g = g refl
+same_bool false false f g = refl
+
+turned : (x y : Choice) → same_choice x y ≡ true → same_choice y x ≡ true
+turned x y h = subst (λ (z : Choice). same_choice z x ≡ true) (same_choice-true x y h) (same_choice-self x)
+
+pub same_choice-laws : IsEquivalence same_choice
+same_choice-laws = record {
+  refl = same_choice-self;
+  symm = λ x y. same_bool (same_choice x y) (same_choice y x) (turned x y) (turned y x);
+  congr = λ x y z h. ap (λ (w : Choice). same_choice w z) (same_choice-true x y h);
+}
+
+-- what is there was there, or is the answer that was kept
+pub kept_or_there : (cache : LruCache Choice Node) (choice x : Choice) (n m : Node) → Contains (put_entries same_choice cache choice n) (x, m) → ((x ≡ choice) × (m ≡ n)) ⊎ Contains cache.entries (x, m)
+kept_or_there cache choice x n m has = elim (Contains-put_entries same_choice cache choice n (x, m) has) [
+  | inl was ↦ inr was
+  | inr is ↦ elim is.1 [
+    | inl same ↦ inl (same, is.0)
+    | inr other ↦ inl (sym (same_choice-true choice x other.2), is.0)
+  ]
+]
