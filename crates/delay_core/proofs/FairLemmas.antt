@@ -1,0 +1,254 @@
+-- What is played without a fault is fair, and makes the moments of its run.
+use Rattle.std.proofs.Common.{◌≡◌, ◌⊎◌, inl, inr, ℕ, zero, suc, ◌+◌, ◌<◌, Bool, true, false, List, [], ◌∷◌, ◌++◌, length, map, take, reverse, get_or, All, Any, None, Some, Option, refl, ap, ap₂, sym, ◌∙◌, arith, true≢false}
+use Rattle.std.specs.Prelude.{option_map}
+use Rattle.std.specs.Option.{option_or}
+use Rattle.std.proofs.lemmas.Bool.{cases_eq}
+use Rattle.std.proofs.lemmas.List.{length-set, length-map, length-replicate, get_or-set_other, get_or-take, take_all}
+use Rattle.std.proofs.lemmas.List.Elements.{All-nil, All-cons}
+use Rattle.netlist.specs.declared.parts.Parts.{Parts}
+use Rattle.netlist.specs.Fixpoint.{wires}
+use Rattle.schedules.specs.declared.event.Event.{Event}
+use Rattle.schedules.specs.Moments.{Moment, History, Round, newest, after_events, after_rounds}
+use Rattle.schedules.specs.Fairness.{IsEventOf, ReadsFrom, IsFairRound, earliest, AreFairAfter, IsFair}
+use Rattle.schedules.specs.Runs.{Tick, Played, gates_at, loaded_at, played, play}
+use Rattle.schedules.proofs.RoundLemmas.{length-after_events}
+use Rattle.delay_core.specs.declared.fault.EventFault.{EventFault}
+use Rattle.delay_core.specs.declared.fault.PlayFault.{PlayFault}
+use Rattle.delay_core.specs.declared.fault.PlayFault.TheVariants as refused
+use Rattle.delay_core.specs.declared.plan.PlannedEvent.{PlannedEvent}
+use Rattle.delay_core.specs.declared.plan.RoundPlan.{RoundPlan}
+use Rattle.delay_core.specs.declared.plan.Schedule.{Schedule}
+use Rattle.delay_core.specs.Plays.{PlayState, first_allowed, event_fault, unfair_gate, no_events, most_rounds, after_event, next_tick}
+use Rattle.delay_core.specs.Plans.{planned_fault, after_planned, events_fault, after_plan, unfair_fault, round_fault, after_plans, rounds_fault, PlannedTick, ticks_fault, first_opened, first_fault, round_of, tick_of, IsPlayedFairly, end_at, end_of}
+use Rattle.delay_core.proofs.PlayLemmas.{IsAllowed, is_allowed, never_true, each_had}
+
+abbrev pub events_of : List PlannedEvent → Round
+events_of = map (λ planned. planned.event)
+
+-- ---- where events, rounds and ticks lead
+
+events_history : (start : PlayState) (events : List PlannedEvent) → (after_planned start events).history ≡ after_events start.net start.history (events_of events)
+events_history start [] = refl
+events_history start (planned ∷ later) = events_history (after_event start planned.event) later
+
+-- what an event keeps
+pub record Kept (start now : PlayState) : Type 0 where
+  pub net : now.net ≡ start.net
+  pub window : now.window ≡ start.window
+  pub starts : now.starts ≡ start.starts
+  pub done : length now.done ≡ length start.done
+
+pub events_keep : (start : PlayState) (events : List PlannedEvent) → Kept start (after_planned start events)
+events_keep start [] = record { net = refl; window = refl; starts = refl; done = refl }
+events_keep start (planned ∷ later) =
+    let kept = events_keep (after_event start planned.event) later in
+    record {
+      net = kept.net;
+      window = kept.window;
+      starts = kept.starts;
+      done = kept.done ∙ length-set start.done planned.event.gate true;
+    }
+
+-- what a round keeps, at whose end no gate had an event
+pub record KeptByRounds (start now : PlayState) : Type 0 where
+  pub net : now.net ≡ start.net
+  pub window : now.window ≡ start.window
+  pub begun : now.done ≡ no_events now.net
+
+pub round_keeps : (start : PlayState) (round : RoundPlan) → KeptByRounds start (after_plan start round)
+round_keeps start round =
+    let kept = events_keep start round.events in
+    record { net = kept.net; window = kept.window; begun = refl }
+
+pub rounds_keep : (start : PlayState) (rounds : List RoundPlan) → start.done ≡ no_events start.net → KeptByRounds start (after_plans start rounds)
+rounds_keep start [] begun = record { net = refl; window = refl; begun = begun }
+rounds_keep start (round ∷ later) begun =
+    let first = round_keeps start round in
+    let rest = rounds_keep (after_plan start round) later refl in
+    record { net = rest.net ∙ first.net; window = rest.window ∙ first.window; begun = rest.begun }
+
+pub rounds_net : (start : PlayState) (rounds : List RoundPlan) → (after_plans start rounds).net ≡ start.net
+rounds_net start [] = refl
+rounds_net start (round ∷ later) = rounds_net (after_plan start round) later ∙ (events_keep start round.events).net
+
+pub rounds_history : (start : PlayState) (rounds : List RoundPlan) → (after_plans start rounds).history ≡ after_rounds start.net start.history (map round_of rounds)
+rounds_history start [] = refl
+rounds_history start (round ∷ later) =
+    let kept = events_keep start round.events in
+    rounds_history (after_plan start round) later
+    ∙ ap₂ (λ (n : Parts) (h : History). after_rounds n h (map round_of later)) kept.net (events_history start round.events)
+
+-- ---- no fault
+
+pub both_none : (first second : Option PlayFault) → option_or first second ≡ None → (first ≡ None) × (second ≡ None)
+both_none None second e = (refl, e)
+both_none (Some x) second e = cc
+
+unplanned : (line : ℕ) (fault : Option EventFault) → option_map (λ f. refused.Event line f) fault ≡ None → fault ≡ None
+unplanned line None e = refl
+unplanned line (Some f) e = cc
+
+each_gate : (line : ℕ) (gate : Option ℕ) → option_map (λ g. refused.Unfair line g) gate ≡ None → gate ≡ None
+each_gate line None e = refl
+each_gate line (Some g) e = cc
+
+Any-first : (P : Event → Type 0) (x : Event) (xs : List Event) → P x → Any P (x ∷ xs)
+Any-first P x xs p = (0, x, omega arith, refl, p)
+
+Any-later : (P : Event → Type 0) (x : Event) (xs : List Event) → Any P xs → Any P (x ∷ xs)
+Any-later P x xs (k, y, l, e, p) = (suc k, y, omega arith, e, p)
+
+-- events without a fault are events of the netlist, which read what they may
+record AreFairEvents (start : PlayState) (events : List PlannedEvent) : Type 0 where
+  pub valid : All (IsEventOf start.net) (events_of events)
+  pub reads : ReadsFrom (first_allowed start) (length start.history) (events_of events)
+  pub had : (n : ℕ) → get_or (after_planned start events).done n false ≡ true → (get_or start.done n false ≡ true) ⊎ Any (λ (event : Event). event.gate ≡ n) (events_of events)
+
+module _ (start : PlayState) (planned : PlannedEvent) (later : List PlannedEvent) (rest : AreFairEvents (after_event start planned.event) later) where
+  had_more : (n : ℕ) → get_or (after_planned start (planned ∷ later)).done n false ≡ true → (get_or start.done n false ≡ true) ⊎ Any (λ (event : Event). event.gate ≡ n) (events_of (planned ∷ later))
+  had_more n t =
+      elim (rest.had n t) [
+        | inl before ↦
+            elim (cases_eq planned.event.gate n) [
+              | inl e ↦ inr (Any-first (λ (event : Event). event.gate ≡ n) planned.event (events_of later) e)
+              | inr ne ↦ inl (sym (get_or-set_other start.done planned.event.gate n true false (λ e. ne (sym e))) ∙ before)
+            ]
+        | inr after ↦ inr (Any-later (λ (event : Event). event.gate ≡ n) planned.event (events_of later) after)
+      ]
+
+events_fair : (start : PlayState) (events : List PlannedEvent) → events_fault start events ≡ None → AreFairEvents start events
+events_fair start [] e = record { valid = All-nil (IsEventOf start.net); reads = tt; had = λ n t. inl t }
+events_fair start (planned ∷ later) e =
+    let parts = both_none (planned_fault start planned) (events_fault (after_event start planned.event) later) e in
+    let allowed : IsAllowed start planned.event = is_allowed start planned.event (unplanned planned.line (event_fault start planned.event) parts.0) in
+    let rest = events_fair (after_event start planned.event) later parts.1 in
+    record {
+      valid = All-cons (IsEventOf start.net) planned.event (events_of later) allowed.of rest.valid;
+      reads = (allowed.ages, rest.reads);
+      had = had_more start planned later rest;
+    }
+
+had_none : (start : PlayState) (n : ℕ) → start.done ≡ no_events start.net → get_or start.done n false ≡ true → ⊥
+had_none start n begun t = true≢false (sym t ∙ ap (λ (d : List Bool). get_or d n false) begun ∙ never_true (length start.net.gates) n)
+
+-- so is a round in which each gate had one
+pub round_fair : (start : PlayState) (round : RoundPlan) → start.done ≡ no_events start.net → round_fault start round ≡ None → IsFairRound start.net (first_allowed start) (length start.history) (round_of round)
+round_fair start round begun e =
+    let after : PlayState = after_planned start round.events in
+    let parts = both_none (events_fault start round.events) (unfair_fault after round.line) e in
+    let fair = events_fair start round.events parts.0 in
+    let kept = events_keep start round.events in
+    let width : length after.done ≡ length start.net.gates = kept.done ∙ ap (λ (d : List Bool). length d) begun ∙ length-replicate (length start.net.gates) false in
+    record {
+      events = fair.valid;
+      each_gate = λ n l.
+          elim (fair.had n (each_had after.done (each_gate round.line (unfair_gate after) parts.1) n (omega (arith, width)))) [
+            | inl before ↦ absurd (had_none start n begun before)
+            | inr any ↦ any
+          ];
+      reads = fair.reads;
+    }
+
+-- ---- rounds
+
+take_less : (n : ℕ) (xs : List ℕ) → take n (take (suc n) xs) ≡ take n xs
+take_less n [] = refl
+take_less zero (x ∷ xs) = refl
+take_less (suc n) (x ∷ xs) = ap (λ (ys : List ℕ). x ∷ ys) (take_less n xs)
+
+take_again : (n x : ℕ) (xs : List ℕ) → take n (x ∷ take n xs) ≡ take n (x ∷ xs)
+take_again zero x xs = refl
+take_again (suc n) x xs = ap (λ (ys : List ℕ). x ∷ ys) (take_less n xs)
+
+-- the starts that a play keeps are as many as its window looks back to
+pub first_kept : (start : PlayState) (starts : List ℕ) → start.window < most_rounds → start.starts ≡ take most_rounds starts → first_allowed start ≡ earliest start.window starts
+first_kept start starts small e =
+    ap (λ (ss : List ℕ). get_or ss start.window 1) e ∙ get_or-take most_rounds starts start.window 1 small
+
+module _ (start : PlayState) (round : RoundPlan) (before : List ℕ) (is : start.starts ≡ take most_rounds (length start.history ∷ before)) where
+  pub starts_more : (after_plan start round).starts ≡ take most_rounds (length (after_plan start round).history ∷ length start.history ∷ before)
+  starts_more =
+      let now : ℕ = length (after_planned start round.events).history in
+      ap (λ (ss : List ℕ). take most_rounds (now ∷ ss)) ((events_keep start round.events).starts ∙ is)
+      ∙ take_again most_rounds now (length start.history ∷ before)
+
+  pub length_more : length (after_plan start round).history ≡ length start.history + length (round_of round)
+  length_more =
+      ap (λ (h : History). length h) (events_history start round.events)
+      ∙ length-after_events start.net start.history (round_of round)
+
+rounds_fair : (start : PlayState) (rounds : List RoundPlan) (before : List ℕ) → start.window < most_rounds → start.done ≡ no_events start.net → start.starts ≡ take most_rounds (length start.history ∷ before) → rounds_fault start rounds ≡ None → AreFairAfter start.net start.window before (length start.history) (map round_of rounds)
+rounds_fair start [] before small begun is e = tt
+rounds_fair start (round ∷ later) before small begun is e =
+    let next : PlayState = after_plan start round in
+    let parts = both_none (round_fault start round) (rounds_fault next later) e in
+    let here : IsFairRound start.net (earliest start.window (length start.history ∷ before)) (length start.history) (round_of round) =
+    rw (first_kept start (length start.history ∷ before) small is) at (round_fair start round begun parts.0) in
+    let kept = round_keeps start round in
+    let still : next.window < most_rounds = rw kept.window small in
+    let rest : AreFairAfter next.net next.window (length start.history ∷ before) (length next.history) (map round_of later) =
+    rounds_fair next later (length start.history ∷ before) still refl (starts_more start round before is) parts.1 in
+    (here, rw (kept.net, kept.window, length_more start round before is) at rest)
+
+-- a tick that has opened
+pub opened_fair : (start : PlayState) (rounds : List RoundPlan) → start.window < most_rounds → start.done ≡ no_events start.net → start.starts ≡ length start.history ∷ [] → rounds_fault start rounds ≡ None → IsFair start.net start.window start.history (map round_of rounds)
+opened_fair start rounds small begun is e =
+    rounds_fair start rounds [] small begun (is ∙ sym (take_all most_rounds (length start.history ∷ []) (omega arith))) e
+
+-- ---- ticks
+
+-- what is left of a run after this history
+abbrev pub rest_of : Parts → History → List Tick → List Played
+rest_of net history ticks = play net history (loaded_at net (newest history)) (gates_at net (newest history)) ticks
+
+ticks_fair : (start : PlayState) (ticks : List PlannedTick) → start.window < most_rounds → start.done ≡ no_events start.net → ticks_fault start ticks ≡ None → All (IsPlayedFairly start.net start.window) (rest_of start.net start.history (map tick_of ticks))
+ticks_fair start [] small begun e = All-nil (IsPlayedFairly start.net start.window)
+ticks_fair start (tick ∷ later) small begun e =
+    let opened : PlayState = next_tick start tick.0 in
+    let after : PlayState = after_plans opened tick.1 in
+    let parts = both_none (rounds_fault opened tick.1) (ticks_fault after later) e in
+    let first : Played = played start.net start.history (loaded_at start.net (newest start.history)) (gates_at start.net (newest start.history)) (tick_of tick) in
+    let here : IsPlayedFairly start.net start.window first = opened_fair opened tick.1 small begun refl parts.0 in
+    let kept = rounds_keep opened tick.1 begun in
+    let still : after.window < most_rounds = rw kept.window small in
+    let rest : All (IsPlayedFairly after.net after.window) (rest_of after.net after.history (map tick_of later)) =
+    ticks_fair after later still kept.begun parts.1 in
+    All-cons (IsPlayedFairly start.net start.window) first (rest_of start.net first.ended (map tick_of later)) here
+    (rw (kept.net, kept.window, rounds_history opened tick.1) at rest)
+
+pub schedule_fair : (net : Parts) (schedule : Schedule) (plans : List PlannedTick) → schedule.window < most_rounds → first_fault net schedule plans ≡ None → All (IsPlayedFairly net schedule.window) (play net (reverse schedule.past) schedule.latches schedule.gates (map tick_of plans))
+schedule_fair net schedule [] small e = All-nil (IsPlayedFairly net schedule.window)
+schedule_fair net schedule (tick ∷ later) small e =
+    let opened : PlayState = first_opened net schedule tick.0 in
+    let after : PlayState = after_plans opened tick.1 in
+    let parts = both_none (rounds_fault opened tick.1) (ticks_fault after later) e in
+    let first : Played = played net (reverse schedule.past) schedule.latches schedule.gates (tick_of tick) in
+    let here : IsPlayedFairly net schedule.window first = opened_fair opened tick.1 small refl refl parts.0 in
+    let kept = rounds_keep opened tick.1 refl in
+    let still : after.window < most_rounds = rw kept.window small in
+    let rest : All (IsPlayedFairly after.net after.window) (rest_of after.net after.history (map tick_of later)) =
+    ticks_fair after later still kept.begun parts.1 in
+    All-cons (IsPlayedFairly net schedule.window) first (rest_of net first.ended (map tick_of later)) here
+    (rw (kept.net, kept.window, rounds_history opened tick.1) at rest)
+
+-- ---- how ticks end
+
+-- the ends of what is left begin with that of the tick that opens next
+pub ends_of_rest : (net : Parts) (start : PlayState) (tick : PlannedTick) (later : List PlannedTick) → start.net ≡ net → map (end_of net) (rest_of net start.history (map tick_of (tick ∷ later))) ≡ end_at net (newest (after_plans (next_tick start tick.0) tick.1).history) (length tick.1) ∷ map (end_of net) (rest_of net (after_plans (next_tick start tick.0) tick.1).history (map tick_of later))
+ends_of_rest net start tick later same =
+    let last : Moment = newest start.history in
+    let rounds : List Round = map round_of tick.1 in
+    let ended : History = after_rounds net (wires (tick.0 ++ loaded_at net last) (gates_at net last) ∷ start.history) rounds in
+    let history : (after_plans (next_tick start tick.0) tick.1).history ≡ ended =
+    rounds_history (next_tick start tick.0) tick.1
+    ∙ ap (λ (n : Parts). after_rounds n (wires (tick.0 ++ loaded_at n last) (gates_at n last) ∷ start.history) rounds) same in
+    rw history
+    (ap (λ (n : ℕ). end_at net (newest ended) n ∷ map (end_of net) (rest_of net ended (map tick_of later))) (length-map tick.1 round_of))
+
+pub ends_of_first : (net : Parts) (schedule : Schedule) (tick : PlannedTick) (later : List PlannedTick) → map (end_of net) (play net (reverse schedule.past) schedule.latches schedule.gates (map tick_of (tick ∷ later))) ≡ end_at net (newest (after_plans (first_opened net schedule tick.0) tick.1).history) (length tick.1) ∷ map (end_of net) (rest_of net (after_plans (first_opened net schedule tick.0) tick.1).history (map tick_of later))
+ends_of_first net schedule tick later =
+    let opened : PlayState = first_opened net schedule tick.0 in
+    let history : (after_plans opened tick.1).history ≡ after_rounds net opened.history (map round_of tick.1) = rounds_history opened tick.1 in
+    rw history
+    (ap (λ (n : ℕ). end_at net (newest (after_rounds net opened.history (map round_of tick.1))) n ∷ map (end_of net) (rest_of net (after_rounds net opened.history (map round_of tick.1)) (map tick_of later)))
+    (length-map tick.1 round_of))

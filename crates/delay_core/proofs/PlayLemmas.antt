@@ -1,0 +1,85 @@
+-- What is known of an event that isn't refused.
+use Rattle.std.proofs.Common.{◌≡◌, inl, inr, ℕ, ◌+◌, ◌≤◌, ◌<◌, ◌==◌, Bool, true, false, not, List, [], length, replicate, get_or, All, Some, None, Option, refl, sym, ◌∙◌, arith, nat_lt, eqb-true, true≢false}
+use Rattle.std.proofs.lemmas.Bool.{cases_eq, cases_lt}
+use Rattle.std.proofs.lemmas.List.{length-replicate, get_or-replicate, get_or_past}
+use Rattle.netlist.specs.declared.parts.Parts.{Parts}
+use Rattle.schedules.specs.Moments.{History}
+use Rattle.std.specs.Prelude.{if◌then◌else◌, position, option_map}
+use Rattle.std.proofs.lemmas.Bool.{ltb-true, ltb-false}
+use Rattle.netlist.proofs.Decisions.{none_found}
+use Rattle.netlist.specs.Netlists.{gate_at}
+use Rattle.schedules.specs.declared.event.Event.{Event}
+use Rattle.schedules.specs.Fairness.{IsEventOf}
+use Rattle.delay_core.specs.declared.fault.EventFault.{EventFault}
+use Rattle.delay_core.specs.declared.fault.EventFault.TheVariants.{NoGate, AgeCount, TooOld}
+use Rattle.delay_core.specs.Plays.{PlayState, first_allowed, is_too_old, event_fault, no_events, most_rounds, IsPlay}
+
+nothing : (o : Option ℕ) → option_map TooOld o ≡ None → o ≡ None
+nothing None e = refl
+nothing (Some pin) e = cc
+
+-- an event that isn't refused is one of the netlist, and reads what it may
+pub record IsAllowed (play : PlayState) (event : Event) : Type 0 where
+  pub of : IsEventOf play.net event
+  pub ages : All (λ age. first_allowed play + age ≤ length play.history) event.ages
+
+cases_of : (a b : Bool) (c : Option EventFault) → (if not a then Some NoGate else (if not b then Some AgeCount else c)) ≡ None → (a ≡ true) × (b ≡ true) × (c ≡ None)
+cases_of true true c e = (refl, refl, e)
+cases_of true false c e = cc
+cases_of false b c e = cc
+
+pub is_allowed : (play : PlayState) (event : Event) → event_fault play event ≡ None → IsAllowed play event
+is_allowed play event e =
+    let parts = cases_of (nat_lt event.gate (length play.net.gates)) (length event.ages == length (gate_at play.net event.gate).pins) (option_map TooOld (position (is_too_old play) event.ages)) e in
+    record {
+      of = record { gate = ltb-true _ _ parts.0; ages = eqb-true _ _ parts.1 };
+      ages = λ k d l.
+          let fine : is_too_old play (get_or event.ages k d) ≡ false = none_found (is_too_old play) event.ages (nothing (position (is_too_old play) event.ages) parts.2) k d l in
+          ltb-false (length play.history) (first_allowed play + get_or event.ages k d) fine;
+    }
+
+-- nothing is true of all false
+pub never_true : (n k : ℕ) → get_or (replicate n false) k false ≡ false
+never_true n k =
+    elim (cases_lt k n) [
+      | inl l ↦ get_or-replicate n k false false l
+      | inr l ↦ get_or_past (replicate n false) k false (omega (arith, length-replicate n false))
+    ]
+
+true_not : (b : Bool) → not b ≡ false → b ≡ true
+true_not true e = refl
+true_not false e = cc
+
+-- where no gate is left without an event, each had one
+pub each_had : (gates : List Bool) → position (λ had. not had) gates ≡ None → (n : ℕ) → n < length gates → get_or gates n false ≡ true
+each_had gates none n l = true_not (get_or gates n false) (none_found (λ (b : Bool). not b) gates none n false l)
+
+module _ (net : Parts) (history : History) (before now opening : ℕ) (marks : List ℕ) (round : ℕ) (gates : List Bool) (is : IsPlay net history before now opening marks round gates) (fair : position (λ had. not had) gates ≡ None) where
+  -- as many rounds as there are events, at most, where there is a gate
+  pub round_behind : 1 ≤ length net.gates → round ≤ length marks
+  round_behind some = is.had 0 (each_had gates fair 0 (omega (arith, is.done)))
+
+  -- so that a number of rounds over that of the events is reached without events alone
+  pub round_full : length marks < most_rounds → round ≡ most_rounds → marks ≡ []
+  round_full few full =
+      elim (cases_eq (length net.gates) 0) [
+        | inl none ↦ is.none none
+        | inr some ↦ let l = round_behind (omega arith) in absurd (omega arith)
+      ]
+
+  -- the next round begins
+  pub round_ends : (next : ℕ) → round ≤ next → next ≤ round + 1 → IsPlay net history before now opening marks next (no_events net)
+  round_ends next from to =
+      record {
+        width = is.width;
+        done = length-replicate (length net.gates) false;
+        tick = is.tick;
+        ticks = is.ticks;
+        moments = is.moments;
+        begun = (let b = is.begun in omega arith);
+        behind = λ i l. (let b = is.behind i l in omega arith);
+        rising = is.rising;
+        rounds = λ some. (let b = round_behind some in omega arith);
+        had = λ n t. absurd (true≢false (sym t ∙ never_true (length net.gates) n));
+        none = is.none;
+      }

@@ -1,0 +1,108 @@
+-- What pins see, and where rounds begin.
+use Rattle.std.proofs.Common.{◌≡◌, inl, inr, ℕ, zero, suc, ◌+◌, ◌-◌, ◌<◌, ◌≤◌, Bool, false, List, [], ◌∷◌, ◌++◌, length, map, filter, take, replicate, min, get_or, refl, ap, ap₂, sym, ◌∙◌, arith, nat_lt}
+use Rattle.std.proofs.lemmas.List.{length-map, get_or_default, get_or-map, take_more, take_all, take-replicate}
+use Rattle.std.proofs.lemmas.Bool.{cases_lt, lt-ltb, le-ltb}
+use Rattle.cyc_base.specs.declared.sig.Sig.{Sig}
+use Rattle.schedules.specs.Moments.{History, bit_at, moment_at, seen}
+use Rattle.delay_core.specs.Plays.{events_before, starts_of}
+
+-- a bit for each pin
+pub length-seen : (h : History) (pins : List Sig) (ages : List ℕ) → length ages ≡ length pins → length (seen h pins ages) ≡ length pins
+length-seen h [] ages e = refl
+length-seen h (s ∷ pins) [] e = absurd (omega arith)
+length-seen h (s ∷ pins) (age ∷ ages) e = ap suc (length-seen h pins ages (omega arith))
+
+pub seen-at : (h : History) (pins : List Sig) (ages : List ℕ) (i : ℕ) (s : Sig) (age : ℕ) → length ages ≡ length pins → i < length pins → get_or (seen h pins ages) i false ≡ bit_at (moment_at h (get_or ages i age)) (get_or pins i s)
+seen-at h [] ages i s age e l = absurd (omega arith)
+seen-at h (p ∷ pins) [] i s age e l = absurd (omega arith)
+seen-at h (p ∷ pins) (a ∷ ages) zero s age e l = refl
+seen-at h (p ∷ pins) (a ∷ ages) (suc i) s age e l = seen-at h pins ages i s age (omega arith) (omega arith)
+
+-- the start of a round, so many rounds back
+pub start-back : (opening : ℕ) (marks : List ℕ) (round back : ℕ) → back < round → get_or (starts_of opening marks round) back 1 ≡ opening + events_before (round - back) marks
+start-back opening marks zero back l = absurd (omega arith)
+start-back opening marks (suc round) zero l = let e : suc round - 0 ≡ suc round = omega arith in rw e refl
+start-back opening marks (suc round) (suc back) l =
+    let e : suc round - suc back ≡ round - back = omega arith in
+    start-back opening marks round back (omega arith) ∙ ap (λ r. opening + events_before r marks) (sym e)
+
+pub start-none : (opening : ℕ) (marks : List ℕ) (round back : ℕ) → round ≤ back → get_or (starts_of opening marks round) back 1 ≡ 1
+start-none opening marks zero back l = refl
+start-none opening marks (suc round) zero l = absurd (omega arith)
+start-none opening marks (suc round) (suc back) l = start-none opening marks round back (omega arith)
+
+-- where the marks up to a place are below a round, and the others aren't
+pub events_before-split : (round : ℕ) (marks : List ℕ) (n : ℕ) → n ≤ length marks → ((k d : ℕ) → k < n → get_or marks k d < round) → ((k d : ℕ) → n ≤ k → k < length marks → round ≤ get_or marks k d) → events_before round marks ≡ n
+events_before-split round [] n l below above = omega arith
+events_before-split round (mark ∷ marks) zero l below above =
+    let here : round ≤ mark = above 0 0 (omega arith) (omega arith) in
+    rw (le-ltb mark round here)
+    (events_before-split round marks zero (omega arith) (λ k d m. absurd (omega arith)) (λ k d m p. above (suc k) d (omega arith) (omega arith)))
+events_before-split round (mark ∷ marks) (suc n) l below above =
+    let here : mark < round = below 0 0 (omega arith) in
+    rw (lt-ltb mark round here)
+    (ap suc (events_before-split round marks n (omega arith) (λ k d m. below (suc k) d (omega arith)) (λ k d m p. above (suc k) d (omega arith) (omega arith))))
+
+pub length-starts : (opening : ℕ) (marks : List ℕ) (round : ℕ) → length (starts_of opening marks round) ≡ round
+length-starts opening marks zero = refl
+length-starts opening marks (suc round) = ap suc (length-starts opening marks round)
+
+-- an event of a round comes before no start up to that of the round
+filter-push : (q mark : ℕ) (marks : List ℕ) → q ≤ mark → filter (λ (m : ℕ). nat_lt m q) (marks ++ mark ∷ []) ≡ filter (λ (m : ℕ). nat_lt m q) marks
+filter-push q mark [] l = rw (le-ltb mark q l) refl
+filter-push q mark (m ∷ marks) l =
+    elim (cases_lt m q) [
+      | inl below ↦ rw (lt-ltb m q below) (ap (λ xs. m ∷ xs) (filter-push q mark marks l))
+      | inr above ↦ rw (le-ltb m q above) (filter-push q mark marks l)
+    ]
+
+pub starts-push : (opening : ℕ) (marks : List ℕ) (mark round : ℕ) → round ≤ mark → starts_of opening (marks ++ mark ∷ []) round ≡ starts_of opening marks round
+starts-push opening marks mark zero l = refl
+starts-push opening marks mark (suc round) l =
+    ap₂ (λ s ss. s ∷ ss)
+    (ap (λ (xs : List ℕ). opening + length xs) (filter-push (suc round) mark marks l))
+    (starts-push opening marks mark round (omega arith))
+
+-- the next round begins after all events
+pub start-next : (opening : ℕ) (marks : List ℕ) (round : ℕ) → ((i : ℕ) → i < length marks → get_or marks i 0 ≤ round) → opening + events_before (suc round) marks ≡ opening + length marks
+start-next opening marks round past =
+    ap (λ n. opening + n)
+    (events_before-split (suc round) marks (length marks) (omega arith)
+    (λ k d l. let at = get_or_default marks k d 0 l in let p = past k l in omega arith)
+    (λ k d l m. absurd (omega arith)))
+
+pub start-some : (opening : ℕ) (marks : List ℕ) (round back : ℕ) → 1 ≤ opening → 1 ≤ get_or (starts_of opening marks round) back 1
+start-some opening marks zero back l = omega arith
+start-some opening marks (suc round) zero l = omega arith
+start-some opening marks (suc round) (suc back) l = start-some opening marks round back l
+
+-- one value more of a list that a function makes
+pub map-more : {X : Type 0} (f : X → Bool) (xs : List X) (i : ℕ) (d : X) → i < length xs → take (i + 1) (map f xs) ≡ take i (map f xs) ++ f (get_or xs i d) ∷ []
+map-more f xs i d l =
+    take_more (map f xs) i false (omega (arith, length-map xs f))
+    ∙ ap (λ b. take i (map f xs) ++ b ∷ []) (get_or-map f xs i d false l)
+
+-- without events all rounds begin at the opening
+pub starts-none : (opening round : ℕ) → starts_of opening [] round ≡ replicate round opening
+starts-none opening zero = refl
+starts-none opening (suc round) = ap₂ (λ s ss. s ∷ ss) (omega arith) (starts-none opening round)
+
+-- the next round's start comes in front, up to a number of rounds that only a tick without events reaches
+pub starts-after : (most opening : ℕ) (marks : List ℕ) (round : ℕ) → ((i : ℕ) → i < length marks → get_or marks i 0 ≤ round) → round ≤ most → (round ≡ most → marks ≡ []) → starts_of opening marks (min (round + 1) most) ≡ take most ((opening + length marks) ∷ starts_of opening marks round)
+starts-after most opening marks round behind few full =
+    elim (cases_lt round most) [
+      | inl l ↦
+          let next : min (round + 1) most ≡ suc round = omega arith in
+          let here : starts_of opening marks (suc round) ≡ (opening + length marks) ∷ starts_of opening marks round =
+          ap (λ s. s ∷ starts_of opening marks round) (start-next opening marks round behind) in
+          rw next
+          (here ∙ sym (take_all most ((opening + length marks) ∷ starts_of opening marks round) (omega (arith, length-starts opening marks round))))
+      | inr l ↦
+          let e : round ≡ most = omega arith in
+          let same : min (round + 1) most ≡ most = omega arith in
+          let all : starts_of opening [] most ≡ take most ((opening + 0) ∷ starts_of opening [] most) =
+          starts-none opening most
+          ∙ sym (take-replicate most (suc most) opening (omega arith))
+          ∙ ap₂ (λ (s : ℕ) (ss : List ℕ). take most (s ∷ ss)) (omega arith) (sym (starts-none opening most)) in
+          rw (same, full e, e) all
+    ]

@@ -1,0 +1,146 @@
+-- What is fair is played without a fault.
+use Rattle.std.proofs.Common.{◌≡◌, ◌⊎◌, inl, inr, ℕ, zero, suc, ◌+◌, ◌<◌, ◌==◌, Bool, true, false, not, List, [], ◌∷◌, length, map, take, reverse, get_or, set, All, Any, None, Option, refl, ap, sym, ◌∙◌, arith, nat_lt}
+use Rattle.std.specs.Prelude.{position, option_map}
+use Rattle.std.specs.Option.{option_or}
+use Rattle.std.proofs.lemmas.Bool.{cases_eq, lt-ltb, le-ltb, eq-eqb}
+use Rattle.std.proofs.lemmas.List.{length-set, length-replicate, get_or-set_same, get_or-set_other, get_or_default, take_all}
+use Rattle.std.proofs.lemmas.List.Elements.{All-head, All-tail}
+use Rattle.netlist.specs.declared.parts.Parts.{Parts}
+use Rattle.netlist.specs.Netlists.{gate_at}
+use Rattle.netlist.proofs.Decisions.{found_none}
+use Rattle.schedules.specs.declared.event.Event.{Event}
+use Rattle.schedules.specs.Moments.{newest}
+use Rattle.schedules.specs.Fairness.{IsEventOf, ReadsFrom, IsFairRound, AreFairAfter, IsFair}
+use Rattle.schedules.specs.Runs.{Played, gates_at, loaded_at, played, play}
+use Rattle.delay_core.specs.declared.fault.EventFault.{EventFault}
+use Rattle.delay_core.specs.declared.fault.PlayFault.{PlayFault}
+use Rattle.delay_core.specs.declared.fault.PlayFault.TheVariants as refused
+use Rattle.delay_core.specs.declared.plan.PlannedEvent.{PlannedEvent}
+use Rattle.delay_core.specs.declared.plan.RoundPlan.{RoundPlan}
+use Rattle.delay_core.specs.declared.plan.Schedule.{Schedule}
+use Rattle.delay_core.specs.Plays.{PlayState, first_allowed, is_too_old, event_fault, unfair_gate, no_events, most_rounds, after_event, next_tick}
+use Rattle.delay_core.specs.Plans.{planned_fault, after_planned, events_fault, after_plan, unfair_fault, round_fault, after_plans, rounds_fault, PlannedTick, ticks_fault, first_opened, first_fault, round_of, tick_of, IsPlayedFairly}
+use Rattle.delay_core.proofs.FairLemmas.{events_of, events_keep, round_keeps, rounds_keep, rounds_history, first_kept, starts_more, length_more, rest_of}
+use Rattle.delay_core.proofs.PlayLemmas.{IsAllowed}
+
+-- an element of which a fact holds stands first, or among the rest
+Any-cases : (P : Event → Type 0) (x : Event) (xs : List Event) → Any P (x ∷ xs) → P x ⊎ Any P xs
+Any-cases P x xs (zero, y, l, e, p) = inl (rw (← e) at p)
+Any-cases P x xs (suc k, y, l, e, p) = inr (k, y, omega arith, e, p)
+
+-- an event that is one of the netlist and reads what it may isn't refused
+allowed_none : (start : PlayState) (event : Event) → IsAllowed start event → event_fault start event ≡ None
+allowed_none start event allowed =
+    let gate : nat_lt event.gate (length start.net.gates) ≡ true = lt-ltb event.gate (length start.net.gates) allowed.of.gate in
+    let ages : (length event.ages == length (gate_at start.net event.gate).pins) ≡ true = eq-eqb (length event.ages) (length (gate_at start.net event.gate).pins) allowed.of.ages in
+    let old : position (is_too_old start) event.ages ≡ None =
+    found_none (is_too_old start) event.ages 0
+    (λ k d l. le-ltb (length start.history) (first_allowed start + get_or event.ages k d) (allowed.ages k d l)) in
+    rw (gate, ages, old) refl
+
+no_first : (first second : Option PlayFault) → first ≡ None → second ≡ None → option_or first second ≡ None
+no_first first second e f = rw (e, f) refl
+
+events_none : (start : PlayState) (events : List PlannedEvent) → All (IsEventOf start.net) (events_of events) → ReadsFrom (first_allowed start) (length start.history) (events_of events) → events_fault start events ≡ None
+events_none start [] valid reads = refl
+events_none start (planned ∷ later) valid reads =
+    let allowed : IsAllowed start planned.event =
+    record { of = All-head (IsEventOf start.net) planned.event (events_of later) valid; ages = reads.0 } in
+    no_first (planned_fault start planned) (events_fault (after_event start planned.event) later)
+    (ap (λ (f : Option EventFault). option_map (λ g. refused.Event planned.line g) f) (allowed_none start planned.event allowed))
+    (events_none (after_event start planned.event) later (All-tail (IsEventOf start.net) planned.event (events_of later) valid) reads.1)
+
+-- ---- each gate that had an event is known to have had one
+
+set_true : (gates : List Bool) (gate n : ℕ) → gate < length gates → get_or gates n false ≡ true → get_or (set gates gate true) n false ≡ true
+set_true gates gate n l t =
+    elim (cases_eq n gate) [
+      | inl e ↦ rw e (get_or-set_same gates gate true false l)
+      | inr ne ↦ get_or-set_other gates gate n true false ne ∙ t
+    ]
+
+still_had : (start : PlayState) (events : List PlannedEvent) (n : ℕ) → length start.done ≡ length start.net.gates → All (IsEventOf start.net) (events_of events) → get_or start.done n false ≡ true → get_or (after_planned start events).done n false ≡ true
+still_had start [] n width valid t = t
+still_had start (planned ∷ later) n width valid t =
+    let here = All-head (IsEventOf start.net) planned.event (events_of later) valid in
+    let gate : planned.event.gate < length start.done = (let g = here.gate in omega arith) in
+    still_had (after_event start planned.event) later n (length-set start.done planned.event.gate true ∙ width)
+    (All-tail (IsEventOf start.net) planned.event (events_of later) valid)
+    (set_true start.done planned.event.gate n gate t)
+
+now_had : (start : PlayState) (events : List PlannedEvent) (n : ℕ) → length start.done ≡ length start.net.gates → All (IsEventOf start.net) (events_of events) → Any (λ (event : Event). event.gate ≡ n) (events_of events) → get_or (after_planned start events).done n false ≡ true
+now_had start [] n width valid (k, x, l, e, p) = absurd (omega arith)
+now_had start (planned ∷ later) n width valid any =
+    let here = All-head (IsEventOf start.net) planned.event (events_of later) valid in
+    let rest = All-tail (IsEventOf start.net) planned.event (events_of later) valid in
+    let gate : planned.event.gate < length start.done = (let g = here.gate in omega arith) in
+    let next : length (set start.done planned.event.gate true) ≡ length start.net.gates = length-set start.done planned.event.gate true ∙ width in
+    elim (Any-cases (λ (event : Event). event.gate ≡ n) planned.event (events_of later) any) [
+      | inl e ↦
+          still_had (after_event start planned.event) later n next rest
+          (rw (← e) (get_or-set_same start.done planned.event.gate true false gate))
+      | inr after ↦ now_had (after_event start planned.event) later n next rest after
+    ]
+
+round_none : (start : PlayState) (round : RoundPlan) → start.done ≡ no_events start.net → IsFairRound start.net (first_allowed start) (length start.history) (round_of round) → round_fault start round ≡ None
+round_none start round begun fair =
+    let after : PlayState = after_planned start round.events in
+    let width : length start.done ≡ length start.net.gates = ap (λ (d : List Bool). length d) begun ∙ length-replicate (length start.net.gates) false in
+    let kept = events_keep start round.events in
+    let none : unfair_gate after ≡ None =
+    found_none (λ (had : Bool). not had) after.done false
+    (λ k d l.
+    let in_range : k < length start.net.gates = omega (arith, kept.done, width) in
+    let had : get_or after.done k d ≡ true =
+    get_or_default after.done k d false l ∙ now_had start round.events k width fair.events (fair.each_gate k in_range) in
+    ap not had) in
+    no_first (events_fault start round.events) (unfair_fault after round.line)
+    (events_none start round.events fair.events fair.reads)
+    (ap (λ (g : Option ℕ). option_map (λ n. refused.Unfair round.line n) g) none)
+
+rounds_none : (start : PlayState) (rounds : List RoundPlan) (before : List ℕ) → start.window < most_rounds → start.done ≡ no_events start.net → start.starts ≡ take most_rounds (length start.history ∷ before) → AreFairAfter start.net start.window before (length start.history) (map round_of rounds) → rounds_fault start rounds ≡ None
+rounds_none start [] before small begun is fair = refl
+rounds_none start (round ∷ later) before small begun is fair =
+    let next : PlayState = after_plan start round in
+    let here : IsFairRound start.net (first_allowed start) (length start.history) (round_of round) =
+    rw (first_kept start (length start.history ∷ before) small is) fair.0 in
+    let kept = round_keeps start round in
+    let still : next.window < most_rounds = rw kept.window small in
+    let rest : AreFairAfter next.net next.window (length start.history ∷ before) (length next.history) (map round_of later) =
+    rw (kept.net, kept.window, length_more start round before is) fair.1 in
+    no_first (round_fault start round) (rounds_fault next later) (round_none start round begun here)
+    (rounds_none next later (length start.history ∷ before) still refl (starts_more start round before is) rest)
+
+opened_none : (start : PlayState) (rounds : List RoundPlan) → start.window < most_rounds → start.done ≡ no_events start.net → start.starts ≡ length start.history ∷ [] → IsFair start.net start.window start.history (map round_of rounds) → rounds_fault start rounds ≡ None
+opened_none start rounds small begun is fair =
+    rounds_none start rounds [] small begun (is ∙ sym (take_all most_rounds (length start.history ∷ []) (omega arith))) fair
+
+ticks_none : (start : PlayState) (ticks : List PlannedTick) → start.window < most_rounds → start.done ≡ no_events start.net → All (IsPlayedFairly start.net start.window) (rest_of start.net start.history (map tick_of ticks)) → ticks_fault start ticks ≡ None
+ticks_none start [] small begun fair = refl
+ticks_none start (tick ∷ later) small begun fair =
+    let opened : PlayState = next_tick start tick.0 in
+    let after : PlayState = after_plans opened tick.1 in
+    let first : Played = played start.net start.history (loaded_at start.net (newest start.history)) (gates_at start.net (newest start.history)) (tick_of tick) in
+    let rest : List Played = rest_of start.net first.ended (map tick_of later) in
+    let here : IsPlayedFairly start.net start.window first = All-head (IsPlayedFairly start.net start.window) first rest fair in
+    let kept = rounds_keep opened tick.1 begun in
+    let still : after.window < most_rounds = rw kept.window small in
+    let others : All (IsPlayedFairly after.net after.window) (rest_of after.net after.history (map tick_of later)) =
+    rw (kept.net, kept.window, rounds_history opened tick.1) (All-tail (IsPlayedFairly start.net start.window) first rest fair) in
+    no_first (rounds_fault opened tick.1) (ticks_fault after later)
+    (opened_none opened tick.1 small begun refl here) (ticks_none after later still kept.begun others)
+
+pub schedule_none : (net : Parts) (schedule : Schedule) (plans : List PlannedTick) → schedule.window < most_rounds → All (IsPlayedFairly net schedule.window) (play net (reverse schedule.past) schedule.latches schedule.gates (map tick_of plans)) → first_fault net schedule plans ≡ None
+schedule_none net schedule [] small fair = refl
+schedule_none net schedule (tick ∷ later) small fair =
+    let opened : PlayState = first_opened net schedule tick.0 in
+    let after : PlayState = after_plans opened tick.1 in
+    let first : Played = played net (reverse schedule.past) schedule.latches schedule.gates (tick_of tick) in
+    let rest : List Played = rest_of net first.ended (map tick_of later) in
+    let here : IsPlayedFairly net schedule.window first = All-head (IsPlayedFairly net schedule.window) first rest fair in
+    let kept = rounds_keep opened tick.1 refl in
+    let still : after.window < most_rounds = rw kept.window small in
+    let others : All (IsPlayedFairly after.net after.window) (rest_of after.net after.history (map tick_of later)) =
+    rw (kept.net, kept.window, rounds_history opened tick.1) (All-tail (IsPlayedFairly net schedule.window) first rest fair) in
+    no_first (rounds_fault opened tick.1) (ticks_fault after later)
+    (opened_none opened tick.1 small refl refl here) (ticks_none after later still kept.begun others)

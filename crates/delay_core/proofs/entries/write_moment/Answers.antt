@@ -1,0 +1,9 @@
+use Rattle.std.proofs.Common.{◌≡◌, length, arith}
+use Rattle.delay_core.proofs.EntryLemmas.{front-all}
+use Rattle.delay_core.proofs.entries.write_moment.Goals as goal
+
+pub returns-clause-written : goal.returns-clause-written
+returns-clause-written c =
+    let all : c.loop-s.s ≡ length c.args.values.now = omega arith in
+    front-all c.args.moment c.args.values.now c.args.entries.now.items c.loop-s.entries.items c.args.newest.now.items c.loop-s.newest.items c.requires.width
+    (rw all at c.loop-s.invariant.front)

@@ -1,0 +1,30 @@
+use Rattle.std.proofs.Common.{◌≡◌, ◌∷◌, ◌-◌, ℕ, List, true, set, ap, ap₂, ◌∙◌, arith}
+use Rattle.cyc_base.specs.declared.sig.Sig.{Sig}
+use Rattle.netlist.specs.Netlists.{gate_sig}
+use Rattle.schedules.specs.Moments.{History, newest}
+use Rattle.delay_core.specs.Plays.{SeenPlay, starts_of, after_value}
+use Rattle.delay_core.proofs.ReadingLemmas.{starts-push}
+use Rattle.delay_core.proofs.play.Play.add.Goals as goal
+
+pub returns-clause-ok : goal.returns-clause-ok
+returns-clause-ok c =
+    let history : c.set.new.self.history ≡ set (newest c.self.inside.timeline.history) (gate_sig c.self.inside.net.now c.args.gate).0 c.args.value ∷ c.self.inside.timeline.history =
+    c.in_ok-set.ensures.ok ∙ ap (λ (s : Sig). set (newest c.self.inside.timeline.history) s.0 c.args.value ∷ c.self.inside.timeline.history) c.gate_sig.ensures.sig in
+    let starts : starts_of c.self.inside.opening c.push_reserved.new.self.items c.self.inside.round ≡ starts_of c.self.inside.opening c.self.inside.marks.items c.self.inside.round =
+    rw (c.push_reserved.ensures.items, c.in_ok-reserve.ensures.items) (starts-push c.self.inside.opening c.self.inside.marks.items c.self.inside.round c.self.inside.round (omega arith)) in
+    let spare : c.saturating_sub-self-inside.result ≡ c.self.inside.spare - 1 = c.saturating_sub-self-inside.ensures in
+    let build : History → List ℕ → SeenPlay = λ h ss. record {
+      state = record {
+        net = c.self.inside.net.now;
+        window = c.self.inside.window;
+        past = c.self.inside.past;
+        history = h;
+        tick = c.self.inside.tick;
+        opening = c.self.inside.opening;
+        starts = ss;
+        done = set c.self.inside.done.items c.args.gate true;
+      };
+      spare = c.self.inside.spare - 1;
+    } in
+    let after : SeenPlay → SeenPlay = λ p. record { state = after_value p.state c.args.gate c.args.value; spare = p.spare - 1 } in
+    rw spare (ap₂ build history starts ∙ ap after c.self.view_is)

@@ -1,0 +1,50 @@
+use Rattle.std.proofs.Common.{◌≡◌, ◌∷◌, ℕ, List, [], Bool, not, length, take, replicate, false, None, ap, ap₂, sym, ◌∙◌, arith}
+use Rattle.std.specs.Prelude.{position}
+use Rattle.delay_core.specs.Plays.{SeenPlay, starts_of, no_events, after_round, most_rounds, IsPlay}
+use Rattle.delay_core.proofs.PlayLemmas.{round_ends, round_full}
+use Rattle.delay_core.proofs.ReadingLemmas.{starts-after}
+use Rattle.delay_core.proofs.play.Play.end_round.Goals as goal
+
+pub invariant_of-self : goal.invariant_of-self
+invariant_of-self c =
+    let is = c.self.invariant.0 in
+    let fair : position (λ (had : Bool). not had) c.self.inside.done.items ≡ None =
+    ap (λ (had : List Bool). position (λ (h : Bool). not h) had) (sym c.deref.ensures.value) ∙ sym c.first_without.ensures.first ∙ c.in_default.is in
+    let done : c.fill.new.self.items ≡ no_events c.self.inside.net.now =
+    c.fill.ensures.items (λ y e. e) ∙ ap (λ n. replicate n false) (c.self.inside.done.ok.0 ∙ is.done) in
+    let next : IsPlay c.self.inside.net.now c.self.inside.timeline.history c.self.inside.past c.self.inside.tick c.self.inside.opening c.self.inside.marks.items c.saturating_add-self-inside.result (no_events c.self.inside.net.now) =
+    round_ends c.self.inside.net.now c.self.inside.timeline.history c.self.inside.past c.self.inside.tick c.self.inside.opening c.self.inside.marks.items c.self.inside.round c.self.inside.done.items is fair
+    c.saturating_add-self-inside.result
+    (omega (arith, c.saturating_add-self-inside.ensures)) (omega (arith, c.saturating_add-self-inside.ensures)) in
+    (rw done next, c.self.invariant.1, c.self.invariant.2, c.self.invariant.3)
+
+pub returns-clause-ok : goal.returns-clause-ok
+returns-clause-ok c =
+    let is = c.self.invariant.0 in
+    let opening : ℕ = c.self.inside.opening in
+    let marks : List ℕ = c.self.inside.marks.items in
+    let fair : position (λ (had : Bool). not had) c.self.inside.done.items ≡ None =
+    ap (λ (had : List Bool). position (λ (h : Bool). not h) had) (sym c.deref.ensures.value) ∙ sym c.first_without.ensures.first ∙ c.in_default.is in
+    let full : c.self.inside.round ≡ most_rounds → marks ≡ [] =
+    round_full c.self.inside.net.now c.self.inside.timeline.history c.self.inside.past c.self.inside.tick opening marks c.self.inside.round c.self.inside.done.items is fair
+    (omega (arith, c.self.inside.marks.ok, c.self.inside.marks.small)) in
+    let starts : starts_of opening marks c.saturating_add-self-inside.result ≡ take most_rounds (length c.self.inside.timeline.history ∷ starts_of opening marks c.self.inside.round) =
+    ap (starts_of opening marks) c.saturating_add-self-inside.ensures
+    ∙ starts-after most_rounds opening marks c.self.inside.round is.behind (omega arith) full
+    ∙ ap (λ (n : ℕ). take most_rounds (n ∷ starts_of opening marks c.self.inside.round)) is.moments in
+    let done : c.fill.new.self.items ≡ no_events c.self.inside.net.now =
+    c.fill.ensures.items (λ y e. e) ∙ ap (λ n. replicate n false) (c.self.inside.done.ok.0 ∙ is.done) in
+    let build : List ℕ → List Bool → SeenPlay = λ ss d. record {
+      state = record {
+        net = c.self.inside.net.now;
+        window = c.self.inside.window;
+        past = c.self.inside.past;
+        history = c.self.inside.timeline.history;
+        tick = c.self.inside.tick;
+        opening = opening;
+        starts = ss;
+        done = d;
+      };
+      spare = c.self.inside.spare;
+    } in
+    ap₂ build starts done ∙ ap (λ (p : SeenPlay). record { state = after_round p.state; spare = p.spare }) c.self.view_is

@@ -1,0 +1,26 @@
+use Rattle.std.proofs.Common.{◌≡◌, ◌<◌, ◌++◌, ◌∷◌, [], false, length, take, get_or, sym, ap, ◌∙◌, arith}
+use Rattle.std.proofs.lemmas.List.{take_more, take_all}
+use Rattle.schedules.specs.Moments.{seen}
+use Rattle.delay_core.proofs.ReadingLemmas.{length-seen, seen-at}
+use Rattle.delay_core.proofs.reading.read_pins.Goals as goal
+
+pub loop-i-preserved : goal.loop-i-preserved
+loop-i-preserved c =
+    let size = length-seen c.args.timeline.now.history c.args.pins.now c.args.ages.now c.requires.count in
+    let in_range : c.loop-i.i < length (seen c.args.timeline.now.history c.args.pins.now c.args.ages.now) = omega arith in
+    let here : get_or (seen c.args.timeline.now.history c.args.pins.now c.args.ages.now) c.loop-i.i false ≡ c.value.result =
+    seen-at c.args.timeline.now.history c.args.pins.now c.args.ages.now c.loop-i.i (record { 0 = 0 }) 0 c.requires.count c.loop-i-test.true
+    ∙ sym c.value.ensures in
+    record {
+      seen = c.push_reserved.ensures.items
+          ∙ ap (λ xs. xs ++ c.value.result ∷ []) c.loop-i.invariant.seen
+          ∙ ap (λ b. take c.loop-i.i (seen c.args.timeline.now.history c.args.pins.now c.args.ages.now) ++ b ∷ []) (sym here)
+          ∙ sym (take_more (seen c.args.timeline.now.history c.args.pins.now c.args.ages.now) c.loop-i.i false in_range);
+      capacity = c.push_reserved.ensures.capacity ∙ c.loop-i.invariant.capacity;
+    }
+
+pub returns-clause-seen : goal.returns-clause-seen
+returns-clause-seen c =
+    let size = length-seen c.args.timeline.now.history c.args.pins.now c.args.ages.now c.requires.count in
+    c.loop-i.invariant.seen
+    ∙ take_all c.loop-i.i (seen c.args.timeline.now.history c.args.pins.now c.args.ages.now) (omega arith)

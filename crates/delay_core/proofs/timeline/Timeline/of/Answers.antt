@@ -1,0 +1,24 @@
+use Rattle.std.proofs.Common.{◌≡◌, ◌∷◌, [], length, ap, arith}
+use Rattle.schedules.specs.Moments.{History}
+use Rattle.delay_core.specs.Entries.{history_of}
+use Rattle.delay_core.specs.Timelines.{Told}
+use Rattle.delay_core.proofs.HistoryLemmas.{size, first_is, first_history}
+use Rattle.delay_core.proofs.timeline.Timeline.of.Goals as goal
+
+told : History → Told
+told h = record { history = h; spare = 0 }
+
+pub invariant_of-result : goal.invariant_of-result
+invariant_of-result c = (
+  rw (c.in_ok-entries.ensures, c.in_ok-newest.ensures) (first_is c.args.first.now),
+  omega (arith, c.in_ok-entries.entries.ok),
+  omega (arith, c.in_ok-entries.entries.ok, ap length c.in_ok-entries.ensures, size c.args.first.now, c.requires),
+  omega arith,
+)
+
+pub returns : goal.returns
+unfolding told
+returns c =
+    let h : history_of c.in_ok-entries.entries.items c.in_ok-newest.newest.items 1 ≡ c.args.first.now ∷ [] =
+    rw (c.in_ok-entries.ensures, c.in_ok-newest.ensures) (first_history c.args.first.now) in
+    ap told h

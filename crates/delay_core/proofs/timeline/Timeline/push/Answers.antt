@@ -1,0 +1,21 @@
+use Rattle.std.proofs.Common.{◌≡◌, ◌∷◌, ◌++◌, ◌+◌, length, drop, ap, ◌∙◌, arith, rules}
+use Rattle.schedules.specs.Moments.{History, newest}
+use Rattle.delay_core.specs.Entries.{WritesMoment}
+use Rattle.delay_core.specs.Timelines.{Told}
+use Rattle.delay_core.proofs.HistoryLemmas.{told, told-width, history-push}
+use Rattle.delay_core.proofs.timeline.Timeline.push.Goals as goal
+
+pub returns-clause-ok : goal.returns-clause-ok
+returns-clause-ok c =
+    let after : c.in_ok-after.after ≡ c.self.inside.moments + 1 = search rules in
+    let written : WritesMoment (c.self.inside.moments + 1) c.args.values.now c.self.inside.entries.items c.write_moment.new.entries.items c.self.inside.newest.items c.write_moment.new.newest.items =
+    rw (after, c.reserve_entries.ensures.same) at c.write_moment.ensures.written in
+    rw after
+    (ap (λ (h : History). told h c.self.inside.spare)
+    (history-push c.self.inside.entries.items c.write_moment.new.entries.items c.self.inside.newest.items c.write_moment.new.newest.items c.self.inside.moments c.args.values.now c.self.invariant.0 written)
+    ∙ ap (λ (t : Told). record { history = (c.args.values.now ++ drop (length c.args.values.now) (newest t.history)) ∷ t.history; spare = t.spare }) c.self.view_is)
+
+pub write_moment-requires-clause-width : goal.write_moment-requires-clause-width
+write_moment-requires-clause-width c =
+    let width = told-width c.self.inside.entries.items c.self.inside.newest.items c.self.inside.moments c.self.inside.spare c.args.self.now c.self.invariant.0 c.self.view_is in
+    omega (arith, c.requires.width)

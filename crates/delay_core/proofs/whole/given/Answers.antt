@@ -1,0 +1,28 @@
+use Rattle.std.proofs.Common.{◌≡◌, ◌++◌, ◌∷◌, [], ◌+◌, ◌<◌, Bool, List, ℕ, false, length, take, get_or, ap, sym, ◌∙◌, arith}
+use Rattle.std.proofs.lemmas.List.{take_more, length-map, get_or-map, get_or-take, length-take, length-append}
+use Rattle.cyc_base.specs.declared.trit.Trit.{Trit}
+use Rattle.cyc_base.specs.declared.trit.Trit.TheVariants.{X}
+use Rattle.cyc_base.specs.Values.{bit, bits}
+use Rattle.schedules.specs.Moments.{newest}
+use Rattle.delay_core.specs.Plans.{given_at}
+use Rattle.delay_core.proofs.whole.given.Goals as goal
+
+pub loop-number-preserved : goal.loop-number-preserved
+loop-number-preserved c =
+    let now : List Bool = newest c.args.play.now.state.history in
+    let columns : ℕ = length c.args.net.now.inputs + length c.args.net.now.latches in
+    let here : c.loop-number.number < columns = omega (arith, c.loop-number-test.true, c.inputs-2.ensures.inputs, c.latches-2.ensures.latches) in
+    let wide : length now ≡ columns + length c.args.net.now.gates =
+    rw c.requires at c.value.ensures.width in
+    let some : c.loop-number.number < length (given_at c.args.net.now now) = omega (arith, length-take columns now) in
+    let value : get_or (bits (given_at c.args.net.now now)) c.loop-number.number X ≡ c.of.result =
+    get_or-map bit (given_at c.args.net.now now) c.loop-number.number false X some
+    ∙ ap bit (get_or-take columns now c.loop-number.number false here ∙ sym c.value.ensures.value)
+    ∙ sym c.of.ensures in
+    record {
+      values = c.in_ok-push.ensures.items
+          ∙ ap (λ (xs : List Trit). xs ++ c.of.result ∷ []) c.loop-number.invariant.values
+          ∙ ap (λ (x : Trit). take c.loop-number.number (bits (given_at c.args.net.now now)) ++ x ∷ []) (sym value)
+          ∙ sym (take_more (bits (given_at c.args.net.now now)) c.loop-number.number X (omega (arith, length-map (given_at c.args.net.now now) bit)));
+      len = omega (arith, ap (λ (xs : List Trit). length xs) c.in_ok-push.ensures.items, length-append c.loop-number.values.items (c.of.result ∷ []), c.loop-number.invariant.len);
+    }

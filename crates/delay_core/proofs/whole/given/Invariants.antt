@@ -1,0 +1,12 @@
+use Rattle.std.proofs.Common.{◌≡◌, length, take}
+use Rattle.cyc_base.specs.Values.{bits}
+use Rattle.schedules.specs.Moments.{newest}
+use Rattle.delay_core.specs.Plans.{given_at}
+use Rattle.delay_core.proofs.whole.given.Given as goal
+
+abbrev pub invariant-loop-number : goal.invariant-loop-number
+invariant-loop-number l =
+    record {
+      values : l.values.items ≡ take l.number (bits (given_at l.net (newest l.play.state.history)));
+      len : length l.values.items ≡ l.number;
+    }

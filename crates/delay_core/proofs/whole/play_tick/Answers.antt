@@ -1,0 +1,10 @@
+use Rattle.std.proofs.Common.{ap, ◌∙◌}
+use Rattle.delay_core.specs.Plays.{PlayState}
+use Rattle.delay_core.proofs.FairLemmas.{rounds_net}
+use Rattle.delay_core.proofs.whole.play_tick.Goals as goal
+
+pub tick_end-requires-clause-net : goal.tick_end-requires-clause-net
+tick_end-requires-clause-net c =
+    ap (λ (p : PlayState). p.net) c.in_ok-play_rounds.ensures.played
+    ∙ rounds_net c.args.play.now.state c.args.plan.now
+    ∙ c.requires.net

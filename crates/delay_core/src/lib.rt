@@ -1,0 +1,25 @@
+//! Plays of a netlist whose gates are computed one at a time: the moments that events, rounds and ticks make, read back
+//! at any age.
+//!
+//! It stands on `schedules`, whose histories and fair schedules it plays, and on `ternary_run`, for the fixpoint at
+//! which a tick is settled.
+#![tactic(auto)]
+
+mod change;
+mod entries;
+mod entry;
+mod fault;
+pub mod laws;
+mod opening;
+mod plan;
+mod play;
+mod reading;
+mod timeline;
+mod whole;
+
+pub use change::Change;
+pub use fault::{EventFault, PlayFault, Unfair};
+pub use plan::{PlannedEvent, RoundPlan, Schedule, TickEnd, TickPlan};
+pub use play::Play;
+pub use schedules::Event;
+pub use whole::play_whole;

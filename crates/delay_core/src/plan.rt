@@ -1,0 +1,46 @@
+use cyc_base::{Bits, Items};
+use schedules::Event;
+
+/// An event, and the line of the file that has it.
+#[derive(Debug, Drop)]
+pub struct PlannedEvent {
+    pub line: u64,
+    pub event: Event,
+}
+
+/// A round: its line, and its events in the order in which they come.
+#[derive(Debug, Drop)]
+pub struct RoundPlan {
+    pub line: u64,
+    pub events: Items<PlannedEvent>,
+}
+
+/// The rounds of a tick.
+pub type TickPlan = Items<RoundPlan>;
+
+/// A recorded schedule.
+#[derive(Debug, Drop)]
+pub struct Schedule {
+    /// Pins may read values that are up to so many rounds older.
+    pub window: u32,
+    /// The moments before the first tick, the oldest first, each with a value for each signal.
+    pub past: Items<Bits>,
+    /// The latches may start with values that their inits don't permit.
+    pub free: bool,
+    /// What the latches start with.
+    pub latches: Bits,
+    /// What the gates start with, in flat order.
+    pub gates: Bits,
+    pub ticks: Items<TickPlan>,
+}
+
+/// How a tick ended.
+#[derive(Debug, Drop)]
+pub struct TickEnd {
+    /// How many rounds it had.
+    pub rounds: u64,
+    /// Each gate has its value of the ternary fixpoint.
+    pub settled: bool,
+    /// What the outputs show, in their order.
+    pub outputs: Bits,
+}

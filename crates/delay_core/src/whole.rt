@@ -1,0 +1,267 @@
+//! Recorded schedules, played whole.
+
+ghost use Rattle.std.specs.Prelude.{◌≡◌, ◌⊎◌, ◌++◌, ◌∷◌, [], ◌+◌, ◌<◌, ◌≤◌, List, Bool, length, map, All, Some, None, IfErr, IfOk, OnOk};
+ghost use Rattle.cyc_base.specs.declared.trit.Trit.{Trit};
+ghost use Rattle.cyc_base.specs.Values.{bits};
+ghost use Rattle.netlist.specs.Netlists.{count};
+ghost use Rattle.netlist.specs.Fixpoint.{fix};
+ghost use Rattle.schedules.specs.Moments.{newest};
+ghost use Rattle.schedules.specs.Runs.{outputs_at, ticks_of};
+ghost use Rattle.ternary_run.specs.Reading.{IsFanoutOf};
+ghost use Rattle.delay_core.specs.Plays.{PlayState, after_event, no_events, next_tick};
+ghost use Rattle.delay_core.specs.Plans.{planned_fault, events_fault, after_planned, round_fault, after_plan, rounds_fault, after_plans, first_opened, schedule_fault, run_of, IsPlayedFairly, given_at, agrees as agree, stands_at_fix, end_at, end_of, SettledIsTold, SettlesInTime};
+
+use crate::fault::{EventFault, PlayFault};
+use crate::plan::{PlannedEvent, RoundPlan, Schedule, TickEnd};
+use crate::play::Play;
+use cyc_base::{Bits, Sig, Trit};
+use netlist::Netlist;
+use std::alloc::{AllocError, Global};
+use ternary_run::Fanout;
+
+/// Plays an event.
+fn play_event(play: &mut Play, planned: &PlannedEvent) -> Result<(), PlayFault>
+    ensures fault { IfErr result (λ fault. (fault ≡ PlayFault.Memory) ⊎ (planned_fault play.old.state planned.now ≡ Some fault)) }
+    ensures none { OnOk result (planned_fault play.old.state planned.now ≡ None) }
+    ensures played { OnOk result (play.new.state ≡ after_event play.old.state planned.now.event) }
+{
+    match play.apply(&planned.event) {
+        Ok(_) => Ok(()),
+        Err(EventFault::Memory) => Err(PlayFault::Memory),
+        Err(fault) => Err(PlayFault::Event {
+            line: planned.line,
+            fault,
+        }),
+    }
+}
+
+/// Plays events of a round.
+fn play_events(play: &mut Play, events: &[PlannedEvent]) -> Result<(), PlayFault>
+    ensures fault { IfErr result (λ fault. (fault ≡ PlayFault.Memory) ⊎ (events_fault play.old.state events.now ≡ Some fault)) }
+    ensures none { OnOk result (events_fault play.old.state events.now ≡ None) }
+    ensures played { OnOk result (play.new.state ≡ after_planned play.old.state events.now) }
+{
+    for planned in events {
+        play_event(play, planned)?;
+    }
+    Ok(())
+}
+
+/// Plays a round to its end.
+fn play_round(play: &mut Play, round: &RoundPlan) -> Result<(), PlayFault>
+    ensures fault { IfErr result (λ fault. (fault ≡ PlayFault.Memory) ⊎ (round_fault play.old.state round.now ≡ Some fault)) }
+    ensures none { OnOk result (round_fault play.old.state round.now ≡ None) }
+    ensures played { OnOk result (play.new.state ≡ after_plan play.old.state round.now) }
+{
+    play_events(play, round.events.items())?;
+    match play.end_round() {
+        Ok(()) => Ok(()),
+        Err(unfair) => Err(PlayFault::Unfair {
+            line: round.line,
+            gate: unfair.gate,
+        }),
+    }
+}
+
+/// Plays the rounds of a tick.
+fn play_rounds(play: &mut Play, rounds: &[RoundPlan]) -> Result<(), PlayFault>
+    ensures fault { IfErr result (λ fault. (fault ≡ PlayFault.Memory) ⊎ (rounds_fault play.old.state rounds.now ≡ Some fault)) }
+    ensures none { OnOk result (rounds_fault play.old.state rounds.now ≡ None) }
+    ensures played { OnOk result (play.new.state ≡ after_plans play.old.state rounds.now) }
+{
+    for round in rounds {
+        play_round(play, round)?;
+    }
+    Ok(())
+}
+
+/// The inputs and the latches at the newest moment, as ternary values.
+fn given(alloc: Global, net: &Netlist, play: &Play) -> Result<Vec<Trit>, AllocError>
+    requires { play.now.state.net ≡ net.now }
+    ensures given { IfOk result (λ values. values.items ≡ bits (given_at net.now (newest play.now.state.history))) }
+    ensures width { IfOk result (λ values. length values.items ≡ length net.now.inputs + length net.now.latches) }
+{
+    let mut values = Vec::with_capacity(alloc, (net.inputs() + net.latches()) as usize)?;
+    for number in 0..net.inputs() + net.latches() {
+        values.push(Trit::of(play.value(Sig(number))))?;
+    }
+    Ok(values)
+}
+
+/// Whether a ternary value is known, and is this one.
+fn agrees(value: Trit, known: bool) -> bool
+    ensures { result ≡ agree value known }
+{
+    match value {
+        Trit::Zero => !known,
+        Trit::One => known,
+        Trit::X => false,
+    }
+}
+
+/// Whether each gate has its value of these at the newest moment.
+fn gates_stand_at(net: &Netlist, play: &Play, fixed: &[Trit]) -> bool
+    requires net { play.now.state.net ≡ net.now }
+    requires fixed { fixed.now ≡ fix net.now (bits (given_at net.now (newest play.now.state.history))) }
+    requires width { length fixed.now ≡ count net.now }
+    ensures { result ≡ stands_at_fix net.now (newest play.now.state.history) }
+{
+    for number in 0..net.gates() {
+        let s = net.gate_sig(number);
+        if !agrees(fixed[s.0 as usize], play.value(s)) {
+            return false;
+        }
+    }
+    true
+}
+
+/// What the outputs show at the newest moment.
+fn outputs(alloc: Global, net: &Netlist, play: &Play) -> Result<Bits, AllocError>
+    requires { play.now.state.net ≡ net.now }
+    ensures { IfOk result (λ bits. bits ≡ outputs_at net.now (newest play.now.state.history)) }
+{
+    let mut bits = Vec::with_capacity(alloc, net.outputs().len())?;
+    for s in net.outputs() {
+        bits.push(play.value(*s))?;
+    }
+    Ok(Bits::of(bits))
+}
+
+/// What is told of a tick of so many rounds at its last moment, which is the newest.
+fn tick_end(
+    alloc: Global,
+    net: &Netlist,
+    fanout: &Fanout,
+    play: &Play,
+    rounds: usize,
+) -> Result<TickEnd, AllocError>
+    requires net { play.now.state.net ≡ net.now }
+    requires fanout { IsFanoutOf net.now fanout.now }
+    ensures { IfOk result (λ end. end ≡ end_at net.now (newest play.now.state.history) rounds) }
+{
+    let values = given(alloc, net, play)?;
+    let fixed = fanout.settle(alloc, net, &values)?;
+    let outputs = outputs(alloc, net, play)?;
+    Ok(TickEnd {
+        rounds: rounds as u64,
+        settled: gates_stand_at(net, play, &fixed),
+        outputs,
+    })
+}
+
+/// Plays a tick that has opened.
+fn play_tick(
+    alloc: Global,
+    net: &Netlist,
+    fanout: &Fanout,
+    play: &mut Play,
+    plan: &[RoundPlan],
+) -> Result<TickEnd, PlayFault>
+    requires net { play.old.state.net ≡ net.now }
+    requires fanout { IsFanoutOf net.now fanout.now }
+    ensures fault { IfErr result (λ fault. (fault ≡ PlayFault.Memory) ⊎ (rounds_fault play.old.state plan.now ≡ Some fault)) }
+    ensures none { OnOk result (rounds_fault play.old.state plan.now ≡ None) }
+    ensures played { OnOk result (play.new.state ≡ after_plans play.old.state plan.now) }
+    ensures end { IfOk result (λ end. end ≡ end_at net.now (newest play.new.state.history) (length plan.now)) }
+{
+    play_rounds(play, plan)?;
+    let end = tick_end(alloc, net, fanout, play, plan.len())?;
+    Ok(end)
+}
+
+/// Starts a play and plays its first tick.
+fn play_first<'a>(
+    alloc: Global,
+    net: &'a Netlist,
+    fanout: &Fanout,
+    schedule: &Schedule,
+    inputs: &[bool],
+    plan: &[RoundPlan],
+    ends: &mut Vec<TickEnd>,
+) -> Result<Play<'a>, PlayFault>
+    requires past { All (λ (moment : List Bool). length moment ≡ count net.now) schedule.now.past }
+    requires latches { length schedule.now.latches ≡ length net.now.latches }
+    requires gates { length schedule.now.gates ≡ length net.now.gates }
+    requires inputs { length inputs.now ≡ length net.now.inputs }
+    requires fanout { IsFanoutOf net.now fanout.now }
+    ensures fault { IfErr result (λ fault. (fault ≡ PlayFault.Memory) ⊎ (rounds_fault (first_opened net.now schedule.now inputs.now) plan.now ≡ Some fault)) }
+    ensures none { OnOk result (rounds_fault (first_opened net.now schedule.now inputs.now) plan.now ≡ None) }
+    ensures played { IfOk result (λ play. play.state ≡ after_plans (first_opened net.now schedule.now inputs.now) plan.now) }
+    ensures end { IfOk result (λ play. ends.new.items ≡ ends.old.items ++ end_at net.now (newest play.state.history) (length plan.now) ∷ []) }
+{
+    let mut play = Play::start_at(
+        alloc,
+        net,
+        schedule.window,
+        schedule.past.items(),
+        inputs,
+        schedule.latches.items(),
+        schedule.gates.items(),
+    )?;
+    let end = play_tick(alloc, net, fanout, &mut play, plan)?;
+    ends.push(end)?;
+    Ok(play)
+}
+
+/// Opens the next tick and plays it.
+fn play_next(
+    alloc: Global,
+    net: &Netlist,
+    fanout: &Fanout,
+    play: &mut Play,
+    inputs: &[bool],
+    plan: &[RoundPlan],
+    ends: &mut Vec<TickEnd>,
+) -> Result<(), PlayFault>
+    requires net { play.old.state.net ≡ net.now }
+    requires begun { play.old.state.done ≡ no_events net.now }
+    requires inputs { length inputs.now ≡ length net.now.inputs }
+    requires fanout { IsFanoutOf net.now fanout.now }
+    ensures fault { IfErr result (λ fault. (fault ≡ PlayFault.Memory) ⊎ (rounds_fault (next_tick play.old.state inputs.now) plan.now ≡ Some fault)) }
+    ensures none { OnOk result (rounds_fault (next_tick play.old.state inputs.now) plan.now ≡ None) }
+    ensures played { OnOk result (play.new.state ≡ after_plans (next_tick play.old.state inputs.now) plan.now) }
+    ensures end { OnOk result (ends.new.items ≡ ends.old.items ++ end_at net.now (newest play.new.state.history) (length plan.now) ∷ []) }
+{
+    play.end_tick(inputs)?;
+    let end = play_tick(alloc, net, fanout, play, plan)?;
+    ends.push(end)?;
+    Ok(())
+}
+
+/// Plays a recorded schedule whole, one tick for each vector of inputs, and tells how each tick ended; or answers its
+/// first fault in the order of play.
+pub fn play_whole(
+    alloc: Global,
+    net: &Netlist,
+    vectors: &[Bits],
+    schedule: &Schedule,
+) -> Result<Vec<TickEnd>, PlayFault>
+    requires past { All (λ (moment : List Bool). length moment ≡ count net.now) schedule.now.past }
+    requires latches { length schedule.now.latches ≡ length net.now.latches }
+    requires gates { length schedule.now.gates ≡ length net.now.gates }
+    requires inputs { All (λ (inputs : List Bool). length inputs ≡ length net.now.inputs) vectors.now }
+    requires ticks { length schedule.now.ticks ≡ length vectors.now }
+    ensures fault { IfErr result (λ fault. (fault ≡ PlayFault.Memory) ⊎ (schedule_fault net.now schedule.now vectors.now ≡ Some fault)) }
+    ensures whole { OnOk result (schedule_fault net.now schedule.now vectors.now ≡ None) }
+    ensures fair { OnOk result (All (IsPlayedFairly net.now schedule.now.window) (ticks_of net.now (run_of schedule.now vectors.now))) }
+    ensures ends { IfOk result (λ ends. ends.items ≡ map (end_of net.now) (ticks_of net.now (run_of schedule.now vectors.now))) }
+    ensures settled { OnOk result (All (SettledIsTold net.now) (ticks_of net.now (run_of schedule.now vectors.now))) }
+    ensures in_time { OnOk result (All (SettlesInTime net.now schedule.now.window) (ticks_of net.now (run_of schedule.now vectors.now))) }
+{
+    let _window = schedule.window;
+    let mut ends = Vec::new(alloc);
+    if vectors.is_empty() {
+        return Ok(ends);
+    }
+    let fanout = Fanout::of(alloc, net)?;
+    let plans = schedule.ticks.items();
+    let first = vectors[0].items();
+    let plan = plans[0].items();
+    let mut play = play_first(alloc, net, &fanout, schedule, first, plan, &mut ends)?;
+    for i in 1..vectors.len() {
+        let inputs = vectors[i].items();
+        let plan = plans[i].items();
+        play_next(alloc, net, &fanout, &mut play, inputs, plan, &mut ends)?;
+    }
+    Ok(ends)
+}

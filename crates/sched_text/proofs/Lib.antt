@@ -1,0 +1,7 @@
+mod AgeLemmas
+mod FitLemmas
+mod GateLemmas
+mod NumberLemmas
+mod ScheduleLemmas
+mod StartLemmas
+mod VectorLemmas

@@ -1,0 +1,157 @@
+-- The answer that there is once the lines that are left are read, and what vectors are like.
+use Rattle.std.proofs.Common.{◌≡◌, ◌≢◌, ◌≤◌, ◌<◌, ℕ, suc, ◌+◌, Bool, true, false, List, [], ◌∷◌, ◌++◌, All, length, drop, map, Some, None, Ok, Err, refl, sym, ap, subst, ◌∙◌, arith, drop_of_length-le, eqb-true}
+use Rattle.std.specs.Prelude.{Option, Result, ◌&&◌, ◌||◌, ◌==◌, codes, bytes_eq, if◌then◌else◌}
+use Rattle.std.specs.List.{list_all}
+use Rattle.std.specs.Option.{option_or}
+use Rattle.std.proofs.Math.Seq.{drop-cons}
+use Rattle.std.proofs.lemmas.List.{append-nil, append_assoc, length-map}
+use Rattle.std.proofs.lemmas.List.Elements.{All-nil, All-cons}
+use Rattle.cyc_base.specs.declared.trit.Trit.{Trit}
+use Rattle.cyc_base.specs.declared.trit.Trit.TheVariants.{Zero, One, X}
+use Rattle.blif_text.specs.Texts.{Line}
+use Rattle.blif_text.specs.Lines.{line_at}
+use Rattle.sched_text.specs.declared.fault.SchedFault.{SchedFault}
+use Rattle.sched_text.specs.Faults.{unless}
+use Rattle.sched_text.specs.declared.fault.SchedFault.TheVariants.{BadLine, WrongWidth}
+use Rattle.sched_text.specs.Vectors.{is_value, is_dash, value_of, words_fault, vector_fault, vector_of_words, vector_of, first_fault, vectors_of, vectors, HaveWidth, AreKnown}
+
+-- Reading on.
+
+abbrev pub answer : ℕ → Bool → List (List Trit) → List Line → Result (List (List Trit)) SchedFault
+answer width unknowns done rest = unless (first_fault width unknowns rest) (done ++ vectors_of width rest)
+
+pub record ReadsAt (width : ℕ) (unknowns : Bool) (lines : List Line) (done : List (List Trit)) (i : ℕ) : Type 0 where
+  pub answers : answer width unknowns done (drop i lines) ≡ vectors width unknowns lines
+
+lines_here : (lines : List Line) (i : ℕ) → i < length lines → drop i lines ≡ line_at lines i ∷ drop (suc i) lines
+lines_here lines i inside = drop-cons lines i (record { number = 0; words = [] }) inside
+
+fault_here : (width : ℕ) (unknowns : Bool) (lines : List Line) (done : List (List Trit)) (i : ℕ) (found : Option SchedFault)
+    → ReadsAt width unknowns lines done i → i < length lines → vector_fault width unknowns (line_at lines i) ≡ found
+    → unless (option_or found (first_fault width unknowns (drop (suc i) lines))) (done ++ vector_of width (line_at lines i) ∷ vectors_of width (drop (suc i) lines)) ≡ vectors width unknowns lines
+fault_here width unknowns lines done i found at inside is =
+    let rest = drop (suc i) lines in
+    ap (λ f. unless (option_or f (first_fault width unknowns rest)) (done ++ vector_of width (line_at lines i) ∷ vectors_of width rest)) (sym is)
+    ∙ ap (answer width unknowns done) (sym (lines_here lines i inside))
+    ∙ at.answers
+
+pub at_next : (width : ℕ) (unknowns : Bool) (lines : List Line) (done now : List (List Trit)) (i : ℕ)
+    → ReadsAt width unknowns lines done i → i < length lines → vector_fault width unknowns (line_at lines i) ≡ None
+    → now ≡ done ++ vector_of width (line_at lines i) ∷ []
+    → ReadsAt width unknowns lines now (i + 1)
+at_next width unknowns lines done now i at inside none is =
+    let rest = drop (suc i) lines in
+    let v = vector_of width (line_at lines i) in
+    let e : suc i ≡ i + 1 = omega arith in
+    let P : List (List Trit) → Type 0 = λ found. ReadsAt width unknowns lines found (i + 1) in
+    let Q : ℕ → Type 0 = λ k. ReadsAt width unknowns lines (done ++ v ∷ []) k in
+    subst P (sym is) (subst Q e (record {
+      answers =
+          ap (unless (first_fault width unknowns rest)) (append_assoc done (v ∷ []) (vectors_of width rest))
+          ∙ fault_here width unknowns lines done i None at inside none;
+    }))
+
+pub at_fault : (width : ℕ) (unknowns : Bool) (lines : List Line) (done : List (List Trit)) (i : ℕ) (found : SchedFault)
+    → ReadsAt width unknowns lines done i → i < length lines → vector_fault width unknowns (line_at lines i) ≡ Some found
+    → vectors width unknowns lines ≡ Err found
+at_fault width unknowns lines done i found at inside is = sym (fault_here width unknowns lines done i (Some found) at inside is)
+
+pub at_end : (width : ℕ) (unknowns : Bool) (lines : List Line) (done : List (List Trit)) (i : ℕ)
+    → ReadsAt width unknowns lines done i → length lines ≤ i → vectors width unknowns lines ≡ Ok done
+at_end width unknowns lines done i at over =
+    sym at.answers
+    ∙ ap (answer width unknowns done) (drop_of_length-le lines over)
+    ∙ ap Ok (append-nil done)
+
+-- What vectors without a fault are like.
+
+first_of_and : (a b : Bool) → (a && b) ≡ true → a ≡ true
+first_of_and true b is = refl
+first_of_and false b is = is
+
+second_of_and : (a b : Bool) → (a && b) ≡ true → b ≡ true
+second_of_and true b is = is
+second_of_and false b is = absurd (cc is)
+
+pub none_first : (f g : Option SchedFault) → option_or f g ≡ None → f ≡ None
+none_first None g none = refl
+none_first (Some f) g none = absurd (cc none)
+
+pub none_next : (f g : Option SchedFault) → option_or f g ≡ None → g ≡ None
+none_next None g none = none
+none_next (Some f) g none = absurd (cc none)
+
+pub no_fault : {X : Type 0} (fault : Option SchedFault) (meant found : X) → unless fault meant ≡ Ok found → fault ≡ None
+no_fault None meant found is = refl
+no_fault (Some fault) meant found is = absurd (cc is)
+
+pub as_meant : {X : Type 0} (fault : Option SchedFault) (meant found : X) → unless fault meant ≡ Ok found → meant ≡ found
+as_meant None meant found is = cc is
+as_meant (Some fault) meant found is = absurd (cc is)
+
+-- each line without a fault gives a vector that is as wanted
+each_is : (width : ℕ) (unknowns : Bool) (P : List Trit → Type 0)
+    → ((line : Line) → vector_fault width unknowns line ≡ None → P (vector_of width line))
+    → (lines : List Line) → first_fault width unknowns lines ≡ None → All P (vectors_of width lines)
+each_is width unknowns P one [] none = All-nil P
+each_is width unknowns P one (line ∷ rest) none =
+    All-cons P (vector_of width line) (vectors_of width rest)
+    (one line (none_first (vector_fault width unknowns line) (first_fault width unknowns rest) none))
+    (each_is width unknowns P one rest (none_next (vector_fault width unknowns line) (first_fault width unknowns rest) none))
+
+each_read : (width : ℕ) (unknowns : Bool) (P : List Trit → Type 0)
+    → ((line : Line) → vector_fault width unknowns line ≡ None → P (vector_of width line))
+    → (lines : List Line) (found : List (List Trit)) → vectors width unknowns lines ≡ Ok found → All P found
+each_read width unknowns P one lines found is =
+    subst (All P) (as_meant (first_fault width unknowns lines) (vectors_of width lines) found is)
+    (each_is width unknowns P one lines (no_fault (first_fault width unknowns lines) (vectors_of width lines) found is))
+
+width_of_word : (width : ℕ) (n : ℕ) (word : List ℕ) (dash good fits : Bool)
+    → is_dash width word ≡ dash → (length word == width) ≡ fits
+    → (if dash then None else (if good then (if fits then None else Some (WrongWidth n)) else Some (BadLine n))) ≡ None
+    → length (if dash then [] else map value_of word) ≡ width
+width_of_word width n word true good fits d e none = sym (eqb-true width 0 (first_of_and (width == 0) (bytes_eq word (codes "-")) d))
+width_of_word width n word false false fits d e none = absurd (cc none)
+width_of_word width n word false true false d e none = absurd (cc none)
+width_of_word width n word false true true d e none = length-map word value_of ∙ eqb-true (length word) width e
+
+width_of_words : (width : ℕ) (unknowns : Bool) (n : ℕ) (words : List (List ℕ)) → words_fault width unknowns n words ≡ None → length (vector_of_words width words) ≡ width
+width_of_words width unknowns n [] none = absurd (cc none)
+width_of_words width unknowns n (word ∷ []) none =
+    width_of_word width n word (is_dash width word) (list_all (is_value unknowns) word) (length word == width) refl refl none
+width_of_words width unknowns n (word ∷ next ∷ rest) none = absurd (cc none)
+
+pub have_width : (width : ℕ) (unknowns : Bool) (lines : List Line) (found : List (List Trit)) → vectors width unknowns lines ≡ Ok found → HaveWidth width found
+have_width width unknowns lines found is =
+    each_read width unknowns (λ vector. length vector ≡ width) (λ line none. width_of_words width unknowns line.number line.words none) lines found is
+
+known_value : (zero one : Bool) → (zero || one || false) ≡ true → (if zero then Zero else (if one then One else X)) ≢ X
+known_value true one is same = absurd (cc same)
+known_value false true is same = absurd (cc same)
+known_value false false is same = absurd (cc is)
+
+known_values : (word : List ℕ) → list_all (is_value false) word ≡ true → All (λ value. value ≢ X) (map value_of word)
+known_values [] is = All-nil (λ value. value ≢ X)
+known_values (b ∷ rest) is =
+    All-cons (λ value. value ≢ X) (value_of b) (map value_of rest)
+    (known_value (b == 48) (b == 49) (first_of_and (is_value false b) (list_all (is_value false) rest) is))
+    (known_values rest (second_of_and (is_value false b) (list_all (is_value false) rest) is))
+
+known_word : (width n : ℕ) (word : List ℕ) (dash good fits : Bool)
+    → list_all (is_value false) word ≡ good
+    → (if dash then None else (if good then (if fits then None else Some (WrongWidth n)) else Some (BadLine n))) ≡ None
+    → All (λ value. value ≢ X) (if dash then [] else map value_of word)
+known_word width n word true good fits g none = All-nil (λ value. value ≢ X)
+known_word width n word false false fits g none = absurd (cc none)
+known_word width n word false true fits g none = known_values word g
+
+known_words : (width n : ℕ) (words : List (List ℕ)) → words_fault width false n words ≡ None → All (λ value. value ≢ X) (vector_of_words width words)
+known_words width n [] none = absurd (cc none)
+known_words width n (word ∷ []) none =
+    known_word width n word (is_dash width word) (list_all (is_value false) word) (length word == width) refl none
+known_words width n (word ∷ next ∷ rest) none = absurd (cc none)
+
+pub are_known : (width : ℕ) (unknowns : Bool) (lines : List Line) (found : List (List Trit)) → unknowns ≡ false → vectors width unknowns lines ≡ Ok found → AreKnown found
+are_known width unknowns lines found boolean is =
+    let P : Bool → Type 0 = λ u. vectors width u lines ≡ Ok found in
+    each_read width false (All (λ value. value ≢ X)) (λ line none. known_words width line.number line.words none) lines found (subst P boolean is)

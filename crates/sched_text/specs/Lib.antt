@@ -1,0 +1,10 @@
+pub mod Faults
+pub mod Answers
+pub mod Vectors
+pub mod Numbers
+pub mod Kinds
+pub mod LineFaults
+pub mod Statements
+pub mod Schedules
+pub mod Running
+pub mod Fitting

@@ -1,0 +1,150 @@
+// Lines of bits.
+ghost use Rattle.std.specs.Prelude.{◌≡◌, ◌<◌, ◌||◌, ◌==◌, length, map, IfOk, Some, None, if◌then◌else◌};
+ghost use Rattle.std.specs.List.{list_all};
+ghost use Rattle.std.specs.Result.{result_err};
+ghost use Rattle.blif_text.specs.Lines.{line_at};
+ghost use Rattle.sched_text.specs.declared.kind.Kind.TheVariants as kinds;
+ghost use Rattle.sched_text.specs.Answers.{Reads};
+ghost use Rattle.sched_text.specs.LineFaults.{arguments, is_bit as is_bit_byte, are_bits, bit_of, bits_of, width_fault, permits as permits_start, first_refused, start_fault, fault_of_words};
+ghost use Rattle.sched_text.specs.Statements.{statement_of};
+
+use crate::fault::SchedFault;
+use crate::statement::Statement;
+use blif_text::Lines;
+use cyc_base::Bits;
+use netlist::{Init, Netlist};
+use std::alloc::{AllocError, Global};
+
+fn all_bits(word: &[u8]) -> bool
+    ensures { result ≡ list_all is_bit_byte word.now }
+{
+    word.iter().all(|b| *b == b'0' || *b == b'1')
+}
+
+fn bits_of_word(alloc: Global, word: &[u8]) -> Result<Bits, AllocError>
+    ensures { IfOk result (λ bits. bits ≡ map bit_of word.now) }
+{
+    let mut bits = Vec::with_capacity(alloc, word.len())?;
+    for b in word {
+        bits.push(*b == b'1')?;
+    }
+    Ok(Bits::of(bits))
+}
+
+// The bits behind the first word of a line. No second word is no bits.
+fn read_bits(alloc: Global, lines: &Lines, i: usize) -> Result<Bits, SchedFault>
+    requires { i < length lines.now }
+    ensures { let line = line_at lines.now i in
+        Reads result (if are_bits (arguments line.words) then None else Some (SchedFault.BadLine line.number)) (bits_of (arguments line.words)) }
+{
+    let line = lines.number(i);
+    if lines.words(i) < 2 {
+        return Ok(Bits::of(Vec::new(alloc)));
+    }
+    if lines.words(i) != 2 {
+        return Err(SchedFault::BadLine { line });
+    }
+    let word = lines.word(i, 1);
+    if !all_bits(word) {
+        return Err(SchedFault::BadLine { line });
+    }
+    Ok(bits_of_word(alloc, word)?)
+}
+
+fn check_width(line: u64, width: usize, bits: &Bits) -> Result<(), SchedFault>
+    ensures { result_err result ≡ width_fault line width bits.now }
+{
+    if bits.items().len() != width {
+        return Err(SchedFault::WrongWidth { line });
+    }
+    Ok(())
+}
+
+fn permits(init: Init, b: bool) -> bool
+    ensures { result ≡ permits_start init b }
+{
+    match init {
+        Init::Zero => !b,
+        Init::One => b,
+        Init::Either => true,
+    }
+}
+
+// Whether the latches may start with these values.
+fn check_start(line: u64, net: &Netlist, bits: &[bool]) -> Result<(), SchedFault>
+    requires { length bits.now ≡ length net.now.latches }
+    ensures { result_err result ≡ start_fault line net.now.latches bits.now }
+{
+    for latch in 0..net.latches() {
+        if !permits(net.latch(latch).init, bits[latch as usize]) {
+            return Err(SchedFault::BadStart { line, latch });
+        }
+    }
+    Ok(())
+}
+
+// A line of so many bits.
+fn read_width(alloc: Global, width: usize, lines: &Lines, i: usize) -> Result<Bits, SchedFault>
+    requires { i < length lines.now }
+    ensures { let line = line_at lines.now i in
+        let bits = bits_of (arguments line.words) in
+        Reads result (if are_bits (arguments line.words) then width_fault line.number width bits else Some (SchedFault.BadLine line.number)) bits }
+{
+    let bits = read_bits(alloc, lines, i)?;
+    check_width(lines.number(i), width, &bits)?;
+    Ok(bits)
+}
+
+pub fn read_past(
+    alloc: Global,
+    net: &Netlist,
+    lines: &Lines,
+    i: usize,
+) -> Result<Statement, SchedFault>
+    requires { i < length lines.now }
+    ensures { let line = line_at lines.now i in
+        Reads result (fault_of_words net.now 0 kinds.Past line.number 0 (arguments line.words)) (statement_of net.now kinds.Past line.number (arguments line.words)) }
+{
+    Ok(Statement::Past(read_width(alloc, net.count() as usize, lines, i)?))
+}
+
+pub fn read_latches(
+    alloc: Global,
+    net: &Netlist,
+    lines: &Lines,
+    i: usize,
+) -> Result<Statement, SchedFault>
+    requires { i < length lines.now }
+    ensures { let line = line_at lines.now i in
+        Reads result (fault_of_words net.now 0 kinds.Latches line.number 0 (arguments line.words)) (statement_of net.now kinds.Latches line.number (arguments line.words)) }
+{
+    let bits = read_width(alloc, net.latches() as usize, lines, i)?;
+    check_start(lines.number(i), net, bits.items())?;
+    Ok(Statement::Latches(bits))
+}
+
+pub fn read_state(
+    alloc: Global,
+    net: &Netlist,
+    lines: &Lines,
+    i: usize,
+) -> Result<Statement, SchedFault>
+    requires { i < length lines.now }
+    ensures { let line = line_at lines.now i in
+        Reads result (fault_of_words net.now 0 kinds.State line.number 0 (arguments line.words)) (statement_of net.now kinds.State line.number (arguments line.words)) }
+{
+    Ok(Statement::State(read_width(alloc, net.latches() as usize, lines, i)?))
+}
+
+pub fn read_gates(
+    alloc: Global,
+    net: &Netlist,
+    lines: &Lines,
+    i: usize,
+) -> Result<Statement, SchedFault>
+    requires { i < length lines.now }
+    ensures { let line = line_at lines.now i in
+        Reads result (fault_of_words net.now 0 kinds.Gates line.number 0 (arguments line.words)) (statement_of net.now kinds.Gates line.number (arguments line.words)) }
+{
+    Ok(Statement::Gates(read_width(alloc, net.gates() as usize, lines, i)?))
+}

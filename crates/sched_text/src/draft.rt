@@ -1,0 +1,187 @@
+// What the lines so far say of a schedule.
+ghost use Rattle.std.specs.Prelude.{◌≡◌, ◌++◌, ◌∷◌, [], IfOk, OnOk, Some};
+ghost use Rattle.sched_text.specs.Running.{seen_round, seen_tick, seen, new_round, new_tick, new_draft, add_event, without_round, begin_round, ended_tick, without_tick, follow, ended};
+
+use crate::statement::Statement;
+use cyc_base::{Bits, Items};
+use delay_core::{PlannedEvent, RoundPlan, Schedule, TickPlan};
+use std::alloc::{AllocError, Global};
+
+// A round whose events may go on.
+#[derive(Drop)]
+pub struct OpenRound {
+    line: u64,
+    events: Vec<PlannedEvent>,
+}
+
+impl OpenRound {
+    fn new(alloc: Global, line: u64) -> OpenRound
+        ensures { seen_round result ≡ new_round line }
+    {
+        OpenRound {
+            line,
+            events: Vec::new(alloc),
+        }
+    }
+
+    fn end(self) -> RoundPlan
+        ensures { result ≡ seen_round self }
+    {
+        RoundPlan {
+            line: self.line,
+            events: Items::of(self.events),
+        }
+    }
+}
+
+// A tick whose rounds may go on.
+#[derive(Drop)]
+pub struct OpenTick {
+    rounds: Vec<RoundPlan>,
+    round: Option<OpenRound>,
+}
+
+impl OpenTick {
+    fn new(alloc: Global) -> OpenTick
+        ensures { seen_tick result ≡ new_tick }
+    {
+        OpenTick {
+            rounds: Vec::new(alloc),
+            round: None,
+        }
+    }
+
+    // Ends the round, where there is one.
+    fn end_round(&mut self) -> Result<(), AllocError>
+        ensures { OnOk result (seen_tick self.new ≡ without_round (seen_tick self.old)) }
+    {
+        if let Some(round) = self.round.take() {
+            self.rounds.push(round.end())?;
+        }
+        Ok(())
+    }
+
+    fn begin_round(&mut self, alloc: Global, line: u64) -> Result<(), AllocError>
+        ensures { OnOk result (seen_tick self.new ≡ begin_round line (seen_tick self.old)) }
+    {
+        self.end_round()?;
+        self.round = Some(OpenRound::new(alloc, line));
+        Ok(())
+    }
+
+    fn add_event(&mut self, planned: PlannedEvent) -> Result<(), AllocError>
+        ensures { OnOk result (seen_tick self.new ≡ add_event planned (seen_tick self.old)) }
+    {
+        if let Some(round) = &mut self.round {
+            round.events.push(planned)?;
+        }
+        Ok(())
+    }
+
+    fn end(mut self) -> Result<TickPlan, AllocError>
+        ensures { IfOk result (λ tick. tick ≡ ended_tick (seen_tick self)) }
+    {
+        self.end_round()?;
+        Ok(TickPlan::of(self.rounds))
+    }
+}
+
+// What the lines so far say: the ticks that are ended, and the one whose rounds may go on.
+#[derive(Drop)]
+pub struct Draft {
+    window: u32,
+    past: Vec<Bits>,
+    free: bool,
+    latches: Bits,
+    gates: Bits,
+    ticks: Vec<TickPlan>,
+    tick: Option<OpenTick>,
+}
+
+impl Draft {
+    pub fn new(alloc: Global) -> Draft
+        ensures { seen result ≡ new_draft }
+    {
+        Draft {
+            window: 0,
+            past: Vec::new(alloc),
+            free: false,
+            latches: Bits::of(Vec::new(alloc)),
+            gates: Bits::of(Vec::new(alloc)),
+            ticks: Vec::new(alloc),
+            tick: None,
+        }
+    }
+
+    // Ends the tick, where there is one.
+    fn end_tick(&mut self) -> Result<(), AllocError>
+        ensures { OnOk result (seen self.new ≡ without_tick (seen self.old)) }
+    {
+        if let Some(tick) = self.tick.take() {
+            self.ticks.push(tick.end()?)?;
+        }
+        Ok(())
+    }
+
+    fn begin_tick(&mut self, alloc: Global) -> Result<(), AllocError>
+        ensures { OnOk result (seen self.new ≡ follow (seen self.old) Statement.Tick) }
+    {
+        self.end_tick()?;
+        self.tick = Some(OpenTick::new(alloc));
+        Ok(())
+    }
+
+    fn begin_round(&mut self, alloc: Global, line: u64) -> Result<(), AllocError>
+        ensures { OnOk result (seen self.new ≡ follow (seen self.old) (Statement.Round line)) }
+    {
+        if let Some(tick) = &mut self.tick {
+            tick.begin_round(alloc, line)?;
+        }
+        Ok(())
+    }
+
+    fn add_event(&mut self, planned: PlannedEvent) -> Result<(), AllocError>
+        ensures { OnOk result (seen self.new ≡ follow (seen self.old) (Statement.Event planned)) }
+    {
+        if let Some(tick) = &mut self.tick {
+            tick.add_event(planned)?;
+        }
+        Ok(())
+    }
+
+    // Adds what the next line says.
+    pub fn take(&mut self, alloc: Global, said: Statement) -> Result<(), AllocError>
+        ensures { OnOk result (seen self.new ≡ follow (seen self.old) said) }
+    {
+        match said {
+            Statement::Tick => return self.begin_tick(alloc),
+            Statement::Round(line) => return self.begin_round(alloc, line),
+            Statement::Event(planned) => return self.add_event(planned),
+            Statement::Past(bits) => self.past.push(bits)?,
+            Statement::Window(window) => self.window = window,
+            Statement::Latches(bits) => self.latches = bits,
+            Statement::State(bits) => {
+                self.latches = bits;
+                self.free = true;
+            }
+            Statement::Gates(bits) => self.gates = bits,
+            Statement::Format => {}
+        }
+        Ok(())
+    }
+
+    // The schedule, where no line follows.
+    pub fn end(mut self) -> Result<Schedule, AllocError>
+        ensures { IfOk result (λ schedule. schedule ≡ ended (seen self)) }
+    {
+        self.end_tick()?;
+        Ok(Schedule {
+            window: self.window,
+            past: Items::of(self.past),
+            free: self.free,
+            latches: self.latches,
+            gates: self.gates,
+            ticks: Items::of(self.ticks),
+        })
+    }
+}

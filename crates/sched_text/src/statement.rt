@@ -1,0 +1,18 @@
+use cyc_base::Bits;
+use delay_core::PlannedEvent;
+
+/// What a line of a schedule says.
+#[derive(Debug, Drop)]
+pub enum Statement {
+    /// Which format the lines have.
+    Format,
+    Window(u32),
+    Past(Bits),
+    Latches(Bits),
+    State(Bits),
+    Gates(Bits),
+    Tick,
+    /// A round begins at this line.
+    Round(u64),
+    Event(PlannedEvent),
+}

@@ -1,0 +1,4 @@
+pub mod EventLemmas
+pub mod ExistenceLemmas
+pub mod RoundLemmas
+pub mod RunLemmas

@@ -1,0 +1,5 @@
+pub mod Fairness
+pub mod Laws
+pub mod Moments
+pub mod Runs
+pub mod Settling
