@@ -1,5 +1,5 @@
 -- The first fault of a care model, as the checks find it.
-use Rattle.std.proofs.Common.{◌≡◌, ◌⊎◌, inl, inr, ℕ, Bool, true, false, ◌==◌, ◌||◌, ◌≤◌, List, length, Option, Some, None, refl, sym, subst, ◌∙◌, eqb-true}
+use Rattle.std.proofs.Common.{◌≡◌, ◌⊎◌, inl, inr, ℕ, Bool, true, false, ◌==◌, ◌||◌, ◌≤◌, List, length, Option, Some, None, refl, sym, ◌∙◌, eqb-true}
 use Rattle.std.specs.Prelude.{All, IfSome, IsSomeAnd, is_some, find, option_map}
 use Rattle.std.specs.Option.{option_or}
 use Rattle.std.proofs.lemmas.Option.{same_Some}
@@ -61,12 +61,10 @@ bound_passes net first (Some m) None h = absurd h
 bound_passes net first (Some m) (Some b) h = h.passes
 
 -- where the assumption is bound, the invariant's fault is the first
-pub invariant_fails : (net : Parts) (a i : Option Parts) (bound : Option CareModel) (first : ℕ) (fault : CareFault) → first ≡ length net.inputs → BindsAny net 0 a bound →
-    (fault ≡ Memory) ⊎ IsSomeAnd i (IsFaultOf net first fault) → (fault ≡ Memory) ⊎ IsFirstFault net a i fault
-invariant_fails net a i bound first fault is h (inl memory) = inl memory
-invariant_fails net a i bound first fault is h (inr fails) =
-    let there : IsSomeAnd i (IsFaultOf net (length net.inputs) fault) = subst (λ n. IsSomeAnd i (IsFaultOf net n fault)) is fails in
-    inr (inr (inr (record { assume_passes = bound_passes net 0 a bound h; invariant_fails = there })))
+pub invariant_fails : (net : Parts) (a i : Option Parts) (bound : Option CareModel) (fault : CareFault) → BindsAny net 0 a bound →
+    (fault ≡ Memory) ⊎ IsSomeAnd i (IsFaultOf net (length net.inputs) fault) → (fault ≡ Memory) ⊎ IsFirstFault net a i fault
+invariant_fails net a i bound fault h (inl memory) = inl memory
+invariant_fails net a i bound fault h (inr fails) = inr (inr (inr (record { assume_passes = bound_passes net 0 a bound h; invariant_fails = fails })))
 
 -- The first fault is one.
 

@@ -108,8 +108,27 @@ fn refuse_loops(alloc: Global, model: &Netlist) -> Result<(), CareFault>
     }
 }
 
+/// The columns that the inputs of a model name, or its first fault.
+#[tactic(auto, using(crate::proofs::FaultLemmas::loop_alone))]
+fn columns_or_fault(
+    alloc: Global,
+    net: &Netlist,
+    model: &Netlist,
+    first: u32,
+) -> Result<Vec<u32>, CareFault>
+    ensures columns { IfOk result (λ columns. AreColumnsOf net.now model.now.inputs columns.items) }
+    ensures late { IfOk result (λ columns. All (λ column. first ≤ column) columns.items) }
+    ensures others { OnOk result (fault_but_loops net.now first model.now ≡ None) }
+    ensures free { OnOk result (IsLoopFree model.now) }
+    ensures fault { IfErr result (λ fault. (fault ≡ CareFault.Memory) ⊎ IsFaultOf net.now first fault model.now) }
+{
+    let columns = checked_columns(alloc, net, model, first)?;
+    refuse_loops(alloc, model)?;
+    Ok(columns)
+}
+
 /// A model, bound to the columns of a netlist from `first` on.
-#[tactic(auto, using(crate::proofs::FaultLemmas::bound_model, crate::proofs::FaultLemmas::loop_alone))]
+#[tactic(auto, using(crate::proofs::FaultLemmas::bound_model))]
 fn bind_model(
     alloc: Global,
     net: &Netlist,
@@ -119,13 +138,11 @@ fn bind_model(
     ensures bound { IfOk result (Binds net.now first model) }
     ensures fault { IfErr result (λ fault. (fault ≡ CareFault.Memory) ⊎ IsFaultOf net.now first fault model) }
 {
-    let columns = checked_columns(alloc, net, &model, first)?;
-    refuse_loops(alloc, &model)?;
-    let columns = Items::of(columns);
+    let columns = columns_or_fault(alloc, net, &model, first)?;
     Ok(CareModel {
         net: model,
         first,
-        columns,
+        columns: Items::of(columns),
     })
 }
 

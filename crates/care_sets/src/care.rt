@@ -1,7 +1,7 @@
-ghost use Rattle.std.specs.Prelude.{◌≡◌, ◌⊎◌, ◌++◌, [], None, IfOk, IfErr, IfSome, option_copied, option_map, length};
+ghost use Rattle.std.specs.Prelude.{◌≡◌, ◌⊎◌, ◌++◌, [], None, IfOk, IfErr, IfSome, IsSomeAnd, option_copied, option_map, length};
 ghost use Rattle.std.specs.Option.{option_map_or};
 ghost use Rattle.care_sets.specs.Care.{HasValues, is_allowed, is_in_invariant};
-ghost use Rattle.care_sets.specs.Binding.{IsCare, IsCareOf, IsFirstFault, BindsBoth};
+ghost use Rattle.care_sets.specs.Binding.{IsCare, IsCareOf, IsCareModel, IsFaultOf, IsFirstFault, BindsAny, BindsBoth};
 
 use crate::binding::bind_any;
 use crate::fault::CareFault;
@@ -127,8 +127,25 @@ impl Care {
     }
 }
 
+/// The care set of a bound assumption and of the invariant.
+fn with_invariant(
+    alloc: Global,
+    net: &Netlist,
+    assume: Option<CareModel>,
+    invariant: Option<Netlist>,
+) -> Result<Care, CareFault>
+    requires { IfSome assume IsCareModel }
+    ensures kept { IfOk result (λ care. care.assume ≡ assume) }
+    ensures bound { IfOk result (λ care. BindsAny net.now (length net.now.inputs) invariant care.invariant) }
+    ensures fault { IfErr result (λ fault. (fault ≡ CareFault.Memory) ⊎ IsSomeAnd invariant (IsFaultOf net.now (length net.now.inputs) fault)) }
+{
+    let invariant = bind_any(alloc, net, invariant, net.inputs())?;
+    Ok(Care { assume, invariant })
+}
+
 /// The care set of these models, by the names of their inputs. Their first fault is answered in the order
 /// of `CareFault`, and that of the assumption before that of the invariant; they are dropped then.
+#[tactic(auto, using(crate::proofs::FaultLemmas::invariant_fails))]
 pub fn bind(
     alloc: Global,
     net: &Netlist,
@@ -143,6 +160,5 @@ pub fn bind(
         return Err(CareFault::NoModels);
     }
     let assume = bind_any(alloc, net, assume, 0)?;
-    let invariant = bind_any(alloc, net, invariant, net.inputs())?;
-    Ok(Care { assume, invariant })
+    with_invariant(alloc, net, assume, invariant)
 }

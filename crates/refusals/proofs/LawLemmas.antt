@@ -1,25 +1,28 @@
 -- The laws of refusals.
-use Rattle.std.proofs.Common.{◌≡◌, ◌≢◌, ℕ, zero, suc, ◌<◌, Bool, true, false, not, ◌&&◌, cond, List, [], ◌∷◌, ◌++◌, length, map, get_or, Option, Some, None, refl, sym, ap, ap₂, subst, ◌∙◌, arith, true≢false}
+use Rattle.std.proofs.Common.{◌≡◌, ◌≢◌, inl, inr, ℕ, zero, suc, ◌+◌, ◌-◌, ◌<◌, ◌≤◌, Bool, true, false, not, ◌&&◌, cond, List, [], ◌∷◌, ◌++◌, length, map, get_or, Option, Some, None, refl, sym, ap, ap₂, subst, ◌∙◌, arith, true≢false, Contains}
 use Rattle.std.specs.Prelude.{find, filter, is_none, if◌then◌else◌}
-use Rattle.std.specs.List.{All, list_any}
+use Rattle.std.specs.List.{list_any}
 use Rattle.std.specs.Option.{option_or, option_map, option_map_or}
+use Rattle.std.proofs.lemmas.Bool.{cases_lt}
 use Rattle.std.proofs.lemmas.List.{get_or_default}
 use Rattle.cyc_base.specs.declared.sig.Sig.{Sig}
 use Rattle.cyc_base.specs.declared.trit.Trit.TheVariants.{X}
 use Rattle.cyc_base.specs.Values.{bits}
 use Rattle.netlist.specs.declared.parts.Parts.{Parts}
-use Rattle.netlist.specs.Netlists.{gate_sig, IsNetlist}
-use Rattle.netlist.specs.Fixpoint.{wire, fix, fix_gates, IsInitialState}
+use Rattle.netlist.specs.Netlists.{count, signal, IsNetlist}
+use Rattle.netlist.specs.Fixpoint.{wire, fix, IsInitialState}
 use Rattle.care_sets.specs.Care.{CareSet, columns, is_one, is_in_invariant, is_allowed, is_care_vector, holds_at, state_of, IsCareVector}
 use Rattle.refusals.specs.declared.refusal.Refusal.{Refusal}
 use Rattle.refusals.specs.declared.refusal.Refusal.TheVariants.{Initial, EmptyCare, Undetermined, Leaves}
-use Rattle.refusals.specs.Acceptance.{Accepts}
-use Rattle.refusals.specs.Laws.{AcceptedWithoutRefusal, RefusalIsShown, InitialIsLeast, UndeterminedIsLeast, EarlierGatesAreDetermined, LeavesIsLeast, WithoutCareGatesAlone}
-use Rattle.refusals.specs.Refusals.{is_initial, initial_states, care_vectors, is_empty, is_x, is_undetermined, gate_sigs, first_failing, next_state, leaves, undetermined_refusal, refusal, IsRefusalOf, Proves}
+use Rattle.refusals.specs.declared.observe.Observe.{Observe}
+use Rattle.refusals.specs.Acceptance.{Accepts, gate_sigs, observed, AreDetermined}
+use Rattle.refusals.specs.Laws.{AcceptedWithoutRefusal, RefusalIsShown, InitialIsLeast, UndeterminedIsLeast, EarlierGatesAreDetermined, LeavesIsLeast, WithoutCareGatesAlone, UndeterminedIsObserved}
+use Rattle.refusals.specs.Refusals.{is_initial, initial_states, care_vectors, is_empty, is_undetermined, is_among, observed_gates, first_failing, next_state, leaves, undetermined_refusal, refusal, IsRefusalOf, Proves}
 use Rattle.cyc_base.specs.Vectors.{vectors, AtMost}
 use Rattle.refusals.proofs.FirstLemmas.{find-filter, empty-filter, any-find, found_passes, none_passes, nothing_passes, found_wide, found_least}
 use Rattle.refusals.proofs.ShowingLemmas.{is_initial_decides, initial_state_is, length-initial_state, care_vector_decides, care_vector_is}
-use Rattle.refusals.proofs.RefusalLemmas.{both, not_true, not_false, second_fails, fails_after, is_x_decides, known-is_x, is_x-known, gate_wire, length-fix_gates, next_state_is, bits_back, length-next_state, first_at, none_first, no_first, find_none-all, all-find_none, length-gate_sigs, gate_sig_at, found_gate, neither, nothing_mapped, RefusedAt, AtInitial, AtEmpty, AtUndetermined, AtLeaves, refused_at}
+use Rattle.refusals.proofs.ObservedLemmas.{member, among, observed_within, source_among}
+use Rattle.refusals.proofs.RefusalLemmas.{both, not_true, not_false, second_fails, fails_after, is_x_decides, known-is_x, is_x-known, column_known, SourcesAreKnown, next_state_is, bits_back, length-next_state, first_at, none_first, no_first, all-find_none, length-gate_sigs, gate_sig_at, FoundGate, found_gate, neither, nothing_mapped, RefusedAt, AtInitial, AtEmpty, AtUndetermined, AtLeaves, refused_at}
 
 -- a test of the care vectors, as one of all vectors
 pub care_test : (net : Parts) (care : CareSet) (p : List Bool → Bool) → find p (care_vectors net care) ≡ find (λ v. is_care_vector net care v && p v) (vectors (columns net))
@@ -92,24 +95,55 @@ no_initial net p fails =
     ∙ nothing_passes (length net.latches) (λ x. is_initial net x && p x)
     (λ w wide. fails_after (is_initial net w) (p w) (λ may. fails w (is_initial_decides net w wide may)))
 
--- where no gate is undetermined, all are known
-pub all_determined : (net : Parts) (care : CareSet) (v : List Bool) → undetermined_refusal net care ≡ None → IsCareVector net care v → All (λ value. value ≢ X) (fix_gates net (bits v))
-all_determined net care v none counts k d inside =
-    let gate : k < length net.gates = omega (arith, length-fix_gates net (bits v)) in
-    let nowhere : find (λ s. list_any (is_undetermined net s) (care_vectors net care)) (gate_sigs net) ≡ None =
-    none_first (is_undetermined net) (gate_sigs net) (care_vectors net care) (nothing_mapped (λ (u : Sig × List Bool). Undetermined u.1 u.0) _ none) in
-    let this : list_any (is_undetermined net (gate_sig net k)) (care_vectors net care) ≡ false =
-    subst (λ s. list_any (is_undetermined net s) (care_vectors net care) ≡ false) (gate_sig_at net k (gate_sig net k) gate)
-    (all-find_none (λ s. list_any (is_undetermined net s) (care_vectors net care)) (gate_sigs net) k (gate_sig net k) nowhere (omega (arith, length-gate_sigs net))) in
-    let known : is_undetermined net (gate_sig net k) v ≡ false =
-    none_care net care (is_undetermined net (gate_sig net k)) v (no_one (find (is_undetermined net (gate_sig net k)) (care_vectors net care)) (sym (any-find (is_undetermined net (gate_sig net k)) (care_vectors net care)) ∙ this)) counts in
-    let value_known : get_or (fix_gates net (bits v)) k X ≢ X =
-    is_x-known (get_or (fix_gates net (bits v)) k X) (ap is_x (sym (gate_wire net v k counts.width)) ∙ known) in
-    λ x. value_known (get_or_default (fix_gates net (bits v)) k X d inside ∙ x)
+-- whether a gate is unknown at some vector that counts
+abbrev pub is_loose : Parts → CareSet → Sig → Bool
+is_loose net care s = list_any (is_undetermined net s) (care_vectors net care)
+
+none_of_any : {T : Type 0} (p : T → Bool) (vs : List T) → list_any p vs ≡ false → find p vs ≡ None
+none_of_any p vs e = by_found (find p vs) (sym (any-find p vs) ∙ e)
   where
-    no_one : {T : Type 0} (o : Option T) → not (is_none o) ≡ false → o ≡ None
-    no_one None e = refl
-    no_one (Some t) e = cc
+    by_found : {U : Type 0} (o : Option U) → not (is_none o) ≡ false → o ≡ None
+    by_found None e = refl
+    by_found (Some x) e = cc
+
+-- a test of the observed gates, as one of all gates
+pub observed_test : (net : Parts) (what : Observe) (p : Sig → Bool) → find p (observed_gates net what) ≡ find (λ s. is_among (observed net what) s && p s) (gate_sigs net)
+observed_test net what p = find-filter p (is_among (observed net what)) (gate_sigs net)
+
+-- where no observed gate is undetermined, all observed signals are known
+signal_determined : (net : Parts) (care : CareSet) (what : Observe) (v : List Bool) (s : Sig) → undetermined_refusal net care what ≡ None → IsCareVector net care v → s.0 < count net →
+    (columns net ≤ s.0 → is_among (observed net what) s ≡ true) → wire (fix net (bits v)) s ≢ X
+signal_determined net care what v s none counts inside seen = elim (cases_lt s.0 (columns net)) [
+  | inl column ↦ column_known net v s counts.width column
+  | inr gate ↦
+      let k : ℕ = s.0 - columns net in
+      let less : k < length net.gates = omega (arith, gate, inside) in
+      let at : get_or (gate_sigs net) k s ≡ s = gate_sig_at net k s less ∙ ap signal (let e : columns net + k ≡ s.0 = omega (arith, gate) in e) in
+      let nowhere : find (λ t. is_among (observed net what) t && is_loose net care t) (gate_sigs net) ≡ None =
+      sym (observed_test net what (is_loose net care)) ∙ none_first (is_undetermined net) (observed_gates net what) (care_vectors net care) (nothing_mapped (λ (u : Sig × List Bool). Undetermined u.1 u.0) _ none) in
+      let this : (is_among (observed net what) s && is_loose net care s) ≡ false =
+      sym (ap (λ t. is_among (observed net what) t && is_loose net care t) at)
+      ∙ all-find_none (λ t. is_among (observed net what) t && is_loose net care t) (gate_sigs net) k s nowhere (omega (arith, length-gate_sigs net, less)) in
+      is_x-known (wire (fix net (bits v)) s)
+      (none_care net care (is_undetermined net s) v (none_of_any (is_undetermined net s) (care_vectors net care) (second_fails (is_among (observed net what) s) (is_loose net care s) this (seen gate))) counts)
+]
+
+pub observed_determined : (net : Parts) (care : CareSet) (what : Observe) (v : List Bool) → IsNetlist net → undetermined_refusal net care what ≡ None → IsCareVector net care v →
+    AreDetermined net v (observed net what)
+observed_determined net care what v valid none counts k d inside =
+    let s : Sig = get_or (observed net what) k d in
+    signal_determined net care what v (get_or (observed net what) k d) none counts (observed_within net what valid k d inside)
+    (λ gate. among (get_or (observed net what) k d) (observed net what) k inside (get_or_default (observed net what) k (get_or (observed net what) k d) d inside))
+
+-- so is what the latches load
+pub sources_determined : (net : Parts) (care : CareSet) (what : Observe) (v : List Bool) → IsNetlist net → undetermined_refusal net care what ≡ None → IsCareVector net care v →
+    SourcesAreKnown net v
+sources_determined net care what v valid none counts k d inside =
+    signal_determined net care what v (get_or net.latches k d).from none counts (valid.sources k d inside) (source_among net what valid k d inside)
+
+find_nowhere : {X : Type 0} (p : X → Bool) (xs : List X) → ((x : X) → p x ≡ false) → find p xs ≡ None
+find_nowhere p [] h = refl
+find_nowhere p (x ∷ xs) h = ap₂ (λ t o. cond t (Some x) o) (h x) (find_nowhere p xs h)
 
 not_empty : (t : Bool) → (let nothing : Option Refusal = None in if t then Some EmptyCare else nothing) ≡ None → t ≡ false
 not_empty true e = cc
@@ -120,8 +154,8 @@ there : {T : Type 0} (o : Option T) → is_none o ≡ false → (t : T) × (o �
 there None e = cc
 there (Some t) e = (t, refl)
 
-accepts_without : (net : Parts) (care : CareSet) → IsNetlist net → refusal net care ≡ None → Accepts net care
-accepts_without net care valid none =
+accepts_without : (net : Parts) (care : CareSet) (what : Observe) → IsNetlist net → refusal net care what ≡ None → Accepts net care what
+accepts_without net care what valid none =
     let first = neither _ _ none in
     let second = neither _ _ first.1 in
     let third = neither _ _ second.1 in
@@ -135,23 +169,24 @@ accepts_without net care valid none =
             care_vector_decides net care some.0 (found_wide (columns net) (is_care_vector net care) some.0 some.1)
             (found_passes (is_care_vector net care) (vectors (columns net)) some.0 some.1);
       };
-      determined = λ v counts. all_determined net care v third.0 counts;
+      determined = λ v counts. observed_determined net care what v valid third.0 counts;
       closed = λ v counts. record {
         state = next_state net v;
-        is = next_state_is net v valid counts.width (all_determined net care v third.0 counts);
+        is = next_state_is net v (sources_determined net care what v valid third.0 counts);
         inside = not_false (is_in_invariant care (next_state net v)) (none_care net care (leaves net care) v (nothing_mapped (λ w. Leaves w (next_state net w)) _ fourth.0) counts);
       };
     }
 
-without_accepts : (net : Parts) (care : CareSet) → Accepts net care → refusal net care ≡ None
-without_accepts net care accepted =
+without_accepts : (net : Parts) (care : CareSet) (what : Observe) → Accepts net care what → refusal net care what ≡ None
+without_accepts net care what accepted =
     let first : find (λ q. not (is_in_invariant care q)) (initial_states net) ≡ None =
     no_initial net (λ q. not (is_in_invariant care q)) (λ w permitted. ap not (accepted.initial w permitted)) in
     let some : is_empty (care_vectors net care) ≡ false =
     by_empty (is_empty (care_vectors net care)) refl in
-    let third : first_failing (is_undetermined net) (gate_sigs net) (care_vectors net care) ≡ None =
-    no_first (is_undetermined net) (gate_sigs net) (care_vectors net care)
-    (find_none-all (λ s. list_any (is_undetermined net s) (care_vectors net care)) (gate_sigs net) each_known) in
+    let third : first_failing (is_undetermined net) (observed_gates net what) (care_vectors net care) ≡ None =
+    no_first (is_undetermined net) (observed_gates net what) (care_vectors net care)
+    (observed_test net what (is_loose net care) ∙ find_nowhere (λ s. is_among (observed net what) s && is_loose net care s) (gate_sigs net)
+    (λ s. fails_after (is_among (observed net what) s) (is_loose net care s) (never_loose s))) in
     let fourth : find (leaves net care) (care_vectors net care) ≡ None = no_care net care (leaves net care) stays in
     ap₂ option_or (ap (option_map Initial) first)
     (ap₂ option_or (ap (λ t. let nothing : Option Refusal = None in if t then Some EmptyCare else nothing) some)
@@ -169,17 +204,13 @@ without_accepts net care accepted =
         missing None e = refl
         missing (Some t) e = cc
 
-    known_at : (k : ℕ) → k < length net.gates → (w : List Bool) → IsCareVector net care w → is_undetermined net (gate_sig net k) w ≡ false
-    known_at k gate w counts =
-        ap is_x (gate_wire net w k counts.width)
-        ∙ known-is_x (get_or (fix_gates net (bits w)) k X) (accepted.determined w counts k X (omega (arith, length-fix_gates net (bits w))))
-
-    each_known : All (λ s. list_any (is_undetermined net s) (care_vectors net care) ≡ false) (gate_sigs net)
-    each_known k d inside =
-        let gate : k < length net.gates = omega (arith, length-gate_sigs net) in
-        subst (λ s. list_any (is_undetermined net s) (care_vectors net care) ≡ false) (sym (gate_sig_at net k d gate))
-        (any-find (is_undetermined net (gate_sig net k)) (care_vectors net care)
-        ∙ ap (λ o. not (is_none o)) (no_care net care (is_undetermined net (gate_sig net k)) (known_at k gate)))
+    never_loose : (s : Sig) → is_among (observed net what) s ≡ true → is_loose net care s ≡ false
+    never_loose s seen =
+        any-find (is_undetermined net s) (care_vectors net care)
+        ∙ ap (λ o. not (is_none o)) (no_care net care (is_undetermined net s)
+        (λ w counts.
+        let c = member s (observed net what) seen in
+        known-is_x (wire (fix net (bits w)) s) (λ x. accepted.determined w counts c.0 s c.1 (ap (wire (fix net (bits w))) c.2 ∙ x))))
 
     stays : (w : List Bool) → IsCareVector net care w → leaves net care w ≡ false
     stays w counts =
@@ -187,23 +218,27 @@ without_accepts net care accepted =
         ap (λ q. not (is_in_invariant care q)) (ap (map is_one) step.is ∙ bits_back step.state) ∙ ap not step.inside
 
 pub accepted_without_refusal : AcceptedWithoutRefusal
-accepted_without_refusal net care valid = (accepts_without net care valid, without_accepts net care)
+accepted_without_refusal net care what valid = (accepts_without net care what valid, without_accepts net care what)
+
+-- the gate that refuses
+found_observed : (net : Parts) (care : CareSet) (what : Observe) (s : Sig) → find (is_loose net care) (observed_gates net what) ≡ Some s → FoundGate net (λ x. is_among (observed net what) x && is_loose net care x) s
+found_observed net care what s first = found_gate net (λ x. is_among (observed net what) x && is_loose net care x) s (sym (observed_test net what (is_loose net care)) ∙ first)
 
 -- what a refusal shows
 abbrev Shown : Parts → CareSet → Refusal → Type 0
 Shown net care r = IsRefusalOf net r × (r ≢ EmptyCare → Proves net care r)
 
 pub refusal_is_shown : RefusalIsShown
-refusal_is_shown net care r valid is = by_part (refused_at net care r is)
+refusal_is_shown net care what r valid is = by_part (refused_at net care what r is)
   where
-    by_part : RefusedAt net care r → Shown net care r
+    by_part : RefusedAt net care what r → Shown net care r
     by_part (AtInitial q r_is found) =
         let h = found_initial net (λ w. not (is_in_invariant care w)) q found in
         subst (Shown net care) (sym r_is) (h.width, λ _. record { permitted = h.permitted; outside = not_true (is_in_invariant care q) h.passes })
     by_part (AtEmpty r_is) = subst (Shown net care) (sym r_is) (tt, λ other. absurd (other refl))
     by_part (AtUndetermined v s r_is found) =
-        let at = first_at (is_undetermined net) (gate_sigs net) (care_vectors net care) s v found in
-        let gate = found_gate net (λ x. list_any (is_undetermined net x) (care_vectors net care)) s at.first in
+        let at = first_at (is_undetermined net) (observed_gates net what) (care_vectors net care) s v found in
+        let gate = found_observed net care what s at.first in
         let h = found_care net care (is_undetermined net s) v at.least in
         subst (Shown net care) (sym r_is)
         (record { width = h.counts.width; gate = gate.gate }, λ _. record { counts = h.counts; unknown = is_x_decides (wire (fix net (bits v)) s) h.passes })
@@ -213,15 +248,15 @@ refusal_is_shown net care r valid is = by_part (refused_at net care r is)
           record { width = h.counts.width; latches = length-next_state net v },
           λ _. record {
             counts = h.counts;
-            is = next_state_is net v valid h.counts.width (all_determined net care v none h.counts);
+            is = next_state_is net v (sources_determined net care what v valid none h.counts);
             outside = not_true (is_in_invariant care (next_state net v)) h.passes;
           },
         )
 
 pub initial_is_least : InitialIsLeast
-initial_is_least net care q w is permitted outside = by_part (refused_at net care (Initial q) is)
+initial_is_least net care what q w is permitted outside = by_part (refused_at net care what (Initial q) is)
   where
-    by_part : RefusedAt net care (Initial q) → AtMost q w
+    by_part : RefusedAt net care what (Initial q) → AtMost q w
     by_part (AtInitial p r_is found) =
         let same : p ≡ q = cc in
         subst (λ x. AtMost x w) same ((found_initial net (λ x. not (is_in_invariant care x)) p found).least w permitted (ap not outside))
@@ -230,44 +265,51 @@ initial_is_least net care q w is permitted outside = by_part (refused_at net car
     by_part (AtLeaves v r_is none found) = cc
 
 pub undetermined_is_least : UndeterminedIsLeast
-undetermined_is_least net care v w s is counts unknown = by_part (refused_at net care (Undetermined v s) is)
+undetermined_is_least net care what v w s is counts unknown = by_part (refused_at net care what (Undetermined v s) is)
   where
-    by_part : RefusedAt net care (Undetermined v s) → AtMost v w
+    by_part : RefusedAt net care what (Undetermined v s) → AtMost v w
     by_part (AtInitial p r_is found) = cc
     by_part (AtEmpty r_is) = cc
     by_part (AtUndetermined u t r_is found) =
         let same_v : u ≡ v = cc in
         let same_s : t ≡ s = cc in
-        let at = first_at (is_undetermined net) (gate_sigs net) (care_vectors net care) t u found in
+        let at = first_at (is_undetermined net) (observed_gates net what) (care_vectors net care) t u found in
         subst (λ x. AtMost x w) same_v
         ((found_care net care (is_undetermined net t) u at.least).least w counts (subst (λ x. is_undetermined net x w ≡ true) (sym same_s) unknown))
     by_part (AtLeaves u r_is none found) = cc
 
-none_of_any : {T : Type 0} (p : T → Bool) (vs : List T) → list_any p vs ≡ false → find p vs ≡ None
-none_of_any p vs e = by_found (find p vs) (sym (any-find p vs) ∙ e)
-  where
-    by_found : {U : Type 0} (o : Option U) → not (is_none o) ≡ false → o ≡ None
-    by_found None e = refl
-    by_found (Some x) e = cc
-
 pub earlier_gates_are_determined : EarlierGatesAreDetermined
-earlier_gates_are_determined net care v w s t is counts behind before = by_part (refused_at net care (Undetermined v s) is)
+earlier_gates_are_determined net care what v w s t is counts seen behind before = by_part (refused_at net care what (Undetermined v s) is)
   where
-    by_part : RefusedAt net care (Undetermined v s) → is_undetermined net t w ≡ false
+    by_part : RefusedAt net care what (Undetermined v s) → is_undetermined net t w ≡ false
     by_part (AtInitial p r_is found) = cc
     by_part (AtEmpty r_is) = cc
     by_part (AtUndetermined u x r_is found) =
         let same_s : x ≡ s = cc in
-        let at = first_at (is_undetermined net) (gate_sigs net) (care_vectors net care) x u found in
-        let gate = found_gate net (λ y. list_any (is_undetermined net y) (care_vectors net care)) x at.first in
+        let at = first_at (is_undetermined net) (observed_gates net what) (care_vectors net care) x u found in
         let earlier : t.0 < x.0 = subst (λ (y : Sig). t.0 < y.0) (sym same_s) before in
-        none_care net care (is_undetermined net t) w (none_of_any (is_undetermined net t) (care_vectors net care) (gate.first t behind earlier)) counts
+        none_care net care (is_undetermined net t) w
+        (none_of_any (is_undetermined net t) (care_vectors net care)
+        (second_fails (is_among (observed net what) t) (is_loose net care t) ((found_observed net care what x at.first).first t behind earlier) (among t (observed net what) seen.0 seen.1 seen.2))) counts
+    by_part (AtLeaves u r_is none found) = cc
+
+pub undetermined_is_observed : UndeterminedIsObserved
+undetermined_is_observed net care what v s is = by_part (refused_at net care what (Undetermined v s) is)
+  where
+    by_part : RefusedAt net care what (Undetermined v s) → Contains (observed net what) s
+    by_part (AtInitial p r_is found) = cc
+    by_part (AtEmpty r_is) = cc
+    by_part (AtUndetermined u x r_is found) =
+        let same_s : x ≡ s = cc in
+        let at = first_at (is_undetermined net) (observed_gates net what) (care_vectors net care) x u found in
+        let gate = found_observed net care what x at.first in
+        subst (λ (y : Sig). Contains (observed net what) y) same_s (member x (observed net what) (both (is_among (observed net what) x) (is_loose net care x) gate.passes).0)
     by_part (AtLeaves u r_is none found) = cc
 
 pub leaves_is_least : LeavesIsLeast
-leaves_is_least net care v w q is counts out = by_part (refused_at net care (Leaves v q) is)
+leaves_is_least net care what v w q is counts out = by_part (refused_at net care what (Leaves v q) is)
   where
-    by_part : RefusedAt net care (Leaves v q) → AtMost v w
+    by_part : RefusedAt net care what (Leaves v q) → AtMost v w
     by_part (AtInitial p r_is found) = cc
     by_part (AtEmpty r_is) = cc
     by_part (AtUndetermined u t r_is found) = cc
@@ -280,10 +322,6 @@ leaves_is_least net care v w q is counts out = by_part (refused_at net care (Lea
 filter_all : {X : Type 0} (p : X → Bool) (xs : List X) → ((x : X) → p x ≡ true) → filter p xs ≡ xs
 filter_all p [] h = refl
 filter_all p (x ∷ xs) h = ap₂ (λ t rest. cond t (x ∷ rest) rest) (h x) (filter_all p xs h)
-
-find_nowhere : {X : Type 0} (p : X → Bool) (xs : List X) → ((x : X) → p x ≡ false) → find p xs ≡ None
-find_nowhere p [] h = refl
-find_nowhere p (x ∷ xs) h = ap₂ (λ t o. cond t (Some x) o) (h x) (find_nowhere p xs h)
 
 vectors_there : (n : ℕ) → is_empty (vectors n) ≡ false
 vectors_there zero = refl
@@ -298,7 +336,7 @@ option_or_nothing None = refl
 option_or_nothing (Some x) = refl
 
 pub without_care_gates_alone : WithoutCareGatesAlone
-without_care_gates_alone net care no_assume no_invariant =
+without_care_gates_alone net care what no_assume no_invariant =
     let inside : (q : List Bool) → is_in_invariant care q ≡ true = λ q. ap (λ o. option_map_or (λ m. holds_at m q) o true) no_invariant in
     let allowed : (v : List Bool) → is_allowed care v ≡ true = λ v. ap (λ o. option_map_or (λ m. holds_at m v) o true) no_assume in
     let every : care_vectors net care ≡ vectors (columns net) =
@@ -308,6 +346,6 @@ without_care_gates_alone net care no_assume no_invariant =
     let fourth : find (leaves net care) (care_vectors net care) ≡ None = find_nowhere (leaves net care) (care_vectors net care) (λ v. ap not (inside (next_state net v))) in
     ap₂ option_or (ap (option_map Initial) first)
     (ap₂ option_or (ap (λ t. let nothing : Option Refusal = None in if t then Some EmptyCare else nothing) some)
-    (ap₂ option_or (ap (λ vs. option_map (λ (u : Sig × List Bool). Undetermined u.1 u.0) (first_failing (is_undetermined net) (gate_sigs net) vs)) every)
+    (ap₂ option_or (ap (λ vs. option_map (λ (u : Sig × List Bool). Undetermined u.1 u.0) (first_failing (is_undetermined net) (observed_gates net what) vs)) every)
     (ap (λ o. option_or (option_map (λ v. Leaves v (next_state net v)) o) None) fourth)))
-    ∙ option_or_nothing (option_map (λ (u : Sig × List Bool). Undetermined u.1 u.0) (first_failing (is_undetermined net) (gate_sigs net) (vectors (columns net))))
+    ∙ option_or_nothing (option_map (λ (u : Sig × List Bool). Undetermined u.1 u.0) (first_failing (is_undetermined net) (observed_gates net what) (vectors (columns net))))

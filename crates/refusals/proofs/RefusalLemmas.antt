@@ -21,7 +21,9 @@ use Rattle.netlist.proofs.FixpointLemmas.{length-steps}
 use Rattle.care_sets.specs.Care.{CareSet, columns, is_one, is_in_invariant}
 use Rattle.refusals.specs.declared.refusal.Refusal.{Refusal}
 use Rattle.refusals.specs.declared.refusal.Refusal.TheVariants.{Initial, EmptyCare, Undetermined, Leaves}
-use Rattle.refusals.specs.Refusals.{initial_states, care_vectors, is_empty, is_x, is_undetermined, gate_sigs, first_failing, next_state, leaves, undetermined_refusal, refusal, IsGate}
+use Rattle.refusals.specs.declared.observe.Observe.{Observe}
+use Rattle.refusals.specs.Acceptance.{gate_sigs}
+use Rattle.refusals.specs.Refusals.{initial_states, care_vectors, is_empty, is_x, is_undetermined, observed_gates, first_failing, next_state, leaves, undetermined_refusal, refusal, IsGate}
 use Rattle.refusals.proofs.FirstLemmas.{any-find, found_passes}
 
 pub both : (a b : Bool) → (a && b) ≡ true → (a ≡ true) × (b ≡ true)
@@ -86,16 +88,20 @@ pub one_of_bit : (b : Bool) → is_one (bit b) ≡ b
 one_of_bit false = refl
 one_of_bit true = refl
 
+-- a column is known at each Boolean vector
+pub column_known : (net : Parts) (v : List Bool) (s : Sig) → length v ≡ columns net → s.0 < columns net → wire (fix net (bits v)) s ≢ X
+column_known net v s wide column =
+    let long : s.0 < length (bits v) = omega (arith, length-bits v) in
+    let is : wire (fix net (bits v)) s ≡ bit (get_or v s.0 false) =
+    get_or_append_left (bits v) (fix_gates net (bits v)) X s.0 long ∙ get_or-map bit v s.0 false X (omega arith) in
+    λ x. bit_known (get_or v s.0 false) (sym is ∙ x)
+
 -- where no gate is unknown, no signal is
 pub wire_known : (net : Parts) (v : List Bool) (s : Sig) → length v ≡ columns net → All (λ value. value ≢ X) (fix_gates net (bits v)) → s.0 < count net →
     wire (fix net (bits v)) s ≢ X
 wire_known net v s wide known inside =
     elim (cases_lt s.0 (columns net)) [
-      | inl column ↦
-          let long : s.0 < length (bits v) = omega (arith, length-bits v) in
-          let is : wire (fix net (bits v)) s ≡ bit (get_or v s.0 false) =
-          get_or_append_left (bits v) (fix_gates net (bits v)) X s.0 long ∙ get_or-map bit v s.0 false X (omega arith) in
-          λ x. bit_known (get_or v s.0 false) (sym is ∙ x)
+      | inl column ↦ column_known net v s wide column
       | inr gate ↦
           let k : ℕ = s.0 - columns net in
           let is : wire (fix net (bits v)) s ≡ get_or (fix_gates net (bits v)) k X =
@@ -109,11 +115,17 @@ each_known values [] h = refl
 each_known values (l ∷ latches) h =
     ap₂ (λ t ts. t ∷ ts) (known_bit_is (wire values l.from) (h 0 l (omega arith))) (each_known values latches (λ k d inside. h (suc k) d (omega arith)))
 
+-- what the latches load is known
+abbrev pub SourcesAreKnown : Parts → List Bool → Type 0
+SourcesAreKnown net v = All (λ (l : Latch). wire (fix net (bits v)) l.from ≢ X) net.latches
+
+-- it is where no gate is unknown
+pub sources_known : (net : Parts) (v : List Bool) → IsNetlist net → length v ≡ columns net → All (λ value. value ≢ X) (fix_gates net (bits v)) → SourcesAreKnown net v
+sources_known net v valid wide known k d inside = wire_known net v (get_or net.latches k d).from wide known (valid.sources k d inside)
+
 -- so the next state is known
-pub next_state_is : (net : Parts) (v : List Bool) → IsNetlist net → length v ≡ columns net → All (λ value. value ≢ X) (fix_gates net (bits v)) →
-    next net (bits v) ≡ bits (next_state net v)
-next_state_is net v valid wide known =
-    sym (each_known (fix net (bits v)) net.latches (λ k d inside. wire_known net v (get_or net.latches k d).from wide known (valid.sources k d inside)))
+pub next_state_is : (net : Parts) (v : List Bool) → SourcesAreKnown net v → next net (bits v) ≡ bits (next_state net v)
+next_state_is net v known = sym (each_known (fix net (bits v)) net.latches known)
 
 pub bits_back : (q : List Bool) → map is_one (bits q) ≡ q
 bits_back [] = refl
@@ -237,18 +249,18 @@ mapped f None r e = cc
 mapped f (Some x) r e = record { value = x; there = refl; is = sym (same_Some (f x) r e) }
 
 -- which part refuses, and with what
-pub data RefusedAt (net : Parts) (care : CareSet) (r : Refusal) : Type 0 where
-  AtInitial : (q : List Bool) → r ≡ Initial q → find (λ w. not (is_in_invariant care w)) (initial_states net) ≡ Some q → RefusedAt net care r
-  AtEmpty : r ≡ EmptyCare → RefusedAt net care r
-  AtUndetermined : (v : List Bool) (s : Sig) → r ≡ Undetermined v s → first_failing (is_undetermined net) (gate_sigs net) (care_vectors net care) ≡ Some (s, v) → RefusedAt net care r
-  AtLeaves : (v : List Bool) → r ≡ Leaves v (next_state net v) → undetermined_refusal net care ≡ None → find (leaves net care) (care_vectors net care) ≡ Some v → RefusedAt net care r
+pub data RefusedAt (net : Parts) (care : CareSet) (what : Observe) (r : Refusal) : Type 0 where
+  AtInitial : (q : List Bool) → r ≡ Initial q → find (λ w. not (is_in_invariant care w)) (initial_states net) ≡ Some q → RefusedAt net care what r
+  AtEmpty : r ≡ EmptyCare → RefusedAt net care what r
+  AtUndetermined : (v : List Bool) (s : Sig) → r ≡ Undetermined v s → first_failing (is_undetermined net) (observed_gates net what) (care_vectors net care) ≡ Some (s, v) → RefusedAt net care what r
+  AtLeaves : (v : List Bool) → r ≡ Leaves v (next_state net v) → undetermined_refusal net care what ≡ None → find (leaves net care) (care_vectors net care) ≡ Some v → RefusedAt net care what r
 
 pub empty_case : (t : Bool) (r : Refusal) → (let nothing : Option Refusal = None in if t then Some EmptyCare else nothing) ≡ Some r → r ≡ EmptyCare
 empty_case true r e = sym (same_Some EmptyCare r e)
 empty_case false r e = cc
 
-pub refused_at : (net : Parts) (care : CareSet) (r : Refusal) → refusal net care ≡ Some r → RefusedAt net care r
-refused_at net care r is =
+pub refused_at : (net : Parts) (care : CareSet) (what : Observe) (r : Refusal) → refusal net care what ≡ Some r → RefusedAt net care what r
+refused_at net care what r is =
     elim (option_first _ _ r is) [
       | inl first ↦ let m = mapped Initial _ r first in AtInitial m.value m.is m.there
       | inr after ↦

@@ -1,7 +1,7 @@
 -- The refusal of a netlist on a care set: the first part of acceptance that fails, with its least witness.
 use Rattle.std.specs.Prelude.{◌≡◌, ◌≤◌, ◌<◌, Bool, true, false, not, List, [], ◌∷◌, length, map, zip, filter, find, Some, None, if◌then◌else◌, option_map}
 use Rattle.std.specs.declared.option.Option.{Option}
-use Rattle.std.specs.List.{list_all, list_any, range_with_len}
+use Rattle.std.specs.List.{list_all, list_any}
 use Rattle.std.specs.Option.{option_and_then}
 use Rattle.cyc_base.specs.declared.sig.Sig.{Sig}
 use Rattle.cyc_base.specs.declared.trit.Trit.{Trit}
@@ -12,10 +12,12 @@ use Rattle.netlist.specs.declared.parts.Init.TheVariants as inits
 use Rattle.netlist.specs.declared.parts.Parts.{Parts}
 use Rattle.netlist.specs.Faults.{first_there}
 use Rattle.netlist.specs.Fixpoint.{wire, fix, next, IsInitialState}
-use Rattle.netlist.specs.Netlists.{count, gate_sig}
+use Rattle.netlist.specs.Netlists.{count, sig_eq}
 use Rattle.care_sets.specs.Care.{CareSet, columns, is_one, is_in_invariant, is_care_vector, IsCareVector}
+use Rattle.refusals.specs.declared.observe.Observe.{Observe}
 use Rattle.refusals.specs.declared.refusal.Refusal.{Refusal}
 use Rattle.refusals.specs.declared.refusal.Refusal.TheVariants.{Initial, EmptyCare, Undetermined, Leaves}
+use Rattle.refusals.specs.Acceptance.{gate_sigs, observed}
 use Rattle.cyc_base.specs.Vectors.{vectors}
 
 -- a latch may start with this value
@@ -54,16 +56,20 @@ is_value X b = false
 abbrev pub is_undetermined : Parts → Sig → List Bool → Bool
 is_undetermined net s v = is_x (wire (fix net (bits v)) s)
 
--- the signals of the gates, in flat order
-abbrev pub gate_sigs : Parts → List Sig
-gate_sigs net = map (gate_sig net) (range_with_len 0 (length net.gates))
+-- one of these signals
+abbrev pub is_among : List Sig → Sig → Bool
+is_among signals s = list_any (sig_eq s) signals
+
+-- the gates among the observed signals, in flat order
+abbrev pub observed_gates : Parts → Observe → List Sig
+observed_gates net what = filter (is_among (observed net what)) (gate_sigs net)
 
 -- the first of these that fails at one of the vectors, with the first such vector
 abbrev pub first_failing : {W V : Type 0} → (W → V → Bool) → List W → List V → Option (W × V)
 first_failing fails among vs =
     option_and_then (λ w. option_map (λ v. (w, v)) (find (fails w) vs)) (find (λ w. list_any (fails w) vs) among)
 
--- the latches' next state at a vector on which no gate is unknown
+-- the latches' next state at a vector on which their sources are known
 abbrev pub next_state : Parts → List Bool → List Bool
 next_state net v = map is_one (next net (bits v))
 
@@ -78,17 +84,21 @@ initial_refusal net care = option_map Initial (find (λ q. not (is_in_invariant 
 abbrev pub empty_refusal : Parts → CareSet → Option Refusal
 empty_refusal net care = if is_empty (care_vectors net care) then Some EmptyCare else None
 
-abbrev pub undetermined_refusal : Parts → CareSet → Option Refusal
-undetermined_refusal net care =
-    option_map (λ u. Undetermined u.1 u.0) (first_failing (is_undetermined net) (gate_sigs net) (care_vectors net care))
+abbrev pub undetermined_refusal : Parts → CareSet → Observe → Option Refusal
+undetermined_refusal net care what =
+    option_map (λ u. Undetermined u.1 u.0) (first_failing (is_undetermined net) (observed_gates net what) (care_vectors net care))
 
 abbrev pub leaves_refusal : Parts → CareSet → Option Refusal
 leaves_refusal net care = option_map (λ v. Leaves v (next_state net v)) (find (leaves net care) (care_vectors net care))
 
 -- what refuses a netlist, if anything does
-abbrev pub refusal : Parts → CareSet → Option Refusal
-refusal net care =
-    first_there (initial_refusal net care ∷ empty_refusal net care ∷ undetermined_refusal net care ∷ leaves_refusal net care ∷ [])
+abbrev pub refusal : Parts → CareSet → Observe → Option Refusal
+refusal net care what =
+    first_there (initial_refusal net care ∷ empty_refusal net care ∷ undetermined_refusal net care what ∷ leaves_refusal net care ∷ [])
+
+-- the gates that are unknown in the fixpoint at some vector that counts, whether they are observed or not
+abbrev pub loose_gates : Parts → CareSet → List Sig
+loose_gates net care = filter (λ s. list_any (is_undetermined net s) (care_vectors net care)) (gate_sigs net)
 
 -- the signal is a gate's
 pub record IsGate (net : Parts) (s : Sig) : Type 0 where

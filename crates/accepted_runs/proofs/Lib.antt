@@ -1,0 +1,4 @@
+pub mod CareLemmas
+pub mod HarmlessLemmas
+pub mod MachineLemmas
+pub mod SameLemmas
