@@ -10,9 +10,9 @@ use Rattle.bdd_store.specs.Growth.{KeepsNodes}
 use Rattle.bdd_ops.specs.Operations.{xor, conjunction, exclusive_or}
 use Rattle.dual_rail.specs.declared.rail.Rails.{Rails}
 use Rattle.loops.specs.declared.parts.Blocks.{Blocks}
+use Rattle.loops.specs.declared.parts.SweepCounts.{SweepCounts}
 use Rattle.loops.specs.Blocks.{block_at}
 use Rattle.fixpoint.specs.declared.solved.LoopSteps.{LoopSteps}
-use Rattle.fixpoint.specs.declared.solved.SweepCounts.{SweepCounts}
 use Rattle.fixpoint.specs.Solved.{IsLoopAt, HasEachLoopOnce, step_at, last_step}
 use Rattle.fixpoint.specs.Counts.{AreNodes, SameOn, SameRailsOn, AgreeOn, IsLeastStep, AreCountsOf}
 
@@ -63,17 +63,17 @@ node_from x y b is e = ap (λ (n : ℕ). let m : Node = record { number = n } in
 pub node_to : (x y : Node) (b : Bool) → b ≡ (x.number == y.number) → x ≡ y → b ≡ true
 node_to x y b is e = is ∙ eq-eqb x.number y.number (ap (λ (n : Node). n.number) e)
 
-SameOn-back : {s t : Arena} {care m n : Node} → KeepsNodes s t → IsNodeOf s care → IsNodeOf s m → IsNodeOf s n → SameOn t care m n → SameOn s care m n
-SameOn-back {s} {t} {care} {m} {n} k c p q same bits cared = sym (k.function m bits p) ∙ same bits (k.function care bits c ∙ cared) ∙ k.function n bits q
+SameOn-back : {s t : Arena} (care m n : Node) → KeepsNodes s t → IsNodeOf s care → IsNodeOf s m → IsNodeOf s n → SameOn t care m n → SameOn s care m n
+SameOn-back {s} {t} care m n k c p q same bits cared = sym (k.function m bits p) ∙ same bits (k.function care bits c ∙ cared) ∙ k.function n bits q
 
-SameOn-forth : {s t : Arena} {care m n : Node} → KeepsNodes s t → IsNodeOf s care → IsNodeOf s m → IsNodeOf s n → SameOn s care m n → SameOn t care m n
-SameOn-forth {s} {t} {care} {m} {n} k c p q same bits cared = k.function m bits p ∙ same bits (sym (k.function care bits c) ∙ cared) ∙ sym (k.function n bits q)
+SameOn-forth : {s t : Arena} (care m n : Node) → KeepsNodes s t → IsNodeOf s care → IsNodeOf s m → IsNodeOf s n → SameOn s care m n → SameOn t care m n
+SameOn-forth {s} {t} care m n k c p q same bits cared = k.function m bits p ∙ same bits (sym (k.function care bits c) ∙ cared) ∙ sym (k.function n bits q)
 
 pub SameRailsOn-back : {s t : Arena} {care : Node} {r q : Rails} → KeepsNodes s t → IsNodeOf s care → AreNodes s r → AreNodes s q → SameRailsOn t care r q → SameRailsOn s care r q
-SameRailsOn-back k c r q same = record { one = SameOn-back k c r.one q.one same.one; zero = SameOn-back k c r.zero q.zero same.zero }
+SameRailsOn-back {care = care} {r = r} {q = q} k c rn qn same = record { one = SameOn-back care r.one q.one k c rn.one qn.one same.one; zero = SameOn-back care r.zero q.zero k c rn.zero qn.zero same.zero }
 
 pub SameRailsOn-forth : {s t : Arena} {care : Node} {r q : Rails} → KeepsNodes s t → IsNodeOf s care → AreNodes s r → AreNodes s q → SameRailsOn s care r q → SameRailsOn t care r q
-SameRailsOn-forth k c r q same = record { one = SameOn-forth k c r.one q.one same.one; zero = SameOn-forth k c r.zero q.zero same.zero }
+SameRailsOn-forth {care = care} {r = r} {q = q} k c rn qn same = record { one = SameOn-forth care r.one q.one k c rn.one qn.one same.one; zero = SameOn-forth care r.zero q.zero k c rn.zero qn.zero same.zero }
 
 pub AgreeOn-back : {s t : Arena} {care : Node} (xs ys : List Rails) → KeepsNodes s t → IsNodeOf s care → All (AreNodes s) xs → All (AreNodes s) ys → length xs ≡ length ys → AgreeOn t care xs ys → AgreeOn s care xs ys
 AgreeOn-back xs ys k c xn yn len agree place none less = SameRailsOn-back k c (xn place none (omega arith)) (yn place none less) (agree place none less)

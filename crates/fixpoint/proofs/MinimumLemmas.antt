@@ -13,6 +13,7 @@ use Rattle.dual_rail.specs.WorkingLists.{is_bit}
 use Rattle.netlist.specs.declared.parts.Parts.{Parts}
 use Rattle.loops.specs.declared.parts.Blocks.{Blocks}
 use Rattle.loops.specs.declared.parts.Cut.{Cut}
+use Rattle.loops.specs.declared.parts.SweepCounts.{SweepCounts}
 use Rattle.loops.specs.Blocks.{AreBlocksOf, block_at, home_of}
 use Rattle.loops.specs.Cuts.{IsCutOf, loops_by}
 use Rattle.loops.specs.Sweeps.{first_gate, cuts_of}
@@ -20,7 +21,6 @@ use Rattle.loops.proofs.Sweeps.{few_sweeps_are_enough}
 use Rattle.loops.proofs.Told.{home_gate, blocks_tell_loops}
 use Rattle.fixpoint.specs.declared.solved.LoopSteps.{LoopSteps}
 use Rattle.fixpoint.specs.declared.solved.Solved.{Solved}
-use Rattle.fixpoint.specs.declared.solved.SweepCounts.{SweepCounts}
 use Rattle.fixpoint.specs.Solved.{Vectors, IsLoopAt, AreStepsOf, IsSolution, step_at, last_step}
 use Rattle.fixpoint.specs.Sweeping.{unknown}
 use Rattle.fixpoint.specs.Counts.{AgreeOn, IsLeastStep, AreCountsOf, IsLeastSweeps, CountSweeps, count_at}

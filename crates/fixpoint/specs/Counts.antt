@@ -8,12 +8,12 @@ use Rattle.dual_rail.specs.declared.rail.Rails.{Rails}
 use Rattle.netlist.specs.declared.parts.Parts.{Parts}
 use Rattle.loops.specs.declared.parts.Blocks.{Blocks}
 use Rattle.loops.specs.declared.parts.Cut.{Cut}
+use Rattle.loops.specs.declared.parts.SweepCounts.{SweepCounts}
 use Rattle.loops.specs.Blocks.{block_at, home_of}
 use Rattle.loops.specs.Cuts.{Loops, loops_by}
 use Rattle.loops.specs.Sweeps.{cuts_of, CutsAreFixed}
 use Rattle.fixpoint.specs.declared.solved.LoopSteps.{LoopSteps}
 use Rattle.fixpoint.specs.declared.solved.Solved.{Solved}
-use Rattle.fixpoint.specs.declared.solved.SweepCounts.{SweepCounts}
 use Rattle.fixpoint.specs.Solved.{Vectors, step_at, last_step, HasEachLoopOnce}
 
 -- rails that are nodes of the diagrams

@@ -14,12 +14,12 @@ ghost use Rattle.loops.specs.Cuts.{IsCutOf};
 ghost use Rattle.fixpoint.specs.Solved.{IsSolution, step_at, last_step};
 ghost use Rattle.fixpoint.specs.Counts.{AreNodes, SameOn, SameRailsOn, AgreeOn, IsLeastStep, AreCountable, AreLoopsToCount, AreCountsOf, CountSweeps, IsCompared, IsComparedIn, difference};
 
-use crate::solved::{Solved, SweepCounts};
+use crate::solved::Solved;
 use bdd_ops::Diagrams;
 use bdd_store::{Node, StoreFault};
 use cyc_base::Items;
 use dual_rail::Rails;
-use loops::Blocks;
+use loops::{Blocks, SweepCounts};
 use std::alloc::Global;
 
 /// Whether two nodes have one value at each vector of care.

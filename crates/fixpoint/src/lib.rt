@@ -12,11 +12,10 @@ pub mod laws;
 mod lifting;
 mod solved;
 mod solving;
-#[cfg(test)]
-mod tests;
 mod wires;
 
 pub use counting::sweeps;
 pub use lifting::lift_gates;
-pub use solved::{LoopSteps, Solved, SweepCounts};
+pub use loops::SweepCounts;
+pub use solved::{LoopSteps, Solved};
 pub use solving::solve;

@@ -20,10 +20,3 @@ pub struct Solved {
     /// The loops, in the order of the blocks.
     pub loops: Items<LoopSteps>,
 }
-
-/// How many sweeps loops need.
-#[derive(Debug, Drop)]
-pub struct SweepCounts {
-    /// One for each block, and 0 for a block that is no loop.
-    pub per_block: Items<u32>,
-}

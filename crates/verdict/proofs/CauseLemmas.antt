@@ -1,12 +1,12 @@
 -- Why a call finds the diagrams full.
-use Rattle.std.proofs.Common.{◌≡◌, ◌⊎◌, inl, inr, ℕ, ◌+◌, ◌*◌, ◌≤◌, subst, ◌∙◌, arith}
+use Rattle.std.proofs.Common.{◌⊎◌, inl, inr, ℕ, ◌+◌, ◌*◌, ◌≤◌, subst, ◌∙◌, arith}
 use Rattle.bdd_store.specs.Arena.{Arena}
 use Rattle.bdd_store.specs.Growth.{KeepsNodes, AddsAtMost, IsFullOnlyPast}
 use Rattle.bdd_store.proofs.GrowthLemmas.{full-first, full-more}
 use Rattle.netlist.specs.declared.parts.Parts.{Parts}
 use Rattle.care_sets.specs.Care.{CareSet}
 use Rattle.fixpoint.specs.Working.{HasLargeCover}
-use Rattle.verdict.specs.Causes.{HasModelOver, IsOutOfNodes}
+use Rattle.verdict.specs.Causes.{HasModelOver, IsStoreFor, IsOutOfNodes}
 
 -- a bound serves where a lower one does
 
@@ -37,17 +37,20 @@ over-more Over s t u w p q n keeps less before is = elim is [
 
 -- ---- what a refusal says
 
-pub out_past : (old new : Arena) (net : Parts) (care : CareSet) (limit n : ℕ) → new.limit ≡ limit → IsFullOnlyPast old new n → IsOutOfNodes new net care limit
-out_past old new net care limit n is full = record { cause = inl (full.full ∙ is) }
+pub IsStoreFor-kept : {s t : Arena} {net : Parts} {limit : ℕ} → KeepsNodes s t → IsStoreFor s net limit → IsStoreFor t net limit
+IsStoreFor-kept keeps is = record { variables = keeps.vars ∙ is.variables; most = keeps.limit ∙ is.most }
 
-pub out_care : (old new : Arena) (net : Parts) (care : CareSet) (limit n : ℕ) → old.limit ≡ limit → KeepsNodes old new → HasModelOver care old.limit ⊎ IsFullOnlyPast old new n → IsOutOfNodes new net care limit
-out_care old new net care limit n old_is keeps is = elim is [
-  | inl over ↦ record { cause = inr (inr (subst (HasModelOver care) old_is over)) }
-  | inr full ↦ out_past old new net care limit n (keeps.limit ∙ old_is) full
+pub out_past : (old new : Arena) (net : Parts) (care : CareSet) (limit n : ℕ) → IsStoreFor new net limit → IsFullOnlyPast old new n → IsOutOfNodes new net care limit
+out_past old new net care limit n store full = record { store = store; cause = inl (full.full ∙ store.most) }
+
+pub out_care : (old new : Arena) (net : Parts) (care : CareSet) (limit n : ℕ) → IsStoreFor old net limit → KeepsNodes old new → HasModelOver care old.limit ⊎ IsFullOnlyPast old new n → IsOutOfNodes new net care limit
+out_care old new net care limit n store keeps is = elim is [
+  | inl over ↦ record { store = IsStoreFor-kept keeps store; cause = inr (inr (subst (HasModelOver care) store.most over)) }
+  | inr full ↦ out_past old new net care limit n (IsStoreFor-kept keeps store) full
 ]
 
-pub out_solved : (old new : Arena) (net : Parts) (care : CareSet) (limit n : ℕ) → old.limit ≡ limit → KeepsNodes old new → HasLargeCover net old.limit ⊎ IsFullOnlyPast old new n → IsOutOfNodes new net care limit
-out_solved old new net care limit n old_is keeps is = elim is [
-  | inl over ↦ record { cause = inr (inl (subst (HasLargeCover net) old_is over)) }
-  | inr full ↦ out_past old new net care limit n (keeps.limit ∙ old_is) full
+pub out_solved : (old new : Arena) (net : Parts) (care : CareSet) (limit n : ℕ) → IsStoreFor old net limit → KeepsNodes old new → HasLargeCover net old.limit ⊎ IsFullOnlyPast old new n → IsOutOfNodes new net care limit
+out_solved old new net care limit n store keeps is = elim is [
+  | inl over ↦ record { store = IsStoreFor-kept keeps store; cause = inr (inl (subst (HasLargeCover net) store.most over)) }
+  | inr full ↦ out_past old new net care limit n (IsStoreFor-kept keeps store) full
 ]

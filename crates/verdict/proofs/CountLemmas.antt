@@ -6,7 +6,7 @@ use Rattle.std.proofs.lemmas.Bool.{and_parts, and_from, eqb-true, eq-eqb}
 use Rattle.std.proofs.lemmas.List.{length-map}
 use Rattle.bdd_store.specs.declared.node.Node.{Node}
 use Rattle.bdd_store.specs.declared.node.Entry.{Entry}
-use Rattle.bdd_store.specs.Arena.{Arena, chosen, den, den_within}
+use Rattle.bdd_store.specs.Arena.{Arena, index, is_marked, flipped, chosen, den, den_within}
 use Rattle.bdd_store.specs.Soundness.{IsSound}
 use Rattle.cyc_base.specs.declared.trit.Trit.{Trit}
 use Rattle.cyc_base.specs.declared.trit.Trit.TheVariants.{Zero, One, X}
@@ -20,7 +20,8 @@ use Rattle.loops.proofs.Reading.{map_agree}
 use Rattle.care_sets.specs.Care.{CareSet, columns, is_one, is_care_vector}
 use Rattle.refusals.specs.Refusals.{is_x}
 use Rattle.refusals.proofs.RefusalLemmas.{bits_back, length-bits}
-use Rattle.verdict.specs.Sets.{Tells, AreColumns}
+use Rattle.verdict.specs.Sets.{Tells}
+use Rattle.isolation.specs.Columns.{AreColumns}
 use Rattle.verdict.specs.Verdicts.{are_care_values}
 
 -- ---- lists of any length
@@ -53,22 +54,21 @@ fit-whole (suc n) [] long = absurd (omega (arith, long))
 fit-whole (suc n) (b ∷ bs) long = ap (λ l. b ∷ l) (fit-whole n bs (omega (arith, long)))
 
 -- a node reads the bits at variables of its store alone
-within-fit : (vars : ℕ) (es : List Entry) → IsSound vars es → (bs : List Bool) (k n : ℕ) → den_within k es n (fit vars bs) ≡ den_within k es n bs
+within-fit : (vars : ℕ) (es : List Entry) → IsSound vars es → (bs : List Bool) (k i : ℕ) → den_within k es i (fit vars bs) ≡ den_within k es i bs
 unfolding den_within
-within-fit vars es sound bs zero n = refl
+within-fit vars es sound bs zero i = refl
 within-fit vars es sound bs (suc k) zero = refl
-within-fit vars es sound bs (suc k) (suc zero) = refl
-within-fit vars es sound bs (suc k) (suc (suc p)) = by (within-fit vars es sound bs k) (slice_get es p) refl
+within-fit vars es sound bs (suc k) (suc p) = by (within-fit vars es sound bs k) (slice_get es p) refl
   where
-    by : ((n : ℕ) → den_within k es n (fit vars bs) ≡ den_within k es n bs) → (o : Option Entry) → slice_get es p ≡ o →
-        option_map_or (λ e. den_within k es (chosen e (fit vars bs)) (fit vars bs)) o false ≡ option_map_or (λ e. den_within k es (chosen e bs) bs) o false
+    by : ((i : ℕ) → den_within k es i (fit vars bs) ≡ den_within k es i bs) → (o : Option Entry) → slice_get es p ≡ o →
+        option_map_or (λ e. flipped (is_marked (chosen e (fit vars bs))) (den_within k es (index (chosen e (fit vars bs))) (fit vars bs))) o true ≡ option_map_or (λ e. flipped (is_marked (chosen e bs)) (den_within k es (index (chosen e bs)) bs)) o true
     by before None is = refl
     by before (Some e) is =
-        before (chosen e (fit vars bs))
-        ∙ ap (λ (t : Bool). den_within k es (if t then e.hi.number else e.lo.number) bs) (get_or-fit vars bs e.var (sound.each p e is).within)
+        ap (flipped (is_marked (chosen e (fit vars bs)))) (before (index (chosen e (fit vars bs))))
+        ∙ ap (λ (t : Bool). let n : Node = if t then e.hi else e.lo in flipped (is_marked n) (den_within k es (index n) bs)) (get_or-fit vars bs e.var (sound.each p e is).within)
 
 den-fit : (a : Arena) → IsSound a.vars a.entries → (n : Node) (bs : List Bool) → den a n (fit a.vars bs) ≡ den a n bs
-den-fit a sound n bs = within-fit a.vars a.entries sound bs (suc n.number) n.number
+den-fit a sound n bs = ap (flipped (is_marked n)) (within-fit a.vars a.entries sound bs (suc (index n)) (index n))
 
 values_of-fit : (a : Arena) → IsSound a.vars a.entries → (rails : List Rails) (bs : List Bool) → values_of a rails (fit a.vars bs) ≡ values_of a rails bs
 values_of-fit a sound rails bs =
@@ -77,7 +77,7 @@ values_of-fit a sound rails bs =
 
 -- ---- values of care vectors
 
-known-bits : (ts : List Trit) → list_all (λ value. not (is_x value)) ts ≡ true → ts ≡ bits (map is_one ts)
+pub known-bits : (ts : List Trit) → list_all (λ value. not (is_x value)) ts ≡ true → ts ≡ bits (map is_one ts)
 known-bits [] e = refl
 known-bits (t ∷ ts) e =
     let p = and_parts (not (is_x t)) (list_all (λ value. not (is_x value)) ts) e in
@@ -93,7 +93,7 @@ bits-known [] = refl
 bits-known (false ∷ w) = bits-known w
 bits-known (true ∷ w) = bits-known w
 
-care-values : (net : Parts) (care : CareSet) (w : List Bool) → length w ≡ columns net → is_care_vector net care w ≡ true → are_care_values net care (bits w) ≡ true
+pub care-values : (net : Parts) (care : CareSet) (w : List Bool) → length w ≡ columns net → is_care_vector net care w ≡ true → are_care_values net care (bits w) ≡ true
 care-values net care w wide counts =
     and_from _ _ (bits-known w) (and_from _ _ (eq-eqb (length (bits w)) (columns net) (length-bits w ∙ wide)) (ap (is_care_vector net care) (bits_back w) ∙ counts))
 

@@ -25,12 +25,11 @@ use Rattle.care_sets.specs.declared.model.CareModel.{CareModel}
 use Rattle.care_sets.specs.Binding.{IsCareOf}
 use Rattle.care_sets.specs.Care.{CareSet, columns, is_one, inputs_at, holds_at, is_in_invariant, is_care_vector, HasValues}
 use Rattle.care_sets.proofs.CareLemmas.{states_serve_invariant}
-use Rattle.refusals.specs.Refusals.{next_state, undetermined_refusal}
-use Rattle.refusals.proofs.LawLemmas.{all_determined}
+use Rattle.refusals.specs.Refusals.{next_state}
 use Rattle.refusals.proofs.RefusalLemmas.{next_state_is, length-fix_gates, length-next_state}
 use Rattle.refusals.proofs.ShowingLemmas.{care_vector_decides}
 use Rattle.verdict.specs.Enough.{read_by, IsOfModel, IsOfDecision, SaysCare, IsOfNext}
-use Rattle.verdict.specs.Next.{next_within}
+use Rattle.verdict.specs.Next.{next_within, LoadsAreKnown}
 use Rattle.verdict.specs.Sets.{Tells, difference}
 use Rattle.verdict.proofs.CareLemmas.{model_is}
 use Rattle.verdict.proofs.DecisionLemmas.{IsMade, made-listed, made-told, made-two, made-signal}
@@ -136,8 +135,8 @@ record IsNextInside (net : Parts) (care : CareSet) : Type 0 where
   pub made : IsMade net care of
   pub same : (v : List Bool) → length v ≡ columns net → is_care_vector net care v ≡ true → is_in_invariant care (next_state net v) ≡ of v
 
-next-inside : (net : Parts) (care : CareSet) → IsNetlist net → IsCareOf net care → undetermined_refusal net care ≡ None → IsNextInside net care
-next-inside net care valid bound determined = by care.invariant refl
+next-inside : (net : Parts) (care : CareSet) → IsNetlist net → IsCareOf net care → LoadsAreKnown net care → IsNextInside net care
+next-inside net care valid bound loads = by care.invariant refl
   where
     by : (o : Option CareModel) → care.invariant ≡ o → IsNextInside net care
     by None none = record {
@@ -151,15 +150,15 @@ next-inside net care valid bound determined = by care.invariant refl
       same = λ v long counts.
           let q : List Bool = next_state net v in
           let has : HasValues q model = model_is care.invariant model (HasValues q) there (states_serve_invariant net care q bound (length-next_state net v)) in
-          let state : next net (bits v) ≡ bits q = next_state_is net v valid long (all_determined net care v determined (care_vector_decides net care v long counts)) in
+          let state : next net (bits v) ≡ bits q = next_state_is net v (loads v (care_vector_decides net care v long counts)) in
           ap (λ p. option_map_or (λ m. holds_at m q) p true) there ∙ holds-is net care valid model there q v has state;
     }
 
-pub leaves-fit : (net : Parts) (care : CareSet) (a : Arena) (set inside : Node) {w : ℕ} → IsNetlist net → IsCareOf net care → undetermined_refusal net care ≡ None → a.vars ≡ columns net → Tells a set (is_care_vector net care) →
+pub leaves-fit : (net : Parts) (care : CareSet) (a : Arena) (set inside : Node) {w : ℕ} → IsNetlist net → IsCareOf net care → LoadsAreKnown net care → a.vars ≡ columns net → Tells a set (is_care_vector net care) →
     ((q v : List Bool) → length v ≡ a.vars → den a set v ≡ true → next net (bits v) ≡ bits q → den a inside v ≡ is_in_invariant care q) → IsWide a.vars (IsOfDecision net care) w →
     nodes a.vars (difference a set inside) ≤ w
-leaves-fit net care a set inside valid bound determined vars told inside_is wide =
-    let n = next-inside net care valid bound determined in
+leaves-fit net care a set inside valid bound loads vars told inside_is wide =
+    let n = next-inside net care valid bound loads in
     made-two vars wide (λ p q. p && not q) (den a set) n.of (difference a set inside) (made-told vars (SaysCare (λ v. refl)) told) n.made
     (λ v long. by v long n (den a set v) refl)
   where
@@ -168,5 +167,5 @@ leaves-fit net care a set inside valid bound determined vars told inside_is wide
     by v long n true is =
         let wide_v : length v ≡ columns net = long ∙ vars in
         let counts : is_care_vector net care v ≡ true = sym (told.value v long) ∙ is in
-        let state : next net (bits v) ≡ bits (next_state net v) = next_state_is net v valid wide_v (all_determined net care v determined (care_vector_decides net care v wide_v counts)) in
+        let state : next net (bits v) ≡ bits (next_state net v) = next_state_is net v (loads v (care_vector_decides net care v wide_v counts)) in
         ap not (inside_is (next_state net v) v long is state ∙ n.same v wide_v counts)

@@ -1,10 +1,11 @@
+mod AloneLemmas
 mod CareLemmas
 mod CauseLemmas
-mod ColumnLemmas
 mod CountLemmas
 mod DecisionLemmas
 mod EnoughLemmas
 mod LeavesLemmas
+mod MarkLemmas
 mod NextLemmas
 mod PartLemmas
 mod SetLemmas

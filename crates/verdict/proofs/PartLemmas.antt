@@ -1,10 +1,11 @@
 -- What the least vectors of sets say of the parts of acceptance.
-use Rattle.std.proofs.Common.{◌≡◌, inl, inr, ℕ, zero, suc, ◌+◌, ◌<◌, ◌≤◌, Bool, true, false, not, ◌&&◌, cond, List, [], ◌∷◌, length, map, drop, get_or, Option, Some, None, refl, sym, ap, ap₂, ◌∙◌, subst, arith}
-use Rattle.std.specs.Prelude.{find, is_none, IfSome}
-use Rattle.std.specs.List.{list_any}
+use Rattle.std.proofs.Common.{◌≡◌, ◌≢◌, inl, inr, ℕ, zero, suc, ◌+◌, ◌<◌, ◌≤◌, Bool, true, false, not, ◌&&◌, cond, List, [], ◌∷◌, length, map, take, drop, get_or, Option, Some, None, refl, sym, ap, ap₂, ◌∙◌, subst, arith}
+use Rattle.std.specs.Prelude.{find, filter, is_none, IfSome}
+use Rattle.std.specs.List.{All}
 use Rattle.std.specs.Option.{option_or, option_map, option_and_then}
 use Rattle.std.proofs.lemmas.Bool.{cases_lt}
-use Rattle.std.proofs.lemmas.List.{length-drop}
+use Rattle.std.proofs.lemmas.List.{length-drop, take_all}
+use Rattle.std.proofs.lemmas.List.Filters.{length-filter_more}
 use Rattle.std.proofs.lemmas.List.Folds.{find-append}
 use Rattle.bdd_store.specs.declared.node.Node.{Node}
 use Rattle.bdd_store.specs.Arena.{Arena, den, IsNodeOf}
@@ -19,23 +20,27 @@ use Rattle.dual_rail.specs.declared.rail.Rails.{Rails}
 use Rattle.dual_rail.specs.Rails.{trit_of, value_of, values_of}
 use Rattle.dual_rail.proofs.SurelyLemmas.{value_of-kept, values_of-kept, All-rails-kept}
 use Rattle.netlist.specs.declared.parts.Parts.{Parts}
-use Rattle.netlist.specs.Netlists.{IsNetlist, gate_sig}
-use Rattle.netlist.specs.Fixpoint.{next}
+use Rattle.netlist.specs.Netlists.{gate_sig}
+use Rattle.netlist.specs.Fixpoint.{next, fix_gates}
 use Rattle.fixpoint.specs.Sweeping.{rails_at}
 use Rattle.fixpoint.proofs.WireLemmas.{rails_at-proper}
 use Rattle.care_sets.specs.declared.model.CareModel.{CareModel}
 use Rattle.care_sets.specs.Binding.{IsCareOf, IsBoundTo}
 use Rattle.care_sets.specs.Care.{CareSet, columns, state_of, is_in_invariant, is_care_vector, IsCareVector, HasValues}
 use Rattle.care_sets.proofs.CareLemmas.{vectors_serve_assume, states_serve_invariant}
-use Rattle.refusals.specs.declared.refusal.Refusal.{Refusal}
 use Rattle.refusals.specs.declared.refusal.Refusal.TheVariants.{Initial, Undetermined, Leaves}
-use Rattle.refusals.specs.Refusals.{is_initial, is_x, is_undetermined, gate_sigs, care_vectors, next_state, leaves, initial_refusal, undetermined_refusal, leaves_refusal}
+use Rattle.refusals.specs.declared.observe.Observe.{Observe}
+use Rattle.refusals.specs.Acceptance.{gate_sigs, observed}
+use Rattle.refusals.specs.Refusals.{is_initial, is_x, is_undetermined, is_among, observed_gates, care_vectors, next_state, leaves, initial_refusal, undetermined_refusal, leaves_refusal}
 use Rattle.cyc_base.specs.Vectors.{vectors}
-use Rattle.refusals.proofs.FirstLemmas.{find-map, find-filter, any-find}
+use Rattle.refusals.proofs.FirstLemmas.{find-map, find-filter, any-find, nothing_passes}
 use Rattle.refusals.proofs.ShowingLemmas.{care_vector_decides}
-use Rattle.refusals.proofs.RefusalLemmas.{length-gate_sigs, gate_sig_at, find_none-all, no_first, next_state_is}
-use Rattle.refusals.proofs.LawLemmas.{care_test, all_determined}
+use Rattle.refusals.proofs.RefusalLemmas.{length-gate_sigs, length-fix_gates, gate_sig_at, gate_wire, known-is_x, fails_after, find_none-all, no_first, next_state_is}
+use Rattle.refusals.proofs.LawLemmas.{care_test, observed_test, is_loose}
+use Rattle.verdict.specs.Next.{LoadsAreKnown}
+use Rattle.verdict.specs.Observed.{AreMarksOf}
 use Rattle.verdict.specs.Sets.{Tells, AreFixed, starts, has_state_inside, difference, ReadsWithin}
+use Rattle.verdict.specs.Verdicts.{AreLoose}
 use Rattle.verdict.proofs.CareLemmas.{value_at-place}
 use Rattle.verdict.proofs.SetLemmas.{find-alike}
 
@@ -135,40 +140,112 @@ first-place p (x ∷ xs) (suc k) d inside here before =
 
 -- whether a gate is unknown at some vector of care
 some-unknown : (net : Parts) (care : CareSet) (s : Sig) →
-    list_any (is_undetermined net s) (care_vectors net care) ≡ not (is_none (find (λ v. is_care_vector net care v && is_undetermined net s v) (vectors (columns net))))
+    is_loose net care s ≡ not (is_none (find (λ v. is_care_vector net care v && is_undetermined net s v) (vectors (columns net))))
 some-unknown net care s = any-find (is_undetermined net s) (care_vectors net care) ∙ ap (λ o. not (is_none o)) (care_test net care (is_undetermined net s))
 
--- the first gate that is
-pub undetermined-found : (net : Parts) (care : CareSet) (k : ℕ) (v : List Bool) → k < length net.gates →
-    ((j : ℕ) → j < k → find (λ w. is_care_vector net care w && is_undetermined net (gate_sig net j) w) (vectors (columns net)) ≡ None) →
-    find (λ w. is_care_vector net care w && is_undetermined net (gate_sig net k) w) (vectors (columns net)) ≡ Some v →
-    Some (Undetermined v (gate_sig net k)) ≡ undetermined_refusal net care
-undetermined-found net care k v inside before found =
-    let none : Sig = gate_sig net k in
-    let long = length-gate_sigs net in
-    let here : get_or (gate_sigs net) k none ≡ gate_sig net k = gate_sig_at net k none inside in
-    let first : find (λ s. list_any (is_undetermined net s) (care_vectors net care)) (gate_sigs net) ≡ Some (gate_sig net k) =
-    first-place (λ s. list_any (is_undetermined net s) (care_vectors net care)) (gate_sigs net) k none (omega (arith, long, inside))
-    (ap (λ s. list_any (is_undetermined net s) (care_vectors net care)) here ∙ some-unknown net care (gate_sig net k) ∙ ap (λ o. not (is_none o)) found)
-    (λ j less. ap (λ s. list_any (is_undetermined net s) (care_vectors net care)) (gate_sig_at net j none (omega (arith, less, inside)))
-    ∙ some-unknown net care (gate_sig net j) ∙ ap (λ o. not (is_none o)) (before j less))
-    ∙ ap (λ s. Some s) here in
-    sym (ap (option_map (λ (u : Sig × List Bool). Undetermined u.1 u.0)) (
-    ap (option_and_then (λ (s : Sig). option_map (λ (w : List Bool). let p : Sig × List Bool = (s, w) in p) (find (is_undetermined net s) (care_vectors net care)))) first
-    ∙ ap (option_map (λ (w : List Bool). let p : Sig × List Bool = (gate_sig net k, w) in p)) (care_test net care (is_undetermined net (gate_sig net k)) ∙ found)))
+-- ---- observed gates
 
--- or none is
-pub undetermined-none : (net : Parts) (care : CareSet) (n : ℕ) → length net.gates ≤ n →
-    ((j : ℕ) → j < n → find (λ w. is_care_vector net care w && is_undetermined net (gate_sig net j) w) (vectors (columns net)) ≡ None) →
-    (let nothing : Option Refusal = None in nothing) ≡ undetermined_refusal net care
-undetermined-none net care n all before =
-    let long = length-gate_sigs net in
-    sym (ap (option_map (λ (u : Sig × List Bool). Undetermined u.1 u.0)) (no_first (is_undetermined net) (gate_sigs net) (care_vectors net care)
-    (find_none-all (λ s. list_any (is_undetermined net s) (care_vectors net care)) (gate_sigs net)
-    (λ k d inside.
-    let gate : k < length net.gates = omega (arith, inside, long) in
-    ap (λ s. list_any (is_undetermined net s) (care_vectors net care)) (gate_sig_at net k d gate)
-    ∙ some-unknown net care (gate_sig net k) ∙ ap (λ o. not (is_none o)) (before k (omega (arith, gate, all)))))))
+-- the gate is known on care
+abbrev pub IsKnownOnCare : Parts → CareSet → ℕ → Type 0
+IsKnownOnCare net care k = find (λ w. is_care_vector net care w && is_undetermined net (gate_sig net k) w) (vectors (columns net)) ≡ None
+
+known-loose : (net : Parts) (care : CareSet) (k : ℕ) → IsKnownOnCare net care k → is_loose net care (gate_sig net k) ≡ false
+known-loose net care k known = some-unknown net care (gate_sig net k) ∙ ap (λ o. not (is_none o)) known
+
+-- those of the first gates that are marked are known
+abbrev pub AreKnownBelow : Parts → CareSet → List Bool → ℕ → Type 0
+AreKnownBelow net care marks n = (k : ℕ) → k < n → get_or marks k false ≡ true → IsKnownOnCare net care k
+
+module _ (net : Parts) (care : CareSet) (what : Observe) (marks : List Bool) (marked : AreMarksOf net (observed net what) marks) where
+  -- a gate that is known where it is marked
+  passes-not : (k : ℕ) → k < length net.gates → (get_or marks k false ≡ true → IsKnownOnCare net care k) →
+      (is_among (observed net what) (gate_sig net k) && is_loose net care (gate_sig net k)) ≡ false
+  passes-not k inside known =
+      fails_after (is_among (observed net what) (gate_sig net k)) (is_loose net care (gate_sig net k))
+      (λ seen. known-loose net care k (known (marked.each k inside ∙ seen)))
+
+  -- the first gate that is unknown and observed
+  pub undetermined-found : (k : ℕ) (v : List Bool) → k < length net.gates → AreKnownBelow net care marks k → get_or marks k false ≡ true →
+      find (λ w. is_care_vector net care w && is_undetermined net (gate_sig net k) w) (vectors (columns net)) ≡ Some v →
+      undetermined_refusal net care what ≡ Some (Undetermined v (gate_sig net k))
+  undetermined-found k v inside before mark found =
+      let none : Sig = gate_sig net k in
+      let long = length-gate_sigs net in
+      let test : Sig → Bool = λ s. is_among (observed net what) s && is_loose net care s in
+      let here : get_or (gate_sigs net) k none ≡ gate_sig net k = gate_sig_at net k none inside in
+      let passes : test (gate_sig net k) ≡ true =
+      ap₂ (λ x y. x && y) (sym (marked.each k inside) ∙ mark) (some-unknown net care (gate_sig net k) ∙ ap (λ o. not (is_none o)) found) in
+      let first : find (is_loose net care) (observed_gates net what) ≡ Some (gate_sig net k) =
+      observed_test net what (is_loose net care)
+      ∙ first-place test (gate_sigs net) k none (omega (arith, long, inside)) (ap test here ∙ passes)
+      (λ j less. ap test (gate_sig_at net j none (omega (arith, less, inside))) ∙ passes-not j (omega (arith, less, inside)) (before j less))
+      ∙ ap (λ s. Some s) here in
+      ap (option_map (λ (u : Sig × List Bool). Undetermined u.1 u.0)) (
+      ap (option_and_then (λ (s : Sig). option_map (λ (w : List Bool). let p : Sig × List Bool = (s, w) in p) (find (is_undetermined net s) (care_vectors net care)))) first
+      ∙ ap (option_map (λ (w : List Bool). let p : Sig × List Bool = (gate_sig net k, w) in p)) (care_test net care (is_undetermined net (gate_sig net k)) ∙ found))
+
+  -- or none is
+  pub undetermined-none : (n : ℕ) → length net.gates ≤ n → AreKnownBelow net care marks n → undetermined_refusal net care what ≡ None
+  undetermined-none n all before =
+      let long = length-gate_sigs net in
+      let test : Sig → Bool = λ s. is_among (observed net what) s && is_loose net care s in
+      ap (option_map (λ (u : Sig × List Bool). Undetermined u.1 u.0)) (no_first (is_undetermined net) (observed_gates net what) (care_vectors net care)
+      (observed_test net what (is_loose net care)
+      ∙ find_none-all test (gate_sigs net)
+      (λ k d inside.
+      let gate : k < length net.gates = omega (arith, inside, long) in
+      ap test (gate_sig_at net k d gate) ∙ passes-not k gate (before k (omega (arith, gate, all))))))
+
+-- one gate more, which is known or not marked
+pub known-more : (net : Parts) (care : CareSet) (marks : List Bool) (n : ℕ) → AreKnownBelow net care marks n → (get_or marks n false ≡ true → IsKnownOnCare net care n) →
+    AreKnownBelow net care marks (n + 1)
+known-more net care marks n before here k less = elim (cases_lt k n) [
+  | inl low ↦ before k low
+  | inr high ↦
+      let same : n ≡ k = omega (arith, less, high) in
+      subst (λ m. get_or marks m false ≡ true → IsKnownOnCare net care m) same here
+]
+
+-- ---- loose gates
+
+-- how many of the first gates are unknown at some vector of care
+abbrev pub loose_below : Parts → CareSet → ℕ → ℕ
+loose_below net care n = length (filter (is_loose net care) (take n (gate_sigs net)))
+
+loose-step : (net : Parts) (care : CareSet) (n : ℕ) → n < length net.gates → loose_below net care (n + 1) ≡ loose_below net care n + cond (is_loose net care (gate_sig net n)) 1 0
+loose-step net care n inside =
+    length-filter_more (is_loose net care) (gate_sigs net) n (gate_sig net n) (omega (arith, length-gate_sigs net, inside))
+    ∙ ap (λ s. loose_below net care n + cond (is_loose net care s) 1 0) (gate_sig_at net n (gate_sig net n) inside)
+
+-- one more that is
+pub loose-more : (net : Parts) (care : CareSet) (n loose : ℕ) (v : List Bool) → n < length net.gates → loose ≡ loose_below net care n →
+    find (λ w. is_care_vector net care w && is_undetermined net (gate_sig net n) w) (vectors (columns net)) ≡ Some v → loose + 1 ≡ loose_below net care (n + 1)
+loose-more net care n loose v inside before found =
+    let is : is_loose net care (gate_sig net n) ≡ true = some-unknown net care (gate_sig net n) ∙ ap (λ o. not (is_none o)) found in
+    ap (λ m. m + 1) before ∙ sym (loose-step net care n inside ∙ ap (λ t. loose_below net care n + cond t 1 0) is)
+
+-- or isn't
+pub loose-same : (net : Parts) (care : CareSet) (n loose : ℕ) → n < length net.gates → loose ≡ loose_below net care n → IsKnownOnCare net care n → loose ≡ loose_below net care (n + 1)
+loose-same net care n loose inside before known =
+    before ∙ sym (loose-step net care n inside ∙ ap (λ t. loose_below net care n + cond t 1 0) (known-loose net care n known) ∙ omega arith)
+
+-- all of them
+pub loose-all : (net : Parts) (care : CareSet) (n loose : ℕ) → length net.gates ≤ n → loose ≡ loose_below net care n → AreLoose net care loose
+loose-all net care n loose all is = is ∙ ap (λ (xs : List Sig). length (filter (is_loose net care) xs)) (take_all n (gate_sigs net) (omega (arith, length-gate_sigs net, all)))
+
+-- where none is unknown on care
+pub loose-none : (net : Parts) (care : CareSet) → ((v : List Bool) → IsCareVector net care v → All (λ value. value ≢ X) (fix_gates net (bits v))) → AreLoose net care 0
+loose-none net care known = loose-all net care (length net.gates) 0 (omega arith) (below (length net.gates) (omega arith))
+  where
+    below : (n : ℕ) → n ≤ length net.gates → 0 ≡ loose_below net care n
+    below zero all = refl
+    below (suc n) all = subst (λ m. 0 ≡ loose_below net care m) (let e : n + 1 ≡ suc n = omega arith in e) (loose-same net care n 0 (omega (arith, all)) (below n (omega (arith, all))) (gate n (omega (arith, all))))
+      where
+        gate : (n : ℕ) → n < length net.gates → IsKnownOnCare net care n
+        gate n inside =
+            nothing_passes (columns net) (λ w. is_care_vector net care w && is_undetermined net (gate_sig net n) w)
+            (λ w wide. fails_after (is_care_vector net care w) (is_undetermined net (gate_sig net n) w)
+            (λ counts. ap is_x (gate_wire net w n wide) ∙ known-is_x (get_or (fix_gates net (bits w)) n X) (known w (care_vector_decides net care w wide counts) n X (omega (arith, length-fix_gates net (bits w), inside)))))
 
 -- ---- next states
 
@@ -220,13 +297,13 @@ assume-reads net care width bound is = by care.assume bound.assume (vectors_serv
     }
 
 -- where care is so, the test of the next state is that of the rails restricted to care
-pub leaves-is : (net : Parts) (care : CareSet) (s m e x : Arena) (set inside outside : Node) (latches : List Rails) (found : Option (List Bool)) → IsNetlist net → s.vars ≡ columns net → KeepsNodes s e → KeepsNodes e x →
-    Tells s set (is_care_vector net care) → undetermined_refusal net care ≡ None →
+pub leaves-is : (net : Parts) (care : CareSet) (s m e x : Arena) (set inside outside : Node) (latches : List Rails) (found : Option (List Bool)) → s.vars ≡ columns net → KeepsNodes s e → KeepsNodes e x →
+    Tells s set (is_care_vector net care) → LoadsAreKnown net care →
     ((v : List Bool) → length v ≡ s.vars → den s set v ≡ true → values_of m latches v ≡ next net (bits v)) →
     ((q v : List Bool) → values_of m latches v ≡ bits q → den e inside v ≡ is_in_invariant care q) →
     ((v : List Bool) → den x outside v ≡ difference e set inside v) →
     found ≡ find (den x outside) (vectors x.vars) → option_map (λ v. Leaves v (next_state net v)) found ≡ leaves_refusal net care
-leaves-is net care s m e x set inside outside latches found valid vars keeps more told determined next_is inside_is outside_is found_is =
+leaves-is net care s m e x set inside outside latches found vars keeps more told loads next_is inside_is outside_is found_is =
     ap (option_map (λ v. Leaves v (next_state net v))) (found_is
     ∙ told-first x outside (λ v. is_care_vector net care v && leaves net care v) (columns net) (more.vars ∙ keeps.vars ∙ vars) same
     ∙ sym (care_test net care (leaves net care)))
@@ -236,7 +313,7 @@ leaves-is net care s m e x set inside outside latches found valid vars keeps mor
     by v wide true is =
         let wide_s : length v ≡ s.vars = wide ∙ sym vars in
         let counts : IsCareVector net care v = care_vector_decides net care v wide (sym (told.value v wide_s) ∙ is) in
-        let state : next net (bits v) ≡ bits (next_state net v) = next_state_is net v valid wide (all_determined net care v determined counts) in
+        let state : next net (bits v) ≡ bits (next_state net v) = next_state_is net v (loads v counts) in
         ap not (inside_is (next_state net v) v (next_is v wide_s is ∙ state))
 
     same : (v : List Bool) → length v ≡ columns net → den x outside v ≡ (is_care_vector net care v && leaves net care v)
@@ -245,18 +322,6 @@ leaves-is net care s m e x set inside outside latches found valid vars keeps mor
         ∙ ap (λ t. t && not (den e inside v)) (keeps.function set v told.node)
         ∙ by v wide (den s set v) refl
         ∙ ap (λ t. t && leaves net care v) (told.value v (wide ∙ sym vars))
-
--- one gate more is known on care
-pub known-more : (net : Parts) (care : CareSet) (n : ℕ) →
-    ((k : ℕ) → k < n → find (λ v. is_care_vector net care v && is_undetermined net (gate_sig net k) v) (vectors (columns net)) ≡ None) →
-    find (λ v. is_care_vector net care v && is_undetermined net (gate_sig net n) v) (vectors (columns net)) ≡ None →
-    (k : ℕ) → k < n + 1 → find (λ v. is_care_vector net care v && is_undetermined net (gate_sig net k) v) (vectors (columns net)) ≡ None
-known-more net care n before here k less = elim (cases_lt k n) [
-  | inl low ↦ before k low
-  | inr high ↦
-      let same : n ≡ k = omega (arith, less, high) in
-      subst (λ m. find (λ v. is_care_vector net care v && is_undetermined net (gate_sig net m) v) (vectors (columns net)) ≡ None) same here
-]
 
 -- the rails of signals stay so where nodes are kept
 pub AreFixed-kept : {net : Parts} {s t : Arena} {rails : List Rails} → KeepsNodes s t → AreFixed net s rails → AreFixed net t rails

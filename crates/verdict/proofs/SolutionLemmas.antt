@@ -36,7 +36,8 @@ use Rattle.fixpoint.proofs.CutLemmas.{one-of, zero-of}
 use Rattle.fixpoint.proofs.WorkLemmas.{sweeps_are_working, gate_parts_agree}
 use Rattle.care_sets.specs.Care.{CareSet, columns, is_care_vector}
 use Rattle.verdict.specs.Enough.{IsOfDecision, IsColumn, SaysCare, IsOfNetlist}
-use Rattle.verdict.specs.Sets.{Tells, AreColumns}
+use Rattle.verdict.specs.Sets.{Tells}
+use Rattle.isolation.specs.Columns.{AreColumns}
 use Rattle.verdict.proofs.DecisionLemmas.{IsMade, made-listed, made-told, made-wide}
 
 -- ---- the loops that blocks and a cut tell are those of the netlist

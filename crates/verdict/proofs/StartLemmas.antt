@@ -22,7 +22,8 @@ use Rattle.fixpoint.specs.Sweeping.{rails_at}
 use Rattle.care_sets.specs.Care.{columns, state_of}
 use Rattle.refusals.specs.Refusals.{may_start}
 use Rattle.refusals.proofs.ShowingLemmas.{all_may_start}
-use Rattle.verdict.specs.Sets.{AreColumns, starts}
+use Rattle.isolation.specs.Columns.{AreColumns}
+use Rattle.verdict.specs.Sets.{starts}
 use Rattle.verdict.proofs.CareLemmas.{value_at-place}
 use Rattle.verdict.proofs.SizeLemmas.{nodes-part}
 

@@ -20,38 +20,41 @@ use Rattle.fixpoint.specs.Solved.{IsSolution}
 use Rattle.care_sets.specs.Care.{CareSet, columns, state_of, is_allowed, is_care_vector}
 use Rattle.refusals.specs.declared.refusal.Refusal.{Refusal}
 use Rattle.refusals.specs.declared.refusal.Refusal.TheVariants.{EmptyCare}
+use Rattle.refusals.specs.declared.observe.Observe.{Observe}
 use Rattle.refusals.specs.Acceptance.{Accepts}
 use Rattle.refusals.specs.Refusals.{initial_refusal, empty_refusal, undetermined_refusal, leaves_refusal, refusal}
 use Rattle.cyc_base.specs.Vectors.{vectors}
 use Rattle.refusals.proofs.FirstLemmas.{empty-filter}
 use Rattle.refusals.proofs.LawLemmas.{accepted_without_refusal}
 use Rattle.refusals.proofs.RefusalLemmas.{length-fix_gates}
-use Rattle.verdict.specs.Sets.{Tells, AreColumns, AreFixed, has_state_inside}
+use Rattle.verdict.specs.Sets.{Tells, AreFixed, has_state_inside}
+use Rattle.isolation.specs.Columns.{AreColumns}
 use Rattle.verdict.specs.Verdicts.{later_refusal}
 use Rattle.verdict.proofs.PartLemmas.{told-first}
 
 -- ---- which part decides
 
-pub refused-initial : (net : Parts) (care : CareSet) (r : Refusal) → Some r ≡ initial_refusal net care → refusal net care ≡ Some r
-refused-initial net care r is =
-    ap (λ o. option_or o (option_or (empty_refusal net care) (option_or (undetermined_refusal net care) (option_or (leaves_refusal net care) None)))) (sym is)
+pub refused-initial : (net : Parts) (care : CareSet) (what : Observe) (r : Refusal) → Some r ≡ initial_refusal net care → refusal net care what ≡ Some r
+refused-initial net care what r is =
+    ap (λ o. option_or o (option_or (empty_refusal net care) (option_or (undetermined_refusal net care what) (option_or (leaves_refusal net care) None)))) (sym is)
 
-pub refused-empty : (net : Parts) (care : CareSet) → initial_refusal net care ≡ None → empty_refusal net care ≡ Some EmptyCare → refusal net care ≡ Some EmptyCare
-refused-empty net care initial is =
-    ap₂ (λ o p. option_or o (option_or p (option_or (undetermined_refusal net care) (option_or (leaves_refusal net care) None)))) initial is
+pub refused-empty : (net : Parts) (care : CareSet) (what : Observe) → initial_refusal net care ≡ None → empty_refusal net care ≡ Some EmptyCare → refusal net care what ≡ Some EmptyCare
+refused-empty net care what initial is =
+    ap₂ (λ o p. option_or o (option_or p (option_or (undetermined_refusal net care what) (option_or (leaves_refusal net care) None)))) initial is
 
 later-whole : (u l : Option Refusal) → option_or u (option_or l None) ≡ option_or u l
 later-whole (Some r) l = refl
 later-whole None None = refl
 later-whole None (Some r) = refl
 
-pub refused-later : (net : Parts) (care : CareSet) (found : Option Refusal) → initial_refusal net care ≡ None → empty_refusal net care ≡ None → found ≡ later_refusal net care → refusal net care ≡ found
-refused-later net care found initial empty is =
-    ap₂ (λ o p. option_or o (option_or p (option_or (undetermined_refusal net care) (option_or (leaves_refusal net care) None)))) initial empty
-    ∙ later-whole (undetermined_refusal net care) (leaves_refusal net care) ∙ sym is
+pub refused-later : (net : Parts) (care : CareSet) (what : Observe) (found : Option Refusal) → initial_refusal net care ≡ None → empty_refusal net care ≡ None → later_refusal net care what ≡ found →
+    refusal net care what ≡ found
+refused-later net care what found initial empty is =
+    ap₂ (λ o p. option_or o (option_or p (option_or (undetermined_refusal net care what) (option_or (leaves_refusal net care) None)))) initial empty
+    ∙ later-whole (undetermined_refusal net care what) (leaves_refusal net care) ∙ is
 
-pub accepts-is : (net : Parts) (care : CareSet) → IsNetlist net → refusal net care ≡ None → Accepts net care
-accepts-is net care valid none = (accepted_without_refusal net care valid).0 none
+pub accepts-is : (net : Parts) (care : CareSet) (what : Observe) → IsNetlist net → refusal net care what ≡ None → Accepts net care what
+accepts-is net care what valid none = (accepted_without_refusal net care what valid).0 none
 
 -- ---- the set of care vectors
 

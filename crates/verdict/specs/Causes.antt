@@ -3,13 +3,20 @@ use Rattle.std.specs.Prelude.{◌≡◌, ◌⊎◌, ℕ, length, IsSomeAnd}
 use Rattle.bdd_store.specs.Arena.{Arena}
 use Rattle.netlist.specs.declared.parts.Parts.{Parts}
 use Rattle.fixpoint.specs.Working.{HasLargeCover}
-use Rattle.care_sets.specs.Care.{CareSet}
+use Rattle.care_sets.specs.Care.{CareSet, columns}
 
 -- a model of the care set has a cover of more nodes than the limit
 abbrev pub HasModelOver : CareSet → ℕ → Type 0
 HasModelOver care limit =
     IsSomeAnd care.assume (λ model. HasLargeCover model.net limit) ⊎ IsSomeAnd care.invariant (λ model. HasLargeCover model.net limit)
 
--- what a node limit rests on: there are as many nodes, or a cover of the netlist or of a care model has more
+-- the diagrams have a variable for each column of the netlist, and may hold so many nodes
+pub record IsStoreFor (a : Arena) (net : Parts) (limit : ℕ) : Type 0 where
+  pub variables : a.vars ≡ columns net
+  pub most : a.limit ≡ limit
+
+-- What a node limit rests on: these diagrams hold as many nodes as they may, or a cover of the netlist or of a care
+-- model has more.
 pub record IsOutOfNodes (a : Arena) (net : Parts) (care : CareSet) (limit : ℕ) : Type 0 where
+  pub store : IsStoreFor a net limit
   pub cause : (length a.entries ≡ limit) ⊎ (HasLargeCover net limit ⊎ HasModelOver care limit)

@@ -1,7 +1,9 @@
+pub mod Alone
 pub mod Causes
 pub mod Costs
 pub mod Enough
 pub mod Laws
 pub mod Next
+pub mod Observed
 pub mod Sets
 pub mod Verdicts

@@ -1,5 +1,5 @@
 -- What latches load at the vectors of a set.
-use Rattle.std.specs.Prelude.{◌<◌, ◌≤◌, ◌&&◌, ℕ, Bool, List, length, replicate, if◌then◌else◌}
+use Rattle.std.specs.Prelude.{◌≢◌, ◌<◌, ◌≤◌, ◌&&◌, ℕ, Bool, List, length, replicate, All, if◌then◌else◌}
 use Rattle.bdd_store.specs.declared.node.Node.{Node}
 use Rattle.bdd_store.specs.Arena.{Arena, den}
 use Rattle.bdd_store.specs.Subfunctions.{nodes}
@@ -8,9 +8,10 @@ use Rattle.cyc_base.specs.declared.trit.Trit.TheVariants.{X}
 use Rattle.cyc_base.specs.Values.{bits}
 use Rattle.dual_rail.specs.WorkingLists.{is_bit}
 use Rattle.netlist.specs.declared.parts.Parts.{Parts}
-use Rattle.netlist.specs.Fixpoint.{fix, next}
+use Rattle.netlist.specs.Fixpoint.{fix, wire, next}
 use Rattle.netlist.specs.Netlists.{count}
 use Rattle.loops.specs.Sweeps.{value_in}
+use Rattle.care_sets.specs.Care.{CareSet, IsCareVector}
 
 -- the latches' next values at a vector of the set, and X elsewhere
 abbrev pub next_within : Parts → Arena → Node → List Bool → List Trit
@@ -20,3 +21,7 @@ next_within net a set v = if den a set v then next net (bits v) else replicate (
 abbrev pub BoundsSignals : Parts → Arena → Node → ℕ → Type 0
 BoundsSignals net a set w = (signal : ℕ) (bit : Bool) → signal < count net →
     nodes a.vars (λ v. den a set v && is_bit bit (value_in (fix net (bits v)) signal)) ≤ w
+
+-- on care, what the latches load is known
+abbrev pub LoadsAreKnown : Parts → CareSet → Type 0
+LoadsAreKnown net care = (v : List Bool) → IsCareVector net care v → All (λ latch. wire (fix net (bits v)) latch.from ≢ X) net.latches

@@ -1,5 +1,5 @@
 -- Sets of vectors as nodes of diagrams, whose variables are a netlist's columns.
-use Rattle.std.specs.Prelude.{◌≡◌, ◌-◌, ◌<◌, ◌&&◌, ℕ, Bool, not, List, length, All, take}
+use Rattle.std.specs.Prelude.{◌≡◌, ◌-◌, ◌<◌, ◌&&◌, ℕ, Bool, not, List, length, All}
 use Rattle.bdd_store.specs.declared.node.Node.{Node}
 use Rattle.bdd_store.specs.Arena.{Arena, den, IsNodeOf}
 use Rattle.cyc_base.specs.Values.{bits}
@@ -28,18 +28,6 @@ starts net v = is_initial net (state_of net v)
 -- the vector's state is in the invariant
 abbrev pub has_state_inside : Parts → CareSet → List Bool → Bool
 has_state_inside net care v = is_in_invariant care (state_of net v)
-
--- the rails of the first columns
-pub record AreFirstColumns (a : Arena) (k : ℕ) (rails : List Rails) : Type 0 where
-  pub width : length rails ≡ k
-  pub proper : All (AreRailsOf a) rails
-  pub values : (v : List Bool) → length v ≡ a.vars → values_of a rails v ≡ bits (take k v)
-
--- the rails of all columns: at each vector they stand for it
-pub record AreColumns (a : Arena) (rails : List Rails) : Type 0 where
-  pub width : length rails ≡ a.vars
-  pub proper : All (AreRailsOf a) rails
-  pub values : (v : List Bool) → length v ≡ a.vars → values_of a rails v ≡ bits v
 
 -- the rails of all signals: at each vector they stand for the fixpoint
 pub record AreFixed (net : Parts) (a : Arena) (rails : List Rails) : Type 0 where

@@ -9,15 +9,18 @@ use Rattle.cyc_base.specs.declared.trit.Trit.{Trit}
 use Rattle.netlist.specs.declared.parts.Parts.{Parts}
 use Rattle.loops.specs.declared.parts.Blocks.{Blocks}
 use Rattle.loops.specs.declared.parts.Cut.{Cut}
+use Rattle.loops.specs.declared.parts.SweepCounts.{SweepCounts}
 use Rattle.loops.specs.Blocks.{block_at, home_of}
 use Rattle.loops.specs.Cuts.{loops_by}
 use Rattle.loops.specs.Sweeps.{IsCountOfSweeps}
-use Rattle.fixpoint.specs.declared.solved.SweepCounts.{SweepCounts}
 use Rattle.fixpoint.specs.Counts.{count_at}
 use Rattle.care_sets.specs.Care.{CareSet, columns, is_one, is_care_vector}
 use Rattle.refusals.specs.Acceptance.{Accepts}
-use Rattle.refusals.specs.Refusals.{is_x, initial_refusal, empty_refusal, undetermined_refusal, leaves_refusal, refusal}
+use Rattle.refusals.specs.Refusals.{is_x, initial_refusal, empty_refusal, undetermined_refusal, leaves_refusal, refusal, loose_gates}
+use Rattle.refusals.specs.declared.observe.Observe.{Observe}
 use Rattle.refusals.specs.declared.refusal.Refusal.{Refusal}
+use Rattle.verdict.specs.declared.gates.Gates.{Gates}
+use Rattle.verdict.specs.declared.gates.Gates.TheVariants as gates
 use Rattle.verdict.specs.declared.start.Start.{Start}
 use Rattle.verdict.specs.declared.start.Start.TheVariants as starts
 use Rattle.verdict.specs.declared.verdict.Verdict.{Verdict}
@@ -36,15 +39,20 @@ pub record AreSweepsOnCare (net : Parts) (blocks : Blocks) (cut : Cut) (care : C
       IsCountOfSweeps net (loops_by blocks cut) (are_care_values net care) gate (count_at counts (home_of blocks gate))
   pub others : (b : ℕ) → (block_at blocks b).looped ≡ false → count_at counts b ≡ 0
 
--- a netlist that is accepted, with the sweeps of its loops
-pub record IsAcceptance (net : Parts) (blocks : Blocks) (cut : Cut) (care : CareSet) (counts : SweepCounts) : Type 0 where
-  pub accepts : Accepts net care
+-- so many gates are unknown at some care vector
+abbrev pub AreLoose : Parts → CareSet → ℕ → Type 0
+AreLoose net care loose = loose ≡ length (loose_gates net care)
+
+-- a netlist that is accepted, with the sweeps of its loops and the number of its loose gates
+pub record IsAcceptance (net : Parts) (blocks : Blocks) (cut : Cut) (care : CareSet) (what : Observe) (counts : SweepCounts) (loose : ℕ) : Type 0 where
+  pub accepts : Accepts net care what
   pub sweeps : AreSweepsOnCare net blocks cut care counts
+  pub loose_is : AreLoose net care loose
 
 -- accepted, or refused as the definition says
-abbrev pub IsVerdict : Parts → Blocks → Cut → CareSet → Verdict → Type 0
-IsVerdict net blocks cut care (Accepted counts) = IsAcceptance net blocks cut care counts
-IsVerdict net blocks cut care (Refused r) = refusal net care ≡ Some r
+abbrev pub IsVerdict : Parts → Blocks → Cut → CareSet → Observe → Verdict → Type 0
+IsVerdict net blocks cut care what (Accepted counts loose) = IsAcceptance net blocks cut care what counts loose
+IsVerdict net blocks cut care what (Refused r) = refusal net care what ≡ Some r
 
 -- the care vectors of a netlist whose initial states are in the invariant, and that has some
 pub record IsCareStart (net : Parts) (care : CareSet) (a : Arena) (set : Node) : Type 0 where
@@ -55,8 +63,13 @@ pub record IsCareStart (net : Parts) (care : CareSet) (a : Arena) (set : Node) :
 -- how far the decision comes without the gates
 abbrev pub IsStart : Parts → CareSet → Arena → Start → Type 0
 IsStart net care a (starts.Care set) = IsCareStart net care a set
-IsStart net care a (starts.Refused r) = refusal net care ≡ Some r
+IsStart net care a (starts.Refused r) = (what : Observe) → refusal net care what ≡ Some r
 
--- what refuses a netlist for its gates: one that is undetermined, or else a state that leaves the invariant
-abbrev pub later_refusal : Parts → CareSet → Option Refusal
-later_refusal net care = option_or (undetermined_refusal net care) (leaves_refusal net care)
+-- what refuses a netlist for its gates: an observed one that is undetermined, or else a state that leaves the invariant
+abbrev pub later_refusal : Parts → CareSet → Observe → Option Refusal
+later_refusal net care what = option_or (undetermined_refusal net care what) (leaves_refusal net care)
+
+-- the gates stand so on care, where this is what may refuse the netlist for them
+abbrev pub StandSo : Option Refusal → Parts → CareSet → Gates → Type 0
+StandSo may net care (gates.Determined loose) = (may ≡ None) × AreLoose net care loose
+StandSo may net care (gates.Refused r) = may ≡ Some r

@@ -11,11 +11,12 @@ ghost use Rattle.verdict.specs.Causes.{HasModelOver, IsOutOfNodes};
 ghost use Rattle.verdict.specs.Costs.{invariant_effort};
 ghost use Rattle.verdict.specs.Enough.{IsOfDecision, IsBelowEnough};
 ghost use Rattle.verdict.specs.Sets.{AreFixed, Tells};
-ghost use Rattle.verdict.specs.Verdicts.{later_refusal, IsVerdict};
+ghost use Rattle.verdict.specs.Verdicts.{later_refusal, IsVerdict, StandSo};
 
-use crate::columns::column_rails;
+use crate::alone::{limit_of, settled_counts};
 use crate::fault::DecideFault;
-use crate::parts::{leaves, undetermined};
+use crate::gates::Gates;
+use crate::parts::{gates_on, leaves};
 use crate::start::{Start, begin};
 use crate::verdict::Verdict;
 use bdd_ops::Diagrams;
@@ -25,36 +26,44 @@ use cyc_base::MAX_NODES;
 use dual_rail::Rails;
 use fixpoint::laws::solutions;
 use fixpoint::{solve, sweeps};
+use isolation::column_rails;
 use loops::{Blocks, Cut};
 use netlist::Netlist;
-use refusals::Refusal;
+use refusals::Observe;
 use std::alloc::Global;
 
-/// The refusal of an undetermined gate, or else of a state that leaves the invariant. `set` are the vectors of
-/// care, and the rails of all signals stand for the fixpoint.
+/// The refusal of an undetermined gate that is observed, or else of a state that leaves the invariant, or else how
+/// many gates are unknown on care. `set` are the vectors of care, and the rails of all signals stand for the fixpoint.
 fn later(
     alloc: Global,
     d: &mut Diagrams,
     net: &Netlist,
     care: &Care,
+    observe: Observe,
     rails: &[Rails],
     set: Node,
-) -> Result<Option<Refusal>, StoreFault>
+) -> Result<Gates, StoreFault>
     requires vars { d.old.vars ≡ columns net.now }
     requires care { IsCareOf net.now care.now }
     requires fixed { AreFixed net.now d.old rails.now }
     requires set { Tells d.old set (is_care_vector net.now care.now) }
-    ensures refusal { IfOk result (λ found. found ≡ later_refusal net.now care.now) }
+    ensures gates { IfOk result (StandSo (later_refusal net.now care.now observe) net.now care.now) }
     ensures keeps { KeepsNodes d.old d.new }
     ensures added { (w : ℕ) → IsWide d.old.vars (IsOfDecision net.now care.now) w →
         AddsAtMost d.old d.new (w * (2 * length net.now.gates + (2 * length net.now.latches + 2 * invariant_effort care.now + 1))) }
     ensures full { (w : ℕ) → IsWide d.old.vars (IsOfDecision net.now care.now) w → result ≡ Err StoreFault.Full →
         HasModelOver care.now d.old.limit ⊎ IsFullOnlyPast d.old d.new (w * (2 * length net.now.gates + (2 * length net.now.latches + 2 * invariant_effort care.now + 1))) }
 {
-    if let Some(refusal) = undetermined(alloc, d, net, rails, set)? {
-        return Ok(Some(refusal));
+    let gates = gates_on(alloc, d, net, observe, rails, set)?;
+    let loose = match gates {
+        Gates::Determined { loose } => loose,
+        Gates::Refused(refusal) => return Ok(Gates::Refused(refusal)),
+    };
+    let left = leaves(alloc, d, net, care, rails, set)?;
+    match left {
+        Some(refusal) => Ok(Gates::Refused(refusal)),
+        None => Ok(Gates::Determined { loose }),
     }
-    Ok(leaves(alloc, d, net, care, rails, set)?)
 }
 
 /// The verdict, on diagrams that have a variable for each column and no nodes.
@@ -65,12 +74,13 @@ fn judge(
     blocks: &Blocks,
     cut: &Cut,
     care: &Care,
+    observe: Observe,
 ) -> Result<Verdict, StoreFault>
     requires blocks { AreBlocksOf net.now blocks.now }
     requires cut { IsCutOf net.now cut.now }
     requires care { IsCareOf net.now care.now }
     requires vars { d.old.vars ≡ columns net.now }
-    ensures verdict { IfOk result (IsVerdict net.now blocks.now cut.now care.now) }
+    ensures verdict { IfOk result (IsVerdict net.now blocks.now cut.now care.now observe) }
     ensures full { result ≡ Err StoreFault.Full → IsOutOfNodes d.new net.now care.now d.old.limit }
     ensures enough { result ≡ Err StoreFault.Full → length d.old.entries ≡ 0 → IsBelowEnough net.now care.now d.old.limit }
 {
@@ -80,25 +90,36 @@ fn judge(
         Start::Care(set) => set,
         Start::Refused(refusal) => return Ok(Verdict::Refused(refusal)),
     };
-    let solved = solve(alloc, d, net, blocks, cut, &rails)?;
-    if let Some(refusal) = later(alloc, d, net, care, solved.rails.items(), set)? {
-        return Ok(Verdict::Refused(refusal));
+    let limit = limit_of(d);
+    let alone = settled_counts(alloc, net, blocks, care, limit)?;
+    match alone {
+        Some(sweeps) => return Ok(Verdict::Accepted { sweeps, loose: 0 }),
+        None => {}
     }
+    let solved = solve(alloc, d, net, blocks, cut, &rails)?;
+    let gates = later(alloc, d, net, care, observe, solved.rails.items(), set)?;
+    let loose = match gates {
+        Gates::Determined { loose } => loose,
+        Gates::Refused(refusal) => return Ok(Verdict::Refused(refusal)),
+    };
     d.store().laws();
     let counts = sweeps(alloc, d, &solved, blocks, set)?;
-    Ok(Verdict::Accepted(counts))
+    Ok(Verdict::Accepted {
+        sweeps: counts,
+        loose,
+    })
 }
 
 /// Decides a netlist on a care set, by ternary simulation of all care vectors at once (Malik 1994; Shiple, Berry
 /// and Touati 1996). It starts the diagrams anew, with a variable for each column and the limit.
 ///
 /// The answer is `Accepted` exactly where each permitted initial state is in the invariant, a care vector exists,
-/// and on every care vector each gate is determined and the next state is in the invariant; then with the number
-/// of sweeps that each loop needs on care. Else it is the refusal of the first of these parts that fails, with
-/// its least state or vector.
+/// and on every care vector each observed signal is determined and the next state is in the invariant; then with the
+/// number of sweeps that each loop needs on care, and the number of gates that are unknown at some care vector. Else
+/// it is the refusal of the first of these parts that fails, with its least state or vector.
 ///
-/// `NodeLimit` carries the limit, and comes only where the diagrams hold as many nodes as the call ends, or a cover
-/// of the netlist or of a care model has more. It never comes at a limit of at least `16 * w * (G + 2) * (E + V + 4)`
+/// `NodeLimit` carries the limit, and comes only where the diagrams have the netlist's columns as variables and this
+/// limit, and hold as many nodes as the call ends, or a cover of the netlist or of a care model has more. It never comes at a limit of at least `16 * w * (G + 2) * (E + V + 4)`
 /// (`enough`), for each w that is wide for the functions of the decision: G are the gates of the netlist and of both
 /// care models, E is their effort, and V is the number of columns. Nothing more is said of the diagrams after the call.
 ///
@@ -111,12 +132,13 @@ pub fn decide(
     cut: &Cut,
     care: &Care,
     limit: u32,
+    observe: Observe,
 ) -> Result<Verdict, DecideFault>
     requires blocks { AreBlocksOf net.now blocks.now }
     requires cut { IsCutOf net.now cut.now }
     requires care { IsCareOf net.now care.now }
     requires limit { limit ≤ MAX_NODES }
-    ensures verdict { IfOk result (IsVerdict net.now blocks.now cut.now care.now) }
+    ensures verdict { IfOk result (IsVerdict net.now blocks.now cut.now care.now observe) }
     ensures fault { IfErr result (λ fault. (fault ≡ DecideFault.Memory) ⊎ (fault ≡ DecideFault.NodeLimit limit)) }
     ensures cause { result ≡ Err (DecideFault.NodeLimit limit) → IsOutOfNodes d.new net.now care.now limit }
     ensures enough { result ≡ Err (DecideFault.NodeLimit limit) → IsBelowEnough net.now care.now limit }
@@ -124,7 +146,7 @@ pub fn decide(
     if d.start(net.inputs() + net.latches(), limit).is_err() {
         return Err(DecideFault::Memory);
     }
-    match judge(alloc, d, net, blocks, cut, care) {
+    match judge(alloc, d, net, blocks, cut, care, observe) {
         Ok(verdict) => Ok(verdict),
         Err(StoreFault::Full) => Err(DecideFault::NodeLimit { nodes: limit }),
         Err(StoreFault::Memory) => Err(DecideFault::Memory),

@@ -1,16 +1,19 @@
 //! The decision of a netlist on a care set, for all vectors at once: accepted, with the number of sweeps that each
 //! loop needs, or refused, with the least state or vector that shows it (Malik 1994; Shiple, Berry and Touati 1996).
+//! All gates are observed, or what is seen from outside.
 //!
 //! It stands on `fixpoint`, on the diagrams below it, and on the definitions of `refusals`. The layer above uses
 //! that `decide` answers as the definition of acceptance and refusals says (`verdict`).
 #![tactic(auto)]
 
+mod alone;
 mod care;
-mod columns;
 mod deciding;
 mod fault;
+mod gates;
 pub mod laws;
 mod next;
+mod observing;
 mod parts;
 mod sets;
 mod start;
@@ -19,4 +22,5 @@ mod verdict;
 
 pub use deciding::decide;
 pub use fault::DecideFault;
+pub use refusals::Observe;
 pub use verdict::Verdict;

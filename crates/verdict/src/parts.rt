@@ -8,14 +8,19 @@ ghost use Rattle.dual_rail.specs.Rails.{value_of};
 ghost use Rattle.dual_rail.specs.WorkingLists.{IsWide};
 ghost use Rattle.care_sets.specs.Binding.{IsCareOf};
 ghost use Rattle.care_sets.specs.Care.{CareSet, columns, is_care_vector};
-ghost use Rattle.refusals.specs.Refusals.{is_x, initial_refusal as initial_refusal_of, empty_refusal, undetermined_refusal, leaves_refusal};
+ghost use Rattle.netlist.specs.Netlists.{IsNetlist};
+ghost use Rattle.refusals.specs.Refusals.{is_x, initial_refusal as initial_refusal_of, undetermined_refusal, leaves_refusal};
 ghost use Rattle.verdict.specs.Causes.{HasModelOver};
 ghost use Rattle.verdict.specs.Costs.{invariant_effort};
 ghost use Rattle.verdict.specs.Enough.{IsOfDecision};
+ghost use Rattle.verdict.specs.Next.{LoadsAreKnown};
+ghost use Rattle.verdict.specs.Verdicts.{StandSo};
 ghost use Rattle.verdict.specs.Sets.{Tells, AreFixed, difference, starts as starts_in, has_state_inside};
 
 use crate::care::invariant_on;
+use crate::gates::Gates;
 use crate::next::{next_of, next_on};
+use crate::observing::observed_gates;
 use crate::sets::{least_of, minus};
 use bdd_ops::Diagrams;
 use bdd_store::{Node, StoreFault};
@@ -23,7 +28,7 @@ use care_sets::Care;
 use cyc_base::Bits;
 use dual_rail::Rails;
 use netlist::Netlist;
-use refusals::Refusal;
+use refusals::{Observe, Refusal};
 use std::alloc::{AllocError, Global};
 
 /// The values of the latches, where `first` is the column of the first.
@@ -77,38 +82,49 @@ fn unknown_on(d: &mut Diagrams, set: Node, rails: Rails) -> Result<Node, StoreFa
     Ok(minus(d, open, rails.zero)?)
 }
 
-/// The first gate that is unknown at a vector of care, with the least such vector, as a refusal.
-pub(crate) fn undetermined(
+/// The first observed gate that is unknown at a vector of care, with the least such vector, as a refusal; or how many
+/// gates are unknown at some, where none of these is observed.
+pub(crate) fn gates_on(
     alloc: Global,
     d: &mut Diagrams,
     net: &Netlist,
+    observe: Observe,
     rails: &[Rails],
     set: Node,
-) -> Result<Option<Refusal>, StoreFault>
+) -> Result<Gates, StoreFault>
     requires vars { d.old.vars ≡ columns net.now }
     requires fixed { AreFixed net.now d.old rails.now }
     requires set { IsNodeOf d.old set }
-    ensures refusal { (care : CareSet) → Tells d.old set (is_care_vector net.now care) → IfOk result (λ found. found ≡ undetermined_refusal net.now care) }
+    ensures gates { (care : CareSet) → Tells d.old set (is_care_vector net.now care) →
+        IfOk result (StandSo (undetermined_refusal net.now care observe) net.now care) }
+    ensures valid { IsNetlist net.now }
     ensures keeps { KeepsNodes d.old d.new }
     ensures added { (care : CareSet) (w : ℕ) → Tells d.old set (is_care_vector net.now care) → IsWide d.old.vars (IsOfDecision net.now care) w →
         AddsAtMost d.old d.new (w * (2 * length net.now.gates)) }
     ensures full { (care : CareSet) (w : ℕ) → Tells d.old set (is_care_vector net.now care) → IsWide d.old.vars (IsOfDecision net.now care) w →
         result ≡ Err StoreFault.Full → IsFullOnlyPast d.old d.new (w * (2 * length net.now.gates)) }
 {
+    let observed = observed_gates(alloc, net, observe)?;
     let first = net.inputs() + net.latches();
+    let mut loose = 0;
     for gate in 0..net.gates() {
         let unknown = unknown_on(d, set, rails[(first + gate) as usize])?;
-        if let Some(vector) = least_of(alloc, d, unknown)? {
-            return Ok(Some(Refusal::Undetermined {
+        let Some(vector) = least_of(alloc, d, unknown)? else {
+            continue;
+        };
+        if observed[gate as usize] {
+            return Ok(Gates::Refused(Refusal::Undetermined {
                 vector: Bits::of(vector),
                 wire: net.gate_sig(gate),
             }));
         }
+        loose += 1;
     }
-    Ok(None)
+    Ok(Gates::Determined { loose })
 }
 
-/// The least vector of care whose next state isn't in the invariant, as a refusal. No gate is unknown on care.
+/// The least vector of care whose next state isn't in the invariant, as a refusal. What the latches load is known on
+/// care.
 pub(crate) fn leaves(
     alloc: Global,
     d: &mut Diagrams,
@@ -121,7 +137,7 @@ pub(crate) fn leaves(
     requires care { IsCareOf net.now care.now }
     requires fixed { AreFixed net.now d.old rails.now }
     requires set { Tells d.old set (is_care_vector net.now care.now) }
-    requires determined { undetermined_refusal net.now care.now ≡ None }
+    requires loads { LoadsAreKnown net.now care.now }
     ensures refusal { IfOk result (λ found. found ≡ leaves_refusal net.now care.now) }
     ensures keeps { KeepsNodes d.old d.new }
     ensures added { (w : ℕ) → IsWide d.old.vars (IsOfDecision net.now care.now) w →

@@ -42,6 +42,9 @@ pub(crate) fn least_of(
     requires { IsNodeOf d.now set }
     ensures { IfOk result (λ found. option_map (λ v. v.items) found ≡ find (den d.now set) (vectors d.now.vars)) }
 {
+    if is_never(d, set) {
+        return Ok(None);
+    }
     let mut vector = vec![in alloc; false; d.store().vars() as usize]?;
     if d.least(set, &mut vector) {
         Ok(Some(vector))

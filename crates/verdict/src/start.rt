@@ -13,7 +13,8 @@ ghost use Rattle.care_sets.specs.Care.{columns, is_allowed};
 ghost use Rattle.verdict.specs.Causes.{HasModelOver};
 ghost use Rattle.verdict.specs.Costs.{assume_effort, invariant_effort};
 ghost use Rattle.verdict.specs.Enough.{IsOfDecision};
-ghost use Rattle.verdict.specs.Sets.{AreColumns, Tells, ReadsWithin, has_state_inside};
+ghost use Rattle.isolation.specs.Columns.{AreColumns};
+ghost use Rattle.verdict.specs.Sets.{Tells, ReadsWithin, has_state_inside};
 ghost use Rattle.verdict.specs.Verdicts.{IsStart};
 
 use crate::care::{assume_on, invariant_on};

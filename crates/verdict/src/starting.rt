@@ -8,7 +8,8 @@ ghost use Rattle.cyc_base.specs.Values.{bit};
 ghost use Rattle.dual_rail.specs.Rails.{AreRailsOf, value_of};
 ghost use Rattle.care_sets.specs.Care.{columns};
 ghost use Rattle.refusals.specs.Refusals.{may_start as may_start_with};
-ghost use Rattle.verdict.specs.Sets.{AreColumns, Tells, starts};
+ghost use Rattle.isolation.specs.Columns.{AreColumns};
+ghost use Rattle.verdict.specs.Sets.{Tells, starts};
 
 use bdd_ops::Diagrams;
 use bdd_store::{Node, StoreFault};

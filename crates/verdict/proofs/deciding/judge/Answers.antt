@@ -1,6 +1,7 @@
-use Rattle.std.proofs.Common.{◌≡◌, ◌∙◌, inl, inr, ◌+◌, ◌*◌, ◌≤◌, ℕ, Err, None, List, length, sym, ap, subst, arith}
+use Rattle.std.proofs.Common.{◌≡◌, ◌∙◌, inl, inr, ◌+◌, ◌*◌, ◌≤◌, ℕ, Err, None, List, length, refl, sym, ap, subst, arith}
 use Rattle.bdd_store.specs.declared.fault.StoreFault.{StoreFault}
-use Rattle.bdd_store.specs.Growth.{IsFullOnlyPast}
+use Rattle.bdd_store.specs.Arena.{Arena}
+use Rattle.bdd_store.specs.Growth.{KeepsNodes, IsFullOnlyPast}
 use Rattle.bdd_store.specs.Soundness.{IsLawful}
 use Rattle.bdd_store.proofs.GrowthLemmas.{KeepsNodes-chain}
 use Rattle.dual_rail.specs.declared.rail.Rails.{Rails}
@@ -15,19 +16,20 @@ use Rattle.fixpoint.specs.Counts.{CountSweeps, IsComparedIn, count_at}
 use Rattle.fixpoint.specs.Working.{IsWorking, HasLargeCover}
 use Rattle.care_sets.specs.Care.{CareSet, columns, is_care_vector}
 use Rattle.refusals.specs.Refusals.{refusal}
-use Rattle.verdict.specs.Causes.{HasModelOver}
+use Rattle.verdict.specs.Causes.{HasModelOver, IsStoreFor}
 use Rattle.verdict.specs.Enough.{IsOfDecision, enough}
-use Rattle.verdict.specs.Sets.{Tells, AreColumns, AreFixed}
-use Rattle.verdict.specs.Verdicts.{IsStart, IsCareStart}
-use Rattle.verdict.proofs.CauseLemmas.{out_past, out_care, out_solved}
-use Rattle.verdict.proofs.ColumnLemmas.{AreColumns-kept}
+use Rattle.verdict.specs.Sets.{Tells, AreFixed}
+use Rattle.isolation.specs.Columns.{AreColumns}
+use Rattle.verdict.specs.Verdicts.{IsStart, IsCareStart, AreLoose, StandSo, later_refusal}
+use Rattle.verdict.proofs.CauseLemmas.{IsStoreFor-kept, out_past, out_care, out_solved}
+use Rattle.isolation.proofs.ColumnLemmas.{AreColumns-kept}
 use Rattle.verdict.proofs.CountLemmas.{count-on-care}
 use Rattle.verdict.proofs.EnoughLemmas.{cost_of_columns, cost_before, cost_of_fix, cost_after, cost_of_sweeps, costs-enough, used-more, past-enough, over-net, over-model}
 use Rattle.verdict.proofs.PartLemmas.{Tells-kept}
 use Rattle.verdict.proofs.SolutionLemmas.{loops-are, working-wide, compared-wide}
 use Rattle.verdict.proofs.VerdictLemmas.{refused-later, accepts-is, fixed-is}
 use Rattle.verdict.proofs.deciding.judge.Goals as goal
-use Rattle.verdict.proofs.deciding.judge.Goals.{After-column_rails, After-begin, After-solve, After-later, In_default}
+use Rattle.verdict.proofs.deciding.judge.Goals.{After-column_rails, After-begin, After-solve, After-later, In-Determined}
 
 pub later-requires-clause-fixed : goal.later-requires-clause-fixed
 later-requires-clause-fixed c =
@@ -39,34 +41,36 @@ later-requires-clause-fixed c =
 
 -- what is known once nothing refuses
 
-given-columns : (c : In_default) → AreColumns c.solve.new.d c.deref-2.result.now
+given-columns : (c : In-Determined) → AreColumns c.solve.new.d c.deref-2.result.now
 given-columns c = subst (AreColumns c.solve.new.d) (sym c.deref-2.ensures.value) (AreColumns-kept (KeepsNodes-chain c.begin.ensures.keeps c.solve.ensures.keeps) c.in_ok-rails.ensures.rails)
 
-start-is : (c : In_default) → IsCareStart c.args.net.now c.args.care.now c.begin.new.d c.in-Care.set
+start-is : (c : In-Determined) → IsCareStart c.args.net.now c.args.care.now c.begin.new.d c.in-Care.set
 start-is c = subst (IsStart c.args.net.now c.args.care.now c.begin.new.d) c.in-Care.is c.in_ok-set.ensures.start
 
-later-solution : (c : In_default) → IsSolution c.args.net.now c.args.blocks.now c.args.cut.now c.later.new.d c.deref-2.result.now c.in_ok-solved.solved
+later-solution : (c : In-Determined) → IsSolution c.args.net.now c.args.blocks.now c.args.cut.now c.later.new.d c.deref-2.result.now c.in_ok-solved.solved
 later-solution c =
     c.solutions.ensures.stay c.args.net.now c.args.blocks.now c.args.cut.now c.solve.new.d c.later.new.d c.deref-2.result.now c.in_ok-solved.solved c.later.ensures.keeps (given-columns c).proper c.in_ok-solved.ensures.solution
 
-later-vars : (c : In_default) → c.later.new.d.vars ≡ columns c.args.net.now
+later-vars : (c : In-Determined) → c.later.new.d.vars ≡ columns c.args.net.now
 later-vars c = c.later.ensures.keeps.vars ∙ c.solve.ensures.keeps.vars ∙ c.begin.ensures.keeps.vars ∙ c.column_rails.ensures.keeps.vars ∙ c.requires.vars
 
-later-told : (c : In_default) → Tells c.later.new.d c.in-Care.set (is_care_vector c.args.net.now c.args.care.now)
+later-told : (c : In-Determined) → Tells c.later.new.d c.in-Care.set (is_care_vector c.args.net.now c.args.care.now)
 later-told c = Tells-kept (KeepsNodes-chain c.solve.ensures.keeps c.later.ensures.keeps) (start-is c).told
 
-nothing-refuses : (c : In_default) → refusal c.args.net.now c.args.care.now ≡ None
-nothing-refuses c =
-    refused-later c.args.net.now c.args.care.now c.in_ok-refusal.field-0 (start-is c).initial (start-is c).some c.in_ok-refusal.ensures.refusal ∙ c.in_default.is
+later-stands : (c : In-Determined) → (later_refusal c.args.net.now c.args.care.now c.args.observe ≡ None) × AreLoose c.args.net.now c.args.care.now c.in-Determined.loose
+later-stands c = subst (StandSo (later_refusal c.args.net.now c.args.care.now c.args.observe) c.args.net.now c.args.care.now) c.in-Determined.is c.in_ok-gates.ensures.gates
+
+nothing-refuses : (c : In-Determined) → refusal c.args.net.now c.args.care.now c.args.observe ≡ None
+nothing-refuses c = refused-later c.args.net.now c.args.care.now c.args.observe None (start-is c).initial (start-is c).some (later-stands c).0
 
 pub sweeps-requires-clause-loops : goal.sweeps-requires-clause-loops
 sweeps-requires-clause-loops g =
-    let c : In_default = (goal.at.sweeps-requires-clause-loops g).In_default in
+    let c : In-Determined = (goal.at.sweeps-requires-clause-loops g).In-Determined in
     c.solutions.ensures.count c.args.net.now c.args.blocks.now c.args.cut.now c.later.new.d c.deref-2.result.now c.in_ok-solved.solved c.begin.ensures.valid c.requires.blocks c.requires.cut (later-solution c) c.in-Care.set
 
 pub returns-clause-verdict : goal.returns-clause-verdict
 returns-clause-verdict g =
-    let c : In_default = (goal.at.returns-clause-verdict g).In_default in
+    let c : In-Determined = (goal.at.returns-clause-verdict g).In-Determined in
     let net = c.args.net.now in
     let given : List Rails = c.deref-2.result.now in
     let lawful : IsLawful c.later.new.d = subst IsLawful g.store.ensures g.laws.ensures in
@@ -75,7 +79,7 @@ returns-clause-verdict g =
     let found : CountSweeps net c.args.blocks.now c.args.cut.now c.later.new.d (values_of c.later.new.d given) c.in-Care.set g.in_ok-counts.counts =
     g.in_ok-counts.ensures.sweeps net c.args.cut.now given c.requires.blocks c.requires.cut (later-solution c) in
     record {
-      accepts = accepts-is net c.args.care.now c.begin.ensures.valid (nothing-refuses c);
+      accepts = accepts-is net c.args.care.now c.args.observe c.begin.ensures.valid (nothing-refuses c);
       sweeps = record {
         width = counts.width;
         loops = λ gate less looped.
@@ -84,43 +88,49 @@ returns-clause-verdict g =
             lawful.sound are (later-vars c) (later-told c) one.enough one.least;
         others = counts.others;
       };
+      loose_is = (later-stands c).1;
     }
 
 -- ---- why it ends without a verdict: each list has some width
 
+store-after : {s t : Arena} {net : Parts} (limit : ℕ) → s.limit ≡ limit → s.vars ≡ columns net → KeepsNodes s t → IsStoreFor t net limit
+store-after limit most vars keeps = IsStoreFor-kept keeps (record { variables = vars; most = most })
+
 pub returns-in_err-rails-clause-full : goal.returns-in_err-rails-clause-full
 returns-in_err-rails-clause-full c is_full =
     let refused = ap {A = StoreFault} Err (sym (rw is_full at c.from_residual.ensures.1)) in
-    out_past c.args.d.now c.column_rails.new.d c.args.net.now c.args.care.now c.args.d.now.limit _ c.column_rails.ensures.keeps.limit (c.in_err-rails.ensures.full refused)
+    out_past c.args.d.now c.column_rails.new.d c.args.net.now c.args.care.now c.args.d.now.limit _ (store-after c.args.d.now.limit refl c.requires.vars c.column_rails.ensures.keeps) (c.in_err-rails.ensures.full refused)
 
 pub returns-in_err-set-clause-full : goal.returns-in_err-set-clause-full
 returns-in_err-set-clause-full c is_full =
     let refused = ap {A = StoreFault} Err (sym (rw is_full at c.from_residual-in_err-set.ensures.1)) in
     let vars = c.column_rails.new.d.vars in
-    out_care c.column_rails.new.d c.begin.new.d c.args.net.now c.args.care.now c.args.d.now.limit _ c.column_rails.ensures.keeps.limit c.begin.ensures.keeps
+    out_care c.column_rails.new.d c.begin.new.d c.args.net.now c.args.care.now c.args.d.now.limit _ (store-after c.args.d.now.limit refl c.requires.vars c.column_rails.ensures.keeps) c.begin.ensures.keeps
     (c.in_err-set.ensures.full _ (IsWide-some vars (IsOfDecision c.args.net.now c.args.care.now)) refused)
 
 pub returns-in_err-solved-clause-full : goal.returns-in_err-solved-clause-full
 returns-in_err-solved-clause-full c is_full =
     let refused = ap {A = StoreFault} Err (sym (rw is_full at c.from_residual-in_err-solved.ensures.1)) in
     let vars = c.begin.new.d.vars in
-    out_solved c.begin.new.d c.solve.new.d c.args.net.now c.args.care.now c.args.d.now.limit _ (c.begin.ensures.keeps.limit ∙ c.column_rails.ensures.keeps.limit) c.solve.ensures.keeps
+    out_solved c.begin.new.d c.solve.new.d c.args.net.now c.args.care.now c.args.d.now.limit _
+    (store-after c.args.d.now.limit refl c.requires.vars (KeepsNodes-chain c.column_rails.ensures.keeps c.begin.ensures.keeps)) c.solve.ensures.keeps
     (c.in_err-solved.ensures.full _ (IsWide-some vars (IsWorking c.args.net.now (loops_by c.args.blocks.now c.args.cut.now) (values_of c.begin.new.d c.deref-2.result.now))) refused)
 
-pub returns-in_err-refusal-clause-full : goal.returns-in_err-refusal-clause-full
-returns-in_err-refusal-clause-full c is_full =
-    let refused = ap {A = StoreFault} Err (sym (rw is_full at c.from_residual-in_err-refusal.ensures.1)) in
+pub returns-in_err-gates-clause-full : goal.returns-in_err-gates-clause-full
+returns-in_err-gates-clause-full c is_full =
+    let refused = ap {A = StoreFault} Err (sym (rw is_full at c.from_residual-in_err-gates.ensures.1)) in
     let vars = c.solve.new.d.vars in
     out_care c.solve.new.d c.later.new.d c.args.net.now c.args.care.now c.args.d.now.limit _
-    (c.solve.ensures.keeps.limit ∙ c.begin.ensures.keeps.limit ∙ c.column_rails.ensures.keeps.limit) c.later.ensures.keeps
-    (c.in_err-refusal.ensures.full _ (IsWide-some vars (IsOfDecision c.args.net.now c.args.care.now)) refused)
+    (store-after c.args.d.now.limit refl c.requires.vars (KeepsNodes-chain (KeepsNodes-chain c.column_rails.ensures.keeps c.begin.ensures.keeps) c.solve.ensures.keeps)) c.later.ensures.keeps
+    (c.in_err-gates.ensures.full _ (IsWide-some vars (IsOfDecision c.args.net.now c.args.care.now)) refused)
 
 pub returns-in_err-counts-clause-full : goal.returns-in_err-counts-clause-full
 returns-in_err-counts-clause-full c is_full =
     let refused = ap {A = StoreFault} Err (sym (rw is_full at c.from_residual-in_err-counts.ensures.1)) in
     let vars = c.later.new.d.vars in
     out_past c.later.new.d c.sweeps.new.d c.args.net.now c.args.care.now c.args.d.now.limit _
-    (c.sweeps.ensures.keeps.limit ∙ c.later.ensures.keeps.limit ∙ c.solve.ensures.keeps.limit ∙ c.begin.ensures.keeps.limit ∙ c.column_rails.ensures.keeps.limit)
+    (store-after c.args.d.now.limit refl c.requires.vars
+    (KeepsNodes-chain (KeepsNodes-chain (KeepsNodes-chain (KeepsNodes-chain c.column_rails.ensures.keeps c.begin.ensures.keeps) c.solve.ensures.keeps) c.later.ensures.keeps) c.sweeps.ensures.keeps))
     (c.in_err-counts.ensures.full _ (IsWide-some vars (IsComparedIn c.later.new.d c.in-Care.set c.in_ok-solved.solved.loops)) refused)
 
 -- ---- what is used after each part, where none was before
@@ -173,7 +183,7 @@ used-after c w wide before =
     (c.later.ensures.added w (after-wide c w wide))
 
 -- what the comparison of sweeps works with
-sweeps-wide : (c : In_default) (w : ℕ) → Wide c.args.net.now c.args.care.now w → IsWide c.later.new.d.vars (IsComparedIn c.later.new.d c.in-Care.set c.in_ok-solved.solved.loops) w
+sweeps-wide : (c : In-Determined) (w : ℕ) → Wide c.args.net.now c.args.care.now w → IsWide c.later.new.d.vars (IsComparedIn c.later.new.d c.in-Care.set c.in_ok-solved.solved.loops) w
 sweeps-wide c w wide =
     compared-wide c.args.net.now c.args.care.now c.later.new.d c.deref-2.result.now (later-vars c) (AreColumns-kept c.later.ensures.keeps (given-columns c))
     c.args.blocks.now c.args.cut.now c.requires.blocks c.requires.cut c.in-Care.set c.in_ok-solved.solved (later-told c) (later-solution c).steps
@@ -223,17 +233,17 @@ returns-in_err-solved-clause-enough g is_full none = record {
       ];
 }
 
-pub returns-in_err-refusal-clause-enough : goal.returns-in_err-refusal-clause-enough
-returns-in_err-refusal-clause-enough g is_full none = record {
+pub returns-in_err-gates-clause-enough : goal.returns-in_err-gates-clause-enough
+returns-in_err-gates-clause-enough g is_full none = record {
   below = λ w wide.
-      let at = goal.at.returns-in_err-refusal-clause-enough g in
+      let at = goal.at.returns-in_err-gates-clause-enough g in
       let c : After-later = at.After-later in
       let net = c.args.net.now in
       let care = c.args.care.now in
       let limit = c.solve.ensures.keeps.limit ∙ c.begin.ensures.keeps.limit ∙ c.column_rails.ensures.keeps.limit in
-      let refused = ap {A = StoreFault} Err (sym (rw is_full at g.from_residual-in_err-refusal.ensures.1)) in
+      let refused = ap {A = StoreFault} Err (sym (rw is_full at g.from_residual-in_err-gates.ensures.1)) in
       let sum = costs-enough net care w wide in
-      elim (g.in_err-refusal.ensures.full w (after-wide c w wide) refused) [
+      elim (g.in_err-gates.ensures.full w (after-wide c w wide) refused) [
         | inl over ↦ over-model net care w c.args.d.now.limit wide (subst (HasModelOver care) limit over)
         | inr full ↦ past-enough c.solve.new.d c.later.new.d c.args.d.now.limit (cost_of_columns net + cost_before net care w + cost_of_fix net w) (cost_after net care w) (cost_of_sweeps net w) (enough net care w)
             (c.later.ensures.keeps.limit ∙ limit) (used-by-fix at.After-solve w wide (used-before at.After-begin w wide (used-by-columns at.After-column_rails none))) full (omega (arith, sum))
@@ -244,7 +254,7 @@ pub returns-in_err-counts-clause-enough : goal.returns-in_err-counts-clause-enou
 returns-in_err-counts-clause-enough g is_full none = record {
   below = λ w wide.
       let at = goal.at.returns-in_err-counts-clause-enough g in
-      let c : In_default = at.In_default in
+      let c : In-Determined = at.In-Determined in
       let net = c.args.net.now in
       let care = c.args.care.now in
       let refused = ap {A = StoreFault} Err (sym (rw is_full at g.from_residual-in_err-counts.ensures.1)) in
@@ -256,3 +266,25 @@ returns-in_err-counts-clause-enough g is_full none = record {
       (g.sweeps.ensures.keeps.limit ∙ c.later.ensures.keeps.limit ∙ c.solve.ensures.keeps.limit ∙ c.begin.ensures.keeps.limit ∙ c.column_rails.ensures.keeps.limit)
       (used-after at.After-later w wide (used-by-fix at.After-solve w wide (used-before at.After-begin w wide (used-by-columns at.After-column_rails none)))) full (omega (arith, sum));
 }
+
+-- ---- where loops are settled by themselves
+
+pub returns-in_err-alone-clause-full : goal.returns-in_err-alone-clause-full
+returns-in_err-alone-clause-full c is_full =
+    let refused = ap {A = StoreFault} Err (sym (rw is_full at c.from_residual-in_err-alone.ensures.1)) in
+    record {
+      store = store-after c.args.d.now.limit refl c.requires.vars (KeepsNodes-chain c.column_rails.ensures.keeps c.begin.ensures.keeps);
+      cause = inr (inl (subst (HasLargeCover c.args.net.now) (c.limit_of-limit.ensures.limit ∙ c.begin.ensures.keeps.limit ∙ c.column_rails.ensures.keeps.limit) (c.in_err-alone.ensures.full refused)));
+    }
+
+pub returns-in_err-alone-clause-enough : goal.returns-in_err-alone-clause-enough
+returns-in_err-alone-clause-enough c is_full none = record {
+  below = λ w wide.
+      let refused = ap {A = StoreFault} Err (sym (rw is_full at c.from_residual-in_err-alone.ensures.1)) in
+      over-net c.args.net.now c.args.care.now w c.args.d.now.limit wide (subst (HasLargeCover c.args.net.now) (c.limit_of-limit.ensures.limit ∙ c.begin.ensures.keeps.limit ∙ c.column_rails.ensures.keeps.limit) (c.in_err-alone.ensures.full refused));
+}
+
+pub returns-in-Some-clause-verdict : goal.returns-in-Some-clause-verdict
+returns-in-Some-clause-verdict c =
+    let start : IsCareStart c.args.net.now c.args.care.now c.begin.new.d c.in-Care.set = subst (IsStart c.args.net.now c.args.care.now c.begin.new.d) c.in-Care.is c.in_ok-set.ensures.start in
+    rw c.in-Some.is at (c.in_ok-alone.ensures.accepted c.args.cut.now c.args.observe c.requires.cut start.some)

@@ -50,7 +50,7 @@ next-values c v long counts = c.in_ok-next.ensures.values v long ∙ within-set 
 pub returns-in_default-clause-refusal : goal.returns-in_default-clause-refusal
 returns-in_default-clause-refusal c =
     leaves-is c.args.net.now c.args.care.now c.args.d.now c.next_on.new.d c.invariant_on.new.d c.minus.new.d c.args.set c.in_ok-inside.inside c.in_ok-outside.outside c.in_ok-next.next.items None
-    c.inputs.ensures.valid c.requires.vars (KeepsNodes-chain c.next_on.ensures.keeps c.invariant_on.ensures.keeps) c.minus.ensures.keeps c.requires.set c.requires.determined
+    c.requires.vars (KeepsNodes-chain c.next_on.ensures.keeps c.invariant_on.ensures.keeps) c.minus.ensures.keeps c.requires.set c.requires.loads
     (next-values ((goal.at.returns-in_default-clause-refusal c).After-invariant_on))
     (λ q v e. c.in_ok-inside.ensures.inside q v (ap (λ (l : List Rails). values_of c.next_on.new.d l v) c.deref.ensures.value ∙ e))
     c.in_ok-outside.ensures.function (sym (ap (option_map (λ (v : Vec Bool Global). v.items)) c.in_default.is) ∙ c.in_ok-vector.ensures)
@@ -59,7 +59,7 @@ pub returns-clause-refusal : goal.returns-clause-refusal
 returns-clause-refusal c =
     ap₂ (λ (v q : List Bool). Some (Leaves v q)) c.of.ensures (c.of-2.ensures ∙ c.in_ok-state.ensures ∙ ap (next_state c.args.net.now) c.deref-2.ensures.value)
     ∙ leaves-is c.args.net.now c.args.care.now c.args.d.now c.next_on.new.d c.invariant_on.new.d c.minus.new.d c.args.set c.in_ok-inside.inside c.in_ok-outside.outside c.in_ok-next.next.items (Some c.in-Some.vector.items)
-    c.inputs.ensures.valid c.requires.vars (KeepsNodes-chain c.next_on.ensures.keeps c.invariant_on.ensures.keeps) c.minus.ensures.keeps c.requires.set c.requires.determined
+    c.requires.vars (KeepsNodes-chain c.next_on.ensures.keeps c.invariant_on.ensures.keeps) c.minus.ensures.keeps c.requires.set c.requires.loads
     (next-values ((goal.at.returns-clause-refusal c).After-invariant_on))
     (λ q v e. c.in_ok-inside.ensures.inside q v (ap (λ (l : List Rails). values_of c.next_on.new.d l v) c.deref.ensures.value ∙ e))
     c.in_ok-outside.ensures.function (sym (ap (option_map (λ (v : Vec Bool Global). v.items)) c.in-Some.is) ∙ c.in_ok-vector.ensures)
@@ -88,7 +88,7 @@ outside-fits : (c : After-minus) (w : ℕ) → IsWide c.args.d.now.vars (IsOfDec
     nodes c.invariant_on.new.d.vars (difference c.invariant_on.new.d c.args.set c.in_ok-inside.inside) ≤ w
 outside-fits c w wide =
     let keeps : KeepsNodes c.args.d.now c.invariant_on.new.d = KeepsNodes-chain c.next_on.ensures.keeps c.invariant_on.ensures.keeps in
-    leaves-fit c.args.net.now c.args.care.now c.invariant_on.new.d c.args.set c.in_ok-inside.inside c.inputs.ensures.valid c.requires.care c.requires.determined (keeps.vars ∙ c.requires.vars)
+    leaves-fit c.args.net.now c.args.care.now c.invariant_on.new.d c.args.set c.in_ok-inside.inside c.inputs.ensures.valid c.requires.care c.requires.loads (keeps.vars ∙ c.requires.vars)
     (Tells-kept keeps c.requires.set)
     (λ q v long counts state.
     c.in_ok-inside.ensures.inside q v (

@@ -1,4 +1,4 @@
-use Rattle.std.proofs.Common.{Err, ℕ, ◌*◌, ◌≤◌, ◌&&◌, sym, ap}
+use Rattle.std.proofs.Common.{Err, ℕ, ◌*◌, ◌≤◌, ◌&&◌, not, sym, ap, ap₂, ◌∙◌}
 use Rattle.bdd_store.specs.declared.fault.StoreFault.{StoreFault}
 use Rattle.bdd_store.specs.Arena.{den}
 use Rattle.bdd_store.specs.Growth.{AddsAtMost}
@@ -7,7 +7,7 @@ use Rattle.dual_rail.specs.Rails.{value_of}
 use Rattle.refusals.specs.Refusals.{is_x}
 use Rattle.verdict.specs.Sets.{difference}
 use Rattle.verdict.proofs.CauseLemmas.{added-both, full-both}
-use Rattle.verdict.proofs.PartLemmas.{unknown-nodes}
+use Rattle.verdict.proofs.PartLemmas.{unknown-nodes, unknown-values}
 use Rattle.verdict.proofs.parts.unknown_on.Goals as goal
 use Rattle.verdict.proofs.parts.unknown_on.Goals.{After-minus-2}
 
@@ -29,3 +29,9 @@ returns-in_err-minus-clause-full g w first second is_full =
 
 pub returns-clause-added : goal.returns-clause-added
 returns-clause-added g = both-added (goal.at.returns-clause-added g).After-minus-2
+
+pub returns-clause-unknown : goal.returns-clause-unknown
+returns-clause-unknown c v =
+    c.in_ok-minus.ensures.function v
+    ∙ ap₂ (λ x y. x && not y) (c.in_ok-open.ensures.function v) (c.minus.ensures.keeps.function c.args.rails.zero v c.requires.zero)
+    ∙ unknown-values (den c.args.d.now c.args.set v) (den c.args.d.now c.args.rails.one v) (den c.args.d.now c.args.rails.zero v)

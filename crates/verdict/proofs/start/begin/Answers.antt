@@ -9,9 +9,10 @@ use Rattle.refusals.specs.Refusals.{initial_refusal}
 use Rattle.verdict.specs.Causes.{HasModelOver}
 use Rattle.verdict.specs.Costs.{assume_effort, invariant_effort}
 use Rattle.verdict.specs.Enough.{IsOfDecision}
-use Rattle.verdict.specs.Sets.{Tells, AreColumns, has_state_inside, difference}
+use Rattle.verdict.specs.Sets.{Tells, has_state_inside, difference}
+use Rattle.isolation.specs.Columns.{AreColumns}
 use Rattle.verdict.proofs.CauseLemmas.{over-first, over-more}
-use Rattle.verdict.proofs.ColumnLemmas.{AreColumns-kept}
+use Rattle.isolation.proofs.ColumnLemmas.{AreColumns-kept}
 use Rattle.verdict.proofs.DecisionLemmas.{wide-kept, starts-fit, outside-fits}
 use Rattle.verdict.proofs.PartLemmas.{Tells-kept, assume-reads}
 use Rattle.verdict.proofs.VerdictLemmas.{refused-empty, empty-is}
@@ -49,9 +50,9 @@ set-told c =
     }
 
 pub returns-then-is_never-clause-start : goal.returns-then-is_never-clause-start
-returns-then-is_never-clause-start g =
+returns-then-is_never-clause-start g what =
     let c : After-is_never = (goal.at.returns-then-is_never-clause-start g).After-is_never in
-    refused-empty c.args.net.now c.args.care.now (initial-none c)
+    refused-empty c.args.net.now c.args.care.now what (initial-none c)
     (empty-is c.args.net.now c.args.care.now c.care_on.new.d c.in_ok-set.set true (set-vars c) (set-told c) (sym g.if-is_never.true ∙ c.is_never.ensures))
 
 pub returns-clause-start : goal.returns-clause-start

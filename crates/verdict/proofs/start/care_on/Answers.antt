@@ -12,7 +12,8 @@ use Rattle.care_sets.specs.Care.{columns}
 use Rattle.verdict.specs.Causes.{HasModelOver}
 use Rattle.verdict.specs.Costs.{assume_effort}
 use Rattle.verdict.specs.Enough.{IsOfDecision, IsOfModel, SaysCare}
-use Rattle.verdict.specs.Sets.{Tells, AreColumns, has_state_inside}
+use Rattle.verdict.specs.Sets.{Tells, has_state_inside}
+use Rattle.isolation.specs.Columns.{AreColumns}
 use Rattle.verdict.proofs.CauseLemmas.{added-to, full-to, over-first}
 use Rattle.verdict.proofs.DecisionLemmas.{made-listed, made-one, wide-kept}
 use Rattle.verdict.proofs.PartLemmas.{Tells-kept}

@@ -10,9 +10,10 @@ use Rattle.fixpoint.specs.Sweeping.{rails_at}
 use Rattle.fixpoint.proofs.WireLemmas.{rails_at-proper}
 use Rattle.care_sets.specs.Care.{state_of}
 use Rattle.refusals.proofs.ShowingLemmas.{all_may_start}
-use Rattle.verdict.specs.Sets.{AreColumns, starts}
+use Rattle.isolation.specs.Columns.{AreColumns}
+use Rattle.verdict.specs.Sets.{starts}
 use Rattle.verdict.proofs.CauseLemmas.{added-to, full-to}
-use Rattle.verdict.proofs.ColumnLemmas.{AreColumns-kept}
+use Rattle.isolation.proofs.ColumnLemmas.{AreColumns-kept}
 use Rattle.verdict.proofs.StartLemmas.{later-both, later-more, later-nodes}
 use Rattle.verdict.proofs.starting.starts_on.Goals as goal
 use Rattle.verdict.proofs.starting.starts_on.Goals.{After-and}

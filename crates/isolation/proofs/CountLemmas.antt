@@ -1,0 +1,127 @@
+-- How many sweeps a loop needs that is settled by itself.
+use Rattle.std.proofs.Common.{◌≡◌, ◌≢◌, inl, inr, ◌⊎◌, ℕ, zero, suc, ◌<◌, ◌≤◌, Bool, true, false, List, [], ◌∷◌, length, replicate, get_or, sym, ap, ◌∙◌, subst, arith, Contains}
+use Rattle.std.proofs.lemmas.Bool.{cases_lt, cases_Bool}
+use Rattle.std.proofs.lemmas.List.{get_or-map, get_or_default, get_or_append_left, get_or-replicate, length-map}
+use Rattle.std.specs.List.{AllByRecursion}
+use Rattle.cyc_base.specs.declared.sig.Sig.{Sig}
+use Rattle.cyc_base.specs.declared.trit.Trit.{Trit}
+use Rattle.cyc_base.specs.declared.trit.Trit.TheVariants.{X}
+use Rattle.cyc_base.specs.Values.{bit, bits}
+use Rattle.netlist.specs.declared.parts.Parts.{Parts}
+use Rattle.netlist.specs.Netlists.{IsNetlist, count, signal, no_gate}
+use Rattle.netlist.specs.Fixpoint.{wire, fix, fix_gates}
+use Rattle.loops.specs.declared.parts.Blocks.{Blocks}
+use Rattle.loops.specs.Blocks.{AreBlocksOf, block_at, home_of}
+use Rattle.loops.specs.Cuts.{Loops, AreLoopsOf}
+use Rattle.loops.specs.Found.{loops_of}
+use Rattle.loops.specs.Sweeps.{first_gate, gate_of, CutsAreFixed}
+use Rattle.loops.specs.Walks.{AnyGate, Leads, SameLoop}
+use Rattle.loops.proofs.Existence.{loops_exist}
+use Rattle.loops.proofs.OrderLemmas.{block_rises, block_within}
+use Rattle.loops.proofs.Reading.{wire_of_gate}
+use Rattle.loops.proofs.Sweeps.{cut_values_agree, same_within}
+use Rattle.loops.proofs.Told.{gate_home, home_gate}
+use Rattle.loops.proofs.Walks.{cuts_leave_no_loop, on_closed_walk, begins_at}
+use Rattle.isolation.specs.Excerpts.{gate_in, inputs_in, AreRead, AreWhole}
+use Rattle.isolation.specs.Settled.{SettleInSweeps}
+use Rattle.isolation.specs.Laws.{IsDeterminedAt, SettledLoopsSweep, OneSweepIsExact}
+use Rattle.isolation.proofs.ExcerptLemmas.{known_list, first-small}
+use Rattle.isolation.proofs.LoopLemmas.{fixed-up}
+
+-- a wire is known where no column and no gate is X
+wire-known : (net : Parts) (v : List Trit) → IsDeterminedAt net v → (s : Sig) → s.0 < count net → wire (fix net v) s ≢ X
+wire-known net v is s inside x =
+    let w = is.width in
+    elim (cases_lt s.0 (first_gate net)) [
+      | inl low ↦ is.columns s.0 (omega (arith, low, w)) (sym (get_or_append_left v (fix_gates net v) X s.0 (omega (arith, low, w))) ∙ x)
+      | inr high ↦ is.gates (gate_of net s) (omega (arith, inside, high)) (sym (wire_of_gate v (fix_gates net v) (first_gate net) s.0 is.width high) ∙ x)
+    ]
+
+-- a block is whole
+pub block-whole : (net : Parts) (blocks : Blocks) → AreBlocksOf net blocks → (b : ℕ) → b < length blocks.list → AreWhole net (block_at blocks b).gates
+block-whole net blocks are b within = record {
+  within = block_within net blocks are b within;
+  rise = block_rises net blocks are b within;
+  loops = λ i g l s.
+      let c = gate_home net blocks are b (get_or (block_at blocks b).gates i 0) within (i, l, get_or_default (block_at blocks b).gates i (get_or (block_at blocks b).gates i 0) 0 l) in
+      let gl = begins_at net g (get_or (block_at blocks b).gates i 0) s.back.via s.back.walk in
+      let home : home_of blocks g ≡ b = sym ((are.same (get_or (block_at blocks b).gates i 0) g c.0 gl).1 (inr s)) ∙ c.1 in
+      subst (λ (p : ℕ). Contains (block_at blocks p).gates g) home (home_gate net blocks are g gl);
+}
+
+-- each loop has a cut wire
+record HasCut (loops : Loops) (a : ℕ) : Type 0 where
+  wire : ℕ
+  same : loops.same a wire ≡ true
+  cut : loops.cut wire ≡ true
+
+find-cut : (net : Parts) (loops : Loops) (a : ℕ) (xs : List ℕ) → AllByRecursion (λ n. loops.same a n ≡ true) xs → HasCut loops a ⊎ AllByRecursion (λ n. loops.cut n ≡ false) xs
+find-cut net loops a [] h = inr tt
+find-cut net loops a (x ∷ xs) h = elim (cases_Bool (loops.cut x)) [
+  | inl is ↦ inl (record { wire = x; same = h.0; cut = is })
+  | inr isnt ↦ elim (find-cut net loops a xs h.1) [ inl found ↦ inl found | inr none ↦ inr (isnt, none) ]
+]
+
+same-all : (net : Parts) (loops : Loops) → AreLoopsOf net loops → (a : ℕ) (xs : List ℕ) → AllByRecursion (SameLoop net a) xs → AllByRecursion (λ n. loops.same a n ≡ true) xs
+same-all net loops are a [] h = tt
+same-all net loops are a (x ∷ xs) h = ((are.same a x).1 h.0, same-all net loops are a xs h.1)
+
+has-cut : (net : Parts) (loops : Loops) → AreLoopsOf net loops → (a : ℕ) → Leads net AnyGate a a → HasCut loops a
+has-cut net loops are a leads = elim (cases_Bool (loops.cut a)) [
+  | inl is ↦ record { wire = a; same = (are.same a a).1 (record { there = leads; back = leads }); cut = is }
+  | inr isnt ↦ elim (find-cut net loops a leads.via (same-all net loops are a leads.via (on_closed_walk net a leads.via leads.walk))) [
+    | inl found ↦ found
+    | inr none ↦ absurd (cuts_leave_no_loop net loops are a leads.via leads.walk isnt none)
+  ]
+]
+
+module _ (net : Parts) (blocks : Blocks) (loops : Loops) (valid : IsNetlist net) (are : AreBlocksOf net blocks) (loops_are : AreLoopsOf net loops) (b : ℕ) (within : b < length blocks.list) (looped : (block_at blocks b).looped ≡ true)
+    (a : ℕ) (has : Contains (block_at blocks b).gates a) (v : List Trit) (is : IsDeterminedAt net v) where
+  home : (a < length net.gates) × (home_of blocks a ≡ b)
+  home = gate_home net blocks are b a within has
+
+  at : get_or (block_at blocks b).gates has.0 0 ≡ a
+  at = get_or_default (block_at blocks b).gates has.0 0 a has.1 ∙ has.2
+
+  known-inputs : (outside : List Sig) → AreRead net (block_at blocks b).gates outside → (us : List Bool) × (bits us ≡ inputs_in net v outside)
+  known-inputs outside read =
+      known_list (inputs_in net v outside)
+      (λ j d less.
+      let l : j < length outside = subst (λ (n : ℕ). j < n) (length-map outside (wire (fix net v))) less in
+      let r = read (get_or outside j (signal 0)) (j, l, get_or_default outside j (get_or outside j (signal 0)) (signal 0) l) in
+      let p = valid.pins (gate_in (block_at blocks b).gates r.place) no_gate (block_within net blocks are b within r.place r.within) r.pin.0 (get_or outside j (signal 0)) r.pin.1 in
+      let e = ap (λ (q : Sig). q.0) r.pin.2 in
+      λ x. wire-known net v is (get_or outside j (signal 0)) (omega (arith, p, e)) (sym (get_or-map (wire (fix net v)) outside j (signal 0) d l) ∙ x))
+
+  -- as many sweeps as the loop needs by itself are enough
+  enough-alone : (k : ℕ) → SettleInSweeps net (block_at blocks b).gates k → CutsAreFixed net loops v a k
+  enough-alone k settled =
+      let alone = settled.alone in
+      let us = known-inputs alone.outside alone.read in
+      let wide : length us.0 ≡ first_gate alone.small = sym (length-map us.0 bit) ∙ ap length us.1 ∙ length-map alone.outside (wire (fix net v)) ∙ sym (first-small net alone.outside (block_at blocks b).gates alone.small alone.valid alone.is) in
+      let g = alone.is.size in
+      let l = has.1 in
+      subst (λ (n : ℕ). CutsAreFixed net loops v n k) at
+      (fixed-up net alone.outside (block_at blocks b).gates alone.small alone.valid alone.is (block-whole net blocks are b within) loops (loops_of alone.small) loops_are (loops_exist alone.small) v is.width
+      has.0 k has.1
+      (subst (λ (xs : List Trit). CutsAreFixed alone.small (loops_of alone.small) xs has.0 k) us.1 (settled.sweeps us.0 wide has.0 (omega (arith, g, l)))))
+
+  -- and one is needed, since the cut wires begin at X
+  one-needed : (n : ℕ) → CutsAreFixed net loops v a n → 1 ≤ n
+  one-needed (suc n) h = omega arith
+  one-needed zero h =
+      let c = has-cut net loops loops_are a ((are.looped a home.0).0 (subst (λ (p : ℕ). (block_at blocks p).looped ≡ true) (sym home.1) looped)) in
+      let l = same_within net loops loops_are a c.wire c.same in
+      absurd (is.gates c.wire l (sym (cut_values_agree net loops loops_are a (replicate (length net.gates) X) (fix_gates net v) h c.wire c.same c.cut) ∙ get_or-replicate (length net.gates) c.wire X X l))
+
+pub settled_loops_sweep : SettledLoopsSweep
+settled_loops_sweep net blocks loops valid are loops_are b k within looped alone care determined a m has count = (
+  count.least k (λ v cared. enough-alone net blocks loops valid are loops_are b within looped a has v (determined v cared) k alone),
+  λ v cared. one-needed net blocks loops valid are loops_are b within looped a has v (determined v cared) m (count.enough v cared),
+)
+
+pub one_sweep_is_exact : OneSweepIsExact
+one_sweep_is_exact net blocks loops valid are loops_are b within looped alone care determined v cared a has = record {
+  enough = λ u cares. enough-alone net blocks loops valid are loops_are b within looped a has u (determined u cares) 1 alone;
+  least = λ n all. one-needed net blocks loops valid are loops_are b within looped a has v (determined v cared) n (all v cared);
+}

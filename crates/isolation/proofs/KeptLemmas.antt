@@ -1,0 +1,69 @@
+-- The fixpoint of an excerpt is the whole's.
+use Rattle.std.proofs.Common.{◌≡◌, inl, inr, ℕ, zero, suc, ◌-◌, ◌<◌, List, [], ◌∷◌, length, map, get_or, refl, sym, ap, ap₂, ◌∙◌, subst, arith}
+use Rattle.std.proofs.lemmas.Bool.{cases_lt}
+use Rattle.std.proofs.lemmas.List.{get_or-map, get_or_append_left, get_or-append_right, get_or-replicate, length-map, length-append}
+use Rattle.std.proofs.lemmas.Simd.{map-map}
+use Rattle.cyc_base.specs.declared.sig.Sig.{Sig}
+use Rattle.cyc_base.specs.declared.trit.Trit.{Trit}
+use Rattle.cyc_base.specs.declared.trit.Trit.TheVariants.{X}
+use Rattle.cyc_base.specs.Values.{Below, EachBelow}
+use Rattle.cyc_base.proofs.OrderLemmas.{Below-antisym, EachBelow-at, EachBelow-append, EachBelow-refl}
+use Rattle.cover_logic.specs.Extensions.{ext}
+use Rattle.cover_logic.specs.declared.cover.Cover.{Cover}
+use Rattle.cover_logic.proofs.ExtensionLemmas.{ext_is_monotone}
+use Rattle.netlist.specs.declared.parts.Parts.{Parts}
+use Rattle.netlist.specs.Netlists.{IsNetlist, signal, gate_at, gate_sig}
+use Rattle.netlist.specs.Fixpoint.{wires, wire, steps, fix, fix_gates}
+use Rattle.netlist.proofs.FixpointLemmas.{steps_below_fix}
+use Rattle.loops.specs.Sweeps.{first_gate, value_in}
+use Rattle.loops.proofs.Reading.{wire_of_gate, get_or-step, get_or-fix}
+use Rattle.isolation.specs.Excerpts.{origins, origin, gate_in, inputs_in, IsExcerpt}
+use Rattle.isolation.proofs.ExcerptLemmas.{gates_in, pin-within, fix_below}
+
+below-members : (f g : Sig → Trit) (xs : List Sig) → ((k : ℕ) (d : Sig) → k < length xs → Below (f (get_or xs k d)) (g (get_or xs k d))) → EachBelow (map f xs) (map g xs)
+below-members f g [] h = tt
+below-members f g (x ∷ xs) h = (h zero x (omega arith), below-members f g xs (λ k d l. h (suc k) d (omega arith)))
+
+module _ (net : Parts) (outside : List Sig) (gates : List ℕ) (small : Parts) (valid : IsNetlist small) (is : IsExcerpt net outside gates small) (inside : (i : ℕ) → i < length gates → gate_in gates i < length net.gates) (v : List Trit) (width : length v ≡ first_gate net) where
+  abbrev inputs : List Trit
+  inputs = inputs_in net v outside
+
+  -- each step of the whole stays below the small netlist's fixpoint
+  steps-below : (k i : ℕ) → i < length gates → Below (value_in (steps net v k) (gate_in gates i)) (value_in (fix_gates small inputs) i)
+  steps-below zero i il = subst (λ (t : Trit). Below t (value_in (fix_gates small inputs) i)) (sym (get_or-replicate (length net.gates) (gate_in gates i) X X (inside i il))) tt
+  steps-below (suc k) i il =
+      let g = is.size in
+      subst (λ (t : Trit). Below t (value_in (fix_gates small inputs) i)) (sym (get_or-step net v (steps net v k) (gate_in gates i) (inside i il)))
+      (subst (λ (t : Trit). Below (ext (gate_at net (gate_in gates i)).cover (map (wire (wires v (steps net v k))) (gate_at net (gate_in gates i)).pins)) t) (sym (get_or-fix small inputs i (omega (arith, il, g))))
+      (subst (λ (t : Trit). Below t (ext (gate_at small i).cover (map (wire (fix small inputs)) (gate_at small i).pins)))
+      (ap₂ (λ (c : Cover) (xs : List Trit). ext c xs) (is.covers i il) (sym (map-map (wire (wires v (steps net v k))) (origin (origins net outside gates)) (gate_at small i).pins) ∙ ap (map (wire (wires v (steps net v k)))) (is.pins i il)))
+      (ext_is_monotone (gate_at small i).cover (map (λ p. wire (wires v (steps net v k)) (origin (origins net outside gates) p)) (gate_at small i).pins) (map (wire (fix small inputs)) (gate_at small i).pins)
+      (below-members (λ p. wire (wires v (steps net v k)) (origin (origins net outside gates) p)) (wire (fix small inputs)) (gate_at small i).pins
+      (λ j d jl. pin-below (get_or (gate_at small i).pins j d) (pin-within net outside gates small valid is i j d il jl) (λ q ql. steps-below k q ql))))))
+    where
+      pin-below : (p : Sig) → p.0 < length (origins net outside gates) → ((q : ℕ) → q < length gates → Below (value_in (steps net v k) (gate_in gates q)) (value_in (fix_gates small inputs) q)) → Below (wire (wires v (steps net v k)) (origin (origins net outside gates) p)) (wire (fix small inputs) p)
+      pin-below p l before = elim (cases_lt p.0 (length outside)) [
+        | inl low ↦
+            let len = length-map outside (wire (fix net v)) in
+            subst (λ (t : Trit). Below (wire (wires v (steps net v k)) (origin (origins net outside gates) p)) t)
+            (ap (wire (fix net v)) (get_or_append_left outside (map (gate_sig net) gates) (signal 0) p.0 low)
+            ∙ sym (get_or_append_left inputs (fix_gates small inputs) X p.0 (omega (arith, low, len)) ∙ get_or-map (wire (fix net v)) outside p.0 (signal 0) X low))
+            (EachBelow-at (wires v (steps net v k)) (fix net v) (origin (origins net outside gates) p).0 (EachBelow-append v v (steps net v k) (fix_gates net v) (EachBelow-refl v) (steps_below_fix net v k)))
+        | inr high ↦
+            let q = p.0 - length outside in
+            let a = length-append outside (map (gate_sig net) gates) in
+            let b = length-map gates (gate_sig net) in
+            let ql : q < length gates = omega (arith, l, a, b, high) in
+            let len = length-map outside (wire (fix net v)) in
+            let o : origin (origins net outside gates) p ≡ gate_sig net (gate_in gates q) =
+            get_or-append_right outside (map (gate_sig net) gates) (length outside) p.0 (signal 0) refl high ∙ get_or-map (gate_sig net) gates q 0 (signal 0) ql in
+            subst (λ (t : Trit). Below t (wire (fix small inputs) p)) (sym (wire_of_gate v (steps net v k) (first_gate net) (gate_sig net (gate_in gates q)).0 width (omega arith) ∙ ap (value_in (steps net v k)) (omega arith)) ∙ sym (ap (wire (wires v (steps net v k))) o))
+            (subst (λ (t : Trit). Below (value_in (steps net v k) (gate_in gates q)) t) (sym (get_or-append_right inputs (fix_gates small inputs) (length outside) p.0 X len high)) (before q ql))
+      ]
+
+  pub fix-kept : (i : ℕ) → i < length gates → value_in (fix_gates small inputs) i ≡ value_in (fix_gates net v) (gate_in gates i)
+  fix-kept i il =
+      Below-antisym (value_in (fix_gates small inputs) i) (value_in (fix_gates net v) (gate_in gates i))
+      (subst (λ (t : Trit). Below (value_in (fix_gates small inputs) i) t) (get_or-map (value_in (fix_gates net v)) gates i 0 X il)
+      (EachBelow-at (fix_gates small inputs) (gates_in net v gates) i (fix_below net outside gates small valid is v width inside)))
+      (steps-below (length net.gates) i il)

@@ -1,0 +1,354 @@
+-- The loops of an excerpt, their cut wires and their sweeps are those of the whole.
+use Rattle.std.proofs.Common.{◌≡◌, inl, inr, ℕ, zero, suc, ◌+◌, ◌-◌, ◌<◌, leb, Bool, true, false, ◌&&◌, if◌then◌else◌, List, [], ◌∷◌, length, map, get_or, refl, sym, ap, ap₂, ◌∙◌, subst, arith}
+use Rattle.std.proofs.lemmas.Bool.{cases_lt, cases_eq, and_parts, leb-true, le-leb, lt-leb}
+use Rattle.std.proofs.lemmas.List.{get_or-map, get_or_default, get_or_append_left, get_or-append_right, get_or-replicate, length-map, length-append}
+use Rattle.std.proofs.lemmas.Simd.{map-map}
+use Rattle.std.specs.List.{AllByRecursion, range_with_len}
+use Rattle.cyc_base.specs.declared.sig.Sig.{Sig}
+use Rattle.cyc_base.specs.declared.trit.Trit.{Trit}
+use Rattle.cyc_base.specs.declared.trit.Trit.TheVariants.{X}
+use Rattle.cover_logic.specs.Extensions.{ext}
+use Rattle.cover_logic.specs.declared.cover.Cover.{Cover}
+use Rattle.netlist.specs.declared.parts.Parts.{Parts}
+use Rattle.netlist.specs.Netlists.{IsNetlist, signal, gate_at, gate_sig}
+use Rattle.netlist.specs.Fixpoint.{wire, fix, fix_gates}
+use Rattle.netlist.specs.Walks.{Feeds, Walk}
+use Rattle.loops.specs.Cuts.{Loops, AreLoopsOf, MayPass}
+use Rattle.loops.specs.Sweeps.{first_gate, gate_of, in_loop_of, value_in, pin_in, IsSweep, sweep, sweeps, cuts_of, CutsAreFixed}
+use Rattle.loops.specs.Walks.{AnyGate, Leads, SameLoop}
+use Rattle.loops.proofs.Reading.{map_agree, Contains-filter_from}
+use Rattle.loops.proofs.Sweeps.{sweep_each, cut_values_agree, same_within}
+use Rattle.loops.proofs.Unique.{sweep_is_the_one}
+use Rattle.loops.proofs.Walks.{leads-trans, leads-any, on_walk, same_truth}
+use Rattle.isolation.specs.Excerpts.{origins, origin, inputs_in, IsExcerpt, AreWhole}
+use Rattle.isolation.proofs.ExcerptLemmas.{first-small, pin-within, gate_wire}
+use Rattle.isolation.proofs.KeptLemmas.{fix-kept}
+
+-- a place of the small netlist's list of signals: a wire outside, or a gate
+data Source (outside gates : ℕ) (s : Sig) : Type 0 where
+  at_input : s.0 < outside → Source outside gates s
+  at_gate : (q : ℕ) → q < gates → s.0 ≡ outside + q → Source outside gates s
+
+source_of : (outside gates : ℕ) (s : Sig) → s.0 < outside + gates → Source outside gates s
+source_of outside gates s inside = elim (cases_lt s.0 outside) [
+  | inl low ↦ at_input low
+  | inr high ↦ at_gate (s.0 - outside) (omega (arith, high, inside)) (omega (arith, high))
+]
+
+sig_is : (s : Sig) (n : ℕ) → s.0 ≡ n → s ≡ signal n
+sig_is s n e = ap (λ (m : ℕ). let r : Sig = record { 0 = m } in r) e
+
+module _ (net : Parts) (outside : List Sig) (gates : List ℕ) (small : Parts) (valid : IsNetlist small) (is : IsExcerpt net outside gates small) (whole : AreWhole net gates) where
+  abbrev at : ℕ → ℕ
+  at i = get_or gates i 0
+
+  abbrev size : ℕ
+  size = length gates
+
+  -- ---- the gates
+
+  at-once : (i j : ℕ) → i < size → j < size → at i ≡ at j → i ≡ j
+  at-once i j il jl e = elim (cases_lt i j) [
+    | inl low ↦ absurd (let r = whole.rise i j low jl in omega (arith, r, e))
+    | inr high ↦ elim (cases_eq i j) [ inl same ↦ same | inr other ↦ absurd (let r = whole.rise j i (omega (arith, high, other)) il in omega (arith, r, e)) ]
+  ]
+
+  at-before : (i j : ℕ) → i < size → j < size → at i < at j → i < j
+  at-before i j il jl low = elim (cases_lt i j) [
+    | inl l ↦ l
+    | inr high ↦ elim (cases_eq i j) [ inl same ↦ absurd (let e = ap at same in omega (arith, low, e)) | inr other ↦ absurd (let r = whole.rise j i (omega (arith, high, other)) il in omega (arith, low, r)) ]
+  ]
+
+  -- a gate that has a place among these
+  record Placed (g : ℕ) : Type 0 where
+    place : ℕ
+    inside : place < size
+    found : at place ≡ g
+
+  in-loop : (i g : ℕ) → i < size → SameLoop net (at i) g → Placed g
+  in-loop i g il s =
+      let c = whole.loops i g il s in
+      record { place = c.0; inside = c.1; found = get_or_default gates c.0 0 g c.1 ∙ c.2 }
+
+  -- ---- signals
+
+  abbrev all : List Sig
+  all = origins net outside gates
+
+  length-all : length all ≡ length outside + size
+  length-all = length-append outside (map (gate_sig net) gates) ∙ ap (λ (n : ℕ). length outside + n) (length-map gates (gate_sig net))
+
+  origin-input : (s : Sig) (d : Sig) → s.0 < length outside → origin all s ≡ get_or outside s.0 d
+  origin-input s d low = get_or_append_left outside (map (gate_sig net) gates) (signal 0) s.0 low ∙ get_or_default outside s.0 (signal 0) d low
+
+  origin-gate : (s : Sig) (q : ℕ) → q < size → s.0 ≡ length outside + q → origin all s ≡ gate_sig net (at q)
+  origin-gate s q l e =
+      get_or-append_right outside (map (gate_sig net) gates) (length outside) s.0 (signal 0) refl (omega (arith, e))
+      ∙ ap (λ (n : ℕ). get_or (map (gate_sig net) gates) n (signal 0)) (let m : s.0 - length outside ≡ q = omega (arith, e) in m)
+      ∙ get_or-map (gate_sig net) gates q 0 (signal 0) l
+
+  -- a wire outside is no gate of the block
+  outside-apart : (s : Sig) (q : ℕ) → s.0 < length outside → q < size → origin all s ≡ gate_sig net (at q) → ⊥
+  outside-apart s q low l e =
+      let here : get_or outside s.0 s ≡ gate_sig net (at q) = sym (origin-input s s low) ∙ e in
+      let len = length-map gates (gate_sig net) in
+      is.apart (get_or outside s.0 s) (s.0, low, get_or_default outside s.0 (get_or outside s.0 s) s low)
+      (q, omega (arith, l, len), get_or-map (gate_sig net) gates q 0 (get_or outside s.0 s) l ∙ sym here)
+
+  first-is : first_gate small ≡ length outside
+  first-is = first-small net outside gates small valid is
+
+  -- ---- pins
+
+  -- the pin of the whole at the same place
+  pin-is : (j k : ℕ) (d e : Sig) → j < size → k < length (gate_at small j).pins → origin all (get_or (gate_at small j).pins k d) ≡ get_or (gate_at net (at j)).pins k e
+  pin-is j k d e jl kl =
+      sym (get_or-map (origin all) (gate_at small j).pins k d e kl) ∙ ap (λ (xs : List Sig). get_or xs k e) (is.pins j jl)
+
+  pins-size : (j : ℕ) → j < size → length (gate_at small j).pins ≡ length (gate_at net (at j)).pins
+  pins-size j jl = sym (length-map (gate_at small j).pins (origin all)) ∙ ap (λ (xs : List Sig). length xs) (is.pins j jl)
+
+  pin-source : (j k : ℕ) (d : Sig) → j < size → k < length (gate_at small j).pins → Source (length outside) size (get_or (gate_at small j).pins k d)
+  pin-source j k d jl kl =
+      let w = pin-within net outside gates small valid is j k d jl kl in
+      let len = length-all in
+      source_of (length outside) size (get_or (gate_at small j).pins k d) (omega (arith, w, len))
+
+  feeds-down : (i j : ℕ) → i < size → j < size → Feeds net (at i) (at j) → Feeds small i j
+  feeds-down i j il jl f =
+      let g = is.size in
+      let k = f.pin.0 in
+      let kl : k < length (gate_at small j).pins = (let l = f.pin.1 in let e = pins-size j jl in omega (arith, l, e)) in
+      let s : Sig = get_or (gate_at small j).pins f.pin.0 (gate_sig small i) in
+      let o : origin all s ≡ gate_sig net (at i) = pin-is j k (gate_sig small i) (gate_sig net (at i)) jl kl ∙ f.pin.2 in
+      record {
+        source = omega (arith, il, g);
+        reader = omega (arith, jl, g);
+        pin = (f.pin.0, kl, by s o (pin-source j k (gate_sig small i) jl kl));
+      }
+    where
+      by : (s : Sig) → origin all s ≡ gate_sig net (at i) → Source (length outside) size s → s ≡ gate_sig small i
+      by s o (at_input low) = absurd (outside-apart s i low il o)
+      by s o (at_gate q ql e) =
+          let n = ap (λ (r : Sig). r.0) (sym (origin-gate s q ql e) ∙ o) in
+          let same : q ≡ i = at-once q i ql il (omega (arith, n)) in
+          let f = first-is in
+          sig_is s (first_gate small + i) (omega (arith, e, f, same))
+
+  feeds-up : (i j : ℕ) → i < size → j < size → Feeds small i j → Feeds net (at i) (at j)
+  feeds-up i j il jl f =
+      let k = f.pin.0 in
+      let s : Sig = get_or (gate_at small j).pins f.pin.0 (gate_sig small i) in
+      let n = ap (λ (r : Sig). r.0) f.pin.2 in
+      let first = first-is in
+      record {
+        source = whole.within i il;
+        reader = whole.within j jl;
+        pin = (f.pin.0, (let l = f.pin.1 in let e = pins-size j jl in omega (arith, l, e)), sym (pin-is j k (gate_sig small i) (gate_sig net (at i)) jl f.pin.1) ∙ origin-gate s i il (omega (arith, n, first)));
+      }
+
+  -- ---- walks
+
+  small-within : (i : ℕ) → i < length small.gates → i < size
+  small-within i l = let g = is.size in omega (arith, l, g)
+
+  walk-up : (i j : ℕ) (via : List ℕ) → Walk small i via j → Walk net (at i) (map at via) (at j)
+  walk-up i j [] f = feeds-up i j (small-within i f.source) (small-within j f.reader) f
+  walk-up i j (x ∷ via) w = (feeds-up i x (small-within i w.0.source) (small-within x w.0.reader) w.0, walk-up x j via w.1)
+
+  -- a walk of the whole through placed gates
+  walk-down : (P : ℕ → Type 0) (i j x y : ℕ) (via : List ℕ) → i < size → j < size → at i ≡ x → at j ≡ y → Walk net x via y → AllByRecursion (λ g. (h : Placed g) × P h.place) via → Leads small P i j
+  walk-down P i j x y [] il jl xi yj f all_placed =
+      record { via = []; kind = tt; walk = feeds-down i j il jl (subst (λ (p : ℕ). Feeds net p (at j)) (sym xi) (subst (Feeds net x) (sym yj) f)) }
+  walk-down P i j x y (g ∷ via) il jl xi yj w all_placed =
+      let h = all_placed.0.0 in
+      let rest = walk-down P h.place j g y via h.inside jl h.found yj w.1 all_placed.1 in
+      record {
+        via = h.place ∷ rest.via;
+        kind = (all_placed.0.1, rest.kind);
+        walk = (feeds-down i h.place il h.inside (subst (λ (p : ℕ). Feeds net p (at h.place)) (sym xi) (subst (Feeds net x) (sym h.found) w.0)), rest.walk);
+      }
+
+  -- ---- loops and cut wires
+
+  placed-walk : (i : ℕ) (via : List ℕ) → i < size → AllByRecursion (λ g. SameLoop net (at i) g) via → AllByRecursion (λ g. (h : Placed g) × AnyGate h.place) via
+  placed-walk i [] il h = tt
+  placed-walk i (g ∷ via) il h = ((in-loop i g il h.0, tt), placed-walk i via il h.1)
+
+  same-walk : (i j : ℕ) (via : List ℕ) → Leads net AnyGate (at j) (at i) → Walk net (at i) via (at j) → AllByRecursion (λ g. SameLoop net (at i) g) via
+  same-walk i j via back w = by via (on_walk net (at i) (at j) via w)
+    where
+      by : (xs : List ℕ) → AllByRecursion (λ g. Leads net AnyGate (at i) g × Leads net AnyGate g (at j)) xs → AllByRecursion (λ g. SameLoop net (at i) g) xs
+      by [] h = tt
+      by (g ∷ xs) h = (record { there = h.0.0; back = leads-trans net g (at j) (at i) h.0.1 back }, by xs h.1)
+
+  leads-down : (i j : ℕ) → i < size → j < size → SameLoop net (at i) (at j) → Leads small AnyGate i j
+  leads-down i j il jl s =
+      walk-down AnyGate i j (at i) (at j) s.there.via il jl refl refl s.there.walk (placed-walk i s.there.via il (same-walk i j s.there.via s.back s.there.walk))
+
+  same-down : (i j : ℕ) → i < size → j < size → SameLoop net (at i) (at j) → SameLoop small i j
+  same-down i j il jl s = record { there = leads-down i j il jl s; back = leads-down j i jl il (record { there = s.back; back = s.there }) }
+
+  same-up : (i j : ℕ) → SameLoop small i j → SameLoop net (at i) (at j)
+  same-up i j s = record {
+    there = leads-any net (at i) (at j) (map at s.there.via) (walk-up i j s.there.via s.there.walk);
+    back = leads-any net (at j) (at i) (map at s.back.via) (walk-up j i s.back.via s.back.walk);
+  }
+
+  module _ (one two : Loops) (one_is : AreLoopsOf net one) (two_is : AreLoopsOf small two) where
+    pub loop-same : (i j : ℕ) → i < size → j < size → two.same i j ≡ one.same (at i) (at j)
+    loop-same i j il jl =
+        same_truth (two.same i j) (one.same (at i) (at j))
+        (λ e. (one_is.same (at i) (at j)).1 (same-up i j ((two_is.same i j).0 e)))
+        (λ e. (two_is.same i j).1 (same-down i j il jl ((one_is.same (at i) (at j)).0 e)))
+
+    cut-up : (i : ℕ) → i < size → ((j : ℕ) → j < i → j < size → two.cut j ≡ one.cut (at j)) → two.cut i ≡ true → one.cut (at i) ≡ true
+    cut-up i il before cut =
+        let leads = (two_is.cut i).0 cut in
+        (one_is.cut (at i)).1 (record {
+          via = map at leads.via;
+          kind = by leads.via leads.kind;
+          walk = walk-up i i leads.via leads.walk;
+        })
+      where
+        by : (xs : List ℕ) → AllByRecursion (MayPass small two.cut i) xs → AllByRecursion (MayPass net one.cut (at i)) (map at xs)
+        by [] h = tt
+        by (j ∷ xs) h =
+            let l = h.0.before in
+            let jl : j < size = omega (arith, l, il) in (
+              record { loop = same-up i j h.0.loop; before = whole.rise j i h.0.before il; uncut = sym (before j h.0.before jl) ∙ h.0.uncut },
+              by xs h.1,
+            )
+
+    cut-down : (i : ℕ) → i < size → ((j : ℕ) → j < i → j < size → two.cut j ≡ one.cut (at j)) → one.cut (at i) ≡ true → two.cut i ≡ true
+    cut-down i il before cut =
+        let leads = (one_is.cut (at i)).0 cut in
+        (two_is.cut i).1 (walk-down (MayPass small two.cut i) i i (at i) (at i) leads.via il il refl refl leads.walk (by leads.via leads.kind))
+      where
+        by : (xs : List ℕ) → AllByRecursion (MayPass net one.cut (at i)) xs → AllByRecursion (λ g. (h : Placed g) × MayPass small two.cut i h.place) xs
+        by [] h = tt
+        by (g ∷ xs) h =
+            let p = in-loop i g il h.0.loop in
+            let low : p.place < i = at-before p.place i p.inside il (let l = h.0.before in let e = p.found in omega (arith, l, e)) in (
+              (p, record { loop = same-down i p.place il p.inside (subst (SameLoop net (at i)) (sym p.found) h.0.loop); before = low; uncut = before p.place low p.inside ∙ ap one.cut p.found ∙ h.0.uncut }),
+              by xs h.1,
+            )
+
+    cut-below : (bound i : ℕ) → i < bound → i < size → two.cut i ≡ one.cut (at i)
+    cut-below zero i less il = absurd (omega (arith, less))
+    cut-below (suc bound) i less il =
+        same_truth (two.cut i) (one.cut (at i))
+        (cut-up i il (λ j jl js. cut-below bound j (omega (arith, jl, less)) js))
+        (cut-down i il (λ j jl js. cut-below bound j (omega (arith, jl, less)) js))
+
+    pub cut-same : (i : ℕ) → i < size → two.cut i ≡ one.cut (at i)
+    cut-same i il = cut-below (suc i) i (omega arith) il
+
+    -- ---- sweeps
+
+    module _ (v : List Trit) (width : length v ≡ first_gate net) where
+      abbrev inputs : List Trit
+      inputs = inputs_in net v outside
+
+      inputs-size : length inputs ≡ first_gate small
+      inputs-size = length-map outside (wire (fix net v)) ∙ sym first-is
+
+      pub fix-same : (i : ℕ) → i < size → value_in (fix_gates small inputs) i ≡ value_in (fix_gates net v) (at i)
+      fix-same = fix-kept net outside gates small valid is whole.within v width
+
+      -- two states that agree at these gates
+      abbrev Agree : List Trit → List Trit → Type 0
+      Agree s t = (i : ℕ) → i < size → value_in s i ≡ value_in t (at i)
+
+      -- a pin reads the same
+      read-same : (c s : List Trit) (c' s' : List Trit) → Agree c' c → Agree s' s → (i : ℕ) (p : Sig) → i < size → Source (length outside) size p → pin_in small two inputs c' s' i p ≡ pin_in net one v c s (at i) (origin all p)
+      read-same c s c' s' ca sa i p il (at_gate q ql e) =
+          let first = first-is in
+          let o = origin-gate p q ql e in
+          let gn : gate_of small p ≡ q = omega (arith, e, first) in
+          let g2 : gate_of net (gate_sig net (at q)) ≡ at q = omega arith in
+          let size_in = inputs-size in
+          ap (λ t. if t && two.same i (gate_of small p) then (if two.cut (gate_of small p) then value_in c' (gate_of small p) else value_in s' (gate_of small p)) else wire (fix small inputs) p) (le-leb (first_gate small) p.0 (omega (arith, e, first)))
+          ∙ ap (λ (n : ℕ). if two.same i n then (if two.cut n then value_in c' n else value_in s' n) else wire (fix small inputs) p) gn
+          ∙ ap₂ (λ t d. if t then (if d then value_in c' q else value_in s' q) else wire (fix small inputs) p) (loop-same i q il ql) (cut-same q ql)
+          ∙ ap₂ (λ x y. if one.same (at i) (at q) then (if one.cut (at q) then x else y) else wire (fix small inputs) p) (ca q ql) (sa q ql)
+          ∙ ap (λ x. if one.same (at i) (at q) then (if one.cut (at q) then value_in c (at q) else value_in s (at q)) else x)
+          (get_or-append_right inputs (fix_gates small inputs) (first_gate small) p.0 X inputs-size (omega (arith, e, first)) ∙ ap (value_in (fix_gates small inputs)) gn ∙ fix-same q ql ∙ sym (gate_wire net outside gates small valid is v width (at q)))
+          ∙ sym (ap (λ (n : ℕ). if one.same (at i) n then (if one.cut n then value_in c n else value_in s n) else wire (fix net v) (gate_sig net (at q))) g2)
+          ∙ sym (ap (λ t. if t && one.same (at i) (gate_of net (gate_sig net (at q))) then (if one.cut (gate_of net (gate_sig net (at q))) then value_in c (gate_of net (gate_sig net (at q))) else value_in s (gate_of net (gate_sig net (at q)))) else wire (fix net v) (gate_sig net (at q))) (le-leb (first_gate net) (gate_sig net (at q)).0 (omega arith)))
+          ∙ sym (ap (pin_in net one v c s (at i)) o)
+      read-same c s c' s' ca sa i p il (at_input low) =
+          let first = first-is in
+          let before : leb (first_gate small) p.0 ≡ false = lt-leb (first_gate small) p.0 (omega (arith, low, first)) in
+          let size_in = inputs-size in
+          ap (λ t. if t && two.same i (gate_of small p) then (if two.cut (gate_of small p) then value_in c' (gate_of small p) else value_in s' (gate_of small p)) else wire (fix small inputs) p) before
+          ∙ get_or_append_left inputs (fix_gates small inputs) X p.0 (omega (arith, low, first, size_in))
+          ∙ get_or-map (wire (fix net v)) outside p.0 p X low
+          ∙ ap (wire (fix net v)) (sym (origin-input p p low))
+          ∙ sym (ap (λ t. if t then (if one.cut (gate_of net (origin all p)) then value_in c (gate_of net (origin all p)) else value_in s (gate_of net (origin all p))) else wire (fix net v) (origin all p)) (away (in_loop_of net one (at i) (origin all p)) refl))
+        where
+          away : (t : Bool) → in_loop_of net one (at i) (origin all p) ≡ t → in_loop_of net one (at i) (origin all p) ≡ false
+          away false e = e
+          away true e =
+              let parts = and_parts (leb (first_gate net) (origin all p).0) (one.same (at i) (gate_of net (origin all p))) e in
+              let h = in-loop i (gate_of net (origin all p)) il ((one_is.same (at i) (gate_of net (origin all p))).0 parts.1) in
+              let f = h.found in
+              let l = leb-true (first_gate net) (origin all p).0 parts.0 in
+              absurd (outside-apart p h.place low h.inside (sig_is (origin all p) (first_gate net + at h.place) (omega (arith, f, l))))
+
+      -- a sweep sets the block as the whole's does
+      sweep-same : (c c' : List Trit) → Agree c' c → Agree (sweep small two inputs c') (sweep net one v c)
+      sweep-same c c' ca i il =
+          ap (λ (s : List Trit). value_in s i) (sym ((sweep_is_the_one small two two_is inputs c' made).0 made-is)) ∙ made-at i il
+        where
+          made : List Trit
+          made = map (value_in (sweep net one v c)) gates
+
+          made-at : (j : ℕ) → j < size → value_in (map (value_in (sweep net one v c)) gates) j ≡ value_in (sweep net one v c) (at j)
+          made-at j jl = get_or-map (value_in (sweep net one v c)) gates j 0 X jl
+
+          made-is : IsSweep small two inputs c' (map (value_in (sweep net one v c)) gates)
+          made-is = record {
+            gates = length-map gates (value_in (sweep net one v c)) ∙ sym is.size;
+            each = λ n l.
+                let nl = small-within n l in
+                made-at n nl ∙ sweep_each net one v c (at n) (whole.within n nl)
+                ∙ ap₂ (λ (cover : Cover) (xs : List Trit). ext cover xs) (sym (is.covers n nl))
+                (ap (map (pin_in net one v c (sweep net one v c) (at n))) (sym (is.pins n nl))
+                ∙ map-map (pin_in net one v c (sweep net one v c) (at n)) (origin all) (gate_at small n).pins
+                ∙ sym (map_agree (pin_in small two inputs c' (map (value_in (sweep net one v c)) gates) n) (λ p. pin_in net one v c (sweep net one v c) (at n) (origin all p)) (gate_at small n).pins
+                (λ k d here. read-same c (sweep net one v c) c' (map (value_in (sweep net one v c)) gates) ca made-at n (get_or (gate_at small n).pins k d) nl (pin-source n k d nl here))));
+          }
+
+      pub sweeps-same : (k : ℕ) → Agree (sweeps small two inputs k) (sweeps net one v k)
+      sweeps-same zero i il =
+          let g = is.size in
+          get_or-replicate (length small.gates) i X X (omega (arith, il, g)) ∙ sym (get_or-replicate (length net.gates) (at i) X X (whole.within i il))
+      sweeps-same (suc k) i il = sweep-same (sweeps net one v k) (sweeps small two inputs k) (sweeps-same k) i il
+
+      -- ---- the cut wires stand at the fixpoint in both, or in neither
+
+      pub fixed-up : (i k : ℕ) → i < size → CutsAreFixed small two inputs i k → CutsAreFixed net one v (at i) k
+      fixed-up i k il fixed =
+          map_agree (value_in (sweeps net one v k)) (value_in (fix_gates net v)) (cuts_of net one (at i))
+          (λ j d jl.
+          let n = get_or (cuts_of net one (at i)) j d in
+          let kept = Contains-filter_from (λ m. one.same (at i) m && one.cut m) (range_with_len 0 (length net.gates)) (get_or (cuts_of net one (at i)) j d) (j, jl, get_or_default (cuts_of net one (at i)) j (get_or (cuts_of net one (at i)) j d) d jl) in
+          let parts = and_parts (one.same (at i) n) (one.cut n) kept.0 in
+          let h = in-loop i n il ((one_is.same (at i) n).0 parts.0) in
+          subst (λ (m : ℕ). value_in (sweeps net one v k) m ≡ value_in (fix_gates net v) m) h.found
+          (sym (sweeps-same k h.place h.inside)
+          ∙ cut_values_agree small two two_is i (sweeps small two inputs k) (fix_gates small inputs) fixed h.place (loop-same i h.place il h.inside ∙ ap (one.same (at i)) h.found ∙ parts.0) (cut-same h.place h.inside ∙ ap one.cut h.found ∙ parts.1)
+          ∙ fix-same h.place h.inside))
+
+      pub fixed-down : (i k : ℕ) → i < size → CutsAreFixed net one v (at i) k → CutsAreFixed small two inputs i k
+      fixed-down i k il fixed =
+          map_agree (value_in (sweeps small two inputs k)) (value_in (fix_gates small inputs)) (cuts_of small two i)
+          (λ j d jl.
+          let n = get_or (cuts_of small two i) j d in
+          let kept = Contains-filter_from (λ m. two.same i m && two.cut m) (range_with_len 0 (length small.gates)) (get_or (cuts_of small two i) j d) (j, jl, get_or_default (cuts_of small two i) j (get_or (cuts_of small two i) j d) d jl) in
+          let parts = and_parts (two.same i n) (two.cut n) kept.0 in
+          let nl = small-within n (same_within small two two_is i n parts.0) in
+          sweeps-same k n nl
+          ∙ cut_values_agree net one one_is (at i) (sweeps net one v k) (fix_gates net v) fixed (at n) (sym (loop-same i n il nl) ∙ parts.0) (sym (cut-same n nl) ∙ parts.1)
+          ∙ sym (fix-same n nl))

@@ -1,0 +1,149 @@
+-- Loops that are settled by themselves, in the whole netlist.
+use Rattle.std.proofs.Common.{◌≡◌, ◌≢◌, inl, inr, ℕ, zero, suc, ◌<◌, Bool, true, false, List, length, map, get_or, refl, sym, ap, ◌∙◌, subst, arith, Contains, true≢false}
+use Rattle.std.proofs.lemmas.Bool.{cases_lt, cases_eq, cases_Bool}
+use Rattle.std.proofs.lemmas.List.{get_or-map, get_or_default, get_or_append_left, length-map}
+use Rattle.cyc_base.specs.declared.sig.Sig.{Sig}
+use Rattle.cyc_base.specs.declared.trit.Trit.TheVariants.{X}
+use Rattle.cyc_base.specs.Values.{bit, bits}
+use Rattle.cover_logic.specs.Extensions.{ext}
+use Rattle.cover_logic.specs.Covers.{value}
+use Rattle.cover_logic.proofs.ExtensionLemmas.{ext_at_bits}
+use Rattle.netlist.specs.declared.parts.Parts.{Parts}
+use Rattle.netlist.specs.Netlists.{IsNetlist, count, signal, no_gate, gate_at, gate_sig}
+use Rattle.netlist.specs.Fixpoint.{wire, fix, fix_gates}
+use Rattle.netlist.specs.Walks.{Feeds}
+use Rattle.loops.specs.declared.parts.Blocks.{Blocks}
+use Rattle.loops.specs.Blocks.{AreBlocksOf, block_at, home_of}
+use Rattle.loops.specs.Sweeps.{first_gate, gate_of, value_in}
+use Rattle.loops.specs.Walks.{AnyGate, Leads}
+use Rattle.loops.proofs.Reading.{wire_of_gate, get_or-fix}
+use Rattle.loops.proofs.Walks.{leads-step, leads-trans}
+use Rattle.loops.proofs.Told.{gate_home, home_gate}
+use Rattle.isolation.specs.Excerpts.{gate_in, IsRead}
+use Rattle.isolation.specs.Laws.{IsLooped, IsUpstream, SettledWhere, SettledLoopsDetermine, UnsettledLoopsDecide}
+use Rattle.isolation.proofs.ExcerptLemmas.{known_list, bit-known, gates_known}
+
+module _ (net : Parts) (valid : IsNetlist net) (blocks : Blocks) (are : AreBlocksOf net blocks) (settled : ℕ → Bool) (alone : SettledWhere net blocks settled) (v : List Bool) (width : length v ≡ first_gate net) where
+  wide : length (bits v) ≡ first_gate net
+  wide = length-map v bit ∙ width
+
+  -- the gates upstream of gate n in loops not settled by themselves are determined
+  abbrev Clear : ℕ → Type 0
+  Clear n = (m : ℕ) → m < length net.gates → IsUpstream net m n → IsLooped blocks m → settled (home_of blocks m) ≡ false → value_in (fix_gates net (bits v)) m ≢ X
+
+  upstream-trans : (a b c : ℕ) → IsUpstream net a b → IsUpstream net b c → IsUpstream net a c
+  upstream-trans a b c (inl e) q = subst (λ (n : ℕ). IsUpstream net n c) (sym e) q
+  upstream-trans a b c (inr r) (inl e) = inr (subst (Leads net AnyGate a) e r)
+  upstream-trans a b c (inr r) (inr q) = inr (leads-trans net a b c r q)
+
+  clear-up : (g n : ℕ) → IsUpstream net g n → Clear n → Clear g
+  clear-up g n up clear m l above = clear m l (upstream-trans m g n above up)
+
+  same-up : (a b : ℕ) → a < length net.gates → b < length net.gates → home_of blocks a ≡ home_of blocks b → IsUpstream net a b
+  same-up a b al bl homes = elim ((are.same a b al bl).0 homes) [ inl e ↦ inl e | inr s ↦ inr s.there ]
+
+  -- a wire is known that is an input, a latch or a gate of an earlier block
+  pin_known : (n : ℕ) (s : Sig) → s.0 < count net → ((g : ℕ) → g < length net.gates → s ≡ gate_sig net g → value_in (fix_gates net (bits v)) g ≢ X) → wire (fix net (bits v)) s ≢ X
+  pin_known n s inside known x = elim (cases_lt s.0 (first_gate net)) [
+    | inl low ↦
+        bit-known (get_or v s.0 false)
+        (sym (get_or_append_left (bits v) (fix_gates net (bits v)) X s.0 (let w = wide in omega (arith, low, w)) ∙ get_or-map bit v s.0 false X (omega (arith, low, width))) ∙ x)
+    | inr high ↦
+        known (gate_of net s) (omega (arith, inside, high)) (ap (λ (m : ℕ). let r : Sig = record { 0 = m } in r) (omega (arith, high)))
+        (sym (wire_of_gate (bits v) (fix_gates net (bits v)) (first_gate net) s.0 wide high) ∙ x)
+  ]
+
+  gate_of-sig : (g : ℕ) (s : Sig) → s ≡ gate_sig net g → gate_of net s ≡ g
+  gate_of-sig g s e = let n = ap (λ (r : Sig). r.0) e in omega (arith, n)
+
+  feeds-from : (n g : ℕ) (s : Sig) → n < length net.gates → g < length net.gates → s ≡ gate_sig net g → Contains (gate_at net n).pins s → Feeds net g n
+  feeds-from n g s nl gl e c = record { source = gl; reader = nl; pin = subst (Contains (gate_at net n).pins) e c }
+
+  pin-signal : (n : ℕ) (s : Sig) → n < length net.gates → Contains (gate_at net n).pins s → s.0 < count net
+  pin-signal n s nl c = let b = valid.pins n no_gate nl c.0 s c.1 in let e = ap (λ (r : Sig). r.0) c.2 in omega (arith, b, e)
+
+  module _ (b : ℕ) (below : (n : ℕ) → n < length net.gates → home_of blocks n < b → Clear n → value_in (fix_gates net (bits v)) n ≢ X) where
+    -- a block that is no loop
+    plain : (n : ℕ) → n < length net.gates → home_of blocks n ≡ b → (block_at blocks (home_of blocks n)).looped ≡ false → Clear n → value_in (fix_gates net (bits v)) n ≢ X
+    plain n nl here isnt clear x =
+        let us = known_list (map (wire (fix net (bits v))) (gate_at net n).pins) (λ k d less.
+        let l : k < length (gate_at net n).pins = subst (λ (m : ℕ). k < m) (length-map (gate_at net n).pins (wire (fix net (bits v)))) less in
+        λ e. known k l (sym (get_or-map (wire (fix net (bits v))) (gate_at net n).pins k (signal 0) d l) ∙ e)) in
+        bit-known (value (gate_at net n).cover us.0)
+        (sym (ap (ext (gate_at net n).cover) (sym us.1) ∙ ext_at_bits (gate_at net n).cover us.0) ∙ sym (get_or-fix net (bits v) n nl) ∙ x)
+      where
+        earlier : (g : ℕ) → Feeds net g n → home_of blocks g < b
+        earlier g feeds = elim (cases_eq (home_of blocks g) (home_of blocks n)) [
+          | inr other ↦ let after = are.after_reads g n feeds in omega (arith, after, other, here)
+          | inl same ↦ absurd (true≢false (sym ((are.looped n nl).1 (elim ((are.same g n feeds.source nl).0 same) [
+            | inl e ↦ leads-step net n n (subst (λ (m : ℕ). Feeds net m n) e feeds)
+            | inr s ↦ leads-trans net n g n s.back s.there
+          ])) ∙ isnt))
+        ]
+
+        known : (k : ℕ) → k < length (gate_at net n).pins → wire (fix net (bits v)) (get_or (gate_at net n).pins k (signal 0)) ≢ X
+        known k l =
+            let s : Sig = get_or (gate_at net n).pins k (signal 0) in
+            let c : Contains (gate_at net n).pins s = (k, l, get_or_default (gate_at net n).pins k s (signal 0) l) in
+            pin_known n s (pin-signal n s nl c)
+            (λ g gl e. let feeds = feeds-from n g s nl gl e c in below g gl (earlier g feeds) (clear-up g n (inr (leads-step net g n feeds)) clear))
+
+    -- a loop that is settled by itself
+    looped : (n : ℕ) → n < length net.gates → home_of blocks n ≡ b → IsLooped blocks n → settled (home_of blocks n) ≡ true → Clear n → value_in (fix_gates net (bits v)) n ≢ X
+    looped n nl here loop itself clear =
+        let a = alone (home_of blocks n) (are.home n nl) loop itself in
+        let c = home_gate net blocks are n nl in
+        let at : get_or (block_at blocks (home_of blocks n)).gates c.0 0 ≡ n = get_or_default (block_at blocks (home_of blocks n)).gates c.0 0 n c.1 ∙ c.2 in
+        subst (λ (m : ℕ). value_in (fix_gates net (bits v)) m ≢ X) at
+        (gates_known net a.outside (block_at blocks (home_of blocks n)).gates a.small a.valid a.is (bits v) wide (λ i l. (member i l).0) a.determined
+        (λ k d l. known (get_or a.outside k d) (a.is.apart (get_or a.outside k d) (k, l, get_or_default a.outside k (get_or a.outside k d) d l)) (a.read (get_or a.outside k d) (k, l, get_or_default a.outside k (get_or a.outside k d) d l)))
+        c.0 c.1)
+      where
+        gates : List ℕ
+        gates = (block_at blocks (home_of blocks n)).gates
+
+        member : (i : ℕ) → i < length (block_at blocks (home_of blocks n)).gates → (gate_in (block_at blocks (home_of blocks n)).gates i < length net.gates) × (home_of blocks (gate_in (block_at blocks (home_of blocks n)).gates i) ≡ home_of blocks n)
+        member i l = gate_home net blocks are (home_of blocks n) (gate_in (block_at blocks (home_of blocks n)).gates i) (are.home n nl) (i, l, get_or_default (block_at blocks (home_of blocks n)).gates i (gate_in (block_at blocks (home_of blocks n)).gates i) 0 l)
+
+        known : (s : Sig) → (¬ Contains (map (gate_sig net) (block_at blocks (home_of blocks n)).gates) s) → IsRead net (block_at blocks (home_of blocks n)).gates s → wire (fix net (bits v)) s ≢ X
+        known s apart read =
+            let reader = gate_in (block_at blocks (home_of blocks n)).gates read.place in
+            let m = member read.place read.within in
+            pin_known n s (pin-signal reader s m.0 read.pin)
+            (λ g gl e.
+            let feeds = feeds-from reader g s m.0 gl e read.pin in
+            let up : IsUpstream net reader n = same-up reader n m.0 nl m.1 in
+            below g gl
+            (elim (cases_eq (home_of blocks g) (home_of blocks reader)) [
+              | inr other ↦ let after = are.after_reads g reader feeds in let h = m.1 in omega (arith, after, other, here, h)
+              | inl same ↦ absurd (apart (inside g gl e (same ∙ m.1)))
+            ])
+            (clear-up g n (upstream-trans g reader n (inr (leads-step net g reader feeds)) up) clear))
+          where
+            inside : (g : ℕ) → g < length net.gates → s ≡ gate_sig net g → home_of blocks g ≡ home_of blocks n → Contains (map (gate_sig net) (block_at blocks (home_of blocks n)).gates) s
+            inside g gl e home =
+                let c : Contains (block_at blocks (home_of blocks n)).gates g = subst (λ (p : ℕ). Contains (block_at blocks p).gates g) home (home_gate net blocks are g gl) in
+                let l = c.1 in
+                let len = length-map (block_at blocks (home_of blocks n)).gates (gate_sig net) in
+                (c.0, omega (arith, l, len), get_or-map (gate_sig net) (block_at blocks (home_of blocks n)).gates c.0 g s c.1 ∙ ap (gate_sig net) c.2 ∙ sym e)
+
+  by_blocks : (b n : ℕ) → n < length net.gates → home_of blocks n < b → Clear n → value_in (fix_gates net (bits v)) n ≢ X
+  by_blocks zero n nl low clear = absurd (omega (arith, low))
+  by_blocks (suc b) n nl low clear = elim (cases_eq (home_of blocks n) b) [
+    | inr other ↦ by_blocks b n nl (omega (arith, low, other)) clear
+    | inl here ↦ elim (cases_Bool (block_at blocks (home_of blocks n)).looped) [
+      | inr isnt ↦ plain b (by_blocks b) n nl here isnt clear
+      | inl loop ↦ elim (cases_Bool (settled (home_of blocks n))) [
+        | inl itself ↦ looped b (by_blocks b) n nl here loop itself clear
+        | inr other ↦ clear n nl (inl refl) loop other
+      ]
+    ]
+  ]
+
+pub unsettled_loops_decide : UnsettledLoopsDecide
+unsettled_loops_decide net blocks settled valid are alone v width n nl clear =
+    by_blocks net valid blocks are settled alone v width (suc (home_of blocks n)) n nl (omega arith) clear
+
+pub settled_loops_determine : SettledLoopsDetermine
+settled_loops_determine net blocks valid are alone v width n nl =
+    unsettled_loops_decide net blocks (λ b. true) valid are alone v width n nl (λ m ml up loop other. absurd (true≢false other))

@@ -1,0 +1,104 @@
+-- What the solution of a small netlist on rails shows.
+use Rattle.std.proofs.Common.{◌≡◌, inl, inr, ℕ, zero, suc, ◌+◌, ◌-◌, ◌<◌, ◌≤◌, Bool, true, false, ◌&&◌, List, [], ◌∷◌, length, map, filter, get_or, Option, Some, None, refl, sym, ap, ap₂, ◌∙◌, subst, arith, true≢false}
+use Rattle.std.proofs.Math.Path.{fun_ext}
+use Rattle.std.proofs.lemmas.Bool.{cases_Bool, and_parts}
+use Rattle.std.proofs.lemmas.List.{get_or-map, get_or-append_right, length-map, length-append}
+use Rattle.std.specs.Prelude.{IfSome}
+use Rattle.std.specs.List.{All, range_with_len}
+use Rattle.bdd_store.specs.declared.node.Node.{Node}
+use Rattle.bdd_store.specs.Arena.{Arena, den}
+use Rattle.cyc_base.specs.declared.trit.Trit.{Trit}
+use Rattle.cyc_base.specs.declared.trit.Trit.TheVariants.{X}
+use Rattle.cyc_base.specs.Values.{bit, bits}
+use Rattle.dual_rail.specs.declared.rail.Rails.{Rails}
+use Rattle.dual_rail.specs.Rails.{value_of, values_of}
+use Rattle.netlist.specs.declared.parts.Parts.{Parts}
+use Rattle.netlist.specs.Netlists.{IsNetlist}
+use Rattle.netlist.specs.Fixpoint.{fix, fix_gates}
+use Rattle.loops.specs.declared.parts.Blocks.{Blocks}
+use Rattle.loops.specs.declared.parts.Cut.{Cut}
+use Rattle.loops.specs.Blocks.{AreBlocksOf, block_at, home_of}
+use Rattle.loops.specs.Cuts.{IsCutOf, Loops, AreLoopsOf, loops_by, in_one_loop, is_cut}
+use Rattle.loops.specs.Found.{loops_of}
+use Rattle.loops.specs.Sweeps.{first_gate, value_in, sweeps, CutsAreFixed}
+use Rattle.loops.proofs.Existence.{loops_exist}
+use Rattle.loops.proofs.Sweeps.{length-fix, fixed_cuts_give_fix}
+use Rattle.loops.proofs.Told.{blocks_tell_loops, told_parts}
+use Rattle.loops.proofs.Walks.{loops_are_unique}
+use Rattle.fixpoint.specs.declared.solved.Solved.{Solved}
+use Rattle.loops.specs.declared.parts.SweepCounts.{SweepCounts}
+use Rattle.fixpoint.specs.Solved.{IsSolution}
+use Rattle.fixpoint.specs.Counts.{CountSweeps, count_at}
+use Rattle.isolation.specs.Settled.{IsDetermined, SettleInSweeps}
+use Rattle.isolation.specs.Building.{IsLoopNetlist}
+use Rattle.isolation.specs.Columns.{AreColumns}
+use Rattle.isolation.specs.Settling.{AreKnown, IsSettledIn}
+
+-- the loops that blocks and a cut tell are those of the netlist
+pub loops-are : (net : Parts) (blocks : Blocks) (cut : Cut) → AreBlocksOf net blocks → IsCutOf net cut → loops_by blocks cut ≡ loops_of net
+loops-are net blocks cut are cut_is =
+    let one = loops_are_unique net (loops_by blocks cut) (loops_of net) (blocks_tell_loops net blocks cut are cut_is) (loops_exist net) in
+    ap₂ (λ (same : ℕ → ℕ → Bool) (c : ℕ → Bool). let l : Loops = record { same = same; cut = c } in l) (fun_ext (λ a. fun_ext (λ b. one.0 a b))) (fun_ext one.1)
+
+module _ (net : Parts) (blocks : Blocks) (cut : Cut) (are : AreBlocksOf net blocks) (cut_is : IsCutOf net cut) (a : Arena) (given : List Rails) (vars : a.vars ≡ first_gate net) (columns : AreColumns a given) where
+  -- where no rails are X, no gate is
+  pub determined-is : (solved : Solved) → IsSolution net blocks cut a given solved → AreKnown a solved.rails → IsDetermined net
+  determined-is solved is known u wide n less x =
+      let all : values_of a solved.rails u ≡ fix net (bits u) = is.values u ∙ ap (fix net) (columns.values u (wide ∙ sym vars)) in
+      let len = ap length all in
+      let l1 = length-map solved.rails (λ r. value_of a r u) in
+      let l2 = length-append (bits u) (fix_gates net (bits u)) in
+      let l3 = length-map u bit in
+      let l4 = length-fix net (loops_of net) (bits u) in
+      let none : Rails = record { one = record { number = 0 }; zero = record { number = 0 } } in
+      let inside : first_gate net + n < length solved.rails = omega (arith, len, l1, l2, l3, l4, wide, less) in
+      known (first_gate net + n) none inside u
+      (sym (get_or-map (λ r. value_of a r u) solved.rails (first_gate net + n) none X inside)
+      ∙ ap (λ (xs : List Trit). get_or xs (first_gate net + n) X) all
+      ∙ get_or-append_right (bits u) (fix_gates net (bits u)) (first_gate net) (first_gate net + n) X (l3 ∙ wide) (omega arith)
+      ∙ ap (λ (k : ℕ). get_or (fix_gates net (bits u)) k X) (omega arith) ∙ x)
+
+  -- cut wires that stand at the fixpoint stay there
+  stay_fixed : (loops : Loops) → AreLoopsOf net loops → (u : List Bool) → length u ≡ first_gate net → (n k d : ℕ) → CutsAreFixed net loops (bits u) n k → CutsAreFixed net loops (bits u) n (d + k)
+  stay_fixed loops is u wide n k zero h = subst (CutsAreFixed net loops (bits u) n) (omega arith) h
+  stay_fixed loops is u wide n k (suc d) h =
+      subst (CutsAreFixed net loops (bits u) n) (let e : suc (d + k) ≡ suc d + k = omega arith in e)
+      (fixed_cuts_give_fix net loops is (bits u) (length-map u bit ∙ wide) n (d + k) (stay_fixed loops is u wide n k d h)).0
+
+  -- a gate that is in no loop has no cut wires
+  no_cuts : (n : ℕ) → (block_at blocks (home_of blocks n)).looped ≡ false → (xs : List ℕ) → filter (λ m. in_one_loop blocks n m && is_cut cut.wires m) xs ≡ []
+  no_cuts n plain [] = refl
+  no_cuts n plain (m ∷ xs) = by (in_one_loop blocks n m && is_cut cut.wires m) refl (no_cuts n plain xs)
+    where
+      by : (b : Bool) → (in_one_loop blocks n m && is_cut cut.wires m) ≡ b → filter (λ m. in_one_loop blocks n m && is_cut cut.wires m) xs ≡ [] → filter (λ m. in_one_loop blocks n m && is_cut cut.wires m) (m ∷ xs) ≡ []
+      by true is rest = absurd (true≢false (sym (told_parts net blocks are n m (and_parts (in_one_loop blocks n m) (is_cut cut.wires m) is).0).looped ∙ plain))
+      by false is rest = rw is rest
+
+  -- the greatest count is enough for each loop
+  pub sweeps-are : (counts : SweepCounts) (care : Node) (most : ℕ) → length counts.per_block ≡ length blocks.list → CountSweeps net blocks cut a (values_of a given) care counts → ((v : List Bool) → den a care v ≡ true) → All (λ n. n ≤ most) counts.per_block →
+      (u : List Bool) → length u ≡ first_gate net → (n : ℕ) → n < length net.gates → CutsAreFixed net (loops_of net) (bits u) n most
+  sweeps-are counts care most width found everywhere greatest u wide n less =
+      subst (λ (l : Loops). CutsAreFixed net l (bits u) n most) (loops-are net blocks cut are cut_is)
+      (elim (cases_Bool (block_at blocks (home_of blocks n)).looped) [
+        | inl loop ↦
+            let one = found.least n less loop in
+            let h = subst (λ (v : List Trit). CutsAreFixed net (loops_by blocks cut) v n (count_at counts (home_of blocks n))) (columns.values u (wide ∙ sym vars)) (one.enough u (everywhere u)) in
+            let home = are.home n less in
+            let small : count_at counts (home_of blocks n) ≤ most = greatest (home_of blocks n) 0 (omega (arith, home, width)) in
+            subst (CutsAreFixed net (loops_by blocks cut) (bits u) n) (let e : (most - count_at counts (home_of blocks n)) + count_at counts (home_of blocks n) ≡ most = omega (arith, small) in e)
+            (stay_fixed (loops_by blocks cut) (blocks_tell_loops net blocks cut are cut_is) u wide n (count_at counts (home_of blocks n)) (most - count_at counts (home_of blocks n)) h)
+        | inr plain ↦
+            ap (map (value_in (sweeps net (loops_by blocks cut) (bits u) most))) (no_cuts n plain (range_with_len 0 (length net.gates)))
+            ∙ sym (ap (map (value_in (fix_gates net (bits u)))) (no_cuts n plain (range_with_len 0 (length net.gates))))
+      ])
+
+-- the loop in the whole netlist
+pub settles-is : (net : Parts) (gates : List ℕ) (small : Parts) (k : ℕ) → IsNetlist small → IsLoopNetlist net gates small → IsSettledIn small k → SettleInSweeps net gates k
+settles-is net gates small k valid is settled = record {
+  alone = record { outside = is.outside; small = small; valid = valid; is = is.is; read = is.read; determined = settled.determined };
+  sweeps = settled.sweeps;
+}
+
+pub settles-found : (net : Parts) (gates : List ℕ) (small : Parts) (found : Option ℕ) → IsNetlist small → IsLoopNetlist net gates small → IfSome found (IsSettledIn small) → IfSome found (SettleInSweeps net gates)
+settles-found net gates small None valid is settled = tt
+settles-found net gates small (Some k) valid is settled = settles-is net gates small k valid is settled

@@ -1,0 +1,6 @@
+use Rattle.isolation.specs.Excerpts.{origins}
+use Rattle.isolation.specs.Building.{AreCopies}
+use Rattle.isolation.proofs.excerpt.copy_gates.Given as goal
+
+abbrev pub invariant-loop-gate : goal.invariant-loop-gate
+invariant-loop-gate l = AreCopies l.net (origins l.net l.outside.keys l.gates) l.gates l.made.items l.gate-index

@@ -1,0 +1,6 @@
+pub mod Building
+pub mod Columns
+pub mod Excerpts
+pub mod Laws
+pub mod Settled
+pub mod Settling

@@ -1,0 +1,106 @@
+//! Whether a loop is settled by itself, whatever the wires outside are.
+
+ghost use Rattle.std.specs.Prelude.{◌≡◌, ◌≢◌, ◌<◌, ◌≤◌, ℕ, true, Bool, List, length, All, IfOk, IfSome};
+ghost use Rattle.bdd_store.specs.Growth.{KeepsNodes};
+ghost use Rattle.cyc_base.specs.declared.trit.Trit.TheVariants.{X};
+ghost use Rattle.dual_rail.specs.Rails.{AreRailsOf, value_of};
+ghost use Rattle.loops.specs.Blocks.{AreBlocksOf, block_at};
+ghost use Rattle.isolation.specs.Settled.{SettleInSweeps};
+ghost use Rattle.isolation.specs.Settling.{AreKnown, IsSettledIn};
+
+use crate::columns::column_rails;
+use crate::excerpt::loop_netlist;
+use bdd_ops::Diagrams;
+use bdd_store::{Node, StoreFault};
+use cyc_base::MAX_NODES;
+use dual_rail::Rails;
+use fixpoint::laws::solutions;
+use fixpoint::{solve, sweeps};
+use loops::{Blocks, find_blocks, find_cut};
+use netlist::Netlist;
+use std::alloc::{AllocError, Global};
+
+/// Whether these rails are X at no vector.
+fn is_known(d: &mut Diagrams, rails: Rails) -> Result<bool, StoreFault>
+    requires { AreRailsOf d.old rails }
+    ensures known { IfOk result (λ known. known ≡ true → (v : List Bool) → value_of d.old rails v ≢ X) }
+    ensures keeps { KeepsNodes d.old d.new }
+{
+    let either = d.or(rails.one, rails.zero)?;
+    Ok(either == Node::of(true))
+}
+
+/// Whether none of these rails is X at any vector.
+fn are_known(d: &mut Diagrams, rails: &[Rails]) -> Result<bool, StoreFault>
+    requires { All (AreRailsOf d.old) rails.now }
+    ensures known { IfOk result (λ known. known ≡ true → AreKnown d.old rails.now) }
+    ensures keeps { KeepsNodes d.old d.new }
+{
+    for one in rails {
+        if !is_known(d, *one)? {
+            return Ok(false);
+        }
+    }
+    Ok(true)
+}
+
+/// The greatest of these numbers, or 0.
+fn greatest(numbers: &[u32]) -> u32
+    ensures { All (λ n. n ≤ result) numbers.now }
+{
+    let mut most = 0;
+    for number in numbers {
+        most = most.max(*number);
+    }
+    most
+}
+
+/// How many sweeps are enough for the loops of a netlist without latches, if no gate of it is X at any Boolean
+/// vector.
+fn settle(alloc: Global, net: &Netlist, budget: u32) -> Result<Option<u32>, StoreFault>
+    requires { budget ≤ MAX_NODES }
+    ensures { IfOk result (λ found. IfSome found (IsSettledIn net.now)) }
+{
+    let blocks = find_blocks(alloc, net)?;
+    let cut = find_cut(alloc, net, &blocks)?;
+    let mut d = Diagrams::new(alloc, net.inputs() + net.latches(), budget)?;
+    solutions();
+    let given = column_rails(alloc, &mut d)?;
+    let solved = solve(alloc, &mut d, net, &blocks, &cut, &given)?;
+    if !are_known(&mut d, solved.rails.items())? {
+        return Ok(None);
+    }
+    let counts = sweeps(alloc, &mut d, &solved, &blocks, Node::of(true))?;
+    Ok(Some(greatest(counts.per_block.items())))
+}
+
+/// How many sweeps are enough for a loop that is settled by itself: taken as a netlist whose inputs are the wires
+/// that its gates read from outside, none of its gates is X at any Boolean vector (Malik 1994, of one block). `place`
+/// is the loop's place among the blocks. The diagrams are the call's own, and hold at most `budget` nodes.
+///
+/// It answers `None` where the loop isn't settled by itself, or where `budget` nodes were too few to see it, and
+/// `AllocError` for want of memory alone.
+///
+/// The condition is that the blocks are the netlist's, that there is one at this place, and that the budget is at
+/// most 50,000,000.
+pub fn settles_alone(
+    alloc: Global,
+    net: &Netlist,
+    blocks: &Blocks,
+    place: u32,
+    budget: u32,
+) -> Result<Option<u32>, AllocError>
+    requires blocks { AreBlocksOf net.now blocks.now }
+    requires place { place < length blocks.now.list }
+    requires budget { budget ≤ MAX_NODES }
+    ensures { IfOk result (λ found. IfSome found (SettleInSweeps net.now (block_at blocks.now place).gates)) }
+{
+    let Some(small) = loop_netlist(alloc, net, blocks, place)? else {
+        return Ok(None);
+    };
+    match settle(alloc, &small, budget) {
+        Ok(found) => Ok(found),
+        Err(StoreFault::Full) => Ok(None),
+        Err(StoreFault::Memory) => Err(AllocError),
+    }
+}

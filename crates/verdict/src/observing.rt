@@ -1,0 +1,68 @@
+//! Which gates are observed.
+
+ghost use Rattle.std.specs.Prelude.{◌≡◌, ◌++◌, ◌∷◌, [], ◌<◌, List, length, map, All, IfOk};
+ghost use Rattle.netlist.specs.Netlists.{IsNetlist, IsSignal};
+ghost use Rattle.refusals.specs.Acceptance.{observed};
+ghost use Rattle.verdict.specs.Observed.{AreMarksOf};
+
+use cyc_base::Sig;
+use netlist::Netlist;
+use refusals::Observe;
+use std::alloc::{AllocError, Global};
+
+/// Marks a signal, if it is a gate.
+fn mark(net: &Netlist, marks: &mut [bool], signal: Sig)
+    requires signal { IsSignal net.now signal }
+    requires width { length marks.old ≡ length net.now.gates }
+    ensures width { length marks.new ≡ length net.now.gates }
+    ensures marks { (before : List Sig) → AreMarksOf net.now before marks.old → AreMarksOf net.now (before ++ signal ∷ []) marks.new }
+{
+    let first = net.inputs() + net.latches();
+    if signal.0 >= first {
+        marks[(signal.0 - first) as usize] = true;
+    }
+}
+
+/// Marks the gates among these signals.
+fn mark_each(net: &Netlist, marks: &mut [bool], signals: &[Sig])
+    requires signals { All (IsSignal net.now) signals.now }
+    requires width { length marks.old ≡ length net.now.gates }
+    ensures width { length marks.new ≡ length net.now.gates }
+    ensures marks { (before : List Sig) → AreMarksOf net.now before marks.old → AreMarksOf net.now (before ++ signals.now) marks.new }
+{
+    for signal in signals {
+        mark(net, marks, *signal);
+    }
+}
+
+/// Marks the gates that latches load.
+fn mark_sources(net: &Netlist, marks: &mut [bool])
+    requires width { length marks.old ≡ length net.now.gates }
+    ensures width { length marks.new ≡ length net.now.gates }
+    ensures marks { (before : List Sig) → AreMarksOf net.now before marks.old → AreMarksOf net.now (before ++ map (λ latch. latch.from) net.now.latches) marks.new }
+{
+    for number in 0..net.latches() {
+        mark(net, marks, net.latch(number).from);
+    }
+}
+
+/// Which gates are observed, by number.
+pub(crate) fn observed_gates(
+    alloc: Global,
+    net: &Netlist,
+    observe: Observe,
+) -> Result<Vec<bool>, AllocError>
+    ensures marks { IfOk result (λ marks. AreMarksOf net.now (observed net.now observe) marks.items) }
+    ensures valid { IsNetlist net.now }
+{
+    let gates = net.gates() as usize;
+    match observe {
+        Observe::All => Ok(vec![in alloc; true; gates]?),
+        Observe::Outputs => {
+            let mut marks = vec![in alloc; false; gates]?;
+            mark_each(net, &mut marks, net.outputs());
+            mark_sources(net, &mut marks);
+            Ok(marks)
+        }
+    }
+}
