@@ -1,0 +1,23 @@
+-- The number of a gate's block is one for each loop.
+use Rattle.std.proofs.Common.{ap}
+use Rattle.std.specs.List.{slice_index_or}
+use Rattle.netlist.specs.declared.parts.Parts.{Parts}
+use Rattle.loops.specs.declared.parts.Blocks.{Blocks}
+use Rattle.loops.specs.declared.parts.Cut.{Cut}
+use Rattle.loops.specs.declared.parts.SweepCounts.{SweepCounts}
+use Rattle.loops.specs.Blocks.{AreBlocksOf}
+use Rattle.loops.specs.Cuts.{loops_by}
+use Rattle.loops.proofs.Told.{told_parts}
+use Rattle.unroll.specs.Laws.{EnoughByBlocks}
+use Rattle.unroll.specs.Unrolled.{sweeps_of, IsOfLoops}
+
+pub sweeps_are_of_loops : (net : Parts) (blocks : Blocks) (cut : Cut) (counts : SweepCounts) → AreBlocksOf net blocks → IsOfLoops (loops_by blocks cut) (sweeps_of blocks counts)
+sweeps_are_of_loops net blocks cut counts are a b e =
+    let t = told_parts net blocks are a b e in
+    ap (λ h. slice_index_or counts.per_block h 0) t.homes
+
+pub enough_by_blocks : EnoughByBlocks
+enough_by_blocks net blocks cut counts are v width fixed = record {
+  width = width;
+  fixed = λ a e. let t = told_parts net blocks are a a e in fixed a t.first t.looped;
+}

@@ -1,0 +1,15 @@
+pub mod MarkLemmas
+pub mod SizeLemmas
+pub mod PinLemmas
+pub mod TableLemmas
+pub mod Counts
+pub mod Places
+pub mod Rounds
+pub mod Kept
+pub mod Measures
+pub mod NameLemmas
+pub mod Valid
+pub mod Standing
+pub mod Above
+pub mod Opened
+pub mod Telling

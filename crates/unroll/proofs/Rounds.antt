@@ -1,0 +1,223 @@
+-- One number of copies after another, by tables.
+use Rattle.std.proofs.Common.{◌≡◌, inl, inr, ℕ, zero, suc, ◌+◌, ◌<◌, ◌≤◌, min, leb, ltb, Bool, true, false, if◌then◌else◌, List, [], ◌∷◌, ◌++◌, length, map, filter, replicate, get_or, set, refl, ap, ap₂, sym, ◌∙◌, subst, arith, Contains, All, true≢false, get_or-set_same, get_or-set_other, length-set}
+use Rattle.std.proofs.lemmas.Bool.{cases_lt, leb-true, le-leb}
+use Rattle.std.proofs.lemmas.List.{append-nil, get_or-replicate, get_or_default, length-append, length-map, length-replicate, map-append, append_assoc}
+use Rattle.std.specs.List.{AllByRecursion, range_with_len}
+use Rattle.cyc_base.specs.declared.sig.Sig.{Sig}
+use Rattle.netlist.specs.declared.parts.Gate.{Gate}
+use Rattle.netlist.specs.declared.parts.Parts.{Parts}
+use Rattle.netlist.specs.Netlists.{signal, count, gate_at}
+use Rattle.loops.specs.Cuts.{Loops, AreLoopsOf}
+use Rattle.loops.specs.Sweeps.{first_gate, gate_of, in_loop_of}
+use Rattle.loops.proofs.Reading.{in_loop_from}
+use Rattle.loops.proofs.Sweeps.{same-sym, same-trans, same_within}
+use Rattle.unroll.specs.Marks.{mark, copy_name}
+use Rattle.unroll.specs.Unrolled.{copy_of, copies_of, copied, copies_upto, most, copies, place, constants, shift, moved, copy_signal, copy_pin, copy_gate, IsOfLoops}
+use Rattle.unroll.specs.Tables.{at_table, copy_pin_by, copy_gate_by, entered, AreCopies, AreLastCopies, AreMade}
+use Rattle.unroll.proofs.TableLemmas.{length_entered}
+use Rattle.unroll.proofs.Places.{Increasing, copied_within, copied_has, copied_increasing, Contains-copied, length-round, upto_short, place_in_round, most-above}
+
+-- an entry that isn't made again
+entered_past : (table gates : List ℕ) (first n : ℕ) → AllByRecursion (λ g. n < g) gates → get_or (entered table gates first) n 0 ≡ get_or table n 0
+entered_past table [] first n h = refl
+entered_past table (g ∷ gates) first n h =
+    entered_past (set table g first) gates (suc first) n h.1
+    ∙ get_or-set_other table g n first 0 (λ e. (let l = h.0 in omega arith))
+
+-- the entry of a gate of the list
+pub entered_at : (table gates : List ℕ) (first i : ℕ) → Increasing gates → All (λ g. g < length table) gates → i < length gates → get_or (entered table gates first) (get_or gates i 0) 0 ≡ first + i
+entered_at table [] first i up within l = absurd (omega arith)
+entered_at table (g ∷ gates) first zero up within l =
+    entered_past (set table g first) gates (suc first) g up.0
+    ∙ get_or-set_same table g first 0 (within 0 0 (omega arith))
+    ∙ (let e : first ≡ first + 0 = omega arith in e)
+entered_at table (g ∷ gates) first (suc i) up within l =
+    let len = length-set table g first in
+    entered_at (set table g first) gates (suc first) i up.1 (λ j d h. (let w = within (suc j) d (omega arith) in omega arith)) (omega arith)
+    ∙ (let e : suc first + i ≡ first + suc i = omega arith in e)
+
+-- the entry of another gate
+pub entered_other : (table gates : List ℕ) (first n : ℕ) → (Contains gates n → ⊥) → get_or (entered table gates first) n 0 ≡ get_or table n 0
+entered_other table [] first n h = refl
+entered_other table (g ∷ gates) first n h =
+    entered_other (set table g first) gates (suc first) n (λ c. h (suc c.0, (let l = c.1 in omega arith), c.2))
+    ∙ get_or-set_other table g n first 0 (λ e. h (zero, omega arith, sym e))
+
+pub map_same : {A B : Type 0} (f g : A → B) (xs : List A) → ((x : A) → f x ≡ g x) → map f xs ≡ map g xs
+map_same f g [] h = refl
+map_same f g (x ∷ xs) h = ap₂ (λ y ys. y ∷ ys) (h x) (map_same f g xs h)
+
+pub map_where : {A B : Type 0} (f g : A → B) (xs : List A) → ((i : ℕ) (d : A) → i < length xs → f (get_or xs i d) ≡ g (get_or xs i d)) → map f xs ≡ map g xs
+map_where f g [] h = refl
+map_where f g (x ∷ xs) h = ap₂ (λ y ys. y ∷ ys) (h zero x (omega arith)) (map_where f g xs (λ i d l. h (suc i) d (omega arith)))
+
+pub map-map : {A B C : Type 0} (f : B → C) (g : A → B) (xs : List A) → map f (map g xs) ≡ map (λ x. f (g x)) xs
+map-map f g [] = refl
+map-map f g (x ∷ xs) = ap (λ ys. f (g x) ∷ ys) (map-map f g xs)
+
+-- a choice among three signals in two ways
+pub choice_same : (b d : Bool) (x y z x' y' z' : Sig) → (b ≡ true → x ≡ x') → (b ≡ true → y ≡ y') → z ≡ z' → (if b then (if d then x else y) else z) ≡ (if b then (if d then x' else y') else z')
+choice_same true true x y z x' y' z' h k l = h refl
+choice_same true false x y z x' y' z' h k l = k refl
+choice_same false d x y z x' y' z' h k l = l
+
+filter_twice : (p q : ℕ → Bool) (xs : List ℕ) → ((x : ℕ) → q x ≡ true → p x ≡ true) → filter q (filter p xs) ≡ filter q xs
+filter_twice p q [] h = refl
+filter_twice p q (x ∷ xs) h = by (p x) (q x) refl refl (filter_twice p q xs h)
+  where
+    by : (b d : Bool) → p x ≡ b → q x ≡ d → filter q (filter p xs) ≡ filter q xs → filter q (filter p (x ∷ xs)) ≡ filter q (x ∷ xs)
+    by true true e f rest = rw (e, f) (ap (λ ys. x ∷ ys) rest)
+    by true false e f rest = rw (e, f) rest
+    by false true e f rest = absurd (true≢false (sym (h x f) ∙ e))
+    by false false e f rest = rw (e, f) rest
+
+module _ (net : Parts) (loops : Loops) (m : ℕ → ℕ) where
+  abbrev has : ℕ → ℕ
+  has n = copies_of loops.same m n
+
+  -- those with more copies, of those that have some
+  pub copied_next : (k : ℕ) → filter (λ n. ltb (suc k) (has n)) (copied net loops m (suc k)) ≡ copied net loops m (suc (suc k))
+  copied_next k =
+      filter_twice (λ n. leb (suc k) (has n)) (λ n. leb (suc (suc k)) (has n)) (range_with_len 0 (length net.gates))
+      (λ x e. le-leb (suc k) (has x) (let l = leb-true (suc (suc k)) (has x) e in omega arith))
+
+  -- where the copies up to number k stand
+  abbrev pub first_of_round : ℕ → ℕ
+  first_of_round k = first_gate net + (length (constants net loops) + length (copies_upto net loops m k))
+
+  signal_in_round : (k i : ℕ) → suc k ≤ most loops.same m (length net.gates) → i < length (copied net loops m (suc k)) → copy_signal net loops m (suc k) (get_or (copied net loops m (suc k)) i 0) ≡ signal (first_of_round k + i)
+  signal_in_round k i top l =
+      let e = place_in_round net loops m k i top l in
+      let all : first_gate net + (length (constants net loops) + place (copies net loops m) (suc k) (get_or (copied net loops m (suc k)) i 0)) ≡ first_of_round k + i = omega arith in
+      ap signal all
+
+  -- the copies of a number that are entered
+  pub entered_is : (k : ℕ) (table : List ℕ) → suc k ≤ most loops.same m (length net.gates) → length table ≡ length net.gates → (n : ℕ) → n < length net.gates → suc k ≤ has n → at_table (entered table (copied net loops m (suc k)) (first_of_round k)) n ≡ copy_signal net loops m (suc k) n
+  entered_is k table top width n l few =
+      let c = Contains-copied net loops m (suc k) n l few in
+      let at = entered_at table (copied net loops m (suc k)) (first_of_round k) c.0 (copied_increasing net loops m (suc k))
+      (λ i d h. (let w = copied_within net loops m (suc k) i d h in omega arith)) c.1 in
+      let is : get_or (copied net loops m (suc k)) c.0 0 ≡ n = get_or_default (copied net loops m (suc k)) c.0 0 n c.1 ∙ c.2 in
+      ap (λ g. at_table (entered table (copied net loops m (suc k)) (first_of_round k)) g) (sym is)
+      ∙ ap signal at
+      ∙ sym (signal_in_round k c.0 top c.1)
+      ∙ ap (copy_signal net loops m (suc k)) is
+
+  pub entered_next : (k : ℕ) (table : List ℕ) → suc k ≤ most loops.same m (length net.gates) → AreCopies net loops m k table → AreCopies net loops m (suc k) (entered table (copied net loops m (suc k)) (first_of_round k))
+  entered_next k table top are = record {
+    width = length_entered table (copied net loops m (suc k)) (first_of_round k) ∙ are.width;
+    each = λ n l.
+        elim (cases_lt k (has n)) [
+          | inl more ↦
+              let least : suc k ≡ min (suc k) (has n) = omega arith in
+              entered_is k table top are.width n l (omega arith) ∙ ap (λ j. copy_signal net loops m j n) least
+          | inr no_more ↦
+              let least : min k (has n) ≡ min (suc k) (has n) = omega arith in
+              ap signal (entered_other table (copied net loops m (suc k)) (first_of_round k) n
+              (λ c. (let h = copied_has net loops m (suc k) c.0 n c.1 in let e = ap has c.2 in omega arith)))
+              ∙ are.each n l
+              ∙ ap (λ j. copy_signal net loops m j n) least
+        ];
+  }
+
+  -- before the first number each gate has the constant
+  pub none_entered : (table : List ℕ) → table ≡ replicate (length net.gates) (first_gate net) → AreCopies net loops m 0 table
+  none_entered table e = record {
+    width = ap length e ∙ length-replicate (length net.gates) (first_gate net);
+    each = λ n l.
+        let none : 0 ≡ min 0 (has n) = omega arith in
+        ap (λ t. at_table t n) e
+        ∙ ap signal (get_or-replicate (length net.gates) n (first_gate net) 0 l)
+        ∙ ap (λ k. copy_signal net loops m k n) none;
+  }
+
+  pub none_made : (gates : List Gate) → gates ≡ constants net loops → gates ≡ constants net loops ++ map (copy_gate net loops m) (copies_upto net loops m 0)
+  none_made gates e = e ∙ sym (append-nil (constants net loops))
+
+  pub all_entered : (k : ℕ) (table : List ℕ) → k ≡ most loops.same m (length net.gates) → AreCopies net loops m k table → AreLastCopies net loops m table
+  all_entered k table e are = record {
+    width = are.width;
+    each = λ n l.
+        let few = most-above loops.same m (length net.gates) n l in
+        let least : min k (has n) ≡ has n = omega arith in
+        are.each n l ∙ ap (λ j. copy_signal net loops m j n) least;
+  }
+
+  -- how many gates there are after a number of copies
+  pub length_made : (k : ℕ) (gates : List Gate) → gates ≡ constants net loops ++ map (copy_gate net loops m) (copies_upto net loops m k) → length gates ≡ length (constants net loops) + length (copies_upto net loops m k)
+  length_made k gates e =
+      ap length e ∙ length-append (constants net loops) (map (copy_gate net loops m) (copies_upto net loops m k))
+      ∙ ap (λ n. length (constants net loops) + n) (length-map (copies_upto net loops m k) (copy_gate net loops m))
+
+  pub round_fits : (k by : ℕ) (gates : List Gate) (active : List ℕ) → suc k ≤ most loops.same m (length net.gates) → by ≡ shift net loops m → count net + by ≤ 4294967295 → gates ≡ constants net loops ++ map (copy_gate net loops m) (copies_upto net loops m k) → active ≡ copied net loops m (suc k) → first_gate net + length gates + length active ≤ 4294967295
+  round_fits k by gates active top up fits made is =
+      let len = length_made k gates made in
+      let more = length-round net loops m k in
+      let short = upto_short net loops m (suc k) top in
+      let now = ap length is in
+      omega arith
+
+  module _ (are : AreLoopsOf net loops) (of_loops : IsOfLoops loops m) where
+    -- gates of one loop have as many copies
+    pub has_same : (n h : ℕ) → loops.same n h ≡ true → has h ≡ has n
+    has_same n h e =
+        let back = same-sym net loops are n h e in
+        let first : has n ≡ m n = rw (same-trans net loops are n h n e back) refl in
+        let second : has h ≡ m h = rw (same-trans net loops are h n h back e) refl in
+        second ∙ sym (of_loops n h e) ∙ sym first
+
+    module _ (k by : ℕ) (earlier current : List ℕ) (top : suc k ≤ most loops.same m (length net.gates)) (up : by ≡ shift net loops m) (copies_before : AreCopies net loops m k earlier) (width : length current ≡ length net.gates) where
+      abbrev beside : List ℕ
+      beside = entered current (copied net loops m (suc k)) (first_of_round k)
+
+      pin_same : (n : ℕ) → suc k ≤ has n → (s : Sig) → copy_pin_by net loops by earlier beside n s ≡ copy_pin net loops m k n s
+      pin_same n few s =
+          let h = gate_of net s in
+          choice_same (in_loop_of net loops n s) (loops.cut h)
+          (at_table earlier h) (at_table beside h) (moved net by s)
+          (copy_signal net loops m k h) (copy_signal net loops m (suc k) h) (moved net (shift net loops m) s)
+          (λ e.
+          let p = in_loop_from net loops n s e in
+          let many = has_same n h p.1 in
+          let least : min k (has h) ≡ k = omega arith in
+          copies_before.each h (same_within net loops are n h p.1) ∙ ap (λ j. copy_signal net loops m j h) least)
+          (λ e.
+          let p = in_loop_from net loops n s e in
+          let many = has_same n h p.1 in
+          entered_is k current top width h (same_within net loops are n h p.1) (omega arith))
+          (ap (λ j. moved net j s) up)
+
+      gate_same : (n : ℕ) → suc k ≤ has n → copy_gate_by net loops (mark net) by earlier beside (suc k) n ≡ copy_gate net loops m (copy_of (suc k) n)
+      gate_same n few =
+          ap (λ pins. let g : Gate = record { name = copy_name (mark net) (suc k) (gate_at net n).name; pins = pins; cover = (gate_at net n).cover } in g)
+          (map_same (copy_pin_by net loops by earlier beside n) (copy_pin net loops m k n) (gate_at net n).pins (pin_same n few))
+
+      -- one more number of copies
+      pub round_made : (gates : List Gate) → gates ≡ constants net loops ++ map (copy_gate net loops m) (copies_upto net loops m k) → gates ++ map (copy_gate_by net loops (mark net) by earlier beside (suc k)) (copied net loops m (suc k)) ≡ constants net loops ++ map (copy_gate net loops m) (copies_upto net loops m (suc k))
+      round_made gates e =
+          let old = copies_upto net loops m k in
+          let ns = copied net loops m (suc k) in
+          ap₂ (λ xs ys. xs ++ ys) e
+          (map_where (copy_gate_by net loops (mark net) by earlier beside (suc k)) (λ n. copy_gate net loops m (copy_of (suc k) n)) ns
+          (λ i d l. gate_same (get_or ns i d) (copied_has net loops m (suc k) i d l))
+          ∙ sym (map-map (copy_gate net loops m) (copy_of (suc k)) ns))
+          ∙ append_assoc (constants net loops) (map (copy_gate net loops m) old) (map (copy_gate net loops m) (map (copy_of (suc k)) ns))
+          ∙ ap (λ xs. constants net loops ++ xs) (sym (map-append (copy_gate net loops m) old (map (copy_of (suc k)) ns)))
+
+    -- one more number of copies, as it is made
+    pub made_next : (k by : ℕ) (name : List ℕ) (active act rest next : List ℕ) (gates made : List Gate) (earlier later current beside : List ℕ) → suc k ≤ most loops.same m (length net.gates) → name ≡ mark net → by ≡ shift net loops m → AreMade net loops m k active gates earlier current → act ≡ active → rest ≡ active → made ≡ gates ++ map (copy_gate_by net loops name by earlier (entered current act (first_gate net + length gates)) (k + 1)) act → later ≡ entered earlier act (first_gate net + length gates) → length beside ≡ length net.gates → next ≡ filter (λ n. ltb (k + 1) (has n)) rest → AreMade net loops m (k + 1) next made later beside
+    made_next k by name active act rest next gates made earlier later current beside top mine up before is is2 makes enters width more =
+        let len = length_made k gates before.made in
+        let first : first_gate net + length gates ≡ first_of_round k = omega arith in
+        let one : k + 1 ≡ suc k = omega arith in
+        let now : act ≡ copied net loops m (suc k) = is ∙ before.next in
+        subst (λ (j : ℕ). AreMade net loops m j next made later beside) (sym one) (record {
+          next = more ∙ ap₂ (λ j ns. filter (λ n. ltb j (has n)) ns) one (is2 ∙ before.next) ∙ copied_next k;
+          made = makes
+              ∙ ap₂ (λ t j. gates ++ map (copy_gate_by net loops t by earlier (entered current act (first_gate net + length gates)) j) act) mine one
+              ∙ ap₂ (λ ns f. gates ++ map (copy_gate_by net loops (mark net) by earlier (entered current ns f) (suc k)) ns) now first
+              ∙ round_made k by earlier current top up before.before before.width gates before.made;
+          before = subst (λ (t : List ℕ). AreCopies net loops m (suc k) t) (sym (enters ∙ ap₂ (entered earlier) now first))
+              (entered_next k earlier top before.before);
+          width = width;
+        })

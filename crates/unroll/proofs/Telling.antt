@@ -1,0 +1,98 @@
+-- The unrolled netlist keeps the interface, and tells of outputs and latches what the netlist does.
+use Rattle.std.proofs.Common.{◌≡◌, inl, inr, ℕ, zero, suc, ◌+◌, ◌-◌, ◌<◌, ◌≤◌, List, [], ◌++◌, length, map, get_or, refl, ap, ap₂, sym, ◌∙◌, subst, arith}
+use Rattle.std.proofs.lemmas.Bool.{cases_lt}
+use Rattle.std.proofs.lemmas.List.{append_assoc, get_or_append_left, get_or-append_right, length-append, length-map}
+use Rattle.cyc_base.specs.declared.sig.Sig.{Sig}
+use Rattle.cyc_base.specs.declared.trit.Trit.{Trit}
+use Rattle.cyc_base.specs.Values.{EachBelow}
+use Rattle.cyc_base.proofs.OrderLemmas.{EachBelow-map}
+use Rattle.netlist.specs.declared.parts.Parts.{Parts}
+use Rattle.netlist.specs.Fixpoint.{wire, fix}
+use Rattle.netlist.specs.Netlists.{gate_at, gate_sig, signal_names}
+use Rattle.loops.specs.Cuts.{Loops}
+use Rattle.loops.specs.Sweeps.{first_gate, gate_of}
+use Rattle.unroll.specs.Laws.{UnrolledHasItsSize, GatesStandAtTheirSignals, UnrolledIsNetlist, UnrolledTellsAsMuch, UnrolledKeepsInterface}
+use Rattle.unroll.specs.Marks.{mark, copy_name}
+use Rattle.unroll.specs.Unrolled.{copy_of, copies_of, copies, place, shift, copy_signal, old_signal, copy_gate, kept_gate, kept_latch, constants, unrolled}
+use Rattle.unroll.proofs.Above.{unrolled_is_above}
+use Rattle.unroll.proofs.Measures.{size_is_size}
+use Rattle.unroll.proofs.Places.{copy_placed}
+use Rattle.unroll.proofs.Rounds.{map-map, map_same}
+use Rattle.unroll.proofs.Standing.{gate_at_copy, gate_at_kept}
+use Rattle.unroll.proofs.Valid.{moved_low, moved_high, names_new, names_old, old_names, zero_names, copy_names, gate_names, unrolled_is_netlist}
+
+pub unrolled_has_its_size : UnrolledHasItsSize
+unrolled_has_its_size net loops are m of_loops = size_is_size net loops m
+
+pub unrolled_is_a_netlist : UnrolledIsNetlist
+unrolled_is_a_netlist net loops are m of_loops is inputs small = unrolled_is_netlist net loops m is are of_loops small inputs
+
+copies_stand : (net : Parts) (loops : Loops) (m : ℕ → ℕ) (k n : ℕ) → n < length net.gates → 1 ≤ k → k ≤ copies_of loops.same m n → gate_at (unrolled net loops m) (gate_of net (copy_signal net loops m k n)) ≡ copy_gate net loops m (copy_of k n)
+copies_stand net loops m zero n l one few = absurd (omega arith)
+copies_stand net loops m (suc k) n l one few =
+    let at = copy_placed net loops m k n l few in
+    let p = place (copies net loops m) (suc k) n in
+    let stands : gate_of net (copy_signal net loops m (suc k) n) ≡ length (constants net loops) + p = omega arith in
+    ap (gate_at (unrolled net loops m)) stands ∙ gate_at_copy net loops m p (copy_of (suc k) n) (copy_of 0 0) at.within (at.is (copy_of 0 0))
+
+kept_stands : (net : Parts) (loops : Loops) (m : ℕ → ℕ) (n : ℕ) → n < length net.gates → gate_at (unrolled net loops m) (gate_of net (old_signal net loops m (gate_sig net n))) ≡ kept_gate net loops m n
+kept_stands net loops m n l =
+    let s = gate_sig net n in
+    let from : first_gate net ≤ s.0 = omega arith in
+    let is = ap (λ (t : Sig). t.0) (moved_high net (shift net loops m) s from) in
+    let stands : gate_of net (old_signal net loops m s) ≡ length (constants net loops) + (length (copies net loops m) + n) = omega arith in
+    ap (gate_at (unrolled net loops m)) stands ∙ gate_at_kept net loops m n l
+
+pub gates_stand_at_their_signals : GatesStandAtTheirSignals
+gates_stand_at_their_signals net loops are m of_loops = (copies_stand net loops m, kept_stands net loops m)
+
+-- a signal keeps its name
+name_kept : (net : Parts) (loops : Loops) (m : ℕ → ℕ) (s : Sig) → get_or (signal_names net) s.0 [] ≡ get_or (signal_names (unrolled net loops m)) (old_signal net loops m s).0 []
+name_kept net loops m s =
+    let O = old_names net loops m in
+    let Z = zero_names net loops m in
+    let C = copy_names net loops m (copies net loops m) in
+    let Gs = gate_names net.gates in
+    let wide : length O ≡ first_gate net = length-append net.inputs (map (λ latch. latch.name) net.latches) ∙ ap (λ n. length net.inputs + n) (length-map net.latches (λ latch. latch.name)) in
+    let zero_many = length-map (constants net loops) (λ gate. gate.name) in
+    let many = length-map (copies net loops m) (λ copy. copy_name (mark net) copy.number (gate_at net copy.gate).name) in
+    let both = length-append Z C in
+    elim (cases_lt s.0 (first_gate net)) [
+      | inl low ↦
+          ap (λ xs. get_or xs s.0 []) (names_old net loops m)
+          ∙ get_or_append_left O Gs [] s.0 (omega arith)
+          ∙ sym (ap₂ (λ xs (t : Sig). get_or xs t.0 []) (names_new net loops m) (moved_low net (shift net loops m) s low)
+          ∙ get_or_append_left O (Z ++ (C ++ Gs)) [] s.0 (omega arith))
+      | inr high ↦
+          let k = s.0 - first_gate net in
+          ap (λ xs. get_or xs s.0 []) (names_old net loops m)
+          ∙ get_or-append_right O Gs (first_gate net) s.0 [] wide high
+          ∙ sym (ap₂ (λ xs (t : Sig). get_or xs t.0 []) (names_new net loops m) (moved_high net (shift net loops m) s high)
+          ∙ get_or-append_right O (Z ++ (C ++ Gs)) (first_gate net) (s.0 + shift net loops m) [] wide (omega arith)
+          ∙ ap (λ xs. get_or xs ((s.0 + shift net loops m) - first_gate net) []) (sym (append_assoc Z C Gs))
+          ∙ get_or-append_right (Z ++ C) Gs (shift net loops m) ((s.0 + shift net loops m) - first_gate net) [] (omega arith) (omega arith)
+          ∙ ap (λ i. get_or Gs i []) (let e : ((s.0 + shift net loops m) - first_gate net) - shift net loops m ≡ k = omega arith in e))
+    ]
+
+pub unrolled_keeps_interface : UnrolledKeepsInterface
+unrolled_keeps_interface net loops are m of_loops = record {
+  inputs = refl;
+  latches = sym (map-map (λ latch. latch.name) (kept_latch net (shift net loops m)) net.latches);
+  inits = sym (map-map (λ latch. latch.init) (kept_latch net (shift net loops m)) net.latches);
+  outputs = map_same (λ s. get_or (signal_names net) s.0 []) (λ s. get_or (signal_names (unrolled net loops m)) (old_signal net loops m s).0 []) net.outputs (name_kept net loops m)
+      ∙ sym (map-map (λ s. get_or (signal_names (unrolled net loops m)) s.0 []) (old_signal net loops m) net.outputs);
+  clock = refl;
+}
+
+pub unrolled_tells_as_much : UnrolledTellsAsMuch
+unrolled_tells_as_much net loops are m of_loops v enough =
+    let other = unrolled net loops m in
+    let above = unrolled_is_above net loops are m of_loops v enough in
+    record {
+      outputs = subst (λ (xs : List Trit). EachBelow (map (wire (fix net v)) net.outputs) xs)
+          (sym (map-map (wire (fix other v)) (old_signal net loops m) net.outputs))
+          (EachBelow-map (wire (fix net v)) (λ s. wire (fix other v) (old_signal net loops m s)) net.outputs above);
+      loads = subst (λ (xs : List Trit). EachBelow (map (λ latch. wire (fix net v) latch.from) net.latches) xs)
+          (sym (map-map (λ latch. wire (fix other v) latch.from) (kept_latch net (shift net loops m)) net.latches))
+          (EachBelow-map (λ latch. wire (fix net v) latch.from) (λ latch. wire (fix other v) (old_signal net loops m latch.from)) net.latches (λ latch. above latch.from));
+    }

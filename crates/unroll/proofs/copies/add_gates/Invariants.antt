@@ -1,0 +1,10 @@
+use Rattle.std.proofs.Common.{◌≡◌, ◌++◌, map, take}
+use Rattle.loops.specs.Cuts.{loops_by}
+use Rattle.unroll.specs.Tables.{copy_gate_by}
+use Rattle.unroll.proofs.copies.add_gates.Given as goal
+
+abbrev pub invariant-loop-gate : goal.invariant-loop-gate
+invariant-loop-gate l =
+    l.gates.items
+    ≡ l.initial.gates.items
+    ++ map (copy_gate_by l.net (loops_by l.blocks l.cut) l.plan.mark l.plan.by l.tables.earlier.items l.tables.current.items l.number) (take l.gate-index l.active)

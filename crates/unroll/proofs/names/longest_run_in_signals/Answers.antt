@@ -1,0 +1,16 @@
+use Rattle.std.proofs.Common.{max, ap₂, sym, ◌∙◌}
+use Rattle.std.proofs.lemmas.Option.{get_or_from_slice_get, slice_get_within}
+use Rattle.netlist.specs.Netlists.{signal_names}
+use Rattle.unroll.proofs.MarkLemmas.{max_is, longest_more}
+use Rattle.unroll.proofs.names.longest_run_in_signals.Goals as goal
+
+pub loop-number-preserved : goal.loop-number-preserved
+loop-number-preserved c =
+    let names = signal_names c.args.net.now in
+    let i = c.loop-number.number in
+    let name = c.name_of.result.now in
+    let got = c.name_of.ensures.name in
+    c.max-longest.ensures
+    ∙ max_is c.loop-number.longest c.longest_run.result
+    ∙ ap₂ max c.loop-number.invariant c.longest_run.ensures
+    ∙ sym (longest_more names i name (slice_get_within names i name got) (sym (get_or_from_slice_get names i name name got)))

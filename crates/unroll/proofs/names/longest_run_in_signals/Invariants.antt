@@ -1,0 +1,7 @@
+use Rattle.std.proofs.Common.{◌≡◌, take}
+use Rattle.netlist.specs.Netlists.{signal_names}
+use Rattle.unroll.specs.Marks.{longest_run_of}
+use Rattle.unroll.proofs.names.longest_run_in_signals.Given as goal
+
+abbrev pub invariant-loop-number : goal.invariant-loop-number
+invariant-loop-number l = l.longest ≡ longest_run_of (take l.number (signal_names l.net))

@@ -1,0 +1,11 @@
+use Rattle.std.proofs.Common.{◌++◌, ◌∷◌, [], ap₂, sym, ◌∙◌}
+use Rattle.unroll.specs.Unrolled.{kept_latch}
+use Rattle.unroll.proofs.Kept.{taken_mapped}
+use Rattle.unroll.proofs.parts.kept_latches.Goals as goal
+
+pub loop-number-preserved : goal.loop-number-preserved
+loop-number-preserved c =
+    let net = c.args.net.now in
+    c.in_ok-push.ensures.items
+    ∙ ap₂ (λ xs x. xs ++ x ∷ []) c.loop-number.invariant c.in_ok-kept_latch.ensures
+    ∙ sym (taken_mapped (kept_latch net c.args.by) net.latches c.loop-number.number c.latch.result.now c.latch.ensures.latch)

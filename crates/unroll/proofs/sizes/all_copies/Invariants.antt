@@ -1,0 +1,11 @@
+use Rattle.std.proofs.Common.{◌≡◌, ◌≤◌, ◌*◌}
+use Rattle.std.specs.List.{range_with_len, sum_by}
+use Rattle.loops.specs.Cuts.{in_one_loop}
+use Rattle.unroll.specs.Unrolled.{copies_of, sweeps_of}
+use Rattle.unroll.proofs.sizes.all_copies.Given as goal
+
+abbrev pub invariant-loop-gate : goal.invariant-loop-gate
+invariant-loop-gate l = record {
+  all : l.all ≡ sum_by (copies_of (in_one_loop l.blocks) (sweeps_of l.blocks l.sweeps)) (range_with_len 0 l.gate);
+  bound : l.all ≤ l.gate * 4294967295;
+}

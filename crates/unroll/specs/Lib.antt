@@ -1,0 +1,4 @@
+pub mod Marks
+pub mod Unrolled
+pub mod Tables
+pub mod Laws

@@ -1,0 +1,82 @@
+//! The names of the constant and of copies.
+
+ghost use Rattle.std.specs.Prelude.{◌≡◌, ◌<◌, length, take, IfOk};
+ghost use Rattle.netlist.specs.Netlists.{signal_names};
+ghost use Rattle.unroll.specs.Marks.{longest_run as longest_run_by, longest_run_of, longest_run_in as longest_run_by_net, mark as mark_of, zero_name as zero_name_by, copy_name as copy_name_by};
+
+use cyc_base::{Name, Sig};
+use netlist::Netlist;
+use std::alloc::{AllocError, Global};
+
+/// The longest run of `~` in a name.
+#[tactic(auto, using(crate::proofs::MarkLemmas::max_is))]
+fn longest_run(name: &Name) -> usize
+    ensures { result ≡ longest_run_by name.now }
+{
+    let mut longest = 0;
+    let mut run = 0;
+    for byte in name.bytes() {
+        run = if *byte == b'~' { run + 1 } else { 0 };
+        longest = longest.max(run);
+    }
+    longest
+}
+
+/// The longest run of `~` in the name of a signal.
+#[tactic(auto, using(crate::proofs::MarkLemmas::max_is))]
+fn longest_run_in_signals(net: &Netlist) -> usize
+    ensures { result ≡ longest_run_of (signal_names net.now) }
+{
+    let mut longest = 0;
+    for number in 0..net.count() {
+        longest = longest.max(longest_run(net.name_of(Sig(number))));
+    }
+    longest
+}
+
+/// The longest run of `~` in the name of a signal or of the clock.
+#[tactic(auto, using(crate::proofs::MarkLemmas::max_is))]
+fn longest_run_in(net: &Netlist) -> usize
+    ensures { result ≡ longest_run_by_net net.now }
+{
+    let signals = longest_run_in_signals(net);
+    match net.clock() {
+        Some(clock) => signals.max(longest_run(&clock.name)),
+        None => signals,
+    }
+}
+
+/// The mark: a run of `~` that is longer by one.
+pub(crate) fn mark(alloc: Global, net: &Netlist) -> Result<Name, AllocError>
+    ensures { IfOk result (λ mark. mark ≡ mark_of net.now) }
+{
+    let longest = longest_run_in(net);
+    let mut bytes = vec![in alloc; b'~'; longest]?;
+    bytes.push(b'~')?;
+    Ok(Name::new(bytes))
+}
+
+/// The name of the constant 0.
+pub(crate) fn zero_name(alloc: Global, mark: &Name) -> Result<Name, AllocError>
+    ensures { IfOk result (λ name. name ≡ zero_name_by mark.now) }
+{
+    let mut bytes = b"z".to_vec(alloc)?;
+    bytes.extend_from_slice(mark.bytes())?;
+    Ok(Name::new(bytes))
+}
+
+/// The name of a copy of a gate with this name.
+pub(crate) fn copy_name(
+    alloc: Global,
+    mark: &Name,
+    number: u32,
+    name: &Name,
+) -> Result<Name, AllocError>
+    ensures { IfOk result (λ copy. copy ≡ copy_name_by mark.now number name.now) }
+{
+    let start = format!(in alloc; "c{number}")?;
+    let mut bytes = start.as_bytes().to_vec(alloc)?;
+    bytes.extend_from_slice(mark.bytes())?;
+    bytes.extend_from_slice(name.bytes())?;
+    Ok(Name::new(bytes))
+}

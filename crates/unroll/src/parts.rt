@@ -1,0 +1,176 @@
+//! The parts of the unrolled netlist.
+
+ghost use Rattle.std.specs.Prelude.{◌≡◌, ◌<◌, ◌≤◌, ◌+◌, ◌++◌, length, map, IfOk, OnOk};
+ghost use Rattle.std.specs.List.{range_with_len};
+ghost use Rattle.netlist.specs.Netlists.{count, IsNetlist};
+ghost use Rattle.loops.specs.declared.parts.Cut.{Cut as TheCut};
+ghost use Rattle.loops.specs.Blocks.{AreBlocksOf};
+ghost use Rattle.loops.specs.Cuts.{IsCutOf, loops_by};
+ghost use Rattle.unroll.specs.Marks.{mark as mark_of};
+ghost use Rattle.unroll.specs.Unrolled.{sweeps_of, shift, copies, constants as constants_of, copy_gate, kept_gate as kept_gate_of, kept_latch as kept_latch_by, moved as moved_by, unrolled};
+ghost use Rattle.unroll.specs.Tables.{kept_gate_by, AreLastCopies};
+
+use crate::copies::add_copies;
+use crate::gates::{Plan, kept_gate, zero_gate};
+use crate::names::mark;
+use crate::pins::moved;
+use crate::sizes::has_loop;
+use cyc_base::{Items, Name, Sig};
+use loops::{Blocks, Cut, SweepCounts};
+use netlist::{Clock, Gate, Latch, Netlist, Parts};
+use std::alloc::{AllocError, Global};
+
+/// Copies of the inputs' names.
+fn copy_inputs(alloc: Global, net: &Netlist) -> Result<Vec<Name>, AllocError>
+    ensures { IfOk result (λ names. names.items ≡ net.now.inputs) }
+{
+    let mut names = Vec::with_capacity(alloc, net.inputs() as usize)?;
+    for number in 0..net.inputs() {
+        names.push(net.name_of(Sig(number)).copy()?)?;
+    }
+    Ok(names)
+}
+
+/// A copy of the clock.
+fn copy_clock(net: &Netlist) -> Result<Option<Clock>, AllocError>
+    ensures { IfOk result (λ clock. clock ≡ net.now.clock) }
+{
+    match net.clock() {
+        Some(clock) => Ok(Some(Clock {
+            edge: clock.edge,
+            name: clock.name.copy()?,
+        })),
+        None => Ok(None),
+    }
+}
+
+/// A latch whose source is moved up where it is a gate.
+fn kept_latch(net: &Netlist, by: u32, latch: &Latch) -> Result<Latch, AllocError>
+    requires { latch.now.from.0 + by ≤ 4294967295 }
+    ensures { IfOk result (λ kept. kept ≡ kept_latch_by net.now by latch.now) }
+{
+    Ok(Latch {
+        name: latch.name.copy()?,
+        from: moved(net, by, latch.from),
+        init: latch.init,
+        clocked: latch.clocked,
+    })
+}
+
+fn kept_latches(alloc: Global, net: &Netlist, by: u32) -> Result<Vec<Latch>, AllocError>
+    requires { count net.now + by ≤ 4294967295 }
+    ensures { IfOk result (λ latches. latches.items ≡ map (kept_latch_by net.now by) net.now.latches) }
+{
+    let mut latches = Vec::with_capacity(alloc, net.latches() as usize)?;
+    for number in 0..net.latches() {
+        latches.push(kept_latch(net, by, net.latch(number))?)?;
+    }
+    Ok(latches)
+}
+
+fn kept_outputs(alloc: Global, net: &Netlist, by: u32) -> Result<Vec<Sig>, AllocError>
+    requires { count net.now + by ≤ 4294967295 }
+    ensures { IfOk result (λ outputs. outputs.items ≡ map (moved_by net.now by) net.now.outputs) }
+{
+    let mut outputs = Vec::with_capacity(alloc, net.outputs().len())?;
+    for output in net.outputs() {
+        outputs.push(moved(net, by, *output))?;
+    }
+    Ok(outputs)
+}
+
+/// The constant 0, where there is a loop.
+fn constants(
+    alloc: Global,
+    net: &Netlist,
+    blocks: &Blocks,
+    mark: &Name,
+) -> Result<Vec<Gate>, AllocError>
+    requires blocks { AreBlocksOf net.now blocks.now }
+    requires mark { mark.now ≡ mark_of net.now }
+    ensures { (cut : TheCut) → IfOk result (λ gates. gates.items ≡ constants_of net.now (loops_by blocks.now cut)) }
+{
+    let mut gates = Vec::new(alloc);
+    if has_loop(net, blocks) {
+        gates.push(zero_gate(alloc, mark)?)?;
+    }
+    Ok(gates)
+}
+
+/// Adds the gates themselves, whose cut wires are read from the last copies.
+fn add_kept(
+    alloc: Global,
+    net: &Netlist,
+    blocks: &Blocks,
+    cut: &Cut,
+    by: u32,
+    last: &[u32],
+    gates: &mut Vec<Gate>,
+) -> Result<(), AllocError>
+    requires blocks { AreBlocksOf net.now blocks.now }
+    requires cut { IsCutOf net.now cut.now }
+    requires by { count net.now + by ≤ 4294967295 }
+    requires last { length last.now ≡ length net.now.gates }
+    ensures { OnOk result (gates.new.items ≡ gates.old.items ++ map (kept_gate_by net.now (loops_by blocks.now cut.now) by last.now) (range_with_len 0 (length net.now.gates))) }
+{
+    for gate in 0..net.gates() {
+        gates.push(kept_gate(alloc, net, blocks, cut, by, last, gate)?)?;
+    }
+    Ok(())
+}
+
+/// The gates: the constant, the copies, and the netlist's own.
+fn unrolled_gates(
+    alloc: Global,
+    net: &Netlist,
+    blocks: &Blocks,
+    cut: &Cut,
+    sweeps: &SweepCounts,
+    by: u32,
+) -> Result<Vec<Gate>, AllocError>
+    requires blocks { AreBlocksOf net.now blocks.now }
+    requires cut { IsCutOf net.now cut.now }
+    requires sweeps { length sweeps.now.per_block ≡ length blocks.now.list }
+    requires by { by ≡ shift net.now (loops_by blocks.now cut.now) (sweeps_of blocks.now sweeps.now) }
+    requires fits { count net.now + by ≤ 4294967295 }
+    ensures { IfOk result (λ gates. gates.items ≡ (unrolled net.now (loops_by blocks.now cut.now) (sweeps_of blocks.now sweeps.now)).gates) }
+{
+    let mark = mark(alloc, net)?;
+    let mut gates = constants(alloc, net, blocks, &mark)?;
+    let plan = Plan { mark, by };
+    let last = add_copies(alloc, net, blocks, cut, sweeps, &plan, &mut gates)?;
+    add_kept(alloc, net, blocks, cut, by, &last, &mut gates)?;
+    Ok(gates)
+}
+
+/// The parts of the unrolled netlist, where so many gates stand before the netlist's own.
+pub(crate) fn unrolled_parts(
+    alloc: Global,
+    net: &Netlist,
+    blocks: &Blocks,
+    cut: &Cut,
+    sweeps: &SweepCounts,
+    by: u32,
+) -> Result<Parts, AllocError>
+    requires blocks { AreBlocksOf net.now blocks.now }
+    requires cut { IsCutOf net.now cut.now }
+    requires sweeps { length sweeps.now.per_block ≡ length blocks.now.list }
+    requires by { by ≡ shift net.now (loops_by blocks.now cut.now) (sweeps_of blocks.now sweeps.now) }
+    requires fits { count net.now + by ≤ 4294967295 }
+    ensures { IfOk result (λ parts. parts ≡ unrolled net.now (loops_by blocks.now cut.now) (sweeps_of blocks.now sweeps.now)) }
+{
+    let name = net.name().copy()?;
+    let inputs = Items::of(copy_inputs(alloc, net)?);
+    let clock = copy_clock(net)?;
+    let latches = Items::of(kept_latches(alloc, net, by)?);
+    let gates = Items::of(unrolled_gates(alloc, net, blocks, cut, sweeps, by)?);
+    let outputs = Items::of(kept_outputs(alloc, net, by)?);
+    Ok(Parts {
+        name,
+        inputs,
+        clock,
+        latches,
+        gates,
+        outputs,
+    })
+}
