@@ -1,0 +1,16 @@
+use Rattle.std.proofs.Common.{◌++◌, List, ℕ, map, codes, ap, ◌∙◌}
+use Rattle.std.specs.List.{flat_map}
+use Rattle.maker.specs.Ring.{behind, text_of, cells, token, row_line}
+use Rattle.maker.proofs.CellLemmas.{care_put}
+use Rattle.maker.proofs.texts.care_text.Goals as goal
+
+pub returns : goal.returns
+returns c =
+    let e1 = c.in_ok-push_str.ensures.bytes ∙ ap (λ (t : List ℕ). t ++ codes ".model invariant\n.inputs") c.new-text.ensures.bytes in
+    let e2 = c.in_ok-put_wires.ensures ∙ ap (λ (t : List ℕ). t ++ flat_map behind (map token (cells c.args.n))) e1 in
+    let e3 = c.in_ok-push_str-2.ensures.bytes ∙ ap (λ (t : List ℕ). t ++ codes "\n.outputs ok\n.names") e2 in
+    let e4 = c.in_ok-put_wires-2.ensures ∙ ap (λ (t : List ℕ). t ++ flat_map behind (map token (cells c.args.n))) e3 in
+    let e5 = c.in_ok-push_str-3.ensures.bytes ∙ ap (λ (t : List ℕ). t ++ codes " ok\n") e4 in
+    let e6 = c.in_ok-put_rows.ensures ∙ ap (λ (t : List ℕ). t ++ text_of (map (row_line c.args.n) (cells c.args.n))) e5 in
+    let e7 = c.in_ok-push_str-4.ensures.bytes ∙ ap (λ (t : List ℕ). t ++ codes ".end\n") e6 in
+    e7 ∙ care_put c.args.n
