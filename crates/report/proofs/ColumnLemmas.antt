@@ -1,13 +1,14 @@
 -- The columns of a vector, appended one after another.
-use Rattle.std.proofs.Common.{◌≡◌, ℕ, zero, suc, ◌+◌, ◌<◌, ◌≤◌, Bool, List, [], ◌∷◌, length, map, take, drop, get_or, zip, slice_get, Some, refl, sym, ap, ◌∙◌, arith, subst}
+use Rattle.std.proofs.Common.{◌≡◌, ℕ, zero, suc, ◌+◌, ◌<◌, ◌≤◌, Bool, List, [], ◌∷◌, length, map, take, drop, get_or, zip, slice_get, Some, refl, sym, ap, ◌∙◌, arith}
 use Rattle.std.specs.List.{flat_map}
 use Rattle.std.specs.declared.option.Option.{Option}
-use Rattle.std.specs.Io.KnownBytes.{Appends}
-use Rattle.std.proofs.KnownBytes.{Appends-nil}
-use Rattle.std.proofs.lemmas.List.{get_or-drop, length-drop, length-append, length-map, take_all}
+use Rattle.std.specs.Prelude.{Ok, Err, IsErr}
+use Rattle.std.specs.declared.result.Result.{Result}
+use Rattle.std.proofs.lemmas.List.{get_or-drop, length-drop, length-append, length-map}
 use Rattle.std.proofs.lemmas.Option.{same_Some, get_or_from_slice_get, slice_get-get_or, none-some}
-use Rattle.cyc_io.specs.Taken.{AppendsPrefix}
-use Rattle.cyc_io.proofs.ItemLemmas.{appends_item, appends_in_item}
+use Rattle.cyc_io.specs.Taken.{SinkCall, IsAppended}
+use Rattle.cyc_io.proofs.TakenLemmas.{over}
+use Rattle.cyc_io.proofs.ItemLemmas.{appended_item, appended_in_item, appended_items}
 use Rattle.netlist.specs.declared.parts.Gate.{Gate}
 use Rattle.netlist.specs.declared.parts.Latch.{Latch}
 use Rattle.netlist.specs.declared.parts.Parts.{Parts}
@@ -56,23 +57,23 @@ module _ (net : Parts) (first : ℕ) (values : List Bool) (fits : first + length
   abbrev upto : ℕ → List ℕ
   upto i = flat_map column_text (take i (columns_of net first values))
 
-  pub columns_more : (i : ℕ) (name : List ℕ) (d : Bool) (a b c : Option (List ℕ)) → slice_get (signal_names net) (first + i) ≡ Some name → i < length values →
-      Appends a b (upto i) → Appends b c (column_text (name, get_or values i d)) → Appends a c (upto (i + 1))
-  columns_more i name d a b c found inside =
+  pub columns_more : {T U E : Type 0} (i : ℕ) (name : List ℕ) (d : Bool) (a b c : Option (List ℕ)) (m n o : ℕ) (t : T) (u : U)
+      → slice_get (signal_names net) (first + i) ≡ Some name → i < length values
+      → IsAppended {T = T} {E = E} (upto i) (over a b m n) (Ok t) → IsAppended {T = U} {E = E} (column_text (name, get_or values i d)) (over b c n o) (Ok u)
+      → IsAppended {T = T} {E = E} (upto (i + 1)) (over a c m o) (Ok t)
+  columns_more i name d a b c m n o t u found inside =
       let column : List ℕ × Bool = (name, get_or values i d) in
-      appends_item column_text (columns_of net first values) i column a b c (omega (arith, length-columns)) (sym (column_is i name d column found inside))
+      appended_item column_text (columns_of net first values) i column a b c m n o t u (omega (arith, length-columns)) (sym (column_is i name d column found inside))
 
   -- the start of the next one
-  pub columns_cut : (i : ℕ) (name : List ℕ) (d : Bool) (a b c : Option (List ℕ)) → slice_get (signal_names net) (first + i) ≡ Some name → i < length values →
-      Appends a b (upto i) → AppendsPrefix b c (column_text (name, get_or values i d)) → AppendsPrefix a c (columns_text net first values)
-  columns_cut i name d a b c found inside =
+  pub columns_cut : {T U E : Type 0} (i : ℕ) (name : List ℕ) (d : Bool) (a b c : Option (List ℕ)) (m n o : ℕ) (t : T) (e : E) (r : Result T E)
+      → slice_get (signal_names net) (first + i) ≡ Some name → i < length values
+      → IsAppended {T = T} {E = E} (upto i) (over a b m n) (Ok t) → IsAppended {T = U} {E = E} (column_text (name, get_or values i d)) (over b c n o) (Err e)
+      → IsErr r → IsAppended (columns_text net first values) (over a c m o) r
+  columns_cut i name d a b c m n o t e r found inside =
       let column : List ℕ × Bool = (name, get_or values i d) in
-      appends_in_item column_text (columns_of net first values) i column a b c (omega (arith, length-columns)) (sym (column_is i name d column found inside))
+      appended_in_item column_text (columns_of net first values) i column a b c m n o t e r (omega (arith, length-columns)) (sym (column_is i name d column found inside))
 
-  pub columns_whole : (i : ℕ) (a b : Option (List ℕ)) → length values ≤ i → Appends a b (upto i) → Appends a b (columns_text net first values)
-  columns_whole i a b over so_far =
-      let P : List (List ℕ × Bool) → Type 0 = λ l. Appends a b (flat_map column_text l) in
-      subst P (take_all i (columns_of net first values) (omega (arith, length-columns))) so_far
-
-  pub no_columns : (a : Option (List ℕ)) → Appends a a (upto 0)
-  no_columns a = Appends-nil a
+  pub columns_whole : {T E : Type 0} (i : ℕ) (sink : SinkCall) (t : T) → length values ≤ i → IsAppended {T = T} {E = E} (upto i) sink (Ok t)
+      → IsAppended {T = T} {E = E} (columns_text net first values) sink (Ok t)
+  columns_whole i sink t over = appended_items column_text (columns_of net first values) i sink t (omega (arith, length-columns))

@@ -1,2 +1,5 @@
 pub mod Texts
 pub mod Verdicts
+pub mod LoopTexts
+pub mod Ticks
+pub mod Messages

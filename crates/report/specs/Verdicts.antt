@@ -1,5 +1,6 @@
 -- The texts of verdicts. Each is one line.
-use Rattle.std.specs.Prelude.{ℕ, Bool, true, false, List, [], ◌∷◌, ◌++◌, length, zip, drop, slice_index_or, codes, decimal}
+use Rattle.std.specs.Prelude.{ℕ, Bool, true, false, List, [], ◌∷◌, ◌++◌, length, zip, drop, slice_index_or, codes, decimal, Some, None}
+use Rattle.std.specs.declared.option.Option.{Option}
 use Rattle.std.specs.List.{flat_map}
 use Rattle.cyc_base.specs.declared.sig.Sig.{Sig}
 use Rattle.netlist.specs.declared.parts.Parts.{Parts}
@@ -39,9 +40,13 @@ refusal_text net (Undetermined v s) = (codes "refused undetermined wire=" ++ sig
 refusal_text net (Leaves v q) =
     codes "refused leaves at" ++ (columns_text net 0 v ++ (codes " next" ++ last_columns net (length net.inputs) q))
 
-abbrev pub counts_text : ℕ → ℕ → List ℕ
-counts_text loops latches = (codes " loops=" ++ decimal loops) ++ (codes " latches=" ++ (decimal latches ++ codes "\n"))
+-- the number of gates that are unknown on some care vector, where it is asked for, and the end of the line
+abbrev pub open_text : Option ℕ → List ℕ
+open_text None = codes "\n"
+open_text (Some loose) = codes " open=" ++ (decimal loose ++ codes "\n")
 
 -- the numbers of gates, of loops and of latches
-abbrev pub accepted_text : Parts → ℕ → List ℕ
-accepted_text net loops = (codes "accepted gates=" ++ decimal (length net.gates)) ++ counts_text loops (length net.latches)
+abbrev pub accepted_text : Parts → ℕ → Option ℕ → List ℕ
+accepted_text net loops loose =
+    (codes "accepted gates=" ++ decimal (length net.gates))
+    ++ ((codes " loops=" ++ decimal loops) ++ ((codes " latches=" ++ decimal (length net.latches)) ++ open_text loose))

@@ -1,7 +1,5 @@
-ghost use Rattle.std.specs.Prelude.{◌≡◌, ◌≤◌, ◌++◌, OnOk, OnErr};
-ghost use Rattle.std.specs.Io.KnownBytes.{Appends};
-ghost use Rattle.cyc_io.specs.Faults.{Rose};
-ghost use Rattle.cyc_io.specs.Taken.{AppendsPrefix};
+ghost use Rattle.std.specs.Prelude.{◌≡◌, ◌++◌};
+ghost use Rattle.cyc_io.specs.Taken.{IsAppended, sink_call};
 ghost use Rattle.report.specs.Texts.{words_of, IsCode, code_text, place_text, tail_text, fault_text};
 
 use crate::put::{put_three, put_two};
@@ -70,60 +68,38 @@ fn words(code: u8) -> &'static [u8]
 
 // The place of a fault: the file, and the line where there is one.
 fn put_place<K: Sink>(sink: &mut K, file: &Name, line: Option<u64>) -> Result<(), Failed>
-    ensures taken { OnOk result (Appends (K.put sink.old) (K.put sink.new) (place_text file.now line)) }
-    ensures prefix { OnErr result (AppendsPrefix (K.put sink.old) (K.put sink.new) (place_text file.now line)) }
-    ensures later { K.faults sink.old ≤ K.faults sink.new }
-    ensures cause { OnErr result (Rose (K.faults sink.old) (K.faults sink.new)) }
+    ensures { IsAppended (place_text file.now line) (sink_call K.put K.faults sink.old sink.new) result }
 {
     match line {
-        Some(line) => Ok(put_three(
+        Some(line) => put_three(
             sink,
             file.bytes(),
             b":",
             Buffer::new().format(line).as_bytes(),
-        )?),
-        None => Ok(write_whole(sink, file.bytes())?),
+        ),
+        None => write_whole(sink, file.bytes()),
     }
 }
 
 fn put_code<K: Sink>(sink: &mut K, code: u8) -> Result<(), Failed>
-    ensures taken { OnOk result (Appends (K.put sink.old) (K.put sink.new) (code_text code ++ words_of code)) }
-    ensures prefix { OnErr result (AppendsPrefix (K.put sink.old) (K.put sink.new) (code_text code ++ words_of code)) }
-    ensures later { K.faults sink.old ≤ K.faults sink.new }
-    ensures cause { OnErr result (Rose (K.faults sink.old) (K.faults sink.new)) }
+    ensures { IsAppended (code_text code ++ words_of code) (sink_call K.put K.faults sink.old sink.new) result }
 {
     let digits = [b':', b' ', b'E', b'0' + code / 10, b'0' + code % 10, b' '];
-    Ok(put_two(sink, &digits, words(code))?)
+    put_two(sink, &digits, words(code))
 }
 
 fn put_tail<K: Sink>(sink: &mut K, tail: Tail) -> Result<(), Failed>
-    ensures taken { OnOk result (Appends (K.put sink.old) (K.put sink.new) (tail_text tail.entry)) }
-    ensures prefix { OnErr result (AppendsPrefix (K.put sink.old) (K.put sink.new) (tail_text tail.entry)) }
-    ensures later { K.faults sink.old ≤ K.faults sink.new }
-    ensures cause { OnErr result (Rose (K.faults sink.old) (K.faults sink.new)) }
+    ensures { IsAppended (tail_text tail.entry) (sink_call K.put K.faults sink.old sink.new) result }
 {
     match tail {
-        Tail::Nothing => Ok(write_whole(sink, b"\n")?),
-        Tail::Name(name) => Ok(put_three(sink, b" ", name.bytes(), b"\n")?),
-        Tail::Number(n) => Ok(put_three(sink, b" ", Buffer::new().format(n).as_bytes(), b"\n")?),
+        Tail::Nothing => write_whole(sink, b"\n"),
+        Tail::Name(name) => put_three(sink, b" ", name.bytes(), b"\n"),
+        Tail::Number(n) => put_three(sink, b" ", Buffer::new().format(n).as_bytes(), b"\n"),
     }
-}
-
-// What stands behind the place.
-#[tactic(auto, using(cyc_io::proofs::TakenLemmas::appends_start, cyc_io::proofs::TakenLemmas::prefix_of_front, cyc_io::proofs::FaultLemmas::Rose_later))]
-fn put_words<K: Sink>(sink: &mut K, code: u8, tail: Tail) -> Result<(), Failed>
-    ensures taken { OnOk result (Appends (K.put sink.old) (K.put sink.new) (code_text code ++ words_of code ++ tail_text tail.entry)) }
-    ensures prefix { OnErr result (AppendsPrefix (K.put sink.old) (K.put sink.new) (code_text code ++ words_of code ++ tail_text tail.entry)) }
-    ensures later { K.faults sink.old ≤ K.faults sink.new }
-    ensures cause { OnErr result (Rose (K.faults sink.old) (K.faults sink.new)) }
-{
-    put_code(sink, code)?;
-    Ok(put_tail(sink, tail)?)
 }
 
 /// Appends the text of a fault of a file: `FILE:LINE: Ecc WORDS TAIL` and LF, where the line and the tail are there
 /// only if the fault has them. It takes no memory.
-#[tactic(auto, using(cyc_io::proofs::TakenLemmas::appends_start, cyc_io::proofs::TakenLemmas::prefix_of_front, cyc_io::proofs::FaultLemmas::Rose_later))]
 pub fn put_fault<K: Sink>(
     file: &Name,
     code: u8,
@@ -132,11 +108,9 @@ pub fn put_fault<K: Sink>(
     sink: &mut K,
 ) -> Result<(), Failed>
     requires { IsCode code }
-    ensures taken { OnOk result (Appends (K.put sink.old) (K.put sink.new) (fault_text file.now code line (tail_text tail.entry))) }
-    ensures prefix { OnErr result (AppendsPrefix (K.put sink.old) (K.put sink.new) (fault_text file.now code line (tail_text tail.entry))) }
-    ensures later { K.faults sink.old ≤ K.faults sink.new }
-    ensures cause { OnErr result (Rose (K.faults sink.old) (K.faults sink.new)) }
+    ensures { IsAppended (fault_text file.now code line (tail_text tail.entry)) (sink_call K.put K.faults sink.old sink.new) result }
 {
     put_place(sink, file, line)?;
-    Ok(put_words(sink, code, tail)?)
+    put_code(sink, code)?;
+    put_tail(sink, tail)
 }

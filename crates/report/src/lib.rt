@@ -1,14 +1,23 @@
-//! The printed texts. Each call appends its text to a sink and takes no memory.
+//! The printed texts: faults of files, verdicts, loops, ticks, and what a call tells where there is no result. Each
+//! call appends its text to a sink and takes no memory.
 //!
-//! It stands on `cyc_io` for sinks, and on `refusals` for what is told. The tool uses that each call appends
-//! exactly its text (`specs/Texts.antt`, `specs/Verdicts.antt`), or a prefix of it where a write failed.
+//! It stands on `cyc_io` for sinks, and on `refusals` and `loops` for what is told. The tool uses that each call
+//! appends exactly its text, whole or a prefix of it where a write failed; `specs/` has a file for each kind of text.
 #![tactic(auto)]
 
 mod fault;
+mod loop_text;
+mod message;
 mod put;
 #[cfg(test)]
 mod tests;
+mod tick;
 mod verdict;
 
 pub use fault::{Tail, put_fault};
+pub use loop_text::put_loops;
+pub use message::{
+    NO_MEMORY_TEXT, USAGE_TEXT, put_limit, put_no_memory, put_read_failed, put_too_large, put_usage,
+};
+pub use tick::{put_played_tick, put_tick};
 pub use verdict::{put_accepted, put_refusal};

@@ -1,34 +1,33 @@
 // Texts of several parts.
-ghost use Rattle.std.specs.Prelude.{◌≡◌, ◌≤◌, ◌++◌, OnOk, OnErr};
-ghost use Rattle.std.specs.Io.KnownBytes.{Appends};
-ghost use Rattle.cyc_io.specs.Faults.{Rose};
-ghost use Rattle.cyc_io.specs.Taken.{AppendsPrefix};
+ghost use Rattle.std.specs.Prelude.{◌++◌, decimal};
+ghost use Rattle.cyc_io.specs.Taken.{IsAppended, sink_call};
 
 use cyc_io::{Failed, Sink, write_whole};
+use itoa::Buffer;
 
-#[tactic(auto, using(cyc_io::proofs::TakenLemmas::appends_start, cyc_io::proofs::TakenLemmas::prefix_of_front, cyc_io::proofs::FaultLemmas::Rose_later))]
 pub(crate) fn put_two<K: Sink>(sink: &mut K, front: &[u8], back: &[u8]) -> Result<(), Failed>
-    ensures taken { OnOk result (Appends (K.put sink.old) (K.put sink.new) (front.now ++ back.now)) }
-    ensures prefix { OnErr result (AppendsPrefix (K.put sink.old) (K.put sink.new) (front.now ++ back.now)) }
-    ensures later { K.faults sink.old ≤ K.faults sink.new }
-    ensures cause { OnErr result (Rose (K.faults sink.old) (K.faults sink.new)) }
+    ensures { IsAppended (front.now ++ back.now) (sink_call K.put K.faults sink.old sink.new) result }
 {
     write_whole(sink, front)?;
-    Ok(write_whole(sink, back)?)
+    write_whole(sink, back)
 }
 
-#[tactic(auto, using(cyc_io::proofs::TakenLemmas::appends_start, cyc_io::proofs::TakenLemmas::prefix_of_front, cyc_io::proofs::FaultLemmas::Rose_later))]
 pub(crate) fn put_three<K: Sink>(
     sink: &mut K,
     front: &[u8],
     middle: &[u8],
     back: &[u8],
 ) -> Result<(), Failed>
-    ensures taken { OnOk result (Appends (K.put sink.old) (K.put sink.new) (front.now ++ (middle.now ++ back.now))) }
-    ensures prefix { OnErr result (AppendsPrefix (K.put sink.old) (K.put sink.new) (front.now ++ (middle.now ++ back.now))) }
-    ensures later { K.faults sink.old ≤ K.faults sink.new }
-    ensures cause { OnErr result (Rose (K.faults sink.old) (K.faults sink.new)) }
+    ensures { IsAppended (front.now ++ (middle.now ++ back.now)) (sink_call K.put K.faults sink.old sink.new) result }
 {
     write_whole(sink, front)?;
-    Ok(put_two(sink, middle, back)?)
+    write_whole(sink, middle)?;
+    write_whole(sink, back)
+}
+
+// A number behind these words.
+pub(crate) fn put_number<K: Sink>(sink: &mut K, words: &[u8], number: u64) -> Result<(), Failed>
+    ensures { IsAppended (words.now ++ decimal number) (sink_call K.put K.faults sink.old sink.new) result }
+{
+    put_two(sink, words, Buffer::new().format(number).as_bytes())
 }

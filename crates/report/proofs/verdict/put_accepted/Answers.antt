@@ -1,16 +1,14 @@
-use Rattle.std.proofs.KnownBytes.{Appends-trans}
-use Rattle.cyc_io.proofs.TakenLemmas.{appends_start, prefix_of_front, on_err}
+use Rattle.cyc_io.proofs.TakenLemmas.{appended_then, appended_cut}
 use Rattle.report.proofs.verdict.put_accepted.Goals as goal
 
-pub returns-in_err-put_number-clause-prefix : goal.returns-in_err-put_number-clause-prefix
-returns-in_err-put_number-clause-prefix g c = rw (← c.gates.ensures.gates) (on_err _ (prefix_of_front _ _ _ _ c.in_err-put_number.ensures.prefix))
+pub returns-in_err-put_number : goal.returns-in_err-put_number
+returns-in_err-put_number g c = rw (← c.gates.ensures.gates) (appended_cut _ _ _ _ _ c.in_err-put_number.ensures c.from_residual.ensures.0)
 
-pub returns-in_err-put_counts-clause-prefix : goal.returns-in_err-put_counts-clause-prefix
-returns-in_err-put_counts-clause-prefix g c =
-    rw (← c.gates.ensures.gates, ← c.latches.ensures.latches)
-    (on_err _ (appends_start _ _ _ _ _ c.in_ok-put_number.ensures.taken c.in_err-put_counts.ensures.prefix))
+pub returns-in_err-put_number-2 : goal.returns-in_err-put_number-2
+returns-in_err-put_number-2 g c = rw (← c.gates.ensures.gates) (appended_then _ _ _ _ _ _ _ _ _ _ c.in_ok-put_number.ensures (appended_cut _ _ _ _ _ c.in_err-put_number-2.ensures c.from_residual-in_err-put_number-2.ensures.0))
 
-pub returns-clause-taken : goal.returns-clause-taken
-returns-clause-taken g c =
-    rw (← c.gates.ensures.gates, ← c.latches.ensures.latches)
-    (Appends-trans _ _ _ _ _ c.in_ok-put_number.ensures.taken c.in_ok-put_counts.ensures.taken)
+pub returns-in_err-put_number-3 : goal.returns-in_err-put_number-3
+returns-in_err-put_number-3 g c = rw (← c.gates.ensures.gates, ← c.latches.ensures.latches) (appended_then _ _ _ _ _ _ _ _ _ _ c.in_ok-put_number.ensures (appended_then _ _ _ _ _ _ _ _ _ _ c.in_ok-put_number-2.ensures (appended_cut _ _ _ _ _ c.in_err-put_number-3.ensures c.from_residual-in_err-put_number-3.ensures.0)))
+
+pub returns : goal.returns
+returns g c = rw (← c.gates.ensures.gates, ← c.latches.ensures.latches) (appended_then _ _ _ _ _ _ _ _ _ _ c.in_ok-put_number.ensures (appended_then _ _ _ _ _ _ _ _ _ _ c.in_ok-put_number-2.ensures (appended_then _ _ _ _ _ _ _ _ _ _ c.in_ok-put_number-3.ensures c.put_open.ensures)))

@@ -1,14 +1,14 @@
-use Rattle.std.proofs.KnownBytes.{Appends-trans}
-use Rattle.cyc_io.proofs.TakenLemmas.{appends_start, prefix_of_front, on_err}
+use Rattle.cyc_io.proofs.TakenLemmas.{appended_then, appended_cut}
 use Rattle.report.proofs.verdict.put_leaves.Goals as goal
 
-pub returns-in_err-write_whole-clause-prefix : goal.returns-in_err-write_whole-clause-prefix
-returns-in_err-write_whole-clause-prefix g c = on_err _ (prefix_of_front _ _ _ _ c.in_err-write_whole.ensures.prefix)
+pub returns-in_err-write_whole : goal.returns-in_err-write_whole
+returns-in_err-write_whole g c = appended_cut _ _ _ _ _ c.in_err-write_whole.ensures c.from_residual.ensures.0
 
-pub returns-in_err-put_step-clause-prefix : goal.returns-in_err-put_step-clause-prefix
-returns-in_err-put_step-clause-prefix g c =
-    rw (← c.inputs-latches.ensures.inputs) (on_err _ (appends_start _ _ _ _ _ c.in_ok-write_whole.ensures.taken c.in_err-put_step.ensures.prefix))
+pub returns-in_err-put_columns : goal.returns-in_err-put_columns
+returns-in_err-put_columns g c = appended_then _ _ _ _ _ _ _ _ _ _ c.in_ok-write_whole.ensures (appended_cut _ _ _ _ _ c.in_err-put_columns.ensures c.from_residual-in_err-put_columns.ensures.0)
 
-pub returns-clause-taken : goal.returns-clause-taken
-returns-clause-taken g c =
-    rw (← c.inputs-latches.ensures.inputs) (Appends-trans _ _ _ _ _ c.in_ok-write_whole.ensures.taken c.in_ok-put_step.ensures.taken)
+pub returns-in_err-write_whole-2 : goal.returns-in_err-write_whole-2
+returns-in_err-write_whole-2 g c = appended_then _ _ _ _ _ _ _ _ _ _ c.in_ok-write_whole.ensures (appended_then _ _ _ _ _ _ _ _ _ _ c.in_ok-put_columns.ensures (appended_cut _ _ _ _ _ c.in_err-write_whole-2.ensures c.from_residual-in_err-write_whole-2.ensures.0))
+
+pub returns : goal.returns
+returns g c = rw (← c.inputs-latches.ensures.inputs) (appended_then _ _ _ _ _ _ _ _ _ _ c.in_ok-write_whole.ensures (appended_then _ _ _ _ _ _ _ _ _ _ c.in_ok-put_columns.ensures (appended_then _ _ _ _ _ _ _ _ _ _ c.in_ok-write_whole-2.ensures c.put_last_columns.ensures)))

@@ -1,9 +1,0 @@
-use Rattle.cyc_io.proofs.TakenLemmas.{appends_start, prefix_of_front, on_err}
-use Rattle.report.proofs.verdict.put_step.Goals as goal
-
-pub returns-in_err-put_columns-clause-prefix : goal.returns-in_err-put_columns-clause-prefix
-returns-in_err-put_columns-clause-prefix g c = on_err _ (prefix_of_front _ _ _ _ c.in_err-put_columns.ensures.prefix)
-
-pub returns-in_err-put_next-clause-prefix : goal.returns-in_err-put_next-clause-prefix
-returns-in_err-put_next-clause-prefix g c =
-    on_err _ (appends_start _ _ _ _ _ c.in_ok-put_columns.ensures.taken c.in_err-put_next.ensures.prefix)

@@ -1,0 +1,35 @@
+-- The text of a netlist's loops and their cut wires.
+use Rattle.std.specs.Prelude.{ℕ, ◌+◌, List, [], ◌∷◌, ◌++◌, length, codes, decimal, if◌then◌else◌}
+use Rattle.std.specs.List.{flat_map}
+use Rattle.netlist.specs.declared.parts.Parts.{Parts}
+use Rattle.netlist.specs.Netlists.{gate_at}
+use Rattle.loops.specs.Listed.{loop_of, cut_wires_of, begins_with, first_gates}
+
+abbrev pub gate_name : Parts → ℕ → List ℕ
+gate_name net gate = codes " " ++ (gate_at net gate).name
+
+-- ` NAME` for each of these gates
+abbrev pub names_text : Parts → List ℕ → List ℕ
+names_text net gates = flat_map (gate_name net) gates
+
+-- a loop's number, these words, and these gates
+abbrev pub loop_line : Parts → ℕ → List ℕ → List ℕ → List ℕ
+loop_line net number words gates = (codes "loop " ++ decimal number) ++ (words ++ (names_text net gates ++ codes "\n"))
+
+-- the lines of the loop that begins at this gate
+abbrev pub loop_lines : Parts → ℕ → ℕ → List ℕ
+loop_lines net number first =
+    loop_line net number (codes " gates") (loop_of net first) ++ loop_line net number (codes " cut") (cut_wires_of net first)
+
+-- those of the loop that begins at this gate, where one does
+abbrev pub loop_at : Parts → ℕ → ℕ → List ℕ
+loop_at net number gate = if begins_with (loop_of net gate) gate then loop_lines net number gate else []
+
+-- the lines of loops by their first gates, which are numbered from here on
+abbrev pub numbered_loops : Parts → ℕ → List ℕ → List ℕ
+numbered_loops net number [] = []
+numbered_loops net number (first ∷ rest) = loop_lines net number first ++ numbered_loops net (number + 1) rest
+
+-- how many loops there are, and each one
+abbrev pub loops_text : Parts → List ℕ
+loops_text net = (codes "loops=" ++ decimal (length (first_gates net))) ++ (codes "\n" ++ numbered_loops net 1 (first_gates net))

@@ -1,0 +1,59 @@
+// What a call tells where there is no result.
+ghost use Rattle.cyc_io.specs.Taken.{IsAppended, sink_call};
+ghost use Rattle.report.specs.Messages.{usage_text, read_failed_text, limit_text, too_large_text, no_memory_text};
+
+use crate::put::{put_three, put_two};
+use cyc_base::Name;
+use cyc_io::{Failed, Sink, write_whole};
+use itoa::Buffer;
+
+/// What words outside the grammar are told.
+pub const USAGE_TEXT: &[u8] = b"usage: cyc COMMAND FILES OPTIONS\n";
+
+/// What want of memory is told.
+pub const NO_MEMORY_TEXT: &[u8] = b"no memory\n";
+
+/// Appends what words outside the grammar are told. It takes no memory.
+pub fn put_usage<K: Sink>(sink: &mut K) -> Result<(), Failed>
+    ensures { IsAppended usage_text (sink_call K.put K.faults sink.old sink.new) result }
+{
+    write_whole(sink, USAGE_TEXT)
+}
+
+/// Appends what is told of a file that wasn't read. It takes no memory.
+pub fn put_read_failed<K: Sink>(file: &Name, sink: &mut K) -> Result<(), Failed>
+    ensures { IsAppended (read_failed_text file.now) (sink_call K.put K.faults sink.old sink.new) result }
+{
+    put_two(sink, file.bytes(), b": read failed\n")
+}
+
+/// Appends what is told of a decision that met its limit of nodes. It takes no memory.
+pub fn put_limit<K: Sink>(limit: u32, sink: &mut K) -> Result<(), Failed>
+    ensures { IsAppended (limit_text limit) (sink_call K.put K.faults sink.old sink.new) result }
+{
+    put_three(
+        sink,
+        b"node limit ",
+        Buffer::new().format(limit).as_bytes(),
+        b" reached\n",
+    )
+}
+
+/// Appends what is told of a rewritten netlist that is too large. It takes no memory.
+pub fn put_too_large<K: Sink>(size: u64, sink: &mut K) -> Result<(), Failed>
+    ensures { IsAppended (too_large_text size) (sink_call K.put K.faults sink.old sink.new) result }
+{
+    put_three(
+        sink,
+        b"too large ",
+        Buffer::new().format(size).as_bytes(),
+        b"\n",
+    )
+}
+
+/// Appends what want of memory is told. It takes none.
+pub fn put_no_memory<K: Sink>(sink: &mut K) -> Result<(), Failed>
+    ensures { IsAppended no_memory_text (sink_call K.put K.faults sink.old sink.new) result }
+{
+    write_whole(sink, NO_MEMORY_TEXT)
+}
