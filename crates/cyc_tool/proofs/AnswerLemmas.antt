@@ -1,141 +1,155 @@
 -- Over files that are told, a run gives the answer.
-use Rattle.std.proofs.Common.{arith, ◌≡◌, ◌⊎◌, ℕ, List, ◌∷◌, Some, None, refl, sym, ap, subst, ◌∙◌, inl, inr}
-use Rattle.std.specs.Prelude.{IfSome, unwrap_or}
-use Rattle.std.specs.Option.{option_or}
+use Rattle.std.proofs.Common.{arith, ◌≡◌, ◌⊎◌, ℕ, List, [], ◌∷◌, Some, None, refl, sym, ap, subst, ◌∙◌, inl, inr}
+use Rattle.std.specs.Prelude.{IfSome, IsSomeAnd}
+use Rattle.std.specs.Option.{option_map_or}
 use Rattle.std.specs.declared.option.Option.{Option}
 use Rattle.bdd_store.specs.Arena.{Arena}
 use Rattle.cyc_io.specs.Files.{Files, IsFile}
-use Rattle.cyc_tool.specs.Texts.{Outcome, no_memory}
-use Rattle.cyc_tool.specs.Words.{Options, Command, Check, command_of, Flat, Loops}
-use Rattle.cyc_tool.specs.Faults.{netlist_of}
-use Rattle.cyc_tool.specs.Answer.{Netlist, Care, Given, netlist_file, care_file, care_files, given_by, files_of_words, file_stop, given_net, care_stop, first_stop, of_file, on_care, outcome_on, outcome_of_command, answer}
-use Rattle.cyc_tool.specs.Calls.{ShelfCall, SinkCall, ReadFailed, WriteFailed, Gave, GaveInOrder, ComesTo, Answers, MeetsLimit, StopsAtLimit, WantsMemory, IsTold, Tells, Runs}
-use Rattle.cyc_tool.specs.Causes.{MetLimit, NoneFailed, GivesAnswer, HasEnoughNodes, IsComplete}
+use Rattle.cyc_tool.specs.Answer.{outcome_at, answer}
+use Rattle.cyc_tool.specs.Calls.{ShelfCall, SinkCall, ReadFailed, AreGiven, rest_of, EndsAt, ComesTo, IsDecided, Verdict, Limit, IsTold, Tells, Runs}
+use Rattle.cyc_tool.specs.Causes.{Leads, Reaches, MeetsLimit, NoneFailed, IsWell, GivesAnswer, IsEnoughFor, HasEnoughNodes, IsComplete}
+use Rattle.cyc_tool.specs.Plans.{Plan, Reads, Faulty, Ends, Decides, plan_of}
+use Rattle.cyc_tool.specs.Texts.{Outcome, usage, read_failed, no_memory}
+use Rattle.cyc_tool.specs.Words.{Command, command_of}
 
--- the shelf gave the file that is told, where no read of it failed
-gave_file : (shelf : ShelfCall) (told : Files) (name : List ℕ) (given : Option (List ℕ)) → shelf.files ≡ Some told
-    → IfSome (told name) (λ bytes. ReadFailed shelf name → ⊥) → Gave shelf name given → given ≡ told name
-gave_file shelf told name None is none_failed rose = by_file (told name) none_failed
+-- a text that was given is that of the file that is told
+told_file : (shelf : ShelfCall) (files : Files) (name bytes : List ℕ) → shelf.files ≡ Some files → IsFile shelf.files name bytes → files name ≡ Some bytes
+told_file shelf files name bytes is gave = let P : Option Files → Type 0 = λ f. IsFile f name bytes in subst P is gave
+
+-- behind the texts that were given, no read failed either, and the outcome is the same
+none_failed_later : (shelf : ShelfCall) (files : Files) (given : List (List ℕ)) (plan : Plan) → shelf.files ≡ Some files → AreGiven shelf.files given plan
+    → NoneFailed shelf files plan → NoneFailed shelf files (rest_of given plan)
+none_failed_later shelf files [] plan is gave well = well
+none_failed_later shelf files (bytes ∷ given) (Reads role name next) is gave well =
+    let P : Option (List ℕ) → Type 0 = λ file. IfSome file (λ text. (ReadFailed shelf name → ⊥) × NoneFailed shelf files (next text)) in
+    let here : (ReadFailed shelf name → ⊥) × NoneFailed shelf files (next bytes) = subst P (told_file shelf files name bytes is gave.0) well in
+    none_failed_later shelf files given (next bytes) is gave.2 here.1
+none_failed_later shelf files (bytes ∷ given) (Faulty name fault) is gave well = absurd gave
+none_failed_later shelf files (bytes ∷ given) (Ends ending) is gave well = absurd gave
+none_failed_later shelf files (bytes ∷ given) (Decides decision tell) is gave well = absurd gave
+
+same_outcome : (shelf : ShelfCall) (files : Files) (given : List (List ℕ)) (plan : Plan) → shelf.files ≡ Some files → AreGiven shelf.files given plan
+    → outcome_at files (rest_of given plan) ≡ outcome_at files plan
+same_outcome shelf files [] plan is gave = refl
+same_outcome shelf files (bytes ∷ given) (Reads role name next) is gave =
+    same_outcome shelf files given (next bytes) is gave.2
+    ∙ sym (ap (λ (file : Option (List ℕ)). option_map_or (λ text. outcome_at files (next text)) file (read_failed name)) (told_file shelf files name bytes is gave.0))
+same_outcome shelf files (bytes ∷ given) (Faulty name fault) is gave = absurd gave
+same_outcome shelf files (bytes ∷ given) (Ends ending) is gave = absurd gave
+same_outcome shelf files (bytes ∷ given) (Decides decision tell) is gave = absurd gave
+
+-- what a call came to at what is left of its plan, where the files are told
+data EndsTold (nodes : Arena) (files : Files) (end : Outcome) (rest : Plan) : Type 0 where
+  IsAnswer : end ≡ outcome_at files rest → EndsTold nodes files end rest
+  IsAtLimit : MeetsLimit nodes rest → end.status ≡ 6 → EndsTold nodes files end rest
+
+ends_told : (shelf : ShelfCall) (files : Files) (nodes : Arena) (end : Outcome) (rest : Plan) → NoneFailed shelf files rest → EndsAt shelf nodes end rest
+    → EndsTold nodes files end rest
+ends_told shelf files nodes end (Reads role name next) well ends = by_file (files name) refl well
   where
-    by_file : (file : Option (List ℕ)) → IfSome file (λ bytes. ReadFailed shelf name → ⊥) → None ≡ file
-    by_file None not = refl
-    by_file (Some bytes) not = absurd (not rose)
-gave_file shelf told name (Some bytes) is none_failed gave =
-    let P : Option Files → Type 0 = λ f. IsFile f name bytes in
-    let here : told name ≡ Some bytes = subst P is gave in sym here
-
--- the outcome of a command at what its two files gave
-abbrev outcome_at : Command → Option (List ℕ) → Option (List ℕ) → Option (List ℕ) → Outcome
-outcome_at command None net given = unwrap_or (option_or (file_stop netlist_of (netlist_file command) net) None)
-    (of_file netlist_of (netlist_file command) net (λ n. on_care None n given (outcome_on command n)))
-outcome_at command (Some name) net given = unwrap_or (option_or (file_stop netlist_of (netlist_file command) net) (option_or (care_stop (given_net net) name given) None))
-    (of_file netlist_of (netlist_file command) net (λ n. on_care (Some name) n given (outcome_on command n)))
-
--- so the outcome is that of the files: the care file counts only where the netlist ends no call
-same_outcome : (command : Command) (care : Option (List ℕ)) (net : Option (List ℕ)) (one two : Option (List ℕ))
-    → (file_stop netlist_of (netlist_file command) net ≡ None → one ≡ two) → outcome_at command care net one ≡ outcome_at command care net two
-same_outcome command None net one two same = refl
-same_outcome command (Some name) net one two same = by_stop (file_stop netlist_of (netlist_file command) net) refl
+    by_file : (file : Option (List ℕ)) → files name ≡ file → IfSome file (λ text. (ReadFailed shelf name → ⊥) × NoneFailed shelf files (next text))
+        → EndsTold nodes files end (Reads role name next)
+    by_file None is fails =
+        IsAnswer (ends.1 ∙ sym (ap (λ (f : Option (List ℕ)). option_map_or (λ text. outcome_at files (next text)) f (read_failed name)) is))
+    by_file (Some bytes) is fails = absurd (fails.0 ends.0)
+ends_told shelf files nodes end (Faulty name fault) well ends = IsAnswer ends
+ends_told shelf files nodes end (Ends ending) well ends = IsAnswer ends
+ends_told shelf files nodes end (Decides decision tell) well ends = by_decision ends.1
   where
-    on : Option (List ℕ) → Outcome
-    on given = of_file netlist_of (netlist_file command) net (λ n. on_care (Some name) n given (outcome_on command n))
+    by_decision : IsDecided decision tell nodes end → EndsTold nodes files end (Decides decision tell)
+    by_decision (Verdict is) = IsAnswer is
+    by_decision (Limit limited is) = IsAtLimit limited (ap (λ (o : Outcome). o.status) is)
 
-    by_stop : (stop : Option Outcome) → file_stop netlist_of (netlist_file command) net ≡ stop
-        → outcome_at command (Some name) net one ≡ outcome_at command (Some name) net two
-    by_stop None is = ap (outcome_at command (Some name) net) (same is)
-    by_stop (Some end) is =
-        ap (λ (s : Option Outcome). unwrap_or (option_or s (option_or (care_stop (given_net net) name one) None)) (on one)) is
-        ∙ sym (ap (λ (s : Option Outcome). unwrap_or (option_or s (option_or (care_stop (given_net net) name two) None)) (on two)) is)
+-- what a call came to for its words
+data ComesToTold (words : List (List ℕ)) (shelf : ShelfCall) (nodes : Arena) (files : Files) (end : Outcome) : Type 0 where
+  GaveAnswer : end ≡ answer words files → ComesToTold words shelf nodes files end
+  MetLimit : Reaches (MeetsLimit nodes) words shelf → end.status ≡ 6 → ComesToTold words shelf nodes files end
+  LacksMemory : end ≡ no_memory → ComesToTold words shelf nodes files end
 
--- the outcome of a command with this care file
-abbrev outcome_for : Command → Option (List ℕ) → Given → Outcome
-outcome_for command care given =
-    unwrap_or (first_stop given ((Netlist, netlist_file command) ∷ care_files care))
-    (of_file netlist_of (netlist_file command) (given Netlist) (λ n. on_care care n (given Care) (outcome_on command n)))
+comes_told : (words : List (List ℕ)) (shelf : ShelfCall) (nodes : Arena) (files : Files) (end : Outcome) → shelf.files ≡ Some files
+    → IfSome (command_of words) (λ command. NoneFailed shelf files (plan_of command)) → ComesTo (command_of words) shelf nodes end
+    → ComesToTold words shelf nodes files end
+comes_told words shelf nodes files end told = by_command (command_of words) refl
+  where
+    answer_at : Option Command → Outcome
+    answer_at asked = option_map_or (λ command. outcome_at files (plan_of command)) asked usage
 
-told_for : (shelf : ShelfCall) (told : Files) (command : Command) (care : Option (List ℕ)) (given : Given) → shelf.files ≡ Some told
-    → NoneFailed shelf told ((Netlist, netlist_file command) ∷ care_files care) → GaveInOrder shelf given ((Netlist, netlist_file command) ∷ care_files care)
-    → outcome_for command care given ≡ outcome_for command care (given_by told ((Netlist, netlist_file command) ∷ care_files care))
-told_for shelf told command None given is none_failed gave =
-    ap (λ n. outcome_at command None n None) (gave_file shelf told (netlist_file command) (given Netlist) is none_failed.0 gave.0)
-told_for shelf told command (Some name) given is none_failed gave =
-    same_outcome command (Some name) (given Netlist) (given Care) (told name)
-    (λ goes_on. gave_file shelf told name (given Care) is none_failed.1.0 (gave.1 goes_on).0)
-    ∙ ap (λ n. outcome_at command (Some name) n (told name)) (gave_file shelf told (netlist_file command) (given Netlist) is none_failed.0 gave.0)
+    reached : Option Command → Type 0
+    reached asked = IsSomeAnd asked (λ command. Leads (MeetsLimit nodes) shelf (plan_of command))
 
-gave_told : (shelf : ShelfCall) (told : Files) (command : Option Command) (given : Given) → shelf.files ≡ Some told
-    → NoneFailed shelf told (files_of_words command) → GaveInOrder shelf given (files_of_words command)
-    → outcome_of_command command given ≡ outcome_of_command command (given_by told (files_of_words command))
-gave_told shelf told None given is none_failed gave = refl
-gave_told shelf told (Some command) given is none_failed gave = told_for shelf told command (care_file command) given is none_failed gave
+    by_command : (asked : Option Command) → command_of words ≡ asked → IfSome asked (λ command. NoneFailed shelf files (plan_of command))
+        → ComesTo asked shelf nodes end → ComesToTold words shelf nodes files end
+    by_command None is well comes = elim comes.ends [
+      | inl same ↦ GaveAnswer (same ∙ sym (ap (λ (asked : Option Command). option_map_or (λ command. outcome_at files (plan_of command)) asked usage) is))
+      | inr lacks ↦ LacksMemory lacks
+    ]
+    by_command (Some command) is well follows = by_end follows.ends
+      where
+        by_told : EndsTold nodes files end (rest_of follows.given (plan_of command)) → ComesToTold words shelf nodes files end
+        by_told (IsAnswer same) =
+            GaveAnswer (same ∙ same_outcome shelf files follows.given (plan_of command) told follows.gave
+            ∙ sym (ap (λ (asked : Option Command). option_map_or (λ command. outcome_at files (plan_of command)) asked usage) is))
+        by_told (IsAtLimit limited six) =
+            let P : Option Command → Type 0 = λ asked. IsSomeAnd asked (λ command. Leads (MeetsLimit nodes) shelf (plan_of command)) in
+            MetLimit (subst P (sym is) (record { given = follows.given; gave = follows.gave; holds = limited })) six
 
--- what a call came to, where the files are told
-data ComesToTold (words : List (List ℕ)) (shelf : ShelfCall) (nodes : Arena) (told : Files) (end : Outcome) : Type 0 where
-  IsAnswer : end ≡ answer words told → ComesToTold words shelf nodes told end
-  IsAtLimit : MetLimit shelf nodes (command_of words) → end.status ≡ 6 → ComesToTold words shelf nodes told end
-  IsWant : end ≡ no_memory → ComesToTold words shelf nodes told end
-
-limited : (shelf : ShelfCall) (nodes : Arena) (words : List (List ℕ)) (name : List ℕ) (options : Options) (end : Outcome)
-    → command_of words ≡ Some (Check name options) → StopsAtLimit shelf nodes name options end → MetLimit shelf nodes (command_of words)
-limited shelf nodes words name options end is stops =
-    let P : Option Command → Type 0 = MetLimit shelf nodes in
-    subst P (sym is) (record { net = stops.net; care = stops.care; gave = stops.gave; cause = stops.cause; below = stops.below })
-
-answer_told : (words : List (List ℕ)) (shelf : ShelfCall) (nodes : Arena) (end : Outcome) (told : Files) → ComesTo words shelf nodes end → shelf.files ≡ Some told
-    → NoneFailed shelf told (files_of_words (command_of words)) → ComesToTold words shelf nodes told end
-answer_told words shelf nodes end told (Answers given gave valid same) is none_failed = IsAnswer (same ∙ gave_told shelf told (command_of words) given is none_failed gave)
-answer_told words shelf nodes end told (MeetsLimit name options asked stops) is none_failed =
-    IsAtLimit (limited shelf nodes words name options end asked stops) (ap (λ (o : Outcome). o.status) stops.is)
-answer_told words shelf nodes end told (WantsMemory same) is none_failed = IsWant same
+        by_end : EndsAt shelf nodes end (rest_of follows.given (plan_of command)) ⊎ (end ≡ no_memory) → ComesToTold words shelf nodes files end
+        by_end (inl ends) = by_told (ends_told shelf files nodes end (rest_of follows.given (plan_of command))
+            (none_failed_later shelf files follows.given (plan_of command) told follows.gave well) ends)
+        by_end (inr lacks) = LacksMemory lacks
 
 told_as : (end same_end : Outcome) (out err : SinkCall) (status : ℕ) → IsTold end out err status → end ≡ same_end → IsTold same_end out err status
-told_as end same_end out err status told same =
-    let P : Outcome → Type 0 = λ o. IsTold o out err status in subst P same told
+told_as end same_end out err status whole same = let P : Outcome → Type 0 = λ o. IsTold o out err status in subst P same whole
 
 pub gives_answer : (words : List (List ℕ)) (shelf : ShelfCall) (nodes : Arena) (out err : SinkCall) (status : ℕ) → Runs words shelf nodes out err status
     → GivesAnswer words shelf nodes out err status
 gives_answer words shelf nodes out err status runs = at_files shelf.files refl
   where
-    by_outcome : (told : Files) → IsTold runs.end out err status → ComesToTold words shelf nodes told runs.end
-        → IsTold (answer words told) out err status ⊎ (MetLimit shelf nodes (command_of words) × (status ≡ 6)) ⊎ IsTold no_memory out err status
-    by_outcome told whole (IsAnswer same) = inl (told_as runs.end (answer words told) out err status whole same)
-    by_outcome told whole (IsAtLimit met six) = inr (inl (met, whole.is ∙ six))
-    by_outcome told whole (IsWant same) = inr (inr (told_as runs.end no_memory out err status whole same))
+    by_outcome : (files : Files) → IsTold runs.end out err status → ComesToTold words shelf nodes files runs.end
+        → IsTold (answer words files) out err status ⊎ (Reaches (MeetsLimit nodes) words shelf × (status ≡ 6)) ⊎ IsTold no_memory out err status
+    by_outcome files whole (GaveAnswer same) = inl (told_as runs.end (answer words files) out err status whole same)
+    by_outcome files whole (MetLimit met six) = inr (inl (met, whole.is ∙ six))
+    by_outcome files whole (LacksMemory same) = inr (inr (told_as runs.end no_memory out err status whole same))
 
-    by_telling : (told : Files) → Tells runs.end out err status → ComesToTold words shelf nodes told runs.end
-        → (WriteFailed out → ⊥) → (WriteFailed err → ⊥)
-        → IsTold (answer words told) out err status ⊎ (MetLimit shelf nodes (command_of words) × (status ≡ 6)) ⊎ IsTold no_memory out err status
-    by_telling told (inl whole) same no_out no_err = by_outcome told whole same
-    by_telling told (inr cut) same no_out no_err = absurd (elim cut.cause [ inl rose ↦ no_out rose | inr rose ↦ no_err rose ])
+    by_telling : (files : Files) → Tells runs.end out err status → ComesToTold words shelf nodes files runs.end → IsWell words shelf out err files
+        → IsTold (answer words files) out err status ⊎ (Reaches (MeetsLimit nodes) words shelf × (status ≡ 6)) ⊎ IsTold no_memory out err status
+    by_telling files (inl whole) comes well = by_outcome files whole comes
+    by_telling files (inr cut) comes well = absurd (elim cut.cause [ inl rose ↦ well.writes_out rose | inr rose ↦ well.writes_err rose ])
 
-    at_files : (files : Option Files) → shelf.files ≡ files → IfSome files (λ told. NoneFailed shelf told (files_of_words (command_of words))
-        → (WriteFailed out → ⊥) → (WriteFailed err → ⊥)
-        → IsTold (answer words told) out err status ⊎ (MetLimit shelf nodes (command_of words) × (status ≡ 6)) ⊎ IsTold no_memory out err status)
+    at_files : (told : Option Files) → shelf.files ≡ told → IfSome told (λ files. IsWell words shelf out err files
+        → IsTold (answer words files) out err status ⊎ (Reaches (MeetsLimit nodes) words shelf × (status ≡ 6)) ⊎ IsTold no_memory out err status)
     at_files None is = tt
-    at_files (Some told) is = λ none_failed no_out no_err.
-        by_telling told runs.tells (answer_told words shelf nodes runs.end told runs.comes is none_failed) no_out no_err
+    at_files (Some files) is = λ well. by_telling files runs.tells (comes_told words shelf nodes files runs.end is well.reads runs.comes) well
 
 -- a limit that is enough is not met
-not_limited : (shelf : ShelfCall) (nodes : Arena) (command : Option Command) → HasEnoughNodes shelf command → MetLimit shelf nodes command → ⊥
-not_limited shelf nodes None nodes_enough met = met
-not_limited shelf nodes (Some (Check name options)) nodes_enough met =
-    let is = nodes_enough met.net met.care met.gave in
+not_met : (nodes : Arena) (rest : Plan) → IsEnoughFor rest → MeetsLimit nodes rest → ⊥
+not_met nodes (Reads role name next) is met = met
+not_met nodes (Faulty name fault) is met = met
+not_met nodes (Ends ending) is met = met
+not_met nodes (Decides decision tell) is met =
     let below = met.below.below is.width is.wide in
     absurd (omega (arith, below, is.within))
-not_limited shelf nodes (Some (Flat name)) nodes_enough met = met
-not_limited shelf nodes (Some (Loops name)) nodes_enough met = met
+
+not_limited : (words : List (List ℕ)) (shelf : ShelfCall) (nodes : Arena) → HasEnoughNodes words shelf → Reaches (MeetsLimit nodes) words shelf → ⊥
+not_limited words shelf nodes = by_command (command_of words)
+  where
+    by_command : (asked : Option Command) → IfSome asked (λ command.
+        (given : List (List ℕ)) → AreGiven shelf.files given (plan_of command) → IsEnoughFor (rest_of given (plan_of command)))
+        → IsSomeAnd asked (λ command. Leads (MeetsLimit nodes) shelf (plan_of command)) → ⊥
+    by_command None has met = met
+    by_command (Some command) has met = not_met nodes (rest_of met.given (plan_of command)) (has met.given met.gave) met.holds
 
 pub is_complete : (words : List (List ℕ)) (shelf : ShelfCall) (nodes : Arena) (out err : SinkCall) (status : ℕ) → Runs words shelf nodes out err status
     → IsComplete words shelf out err status
 is_complete words shelf nodes out err status runs = at_files shelf.files (gives_answer words shelf nodes out err status runs)
   where
-    at_files : (files : Option Files)
-        → IfSome files (λ told. NoneFailed shelf told (files_of_words (command_of words)) → (WriteFailed out → ⊥) → (WriteFailed err → ⊥)
-        → IsTold (answer words told) out err status ⊎ (MetLimit shelf nodes (command_of words) × (status ≡ 6)) ⊎ IsTold no_memory out err status)
-        → IfSome files (λ told. NoneFailed shelf told (files_of_words (command_of words)) → (WriteFailed out → ⊥) → (WriteFailed err → ⊥)
-        → HasEnoughNodes shelf (command_of words) → IsTold (answer words told) out err status ⊎ IsTold no_memory out err status)
+    at_files : (told : Option Files)
+        → IfSome told (λ files. IsWell words shelf out err files
+        → IsTold (answer words files) out err status ⊎ (Reaches (MeetsLimit nodes) words shelf × (status ≡ 6)) ⊎ IsTold no_memory out err status)
+        → IfSome told (λ files. IsWell words shelf out err files → HasEnoughNodes words shelf
+        → IsTold (answer words files) out err status ⊎ IsTold no_memory out err status)
     at_files None gives = tt
-    at_files (Some told) gives = λ none_failed no_out no_err has. elim (gives none_failed no_out no_err) [
+    at_files (Some files) gives = λ well has. elim (gives well) [
       | inl whole ↦ inl whole
-      | inr rest ↦ elim rest [ inl met ↦ absurd (not_limited shelf nodes (command_of words) has met.0) | inr want ↦ inr want ]
+      | inr rest ↦ elim rest [ inl met ↦ absurd (not_limited words shelf nodes has met.0) | inr want ↦ inr want ]
     ]

@@ -1,6 +1,6 @@
 -- The care set of a file: what binding says of its models.
 use Rattle.std.proofs.Common.{◌≡◌, ◌⊎◌, inl, inr, ℕ, ◌+◌, ◌<◌, ◌≤◌, not, List, [], ◌∷◌, length, map, Some, None, Ok, Err, Bool, true, false, refl, sym, ap, ap₂, ◌∙◌, subst, arith}
-use Rattle.std.specs.Prelude.{nat_le, if◌then◌else◌, IfSome, option_map, unwrap_or, is_none, is_some, position, codes, ◌||◌, ◌&&◌}
+use Rattle.std.specs.Prelude.{nat_le, if◌then◌else◌, option_map, unwrap_or, is_none, is_some, position, codes, ◌||◌, ◌&&◌}
 use Rattle.std.specs.declared.option.Option.{Option}
 use Rattle.std.specs.List.{AllByRecursion}
 use Rattle.std.specs.Option.{option_or, option_and_then}
@@ -25,15 +25,11 @@ use Rattle.care_sets.specs.declared.fault.CareFault.TheVariants.{NoModels, Loop}
 use Rattle.care_sets.specs.declared.model.CareModel.{CareModel}
 use Rattle.blif_read.specs.Find.{has_name}
 use Rattle.blif_read.specs.declared.models.BlifModel.{BlifModel}
-use Rattle.cyc_io.specs.Faults.{Counts}
 use Rattle.flatten.specs.Flat.{flat}
 use Rattle.flatten.specs.declared.fault.FlatFault.{FlatFault}
-use Rattle.cyc_tool.specs.Calls.{ShelfCall, GaveCareFile}
-use Rattle.cyc_tool.specs.Reading.{GaveNone, GaveText, NoneFell, StopsAtFile, StopsWith}
-use Rattle.cyc_tool.specs.Texts.{Outcome, has_fault}
-use Rattle.cyc_tool.proofs.ReadingLemmas.{stops_if_fault, stops_with, stops_without_text}
+use Rattle.cyc_tool.specs.Reading.{IsErrorOf}
 use Rattle.cyc_tool.specs.CareFiles.{no_care, part_of, some_part, with_assume, with_invariant, has_loop, model_fault, models_fault, bound_model, unless_fault, bound, care_of, care_models}
-use Rattle.cyc_tool.specs.Faults.{care_fault, flat_fault, flat_result, too_long}
+use Rattle.cyc_tool.specs.Faults.{Fault, care_fault, flat_fault, flat_result, too_long}
 
 -- a file that isn't too long has the care set of its text
 pub care_of_short : (net : Parts) (bytes : List ℕ) → length bytes ≤ MAX_FILE_BYTES → care_of net bytes ≡ care_models net (reads bytes)
@@ -162,16 +158,10 @@ fault_there net (Some a) (Some i) fault (inr (inr fails)) =
 fault_there net a None fault (inr (inr fails)) = absurd fails.invariant_fails
 
 -- a fault of binding is one of the models, unless it is want of memory
-pub bind_fault : (net : Parts) (a i : Option Parts) (found lack : CareFault) → (found ≡ lack) ⊎ IsFirstFault net a i found
+bind_fault : (net : Parts) (a i : Option Parts) (found lack : CareFault) → (found ≡ lack) ⊎ IsFirstFault net a i found
     → (found ≡ lack) ⊎ (bound net a i ≡ Err (care_fault found))
 bind_fault net a i found lack (inl same) = inl same
 bind_fault net a i found lack (inr is) = inr (bound_bad net a i found (fault_there net a i found is))
-
--- where the call ends at such a fault
-pub bind_stops : (name : List ℕ) (net : Parts) (a i : Option Parts) (found lack : CareFault) (stop : Option Outcome) → (found ≡ lack) ⊎ IsFirstFault net a i found
-    → IfSome stop (λ end. end ≡ has_fault name (care_fault found)) → (found ≡ lack → stop ≡ None) → StopsWith name (bound net a i) stop
-bind_stops name net a i found lack stop is told none =
-    stops_with name (bound net a i) found lack (care_fault found) stop (bind_fault net a i found lack is) told none
 
 -- one model of the file
 found_part : (models : List BlifModel) (part name : List ℕ) (found : Option ℕ) (t : Bool) → name ≡ part → found ≡ position (has_name name) models → is_some found ≡ t
@@ -191,51 +181,39 @@ part_good models part name found net named is some flat_is =
     ∙ ap (λ n. some_part (flat_result (flat models n))) (sym named)
     ∙ ap (λ r. some_part (flat_result r)) flat_is
 
-pub part_bad : (file : List ℕ) (models : List BlifModel) (part name : List ℕ) (at : Option ℕ) (found lack : FlatFault) (stop : Option Outcome)
-    → name ≡ part → at ≡ position (has_name name) models → is_some at ≡ true → (found ≡ lack) ⊎ (flat models name ≡ Err found)
-    → IfSome stop (λ end. end ≡ has_fault file (flat_fault found)) → (found ≡ lack → stop ≡ None) → StopsWith file (part_of models part) stop
-part_bad file models part name at found lack stop named is some (inl same) told none =
-    stops_with file (part_of models part) found lack (flat_fault found) stop (inl same) told none
-part_bad file models part name at found lack stop named is some (inr there) told none =
-    stops_with file (part_of models part) found lack (flat_fault found) stop
-    (inr (found_part models part name at true named is some ∙ ap (λ n. some_part (flat_result (flat models n))) (sym named) ∙ ap (λ r. some_part (flat_result r)) there)) told none
+pub part_bad : (models : List BlifModel) (part name : List ℕ) (at : Option ℕ) (fault : FlatFault)
+    → name ≡ part → at ≡ position (has_name name) models → is_some at ≡ true → flat models name ≡ Err fault
+    → part_of models part ≡ Err (flat_fault fault)
+part_bad models part name at fault named is some there =
+    found_part models part name at true named is some ∙ ap (λ n. some_part (flat_result (flat models n))) (sym named) ∙ ap (λ r. some_part (flat_result r)) there
 
 -- both models of the file, one after another
-pub assume_faulty : (file : List ℕ) (net : Parts) (models : List BlifModel) (stop : Option Outcome) → StopsWith file (part_of models (codes "assume")) stop
-    → StopsWith file (care_models net (Ok models)) stop
-assume_faulty file net models None ends = tt
-assume_faulty file net models (Some end) ends = record { fault = ends.fault; has = ap (with_assume net models) ends.has; is = ends.is }
+pub assume_bad : (net : Parts) (models : List BlifModel) (error : Option Fault) → IsErrorOf (part_of models (codes "assume")) error
+    → IsErrorOf (care_models net (Ok models)) error
+assume_bad net models None is = tt
+assume_bad net models (Some fault) is = ap (with_assume net models) is
 
-pub invariant_faulty : (file : List ℕ) (net : Parts) (models : List BlifModel) (a : Option Parts) (stop : Option Outcome) → part_of models (codes "assume") ≡ Ok a
-    → StopsWith file (part_of models (codes "invariant")) stop → StopsWith file (care_models net (Ok models)) stop
-invariant_faulty file net models a None is ends = tt
-invariant_faulty file net models a (Some end) is ends =
-    record { fault = ends.fault; has = ap (with_assume net models) is ∙ ap (with_invariant net a) ends.has; is = ends.is }
+pub invariant_bad : (net : Parts) (models : List BlifModel) (a : Option Parts) (error : Option Fault) → part_of models (codes "assume") ≡ Ok a
+    → IsErrorOf (part_of models (codes "invariant")) error → IsErrorOf (care_models net (Ok models)) error
+invariant_bad net models a None is_a is = tt
+invariant_bad net models a (Some fault) is_a is = ap (with_assume net models) is_a ∙ ap (with_invariant net a) is
 
 both_parts : (net : Parts) (models : List BlifModel) (a i : Option Parts) → part_of models (codes "assume") ≡ Ok a → part_of models (codes "invariant") ≡ Ok i
     → care_models net (Ok models) ≡ bound net a i
 both_parts net models a i is_a is_i = ap (with_assume net models) is_a ∙ ap (with_invariant net a) is_i
 
-pub bound_faulty : (file : List ℕ) (net : Parts) (models : List BlifModel) (a i : Option Parts) (stop : Option Outcome) → part_of models (codes "assume") ≡ Ok a
-    → part_of models (codes "invariant") ≡ Ok i → StopsWith file (bound net a i) stop → StopsWith file (care_models net (Ok models)) stop
-bound_faulty file net models a i None is_a is_i ends = tt
-bound_faulty file net models a i (Some end) is_a is_i ends =
-    record { fault = ends.fault; has = both_parts net models a i is_a is_i ∙ ends.has; is = ends.is }
-
 pub bound_models : (net : Parts) (models : List BlifModel) (a i : Option Parts) (care : CareSet) → part_of models (codes "assume") ≡ Ok a
-    → part_of models (codes "invariant") ≡ Ok i → bound net a i ≡ Ok care → care_models net (Ok models) ≡ Ok care
-bound_models net models a i care is_a is_i is = both_parts net models a i is_a is_i ∙ is
+    → part_of models (codes "invariant") ≡ Ok i → BindsBoth net a i care → care_models net (Ok models) ≡ Ok care
+bound_models net models a i care is_a is_i both = both_parts net models a i is_a is_i ∙ bound_good net a i care both
 
--- a care file
-pub care_unread : (net : Parts) (name : List ℕ) (shelf : ShelfCall) (end : Option Outcome) → IfSome end (GaveNone shelf name) → IfSome end (StopsAtFile (care_of net) shelf name)
-care_unread net name shelf end none = stops_without_text (care_of net) name shelf end (care_of_long net) none
-
-pub gave_care_file : (net : Parts) (name bytes : List ℕ) (shelf : ShelfCall) (care : CareSet) → GaveText shelf name bytes → care_of net bytes ≡ Ok care → GaveCareFile shelf name net care
-gave_care_file net name bytes shelf care gave is = record { bytes = bytes; gave = gave.is; is = is }
-
-pub care_faulty : (net : Parts) (name bytes : List ℕ) (shelf : ShelfCall) (end : Option Outcome) → GaveText shelf name bytes
-    → StopsWith name (care_of net bytes) end → IfSome end (StopsAtFile (care_of net) shelf name)
-care_faulty net name bytes shelf end gave ends = stops_if_fault (care_of net) name bytes shelf end gave.is ends
+pub bind_error : (net : Parts) (models : List BlifModel) (a i : Option Parts) (found lack : CareFault) → part_of models (codes "assume") ≡ Ok a
+    → part_of models (codes "invariant") ≡ Ok i → (found ≡ lack) ⊎ IsFirstFault net a i found
+    → (found ≡ lack) ⊎ (care_models net (Ok models) ≡ Err (care_fault found))
+bind_error net models a i found lack is_a is_i fault = by_fault (bind_fault net a i found lack fault)
+  where
+    by_fault : (found ≡ lack) ⊎ (bound net a i ≡ Err (care_fault found)) → (found ≡ lack) ⊎ (care_models net (Ok models) ≡ Err (care_fault found))
+    by_fault (inl same) = inl same
+    by_fault (inr is) = inr (both_parts net models a i is_a is_i ∙ is)
 
 -- without a care file
 pub none_is : (care : CareSet) → care.assume ≡ None → care.invariant ≡ None → care ≡ no_care
@@ -245,6 +223,3 @@ pub none_fits : (net : Parts) (care : CareSet) → care.assume ≡ None → care
 none_fits net care no_assume no_invariant =
     let P : CareSet → Type 0 = IsCareOf net in
     subst P (sym (none_is care no_assume no_invariant)) (record { assume = tt; invariant = tt })
-
-pub stands_still : (counts : Counts) → NoneFell counts counts
-stands_still counts = λ name. omega arith

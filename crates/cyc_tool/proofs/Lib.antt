@@ -1,8 +1,10 @@
 pub mod AnswerLemmas
 pub mod CareLemmas
 pub mod CauseLemmas
-pub mod LoopTextLemmas
+pub mod ErrorLemmas
+pub mod PlanLemmas
 pub mod ReadingLemmas
 pub mod RunLemmas
 pub mod TellLemmas
+pub mod VectorLemmas
 pub mod WordLemmas

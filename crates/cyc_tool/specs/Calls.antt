@@ -1,21 +1,22 @@
 -- What a call of `run` did with its shelf and its sinks.
-use Rattle.std.specs.Prelude.{◌≡◌, ◌⊎◌, ℕ, List, [], ◌∷◌, Some, None, Ok, IfSome, MatchOption}
+use Rattle.std.specs.Prelude.{◌≡◌, ◌≢◌, ◌≤◌, ◌⊎◌, ℕ, List, [], ◌∷◌, Some, None, IfOk}
 use Rattle.std.specs.declared.option.Option.{Option}
+use Rattle.std.specs.List.{AllByRecursion}
 use Rattle.std.specs.Io.KnownBytes.{Appends}
 use Rattle.cyc_io.specs.Faults.{Rose, Counts}
 use Rattle.cyc_io.specs.Files.{Files, IsFile}
+pub use Rattle.cyc_io.specs.Taken.{SinkCall, sink_call}
 use Rattle.cyc_io.specs.Taken.{AppendsPrefix}
 use Rattle.bdd_store.specs.Arena.{Arena}
-use Rattle.cyc_tool.specs.Texts.{Outcome, limit_reached, no_memory}
-use Rattle.cyc_tool.specs.Words.{Options, Command, Check, command_of}
-use Rattle.cyc_tool.specs.Answer.{Netlist, File, Given, given_net, netlist_file, care_file, files_of_words, stop_at, limit_of, outcome}
-use Rattle.cyc_tool.specs.CareFiles.{no_care, care_of}
-use Rattle.cyc_tool.specs.Faults.{netlist_of}
-use Rattle.netlist.specs.declared.parts.Parts.{Parts}
 use Rattle.netlist.specs.Netlists.{IsNetlist}
-use Rattle.care_sets.specs.Care.{CareSet}
+use Rattle.refusals.specs.declared.refusal.Refusal.{Refusal}
 use Rattle.verdict.specs.Causes.{IsOutOfNodes}
 use Rattle.verdict.specs.Enough.{IsBelowEnough}
+use Rattle.cyc_tool.specs.Answer.{told, verdict_of}
+use Rattle.cyc_tool.specs.Faults.{netlist_of}
+use Rattle.cyc_tool.specs.Plans.{Role, Netlist, Care, Vectors, Ending, Decision, Plan, Reads, Faulty, Ends, Decides, plan_of}
+use Rattle.cyc_tool.specs.Texts.{Outcome, usage, has_fault, read_failed, limit_reached, no_memory}
+use Rattle.cyc_tool.specs.Words.{Command, command_of}
 
 -- a shelf over a call: its files, where it tells them, and its counts of faults before and after
 pub record ShelfCall : Type 0 where
@@ -26,16 +27,6 @@ pub record ShelfCall : Type 0 where
 abbrev pub shelf_call : {S : Type 0} → (S → Option Files) → (S → Counts) → S → S → ShelfCall
 shelf_call files faults old new = record { files = files old; before = faults old; now = faults new }
 
--- a sink over a call: what it holds, where it tells that, and its count of faults, before and after
-pub record SinkCall : Type 0 where
-  pub old : Option (List ℕ)
-  pub new : Option (List ℕ)
-  pub before : ℕ
-  pub now : ℕ
-
-abbrev pub sink_call : {K : Type 0} → (K → Option (List ℕ)) → (K → ℕ) → K → K → SinkCall
-sink_call put faults old new = record { old = put old; new = put new; before = faults old; now = faults new }
-
 -- the count of this name rose
 abbrev pub ReadFailed : ShelfCall → List ℕ → Type 0
 ReadFailed shelf name = Rose (shelf.before name) (shelf.now name)
@@ -43,66 +34,77 @@ ReadFailed shelf name = Rose (shelf.before name) (shelf.now name)
 abbrev pub WriteFailed : SinkCall → Type 0
 WriteFailed sink = Rose sink.before sink.now
 
+-- no count fell, and none changed but those of these names
+pub record ChangesCountsOf (names : List (List ℕ)) (shelf : ShelfCall) : Type 0 where
+  pub later : (other : List ℕ) → shelf.before other ≤ shelf.now other
+  pub others : (other : List ℕ) → AllByRecursion (λ name. other ≢ name) names → shelf.now other ≡ shelf.before other
+
 abbrev pub Takes : SinkCall → List ℕ → Type 0
 Takes sink text = Appends sink.old sink.new text
 
 abbrev pub TakesPrefix : SinkCall → List ℕ → Type 0
 TakesPrefix sink text = AppendsPrefix sink.old sink.new text
 
--- The shelf gave these bytes for a name, those of its file where the files are told; or nothing, and then a read failed.
-abbrev pub Gave : ShelfCall → List ℕ → Option (List ℕ) → Type 0
-Gave shelf name given = MatchOption given (ReadFailed shelf name) (IsFile shelf.files name)
+-- A netlist that a file has meets all conditions of one.
+abbrev pub IsSound : Role → List ℕ → Type 0
+IsSound Netlist bytes = IfOk (netlist_of bytes) IsNetlist
+IsSound Care bytes = Unit {0}
+IsSound Vectors bytes = Unit {0}
 
--- The same for each file in order, up to the first one at which the call ends: those behind it aren't read.
-abbrev pub GaveInOrder : ShelfCall → Given → List File → Type 0
-GaveInOrder shelf given [] = Unit {0}
-GaveInOrder shelf given (file ∷ files) =
-    Gave shelf file.1 (given file.0) × (stop_at given file ≡ None → GaveInOrder shelf given files)
+-- What is given for the files of a plan in order, each text once: a real file may change between two reads. These are
+-- the bytes of the files that a shelf tells.
+abbrev pub AreGiven : Option Files → List (List ℕ) → Plan → Type 0
+AreGiven files [] plan = Unit {0}
+AreGiven files (bytes ∷ given) (Reads role name next) = IsFile files name bytes × IsSound role bytes × AreGiven files given (next bytes)
+AreGiven files (bytes ∷ given) (Faulty name fault) = ⊥
+AreGiven files (bytes ∷ given) (Ends ending) = ⊥
+AreGiven files (bytes ∷ given) (Decides decision tell) = ⊥
 
--- A netlist that was given meets all conditions of one.
-abbrev pub GivenIsValid : Given → Type 0
-GivenIsValid given = IfSome (given_net (given Netlist)) IsNetlist
+-- what is left of a plan behind these texts
+abbrev pub rest_of : List (List ℕ) → Plan → Plan
+rest_of [] plan = plan
+rest_of (bytes ∷ given) (Reads role name next) = rest_of given (next bytes)
+rest_of (bytes ∷ given) plan = plan
 
--- The shelf gave the netlist of this name.
-pub record GaveNetlist (shelf : ShelfCall) (name : List ℕ) (net : Parts) : Type 0 where
-  pub bytes : List ℕ
-  pub gave : IsFile shelf.files name bytes
-  pub is : netlist_of bytes ≡ Ok net
+-- the names of the files that gave these texts, and of the one that is next
+abbrev pub names_read : List (List ℕ) → Plan → List (List ℕ)
+names_read [] (Reads role name next) = name ∷ []
+names_read (bytes ∷ given) (Reads role name next) = name ∷ names_read given (next bytes)
+names_read given plan = []
 
--- The shelf gave the care set of this name for the netlist.
-pub record GaveCareFile (shelf : ShelfCall) (name : List ℕ) (net : Parts) (care : CareSet) : Type 0 where
-  pub bytes : List ℕ
-  pub gave : IsFile shelf.files name bytes
-  pub is : care_of net bytes ≡ Ok care
+-- The diagrams are full, or a cover is too large for them, and the limit is below what is enough.
+pub record IsLimited (decision : Decision) (nodes : Arena) : Type 0 where
+  pub cause : IsOutOfNodes nodes decision.net decision.care decision.limit
+  pub below : IsBelowEnough decision.net decision.care decision.limit
 
--- The same, where there is a care file.
-abbrev pub GaveCare : ShelfCall → Option (List ℕ) → Parts → CareSet → Type 0
-GaveCare shelf None net care = care ≡ no_care
-GaveCare shelf (Some name) net care = GaveCareFile shelf name net care
+-- A decision came to its verdict, of which this is told, or met its limit of nodes.
+pub data IsDecided (decision : Decision) (tell : Option Refusal → Ending) (nodes : Arena) (end : Outcome) : Type 0 where
+  Verdict : end ≡ told (tell (verdict_of decision)) → IsDecided decision tell nodes end
+  Limit : IsLimited decision nodes → end ≡ limit_reached decision.limit → IsDecided decision tell nodes end
 
--- The shelf gave all that a command works on, without a fault.
-pub record GaveAll (shelf : ShelfCall) (command : Command) (net : Parts) (care : CareSet) : Type 0 where
-  pub netlist : GaveNetlist shelf (netlist_file command) net
-  pub care_set : GaveCare shelf (care_file command) net care
+-- how a call ends at what is left of its plan
+abbrev pub EndsAt : ShelfCall → Arena → Outcome → Plan → Type 0
+EndsAt shelf nodes end (Reads role name next) = ReadFailed shelf name × (end ≡ read_failed name)
+EndsAt shelf nodes end (Faulty name fault) = end ≡ has_fault name fault
+EndsAt shelf nodes end (Ends ending) = end ≡ told ending
+EndsAt shelf nodes end (Decides decision tell) = IsNetlist decision.net × IsDecided decision tell nodes end
 
--- A decision met its limit: no file has a fault, the diagrams are full or a cover is too large for it, and it is
--- below what is enough.
-pub record StopsAtLimit (shelf : ShelfCall) (nodes : Arena) (name : List ℕ) (options : Options) (end : Outcome) : Type 0 where
-  pub net : Parts
-  pub care : CareSet
-  pub gave : GaveAll shelf (Check name options) net care
-  pub cause : IsOutOfNodes nodes net care (limit_of options)
-  pub below : IsBelowEnough net care (limit_of options)
-  pub is : end ≡ limit_reached (limit_of options)
+-- A call went along a plan to this outcome, by what the shelf gave and these diagrams show, or it wants memory. It
+-- read no file but those of the plan, in its order.
+pub record Follows (plan : Plan) (shelf : ShelfCall) (nodes : Arena) (end : Outcome) : Type 0 where
+  pub given : List (List ℕ)
+  pub gave : AreGiven shelf.files given plan
+  pub counts : ChangesCountsOf (names_read given plan) shelf
+  pub ends : EndsAt shelf nodes end (rest_of given plan) ⊎ (end ≡ no_memory)
 
--- The call came to this outcome: that of its words, at what the shelf gave; or its decision met the limit of nodes,
--- which these diagrams show; or it wants memory.
-pub data ComesTo (words : List (List ℕ)) (shelf : ShelfCall) (nodes : Arena) (end : Outcome) : Type 0 where
-  Answers : (given : Given) → GaveInOrder shelf given (files_of_words (command_of words)) → GivenIsValid given
-      → end ≡ outcome words given → ComesTo words shelf nodes end
-  MeetsLimit : (name : List ℕ) (options : Options) → command_of words ≡ Some (Check name options)
-      → StopsAtLimit shelf nodes name options end → ComesTo words shelf nodes end
-  WantsMemory : end ≡ no_memory → ComesTo words shelf nodes end
+-- Words outside the grammar come to the usage, and nothing is read.
+pub record ComesToUsage (shelf : ShelfCall) (end : Outcome) : Type 0 where
+  pub counts : ChangesCountsOf [] shelf
+  pub ends : (end ≡ usage) ⊎ (end ≡ no_memory)
+
+abbrev pub ComesTo : Option Command → ShelfCall → Arena → Outcome → Type 0
+ComesTo None shelf nodes end = ComesToUsage shelf end
+ComesTo (Some command) shelf nodes end = Follows (plan_of command) shelf nodes end
 
 -- This was told whole.
 pub record IsTold (end : Outcome) (out err : SinkCall) (status : ℕ) : Type 0 where
@@ -124,5 +126,5 @@ Tells end out err status = IsTold end out err status ⊎ IsCutOff end out err st
 -- the theorem of a run, from which all the others follow
 pub record Runs (words : List (List ℕ)) (shelf : ShelfCall) (nodes : Arena) (out err : SinkCall) (status : ℕ) : Type 0 where
   pub end : Outcome
-  pub comes : ComesTo words shelf nodes end
+  pub comes : ComesTo (command_of words) shelf nodes end
   pub tells : Tells end out err status

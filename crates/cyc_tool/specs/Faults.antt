@@ -30,6 +30,9 @@ at_line code n = record { code = code; line = Some n; tail = no_tail }
 abbrev pub of_name : ℕ → List ℕ → Fault
 of_name code name = record { code = code; line = None; tail = name_tail name }
 
+abbrev pub of_name_at : ℕ → ℕ → List ℕ → Fault
+of_name_at code n name = record { code = code; line = Some n; tail = name_tail name }
+
 abbrev pub too_long : Fault
 too_long = of_file 1
 

@@ -1,10 +1,14 @@
+-- The meaning of words, in the order of reading.
 pub mod Words
 pub mod Faults
 pub mod CareFiles
-pub mod LoopTexts
+pub mod VectorFiles
+pub mod Simulation
 pub mod Texts
+pub mod Plans
 pub mod Answer
 pub mod Calls
 pub mod Causes
+-- What functions below `run` say of parts of a call, and how clauses see the values of the code.
 pub mod Reading
 pub mod Seen

@@ -1,71 +1,51 @@
--- What came of reading the files of a command.
-use Rattle.std.specs.Prelude.{◌≡◌, ◌<◌, ◌≤◌, ℕ, List, length, Some, None, Err, IfSome}
+-- What came of reading one file of a plan.
+use Rattle.std.specs.Prelude.{◌≡◌, ◌⊎◌, ◌<◌, ◌≤◌, ℕ, List, length, Some, None, Err, IfSome}
 use Rattle.std.specs.declared.option.Option.{Option}
 use Rattle.std.specs.declared.result.Result.{Result}
-use Rattle.cyc_base.specs.declared.limits.TheConstants.{MAX_FILE_BYTES}
-use Rattle.cyc_io.specs.Faults.{Counts}
-use Rattle.cyc_io.specs.Files.{IsFile}
-use Rattle.netlist.specs.declared.parts.Parts.{Parts}
 use Rattle.bdd_store.specs.Arena.{Arena}
-use Rattle.care_sets.specs.Care.{CareSet}
-use Rattle.verdict.specs.Causes.{IsOutOfNodes}
-use Rattle.verdict.specs.Enough.{IsBelowEnough}
-use Rattle.cyc_tool.specs.CareFiles.{care_of}
+use Rattle.cyc_base.specs.declared.limits.TheConstants.{MAX_FILE_BYTES}
+use Rattle.cyc_io.specs.Files.{IsFile}
+use Rattle.cyc_tool.specs.Calls.{ShelfCall, ChangesCountsOf, ReadFailed, AreGiven, rest_of, names_read, Follows}
 use Rattle.cyc_tool.specs.Faults.{Fault, too_long}
-use Rattle.cyc_tool.specs.Texts.{Outcome, has_fault, limit_reached, read_failed}
-use Rattle.cyc_tool.specs.Words.{Options, Command, Check}
-use Rattle.cyc_tool.specs.Answer.{Given, files_of, file_stop, decided, outcome_of_command}
-use Rattle.cyc_tool.specs.Calls.{ShelfCall, ReadFailed, Gave, GaveInOrder, GivenIsValid, StopsAtLimit}
-
--- Where a file has a fault, the call ends with it, unless it wants memory.
-pub record EndsWithFault {T : Type 0} (name : List ℕ) (meaning : Result T Fault) (end : Outcome) : Type 0 where
-  pub fault : Fault
-  pub has : meaning ≡ Err fault
-  pub is : end ≡ has_fault name fault
-
-abbrev pub StopsWith : {T : Type 0} → List ℕ → Result T Fault → Option Outcome → Type 0
-StopsWith name meaning end = IfSome end (EndsWithFault name meaning)
+use Rattle.cyc_tool.specs.Plans.{Plan}
+use Rattle.cyc_tool.specs.Texts.{Outcome, has_fault, read_failed, no_memory}
 
 -- The shelf gave a text of this file that isn't too long.
 pub record GaveText (shelf : ShelfCall) (name bytes : List ℕ) : Type 0 where
   pub is : IsFile shelf.files name bytes
   pub short : length bytes ≤ MAX_FILE_BYTES
 
--- It gave none: a read failed, or the file is too long.
+-- It gave none: a read failed, or the file is too long, or memory ran out.
 pub data GaveNone (shelf : ShelfCall) (name : List ℕ) (end : Outcome) : Type 0 where
   Unread : ReadFailed shelf name → end ≡ read_failed name → GaveNone shelf name end
   TooLong : (bytes : List ℕ) → IsFile shelf.files name bytes → MAX_FILE_BYTES < length bytes → end ≡ has_fault name too_long
       → GaveNone shelf name end
+  Lacks : end ≡ no_memory → GaveNone shelf name end
 
--- The shelf gave something for a file of this meaning, at which the call ends so.
-pub record StopsAtFile {T : Type 0} (meaning : List ℕ → Result T Fault) (shelf : ShelfCall) (name : List ℕ) (end : Outcome) : Type 0 where
-  pub given : Option (List ℕ)
-  pub gave : Gave shelf name given
-  pub is : file_stop meaning name given ≡ Some end
+-- What an error says of a meaning: the fault that it has. Want of memory says nothing.
+abbrev pub IsErrorOf : {T : Type 0} → Result T Fault → Option Fault → Type 0
+IsErrorOf meaning error = IfSome error (λ fault. meaning ≡ Err fault)
 
--- The command came to this outcome, at what the shelf gave.
-pub record CarriesOut (command : Command) (shelf : ShelfCall) (end : Outcome) : Type 0 where
-  pub given : Given
-  pub gave : GaveInOrder shelf given (files_of command)
-  pub valid : GivenIsValid given
-  pub is : end ≡ outcome_of_command (Some command) given
+-- Where a call ends at an error of this file: at its fault, unless it wants memory.
+abbrev pub StopsAt : List ℕ → Option Fault → Outcome → Type 0
+StopsAt name None end = end ≡ no_memory
+StopsAt name (Some fault) end = (end ≡ has_fault name fault) ⊎ (end ≡ no_memory)
 
--- no count of faults fell
-abbrev pub NoneFell : Counts → Counts → Type 0
-NoneFell before now = (name : List ℕ) → before name ≤ now name
+-- In this part of a call the shelf gave what leads from a plan to a rest of it.
+pub record LeadsTo (plan rest : Plan) (shelf : ShelfCall) : Type 0 where
+  pub given : List (List ℕ)
+  pub gave : AreGiven shelf.files given plan
+  pub counts : ChangesCountsOf (names_read given plan) shelf
+  pub is : rest_of given plan ≡ rest
 
--- The care file ends the call so, where there is one.
-abbrev pub StopsAtCare : ShelfCall → Option (List ℕ) → Parts → Outcome → Type 0
-StopsAtCare shelf None net end = ⊥
-StopsAtCare shelf (Some name) net end = StopsAtFile (care_of net) shelf name end
+-- So it did with a file that a plan uses: this is what it means.
+pub record GoesOn {T : Type 0} (plan : (T → Plan) → Plan) (value : T) (shelf : ShelfCall) : Type 0 where
+  pub leads : (next : T → Plan) → LeadsTo (plan next) (next value) shelf
 
--- A decision came to its outcome, or met the limit of nodes.
-pub data IsDecided (net : Parts) (care : CareSet) (limit : ℕ) (nodes : Arena) (end : Outcome) : Type 0 where
-  Decides : end ≡ decided net care → IsDecided net care limit nodes end
-  LacksNodes : IsOutOfNodes nodes net care limit → IsBelowEnough net care limit → end ≡ limit_reached limit → IsDecided net care limit nodes end
+-- A call went along a plan to this outcome, whatever the diagrams hold.
+pub record FollowsAlone (plan : Plan) (shelf : ShelfCall) (end : Outcome) : Type 0 where
+  pub follows : (nodes : Arena) → Follows plan shelf nodes end
 
--- The command came to its outcome, or its decision met the limit of nodes.
-pub data ComesOut (command : Command) (shelf : ShelfCall) (nodes : Arena) (end : Outcome) : Type 0 where
-  Comes : CarriesOut command shelf end → ComesOut command shelf nodes end
-  Lacks : (name : List ℕ) (options : Options) → command ≡ Check name options → StopsAtLimit shelf nodes name options end
-      → ComesOut command shelf nodes end
+-- A file that a plan uses ends the call so.
+pub record StopsIn {T : Type 0} (plan : (T → Plan) → Plan) (shelf : ShelfCall) (end : Outcome) : Type 0 where
+  pub follows : (next : T → Plan) (nodes : Arena) → Follows (plan next) shelf nodes end

@@ -2,33 +2,61 @@
 use Rattle.std.specs.Prelude.{ℕ, List, Some, None, Ok, Err, option_copied}
 use Rattle.std.specs.declared.option.Option.{Option}
 use Rattle.std.specs.declared.result.Result.{Result}
+use Rattle.blif_read.specs.declared.fault.BlifFault.{BlifFault}
+use Rattle.blif_read.specs.declared.fault.BlifFault.TheVariants as blif
+use Rattle.flatten.specs.declared.fault.FlatFault.{FlatFault}
+use Rattle.flatten.specs.declared.fault.FlatFault.TheVariants as walk
+use Rattle.care_sets.specs.declared.fault.CareFault.{CareFault}
+use Rattle.care_sets.specs.declared.fault.CareFault.TheVariants as care
+use Rattle.netlist.specs.declared.parts.Parts.{Parts}
+use Rattle.sched_text.specs.declared.fault.SchedFault.{SchedFault}
+use Rattle.sched_text.specs.declared.fault.SchedFault.TheVariants as sched
 use Rattle.report.specs.Texts.{no_tail, name_tail}
-use Rattle.cyc_tool.specs.Faults.{Fault}
-use Rattle.cyc_tool.specs.Texts.{Outcome, has_fault}
+use Rattle.cyc_tool.specs.Faults as found
+use Rattle.cyc_tool.specs.Texts as texts
+use Rattle.cyc_tool.specs.VectorFiles.{sched_fault}
 use Rattle.cyc_tool.specs.Words as asked
-use Rattle.cyc_tool.specs.declared.outcome.Told.{Told}
-use Rattle.cyc_tool.specs.declared.outcome.FileFault.{FileFault}
-use Rattle.cyc_tool.specs.declared.outcome.End.{End}
-use Rattle.cyc_tool.specs.declared.outcome.End.TheVariants.{Text, Fault as OfFault}
+use Rattle.cyc_tool.specs.declared.outcome.Fault.{Fault}
+use Rattle.cyc_tool.specs.declared.outcome.FileError.{FileError}
+use Rattle.cyc_tool.specs.declared.outcome.FileError.TheVariants.{Has, Memory as FileMemory}
+use Rattle.cyc_tool.specs.declared.outcome.Outcome.{Outcome}
 use Rattle.cyc_tool.specs.declared.outcome.Stop.{Stop}
 use Rattle.cyc_tool.specs.declared.outcome.Stop.TheVariants.{At, Memory}
 use Rattle.cyc_tool.specs.declared.words.Options.{Options}
 use Rattle.cyc_tool.specs.declared.words.Command.{Command}
-use Rattle.cyc_tool.specs.declared.words.Command.TheVariants.{Check, Flat, Loops}
+use Rattle.cyc_tool.specs.declared.words.Command.TheVariants.{Check, Flat, Loops, Sim}
 
-abbrev pub told_outcome : Told → Outcome
-told_outcome told = record { status = told.status; out = told.out.items; err = told.err.items }
+abbrev pub outcome_of : Outcome → texts.Outcome
+outcome_of told = record { status = told.status; out = told.out.items; err = told.err.items }
 
 abbrev pub tail_of : Option (List ℕ) → List ℕ
 tail_of None = no_tail
 tail_of (Some name) = name_tail name
 
-abbrev pub fault_of : FileFault → Fault
-fault_of fault = record { code = fault.code; line = fault.line; tail = tail_of fault.name }
+abbrev pub fault_seen : Fault → found.Fault
+fault_seen fault = record { code = fault.code; line = fault.line; tail = tail_of fault.name }
 
-abbrev pub outcome_of : End → Outcome
-outcome_of (Text told) = told_outcome told
-outcome_of (OfFault fault) = has_fault fault.file (fault_of fault)
+-- the fault of an error, unless it is want of memory
+abbrev pub error_seen : FileError → Option found.Fault
+error_seen (Has fault) = Some (fault_seen fault)
+error_seen FileMemory = None
+
+-- the same of the errors of the text, of flattening and of binding
+abbrev pub text_error : BlifFault → Option found.Fault
+text_error blif.Memory = None
+text_error fault = Some (found.blif_fault fault)
+
+abbrev pub walk_error : FlatFault → Option found.Fault
+walk_error walk.Memory = None
+walk_error fault = Some (found.flat_fault fault)
+
+abbrev pub care_error : CareFault → Option found.Fault
+care_error care.Memory = None
+care_error fault = Some (found.care_fault fault)
+
+abbrev pub sched_error : Parts → SchedFault → Option found.Fault
+sched_error net sched.Memory = None
+sched_error net fault = Some (sched_fault net fault)
 
 abbrev pub options_seen : Options → asked.Options
 options_seen options = record { care = option_copied options.care; nodes = options.nodes }
@@ -37,18 +65,17 @@ abbrev pub command_seen : Command → asked.Command
 command_seen (Check netlist options) = asked.Check netlist.now (options_seen options)
 command_seen (Flat netlist) = asked.Flat netlist.now
 command_seen (Loops netlist) = asked.Loops netlist.now
+command_seen (Sim netlist vectors) = asked.Sim netlist.now vectors.now
 
 -- want of memory
 abbrev pub no_memory : Stop
 no_memory = Memory
 
--- how a call ends, unless it wants memory
-abbrev pub end_of : Result End Stop → Option Outcome
-end_of (Ok end) = Some (outcome_of end)
-end_of (Err (At end)) = Some (outcome_of end)
-end_of (Err Memory) = None
+abbrev pub stop_outcome : Stop → texts.Outcome
+stop_outcome (At told) = outcome_of told
+stop_outcome Memory = texts.no_memory
 
--- where a call ends before its command is done, unless it wants memory
-abbrev pub stop_of : Stop → Option Outcome
-stop_of (At end) = Some (outcome_of end)
-stop_of Memory = None
+-- the outcome to which a call comes
+abbrev pub end_of : Result Outcome Stop → texts.Outcome
+end_of (Ok told) = outcome_of told
+end_of (Err stop) = stop_outcome stop

@@ -22,6 +22,8 @@ pub data Command : Type 0 where
   Flat : List ℕ → Command
   -- prints its loops and their cut wires
   Loops : List ℕ → Command
+  -- simulates it on the vectors of a file
+  Sim : List ℕ → List ℕ → Command
 
 -- a word that may name a file
 abbrev pub is_file_word : List ℕ → Bool
@@ -66,12 +68,18 @@ options_of known [] = Some known
 options_of known (word ∷ []) = None
 options_of known (word ∷ value ∷ rest) = option_and_then (λ more. options_of more rest) (with_option word value known)
 
+-- a simulation wants one more file
+abbrev pub sim_on : List ℕ → List (List ℕ) → Option Command
+sim_on file (vectors ∷ []) = if is_file_word vectors then Some (Sim file vectors) else None
+sim_on file other = None
+
 -- the command of this name on a file, with the words behind it
 abbrev pub command_on : List ℕ → List ℕ → List (List ℕ) → Option Command
 command_on command file rest =
     if bytes_eq command (codes "check") then option_map (Check file) (options_of no_options rest)
     else if bytes_eq command (codes "flat") && length rest == 0 then Some (Flat file)
     else if bytes_eq command (codes "loops") && length rest == 0 then Some (Loops file)
+    else if bytes_eq command (codes "sim") then sim_on file rest
     else None
 
 -- nothing for words outside the grammar

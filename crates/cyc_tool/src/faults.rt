@@ -1,127 +1,198 @@
-// The faults of netlist files.
-ghost use Rattle.std.specs.Prelude.{◌≡◌, IfSome, None};
-ghost use Rattle.report.specs.Texts.{IsCode};
-ghost use Rattle.cyc_tool.specs.Faults.{of_file, at_line, of_name, too_long, blif_fault, care_fault, flat_fault};
+// The codes of faults, and what is told of one.
+ghost use Rattle.std.specs.Prelude.{◌≡◌, ◌⊎◌, IfOk, Some, None};
+ghost use Rattle.report.specs.Texts.{IsCode, tail_text};
+ghost use Rattle.cyc_tool.specs.Faults.{of_file as whole, at_line, of_name, of_name_at, too_long as long};
+ghost use Rattle.cyc_tool.specs.Seen.{care_error, error_seen, sched_error as sched_seen, fault_seen, tail_of as tail_seen, text_error, outcome_of, walk_error};
 ghost use Rattle.cyc_tool.specs.Texts.{has_fault};
-ghost use Rattle.cyc_tool.specs.Seen.{stop_of};
+ghost use Rattle.cyc_tool.specs.VectorFiles.{latch_name as name_of_latch};
 
-use crate::outcome::{End, FileFault, Stop};
+use crate::outcome::{Fault, FileError, Outcome};
+use crate::status;
 use blif_read::BlifFault;
 use care_sets::CareFault;
 use cyc_base::Name;
+use cyc_io::TextSink;
 use flatten::FlatFault;
+use netlist::Netlist;
+use report::{Tail, put_fault};
+use sched_text::SchedFault;
+use std::alloc::{AllocError, Global};
 
-// A fault of the whole file.
-fn of_whole(file: &Name, code: u8) -> Stop
-    requires { IsCode code }
-    ensures { IfSome (stop_of result) (λ end. end ≡ has_fault file.now (of_file code)) }
-{
-    match file.copy() {
-        Ok(file) => Stop::At(End::Fault(FileFault {
-            file,
-            code,
-            line: None,
-            name: None,
-        })),
-        Err(_) => Stop::Memory,
+impl From<AllocError> for FileError {
+    ghost from_gives = { λ _ e. error_seen e ≡ None };
+
+    fn from(_: AllocError) -> Self {
+        FileError::Memory
     }
 }
 
-fn of_line(file: &Name, code: u8, line: u64) -> Stop
+fn of_file(code: u8) -> FileError
     requires { IsCode code }
-    ensures { IfSome (stop_of result) (λ end. end ≡ has_fault file.now (at_line code line)) }
+    ensures { error_seen result ≡ Some (whole code) }
 {
-    match file.copy() {
-        Ok(file) => Stop::At(End::Fault(FileFault {
-            file,
-            code,
-            line: Some(line),
-            name: None,
-        })),
-        Err(_) => Stop::Memory,
+    FileError::Has(Fault {
+        code,
+        line: None,
+        name: None,
+    })
+}
+
+fn of_line(code: u8, line: u64) -> FileError
+    requires { IsCode code }
+    ensures { error_seen result ≡ Some (at_line code line) }
+{
+    FileError::Has(Fault {
+        code,
+        line: Some(line),
+        name: None,
+    })
+}
+
+fn naming(code: u8, name: Name) -> FileError
+    requires { IsCode code }
+    ensures { error_seen result ≡ Some (of_name code name) }
+{
+    FileError::Has(Fault {
+        code,
+        line: None,
+        name: Some(name),
+    })
+}
+
+fn naming_line(code: u8, line: u64, name: Name) -> FileError
+    requires { IsCode code }
+    ensures { error_seen result ≡ Some (of_name_at code line name) }
+{
+    FileError::Has(Fault {
+        code,
+        line: Some(line),
+        name: Some(name),
+    })
+}
+
+pub(crate) fn too_long() -> FileError
+    ensures { error_seen result ≡ Some long }
+{
+    of_file(1)
+}
+
+impl From<BlifFault> for FileError {
+    ghost from_gives = { λ fault e. error_seen e ≡ text_error fault };
+
+    fn from(fault: BlifFault) -> Self {
+        match fault {
+            BlifFault::BadByte { line } => of_line(2, line),
+            BlifFault::OutsideModel { line } => of_line(3, line),
+            BlifFault::BadModel { line } => of_line(4, line),
+            BlifFault::ModelTwice { line } => of_line(5, line),
+            BlifFault::LeftOut { line } => of_line(6, line),
+            BlifFault::UnknownDirective { line } => of_line(7, line),
+            BlifFault::StrayRow { line } => of_line(8, line),
+            BlifFault::BadRow { line } => of_line(9, line),
+            BlifFault::MixedRows { line } => of_line(10, line),
+            BlifFault::NoOutputName { line } => of_line(11, line),
+            BlifFault::TooManyPins { line } => of_line(12, line),
+            BlifFault::BadLatch { line } => of_line(13, line),
+            BlifFault::LevelLatch { line } => of_line(14, line),
+            BlifFault::BadSubckt { line } => of_line(15, line),
+            BlifFault::NoModel => of_file(16),
+            BlifFault::Memory => FileError::Memory,
+        }
     }
 }
 
-fn naming(file: &Name, code: u8, name: Name) -> Stop
-    requires { IsCode code }
-    ensures { IfSome (stop_of result) (λ end. end ≡ has_fault file.now (of_name code name)) }
-{
-    match file.copy() {
-        Ok(file) => Stop::At(End::Fault(FileFault {
-            file,
-            code,
-            line: None,
-            name: Some(name),
-        })),
-        Err(_) => Stop::Memory,
+impl From<FlatFault> for FileError {
+    ghost from_gives = { λ fault e. error_seen e ≡ walk_error fault };
+
+    fn from(fault: FlatFault) -> Self {
+        match fault {
+            FlatFault::UnknownModel { name } => naming(21, name),
+            FlatFault::Recursive { name } => naming(22, name),
+            FlatFault::UnknownFormal { name } => naming(23, name),
+            FlatFault::FormalTwice { name } => naming(24, name),
+            FlatFault::OpenInput { name } => naming(25, name),
+            FlatFault::TooLarge => of_file(26),
+            FlatFault::TooDeep { name } => naming(27, name),
+            FlatFault::DeclaredTwice { name } => naming(28, name),
+            FlatFault::DrivenTwice { name } => naming(29, name),
+            FlatFault::Undriven { name } => naming(30, name),
+            FlatFault::BadClock { name } => naming(31, name),
+            FlatFault::ClockRead { name } => naming(32, name),
+            FlatFault::Memory => FileError::Memory,
+        }
     }
 }
 
-pub(crate) fn stop_too_long(file: &Name) -> Stop
-    ensures { IfSome (stop_of result) (λ end. end ≡ has_fault file.now too_long) }
-{
-    of_whole(file, 1)
+impl From<CareFault> for FileError {
+    ghost from_gives = { λ fault e. error_seen e ≡ care_error fault };
+
+    fn from(fault: CareFault) -> Self {
+        match fault {
+            CareFault::NoModels => of_file(41),
+            CareFault::HasLatch { model } => naming(42, model),
+            CareFault::NotOneOutput { model } => naming(43, model),
+            CareFault::UnknownName { name } => naming(44, name),
+            CareFault::NotLatch { name } => naming(45, name),
+            CareFault::Loop { model } => naming(46, model),
+            CareFault::Memory => FileError::Memory,
+        }
+    }
 }
 
-// Where a call ends at a fault of the text.
-pub(crate) fn stop_at_text(file: &Name, fault: BlifFault) -> Stop
-    ensures told { IfSome (stop_of result) (λ end. end ≡ has_fault file.now (blif_fault fault)) }
-    ensures memory { fault ≡ BlifFault.Memory → stop_of result ≡ None }
+// The name of a latch by its place among the latches.
+fn latch_name(alloc: Global, net: &Netlist, number: u32) -> Result<Name, AllocError>
+    ensures { IfOk result (λ name. name ≡ name_of_latch net.now number) }
+{
+    if number < net.latches() {
+        net.latch(number).name.copy()
+    } else {
+        Ok(Name::new(Vec::new(alloc)))
+    }
+}
+
+// The fault of vectors or of a schedule for a netlist.
+pub(crate) fn sched_error(alloc: Global, net: &Netlist, fault: SchedFault) -> FileError
+    ensures { (error_seen result ≡ None) ⊎ (error_seen result ≡ sched_seen net.now fault) }
 {
     match fault {
-        BlifFault::BadByte { line } => of_line(file, 2, line),
-        BlifFault::OutsideModel { line } => of_line(file, 3, line),
-        BlifFault::BadModel { line } => of_line(file, 4, line),
-        BlifFault::ModelTwice { line } => of_line(file, 5, line),
-        BlifFault::LeftOut { line } => of_line(file, 6, line),
-        BlifFault::UnknownDirective { line } => of_line(file, 7, line),
-        BlifFault::StrayRow { line } => of_line(file, 8, line),
-        BlifFault::BadRow { line } => of_line(file, 9, line),
-        BlifFault::MixedRows { line } => of_line(file, 10, line),
-        BlifFault::NoOutputName { line } => of_line(file, 11, line),
-        BlifFault::TooManyPins { line } => of_line(file, 12, line),
-        BlifFault::BadLatch { line } => of_line(file, 13, line),
-        BlifFault::LevelLatch { line } => of_line(file, 14, line),
-        BlifFault::BadSubckt { line } => of_line(file, 15, line),
-        BlifFault::NoModel => of_whole(file, 16),
-        BlifFault::Memory => Stop::Memory,
+        SchedFault::BadLine { line } => of_line(51, line),
+        SchedFault::WrongWidth { line } => of_line(52, line),
+        SchedFault::UnknownGate { line, name } => naming_line(53, line, name),
+        SchedFault::BadStart { line, latch } => match latch_name(alloc, net, latch) {
+            Ok(name) => naming_line(54, line, name),
+            Err(_) => FileError::Memory,
+        },
+        SchedFault::TickCount { line } => of_line(55, line),
+        SchedFault::Memory => FileError::Memory,
     }
 }
 
-// Where a call ends at a fault of flattening.
-pub(crate) fn stop_at_walk(file: &Name, fault: FlatFault) -> Stop
-    ensures told { IfSome (stop_of result) (λ end. end ≡ has_fault file.now (flat_fault fault)) }
-    ensures memory { fault ≡ FlatFault.Memory → stop_of result ≡ None }
+fn tail_of(name: &Option<Name>) -> Tail<'_>
+    ensures { tail_text result ≡ tail_seen name.now }
 {
-    match fault {
-        FlatFault::UnknownModel { name } => naming(file, 21, name),
-        FlatFault::Recursive { name } => naming(file, 22, name),
-        FlatFault::UnknownFormal { name } => naming(file, 23, name),
-        FlatFault::FormalTwice { name } => naming(file, 24, name),
-        FlatFault::OpenInput { name } => naming(file, 25, name),
-        FlatFault::TooLarge => of_whole(file, 26),
-        FlatFault::TooDeep { name } => naming(file, 27, name),
-        FlatFault::DeclaredTwice { name } => naming(file, 28, name),
-        FlatFault::DrivenTwice { name } => naming(file, 29, name),
-        FlatFault::Undriven { name } => naming(file, 30, name),
-        FlatFault::BadClock { name } => naming(file, 31, name),
-        FlatFault::ClockRead { name } => naming(file, 32, name),
-        FlatFault::Memory => Stop::Memory,
+    match name {
+        Some(name) => Tail::Name(name),
+        None => Tail::Nothing,
     }
 }
 
-// Where a call ends at a fault of the care models.
-pub(crate) fn stop_at_care(file: &Name, fault: CareFault) -> Stop
-    ensures told { IfSome (stop_of result) (λ end. end ≡ has_fault file.now (care_fault fault)) }
-    ensures memory { fault ≡ CareFault.Memory → stop_of result ≡ None }
+// What is told of a fault of this file.
+pub(crate) fn tell_fault(alloc: Global, file: &Name, fault: &Fault) -> Result<Outcome, AllocError>
+    ensures { IfOk result (λ told. outcome_of told ≡ has_fault file.now (fault_seen fault.now)) }
 {
-    match fault {
-        CareFault::NoModels => of_whole(file, 41),
-        CareFault::HasLatch { model } => naming(file, 42, model),
-        CareFault::NotOneOutput { model } => naming(file, 43, model),
-        CareFault::UnknownName { name } => naming(file, 44, name),
-        CareFault::NotLatch { name } => naming(file, 45, name),
-        CareFault::Loop { model } => naming(file, 46, model),
-        CareFault::Memory => Stop::Memory,
+    let mut sink = TextSink::new(alloc);
+    match put_fault(
+        file,
+        fault.code,
+        fault.line,
+        tail_of(&fault.name),
+        &mut sink,
+    ) {
+        Ok(()) => Ok(Outcome {
+            status: status::FAULT,
+            out: Vec::new(alloc),
+            err: sink.into_vec(),
+        }),
+        Err(_) => Err(AllocError),
     }
 }

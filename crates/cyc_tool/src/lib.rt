@@ -6,17 +6,13 @@
 
 mod decision;
 mod faults;
-mod loop_texts;
 mod outcome;
 mod reading;
-#[cfg(test)]
-mod refusal_tests;
+mod simulation;
 pub mod status;
-#[cfg(test)]
-mod tests;
 mod texts;
 mod top;
 mod words;
 
-pub use texts::{NO_MEMORY_TEXT, USAGE_TEXT};
+pub use report::{NO_MEMORY_TEXT, USAGE_TEXT};
 pub use top::run;

@@ -5,7 +5,7 @@ use std::alloc::AllocError;
 
 // A status, and the texts for out and err.
 #[derive(Drop)]
-pub(crate) struct Told {
+pub(crate) struct Outcome {
     pub status: u8,
     pub out: Vec<u8>,
     pub err: Vec<u8>,
@@ -13,26 +13,25 @@ pub(crate) struct Told {
 
 // A fault of a file: its code, its line where it has one, and the name behind its words where they want one.
 #[derive(Drop)]
-pub(crate) struct FileFault {
-    pub file: Name,
+pub(crate) struct Fault {
     pub code: u8,
     pub line: Option<u64>,
     pub name: Option<Name>,
     ghost is_code: { IsCode code },
 }
 
-// What a call has to tell in the end.
+// Why the bytes of a file have no meaning.
 #[derive(Drop)]
-pub(crate) enum End {
-    Text(Told),
-    Fault(FileFault),
+pub(crate) enum FileError {
+    Has(Fault),
+    Memory,
 }
 
 // Why a call ends before its command is done.
 #[derive(Drop)]
 pub(crate) enum Stop {
     // A file can't be used.
-    At(End),
+    At(Outcome),
     Memory,
 }
 

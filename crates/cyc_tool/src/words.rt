@@ -27,4 +27,6 @@ pub(crate) enum Command<'a> {
     Flat(&'a Name),
     // Prints its loops and their cut wires.
     Loops(&'a Name),
+    // Simulates it on the vectors of a second file.
+    Sim(&'a Name, &'a Name),
 }

@@ -1,7 +1,7 @@
 // The grammar of the words.
 ghost use Rattle.std.specs.Prelude.{◌≡◌, ◌≤◌, ◌+◌, ◌-◌, ◌*◌, ◌&&◌, nat_le, true, false, MatchOption, IfSome, None, Some};
 ghost use Rattle.cyc_base.specs.declared.limits.TheConstants.{MAX_NODES as most_nodes};
-ghost use Rattle.cyc_tool.specs.Words.{command_of, command_on as command_asked, is_digit, is_file_word, node_limit as limit_asked, options_of as options_asked, up_to_most, with_care as asked_with_care, with_nodes as asked_with_nodes, with_option as asked_with_option};
+ghost use Rattle.cyc_tool.specs.Words.{command_of, command_on as command_asked, is_digit, is_file_word, node_limit as limit_asked, options_of as options_asked, sim_on as sim_asked, up_to_most, with_care as asked_with_care, with_nodes as asked_with_nodes, with_option as asked_with_option};
 ghost use Rattle.cyc_tool.specs.Seen.{command_seen, options_seen};
 
 use super::{Command, Options};
@@ -41,7 +41,21 @@ fn command_on<'a>(command: &[u8], file: &'a Name, rest: &'a [Name]) -> Option<Co
     if command == b"loops".as_slice() && rest.is_empty() {
         return Some(Command::Loops(file));
     }
+    if command == b"sim".as_slice() {
+        return sim_on(file, rest);
+    }
     None
+}
+
+// A simulation wants one more file.
+fn sim_on<'a>(file: &'a Name, rest: &'a [Name]) -> Option<Command<'a>>
+    ensures { MatchOption result (sim_asked file.now rest.now ≡ None)
+        (λ asked. sim_asked file.now rest.now ≡ Some (command_seen asked)) }
+{
+    match rest {
+        [vectors] if is_file(vectors.bytes()) => Some(Command::Sim(file, vectors)),
+        _ => None,
+    }
 }
 
 // The options that these words give beside those that are known. They recurse at most twice, since each option comes

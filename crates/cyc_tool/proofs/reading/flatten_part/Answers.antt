@@ -1,12 +1,10 @@
-use Rattle.cyc_tool.proofs.CareLemmas.{part_absent, part_bad, part_good}
+use Rattle.std.proofs.lemmas.Result.{err_from_is_err_and}
+use Rattle.cyc_tool.proofs.CareLemmas.{part_bad}
+use Rattle.cyc_tool.proofs.ErrorLemmas.{or_more, walk_says}
 use Rattle.cyc_tool.proofs.reading.flatten_part.Goals as goal
 
-pub returns-then-is_none-clause-good : goal.returns-then-is_none-clause-good
-returns-then-is_none-clause-good c = part_absent c.args.models.now.list c.args.part.now _ _ c.in_ok-name.ensures c.find.ensures c.if-is_none.ensures
-
-pub returns-in-Ok-clause-good : goal.returns-in-Ok-clause-good
-returns-in-Ok-clause-good c = part_good c.args.models.now.list c.args.part.now _ _ _ c.in_ok-name.ensures c.find.ensures c.if-is_none.ensures c.in-Ok.ensures.netlist
-
-pub returns-clause-bad : goal.returns-clause-bad
-returns-clause-bad c =
-    part_bad c.args.file.now c.args.models.now.list c.args.part.now _ _ _ _ _ c.in_ok-name.ensures c.find.ensures c.if-is_none.ensures c.in-Err.ensures.fault c.stop_at_walk.ensures.told c.stop_at_walk.ensures.memory
+pub returns-in_err-flatten-clause-bad : goal.returns-in_err-flatten-clause-bad
+returns-in_err-flatten-clause-bad c =
+    let q = err_from_is_err_and c.from_residual-in_err-flatten.result c.from_residual-in_err-flatten.ensures.1 in
+    rw q.1 (walk_says _ c.in_err-flatten.field-0.0 _ q.2
+    (or_more (part_bad c.args.models.now.list c.args.part.now c.in_ok-name.name _ _ c.in_ok-name.ensures c.find.ensures c.if-is_none.ensures) c.in_err-flatten.ensures.fault))

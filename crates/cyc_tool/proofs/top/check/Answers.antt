@@ -1,31 +1,51 @@
+use Rattle.std.proofs.Common.{ℕ, refl, subst, inl, inr}
 use Rattle.std.proofs.lemmas.Result.{err_from_is_err_and}
-use Rattle.cyc_tool.specs.Seen.{options_seen, stop_of, told_outcome}
-use Rattle.cyc_tool.proofs.RunLemmas.{care_stops_out_if, decided_finally, stop_ends}
+use Rattle.cyc_tool.specs.Calls.{IsDecided}
+use Rattle.cyc_tool.specs.Plans.{Decides, decision, verdict_told, with_care, with_netlist}
+use Rattle.cyc_tool.specs.Seen.{options_seen, stop_outcome, outcome_of}
+use Rattle.cyc_tool.specs.Texts.{no_memory}
+use Rattle.cyc_tool.proofs.PlanLemmas.{follows_still, goes_on}
 use Rattle.cyc_tool.proofs.top.check.Goals as goal
 
-pub returns : goal.returns
-returns g c =
-    let files = g.S.Shelf.files in
-    let faults = g.S.Shelf.faults in
-    decided_finally c.args.netlist.now (options_seen c.args.options) (files c.args.shelf.now) (files c.read_netlist.new.shelf)
-    (faults c.args.shelf.now) (faults c.read_netlist.new.shelf) (faults c.read_care.new.shelf) c.decide_netlist.new.d
-    c.in_ok-net.net c.in_ok-care.care c.unwrap_or-limit.result (told_outcome c.in_ok-decide_netlist.field-0)
-    c.in_ok-net.ensures.valid c.in_ok-net.ensures.good c.read_netlist.ensures.same c.in_ok-care.ensures.good c.unwrap_or-limit.ensures
-    c.in_ok-decide_netlist.ensures
+pub returns-in_err-net-clause-comes : goal.returns-in_err-net-clause-comes
+returns-in_err-net-clause-comes g c =
+    let q = err_from_is_err_and c.from_residual.result c.from_residual.ensures.1 in
+    let options = options_seen c.args.options in
+    rw (q.1, q.2) (c.in_err-net.ensures.bad.follows (λ net. with_care options.care net (λ care. Decides (decision net care options) (verdict_told net))) c.args.d.now)
 
-pub returns-in_err-care : goal.returns-in_err-care
-returns-in_err-care g c =
-    let files = g.S.Shelf.files in
-    let faults = g.S.Shelf.faults in
+pub returns-in_err-care-clause-comes : goal.returns-in_err-care-clause-comes
+returns-in_err-care-clause-comes g c =
     let q = err_from_is_err_and c.from_residual-in_err-care.result c.from_residual-in_err-care.ensures.1 in
+    let options = options_seen c.args.options in
     rw (q.1, q.2)
-    (stop_ends c.in_err-care.field-0.0 _
-    (care_stops_out_if c.args.netlist.now (options_seen c.args.options) (files c.args.shelf.now) (files c.read_netlist.new.shelf)
-    (faults c.args.shelf.now) (faults c.read_netlist.new.shelf) (faults c.read_care.new.shelf) c.args.d.now
-    c.in_ok-net.net (stop_of c.in_err-care.field-0.0)
-    c.in_ok-net.ensures.valid c.in_ok-net.ensures.good c.read_netlist.ensures.same c.read_netlist.ensures.later c.in_err-care.ensures.bad))
+    (goes_on (with_netlist c.args.netlist.now) c.in_ok-net.net (λ net. with_care options.care net (λ care. Decides (decision net care options) (verdict_told net)))
+    _ _ _ _ _ c.args.d.now (stop_outcome c.in_err-care.field-0.0) c.read_netlist.ensures.same c.in_ok-net.ensures.good
+    (c.in_err-care.ensures.bad.follows (λ care. Decides (decision c.in_ok-net.net care options) (verdict_told c.in_ok-net.net)) c.args.d.now))
 
-pub returns-in_err-decide_netlist : goal.returns-in_err-decide_netlist
-returns-in_err-decide_netlist g c =
+pub returns-in_err-decide_netlist-clause-comes : goal.returns-in_err-decide_netlist-clause-comes
+returns-in_err-decide_netlist-clause-comes g c =
     let q = err_from_is_err_and c.from_residual-in_err-decide_netlist.result c.from_residual-in_err-decide_netlist.ensures.1 in
-    rw (q.1, q.2) tt
+    let options = options_seen c.args.options in
+    let nodes = c.decide_netlist.new.d in
+    rw (q.1, q.2)
+    (goes_on (with_netlist c.args.netlist.now) c.in_ok-net.net (λ net. with_care options.care net (λ care. Decides (decision net care options) (verdict_told net)))
+    _ _ _ _ _ nodes no_memory c.read_netlist.ensures.same c.in_ok-net.ensures.good
+    (goes_on (with_care options.care c.in_ok-net.net) c.in_ok-care.care (λ care. Decides (decision c.in_ok-net.net care options) (verdict_told c.in_ok-net.net))
+    _ _ _ _ _ nodes no_memory c.read_care.ensures.same c.in_ok-care.ensures.good
+    (follows_still (g.S.Shelf.files c.read_care.new.shelf) (g.S.Shelf.faults c.read_care.new.shelf) nodes no_memory
+    (Decides (decision c.in_ok-net.net c.in_ok-care.care options) (verdict_told c.in_ok-net.net)) (inr refl))))
+
+pub returns-clause-comes : goal.returns-clause-comes
+returns-clause-comes g c =
+    let options = options_seen c.args.options in
+    let nodes = c.decide_netlist.new.d in
+    let end = outcome_of c.in_ok-decide_netlist.field-0 in
+    let net = c.in_ok-net.net in
+    let care = c.in_ok-care.care in
+    let decided = subst (λ (limit : ℕ). IsDecided (record { net = net; care = care; limit = limit }) (verdict_told net) nodes end) c.unwrap_or-limit.ensures c.in_ok-decide_netlist.ensures in
+    goes_on (with_netlist c.args.netlist.now) net (λ net. with_care options.care net (λ care. Decides (decision net care options) (verdict_told net)))
+    _ _ _ _ _ nodes end c.read_netlist.ensures.same c.in_ok-net.ensures.good
+    (goes_on (with_care options.care net) care (λ care. Decides (decision net care options) (verdict_told net))
+    _ _ _ _ _ nodes end c.read_care.ensures.same c.in_ok-care.ensures.good
+    (follows_still (g.S.Shelf.files c.read_care.new.shelf) (g.S.Shelf.faults c.read_care.new.shelf) nodes end
+    (Decides (decision net care options) (verdict_told net)) (inl (c.in_ok-net.ensures.valid, decided))))

@@ -1,8 +1,9 @@
-use Rattle.cyc_tool.proofs.RunLemmas.{comes_to_end_if, comes_to_usage}
+use Rattle.std.proofs.Common.{inl}
+use Rattle.cyc_tool.proofs.RunLemmas.{comes_to_command, comes_to_usage}
 use Rattle.cyc_tool.proofs.top.find_outcome.Goals as goal
 
-pub returns-in-Some : goal.returns-in-Some
-returns-in-Some g c = comes_to_end_if _ _ _ _ _ c.in-Some.ensures c.carry_out.ensures
+pub returns-in-Some-clause-comes : goal.returns-in-Some-clause-comes
+returns-in-Some-clause-comes g c = comes_to_command _ _ _ _ _ c.in-Some.ensures c.carry_out.ensures.comes
 
-pub returns-in_ok-tell_usage-in-None : goal.returns-in_ok-tell_usage-in-None
-returns-in_ok-tell_usage-in-None g c = comes_to_usage _ _ _ _ c.in-None.ensures c.in_ok-tell_usage-in-None.ensures
+pub returns-in_ok-tell_usage-in-None-clause-comes : goal.returns-in_ok-tell_usage-in-None-clause-comes
+returns-in_ok-tell_usage-in-None-clause-comes g c = comes_to_usage _ _ _ _ _ c.in-None.ensures (inl c.in_ok-tell_usage-in-None.ensures)

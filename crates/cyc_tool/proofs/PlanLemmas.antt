@@ -1,0 +1,131 @@
+-- Going along a plan, from one part of a call to the next.
+use Rattle.std.proofs.Common.{arith, ◌≡◌, ◌≢◌, ◌⊎◌, ℕ, ◌≤◌, List, [], ◌∷◌, ◌++◌, refl, sym, subst, ◌∙◌, inl, inr}
+use Rattle.std.specs.List.{AllByRecursion}
+use Rattle.std.specs.declared.option.Option.{Option}
+use Rattle.bdd_store.specs.Arena.{Arena}
+use Rattle.cyc_io.specs.Faults.{Counts}
+use Rattle.cyc_io.specs.Files.{Files}
+use Rattle.cyc_io.proofs.FaultLemmas.{Rose_later}
+use Rattle.cyc_tool.specs.Calls.{AreGiven, rest_of, names_read, EndsAt, Follows}
+use Rattle.cyc_tool.specs.Plans.{Plan, Reads, Faulty, Ends, Decides}
+use Rattle.cyc_tool.specs.Reading.{FollowsAlone, GoesOn, LeadsTo, StopsIn}
+use Rattle.cyc_tool.specs.Texts.{Outcome, no_memory}
+
+-- texts that are given one after another
+gave_more : (files : Option Files) (given more : List (List ℕ)) (plan : Plan) → AreGiven files given plan → AreGiven files more (rest_of given plan)
+    → AreGiven files (given ++ more) plan
+gave_more files [] more plan gave later = later
+gave_more files (bytes ∷ given) more (Reads role name next) gave later = (gave.0, gave.1, gave_more files given more (next bytes) gave.2 later)
+gave_more files (bytes ∷ given) more (Faulty name fault) gave later = absurd gave
+gave_more files (bytes ∷ given) more (Ends ending) gave later = absurd gave
+gave_more files (bytes ∷ given) more (Decides decision tell) gave later = absurd gave
+
+rest_more : (files : Option Files) (given more : List (List ℕ)) (plan : Plan) → AreGiven files given plan
+    → rest_of (given ++ more) plan ≡ rest_of more (rest_of given plan)
+rest_more files [] more plan gave = refl
+rest_more files (bytes ∷ given) more (Reads role name next) gave = rest_more files given more (next bytes) gave.2
+rest_more files (bytes ∷ given) more (Faulty name fault) gave = absurd gave
+rest_more files (bytes ∷ given) more (Ends ending) gave = absurd gave
+rest_more files (bytes ∷ given) more (Decides decision tell) gave = absurd gave
+
+-- the names of their files
+names_first : (Q : List ℕ → Type 0) (given more : List (List ℕ)) (plan : Plan) → AllByRecursion Q (names_read (given ++ more) plan)
+    → AllByRecursion Q (names_read given plan)
+names_first Q [] [] plan all = all
+names_first Q [] (bytes ∷ more) (Reads role name next) all = (all.0, tt)
+names_first Q [] (bytes ∷ more) (Faulty name fault) all = tt
+names_first Q [] (bytes ∷ more) (Ends ending) all = tt
+names_first Q [] (bytes ∷ more) (Decides decision tell) all = tt
+names_first Q (bytes ∷ given) more (Reads role name next) all = (all.0, names_first Q given more (next bytes) all.1)
+names_first Q (bytes ∷ given) more (Faulty name fault) all = tt
+names_first Q (bytes ∷ given) more (Ends ending) all = tt
+names_first Q (bytes ∷ given) more (Decides decision tell) all = tt
+
+names_later : (Q : List ℕ → Type 0) (files : Option Files) (given more : List (List ℕ)) (plan : Plan) → AreGiven files given plan
+    → AllByRecursion Q (names_read (given ++ more) plan) → AllByRecursion Q (names_read more (rest_of given plan))
+names_later Q files [] more plan gave all = all
+names_later Q files (bytes ∷ given) more (Reads role name next) gave all = names_later Q files given more (next bytes) gave.2 all.1
+names_later Q files (bytes ∷ given) more (Faulty name fault) gave all = absurd gave
+names_later Q files (bytes ∷ given) more (Ends ending) gave all = absurd gave
+names_later Q files (bytes ∷ given) more (Decides decision tell) gave all = absurd gave
+
+-- a read that failed in the second part failed in both together
+ends_before : (files : Option Files) (a b c : Counts) (nodes : Arena) (end : Outcome) (rest : Plan) → ((name : List ℕ) → a name ≤ b name)
+    → EndsAt (record { files = files; before = b; now = c }) nodes end rest → EndsAt (record { files = files; before = a; now = c }) nodes end rest
+ends_before files a b c nodes end (Reads role name next) later ends = (Rose_later (a name) (b name) (c name) (later name) ends.0, ends.1)
+ends_before files a b c nodes end (Faulty name fault) later ends = ends
+ends_before files a b c nodes end (Ends ending) later ends = ends
+ends_before files a b c nodes end (Decides decision tell) later ends = ends
+
+follows_more : (files : Option Files) (a b c : Counts) (nodes : Arena) (end : Outcome) (plan rest : Plan)
+    → (leads : LeadsTo plan rest (record { files = files; before = a; now = b }))
+    → Follows (rest_of leads.given plan) (record { files = files; before = b; now = c }) nodes end
+    → Follows plan (record { files = files; before = a; now = c }) nodes end
+follows_more files a b c nodes end plan rest leads follows = record {
+  given = leads.given ++ follows.given;
+  gave = gave_more files leads.given follows.given plan leads.gave follows.gave;
+  counts = record {
+    later = λ other. omega (arith, leads.counts.later other, follows.counts.later other);
+    others = λ other differs.
+        follows.counts.others other (names_later (λ name. other ≢ name) files leads.given follows.given plan leads.gave differs)
+        ∙ leads.counts.others other (names_first (λ name. other ≢ name) leads.given follows.given plan differs);
+  };
+  ends = elim follows.ends [ inl at ↦ inl (ended at) | inr lacks ↦ inr lacks ];
+}
+  where
+    ended : EndsAt (record { files = files; before = b; now = c }) nodes end (rest_of follows.given (rest_of leads.given plan))
+        → EndsAt (record { files = files; before = a; now = c }) nodes end (rest_of (leads.given ++ follows.given) plan)
+    ended at =
+        let P : Plan → Type 0 = EndsAt (record { files = files; before = a; now = c }) nodes end in
+        subst P (sym (rest_more files leads.given follows.given plan leads.gave))
+        (ends_before files a b c nodes end (rest_of follows.given (rest_of leads.given plan)) leads.counts.later at)
+
+-- What leads on in one part of a call is followed in the next.
+follows_after : (files later : Option Files) (a b c : Counts) (nodes : Arena) (end : Outcome) (plan rest : Plan) → later ≡ files
+    → LeadsTo plan rest (record { files = files; before = a; now = b }) → Follows rest (record { files = later; before = b; now = c }) nodes end
+    → Follows plan (record { files = files; before = a; now = c }) nodes end
+follows_after files later a b c nodes end plan rest same leads follows =
+    let P : Option Files → Type 0 = λ f. Follows rest (record { files = f; before = b; now = c }) nodes end in
+    let Q : Plan → Type 0 = λ p. Follows p (record { files = files; before = b; now = c }) nodes end in
+    follows_more files a b c nodes end plan rest leads (subst Q (sym leads.is) (subst P same follows))
+
+-- nothing is read any more
+pub follows_still : (files : Option Files) (counts : Counts) (nodes : Arena) (end : Outcome) (rest : Plan)
+    → EndsAt (record { files = files; before = counts; now = counts }) nodes end rest ⊎ (end ≡ no_memory)
+    → Follows rest (record { files = files; before = counts; now = counts }) nodes end
+follows_still files counts nodes end rest ends = record {
+  given = [];
+  gave = tt;
+  counts = record { later = λ other. omega arith; others = λ other differs. refl };
+  ends = ends;
+}
+
+pub leads_still : (files : Option Files) (counts : Counts) (plan rest : Plan) → plan ≡ rest
+    → LeadsTo plan rest (record { files = files; before = counts; now = counts })
+leads_still files counts plan rest is = record {
+  given = [];
+  gave = tt;
+  counts = record { later = λ other. omega arith; others = λ other differs. refl };
+  is = is;
+}
+
+-- A command goes on with a file that it uses.
+pub goes_on : {T : Type 0} (plan : (T → Plan) → Plan) (value : T) (next : T → Plan) (files later : Option Files) (a b c : Counts) (nodes : Arena) (end : Outcome)
+    → later ≡ files → GoesOn plan value (record { files = files; before = a; now = b })
+    → Follows (next value) (record { files = later; before = b; now = c }) nodes end
+    → Follows (plan next) (record { files = files; before = a; now = c }) nodes end
+goes_on plan value next files later a b c nodes end same goes follows =
+    follows_after files later a b c nodes end (plan next) (next value) same (goes.leads next) follows
+
+-- A command that reads one file and doesn't decide.
+pub ends_alone : {T : Type 0} (plan : (T → Plan) → Plan) (value : T) (next : T → Plan) (files later : Option Files) (a b : Counts) (end : Outcome)
+    → later ≡ files → GoesOn plan value (record { files = files; before = a; now = b })
+    → ((nodes : Arena) → EndsAt (record { files = later; before = b; now = b }) nodes end (next value) ⊎ (end ≡ no_memory))
+    → FollowsAlone (plan next) (record { files = files; before = a; now = b }) end
+ends_alone plan value next files later a b end same goes ends = record {
+  follows = λ nodes. goes_on plan value next files later a b b nodes end same goes (follows_still later b nodes end (next value) (ends nodes));
+}
+
+pub stops_alone : {T : Type 0} (plan : (T → Plan) → Plan) (next : T → Plan) (files : Option Files) (a b : Counts) (end : Outcome)
+    → StopsIn plan (record { files = files; before = a; now = b }) end → FollowsAlone (plan next) (record { files = files; before = a; now = b }) end
+stops_alone plan next files a b end stops = record { follows = stops.follows next }

@@ -1,0 +1,25 @@
+use Rattle.std.proofs.Common.{◌≡◌, Ok, sym, ap, subst, ◌∙◌}
+use Rattle.std.proofs.lemmas.Result.{err_from_is_err_and}
+use Rattle.cyc_tool.specs.Faults.{netlist_of}
+use Rattle.cyc_tool.specs.Plans.{Netlist}
+use Rattle.cyc_tool.specs.Reading.{IsErrorOf}
+use Rattle.cyc_tool.specs.Seen.{error_seen, stop_outcome}
+use Rattle.cyc_tool.proofs.ReadingLemmas.{error_stops, file_goes_on, none_stops, netlist_of_long, sound_fault, sound_netlist}
+use Rattle.cyc_tool.proofs.reading.read_netlist.Goals as goal
+
+pub returns-in_err-bytes-clause-bad : goal.returns-in_err-bytes-clause-bad
+returns-in_err-bytes-clause-bad g c =
+    let q = err_from_is_err_and c.from_residual.result c.from_residual.ensures.1 in
+    rw (q.1, q.2) (none_stops Netlist netlist_of c.args.file.now _ _ sound_fault netlist_of_long c.in_err-bytes.ensures.bad c.read_text.ensures.counts)
+
+pub returns-in-Ok-clause-good : goal.returns-in-Ok-clause-good
+returns-in-Ok-clause-good g c =
+    let is : netlist_of c.in_ok-bytes.bytes.items ≡ Ok c.in-Ok.net = ap netlist_of (sym c.deref.ensures.value) ∙ c.in-Ok.ensures.good in
+    file_goes_on Netlist netlist_of c.args.file.now c.in_ok-bytes.bytes.items _ c.in-Ok.net (sound_netlist c.in_ok-bytes.bytes.items c.in-Ok.net is c.in-Ok.ensures.valid)
+    c.in_ok-bytes.ensures.good c.read_text.ensures.counts is
+
+pub returns-clause-bad : goal.returns-clause-bad
+returns-clause-bad g c =
+    let is = subst (λ bytes. IsErrorOf (netlist_of bytes) (error_seen c.in-Err.error)) c.deref.ensures.value c.in-Err.ensures.bad in
+    error_stops Netlist netlist_of c.args.file.now c.in_ok-bytes.bytes.items _ (error_seen c.in-Err.error) (stop_outcome c.stop_at.result)
+    (sound_fault c.in_ok-bytes.bytes.items) c.in_ok-bytes.ensures.good c.read_text.ensures.counts is c.stop_at.ensures

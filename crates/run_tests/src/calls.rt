@@ -1,0 +1,98 @@
+//! A call of `run` over files in memory.
+
+use bdd_ops::Diagrams;
+use cyc_base::Name;
+use cyc_io::{MemoryShelf, MemorySink};
+use cyc_tool::run;
+use std::alloc::{AllocError, Global};
+
+/// What a call gave: its status, and the bytes on both sinks.
+#[derive(Drop)]
+pub struct Seen {
+    pub status: u8,
+    pub out: MemorySink,
+    pub err: MemorySink,
+}
+
+/// Whether a call gave this status and these texts.
+pub fn is(seen: &Seen, status: u8, out: &str, err: &str) -> bool {
+    seen.status == status
+        && seen.out.bytes() == out.as_bytes()
+        && seen.err.bytes() == err.as_bytes()
+}
+
+fn name(alloc: Global, text: &str) -> Result<Name, AllocError> {
+    Ok(Name::new(text.as_bytes().to_vec(alloc)?))
+}
+
+fn words_of(alloc: Global, line: &str) -> Result<Vec<Name>, AllocError> {
+    let mut words = Vec::new(alloc);
+    for word in line.split_ascii_whitespace() {
+        words.push(name(alloc, word)?)?;
+    }
+    Ok(words)
+}
+
+/// The netlist file `m.blif` and the care file `c.blif`, where the reads of these numbers fail.
+fn shelf(alloc: Global, text: &[u8], care: &[u8], fail: &[u64]) -> Result<MemoryShelf, AllocError> {
+    let netlist = (Name::new(b"m.blif".to_vec(alloc)?), text.to_vec(alloc)?);
+    let care = (Name::new(b"c.blif".to_vec(alloc)?), care.to_vec(alloc)?);
+    let files = vec![in alloc; netlist, care]?;
+    Ok(MemoryShelf::new(alloc, files, fail.to_vec(alloc)?))
+}
+
+fn sink(alloc: Global, fail: &[u64]) -> Result<MemorySink, AllocError> {
+    let fail = fail.to_vec(alloc)?;
+    MemorySink::new(alloc, 400, fail, 4)
+}
+
+fn status_of(
+    alloc: Global,
+    line: &str,
+    shelf: &mut MemoryShelf,
+    out: &mut MemorySink,
+    err: &mut MemorySink,
+) -> Result<u8, AllocError> {
+    let words = words_of(alloc, line)?;
+    let mut d = Diagrams::new(alloc, 0, 1)?;
+    Ok(run(alloc, &words, shelf, out, err, &mut d))
+}
+
+fn call_over(
+    alloc: Global,
+    line: &str,
+    shelf: &mut MemoryShelf,
+    fail: &[u64],
+) -> Result<Seen, AllocError> {
+    let mut out = sink(alloc, fail)?;
+    let mut err = sink(alloc, fail)?;
+    let status = status_of(alloc, line, shelf, &mut out, &mut err)?;
+    Ok(Seen { status, out, err })
+}
+
+/// The words of a line over both files, where these reads fail, and these writes on either sink.
+pub fn call(
+    alloc: Global,
+    line: &str,
+    text: &[u8],
+    care: &[u8],
+    read: &[u64],
+    write: &[u64],
+) -> Result<Seen, AllocError> {
+    let mut shelf = shelf(alloc, text, care, read)?;
+    call_over(alloc, line, &mut shelf, write)
+}
+
+/// Whether the words of a line over both files give this status and these texts.
+pub fn gives(
+    alloc: Global,
+    line: &str,
+    text: &str,
+    care: &str,
+    status: u8,
+    out: &str,
+    err: &str,
+) -> Result<bool, AllocError> {
+    let seen = call(alloc, line, text.as_bytes(), care.as_bytes(), &[], &[])?;
+    Ok(is(&seen, status, out, err))
+}

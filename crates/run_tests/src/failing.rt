@@ -1,0 +1,106 @@
+//! Reads and writes that fail.
+
+use crate::calls::{Seen, call, is};
+use std::alloc::{AllocError, Global};
+use std::test::Fail;
+
+const GOOD: &str = ".model m\n.end\n";
+
+const ACCEPTED: &str = "accepted gates=0 loops=0 latches=0\n";
+
+const FAULT: &str = "m.blif: E16 no model\n";
+
+/// Whether a failed read is told.
+fn is_read_told(alloc: Global, read: u64) -> Result<bool, AllocError> {
+    let seen = call(alloc, "check m.blif", GOOD.as_bytes(), b"", &[read], &[])?;
+    Ok(is(&seen, 4, "", "m.blif: read failed\n"))
+}
+
+#[test]
+fn failed_reads_are_told(rt: HostRuntime) -> Result<(), Fail> {
+    for number in 0..2 {
+        assert!(rt; is_read_told(rt.alloc(), number)?, "at {number}");
+    }
+    Ok(())
+}
+
+const ASSUME: &str = ".model assume\n.outputs ok\n.names ok\n1\n";
+
+/// What is told where this read fails of a netlist file and then a care file, of which each takes two reads.
+fn told_of_read(read: u64) -> &'static str {
+    if read < 2 {
+        "m.blif: read failed\n"
+    } else {
+        "c.blif: read failed\n"
+    }
+}
+
+fn is_read_named(alloc: Global, read: u64) -> Result<bool, AllocError> {
+    let (net, care) = (GOOD.as_bytes(), ASSUME.as_bytes());
+    let seen = call(alloc, "check m.blif --care c.blif", net, care, &[read], &[])?;
+    Ok(is(&seen, 4, "", told_of_read(read)))
+}
+
+fn no_read_is_left(alloc: Global) -> Result<bool, AllocError> {
+    let (net, care) = (GOOD.as_bytes(), ASSUME.as_bytes());
+    let seen = call(alloc, "check m.blif --care c.blif", net, care, &[4], &[])?;
+    Ok(is(&seen, 0, ACCEPTED, ""))
+}
+
+#[test]
+fn a_failed_read_names_its_file(rt: HostRuntime) -> Result<(), Fail> {
+    for number in 0..4 {
+        assert!(rt; is_read_named(rt.alloc(), number)?, "at {number}");
+    }
+    assert!(rt; no_read_is_left(rt.alloc())?);
+    Ok(())
+}
+
+/// A netlist with a fault ends the call before the care file is read, which isn't there.
+fn fault_is_told_first(alloc: Global) -> Result<bool, AllocError> {
+    let seen = call(alloc, "check m.blif --care none.blif", b"", b"", &[], &[])?;
+    Ok(is(&seen, 3, "", FAULT))
+}
+
+#[test]
+fn a_fault_comes_before_the_next_file(rt: HostRuntime) -> Result<(), Fail> {
+    assert!(rt; fault_is_told_first(rt.alloc())?);
+    Ok(())
+}
+
+/// Whether sinks have parts of these texts after a write that failed.
+fn has_parts(seen: &Seen, out: &str, err: &str) -> bool {
+    seen.status == 5
+        && out.as_bytes().starts_with(seen.out.bytes())
+        && err.as_bytes().starts_with(seen.err.bytes())
+}
+
+fn verdict_is_cut(alloc: Global, write: u64) -> Result<bool, AllocError> {
+    let seen = call(alloc, "check m.blif", GOOD.as_bytes(), b"", &[], &[write])?;
+    Ok(has_parts(&seen, ACCEPTED, ""))
+}
+
+fn fault_is_cut(alloc: Global, write: u64) -> Result<bool, AllocError> {
+    let seen = call(alloc, "check m.blif", b"", b"", &[], &[write])?;
+    Ok(has_parts(&seen, "", FAULT))
+}
+
+#[test]
+fn failed_writes_leave_a_part(rt: HostRuntime) -> Result<(), Fail> {
+    for number in 0..4 {
+        assert!(rt; verdict_is_cut(rt.alloc(), number)?, "out at {number}");
+        assert!(rt; fault_is_cut(rt.alloc(), number)?, "err at {number}");
+    }
+    Ok(())
+}
+
+fn absence_is_told(alloc: Global) -> Result<bool, AllocError> {
+    let seen = call(alloc, "check none.blif", GOOD.as_bytes(), b"", &[], &[])?;
+    Ok(is(&seen, 4, "", "none.blif: read failed\n"))
+}
+
+#[test]
+fn a_file_that_is_absent_is_told(rt: HostRuntime) -> Result<(), Fail> {
+    assert!(rt; absence_is_told(rt.alloc())?);
+    Ok(())
+}
