@@ -1,7 +1,7 @@
 #!/usr/bin/env bash
-# Decides rings with one token, of 8 to 64 cells, and the examples with care files. It prints time and peak memory of
-# each, and the nodes that the diagrams hold at its end: no node is ever dropped, so that is the least limit that isn't
-# reached.
+# Decides rings with one token, of 8 to 64 cells, the examples with care files, a multiplier beside a loop, and chains of
+# pairs of units that share a loop. It prints time and peak memory of each, and the nodes that the diagrams hold at its
+# end: no node is ever dropped, so that is the least limit that isn't reached.
 set -u
 top=$(cd "$(dirname "$0")/.." && pwd) || exit 1
 dir=$(mktemp -d) || exit 1
@@ -27,6 +27,49 @@ ring() {
         }
         print ".end" >care
     }' >"$dir/ring.blif"
+}
+
+# A pair of units that share a loop, as text of awk: the select says which comes first, and x is what it reads.
+pair='function pair(i, x) {
+    printf ".names c%d %s g%d s%d\n11- 1\n0-1 1\n.names s%d f%d\n0 1\n", i, x, i, i, i, i
+    printf ".names c%d f%d %s t%d\n11- 1\n0-1 1\n.names t%d d%d g%d\n11 1\n", i, i, x, i, i, i, i
+    printf ".names c%d g%d f%d y%d\n11- 1\n0-1 1\n", i, i, i, i
+}'
+
+# So many pairs, each of which reads the one before it.
+chain() {
+    awk -v n="$1" "$pair"'BEGIN {
+        inputs = " x"
+        for (i = 0; i < n; i++) inputs = inputs " c" i " d" i
+        printf ".model chain\n.inputs%s\n.outputs y%d\n", inputs, n - 1
+        for (i = 0; i < n; i++) pair(i, i ? "y" (i - 1) : "x")
+        print ".end"
+    }' >"$dir/chain.blif"
+}
+
+# A multiplier of so many bits, row by row, beside a pair of units that share a loop.
+multiplier() {
+    awk -v n="$1" "$pair"'function full(a, b, c, sum, carry) {
+        printf ".names %s %s %s %s\n100 1\n010 1\n001 1\n111 1\n", a, b, c, sum
+        printf ".names %s %s %s %s\n11- 1\n1-1 1\n-11 1\n", a, b, c, carry
+    }
+    BEGIN {
+        inputs = " x c0 d0"
+        outputs = " y0"
+        for (i = 0; i < n; i++) { inputs = inputs " a" i " b" i; outputs = outputs " r" i "_0" }
+        for (i = 1; i < n; i++) outputs = outputs " r" (n - 1) "_" i
+        printf ".model multiplier\n.inputs%s\n.outputs%s\n.names zero\n", inputs, outputs
+        for (j = 0; j < n; j++) for (i = 0; i < n; i++) printf ".names a%d b%d p%d_%d\n11 1\n", i, j, j, i
+        for (i = 0; i < n; i++) printf ".names p0_%d r0_%d\n1 1\n", i, i
+        printf ".names zero r0_%d\n1 1\n", n
+        for (j = 1; j < n; j++) {
+            printf ".names zero k%d_0\n1 1\n", j
+            for (i = 0; i < n; i++) full("r" (j - 1) "_" (i + 1), "p" j "_" i, "k" j "_" i, "r" j "_" i, "k" j "_" (i + 1))
+            printf ".names k%d_%d r%d_%d\n1 1\n", j, n, j, n
+        }
+        pair(0, "x")
+        print ".end"
+    }' >"$dir/multiplier.blif"
 }
 
 meets() {
@@ -64,4 +107,12 @@ for cells in 8 16 32 64; do
 done
 for name in token_ring_4 round_robin_8 round_robin_32 end_around_carry; do
     measure "$name" "$top/examples/$name.blif" --care "$top/examples/$name.care"
+done
+for bits in 12 16; do
+    multiplier "$bits"
+    measure "multiplier $bits" "$dir/multiplier.blif"
+done
+for pairs in 1000 10000; do
+    chain "$pairs"
+    measure "pairs $pairs" "$dir/chain.blif"
 done

@@ -1,0 +1,138 @@
+#!/usr/bin/env python3
+"""What a run of the gate costs, crate by crate: processor minutes of proofs, tests and must-fail edits.
+
+  bench/gate.py               prints a Markdown table of a whole run of `rt ci` from nothing (`rt ci --anew`)
+  bench/gate.py WORD..        the same of the command `rt WORD..`, as `ci netlist`
+  bench/gate.py --edits WORD..  and a line for each edit whose trial took ten seconds or more
+
+A check is a process `rattle`. Its processor time is read once a second from /proc, so the last second of each is
+lost. Only processes below this command are counted. The command's own output goes to standard error.
+"""
+import collections
+import os
+import subprocess
+import sys
+import time
+
+TICK = os.sysconf("SC_CLK_TCK")
+TOP = os.path.dirname(os.path.dirname(os.path.abspath(__file__)))
+KINDS = ("proof", "tests", "seed", "edits")
+
+
+def read(path):
+    with open(path, encoding="utf-8", errors="replace") as it:
+        return it.read()
+
+
+def processes():
+    """The parent, the start and the processor seconds of each process."""
+    found = {}
+    for number in filter(str.isdigit, os.listdir("/proc")):
+        try:
+            stat = read(f"/proc/{number}/stat").rpartition(")")[2].split()
+        except OSError:
+            continue
+        found[int(number)] = int(stat[1]), stat[19], (int(stat[11]) + int(stat[12])) / TICK
+    return found
+
+
+def is_below(number, root, found):
+    while number in found and number != root:
+        number = found[number][0]
+    return number == root
+
+
+def edited(folder, text):
+    """The files that an edit changes, with their new texts."""
+    texts, file, old = {}, "", ""
+    for line in text.split("\n"):
+        word, _, rest = line.partition(":")
+        if word == "file":
+            file = rest.strip()
+            texts.setdefault(file, read(f"{folder}/{file}"))
+        elif word == "old":
+            old = rest[1:]
+        elif word == "new":
+            texts[file] = texts[file].replace(old, rest[1:])
+    return texts
+
+
+def edits_of(crate):
+    at = f"{TOP}/crates/{crate}"
+    names = sorted(os.listdir(f"{at}/must-fail")) if os.path.isdir(f"{at}/must-fail") else []
+    return {name: edited(at, read(f"{at}/must-fail/{name}")) for name in names if name.endswith(".edit")}
+
+
+def edit_in(folder, edits):
+    """The edit that stands in a copy of a crate, or none where it is the crate as it stands."""
+    holds = lambda texts: all(read(f"{folder}/{file}") == text for file, text in texts.items())
+    return next((name for name, texts in edits.items() if holds(texts)), "")
+
+
+def check_of(number, edits):
+    """The crate, the kind and the edit of a check."""
+    words = read(f"/proc/{number}/cmdline").split("\0")
+    if os.path.basename(words[0]) != "rattle" or "--crate-name" not in words:
+        return None
+    folder, crate = os.readlink(f"/proc/{number}/cwd"), words[words.index("--crate-name") + 1]
+    if "--test" in words:
+        return crate, "tests", ""
+    if not os.path.basename(folder).startswith("rt-edit-"):
+        return crate, "proof", ""
+    if crate not in edits:
+        edits[crate] = edits_of(crate)
+    edit = edit_in(folder, edits[crate])
+    return crate, "edits" if edit else "seed", edit
+
+
+def watched(command):
+    """Runs the command, and returns the processor seconds of each check."""
+    edits, checks, spent = {}, {}, {}
+    ran = subprocess.Popen(command, cwd=TOP, stdin=subprocess.DEVNULL, stdout=sys.stderr)
+    while ran.poll() is None:
+        found = processes()
+        for number, (_, start, seconds) in found.items():
+            key = number, start
+            try:
+                if key not in checks:
+                    # (a process that was forked a moment ago has yet to become rattle)
+                    named = check_of(number, edits) if is_below(number, ran.pid, found) else None
+                    if named:
+                        checks[key] = named
+                if key in checks:
+                    spent[key] = seconds
+            except OSError:
+                continue
+        time.sleep(1)
+    return ran.returncode, [(*checks[key], seconds) for key, seconds in spent.items()]
+
+
+def table(spent):
+    sums = collections.Counter()
+    for crate, kind, _, seconds in spent:
+        sums[crate, kind] += seconds / 60
+    order = [it.partition(":")[0].split()[0] for it in read(f"{TOP}/crates.txt").split("\n") if it and it[0] not in "# "]
+    rows = [it for it in order if any(sums[it, kind] for kind in KINDS)]
+    print("| crate | proof | tests | proof under edits | edits | sum |\n|---|---:|---:|---:|---:|---:|")
+    for crate in rows:
+        found = [sums[crate, kind] for kind in KINDS]
+        print(f"| `{crate}` |", " | ".join(f"{it:.1f}" for it in [*found, sum(found)]), "|")
+    whole = [sum(sums[it, kind] for it in rows) for kind in KINDS]
+    print("| all |", " | ".join(f"{it:.1f}" for it in [*whole, sum(whole)]), "|")
+
+
+def main(words):
+    tells_edits = words[:1] == ["--edits"]
+    status, spent = watched(["rt", *(words[tells_edits:] or ["ci", "--anew"])])
+    table(spent)
+    if tells_edits:
+        each = collections.Counter()
+        for crate, _, edit, seconds in spent:
+            each[crate, edit] += seconds * bool(edit)
+        for (crate, edit), seconds in each.most_common():
+            if seconds >= 10:
+                print(f"{seconds:6.0f} s  {crate}/{edit}")
+    return status
+
+
+sys.exit(main(sys.argv[1:]))
