@@ -1,5 +1,5 @@
 -- Answers to choices stay right.
-use Rattle.std.proofs.Common.{◌≡◌, ℕ, Bool, true, false, ◌⊎◌, inl, inr, List, Option, Some, None, IfSome, Contains, if◌then◌else◌, refl, sym, ap, subst, ◌∙◌, arith}
+use Rattle.std.proofs.Common.{◌≡◌, ℕ, Bool, ◌⊎◌, inl, inr, List, Option, Some, None, IfSome, Contains, if◌then◌else◌, refl, sym, subst, ◌∙◌, arith}
 use Rattle.bdd_store.specs.declared.node.Node.{Node}
 use Rattle.bdd_store.specs.declared.node.Choice.{Choice}
 use Rattle.bdd_store.specs.Arena.{Arena, empty, den, with_answers, answer_to, same_choice, IsNodeOf}

@@ -26,6 +26,10 @@ AreComputed-resized s old new n m c false e is h = All-same (IsComputed s) new o
 pub AreComputed-none : (s : Arena) (table : List Computed) → table ≡ [] → AreComputed s table
 AreComputed-none s table e = All-same (IsComputed s) table [] e (All-nil (IsComputed s))
 
+-- the same in each slot
+pub AreComputed-all : (s : Arena) (table : List Computed) (n : ℕ) (c : Computed) → table ≡ replicate n c → IsComputed s c → AreComputed s table
+AreComputed-all s table n c e is = All-same (IsComputed s) table (replicate n c) e (All-replicate (IsComputed s) n c is)
+
 -- what the table has at the form of operands answers them, under its mark
 pub IsAnswer-found : (operation : Operation) (s : Arena) (table : List Computed) (q p : Operands) (mark : Bool) (form : Operands) (n : Node) → IsFormOf operation q false p → IsFormOf operation p mark form → Contains table (record { operation = operation; operands = form; answer = n }) → AreComputed s table → IsAnswer operation s q (complemented_if mark n)
 IsAnswer-found operation s table q p mark form n simple stands has are =

@@ -32,7 +32,7 @@ AtMost-zeros (suc m) (false ∷ w) h = AtMost-zeros m w (omega arith)
 AtMost-zeros (suc m) (true ∷ w) h = tt
 
 -- one more bit, which is 1 only where w has 1 there too if it agrees so far
-AtMost-extend : (p : List Bool) (c : Bool) (m : ℕ) (w : List Bool) → AtMost p w → length p + (1 + m) ≤ length w → ((rest : List Bool) → w ≡ p ++ false ∷ rest → c ≡ false) → AtMost (p ++ c ∷ replicate m false) w
+pub AtMost-extend : (p : List Bool) (c : Bool) (m : ℕ) (w : List Bool) → AtMost p w → length p + (1 + m) ≤ length w → ((rest : List Bool) → w ≡ p ++ false ∷ rest → c ≡ false) → AtMost (p ++ c ∷ replicate m false) w
 AtMost-extend [] c m [] h long ok = absurd (omega arith)
 AtMost-extend [] false m (false ∷ w) h long ok = AtMost-zeros m w (omega arith)
 AtMost-extend [] false m (true ∷ w) h long ok = tt
@@ -128,7 +128,7 @@ is_no_constant m zero_node r is differs e same = true≢false (sym (eq-eqb m.num
 pub is_the_constant : (m zero_node : Node) (r : Bool) → r ≡ nat_eq m.number zero_node.number → r ≡ true → zero_node ≡ constant false → m ≡ constant false
 is_the_constant m zero_node r is same e = (λ j. record { number = eqb-true m.number zero_node.number (sym is ∙ same) j }) ∙ e
 
-number_one : (n : Node) → n.number < 2 → n ≢ constant false → n ≡ constant true
+pub number_one : (n : Node) → n.number < 2 → n ≢ constant false → n ≡ constant true
 number_one n low apart = by n.number low (λ e. apart (λ j. record { number = e j }))
   where
     by : (k : ℕ) → k < 2 → (k ≡ 0 → ⊥) → record { number = k } ≡ constant true

@@ -5,3 +5,6 @@ mod LeastLemmas
 mod OperationLemmas
 mod StandardLemmas
 mod ChoiceLemmas
+mod PossibleLemmas
+mod DecideLemmas
+mod RootLemmas

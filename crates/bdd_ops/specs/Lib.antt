@@ -2,5 +2,6 @@ pub mod Apply
 pub mod Choices
 pub mod Least
 pub mod Operations
+pub mod Possible
 pub mod Standard
 pub mod Turns

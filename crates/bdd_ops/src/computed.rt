@@ -106,6 +106,15 @@ impl ComputedTable {
         self.slots[slot] = computed;
     }
 
+    // Forgets all answers, and is as small as at first. It takes no memory.
+    pub(crate) fn clear(&mut self)
+        ensures { (s : Arena) → AreComputed s self.new }
+    {
+        self.slots.truncate(FIRST_SLOTS);
+        self.slots.fill(idle());
+        self.found = 0;
+    }
+
     // Doubles a table that was of use as often as it has slots. Where there is no memory it stays as it is.
     fn grow(&mut self)
         ensures { (s : Arena) → AreComputed s self.old → AreComputed s self.new }

@@ -1,18 +1,20 @@
-ghost use Rattle.std.specs.Prelude.{◌≡◌, ◌↔◌, ◌<◌, ◌≤◌, ◌≢◌, Bool, false, List, Some, length, IfOk, OnOk, OnErr, IfSome};
+ghost use Rattle.std.specs.Prelude.{◌≡◌, ◌↔◌, ◌<◌, ◌≤◌, ◌≢◌, Bool, true, false, List, [], Some, None, length, IsSome, IfOk, OnOk, OnErr, IfSome};
 ghost use Rattle.std.specs.Bool.{OnTrue, OnFalse};
-ghost use Rattle.bdd_store.specs.Arena.{empty, with_answers, answer_to, complemented, constant, den, IsNodeOf, IsBranching};
+ghost use Rattle.bdd_store.specs.Arena.{empty, root_at, HasRoot, with_answers, answer_to, complemented, constant, den, IsNodeOf, IsBranching};
 ghost use Rattle.bdd_store.specs.Growth.{KeepsNodes, AddsAtMost, IsFullOnlyPast};
 ghost use Rattle.bdd_store.specs.Subfunctions.{nodes};
+ghost use Rattle.bdd_store.specs.Sweeping.{KeepsRoots, HasReached, AllReached};
 ghost use Rattle.bdd_ops.specs.Apply.{value, AreNodesOf};
 ghost use Rattle.bdd_ops.specs.Choices.{IsNodeOfChoice};
-ghost use Rattle.bdd_ops.specs.Least.{IsLeast};
+ghost use Rattle.bdd_ops.specs.Least.{IsLeast, IsLayout, by_variable};
 ghost use Rattle.bdd_ops.specs.Operations.{bit_at, complement, conjunction, disjunction, exclusive_or, if_then_else, selection};
 
 use crate::apply::apply;
 use crate::computed::ComputedTable;
 use crate::least::least;
+use crate::least_by::least_by;
 use crate::operands::{Operands, Operation};
-use bdd_store::{Choice, Node, Store, StoreFault};
+use bdd_store::{Choice, Node, Root, Store, StoreFault};
 use cyc_base::MAX_NODES;
 use std::alloc::{AllocError, Global};
 use std::marker::Model;
@@ -252,5 +254,65 @@ impl Diagrams {
         ensures unchanged { OnFalse result (out.new ≡ out.old) }
     {
         least(&self.store, n, out)
+    }
+
+    /// Writes the least vector by column at which the node's function is true: variable k is read at the place
+    /// `columns[k]`, and at the first place where it differs from another such vector it has 0. The answer is
+    /// false exactly for the constant false, and `out`, with a place for each variable, is then as it was. After
+    /// `AllocError` it may hold anything.
+    pub fn least_by(&self, n: Node, columns: &[u32], out: &mut [bool]) -> Result<bool, AllocError>
+        requires node { IsNodeOf self.now n }
+        requires columns { IsLayout self.now.vars columns.now }
+        requires bits { length out.old ≡ self.now.vars }
+        ensures found { (result ≡ Ok false) ↔ (n ≡ constant false) }
+        ensures least { result ≡ Ok true → IsLeast (λ v. den self.now n (by_variable columns.now v)) out.new }
+        ensures unchanged { result ≡ Ok false → out.new ≡ out.old }
+    {
+        least_by(self.alloc, &self.store, n, columns, out)
+    }
+
+    /// Keeps a node as a root, under a key that was free.
+    pub fn keep(&mut self, n: Node) -> Result<Root, AllocError>
+        requires { IsNodeOf self.old n }
+        ensures free { IfOk result (λ r. root_at self.old r.key ≡ None) }
+        ensures kept { IfOk result (λ r. HasRoot self.old self.new r.key (Some n)) }
+        ensures err { OnErr result (self.new ≡ self.old) }
+    {
+        self.store.keep(n)
+    }
+
+    /// The node of a root.
+    pub fn root(&self, r: &Root) -> Node
+        requires { IsSome (root_at self.now r.now.key) }
+        ensures root { root_at self.now r.now.key ≡ Some result }
+        ensures node { IsNodeOf self.now result }
+    {
+        self.store.root(r)
+    }
+
+    /// Gives a root up. Its node stays, and is no root under this key.
+    pub fn release(&mut self, r: Root)
+        requires { IsSome (root_at self.old r.key) }
+        ensures { HasRoot self.old self.new r.key None }
+    {
+        self.store.release(r);
+    }
+
+    /// Takes out every entry that no root reaches along branches, and forgets all answers. The roots keep their
+    /// keys and their functions; of other nodes of before only the constants mean anything then. On `AllocError`
+    /// all stays as it was.
+    pub fn sweep(&mut self) -> Result<(), AllocError>
+        ensures roots { OnOk result (KeepsRoots self.old self.new) }
+
+        // What is left are the entries that were reached, and each is.
+        ensures count { OnOk result (HasReached self.old (length self.new.entries)) }
+        ensures reached { OnOk result (AllReached self.new) }
+        ensures fewer { OnOk result (length self.new.entries ≤ length self.old.entries) }
+        ensures answers { OnOk result (self.new.answers ≡ []) }
+        ensures err { OnErr result (self.new ≡ self.old) }
+    {
+        self.store.sweep()?;
+        self.computed.clear();
+        Ok(())
     }
 }

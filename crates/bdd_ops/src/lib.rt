@@ -9,6 +9,7 @@ mod apply;
 mod computed;
 mod diagrams;
 mod least;
+mod least_by;
 mod operands;
 mod standard;
 mod terminal;

@@ -1,5 +1,5 @@
 -- Answers to choices: what is there after one is kept.
-use Rattle.std.proofs.Common.{◌≡◌, ℕ, Bool, true, false, ◌&&◌, ◌==◌, ◌⊎◌, inl, inr, Contains, refl, sym, ap, subst, ◌∙◌, eq-eqb, true≢false}
+use Rattle.std.proofs.Common.{◌≡◌, Bool, true, false, ◌==◌, ◌⊎◌, inl, inr, Contains, refl, sym, ap, subst, eq-eqb}
 use Rattle.std.proofs.lemmas.Bool.{eqb-true, and_parts, and_from}
 use Rattle.std.specs.Cmp.{IsEquivalence}
 use Rattle.bdd_store.specs.declared.node.Node.{Node}

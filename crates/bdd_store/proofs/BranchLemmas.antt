@@ -17,7 +17,7 @@ pub record IsBranch (vars : ℕ) (es : List Entry) (n : Node) (bit : Bool) (r : 
   pub function : (bits : List Bool) → get_or bits (top_at vars es (index n)) false ≡ bit → node_value es n bits ≡ node_value es r bits
 
 module _ {vars : ℕ} {es : List Entry} (sound : IsSound vars es) (n : Node) (d : Entry) (branching : 2 ≤ n.number) (in_n : index n ≤ length es) where
-  abbrev entry : Entry
+  abbrev pub entry : Entry
   entry = get_or es (index n - 1) d
 
   some : 1 ≤ index n
@@ -43,12 +43,12 @@ module _ {vars : ℕ} {es : List Entry} (sound : IsSound vars es) (n : Node) (d 
         function = λ bits read. function bits (ap (λ v. get_or bits v false) (sym entry-top) ∙ read);
       }
 
-  exact_hi : IsBranch vars es n true (complemented_if (is_marked n) entry.hi)
+  pub exact_hi : IsBranch vars es n true (complemented_if (is_marked n) entry.hi)
   exact_hi =
       let s = read_sound sound (index n) d some in_n in
       of_branch true entry.hi s.hi_earlier s.hi_below (λ bits read. node_value-read_hi sound n d bits some in_n read ∙ sym (node_value-complemented_if (is_marked n) es entry.hi bits))
 
-  exact_lo : IsBranch vars es n false (complemented_if (is_marked n) entry.lo)
+  pub exact_lo : IsBranch vars es n false (complemented_if (is_marked n) entry.lo)
   exact_lo =
       let s = read_sound sound (index n) d some in_n in
       of_branch false entry.lo s.lo_earlier s.lo_below (λ bits read. node_value-read_lo sound n d bits some in_n read ∙ sym (node_value-complemented_if (is_marked n) es entry.lo bits))

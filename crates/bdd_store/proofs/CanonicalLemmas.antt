@@ -8,7 +8,7 @@ use Rattle.std.specs.Option.{option_map_or}
 use Rattle.bdd_store.specs.declared.node.Node.{Node}
 use Rattle.bdd_store.specs.declared.node.Entry.{Entry}
 use Rattle.bdd_store.specs.Arena.{Arena, index, is_marked, flipped, den_within, value_at, node_value, top_at, chosen}
-use Rattle.bdd_store.specs.Soundness.{IsSoundEntry, IsSound, IsCanonical, IsLawful}
+use Rattle.bdd_store.specs.Soundness.{IsSoundEntry, IsSound, AreWithin, IsCanonical, IsLawful}
 use Rattle.bdd_store.proofs.NodeLemmas.{flipped-same, flipped-true, same_node}
 use Rattle.bdd_store.proofs.ValueLemmas.{no_entry, Earlier, chosen_both, value_at-entry, top_at-entry, top_at-zero, entry_at, top_at-read, top_of-low, den-constant}
 
@@ -215,12 +215,13 @@ module _ {vars : ℕ} {es : List Entry} (sound : IsSound vars es) where
   top_at-within zero h = omega (arith, top_at-zero vars es)
   top_at-within (suc p) h = omega (arith, top_at-branching (suc p) (omega arith) h)
 
-pub IsLawful-sound : (a : Arena) → IsSound a.vars a.entries → IsLawful a
-IsLawful-sound a sound = record {
+pub IsLawful-sound : (a : Arena) → IsSound a.vars a.entries → AreWithin a.roots (length a.entries) → IsLawful a
+IsLawful-sound a sound roots = record {
   sound = sound;
   canonical = IsCanonical-sound a sound;
   constants = λ b bits. den-constant b a bits;
   support = λ n v xs ys in_n h alike. ap (flipped (is_marked n)) (den_within-drop sound v xs ys alike (suc (index n)) (index n) h in_n);
   within = λ n in_n. top_at-within sound (index n) in_n;
   branching = λ n in_n. (λ h. top_at-branching sound (index n) (omega (arith, h)) in_n, λ h. elim (cases_lt n.number 2) [ inl low ↦ absurd (omega (arith, h, top_of-low a n low)) | inr high ↦ high ]);
+  roots = roots;
 }

@@ -2,9 +2,13 @@ pub mod NodeLemmas
 mod Samples
 pub mod ValueLemmas
 mod CanonicalLemmas
-mod BranchLemmas
+pub mod BranchLemmas
 mod MakeLemmas
 pub mod SubfunctionLemmas
 pub mod PigeonholeLemmas
 pub mod GrowthLemmas
 pub mod AnswerLemmas
+mod MarkLemmas
+mod RenumberLemmas
+mod RootLemmas
+mod SweepLemmas

@@ -264,7 +264,7 @@ module _ (a : Arena) (var : ℕ) (lo hi : Node) (q : Asked a var lo hi) where
 abbrev pub entry_eq : Entry → Entry → Bool
 entry_eq x y = eqb x.var y.var && (eqb x.lo.number y.lo.number && eqb x.hi.number y.hi.number)
 
-entry_eq-true : (x y : Entry) → entry_eq x y ≡ true → x ≡ y
+pub entry_eq-true : (x y : Entry) → entry_eq x y ≡ true → x ≡ y
 entry_eq-true x y h =
     let a = and_true (eqb x.var y.var) _ h in
     let b = and_true (eqb x.lo.number y.lo.number) _ a.1 in

@@ -1,8 +1,9 @@
 -- Ordered and reduced diagrams, and what follows for their functions.
-use Rattle.std.specs.Prelude.{◌≡◌, ◌≢◌, ◌↔◌, ℕ, ◌<◌, ◌≤◌, Bool, false, List, length, drop, Some, slice_get}
+use Rattle.std.specs.Prelude.{◌≡◌, ◌≢◌, ◌↔◌, ℕ, ◌<◌, ◌≤◌, Bool, false, List, length, drop, Option, Some, None, slice_get}
+use Rattle.std.specs.List.{slice_index_or}
 use Rattle.bdd_store.specs.declared.node.Node.{Node}
 use Rattle.bdd_store.specs.declared.node.Entry.{Entry}
-use Rattle.bdd_store.specs.Arena.{Arena, index, is_marked, constant, den, top_at, top_of, IsNodeOf, IsBranching}
+use Rattle.bdd_store.specs.Arena.{Arena, root_at, index, is_marked, constant, den, top_at, top_of, IsNodeOf, IsBranching}
 
 -- the entry at position p is one that a sound store may have there
 pub record IsSoundEntry (vars : ℕ) (es : List Entry) (p : ℕ) (e : Entry) : Type 0 where
@@ -19,6 +20,10 @@ pub record IsSoundEntry (vars : ℕ) (es : List Entry) (p : ℕ) (e : Entry) : T
 pub record IsSound (vars : ℕ) (es : List Entry) : Type 0 where
   pub each : (p : ℕ) (e : Entry) → slice_get es p ≡ Some e → IsSoundEntry vars es p e
   pub once : (p q : ℕ) (e : Entry) → slice_get es p ≡ Some e → slice_get es q ≡ Some e → p ≡ q
+
+-- the roots are constants or entries that are there, of so many
+abbrev pub AreWithin : List (Option Node) → ℕ → Type 0
+AreWithin roots count = (key : ℕ) (n : Node) → slice_index_or roots key None ≡ Some n → index n ≤ count
 
 -- two nodes have one function
 abbrev pub SameFunction : Arena → Node → Node → Type 0
@@ -38,3 +43,5 @@ pub record IsLawful (a : Arena) : Type 0 where
   -- a node's variable is one of the store, and `vars` only at a constant
   pub within : (n : Node) → IsNodeOf a n → top_of a n ≤ a.vars
   pub branching : (n : Node) → IsNodeOf a n → IsBranching n ↔ (top_of a n < a.vars)
+  -- each root is a node
+  pub roots : (key : ℕ) (n : Node) → root_at a key ≡ Some n → IsNodeOf a n

@@ -1,12 +1,14 @@
-ghost use Rattle.std.specs.Prelude.{◌≡◌, ◌↔◌, ℕ, ◌+◌, ◌*◌, ◌<◌, ◌≤◌, ◌⊎◌, Bool, List, Some, None, length, slice_get, Contains, IsSome, IsTrue, IfOk, OnOk, OnErr, false, true};
+ghost use Rattle.std.specs.Prelude.{◌≡◌, ◌↔◌, ℕ, ◌+◌, ◌*◌, ◌<◌, ◌≤◌, ◌⊎◌, Bool, List, [], Some, None, length, slice_get, Contains, IsSome, IsTrue, IfOk, OnOk, OnErr, false, true};
 ghost use Rattle.std.specs.List.{slice_index_or};
 ghost use Rattle.bdd_store.specs.Arena.{empty, root_at, HasRoot, answer_to, with_answers, index, complemented, node_value, den, choice, top_of, IsNodeOf, IsBranching};
 ghost use Rattle.bdd_store.specs.Soundness.{IsSound, SameFunction, IsLawful};
 ghost use Rattle.bdd_store.specs.Growth.{KeepsNodes, IsEntered, IsRefused, IsNewFunction, AddsAtMost};
+ghost use Rattle.bdd_store.specs.Sweeping.{KeepsRoots, HasReached, AllReached};
 
 use crate::fault::StoreFault;
 use crate::node::{Choice, Entry, Node};
 use crate::root::Root;
+use crate::sweep::{compact, reached, renumber};
 use cyc_base::MAX_NODES;
 use indexmap::IndexSet;
 use lru::LruCache;
@@ -80,19 +82,20 @@ pub struct Store {
     roots: Slab<Node>,
     // What the layer above found for choices.
     answers: LruCache<Choice, Node>,
+    alloc: Global,
 }
 
 // The number in the invariant is `MAX_NODES`.
 impl Model for Store {
     ghost use Rattle.std.specs.Prelude.{◌≤◌, length};
     ghost use Rattle.bdd_store.specs.Arena.{Arena};
-    ghost use Rattle.bdd_store.specs.Soundness.{IsSound};
+    ghost use Rattle.bdd_store.specs.Soundness.{IsSound, AreWithin};
 
     ghost Value = { Arena };
 
     ghost view = { λ s. record { vars = s.vars; limit = s.limit; entries = s.entries.keys; roots = s.roots.slots; answers = s.answers.entries } };
 
-    ghost invariant = { λ s. (s.limit ≤ 50000000) × (length s.entries.keys ≤ s.limit) × IsSound s.vars s.entries.keys };
+    ghost invariant = { λ s. (s.limit ≤ 50000000) × (length s.entries.keys ≤ s.limit) × IsSound s.vars s.entries.keys × AreWithin s.roots.slots (length s.entries.keys) };
 }
 
 impl Store {
@@ -111,6 +114,7 @@ impl Store {
             entries,
             roots: Slab::new(alloc),
             answers,
+            alloc,
         })
     }
 
@@ -267,7 +271,8 @@ impl Store {
     /// The node of a root.
     pub fn root(&self, r: &Root) -> Node
         requires { IsSome (root_at self.now r.now.key) }
-        ensures { root_at self.now r.now.key ≡ Some result }
+        ensures root { root_at self.now r.now.key ≡ Some result }
+        ensures node { IsNodeOf self.now result }
     {
         self.roots[r.key]
     }
@@ -278,6 +283,28 @@ impl Store {
         ensures { HasRoot self.old self.new r.key None }
     {
         self.roots.remove(r.key);
+    }
+
+    /// Takes out every entry that no root reaches along branches. The roots keep their keys and their functions;
+    /// of other nodes of before only the constants mean anything then. No answer is kept. On `AllocError` the
+    /// store is unchanged.
+    pub fn sweep(&mut self) -> Result<(), AllocError>
+        ensures roots { OnOk result (KeepsRoots self.old self.new) }
+
+        // What is left are the entries that were reached, and each is.
+        ensures count { OnOk result (HasReached self.old (length self.new.entries)) }
+        ensures reached { OnOk result (AllReached self.new) }
+        ensures fewer { OnOk result (length self.new.entries ≤ length self.old.entries) }
+        ensures answers { OnOk result (self.new.answers ≡ []) }
+        ensures err { OnErr result (self.new ≡ self.old) }
+    {
+        let entries = self.entries.as_slice();
+        let marks = reached(self.alloc, entries, &self.roots)?;
+        let (table, places) = compact(self.alloc, entries, &marks)?;
+        renumber(&mut self.roots, &places);
+        self.entries = table;
+        self.answers.clear();
+        Ok(())
     }
 
     /// The answer that is kept for a choice.

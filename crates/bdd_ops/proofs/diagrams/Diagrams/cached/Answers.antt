@@ -1,4 +1,3 @@
-use Rattle.bdd_store.specs.declared.node.Choice.{Choice}
 use Rattle.bdd_ops.proofs.ChoiceLemmas.{right_node, right_function}
 use Rattle.bdd_ops.proofs.diagrams.Diagrams.cached.Goals as goal
 

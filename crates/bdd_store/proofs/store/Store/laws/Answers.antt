@@ -5,4 +5,4 @@ use Rattle.bdd_store.specs.contracts.store.Store.{the_view}
 use Rattle.bdd_store.proofs.store.Store.laws.Goals as goal
 
 pub returns : goal.returns
-returns c = subst IsLawful c.self.view_is (IsLawful-sound (the_view c.self.inside) c.self.invariant.2)
+returns c = subst IsLawful c.self.view_is (IsLawful-sound (the_view c.self.inside) c.self.invariant.2 c.self.invariant.3)

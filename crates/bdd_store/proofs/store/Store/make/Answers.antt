@@ -63,11 +63,16 @@ node_at-requires c =
 
 pub invariant_of-self-2 : goal.invariant_of-self-2
 invariant_of-self-2 c = let l = length-entered c.self.inside.entries.keys c.enter.new.entries.keys c.self.inside.limit _ c.self.invariant.1 (entered c) in
-    (c.self.invariant.0, l.0, make-sound (the_view c.self.inside) c.args.var c.args.lo c.args.hi (asked c) c.enter.new.entries.keys (entered c))
+    let keeps = make-keeps (the_view c.self.inside) c.args.var c.args.lo c.args.hi (asked c) c.enter.new.entries.keys (entered c) in (
+      c.self.invariant.0,
+      l.0,
+      make-sound (the_view c.self.inside) c.args.var c.args.lo c.args.hi (asked c) c.enter.new.entries.keys (entered c),
+      λ key n at. omega (arith, keeps.more, c.self.invariant.3 key n at),
+    )
 
 pub returns-clause-node : goal.returns-clause-node
 returns-clause-node c = let w = slice_get_within c.enter.new.entries.keys c.in_ok-at.at _ (found c) in
-    c.complement_if-3.ensures.node (the_view (record { vars = c.self.inside.vars; limit = c.self.inside.limit; entries = c.enter.new.entries; roots = c.self.inside.roots; answers = c.self.inside.answers })) (omega (arith, w, c.node_at.ensures))
+    c.complement_if-3.ensures.node (the_view (record { vars = c.self.inside.vars; limit = c.self.inside.limit; entries = c.enter.new.entries; roots = c.self.inside.roots; answers = c.self.inside.answers; alloc = c.self.inside.alloc })) (omega (arith, w, c.node_at.ensures))
 
 pub returns-clause-function : goal.returns-clause-function
 returns-clause-function c = rw (← c.self.view_is, answer_is c) (make-value (the_view c.self.inside) c.args.var c.args.lo c.args.hi (asked c) c.enter.new.entries.keys (entered c) c.in_ok-at.at (found c) c.node_at.result c.node_at.ensures)

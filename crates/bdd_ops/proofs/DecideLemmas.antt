@@ -1,0 +1,122 @@
+-- The bits by column, decided in turn: at each place 0 where that leaves the function true somewhere.
+use Rattle.std.proofs.Common.{◌≡◌, ◌≢◌, ℕ, zero, suc, ◌+◌, ◌<◌, ◌≤◌, Bool, true, false, List, [], ◌∷◌, ◌++◌, length, take, get_or, set, replicate, refl, sym, ap, subst, ◌∙◌, inl, inr, arith, length-set}
+use Rattle.std.proofs.lemmas.Bool.{cases_eq, cases_lt}
+use Rattle.std.proofs.lemmas.List.{length-replicate, length-take-le, take-set, take_more, take_more_set, take_all, get_or_at}
+use Rattle.std.proofs.Math.Seq.{take-append_seam}
+use Rattle.cyc_base.specs.Vectors.{AtMost}
+use Rattle.bdd_store.specs.declared.node.Node.{Node}
+use Rattle.bdd_store.specs.Arena.{Arena, index, is_marked, complemented_if, constant, den, top_of, IsNodeOf}
+use Rattle.bdd_store.specs.Soundness.{IsLawful}
+use Rattle.bdd_store.proofs.ValueLemmas.{no_entry}
+use Rattle.bdd_store.proofs.BranchLemmas.{IsBranch, entry, exact_lo, exact_hi}
+use Rattle.bdd_ops.specs.Apply.{IsCofactor}
+use Rattle.bdd_ops.specs.Least.{IsLeast, IsLayout, by_variable}
+use Rattle.bdd_ops.specs.Possible.{Takes}
+use Rattle.bdd_ops.proofs.LeastLemmas.{AtMost-extend, number_one, high_alive}
+use Rattle.bdd_ops.proofs.PossibleLemmas.{Takes-branch}
+
+-- ---- each function but the constant false is true somewhere
+
+module _ (s : Arena) (lawful : IsLawful s) (columns : List ℕ) (are : IsLayout s.vars columns) where
+  of_node : Node → List Bool → Bool
+  of_node n w = den s n (by_variable columns w)
+
+  IsCofactor-branch : (n m : Node) (b : Bool) → IsBranch s.vars s.entries n b m → IsCofactor s n (top_of s n) b m
+  IsCofactor-branch n m b branch = record { node = branch.node; lower = branch.lower; function = branch.function }
+
+  pub true_somewhere : (fuel : ℕ) (n : Node) → index n < fuel → IsNodeOf s n → n ≢ constant false → Takes (λ w. den s n (by_variable columns w)) s.vars [] true
+  true_somewhere zero n less in_n alive = absurd (omega arith)
+  true_somewhere (suc fuel) n less in_n alive = elim (cases_lt n.number 2) [
+    | inl low ↦ record {
+      vector = replicate s.vars false;
+      long = length-replicate s.vars false;
+      begins = refl;
+      value_there = ap (λ (m : Node). den s m (by_variable columns (replicate s.vars false))) (number_one n low alive) ∙ lawful.constants true (by_variable columns (replicate s.vars false));
+    }
+    | inr branching ↦
+        let lo = complemented_if (is_marked n) (entry lawful.sound n no_entry branching in_n).lo in
+        let hi = complemented_if (is_marked n) (entry lawful.sound n no_entry branching in_n).hi in
+        let low = exact_lo lawful.sound n no_entry branching in_n in
+        let high = exact_hi lawful.sound n no_entry branching in_n in
+        elim (cases_eq lo.number 0) [
+          | inl none ↦
+              let lo_is : lo ≡ constant false = λ j. record { number = none j } in
+              Takes-branch s lawful columns are n lo hi low.within (IsCofactor-branch n lo false low) (IsCofactor-branch n hi true high) [] true (omega arith)
+              (true_somewhere fuel hi (omega (arith, high.earlier)) high.node (high_alive s lawful n lo hi in_n branching lo_is low.function high.function))
+          | inr some ↦
+              Takes-branch s lawful columns are n lo hi low.within (IsCofactor-branch n lo false low) (IsCofactor-branch n hi true high) [] false (omega arith)
+              (true_somewhere fuel lo (omega (arith, low.earlier)) low.node (λ same. some (ap (λ (m : Node). m.number) same)))
+        ]
+  ]
+
+-- ---- the bits that are decided
+
+-- the function is true at some vector that begins with the first c bits, and at none that is less there
+pub record AreDecided (f : List Bool → Bool) (count : ℕ) (out : List Bool) (c : ℕ) : Type 0 where
+  pub possible : Takes f count (take c out) true
+  pub before : (w : List Bool) → length w ≡ count → f w ≡ true → AtMost (take c out) w
+
+pub AreDecided-start : (f : List Bool → Bool) (count : ℕ) (out : List Bool) → Takes f count [] true → AreDecided f count out 0
+AreDecided-start f count out possible = record { possible = possible; before = λ w long there. tt }
+
+module _ (f : List Bool → Bool) (count : ℕ) (out : List Bool) (c : ℕ) (long : length out ≡ count) (less : c < length out) (were : AreDecided f count out c) where
+  length-first : length (take c out) ≡ c
+  length-first = length-take-le c out (omega arith)
+
+  -- the bit stays 0, where a vector goes on so
+  pub AreDecided-zero : Takes f count (take (c + 1) (set out c false)) true → AreDecided f count (set out c false) (c + 1)
+  AreDecided-zero possible = record {
+    possible = possible;
+    before = λ w w_long there. subst (λ (v : List Bool). AtMost v w) (sym (take_more_set out c false less)) (AtMost-extend (take c out) false 0 w (were.before w w_long there) (omega (arith, length-first)) (λ rest e. refl));
+  }
+
+  -- a vector at which the function is true, and its next bit
+  next_bit : (w : List Bool) (b : Bool) → length w ≡ count → take c w ≡ take c out → get_or w c false ≡ b → take (c + 1) w ≡ take c out ++ b ∷ []
+  next_bit w b w_long begins bit = take_more w c false (omega arith) ∙ (λ j. begins j ++ bit j ∷ [])
+
+  module _ (none : Takes f count (take (c + 1) (set out c false)) true → ⊥) where
+    not_zero : (w : List Bool) → length w ≡ count → f w ≡ true → take c w ≡ take c out → get_or w c false ≡ false → ⊥
+    not_zero w w_long there begins bit =
+        let whole = take (c + 1) (set out c false) in
+        let size : length whole ≡ c + 1 = length-take-le (c + 1) (set out c false) (omega (arith, length-set out c false)) in
+        none (record { vector = w; long = w_long; begins = ap (λ k. take k w) size ∙ next_bit w false w_long begins bit ∙ sym (take_more_set out c false less); value_there = there })
+
+    one_there : (w : List Bool) → length w ≡ count → f w ≡ true → take c w ≡ take c out → get_or w c false ≡ true
+    one_there w w_long there begins = by (get_or w c false) refl
+      where
+        by : (b : Bool) → get_or w c false ≡ b → b ≡ true
+        by true bit = refl
+        by false bit = absurd (not_zero w w_long there begins bit)
+
+    cut : take (c + 1) (set (set out c false) c true) ≡ take c out ++ true ∷ []
+    cut = take_more_set (set out c false) c true (omega (arith, length-set out c false)) ∙ ap (λ (v : List Bool). v ++ true ∷ []) (take-set out c false)
+
+    -- else it becomes 1
+    pub AreDecided-one : AreDecided f count (set (set out c false) c true) (c + 1)
+    AreDecided-one =
+        let old = were.possible in
+        let begins : take c old.vector ≡ take c out = ap (λ k. take k old.vector) (sym length-first) ∙ old.begins in
+        let size : length (take (c + 1) (set (set out c false) c true)) ≡ c + 1 = length-take-le (c + 1) (set (set out c false) c true) (omega (arith, length-set (set out c false) c true, length-set out c false)) in
+        record {
+          possible = record {
+            vector = old.vector;
+            long = old.long;
+            begins = ap (λ k. take k old.vector) size ∙ next_bit old.vector true old.long begins (one_there old.vector old.long old.value_there begins) ∙ sym cut;
+            value_there = old.value_there;
+          };
+          before = λ w w_long there. subst (λ (v : List Bool). AtMost v w) (sym cut) (AtMost-extend (take c out) true 0 w (were.before w w_long there) (omega (arith, length-first))
+              (λ rest e. absurd (not_zero w w_long there
+              (ap (take c) e ∙ ap (λ k. take k (take c out ++ false ∷ rest)) (sym length-first) ∙ take-append_seam (take c out) (false ∷ rest))
+              (ap (λ v. get_or v c false) e ∙ get_or_at (take c out) false rest false c length-first))));
+        }
+
+-- at the end all bits are decided
+pub AreDecided-all : (f : List Bool → Bool) (count : ℕ) (out : List Bool) (c : ℕ) → length out ≡ count → length out ≤ c → AreDecided f count out c → IsLeast f out
+AreDecided-all f count out c long all were =
+    let whole : take c out ≡ out = take_all c out all in
+    let one = were.possible in
+    let same : one.vector ≡ out = sym (take_all (length (take c out)) one.vector (omega (arith, one.long, ap length whole))) ∙ one.begins ∙ whole in
+    record {
+      true_there = ap f (sym same) ∙ one.value_there;
+      before_all = λ w w_long there. subst (λ (v : List Bool). AtMost v w) whole (were.before w (w_long ∙ long) there);
+    }

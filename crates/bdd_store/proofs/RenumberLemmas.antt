@@ -1,0 +1,300 @@
+-- The table that a sweep makes: what is kept stands there once, at its place, with its function.
+use Rattle.std.proofs.Common.{◌≡◌, ℕ, zero, suc, ◌+◌, ◌*◌, ◌%◌, ◌<◌, ◌≤◌, Bool, true, false, List, [], ◌∷◌, ◌++◌, length, get_or, set, slice_get, Some, Contains, replicate, cond, if◌then◌else◌, ◌==◌, refl, sym, ap, subst, ◌∙◌, inl, inr, ◌⊎◌, arith, get_or-set_same, get_or-set_other, true≢false, add-one, length-append}
+use Rattle.std.specs.List.{list_any, filter, range_with_len}
+use Rattle.std.proofs.lemmas.Bool.{cases_eq, cases_lt}
+use Rattle.std.proofs.lemmas.List.{length_push, get_or_push, get_or-replicate, length-replicate, get_or_past}
+use Rattle.std.proofs.lemmas.List.Elements.{filter-append}
+use Rattle.std.proofs.lemmas.Option.{slice_get-get_or, slice_get_within, same_Some}
+use Rattle.indexmap.specs.IndexSet.{insert_key}
+use Rattle.indexmap.proofs.CallerLemmas.{Contains-list_any}
+use Rattle.cyc_base.specs.declared.limits.TheConstants.{MAX_NODES}
+use Rattle.bdd_store.specs.declared.node.Node.{Node}
+use Rattle.bdd_store.specs.declared.node.Entry.{Entry}
+use Rattle.bdd_store.specs.Arena.{index, is_marked, flipped, value_at, node_value, top_at, chosen}
+use Rattle.bdd_store.specs.Soundness.{IsSoundEntry, IsSound}
+use Rattle.bdd_store.specs.Renumbering.{is_marked_at, AreClosed, IsPlaced, place, moved_node, moved_entry, AreMoved}
+use Rattle.bdd_store.proofs.ValueLemmas.{chosen_both, slice_get-append_left, value_at-entry, value_at-zero, top_at-entry, top_at-zero, entry_at}
+use Rattle.bdd_store.proofs.CanonicalLemmas.{early}
+use Rattle.bdd_store.proofs.MakeLemmas.{entry_eq, entry_eq-true, IsSound-push}
+
+-- ---- the table grows at its end
+
+pub insert-new : (es : List Entry) (e : Entry) → (Contains es e → ⊥) → insert_key entry_eq es e ≡ es ++ e ∷ []
+insert-new es e absent = by (list_any (entry_eq e) es) refl
+  where
+    by : (b : Bool) → list_any (entry_eq e) es ≡ b → (if b then es else es ++ e ∷ []) ≡ es ++ e ∷ []
+    by true h = absurd (absent (Contains-list_any entry_eq entry_eq-true es e h))
+    by false h = refl
+
+-- ---- how many are kept
+
+range-suc : (a n : ℕ) → range_with_len a (suc n) ≡ range_with_len a n ++ (a + n) ∷ []
+range-suc a zero = ap (λ (x : ℕ). x ∷ []) (omega arith)
+range-suc a (suc n) =
+    let same : a + 1 + n ≡ a + suc n = omega arith in
+    ap (λ (rest : List ℕ). a ∷ rest) (range-suc (a + 1) n ∙ ap (λ (x : ℕ). range_with_len (a + 1) n ++ x ∷ []) same)
+
+-- the entries among the first n that are kept
+abbrev pub kept : List Bool → ℕ → List ℕ
+kept marks n = filter (λ p. is_marked_at marks (suc p)) (range_with_len 0 n)
+
+kept-suc : (marks : List Bool) (n : ℕ) (b : Bool) → is_marked_at marks (suc n) ≡ b → length (kept marks (suc n)) ≡ length (kept marks n) + (if b then 1 else 0)
+kept-suc marks n b is =
+    let test : ℕ → Bool = λ p. is_marked_at marks (suc p) in
+    let here : 0 + n ≡ n = omega arith in
+    ap (λ (xs : List ℕ). length (filter test xs)) (range-suc 0 n ∙ ap (λ (x : ℕ). range_with_len 0 n ++ x ∷ []) here)
+    ∙ ap length (filter-append test (range_with_len 0 n) (n ∷ []))
+    ∙ ap (λ c. length (kept marks n ++ cond c (n ∷ []) [])) is
+    ∙ by b
+  where
+    by : (b : Bool) → length (kept marks n ++ cond b (n ∷ []) []) ≡ length (kept marks n) + (if b then 1 else 0)
+    by true = length-append (kept marks n) (n ∷ [])
+    by false = length-append (kept marks n) []
+
+pub kept-few : (marks : List Bool) (n : ℕ) → length (kept marks n) ≤ n
+kept-few marks zero = omega arith
+kept-few marks (suc n) = by (kept-few marks n) (is_marked_at marks (suc n)) refl
+  where
+    by : length (kept marks n) ≤ n → (b : Bool) → is_marked_at marks (suc n) ≡ b → length (kept marks (suc n)) ≤ suc n
+    by few true h = omega (arith, few, kept-suc marks n true h)
+    by few false h = omega (arith, few, kept-suc marks n false h)
+
+-- ---- moved nodes and entries
+
+remainder : (n : Node) (places : List ℕ) → (index (moved_node places n) ≡ place places (index n)) × ((moved_node places n).number % 2 ≡ n.number % 2)
+remainder n places = (omega arith, omega arith)
+
+pub index-moved : (places : List ℕ) (n : Node) → index (moved_node places n) ≡ place places (index n)
+index-moved places n = (remainder n places).0
+
+pub is_marked-moved : (places : List ℕ) (n : Node) → is_marked (moved_node places n) ≡ is_marked n
+is_marked-moved places n = ap (λ r. r == 0) (remainder n places).1
+
+-- a place further on changes no entry before
+moved-set : (places : List ℕ) (i v : ℕ) (e : Entry) → index e.lo < i → index e.hi < i → moved_entry (set places i v) e ≡ moved_entry places e
+moved-set places i v e low high =
+    let lo : place (set places i v) (index e.lo) ≡ place places (index e.lo) = get_or-set_other places i (index e.lo) v 0 (omega arith) in
+    let hi : place (set places i v) (index e.hi) ≡ place places (index e.hi) = get_or-set_other places i (index e.hi) v 0 (omega arith) in
+    λ j. record { var = e.var; lo = record { number = 2 * lo j + e.lo.number % 2 }; hi = record { number = 2 * hi j + e.hi.number % 2 } }
+
+branch-marked : (es : List Entry) (marks : List Bool) → AreClosed es marks → (p : ℕ) (e : Entry) (i : ℕ) → slice_get es p ≡ Some e → is_marked_at marks (suc p) ≡ true → (index e.lo ≡ i) ⊎ (index e.hi ≡ i) → is_marked_at marks i ≡ true
+branch-marked es marks closed p e zero at marked leads = closed.constants
+branch-marked es marks closed p e (suc q) at marked leads = closed.branches p q marked (e, at, leads)
+
+module _ (es : List Entry) (marks : List Bool) (places : List ℕ) (table : List Entry) (n : ℕ) (closed : AreClosed es marks) (vars : ℕ) (sound : IsSound vars es) (moved : AreMoved es marks places table n) where
+  sound_table : IsSound vars table
+  sound_table = moved.sound vars sound
+
+  pub place-within : (i : ℕ) → i ≤ n → n ≤ length es → is_marked_at marks i ≡ true → place places i ≤ length table
+  place-within zero le w marked = omega (arith, moved.constants)
+  place-within (suc p) le w marked =
+      let at = entry_at es p (omega arith) in
+      let is = moved.each p at.0 (omega arith) at.1 marked in
+      omega (arith, is.1, slice_get_within table is.0 (moved_entry places at.0) is.2)
+
+  top-place : (i : ℕ) → i ≤ n → n ≤ length es → is_marked_at marks i ≡ true → top_at vars table (place places i) ≡ top_at vars es i
+  top-place zero le w marked = ap (top_at vars table) moved.constants ∙ top_at-zero vars table ∙ sym (top_at-zero vars es)
+  top-place (suc p) le w marked =
+      let at = entry_at es p (omega arith) in
+      let is = moved.each p at.0 (omega arith) at.1 marked in
+      ap (top_at vars table) is.1 ∙ top_at-entry vars table is.0 (moved_entry places at.0) is.2 ∙ sym (top_at-entry vars es p at.0 at.1)
+
+  -- nodes with marked indices are moved apart
+  same_moved : (a b : Node) → index a ≤ n → index b ≤ n → is_marked_at marks (index a) ≡ true → is_marked_at marks (index b) ≡ true → (moved_node places a).number ≡ (moved_node places b).number → a.number ≡ b.number
+  same_moved a b la lb ma mb e =
+      let i : place places (index a) ≡ place places (index b) = omega (arith, index-moved places a, index-moved places b) in
+      let same : index a ≡ index b = moved.once (index a) (index b) la lb ma mb i in
+      let rest : a.number % 2 ≡ b.number % 2 = omega (arith, i) in
+      omega (arith, same, rest)
+
+  module _ (e : Entry) (at : slice_get es n ≡ Some e) (marked : is_marked_at marks (suc n) ≡ true) where
+    within : n < length es
+    within = slice_get_within es n e at
+
+    lo_marked : is_marked_at marks (index e.lo) ≡ true
+    lo_marked = branch-marked es marks closed n e (index e.lo) at marked (inl refl)
+
+    hi_marked : is_marked_at marks (index e.hi) ≡ true
+    hi_marked = branch-marked es marks closed n e (index e.hi) at marked (inr refl)
+
+    -- the entry is not in the table yet
+    pub moved-absent : Contains table (moved_entry places e) → ⊥
+    moved-absent has =
+        let q = has.0 in
+        let here : slice_get table q ≡ Some (moved_entry places e) = slice_get-get_or table q (moved_entry places e) has.1 ∙ ap Some has.2 in
+        let from = moved.from q has.1 in
+        let p = from.0 in
+        let old = entry_at es p (omega (arith, from.1, within)) in
+        let x = old.0 in
+        let is = moved.each p x from.1 old.1 from.2 in
+        let same_q : is.0 ≡ q = omega (arith, is.1, from.3) in
+        let same : moved_entry places x ≡ moved_entry places e = same_Some (moved_entry places x) (moved_entry places e) (sym is.2 ∙ ap (slice_get table) same_q ∙ here) in
+        let sx = sound.each p x old.1 in
+        let se = sound.each n e at in
+        let lo : x.lo.number ≡ e.lo.number = same_moved x.lo e.lo (omega (arith, sx.lo_earlier, from.1)) se.lo_earlier (branch-marked es marks closed p x (index x.lo) old.1 from.2 (inl refl)) lo_marked (ap (λ (y : Entry). y.lo.number) same) in
+        let hi : x.hi.number ≡ e.hi.number = same_moved x.hi e.hi (omega (arith, sx.hi_earlier, from.1)) se.hi_earlier (branch-marked es marks closed p x (index x.hi) old.1 from.2 (inr refl)) hi_marked (ap (λ (y : Entry). y.hi.number) same) in
+        let var : x.var ≡ e.var = ap (λ (y : Entry). y.var) same in
+        let one : x ≡ e = λ j. record { var = var j; lo = record { number = lo j }; hi = record { number = hi j } } in
+        let p_is : p ≡ n = sound.once p n e (old.1 ∙ ap Some one) at in
+        omega (arith, p_is, from.1)
+
+    moved-fits : IsSoundEntry vars table (length table) (moved_entry places e)
+    moved-fits =
+        let s = sound.each n e at in
+        let w : n ≤ length es = omega (arith, within) in
+        record {
+          lo_earlier = omega (arith, index-moved places e.lo, place-within (index e.lo) s.lo_earlier w lo_marked);
+          hi_earlier = omega (arith, index-moved places e.hi, place-within (index e.hi) s.hi_earlier w hi_marked);
+          apart = λ same. s.apart (same_moved e.lo e.hi s.lo_earlier s.hi_earlier lo_marked hi_marked same);
+          unmarked = is_marked-moved places e.hi ∙ s.unmarked;
+          within = s.within;
+          lo_below = omega (arith, s.lo_below, ap (top_at vars table) (index-moved places e.lo), top-place (index e.lo) s.lo_earlier w lo_marked);
+          hi_below = omega (arith, s.hi_below, ap (top_at vars table) (index-moved places e.hi), top-place (index e.hi) s.hi_earlier w hi_marked);
+        }
+
+    pub moved-sound : IsSound vars (table ++ moved_entry places e ∷ [])
+    moved-sound = IsSound-push sound_table (moved_entry places e) moved-fits moved-absent
+
+-- ---- the loop
+
+pub AreMoved-start : (es : List Entry) (marks : List Bool) (size : ℕ) → AreMoved es marks (replicate size 0) [] 0
+AreMoved-start es marks size = record {
+  sound = λ vars sound. record { each = λ p e at. absurd (omega (arith, slice_get_within [] p e at)); once = λ p q e at_p at_q. absurd (omega (arith, slice_get_within [] p e at_p)) };
+  constants = elim (cases_lt 0 size) [ inl l ↦ get_or-replicate size 0 0 0 l | inr past ↦ get_or_past (replicate size 0) 0 0 (omega (arith, length-replicate {A = ℕ} size 0)) ];
+  each = λ p e less at marked. absurd (omega arith);
+  once = λ i j low_i low_j mi mj same. omega arith;
+  from = λ q less. absurd (omega arith);
+  count = refl;
+}
+
+pub AreMoved-skip : (es : List Entry) (marks : List Bool) (places : List ℕ) (table : List Entry) (n : ℕ) → is_marked_at marks (suc n) ≡ false → AreMoved es marks places table n → AreMoved es marks places table (suc n)
+AreMoved-skip es marks places table n not_marked moved =
+    let before : (i : ℕ) → i ≤ suc n → is_marked_at marks i ≡ true → i ≤ n = λ i le marked. elim (cases_eq i (suc n)) [ inl same ↦ absurd (true≢false (sym marked ∙ ap (is_marked_at marks) same ∙ not_marked)) | inr apart ↦ omega arith ] in
+    record {
+      sound = moved.sound;
+      constants = moved.constants;
+      each = λ p e less at marked. moved.each p e (omega (arith, before (suc p) (omega arith) marked)) at marked;
+      once = λ i j low_i low_j mi mj same. moved.once i j (before i low_i mi) (before j low_j mj) mi mj same;
+      from = λ q less. let f = moved.from q less in (f.0, omega (arith, f.1), f.2, f.3);
+      count = omega (arith, moved.count, kept-suc marks n false not_marked);
+    }
+
+pub AreMoved-more : (es : List Entry) (marks : List Bool) (places : List ℕ) (table : List Entry) (n : ℕ) (closed : AreClosed es marks) (sound : (vars : ℕ) × IsSound vars es) (moved : AreMoved es marks places table n) (e : Entry) → slice_get es n ≡ Some e → is_marked_at marks (suc n) ≡ true → suc n < length places → AreMoved es marks (set places (suc n) (length table + 1)) (table ++ moved_entry places e ∷ []) (suc n)
+AreMoved-more es marks places table n closed sound moved e at marked room =
+    let new_places = set places (suc n) (length table + 1) in
+    let new = table ++ moved_entry places e ∷ [] in
+    let within : n < length es = slice_get_within es n e at in
+    let here : place new_places (suc n) ≡ suc (length table) = get_or-set_same places (suc n) (length table + 1) 0 room ∙ add-one (length table) in
+    let there : (i : ℕ) → i ≤ n → place new_places i ≡ place places i = λ i le. get_or-set_other places (suc n) i (length table + 1) 0 (omega arith) in
+    let low : (i : ℕ) → i ≤ n → is_marked_at marks i ≡ true → place places i ≤ length table = λ i le m. place-within es marks places table n closed sound.0 sound.1 moved i le (omega arith) m in
+    let longer : length new ≡ length table + 1 = length_push table (moved_entry places e) in
+    let same_entry : (p : ℕ) (x : Entry) → p ≤ n → slice_get es p ≡ Some x → moved_entry new_places x ≡ moved_entry places x = λ p x le at_p. let s = sound.1.each p x at_p in moved-set places (suc n) (length table + 1) x (omega (arith, s.lo_earlier)) (omega (arith, s.hi_earlier)) in
+    record {
+      sound = λ vars s. moved-sound es marks places table n closed vars s moved e at marked;
+      constants = there 0 (omega arith) ∙ moved.constants;
+      each = λ p x less at_p m. elim (cases_lt p n) [
+        | inl before ↦
+            let is = moved.each p x before at_p m in
+            (is.0, there (suc p) (omega arith) ∙ is.1, slice_get-append_left table (moved_entry places e ∷ []) is.0 (slice_get_within table is.0 (moved_entry places x) is.2) ∙ is.2 ∙ ap Some (sym (same_entry p x (omega arith) at_p)))
+        | inr last ↦
+            let is : p ≡ n = omega arith in
+            let x_is : e ≡ x = same_Some e x (sym at ∙ ap (slice_get es) (sym is) ∙ at_p) in (
+              length table,
+              ap (λ k. place new_places (suc k)) is ∙ here,
+              slice_get-get_or new (length table) (moved_entry places e) (omega (arith, longer)) ∙ ap Some (get_or_push table (moved_entry places e) (moved_entry places e) (length table) refl ∙ ap (moved_entry places) x_is ∙ sym (same_entry p x (omega arith) at_p)),
+            )
+      ];
+      once = λ i j low_i low_j mi mj same. elim (cases_lt i (suc n)) [
+        | inl bi ↦ elim (cases_lt j (suc n)) [
+          | inl bj ↦ moved.once i j (omega arith) (omega arith) mi mj (sym (there i (omega arith)) ∙ same ∙ there j (omega arith))
+          | inr aj ↦ let is : j ≡ suc n = omega arith in absurd (omega (arith, there i (omega arith), low i (omega arith) mi, same, ap (place new_places) is, here))
+        ]
+        | inr ai ↦ elim (cases_lt j (suc n)) [
+          | inl bj ↦ let is : i ≡ suc n = omega arith in absurd (omega (arith, there j (omega arith), low j (omega arith) mj, same, ap (place new_places) is, here))
+          | inr aj ↦ omega arith
+        ]
+      ];
+      from = λ q less. elim (cases_lt q (length table)) [
+        | inl before ↦ let f = moved.from q before in (f.0, omega (arith, f.1), f.2, there (suc f.0) (omega (arith, f.1)) ∙ f.3)
+        | inr last ↦ (n, omega arith, marked, here ∙ (omega (arith, longer)))
+      ];
+      count = omega (arith, longer, moved.count, kept-suc marks n true marked);
+    }
+
+-- ---- functions
+
+module _ (es : List Entry) (marks : List Bool) (places : List ℕ) (table : List Entry) (closed : AreClosed es marks) (vars : ℕ) (sound : IsSound vars es) (moved : AreMoved es marks places table (length es)) where
+  chosen-moved : (e : Entry) (bits : List Bool) → chosen (moved_entry places e) bits ≡ moved_node places (chosen e bits)
+  chosen-moved e bits = by (get_or bits e.var false)
+    where
+      by : (b : Bool) → (if b then moved_node places e.hi else moved_node places e.lo) ≡ moved_node places (if b then e.hi else e.lo)
+      by true = refl
+      by false = refl
+
+  chosen-marked : (p : ℕ) (e : Entry) (bits : List Bool) → slice_get es p ≡ Some e → is_marked_at marks (suc p) ≡ true → is_marked_at marks (index (chosen e bits)) ≡ true
+  chosen-marked p e bits at marked = chosen_both (λ n. is_marked_at marks (index n) ≡ true) e bits (branch-marked es marks closed p e (index e.lo) at marked (inl refl)) (branch-marked es marks closed p e (index e.hi) at marked (inr refl))
+
+  value-place : (bits : List Bool) (fuel i : ℕ) → i < fuel → i ≤ length es → is_marked_at marks i ≡ true → value_at table (place places i) bits ≡ value_at es i bits
+  value-place bits zero i less w marked = absurd (omega arith)
+  value-place bits (suc fuel) zero less w marked = ap (λ k. value_at table k bits) moved.constants ∙ value_at-zero table bits ∙ sym (value_at-zero es bits)
+  value-place bits (suc fuel) (suc p) less w marked =
+      let at = entry_at es p (omega arith) in
+      let e = at.0 in
+      let s = sound.each p e at.1 in
+      let is = moved.each p e (omega arith) at.1 marked in
+      let next = chosen e bits in
+      let low : index next ≤ p = chosen_both (λ n. index n ≤ p) e bits s.lo_earlier s.hi_earlier in
+      ap (λ k. value_at table k bits) is.1
+      ∙ value_at-entry table (early (moved.sound vars sound)) bits is.0 (moved_entry places e) is.2
+      ∙ ap (λ (n : Node). node_value table n bits) (chosen-moved e bits)
+      ∙ ap (λ m. flipped m (value_at table (index (moved_node places next)) bits)) (is_marked-moved places next)
+      ∙ ap (λ k. flipped (is_marked next) (value_at table k bits)) (index-moved places next)
+      ∙ ap (flipped (is_marked next)) (value-place bits fuel (index next) (omega arith) (omega arith) (chosen-marked p e bits at.1 marked))
+      ∙ sym (value_at-entry es (early sound) bits p e at.1)
+
+  -- a node that is kept has its function at its place
+  pub node_value-moved : (n : Node) (bits : List Bool) → index n ≤ length es → is_marked_at marks (index n) ≡ true → node_value table (moved_node places n) bits ≡ node_value es n bits
+  node_value-moved n bits w marked =
+      ap (λ m. flipped m (value_at table (index (moved_node places n)) bits)) (is_marked-moved places n)
+      ∙ ap (λ k. flipped (is_marked n) (value_at table k bits)) (index-moved places n)
+      ∙ ap (flipped (is_marked n)) (value-place bits (suc (index n)) (index n) (omega arith) w marked)
+
+  pub top-moved : (n : Node) → index n ≤ length es → is_marked_at marks (index n) ≡ true → top_at vars table (index (moved_node places n)) ≡ top_at vars es (index n)
+  top-moved n w marked = ap (top_at vars table) (index-moved places n) ∙ top-place es marks places table (length es) closed vars sound moved (index n) w (omega arith) marked
+
+-- ---- what the code asks at each entry that is kept
+
+pub record IsKeptNext (es : List Entry) (places : List ℕ) (table : List Entry) (e : Entry) : Type 0 where
+  pub lo : IsPlaced places e.lo
+  pub hi : IsPlaced places e.hi
+  pub room : length table < MAX_NODES
+  pub absent : Contains table (moved_entry places e) → ⊥
+
+pub IsKeptNext-from : (es : List Entry) (marks : List Bool) (places : List ℕ) (table : List Entry) (n : ℕ) (d : Entry) → AreClosed es marks → (vars : ℕ) × IsSound vars es → AreMoved es marks places table n → length es ≤ MAX_NODES → length places ≡ length es + 1 → n < length es → is_marked_at marks (n + 1) ≡ true → IsKeptNext es places table (get_or es n d)
+IsKeptNext-from es marks places table n d closed sound moved few long less marked =
+    let e = get_or es n d in
+    let at : slice_get es n ≡ Some e = slice_get-get_or es n d less in
+    let m : is_marked_at marks (suc n) ≡ true = rw add-one at marked in
+    let s = sound.1.each n e at in
+    let lo = place-within es marks places table n closed sound.0 sound.1 moved (index e.lo) s.lo_earlier (omega arith) (branch-marked es marks closed n e (index e.lo) at m (inl refl)) in
+    let hi = place-within es marks places table n closed sound.0 sound.1 moved (index e.hi) s.hi_earlier (omega arith) (branch-marked es marks closed n e (index e.hi) at m (inr refl)) in
+    let count : length table ≤ n = omega (arith, moved.count, kept-few marks n) in
+    record {
+      lo = record { within = omega (arith, s.lo_earlier); small = omega arith };
+      hi = record { within = omega (arith, s.hi_earlier); small = omega arith };
+      room = omega arith;
+      absent = moved-absent es marks places table n closed sound.0 sound.1 moved e at m;
+    }
+
+pub AreMoved-next : (es : List Entry) (marks : List Bool) (places new_places : List ℕ) (table new : List Entry) (n : ℕ) (d : Entry) → AreClosed es marks → (vars : ℕ) × IsSound vars es → AreMoved es marks places table n → length places ≡ length es + 1 → n < length es → is_marked_at marks (n + 1) ≡ true → new ≡ table ++ moved_entry places (get_or es n d) ∷ [] → new_places ≡ set places (n + 1) (length table + 1) → AreMoved es marks new_places new (n + 1)
+AreMoved-next es marks places new_places table new n d closed sound moved long less marked new_is places_are =
+    let e = get_or es n d in
+    let at : slice_get es n ≡ Some e = slice_get-get_or es n d less in
+    let more = AreMoved-more es marks places table n closed sound moved e at (rw add-one at marked) (omega arith) in
+    let one : n + 1 ≡ suc n = add-one n in
+    subst (λ k. AreMoved es marks new_places new k) (sym one) (subst (λ (xs : List Entry). AreMoved es marks new_places xs (suc n)) (sym new_is) (subst (λ (ps : List ℕ). AreMoved es marks ps (table ++ moved_entry places e ∷ []) (suc n)) (sym (places_are ∙ ap (λ k. set places k (length table + 1)) one)) more))
+
+pub AreMoved-pass : (es : List Entry) (marks : List Bool) (places new_places : List ℕ) (table new : List Entry) (n : ℕ) → AreMoved es marks places table n → is_marked_at marks (n + 1) ≡ false → new ≡ table → new_places ≡ places → AreMoved es marks new_places new (n + 1)
+AreMoved-pass es marks places new_places table new n moved not_marked new_is places_are =
+    let one : n + 1 ≡ suc n = add-one n in
+    subst (λ k. AreMoved es marks new_places new k) (sym one) (subst (λ (xs : List Entry). AreMoved es marks new_places xs (suc n)) (sym new_is) (subst (λ (ps : List ℕ). AreMoved es marks ps table (suc n)) (sym places_are) (AreMoved-skip es marks places table n (rw add-one at not_marked) moved)))

@@ -1,0 +1,7 @@
+use Rattle.bdd_store.specs.Renumbering.{AreMoved}
+use Rattle.bdd_store.proofs.sweep.fill.Given as goal
+
+abbrev pub invariant-loop-position : goal.invariant-loop-position
+invariant-loop-position l = record {
+  moved : AreMoved l.entries l.marks l.places l.table.keys l.position;
+}
