@@ -17,4 +17,5 @@ mod sizes;
 mod unrolling;
 
 pub use fault::UnrollFault;
+pub use sizes::unrolled_size;
 pub use unrolling::unroll;

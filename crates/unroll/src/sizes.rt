@@ -77,8 +77,11 @@ pub(crate) fn has_loop(net: &Netlist, blocks: &Blocks) -> bool
     false
 }
 
-/// How many gates and latches the unrolled netlist has.
-pub(crate) fn unrolled_size(net: &Netlist, blocks: &Blocks, sweeps: &SweepCounts) -> u64
+/// How many gates and latches the unrolled netlist has, also where these are too many for `unroll`. No memory is
+/// taken.
+///
+/// The condition is that the blocks are the netlist's, and that there is a number for each.
+pub fn unrolled_size(net: &Netlist, blocks: &Blocks, sweeps: &SweepCounts) -> u64
     requires blocks { AreBlocksOf net.now blocks.now }
     requires sweeps { length sweeps.now.per_block ≡ length blocks.now.list }
     ensures size { result ≡ size_of net.now (in_one_loop blocks.now) (sweeps_of blocks.now sweeps.now) }

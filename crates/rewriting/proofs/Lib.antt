@@ -1,0 +1,4 @@
+mod AgreeLemmas
+mod NeededLemmas
+mod CoverLemmas
+mod RewrittenLemmas

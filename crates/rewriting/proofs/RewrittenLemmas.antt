@@ -1,0 +1,116 @@
+-- What is proved of the rewritten netlist.
+use Rattle.std.proofs.Common.{◌≡◌, ℕ, ◌+◌, ◌≤◌, true, Bool, List, length, sym, ap, ◌∙◌, subst, arith}
+use Rattle.std.proofs.lemmas.List.{length-map}
+use Rattle.cyc_base.specs.declared.trit.Trit.{Trit}
+use Rattle.cyc_base.specs.Values.{bits}
+use Rattle.netlist.specs.declared.parts.Parts.{Parts}
+use Rattle.netlist.specs.Netlists.{IsNetlist}
+use Rattle.netlist.specs.Walks.{IsLoopFree}
+use Rattle.loops.specs.declared.parts.Blocks.{Blocks}
+use Rattle.loops.specs.declared.parts.Cut.{Cut}
+use Rattle.loops.specs.declared.parts.SweepCounts.{SweepCounts}
+use Rattle.loops.specs.Blocks.{AreBlocksOf}
+use Rattle.loops.specs.Cuts.{IsCutOf, Loops, loops_by, in_one_loop}
+use Rattle.loops.specs.Found.{loops_of}
+use Rattle.loops.specs.Sweeps.{IsCountOfSweeps}
+use Rattle.loops.proofs.Counts.{count_is_of_loops}
+use Rattle.loops.proofs.Existence.{loops_exist}
+use Rattle.loops.proofs.Told.{told_parts}
+use Rattle.isolation.proofs.SettlingLemmas.{loops-are}
+use Rattle.care_sets.specs.Care.{CareSet, IsCareVector}
+use Rattle.refusals.proofs.RefusalLemmas.{length-bits}
+use Rattle.schedules.specs.Settling.{HasSameInterface, Same}
+use Rattle.accepted_runs.specs.Laws.{TellsAsMuch}
+use Rattle.accepted_runs.proofs.SameLemmas.{same_by_fixpoints}
+use Rattle.refusals.specs.declared.observe.Observe.{Observe}
+use Rattle.refusals.specs.Acceptance.{Accepts}
+use Rattle.blif_write.specs.Laws.{HasCovers, ReadsBack}
+use Rattle.blif_write.proofs.ReadingBack.{reads_back}
+use Rattle.unroll.specs.Laws.{AreEnough}
+use Rattle.unroll.specs.Unrolled.{sweeps_of, unrolled, unrolled_size, shift, kept_latch, IsOfLoops}
+use Rattle.unroll.proofs.Opened.{unrolled_is_loop_free}
+use Rattle.unroll.proofs.Telling.{unrolled_has_its_size, unrolled_keeps_interface, unrolled_tells_as_much}
+use Rattle.verdict.specs.Verdicts.{are_care_values, AreSweepsOnCare}
+use Rattle.rewriting.specs.Rewriting.{sweeps_needed, rewritten, rewritten_size, IsRewriting}
+use Rattle.rewriting.specs.Laws.{RewrittenIsLoopFree, RewrittenHasItsSize, RewrittenShowsTheSame}
+use Rattle.rewriting.proofs.AgreeLemmas.{netlists_agree, sizes_agree}
+use Rattle.rewriting.proofs.CoverLemmas.{unrolled_has_covers}
+use Rattle.rewriting.proofs.NeededLemmas.{needed_is_least, care-values}
+
+needed_is_of_loops : (net : Parts) (care : CareSet) → IsOfLoops (loops_of net) (sweeps_needed net care)
+needed_is_of_loops net care =
+    count_is_of_loops net (loops_of net) (loops_exist net) (are_care_values net care) (sweeps_needed net care) (λ a looped. needed_is_least net care a)
+
+pub rewritten_is_loop_free : RewrittenIsLoopFree
+rewritten_is_loop_free net care = unrolled_is_loop_free net (loops_of net) (loops_exist net) (sweeps_needed net care) (needed_is_of_loops net care)
+
+pub rewritten_has_its_size : RewrittenHasItsSize
+rewritten_has_its_size net care = unrolled_has_its_size net (loops_of net) (loops_exist net) (sweeps_needed net care) (needed_is_of_loops net care)
+
+-- its latches are those of the netlist
+pub rewritten_latches : (net : Parts) (care : CareSet) → length (rewritten net care).latches ≡ length net.latches
+rewritten_latches net care = length-map net.latches (kept_latch net (shift net (loops_of net) (sweeps_needed net care)))
+
+same_interface : (net : Parts) (care : CareSet) → HasSameInterface net (rewritten net care)
+same_interface net care =
+    let keeps = unrolled_keeps_interface net (loops_of net) (loops_exist net) (sweeps_needed net care) (needed_is_of_loops net care) in
+    record { inputs = keeps.inputs; latches = keeps.latches; inits = keeps.inits; outputs = keeps.outputs; clock = keeps.clock }
+
+enough_on_care : (net : Parts) (care : CareSet) (v : List Bool) → IsCareVector net care v → AreEnough net (loops_of net) (sweeps_needed net care) (bits v)
+enough_on_care net care v counts = record {
+  width = length-bits v ∙ counts.width;
+  fixed = λ a looped. (needed_is_least net care a).enough (bits v) (care-values net care v counts);
+}
+
+tells_as_much : (net : Parts) (care : CareSet) → TellsAsMuch net (rewritten net care) care
+tells_as_much net care =
+    let at = λ (v : List Bool) (counts : IsCareVector net care v).
+    unrolled_tells_as_much net (loops_of net) (loops_exist net) (sweeps_needed net care) (needed_is_of_loops net care) (bits v) (enough_on_care net care v counts) in
+    record { outputs = λ v counts. (at v counts).outputs; loads = λ v counts. (at v counts).loads }
+
+pub rewritten_shows_the_same : RewrittenShowsTheSame
+rewritten_shows_the_same net care what valid accepts =
+    same_by_fixpoints net (rewritten net care) care what valid accepts (same_interface net care) (tells_as_much net care)
+
+-- what a user has of it
+pub is_rewriting : (net : Parts) (care : CareSet) (what : Observe) (other : Parts) → IsNetlist net → HasCovers net → Accepts net care what →
+    other ≡ rewritten net care → IsNetlist other → rewritten_size net care ≤ 4000000 → IsRewriting net care other
+is_rewriting net care what other valid have accepts is other_valid small = record {
+  is = is;
+  loop_free = subst IsLoopFree (sym is) (rewritten_is_loop_free net care);
+  reads_back = subst ReadsBack (sym is) (reads_back (rewritten net care) (subst IsNetlist is other_valid) (unrolled_has_covers net (loops_of net) (sweeps_needed net care) have) few);
+  same = subst (λ (p : Parts). Same net p care) (sym is) (rewritten_shows_the_same net care what valid accepts);
+}
+  where
+    few : length (rewritten net care).latches + length (rewritten net care).gates ≤ 4000000
+    few = (let size = rewritten_has_its_size net care in omega (arith, size, small))
+
+-- ---- by blocks, a cut and counted sweeps
+
+module _ (net : Parts) (blocks : Blocks) (cut : Cut) (care : CareSet) (counts : SweepCounts) (are : AreBlocksOf net blocks) (cut_is : IsCutOf net cut) (on_care : AreSweepsOnCare net blocks cut care counts) where
+  loops : loops_by blocks cut ≡ loops_of net
+  loops = loops-are net blocks cut are cut_is
+
+  -- two least numbers are one
+  one_least : (l : Loops) (test : List Trit → Bool) (n a b : ℕ) → IsCountOfSweeps net l test n a → IsCountOfSweeps net l test n b → a ≡ b
+  one_least l test n a b first second =
+      let low = first.least b second.enough in
+      let high = second.least a first.enough in
+      omega arith
+
+  counts_are_needed : (n : ℕ) → (loops_of net).same n n ≡ true → sweeps_of blocks counts n ≡ sweeps_needed net care n
+  counts_are_needed n looped =
+      let told = told_parts net blocks are n n (subst (λ (l : Loops). l.same n n ≡ true) (sym loops) looped) in
+      one_least (loops_of net) (are_care_values net care) n (sweeps_of blocks counts n) (sweeps_needed net care n)
+      (subst (λ (l : Loops). IsCountOfSweeps net l (are_care_values net care) n (sweeps_of blocks counts n)) loops (on_care.loops n told.first told.looped))
+      (needed_is_least net care n)
+
+  pub unrolled_is_rewritten : unrolled net (loops_by blocks cut) (sweeps_of blocks counts) ≡ rewritten net care
+  unrolled_is_rewritten =
+      ap (λ (l : Loops). unrolled net l (sweeps_of blocks counts)) loops
+      ∙ netlists_agree net (loops_of net) (loops_exist net) (sweeps_of blocks counts) (sweeps_needed net care) counts_are_needed
+
+  pub size_is_rewritten : unrolled_size net (in_one_loop blocks) (sweeps_of blocks counts) ≡ rewritten_size net care
+  size_is_rewritten =
+      ap (λ (l : Loops). unrolled_size net l.same (sweeps_of blocks counts)) loops
+      ∙ sizes_agree net (loops_of net) (loops_exist net) (sweeps_of blocks counts) (sweeps_needed net care) counts_are_needed

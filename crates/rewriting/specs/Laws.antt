@@ -1,0 +1,32 @@
+-- The laws of rewriting.
+use Rattle.std.specs.Prelude.{◌≡◌, ◌+◌, ℕ, List, length}
+use Rattle.netlist.specs.declared.parts.Parts.{Parts}
+use Rattle.netlist.specs.Netlists.{IsNetlist}
+use Rattle.netlist.specs.Walks.{IsLoopFree}
+use Rattle.loops.specs.Found.{loops_of}
+use Rattle.loops.specs.Sweeps.{IsCountOfSweeps}
+use Rattle.care_sets.specs.Care.{CareSet}
+use Rattle.refusals.specs.declared.observe.Observe.{Observe}
+use Rattle.refusals.specs.Acceptance.{Accepts}
+use Rattle.schedules.specs.Settling.{Same}
+use Rattle.verdict.specs.Verdicts.{are_care_values}
+use Rattle.rewriting.specs.Rewriting.{sweeps_needed, rewritten, rewritten_size}
+
+-- a loop needs the least number of sweeps after which its cut wires stand at the fixpoint on all care vectors
+abbrev pub NeededIsLeast : Type 0
+NeededIsLeast = (net : Parts) (care : CareSet) (n : ℕ) →
+    IsCountOfSweeps net (loops_of net) (are_care_values net care) n (sweeps_needed net care n)
+
+-- the rewritten netlist has no loop
+abbrev pub RewrittenIsLoopFree : Type 0
+RewrittenIsLoopFree = (net : Parts) (care : CareSet) → IsLoopFree (rewritten net care)
+
+-- it has as many gates and latches as its size says
+abbrev pub RewrittenHasItsSize : Type 0
+RewrittenHasItsSize = (net : Parts) (care : CareSet) →
+    length (rewritten net care).gates + length (rewritten net care).latches ≡ rewritten_size net care
+
+-- and of an accepted netlist it shows the same in all runs
+abbrev pub RewrittenShowsTheSame : Type 0
+RewrittenShowsTheSame = (net : Parts) (care : CareSet) (what : Observe) → IsNetlist net → Accepts net care what →
+    Same net (rewritten net care) care

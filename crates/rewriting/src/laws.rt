@@ -1,0 +1,15 @@
+//! The laws of rewriting, each the contract of a function that does nothing.
+
+ghost use Rattle.rewriting.specs.Laws.{NeededIsLeast, RewrittenIsLoopFree, RewrittenHasItsSize, RewrittenShowsTheSame};
+
+/// The sweeps that are counted for a netlist are those that its loops need.
+pub fn needed_sweeps_are_least()
+    ensures { NeededIsLeast }
+{}
+
+/// The rewritten netlist has no loop and its size, and of an accepted netlist it shows the same in all runs.
+pub fn rewriting_keeps_behaviour()
+    ensures loop_free { RewrittenIsLoopFree }
+    ensures size { RewrittenHasItsSize }
+    ensures same { RewrittenShowsTheSame }
+{}
