@@ -1,16 +1,19 @@
 -- The gate that has a name.
-use Rattle.std.proofs.Common.{◌≡◌, ◌≢◌, ℕ, ◌+◌, ◌-◌, ◌<◌, ◌≤◌, Bool, true, false, cond, List, [], ◌++◌, length, map, get_or, position, slice_get, Some, None, refl, sym, ap, ◌∙◌, arith, true≢false, inl, inr, ◌⊎◌}
+use Rattle.std.proofs.Common.{◌≡◌, ◌≢◌, ℕ, ◌+◌, ◌-◌, ◌<◌, ◌≤◌, Bool, true, false, cond, List, [], ◌++◌, length, map, get_or, position, slice_get, Some, None, refl, sym, ap, ◌∙◌, arith, true≢false, inl, inr, ◌⊎◌, subst}
 use Rattle.std.specs.List.{AllPairs, position_or_len, list_any}
 use Rattle.std.specs.Str.{bytes_eq}
 use Rattle.std.proofs.lemmas.Bool.{cases_lt, lt-ltb}
-use Rattle.std.proofs.lemmas.List.{length-append, length-map, get_or-append-add, get_or_default, append_assoc}
+use Rattle.std.proofs.lemmas.List.{length-append, length-map, get_or-append-add, get_or-map, get_or_default, append_assoc}
 use Rattle.std.proofs.lemmas.List.Sums.{position_or_len_is}
+use Rattle.std.proofs.lemmas.List.Elements.{All-get_or}
 use Rattle.std.proofs.lemmas.List.Folds.{list_any_at}
 use Rattle.std.proofs.lemmas.Map.Made.{AllPairs-from_IsDistinct}
-use Rattle.std.proofs.lemmas.Option.{get_or_from_slice_get, slice_get_within}
+use Rattle.std.proofs.lemmas.Option.{get_or_from_slice_get, slice_get_within, slice_get-get_or}
 use Rattle.std.proofs.lemmas.Slice.Eq.{bytes_eq-Decides}
+use Rattle.cyc_base.specs.Names.{IsBlifName}
+use Rattle.netlist.specs.declared.parts.Gate.{Gate}
 use Rattle.netlist.specs.declared.parts.Parts.{Parts}
-use Rattle.netlist.specs.Netlists.{signal_names, IsNetlist}
+use Rattle.netlist.specs.Netlists.{signal_names, gate_at, no_gate, IsNetlist}
 use Rattle.netlist.proofs.Decisions.{found_none}
 use Rattle.sched_text.specs.LineFaults.{gate_number}
 
@@ -102,3 +105,25 @@ gate_absent net name absent =
         by : (t : Bool) → p (get_or xs k []) ≡ t → p (get_or xs k []) ≡ false
         by true e = absurd (true≢false (sym (list_any_at p xs k [] inside e) ∙ none))
         by false e = e
+
+-- a gate is found by its name
+pub gate_of_name : (net : Parts) (n : ℕ) → IsNetlist net → n < length net.gates → gate_number net (gate_at net n).name ≡ Some n
+gate_of_name net n valid inside =
+    let first = length net.inputs + length net.latches in
+    let all : length (gate_names net) ≡ length net.gates = length-map net.gates (λ gate. gate.name) in
+    let here : n < length (gate_names net) = omega (arith, all, inside) in
+    let there : first + n < length (signal_names net) = omega (arith, length-names net, here) in
+    let name : get_or (signal_names net) (first + n) [] ≡ (gate_at net n).name =
+    sym (name_of_gate net n here) ∙ get_or-map (λ (gate : Gate). gate.name) net.gates n no_gate [] inside in
+    sym (gate_found net (gate_at net n).name (first + n) valid (slice_get-get_or (signal_names net) (first + n) [] there ∙ ap (λ w. Some w) name) (omega arith))
+    ∙ ap (λ k. Some k) (let e : first + n - first ≡ n = omega arith in e)
+
+pub gate_named : (net : Parts) (n : ℕ) → IsNetlist net → n < length net.gates → IsBlifName (gate_at net n).name
+gate_named net n valid inside =
+    let first = length net.inputs + length net.latches in
+    let all : length (gate_names net) ≡ length net.gates = length-map net.gates (λ gate. gate.name) in
+    let here : n < length (gate_names net) = omega (arith, all, inside) in
+    let there : first + n < length (signal_names net) = omega (arith, length-names net, here) in
+    let name : get_or (signal_names net) (first + n) [] ≡ (gate_at net n).name =
+    sym (name_of_gate net n here) ∙ get_or-map (λ (gate : Gate). gate.name) net.gates n no_gate [] inside in
+    subst IsBlifName name (All-get_or IsBlifName (signal_names net) (first + n) [] there valid.names)

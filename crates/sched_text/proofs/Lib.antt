@@ -1,7 +1,13 @@
 mod AgeLemmas
+mod FaultlessLemmas
 mod FitLemmas
 mod GateLemmas
+mod NamedLemmas
 mod NumberLemmas
+mod SaidLemmas
 mod ScheduleLemmas
 mod StartLemmas
 mod VectorLemmas
+mod WrittenLines
+mod WrittenNumbers
+mod WrittenTexts

@@ -8,3 +8,6 @@ pub mod Statements
 pub mod Schedules
 pub mod Running
 pub mod Fitting
+pub mod Written
+pub mod Putting
+pub mod ReadingBack

@@ -1,0 +1,95 @@
+-- A written number reads back.
+use Rattle.std.proofs.Common.{◌≡◌, ℕ, ◌+◌, ◌-◌, ◌*◌, ◌/◌, ◌%◌, ◌^◌, ◌<◌, ◌≤◌, Bool, true, false, ◌&&◌, ◌==◌, List, [], ◌∷◌, ◌++◌, length, get_or, All, Some, None, refl, ap, ◌∙◌, arith, inl, inr}
+use Rattle.std.specs.Prelude.{if◌then◌else◌, nat_le, decimal}
+use Rattle.std.specs.List.{list_all}
+use Rattle.std.proofs.lemmas.Bool.{ne_eqb, and_parts, cases_lt}
+use Rattle.std.proofs.lemmas.Bool.Decides.{nat_tests}
+use Rattle.std.proofs.lemmas.List.{get_or_append_left, length-append}
+use Rattle.std.proofs.lemmas.List.Elements.{All-nil, All-cons}
+use Rattle.std.proofs.lemmas.List.Folds.{list_all-append}
+use Rattle.std.proofs.lemmas.Fmt.{decimal_by_steps}
+use Rattle.cyc_base.specs.Names.{IsBlifByte, IsBlifName}
+use Rattle.sched_text.specs.Numbers.{is_digit, with_digits, up_to_most, number}
+use Rattle.sched_text.specs.Putting.{IsSmall}
+
+-- the digits are those of the number, without leading zeros
+pub record IsWritten (n : ℕ) (ds : List ℕ) : Type 0 where
+  pub digits : list_all is_digit ds ≡ true
+  pub value : with_digits 0 ds ≡ n
+  pub filled : 0 < length ds
+  pub leads : 1 ≤ n → 48 < get_or ds 0 0
+  pub one : n < 10 → length ds ≡ 1
+
+digit_is : (d : ℕ) → d < 10 → is_digit (48 + d) ≡ true
+digit_is d small = grind (arith, nat_tests)
+
+digit_bounds : (b : ℕ) → is_digit b ≡ true → (48 ≤ b) × (b ≤ 57)
+digit_bounds b is = (grind (arith, nat_tests), grind (arith, nat_tests))
+
+with_digits-append : (k : ℕ) (ds es : List ℕ) → with_digits k (ds ++ es) ≡ with_digits (with_digits k ds) es
+with_digits-append k [] es = refl
+with_digits-append k (d ∷ ds) es = with_digits-append (k * 10 + (d - 48)) ds es
+
+one_digit : (n : ℕ) → n < 10 → IsWritten n ((48 + n) ∷ [])
+one_digit n small = record {
+  digits = ap (λ t. t && true) (digit_is n small);
+  value = let e : 0 * 10 + (48 + n - 48) ≡ n = omega arith in e;
+  filled = omega arith;
+  leads = λ some. omega (arith, some);
+  one = λ few. refl;
+}
+
+more_digits : (n : ℕ) (ds : List ℕ) → 10 ≤ n → IsWritten (n / 10) ds → IsWritten n (ds ++ ((48 + n % 10) ∷ []))
+more_digits n ds many before =
+    let least : n % 10 < 10 = omega arith in
+    let front : 1 ≤ n / 10 = omega (arith, many) in
+    let filled = before.filled in
+    record {
+      digits =
+          list_all-append is_digit ds ((48 + n % 10) ∷ [])
+          ∙ ap (λ t. t && (is_digit (48 + n % 10) && true)) before.digits
+          ∙ ap (λ t. t && true) (digit_is (n % 10) least);
+      value =
+          with_digits-append 0 ds ((48 + n % 10) ∷ [])
+          ∙ ap (λ k. k * 10 + (48 + n % 10 - 48)) before.value
+          ∙ (let e : n / 10 * 10 + (48 + n % 10 - 48) ≡ n = omega arith in e);
+      filled = let size = length-append ds ((48 + n % 10) ∷ []) in omega (arith, size);
+      leads = λ some. let first : get_or (ds ++ ((48 + n % 10) ∷ [])) 0 0 ≡ get_or ds 0 0 = get_or_append_left ds ((48 + n % 10) ∷ []) 0 0 filled in
+          let high = before.leads front in omega (arith, first, high);
+      one = λ few. absurd (omega (arith, many, few));
+    }
+
+pub decimal_written : (n : ℕ) → n < 2 ^ 64 → IsWritten n (decimal n)
+decimal_written = decimal_by_steps IsWritten one_digit more_digits
+
+most_is : (n : ℕ) (ds : List ℕ) → IsWritten n ds → n ≤ 4294967295 → up_to_most 0 ds ≡ Some n
+most_is n ds is small =
+    let fits : nat_le n 4294967295 ≡ true = grind (arith, nat_tests) in
+    ap (λ (t : Bool). if t && nat_le (with_digits 0 ds) 4294967295 then Some (with_digits 0 ds) else None) is.digits
+    ∙ ap (λ (k : ℕ). if nat_le k 4294967295 then Some k else None) is.value
+    ∙ ap (λ (t : Bool). if t then Some n else None) fits
+
+number_by : (n : ℕ) (ds : List ℕ) → IsWritten n ds → n ≤ 4294967295 → number ds ≡ Some n
+number_by n [] is small = let filled = is.filled in absurd (omega (arith, filled))
+number_by n (b ∷ []) is small = most_is n (b ∷ []) is small
+number_by n (b ∷ c ∷ rest) is small =
+    let many : 10 ≤ n = elim (cases_lt n 10) [ inl few ↦ (let one = is.one few in absurd (omega (arith, one))) | inr many ↦ many ] in
+    let leads : 48 < b = is.leads (omega (arith, many)) in
+    let ne : (b == 48) ≡ false = ne_eqb b 48 (omega (arith, leads)) in
+    ap (λ (t : Bool). if t then None else up_to_most 0 (b ∷ c ∷ rest)) ne ∙ most_is n (b ∷ c ∷ rest) is small
+
+-- a number of 32 bits reads back
+pub number_decimal : (n : ℕ) → IsSmall n → number (decimal n) ≡ Some n
+number_decimal n small = number_by n (decimal n) (decimal_written n (omega (arith, small))) small
+
+digits_named : (ds : List ℕ) → list_all is_digit ds ≡ true → All IsBlifByte ds
+digits_named [] all = All-nil IsBlifByte
+digits_named (d ∷ ds) all =
+    let parts = and_parts (is_digit d) (list_all is_digit ds) all in
+    let bounds = digit_bounds d parts.0 in
+    All-cons IsBlifByte d ds (omega (arith, bounds.0), omega (arith, bounds.1), λ e. omega (arith, bounds.0, e)) (digits_named ds parts.1)
+
+pub decimal_named : (n : ℕ) → IsSmall n → IsBlifName (decimal n)
+decimal_named n small =
+    let is = decimal_written n (omega (arith, small)) in
+    ((λ none. let size : length (decimal n) ≡ 0 = ap length none in let filled = is.filled in omega (arith, size, filled)), digits_named (decimal n) is.digits)

@@ -1,0 +1,61 @@
+-- The lines of a schedule, as they are appended.
+use Rattle.std.proofs.Common.{◌≡◌, ℕ, Bool, List, [], ◌∷◌, ◌++◌, map, refl, ap, ◌∙◌, append-nil}
+use Rattle.std.specs.Prelude.{codes, decimal}
+use Rattle.std.specs.List.{flat_map}
+use Rattle.std.proofs.lemmas.List.Concat.{flat_map-append}
+use Rattle.std.proofs.lemmas.List.Folds.{flat_map-map}
+use Rattle.netlist.specs.declared.parts.Parts.{Parts}
+use Rattle.netlist.specs.Netlists.{gate_at}
+use Rattle.delay_core.specs.declared.plan.PlannedEvent.{PlannedEvent}
+use Rattle.delay_core.specs.declared.plan.RoundPlan.{RoundPlan}
+use Rattle.delay_core.specs.declared.plan.Schedule.{Schedule}
+use Rattle.sched_text.specs.Written.{behind, line_text, bit_byte, bits_words, past_line, start_word, event_line, round_lines, tick_lines, head_lines, text_of, written}
+use Rattle.sched_text.specs.Putting.{bits_text, ages_text, past_text, event_text, round_text, tick_text, ticks_text, head_text}
+
+bytes_are : (bits : List Bool) → map bit_byte bits ≡ bits_text bits
+bytes_are [] = refl
+bytes_are (b ∷ bits) = ap (λ l. bit_byte b ∷ l) (bytes_are bits)
+
+-- bits behind a blank
+pub bits_are : (b : Bool) (bits : List Bool) → flat_map behind (bits_words (b ∷ bits)) ≡ 32 ∷ bits_text (b ∷ bits)
+bits_are b bits = ap (λ l. 32 ∷ l) (append-nil (map bit_byte (b ∷ bits)) ∙ bytes_are (b ∷ bits))
+
+pub window_is : (window : ℕ) → line_text (codes "window" ∷ decimal window ∷ []) ≡ codes "window" ++ ((32 ∷ decimal window) ++ codes "\n")
+window_is window = ap (λ l. codes "window" ++ (l ++ codes "\n")) (append-nil (32 ∷ decimal window))
+
+-- the words of an event's line behind the first
+pub words_are : (name : List ℕ) (ages : List ℕ) → behind name ++ ages_text ages ≡ codes " " ++ (name ++ ages_text ages)
+words_are name ages = refl
+
+pub event_is : (net : Parts) (planned : PlannedEvent) → event_text net planned ≡ codes "e" ++ ((behind (gate_at net planned.event.gate).name ++ ages_text planned.event.ages) ++ codes "\n")
+event_is net planned =
+    ap (λ l. codes "e" ++ ((behind (gate_at net planned.event.gate).name ++ l) ++ codes "\n")) (flat_map-map behind decimal planned.event.ages)
+
+-- ---- the whole text
+
+texts_of : {X : Type 0} (f : X → List (List (List ℕ))) (g : X → List ℕ) (xs : List X) → ((x : X) → text_of (f x) ≡ g x) → text_of (flat_map f xs) ≡ flat_map g xs
+texts_of f g [] same = refl
+texts_of f g (x ∷ xs) same =
+    flat_map-append line_text (f x) (flat_map f xs) ∙ ap (λ l. l ++ text_of (flat_map f xs)) (same x) ∙ ap (λ l. g x ++ l) (texts_of f g xs same)
+
+round_is : (net : Parts) (round : RoundPlan) → text_of (round_lines net round) ≡ round_text net round
+round_is net round = ap (λ l. codes "round\n" ++ l) (flat_map-map line_text (event_line net) round.events)
+
+tick_is : (net : Parts) (rounds : List RoundPlan) → text_of (tick_lines net rounds) ≡ tick_text net rounds
+tick_is net rounds = ap (λ l. codes "tick\n" ++ l) (texts_of (round_lines net) (round_text net) rounds (round_is net))
+
+pub head_is : (schedule : Schedule) → text_of (head_lines schedule) ≡ head_text schedule
+head_is schedule =
+    let window = line_text (codes "window" ∷ decimal schedule.window ∷ []) in
+    let start = line_text (start_word schedule.free ∷ bits_words schedule.latches) in
+    let gates = line_text (codes "gates" ∷ bits_words schedule.gates) in
+    ap (λ l. codes "schedule 2\n" ++ (window ++ l))
+    (flat_map-append line_text (map past_line schedule.past) ((start_word schedule.free ∷ bits_words schedule.latches) ∷ (codes "gates" ∷ bits_words schedule.gates) ∷ [])
+    ∙ ap (λ l. l ++ (start ++ (gates ++ []))) (flat_map-map line_text past_line schedule.past)
+    ∙ ap (λ l. past_text schedule.past ++ (start ++ l)) (append-nil gates))
+
+pub written_is : (net : Parts) (schedule : Schedule) → written net schedule ≡ head_text schedule ++ ticks_text net schedule.ticks
+written_is net schedule =
+    flat_map-append line_text (head_lines schedule) (flat_map (tick_lines net) schedule.ticks)
+    ∙ ap (λ l. l ++ text_of (flat_map (tick_lines net) schedule.ticks)) (head_is schedule)
+    ∙ ap (λ l. head_text schedule ++ l) (texts_of (tick_lines net) (tick_text net) schedule.ticks (tick_is net))

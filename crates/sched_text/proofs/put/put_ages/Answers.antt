@@ -1,0 +1,23 @@
+use Rattle.std.proofs.Common.{arith}
+use Rattle.std.specs.Prelude.{decimal}
+use Rattle.std.proofs.lemmas.List.Elements.{All-more}
+use Rattle.sched_text.specs.Written.{behind}
+use Rattle.sched_text.specs.Putting.{IsSmall}
+use Rattle.cyc_io.proofs.TakenLemmas.{appended_none}
+use Rattle.cyc_io.proofs.ItemLemmas.{appended_copied, appended_in_copied, appended_items}
+use Rattle.sched_text.proofs.put.put_ages.Goals as goal
+
+pub loop-age-init : goal.loop-age-init
+loop-age-init g c = record { text = appended_none _ _ _; small = λ k d inside. absurd (omega (arith, inside)) }
+
+pub loop-age-preserved : goal.loop-age-preserved
+loop-age-preserved g c = record {
+  text = appended_copied (λ age. behind (decimal age)) c.args.ages.now c.loop-age.age-index _ _ _ _ _ _ _ _ _ (omega arith) c.loop-age.invariant.text c.in_ok-put_number.ensures;
+  small = All-more IsSmall c.args.ages.now c.loop-age.age-index 0 (omega arith) c.loop-age.invariant.small (let fits = c.type_inv.ages c.loop-age.age-index in omega (arith, fits));
+}
+
+pub returns-in_err-put_number-clause-text : goal.returns-in_err-put_number-clause-text
+returns-in_err-put_number-clause-text g c = appended_in_copied (λ age. behind (decimal age)) c.args.ages.now c.loop-age.age-index _ _ _ _ _ _ _ _ _ _ (omega arith) c.loop-age.invariant.text c.in_err-put_number.ensures c.from_residual.ensures.0
+
+pub returns-clause-text : goal.returns-clause-text
+returns-clause-text g c = appended_items (λ age. behind (decimal age)) c.args.ages.now c.loop-age.age-index _ _ (omega arith) c.loop-age.invariant.text

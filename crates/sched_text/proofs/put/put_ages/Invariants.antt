@@ -1,0 +1,13 @@
+use Rattle.std.proofs.Common.{take}
+use Rattle.std.specs.Prelude.{All, decimal}
+use Rattle.std.specs.List.{flat_map}
+use Rattle.sched_text.specs.Written.{behind}
+use Rattle.sched_text.specs.Putting.{IsSmall}
+use Rattle.cyc_io.specs.Taken.{IsAppendedWhole, sink_call}
+use Rattle.sched_text.proofs.put.put_ages.Given as goal
+
+abbrev pub invariant-loop-age : goal.invariant-loop-age
+invariant-loop-age g l = record {
+  text : IsAppendedWhole (flat_map (λ age. behind (decimal age)) (take l.age-index l.ages)) (sink_call g.K.Sink.put g.K.Sink.faults l.fn.sink l.sink);
+  small : All IsSmall (take l.age-index l.ages);
+}

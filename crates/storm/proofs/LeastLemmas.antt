@@ -1,0 +1,255 @@
+-- The least completion with a value, found place by place.
+use Rattle.std.proofs.Common.{◌≡◌, ◌≢◌, ◌⊎◌, inl, inr, ◌<◌, ℕ, zero, suc, Bool, true, false, not, cond, ◌&&◌, List, [], ◌∷◌, length, map, get_or, set, refl, ap, sym, ◌∙◌, subst, arith, true≢false, Some, None}
+use Rattle.std.specs.Prelude.{option_map, unwrap_or}
+use Rattle.std.specs.List.{find, list_all}
+use Rattle.std.specs.Option.{option_or}
+use Rattle.std.specs.declared.option.Option.{Option}
+use Rattle.std.proofs.lemmas.List.{set-set}
+use Rattle.std.proofs.lemmas.List.Folds.{find-append}
+use Rattle.std.proofs.lemmas.Bool.{not-true, not_from_false}
+use Rattle.cyc_base.specs.declared.trit.Trit.{Trit}
+use Rattle.cyc_base.specs.declared.trit.Trit.TheVariants.{Zero, One, X}
+use Rattle.cyc_base.specs.Values.{bit, bits, Completes}
+use Rattle.cyc_base.specs.Vectors.{AtMost}
+use Rattle.cover_logic.specs.Extensions.{completions, exact}
+use Rattle.cover_logic.proofs.ExtensionLemmas.{exact_says, exact_from, exact_at_bits, exact_split, passes_above, passes_listed}
+use Rattle.storm.specs.Least.{is, first_where, least_where, IsLeastWhere, AreKnown}
+use Rattle.storm.specs.Plans.{or_zero}
+use Rattle.storm.specs.Laws.{FirstIsLeast}
+
+-- ---- a value is the wanted one, or the other
+
+is_not : (wanted b : Bool) → b ≡ not wanted → is wanted b ≡ false
+is_not true b e = e
+is_not false b e = ap not e
+
+is_not_back : (wanted b : Bool) → is wanted b ≡ false → b ≡ not wanted
+is_not_back true b e = e
+is_not_back false true e = refl
+is_not_back false false e = cc
+
+is_so : (wanted b : Bool) → is wanted b ≡ true → b ≡ wanted
+is_so true b e = e
+is_so false true e = cc
+is_so false false e = refl
+
+is_so_back : (wanted b : Bool) → b ≡ wanted → is wanted b ≡ true
+is_so_back true b e = e
+is_so_back false b e = ap not e
+
+other_is : (wanted b : Bool) → b ≢ not wanted → is wanted b ≡ true
+other_is true true n = refl
+other_is true false n = absurd (n refl)
+other_is false true n = absurd (n refl)
+other_is false false n = refl
+
+-- ---- the first that passes a test
+
+find-map : {A B : Type 0} (p : B → Bool) (g : A → B) (xs : List A) → find p (map g xs) ≡ option_map g (find (λ x. p (g x)) xs)
+find-map p g [] = refl
+find-map p g (x ∷ xs) = by (p (g x)) (find-map p g xs)
+  where
+    by : (t : Bool) → find p (map g xs) ≡ option_map g (find (λ y. p (g y)) xs) → cond t (Some (g x)) (find p (map g xs)) ≡ option_map g (cond t (Some x) (find (λ y. p (g y)) xs))
+    by true rest = refl
+    by false rest = rest
+
+map_or : {A B : Type 0} (g : A → B) (a b : Option A) → option_map g (option_or a b) ≡ option_or (option_map g a) (option_map g b)
+map_or g (Some x) b = refl
+map_or g None b = refl
+
+none_found : {A : Type 0} (p : A → Bool) (xs : List A) → list_all (λ x. not (p x)) xs ≡ true → find p xs ≡ None
+none_found p [] all = refl
+none_found p (x ∷ xs) all = by (p x) (none_found p xs) all
+  where
+    by : (t : Bool) → (list_all (λ y. not (p y)) xs ≡ true → find p xs ≡ None) → (not t && list_all (λ y. not (p y)) xs) ≡ true → cond t (Some x) (find p xs) ≡ None
+    by true rest all = cc
+    by false rest all = rest all
+
+all_fail : {A : Type 0} (p : A → Bool) (xs : List A) → find p xs ≡ None → list_all (λ x. not (p x)) xs ≡ true
+all_fail p [] none = refl
+all_fail p (x ∷ xs) none = by (p x) (all_fail p xs) none
+  where
+    by : (t : Bool) → (find p xs ≡ None → list_all (λ y. not (p y)) xs ≡ true) → cond t (Some x) (find p xs) ≡ None → (not t && list_all (λ y. not (p y)) xs) ≡ true
+    by true rest none = cc
+    by false rest none = rest none
+
+-- no completion passes where none is found
+none_above : (p : List Bool → Bool) (ts : List Trit) → find p (completions ts) ≡ None → (bs : List Bool) → Completes ts bs → p bs ≡ false
+none_above p ts none bs above = not-true (p bs) (passes_above (λ cs. not (p cs)) ts (all_fail p (completions ts) none) bs above)
+
+-- where a place is X, those with 0 there come first
+find_split : (p : List Bool → Bool) (ts : List Trit) (n : ℕ) → AreKnown ts n → n < length ts → get_or ts n X ≡ X
+    → find p (completions ts) ≡ option_or (find p (completions (set ts n Zero))) (find p (completions (set ts n One)))
+find_split p [] n known l x = absurd (omega arith)
+find_split p (X ∷ ts) zero known l x = find-append p (map (λ bs. false ∷ bs) (completions ts)) (map (λ bs. true ∷ bs) (completions ts))
+find_split p (Zero ∷ ts) zero known l x = cc
+find_split p (One ∷ ts) zero known l x = cc
+find_split p (X ∷ ts) (suc n) known l x = absurd (known 0 (omega arith) refl)
+find_split p (Zero ∷ ts) (suc n) known l x =
+    find-map p (λ bs. false ∷ bs) (completions ts)
+    ∙ ap (option_map (λ bs. false ∷ bs)) (find_split (λ bs. p (false ∷ bs)) ts n (λ i m. known (suc i) (omega arith)) (omega arith) x)
+    ∙ map_or (λ bs. false ∷ bs) (find (λ bs. p (false ∷ bs)) (completions (set ts n Zero))) (find (λ bs. p (false ∷ bs)) (completions (set ts n One)))
+    ∙ ap (λ o. option_or o (option_map (λ bs. false ∷ bs) (find (λ bs. p (false ∷ bs)) (completions (set ts n One))))) (sym (find-map p (λ bs. false ∷ bs) (completions (set ts n Zero))))
+    ∙ ap (option_or (find p (map (λ bs. false ∷ bs) (completions (set ts n Zero))))) (sym (find-map p (λ bs. false ∷ bs) (completions (set ts n One))))
+find_split p (One ∷ ts) (suc n) known l x =
+    find-map p (λ bs. true ∷ bs) (completions ts)
+    ∙ ap (option_map (λ bs. true ∷ bs)) (find_split (λ bs. p (true ∷ bs)) ts n (λ i m. known (suc i) (omega arith)) (omega arith) x)
+    ∙ map_or (λ bs. true ∷ bs) (find (λ bs. p (true ∷ bs)) (completions (set ts n Zero))) (find (λ bs. p (true ∷ bs)) (completions (set ts n One)))
+    ∙ ap (λ o. option_or o (option_map (λ bs. true ∷ bs) (find (λ bs. p (true ∷ bs)) (completions (set ts n One))))) (sym (find-map p (λ bs. true ∷ bs) (completions (set ts n Zero))))
+    ∙ ap (option_or (find p (map (λ bs. true ∷ bs) (completions (set ts n Zero))))) (sym (find-map p (λ bs. true ∷ bs) (completions (set ts n One))))
+
+-- ---- a value that is possible
+
+none_where : (f : List Bool → Bool) (wanted : Bool) (ts : List Trit) → exact f ts ≡ bit (not wanted) → first_where f wanted ts ≡ None
+none_where f wanted ts out =
+    none_found (λ bs. is wanted (f bs)) (completions ts)
+    (passes_listed (λ bs. not (is wanted (f bs))) ts (λ bs above. not_from_false (is wanted (f bs)) (is_not wanted (f bs) (exact_says f ts (not wanted) out bs above))))
+
+some_is : {A : Type 0} (o : Option A) → o ≢ None → (x : A) × (o ≡ Some x)
+some_is None n = absurd (n refl)
+some_is (Some x) n = (x, refl)
+
+-- there is a first completion with a value that isn't excluded
+pub found_where : (f : List Bool → Bool) (wanted : Bool) (ts : List Trit) → exact f ts ≢ bit (not wanted) → (bs : List Bool) × (first_where f wanted ts ≡ Some bs)
+found_where f wanted ts possible =
+    some_is (first_where f wanted ts)
+    (λ none. possible (exact_from f ts (not wanted) (λ bs above. is_not_back wanted (f bs) (none_above (λ cs. is wanted (f cs)) ts none bs above))))
+
+module _ (f : List Bool → Bool) (wanted : Bool) (ts : List Trit) (n : ℕ) (known : AreKnown ts n) (inside : n < length ts) (unknown : get_or ts n X ≡ X) where
+  -- 0 is kept where the value is possible with it
+  pub zero_kept : exact f (set ts n Zero) ≢ bit (not wanted) → least_where f wanted (set ts n Zero) ≡ least_where f wanted ts
+  zero_kept possible =
+      let (bs, found) = found_where f wanted (set ts n Zero) possible in
+      ap (λ o. unwrap_or o []) (found ∙ sym (find_split (λ cs. is wanted (f cs)) ts n known inside unknown ∙ ap (λ o. option_or o (first_where f wanted (set ts n One))) found))
+
+  -- else it is 1
+  pub one_taken : exact f (set ts n Zero) ≡ bit (not wanted) → least_where f wanted (set (set ts n Zero) n One) ≡ least_where f wanted ts
+  one_taken out =
+      ap (least_where f wanted) (set-set ts n Zero One)
+      ∙ ap (λ o. unwrap_or o []) (sym (find_split (λ cs. is wanted (f cs)) ts n known inside unknown ∙ ap (λ o. option_or o (first_where f wanted (set ts n One))) (none_where f wanted (set ts n Zero) out)))
+
+  pub one_possible : exact f ts ≢ bit (not wanted) → exact f (set ts n Zero) ≡ bit (not wanted) → exact f (set (set ts n Zero) n One) ≢ bit (not wanted)
+  one_possible possible out both =
+      possible ((exact_split f ts n (not wanted) unknown).1 (out, ap (exact f) (sym (set-set ts n Zero One)) ∙ both))
+
+-- ---- all values are known
+
+pub known_are_bits : (ts : List Trit) → AreKnown ts (length ts) → ts ≡ bits (map or_zero ts)
+known_are_bits [] known = refl
+known_are_bits (X ∷ ts) known = absurd (known 0 (omega arith) refl)
+known_are_bits (Zero ∷ ts) known = ap (λ rest. Zero ∷ rest) (known_are_bits ts (λ i l. known (suc i) (omega arith)))
+known_are_bits (One ∷ ts) known = ap (λ rest. One ∷ rest) (known_are_bits ts (λ i l. known (suc i) (omega arith)))
+
+completions_of_bits : (bs : List Bool) → completions (bits bs) ≡ bs ∷ []
+completions_of_bits [] = refl
+completions_of_bits (false ∷ bs) = ap (map (λ cs. false ∷ cs)) (completions_of_bits bs)
+completions_of_bits (true ∷ bs) = ap (map (λ cs. true ∷ cs)) (completions_of_bits bs)
+
+pub least_of_bits : (f : List Bool → Bool) (wanted : Bool) (bs : List Bool) → exact f (bits bs) ≢ bit (not wanted) → least_where f wanted (bits bs) ≡ bs
+least_of_bits f wanted bs possible =
+    let passes : is wanted (f bs) ≡ true = other_is wanted (f bs) (λ e. possible (exact_at_bits f bs ∙ ap bit e)) in
+    ap (λ all. unwrap_or (find (λ cs. is wanted (f cs)) all) []) (completions_of_bits bs)
+    ∙ ap (λ (t : Bool). unwrap_or (cond t (Some bs) None) []) passes
+
+-- so they are the least completion
+pub least_is_known : (f : List Bool → Bool) (wanted : Bool) (ts : List Trit) → AreKnown ts (length ts) → exact f ts ≢ bit (not wanted) → least_where f wanted ts ≡ map or_zero ts
+least_is_known f wanted ts known possible =
+    let are = known_are_bits ts known in
+    ap (least_where f wanted) are ∙ least_of_bits f wanted (map or_zero ts) (λ e. possible (ap (exact f) are ∙ e))
+
+-- ---- the first completion is the least
+
+abbrev IsFirst : (List Bool → Bool) → List Trit → List Bool → Type 0
+IsFirst p ts bs = Completes ts bs × (p bs ≡ true) × ((other : List Bool) → Completes ts other → p other ≡ true → AtMost bs other)
+
+mapped_some : {A B : Type 0} (g : A → B) (o : Option A) (y : B) → option_map g o ≡ Some y → (x : A) × (o ≡ Some x) × (g x ≡ y)
+mapped_some g None y e = cc
+mapped_some g (Some x) y e = (x, refl, (let P : Some (g x) ≡ Some y = e in cc))
+
+or_some : {A : Type 0} (a b : Option A) (y : A) → option_or a b ≡ Some y → (a ≡ Some y) ⊎ ((a ≡ None) × (b ≡ Some y))
+or_some (Some x) b y e = inl e
+or_some None b y e = inr (refl, e)
+
+test_some : {A : Type 0} (t : Bool) (x y : A) → cond t (Some x) None ≡ Some y → (x ≡ y) × (t ≡ true)
+test_some true x y e = ((let P : Some x ≡ Some y = e in cc), refl)
+test_some false x y e = cc
+
+pub first_is_least : (p : List Bool → Bool) (ts : List Trit) (bs : List Bool) → find p (completions ts) ≡ Some bs → IsFirst p ts bs
+first_is_least p [] bs e =
+    let (same, passes) = test_some (p []) [] bs e in
+    subst (λ cs. IsFirst p [] cs) same (tt, passes, λ other above ok. tt)
+first_is_least p (Zero ∷ ts) bs e =
+    let (cs, found, same) = mapped_some (λ cs. false ∷ cs) (find (λ cs. p (false ∷ cs)) (completions ts)) bs (sym (find-map p (λ cs. false ∷ cs) (completions ts)) ∙ e) in
+    let rest = first_is_least (λ cs. p (false ∷ cs)) ts cs found in
+    subst (λ ds. IsFirst p (Zero ∷ ts) ds) same ((refl, rest.0), rest.1, below cs rest.2)
+  where
+    below : (cs : List Bool) → ((other : List Bool) → Completes ts other → p (false ∷ other) ≡ true → AtMost cs other) → (other : List Bool) → Completes (Zero ∷ ts) other → p other ≡ true → AtMost (false ∷ cs) other
+    below cs h [] above ok = absurd above
+    below cs h (false ∷ other) above ok = h other above.1 ok
+    below cs h (true ∷ other) above ok = let e = above.0 in cc
+first_is_least p (One ∷ ts) bs e =
+    let (cs, found, same) = mapped_some (λ cs. true ∷ cs) (find (λ cs. p (true ∷ cs)) (completions ts)) bs (sym (find-map p (λ cs. true ∷ cs) (completions ts)) ∙ e) in
+    let rest = first_is_least (λ cs. p (true ∷ cs)) ts cs found in
+    subst (λ ds. IsFirst p (One ∷ ts) ds) same ((refl, rest.0), rest.1, below cs rest.2)
+  where
+    below : (cs : List Bool) → ((other : List Bool) → Completes ts other → p (true ∷ other) ≡ true → AtMost cs other) → (other : List Bool) → Completes (One ∷ ts) other → p other ≡ true → AtMost (true ∷ cs) other
+    below cs h [] above ok = absurd above
+    below cs h (true ∷ other) above ok = h other above.1 ok
+    below cs h (false ∷ other) above ok = let e = above.0 in cc
+first_is_least p (X ∷ ts) bs e =
+    by (first_is_least (λ cs. p (false ∷ cs)) ts) (first_is_least (λ cs. p (true ∷ cs)) ts)
+    (or_some (option_map (λ cs. false ∷ cs) low) (option_map (λ cs. true ∷ cs) high) bs split)
+  where
+    low : Option (List Bool)
+    low = find (λ cs. p (false ∷ cs)) (completions ts)
+
+    high : Option (List Bool)
+    high = find (λ cs. p (true ∷ cs)) (completions ts)
+
+    split : option_or (option_map (λ cs. false ∷ cs) low) (option_map (λ cs. true ∷ cs) high) ≡ Some bs
+    split =
+        sym (find-append p (map (λ cs. false ∷ cs) (completions ts)) (map (λ cs. true ∷ cs) (completions ts))
+        ∙ ap (λ o. option_or o (find p (map (λ cs. true ∷ cs) (completions ts)))) (find-map p (λ cs. false ∷ cs) (completions ts))
+        ∙ ap (option_or (option_map (λ cs. false ∷ cs) low)) (find-map p (λ cs. true ∷ cs) (completions ts)))
+        ∙ e
+
+    unmapped : {A B : Type 0} (g : A → B) (o : Option A) → option_map g o ≡ None → o ≡ None
+    unmapped g None n = refl
+    unmapped g (Some x) n = cc
+
+    below_low : (cs : List Bool) → ((other : List Bool) → Completes ts other → p (false ∷ other) ≡ true → AtMost cs other) → (other : List Bool) → Completes (X ∷ ts) other → p other ≡ true → AtMost (false ∷ cs) other
+    below_low cs h [] above ok = absurd above
+    below_low cs h (true ∷ other) above ok = tt
+    below_low cs h (false ∷ other) above ok = h other above.1 ok
+
+    below_high : (cs : List Bool) → low ≡ None → ((other : List Bool) → Completes ts other → p (true ∷ other) ≡ true → AtMost cs other) → (other : List Bool) → Completes (X ∷ ts) other → p other ≡ true → AtMost (true ∷ cs) other
+    below_high cs none h [] above ok = absurd above
+    below_high cs none h (true ∷ other) above ok = h other above.1 ok
+    below_high cs none h (false ∷ other) above ok = absurd (true≢false (sym ok ∙ none_above (λ cs. p (false ∷ cs)) ts none other above.1))
+
+    by : ((cs : List Bool) → low ≡ Some cs → IsFirst (λ ds. p (false ∷ ds)) ts cs) → ((cs : List Bool) → high ≡ Some cs → IsFirst (λ ds. p (true ∷ ds)) ts cs)
+        → (option_map (λ cs. false ∷ cs) low ≡ Some bs) ⊎ ((option_map (λ cs. false ∷ cs) low ≡ None) × (option_map (λ cs. true ∷ cs) high ≡ Some bs)) → IsFirst p (X ∷ ts) bs
+    by lows highs (inl found) =
+        let (cs, there, same) = mapped_some (λ cs. false ∷ cs) low bs found in
+        let rest = lows cs there in
+        subst (λ ds. IsFirst p (X ∷ ts) ds) same ((tt, rest.0), rest.1, below_low cs rest.2)
+    by lows highs (inr found) =
+        let none = unmapped (λ cs. false ∷ cs) low found.0 in
+        let (cs, there, same) = mapped_some (λ cs. true ∷ cs) high bs found.1 in
+        let rest = highs cs there in
+        subst (λ ds. IsFirst p (X ∷ ts) ds) same ((tt, rest.0), rest.1, below_high cs none rest.2)
+
+pub first_where_is_least : FirstIsLeast
+first_where_is_least f wanted ts bs found =
+    let (above, passes, below) = first_is_least (λ cs. is wanted (f cs)) ts bs found in
+    record {
+      above = above;
+      value = is_so wanted (f bs) passes;
+      least = λ other completes same. below other completes (is_so_back wanted (f other) same);
+    }
+
+-- a possible value has a least completion
+pub least_is_least : (f : List Bool → Bool) (wanted : Bool) (ts : List Trit) → exact f ts ≢ bit (not wanted) → IsLeastWhere f wanted ts (least_where f wanted ts)
+least_is_least f wanted ts possible =
+    let (bs, found) = found_where f wanted ts possible in
+    subst (λ cs. IsLeastWhere f wanted ts cs) (sym (ap (λ o. unwrap_or o []) found)) (first_where_is_least f wanted ts bs found)

@@ -1,0 +1,11 @@
+use Rattle.std.proofs.Common.{length, ap, ◌∙◌}
+use Rattle.storm.proofs.PlanLemmas.{low_count, both_halves}
+use Rattle.storm.proofs.round.round_of.Goals as goal
+
+pub push_high_events-requires-clause-first : goal.push_high_events-requires-clause-first
+push_high_events-requires-clause-first c =
+    ap length c.in_ok-events.ensures ∙ low_count c.args.net.now c.args.plan.now c.args.back (length c.args.net.now.gates)
+
+pub returns : goal.returns
+returns c =
+    both_halves c.args.net.now c.args.plan.now c.args.back c.in_ok-events.events.items c.of.result c.in_ok-events.ensures (c.of.ensures ∙ c.in_ok-push_high_events.ensures)

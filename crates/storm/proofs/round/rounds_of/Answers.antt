@@ -1,0 +1,15 @@
+use Rattle.std.proofs.Common.{arith, ap, sym, ◌∙◌}
+use Rattle.storm.specs.Storms.{storm_round, nth_round}
+use Rattle.storm.proofs.PlanLemmas.{one_more, few_back}
+use Rattle.storm.proofs.round.rounds_of.Goals as goal
+
+pub round_of-requires-clause-back : goal.round_of-requires-clause-back
+round_of-requires-clause-back c =
+    let is = c.zeros_back.ensures c.args.plan.now (sym c.requires.shaking) in
+    let few = few_back c.args.net.now c.args.plan.now c.loop-round.round c.requires.fits in
+    omega arith
+
+pub loop-round-preserved : goal.loop-round-preserved
+loop-round-preserved c =
+    one_more (nth_round c.args.net.now c.args.plan.now) c.loop-round.round c.loop-round.list.items _ _ c.in_ok-push.ensures.items c.loop-round.invariant
+    (c.in_ok-round_of.ensures ∙ ap (storm_round c.args.net.now c.args.plan.now) (c.zeros_back.ensures c.args.plan.now (sym c.requires.shaking)))

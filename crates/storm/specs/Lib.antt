@@ -1,0 +1,5 @@
+pub mod Least
+pub mod Plans
+pub mod Storms
+pub mod Building
+pub mod Laws

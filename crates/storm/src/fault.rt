@@ -1,0 +1,31 @@
+ghost use Rattle.std.specs.Prelude.{◌≡◌};
+ghost use Rattle.storm.specs.declared.fault.StormFault.TheVariants as storm_faults;
+
+use std::alloc::{AllocError, AllocFailed};
+use thiserror::Error;
+
+/// Why there is no schedule.
+#[derive(Clone, Copy, Debug, PartialEq, Eq, Error)]
+pub enum StormFault {
+    /// It would have over 4,000,000 events: so many, or 2^64 - 1 where there are more.
+    #[error("the schedule would have {events} events")]
+    TooLarge { events: u64 },
+    #[error("no memory")]
+    Memory,
+}
+
+impl From<AllocError> for StormFault {
+    ghost from_gives = { λ _ e. e ≡ storm_faults.Memory };
+
+    fn from(_e: AllocError) -> StormFault {
+        StormFault::Memory
+    }
+}
+
+impl<T: Drop> From<AllocFailed<T>> for StormFault {
+    ghost from_gives = { λ _ e. e ≡ storm_faults.Memory };
+
+    fn from(_e: AllocFailed<T>) -> StormFault {
+        StormFault::Memory
+    }
+}

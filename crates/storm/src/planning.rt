@@ -1,0 +1,158 @@
+ghost use Rattle.std.specs.Prelude.{◌≡◌, ◌<◌, ◌+◌, length, map, All, IfOk};
+ghost use Rattle.std.specs.List.{list_any};
+ghost use Rattle.cyc_base.specs.Values.{bits};
+ghost use Rattle.netlist.specs.Netlists.{count};
+ghost use Rattle.netlist.specs.Fixpoint.{wire};
+ghost use Rattle.storm.specs.Building.{AreFixed};
+ghost use Rattle.storm.specs.Plans.{is_unknown, or_zero, is_shaking, rest_value, pin_values, each_gate, plan_at, storm_plan};
+
+use crate::least::least_completion;
+use cyc_base::{Bits, Items, Sig, Trit};
+use netlist::Netlist;
+use std::alloc::{AllocError, Global};
+use ternary_run::settle;
+
+/// What a storm needs of a vector. Each list has an entry for each gate, in flat order.
+#[derive(Debug, Drop)]
+pub struct StormPlan {
+    /// The gates that the fixpoint of the vector leaves unknown.
+    pub shaking: Bits,
+    /// The value of each other gate in the fixpoint, and false for these.
+    pub rest: Bits,
+    /// The least values of a shaking gate's pins, above those of their signals in the fixpoint, at which its cover is
+    /// 0; and none for the other gates.
+    pub low: Items<Bits>,
+    /// The least such values at which its cover is 1.
+    pub high: Items<Bits>,
+}
+
+fn is_unknown(value: Trit) -> bool
+    ensures { result ≡ is_unknown value }
+{
+    matches!(value, Trit::X)
+}
+
+/// A value, or 0 where it is unknown.
+fn or_zero(value: Trit) -> bool
+    ensures { result ≡ or_zero value }
+{
+    matches!(value, Trit::One)
+}
+
+fn value_of(values: &[Trit], s: Sig) -> Trit
+    requires { s.0 < length values.now }
+    ensures { result ≡ wire values.now s }
+{
+    values[s.0 as usize]
+}
+
+fn values_of(alloc: Global, values: &[Trit], signals: &[Sig]) -> Result<Vec<Trit>, AllocError>
+    requires { All (λ s. s.0 < length values.now) signals.now }
+    ensures { IfOk result (λ list. list.items ≡ map (wire values.now) signals.now) }
+{
+    signals.iter().map(|s| value_of(values, *s)).collect(alloc)
+}
+
+fn shaking_gates(alloc: Global, net: &Netlist, values: &[Trit]) -> Result<Bits, AllocError>
+    requires { length values.now ≡ count net.now }
+    ensures { IfOk result (λ list. list ≡ each_gate net.now (is_shaking net.now values.now)) }
+{
+    let mut shaking = Vec::with_capacity(alloc, net.gates() as usize)?;
+    for number in 0..net.gates() {
+        shaking.push(is_unknown(value_of(values, net.gate_sig(number))))?;
+    }
+    Ok(Bits::of(shaking))
+}
+
+fn rest_values(alloc: Global, net: &Netlist, values: &[Trit]) -> Result<Bits, AllocError>
+    requires { length values.now ≡ count net.now }
+    ensures { IfOk result (λ list. list ≡ each_gate net.now (rest_value net.now values.now)) }
+{
+    let mut rest = Vec::with_capacity(alloc, net.gates() as usize)?;
+    for number in 0..net.gates() {
+        rest.push(or_zero(value_of(values, net.gate_sig(number))))?;
+    }
+    Ok(Bits::of(rest))
+}
+
+/// The least values of a gate's pins at which its cover is 0, or 1, where the gate is unknown.
+fn pin_values_of(
+    alloc: Global,
+    net: &Netlist,
+    values: &[Trit],
+    wanted: bool,
+    number: u32,
+) -> Result<Bits, AllocError>
+    requires gate { number < length net.now.gates }
+    requires fixed { AreFixed net.now values.now }
+    ensures { IfOk result (λ list. list ≡ pin_values net.now values.now wanted number) }
+{
+    if !is_unknown(value_of(values, net.gate_sig(number))) {
+        return Ok(Bits::of(Vec::new(alloc)));
+    }
+    let gate = net.gate(number);
+    let pins = values_of(alloc, values, gate.pins.items())?;
+    least_completion(alloc, &gate.cover, &pins, wanted)
+}
+
+fn all_pin_values(
+    alloc: Global,
+    net: &Netlist,
+    values: &[Trit],
+    wanted: bool,
+) -> Result<Items<Bits>, AllocError>
+    requires { AreFixed net.now values.now }
+    ensures { IfOk result (λ list. list ≡ each_gate net.now (pin_values net.now values.now wanted)) }
+{
+    let mut list = Vec::with_capacity(alloc, net.gates() as usize)?;
+    for number in 0..net.gates() {
+        list.push(pin_values_of(alloc, net, values, wanted, number)?)?;
+    }
+    Ok(Items::of(list))
+}
+
+fn any_shakes(shaking: &[bool]) -> bool
+    ensures { result ≡ list_any (λ shakes. shakes) shaking.now }
+{
+    shaking.iter().any(|shakes| *shakes)
+}
+
+/// A vector as ternary values.
+fn trits_of(alloc: Global, v: &[bool]) -> Result<Vec<Trit>, AllocError>
+    ensures { IfOk result (λ list. list.items ≡ bits v.now) }
+{
+    v.iter().map(|b| Trit::of(*b)).collect(alloc)
+}
+
+/// The plan where these are the values of all signals in the fixpoint.
+fn plan_of(alloc: Global, net: &Netlist, values: &[Trit]) -> Result<StormPlan, AllocError>
+    requires { AreFixed net.now values.now }
+    ensures { IfOk result (λ plan. plan ≡ plan_at net.now values.now) }
+{
+    let shaking = shaking_gates(alloc, net, values)?;
+    let rest = rest_values(alloc, net, values)?;
+    let low = all_pin_values(alloc, net, values, false)?;
+    let high = all_pin_values(alloc, net, values, true)?;
+    Ok(StormPlan {
+        shaking,
+        rest,
+        low,
+        high,
+    })
+}
+
+/// The plan of a storm for a vector, one value for each input and latch: `None` exactly where the fixpoint of the
+/// vector leaves no gate unknown.
+pub fn plan(alloc: Global, net: &Netlist, v: &[bool]) -> Result<Option<StormPlan>, AllocError>
+    requires { length v.now ≡ length net.now.inputs + length net.now.latches }
+    ensures { IfOk result (λ plan. plan ≡ storm_plan net.now v.now) }
+{
+    let given = trits_of(alloc, v)?;
+    let values = settle(alloc, net, &given)?;
+    let plan = plan_of(alloc, net, &values)?;
+    if any_shakes(plan.shaking.items()) {
+        Ok(Some(plan))
+    } else {
+        Ok(None)
+    }
+}
