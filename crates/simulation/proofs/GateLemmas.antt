@@ -1,0 +1,110 @@
+-- A gate outside loops is settled by its cover alone.
+use Rattle.std.proofs.Common.{◌≡◌, ◌≢◌, inl, inr, ℕ, ◌+◌, ◌<◌, ◌≤◌, Bool, true, false, List, length, set, ap, sym, ◌∙◌, arith, Contains, true≢false}
+use Rattle.std.proofs.lemmas.Bool.{cases_lt, cases_eq}
+use Rattle.std.proofs.lemmas.List.{get_or-set_same, get_or-set_other, length-set}
+use Rattle.cyc_base.specs.declared.sig.Sig.{Sig}
+use Rattle.cyc_base.specs.declared.trit.Trit.{Trit}
+use Rattle.cyc_base.specs.declared.trit.Trit.TheVariants.{X}
+use Rattle.netlist.specs.declared.parts.Parts.{Parts}
+use Rattle.netlist.specs.Netlists.{IsNetlist, count, gate_at, gate_sig}
+use Rattle.netlist.specs.Fixpoint.{wire, gate_value, fix, fix_gates}
+use Rattle.netlist.specs.Walks.{Feeds}
+use Rattle.loops.specs.declared.parts.Blocks.{Blocks}
+use Rattle.loops.specs.Blocks.{AreBlocksOf, block_at, home_of}
+use Rattle.loops.proofs.Told.{other_blocks_are_single}
+use Rattle.loops.proofs.Walks.{leads-step}
+use Rattle.simulation.specs.Standing.{AreKept, AreSettled, vector_of}
+use Rattle.simulation.proofs.PinLemmas.{value_same, signal_cases, pin_within, pin-before, wire-input, fix-gate, length-vector, wire-vector}
+use Rattle.simulation.proofs.BlockLemmas.{AreAtFix, pin_at_fix}
+use Rattle.simulation.proofs.LoadLemmas.{vector-set}
+
+-- settled blocks, said with the vector apart
+pub at_fix : (net : Parts) (is : IsNetlist net) (blocks : Blocks) (are : AreBlocksOf net blocks) (values : List Trit) (place : ℕ) → AreSettled net blocks values place → AreAtFix net is blocks are (vector_of net values) values place
+at_fix net is blocks are values place settled = record {
+  inputs = λ i l. wire-vector net values i l;
+  gates = λ n l h. settled.each n l h;
+}
+
+-- a gate of a later block changes none of them
+pub settled_set : (net : Parts) (blocks : Blocks) (values : List Trit) (place g : ℕ) (x : Trit) → place ≤ home_of blocks g → AreSettled net blocks values place → AreSettled net blocks (set values (gate_sig net g).0 x) place
+settled_set net blocks values place g x late settled = record {
+  each = λ n l h.
+      let other : (gate_sig net n).0 ≢ (gate_sig net g).0 =
+      λ same. let e : n ≡ g = omega arith in let k : home_of blocks n ≡ home_of blocks g = ap (home_of blocks) e in omega arith in
+      get_or-set_other values (gate_sig net g).0 (gate_sig net n).0 x X other
+      ∙ settled.each n l h
+      ∙ ap (λ (v : List Trit). wire (fix net v) (gate_sig net n)) (sym (vector-set net values g x));
+}
+
+module _ (net : Parts) (is : IsNetlist net) (blocks : Blocks) (are : AreBlocksOf net blocks) where
+  -- a block that is settled stands
+  pub cleared : (values : List Trit) (due : List Bool) (place : ℕ) → AreKept net blocks values due → AreSettled net blocks values (place + 1) → AreKept net blocks values (set due place false)
+  cleared values due place kept settled =
+      let wide = length-vector net values kept.width in
+      record {
+        width = kept.width;
+        flags = length-set due place false ∙ kept.flags;
+        stand = λ q e.
+            elim (cases_eq q place) [
+              | inl here ↦ record {
+                vector = vector_of net values;
+                width = wide;
+                gates = λ n l h. settled.each n l (omega arith);
+                pins = λ n s l h c. pin_at_fix net is blocks are (vector_of net values) values (place + 1) wide (at_fix net is blocks are values (place + 1) settled) n s l (omega arith) c;
+              }
+              | inr other ↦ kept.stand q (sym (get_or-set_other due place q false true other) ∙ e)
+            ];
+      }
+
+  module _ (values : List Trit) (place g : ℕ) (width : length values ≡ count net) (settled : AreSettled net blocks values place) (within : g < length net.gates) (home : home_of blocks g ≡ place) (plain : (block_at blocks place).looped ≡ false) where
+    only : (n : ℕ) → n < length net.gates → home_of blocks n ≡ place → n ≡ g
+    only n l h =
+        let here : (block_at blocks (home_of blocks n)).looped ≡ false = rw h plain in
+        other_blocks_are_single net blocks are n g l within (h ∙ sym home) here
+
+    -- all its pins stand before it
+    pin_settled : (s : Sig) → Contains (gate_at net g).pins s → wire values s ≡ wire (fix net (vector_of net values)) s
+    pin_settled s c =
+        let v = vector_of net values in
+        elim (signal_cases net s (pin_within net is g s within c)) [
+          | inl low ↦ wire-vector net values s low ∙ sym (wire-input net v (fix_gates net v) s (length-vector net values width) low)
+          | inr m ↦
+              let before = pin-before net blocks are m.number g s m.within within m.is c in
+              elim (cases_lt (home_of blocks m.number) place) [
+                | inl early ↦ rw m.is (settled.each m.number m.within early)
+                | inr late ↦
+                    let same : m.number ≡ g = only m.number m.within (omega arith) in
+                    let pin : Contains (gate_at net g).pins (gate_sig net g) = rw (m.is, same) at c in
+                    let feeds : Feeds net g g = record { source = within; reader = within; pin = pin } in
+                    let looped : (block_at blocks (home_of blocks g)).looped ≡ true = (are.looped g within).1 (leads-step net g g feeds) in
+                    let here : (block_at blocks place).looped ≡ true = rw home at looped in
+                    absurd (true≢false (sym here ∙ plain))
+              ]
+        ]
+
+    value_settled : gate_value values (gate_at net g) ≡ wire (fix net (vector_of net values)) (gate_sig net g)
+    value_settled =
+        value_same (gate_at net g) values (fix net (vector_of net values)) pin_settled
+        ∙ sym (fix-gate net (vector_of net values) g (length-vector net values width) within)
+
+    pub gate_settled : AreSettled net blocks (set values (gate_sig net g).0 (gate_value values (gate_at net g))) (place + 1)
+    gate_settled =
+        let x = gate_value values (gate_at net g) in
+        record {
+          each = λ n l h.
+              let vector = ap (λ (v : List Trit). wire (fix net v) (gate_sig net n)) (sym (vector-set net values g x)) in
+              elim (cases_eq n g) [
+                | inl e ↦
+                    let now : wire (set values (gate_sig net g).0 x) (gate_sig net g) ≡ x = get_or-set_same values (gate_sig net g).0 x X (omega arith) in
+                    let there : wire (set values (gate_sig net g).0 x) (gate_sig net n) ≡ wire (fix net (vector_of net values)) (gate_sig net n) = rw e (now ∙ value_settled) in
+                    there ∙ vector
+                | inr ne ↦
+                    let other : (gate_sig net n).0 ≢ (gate_sig net g).0 = λ same. ne (omega arith) in
+                    let early : home_of blocks n < place =
+                    elim (cases_lt (home_of blocks n) place) [
+                      | inl early ↦ early
+                      | inr late ↦ absurd (ne (only n l (omega arith)))
+                    ] in
+                    get_or-set_other values (gate_sig net g).0 (gate_sig net n).0 x X other ∙ settled.each n l early ∙ vector
+              ];
+        }

@@ -1,0 +1,9 @@
+pub mod ListLemmas
+pub mod PinLemmas
+pub mod BlockLemmas
+pub mod MarkingLemmas
+pub mod LoadLemmas
+pub mod GateLemmas
+pub mod LoopLemmas
+pub mod ForgetLemmas
+pub mod ReaderLemmas

@@ -1,0 +1,15 @@
+use Rattle.std.proofs.Common.{◌≡◌, ◌<◌, ℕ, true, get_or}
+use Rattle.cyc_base.specs.declared.trit.Trit.TheVariants.{X}
+use Rattle.netlist.specs.Netlists.{gate_sig}
+use Rattle.netlist.specs.Fixpoint.{wire}
+use Rattle.simulation.specs.Standing.{AreKept, AreSettled, is_due, vector_of}
+use Rattle.simulation.proofs.wires.Wires.forget.Given as goal
+
+abbrev pub invariant-loop-gate : goal.invariant-loop-gate
+invariant-loop-gate l = record {
+  kept : AreKept l.net l.plan.blocks l.self.values.items l.self.due.items;
+  unsettled : is_due l.self.due.items l.place ≡ true;
+  settled : AreSettled l.net l.plan.blocks l.self.values.items l.place;
+  vector : vector_of l.net l.self.values.items ≡ vector_of l.net l.initial.self.values.items;
+  unknown : (k d : ℕ) → k < l.gate-index → wire l.self.values.items (gate_sig l.net (get_or l.gates k d)) ≡ X;
+}

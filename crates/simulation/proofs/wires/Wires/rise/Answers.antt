@@ -1,0 +1,56 @@
+-- The gate becomes known, and those that read it wait once more; or it needs to wait no longer.
+use Rattle.std.proofs.Common.{◌≡◌, true, set, refl, ap, arith}
+use Rattle.cyc_base.specs.declared.sig.Sig.{Sig}
+use Rattle.netlist.specs.Netlists.{gate_sig}
+use Rattle.simulation.specs.Standing.{is_due}
+use Rattle.simulation.proofs.LoopLemmas.{gate_determined_at, determined_falls_at, gate_unchanged, waiting_gate}
+use Rattle.simulation.proofs.wires.Wires.rise.Goals as goal
+
+pub new_value-requires-clause-gate : goal.new_value-requires-clause-gate
+new_value-requires-clause-gate c = c.requires.rising.gates c.args.gate (0, omega arith, refl)
+
+pub gate_sig-signal-requires : goal.gate_sig-signal-requires
+gate_sig-signal-requires c =
+    waiting_gate c.args.net.now c.args.plan.now c.args.place c.args.self.now.values.items c.args.self.now.due.items c.args.gate c.args.waiting.now.items c.requires.rising
+
+pub change-requires-clause-signal : goal.change-requires-clause-signal
+change-requires-clause-signal c =
+    let within = waiting_gate c.args.net.now c.args.plan.now c.args.place c.args.self.now.values.items c.args.self.now.due.items c.args.gate c.args.waiting.now.items c.requires.rising in
+    let is : c.gate_sig-signal.result.0 ≡ (gate_sig c.args.net.now c.args.gate).0 = ap (λ (s : Sig). s.0) c.gate_sig-signal.ensures.sig in
+    omega arith
+
+pub successors-readers-requires : goal.successors-readers-requires
+successors-readers-requires c =
+    let within = waiting_gate c.args.net.now c.args.plan.now c.args.place c.args.self.now.values.items c.args.self.now.due.items c.args.gate c.args.waiting.now.items c.requires.rising in
+    let is : c.gate_sig-signal.result.0 ≡ (gate_sig c.args.net.now c.args.gate).0 = ap (λ (s : Sig). s.0) c.gate_sig-signal.ensures.sig in
+    let size = c.requires.plan.readers.signals in
+    omega arith
+
+pub returns-in_ok-queue_inside-clause-rising : goal.returns-in_ok-queue_inside-clause-rising
+returns-in_ok-queue_inside-clause-rising c =
+    let net = c.args.net.now in
+    let plan = c.args.plan.now in
+    let place = c.args.place in
+    let values = c.args.self.now.values.items in
+    let after : c.change.new.self.values.items ≡ set values c.gate_sig-signal.result.0 c.in-Some.value = rw c.in_ok-value.ensures.values at c.change.ensures.values in
+    let due : is_due c.new_value.new.self.due.items place ≡ true = rw c.in_ok-value.ensures.due c.requires.rising.unsettled in
+    gate_determined_at net plan place values c.change.new.self.values.items c.args.self.now.due.items c.change.new.self.due.items c.args.gate c.args.waiting.now.items c.queue_inside.new.queue.items
+    c.in_ok-value.field-0 c.in-Some.value c.gate_sig-signal.result c.successors-readers.result.now c.items.result.now c.requires.plan c.requires.rising c.in_ok-value.ensures.value
+    c.in-Some.is c.gate_sig-signal.ensures.sig after c.successors-readers.ensures c.items.ensures c.in_ok-queue_inside.ensures c.change.ensures.kept (c.change.ensures.due place due)
+
+pub returns-in_ok-queue_inside-clause-less : goal.returns-in_ok-queue_inside-clause-less
+returns-in_ok-queue_inside-clause-less c =
+    let net = c.args.net.now in
+    let plan = c.args.plan.now in
+    let values = c.args.self.now.values.items in
+    let after : c.change.new.self.values.items ≡ set values c.gate_sig-signal.result.0 c.in-Some.value = rw c.in_ok-value.ensures.values at c.change.ensures.values in
+    determined_falls_at net plan c.args.place values c.change.new.self.values.items c.args.self.now.due.items c.args.gate c.args.waiting.now.items c.queue_inside.new.queue.items
+    c.in_ok-value.field-0 c.in-Some.value c.gate_sig-signal.result c.successors-readers.result.now c.items.result.now c.requires.rising c.in_ok-value.ensures.value
+    c.in-Some.is c.gate_sig-signal.ensures.sig after c.successors-readers.ensures c.items.ensures c.in_ok-queue_inside.ensures
+
+pub returns-in_default-clause-rising : goal.returns-in_default-clause-rising
+returns-in_default-clause-rising c =
+    let net = c.args.net.now in
+    rw (c.in_ok-value.ensures.values, c.in_ok-value.ensures.due)
+    (gate_unchanged net c.args.plan.now c.args.place c.args.self.now.values.items c.args.self.now.due.items c.args.gate c.args.waiting.now.items c.requires.rising
+    (rw c.in_default.is at c.in_ok-value.ensures.value))

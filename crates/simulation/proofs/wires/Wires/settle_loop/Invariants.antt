@@ -1,0 +1,13 @@
+use Rattle.std.proofs.Common.{◌≡◌}
+use Rattle.simulation.specs.Standing.{vector_of}
+use Rattle.simulation.specs.Rising.{IsRising, work_left}
+use Rattle.simulation.proofs.wires.Wires.settle_loop.Given as goal
+
+abbrev pub invariant-loop-gate : goal.invariant-loop-gate
+invariant-loop-gate l = record {
+  rising : IsRising l.net l.plan l.place l.self.values.items l.self.due.items l.waiting.items;
+  vector : vector_of l.net l.self.values.items ≡ vector_of l.net l.fn.self.values.items;
+}
+
+abbrev pub decreases-loop-gate : goal.decreases-loop-gate
+decreases-loop-gate l = work_left l.plan l.self.values.items l.waiting.items

@@ -1,0 +1,15 @@
+use Rattle.std.proofs.Common.{get_or, refl}
+use Rattle.std.proofs.lemmas.List.{get_or_default}
+use Rattle.simulation.proofs.MarkingLemmas.{marked_none, marked_more}
+use Rattle.simulation.proofs.wires.mark.Goals as goal
+
+pub loop-gate-init : goal.loop-gate-init
+loop-gate-init c = marked_none c.args.gates.now c.args.home.now c.args.due.now
+
+pub loop-gate-preserved : goal.loop-gate-preserved
+loop-gate-preserved c =
+    let gates = c.args.gates.now in
+    let home = c.args.home.now in
+    let k = c.loop-gate.gate-index in
+    marked_more gates home k (get_or gates k 0) (get_or home (get_or gates k 0) 0) c.args.due.now c.loop-gate.due
+    (λ d. get_or_default gates k d 0 c.loop-gate-test.true) refl c.loop-gate.invariant

@@ -1,0 +1,6 @@
+use Rattle.std.proofs.Common.{◌≡◌, take, map}
+use Rattle.netlist.specs.Fixpoint.{wire}
+use Rattle.simulation.proofs.wires.read_signals.Given as goal
+
+abbrev pub invariant-loop-signal : goal.invariant-loop-signal
+invariant-loop-signal l = l.list.items ≡ map (wire l.values) (take l.signal-index l.signals)
