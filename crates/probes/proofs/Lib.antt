@@ -1,0 +1,9 @@
+mod ChangeLemmas
+mod HearingLemmas
+mod ShowLemmas
+mod SignalLemmas
+mod SliceLemmas
+mod TallyLemmas
+pub mod TextLemmas
+pub mod ValueLemmas
+pub mod TimeLemmas

@@ -1,0 +1,63 @@
+-- What probes that heard nothing before show of the changes that they were told.
+use Rattle.std.proofs.Common.{◌≡◌, ◌<◌, ℕ, suc, true, List, [], ◌∷◌, ◌++◌, length, get_or, All, inl, inr, refl, ap, ap₂, sym, ◌∙◌, arith}
+use Rattle.std.proofs.lemmas.Bool.{cases_Bool}
+use Rattle.std.proofs.lemmas.List.Elements.{AllZip-get_or, length_all_zip}
+use Rattle.netlist.specs.declared.parts.Parts.{Parts}
+use Rattle.netlist.specs.Netlists.{count}
+use Rattle.delay_core.specs.declared.change.Change.{Change}
+use Rattle.probes.specs.declared.kind.Kind.{Kind}
+use Rattle.probes.specs.declared.kind.Kind.TheVariants.{Trace, Glitches, Last, Vcd}
+use Rattle.probes.specs.Hearing.{Hears, EachHears}
+use Rattle.probes.specs.Showing.{same_kind, text_of_kind, shown_texts, texts_of}
+
+kinds_are_one : (a b : Kind) → same_kind a b ≡ true → a ≡ b
+kinds_are_one Trace Trace e = refl
+kinds_are_one Trace Glitches e = cc
+kinds_are_one Trace Last e = cc
+kinds_are_one Trace Vcd e = cc
+kinds_are_one Glitches Trace e = cc
+kinds_are_one Glitches Glitches e = refl
+kinds_are_one Glitches Last e = cc
+kinds_are_one Glitches Vcd e = cc
+kinds_are_one Last Trace e = cc
+kinds_are_one Last Glitches e = cc
+kinds_are_one Last Last e = refl
+kinds_are_one Last Vcd e = cc
+kinds_are_one Vcd Trace e = cc
+kinds_are_one Vcd Glitches e = cc
+kinds_are_one Vcd Last e = cc
+kinds_are_one Vcd Vcd e = refl
+
+module _ {P : Type 0} (kind : P → Kind) (heard : P → List Change) (text : P → List Change → Parts → List ℕ) (wanted : Kind) (changes : List Change) where
+  heard_these : (old new : P) → heard old ≡ [] → Hears kind heard text wanted changes old new → same_kind (kind new) wanted ≡ true → heard new ≡ changes
+  heard_these old new none hears is =
+      hears.hears (sym hears.same.same_kind ∙ kinds_are_one (kind new) wanted is) ∙ ap (λ (cs : List Change). cs ++ changes) none
+
+  shows : (net : Parts) (old new : P) → heard old ≡ [] → Hears kind heard text wanted changes old new →
+      text_of_kind kind text wanted net (heard new) new ≡ text_of_kind kind text wanted net changes old
+  shows net old new none hears =
+      elim (cases_Bool (same_kind (kind new) wanted)) [
+        | inl is ↦
+            rw (is, ap (λ (k : Kind). same_kind k wanted) (sym hears.same.same_kind) ∙ is)
+            (ap (λ (cs : List Change). text new cs net) (heard_these old new none hears is) ∙ hears.same.same_text changes net)
+        | inr isnt ↦ rw (isnt, ap (λ (k : Kind). same_kind k wanted) (sym hears.same.same_kind) ∙ isnt) refl
+      ]
+
+  pub all_show : (net : Parts) (olds news : List P) → All (λ (p : P). heard p ≡ []) olds → EachHears kind heard text wanted changes olds news →
+      shown_texts kind heard text wanted net news ≡ texts_of kind text wanted net changes olds
+  all_show net [] [] none hears = refl
+  all_show net [] (new ∷ news) none hears = absurd hears
+  all_show net (old ∷ olds) [] none hears = absurd hears
+  all_show net (old ∷ olds) (new ∷ news) none hears =
+      ap₂ (λ (xs ys : List ℕ). xs ++ ys) (shows net old new (none 0 old (omega arith)) hears.0)
+      (all_show net olds news (λ k d short. none (suc k) d (omega (arith, short))) hears.1)
+
+  pub all_can_show : (net : Parts) (olds news : List P) → All (λ (p : P). heard p ≡ []) olds → EachHears kind heard text wanted changes olds news →
+      All (λ (c : Change). c.sig.0 < count net) changes →
+      All (λ (p : P). same_kind (kind p) wanted ≡ true → All (λ (c : Change). c.sig.0 < count net) (heard p)) news
+  all_can_show net olds news none hears known =
+      λ k d short is.
+      let same_length : length olds ≡ length news = length_all_zip (Hears kind heard text wanted changes) olds news hears in
+      let there : k < length olds = omega (arith, short, same_length) in
+      let each = AllZip-get_or (Hears kind heard text wanted changes) olds news k d d hears there in
+      rw (heard_these (get_or olds k d) (get_or news k d) (none k d there) each is) known

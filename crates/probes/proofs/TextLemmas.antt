@@ -1,0 +1,21 @@
+-- Texts that are made line by line.
+use Rattle.std.proofs.Common.{◌≡◌, ◌+◌, ℕ, suc, zero, List, [], ◌∷◌, ◌++◌, ap, sym, ◌∙◌, arith}
+use Rattle.std.proofs.Math.Numerals.{add-one}
+use Rattle.std.specs.List.{flat_map, range_with_len}
+use Rattle.std.proofs.lemmas.List.{append-nil}
+use Rattle.std.proofs.lemmas.Grind.{flat_map-append}
+
+range_suc : (a n : ℕ) → range_with_len a (suc n) ≡ range_with_len a n ++ (a + n) ∷ []
+range_suc a zero = ap (λ x. x ∷ []) (omega arith)
+range_suc a (suc n) =
+    ap (λ (xs : List ℕ). a ∷ xs) (range_suc (a + 1) n ∙ ap (λ x. range_with_len (a + 1) n ++ x ∷ []) (omega arith))
+
+pub range_more : (a n j : ℕ) → a + n ≡ j → range_with_len a (n + 1) ≡ range_with_len a n ++ j ∷ []
+range_more a n j e = rw (add-one n, sym e) (range_suc a n)
+
+-- the lines of numbers from a on, and that of the next one
+pub lines_more : (line : ℕ → List ℕ) (a n j : ℕ) → a + n ≡ j → flat_map line (range_with_len a (n + 1)) ≡ flat_map line (range_with_len a n) ++ line j
+lines_more line a n j e =
+    ap (flat_map line) (range_more a n j e)
+    ∙ flat_map-append line (range_with_len a n) (j ∷ [])
+    ∙ ap (λ (xs : List ℕ). flat_map line (range_with_len a n) ++ xs) (append-nil (line j))

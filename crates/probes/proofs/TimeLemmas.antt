@@ -1,0 +1,104 @@
+-- When the changes of a run are: those of the first opening at moment 0, and all others later, before its end.
+use Rattle.std.proofs.Common.{◌≡◌, ◌<◌, ◌≤◌, ◌+◌, ◌-◌, ◌==◌, ◌&&◌, ◌||◌, ℕ, zero, suc, Bool, true, List, [], ◌∷◌, length, inl, inr, refl, ◌∙◌, arith}
+use Rattle.std.specs.Prelude.{if◌then◌else◌, Some, None}
+use Rattle.std.specs.List.{filter_map, cons_option, range_with_len, list_all}
+use Rattle.std.proofs.lemmas.Bool.{cases_Bool, and_from}
+use Rattle.std.proofs.lemmas.List.Folds.{list_all-append}
+use Rattle.netlist.specs.Netlists.{count, signal, gate_sig}
+use Rattle.schedules.specs.Moments.{bit_at, newest, event_value}
+use Rattle.delay_core.specs.declared.change.Change.{Change}
+use Rattle.delay_core.specs.declared.plan.PlannedEvent.{PlannedEvent}
+use Rattle.delay_core.specs.declared.plan.RoundPlan.{RoundPlan}
+use Rattle.delay_core.specs.Plays.{PlayState, moment_of_number, differ, is_given, place, after_event, opening_change, next_tick}
+use Rattle.delay_core.specs.Plans.{PlannedTick, after_planned, after_plan, after_plans}
+use Rattle.probes.specs.Changes.{openings, event_changes, round_changes, tick_changes, later_changes}
+use Rattle.probes.specs.Values.{after_ticks}
+
+-- what a play keeps: its past, and its history only grows
+pub record Grows (before after : PlayState) : Type 0 where
+  pub past : after.past ≡ before.past
+  pub longer : length before.history ≤ length after.history
+
+pub events_grow : (play : PlayState) (events : List PlannedEvent) → Grows play (after_planned play events)
+events_grow play [] = record { past = refl; longer = omega arith }
+events_grow play (e ∷ later) =
+    let rest = events_grow (after_event play e.event) later in
+    record { past = rest.past; longer = omega (arith, rest.longer) }
+
+pub rounds_grow : (play : PlayState) (rounds : List RoundPlan) → Grows play (after_plans play rounds)
+rounds_grow play [] = record { past = refl; longer = omega arith }
+rounds_grow play (round ∷ later) =
+    let here = events_grow play round.events in
+    let rest = rounds_grow (after_plan play round) later in
+    record { past = rest.past ∙ here.past; longer = omega (arith, here.longer, rest.longer) }
+
+pub ticks_grow : (play : PlayState) (ticks : List PlannedTick) → Grows play (after_ticks play ticks)
+ticks_grow play [] = record { past = refl; longer = omega arith }
+ticks_grow play (tick ∷ later) =
+    let here = rounds_grow (next_tick play tick.0) tick.1 in
+    let rest = ticks_grow (after_plans (next_tick play tick.0) tick.1) later in
+    record { past = rest.past ∙ here.past; longer = omega (arith, here.longer, rest.longer) }
+
+-- a test that each change passes from moment `low` on and before moment `high`
+module _ (p : Change → Bool) (low high : ℕ) (passes : (c : Change) → low ≤ c.at → c.at < high → p c ≡ true) where
+  some_pass : (test : Bool) (c : Change) (rest : List Change) → p c ≡ true → list_all p rest ≡ true → list_all p (cons_option (if test then Some c else None) rest) ≡ true
+  some_pass test c rest here all =
+      elim (cases_Bool test) [
+        | inl is ↦ rw is (and_from (p c) (list_all p rest) here all)
+        | inr isnt ↦ rw isnt all
+      ]
+
+  picked_pass : (play : PlayState) → low ≤ place play play.opening → place play play.opening < high → (a n : ℕ) →
+      list_all p (filter_map (λ m. opening_change play (signal m)) (range_with_len a n)) ≡ true
+  picked_pass play late early a zero = refl
+  picked_pass play late early a (suc n) =
+      let value : Bool = bit_at (moment_of_number play.history play.opening) (signal a) in
+      let before : Bool = bit_at (moment_of_number play.history (play.opening - 1)) (signal a) in
+      some_pass (play.tick == 1 || (is_given play.net (signal a) && differ before value))
+      (record { at = place play play.opening; tick = play.tick; round = 0; sig = signal a; value = value })
+      (filter_map (λ m. opening_change play (signal m)) (range_with_len (a + 1) n))
+      (passes (record { at = place play play.opening; tick = play.tick; round = 0; sig = signal a; value = value }) late early)
+      (picked_pass play late early (a + 1) n)
+
+  pub openings_pass : (play : PlayState) → low ≤ place play play.opening → place play play.opening < high → list_all p (openings play) ≡ true
+  openings_pass play late early = picked_pass play late early 0 (count play.net)
+
+  events_pass : (play : PlayState) (events : List PlannedEvent) → play.past + low ≤ length play.history → length (after_planned play events).history ≤ play.past + high →
+      list_all p (event_changes play events) ≡ true
+  events_pass play [] begun ends = refl
+  events_pass play (planned ∷ later) begun ends =
+      let e = planned.event in
+      let value : Bool = event_value play.net play.history e in
+      let driven = gate_sig play.net e.gate in
+      let change : Change = record { at = place play (suc (length play.history)); tick = play.tick; round = length play.starts; sig = driven; value = value } in
+      let grows = events_grow (after_event play e) later in
+      some_pass (differ (bit_at (newest play.history) driven) value) change (event_changes (after_event play e) later)
+      (passes change (omega (arith, begun)) (omega (arith, begun, ends, grows.longer)))
+      (events_pass (after_event play e) later (omega (arith, begun)) ends)
+
+  pub rounds_pass : (play : PlayState) (rounds : List RoundPlan) → play.past + low ≤ length play.history → length (after_plans play rounds).history ≤ play.past + high →
+      list_all p (round_changes play rounds) ≡ true
+  rounds_pass play [] begun ends = refl
+  rounds_pass play (round ∷ later) begun ends =
+      let here = events_grow play round.events in
+      let rest = rounds_grow (after_plan play round) later in
+      list_all-append p (event_changes play round.events) (round_changes (after_plan play round) later)
+      ∙ and_from (list_all p (event_changes play round.events)) (list_all p (round_changes (after_plan play round) later))
+      (events_pass play round.events begun (omega (arith, ends, rest.longer)))
+      (rounds_pass (after_plan play round) later (omega (arith, begun, here.longer, here.past)) (omega (arith, ends, here.past)))
+
+  pub ticks_pass : (play : PlayState) (ticks : List PlannedTick) → play.past + low ≤ length play.history → length (after_ticks play ticks).history ≤ play.past + high →
+      list_all p (later_changes play ticks) ≡ true
+  ticks_pass play [] begun ends = refl
+  ticks_pass play (tick ∷ later) begun ends =
+      let opened : PlayState = next_tick play tick.0 in
+      let here = rounds_grow opened tick.1 in
+      let rest = ticks_grow (after_plans opened tick.1) later in
+      let first : list_all p (openings opened) ≡ true = openings_pass opened (omega (arith, begun)) (omega (arith, begun, ends, here.longer, rest.longer)) in
+      let second : list_all p (round_changes opened tick.1) ≡ true = rounds_pass opened tick.1 (omega (arith, begun)) (omega (arith, ends, rest.longer)) in
+      let third : list_all p (later_changes (after_plans opened tick.1) later) ≡ true =
+      ticks_pass (after_plans opened tick.1) later (omega (arith, begun, here.longer, here.past)) (omega (arith, ends, here.past)) in
+      list_all-append p (tick_changes opened tick.1) (later_changes (after_plans opened tick.1) later)
+      ∙ and_from (list_all p (tick_changes opened tick.1)) (list_all p (later_changes (after_plans opened tick.1) later))
+      (list_all-append p (openings opened) (round_changes opened tick.1) ∙ and_from (list_all p (openings opened)) (list_all p (round_changes opened tick.1)) first second)
+      third

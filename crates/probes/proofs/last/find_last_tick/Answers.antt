@@ -1,0 +1,15 @@
+use Rattle.std.proofs.Common.{unwrap_or, ap, ◌∙◌, rules, tests}
+use Rattle.std.proofs.lemmas.Iterator.{YieldsList-from_slice, YieldsList-from_map}
+use Rattle.std.proofs.lemmas.Iterator.Consumers.{reduce_from_yields_List}
+use Rattle.std.proofs.lemmas.List.Folds.{max_of_map}
+use Rattle.delay_core.specs.declared.change.Change.{Change}
+use Rattle.probes.proofs.last.find_last_tick.Goals as goal
+
+pub returns : goal.returns
+returns c =
+    let changes = c.args.changes.now in
+    c.unwrap_or.ensures
+    ∙ ap (λ o. unwrap_or o 0)
+    (reduce_from_yields_List _ c.map.result _ c.max.ensures.ran
+    (YieldsList-from_map _ (λ (change : Change). change.tick) (YieldsList-from_slice changes cc) c.map.ensures.closure (λ x b q k. search (rules, tests))))
+    ∙ max_of_map (λ (change : Change). change.tick) changes

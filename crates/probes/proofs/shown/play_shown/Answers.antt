@@ -1,0 +1,11 @@
+use Rattle.std.proofs.Common.{◌∙◌}
+use Rattle.probes.proofs.ShowLemmas.{all_show, all_can_show}
+use Rattle.probes.proofs.shown.play_shown.Goals as goal
+
+pub show_kind-requires : goal.show_kind-requires
+show_kind-requires g c =
+    all_can_show _ _ _ _ _ c.args.net.now _ _ c.requires.silent c.in_ok-ends.ensures.heard c.in_ok-ends.ensures.signals
+
+pub returns-clause-text : goal.returns-clause-text
+returns-clause-text g c =
+    c.in_ok-text_shown.ensures ∙ all_show _ _ _ _ _ c.args.net.now _ _ c.requires.silent c.in_ok-ends.ensures.heard

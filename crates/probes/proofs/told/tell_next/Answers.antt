@@ -1,0 +1,20 @@
+use Rattle.std.proofs.Common.{◌≡◌, ap}
+use Rattle.delay_core.specs.Plays.{SeenPlay, next_tick}
+use Rattle.probes.proofs.HearingLemmas.{each_prefix_none}
+use Rattle.probes.proofs.SliceLemmas.{on_err}
+use Rattle.probes.proofs.told.tell_next.Goals as goal
+
+pub returns-in_err-end_tick-clause-err : goal.returns-in_err-end_tick-clause-err
+returns-in_err-end_tick-clause-err g c = on_err c.from_residual.result (each_prefix_none _ _ _ _ _ _)
+
+pub returns-clause-heard : goal.returns-clause-heard
+returns-clause-heard g c =
+    let opened : c.end_tick.new.self.state ≡ next_tick c.args.play.now.state c.args.inputs.now =
+    ap (λ (p : SeenPlay). p.state) c.in_ok-end_tick.ensures.ok in
+    rw opened at c.tell_tick.ensures.heard
+
+pub returns-clause-err : goal.returns-clause-err
+returns-clause-err g c =
+    let opened : c.end_tick.new.self.state ≡ next_tick c.args.play.now.state c.args.inputs.now =
+    ap (λ (p : SeenPlay). p.state) c.in_ok-end_tick.ensures.ok in
+    rw opened at c.tell_tick.ensures.err

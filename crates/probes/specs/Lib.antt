@@ -1,0 +1,6 @@
+pub mod Changes
+pub mod Hearing
+pub mod Showing
+pub mod Tables
+pub mod Texts
+pub mod Values

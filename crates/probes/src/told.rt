@@ -1,0 +1,257 @@
+//! The run of a recorded schedule, told to probes.
+
+ghost use Rattle.std.specs.Prelude.{◌≡◌, ◌⊎◌, ◌++◌, ◌∷◌, [], ◌+◌, ◌<◌, ◌≤◌, List, Bool, length, map, All, Some, None, IfErr, IfOk, OnOk, OnErr};
+ghost use Rattle.std.specs.List.{cons_option};
+ghost use Rattle.netlist.specs.Netlists.{count};
+ghost use Rattle.netlist.specs.declared.parts.Parts.{Parts as parts_type};
+ghost use Rattle.schedules.specs.Runs.{ticks_of};
+ghost use Rattle.delay_core.specs.declared.change.Change.{Change as change_type};
+ghost use Rattle.delay_core.specs.Plays.{PlayState, after_event, no_events, next_tick, change_by};
+ghost use Rattle.delay_core.specs.Plans.{after_planned, after_plan, after_plans, first_opened, schedule_fault, run_of, IsPlayedFairly, end_of, SettledIsTold, SettlesInTime};
+ghost use Rattle.probes.specs.Changes.{openings, event_changes, round_changes, tick_changes, changes};
+ghost use Rattle.probes.specs.Hearing.{EachHears, EachHearsPrefix};
+
+use crate::kind::Kind;
+use crate::probe::Probe;
+use crate::tell::tell;
+use cyc_base::{Bits, Sig};
+use delay_core::{Change, PlannedEvent, Play, PlayFault, RoundPlan, Schedule, TickEnd, play_whole};
+use netlist::Netlist;
+use std::alloc::{AllocError, Global};
+
+/// Tells a change, where there is one.
+fn tell_some(
+    probes: &mut [Box<dyn Probe>],
+    wanted: Kind,
+    change: Option<Change>,
+) -> Result<(), AllocError>
+    ensures heard { OnOk result (EachHears kind heard text wanted (cons_option change []) probes.old probes.new) }
+    ensures err { OnErr result (EachHearsPrefix kind heard text wanted (cons_option change []) probes.old probes.new) }
+{
+    match change {
+        Some(change) => tell(probes, wanted, &change),
+        None => Ok(()),
+    }
+}
+
+/// Tells what a tick's opening tells.
+fn tell_openings(
+    net: &Netlist,
+    play: &Play,
+    probes: &mut [Box<dyn Probe>],
+    wanted: Kind,
+) -> Result<(), AllocError>
+    requires { play.now.state.net ≡ net.now }
+    ensures heard { OnOk result (EachHears kind heard text wanted (openings play.now.state) probes.old probes.new) }
+    ensures err { OnErr result (EachHearsPrefix kind heard text wanted (openings play.now.state) probes.old probes.new) }
+{
+    for number in 0..net.count() {
+        tell_some(probes, wanted, play.opening(Sig(number)))?;
+    }
+    Ok(())
+}
+
+/// Plays an event of a schedule without a fault, and tells what it changes.
+fn tell_event(
+    play: &mut Play,
+    planned: &PlannedEvent,
+    probes: &mut [Box<dyn Probe>],
+    wanted: Kind,
+) -> Result<(), AllocError>
+    ensures played { OnOk result (play.new.state ≡ after_event play.old.state planned.now.event) }
+    ensures heard { OnOk result (EachHears kind heard text wanted (cons_option (change_by play.old.state planned.now.event) []) probes.old probes.new) }
+    ensures err { OnErr result (EachHearsPrefix kind heard text wanted (cons_option (change_by play.old.state planned.now.event) []) probes.old probes.new) }
+{
+    match play.apply(&planned.event) {
+        Ok(change) => tell_some(probes, wanted, change),
+        // There is no other fault, so memory was wanting.
+        Err(_) => Err(AllocError),
+    }
+}
+
+/// Plays events of a round.
+fn tell_events(
+    play: &mut Play,
+    events: &[PlannedEvent],
+    probes: &mut [Box<dyn Probe>],
+    wanted: Kind,
+) -> Result<(), AllocError>
+    ensures played { OnOk result (play.new.state ≡ after_planned play.old.state events.now) }
+    ensures heard { OnOk result (EachHears kind heard text wanted (event_changes play.old.state events.now) probes.old probes.new) }
+    ensures err { OnErr result (EachHearsPrefix kind heard text wanted (event_changes play.old.state events.now) probes.old probes.new) }
+{
+    for planned in events {
+        tell_event(play, planned, probes, wanted)?;
+    }
+    Ok(())
+}
+
+/// Plays a round to its end.
+fn tell_round(
+    play: &mut Play,
+    round: &RoundPlan,
+    probes: &mut [Box<dyn Probe>],
+    wanted: Kind,
+) -> Result<(), AllocError>
+    ensures played { OnOk result (play.new.state ≡ after_plan play.old.state round.now) }
+    ensures heard { OnOk result (EachHears kind heard text wanted (event_changes play.old.state round.now.events) probes.old probes.new) }
+    ensures err { OnErr result (EachHearsPrefix kind heard text wanted (event_changes play.old.state round.now.events) probes.old probes.new) }
+{
+    tell_events(play, round.events.items(), probes, wanted)?;
+    match play.end_round() {
+        Ok(()) => Ok(()),
+        // A schedule without a fault has an event of each gate.
+        Err(_) => Err(AllocError),
+    }
+}
+
+/// Plays the rounds of a tick.
+fn tell_rounds(
+    play: &mut Play,
+    rounds: &[RoundPlan],
+    probes: &mut [Box<dyn Probe>],
+    wanted: Kind,
+) -> Result<(), AllocError>
+    ensures played { OnOk result (play.new.state ≡ after_plans play.old.state rounds.now) }
+    ensures heard { OnOk result (EachHears kind heard text wanted (round_changes play.old.state rounds.now) probes.old probes.new) }
+    ensures err { OnErr result (EachHearsPrefix kind heard text wanted (round_changes play.old.state rounds.now) probes.old probes.new) }
+{
+    for round in rounds {
+        tell_round(play, round, probes, wanted)?;
+    }
+    Ok(())
+}
+
+/// Tells the opening of a tick, and plays its rounds.
+fn tell_tick(
+    net: &Netlist,
+    play: &mut Play,
+    rounds: &[RoundPlan],
+    probes: &mut [Box<dyn Probe>],
+    wanted: Kind,
+) -> Result<(), AllocError>
+    requires { play.old.state.net ≡ net.now }
+    ensures played { OnOk result (play.new.state ≡ after_plans play.old.state rounds.now) }
+    ensures heard { OnOk result (EachHears kind heard text wanted (tick_changes play.old.state rounds.now) probes.old probes.new) }
+    ensures err { OnErr result (EachHearsPrefix kind heard text wanted (tick_changes play.old.state rounds.now) probes.old probes.new) }
+{
+    tell_openings(net, play, probes, wanted)?;
+    tell_rounds(play, rounds, probes, wanted)
+}
+
+/// Starts a play and plays its first tick.
+fn tell_first<'a>(
+    alloc: Global,
+    net: &'a Netlist,
+    schedule: &Schedule,
+    inputs: &[bool],
+    rounds: &[RoundPlan],
+    probes: &mut [Box<dyn Probe>],
+    wanted: Kind,
+) -> Result<Play<'a>, AllocError>
+    requires past { All (λ (moment : List Bool). length moment ≡ count net.now) schedule.now.past }
+    requires latches { length schedule.now.latches ≡ length net.now.latches }
+    requires gates { length schedule.now.gates ≡ length net.now.gates }
+    requires inputs { length inputs.now ≡ length net.now.inputs }
+    ensures played { IfOk result (λ play. play.state ≡ after_plans (first_opened net.now schedule.now inputs.now) rounds.now) }
+    ensures heard { OnOk result (EachHears kind heard text wanted (tick_changes (first_opened net.now schedule.now inputs.now) rounds.now) probes.old probes.new) }
+    ensures err { OnErr result (EachHearsPrefix kind heard text wanted (tick_changes (first_opened net.now schedule.now inputs.now) rounds.now) probes.old probes.new) }
+{
+    let mut play = Play::start_at(
+        alloc,
+        net,
+        schedule.window,
+        schedule.past.items(),
+        inputs,
+        schedule.latches.items(),
+        schedule.gates.items(),
+    )?;
+    tell_tick(net, &mut play, rounds, probes, wanted)?;
+    Ok(play)
+}
+
+/// Opens the next tick and plays it.
+fn tell_next(
+    net: &Netlist,
+    play: &mut Play,
+    inputs: &[bool],
+    rounds: &[RoundPlan],
+    probes: &mut [Box<dyn Probe>],
+    wanted: Kind,
+) -> Result<(), AllocError>
+    requires net { play.old.state.net ≡ net.now }
+    requires begun { play.old.state.done ≡ no_events net.now }
+    requires inputs { length inputs.now ≡ length net.now.inputs }
+    ensures played { OnOk result (play.new.state ≡ after_plans (next_tick play.old.state inputs.now) rounds.now) }
+    ensures heard { OnOk result (EachHears kind heard text wanted (tick_changes (next_tick play.old.state inputs.now) rounds.now) probes.old probes.new) }
+    ensures err { OnErr result (EachHearsPrefix kind heard text wanted (tick_changes (next_tick play.old.state inputs.now) rounds.now) probes.old probes.new) }
+{
+    play.end_tick(inputs)?;
+    tell_tick(net, play, rounds, probes, wanted)
+}
+
+/// Plays a schedule without a fault whole, and tells its changes.
+fn tell_run(
+    alloc: Global,
+    net: &Netlist,
+    vectors: &[Bits],
+    schedule: &Schedule,
+    probes: &mut [Box<dyn Probe>],
+    wanted: Kind,
+) -> Result<(), AllocError>
+    requires past { All (λ (moment : List Bool). length moment ≡ count net.now) schedule.now.past }
+    requires latches { length schedule.now.latches ≡ length net.now.latches }
+    requires gates { length schedule.now.gates ≡ length net.now.gates }
+    requires inputs { All (λ (inputs : List Bool). length inputs ≡ length net.now.inputs) vectors.now }
+    requires ticks { length schedule.now.ticks ≡ length vectors.now }
+    ensures heard { OnOk result (EachHears kind heard text wanted (changes net.now schedule.now vectors.now) probes.old probes.new) }
+    ensures err { OnErr result (EachHearsPrefix kind heard text wanted (changes net.now schedule.now vectors.now) probes.old probes.new) }
+{
+    if vectors.is_empty() {
+        return Ok(());
+    }
+    let plans = schedule.ticks.items();
+    let first = vectors[0].items();
+    let rounds = plans[0].items();
+    let mut play = tell_first(alloc, net, schedule, first, rounds, probes, wanted)?;
+    for i in 1..vectors.len() {
+        let inputs = vectors[i].items();
+        let rounds = plans[i].items();
+        tell_next(net, &mut play, inputs, rounds, probes, wanted)?;
+    }
+    Ok(())
+}
+
+/// Plays a recorded schedule whole as `play_whole` does, and tells each probe of the wanted kind the changes of its run:
+/// at each tick's start what its opening tells, by the numbers of the signals, and then each event that changes its gate.
+///
+/// The schedule is first played without telling anyone, so that of one that has a fault no probe hears.
+pub fn play_told(
+    alloc: Global,
+    net: &Netlist,
+    vectors: &[Bits],
+    schedule: &Schedule,
+    probes: &mut [Box<dyn Probe>],
+    wanted: Kind,
+) -> Result<Vec<TickEnd>, PlayFault>
+    requires past { All (λ (moment : List Bool). length moment ≡ count net.now) schedule.now.past }
+    requires latches { length schedule.now.latches ≡ length net.now.latches }
+    requires gates { length schedule.now.gates ≡ length net.now.gates }
+    requires inputs { All (λ (inputs : List Bool). length inputs ≡ length net.now.inputs) vectors.now }
+    requires ticks { length schedule.now.ticks ≡ length vectors.now }
+    ensures fault { IfErr result (λ fault. (fault ≡ PlayFault.Memory) ⊎ (schedule_fault net.now schedule.now vectors.now ≡ Some fault)) }
+    ensures whole { OnOk result (schedule_fault net.now schedule.now vectors.now ≡ None) }
+    ensures fair { OnOk result (All (IsPlayedFairly net.now schedule.now.window) (ticks_of net.now (run_of schedule.now vectors.now))) }
+    ensures ends { IfOk result (λ ends. ends.items ≡ map (end_of net.now) (ticks_of net.now (run_of schedule.now vectors.now))) }
+    ensures settled { OnOk result (All (SettledIsTold net.now) (ticks_of net.now (run_of schedule.now vectors.now))) }
+    ensures in_time { OnOk result (All (SettlesInTime net.now schedule.now.window) (ticks_of net.now (run_of schedule.now vectors.now))) }
+
+    ensures signals { OnOk result (All (λ (change : change_type). change.sig.0 < count net.now) (changes net.now schedule.now vectors.now)) }
+    ensures heard { OnOk result (EachHears kind heard text wanted (changes net.now schedule.now vectors.now) probes.old probes.new) }
+    ensures err { OnErr result (EachHearsPrefix kind heard text wanted (changes net.now schedule.now vectors.now) probes.old probes.new) }
+    ensures silent { IfErr result (λ fault. (fault ≡ PlayFault.Memory) ⊎ EachHears kind heard text wanted [] probes.old probes.new) }
+{
+    let ends = play_whole(alloc, net, vectors, schedule)?;
+    tell_run(alloc, net, vectors, schedule, probes, wanted)?;
+    Ok(ends)
+}

@@ -1,0 +1,4 @@
+mod CodeLemmas
+mod DumpLemmas
+mod LineLemmas
+mod PieceLemmas

@@ -1,0 +1,134 @@
+-- How a reader goes over the lines of a dump.
+use Rattle.std.proofs.Common.{◌≡◌, ◌≢◌, ◌<◌, ◌+◌, ◌-◌, ◌/◌, ◌%◌, ◌^◌, ◌==◌, ◌&&◌, ℕ, zero, suc, Bool, true, false, not, nat_lt, List, [], ◌∷◌, ◌++◌, codes, decimal, Option, inl, inr, refl, ap, sym, ◌∙◌, arith}
+use Rattle.std.specs.List.{fold, flat_map, list_all}
+use Rattle.std.specs.Str.{bytes_eq}
+use Rattle.std.proofs.lemmas.Bool.{cases_lt, cases_eq, cases_Bool, lt-ltb, le-ltb, eq-eqb, ne_eqb, eqb-true, ltb-true, and_parts, and_from, not-true}
+use Rattle.std.proofs.lemmas.Fmt.{decimal_is_IsNumeral, decimal_by_steps}
+use Rattle.std.proofs.lemmas.Slice.Eq.{bytes_eq-Decides}
+use Rattle.std.proofs.lemmas.List.{append_assoc, append-nil}
+use Rattle.std.proofs.lemmas.List.Folds.{list_all-append}
+use Rattle.cyc_base.specs.declared.sig.Sig.{Sig}
+use Rattle.delay_core.specs.declared.change.Change.{Change}
+use Rattle.probes.specs.Values.{value_after}
+use Rattle.vcd_out.specs.Codes.{code_upto, code}
+use Rattle.vcd_out.specs.Dumps.{bit_text, value_line, time_line, timed_lines, is_first}
+use Rattle.vcd_out.specs.Reading.{lines_from, Shown, read_value, read_line}
+use Rattle.vcd_out.proofs.CodeLemmas as codes_of
+
+-- no byte of it ends a line
+abbrev pub is_plain : List ℕ → Bool
+is_plain = list_all (λ b. not (b == 10))
+
+plain_byte : (b : ℕ) → b ≢ 10 → not (b == 10) ≡ true
+plain_byte b other = rw (ne_eqb b 10 other) refl
+
+pub plain_cons : (b : ℕ) (bs : List ℕ) → b ≢ 10 → is_plain bs ≡ true → is_plain (b ∷ bs) ≡ true
+plain_cons b bs other plain = and_from (not (b == 10)) (is_plain bs) (plain_byte b other) plain
+
+plain_code : (f n : ℕ) → is_plain (code_upto f n) ≡ true
+plain_code zero n = refl
+plain_code (suc f) n =
+    elim (cases_lt n 94) [
+      | inl short ↦ rw (lt-ltb n 94 short) (plain_cons (33 + n) [] (λ e. omega (arith, e)) refl)
+      | inr far ↦ rw (le-ltb n 94 far) (plain_cons (33 + n % 94) (code_upto f (n / 94 - 1)) (λ e. omega (arith, e)) (plain_code f (n / 94 - 1)))
+    ]
+
+pub code_is_plain : (n : ℕ) → is_plain (code n) ≡ true
+code_is_plain n = plain_code (suc n) n
+
+decimal_is_plain : (n : ℕ) → n < 2 ^ 64 → is_plain (decimal n) ≡ true
+decimal_is_plain =
+    decimal_by_steps (λ n ds. is_plain ds ≡ true)
+    (λ n few. plain_cons (48 + n) [] (λ e. omega (arith, e)) refl)
+    (λ n ds many plain.
+    list_all-append (λ b. not (b == 10)) ds ((48 + n % 10) ∷ [])
+    ∙ and_from (is_plain ds) (is_plain ((48 + n % 10) ∷ [])) plain (plain_cons (48 + n % 10) [] (λ e. omega (arith, e)) refl))
+
+-- a plain piece stays on its line
+pub piece : (line p rest : List ℕ) → is_plain p ≡ true → lines_from line (p ++ rest) ≡ lines_from (line ++ p) rest
+piece line [] rest plain = ap (λ (l : List ℕ). lines_from l rest) (sym (append-nil line))
+piece line (b ∷ p) rest plain =
+    let parts = and_parts (not (b == 10)) (is_plain p) plain in
+    rw (not-true (b == 10) parts.0)
+    (piece (line ++ b ∷ []) p rest parts.1 ∙ ap (λ (l : List ℕ). lines_from l rest) (append_assoc line (b ∷ []) p))
+
+pub piece_then : (line p more rest : List ℕ) → is_plain p ≡ true → lines_from line ((p ++ more) ++ rest) ≡ lines_from (line ++ p) (more ++ rest)
+piece_then line p more rest plain = ap (lines_from line) (append_assoc p more rest) ∙ piece line p (more ++ rest) plain
+
+-- codes are equal exactly where numbers are
+code_test : (a b : ℕ) → bytes_eq (code a) (code b) ≡ (a == b)
+code_test a b =
+    elim (cases_eq a b) [
+      | inl same ↦ (bytes_eq-Decides (code a) (code b)).1 (ap code same) ∙ sym (eq-eqb a b same)
+      | inr other ↦
+          elim (cases_Bool (bytes_eq (code a) (code b))) [
+            | inl is ↦ absurd (other (codes_of.codes_differ a b ((bytes_eq-Decides (code a) (code b)).0 is)))
+            | inr isnt ↦ isnt ∙ sym (ne_eqb a b other)
+          ]
+    ]
+
+module _ (s : Sig) (at : ℕ) where
+  pub reads : Shown → List ℕ → Shown
+  reads shown text = fold (read_line s at) shown (lines_from [] text)
+
+  -- a value counts in the text as its change does
+  value_counts : (c : Change) (v : Option Bool) → read_value s at c.value (code c.sig.0) (record { time = c.at; value = v }) ≡ record { time = c.at; value = value_after s at v c }
+  value_counts c v =
+      rw (code_test c.sig.0 s.0)
+      (elim (cases_Bool (c.sig.0 == s.0 && not (nat_lt at c.at))) [
+        | inl is ↦ rw is refl
+        | inr isnt ↦ rw isnt refl
+      ])
+
+  bit_reads : (b : Bool) (n : ℕ) (shown : Shown) (rest : List ℕ) →
+      fold (read_line s at) shown (lines_from [] ((bit_text b ++ (code n ++ codes "\n")) ++ rest)) ≡ fold (read_line s at) (read_value s at b (code n) shown) (lines_from [] rest)
+  bit_reads false n shown rest = ap (fold (read_line s at) shown) (piece_then (48 ∷ []) (code n) (codes "\n") rest (code_is_plain n))
+  bit_reads true n shown rest = ap (fold (read_line s at) shown) (piece_then (49 ∷ []) (code n) (codes "\n") rest (code_is_plain n))
+
+  value_reads : (c : Change) (v : Option Bool) (rest : List ℕ) →
+      fold (read_line s at) (record { time = c.at; value = v }) (lines_from [] (value_line c ++ rest))
+      ≡ fold (read_line s at) (record { time = c.at; value = value_after s at v c }) (lines_from [] rest)
+  value_reads c v rest =
+      bit_reads c.value c.sig.0 (record { time = c.at; value = v }) rest
+      ∙ ap (λ (shown : Shown). fold (read_line s at) shown (lines_from [] rest)) (value_counts c v)
+
+  time_reads : (time : ℕ) (c : Change) (v : Option Bool) (rest : List ℕ) → c.at < 2 ^ 64 →
+      fold (read_line s at) (record { time = time; value = v }) (lines_from [] (time_line time c ++ rest))
+      ≡ fold (read_line s at) (record { time = c.at; value = v }) (lines_from [] rest)
+  time_reads time c v rest small =
+      elim (cases_Bool (c.at == time)) [
+        | inl same ↦ rw same (ap (λ (n : ℕ). fold (read_line s at) (record { time = n; value = v }) (lines_from [] rest)) (sym (eqb-true c.at time same)))
+        | inr other ↦
+            rw other
+            (ap (fold (read_line s at) (record { time = time; value = v })) (piece_then (35 ∷ []) (decimal c.at) (codes "\n") rest (decimal_is_plain c.at small))
+            ∙ ap (λ (n : ℕ). fold (read_line s at) (record { time = n; value = v }) (lines_from [] rest)) (decimal_is_IsNumeral c.at small).1)
+      ]
+
+  -- the values at moment 0
+  pub firsts_read : (changes : List Change) (v : Option Bool) (rest : List ℕ) → list_all is_first changes ≡ true →
+      fold (read_line s at) (record { time = 0; value = v }) (lines_from [] (flat_map value_line changes ++ rest))
+      ≡ fold (read_line s at) (record { time = 0; value = fold (value_after s at) v changes }) (lines_from [] rest)
+  firsts_read [] v rest first = refl
+  firsts_read (c ∷ changes) v rest first =
+      let parts = and_parts (is_first c) (list_all is_first changes) first in
+      let zero_time : c.at ≡ 0 = eqb-true c.at 0 parts.0 in
+      let here : fold (read_line s at) (record { time = 0; value = v }) (lines_from [] (value_line c ++ (flat_map value_line changes ++ rest)))
+      ≡ fold (read_line s at) (record { time = 0; value = value_after s at v c }) (lines_from [] (flat_map value_line changes ++ rest)) =
+      ap (λ (n : ℕ). fold (read_line s at) (record { time = n; value = v }) (lines_from [] (value_line c ++ (flat_map value_line changes ++ rest)))) (sym zero_time)
+      ∙ value_reads c v (flat_map value_line changes ++ rest)
+      ∙ ap (λ (n : ℕ). fold (read_line s at) (record { time = n; value = value_after s at v c }) (lines_from [] (flat_map value_line changes ++ rest))) zero_time in
+      ap (λ (text : List ℕ). fold (read_line s at) (record { time = 0; value = v }) (lines_from [] text)) (append_assoc (value_line c) (flat_map value_line changes) rest)
+      ∙ here
+      ∙ firsts_read changes (value_after s at v c) rest parts.1
+
+  -- later values, with their times
+  pub timed_read : (changes : List Change) (time : ℕ) (v : Option Bool) → list_all (λ c. nat_lt c.at (2 ^ 64)) changes ≡ true →
+      (fold (read_line s at) (record { time = time; value = v }) (lines_from [] (timed_lines time changes))).value ≡ fold (value_after s at) v changes
+  timed_read [] time v small = refl
+  timed_read (c ∷ changes) time v small =
+      let parts = and_parts (nat_lt c.at (2 ^ 64)) (list_all (λ c. nat_lt c.at (2 ^ 64)) changes) small in
+      let shown : Shown = fold (read_line s at) (record { time = time; value = v }) (lines_from [] (timed_lines time (c ∷ changes))) in
+      ap (λ (shown : Shown). shown.value)
+      (time_reads time c v (value_line c ++ timed_lines c.at changes) (ltb-true c.at (2 ^ 64) parts.0)
+      ∙ value_reads c v (timed_lines c.at changes))
+      ∙ timed_read changes c.at (value_after s at v c) parts.1
