@@ -13,6 +13,3 @@ mod texts;
 
 pub use fault::RingFault;
 pub use texts::ring;
-
-#[cfg(test)]
-mod tests;

@@ -50,3 +50,14 @@ abbrev pub accepted_text : Parts → ℕ → Option ℕ → List ℕ
 accepted_text net loops loose =
     (codes "accepted gates=" ++ decimal (length net.gates))
     ++ ((codes " loops=" ++ decimal loops) ++ ((codes " latches=" ++ decimal (length net.latches)) ++ open_text loose))
+
+-- the number of gates of a rewritten netlist, and the end of the line
+abbrev pub rewritten_text : ℕ → List ℕ
+rewritten_text gates = codes " accepted rewritten=" ++ (decimal gates ++ codes "\n")
+
+-- a ring arbiter of so many cells that is accepted, with the numbers of its gates, of its loops, and of the gates of its
+-- rewritten netlist
+abbrev pub ring_line : ℕ → Parts → ℕ → ℕ → List ℕ
+ring_line cells net loops rewritten =
+    (codes "ring " ++ decimal cells)
+    ++ ((codes " gates=" ++ decimal (length net.gates)) ++ ((codes " loops=" ++ decimal loops) ++ rewritten_text rewritten))

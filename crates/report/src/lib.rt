@@ -9,8 +9,6 @@ mod fault;
 mod loop_text;
 mod message;
 mod put;
-#[cfg(test)]
-mod tests;
 mod tick;
 mod verdict;
 
@@ -20,4 +18,4 @@ pub use message::{
     NO_MEMORY_TEXT, USAGE_TEXT, put_limit, put_no_memory, put_read_failed, put_too_large, put_usage,
 };
 pub use tick::{put_played_tick, put_tick};
-pub use verdict::{put_accepted, put_refusal};
+pub use verdict::{put_accepted, put_refusal, put_ring};

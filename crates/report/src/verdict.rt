@@ -4,7 +4,7 @@ ghost use Rattle.cyc_io.specs.Taken.{IsAppended, sink_call};
 ghost use Rattle.netlist.specs.Netlists.{count, IsNetlist};
 ghost use Rattle.refusals.specs.Refusals.{IsStepTo, IsRefusalOf};
 ghost use Rattle.refusals.specs.declared.refusal.Refusal.TheVariants.{Leaves};
-ghost use Rattle.report.specs.Verdicts.{value_text, column_text, columns_text, last_columns, vector_text, refusal_text, open_text, accepted_text};
+ghost use Rattle.report.specs.Verdicts.{value_text, column_text, columns_text, last_columns, vector_text, refusal_text, open_text, accepted_text, rewritten_text, ring_line};
 
 use crate::put::{put_number, put_three, put_two};
 use cyc_base::{Name, Sig};
@@ -162,4 +162,38 @@ pub fn put_accepted<K: Sink>(
     put_number(sink, b" loops=", loops as u64)?;
     put_number(sink, b" latches=", net.latches() as u64)?;
     put_open(sink, loose)
+}
+
+fn rewritten_words() -> &'static [u8]
+    ensures { result.now ≡ codes " accepted rewritten=" }
+{
+    b" accepted rewritten="
+}
+
+fn put_rewritten<K: Sink>(sink: &mut K, gates: u64) -> Result<(), Failed>
+    ensures { IsAppended (rewritten_text gates) (sink_call K.put K.faults sink.old sink.new) result }
+{
+    put_three(
+        sink,
+        rewritten_words(),
+        Buffer::new().format(gates).as_bytes(),
+        b"\n",
+    )
+}
+
+/// Appends the line of a ring arbiter of so many cells that is accepted, with this number of loops, and of gates of the
+/// rewritten netlist. It takes no memory.
+pub fn put_ring<K: Sink>(
+    cells: u32,
+    net: &Netlist,
+    loop_count: u32,
+    rewritten: u64,
+    sink: &mut K,
+) -> Result<(), Failed>
+    ensures { IsAppended (ring_line cells net.now loop_count rewritten) (sink_call K.put K.faults sink.old sink.new) result }
+{
+    put_number(sink, b"ring ", cells as u64)?;
+    put_number(sink, b" gates=", net.gates() as u64)?;
+    put_number(sink, b" loops=", loop_count as u64)?;
+    put_rewritten(sink, rewritten)
 }
