@@ -1,0 +1,149 @@
+-- What the words of a call ask for.
+use Rattle.std.specs.Prelude.{ℕ, ◌+◌, ◌-◌, ◌*◌, List, [], ◌∷◌, ◌&&◌, ◌==◌, not, length, Some, None, is_none, nat_eq, nat_le, codes, if◌then◌else◌, Bool, option_map}
+use Rattle.std.specs.List.{list_all, starts_with}
+use Rattle.std.specs.Option.{option_and_then}
+use Rattle.std.specs.Str.{bytes_eq}
+use Rattle.std.specs.declared.option.Option.{Option}
+use Rattle.cyc_base.specs.declared.limits.TheConstants.{MIN_NODES, MAX_NODES, MIN_RING_CELLS, MAX_RING_CELLS}
+use Rattle.refusals.specs.declared.observe.Observe.{Observe}
+use Rattle.refusals.specs.declared.observe.Observe.TheVariants as observe
+
+-- the options of a decision: a care file, the greatest number of nodes, and the wires that a user looks at
+pub record Options : Type 0 where
+  pub care : Option (List ℕ)
+  pub nodes : Option ℕ
+  pub observe : Option Observe
+
+abbrev pub no_options : Options
+no_options = record { care = None; nodes = None; observe = None }
+
+-- a command with its words
+pub data Command : Type 0 where
+  -- decides the netlist of a file
+  Check : List ℕ → Options → Command
+  -- decides it, and writes it without loops
+  Rewrite : List ℕ → Options → Command
+  -- writes its flat netlist
+  Flat : List ℕ → Command
+  -- prints its loops and their cut wires
+  Loops : List ℕ → Command
+  -- simulates it on the vectors of a file
+  Sim : List ℕ → List ℕ → Command
+  -- plays it on the vectors of a file by the schedule of another
+  Delays : List ℕ → List ℕ → List ℕ → Command
+  -- decides the ring arbiter of so many cells
+  Demo : ℕ → Command
+  -- decides the netlist of a file, and writes a schedule of so many rounds on which a refused wire never rests
+  Storm : List ℕ → ℕ → Options → Command
+
+-- a word that may name a file
+abbrev pub is_file_word : List ℕ → Bool
+is_file_word word = not (bytes_eq word []) && not (starts_with nat_eq word (codes "--"))
+
+abbrev pub is_digit : ℕ → Bool
+is_digit b = nat_le 48 b && nat_le b 57
+
+-- the number whose digits are those of n and then these
+abbrev pub with_digits : ℕ → List ℕ → ℕ
+with_digits n [] = n
+with_digits n (b ∷ digits) = with_digits (n * 10 + (b - 48)) digits
+
+-- that number, where these are digits and it isn't over `most`
+abbrev pub up_to : ℕ → ℕ → List ℕ → Option ℕ
+up_to most n digits = if list_all is_digit digits && nat_le (with_digits n digits) most then Some (with_digits n digits) else None
+
+-- a decimal number without leading zeros, from `least` to `most`
+abbrev pub number_between : ℕ → ℕ → List ℕ → Option ℕ
+number_between least most word =
+    if starts_with nat_eq word (codes "0") then None else option_and_then (λ n. if nat_le least n then Some n else None) (up_to most 0 word)
+
+abbrev pub observe_of : List ℕ → Option Observe
+observe_of word =
+    if bytes_eq word (codes "all") then Some observe.All
+    else if bytes_eq word (codes "outputs") then Some observe.Outputs
+    else None
+
+-- each option comes once at most
+abbrev pub with_care : List ℕ → Options → Option Options
+with_care value known =
+    if is_file_word value && is_none known.care
+    then Some (record { care = Some value; nodes = known.nodes; observe = known.observe }) else None
+
+abbrev pub with_nodes : List ℕ → Options → Option Options
+with_nodes value known =
+    if is_none known.nodes
+    then option_map (λ n. record { care = known.care; nodes = Some n; observe = known.observe }) (number_between MIN_NODES MAX_NODES value)
+    else None
+
+abbrev pub with_observe : List ℕ → Options → Option Options
+with_observe value known =
+    if is_none known.observe
+    then option_map (λ what. record { care = known.care; nodes = known.nodes; observe = Some what }) (observe_of value)
+    else None
+
+-- an option with its value, beside those that are known
+abbrev pub with_option : List ℕ → List ℕ → Options → Option Options
+with_option word value known =
+    if bytes_eq word (codes "--care") then with_care value known
+    else if bytes_eq word (codes "--nodes") then with_nodes value known
+    else if bytes_eq word (codes "--observe") then with_observe value known
+    else None
+
+-- the options that these words give beside those that are known
+abbrev pub options_of : Options → List (List ℕ) → Option Options
+options_of known [] = Some known
+options_of known (word ∷ []) = None
+options_of known (word ∷ value ∷ rest) = option_and_then (λ more. options_of more rest) (with_option word value known)
+
+abbrev pub check_on : List ℕ → List (List ℕ) → Option Command
+check_on file rest = option_map (Check file) (options_of no_options rest)
+
+abbrev pub rewrite_on : List ℕ → List (List ℕ) → Option Command
+rewrite_on file rest = option_map (Rewrite file) (options_of no_options rest)
+
+-- a simulation wants one more file
+abbrev pub sim_on : List ℕ → List (List ℕ) → Option Command
+sim_on file (vectors ∷ []) = if is_file_word vectors then Some (Sim file vectors) else None
+sim_on file other = None
+
+-- a play wants two more
+abbrev pub delays_on : List ℕ → List (List ℕ) → Option Command
+delays_on file (vectors ∷ schedule ∷ []) = if is_file_word vectors && is_file_word schedule then Some (Delays file vectors schedule) else None
+delays_on file other = None
+
+-- a demonstration wants a number of cells alone
+abbrev pub cells : List ℕ → Option ℕ
+cells word = number_between MIN_RING_CELLS MAX_RING_CELLS word
+
+abbrev pub demo_on : List ℕ → List (List ℕ) → Option Command
+demo_on word [] = option_map Demo (cells word)
+demo_on word other = None
+
+-- a storm wants a number of rounds, and may have options
+abbrev pub rounds : List ℕ → Option ℕ
+rounds word = number_between 1 10000 word
+
+abbrev pub storm_with : List ℕ → ℕ → List (List ℕ) → Option Command
+storm_with file number rest = option_map (Storm file number) (options_of no_options rest)
+
+abbrev pub storm_on : List ℕ → List (List ℕ) → Option Command
+storm_on file [] = None
+storm_on file (word ∷ rest) = option_and_then (λ number. storm_with file number rest) (rounds word)
+
+-- the command of this name on a word, with the words behind it
+abbrev pub command_on : List ℕ → List ℕ → List (List ℕ) → Option Command
+command_on command word rest =
+    if bytes_eq command (codes "check") then check_on word rest
+    else if bytes_eq command (codes "rewrite") then rewrite_on word rest
+    else if bytes_eq command (codes "flat") && length rest == 0 then Some (Flat word)
+    else if bytes_eq command (codes "loops") && length rest == 0 then Some (Loops word)
+    else if bytes_eq command (codes "sim") then sim_on word rest
+    else if bytes_eq command (codes "delays") then delays_on word rest
+    else if bytes_eq command (codes "demo") then demo_on word rest
+    else if bytes_eq command (codes "storm") then storm_on word rest
+    else None
+
+-- nothing for words outside the grammar
+abbrev pub command_of : List (List ℕ) → Option Command
+command_of (command ∷ word ∷ rest) = if is_file_word word then command_on command word rest else None
+command_of _ = None

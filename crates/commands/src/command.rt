@@ -1,0 +1,54 @@
+ghost use Rattle.std.specs.Prelude.{◌≤◌, unwrap_or};
+
+use cyc_base::Name;
+use refusals::Observe;
+
+/// The options of a decision.
+#[derive(Clone, Copy, Drop)]
+pub struct Options<'a> {
+    /// A care file.
+    pub care: Option<&'a Name>,
+    /// The greatest number of nodes, from 1 to 50,000,000.
+    pub nodes: Option<u32>,
+    /// The wires that a user looks at.
+    pub observe: Option<Observe>,
+    ghost some: { 1 ≤ unwrap_or nodes 1 },
+    ghost most: { unwrap_or nodes 1 ≤ 50000000 },
+}
+
+/// A number of cells of the ring arbiter, from 2 to 64.
+#[derive(Clone, Copy, Drop)]
+pub struct Cells {
+    pub number: u32,
+    ghost some: { 2 ≤ number },
+    ghost most: { number ≤ 64 },
+}
+
+/// A number of rounds of a storm, from 1 to 10,000.
+#[derive(Clone, Copy, Drop)]
+pub struct Rounds {
+    pub number: u32,
+    ghost some: { 1 ≤ number },
+    ghost most: { number ≤ 10000 },
+}
+
+/// A command with its words. Files stand in the order in which they are read.
+#[derive(Clone, Copy, Drop)]
+pub enum Command<'a> {
+    /// Decides the netlist of this file.
+    Check(&'a Name, Options<'a>),
+    /// Decides it, and writes it without loops.
+    Rewrite(&'a Name, Options<'a>),
+    /// Writes its flat netlist.
+    Flat(&'a Name),
+    /// Prints its loops and their cut wires.
+    Loops(&'a Name),
+    /// Simulates it on the vectors of a second file.
+    Sim(&'a Name, &'a Name),
+    /// Plays it on the vectors of a second file by the schedule of a third.
+    Delays(&'a Name, &'a Name, &'a Name),
+    /// Decides the ring arbiter of so many cells.
+    Demo(Cells),
+    /// Decides the netlist of this file, and writes a schedule of so many rounds on which a refused wire never rests.
+    Storm(&'a Name, Rounds, Options<'a>),
+}

@@ -1,0 +1,290 @@
+// The grammar of the words.
+ghost use Rattle.std.specs.Prelude.{◌≡◌, ◌≤◌, ◌+◌, ◌-◌, ◌*◌, ◌&&◌, nat_le, true, false, MatchOption, IfSome, None, Some};
+ghost use Rattle.cyc_base.specs.declared.limits.TheConstants.{MAX_NODES as most_nodes};
+ghost use Rattle.commands.specs.Seen.{cells_seen, command_seen, options_seen, rounds_seen};
+ghost use Rattle.commands.specs.Words.{cells as cells_asked, check_on as check_asked, command_of, command_on as command_asked, delays_on as delays_asked, demo_on as demo_asked, is_digit, is_file_word, no_options as asked_no_options, number_between as number_asked, observe_of as observe_asked, options_of as options_asked, rewrite_on as rewrite_asked, rounds as rounds_asked, sim_on as sim_asked, storm_on as storm_asked, storm_with as storm_asked_with, up_to, with_care as asked_with_care, with_nodes as asked_with_nodes, with_observe as asked_with_observe, with_option as asked_with_option};
+
+use crate::command::{Cells, Command, Options, Rounds};
+use cyc_base::{MAX_NODES, MAX_RING_CELLS, MIN_NODES, MIN_RING_CELLS, Name};
+use refusals::Observe;
+
+/// The most rounds of a storm.
+const MAX_ROUNDS: u32 = 10_000;
+
+/// The command that the words ask for, or nothing for words outside the grammar.
+pub fn command_of_words(words: &[Name]) -> Option<Command<'_>>
+    ensures { MatchOption result (command_of words.now ≡ None) (λ command. command_of words.now ≡ Some (command_seen command)) }
+{
+    match words {
+        [command, word, rest @ ..] if is_file(word.bytes()) => {
+            command_on(command.bytes(), word, rest)
+        }
+        _ => None,
+    }
+}
+
+// The command of this name on a word, with the words behind it.
+fn command_on<'a>(command: &[u8], word: &'a Name, rest: &'a [Name]) -> Option<Command<'a>>
+    ensures { MatchOption result (command_asked command.now word.now rest.now ≡ None)
+        (λ asked. command_asked command.now word.now rest.now ≡ Some (command_seen asked)) }
+{
+    if command == b"check".as_slice() {
+        return check_on(word, rest);
+    }
+    if command == b"rewrite".as_slice() {
+        return rewrite_on(word, rest);
+    }
+    if command == b"flat".as_slice() && rest.is_empty() {
+        return Some(Command::Flat(word));
+    }
+    if command == b"loops".as_slice() && rest.is_empty() {
+        return Some(Command::Loops(word));
+    }
+    if command == b"sim".as_slice() {
+        return sim_on(word, rest);
+    }
+    if command == b"delays".as_slice() {
+        return delays_on(word, rest);
+    }
+    if command == b"demo".as_slice() {
+        return demo_on(word, rest);
+    }
+    if command == b"storm".as_slice() {
+        return storm_on(word, rest);
+    }
+    None
+}
+
+fn no_options<'a>() -> Options<'a>
+    ensures { options_seen result ≡ asked_no_options }
+{
+    Options {
+        care: None,
+        nodes: None,
+        observe: None,
+    }
+}
+
+#[tactic(auto, using(crate::proofs::WordLemmas::check_asked, crate::proofs::WordLemmas::check_not_asked))]
+fn check_on<'a>(file: &'a Name, rest: &'a [Name]) -> Option<Command<'a>>
+    ensures { MatchOption result (check_asked file.now rest.now ≡ None)
+        (λ asked. check_asked file.now rest.now ≡ Some (command_seen asked)) }
+{
+    let options = options_of(no_options(), rest)?;
+    Some(Command::Check(file, options))
+}
+
+#[tactic(auto, using(crate::proofs::WordLemmas::rewrite_asked, crate::proofs::WordLemmas::rewrite_not_asked))]
+fn rewrite_on<'a>(file: &'a Name, rest: &'a [Name]) -> Option<Command<'a>>
+    ensures { MatchOption result (rewrite_asked file.now rest.now ≡ None)
+        (λ asked. rewrite_asked file.now rest.now ≡ Some (command_seen asked)) }
+{
+    let options = options_of(no_options(), rest)?;
+    Some(Command::Rewrite(file, options))
+}
+
+// A simulation wants one more file.
+fn sim_on<'a>(file: &'a Name, rest: &'a [Name]) -> Option<Command<'a>>
+    ensures { MatchOption result (sim_asked file.now rest.now ≡ None)
+        (λ asked. sim_asked file.now rest.now ≡ Some (command_seen asked)) }
+{
+    match rest {
+        [vectors] if is_file(vectors.bytes()) => Some(Command::Sim(file, vectors)),
+        _ => None,
+    }
+}
+
+// A play wants two more.
+fn delays_on<'a>(file: &'a Name, rest: &'a [Name]) -> Option<Command<'a>>
+    ensures { MatchOption result (delays_asked file.now rest.now ≡ None)
+        (λ asked. delays_asked file.now rest.now ≡ Some (command_seen asked)) }
+{
+    match rest {
+        [vectors, schedule] if is_file(vectors.bytes()) && is_file(schedule.bytes()) => {
+            Some(Command::Delays(file, vectors, schedule))
+        }
+        _ => None,
+    }
+}
+
+// A demonstration wants a number of cells alone.
+fn demo_on<'a>(word: &Name, rest: &'a [Name]) -> Option<Command<'a>>
+    ensures { MatchOption result (demo_asked word.now rest.now ≡ None)
+        (λ asked. demo_asked word.now rest.now ≡ Some (command_seen asked)) }
+{
+    match rest {
+        [] => Some(Command::Demo(cells(word.bytes())?)),
+        _ => None,
+    }
+}
+
+// A storm wants a number of rounds, and may have options.
+fn storm_on<'a>(file: &'a Name, rest: &'a [Name]) -> Option<Command<'a>>
+    ensures { MatchOption result (storm_asked file.now rest.now ≡ None)
+        (λ asked. storm_asked file.now rest.now ≡ Some (command_seen asked)) }
+{
+    match rest {
+        [word, rest @ ..] => storm_with(file, rounds(word.bytes())?, rest),
+        [] => None,
+    }
+}
+
+#[tactic(auto, using(crate::proofs::WordLemmas::storm_asked, crate::proofs::WordLemmas::storm_not_asked))]
+fn storm_with<'a>(file: &'a Name, rounds: Rounds, rest: &'a [Name]) -> Option<Command<'a>>
+    ensures { MatchOption result (storm_asked_with file.now (rounds_seen rounds) rest.now ≡ None)
+        (λ asked. storm_asked_with file.now (rounds_seen rounds) rest.now ≡ Some (command_seen asked)) }
+{
+    let options = options_of(no_options(), rest)?;
+    Some(Command::Storm(file, rounds, options))
+}
+
+fn rounds(word: &[u8]) -> Option<Rounds>
+    ensures { MatchOption result (rounds_asked word.now ≡ None) (λ rounds. rounds_asked word.now ≡ Some (rounds_seen rounds)) }
+{
+    let number = number_between(1, MAX_ROUNDS, word)?;
+    Some(Rounds { number })
+}
+
+fn cells(word: &[u8]) -> Option<Cells>
+    ensures { MatchOption result (cells_asked word.now ≡ None) (λ cells. cells_asked word.now ≡ Some (cells_seen cells)) }
+{
+    let number = number_between(MIN_RING_CELLS, MAX_RING_CELLS, word)?;
+    Some(Cells { number })
+}
+
+// The options that these words give beside those that are known. They recurse at most once for each option, since each
+// comes once.
+#[tactic(auto, using(crate::proofs::WordLemmas::more_options, crate::proofs::WordLemmas::no_more_options))]
+fn options_of<'a>(known: Options<'a>, words: &'a [Name]) -> Option<Options<'a>>
+    ensures { MatchOption result (options_asked (options_seen known.entry) words.now ≡ None)
+        (λ options. options_asked (options_seen known.entry) words.now ≡ Some (options_seen options)) }
+{
+    match words {
+        [] => Some(known),
+        [word, value, rest @ ..] => options_of(with_option(word.bytes(), value, known)?, rest),
+        _ => None,
+    }
+}
+
+// An option with its value, beside those that are known.
+fn with_option<'a>(word: &[u8], value: &'a Name, known: Options<'a>) -> Option<Options<'a>>
+    ensures { MatchOption result (asked_with_option word.now value.now (options_seen known.entry) ≡ None)
+        (λ options. asked_with_option word.now value.now (options_seen known.entry) ≡ Some (options_seen options)) }
+{
+    if word == b"--care".as_slice() {
+        return with_care(value, known);
+    }
+    if word == b"--nodes".as_slice() {
+        return with_nodes(value, known);
+    }
+    if word == b"--observe".as_slice() {
+        return with_observe(value, known);
+    }
+    None
+}
+
+fn with_care<'a>(value: &'a Name, known: Options<'a>) -> Option<Options<'a>>
+    ensures { MatchOption result (asked_with_care value.now (options_seen known.entry) ≡ None)
+        (λ options. asked_with_care value.now (options_seen known.entry) ≡ Some (options_seen options)) }
+{
+    if is_file(value.bytes()) && known.care.is_none() {
+        Some(Options {
+            care: Some(value),
+            nodes: known.nodes,
+            observe: known.observe,
+        })
+    } else {
+        None
+    }
+}
+
+fn with_nodes<'a>(value: &'a Name, known: Options<'a>) -> Option<Options<'a>>
+    ensures { MatchOption result (asked_with_nodes value.now (options_seen known.entry) ≡ None)
+        (λ options. asked_with_nodes value.now (options_seen known.entry) ≡ Some (options_seen options)) }
+{
+    if known.nodes.is_some() {
+        return None;
+    }
+    let nodes = number_between(MIN_NODES, MAX_NODES, value.bytes())?;
+    Some(Options {
+        care: known.care,
+        nodes: Some(nodes),
+        observe: known.observe,
+    })
+}
+
+fn with_observe<'a>(value: &'a Name, known: Options<'a>) -> Option<Options<'a>>
+    ensures { MatchOption result (asked_with_observe value.now (options_seen known.entry) ≡ None)
+        (λ options. asked_with_observe value.now (options_seen known.entry) ≡ Some (options_seen options)) }
+{
+    if known.observe.is_some() {
+        return None;
+    }
+    let observe = observe_of(value.bytes())?;
+    Some(Options {
+        care: known.care,
+        nodes: known.nodes,
+        observe: Some(observe),
+    })
+}
+
+fn observe_of(word: &[u8]) -> Option<Observe>
+    ensures { result ≡ observe_asked word.now }
+{
+    if word == b"all".as_slice() {
+        Some(Observe::All)
+    } else if word == b"outputs".as_slice() {
+        Some(Observe::Outputs)
+    } else {
+        None
+    }
+}
+
+// A decimal number without leading zeros, from `least` to `most`.
+fn number_between(least: u32, most: u32, word: &[u8]) -> Option<u32>
+    requires { most ≤ most_nodes }
+    ensures number { result ≡ number_asked least most word.now }
+    ensures some { IfSome result (λ n. least ≤ n) }
+    ensures most { IfSome result (λ n. n ≤ most) }
+{
+    if word.starts_with(b"0") {
+        return None;
+    }
+    let number = read_digits(0, most, word)?;
+    if number >= least { Some(number) } else { None }
+}
+
+// The number whose digits are those of a value and then these, up to `most`. It recurses at most once for each digit
+// of that.
+#[tactic(auto, using(crate::proofs::WordLemmas::more_digits, crate::proofs::WordLemmas::no_more_digits))]
+fn read_digits(value: u32, most: u32, digits: &[u8]) -> Option<u32>
+    requires value { value ≤ most }
+    requires most { most ≤ most_nodes }
+    ensures number { result ≡ up_to most value digits.now }
+    ensures most { IfSome result (λ n. n ≤ most) }
+{
+    match digits {
+        [digit, rest @ ..] => read_digits(with_digit(value, most, *digit)?, most, rest),
+        [] => Some(value),
+    }
+}
+
+// A value with one more digit, where this is one and the number isn't too great.
+fn with_digit(value: u32, most: u32, digit: u8) -> Option<u32>
+    requires value { value ≤ most }
+    requires most { most ≤ most_nodes }
+    ensures { MatchOption result ((is_digit digit && nat_le (value * 10 + (digit - 48)) most) ≡ false)
+        (λ n. ((is_digit digit && nat_le (value * 10 + (digit - 48)) most) ≡ true) × (n ≡ value * 10 + (digit - 48))) }
+{
+    if !digit.is_ascii_digit() {
+        return None;
+    }
+    let next = value * 10 + u32::from(digit - b'0');
+    if next <= most { Some(next) } else { None }
+}
+
+fn is_file(word: &[u8]) -> bool
+    ensures { result ≡ is_file_word word.now }
+{
+    !word.is_empty() && !word.starts_with(b"--")
+}

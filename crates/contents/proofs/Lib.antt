@@ -1,0 +1,5 @@
+pub mod CareLemmas
+pub mod ErrorLemmas
+pub mod FlatLemmas
+pub mod NetlistLemmas
+pub mod ScheduleLemmas

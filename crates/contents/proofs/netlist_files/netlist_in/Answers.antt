@@ -1,0 +1,19 @@
+use Rattle.std.proofs.Common.{ap, ◌∙◌}
+use Rattle.std.proofs.lemmas.Result.{err_from_is_err_and}
+use Rattle.contents.specs.NetlistFiles.{models_result, top_of}
+use Rattle.contents.proofs.ErrorLemmas.{or_more, text_says, walk_says}
+use Rattle.contents.proofs.NetlistLemmas.{first_bad, netlist_of_short}
+use Rattle.contents.proofs.netlist_files.netlist_in.Goals as goal
+
+pub returns-in_err-models-clause-bad : goal.returns-in_err-models-clause-bad
+returns-in_err-models-clause-bad c =
+    let q = err_from_is_err_and c.from_residual.result c.from_residual.ensures.1 in
+    rw q.1 (text_says _ c.in_err-models.field-0.0 _ q.2
+    (λ differs. netlist_of_short c.args.bytes.now c.requires ∙ ap models_result (c.in_err-models.ensures.models differs)))
+
+pub returns-in_err-flatten-clause-bad : goal.returns-in_err-flatten-clause-bad
+returns-in_err-flatten-clause-bad c =
+    let q = err_from_is_err_and c.from_residual-in_err-flatten.result c.from_residual-in_err-flatten.ensures.1 in
+    rw q.1 (walk_says _ c.in_err-flatten.field-0.0 _ q.2
+    (or_more (first_bad c.args.bytes.now _ c.top.result.now _ c.requires c.in_ok-models.ensures.models (c.top.ensures ∙ ap top_of c.items.ensures))
+    c.in_err-flatten.ensures.fault))

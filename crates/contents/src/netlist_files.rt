@@ -1,0 +1,51 @@
+// The netlist of a netlist file.
+ghost use Rattle.std.specs.Prelude.{◌≡◌, ◌≤◌, ◌<◌, Ok, IfOk, IfErr, length};
+ghost use Rattle.netlist.specs.Netlists.{IsNetlist};
+ghost use Rattle.contents.specs.Faults.{IsErrorOf};
+ghost use Rattle.contents.specs.NetlistFiles.{netlist_of as netlist_meant, top_of};
+ghost use Rattle.contents.specs.Seen.{error_seen};
+
+use crate::errors::too_long;
+use crate::fault::FileError;
+use blif_read::{BlifModel, read};
+use cyc_base::{MAX_FILE_BYTES, Name};
+use flatten::flatten;
+use netlist::Netlist;
+use std::alloc::Global;
+
+// The name of the first model, which is the top.
+#[tactic(auto, using(crate::proofs::NetlistLemmas::top_at))]
+fn top(models: &[BlifModel]) -> &Name
+    requires { 0 < length models.now }
+    ensures { result.now ≡ top_of models.now }
+{
+    &models[0].name
+}
+
+// The netlist of a text that isn't too long.
+#[tactic(auto, using(crate::proofs::FlatLemmas::flat_has_few_inputs))]
+fn netlist_in(alloc: Global, bytes: &[u8]) -> Result<Netlist, FileError>
+    requires { length bytes.now ≤ MAX_FILE_BYTES }
+    ensures good { IfOk result (λ net. netlist_meant bytes.now ≡ Ok net) }
+    ensures valid { IfOk result IsNetlist }
+    ensures inputs { IfOk result (λ net. length net.inputs ≤ 4000000000) }
+    ensures bad { IfErr result (λ error. IsErrorOf (netlist_meant bytes.now) (error_seen error)) }
+{
+    let models = read(alloc, bytes)?;
+    Ok(flatten(alloc, &models, top(models.list.items()))?)
+}
+
+/// The netlist of a file at its first model, or the file's first fault: that it is over 67,108,864 bytes long, then
+/// that of its text, then that of flattening. A netlist has at most 4,000,000,000 inputs.
+#[tactic(auto, using(crate::proofs::NetlistLemmas::netlist_of_long))]
+pub fn netlist_of(alloc: Global, bytes: &[u8]) -> Result<Netlist, FileError>
+    ensures good { IfOk result (λ net. netlist_meant bytes.now ≡ Ok net) }
+    ensures valid { IfOk result IsNetlist }
+    ensures inputs { IfOk result (λ net. length net.inputs ≤ 4000000000) }
+    ensures bad { IfErr result (λ error. IsErrorOf (netlist_meant bytes.now) (error_seen error)) }
+{
+    if bytes.len() > MAX_FILE_BYTES {
+        return Err(too_long());
+    }
+    netlist_in(alloc, bytes)
+}
