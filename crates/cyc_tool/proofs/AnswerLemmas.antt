@@ -10,7 +10,7 @@ use Rattle.cyc_tool.specs.Calls.{ShelfCall, SinkCall, ReadFailed, AreGiven, rest
 use Rattle.cyc_tool.specs.Causes.{Leads, Reaches, MeetsLimit, NoneFailed, IsWell, GivesAnswer, IsEnoughFor, HasEnoughNodes, IsComplete}
 use Rattle.cyc_tool.specs.Plans.{Plan, Reads, Faulty, Ends, Decides, plan_of}
 use Rattle.cyc_tool.specs.Texts.{Outcome, usage, read_failed, no_memory}
-use Rattle.cyc_tool.specs.Words.{Command, command_of}
+use Rattle.commands.specs.Words.{Command, command_of}
 
 -- a text that was given is that of the file that is told
 told_file : (shelf : ShelfCall) (files : Files) (name bytes : List ℕ) → shelf.files ≡ Some files → IsFile shelf.files name bytes → files name ≡ Some bytes
@@ -26,7 +26,7 @@ none_failed_later shelf files (bytes ∷ given) (Reads role name next) is gave w
     none_failed_later shelf files given (next bytes) is gave.2 here.1
 none_failed_later shelf files (bytes ∷ given) (Faulty name fault) is gave well = absurd gave
 none_failed_later shelf files (bytes ∷ given) (Ends ending) is gave well = absurd gave
-none_failed_later shelf files (bytes ∷ given) (Decides decision tell) is gave well = absurd gave
+none_failed_later shelf files (bytes ∷ given) (Decides decision purpose) is gave well = absurd gave
 
 same_outcome : (shelf : ShelfCall) (files : Files) (given : List (List ℕ)) (plan : Plan) → shelf.files ≡ Some files → AreGiven shelf.files given plan
     → outcome_at files (rest_of given plan) ≡ outcome_at files plan
@@ -36,7 +36,7 @@ same_outcome shelf files (bytes ∷ given) (Reads role name next) is gave =
     ∙ sym (ap (λ (file : Option (List ℕ)). option_map_or (λ text. outcome_at files (next text)) file (read_failed name)) (told_file shelf files name bytes is gave.0))
 same_outcome shelf files (bytes ∷ given) (Faulty name fault) is gave = absurd gave
 same_outcome shelf files (bytes ∷ given) (Ends ending) is gave = absurd gave
-same_outcome shelf files (bytes ∷ given) (Decides decision tell) is gave = absurd gave
+same_outcome shelf files (bytes ∷ given) (Decides decision purpose) is gave = absurd gave
 
 -- what a call came to at what is left of its plan, where the files are told
 data EndsTold (nodes : Arena) (files : Files) (end : Outcome) (rest : Plan) : Type 0 where
@@ -54,10 +54,10 @@ ends_told shelf files nodes end (Reads role name next) well ends = by_file (file
     by_file (Some bytes) is fails = absurd (fails.0 ends.0)
 ends_told shelf files nodes end (Faulty name fault) well ends = IsAnswer ends
 ends_told shelf files nodes end (Ends ending) well ends = IsAnswer ends
-ends_told shelf files nodes end (Decides decision tell) well ends = by_decision ends.1
+ends_told shelf files nodes end (Decides decision purpose) well ends = by_decision ends.1
   where
-    by_decision : IsDecided decision tell nodes end → EndsTold nodes files end (Decides decision tell)
-    by_decision (Verdict is) = IsAnswer is
+    by_decision : IsDecided decision purpose nodes end → EndsTold nodes files end (Decides decision purpose)
+    by_decision (Verdict is made) = IsAnswer is
     by_decision (Limit limited is) = IsAtLimit limited (ap (λ (o : Outcome). o.status) is)
 
 -- what a call came to for its words
@@ -126,7 +126,7 @@ not_met : (nodes : Arena) (rest : Plan) → IsEnoughFor rest → MeetsLimit node
 not_met nodes (Reads role name next) is met = met
 not_met nodes (Faulty name fault) is met = met
 not_met nodes (Ends ending) is met = met
-not_met nodes (Decides decision tell) is met =
+not_met nodes (Decides decision purpose) is met =
     let below = met.below.below is.width is.wide in
     absurd (omega (arith, below, is.within))
 

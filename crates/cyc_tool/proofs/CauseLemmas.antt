@@ -1,52 +1,76 @@
 -- The cause of each status of a run.
-use Rattle.std.proofs.Common.{◌≡◌, ◌≢◌, ◌≤◌, ◌⊎◌, ℕ, List, Some, None, refl, sym, ap, subst, ◌∙◌, inl, inr, arith}
-use Rattle.std.specs.Prelude.{IsSomeAnd}
+use Rattle.std.proofs.Common.{◌≡◌, ◌≢◌, ◌≤◌, ◌⊎◌, ℕ, Bool, true, false, List, Some, None, refl, sym, ap, subst, ◌∙◌, inl, inr, arith}
+use Rattle.std.specs.Prelude.{IsSomeAnd, nat_le, if◌then◌else◌}
 use Rattle.std.specs.declared.option.Option.{Option}
 use Rattle.std.proofs.lemmas.Option.{none-some}
 use Rattle.bdd_store.specs.Arena.{Arena}
 use Rattle.accepted_runs.proofs.HarmlessLemmas.{accepted_is_harmless}
+use Rattle.cyc_base.specs.declared.limits.TheConstants.{MAX_REWRITTEN_ITEMS}
+use Rattle.netlist.specs.declared.parts.Parts.{Parts}
 use Rattle.netlist.specs.Netlists.{IsNetlist}
-use Rattle.refusals.specs.declared.observe.Observe.TheVariants as observe
+use Rattle.blif_write.specs.Written.{written}
+use Rattle.rewriting.specs.Rewriting.{rewritten, rewritten_size}
+use Rattle.cyc_base.specs.declared.sig.Sig.{Sig}
+use Rattle.refusals.specs.Refusals.{IsRefusalOf, Proves}
 use Rattle.refusals.specs.declared.refusal.Refusal.{Refusal}
+use Rattle.refusals.specs.declared.refusal.Refusal.TheVariants.{Initial, EmptyCare, Undetermined, Leaves as LeavesCare}
+use Rattle.storm.specs.Storms.{most_events}
+use Rattle.storm.specs.Laws.{StormsNeverRest}
 use Rattle.refusals.proofs.LawLemmas.{accepted_without_refusal, refusal_is_shown}
-use Rattle.cyc_tool.specs.Answer.{told, verdict_of}
-use Rattle.cyc_tool.specs.Calls.{ShelfCall, SinkCall, WriteFailed, EndsAt, rest_of, ComesTo, IsDecided, Verdict, Limit, Tells, Runs}
-use Rattle.cyc_tool.specs.Causes.{IsWithoutCommand, Leads, Reaches, IsFaulty, IsUnread, MeetsLimit, IsVerdict, IsDoneWith}
-use Rattle.cyc_tool.specs.Plans.{Ending, Prints, Refuses, Decision, Plan, Reads, Faulty, Ends, Decides, plan_of}
+use Rattle.cyc_tool.specs.Answer.{told, decided, verdict_of}
+use Rattle.cyc_tool.specs.Calls.{ShelfCall, SinkCall, WriteFailed, Takes, EndsAt, rest_of, ComesTo, Follows, IsDecided, IsMade, IsMadeFor, Verdict, Limit, Tells, Runs}
+use Rattle.cyc_tool.specs.Causes.{IsWithoutCommand, Leads, Reaches, IsFaulty, IsUnread, MeetsLimit, IsVerdict, IsDoneWith, HasRewritten, HasStormed}
+use Rattle.cyc_tool.specs.Endings.{ending_of, storm_or_refusal}
+use Rattle.cyc_tool.specs.Storms.{events_of, events_told, storm_text}
+use Rattle.cyc_tool.specs.Plans.{Ending, Prints, Refuses, Declines, Outgrows, Decision, Judges, Rewrites, Demonstrates, Storms, Plan, Reads, Faulty, Ends, Decides, plan_of}
 use Rattle.cyc_tool.specs.Texts.{Outcome}
-use Rattle.cyc_tool.specs.Words.{Command, command_of}
+use Rattle.commands.specs.Words.{Command, command_of}
 
 abbrev status_of : Outcome → ℕ
 status_of end = end.status
+
+-- the status of an ending
+pub data IsEndStatus (status : ℕ) : Type 0 where
+  Zero : status ≡ 0 → IsEndStatus status
+  One : status ≡ 1 → IsEndStatus status
+  Eight : status ≡ 8 → IsEndStatus status
+
+-- which is no other
+no_other : (status other : ℕ) → IsEndStatus status → status ≡ other → 2 ≤ other → other ≤ 7 → ⊥
+no_other status other (Zero is) at least most = omega (arith, is, at, least)
+no_other status other (One is) at least most = omega (arith, is, at, least)
+no_other status other (Eight is) at least most = omega (arith, is, at, most)
 
 -- what a status shows at what is left of the plan
 data Shown (shelf : ShelfCall) (nodes : Arena) (rest : Plan) (status : ℕ) : Type 0 where
   Unread : IsUnread shelf rest → status ≡ 4 → Shown shelf nodes rest status
   Fault : IsFaulty rest → status ≡ 3 → Shown shelf nodes rest status
-  Done : IsDoneWith status rest → (status ≡ 0) ⊎ (status ≡ 1) → Shown shelf nodes rest status
+  Done : IsDoneWith status rest → IsEndStatus status → Shown shelf nodes rest status
   Full : MeetsLimit nodes rest → status ≡ 6 → Shown shelf nodes rest status
 
-ending_status : (ending : Ending) (status : ℕ) → status ≡ status_of (told ending) → (status ≡ 0) ⊎ (status ≡ 1)
-ending_status (Prints text) status is = inl is
-ending_status (Refuses text) status is = inr is
+ending_status : (ending : Ending) (status : ℕ) → status ≡ status_of (told ending) → IsEndStatus status
+ending_status (Prints text) status is = Zero is
+ending_status (Refuses text) status is = One is
+ending_status (Declines text) status is = One is
+ending_status (Outgrows size) status is = Eight is
 
 -- the verdict of a decision, and what shows it
 verdict_is : (decision : Decision) (verdict : Option Refusal) → IsNetlist decision.net → verdict_of decision ≡ verdict → IsVerdict decision verdict
 verdict_is decision None valid is =
-    accepted_is_harmless decision.net decision.care observe.All valid ((accepted_without_refusal decision.net decision.care observe.All valid).0 is)
+    accepted_is_harmless decision.net decision.care decision.observe valid ((accepted_without_refusal decision.net decision.care decision.observe valid).0 is)
 verdict_is decision (Some refused) valid is =
-    record { is = is; shown = (refusal_is_shown decision.net decision.care observe.All refused valid is).1 }
+    record { is = is; shown = (refusal_is_shown decision.net decision.care decision.observe refused valid is).1 }
 
 shown_at : (shelf : ShelfCall) (nodes : Arena) (end : Outcome) (rest : Plan) → EndsAt shelf nodes end rest → Shown shelf nodes rest end.status
 shown_at shelf nodes end (Reads role name next) ends = Unread ends.0 (ap status_of ends.1)
 shown_at shelf nodes end (Faulty name fault) ends = Fault tt (ap status_of ends)
 shown_at shelf nodes end (Ends ending) ends = Done (ap status_of ends) (ending_status ending end.status (ap status_of ends))
-shown_at shelf nodes end (Decides decision tell) ends = by_decision ends.1
+shown_at shelf nodes end (Decides decision purpose) ends = by_decision ends.1
   where
-    by_decision : IsDecided decision tell nodes end → Shown shelf nodes (Decides decision tell) end.status
-    by_decision (Verdict same) =
+    by_decision : IsDecided decision purpose nodes end → Shown shelf nodes (Decides decision purpose) end.status
+    by_decision (Verdict same made) =
         Done (verdict_of decision, verdict_is decision (verdict_of decision) ends.0 refl, ap status_of same)
-        (ending_status (tell (verdict_of decision)) end.status (ap status_of same))
+        (ending_status (ending_of decision purpose (verdict_of decision)) end.status (ap status_of same))
     by_decision (Limit limited same) = Full limited (ap status_of same)
 
 -- what a status shows of a run
@@ -98,29 +122,26 @@ reached P words shelf nodes out err status shows no_usage no_write no_lack (OfPl
 shows_fault : (shelf : ShelfCall) (nodes : Arena) (rest : Plan) (status : ℕ) → status ≡ 3 → Shown shelf nodes rest status → IsFaulty rest
 shows_fault shelf nodes rest status at (Unread cause is) = absurd (omega (arith, at, is))
 shows_fault shelf nodes rest status at (Fault cause is) = cause
-shows_fault shelf nodes rest status at (Done cause (inl is)) = absurd (omega (arith, at, is))
-shows_fault shelf nodes rest status at (Done cause (inr is)) = absurd (omega (arith, at, is))
+shows_fault shelf nodes rest status at (Done cause low) = absurd (no_other status _ low at (omega arith) (omega arith))
 shows_fault shelf nodes rest status at (Full cause is) = absurd (omega (arith, at, is))
 
 shows_unread : (shelf : ShelfCall) (nodes : Arena) (rest : Plan) (status : ℕ) → status ≡ 4 → Shown shelf nodes rest status → IsUnread shelf rest
 shows_unread shelf nodes rest status at (Unread cause is) = cause
 shows_unread shelf nodes rest status at (Fault cause is) = absurd (omega (arith, at, is))
-shows_unread shelf nodes rest status at (Done cause (inl is)) = absurd (omega (arith, at, is))
-shows_unread shelf nodes rest status at (Done cause (inr is)) = absurd (omega (arith, at, is))
+shows_unread shelf nodes rest status at (Done cause low) = absurd (no_other status _ low at (omega arith) (omega arith))
 shows_unread shelf nodes rest status at (Full cause is) = absurd (omega (arith, at, is))
 
 shows_limit : (shelf : ShelfCall) (nodes : Arena) (rest : Plan) (status : ℕ) → status ≡ 6 → Shown shelf nodes rest status → MeetsLimit nodes rest
 shows_limit shelf nodes rest status at (Unread cause is) = absurd (omega (arith, at, is))
 shows_limit shelf nodes rest status at (Fault cause is) = absurd (omega (arith, at, is))
-shows_limit shelf nodes rest status at (Done cause (inl is)) = absurd (omega (arith, at, is))
-shows_limit shelf nodes rest status at (Done cause (inr is)) = absurd (omega (arith, at, is))
+shows_limit shelf nodes rest status at (Done cause low) = absurd (no_other status _ low at (omega arith) (omega arith))
 shows_limit shelf nodes rest status at (Full cause is) = cause
 
-shows_done : (shelf : ShelfCall) (nodes : Arena) (rest : Plan) (status : ℕ) → (status ≡ 0) ⊎ (status ≡ 1) → Shown shelf nodes rest status → IsDoneWith status rest
-shows_done shelf nodes rest status at (Unread cause is) = absurd (elim at [ inl e ↦ omega (arith, e, is) | inr e ↦ omega (arith, e, is) ])
-shows_done shelf nodes rest status at (Fault cause is) = absurd (elim at [ inl e ↦ omega (arith, e, is) | inr e ↦ omega (arith, e, is) ])
-shows_done shelf nodes rest status at (Done cause is) = cause
-shows_done shelf nodes rest status at (Full cause is) = absurd (elim at [ inl e ↦ omega (arith, e, is) | inr e ↦ omega (arith, e, is) ])
+shows_done : (shelf : ShelfCall) (nodes : Arena) (rest : Plan) (status : ℕ) → IsEndStatus status → Shown shelf nodes rest status → IsDoneWith status rest
+shows_done shelf nodes rest status low (Unread cause is) = absurd (no_other status 4 low is (omega arith) (omega arith))
+shows_done shelf nodes rest status low (Fault cause is) = absurd (no_other status 3 low is (omega arith) (omega arith))
+shows_done shelf nodes rest status low (Done cause is) = cause
+shows_done shelf nodes rest status low (Full cause is) = absurd (no_other status 6 low is (omega arith) (omega arith))
 
 -- the cause of each status
 pub fault_cause : (words : List (List ℕ)) (shelf : ShelfCall) (nodes : Arena) (out err : SinkCall) (status : ℕ) → Runs words shelf nodes out err status
@@ -142,17 +163,13 @@ limit_cause words shelf nodes out err status runs at =
     (λ e. omega (arith, at, e)) (λ e. omega (arith, at, e)) (λ e. omega (arith, at, e)) (run_by words shelf nodes out err status runs)
 
 pub done_cause : (words : List (List ℕ)) (shelf : ShelfCall) (nodes : Arena) (out err : SinkCall) (status known : ℕ) → Runs words shelf nodes out err status
-    → (known ≡ 0) ⊎ (known ≡ 1) → status ≡ known → Reaches (IsDoneWith known) words shelf
+    → IsEndStatus known → status ≡ known → Reaches (IsDoneWith known) words shelf
 done_cause words shelf nodes out err status known runs low at =
     let P : ℕ → Type 0 = λ n. Reaches (IsDoneWith n) words shelf in
+    let here : IsEndStatus status = subst IsEndStatus (sym at) low in
     subst P at (reached (IsDoneWith status) words shelf nodes out err status (λ rest. shows_done shelf nodes rest status here)
-    (differs 2 (omega arith)) (differs 5 (omega arith)) (differs 7 (omega arith)) (run_by words shelf nodes out err status runs))
-  where
-    here : (status ≡ 0) ⊎ (status ≡ 1)
-    here = elim low [ inl e ↦ inl (at ∙ e) | inr e ↦ inr (at ∙ e) ]
-
-    differs : (n : ℕ) → 2 ≤ n → status ≡ n → ⊥
-    differs n least e = elim here [ inl is ↦ omega (arith, e, is, least) | inr is ↦ omega (arith, e, is, least) ]
+    (λ is. no_other status 2 here is (omega arith) (omega arith)) (λ is. no_other status 5 here is (omega arith) (omega arith))
+    (λ is. no_other status 7 here is (omega arith) (omega arith)) (run_by words shelf nodes out err status runs))
 
 pub write_cause : (words : List (List ℕ)) (shelf : ShelfCall) (nodes : Arena) (out err : SinkCall) (status : ℕ) → Runs words shelf nodes out err status
     → status ≡ 5 → WriteFailed out ⊎ WriteFailed err
@@ -168,8 +185,7 @@ write_cause words shelf nodes out err status runs at = by_telling runs.tells
         by_shown : Shown shelf nodes (rest_of leads.given (plan_of command)) runs.end.status → ⊥
         by_shown (Unread cause four) = omega (arith, four, e)
         by_shown (Fault cause three) = omega (arith, three, e)
-        by_shown (Done cause (inl low)) = omega (arith, low, e)
-        by_shown (Done cause (inr low)) = omega (arith, low, e)
+        by_shown (Done cause low) = no_other _ 5 low e (omega arith) (omega arith)
         by_shown (Full cause six) = omega (arith, six, e)
 
     by_telling : Tells runs.end out err status → WriteFailed out ⊎ WriteFailed err
@@ -184,8 +200,7 @@ usage_cause words shelf nodes out err status runs at = by_cause (run_by words sh
     by_shown : (rest : Plan) → Shown shelf nodes rest status → ⊥
     by_shown rest (Unread cause four) = omega (arith, four, at)
     by_shown rest (Fault cause three) = omega (arith, three, at)
-    by_shown rest (Done cause (inl low)) = omega (arith, low, at)
-    by_shown rest (Done cause (inr low)) = omega (arith, low, at)
+    by_shown rest (Done cause low) = no_other status 2 low at (omega arith) (omega arith)
     by_shown rest (Full cause six) = omega (arith, six, at)
 
     by_cause : Cause words shelf nodes out err status → command_of words ≡ None
@@ -208,3 +223,119 @@ usage_told words shelf nodes out err status runs = by_command (command_of words)
     by_command : (asked : Option Command) → command_of words ≡ asked → IsWithoutCommand asked status
     by_command None is = low None is refl (run_by words shelf nodes out err status runs)
     by_command (Some command) is = λ two. none-some command (sym (usage_cause words shelf nodes out err status runs two) ∙ is)
+
+-- what was put on out to rewrite
+has_rewritten : (shelf : ShelfCall) (nodes : Arena) (out : SinkCall) (end : Outcome) (rest : Plan) → end.status ≡ 0 → Takes out end.out
+    → EndsAt shelf nodes end rest → HasRewritten out rest
+has_rewritten shelf nodes out end (Reads role name next) done took ends = tt
+has_rewritten shelf nodes out end (Faulty name fault) done took ends = tt
+has_rewritten shelf nodes out end (Ends ending) done took ends = tt
+has_rewritten shelf nodes out end (Decides decision Judges) done took ends = tt
+has_rewritten shelf nodes out end (Decides decision (Demonstrates cells)) done took ends = tt
+has_rewritten shelf nodes out end (Decides decision (Storms rounds)) done took ends = tt
+has_rewritten shelf nodes out end (Decides decision Rewrites) done took ends = by_decision ends.1
+  where
+    size : ℕ
+    size = rewritten_size decision.net decision.care
+
+    other : Parts
+    other = rewritten decision.net decision.care
+
+    by_size : (fits : Bool) → nat_le size MAX_REWRITTEN_ITEMS ≡ fits → end ≡ told (if fits then Prints (written other) else Outgrows size)
+        → IsMade decision Rewrites → HasRewritten out (Decides decision Rewrites)
+    by_size true fits same made =
+        (made (let le : size ≤ MAX_REWRITTEN_ITEMS = grind (arith, fits) in le), subst (Takes out) (ap (λ (o : Outcome). o.out) same) took)
+    by_size false fits same made = absurd (let eight = ap status_of same in omega (arith, done, eight))
+
+    by_verdict : (verdict : Option Refusal) → end ≡ decided decision Rewrites verdict → IsMadeFor decision Rewrites verdict
+        → HasRewritten out (Decides decision Rewrites)
+    by_verdict None same made = by_size (nat_le size MAX_REWRITTEN_ITEMS) refl same made
+    by_verdict (Some refused) same made = absurd (let one = ap status_of same in omega (arith, done, one))
+
+    by_decision : IsDecided decision Rewrites nodes end → HasRewritten out (Decides decision Rewrites)
+    by_decision (Verdict same made) = by_verdict (verdict_of decision) same made
+    by_decision (Limit limited same) = absurd (let six = ap status_of same in omega (arith, done, six))
+
+-- what was put on out for a storm
+has_stormed : StormsNeverRest → (shelf : ShelfCall) (nodes : Arena) (out : SinkCall) (end : Outcome) (rest : Plan) → end.status ≡ 0 → Takes out end.out
+    → EndsAt shelf nodes end rest → HasStormed out rest
+has_stormed law shelf nodes out end (Reads role name next) done took ends = tt
+has_stormed law shelf nodes out end (Faulty name fault) done took ends = tt
+has_stormed law shelf nodes out end (Ends ending) done took ends = tt
+has_stormed law shelf nodes out end (Decides decision Judges) done took ends = tt
+has_stormed law shelf nodes out end (Decides decision Rewrites) done took ends = tt
+has_stormed law shelf nodes out end (Decides decision (Demonstrates cells)) done took ends = tt
+has_stormed law shelf nodes out end (Decides decision (Storms rounds)) done took ends = by_decision ends.1
+  where
+    fits_refusal : (refused : Refusal) → verdict_of decision ≡ Some refused → IsRefusalOf decision.net refused × (refused ≢ EmptyCare → Proves decision.net decision.care refused)
+    fits_refusal refused is = refusal_is_shown decision.net decision.care decision.observe refused ends.0 is
+
+    by_events : (v : List Bool) (s : Sig) → verdict_of decision ≡ Some (Undetermined v s) → (few : Bool)
+        → end ≡ told (if few then Prints (storm_text decision.net v rounds) else Outgrows (events_told (events_of decision.net v rounds)))
+        → HasStormed out (Decides decision (Storms rounds))
+    by_events v s is true same =
+        let known = fits_refusal (Undetermined v s) is in
+        record {
+          vector = v;
+          wire = s;
+          refused = is;
+          shown = known.1 (λ e. cc);
+          storm = law decision.net v rounds ends.0 known.0.width;
+          text = subst (Takes out) (ap (λ (o : Outcome). o.out) same) took;
+        }
+    by_events v s is false same = absurd (let eight = ap status_of same in omega (arith, done, eight))
+
+    by_refusal : (refused : Refusal) → verdict_of decision ≡ Some refused → end ≡ told (storm_or_refusal decision.net rounds refused)
+        → HasStormed out (Decides decision (Storms rounds))
+    by_refusal (Undetermined v s) is same = by_events v s is (nat_le (events_of decision.net v rounds) most_events) same
+    by_refusal (Initial q) is same = absurd (let one = ap status_of same in omega (arith, done, one))
+    by_refusal EmptyCare is same = absurd (let one = ap status_of same in omega (arith, done, one))
+    by_refusal (LeavesCare v q) is same = absurd (let one = ap status_of same in omega (arith, done, one))
+
+    by_verdict : (verdict : Option Refusal) → verdict_of decision ≡ verdict → end ≡ decided decision (Storms rounds) verdict
+        → HasStormed out (Decides decision (Storms rounds))
+    by_verdict None is same = absurd (let one = ap status_of same in omega (arith, done, one))
+    by_verdict (Some refused) is same = by_refusal refused is same
+
+    by_decision : IsDecided decision (Storms rounds) nodes end → HasStormed out (Decides decision (Storms rounds))
+    by_decision (Verdict same made) = by_verdict (verdict_of decision) refl same
+    by_decision (Limit limited same) = absurd (let six = ap status_of same in omega (arith, done, six))
+
+-- what a call with status 0 put on out
+leads_done : (P : Plan → Type 0) (words : List (List ℕ)) (shelf : ShelfCall) (nodes : Arena) (out err : SinkCall) (status : ℕ)
+    → ((end : Outcome) (rest : Plan) → end.status ≡ 0 → Takes out end.out → EndsAt shelf nodes end rest → P rest)
+    → Runs words shelf nodes out err status → status ≡ 0 → Reaches P words shelf
+leads_done P words shelf nodes out err status shows runs at = by_telling runs.tells
+  where
+    leading : Option Command → Type 0
+    leading asked = IsSomeAnd asked (λ command. Leads P shelf (plan_of command))
+
+    by_end : (command : Command) → runs.end.status ≡ 0 → Takes out runs.end.out → Follows (plan_of command) shelf nodes runs.end
+        → Leads P shelf (plan_of command)
+    by_end command done took follows = elim follows.ends [
+      | inl ends ↦ record {
+        given = follows.given;
+        gave = follows.gave;
+        holds = shows runs.end (rest_of follows.given (plan_of command)) done took ends;
+      }
+      | inr same ↦ absurd (let seven = ap status_of same in omega (arith, done, seven))
+    ]
+
+    by_command : (asked : Option Command) → runs.end.status ≡ 0 → Takes out runs.end.out → ComesTo asked shelf nodes runs.end → leading asked
+    by_command None done took comes = absurd (elim comes.ends [
+      | inl same ↦ (let two = ap status_of same in omega (arith, done, two))
+      | inr same ↦ (let seven = ap status_of same in omega (arith, done, seven))
+    ])
+    by_command (Some command) done took follows = by_end command done took follows
+
+    by_telling : Tells runs.end out err status → Reaches P words shelf
+    by_telling (inl whole) = by_command (command_of words) (sym whole.is ∙ at) whole.out_text runs.comes
+    by_telling (inr cut) = absurd (let five = cut.is in omega (arith, at, five))
+
+pub rewritten_cause : (words : List (List ℕ)) (shelf : ShelfCall) (nodes : Arena) (out err : SinkCall) (status : ℕ) → Runs words shelf nodes out err status
+    → status ≡ 0 → Reaches (HasRewritten out) words shelf
+rewritten_cause words shelf nodes out err status = leads_done (HasRewritten out) words shelf nodes out err status (has_rewritten shelf nodes out)
+
+pub stormed_cause : StormsNeverRest → (words : List (List ℕ)) (shelf : ShelfCall) (nodes : Arena) (out err : SinkCall) (status : ℕ) → Runs words shelf nodes out err status
+    → status ≡ 0 → Reaches (HasStormed out) words shelf
+stormed_cause law words shelf nodes out err status = leads_done (HasStormed out) words shelf nodes out err status (has_stormed law shelf nodes out)

@@ -1,10 +1,10 @@
 pub mod AnswerLemmas
-pub mod CareLemmas
 pub mod CauseLemmas
-pub mod ErrorLemmas
+pub mod DecisionLemmas
 pub mod PlanLemmas
 pub mod ReadingLemmas
+pub mod RingLemmas
 pub mod RunLemmas
+pub mod StormLemmas
 pub mod TellLemmas
-pub mod VectorLemmas
-pub mod WordLemmas
+pub mod TickLemmas

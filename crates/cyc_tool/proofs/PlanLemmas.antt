@@ -1,5 +1,6 @@
 -- Going along a plan, from one part of a call to the next.
-use Rattle.std.proofs.Common.{arith, ◌≡◌, ◌≢◌, ◌⊎◌, ℕ, ◌≤◌, List, [], ◌∷◌, ◌++◌, refl, sym, subst, ◌∙◌, inl, inr}
+use Rattle.std.proofs.Common.{arith, ◌≡◌, ◌≢◌, ◌⊎◌, ℕ, ◌≤◌, List, [], ◌∷◌, ◌++◌, Some, None, Ok, Err, refl, sym, ap, subst, ◌∙◌, inl, inr}
+use Rattle.std.specs.declared.result.Result.{Result}
 use Rattle.std.specs.List.{AllByRecursion}
 use Rattle.std.specs.declared.option.Option.{Option}
 use Rattle.bdd_store.specs.Arena.{Arena}
@@ -7,9 +8,11 @@ use Rattle.cyc_io.specs.Faults.{Counts}
 use Rattle.cyc_io.specs.Files.{Files}
 use Rattle.cyc_io.proofs.FaultLemmas.{Rose_later}
 use Rattle.cyc_tool.specs.Calls.{AreGiven, rest_of, names_read, EndsAt, Follows}
-use Rattle.cyc_tool.specs.Plans.{Plan, Reads, Faulty, Ends, Decides}
-use Rattle.cyc_tool.specs.Reading.{FollowsAlone, GoesOn, LeadsTo, StopsIn}
-use Rattle.cyc_tool.specs.Texts.{Outcome, no_memory}
+use Rattle.contents.specs.Faults.{Fault, IsErrorOf}
+use Rattle.cyc_tool.specs.Answer.{told}
+use Rattle.cyc_tool.specs.Plans.{Ending, Plan, Reads, Faulty, Ends, Decides, using}
+use Rattle.cyc_tool.specs.Reading.{FollowsAlone, FollowsStill, FollowsStillAlone, GoesOn, IsStoppedBy, LeadsTo, StopsAt, StopsIn}
+use Rattle.cyc_tool.specs.Texts.{Outcome, has_fault, no_memory}
 
 -- texts that are given one after another
 gave_more : (files : Option Files) (given more : List (List ℕ)) (plan : Plan) → AreGiven files given plan → AreGiven files more (rest_of given plan)
@@ -18,7 +21,7 @@ gave_more files [] more plan gave later = later
 gave_more files (bytes ∷ given) more (Reads role name next) gave later = (gave.0, gave.1, gave_more files given more (next bytes) gave.2 later)
 gave_more files (bytes ∷ given) more (Faulty name fault) gave later = absurd gave
 gave_more files (bytes ∷ given) more (Ends ending) gave later = absurd gave
-gave_more files (bytes ∷ given) more (Decides decision tell) gave later = absurd gave
+gave_more files (bytes ∷ given) more (Decides decision purpose) gave later = absurd gave
 
 rest_more : (files : Option Files) (given more : List (List ℕ)) (plan : Plan) → AreGiven files given plan
     → rest_of (given ++ more) plan ≡ rest_of more (rest_of given plan)
@@ -26,7 +29,7 @@ rest_more files [] more plan gave = refl
 rest_more files (bytes ∷ given) more (Reads role name next) gave = rest_more files given more (next bytes) gave.2
 rest_more files (bytes ∷ given) more (Faulty name fault) gave = absurd gave
 rest_more files (bytes ∷ given) more (Ends ending) gave = absurd gave
-rest_more files (bytes ∷ given) more (Decides decision tell) gave = absurd gave
+rest_more files (bytes ∷ given) more (Decides decision purpose) gave = absurd gave
 
 -- the names of their files
 names_first : (Q : List ℕ → Type 0) (given more : List (List ℕ)) (plan : Plan) → AllByRecursion Q (names_read (given ++ more) plan)
@@ -35,11 +38,11 @@ names_first Q [] [] plan all = all
 names_first Q [] (bytes ∷ more) (Reads role name next) all = (all.0, tt)
 names_first Q [] (bytes ∷ more) (Faulty name fault) all = tt
 names_first Q [] (bytes ∷ more) (Ends ending) all = tt
-names_first Q [] (bytes ∷ more) (Decides decision tell) all = tt
+names_first Q [] (bytes ∷ more) (Decides decision purpose) all = tt
 names_first Q (bytes ∷ given) more (Reads role name next) all = (all.0, names_first Q given more (next bytes) all.1)
 names_first Q (bytes ∷ given) more (Faulty name fault) all = tt
 names_first Q (bytes ∷ given) more (Ends ending) all = tt
-names_first Q (bytes ∷ given) more (Decides decision tell) all = tt
+names_first Q (bytes ∷ given) more (Decides decision purpose) all = tt
 
 names_later : (Q : List ℕ → Type 0) (files : Option Files) (given more : List (List ℕ)) (plan : Plan) → AreGiven files given plan
     → AllByRecursion Q (names_read (given ++ more) plan) → AllByRecursion Q (names_read more (rest_of given plan))
@@ -47,7 +50,7 @@ names_later Q files [] more plan gave all = all
 names_later Q files (bytes ∷ given) more (Reads role name next) gave all = names_later Q files given more (next bytes) gave.2 all.1
 names_later Q files (bytes ∷ given) more (Faulty name fault) gave all = absurd gave
 names_later Q files (bytes ∷ given) more (Ends ending) gave all = absurd gave
-names_later Q files (bytes ∷ given) more (Decides decision tell) gave all = absurd gave
+names_later Q files (bytes ∷ given) more (Decides decision purpose) gave all = absurd gave
 
 -- a read that failed in the second part failed in both together
 ends_before : (files : Option Files) (a b c : Counts) (nodes : Arena) (end : Outcome) (rest : Plan) → ((name : List ℕ) → a name ≤ b name)
@@ -55,7 +58,7 @@ ends_before : (files : Option Files) (a b c : Counts) (nodes : Arena) (end : Out
 ends_before files a b c nodes end (Reads role name next) later ends = (Rose_later (a name) (b name) (c name) (later name) ends.0, ends.1)
 ends_before files a b c nodes end (Faulty name fault) later ends = ends
 ends_before files a b c nodes end (Ends ending) later ends = ends
-ends_before files a b c nodes end (Decides decision tell) later ends = ends
+ends_before files a b c nodes end (Decides decision purpose) later ends = ends
 
 follows_more : (files : Option Files) (a b c : Counts) (nodes : Arena) (end : Outcome) (plan rest : Plan)
     → (leads : LeadsTo plan rest (record { files = files; before = a; now = b }))
@@ -129,3 +132,68 @@ ends_alone plan value next files later a b end same goes ends = record {
 pub stops_alone : {T : Type 0} (plan : (T → Plan) → Plan) (next : T → Plan) (files : Option Files) (a b : Counts) (end : Outcome)
     → StopsIn plan (record { files = files; before = a; now = b }) end → FollowsAlone (plan next) (record { files = files; before = a; now = b }) end
 stops_alone plan next files a b end stops = record { follows = stops.follows next }
+
+-- A text means what is used of it.
+pub used : {T : Type 0} (name : List ℕ) (meaning : Result T Fault) (value : T) (next : T → Plan) (files : Option Files) (a b : Counts) (nodes : Arena) (end : Outcome)
+    → meaning ≡ Ok value → Follows (next value) (record { files = files; before = a; now = b }) nodes end
+    → Follows (using name meaning next) (record { files = files; before = a; now = b }) nodes end
+used name meaning value next files a b nodes end is follows =
+    let P : Plan → Type 0 = λ p. Follows p (record { files = files; before = a; now = b }) nodes end in
+    subst P (sym (ap (λ r. using name r next) is)) follows
+
+-- Or its fault ends the call.
+pub stopped : {T : Type 0} (name : List ℕ) (meaning : Result T Fault) (next : T → Plan) (files : Option Files) (counts : Counts) (nodes : Arena) (end : Outcome)
+    → IsStoppedBy name meaning end → Follows (using name meaning next) (record { files = files; before = counts; now = counts }) nodes end
+stopped {T} name meaning next files counts nodes end stop = by_error stop.error stop.is stop.stops
+  where
+    at : Plan → Type 0
+    at p = Follows p (record { files = files; before = counts; now = counts }) nodes end
+
+    by_error : (error : Option Fault) → IsErrorOf meaning error → StopsAt name error end → at (using name meaning next)
+    by_error None is stops = follows_still files counts nodes end (using name meaning next) (inr stops)
+    by_error (Some fault) is stops =
+        subst at (sym (ap (λ r. using name r next) is))
+        (follows_still files counts nodes end (Faulty name fault) (elim stops [ inl told ↦ inl told | inr lacks ↦ inr lacks ]))
+
+-- The same, whatever the shelf and the diagrams are.
+pub still_ends : (ending : Ending) (end : Outcome) → (end ≡ told ending) ⊎ (end ≡ no_memory) → FollowsStillAlone (Ends ending) end
+still_ends ending end ends = record {
+  follows = λ nodes. record { follows = λ files counts. follows_still files counts nodes end (Ends ending) ends };
+}
+
+pub still_used : {T : Type 0} (name : List ℕ) (meaning : Result T Fault) (value : T) (next : T → Plan) (end : Outcome)
+    → meaning ≡ Ok value → FollowsStillAlone (next value) end → FollowsStillAlone (using name meaning next) end
+still_used name meaning value next end is follows = record {
+  follows = λ nodes. record {
+    follows = λ files counts. used name meaning value next files counts counts nodes end is ((follows.follows nodes).follows files counts);
+  };
+}
+
+pub still_stopped : {T : Type 0} (name : List ℕ) (meaning : Result T Fault) (next : T → Plan) (end : Outcome)
+    → IsStoppedBy name meaning end → FollowsStillAlone (using name meaning next) end
+still_stopped name meaning next end stop = record {
+  follows = λ nodes. record { follows = λ files counts. stopped name meaning next files counts nodes end stop };
+}
+
+-- A call that reads a file goes on without reading.
+pub goes_on_still : {T : Type 0} (plan : (T → Plan) → Plan) (value : T) (next : T → Plan) (files later : Option Files) (a b : Counts) (end : Outcome)
+    → later ≡ files → GoesOn plan value (record { files = files; before = a; now = b }) → FollowsStillAlone (next value) end
+    → FollowsAlone (plan next) (record { files = files; before = a; now = b }) end
+goes_on_still plan value next files later a b end same goes follows = record {
+  follows = λ nodes. goes_on plan value next files later a b b nodes end same goes ((follows.follows nodes).follows later b);
+}
+
+-- And it goes on with further files.
+pub goes_on_alone : {T : Type 0} (plan : (T → Plan) → Plan) (value : T) (next : T → Plan) (files later : Option Files) (a b c : Counts) (end : Outcome)
+    → later ≡ files → GoesOn plan value (record { files = files; before = a; now = b })
+    → FollowsAlone (next value) (record { files = later; before = b; now = c }) end
+    → FollowsAlone (plan next) (record { files = files; before = a; now = c }) end
+goes_on_alone plan value next files later a b c end same goes follows = record {
+  follows = λ nodes. goes_on plan value next files later a b c nodes end same goes (follows.follows nodes);
+}
+
+-- want of memory
+pub still_lacks : (plan : Plan) (end : Outcome) → end ≡ no_memory → FollowsStillAlone plan end
+still_lacks plan end lacks = record {
+  follows = λ nodes. record { follows = λ files counts. follows_still files counts nodes end plan (inr lacks) };
+}

@@ -1,30 +1,37 @@
 -- The answer to the words of a call, as a function of its files.
-use Rattle.std.specs.Prelude.{ℕ, List, []}
+use Rattle.std.specs.Prelude.{ℕ, List}
 use Rattle.std.specs.declared.option.Option.{Option}
 use Rattle.std.specs.Option.{option_map_or}
 use Rattle.cyc_io.specs.Files.{Files}
 use Rattle.refusals.specs.Refusals.{refusal}
-use Rattle.refusals.specs.declared.observe.Observe.TheVariants as observe
 use Rattle.refusals.specs.declared.refusal.Refusal.{Refusal}
-use Rattle.cyc_tool.specs.Plans.{Ending, Prints, Refuses, Decision, Plan, Reads, Faulty, Ends, Decides, plan_of}
-use Rattle.cyc_tool.specs.Texts.{Outcome, usage, has_fault, read_failed}
-use Rattle.cyc_tool.specs.Words.{command_of}
+use Rattle.report.specs.Messages.{too_large_text}
+use Rattle.commands.specs.Words.{command_of}
+use Rattle.cyc_tool.specs.Endings.{ending_of}
+use Rattle.cyc_tool.specs.Plans.{Ending, Prints, Refuses, Declines, Outgrows, Decision, Purpose, Plan, Reads, Faulty, Ends, Decides, plan_of}
+use Rattle.cyc_tool.specs.Texts.{Outcome, on_out, on_err, usage, has_fault, read_failed}
 
--- the outcome of an ending: 0 or 1, and its text on out
+-- the outcome of an ending
 abbrev pub told : Ending → Outcome
-told (Prints text) = record { status = 0; out = text; err = [] }
-told (Refuses text) = record { status = 1; out = text; err = [] }
+told (Prints text) = on_out 0 text
+told (Refuses text) = on_out 1 text
+told (Declines text) = on_err 1 text
+told (Outgrows size) = on_err 8 (too_large_text size)
 
 -- what refuses the netlist of a decision, if anything does
 abbrev pub verdict_of : Decision → Option Refusal
-verdict_of decision = refusal decision.net decision.care observe.All
+verdict_of decision = refusal decision.net decision.care decision.observe
+
+-- the outcome of a decision with this verdict
+abbrev pub decided : Decision → Purpose → Option Refusal → Outcome
+decided decision purpose verdict = told (ending_of decision purpose verdict)
 
 -- the outcome of a plan, where these are the files
 abbrev pub outcome_at : Files → Plan → Outcome
 outcome_at files (Reads role name next) = option_map_or (λ bytes. outcome_at files (next bytes)) (files name) (read_failed name)
 outcome_at files (Faulty name fault) = has_fault name fault
 outcome_at files (Ends ending) = told ending
-outcome_at files (Decides decision tell) = told (tell (verdict_of decision))
+outcome_at files (Decides decision purpose) = decided decision purpose (verdict_of decision)
 
 -- the answer to words, where these are the files
 abbrev pub answer : List (List ℕ) → Files → Outcome

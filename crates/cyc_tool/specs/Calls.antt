@@ -9,14 +9,17 @@ pub use Rattle.cyc_io.specs.Taken.{SinkCall, sink_call}
 use Rattle.cyc_io.specs.Taken.{AppendsPrefix}
 use Rattle.bdd_store.specs.Arena.{Arena}
 use Rattle.netlist.specs.Netlists.{IsNetlist}
-use Rattle.refusals.specs.declared.refusal.Refusal.{Refusal}
 use Rattle.verdict.specs.Causes.{IsOutOfNodes}
 use Rattle.verdict.specs.Enough.{IsBelowEnough}
-use Rattle.cyc_tool.specs.Answer.{told, verdict_of}
-use Rattle.cyc_tool.specs.Faults.{netlist_of}
-use Rattle.cyc_tool.specs.Plans.{Role, Netlist, Care, Vectors, Ending, Decision, Plan, Reads, Faulty, Ends, Decides, plan_of}
+use Rattle.commands.specs.Words.{Command, command_of}
+use Rattle.contents.specs.NetlistFiles.{netlist_of}
+use Rattle.cyc_base.specs.declared.limits.TheConstants.{MAX_REWRITTEN_ITEMS}
+use Rattle.refusals.specs.declared.refusal.Refusal.{Refusal}
+use Rattle.rewriting.specs.Rewriting.{rewritten, rewritten_size, IsRewriting}
+use Rattle.cyc_tool.specs.Answer.{told, decided, verdict_of}
+use Rattle.cyc_tool.specs.Endings.{accepted_told}
+use Rattle.cyc_tool.specs.Plans.{Role, Netlist, Care, Vectors, Recorded, Decision, Purpose, Judges, Rewrites, Demonstrates, Storms, Plan, Reads, Faulty, Ends, Decides, plan_of}
 use Rattle.cyc_tool.specs.Texts.{Outcome, usage, has_fault, read_failed, limit_reached, no_memory}
-use Rattle.cyc_tool.specs.Words.{Command, command_of}
 
 -- a shelf over a call: its files, where it tells them, and its counts of faults before and after
 pub record ShelfCall : Type 0 where
@@ -50,6 +53,7 @@ abbrev pub IsSound : Role → List ℕ → Type 0
 IsSound Netlist bytes = IfOk (netlist_of bytes) IsNetlist
 IsSound Care bytes = Unit {0}
 IsSound Vectors bytes = Unit {0}
+IsSound Recorded bytes = Unit {0}
 
 -- What is given for the files of a plan in order, each text once: a real file may change between two reads. These are
 -- the bytes of the files that a shelf tells.
@@ -58,7 +62,7 @@ AreGiven files [] plan = Unit {0}
 AreGiven files (bytes ∷ given) (Reads role name next) = IsFile files name bytes × IsSound role bytes × AreGiven files given (next bytes)
 AreGiven files (bytes ∷ given) (Faulty name fault) = ⊥
 AreGiven files (bytes ∷ given) (Ends ending) = ⊥
-AreGiven files (bytes ∷ given) (Decides decision tell) = ⊥
+AreGiven files (bytes ∷ given) (Decides decision purpose) = ⊥
 
 -- what is left of a plan behind these texts
 abbrev pub rest_of : List (List ℕ) → Plan → Plan
@@ -77,17 +81,37 @@ pub record IsLimited (decision : Decision) (nodes : Arena) : Type 0 where
   pub cause : IsOutOfNodes nodes decision.net decision.care decision.limit
   pub below : IsBelowEnough decision.net decision.care decision.limit
 
+-- What is made for the purpose of a decision whose netlist is accepted: to rewrite, a netlist without loops that shows the
+-- same in all runs, unless it would be too large.
+abbrev pub IsMade : Decision → Purpose → Type 0
+IsMade decision Rewrites =
+    rewritten_size decision.net decision.care ≤ MAX_REWRITTEN_ITEMS
+    → IsRewriting decision.net decision.care (rewritten decision.net decision.care)
+IsMade decision Judges = Unit {0}
+IsMade decision (Demonstrates cells) = Unit {0}
+IsMade decision (Storms rounds) = Unit {0}
+
+abbrev pub IsMadeFor : Decision → Purpose → Option Refusal → Type 0
+IsMadeFor decision purpose None = IsMade decision purpose
+IsMadeFor decision purpose (Some refused) = Unit {0}
+
+-- an accepted netlist is told so
+pub record IsAccepted (decision : Decision) (purpose : Purpose) (end : Outcome) : Type 0 where
+  pub is : end ≡ told (accepted_told decision purpose)
+  pub made : IsMade decision purpose
+
 -- A decision came to its verdict, of which this is told, or met its limit of nodes.
-pub data IsDecided (decision : Decision) (tell : Option Refusal → Ending) (nodes : Arena) (end : Outcome) : Type 0 where
-  Verdict : end ≡ told (tell (verdict_of decision)) → IsDecided decision tell nodes end
-  Limit : IsLimited decision nodes → end ≡ limit_reached decision.limit → IsDecided decision tell nodes end
+pub data IsDecided (decision : Decision) (purpose : Purpose) (nodes : Arena) (end : Outcome) : Type 0 where
+  Verdict : end ≡ decided decision purpose (verdict_of decision) → IsMadeFor decision purpose (verdict_of decision)
+      → IsDecided decision purpose nodes end
+  Limit : IsLimited decision nodes → end ≡ limit_reached decision.limit → IsDecided decision purpose nodes end
 
 -- how a call ends at what is left of its plan
 abbrev pub EndsAt : ShelfCall → Arena → Outcome → Plan → Type 0
 EndsAt shelf nodes end (Reads role name next) = ReadFailed shelf name × (end ≡ read_failed name)
 EndsAt shelf nodes end (Faulty name fault) = end ≡ has_fault name fault
 EndsAt shelf nodes end (Ends ending) = end ≡ told ending
-EndsAt shelf nodes end (Decides decision tell) = IsNetlist decision.net × IsDecided decision tell nodes end
+EndsAt shelf nodes end (Decides decision purpose) = IsNetlist decision.net × IsDecided decision purpose nodes end
 
 -- A call went along a plan to this outcome, by what the shelf gave and these diagrams show, or it wants memory. It
 -- read no file but those of the plan, in its order.

@@ -1,19 +1,24 @@
 -- What follows of a run for each status, and where the files are told.
-use Rattle.std.specs.Prelude.{◌≡◌, ◌≢◌, ◌≤◌, ◌⊎◌, ℕ, List, Some, None, IfSome, IsSomeAnd}
+use Rattle.std.specs.Prelude.{◌≡◌, ◌≢◌, ◌≤◌, ◌⊎◌, ℕ, Bool, List, Some, None, IfSome, IsSomeAnd}
 use Rattle.std.specs.declared.option.Option.{Option}
 use Rattle.bdd_store.specs.Arena.{Arena}
 use Rattle.accepted_runs.specs.Harmless.{IsHarmless}
 use Rattle.cyc_io.specs.Files.{Files}
-use Rattle.refusals.specs.Refusals.{Proves}
-use Rattle.refusals.specs.declared.observe.Observe.TheVariants as observe
+use Rattle.refusals.specs.Refusals.{IsUnknownAt, Proves}
 use Rattle.refusals.specs.declared.refusal.Refusal.{Refusal}
-use Rattle.refusals.specs.declared.refusal.Refusal.TheVariants.{EmptyCare}
+use Rattle.refusals.specs.declared.refusal.Refusal.TheVariants.{EmptyCare, Undetermined}
 use Rattle.verdict.specs.Enough.{IsEnough}
-use Rattle.cyc_tool.specs.Answer.{told, verdict_of, answer}
-use Rattle.cyc_tool.specs.Calls.{ShelfCall, SinkCall, ReadFailed, WriteFailed, AreGiven, rest_of, IsLimited, IsTold}
-use Rattle.cyc_tool.specs.Plans.{Decision, Plan, Reads, Faulty, Ends, Decides, plan_of}
+use Rattle.blif_write.specs.Written.{written}
+use Rattle.commands.specs.Words.{Command, command_of}
+use Rattle.cyc_base.specs.declared.sig.Sig.{Sig}
+use Rattle.storm.specs.Laws.{PlaysAsStorm}
+use Rattle.storm.specs.Storms.{storm_of}
+use Rattle.cyc_tool.specs.Storms.{storm_text}
+use Rattle.rewriting.specs.Rewriting.{rewritten, IsRewriting}
+use Rattle.cyc_tool.specs.Answer.{told, decided, verdict_of, answer}
+use Rattle.cyc_tool.specs.Calls.{ShelfCall, SinkCall, ReadFailed, WriteFailed, Takes, AreGiven, rest_of, IsLimited, IsTold}
+use Rattle.cyc_tool.specs.Plans.{Decision, Purpose, Judges, Rewrites, Demonstrates, Storms, Plan, Reads, Faulty, Ends, Decides, plan_of}
 use Rattle.cyc_tool.specs.Texts.{no_memory}
-use Rattle.cyc_tool.specs.Words.{Command, command_of}
 
 -- Words outside the grammar get their status, unless a write failed or memory ran out.
 abbrev pub IsWithoutCommand : Option Command → ℕ → Type 0
@@ -42,7 +47,7 @@ IsUnread shelf plan = ⊥
 
 -- The decision that is next met its limit of nodes.
 abbrev pub MeetsLimit : Arena → Plan → Type 0
-MeetsLimit nodes (Decides decision tell) = IsLimited decision nodes
+MeetsLimit nodes (Decides decision purpose) = IsLimited decision nodes
 MeetsLimit nodes plan = ⊥
 
 -- This refuses the netlist. Its vector shows why; an empty care set alone has none.
@@ -53,15 +58,38 @@ pub record IsRefusedBy (decision : Decision) (refused : Refusal) : Type 0 where
 -- What a verdict shows: an accepted netlist is harmless, in each run within care, whatever its past, its window of older
 -- reads, its starting values and its fair schedules are.
 abbrev pub IsVerdict : Decision → Option Refusal → Type 0
-IsVerdict decision None = IsHarmless decision.net decision.care observe.All
+IsVerdict decision None = IsHarmless decision.net decision.care decision.observe
 IsVerdict decision (Some refused) = IsRefusedBy decision refused
 
 -- All was given without a fault, and the status is that of what is told then; where a decision is made, of its verdict.
 abbrev pub IsDoneWith : ℕ → Plan → Type 0
 IsDoneWith status (Ends ending) = status ≡ (told ending).status
-IsDoneWith status (Decides decision tell) =
-    (verdict : Option Refusal) × IsVerdict decision verdict × (status ≡ (told (tell verdict)).status)
+IsDoneWith status (Decides decision purpose) =
+    (verdict : Option Refusal) × IsVerdict decision verdict × (status ≡ (decided decision purpose verdict).status)
 IsDoneWith status plan = ⊥
+
+-- What was put on out for a decision whose status is 0: to rewrite, the text of a netlist without loops, which reads back
+-- and shows the same in all runs.
+abbrev pub HasRewritten : SinkCall → Plan → Type 0
+HasRewritten out (Decides decision Rewrites) =
+    IsRewriting decision.net decision.care (rewritten decision.net decision.care)
+    × Takes out (written (rewritten decision.net decision.care))
+HasRewritten out plan = Unit {0}
+
+-- A refused wire has its storm on out: a fair schedule of the refusal's vector on which each gate that the fixpoint leaves
+-- unknown falls and rises in each round, and all else stands at the fixpoint.
+pub record IsStormed (decision : Decision) (rounds : ℕ) (out : SinkCall) : Type 0 where
+  pub vector : List Bool
+  pub wire : Sig
+  pub refused : verdict_of decision ≡ Some (Undetermined vector wire)
+  pub shown : IsUnknownAt decision.net decision.care vector wire
+  pub storm : PlaysAsStorm decision.net vector (storm_of decision.net vector rounds)
+  pub text : Takes out (storm_text decision.net vector rounds)
+
+-- What was put on out for a storm whose status is 0.
+abbrev pub HasStormed : SinkCall → Plan → Type 0
+HasStormed out (Decides decision (Storms rounds)) = IsStormed decision rounds out
+HasStormed out plan = Unit {0}
 
 -- No read failed of a file that is there.
 abbrev pub NoneFailed : ShelfCall → Files → Plan → Type 0
@@ -83,7 +111,7 @@ GivesAnswer words shelf nodes out err status = IfSome shelf.files (λ files. IsW
 
 -- The limit of the decision that is next is enough.
 abbrev pub IsEnoughFor : Plan → Type 0
-IsEnoughFor (Decides decision tell) = IsEnough decision.net decision.care decision.limit
+IsEnoughFor (Decides decision purpose) = IsEnough decision.net decision.care decision.limit
 IsEnoughFor plan = Unit {0}
 
 -- It is enough for whatever the shelf gave. A command that doesn't decide has none.

@@ -1,11 +1,10 @@
 -- The meaning of words, in the order of reading.
-pub mod Words
-pub mod Faults
-pub mod CareFiles
-pub mod VectorFiles
 pub mod Simulation
+pub mod Plays
+pub mod Storms
 pub mod Texts
 pub mod Plans
+pub mod Endings
 pub mod Answer
 pub mod Calls
 pub mod Causes

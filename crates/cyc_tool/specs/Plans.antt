@@ -1,40 +1,60 @@
 -- What a call does for its command, step by step: which files it reads, and what comes of what they mean.
-use Rattle.std.specs.Prelude.{ℕ, Bool, true, List, length, Some, None, Ok, Err, unwrap_or}
+use Rattle.std.specs.Prelude.{ℕ, Bool, true, false, List, length, Some, None, Ok, Err, unwrap_or, codes}
 use Rattle.std.specs.declared.option.Option.{Option}
 use Rattle.std.specs.declared.result.Result.{Result}
 use Rattle.cyc_base.specs.declared.limits.TheConstants.{DEFAULT_NODES}
 use Rattle.cyc_base.specs.declared.trit.Trit.{Trit}
 use Rattle.netlist.specs.declared.parts.Parts.{Parts}
-use Rattle.loops.specs.Listed.{first_gates}
+use Rattle.delay_core.specs.declared.plan.Schedule.{Schedule}
 use Rattle.blif_write.specs.Written.{written}
 use Rattle.care_sets.specs.Care.{CareSet}
-use Rattle.refusals.specs.declared.refusal.Refusal.{Refusal}
-use Rattle.report.specs.Verdicts.{accepted_text, refusal_text}
-use Rattle.cyc_tool.specs.CareFiles.{no_care, care_of}
-use Rattle.cyc_tool.specs.Faults.{Fault, netlist_of}
+use Rattle.refusals.specs.declared.observe.Observe.{Observe}
+use Rattle.refusals.specs.declared.observe.Observe.TheVariants as observe
+use Rattle.commands.specs.Words.{Options, Command, Check, Rewrite, Flat, Loops, Sim, Delays, Demo, Storm}
+use Rattle.contents.specs.CareFiles.{no_care, care_of}
+use Rattle.contents.specs.Faults.{Fault}
+use Rattle.contents.specs.NetlistFiles.{netlist_of}
+use Rattle.contents.specs.ScheduleFiles.{vectors_of, schedule_of}
+use Rattle.maker.specs.Ring.{ring_text, care_text}
 use Rattle.report.specs.LoopTexts.{loops_text}
+use Rattle.cyc_tool.specs.Plays.{known, played, delays_text}
 use Rattle.cyc_tool.specs.Simulation.{sim_text}
-use Rattle.cyc_tool.specs.VectorFiles.{vectors_of}
-use Rattle.cyc_tool.specs.Words.{Options, Command, Check, Flat, Loops, Sim}
 
 -- the part that a file plays
 pub data Role : Type 0 where
   Netlist : Role
   Care : Role
   Vectors : Role
+  Recorded : Role
 
 -- what a command tells once nothing stops it any more
 pub data Ending : Type 0 where
   -- its result
   Prints : List ℕ → Ending
-  -- why the netlist is refused
+  -- why the netlist is refused, which is a result
   Refuses : List ℕ → Ending
+  -- the same in place of a result
+  Declines : List ℕ → Ending
+  -- a result would have so many gates and latches, which are too many
+  Outgrows : ℕ → Ending
 
--- a netlist to be decided on a care set, with at most so many nodes
+-- a netlist to be decided on a care set, with at most so many nodes, where these wires are observed
 pub record Decision : Type 0 where
   pub net : Parts
   pub care : CareSet
   pub limit : ℕ
+  pub observe : Observe
+
+-- what a netlist is decided for
+pub data Purpose : Type 0 where
+  -- to tell the verdict
+  Judges : Purpose
+  -- to write it without loops
+  Rewrites : Purpose
+  -- to tell that the ring arbiter of so many cells is accepted
+  Demonstrates : ℕ → Purpose
+  -- to write a schedule of so many rounds on which a refused wire never rests
+  Storms : ℕ → Purpose
 
 -- what is done next
 pub data Plan : Type 0 where
@@ -44,10 +64,10 @@ pub data Plan : Type 0 where
   Faulty : List ℕ → Fault → Plan
   -- the call ends with this
   Ends : Ending → Plan
-  -- a decision is made, and its verdict says what the call ends with: nothing, or the refusal
-  Decides : Decision → (Option Refusal → Ending) → Plan
+  -- a decision is made, and its verdict says what the call ends with
+  Decides : Decision → Purpose → Plan
 
--- A file is used for what its bytes mean, or its first fault ends the call.
+-- A text is used for what it means, or its first fault ends the call as one of the file of this name.
 abbrev pub using : {T : Type 0} → List ℕ → Result T Fault → (T → Plan) → Plan
 using name (Ok x) next = next x
 using name (Err fault) next = Faulty name fault
@@ -64,19 +84,56 @@ with_care (Some name) net next = Reads Care name (λ bytes. using name (care_of 
 abbrev pub with_vectors : List ℕ → Parts → Bool → (List (List Trit) → Plan) → Plan
 with_vectors name net unknowns next = Reads Vectors name (λ bytes. using name (vectors_of net unknowns bytes) next)
 
--- what is told of a verdict
-abbrev pub verdict_told : Parts → Option Refusal → Ending
-verdict_told net None = Prints (accepted_text net (length (first_gates net)) None)
-verdict_told net (Some refused) = Refuses (refusal_text net refused)
+-- a recorded schedule for a netlist and so many ticks
+abbrev pub with_schedule : List ℕ → Parts → ℕ → (Schedule → Plan) → Plan
+with_schedule name net ticks next = Reads Recorded name (λ bytes. using name (schedule_of net ticks bytes) next)
 
 abbrev pub decision : Parts → CareSet → Options → Decision
-decision net care options = record { net = net; care = care; limit = unwrap_or options.nodes DEFAULT_NODES }
+decision net care options = record {
+  net = net;
+  care = care;
+  limit = unwrap_or options.nodes DEFAULT_NODES;
+  observe = unwrap_or options.observe observe.All;
+}
 
--- The files of a command are read in the order netlist, care file, vectors, and all faults of one are looked for before the next is read.
+-- a decision of the netlist of a file
+abbrev pub deciding : List ℕ → Options → Purpose → Plan
+deciding file options purpose =
+    with_netlist file (λ net. with_care options.care net (λ care. Decides (decision net care options) purpose))
+
+-- The texts of the ring arbiter are taken for files of these names.
+abbrev pub ring_file : List ℕ
+ring_file = codes "ring.blif"
+
+abbrev pub ring_care_file : List ℕ
+ring_care_file = codes "ring.care"
+
+abbrev pub ring_decision : Parts → CareSet → Decision
+ring_decision net care = record { net = net; care = care; limit = DEFAULT_NODES; observe = observe.All }
+
+-- what comes of a recorded schedule on these vectors: a fault of its play is one of its file
+abbrev pub playing : List ℕ → Parts → List (List Bool) → Schedule → Plan
+playing recorded net vectors schedule = using recorded (played net vectors schedule) (λ ends. Ends (Prints (delays_text ends)))
+
+abbrev pub play_on : List ℕ → Parts → List (List Bool) → Plan
+play_on recorded net vectors = with_schedule recorded net (length vectors) (λ schedule. playing recorded net vectors schedule)
+
+-- the decision of the ring arbiter of so many cells
+abbrev pub ring_deciding : ℕ → Plan
+ring_deciding cells =
+    using ring_file (netlist_of (ring_text cells)) (λ net.
+    using ring_care_file (care_of net (care_text cells)) (λ care. Decides (ring_decision net care) (Demonstrates cells)))
+
+-- The files of a command are read in the order netlist, care file, vectors, schedule, and all faults of one are looked
+-- for before the next is read.
 abbrev pub plan_of : Command → Plan
-plan_of (Check file options) =
-    with_netlist file (λ net. with_care options.care net (λ care. Decides (decision net care options) (verdict_told net)))
+plan_of (Check file options) = deciding file options Judges
+plan_of (Rewrite file options) = deciding file options Rewrites
 plan_of (Flat file) = with_netlist file (λ net. Ends (Prints (written net)))
 plan_of (Loops file) = with_netlist file (λ net. Ends (Prints (loops_text net)))
 plan_of (Sim file vectors) =
     with_netlist file (λ net. with_vectors vectors net true (λ found. Ends (Prints (sim_text net found))))
+plan_of (Delays file vectors recorded) =
+    with_netlist file (λ net. with_vectors vectors net false (λ found. play_on recorded net (known found)))
+plan_of (Demo cells) = ring_deciding cells
+plan_of (Storm file rounds options) = deciding file options (Storms rounds)

@@ -1,12 +1,13 @@
 -- What came of reading one file of a plan.
-use Rattle.std.specs.Prelude.{◌≡◌, ◌⊎◌, ◌<◌, ◌≤◌, ℕ, List, length, Some, None, Err, IfSome}
+use Rattle.std.specs.Prelude.{◌≡◌, ◌⊎◌, ◌<◌, ◌≤◌, ℕ, List, length, Some, None}
 use Rattle.std.specs.declared.option.Option.{Option}
 use Rattle.std.specs.declared.result.Result.{Result}
 use Rattle.bdd_store.specs.Arena.{Arena}
 use Rattle.cyc_base.specs.declared.limits.TheConstants.{MAX_FILE_BYTES}
-use Rattle.cyc_io.specs.Files.{IsFile}
+use Rattle.cyc_io.specs.Faults.{Counts}
+use Rattle.cyc_io.specs.Files.{Files, IsFile}
 use Rattle.cyc_tool.specs.Calls.{ShelfCall, ChangesCountsOf, ReadFailed, AreGiven, rest_of, names_read, Follows}
-use Rattle.cyc_tool.specs.Faults.{Fault, too_long}
+use Rattle.contents.specs.Faults.{Fault, IsErrorOf, too_long}
 use Rattle.cyc_tool.specs.Plans.{Plan}
 use Rattle.cyc_tool.specs.Texts.{Outcome, has_fault, read_failed, no_memory}
 
@@ -21,10 +22,6 @@ pub data GaveNone (shelf : ShelfCall) (name : List ℕ) (end : Outcome) : Type 0
   TooLong : (bytes : List ℕ) → IsFile shelf.files name bytes → MAX_FILE_BYTES < length bytes → end ≡ has_fault name too_long
       → GaveNone shelf name end
   Lacks : end ≡ no_memory → GaveNone shelf name end
-
--- What an error says of a meaning: the fault that it has. Want of memory says nothing.
-abbrev pub IsErrorOf : {T : Type 0} → Result T Fault → Option Fault → Type 0
-IsErrorOf meaning error = IfSome error (λ fault. meaning ≡ Err fault)
 
 -- Where a call ends at an error of this file: at its fault, unless it wants memory.
 abbrev pub StopsAt : List ℕ → Option Fault → Outcome → Type 0
@@ -49,3 +46,17 @@ pub record FollowsAlone (plan : Plan) (shelf : ShelfCall) (end : Outcome) : Type
 -- A file that a plan uses ends the call so.
 pub record StopsIn {T : Type 0} (plan : (T → Plan) → Plan) (shelf : ShelfCall) (end : Outcome) : Type 0 where
   pub follows : (next : T → Plan) (nodes : Arena) → Follows (plan next) shelf nodes end
+
+-- A call that reads nothing went along a plan to this outcome, whatever the shelf is.
+pub record FollowsStill (plan : Plan) (nodes : Arena) (end : Outcome) : Type 0 where
+  pub follows : (files : Option Files) (counts : Counts) → Follows plan (record { files = files; before = counts; now = counts }) nodes end
+
+-- and whatever the diagrams hold
+pub record FollowsStillAlone (plan : Plan) (end : Outcome) : Type 0 where
+  pub follows : (nodes : Arena) → FollowsStill plan nodes end
+
+-- A text that is taken for the file of this name ends the call at its fault, unless memory runs out.
+pub record IsStoppedBy {T : Type 0} (name : List ℕ) (meaning : Result T Fault) (end : Outcome) : Type 0 where
+  pub error : Option Fault
+  pub is : IsErrorOf meaning error
+  pub stops : StopsAt name error end

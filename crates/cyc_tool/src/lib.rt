@@ -5,14 +5,15 @@
 #![tactic(auto)]
 
 mod decision;
-mod faults;
 mod outcome;
+mod plays;
 mod reading;
-mod simulation;
+mod ring;
+mod sim_lines;
 pub mod status;
+mod storms;
 mod texts;
 mod top;
-mod words;
 
 pub use report::{NO_MEMORY_TEXT, USAGE_TEXT};
 pub use top::run;

@@ -1,6 +1,3 @@
-ghost use Rattle.report.specs.Texts.{IsCode};
-
-use cyc_base::Name;
 use std::alloc::AllocError;
 
 // A status, and the texts for out and err.
@@ -9,22 +6,6 @@ pub(crate) struct Outcome {
     pub status: u8,
     pub out: Vec<u8>,
     pub err: Vec<u8>,
-}
-
-// A fault of a file: its code, its line where it has one, and the name behind its words where they want one.
-#[derive(Drop)]
-pub(crate) struct Fault {
-    pub code: u8,
-    pub line: Option<u64>,
-    pub name: Option<Name>,
-    ghost is_code: { IsCode code },
-}
-
-// Why the bytes of a file have no meaning.
-#[derive(Drop)]
-pub(crate) enum FileError {
-    Has(Fault),
-    Memory,
 }
 
 // Why a call ends before its command is done.

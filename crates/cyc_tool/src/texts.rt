@@ -1,28 +1,38 @@
 // The texts of a call's outcomes.
-ghost use Rattle.std.specs.Prelude.{◌≡◌, [], IfOk, length};
-ghost use Rattle.loops.specs.Blocks.{AreBlocksOf};
-ghost use Rattle.refusals.specs.Refusals.{IsRefusalOf};
-ghost use Rattle.cyc_tool.specs.Texts.{refused, usage, read_failed, limit_reached, accepted, refusal_told as told_of_refusal, flat_netlist, loops};
+ghost use Rattle.std.specs.Prelude.{◌≡◌, IfOk, length};
+ghost use Rattle.contents.specs.Seen.{fault_seen};
+ghost use Rattle.delay_core.specs.declared.plan.TickEnd.{TickEnd as TickEnded};
 ghost use Rattle.cyc_tool.specs.Answer.{told as done};
-ghost use Rattle.cyc_tool.specs.Plans.{Prints};
-ghost use Rattle.cyc_tool.specs.Simulation.{sim_text};
-ghost use Rattle.sched_text.specs.Vectors.{HaveWidth};
+ghost use Rattle.cyc_tool.specs.Plans.{Declines, Outgrows, Prints, Refuses};
+ghost use Rattle.cyc_tool.specs.Plays.{delays_text};
 ghost use Rattle.cyc_tool.specs.Seen.{outcome_of};
+ghost use Rattle.cyc_tool.specs.Simulation.{sim_text};
+ghost use Rattle.cyc_tool.specs.Texts.{has_fault, limit_reached, on_err as err_of, on_out as out_of, read_failed, usage};
+ghost use Rattle.blif_write.specs.Written.{written};
+ghost use Rattle.refusals.specs.Refusals.{IsRefusalOf};
+ghost use Rattle.report.specs.LoopTexts.{loops_text};
+ghost use Rattle.report.specs.Verdicts.{refusal_text};
+ghost use Rattle.sched_text.specs.Vectors.{HaveWidth};
 
 use crate::outcome::Outcome;
-use crate::simulation::simulate;
+use crate::plays::end_lines;
+use crate::sim_lines::simulate;
 use crate::status;
 use blif_write::write;
+use contents::Fault;
 use cyc_base::{Name, Trits};
 use cyc_io::TextSink;
-use loops::{Blocks, count_loops, find_blocks, find_cut};
+use delay_core::TickEnd;
+use loops::{find_blocks, find_cut};
 use netlist::Netlist;
 use refusals::Refusal;
-use report::{USAGE_TEXT, put_accepted, put_limit, put_loops, put_read_failed, put_refusal};
+use report::{
+    USAGE_TEXT, put_fault, put_limit, put_loops, put_read_failed, put_refusal, put_too_large,
+};
 use std::alloc::{AllocError, Global};
 
-fn on_err(alloc: Global, status: u8, err: Vec<u8>) -> Outcome
-    ensures { outcome_of result ≡ refused status err.items }
+pub(crate) fn on_err(alloc: Global, status: u8, err: Vec<u8>) -> Outcome
+    ensures { outcome_of result ≡ err_of status err.items }
 {
     Outcome {
         status,
@@ -31,8 +41,8 @@ fn on_err(alloc: Global, status: u8, err: Vec<u8>) -> Outcome
     }
 }
 
-fn on_out(alloc: Global, status: u8, out: Vec<u8>) -> Outcome
-    ensures { outcome_of result ≡ record { status = status; out = out.items; err = [] } }
+pub(crate) fn on_out(alloc: Global, status: u8, out: Vec<u8>) -> Outcome
+    ensures { outcome_of result ≡ out_of status out.items }
 {
     Outcome {
         status,
@@ -45,6 +55,17 @@ pub(crate) fn tell_usage(alloc: Global) -> Result<Outcome, AllocError>
     ensures { IfOk result (λ told. outcome_of told ≡ usage) }
 {
     Ok(on_err(alloc, status::USAGE, USAGE_TEXT.to_vec(alloc)?))
+}
+
+// What is told of a fault of this file.
+pub(crate) fn tell_fault(alloc: Global, file: &Name, fault: &Fault) -> Result<Outcome, AllocError>
+    ensures { IfOk result (λ told. outcome_of told ≡ has_fault file.now (fault_seen fault.now)) }
+{
+    let mut sink = TextSink::new(alloc);
+    match put_fault(file, fault.code, fault.line, fault.tail.told(), &mut sink) {
+        Ok(()) => Ok(on_err(alloc, status::FAULT, sink.into_vec())),
+        Err(_) => Err(AllocError),
+    }
 }
 
 pub(crate) fn tell_read_failed(alloc: Global, file: &Name) -> Result<Outcome, AllocError>
@@ -67,38 +88,55 @@ pub(crate) fn tell_limit(alloc: Global, limit: u32) -> Result<Outcome, AllocErro
     }
 }
 
-pub(crate) fn tell_accepted(
-    alloc: Global,
-    net: &Netlist,
-    blocks: &Blocks,
-) -> Result<Outcome, AllocError>
-    requires { AreBlocksOf net.now blocks.now }
-    ensures { IfOk result (λ told. outcome_of told ≡ accepted net.now) }
+pub(crate) fn tell_too_large(alloc: Global, size: u64) -> Result<Outcome, AllocError>
+    ensures { IfOk result (λ told. outcome_of told ≡ done (Outgrows size)) }
 {
     let mut sink = TextSink::new(alloc);
-    match put_accepted(net, count_loops(net, blocks), None, &mut sink) {
-        Ok(()) => Ok(on_out(alloc, status::DONE, sink.into_vec())),
+    match put_too_large(size, &mut sink) {
+        Ok(()) => Ok(on_err(alloc, status::TOO_LARGE, sink.into_vec())),
         Err(_) => Err(AllocError),
     }
 }
 
-pub(crate) fn tell_refusal(
+// The text of a refusal.
+fn refusal_of(alloc: Global, net: &Netlist, refusal: &Refusal) -> Result<Vec<u8>, AllocError>
+    requires { IsRefusalOf net.now refusal.now }
+    ensures { IfOk result (λ text. text.items ≡ refusal_text net.now refusal.now) }
+{
+    let mut sink = TextSink::new(alloc);
+    match put_refusal(net, refusal, &mut sink) {
+        Ok(()) => Ok(sink.into_vec()),
+        Err(_) => Err(AllocError),
+    }
+}
+
+// A refusal as the result.
+pub(crate) fn tell_refused(
     alloc: Global,
     net: &Netlist,
     refusal: &Refusal,
 ) -> Result<Outcome, AllocError>
     requires { IsRefusalOf net.now refusal.now }
-    ensures { IfOk result (λ told. outcome_of told ≡ told_of_refusal net.now refusal.now) }
+    ensures { IfOk result (λ told. outcome_of told ≡ done (Refuses (refusal_text net.now refusal.now))) }
 {
-    let mut sink = TextSink::new(alloc);
-    match put_refusal(net, refusal, &mut sink) {
-        Ok(()) => Ok(on_out(alloc, status::REFUSED, sink.into_vec())),
-        Err(_) => Err(AllocError),
-    }
+    Ok(on_out(alloc, status::REFUSED, refusal_of(alloc, net, refusal)?))
 }
 
-pub(crate) fn tell_flat(alloc: Global, net: &Netlist) -> Result<Outcome, AllocError>
-    ensures { IfOk result (λ told. outcome_of told ≡ flat_netlist net.now) }
+// A refusal in place of a result.
+pub(crate) fn tell_declined(
+    alloc: Global,
+    net: &Netlist,
+    refusal: &Refusal,
+) -> Result<Outcome, AllocError>
+    requires { IsRefusalOf net.now refusal.now }
+    ensures { IfOk result (λ told. outcome_of told ≡ done (Declines (refusal_text net.now refusal.now))) }
+{
+    Ok(on_err(alloc, status::REFUSED, refusal_of(alloc, net, refusal)?))
+}
+
+// A netlist as a text.
+pub(crate) fn tell_netlist(alloc: Global, net: &Netlist) -> Result<Outcome, AllocError>
+    ensures { IfOk result (λ told. outcome_of told ≡ done (Prints (written net.now))) }
 {
     let mut sink = TextSink::new(alloc);
     match write(net, &mut sink) {
@@ -108,7 +146,7 @@ pub(crate) fn tell_flat(alloc: Global, net: &Netlist) -> Result<Outcome, AllocEr
 }
 
 pub(crate) fn tell_loops(alloc: Global, net: &Netlist) -> Result<Outcome, AllocError>
-    ensures { IfOk result (λ told. outcome_of told ≡ loops net.now) }
+    ensures { IfOk result (λ told. outcome_of told ≡ done (Prints (loops_text net.now))) }
 {
     let blocks = find_blocks(alloc, net)?;
     let cut = find_cut(alloc, net, &blocks)?;
@@ -128,4 +166,10 @@ pub(crate) fn tell_sim(
     ensures { IfOk result (λ told. outcome_of told ≡ done (Prints (sim_text net.now vectors.now))) }
 {
     Ok(on_out(alloc, status::DONE, simulate(alloc, net, vectors)?))
+}
+
+pub(crate) fn tell_delays(alloc: Global, ends: &[TickEnd]) -> Result<Outcome, AllocError>
+    ensures { IfOk result (λ told. outcome_of told ≡ done (Prints (delays_text ends.now))) }
+{
+    Ok(on_out(alloc, status::DONE, end_lines(alloc, ends)?))
 }

@@ -1,40 +1,51 @@
 // The top call.
-ghost use Rattle.std.specs.Prelude.{◌≡◌, ◌⊎◌, ◌≤◌, None};
+ghost use Rattle.std.specs.Prelude.{◌≡◌, ◌⊎◌, ◌≤◌, None, length};
+ghost use Rattle.commands.specs.Seen.{command_seen, options_seen};
+ghost use Rattle.commands.specs.Words.{command_of, Delays, Flat, Loops, Sim};
+ghost use Rattle.sched_text.specs.Fitting.{FitsNetlist};
 ghost use Rattle.cyc_tool.specs.Calls.{shelf_call, sink_call, ComesTo, Follows, Tells, Runs, WriteFailed};
-ghost use Rattle.cyc_tool.specs.Causes.{GivesAnswer, IsComplete, IsDoneWith, IsFaulty, IsUnread, IsWithoutCommand, MeetsLimit, NoneFell, Reaches};
-ghost use Rattle.cyc_tool.specs.Plans.{plan_of};
-ghost use Rattle.cyc_tool.specs.Reading.{FollowsAlone};
-ghost use Rattle.cyc_tool.specs.Seen.{command_seen, end_of, options_seen, outcome_of};
-ghost use Rattle.cyc_tool.specs.Words.{command_of, Check, Flat, Loops, Sim};
+ghost use Rattle.cyc_tool.specs.Causes.{GivesAnswer, HasRewritten, HasStormed, IsComplete, IsDoneWith, IsFaulty, IsUnread, IsWithoutCommand, MeetsLimit, NoneFell, Reaches};
+ghost use Rattle.cyc_tool.specs.Plays.{AreInputs};
+ghost use Rattle.cyc_tool.specs.Plans.{deciding, plan_of, play_on, playing};
+ghost use Rattle.cyc_tool.specs.Reading.{FollowsAlone, FollowsStillAlone};
+ghost use Rattle.cyc_tool.specs.Seen.{end_of, outcome_of, purpose_seen};
 
-use crate::decision::decide_netlist;
+use crate::decision::{Purpose, decide_netlist};
 use crate::outcome::{Outcome, Stop};
-use crate::reading::{read_care, read_netlist, read_vector_file};
+use crate::plays::{known, played};
+use crate::reading::{read_care, read_netlist, read_schedule_file, read_vector_file, stop_at};
+use crate::ring::demo;
 use crate::status;
-use crate::texts::{tell_flat, tell_loops, tell_sim, tell_usage};
-use crate::words::{Command, Options, command_of_words};
+use crate::texts::{tell_delays, tell_loops, tell_netlist, tell_sim, tell_usage};
 use bdd_ops::Diagrams;
-use cyc_base::{DEFAULT_NODES, Name};
+use commands::{Command, Options, command_of_words};
+use cyc_base::{Bits, DEFAULT_NODES, Name};
 use cyc_io::{Shelf, Sink, write_whole};
+use delay_core::Schedule;
+use netlist::Netlist;
+use refusals::Observe;
 use report::NO_MEMORY_TEXT;
 use std::alloc::Global;
+use storm::laws::storms_never_rest;
 
-// Decides the netlist of a file on its care set.
-fn check<S: Shelf>(
+// Decides the netlist of a file on its care set, and tells of it what is wanted.
+fn decide_file<S: Shelf>(
     alloc: Global,
     shelf: &mut S,
     netlist: &Name,
     options: Options,
+    purpose: Purpose,
     d: &mut Diagrams,
 ) -> Result<Outcome, Stop>
-    ensures comes { Follows (plan_of (Check netlist.now (options_seen options.entry)))
+    ensures comes { Follows (deciding netlist.now (options_seen options.entry) (purpose_seen purpose))
         (shelf_call S.files S.faults shelf.old shelf.new) d.new (end_of result) }
     ensures same { S.files shelf.new ≡ S.files shelf.old }
 {
     let net = read_netlist(alloc, shelf, netlist)?;
     let care = read_care(alloc, shelf, &net, options.care)?;
     let limit = options.nodes.unwrap_or(DEFAULT_NODES);
-    Ok(decide_netlist(alloc, &net, &care, limit, d)?)
+    let observe = options.observe.unwrap_or(Observe::All);
+    Ok(decide_netlist(alloc, &net, &care, limit, observe, purpose, d)?)
 }
 
 // Writes the flat netlist of a file.
@@ -43,7 +54,7 @@ fn flat<S: Shelf>(alloc: Global, shelf: &mut S, netlist: &Name) -> Result<Outcom
     ensures same { S.files shelf.new ≡ S.files shelf.old }
 {
     let net = read_netlist(alloc, shelf, netlist)?;
-    Ok(tell_flat(alloc, &net)?)
+    Ok(tell_netlist(alloc, &net)?)
 }
 
 // Prints the loops of a file's netlist.
@@ -70,6 +81,57 @@ fn sim<S: Shelf>(
     Ok(tell_sim(alloc, &net, &found)?)
 }
 
+// Plays a recorded schedule, which is that of this file.
+fn play(
+    alloc: Global,
+    net: &Netlist,
+    vectors: &[Bits],
+    schedule: &Schedule,
+    recorded: &Name,
+) -> Result<Outcome, Stop>
+    requires inputs { AreInputs net.now vectors.now }
+    requires fits { FitsNetlist net.now (length vectors.now) schedule.now }
+    ensures { FollowsStillAlone (playing recorded.now net.now vectors.now schedule.now) (end_of result) }
+{
+    match played(alloc, net, vectors, schedule) {
+        Ok(ends) => Ok(tell_delays(alloc, &ends)?),
+        Err(error) => Err(stop_at(alloc, recorded, error)),
+    }
+}
+
+// Plays the recorded schedule of a file on these vectors.
+fn play_file<S: Shelf>(
+    alloc: Global,
+    shelf: &mut S,
+    net: &Netlist,
+    vectors: &[Bits],
+    recorded: &Name,
+) -> Result<Outcome, Stop>
+    requires { AreInputs net.now vectors.now }
+    ensures comes { FollowsAlone (play_on recorded.now net.now vectors.now) (shelf_call S.files S.faults shelf.old shelf.new) (end_of result) }
+    ensures same { S.files shelf.new ≡ S.files shelf.old }
+{
+    let schedule = read_schedule_file(alloc, shelf, net, vectors.len(), recorded)?;
+    Ok(play(alloc, net, vectors, &schedule, recorded)?)
+}
+
+// Plays the netlist of a file on the vectors of another by the schedule of a third.
+fn delays<S: Shelf>(
+    alloc: Global,
+    shelf: &mut S,
+    netlist: &Name,
+    vectors: &Name,
+    recorded: &Name,
+) -> Result<Outcome, Stop>
+    ensures comes { FollowsAlone (plan_of (Delays netlist.now vectors.now recorded.now)) (shelf_call S.files S.faults shelf.old shelf.new) (end_of result) }
+    ensures same { S.files shelf.new ≡ S.files shelf.old }
+{
+    let net = read_netlist(alloc, shelf, netlist)?;
+    let found = read_vector_file(alloc, shelf, &net, false, vectors)?;
+    let inputs = known(alloc, &found)?;
+    Ok(play_file(alloc, shelf, &net, &inputs, recorded)?)
+}
+
 fn carry_out<S: Shelf>(
     alloc: Global,
     shelf: &mut S,
@@ -81,10 +143,22 @@ fn carry_out<S: Shelf>(
     ensures same { S.files shelf.new ≡ S.files shelf.old }
 {
     match command {
-        Command::Check(netlist, options) => check(alloc, shelf, netlist, options, d),
+        Command::Check(netlist, options) => {
+            decide_file(alloc, shelf, netlist, options, Purpose::Judge, d)
+        }
+        Command::Rewrite(netlist, options) => {
+            decide_file(alloc, shelf, netlist, options, Purpose::Rewrite, d)
+        }
         Command::Flat(netlist) => flat(alloc, shelf, netlist),
         Command::Loops(netlist) => loops(alloc, shelf, netlist),
         Command::Sim(netlist, vectors) => sim(alloc, shelf, netlist, vectors),
+        Command::Delays(netlist, vectors, recorded) => {
+            delays(alloc, shelf, netlist, vectors, recorded)
+        }
+        Command::Demo(cells) => demo(alloc, cells, d),
+        Command::Storm(netlist, rounds, options) => {
+            decide_file(alloc, shelf, netlist, options, Purpose::Storm(rounds), d)
+        }
     }
 }
 
@@ -163,7 +237,7 @@ fn answer_and_tell<S: Shelf, O: Sink, E: Sink>(
 ///
 /// 0: done or accepted. 1: refused. 2: the words aren't in the grammar. 3: a file has a fault. 4: a file wasn't read.
 /// 5: a write failed; each sink has a prefix of its text. 6: the limit of nodes was met, which is below what is enough.
-/// 7: want of memory.
+/// 7: want of memory. 8: the rewritten netlist would have over 4,000,000 gates and latches, or the storm as many events.
 pub fn run<S: Shelf, O: Sink, E: Sink>(
     alloc: Global,
     words: &[Name],
@@ -190,6 +264,12 @@ pub fn run<S: Shelf, O: Sink, E: Sink>(
         → Reaches (IsDoneWith 0) words.now (shelf_call S.files S.faults shelf.old shelf.new) }
     ensures refused { result ≡ 1
         → Reaches (IsDoneWith 1) words.now (shelf_call S.files S.faults shelf.old shelf.new) }
+    ensures outgrown { result ≡ 8
+        → Reaches (IsDoneWith 8) words.now (shelf_call S.files S.faults shelf.old shelf.new) }
+    ensures stormed { result ≡ 0
+        → Reaches (HasStormed (sink_call O.put O.faults out.old out.new)) words.now (shelf_call S.files S.faults shelf.old shelf.new) }
+    ensures rewritten { result ≡ 0
+        → Reaches (HasRewritten (sink_call O.put O.faults out.old out.new)) words.now (shelf_call S.files S.faults shelf.old shelf.new) }
 
     // What follows where the files are told.
     ensures answer { GivesAnswer words.now (shelf_call S.files S.faults shelf.old shelf.new) d.new
@@ -202,5 +282,6 @@ pub fn run<S: Shelf, O: Sink, E: Sink>(
     ensures counts { NoneFell (shelf_call S.files S.faults shelf.old shelf.new)
         (sink_call O.put O.faults out.old out.new) (sink_call E.put E.faults err.old err.new) }
 {
+    storms_never_rest();
     answer_and_tell(alloc, words, shelf, out, err, d)
 }

@@ -1,10 +1,12 @@
 use Rattle.std.proofs.Common.{◌≡◌, Ok, sym, ap, subst, ◌∙◌}
 use Rattle.std.proofs.lemmas.Result.{err_from_is_err_and}
-use Rattle.cyc_tool.specs.Faults.{netlist_of}
+use Rattle.contents.specs.Faults.{IsErrorOf}
+use Rattle.contents.specs.NetlistFiles.{netlist_of}
+use Rattle.contents.specs.Seen.{error_seen}
+use Rattle.contents.proofs.NetlistLemmas.{netlist_of_long}
 use Rattle.cyc_tool.specs.Plans.{Netlist}
-use Rattle.cyc_tool.specs.Reading.{IsErrorOf}
-use Rattle.cyc_tool.specs.Seen.{error_seen, stop_outcome}
-use Rattle.cyc_tool.proofs.ReadingLemmas.{error_stops, file_goes_on, none_stops, netlist_of_long, sound_fault, sound_netlist}
+use Rattle.cyc_tool.specs.Seen.{stop_outcome}
+use Rattle.cyc_tool.proofs.ReadingLemmas.{error_stops, file_goes_on, none_stops, sound_fault, sound_netlist}
 use Rattle.cyc_tool.proofs.reading.read_netlist.Goals as goal
 
 pub returns-in_err-bytes-clause-bad : goal.returns-in_err-bytes-clause-bad

@@ -4,7 +4,7 @@ use Rattle.report.specs.LoopTexts.{loops_text}
 use Rattle.cyc_tool.specs.Plans.{Ends, Prints, with_netlist}
 use Rattle.cyc_tool.specs.Seen.{stop_outcome, outcome_of}
 use Rattle.cyc_tool.specs.Texts.{no_memory}
-use Rattle.cyc_tool.proofs.PlanLemmas.{ends_alone, stops_alone}
+use Rattle.cyc_tool.proofs.PlanLemmas.{goes_on_still, still_ends, stops_alone}
 use Rattle.cyc_tool.proofs.top.loops.Goals as goal
 
 pub returns-in_err-net-clause-comes : goal.returns-in_err-net-clause-comes
@@ -16,10 +16,10 @@ pub returns-in_err-tell_loops-clause-comes : goal.returns-in_err-tell_loops-clau
 returns-in_err-tell_loops-clause-comes g c =
     let q = err_from_is_err_and c.from_residual-in_err-tell_loops.result c.from_residual-in_err-tell_loops.ensures.1 in
     rw (q.1, q.2)
-    (ends_alone (with_netlist c.args.netlist.now) c.in_ok-net.net (λ net. Ends (Prints (loops_text net))) _ _ _ _ no_memory
-    c.read_netlist.ensures.same c.in_ok-net.ensures.good (λ nodes. inr refl))
+    (goes_on_still (with_netlist c.args.netlist.now) c.in_ok-net.net (λ net. Ends (Prints (loops_text net))) _ _ _ _ no_memory
+    c.read_netlist.ensures.same c.in_ok-net.ensures.good (still_ends (Prints (loops_text c.in_ok-net.net)) no_memory (inr refl)))
 
 pub returns-clause-comes : goal.returns-clause-comes
 returns-clause-comes g c =
-    ends_alone (with_netlist c.args.netlist.now) c.in_ok-net.net (λ net. Ends (Prints (loops_text net))) _ _ _ _ (outcome_of c.in_ok-tell_loops.field-0)
-    c.read_netlist.ensures.same c.in_ok-net.ensures.good (λ nodes. inl c.in_ok-tell_loops.ensures)
+    goes_on_still (with_netlist c.args.netlist.now) c.in_ok-net.net (λ net. Ends (Prints (loops_text net))) _ _ _ _ (outcome_of c.in_ok-tell_loops.field-0)
+    c.read_netlist.ensures.same c.in_ok-net.ensures.good (still_ends (Prints (loops_text c.in_ok-net.net)) _ (inl c.in_ok-tell_loops.ensures))

@@ -1,6 +1,6 @@
-use Rattle.std.proofs.Common.{refl, inl, inr}
+use Rattle.std.proofs.Common.{refl}
 use Rattle.cyc_tool.proofs.AnswerLemmas.{gives_answer, is_complete}
-use Rattle.cyc_tool.proofs.CauseLemmas.{done_cause, fault_cause, limit_cause, read_cause, usage_cause, usage_told, write_cause}
+use Rattle.cyc_tool.proofs.CauseLemmas.{Eight, One, Zero, done_cause, fault_cause, limit_cause, read_cause, rewritten_cause, stormed_cause, usage_cause, usage_told, write_cause}
 use Rattle.cyc_tool.proofs.RunLemmas.{counts_later}
 use Rattle.cyc_tool.proofs.top.run.Goals as goal
 
@@ -23,10 +23,19 @@ pub returns-clause-limited : goal.returns-clause-limited
 returns-clause-limited g c = limit_cause _ _ _ _ _ _ c.answer_and_tell.ensures.runs
 
 pub returns-clause-done : goal.returns-clause-done
-returns-clause-done g c = done_cause _ _ _ _ _ _ 0 c.answer_and_tell.ensures.runs (inl refl)
+returns-clause-done g c = done_cause _ _ _ _ _ _ 0 c.answer_and_tell.ensures.runs (Zero refl)
 
 pub returns-clause-refused : goal.returns-clause-refused
-returns-clause-refused g c = done_cause _ _ _ _ _ _ 1 c.answer_and_tell.ensures.runs (inr refl)
+returns-clause-refused g c = done_cause _ _ _ _ _ _ 1 c.answer_and_tell.ensures.runs (One refl)
+
+pub returns-clause-outgrown : goal.returns-clause-outgrown
+returns-clause-outgrown g c = done_cause _ _ _ _ _ _ 8 c.answer_and_tell.ensures.runs (Eight refl)
+
+pub returns-clause-stormed : goal.returns-clause-stormed
+returns-clause-stormed g c = stormed_cause c.storms_never_rest.ensures _ _ _ _ _ _ c.answer_and_tell.ensures.runs
+
+pub returns-clause-rewritten : goal.returns-clause-rewritten
+returns-clause-rewritten g c = rewritten_cause _ _ _ _ _ _ c.answer_and_tell.ensures.runs
 
 pub returns-clause-answer : goal.returns-clause-answer
 returns-clause-answer g c = gives_answer _ _ _ _ _ _ c.answer_and_tell.ensures.runs

@@ -1,0 +1,102 @@
+-- What decisions come to.
+use Rattle.std.proofs.Common.{◌≡◌, ◌<◌, ◌≤◌, ℕ, Bool, true, false, length, Some, None, Ok, Err, sym, ap, subst, ◌∙◌, arith}
+use Rattle.std.specs.Prelude.{nat_le, if◌then◌else◌, IfOk, IfErr, OnOk}
+use Rattle.std.specs.declared.option.Option.{Option}
+use Rattle.std.specs.declared.result.Result.{Result}
+use Rattle.bdd_store.specs.Arena.{Arena}
+use Rattle.cyc_base.specs.declared.limits.TheConstants.{MAX_REWRITTEN_ITEMS}
+use Rattle.netlist.specs.declared.parts.Parts.{Parts}
+use Rattle.netlist.specs.Netlists.{IsNetlist}
+use Rattle.blif_write.specs.Written.{written}
+use Rattle.care_sets.specs.Care.{CareSet}
+use Rattle.refusals.specs.Acceptance.{Accepts}
+use Rattle.refusals.specs.Refusals.{IsRefusalOf, refusal}
+use Rattle.refusals.specs.declared.observe.Observe.{Observe}
+use Rattle.refusals.specs.declared.refusal.Refusal.{Refusal}
+use Rattle.refusals.proofs.LawLemmas.{accepted_without_refusal, refusal_is_shown}
+use Rattle.report.specs.Verdicts.{accepted_text, ring_line}
+use Rattle.rewriting.specs.Rewriting.{rewritten, rewritten_size, IsRewriting}
+use Rattle.unroll.specs.Unrolled.{IsUnrollFault}
+use Rattle.unroll.specs.declared.fault.UnrollFault.{UnrollFault}
+use Rattle.unroll.specs.declared.fault.UnrollFault.TheVariants.{TooLarge, Memory}
+use Rattle.loops.specs.declared.parts.Blocks.{Blocks}
+use Rattle.loops.specs.declared.parts.Cut.{Cut}
+use Rattle.loops.specs.declared.parts.SweepCounts.{SweepCounts}
+use Rattle.verdict.specs.Verdicts.{AreLoose, AreSweepsOnCare}
+use Rattle.cyc_tool.specs.Answer.{told, decided, verdict_of}
+use Rattle.cyc_tool.specs.Calls.{IsAccepted, IsDecided, IsMadeFor, Verdict}
+use Rattle.cyc_tool.specs.Endings.{count_of_loops, refused_told, where_outputs}
+use Rattle.cyc_tool.specs.Plans.{Decision, Prints, Outgrows, Purpose, Judges, Rewrites, Demonstrates}
+use Rattle.cyc_tool.specs.Seen.{IsToldOf, outcome_of}
+use Rattle.cyc_tool.specs.Texts.{Outcome}
+use Rattle.cyc_tool.specs.declared.outcome.Outcome.{Outcome as Told}
+
+abbrev pub decision_of : Parts → CareSet → ℕ → Observe → Decision
+decision_of net care limit what = record { net = net; care = care; limit = limit; observe = what }
+
+-- a netlist that is accepted, and one that is refused
+pub accepted_decides : (net : Parts) (care : CareSet) (limit : ℕ) (what : Observe) (purpose : Purpose) (nodes : Arena) (end : Outcome)
+    → IsNetlist net → Accepts net care what → IsAccepted (decision_of net care limit what) purpose end
+    → IsDecided (decision_of net care limit what) purpose nodes end
+accepted_decides net care limit what purpose nodes end valid accepts is =
+    let none : verdict_of (decision_of net care limit what) ≡ None = (accepted_without_refusal net care what valid).1 accepts in
+    Verdict (is.is ∙ sym (ap (decided (decision_of net care limit what) purpose) none))
+    (subst (IsMadeFor (decision_of net care limit what) purpose) (sym none) is.made)
+
+pub refused_decides : (net : Parts) (care : CareSet) (limit : ℕ) (what : Observe) (purpose : Purpose) (nodes : Arena) (end : Outcome) (refused : Refusal)
+    → refusal net care what ≡ Some refused → end ≡ told (refused_told net purpose refused)
+    → IsDecided (decision_of net care limit what) purpose nodes end
+refused_decides net care limit what purpose nodes end refused is same =
+    Verdict (same ∙ sym (ap (decided (decision_of net care limit what) purpose) is))
+    (subst (IsMadeFor (decision_of net care limit what) purpose) (sym is) tt)
+
+pub refusal_fits : (net : Parts) (care : CareSet) (what : Observe) (refused : Refusal) → IsNetlist net → refusal net care what ≡ Some refused
+    → IsRefusalOf net refused
+refusal_fits net care what refused valid is = (refusal_is_shown net care what refused valid is).0
+
+-- what is told of an accepted netlist for each purpose
+pub judged : (net : Parts) (care : CareSet) (limit : ℕ) (what : Observe) (loose : ℕ) (given : Option ℕ) (end : Outcome)
+    → end ≡ told (Prints (accepted_text net (count_of_loops net) given)) → given ≡ where_outputs what loose → AreLoose net care loose
+    → IsAccepted (decision_of net care limit what) Judges end
+judged net care limit what loose given end same is loose_is = record {
+  is = same ∙ ap (λ number. told (Prints (accepted_text net (count_of_loops net) number))) (is ∙ ap (where_outputs what) loose_is);
+  made = tt;
+}
+
+pub demonstrated : (net : Parts) (care : CareSet) (limit : ℕ) (what : Observe) (cells gates : ℕ) (end : Outcome)
+    → end ≡ told (Prints (ring_line cells net (count_of_loops net) gates)) → gates ≡ length (rewritten net care).gates
+    → IsAccepted (decision_of net care limit what) (Demonstrates cells) end
+demonstrated net care limit what cells gates end same is = record {
+  is = same ∙ ap (λ number. told (Prints (ring_line cells net (count_of_loops net) number))) is;
+  made = tt;
+}
+
+is_within : (size : ℕ) → size ≤ 4000000 → nat_le size MAX_REWRITTEN_ITEMS ≡ true
+is_within size small = grind (arith, small)
+
+is_over : (size : ℕ) → 4000000 < size → nat_le size MAX_REWRITTEN_ITEMS ≡ false
+is_over size over = grind (arith, over)
+
+pub was_rewritten : (net : Parts) (blocks : Blocks) (cut : Cut) (counts : SweepCounts) (care : CareSet) (limit : ℕ) (what : Observe)
+    (made : Result Parts UnrollFault) (end : Told) → IsToldOf made end → Accepts net care what → AreSweepsOnCare net blocks cut care counts
+    → IfOk made (λ other. (care : CareSet) (what : Observe) → Accepts net care what → AreSweepsOnCare net blocks cut care counts → IsRewriting net care other)
+    → OnOk made ((care : CareSet) → AreSweepsOnCare net blocks cut care counts → rewritten_size net care ≤ 4000000)
+    → IfErr made (λ fault. (care : CareSet) → AreSweepsOnCare net blocks cut care counts → IsUnrollFault (rewritten_size net care) fault)
+    → IsAccepted (decision_of net care limit what) Rewrites (outcome_of end)
+was_rewritten net blocks cut counts care limit what (Ok other) end same accepts sweeps rewriting small fault =
+    let is = rewriting care what accepts sweeps in
+    record {
+      is = same ∙ ap (λ (n : Parts). told (Prints (written n))) is.is
+          ∙ sym (ap (λ (t : Bool). told (if t then Prints (written (rewritten net care)) else Outgrows (rewritten_size net care)))
+          (is_within (rewritten_size net care) (small care sweeps)));
+      made = λ within. subst (IsRewriting net care) is.is is;
+    }
+was_rewritten net blocks cut counts care limit what (Err (TooLarge size)) end same accepts sweeps rewriting small fault =
+    let is = fault care sweeps in
+    record {
+      is = same ∙ ap (λ (n : ℕ). told (Outgrows n)) is.1
+          ∙ sym (ap (λ (t : Bool). told (if t then Prints (written (rewritten net care)) else Outgrows (rewritten_size net care)))
+          (is_over (rewritten_size net care) is.0));
+      made = λ within. absurd (let over = is.0 in omega (arith, over, within));
+    }
+was_rewritten net blocks cut counts care limit what (Err Memory) end same accepts sweeps rewriting small fault = absurd same

@@ -1,0 +1,64 @@
+-- The storm of a plan is the storm of its vector.
+use Rattle.std.proofs.Common.{◌≡◌, ◌<◌, ◌≤◌, ◌++◌, ℕ, Bool, true, false, List, Some, None, refl, sym, ap, subst, ◌∙◌, arith}
+use Rattle.std.specs.Prelude.{nat_le, min, ◌^◌, ◌-◌, if◌then◌else◌}
+use Rattle.std.specs.List.{list_any}
+use Rattle.std.specs.declared.option.Option.{Option}
+use Rattle.cyc_base.specs.Values.{bits}
+use Rattle.delay_core.specs.declared.plan.Schedule.{Schedule}
+use Rattle.cyc_base.specs.declared.sig.Sig.{Sig}
+use Rattle.netlist.specs.declared.parts.Parts.{Parts}
+use Rattle.refusals.specs.declared.refusal.Refusal.{Refusal}
+use Rattle.refusals.specs.declared.refusal.Refusal.TheVariants.{Undetermined}
+use Rattle.netlist.specs.Fixpoint.{fix}
+use Rattle.sched_text.specs.Written.{written}
+use Rattle.storm.specs.Laws.{IsTooLarge}
+use Rattle.storm.specs.Plans.{if_shaking, plan_at, storm_plan}
+use Rattle.storm.specs.Storms.{most_events, storm_events, storm_of}
+use Rattle.storm.specs.declared.fault.StormFault.TheVariants.{TooLarge}
+use Rattle.storm.specs.declared.planning.StormPlan.{StormPlan}
+use Rattle.cyc_tool.specs.Answer.{told}
+use Rattle.cyc_tool.specs.Endings.{storm_or_refusal, storm_told}
+use Rattle.cyc_tool.specs.Plans.{Outgrows, Prints}
+use Rattle.cyc_tool.specs.Storms.{events_of, events_told, inputs_line, storm_text}
+use Rattle.cyc_tool.specs.Texts.{Outcome}
+
+plan_is : (net : Parts) (v : List Bool) (plan : StormPlan) → storm_plan net v ≡ Some plan → plan ≡ plan_at net (fix net (bits v))
+plan_is net v plan is = by_shaking (plan_at net (fix net (bits v))) is
+  where
+    by : (planned : StormPlan) (shakes : Bool) → (let o : Option StormPlan = if shakes then Some planned else None in o ≡ Some plan) → plan ≡ planned
+    by planned true e = let same : planned ≡ plan = cc in sym same
+    by planned false e = cc
+
+    by_shaking : (planned : StormPlan) → if_shaking planned ≡ Some plan → plan ≡ planned
+    by_shaking planned e = by planned (list_any (λ shakes. shakes) planned.shaking) e
+
+few_enough : (events : ℕ) → events ≤ most_events → nat_le events most_events ≡ true
+few_enough events few = grind (arith, few)
+
+too_many : (events : ℕ) → most_events < events → nat_le events most_events ≡ false
+too_many events over = grind (arith, over)
+
+pub stormed : (net : Parts) (v : List Bool) (rounds : ℕ) (plan : StormPlan) (schedule : Schedule) (end : Outcome) → storm_plan net v ≡ Some plan
+    → schedule ≡ storm_of net v rounds → storm_events net plan rounds ≤ most_events
+    → end ≡ told (Prints (inputs_line net v ++ written net schedule)) → end ≡ told (storm_told net rounds v)
+stormed net v rounds plan schedule end planned is few same =
+    let fits : events_of net v rounds ≤ most_events = subst (λ (p : StormPlan). storm_events net p rounds ≤ most_events) (plan_is net v plan planned) few in
+    same ∙ ap (λ (s : Schedule). told (Prints (inputs_line net v ++ written net s))) is
+    ∙ sym (ap (λ (t : Bool). told (if t then Prints (storm_text net v rounds) else Outgrows (events_told (events_of net v rounds)))) (few_enough (events_of net v rounds) fits))
+
+told_events : (events other : ℕ) → TooLarge events ≡ TooLarge other → events ≡ other
+told_events events other e = cc
+
+pub outgrown : (net : Parts) (v : List Bool) (rounds : ℕ) (plan : StormPlan) (events : ℕ) (end : Outcome) → storm_plan net v ≡ Some plan
+    → IsTooLarge (storm_events net plan rounds) (TooLarge events) → end ≡ told (Outgrows events) → end ≡ told (storm_told net rounds v)
+outgrown net v rounds plan events end planned large same =
+    let many : IsTooLarge (events_of net v rounds) (TooLarge events) =
+    subst (λ (p : StormPlan). IsTooLarge (storm_events net p rounds) (TooLarge events)) (plan_is net v plan planned) large in
+    same ∙ ap (λ (n : ℕ). told (Outgrows n)) (told_events events (events_told (events_of net v rounds)) many.is)
+    ∙ sym (ap (λ (t : Bool). told (if t then Prints (storm_text net v rounds) else Outgrows (events_told (events_of net v rounds)))) (too_many (events_of net v rounds) many.over))
+
+-- a refused wire is told by its storm
+pub wire_stormed : (net : Parts) (rounds : ℕ) (v given : List Bool) (wire : Sig) (refused : Refusal) (end : Outcome) → refused ≡ Undetermined v wire
+    → given ≡ v → end ≡ told (storm_told net rounds given) → end ≡ told (storm_or_refusal net rounds refused)
+wire_stormed net rounds v given wire refused end is same ends =
+    ends ∙ ap (λ (b : List Bool). told (storm_told net rounds b)) same ∙ sym (ap (λ (r : Refusal). told (storm_or_refusal net rounds r)) is)

@@ -1,0 +1,63 @@
+-- What a call ends with that makes a decision, by its verdict: nothing, or what refuses the netlist.
+use Rattle.std.specs.Prelude.{ℕ, Bool, List, length, nat_le, if◌then◌else◌, Some, None}
+use Rattle.std.specs.declared.option.Option.{Option}
+use Rattle.cyc_base.specs.declared.limits.TheConstants.{MAX_REWRITTEN_ITEMS}
+use Rattle.netlist.specs.declared.parts.Parts.{Parts}
+use Rattle.loops.specs.Listed.{first_gates}
+use Rattle.blif_write.specs.Written.{written}
+use Rattle.refusals.specs.Refusals.{loose_gates}
+use Rattle.refusals.specs.declared.observe.Observe.{Observe}
+use Rattle.refusals.specs.declared.observe.Observe.TheVariants.{All, Outputs}
+use Rattle.refusals.specs.declared.refusal.Refusal.{Refusal}
+use Rattle.refusals.specs.declared.refusal.Refusal.TheVariants.{Undetermined}
+use Rattle.report.specs.Verdicts.{accepted_text, refusal_text, ring_line}
+use Rattle.storm.specs.Storms.{most_events}
+use Rattle.rewriting.specs.Rewriting.{rewritten, rewritten_size}
+use Rattle.cyc_tool.specs.Plans.{Ending, Prints, Refuses, Declines, Outgrows, Decision, Purpose, Judges, Rewrites, Demonstrates, Storms}
+use Rattle.cyc_tool.specs.Storms.{events_of, events_told, storm_text}
+
+-- a number that is told only where the outputs alone are observed
+abbrev pub where_outputs : Observe → ℕ → Option ℕ
+where_outputs All number = None
+where_outputs Outputs number = Some number
+
+-- how many gates are unknown on some care vector
+abbrev pub loose_told : Decision → Option ℕ
+loose_told decision = where_outputs decision.observe (length (loose_gates decision.net decision.care))
+
+abbrev pub count_of_loops : Parts → ℕ
+count_of_loops net = length (first_gates net)
+
+-- the rewritten netlist, unless it has too many gates and latches
+abbrev pub rewritten_told : Decision → Ending
+rewritten_told decision =
+    if nat_le (rewritten_size decision.net decision.care) MAX_REWRITTEN_ITEMS
+    then Prints (written (rewritten decision.net decision.care))
+    else Outgrows (rewritten_size decision.net decision.care)
+
+-- the storm of a vector, unless it has too many events
+abbrev pub storm_told : Parts → ℕ → List Bool → Ending
+storm_told net rounds v =
+    if nat_le (events_of net v rounds) most_events then Prints (storm_text net v rounds) else Outgrows (events_told (events_of net v rounds))
+
+-- only a refused wire has a storm
+abbrev pub storm_or_refusal : Parts → ℕ → Refusal → Ending
+storm_or_refusal net rounds (Undetermined v wire) = storm_told net rounds v
+storm_or_refusal net rounds refused = Declines (refusal_text net refused)
+
+abbrev pub accepted_told : Decision → Purpose → Ending
+accepted_told decision Judges = Prints (accepted_text decision.net (count_of_loops decision.net) (loose_told decision))
+accepted_told decision Rewrites = rewritten_told decision
+accepted_told decision (Demonstrates cells) =
+    Prints (ring_line cells decision.net (count_of_loops decision.net) (length (rewritten decision.net decision.care).gates))
+accepted_told decision (Storms rounds) = Declines (accepted_text decision.net (count_of_loops decision.net) (loose_told decision))
+
+abbrev pub refused_told : Parts → Purpose → Refusal → Ending
+refused_told net Judges refused = Refuses (refusal_text net refused)
+refused_told net Rewrites refused = Declines (refusal_text net refused)
+refused_told net (Demonstrates cells) refused = Refuses (refusal_text net refused)
+refused_told net (Storms rounds) refused = storm_or_refusal net rounds refused
+
+abbrev pub ending_of : Decision → Purpose → Option Refusal → Ending
+ending_of decision purpose None = accepted_told decision purpose
+ending_of decision purpose (Some refused) = refused_told decision.net purpose refused

@@ -1,0 +1,29 @@
+-- What `storm` prints of a vector: its inputs, as a comment, and its storm as a schedule file.
+use Rattle.std.specs.Prelude.{ℕ, Bool, List, [], ◌∷◌, ◌++◌, ◌^◌, ◌-◌, length, take, min, nat_le, codes, if◌then◌else◌}
+use Rattle.std.specs.List.{flat_map}
+use Rattle.cyc_base.specs.Values.{bits}
+use Rattle.netlist.specs.declared.parts.Parts.{Parts}
+use Rattle.netlist.specs.Fixpoint.{fix}
+use Rattle.report.specs.Ticks.{bit_text}
+use Rattle.sched_text.specs.Written.{written}
+use Rattle.storm.specs.Plans.{plan_at}
+use Rattle.storm.specs.Storms.{most_events, storm_events, storm_of}
+
+abbrev pub bits_or_dash : List Bool → List ℕ
+bits_or_dash [] = codes "-"
+bits_or_dash (b ∷ v) = flat_map bit_text (b ∷ v)
+
+-- the inputs of a vector
+abbrev pub inputs_line : Parts → List Bool → List ℕ
+inputs_line net v = codes "# inputs " ++ (bits_or_dash (take (length net.inputs) v) ++ codes "\n")
+
+abbrev pub storm_text : Parts → List Bool → ℕ → List ℕ
+storm_text net v rounds = inputs_line net v ++ written net (storm_of net v rounds)
+
+-- how many events the storm of a vector has
+abbrev pub events_of : Parts → List Bool → ℕ → ℕ
+events_of net v rounds = storm_events net (plan_at net (fix net (bits v))) rounds
+
+-- the number that is told where they are too many
+abbrev pub events_told : ℕ → ℕ
+events_told events = min events (2 ^ 64 - 1)

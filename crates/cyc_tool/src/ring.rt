@@ -1,0 +1,92 @@
+// The ring arbiter of so many cells, decided as a file is.
+ghost use Rattle.std.specs.Prelude.{◌≡◌, ◌≤◌, Ok, IfOk, IfErr, length};
+ghost use Rattle.care_sets.specs.Binding.{IsCareOf};
+ghost use Rattle.commands.specs.Seen.{cells_seen};
+ghost use Rattle.contents.specs.CareFiles.{care_of as care_meant};
+ghost use Rattle.contents.specs.NetlistFiles.{netlist_of as netlist_meant};
+ghost use Rattle.maker.specs.Faults.{AreTexts};
+ghost use Rattle.maker.specs.Ring.{ring_text, care_text};
+ghost use Rattle.netlist.specs.Netlists.{IsNetlist};
+ghost use Rattle.cyc_tool.specs.Plans.{ring_care_file, ring_deciding, ring_file};
+ghost use Rattle.cyc_tool.specs.Reading.{FollowsStill, IsStoppedBy};
+ghost use Rattle.cyc_tool.specs.Seen.{end_of, stop_outcome};
+
+use crate::decision::{Purpose, decide_netlist};
+use crate::outcome::{Outcome, Stop};
+use crate::reading::stop_at;
+use bdd_ops::Diagrams;
+use care_sets::Care;
+use commands::Cells;
+use contents::{care_of, netlist_of};
+use cyc_base::{DEFAULT_NODES, Name};
+use maker::ring;
+use netlist::Netlist;
+use refusals::Observe;
+use std::alloc::{AllocError, Global};
+
+// Both texts of the ring.
+fn ring_texts(alloc: Global, cells: Cells) -> Result<(Vec<u8>, Vec<u8>), AllocError>
+    ensures { IfOk result (λ texts. AreTexts (cells_seen cells) texts.0.items texts.1.items) }
+{
+    match ring(alloc, cells.number) {
+        Ok(texts) => Ok(texts),
+        Err(_) => Err(AllocError),
+    }
+}
+
+fn ring_netlist(alloc: Global, text: &[u8]) -> Result<Netlist, Stop>
+    ensures good { IfOk result (λ net. netlist_meant text.now ≡ Ok net) }
+    ensures valid { IfOk result IsNetlist }
+    ensures inputs { IfOk result (λ net. length net.inputs ≤ 4000000000) }
+    ensures bad { IfErr result (λ stop. IsStoppedBy ring_file (netlist_meant text.now) (stop_outcome stop)) }
+{
+    let file = Name::new(b"ring.blif".to_vec(alloc)?);
+    match netlist_of(alloc, text) {
+        Ok(net) => Ok(net),
+        Err(error) => Err(stop_at(alloc, &file, error)),
+    }
+}
+
+fn ring_care(alloc: Global, net: &Netlist, text: &[u8]) -> Result<Care, Stop>
+    ensures good { IfOk result (λ care. care_meant net.now text.now ≡ Ok care) }
+    ensures fits { IfOk result (IsCareOf net.now) }
+    ensures bad { IfErr result (λ stop. IsStoppedBy ring_care_file (care_meant net.now text.now) (stop_outcome stop)) }
+{
+    let file = Name::new(b"ring.care".to_vec(alloc)?);
+    match care_of(alloc, net, text) {
+        Ok(care) => Ok(care),
+        Err(error) => Err(stop_at(alloc, &file, error)),
+    }
+}
+
+fn decide_ring(
+    alloc: Global,
+    cells: Cells,
+    text: &[u8],
+    care: &[u8],
+    d: &mut Diagrams,
+) -> Result<Outcome, Stop>
+    requires text { text.now ≡ ring_text (cells_seen cells) }
+    requires care { care.now ≡ care_text (cells_seen cells) }
+    ensures { FollowsStill (ring_deciding (cells_seen cells)) d.new (end_of result) }
+{
+    let net = ring_netlist(alloc, text)?;
+    let care = ring_care(alloc, &net, care)?;
+    Ok(decide_netlist(
+        alloc,
+        &net,
+        &care,
+        DEFAULT_NODES,
+        Observe::All,
+        Purpose::Demonstrate(cells),
+        d,
+    )?)
+}
+
+// Decides the ring arbiter of so many cells, and prints one line.
+pub(crate) fn demo(alloc: Global, cells: Cells, d: &mut Diagrams) -> Result<Outcome, Stop>
+    ensures { FollowsStill (ring_deciding (cells_seen cells)) d.new (end_of result) }
+{
+    let texts = ring_texts(alloc, cells)?;
+    Ok(decide_ring(alloc, cells, &texts.0, &texts.1, d)?)
+}

@@ -1,0 +1,103 @@
+// Ternary simulation, tick by tick.
+ghost use Rattle.std.specs.Prelude.{◌≡◌, ◌+◌, ◌++◌, ◌<◌, IfOk, OnOk, All, List, length};
+ghost use Rattle.cyc_base.specs.declared.trit.Trit.{Trit as TritValue};
+ghost use Rattle.cyc_io.specs.Text.{text_bytes};
+ghost use Rattle.netlist.specs.Fixpoint.{next, outs};
+ghost use Rattle.report.specs.Ticks.{tick_text};
+ghost use Rattle.simulation.specs.Simulators.{IsSimulatorOf};
+ghost use Rattle.cyc_tool.specs.Simulation.{sim_text, start_value, start_values};
+
+use cyc_base::{Trit, Trits};
+use cyc_io::TextSink;
+use netlist::{Init, Netlist};
+use report::put_tick;
+use simulation::Simulator;
+use std::alloc::{AllocError, Global};
+
+fn start_of(init: Init) -> Trit
+    ensures { result ≡ start_value init }
+{
+    match init {
+        Init::Zero => Trit::Zero,
+        Init::One => Trit::One,
+        Init::Either => Trit::X,
+    }
+}
+
+// What the latches start with.
+fn start(alloc: Global, net: &Netlist) -> Result<Vec<Trit>, AllocError>
+    ensures { IfOk result (λ values. values.items ≡ start_values net.now) }
+{
+    let mut values = Vec::with_capacity(alloc, net.latches() as usize)?;
+    for number in 0..net.latches() {
+        values.push(start_of(net.latch(number).init))?;
+    }
+    Ok(values)
+}
+
+// Appends the line of a tick with these inputs and latches, which then have what they load.
+fn put_next(
+    alloc: Global,
+    net: &Netlist,
+    simulator: &mut Simulator,
+    tick: u64,
+    inputs: &[Trit],
+    latches: &mut Vec<Trit>,
+    outputs: &mut Vec<Trit>,
+    sink: &mut TextSink,
+) -> Result<(), AllocError>
+    requires simulator { IsSimulatorOf net.now simulator.old }
+    requires inputs { length inputs.now ≡ length net.now.inputs }
+    requires latches { length latches.old.items ≡ length net.now.latches }
+    ensures simulator { IsSimulatorOf net.now simulator.new }
+    ensures next { OnOk result (latches.new.items ≡ next net.now (inputs.now ++ latches.old.items)) }
+    ensures told { OnOk result (text_bytes sink.new ≡ text_bytes sink.old ++ tick_text tick (outs net.now (inputs.now ++ latches.old.items))) }
+{
+    simulator.tick_into(alloc, net, inputs, latches, outputs)?;
+    if put_tick(tick, outputs, sink).is_err() {
+        return Err(AllocError);
+    }
+    Ok(())
+}
+
+fn put_ticks(
+    alloc: Global,
+    net: &Netlist,
+    vectors: &[Trits],
+    sink: &mut TextSink,
+) -> Result<(), AllocError>
+    requires { All (λ (vector : List TritValue). length vector ≡ length net.now.inputs) vectors.now }
+    ensures { OnOk result (text_bytes sink.new ≡ text_bytes sink.old ++ sim_text net.now vectors.now) }
+{
+    let mut simulator = Simulator::of(alloc, net)?;
+    let mut latches = start(alloc, net)?;
+    let mut outputs = Vec::new(alloc);
+    for i in 0..vectors.len() {
+        let inputs = vectors[i].items();
+        put_next(
+            alloc,
+            net,
+            &mut simulator,
+            i as u64 + 1,
+            inputs,
+            &mut latches,
+            &mut outputs,
+            sink,
+        )?;
+    }
+    Ok(())
+}
+
+// The lines of a simulation.
+pub(crate) fn simulate(
+    alloc: Global,
+    net: &Netlist,
+    vectors: &[Trits],
+) -> Result<Vec<u8>, AllocError>
+    requires { All (λ (vector : List TritValue). length vector ≡ length net.now.inputs) vectors.now }
+    ensures { IfOk result (λ text. text.items ≡ sim_text net.now vectors.now) }
+{
+    let mut sink = TextSink::new(alloc);
+    put_ticks(alloc, net, vectors, &mut sink)?;
+    Ok(sink.into_vec())
+}

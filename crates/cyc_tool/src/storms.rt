@@ -1,0 +1,144 @@
+// The storm of a refused wire, as a schedule file.
+ghost use Rattle.std.specs.Prelude.{◌≡◌, ◌+◌, ◌++◌, Some, IfOk, OnOk, length};
+ghost use Rattle.std.specs.List.{flat_map};
+ghost use Rattle.commands.specs.Seen.{rounds_seen};
+ghost use Rattle.cyc_io.specs.Text.{text_bytes};
+ghost use Rattle.refusals.specs.Refusals.{IsRefusalOf};
+ghost use Rattle.report.specs.Ticks.{bit_text};
+ghost use Rattle.sched_text.specs.Written.{written};
+ghost use Rattle.storm.specs.Laws.{FitsOneTick};
+ghost use Rattle.storm.specs.Plans.{storm_plan};
+ghost use Rattle.cyc_tool.specs.Answer.{told as done};
+ghost use Rattle.cyc_tool.specs.Endings.{storm_or_refusal, storm_told};
+ghost use Rattle.cyc_tool.specs.Seen.{outcome_of};
+ghost use Rattle.cyc_tool.specs.Storms.{bits_or_dash, inputs_line};
+
+use crate::outcome::Outcome;
+use crate::status;
+use crate::texts::{on_out, tell_declined, tell_too_large};
+use commands::Rounds;
+use cyc_io::{Failed, TextSink, write_whole};
+use delay_core::Schedule;
+use netlist::Netlist;
+use refusals::Refusal;
+use sched_text::put_schedule;
+use std::alloc::{AllocError, Global};
+use storm::{StormFault, StormPlan, plan, schedule};
+
+fn push_bits(text: &mut Vec<u8>, bits: &[bool]) -> Result<(), AllocError>
+    ensures { OnOk result (text.new.items ≡ text.old.items ++ flat_map bit_text bits.now) }
+{
+    for bit in bits {
+        text.push(if *bit { b'1' } else { b'0' })?;
+    }
+    Ok(())
+}
+
+fn push_inputs(text: &mut Vec<u8>, inputs: &[bool]) -> Result<(), AllocError>
+    ensures { OnOk result (text.new.items ≡ text.old.items ++ bits_or_dash inputs.now) }
+{
+    if inputs.is_empty() {
+        text.push(b'-')?;
+        return Ok(());
+    }
+    push_bits(text, inputs)
+}
+
+// The inputs of a vector, as a comment.
+fn inputs_of(alloc: Global, net: &Netlist, v: &[bool]) -> Result<Vec<u8>, AllocError>
+    requires { length v.now ≡ length net.now.inputs + length net.now.latches }
+    ensures { IfOk result (λ text. text.items ≡ inputs_line net.now v.now) }
+{
+    let mut text = Vec::new(alloc);
+    text.extend_from_slice(b"# inputs ")?;
+    push_inputs(&mut text, &v[..net.inputs() as usize])?;
+    text.push(b'\n')?;
+    Ok(text)
+}
+
+fn put_file(
+    net: &Netlist,
+    inputs: &[u8],
+    schedule: &Schedule,
+    sink: &mut TextSink,
+) -> Result<(), Failed>
+    requires { FitsOneTick net.now schedule.now }
+    ensures { OnOk result (text_bytes sink.new ≡ text_bytes sink.old ++ (inputs.now ++ written net.now schedule.now)) }
+{
+    write_whole(sink, inputs)?;
+    put_schedule(net, schedule, sink)
+}
+
+// A schedule file of this schedule, for the inputs of a vector.
+fn file_of(
+    alloc: Global,
+    net: &Netlist,
+    v: &[bool],
+    schedule: &Schedule,
+) -> Result<Vec<u8>, AllocError>
+    requires width { length v.now ≡ length net.now.inputs + length net.now.latches }
+    requires fits { FitsOneTick net.now schedule.now }
+    ensures { IfOk result (λ text. text.items ≡ inputs_line net.now v.now ++ written net.now schedule.now) }
+{
+    let inputs = inputs_of(alloc, net, v)?;
+    let mut sink = TextSink::new(alloc);
+    match put_file(net, &inputs, schedule, &mut sink) {
+        Ok(()) => Ok(sink.into_vec()),
+        Err(_) => Err(AllocError),
+    }
+}
+
+fn tell_planned(
+    alloc: Global,
+    net: &Netlist,
+    v: &[bool],
+    plan: &StormPlan,
+    rounds: Rounds,
+) -> Result<Outcome, AllocError>
+    requires width { length v.now ≡ length net.now.inputs + length net.now.latches }
+    requires plan { storm_plan net.now v.now ≡ Some plan.now }
+    ensures { IfOk result (λ told. outcome_of told ≡ done (storm_told net.now (rounds_seen rounds) v.now)) }
+{
+    match schedule(alloc, net, v, plan, rounds.number) {
+        Ok(found) => Ok(on_out(alloc, status::DONE, file_of(alloc, net, v, &found)?)),
+        Err(StormFault::TooLarge { events }) => Ok(tell_too_large(alloc, events)?),
+        Err(StormFault::Memory) => Err(AllocError),
+    }
+}
+
+// The storm of a vector that leaves a wire unknown. It has a plan then.
+fn tell_vector(
+    alloc: Global,
+    net: &Netlist,
+    v: &[bool],
+    rounds: Rounds,
+) -> Result<Outcome, AllocError>
+    requires { length v.now ≡ length net.now.inputs + length net.now.latches }
+    ensures { IfOk result (λ told. outcome_of told ≡ done (storm_told net.now (rounds_seen rounds) v.now)) }
+{
+    match plan(alloc, net, v)? {
+        Some(found) => Ok(tell_planned(alloc, net, v, &found, rounds)?),
+        None => Err(AllocError),
+    }
+}
+
+// The storm of a refused wire, or another refusal in place of it.
+pub(crate) fn tell_storm(
+    alloc: Global,
+    net: &Netlist,
+    refusal: &Refusal,
+    rounds: Rounds,
+) -> Result<Outcome, AllocError>
+    requires { IsRefusalOf net.now refusal.now }
+    ensures { IfOk result (λ told. outcome_of told ≡ done (storm_or_refusal net.now (rounds_seen rounds) refusal.now)) }
+{
+    match refusal {
+        Refusal::Undetermined { vector, .. } => Ok(tell_vector(
+            alloc,
+            net,
+            vector.items(),
+            rounds,
+        )?),
+        _ => Ok(tell_declined(alloc, net, refusal)?),
+    }
+}
