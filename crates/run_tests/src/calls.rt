@@ -33,17 +33,35 @@ fn words_of(alloc: Global, line: &str) -> Result<Vec<Name>, AllocError> {
     Ok(words)
 }
 
+fn file(alloc: Global, named: &str, text: &[u8]) -> Result<(Name, Vec<u8>), AllocError> {
+    Ok((name(alloc, named)?, text.to_vec(alloc)?))
+}
+
 /// The netlist file `m.blif` and the care file `c.blif`, where the reads of these numbers fail.
 fn shelf(alloc: Global, text: &[u8], care: &[u8], fail: &[u64]) -> Result<MemoryShelf, AllocError> {
-    let netlist = (Name::new(b"m.blif".to_vec(alloc)?), text.to_vec(alloc)?);
-    let care = (Name::new(b"c.blif".to_vec(alloc)?), care.to_vec(alloc)?);
-    let files = vec![in alloc; netlist, care]?;
+    let mut files = Vec::new(alloc);
+    files.push(file(alloc, "m.blif", text)?)?;
+    files.push(file(alloc, "c.blif", care)?)?;
     Ok(MemoryShelf::new(alloc, files, fail.to_vec(alloc)?))
+}
+
+/// The netlist file `m.blif`, the vector file `v.txt` and the schedule file `s.txt`.
+fn play_shelf(
+    alloc: Global,
+    text: &str,
+    vectors: &str,
+    schedule: &str,
+) -> Result<MemoryShelf, AllocError> {
+    let mut files = Vec::new(alloc);
+    files.push(file(alloc, "m.blif", text.as_bytes())?)?;
+    files.push(file(alloc, "v.txt", vectors.as_bytes())?)?;
+    files.push(file(alloc, "s.txt", schedule.as_bytes())?)?;
+    Ok(MemoryShelf::new(alloc, files, Vec::new(alloc)))
 }
 
 fn sink(alloc: Global, fail: &[u64]) -> Result<MemorySink, AllocError> {
     let fail = fail.to_vec(alloc)?;
-    MemorySink::new(alloc, 400, fail, 4)
+    MemorySink::new(alloc, 500, fail, 4)
 }
 
 fn status_of(
@@ -95,4 +113,22 @@ pub fn gives(
 ) -> Result<bool, AllocError> {
     let seen = call(alloc, line, text.as_bytes(), care.as_bytes(), &[], &[])?;
     Ok(is(&seen, status, out, err))
+}
+
+/// Whether `delays m.blif v.txt s.txt` gives this status, and this text on out where it is 0, else on err.
+pub fn plays(
+    alloc: Global,
+    text: &str,
+    vectors: &str,
+    schedule: &str,
+    status: u8,
+    told: &str,
+) -> Result<bool, AllocError> {
+    let mut shelf = play_shelf(alloc, text, vectors, schedule)?;
+    let seen = call_over(alloc, "delays m.blif v.txt s.txt", &mut shelf, &[])?;
+    Ok(if status == 0 {
+        is(&seen, 0, told, "")
+    } else {
+        is(&seen, status, "", told)
+    })
 }

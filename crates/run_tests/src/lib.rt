@@ -15,7 +15,11 @@ mod faults;
 #[cfg(test)]
 mod limits;
 #[cfg(test)]
+mod playing;
+#[cfg(test)]
 mod printing;
+#[cfg(test)]
+mod rewrites;
 #[cfg(test)]
 mod simulating;
 #[cfg(test)]

@@ -18,6 +18,14 @@ fn wrong_words(number: u32) -> Option<&'static str> {
         6 => Some(""),
         7 => Some("check --care c.blif m.blif"),
         8 => Some("flat m.blif c.blif"),
+        9 => Some("check m.blif --observe gates"),
+        10 => Some("demo 1"),
+        11 => Some("demo 65"),
+        12 => Some("delays m.blif v.txt"),
+        13 => Some("storm m.blif"),
+        14 => Some("storm m.blif 0"),
+        15 => Some("storm m.blif 10001"),
+        16 => Some("check m.blif --observe all --observe outputs"),
         _ => None,
     }
 }
@@ -29,7 +37,7 @@ fn usage_is_told(alloc: Global, number: u32) -> Result<bool, AllocError> {
     gives(alloc, words, "", "", 2, "", USAGE)
 }
 
-const LINES: u32 = 9;
+const LINES: u32 = 17;
 
 #[test]
 fn wrong_words_get_the_usage(rt: HostRuntime) -> Result<(), Fail> {

@@ -107,6 +107,51 @@ fn least_of_the_constant_false(rt: HostRuntime) -> Result<(), Fail> {
     Ok(())
 }
 
+/// Two of four entries stand under the root.
+fn assert_swept(rt: &impl Abort, d: &mut Diagrams) -> Result<(), StoreFault>
+    requires { d.old.vars ≡ 2 }
+{
+    let x = d.var(0)?;
+    let y = d.var(1)?;
+    d.and(x, y)?;
+    let differ = d.xor(x, y)?;
+    assert_eq!(rt; d.store().count(), 4);
+    let root = d.keep(differ)?;
+    d.sweep()?;
+    assert_eq!(rt; d.store().count(), 2);
+    let kept = d.root(&root);
+    assert_values(rt, d, kept, [false, true, true, false]);
+    d.release(root);
+    d.sweep()?;
+    assert_eq!(rt; d.store().count(), 0);
+    Ok(())
+}
+
+#[test]
+fn a_sweep_keeps_what_roots_reach(rt: HostRuntime) -> Result<(), Fail> {
+    let mut d = Diagrams::new(rt.alloc(), 2, 100)?;
+    Ok(assert_swept(&rt, &mut d)?)
+}
+
+/// Variable 0 is read at the second place, and variable 1 at the first.
+fn assert_least_by(rt: &impl Abort, d: &mut Diagrams) -> Result<(), StoreFault>
+    requires { d.old.vars ≡ 2 }
+{
+    let y = d.var(1)?;
+    let mut out = [false, true];
+    assert!(rt; !d.least_by(Node::of(false), [1, 0].as_slice(), out.as_mut_slice())?);
+    assert_eq!(rt; out, [false, true]);
+    assert!(rt; d.least_by(y, [1, 0].as_slice(), out.as_mut_slice())?);
+    assert_eq!(rt; out, [true, false]);
+    Ok(())
+}
+
+#[test]
+fn least_by_column(rt: HostRuntime) -> Result<(), Fail> {
+    let mut d = Diagrams::new(rt.alloc(), 2, 100)?;
+    Ok(assert_least_by(&rt, &mut d)?)
+}
+
 const MANY: u32 = 200_000;
 
 /// The conjunction of every second variable.

@@ -15,7 +15,7 @@ use std::alloc::{AllocError, Global};
 use std::test::Fail;
 use ternary_run::settle;
 
-const NETS: u32 = 12;
+pub const NETS: u32 = 13;
 
 /// The gates of a netlist whose signal 0 is an input and whose signal 1 is a latch, so that they are the signals
 /// from 2 on. The first letter of a gate is its cover's, and each digit behind it is a signal that it reads.
@@ -44,7 +44,9 @@ fn gates_of(number: u32) -> &'static [&'static str] {
         // two loops that share a gate
         10 => &["M013", "M024", "&23"],
         // a ring of four gates
-        _ => &["|15", "&20", "&31", "&40"],
+        11 => &["|15", "&20", "&31", "&40"],
+        // a gate that is unknown selects between equals
+        _ => &["|22", "m200"],
     }
 }
 
@@ -194,7 +196,7 @@ fn is_settled_anew(alloc: Global, net: &Netlist) -> Result<bool, Fail> {
 }
 
 /// The netlist of this number.
-fn net_at(alloc: Global, number: u32) -> Result<Netlist, Fail>
+pub fn net_at(alloc: Global, number: u32) -> Result<Netlist, Fail>
     ensures { IfOk result IsNetlist }
 {
     let text = text_of(alloc, gates_of(number))?;

@@ -29,6 +29,10 @@ mod refused;
 #[cfg(test)]
 mod settling;
 #[cfg(test)]
+mod simulations;
+#[cfg(test)]
+mod storms;
+#[cfg(test)]
 mod texts;
 #[cfg(test)]
 mod unrolling;

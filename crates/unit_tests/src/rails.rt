@@ -1,11 +1,9 @@
-//! Diagrams of covers, and covers lifted to rails.
+//! Diagrams of covers. Covers lifted to rails are tested with the fixpoints.
 
 ghost use Rattle.std.specs.Prelude.{◌≡◌, IfOk};
 
 use crate::covers::{cover, disjoint};
-use bdd_ops::Diagrams;
-use bdd_store::Node;
-use dual_rail::{Rails, lift, local, rails_of, var_rails};
+use dual_rail::local;
 use std::alloc::{AllocError, Global};
 use std::process::Abort;
 use std::test::Fail;
@@ -61,23 +59,5 @@ fn diagrams_are_reduced(rt: HostRuntime) -> Result<(), Fail> {
 fn pairs_take_two_nodes_each(rt: HostRuntime) -> Result<(), Fail> {
     let cover = disjoint(&rt, rt.alloc(), 40, 20, 2)?;
     assert_eq!(rt; local(rt.alloc(), &cover, 40)?.store().count(), 40);
-    Ok(())
-}
-
-/// A multiplexer whose selecting pin is X, and whose other pins are one wire.
-#[test]
-fn an_unknown_choice_between_equals_is_known(rt: HostRuntime) -> Result<(), Fail> {
-    let alloc = rt.alloc();
-    let cover = cover(&rt, alloc, 3, true, &["11-", "0-1"])?;
-    let diagram = local(alloc, &cover, 100)?;
-    let mut d = Diagrams::new(alloc, 1, 100)?;
-    let x = var_rails(&mut d, 0)?;
-    let unknown = Rails {
-        one: Node::of(false),
-        zero: Node::of(false),
-    };
-    let lifted = lift(alloc, &mut d, &diagram, [unknown, x, x].as_slice())?;
-    assert!(rt; lifted == x);
-    assert!(rt; lifted != rails_of(true));
     Ok(())
 }
