@@ -1,33 +1,11 @@
 #!/usr/bin/env bash
-# Decides rings with one token, of 8 to 64 cells, the examples with care files, a multiplier beside a loop, and chains of
-# pairs of units that share a loop. It prints time and peak memory of each, and the nodes that the diagrams hold at its
-# end: no node is ever dropped, so that is the least limit that isn't reached.
+# Decides the rings of `demo`, of 8 to 64 cells, the examples with care files, a multiplier beside a loop, and chains of
+# pairs of units that share a loop. It prints time and peak memory of each, and but for the rings the nodes that the
+# diagrams hold at its end: no node is ever dropped, so that is the least limit that is not reached.
 set -u
 top=$(cd "$(dirname "$0")/.." && pwd) || exit 1
 dir=$(mktemp -d) || exit 1
 trap 'rm -rf "$dir"' EXIT
-
-# A ring of so many cells: the cell with the token, or the one before it, hands a request on.
-ring() {
-    awk -v n="$1" -v care="$dir/ring.care" 'BEGIN {
-        inputs = outputs = tokens = ""
-        for (i = 0; i < n; i++) { inputs = inputs " r" i; outputs = outputs " g" i; tokens = tokens " t" i }
-        printf ".model ring\n.inputs%s\n.outputs%s\n", inputs, outputs
-        for (i = 0; i < n; i++) printf ".latch t%d t%d %d\n", (i + n - 1) % n, i, i == 0
-        for (i = 0; i < n; i++) {
-            printf ".names t%d p%d e%d\n1- 1\n-1 1\n", i, (i + n - 1) % n, i
-            printf ".names e%d r%d p%d\n10 1\n.names e%d r%d g%d\n11 1\n", i, i, i, i, i, i
-        }
-        print ".end"
-        printf ".model invariant\n.inputs%s\n.outputs ok\n.names%s ok\n", tokens, tokens >care
-        for (i = 0; i < n; i++) {
-            row = ""
-            for (k = 0; k < n; k++) row = row (k == i)
-            print row " 1" >care
-        }
-        print ".end" >care
-    }' >"$dir/ring.blif"
-}
 
 # A pair of units that share a loop, as text of awk: the select says which comes first, and x is what it reads.
 pair='function pair(i, x) {
@@ -92,18 +70,27 @@ nodes() {
     echo "$high"
 }
 
+# The time and the memory of a call, and the first line that it prints.
+run() {
+    /usr/bin/time -o "$dir/time" -f "%U %S %M" "$top/cyc" "$@" >"$dir/out" 2>&1
+}
+
+tell() {
+    tail -n 1 "$dir/time" | awk -v name="$1" -v nodes="$2" -v line="$(head -n 1 "$dir/out" | cut -c1-60)" \
+        '{ printf "%-16s %7.2f s %9d kB %8s nodes   %s\n", name, $1 + $2, $3, nodes, line }'
+}
+
 measure() {
     local name=$1
     shift
-    /usr/bin/time -o "$dir/time" -f "%U %S %M" "$top/cyc" check "$@" >"$dir/out" 2>&1
-    tail -n 1 "$dir/time" | awk -v name="$name" -v nodes="$(nodes "$@")" -v line="$(head -n 1 "$dir/out" | cut -c1-60)" \
-        '{ printf "%-16s %7.2f s %9d kB %8d nodes   %s\n", name, $1 + $2, $3, nodes, line }'
+    run check "$@"
+    tell "$name" "$(nodes "$@")"
 }
 
 "$top/cyc" check "$top/examples/full_adder.blif" >/dev/null 2>&1 # builds the program where it isn't built
 for cells in 8 16 32 64; do
-    ring "$cells"
-    measure "ring $cells" "$dir/ring.blif" --care "$dir/ring.care"
+    run demo "$cells"
+    tell "ring $cells" -
 done
 for name in token_ring_4 round_robin_8 round_robin_32 end_around_carry; do
     measure "$name" "$top/examples/$name.blif" --care "$top/examples/$name.care"
