@@ -15,7 +15,7 @@ for file in "$top"/examples/*.blif; do
     "$top/cyc" rewrite "$file" $care >"$dir/open.blif" 2>"$dir/refusal" || continue
     "$top/cyc" check "$dir/open.blif" >"$dir/verdict"
     grep -q '^accepted gates=[0-9]* loops=0 ' "$dir/verdict" || { echo "$name: $(cat "$dir/verdict")"; exit 1; }
-    yosys -q -p "read_blif $dir/open.blif; check -assert"
+    yosys -q -p "read_blif -sop $dir/open.blif; check -assert"
     berkeley-abc -q "read_blif $dir/open.blif; strash" >/dev/null
     same="vectors not compared"
     if [ -z "$care" ]; then

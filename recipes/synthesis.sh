@@ -22,7 +22,7 @@ yosys -q -p "read_verilog $file; hierarchy -auto-top; proc; flatten; opt -full; 
 
 # Yosys 0.23 stops at a `.clock` line, which cyc writes where the clock is no input.
 sed '/^\.clock/d' "$dir/open.blif" >"$dir/back.blif"
-yosys -q -p "read_blif $dir/back.blif; check -assert; stat" | sed -n 's/^ *Number of cells: */yosys cells=/p'
+yosys -p "read_blif -sop $dir/back.blif; check -assert; stat" | sed -n 's/^ *Number of cells: */yosys cells=/p'
 berkeley-abc -q "read_blif $dir/open.blif; print_stats" | sed -n 's/.*\(nd = *[0-9]*\).*\(lev = *[0-9]*\).*/abc \1 \2/p'
 
 # The same outputs, tick by tick, where the vectors are within care.
