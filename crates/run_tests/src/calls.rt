@@ -33,29 +33,25 @@ fn words_of(alloc: Global, line: &str) -> Result<Vec<Name>, AllocError> {
     Ok(words)
 }
 
-fn file(alloc: Global, named: &str, text: &[u8]) -> Result<(Name, Vec<u8>), AllocError> {
-    Ok((name(alloc, named)?, text.to_vec(alloc)?))
-}
-
 /// The netlist file `m.blif` and the care file `c.blif`, where the reads of these numbers fail.
 fn shelf(alloc: Global, text: &[u8], care: &[u8], fail: &[u64]) -> Result<MemoryShelf, AllocError> {
-    let mut files = Vec::new(alloc);
-    files.push(file(alloc, "m.blif", text)?)?;
-    files.push(file(alloc, "c.blif", care)?)?;
+    let netlist = (Name::new(b"m.blif".to_vec(alloc)?), text.to_vec(alloc)?);
+    let care = (Name::new(b"c.blif".to_vec(alloc)?), care.to_vec(alloc)?);
+    let files = vec![in alloc; netlist, care]?;
     Ok(MemoryShelf::new(alloc, files, fail.to_vec(alloc)?))
 }
 
 /// The netlist file `m.blif`, the vector file `v.txt` and the schedule file `s.txt`.
 fn play_shelf(
     alloc: Global,
-    text: &str,
-    vectors: &str,
-    schedule: &str,
+    text: &[u8],
+    vectors: &[u8],
+    schedule: &[u8],
 ) -> Result<MemoryShelf, AllocError> {
-    let mut files = Vec::new(alloc);
-    files.push(file(alloc, "m.blif", text.as_bytes())?)?;
-    files.push(file(alloc, "v.txt", vectors.as_bytes())?)?;
-    files.push(file(alloc, "s.txt", schedule.as_bytes())?)?;
+    let netlist = (Name::new(b"m.blif".to_vec(alloc)?), text.to_vec(alloc)?);
+    let vectors = (Name::new(b"v.txt".to_vec(alloc)?), vectors.to_vec(alloc)?);
+    let schedule = (Name::new(b"s.txt".to_vec(alloc)?), schedule.to_vec(alloc)?);
+    let files = vec![in alloc; netlist, vectors, schedule]?;
     Ok(MemoryShelf::new(alloc, files, Vec::new(alloc)))
 }
 
@@ -124,7 +120,12 @@ pub fn plays(
     status: u8,
     told: &str,
 ) -> Result<bool, AllocError> {
-    let mut shelf = play_shelf(alloc, text, vectors, schedule)?;
+    let mut shelf = play_shelf(
+        alloc,
+        text.as_bytes(),
+        vectors.as_bytes(),
+        schedule.as_bytes(),
+    )?;
     let seen = call_over(alloc, "delays m.blif v.txt s.txt", &mut shelf, &[])?;
     Ok(if status == 0 {
         is(&seen, 0, told, "")

@@ -159,8 +159,8 @@ fn ring_line(alloc: Global, cells: u32) -> Result<String, AllocError> {
     format!(in alloc;
         "ring {} gates={} loops=1 accepted rewritten={}\n",
         cells,
-        cells * 3,
-        cells * 5 + 1
+        u64::from(cells) * 3,
+        u64::from(cells) * 5 + 1
     )
 }
 
