@@ -122,3 +122,25 @@ answer-behind operation s w asked var low n is r form answer =
 pub pushed : {T X E : Type 0} (r : Result X E) (xs ys zs : List T) → false ≡ is_err r → xs ≡ (if is_ok r then ys else zs) → xs ≡ ys
 pushed (Ok x) xs ys zs e h = h
 pushed (Err x) xs ys zs e h = absurd (true≢false (sym e))
+
+-- ---- a question that is taken from the stack with its answer
+
+module _ (operation : Operation) (s t : Arena) (root : Operands) (items rest : List Question) (w : Question) (n : Node) (kept : KeepsNodes s t) (last : items ≡ rest ++ w ∷ []) (turn : IsTurn operation s root (reverse items) (Answer n)) where
+  -- what waits for it, in the store that its answer leaves
+  pub behind-kept : (r : Operands) × IsFormOf operation r (mark_of w) (asked_of w) × IsChain operation t root (reverse rest) r
+  behind-kept =
+      let b = behind operation s root items rest w (Answer n) n refl last turn in
+      (b.0, b.1, IsChain-kept operation s t root (reverse rest) b.0 kept b.2)
+
+  taken-part : IsLawful s → IsEither s.vars (value operation s root) (value operation s (asked_of w))
+  taken-part lawful =
+      let b = behind operation s root items rest w (Answer n) n refl last turn in
+      asked-part operation s lawful root (reverse rest) b.0 (mark_of w) (asked_of w) b.1 b.2
+
+  pub NewAreParts-taken : (r : Arena) → IsLawful s → AreNodesOf r root → KeepsNodes r s → NewAreParts r s (value operation r root) → NewAreParts s t (value operation s (asked_of w)) → NewAreParts r t (value operation r root)
+  NewAreParts-taken r lawful nodes before made now = NewAreParts-turn operation r s t root nodes before kept made (NewAreParts-either (taken-part lawful) now)
+
+  pub IsRefusedPart-taken : (r : Arena) → IsLawful s → AreNodesOf r root → KeepsNodes r s → IsRefusedPart t (value operation s (asked_of w)) → IsRefusedPart t (value operation r root)
+  IsRefusedPart-taken r lawful nodes before refused =
+      IsRefusedPart-turn operation r s t root nodes before
+      (IsRefusedPart-either (subst (λ (v : ℕ). IsEither v (value operation s root) (value operation s (asked_of w))) (sym kept.vars) (taken-part lawful)) refused)

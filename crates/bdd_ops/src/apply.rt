@@ -14,6 +14,9 @@ use crate::terminal::terminal;
 use bdd_store::{Node, Store, StoreFault};
 use std::alloc::{AllocError, Global};
 
+// Room for questions at first. So few bytes cost little where the answer is known at once.
+const FIRST_WAITING: usize = 16;
+
 /// Operands whose answer waits for those of their cofactors.
 #[derive(Clone, Copy, Debug)]
 pub enum Question {
@@ -196,6 +199,7 @@ fn resume(
     requires computed { AreComputed store.old computed.old }
 
     ensures ok { (root r : Operands) → IsFormOf operation r (mark_of question) (asked_of question) → IsChain operation store.new root (reverse waiting.old.items) r → IfOk result (IsTurn operation store.new root (reverse waiting.new.items)) }
+    ensures popped { IfOk result (λ turn. (m : Node) → turn ≡ Turn.Answer m → waiting.new.items ≡ waiting.old.items) }
     ensures computed { AreComputed store.new computed.new }
     ensures answers { store.new.answers ≡ store.old.answers }
     ensures keeps { KeepsNodes store.old store.new }
@@ -217,7 +221,36 @@ fn resume(
     }
 }
 
-// One turn. An answer that no question waits for stays.
+// Takes an answer to the questions that wait, the last first, until one asks for its other cofactors.
+fn ascend(
+    store: &mut Store,
+    computed: &mut ComputedTable,
+    waiting: &mut Vec<Question>,
+    operation: Operation,
+    n: Node,
+) -> Result<Turn, StoreFault>
+    requires turn { IsTurnOfSome operation store.old (reverse waiting.old.items) (Turn.Answer n) }
+    requires computed { AreComputed store.old computed.old }
+
+    ensures ok { (root : Operands) → AreNodesOf store.old root → IsTurn operation store.old root (reverse waiting.old.items) (Turn.Answer n) → IfOk result (IsTurn operation store.new root (reverse waiting.new.items)) }
+    ensures computed { AreComputed store.new computed.new }
+    ensures answers { store.new.answers ≡ store.old.answers }
+    ensures keeps { KeepsNodes store.old store.new }
+    ensures parts { (root : Operands) → AreNodesOf store.old root → IsTurn operation store.old root (reverse waiting.old.items) (Turn.Answer n) → NewAreParts store.old store.new (value operation store.old root) }
+    ensures full { (root : Operands) → AreNodesOf store.old root → IsTurn operation store.old root (reverse waiting.old.items) (Turn.Answer n) → result ≡ Err StoreFault.Full → IsRefusedPart store.new (value operation store.old root) }
+{
+    let mut answer = n;
+    while let Some(question) = waiting.pop() {
+        store.laws();
+        match resume(store, computed, waiting, operation, question, answer)? {
+            Turn::Answer(next) => answer = next,
+            Turn::Ask(high) => return Ok(Turn::Ask(high)),
+        }
+    }
+    Ok(Turn::Answer(answer))
+}
+
+// A question, or an answer with all that it answers.
 fn step(
     store: &mut Store,
     computed: &mut ComputedTable,
@@ -235,16 +268,12 @@ fn step(
     ensures parts { (root : Operands) → AreNodesOf store.old root → IsTurn operation store.old root (reverse waiting.old.items) turn → NewAreParts store.old store.new (value operation store.old root) }
     ensures full { (root : Operands) → AreNodesOf store.old root → IsTurn operation store.old root (reverse waiting.old.items) turn → result ≡ Err StoreFault.Full → IsRefusedPart store.new (value operation store.old root) }
 {
-    store.laws();
     match turn {
         Turn::Ask(q) => match ask(store, computed, waiting, operation, q) {
             Ok(next) => Ok(next),
             Err(_) => Err(StoreFault::Memory),
         },
-        Turn::Answer(n) => match waiting.pop() {
-            Some(question) => resume(store, computed, waiting, operation, question, n),
-            None => Ok(turn),
-        },
+        Turn::Answer(n) => ascend(store, computed, waiting, operation, n),
     }
 }
 
@@ -277,7 +306,7 @@ pub(crate) fn apply(
     ensures parts { NewAreParts store.old store.new (value operation store.old root) }
     ensures full { result ≡ Err StoreFault.Full → IsRefusedPart store.new (value operation store.old root) }
 {
-    let mut waiting: Vec<Question> = Vec::new(alloc);
+    let mut waiting: Vec<Question> = Vec::with_capacity(alloc, FIRST_WAITING)?;
     let mut turn = Turn::Ask(root);
     for _ in 0..u64::MAX {
         if let Some(n) = finished(turn, &waiting) {

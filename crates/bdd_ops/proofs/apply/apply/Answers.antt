@@ -13,7 +13,7 @@ returns-in_err-turn-clause-parts c = NewAreParts-turn c.args.operation c.args.st
 
 pub returns-in_err-turn-clause-full : goal.returns-in_err-turn-clause-full
 returns-in_err-turn-clause-full c is_full =
-    let refused = c.in_err-turn.was ∙ ap {A = StoreFault} Err (sym (rw is_full at c.from_residual.ensures.1)) in
+    let refused = c.in_err-turn.was ∙ ap {A = StoreFault} Err (sym (rw is_full at c.from_residual-in_err-turn.ensures.1)) in
     IsRefusedPart-turn c.args.operation c.args.store.now c.loop.store c.step.new.store c.args.root c.requires.nodes c.loop.invariant.keeps (c.step.ensures.full c.args.root (AreNodesOf-kept c.loop.invariant.keeps c.requires.nodes) c.loop.invariant.turn refused)
 
 pub loop-preserved : goal.loop-preserved
