@@ -1,15 +1,18 @@
 //! Times the operations of `bdd_ops` on functions that it makes itself: n-queens, parity, adders and the
-//! hidden weighted bit. `bench_diagrams NAME SIZE` times one of them; without words it makes a small one of
-//! each. Nodes and operations go to out, times to err.
+//! hidden weighted bit, and on the outputs of netlists without loops. `bench_diagrams NAME SIZE` times one of
+//! them; without words it makes small ones of the first four. Nodes and operations go to out, times to err.
 //!
-//! `bench/buddy.c` does the same in BuDDy, by the same operations in the same order.
+//! `bench/buddy.c` does the first four in BuDDy, by the same operations in the same order, and `bench/collapse.sh` has
+//! abc build the others in CUDD.
 #![tactic(auto)]
 
 mod functions;
+mod netlists;
 mod queens;
 mod work;
 
 use functions::{adder, hidden_weighted_bit, parity};
+use netlists::{adder_by_turns, decoder, less, multiplier, priority};
 use queens::queens;
 use std::alloc::Global;
 use std::env;
@@ -24,6 +27,11 @@ fn make(work: &mut Work, alloc: Global, name: &str, size: u32) -> anyhow::Result
         "parity" => parity(work, size)?,
         "adder" => adder(work, alloc, size)?,
         "hidden" => hidden_weighted_bit(work, alloc, size)?,
+        "turns" => adder_by_turns(work, size)?,
+        "less" => less(work, size)?,
+        "multiplier" => multiplier(work, alloc, size)?,
+        "priority" => priority(work, size)?,
+        "decoder" => decoder(work, size)?,
         _ => anyhow::bail!("no function has the name {name}"),
     }
     Ok(())
