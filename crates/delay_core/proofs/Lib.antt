@@ -1,5 +1,6 @@
 mod EndLemmas
 mod EntryLemmas
+mod EventListLemmas
 pub mod FairLemmas
 mod HistoryLemmas
 mod PlanLemmas

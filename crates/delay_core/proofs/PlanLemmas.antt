@@ -1,11 +1,13 @@
 -- What is left of a tick once some of its rounds were played.
-use Rattle.std.proofs.Common.{◌≡◌, ℕ, ◌+◌, ◌<◌, List, ◌∷◌, length, drop, get_or, None, Option, refl, ap, sym, ◌∙◌}
-use Rattle.std.proofs.lemmas.List.{drop_more}
+use Rattle.std.proofs.Common.{◌≡◌, ℕ, ◌+◌, ◌<◌, ◌≤◌, List, [], ◌∷◌, length, drop, get_or, None, Some, Option, refl, ap, sym, ◌∙◌}
+use Rattle.std.proofs.lemmas.List.{drop_all, drop_more}
 use Rattle.std.specs.Option.{option_or}
 use Rattle.delay_core.specs.declared.fault.PlayFault.{PlayFault}
+use Rattle.delay_core.specs.declared.plan.PlannedEvent.{PlannedEvent}
 use Rattle.delay_core.specs.declared.plan.RoundPlan.{RoundPlan}
-use Rattle.delay_core.specs.Plays.{PlayState}
-use Rattle.delay_core.specs.Plans.{round_fault, after_plan, rounds_fault, after_plans}
+use Rattle.delay_core.specs.EventLists.{planned_at}
+use Rattle.delay_core.specs.Plays.{PlayState, after_event}
+use Rattle.delay_core.specs.Plans.{planned_fault, after_planned, events_fault, round_fault, after_plan, rounds_fault, after_plans}
 
 -- the first of two faults, where the first is none
 pub second_fault : (first second : Option PlayFault) → first ≡ None → option_or first second ≡ second
@@ -25,3 +27,38 @@ module _ (start now next : PlayState) (rounds : List RoundPlan) (i : ℕ) (round
   pub plans_left : next ≡ after_plan now round → after_plans start rounds ≡ after_plans now (drop i rounds) → after_plans start rounds ≡ after_plans next (drop (i + 1) rounds)
   plans_left played before =
       before ∙ ap (after_plans now) left ∙ ap (λ (p : PlayState). after_plans p (drop (i + 1) rounds)) (sym played)
+
+-- and of a round once some of its events were played
+
+first_fails : (first second : Option PlayFault) (fault : PlayFault) → first ≡ Some fault → option_or first second ≡ Some fault
+first_fails first second fault e = rw e refl
+
+module _ (start now : PlayState) (events : List PlannedEvent) (i : ℕ) where
+  module _ (l : i < length events) where
+    events_left : drop i events ≡ planned_at events i ∷ drop (i + 1) events
+    events_left = drop_more events i _ l
+
+    pub event_fails : (fault : PlayFault) → planned_fault now (planned_at events i) ≡ Some fault → events_fault start events ≡ events_fault now (drop i events) → events_fault start events ≡ Some fault
+    event_fails fault fails before =
+        before
+        ∙ ap (events_fault now) events_left
+        ∙ first_fails (planned_fault now (planned_at events i)) (events_fault (after_event now (planned_at events i).event) (drop (i + 1) events)) fault fails
+
+    module _ (next : PlayState) (played : next ≡ after_event now (planned_at events i).event) where
+      pub event_fault_left : planned_fault now (planned_at events i) ≡ None → events_fault start events ≡ events_fault now (drop i events) → events_fault start events ≡ events_fault next (drop (i + 1) events)
+      event_fault_left none before =
+          before
+          ∙ ap (events_fault now) events_left
+          ∙ second_fault (planned_fault now (planned_at events i)) (events_fault (after_event now (planned_at events i).event) (drop (i + 1) events)) none
+          ∙ ap (λ (p : PlayState). events_fault p (drop (i + 1) events)) (sym played)
+
+      pub events_after_left : after_planned start events ≡ after_planned now (drop i events) → after_planned start events ≡ after_planned next (drop (i + 1) events)
+      events_after_left before =
+          before ∙ ap (after_planned now) events_left ∙ ap (λ (p : PlayState). after_planned p (drop (i + 1) events)) (sym played)
+
+  module _ (over : length events ≤ i) where
+    pub no_fault_left : events_fault start events ≡ events_fault now (drop i events) → events_fault start events ≡ None
+    no_fault_left before = before ∙ ap (events_fault now) (drop_all i events over)
+
+    pub all_played : after_planned start events ≡ after_planned now (drop i events) → now ≡ after_planned start events
+    all_played before = sym (before ∙ ap (after_planned now) (drop_all i events over))

@@ -1,4 +1,5 @@
 pub mod Entries
+pub mod EventLists
 pub mod Laws
 pub mod Plans
 pub mod Plays

@@ -8,6 +8,7 @@
 mod change;
 mod entries;
 mod entry;
+mod events;
 mod fault;
 pub mod laws;
 mod opening;
@@ -18,6 +19,7 @@ mod timeline;
 mod whole;
 
 pub use change::Change;
+pub use events::Events;
 pub use fault::{EventFault, PlayFault, Unfair};
 pub use plan::{PlannedEvent, RoundPlan, Schedule, TickEnd, TickPlan};
 pub use play::Play;

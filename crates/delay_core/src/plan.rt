@@ -1,3 +1,4 @@
+use crate::events::Events;
 use cyc_base::{Bits, Items};
 use schedules::Event;
 
@@ -12,7 +13,7 @@ pub struct PlannedEvent {
 #[derive(Debug, Drop)]
 pub struct RoundPlan {
     pub line: u64,
-    pub events: Items<PlannedEvent>,
+    pub events: Events,
 }
 
 /// The rounds of a tick.

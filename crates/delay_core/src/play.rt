@@ -186,10 +186,22 @@ impl<'a> Play<'a> {
         ensures ok { OnOk result (self.new ≡ record { state = after_event self.old.state event.now; spare = self.old.spare - 1 }) }
         ensures err { OnErr result (self.new ≡ self.old) }
     {
-        self.check(event)?;
-        let value = self.value_of(event);
-        let change = self.change_to(event.gate, value);
-        self.add(event.gate, value)?;
+        self.update(event.gate, event.ages.items())
+    }
+
+    /// Plays the event of a gate whose pins read moments of these ages.
+    pub fn update(&mut self, gate: u32, ages: &[u32]) -> Result<Option<Change>, EventFault>
+        ensures fault { IfErr result (λ fault. (fault ≡ EventFault.Memory) ⊎ (event_fault self.old.state (record { gate = gate; ages = ages.now }) ≡ Some fault)) }
+        ensures allowed { OnOk result (event_fault self.old.state (record { gate = gate; ages = ages.now }) ≡ None) }
+        ensures memory { 1 ≤ self.old.spare → result_err result ≡ event_fault self.old.state (record { gate = gate; ages = ages.now }) }
+        ensures change { IfOk result (λ change. change ≡ change_by self.old.state (record { gate = gate; ages = ages.now })) }
+        ensures ok { OnOk result (self.new ≡ record { state = after_event self.old.state (record { gate = gate; ages = ages.now }); spare = self.old.spare - 1 }) }
+        ensures err { OnErr result (self.new ≡ self.old) }
+    {
+        self.check(gate, ages)?;
+        let value = self.value_of(gate, ages);
+        let change = self.change_to(gate, value);
+        self.add(gate, value)?;
         Ok(change)
     }
 
@@ -257,16 +269,14 @@ impl<'a> Play<'a> {
         )
     }
 
-    /// The first reason for which an event is refused.
-    fn check(&self, event: &Event) -> Result<(), EventFault>
-        ensures { result_err result ≡ event_fault self.now.state event.now }
+    /// The first reason for which the event of a gate is refused whose pins read moments of these ages.
+    fn check(&self, gate: u32, ages: &[u32]) -> Result<(), EventFault>
+        ensures { result_err result ≡ event_fault self.now.state (record { gate = gate; ages = ages.now }) }
     {
-        if event.gate >= self.net.gates() {
+        if gate >= self.net.gates() {
             return Err(EventFault::NoGate);
         }
-        let gate = self.net.gate(event.gate);
-        let ages = event.ages.items();
-        let pins = gate.cover.pins();
+        let pins = self.net.gate(gate).cover.pins();
         if ages.len() != pins {
             return Err(EventFault::AgeCount);
         }
@@ -277,15 +287,15 @@ impl<'a> Play<'a> {
     }
 
     /// The value that an event gives its gate.
-    fn value_of(&mut self, event: &Event) -> bool
-        requires { event_fault self.old.state event.now ≡ None }
-        ensures value { result ≡ event_value self.old.state.net self.old.state.history event.now }
+    fn value_of(&mut self, gate: u32, ages: &[u32]) -> bool
+        requires { event_fault self.old.state (record { gate = gate; ages = ages.now }) ≡ None }
+        ensures value { result ≡ event_value self.old.state.net self.old.state.history (record { gate = gate; ages = ages.now }) }
         ensures same { self.new ≡ self.old }
     {
-        let gate = self.net.gate(event.gate);
+        let gate = self.net.gate(gate);
         let pins = gate.pins.items();
         let _pins = gate.cover.pins();
-        read_pins(&self.timeline, pins, event.ages.items(), &mut self.bits);
+        read_pins(&self.timeline, pins, ages, &mut self.bits);
         gate.cover.value(&self.bits)
     }
 

@@ -8,41 +8,45 @@ ghost use Rattle.netlist.specs.Fixpoint.{fix};
 ghost use Rattle.schedules.specs.Moments.{newest};
 ghost use Rattle.schedules.specs.Runs.{outputs_at, ticks_of};
 ghost use Rattle.ternary_run.specs.Reading.{IsFanoutOf};
+ghost use Rattle.delay_core.specs.EventLists.{planned_at};
 ghost use Rattle.delay_core.specs.Plays.{PlayState, after_event, no_events, next_tick};
 ghost use Rattle.delay_core.specs.Plans.{planned_fault, events_fault, after_planned, round_fault, after_plan, rounds_fault, after_plans, first_opened, schedule_fault, run_of, IsPlayedFairly, given_at, agrees as agree, stands_at_fix, end_at, end_of, SettledIsTold, SettlesInTime};
 
+use crate::events::Events;
 use crate::fault::{EventFault, PlayFault};
-use crate::plan::{PlannedEvent, RoundPlan, Schedule, TickEnd};
+use crate::plan::{RoundPlan, Schedule, TickEnd};
 use crate::play::Play;
 use cyc_base::{Bits, Sig, Trit};
 use netlist::Netlist;
 use std::alloc::{AllocError, Global};
 use ternary_run::Fanout;
 
-/// Plays an event.
-fn play_event(play: &mut Play, planned: &PlannedEvent) -> Result<(), PlayFault>
-    ensures fault { IfErr result (λ fault. (fault ≡ PlayFault.Memory) ⊎ (planned_fault play.old.state planned.now ≡ Some fault)) }
-    ensures none { OnOk result (planned_fault play.old.state planned.now ≡ None) }
-    ensures played { OnOk result (play.new.state ≡ after_event play.old.state planned.now.event) }
+/// Plays the event at this place.
+fn play_event(play: &mut Play, events: &Events, i: usize) -> Result<(), PlayFault>
+    requires { i < length events.now }
+    ensures fault { IfErr result (λ fault. (fault ≡ PlayFault.Memory) ⊎ (planned_fault play.old.state (planned_at events.now i) ≡ Some fault)) }
+    ensures none { OnOk result (planned_fault play.old.state (planned_at events.now i) ≡ None) }
+    ensures played { OnOk result (play.new.state ≡ after_event play.old.state (planned_at events.now i).event) }
 {
-    match play.apply(&planned.event) {
+    match play.update(events.gate(i), events.ages(i)) {
         Ok(_) => Ok(()),
         Err(EventFault::Memory) => Err(PlayFault::Memory),
         Err(fault) => Err(PlayFault::Event {
-            line: planned.line,
+            line: events.line(i),
             fault,
         }),
     }
 }
 
-/// Plays events of a round.
-fn play_events(play: &mut Play, events: &[PlannedEvent]) -> Result<(), PlayFault>
+/// Plays the events of a round.
+#[tactic(auto, using(crate::proofs::PlanLemmas::event_fails, crate::proofs::PlanLemmas::no_fault_left, crate::proofs::PlanLemmas::all_played))]
+fn play_events(play: &mut Play, events: &Events) -> Result<(), PlayFault>
     ensures fault { IfErr result (λ fault. (fault ≡ PlayFault.Memory) ⊎ (events_fault play.old.state events.now ≡ Some fault)) }
     ensures none { OnOk result (events_fault play.old.state events.now ≡ None) }
     ensures played { OnOk result (play.new.state ≡ after_planned play.old.state events.now) }
 {
-    for planned in events {
-        play_event(play, planned)?;
+    for i in 0..events.len() {
+        play_event(play, events, i)?;
     }
     Ok(())
 }
@@ -53,7 +57,7 @@ fn play_round(play: &mut Play, round: &RoundPlan) -> Result<(), PlayFault>
     ensures none { OnOk result (round_fault play.old.state round.now ≡ None) }
     ensures played { OnOk result (play.new.state ≡ after_plan play.old.state round.now) }
 {
-    play_events(play, round.events.items())?;
+    play_events(play, &round.events)?;
     match play.end_round() {
         Ok(()) => Ok(()),
         Err(unfair) => Err(PlayFault::Unfair {

@@ -9,6 +9,7 @@ use Rattle.delay_core.specs.declared.plan.Schedule.{Schedule}
 use Rattle.netlist.specs.Netlists.{signal}
 use Rattle.delay_core.specs.declared.plan.PlannedEvent.{PlannedEvent}
 use Rattle.delay_core.specs.declared.plan.RoundPlan.{RoundPlan}
+use Rattle.delay_core.specs.EventLists.{planned_at}
 use Rattle.delay_core.specs.Plays.{PlayState, opening_change, change_by, after_event, next_tick}
 use Rattle.delay_core.specs.Plans.{PlannedTick, after_planned, after_plan, after_plans, first_opened}
 use Rattle.probes.specs.Changes.{event_changes, round_changes, tick_changes, later_changes, changes}
@@ -40,14 +41,20 @@ events_done play events i far = ap (event_changes play) (drop_all i events far)
 pub rounds_done : (play : PlayState) (rounds : List RoundPlan) (i : ℕ) → length rounds ≤ i → round_changes play (drop i rounds) ≡ []
 rounds_done play rounds i far = ap (round_changes play) (drop_all i rounds far)
 
-module _ (play : PlayState) (events : List PlannedEvent) (i : ℕ) (planned : PlannedEvent) (short : i < length events) (is : planned ≡ get_or events i planned) where
+module _ (play : PlayState) (events : List PlannedEvent) (i : ℕ) (short : i < length events) where
+  abbrev planned : PlannedEvent
+  planned = planned_at events i
+
+  here : drop i events ≡ planned ∷ drop (i + 1) events
+  here = drop_more events i _ short
+
   pub events_left : event_changes play (drop i events) ≡ cons_option (change_by play planned.event) [] ++ event_changes (after_event play planned.event) (drop (i + 1) events)
   events_left =
-      ap (event_changes play) (left_from events i planned short is)
+      ap (event_changes play) here
       ∙ option_first (change_by play planned.event) (event_changes (after_event play planned.event) (drop (i + 1) events))
 
   pub events_after : after_planned play (drop i events) ≡ after_planned (after_event play planned.event) (drop (i + 1) events)
-  events_after = ap (after_planned play) (left_from events i planned short is)
+  events_after = ap (after_planned play) here
 
 module _ (play : PlayState) (rounds : List RoundPlan) (i : ℕ) (round : RoundPlan) (short : i < length rounds) (is : round ≡ get_or rounds i round) where
   pub rounds_left : round_changes play (drop i rounds) ≡ event_changes play round.events ++ round_changes (after_plan play round) (drop (i + 1) rounds)

@@ -6,6 +6,7 @@ ghost use Rattle.netlist.specs.Netlists.{count};
 ghost use Rattle.netlist.specs.declared.parts.Parts.{Parts as parts_type};
 ghost use Rattle.schedules.specs.Runs.{ticks_of};
 ghost use Rattle.delay_core.specs.declared.change.Change.{Change as change_type};
+ghost use Rattle.delay_core.specs.EventLists.{planned_at};
 ghost use Rattle.delay_core.specs.Plays.{PlayState, after_event, no_events, next_tick, change_by};
 ghost use Rattle.delay_core.specs.Plans.{after_planned, after_plan, after_plans, first_opened, schedule_fault, run_of, IsPlayedFairly, end_of, SettledIsTold, SettlesInTime};
 ghost use Rattle.probes.specs.Changes.{openings, event_changes, round_changes, tick_changes, changes};
@@ -15,7 +16,7 @@ use crate::kind::Kind;
 use crate::probe::Probe;
 use crate::tell::tell;
 use cyc_base::{Bits, Sig};
-use delay_core::{Change, PlannedEvent, Play, PlayFault, RoundPlan, Schedule, TickEnd, play_whole};
+use delay_core::{Change, Events, Play, PlayFault, RoundPlan, Schedule, TickEnd, play_whole};
 use netlist::Netlist;
 use std::alloc::{AllocError, Global};
 
@@ -51,28 +52,30 @@ fn tell_openings(
     Ok(())
 }
 
-/// Plays an event of a schedule without a fault, and tells what it changes.
+/// Plays the event at this place, of a schedule without a fault, and tells what it changes.
 fn tell_event(
     play: &mut Play,
-    planned: &PlannedEvent,
+    events: &Events,
+    i: usize,
     probes: &mut [Box<dyn Probe>],
     wanted: Kind,
 ) -> Result<(), AllocError>
-    ensures played { OnOk result (play.new.state ≡ after_event play.old.state planned.now.event) }
-    ensures heard { OnOk result (EachHears kind heard text wanted (cons_option (change_by play.old.state planned.now.event) []) probes.old probes.new) }
-    ensures err { OnErr result (EachHearsPrefix kind heard text wanted (cons_option (change_by play.old.state planned.now.event) []) probes.old probes.new) }
+    requires { i < length events.now }
+    ensures played { OnOk result (play.new.state ≡ after_event play.old.state (planned_at events.now i).event) }
+    ensures heard { OnOk result (EachHears kind heard text wanted (cons_option (change_by play.old.state (planned_at events.now i).event) []) probes.old probes.new) }
+    ensures err { OnErr result (EachHearsPrefix kind heard text wanted (cons_option (change_by play.old.state (planned_at events.now i).event) []) probes.old probes.new) }
 {
-    match play.apply(&planned.event) {
+    match play.update(events.gate(i), events.ages(i)) {
         Ok(change) => tell_some(probes, wanted, change),
         // There is no other fault, so memory was wanting.
         Err(_) => Err(AllocError),
     }
 }
 
-/// Plays events of a round.
+/// Plays the events of a round.
 fn tell_events(
     play: &mut Play,
-    events: &[PlannedEvent],
+    events: &Events,
     probes: &mut [Box<dyn Probe>],
     wanted: Kind,
 ) -> Result<(), AllocError>
@@ -80,8 +83,8 @@ fn tell_events(
     ensures heard { OnOk result (EachHears kind heard text wanted (event_changes play.old.state events.now) probes.old probes.new) }
     ensures err { OnErr result (EachHearsPrefix kind heard text wanted (event_changes play.old.state events.now) probes.old probes.new) }
 {
-    for planned in events {
-        tell_event(play, planned, probes, wanted)?;
+    for i in 0..events.len() {
+        tell_event(play, events, i, probes, wanted)?;
     }
     Ok(())
 }
@@ -97,7 +100,7 @@ fn tell_round(
     ensures heard { OnOk result (EachHears kind heard text wanted (event_changes play.old.state round.now.events) probes.old probes.new) }
     ensures err { OnErr result (EachHearsPrefix kind heard text wanted (event_changes play.old.state round.now.events) probes.old probes.new) }
 {
-    tell_events(play, round.events.items(), probes, wanted)?;
+    tell_events(play, &round.events, probes, wanted)?;
     match play.end_round() {
         Ok(()) => Ok(()),
         // A schedule without a fault has an event of each gate.

@@ -22,13 +22,14 @@ use Rattle.sched_text.specs.declared.fault.SchedFault.{SchedFault}
 use Rattle.sched_text.specs.declared.fault.SchedFault.TheVariants.{BadLine, WrongWidth, UnknownGate, TickCount}
 use Rattle.sched_text.specs.declared.kind.Kind.{Kind}
 use Rattle.sched_text.specs.declared.kind.Kind.TheVariants as kinds
-use Rattle.sched_text.specs.Kinds.{kind, is_tick, may_follow, lacks_lines}
+use Rattle.sched_text.specs.Kinds.{kind, is_tick, is_of_a_tick, is_latches, is_window, is_past_or_start, is_gates, may_begin, may_follow, lacks_lines}
 use Rattle.sched_text.specs.LineFaults.{arguments, are_bits, bits_of, has_words_of, width_fault, permits, first_refused, start_fault, gate_number, gate_fault, tick_fault, fault_of_words, nearest, begins_tick, ticks_begun, is_cut_off, fault_at, fault_at_end, line_fault, first_fault}
 use Rattle.sched_text.specs.Statements.{gate_of, planned, statement, statement_of}
 use Rattle.sched_text.specs.Schedules.{schedule_of, schedule}
 use Rattle.sched_text.specs.Running.{OpenTick, Draft, ended_tick, new_draft, with_event, begin_round, add_event, follow, ended}
 use Rattle.sched_text.specs.Fitting.{IsOfGates, AreOfGates, FitsNetlist}
-use Rattle.sched_text.proofs.ScheduleLemmas.{whole, whole_end, whole_step}
+use Rattle.sched_text.proofs.ScheduleLemmas.{whole_end, whole_step}
+use Rattle.sched_text.specs.ReadingOn.{whole}
 use Rattle.sched_text.proofs.VectorLemmas.{none_first, none_next, no_fault, as_meant}
 
 -- ---- rounds and ticks in progress
@@ -123,47 +124,34 @@ start_before_gates (Some kinds.Round) may = absurd (cc may)
 start_before_gates (Some kinds.Event) may = absurd (cc may)
 start_before_gates (Some kinds.Unknown) may = absurd (cc may)
 
-head_before_tick : (before : Option Kind) → may_follow before kinds.Tick ≡ true → lacks_lines before ≡ false
-head_before_tick None may = absurd (cc may)
-head_before_tick (Some kinds.FormatOne) may = absurd (cc may)
-head_before_tick (Some kinds.FormatTwo) may = absurd (cc may)
-head_before_tick (Some kinds.Window) may = absurd (cc may)
-head_before_tick (Some kinds.Past) may = absurd (cc may)
-head_before_tick (Some kinds.Latches) may = absurd (cc may)
-head_before_tick (Some kinds.State) may = absurd (cc may)
-head_before_tick (Some kinds.Gates) may = refl
-head_before_tick (Some kinds.Tick) may = refl
-head_before_tick (Some kinds.Round) may = refl
-head_before_tick (Some kinds.Event) may = refl
-head_before_tick (Some kinds.Unknown) may = absurd (cc may)
+-- a test that no line of a tick passes
+not_of_tick : {X : Type 0} (test : Kind → Bool) → test kinds.Tick ≡ false → test kinds.Round ≡ false → test kinds.Event ≡ false
+    → (k : Kind) → is_of_a_tick k ≡ true → test k ≡ true → X
+not_of_tick test tick round event kinds.Tick of is = no_start_yet (sym tick ∙ is)
+not_of_tick test tick round event kinds.Round of is = no_start_yet (sym round ∙ is)
+not_of_tick test tick round event kinds.Event of is = no_start_yet (sym event ∙ is)
+not_of_tick test tick round event kinds.FormatOne of is = absurd (cc of)
+not_of_tick test tick round event kinds.FormatTwo of is = absurd (cc of)
+not_of_tick test tick round event kinds.Window of is = absurd (cc of)
+not_of_tick test tick round event kinds.Past of is = absurd (cc of)
+not_of_tick test tick round event kinds.Latches of is = absurd (cc of)
+not_of_tick test tick round event kinds.State of is = absurd (cc of)
+not_of_tick test tick round event kinds.Gates of is = absurd (cc of)
+not_of_tick test tick round event kinds.Unknown of is = absurd (cc of)
 
-head_before_round : (before : Option Kind) → may_follow before kinds.Round ≡ true → lacks_lines before ≡ false
-head_before_round None may = absurd (cc may)
-head_before_round (Some kinds.FormatOne) may = absurd (cc may)
-head_before_round (Some kinds.FormatTwo) may = absurd (cc may)
-head_before_round (Some kinds.Window) may = absurd (cc may)
-head_before_round (Some kinds.Past) may = absurd (cc may)
-head_before_round (Some kinds.Latches) may = absurd (cc may)
-head_before_round (Some kinds.State) may = absurd (cc may)
-head_before_round (Some kinds.Gates) may = absurd (cc may)
-head_before_round (Some kinds.Tick) may = refl
-head_before_round (Some kinds.Round) may = refl
-head_before_round (Some kinds.Event) may = refl
-head_before_round (Some kinds.Unknown) may = absurd (cc may)
-
-head_before_event : (before : Option Kind) → may_follow before kinds.Event ≡ true → lacks_lines before ≡ false
-head_before_event None may = absurd (cc may)
-head_before_event (Some kinds.FormatOne) may = absurd (cc may)
-head_before_event (Some kinds.FormatTwo) may = absurd (cc may)
-head_before_event (Some kinds.Window) may = absurd (cc may)
-head_before_event (Some kinds.Past) may = absurd (cc may)
-head_before_event (Some kinds.Latches) may = absurd (cc may)
-head_before_event (Some kinds.State) may = absurd (cc may)
-head_before_event (Some kinds.Gates) may = absurd (cc may)
-head_before_event (Some kinds.Tick) may = absurd (cc may)
-head_before_event (Some kinds.Round) may = refl
-head_before_event (Some kinds.Event) may = refl
-head_before_event (Some kinds.Unknown) may = absurd (cc may)
+head_before : (k : Kind) → is_of_a_tick k ≡ true → (before : Option Kind) → may_follow before k ≡ true → lacks_lines before ≡ false
+head_before k of None may = not_of_tick may_begin refl refl refl k of may
+head_before k of (Some kinds.FormatOne) may = not_of_tick is_latches refl refl refl k of may
+head_before k of (Some kinds.FormatTwo) may = not_of_tick is_window refl refl refl k of may
+head_before k of (Some kinds.Window) may = not_of_tick is_past_or_start refl refl refl k of may
+head_before k of (Some kinds.Past) may = not_of_tick is_past_or_start refl refl refl k of may
+head_before k of (Some kinds.Latches) may = not_of_tick is_gates refl refl refl k of may
+head_before k of (Some kinds.State) may = not_of_tick is_gates refl refl refl k of may
+head_before k of (Some kinds.Gates) may = refl
+head_before k of (Some kinds.Tick) may = refl
+head_before k of (Some kinds.Round) may = refl
+head_before k of (Some kinds.Event) may = refl
+head_before k of (Some kinds.Unknown) may = absurd (cc may)
 
 -- the head is whole, so the start was told
 start_in_head : (before : Option Kind) → lacks_lines before ≡ false → has_start before ≡ true
@@ -329,7 +317,7 @@ fits_next net ticks before begun draft kinds.Gates n words at may none =
       few = same_few begun ticks at.few;
     }
 fits_next net ticks before begun draft kinds.Tick n words at may none =
-    let whole = head_before_tick before may in
+    let whole = head_before kinds.Tick refl before may in
     let started = start_in_head before whole in
     let less = tick_fits n ticks begun (none_here (has_words_of kinds.Tick words) (tick_fault n ticks begun) n none) in
     let ended = length_ended draft.ticks draft.tick in
@@ -345,7 +333,7 @@ fits_next net ticks before begun draft kinds.Tick n words at may none =
       few = omega (arith, less);
     }
 fits_next net ticks before begun draft kinds.Round n words at may none =
-    let whole = head_before_round before may in
+    let whole = head_before kinds.Round refl before may in
     let started = start_in_head before whole in
     record {
       past = at.past;
@@ -359,7 +347,7 @@ fits_next net ticks before begun draft kinds.Round n words at may none =
       few = same_few begun ticks at.few;
     }
 fits_next net ticks before begun draft kinds.Event n words at may none =
-    let whole = head_before_event before may in
+    let whole = head_before kinds.Event refl before may in
     let started = start_in_head before whole in
     let good = may_here (has_words_of kinds.Event words) (gate_fault net n words) n none in
     let inside = gate_inside net n words good (none_here (has_words_of kinds.Event words) (gate_fault net n words) n none) in

@@ -4,6 +4,8 @@ mod FitLemmas
 mod GateLemmas
 mod NamedLemmas
 mod NumberLemmas
+mod PieceLemmas
+mod ReadingLemmas
 mod SaidLemmas
 mod ScheduleLemmas
 mod StartLemmas

@@ -23,26 +23,7 @@ use Rattle.sched_text.specs.LineFaults.{nearest, begins_tick, ticks_begun, place
 use Rattle.sched_text.specs.Statements.{statement}
 use Rattle.sched_text.specs.Schedules.{last_there, window_told, past_told, start_told, gates_told, is_state, events_ahead, rounds_ahead, ticks_ahead, schedule}
 use Rattle.sched_text.specs.Running.{OpenTick, Draft, with_event, new_round, ended_tick, new_tick, new_draft, begin_round, add_event, follow, ended}
-
--- ---- the schedule, of what is said so far and of what follows
-
-abbrev pub rounds_from : Option RoundPlan → List Statement → List RoundPlan
-rounds_from None said = rounds_ahead said
-rounds_from (Some round) said = record { line = round.line; events = round.events ++ events_ahead said } ∷ rounds_ahead said
-
-abbrev pub ticks_from : Option OpenTick → List Statement → List (List RoundPlan)
-ticks_from None said = ticks_ahead said
-ticks_from (Some tick) said = (tick.rounds ++ rounds_from tick.round said) ∷ ticks_ahead said
-
-abbrev pub whole : Draft → List Statement → Schedule
-whole draft said = record {
-  window = unwrap_or (last_there window_told said) draft.window;
-  past = draft.past ++ filter_map past_told said;
-  free = draft.free || list_any is_state said;
-  latches = unwrap_or (last_there start_told said) draft.latches;
-  gates = unwrap_or (last_there gates_told said) draft.gates;
-  ticks = draft.ticks ++ ticks_from draft.tick said;
-}
+use Rattle.sched_text.specs.ReadingOn.{rounds_from, ticks_from, whole, before, answer, ReadsAt}
 
 same : {w w' : ℕ} {p p' : List (List Bool)} {f f' : Bool} {l l' g g' : List Bool} {t t' : List (List RoundPlan)}
     → w ≡ w' → p ≡ p' → f ≡ f' → l ≡ l' → g ≡ g' → t ≡ t'
@@ -173,20 +154,6 @@ whole_step draft (Event planned) rest =
 
 -- ---- reading on
 
--- the lines before a place, the nearest first
-abbrev pub before : List Line → ℕ → List Line
-before lines zero = []
-before lines (suc i) = line_at lines i ∷ before lines i
-
-abbrev pub answer : Parts → ℕ → ℕ → Draft → List Line → List Line → Result Schedule SchedFault
-answer net ticks end draft earlier rest = unless (first_fault net ticks end earlier rest) (whole draft (map (statement net) rest))
-
-pub record ReadsAt (net : Parts) (ticks end : ℕ) (lines : List Line) (place : Place) (draft : Draft) (i : ℕ) : Type 0 where
-  pub nearest : place.before ≡ nearest (before lines i)
-  pub begun : place.begun ≡ ticks_begun (before lines i)
-  pub few : place.begun ≤ i
-  pub answers : answer net ticks end draft (before lines i) (drop i lines) ≡ schedule net ticks end lines
-
 pub at_start : (net : Parts) (ticks end : ℕ) (lines : List Line) (draft : Draft) → draft ≡ new_draft → ReadsAt net ticks end lines (place_behind []) draft 0
 at_start net ticks end lines draft is =
     let P : Draft → Type 0 = λ now. ReadsAt net ticks end lines (place_behind []) now 0 in
@@ -274,20 +241,3 @@ pub fault_at_the_end : (net : Parts) (ticks end : ℕ) (lines : List Line) (plac
     → ReadsAt net ticks end lines place draft i → length lines ≤ i → fault_at_end ticks end place.before place.begun ≡ Some found
     → schedule net ticks end lines ≡ Err found
 fault_at_the_end net ticks end lines place draft i found at over is = answers_end net ticks end lines place draft i (Some found) at over is
-
--- ---- whether the text ends in a line
-
-pub cut_off_here : (end : ℕ) (line : Line) (lines : List Line) (i : ℕ) → i < length lines → i ≡ length lines - 1
-    → is_cut_off end line (drop (i + 1) lines) ≡ ((line.number == end) && lacks_lines (Some (kind line)))
-cut_off_here end line lines i inside last =
-    let over : length lines ≤ i + 1 = omega (arith, last, inside) in
-    ap (is_cut_off end line) (drop_of_length-le lines over)
-
-pub not_cut_off_here : (end : ℕ) (line : Line) (lines : List Line) (i : ℕ) → i < length lines → i ≢ length lines - 1
-    → is_cut_off end line (drop (i + 1) lines) ≡ false
-not_cut_off_here end line lines i inside more =
-    ap (is_cut_off end line) (drop-cons lines (i + 1) (record { number = 0; words = [] }) (by (cases_lt (i + 1) (length lines))))
-  where
-    by : (i + 1 < length lines) ⊎ (length lines ≤ i + 1) → i + 1 < length lines
-    by (inl less) = less
-    by (inr le) = absurd (more (omega (arith, le, inside)))

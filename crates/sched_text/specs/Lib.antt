@@ -9,5 +9,7 @@ pub mod Schedules
 pub mod Running
 pub mod Fitting
 pub mod Written
+pub mod Pieces
 pub mod Putting
 pub mod ReadingBack
+pub mod ReadingOn

@@ -13,7 +13,7 @@ use Rattle.sched_text.specs.declared.statement.Statement.TheVariants.{Format, Wi
 -- A round whose events may go on is a round so far.
 
 abbrev pub seen_round : held_round.OpenRound → RoundPlan
-seen_round round = record { line = round.line; events = round.events.items }
+seen_round round = record { line = round.line; events = round.events }
 
 abbrev pub new_round : ℕ → RoundPlan
 new_round n = record { line = n; events = [] }

@@ -9,8 +9,8 @@ ghost use Rattle.sched_text.specs.LineFaults.{arguments, is_bit as is_bit_byte, 
 ghost use Rattle.sched_text.specs.Statements.{statement_of};
 
 use crate::fault::SchedFault;
+use crate::pieces::Piece;
 use crate::statement::Statement;
-use blif_text::Lines;
 use cyc_base::Bits;
 use netlist::{Init, Netlist};
 use std::alloc::{AllocError, Global};
@@ -32,7 +32,7 @@ fn bits_of_word(alloc: Global, word: &[u8]) -> Result<Bits, AllocError>
 }
 
 // The bits behind the first word of a line. No second word is no bits.
-fn read_bits(alloc: Global, lines: &Lines, i: usize) -> Result<Bits, SchedFault>
+fn read_bits(alloc: Global, lines: &Piece, i: usize) -> Result<Bits, SchedFault>
     requires { i < length lines.now }
     ensures { let line = line_at lines.now i in
         Reads result (if are_bits (arguments line.words) then None else Some (SchedFault.BadLine line.number)) (bits_of (arguments line.words)) }
@@ -84,7 +84,7 @@ fn check_start(line: u64, net: &Netlist, bits: &[bool]) -> Result<(), SchedFault
 }
 
 // A line of so many bits.
-fn read_width(alloc: Global, width: usize, lines: &Lines, i: usize) -> Result<Bits, SchedFault>
+fn read_width(alloc: Global, width: usize, lines: &Piece, i: usize) -> Result<Bits, SchedFault>
     requires { i < length lines.now }
     ensures { let line = line_at lines.now i in
         let bits = bits_of (arguments line.words) in
@@ -98,7 +98,7 @@ fn read_width(alloc: Global, width: usize, lines: &Lines, i: usize) -> Result<Bi
 pub fn read_past(
     alloc: Global,
     net: &Netlist,
-    lines: &Lines,
+    lines: &Piece,
     i: usize,
 ) -> Result<Statement, SchedFault>
     requires { i < length lines.now }
@@ -111,7 +111,7 @@ pub fn read_past(
 pub fn read_latches(
     alloc: Global,
     net: &Netlist,
-    lines: &Lines,
+    lines: &Piece,
     i: usize,
 ) -> Result<Statement, SchedFault>
     requires { i < length lines.now }
@@ -126,7 +126,7 @@ pub fn read_latches(
 pub fn read_state(
     alloc: Global,
     net: &Netlist,
-    lines: &Lines,
+    lines: &Piece,
     i: usize,
 ) -> Result<Statement, SchedFault>
     requires { i < length lines.now }
@@ -139,7 +139,7 @@ pub fn read_state(
 pub fn read_gates(
     alloc: Global,
     net: &Netlist,
-    lines: &Lines,
+    lines: &Piece,
     i: usize,
 ) -> Result<Statement, SchedFault>
     requires { i < length lines.now }

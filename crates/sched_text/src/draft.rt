@@ -4,14 +4,14 @@ ghost use Rattle.sched_text.specs.Running.{seen_round, seen_tick, seen, new_roun
 
 use crate::statement::Statement;
 use cyc_base::{Bits, Items};
-use delay_core::{PlannedEvent, RoundPlan, Schedule, TickPlan};
+use delay_core::{Events, PlannedEvent, RoundPlan, Schedule, TickPlan};
 use std::alloc::{AllocError, Global};
 
 // A round whose events may go on.
 #[derive(Drop)]
 pub struct OpenRound {
     line: u64,
-    events: Vec<PlannedEvent>,
+    events: Events,
 }
 
 impl OpenRound {
@@ -20,16 +20,17 @@ impl OpenRound {
     {
         OpenRound {
             line,
-            events: Vec::new(alloc),
+            events: Events::new(alloc),
         }
     }
 
-    fn end(self) -> RoundPlan
+    fn end(mut self) -> RoundPlan
         ensures { result ≡ seen_round self }
     {
+        self.events.shrink();
         RoundPlan {
             line: self.line,
-            events: Items::of(self.events),
+            events: self.events,
         }
     }
 }
@@ -69,11 +70,14 @@ impl OpenTick {
         Ok(())
     }
 
-    fn add_event(&mut self, planned: PlannedEvent) -> Result<(), AllocError>
-        ensures { OnOk result (seen_tick self.new ≡ add_event planned (seen_tick self.old)) }
+    fn add_event(&mut self, planned: &PlannedEvent) -> Result<(), AllocError>
+        ensures { OnOk result (seen_tick self.new ≡ add_event planned.now (seen_tick self.old)) }
     {
         if let Some(round) = &mut self.round {
-            round.events.push(planned)?;
+            let event = &planned.event;
+            round
+                .events
+                .push(planned.line, event.gate, event.ages.items())?;
         }
         Ok(())
     }
@@ -140,8 +144,8 @@ impl Draft {
         Ok(())
     }
 
-    fn add_event(&mut self, planned: PlannedEvent) -> Result<(), AllocError>
-        ensures { OnOk result (seen self.new ≡ follow (seen self.old) (Statement.Event planned)) }
+    fn add_event(&mut self, planned: &PlannedEvent) -> Result<(), AllocError>
+        ensures { OnOk result (seen self.new ≡ follow (seen self.old) (Statement.Event planned.now)) }
     {
         if let Some(tick) = &mut self.tick {
             tick.add_event(planned)?;
@@ -156,7 +160,7 @@ impl Draft {
         match said {
             Statement::Tick => return self.begin_tick(alloc),
             Statement::Round(line) => return self.begin_round(alloc, line),
-            Statement::Event(planned) => return self.add_event(planned),
+            Statement::Event(planned) => return self.add_event(&planned),
             Statement::Past(bits) => self.past.push(bits)?,
             Statement::Window(window) => self.window = window,
             Statement::Latches(bits) => self.latches = bits,

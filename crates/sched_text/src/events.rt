@@ -10,8 +10,8 @@ ghost use Rattle.sched_text.specs.Statements.{gate_of, statement_of};
 
 use crate::fault::SchedFault;
 use crate::number::number;
+use crate::pieces::Piece;
 use crate::statement::Statement;
-use blif_text::Lines;
 use cyc_base::{Items, Name};
 use delay_core::{Event, PlannedEvent};
 use netlist::Netlist;
@@ -19,7 +19,7 @@ use std::alloc::Global;
 
 // The ages of a line, which stand behind the name.
 #[tactic(auto, using(crate::proofs::AgeLemmas::ages_next, crate::proofs::AgeLemmas::ages_fault, crate::proofs::AgeLemmas::ages_end))]
-fn read_ages(alloc: Global, lines: &Lines, i: usize) -> Result<Items<u32>, SchedFault>
+fn read_ages(alloc: Global, lines: &Piece, i: usize) -> Result<Items<u32>, SchedFault>
     requires line { i < length lines.now }
     requires words { 2 ≤ length (line_at lines.now i).words }
     ensures { let line = line_at lines.now i in
@@ -55,7 +55,7 @@ fn find_gate(net: &Netlist, name: &Name) -> Option<u32>
 }
 
 // The gate that a line names.
-fn read_gate(alloc: Global, net: &Netlist, lines: &Lines, i: usize) -> Result<u32, SchedFault>
+fn read_gate(alloc: Global, net: &Netlist, lines: &Piece, i: usize) -> Result<u32, SchedFault>
     requires line { i < length lines.now }
     requires words { 2 ≤ length (line_at lines.now i).words }
     ensures { let line = line_at lines.now i in
@@ -74,7 +74,7 @@ fn read_gate(alloc: Global, net: &Netlist, lines: &Lines, i: usize) -> Result<u3
 pub fn read_event(
     alloc: Global,
     net: &Netlist,
-    lines: &Lines,
+    lines: &Piece,
     i: usize,
 ) -> Result<Statement, SchedFault>
     requires { i < length lines.now }

@@ -4,7 +4,7 @@ ghost use Rattle.std.specs.Str.{bytes_eq};
 ghost use Rattle.blif_text.specs.Lines.{line_at};
 ghost use Rattle.sched_text.specs.Kinds.{format_of, kind_of, kind, may_follow, lacks_lines};
 
-use blif_text::Lines;
+use crate::pieces::Piece;
 
 /// What a line of a schedule is, by its first word; a line `schedule` also by its second.
 #[derive(Clone, Copy, Debug, PartialEq, Eq)]
@@ -23,7 +23,7 @@ pub enum Kind {
 }
 
 // What a line is whose first word is `schedule`.
-fn format_of(lines: &Lines, i: usize) -> Kind
+fn format_of(lines: &Piece, i: usize) -> Kind
     requires { i < length lines.now }
     ensures { result ≡ format_of (line_at lines.now i).words }
 {
@@ -66,7 +66,7 @@ fn kind_of(word: &[u8]) -> Kind
 }
 
 // What a line is.
-pub fn kind_at(lines: &Lines, i: usize) -> Kind
+pub fn kind_at(lines: &Piece, i: usize) -> Kind
     requires { i < length lines.now }
     ensures { result ≡ kind (line_at lines.now i) }
 {

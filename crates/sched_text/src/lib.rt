@@ -14,6 +14,7 @@ mod kind;
 pub mod laws;
 mod line;
 mod number;
+mod pieces;
 mod place;
 mod put;
 mod statement;

@@ -12,13 +12,13 @@ use crate::events::read_event;
 use crate::fault::SchedFault;
 use crate::kind::{Kind, may_follow};
 use crate::number::number;
+use crate::pieces::Piece;
 use crate::place::Place;
 use crate::statement::Statement;
-use blif_text::Lines;
 use netlist::Netlist;
 use std::alloc::Global;
 
-fn read_window(net: &Netlist, lines: &Lines, i: usize) -> Result<Statement, SchedFault>
+fn read_window(net: &Netlist, lines: &Piece, i: usize) -> Result<Statement, SchedFault>
     requires { i < length lines.now }
     ensures { let line = line_at lines.now i in
         Reads result (fault_of_words net.now 0 kinds.Window line.number 0 (arguments line.words)) (statement_of net.now kinds.Window line.number (arguments line.words)) }
@@ -37,7 +37,7 @@ fn read_tick(
     net: &Netlist,
     ticks: usize,
     begun: usize,
-    lines: &Lines,
+    lines: &Piece,
     i: usize,
 ) -> Result<Statement, SchedFault>
     requires { i < length lines.now }
@@ -54,7 +54,7 @@ fn read_tick(
     Ok(Statement::Tick)
 }
 
-fn read_round(net: &Netlist, lines: &Lines, i: usize) -> Result<Statement, SchedFault>
+fn read_round(net: &Netlist, lines: &Piece, i: usize) -> Result<Statement, SchedFault>
     requires { i < length lines.now }
     ensures { let line = line_at lines.now i in
         Reads result (fault_of_words net.now 0 kinds.Round line.number 0 (arguments line.words)) (statement_of net.now kinds.Round line.number (arguments line.words)) }
@@ -73,7 +73,7 @@ fn read_words(
     ticks: usize,
     begun: usize,
     kind: Kind,
-    lines: &Lines,
+    lines: &Piece,
     i: usize,
 ) -> Result<Statement, SchedFault>
     requires { i < length lines.now }
@@ -104,7 +104,7 @@ pub fn read_line(
     place: Place,
     kind: Kind,
     cut_off: bool,
-    lines: &Lines,
+    lines: &Piece,
     i: usize,
 ) -> Result<Statement, SchedFault>
     requires line { i < length lines.now }

@@ -2,6 +2,7 @@
 ghost use Rattle.std.specs.Prelude.{◌≡◌, ◌≤◌, ◌<◌, ◌++◌, ◌∷◌, [], All, codes, decimal, length, OnOk};
 ghost use Rattle.std.specs.List.{flat_map};
 ghost use Rattle.cyc_io.specs.Taken.{IsAppended, sink_call};
+ghost use Rattle.delay_core.specs.EventLists.{planned_at};
 ghost use Rattle.netlist.specs.Netlists.{IsNetlist, gate_at};
 ghost use Rattle.sched_text.specs.Fitting.{IsOfGates, AreOfGates};
 ghost use Rattle.sched_text.specs.Written.{behind, line_text, bit_byte, bits_words, start_word, event_line};
@@ -9,7 +10,7 @@ ghost use Rattle.sched_text.specs.Putting.{bits_text, ages_text, past_text, even
 
 use cyc_base::Bits;
 use cyc_io::{Failed, Sink, write_whole};
-use delay_core::{PlannedEvent, RoundPlan, Schedule, TickPlan};
+use delay_core::{Events, RoundPlan, Schedule, TickPlan};
 use itoa::Buffer;
 use netlist::Netlist;
 
@@ -118,24 +119,25 @@ fn put_event_words<K: Sink>(sink: &mut K, name: &[u8], ages: &[u32]) -> Result<(
     put_ages(sink, ages)
 }
 
-fn put_event<K: Sink>(sink: &mut K, net: &Netlist, planned: &PlannedEvent) -> Result<(), Failed>
-    requires { planned.now.event.gate < length net.now.gates }
-    ensures text { IsAppended (event_text net.now planned.now) (sink_call K.put K.faults sink.old sink.new) result }
-    ensures small { OnOk result (HasSmallAges planned.now) }
+fn put_event<K: Sink>(sink: &mut K, net: &Netlist, events: &Events, i: usize) -> Result<(), Failed>
+    requires place { i < length events.now }
+    requires gate { (planned_at events.now i).event.gate < length net.now.gates }
+    ensures text { IsAppended (event_text net.now (planned_at events.now i)) (sink_call K.put K.faults sink.old sink.new) result }
+    ensures small { OnOk result (HasSmallAges (planned_at events.now i)) }
 {
-    let gate = net.gate(planned.event.gate);
+    let gate = net.gate(events.gate(i));
     write_whole(sink, b"e")?;
-    put_event_words(sink, gate.name.bytes(), planned.event.ages.items())?;
+    put_event_words(sink, gate.name.bytes(), events.ages(i))?;
     write_whole(sink, b"\n")
 }
 
-fn put_events<K: Sink>(sink: &mut K, net: &Netlist, events: &[PlannedEvent]) -> Result<(), Failed>
+fn put_events<K: Sink>(sink: &mut K, net: &Netlist, events: &Events) -> Result<(), Failed>
     requires { All (IsOfGates (length net.now.gates)) events.now }
     ensures text { IsAppended (events_text net.now events.now) (sink_call K.put K.faults sink.old sink.new) result }
     ensures small { OnOk result (All HasSmallAges events.now) }
 {
-    for planned in events {
-        put_event(sink, net, planned)?;
+    for i in 0..events.len() {
+        put_event(sink, net, events, i)?;
     }
     Ok(())
 }
@@ -146,7 +148,7 @@ fn put_round<K: Sink>(sink: &mut K, net: &Netlist, round: &RoundPlan) -> Result<
     ensures small { OnOk result (AreSmall round.now) }
 {
     write_whole(sink, b"round\n")?;
-    put_events(sink, net, round.events.items())
+    put_events(sink, net, &round.events)
 }
 
 fn put_rounds<K: Sink>(sink: &mut K, net: &Netlist, rounds: &[RoundPlan]) -> Result<(), Failed>

@@ -1,50 +1,89 @@
 // Schedule files.
-ghost use Rattle.std.specs.Prelude.{◌≡◌, ◌≢◌, ◌+◌, ◌<◌, MatchResult, IfOk, Ok, Err, length, drop};
+ghost use Rattle.std.specs.Prelude.{◌≡◌, ◌≢◌, ◌+◌, ◌<◌, ◌≤◌, ◌^◌, ◌==◌, ◌&&◌, MatchResult, IfOk, IfErr, OnOk, Ok, Err, Some, None, length, option_map};
 ghost use Rattle.blif_text.specs.Lines.{line_at};
-ghost use Rattle.sched_text.specs.declared.fault.SchedFault.TheVariants.{Memory};
-ghost use Rattle.sched_text.specs.Answers.{Answers};
+ghost use Rattle.sched_text.specs.declared.fault.SchedFault.TheVariants.{BadLine, Memory};
+ghost use Rattle.sched_text.specs.Answers.{Answers, IsFault};
 ghost use Rattle.sched_text.specs.Fitting.{FitsNetlist};
-ghost use Rattle.sched_text.specs.Kinds.{kind as kind_of_line};
-ghost use Rattle.sched_text.specs.LineFaults.{is_cut_off as is_cut_off_at};
-ghost use Rattle.sched_text.specs.Schedules.{schedule as schedule_of_lines, schedule_read};
+ghost use Rattle.sched_text.specs.Kinds.{lacks_lines as lacks_lines_behind};
+ghost use Rattle.sched_text.specs.Pieces.{bad_line};
+ghost use Rattle.sched_text.specs.ReadingOn.{ReadsPiece, FailsPiece};
+ghost use Rattle.sched_text.specs.Running.{seen};
+ghost use Rattle.sched_text.specs.Schedules.{schedule_read};
 
 use crate::draft::Draft;
 use crate::fault::SchedFault;
 use crate::kind::{Kind, kind_at, lacks_lines};
 use crate::line::read_line;
+use crate::pieces::{Piece, Pieces};
 use crate::place::Place;
-use blif_text::{Lines, end_line};
+use blif_text::end_line;
 use delay_core::Schedule;
 use netlist::Netlist;
 use std::alloc::Global;
 
 // Whether the text ends in a line of this kind, and a line is missing behind it.
-#[tactic(auto, using(crate::proofs::ScheduleLemmas::cut_off_here, crate::proofs::ScheduleLemmas::not_cut_off_here))]
-fn is_cut_off(end: u64, kind: Kind, lines: &Lines, i: usize) -> bool
-    requires line { i < length lines.now }
-    requires kind { kind ≡ kind_of_line (line_at lines.now i) }
-    ensures { result ≡ is_cut_off_at end (line_at lines.now i) (drop (i + 1) lines.now) }
+fn is_cut_off(end: u64, kind: Kind, lines: &Piece, i: usize) -> bool
+    requires { i < length lines.now }
+    ensures { result ≡ (((line_at lines.now i).number == end) && lacks_lines_behind (Some kind)) }
 {
-    i == lines.len() - 1 && lines.number(i) == end && lacks_lines(Some(kind))
+    lines.number(i) == end && lacks_lines(Some(kind))
 }
 
-fn read_lines(
+// Reads the lines of a piece, and gives the place behind them.
+fn take_piece(
     alloc: Global,
     net: &Netlist,
     ticks: usize,
     end: u64,
-    lines: &Lines,
-) -> Result<Schedule, SchedFault>
-    ensures { Answers result (schedule_of_lines net.now ticks end lines.now) }
+    lines: &Piece,
+    place: Place,
+    draft: &mut Draft,
+) -> Result<Place, SchedFault>
+    requires few { place.begun + length lines.now ≤ end }
+    ensures read { IfOk result (λ next. ReadsPiece net.now ticks end lines.now place (seen draft.old) next (seen draft.new) (length lines.now)) }
+    ensures fault { IfErr result (λ fault. fault ≢ Memory → FailsPiece net.now ticks end lines.now place (seen draft.old) fault) }
 {
-    let mut place = Place::first();
-    let mut draft = Draft::new(alloc);
+    let mut next = place;
     for i in 0..lines.len() {
         let kind = kind_at(lines, i);
         let cut_off = is_cut_off(end, kind, lines, i);
-        let said = read_line(alloc, net, ticks, place, kind, cut_off, lines, i)?;
+        let said = read_line(alloc, net, ticks, next, kind, cut_off, lines, i)?;
         draft.take(alloc, said)?;
-        place = place.behind(kind);
+        next = next.behind(kind);
+    }
+    Ok(next)
+}
+
+// The first bad byte of what is left comes before all other faults.
+fn check_rest(alloc: Global, pieces: &mut Pieces) -> Result<(), SchedFault>
+    requires { pieces.old.before + length pieces.old.left.now + 1 < 2 ^ 64 }
+    ensures fault { IfErr result (IsFault (option_map BadLine (bad_line (pieces.old.before + 1) pieces.old.left.now))) }
+    ensures none { OnOk result (bad_line (pieces.old.before + 1) pieces.old.left.now ≡ None) }
+{
+    while let Some(_piece) = pieces.next_piece(alloc)? {}
+    Ok(())
+}
+
+fn read_text(
+    alloc: Global,
+    net: &Netlist,
+    ticks: usize,
+    bytes: &[u8],
+) -> Result<Schedule, SchedFault>
+    ensures { Answers result (schedule_read bytes.now net.now ticks) }
+{
+    let end = end_line(bytes);
+    let mut pieces = Pieces::of(bytes);
+    let mut place = Place::first();
+    let mut draft = Draft::new(alloc);
+    while let Some(lines) = pieces.next_piece(alloc)? {
+        match take_piece(alloc, net, ticks, end, &lines, place, &mut draft) {
+            Ok(next) => place = next,
+            Err(fault) => {
+                check_rest(alloc, &mut pieces)?;
+                return Err(fault);
+            }
+        }
     }
     place.check_end(ticks, end)?;
     Ok(draft.end()?)
@@ -69,7 +108,5 @@ pub fn read_schedule(
         (λ fault. fault ≢ Memory → schedule_read bytes.now net.now ticks ≡ Err fault) }
     ensures fits { IfOk result (λ found. FitsNetlist net.now ticks found) }
 {
-    let end = end_line(bytes);
-    let lines = Lines::of(alloc, bytes, false)?;
-    Ok(read_lines(alloc, net, ticks, end, &lines)?)
+    Ok(read_text(alloc, net, ticks, bytes)?)
 }

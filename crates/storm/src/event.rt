@@ -6,8 +6,8 @@ ghost use Rattle.storm.specs.Building.{FitsRound, turn_of};
 ghost use Rattle.storm.specs.Storms.{is_of_shaking, pin_age, ages, turn_event, turn_events};
 
 use crate::planning::StormPlan;
-use cyc_base::{Items, Sig};
-use delay_core::{Event, PlannedEvent};
+use cyc_base::Sig;
+use delay_core::Events;
 use netlist::Netlist;
 use std::alloc::{AllocError, Global};
 
@@ -85,47 +85,22 @@ fn ages_of(
     }
 }
 
-fn event_of(
-    alloc: Global,
-    net: &Netlist,
-    plan: &StormPlan,
-    back: u32,
-    newest: u32,
-    gate: u32,
-    values: &[bool],
-) -> Result<PlannedEvent, AllocError>
-    requires gate { gate < length net.now.gates }
-    requires fits { FitsRound net.now plan.now }
-    requires small { newest + back ≤ 4294967295 }
-    ensures { IfOk result (λ event. event ≡ turn_event net.now plan.now back newest (turn_of gate values.now)) }
-{
-    let ages = ages_of(alloc, net, plan, back, newest, gate, values)?;
-    Ok(PlannedEvent {
-        line: 0,
-        event: Event {
-            gate,
-            ages: Items::of(ages),
-        },
-    })
-}
-
 /// Adds the event of a gate whose pins are to see these values, behind the events of the round so far.
 pub(crate) fn push_event(
     alloc: Global,
     net: &Netlist,
     plan: &StormPlan,
     back: u32,
-    events: &mut Vec<PlannedEvent>,
+    events: &mut Events,
     gate: u32,
     values: &[bool],
 ) -> Result<(), AllocError>
     requires gate { gate < length net.now.gates }
     requires fits { FitsRound net.now plan.now }
-    requires small { length events.old.items + back ≤ 4294967295 }
-    ensures { OnOk result (events.new.items ≡ events.old.items ++ turn_event net.now plan.now back (length events.old.items) (turn_of gate values.now) ∷ []) }
+    requires small { length events.old + back ≤ 4294967295 }
+    ensures { OnOk result (events.new ≡ events.old ++ turn_event net.now plan.now back (length events.old) (turn_of gate values.now) ∷ []) }
 {
     let newest = events.len() as u32;
-    let event = event_of(alloc, net, plan, back, newest, gate, values)?;
-    events.push(event)?;
-    Ok(())
+    let ages = ages_of(alloc, net, plan, back, newest, gate, values)?;
+    events.push(0, gate, &ages)
 }

@@ -10,7 +10,7 @@ ghost use Rattle.storm.specs.Storms.{shakes, shaking_count, low_turn, high_turn,
 use crate::event::push_event;
 use crate::planning::StormPlan;
 use cyc_base::{Bits, Items};
-use delay_core::{PlannedEvent, RoundPlan, TickPlan};
+use delay_core::{Events, RoundPlan, TickPlan};
 use netlist::Netlist;
 use std::alloc::{AllocError, Global};
 
@@ -28,12 +28,12 @@ fn low_events(
     net: &Netlist,
     plan: &StormPlan,
     back: u32,
-) -> Result<Vec<PlannedEvent>, AllocError>
+) -> Result<Events, AllocError>
     requires fits { FitsRound net.now plan.now }
     requires back { back ≤ 4000000 }
-    ensures { IfOk result (λ events. events.items ≡ turn_events net.now plan.now back 0 (each_gate net.now (low_turn plan.now))) }
+    ensures { IfOk result (λ events. events ≡ turn_events net.now plan.now back 0 (each_gate net.now (low_turn plan.now))) }
 {
-    let mut events = Vec::new(alloc);
+    let mut events = Events::new(alloc);
     for gate in 0..net.gates() {
         let values = values_at(plan.low.items(), gate);
         push_event(alloc, net, plan, back, &mut events, gate, values)?;
@@ -47,13 +47,13 @@ fn push_high_event(
     net: &Netlist,
     plan: &StormPlan,
     back: u32,
-    events: &mut Vec<PlannedEvent>,
+    events: &mut Events,
     gate: u32,
 ) -> Result<(), AllocError>
     requires gate { gate < length net.now.gates }
     requires fits { FitsRound net.now plan.now }
-    requires small { length events.old.items + back ≤ 4294967295 }
-    ensures { OnOk result (events.new.items ≡ events.old.items ++ turn_events net.now plan.now back (length events.old.items) (map (high_turn plan.now) (filter (shakes plan.now) (gate ∷ [])))) }
+    requires small { length events.old + back ≤ 4294967295 }
+    ensures { OnOk result (events.new ≡ events.old ++ turn_events net.now plan.now back (length events.old) (map (high_turn plan.now) (filter (shakes plan.now) (gate ∷ [])))) }
 {
     if plan.shaking.items()[gate as usize] {
         let values = values_at(plan.high.items(), gate);
@@ -68,12 +68,12 @@ fn push_high_events(
     net: &Netlist,
     plan: &StormPlan,
     back: u32,
-    events: &mut Vec<PlannedEvent>,
+    events: &mut Events,
 ) -> Result<(), AllocError>
     requires fits { FitsRound net.now plan.now }
     requires back { back ≤ 4000000 }
-    requires first { length events.old.items ≡ length net.now.gates }
-    ensures { OnOk result (events.new.items ≡ events.old.items ++ turn_events net.now plan.now back (length events.old.items) (map (high_turn plan.now) (filter (shakes plan.now) (range_with_len 0 (length net.now.gates))))) }
+    requires first { length events.old ≡ length net.now.gates }
+    ensures { OnOk result (events.new ≡ events.old ++ turn_events net.now plan.now back (length events.old) (map (high_turn plan.now) (filter (shakes plan.now) (range_with_len 0 (length net.now.gates))))) }
 {
     for gate in 0..net.gates() {
         push_high_event(alloc, net, plan, back, events, gate)?;
@@ -94,10 +94,8 @@ fn round_of(
 {
     let mut events = low_events(alloc, net, plan, back)?;
     push_high_events(alloc, net, plan, back, &mut events)?;
-    Ok(RoundPlan {
-        line: 0,
-        events: Items::of(events),
-    })
+    events.shrink();
+    Ok(RoundPlan { line: 0, events })
 }
 
 /// How many moments before its first one a round finds the shaking gates at 0.

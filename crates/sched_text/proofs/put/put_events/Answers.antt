@@ -1,22 +1,34 @@
-use Rattle.std.proofs.Common.{arith, subst}
+use Rattle.std.proofs.Common.{◌<◌, ◌≤◌, [], length, subst, arith}
 use Rattle.delay_core.specs.declared.plan.PlannedEvent.{PlannedEvent}
 use Rattle.std.proofs.lemmas.List.Elements.{All-more}
+use Rattle.std.proofs.lemmas.List.{get_or_default}
+use Rattle.delay_core.specs.EventLists.{planned_at}
 use Rattle.sched_text.specs.Putting.{event_text, HasSmallAges}
 use Rattle.cyc_io.proofs.TakenLemmas.{appended_none}
-use Rattle.cyc_io.proofs.ItemLemmas.{appended_item, appended_in_item, appended_items}
+use Rattle.cyc_io.proofs.ItemLemmas.{appended_copied, appended_in_copied, appended_items}
 use Rattle.sched_text.proofs.put.put_events.Goals as goal
 
-pub loop-planned-init : goal.loop-planned-init
-loop-planned-init g c = record { text = appended_none _ _ _; small = λ k d inside. absurd (omega (arith, inside)) }
+pub put_event-requires-clause-gate : goal.put_event-requires-clause-gate
+put_event-requires-clause-gate g c =
+    let short : c.loop-i.i < length c.args.events.now = omega (arith, c.loop-i-test.true, c.len-i-end.ensures) in
+    c.requires c.loop-i.i _ short
 
-pub loop-planned-preserved : goal.loop-planned-preserved
-loop-planned-preserved g c = record {
-  text = appended_item (event_text c.args.net.now) c.args.events.now c.loop-planned.planned-index c.planned-item.result _ _ _ _ _ _ _ _ (omega arith) c.planned-item.is c.loop-planned.invariant.text c.in_ok-put_event.ensures.text;
-  small = let P = λ (p : PlannedEvent). HasSmallAges p in All-more P c.args.events.now c.loop-planned.planned-index c.planned-item.result (omega arith) c.loop-planned.invariant.small (subst P c.planned-item.is c.in_ok-put_event.ensures.small);
-}
+pub loop-i-init : goal.loop-i-init
+loop-i-init g c = record { text = appended_none _ _ _; small = λ k d inside. absurd (omega (arith, inside)) }
+
+pub loop-i-preserved : goal.loop-i-preserved
+loop-i-preserved g c =
+    let short : c.loop-i.i < length c.args.events.now = omega (arith, c.loop-i-test.true, c.len-i-end.ensures) in
+    record {
+      text = appended_copied (event_text c.args.net.now) c.args.events.now c.loop-i.i _ _ _ _ _ _ _ _ _ short c.loop-i.invariant.text c.in_ok-put_event.ensures.text;
+      small = let P = λ (p : PlannedEvent). HasSmallAges p in All-more P c.args.events.now c.loop-i.i (planned_at c.args.events.now c.loop-i.i) short c.loop-i.invariant.small
+          (subst P (get_or_default c.args.events.now c.loop-i.i (record { line = 0; event = record { gate = 0; ages = [] } }) (planned_at c.args.events.now c.loop-i.i) short) c.in_ok-put_event.ensures.small);
+    }
 
 pub returns-in_err-put_event-clause-text : goal.returns-in_err-put_event-clause-text
-returns-in_err-put_event-clause-text g c = appended_in_item (event_text c.args.net.now) c.args.events.now c.loop-planned.planned-index c.planned-item.result _ _ _ _ _ _ _ _ _ (omega arith) c.planned-item.is c.loop-planned.invariant.text c.in_err-put_event.ensures.text c.from_residual.ensures.0
+returns-in_err-put_event-clause-text g c =
+    let short : c.loop-i.i < length c.args.events.now = omega (arith, c.loop-i-test.true, c.len-i-end.ensures) in
+    appended_in_copied (event_text c.args.net.now) c.args.events.now c.loop-i.i _ _ _ _ _ _ _ _ _ _ short c.loop-i.invariant.text c.in_err-put_event.ensures.text c.from_residual.ensures.0
 
 pub returns-clause-text : goal.returns-clause-text
-returns-clause-text g c = appended_items (event_text c.args.net.now) c.args.events.now c.loop-planned.planned-index _ _ (omega arith) c.loop-planned.invariant.text
+returns-clause-text g c = appended_items (event_text c.args.net.now) c.args.events.now c.loop-i.i _ _ (let far : length c.args.events.now ≤ c.loop-i.i = omega (arith, c.loop-i-test.false, c.len-i-end.ensures) in far) c.loop-i.invariant.text

@@ -5,8 +5,8 @@ use Rattle.sched_text.specs.Putting.{event_text, HasSmallAges}
 use Rattle.cyc_io.specs.Taken.{IsAppendedWhole, sink_call}
 use Rattle.sched_text.proofs.put.put_events.Given as goal
 
-abbrev pub invariant-loop-planned : goal.invariant-loop-planned
-invariant-loop-planned g l = record {
-  text : IsAppendedWhole (flat_map (event_text l.net) (take l.planned-index l.events)) (sink_call g.K.Sink.put g.K.Sink.faults l.fn.sink l.sink);
-  small : All HasSmallAges (take l.planned-index l.events);
+abbrev pub invariant-loop-i : goal.invariant-loop-i
+invariant-loop-i g l = record {
+  text : IsAppendedWhole (flat_map (event_text l.net) (take l.i l.events)) (sink_call g.K.Sink.put g.K.Sink.faults l.fn.sink l.sink);
+  small : All HasSmallAges (take l.i l.events);
 }

@@ -5,4 +5,4 @@ pub returns-in_err-write_whole-clause-text : goal.returns-in_err-write_whole-cla
 returns-in_err-write_whole-clause-text g c = appended_cut _ _ _ _ _ c.in_err-write_whole.ensures c.from_residual.ensures.0
 
 pub returns-clause-text : goal.returns-clause-text
-returns-clause-text g c = rw (← c.items.ensures) (appended_then _ _ _ _ _ _ _ _ _ _ c.in_ok-write_whole.ensures c.put_events.ensures.text)
+returns-clause-text g c = appended_then _ _ _ _ _ _ _ _ _ _ c.in_ok-write_whole.ensures c.put_events.ensures.text

@@ -1,5 +1,5 @@
-use Rattle.sched_text.proofs.FitLemmas.{fits}
+use Rattle.sched_text.proofs.ReadingLemmas.{fits_read}
 use Rattle.sched_text.proofs.text.read_schedule.Goals as goal
 
 pub returns-clause-fits : goal.returns-clause-fits
-returns-clause-fits c = fits c.args.net.now c.args.ticks c.end_line-end.result c.in_ok-lines.lines c.in_ok-read_lines.field-0 c.in_ok-read_lines.ensures
+returns-clause-fits c = fits_read c.args.net.now c.args.ticks c.args.bytes.now c.in_ok-read_text.field-0 c.in_ok-read_text.ensures

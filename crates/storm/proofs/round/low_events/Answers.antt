@@ -4,12 +4,12 @@ use Rattle.storm.proofs.round.low_events.Goals as goal
 
 pub push_event-requires-clause-small : goal.push_event-requires-clause-small
 push_event-requires-clause-small c =
-    let count : length c.loop-gate.events.items ≡ c.loop-gate.gate = ap length c.loop-gate.invariant ∙ low_count c.args.net.now c.args.plan.now c.args.back c.loop-gate.gate in
+    let count : length c.loop-gate.events ≡ c.loop-gate.gate = ap length c.loop-gate.invariant ∙ low_count c.args.net.now c.args.plan.now c.args.back c.loop-gate.gate in
     let few = c.requires.fits.few in
     let back = c.requires.back in
-    let enough : length c.loop-gate.events.items + c.args.back ≤ 4294967295 = omega arith in
+    let enough : length c.loop-gate.events + c.args.back ≤ 4294967295 = omega arith in
     enough
 
 pub loop-gate-preserved : goal.loop-gate-preserved
 loop-gate-preserved c =
-    low_more c.args.net.now c.args.plan.now c.args.back c.loop-gate.gate c.loop-gate.events.items _ _ c.in_ok-push_event.ensures (c.values_at-values.ensures ∙ ap (λ l. get_or l c.loop-gate.gate []) c.items.ensures) c.loop-gate.invariant
+    low_more c.args.net.now c.args.plan.now c.args.back c.loop-gate.gate c.loop-gate.events _ _ c.in_ok-push_event.ensures (c.values_at-values.ensures ∙ ap (λ l. get_or l c.loop-gate.gate []) c.items.ensures) c.loop-gate.invariant

@@ -4,7 +4,7 @@ use Rattle.storm.proofs.round.push_high_events.Goals as goal
 
 pub push_high_event-requires-clause-small : goal.push_high_event-requires-clause-small
 push_high_event-requires-clause-small c =
-    let count = high_count c.args.net.now c.args.plan.now c.args.back c.loop-gate.gate c.args.events.now.items c.loop-gate.events.items c.loop-gate.invariant in
+    let count = high_count c.args.net.now c.args.plan.now c.args.back c.loop-gate.gate c.args.events.now c.loop-gate.events c.loop-gate.invariant in
     let few = c.requires.fits.few in
     let back = c.requires.back in
     let first = c.requires.first in
@@ -12,4 +12,4 @@ push_high_event-requires-clause-small c =
 
 pub loop-gate-preserved : goal.loop-gate-preserved
 loop-gate-preserved c =
-    high_more c.args.net.now c.args.plan.now c.args.back c.loop-gate.gate c.args.events.now.items c.loop-gate.events.items _ c.in_ok-push_high_event.ensures c.loop-gate.invariant
+    high_more c.args.net.now c.args.plan.now c.args.back c.loop-gate.gate c.args.events.now c.loop-gate.events _ c.in_ok-push_high_event.ensures c.loop-gate.invariant

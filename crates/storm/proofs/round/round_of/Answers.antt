@@ -8,4 +8,4 @@ push_high_events-requires-clause-first c =
 
 pub returns : goal.returns
 returns c =
-    both_halves c.args.net.now c.args.plan.now c.args.back c.in_ok-events.events.items c.of.result c.in_ok-events.ensures (c.of.ensures ∙ c.in_ok-push_high_events.ensures)
+    both_halves c.args.net.now c.args.plan.now c.args.back c.in_ok-events.events c.shrink.new.self c.in_ok-events.ensures (c.shrink.ensures ∙ c.in_ok-push_high_events.ensures)

@@ -1,0 +1,193 @@
+-- A schedule is read piece by piece.
+use Rattle.std.proofs.Common.{◌≡◌, ◌≢◌, ◌<◌, ◌≤◌, ℕ, suc, ◌+◌, ◌-◌, inl, inr, ◌⊎◌, Bool, true, false, cond, List, [], ◌∷◌, ◌++◌, length, drop, get_or, Some, None, Ok, Err, refl, sym, ap, subst, ◌∙◌, arith, length-append, length-drop, drop_of_length-le}
+use Rattle.std.specs.Prelude.{Option, Result, ◌==◌, ◌&&◌, count_by, option_map}
+use Rattle.std.proofs.Math.Seq.{drop-cons, drop-append_seam}
+use Rattle.std.proofs.lemmas.Bool.{cases_lt, ne_eqb}
+use Rattle.std.proofs.lemmas.List.{get_or-drop, get_or_append_left, drop-drop}
+use Rattle.netlist.specs.declared.parts.Parts.{Parts}
+use Rattle.delay_core.specs.declared.plan.Schedule.{Schedule}
+use Rattle.blif_text.specs.Texts.{Line, is_lf, unless_bad, end_number, physical}
+use Rattle.blif_text.specs.Lines.{line_at}
+use Rattle.sched_text.specs.declared.fault.SchedFault.{SchedFault}
+use Rattle.sched_text.specs.declared.fault.SchedFault.TheVariants.{BadLine}
+use Rattle.sched_text.specs.declared.place.Place.{Place}
+use Rattle.sched_text.specs.Faults.{of_lines}
+use Rattle.sched_text.specs.Kinds.{kind, is_tick, lacks_lines}
+use Rattle.sched_text.specs.LineFaults.{place_behind, is_cut_off, fault_at, fault_at_end}
+use Rattle.sched_text.specs.Statements.{statement}
+use Rattle.sched_text.specs.Schedules.{schedule, schedule_read}
+use Rattle.sched_text.specs.Running.{Draft, new_draft, follow, ended}
+use Rattle.sched_text.specs.Pieces.{lines_from, bad_line, IsNext}
+use Rattle.sched_text.specs.ReadingOn.{ReadsAt, IsPieceOf, ReadsPiece, FailsPiece}
+use Rattle.sched_text.specs.Fitting.{FitsNetlist}
+use Rattle.sched_text.proofs.FitLemmas.{fits}
+use Rattle.sched_text.proofs.PieceLemmas.{numbered_few, rising, size_of_physical}
+use Rattle.sched_text.proofs.ScheduleLemmas.{at_start, at_next, at_fault, at_end, fault_at_the_end}
+
+-- ---- the lines of a piece
+
+-- whether the text ends in the line here
+abbrev pub ends_here : ℕ → Line → Bool
+ends_here end line = (line.number == end) && lacks_lines (Some (kind line))
+
+module _ (net : Parts) (ticks end : ℕ) (piece : List Line) (place : Place) (draft : Draft) where
+  pub nothing_read : ReadsPiece net ticks end piece place draft place draft 0
+  nothing_read lines base is reads =
+      let P : ℕ → Type 0 = λ n. ReadsAt net ticks end lines place draft n in
+      let e : base ≡ base + 0 = omega arith in
+      subst P e reads
+
+  module _ (now : Place) (so_far : Draft) (i : ℕ) (cut_off : Bool) (before : ReadsPiece net ticks end piece place draft now so_far i)
+      (inside : i < length piece) (cut : cut_off ≡ ends_here end (line_at piece i)) where
+    cut_here : (lines : List Line) (base : ℕ) → IsPieceOf end lines base piece → cut_off ≡ is_cut_off end (line_at lines (base + i)) (drop (base + i + 1) lines)
+    cut_here lines base is =
+        let within = is.within in
+        cut ∙ ap (ends_here end) (sym (is.same i inside)) ∙ sym (is.ends (base + i) (omega arith))
+
+    pub piece_next : (next : Place) (after : Draft) → fault_at net ticks now.before now.begun cut_off (line_at piece i) ≡ None
+        → after ≡ follow so_far (statement net (line_at piece i))
+        → next.before ≡ Some (kind (line_at piece i)) → next.begun ≡ cond (is_tick (kind (line_at piece i))) 1 0 + now.begun
+        → ReadsPiece net ticks end piece place draft next after (i + 1)
+    piece_next next after none said is_behind count lines base is reads =
+        let within = is.within in
+        let same : line_at piece i ≡ line_at lines (base + i) = sym (is.same i inside) in
+        let P : ℕ → Type 0 = λ n. ReadsAt net ticks end lines next after n in
+        let e : base + i + 1 ≡ base + (i + 1) = omega arith in
+        subst P e
+        (at_next net ticks end lines now next so_far after (base + i) cut_off (before lines base is reads) (omega arith) (cut_here lines base is)
+        (ap (fault_at net ticks now.before now.begun cut_off) (sym same) ∙ none)
+        (said ∙ ap (λ line. follow so_far (statement net line)) same)
+        (is_behind ∙ ap (λ line. Some (kind line)) same)
+        (count ∙ ap (λ line. cond (is_tick (kind line)) 1 0 + now.begun) same))
+
+    pub piece_fault : (fault : SchedFault) → fault_at net ticks now.before now.begun cut_off (line_at piece i) ≡ Some fault → FailsPiece net ticks end piece place draft fault
+    piece_fault fault some lines base is reads =
+        let within = is.within in
+        at_fault net ticks end lines now so_far (base + i) cut_off fault (before lines base is reads) (omega arith) (cut_here lines base is)
+        (ap (fault_at net ticks now.before now.begun cut_off) (is.same i inside) ∙ some)
+
+-- ---- the pieces of a text
+
+bad_answer : {X : Type 0} (read : List Line → Result X SchedFault) (bad : Option ℕ) (all : List Line) (fault : SchedFault)
+    → option_map (λ n. BadLine n) bad ≡ Some fault → of_lines read (unless_bad bad all) ≡ Err fault
+bad_answer read (Some n) all fault is =
+    let is : Some (BadLine n) ≡ Some fault = is in
+    let e : BadLine n ≡ fault = cc in
+    ap (λ f. Err f) e
+bad_answer read None all fault is = absurd (cc is)
+
+module _ (net : Parts) (ticks end : ℕ) (text : List ℕ) where
+  -- so many lines were read, and these are left
+  pub record AtPiece (done : ℕ) (left : List ℕ) (place : Place) (draft : Draft) : Type 0 where
+    pub base : ℕ
+    pub inside : base ≤ length (lines_from 1 text)
+    pub lines : drop base (lines_from 1 text) ≡ lines_from (done + 1) left
+    pub bad : bad_line 1 text ≡ bad_line (done + 1) left
+    pub small : done + length left ≤ length text
+    pub reads : ReadsAt net ticks end (lines_from 1 text) place draft base
+
+  pub at_first : (draft : Draft) → draft ≡ new_draft → AtPiece 0 text (place_behind []) draft
+  at_first draft is = record {
+    base = 0;
+    inside = omega arith;
+    lines = refl;
+    bad = refl;
+    small = omega arith;
+    reads = at_start net ticks end (lines_from 1 text) draft is;
+  }
+
+module _ (net : Parts) (ticks end : ℕ) (text : List ℕ) (end_is : end ≡ end_number text) where
+  abbrev all_lines : List Line
+  all_lines = lines_from 1 text
+
+  -- of all lines the one with the end number is the last
+  ends : (i : ℕ) → i < length all_lines → is_cut_off end (line_at all_lines i) (drop (i + 1) all_lines) ≡ ends_here end (line_at all_lines i)
+  ends i inside = by (cases_lt (i + 1) (length all_lines))
+    where
+      by : (i + 1 < length all_lines) ⊎ (length all_lines ≤ i + 1) → is_cut_off end (line_at all_lines i) (drop (i + 1) all_lines) ≡ ends_here end (line_at all_lines i)
+      by (inl more) =
+          let line = line_at all_lines i in
+          let size = size_of_physical text in
+          let low = rising 1 (1 + length (physical text)) (physical text) (omega arith) i more in
+          let differ : line.number ≢ end = omega (arith, low, size, end_is) in
+          ap (is_cut_off end line) (drop-cons all_lines (i + 1) (record { number = 0; words = [] }) more)
+          ∙ sym (ap (λ t. t && lacks_lines (Some (kind line))) (ne_eqb line.number end differ))
+      by (inr last) = ap (is_cut_off end (line_at all_lines i)) (drop_of_length-le all_lines last)
+
+  module _ (done : ℕ) (left : List ℕ) (place : Place) (draft : Draft) (at : AtPiece net ticks end text done left place draft) where
+    pub bad_here : (fault : SchedFault) → option_map (λ n. BadLine n) (bad_line (done + 1) left) ≡ Some fault → schedule_read text net ticks ≡ Err fault
+    bad_here fault is = bad_answer (schedule net ticks (end_number text)) (bad_line 1 text) all_lines fault (ap (option_map (λ n. BadLine n)) at.bad ∙ is)
+
+    good : bad_line (done + 1) left ≡ None → schedule_read text net ticks ≡ schedule net ticks end all_lines
+    good none =
+        ap (λ b. of_lines (schedule net ticks (end_number text)) (unless_bad b all_lines)) (at.bad ∙ none)
+        ∙ ap (λ n. schedule net ticks n all_lines) (sym end_is)
+
+    module _ (after : ℕ) (later : List ℕ) (piece : List Line) (next : IsNext done after left later piece) where
+      split : drop at.base all_lines ≡ piece ++ lines_from (after + 1) later
+      split = at.lines ∙ next.lines
+
+      within : at.base + length piece ≤ length all_lines
+      within =
+          let inside = at.inside in
+          let size = length-drop at.base all_lines in
+          let parts = ap length split ∙ length-append piece (lines_from (after + 1) later) in
+          omega (arith, inside, size, parts)
+
+      is_piece : IsPieceOf end all_lines at.base piece
+      is_piece = record {
+        within = within;
+        same = λ i l. sym (get_or-drop at.base all_lines i (record { number = 0; words = [] }))
+            ∙ ap (λ ls. line_at ls i) split
+            ∙ get_or_append_left piece (lines_from (after + 1) later) (record { number = 0; words = [] }) i l;
+        ends = ends;
+      }
+
+      pub few : place.begun + length piece ≤ end
+      few =
+          let begun = at.reads.few in
+          let size = size_of_physical text in
+          let lines = numbered_few 1 (physical text) in
+          omega (arith, begun, within, size, lines, end_is)
+
+      pub at_later : (now : Place) (so_far : Draft) → ReadsPiece net ticks end piece place draft now so_far (length piece) → AtPiece net ticks end text after later now so_far
+      at_later now so_far reads = record {
+        base = at.base + length piece;
+        inside = within;
+        lines = sym (drop-drop (length piece) at.base all_lines)
+            ∙ ap (drop (length piece)) split
+            ∙ drop-append_seam piece (lines_from (after + 1) later);
+        bad = at.bad ∙ next.bad;
+        small = (let before = at.small in let less = next.small in omega (arith, before, less));
+        reads = reads all_lines at.base is_piece at.reads;
+      }
+
+      pub fails_here : (fault : SchedFault) → FailsPiece net ticks end piece place draft fault → bad_line (after + 1) later ≡ None → schedule_read text net ticks ≡ Err fault
+      fails_here fault fails none = good (next.bad ∙ none) ∙ fails all_lines at.base is_piece at.reads
+
+      pub bad_later : (fault : SchedFault) → option_map (λ n. BadLine n) (bad_line (after + 1) later) ≡ Some fault → schedule_read text net ticks ≡ Err fault
+      bad_later fault is = bad_here fault (ap (option_map (λ n. BadLine n)) next.bad ∙ is)
+
+    module _ (nothing : left ≡ []) where
+      over : length all_lines ≤ at.base
+      over =
+          let size = length-drop at.base all_lines in
+          let none : drop at.base all_lines ≡ [] = at.lines ∙ ap (lines_from (done + 1)) nothing in
+          omega (arith, size, ap length none)
+
+      good_last : schedule_read text net ticks ≡ schedule net ticks end all_lines
+      good_last = good (ap (bad_line (done + 1)) nothing)
+
+      pub read_last : fault_at_end ticks end place.before place.begun ≡ None → schedule_read text net ticks ≡ Ok (ended draft)
+      read_last none = good_last ∙ at_end net ticks end all_lines place draft at.base at.reads over none
+
+      pub fails_last : (fault : SchedFault) → fault_at_end ticks end place.before place.begun ≡ Some fault → schedule_read text net ticks ≡ Err fault
+      fails_last fault is = good_last ∙ fault_at_the_end net ticks end all_lines place draft at.base fault at.reads over is
+
+-- what is read fits the netlist
+pub fits_read : (net : Parts) (ticks : ℕ) (text : List ℕ) (found : Schedule) → schedule_read text net ticks ≡ Ok found → FitsNetlist net ticks found
+fits_read net ticks text found is = by (bad_line 1 text) is
+  where
+    by : (b : Option ℕ) → of_lines (schedule net ticks (end_number text)) (unless_bad b (lines_from 1 text)) ≡ Ok found → FitsNetlist net ticks found
+    by None is = fits net ticks (end_number text) (lines_from 1 text) found is
+    by (Some n) is = absurd (cc is)

@@ -1,0 +1,11 @@
+use Rattle.std.proofs.Common.{◌≤◌, ◌+◌}
+use Rattle.sched_text.specs.Running.{seen}
+use Rattle.sched_text.specs.ReadingOn.{ReadsPiece}
+use Rattle.sched_text.proofs.text.take_piece.Given as goal
+
+abbrev pub invariant-loop-i : goal.invariant-loop-i
+invariant-loop-i l =
+    record {
+      few : l.next.begun ≤ l.fn.place.begun + l.i;
+      reads : ReadsPiece l.net l.ticks l.end l.lines l.fn.place (seen l.fn.draft) l.next (seen l.draft) l.i;
+    }
