@@ -22,6 +22,6 @@ command_seen (Rewrite netlist options) = asked.Rewrite netlist.now (options_seen
 command_seen (Flat netlist) = asked.Flat netlist.now
 command_seen (Loops netlist) = asked.Loops netlist.now
 command_seen (Sim netlist vectors) = asked.Sim netlist.now vectors.now
-command_seen (Delays netlist vectors schedule) = asked.Delays netlist.now vectors.now schedule.now
+command_seen (Delays netlist vectors schedule probe) = asked.Delays netlist.now vectors.now schedule.now probe
 command_seen (Demo cells) = asked.Demo (cells_seen cells)
 command_seen (Storm netlist rounds options) = asked.Storm netlist.now (rounds_seen rounds) (options_seen options)

@@ -7,6 +7,8 @@ use Rattle.std.specs.declared.option.Option.{Option}
 use Rattle.cyc_base.specs.declared.limits.TheConstants.{MIN_NODES, MAX_NODES, MIN_RING_CELLS, MAX_RING_CELLS}
 use Rattle.refusals.specs.declared.observe.Observe.{Observe}
 use Rattle.refusals.specs.declared.observe.Observe.TheVariants as observe
+use Rattle.probes.specs.declared.kind.Kind.{Kind}
+use Rattle.probes.specs.declared.kind.Kind.TheVariants as kind
 
 -- the options of a decision: a care file, the greatest number of nodes, and the wires that a user looks at
 pub record Options : Type 0 where
@@ -29,8 +31,8 @@ pub data Command : Type 0 where
   Loops : List ℕ → Command
   -- simulates it on the vectors of a file
   Sim : List ℕ → List ℕ → Command
-  -- plays it on the vectors of a file by the schedule of another
-  Delays : List ℕ → List ℕ → List ℕ → Command
+  -- plays it on the vectors of a file by the schedule of another, and shows its changes as probes of this kind do
+  Delays : List ℕ → List ℕ → List ℕ → Option Kind → Command
   -- decides the ring arbiter of so many cells
   Demo : ℕ → Command
   -- decides the netlist of a file, and writes a schedule of so many rounds on which a refused wire never rests
@@ -106,9 +108,24 @@ abbrev pub sim_on : List ℕ → List (List ℕ) → Option Command
 sim_on file (vectors ∷ []) = if is_file_word vectors then Some (Sim file vectors) else None
 sim_on file other = None
 
--- a play wants two more
+abbrev pub kind_of : List ℕ → Option Kind
+kind_of word =
+    if bytes_eq word (codes "trace") then Some kind.Trace
+    else if bytes_eq word (codes "glitches") then Some kind.Glitches
+    else if bytes_eq word (codes "last") then Some kind.Last
+    else if bytes_eq word (codes "vcd") then Some kind.Vcd
+    else None
+
+-- the kind of the probe that these words ask for, if they ask for one
+abbrev pub probe_of : List (List ℕ) → Option (Option Kind)
+probe_of [] = Some None
+probe_of (option ∷ word ∷ []) = if bytes_eq option (codes "--probe") then option_map Some (kind_of word) else None
+probe_of other = None
+
+-- a play wants two more, and may have a probe
 abbrev pub delays_on : List ℕ → List (List ℕ) → Option Command
-delays_on file (vectors ∷ schedule ∷ []) = if is_file_word vectors && is_file_word schedule then Some (Delays file vectors schedule) else None
+delays_on file (vectors ∷ schedule ∷ rest) =
+    if is_file_word vectors && is_file_word schedule then option_map (Delays file vectors schedule) (probe_of rest) else None
 delays_on file other = None
 
 -- a demonstration wants a number of cells alone

@@ -1,6 +1,7 @@
 ghost use Rattle.std.specs.Prelude.{◌≤◌, unwrap_or};
 
 use cyc_base::Name;
+use probes::Kind;
 use refusals::Observe;
 
 /// The options of a decision.
@@ -45,8 +46,9 @@ pub enum Command<'a> {
     Loops(&'a Name),
     /// Simulates it on the vectors of a second file.
     Sim(&'a Name, &'a Name),
-    /// Plays it on the vectors of a second file by the schedule of a third.
-    Delays(&'a Name, &'a Name, &'a Name),
+    /// Plays it on the vectors of a second file by the schedule of a third, and shows the changes of the run as probes of
+    /// this kind do.
+    Delays(&'a Name, &'a Name, &'a Name, Option<Kind>),
     /// Decides the ring arbiter of so many cells.
     Demo(Cells),
     /// Decides the netlist of this file, and writes a schedule of so many rounds on which a refused wire never rests.

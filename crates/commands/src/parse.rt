@@ -2,10 +2,11 @@
 ghost use Rattle.std.specs.Prelude.{◌≡◌, ◌≤◌, ◌+◌, ◌-◌, ◌*◌, ◌&&◌, nat_le, true, false, MatchOption, IfSome, None, Some};
 ghost use Rattle.cyc_base.specs.declared.limits.TheConstants.{MAX_NODES as most_nodes};
 ghost use Rattle.commands.specs.Seen.{cells_seen, command_seen, options_seen, rounds_seen};
-ghost use Rattle.commands.specs.Words.{cells as cells_asked, check_on as check_asked, command_of, command_on as command_asked, delays_on as delays_asked, demo_on as demo_asked, is_digit, is_file_word, no_options as asked_no_options, number_between as number_asked, observe_of as observe_asked, options_of as options_asked, rewrite_on as rewrite_asked, rounds as rounds_asked, sim_on as sim_asked, storm_on as storm_asked, storm_with as storm_asked_with, up_to, with_care as asked_with_care, with_nodes as asked_with_nodes, with_observe as asked_with_observe, with_option as asked_with_option};
+ghost use Rattle.commands.specs.Words.{cells as cells_asked, check_on as check_asked, command_of, command_on as command_asked, delays_on as delays_asked, demo_on as demo_asked, is_digit, is_file_word, no_options as asked_no_options, number_between as number_asked, kind_of as kind_asked, observe_of as observe_asked, options_of as options_asked, probe_of as probe_asked, rewrite_on as rewrite_asked, rounds as rounds_asked, sim_on as sim_asked, storm_on as storm_asked, storm_with as storm_asked_with, up_to, with_care as asked_with_care, with_nodes as asked_with_nodes, with_observe as asked_with_observe, with_option as asked_with_option};
 
 use crate::command::{Cells, Command, Options, Rounds};
 use cyc_base::{MAX_NODES, MAX_RING_CELLS, MIN_NODES, MIN_RING_CELLS, Name};
+use probes::Kind;
 use refusals::Observe;
 
 /// The most rounds of a storm.
@@ -94,16 +95,45 @@ fn sim_on<'a>(file: &'a Name, rest: &'a [Name]) -> Option<Command<'a>>
     }
 }
 
-// A play wants two more.
+// A play wants two more, and may have a probe.
 fn delays_on<'a>(file: &'a Name, rest: &'a [Name]) -> Option<Command<'a>>
     ensures { MatchOption result (delays_asked file.now rest.now ≡ None)
         (λ asked. delays_asked file.now rest.now ≡ Some (command_seen asked)) }
 {
     match rest {
-        [vectors, schedule] if is_file(vectors.bytes()) && is_file(schedule.bytes()) => {
-            Some(Command::Delays(file, vectors, schedule))
+        [vectors, schedule, rest @ ..] if is_file(vectors.bytes()) && is_file(schedule.bytes()) => {
+            Some(Command::Delays(file, vectors, schedule, probe_of(rest)?))
         }
         _ => None,
+    }
+}
+
+// The kind of the probe that these words ask for, if they ask for one.
+fn probe_of(words: &[Name]) -> Option<Option<Kind>>
+    ensures { result ≡ probe_asked words.now }
+{
+    match words {
+        [] => Some(None),
+        [option, kind] if option.bytes() == b"--probe".as_slice() => {
+            Some(Some(kind_of(kind.bytes())?))
+        }
+        _ => None,
+    }
+}
+
+fn kind_of(word: &[u8]) -> Option<Kind>
+    ensures { result ≡ kind_asked word.now }
+{
+    if word == b"trace".as_slice() {
+        Some(Kind::Trace)
+    } else if word == b"glitches".as_slice() {
+        Some(Kind::Glitches)
+    } else if word == b"last".as_slice() {
+        Some(Kind::Last)
+    } else if word == b"vcd".as_slice() {
+        Some(Kind::Vcd)
+    } else {
+        None
     }
 }
 

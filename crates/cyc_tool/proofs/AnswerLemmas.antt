@@ -9,6 +9,7 @@ use Rattle.cyc_tool.specs.Answer.{outcome_at, answer}
 use Rattle.cyc_tool.specs.Calls.{ShelfCall, SinkCall, ReadFailed, AreGiven, rest_of, EndsAt, ComesTo, IsDecided, Verdict, Limit, IsTold, Tells, Runs}
 use Rattle.cyc_tool.specs.Causes.{Leads, Reaches, MeetsLimit, NoneFailed, IsWell, GivesAnswer, IsEnoughFor, HasEnoughNodes, IsComplete}
 use Rattle.cyc_tool.specs.Plans.{Plan, Reads, Faulty, Ends, Decides, plan_of}
+use Rattle.cyc_tool.specs.Requests.{Request}
 use Rattle.cyc_tool.specs.Texts.{Outcome, usage, read_failed, no_memory}
 use Rattle.commands.specs.Words.{Command, command_of}
 
@@ -61,65 +62,65 @@ ends_told shelf files nodes end (Decides decision purpose) well ends = by_decisi
     by_decision (Limit limited is) = IsAtLimit limited (ap (λ (o : Outcome). o.status) is)
 
 -- what a call came to for its words
-data ComesToTold (words : List (List ℕ)) (shelf : ShelfCall) (nodes : Arena) (files : Files) (end : Outcome) : Type 0 where
-  GaveAnswer : end ≡ answer words files → ComesToTold words shelf nodes files end
-  MetLimit : Reaches (MeetsLimit nodes) words shelf → end.status ≡ 6 → ComesToTold words shelf nodes files end
-  LacksMemory : end ≡ no_memory → ComesToTold words shelf nodes files end
+data ComesToTold (request : Request) (shelf : ShelfCall) (nodes : Arena) (files : Files) (end : Outcome) : Type 0 where
+  GaveAnswer : end ≡ answer request files → ComesToTold request shelf nodes files end
+  MetLimit : Reaches (MeetsLimit nodes) request shelf → end.status ≡ 6 → ComesToTold request shelf nodes files end
+  LacksMemory : end ≡ no_memory → ComesToTold request shelf nodes files end
 
-comes_told : (words : List (List ℕ)) (shelf : ShelfCall) (nodes : Arena) (files : Files) (end : Outcome) → shelf.files ≡ Some files
-    → IfSome (command_of words) (λ command. NoneFailed shelf files (plan_of command)) → ComesTo (command_of words) shelf nodes end
-    → ComesToTold words shelf nodes files end
-comes_told words shelf nodes files end told = by_command (command_of words) refl
+comes_told : (request : Request) (shelf : ShelfCall) (nodes : Arena) (files : Files) (end : Outcome) → shelf.files ≡ Some files
+    → IfSome (command_of request.words) (λ command. NoneFailed shelf files (plan_of request.shows command)) → ComesTo request.shows (command_of request.words) shelf nodes end
+    → ComesToTold request shelf nodes files end
+comes_told request shelf nodes files end told = by_command (command_of request.words) refl
   where
     answer_at : Option Command → Outcome
-    answer_at asked = option_map_or (λ command. outcome_at files (plan_of command)) asked usage
+    answer_at asked = option_map_or (λ command. outcome_at files (plan_of request.shows command)) asked usage
 
     reached : Option Command → Type 0
-    reached asked = IsSomeAnd asked (λ command. Leads (MeetsLimit nodes) shelf (plan_of command))
+    reached asked = IsSomeAnd asked (λ command. Leads (MeetsLimit nodes) shelf (plan_of request.shows command))
 
-    by_command : (asked : Option Command) → command_of words ≡ asked → IfSome asked (λ command. NoneFailed shelf files (plan_of command))
-        → ComesTo asked shelf nodes end → ComesToTold words shelf nodes files end
+    by_command : (asked : Option Command) → command_of request.words ≡ asked → IfSome asked (λ command. NoneFailed shelf files (plan_of request.shows command))
+        → ComesTo request.shows asked shelf nodes end → ComesToTold request shelf nodes files end
     by_command None is well comes = elim comes.ends [
-      | inl same ↦ GaveAnswer (same ∙ sym (ap (λ (asked : Option Command). option_map_or (λ command. outcome_at files (plan_of command)) asked usage) is))
+      | inl same ↦ GaveAnswer (same ∙ sym (ap (λ (asked : Option Command). option_map_or (λ command. outcome_at files (plan_of request.shows command)) asked usage) is))
       | inr lacks ↦ LacksMemory lacks
     ]
     by_command (Some command) is well follows = by_end follows.ends
       where
-        by_told : EndsTold nodes files end (rest_of follows.given (plan_of command)) → ComesToTold words shelf nodes files end
+        by_told : EndsTold nodes files end (rest_of follows.given (plan_of request.shows command)) → ComesToTold request shelf nodes files end
         by_told (IsAnswer same) =
-            GaveAnswer (same ∙ same_outcome shelf files follows.given (plan_of command) told follows.gave
-            ∙ sym (ap (λ (asked : Option Command). option_map_or (λ command. outcome_at files (plan_of command)) asked usage) is))
+            GaveAnswer (same ∙ same_outcome shelf files follows.given (plan_of request.shows command) told follows.gave
+            ∙ sym (ap (λ (asked : Option Command). option_map_or (λ command. outcome_at files (plan_of request.shows command)) asked usage) is))
         by_told (IsAtLimit limited six) =
-            let P : Option Command → Type 0 = λ asked. IsSomeAnd asked (λ command. Leads (MeetsLimit nodes) shelf (plan_of command)) in
+            let P : Option Command → Type 0 = λ asked. IsSomeAnd asked (λ command. Leads (MeetsLimit nodes) shelf (plan_of request.shows command)) in
             MetLimit (subst P (sym is) (record { given = follows.given; gave = follows.gave; holds = limited })) six
 
-        by_end : EndsAt shelf nodes end (rest_of follows.given (plan_of command)) ⊎ (end ≡ no_memory) → ComesToTold words shelf nodes files end
-        by_end (inl ends) = by_told (ends_told shelf files nodes end (rest_of follows.given (plan_of command))
-            (none_failed_later shelf files follows.given (plan_of command) told follows.gave well) ends)
+        by_end : EndsAt shelf nodes end (rest_of follows.given (plan_of request.shows command)) ⊎ (end ≡ no_memory) → ComesToTold request shelf nodes files end
+        by_end (inl ends) = by_told (ends_told shelf files nodes end (rest_of follows.given (plan_of request.shows command))
+            (none_failed_later shelf files follows.given (plan_of request.shows command) told follows.gave well) ends)
         by_end (inr lacks) = LacksMemory lacks
 
 told_as : (end same_end : Outcome) (out err : SinkCall) (status : ℕ) → IsTold end out err status → end ≡ same_end → IsTold same_end out err status
 told_as end same_end out err status whole same = let P : Outcome → Type 0 = λ o. IsTold o out err status in subst P same whole
 
-pub gives_answer : (words : List (List ℕ)) (shelf : ShelfCall) (nodes : Arena) (out err : SinkCall) (status : ℕ) → Runs words shelf nodes out err status
-    → GivesAnswer words shelf nodes out err status
-gives_answer words shelf nodes out err status runs = at_files shelf.files refl
+pub gives_answer : (request : Request) (shelf : ShelfCall) (nodes : Arena) (out err : SinkCall) (status : ℕ) → Runs request shelf nodes out err status
+    → GivesAnswer request shelf nodes out err status
+gives_answer request shelf nodes out err status runs = at_files shelf.files refl
   where
-    by_outcome : (files : Files) → IsTold runs.end out err status → ComesToTold words shelf nodes files runs.end
-        → IsTold (answer words files) out err status ⊎ (Reaches (MeetsLimit nodes) words shelf × (status ≡ 6)) ⊎ IsTold no_memory out err status
-    by_outcome files whole (GaveAnswer same) = inl (told_as runs.end (answer words files) out err status whole same)
+    by_outcome : (files : Files) → IsTold runs.end out err status → ComesToTold request shelf nodes files runs.end
+        → IsTold (answer request files) out err status ⊎ (Reaches (MeetsLimit nodes) request shelf × (status ≡ 6)) ⊎ IsTold no_memory out err status
+    by_outcome files whole (GaveAnswer same) = inl (told_as runs.end (answer request files) out err status whole same)
     by_outcome files whole (MetLimit met six) = inr (inl (met, whole.is ∙ six))
     by_outcome files whole (LacksMemory same) = inr (inr (told_as runs.end no_memory out err status whole same))
 
-    by_telling : (files : Files) → Tells runs.end out err status → ComesToTold words shelf nodes files runs.end → IsWell words shelf out err files
-        → IsTold (answer words files) out err status ⊎ (Reaches (MeetsLimit nodes) words shelf × (status ≡ 6)) ⊎ IsTold no_memory out err status
+    by_telling : (files : Files) → Tells runs.end out err status → ComesToTold request shelf nodes files runs.end → IsWell request shelf out err files
+        → IsTold (answer request files) out err status ⊎ (Reaches (MeetsLimit nodes) request shelf × (status ≡ 6)) ⊎ IsTold no_memory out err status
     by_telling files (inl whole) comes well = by_outcome files whole comes
     by_telling files (inr cut) comes well = absurd (elim cut.cause [ inl rose ↦ well.writes_out rose | inr rose ↦ well.writes_err rose ])
 
-    at_files : (told : Option Files) → shelf.files ≡ told → IfSome told (λ files. IsWell words shelf out err files
-        → IsTold (answer words files) out err status ⊎ (Reaches (MeetsLimit nodes) words shelf × (status ≡ 6)) ⊎ IsTold no_memory out err status)
+    at_files : (told : Option Files) → shelf.files ≡ told → IfSome told (λ files. IsWell request shelf out err files
+        → IsTold (answer request files) out err status ⊎ (Reaches (MeetsLimit nodes) request shelf × (status ≡ 6)) ⊎ IsTold no_memory out err status)
     at_files None is = tt
-    at_files (Some files) is = λ well. by_telling files runs.tells (comes_told words shelf nodes files runs.end is well.reads runs.comes) well
+    at_files (Some files) is = λ well. by_telling files runs.tells (comes_told request shelf nodes files runs.end is well.reads runs.comes) well
 
 -- a limit that is enough is not met
 not_met : (nodes : Arena) (rest : Plan) → IsEnoughFor rest → MeetsLimit nodes rest → ⊥
@@ -130,26 +131,26 @@ not_met nodes (Decides decision purpose) is met =
     let below = met.below.below is.width is.wide in
     absurd (omega (arith, below, is.within))
 
-not_limited : (words : List (List ℕ)) (shelf : ShelfCall) (nodes : Arena) → HasEnoughNodes words shelf → Reaches (MeetsLimit nodes) words shelf → ⊥
-not_limited words shelf nodes = by_command (command_of words)
+not_limited : (request : Request) (shelf : ShelfCall) (nodes : Arena) → HasEnoughNodes request shelf → Reaches (MeetsLimit nodes) request shelf → ⊥
+not_limited request shelf nodes = by_command (command_of request.words)
   where
     by_command : (asked : Option Command) → IfSome asked (λ command.
-        (given : List (List ℕ)) → AreGiven shelf.files given (plan_of command) → IsEnoughFor (rest_of given (plan_of command)))
-        → IsSomeAnd asked (λ command. Leads (MeetsLimit nodes) shelf (plan_of command)) → ⊥
+        (given : List (List ℕ)) → AreGiven shelf.files given (plan_of request.shows command) → IsEnoughFor (rest_of given (plan_of request.shows command)))
+        → IsSomeAnd asked (λ command. Leads (MeetsLimit nodes) shelf (plan_of request.shows command)) → ⊥
     by_command None has met = met
-    by_command (Some command) has met = not_met nodes (rest_of met.given (plan_of command)) (has met.given met.gave) met.holds
+    by_command (Some command) has met = not_met nodes (rest_of met.given (plan_of request.shows command)) (has met.given met.gave) met.holds
 
-pub is_complete : (words : List (List ℕ)) (shelf : ShelfCall) (nodes : Arena) (out err : SinkCall) (status : ℕ) → Runs words shelf nodes out err status
-    → IsComplete words shelf out err status
-is_complete words shelf nodes out err status runs = at_files shelf.files (gives_answer words shelf nodes out err status runs)
+pub is_complete : (request : Request) (shelf : ShelfCall) (nodes : Arena) (out err : SinkCall) (status : ℕ) → Runs request shelf nodes out err status
+    → IsComplete request shelf out err status
+is_complete request shelf nodes out err status runs = at_files shelf.files (gives_answer request shelf nodes out err status runs)
   where
     at_files : (told : Option Files)
-        → IfSome told (λ files. IsWell words shelf out err files
-        → IsTold (answer words files) out err status ⊎ (Reaches (MeetsLimit nodes) words shelf × (status ≡ 6)) ⊎ IsTold no_memory out err status)
-        → IfSome told (λ files. IsWell words shelf out err files → HasEnoughNodes words shelf
-        → IsTold (answer words files) out err status ⊎ IsTold no_memory out err status)
+        → IfSome told (λ files. IsWell request shelf out err files
+        → IsTold (answer request files) out err status ⊎ (Reaches (MeetsLimit nodes) request shelf × (status ≡ 6)) ⊎ IsTold no_memory out err status)
+        → IfSome told (λ files. IsWell request shelf out err files → HasEnoughNodes request shelf
+        → IsTold (answer request files) out err status ⊎ IsTold no_memory out err status)
     at_files None gives = tt
     at_files (Some files) gives = λ well has. elim (gives well) [
       | inl whole ↦ inl whole
-      | inr rest ↦ elim rest [ inl met ↦ absurd (not_limited words shelf nodes has met.0) | inr want ↦ inr want ]
+      | inr rest ↦ elim rest [ inl met ↦ absurd (not_limited request shelf nodes has met.0) | inr want ↦ inr want ]
     ]

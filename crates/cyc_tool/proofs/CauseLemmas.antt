@@ -22,7 +22,8 @@ use Rattle.cyc_tool.specs.Calls.{ShelfCall, SinkCall, WriteFailed, Takes, EndsAt
 use Rattle.cyc_tool.specs.Causes.{IsWithoutCommand, Leads, Reaches, IsFaulty, IsUnread, MeetsLimit, IsVerdict, IsDoneWith, HasRewritten, HasStormed}
 use Rattle.cyc_tool.specs.Endings.{ending_of, storm_or_refusal}
 use Rattle.cyc_tool.specs.Storms.{events_of, events_told, storm_text}
-use Rattle.cyc_tool.specs.Plans.{Ending, Prints, Refuses, Declines, Outgrows, Decision, Judges, Rewrites, Demonstrates, Storms, Plan, Reads, Faulty, Ends, Decides, plan_of}
+use Rattle.cyc_tool.specs.Plans.{Ending, Prints, PrintsBeside, Refuses, Declines, Outgrows, Decision, Judges, Rewrites, Demonstrates, Storms, Plan, Reads, Faulty, Ends, Decides, plan_of}
+use Rattle.cyc_tool.specs.Requests.{Request}
 use Rattle.cyc_tool.specs.Texts.{Outcome}
 use Rattle.commands.specs.Words.{Command, command_of}
 
@@ -50,6 +51,7 @@ data Shown (shelf : ShelfCall) (nodes : Arena) (rest : Plan) (status : ℕ) : Ty
 
 ending_status : (ending : Ending) (status : ℕ) → status ≡ status_of (told ending) → IsEndStatus status
 ending_status (Prints text) status is = Zero is
+ending_status (PrintsBeside text lines) status is = Zero is
 ending_status (Refuses text) status is = One is
 ending_status (Declines text) status is = One is
 ending_status (Outgrows size) status is = Eight is
@@ -74,50 +76,50 @@ shown_at shelf nodes end (Decides decision purpose) ends = by_decision ends.1
     by_decision (Limit limited same) = Full limited (ap status_of same)
 
 -- what a status shows of a run
-data Cause (words : List (List ℕ)) (shelf : ShelfCall) (nodes : Arena) (out err : SinkCall) (status : ℕ) : Type 0 where
-  OfWords : command_of words ≡ None → (status ≡ 2) ⊎ (status ≡ 7) → Cause words shelf nodes out err status
-  OfPlan : (command : Command) → command_of words ≡ Some command → Leads (λ rest. Shown shelf nodes rest status) shelf (plan_of command)
-      → Cause words shelf nodes out err status
-  OfMemory : (command : Command) → command_of words ≡ Some command → status ≡ 7 → Cause words shelf nodes out err status
-  OfWrite : WriteFailed out ⊎ WriteFailed err → status ≡ 5 → Cause words shelf nodes out err status
+data Cause (request : Request) (shelf : ShelfCall) (nodes : Arena) (out err : SinkCall) (status : ℕ) : Type 0 where
+  OfWords : command_of request.words ≡ None → (status ≡ 2) ⊎ (status ≡ 7) → Cause request shelf nodes out err status
+  OfPlan : (command : Command) → command_of request.words ≡ Some command → Leads (λ rest. Shown shelf nodes rest status) shelf (plan_of request.shows command)
+      → Cause request shelf nodes out err status
+  OfMemory : (command : Command) → command_of request.words ≡ Some command → status ≡ 7 → Cause request shelf nodes out err status
+  OfWrite : WriteFailed out ⊎ WriteFailed err → status ≡ 5 → Cause request shelf nodes out err status
 
-comes_by : (words : List (List ℕ)) (shelf : ShelfCall) (nodes : Arena) (out err : SinkCall) (end : Outcome) → ComesTo (command_of words) shelf nodes end
-    → Cause words shelf nodes out err end.status
-comes_by words shelf nodes out err end = by_command (command_of words) refl
+comes_by : (request : Request) (shelf : ShelfCall) (nodes : Arena) (out err : SinkCall) (end : Outcome) → ComesTo request.shows (command_of request.words) shelf nodes end
+    → Cause request shelf nodes out err end.status
+comes_by request shelf nodes out err end = by_command (command_of request.words) refl
   where
-    by_command : (asked : Option Command) → command_of words ≡ asked → ComesTo asked shelf nodes end → Cause words shelf nodes out err end.status
+    by_command : (asked : Option Command) → command_of request.words ≡ asked → ComesTo request.shows asked shelf nodes end → Cause request shelf nodes out err end.status
     by_command None is comes =
         OfWords is (elim comes.ends [ inl same ↦ inl (ap status_of same) | inr same ↦ inr (ap status_of same) ])
     by_command (Some command) is follows = elim follows.ends [
       | inl ends ↦ OfPlan command is (record {
         given = follows.given;
         gave = follows.gave;
-        holds = shown_at shelf nodes end (rest_of follows.given (plan_of command)) ends;
+        holds = shown_at shelf nodes end (rest_of follows.given (plan_of request.shows command)) ends;
       })
       | inr same ↦ OfMemory command is (ap status_of same)
     ]
 
-run_by : (words : List (List ℕ)) (shelf : ShelfCall) (nodes : Arena) (out err : SinkCall) (status : ℕ) → Runs words shelf nodes out err status
-    → Cause words shelf nodes out err status
-run_by words shelf nodes out err status runs = by_telling runs.tells
+run_by : (request : Request) (shelf : ShelfCall) (nodes : Arena) (out err : SinkCall) (status : ℕ) → Runs request shelf nodes out err status
+    → Cause request shelf nodes out err status
+run_by request shelf nodes out err status runs = by_telling runs.tells
   where
-    by_telling : Tells runs.end out err status → Cause words shelf nodes out err status
+    by_telling : Tells runs.end out err status → Cause request shelf nodes out err status
     by_telling (inl whole) =
-        let P : ℕ → Type 0 = Cause words shelf nodes out err in
-        subst P (sym whole.is) (comes_by words shelf nodes out err runs.end runs.comes)
+        let P : ℕ → Type 0 = Cause request shelf nodes out err in
+        subst P (sym whole.is) (comes_by request shelf nodes out err runs.end runs.comes)
     by_telling (inr cut) = OfWrite cut.cause cut.is
 
 -- a status of a plan that went on
-reached : (P : Plan → Type 0) (words : List (List ℕ)) (shelf : ShelfCall) (nodes : Arena) (out err : SinkCall) (status : ℕ)
+reached : (P : Plan → Type 0) (request : Request) (shelf : ShelfCall) (nodes : Arena) (out err : SinkCall) (status : ℕ)
     → ((rest : Plan) → Shown shelf nodes rest status → P rest) → status ≢ 2 → status ≢ 5 → status ≢ 7
-    → Cause words shelf nodes out err status → Reaches P words shelf
-reached P words shelf nodes out err status shows no_usage no_write no_lack (OfWords is (inl two)) = absurd (no_usage two)
-reached P words shelf nodes out err status shows no_usage no_write no_lack (OfWords is (inr seven)) = absurd (no_lack seven)
-reached P words shelf nodes out err status shows no_usage no_write no_lack (OfMemory command is seven) = absurd (no_lack seven)
-reached P words shelf nodes out err status shows no_usage no_write no_lack (OfWrite failed five) = absurd (no_write five)
-reached P words shelf nodes out err status shows no_usage no_write no_lack (OfPlan command is leads) =
-    let Q : Option Command → Type 0 = λ asked. IsSomeAnd asked (λ c. Leads P shelf (plan_of c)) in
-    subst Q (sym is) (record { given = leads.given; gave = leads.gave; holds = shows (rest_of leads.given (plan_of command)) leads.holds })
+    → Cause request shelf nodes out err status → Reaches P request shelf
+reached P request shelf nodes out err status shows no_usage no_write no_lack (OfWords is (inl two)) = absurd (no_usage two)
+reached P request shelf nodes out err status shows no_usage no_write no_lack (OfWords is (inr seven)) = absurd (no_lack seven)
+reached P request shelf nodes out err status shows no_usage no_write no_lack (OfMemory command is seven) = absurd (no_lack seven)
+reached P request shelf nodes out err status shows no_usage no_write no_lack (OfWrite failed five) = absurd (no_write five)
+reached P request shelf nodes out err status shows no_usage no_write no_lack (OfPlan command is leads) =
+    let Q : Option Command → Type 0 = λ asked. IsSomeAnd asked (λ c. Leads P shelf (plan_of request.shows c)) in
+    subst Q (sym is) (record { given = leads.given; gave = leads.gave; holds = shows (rest_of leads.given (plan_of request.shows command)) leads.holds })
 
 shows_fault : (shelf : ShelfCall) (nodes : Arena) (rest : Plan) (status : ℕ) → status ≡ 3 → Shown shelf nodes rest status → IsFaulty rest
 shows_fault shelf nodes rest status at (Unread cause is) = absurd (omega (arith, at, is))
@@ -144,58 +146,58 @@ shows_done shelf nodes rest status low (Done cause is) = cause
 shows_done shelf nodes rest status low (Full cause is) = absurd (no_other status 6 low is (omega arith) (omega arith))
 
 -- the cause of each status
-pub fault_cause : (words : List (List ℕ)) (shelf : ShelfCall) (nodes : Arena) (out err : SinkCall) (status : ℕ) → Runs words shelf nodes out err status
-    → status ≡ 3 → Reaches IsFaulty words shelf
-fault_cause words shelf nodes out err status runs at =
-    reached IsFaulty words shelf nodes out err status (λ rest. shows_fault shelf nodes rest status at)
-    (λ e. omega (arith, at, e)) (λ e. omega (arith, at, e)) (λ e. omega (arith, at, e)) (run_by words shelf nodes out err status runs)
+pub fault_cause : (request : Request) (shelf : ShelfCall) (nodes : Arena) (out err : SinkCall) (status : ℕ) → Runs request shelf nodes out err status
+    → status ≡ 3 → Reaches IsFaulty request shelf
+fault_cause request shelf nodes out err status runs at =
+    reached IsFaulty request shelf nodes out err status (λ rest. shows_fault shelf nodes rest status at)
+    (λ e. omega (arith, at, e)) (λ e. omega (arith, at, e)) (λ e. omega (arith, at, e)) (run_by request shelf nodes out err status runs)
 
-pub read_cause : (words : List (List ℕ)) (shelf : ShelfCall) (nodes : Arena) (out err : SinkCall) (status : ℕ) → Runs words shelf nodes out err status
-    → status ≡ 4 → Reaches (IsUnread shelf) words shelf
-read_cause words shelf nodes out err status runs at =
-    reached (IsUnread shelf) words shelf nodes out err status (λ rest. shows_unread shelf nodes rest status at)
-    (λ e. omega (arith, at, e)) (λ e. omega (arith, at, e)) (λ e. omega (arith, at, e)) (run_by words shelf nodes out err status runs)
+pub read_cause : (request : Request) (shelf : ShelfCall) (nodes : Arena) (out err : SinkCall) (status : ℕ) → Runs request shelf nodes out err status
+    → status ≡ 4 → Reaches (IsUnread shelf) request shelf
+read_cause request shelf nodes out err status runs at =
+    reached (IsUnread shelf) request shelf nodes out err status (λ rest. shows_unread shelf nodes rest status at)
+    (λ e. omega (arith, at, e)) (λ e. omega (arith, at, e)) (λ e. omega (arith, at, e)) (run_by request shelf nodes out err status runs)
 
-pub limit_cause : (words : List (List ℕ)) (shelf : ShelfCall) (nodes : Arena) (out err : SinkCall) (status : ℕ) → Runs words shelf nodes out err status
-    → status ≡ 6 → Reaches (MeetsLimit nodes) words shelf
-limit_cause words shelf nodes out err status runs at =
-    reached (MeetsLimit nodes) words shelf nodes out err status (λ rest. shows_limit shelf nodes rest status at)
-    (λ e. omega (arith, at, e)) (λ e. omega (arith, at, e)) (λ e. omega (arith, at, e)) (run_by words shelf nodes out err status runs)
+pub limit_cause : (request : Request) (shelf : ShelfCall) (nodes : Arena) (out err : SinkCall) (status : ℕ) → Runs request shelf nodes out err status
+    → status ≡ 6 → Reaches (MeetsLimit nodes) request shelf
+limit_cause request shelf nodes out err status runs at =
+    reached (MeetsLimit nodes) request shelf nodes out err status (λ rest. shows_limit shelf nodes rest status at)
+    (λ e. omega (arith, at, e)) (λ e. omega (arith, at, e)) (λ e. omega (arith, at, e)) (run_by request shelf nodes out err status runs)
 
-pub done_cause : (words : List (List ℕ)) (shelf : ShelfCall) (nodes : Arena) (out err : SinkCall) (status known : ℕ) → Runs words shelf nodes out err status
-    → IsEndStatus known → status ≡ known → Reaches (IsDoneWith known) words shelf
-done_cause words shelf nodes out err status known runs low at =
-    let P : ℕ → Type 0 = λ n. Reaches (IsDoneWith n) words shelf in
+pub done_cause : (request : Request) (shelf : ShelfCall) (nodes : Arena) (out err : SinkCall) (status known : ℕ) → Runs request shelf nodes out err status
+    → IsEndStatus known → status ≡ known → Reaches (IsDoneWith known) request shelf
+done_cause request shelf nodes out err status known runs low at =
+    let P : ℕ → Type 0 = λ n. Reaches (IsDoneWith n) request shelf in
     let here : IsEndStatus status = subst IsEndStatus (sym at) low in
-    subst P at (reached (IsDoneWith status) words shelf nodes out err status (λ rest. shows_done shelf nodes rest status here)
+    subst P at (reached (IsDoneWith status) request shelf nodes out err status (λ rest. shows_done shelf nodes rest status here)
     (λ is. no_other status 2 here is (omega arith) (omega arith)) (λ is. no_other status 5 here is (omega arith) (omega arith))
-    (λ is. no_other status 7 here is (omega arith) (omega arith)) (run_by words shelf nodes out err status runs))
+    (λ is. no_other status 7 here is (omega arith) (omega arith)) (run_by request shelf nodes out err status runs))
 
-pub write_cause : (words : List (List ℕ)) (shelf : ShelfCall) (nodes : Arena) (out err : SinkCall) (status : ℕ) → Runs words shelf nodes out err status
+pub write_cause : (request : Request) (shelf : ShelfCall) (nodes : Arena) (out err : SinkCall) (status : ℕ) → Runs request shelf nodes out err status
     → status ≡ 5 → WriteFailed out ⊎ WriteFailed err
-write_cause words shelf nodes out err status runs at = by_telling runs.tells
+write_cause request shelf nodes out err status runs at = by_telling runs.tells
   where
-    not_five : Cause words shelf nodes out err runs.end.status → runs.end.status ≡ 5 → WriteFailed out ⊎ WriteFailed err
+    not_five : Cause request shelf nodes out err runs.end.status → runs.end.status ≡ 5 → WriteFailed out ⊎ WriteFailed err
     not_five (OfWords is (inl two)) e = absurd (omega (arith, two, e))
     not_five (OfWords is (inr seven)) e = absurd (omega (arith, seven, e))
     not_five (OfMemory command is seven) e = absurd (omega (arith, seven, e))
     not_five (OfWrite failed five) e = failed
     not_five (OfPlan command is leads) e = absurd (by_shown leads.holds)
       where
-        by_shown : Shown shelf nodes (rest_of leads.given (plan_of command)) runs.end.status → ⊥
+        by_shown : Shown shelf nodes (rest_of leads.given (plan_of request.shows command)) runs.end.status → ⊥
         by_shown (Unread cause four) = omega (arith, four, e)
         by_shown (Fault cause three) = omega (arith, three, e)
         by_shown (Done cause low) = no_other _ 5 low e (omega arith) (omega arith)
         by_shown (Full cause six) = omega (arith, six, e)
 
     by_telling : Tells runs.end out err status → WriteFailed out ⊎ WriteFailed err
-    by_telling (inl whole) = not_five (comes_by words shelf nodes out err runs.end runs.comes) (sym whole.is ∙ at)
+    by_telling (inl whole) = not_five (comes_by request shelf nodes out err runs.end runs.comes) (sym whole.is ∙ at)
     by_telling (inr cut) = cut.cause
 
 -- words outside the grammar, and words in it
-pub usage_cause : (words : List (List ℕ)) (shelf : ShelfCall) (nodes : Arena) (out err : SinkCall) (status : ℕ) → Runs words shelf nodes out err status
-    → status ≡ 2 → command_of words ≡ None
-usage_cause words shelf nodes out err status runs at = by_cause (run_by words shelf nodes out err status runs)
+pub usage_cause : (request : Request) (shelf : ShelfCall) (nodes : Arena) (out err : SinkCall) (status : ℕ) → Runs request shelf nodes out err status
+    → status ≡ 2 → command_of request.words ≡ None
+usage_cause request shelf nodes out err status runs at = by_cause (run_by request shelf nodes out err status runs)
   where
     by_shown : (rest : Plan) → Shown shelf nodes rest status → ⊥
     by_shown rest (Unread cause four) = omega (arith, four, at)
@@ -203,26 +205,26 @@ usage_cause words shelf nodes out err status runs at = by_cause (run_by words sh
     by_shown rest (Done cause low) = no_other status 2 low at (omega arith) (omega arith)
     by_shown rest (Full cause six) = omega (arith, six, at)
 
-    by_cause : Cause words shelf nodes out err status → command_of words ≡ None
+    by_cause : Cause request shelf nodes out err status → command_of request.words ≡ None
     by_cause (OfWords is low) = is
-    by_cause (OfPlan command is leads) = absurd (by_shown (rest_of leads.given (plan_of command)) leads.holds)
+    by_cause (OfPlan command is leads) = absurd (by_shown (rest_of leads.given (plan_of request.shows command)) leads.holds)
     by_cause (OfMemory command is seven) = absurd (omega (arith, seven, at))
     by_cause (OfWrite failed five) = absurd (omega (arith, five, at))
 
-pub usage_told : (words : List (List ℕ)) (shelf : ShelfCall) (nodes : Arena) (out err : SinkCall) (status : ℕ) → Runs words shelf nodes out err status
-    → IsWithoutCommand (command_of words) status
-usage_told words shelf nodes out err status runs = by_command (command_of words) refl
+pub usage_told : (request : Request) (shelf : ShelfCall) (nodes : Arena) (out err : SinkCall) (status : ℕ) → Runs request shelf nodes out err status
+    → IsWithoutCommand (command_of request.words) status
+usage_told request shelf nodes out err status runs = by_command (command_of request.words) refl
   where
-    low : (asked : Option Command) → command_of words ≡ asked → asked ≡ None → Cause words shelf nodes out err status → status ≡ 2 ⊎ status ≡ 5 ⊎ status ≡ 7
+    low : (asked : Option Command) → command_of request.words ≡ asked → asked ≡ None → Cause request shelf nodes out err status → status ≡ 2 ⊎ status ≡ 5 ⊎ status ≡ 7
     low asked here none (OfWords is (inl two)) = inl two
     low asked here none (OfWords is (inr seven)) = inr (inr seven)
     low asked here none (OfPlan command is leads) = absurd (none-some command (sym none ∙ sym here ∙ is))
     low asked here none (OfMemory command is seven) = inr (inr seven)
     low asked here none (OfWrite failed five) = inr (inl five)
 
-    by_command : (asked : Option Command) → command_of words ≡ asked → IsWithoutCommand asked status
-    by_command None is = low None is refl (run_by words shelf nodes out err status runs)
-    by_command (Some command) is = λ two. none-some command (sym (usage_cause words shelf nodes out err status runs two) ∙ is)
+    by_command : (asked : Option Command) → command_of request.words ≡ asked → IsWithoutCommand asked status
+    by_command None is = low None is refl (run_by request shelf nodes out err status runs)
+    by_command (Some command) is = λ two. none-some command (sym (usage_cause request shelf nodes out err status runs two) ∙ is)
 
 -- what was put on out to rewrite
 has_rewritten : (shelf : ShelfCall) (nodes : Arena) (out : SinkCall) (end : Outcome) (rest : Plan) → end.status ≡ 0 → Takes out end.out
@@ -302,40 +304,40 @@ has_stormed law shelf nodes out end (Decides decision (Storms rounds)) done took
     by_decision (Limit limited same) = absurd (let six = ap status_of same in omega (arith, done, six))
 
 -- what a call with status 0 put on out
-leads_done : (P : Plan → Type 0) (words : List (List ℕ)) (shelf : ShelfCall) (nodes : Arena) (out err : SinkCall) (status : ℕ)
+leads_done : (P : Plan → Type 0) (request : Request) (shelf : ShelfCall) (nodes : Arena) (out err : SinkCall) (status : ℕ)
     → ((end : Outcome) (rest : Plan) → end.status ≡ 0 → Takes out end.out → EndsAt shelf nodes end rest → P rest)
-    → Runs words shelf nodes out err status → status ≡ 0 → Reaches P words shelf
-leads_done P words shelf nodes out err status shows runs at = by_telling runs.tells
+    → Runs request shelf nodes out err status → status ≡ 0 → Reaches P request shelf
+leads_done P request shelf nodes out err status shows runs at = by_telling runs.tells
   where
     leading : Option Command → Type 0
-    leading asked = IsSomeAnd asked (λ command. Leads P shelf (plan_of command))
+    leading asked = IsSomeAnd asked (λ command. Leads P shelf (plan_of request.shows command))
 
-    by_end : (command : Command) → runs.end.status ≡ 0 → Takes out runs.end.out → Follows (plan_of command) shelf nodes runs.end
-        → Leads P shelf (plan_of command)
+    by_end : (command : Command) → runs.end.status ≡ 0 → Takes out runs.end.out → Follows (plan_of request.shows command) shelf nodes runs.end
+        → Leads P shelf (plan_of request.shows command)
     by_end command done took follows = elim follows.ends [
       | inl ends ↦ record {
         given = follows.given;
         gave = follows.gave;
-        holds = shows runs.end (rest_of follows.given (plan_of command)) done took ends;
+        holds = shows runs.end (rest_of follows.given (plan_of request.shows command)) done took ends;
       }
       | inr same ↦ absurd (let seven = ap status_of same in omega (arith, done, seven))
     ]
 
-    by_command : (asked : Option Command) → runs.end.status ≡ 0 → Takes out runs.end.out → ComesTo asked shelf nodes runs.end → leading asked
+    by_command : (asked : Option Command) → runs.end.status ≡ 0 → Takes out runs.end.out → ComesTo request.shows asked shelf nodes runs.end → leading asked
     by_command None done took comes = absurd (elim comes.ends [
       | inl same ↦ (let two = ap status_of same in omega (arith, done, two))
       | inr same ↦ (let seven = ap status_of same in omega (arith, done, seven))
     ])
     by_command (Some command) done took follows = by_end command done took follows
 
-    by_telling : Tells runs.end out err status → Reaches P words shelf
-    by_telling (inl whole) = by_command (command_of words) (sym whole.is ∙ at) whole.out_text runs.comes
+    by_telling : Tells runs.end out err status → Reaches P request shelf
+    by_telling (inl whole) = by_command (command_of request.words) (sym whole.is ∙ at) whole.out_text runs.comes
     by_telling (inr cut) = absurd (let five = cut.is in omega (arith, at, five))
 
-pub rewritten_cause : (words : List (List ℕ)) (shelf : ShelfCall) (nodes : Arena) (out err : SinkCall) (status : ℕ) → Runs words shelf nodes out err status
-    → status ≡ 0 → Reaches (HasRewritten out) words shelf
-rewritten_cause words shelf nodes out err status = leads_done (HasRewritten out) words shelf nodes out err status (has_rewritten shelf nodes out)
+pub rewritten_cause : (request : Request) (shelf : ShelfCall) (nodes : Arena) (out err : SinkCall) (status : ℕ) → Runs request shelf nodes out err status
+    → status ≡ 0 → Reaches (HasRewritten out) request shelf
+rewritten_cause request shelf nodes out err status = leads_done (HasRewritten out) request shelf nodes out err status (has_rewritten shelf nodes out)
 
-pub stormed_cause : StormsNeverRest → (words : List (List ℕ)) (shelf : ShelfCall) (nodes : Arena) (out err : SinkCall) (status : ℕ) → Runs words shelf nodes out err status
-    → status ≡ 0 → Reaches (HasStormed out) words shelf
-stormed_cause law words shelf nodes out err status = leads_done (HasStormed out) words shelf nodes out err status (has_stormed law shelf nodes out)
+pub stormed_cause : StormsNeverRest → (request : Request) (shelf : ShelfCall) (nodes : Arena) (out err : SinkCall) (status : ℕ) → Runs request shelf nodes out err status
+    → status ≡ 0 → Reaches (HasStormed out) request shelf
+stormed_cause law request shelf nodes out err status = leads_done (HasStormed out) request shelf nodes out err status (has_stormed law shelf nodes out)

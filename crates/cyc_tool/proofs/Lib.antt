@@ -3,6 +3,7 @@ pub mod CauseLemmas
 pub mod DecisionLemmas
 pub mod PlanLemmas
 pub mod ReadingLemmas
+pub mod ReplayLemmas
 pub mod RingLemmas
 pub mod RunLemmas
 pub mod StormLemmas

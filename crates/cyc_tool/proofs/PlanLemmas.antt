@@ -1,5 +1,5 @@
 -- Going along a plan, from one part of a call to the next.
-use Rattle.std.proofs.Common.{arith, ◌≡◌, ◌≢◌, ◌⊎◌, ℕ, ◌≤◌, List, [], ◌∷◌, ◌++◌, Some, None, Ok, Err, refl, sym, ap, subst, ◌∙◌, inl, inr}
+use Rattle.std.proofs.Common.{arith, ◌≡◌, ◌≢◌, ◌⊎◌, ℕ, ◌≤◌, List, [], ◌∷◌, ◌++◌, Some, None, Ok, refl, sym, ap, subst, ◌∙◌, inl, inr}
 use Rattle.std.specs.declared.result.Result.{Result}
 use Rattle.std.specs.List.{AllByRecursion}
 use Rattle.std.specs.declared.option.Option.{Option}
@@ -11,8 +11,8 @@ use Rattle.cyc_tool.specs.Calls.{AreGiven, rest_of, names_read, EndsAt, Follows}
 use Rattle.contents.specs.Faults.{Fault, IsErrorOf}
 use Rattle.cyc_tool.specs.Answer.{told}
 use Rattle.cyc_tool.specs.Plans.{Ending, Plan, Reads, Faulty, Ends, Decides, using}
-use Rattle.cyc_tool.specs.Reading.{FollowsAlone, FollowsStill, FollowsStillAlone, GoesOn, IsStoppedBy, LeadsTo, StopsAt, StopsIn}
-use Rattle.cyc_tool.specs.Texts.{Outcome, has_fault, no_memory}
+use Rattle.cyc_tool.specs.Reading.{FollowsAlone, FollowsStillAlone, GoesOn, IsStoppedBy, LeadsTo, StopsAt, StopsIn}
+use Rattle.cyc_tool.specs.Texts.{Outcome, no_memory}
 
 -- texts that are given one after another
 gave_more : (files : Option Files) (given more : List (List ℕ)) (plan : Plan) → AreGiven files given plan → AreGiven files more (rest_of given plan)

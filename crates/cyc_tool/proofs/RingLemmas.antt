@@ -2,9 +2,6 @@
 use Rattle.std.proofs.Common.{◌≡◌, ◌⊎◌, ℕ, List, Ok, sym, ap, subst, ◌∙◌}
 use Rattle.bdd_store.specs.Arena.{Arena}
 use Rattle.care_sets.specs.Care.{CareSet}
-use Rattle.cyc_io.specs.Files.{Files}
-use Rattle.cyc_io.specs.Faults.{Counts}
-use Rattle.std.specs.declared.option.Option.{Option}
 use Rattle.contents.specs.CareFiles.{care_of}
 use Rattle.contents.specs.NetlistFiles.{netlist_of}
 use Rattle.maker.specs.Ring.{ring_text, care_text}

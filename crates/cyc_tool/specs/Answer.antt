@@ -1,5 +1,4 @@
--- The answer to the words of a call, as a function of its files.
-use Rattle.std.specs.Prelude.{ℕ, List}
+-- The answer to a request, as a function of its files.
 use Rattle.std.specs.declared.option.Option.{Option}
 use Rattle.std.specs.Option.{option_map_or}
 use Rattle.cyc_io.specs.Files.{Files}
@@ -8,12 +7,14 @@ use Rattle.refusals.specs.declared.refusal.Refusal.{Refusal}
 use Rattle.report.specs.Messages.{too_large_text}
 use Rattle.commands.specs.Words.{command_of}
 use Rattle.cyc_tool.specs.Endings.{ending_of}
-use Rattle.cyc_tool.specs.Plans.{Ending, Prints, Refuses, Declines, Outgrows, Decision, Purpose, Plan, Reads, Faulty, Ends, Decides, plan_of}
-use Rattle.cyc_tool.specs.Texts.{Outcome, on_out, on_err, usage, has_fault, read_failed}
+use Rattle.cyc_tool.specs.Plans.{Ending, Prints, PrintsBeside, Refuses, Declines, Outgrows, Decision, Purpose, Plan, Reads, Faulty, Ends, Decides, plan_of}
+use Rattle.cyc_tool.specs.Requests.{Request}
+use Rattle.cyc_tool.specs.Texts.{Outcome, on_out, on_both, on_err, usage, has_fault, read_failed}
 
 -- the outcome of an ending
 abbrev pub told : Ending → Outcome
 told (Prints text) = on_out 0 text
+told (PrintsBeside text lines) = on_both 0 text lines
 told (Refuses text) = on_out 1 text
 told (Declines text) = on_err 1 text
 told (Outgrows size) = on_err 8 (too_large_text size)
@@ -33,6 +34,6 @@ outcome_at files (Faulty name fault) = has_fault name fault
 outcome_at files (Ends ending) = told ending
 outcome_at files (Decides decision purpose) = decided decision purpose (verdict_of decision)
 
--- the answer to words, where these are the files
-abbrev pub answer : List (List ℕ) → Files → Outcome
-answer words files = option_map_or (λ command. outcome_at files (plan_of command)) (command_of words) usage
+-- the answer to a request, where these are the files
+abbrev pub answer : Request → Files → Outcome
+answer request files = option_map_or (λ command. outcome_at files (plan_of request.shows command)) (command_of request.words) usage

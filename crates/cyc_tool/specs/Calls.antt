@@ -19,6 +19,7 @@ use Rattle.rewriting.specs.Rewriting.{rewritten, rewritten_size, IsRewriting}
 use Rattle.cyc_tool.specs.Answer.{told, decided, verdict_of}
 use Rattle.cyc_tool.specs.Endings.{accepted_told}
 use Rattle.cyc_tool.specs.Plans.{Role, Netlist, Care, Vectors, Recorded, Decision, Purpose, Judges, Rewrites, Demonstrates, Storms, Plan, Reads, Faulty, Ends, Decides, plan_of}
+use Rattle.cyc_tool.specs.Requests.{Request, Shows}
 use Rattle.cyc_tool.specs.Texts.{Outcome, usage, has_fault, read_failed, limit_reached, no_memory}
 
 -- a shelf over a call: its files, where it tells them, and its counts of faults before and after
@@ -126,9 +127,9 @@ pub record ComesToUsage (shelf : ShelfCall) (end : Outcome) : Type 0 where
   pub counts : ChangesCountsOf [] shelf
   pub ends : (end ≡ usage) ⊎ (end ≡ no_memory)
 
-abbrev pub ComesTo : Option Command → ShelfCall → Arena → Outcome → Type 0
-ComesTo None shelf nodes end = ComesToUsage shelf end
-ComesTo (Some command) shelf nodes end = Follows (plan_of command) shelf nodes end
+abbrev pub ComesTo : Shows → Option Command → ShelfCall → Arena → Outcome → Type 0
+ComesTo shows None shelf nodes end = ComesToUsage shelf end
+ComesTo shows (Some command) shelf nodes end = Follows (plan_of shows command) shelf nodes end
 
 -- This was told whole.
 pub record IsTold (end : Outcome) (out err : SinkCall) (status : ℕ) : Type 0 where
@@ -136,19 +137,21 @@ pub record IsTold (end : Outcome) (out err : SinkCall) (status : ℕ) : Type 0 w
   pub out_text : Takes out end.out
   pub err_text : Takes err end.err
 
--- A write failed: the status is 5, and each sink took a prefix of its text.
+-- A write failed: the status is 5, and each sink took a prefix of its text. Out is written first, so err took nothing
+-- where out isn't whole.
 pub record IsCutOff (end : Outcome) (out err : SinkCall) (status : ℕ) : Type 0 where
   pub is : status ≡ 5
   pub cause : WriteFailed out ⊎ WriteFailed err
   pub out_text : TakesPrefix out end.out
   pub err_text : TakesPrefix err end.err
+  pub in_order : Takes out end.out ⊎ Takes err []
 
 -- Status 5 takes the place of any other.
 abbrev pub Tells : Outcome → SinkCall → SinkCall → ℕ → Type 0
 Tells end out err status = IsTold end out err status ⊎ IsCutOff end out err status
 
 -- the theorem of a run, from which all the others follow
-pub record Runs (words : List (List ℕ)) (shelf : ShelfCall) (nodes : Arena) (out err : SinkCall) (status : ℕ) : Type 0 where
+pub record Runs (request : Request) (shelf : ShelfCall) (nodes : Arena) (out err : SinkCall) (status : ℕ) : Type 0 where
   pub end : Outcome
-  pub comes : ComesTo (command_of words) shelf nodes end
+  pub comes : ComesTo request.shows (command_of request.words) shelf nodes end
   pub tells : Tells end out err status

@@ -17,7 +17,8 @@ use Rattle.cyc_tool.specs.Storms.{storm_text}
 use Rattle.rewriting.specs.Rewriting.{rewritten, IsRewriting}
 use Rattle.cyc_tool.specs.Answer.{told, decided, verdict_of, answer}
 use Rattle.cyc_tool.specs.Calls.{ShelfCall, SinkCall, ReadFailed, WriteFailed, Takes, AreGiven, rest_of, IsLimited, IsTold}
-use Rattle.cyc_tool.specs.Plans.{Decision, Purpose, Judges, Rewrites, Demonstrates, Storms, Plan, Reads, Faulty, Ends, Decides, plan_of}
+use Rattle.cyc_tool.specs.Plans.{Decision, Rewrites, Storms, Plan, Reads, Faulty, Ends, Decides, plan_of}
+use Rattle.cyc_tool.specs.Requests.{Request}
 use Rattle.cyc_tool.specs.Texts.{no_memory}
 
 -- Words outside the grammar get their status, unless a write failed or memory ran out.
@@ -31,9 +32,9 @@ pub record Leads (P : Plan → Type 0) (shelf : ShelfCall) (plan : Plan) : Type 
   pub gave : AreGiven shelf.files given plan
   pub holds : P (rest_of given plan)
 
--- The same for the plan of words that are a command.
-abbrev pub Reaches : (Plan → Type 0) → List (List ℕ) → ShelfCall → Type 0
-Reaches P words shelf = IsSomeAnd (command_of words) (λ command. Leads P shelf (plan_of command))
+-- The same for the plan of a request whose words are a command.
+abbrev pub Reaches : (Plan → Type 0) → Request → ShelfCall → Type 0
+Reaches P request shelf = IsSomeAnd (command_of request.words) (λ command. Leads P shelf (plan_of request.shows command))
 
 -- The file that was read has a fault.
 abbrev pub IsFaulty : Plan → Type 0
@@ -98,16 +99,16 @@ NoneFailed shelf files (Reads role name next) =
 NoneFailed shelf files plan = Unit {0}
 
 -- The files are told, no read failed of one that is there, and no write.
-pub record IsWell (words : List (List ℕ)) (shelf : ShelfCall) (out err : SinkCall) (files : Files) : Type 0 where
-  pub reads : IfSome (command_of words) (λ command. NoneFailed shelf files (plan_of command))
+pub record IsWell (request : Request) (shelf : ShelfCall) (out err : SinkCall) (files : Files) : Type 0 where
+  pub reads : IfSome (command_of request.words) (λ command. NoneFailed shelf files (plan_of request.shows command))
   pub writes_out : WriteFailed out → ⊥
   pub writes_err : WriteFailed err → ⊥
 
 -- Over files that are told, where no read or write failed, the call gives the answer, or met the limit of nodes, or
 -- wants memory.
-abbrev pub GivesAnswer : List (List ℕ) → ShelfCall → Arena → SinkCall → SinkCall → ℕ → Type 0
-GivesAnswer words shelf nodes out err status = IfSome shelf.files (λ files. IsWell words shelf out err files
-    → IsTold (answer words files) out err status ⊎ (Reaches (MeetsLimit nodes) words shelf × (status ≡ 6)) ⊎ IsTold no_memory out err status)
+abbrev pub GivesAnswer : Request → ShelfCall → Arena → SinkCall → SinkCall → ℕ → Type 0
+GivesAnswer request shelf nodes out err status = IfSome shelf.files (λ files. IsWell request shelf out err files
+    → IsTold (answer request files) out err status ⊎ (Reaches (MeetsLimit nodes) request shelf × (status ≡ 6)) ⊎ IsTold no_memory out err status)
 
 -- The limit of the decision that is next is enough.
 abbrev pub IsEnoughFor : Plan → Type 0
@@ -115,14 +116,14 @@ IsEnoughFor (Decides decision purpose) = IsEnough decision.net decision.care dec
 IsEnoughFor plan = Unit {0}
 
 -- It is enough for whatever the shelf gave. A command that doesn't decide has none.
-abbrev pub HasEnoughNodes : List (List ℕ) → ShelfCall → Type 0
-HasEnoughNodes words shelf = IfSome (command_of words) (λ command.
-    (given : List (List ℕ)) → AreGiven shelf.files given (plan_of command) → IsEnoughFor (rest_of given (plan_of command)))
+abbrev pub HasEnoughNodes : Request → ShelfCall → Type 0
+HasEnoughNodes request shelf = IfSome (command_of request.words) (λ command.
+    (given : List (List ℕ)) → AreGiven shelf.files given (plan_of request.shows command) → IsEnoughFor (rest_of given (plan_of request.shows command)))
 
 -- With enough nodes it gives the answer, or wants memory.
-abbrev pub IsComplete : List (List ℕ) → ShelfCall → SinkCall → SinkCall → ℕ → Type 0
-IsComplete words shelf out err status = IfSome shelf.files (λ files. IsWell words shelf out err files
-    → HasEnoughNodes words shelf → IsTold (answer words files) out err status ⊎ IsTold no_memory out err status)
+abbrev pub IsComplete : Request → ShelfCall → SinkCall → SinkCall → ℕ → Type 0
+IsComplete request shelf out err status = IfSome shelf.files (λ files. IsWell request shelf out err files
+    → HasEnoughNodes request shelf → IsTold (answer request files) out err status ⊎ IsTold no_memory out err status)
 
 -- what the next call may rest on: no count of faults fell
 pub record NoneFell (shelf : ShelfCall) (out err : SinkCall) : Type 0 where

@@ -3,6 +3,7 @@ pub mod Simulation
 pub mod Plays
 pub mod Storms
 pub mod Texts
+pub mod Requests
 pub mod Plans
 pub mod Endings
 pub mod Answer

@@ -1,11 +1,15 @@
 -- What a call does for its command, step by step: which files it reads, and what comes of what they mean.
-use Rattle.std.specs.Prelude.{ℕ, Bool, true, false, List, length, Some, None, Ok, Err, unwrap_or, codes}
+use Rattle.std.specs.Prelude.{ℕ, Bool, true, false, List, length, ◌++◌, Some, None, Ok, Err, unwrap_or, codes}
 use Rattle.std.specs.declared.option.Option.{Option}
 use Rattle.std.specs.declared.result.Result.{Result}
 use Rattle.cyc_base.specs.declared.limits.TheConstants.{DEFAULT_NODES}
 use Rattle.cyc_base.specs.declared.trit.Trit.{Trit}
 use Rattle.netlist.specs.declared.parts.Parts.{Parts}
 use Rattle.delay_core.specs.declared.plan.Schedule.{Schedule}
+use Rattle.probes.specs.Changes.{changes}
+use Rattle.probes.specs.declared.kind.Kind.{Kind}
+use Rattle.probes.specs.declared.kind.Kind.TheVariants.{Vcd}
+use Rattle.delay_core.specs.declared.change.Change.{Change}
 use Rattle.blif_write.specs.Written.{written}
 use Rattle.care_sets.specs.Care.{CareSet}
 use Rattle.refusals.specs.declared.observe.Observe.{Observe}
@@ -18,6 +22,7 @@ use Rattle.contents.specs.ScheduleFiles.{vectors_of, schedule_of}
 use Rattle.maker.specs.Ring.{ring_text, care_text}
 use Rattle.report.specs.LoopTexts.{loops_text}
 use Rattle.cyc_tool.specs.Plays.{known, played, delays_text}
+use Rattle.cyc_tool.specs.Requests.{Shows}
 use Rattle.cyc_tool.specs.Simulation.{sim_text}
 
 -- the part that a file plays
@@ -31,6 +36,8 @@ pub data Role : Type 0 where
 pub data Ending : Type 0 where
   -- its result
   Prints : List ℕ → Ending
+  -- its result, which stands alone on out, and lines beside it
+  PrintsBeside : List ℕ → List ℕ → Ending
   -- why the netlist is refused, which is a result
   Refuses : List ℕ → Ending
   -- the same in place of a result
@@ -111,12 +118,36 @@ ring_care_file = codes "ring.care"
 abbrev pub ring_decision : Parts → CareSet → Decision
 ring_decision net care = record { net = net; care = care; limit = DEFAULT_NODES; observe = observe.All }
 
--- what comes of a recorded schedule on these vectors: a fault of its play is one of its file
-abbrev pub playing : List ℕ → Parts → List (List Bool) → Schedule → Plan
-playing recorded net vectors schedule = using recorded (played net vectors schedule) (λ ends. Ends (Prints (delays_text ends)))
+-- what is told of a run with these lines of its ticks, of which probes of a kind show this: a dump stands alone on out
+abbrev pub probed_told : Kind → List ℕ → List ℕ → Ending
+probed_told Vcd lines text = PrintsBeside text lines
+probed_told kind lines text = Prints (lines ++ text)
 
-abbrev pub play_on : List ℕ → Parts → List (List Bool) → Plan
-play_on recorded net vectors = with_schedule recorded net (length vectors) (λ schedule. playing recorded net vectors schedule)
+-- what is told of a run with these changes, where the changes are told to the probes of a kind or to none
+abbrev pub run_told : Shows → Option Kind → Parts → List Change → List ℕ → Ending
+run_told shows None net changes lines = Prints lines
+run_told shows (Some kind) net changes lines = probed_told kind lines (shows kind net changes)
+
+-- what comes of a recorded schedule on these vectors: a fault of its play is one of its file
+abbrev pub playing : Shows → Option Kind → List ℕ → Parts → List (List Bool) → Schedule → Plan
+playing shows probe recorded net vectors schedule =
+    using recorded (played net vectors schedule) (λ ends. Ends (run_told shows probe net (changes net schedule vectors) (delays_text ends)))
+
+abbrev pub play_on : Shows → Option Kind → List ℕ → Parts → List (List Bool) → Plan
+play_on shows probe recorded net vectors = with_schedule recorded net (length vectors) (λ schedule. playing shows probe recorded net vectors schedule)
+
+abbrev pub flattening : List ℕ → Plan
+flattening file = with_netlist file (λ net. Ends (Prints (written net)))
+
+abbrev pub finding_loops : List ℕ → Plan
+finding_loops file = with_netlist file (λ net. Ends (Prints (loops_text net)))
+
+abbrev pub simulating : List ℕ → List ℕ → Plan
+simulating file vectors = with_netlist file (λ net. with_vectors vectors net true (λ found. Ends (Prints (sim_text net found))))
+
+abbrev pub replaying : Shows → Option Kind → List ℕ → List ℕ → List ℕ → Plan
+replaying shows probe file vectors recorded =
+    with_netlist file (λ net. with_vectors vectors net false (λ found. play_on shows probe recorded net (known found)))
 
 -- the decision of the ring arbiter of so many cells
 abbrev pub ring_deciding : ℕ → Plan
@@ -126,14 +157,12 @@ ring_deciding cells =
 
 -- The files of a command are read in the order netlist, care file, vectors, schedule, and all faults of one are looked
 -- for before the next is read.
-abbrev pub plan_of : Command → Plan
-plan_of (Check file options) = deciding file options Judges
-plan_of (Rewrite file options) = deciding file options Rewrites
-plan_of (Flat file) = with_netlist file (λ net. Ends (Prints (written net)))
-plan_of (Loops file) = with_netlist file (λ net. Ends (Prints (loops_text net)))
-plan_of (Sim file vectors) =
-    with_netlist file (λ net. with_vectors vectors net true (λ found. Ends (Prints (sim_text net found))))
-plan_of (Delays file vectors recorded) =
-    with_netlist file (λ net. with_vectors vectors net false (λ found. play_on recorded net (known found)))
-plan_of (Demo cells) = ring_deciding cells
-plan_of (Storm file rounds options) = deciding file options (Storms rounds)
+abbrev pub plan_of : Shows → Command → Plan
+plan_of shows (Check file options) = deciding file options Judges
+plan_of shows (Rewrite file options) = deciding file options Rewrites
+plan_of shows (Flat file) = flattening file
+plan_of shows (Loops file) = finding_loops file
+plan_of shows (Sim file vectors) = simulating file vectors
+plan_of shows (Delays file vectors recorded probe) = replaying shows probe file vectors recorded
+plan_of shows (Demo cells) = ring_deciding cells
+plan_of shows (Storm file rounds options) = deciding file options (Storms rounds)

@@ -1,5 +1,5 @@
 -- What `storm` prints of a vector: its inputs, as a comment, and its storm as a schedule file.
-use Rattle.std.specs.Prelude.{ℕ, Bool, List, [], ◌∷◌, ◌++◌, ◌^◌, ◌-◌, length, take, min, nat_le, codes, if◌then◌else◌}
+use Rattle.std.specs.Prelude.{ℕ, Bool, List, [], ◌∷◌, ◌++◌, ◌^◌, ◌-◌, length, take, min, codes}
 use Rattle.std.specs.List.{flat_map}
 use Rattle.cyc_base.specs.Values.{bits}
 use Rattle.netlist.specs.declared.parts.Parts.{Parts}
@@ -7,7 +7,7 @@ use Rattle.netlist.specs.Fixpoint.{fix}
 use Rattle.report.specs.Ticks.{bit_text}
 use Rattle.sched_text.specs.Written.{written}
 use Rattle.storm.specs.Plans.{plan_at}
-use Rattle.storm.specs.Storms.{most_events, storm_events, storm_of}
+use Rattle.storm.specs.Storms.{storm_events, storm_of}
 
 abbrev pub bits_or_dash : List Bool → List ℕ
 bits_or_dash [] = codes "-"

@@ -18,6 +18,10 @@ on_out status text = record { status = status; out = text; err = [] }
 abbrev pub on_err : ℕ → List ℕ → Outcome
 on_err status text = record { status = status; out = []; err = text }
 
+-- a status with a text on each
+abbrev pub on_both : ℕ → List ℕ → List ℕ → Outcome
+on_both status out err = record { status = status; out = out; err = err }
+
 -- words outside the grammar
 abbrev pub usage : Outcome
 usage = on_err 2 usage_text

@@ -1,9 +1,11 @@
 // Plays of recorded schedules.
-ghost use Rattle.std.specs.Prelude.{◌≡◌, ◌+◌, ◌++◌, Ok, IfOk, IfErr, OnOk, length, map};
+ghost use Rattle.std.specs.Prelude.{◌≡◌, ◌+◌, ◌++◌, [], All, Ok, IfOk, IfErr, OnOk, length, map};
 ghost use Rattle.care_sets.specs.Care.{is_one};
 ghost use Rattle.contents.specs.Faults.{IsErrorOf};
 ghost use Rattle.contents.specs.Seen.{error_seen};
 ghost use Rattle.cyc_io.specs.Text.{text_bytes};
+ghost use Rattle.probes.specs.Changes.{changes};
+ghost use Rattle.probes.specs.Showing.{texts_of};
 ghost use Rattle.report.specs.Ticks.{played_text};
 ghost use Rattle.sched_text.specs.Fitting.{FitsNetlist};
 ghost use Rattle.cyc_tool.specs.Plays.{AreInputs, delays_text, known as known_of, played as played_meant};
@@ -13,6 +15,7 @@ use cyc_base::{Bits, Trit, Trits};
 use cyc_io::TextSink;
 use delay_core::{Schedule, TickEnd, play_whole};
 use netlist::Netlist;
+use probes::{Kind, Probe, ShownRun, play_shown};
 use report::put_played_tick;
 use std::alloc::{AllocError, Global};
 
@@ -60,6 +63,28 @@ pub(crate) fn played(
 {
     match play_whole(alloc, net, vectors, schedule) {
         Ok(ends) => Ok(ends),
+        Err(fault) => Err(play_error(alloc, net, fault)),
+    }
+}
+
+// The same run, told to the probes of a kind, which show it.
+pub(crate) fn probed(
+    alloc: Global,
+    net: &Netlist,
+    vectors: &[Bits],
+    schedule: &Schedule,
+    probes: &mut [Box<dyn Probe>],
+    wanted: Kind,
+) -> Result<ShownRun, FileError>
+    requires inputs { AreInputs net.now vectors.now }
+    requires fits { FitsNetlist net.now (length vectors.now) schedule.now }
+    requires silent { All (λ probe. heard probe ≡ []) probes.old }
+    ensures good { IfOk result (λ run. played_meant net.now vectors.now schedule.now ≡ Ok run.ends.items) }
+    ensures shown { IfOk result (λ run. run.text.items ≡ texts_of kind text wanted net.now (changes net.now schedule.now vectors.now) probes.old) }
+    ensures bad { IfErr result (λ error. IsErrorOf (played_meant net.now vectors.now schedule.now) (error_seen error)) }
+{
+    match play_shown(alloc, net, vectors, schedule, probes, wanted) {
+        Ok(run) => Ok(run),
         Err(fault) => Err(play_error(alloc, net, fault)),
     }
 }

@@ -3,11 +3,11 @@ ghost use Rattle.std.specs.Prelude.{◌≡◌, IfOk, length};
 ghost use Rattle.contents.specs.Seen.{fault_seen};
 ghost use Rattle.delay_core.specs.declared.plan.TickEnd.{TickEnd as TickEnded};
 ghost use Rattle.cyc_tool.specs.Answer.{told as done};
-ghost use Rattle.cyc_tool.specs.Plans.{Declines, Outgrows, Prints, Refuses};
+ghost use Rattle.cyc_tool.specs.Plans.{Declines, Outgrows, Prints, Refuses, probed_told};
 ghost use Rattle.cyc_tool.specs.Plays.{delays_text};
 ghost use Rattle.cyc_tool.specs.Seen.{outcome_of};
 ghost use Rattle.cyc_tool.specs.Simulation.{sim_text};
-ghost use Rattle.cyc_tool.specs.Texts.{has_fault, limit_reached, on_err as err_of, on_out as out_of, read_failed, usage};
+ghost use Rattle.cyc_tool.specs.Texts.{has_fault, limit_reached, on_both as both_of, on_err as err_of, on_out as out_of, read_failed, usage};
 ghost use Rattle.blif_write.specs.Written.{written};
 ghost use Rattle.refusals.specs.Refusals.{IsRefusalOf};
 ghost use Rattle.report.specs.LoopTexts.{loops_text};
@@ -25,6 +25,7 @@ use cyc_io::TextSink;
 use delay_core::TickEnd;
 use loops::{find_blocks, find_cut};
 use netlist::Netlist;
+use probes::Kind;
 use refusals::Refusal;
 use report::{
     USAGE_TEXT, put_fault, put_limit, put_loops, put_read_failed, put_refusal, put_too_large,
@@ -49,6 +50,12 @@ pub(crate) fn on_out(alloc: Global, status: u8, out: Vec<u8>) -> Outcome
         out,
         err: Vec::new(alloc),
     }
+}
+
+fn on_both(status: u8, out: Vec<u8>, err: Vec<u8>) -> Outcome
+    ensures { outcome_of result ≡ both_of status out.items err.items }
+{
+    Outcome { status, out, err }
 }
 
 pub(crate) fn tell_usage(alloc: Global) -> Result<Outcome, AllocError>
@@ -172,4 +179,24 @@ pub(crate) fn tell_delays(alloc: Global, ends: &[TickEnd]) -> Result<Outcome, Al
     ensures { IfOk result (λ told. outcome_of told ≡ done (Prints (delays_text ends.now))) }
 {
     Ok(on_out(alloc, status::DONE, end_lines(alloc, ends)?))
+}
+
+// A run with these ends of its ticks, of which probes of a kind show this.
+pub(crate) fn tell_probed(
+    alloc: Global,
+    wanted: Kind,
+    ends: &[TickEnd],
+    shown: Vec<u8>,
+) -> Result<Outcome, AllocError>
+    ensures { IfOk result (λ told. outcome_of told ≡ done (probed_told wanted (delays_text ends.now) shown.items)) }
+{
+    let mut lines = end_lines(alloc, ends)?;
+    match wanted {
+        // A dump is a file of its own.
+        Kind::Vcd => Ok(on_both(status::DONE, shown, lines)),
+        Kind::Trace | Kind::Glitches | Kind::Last => {
+            lines.extend_from_slice(&shown)?;
+            Ok(on_out(alloc, status::DONE, lines))
+        }
+    }
 }

@@ -1,28 +1,30 @@
 // The top call.
-ghost use Rattle.std.specs.Prelude.{◌≡◌, ◌⊎◌, ◌≤◌, None, length};
+ghost use Rattle.std.specs.Prelude.{◌≡◌, ◌⊎◌, ◌≤◌, [], All, None, Some, length};
 ghost use Rattle.commands.specs.Seen.{command_seen, options_seen};
-ghost use Rattle.commands.specs.Words.{command_of, Delays, Flat, Loops, Sim};
+ghost use Rattle.commands.specs.Words.{command_of};
 ghost use Rattle.sched_text.specs.Fitting.{FitsNetlist};
 ghost use Rattle.cyc_tool.specs.Calls.{shelf_call, sink_call, ComesTo, Follows, Tells, Runs, WriteFailed};
 ghost use Rattle.cyc_tool.specs.Causes.{GivesAnswer, HasRewritten, HasStormed, IsComplete, IsDoneWith, IsFaulty, IsUnread, IsWithoutCommand, MeetsLimit, NoneFell, Reaches};
 ghost use Rattle.cyc_tool.specs.Plays.{AreInputs};
-ghost use Rattle.cyc_tool.specs.Plans.{deciding, plan_of, play_on, playing};
+ghost use Rattle.cyc_tool.specs.Plans.{deciding, finding_loops, flattening, plan_of, play_on, playing, replaying, simulating};
 ghost use Rattle.cyc_tool.specs.Reading.{FollowsAlone, FollowsStillAlone};
+ghost use Rattle.cyc_tool.specs.Requests.{Shows, request, shown_by};
 ghost use Rattle.cyc_tool.specs.Seen.{end_of, outcome_of, purpose_seen};
 
 use crate::decision::{Purpose, decide_netlist};
 use crate::outcome::{Outcome, Stop};
-use crate::plays::{known, played};
+use crate::plays::{known, played, probed};
 use crate::reading::{read_care, read_netlist, read_schedule_file, read_vector_file, stop_at};
 use crate::ring::demo;
 use crate::status;
-use crate::texts::{tell_delays, tell_loops, tell_netlist, tell_sim, tell_usage};
+use crate::texts::{tell_delays, tell_loops, tell_netlist, tell_probed, tell_sim, tell_usage};
 use bdd_ops::Diagrams;
 use commands::{Command, Options, command_of_words};
 use cyc_base::{Bits, DEFAULT_NODES, Name};
 use cyc_io::{Shelf, Sink, write_whole};
 use delay_core::Schedule;
 use netlist::Netlist;
+use probes::{Kind, Probe, ShownRun};
 use refusals::Observe;
 use report::NO_MEMORY_TEXT;
 use std::alloc::Global;
@@ -50,7 +52,7 @@ fn decide_file<S: Shelf>(
 
 // Writes the flat netlist of a file.
 fn flat<S: Shelf>(alloc: Global, shelf: &mut S, netlist: &Name) -> Result<Outcome, Stop>
-    ensures comes { FollowsAlone (plan_of (Flat netlist.now)) (shelf_call S.files S.faults shelf.old shelf.new) (end_of result) }
+    ensures comes { FollowsAlone (flattening netlist.now) (shelf_call S.files S.faults shelf.old shelf.new) (end_of result) }
     ensures same { S.files shelf.new ≡ S.files shelf.old }
 {
     let net = read_netlist(alloc, shelf, netlist)?;
@@ -59,7 +61,7 @@ fn flat<S: Shelf>(alloc: Global, shelf: &mut S, netlist: &Name) -> Result<Outcom
 
 // Prints the loops of a file's netlist.
 fn loops<S: Shelf>(alloc: Global, shelf: &mut S, netlist: &Name) -> Result<Outcome, Stop>
-    ensures comes { FollowsAlone (plan_of (Loops netlist.now)) (shelf_call S.files S.faults shelf.old shelf.new) (end_of result) }
+    ensures comes { FollowsAlone (finding_loops netlist.now) (shelf_call S.files S.faults shelf.old shelf.new) (end_of result) }
     ensures same { S.files shelf.new ≡ S.files shelf.old }
 {
     let net = read_netlist(alloc, shelf, netlist)?;
@@ -73,7 +75,7 @@ fn sim<S: Shelf>(
     netlist: &Name,
     vectors: &Name,
 ) -> Result<Outcome, Stop>
-    ensures comes { FollowsAlone (plan_of (Sim netlist.now vectors.now)) (shelf_call S.files S.faults shelf.old shelf.new) (end_of result) }
+    ensures comes { FollowsAlone (simulating netlist.now vectors.now) (shelf_call S.files S.faults shelf.old shelf.new) (end_of result) }
     ensures same { S.files shelf.new ≡ S.files shelf.old }
 {
     let net = read_netlist(alloc, shelf, netlist)?;
@@ -81,8 +83,8 @@ fn sim<S: Shelf>(
     Ok(tell_sim(alloc, &net, &found)?)
 }
 
-// Plays a recorded schedule, which is that of this file.
-fn play(
+// Plays a recorded schedule, which is that of this file, and tells no probe.
+fn play_alone(
     alloc: Global,
     net: &Netlist,
     vectors: &[Bits],
@@ -91,11 +93,52 @@ fn play(
 ) -> Result<Outcome, Stop>
     requires inputs { AreInputs net.now vectors.now }
     requires fits { FitsNetlist net.now (length vectors.now) schedule.now }
-    ensures { FollowsStillAlone (playing recorded.now net.now vectors.now schedule.now) (end_of result) }
+    ensures { (shows : Shows) → FollowsStillAlone (playing shows None recorded.now net.now vectors.now schedule.now) (end_of result) }
 {
     match played(alloc, net, vectors, schedule) {
         Ok(ends) => Ok(tell_delays(alloc, &ends)?),
         Err(error) => Err(stop_at(alloc, recorded, error)),
+    }
+}
+
+// Plays it, tells the probes of a kind, and has them show it.
+fn play_probed(
+    alloc: Global,
+    net: &Netlist,
+    vectors: &[Bits],
+    schedule: &Schedule,
+    recorded: &Name,
+    probes: &mut [Box<dyn Probe>],
+    wanted: Kind,
+) -> Result<Outcome, Stop>
+    requires inputs { AreInputs net.now vectors.now }
+    requires fits { FitsNetlist net.now (length vectors.now) schedule.now }
+    requires silent { All (λ probe. heard probe ≡ []) probes.old }
+    ensures { FollowsStillAlone (playing (shown_by kind text probes.old) (Some wanted) recorded.now net.now vectors.now schedule.now) (end_of result) }
+{
+    match probed(alloc, net, vectors, schedule, probes, wanted) {
+        Ok(ShownRun { ends, text: shown }) => Ok(tell_probed(alloc, wanted, &ends, shown)?),
+        Err(error) => Err(stop_at(alloc, recorded, error)),
+    }
+}
+
+fn play(
+    alloc: Global,
+    net: &Netlist,
+    vectors: &[Bits],
+    schedule: &Schedule,
+    recorded: &Name,
+    probes: &mut [Box<dyn Probe>],
+    probe: Option<Kind>,
+) -> Result<Outcome, Stop>
+    requires inputs { AreInputs net.now vectors.now }
+    requires fits { FitsNetlist net.now (length vectors.now) schedule.now }
+    requires silent { All (λ probe. heard probe ≡ []) probes.old }
+    ensures { FollowsStillAlone (playing (shown_by kind text probes.old) probe recorded.now net.now vectors.now schedule.now) (end_of result) }
+{
+    match probe {
+        Some(wanted) => play_probed(alloc, net, vectors, schedule, recorded, probes, wanted),
+        None => play_alone(alloc, net, vectors, schedule, recorded),
     }
 }
 
@@ -106,13 +149,16 @@ fn play_file<S: Shelf>(
     net: &Netlist,
     vectors: &[Bits],
     recorded: &Name,
+    probes: &mut [Box<dyn Probe>],
+    probe: Option<Kind>,
 ) -> Result<Outcome, Stop>
-    requires { AreInputs net.now vectors.now }
-    ensures comes { FollowsAlone (play_on recorded.now net.now vectors.now) (shelf_call S.files S.faults shelf.old shelf.new) (end_of result) }
+    requires inputs { AreInputs net.now vectors.now }
+    requires silent { All (λ probe. heard probe ≡ []) probes.old }
+    ensures comes { FollowsAlone (play_on (shown_by kind text probes.old) probe recorded.now net.now vectors.now) (shelf_call S.files S.faults shelf.old shelf.new) (end_of result) }
     ensures same { S.files shelf.new ≡ S.files shelf.old }
 {
     let schedule = read_schedule_file(alloc, shelf, net, vectors.len(), recorded)?;
-    Ok(play(alloc, net, vectors, &schedule, recorded)?)
+    Ok(play(alloc, net, vectors, &schedule, recorded, probes, probe)?)
 }
 
 // Plays the netlist of a file on the vectors of another by the schedule of a third.
@@ -122,14 +168,17 @@ fn delays<S: Shelf>(
     netlist: &Name,
     vectors: &Name,
     recorded: &Name,
+    probes: &mut [Box<dyn Probe>],
+    probe: Option<Kind>,
 ) -> Result<Outcome, Stop>
-    ensures comes { FollowsAlone (plan_of (Delays netlist.now vectors.now recorded.now)) (shelf_call S.files S.faults shelf.old shelf.new) (end_of result) }
+    requires { All (λ probe. heard probe ≡ []) probes.old }
+    ensures comes { FollowsAlone (replaying (shown_by kind text probes.old) probe netlist.now vectors.now recorded.now) (shelf_call S.files S.faults shelf.old shelf.new) (end_of result) }
     ensures same { S.files shelf.new ≡ S.files shelf.old }
 {
     let net = read_netlist(alloc, shelf, netlist)?;
     let found = read_vector_file(alloc, shelf, &net, false, vectors)?;
     let inputs = known(alloc, &found)?;
-    Ok(play_file(alloc, shelf, &net, &inputs, recorded)?)
+    Ok(play_file(alloc, shelf, &net, &inputs, recorded, probes, probe)?)
 }
 
 fn carry_out<S: Shelf>(
@@ -137,8 +186,10 @@ fn carry_out<S: Shelf>(
     shelf: &mut S,
     command: Command,
     d: &mut Diagrams,
+    probes: &mut [Box<dyn Probe>],
 ) -> Result<Outcome, Stop>
-    ensures comes { Follows (plan_of (command_seen command.entry))
+    requires { All (λ probe. heard probe ≡ []) probes.old }
+    ensures comes { Follows (plan_of (shown_by kind text probes.old) (command_seen command.entry))
         (shelf_call S.files S.faults shelf.old shelf.new) d.new (end_of result) }
     ensures same { S.files shelf.new ≡ S.files shelf.old }
 {
@@ -152,8 +203,8 @@ fn carry_out<S: Shelf>(
         Command::Flat(netlist) => flat(alloc, shelf, netlist),
         Command::Loops(netlist) => loops(alloc, shelf, netlist),
         Command::Sim(netlist, vectors) => sim(alloc, shelf, netlist, vectors),
-        Command::Delays(netlist, vectors, recorded) => {
-            delays(alloc, shelf, netlist, vectors, recorded)
+        Command::Delays(netlist, vectors, recorded, probe) => {
+            delays(alloc, shelf, netlist, vectors, recorded, probes, probe)
         }
         Command::Demo(cells) => demo(alloc, cells, d),
         Command::Storm(netlist, rounds, options) => {
@@ -167,12 +218,14 @@ fn find_outcome<S: Shelf>(
     words: &[Name],
     shelf: &mut S,
     d: &mut Diagrams,
+    probes: &mut [Box<dyn Probe>],
 ) -> Result<Outcome, Stop>
-    ensures comes { ComesTo (command_of words.now) (shelf_call S.files S.faults shelf.old shelf.new) d.new (end_of result) }
+    requires { All (λ probe. heard probe ≡ []) probes.old }
+    ensures comes { ComesTo (shown_by kind text probes.old) (command_of words.now) (shelf_call S.files S.faults shelf.old shelf.new) d.new (end_of result) }
     ensures same { S.files shelf.new ≡ S.files shelf.old }
 {
     match command_of_words(words) {
-        Some(command) => carry_out(alloc, shelf, command, d),
+        Some(command) => carry_out(alloc, shelf, command, d, probes),
         None => Ok(tell_usage(alloc)?),
     }
 }
@@ -215,18 +268,40 @@ fn answer_and_tell<S: Shelf, O: Sink, E: Sink>(
     out: &mut O,
     err: &mut E,
     d: &mut Diagrams,
+    probes: &mut [Box<dyn Probe>],
 ) -> u8
-    ensures runs { Runs words.now (shelf_call S.files S.faults shelf.old shelf.new) d.new
+    requires { All (λ probe. heard probe ≡ []) probes.old }
+    ensures runs { Runs (request kind text words.now probes.old) (shelf_call S.files S.faults shelf.old shelf.new) d.new
         (sink_call O.put O.faults out.old out.new) (sink_call E.put E.faults err.old err.new) result }
     ensures same { S.files shelf.new ≡ S.files shelf.old }
     ensures out_later { O.faults out.old ≤ O.faults out.new }
     ensures err_later { E.faults err.old ≤ E.faults err.new }
 {
-    match find_outcome(alloc, words, shelf, d) {
+    match find_outcome(alloc, words, shelf, d, probes) {
         Ok(told) => tell_text(&told, out, err),
         Err(Stop::At(told)) => tell_text(&told, out, err),
         Err(Stop::Memory) => tell(status::NO_MEMORY, b"", NO_MEMORY_TEXT, out, err),
     }
+}
+
+// The same with probes of its own, which are dropped behind it.
+fn answer_with<S: Shelf, O: Sink, E: Sink>(
+    alloc: Global,
+    words: &[Name],
+    shelf: &mut S,
+    out: &mut O,
+    err: &mut E,
+    d: &mut Diagrams,
+    mut probes: Vec<Box<dyn Probe>>,
+) -> u8
+    requires { All (λ probe. heard probe ≡ []) probes.items }
+    ensures runs { Runs (request kind text words.now probes.items) (shelf_call S.files S.faults shelf.old shelf.new) d.new
+        (sink_call O.put O.faults out.old out.new) (sink_call E.put E.faults err.old err.new) result }
+    ensures same { S.files shelf.new ≡ S.files shelf.old }
+    ensures out_later { O.faults out.old ≤ O.faults out.new }
+    ensures err_later { E.faults err.old ≤ E.faults err.new }
+{
+    answer_and_tell(alloc, words, shelf, out, err, d, &mut probes)
 }
 
 /// Does what the words ask for: reads their files from the shelf in order, and writes to out and to err only when all
@@ -234,6 +309,10 @@ fn answer_and_tell<S: Shelf, O: Sink, E: Sink>(
 ///
 /// `d` may hold anything when the call starts. A command that decides starts it anew, and its nodes at the end of
 /// the call show the cause of status 6.
+///
+/// `probes` are told the changes of a run that `delays` plays, if they are of the kind that the words ask for, and what they
+/// show comes on out in their order, behind the lines of the ticks; of the kind `Vcd` it is all of out, and these lines go
+/// to err. They have heard nothing before, and are dropped.
 ///
 /// 0: done or accepted. 1: refused. 2: the words aren't in the grammar. 3: a file has a fault. 4: a file wasn't read.
 /// 5: a write failed; each sink has a prefix of its text. 6: the limit of nodes was met, which is below what is enough.
@@ -245,36 +324,38 @@ pub fn run<S: Shelf, O: Sink, E: Sink>(
     out: &mut O,
     err: &mut E,
     d: &mut Diagrams,
+    probes: Vec<Box<dyn Probe>>,
 ) -> u8
-    ensures runs { Runs words.now (shelf_call S.files S.faults shelf.old shelf.new) d.new
+    requires silent { All (λ probe. heard probe ≡ []) probes.items }
+    ensures runs { Runs (request kind text words.now probes.items) (shelf_call S.files S.faults shelf.old shelf.new) d.new
         (sink_call O.put O.faults out.old out.new) (sink_call E.put E.faults err.old err.new) result }
 
     // What follows for each status, over any shelf and any sinks.
     ensures usage { result ≡ 2 → command_of words.now ≡ None }
     ensures no_command { IsWithoutCommand (command_of words.now) result }
     ensures fault { result ≡ 3
-        → Reaches IsFaulty words.now (shelf_call S.files S.faults shelf.old shelf.new) }
+        → Reaches IsFaulty (request kind text words.now probes.items) (shelf_call S.files S.faults shelf.old shelf.new) }
     ensures read_failed { result ≡ 4
-        → Reaches (IsUnread (shelf_call S.files S.faults shelf.old shelf.new)) words.now (shelf_call S.files S.faults shelf.old shelf.new) }
+        → Reaches (IsUnread (shelf_call S.files S.faults shelf.old shelf.new)) (request kind text words.now probes.items) (shelf_call S.files S.faults shelf.old shelf.new) }
     ensures write_failed { result ≡ 5
         → WriteFailed (sink_call O.put O.faults out.old out.new) ⊎ WriteFailed (sink_call E.put E.faults err.old err.new) }
     ensures limited { result ≡ 6
-        → Reaches (MeetsLimit d.new) words.now (shelf_call S.files S.faults shelf.old shelf.new) }
+        → Reaches (MeetsLimit d.new) (request kind text words.now probes.items) (shelf_call S.files S.faults shelf.old shelf.new) }
     ensures done { result ≡ 0
-        → Reaches (IsDoneWith 0) words.now (shelf_call S.files S.faults shelf.old shelf.new) }
+        → Reaches (IsDoneWith 0) (request kind text words.now probes.items) (shelf_call S.files S.faults shelf.old shelf.new) }
     ensures refused { result ≡ 1
-        → Reaches (IsDoneWith 1) words.now (shelf_call S.files S.faults shelf.old shelf.new) }
+        → Reaches (IsDoneWith 1) (request kind text words.now probes.items) (shelf_call S.files S.faults shelf.old shelf.new) }
     ensures outgrown { result ≡ 8
-        → Reaches (IsDoneWith 8) words.now (shelf_call S.files S.faults shelf.old shelf.new) }
+        → Reaches (IsDoneWith 8) (request kind text words.now probes.items) (shelf_call S.files S.faults shelf.old shelf.new) }
     ensures stormed { result ≡ 0
-        → Reaches (HasStormed (sink_call O.put O.faults out.old out.new)) words.now (shelf_call S.files S.faults shelf.old shelf.new) }
+        → Reaches (HasStormed (sink_call O.put O.faults out.old out.new)) (request kind text words.now probes.items) (shelf_call S.files S.faults shelf.old shelf.new) }
     ensures rewritten { result ≡ 0
-        → Reaches (HasRewritten (sink_call O.put O.faults out.old out.new)) words.now (shelf_call S.files S.faults shelf.old shelf.new) }
+        → Reaches (HasRewritten (sink_call O.put O.faults out.old out.new)) (request kind text words.now probes.items) (shelf_call S.files S.faults shelf.old shelf.new) }
 
     // What follows where the files are told.
-    ensures answer { GivesAnswer words.now (shelf_call S.files S.faults shelf.old shelf.new) d.new
+    ensures answer { GivesAnswer (request kind text words.now probes.items) (shelf_call S.files S.faults shelf.old shelf.new) d.new
         (sink_call O.put O.faults out.old out.new) (sink_call E.put E.faults err.old err.new) result }
-    ensures complete { IsComplete words.now (shelf_call S.files S.faults shelf.old shelf.new)
+    ensures complete { IsComplete (request kind text words.now probes.items) (shelf_call S.files S.faults shelf.old shelf.new)
         (sink_call O.put O.faults out.old out.new) (sink_call E.put E.faults err.old err.new) result }
 
     // What the next call may rest on.
@@ -283,5 +364,5 @@ pub fn run<S: Shelf, O: Sink, E: Sink>(
         (sink_call O.put O.faults out.old out.new) (sink_call E.put E.faults err.old err.new) }
 {
     storms_never_rest();
-    answer_and_tell(alloc, words, shelf, out, err, d)
+    answer_with(alloc, words, shelf, out, err, d, probes)
 }

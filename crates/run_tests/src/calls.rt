@@ -1,9 +1,11 @@
 //! A call of `run` over files in memory.
+ghost use Rattle.std.specs.Prelude.{◌≡◌, [], All};
 
 use bdd_ops::Diagrams;
 use cyc_base::Name;
 use cyc_io::{MemoryShelf, MemorySink};
 use cyc_tool::run;
+use probes::Probe;
 use std::alloc::{AllocError, Global};
 
 /// What a call gave: its status, and the bytes on both sinks.
@@ -66,10 +68,13 @@ fn status_of(
     shelf: &mut MemoryShelf,
     out: &mut MemorySink,
     err: &mut MemorySink,
-) -> Result<u8, AllocError> {
+    probes: Vec<Box<dyn Probe>>,
+) -> Result<u8, AllocError>
+    requires { All (λ probe. heard probe ≡ []) probes.items }
+{
     let words = words_of(alloc, line)?;
     let mut d = Diagrams::new(alloc, 0, 1)?;
-    Ok(run(alloc, &words, shelf, out, err, &mut d))
+    Ok(run(alloc, &words, shelf, out, err, &mut d, probes))
 }
 
 fn call_over(
@@ -77,10 +82,13 @@ fn call_over(
     line: &str,
     shelf: &mut MemoryShelf,
     fail: &[u64],
-) -> Result<Seen, AllocError> {
+    probes: Vec<Box<dyn Probe>>,
+) -> Result<Seen, AllocError>
+    requires { All (λ probe. heard probe ≡ []) probes.items }
+{
     let mut out = sink(alloc, fail)?;
     let mut err = sink(alloc, fail)?;
-    let status = status_of(alloc, line, shelf, &mut out, &mut err)?;
+    let status = status_of(alloc, line, shelf, &mut out, &mut err, probes)?;
     Ok(Seen { status, out, err })
 }
 
@@ -94,7 +102,7 @@ pub fn call(
     write: &[u64],
 ) -> Result<Seen, AllocError> {
     let mut shelf = shelf(alloc, text, care, read)?;
-    call_over(alloc, line, &mut shelf, write)
+    call_over(alloc, line, &mut shelf, write, Vec::new(alloc))
 }
 
 /// Whether the words of a line over both files give this status and these texts.
@@ -126,10 +134,36 @@ pub fn plays(
         vectors.as_bytes(),
         schedule.as_bytes(),
     )?;
-    let seen = call_over(alloc, "delays m.blif v.txt s.txt", &mut shelf, &[])?;
+    let seen = call_over(
+        alloc,
+        "delays m.blif v.txt s.txt",
+        &mut shelf,
+        &[],
+        Vec::new(alloc),
+    )?;
     Ok(if status == 0 {
         is(&seen, 0, told, "")
     } else {
         is(&seen, status, "", told)
     })
+}
+
+/// The words of a line over a netlist file, a vector file and a schedule file, where these probes are handed in.
+pub fn call_probed(
+    alloc: Global,
+    line: &str,
+    text: &str,
+    vectors: &str,
+    schedule: &str,
+    probes: Vec<Box<dyn Probe>>,
+) -> Result<Seen, AllocError>
+    requires { All (λ probe. heard probe ≡ []) probes.items }
+{
+    let mut shelf = play_shelf(
+        alloc,
+        text.as_bytes(),
+        vectors.as_bytes(),
+        schedule.as_bytes(),
+    )?;
+    call_over(alloc, line, &mut shelf, &[], probes)
 }

@@ -19,6 +19,8 @@ mod playing;
 #[cfg(test)]
 mod printing;
 #[cfg(test)]
+mod probing;
+#[cfg(test)]
 mod rewrites;
 #[cfg(test)]
 mod simulating;

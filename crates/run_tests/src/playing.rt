@@ -5,8 +5,12 @@ use std::alloc::{AllocError, Global};
 use std::test::Fail;
 
 /// Two units that share a loop.
-const UNITS: &str =
+pub const UNITS: &str =
     ".model mux\n.inputs c x d\n.outputs y\n.names c x g fi\n11- 1\n0-1 1\n.names fi f\n0 1\n.names c f x gi\n11- 1\n0-1 1\n.names gi d g\n11 1\n.names c g f y\n11- 1\n0-1 1\n.end\n";
+
+/// A schedule on which they settle.
+pub const SETTLING: &str =
+    "schedule 1\nlatches\ngates 10000\ntick\nround\ne fi 0 0 0\ne f 1\ne gi 2 2 2\ne g 3 3\ne y 4 4 4\nround\ne fi 0 0 0\ne f 1\ne gi 2 2 2\ne g 3 3\ne y 4 4 4\nround\ne fi 0 0 0\ne f 1\ne gi 2 2 2\ne g 3 3\ne y 4 4 4\nround\ne fi 0 0 0\ne f 1\ne gi 2 2 2\ne g 3 3\ne y 4 4 4\nround\ne fi 0 0 0\ne f 1\ne gi 2 2 2\ne g 3 3\ne y 4 4 4\n";
 
 const BUFFER: &str = ".model b\n.inputs a\n.outputs y\n.names a y\n1 1\n.end\n";
 
@@ -21,7 +25,7 @@ fn row(number: u32) -> Option<(&'static str, &'static str, &'static str, u8, &'s
         0 => Some((
             UNITS,
             "101\n",
-            "schedule 1\nlatches\ngates 10000\ntick\nround\ne fi 0 0 0\ne f 1\ne gi 2 2 2\ne g 3 3\ne y 4 4 4\nround\ne fi 0 0 0\ne f 1\ne gi 2 2 2\ne g 3 3\ne y 4 4 4\nround\ne fi 0 0 0\ne f 1\ne gi 2 2 2\ne g 3 3\ne y 4 4 4\nround\ne fi 0 0 0\ne f 1\ne gi 2 2 2\ne g 3 3\ne y 4 4 4\nround\ne fi 0 0 0\ne f 1\ne gi 2 2 2\ne g 3 3\ne y 4 4 4\n",
+            SETTLING,
             0,
             "tick 1 rounds=5 settled=yes outputs=1\n",
         )),

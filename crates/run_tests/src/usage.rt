@@ -26,6 +26,10 @@ fn wrong_words(number: u32) -> Option<&'static str> {
         14 => Some("storm m.blif 0"),
         15 => Some("storm m.blif 10001"),
         16 => Some("check m.blif --observe all --observe outputs"),
+        17 => Some("delays m.blif v.txt s.txt --probe"),
+        18 => Some("delays m.blif v.txt s.txt --probe dump"),
+        19 => Some("delays m.blif v.txt s.txt --probe last --probe last"),
+        20 => Some("delays --probe last m.blif v.txt s.txt"),
         _ => None,
     }
 }
@@ -37,7 +41,7 @@ fn usage_is_told(alloc: Global, number: u32) -> Result<bool, AllocError> {
     gives(alloc, words, "", "", 2, "", USAGE)
 }
 
-const LINES: u32 = 17;
+const LINES: u32 = 21;
 
 #[test]
 fn wrong_words_get_the_usage(rt: HostRuntime) -> Result<(), Fail> {

@@ -1,10 +1,4 @@
-use Rattle.contents.specs.Seen.{error_seen}
-use Rattle.cyc_tool.specs.Plans.{Ends, Prints}
-use Rattle.cyc_tool.specs.Plays.{delays_text, played}
-use Rattle.cyc_tool.proofs.PlanLemmas.{still_stopped}
 use Rattle.cyc_tool.proofs.top.play.Goals as goal
 
-pub returns-in-Err : goal.returns-in-Err
-returns-in-Err c =
-    still_stopped c.args.recorded.now (played c.args.net.now c.args.vectors.now c.args.schedule.now) (λ ends. Ends (Prints (delays_text ends))) _
-    (record { error = error_seen c.in-Err.error; is = c.in-Err.ensures.bad; stops = c.stop_at.ensures })
+pub returns-in-Some : goal.returns-in-Some
+returns-in-Some g c = rw c.in-Some.is c.play_probed.ensures

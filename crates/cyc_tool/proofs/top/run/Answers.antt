@@ -5,47 +5,47 @@ use Rattle.cyc_tool.proofs.RunLemmas.{counts_later}
 use Rattle.cyc_tool.proofs.top.run.Goals as goal
 
 pub returns-clause-usage : goal.returns-clause-usage
-returns-clause-usage g c = usage_cause _ _ _ _ _ _ c.answer_and_tell.ensures.runs
+returns-clause-usage g c = usage_cause _ _ _ _ _ _ c.answer_with.ensures.runs
 
 pub returns-clause-no_command : goal.returns-clause-no_command
-returns-clause-no_command g c = usage_told _ _ _ _ _ _ c.answer_and_tell.ensures.runs
+returns-clause-no_command g c = usage_told _ _ _ _ _ _ c.answer_with.ensures.runs
 
 pub returns-clause-fault : goal.returns-clause-fault
-returns-clause-fault g c = fault_cause _ _ _ _ _ _ c.answer_and_tell.ensures.runs
+returns-clause-fault g c = fault_cause _ _ _ _ _ _ c.answer_with.ensures.runs
 
 pub returns-clause-read_failed : goal.returns-clause-read_failed
-returns-clause-read_failed g c = read_cause _ _ _ _ _ _ c.answer_and_tell.ensures.runs
+returns-clause-read_failed g c = read_cause _ _ _ _ _ _ c.answer_with.ensures.runs
 
 pub returns-clause-write_failed : goal.returns-clause-write_failed
-returns-clause-write_failed g c = write_cause _ _ _ _ _ _ c.answer_and_tell.ensures.runs
+returns-clause-write_failed g c = write_cause _ _ _ _ _ _ c.answer_with.ensures.runs
 
 pub returns-clause-limited : goal.returns-clause-limited
-returns-clause-limited g c = limit_cause _ _ _ _ _ _ c.answer_and_tell.ensures.runs
+returns-clause-limited g c = limit_cause _ _ _ _ _ _ c.answer_with.ensures.runs
 
 pub returns-clause-done : goal.returns-clause-done
-returns-clause-done g c = done_cause _ _ _ _ _ _ 0 c.answer_and_tell.ensures.runs (Zero refl)
+returns-clause-done g c = done_cause _ _ _ _ _ _ 0 c.answer_with.ensures.runs (Zero refl)
 
 pub returns-clause-refused : goal.returns-clause-refused
-returns-clause-refused g c = done_cause _ _ _ _ _ _ 1 c.answer_and_tell.ensures.runs (One refl)
+returns-clause-refused g c = done_cause _ _ _ _ _ _ 1 c.answer_with.ensures.runs (One refl)
 
 pub returns-clause-outgrown : goal.returns-clause-outgrown
-returns-clause-outgrown g c = done_cause _ _ _ _ _ _ 8 c.answer_and_tell.ensures.runs (Eight refl)
+returns-clause-outgrown g c = done_cause _ _ _ _ _ _ 8 c.answer_with.ensures.runs (Eight refl)
 
 pub returns-clause-stormed : goal.returns-clause-stormed
-returns-clause-stormed g c = stormed_cause c.storms_never_rest.ensures _ _ _ _ _ _ c.answer_and_tell.ensures.runs
+returns-clause-stormed g c = stormed_cause c.storms_never_rest.ensures _ _ _ _ _ _ c.answer_with.ensures.runs
 
 pub returns-clause-rewritten : goal.returns-clause-rewritten
-returns-clause-rewritten g c = rewritten_cause _ _ _ _ _ _ c.answer_and_tell.ensures.runs
+returns-clause-rewritten g c = rewritten_cause _ _ _ _ _ _ c.answer_with.ensures.runs
 
 pub returns-clause-answer : goal.returns-clause-answer
-returns-clause-answer g c = gives_answer _ _ _ _ _ _ c.answer_and_tell.ensures.runs
+returns-clause-answer g c = gives_answer _ _ _ _ _ _ c.answer_with.ensures.runs
 
 pub returns-clause-complete : goal.returns-clause-complete
-returns-clause-complete g c = is_complete _ _ _ _ _ _ c.answer_and_tell.ensures.runs
+returns-clause-complete g c = is_complete _ _ _ _ _ _ c.answer_with.ensures.runs
 
 pub returns-clause-counts : goal.returns-clause-counts
 returns-clause-counts g c = record {
-  reads = counts_later _ _ _ _ c.answer_and_tell.ensures.runs.comes;
-  writes_out = c.answer_and_tell.ensures.out_later;
-  writes_err = c.answer_and_tell.ensures.err_later;
+  reads = counts_later _ _ _ _ _ c.answer_with.ensures.runs.comes;
+  writes_out = c.answer_with.ensures.out_later;
+  writes_err = c.answer_with.ensures.err_later;
 }
