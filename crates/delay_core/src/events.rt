@@ -69,7 +69,7 @@ impl Events {
         self.heads.len()
     }
 
-    /// The line of an event, counted from 0.
+    /// The line of the file that has the event at this place.
     #[tactic(auto, using(crate::proofs::EventListLemmas::length_packed, crate::proofs::EventListLemmas::line_is))]
     pub fn line(&self, i: usize) -> u64
         requires { i < length self.now }
@@ -78,7 +78,7 @@ impl Events {
         self.heads[i].line
     }
 
-    /// The gate of an event, by its place in the flat order.
+    /// The gate of the event at this place, by its own place in the flat order.
     #[tactic(auto, using(crate::proofs::EventListLemmas::length_packed, crate::proofs::EventListLemmas::gate_is))]
     pub fn gate(&self, i: usize) -> u32
         requires { i < length self.now }
@@ -87,7 +87,7 @@ impl Events {
         self.heads[i].gate
     }
 
-    /// The ages of an event.
+    /// The ages of the event at this place, one for each pin of its gate.
     #[tactic(auto, using(crate::proofs::EventListLemmas::length_packed, crate::proofs::EventListLemmas::ages_is, crate::proofs::EventListLemmas::rises_here, crate::proofs::EventListLemmas::within_here))]
     pub fn ages(&self, i: usize) -> &[u32]
         requires { i < length self.now }
@@ -97,7 +97,8 @@ impl Events {
         &self.ages[begin..self.heads[i].end as usize]
     }
 
-    /// Adds an event of a gate.
+    /// Adds an event. `AllocError` comes for want of memory, and where the round would have over 4,294,967,295 ages; the
+    /// events are then as before.
     #[tactic(auto, using(crate::proofs::EventListLemmas::one_more, crate::proofs::EventListLemmas::more_packed))]
     pub fn push(&mut self, line: u64, gate: u32, ages: &[u32]) -> Result<(), AllocError>
         ensures ok { OnOk result (self.new ≡ self.old ++ record { line = line; event = record { gate = gate; ages = ages.now } } ∷ []) }
