@@ -34,7 +34,7 @@ changes() {
 
 file=$top/examples/ring_oscillator.blif
 storm "$file" 4
-"$top/cyc" delays "$file" "$dir/vectors" "$dir/storm" --probe vcd >"$dir/waves.vcd"
+"$top/cyc" delays "$file" "$dir/vectors" "$dir/storm" --probe vcd >"$dir/waves.vcd" 2>"$dir/ticks"
 vcd2fst "$dir/waves.vcd" "$dir/waves.fst"
 fst2vcd "$dir/waves.fst" >"$dir/back.vcd"
 cmp <(changes "$dir/waves.vcd") <(changes "$dir/back.vcd")

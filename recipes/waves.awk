@@ -12,6 +12,7 @@ BEGIN { row = 26; high = 16; left = 70; scale = 14 }
 END {
     width = left + scale * (time + 2)
     printf "<svg xmlns=\"http://www.w3.org/2000/svg\" width=\"%d\" height=\"%d\" font-family=\"monospace\" font-size=\"12\">\n", width + 10, row * wires + 10
+    print "<rect width=\"100%\" height=\"100%\" fill=\"white\"/>"
     for (i = 1; i <= wires; i++) {
         code = order[i]
         printf "<text x=\"4\" y=\"%d\">%s</text>\n", top[code] + high - 3, name[code]

@@ -1,5 +1,5 @@
 //! A call of `run` over files in memory.
-ghost use Rattle.std.specs.Prelude.{◌≡◌, [], All};
+ghost use Rattle.std.specs.Prelude.{◌≡◌, [], All, OnOk};
 
 use bdd_ops::Diagrams;
 use cyc_base::Name;
@@ -146,6 +146,16 @@ pub fn plays(
     } else {
         is(&seen, status, "", told)
     })
+}
+
+/// Adds a probe that has heard nothing.
+pub fn add_probe(probes: &mut Vec<Box<dyn Probe>>, probe: Box<dyn Probe>) -> Result<(), AllocError>
+    requires silent { All (λ probe. heard probe ≡ []) probes.old.items }
+    requires new { heard probe ≡ [] }
+    ensures { OnOk result (All (λ probe. heard probe ≡ []) probes.new.items) }
+{
+    probes.push(probe)?;
+    Ok(())
 }
 
 /// The words of a line over a netlist file, a vector file and a schedule file, where these probes are handed in.

@@ -2,7 +2,7 @@
 ghost use Rattle.std.specs.Prelude.{[]};
 ghost use Rattle.probes.specs.declared.kind.Kind.TheVariants as kinds;
 
-use crate::calls::{call_probed, is};
+use crate::calls::{add_probe, call_probed, is};
 use crate::playing::{SETTLING, UNITS};
 use delay_core::Change;
 use netlist::Netlist;
@@ -99,10 +99,10 @@ fn row_is_told(alloc: Global, number: u32) -> Result<bool, AllocError> {
         return Ok(false);
     };
     let mut probes: Vec<Box<dyn Probe>> = Vec::new(alloc);
-    probes.push(Box::new(alloc, Trace::new(alloc))?)?;
-    probes.push(Box::new(alloc, Glitches::new(alloc))?)?;
-    probes.push(Box::new(alloc, LastRound::new(alloc))?)?;
-    probes.push(Box::new(alloc, VcdOut::new(alloc))?)?;
+    add_probe(&mut probes, Box::new(alloc, Trace::new(alloc))?)?;
+    add_probe(&mut probes, Box::new(alloc, Glitches::new(alloc))?)?;
+    add_probe(&mut probes, Box::new(alloc, LastRound::new(alloc))?)?;
+    add_probe(&mut probes, Box::new(alloc, VcdOut::new(alloc))?)?;
     let seen = call_probed(alloc, line, UNITS, vectors, schedule, probes)?;
     Ok(is(&seen, 0, out, err))
 }
@@ -124,8 +124,8 @@ const LAST: &str = "delays m.blif v.txt s.txt --probe last";
 fn each_probe_of_the_kind_shows(rt: HostRuntime) -> Result<(), Fail> {
     let alloc = rt.alloc();
     let mut probes: Vec<Box<dyn Probe>> = Vec::new(alloc);
-    probes.push(Box::new(alloc, LastRound::new(alloc))?)?;
-    probes.push(Box::new(alloc, LastRound::new(alloc))?)?;
+    add_probe(&mut probes, Box::new(alloc, LastRound::new(alloc))?)?;
+    add_probe(&mut probes, Box::new(alloc, LastRound::new(alloc))?)?;
     let seen = call_probed(alloc, LAST, UNITS, "101\n", SETTLING, probes)?;
     assert!(rt;
         is(
@@ -150,7 +150,7 @@ fn no_probe_shows_nothing(rt: HostRuntime) -> Result<(), Fail> {
 fn a_probe_that_refuses_wants_memory(rt: HostRuntime) -> Result<(), Fail> {
     let alloc = rt.alloc();
     let mut probes: Vec<Box<dyn Probe>> = Vec::new(alloc);
-    probes.push(Box::new(alloc, Deaf)?)?;
+    add_probe(&mut probes, Box::new(alloc, Deaf)?)?;
     let seen = call_probed(alloc, LAST, UNITS, "101\n", SETTLING, probes)?;
     assert!(rt; is(&seen, 7, "", "no memory\n"));
     Ok(())
