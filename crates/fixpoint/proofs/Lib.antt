@@ -12,3 +12,5 @@ mod BoundLemmas
 mod SolutionLemmas
 mod EffortLemmas
 mod LiftLemmas
+pub mod OrderLemmas
+pub mod LayoutLemmas

@@ -4,3 +4,4 @@ pub mod Lifting
 pub mod Counts
 pub mod Working
 pub mod Laws
+pub mod Orders

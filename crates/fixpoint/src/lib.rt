@@ -9,12 +9,14 @@
 
 mod counting;
 pub mod laws;
+mod layout;
 mod lifting;
 mod solved;
 mod solving;
 mod wires;
 
 pub use counting::sweeps;
+pub use layout::order;
 pub use lifting::lift_gates;
 pub use loops::SweepCounts;
 pub use solved::{LoopSteps, Solved};

@@ -1,0 +1,151 @@
+-- Vectors by column and by variable: each is one of the other, where the columns are a layout.
+use Rattle.std.proofs.Common.{◌≡◌, ◌≢◌, inl, inr, ℕ, zero, suc, ◌+◌, ◌<◌, ◌≤◌, eqb, Bool, true, false, ◌||◌, List, [], ◌∷◌, ◌++◌, length, take, get_or, set, replicate, refl, sym, ap, ap₂, ◌∙◌, arith, length-set, get_or-set_same, get_or-set_other, true≢false}
+use Rattle.std.specs.List.{AllByRecursion, Contains, IsDistinct, list_any}
+use Rattle.std.proofs.lemmas.Bool.{cases_Bool, eqb-true, eq-eqb, ne_eqb, or_cases}
+use Rattle.std.proofs.lemmas.List.{ext_get_or, get_or-map, get_or_default, length-map, length-replicate, take_more, take_more_set, take_all}
+use Rattle.std.proofs.lemmas.Map.Keys.{IsDistinct-from_apart}
+use Rattle.std.proofs.lemmas.Map.Steps.{length-le_from_distinct_below}
+use Rattle.std.proofs.lemmas.Map.Views.{Contains-from_any}
+use Rattle.bdd_ops.specs.Least.{IsLayout, by_variable}
+
+pub length-by_variable : (columns : List ℕ) (v : List Bool) → length (by_variable columns v) ≡ length columns
+length-by_variable columns v = length-map columns (λ c. get_or v c false)
+
+-- the variable of a column
+pub record IsVariableOf (n : ℕ) (columns : List ℕ) (c : ℕ) : Type 0 where
+  pub number : ℕ
+  pub within : number < n
+  pub is : get_or columns number 0 ≡ c
+
+-- a bit by variable is the one at its column
+pub by_variable-read : (columns : List ℕ) (v : List Bool) (k : ℕ) → k < length columns → get_or (by_variable columns v) k false ≡ get_or v (get_or columns k 0) false
+by_variable-read columns v k less = get_or-map (λ c. get_or v c false) columns k 0 false less
+
+set-other : (columns : List ℕ) (v : List Bool) (c : ℕ) (b : Bool) → ((j : ℕ) → j < length columns → get_or columns j 0 ≢ c) → by_variable columns (set v c b) ≡ by_variable columns v
+set-other [] v c b apart = refl
+set-other (x ∷ columns) v c b apart =
+    ap₂ (λ t (xs : List Bool). t ∷ xs) (get_or-set_other v c x b false (apart 0 (omega arith))) (set-other columns v c b (λ j less. apart (suc j) (omega (arith, less))))
+
+-- a bit that is set at a column is set at its variable
+by_variable-set : (columns : List ℕ) (v : List Bool) (k c : ℕ) (b : Bool) → k < length columns → get_or columns k 0 ≡ c → c < length v → ((j : ℕ) → j < length columns → get_or columns j 0 ≡ c → j ≡ k) →
+    by_variable columns (set v c b) ≡ set (by_variable columns v) k b
+by_variable-set [] v k c b less at within once = absurd (omega (arith, less))
+by_variable-set (x ∷ columns) v zero c b less at within once =
+    ap₂ (λ t (xs : List Bool). t ∷ xs) (ap (λ j. get_or (set v c b) j false) at ∙ get_or-set_same v c b false within)
+    (set-other columns v c b (λ j l same. let e = once (suc j) (omega (arith, l)) same in omega (arith, e)))
+by_variable-set (x ∷ columns) v (suc k) c b less at within once =
+    ap₂ (λ t (xs : List Bool). t ∷ xs) (get_or-set_other v c x b false (λ same. let e = once 0 (omega arith) same in omega (arith, e)))
+    (by_variable-set columns v k c b (omega (arith, less)) at within (λ j l same. let e = once (suc j) (omega (arith, l)) same in omega (arith, e)))
+
+-- ---- the vector by column of one by variable
+
+-- the first k variables are written
+written : List ℕ → List Bool → ℕ → List Bool
+written columns w zero = replicate (length columns) false
+written columns w (suc k) = set (written columns w k) (get_or columns k 0) (get_or w k false)
+
+pub by_column : List ℕ → List Bool → List Bool
+by_column columns w = written columns w (length columns)
+
+length-written : (columns : List ℕ) (w : List Bool) (k : ℕ) → length (written columns w k) ≡ length columns
+unfolding written
+length-written columns w zero = length-replicate (length columns) false
+length-written columns w (suc k) = length-set (written columns w k) (get_or columns k 0) (get_or w k false) ∙ length-written columns w k
+
+pub length-by_column : (columns : List ℕ) (w : List Bool) → length (by_column columns w) ≡ length columns
+unfolding by_column
+length-by_column columns w = length-written columns w (length columns)
+
+module _ (n : ℕ) (columns : List ℕ) (are : IsLayout n columns) where
+  written-read : (w : List Bool) → length w ≡ n → (k : ℕ) → k ≤ n → take k (by_variable columns (written columns w k)) ≡ take k w
+  unfolding written
+  written-read w wide zero within = refl
+  written-read w wide (suc k) within =
+      let long = are.long in
+      let c : ℕ = get_or columns k 0 in
+      let b : Bool = get_or w k false in
+      let before : List Bool = written columns w k in
+      let low : c < n = are.within k (omega (arith, within)) in
+      let l = length-written columns w k in
+      let lv = length-by_variable columns before in
+      ap (λ m. take m (by_variable columns (set before c b))) (let e : suc k ≡ k + 1 = omega arith in e)
+      ∙ ap (take (k + 1)) (by_variable-set columns before k c b (omega (arith, long, within)) refl (omega (arith, l, long, low)) (λ j less same. are.once j k (omega (arith, less, long)) (omega (arith, within)) same))
+      ∙ take_more_set (by_variable columns before) k b (omega (arith, lv, long, within))
+      ∙ ap (λ (xs : List Bool). xs ++ b ∷ []) (written-read w wide k (omega (arith, within)))
+      ∙ sym (take_more w k false (omega (arith, wide, within)))
+      ∙ ap (λ m. take m w) (let e : k + 1 ≡ suc k = omega arith in e)
+
+  pub variables-back : (w : List Bool) → length w ≡ n → by_variable columns (by_column columns w) ≡ w
+  unfolding by_column
+  variables-back w wide =
+      let long = are.long in
+      let lv = length-by_variable columns (written columns w (length columns)) in
+      sym (take_all (length columns) (by_variable columns (written columns w (length columns))) (omega (arith, lv)))
+      ∙ written-read w wide (length columns) (omega (arith, long))
+      ∙ take_all (length columns) w (omega (arith, long, wide))
+
+  -- ---- each column has a variable
+
+  member-below : (xs : List ℕ) → ((k : ℕ) → k < length xs → get_or xs k 0 < n) → (q : ℕ) → list_any (eqb q) xs ≡ true → q < n
+  member-below [] low q is = absurd (true≢false (sym is))
+  member-below (x ∷ xs) low q is = elim (or_cases (eqb q x) (list_any (eqb q) xs) is) [
+    | inl e ↦ let first = low 0 (omega arith) in let same = eqb-true q x e in omega (arith, first, same)
+    | inr e ↦ member-below xs (λ k less. low (suc k) (omega (arith, less))) q e
+  ]
+
+  apart-from : (c : ℕ) (xs : List ℕ) → list_any (eqb c) xs ≡ false → AllByRecursion (λ y. eqb c y ≡ false) xs
+  apart-from c [] none = tt
+  apart-from c (x ∷ xs) none = by (apart-from c xs) (eqb c x) refl (list_any (eqb c) xs) refl none
+    where
+      by : (list_any (eqb c) xs ≡ false → AllByRecursion (λ y. eqb c y ≡ false) xs) → (b : Bool) → eqb c x ≡ b → (d : Bool) → list_any (eqb c) xs ≡ d → (b || d) ≡ false → AllByRecursion (λ y. eqb c y ≡ false) (x ∷ xs)
+      by rest true e d f h = absurd (true≢false h)
+      by rest false e true f h = absurd (true≢false h)
+      by rest false e false f h = (e, rest f)
+
+  distinct : IsDistinct eqb columns
+  distinct = IsDistinct-from_apart eqb columns (λ i j d less within. by i j d less within)
+    where
+      by : (i j d : ℕ) → i < j → j < length columns → eqb (get_or columns i d) (get_or columns j d) ≡ false
+      by i j d less within =
+          let long = are.long in
+          ne_eqb (get_or columns i d) (get_or columns j d) (λ same.
+          let e : i ≡ j = are.once i j (omega (arith, less, within, long)) (omega (arith, within, long)) (get_or_default columns i 0 d (omega (arith, less, within)) ∙ same ∙ get_or_default columns j d 0 within) in
+          omega (arith, e, less))
+
+  pub variable_of : (c : ℕ) → c < n → IsVariableOf n columns c
+  unfolding IsDistinct
+  variable_of c less = elim (cases_Bool (list_any (eqb c) columns)) [
+    | inl there ↦
+        let found : Contains columns c = Contains-from_any {eq = eqb} eqb-true c columns there in
+        let long = are.long in
+        let within = found.1 in
+        record { number = found.0; within = omega (arith, long, within); is = get_or_default columns found.0 0 c within ∙ found.2 }
+    | inr none ↦
+        let long = are.long in
+        let most : length (c ∷ columns) ≤ n =
+        length-le_from_distinct_below (c ∷ columns) n (with-new c none) (member-below (c ∷ columns) (low c less)) in
+        absurd (omega (arith, most, long))
+  ]
+    where
+      with-new : (c : ℕ) → list_any (eqb c) columns ≡ false → IsDistinct eqb (c ∷ columns)
+      with-new c none = (apart-from c columns none, distinct)
+
+      low : (c : ℕ) → c < n → (k : ℕ) → k < length (c ∷ columns) → get_or (c ∷ columns) k 0 < n
+      low c less zero inside = less
+      low c less (suc k) inside = are.within k (let long = are.long in omega (arith, inside, long))
+
+  pub columns-back : (v : List Bool) → length v ≡ n → by_column columns (by_variable columns v) ≡ v
+  columns-back v wide =
+      let u : List Bool = by_column columns (by_variable columns v) in
+      let long = are.long in
+      let lu = length-by_column columns (by_variable columns v) in
+      let lv = length-by_variable columns v in
+      ext_get_or false u v (omega (arith, lu, long, wide)) (λ c less.
+      let x = variable_of c (omega (arith, less, lu, long)) in
+      let within = x.within in
+      let inside : x.number < length columns = omega (arith, within, long) in
+      ap (λ i. get_or u i false) (sym x.is)
+      ∙ sym (by_variable-read columns u x.number inside)
+      ∙ ap (λ (w : List Bool). get_or w x.number false) (variables-back (by_variable columns v) (omega (arith, lv, long)))
+      ∙ by_variable-read columns v x.number inside
+      ∙ ap (λ i. get_or v i false) x.is)
