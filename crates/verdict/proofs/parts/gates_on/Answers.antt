@@ -18,7 +18,7 @@ use Rattle.fixpoint.specs.Sweeping.{rails_at}
 use Rattle.care_sets.specs.Care.{CareSet, columns, is_care_vector}
 use Rattle.refusals.specs.declared.refusal.Refusal.TheVariants.{Undetermined}
 use Rattle.refusals.specs.Refusals.{is_x, is_undetermined}
-use Rattle.verdict.specs.Enough.{IsOfDecision}
+use Rattle.verdict.specs.Enough.{IsLaid}
 use Rattle.verdict.specs.Sets.{Tells, AreFixed, difference}
 use Rattle.verdict.proofs.DecisionLemmas.{open-fits, unknown-fits}
 use Rattle.verdict.proofs.PartLemmas.{IsKnownOnCare, unknown-first, undetermined-found, undetermined-none, known-more, loose-more, loose-same, loose-all, AreFixed-kept, Tells-kept}
@@ -31,7 +31,7 @@ gate-inside : (c : After-unknown_on) → c.loop-gate.gate < length c.args.net.no
 gate-inside c = omega (arith, c.loop-gate-test.true, c.gates-gate-end.ensures.gates)
 
 -- the vectors on which it isn't 1, and those on which it is unknown
-gate-fits : (c : After-unknown_on) (care : CareSet) (w : ℕ) → Tells c.args.d.now c.args.set (is_care_vector c.args.net.now care) → IsWide c.args.d.now.vars (IsOfDecision c.args.net.now care) w →
+gate-fits : (c : After-unknown_on) (care : CareSet) (w : ℕ) → Tells c.args.net.now c.args.d.now c.args.set (is_care_vector c.args.net.now care) → IsWide c.args.d.now.vars (IsLaid c.args.net.now care) w →
     let r : Rails = rails_at c.args.rails.now ((c.inputs.result + c.latches.result) + c.loop-gate.gate) in
     (nodes c.loop-gate.d.vars (difference c.loop-gate.d c.args.set r.one) ≤ w) × (nodes c.loop-gate.d.vars (λ v. den c.loop-gate.d c.args.set v && is_x (value_of c.loop-gate.d r v)) ≤ w)
 gate-fits c care w told wide =
@@ -43,11 +43,11 @@ gate-fits c care w told wide =
     let within : place < count net = omega (arith, inside, c.inputs.ensures.inputs, c.latches.ensures.latches) in
     let vars : d.vars ≡ columns net = keeps.vars ∙ c.requires.vars in
     let fixed : AreFixed net d c.args.rails.now = AreFixed-kept keeps c.requires.fixed in
-    let set_told : Tells d c.args.set (is_care_vector net care) = Tells-kept keeps told in
-    let wide_d : IsWide d.vars (IsOfDecision net care) w = subst (λ k. IsWide k (IsOfDecision net care) w) (sym keeps.vars) wide in
+    let set_told : Tells net d c.args.set (is_care_vector net care) = Tells-kept keeps told in
+    let wide_d : IsWide d.vars (IsLaid net care) w = subst (λ k. IsWide k (IsLaid net care) w) (sym keeps.vars) wide in
     (open-fits net care d c.args.rails.now vars fixed place within c.args.set set_told wide_d, unknown-fits net care d c.args.rails.now vars fixed place within c.args.set set_told wide_d)
 
-gate-added : (c : After-unknown_on) (care : CareSet) (w : ℕ) → Tells c.args.d.now c.args.set (is_care_vector c.args.net.now care) → IsWide c.args.d.now.vars (IsOfDecision c.args.net.now care) w →
+gate-added : (c : After-unknown_on) (care : CareSet) (w : ℕ) → Tells c.args.net.now c.args.d.now c.args.set (is_care_vector c.args.net.now care) → IsWide c.args.d.now.vars (IsLaid c.args.net.now care) w →
     AddsAtMost c.args.d.now c.unknown_on.new.d (w * (2 * (c.loop-gate.gate + 1)))
 gate-added c care w told wide =
     let fits = gate-fits c care w told wide in
@@ -55,7 +55,7 @@ gate-added c care w told wide =
     (c.loop-gate.invariant.added care w told wide) (c.unknown_on.ensures.added w fits.0 fits.1)
 
 -- so many at most
-gates-added : (c : After-unknown_on) (care : CareSet) (w : ℕ) → Tells c.args.d.now c.args.set (is_care_vector c.args.net.now care) → IsWide c.args.d.now.vars (IsOfDecision c.args.net.now care) w →
+gates-added : (c : After-unknown_on) (care : CareSet) (w : ℕ) → Tells c.args.net.now c.args.d.now c.args.set (is_care_vector c.args.net.now care) → IsWide c.args.d.now.vars (IsLaid c.args.net.now care) w →
     AddsAtMost c.args.d.now c.unknown_on.new.d (w * (2 * length c.args.net.now.gates))
 gates-added c care w told wide =
     let inside = gate-inside c in
@@ -87,8 +87,8 @@ returns-clause-added c care w told wide =
 -- ---- what is known of the gates
 
 -- the vectors of care on which this gate is unknown
-gate-unknown : (c : After-unknown_on) (care : CareSet) → Tells c.args.d.now c.args.set (is_care_vector c.args.net.now care) → (unknown : Node) → ((v : List Bool) → den c.unknown_on.new.d unknown v ≡ (den c.loop-gate.d c.args.set v && is_x (value_of c.loop-gate.d (rails_at c.args.rails.now ((c.inputs.result + c.latches.result) + c.loop-gate.gate)) v))) →
-    find (den c.unknown_on.new.d unknown) (vectors c.unknown_on.new.d.vars) ≡ find (λ v. is_care_vector c.args.net.now care v && is_undetermined c.args.net.now (gate_sig c.args.net.now c.loop-gate.gate) v) (vectors (columns c.args.net.now))
+gate-unknown : (c : After-unknown_on) (care : CareSet) → Tells c.args.net.now c.args.d.now c.args.set (is_care_vector c.args.net.now care) → (unknown : Node) → ((v : List Bool) → den c.unknown_on.new.d unknown v ≡ (den c.loop-gate.d c.args.set v && is_x (value_of c.loop-gate.d (rails_at c.args.rails.now ((c.inputs.result + c.latches.result) + c.loop-gate.gate)) v))) →
+    find (λ v. den c.unknown_on.new.d unknown (laid c.args.net.now v)) (vectors c.unknown_on.new.d.vars) ≡ find (λ v. is_care_vector c.args.net.now care v && is_undetermined c.args.net.now (gate_sig c.args.net.now c.loop-gate.gate) v) (vectors (columns c.args.net.now))
 gate-unknown c care told unknown is =
     let net = c.args.net.now in
     let gate : ℕ = c.loop-gate.gate in
@@ -138,7 +138,7 @@ loop-gate-preserved-in_default c =
     let gate : ℕ = c.loop-gate.gate in
     let marks : List Bool = c.in_ok-observed.observed.items in
     let unknown : After-unknown_on = (goal.at.loop-gate-preserved-in_default c).After-unknown_on in
-    let known : (care : CareSet) → Tells c.args.d.now c.args.set (is_care_vector net care) → IsKnownOnCare net care gate =
+    let known : (care : CareSet) → Tells net c.args.d.now c.args.set (is_care_vector net care) → IsKnownOnCare net care gate =
     λ care told. sym (gate-unknown unknown care told c.in_ok-unknown.unknown c.in_ok-unknown.ensures.unknown) ∙ sym c.in_ok-vector.ensures ∙ ap (option_map (λ (v : Vec Bool Global). v.items)) c.in_default.is in
     let few = c.loop-gate.invariant.few in
     record {
