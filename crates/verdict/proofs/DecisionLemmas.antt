@@ -70,8 +70,8 @@ vector_of-laid net v wide = columns-back (columns net) (order net) (order-is net
 pub made-laid : {net : Parts} {care : CareSet} {h : List Bool → Bool} → IsMadeOf net care h → IsMade net care (λ u. h (vector_of net u))
 made-laid {net} {h = h} x = record { of = x.of; listed = x.listed; by = x.by; same = λ v long. ap h (vector_of-laid net v long) ∙ x.same v long }
 
-made-at : {net : Parts} {care : CareSet} {g : List Bool → Bool} (x : IsMade net care g) (u : List Bool) → length u ≡ columns net → g u ≡ x.by (x.of (vector_of net u))
-made-at {net} {g = g} x u long = ap g (sym (laid-vector_of net u long)) ∙ x.same (vector_of net u) (length-vector_of net u)
+made-at : {net : Parts} {care : CareSet} (g : List Bool → Bool) (x : IsMade net care g) (u : List Bool) → length u ≡ columns net → g u ≡ x.by (x.of (vector_of net u))
+made-at {net} g x u long = ap g (sym (laid-vector_of net u long)) ∙ x.same (vector_of net u) (length-vector_of net u)
 
 laid-listed : {net : Parts} {care : CareSet} {f : List Bool → Bool} → IsOfDecision net care f → IsLaid net care (λ u. f (vector_of net u))
 laid-listed {net} {f = f} is = record { of = f; is = is; same = λ v long. ap f (vector_of-laid net v long) }
@@ -85,7 +85,7 @@ made-wide {net} {care} {w} wide = record {
       let most = wide.combinations (λ p q r. c (x.by p) (y.by q) (z.by r)) (λ u. x.of (at u)) (λ u. y.of (at u)) (λ u. z.of (at u)) (laid-listed x.listed) (laid-listed y.listed) (laid-listed z.listed) in
       let same : nodes (columns net) (λ u. c (f u) (g u) (h u)) ≡ nodes (columns net) (λ u. c (x.by (x.of (at u))) (y.by (y.of (at u))) (z.by (z.of (at u)))) =
       nodes-alike (columns net) (λ u. c (f u) (g u) (h u)) (λ u. c (x.by (x.of (at u))) (y.by (y.of (at u))) (z.by (z.of (at u))))
-      (λ u long. ap (λ p. c p (g u) (h u)) (made-at x u long) ∙ ap₂ (λ q r. c (x.by (x.of (at u))) q r) (made-at y u long) (made-at z u long)) in
+      (λ u long. ap (λ p. c p (g u) (h u)) (made-at f x u long) ∙ ap₂ (λ q r. c (x.by (x.of (at u))) q r) (made-at g y u long) (made-at h z u long)) in
       omega (arith, most, same);
 }
 

@@ -35,7 +35,7 @@ use Rattle.verdict.proofs.deciding.judge.Goals.{After-column_rails, After-begin,
 pub later-requires-clause-fixed : goal.later-requires-clause-fixed
 later-requires-clause-fixed c =
     let are : AreColumns c.solve.new.d (order c.args.net.now) c.deref-4.result.now =
-    subst (AreColumns c.solve.new.d (order c.args.net.now)) (sym c.deref-4.ensures.value) (AreColumns-kept (KeepsNodes-chain c.begin.ensures.keeps c.solve.ensures.keeps) c.in_ok-rails.ensures.rails) in
+    subst (AreColumns c.solve.new.d (order c.args.net.now)) (sym c.deref-4.ensures.value) (AreColumns-kept (KeepsNodes-chain c.begin.ensures.keeps c.solve.ensures.keeps) (subst (λ (cs : List ℕ). AreColumns c.column_rails.new.d cs c.in_ok-rails.rails.items) (c.deref.ensures.value ∙ c.in_ok-order.ensures.order) c.in_ok-rails.ensures.rails)) in
     let vars : c.solve.new.d.vars ≡ columns c.args.net.now = c.solve.ensures.keeps.vars ∙ c.begin.ensures.keeps.vars ∙ c.column_rails.ensures.keeps.vars ∙ c.requires.vars in
     subst (AreFixed c.args.net.now c.solve.new.d) (sym c.items.ensures)
     (fixed-is c.args.net.now c.args.blocks.now c.args.cut.now c.solve.new.d c.deref-4.result.now c.in_ok-solved.solved are vars c.in_ok-solved.ensures.solution)
@@ -43,7 +43,7 @@ later-requires-clause-fixed c =
 -- what is known once nothing refuses
 
 given-columns : (c : In-Determined) → AreColumns c.solve.new.d (order c.args.net.now) c.deref-4.result.now
-given-columns c = subst (AreColumns c.solve.new.d (order c.args.net.now)) (sym c.deref-4.ensures.value) (AreColumns-kept (KeepsNodes-chain c.begin.ensures.keeps c.solve.ensures.keeps) c.in_ok-rails.ensures.rails)
+given-columns c = subst (AreColumns c.solve.new.d (order c.args.net.now)) (sym c.deref-4.ensures.value) (AreColumns-kept (KeepsNodes-chain c.begin.ensures.keeps c.solve.ensures.keeps) (subst (λ (cs : List ℕ). AreColumns c.column_rails.new.d cs c.in_ok-rails.rails.items) (c.deref.ensures.value ∙ c.in_ok-order.ensures.order) c.in_ok-rails.ensures.rails))
 
 start-is : (c : In-Determined) → IsCareStart c.args.net.now c.args.care.now c.begin.new.d c.in-Care.set
 start-is c = subst (IsStart c.args.net.now c.args.care.now c.begin.new.d) c.in-Care.is c.in_ok-set.ensures.start
@@ -99,7 +99,7 @@ store-after limit most vars keeps = IsStoreFor-kept keeps (record { variables = 
 
 pub returns-in_err-rails-clause-full : goal.returns-in_err-rails-clause-full
 returns-in_err-rails-clause-full c is_full =
-    let refused = ap {A = StoreFault} Err (sym (rw is_full at c.from_residual.ensures.1)) in
+    let refused = ap {A = StoreFault} Err (sym (rw is_full at c.from_residual-in_err-rails.ensures.1)) in
     out_past c.args.d.now c.column_rails.new.d c.args.net.now c.args.care.now c.args.d.now.limit _ (store-after c.args.d.now.limit refl c.requires.vars c.column_rails.ensures.keeps) (c.in_err-rails.ensures.full refused)
 
 pub returns-in_err-set-clause-full : goal.returns-in_err-set-clause-full
@@ -161,7 +161,7 @@ solve-wide c w wide =
     let net = c.args.net.now in
     let d = c.begin.new.d in
     let vars : d.vars ≡ columns net = c.begin.ensures.keeps.vars ∙ c.column_rails.ensures.keeps.vars ∙ c.requires.vars in
-    let are : AreColumns d (order c.args.net.now) c.deref-4.result.now = subst (AreColumns d (order c.args.net.now)) (sym c.deref-4.ensures.value) (AreColumns-kept c.begin.ensures.keeps c.in_ok-rails.ensures.rails) in
+    let are : AreColumns d (order c.args.net.now) c.deref-4.result.now = subst (AreColumns d (order c.args.net.now)) (sym c.deref-4.ensures.value) (AreColumns-kept c.begin.ensures.keeps (subst (λ (cs : List ℕ). AreColumns c.column_rails.new.d cs c.in_ok-rails.rails.items) (c.deref.ensures.value ∙ c.in_ok-order.ensures.order) c.in_ok-rails.ensures.rails)) in
     working-wide net c.args.care.now d c.deref-4.result.now vars are (loops_by c.args.blocks.now c.args.cut.now)
     (loops-are net c.args.blocks.now c.args.cut.now c.requires.blocks c.requires.cut) (wide-at net c.args.care.now d.vars w vars wide)
 
@@ -195,7 +195,7 @@ sweeps-wide c w wide =
 pub returns-in_err-rails-clause-enough : goal.returns-in_err-rails-clause-enough
 returns-in_err-rails-clause-enough c is_full none = record {
   below = λ w wide.
-      let refused = ap {A = StoreFault} Err (sym (rw is_full at c.from_residual.ensures.1)) in
+      let refused = ap {A = StoreFault} Err (sym (rw is_full at c.from_residual-in_err-rails.ensures.1)) in
       let sum = costs-enough c.args.net.now c.args.care.now w wide in
       let past = (c.in_err-rails.ensures.full refused).past in
       omega (arith, past, none, sum, c.requires.vars, c.column_rails.ensures.keeps.limit);

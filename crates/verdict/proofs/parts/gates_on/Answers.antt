@@ -14,6 +14,7 @@ use Rattle.dual_rail.specs.Rails.{value_of}
 use Rattle.dual_rail.specs.WorkingLists.{IsWide}
 use Rattle.cyc_base.specs.Vectors.{vectors}
 use Rattle.netlist.specs.Netlists.{count, gate_sig}
+use Rattle.fixpoint.specs.Orders.{laid}
 use Rattle.fixpoint.specs.Sweeping.{rails_at}
 use Rattle.care_sets.specs.Care.{CareSet, columns, is_care_vector}
 use Rattle.refusals.specs.declared.refusal.Refusal.TheVariants.{Undetermined}
