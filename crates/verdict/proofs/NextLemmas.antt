@@ -21,7 +21,6 @@ use Rattle.netlist.specs.declared.parts.Latch.{Latch}
 use Rattle.netlist.specs.declared.parts.Parts.{Parts}
 use Rattle.netlist.specs.Fixpoint.{wire, fix, next}
 use Rattle.netlist.specs.Netlists.{IsNetlist, count}
-use Rattle.loops.specs.Sweeps.{value_in}
 use Rattle.fixpoint.specs.Orders.{laid}
 use Rattle.fixpoint.specs.Sweeping.{rails_at}
 use Rattle.fixpoint.proofs.CutLemmas.{one-of, zero-of}
@@ -97,7 +96,7 @@ within-more net s set v n latch found = by (den s set (laid net v))
         ∙ ap (λ (t : Trit). take n (replicate (length net.latches) X) ++ t ∷ []) (get_or-replicate (length net.latches) n X X inside)
 
 -- the source
-source-within : (net : Parts) (n : ℕ) (latch : Latch) → IsNetlist net → slice_get net.latches n ≡ Some latch → latch.from.0 < count net
+pub source-within : (net : Parts) (n : ℕ) (latch : Latch) → IsNetlist net → slice_get net.latches n ≡ Some latch → latch.from.0 < count net
 source-within net n latch valid found =
     subst (λ (l : Latch). l.from.0 < count net) (get_or_from_slice_get net.latches n latch latch found) (valid.sources n latch (slice_get_within net.latches n latch found))
 

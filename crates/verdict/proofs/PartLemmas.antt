@@ -50,9 +50,9 @@ use Rattle.verdict.proofs.SetLemmas.{find-alike}
 -- ---- sets
 
 pub Tells-kept : {net : Parts} {s t : Arena} {n : Node} {test : List Bool → Bool} → KeepsNodes s t → Tells net s n test → Tells net t n test
-Tells-kept {net} k is = record {
+Tells-kept {net} {n = n} k is = record {
   node = omega (arith, is.node, k.more);
-  value = λ v wide. k.function _ (laid net v) is.node ∙ is.value v (wide ∙ k.vars);
+  value = λ v wide. k.function n (laid net v) is.node ∙ is.value v (wide ∙ k.vars);
 }
 
 -- the first vector of a set that a test tells

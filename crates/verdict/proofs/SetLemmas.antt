@@ -1,6 +1,8 @@
 -- The least vector of a set.
-use Rattle.std.proofs.Common.{◌≡◌, ◌==◌, ℕ, zero, suc, ◌≤◌, Bool, true, false, not, ◌&&◌, if◌then◌else◌, cond, List, [], ◌∷◌, length, map, Option, Some, None, refl, sym, ap, ap₂, ◌∙◌, arith, true≢false}
+use Rattle.std.proofs.Common.{◌≡◌, ◌==◌, ℕ, zero, suc, ◌<◌, ◌≤◌, Bool, true, false, not, ◌&&◌, if◌then◌else◌, cond, List, [], ◌∷◌, length, map, Option, Some, None, refl, sym, ap, ap₂, subst, ◌∙◌, arith, true≢false}
+use Rattle.std.specs.List.{All}
 use Rattle.std.specs.Prelude.{find, is_none}
+use Rattle.std.proofs.lemmas.List.{get_or_default}
 use Rattle.std.specs.Option.{option_or, option_map}
 use Rattle.std.proofs.lemmas.Bool.{eqb-true, eq-eqb}
 use Rattle.std.proofs.lemmas.List.Folds.{find-append}
@@ -35,6 +37,13 @@ least-first n f v wide least = by_found (find f (vectors n)) refl
     by_found (Some u) is =
         let wide_u : length u ≡ n = found_wide n f u is in
         is ∙ ap (λ w. Some w) (sym (same_vectors v u (wide ∙ sym wide_u) (least.before_all u (wide_u ∙ sym wide) (found_passes f (vectors n) u is)) (found_least n f u v is wide least.true_there)))
+
+-- the columns of a layout are places of a vector that is as wide
+pub layout-within : (n m : ℕ) (columns : List ℕ) → n ≡ m → IsLayout n columns → All (λ column. column < m) columns
+layout-within n m columns same layout k d inside =
+    let long = layout.long in
+    let low = layout.within k (omega (arith, inside, long)) in
+    subst (λ column. column < m) (get_or_default columns k 0 d inside) (omega (arith, low, same))
 
 -- tests that agree at all vectors of the width find the same
 pub find-alike : (n : ℕ) (f g : List Bool → Bool) → ((v : List Bool) → length v ≡ n → f v ≡ g v) → find f (vectors n) ≡ find g (vectors n)

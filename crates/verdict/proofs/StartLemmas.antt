@@ -78,8 +78,12 @@ next_column : (net : Parts) (cs : List ℕ) (w : List Bool) (k : ℕ) → k < le
     all_may_start_at net (drop k cs) (drop k w) ≡ (may_start_at net (get_or cs k 0) (get_or w k false) && all_may_start_at net (drop (k + 1) cs) (drop (k + 1) w))
 next_column net cs w k inside within = ap₂ (all_may_start_at net) (drop_more cs k 0 inside) (drop_more w k false within)
 
-long-order : (net : Parts) → length (order net) ≡ columns net
+pub long-order : (net : Parts) → length (order net) ≡ columns net
 long-order net = (order-is net).long
+
+-- a variable's column
+pub order-low : (net : Parts) (k : ℕ) → k < columns net → get_or (order net) k 0 < columns net
+order-low net k inside = (order-is net).within k inside
 
 pub later-none : (net : Parts) (a : Arena) (set : Node) (k : ℕ) → IsNodeOf a set → ((w : List Bool) → den a set w ≡ true) → columns net ≤ k → TellsLater net a set k
 later-none net a set k in_set true_there end = record {

@@ -114,18 +114,15 @@ pub(crate) fn gates_on(
     let mut loose = 0;
     for gate in 0..net.gates() {
         let unknown = unknown_on(d, set, rails[(first + gate) as usize])?;
-        if !observed[gate as usize] {
-            if is_never(d, unknown) {
-                continue;
+        if observed[gate as usize] {
+            if let Some(vector) = least_of(alloc, d, order, unknown)? {
+                return Ok(Gates::Refused(Refusal::Undetermined {
+                    vector: Bits::of(vector),
+                    wire: net.gate_sig(gate),
+                }));
             }
+        } else if !is_never(d, unknown) {
             loose += 1;
-            continue;
-        }
-        if let Some(vector) = least_of(alloc, d, order, unknown)? {
-            return Ok(Gates::Refused(Refusal::Undetermined {
-                vector: Bits::of(vector),
-                wire: net.gate_sig(gate),
-            }));
         }
     }
     Ok(Gates::Determined { loose })

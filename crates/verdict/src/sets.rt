@@ -1,6 +1,6 @@
 //! Sets of vectors as nodes, and their least vectors.
 
-ghost use Rattle.std.specs.Prelude.{◌≡◌, ◌≤◌, ℕ, Bool, List, IfOk, find, is_none, length, option_map};
+ghost use Rattle.std.specs.Prelude.{◌≡◌, ◌<◌, ◌≤◌, ℕ, Bool, List, All, IfOk, find, is_none, length, option_map};
 ghost use Rattle.bdd_store.specs.Arena.{den, IsNodeOf};
 ghost use Rattle.bdd_store.specs.Growth.{KeepsNodes, AddsAtMost, IsFullOnlyPast};
 ghost use Rattle.bdd_store.specs.Subfunctions.{nodes};
@@ -40,7 +40,7 @@ pub(crate) fn by_variable(
     columns: &[u32],
     vector: &[bool],
 ) -> Result<Vec<bool>, AllocError>
-    requires { IsLayout (length vector.now) columns.now }
+    requires { All (λ column. column < length vector.now) columns.now }
     ensures { IfOk result (λ bits. bits.items ≡ by_variable_of columns.now vector.now) }
 {
     columns

@@ -1,8 +1,11 @@
 use Rattle.std.proofs.Common.{◌∙◌, Vec, Global, Some, None, Bool, List, sym, ap, ap₂, drop}
 use Rattle.std.specs.Option.{option_map}
 use Rattle.refusals.specs.declared.refusal.Refusal.TheVariants.{Initial}
-use Rattle.verdict.proofs.PartLemmas.{by-order, initial-is}
+use Rattle.verdict.proofs.PartLemmas.{by-order, initial-is, order-layout}
 use Rattle.verdict.proofs.parts.initial_refusal.Goals as goal
+
+pub least_of-requires-clause-columns : goal.least_of-requires-clause-columns
+least_of-requires-clause-columns c = order-layout c.args.net.now c.minus.new.d.vars c.args.order.now (c.minus.ensures.keeps.vars ∙ c.requires.vars) c.requires.order
 
 pub returns-in_default-clause-refusal : goal.returns-in_default-clause-refusal
 returns-in_default-clause-refusal c care inside_is =

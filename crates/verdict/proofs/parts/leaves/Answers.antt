@@ -24,7 +24,7 @@ use Rattle.verdict.specs.Sets.{ReadsWithin, difference}
 use Rattle.verdict.proofs.CauseLemmas.{over-more}
 use Rattle.verdict.proofs.DecisionLemmas.{signals-bounded, wide-kept}
 use Rattle.verdict.proofs.LeavesLemmas.{within-set, leaves-fit}
-use Rattle.verdict.proofs.PartLemmas.{by-order, invariant-reads, leaves-is, AreFixed-kept, Tells-kept}
+use Rattle.verdict.proofs.PartLemmas.{by-order, invariant-reads, leaves-is, order-layout, AreFixed-kept, Tells-kept}
 use Rattle.verdict.proofs.WorkLemmas.{next-bounded}
 use Rattle.verdict.proofs.parts.leaves.Goals as goal
 use Rattle.verdict.proofs.parts.leaves.Goals.{After-next_on, After-invariant_on, After-minus}
@@ -34,6 +34,10 @@ invariant_on-requires-clause-reads c =
     let width = length c.deref.result.now in
     subst (λ first. IfSome c.args.care.now.invariant (ReadsWithin first width)) (sym c.inputs.ensures.inputs)
     (invariant-reads c.args.net.now c.args.care.now width c.requires.care (ap length c.deref.ensures.value ∙ c.in_ok-next.ensures.width))
+
+pub least_of-requires-clause-columns : goal.least_of-requires-clause-columns
+least_of-requires-clause-columns c =
+    order-layout c.args.net.now c.minus.new.d.vars c.args.order.now (c.minus.ensures.keeps.vars ∙ c.invariant_on.ensures.keeps.vars ∙ c.next_on.ensures.keeps.vars ∙ c.requires.vars) c.requires.order
 
 pub next_of-requires-clause-fixed : goal.next_of-requires-clause-fixed
 next_of-requires-clause-fixed c =

@@ -1,4 +1,4 @@
-use Rattle.std.proofs.Common.{◌≡◌, ◌∙◌, inr, ◌&&◌, ◌+◌, ◌*◌, ◌≤◌, Err, ℕ, length, true, false, None, sym, ap, subst, arith}
+use Rattle.std.proofs.Common.{◌≡◌, ◌∙◌, inr, ◌&&◌, ◌+◌, ◌*◌, ◌≤◌, Err, ℕ, true, false, None, sym, ap, subst, arith}
 use Rattle.bdd_store.specs.declared.fault.StoreFault.{StoreFault}
 use Rattle.bdd_store.specs.Growth.{KeepsNodes, AddsAtMost}
 use Rattle.bdd_store.specs.Subfunctions.{nodes}

@@ -1,9 +1,9 @@
-use Rattle.std.proofs.Common.{◌≡◌, Err, ℕ, ◌+◌, ◌-◌, ◌*◌, ◌<◌, ◌≤◌, ◌∙◌, Bool, List, length, drop, get_or, sym, ap, ap₂, subst, arith}
+use Rattle.std.proofs.Common.{◌≡◌, Err, ℕ, ◌+◌, ◌-◌, ◌*◌, ◌<◌, ◌≤◌, ◌∙◌, Bool, List, length, drop, get_or, sym, ap, ap₂, arith}
 use Rattle.std.specs.Prelude.{slice_get, Some}
 use Rattle.bdd_store.specs.declared.fault.StoreFault.{StoreFault}
 use Rattle.bdd_store.specs.Growth.{AddsAtMost}
 use Rattle.bdd_store.specs.Subfunctions.{nodes}
-use Rattle.bdd_store.proofs.GrowthLemmas.{KeepsNodes-chain, added-next, added-within, full-next}
+use Rattle.bdd_store.proofs.GrowthLemmas.{KeepsNodes-chain, KeepsNodes-refl, added-next, added-within, full-next}
 use Rattle.bdd_ops.specs.Operations.{conjunction}
 use Rattle.dual_rail.specs.declared.rail.Rails.{Rails}
 use Rattle.dual_rail.specs.Rails.{AreRailsOf}
@@ -15,7 +15,7 @@ use Rattle.isolation.specs.Columns.{AreColumns}
 use Rattle.verdict.specs.Sets.{BoundsStarts}
 use Rattle.verdict.proofs.CauseLemmas.{added-to, full-to}
 use Rattle.isolation.proofs.ColumnLemmas.{AreColumns-kept}
-use Rattle.verdict.proofs.StartLemmas.{all_may_start_at, later-both, later-input, later-more, later-nodes}
+use Rattle.verdict.proofs.StartLemmas.{all_may_start_at, long-order, order-low, later-none, later-both, later-input, later-more, later-nodes, starts-told}
 use Rattle.verdict.proofs.starting.starts_on.Goals as goal
 use Rattle.verdict.proofs.starting.starts_on.Goals.{After-and}
 
@@ -26,7 +26,38 @@ variable-inside c = omega (arith, c.loop-variable-test.true, c.loop-variable.aut
 column-is : (c : After-and) → get_or c.args.order.now (c.loop-variable.variable - 1) 0 ≡ get_or (order c.args.net.now) (c.loop-variable.variable - 1) 0
 column-is c = ap (λ (xs : List ℕ). get_or xs (c.loop-variable.variable - 1) 0) c.requires.order
 
--- the latch and those after it, and what this adds
+-- ---- the variables and their columns
+
+pub loop-variable-init : goal.loop-variable-init
+loop-variable-init c = record {
+  keeps = KeepsNodes-refl c.args.d.now;
+  added = λ w fits. omega arith;
+  later = later-none c.args.net.now c.args.d.now c.of-set.result (c.inputs-first.result + c.latches.result) (c.of-set.ensures.node c.args.d.now) (c.of-set.ensures.value c.args.d.now)
+      (omega (arith, c.inputs-first.ensures.inputs, c.latches.ensures.latches));
+}
+
+pub bounds-order-variable : goal.bounds-order-variable
+bounds-order-variable c =
+    let long = long-order c.args.net.now in
+    let same = ap length c.requires.order in
+    omega (arith, c.loop-variable-test.true, c.loop-variable.auto.variable, c.inputs-first.ensures.inputs, c.latches.ensures.latches, long, same)
+
+pub latch-requires : goal.latch-requires
+latch-requires c =
+    let k : ℕ = c.loop-variable.variable - 1 in
+    let low = order-low c.args.net.now k (omega (arith, c.loop-variable-test.true, c.loop-variable.auto.variable, c.inputs-first.ensures.inputs, c.latches.ensures.latches)) in
+    let same = ap (λ (xs : List ℕ). get_or xs k 0) c.requires.order in
+    omega (arith, low, same, c.if-column-first.true, c.inputs-first.ensures.inputs)
+
+pub bounds-rails-column : goal.bounds-rails-column
+bounds-rails-column c =
+    let k : ℕ = c.loop-variable.variable - 1 in
+    let low = order-low c.args.net.now k (omega (arith, c.loop-variable-test.true, c.loop-variable.auto.variable, c.inputs-first.ensures.inputs, c.latches.ensures.latches)) in
+    let same = ap (λ (xs : List ℕ). get_or xs k 0) c.requires.order in
+    let wide = c.requires.columns.width in
+    omega (arith, low, same, wide, c.requires.vars)
+
+-- ---- the latch and those after it, and what this adds
 
 both : (c : After-and) → (w : List Bool) → length w ≡ c.loop-variable.d.vars →
     conjunction c.loop-variable.d c.may_start_on-latch.result c.loop-variable.set w ≡ all_may_start_at c.args.net.now (drop (c.loop-variable.variable - 1) (order c.args.net.now)) (drop (c.loop-variable.variable - 1) w)
@@ -60,6 +91,37 @@ added-so-far c w fits =
     added-within c.args.d.now c.and.new.self w (columns c.args.net.now - c.loop-variable.variable + 1) (columns c.args.net.now - (c.loop-variable.variable - 1)) (one-more c)
     (added-next c.args.d.now c.loop-variable.d c.and.new.self w (columns c.args.net.now - c.loop-variable.variable) (c.loop-variable.invariant.added w fits)
     (added-to c.loop-variable.d c.and.new.self _ w (fits-one c w fits) c.and.ensures.added))
+
+pub loop-variable-preserved-then-column-first : goal.loop-variable-preserved-then-column-first
+loop-variable-preserved-then-column-first g =
+    let c : After-and = (goal.at.loop-variable-preserved-then-column-first g).After-and in
+    record {
+      keeps = KeepsNodes-chain c.loop-variable.invariant.keeps c.and.ensures.keeps;
+      added = added-so-far c;
+      later = later-more c.args.net.now c.loop-variable.d c.and.new.self c.loop-variable.set c.may_start_on-latch.result g.in_ok-set.set (c.loop-variable.variable - 1)
+          c.and.ensures.keeps (both c) g.in_ok-set.ensures.node g.in_ok-set.ensures.function;
+    }
+
+-- an input's column stands for all
+pub loop-variable-preserved : goal.loop-variable-preserved
+loop-variable-preserved c =
+    let net = c.args.net.now in
+    let k : ℕ = c.loop-variable.variable - 1 in
+    let keeps = c.loop-variable.invariant.keeps in
+    let inside : k < columns net = omega (arith, c.loop-variable-test.true, c.loop-variable.auto.variable, c.inputs-first.ensures.inputs, c.latches.ensures.latches) in
+    let same = ap (λ (xs : List ℕ). get_or xs k 0) c.requires.order in
+    record {
+      keeps = keeps;
+      added = λ w fits. added-within c.args.d.now c.loop-variable.d w (columns net - c.loop-variable.variable) (columns net - k) (omega arith) (c.loop-variable.invariant.added w fits);
+      later = later-input net c.loop-variable.d c.loop-variable.set c.loop-variable.variable k (omega (arith, c.loop-variable-test.true)) (keeps.vars ∙ c.requires.vars) inside
+          (omega (arith, same, c.if-column-first.false, c.inputs-first.ensures.inputs)) c.loop-variable.invariant.later;
+    }
+
+pub returns-clause-starts : goal.returns-clause-starts
+returns-clause-starts c =
+    starts-told c.args.net.now c.loop-variable.d c.loop-variable.set c.loop-variable.variable (omega (arith, c.loop-variable-test.false)) (c.loop-variable.invariant.keeps.vars ∙ c.requires.vars) c.loop-variable.invariant.later
+
+-- ---- how much that adds
 
 pub returns-in_err-set-clause-added : goal.returns-in_err-set-clause-added
 returns-in_err-set-clause-added g w fits =
