@@ -1,6 +1,6 @@
 #!/usr/bin/env bash
-# Decides the rings of `demo`, of 8 to 64 cells, the examples with care files, a multiplier beside a loop, and chains of
-# pairs of units that share a loop. It prints time and peak memory of each, and but for the rings the nodes that the
+# Decides the rings of `demo`, of 8 to 64 cells, the examples with care files, adders in ones' complement, a multiplier
+# beside a loop, and chains of pairs of units that share a loop. It prints time and peak memory of each, and but for the rings the nodes that the
 # diagrams hold at its end: no node is ever dropped, so that is the least limit that is not reached.
 set -u
 top=$(cd "$(dirname "$0")/.." && pwd) || exit 1
@@ -50,6 +50,25 @@ multiplier() {
     }' >"$dir/multiplier.blif"
 }
 
+# An adder of so many bits in ones' complement, its operands as buses. It is cared for where some position doesn't
+# propagate.
+end_around() {
+    awk -v n="$1" -v care="$dir/end_around.care" 'BEGIN {
+        for (i = 0; i < n; i++) { a = a " a" i; b = b " b" i; sums = sums " s" i }
+        printf ".model end_around\n.inputs%s%s\n.outputs%s\n", a, b, sums
+        printf ".model assume\n.inputs%s%s\n.outputs o%d\n", a, b, n - 1 >care
+        for (i = 0; i < n; i++) {
+            j = i ? i - 1 : n - 1
+            printf ".names a%d b%d c%d c%d\n11- 1\n1-1 1\n-11 1\n", i, i, j, i
+            printf ".names a%d b%d c%d s%d\n100 1\n010 1\n001 1\n111 1\n", i, i, j, i
+            printf ".names a%d b%d %s%d\n00 1\n11 1\n", i, i, i ? "e" : "o", i >care
+            if (i) printf ".names o%d e%d o%d\n1- 1\n-1 1\n", i - 1, i, i >care
+        }
+        print ".end"
+        print ".end" >care
+    }' >"$dir/end_around.blif"
+}
+
 meets() {
     local limit=$1
     shift
@@ -94,6 +113,10 @@ for cells in 8 16 32 64; do
 done
 for name in token_ring_4 round_robin_8 round_robin_32 end_around_carry; do
     measure "$name" "$top/examples/$name.blif" --care "$top/examples/$name.care"
+done
+for bits in 16 32 64; do
+    end_around "$bits"
+    measure "end around $bits" "$dir/end_around.blif" --care "$dir/end_around.care"
 done
 for bits in 12 16; do
     multiplier "$bits"

@@ -1,47 +1,77 @@
--- The rails of columns, one after another.
-use Rattle.std.proofs.Common.{◌≡◌, ℕ, zero, suc, ◌+◌, ◌<◌, Bool, false, List, [], ◌∷◌, ◌++◌, length, refl, sym, ap, ap₂, ◌∙◌, arith}
-use Rattle.std.proofs.lemmas.List.{map-append, map_more, length_push, take_all}
-use Rattle.std.proofs.lemmas.List.Elements.{All-append}
+-- The rails of columns, one variable after another.
+use Rattle.std.proofs.Common.{◌≡◌, ◌≢◌, inl, inr, ℕ, ◌+◌, ◌<◌, ◌≤◌, Bool, false, List, length, get_or, set, replicate, sym, ap, subst, ◌∙◌, arith, length-set, get_or-set_same, get_or-set_other}
+use Rattle.std.proofs.lemmas.Bool.{cases_lt}
+use Rattle.std.proofs.lemmas.List.{ext_get_or, get_or-map, length-map, length-replicate}
+use Rattle.std.proofs.lemmas.List.Elements.{All-replicate, All-set}
 use Rattle.std.specs.List.{All}
 use Rattle.bdd_store.specs.Arena.{Arena}
 use Rattle.bdd_store.specs.Growth.{KeepsNodes}
+use Rattle.bdd_ops.specs.Least.{IsLayout, by_variable}
 use Rattle.bdd_ops.specs.Operations.{bit_at}
-use Rattle.cyc_base.specs.declared.trit.Trit.{Trit}
+use Rattle.cyc_base.specs.declared.trit.Trit.TheVariants.{X}
 use Rattle.cyc_base.specs.Values.{bit, bits}
 use Rattle.dual_rail.specs.declared.rail.Rails.{Rails}
-use Rattle.dual_rail.specs.Rails.{AreRailsOf, value_of}
-use Rattle.dual_rail.proofs.SurelyLemmas.{values_of-kept, All-rails-kept}
+use Rattle.dual_rail.specs.Rails.{AreRailsOf, value_of, values_of}
+use Rattle.dual_rail.proofs.SurelyLemmas.{value_of-kept, values_of-kept, All-rails-kept}
+use Rattle.fixpoint.specs.Sweeping.{rails_at, unknown}
+use Rattle.fixpoint.proofs.LayoutLemmas.{by_variable-read, variable_of}
+use Rattle.fixpoint.proofs.WireLemmas.{rails_at-proper, unknown-rails}
 use Rattle.isolation.specs.Columns.{AreFirstColumns, AreColumns}
 
-one_proper : (a : Arena) (r : Rails) → AreRailsOf a r → All (AreRailsOf a) (r ∷ [])
-one_proper a r is zero d less = is
-one_proper a r is (suc k) d less = absurd (omega (arith, less))
-
-pub columns-start : (a : Arena) → AreFirstColumns a 0 []
-columns-start a = record { width = refl; proper = λ k d less. absurd (omega (arith, less)); values = λ v wide. refl }
-
-pub columns-more : {s t : Arena} {k : ℕ} {rails : List Rails} → KeepsNodes s t → k < s.vars → AreFirstColumns s k rails →
-    (r : Rails) → AreRailsOf t r → ((v : List Bool) → value_of t r v ≡ bit (bit_at k v)) → AreFirstColumns t (k + 1) (rails ++ r ∷ [])
-columns-more {s} {t} {k} {rails} keeps inside before r proper value = record {
-  width = length_push rails r ∙ ap (λ n. n + 1) before.width;
-  proper = All-append (AreRailsOf t) rails (r ∷ []) (All-rails-kept keeps rails before.proper) (one_proper t r proper);
-  values = λ v wide.
-      let wide_s : length v ≡ s.vars = wide ∙ keeps.vars in
-      map-append (λ (q : Rails). value_of t q v) rails (r ∷ [])
-      ∙ ap₂ (λ (xs : List Trit) (x : Trit). xs ++ x ∷ []) (values_of-kept keeps rails before.proper v ∙ before.values v wide_s) (value v)
-      ∙ sym (map_more bit v k false (omega arith));
+-- none yet
+pub columns-start : (a : Arena) (columns : List ℕ) (rails : List Rails) → IsLayout a.vars columns → rails ≡ replicate (length columns) unknown → AreFirstColumns a columns 0 rails
+columns-start a columns rails are is = record {
+  width = ap length is ∙ length-replicate (length columns) unknown ∙ are.long;
+  proper = subst (All (AreRailsOf a)) (sym is) (All-replicate (AreRailsOf a) (length columns) unknown (unknown-rails a));
+  values = λ k less w. absurd (omega (arith, less));
 }
 
-pub columns-end : {a : Arena} {k : ℕ} {rails : List Rails} → a.vars ≡ k → AreFirstColumns a k rails → AreColumns a rails
-columns-end {a} {k} {rails} all is = record {
-  width = is.width ∙ sym all;
+-- one variable more
+pub columns-more : {s t : Arena} {columns : List ℕ} {first : ℕ} {rails : List Rails} → KeepsNodes s t → IsLayout s.vars columns → first < s.vars → AreFirstColumns s columns first rails →
+    (r : Rails) → AreRailsOf t r → ((w : List Bool) → value_of t r w ≡ bit (bit_at first w)) → AreFirstColumns t columns (first + 1) (set rails (get_or columns first 0) r)
+columns-more {s} {t} {columns} {first} {rails} keeps are inside before r proper value = record {
+  width = length-set rails (get_or columns first 0) r ∙ before.width ∙ sym keeps.vars;
+  proper = All-set (AreRailsOf t) rails (get_or columns first 0) r proper (All-rails-kept keeps rails before.proper);
+  values = λ k less w. elim (cases_lt k first) [
+    | inl low ↦
+        let other : get_or columns k 0 ≢ get_or columns first 0 = λ same. let e = are.once k first (omega (arith, low, inside)) inside same in omega (arith, e, low) in
+        ap (λ (q : Rails). value_of t q w) (get_or-set_other rails (get_or columns first 0) (get_or columns k 0) r unknown other)
+        ∙ value_of-kept keeps (rails_at rails (get_or columns k 0)) (rails_at-proper s rails before.proper (get_or columns k 0)) w
+        ∙ before.values k low w
+    | inr high ↦
+        let same : first ≡ k = omega (arith, less, high) in
+        let c_in = are.within first inside in
+        let wide = before.width in
+        ap (λ i. value_of t (rails_at (set rails (get_or columns first 0) r) (get_or columns i 0)) w) (sym same)
+        ∙ ap (λ (q : Rails). value_of t q w) (get_or-set_same rails (get_or columns first 0) r unknown (omega (arith, c_in, wide)))
+        ∙ value w
+        ∙ ap (λ i. bit (bit_at i w)) same
+  ];
+}
+
+-- all of them
+pub columns-end : {a : Arena} {columns : List ℕ} {first : ℕ} {rails : List Rails} → IsLayout a.vars columns → a.vars ≤ first → AreFirstColumns a columns first rails → AreColumns a columns rails
+columns-end {a} {columns} {first} {rails} are all is = record {
+  width = is.width;
   proper = is.proper;
-  values = λ v wide. is.values v wide ∙ ap bits (take_all k v (omega arith));
+  values = λ v wide.
+      let l = length-map rails (λ (r : Rails). value_of a r (by_variable columns v)) in
+      let lv = length-map v bit in
+      let width = is.width in
+      ext_get_or X (values_of a rails (by_variable columns v)) (bits v) (omega (arith, l, lv, width, wide)) (λ c less.
+      let x = variable_of a.vars columns are c (omega (arith, less, l, width)) in
+      let within = x.within in
+      let long = are.long in
+      get_or-map (λ (r : Rails). value_of a r (by_variable columns v)) rails c unknown X (omega (arith, less, l))
+      ∙ ap (λ i. value_of a (rails_at rails i) (by_variable columns v)) (sym x.is)
+      ∙ is.values x.number (omega (arith, within, all)) (by_variable columns v)
+      ∙ ap bit (by_variable-read columns v x.number (omega (arith, within, long)) ∙ ap (λ i. get_or v i false) x.is)
+      ∙ sym (get_or-map bit v c false X (omega (arith, less, l, width, wide))));
 }
 
-pub AreColumns-kept : {s t : Arena} {rails : List Rails} → KeepsNodes s t → AreColumns s rails → AreColumns t rails
-AreColumns-kept {s} {t} {rails} keeps is = record {
+pub AreColumns-kept : {s t : Arena} {columns : List ℕ} {rails : List Rails} → KeepsNodes s t → AreColumns s columns rails → AreColumns t columns rails
+AreColumns-kept {s} {t} {columns} {rails} keeps is = record {
   width = is.width ∙ sym keeps.vars;
   proper = All-rails-kept keeps rails is.proper;
-  values = λ v wide. values_of-kept keeps rails is.proper v ∙ is.values v (wide ∙ keeps.vars);
+  values = λ v wide. values_of-kept keeps rails is.proper (by_variable columns v) ∙ is.values v (wide ∙ keeps.vars);
 }

@@ -7,6 +7,7 @@ use Rattle.std.specs.Prelude.{IfSome}
 use Rattle.std.specs.List.{All, range_with_len}
 use Rattle.bdd_store.specs.declared.node.Node.{Node}
 use Rattle.bdd_store.specs.Arena.{Arena, den}
+use Rattle.bdd_ops.specs.Least.{by_variable}
 use Rattle.cyc_base.specs.declared.trit.Trit.{Trit}
 use Rattle.cyc_base.specs.declared.trit.Trit.TheVariants.{X}
 use Rattle.cyc_base.specs.Values.{bit, bits}
@@ -40,20 +41,21 @@ loops-are net blocks cut are cut_is =
     let one = loops_are_unique net (loops_by blocks cut) (loops_of net) (blocks_tell_loops net blocks cut are cut_is) (loops_exist net) in
     ap₂ (λ (same : ℕ → ℕ → Bool) (c : ℕ → Bool). let l : Loops = record { same = same; cut = c } in l) (fun_ext (λ a. fun_ext (λ b. one.0 a b))) (fun_ext one.1)
 
-module _ (net : Parts) (blocks : Blocks) (cut : Cut) (are : AreBlocksOf net blocks) (cut_is : IsCutOf net cut) (a : Arena) (given : List Rails) (vars : a.vars ≡ first_gate net) (columns : AreColumns a given) where
+module _ (net : Parts) (blocks : Blocks) (cut : Cut) (are : AreBlocksOf net blocks) (cut_is : IsCutOf net cut) (a : Arena) (layout : List ℕ) (given : List Rails) (vars : a.vars ≡ first_gate net) (columns : AreColumns a layout given) where
   -- where no rails are X, no gate is
   pub determined-is : (solved : Solved) → IsSolution net blocks cut a given solved → AreKnown a solved.rails → IsDetermined net
   determined-is solved is known u wide n less x =
-      let all : values_of a solved.rails u ≡ fix net (bits u) = is.values u ∙ ap (fix net) (columns.values u (wide ∙ sym vars)) in
+      let w : List Bool = by_variable layout u in
+      let all : values_of a solved.rails w ≡ fix net (bits u) = is.values w ∙ ap (fix net) (columns.values u (wide ∙ sym vars)) in
       let len = ap length all in
-      let l1 = length-map solved.rails (λ r. value_of a r u) in
+      let l1 = length-map solved.rails (λ r. value_of a r w) in
       let l2 = length-append (bits u) (fix_gates net (bits u)) in
       let l3 = length-map u bit in
       let l4 = length-fix net (loops_of net) (bits u) in
       let none : Rails = record { one = record { number = 0 }; zero = record { number = 0 } } in
       let inside : first_gate net + n < length solved.rails = omega (arith, len, l1, l2, l3, l4, wide, less) in
-      known (first_gate net + n) none inside u
-      (sym (get_or-map (λ r. value_of a r u) solved.rails (first_gate net + n) none X inside)
+      known (first_gate net + n) none inside w
+      (sym (get_or-map (λ r. value_of a r w) solved.rails (first_gate net + n) none X inside)
       ∙ ap (λ (xs : List Trit). get_or xs (first_gate net + n) X) all
       ∙ get_or-append_right (bits u) (fix_gates net (bits u)) (first_gate net) (first_gate net + n) X (l3 ∙ wide) (omega arith)
       ∙ ap (λ (k : ℕ). get_or (fix_gates net (bits u)) k X) (omega arith) ∙ x)
@@ -82,7 +84,7 @@ module _ (net : Parts) (blocks : Blocks) (cut : Cut) (are : AreBlocksOf net bloc
       (elim (cases_Bool (block_at blocks (home_of blocks n)).looped) [
         | inl loop ↦
             let one = found.least n less loop in
-            let h = subst (λ (v : List Trit). CutsAreFixed net (loops_by blocks cut) v n (count_at counts (home_of blocks n))) (columns.values u (wide ∙ sym vars)) (one.enough u (everywhere u)) in
+            let h = subst (λ (v : List Trit). CutsAreFixed net (loops_by blocks cut) v n (count_at counts (home_of blocks n))) (columns.values u (wide ∙ sym vars)) (one.enough (by_variable layout u) (everywhere (by_variable layout u))) in
             let home = are.home n less in
             let small : count_at counts (home_of blocks n) ≤ most = greatest (home_of blocks n) 0 (omega (arith, home, width)) in
             subst (CutsAreFixed net (loops_by blocks cut) (bits u) n) (let e : (most - count_at counts (home_of blocks n)) + count_at counts (home_of blocks n) ≡ most = omega (arith, small) in e)

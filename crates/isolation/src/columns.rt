@@ -2,24 +2,36 @@
 
 ghost use Rattle.std.specs.Prelude.{◌≡◌, ◌*◌, IfOk};
 ghost use Rattle.bdd_store.specs.Growth.{KeepsNodes, AddsAtMost, IsFullOnlyPast};
+ghost use Rattle.bdd_ops.specs.Least.{IsLayout};
 ghost use Rattle.isolation.specs.Columns.{AreColumns};
 
 use bdd_ops::Diagrams;
-use bdd_store::StoreFault;
+use bdd_store::{Node, StoreFault};
 use dual_rail::{Rails, var_rails};
 use std::alloc::Global;
 
-/// The rails of all variables, one for each column.
-pub fn column_rails(alloc: Global, d: &mut Diagrams) -> Result<Vec<Rails>, StoreFault>
-    ensures rails { IfOk result (λ rails. AreColumns d.new rails.items) }
+/// The rails of all columns, each at its place. `columns` has the column of each variable.
+///
+/// The condition is that each column stands there once.
+pub fn column_rails(
+    alloc: Global,
+    d: &mut Diagrams,
+    columns: &[u32],
+) -> Result<Vec<Rails>, StoreFault>
+    requires { IsLayout d.old.vars columns.now }
+    ensures rails { IfOk result (λ rails. AreColumns d.new columns.now rails.items) }
     ensures keeps { KeepsNodes d.old d.new }
     ensures added { AddsAtMost d.old d.new (2 * d.old.vars) }
     ensures full { result ≡ Err StoreFault.Full → IsFullOnlyPast d.old d.new (2 * d.old.vars) }
 {
-    let mut rails = Vec::new(alloc);
-    for column in 0..d.store().vars() {
-        let made = var_rails(d, column)?;
-        rails.push(made)?;
+    let unset = Rails {
+        one: Node::of(false),
+        zero: Node::of(false),
+    };
+    let mut rails = vec![in alloc; unset; columns.len()]?;
+    for variable in 0..d.store().vars() {
+        let made = var_rails(d, variable)?;
+        rails[columns[variable as usize] as usize] = made;
     }
     Ok(rails)
 }

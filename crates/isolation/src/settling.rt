@@ -5,6 +5,9 @@ ghost use Rattle.bdd_store.specs.Growth.{KeepsNodes};
 ghost use Rattle.cyc_base.specs.declared.trit.Trit.TheVariants.{X};
 ghost use Rattle.dual_rail.specs.Rails.{AreRailsOf, value_of};
 ghost use Rattle.loops.specs.Blocks.{AreBlocksOf, block_at};
+ghost use Rattle.loops.specs.Sweeps.{first_gate};
+ghost use Rattle.fixpoint.specs.Orders.{order as order_of};
+ghost use Rattle.isolation.specs.Columns.{AreColumns};
 ghost use Rattle.isolation.specs.Settled.{SettleInSweeps};
 ghost use Rattle.isolation.specs.Settling.{AreKnown, IsSettledIn};
 
@@ -15,7 +18,7 @@ use bdd_store::{Node, StoreFault};
 use cyc_base::MAX_NODES;
 use dual_rail::Rails;
 use fixpoint::laws::solutions;
-use fixpoint::{solve, sweeps};
+use fixpoint::{order, solve, sweeps};
 use loops::{Blocks, find_blocks, find_cut};
 use netlist::Netlist;
 use std::alloc::{AllocError, Global};
@@ -55,6 +58,16 @@ fn greatest(numbers: &[u32]) -> u32
     most
 }
 
+/// The rails of a netlist's columns, laid on the variables in its order.
+fn laid_columns(alloc: Global, d: &mut Diagrams, net: &Netlist) -> Result<Vec<Rails>, StoreFault>
+    requires { d.old.vars ≡ first_gate net.now }
+    ensures rails { IfOk result (λ rails. AreColumns d.new (order_of net.now) rails.items) }
+    ensures keeps { KeepsNodes d.old d.new }
+{
+    let columns = order(alloc, net)?;
+    Ok(column_rails(alloc, d, &columns)?)
+}
+
 /// How many sweeps are enough for the loops of a netlist without latches, if no gate of it is X at any Boolean
 /// vector.
 fn settle(alloc: Global, net: &Netlist, budget: u32) -> Result<Option<u32>, StoreFault>
@@ -65,7 +78,7 @@ fn settle(alloc: Global, net: &Netlist, budget: u32) -> Result<Option<u32>, Stor
     let cut = find_cut(alloc, net, &blocks)?;
     let mut d = Diagrams::new(alloc, net.inputs() + net.latches(), budget)?;
     solutions();
-    let given = column_rails(alloc, &mut d)?;
+    let given = laid_columns(alloc, &mut d, net)?;
     let solved = solve(alloc, &mut d, net, &blocks, &cut, &given)?;
     if !are_known(&mut d, solved.rails.items())? {
         return Ok(None);

@@ -8,6 +8,7 @@ use Rattle.bdd_store.specs.declared.node.Node.{Node}
 use Rattle.bdd_store.specs.declared.node.Entry.{Entry}
 use Rattle.bdd_store.specs.Arena.{Arena, index, is_marked, flipped, chosen, den, den_within}
 use Rattle.bdd_store.specs.Soundness.{IsSound}
+use Rattle.bdd_ops.specs.Least.{IsLayout}
 use Rattle.cyc_base.specs.declared.trit.Trit.{Trit}
 use Rattle.cyc_base.specs.declared.trit.Trit.TheVariants.{Zero, One, X}
 use Rattle.cyc_base.specs.Values.{bit, bits}
@@ -22,6 +23,9 @@ use Rattle.refusals.specs.Refusals.{is_x}
 use Rattle.refusals.proofs.RefusalLemmas.{bits_back, length-bits}
 use Rattle.verdict.specs.Sets.{Tells}
 use Rattle.isolation.specs.Columns.{AreColumns}
+use Rattle.fixpoint.specs.Orders.{order, laid}
+use Rattle.fixpoint.proofs.LayoutLemmas.{by_column, length-by_column, variables-back}
+use Rattle.fixpoint.proofs.OrderLemmas.{order-is}
 use Rattle.verdict.specs.Verdicts.{are_care_values}
 
 -- ---- lists of any length
@@ -98,8 +102,8 @@ care-values net care w wide counts =
     and_from _ _ (bits-known w) (and_from _ _ (eq-eqb (length (bits w)) (columns net) (length-bits w ∙ wide)) (ap (is_care_vector net care) (bits_back w) ∙ counts))
 
 -- a number of sweeps on the vectors of a set is one on care
-pub count-on-care : (net : Parts) (care : CareSet) (loops : Loops) (a : Arena) (given : List Rails) (set : Node) (gate k : ℕ) → IsSound a.vars a.entries → AreColumns a given → a.vars ≡ columns net →
-    Tells a set (is_care_vector net care) →
+pub count-on-care : (net : Parts) (care : CareSet) (loops : Loops) (a : Arena) (given : List Rails) (set : Node) (gate k : ℕ) → IsSound a.vars a.entries → AreColumns a (order net) given → a.vars ≡ columns net →
+    Tells net a set (is_care_vector net care) →
     ((bs : List Bool) → den a set bs ≡ true → CutsAreFixed net loops (values_of a given bs) gate k) →
     ((j : ℕ) → ((bs : List Bool) → den a set bs ≡ true → CutsAreFixed net loops (values_of a given bs) gate j) → k ≤ j) →
     IsCountOfSweeps net loops (are_care_values net care) gate k
@@ -109,10 +113,13 @@ count-on-care net care loops a given set gate k sound are vars told enough least
       let second = and_parts (length v == columns net) (is_care_vector net care (map is_one v)) first.1 in
       let w : List Bool = map is_one v in
       let wide : length w ≡ a.vars = length-map v is_one ∙ eqb-true (length v) (columns net) second.0 ∙ sym vars in
-      subst (λ (u : List Trit). CutsAreFixed net loops u gate k) (are.values w wide ∙ sym (known-bits v first.0)) (enough w (told.value w wide ∙ second.1));
+      subst (λ (u : List Trit). CutsAreFixed net loops u gate k) (are.values w wide ∙ sym (known-bits v first.0)) (enough (laid net w) (told.value w wide ∙ second.1));
   least = λ j fixed. least j (λ bs is.
-      let w : List Bool = fit a.vars bs in
-      let wide : length w ≡ a.vars = length-fit a.vars bs in
-      let counts : is_care_vector net care w ≡ true = sym (told.value w wide) ∙ den-fit a sound set bs ∙ is in
-      subst (λ (u : List Trit). CutsAreFixed net loops u gate j) (sym (are.values w wide) ∙ values_of-fit a sound given bs) (fixed (bits w) (care-values net care w (wide ∙ vars) counts)));
+      let u : List Bool = fit a.vars bs in
+      let layout : IsLayout a.vars (order net) = subst (λ n. IsLayout n (order net)) (sym vars) (order-is net) in
+      let w : List Bool = by_column (order net) u in
+      let wide : length w ≡ a.vars = length-by_column (order net) u ∙ layout.long in
+      let back : laid net w ≡ u = variables-back a.vars (order net) layout u (length-fit a.vars bs) in
+      let counts : is_care_vector net care w ≡ true = sym (told.value w wide) ∙ ap (den a set) back ∙ den-fit a sound set bs ∙ is in
+      subst (λ (x : List Trit). CutsAreFixed net loops x gate j) (sym (are.values w wide) ∙ ap (values_of a given) back ∙ values_of-fit a sound given bs) (fixed (bits w) (care-values net care w (wide ∙ vars) counts)));
 }

@@ -17,7 +17,7 @@ use Rattle.care_sets.specs.declared.model.CareModel.{CareModel}
 use Rattle.care_sets.specs.Care.{CareSet, columns}
 use Rattle.verdict.specs.Causes.{HasModelOver}
 use Rattle.verdict.specs.Costs.{assume_effort, invariant_effort}
-use Rattle.verdict.specs.Enough.{IsOfDecision, enough}
+use Rattle.verdict.specs.Enough.{IsLaid, enough}
 
 -- ---- the sum
 
@@ -26,7 +26,7 @@ abbrev pub cost_of_columns : Parts → ℕ
 cost_of_columns net = 2 * columns net
 
 abbrev pub cost_before : Parts → CareSet → ℕ → ℕ
-cost_before net care w = w * (2 * invariant_effort care + length net.latches + 1 + (2 * assume_effort care + 1))
+cost_before net care w = w * (2 * invariant_effort care + columns net + 1 + (2 * assume_effort care + 1))
 
 abbrev pub cost_of_fix : Parts → ℕ → ℕ
 cost_of_fix net w = 10 * w * (length net.gates + 2) * effort net
@@ -39,7 +39,7 @@ cost_of_sweeps net w = 6 * w * length net.gates * (length net.gates + 2)
 
 sum-enough : (w v latches gates assumed invariant effort effort_assumed effort_invariant : ℕ) →
     v + 1 ≤ w → latches ≤ v → gates ≤ effort →
-    2 * v + w * (2 * effort_invariant + latches + 1 + (2 * effort_assumed + 1)) + 10 * w * (gates + 2) * effort
+    2 * v + w * (2 * effort_invariant + v + 1 + (2 * effort_assumed + 1)) + 10 * w * (gates + 2) * effort
     + w * (2 * gates + (2 * latches + 2 * effort_invariant + 1)) + 6 * w * gates * (gates + 2)
     ≤ 16 * w * (gates + (assumed + invariant) + 2) * (effort + (effort_assumed + effort_invariant) + v + 4)
 sum-enough w v latches gates assumed invariant effort effort_assumed effort_invariant wide few less =
@@ -57,7 +57,7 @@ gates-effort (gate ∷ gates) =
     omega (arith, rest, sum)
 
 -- the parts together cost no more than is enough
-pub costs-enough : (net : Parts) (care : CareSet) (w : ℕ) → IsWide (columns net) (IsOfDecision net care) w →
+pub costs-enough : (net : Parts) (care : CareSet) (w : ℕ) → IsWide (columns net) (IsLaid net care) w →
     cost_of_columns net + cost_before net care w + cost_of_fix net w + cost_after net care w + cost_of_sweeps net w ≤ enough net care w
 costs-enough net care w wide =
     sum-enough w (columns net) (length net.latches) (length net.gates) (option_map_or (λ model. length model.net.gates) care.assume 0) (option_map_or (λ model. length model.net.gates) care.invariant 0)
@@ -88,13 +88,13 @@ effort-enough limit x e w gates v less within wide =
     let one : 1 * e ≤ w * e = mul-le-mul_right {m = 1} {n = w} e (omega (arith, wide)) in
     omega (arith, less, within, wide, one)
 
-pub over-net : (net : Parts) (care : CareSet) (w limit : ℕ) → IsWide (columns net) (IsOfDecision net care) w → HasLargeCover net limit → limit < enough net care w
+pub over-net : (net : Parts) (care : CareSet) (w limit : ℕ) → IsWide (columns net) (IsLaid net care) w → HasLargeCover net limit → limit < enough net care w
 over-net net care w limit wide is =
     effort-enough limit (effort net) (effort net + (assume_effort care + invariant_effort care)) w
     (length net.gates + (option_map_or (λ model. length model.net.gates) care.assume 0 + option_map_or (λ model. length model.net.gates) care.invariant 0))
     (columns net) (large-effort net limit is) (omega arith) wide.variables
 
-pub over-model : (net : Parts) (care : CareSet) (w limit : ℕ) → IsWide (columns net) (IsOfDecision net care) w → HasModelOver care limit → limit < enough net care w
+pub over-model : (net : Parts) (care : CareSet) (w limit : ℕ) → IsWide (columns net) (IsLaid net care) w → HasModelOver care limit → limit < enough net care w
 over-model net care w limit wide is = elim is [
   | inl over ↦ by (assume_effort care) (model-effort care.assume limit over) (omega arith)
   | inr over ↦ by (invariant_effort care) (model-effort care.invariant limit over) (omega arith)

@@ -19,6 +19,7 @@ use Rattle.netlist.specs.Fixpoint.{wire, fix, fix_gates, next, outs}
 use Rattle.netlist.specs.Netlists.{IsNetlist}
 use Rattle.loops.specs.Sweeps.{value_in}
 use Rattle.loops.proofs.Reading.{get_or-fix, map_agree, wire_of_gate}
+use Rattle.fixpoint.specs.Orders.{laid}
 use Rattle.fixpoint.specs.Working.{read_at_fix}
 use Rattle.fixpoint.proofs.WireLemmas.{map-map}
 use Rattle.care_sets.specs.declared.model.CareModel.{CareModel}
@@ -28,15 +29,15 @@ use Rattle.care_sets.proofs.CareLemmas.{states_serve_invariant}
 use Rattle.refusals.specs.Refusals.{next_state}
 use Rattle.refusals.proofs.RefusalLemmas.{next_state_is, length-fix_gates, length-next_state}
 use Rattle.refusals.proofs.ShowingLemmas.{care_vector_decides}
-use Rattle.verdict.specs.Enough.{read_by, IsOfModel, IsOfDecision, SaysCare, IsOfNext}
+use Rattle.verdict.specs.Enough.{read_by, IsOfModel, IsLaid, SaysCare, IsOfNext}
 use Rattle.verdict.specs.Next.{next_within, LoadsAreKnown}
 use Rattle.verdict.specs.Sets.{Tells, difference}
 use Rattle.verdict.proofs.CareLemmas.{model_is}
-use Rattle.verdict.proofs.DecisionLemmas.{IsMade, made-listed, made-told, made-two, made-signal}
+use Rattle.verdict.proofs.DecisionLemmas.{IsMadeOf, vector_of, length-vector_of, laid-vector_of, made-laid, made-listed, made-told, made-two, made-signal}
 use Rattle.verdict.proofs.WorkLemmas.{there_and}
 
 -- what latches load at a vector of the set
-pub within-set : (net : Parts) (a : Arena) (set : Node) (v : List Bool) → den a set v ≡ true → next_within net a set v ≡ next net (bits v)
+pub within-set : (net : Parts) (a : Arena) (set : Node) (v : List Bool) → den a set (laid net v) ≡ true → next_within net a set v ≡ next net (bits v)
 within-set net a set v is = ap (λ (t : Bool). if t then next net (bits v) else replicate (length net.latches) X) is
 
 -- ---- the model's output on the next values
@@ -44,7 +45,7 @@ within-set net a set v is = ap (λ (t : Bool). if t then next net (bits v) else 
 module _ (net : Parts) (care : CareSet) where
   -- where a value is 1, and where it is 0
   abbrev IsKnown : (List Bool → Trit) → Type 0
-  IsKnown x = (b : Bool) → IsMade net care (λ v. is_bit b (x v))
+  IsKnown x = (b : Bool) → IsMadeOf net care (λ v. is_bit b (x v))
 
   known-same : (x y : List Bool → Trit) → ((v : List Bool) → y v ≡ x v) → IsKnown x → IsKnown y
   known-same x y same known b = let m = known b in record { of = m.of; listed = m.listed; by = m.by; same = λ v long. ap (is_bit b) (same v) ∙ m.same v long }
@@ -132,7 +133,7 @@ module _ (net : Parts) (care : CareSet) where
 -- whether the next state is in the invariant, at vectors of care
 record IsNextInside (net : Parts) (care : CareSet) : Type 0 where
   pub of : List Bool → Bool
-  pub made : IsMade net care of
+  pub made : IsMadeOf net care of
   pub same : (v : List Bool) → length v ≡ columns net → is_care_vector net care v ≡ true → is_in_invariant care (next_state net v) ≡ of v
 
 next-inside : (net : Parts) (care : CareSet) → IsNetlist net → IsCareOf net care → LoadsAreKnown net care → IsNextInside net care
@@ -154,15 +155,18 @@ next-inside net care valid bound loads = by care.invariant refl
           ap (λ p. option_map_or (λ m. holds_at m q) p true) there ∙ holds-is net care valid model there q v has state;
     }
 
-pub leaves-fit : (net : Parts) (care : CareSet) (a : Arena) (set inside : Node) {w : ℕ} → IsNetlist net → IsCareOf net care → LoadsAreKnown net care → a.vars ≡ columns net → Tells a set (is_care_vector net care) →
-    ((q v : List Bool) → length v ≡ a.vars → den a set v ≡ true → next net (bits v) ≡ bits q → den a inside v ≡ is_in_invariant care q) → IsWide a.vars (IsOfDecision net care) w →
+pub leaves-fit : (net : Parts) (care : CareSet) (a : Arena) (set inside : Node) {w : ℕ} → IsNetlist net → IsCareOf net care → LoadsAreKnown net care → a.vars ≡ columns net → Tells net a set (is_care_vector net care) →
+    ((q v : List Bool) → length v ≡ a.vars → den a set (laid net v) ≡ true → next net (bits v) ≡ bits q → den a inside (laid net v) ≡ is_in_invariant care q) → IsWide a.vars (IsLaid net care) w →
     nodes a.vars (difference a set inside) ≤ w
 leaves-fit net care a set inside valid bound loads vars told inside_is wide =
     let n = next-inside net care valid bound loads in
-    made-two vars wide (λ p q. p && not q) (den a set) n.of (difference a set inside) (made-told vars (SaysCare (λ v. refl)) told) n.made
-    (λ v long. by v long n (den a set v) refl)
+    made-two vars wide (λ p q. p && not q) (den a set) (λ u. n.of (vector_of net u)) (difference a set inside) (made-told vars (SaysCare (λ v. refl)) told) (made-laid n.made)
+    (λ u long.
+    let v : List Bool = vector_of net u in
+    let back : laid net v ≡ u = laid-vector_of net u (long ∙ vars) in
+    ap (difference a set inside) (sym back) ∙ by v (length-vector_of net u ∙ sym vars) n (den a set (laid net v)) refl ∙ ap (λ x. den a set x && not (n.of v)) back)
   where
-    by : (v : List Bool) → length v ≡ a.vars → (n : IsNextInside net care) → (b : Bool) → den a set v ≡ b → (b && not (den a inside v)) ≡ (b && not (n.of v))
+    by : (v : List Bool) → length v ≡ a.vars → (n : IsNextInside net care) → (b : Bool) → den a set (laid net v) ≡ b → (b && not (den a inside (laid net v))) ≡ (b && not (n.of v))
     by v long n false is = refl
     by v long n true is =
         let wide_v : length v ≡ columns net = long ∙ vars in

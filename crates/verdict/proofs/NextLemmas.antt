@@ -21,7 +21,7 @@ use Rattle.netlist.specs.declared.parts.Latch.{Latch}
 use Rattle.netlist.specs.declared.parts.Parts.{Parts}
 use Rattle.netlist.specs.Fixpoint.{wire, fix, next}
 use Rattle.netlist.specs.Netlists.{IsNetlist, count}
-use Rattle.loops.specs.Sweeps.{value_in}
+use Rattle.fixpoint.specs.Orders.{laid}
 use Rattle.fixpoint.specs.Sweeping.{rails_at}
 use Rattle.fixpoint.proofs.CutLemmas.{one-of, zero-of}
 use Rattle.fixpoint.proofs.WireLemmas.{rails_at-proper}
@@ -65,7 +65,7 @@ conjunction-kept s t m n keeps in_m in_n =
 pub record AreFirstNext (net : Parts) (s : Arena) (set : Node) (a : Arena) (n : ℕ) (list : List Rails) : Type 0 where
   pub width : length list ≡ n
   pub proper : All (AreRailsOf a) list
-  pub values : (v : List Bool) → length v ≡ s.vars → values_of a list v ≡ take n (next_within net s set v)
+  pub values : (v : List Bool) → length v ≡ s.vars → values_of a list (laid net v) ≡ take n (next_within net s set v)
 
 pub next-start : (net : Parts) (s : Arena) (set : Node) → AreFirstNext net s set s 0 []
 next-start net s set = record { width = refl; proper = λ k d less. absurd (omega (arith, less)); values = λ v wide. refl }
@@ -85,8 +85,8 @@ next-more-list net v n latch found =
 
 -- and within the set
 within-more : (net : Parts) (s : Arena) (set : Node) (v : List Bool) (n : ℕ) (latch : Latch) → slice_get net.latches n ≡ Some latch →
-    take (n + 1) (next_within net s set v) ≡ take n (next_within net s set v) ++ (if den s set v then wire (fix net (bits v)) latch.from else X) ∷ []
-within-more net s set v n latch found = by (den s set v)
+    take (n + 1) (next_within net s set v) ≡ take n (next_within net s set v) ++ (if den s set (laid net v) then wire (fix net (bits v)) latch.from else X) ∷ []
+within-more net s set v n latch found = by (den s set (laid net v))
   where
     by : (c : Bool) → take (n + 1) (if c then next net (bits v) else replicate (length net.latches) X) ≡ take n (if c then next net (bits v) else replicate (length net.latches) X) ++ (if c then wire (fix net (bits v)) latch.from else X) ∷ []
     by true = next-more-list net (bits v) n latch found
@@ -96,21 +96,21 @@ within-more net s set v n latch found = by (den s set v)
         ∙ ap (λ (t : Trit). take n (replicate (length net.latches) X) ++ t ∷ []) (get_or-replicate (length net.latches) n X X inside)
 
 -- the source
-source-within : (net : Parts) (n : ℕ) (latch : Latch) → IsNetlist net → slice_get net.latches n ≡ Some latch → latch.from.0 < count net
+pub source-within : (net : Parts) (n : ℕ) (latch : Latch) → IsNetlist net → slice_get net.latches n ≡ Some latch → latch.from.0 < count net
 source-within net n latch valid found =
     subst (λ (l : Latch). l.from.0 < count net) (get_or_from_slice_get net.latches n latch latch found) (valid.sources n latch (slice_get_within net.latches n latch found))
 
 pub source-value : (net : Parts) (a : Arena) (rails : List Rails) (n : ℕ) (latch : Latch) (v : List Bool) → IsNetlist net → AreFixed net a rails → slice_get net.latches n ≡ Some latch → length v ≡ a.vars →
-    value_of a (rails_at rails latch.from.0) v ≡ wire (fix net (bits v)) latch.from
+    value_of a (rails_at rails latch.from.0) (laid net v) ≡ wire (fix net (bits v)) latch.from
 source-value net a rails n latch v valid fixed found wide =
-    value_at-place a rails latch.from.0 v (let w = fixed.width in let s = source-within net n latch valid found in omega (arith, w, s))
+    value_at-place a rails latch.from.0 (laid net v) (let w = fixed.width in let s = source-within net n latch valid found in omega (arith, w, s))
     ∙ ap (λ (ts : List Trit). get_or ts latch.from.0 X) (fixed.values v wide)
 
 module _ (net : Parts) (s d : Arena) (set : Node) (rails : List Rails) (n : ℕ) (latch : Latch) (valid : IsNetlist net) (in_set : IsNodeOf s set) (first : KeepsNodes s d)
     (fixed : AreFixed net s rails) (found : slice_get net.latches n ≡ Some latch) where
-  source-kept : (v : List Bool) → length v ≡ s.vars → value_of d (rails_at rails latch.from.0) v ≡ wire (fix net (bits v)) latch.from
+  source-kept : (v : List Bool) → length v ≡ s.vars → value_of d (rails_at rails latch.from.0) (laid net v) ≡ wire (fix net (bits v)) latch.from
   source-kept v wide =
-      value_of-kept first (rails_at rails latch.from.0) (rails_at-proper s rails fixed.proper latch.from.0) v
+      value_of-kept first (rails_at rails latch.from.0) (rails_at-proper s rails fixed.proper latch.from.0) (laid net v)
       ∙ source-value net s rails n latch v valid fixed found wide
 
   pub next-more : (e : Arena) (list : List Rails) (made : Rails) → KeepsNodes d e → AreFirstNext net s set d n list → AreRailsOf e made →
@@ -120,10 +120,10 @@ module _ (net : Parts) (s d : Arena) (set : Node) (rails : List Rails) (n : ℕ)
     width = length_push list made ∙ ap (λ k. k + 1) before.width;
     proper = All-append (AreRailsOf e) list (made ∷ []) (All-rails-kept second list before.proper) (one_proper e made proper);
     values = λ v wide.
-        map-append (λ (q : Rails). value_of e q v) list (made ∷ [])
+        map-append (λ (q : Rails). value_of e q (laid net v)) list (made ∷ [])
         ∙ ap₂ (λ (xs : List Trit) (x : Trit). xs ++ x ∷ [])
-        (values_of-kept second list before.proper v ∙ before.values v wide)
-        (value v ∙ ap₂ (λ (c : Bool) (x : Trit). if c then x else X) (first.function set v in_set) (source-kept v wide))
+        (values_of-kept second list before.proper (laid net v) ∙ before.values v wide)
+        (value (laid net v) ∙ ap₂ (λ (c : Bool) (x : Trit). if c then x else X) (first.function set (laid net v) in_set) (source-kept v wide))
         ∙ sym (within-more net s set v n latch found);
   }
 
@@ -131,11 +131,10 @@ module _ (net : Parts) (s d : Arena) (set : Node) (rails : List Rails) (n : ℕ)
   module _ (w : ℕ) (bounds : BoundsSignals net s set w) where
     bounded-rail : (bit : Bool) (rail : Node) → ((v : List Bool) → den d rail v ≡ is_bit bit (value_of d (rails_at rails latch.from.0) v)) → nodes d.vars (conjunction d set rail) ≤ w
     bounded-rail bit rail says =
-        let same : nodes d.vars (conjunction d set rail) ≡ nodes s.vars (λ v. den s set v && is_bit bit (value_in (fix net (bits v)) latch.from.0)) =
-        ap (λ k. nodes k (conjunction d set rail)) first.vars
-        ∙ nodes-alike s.vars (conjunction d set rail) (λ v. den s set v && is_bit bit (value_in (fix net (bits v)) latch.from.0))
-        (λ v wide. ap₂ (λ x y. x && y) (first.function set v in_set) (says v ∙ ap (is_bit bit) (source-kept v wide))) in
-        omega (arith, bounds latch.from.0 bit (source-within net n latch valid found), same)
+        let most : nodes s.vars (conjunction d set rail) ≤ w =
+        bounds latch.from.0 bit (source-within net n latch valid found) (conjunction d set rail)
+        (λ v wide. ap₂ (λ x y. x && y) (first.function set (laid net v) in_set) (says (laid net v) ∙ ap (is_bit bit) (source-kept v wide))) in
+        subst (λ k. nodes k (conjunction d set rail) ≤ w) (sym first.vars) most
 
     pub rails-bounded : (nodes d.vars (conjunction d set (rails_at rails latch.from.0).one) ≤ w) × (nodes d.vars (conjunction d set (rails_at rails latch.from.0).zero) ≤ w)
     rails-bounded =
@@ -147,8 +146,8 @@ module _ (net : Parts) (s d : Arena) (set : Node) (rails : List Rails) (n : ℕ)
         )
 
 pub next-end : (net : Parts) (s a : Arena) (set : Node) (n : ℕ) (list : List Rails) → n ≡ length net.latches → AreFirstNext net s set a n list →
-    (v : List Bool) → length v ≡ s.vars → values_of a list v ≡ next_within net s set v
-next-end net s a set n list end is v wide = is.values v wide ∙ take_all n (next_within net s set v) (let long = wide-next (den s set v) in omega (arith, long, end))
+    (v : List Bool) → length v ≡ s.vars → values_of a list (laid net v) ≡ next_within net s set v
+next-end net s a set n list end is v wide = is.values v wide ∙ take_all n (next_within net s set v) (let long = wide-next (den s set (laid net v)) in omega (arith, long, end))
   where
     wide-next : (c : Bool) → length (if c then next net (bits v) else replicate (length net.latches) X) ≡ length net.latches
     wide-next true = length-map net.latches (λ (l : Latch). wire (fix net (bits v)) l.from)
@@ -157,11 +156,11 @@ next-end net s a set n list end is v wide = is.values v wide ∙ take_all n (nex
 -- ---- at one vector
 
 pub state-more : (net : Parts) (a : Arena) (rails : List Rails) (v : List Bool) (n : ℕ) (latch : Latch) (b : Bool) → IsNetlist net → AreFixed net a rails → length v ≡ a.vars →
-    slice_get net.latches n ≡ Some latch → b ≡ den a (rails_at rails latch.from.0).one v →
+    slice_get net.latches n ≡ Some latch → b ≡ den a (rails_at rails latch.from.0).one (laid net v) →
     take n (next_state net v) ++ b ∷ [] ≡ take (n + 1) (next_state net v)
 state-more net a rails v n latch b valid fixed wide found is =
     ap₂ (λ (xs : List Bool) (x : Bool). xs ++ x ∷ []) (take-map is_one n (next net (bits v)))
-    (is ∙ one_rail a (rails_at rails latch.from.0) v ∙ ap is_one (source-value net a rails n latch v valid fixed found wide))
+    (is ∙ one_rail a (rails_at rails latch.from.0) (laid net v) ∙ ap is_one (source-value net a rails n latch v valid fixed found wide))
     ∙ sym (map-append is_one (take n (next net (bits v))) (wire (fix net (bits v)) latch.from ∷ []))
     ∙ ap (map is_one) (sym (next-more-list net (bits v) n latch found))
     ∙ sym (take-map is_one (n + 1) (next net (bits v)))

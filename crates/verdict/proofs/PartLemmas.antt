@@ -22,7 +22,10 @@ use Rattle.dual_rail.proofs.SurelyLemmas.{value_of-kept, values_of-kept, All-rai
 use Rattle.netlist.specs.declared.parts.Parts.{Parts}
 use Rattle.netlist.specs.Netlists.{gate_sig}
 use Rattle.netlist.specs.Fixpoint.{next, fix_gates}
+use Rattle.bdd_ops.specs.Least.{IsLayout, by_variable}
+use Rattle.fixpoint.specs.Orders.{laid, order}
 use Rattle.fixpoint.specs.Sweeping.{rails_at}
+use Rattle.fixpoint.proofs.OrderLemmas.{order-is}
 use Rattle.fixpoint.proofs.WireLemmas.{rails_at-proper}
 use Rattle.care_sets.specs.declared.model.CareModel.{CareModel}
 use Rattle.care_sets.specs.Binding.{IsCareOf, IsBoundTo}
@@ -46,16 +49,24 @@ use Rattle.verdict.proofs.SetLemmas.{find-alike}
 
 -- ---- sets
 
-pub Tells-kept : {s t : Arena} {n : Node} {test : List Bool → Bool} → KeepsNodes s t → Tells s n test → Tells t n test
-Tells-kept k is = record {
+pub Tells-kept : {net : Parts} {s t : Arena} {n : Node} {test : List Bool → Bool} → KeepsNodes s t → Tells net s n test → Tells net t n test
+Tells-kept {net} {n = n} k is = record {
   node = omega (arith, is.node, k.more);
-  value = λ v wide. k.function _ v is.node ∙ is.value v (wide ∙ k.vars);
+  value = λ v wide. k.function n (laid net v) is.node ∙ is.value v (wide ∙ k.vars);
 }
 
 -- the first vector of a set that a test tells
-pub told-first : (a : Arena) (n : Node) (test : List Bool → Bool) (width : ℕ) → a.vars ≡ width → ((v : List Bool) → length v ≡ width → den a n v ≡ test v) →
-    find (den a n) (vectors a.vars) ≡ find test (vectors width)
-told-first a n test width vars same = ap (λ w. find (den a n) (vectors w)) vars ∙ find-alike width (den a n) test same
+pub told-first : (net : Parts) (a : Arena) (n : Node) (test : List Bool → Bool) (width : ℕ) → a.vars ≡ width → ((v : List Bool) → length v ≡ width → den a n (laid net v) ≡ test v) →
+    find (λ v. den a n (laid net v)) (vectors a.vars) ≡ find test (vectors width)
+told-first net a n test width vars same = ap (λ w. find (λ v. den a n (laid net v)) (vectors w)) vars ∙ find-alike width (λ v. den a n (laid net v)) test same
+
+-- the netlist's order is a layout
+pub order-layout : (net : Parts) (n : ℕ) (columns_by : List ℕ) → n ≡ columns net → columns_by ≡ order net → IsLayout n columns_by
+order-layout net n columns_by vars is = subst (λ m. IsLayout m columns_by) (sym vars) (subst (IsLayout (columns net)) (sym is) (order-is net))
+
+-- what is found by the netlist's order
+pub by-order : (net : Parts) (a : Arena) (n : Node) {columns : List ℕ} → columns ≡ order net → find (λ v. den a n (by_variable columns v)) (vectors a.vars) ≡ find (λ v. den a n (laid net v)) (vectors a.vars)
+by-order net a n is = ap (λ (cs : List ℕ). find (λ v. den a n (by_variable cs v)) (vectors a.vars)) is
 
 -- ---- permitted states
 
@@ -85,13 +96,13 @@ find-behind (suc first) rest (suc n) is p =
 
 -- the least vector of permitted states outside the invariant
 pub initial-is : (net : Parts) (care : CareSet) (a e : Arena) (starts_node inside outside : Node) (found : Option (List Bool)) → a.vars ≡ columns net → KeepsNodes a e →
-    Tells a starts_node (starts net) → Tells a inside (has_state_inside net care) → ((v : List Bool) → den e outside v ≡ difference a starts_node inside v) →
-    found ≡ find (den e outside) (vectors e.vars) → option_map (λ v. Initial (drop (length net.inputs) v)) found ≡ initial_refusal net care
+    Tells net a starts_node (starts net) → Tells net a inside (has_state_inside net care) → ((v : List Bool) → den e outside v ≡ difference a starts_node inside v) →
+    found ≡ find (λ v. den e outside (laid net v)) (vectors e.vars) → option_map (λ v. Initial (drop (length net.inputs) v)) found ≡ initial_refusal net care
 initial-is net care a e starts_node inside outside found vars keeps starts_is inside_is outside_is found_is =
     let p : List Bool → Bool = λ q. is_initial net q && not (is_in_invariant care q) in
     ap (option_map (λ v. Initial (drop (length net.inputs) v))) (found_is
-    ∙ told-first e outside (λ v. p (state_of net v)) (columns net) (keeps.vars ∙ vars)
-    (λ v wide. outside_is v ∙ ap₂ (λ x y. x && not y) (starts_is.value v (wide ∙ sym vars)) (inside_is.value v (wide ∙ sym vars))))
+    ∙ told-first net e outside (λ v. p (state_of net v)) (columns net) (keeps.vars ∙ vars)
+    (λ v wide. outside_is (laid net v) ∙ ap₂ (λ x y. x && not y) (starts_is.value v (wide ∙ sym vars)) (inside_is.value v (wide ∙ sym vars))))
     ∙ mapped-twice Initial (drop (length net.inputs)) (find (λ v. p (state_of net v)) (vectors (columns net)))
     ∙ ap (option_map Initial) (sym (find-behind (length net.inputs) (length net.latches) (columns net) refl p)
     ∙ sym (find-filter (λ q. not (is_in_invariant care q)) (is_initial net) (vectors (length net.latches))))
@@ -115,20 +126,20 @@ unknown-nodes s t set first rails w keeps zero_in open_is fits =
 
 -- the vectors of care on which a gate is unknown
 pub unknown-first : (net : Parts) (care : CareSet) (s d e : Arena) (set found : Node) (rails : List Rails) (k : ℕ) → s.vars ≡ columns net → AreFixed net s rails →
-    Tells s set (is_care_vector net care) → KeepsNodes s d → KeepsNodes d e → k < length net.gates →
+    Tells net s set (is_care_vector net care) → KeepsNodes s d → KeepsNodes d e → k < length net.gates →
     ((v : List Bool) → den e found v ≡ (den d set v && is_x (value_of d (rails_at rails (columns net + k)) v))) →
-    find (den e found) (vectors e.vars) ≡ find (λ v. is_care_vector net care v && is_undetermined net (gate_sig net k) v) (vectors (columns net))
+    find (λ v. den e found (laid net v)) (vectors e.vars) ≡ find (λ v. is_care_vector net care v && is_undetermined net (gate_sig net k) v) (vectors (columns net))
 unknown-first net care s d e set found rails k vars fixed told first second inside unknown_is =
-    told-first e found (λ v. is_care_vector net care v && is_undetermined net (gate_sig net k) v) (columns net) (second.vars ∙ first.vars ∙ vars)
+    told-first net e found (λ v. is_care_vector net care v && is_undetermined net (gate_sig net k) v) (columns net) (second.vars ∙ first.vars ∙ vars)
     (λ v wide.
     let wide_s : length v ≡ s.vars = wide ∙ sym vars in
     let w = fixed.width in
     let r : Rails = rails_at rails (columns net + k) in
-    unknown_is v
+    unknown_is (laid net v)
     ∙ ap₂ (λ x t. x && is_x t)
-    (first.function set v told.node ∙ told.value v wide_s)
-    (value_of-kept first r (rails_at-proper s rails fixed.proper (columns net + k)) v
-    ∙ value_at-place s rails (columns net + k) v (omega (arith, w, inside))
+    (first.function set (laid net v) told.node ∙ told.value v wide_s)
+    (value_of-kept first r (rails_at-proper s rails fixed.proper (columns net + k)) (laid net v)
+    ∙ value_at-place s rails (columns net + k) (laid net v) (omega (arith, w, inside))
     ∙ ap (λ (ts : List Trit). get_or ts (columns net + k) X) (fixed.values v wide_s)))
 
 -- the first place that passes
@@ -218,11 +229,16 @@ loose-step net care n inside =
     ∙ ap (λ s. loose_below net care n + cond (is_loose net care s) 1 0) (gate_sig_at net n (gate_sig net n) inside)
 
 -- one more that is
-pub loose-more : (net : Parts) (care : CareSet) (n loose : ℕ) (v : List Bool) → n < length net.gates → loose ≡ loose_below net care n →
-    find (λ w. is_care_vector net care w && is_undetermined net (gate_sig net n) w) (vectors (columns net)) ≡ Some v → loose + 1 ≡ loose_below net care (n + 1)
-loose-more net care n loose v inside before found =
-    let is : is_loose net care (gate_sig net n) ≡ true = some-unknown net care (gate_sig net n) ∙ ap (λ o. not (is_none o)) found in
+pub loose-more : (net : Parts) (care : CareSet) (n loose : ℕ) → n < length net.gates → loose ≡ loose_below net care n →
+    is_none (find (λ w. is_care_vector net care w && is_undetermined net (gate_sig net n) w) (vectors (columns net))) ≡ false → loose + 1 ≡ loose_below net care (n + 1)
+loose-more net care n loose inside before found =
+    let is : is_loose net care (gate_sig net n) ≡ true = some-unknown net care (gate_sig net n) ∙ ap not found in
     ap (λ m. m + 1) before ∙ sym (loose-step net care n inside ∙ ap (λ t. loose_below net care n + cond t 1 0) is)
+
+-- what isn't found
+pub none_found : (o : Option (List Bool)) → is_none o ≡ true → o ≡ None
+none_found None is = refl
+none_found (Some v) is = cc
 
 -- or isn't
 pub loose-same : (net : Parts) (care : CareSet) (n loose : ℕ) → n < length net.gates → loose ≡ loose_below net care n → IsKnownOnCare net care n → loose ≡ loose_below net care (n + 1)
@@ -298,29 +314,29 @@ assume-reads net care width bound is = by care.assume bound.assume (vectors_serv
 
 -- where care is so, the test of the next state is that of the rails restricted to care
 pub leaves-is : (net : Parts) (care : CareSet) (s m e x : Arena) (set inside outside : Node) (latches : List Rails) (found : Option (List Bool)) → s.vars ≡ columns net → KeepsNodes s e → KeepsNodes e x →
-    Tells s set (is_care_vector net care) → LoadsAreKnown net care →
-    ((v : List Bool) → length v ≡ s.vars → den s set v ≡ true → values_of m latches v ≡ next net (bits v)) →
+    Tells net s set (is_care_vector net care) → LoadsAreKnown net care →
+    ((v : List Bool) → length v ≡ s.vars → den s set (laid net v) ≡ true → values_of m latches (laid net v) ≡ next net (bits v)) →
     ((q v : List Bool) → values_of m latches v ≡ bits q → den e inside v ≡ is_in_invariant care q) →
     ((v : List Bool) → den x outside v ≡ difference e set inside v) →
-    found ≡ find (den x outside) (vectors x.vars) → option_map (λ v. Leaves v (next_state net v)) found ≡ leaves_refusal net care
+    found ≡ find (λ v. den x outside (laid net v)) (vectors x.vars) → option_map (λ v. Leaves v (next_state net v)) found ≡ leaves_refusal net care
 leaves-is net care s m e x set inside outside latches found vars keeps more told loads next_is inside_is outside_is found_is =
     ap (option_map (λ v. Leaves v (next_state net v))) (found_is
-    ∙ told-first x outside (λ v. is_care_vector net care v && leaves net care v) (columns net) (more.vars ∙ keeps.vars ∙ vars) same
+    ∙ told-first net x outside (λ v. is_care_vector net care v && leaves net care v) (columns net) (more.vars ∙ keeps.vars ∙ vars) same
     ∙ sym (care_test net care (leaves net care)))
   where
-    by : (v : List Bool) → length v ≡ columns net → (b : Bool) → den s set v ≡ b → (b && not (den e inside v)) ≡ (b && leaves net care v)
+    by : (v : List Bool) → length v ≡ columns net → (b : Bool) → den s set (laid net v) ≡ b → (b && not (den e inside (laid net v))) ≡ (b && leaves net care v)
     by v wide false is = refl
     by v wide true is =
         let wide_s : length v ≡ s.vars = wide ∙ sym vars in
         let counts : IsCareVector net care v = care_vector_decides net care v wide (sym (told.value v wide_s) ∙ is) in
         let state : next net (bits v) ≡ bits (next_state net v) = next_state_is net v (loads v counts) in
-        ap not (inside_is (next_state net v) v (next_is v wide_s is ∙ state))
+        ap not (inside_is (next_state net v) (laid net v) (next_is v wide_s is ∙ state))
 
-    same : (v : List Bool) → length v ≡ columns net → den x outside v ≡ (is_care_vector net care v && leaves net care v)
+    same : (v : List Bool) → length v ≡ columns net → den x outside (laid net v) ≡ (is_care_vector net care v && leaves net care v)
     same v wide =
-        outside_is v
-        ∙ ap (λ t. t && not (den e inside v)) (keeps.function set v told.node)
-        ∙ by v wide (den s set v) refl
+        outside_is (laid net v)
+        ∙ ap (λ t. t && not (den e inside (laid net v))) (keeps.function set (laid net v) told.node)
+        ∙ by v wide (den s set (laid net v)) refl
         ∙ ap (λ t. t && leaves net care v) (told.value v (wide ∙ sym vars))
 
 -- the rails of signals stay so where nodes are kept
@@ -328,5 +344,5 @@ pub AreFixed-kept : {net : Parts} {s t : Arena} {rails : List Rails} → KeepsNo
 AreFixed-kept {net} {s} {t} {rails} k is = record {
   width = is.width;
   proper = All-rails-kept k rails is.proper;
-  values = λ v wide. values_of-kept k rails is.proper v ∙ is.values v (wide ∙ k.vars);
+  values = λ v wide. values_of-kept k rails is.proper (laid net v) ∙ is.values v (wide ∙ k.vars);
 }

@@ -1,6 +1,8 @@
 -- The least vector of a set.
-use Rattle.std.proofs.Common.{◌≡◌, ◌==◌, ℕ, zero, suc, ◌≤◌, Bool, true, false, not, ◌&&◌, if◌then◌else◌, cond, List, [], ◌∷◌, length, map, Option, Some, None, refl, sym, ap, ap₂, ◌∙◌, arith, true≢false}
+use Rattle.std.proofs.Common.{◌≡◌, ◌==◌, ℕ, zero, suc, ◌<◌, ◌≤◌, Bool, true, false, not, ◌&&◌, if◌then◌else◌, cond, List, [], ◌∷◌, length, map, Option, Some, None, refl, sym, ap, ap₂, subst, ◌∙◌, arith, true≢false}
+use Rattle.std.specs.List.{All}
 use Rattle.std.specs.Prelude.{find, is_none}
+use Rattle.std.proofs.lemmas.List.{get_or_default}
 use Rattle.std.specs.Option.{option_or, option_map}
 use Rattle.std.proofs.lemmas.Bool.{eqb-true, eq-eqb}
 use Rattle.std.proofs.lemmas.List.Folds.{find-append}
@@ -9,9 +11,10 @@ use Rattle.bdd_store.specs.Arena.{Arena, constant, den, den_within, IsNodeOf}
 use Rattle.bdd_store.specs.Soundness.{IsLawful}
 use Rattle.bdd_store.specs.Subfunctions.{nodes}
 use Rattle.bdd_store.proofs.SubfunctionLemmas.{nodes-alike}
-use Rattle.bdd_ops.specs.Least.{IsLeast}
+use Rattle.bdd_ops.specs.Least.{IsLayout, IsLeast, by_variable}
 use Rattle.bdd_ops.specs.Operations.{if_then_else}
 use Rattle.cyc_base.specs.Vectors.{vectors, AtMost}
+use Rattle.fixpoint.proofs.LayoutLemmas.{by_column, length-by_column, variables-back}
 use Rattle.verdict.specs.Sets.{difference}
 use Rattle.refusals.proofs.FirstLemmas.{find-map, found_passes, none_passes, nothing_passes, found_wide, found_least}
 
@@ -35,6 +38,13 @@ least-first n f v wide least = by_found (find f (vectors n)) refl
         let wide_u : length u ≡ n = found_wide n f u is in
         is ∙ ap (λ w. Some w) (sym (same_vectors v u (wide ∙ sym wide_u) (least.before_all u (wide_u ∙ sym wide) (found_passes f (vectors n) u is)) (found_least n f u v is wide least.true_there)))
 
+-- the columns of a layout are places of a vector that is as wide
+pub layout-within : (n m : ℕ) (columns : List ℕ) → n ≡ m → IsLayout n columns → All (λ column. column < m) columns
+layout-within n m columns same layout k d inside =
+    let long = layout.long in
+    let low = layout.within k (omega (arith, inside, long)) in
+    subst (λ column. column < m) (get_or_default columns k 0 d inside) (omega (arith, low, same))
+
 -- tests that agree at all vectors of the width find the same
 pub find-alike : (n : ℕ) (f g : List Bool → Bool) → ((v : List Bool) → length v ≡ n → f v ≡ g v) → find f (vectors n) ≡ find g (vectors n)
 find-alike zero f g same = ap (λ t. let nothing : Option (List Bool) = None in cond t (Some []) nothing) (same [] refl)
@@ -52,26 +62,31 @@ find-alike (suc n) f g same =
         ∙ ap₂ option_or (find-map p (λ v. false ∷ v) (vectors n)) (find-map p (λ v. true ∷ v) (vectors n))
 
 -- the constant false finds nothing
-pub never-none : (a : Arena) (n : Node) → n ≡ constant false → find (den a n) (vectors a.vars) ≡ None
+pub never-none : (a : Arena) (columns : List ℕ) (n : Node) → n ≡ constant false → find (λ v. den a n (by_variable columns v)) (vectors a.vars) ≡ None
 unfolding den_within
-never-none a n is = nothing_passes a.vars (den a n) (λ v wide. ap (λ (m : Node). den a m v) is)
+never-none a columns n is = nothing_passes a.vars (λ v. den a n (by_variable columns v)) (λ v wide. ap (λ (m : Node). den a m (by_variable columns v)) is)
 
 -- and no other node
-pub none-never : (a : Arena) → IsLawful a → (n : Node) → IsNodeOf a n → find (den a n) (vectors a.vars) ≡ None → n ≡ constant false
-none-never a lawful n in_n none =
-    lawful.canonical n (constant false) in_n (omega arith) (λ v wide. none_passes a.vars (den a n) v none wide ∙ sym (lawful.constants false v))
+pub none-never : (a : Arena) → IsLawful a → (columns : List ℕ) → IsLayout a.vars columns → (n : Node) → IsNodeOf a n → find (λ v. den a n (by_variable columns v)) (vectors a.vars) ≡ None → n ≡ constant false
+none-never a lawful columns layout n in_n none =
+    lawful.canonical n (constant false) in_n (omega arith) (λ w wide.
+    let v : List Bool = by_column columns w in
+    ap (den a n) (sym (variables-back a.vars columns layout w wide))
+    ∙ none_passes a.vars (λ u. den a n (by_variable columns u)) v none (length-by_column columns w ∙ layout.long)
+    ∙ sym (lawful.constants false w))
 
 -- the test for the constant false
-pub never_is : (a : Arena) → IsLawful a → (n c : Node) → IsNodeOf a n → c ≡ constant false → (r : Bool) → r ≡ (n.number == c.number) → r ≡ is_none (find (den a n) (vectors a.vars))
-never_is a lawful n c in_n c_is true is =
+pub never_is : (a : Arena) → IsLawful a → (n c : Node) → IsNodeOf a n → c ≡ constant false → (r : Bool) → r ≡ (n.number == c.number) →
+    (columns : List ℕ) → IsLayout a.vars columns → r ≡ is_none (find (λ v. den a n (by_variable columns v)) (vectors a.vars))
+never_is a lawful n c in_n c_is true is columns layout =
     let same : n ≡ c = ap (λ (k : ℕ). let m : Node = record { number = k } in m) (eqb-true n.number c.number (sym is)) in
-    sym (ap is_none (never-none a n (same ∙ c_is)))
-never_is a lawful n c in_n c_is false is = by_found (find (den a n) (vectors a.vars)) refl
+    sym (ap is_none (never-none a columns n (same ∙ c_is)))
+never_is a lawful n c in_n c_is false is columns layout = by_found (find (λ v. den a n (by_variable columns v)) (vectors a.vars)) refl
   where
-    by_found : (o : Option (List Bool)) → find (den a n) (vectors a.vars) ≡ o → false ≡ is_none (find (den a n) (vectors a.vars))
+    by_found : (o : Option (List Bool)) → find (λ v. den a n (by_variable columns v)) (vectors a.vars) ≡ o → false ≡ is_none (find (λ v. den a n (by_variable columns v)) (vectors a.vars))
     by_found (Some v) found = sym (ap is_none found)
     by_found None found =
-        let same : n ≡ c = none-never a lawful n in_n found ∙ sym c_is in
+        let same : n ≡ c = none-never a lawful columns layout n in_n found ∙ sym c_is in
         absurd (true≢false (sym (is ∙ eq-eqb n.number c.number (ap (λ (m : Node). m.number) same))))
 
 -- what the choice of a difference costs

@@ -29,15 +29,16 @@ use Rattle.loops.proofs.Told.{blocks_tell_loops}
 use Rattle.loops.proofs.Walks.{loops_are_unique, same_truth}
 use Rattle.fixpoint.specs.declared.solved.LoopSteps.{LoopSteps}
 use Rattle.fixpoint.specs.declared.solved.Solved.{Solved}
-use Rattle.fixpoint.specs.Solved.{AreStepsOf, step_at}
+use Rattle.fixpoint.specs.Solved.{AreStepsOf, Vectors, step_at}
 use Rattle.fixpoint.specs.Counts.{IsStepNode, IsComparedIn}
-use Rattle.fixpoint.specs.Working.{IsWorking}
+use Rattle.fixpoint.specs.Working.{IsGatePart, IsWorking}
 use Rattle.fixpoint.proofs.CutLemmas.{one-of, zero-of}
 use Rattle.fixpoint.proofs.WorkLemmas.{sweeps_are_working, gate_parts_agree}
 use Rattle.care_sets.specs.Care.{CareSet, columns, is_care_vector}
-use Rattle.verdict.specs.Enough.{IsOfDecision, IsColumn, SaysCare, IsOfNetlist}
+use Rattle.verdict.specs.Enough.{IsLaid, IsColumn, SaysCare, IsOfNetlist}
 use Rattle.verdict.specs.Sets.{Tells}
 use Rattle.isolation.specs.Columns.{AreColumns}
+use Rattle.fixpoint.specs.Orders.{order, laid}
 use Rattle.verdict.proofs.DecisionLemmas.{IsMade, made-listed, made-told, made-wide}
 
 -- ---- the loops that blocks and a cut tell are those of the netlist
@@ -49,7 +50,23 @@ loops-are net blocks cut are cut_is =
 
 -- ---- the working list on columns
 
-module _ (net : Parts) (care : CareSet) (a : Arena) (given : List Rails) (vars : a.vars ≡ columns net) (columns_are : AreColumns a given) where
+-- a function that a gate works with, of other vectors
+part-at : (net : Parts) (loops : Loops) (v : Vectors) (g : List Bool → Bool) → IsGatePart net loops v g → (f : List Bool → List Bool) → IsGatePart net loops (λ x. v (f x)) (λ x. g (f x))
+part-at net loops v g part f = record {
+  gate = part.gate;
+  within = part.within;
+  first = part.first;
+  short = part.short;
+  bit = part.bit;
+  read = λ x. part.read (f x);
+  reads = elim part.reads [
+    | inl r ↦ inl (record { looped = r.looped; sweep = r.sweep; few = r.few; is = λ x. r.is (f x) })
+    | inr r ↦ inr (record { plain = r.plain; is = λ x. r.is (f x) })
+  ];
+  same = λ x. part.same (f x);
+}
+
+module _ (net : Parts) (care : CareSet) (a : Arena) (given : List Rails) (vars : a.vars ≡ columns net) (columns_are : AreColumns a (order net) given) where
   working-made : (g : List Bool → Bool) → IsWorking net (loops_of net) (values_of a given) g → IsMade net care g
   working-made g (inl rail) = record {
     of = bit_at rail.signal;
@@ -57,19 +74,19 @@ module _ (net : Parts) (care : CareSet) (a : Arena) (given : List Rails) (vars :
     by = λ x. is_bit rail.bit (bit x);
     same = λ v long.
         let low = rail.within in
-        rail.same v
+        rail.same (laid net v)
         ∙ ap (λ (ts : List Trit). is_bit rail.bit (value_in ts rail.signal)) (columns_are.values v (long ∙ sym vars))
         ∙ ap (is_bit rail.bit) (get_or-map bit v rail.signal false X (omega (arith, low, long)));
   }
   working-made g (inr part) =
-      let h = gate_parts_agree net (loops_of net) (columns net) (values_of a given) bits (λ v long. columns_are.values v (long ∙ sym vars)) g part in
+      let h = gate_parts_agree net (loops_of net) (columns net) (λ v. values_of a given (laid net v)) bits (λ v long. columns_are.values v (long ∙ sym vars)) (λ v. g (laid net v)) (part-at net (loops_of net) (values_of a given) g part (laid net)) in
       made-listed (IsOfNetlist h.is) h.alike
 
-  pub working-wide : (loops : Loops) {w : ℕ} → loops ≡ loops_of net → IsWide a.vars (IsOfDecision net care) w → IsWide a.vars (IsWorking net loops (values_of a given)) w
+  pub working-wide : (loops : Loops) {w : ℕ} → loops ≡ loops_of net → IsWide a.vars (IsLaid net care) w → IsWide a.vars (IsWorking net loops (values_of a given)) w
   working-wide loops {w} is wide =
       subst (λ (l : Loops). IsWide a.vars (IsWorking net l (values_of a given)) w) (sym is)
       (subst (λ n. IsWide n (IsWorking net (loops_of net) (values_of a given)) w) (sym vars)
-      (IsWide-fewer (IsMade net care) (IsWorking net (loops_of net) (values_of a given)) w working-made (made-wide (subst (λ n. IsWide n (IsOfDecision net care) w) vars wide))))
+      (IsWide-fewer (IsMade net care) (IsWorking net (loops_of net) (values_of a given)) w working-made (made-wide (subst (λ n. IsWide n (IsLaid net care) w) vars wide))))
 
   -- ---- the steps of loops
 
@@ -158,7 +175,7 @@ module _ (net : Parts) (care : CareSet) (a : Arena) (given : List Rails) (vars :
           let wires : length loop.cuts ≡ length (cuts_of net (loops_of net) gate) =
           ap length (steps.wires gate gate-there) ∙ ap (λ (l : Loops). length (cuts_of net l gate)) (loops-are net blocks cut are cut_is) in
           let m = swept-made gate wire step b wire-there (omega (arith, within, few, wires)) in
-          record { of = m.of; listed = m.listed; by = m.by; same = λ v long. ap (is_bit b) (rail-value v) ∙ m.same v long }
+          record { of = m.of; listed = m.listed; by = m.by; same = λ v long. ap (is_bit b) (rail-value (laid net v)) ∙ m.same v long }
 
       pub step-made : IsMade net care (den a node)
       step-made =
@@ -167,24 +184,24 @@ module _ (net : Parts) (care : CareSet) (a : Arena) (given : List Rails) (vars :
           elim is.is [
             | inl e ↦
                 let m = rail-made true in
-                record { of = m.of; listed = m.listed; by = m.by; same = λ v long. ap (λ (n : Node). den a n v) e ∙ sym (one-of (den a is.rails.one v) (den a is.rails.zero v)) ∙ m.same v long }
+                record { of = m.of; listed = m.listed; by = m.by; same = λ v long. ap (λ (n : Node). den a n (laid net v)) e ∙ sym (one-of (den a is.rails.one (laid net v)) (den a is.rails.zero (laid net v))) ∙ m.same v long }
             | inr e ↦
                 let m = rail-made false in
-                record { of = m.of; listed = m.listed; by = m.by; same = λ v long. ap (λ (n : Node). den a n v) e ∙ sym (zero-of (den a is.rails.one v) (den a is.rails.zero v) (proper.proper v)) ∙ m.same v long }
+                record { of = m.of; listed = m.listed; by = m.by; same = λ v long. ap (λ (n : Node). den a n (laid net v)) e ∙ sym (zero-of (den a is.rails.one (laid net v)) (den a is.rails.zero (laid net v)) (proper.proper (laid net v))) ∙ m.same v long }
           ]
 
-    compared-made : (set : Node) (solved : Solved) → Tells a set (is_care_vector net care) → All (AreStepsOf net blocks cut a (values_of a given)) solved.loops → (g : List Bool → Bool) → IsComparedIn a set solved.loops g → IsMade net care g
+    compared-made : (set : Node) (solved : Solved) → Tells net a set (is_care_vector net care) → All (AreStepsOf net blocks cut a (values_of a given)) solved.loops → (g : List Bool → Bool) → IsComparedIn a set solved.loops g → IsMade net care g
     compared-made set solved told all g is = elim is.of [
       | inl e ↦
           let m = made-told vars (SaysCare (λ v. refl)) told in
-          record { of = m.of; listed = m.listed; by = m.by; same = λ v long. is.same v ∙ ap (λ (n : Node). den a n v) e ∙ m.same v long }
+          record { of = m.of; listed = m.listed; by = m.by; same = λ v long. is.same (laid net v) ∙ ap (λ (n : Node). den a n (laid net v)) e ∙ m.same v long }
       | inr at ↦
           let m = step-made at.loop (All-contains (AreStepsOf net blocks cut a (values_of a given)) solved.loops at.loop all at.among) is.node at.node in
-          record { of = m.of; listed = m.listed; by = m.by; same = λ v long. is.same v ∙ m.same v long }
+          record { of = m.of; listed = m.listed; by = m.by; same = λ v long. is.same (laid net v) ∙ m.same v long }
     ]
 
-    pub compared-wide : (set : Node) (solved : Solved) {w : ℕ} → Tells a set (is_care_vector net care) → All (AreStepsOf net blocks cut a (values_of a given)) solved.loops → IsWide a.vars (IsOfDecision net care) w →
+    pub compared-wide : (set : Node) (solved : Solved) {w : ℕ} → Tells net a set (is_care_vector net care) → All (AreStepsOf net blocks cut a (values_of a given)) solved.loops → IsWide a.vars (IsLaid net care) w →
         IsWide a.vars (IsComparedIn a set solved.loops) w
     compared-wide set solved {w} told all wide =
         subst (λ n. IsWide n (IsComparedIn a set solved.loops) w) (sym vars)
-        (IsWide-fewer (IsMade net care) (IsComparedIn a set solved.loops) w (compared-made set solved told all) (made-wide (subst (λ n. IsWide n (IsOfDecision net care) w) vars wide)))
+        (IsWide-fewer (IsMade net care) (IsComparedIn a set solved.loops) w (compared-made set solved told all) (made-wide (subst (λ n. IsWide n (IsLaid net care) w) vars wide)))

@@ -29,6 +29,7 @@ use Rattle.refusals.proofs.LawLemmas.{accepted_without_refusal}
 use Rattle.refusals.proofs.RefusalLemmas.{length-fix_gates}
 use Rattle.verdict.specs.Sets.{Tells, AreFixed, has_state_inside}
 use Rattle.isolation.specs.Columns.{AreColumns}
+use Rattle.fixpoint.specs.Orders.{order, laid}
 use Rattle.verdict.specs.Verdicts.{later_refusal}
 use Rattle.verdict.proofs.PartLemmas.{told-first}
 
@@ -58,34 +59,34 @@ accepts-is net care what valid none = (accepted_without_refusal net care what va
 
 -- ---- the set of care vectors
 
-pub care-told : (net : Parts) (care : CareSet) (s t : Arena) (inside allowed set : Node) → Tells s inside (has_state_inside net care) → IsNodeOf s allowed →
-    ((v : List Bool) → length v ≡ s.vars → den s allowed v ≡ is_allowed care v) → KeepsNodes s t → IsNodeOf t set → ((v : List Bool) → den t set v ≡ (den s inside v && den s allowed v)) →
-    Tells t set (is_care_vector net care)
+pub care-told : (net : Parts) (care : CareSet) (s t : Arena) (inside allowed set : Node) → Tells net s inside (has_state_inside net care) → IsNodeOf s allowed →
+    ((v : List Bool) → length v ≡ s.vars → den s allowed (laid net v) ≡ is_allowed care v) → KeepsNodes s t → IsNodeOf t set → ((v : List Bool) → den t set v ≡ (den s inside v && den s allowed v)) →
+    Tells net t set (is_care_vector net care)
 care-told net care s t inside allowed set inside_is allowed_in allowed_is keeps set_in set_is = record {
   node = set_in;
-  value = λ v wide. set_is v ∙ ap₂ (λ x y. x && y) (inside_is.value v (wide ∙ keeps.vars)) (allowed_is v (wide ∙ keeps.vars));
+  value = λ v wide. set_is (laid net v) ∙ ap₂ (λ x y. x && y) (inside_is.value v (wide ∙ keeps.vars)) (allowed_is v (wide ∙ keeps.vars));
 }
 
-pub empty-is : (net : Parts) (care : CareSet) (a : Arena) (set : Node) (b : Bool) → a.vars ≡ columns net → Tells a set (is_care_vector net care) →
-    b ≡ is_none (find (den a set) (vectors a.vars)) → empty_refusal net care ≡ (let nothing : Option Refusal = None in if b then Some EmptyCare else nothing)
+pub empty-is : (net : Parts) (care : CareSet) (a : Arena) (set : Node) (b : Bool) → a.vars ≡ columns net → Tells net a set (is_care_vector net care) →
+    b ≡ is_none (find (λ v. den a set (laid net v)) (vectors a.vars)) → empty_refusal net care ≡ (let nothing : Option Refusal = None in if b then Some EmptyCare else nothing)
 empty-is net care a set b vars told is =
     ap (λ t. let nothing : Option Refusal = None in if t then Some EmptyCare else nothing)
     (empty-filter (is_care_vector net care) (vectors (columns net))
-    ∙ ap is_none (sym (told-first a set (is_care_vector net care) (columns net) vars (λ v wide. told.value v (wide ∙ sym vars))))
+    ∙ ap is_none (sym (told-first net a set (is_care_vector net care) (columns net) vars (λ v wide. told.value v (wide ∙ sym vars))))
     ∙ sym is)
 
 -- the latches' columns stand for the state
-pub state-values : (net : Parts) (a : Arena) (rails latches : List Rails) (v : List Bool) → AreColumns a rails → latches ≡ drop (length net.inputs) rails → length v ≡ a.vars →
-    values_of a latches v ≡ bits (state_of net v)
+pub state-values : (net : Parts) (a : Arena) (rails latches : List Rails) (v : List Bool) → AreColumns a (order net) rails → latches ≡ drop (length net.inputs) rails → length v ≡ a.vars →
+    values_of a latches (laid net v) ≡ bits (state_of net v)
 state-values net a rails latches v are is wide =
-    ap (λ (l : List Rails). values_of a l v) is
-    ∙ sym (drop-map (λ (r : Rails). value_of a r v) (length net.inputs) rails)
+    ap (λ (l : List Rails). values_of a l (laid net v)) is
+    ∙ sym (drop-map (λ (r : Rails). value_of a r (laid net v)) (length net.inputs) rails)
     ∙ ap (drop (length net.inputs)) (are.values v wide)
     ∙ drop-map bit (length net.inputs) v
 
 -- ---- the fixpoint at the columns
 
-pub fixed-is : (net : Parts) (blocks : Blocks) (cut : Cut) (a : Arena) (given : List Rails) (solved : Solved) → AreColumns a given → a.vars ≡ columns net → IsSolution net blocks cut a given solved →
+pub fixed-is : (net : Parts) (blocks : Blocks) (cut : Cut) (a : Arena) (given : List Rails) (solved : Solved) → AreColumns a (order net) given → a.vars ≡ columns net → IsSolution net blocks cut a given solved →
     AreFixed net a solved.rails
 fixed-is net blocks cut a given solved are vars is = record {
   width =
@@ -96,5 +97,5 @@ fixed-is net blocks cut a given solved are vars is = record {
       ∙ length-append (values_of a given []) (fix_gates net (values_of a given []))
       ∙ ap₂ (λ m n. m + n) (given_wide ∙ w ∙ vars) (length-fix_gates net (values_of a given []));
   proper = is.rails;
-  values = λ v wide. is.values v ∙ ap (fix net) (are.values v wide);
+  values = λ v wide. is.values (laid net v) ∙ ap (fix net) (are.values v wide);
 }

@@ -9,6 +9,7 @@ use Rattle.dual_rail.specs.WorkingLists.{IsWide}
 use Rattle.netlist.specs.declared.parts.Parts.{Parts}
 use Rattle.netlist.specs.Fixpoint.{next}
 use Rattle.loops.specs.Found.{loops_of}
+use Rattle.fixpoint.specs.Orders.{laid}
 use Rattle.fixpoint.specs.Working.{no_loops, IsGatePart, effort}
 use Rattle.care_sets.specs.declared.model.CareModel.{CareModel}
 use Rattle.care_sets.specs.Care.{CareSet, columns, state_of, is_allowed, is_care_vector}
@@ -36,12 +37,18 @@ pub data IsOfDecision (net : Parts) (care : CareSet) (g : List Bool → Bool) : 
   IsOfInvariant : IsSomeAnd care.invariant (λ model. IsOfModel model (λ v. bits (state_of net v)) g) → IsOfDecision net care g
   IsOfNext : IsSomeAnd care.invariant (λ model. IsOfModel model (λ v. next net (bits v)) g) → IsOfDecision net care g
 
+-- such a function, with the columns laid on the variables of diagrams by the netlist's order
+pub record IsLaid (net : Parts) (care : CareSet) (g : List Bool → Bool) : Type 0 where
+  pub of : List Bool → Bool
+  pub is : IsOfDecision net care of
+  pub same : (v : List Bool) → length v ≡ columns net → g (laid net v) ≡ of v
+
 -- a number of the netlist and of both care models together
 abbrev pub in_all : (Parts → ℕ) → Parts → CareSet → ℕ
 in_all f net care = f net + (option_map_or (λ model. f model.net) care.assume 0 + option_map_or (λ model. f model.net) care.invariant 0)
 
 -- So many nodes are enough: w is at least the number of subfunctions of each Boolean combination of at most three
--- functions of the decision.
+-- functions of the decision, with the columns laid on the variables.
 abbrev pub enough : Parts → CareSet → ℕ → ℕ
 enough net care w =
     16 * w * (in_all (λ n. length n.gates) net care + 2) * (in_all effort net care + columns net + 4)
@@ -49,9 +56,9 @@ enough net care w =
 -- the limit is at least what is enough
 pub record IsEnough (net : Parts) (care : CareSet) (limit : ℕ) : Type 0 where
   pub width : ℕ
-  pub wide : IsWide (columns net) (IsOfDecision net care) width
+  pub wide : IsWide (columns net) (IsLaid net care) width
   pub within : enough net care width ≤ limit
 
 -- it is below that
 pub record IsBelowEnough (net : Parts) (care : CareSet) (limit : ℕ) : Type 0 where
-  pub below : (w : ℕ) → IsWide (columns net) (IsOfDecision net care) w → limit < enough net care w
+  pub below : (w : ℕ) → IsWide (columns net) (IsLaid net care) w → limit < enough net care w

@@ -3,8 +3,8 @@ use Rattle.std.specs.Prelude.{◌^◌}
 use Rattle.dual_rail.specs.WorkingLists.{IsWide}
 use Rattle.netlist.specs.declared.parts.Parts.{Parts}
 use Rattle.care_sets.specs.Care.{CareSet, columns}
-use Rattle.verdict.specs.Enough.{IsOfDecision}
+use Rattle.verdict.specs.Enough.{IsLaid}
 
 -- two to the power of the number of columns is one, so that `enough` is a number for each netlist and care set
 abbrev pub DecisionsHaveWidths : Type 0
-DecisionsHaveWidths = (net : Parts) (care : CareSet) → IsWide (columns net) (IsOfDecision net care) (2 ^ columns net)
+DecisionsHaveWidths = (net : Parts) (care : CareSet) → IsWide (columns net) (IsLaid net care) (2 ^ columns net)

@@ -1,21 +1,23 @@
--- Sets of vectors as nodes of diagrams, whose variables are a netlist's columns.
-use Rattle.std.specs.Prelude.{◌≡◌, ◌-◌, ◌<◌, ◌&&◌, ℕ, Bool, not, List, length, All}
+-- Sets of vectors as nodes of diagrams, on whose variables a netlist's columns are laid by its order.
+use Rattle.std.specs.Prelude.{◌≡◌, ◌-◌, ◌<◌, ◌≤◌, ◌&&◌, ℕ, Bool, not, List, length, All}
 use Rattle.bdd_store.specs.declared.node.Node.{Node}
 use Rattle.bdd_store.specs.Arena.{Arena, den, IsNodeOf}
+use Rattle.bdd_store.specs.Subfunctions.{nodes}
 use Rattle.cyc_base.specs.Values.{bits}
 use Rattle.dual_rail.specs.declared.rail.Rails.{Rails}
 use Rattle.dual_rail.specs.Rails.{AreRailsOf, values_of}
 use Rattle.netlist.specs.declared.parts.Parts.{Parts}
 use Rattle.netlist.specs.Netlists.{count}
 use Rattle.netlist.specs.Fixpoint.{fix}
+use Rattle.fixpoint.specs.Orders.{laid}
 use Rattle.care_sets.specs.declared.model.CareModel.{CareModel}
-use Rattle.care_sets.specs.Care.{CareSet, state_of, is_in_invariant}
+use Rattle.care_sets.specs.Care.{CareSet, columns, state_of, is_in_invariant}
 use Rattle.refusals.specs.Refusals.{is_initial}
 
 -- the node is true at the vectors that pass the test
-pub record Tells (a : Arena) (n : Node) (test : List Bool → Bool) : Type 0 where
+pub record Tells (net : Parts) (a : Arena) (n : Node) (test : List Bool → Bool) : Type 0 where
   pub node : IsNodeOf a n
-  pub value : (v : List Bool) → length v ≡ a.vars → den a n v ≡ test v
+  pub value : (v : List Bool) → length v ≡ a.vars → den a n (laid net v) ≡ test v
 
 -- true where the first node is and the second isn't
 abbrev pub difference : Arena → Node → Node → List Bool → Bool
@@ -25,6 +27,11 @@ difference a m n v = den a m v && not (den a n v)
 abbrev pub starts : Parts → List Bool → Bool
 starts net v = is_initial net (state_of net v)
 
+-- w is at least the number of subfunctions of these states, as a function by variable
+abbrev pub BoundsStarts : Parts → ℕ → Type 0
+BoundsStarts net w = (g : List Bool → Bool) →
+    ((v : List Bool) → length v ≡ columns net → g (laid net v) ≡ starts net v) → nodes (columns net) g ≤ w
+
 -- the vector's state is in the invariant
 abbrev pub has_state_inside : Parts → CareSet → List Bool → Bool
 has_state_inside net care v = is_in_invariant care (state_of net v)
@@ -33,7 +40,7 @@ has_state_inside net care v = is_in_invariant care (state_of net v)
 pub record AreFixed (net : Parts) (a : Arena) (rails : List Rails) : Type 0 where
   pub width : length rails ≡ count net
   pub proper : All (AreRailsOf a) rails
-  pub values : (v : List Bool) → length v ≡ a.vars → values_of a rails v ≡ fix net (bits v)
+  pub values : (v : List Bool) → length v ≡ a.vars → values_of a rails (laid net v) ≡ fix net (bits v)
 
 -- a care model, of its parts
 abbrev pub model_of : Parts → ℕ → List ℕ → CareModel

@@ -56,7 +56,7 @@ IsVerdict net blocks cut care what (Refused r) = refusal net care what ≡ Some 
 
 -- the care vectors of a netlist whose initial states are in the invariant, and that has some
 pub record IsCareStart (net : Parts) (care : CareSet) (a : Arena) (set : Node) : Type 0 where
-  pub told : Tells a set (is_care_vector net care)
+  pub told : Tells net a set (is_care_vector net care)
   pub initial : initial_refusal net care ≡ None
   pub some : empty_refusal net care ≡ None
 

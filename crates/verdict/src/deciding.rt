@@ -7,9 +7,10 @@ ghost use Rattle.care_sets.specs.Binding.{IsCareOf};
 ghost use Rattle.care_sets.specs.Care.{columns, is_care_vector};
 ghost use Rattle.loops.specs.Blocks.{AreBlocksOf};
 ghost use Rattle.loops.specs.Cuts.{IsCutOf};
+ghost use Rattle.fixpoint.specs.Orders.{order as order_of};
 ghost use Rattle.verdict.specs.Causes.{HasModelOver, IsOutOfNodes};
 ghost use Rattle.verdict.specs.Costs.{invariant_effort};
-ghost use Rattle.verdict.specs.Enough.{IsOfDecision, IsBelowEnough};
+ghost use Rattle.verdict.specs.Enough.{IsLaid, IsBelowEnough};
 ghost use Rattle.verdict.specs.Sets.{AreFixed, Tells};
 ghost use Rattle.verdict.specs.Verdicts.{later_refusal, IsVerdict, StandSo};
 
@@ -25,7 +26,7 @@ use care_sets::Care;
 use cyc_base::MAX_NODES;
 use dual_rail::Rails;
 use fixpoint::laws::solutions;
-use fixpoint::{solve, sweeps};
+use fixpoint::{order, solve, sweeps};
 use isolation::column_rails;
 use loops::{Blocks, Cut};
 use netlist::Netlist;
@@ -39,27 +40,29 @@ fn later(
     d: &mut Diagrams,
     net: &Netlist,
     care: &Care,
+    order: &[u32],
     observe: Observe,
     rails: &[Rails],
     set: Node,
 ) -> Result<Gates, StoreFault>
     requires vars { d.old.vars ≡ columns net.now }
+    requires order { order.now ≡ order_of net.now }
     requires care { IsCareOf net.now care.now }
     requires fixed { AreFixed net.now d.old rails.now }
-    requires set { Tells d.old set (is_care_vector net.now care.now) }
+    requires set { Tells net.now d.old set (is_care_vector net.now care.now) }
     ensures gates { IfOk result (StandSo (later_refusal net.now care.now observe) net.now care.now) }
     ensures keeps { KeepsNodes d.old d.new }
-    ensures added { (w : ℕ) → IsWide d.old.vars (IsOfDecision net.now care.now) w →
+    ensures added { (w : ℕ) → IsWide d.old.vars (IsLaid net.now care.now) w →
         AddsAtMost d.old d.new (w * (2 * length net.now.gates + (2 * length net.now.latches + 2 * invariant_effort care.now + 1))) }
-    ensures full { (w : ℕ) → IsWide d.old.vars (IsOfDecision net.now care.now) w → result ≡ Err StoreFault.Full →
+    ensures full { (w : ℕ) → IsWide d.old.vars (IsLaid net.now care.now) w → result ≡ Err StoreFault.Full →
         HasModelOver care.now d.old.limit ⊎ IsFullOnlyPast d.old d.new (w * (2 * length net.now.gates + (2 * length net.now.latches + 2 * invariant_effort care.now + 1))) }
 {
-    let gates = gates_on(alloc, d, net, observe, rails, set)?;
+    let gates = gates_on(alloc, d, net, order, observe, rails, set)?;
     let loose = match gates {
         Gates::Determined { loose } => loose,
         Gates::Refused(refusal) => return Ok(Gates::Refused(refusal)),
     };
-    let left = leaves(alloc, d, net, care, rails, set)?;
+    let left = leaves(alloc, d, net, care, order, rails, set)?;
     match left {
         Some(refusal) => Ok(Gates::Refused(refusal)),
         None => Ok(Gates::Determined { loose }),
@@ -85,8 +88,9 @@ fn judge(
     ensures enough { result ≡ Err StoreFault.Full → length d.old.entries ≡ 0 → IsBelowEnough net.now care.now d.old.limit }
 {
     solutions();
-    let rails = column_rails(alloc, d)?;
-    let set = match begin(alloc, d, net, care, &rails)? {
+    let order = order(alloc, net)?;
+    let rails = column_rails(alloc, d, &order)?;
+    let set = match begin(alloc, d, net, care, &order, &rails)? {
         Start::Care(set) => set,
         Start::Refused(refusal) => return Ok(Verdict::Refused(refusal)),
     };
@@ -97,7 +101,16 @@ fn judge(
         None => {}
     }
     let solved = solve(alloc, d, net, blocks, cut, &rails)?;
-    let gates = later(alloc, d, net, care, observe, solved.rails.items(), set)?;
+    let gates = later(
+        alloc,
+        d,
+        net,
+        care,
+        &order,
+        observe,
+        solved.rails.items(),
+        set,
+    )?;
     let loose = match gates {
         Gates::Determined { loose } => loose,
         Gates::Refused(refusal) => return Ok(Verdict::Refused(refusal)),
@@ -111,7 +124,9 @@ fn judge(
 }
 
 /// Decides a netlist on a care set, by ternary simulation of all care vectors at once (Malik 1994; Shiple, Berry
-/// and Touati 1996). It starts the diagrams anew, with a variable for each column and the limit.
+/// and Touati 1996). It starts the diagrams anew, with a variable for each column and the limit. The columns are laid
+/// on the variables in the order in which gates first read them (`fixpoint::order`). Least states and vectors are
+/// least by column all the same.
 ///
 /// The answer is `Accepted` exactly where each permitted initial state is in the invariant, a care vector exists,
 /// and on every care vector each observed signal is determined and the next state is in the invariant; then with the
@@ -119,9 +134,10 @@ fn judge(
 /// it is the refusal of the first of these parts that fails, with its least state or vector.
 ///
 /// `NodeLimit` carries the limit, and comes only where the diagrams have the netlist's columns as variables and this
-/// limit, and hold as many nodes as the call ends, or a cover of the netlist or of a care model has more. It never comes at a limit of at least `16 * w * (G + 2) * (E + V + 4)`
-/// (`enough`), for each w that is wide for the functions of the decision: G are the gates of the netlist and of both
-/// care models, E is their effort, and V is the number of columns. Nothing more is said of the diagrams after the call.
+/// limit, and hold as many nodes as the call ends, or a cover of the netlist or of a care model has more. It never
+/// comes at a limit of at least `16 * w * (G + 2) * (E + V + 4)` (`enough`), for each w that is wide for the functions
+/// of the decision, laid on the variables in that order: G are the gates of the netlist and of both care models, E is
+/// their effort, and V is the number of columns. Nothing more is said of the diagrams after the call.
 ///
 /// The condition is that blocks, cut and care are the netlist's, and that the limit is at most 50,000,000.
 pub fn decide(

@@ -7,10 +7,13 @@ ghost use Rattle.bdd_store.specs.Subfunctions.{nodes};
 ghost use Rattle.bdd_ops.specs.Operations.{conjunction};
 ghost use Rattle.cyc_base.specs.declared.trit.Trit.TheVariants.{X};
 ghost use Rattle.dual_rail.specs.Rails.{AreRailsOf, value_of, values_of};
+ghost use Rattle.fixpoint.specs.Orders.{laid, order as order_of};
+ghost use Rattle.care_sets.specs.Care.{columns};
 ghost use Rattle.refusals.specs.Refusals.{next_state};
 ghost use Rattle.verdict.specs.Next.{next_within, BoundsSignals};
 ghost use Rattle.verdict.specs.Sets.{AreFixed};
 
+use crate::sets::by_variable;
 use bdd_ops::Diagrams;
 use bdd_store::{Node, StoreFault};
 use dual_rail::Rails;
@@ -47,7 +50,7 @@ pub(crate) fn next_on(
     requires set { IsNodeOf d.old set }
     ensures width { IfOk result (λ list. length list.items ≡ length net.now.latches) }
     ensures rails { IfOk result (λ list. All (AreRailsOf d.new) list.items) }
-    ensures values { IfOk result (λ list. (v : List Bool) → length v ≡ d.old.vars → values_of d.new list.items v ≡ next_within net.now d.old set v) }
+    ensures values { IfOk result (λ list. (v : List Bool) → length v ≡ d.old.vars → values_of d.new list.items (laid net.now v) ≡ next_within net.now d.old set v) }
     ensures keeps { KeepsNodes d.old d.new }
     ensures added { (w : ℕ) → BoundsSignals net.now d.old set w →
         AddsAtMost d.old d.new (w * (2 * length net.now.latches)) }
@@ -68,17 +71,21 @@ pub(crate) fn next_of(
     alloc: Global,
     d: &Diagrams,
     net: &Netlist,
+    order: &[u32],
     rails: &[Rails],
     vector: &[bool],
 ) -> Result<Vec<bool>, AllocError>
+    requires vars { d.now.vars ≡ columns net.now }
+    requires order { order.now ≡ order_of net.now }
     requires fixed { AreFixed net.now d.now rails.now }
     requires width { length vector.now ≡ d.now.vars }
     ensures { IfOk result (λ state. state.items ≡ next_state net.now vector.now) }
 {
+    let bits = by_variable(alloc, order, vector)?;
     let mut state = Vec::new(alloc);
     for number in 0..net.latches() {
         let source = rails[net.latch(number).from.0 as usize];
-        state.push(d.store().value(source.one, vector))?;
+        state.push(d.store().value(source.one, &bits))?;
     }
     Ok(state)
 }

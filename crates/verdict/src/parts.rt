@@ -8,11 +8,12 @@ ghost use Rattle.dual_rail.specs.Rails.{value_of};
 ghost use Rattle.dual_rail.specs.WorkingLists.{IsWide};
 ghost use Rattle.care_sets.specs.Binding.{IsCareOf};
 ghost use Rattle.care_sets.specs.Care.{CareSet, columns, is_care_vector};
+ghost use Rattle.fixpoint.specs.Orders.{order as order_of};
 ghost use Rattle.netlist.specs.Netlists.{IsNetlist};
 ghost use Rattle.refusals.specs.Refusals.{is_x, initial_refusal as initial_refusal_of, undetermined_refusal, leaves_refusal};
 ghost use Rattle.verdict.specs.Causes.{HasModelOver};
 ghost use Rattle.verdict.specs.Costs.{invariant_effort};
-ghost use Rattle.verdict.specs.Enough.{IsOfDecision};
+ghost use Rattle.verdict.specs.Enough.{IsLaid};
 ghost use Rattle.verdict.specs.Next.{LoadsAreKnown};
 ghost use Rattle.verdict.specs.Verdicts.{StandSo};
 ghost use Rattle.verdict.specs.Sets.{Tells, AreFixed, difference, starts as starts_in, has_state_inside};
@@ -21,7 +22,7 @@ use crate::care::invariant_on;
 use crate::gates::Gates;
 use crate::next::{next_of, next_on};
 use crate::observing::observed_gates;
-use crate::sets::{least_of, minus};
+use crate::sets::{is_never, least_of, minus};
 use bdd_ops::Diagrams;
 use bdd_store::{Node, StoreFault};
 use care_sets::Care;
@@ -44,19 +45,21 @@ pub(crate) fn initial_refusal(
     alloc: Global,
     d: &mut Diagrams,
     net: &Netlist,
+    order: &[u32],
     starts: Node,
     inside: Node,
 ) -> Result<Option<Refusal>, StoreFault>
     requires vars { d.old.vars ≡ columns net.now }
-    requires starts { Tells d.old starts (starts_in net.now) }
+    requires order { order.now ≡ order_of net.now }
+    requires starts { Tells net.now d.old starts (starts_in net.now) }
     requires inside { IsNodeOf d.old inside }
-    ensures refusal { (care : CareSet) → Tells d.old inside (has_state_inside net.now care) → IfOk result (λ found. found ≡ initial_refusal_of net.now care) }
+    ensures refusal { (care : CareSet) → Tells net.now d.old inside (has_state_inside net.now care) → IfOk result (λ found. found ≡ initial_refusal_of net.now care) }
     ensures keeps { KeepsNodes d.old d.new }
     ensures added { (w : ℕ) → nodes d.old.vars (difference d.old starts inside) ≤ w → AddsAtMost d.old d.new w }
     ensures full { (w : ℕ) → nodes d.old.vars (difference d.old starts inside) ≤ w → result ≡ Err StoreFault.Full → IsFullOnlyPast d.old d.new w }
 {
     let outside = minus(d, starts, inside)?;
-    let Some(vector) = least_of(alloc, d, outside)? else {
+    let Some(vector) = least_of(alloc, d, order, outside)? else {
         return Ok(None);
     };
     let state = state_of(alloc, net.inputs() as usize, &vector)?;
@@ -88,20 +91,22 @@ pub(crate) fn gates_on(
     alloc: Global,
     d: &mut Diagrams,
     net: &Netlist,
+    order: &[u32],
     observe: Observe,
     rails: &[Rails],
     set: Node,
 ) -> Result<Gates, StoreFault>
     requires vars { d.old.vars ≡ columns net.now }
+    requires order { order.now ≡ order_of net.now }
     requires fixed { AreFixed net.now d.old rails.now }
     requires set { IsNodeOf d.old set }
-    ensures gates { (care : CareSet) → Tells d.old set (is_care_vector net.now care) →
+    ensures gates { (care : CareSet) → Tells net.now d.old set (is_care_vector net.now care) →
         IfOk result (StandSo (undetermined_refusal net.now care observe) net.now care) }
     ensures valid { IsNetlist net.now }
     ensures keeps { KeepsNodes d.old d.new }
-    ensures added { (care : CareSet) (w : ℕ) → Tells d.old set (is_care_vector net.now care) → IsWide d.old.vars (IsOfDecision net.now care) w →
+    ensures added { (care : CareSet) (w : ℕ) → Tells net.now d.old set (is_care_vector net.now care) → IsWide d.old.vars (IsLaid net.now care) w →
         AddsAtMost d.old d.new (w * (2 * length net.now.gates)) }
-    ensures full { (care : CareSet) (w : ℕ) → Tells d.old set (is_care_vector net.now care) → IsWide d.old.vars (IsOfDecision net.now care) w →
+    ensures full { (care : CareSet) (w : ℕ) → Tells net.now d.old set (is_care_vector net.now care) → IsWide d.old.vars (IsLaid net.now care) w →
         result ≡ Err StoreFault.Full → IsFullOnlyPast d.old d.new (w * (2 * length net.now.gates)) }
 {
     let observed = observed_gates(alloc, net, observe)?;
@@ -109,16 +114,16 @@ pub(crate) fn gates_on(
     let mut loose = 0;
     for gate in 0..net.gates() {
         let unknown = unknown_on(d, set, rails[(first + gate) as usize])?;
-        let Some(vector) = least_of(alloc, d, unknown)? else {
-            continue;
-        };
         if observed[gate as usize] {
-            return Ok(Gates::Refused(Refusal::Undetermined {
-                vector: Bits::of(vector),
-                wire: net.gate_sig(gate),
-            }));
+            if let Some(vector) = least_of(alloc, d, order, unknown)? {
+                return Ok(Gates::Refused(Refusal::Undetermined {
+                    vector: Bits::of(vector),
+                    wire: net.gate_sig(gate),
+                }));
+            }
+        } else if !is_never(d, unknown) {
+            loose += 1;
         }
-        loose += 1;
     }
     Ok(Gates::Determined { loose })
 }
@@ -130,28 +135,30 @@ pub(crate) fn leaves(
     d: &mut Diagrams,
     net: &Netlist,
     care: &Care,
+    order: &[u32],
     rails: &[Rails],
     set: Node,
 ) -> Result<Option<Refusal>, StoreFault>
     requires vars { d.old.vars ≡ columns net.now }
+    requires order { order.now ≡ order_of net.now }
     requires care { IsCareOf net.now care.now }
     requires fixed { AreFixed net.now d.old rails.now }
-    requires set { Tells d.old set (is_care_vector net.now care.now) }
+    requires set { Tells net.now d.old set (is_care_vector net.now care.now) }
     requires loads { LoadsAreKnown net.now care.now }
     ensures refusal { IfOk result (λ found. found ≡ leaves_refusal net.now care.now) }
     ensures keeps { KeepsNodes d.old d.new }
-    ensures added { (w : ℕ) → IsWide d.old.vars (IsOfDecision net.now care.now) w →
+    ensures added { (w : ℕ) → IsWide d.old.vars (IsLaid net.now care.now) w →
         AddsAtMost d.old d.new (w * (2 * length net.now.latches + 2 * invariant_effort care.now + 1)) }
-    ensures full { (w : ℕ) → IsWide d.old.vars (IsOfDecision net.now care.now) w → result ≡ Err StoreFault.Full →
+    ensures full { (w : ℕ) → IsWide d.old.vars (IsLaid net.now care.now) w → result ≡ Err StoreFault.Full →
         HasModelOver care.now d.old.limit ⊎ IsFullOnlyPast d.old d.new (w * (2 * length net.now.latches + 2 * invariant_effort care.now + 1)) }
 {
     let next = next_on(alloc, d, net, rails, set)?;
     let inside = invariant_on(alloc, d, care, net.inputs(), &next)?;
     let outside = minus(d, set, inside)?;
-    let Some(vector) = least_of(alloc, d, outside)? else {
+    let Some(vector) = least_of(alloc, d, order, outside)? else {
         return Ok(None);
     };
-    let state = next_of(alloc, d, net, rails, &vector)?;
+    let state = next_of(alloc, d, net, order, rails, &vector)?;
     Ok(Some(Refusal::Leaves {
         vector: Bits::of(vector),
         next: Bits::of(state),

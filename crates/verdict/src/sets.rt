@@ -1,9 +1,10 @@
 //! Sets of vectors as nodes, and their least vectors.
 
-ghost use Rattle.std.specs.Prelude.{◌≡◌, ◌≤◌, ℕ, Bool, List, IfOk, find, is_none, option_map};
+ghost use Rattle.std.specs.Prelude.{◌≡◌, ◌<◌, ◌≤◌, ℕ, Bool, List, All, IfOk, find, is_none, length, option_map};
 ghost use Rattle.bdd_store.specs.Arena.{den, IsNodeOf};
 ghost use Rattle.bdd_store.specs.Growth.{KeepsNodes, AddsAtMost, IsFullOnlyPast};
 ghost use Rattle.bdd_store.specs.Subfunctions.{nodes};
+ghost use Rattle.bdd_ops.specs.Least.{IsLayout, by_variable as by_variable_of};
 ghost use Rattle.cyc_base.specs.Vectors.{vectors};
 ghost use Rattle.verdict.specs.Sets.{difference};
 
@@ -24,29 +25,46 @@ pub(crate) fn minus(d: &mut Diagrams, m: Node, n: Node) -> Result<Node, StoreFau
     Ok(d.ite(n, Node::of(false), m)?)
 }
 
-/// Whether a set has no vector.
+/// Whether a set has no vector, however the columns are laid.
 pub(crate) fn is_never(d: &Diagrams, set: Node) -> bool
     requires { IsNodeOf d.now set }
-    ensures { result ≡ is_none (find (den d.now set) (vectors d.now.vars)) }
+    ensures { (columns : List ℕ) → IsLayout d.now.vars columns → result ≡ is_none (find (λ v. den d.now set (by_variable_of columns v)) (vectors d.now.vars)) }
 {
     d.store().laws();
     set == Node::of(false)
 }
 
-/// The least vector of a set, if it has one.
+/// The bits by variable of a vector by column.
+pub(crate) fn by_variable(
+    alloc: Global,
+    columns: &[u32],
+    vector: &[bool],
+) -> Result<Vec<bool>, AllocError>
+    requires { All (λ column. column < length vector.now) columns.now }
+    ensures { IfOk result (λ bits. bits.items ≡ by_variable_of columns.now vector.now) }
+{
+    columns
+        .iter()
+        .map(|column| vector[*column as usize])
+        .collect(alloc)
+}
+
+/// The least vector by column of a set, if it has one. `columns` has the column of each variable.
 pub(crate) fn least_of(
     alloc: Global,
     d: &Diagrams,
+    columns: &[u32],
     set: Node,
 ) -> Result<Option<Vec<bool>>, AllocError>
-    requires { IsNodeOf d.now set }
-    ensures { IfOk result (λ found. option_map (λ v. v.items) found ≡ find (den d.now set) (vectors d.now.vars)) }
+    requires set { IsNodeOf d.now set }
+    requires columns { IsLayout d.now.vars columns.now }
+    ensures { IfOk result (λ found. option_map (λ v. v.items) found ≡ find (λ v. den d.now set (by_variable_of columns.now v)) (vectors d.now.vars)) }
 {
     if is_never(d, set) {
         return Ok(None);
     }
     let mut vector = vec![in alloc; false; d.store().vars() as usize]?;
-    if d.least(set, &mut vector) {
+    if d.least_by(set, columns, &mut vector)? {
         Ok(Some(vector))
     } else {
         Ok(None)

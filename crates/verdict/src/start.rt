@@ -12,8 +12,9 @@ ghost use Rattle.care_sets.specs.Binding.{IsCareOf};
 ghost use Rattle.care_sets.specs.Care.{columns, is_allowed};
 ghost use Rattle.verdict.specs.Causes.{HasModelOver};
 ghost use Rattle.verdict.specs.Costs.{assume_effort, invariant_effort};
-ghost use Rattle.verdict.specs.Enough.{IsOfDecision};
+ghost use Rattle.verdict.specs.Enough.{IsLaid};
 ghost use Rattle.isolation.specs.Columns.{AreColumns};
+ghost use Rattle.fixpoint.specs.Orders.{order as order_of};
 ghost use Rattle.verdict.specs.Sets.{Tells, ReadsWithin, has_state_inside};
 ghost use Rattle.verdict.specs.Verdicts.{IsStart};
 
@@ -47,13 +48,13 @@ fn inside_on(
 ) -> Result<Node, StoreFault>
     requires care { IsCareOf net.now care.now }
     requires vars { d.old.vars ≡ columns net.now }
-    requires columns { AreColumns d.old rails.now }
+    requires columns { AreColumns d.old (order_of net.now) rails.now }
     ensures valid { IsNetlist net.now }
-    ensures told { IfOk result (λ set. Tells d.new set (has_state_inside net.now care.now)) }
+    ensures told { IfOk result (λ set. Tells net.now d.new set (has_state_inside net.now care.now)) }
     ensures keeps { KeepsNodes d.old d.new }
-    ensures added { (w : ℕ) → IsWide d.old.vars (IsOfDecision net.now care.now) w →
+    ensures added { (w : ℕ) → IsWide d.old.vars (IsLaid net.now care.now) w →
         AddsAtMost d.old d.new (w * (2 * invariant_effort care.now)) }
-    ensures full { (w : ℕ) → IsWide d.old.vars (IsOfDecision net.now care.now) w → result ≡ Err StoreFault.Full →
+    ensures full { (w : ℕ) → IsWide d.old.vars (IsLaid net.now care.now) w → result ≡ Err StoreFault.Full →
         HasModelOver care.now d.old.limit ⊎ IsFullOnlyPast d.old d.new (w * (2 * invariant_effort care.now)) }
 {
     let first = net.inputs();
@@ -75,11 +76,11 @@ fn care_on(
     ensures node { IfOk result (IsNodeOf d.new) }
     ensures allowed { IfOk result (λ set. (values v : List Bool) → values_of d.old rails.now v ≡ bits values → den d.new set v ≡ (den d.old inside v && is_allowed care.now values)) }
     ensures keeps { KeepsNodes d.old d.new }
-    ensures added { (net : Parts) (w : ℕ) → IsCareOf net care.now → d.old.vars ≡ columns net → AreColumns d.old rails.now →
-        Tells d.old inside (has_state_inside net care.now) → IsWide d.old.vars (IsOfDecision net care.now) w →
+    ensures added { (net : Parts) (w : ℕ) → IsCareOf net care.now → d.old.vars ≡ columns net → AreColumns d.old (order_of net) rails.now →
+        Tells net d.old inside (has_state_inside net care.now) → IsWide d.old.vars (IsLaid net care.now) w →
         AddsAtMost d.old d.new (w * (2 * assume_effort care.now + 1)) }
-    ensures full { (net : Parts) (w : ℕ) → IsCareOf net care.now → d.old.vars ≡ columns net → AreColumns d.old rails.now →
-        Tells d.old inside (has_state_inside net care.now) → IsWide d.old.vars (IsOfDecision net care.now) w → result ≡ Err StoreFault.Full →
+    ensures full { (net : Parts) (w : ℕ) → IsCareOf net care.now → d.old.vars ≡ columns net → AreColumns d.old (order_of net) rails.now →
+        Tells net d.old inside (has_state_inside net care.now) → IsWide d.old.vars (IsLaid net care.now) w → result ≡ Err StoreFault.Full →
         HasModelOver care.now d.old.limit ⊎ IsFullOnlyPast d.old d.new (w * (2 * assume_effort care.now + 1)) }
 {
     let allowed = assume_on(alloc, d, care, rails)?;
@@ -92,22 +93,24 @@ pub(crate) fn begin(
     d: &mut Diagrams,
     net: &Netlist,
     care: &Care,
+    order: &[u32],
     rails: &[Rails],
 ) -> Result<Start, StoreFault>
     requires care { IsCareOf net.now care.now }
     requires vars { d.old.vars ≡ columns net.now }
-    requires columns { AreColumns d.old rails.now }
+    requires order { order.now ≡ order_of net.now }
+    requires columns { AreColumns d.old (order_of net.now) rails.now }
     ensures valid { IsNetlist net.now }
     ensures start { IfOk result (IsStart net.now care.now d.new) }
     ensures keeps { KeepsNodes d.old d.new }
-    ensures added { (w : ℕ) → IsWide d.old.vars (IsOfDecision net.now care.now) w →
-        AddsAtMost d.old d.new (w * (2 * invariant_effort care.now + length net.now.latches + 1 + (2 * assume_effort care.now + 1))) }
-    ensures full { (w : ℕ) → IsWide d.old.vars (IsOfDecision net.now care.now) w → result ≡ Err StoreFault.Full →
-        HasModelOver care.now d.old.limit ⊎ IsFullOnlyPast d.old d.new (w * (2 * invariant_effort care.now + length net.now.latches + 1 + (2 * assume_effort care.now + 1))) }
+    ensures added { (w : ℕ) → IsWide d.old.vars (IsLaid net.now care.now) w →
+        AddsAtMost d.old d.new (w * (2 * invariant_effort care.now + columns net.now + 1 + (2 * assume_effort care.now + 1))) }
+    ensures full { (w : ℕ) → IsWide d.old.vars (IsLaid net.now care.now) w → result ≡ Err StoreFault.Full →
+        HasModelOver care.now d.old.limit ⊎ IsFullOnlyPast d.old d.new (w * (2 * invariant_effort care.now + columns net.now + 1 + (2 * assume_effort care.now + 1))) }
 {
     let inside = inside_on(alloc, d, net, care, rails)?;
-    let permitted = starts_on(d, net, rails)?;
-    if let Some(refusal) = initial_refusal(alloc, d, net, permitted, inside)? {
+    let permitted = starts_on(d, net, order, rails)?;
+    if let Some(refusal) = initial_refusal(alloc, d, net, order, permitted, inside)? {
         return Ok(Start::Refused(refusal));
     }
     let set = care_on(alloc, d, care, inside, rails)?;

@@ -1,15 +1,15 @@
 //! The vectors whose states the inits permit.
 
-ghost use Rattle.std.specs.Prelude.{◌≡◌, ◌≤◌, ◌*◌, ℕ, Bool, List, IfOk, length};
+ghost use Rattle.std.specs.Prelude.{◌≡◌, ◌*◌, ℕ, Bool, List, IfOk};
 ghost use Rattle.bdd_store.specs.Arena.{Arena, den, IsNodeOf};
 ghost use Rattle.bdd_store.specs.Growth.{KeepsNodes, AddsAtMost, IsFullOnlyPast};
-ghost use Rattle.bdd_store.specs.Subfunctions.{nodes};
 ghost use Rattle.cyc_base.specs.Values.{bit};
 ghost use Rattle.dual_rail.specs.Rails.{AreRailsOf, value_of};
 ghost use Rattle.care_sets.specs.Care.{columns};
 ghost use Rattle.refusals.specs.Refusals.{may_start as may_start_with};
 ghost use Rattle.isolation.specs.Columns.{AreColumns};
-ghost use Rattle.verdict.specs.Sets.{Tells, starts};
+ghost use Rattle.fixpoint.specs.Orders.{laid, order as order_of};
+ghost use Rattle.verdict.specs.Sets.{Tells, starts, BoundsStarts};
 
 use bdd_ops::Diagrams;
 use bdd_store::{Node, StoreFault};
@@ -28,24 +28,30 @@ fn may_start_on(init: Init, column: Rails) -> Node
     }
 }
 
-/// The vectors whose states the inits permit.
+/// The vectors whose states the inits permit. The latches are taken from the last variable to the first, so that
+/// each is put above those before it.
 pub(crate) fn starts_on(
     d: &mut Diagrams,
     net: &Netlist,
+    order: &[u32],
     rails: &[Rails],
 ) -> Result<Node, StoreFault>
     requires vars { d.old.vars ≡ columns net.now }
-    requires columns { AreColumns d.old rails.now }
-    ensures starts { IfOk result (λ set. Tells d.new set (starts net.now)) }
+    requires order { order.now ≡ order_of net.now }
+    requires columns { AreColumns d.old (order_of net.now) rails.now }
+    ensures starts { IfOk result (λ set. Tells net.now d.new set (starts net.now)) }
     ensures keeps { KeepsNodes d.old d.new }
-    ensures added { (w : ℕ) → nodes d.old.vars (starts net.now) ≤ w → AddsAtMost d.old d.new (w * length net.now.latches) }
-    ensures full { (w : ℕ) → nodes d.old.vars (starts net.now) ≤ w → result ≡ Err StoreFault.Full → IsFullOnlyPast d.old d.new (w * length net.now.latches) }
+    ensures added { (w : ℕ) → BoundsStarts net.now w → AddsAtMost d.old d.new (w * columns net.now) }
+    ensures full { (w : ℕ) → BoundsStarts net.now w → result ≡ Err StoreFault.Full → IsFullOnlyPast d.old d.new (w * columns net.now) }
 {
+    let first = net.inputs();
     let mut set = Node::of(true);
-    for number in (0..net.latches()).rev() {
-        let column = rails[(net.inputs() + number) as usize];
-        let latch = may_start_on(net.latch(number).init, column);
-        set = d.and(latch, set)?;
+    for variable in (0..first + net.latches()).rev() {
+        let column = order[variable as usize];
+        if column >= first {
+            let latch = may_start_on(net.latch(column - first).init, rails[column as usize]);
+            set = d.and(latch, set)?;
+        }
     }
     Ok(set)
 }

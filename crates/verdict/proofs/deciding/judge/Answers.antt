@@ -17,9 +17,10 @@ use Rattle.fixpoint.specs.Working.{IsWorking, HasLargeCover}
 use Rattle.care_sets.specs.Care.{CareSet, columns, is_care_vector}
 use Rattle.refusals.specs.Refusals.{refusal}
 use Rattle.verdict.specs.Causes.{HasModelOver, IsStoreFor}
-use Rattle.verdict.specs.Enough.{IsOfDecision, enough}
+use Rattle.verdict.specs.Enough.{IsLaid, enough}
 use Rattle.verdict.specs.Sets.{Tells, AreFixed}
 use Rattle.isolation.specs.Columns.{AreColumns}
+use Rattle.fixpoint.specs.Orders.{order}
 use Rattle.verdict.specs.Verdicts.{IsStart, IsCareStart, AreLoose, StandSo, later_refusal}
 use Rattle.verdict.proofs.CauseLemmas.{IsStoreFor-kept, out_past, out_care, out_solved}
 use Rattle.isolation.proofs.ColumnLemmas.{AreColumns-kept}
@@ -33,28 +34,28 @@ use Rattle.verdict.proofs.deciding.judge.Goals.{After-column_rails, After-begin,
 
 pub later-requires-clause-fixed : goal.later-requires-clause-fixed
 later-requires-clause-fixed c =
-    let are : AreColumns c.solve.new.d c.deref-2.result.now =
-    subst (AreColumns c.solve.new.d) (sym c.deref-2.ensures.value) (AreColumns-kept (KeepsNodes-chain c.begin.ensures.keeps c.solve.ensures.keeps) c.in_ok-rails.ensures.rails) in
+    let are : AreColumns c.solve.new.d (order c.args.net.now) c.deref-4.result.now =
+    subst (AreColumns c.solve.new.d (order c.args.net.now)) (sym c.deref-4.ensures.value) (AreColumns-kept (KeepsNodes-chain c.begin.ensures.keeps c.solve.ensures.keeps) (subst (λ (cs : List ℕ). AreColumns c.column_rails.new.d cs c.in_ok-rails.rails.items) (c.deref.ensures.value ∙ c.in_ok-order.ensures.order) c.in_ok-rails.ensures.rails)) in
     let vars : c.solve.new.d.vars ≡ columns c.args.net.now = c.solve.ensures.keeps.vars ∙ c.begin.ensures.keeps.vars ∙ c.column_rails.ensures.keeps.vars ∙ c.requires.vars in
     subst (AreFixed c.args.net.now c.solve.new.d) (sym c.items.ensures)
-    (fixed-is c.args.net.now c.args.blocks.now c.args.cut.now c.solve.new.d c.deref-2.result.now c.in_ok-solved.solved are vars c.in_ok-solved.ensures.solution)
+    (fixed-is c.args.net.now c.args.blocks.now c.args.cut.now c.solve.new.d c.deref-4.result.now c.in_ok-solved.solved are vars c.in_ok-solved.ensures.solution)
 
 -- what is known once nothing refuses
 
-given-columns : (c : In-Determined) → AreColumns c.solve.new.d c.deref-2.result.now
-given-columns c = subst (AreColumns c.solve.new.d) (sym c.deref-2.ensures.value) (AreColumns-kept (KeepsNodes-chain c.begin.ensures.keeps c.solve.ensures.keeps) c.in_ok-rails.ensures.rails)
+given-columns : (c : In-Determined) → AreColumns c.solve.new.d (order c.args.net.now) c.deref-4.result.now
+given-columns c = subst (AreColumns c.solve.new.d (order c.args.net.now)) (sym c.deref-4.ensures.value) (AreColumns-kept (KeepsNodes-chain c.begin.ensures.keeps c.solve.ensures.keeps) (subst (λ (cs : List ℕ). AreColumns c.column_rails.new.d cs c.in_ok-rails.rails.items) (c.deref.ensures.value ∙ c.in_ok-order.ensures.order) c.in_ok-rails.ensures.rails))
 
 start-is : (c : In-Determined) → IsCareStart c.args.net.now c.args.care.now c.begin.new.d c.in-Care.set
 start-is c = subst (IsStart c.args.net.now c.args.care.now c.begin.new.d) c.in-Care.is c.in_ok-set.ensures.start
 
-later-solution : (c : In-Determined) → IsSolution c.args.net.now c.args.blocks.now c.args.cut.now c.later.new.d c.deref-2.result.now c.in_ok-solved.solved
+later-solution : (c : In-Determined) → IsSolution c.args.net.now c.args.blocks.now c.args.cut.now c.later.new.d c.deref-4.result.now c.in_ok-solved.solved
 later-solution c =
-    c.solutions.ensures.stay c.args.net.now c.args.blocks.now c.args.cut.now c.solve.new.d c.later.new.d c.deref-2.result.now c.in_ok-solved.solved c.later.ensures.keeps (given-columns c).proper c.in_ok-solved.ensures.solution
+    c.solutions.ensures.stay c.args.net.now c.args.blocks.now c.args.cut.now c.solve.new.d c.later.new.d c.deref-4.result.now c.in_ok-solved.solved c.later.ensures.keeps (given-columns c).proper c.in_ok-solved.ensures.solution
 
 later-vars : (c : In-Determined) → c.later.new.d.vars ≡ columns c.args.net.now
 later-vars c = c.later.ensures.keeps.vars ∙ c.solve.ensures.keeps.vars ∙ c.begin.ensures.keeps.vars ∙ c.column_rails.ensures.keeps.vars ∙ c.requires.vars
 
-later-told : (c : In-Determined) → Tells c.later.new.d c.in-Care.set (is_care_vector c.args.net.now c.args.care.now)
+later-told : (c : In-Determined) → Tells c.args.net.now c.later.new.d c.in-Care.set (is_care_vector c.args.net.now c.args.care.now)
 later-told c = Tells-kept (KeepsNodes-chain c.solve.ensures.keeps c.later.ensures.keeps) (start-is c).told
 
 later-stands : (c : In-Determined) → (later_refusal c.args.net.now c.args.care.now c.args.observe ≡ None) × AreLoose c.args.net.now c.args.care.now c.in-Determined.loose
@@ -66,15 +67,15 @@ nothing-refuses c = refused-later c.args.net.now c.args.care.now c.args.observe 
 pub sweeps-requires-clause-loops : goal.sweeps-requires-clause-loops
 sweeps-requires-clause-loops g =
     let c : In-Determined = (goal.at.sweeps-requires-clause-loops g).In-Determined in
-    c.solutions.ensures.count c.args.net.now c.args.blocks.now c.args.cut.now c.later.new.d c.deref-2.result.now c.in_ok-solved.solved c.begin.ensures.valid c.requires.blocks c.requires.cut (later-solution c) c.in-Care.set
+    c.solutions.ensures.count c.args.net.now c.args.blocks.now c.args.cut.now c.later.new.d c.deref-4.result.now c.in_ok-solved.solved c.begin.ensures.valid c.requires.blocks c.requires.cut (later-solution c) c.in-Care.set
 
 pub returns-clause-verdict : goal.returns-clause-verdict
 returns-clause-verdict g =
     let c : In-Determined = (goal.at.returns-clause-verdict g).In-Determined in
     let net = c.args.net.now in
-    let given : List Rails = c.deref-2.result.now in
+    let given : List Rails = c.deref-4.result.now in
     let lawful : IsLawful c.later.new.d = subst IsLawful g.store.ensures g.laws.ensures in
-    let are : AreColumns c.later.new.d given = AreColumns-kept c.later.ensures.keeps (given-columns c) in
+    let are : AreColumns c.later.new.d (order c.args.net.now) given = AreColumns-kept c.later.ensures.keeps (given-columns c) in
     let counts = g.in_ok-counts.ensures.counts in
     let found : CountSweeps net c.args.blocks.now c.args.cut.now c.later.new.d (values_of c.later.new.d given) c.in-Care.set g.in_ok-counts.counts =
     g.in_ok-counts.ensures.sweeps net c.args.cut.now given c.requires.blocks c.requires.cut (later-solution c) in
@@ -98,7 +99,7 @@ store-after limit most vars keeps = IsStoreFor-kept keeps (record { variables = 
 
 pub returns-in_err-rails-clause-full : goal.returns-in_err-rails-clause-full
 returns-in_err-rails-clause-full c is_full =
-    let refused = ap {A = StoreFault} Err (sym (rw is_full at c.from_residual.ensures.1)) in
+    let refused = ap {A = StoreFault} Err (sym (rw is_full at c.from_residual-in_err-rails.ensures.1)) in
     out_past c.args.d.now c.column_rails.new.d c.args.net.now c.args.care.now c.args.d.now.limit _ (store-after c.args.d.now.limit refl c.requires.vars c.column_rails.ensures.keeps) (c.in_err-rails.ensures.full refused)
 
 pub returns-in_err-set-clause-full : goal.returns-in_err-set-clause-full
@@ -106,7 +107,7 @@ returns-in_err-set-clause-full c is_full =
     let refused = ap {A = StoreFault} Err (sym (rw is_full at c.from_residual-in_err-set.ensures.1)) in
     let vars = c.column_rails.new.d.vars in
     out_care c.column_rails.new.d c.begin.new.d c.args.net.now c.args.care.now c.args.d.now.limit _ (store-after c.args.d.now.limit refl c.requires.vars c.column_rails.ensures.keeps) c.begin.ensures.keeps
-    (c.in_err-set.ensures.full _ (IsWide-some vars (IsOfDecision c.args.net.now c.args.care.now)) refused)
+    (c.in_err-set.ensures.full _ (IsWide-some vars (IsLaid c.args.net.now c.args.care.now)) refused)
 
 pub returns-in_err-solved-clause-full : goal.returns-in_err-solved-clause-full
 returns-in_err-solved-clause-full c is_full =
@@ -114,7 +115,7 @@ returns-in_err-solved-clause-full c is_full =
     let vars = c.begin.new.d.vars in
     out_solved c.begin.new.d c.solve.new.d c.args.net.now c.args.care.now c.args.d.now.limit _
     (store-after c.args.d.now.limit refl c.requires.vars (KeepsNodes-chain c.column_rails.ensures.keeps c.begin.ensures.keeps)) c.solve.ensures.keeps
-    (c.in_err-solved.ensures.full _ (IsWide-some vars (IsWorking c.args.net.now (loops_by c.args.blocks.now c.args.cut.now) (values_of c.begin.new.d c.deref-2.result.now))) refused)
+    (c.in_err-solved.ensures.full _ (IsWide-some vars (IsWorking c.args.net.now (loops_by c.args.blocks.now c.args.cut.now) (values_of c.begin.new.d c.deref-4.result.now))) refused)
 
 pub returns-in_err-gates-clause-full : goal.returns-in_err-gates-clause-full
 returns-in_err-gates-clause-full c is_full =
@@ -122,7 +123,7 @@ returns-in_err-gates-clause-full c is_full =
     let vars = c.solve.new.d.vars in
     out_care c.solve.new.d c.later.new.d c.args.net.now c.args.care.now c.args.d.now.limit _
     (store-after c.args.d.now.limit refl c.requires.vars (KeepsNodes-chain (KeepsNodes-chain c.column_rails.ensures.keeps c.begin.ensures.keeps) c.solve.ensures.keeps)) c.later.ensures.keeps
-    (c.in_err-gates.ensures.full _ (IsWide-some vars (IsOfDecision c.args.net.now c.args.care.now)) refused)
+    (c.in_err-gates.ensures.full _ (IsWide-some vars (IsLaid c.args.net.now c.args.care.now)) refused)
 
 pub returns-in_err-counts-clause-full : goal.returns-in_err-counts-clause-full
 returns-in_err-counts-clause-full c is_full =
@@ -136,10 +137,10 @@ returns-in_err-counts-clause-full c is_full =
 -- ---- what is used after each part, where none was before
 
 abbrev Wide : Parts → CareSet → ℕ → Type 0
-Wide net care w = IsWide (columns net) (IsOfDecision net care) w
+Wide net care w = IsWide (columns net) (IsLaid net care) w
 
-wide-at : (net : Parts) (care : CareSet) (n w : ℕ) → n ≡ columns net → Wide net care w → IsWide n (IsOfDecision net care) w
-wide-at net care n w vars wide = subst (λ k. IsWide k (IsOfDecision net care) w) (sym vars) wide
+wide-at : (net : Parts) (care : CareSet) (n w : ℕ) → n ≡ columns net → Wide net care w → IsWide n (IsLaid net care) w
+wide-at net care n w vars wide = subst (λ k. IsWide k (IsLaid net care) w) (sym vars) wide
 
 used-by-columns : (c : After-column_rails) → length c.args.d.now.entries ≡ 0 → length c.column_rails.new.d.entries ≤ cost_of_columns c.args.net.now
 used-by-columns c none = omega (arith, c.column_rails.ensures.added, none, c.requires.vars)
@@ -155,13 +156,13 @@ used-before c w wide before =
 
 -- the working list of the fixpoint
 solve-wide : (c : After-solve) (w : ℕ) → Wide c.args.net.now c.args.care.now w →
-    IsWide c.begin.new.d.vars (IsWorking c.args.net.now (loops_by c.args.blocks.now c.args.cut.now) (values_of c.begin.new.d c.deref-2.result.now)) w
+    IsWide c.begin.new.d.vars (IsWorking c.args.net.now (loops_by c.args.blocks.now c.args.cut.now) (values_of c.begin.new.d c.deref-4.result.now)) w
 solve-wide c w wide =
     let net = c.args.net.now in
     let d = c.begin.new.d in
     let vars : d.vars ≡ columns net = c.begin.ensures.keeps.vars ∙ c.column_rails.ensures.keeps.vars ∙ c.requires.vars in
-    let are : AreColumns d c.deref-2.result.now = subst (AreColumns d) (sym c.deref-2.ensures.value) (AreColumns-kept c.begin.ensures.keeps c.in_ok-rails.ensures.rails) in
-    working-wide net c.args.care.now d c.deref-2.result.now vars are (loops_by c.args.blocks.now c.args.cut.now)
+    let are : AreColumns d (order c.args.net.now) c.deref-4.result.now = subst (AreColumns d (order c.args.net.now)) (sym c.deref-4.ensures.value) (AreColumns-kept c.begin.ensures.keeps (subst (λ (cs : List ℕ). AreColumns c.column_rails.new.d cs c.in_ok-rails.rails.items) (c.deref.ensures.value ∙ c.in_ok-order.ensures.order) c.in_ok-rails.ensures.rails)) in
+    working-wide net c.args.care.now d c.deref-4.result.now vars are (loops_by c.args.blocks.now c.args.cut.now)
     (loops-are net c.args.blocks.now c.args.cut.now c.requires.blocks c.requires.cut) (wide-at net c.args.care.now d.vars w vars wide)
 
 used-by-fix : (c : After-solve) (w : ℕ) → Wide c.args.net.now c.args.care.now w →
@@ -171,7 +172,7 @@ used-by-fix c w wide before =
     used-more c.begin.new.d c.solve.new.d (cost_of_columns c.args.net.now + cost_before c.args.net.now c.args.care.now w) (cost_of_fix c.args.net.now w) before
     (c.solve.ensures.added w (solve-wide c w wide))
 
-after-wide : (c : After-later) (w : ℕ) → Wide c.args.net.now c.args.care.now w → IsWide c.solve.new.d.vars (IsOfDecision c.args.net.now c.args.care.now) w
+after-wide : (c : After-later) (w : ℕ) → Wide c.args.net.now c.args.care.now w → IsWide c.solve.new.d.vars (IsLaid c.args.net.now c.args.care.now) w
 after-wide c w wide =
     wide-at c.args.net.now c.args.care.now c.solve.new.d.vars w (c.solve.ensures.keeps.vars ∙ c.begin.ensures.keeps.vars ∙ c.column_rails.ensures.keeps.vars ∙ c.requires.vars) wide
 
@@ -185,7 +186,7 @@ used-after c w wide before =
 -- what the comparison of sweeps works with
 sweeps-wide : (c : In-Determined) (w : ℕ) → Wide c.args.net.now c.args.care.now w → IsWide c.later.new.d.vars (IsComparedIn c.later.new.d c.in-Care.set c.in_ok-solved.solved.loops) w
 sweeps-wide c w wide =
-    compared-wide c.args.net.now c.args.care.now c.later.new.d c.deref-2.result.now (later-vars c) (AreColumns-kept c.later.ensures.keeps (given-columns c))
+    compared-wide c.args.net.now c.args.care.now c.later.new.d c.deref-4.result.now (later-vars c) (AreColumns-kept c.later.ensures.keeps (given-columns c))
     c.args.blocks.now c.args.cut.now c.requires.blocks c.requires.cut c.in-Care.set c.in_ok-solved.solved (later-told c) (later-solution c).steps
     (wide-at c.args.net.now c.args.care.now c.later.new.d.vars w (later-vars c) wide)
 
@@ -194,7 +195,7 @@ sweeps-wide c w wide =
 pub returns-in_err-rails-clause-enough : goal.returns-in_err-rails-clause-enough
 returns-in_err-rails-clause-enough c is_full none = record {
   below = λ w wide.
-      let refused = ap {A = StoreFault} Err (sym (rw is_full at c.from_residual.ensures.1)) in
+      let refused = ap {A = StoreFault} Err (sym (rw is_full at c.from_residual-in_err-rails.ensures.1)) in
       let sum = costs-enough c.args.net.now c.args.care.now w wide in
       let past = (c.in_err-rails.ensures.full refused).past in
       omega (arith, past, none, sum, c.requires.vars, c.column_rails.ensures.keeps.limit);

@@ -9,7 +9,7 @@ use Rattle.refusals.specs.Refusals.{undetermined_refusal, leaves_refusal}
 use Rattle.refusals.proofs.LawLemmas.{sources_determined}
 use Rattle.verdict.specs.Causes.{HasModelOver}
 use Rattle.verdict.specs.Costs.{invariant_effort}
-use Rattle.verdict.specs.Enough.{IsOfDecision}
+use Rattle.verdict.specs.Enough.{IsLaid}
 use Rattle.verdict.specs.Verdicts.{AreLoose, StandSo}
 use Rattle.verdict.proofs.CauseLemmas.{over-more}
 use Rattle.verdict.proofs.DecisionLemmas.{wide-kept}
@@ -50,13 +50,13 @@ leaves-requires-clause-loads g v counts =
 
 -- ---- what is added, call by call
 
-gates-within : (c : After-gates_on) (w : ℕ) → IsWide c.args.d.now.vars (IsOfDecision c.args.net.now c.args.care.now) w →
+gates-within : (c : After-gates_on) (w : ℕ) → IsWide c.args.d.now.vars (IsLaid c.args.net.now c.args.care.now) w →
     AddsAtMost c.args.d.now c.gates_on.new.d (w * (2 * length c.args.net.now.gates + (2 * length c.args.net.now.latches + 2 * invariant_effort c.args.care.now + 1)))
 gates-within c w wide =
     added-within c.args.d.now c.gates_on.new.d w (2 * length c.args.net.now.gates) (2 * length c.args.net.now.gates + (2 * length c.args.net.now.latches + 2 * invariant_effort c.args.care.now + 1)) (omega arith)
     (c.gates_on.ensures.added c.args.care.now w c.requires.set wide)
 
-both-added : (c : After-leaves) (w : ℕ) → IsWide c.args.d.now.vars (IsOfDecision c.args.net.now c.args.care.now) w →
+both-added : (c : After-leaves) (w : ℕ) → IsWide c.args.d.now.vars (IsLaid c.args.net.now c.args.care.now) w →
     AddsAtMost c.args.d.now c.leaves.new.d (w * (2 * length c.args.net.now.gates + (2 * length c.args.net.now.latches + 2 * invariant_effort c.args.care.now + 1)))
 both-added c w wide =
     added-more c.args.d.now c.gates_on.new.d c.leaves.new.d w (2 * length c.args.net.now.gates) (2 * length c.args.net.now.latches + 2 * invariant_effort c.args.care.now + 1)

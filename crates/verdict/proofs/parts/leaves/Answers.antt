@@ -14,15 +14,17 @@ use Rattle.netlist.specs.Fixpoint.{next}
 use Rattle.refusals.specs.declared.refusal.Refusal.TheVariants.{Leaves}
 use Rattle.refusals.specs.Refusals.{next_state}
 use Rattle.refusals.proofs.FirstLemmas.{found_wide}
+use Rattle.bdd_ops.specs.Least.{by_variable}
+use Rattle.fixpoint.specs.Orders.{laid}
 use Rattle.verdict.specs.Causes.{HasModelOver}
 use Rattle.verdict.specs.Costs.{invariant_effort}
-use Rattle.verdict.specs.Enough.{IsOfDecision, IsOfModel}
+use Rattle.verdict.specs.Enough.{IsLaid, IsOfModel}
 use Rattle.verdict.specs.Next.{BoundsSignals}
 use Rattle.verdict.specs.Sets.{ReadsWithin, difference}
 use Rattle.verdict.proofs.CauseLemmas.{over-more}
 use Rattle.verdict.proofs.DecisionLemmas.{signals-bounded, wide-kept}
 use Rattle.verdict.proofs.LeavesLemmas.{within-set, leaves-fit}
-use Rattle.verdict.proofs.PartLemmas.{invariant-reads, leaves-is, AreFixed-kept, Tells-kept}
+use Rattle.verdict.proofs.PartLemmas.{by-order, invariant-reads, leaves-is, order-layout, AreFixed-kept, Tells-kept}
 use Rattle.verdict.proofs.WorkLemmas.{next-bounded}
 use Rattle.verdict.proofs.parts.leaves.Goals as goal
 use Rattle.verdict.proofs.parts.leaves.Goals.{After-next_on, After-invariant_on, After-minus}
@@ -33,6 +35,10 @@ invariant_on-requires-clause-reads c =
     subst (λ first. IfSome c.args.care.now.invariant (ReadsWithin first width)) (sym c.inputs.ensures.inputs)
     (invariant-reads c.args.net.now c.args.care.now width c.requires.care (ap length c.deref.ensures.value ∙ c.in_ok-next.ensures.width))
 
+pub least_of-requires-clause-columns : goal.least_of-requires-clause-columns
+least_of-requires-clause-columns c =
+    order-layout c.args.net.now c.minus.new.d.vars c.args.order.now (c.minus.ensures.keeps.vars ∙ c.invariant_on.ensures.keeps.vars ∙ c.next_on.ensures.keeps.vars ∙ c.requires.vars) c.requires.order
+
 pub next_of-requires-clause-fixed : goal.next_of-requires-clause-fixed
 next_of-requires-clause-fixed c =
     AreFixed-kept (KeepsNodes-chain (KeepsNodes-chain c.next_on.ensures.keeps c.invariant_on.ensures.keeps) c.minus.ensures.keeps) c.requires.fixed
@@ -40,11 +46,11 @@ next_of-requires-clause-fixed c =
 pub next_of-requires-clause-width : goal.next_of-requires-clause-width
 next_of-requires-clause-width c =
     ap length c.deref-2.ensures.value
-    ∙ found_wide c.minus.new.d.vars (den c.minus.new.d c.in_ok-outside.outside) c.in-Some.vector.items
+    ∙ found_wide c.minus.new.d.vars (λ v. den c.minus.new.d c.in_ok-outside.outside (by_variable c.args.order.now v)) c.in-Some.vector.items
     (sym (sym (ap (option_map (λ (v : Vec Bool Global). v.items)) c.in-Some.is) ∙ c.in_ok-vector.ensures))
 
 -- at vectors of care
-next-values : (c : After-invariant_on) → (v : List Bool) → length v ≡ c.args.d.now.vars → den c.args.d.now c.args.set v ≡ true → values_of c.next_on.new.d c.in_ok-next.next.items v ≡ next c.args.net.now (bits v)
+next-values : (c : After-invariant_on) → (v : List Bool) → length v ≡ c.args.d.now.vars → den c.args.d.now c.args.set (laid c.args.net.now v) ≡ true → values_of c.next_on.new.d c.in_ok-next.next.items (laid c.args.net.now v) ≡ next c.args.net.now (bits v)
 next-values c v long counts = c.in_ok-next.ensures.values v long ∙ within-set c.args.net.now c.args.d.now c.args.set v counts
 
 pub returns-in_default-clause-refusal : goal.returns-in_default-clause-refusal
@@ -53,7 +59,7 @@ returns-in_default-clause-refusal c =
     c.requires.vars (KeepsNodes-chain c.next_on.ensures.keeps c.invariant_on.ensures.keeps) c.minus.ensures.keeps c.requires.set c.requires.loads
     (next-values ((goal.at.returns-in_default-clause-refusal c).After-invariant_on))
     (λ q v e. c.in_ok-inside.ensures.inside q v (ap (λ (l : List Rails). values_of c.next_on.new.d l v) c.deref.ensures.value ∙ e))
-    c.in_ok-outside.ensures.function (sym (ap (option_map (λ (v : Vec Bool Global). v.items)) c.in_default.is) ∙ c.in_ok-vector.ensures)
+    c.in_ok-outside.ensures.function (sym (ap (option_map (λ (v : Vec Bool Global). v.items)) c.in_default.is) ∙ c.in_ok-vector.ensures ∙ by-order c.args.net.now c.minus.new.d c.in_ok-outside.outside c.requires.order)
 
 pub returns-clause-refusal : goal.returns-clause-refusal
 returns-clause-refusal c =
@@ -62,43 +68,43 @@ returns-clause-refusal c =
     c.requires.vars (KeepsNodes-chain c.next_on.ensures.keeps c.invariant_on.ensures.keeps) c.minus.ensures.keeps c.requires.set c.requires.loads
     (next-values ((goal.at.returns-clause-refusal c).After-invariant_on))
     (λ q v e. c.in_ok-inside.ensures.inside q v (ap (λ (l : List Rails). values_of c.next_on.new.d l v) c.deref.ensures.value ∙ e))
-    c.in_ok-outside.ensures.function (sym (ap (option_map (λ (v : Vec Bool Global). v.items)) c.in-Some.is) ∙ c.in_ok-vector.ensures)
+    c.in_ok-outside.ensures.function (sym (ap (option_map (λ (v : Vec Bool Global). v.items)) c.in-Some.is) ∙ c.in_ok-vector.ensures ∙ by-order c.args.net.now c.minus.new.d c.in_ok-outside.outside c.requires.order)
 
 -- ---- what is added, call by call
 
-signals-fit : (c : After-next_on) (w : ℕ) → IsWide c.args.d.now.vars (IsOfDecision c.args.net.now c.args.care.now) w → BoundsSignals c.args.net.now c.args.d.now c.args.set w
+signals-fit : (c : After-next_on) (w : ℕ) → IsWide c.args.d.now.vars (IsLaid c.args.net.now c.args.care.now) w → BoundsSignals c.args.net.now c.args.d.now c.args.set w
 signals-fit c w wide = signals-bounded c.args.net.now c.args.care.now c.args.d.now c.args.set c.requires.vars c.requires.set wide
 
-invariant-fits : (c : After-invariant_on) (w : ℕ) → IsWide c.args.d.now.vars (IsOfDecision c.args.net.now c.args.care.now) w →
+invariant-fits : (c : After-invariant_on) (w : ℕ) → IsWide c.args.d.now.vars (IsLaid c.args.net.now c.args.care.now) w →
     IfSome c.args.care.now.invariant (λ model. BoundsEach c.next_on.new.d.vars (IsOfModel model (values_of c.next_on.new.d c.deref.result.now)) w)
 invariant-fits c w wide =
     let keeps = c.next_on.ensures.keeps in
     next-bounded c.args.net.now c.args.care.now c.next_on.new.d.vars (keeps.vars ∙ c.requires.vars) (wide-kept keeps wide) c.args.d.now c.args.set (sym keeps.vars) c.requires.set
     (values_of c.next_on.new.d c.deref.result.now)
-    (λ v long. ap (λ (l : List Rails). values_of c.next_on.new.d l v) c.deref.ensures.value ∙ c.in_ok-next.ensures.values v (long ∙ keeps.vars))
+    (λ v long. ap (λ (l : List Rails). values_of c.next_on.new.d l (laid c.args.net.now v)) c.deref.ensures.value ∙ c.in_ok-next.ensures.values v (long ∙ keeps.vars))
 
-invariant-added : (c : After-invariant_on) (w : ℕ) → IsWide c.args.d.now.vars (IsOfDecision c.args.net.now c.args.care.now) w → BoundsSignals c.args.net.now c.args.d.now c.args.set w →
+invariant-added : (c : After-invariant_on) (w : ℕ) → IsWide c.args.d.now.vars (IsLaid c.args.net.now c.args.care.now) w → BoundsSignals c.args.net.now c.args.d.now c.args.set w →
     AddsAtMost c.args.d.now c.invariant_on.new.d (w * (2 * length c.args.net.now.latches + 2 * invariant_effort c.args.care.now))
 invariant-added c w wide signals =
     added-more c.args.d.now c.next_on.new.d c.invariant_on.new.d w (2 * length c.args.net.now.latches) (2 * invariant_effort c.args.care.now) (2 * length c.args.net.now.latches + 2 * invariant_effort c.args.care.now) (omega arith)
     (c.next_on.ensures.added w signals) (c.invariant_on.ensures.added w (invariant-fits c w wide))
 
 -- care vectors whose next state isn't in the invariant
-outside-fits : (c : After-minus) (w : ℕ) → IsWide c.args.d.now.vars (IsOfDecision c.args.net.now c.args.care.now) w →
+outside-fits : (c : After-minus) (w : ℕ) → IsWide c.args.d.now.vars (IsLaid c.args.net.now c.args.care.now) w →
     nodes c.invariant_on.new.d.vars (difference c.invariant_on.new.d c.args.set c.in_ok-inside.inside) ≤ w
 outside-fits c w wide =
     let keeps : KeepsNodes c.args.d.now c.invariant_on.new.d = KeepsNodes-chain c.next_on.ensures.keeps c.invariant_on.ensures.keeps in
     leaves-fit c.args.net.now c.args.care.now c.invariant_on.new.d c.args.set c.in_ok-inside.inside c.inputs.ensures.valid c.requires.care c.requires.loads (keeps.vars ∙ c.requires.vars)
     (Tells-kept keeps c.requires.set)
     (λ q v long counts state.
-    c.in_ok-inside.ensures.inside q v (
-    ap (λ (l : List Rails). values_of c.next_on.new.d l v) c.deref.ensures.value
+    c.in_ok-inside.ensures.inside q (laid c.args.net.now v) (
+    ap (λ (l : List Rails). values_of c.next_on.new.d l (laid c.args.net.now v)) c.deref.ensures.value
     ∙ c.in_ok-next.ensures.values v (long ∙ keeps.vars)
-    ∙ within-set c.args.net.now c.args.d.now c.args.set v (sym (keeps.function c.args.set v c.requires.set.node) ∙ counts)
+    ∙ within-set c.args.net.now c.args.d.now c.args.set v (sym (keeps.function c.args.set (laid c.args.net.now v) c.requires.set.node) ∙ counts)
     ∙ state))
     (wide-kept keeps wide)
 
-minus-added : (c : After-minus) (w : ℕ) → IsWide c.args.d.now.vars (IsOfDecision c.args.net.now c.args.care.now) w →
+minus-added : (c : After-minus) (w : ℕ) → IsWide c.args.d.now.vars (IsLaid c.args.net.now c.args.care.now) w →
     AddsAtMost c.args.d.now c.invariant_on.new.d (w * (2 * length c.args.net.now.latches + 2 * invariant_effort c.args.care.now)) →
     AddsAtMost c.args.d.now c.minus.new.d (w * (2 * length c.args.net.now.latches + 2 * invariant_effort c.args.care.now + 1))
 minus-added c w wide before =

@@ -11,9 +11,10 @@ use Rattle.netlist.specs.declared.parts.Parts.{Parts}
 use Rattle.care_sets.specs.Care.{columns}
 use Rattle.verdict.specs.Causes.{HasModelOver}
 use Rattle.verdict.specs.Costs.{assume_effort}
-use Rattle.verdict.specs.Enough.{IsOfDecision, IsOfModel, SaysCare}
+use Rattle.verdict.specs.Enough.{IsLaid, IsOfModel, SaysCare}
 use Rattle.verdict.specs.Sets.{Tells, has_state_inside}
 use Rattle.isolation.specs.Columns.{AreColumns}
+use Rattle.fixpoint.specs.Orders.{order, laid}
 use Rattle.verdict.proofs.CauseLemmas.{added-to, full-to, over-first}
 use Rattle.verdict.proofs.DecisionLemmas.{made-listed, made-one, wide-kept}
 use Rattle.verdict.proofs.PartLemmas.{Tells-kept}
@@ -23,23 +24,23 @@ use Rattle.verdict.proofs.start.care_on.Goals.{After-assume_on, After-and}
 
 -- what the assumption works with
 
-bounded : (c : After-assume_on) (net : Parts) (w : ℕ) → c.args.d.now.vars ≡ columns net → AreColumns c.args.d.now c.args.rails.now → IsWide c.args.d.now.vars (IsOfDecision net c.args.care.now) w →
+bounded : (c : After-assume_on) (net : Parts) (w : ℕ) → c.args.d.now.vars ≡ columns net → AreColumns c.args.d.now (order net) c.args.rails.now → IsWide c.args.d.now.vars (IsLaid net c.args.care.now) w →
     IfSome c.args.care.now.assume (λ model. BoundsEach c.args.d.now.vars (IsOfModel model (values_of c.args.d.now c.args.rails.now)) w)
 bounded c net w vars are wide = assume-bounded net c.args.care.now c.args.d.now.vars vars wide (values_of c.args.d.now c.args.rails.now) are.values
 
 -- the set is that of the care vectors
 
-set-fits : (c : After-and) (net : Parts) (w : ℕ) → c.args.d.now.vars ≡ columns net → AreColumns c.args.d.now c.args.rails.now → Tells c.args.d.now c.args.inside (has_state_inside net c.args.care.now) →
-    IsWide c.args.d.now.vars (IsOfDecision net c.args.care.now) w → nodes c.assume_on.new.d.vars (conjunction c.assume_on.new.d c.args.inside c.in_ok-allowed.allowed) ≤ w
+set-fits : (c : After-and) (net : Parts) (w : ℕ) → c.args.d.now.vars ≡ columns net → AreColumns c.args.d.now (order net) c.args.rails.now → Tells net c.args.d.now c.args.inside (has_state_inside net c.args.care.now) →
+    IsWide c.args.d.now.vars (IsLaid net c.args.care.now) w → nodes c.assume_on.new.d.vars (conjunction c.assume_on.new.d c.args.inside c.in_ok-allowed.allowed) ≤ w
 set-fits c net w vars are told wide =
     let keeps = c.assume_on.ensures.keeps in
-    let inside : Tells c.assume_on.new.d c.args.inside (has_state_inside net c.args.care.now) = Tells-kept keeps told in
+    let inside : Tells net c.assume_on.new.d c.args.inside (has_state_inside net c.args.care.now) = Tells-kept keeps told in
     made-one (keeps.vars ∙ vars) (wide-kept keeps wide) (conjunction c.assume_on.new.d c.args.inside c.in_ok-allowed.allowed)
     (made-listed (SaysCare (λ v. refl)) (λ v long.
-    ap₂ (λ x y. x && y) (inside.value v (long ∙ sym (keeps.vars ∙ vars))) (c.in_ok-allowed.ensures.allowed v v (are.values v (long ∙ sym vars)))))
+    ap₂ (λ x y. x && y) (inside.value v (long ∙ sym (keeps.vars ∙ vars))) (c.in_ok-allowed.ensures.allowed v (laid net v) (are.values v (long ∙ sym vars)))))
 
-both-added : (c : After-and) (net : Parts) (w : ℕ) → c.args.d.now.vars ≡ columns net → AreColumns c.args.d.now c.args.rails.now → Tells c.args.d.now c.args.inside (has_state_inside net c.args.care.now) →
-    IsWide c.args.d.now.vars (IsOfDecision net c.args.care.now) w → AddsAtMost c.args.d.now c.and.new.self (w * (2 * assume_effort c.args.care.now + 1))
+both-added : (c : After-and) (net : Parts) (w : ℕ) → c.args.d.now.vars ≡ columns net → AreColumns c.args.d.now (order net) c.args.rails.now → Tells net c.args.d.now c.args.inside (has_state_inside net c.args.care.now) →
+    IsWide c.args.d.now.vars (IsLaid net c.args.care.now) w → AddsAtMost c.args.d.now c.and.new.self (w * (2 * assume_effort c.args.care.now + 1))
 both-added c net w vars are told wide =
     added-next c.args.d.now c.assume_on.new.d c.and.new.self w (2 * assume_effort c.args.care.now)
     (c.assume_on.ensures.added w (assume-bounded net c.args.care.now c.args.d.now.vars vars wide (values_of c.args.d.now c.args.rails.now) are.values))

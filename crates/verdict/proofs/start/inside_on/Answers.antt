@@ -6,7 +6,8 @@ use Rattle.dual_rail.specs.declared.rail.Rails.{Rails}
 use Rattle.dual_rail.specs.Rails.{values_of}
 use Rattle.dual_rail.specs.WorkingLists.{IsWide, BoundsEach}
 use Rattle.care_sets.specs.Care.{columns, state_of}
-use Rattle.verdict.specs.Enough.{IsOfDecision, IsOfModel}
+use Rattle.verdict.specs.Enough.{IsLaid, IsOfModel}
+use Rattle.fixpoint.specs.Orders.{laid}
 use Rattle.verdict.specs.Sets.{ReadsWithin}
 use Rattle.verdict.proofs.PartLemmas.{invariant-reads}
 use Rattle.verdict.proofs.VerdictLemmas.{state-values}
@@ -34,13 +35,13 @@ returns-clause-told c =
     let latches : List Rails = take (length rails - first) (drop first rails) in
     record {
       node = c.in_ok-invariant_on.ensures.node;
-      value = λ v wide. c.in_ok-invariant_on.ensures.inside (state_of net v) v
+      value = λ v wide. c.in_ok-invariant_on.ensures.inside (state_of net v) (laid net v)
           (state-values net c.args.d.now rails latches v c.requires.columns (take_rest rails first ∙ ap (λ n. drop n rails) c.inputs-first.ensures.inputs) (wide ∙ c.invariant_on.ensures.keeps.vars));
     }
 
 -- what the invariant works with
 
-bounded : (c : After-invariant_on) (w : ℕ) → IsWide c.args.d.now.vars (IsOfDecision c.args.net.now c.args.care.now) w →
+bounded : (c : After-invariant_on) (w : ℕ) → IsWide c.args.d.now.vars (IsLaid c.args.net.now c.args.care.now) w →
     IfSome c.args.care.now.invariant (λ model. BoundsEach c.args.d.now.vars (IsOfModel model (values_of c.args.d.now (take (length c.args.rails.now - c.inputs-first.result) (drop c.inputs-first.result c.args.rails.now)))) w)
 bounded c w wide =
     let net = c.args.net.now in

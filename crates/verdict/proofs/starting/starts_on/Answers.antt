@@ -1,79 +1,141 @@
-use Rattle.std.proofs.Common.{◌≡◌, Err, ℕ, ◌+◌, ◌-◌, ◌*◌, ◌<◌, ◌≤◌, ◌∙◌, Bool, List, length, drop, sym, ap, subst, arith}
+use Rattle.std.proofs.Common.{◌≡◌, Err, ℕ, ◌+◌, ◌-◌, ◌*◌, ◌<◌, ◌≤◌, ◌∙◌, Bool, List, length, drop, get_or, sym, ap, ap₂, arith}
+use Rattle.std.specs.Prelude.{slice_get, Some}
 use Rattle.bdd_store.specs.declared.fault.StoreFault.{StoreFault}
 use Rattle.bdd_store.specs.Growth.{AddsAtMost}
 use Rattle.bdd_store.specs.Subfunctions.{nodes}
-use Rattle.bdd_store.proofs.GrowthLemmas.{KeepsNodes-chain, added-next, added-within, full-next}
+use Rattle.bdd_store.proofs.GrowthLemmas.{KeepsNodes-chain, KeepsNodes-refl, added-next, added-within, full-next}
 use Rattle.bdd_ops.specs.Operations.{conjunction}
 use Rattle.dual_rail.specs.declared.rail.Rails.{Rails}
 use Rattle.dual_rail.specs.Rails.{AreRailsOf}
+use Rattle.fixpoint.specs.Orders.{order}
 use Rattle.fixpoint.specs.Sweeping.{rails_at}
 use Rattle.fixpoint.proofs.WireLemmas.{rails_at-proper}
-use Rattle.care_sets.specs.Care.{state_of}
-use Rattle.refusals.proofs.ShowingLemmas.{all_may_start}
+use Rattle.care_sets.specs.Care.{columns}
 use Rattle.isolation.specs.Columns.{AreColumns}
-use Rattle.verdict.specs.Sets.{starts}
+use Rattle.verdict.specs.Sets.{BoundsStarts}
 use Rattle.verdict.proofs.CauseLemmas.{added-to, full-to}
 use Rattle.isolation.proofs.ColumnLemmas.{AreColumns-kept}
-use Rattle.verdict.proofs.StartLemmas.{later-both, later-more, later-nodes}
+use Rattle.verdict.proofs.StartLemmas.{all_may_start_at, long-order, order-low, later-none, later-both, later-input, later-more, later-nodes, starts-told}
 use Rattle.verdict.proofs.starting.starts_on.Goals as goal
 use Rattle.verdict.proofs.starting.starts_on.Goals.{After-and}
 
-number-inside : (c : After-and) → c.loop-number.number - 1 < length c.args.net.now.latches
-number-inside c = omega (arith, c.loop-number-test.true, c.loop-number.auto.number, c.latches-number.ensures.latches)
+variable-inside : (c : After-and) → c.loop-variable.variable - 1 < columns c.args.net.now
+variable-inside c = omega (arith, c.loop-variable-test.true, c.loop-variable.auto.variable, c.inputs-first.ensures.inputs, c.latches.ensures.latches)
 
--- the latch and those after it, and what this adds
+-- the column of the variable
+column-is : (c : After-and) → get_or c.args.order.now (c.loop-variable.variable - 1) 0 ≡ get_or (order c.args.net.now) (c.loop-variable.variable - 1) 0
+column-is c = ap (λ (xs : List ℕ). get_or xs (c.loop-variable.variable - 1) 0) c.requires.order
 
-both : (c : After-and) → (v : List Bool) → length v ≡ c.loop-number.d.vars →
-    conjunction c.loop-number.d c.may_start_on-latch.result c.loop-number.set v ≡ all_may_start (drop (c.loop-number.number - 1) c.args.net.now.latches) (drop (c.loop-number.number - 1) (state_of c.args.net.now v))
+-- ---- the variables and their columns
+
+pub loop-variable-init : goal.loop-variable-init
+loop-variable-init c = record {
+  keeps = KeepsNodes-refl c.args.d.now;
+  added = λ w fits. omega arith;
+  later = later-none c.args.net.now c.args.d.now c.of-set.result (c.inputs-first.result + c.latches.result) (c.of-set.ensures.node c.args.d.now) (c.of-set.ensures.value c.args.d.now)
+      (omega (arith, c.inputs-first.ensures.inputs, c.latches.ensures.latches));
+}
+
+pub bounds-order-variable : goal.bounds-order-variable
+bounds-order-variable c =
+    let long = long-order c.args.net.now in
+    let same = ap length c.requires.order in
+    omega (arith, c.loop-variable-test.true, c.loop-variable.auto.variable, c.inputs-first.ensures.inputs, c.latches.ensures.latches, long, same)
+
+pub latch-requires : goal.latch-requires
+latch-requires c =
+    let k : ℕ = c.loop-variable.variable - 1 in
+    let low = order-low c.args.net.now k (omega (arith, c.loop-variable-test.true, c.loop-variable.auto.variable, c.inputs-first.ensures.inputs, c.latches.ensures.latches)) in
+    let same = ap (λ (xs : List ℕ). get_or xs k 0) c.requires.order in
+    omega (arith, low, same, c.if-column-first.true, c.inputs-first.ensures.inputs)
+
+pub bounds-rails-column : goal.bounds-rails-column
+bounds-rails-column c =
+    let k : ℕ = c.loop-variable.variable - 1 in
+    let low = order-low c.args.net.now k (omega (arith, c.loop-variable-test.true, c.loop-variable.auto.variable, c.inputs-first.ensures.inputs, c.latches.ensures.latches)) in
+    let same = ap (λ (xs : List ℕ). get_or xs k 0) c.requires.order in
+    let wide = c.requires.columns.width in
+    omega (arith, low, same, wide, c.requires.vars)
+
+-- ---- the latch and those after it, and what this adds
+
+both : (c : After-and) → (w : List Bool) → length w ≡ c.loop-variable.d.vars →
+    conjunction c.loop-variable.d c.may_start_on-latch.result c.loop-variable.set w ≡ all_may_start_at c.args.net.now (drop (c.loop-variable.variable - 1) (order c.args.net.now)) (drop (c.loop-variable.variable - 1) w)
 both c =
-    let n : ℕ = c.loop-number.number - 1 in
-    let keeps = c.loop-number.invariant.keeps in
-    let are : AreColumns c.loop-number.d c.args.rails.now = AreColumns-kept keeps c.requires.columns in
-    let column : Rails = rails_at c.args.rails.now (c.inputs.result + n) in
-    let proper : AreRailsOf c.loop-number.d column = rails_at-proper c.loop-number.d c.args.rails.now are.proper (c.inputs.result + n) in
-    later-both c.args.net.now c.loop-number.d c.args.rails.now column c.loop-number.set c.may_start_on-latch.result c.loop-number.number n c.latch.result.now
-    (omega (arith, c.loop-number-test.true)) (keeps.vars ∙ c.requires.vars) are (ap (λ k. rails_at c.args.rails.now (k + n)) c.inputs.ensures.inputs)
-    c.latch.ensures.latch (number-inside c) c.loop-number.invariant.later
-    (λ b v e. c.may_start_on-latch.ensures.value c.loop-number.d b v proper e)
+    let net = c.args.net.now in
+    let k : ℕ = c.loop-variable.variable - 1 in
+    let keeps = c.loop-variable.invariant.keeps in
+    let are : AreColumns c.loop-variable.d (order net) c.args.rails.now = AreColumns-kept keeps c.requires.columns in
+    let column : Rails = rails_at c.args.rails.now (get_or c.args.order.now k 0) in
+    let proper : AreRailsOf c.loop-variable.d column = rails_at-proper c.loop-variable.d c.args.rails.now are.proper (get_or c.args.order.now k 0) in
+    let first = c.inputs-first.ensures.inputs in
+    let same = column-is c in
+    let high : length net.inputs ≤ get_or (order net) k 0 = omega (arith, c.if-column-first.true, first, same) in
+    let found : slice_get net.latches (get_or (order net) k 0 - length net.inputs) ≡ Some c.latch.result.now =
+    ap (slice_get net.latches) (sym (ap₂ (λ x y. x - y) same first)) ∙ c.latch.ensures.latch in
+    later-both net c.loop-variable.d c.args.rails.now column c.loop-variable.set c.may_start_on-latch.result c.loop-variable.variable k c.latch.result.now
+    (omega (arith, c.loop-variable-test.true)) (keeps.vars ∙ c.requires.vars) (variable-inside c) are (ap (rails_at c.args.rails.now) same) high found c.loop-variable.invariant.later
+    (λ b w e. c.may_start_on-latch.ensures.value c.loop-variable.d b w proper e)
 
-fits-one : (c : After-and) (w : ℕ) → nodes c.args.d.now.vars (starts c.args.net.now) ≤ w → nodes c.loop-number.d.vars (conjunction c.loop-number.d c.may_start_on-latch.result c.loop-number.set) ≤ w
+fits-one : (c : After-and) (w : ℕ) → BoundsStarts c.args.net.now w → nodes c.loop-variable.d.vars (conjunction c.loop-variable.d c.may_start_on-latch.result c.loop-variable.set) ≤ w
 fits-one c w fits =
-    let inside = number-inside c in
-    later-nodes c.args.net.now c.loop-number.d c.loop-number.set c.may_start_on-latch.result (c.loop-number.number - 1) w (omega (arith, inside))
-    (c.loop-number.invariant.keeps.vars ∙ c.requires.vars) (both c) (subst (λ k. nodes k (starts c.args.net.now) ≤ w) c.requires.vars fits)
+    let inside = variable-inside c in
+    later-nodes c.args.net.now c.loop-variable.d c.loop-variable.set c.may_start_on-latch.result (c.loop-variable.variable - 1) w (omega (arith, inside))
+    (c.loop-variable.invariant.keeps.vars ∙ c.requires.vars) (both c) fits
 
-one-more : (c : After-and) → length c.args.net.now.latches - c.loop-number.number + 1 ≤ length c.args.net.now.latches - (c.loop-number.number - 1)
-one-more c = omega (arith, c.loop-number-test.true, c.loop-number.auto.number, c.latches-number.ensures.latches)
+one-more : (c : After-and) → columns c.args.net.now - c.loop-variable.variable + 1 ≤ columns c.args.net.now - (c.loop-variable.variable - 1)
+one-more c = let inside = variable-inside c in omega (arith, c.loop-variable-test.true, c.loop-variable.auto.variable, inside, c.inputs-first.ensures.inputs, c.latches.ensures.latches)
 
-added-so-far : (c : After-and) (w : ℕ) → nodes c.args.d.now.vars (starts c.args.net.now) ≤ w → AddsAtMost c.args.d.now c.and.new.self (w * (length c.args.net.now.latches - (c.loop-number.number - 1)))
+added-so-far : (c : After-and) (w : ℕ) → BoundsStarts c.args.net.now w → AddsAtMost c.args.d.now c.and.new.self (w * (columns c.args.net.now - (c.loop-variable.variable - 1)))
 added-so-far c w fits =
-    added-within c.args.d.now c.and.new.self w (length c.args.net.now.latches - c.loop-number.number + 1) (length c.args.net.now.latches - (c.loop-number.number - 1)) (one-more c)
-    (added-next c.args.d.now c.loop-number.d c.and.new.self w (length c.args.net.now.latches - c.loop-number.number) (c.loop-number.invariant.added w fits)
-    (added-to c.loop-number.d c.and.new.self _ w (fits-one c w fits) c.and.ensures.added))
+    added-within c.args.d.now c.and.new.self w (columns c.args.net.now - c.loop-variable.variable + 1) (columns c.args.net.now - (c.loop-variable.variable - 1)) (one-more c)
+    (added-next c.args.d.now c.loop-variable.d c.and.new.self w (columns c.args.net.now - c.loop-variable.variable) (c.loop-variable.invariant.added w fits)
+    (added-to c.loop-variable.d c.and.new.self _ w (fits-one c w fits) c.and.ensures.added))
 
-pub loop-number-preserved : goal.loop-number-preserved
-loop-number-preserved g =
-    let c : After-and = (goal.at.loop-number-preserved g).After-and in
+pub loop-variable-preserved-then-column-first : goal.loop-variable-preserved-then-column-first
+loop-variable-preserved-then-column-first g =
+    let c : After-and = (goal.at.loop-variable-preserved-then-column-first g).After-and in
     record {
-      keeps = KeepsNodes-chain c.loop-number.invariant.keeps c.and.ensures.keeps;
+      keeps = KeepsNodes-chain c.loop-variable.invariant.keeps c.and.ensures.keeps;
       added = added-so-far c;
-      later = later-more c.args.net.now c.loop-number.d c.and.new.self c.loop-number.set c.may_start_on-latch.result g.in_ok-set.set (c.loop-number.number - 1)
+      later = later-more c.args.net.now c.loop-variable.d c.and.new.self c.loop-variable.set c.may_start_on-latch.result g.in_ok-set.set (c.loop-variable.variable - 1)
           c.and.ensures.keeps (both c) g.in_ok-set.ensures.node g.in_ok-set.ensures.function;
     }
+
+-- an input's column stands for all
+pub loop-variable-preserved : goal.loop-variable-preserved
+loop-variable-preserved c =
+    let net = c.args.net.now in
+    let k : ℕ = c.loop-variable.variable - 1 in
+    let keeps = c.loop-variable.invariant.keeps in
+    let inside : k < columns net = omega (arith, c.loop-variable-test.true, c.loop-variable.auto.variable, c.inputs-first.ensures.inputs, c.latches.ensures.latches) in
+    let same = ap (λ (xs : List ℕ). get_or xs k 0) c.requires.order in
+    record {
+      keeps = keeps;
+      added = λ w fits. added-within c.args.d.now c.loop-variable.d w (columns net - c.loop-variable.variable) (columns net - k) (omega arith) (c.loop-variable.invariant.added w fits);
+      later = later-input net c.loop-variable.d c.loop-variable.set c.loop-variable.variable k (omega (arith, c.loop-variable-test.true)) (keeps.vars ∙ c.requires.vars) inside
+          (omega (arith, same, c.if-column-first.false, c.inputs-first.ensures.inputs)) c.loop-variable.invariant.later;
+    }
+
+pub returns-clause-starts : goal.returns-clause-starts
+returns-clause-starts c =
+    starts-told c.args.net.now c.loop-variable.d c.loop-variable.set c.loop-variable.variable (omega (arith, c.loop-variable-test.false)) (c.loop-variable.invariant.keeps.vars ∙ c.requires.vars) c.loop-variable.invariant.later
+
+-- ---- how much that adds
 
 pub returns-in_err-set-clause-added : goal.returns-in_err-set-clause-added
 returns-in_err-set-clause-added g w fits =
     let c : After-and = (goal.at.returns-in_err-set-clause-added g).After-and in
-    added-within c.args.d.now c.and.new.self w (length c.args.net.now.latches - (c.loop-number.number - 1)) (length c.args.net.now.latches) (omega arith) (added-so-far c w fits)
+    added-within c.args.d.now c.and.new.self w (columns c.args.net.now - (c.loop-variable.variable - 1)) (columns c.args.net.now) (omega arith) (added-so-far c w fits)
 
 pub returns-in_err-set-clause-full : goal.returns-in_err-set-clause-full
 returns-in_err-set-clause-full g w fits is_full =
     let refused = ap {A = StoreFault} Err (sym (rw is_full at g.from_residual.ensures.1)) in
     let c : After-and = (goal.at.returns-in_err-set-clause-full g).After-and in
     let less = one-more c in
-    full-next c.args.d.now c.loop-number.d c.and.new.self w (length c.args.net.now.latches - c.loop-number.number) (length c.args.net.now.latches) (omega (arith, less))
-    (c.loop-number.invariant.added w fits) (full-to c.loop-number.d c.and.new.self _ w (fits-one c w fits) (g.in_err-set.ensures.full refused))
+    full-next c.args.d.now c.loop-variable.d c.and.new.self w (columns c.args.net.now - c.loop-variable.variable) (columns c.args.net.now) (omega (arith, less))
+    (c.loop-variable.invariant.added w fits) (full-to c.loop-variable.d c.and.new.self _ w (fits-one c w fits) (g.in_err-set.ensures.full refused))
 
 pub returns-clause-added : goal.returns-clause-added
 returns-clause-added c w fits =
-    added-within c.args.d.now c.loop-number.d w (length c.args.net.now.latches - c.loop-number.number) (length c.args.net.now.latches) (omega arith) (c.loop-number.invariant.added w fits)
+    added-within c.args.d.now c.loop-variable.d w (columns c.args.net.now - c.loop-variable.variable) (columns c.args.net.now) (omega arith) (c.loop-variable.invariant.added w fits)
