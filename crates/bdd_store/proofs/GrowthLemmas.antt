@@ -4,17 +4,19 @@ use Rattle.std.proofs.Math.Nat.{mul-le-mul_left}
 use Rattle.std.proofs.lemmas.Map.Keys.{IsDistinct-cons}
 use Rattle.std.specs.List.{AllByRecursion, IsDistinct}
 use Rattle.std.specs.Set.{is_member}
-use Rattle.std.proofs.Common.{Result, Ok, IfOk, get_or, if◌then◌else◌, ◌⊎◌}
+use Rattle.std.proofs.Common.{Result, Ok, Err, IfOk, IsErrAnd, get_or, if◌then◌else◌, ◌⊎◌}
 use Rattle.bdd_store.specs.declared.node.Node.{Node}
 use Rattle.bdd_store.specs.Arena.{Arena, index, complemented, den, constant, IsNodeOf, choice}
 use Rattle.bdd_store.specs.Soundness.{IsCanonical, IsLawful}
 use Rattle.bdd_store.specs.Subfunctions.{table, is_constant, nodes, IsPart}
-use Rattle.bdd_store.specs.Growth.{KeepsNodes, IsNewFunction, IsPartAt, NewAreParts, IsRefusedPart, AddsAtMost, IsFullOnlyPast}
+use Rattle.bdd_store.specs.declared.fault.StoreFault.{StoreFault}
+use Rattle.bdd_store.specs.declared.fault.StoreFault.TheVariants.{Full, Memory}
+use Rattle.bdd_store.specs.Growth.{KeepsNodes, IsNewFunction, IsPartAt, NewAreParts, IsRefusedPart, AddsAtMost, IsFullOnlyPast, Grows, GrowsWithin, NoOtherCause}
 use Rattle.std.proofs.lemmas.Bool.{cases_lt}
 use Rattle.std.proofs.Math.Bool.{not-not}
 use Rattle.bdd_store.proofs.NodeLemmas.{index-complemented}
 use Rattle.bdd_store.proofs.ValueLemmas.{node_value-complemented}
-use Rattle.bdd_store.proofs.SubfunctionLemmas.{length-fixed, IsPart-whole, IsPart-alike, IsPart-chain, alike-from_table, constant_value}
+use Rattle.bdd_store.proofs.SubfunctionLemmas.{length-fixed, nodes-alike, IsPart-whole, IsPart-alike, IsPart-chain, alike-from_table, constant_value}
 use Rattle.bdd_store.proofs.PigeonholeLemmas.{table_eq, counted, nodes-at_least, counted-part, false_or_true, tables_apart}
 
 -- ---- what is kept
@@ -242,3 +244,105 @@ added-next s t u w p before now = omega (arith, before, now, one-more w p)
 
 pub full-next : (s t u : Arena) (w p n : ℕ) → p + 1 ≤ n → AddsAtMost s t (w * p) → IsFullOnlyPast t u w → IsFullOnlyPast s u (w * n)
 full-next s t u w p n less before now = record { full = now.full; past = omega (arith, before, now.past, one-more w p, mul-le-mul_left {m = p + 1} {n = n} w less) }
+
+-- ---- what a call does
+
+-- another result, which is `Full` only where this one is
+module _ {T U : Type 0} {r : Result T StoreFault} {q : Result U StoreFault} (full : q ≡ Err Full → r ≡ Err Full) {s t : Arena} where
+  as_result : {n : ℕ} → Grows r s t n → Grows q s t n
+  as_result g = record { keeps = g.keeps; added = g.added; full = λ e. g.full (full e) }
+
+  as_result_within : {cause bounds : ℕ → Type 0} {count : ℕ} → GrowsWithin r s t cause bounds count → GrowsWithin q s t cause bounds count
+  as_result_within g = record { keeps = g.keeps; added = g.added; full = λ w b e. g.full w b (full e) }
+
+refused_alike : {T U : Type 0} (r : Result T StoreFault) (q : Result U StoreFault) (e : StoreFault) → r ≡ Err e → IsErrAnd q (λ x. x ≡ e) → q ≡ Err Full → r ≡ Err Full
+refused_alike r q e was is is_full = was ∙ ap {A = StoreFault} Err (sym (rw is_full at is))
+
+-- the refusal of a call is that of its caller
+pub grows_refused : {T U : Type 0} {r : Result T StoreFault} {q : Result U StoreFault} {e : StoreFault} {s t : Arena} {n : ℕ} → r ≡ Err e → IsErrAnd q (λ x. x ≡ e) → Grows r s t n → Grows q s t n
+grows_refused {r = r} {q = q} {e = e} was is g = as_result (refused_alike r q e was is) g
+
+pub within_refused : {T U : Type 0} {r : Result T StoreFault} {q : Result U StoreFault} {e : StoreFault} {s t : Arena} {cause bounds : ℕ → Type 0} {count : ℕ} → r ≡ Err e → IsErrAnd q (λ x. x ≡ e) → GrowsWithin r s t cause bounds count → GrowsWithin q s t cause bounds count
+within_refused {r = r} {q = q} {e = e} was is g = as_result_within (refused_alike r q e was is) g
+
+-- an answer and a lack of memory are no refusal
+pub grows_answered : {T U : Type 0} {r : Result T StoreFault} {x : U} {s t : Arena} {n : ℕ} → Grows r s t n → Grows (Ok x) s t n
+grows_answered g = record { keeps = g.keeps; added = g.added; full = λ e. absurd cc }
+
+pub within_answered : {T U : Type 0} {r : Result T StoreFault} {x : U} {s t : Arena} {cause other bounds : ℕ → Type 0} {count : ℕ} → GrowsWithin r s t cause bounds count → GrowsWithin (Ok x) s t other bounds count
+within_answered g = record { keeps = g.keeps; added = g.added; full = λ w b e. absurd cc }
+
+pub grows_memory : {T U : Type 0} {r : Result T StoreFault} {s t : Arena} {n : ℕ} → Grows r s t n → Grows {T = U} (Err Memory) s t n
+grows_memory g = record { keeps = g.keeps; added = g.added; full = λ e. absurd cc }
+
+pub within_memory : {T U : Type 0} {r : Result T StoreFault} {s t : Arena} {cause other bounds : ℕ → Type 0} {count : ℕ} → GrowsWithin r s t cause bounds count → GrowsWithin {T = U} (Err Memory) s t other bounds count
+within_memory g = record { keeps = g.keeps; added = g.added; full = λ w b e. absurd cc }
+
+-- more nodes than are made
+pub grows_more : {T : Type 0} {r : Result T StoreFault} {s t : Arena} {m n : ℕ} → m ≤ n → Grows r s t m → Grows r s t n
+grows_more less g = record { keeps = g.keeps; added = omega (arith, g.added, less); full = λ e. record { full = (g.full e).full; past = omega (arith, (g.full e).past, less) } }
+
+-- a call that was answered, and another after it
+pub grows_then : {T U : Type 0} {r : Result T StoreFault} {q : Result U StoreFault} {s t u : Arena} {m n : ℕ} → Grows r s t m → Grows q t u n → Grows q s u (m + n)
+grows_then first g = record { keeps = KeepsNodes-chain first.keeps g.keeps; added = omega (arith, first.added, g.added); full = λ e. record { full = (g.full e).full; past = omega (arith, first.added, (g.full e).past) } }
+
+-- a call that makes nothing
+pub within_nothing : {T : Type 0} (r : Result T StoreFault) {s : Arena} {cause bounds : ℕ → Type 0} {count : ℕ} → (r ≡ Err Full → ⊥) → GrowsWithin r s s cause bounds count
+within_nothing r never = record { keeps = KeepsNodes-refl _; added = λ w b. omega arith; full = λ w b e. absurd (never e) }
+
+-- a call whose new nodes are parts of a function, and which is refused where one of its parts has no node
+pub grows_by_parts : {T : Type 0} {r : Result T StoreFault} {s t : Arena} (f : List Bool → Bool) → IsLawful t → KeepsNodes s t → NewAreParts s t f → (r ≡ Err Full → IsRefusedPart t f) → Grows r s t (nodes s.vars f)
+grows_by_parts {s = s} {t = t} f lawful kept parts refused = record { keeps = kept; added = added-parts s t f lawful kept parts; full = λ e. refused-parts s t f lawful kept parts (refused e) }
+
+-- the same function in other words
+pub grows_alike : {T : Type 0} {r : Result T StoreFault} {s t : Arena} {f g : List Bool → Bool} → ((bits : List Bool) → f bits ≡ g bits) → Grows r s t (nodes s.vars f) → Grows r s t (nodes s.vars g)
+grows_alike {r = r} {s = s} {t = t} {f = f} {g = g} same h = subst (Grows r s t) (nodes-alike s.vars f g (λ bits len. same bits)) h
+
+-- more functions than are made
+pub within_more : {T : Type 0} {r : Result T StoreFault} {s t : Arena} {cause bounds : ℕ → Type 0} {m n : ℕ} → m ≤ n → GrowsWithin r s t cause bounds m → GrowsWithin r s t cause bounds n
+within_more {m = m} {n = n} less g = record {
+  keeps = g.keeps;
+  added = λ w b. omega (arith, g.added w b, mul-le-mul_left {m = m} {n = n} w less);
+  full = λ w b e. elim (g.full w b e) [
+    | inl other ↦ inl other
+    | inr past ↦ inr (record { full = past.full; past = omega (arith, past.past, mul-le-mul_left {m = m} {n = n} w less) })
+  ];
+}
+
+-- narrower bounds, and a wider cause
+pub within_moved : {T : Type 0} {r : Result T StoreFault} {s t : Arena} {cause bounds narrower : ℕ → Type 0} {count : ℕ} → ((w : ℕ) → narrower w → bounds w) → GrowsWithin r s t cause bounds count → GrowsWithin r s t cause narrower count
+within_moved into g = record { keeps = g.keeps; added = λ w b. g.added w (into w b); full = λ w b e. g.full w (into w b) e }
+
+pub within_caused : {T : Type 0} {r : Result T StoreFault} {s t : Arena} {cause wider bounds : ℕ → Type 0} {count : ℕ} → (cause s.limit → wider s.limit) → GrowsWithin r s t cause bounds count → GrowsWithin r s t wider bounds count
+within_caused into g = record { keeps = g.keeps; added = g.added; full = λ w b e. elim (g.full w b e) [ inl other ↦ inl (into other) | inr past ↦ inr past ] }
+
+-- a call that was answered, and another after it
+pub within_then : {T U : Type 0} {r : Result T StoreFault} {q : Result U StoreFault} {s t u : Arena} {before cause bounds : ℕ → Type 0} {m n : ℕ} → GrowsWithin r s t before bounds m → GrowsWithin q t u cause bounds n → GrowsWithin q s u cause bounds (m + n)
+within_then {cause = cause} first g = record {
+  keeps = KeepsNodes-chain first.keeps g.keeps;
+  added = λ w b. omega (arith, first.added w b, g.added w b);
+  full = λ w b e. elim (g.full w b e) [
+    | inl other ↦ inl (subst cause first.keeps.limit other)
+    | inr past ↦ inr (record { full = past.full; past = omega (arith, first.added w b, past.past) })
+  ];
+}
+
+-- a call that makes so many nodes, where w bounds them
+pub within_each : {T : Type 0} {r : Result T StoreFault} {s t : Arena} {cause bounds : ℕ → Type 0} {n count : ℕ} → ((w : ℕ) → bounds w → n ≤ w * count) → Grows r s t n → GrowsWithin r s t cause bounds count
+within_each most g = record {
+  keeps = g.keeps;
+  added = λ w b. omega (arith, g.added, most w b);
+  full = λ w b e. inr (record { full = (g.full e).full; past = omega (arith, (g.full e).past, most w b) });
+}
+
+-- and where there is no other cause, so many nodes by one bound
+pub grows_at : {T : Type 0} {r : Result T StoreFault} {s t : Arena} {bounds : ℕ → Type 0} {n count : ℕ} (w : ℕ) → bounds w → w * count ≤ n → GrowsWithin r s t NoOtherCause bounds count → Grows r s t n
+grows_at w b most g = record {
+  keeps = g.keeps;
+  added = omega (arith, g.added w b, most);
+  full = λ e. elim (g.full w b e) [ inl none ↦ absurd none | inr past ↦ record { full = past.full; past = omega (arith, past.past, most) } ];
+}
+
+-- what a loop has done so far
+abbrev pub HasGrown : Arena → Arena → (ℕ → Type 0) → ℕ → Type 0
+HasGrown old new bounds count = GrowsWithin {T = Unit} (Ok tt) old new NoOtherCause bounds count
