@@ -287,8 +287,8 @@ pub grows_then : {T U : Type 0} {r : Result T StoreFault} {q : Result U StoreFau
 grows_then first g = record { keeps = KeepsNodes-chain first.keeps g.keeps; added = omega (arith, first.added, g.added); full = λ e. record { full = (g.full e).full; past = omega (arith, first.added, (g.full e).past) } }
 
 -- a call that makes nothing
-pub within_nothing : {T : Type 0} (r : Result T StoreFault) {s : Arena} {cause bounds : ℕ → Type 0} {count : ℕ} → (r ≡ Err Full → ⊥) → GrowsWithin r s s cause bounds count
-within_nothing r never = record { keeps = KeepsNodes-refl _; added = λ w b. omega arith; full = λ w b e. absurd (never e) }
+pub within_nothing : {T : Type 0} {r : Result T StoreFault} {s : Arena} {cause bounds : ℕ → Type 0} {count : ℕ} → (r ≡ Err Full → cause s.limit) → GrowsWithin r s s cause bounds count
+within_nothing only = record { keeps = KeepsNodes-refl _; added = λ w b. omega arith; full = λ w b e. inl (only e) }
 
 -- a call whose new nodes are parts of a function, and which is refused where one of its parts has no node
 pub grows_by_parts : {T : Type 0} {r : Result T StoreFault} {s t : Arena} (f : List Bool → Bool) → IsLawful t → KeepsNodes s t → NewAreParts s t f → (r ≡ Err Full → IsRefusedPart t f) → Grows r s t (nodes s.vars f)
@@ -316,6 +316,9 @@ within_moved into g = record { keeps = g.keeps; added = λ w b. g.added w (into 
 pub within_caused : {T : Type 0} {r : Result T StoreFault} {s t : Arena} {cause wider bounds : ℕ → Type 0} {count : ℕ} → (cause s.limit → wider s.limit) → GrowsWithin r s t cause bounds count → GrowsWithin r s t wider bounds count
 within_caused into g = record { keeps = g.keeps; added = g.added; full = λ w b e. elim (g.full w b e) [ inl other ↦ inl (into other) | inr past ↦ inr past ] }
 
+pub within_only : {T : Type 0} {r : Result T StoreFault} {s t : Arena} {cause bounds : ℕ → Type 0} {count : ℕ} → GrowsWithin r s t NoOtherCause bounds count → GrowsWithin r s t cause bounds count
+within_only g = within_caused (λ (none : ⊥). absurd none) g
+
 -- a call that was answered, and another after it
 pub within_then : {T U : Type 0} {r : Result T StoreFault} {q : Result U StoreFault} {s t u : Arena} {before cause bounds : ℕ → Type 0} {m n : ℕ} → GrowsWithin r s t before bounds m → GrowsWithin q t u cause bounds n → GrowsWithin q s u cause bounds (m + n)
 within_then {cause = cause} first g = record {
@@ -327,13 +330,16 @@ within_then {cause = cause} first g = record {
   ];
 }
 
--- a call that makes so many nodes, where w bounds them
-pub within_each : {T : Type 0} {r : Result T StoreFault} {s t : Arena} {cause bounds : ℕ → Type 0} {n count : ℕ} → ((w : ℕ) → bounds w → n ≤ w * count) → Grows r s t n → GrowsWithin r s t cause bounds count
+-- a call that makes so many nodes, which w bounds, and one that makes those of one function
+pub within_each : {T : Type 0} {r : Result T StoreFault} {s t : Arena} {bounds : ℕ → Type 0} {n count : ℕ} → ((w : ℕ) → bounds w → n ≤ w * count) → Grows r s t n → GrowsWithin r s t NoOtherCause bounds count
 within_each most g = record {
   keeps = g.keeps;
   added = λ w b. omega (arith, g.added, most w b);
   full = λ w b e. inr (record { full = (g.full e).full; past = omega (arith, (g.full e).past, most w b) });
 }
+
+pub within_one : {T : Type 0} {r : Result T StoreFault} {s t : Arena} {bounds : ℕ → Type 0} {n : ℕ} → ((w : ℕ) → bounds w → n ≤ w) → Grows r s t n → GrowsWithin r s t NoOtherCause bounds 1
+within_one most g = within_each {count = 1} (λ w b. omega (arith, most w b)) g
 
 -- and where there is no other cause, so many nodes by one bound
 pub grows_at : {T : Type 0} {r : Result T StoreFault} {s t : Arena} {bounds : ℕ → Type 0} {n count : ℕ} (w : ℕ) → bounds w → w * count ≤ n → GrowsWithin r s t NoOtherCause bounds count → Grows r s t n
@@ -346,3 +352,6 @@ grows_at w b most g = record {
 -- what a loop has done so far
 abbrev pub HasGrown : Arena → Arena → (ℕ → Type 0) → ℕ → Type 0
 HasGrown old new bounds count = GrowsWithin {T = Unit} (Ok tt) old new NoOtherCause bounds count
+
+pub nothing_grown : {s : Arena} {bounds : ℕ → Type 0} {count : ℕ} → HasGrown s s bounds count
+nothing_grown = record { keeps = KeepsNodes-refl _; added = λ w b. omega arith; full = λ w b e. absurd cc }
