@@ -46,13 +46,17 @@ pub record Grows {T : Type 0} (result : Result T StoreFault) (old new : Arena) (
   pub added : AddsAtMost old new n
   pub full : result ≡ Err Full → IsFullOnlyPast old new n
 
--- What a call does that may make nodes of so many functions: each earlier node keeps its function, and where w bounds
--- the nodes of each of these functions, there are at most w more for each. `Full` comes only for another cause, at this
--- limit, or where so many more would be too many.
-pub record GrowsWithin {T : Type 0} (result : Result T StoreFault) (old new : Arena) (other_cause bounds : ℕ → Type 0) (count : ℕ) : Type 0 where
-  pub keeps : KeepsNodes old new
+-- How many nodes a call adds that may make nodes of so many functions: where w bounds the nodes of each of these
+-- functions, there are at most w more for each. `Full` comes only for another cause, at this limit, or where so many
+-- more would be too many.
+pub record AddsWithin {T : Type 0} (result : Result T StoreFault) (old new : Arena) (other_cause bounds : ℕ → Type 0) (count : ℕ) : Type 0 where
   pub added : (w : ℕ) → bounds w → AddsAtMost old new (w * count)
   pub full : (w : ℕ) → bounds w → result ≡ Err Full → other_cause old.limit ⊎ IsFullOnlyPast old new (w * count)
+
+-- and each earlier node keeps its function
+pub record GrowsWithin {T : Type 0} (result : Result T StoreFault) (old new : Arena) (other_cause bounds : ℕ → Type 0) (count : ℕ) : Type 0 where
+  pub keeps : KeepsNodes old new
+  pub adds : AddsWithin result old new other_cause bounds count
 
 -- no other cause, at any limit
 abbrev pub NoOtherCause : ℕ → Type 0

@@ -49,22 +49,14 @@ top_lift : (c : goal.After-drop-table-2) → IsLift c.loop-position.d c.args.pin
 top_lift c = subst (λ (n : Node). IsLift c.loop-position.d c.args.pins.now (den c.args.local.now.store n) c.rails_at.result) c.top-top.ensures.top (c.rails_at.ensures c.args.local.now c.loop-position.d c.args.pins.now (subst (IsTable c.args.local.now c.loop-position.d c.args.pins.now) (sym c.deref-2.ensures.value) c.loop-position.invariant.table))
 
 pub returns-clause-rails : goal.returns-clause-rails
-returns-clause-rails c =
-    let count : c.count-position-end.result ≡ length c.args.local.now.store.entries = c.count-position-end.ensures.count ∙ ap (λ (u : Arena). length u.entries) c.store-store.ensures.store in
-    let lift = top_lift c in
-    IsLift-rails lift
+returns-clause-rails c = IsLift-rails (top_lift c)
 
 pub returns-clause-value : goal.returns-clause-value
-returns-clause-value c bits =
-    let count : c.count-position-end.result ≡ length c.args.local.now.store.entries = c.count-position-end.ensures.count ∙ ap (λ (u : Arena). length u.entries) c.store-store.ensures.store in
-    let lift = top_lift c in
-    IsLift-exact lift bits ∙ ap (exact (function c.args.local.now)) (values_of-kept c.loop-position.invariant.grows.keeps c.args.pins.now c.requires.rails bits)
+returns-clause-value c bits = IsLift-exact (top_lift c) bits ∙ ap (exact (function c.args.local.now)) (values_of-kept c.loop-position.invariant.grows.keeps c.args.pins.now c.requires.rails bits)
 
 pub returns-clause-cover : goal.returns-clause-cover
 returns-clause-cover c cover is bits =
-    let count : c.count-position-end.result ≡ length c.args.local.now.store.entries = c.count-position-end.ensures.count ∙ ap (λ (u : Arena). length u.entries) c.store-store.ensures.store in
-    let lift = top_lift c in
-    IsLift-exact lift bits ∙ ap (exact (function c.args.local.now)) (values_of-kept c.loop-position.invariant.grows.keeps c.args.pins.now c.requires.rails bits)
+    IsLift-exact (top_lift c) bits ∙ ap (exact (function c.args.local.now)) (values_of-kept c.loop-position.invariant.grows.keeps c.args.pins.now c.requires.rails bits)
     ∙ exact-alike (function c.args.local.now) (value cover) (values_of c.args.d.now c.args.pins.now bits) (λ bs len. is.function bs (len ∙ length-values c.args.d.now c.args.pins.now bits ∙ c.requires.pins ∙ is.pins))
 
 -- the cover's function has a node for each entry
