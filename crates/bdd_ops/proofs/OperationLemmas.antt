@@ -1,10 +1,7 @@
 -- Conjunction, disjunction and exclusive or as choices.
-use Rattle.std.proofs.Common.{◌≡◌, Bool, true, false, not, ◌&&◌, ◌||◌, List, if◌then◌else◌, refl, subst, ◌∙◌}
+use Rattle.std.proofs.Common.{◌≡◌, Bool, true, false, not, ◌&&◌, ◌||◌, List, if◌then◌else◌, refl, ◌∙◌}
 use Rattle.bdd_store.specs.declared.node.Node.{Node}
 use Rattle.bdd_store.specs.Arena.{Arena, den}
-use Rattle.bdd_store.specs.Growth.{AddsAtMost, IsFullOnlyPast}
-use Rattle.bdd_store.specs.Subfunctions.{nodes}
-use Rattle.bdd_store.proofs.SubfunctionLemmas.{nodes-alike}
 use Rattle.bdd_ops.specs.Operations.{conjunction, disjunction, exclusive_or, if_then_else}
 
 and_values : (x y : Bool) → (if x then y else false) ≡ (x && y)
@@ -23,10 +20,3 @@ disjunction_is s a b ever is bits = (λ j. if den s a bits then is bits j else d
 
 pub exclusive_or_is : (s : Arena) (a b other : Node) → ((bits : List Bool) → den s other bits ≡ not (den s b bits)) → (bits : List Bool) → if_then_else s a other b bits ≡ exclusive_or s a b bits
 exclusive_or_is s a b other opposite bits = λ j. if den s a bits then opposite bits j else den s b bits
-
--- bounds of one function are bounds of one that is everywhere the same
-pub AddsAtMost-alike : (old new : Arena) (f g : List Bool → Bool) → ((bits : List Bool) → f bits ≡ g bits) → AddsAtMost old new (nodes old.vars f) → AddsAtMost old new (nodes old.vars g)
-AddsAtMost-alike old new f g same h = subst (AddsAtMost old new) (nodes-alike old.vars f g (λ bits len. same bits)) h
-
-pub IsFullOnlyPast-alike : (old new : Arena) (f g : List Bool → Bool) → ((bits : List Bool) → f bits ≡ g bits) → IsFullOnlyPast old new (nodes old.vars f) → IsFullOnlyPast old new (nodes old.vars g)
-IsFullOnlyPast-alike old new f g same h = subst (IsFullOnlyPast old new) (nodes-alike old.vars f g (λ bits len. same bits)) h

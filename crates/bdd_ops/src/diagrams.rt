@@ -1,7 +1,7 @@
 ghost use Rattle.std.specs.Prelude.{◌≡◌, ◌↔◌, ◌<◌, ◌≤◌, ◌≢◌, Bool, true, false, List, [], Some, None, length, IsSome, IfOk, OnOk, OnErr, IfSome};
 ghost use Rattle.std.specs.Bool.{OnTrue, OnFalse};
 ghost use Rattle.bdd_store.specs.Arena.{empty, root_at, HasRoot, with_answers, answer_to, complemented, constant, den, IsNodeOf, IsBranching};
-ghost use Rattle.bdd_store.specs.Growth.{KeepsNodes, AddsAtMost, IsFullOnlyPast};
+ghost use Rattle.bdd_store.specs.Growth.{Grows};
 ghost use Rattle.bdd_store.specs.Subfunctions.{nodes};
 ghost use Rattle.bdd_store.specs.Sweeping.{KeepsRoots, HasReached, AllReached};
 ghost use Rattle.bdd_ops.specs.Apply.{value, AreNodesOf};
@@ -80,9 +80,7 @@ impl Diagrams {
         requires { v < self.old.vars }
         ensures node { IfOk result (IsNodeOf self.new) }
         ensures function { IfOk result (λ n. (bits : List Bool) → den self.new n bits ≡ bit_at v bits) }
-        ensures keeps { KeepsNodes self.old self.new }
-        ensures added { AddsAtMost self.old self.new (nodes self.old.vars (bit_at v)) }
-        ensures full { result ≡ Err StoreFault.Full → IsFullOnlyPast self.old self.new (nodes self.old.vars (bit_at v)) }
+        ensures grows { Grows result self.old self.new (nodes self.old.vars (bit_at v)) }
     {
         let answer = self.store.make(v, Node::of(false), Node::of(true));
         self.store.laws();
@@ -95,9 +93,7 @@ impl Diagrams {
         ensures node { IfOk result (IsNodeOf self.new) }
         ensures function { IfOk result (λ n. (bits : List Bool) → den self.new n bits ≡ value operation self.old operands bits) }
         ensures answers { self.new.answers ≡ self.old.answers }
-        ensures keeps { KeepsNodes self.old self.new }
-        ensures added { AddsAtMost self.old self.new (nodes self.old.vars (value operation self.old operands)) }
-        ensures full { result ≡ Err StoreFault.Full → IsFullOnlyPast self.old self.new (nodes self.old.vars (value operation self.old operands)) }
+        ensures grows { Grows result self.old self.new (nodes self.old.vars (value operation self.old operands)) }
     {
         let answer = apply(
             self.alloc,
@@ -115,9 +111,7 @@ impl Diagrams {
         requires { IsNodeOf self.old a }
         ensures node { IfOk result (IsNodeOf self.new) }
         ensures function { IfOk result (λ n. (bits : List Bool) → den self.new n bits ≡ complement self.old a bits) }
-        ensures keeps { KeepsNodes self.old self.new }
-        ensures added { AddsAtMost self.old self.new (nodes self.old.vars (complement self.old a)) }
-        ensures full { result ≡ Err StoreFault.Full → IsFullOnlyPast self.old self.new (nodes self.old.vars (complement self.old a)) }
+        ensures grows { Grows result self.old self.new (nodes self.old.vars (complement self.old a)) }
         ensures always { result ≡ Ok (complemented a) }
         ensures unchanged { self.new ≡ self.old }
     {
@@ -131,9 +125,7 @@ impl Diagrams {
         requires b { IsNodeOf self.old b }
         ensures node { IfOk result (IsNodeOf self.new) }
         ensures function { IfOk result (λ n. (bits : List Bool) → den self.new n bits ≡ conjunction self.old a b bits) }
-        ensures keeps { KeepsNodes self.old self.new }
-        ensures added { AddsAtMost self.old self.new (nodes self.old.vars (conjunction self.old a b)) }
-        ensures full { result ≡ Err StoreFault.Full → IsFullOnlyPast self.old self.new (nodes self.old.vars (conjunction self.old a b)) }
+        ensures grows { Grows result self.old self.new (nodes self.old.vars (conjunction self.old a b)) }
     {
         self.ite(a, b, Node::of(false))
     }
@@ -144,9 +136,7 @@ impl Diagrams {
         requires b { IsNodeOf self.old b }
         ensures node { IfOk result (IsNodeOf self.new) }
         ensures function { IfOk result (λ n. (bits : List Bool) → den self.new n bits ≡ disjunction self.old a b bits) }
-        ensures keeps { KeepsNodes self.old self.new }
-        ensures added { AddsAtMost self.old self.new (nodes self.old.vars (disjunction self.old a b)) }
-        ensures full { result ≡ Err StoreFault.Full → IsFullOnlyPast self.old self.new (nodes self.old.vars (disjunction self.old a b)) }
+        ensures grows { Grows result self.old self.new (nodes self.old.vars (disjunction self.old a b)) }
     {
         self.ite(a, Node::of(true), b)
     }
@@ -157,9 +147,7 @@ impl Diagrams {
         requires b { IsNodeOf self.old b }
         ensures node { IfOk result (IsNodeOf self.new) }
         ensures function { IfOk result (λ n. (bits : List Bool) → den self.new n bits ≡ exclusive_or self.old a b bits) }
-        ensures keeps { KeepsNodes self.old self.new }
-        ensures added { AddsAtMost self.old self.new (nodes self.old.vars (exclusive_or self.old a b)) }
-        ensures full { result ≡ Err StoreFault.Full → IsFullOnlyPast self.old self.new (nodes self.old.vars (exclusive_or self.old a b)) }
+        ensures grows { Grows result self.old self.new (nodes self.old.vars (exclusive_or self.old a b)) }
     {
         self.ite(a, b.complement(), b)
     }
@@ -192,9 +180,7 @@ impl Diagrams {
         requires c { IsNodeOf self.old c }
         ensures node { IfOk result (IsNodeOf self.new) }
         ensures function { IfOk result (λ n. (bits : List Bool) → den self.new n bits ≡ if_then_else self.old a b c bits) }
-        ensures keeps { KeepsNodes self.old self.new }
-        ensures added { AddsAtMost self.old self.new (nodes self.old.vars (if_then_else self.old a b c)) }
-        ensures full { result ≡ Err StoreFault.Full → IsFullOnlyPast self.old self.new (nodes self.old.vars (if_then_else self.old a b c)) }
+        ensures grows { Grows result self.old self.new (nodes self.old.vars (if_then_else self.old a b c)) }
     {
         if let Some(n) = self.cached(a, b, c) {
             return Ok(n);
@@ -210,9 +196,7 @@ impl Diagrams {
         requires c { IsNodeOf self.old c }
         ensures node { IfOk result (IsNodeOf self.new) }
         ensures function { IfOk result (λ n. (bits : List Bool) → den self.new n bits ≡ if_then_else self.old a b c bits) }
-        ensures keeps { KeepsNodes self.old self.new }
-        ensures added { AddsAtMost self.old self.new (nodes self.old.vars (if_then_else self.old a b c)) }
-        ensures full { result ≡ Err StoreFault.Full → IsFullOnlyPast self.old self.new (nodes self.old.vars (if_then_else self.old a b c)) }
+        ensures grows { Grows result self.old self.new (nodes self.old.vars (if_then_else self.old a b c)) }
         ensures cached { IfOk result (λ n. IsBranching a → b ≢ c → answer_to self.new (record { a = a; b = b; c = c }) ≡ Some n) }
     {
         let n = self.choose(a, b, c)?;
@@ -230,9 +214,7 @@ impl Diagrams {
         requires lo { IsNodeOf self.old lo }
         ensures node { IfOk result (IsNodeOf self.new) }
         ensures function { IfOk result (λ n. (bits : List Bool) → den self.new n bits ≡ selection self.old one zero hi lo bits) }
-        ensures keeps { KeepsNodes self.old self.new }
-        ensures added { AddsAtMost self.old self.new (nodes self.old.vars (selection self.old one zero hi lo)) }
-        ensures full { result ≡ Err StoreFault.Full → IsFullOnlyPast self.old self.new (nodes self.old.vars (selection self.old one zero hi lo)) }
+        ensures grows { Grows result self.old self.new (nodes self.old.vars (selection self.old one zero hi lo)) }
     {
         let operands = Operands {
             a: one,

@@ -4,17 +4,19 @@ use Rattle.std.proofs.Math.Nat.{mul-le-mul_left}
 use Rattle.std.proofs.lemmas.Map.Keys.{IsDistinct-cons}
 use Rattle.std.specs.List.{AllByRecursion, IsDistinct}
 use Rattle.std.specs.Set.{is_member}
-use Rattle.std.proofs.Common.{Result, Ok, IfOk, get_or, if◌then◌else◌, ◌⊎◌}
+use Rattle.std.proofs.Common.{Result, Ok, Err, IfOk, IsErrAnd, get_or, if◌then◌else◌, ◌⊎◌}
 use Rattle.bdd_store.specs.declared.node.Node.{Node}
 use Rattle.bdd_store.specs.Arena.{Arena, index, complemented, den, constant, IsNodeOf, choice}
 use Rattle.bdd_store.specs.Soundness.{IsCanonical, IsLawful}
 use Rattle.bdd_store.specs.Subfunctions.{table, is_constant, nodes, IsPart}
-use Rattle.bdd_store.specs.Growth.{KeepsNodes, IsNewFunction, IsPartAt, NewAreParts, IsRefusedPart, AddsAtMost, IsFullOnlyPast}
+use Rattle.bdd_store.specs.declared.fault.StoreFault.{StoreFault}
+use Rattle.bdd_store.specs.declared.fault.StoreFault.TheVariants.{Full, Memory}
+use Rattle.bdd_store.specs.Growth.{KeepsNodes, IsNewFunction, IsPartAt, NewAreParts, IsRefusedPart, AddsAtMost, IsFullOnlyPast, Grows, AddsWithin, GrowsWithin, NoOtherCause}
 use Rattle.std.proofs.lemmas.Bool.{cases_lt}
 use Rattle.std.proofs.Math.Bool.{not-not}
 use Rattle.bdd_store.proofs.NodeLemmas.{index-complemented}
 use Rattle.bdd_store.proofs.ValueLemmas.{node_value-complemented}
-use Rattle.bdd_store.proofs.SubfunctionLemmas.{length-fixed, IsPart-whole, IsPart-alike, IsPart-chain, alike-from_table, constant_value}
+use Rattle.bdd_store.proofs.SubfunctionLemmas.{length-fixed, nodes-alike, IsPart-whole, IsPart-alike, IsPart-chain, alike-from_table, constant_value}
 use Rattle.bdd_store.proofs.PigeonholeLemmas.{table_eq, counted, nodes-at_least, counted-part, false_or_true, tables_apart}
 
 -- ---- what is kept
@@ -242,3 +244,143 @@ added-next s t u w p before now = omega (arith, before, now, one-more w p)
 
 pub full-next : (s t u : Arena) (w p n : ℕ) → p + 1 ≤ n → AddsAtMost s t (w * p) → IsFullOnlyPast t u w → IsFullOnlyPast s u (w * n)
 full-next s t u w p n less before now = record { full = now.full; past = omega (arith, before, now.past, one-more w p, mul-le-mul_left {m = p + 1} {n = n} w less) }
+
+-- ---- what a call does, where so many nodes are its bound
+
+refused_alike : {T U : Type 0} (r : Result T StoreFault) (q : Result U StoreFault) (e : StoreFault) → r ≡ Err e → IsErrAnd q (λ x. x ≡ e) → q ≡ Err Full → r ≡ Err Full
+refused_alike r q e was is is_full = was ∙ ap {A = StoreFault} Err (sym (rw is_full at is))
+
+module _ {T : Type 0} {s t : Arena} where
+  -- a call whose new nodes are parts of a function, and which is refused where one of its parts has no node
+  pub grows_by_parts : {r : Result T StoreFault} (f : List Bool → Bool) → IsLawful t → KeepsNodes s t → NewAreParts s t f → (r ≡ Err Full → IsRefusedPart t f) → Grows r s t (nodes s.vars f)
+  grows_by_parts f lawful kept parts refused = record { keeps = kept; added = added-parts s t f lawful kept parts; full = λ e. refused-parts s t f lawful kept parts (refused e) }
+
+  -- the same function in other words
+  pub grows_alike : {r : Result T StoreFault} {f g : List Bool → Bool} → ((bits : List Bool) → f bits ≡ g bits) → Grows r s t (nodes s.vars f) → Grows r s t (nodes s.vars g)
+  grows_alike {r = r} {f = f} {g = g} same h = subst (Grows r s t) (nodes-alike s.vars f g (λ bits len. same bits)) h
+
+  -- more nodes than are made
+  pub grows_more : {r : Result T StoreFault} {m n : ℕ} → m ≤ n → Grows r s t m → Grows r s t n
+  grows_more less g = record { keeps = g.keeps; added = omega (arith, g.added, less); full = λ e. record { full = (g.full e).full; past = omega (arith, (g.full e).past, less) } }
+
+  module _ {U : Type 0} {r : Result U StoreFault} {n : ℕ} where
+    -- the refusal of a call is that of its caller
+    pub grows_refused : {q : Result T StoreFault} {e : StoreFault} → r ≡ Err e → IsErrAnd q (λ x. x ≡ e) → Grows r s t n → Grows q s t n
+    grows_refused {q = q} {e = e} was is g = record { keeps = g.keeps; added = g.added; full = λ is_full. g.full (refused_alike r q e was is is_full) }
+
+    -- an answer is no refusal
+    pub grows_answered : {x : T} → Grows r s t n → Grows (Ok x) s t n
+    grows_answered g = record { keeps = g.keeps; added = g.added; full = λ e. absurd cc }
+
+-- a call that was answered, and another after it
+pub grows_then : {T U : Type 0} {r : Result T StoreFault} {q : Result U StoreFault} {s t u : Arena} {m n : ℕ} → Grows r s t m → Grows q t u n → Grows q s u (m + n)
+grows_then first g = record { keeps = KeepsNodes-chain first.keeps g.keeps; added = omega (arith, first.added, g.added); full = λ e. record { full = (g.full e).full; past = omega (arith, first.added, (g.full e).past) } }
+
+-- what a loop has done so far
+abbrev pub HasGrownBy : Arena → Arena → ℕ → Type 0
+HasGrownBy old new n = Grows {T = Unit} (Ok tt) old new n
+
+pub nothing_grown_by : {s : Arena} {n : ℕ} → HasGrownBy s s n
+nothing_grown_by = record { keeps = KeepsNodes-refl _; added = omega arith; full = λ e. absurd cc }
+
+-- ---- what a call adds, where w bounds so many functions
+
+module _ {T : Type 0} {s t : Arena} {cause bounds : ℕ → Type 0} where
+  -- more functions than are made
+  pub adds_more : {r : Result T StoreFault} {m n : ℕ} → m ≤ n → AddsWithin r s t cause bounds m → AddsWithin r s t cause bounds n
+  adds_more {m = m} {n = n} less a = record {
+    added = λ w b. omega (arith, a.added w b, mul-le-mul_left {m = m} {n = n} w less);
+    full = λ w b e. elim (a.full w b e) [
+      | inl other ↦ inl other
+      | inr past ↦ inr (record { full = past.full; past = omega (arith, past.past, mul-le-mul_left {m = m} {n = n} w less) })
+    ];
+  }
+
+  module _ {r : Result T StoreFault} {count : ℕ} where
+    -- narrower bounds
+    pub adds_moved : {narrower : ℕ → Type 0} → ((w : ℕ) → narrower w → bounds w) → AddsWithin r s t cause bounds count → AddsWithin r s t cause narrower count
+    adds_moved into a = record { added = λ w b. a.added w (into w b); full = λ w b e. a.full w (into w b) e }
+
+    -- a wider cause
+    pub adds_caused : {wider : ℕ → Type 0} → (cause s.limit → wider s.limit) → AddsWithin r s t cause bounds count → AddsWithin r s t wider bounds count
+    adds_caused into a = record { added = a.added; full = λ w b e. elim (a.full w b e) [ inl other ↦ inl (into other) | inr past ↦ inr past ] }
+
+  module _ {U : Type 0} {r : Result U StoreFault} {count : ℕ} where
+    -- the refusal of a call is that of its caller
+    pub adds_refused : {q : Result T StoreFault} {e : StoreFault} → r ≡ Err e → IsErrAnd q (λ x. x ≡ e) → AddsWithin r s t cause bounds count → AddsWithin q s t cause bounds count
+    adds_refused {q = q} {e = e} was is a = record { added = a.added; full = λ w b is_full. a.full w b (refused_alike r q e was is is_full) }
+
+    -- an answer and a lack of memory are no refusal
+    pub adds_answered : {x : T} {other : ℕ → Type 0} → AddsWithin r s t cause bounds count → AddsWithin (Ok x) s t other bounds count
+    adds_answered a = record { added = a.added; full = λ w b e. absurd cc }
+
+    pub adds_memory : {other : ℕ → Type 0} → AddsWithin r s t cause bounds count → AddsWithin {T = T} (Err Memory) s t other bounds count
+    adds_memory a = record { added = a.added; full = λ w b e. absurd cc }
+
+    -- a sweep of the store in between leaves fewer
+    pub adds_swept : {x : T} {u : Arena} {other : ℕ → Type 0} → length u.entries ≤ length t.entries → AddsWithin r s t cause bounds count → AddsWithin (Ok x) s u other bounds count
+    adds_swept fewer a = record { added = λ w b. omega (arith, a.added w b, fewer); full = λ w b e. absurd cc }
+
+-- a call that was answered, and another after it
+pub adds_then : {T U : Type 0} {r : Result T StoreFault} {q : Result U StoreFault} {s t u : Arena} {before cause bounds : ℕ → Type 0} {m n : ℕ} → t.limit ≡ s.limit → AddsWithin r s t before bounds m → AddsWithin q t u cause bounds n → AddsWithin q s u cause bounds (m + n)
+adds_then {cause = cause} limit first a = record {
+  added = λ w b. omega (arith, first.added w b, a.added w b);
+  full = λ w b e. elim (a.full w b e) [
+    | inl other ↦ inl (subst cause limit other)
+    | inr past ↦ inr (record { full = past.full; past = omega (arith, first.added w b, past.past) })
+  ];
+}
+
+-- ---- and where each node keeps its function too
+
+-- a call that makes nothing
+pub within_nothing : {T : Type 0} {r : Result T StoreFault} {s : Arena} {cause bounds : ℕ → Type 0} {count : ℕ} → (r ≡ Err Full → cause s.limit) → GrowsWithin r s s cause bounds count
+within_nothing only = record { keeps = KeepsNodes-refl _; adds = record { added = λ w b. omega arith; full = λ w b e. inl (only e) } }
+
+-- a call that makes so many nodes, which w bounds, and one that makes those of one function
+pub within_each : {T : Type 0} {r : Result T StoreFault} {s t : Arena} {bounds : ℕ → Type 0} {n count : ℕ} → ((w : ℕ) → bounds w → n ≤ w * count) → Grows r s t n → GrowsWithin r s t NoOtherCause bounds count
+within_each most g = record {
+  keeps = g.keeps;
+  adds = record {
+    added = λ w b. omega (arith, g.added, most w b);
+    full = λ w b e. inr (record { full = (g.full e).full; past = omega (arith, (g.full e).past, most w b) });
+  };
+}
+
+pub within_one : {T : Type 0} {r : Result T StoreFault} {s t : Arena} {bounds : ℕ → Type 0} {n : ℕ} → ((w : ℕ) → bounds w → n ≤ w) → Grows r s t n → GrowsWithin r s t NoOtherCause bounds 1
+within_one most g = within_each {count = 1} (λ w b. omega (arith, most w b)) g
+
+module _ {T : Type 0} {s t : Arena} {cause bounds : ℕ → Type 0} where
+  pub within_more : {r : Result T StoreFault} {m n : ℕ} → m ≤ n → GrowsWithin r s t cause bounds m → GrowsWithin r s t cause bounds n
+  within_more less g = record { keeps = g.keeps; adds = adds_more less g.adds }
+
+  module _ {r : Result T StoreFault} {count : ℕ} where
+    pub within_moved : {narrower : ℕ → Type 0} → ((w : ℕ) → narrower w → bounds w) → GrowsWithin r s t cause bounds count → GrowsWithin r s t cause narrower count
+    within_moved into g = record { keeps = g.keeps; adds = adds_moved into g.adds }
+
+    pub within_caused : {wider : ℕ → Type 0} → (cause s.limit → wider s.limit) → GrowsWithin r s t cause bounds count → GrowsWithin r s t wider bounds count
+    within_caused into g = record { keeps = g.keeps; adds = adds_caused into g.adds }
+
+  module _ {U : Type 0} {r : Result U StoreFault} {count : ℕ} where
+    pub within_refused : {q : Result T StoreFault} {e : StoreFault} → r ≡ Err e → IsErrAnd q (λ x. x ≡ e) → GrowsWithin r s t cause bounds count → GrowsWithin q s t cause bounds count
+    within_refused was is g = record { keeps = g.keeps; adds = adds_refused was is g.adds }
+
+    pub within_answered : {x : T} {other : ℕ → Type 0} → GrowsWithin r s t cause bounds count → GrowsWithin (Ok x) s t other bounds count
+    within_answered g = record { keeps = g.keeps; adds = adds_answered g.adds }
+
+    pub within_memory : {other : ℕ → Type 0} → GrowsWithin r s t cause bounds count → GrowsWithin {T = T} (Err Memory) s t other bounds count
+    within_memory g = record { keeps = g.keeps; adds = adds_memory g.adds }
+
+-- a call without another cause is one with any
+pub within_only : {T : Type 0} {r : Result T StoreFault} {s t : Arena} {cause bounds : ℕ → Type 0} {count : ℕ} → GrowsWithin r s t NoOtherCause bounds count → GrowsWithin r s t cause bounds count
+within_only g = within_caused (λ (none : ⊥). absurd none) g
+
+pub within_then : {T U : Type 0} {r : Result T StoreFault} {q : Result U StoreFault} {s t u : Arena} {before cause bounds : ℕ → Type 0} {m n : ℕ} → GrowsWithin r s t before bounds m → GrowsWithin q t u cause bounds n → GrowsWithin q s u cause bounds (m + n)
+within_then first g = record { keeps = KeepsNodes-chain first.keeps g.keeps; adds = adds_then first.keeps.limit first.adds g.adds }
+
+-- what a loop has done so far
+abbrev pub HasGrown : Arena → Arena → (ℕ → Type 0) → ℕ → Type 0
+HasGrown old new bounds count = GrowsWithin {T = Unit} (Ok tt) old new NoOtherCause bounds count
+
+pub nothing_grown : {s : Arena} {bounds : ℕ → Type 0} {count : ℕ} → HasGrown s s bounds count
+nothing_grown = record { keeps = KeepsNodes-refl _; adds = record { added = λ w b. omega arith; full = λ w b e. absurd cc } }

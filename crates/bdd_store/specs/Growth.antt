@@ -1,5 +1,7 @@
 -- How a store grows: earlier nodes keep their functions, and new ones are parts of the function that is made.
-use Rattle.std.specs.Prelude.{◌≡◌, ◌≢◌, ℕ, ◌+◌, ◌<◌, ◌≤◌, Bool, List, [], ◌∷◌, ◌++◌, ◌⊎◌, length, Contains}
+use Rattle.std.specs.Prelude.{◌≡◌, ◌≢◌, ℕ, ◌+◌, ◌*◌, ◌<◌, ◌≤◌, Bool, List, [], ◌∷◌, ◌++◌, ◌⊎◌, Result, Err, length, Contains}
+use Rattle.bdd_store.specs.declared.fault.StoreFault.{StoreFault}
+use Rattle.bdd_store.specs.declared.fault.StoreFault.TheVariants.{Full}
 use Rattle.bdd_store.specs.declared.node.Node.{Node}
 use Rattle.bdd_store.specs.declared.node.Entry.{Entry}
 use Rattle.bdd_store.specs.Arena.{Arena, complemented, den, top_of, IsNodeOf}
@@ -36,6 +38,29 @@ AddsAtMost old new n = length new.entries ≤ length old.entries + n
 pub record IsFullOnlyPast (old new : Arena) (n : ℕ) : Type 0 where
   pub full : length new.entries ≡ new.limit
   pub past : new.limit < length old.entries + n
+
+-- What a call does that may make so many nodes: each earlier node keeps its function, there are at most so many more,
+-- and `Full` comes only where so many more would be too many.
+pub record Grows {T : Type 0} (result : Result T StoreFault) (old new : Arena) (n : ℕ) : Type 0 where
+  pub keeps : KeepsNodes old new
+  pub added : AddsAtMost old new n
+  pub full : result ≡ Err Full → IsFullOnlyPast old new n
+
+-- How many nodes a call adds that may make nodes of so many functions: where w bounds the nodes of each of these
+-- functions, there are at most w more for each. `Full` comes only for another cause, at this limit, or where so many
+-- more would be too many.
+pub record AddsWithin {T : Type 0} (result : Result T StoreFault) (old new : Arena) (other_cause bounds : ℕ → Type 0) (count : ℕ) : Type 0 where
+  pub added : (w : ℕ) → bounds w → AddsAtMost old new (w * count)
+  pub full : (w : ℕ) → bounds w → result ≡ Err Full → other_cause old.limit ⊎ IsFullOnlyPast old new (w * count)
+
+-- and each earlier node keeps its function
+pub record GrowsWithin {T : Type 0} (result : Result T StoreFault) (old new : Arena) (other_cause bounds : ℕ → Type 0) (count : ℕ) : Type 0 where
+  pub keeps : KeepsNodes old new
+  pub adds : AddsWithin result old new other_cause bounds count
+
+-- no other cause, at any limit
+abbrev pub NoOtherCause : ℕ → Type 0
+NoOtherCause limit = ⊥
 
 -- the node or its complement stands for f with some first bits fixed
 abbrev pub IsPartAt : ℕ → (List Bool → Bool) → Arena → Node → Type 0

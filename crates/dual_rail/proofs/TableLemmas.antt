@@ -1,5 +1,5 @@
 -- The table of rails, and what a loop over the nodes adds.
-use Rattle.std.proofs.Common.{◌≡◌, ℕ, zero, suc, ◌<◌, ◌≤◌, Bool, true, false, not, ◌⊎◌, inl, inr, List, [], ◌∷◌, ◌++◌, length, Result, Ok, Err, is_err, is_ok, if◌then◌else◌, refl, sym, ap, subst, ◌∙◌, arith, true≢false}
+use Rattle.std.proofs.Common.{◌≡◌, ℕ, ◌<◌, ◌≤◌, Bool, true, false, not, ◌⊎◌, inl, inr, List, [], ◌∷◌, ◌++◌, length, Result, Ok, Err, is_err, is_ok, if◌then◌else◌, sym, ap, subst, ◌∙◌, arith, true≢false}
 use Rattle.std.proofs.Math.Bool.{not-not}
 use Rattle.std.proofs.lemmas.Bool.{cases_lt}
 use Rattle.std.proofs.lemmas.List.{get_or_append_left, get_or_push, length_push}
@@ -15,7 +15,7 @@ use Rattle.bdd_store.specs.Growth.{KeepsNodes, IsPartAt}
 use Rattle.dual_rail.specs.declared.rail.Rails.{Rails}
 use Rattle.dual_rail.specs.Rails.{values_of, AreRailsOf}
 use Rattle.dual_rail.specs.Local.{Local, function, local_size, IsLocal}
-use Rattle.dual_rail.specs.Lifts.{IsSurely, IsLift, IsTable}
+use Rattle.dual_rail.specs.Lifts.{IsLift, IsTable}
 use Rattle.dual_rail.proofs.SurelyLemmas.{surely-constant, IsLift-kept, IsLift-complement}
 
 -- what a push that did not fail left

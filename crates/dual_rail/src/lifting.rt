@@ -1,7 +1,7 @@
 //! The rails of a cover's function, from those of its pins.
 ghost use Rattle.std.specs.Prelude.{◌≡◌, ℕ, ◌*◌, ◌<◌, Bool, false, List, length, All, IfOk};
 ghost use Rattle.bdd_store.specs.Arena.{Arena, index, is_marked, den, IsNodeOf, IsBranching};
-ghost use Rattle.bdd_store.specs.Growth.{KeepsNodes, AddsAtMost, IsFullOnlyPast, IsPartAt};
+ghost use Rattle.bdd_store.specs.Growth.{GrowsWithin, NoOtherCause, IsPartAt};
 ghost use Rattle.cover_logic.specs.Covers.{Cover};
 ghost use Rattle.cover_logic.specs.Extensions.{exact, ext};
 ghost use Rattle.dual_rail.specs.Rails.{AreRailsOf, value_of, values_of};
@@ -70,9 +70,7 @@ fn lift_node(
     requires rails { All (AreRailsOf d.old) pins.now }
 
     ensures lift { IfOk result (IsLift d.new pins.now (den local.now.store node)) }
-    ensures keeps { KeepsNodes d.old d.new }
-    ensures added { (w : ℕ) → BoundsEach d.old.vars (IsExtended d.old pins.now (function local.now)) w → AddsAtMost d.old d.new (2 * w) }
-    ensures full { (w : ℕ) → BoundsEach d.old.vars (IsExtended d.old pins.now (function local.now)) w → result ≡ Err StoreFault.Full → IsFullOnlyPast d.old d.new (2 * w) }
+    ensures grows { GrowsWithin result d.old d.new NoOtherCause (BoundsEach d.old.vars (IsExtended d.old pins.now (function local.now))) 2 }
 {
     let fork = fork_at(local, pins, table, node);
     let one = d.select(fork.pin.one, fork.pin.zero, fork.hi.one, fork.lo.one)?;
@@ -98,9 +96,7 @@ pub fn lift(
     ensures rails { IfOk result (AreRailsOf d.new) }
     ensures value { IfOk result (λ r. (bits : List Bool) → value_of d.new r bits ≡ exact (function local.now) (values_of d.old pins.now bits)) }
     ensures cover { (cover : Cover) → IsDiagramOf local.now cover → IfOk result (λ r. (bits : List Bool) → value_of d.new r bits ≡ ext cover (values_of d.old pins.now bits)) }
-    ensures keeps { KeepsNodes d.old d.new }
-    ensures added { (w : ℕ) → BoundsEach d.old.vars (IsExtended d.old pins.now (function local.now)) w → AddsAtMost d.old d.new (2 * w * local_size local.now) }
-    ensures full { (w : ℕ) → BoundsEach d.old.vars (IsExtended d.old pins.now (function local.now)) w → result ≡ Err StoreFault.Full → IsFullOnlyPast d.old d.new (2 * w * local_size local.now) }
+    ensures grows { GrowsWithin result d.old d.new NoOtherCause (BoundsEach d.old.vars (IsExtended d.old pins.now (function local.now))) (2 * local_size local.now) }
 {
     let Ok(mut table) = vec![in alloc; rails_of(true)] else {
         return Err(StoreFault::Memory);

@@ -1,6 +1,6 @@
 ghost use Rattle.std.specs.Prelude.{◌≡◌, ◌<◌, Bool, not, List, IfOk};
 ghost use Rattle.bdd_store.specs.Arena.{Arena, constant};
-ghost use Rattle.bdd_store.specs.Growth.{KeepsNodes, AddsAtMost, IsFullOnlyPast};
+ghost use Rattle.bdd_store.specs.Growth.{Grows};
 ghost use Rattle.bdd_ops.specs.Operations.{bit_at};
 ghost use Rattle.cyc_base.specs.Values.{bit};
 ghost use Rattle.dual_rail.specs.Rails.{AreRailsOf, value_of};
@@ -47,9 +47,7 @@ pub fn var_rails(d: &mut Diagrams, v: u32) -> Result<Rails, StoreFault>
     requires { v < d.old.vars }
     ensures rails { IfOk result (AreRailsOf d.new) }
     ensures value { IfOk result (λ r. (bits : List Bool) → value_of d.new r bits ≡ bit (bit_at v bits)) }
-    ensures keeps { KeepsNodes d.old d.new }
-    ensures added { AddsAtMost d.old d.new 2 }
-    ensures full { result ≡ Err StoreFault.Full → IsFullOnlyPast d.old d.new 2 }
+    ensures grows { Grows result d.old d.new 2 }
 {
     let one = d.var(v)?;
     let zero = d.not(one)?;

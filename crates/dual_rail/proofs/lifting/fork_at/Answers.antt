@@ -1,8 +1,6 @@
-use Rattle.std.proofs.Common.{◌≡◌, ◌<◌, sym, ap, subst, ◌∙◌, arith}
+use Rattle.std.proofs.Common.{◌≡◌, ◌<◌, ap, subst, ◌∙◌, arith}
 use Rattle.std.specs.List.{slice_index_or}
-use Rattle.bdd_store.specs.Arena.{Arena, den, top_of}
-use Rattle.dual_rail.specs.declared.lifting.Fork.{Fork}
-use Rattle.dual_rail.specs.Lifts.{IsLift}
+use Rattle.bdd_store.specs.Arena.{Arena, top_of}
 use Rattle.dual_rail.proofs.SurelyLemmas.{no_rails, HasBranches, IsFork-at}
 use Rattle.dual_rail.proofs.lifting.fork_at.Goals as goal
 

@@ -1,5 +1,5 @@
-use Rattle.std.proofs.Common.{◌≡◌, ℕ, ◌+◌, ◌*◌, ◌≤◌, length}
-use Rattle.bdd_store.specs.Growth.{KeepsNodes, AddsAtMost}
+use Rattle.std.proofs.Common.{◌≡◌, ◌+◌, ◌*◌, ◌≤◌, length}
+use Rattle.bdd_store.proofs.GrowthLemmas.{HasGrown}
 use Rattle.dual_rail.specs.Local.{function}
 use Rattle.dual_rail.specs.Lifts.{IsTable}
 use Rattle.dual_rail.specs.WorkingLists.{BoundsEach, IsExtended}
@@ -7,9 +7,8 @@ use Rattle.dual_rail.proofs.lifting.lift.Given as goal
 
 abbrev pub invariant-loop-position : goal.invariant-loop-position
 invariant-loop-position l = record {
-  keeps : KeepsNodes l.fn.d l.d;
+  grows : HasGrown l.fn.d l.d (BoundsEach l.fn.d.vars (IsExtended l.fn.d l.pins (function l.local))) (2 * l.position);
   long : length l.table.items ≡ l.position + 1;
   table : IsTable l.local l.d l.pins l.table.items;
   within : l.position ≤ l.position-end;
-  added : (w : ℕ) → BoundsEach l.fn.d.vars (IsExtended l.fn.d l.pins (function l.local)) w → AddsAtMost l.fn.d l.d (2 * w * l.position);
 }

@@ -1,6 +1,6 @@
-use Rattle.bdd_ops.specs.Operations.{disjunction, if_then_else}
-use Rattle.bdd_ops.proofs.OperationLemmas.{disjunction_is, AddsAtMost-alike}
+use Rattle.bdd_store.proofs.GrowthLemmas.{grows_alike}
+use Rattle.bdd_ops.proofs.OperationLemmas.{disjunction_is}
 use Rattle.bdd_ops.proofs.diagrams.Diagrams.or.Goals as goal
 
-pub returns-clause-added : goal.returns-clause-added
-returns-clause-added c = AddsAtMost-alike c.args.self.now c.ite.new.self (if_then_else c.args.self.now c.args.a c.of.result c.args.b) (disjunction c.args.self.now c.args.a c.args.b) (disjunction_is c.args.self.now c.args.a c.args.b c.of.result (c.of.ensures.value c.args.self.now)) c.ite.ensures.added
+pub returns-clause-grows : goal.returns-clause-grows
+returns-clause-grows c = grows_alike (disjunction_is c.args.self.now c.args.a c.args.b c.of.result (c.of.ensures.value c.args.self.now)) c.ite.ensures.grows
