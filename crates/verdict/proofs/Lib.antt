@@ -1,9 +1,10 @@
-mod AloneLemmas
+mod DeterminationLemmas
 mod CareLemmas
 mod CauseLemmas
 mod CountLemmas
 mod DecisionLemmas
 mod EnoughLemmas
+mod KnownLemmas
 mod LeavesLemmas
 mod MarkLemmas
 mod NextLemmas
@@ -13,4 +14,5 @@ mod SizeLemmas
 mod SolutionLemmas
 mod StartLemmas
 mod VerdictLemmas
+mod WitnessLemmas
 mod WorkLemmas

@@ -9,8 +9,10 @@
 mod alone;
 mod care;
 mod deciding;
+mod determined;
 mod fault;
 mod gates;
+mod known;
 pub mod laws;
 mod next;
 mod observing;
@@ -19,6 +21,7 @@ mod sets;
 mod start;
 mod starting;
 mod verdict;
+mod witness;
 
 pub use deciding::decide;
 pub use fault::DecideFault;
