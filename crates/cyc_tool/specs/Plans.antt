@@ -103,10 +103,13 @@ decision net care options = record {
   observe = unwrap_or options.observe observe.All;
 }
 
--- a decision of the netlist of a file
+-- a decision of a netlist on its care set
+abbrev pub deciding_on : Parts → Options → Purpose → Plan
+deciding_on net options purpose = with_care options.care net (λ care. Decides (decision net care options) purpose)
+
+-- and of the netlist of a file
 abbrev pub deciding : List ℕ → Options → Purpose → Plan
-deciding file options purpose =
-    with_netlist file (λ net. with_care options.care net (λ care. Decides (decision net care options) purpose))
+deciding file options purpose = with_netlist file (λ net. deciding_on net options purpose)
 
 -- The texts of the ring arbiter are taken for files of these names.
 abbrev pub ring_file : List ℕ
