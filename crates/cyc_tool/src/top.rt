@@ -8,7 +8,7 @@ ghost use Rattle.sched_text.specs.Fitting.{FitsNetlist};
 ghost use Rattle.cyc_tool.specs.Calls.{shelf_call, sink_call, ComesTo, Follows, Tells, Runs, WriteFailed};
 ghost use Rattle.cyc_tool.specs.Causes.{GivesAnswer, HasRewritten, HasStormed, IsComplete, IsDoneWith, IsFaulty, IsUnread, IsWithoutCommand, MeetsLimit, NoneFell, Reaches};
 ghost use Rattle.cyc_tool.specs.Plays.{AreInputs};
-ghost use Rattle.cyc_tool.specs.Plans.{Decides, decision, deciding, deciding_on, finding_loops, flattening, plan_of, play_on, playing, replaying, simulating};
+ghost use Rattle.cyc_tool.specs.Plans.{Decides, decision, deciding, deciding_on, finding_loops, flattening, plan_of, play_on, playing, replaying, replaying_on, simulating};
 ghost use Rattle.cyc_tool.specs.Reading.{FollowsAlone, FollowsStill, FollowsStillAlone};
 ghost use Rattle.cyc_tool.specs.Requests.{Shows, request, shown_by};
 ghost use Rattle.cyc_tool.specs.Seen.{end_of, outcome_of, purpose_seen};
@@ -199,7 +199,26 @@ fn play_file<S: Shelf>(
     Ok(play(alloc, net, vectors, &schedule, recorded, probes, probe)?)
 }
 
-// Plays the netlist of a file on the vectors of another by the schedule of a third.
+// Plays a netlist on the vectors of a file by the schedule of another.
+fn replay<S: Shelf>(
+    alloc: Global,
+    shelf: &mut S,
+    net: &Netlist,
+    vectors: &Name,
+    recorded: &Name,
+    probes: &mut [Box<dyn Probe>],
+    probe: Option<Kind>,
+) -> Result<Outcome, Stop>
+    requires { All (λ probe. heard probe ≡ []) probes.old }
+    ensures comes { FollowsAlone (replaying_on (shown_by kind text probes.old) probe recorded.now vectors.now net.now) (shelf_call S.files S.faults shelf.old shelf.new) (end_of result) }
+    ensures same { S.files shelf.new ≡ S.files shelf.old }
+{
+    let found = read_vector_file(alloc, shelf, net, false, vectors)?;
+    let inputs = known(alloc, &found)?;
+    play_file(alloc, shelf, net, &inputs, recorded, probes, probe)
+}
+
+// The same of the netlist of a file.
 fn delays<S: Shelf>(
     alloc: Global,
     shelf: &mut S,
@@ -214,9 +233,7 @@ fn delays<S: Shelf>(
     ensures same { S.files shelf.new ≡ S.files shelf.old }
 {
     let net = read_netlist(alloc, shelf, netlist)?;
-    let found = read_vector_file(alloc, shelf, &net, false, vectors)?;
-    let inputs = known(alloc, &found)?;
-    Ok(play_file(alloc, shelf, &net, &inputs, recorded, probes, probe)?)
+    replay(alloc, shelf, &net, vectors, recorded, probes, probe)
 }
 
 fn carry_out<S: Shelf>(
