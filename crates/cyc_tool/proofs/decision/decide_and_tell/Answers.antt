@@ -1,9 +1,9 @@
 use Rattle.cyc_tool.specs.Seen.{outcome_of, purpose_seen}
 use Rattle.cyc_tool.proofs.DecisionLemmas.{accepted_decides, refusal_fits}
-use Rattle.cyc_tool.proofs.decision.decide_netlist.Goals as goal
+use Rattle.cyc_tool.proofs.decision.decide_and_tell.Goals as goal
 
-pub returns-in-Ok-Accepted : goal.returns-in-Ok-Accepted
-returns-in-Ok-Accepted c =
+pub returns-in_ok-tell_acceptance-in-Ok-Accepted : goal.returns-in_ok-tell_acceptance-in-Ok-Accepted
+returns-in_ok-tell_acceptance-in-Ok-Accepted c =
     let verdict = rw c.in-Ok-Accepted.field-0-is at c.in-Ok-Accepted.ensures.verdict in
     accepted_decides c.args.net.now c.args.care.now c.args.limit c.args.observe (purpose_seen c.args.purpose) c.decide.new.d
     (outcome_of c.in_ok-tell_acceptance-in-Ok-Accepted.field-0) c.requires.valid verdict.accepts
