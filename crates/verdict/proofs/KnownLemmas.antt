@@ -21,7 +21,7 @@ use Rattle.loops.proofs.Told.{blocks_tell_loops}
 use Rattle.third_rail.specs.Knowing.{is_marked, number_of, AreKnown}
 use Rattle.third_rail.specs.Sweeping.{AreLaid, Layout}
 use Rattle.third_rail.proofs.CountLemmas.{known_cuts_are_fixed}
-use Rattle.care_sets.specs.Care.{CareSet, is_care_vector}
+use Rattle.care_sets.specs.Care.{CareSet, is_care_vector, IsCareVector}
 use Rattle.care_sets.specs.declared.model.CareModel.{CareModel}
 use Rattle.refusals.proofs.ShowingLemmas.{care_vector_is}
 use Rattle.verdict.specs.declared.known.Known.{Known}
@@ -76,7 +76,8 @@ beside net blocks n m homes same =
     }
 
 module _ (net : Parts) (blocks : Blocks) (are : AreBlocksOf net blocks) (cut : Cut) (cut_is : IsCutOf net cut) (care : CareSet) (settled : List Bool) (known : Known)
-    (is : IsKnown net blocks cut care (open_marks blocks settled) known) (bounds : List ℕ) (bound : BoundSweeps net blocks cut known.since bounds) (needed : AreNeededAt net blocks cut known.vector bounds) where
+    (is : IsKnown net blocks cut care (open_marks blocks settled) known) (bounds : List ℕ) (bound : BoundSweeps net blocks cut known.since bounds)
+    (vector : List Bool) (cares : IsCareVector net care vector) (needed : AreNeededAt net blocks cut vector bounds) where
   marked : (n m : ℕ) → IsOpen net blocks settled n → in_one_loop blocks n m ≡ true → is_marked (open_marks blocks settled) m ≡ true
   marked n m is_open same =
       let b = beside net blocks n m are.homes same in
@@ -101,6 +102,6 @@ module _ (net : Parts) (blocks : Blocks) (are : AreBlocksOf net blocks) (cut : C
           known_cuts_are_fixed net (loops_by blocks cut) (is_care_vector net care) (open_marks blocks settled) known.since (blocks_tell_loops net blocks cut are cut_is) is.loops n
           (λ m same. marked n m is_open same) (number_of bounds (home_of blocks n)) (enough n) v
           (record { vector = b.vector; is = b.is; width = b.counts.width; inside = care_vector_is net care b.vector b.counts });
-      least = λ k all. needed n is_open.within is_open.looped k (all (bits known.vector) (care-values net care known.vector is.vector.width (care_vector_is net care known.vector is.vector)));
+      least = λ k all. needed n is_open.within is_open.looped k (all (bits vector) (care-values net care vector cares.width (care_vector_is net care vector cares)));
     };
   }

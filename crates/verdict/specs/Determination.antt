@@ -61,10 +61,11 @@ pub record AreCountsBelow (blocks : Blocks) (settled : List Bool) (others : List
 
 -- ---- loops that are known whatever the data
 
--- the marked gates are known on care, after so many sweeps, and this is a care vector
+-- the marked gates are known on care, after so many sweeps, and these are care vectors
 pub record IsKnown (net : Parts) (blocks : Blocks) (cut : Cut) (care : CareSet) (marks : List Bool) (known : Known) : Type 0 where
   pub loops : AreKnown net (loops_by blocks cut) (is_care_vector net care) marks known.since
   pub vector : IsCareVector net care known.vector
+  pub other : IsCareVector net care known.other
 
 -- a block's number is at least that of each of its cut wires
 abbrev pub BoundSweeps : Parts → Blocks → Cut → List ℕ → List ℕ → Type 0

@@ -13,7 +13,7 @@ ghost use Rattle.verdict.specs.Determination.{count_of, AreCountsBelow, AreDecid
 
 use crate::alone::{fit_covers, settled_loops};
 use crate::known::known_on_care;
-use crate::witness::are_needed_at;
+use crate::witness::are_needed;
 use bdd_store::StoreFault;
 use care_sets::Care;
 use cyc_base::{Items, MAX_NODES};
@@ -83,8 +83,7 @@ fn known_counts(
         return Ok(None);
     };
     let bounds = bounds_of(alloc, net, blocks, cut, known.since.items())?;
-    let vector = known.vector.items();
-    if !are_needed_at(alloc, net, blocks, cut, vector, &bounds, limit)? {
+    if !are_needed(alloc, net, blocks, cut, &known, &bounds, limit)? {
         return Ok(None);
     }
     Ok(Some(bounds))

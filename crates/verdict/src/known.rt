@@ -1,8 +1,9 @@
 //! Loops that are known on care whatever the data: by the third rail, on diagrams of its own.
 
 ghost use Rattle.std.specs.Prelude.{◌≡◌, ◌<◌, ◌≤◌, ℕ, true, length, All, IfOk, IfSome};
-ghost use Rattle.bdd_store.specs.Arena.{IsNodeOf};
+ghost use Rattle.bdd_store.specs.Arena.{den, IsNodeOf};
 ghost use Rattle.bdd_store.specs.Growth.{KeepsNodes};
+ghost use Rattle.bdd_ops.specs.Least.{IsLayout, by_variable as by_variable_of};
 ghost use Rattle.dual_rail.specs.Rails.{AreRailsOf};
 ghost use Rattle.loops.specs.Blocks.{AreBlocksOf};
 ghost use Rattle.loops.specs.Cuts.{IsCutOf, loops_by};
@@ -17,7 +18,7 @@ ghost use Rattle.verdict.specs.Determination.{IsKnown};
 ghost use Rattle.verdict.specs.Known.{IsClaimed};
 ghost use Rattle.verdict.specs.Sets.{Tells};
 
-use crate::sets::least_of;
+use crate::sets::{by_variable, least_of};
 use crate::start::{care_on, inside_on};
 use bdd_ops::Diagrams;
 use bdd_store::{Node, StoreFault};
@@ -42,8 +43,10 @@ const MOST_TRIES: u32 = 8;
 pub struct Known {
     /// For each cut wire, after how many sweeps it is known at each care vector.
     pub since: Items<u32>,
-    /// A care vector, where one of them wasn't seen to be known one sweep before the last.
+    /// A care vector, where one of them wasn't seen to be known one sweep before the last. The data are 0 there.
     pub vector: Bits,
+    /// Another one, where the data are 1.
+    pub other: Bits,
 }
 
 /// What the third rail claims of loops: after how many sweeps their cut wires are known, and a set of vectors where
@@ -141,6 +144,7 @@ fn claim_on_care(
     care: &Care,
     rails: &[Rails],
     marks: &[bool],
+    kept: &mut [bool],
 ) -> Result<Option<Claimed>, StoreFault>
     requires blocks { AreBlocksOf net.now blocks.now }
     requires cut { IsCutOf net.now cut.now }
@@ -148,12 +152,13 @@ fn claim_on_care(
     requires vars { d.old.vars ≡ columns net.now }
     requires columns { AreColumns d.old (order_of net.now) rails.now }
     requires marks { length marks.now ≡ length net.now.gates }
+    requires kept { length kept.old ≡ columns net.now }
+    ensures kept { length kept.new ≡ columns net.now }
     ensures claimed { IfOk result (λ found. IfSome found (IsClaimed net.now blocks.now cut.now care.now d.new marks.now)) }
     ensures keeps { KeepsNodes d.old d.new }
 {
     let set = care_set(alloc, d, net, care, rails)?;
-    let mut kept = care_columns(alloc, net, care)?;
-    let found = claim(alloc, d, net, blocks, cut, rails, marks, set, &mut kept)?;
+    let found = claim(alloc, d, net, blocks, cut, rails, marks, set, kept)?;
     let Some(claimed) = found else {
         return Ok(None);
     };
@@ -162,6 +167,35 @@ fn claim_on_care(
         since: claimed.since,
         hint,
     }))
+}
+
+/// A vector of a set in which the columns that aren't kept are 1, and else as here; or this one, where that isn't in it.
+fn with_data(
+    alloc: Global,
+    d: &Diagrams,
+    order: &[u32],
+    set: Node,
+    kept: &[bool],
+    vector: &[bool],
+) -> Result<Vec<bool>, AllocError>
+    requires set { IsNodeOf d.now set }
+    requires order { IsLayout d.now.vars order.now }
+    requires kept { length kept.now ≡ d.now.vars }
+    requires vector { length vector.now ≡ d.now.vars }
+    requires inside { den d.now set (by_variable_of order.now vector.now) ≡ true }
+    ensures width { IfOk result (λ other. length other.items ≡ d.now.vars) }
+    ensures inside { IfOk result (λ other. den d.now set (by_variable_of order.now other.items) ≡ true) }
+{
+    let mut other = Vec::with_capacity(alloc, kept.len())?;
+    for column in 0..kept.len() {
+        other.push(vector[column] || !kept[column])?;
+    }
+    let bits = by_variable(alloc, order, &other)?;
+    if d.store().value(set, &bits) {
+        Ok(other)
+    } else {
+        vector.iter().copied().collect(alloc)
+    }
 }
 
 /// What is known of them, on diagrams with a variable for each column.
@@ -184,16 +218,19 @@ fn known_on(
     ensures known { IfOk result (λ found. IfSome found (IsKnown net.now blocks.now cut.now care.now marks.now)) }
 {
     let rails = column_rails(alloc, d, order)?;
-    let found = claim_on_care(alloc, d, net, blocks, cut, care, &rails, marks)?;
+    let mut kept = care_columns(alloc, net, care)?;
+    let found = claim_on_care(alloc, d, net, blocks, cut, care, &rails, marks, &mut kept)?;
     let Some(claimed) = found else {
         return Ok(None);
     };
     let Some(vector) = least_of(alloc, d, order, claimed.hint)? else {
         return Ok(None);
     };
+    let other = with_data(alloc, d, order, claimed.hint, &kept, &vector)?;
     Ok(Some(Known {
         since: claimed.since,
         vector: Bits::of(vector),
+        other: Bits::of(other),
     }))
 }
 

@@ -1,12 +1,13 @@
 //! How many sweeps loops need at one vector, which shows that they need so many on care.
 
-ghost use Rattle.std.specs.Prelude.{◌≡◌, ◌≤◌, ℕ, true, map, length, IfOk};
+ghost use Rattle.std.specs.Prelude.{◌≡◌, ◌≤◌, ◌⊎◌, ℕ, true, map, length, IfOk};
 ghost use Rattle.loops.specs.Blocks.{AreBlocksOf};
 ghost use Rattle.loops.specs.Cuts.{IsCutOf};
 ghost use Rattle.care_sets.specs.Care.{columns};
 ghost use Rattle.third_rail.specs.Knowing.{number_of};
 ghost use Rattle.verdict.specs.Determination.{constant_rails, AreNeededAt};
 
+use crate::known::Known;
 use bdd_ops::Diagrams;
 use bdd_store::{Node, StoreFault};
 use cyc_base::MAX_NODES;
@@ -72,7 +73,7 @@ fn are_at_most(numbers: &[u32], most: &[u32]) -> bool
 }
 
 /// Whether loops need at least so many sweeps at this vector, as far as it is seen with so many nodes.
-pub(crate) fn are_needed_at(
+fn are_needed_at(
     alloc: Global,
     net: &Netlist,
     blocks: &Blocks,
@@ -94,4 +95,28 @@ pub(crate) fn are_needed_at(
         Err(StoreFault::Full) => Ok(false),
         Err(StoreFault::Memory) => Err(AllocError),
     }
+}
+
+/// Whether they do so at one of these vectors.
+pub(crate) fn are_needed(
+    alloc: Global,
+    net: &Netlist,
+    blocks: &Blocks,
+    cut: &Cut,
+    known: &Known,
+    counts: &[u32],
+    limit: u32,
+) -> Result<bool, AllocError>
+    requires blocks { AreBlocksOf net.now blocks.now }
+    requires cut { IsCutOf net.now cut.now }
+    requires vector { length known.now.vector ≡ columns net.now }
+    requires other { length known.now.other ≡ columns net.now }
+    requires counts { length counts.now ≡ length blocks.now.list }
+    requires limit { limit ≤ MAX_NODES }
+    ensures { IfOk result (λ shown. shown ≡ true → AreNeededAt net.now blocks.now cut.now known.now.vector counts.now ⊎ AreNeededAt net.now blocks.now cut.now known.now.other counts.now) }
+{
+    if are_needed_at(alloc, net, blocks, cut, known.vector.items(), counts, limit)? {
+        return Ok(true);
+    }
+    are_needed_at(alloc, net, blocks, cut, known.other.items(), counts, limit)
 }
