@@ -1,4 +1,4 @@
-use Rattle.std.proofs.Common.{Contains, is_ok}
+use Rattle.std.proofs.Common.{is_ok}
 use Rattle.std.proofs.lemmas.List.Elements.{All-contains_itself}
 use Rattle.bdd_ops.proofs.SlotLemmas.{All-doubled}
 use Rattle.bdd_ops.proofs.slots.Slots.grow.Goals as goal
