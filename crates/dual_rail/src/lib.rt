@@ -2,7 +2,7 @@
 //!
 //! It stands on the diagrams of `bdd_ops` and the covers of `cover_logic`. The layer above uses that `lift` is
 //! the exact extension of a cover at every vector (`cover`), that rails stay proper, that every earlier node
-//! keeps its function (`keeps`), and how many nodes are added (`added`).
+//! keeps its function, and how many nodes are added (`grows`).
 #![tactic(auto)]
 
 mod diagram;

@@ -1,7 +1,7 @@
 //! The columns of a netlist's vectors as variables of diagrams.
 
-ghost use Rattle.std.specs.Prelude.{◌≡◌, ◌*◌, IfOk};
-ghost use Rattle.bdd_store.specs.Growth.{KeepsNodes, AddsAtMost, IsFullOnlyPast};
+ghost use Rattle.std.specs.Prelude.{◌*◌, IfOk};
+ghost use Rattle.bdd_store.specs.Growth.{Grows};
 ghost use Rattle.bdd_ops.specs.Least.{IsLayout};
 ghost use Rattle.isolation.specs.Columns.{AreColumns};
 
@@ -20,9 +20,7 @@ pub fn column_rails(
 ) -> Result<Vec<Rails>, StoreFault>
     requires { IsLayout d.old.vars columns.now }
     ensures rails { IfOk result (λ rails. AreColumns d.new columns.now rails.items) }
-    ensures keeps { KeepsNodes d.old d.new }
-    ensures added { AddsAtMost d.old d.new (2 * d.old.vars) }
-    ensures full { result ≡ Err StoreFault.Full → IsFullOnlyPast d.old d.new (2 * d.old.vars) }
+    ensures grows { Grows result d.old d.new (2 * d.old.vars) }
 {
     let unset = Rails {
         one: Node::of(false),

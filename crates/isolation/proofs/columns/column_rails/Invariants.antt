@@ -1,11 +1,10 @@
-use Rattle.std.proofs.Common.{◌*◌, ◌≤◌}
-use Rattle.bdd_store.specs.Growth.{KeepsNodes, AddsAtMost}
+use Rattle.std.proofs.Common.{◌*◌}
+use Rattle.bdd_store.proofs.GrowthLemmas.{HasGrownBy}
 use Rattle.isolation.specs.Columns.{AreFirstColumns}
 use Rattle.isolation.proofs.columns.column_rails.Given as goal
 
 abbrev pub invariant-loop-variable : goal.invariant-loop-variable
 invariant-loop-variable l = record {
-  keeps : KeepsNodes l.fn.d l.d;
-  added : AddsAtMost l.fn.d l.d (2 * l.variable);
+  grows : HasGrownBy l.fn.d l.d (2 * l.variable);
   columns : AreFirstColumns l.d l.columns l.variable l.rails.items;
 }

@@ -11,12 +11,12 @@ returns-clause-claim c bits =
     let pin = c.requires.pin in
     let hi = c.requires.hi in
     let lo = c.requires.lo in
-    let k01 : KeepsNodes c.args.d.now c.select.new.self = c.select.ensures.keeps in
-    let k02 : KeepsNodes c.args.d.now c.select-2.new.self = KeepsNodes-chain k01 c.select-2.ensures.keeps in
-    let k03 : KeepsNodes c.args.d.now c.select-3.new.self = KeepsNodes-chain k02 c.select-3.ensures.keeps in
-    let k24 : KeepsNodes c.select-2.new.self c.and.new.self = KeepsNodes-chain c.select-3.ensures.keeps c.and.ensures.keeps in
-    let k14 : KeepsNodes c.select.new.self c.and.new.self = KeepsNodes-chain c.select-2.ensures.keeps k24 in
-    let k46 : KeepsNodes c.and.new.self c.or-2.new.self = KeepsNodes-chain c.or.ensures.keeps c.or-2.ensures.keeps in
+    let k01 : KeepsNodes c.args.d.now c.select.new.self = c.select.ensures.grows.keeps in
+    let k02 : KeepsNodes c.args.d.now c.select-2.new.self = KeepsNodes-chain k01 c.select-2.ensures.grows.keeps in
+    let k03 : KeepsNodes c.args.d.now c.select-3.new.self = KeepsNodes-chain k02 c.select-3.ensures.grows.keeps in
+    let k24 : KeepsNodes c.select-2.new.self c.and.new.self = KeepsNodes-chain c.select-3.ensures.grows.keeps c.and.ensures.grows.keeps in
+    let k14 : KeepsNodes c.select.new.self c.and.new.self = KeepsNodes-chain c.select-2.ensures.grows.keeps k24 in
+    let k46 : KeepsNodes c.and.new.self c.or-2.new.self = KeepsNodes-chain c.or.ensures.grows.keeps c.or-2.ensures.grows.keeps in
     let one = k14.function c.in_ok-one.one bits c.in_ok-one.ensures.node ∙ c.in_ok-one.ensures.function bits in
     let zero =
     k24.function c.in_ok-zero.zero bits c.in_ok-zero.ensures.node ∙ c.in_ok-zero.ensures.function bits
@@ -25,7 +25,7 @@ returns-clause-claim c bits =
     c.in_ok-selected.ensures.function bits
     ∙ selection-kept k02 c.args.pin.one c.args.pin.zero c.args.hi.known c.args.lo.known pin.one pin.zero hi.known lo.known bits in
     let passed =
-    c.or.ensures.keeps.function c.in_ok-passed.passed bits c.in_ok-passed.ensures.node ∙ c.in_ok-passed.ensures.function bits
+    c.or.ensures.grows.keeps.function c.in_ok-passed.passed bits c.in_ok-passed.ensures.node ∙ c.in_ok-passed.ensures.function bits
     ∙ ap₂ (λ x y. x && y) (k03.function c.args.pin.known bits pin.known) selected in
     let either = c.in_ok-bit.ensures.function bits ∙ ap₂ (λ x y. x || y) one zero in
     let known = c.in_ok-known.ensures.function bits ∙ ap₂ (λ x y. x || y) either passed ∙ or_joined (selection c.args.d.now c.args.pin.one c.args.pin.zero c.args.hi.one c.args.lo.one bits) (selection c.args.d.now c.args.pin.one c.args.pin.zero c.args.hi.zero c.args.lo.zero bits)
