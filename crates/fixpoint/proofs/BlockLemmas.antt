@@ -1,9 +1,8 @@
 -- Block by block to the fixpoint of a netlist.
-use Rattle.std.proofs.Common.{◌≡◌, ◌≢◌, inl, inr, ◌⊎◌, ℕ, ◌+◌, ◌-◌, ◌<◌, ◌≤◌, leb, Bool, true, false, ◌&&◌, if◌then◌else◌, List, [], ◌∷◌, ◌++◌, length, map, take, drop, replicate, get_or, refl, sym, ap, ap₂, ◌∙◌, subst, arith, Contains, true≢false}
+use Rattle.std.proofs.Common.{◌≡◌, ◌≢◌, inl, inr, ◌⊎◌, ℕ, ◌+◌, ◌<◌, ◌≤◌, leb, Bool, true, false, ◌&&◌, if◌then◌else◌, List, [], ◌∷◌, ◌++◌, length, map, take, replicate, get_or, refl, sym, ap, ap₂, ◌∙◌, subst, arith, Contains, true≢false}
 use Rattle.std.proofs.lemmas.Bool.{cases_lt, cases_eq, leb-true, leb-false}
 use Rattle.std.proofs.lemmas.List.{get_or_append_left, get_or_default, get_or_push, length_push, length-append, length-replicate, get_or-replicate, get_or-take, get_or-map, length-map, length-take, take-set-le}
-use Rattle.std.proofs.Math.Seq.{take-append_seam}
-use Rattle.std.proofs.lemmas.List.Elements.{All-get_or, All-push, All-append, All-replicate, All-take, Contains-append_left, Contains-push}
+use Rattle.std.proofs.lemmas.List.Elements.{All-get_or, All-push, All-append, All-replicate, Contains-append_left, Contains-push}
 use Rattle.std.specs.List.{All}
 use Rattle.bdd_store.specs.Arena.{Arena}
 use Rattle.bdd_store.specs.Growth.{KeepsNodes}
@@ -13,7 +12,7 @@ use Rattle.cyc_base.specs.declared.trit.Trit.{Trit}
 use Rattle.cyc_base.specs.declared.trit.Trit.TheVariants.{X}
 use Rattle.dual_rail.specs.declared.rail.Rails.{Rails}
 use Rattle.dual_rail.specs.Rails.{AreRailsOf, value_of, values_of}
-use Rattle.dual_rail.proofs.SurelyLemmas.{value_of-kept, values_of-kept, All-rails-kept}
+use Rattle.dual_rail.proofs.SurelyLemmas.{value_of-kept}
 use Rattle.netlist.specs.declared.parts.Gate.{Gate}
 use Rattle.netlist.specs.declared.parts.Parts.{Parts}
 use Rattle.netlist.specs.Netlists.{IsNetlist, IsSignal, count, gate_at, no_gate}
@@ -31,12 +30,12 @@ use Rattle.loops.proofs.Unique.{feeds_at}
 use Rattle.loops.proofs.Walks.{leads-step, leads-trans, leads-any}
 use Rattle.loops.proofs.Told.{gate_home}
 use Rattle.fixpoint.specs.declared.solved.LoopSteps.{LoopSteps}
-use Rattle.fixpoint.specs.declared.solved.Solved.{Solved}
-use Rattle.fixpoint.specs.Solved.{Vectors, IsLoopAt, AreStepsOf, HasEachLoopOnce, IsSolution, step_at, last_step}
+use Rattle.fixpoint.specs.declared.solved.SweptLoop.{SweptLoop}
+use Rattle.fixpoint.specs.Solved.{Vectors, IsLoopAt, AreStepsOf, HasEachLoopOnce, step_at, last_step}
 use Rattle.fixpoint.specs.Sweeping.{unknown, rails_at, rails_read, vectors, IsGateSet, IsSolvedBelow, AreFresh}
 use Rattle.fixpoint.proofs.WireLemmas.{rails_at-proper, unknown-rails, AreWires-set, set-same, set-other, values-fixed}
 
--- ---- the same vectors, and kept nodes
+-- ---- the same vectors
 
 pub solved-same : {net : Parts} {blocks : Blocks} {cut : Cut} {a : Arena} {b : ℕ} {before rails : List Rails} (v w : Vectors) → ((bits : List Bool) → v bits ≡ w bits) → IsSolvedBelow net blocks cut a v b before rails → IsSolvedBelow net blocks cut a w b before rails
 solved-same {net} v w same is = record {
@@ -47,7 +46,7 @@ solved-same {net} v w same is = record {
   cuts = λ n bits less low cut_wire. is.cuts n bits less low cut_wire ∙ ap (λ (t : List Trit). value_in (fix_gates net t) n) (same bits);
 }
 
-pub steps-same : {net : Parts} {blocks : Blocks} {cut : Cut} {a : Arena} (v w : Vectors) → ((bits : List Bool) → v bits ≡ w bits) → (found : LoopSteps) → AreStepsOf net blocks cut a v found → AreStepsOf net blocks cut a w found
+pub steps-same : {net : Parts} {blocks : Blocks} {cut : Cut} {a : Arena} (v w : Vectors) → ((bits : List Bool) → v bits ≡ w bits) → (found : SweptLoop) → AreStepsOf net blocks cut a v found → AreStepsOf net blocks cut a w found
 steps-same {net} {blocks} {cut} {a} v w same found is = record {
   block = is.block;
   wires = is.wires;
@@ -57,22 +56,6 @@ steps-same {net} {blocks} {cut} {a} v w same found is = record {
   some = is.some;
   few = is.few;
 }
-
-pub steps-kept : {net : Parts} {blocks : Blocks} {cut : Cut} {d e : Arena} {v : Vectors} → KeepsNodes d e → (found : LoopSteps) → AreStepsOf net blocks cut d v found → AreStepsOf net blocks cut e v found
-steps-kept {net} {blocks} {cut} {d} {e} {v} keeps found is = record {
-  block = is.block;
-  wires = is.wires;
-  rails = λ k none less. All-rails-kept keeps (get_or found.steps k none) (is.rails k none less);
-  each = λ gate k bits has less. values_of-kept keeps (step_at found.steps k) (is.rails k [] less) bits ∙ is.each gate k bits has less;
-  last = λ gate bits has. let some = is.some in values_of-kept keeps (last_step found.steps) (is.rails (length found.steps - 1) [] (omega (arith, some))) bits ∙ is.last gate bits has;
-  some = is.some;
-  few = is.few;
-}
-
--- the vectors stay while inputs and latches do
-pub same-vectors : (net : Parts) (d e : Arena) (old rails : List Rails) → KeepsNodes d e → All (AreRailsOf d) old → take (first_gate net) rails ≡ take (first_gate net) old → (bits : List Bool) → vectors net e rails bits ≡ vectors net d old bits
-same-vectors net d e old rails keeps all same bits =
-    ap (λ (r : List Rails). values_of e r bits) same ∙ values_of-kept keeps (take (first_gate net) old) (All-take (AreRailsOf d) (first_gate net) old all) bits
 
 -- ---- a block that is no loop
 
@@ -160,9 +143,6 @@ module _ (net : Parts) (valid : IsNetlist net) (blocks : Blocks) (are : AreBlock
       plain-given = ap (take (first_gate net)) done.is ∙ take-set-le (first_gate net) rails (first_gate net + n) done.made (omega arith)
 
 -- ---- the loops that were found
-
-block_of : LoopSteps → ℕ
-block_of found = found.block
 
 pub record HasLoopsBelow (blocks : Blocks) (b : ℕ) (loops : List LoopSteps) : Type 0 where
   pub only : All (λ found. IsLoopAt blocks found.block × (found.block < b)) loops
@@ -270,22 +250,3 @@ first-of-block net blocks are items b r gates same inside is gates_are =
     let filled = are.filled b within in
     let some : 0 < length gates = omega (arith, filled, ap length here) in
     gate_home net blocks are b (get_or gates 0 0) within (subst (λ (ns : List ℕ). Contains ns (get_or gates 0 0)) here (0, some, get_or_default gates 0 (get_or gates 0 0) 0 some))
-
--- what is written back to a list through a slice
-pub written : {T : Type 0} (n : ℕ) (xs ys : List T) → n ≡ length ys → length xs ≡ length ys → take n (xs ++ drop (length xs) ys) ≡ xs
-written n xs ys long same = ap (λ (m : ℕ). take m (xs ++ drop (length xs) ys)) (long ∙ sym same) ∙ take-append_seam xs (drop (length xs) ys)
-
--- what was solved at the rails of inputs and latches is the solution at the given ones
-pub solution-end : (net : Parts) (blocks : Blocks) (cut : Cut) (d e : Arena) (given rest old before rails : List Rails) (loops : List LoopSteps) (solved : Solved) → AreBlocksOf net blocks → KeepsNodes d e
-    → All (AreRailsOf d) given → length given ≡ first_gate net → old ≡ given ++ rest → IsSolvedBelow net blocks cut e (vectors net d old) (length blocks.list) before rails
-    → HasEachLoopOnce blocks loops → All (AreStepsOf net blocks cut e (vectors net d old)) loops → solved.rails ≡ rails → solved.loops ≡ loops → IsSolution net blocks cut e given solved
-solution-end net blocks cut d e given rest old before rails loops solved are keeps proper width old_is done once steps rails_is loops_is =
-    let first : take (first_gate net) old ≡ given = ap₂ (λ (n : ℕ) (xs : List Rails). take n xs) (sym width) old_is ∙ take-append_seam given rest in
-    let same : (bits : List Bool) → vectors net d old bits ≡ values_of e given bits = λ bits. ap (λ (xs : List Rails). values_of d xs bits) first ∙ sym (values_of-kept keeps given proper bits) in
-    record {
-      width = width;
-      rails = subst (All (AreRailsOf e)) (sym rails_is) done.wires.proper;
-      values = λ bits. ap (λ (xs : List Rails). values_of e xs bits) rails_is ∙ values-are-fix net blocks cut e (vectors net d old) before rails are done bits ∙ ap (fix net) (same bits);
-      loops = subst (HasEachLoopOnce blocks) (sym loops_is) once;
-      steps = subst (All (AreStepsOf net blocks cut e (values_of e given))) (sym loops_is) (λ k none less. steps-same (vectors net d old) (values_of e given) same (get_or loops k none) (steps k none less));
-    }

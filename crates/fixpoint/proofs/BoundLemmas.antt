@@ -28,16 +28,13 @@ use Rattle.loops.specs.Sweeps.{first_gate, cuts_of, value_in}
 use Rattle.loops.proofs.Told.{told_parts, gate_home}
 use Rattle.fixpoint.specs.Solved.{Vectors, IsLoopAt}
 use Rattle.fixpoint.specs.Sweeping.{rails_read, AreSwept, IsSolvedBelow, IsSweepable, vectors, OthersStay, after_sweeps}
-use Rattle.fixpoint.specs.Working.{IsWorking, HasLargeCover, cost, order_cost, block_cost, below_cost, effort, total, read_in_sweep, read_at_fix}
+use Rattle.fixpoint.specs.Working.{IsWorking, cost, order_cost, block_cost, below_cost, effort, total, read_in_sweep, read_at_fix}
 use Rattle.fixpoint.proofs.CutLemmas.{one-block, cuts-are}
 use Rattle.fixpoint.proofs.SweepLemmas.{reads-all}
 use Rattle.fixpoint.proofs.WorkLemmas.{bounds-lift, parts-bounded}
 use Rattle.fixpoint.proofs.WireLemmas.{pins-values}
 use Rattle.fixpoint.proofs.BlockLemmas.{plain-reads}
 use Rattle.fixpoint.proofs.CostLemmas.{order-total, total-at, total-next, total-all}
-
-pub large-kept : {net : Parts} {s t : Arena} → KeepsNodes s t → HasLargeCover net t.limit → HasLargeCover net s.limit
-large-kept keeps large = record { gate = large.gate; within = large.within; over = omega (arith, large.over, keeps.limit) }
 
 -- what a lift of `solve` reads
 module _ (net : Parts) (cut : Cut) (d : Arena) (before rails : List Rails) (n : ℕ) where
@@ -127,9 +124,9 @@ working-same net loops v u same g (inr is) = inr (record {
   same = is.same;
 })
 
-pub wide-same : (net : Parts) (loops : Loops) (v u : Vectors) (s t : Arena) → KeepsNodes s t → ((bits : List Bool) → v bits ≡ u bits) → {w : ℕ} → IsWide s.vars (IsWorking net loops u) w → IsWide t.vars (IsWorking net loops v) w
-wide-same net loops v u s t keeps same {w} wide =
-    subst (λ (x : ℕ). IsWide x (IsWorking net loops v) w) (sym keeps.vars) (IsWide-fewer (IsWorking net loops u) (IsWorking net loops v) w (working-same net loops v u same) wide)
+pub wide-same : (net : Parts) (loops : Loops) (v u : Vectors) (s t : Arena) → t.vars ≡ s.vars → ((bits : List Bool) → v bits ≡ u bits) → {w : ℕ} → IsWide s.vars (IsWorking net loops u) w → IsWide t.vars (IsWorking net loops v) w
+wide-same net loops v u s t vars same {w} wide =
+    subst (λ (x : ℕ). IsWide x (IsWorking net loops v) w) (sym vars) (IsWide-fewer (IsWorking net loops u) (IsWorking net loops v) w (working-same net loops v u same) wide)
 
 -- one block more, and all of them
 pub below-next : (net : Parts) (blocks : Blocks) (b : ℕ) → 2 * ((length net.gates + 1) * below_cost net blocks b) + 2 * ((length net.gates + 1) * block_cost net blocks b) ≤ 2 * ((length net.gates + 1) * below_cost net blocks (b + 1))

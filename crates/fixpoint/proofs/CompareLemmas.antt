@@ -15,7 +15,7 @@ use Rattle.dual_rail.specs.declared.rail.Rails.{Rails}
 use Rattle.dual_rail.specs.WorkingLists.{IsWide}
 use Rattle.dual_rail.proofs.WidthLemmas.{IsWide-fewer}
 use Rattle.fixpoint.specs.declared.solved.LoopSteps.{LoopSteps}
-use Rattle.fixpoint.specs.Solved.{step_at}
+use Rattle.fixpoint.specs.Solved.{step_at, steps_under}
 use Rattle.fixpoint.specs.Sweeping.{unknown, rails_at}
 use Rattle.fixpoint.specs.Counts.{AreNodes, IsStepNode, IsCompared, IsComparedIn, difference}
 
@@ -131,15 +131,15 @@ steps-wide s t care steps step last i j keeps cared all li lj is js wide =
     wide-compared keeps care cared steps (step ∷ last ∷ []) (λ n has. step-nodes s steps all n (steps-into step last steps sc lc n has)) (steps-into step last steps sc lc) wide
 
 -- the steps of one of the loops
-pub loop-wide : (s t : Arena) (care : Node) (loops : List LoopSteps) (loop : LoopSteps) {w : ℕ} → KeepsNodes s t → IsNodeOf s care → All (All (AreNodes s)) loop.steps → Contains loops loop
-    → IsWide s.vars (IsComparedIn s care loops) w → IsWide t.vars (IsCompared t care loop.steps) w
+pub loop-wide : (s t : Arena) (care : Node) (loops : List LoopSteps) (loop : LoopSteps) {w : ℕ} → KeepsNodes s t → IsNodeOf s care → All (All (AreNodes s)) (steps_under s loop) → Contains loops loop
+    → IsWide s.vars (IsComparedIn s care loops) w → IsWide t.vars (IsCompared t care (steps_under s loop)) w
 loop-wide s t care loops loop {w} keeps cared all has wide =
-    subst (λ (v : ℕ). IsWide v (IsCompared t care loop.steps) w) (sym keeps.vars)
-    (IsWide-fewer (IsComparedIn s care loops) (IsCompared t care loop.steps) w
+    subst (λ (v : ℕ). IsWide v (IsCompared t care (steps_under s loop)) w) (sym keeps.vars)
+    (IsWide-fewer (IsComparedIn s care loops) (IsCompared t care (steps_under s loop)) w
     (λ g is. record {
       node = is.node;
       of = elim is.of [ inl e ↦ inl e | inr n ↦ inr (record { loop = loop; among = has; node = n }) ];
-      same = λ bits. is.same bits ∙ keeps.function is.node bits (elim is.of [ inl e ↦ subst (IsNodeOf s) (sym e) cared | inr n ↦ step-nodes s loop.steps all is.node n ]);
+      same = λ bits. is.same bits ∙ keeps.function is.node bits (elim is.of [ inl e ↦ subst (IsNodeOf s) (sym e) cared | inr n ↦ step-nodes s (steps_under s loop) all is.node n ]);
     }) wide)
 
 -- ---- the cut wires of the first loops

@@ -1,7 +1,8 @@
 -- Comparing steps at the vectors of a care set.
-use Rattle.std.proofs.Common.{◌≡◌, ◌==◌, inl, inr, ◌⊎◌, ℕ, ◌+◌, ◌-◌, ◌<◌, ◌≤◌, Bool, true, false, ◌&&◌, List, [], length, set, replicate, refl, sym, ap, ap₂, ◌∙◌, subst, arith, true≢false}
+use Rattle.std.proofs.Common.{◌≡◌, ◌==◌, inl, inr, ◌⊎◌, ℕ, ◌+◌, ◌-◌, ◌<◌, ◌≤◌, Bool, true, false, ◌&&◌, List, [], length, map, set, get_or, replicate, refl, sym, ap, ap₂, ◌∙◌, subst, arith, true≢false}
 use Rattle.std.proofs.lemmas.Bool.{eqb-true, eq-eqb, cases_lt}
-use Rattle.std.proofs.lemmas.List.{length-replicate, get_or-replicate, get_or_past, get_or_read, get_or-set_same, get_or-set_other, length-set}
+use Rattle.std.proofs.lemmas.List.{length-replicate, get_or-replicate, get_or_past, get_or_read, get_or-set_same, get_or-set_other, length-set, length-map}
+use Rattle.std.proofs.lemmas.List.Elements.{All-map}
 use Rattle.std.specs.List.{All, slice_index_or}
 use Rattle.bdd_store.specs.declared.node.Node.{Node}
 use Rattle.bdd_store.specs.Arena.{Arena, constant, den, IsNodeOf}
@@ -13,8 +14,10 @@ use Rattle.loops.specs.declared.parts.Blocks.{Blocks}
 use Rattle.loops.specs.declared.parts.SweepCounts.{SweepCounts}
 use Rattle.loops.specs.Blocks.{block_at}
 use Rattle.fixpoint.specs.declared.solved.LoopSteps.{LoopSteps}
-use Rattle.fixpoint.specs.Solved.{IsLoopAt, HasEachLoopOnce, step_at, last_step}
-use Rattle.fixpoint.specs.Counts.{AreNodes, SameOn, SameRailsOn, AgreeOn, IsLeastStep, AreCountsOf}
+use Rattle.fixpoint.specs.Solved.{IsLoopAt, HasEachLoopOnce, step_at, last_step, steps_under}
+use Rattle.fixpoint.specs.Kept.{rails_under, AreKept}
+use Rattle.fixpoint.specs.Counts.{AreNodes, SameOn, SameRailsOn, AgreeOn, IsLeastStep, AreCountable, AreCountsOf}
+use Rattle.fixpoint.proofs.KeptLemmas.{under-node, AreKept-same, lists_under-same}
 
 xor_same : (x y : Bool) → xor x y ≡ false → x ≡ y
 xor_same true true h = refl
@@ -96,7 +99,7 @@ more_agree a care xs ys i before here place none less = elim (cases_lt place i) 
 -- numbers for the first loops, and 0 for the others
 pub record IsCounting (a : Arena) (blocks : Blocks) (care : Node) (found : List LoopSteps) (i : ℕ) (counts : List ℕ) : Type 0 where
   pub width : length counts ≡ length blocks.list
-  pub done : (j : ℕ) (none : LoopSteps) → j < i → IsLeastStep a care (slice_index_or found j none).steps (slice_index_or counts (slice_index_or found j none).block 0)
+  pub done : (j : ℕ) (none : LoopSteps) → j < i → IsLeastStep a care (steps_under a (slice_index_or found j none)) (slice_index_or counts (slice_index_or found j none).block 0)
   pub others : (b : ℕ) → (block_at blocks b).looped ≡ false → slice_index_or counts b 0 ≡ 0
 
 pub counting-init : (a : Arena) (blocks : Blocks) (care : Node) (found : List LoopSteps) (counts : List ℕ) → counts ≡ replicate {A = ℕ} (length blocks.list) 0 → IsCounting a blocks care found 0 counts
@@ -113,7 +116,7 @@ counting-init a blocks care found counts is = record {
     ]
 
 pub counting-step : (a : Arena) (blocks : Blocks) (care : Node) (found : List LoopSteps) (i : ℕ) (counts : List ℕ) (at : LoopSteps) (k : ℕ) → HasEachLoopOnce blocks found → i < length found
-    → at ≡ slice_index_or found i at → IsLeastStep a care at.steps k → IsCounting a blocks care found i counts → IsCounting a blocks care found (i + 1) (set counts at.block k)
+    → at ≡ slice_index_or found i at → IsLeastStep a care (steps_under a at) k → IsCounting a blocks care found i counts → IsCounting a blocks care found (i + 1) (set counts at.block k)
 counting-step a blocks care found i counts at k has inside is least before =
     let loop : IsLoopAt blocks at.block = subst (λ (x : LoopSteps). IsLoopAt blocks x.block) (sym is) (has.only i at inside) in
     let room : at.block < length counts = omega (arith, loop.within, before.width) in
@@ -123,19 +126,19 @@ counting-step a blocks care found i counts at k has inside is least before =
       others = λ b not_loop. get_or-set_other counts at.block b k 0 (λ e. true≢false (sym loop.looped ∙ ap (λ (p : ℕ). (block_at blocks p).looped) (sym e) ∙ not_loop)) ∙ before.others b not_loop;
     }
   where
-    by : (j : ℕ) (none : LoopSteps) → j < i + 1 → (j < i) ⊎ (i ≤ j) → IsLeastStep a care (slice_index_or found j none).steps (slice_index_or (set counts at.block k) (slice_index_or found j none).block 0)
+    by : (j : ℕ) (none : LoopSteps) → j < i + 1 → (j < i) ⊎ (i ≤ j) → IsLeastStep a care (steps_under a (slice_index_or found j none)) (slice_index_or (set counts at.block k) (slice_index_or found j none).block 0)
     by j none less (inl low) =
         let other : slice_index_or (set counts at.block k) (slice_index_or found j none).block 0 ≡ slice_index_or counts (slice_index_or found j none).block 0
         = get_or-set_other counts at.block (slice_index_or found j none).block k 0
         (λ e. let same = has.once j i none (omega arith) inside (e ∙ ap (λ (x : LoopSteps). x.block) (get_or_read found i at inside is none)) in omega (arith, low, same)) in
-        subst (IsLeastStep a care (slice_index_or found j none).steps) (sym other) (before.done j none low)
+        subst (IsLeastStep a care (steps_under a (slice_index_or found j none))) (sym other) (before.done j none low)
     by j none less (inr high) =
         let here : i ≡ j = omega (arith, less, high) in
         let loop : IsLoopAt blocks at.block = subst (λ (x : LoopSteps). IsLoopAt blocks x.block) (sym is) (has.only i at inside) in
         let width = before.width in
         let same : at ≡ slice_index_or found j none = get_or_read found i at inside is none ∙ ap (λ (p : ℕ). slice_index_or found p none) here in
-        subst (λ (x : LoopSteps). IsLeastStep a care x.steps (slice_index_or (set counts at.block k) x.block 0)) same
-        (subst (IsLeastStep a care at.steps) (sym (get_or-set_same counts at.block k 0 (let w = loop.within in omega arith))) least)
+        subst (λ (x : LoopSteps). IsLeastStep a care (steps_under a x) (slice_index_or (set counts at.block k) x.block 0)) same
+        (subst (IsLeastStep a care (steps_under a at)) (sym (get_or-set_same counts at.block k 0 (let w = loop.within in omega arith))) least)
 
 pub counting-end : (a : Arena) (blocks : Blocks) (care : Node) (found : List LoopSteps) (i : ℕ) (counts : SweepCounts) → length found ≤ i → IsCounting a blocks care found i counts.per_block → AreCountsOf a blocks care found counts
 counting-end a blocks care found i counts all is = record {
@@ -190,3 +193,33 @@ IsLeastStep-back {s} {t} {care} steps width k keeps cared nodes widths is =
       agrees = AgreeOn-back (step_at steps k) (last_step steps) keeps cared (nodes k [] is.within) (nodes (length steps - 1) [] (omega arith)) (widths k [] is.within ∙ sym wl) is.agrees;
       least = λ j less agrees. is.least j less (AgreeOn-forth (step_at steps j) (last_step steps) keeps cared (nodes j [] less) (nodes (length steps - 1) [] (omega arith)) (widths j [] less ∙ sym wl) agrees);
     }
+
+-- ---- the steps of a loop under their roots
+
+pub loop-nodes : (a : Arena) → IsLawful a → (loop : LoopSteps) → All (All (AreKept a)) loop.steps → All (All (AreNodes a)) (steps_under a loop)
+loop-nodes a laws loop keys =
+    All-map (All (AreNodes a)) (map (rails_under a)) loop.steps (λ k none less.
+    All-map (AreNodes a) (rails_under a) (get_or loop.steps k none) (λ i none2 inside. let is = keys k none less i none2 inside in
+    record { one = under-node a laws (get_or (get_or loop.steps k none) i none2).one is.one; zero = under-node a laws (get_or (get_or loop.steps k none) i none2).zero is.zero }))
+
+pub loop-widths : (a : Arena) (loop : LoopSteps) → All (λ step. length step ≡ length loop.cuts) loop.steps → All (λ step. length step ≡ length loop.cuts) (steps_under a loop)
+loop-widths a loop widths =
+    All-map (λ step. length step ≡ length loop.cuts) (map (rails_under a)) loop.steps (λ k none less. length-map {B = Rails} (get_or loop.steps k none) (rails_under a) ∙ widths k none less)
+
+module _ {s t : Arena} {care : Node} (laws : IsLawful s) (cared : IsNodeOf s care) (keeps : KeepsNodes s t) (loop : LoopSteps) (is : AreCountable s care loop) where
+  pub same-steps : steps_under t loop ≡ steps_under s loop
+  same-steps = lists_under-same keeps loop.steps is.keys
+
+  -- a least number is one at the roots of before
+  pub least-kept : (k : ℕ) → IsLeastStep t care (steps_under t loop) k → IsLeastStep s care (steps_under s loop) k
+  least-kept k least =
+      IsLeastStep-back (steps_under s loop) (length loop.cuts) k keeps cared (loop-nodes s laws loop is.keys) (loop-widths s loop is.widths) (subst (λ (steps : List (List Rails)). IsLeastStep t care steps k) same-steps least)
+
+  pub countable-kept : AreCountable t care loop
+  countable-kept = record {
+    keys = λ k none less i none2 inside. AreKept-same keeps (get_or (get_or loop.steps k none) i none2) (is.keys k none less i none2 inside);
+    widths = is.widths;
+    some = is.some;
+    few = is.few;
+    fits = λ k least. is.fits k (least-kept k least);
+  }

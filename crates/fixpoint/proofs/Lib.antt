@@ -14,3 +14,5 @@ mod EffortLemmas
 mod LiftLemmas
 pub mod OrderLemmas
 pub mod LayoutLemmas
+pub mod KeptLemmas
+mod KeepingLemmas

@@ -1,5 +1,6 @@
 -- Gates lifted one by one, each after those that it reads.
-use Rattle.std.proofs.Common.{◌≡◌, inl, inr, ℕ, ◌+◌, ◌<◌, Bool, List, ◌++◌, length, map, get_or, replicate, refl, sym, ap, ap₂, ◌∙◌, subst, arith}
+use Rattle.std.proofs.Common.{◌≡◌, inl, inr, ℕ, ◌+◌, ◌<◌, Bool, List, ◌++◌, length, map, take, drop, get_or, replicate, refl, sym, ap, ap₂, ◌∙◌, subst, arith}
+use Rattle.std.proofs.Math.Seq.{take-append_seam}
 use Rattle.std.proofs.lemmas.Bool.{cases_lt}
 use Rattle.std.proofs.lemmas.List.{get_or_default, length-set, length-append, length-replicate, get_or_append_left, get_or-map, length-map}
 use Rattle.std.proofs.lemmas.List.Elements.{All-set, All-append, All-replicate, All-get_or}
@@ -149,3 +150,7 @@ pub lifted-end : (net : Parts) (order : List ℕ) (a : Arena) (v : Vectors) (rai
 lifted-end net order a v rails ordered is =
     values-fixed net a v rails is.wires.width is.vector is.given
     (λ n bits less. let at : HasPlace order n = place_of net order ordered n less in lifted-at is n at at.inside bits)
+
+-- what is written back to a list through a slice
+pub written : {T : Type 0} (n : ℕ) (xs ys : List T) → n ≡ length ys → length xs ≡ length ys → take n (xs ++ drop (length xs) ys) ≡ xs
+written n xs ys long same = ap (λ (m : ℕ). take m (xs ++ drop (length xs) ys)) (long ∙ sym same) ∙ take-append_seam xs (drop (length xs) ys)

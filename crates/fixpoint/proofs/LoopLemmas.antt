@@ -23,7 +23,7 @@ use Rattle.loops.specs.Sweeps.{first_gate, value_in, cuts_of, cuts as cuts_after
 use Rattle.loops.proofs.Reading.{map_agree}
 use Rattle.loops.proofs.Sweeps.{still_is_fix}
 use Rattle.loops.proofs.Told.{gate_home, home_gate, blocks_tell_loops}
-use Rattle.fixpoint.specs.declared.solved.LoopSteps.{LoopSteps}
+use Rattle.fixpoint.specs.declared.solved.SweptLoop.{SweptLoop}
 use Rattle.fixpoint.specs.Solved.{Vectors, IsLoopAt, AreStepsOf, step_at}
 use Rattle.fixpoint.specs.Sweeping.{unknown, rails_at, AreWires, IsSolvedBelow, AreFresh, CutsAre, AreSwept, OthersStay, after_sweeps}
 use Rattle.fixpoint.proofs.WireLemmas.{rails_at-proper, map-map, unknown-value}
@@ -185,7 +185,7 @@ module _ (net : Parts) (blocks : Blocks) (cut : Cut) (are : AreBlocksOf net bloc
             ];
           }
 
-      pub steps-are : (found : LoopSteps) → found.block ≡ b → found.cuts ≡ cuts → found.steps ≡ steps ++ map (rails_at before) cuts ∷ [] → AreStepsOf net blocks cut e v found
+      pub steps-are : (found : SweptLoop) → found.block ≡ b → found.cuts ≡ cuts → found.steps ≡ steps ++ map (rails_at before) cuts ∷ [] → AreStepsOf net blocks cut e v found
       steps-are found block_is cuts_is steps_is =
           let pushes = length_push steps (map (rails_at before) cuts) in
           let long : length found.steps ≡ length steps + 1 = ap length steps_is ∙ pushes in

@@ -21,7 +21,8 @@ use Rattle.loops.proofs.Sweeps.{few_sweeps_are_enough}
 use Rattle.loops.proofs.Told.{home_gate, blocks_tell_loops}
 use Rattle.fixpoint.specs.declared.solved.LoopSteps.{LoopSteps}
 use Rattle.fixpoint.specs.declared.solved.Solved.{Solved}
-use Rattle.fixpoint.specs.Solved.{Vectors, IsLoopAt, AreStepsOf, IsSolution, step_at, last_step}
+use Rattle.fixpoint.specs.declared.solved.SweptLoop.{SweptLoop}
+use Rattle.fixpoint.specs.Solved.{Vectors, IsLoopAt, AreStepsOf, IsSolution, step_at, last_step, steps_under, loop_under}
 use Rattle.fixpoint.specs.Sweeping.{unknown}
 use Rattle.fixpoint.specs.Counts.{AgreeOn, IsLeastStep, AreCountsOf, IsLeastSweeps, CountSweeps, count_at}
 use Rattle.fixpoint.proofs.CutLemmas.{one-of, zero-of}
@@ -55,7 +56,7 @@ agree-values a care xs ys xp yp len same place none less =
     }
 
 module _ (net : Parts) (blocks : Blocks) (cut : Cut) (are : AreBlocksOf net blocks) (cut_is : IsCutOf net cut) (a : Arena) (v : Vectors) (width : (bits : List Bool) → length (v bits) ≡ first_gate net)
-    (care : Node) (found : LoopSteps) (steps : AreStepsOf net blocks cut a v found) (gate : ℕ) (has : Contains (block_at blocks found.block).gates gate) where
+    (care : Node) (found : SweptLoop) (steps : AreStepsOf net blocks cut a v found) (gate : ℕ) (has : Contains (block_at blocks found.block).gates gate) where
   pub step-width : (k : ℕ) → k < length found.steps → length (step_at found.steps k) ≡ length (cuts_of net (loops_by blocks cut) gate)
   step-width k less =
       sym (length-map {B = Trit} (step_at found.steps k) (λ r. value_of a r []))
@@ -85,31 +86,28 @@ module _ (net : Parts) (blocks : Blocks) (cut : Cut) (are : AreBlocksOf net bloc
       (λ bits cared. few_sweeps_are_enough net (loops_by blocks cut) (blocks_tell_loops net blocks cut are cut_is) gate (v bits) (width bits))
 
 -- the entry of a gate's loop
-record Entry (net : Parts) (blocks : Blocks) (cut : Cut) (a : Arena) (given : List Rails) (care : Node) (counts : SweepCounts) (gate : ℕ) : Type 0 where
+record Entry (net : Parts) (blocks : Blocks) (cut : Cut) (a : Arena) (v : Vectors) (care : Node) (counts : SweepCounts) (gate : ℕ) : Type 0 where
   found : LoopSteps
   home : found.block ≡ home_of blocks gate
-  steps : AreStepsOf net blocks cut a (values_of a given) found
+  steps : AreStepsOf net blocks cut a v (loop_under a found)
   has : Contains (block_at blocks found.block).gates gate
-  least : IsLeastStep a care found.steps (count_at counts found.block)
+  least : IsLeastStep a care (steps_under a found) (count_at counts found.block)
 
 -- on a solution
-pub counts-are-sweeps : (net : Parts) (blocks : Blocks) (cut : Cut) → AreBlocksOf net blocks → IsCutOf net cut → (a : Arena) (given : List Rails) (care : Node) (solved : Solved) (counts : SweepCounts)
-    → IsSolution net blocks cut a given solved → AreCountsOf a blocks care solved.loops counts → CountSweeps net blocks cut a (values_of a given) care counts
-counts-are-sweeps net blocks cut are cut_is a given care solved counts solution is = record {
+pub counts-are-sweeps : (net : Parts) (blocks : Blocks) (cut : Cut) → AreBlocksOf net blocks → IsCutOf net cut → (a : Arena) (v : Vectors) (care : Node) (solved : Solved) (counts : SweepCounts)
+    → IsSolution net blocks cut a v solved → AreCountsOf a blocks care solved.loops counts → CountSweeps net blocks cut a v care counts
+counts-are-sweeps net blocks cut are cut_is a v care solved counts solution is = record {
   least = λ gate less looped.
       let f = at gate less looped in
-      subst (λ (b : ℕ). IsLeastSweeps net (loops_by blocks cut) a (values_of a given) care gate (count_at counts b)) f.home
-      (least-sweeps net blocks cut are cut_is a (values_of a given) width care f.found f.steps gate f.has (count_at counts f.found.block) f.least);
+      subst (λ (b : ℕ). IsLeastSweeps net (loops_by blocks cut) a v care gate (count_at counts b)) f.home
+      (least-sweeps net blocks cut are cut_is a v solution.vector care (loop_under a f.found) f.steps gate f.has (count_at counts f.found.block) f.least);
   few = λ gate less looped.
       let f = at gate less looped in
       subst (λ (b : ℕ). count_at counts b ≤ length (cuts_of net (loops_by blocks cut) gate)) f.home
-      (few-sweeps net blocks cut are cut_is a (values_of a given) width care f.found f.steps gate f.has (count_at counts f.found.block) f.least);
+      (few-sweeps net blocks cut are cut_is a v solution.vector care (loop_under a f.found) f.steps gate f.has (count_at counts f.found.block) f.least);
 }
   where
-    width : (bits : List Bool) → length (values_of a given bits) ≡ first_gate net
-    width bits = length-map {B = Trit} given (λ r. value_of a r bits) ∙ solution.width
-
-    at : (gate : ℕ) → gate < length net.gates → (block_at blocks (home_of blocks gate)).looped ≡ true → Entry net blocks cut a given care counts gate
+    at : (gate : ℕ) → gate < length net.gates → (block_at blocks (home_of blocks gate)).looped ≡ true → Entry net blocks cut a v care counts gate
     at gate less looped =
         let loop : IsLoopAt blocks (home_of blocks gate) = record { within = are.home gate less; looped = looped } in
         let c = solution.loops.each (home_of blocks gate) loop in
@@ -120,7 +118,7 @@ counts-are-sweeps net blocks cut are cut_is a given care solved counts solution 
         record {
           found = get_or solved.loops c.0 none;
           home = home;
-          steps = solution.steps c.0 none inside;
+          steps = (solution.steps c.0 none inside).steps;
           has = subst (λ (b : ℕ). Contains (block_at blocks b).gates gate) (sym home) (home_gate net blocks are gate less);
           least = is.loops c.0 none inside;
         }

@@ -1,31 +1,29 @@
 -- The loops of a solution can be counted, and a solution stays one while nodes are kept.
-use Rattle.std.proofs.Common.{◌≡◌, ◌==◌, inl, inr, ◌⊎◌, ℕ, zero, suc, ◌+◌, ◌<◌, ◌≤◌, Bool, true, false, ◌||◌, cond, List, [], ◌∷◌, length, filter, take, get_or, refl, sym, ap, ◌∙◌, subst, arith, Contains, true≢false}
+use Rattle.std.proofs.Common.{◌≡◌, ◌==◌, inl, inr, ◌⊎◌, ℕ, zero, suc, ◌+◌, ◌<◌, ◌≤◌, Bool, true, false, ◌||◌, cond, List, [], ◌∷◌, length, map, filter, take, get_or, refl, sym, ap, ◌∙◌, subst, arith, Contains, true≢false}
 use Rattle.std.proofs.lemmas.Bool.{cases_Bool, eqb-true}
-use Rattle.std.proofs.lemmas.List.{get_or_default, take_all, length-map}
+use Rattle.std.proofs.lemmas.List.{get_or_default, get_or-map, take_all, length-map}
 use Rattle.std.proofs.lemmas.List.FromFn.{length-range_with_len, get_or-range_with_len}
 use Rattle.std.proofs.lemmas.List.Sums.{sum_by-cons, sum_by_more, length-filter, count_by-le-length}
 use Rattle.std.specs.List.{All, sum_by, count_by, range_with_len}
 use Rattle.bdd_store.specs.declared.node.Node.{Node}
 use Rattle.bdd_store.specs.Arena.{Arena}
-use Rattle.cyc_base.specs.declared.trit.Trit.{Trit}
 use Rattle.dual_rail.specs.declared.rail.Rails.{Rails}
-use Rattle.dual_rail.specs.Rails.{value_of, values_of}
-use Rattle.dual_rail.proofs.SurelyLemmas.{values_of-kept, All-rails-kept}
 use Rattle.netlist.specs.declared.parts.Parts.{Parts}
-use Rattle.netlist.specs.Fixpoint.{fix}
 use Rattle.netlist.specs.Netlists.{IsNetlist}
 use Rattle.loops.specs.declared.parts.Blocks.{Blocks}
 use Rattle.loops.specs.declared.parts.Cut.{Cut}
 use Rattle.loops.specs.Blocks.{AreBlocksOf, block_at, home_of}
 use Rattle.loops.specs.Cuts.{IsCutOf, is_cut, loops_by}
-use Rattle.loops.specs.Sweeps.{first_gate, cuts_of}
+use Rattle.loops.specs.Sweeps.{cuts_of}
 use Rattle.fixpoint.specs.declared.solved.LoopSteps.{LoopSteps}
 use Rattle.fixpoint.specs.declared.solved.Solved.{Solved}
-use Rattle.fixpoint.specs.Solved.{AreStepsOf, IsSolution}
+use Rattle.fixpoint.specs.Kept.{rails_under}
+use Rattle.fixpoint.specs.Solved.{Vectors, AreStepsOf, AreKeptSteps, IsSolution, steps_under, loop_under}
 use Rattle.fixpoint.specs.Counts.{AreCountable, AreLoopsToCount}
 use Rattle.fixpoint.specs.Laws.{SolutionsCount, SolutionsStay}
 use Rattle.fixpoint.specs.Working.{total}
-use Rattle.fixpoint.proofs.BlockLemmas.{steps-same, steps-kept}
+use Rattle.fixpoint.proofs.KeptLemmas.{All-kept-stay, All-rails-stay, values-stay}
+use Rattle.fixpoint.proofs.KeepingLemmas.{steps-stay}
 use Rattle.fixpoint.proofs.BoundLemmas.{cuts-few}
 use Rattle.fixpoint.proofs.CostLemmas.{total-split}
 use Rattle.fixpoint.proofs.CutLemmas.{cuts-are}
@@ -111,38 +109,41 @@ sum-within home G (x ∷ xs) each once =
 
 -- ---- solutions
 
-module _ (net : Parts) (blocks : Blocks) (cut : Cut) (a : Arena) (given : List Rails) (solved : Solved) (valid : IsNetlist net) (are : AreBlocksOf net blocks) (cut_is : IsCutOf net cut)
-    (solution : IsSolution net blocks cut a given solved) where
-  first-gate : (found : LoopSteps) → AreStepsOf net blocks cut a (values_of a given) found → Contains (block_at blocks found.block).gates (get_or (block_at blocks found.block).gates 0 0)
+module _ (net : Parts) (blocks : Blocks) (cut : Cut) (a : Arena) (v : Vectors) (solved : Solved) (valid : IsNetlist net) (are : AreBlocksOf net blocks) (cut_is : IsCutOf net cut)
+    (solution : IsSolution net blocks cut a v solved) where
+  first-gate : (found : LoopSteps) → AreStepsOf net blocks cut a v (loop_under a found) → Contains (block_at blocks found.block).gates (get_or (block_at blocks found.block).gates 0 0)
   first-gate found steps =
       let some = are.filled found.block steps.block.within in
       (0, some, get_or_default (block_at blocks found.block).gates 0 (get_or (block_at blocks found.block).gates 0 0) 0 some)
 
-  width : (bits : List Bool) → length (values_of a given bits) ≡ first_gate net
-  width bits = length-map {B = Trit} given (λ r. value_of a r bits) ∙ solution.width
-
-  cut-count : (found : LoopSteps) → AreStepsOf net blocks cut a (values_of a given) found → length found.cuts ≡ length (filter (is_cut cut.wires) (block_at blocks found.block).gates)
+  cut-count : (found : LoopSteps) → AreStepsOf net blocks cut a v (loop_under a found) → length found.cuts ≡ length (filter (is_cut cut.wires) (block_at blocks found.block).gates)
   cut-count found steps =
       let has = first-gate found steps in
       ap length (steps.wires (get_or (block_at blocks found.block).gates 0 0) has ∙ sym (cuts-are net blocks are cut found.block steps.block (get_or (block_at blocks found.block).gates 0 0) has))
 
-  countable : (care : Node) (found : LoopSteps) → AreStepsOf net blocks cut a (values_of a given) found → AreCountable a care found
-  countable care found steps =
+  countable : (care : Node) (found : LoopSteps) → AreKeptSteps net blocks cut a v found → AreCountable a care found
+  countable care found kept =
+      let steps = kept.steps in
       let gate : ℕ = get_or (block_at blocks found.block).gates 0 0 in
       let has = first-gate found steps in
       let cuts : length found.cuts ≡ length (cuts_of net (loops_by blocks cut) gate) = ap length (steps.wires (get_or (block_at blocks found.block).gates 0 0) has) in
+      let long : length (steps_under a found) ≡ length found.steps = length-map {B = List Rails} found.steps (map (rails_under a)) in
+      let some = steps.some in
+      let few = steps.few in
       record {
-        nodes = λ j none less i none2 inside. let r = steps.rails j none less i none2 inside in record { one = r.one; zero = r.zero };
+        keys = kept.keys;
         widths = λ j none less.
-            ap length (get_or_default found.steps j none [] less) ∙ step-width net blocks cut are cut_is a (values_of a given) width care found steps (get_or (block_at blocks found.block).gates 0 0) has j less ∙ sym cuts;
-        some = steps.some;
-        few = steps.few;
+            sym (length-map {B = Rails} (get_or found.steps j none) (rails_under a))
+            ∙ ap length (sym (get_or-map (map (rails_under a)) found.steps j none [] less))
+            ∙ step-width net blocks cut are cut_is a v solution.vector care (loop_under a found) steps (get_or (block_at blocks found.block).gates 0 0) has j (omega (arith, less, long)) ∙ sym cuts;
+        some = omega (arith, some, long);
+        few = omega (arith, few, long);
         fits = λ k least.
-            let most = few-sweeps net blocks cut are cut_is a (values_of a given) width care found steps (get_or (block_at blocks found.block).gates 0 0) has k least in
-            let few = cuts-few net blocks cut are found.block steps.block in
+            let most = few-sweeps net blocks cut are cut_is a v solution.vector care (loop_under a found) steps (get_or (block_at blocks found.block).gates 0 0) has k least in
+            let small = cuts-few net blocks cut are found.block steps.block in
             let same = cut-count found steps in
             let fits = valid.fits in
-            omega (arith, most, few, same, cuts, fits);
+            omega (arith, most, small, same, cuts, fits);
       }
 
   pub counted : (care : Node) → AreLoopsToCount a blocks care solved
@@ -152,7 +153,7 @@ module _ (net : Parts) (blocks : Blocks) (cut : Cut) (a : Arena) (given : List R
     cuts =
         let sum = sum-within (home_of blocks) (length blocks.home) solved.loops
         (λ k none less.
-        let steps = solution.steps k none less in
+        let steps = (solution.steps k none less).steps in
         let same = cut-count (get_or solved.loops k none) steps in
         let most = cuts-total net blocks cut are (get_or solved.loops k none).block steps.block.within in
         omega (arith, same, most))
@@ -162,15 +163,14 @@ module _ (net : Parts) (blocks : Blocks) (cut : Cut) (a : Arena) (given : List R
   }
 
 pub solutions-count : SolutionsCount
-solutions-count net blocks cut a given solved valid are cut_is solution care = counted net blocks cut a given solved valid are cut_is solution care
+solutions-count net blocks cut a v solved valid are cut_is solution care = counted net blocks cut a v solved valid are cut_is solution care
 
 pub solutions-stay : SolutionsStay
-solutions-stay net blocks cut old new given solved keeps proper solution =
-    let same : (bits : List Bool) → values_of old given bits ≡ values_of new given bits = λ bits. sym (values_of-kept keeps given proper bits) in
-    record {
-      width = solution.width;
-      rails = All-rails-kept keeps solved.rails solution.rails;
-      values = λ bits. values_of-kept keeps solved.rails solution.rails bits ∙ solution.values bits ∙ ap (fix net) (same bits);
-      loops = solution.loops;
-      steps = λ k none less. steps-same (values_of old given) (values_of new given) same (get_or solved.loops k none) (steps-kept keeps (get_or solved.loops k none) (solution.steps k none less));
-    }
+solutions-stay net blocks cut old new v solved stay solution = record {
+  vector = solution.vector;
+  keys = All-kept-stay stay solved.rails solution.keys;
+  rails = All-rails-stay stay solved.rails solution.keys solution.rails;
+  values = λ bits. values-stay stay solved.rails solution.keys bits ∙ solution.values bits;
+  loops = solution.loops;
+  steps = λ k none less. steps-stay stay (λ bits. refl) (get_or solved.loops k none) (solution.steps k none less);
+}

@@ -3,7 +3,8 @@ use Rattle.std.specs.Prelude.{◌≡◌, ◌<◌, ◌≤◌, ◌+◌, ◌⊎◌,
 use Rattle.std.specs.List.{sum_by}
 use Rattle.bdd_store.specs.declared.node.Node.{Node}
 use Rattle.bdd_store.specs.Arena.{Arena, den, IsNodeOf}
-use Rattle.bdd_ops.specs.Operations.{xor}
+use Rattle.bdd_store.specs.Subfunctions.{nodes}
+use Rattle.bdd_ops.specs.Operations.{xor, exclusive_or}
 use Rattle.dual_rail.specs.declared.rail.Rails.{Rails}
 use Rattle.netlist.specs.declared.parts.Parts.{Parts}
 use Rattle.loops.specs.declared.parts.Blocks.{Blocks}
@@ -14,7 +15,8 @@ use Rattle.loops.specs.Cuts.{Loops, loops_by}
 use Rattle.loops.specs.Sweeps.{cuts_of, CutsAreFixed}
 use Rattle.fixpoint.specs.declared.solved.LoopSteps.{LoopSteps}
 use Rattle.fixpoint.specs.declared.solved.Solved.{Solved}
-use Rattle.fixpoint.specs.Solved.{Vectors, step_at, last_step, HasEachLoopOnce}
+use Rattle.fixpoint.specs.Kept.{AreKept}
+use Rattle.fixpoint.specs.Solved.{Vectors, step_at, last_step, steps_under, HasEachLoopOnce}
 
 -- rails that are nodes of the diagrams
 pub record AreNodes (a : Arena) (r : Rails) : Type 0 where
@@ -40,14 +42,14 @@ pub record IsLeastStep (a : Arena) (care : Node) (steps : List (List Rails)) (k 
   pub agrees : AgreeOn a care (step_at steps k) (last_step steps)
   pub least : (j : ℕ) → j < length steps → AgreeOn a care (step_at steps j) (last_step steps) → k ≤ j
 
--- What steps of a loop have to be, so that they can be counted: nodes of the diagrams, as many rails as cut wires,
--- at least one step and at most two more than cut wires, and a least number that fits.
+-- What steps of a loop have to be, so that they can be counted: kept, as many rails as cut wires, at least one step
+-- and at most two more than cut wires, and a least number that fits.
 pub record AreCountable (a : Arena) (care : Node) (loop : LoopSteps) : Type 0 where
-  pub nodes : All (All (AreNodes a)) loop.steps
+  pub keys : All (All (AreKept a)) loop.steps
   pub widths : All (λ step. length step ≡ length loop.cuts) loop.steps
   pub some : 0 < length loop.steps
   pub few : length loop.steps ≤ length loop.cuts + 2
-  pub fits : (k : ℕ) → IsLeastStep a care loop.steps k → k ≤ 4294967295
+  pub fits : (k : ℕ) → IsLeastStep a care (steps_under a loop) k → k ≤ 4294967295
 
 -- the loops of these blocks, with at most as many cut wires together as there are gates
 pub record AreLoopsToCount (a : Arena) (blocks : Blocks) (care : Node) (solved : Solved) : Type 0 where
@@ -62,7 +64,7 @@ count_at counts b = slice_index_or counts.per_block b 0
 -- for each loop its least number, and 0 for other blocks
 pub record AreCountsOf (a : Arena) (blocks : Blocks) (care : Node) (found : List LoopSteps) (counts : SweepCounts) : Type 0 where
   pub width : length counts.per_block ≡ length blocks.list
-  pub loops : All (λ loop. IsLeastStep a care loop.steps (count_at counts loop.block)) found
+  pub loops : All (λ loop. IsLeastStep a care (steps_under a loop) (count_at counts loop.block)) found
   pub others : (b : ℕ) → (block_at blocks b).looped ≡ false → count_at counts b ≡ 0
 
 -- the least number of sweeps after which the cut wires of a gate's loop stand at the fixpoint at each vector of care
@@ -92,16 +94,20 @@ pub record IsCompared (a : Arena) (care : Node) (steps : List (List Rails)) (g :
   pub same : (bits : List Bool) → g bits ≡ den a node bits
 
 -- and of all loops
-pub record IsLoopNode (loops : List LoopSteps) (n : Node) : Type 0 where
+pub record IsLoopNode (a : Arena) (loops : List LoopSteps) (n : Node) : Type 0 where
   pub loop : LoopSteps
   pub among : Contains loops loop
-  pub node : IsStepNode loop.steps n
+  pub node : IsStepNode (steps_under a loop) n
 
 pub record IsComparedIn (a : Arena) (care : Node) (loops : List LoopSteps) (g : List Bool → Bool) : Type 0 where
   pub node : Node
-  pub of : (node ≡ care) ⊎ IsLoopNode loops node
+  pub of : (node ≡ care) ⊎ IsLoopNode a loops node
   pub same : (bits : List Bool) → g bits ≡ den a node bits
 
 -- where two nodes differ at a vector of care
 abbrev pub difference : Arena → Node → Node → Node → List Bool → Bool
 difference a care m n bits = den a care bits && xor (den a m bits) (den a n bits)
+
+-- w bounds where they differ, at a vector of care and at any
+abbrev pub BoundsDifference : Arena → Node → Node → Node → ℕ → Type 0
+BoundsDifference a care m n w = (nodes a.vars (exclusive_or a m n) ≤ w) × (nodes a.vars (difference a care m n) ≤ w)

@@ -1,11 +1,8 @@
 -- What follows of a solution, and of working lists.
-use Rattle.std.specs.Prelude.{◌≡◌, ◌<◌, ◌≤◌, ℕ, suc, ◌+◌, Bool, true, List, length, All}
+use Rattle.std.specs.Prelude.{◌≡◌, ◌<◌, ◌≤◌, ℕ, suc, ◌+◌, Bool, true, List, length}
 use Rattle.bdd_store.specs.declared.node.Node.{Node}
 use Rattle.bdd_store.specs.Arena.{Arena}
-use Rattle.bdd_store.specs.Growth.{KeepsNodes}
 use Rattle.bdd_store.specs.Subfunctions.{prefixes}
-use Rattle.dual_rail.specs.declared.rail.Rails.{Rails}
-use Rattle.dual_rail.specs.Rails.{AreRailsOf}
 use Rattle.dual_rail.specs.WorkingLists.{IsWide, is_bit}
 use Rattle.netlist.specs.declared.parts.Parts.{Parts}
 use Rattle.netlist.specs.Fixpoint.{fix}
@@ -16,20 +13,21 @@ use Rattle.loops.specs.Blocks.{AreBlocksOf}
 use Rattle.loops.specs.Cuts.{AreLoopsOf, IsCutOf, Loops}
 use Rattle.loops.specs.Sweeps.{first_gate, value_in, sweeps, cuts_of}
 use Rattle.fixpoint.specs.declared.solved.Solved.{Solved}
+use Rattle.fixpoint.specs.Kept.{RootsStay}
 use Rattle.fixpoint.specs.Solved.{Vectors, IsSolution}
 use Rattle.fixpoint.specs.Counts.{AreLoopsToCount}
 use Rattle.fixpoint.specs.Working.{IsGatePart, IsWorking, HasAlike}
 
 -- the loops of a solution are such as can be counted, on each care set
 abbrev pub SolutionsCount : Type 0
-SolutionsCount = (net : Parts) (blocks : Blocks) (cut : Cut) (a : Arena) (given : List Rails) (solved : Solved) →
-    IsNetlist net → AreBlocksOf net blocks → IsCutOf net cut → IsSolution net blocks cut a given solved →
+SolutionsCount = (net : Parts) (blocks : Blocks) (cut : Cut) (a : Arena) (v : Vectors) (solved : Solved) →
+    IsNetlist net → AreBlocksOf net blocks → IsCutOf net cut → IsSolution net blocks cut a v solved →
     (care : Node) → AreLoopsToCount a blocks care solved
 
--- a solution stays one while nodes are kept
+-- a solution stays one while roots stay
 abbrev pub SolutionsStay : Type 0
-SolutionsStay = (net : Parts) (blocks : Blocks) (cut : Cut) (old new : Arena) (given : List Rails) (solved : Solved) →
-    KeepsNodes old new → All (AreRailsOf old) given → IsSolution net blocks cut old given solved → IsSolution net blocks cut new given solved
+SolutionsStay = (net : Parts) (blocks : Blocks) (cut : Cut) (old new : Arena) (v : Vectors) (solved : Solved) →
+    RootsStay old new → IsSolution net blocks cut old v solved → IsSolution net blocks cut new v solved
 
 -- each working list has a width
 abbrev pub WorkingListsHaveWidths : Type 0

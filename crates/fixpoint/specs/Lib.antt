@@ -1,3 +1,4 @@
+pub mod Kept
 pub mod Solved
 pub mod Sweeping
 pub mod Lifting

@@ -16,8 +16,11 @@ use Rattle.loops.specs.Blocks.{AreBlocksOf, block_at, home_of}
 use Rattle.loops.specs.Cuts.{is_cut, loops_by}
 use Rattle.loops.specs.Orders.{IsOrderOf}
 use Rattle.loops.specs.Sweeps.{first_gate, gate_of, value_in, sweep, sweeps}
+use Rattle.fixpoint.specs.declared.kept.KeptRails.{KeptRails}
 use Rattle.fixpoint.specs.declared.solved.LoopSteps.{LoopSteps}
-use Rattle.fixpoint.specs.Solved.{Vectors, IsLoopAt, AreStepsOf}
+use Rattle.fixpoint.specs.declared.solved.SweptLoop.{SweptLoop}
+use Rattle.fixpoint.specs.Kept.{rails_under, values_under, AreKept}
+use Rattle.fixpoint.specs.Solved.{Vectors, IsLoopAt, AreGiven, AreStepsOf, AreKeptSteps}
 
 -- the rails of X
 abbrev pub unknown : Rails
@@ -99,6 +102,41 @@ abbrev pub after_sweeps : Parts → Blocks → Cut → Vectors → ℕ → State
 after_sweeps net blocks cut v k bits = sweeps net (loops_by blocks cut) (v bits) k
 
 -- what was found of the block at place b: the steps of a loop, or nothing of another block
-abbrev pub IsFoundAt : Parts → Blocks → Cut → Arena → Vectors → ℕ → Option LoopSteps → Type 0
+abbrev pub IsFoundAt : Parts → Blocks → Cut → Arena → Vectors → ℕ → Option SweptLoop → Type 0
 IsFoundAt net blocks cut a v b (Some steps) = AreStepsOf net blocks cut a v steps × (steps.block ≡ b)
 IsFoundAt net blocks cut a v b None = ¬ IsLoopAt blocks b
+
+-- what is kept of it
+abbrev pub IsKeptAt : Parts → Blocks → Cut → Arena → Vectors → ℕ → Option LoopSteps → Type 0
+IsKeptAt net blocks cut a v b (Some loop) = AreKeptSteps net blocks cut a v loop × (loop.block ≡ b)
+IsKeptAt net blocks cut a v b None = ¬ IsLoopAt blocks b
+
+-- the place of a gate's kept rails
+abbrev pub place_of : List (Option KeptRails) → ℕ → Option KeptRails
+place_of places n = slice_index_or places n None
+
+-- the rails at a place, or those of X where there are none
+abbrev pub rails_in : Arena → Option KeptRails → Rails
+rails_in a None = unknown
+rails_in a (Some kept) = rails_under a kept
+
+-- a place has proper rails with these values
+pub record HasValues (a : Arena) (place : Option KeptRails) (values : List Bool → Trit) : Type 0 where
+  pub kept : KeptRails
+  pub is : place ≡ Some kept
+  pub keys : AreKept a kept
+  pub proper : AreRailsOf a (rails_under a kept)
+  pub values_are : (bits : List Bool) → value_of a (rails_under a kept) bits ≡ values bits
+
+-- the gates of the blocks before place b are kept, at the fixpoint, and no others are
+pub record AreKeptBelow (net : Parts) (blocks : Blocks) (a : Arena) (v : Vectors) (b : ℕ) (places : List (Option KeptRails)) : Type 0 where
+  pub width : length places ≡ length net.gates
+  pub solved : (n : ℕ) → n < length net.gates → home_of blocks n < b → HasValues a (place_of places n) (λ bits. value_in (fix_gates net (v bits)) n)
+  pub later : (n : ℕ) → n < length net.gates → b ≤ home_of blocks n → place_of places n ≡ None
+
+-- the blocks before place b are solved at the vectors of the given rails, and their gates are kept
+pub record IsSolvedTo (net : Parts) (blocks : Blocks) (cut : Cut) (a : Arena) (given : List KeptRails) (b : ℕ) (before rails : List Rails) (places : List (Option KeptRails)) : Type 0 where
+  pub given_are : AreGiven net a given
+  pub solved : IsSolvedBelow net blocks cut a (values_under a given) b before rails
+  pub fresh : AreFresh net blocks b before
+  pub kept : AreKeptBelow net blocks a (values_under a given) b places

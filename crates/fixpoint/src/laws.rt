@@ -2,7 +2,7 @@
 
 ghost use Rattle.fixpoint.specs.Laws.{SolutionsCount, SolutionsStay, WorkingListsHaveWidths, FixIsWorking, SweepsAreWorking, GatePartsAgree};
 
-/// The loops of a solution are such as `sweeps` asks for, and a solution stays one while nodes are kept.
+/// The loops of a solution are such as `sweeps` asks for, and a solution stays one while roots stay.
 pub fn solutions()
     ensures count { SolutionsCount }
     ensures stay { SolutionsStay }

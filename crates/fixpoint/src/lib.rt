@@ -8,6 +8,7 @@
 #![tactic(auto)]
 
 mod counting;
+mod kept;
 pub mod laws;
 mod layout;
 mod lifting;
@@ -16,6 +17,7 @@ mod solving;
 mod wires;
 
 pub use counting::sweeps;
+pub use kept::{KeptRails, keep_rails, rails_of};
 pub use layout::order;
 pub use lifting::lift_gates;
 pub use loops::SweepCounts;

@@ -1,7 +1,7 @@
 //! The fixpoint of a netlist without loops, gate by gate.
 
-ghost use Rattle.std.specs.Prelude.{◌≡◌, ◌<◌, ◌*◌, ◌⊎◌, ℕ, Bool, List, length, map, All, IfOk, OnOk};
-ghost use Rattle.bdd_store.specs.Growth.{KeepsNodes, AddsAtMost, IsFullOnlyPast};
+ghost use Rattle.std.specs.Prelude.{◌≡◌, ◌<◌, ◌*◌, Bool, List, length, map, All, IfOk, OnOk};
+ghost use Rattle.bdd_store.specs.Growth.{KeepsNodes, GrowsWithin};
 ghost use Rattle.dual_rail.specs.Local.{size};
 ghost use Rattle.dual_rail.specs.Rails.{AreRailsOf, values_of};
 ghost use Rattle.dual_rail.specs.WorkingLists.{BoundsEach};
@@ -42,11 +42,7 @@ fn lift_gate(
     requires wires { AreSignalRails net.now d.old rails.old }
     ensures valid { IsNetlist net.now }
     ensures set { OnOk result (IsLifted net.now d.old d.new rails.old rails.new gate) }
-    ensures keeps { KeepsNodes d.old d.new }
-    ensures added { (w : ℕ) → BoundsGate net.now d.old rails.old gate w →
-        AddsAtMost d.old d.new (w * (2 * size (gate_at net.now gate).cover)) }
-    ensures full { (w : ℕ) → BoundsGate net.now d.old rails.old gate w →
-        result ≡ Err StoreFault.Full → HasLargeCover net.now d.old.limit ⊎ IsFullOnlyPast d.old d.new (w * (2 * size (gate_at net.now gate).cover)) }
+    ensures grows { GrowsWithin result d.old d.new (HasLargeCover net.now) (BoundsGate net.now d.old rails.old gate) (2 * size (gate_at net.now gate).cover) }
 {
     let Ok(pins) = pin_rails(alloc, rails, net.gate(gate).pins.items()) else {
         return Err(StoreFault::Memory);
@@ -69,10 +65,8 @@ fn lift_in_order(
     ensures values { (v : Vectors) → AreLifted net.now order.now d.old v 0 rails.old → OnOk result ((bits : List Bool) → values_of d.new rails.new bits ≡ fix net.now (v bits)) }
     ensures wires { OnOk result (AreSignalRails net.now d.new rails.new) }
     ensures keeps { KeepsNodes d.old d.new }
-    ensures added { (v : Vectors) (w : ℕ) → AreLifted net.now order.now d.old v 0 rails.old → BoundsEach d.old.vars (IsGatePart net.now no_loops v) w →
-        AddsAtMost d.old d.new (w * (2 * effort net.now)) }
-    ensures full { (v : Vectors) (w : ℕ) → AreLifted net.now order.now d.old v 0 rails.old → BoundsEach d.old.vars (IsGatePart net.now no_loops v) w →
-        result ≡ Err StoreFault.Full → HasLargeCover net.now d.old.limit ⊎ IsFullOnlyPast d.old d.new (w * (2 * effort net.now)) }
+    ensures grows { (v : Vectors) → AreLifted net.now order.now d.old v 0 rails.old →
+        GrowsWithin result d.old d.new (HasLargeCover net.now) (BoundsEach d.old.vars (IsGatePart net.now no_loops v)) (2 * effort net.now) }
 {
     for gate in order {
         lift_gate(alloc, d, net, rails, *gate)?;
@@ -100,11 +94,7 @@ pub fn lift_gates(
     ensures width { IfOk result (λ rails. length rails.items ≡ count net.now) }
     ensures rails { IfOk result (λ rails. All (AreRailsOf d.new) rails.items) }
     ensures values { IfOk result (λ rails. (bits : List Bool) → values_of d.new rails.items bits ≡ fix net.now (values_of d.old given.now bits)) }
-    ensures keeps { KeepsNodes d.old d.new }
-    ensures added { (w : ℕ) → BoundsEach d.old.vars (IsGatePart net.now no_loops (values_of d.old given.now)) w →
-        AddsAtMost d.old d.new (w * (2 * effort net.now)) }
-    ensures full { (w : ℕ) → BoundsEach d.old.vars (IsGatePart net.now no_loops (values_of d.old given.now)) w →
-        result ≡ Err StoreFault.Full → HasLargeCover net.now d.old.limit ⊎ IsFullOnlyPast d.old d.new (w * (2 * effort net.now)) }
+    ensures grows { GrowsWithin result d.old d.new (HasLargeCover net.now) (BoundsEach d.old.vars (IsGatePart net.now no_loops (values_of d.old given.now))) (2 * effort net.now) }
 {
     let Ok(Some(order)) = net.in_order(alloc) else {
         return Err(StoreFault::Memory);

@@ -1,7 +1,7 @@
 //! The wires of a netlist while it is solved, and the lifting of one gate.
 
-ghost use Rattle.std.specs.Prelude.{◌≡◌, ◌<◌, ◌+◌, ◌*◌, ◌++◌, ◌⊎◌, ℕ, List, Bool, length, map, replicate, All, IfOk, OnOk};
-ghost use Rattle.bdd_store.specs.Growth.{KeepsNodes, AddsAtMost, IsFullOnlyPast};
+ghost use Rattle.std.specs.Prelude.{◌≡◌, ◌<◌, ◌+◌, ◌*◌, ◌++◌, List, Bool, length, map, replicate, All, IfOk, OnOk};
+ghost use Rattle.bdd_store.specs.Growth.{GrowsWithin};
 ghost use Rattle.cover_logic.specs.Covers.{value as cover_value};
 ghost use Rattle.cover_logic.specs.Extensions.{ext};
 ghost use Rattle.dual_rail.specs.Rails.{AreRailsOf, value_of, values_of};
@@ -21,7 +21,7 @@ use netlist::Netlist;
 use std::alloc::{AllocError, Global};
 
 /// The rails of X.
-fn unknown() -> Rails
+pub(crate) fn unknown() -> Rails
     ensures { result ≡ unknown_rails }
 {
     Rails {
@@ -101,9 +101,7 @@ pub(crate) fn gate_rails(
     requires rails { All (AreRailsOf d.old) pins.now }
     ensures rails { IfOk result (AreRailsOf d.new) }
     ensures value { IfOk result (λ r. (bits : List Bool) → value_of d.new r bits ≡ ext (gate_at net.now gate).cover (values_of d.old pins.now bits)) }
-    ensures keeps { KeepsNodes d.old d.new }
-    ensures added { (w : ℕ) → BoundsEach d.old.vars (IsExtended d.old pins.now (cover_value (gate_at net.now gate).cover)) w → AddsAtMost d.old d.new (w * (2 * size (gate_at net.now gate).cover)) }
-    ensures full { (w : ℕ) → BoundsEach d.old.vars (IsExtended d.old pins.now (cover_value (gate_at net.now gate).cover)) w → result ≡ Err StoreFault.Full → HasLargeCover net.now d.old.limit ⊎ IsFullOnlyPast d.old d.new (w * (2 * size (gate_at net.now gate).cover)) }
+    ensures grows { GrowsWithin result d.old d.new (HasLargeCover net.now) (BoundsEach d.old.vars (IsExtended d.old pins.now (cover_value (gate_at net.now gate).cover))) (2 * size (gate_at net.now gate).cover) }
 {
     sizes();
     let diagram = local(alloc, &net.gate(gate).cover, d.store().limit())?;
@@ -126,11 +124,9 @@ pub(crate) fn set_gate(
     requires wires { AreWires net.now d.old before.now rails.old }
     ensures valid { IsNetlist net.now }
     ensures set { OnOk result (IsGateSet net.now cut.now d.old d.new before.now rails.old rails.new gate) }
-    ensures keeps { KeepsNodes d.old d.new }
-    ensures added { (w : ℕ) → BoundsEach d.old.vars (IsExtended d.old (map (rails_read_of net.now cut.now before.now rails.old) (gate_at net.now gate).pins) (cover_value (gate_at net.now gate).cover)) w →
-        AddsAtMost d.old d.new (w * (2 * size (gate_at net.now gate).cover)) }
-    ensures full { (w : ℕ) → BoundsEach d.old.vars (IsExtended d.old (map (rails_read_of net.now cut.now before.now rails.old) (gate_at net.now gate).pins) (cover_value (gate_at net.now gate).cover)) w →
-        result ≡ Err StoreFault.Full → HasLargeCover net.now d.old.limit ⊎ IsFullOnlyPast d.old d.new (w * (2 * size (gate_at net.now gate).cover)) }
+    ensures grows { GrowsWithin result d.old d.new (HasLargeCover net.now)
+        (BoundsEach d.old.vars (IsExtended d.old (map (rails_read_of net.now cut.now before.now rails.old) (gate_at net.now gate).pins) (cover_value (gate_at net.now gate).cover)))
+        (2 * size (gate_at net.now gate).cover) }
 {
     let Ok(pins) = pins_read(alloc, net, cut, before, rails, net.gate(gate).pins.items()) else {
         return Err(StoreFault::Memory);

@@ -1,14 +1,22 @@
-use Rattle.std.proofs.Common.{Err, ap, ◌+◌, ◌*◌, length, sym, ◌∙◌, subst, get_or, true≢false, arith}
+use Rattle.std.proofs.Common.{[], ◌∷◌, ◌+◌, ◌*◌, sym, ◌∙◌, subst, get_or, true≢false, arith}
 use Rattle.std.proofs.lemmas.List.{get_or_default}
-use Rattle.bdd_store.proofs.GrowthLemmas.{KeepsNodes-chain}
+use Rattle.bdd_store.specs.Growth.{GrowsWithin, NoOtherCause}
+use Rattle.bdd_store.proofs.GrowthLemmas.{within_then, within_moved, within_more, within_refused, within_answered}
 use Rattle.dual_rail.specs.declared.rail.Rails.{Rails}
-use Rattle.fixpoint.specs.Counts.{SameRailsOn}
+use Rattle.fixpoint.specs.Counts.{SameRailsOn, IsCompared}
 use Rattle.fixpoint.specs.Sweeping.{rails_at, unknown}
-use Rattle.bdd_store.specs.declared.fault.StoreFault.{StoreFault}
-use Rattle.bdd_store.proofs.GrowthLemmas.{added-within, added-more, full-more}
+use Rattle.dual_rail.specs.WorkingLists.{IsWide}
 use Rattle.fixpoint.proofs.CompareLemmas.{place-wide}
 use Rattle.fixpoint.proofs.CountLemmas.{SameRailsOn-back, SameRailsOn-forth, more_agree}
 use Rattle.fixpoint.proofs.counting.agree_on.Goals as goal
+use Rattle.fixpoint.proofs.counting.agree_on.Goals.{After-same_rails_on}
+
+-- the rails at the next place
+step : (c : After-same_rails_on) → GrowsWithin c.same_rails_on.result c.args.d.now c.same_rails_on.new.d NoOtherCause (IsWide c.args.d.now.vars (IsCompared c.args.d.now c.args.care (c.args.step.now ∷ c.args.last.now ∷ []))) (4 * c.loop-place.place + 4)
+step c =
+    within_then c.loop-place.invariant.grows
+    (within_moved (λ w wide. place-wide c.args.d.now c.loop-place.d c.args.care c.args.step.now c.args.last.now c.loop-place.place c.loop-place.invariant.grows.keeps c.requires.care (omega (arith, c.loop-place-test.true, c.requires.width)) c.loop-place-test.true c.requires.step c.requires.last wide)
+    c.same_rails_on.ensures.grows)
 
 pub returns-then-not-branch-clause-agree : goal.returns-then-not-branch-clause-agree
 returns-then-not-branch-clause-agree c =
@@ -17,7 +25,7 @@ returns-then-not-branch-clause-agree c =
     let width = c.requires.width in (
       λ e. absurd (true≢false (sym e)),
       λ agree. sym c.if-not-branch.true ∙ c.in_ok-same_rails_on.ensures.same.1
-          (SameRailsOn-forth c.loop-place.invariant.keeps c.requires.care (c.requires.step place unknown (omega arith)) (c.requires.last place unknown less) (agree place unknown less)),
+          (SameRailsOn-forth c.loop-place.invariant.grows.keeps c.requires.care (c.requires.step place unknown (omega arith)) (c.requires.last place unknown less) (agree place unknown less)),
     )
 
 pub loop-place-preserved : goal.loop-place-preserved
@@ -28,31 +36,21 @@ loop-place-preserved c =
     let xs = c.args.step.now in
     let ys = c.args.last.now in
     let here : SameRailsOn c.args.d.now c.args.care (rails_at xs place) (rails_at ys place) =
-    SameRailsOn-back c.loop-place.invariant.keeps c.requires.care (c.requires.step place unknown (omega arith)) (c.requires.last place unknown less) (c.in_ok-same_rails_on.ensures.same.0 c.if-not-branch.false) in
+    SameRailsOn-back c.loop-place.invariant.grows.keeps c.requires.care (c.requires.step place unknown (omega arith)) (c.requires.last place unknown less) (c.in_ok-same_rails_on.ensures.same.0 c.if-not-branch.false) in
     record {
-      keeps = KeepsNodes-chain c.loop-place.invariant.keeps c.same_rails_on.ensures.keeps;
-      added = λ w wide. added-more c.args.d.now c.loop-place.d c.same_rails_on.new.d w (4 * place) 4 (4 * (place + 1)) (omega arith) (c.loop-place.invariant.added w wide) (c.same_rails_on.ensures.added w (place-wide c.args.d.now c.loop-place.d c.args.care c.args.step.now c.args.last.now c.loop-place.place c.loop-place.invariant.keeps c.requires.care (omega (arith, c.loop-place-test.true, c.requires.width)) c.loop-place-test.true c.requires.step c.requires.last wide));
+      grows = within_more (omega arith) (within_answered (step ((goal.at.loop-place-preserved c).After-same_rails_on)));
       within = omega (arith, less);
       same = more_agree c.args.d.now c.args.care xs ys place c.loop-place.invariant.same
           (λ none. subst (λ (r : Rails). SameRailsOn c.args.d.now c.args.care r (get_or ys place none)) (get_or_default xs place unknown none (omega arith))
           (subst (λ (r : Rails). SameRailsOn c.args.d.now c.args.care (rails_at xs place) r) (get_or_default ys place unknown none less) here));
     }
 
-pub returns-in_err-same_rails_on-clause-added : goal.returns-in_err-same_rails_on-clause-added
-returns-in_err-same_rails_on-clause-added c w wide =
-    let less = c.loop-place-test.true in
-    added-more c.args.d.now c.loop-place.d c.same_rails_on.new.d w (4 * c.loop-place.place) 4 (4 * length c.args.last.now) (omega (arith, less)) (c.loop-place.invariant.added w wide) (c.same_rails_on.ensures.added w (place-wide c.args.d.now c.loop-place.d c.args.care c.args.step.now c.args.last.now c.loop-place.place c.loop-place.invariant.keeps c.requires.care (omega (arith, c.loop-place-test.true, c.requires.width)) c.loop-place-test.true c.requires.step c.requires.last wide))
+pub returns-in_err-same_rails_on-clause-grows : goal.returns-in_err-same_rails_on-clause-grows
+returns-in_err-same_rails_on-clause-grows c =
+    within_more (omega (arith, c.loop-place-test.true)) (within_refused c.in_err-same_rails_on.was c.from_residual.ensures.1 (step ((goal.at.returns-in_err-same_rails_on-clause-grows c).After-same_rails_on)))
 
-pub returns-in_err-same_rails_on-clause-full : goal.returns-in_err-same_rails_on-clause-full
-returns-in_err-same_rails_on-clause-full c w wide is_full =
-    let less = c.loop-place-test.true in
-    let refused = ap {A = StoreFault} Err (sym (rw is_full at c.from_residual.ensures.1)) in
-    full-more c.args.d.now c.loop-place.d c.same_rails_on.new.d w (4 * c.loop-place.place) 4 (4 * length c.args.last.now) (omega (arith, less)) (c.loop-place.invariant.added w wide) (c.in_err-same_rails_on.ensures.full w (place-wide c.args.d.now c.loop-place.d c.args.care c.args.step.now c.args.last.now c.loop-place.place c.loop-place.invariant.keeps c.requires.care (omega (arith, c.loop-place-test.true, c.requires.width)) c.loop-place-test.true c.requires.step c.requires.last wide) refused)
+pub returns-then-not-branch-clause-grows : goal.returns-then-not-branch-clause-grows
+returns-then-not-branch-clause-grows c = within_more (omega (arith, c.loop-place-test.true)) (within_answered (step ((goal.at.returns-then-not-branch-clause-grows c).After-same_rails_on)))
 
-pub returns-then-not-branch-clause-added : goal.returns-then-not-branch-clause-added
-returns-then-not-branch-clause-added c w wide =
-    let less = c.loop-place-test.true in
-    added-more c.args.d.now c.loop-place.d c.same_rails_on.new.d w (4 * c.loop-place.place) 4 (4 * length c.args.last.now) (omega (arith, less)) (c.loop-place.invariant.added w wide) (c.same_rails_on.ensures.added w (place-wide c.args.d.now c.loop-place.d c.args.care c.args.step.now c.args.last.now c.loop-place.place c.loop-place.invariant.keeps c.requires.care (omega (arith, c.loop-place-test.true, c.requires.width)) c.loop-place-test.true c.requires.step c.requires.last wide))
-
-pub returns-clause-added : goal.returns-clause-added
-returns-clause-added c w wide = let within = c.loop-place.invariant.within in added-within c.args.d.now c.loop-place.d w (4 * c.loop-place.place) (4 * length c.args.last.now) (omega (arith, within)) (c.loop-place.invariant.added w wide)
+pub returns-clause-grows : goal.returns-clause-grows
+returns-clause-grows c = within_more (omega (arith, c.loop-place.invariant.within)) (within_answered c.loop-place.invariant.grows)

@@ -1,5 +1,5 @@
 use Rattle.std.proofs.Common.{◌*◌, ◌<◌, ◌≤◌, ℕ, [], ◌∷◌, slice_index_or}
-use Rattle.bdd_store.specs.Growth.{KeepsNodes, AddsAtMost}
+use Rattle.bdd_store.proofs.GrowthLemmas.{HasGrown}
 use Rattle.dual_rail.specs.WorkingLists.{IsWide}
 use Rattle.dual_rail.specs.declared.rail.Rails.{Rails}
 use Rattle.fixpoint.specs.Counts.{SameRailsOn, IsCompared}
@@ -7,8 +7,7 @@ use Rattle.fixpoint.proofs.counting.agree_on.Given as goal
 
 abbrev pub invariant-loop-place : goal.invariant-loop-place
 invariant-loop-place l = record {
-  keeps : KeepsNodes l.fn.d l.d;
-  added : (w : ℕ) → IsWide l.fn.d.vars (IsCompared l.fn.d l.care (l.step ∷ l.last ∷ [])) w → AddsAtMost l.fn.d l.d (w * (4 * l.place));
+  grows : HasGrown l.fn.d l.d (IsWide l.fn.d.vars (IsCompared l.fn.d l.care (l.step ∷ l.last ∷ []))) (4 * l.place);
   within : l.place ≤ l.place-end;
   same : (place : ℕ) (none : Rails) → place < l.place → SameRailsOn l.fn.d l.care (slice_index_or l.step place none) (slice_index_or l.last place none);
 }

@@ -1,14 +1,31 @@
-use Rattle.std.proofs.Common.{Err, ap, ◌+◌, ◌*◌, ◌≡◌, ◌-◌, ◌∙◌, sym, [], length, arith, true≢false}
+use Rattle.std.proofs.Common.{ℕ, ap, ◌+◌, ◌*◌, ◌≤◌, ◌≡◌, ◌-◌, ◌∙◌, sym, [], length, arith, true≢false}
 use Rattle.std.proofs.lemmas.List.{get_or_read}
-use Rattle.bdd_store.proofs.GrowthLemmas.{KeepsNodes-chain}
+use Rattle.bdd_store.specs.Growth.{GrowsWithin, NoOtherCause}
+use Rattle.bdd_store.proofs.GrowthLemmas.{within_then, within_moved, within_more, within_refused, within_answered}
 use Rattle.fixpoint.specs.Solved.{step_at}
-use Rattle.fixpoint.specs.Counts.{IsLeastStep}
+use Rattle.fixpoint.specs.Counts.{IsLeastStep, IsCompared}
 use Rattle.std.proofs.Math.Nat.{mul-le-mul_left}
-use Rattle.bdd_store.specs.declared.fault.StoreFault.{StoreFault}
-use Rattle.bdd_store.proofs.GrowthLemmas.{added-within, added-more, full-more}
+use Rattle.dual_rail.specs.WorkingLists.{IsWide}
 use Rattle.fixpoint.proofs.CompareLemmas.{steps-wide}
 use Rattle.fixpoint.proofs.CountLemmas.{least_here, none_more, least_last}
 use Rattle.fixpoint.proofs.counting.least_step.Goals as goal
+use Rattle.fixpoint.proofs.counting.least_step.Goals.{After-agree_on}
+
+-- the next step is compared
+step : (c : After-agree_on) → GrowsWithin c.agree_on.result c.args.d.now c.agree_on.new.d NoOtherCause (IsWide c.args.d.now.vars (IsCompared c.args.d.now c.args.care c.args.steps.now)) (4 * c.args.width * c.loop-number.number + 4 * c.args.width)
+step c =
+    let less = c.loop-number-test.true in
+    let some = c.requires.some in
+    let here_is : c.items.result.now ≡ step_at c.args.steps.now c.loop-number.number = c.items.ensures ∙ get_or_read c.args.steps.now c.loop-number.number c.index-steps-number.result (omega (arith, less)) c.index-steps-number.is [] in
+    let last_is : c.items-last.result.now ≡ step_at c.args.steps.now (length c.args.steps.now - 1) = c.items-last.ensures ∙ get_or_read c.args.steps.now (length c.args.steps.now - 1) c.index-steps-end.result (omega (arith, some)) c.index-steps-end.is [] in
+    let long : length c.items-last.result.now ≡ c.args.width = ap length last_is ∙ c.requires.widths (length c.args.steps.now - 1) [] (omega (arith, some)) in
+    within_more (omega (arith, long))
+    (within_then c.loop-number.invariant.grows
+    (within_moved (λ w wide. steps-wide c.args.d.now c.loop-number.d c.args.care c.args.steps.now c.items.result.now c.items-last.result.now c.loop-number.number (length c.args.steps.now - 1) c.loop-number.invariant.grows.keeps c.requires.care c.requires.nodes
+    (omega (arith, less)) (omega (arith, some)) here_is last_is wide) c.agree_on.ensures.grows))
+
+steps-more : (width k n : ℕ) → k + 1 ≤ n → 4 * width * k + 4 * width ≤ 4 * width * n
+steps-more width k n less = let most = mul-le-mul_left {m = k + 1} {n = n} (4 * width) less in omega (arith, most)
 
 pub overflow_cast-result : goal.overflow_cast-result
 overflow_cast-result c =
@@ -16,7 +33,7 @@ overflow_cast-result c =
     let some = c.requires.some in
     let less = c.loop-number-test.true in
     let least : IsLeastStep c.args.d.now c.args.care steps c.loop-number.number =
-    least_here steps c.items.result.now c.items-last.result.now c.args.width c.loop-number.number c.loop-number.invariant.keeps c.requires.care c.requires.nodes c.requires.widths (omega arith)
+    least_here steps c.items.result.now c.items-last.result.now c.args.width c.loop-number.number c.loop-number.invariant.grows.keeps c.requires.care c.requires.nodes c.requires.widths (omega arith)
     (c.items.ensures ∙ get_or_read steps c.loop-number.number c.index-steps-number.result (omega arith) c.index-steps-number.is [])
     (c.items-last.ensures ∙ get_or_read steps (length steps - 1) c.index-steps-end.result (omega arith) c.index-steps-end.is [])
     c.loop-number.invariant.none (c.in_ok-agree_on.ensures.agree.0 c.if-branch.true) in
@@ -27,7 +44,7 @@ returns-then-branch-clause-least c =
     let steps = c.args.steps.now in
     let some = c.requires.some in
     let less = c.loop-number-test.true in
-    least_here steps c.items.result.now c.items-last.result.now c.args.width c.loop-number.number c.loop-number.invariant.keeps c.requires.care c.requires.nodes c.requires.widths (omega arith)
+    least_here steps c.items.result.now c.items-last.result.now c.args.width c.loop-number.number c.loop-number.invariant.grows.keeps c.requires.care c.requires.nodes c.requires.widths (omega arith)
     (c.items.ensures ∙ get_or_read steps c.loop-number.number c.index-steps-number.result (omega arith) c.index-steps-number.is [])
     (c.items-last.ensures ∙ get_or_read steps (length steps - 1) c.index-steps-end.result (omega arith) c.index-steps-end.is [])
     c.loop-number.invariant.none (c.in_ok-agree_on.ensures.agree.0 c.if-branch.true)
@@ -38,13 +55,9 @@ loop-number-preserved c =
     let some = c.requires.some in
     let less = c.loop-number-test.true in
     record {
-      keeps = KeepsNodes-chain c.loop-number.invariant.keeps c.agree_on.ensures.keeps;
+      grows = within_more (omega arith) (within_answered (step ((goal.at.loop-number-preserved c).After-agree_on)));
       within = omega arith;
-      added = λ w wide.
-          let last_is : c.items-last.result.now ≡ step_at c.args.steps.now (length c.args.steps.now - 1) = (c.items-last.ensures ∙ get_or_read c.args.steps.now (length c.args.steps.now - 1) c.index-steps-end.result (omega (arith, c.requires.some)) c.index-steps-end.is []) in
-          let long : length c.items-last.result.now ≡ c.args.width = ap length last_is ∙ c.requires.widths (length c.args.steps.now - 1) [] (omega (arith, some)) in
-          added-more c.args.d.now c.loop-number.d c.agree_on.new.d w (4 * c.args.width * c.loop-number.number) (4 * length c.items-last.result.now) (4 * c.args.width * (c.loop-number.number + 1)) (omega (arith, long)) (c.loop-number.invariant.added w wide) (c.agree_on.ensures.added w (steps-wide c.args.d.now c.loop-number.d c.args.care c.args.steps.now c.items.result.now c.items-last.result.now c.loop-number.number (length c.args.steps.now - 1) c.loop-number.invariant.keeps c.requires.care c.requires.nodes (omega (arith, c.loop-number-test.true)) (omega (arith, c.requires.some)) (c.items.ensures ∙ get_or_read c.args.steps.now c.loop-number.number c.index-steps-number.result (omega (arith, c.loop-number-test.true)) c.index-steps-number.is []) (c.items-last.ensures ∙ get_or_read c.args.steps.now (length c.args.steps.now - 1) c.index-steps-end.result (omega (arith, c.requires.some)) c.index-steps-end.is []) wide));
-      none = none_more steps c.items.result.now c.items-last.result.now c.args.width c.loop-number.number c.loop-number.invariant.keeps c.requires.care c.requires.nodes c.requires.widths (omega arith)
+      none = none_more steps c.items.result.now c.items-last.result.now c.args.width c.loop-number.number c.loop-number.invariant.grows.keeps c.requires.care c.requires.nodes c.requires.widths (omega arith)
           (c.items.ensures ∙ get_or_read steps c.loop-number.number c.index-steps-number.result (omega arith) c.index-steps-number.is [])
           (c.items-last.ensures ∙ get_or_read steps (length steps - 1) c.index-steps-end.result (omega arith) c.index-steps-end.is [])
           c.loop-number.invariant.none (λ agree. true≢false (sym (c.in_ok-agree_on.ensures.agree.1 agree) ∙ c.if-branch.false));
@@ -59,32 +72,18 @@ overflow_cast-result-2 c =
     least_last c.args.d.now c.args.care c.args.steps.now (length c.args.steps.now - 1) c.requires.some (omega arith) (λ j less. c.loop-number.invariant.none j (omega arith)) in
     omega (arith, c.requires.fits (length c.args.steps.now - 1) least)
 
-pub returns-in_err-agree_on-clause-added : goal.returns-in_err-agree_on-clause-added
-returns-in_err-agree_on-clause-added c w wide =
+pub returns-in_err-agree_on-clause-grows : goal.returns-in_err-agree_on-clause-grows
+returns-in_err-agree_on-clause-grows c =
     let less = c.loop-number-test.true in
-    let some = c.requires.some in
-    let last_is : c.items-last.result.now ≡ step_at c.args.steps.now (length c.args.steps.now - 1) = (c.items-last.ensures ∙ get_or_read c.args.steps.now (length c.args.steps.now - 1) c.index-steps-end.result (omega (arith, c.requires.some)) c.index-steps-end.is []) in
-    let long : length c.items-last.result.now ≡ c.args.width = ap length last_is ∙ c.requires.widths (length c.args.steps.now - 1) [] (omega (arith, some)) in
-    added-more c.args.d.now c.loop-number.d c.agree_on.new.d w (4 * c.args.width * c.loop-number.number) (4 * length c.items-last.result.now) (4 * c.args.width * length c.args.steps.now) (omega (arith, long, mul-le-mul_left {m = c.loop-number.number + 1} {n = length c.args.steps.now} (4 * c.args.width) (omega (arith, less)))) (c.loop-number.invariant.added w wide) (c.agree_on.ensures.added w (steps-wide c.args.d.now c.loop-number.d c.args.care c.args.steps.now c.items.result.now c.items-last.result.now c.loop-number.number (length c.args.steps.now - 1) c.loop-number.invariant.keeps c.requires.care c.requires.nodes (omega (arith, c.loop-number-test.true)) (omega (arith, c.requires.some)) (c.items.ensures ∙ get_or_read c.args.steps.now c.loop-number.number c.index-steps-number.result (omega (arith, c.loop-number-test.true)) c.index-steps-number.is []) (c.items-last.ensures ∙ get_or_read c.args.steps.now (length c.args.steps.now - 1) c.index-steps-end.result (omega (arith, c.requires.some)) c.index-steps-end.is []) wide))
+    within_more (steps-more c.args.width c.loop-number.number (length c.args.steps.now) (omega (arith, less, c.requires.some)))
+    (within_refused c.in_err-agree_on.was c.from_residual.ensures.1 (step ((goal.at.returns-in_err-agree_on-clause-grows c).After-agree_on)))
 
-pub returns-in_err-agree_on-clause-full : goal.returns-in_err-agree_on-clause-full
-returns-in_err-agree_on-clause-full c w wide is_full =
+pub returns-then-branch-clause-grows : goal.returns-then-branch-clause-grows
+returns-then-branch-clause-grows c =
     let less = c.loop-number-test.true in
-    let some = c.requires.some in
-    let last_is : c.items-last.result.now ≡ step_at c.args.steps.now (length c.args.steps.now - 1) = (c.items-last.ensures ∙ get_or_read c.args.steps.now (length c.args.steps.now - 1) c.index-steps-end.result (omega (arith, c.requires.some)) c.index-steps-end.is []) in
-    let long : length c.items-last.result.now ≡ c.args.width = ap length last_is ∙ c.requires.widths (length c.args.steps.now - 1) [] (omega (arith, some)) in
-    let refused = ap {A = StoreFault} Err (sym (rw is_full at c.from_residual.ensures.1)) in
-    full-more c.args.d.now c.loop-number.d c.agree_on.new.d w (4 * c.args.width * c.loop-number.number) (4 * length c.items-last.result.now) (4 * c.args.width * length c.args.steps.now) (omega (arith, long, mul-le-mul_left {m = c.loop-number.number + 1} {n = length c.args.steps.now} (4 * c.args.width) (omega (arith, less)))) (c.loop-number.invariant.added w wide) (c.in_err-agree_on.ensures.full w (steps-wide c.args.d.now c.loop-number.d c.args.care c.args.steps.now c.items.result.now c.items-last.result.now c.loop-number.number (length c.args.steps.now - 1) c.loop-number.invariant.keeps c.requires.care c.requires.nodes (omega (arith, c.loop-number-test.true)) (omega (arith, c.requires.some)) (c.items.ensures ∙ get_or_read c.args.steps.now c.loop-number.number c.index-steps-number.result (omega (arith, c.loop-number-test.true)) c.index-steps-number.is []) (c.items-last.ensures ∙ get_or_read c.args.steps.now (length c.args.steps.now - 1) c.index-steps-end.result (omega (arith, c.requires.some)) c.index-steps-end.is []) wide) refused)
+    within_more (steps-more c.args.width c.loop-number.number (length c.args.steps.now) (omega (arith, less, c.requires.some))) (within_answered (step ((goal.at.returns-then-branch-clause-grows c).After-agree_on)))
 
-pub returns-then-branch-clause-added : goal.returns-then-branch-clause-added
-returns-then-branch-clause-added c w wide =
-    let less = c.loop-number-test.true in
-    let some = c.requires.some in
-    let last_is : c.items-last.result.now ≡ step_at c.args.steps.now (length c.args.steps.now - 1) = (c.items-last.ensures ∙ get_or_read c.args.steps.now (length c.args.steps.now - 1) c.index-steps-end.result (omega (arith, c.requires.some)) c.index-steps-end.is []) in
-    let long : length c.items-last.result.now ≡ c.args.width = ap length last_is ∙ c.requires.widths (length c.args.steps.now - 1) [] (omega (arith, some)) in
-    added-more c.args.d.now c.loop-number.d c.agree_on.new.d w (4 * c.args.width * c.loop-number.number) (4 * length c.items-last.result.now) (4 * c.args.width * length c.args.steps.now) (omega (arith, long, mul-le-mul_left {m = c.loop-number.number + 1} {n = length c.args.steps.now} (4 * c.args.width) (omega (arith, less)))) (c.loop-number.invariant.added w wide) (c.agree_on.ensures.added w (steps-wide c.args.d.now c.loop-number.d c.args.care c.args.steps.now c.items.result.now c.items-last.result.now c.loop-number.number (length c.args.steps.now - 1) c.loop-number.invariant.keeps c.requires.care c.requires.nodes (omega (arith, c.loop-number-test.true)) (omega (arith, c.requires.some)) (c.items.ensures ∙ get_or_read c.args.steps.now c.loop-number.number c.index-steps-number.result (omega (arith, c.loop-number-test.true)) c.index-steps-number.is []) (c.items-last.ensures ∙ get_or_read c.args.steps.now (length c.args.steps.now - 1) c.index-steps-end.result (omega (arith, c.requires.some)) c.index-steps-end.is []) wide))
-
-pub returns-clause-added : goal.returns-clause-added
-returns-clause-added c w wide =
+pub returns-clause-grows : goal.returns-clause-grows
+returns-clause-grows c =
     let within = c.loop-number.invariant.within in
-    added-within c.args.d.now c.loop-number.d w (4 * c.args.width * c.loop-number.number) (4 * c.args.width * length c.args.steps.now) (mul-le-mul_left {m = c.loop-number.number} {n = length c.args.steps.now} (4 * c.args.width) (omega (arith, within))) (c.loop-number.invariant.added w wide)
+    within_more (mul-le-mul_left {m = c.loop-number.number} {n = length c.args.steps.now} (4 * c.args.width) (omega (arith, within))) (within_answered c.loop-number.invariant.grows)

@@ -1,40 +1,28 @@
-use Rattle.std.proofs.Common.{Err, sym, ap, arith}
-use Rattle.bdd_store.specs.declared.fault.StoreFault.{StoreFault}
-use Rattle.bdd_store.proofs.GrowthLemmas.{added-within, added-more, full-more, full-first}
+use Rattle.std.proofs.Common.{[], ◌∷◌, arith}
+use Rattle.bdd_store.specs.Growth.{GrowsWithin, NoOtherCause}
+use Rattle.bdd_store.proofs.GrowthLemmas.{within_then, within_moved, within_more, within_refused, within_answered}
+use Rattle.dual_rail.specs.WorkingLists.{IsWide}
+use Rattle.fixpoint.specs.Counts.{IsCompared}
 use Rattle.fixpoint.proofs.CompareLemmas.{ones-either, ones-difference, zeros-either, zeros-difference}
 use Rattle.fixpoint.proofs.counting.same_rails_on.Goals as goal
+use Rattle.fixpoint.proofs.counting.same_rails_on.Goals.{After-same_on, After-same_on-2}
 
-pub returns-clause-added : goal.returns-clause-added
-returns-clause-added c w wide =
-    added-more c.args.d.now c.same_on.new.d c.same_on-2.new.d w 2 2 4 (omega arith)
-    (c.same_on.ensures.added w (ones-either c.args.d.now c.args.care c.requires.care c.args.r c.args.s c.requires.r c.requires.s wide) (ones-difference c.args.d.now c.args.care c.requires.care c.args.r c.args.s c.requires.r c.requires.s wide))
-    (c.same_on-2.ensures.added w (zeros-either c.args.d.now c.args.care c.requires.care c.args.r c.args.s c.requires.r c.requires.s wide c.same_on.new.d c.same_on.ensures.keeps) (zeros-difference c.args.d.now c.args.care c.requires.care c.args.r c.args.s c.requires.r c.requires.s wide c.same_on.new.d c.same_on.ensures.keeps))
+ones : (c : After-same_on) → GrowsWithin c.same_on.result c.args.d.now c.same_on.new.d NoOtherCause (IsWide c.args.d.now.vars (IsCompared c.args.d.now c.args.care ((c.args.r ∷ c.args.s ∷ []) ∷ []))) 2
+ones c = within_moved (λ w wide. (ones-either c.args.d.now c.args.care c.requires.care c.args.r c.args.s c.requires.r c.requires.s wide, ones-difference c.args.d.now c.args.care c.requires.care c.args.r c.args.s c.requires.r c.requires.s wide)) c.same_on.ensures.grows
 
-pub returns-in_err-same_on-clause-added : goal.returns-in_err-same_on-clause-added
-returns-in_err-same_on-clause-added c w wide =
-    added-within c.args.d.now c.same_on.new.d w 2 4 (omega arith)
-    (c.same_on.ensures.added w (ones-either c.args.d.now c.args.care c.requires.care c.args.r c.args.s c.requires.r c.requires.s wide) (ones-difference c.args.d.now c.args.care c.requires.care c.args.r c.args.s c.requires.r c.requires.s wide))
+both : (c : After-same_on-2) → GrowsWithin c.same_on-2.result c.args.d.now c.same_on-2.new.d NoOtherCause (IsWide c.args.d.now.vars (IsCompared c.args.d.now c.args.care ((c.args.r ∷ c.args.s ∷ []) ∷ []))) 4
+both c =
+    within_then (within_moved (λ w wide. (ones-either c.args.d.now c.args.care c.requires.care c.args.r c.args.s c.requires.r c.requires.s wide, ones-difference c.args.d.now c.args.care c.requires.care c.args.r c.args.s c.requires.r c.requires.s wide)) c.same_on.ensures.grows)
+    (within_moved (λ w wide. (zeros-either c.args.d.now c.args.care c.requires.care c.args.r c.args.s c.requires.r c.requires.s wide c.same_on.new.d c.same_on.ensures.grows.keeps, zeros-difference c.args.d.now c.args.care c.requires.care c.args.r c.args.s c.requires.r c.requires.s wide c.same_on.new.d c.same_on.ensures.grows.keeps)) c.same_on-2.ensures.grows)
 
-pub returns-in_err-same_on-clause-full : goal.returns-in_err-same_on-clause-full
-returns-in_err-same_on-clause-full c w wide is_full =
-    let refused = ap {A = StoreFault} Err (sym (rw is_full at c.from_residual.ensures.1)) in
-    full-first c.args.d.now c.same_on.new.d w 2 4 (omega arith)
-    (c.in_err-same_on.ensures.full w (ones-either c.args.d.now c.args.care c.requires.care c.args.r c.args.s c.requires.r c.requires.s wide) (ones-difference c.args.d.now c.args.care c.requires.care c.args.r c.args.s c.requires.r c.requires.s wide) refused)
+pub returns-clause-grows : goal.returns-clause-grows
+returns-clause-grows c = within_answered (both ((goal.at.returns-clause-grows c).After-same_on-2))
 
-pub returns-then-not-branch-clause-added : goal.returns-then-not-branch-clause-added
-returns-then-not-branch-clause-added c w wide =
-    added-within c.args.d.now c.same_on.new.d w 2 4 (omega arith)
-    (c.same_on.ensures.added w (ones-either c.args.d.now c.args.care c.requires.care c.args.r c.args.s c.requires.r c.requires.s wide) (ones-difference c.args.d.now c.args.care c.requires.care c.args.r c.args.s c.requires.r c.requires.s wide))
+pub returns-in_err-same_on-clause-grows : goal.returns-in_err-same_on-clause-grows
+returns-in_err-same_on-clause-grows c = within_more (omega arith) (within_refused c.in_err-same_on.was c.from_residual.ensures.1 (ones ((goal.at.returns-in_err-same_on-clause-grows c).After-same_on)))
 
-pub returns-in_err-zeros-clause-added : goal.returns-in_err-zeros-clause-added
-returns-in_err-zeros-clause-added c w wide =
-    added-more c.args.d.now c.same_on.new.d c.same_on-2.new.d w 2 2 4 (omega arith)
-    (c.same_on.ensures.added w (ones-either c.args.d.now c.args.care c.requires.care c.args.r c.args.s c.requires.r c.requires.s wide) (ones-difference c.args.d.now c.args.care c.requires.care c.args.r c.args.s c.requires.r c.requires.s wide))
-    (c.same_on-2.ensures.added w (zeros-either c.args.d.now c.args.care c.requires.care c.args.r c.args.s c.requires.r c.requires.s wide c.same_on.new.d c.same_on.ensures.keeps) (zeros-difference c.args.d.now c.args.care c.requires.care c.args.r c.args.s c.requires.r c.requires.s wide c.same_on.new.d c.same_on.ensures.keeps))
+pub returns-then-not-branch-clause-grows : goal.returns-then-not-branch-clause-grows
+returns-then-not-branch-clause-grows c = within_more (omega arith) (within_answered (ones ((goal.at.returns-then-not-branch-clause-grows c).After-same_on)))
 
-pub returns-in_err-zeros-clause-full : goal.returns-in_err-zeros-clause-full
-returns-in_err-zeros-clause-full c w wide is_full =
-    let refused = ap {A = StoreFault} Err (sym (rw is_full at c.from_residual-in_err-zeros.ensures.1)) in
-    full-more c.args.d.now c.same_on.new.d c.same_on-2.new.d w 2 2 4 (omega arith)
-    (c.same_on.ensures.added w (ones-either c.args.d.now c.args.care c.requires.care c.args.r c.args.s c.requires.r c.requires.s wide) (ones-difference c.args.d.now c.args.care c.requires.care c.args.r c.args.s c.requires.r c.requires.s wide))
-    (c.in_err-zeros.ensures.full w (zeros-either c.args.d.now c.args.care c.requires.care c.args.r c.args.s c.requires.r c.requires.s wide c.same_on.new.d c.same_on.ensures.keeps) (zeros-difference c.args.d.now c.args.care c.requires.care c.args.r c.args.s c.requires.r c.requires.s wide c.same_on.new.d c.same_on.ensures.keeps) refused)
+pub returns-in_err-zeros-clause-grows : goal.returns-in_err-zeros-clause-grows
+returns-in_err-zeros-clause-grows c = within_refused c.in_err-zeros.was c.from_residual-in_err-zeros.ensures.1 (both ((goal.at.returns-in_err-zeros-clause-grows c).After-same_on-2))

@@ -1,6 +1,6 @@
-use Rattle.std.proofs.Common.{◌*◌, ◌+◌, ℕ, length, take}
+use Rattle.std.proofs.Common.{◌*◌, ◌+◌, length, take}
 use Rattle.std.specs.List.{sum_by}
-use Rattle.bdd_store.specs.Growth.{KeepsNodes, AddsAtMost}
+use Rattle.bdd_store.proofs.GrowthLemmas.{HasGrown}
 use Rattle.dual_rail.specs.WorkingLists.{IsWide}
 use Rattle.fixpoint.specs.declared.solved.LoopSteps.{LoopSteps}
 use Rattle.fixpoint.specs.Counts.{IsComparedIn}
@@ -9,7 +9,6 @@ use Rattle.fixpoint.proofs.counting.sweeps.Given as goal
 
 abbrev pub invariant-loop-found : goal.invariant-loop-found
 invariant-loop-found l = record {
-  keeps : KeepsNodes l.fn.d l.d;
-  added : (w : ℕ) → IsWide l.fn.d.vars (IsComparedIn l.fn.d l.care l.solved.loops) w → AddsAtMost l.fn.d l.d (w * (4 * (length l.blocks.home + 2) * sum_by (λ (loop : LoopSteps). length loop.cuts) (take l.found-index l.solved.loops)));
+  grows : HasGrown l.fn.d l.d (IsWide l.fn.d.vars (IsComparedIn l.fn.d l.care l.solved.loops)) (4 * (length l.blocks.home + 2) * sum_by (λ (loop : LoopSteps). length loop.cuts) (take l.found-index l.solved.loops));
   counting : IsCounting l.fn.d l.blocks l.care l.solved.loops l.found-index l.counts.items;
 }

@@ -1,5 +1,5 @@
-use Rattle.std.proofs.Common.{Err, ◌≡◌, ◌∙◌, ℕ, List, set, sym, ap, subst, arith, map}
-use Rattle.bdd_store.specs.declared.fault.StoreFault.{StoreFault}
+use Rattle.std.proofs.Common.{◌≡◌, ◌∙◌, ℕ, List, set, sym, ap, subst, arith, map}
+use Rattle.bdd_store.proofs.GrowthLemmas.{within_moved, within_refused, within_answered}
 use Rattle.cover_logic.specs.Covers.{value}
 use Rattle.cover_logic.specs.Extensions.{ext}
 use Rattle.dual_rail.specs.declared.rail.Rails.{Rails}
@@ -35,12 +35,8 @@ returns-clause-set c = record {
       (pins-values c.args.d.now (rails_of_pin c.args.rails.now) (gate_at c.args.net.now c.args.gate).pins c.deref.result.now bits (listed (goal.at.returns-clause-set c).After-gate_rails));
 }
 
-pub returns-clause-added : goal.returns-clause-added
-returns-clause-added c w bounds = c.gate_rails.ensures.added w (bounded (goal.at.returns-clause-added c).After-gate_rails w bounds)
+pub returns-clause-grows : goal.returns-clause-grows
+returns-clause-grows c = within_answered (within_moved (bounded ((goal.at.returns-clause-grows c).After-gate_rails)) c.gate_rails.ensures.grows)
 
-pub returns-in_err-made-clause-added : goal.returns-in_err-made-clause-added
-returns-in_err-made-clause-added c w bounds = c.gate_rails.ensures.added w (bounded (goal.at.returns-in_err-made-clause-added c).After-gate_rails w bounds)
-
-pub returns-in_err-made-clause-full : goal.returns-in_err-made-clause-full
-returns-in_err-made-clause-full c w bounds is_full =
-    c.in_err-made.ensures.full w (bounded (goal.at.returns-in_err-made-clause-full c).After-gate_rails w bounds) (ap {A = StoreFault} Err (sym (rw is_full at c.from_residual.ensures.1)))
+pub returns-in_err-made-clause-grows : goal.returns-in_err-made-clause-grows
+returns-in_err-made-clause-grows c = within_refused c.in_err-made.was c.from_residual.ensures.1 (within_moved (bounded ((goal.at.returns-in_err-made-clause-grows c).After-gate_rails)) c.gate_rails.ensures.grows)

@@ -1,12 +1,11 @@
-use Rattle.std.proofs.Common.{Err, ◌≡◌, ◌++◌, ◌∙◌, List, length, replicate, take, drop, sym, ap, subst}
+use Rattle.std.proofs.Common.{◌≡◌, ◌++◌, ◌∙◌, List, length, replicate, take, drop, sym, ap, subst}
 use Rattle.std.specs.List.{All}
-use Rattle.bdd_store.specs.declared.fault.StoreFault.{StoreFault}
+use Rattle.bdd_store.proofs.GrowthLemmas.{within_refused, within_answered}
 use Rattle.dual_rail.specs.declared.rail.Rails.{Rails}
 use Rattle.dual_rail.specs.Rails.{AreRailsOf, values_of}
 use Rattle.fixpoint.specs.Lifting.{AreLifted}
 use Rattle.fixpoint.specs.Sweeping.{unknown}
-use Rattle.fixpoint.proofs.BlockLemmas.{written}
-use Rattle.fixpoint.proofs.LiftLemmas.{rails-start, lifted-start}
+use Rattle.fixpoint.proofs.LiftLemmas.{rails-start, lifted-start, written}
 use Rattle.fixpoint.proofs.lifting.lift_gates.Goals as goal
 use Rattle.fixpoint.proofs.lifting.lift_gates.Goals.{After-lift_in_order}
 
@@ -38,15 +37,9 @@ returns-clause-values c bits =
     ap (λ (rails : List Rails). values_of c.lift_in_order.new.d rails bits) (given-back (goal.at.returns-clause-values c).After-lift_in_order)
     ∙ c.in_ok-lift_in_order.ensures.values (λ bs. values_of c.args.d.now c.args.given.now bs) (start (goal.at.returns-clause-values c).After-lift_in_order) bits
 
-pub returns-clause-added : goal.returns-clause-added
-returns-clause-added c w bounds =
-    c.lift_in_order.ensures.added (λ bits. values_of c.args.d.now c.args.given.now bits) w (start (goal.at.returns-clause-added c).After-lift_in_order) bounds
+pub returns-clause-grows : goal.returns-clause-grows
+returns-clause-grows c = within_answered (c.lift_in_order.ensures.grows (λ bits. values_of c.args.d.now c.args.given.now bits) (start ((goal.at.returns-clause-grows c).After-lift_in_order)))
 
-pub returns-in_err-lift_in_order-clause-added : goal.returns-in_err-lift_in_order-clause-added
-returns-in_err-lift_in_order-clause-added c w bounds =
-    c.lift_in_order.ensures.added (λ bits. values_of c.args.d.now c.args.given.now bits) w (start (goal.at.returns-in_err-lift_in_order-clause-added c).After-lift_in_order) bounds
-
-pub returns-in_err-lift_in_order-clause-full : goal.returns-in_err-lift_in_order-clause-full
-returns-in_err-lift_in_order-clause-full c w bounds is_full =
-    c.in_err-lift_in_order.ensures.full (λ bits. values_of c.args.d.now c.args.given.now bits) w (start (goal.at.returns-in_err-lift_in_order-clause-full c).After-lift_in_order) bounds
-    (ap {A = StoreFault} Err (sym (rw is_full at c.from_residual.ensures.1)))
+pub returns-in_err-lift_in_order-clause-grows : goal.returns-in_err-lift_in_order-clause-grows
+returns-in_err-lift_in_order-clause-grows c =
+    within_refused c.in_err-lift_in_order.was c.from_residual.ensures.1 (c.lift_in_order.ensures.grows (λ bits. values_of c.args.d.now c.args.given.now bits) (start ((goal.at.returns-in_err-lift_in_order-clause-grows c).After-lift_in_order)))

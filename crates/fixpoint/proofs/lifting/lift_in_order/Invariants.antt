@@ -1,5 +1,6 @@
-use Rattle.std.proofs.Common.{ℕ, ◌*◌, take}
-use Rattle.bdd_store.specs.Growth.{KeepsNodes, AddsAtMost}
+use Rattle.std.proofs.Common.{◌*◌, take}
+use Rattle.bdd_store.specs.Growth.{KeepsNodes}
+use Rattle.bdd_store.proofs.GrowthLemmas.{HasGrown}
 use Rattle.dual_rail.specs.WorkingLists.{BoundsEach}
 use Rattle.fixpoint.specs.Lifting.{AreSignalRails, AreLifted}
 use Rattle.fixpoint.specs.Solved.{Vectors}
@@ -11,6 +12,5 @@ invariant-loop-gate l = record {
   keeps : KeepsNodes l.fn.d l.d;
   wires : AreSignalRails l.net l.d l.rails;
   lifted : (v : Vectors) → AreLifted l.net l.order l.fn.d v 0 l.fn.rails → AreLifted l.net l.order l.d v l.gate-index l.rails;
-  added : (v : Vectors) (w : ℕ) → AreLifted l.net l.order l.fn.d v 0 l.fn.rails → BoundsEach l.fn.d.vars (IsGatePart l.net no_loops v) w →
-      AddsAtMost l.fn.d l.d (w * (2 * order_cost l.net (take l.gate-index l.order)));
+  grows : (v : Vectors) → AreLifted l.net l.order l.fn.d v 0 l.fn.rails → HasGrown l.fn.d l.d (BoundsEach l.fn.d.vars (IsGatePart l.net no_loops v)) (2 * order_cost l.net (take l.gate-index l.order));
 }

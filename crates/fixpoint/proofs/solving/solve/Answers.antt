@@ -1,59 +1,57 @@
-use Rattle.std.proofs.Common.{Err, inl, inr, ◌≡◌, ◌∙◌, ◌++◌, List, length, replicate, sym, ap, arith}
-use Rattle.bdd_store.specs.declared.fault.StoreFault.{StoreFault}
-use Rattle.bdd_store.proofs.GrowthLemmas.{KeepsNodes-refl}
-use Rattle.dual_rail.specs.Rails.{values_of}
+use Rattle.std.proofs.Common.{◌≡◌, ◌∙◌, ◌+◌, ◌*◌, ◌++◌, List, length, sym, ap, subst}
+use Rattle.std.specs.List.{All, flat_map}
+use Rattle.std.specs.Option.{option_to_list}
+use Rattle.std.proofs.Common.{Option}
 use Rattle.dual_rail.specs.WorkingLists.{IsWide}
 use Rattle.loops.specs.Cuts.{loops_by}
-use Rattle.fixpoint.specs.Working.{IsWorking}
-use Rattle.fixpoint.proofs.BoundLemmas.{wide-same, given-vectors}
-use Rattle.dual_rail.specs.declared.rail.Rails.{Rails}
-use Rattle.fixpoint.specs.Sweeping.{unknown, vectors}
-use Rattle.fixpoint.proofs.BlockLemmas.{solved-start, fresh-start, written, solution-end}
+use Rattle.bdd_store.specs.Growth.{AddsWithin}
+use Rattle.bdd_store.proofs.GrowthLemmas.{adds_refused, adds_swept}
+use Rattle.fixpoint.specs.declared.kept.KeptRails.{KeptRails}
+use Rattle.fixpoint.specs.Kept.{values_under}
+use Rattle.fixpoint.specs.Solved.{AreGiven, AreKeptSteps}
+use Rattle.fixpoint.specs.Sweeping.{AreKeptBelow}
+use Rattle.fixpoint.specs.Working.{IsWorking, HasLargeCover, effort}
+use Rattle.fixpoint.proofs.KeptLemmas.{RootsStay-chain, adds_lacking}
+use Rattle.fixpoint.proofs.KeepingLemmas.{solution-is}
+use Rattle.fixpoint.proofs.LiftLemmas.{written}
 use Rattle.fixpoint.proofs.solving.solve.Goals as goal
+use Rattle.fixpoint.proofs.solving.solve.Goals.{After-solve_gates}
 
-pub solve_blocks-requires-clause-solved : goal.solve_blocks-requires-clause-solved
-solve_blocks-requires-clause-solved c =
-    let before : c.deref_mut.result.now ≡ replicate (length c.args.net.now.gates) unknown = c.deref_mut.ensures.value ∙ c.in-Ok.ensures ∙ ap (λ n. replicate n unknown) c.gates.ensures.gates in
-    let rails : c.deref_mut-2.result.now ≡ c.args.given.now ++ c.deref_mut.result.now = c.deref_mut-2.ensures.value ∙ c.in-Ok-wires.ensures ∙ ap (λ (xs : List Rails). c.args.given.now ++ xs) (c.deref.ensures.value ∙ sym c.deref_mut.ensures.value) in
-    solved-start c.args.net.now c.args.blocks.now c.args.cut.now c.args.d.now c.args.given.now c.deref_mut.result.now c.deref_mut-2.result.now c.requires.width c.requires.rails before rails
+pub solve_gates-requires-clause-given : goal.solve_gates-requires-clause-given
+solve_gates-requires-clause-given c = subst (AreGiven c.args.net.now c.args.d.now) (sym c.deref.ensures.value) c.requires.given
 
-pub solve_blocks-requires-clause-fresh : goal.solve_blocks-requires-clause-fresh
-solve_blocks-requires-clause-fresh c =
-    fresh-start c.args.net.now c.args.blocks.now c.deref_mut.result.now (c.deref_mut.ensures.value ∙ c.in-Ok.ensures ∙ ap (λ n. replicate n unknown) c.gates.ensures.gates)
+-- what the blocks add, by the given rails as they were handed in
+block-adds : (c : After-solve_gates) → AddsWithin c.solve_gates.result c.args.d.now c.solve_gates.new.d (HasLargeCover c.args.net.now)
+    (IsWide c.args.d.now.vars (IsWorking c.args.net.now (loops_by c.args.blocks.now c.args.cut.now) (values_under c.args.d.now c.args.given.items))) (10 * (length c.args.net.now.gates + 2) * effort c.args.net.now)
+block-adds c =
+    subst (λ (given : List KeptRails). AddsWithin c.solve_gates.result c.args.d.now c.solve_gates.new.d (HasLargeCover c.args.net.now)
+    (IsWide c.args.d.now.vars (IsWorking c.args.net.now (loops_by c.args.blocks.now c.args.cut.now) (values_under c.args.d.now given))) (10 * (length c.args.net.now.gates + 2) * effort c.args.net.now)) c.deref.ensures.value c.solve_gates.ensures.adds
+
+pub returns-in_err-loops-clause-adds : goal.returns-in_err-loops-clause-adds
+returns-in_err-loops-clause-adds c = adds_refused c.in_err-loops.was c.from_residual-in_err-loops.ensures.1 (block-adds ((goal.at.returns-in_err-loops-clause-adds c).After-solve_gates))
+
+pub returns-in_err-hand_out-clause-adds : goal.returns-in_err-hand_out-clause-adds
+returns-in_err-hand_out-clause-adds c = adds_lacking c.from_residual-in_err-hand_out.ensures.1 c.hand_out.ensures.fewer (block-adds ((goal.at.returns-in_err-hand_out-clause-adds c).After-solve_gates))
+
+pub returns-clause-adds : goal.returns-clause-adds
+returns-clause-adds c = adds_swept c.hand_out.ensures.fewer (block-adds ((goal.at.returns-clause-adds c).After-solve_gates))
+
+pub returns-in_err-hand_out-clause-roots : goal.returns-in_err-hand_out-clause-roots
+returns-in_err-hand_out-clause-roots c = RootsStay-chain c.solve_gates.ensures.roots c.hand_out.ensures.roots
+
+pub returns-clause-roots : goal.returns-clause-roots
+returns-clause-roots c = RootsStay-chain c.solve_gates.ensures.roots c.hand_out.ensures.roots
 
 pub returns-clause-solution : goal.returns-clause-solution
 returns-clause-solution c =
-    let rails : c.deref_mut-2.result.now ≡ c.args.given.now ++ c.deref_mut.result.now = c.deref_mut-2.ensures.value ∙ c.in-Ok-wires.ensures ∙ ap (λ (xs : List Rails). c.args.given.now ++ xs) (c.deref.ensures.value ∙ sym c.deref_mut.ensures.value) in
-    let long : c.in-Ok-wires.rails.len ≡ length c.in-Ok-wires.rails.items = sym c.deref_mut-2.ensures.len ∙ ap length c.deref_mut-2.ensures.value in
-    let same : length c.solve_blocks.new.rails ≡ length c.in-Ok-wires.rails.items = c.solve_blocks.auto.rails ∙ ap length c.deref_mut-2.ensures.value in
-    solution-end c.args.net.now c.args.blocks.now c.args.cut.now c.args.d.now c.solve_blocks.new.d c.args.given.now c.deref_mut.result.now c.deref_mut-2.result.now c.solve_blocks.new.before c.solve_blocks.new.rails c.in_ok-loops.loops.items
-    (record { rails = c.of.result; loops = c.of-2.result }) c.requires.blocks c.solve_blocks.ensures.keeps c.requires.rails c.requires.width rails c.in_ok-loops.ensures.solved c.in_ok-loops.ensures.loops c.in_ok-loops.ensures.steps
-    (c.of.ensures ∙ written c.in-Ok-wires.rails.len c.solve_blocks.new.rails c.in-Ok-wires.rails.items long same) c.of-2.ensures
-
-pub returns-clause-added : goal.returns-clause-added
-returns-clause-added c w wide =
-    let rails : c.deref_mut-2.result.now ≡ c.args.given.now ++ c.deref_mut.result.now = c.deref_mut-2.ensures.value ∙ c.in-Ok-wires.ensures ∙ ap (λ (xs : List Rails). c.args.given.now ++ xs) (c.deref.ensures.value ∙ sym c.deref_mut.ensures.value) in
-    let wide2 : IsWide c.args.d.now.vars (IsWorking c.args.net.now (loops_by c.args.blocks.now c.args.cut.now) (vectors c.args.net.now c.args.d.now c.deref_mut-2.result.now)) w =
-    wide-same c.args.net.now (loops_by c.args.blocks.now c.args.cut.now) (vectors c.args.net.now c.args.d.now c.deref_mut-2.result.now) (values_of c.args.d.now c.args.given.now) c.args.d.now c.args.d.now (KeepsNodes-refl c.args.d.now)
-    (given-vectors c.args.net.now c.args.d.now c.args.given.now c.deref_mut.result.now c.deref_mut-2.result.now c.requires.width rails) wide in
-    omega (arith, c.solve_blocks.ensures.added w wide2)
-
-pub returns-in_err-loops-clause-added : goal.returns-in_err-loops-clause-added
-returns-in_err-loops-clause-added c w wide =
-    let rails : c.deref_mut-2.result.now ≡ c.args.given.now ++ c.deref_mut.result.now = c.deref_mut-2.ensures.value ∙ c.in-Ok-wires.ensures ∙ ap (λ (xs : List Rails). c.args.given.now ++ xs) (c.deref.ensures.value ∙ sym c.deref_mut.ensures.value) in
-    let wide2 : IsWide c.args.d.now.vars (IsWorking c.args.net.now (loops_by c.args.blocks.now c.args.cut.now) (vectors c.args.net.now c.args.d.now c.deref_mut-2.result.now)) w =
-    wide-same c.args.net.now (loops_by c.args.blocks.now c.args.cut.now) (vectors c.args.net.now c.args.d.now c.deref_mut-2.result.now) (values_of c.args.d.now c.args.given.now) c.args.d.now c.args.d.now (KeepsNodes-refl c.args.d.now)
-    (given-vectors c.args.net.now c.args.d.now c.args.given.now c.deref_mut.result.now c.deref_mut-2.result.now c.requires.width rails) wide in
-    omega (arith, c.solve_blocks.ensures.added w wide2)
-
-pub returns-in_err-loops-clause-full : goal.returns-in_err-loops-clause-full
-returns-in_err-loops-clause-full c w wide is_full =
-    let rails : c.deref_mut-2.result.now ≡ c.args.given.now ++ c.deref_mut.result.now = c.deref_mut-2.ensures.value ∙ c.in-Ok-wires.ensures ∙ ap (λ (xs : List Rails). c.args.given.now ++ xs) (c.deref.ensures.value ∙ sym c.deref_mut.ensures.value) in
-    let wide2 : IsWide c.args.d.now.vars (IsWorking c.args.net.now (loops_by c.args.blocks.now c.args.cut.now) (vectors c.args.net.now c.args.d.now c.deref_mut-2.result.now)) w =
-    wide-same c.args.net.now (loops_by c.args.blocks.now c.args.cut.now) (vectors c.args.net.now c.args.d.now c.deref_mut-2.result.now) (values_of c.args.d.now c.args.given.now) c.args.d.now c.args.d.now (KeepsNodes-refl c.args.d.now)
-    (given-vectors c.args.net.now c.args.d.now c.args.given.now c.deref_mut.result.now c.deref_mut-2.result.now c.requires.width rails) wide in
-    let refused = ap {A = StoreFault} Err (sym (rw is_full at c.from_residual.ensures.1)) in
-    elim (c.in_err-loops.ensures.full w wide2 refused) [
-      | inl large ↦ inl large
-      | inr full ↦ inr (record { full = full.full; past = omega (arith, full.past) })
-    ]
+    let net = c.args.net.now in
+    let blocks = c.args.blocks.now in
+    let given : List KeptRails = c.args.given.items in
+    let is : c.deref.result.now ≡ c.args.given.items = c.deref.ensures.value in
+    let back = written c.in_ok-places.places.len c.solve_gates.new.places c.in_ok-places.places.items (sym c.deref_mut.ensures.len ∙ ap length c.deref_mut.ensures.value) (c.solve_gates.auto.places ∙ ap length c.deref_mut.ensures.value) in
+    solution-is net blocks c.requires.blocks c.args.cut.now c.solve_gates.ensures.roots c.hand_out.ensures.roots c.args.given.items c.requires.given c.solve_gates.new.places
+    (subst (λ (g : List KeptRails). AreKeptBelow c.args.net.now c.args.blocks.now c.solve_gates.new.d (values_under c.solve_gates.new.d g) (length c.args.blocks.now.list) c.solve_gates.new.places) is c.in_ok-loops.ensures.kept)
+    c.in_ok-loops.loops.items c.in_ok-hand_out.field-0 c.in_ok-loops.ensures.loops
+    (subst (λ (g : List KeptRails). All (AreKeptSteps c.args.net.now c.args.blocks.now c.args.cut.now c.solve_gates.new.d (values_under c.solve_gates.new.d g)) c.in_ok-loops.loops.items) is c.in_ok-loops.ensures.steps)
+    (c.in_ok-hand_out.ensures.rails ∙ ap (λ (xs : List (Option KeptRails)). c.args.given.items ++ flat_map option_to_list xs) back)
+    c.in_ok-hand_out.ensures.loops

@@ -1,170 +1,101 @@
-use Rattle.std.proofs.Common.{Err, inl, inr, ◌*◌, ◌≤◌, ◌≡◌, ◌∙◌, ◌+◌, ℕ, Bool, List, [], ◌∷◌, ◌++◌, Some, Vec, Global, length, get_or, subst, sym, ap, arith}
-use Rattle.std.proofs.lemmas.List.Elements.{All-push}
+use Rattle.std.proofs.Common.{◌≡◌, ◌+◌, ◌*◌, ◌++◌, length, get_or, subst, sym, ap, arith}
 use Rattle.std.specs.List.{All}
-use Rattle.bdd_store.specs.declared.fault.StoreFault.{StoreFault}
+use Rattle.std.specs.Option.{option_to_list}
+use Rattle.bdd_store.specs.Soundness.{IsLawful}
+use Rattle.bdd_store.specs.Growth.{AddsWithin}
+use Rattle.bdd_store.proofs.GrowthLemmas.{adds_then, adds_more, adds_moved, adds_refused, adds_answered, adds_swept}
 use Rattle.dual_rail.specs.WorkingLists.{IsWide}
 use Rattle.loops.specs.Cuts.{loops_by}
-use Rattle.fixpoint.specs.Working.{IsWorking, block_cost, below_cost, effort}
-use Rattle.bdd_store.proofs.GrowthLemmas.{added-within, added-more, full-more}
-use Rattle.fixpoint.proofs.BoundLemmas.{large-kept, wide-same, below-next, below-all}
-use Rattle.bdd_store.proofs.GrowthLemmas.{KeepsNodes-chain}
-use Rattle.loops.specs.Blocks.{home_of}
-use Rattle.fixpoint.specs.declared.solved.LoopSteps.{LoopSteps}
-use Rattle.fixpoint.specs.Solved.{Vectors, IsLoopAt, AreStepsOf}
-use Rattle.fixpoint.specs.Sweeping.{vectors, IsFoundAt, IsSolvedBelow}
-use Rattle.fixpoint.proofs.LoopLemmas.{pushed}
-use Rattle.fixpoint.proofs.BlockLemmas.{solved-same, steps-same, steps-kept, same-vectors, first-of-block, HasLoopsBelow, loops-skip, loops-push, loops-end}
-use Rattle.fixpoint.proofs.solving.solve_blocks.Goals.{in-Some+else-is_err, in_default}
+use Rattle.fixpoint.specs.Kept.{values_under, RootsStay}
+use Rattle.fixpoint.specs.Solved.{AreKeptSteps}
+use Rattle.fixpoint.specs.Sweeping.{IsKeptAt}
+use Rattle.fixpoint.specs.Working.{IsWorking, HasLargeCover, below_cost}
+use Rattle.fixpoint.proofs.BlockLemmas.{HasLoopsBelow, loops-start, loops-end}
+use Rattle.fixpoint.proofs.BoundLemmas.{wide-same, below-next, below-all}
+use Rattle.fixpoint.proofs.KeptLemmas.{RootsStay-refl, RootsStay-chain, values-stay, adds_lacking, nothing_added}
+use Rattle.fixpoint.proofs.KeepingLemmas.{places-kept, steps-stay, found-loops, found-steps, found-stays}
 use Rattle.fixpoint.proofs.solving.solve_blocks.Goals as goal
+use Rattle.fixpoint.proofs.solving.solve_blocks.Goals.{After-solve_and_keep}
 
-pub solve_block-requires-clause-gate : goal.solve_block-requires-clause-gate
-solve_block-requires-clause-gate c =
-    (first-of-block c.args.net.now c.args.blocks.now c.requires.blocks c.items-block-items.result.now c.loop-block.block-index c.block-item.result c.items.result.now c.items-block-items.ensures c.loop-block-test.true c.block-item.is c.items.ensures).0
+-- one block more
+step : (c : After-solve_and_keep) → AddsWithin c.solve_and_keep.result c.args.d.now c.solve_and_keep.new.d (HasLargeCover c.args.net.now) (IsWide c.args.d.now.vars (IsWorking c.args.net.now (loops_by c.args.blocks.now c.args.cut.now) (values_under c.args.d.now c.args.given.now)))
+    (2 * ((length c.args.net.now.gates + 1) * below_cost c.args.net.now c.args.blocks.now (c.loop-place.place + 1)))
+step c =
+    let inv = c.loop-place.invariant in
+    let keys = c.requires.solved.given_are.keys in
+    adds_more (below-next c.args.net.now c.args.blocks.now c.loop-place.place)
+    (adds_then inv.roots.limit inv.adds
+    (adds_moved (λ w wide. wide-same c.args.net.now (loops_by c.args.blocks.now c.args.cut.now) (values_under c.loop-place.d c.args.given.now) (values_under c.args.d.now c.args.given.now) c.args.d.now c.loop-place.d inv.roots.vars (values-stay inv.roots c.args.given.now keys) wide)
+    c.solve_and_keep.ensures.adds))
 
-pub solve_block-requires-clause-solved : goal.solve_block-requires-clause-solved
-solve_block-requires-clause-solved c =
-    let first = first-of-block c.args.net.now c.args.blocks.now c.requires.blocks c.items-block-items.result.now c.loop-block.block-index c.block-item.result c.items.result.now c.items-block-items.ensures c.loop-block-test.true c.block-item.is c.items.ensures in
-    let inv = c.loop-block.invariant in
-    subst (λ (b : ℕ). IsSolvedBelow c.args.net.now c.args.blocks.now c.args.cut.now c.loop-block.d (vectors c.args.net.now c.loop-block.d c.loop-block.rails) b c.loop-block.before c.loop-block.rails) (sym first.1)
-    (solved-same (vectors c.args.net.now c.args.d.now c.args.rails.now) (vectors c.args.net.now c.loop-block.d c.loop-block.rails)
-    (λ bits. sym (same-vectors c.args.net.now c.args.d.now c.loop-block.d c.args.rails.now c.loop-block.rails inv.keeps c.requires.solved.wires.proper inv.given bits))
-    inv.solved)
+pub loop-place-init : goal.loop-place-init
+loop-place-init c = record {
+  roots = RootsStay-refl c.args.d.now (subst IsLawful c.store.ensures c.laws.ensures);
+  adds = nothing_added;
+  solved = c.requires.solved;
+  loops = subst (HasLoopsBelow c.args.blocks.now 0) (sym c.new-loops.ensures.items) (loops-start c.args.blocks.now);
+  steps = subst (All (AreKeptSteps c.args.net.now c.args.blocks.now c.args.cut.now c.args.d.now (values_under c.args.d.now c.args.given.now))) (sym c.new-loops.ensures.items) (λ k none less. absurd (omega (arith, less)));
+}
 
-pub solve_block-requires-clause-fresh : goal.solve_block-requires-clause-fresh
-solve_block-requires-clause-fresh c n less later =
-    let first = first-of-block c.args.net.now c.args.blocks.now c.requires.blocks c.items-block-items.result.now c.loop-block.block-index c.block-item.result c.items.result.now c.items-block-items.ensures c.loop-block-test.true c.block-item.is c.items.ensures in
-    c.loop-block.invariant.fresh n less (omega (arith, later, first.1))
+pub solve_and_keep-requires-clause-place : goal.solve_and_keep-requires-clause-place
+solve_and_keep-requires-clause-place c = omega (arith, c.loop-place-test.true, ap length c.items-place-end.ensures)
 
-pub loop-block-preserved : goal.loop-block-preserved
-loop-block-preserved c =
+pub sweep_if_due-requires-clause-given : goal.sweep_if_due-requires-clause-given
+sweep_if_due-requires-clause-given c = c.in_ok-found.ensures.solved.given_are.keys
+
+pub sweep_if_due-requires-clause-places : goal.sweep_if_due-requires-clause-places
+sweep_if_due-requires-clause-places c = places-kept c.in_ok-found.ensures.solved.kept
+
+pub loop-place-preserved : goal.loop-place-preserved
+loop-place-preserved c =
     let net = c.args.net.now in
     let blocks = c.args.blocks.now in
     let cut = c.args.cut.now in
-    let b = c.loop-block.block-index in
-    let v : Vectors = vectors c.args.net.now c.args.d.now c.args.rails.now in
-    let w : Vectors = vectors c.args.net.now c.loop-block.d c.loop-block.rails in
-    let gate = get_or c.items.result.now 0 0 in
-    let first = first-of-block c.args.net.now c.args.blocks.now c.requires.blocks c.items-block-items.result.now c.loop-block.block-index c.block-item.result c.items.result.now c.items-block-items.ensures c.loop-block-test.true c.block-item.is c.items.ensures in
-    let inv = c.loop-block.invariant in
-    let same : (bits : List Bool) → vectors c.args.net.now c.loop-block.d c.loop-block.rails bits ≡ vectors c.args.net.now c.args.d.now c.args.rails.now bits =
-    same-vectors c.args.net.now c.args.d.now c.loop-block.d c.args.rails.now c.loop-block.rails inv.keeps c.requires.solved.wires.proper inv.given in
-    let found = c.in_ok-steps.ensures.steps in
+    let b = c.loop-place.place in
+    let given = c.args.given.now in
+    let inv = c.loop-place.invariant in
+    let one : RootsStay c.loop-place.d c.solve_and_keep.new.d = c.solve_and_keep.ensures.roots in
+    let two : RootsStay c.solve_and_keep.new.d c.sweep_if_due.new.d = c.sweep_if_due.ensures.roots in
+    let done = c.in_ok-found.ensures.solved in
+    let found : IsKeptAt net blocks cut c.sweep_if_due.new.d (values_under c.sweep_if_due.new.d given) b c.in_ok-found.found =
+    found-stays net blocks cut c.solve_and_keep.new.d c.sweep_if_due.new.d (values_under c.solve_and_keep.new.d given) (values_under c.sweep_if_due.new.d given) b c.in_ok-found.found two (λ bits. sym (values-stay two given done.given_are.keys bits)) c.in_ok-found.ensures.steps in
+    let whole : RootsStay c.loop-place.d c.sweep_if_due.new.d = RootsStay-chain one two in
+    let items : c.add_loop.new.loops.items ≡ c.loop-place.loops.items ++ option_to_list c.in_ok-found.found = c.in_ok-add_loop.ensures in
     record {
-      keeps = KeepsNodes-chain inv.keeps c.solve_block.ensures.keeps;
-      added = λ w2 wide.
-          let net = c.args.net.now in
-          let blocks = c.args.blocks.now in
-          let cut = c.args.cut.now in
-          let i = c.loop-block.block-index in
-          let v : Vectors = vectors c.args.net.now c.args.d.now c.args.rails.now in
-          let u : Vectors = vectors c.args.net.now c.loop-block.d c.loop-block.rails in
-          let inv = c.loop-block.invariant in
-          let first = first-of-block c.args.net.now c.args.blocks.now c.requires.blocks c.items-block-items.result.now c.loop-block.block-index c.block-item.result c.items.result.now c.items-block-items.ensures c.loop-block-test.true c.block-item.is c.items.ensures in
-          let same : (bits : List Bool) → vectors c.args.net.now c.loop-block.d c.loop-block.rails bits ≡ vectors c.args.net.now c.args.d.now c.args.rails.now bits =
-          same-vectors c.args.net.now c.args.d.now c.loop-block.d c.args.rails.now c.loop-block.rails inv.keeps c.requires.solved.wires.proper inv.given in
-          let wide2 : IsWide c.loop-block.d.vars (IsWorking net (loops_by blocks cut) u) w2 = wide-same net (loops_by blocks cut) u v c.args.d.now c.loop-block.d inv.keeps same wide in
-          let gate : ℕ = get_or c.items.result.now 0 0 in
-          let cost_same : block_cost net blocks (home_of c.args.blocks.now gate) ≡ block_cost net blocks i = ap (block_cost net blocks) first.1 in
-          let more : 2 * ((length net.gates + 1) * below_cost net blocks i) + 2 * ((length net.gates + 1) * block_cost net blocks (home_of c.args.blocks.now gate)) ≤ 2 * ((length net.gates + 1) * below_cost net blocks (i + 1)) =
-          subst (λ (x : ℕ). 2 * ((length net.gates + 1) * below_cost net blocks i) + 2 * ((length net.gates + 1) * x) ≤ 2 * ((length net.gates + 1) * below_cost net blocks (i + 1))) (sym cost_same) (below-next net blocks i) in
-          let all = below-all net blocks (i + 1) in
-          added-more c.args.d.now c.loop-block.d c.solve_block.new.d w2 (2 * ((length net.gates + 1) * below_cost net blocks i)) (2 * ((length net.gates + 1) * block_cost net blocks (home_of c.args.blocks.now gate))) (2 * ((length net.gates + 1) * below_cost net blocks (i + 1))) more (inv.added w2 wide) (c.solve_block.ensures.added w2 wide2);
-      given = c.in_ok-steps.ensures.given ∙ inv.given;
-      solved = subst (λ (m : ℕ). IsSolvedBelow c.args.net.now c.args.blocks.now c.args.cut.now c.solve_block.new.d (vectors c.args.net.now c.args.d.now c.args.rails.now) (m + 1) c.solve_block.new.before c.solve_block.new.rails) first.1
-          (solved-same w v same c.in_ok-steps.ensures.solved);
-      fresh = λ n less later. c.in_ok-steps.ensures.fresh n less (omega (arith, later, first.1));
-      loops = elim c.match-branch-2.branch [
-        | in-Some+else-is_err x ↦
-            let is : IsFoundAt c.args.net.now c.args.blocks.now c.args.cut.now c.solve_block.new.d w (home_of c.args.blocks.now (get_or c.items.result.now 0 0)) (Some x.in-Some.steps) = subst (IsFoundAt c.args.net.now c.args.blocks.now c.args.cut.now c.solve_block.new.d w (home_of c.args.blocks.now (get_or c.items.result.now 0 0))) x.in-Some.is c.in_ok-steps.ensures.steps in
-            let at : x.in-Some.steps.block ≡ b = is.1 ∙ first.1 in
-            let list : c.match-branch-2.loops.items ≡ c.loop-block.loops.items ++ x.in-Some.steps ∷ [] = ap (λ (l : Vec LoopSteps Global). l.items) x.loops-is ∙ pushed x.push.result x.push.new.self.items (c.loop-block.loops.items ++ x.in-Some.steps ∷ []) c.loop-block.loops.items x.if-is_err.ensures.value x.push.ensures.items in
-            subst (HasLoopsBelow c.args.blocks.now (c.loop-block.block-index + 1)) (sym list) (loops-push c.args.blocks.now c.loop-block.block-index c.loop-block.loops.items x.in-Some.steps (subst (IsLoopAt c.args.blocks.now) at is.0.block) at inv.loops)
-        | in_default x ↦
-            let is : ¬ IsLoopAt c.args.blocks.now (home_of c.args.blocks.now (get_or c.items.result.now 0 0)) = subst (IsFoundAt c.args.net.now c.args.blocks.now c.args.cut.now c.solve_block.new.d w (home_of c.args.blocks.now (get_or c.items.result.now 0 0))) x.in_default.is c.in_ok-steps.ensures.steps in
-            subst (HasLoopsBelow c.args.blocks.now (c.loop-block.block-index + 1)) (sym (ap (λ (l : Vec LoopSteps Global). l.items) x.loops-is)) (loops-skip c.args.blocks.now c.loop-block.block-index c.loop-block.loops.items (λ loop. is (subst (IsLoopAt c.args.blocks.now) (sym first.1) loop)) inv.loops)
-      ];
-      steps = elim c.match-branch-2.branch [
-        | in-Some+else-is_err x ↦
-            let is : IsFoundAt c.args.net.now c.args.blocks.now c.args.cut.now c.solve_block.new.d w (home_of c.args.blocks.now (get_or c.items.result.now 0 0)) (Some x.in-Some.steps) = subst (IsFoundAt c.args.net.now c.args.blocks.now c.args.cut.now c.solve_block.new.d w (home_of c.args.blocks.now (get_or c.items.result.now 0 0))) x.in-Some.is c.in_ok-steps.ensures.steps in
-            let list : c.match-branch-2.loops.items ≡ c.loop-block.loops.items ++ x.in-Some.steps ∷ [] = ap (λ (l : Vec LoopSteps Global). l.items) x.loops-is ∙ pushed x.push.result x.push.new.self.items (c.loop-block.loops.items ++ x.in-Some.steps ∷ []) c.loop-block.loops.items x.if-is_err.ensures.value x.push.ensures.items in
-            subst (All (AreStepsOf c.args.net.now c.args.blocks.now c.args.cut.now c.solve_block.new.d v)) (sym list)
-            (All-push (AreStepsOf c.args.net.now c.args.blocks.now c.args.cut.now c.solve_block.new.d v) c.loop-block.loops.items x.in-Some.steps
-            (λ k none less. steps-kept c.solve_block.ensures.keeps (get_or c.loop-block.loops.items k none) (inv.steps k none less)) (steps-same w v same x.in-Some.steps is.0))
-        | in_default x ↦
-            subst (All (AreStepsOf c.args.net.now c.args.blocks.now c.args.cut.now c.solve_block.new.d v)) (sym (ap (λ (l : Vec LoopSteps Global). l.items) x.loops-is))
-            (λ k none less. steps-kept c.solve_block.ensures.keeps (get_or c.loop-block.loops.items k none) (inv.steps k none less))
-      ];
+      roots = RootsStay-chain inv.roots whole;
+      adds = adds_swept c.sweep_if_due.ensures.fewer (step ((goal.at.loop-place-preserved c).After-solve_and_keep));
+      solved = c.in_ok-left.ensures.solved net blocks cut (b + 1) done;
+      loops = subst (HasLoopsBelow blocks (b + 1)) (sym items) (found-loops net blocks cut c.sweep_if_due.new.d (values_under c.sweep_if_due.new.d given) b c.loop-place.loops.items c.in_ok-found.found found inv.loops);
+      steps = subst (All (AreKeptSteps net blocks cut c.sweep_if_due.new.d (values_under c.sweep_if_due.new.d given))) (sym items)
+          (found-steps net blocks cut c.sweep_if_due.new.d (values_under c.sweep_if_due.new.d given) b c.loop-place.loops.items c.in_ok-found.found found
+          (λ k none less. steps-stay whole (λ bits. sym (values-stay whole given inv.solved.given_are.keys bits)) (get_or c.loop-place.loops.items k none) (inv.steps k none less)));
     }
+
+pub returns-in_err-found-clause-roots : goal.returns-in_err-found-clause-roots
+returns-in_err-found-clause-roots c = RootsStay-chain c.loop-place.invariant.roots c.solve_and_keep.ensures.roots
+
+pub returns-in_err-found-clause-adds : goal.returns-in_err-found-clause-adds
+returns-in_err-found-clause-adds c =
+    adds_more (below-all c.args.net.now c.args.blocks.now (c.loop-place.place + 1)) (adds_refused c.in_err-found.was c.from_residual.ensures.1 (step ((goal.at.returns-in_err-found-clause-adds c).After-solve_and_keep)))
+
+pub returns-in_err-left-clause-roots : goal.returns-in_err-left-clause-roots
+returns-in_err-left-clause-roots c = RootsStay-chain c.loop-place.invariant.roots (RootsStay-chain c.solve_and_keep.ensures.roots c.sweep_if_due.ensures.roots)
+
+pub returns-in_err-left-clause-adds : goal.returns-in_err-left-clause-adds
+returns-in_err-left-clause-adds c =
+    adds_more (below-all c.args.net.now c.args.blocks.now (c.loop-place.place + 1)) (adds_lacking c.from_residual-in_err-left.ensures.1 c.sweep_if_due.ensures.fewer (step ((goal.at.returns-in_err-left-clause-adds c).After-solve_and_keep)))
+
+pub returns-in_err-add_loop-clause-roots : goal.returns-in_err-add_loop-clause-roots
+returns-in_err-add_loop-clause-roots c = RootsStay-chain c.loop-place.invariant.roots (RootsStay-chain c.solve_and_keep.ensures.roots c.sweep_if_due.ensures.roots)
+
+pub returns-in_err-add_loop-clause-adds : goal.returns-in_err-add_loop-clause-adds
+returns-in_err-add_loop-clause-adds c =
+    adds_more (below-all c.args.net.now c.args.blocks.now (c.loop-place.place + 1)) (adds_lacking c.from_residual-in_err-add_loop.ensures.1 c.sweep_if_due.ensures.fewer (step ((goal.at.returns-in_err-add_loop-clause-adds c).After-solve_and_keep)))
+
+pub returns-clause-adds : goal.returns-clause-adds
+returns-clause-adds c = adds_more (below-all c.args.net.now c.args.blocks.now c.loop-place.place) (adds_answered c.loop-place.invariant.adds)
 
 pub returns-clause-loops : goal.returns-clause-loops
 returns-clause-loops c =
-    let past = c.loop-block-test.false in
-    loops-end c.args.blocks.now c.loop-block.block-index c.loop-block.loops.items (omega (arith, past, ap length c.items-block-items.ensures)) c.loop-block.invariant.loops
-
-pub returns-in_err-steps-clause-added : goal.returns-in_err-steps-clause-added
-returns-in_err-steps-clause-added c w wide =
-    let net = c.args.net.now in
-    let blocks = c.args.blocks.now in
-    let cut = c.args.cut.now in
-    let i = c.loop-block.block-index in
-    let v : Vectors = vectors c.args.net.now c.args.d.now c.args.rails.now in
-    let u : Vectors = vectors c.args.net.now c.loop-block.d c.loop-block.rails in
-    let inv = c.loop-block.invariant in
-    let first = first-of-block c.args.net.now c.args.blocks.now c.requires.blocks c.items-block-items.result.now c.loop-block.block-index c.block-item.result c.items.result.now c.items-block-items.ensures c.loop-block-test.true c.block-item.is c.items.ensures in
-    let same : (bits : List Bool) → vectors c.args.net.now c.loop-block.d c.loop-block.rails bits ≡ vectors c.args.net.now c.args.d.now c.args.rails.now bits =
-    same-vectors c.args.net.now c.args.d.now c.loop-block.d c.args.rails.now c.loop-block.rails inv.keeps c.requires.solved.wires.proper inv.given in
-    let wide2 : IsWide c.loop-block.d.vars (IsWorking net (loops_by blocks cut) u) w = wide-same net (loops_by blocks cut) u v c.args.d.now c.loop-block.d inv.keeps same wide in
-    let gate : ℕ = get_or c.items.result.now 0 0 in
-    let cost_same : block_cost net blocks (home_of c.args.blocks.now gate) ≡ block_cost net blocks i = ap (block_cost net blocks) first.1 in
-    let more : 2 * ((length net.gates + 1) * below_cost net blocks i) + 2 * ((length net.gates + 1) * block_cost net blocks (home_of c.args.blocks.now gate)) ≤ 2 * ((length net.gates + 1) * below_cost net blocks (i + 1)) =
-    subst (λ (x : ℕ). 2 * ((length net.gates + 1) * below_cost net blocks i) + 2 * ((length net.gates + 1) * x) ≤ 2 * ((length net.gates + 1) * below_cost net blocks (i + 1))) (sym cost_same) (below-next net blocks i) in
-    let all = below-all net blocks (i + 1) in
-    added-more c.args.d.now c.loop-block.d c.solve_block.new.d w (2 * ((length net.gates + 1) * below_cost net blocks i)) (2 * ((length net.gates + 1) * block_cost net blocks (home_of c.args.blocks.now gate))) (2 * ((length net.gates + 1) * effort net)) (omega (arith, more, all)) (inv.added w wide) (c.solve_block.ensures.added w wide2)
-
-pub returns-then-is_err-clause-added : goal.returns-then-is_err-clause-added
-returns-then-is_err-clause-added c w wide =
-    let net = c.args.net.now in
-    let blocks = c.args.blocks.now in
-    let cut = c.args.cut.now in
-    let i = c.loop-block.block-index in
-    let v : Vectors = vectors c.args.net.now c.args.d.now c.args.rails.now in
-    let u : Vectors = vectors c.args.net.now c.loop-block.d c.loop-block.rails in
-    let inv = c.loop-block.invariant in
-    let first = first-of-block c.args.net.now c.args.blocks.now c.requires.blocks c.items-block-items.result.now c.loop-block.block-index c.block-item.result c.items.result.now c.items-block-items.ensures c.loop-block-test.true c.block-item.is c.items.ensures in
-    let same : (bits : List Bool) → vectors c.args.net.now c.loop-block.d c.loop-block.rails bits ≡ vectors c.args.net.now c.args.d.now c.args.rails.now bits =
-    same-vectors c.args.net.now c.args.d.now c.loop-block.d c.args.rails.now c.loop-block.rails inv.keeps c.requires.solved.wires.proper inv.given in
-    let wide2 : IsWide c.loop-block.d.vars (IsWorking net (loops_by blocks cut) u) w = wide-same net (loops_by blocks cut) u v c.args.d.now c.loop-block.d inv.keeps same wide in
-    let gate : ℕ = get_or c.items.result.now 0 0 in
-    let cost_same : block_cost net blocks (home_of c.args.blocks.now gate) ≡ block_cost net blocks i = ap (block_cost net blocks) first.1 in
-    let more : 2 * ((length net.gates + 1) * below_cost net blocks i) + 2 * ((length net.gates + 1) * block_cost net blocks (home_of c.args.blocks.now gate)) ≤ 2 * ((length net.gates + 1) * below_cost net blocks (i + 1)) =
-    subst (λ (x : ℕ). 2 * ((length net.gates + 1) * below_cost net blocks i) + 2 * ((length net.gates + 1) * x) ≤ 2 * ((length net.gates + 1) * below_cost net blocks (i + 1))) (sym cost_same) (below-next net blocks i) in
-    let all = below-all net blocks (i + 1) in
-    added-more c.args.d.now c.loop-block.d c.solve_block.new.d w (2 * ((length net.gates + 1) * below_cost net blocks i)) (2 * ((length net.gates + 1) * block_cost net blocks (home_of c.args.blocks.now gate))) (2 * ((length net.gates + 1) * effort net)) (omega (arith, more, all)) (inv.added w wide) (c.solve_block.ensures.added w wide2)
-
-pub returns-in_err-steps-clause-full : goal.returns-in_err-steps-clause-full
-returns-in_err-steps-clause-full c w wide is_full =
-    let net = c.args.net.now in
-    let blocks = c.args.blocks.now in
-    let cut = c.args.cut.now in
-    let i = c.loop-block.block-index in
-    let v : Vectors = vectors c.args.net.now c.args.d.now c.args.rails.now in
-    let u : Vectors = vectors c.args.net.now c.loop-block.d c.loop-block.rails in
-    let inv = c.loop-block.invariant in
-    let first = first-of-block c.args.net.now c.args.blocks.now c.requires.blocks c.items-block-items.result.now c.loop-block.block-index c.block-item.result c.items.result.now c.items-block-items.ensures c.loop-block-test.true c.block-item.is c.items.ensures in
-    let same : (bits : List Bool) → vectors c.args.net.now c.loop-block.d c.loop-block.rails bits ≡ vectors c.args.net.now c.args.d.now c.args.rails.now bits =
-    same-vectors c.args.net.now c.args.d.now c.loop-block.d c.args.rails.now c.loop-block.rails inv.keeps c.requires.solved.wires.proper inv.given in
-    let wide2 : IsWide c.loop-block.d.vars (IsWorking net (loops_by blocks cut) u) w = wide-same net (loops_by blocks cut) u v c.args.d.now c.loop-block.d inv.keeps same wide in
-    let gate : ℕ = get_or c.items.result.now 0 0 in
-    let cost_same : block_cost net blocks (home_of c.args.blocks.now gate) ≡ block_cost net blocks i = ap (block_cost net blocks) first.1 in
-    let more : 2 * ((length net.gates + 1) * below_cost net blocks i) + 2 * ((length net.gates + 1) * block_cost net blocks (home_of c.args.blocks.now gate)) ≤ 2 * ((length net.gates + 1) * below_cost net blocks (i + 1)) =
-    subst (λ (x : ℕ). 2 * ((length net.gates + 1) * below_cost net blocks i) + 2 * ((length net.gates + 1) * x) ≤ 2 * ((length net.gates + 1) * below_cost net blocks (i + 1))) (sym cost_same) (below-next net blocks i) in
-    let all = below-all net blocks (i + 1) in
-    let refused = ap {A = StoreFault} Err (sym (rw is_full at c.from_residual.ensures.1)) in
-    elim (c.in_err-steps.ensures.full w wide2 refused) [
-      | inl large ↦ inl (large-kept inv.keeps large)
-      | inr full ↦ inr (full-more c.args.d.now c.loop-block.d c.solve_block.new.d w (2 * ((length net.gates + 1) * below_cost net blocks i)) (2 * ((length net.gates + 1) * block_cost net blocks (home_of c.args.blocks.now gate))) (2 * ((length net.gates + 1) * effort net)) (omega (arith, more, all)) (inv.added w wide) full)
-    ]
-
-pub returns-clause-added : goal.returns-clause-added
-returns-clause-added c w wide =
-    added-within c.args.d.now c.loop-block.d w (2 * ((length c.args.net.now.gates + 1) * below_cost c.args.net.now c.args.blocks.now c.loop-block.block-index)) (2 * ((length c.args.net.now.gates + 1) * effort c.args.net.now)) (below-all c.args.net.now c.args.blocks.now c.loop-block.block-index) (c.loop-block.invariant.added w wide)
+    let past = c.loop-place-test.false in
+    loops-end c.args.blocks.now c.loop-place.place c.loop-place.loops.items (omega (arith, past, ap length c.items-place-end.ensures)) c.loop-place.invariant.loops

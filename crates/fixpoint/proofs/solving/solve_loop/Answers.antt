@@ -1,13 +1,11 @@
-use Rattle.std.proofs.Common.{Err, inl, inr, ◌*◌, ◌≤◌, ◌≡◌, ◌∙◌, ◌+◌, ◌-◌, ◌<◌, ℕ, List, [], ◌∷◌, ◌++◌, length, map, filter, refl, subst, sym, ap, arith, true≢false, Contains}
+use Rattle.std.proofs.Common.{◌*◌, ◌≤◌, ◌≡◌, ◌∙◌, ◌+◌, ◌-◌, ◌<◌, ℕ, List, [], ◌∷◌, ◌++◌, length, map, filter, refl, subst, sym, ap, arith, true≢false, Contains}
 use Rattle.std.proofs.lemmas.List.{length_push}
-use Rattle.bdd_store.specs.Growth.{KeepsNodes}
+use Rattle.bdd_store.specs.Growth.{KeepsNodes, GrowsWithin}
 use Rattle.bdd_store.specs.Soundness.{IsLawful}
-use Rattle.bdd_store.proofs.GrowthLemmas.{KeepsNodes-refl, KeepsNodes-chain}
-use Rattle.bdd_store.specs.declared.fault.StoreFault.{StoreFault}
+use Rattle.bdd_store.proofs.GrowthLemmas.{nothing_grown, within_then, within_moved, within_more, within_refused, within_answered, within_memory}
 use Rattle.dual_rail.specs.WorkingLists.{IsWide}
-use Rattle.fixpoint.specs.Working.{IsWorking, order_cost, block_cost}
-use Rattle.bdd_store.proofs.GrowthLemmas.{added-within, added-more, full-more}
-use Rattle.fixpoint.proofs.BoundLemmas.{large-kept, cuts-few, order-few, loop-cost}
+use Rattle.fixpoint.specs.Working.{IsWorking, HasLargeCover, order_cost, block_cost}
+use Rattle.fixpoint.proofs.BoundLemmas.{cuts-few, order-few, loop-cost}
 use Rattle.dual_rail.specs.declared.rail.Rails.{Rails}
 use Rattle.loops.specs.Blocks.{block_at, home_of}
 use Rattle.loops.specs.Cuts.{is_cut, loops_by}
@@ -18,6 +16,7 @@ use Rattle.fixpoint.specs.Sweeping.{rails_at, vectors, AreWires, IsSweepable, Ar
 use Rattle.fixpoint.proofs.CutLemmas.{block-gates, gates-within, cuts-within, order-within}
 use Rattle.fixpoint.proofs.LoopLemmas.{IsUnderway, pushed, underway-start, few-next, solved-next, steps-are, underway-next, same-given}
 use Rattle.fixpoint.proofs.solving.solve_loop.Goals as goal
+use Rattle.fixpoint.proofs.solving.solve_loop.Goals.{After-sweep}
 
 pub cuts_among-requires : goal.cuts_among-requires
 cuts_among-requires c =
@@ -26,8 +25,7 @@ cuts_among-requires c =
 
 pub loop-step-init : goal.loop-step-init
 loop-step-init c = record {
-  keeps = KeepsNodes-refl c.args.d.now;
-  added = λ w wide. omega arith;
+  grows = nothing_grown;
   others = λ s free. refl;
   underway = subst (λ (xs : List (List Rails)). IsUnderway c.args.net.now c.args.blocks.now c.args.cut.now c.args.d.now (vectors c.args.net.now c.args.d.now c.args.rails.now) c.args.place c.in-Ok-cuts_among.cuts.items xs c.args.before.now c.args.rails.now)
       (sym c.new-steps.ensures.items)
@@ -233,6 +231,36 @@ loop-step-smaller c =
     let less : length cuts - length c.push.new.self.items < length cuts - length steps = omega (arith, few, long) in
     less
 
+-- the loop was swept at most as often as it has cut wires
+sweeps-few : (c : After-sweep) → length c.loop-step.steps.items ≤ length (filter (is_cut c.args.cut.now.wires) (block_at c.args.blocks.now c.args.place).gates)
+sweeps-few c =
+    let gates_is : c.items-2.result.now ≡ (block_at c.args.blocks.now c.args.place).gates = block-gates c.args.blocks.now.list c.items.result.now c.args.place c.index-items-place.result c.items-2.result.now c.items.ensures c.requires.at.within c.items-2.ensures in
+    let cuts_is : c.in-Ok-cuts_among.cuts.items ≡ filter (is_cut c.args.cut.now.wires) (block_at c.args.blocks.now c.args.place).gates = c.in-Ok-cuts_among.ensures ∙ ap (filter (is_cut c.args.cut.now.wires)) gates_is in
+    omega (arith, c.loop-step.invariant.underway.few, ap length cuts_is)
+
+-- and is swept once more
+swept-once : (c : After-sweep) → GrowsWithin c.sweep.result c.args.d.now c.sweep.new.d (HasLargeCover c.args.net.now) (IsWide c.args.d.now.vars (IsWorking c.args.net.now (loops_by c.args.blocks.now c.args.cut.now) (vectors c.args.net.now c.args.d.now c.args.rails.now)))
+    (2 * (length c.loop-step.steps.items * order_cost c.args.net.now c.in-Ok.order.items) + 2 * order_cost c.args.net.now c.in-Ok.order.items)
+swept-once c =
+    let net = c.args.net.now in
+    let blocks = c.args.blocks.now in
+    let cut = c.args.cut.now in
+    let b = c.args.place in
+    let v : Vectors = vectors c.args.net.now c.args.d.now c.args.rails.now in
+    let steps : List (List Rails) = c.loop-step.steps.items in
+    let order_is : c.deref-in-loop-step.result.now ≡ c.in-Ok.order.items = c.deref-in-loop-step.ensures.value in
+    let inv = c.loop-step.invariant.underway in
+    let ready : IsSweepable net blocks cut c.loop-step.d v (after_sweeps net blocks cut v (length steps)) b c.deref-in-loop-step.result.now c.loop-step.before c.loop-step.rails = record {
+      blocks_are = c.requires.blocks;
+      loop = c.requires.at;
+      follows = subst (λ (ns : List ℕ). IsOrderOf c.args.net.now (is_cut c.args.cut.now.wires) (block_at c.args.blocks.now c.args.place).gates ns) (sym order_is) c.in-Ok.ensures;
+      solved = inv.solved;
+      cuts = inv.cuts_are;
+    } in
+    let order_same : order_cost net c.deref-in-loop-step.result.now ≡ order_cost net c.in-Ok.order.items = ap (order_cost net) order_is in
+    within_more (omega (arith, order_same))
+    (within_then c.loop-step.invariant.grows (within_moved (λ w wide. subst (λ (x : ℕ). IsWide x (IsWorking net (loops_by blocks cut) v) w) (sym c.loop-step.invariant.grows.keeps.vars) wide) (c.sweep.ensures.grows blocks b (length steps) v ready (sweeps-few c))))
+
 pub loop-step-preserved : goal.loop-step-preserved
 loop-step-preserved c =
     let net = c.args.net.now in
@@ -275,16 +303,11 @@ loop-step-preserved c =
       before_proper = c.keep_cuts.ensures.proper c.sweep.new.d wires.proper wires.before_proper;
     } in
     record {
-      keeps = KeepsNodes-chain c.loop-step.invariant.keeps keeps;
-      added = λ w wide.
-          let wide2 : IsWide c.loop-step.d.vars (IsWorking net (loops_by blocks cut) v) w = subst (λ (x : ℕ). IsWide x (IsWorking net (loops_by blocks cut) v) w) (sym c.loop-step.invariant.keeps.vars) wide in
-          let limit : length steps ≤ length (filter (is_cut c.args.cut.now.wires) (block_at c.args.blocks.now c.args.place).gates) = omega (arith, inv.few, ap length cuts_is) in
-          let order_same : order_cost net c.deref-in-loop-step.result.now ≡ order_cost net c.in-Ok.order.items = ap (order_cost net) order_is in
+      grows =
           let long : length c.push.new.self.items ≡ length steps + 1 = ap length steps_is ∙ length_push steps (map (rails_at before) cuts) in
           let next : 2 * (length steps * order_cost net c.in-Ok.order.items) + 2 * order_cost net c.in-Ok.order.items ≡ 2 * (length c.push.new.self.items * order_cost net c.in-Ok.order.items) =
           subst (λ (m : ℕ). 2 * (length steps * order_cost net c.in-Ok.order.items) + 2 * order_cost net c.in-Ok.order.items ≡ 2 * (m * order_cost net c.in-Ok.order.items)) (sym long) (omega arith) in
-          added-more c.args.d.now c.loop-step.d c.sweep.new.d w (2 * (length steps * order_cost net c.in-Ok.order.items)) (2 * order_cost net c.deref-in-loop-step.result.now) (2 * (length c.push.new.self.items * order_cost net c.in-Ok.order.items)) (omega (arith, next, order_same))
-          (c.loop-step.invariant.added w wide) (c.sweep.ensures.added blocks b (length steps) w v ready limit wide2);
+          within_more (omega (arith, next)) (within_answered (swept-once ((goal.at.loop-step-preserved c).After-sweep)));
       others = λ s free. others s free ∙ c.loop-step.invariant.others s free;
       underway = subst (λ (xs : List (List Rails)). IsUnderway net blocks cut c.sweep.new.d v b cuts xs c.keep_cuts.new.before after) (sym steps_is)
           (underway-next net blocks cut c.requires.blocks c.requires.cut b c.requires.at v c.in-Ok.order.items c.in-Ok.ensures c.loop-step.d c.sweep.new.d keeps lawful cuts cuts_is steps before c.loop-step.rails after inv others wires swept c.keep_cuts.new.before
@@ -293,145 +316,34 @@ loop-step-preserved c =
           wires2 few);
     }
 
-pub returns-in_default-step_of-clause-added : goal.returns-in_default-step_of-clause-added
-returns-in_default-step_of-clause-added c w wide =
-    let net = c.args.net.now in
-    let blocks = c.args.blocks.now in
-    let cut = c.args.cut.now in
-    let b = c.args.place in
-    let v : Vectors = vectors c.args.net.now c.args.d.now c.args.rails.now in
-    let cuts : List ℕ = c.in-Ok-cuts_among.cuts.items in
-    let steps : List (List Rails) = c.loop-step.steps.items in
-    let before : List Rails = c.loop-step.before in
-    let gates_is : c.items-2.result.now ≡ (block_at c.args.blocks.now c.args.place).gates = block-gates c.args.blocks.now.list c.items.result.now c.args.place c.index-items-place.result c.items-2.result.now c.items.ensures c.requires.at.within c.items-2.ensures in
-    let cuts_is : c.in-Ok-cuts_among.cuts.items ≡ filter (is_cut c.args.cut.now.wires) (block_at c.args.blocks.now c.args.place).gates = c.in-Ok-cuts_among.ensures ∙ ap (filter (is_cut c.args.cut.now.wires)) gates_is in
-    let inv = c.loop-step.invariant.underway in
-    let limit : length steps ≤ length (filter (is_cut c.args.cut.now.wires) (block_at c.args.blocks.now c.args.place).gates) = omega (arith, inv.few, ap length cuts_is) in
-    let gates_few = cuts-few net blocks cut c.requires.blocks b c.requires.at in
-    let cost_is : 2 * (length steps * order_cost net c.in-Ok.order.items) + 2 * order_cost net c.in-Ok.order.items ≤ 2 * ((length net.gates + 1) * block_cost net blocks b) =
-    loop-cost (length steps) (length net.gates) (order_cost net c.in-Ok.order.items) (block_cost net blocks b) (order-few net blocks cut c.requires.blocks b c.requires.at c.in-Ok.order.items c.in-Ok.ensures) (omega (arith, limit, gates_few)) in
-    added-within c.args.d.now c.loop-step.d w (2 * (length steps * order_cost net c.in-Ok.order.items)) (2 * ((length net.gates + 1) * block_cost net blocks b)) (omega (arith, cost_is)) (c.loop-step.invariant.added w wide)
+-- all sweeps cost at most what the contract says
+all-sweeps : (c : After-sweep) → 2 * (length c.loop-step.steps.items * order_cost c.args.net.now c.in-Ok.order.items) + 2 * order_cost c.args.net.now c.in-Ok.order.items ≤ 2 * ((length c.args.net.now.gates + 1) * block_cost c.args.net.now c.args.blocks.now c.args.place)
+all-sweeps c =
+    let few = sweeps-few c in
+    let gates_few = cuts-few c.args.net.now c.args.blocks.now c.args.cut.now c.requires.blocks c.args.place c.requires.at in
+    loop-cost (length c.loop-step.steps.items) (length c.args.net.now.gates) (order_cost c.args.net.now c.in-Ok.order.items) (block_cost c.args.net.now c.args.blocks.now c.args.place)
+    (order-few c.args.net.now c.args.blocks.now c.args.cut.now c.requires.blocks c.args.place c.requires.at c.in-Ok.order.items c.in-Ok.ensures) (omega (arith, few, gates_few))
 
-pub returns-then-are_still-clause-added : goal.returns-then-are_still-clause-added
-returns-then-are_still-clause-added c w wide =
-    let net = c.args.net.now in
-    let blocks = c.args.blocks.now in
-    let cut = c.args.cut.now in
-    let b = c.args.place in
-    let v : Vectors = vectors c.args.net.now c.args.d.now c.args.rails.now in
-    let cuts : List ℕ = c.in-Ok-cuts_among.cuts.items in
-    let steps : List (List Rails) = c.loop-step.steps.items in
-    let before : List Rails = c.loop-step.before in
+pub returns-in_default-step_of-clause-grows : goal.returns-in_default-step_of-clause-grows
+returns-in_default-step_of-clause-grows c =
     let gates_is : c.items-2.result.now ≡ (block_at c.args.blocks.now c.args.place).gates = block-gates c.args.blocks.now.list c.items.result.now c.args.place c.index-items-place.result c.items-2.result.now c.items.ensures c.requires.at.within c.items-2.ensures in
     let cuts_is : c.in-Ok-cuts_among.cuts.items ≡ filter (is_cut c.args.cut.now.wires) (block_at c.args.blocks.now c.args.place).gates = c.in-Ok-cuts_among.ensures ∙ ap (filter (is_cut c.args.cut.now.wires)) gates_is in
-    let order_is : c.deref-in-loop-step.result.now ≡ c.in-Ok.order.items = c.deref-in-loop-step.ensures.value in
-    let inv = c.loop-step.invariant.underway in
-    let ready : IsSweepable net blocks cut c.loop-step.d v (after_sweeps net blocks cut v (length steps)) b c.deref-in-loop-step.result.now before c.loop-step.rails = record {
-      blocks_are = c.requires.blocks;
-      loop = c.requires.at;
-      follows = subst (λ (ns : List ℕ). IsOrderOf c.args.net.now (is_cut c.args.cut.now.wires) (block_at c.args.blocks.now c.args.place).gates ns) (sym order_is) c.in-Ok.ensures;
-      solved = inv.solved;
-      cuts = inv.cuts_are;
-    } in
-    let wide2 : IsWide c.loop-step.d.vars (IsWorking net (loops_by blocks cut) v) w = subst (λ (x : ℕ). IsWide x (IsWorking net (loops_by blocks cut) v) w) (sym c.loop-step.invariant.keeps.vars) wide in
-    let limit : length steps ≤ length (filter (is_cut c.args.cut.now.wires) (block_at c.args.blocks.now c.args.place).gates) = omega (arith, inv.few, ap length cuts_is) in
-    let order_same : order_cost net c.deref-in-loop-step.result.now ≡ order_cost net c.in-Ok.order.items = ap (order_cost net) order_is in
-    let gates_few = cuts-few net blocks cut c.requires.blocks b c.requires.at in
-    let cost_is : 2 * (length steps * order_cost net c.in-Ok.order.items) + 2 * order_cost net c.in-Ok.order.items ≤ 2 * ((length net.gates + 1) * block_cost net blocks b) =
-    loop-cost (length steps) (length net.gates) (order_cost net c.in-Ok.order.items) (block_cost net blocks b) (order-few net blocks cut c.requires.blocks b c.requires.at c.in-Ok.order.items c.in-Ok.ensures) (omega (arith, limit, gates_few)) in
-    added-more c.args.d.now c.loop-step.d c.sweep.new.d w (2 * (length steps * order_cost net c.in-Ok.order.items)) (2 * order_cost net c.deref-in-loop-step.result.now) (2 * ((length net.gates + 1) * block_cost net blocks b)) (omega (arith, cost_is, order_same))
-    (c.loop-step.invariant.added w wide) (c.sweep.ensures.added blocks b (length steps) w v ready limit wide2)
+    let gates_few = cuts-few c.args.net.now c.args.blocks.now c.args.cut.now c.requires.blocks c.args.place c.requires.at in
+    let most = loop-cost (length c.loop-step.steps.items) (length c.args.net.now.gates) (order_cost c.args.net.now c.in-Ok.order.items) (block_cost c.args.net.now c.args.blocks.now c.args.place)
+    (order-few c.args.net.now c.args.blocks.now c.args.cut.now c.requires.blocks c.args.place c.requires.at c.in-Ok.order.items c.in-Ok.ensures) (omega (arith, c.loop-step.invariant.underway.few, ap length cuts_is, gates_few)) in
+    within_more (omega (arith, most)) (within_memory c.loop-step.invariant.grows)
 
-pub returns-then-is_err-clause-added : goal.returns-then-is_err-clause-added
-returns-then-is_err-clause-added c w wide =
-    let net = c.args.net.now in
-    let blocks = c.args.blocks.now in
-    let cut = c.args.cut.now in
-    let b = c.args.place in
-    let v : Vectors = vectors c.args.net.now c.args.d.now c.args.rails.now in
-    let cuts : List ℕ = c.in-Ok-cuts_among.cuts.items in
-    let steps : List (List Rails) = c.loop-step.steps.items in
-    let before : List Rails = c.loop-step.before in
-    let gates_is : c.items-2.result.now ≡ (block_at c.args.blocks.now c.args.place).gates = block-gates c.args.blocks.now.list c.items.result.now c.args.place c.index-items-place.result c.items-2.result.now c.items.ensures c.requires.at.within c.items-2.ensures in
-    let cuts_is : c.in-Ok-cuts_among.cuts.items ≡ filter (is_cut c.args.cut.now.wires) (block_at c.args.blocks.now c.args.place).gates = c.in-Ok-cuts_among.ensures ∙ ap (filter (is_cut c.args.cut.now.wires)) gates_is in
-    let order_is : c.deref-in-loop-step.result.now ≡ c.in-Ok.order.items = c.deref-in-loop-step.ensures.value in
-    let inv = c.loop-step.invariant.underway in
-    let ready : IsSweepable net blocks cut c.loop-step.d v (after_sweeps net blocks cut v (length steps)) b c.deref-in-loop-step.result.now before c.loop-step.rails = record {
-      blocks_are = c.requires.blocks;
-      loop = c.requires.at;
-      follows = subst (λ (ns : List ℕ). IsOrderOf c.args.net.now (is_cut c.args.cut.now.wires) (block_at c.args.blocks.now c.args.place).gates ns) (sym order_is) c.in-Ok.ensures;
-      solved = inv.solved;
-      cuts = inv.cuts_are;
-    } in
-    let wide2 : IsWide c.loop-step.d.vars (IsWorking net (loops_by blocks cut) v) w = subst (λ (x : ℕ). IsWide x (IsWorking net (loops_by blocks cut) v) w) (sym c.loop-step.invariant.keeps.vars) wide in
-    let limit : length steps ≤ length (filter (is_cut c.args.cut.now.wires) (block_at c.args.blocks.now c.args.place).gates) = omega (arith, inv.few, ap length cuts_is) in
-    let order_same : order_cost net c.deref-in-loop-step.result.now ≡ order_cost net c.in-Ok.order.items = ap (order_cost net) order_is in
-    let gates_few = cuts-few net blocks cut c.requires.blocks b c.requires.at in
-    let cost_is : 2 * (length steps * order_cost net c.in-Ok.order.items) + 2 * order_cost net c.in-Ok.order.items ≤ 2 * ((length net.gates + 1) * block_cost net blocks b) =
-    loop-cost (length steps) (length net.gates) (order_cost net c.in-Ok.order.items) (block_cost net blocks b) (order-few net blocks cut c.requires.blocks b c.requires.at c.in-Ok.order.items c.in-Ok.ensures) (omega (arith, limit, gates_few)) in
-    added-more c.args.d.now c.loop-step.d c.sweep.new.d w (2 * (length steps * order_cost net c.in-Ok.order.items)) (2 * order_cost net c.deref-in-loop-step.result.now) (2 * ((length net.gates + 1) * block_cost net blocks b)) (omega (arith, cost_is, order_same))
-    (c.loop-step.invariant.added w wide) (c.sweep.ensures.added blocks b (length steps) w v ready limit wide2)
+pub returns-then-are_still-clause-grows : goal.returns-then-are_still-clause-grows
+returns-then-are_still-clause-grows c =
+    let at = (goal.at.returns-then-are_still-clause-grows c).After-sweep in
+    within_more (omega (arith, all-sweeps at)) (within_answered (swept-once at))
 
-pub returns-in_err-sweep-clause-added : goal.returns-in_err-sweep-clause-added
-returns-in_err-sweep-clause-added c w wide =
-    let net = c.args.net.now in
-    let blocks = c.args.blocks.now in
-    let cut = c.args.cut.now in
-    let b = c.args.place in
-    let v : Vectors = vectors c.args.net.now c.args.d.now c.args.rails.now in
-    let cuts : List ℕ = c.in-Ok-cuts_among.cuts.items in
-    let steps : List (List Rails) = c.loop-step.steps.items in
-    let before : List Rails = c.loop-step.before in
-    let gates_is : c.items-2.result.now ≡ (block_at c.args.blocks.now c.args.place).gates = block-gates c.args.blocks.now.list c.items.result.now c.args.place c.index-items-place.result c.items-2.result.now c.items.ensures c.requires.at.within c.items-2.ensures in
-    let cuts_is : c.in-Ok-cuts_among.cuts.items ≡ filter (is_cut c.args.cut.now.wires) (block_at c.args.blocks.now c.args.place).gates = c.in-Ok-cuts_among.ensures ∙ ap (filter (is_cut c.args.cut.now.wires)) gates_is in
-    let order_is : c.deref-in-loop-step.result.now ≡ c.in-Ok.order.items = c.deref-in-loop-step.ensures.value in
-    let inv = c.loop-step.invariant.underway in
-    let ready : IsSweepable net blocks cut c.loop-step.d v (after_sweeps net blocks cut v (length steps)) b c.deref-in-loop-step.result.now before c.loop-step.rails = record {
-      blocks_are = c.requires.blocks;
-      loop = c.requires.at;
-      follows = subst (λ (ns : List ℕ). IsOrderOf c.args.net.now (is_cut c.args.cut.now.wires) (block_at c.args.blocks.now c.args.place).gates ns) (sym order_is) c.in-Ok.ensures;
-      solved = inv.solved;
-      cuts = inv.cuts_are;
-    } in
-    let wide2 : IsWide c.loop-step.d.vars (IsWorking net (loops_by blocks cut) v) w = subst (λ (x : ℕ). IsWide x (IsWorking net (loops_by blocks cut) v) w) (sym c.loop-step.invariant.keeps.vars) wide in
-    let limit : length steps ≤ length (filter (is_cut c.args.cut.now.wires) (block_at c.args.blocks.now c.args.place).gates) = omega (arith, inv.few, ap length cuts_is) in
-    let order_same : order_cost net c.deref-in-loop-step.result.now ≡ order_cost net c.in-Ok.order.items = ap (order_cost net) order_is in
-    let gates_few = cuts-few net blocks cut c.requires.blocks b c.requires.at in
-    let cost_is : 2 * (length steps * order_cost net c.in-Ok.order.items) + 2 * order_cost net c.in-Ok.order.items ≤ 2 * ((length net.gates + 1) * block_cost net blocks b) =
-    loop-cost (length steps) (length net.gates) (order_cost net c.in-Ok.order.items) (block_cost net blocks b) (order-few net blocks cut c.requires.blocks b c.requires.at c.in-Ok.order.items c.in-Ok.ensures) (omega (arith, limit, gates_few)) in
-    added-more c.args.d.now c.loop-step.d c.sweep.new.d w (2 * (length steps * order_cost net c.in-Ok.order.items)) (2 * order_cost net c.deref-in-loop-step.result.now) (2 * ((length net.gates + 1) * block_cost net blocks b)) (omega (arith, cost_is, order_same))
-    (c.loop-step.invariant.added w wide) (c.sweep.ensures.added blocks b (length steps) w v ready limit wide2)
+pub returns-then-is_err-clause-grows : goal.returns-then-is_err-clause-grows
+returns-then-is_err-clause-grows c =
+    let at = (goal.at.returns-then-is_err-clause-grows c).After-sweep in
+    within_more (omega (arith, all-sweeps at)) (within_memory (swept-once at))
 
-pub returns-in_err-sweep-clause-full : goal.returns-in_err-sweep-clause-full
-returns-in_err-sweep-clause-full c w wide is_full =
-    let net = c.args.net.now in
-    let blocks = c.args.blocks.now in
-    let cut = c.args.cut.now in
-    let b = c.args.place in
-    let v : Vectors = vectors c.args.net.now c.args.d.now c.args.rails.now in
-    let cuts : List ℕ = c.in-Ok-cuts_among.cuts.items in
-    let steps : List (List Rails) = c.loop-step.steps.items in
-    let before : List Rails = c.loop-step.before in
-    let gates_is : c.items-2.result.now ≡ (block_at c.args.blocks.now c.args.place).gates = block-gates c.args.blocks.now.list c.items.result.now c.args.place c.index-items-place.result c.items-2.result.now c.items.ensures c.requires.at.within c.items-2.ensures in
-    let cuts_is : c.in-Ok-cuts_among.cuts.items ≡ filter (is_cut c.args.cut.now.wires) (block_at c.args.blocks.now c.args.place).gates = c.in-Ok-cuts_among.ensures ∙ ap (filter (is_cut c.args.cut.now.wires)) gates_is in
-    let order_is : c.deref-in-loop-step.result.now ≡ c.in-Ok.order.items = c.deref-in-loop-step.ensures.value in
-    let inv = c.loop-step.invariant.underway in
-    let ready : IsSweepable net blocks cut c.loop-step.d v (after_sweeps net blocks cut v (length steps)) b c.deref-in-loop-step.result.now before c.loop-step.rails = record {
-      blocks_are = c.requires.blocks;
-      loop = c.requires.at;
-      follows = subst (λ (ns : List ℕ). IsOrderOf c.args.net.now (is_cut c.args.cut.now.wires) (block_at c.args.blocks.now c.args.place).gates ns) (sym order_is) c.in-Ok.ensures;
-      solved = inv.solved;
-      cuts = inv.cuts_are;
-    } in
-    let wide2 : IsWide c.loop-step.d.vars (IsWorking net (loops_by blocks cut) v) w = subst (λ (x : ℕ). IsWide x (IsWorking net (loops_by blocks cut) v) w) (sym c.loop-step.invariant.keeps.vars) wide in
-    let limit : length steps ≤ length (filter (is_cut c.args.cut.now.wires) (block_at c.args.blocks.now c.args.place).gates) = omega (arith, inv.few, ap length cuts_is) in
-    let order_same : order_cost net c.deref-in-loop-step.result.now ≡ order_cost net c.in-Ok.order.items = ap (order_cost net) order_is in
-    let gates_few = cuts-few net blocks cut c.requires.blocks b c.requires.at in
-    let cost_is : 2 * (length steps * order_cost net c.in-Ok.order.items) + 2 * order_cost net c.in-Ok.order.items ≤ 2 * ((length net.gates + 1) * block_cost net blocks b) =
-    loop-cost (length steps) (length net.gates) (order_cost net c.in-Ok.order.items) (block_cost net blocks b) (order-few net blocks cut c.requires.blocks b c.requires.at c.in-Ok.order.items c.in-Ok.ensures) (omega (arith, limit, gates_few)) in
-    let refused = ap {A = StoreFault} Err (sym (rw is_full at c.from_residual.ensures.1)) in
-    elim (c.in_err-sweep.ensures.full blocks b (length steps) w v ready limit wide2 refused) [
-      | inl large ↦ inl (large-kept c.loop-step.invariant.keeps large)
-      | inr full ↦ inr (full-more c.args.d.now c.loop-step.d c.sweep.new.d w (2 * (length steps * order_cost net c.in-Ok.order.items)) (2 * order_cost net c.deref-in-loop-step.result.now) (2 * ((length net.gates + 1) * block_cost net blocks b)) (omega (arith, cost_is, order_same))
-          (c.loop-step.invariant.added w wide) full)
-    ]
+pub returns-in_err-sweep-clause-grows : goal.returns-in_err-sweep-clause-grows
+returns-in_err-sweep-clause-grows c =
+    let at = (goal.at.returns-in_err-sweep-clause-grows c).After-sweep in
+    within_more (omega (arith, all-sweeps at)) (within_refused c.in_err-sweep.was c.from_residual.ensures.1 (swept-once at))

@@ -1,5 +1,5 @@
-use Rattle.std.proofs.Common.{◌*◌, ◌-◌, ℕ, length}
-use Rattle.bdd_store.specs.Growth.{KeepsNodes, AddsAtMost}
+use Rattle.std.proofs.Common.{◌*◌, ◌-◌, length}
+use Rattle.bdd_store.proofs.GrowthLemmas.{HasGrown}
 use Rattle.dual_rail.specs.WorkingLists.{IsWide}
 use Rattle.loops.specs.Cuts.{loops_by}
 use Rattle.fixpoint.specs.Working.{IsWorking, order_cost}
@@ -9,8 +9,7 @@ use Rattle.fixpoint.proofs.solving.solve_loop.Given as goal
 
 abbrev pub invariant-loop-step : goal.invariant-loop-step
 invariant-loop-step l = record {
-  keeps : KeepsNodes l.fn.d l.d;
-  added : (w : ℕ) → IsWide l.fn.d.vars (IsWorking l.net (loops_by l.blocks l.cut) (vectors l.net l.fn.d l.fn.rails)) w → AddsAtMost l.fn.d l.d (w * (2 * (length l.steps.items * order_cost l.net l.order.items)));
+  grows : HasGrown l.fn.d l.d (IsWide l.fn.d.vars (IsWorking l.net (loops_by l.blocks l.cut) (vectors l.net l.fn.d l.fn.rails))) (2 * (length l.steps.items * order_cost l.net l.order.items));
   others : OthersStay l.net l.order.items l.fn.rails l.rails;
   underway : IsUnderway l.net l.blocks l.cut l.d (vectors l.net l.fn.d l.fn.rails) l.place l.cuts.items l.steps.items l.before l.rails;
 }

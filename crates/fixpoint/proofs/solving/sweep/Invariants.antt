@@ -1,5 +1,6 @@
 use Rattle.std.proofs.Common.{◌*◌, ◌≤◌, ℕ, length, filter, take}
-use Rattle.bdd_store.specs.Growth.{KeepsNodes, AddsAtMost}
+use Rattle.bdd_store.specs.Growth.{KeepsNodes}
+use Rattle.bdd_store.proofs.GrowthLemmas.{HasGrown}
 use Rattle.dual_rail.specs.WorkingLists.{IsWide}
 use Rattle.loops.specs.declared.parts.Blocks.{Blocks}
 use Rattle.loops.specs.Blocks.{block_at}
@@ -13,9 +14,8 @@ use Rattle.fixpoint.proofs.solving.sweep.Given as goal
 abbrev pub invariant-loop-gate : goal.invariant-loop-gate
 invariant-loop-gate l = record {
   keeps : KeepsNodes l.fn.d l.d;
-  added : (blocks : Blocks) (b k w : ℕ) (v : Vectors) → IsSweepable l.net blocks l.cut l.fn.d v (after_sweeps l.net blocks l.cut v k) b l.order l.before l.fn.rails
-      → k ≤ length (filter (is_cut l.cut.wires) (block_at blocks b).gates) → IsWide l.fn.d.vars (IsWorking l.net (loops_by blocks l.cut) v) w
-      → AddsAtMost l.fn.d l.d (w * (2 * order_cost l.net (take l.gate-index l.order)));
+  grows : (blocks : Blocks) (b k : ℕ) (v : Vectors) → IsSweepable l.net blocks l.cut l.fn.d v (after_sweeps l.net blocks l.cut v k) b l.order l.before l.fn.rails → k ≤ length (filter (is_cut l.cut.wires) (block_at blocks b).gates)
+      → HasGrown l.fn.d l.d (IsWide l.fn.d.vars (IsWorking l.net (loops_by blocks l.cut) v)) (2 * order_cost l.net (take l.gate-index l.order));
   wires : AreWires l.net l.d l.before l.rails;
   others : OthersStay l.net (take l.gate-index l.order) l.initial.rails l.rails;
   swept : IsSweeping l.net l.cut l.order l.initial.d l.before l.initial.rails l.d l.rails l.gate-index;

@@ -1,0 +1,232 @@
+-- Rails under roots stay what they were while roots come to them and stores are swept.
+use Rattle.std.proofs.Common.{◌≡◌, ℕ, ◌+◌, ◌<◌, ◌≤◌, Bool, false, ◌&&◌, List, [], ◌∷◌, ◌++◌, length, map, take, get_or, refl, sym, ap, ap₂, ◌∙◌, subst, arith, Option, Some, None, IsSome, Result, Ok, IsErrAnd, true≢false}
+use Rattle.std.specs.Option.{unwrap_or}
+use Rattle.std.specs.List.{All}
+use Rattle.std.proofs.lemmas.List.{get_or-map, length-map, map_push, take_more}
+use Rattle.std.proofs.lemmas.List.Elements.{All-map, All-push}
+use Rattle.bdd_store.specs.declared.fault.StoreFault.{StoreFault}
+use Rattle.bdd_store.specs.declared.fault.StoreFault.TheVariants.{Full, Memory}
+use Rattle.bdd_store.specs.declared.node.Node.{Node}
+use Rattle.bdd_store.specs.declared.node.Entry.{Entry}
+use Rattle.bdd_store.specs.declared.root.Root.{Root}
+use Rattle.bdd_store.specs.Arena.{Arena, root_at, constant, den, node_value, IsNodeOf}
+use Rattle.bdd_store.specs.Growth.{KeepsNodes, AddsWithin, NoOtherCause}
+use Rattle.bdd_store.specs.Soundness.{IsLawful}
+use Rattle.bdd_store.specs.Sweeping.{KeepsRoots}
+use Rattle.cyc_base.specs.declared.trit.Trit.{Trit}
+use Rattle.dual_rail.specs.declared.rail.Rails.{Rails}
+use Rattle.dual_rail.specs.Rails.{AreRailsOf, trit_of, value_of}
+use Rattle.loops.proofs.Reading.{map_agree}
+use Rattle.fixpoint.specs.declared.kept.KeptRails.{KeptRails}
+use Rattle.fixpoint.specs.Kept.{node_under, rails_under, values_under, AreKept, GainsRoots, IsRootStill, RootsStay}
+use Rattle.fixpoint.proofs.WireLemmas.{map-map}
+
+-- what holds of the images of a list
+pub All-mapped : {X Y : Type 0} (P : Y → Type 0) (f : X → Y) (xs : List X) → All P (map f xs) → All (λ x. P (f x)) xs
+All-mapped P f xs all k d less = subst P (get_or-map f xs k d (f d) less) (all k (f d) (let len = length-map xs f in omega (arith, less, len)))
+
+is-some : {T : Type 0} (o : Option T) → IsSome o → (x : T) × (o ≡ Some x)
+is-some (Some x) some = (x, refl)
+is-some None some = absurd (true≢false (sym some))
+
+under-is : (a : Arena) (root : Root) (n : Node) → root_at a root.key ≡ Some n → node_under a root ≡ n
+under-is a root n is = ap (λ (o : Option Node). unwrap_or o (constant false)) is
+
+has-node : (a : Arena) (root : Root) → IsSome (root_at a root.key) → root_at a root.key ≡ Some (node_under a root)
+has-node a root some = let x = is-some (root_at a root.key) some in x.1 ∙ ap Some (sym (under-is a root x.0 x.1))
+
+pub under-node : (a : Arena) → IsLawful a → (root : Root) → IsSome (root_at a root.key) → IsNodeOf a (node_under a root)
+under-node a laws root some = laws.roots root.key (node_under a root) (has-node a root some)
+
+-- ---- roots that come
+
+pub GainsRoots-refl : (a : Arena) → GainsRoots a a
+GainsRoots-refl a = record { vars = refl; limit = refl; entries = refl; roots = λ key n is. is }
+
+pub GainsRoots-chain : {s t u : Arena} → GainsRoots s t → GainsRoots t u → GainsRoots s u
+GainsRoots-chain g h = record {
+  vars = h.vars ∙ g.vars;
+  limit = h.limit ∙ g.limit;
+  entries = h.entries ∙ g.entries;
+  roots = λ key n is. h.roots key n (g.roots key n is);
+}
+
+den-gained : {s t : Arena} → GainsRoots s t → (n : Node) (bits : List Bool) → den t n bits ≡ den s n bits
+den-gained g n bits = ap (λ (es : List Entry). node_value es n bits) g.entries
+
+pub value_of-gained : {s t : Arena} → GainsRoots s t → (r : Rails) (bits : List Bool) → value_of t r bits ≡ value_of s r bits
+value_of-gained g r bits = ap₂ trit_of (den-gained g r.one bits) (den-gained g r.zero bits)
+
+pub AreRailsOf-gained : {s t : Arena} → GainsRoots s t → (r : Rails) → AreRailsOf s r → AreRailsOf t r
+AreRailsOf-gained g r is = record {
+  one = let one = is.one in omega (arith, one, ap length g.entries);
+  zero = let zero = is.zero in omega (arith, zero, ap length g.entries);
+  proper = λ bits. ap₂ (λ x y. x && y) (den-gained g r.one bits) (den-gained g r.zero bits) ∙ is.proper bits;
+}
+
+pub All-rails-gained : {s t : Arena} → GainsRoots s t → (rails : List Rails) → All (AreRailsOf s) rails → All (AreRailsOf t) rails
+All-rails-gained g rails all k d less = AreRailsOf-gained g (get_or rails k d) (all k d less)
+
+root-gained : {s t : Arena} → GainsRoots s t → (root : Root) → IsSome (root_at s root.key) → root_at t root.key ≡ Some (node_under s root)
+root-gained {s} g root some = g.roots root.key (node_under s root) (has-node s root some)
+
+pub AreKept-gained : {s t : Arena} → GainsRoots s t → (kept : KeptRails) → AreKept s kept → AreKept t kept
+AreKept-gained g kept is = record {
+  one = subst IsSome (sym (root-gained g kept.one is.one)) refl;
+  zero = subst IsSome (sym (root-gained g kept.zero is.zero)) refl;
+}
+
+pub All-kept-gained : {s t : Arena} → GainsRoots s t → (kept : List KeptRails) → All (AreKept s) kept → All (AreKept t) kept
+All-kept-gained g kept all k d less = AreKept-gained g (get_or kept k d) (all k d less)
+
+pub rails_under-gained : {s t : Arena} → GainsRoots s t → (kept : KeptRails) → AreKept s kept → rails_under t kept ≡ rails_under s kept
+rails_under-gained {s} {t} g kept is =
+    ap₂ (λ (m n : Node). record { one = m; zero = n })
+    (under-is t kept.one (node_under s kept.one) (root-gained g kept.one is.one))
+    (under-is t kept.zero (node_under s kept.zero) (root-gained g kept.zero is.zero))
+
+pub all_under-gained : {s t : Arena} → GainsRoots s t → (kept : List KeptRails) → All (AreKept s) kept → map (rails_under t) kept ≡ map (rails_under s) kept
+all_under-gained {s} {t} g kept all = map_agree (rails_under t) (rails_under s) kept (λ k d less. rails_under-gained g (get_or kept k d) (all k d less))
+
+pub lists_under-gained : {s t : Arena} → GainsRoots s t → (lists : List (List KeptRails)) → All (All (AreKept s)) lists → map (map (rails_under t)) lists ≡ map (map (rails_under s)) lists
+lists_under-gained {s} {t} g lists all = map_agree (map (rails_under t)) (map (rails_under s)) lists (λ k d less. all_under-gained g (get_or lists k d) (all k d less))
+
+-- one more of a list is kept
+module _ {s t : Arena} (g : GainsRoots s t) (rails : List Rails) (kept : List KeptRails) (i : ℕ) (made : KeptRails) (none : Rails) (inside : i < length rails) (all : All (AreKept s) kept) (is : map (rails_under s) kept ≡ take i rails)
+    (made_kept : AreKept t made) (made_is : rails_under t made ≡ get_or rails i none) where
+  pub kept-more : All (AreKept t) (kept ++ made ∷ [])
+  kept-more = All-push (AreKept t) kept made (All-kept-gained g kept all) made_kept
+
+  pub under-more : map (rails_under t) (kept ++ made ∷ []) ≡ take (i + 1) rails
+  under-more =
+      map_push (rails_under t) kept made
+      ∙ ap₂ (λ (xs : List Rails) (x : Rails). xs ++ x ∷ []) (all_under-gained g kept all ∙ is) made_is
+      ∙ sym (take_more rails i none inside)
+
+-- and one more list
+module _ {s t : Arena} (g : GainsRoots s t) (lists : List (List Rails)) (kept : List (List KeptRails)) (i : ℕ) (made : List KeptRails) (none : List Rails) (inside : i < length lists) (all : All (All (AreKept s)) kept)
+    (is : map (map (rails_under s)) kept ≡ take i lists) (made_kept : All (AreKept t) made) (made_is : map (rails_under t) made ≡ get_or lists i none) where
+  pub lists-more : All (All (AreKept t)) (kept ++ made ∷ [])
+  lists-more = All-push (All (AreKept t)) kept made (λ k d less. All-kept-gained g (get_or kept k d) (all k d less)) made_kept
+
+  pub lists-under-more : map (map (rails_under t)) (kept ++ made ∷ []) ≡ take (i + 1) lists
+  lists-under-more =
+      map_push (map (rails_under t)) kept made
+      ∙ ap₂ (λ (xs : List (List Rails)) (x : List Rails). xs ++ x ∷ []) (lists_under-gained g kept all ∙ is) made_is
+      ∙ sym (take_more lists i none inside)
+
+-- ---- roots that stay
+
+pub RootsStay-refl : (a : Arena) → IsLawful a → RootsStay a a
+RootsStay-refl a laws = record { vars = refl; limit = refl; each = λ key n is. record { node = n; root = is; is_node = laws.roots key n is; function = λ bits. refl } }
+
+pub RootsStay-chain : {s t u : Arena} → RootsStay s t → RootsStay t u → RootsStay s u
+RootsStay-chain r q = record {
+  vars = q.vars ∙ r.vars;
+  limit = q.limit ∙ r.limit;
+  each = λ key n is.
+      let one = r.each key n is in
+      let two = q.each key one.node one.root in
+      record { node = two.node; root = two.root; is_node = two.is_node; function = λ bits. two.function bits ∙ one.function bits };
+}
+
+-- while nodes are kept, and roots come then
+pub RootsStay-gained : {s t u : Arena} → IsLawful s → KeepsNodes s t → GainsRoots t u → RootsStay s u
+RootsStay-gained {s} {t} {u} laws keeps g = record {
+  vars = g.vars ∙ keeps.vars;
+  limit = g.limit ∙ keeps.limit;
+  each = λ key n is.
+      let was : IsNodeOf s n = laws.roots key n is in
+      let more = keeps.more in
+      record {
+        node = n;
+        root = g.roots key n (ap (λ (roots : List (Option Node)). root_at (record { vars = t.vars; limit = t.limit; entries = t.entries; roots = roots; answers = t.answers }) key) keeps.roots ∙ is);
+        is_node = omega (arith, was, more, ap length g.entries);
+        function = λ bits. den-gained g n bits ∙ keeps.function n bits was;
+      };
+}
+
+pub RootsStay-kept : {s t : Arena} → IsLawful s → KeepsNodes s t → RootsStay s t
+RootsStay-kept {s} {t} laws keeps = RootsStay-gained laws keeps (GainsRoots-refl t)
+
+-- while the store is swept
+pub RootsStay-swept : {s t : Arena} → IsLawful t → KeepsRoots s t → RootsStay s t
+RootsStay-swept {s} {t} laws keeps = record {
+  vars = keeps.vars;
+  limit = keeps.limit;
+  each = λ key n is.
+      let at = is-some (root_at t key) ((keeps.keys key).1 (subst IsSome (sym is) refl)) in
+      record { node = at.0; root = at.1; is_node = laws.roots key at.0 at.1; function = λ bits. keeps.function key n at.0 bits is at.1 };
+}
+
+module _ {s t : Arena} (stay : RootsStay s t) where
+  still : (root : Root) → IsSome (root_at s root.key) → IsRootStill s t root.key (node_under s root)
+  still root some = stay.each root.key (node_under s root) (has-node s root some)
+
+  den-stays : (root : Root) → IsSome (root_at s root.key) → (bits : List Bool) → den t (node_under t root) bits ≡ den s (node_under s root) bits
+  den-stays root some bits =
+      let at = still root some in
+      ap (λ (n : Node). den t n bits) (under-is t root at.node at.root) ∙ at.function bits
+
+  node-stays : (root : Root) → IsSome (root_at s root.key) → IsNodeOf t (node_under t root)
+  node-stays root some = let at = still root some in subst (IsNodeOf t) (sym (under-is t root at.node at.root)) at.is_node
+
+  key-stays : (root : Root) → IsSome (root_at s root.key) → IsSome (root_at t root.key)
+  key-stays root some = let at = still root some in subst IsSome (sym at.root) refl
+
+  pub AreKept-stay : (kept : KeptRails) → AreKept s kept → AreKept t kept
+  AreKept-stay kept is = record { one = key-stays kept.one is.one; zero = key-stays kept.zero is.zero }
+
+  pub All-kept-stay : (kept : List KeptRails) → All (AreKept s) kept → All (AreKept t) kept
+  All-kept-stay kept all k d less = AreKept-stay (get_or kept k d) (all k d less)
+
+  pub value-stays : (kept : KeptRails) → AreKept s kept → (bits : List Bool) → value_of t (rails_under t kept) bits ≡ value_of s (rails_under s kept) bits
+  value-stays kept is bits = ap₂ trit_of (den-stays kept.one is.one bits) (den-stays kept.zero is.zero bits)
+
+  pub rails-stay : (kept : KeptRails) → AreKept s kept → AreRailsOf s (rails_under s kept) → AreRailsOf t (rails_under t kept)
+  rails-stay kept is proper = record {
+    one = node-stays kept.one is.one;
+    zero = node-stays kept.zero is.zero;
+    proper = λ bits. ap₂ (λ x y. x && y) (den-stays kept.one is.one bits) (den-stays kept.zero is.zero bits) ∙ proper.proper bits;
+  }
+
+  pub values-stay : (kept : List KeptRails) → All (AreKept s) kept → (bits : List Bool) → values_under t kept bits ≡ values_under s kept bits
+  values-stay kept all bits =
+      map-map {C = Trit} (λ r. value_of t r bits) (rails_under t) kept
+      ∙ map_agree (λ (x : KeptRails). value_of t (rails_under t x) bits) (λ (x : KeptRails). value_of s (rails_under s x) bits) kept (λ k d less. value-stays (get_or kept k d) (all k d less) bits)
+      ∙ sym (map-map {C = Trit} (λ r. value_of s r bits) (rails_under s) kept)
+
+  pub All-rails-stay : (kept : List KeptRails) → All (AreKept s) kept → All (AreRailsOf s) (map (rails_under s) kept) → All (AreRailsOf t) (map (rails_under t) kept)
+  All-rails-stay kept all proper =
+      All-map (AreRailsOf t) (rails_under t) kept (λ k d less. rails-stay (get_or kept k d) (all k d less) (All-mapped (AreRailsOf s) (rails_under s) kept proper k d less))
+
+-- while nodes are kept, so are the roots
+module _ {s t : Arena} (keeps : KeepsNodes s t) where
+  root-same : (key : ℕ) → root_at t key ≡ root_at s key
+  root-same key = ap (λ (roots : List (Option Node)). root_at (record { vars = t.vars; limit = t.limit; entries = t.entries; roots = roots; answers = t.answers }) key) keeps.roots
+
+  pub AreKept-same : (kept : KeptRails) → AreKept s kept → AreKept t kept
+  AreKept-same kept is = record { one = subst IsSome (sym (root-same kept.one.key)) is.one; zero = subst IsSome (sym (root-same kept.zero.key)) is.zero }
+
+  pub lists_under-same : (lists : List (List KeptRails)) → All (All (AreKept s)) lists → map (map (rails_under t)) lists ≡ map (map (rails_under s)) lists
+  lists_under-same lists all =
+      map_agree (map (rails_under t)) (map (rails_under s)) lists (λ k d less. map_agree (rails_under t) (rails_under s) (get_or lists k d) (λ i e inside.
+      ap₂ (λ (m n : Option Node). record { one = unwrap_or m (constant false); zero = unwrap_or n (constant false) }) (root-same (get_or (get_or lists k d) i e).one.key) (root-same (get_or (get_or lists k d) i e).zero.key)))
+
+-- ---- what a call adds
+
+-- a lack of memory after it is no refusal
+module _ {T U : Type 0} {r : Result U StoreFault} {q : Result T StoreFault} {s t u : Arena} {cause other bounds : ℕ → Type 0} {count : ℕ} where
+  pub adds_lacking : IsErrAnd q (λ x. x ≡ Memory) → length u.entries ≤ length t.entries → AddsWithin r s t cause bounds count → AddsWithin q s u other bounds count
+  adds_lacking lacks fewer a = record { added = λ w b. omega (arith, a.added w b, fewer); full = λ w b is_full. let same : Full ≡ Memory = rw is_full at lacks in absurd cc }
+
+-- a call that makes nothing
+pub adds_nothing : {T : Type 0} {q : Result T StoreFault} {s : Arena} {cause bounds : ℕ → Type 0} {count : ℕ} → IsErrAnd q (λ x. x ≡ Memory) → AddsWithin q s s cause bounds count
+adds_nothing lacks = record { added = λ w b. omega arith; full = λ w b is_full. let same : Full ≡ Memory = rw is_full at lacks in absurd cc }
+
+-- what a loop has added so far
+abbrev pub HasAdded : Arena → Arena → (ℕ → Type 0) → ℕ → Type 0
+HasAdded old new bounds count = AddsWithin {T = Unit} (Ok tt) old new NoOtherCause bounds count
+
+pub nothing_added : {s : Arena} {bounds : ℕ → Type 0} {count : ℕ} → HasAdded s s bounds count
+nothing_added = record { added = λ w b. omega arith; full = λ w b e. absurd cc }

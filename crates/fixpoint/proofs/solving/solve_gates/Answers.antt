@@ -1,0 +1,20 @@
+use Rattle.std.proofs.Common.{◌≡◌, ◌∙◌, ◌++◌, List, length, replicate, map, sym, ap, arith}
+use Rattle.bdd_store.proofs.GrowthLemmas.{adds_more, adds_refused, adds_answered}
+use Rattle.dual_rail.specs.declared.rail.Rails.{Rails}
+use Rattle.fixpoint.specs.Kept.{rails_under}
+use Rattle.fixpoint.specs.Sweeping.{unknown}
+use Rattle.fixpoint.proofs.KeepingLemmas.{solved-from-given}
+use Rattle.fixpoint.proofs.solving.solve_gates.Goals as goal
+
+pub solve_blocks-requires-clause-solved : goal.solve_blocks-requires-clause-solved
+solve_blocks-requires-clause-solved c =
+    let before : c.deref_mut.result.now ≡ replicate (length c.args.net.now.gates) unknown = c.deref_mut.ensures.value ∙ c.in_ok-before.ensures.before ∙ ap (λ n. replicate n unknown) c.gates.ensures.gates in
+    let rails : c.deref_mut-2.result.now ≡ map (rails_under c.args.d.now) c.args.given.now ++ c.deref_mut.result.now =
+    c.deref_mut-2.ensures.value ∙ c.in_ok-before.ensures.rails ∙ ap (λ (xs : List Rails). map (rails_under c.args.d.now) c.args.given.now ++ xs) (sym c.deref_mut.ensures.value) in
+    solved-from-given c.args.net.now c.args.blocks.now c.args.cut.now c.args.d.now c.args.given.now c.deref_mut.result.now c.deref_mut-2.result.now c.args.places.now c.requires.given c.requires.places before rails
+
+pub returns-in_err-loops-clause-adds : goal.returns-in_err-loops-clause-adds
+returns-in_err-loops-clause-adds c = adds_more (omega arith) (adds_refused c.in_err-loops.was c.from_residual-in_err-loops.ensures.1 c.solve_blocks.ensures.adds)
+
+pub returns-clause-adds : goal.returns-clause-adds
+returns-clause-adds c = adds_more (omega arith) (adds_answered c.solve_blocks.ensures.adds)
