@@ -1,5 +1,5 @@
 -- Excerpts whose inputs are the columns.
-use Rattle.std.proofs.Common.{◌≡◌, inl, inr, ℕ, zero, suc, ◌+◌, ◌<◌, Bool, true, false, if◌then◌else◌, eqb, List, [], ◌∷◌, ◌++◌, length, map, get_or, refl, sym, ap, ◌∙◌, subst, arith, Contains, true≢false}
+use Rattle.std.proofs.Common.{◌≡◌, inl, inr, ℕ, zero, suc, ◌+◌, ◌-◌, ◌<◌, ◌≤◌, Bool, true, false, if◌then◌else◌, eqb, List, [], ◌∷◌, ◌++◌, length, map, get_or, refl, sym, ap, ◌∙◌, subst, arith, Contains, true≢false}
 use Rattle.std.proofs.lemmas.Bool.{cases_lt, eqb-true}
 use Rattle.std.proofs.lemmas.List.{get_or-map, get_or_default, get_or_append_left, get_or_push, length_push, length-map, length-append, ext_get_or}
 use Rattle.std.proofs.lemmas.List.Elements.{Contains-append_left, Contains-push, Contains-push_cases}
@@ -14,7 +14,7 @@ use Rattle.netlist.specs.Netlists.{count, signal, gate_sig}
 use Rattle.netlist.specs.Fixpoint.{wire, fix, fix_gates}
 use Rattle.loops.specs.Sweeps.{first_gate, value_in}
 use Rattle.loops.proofs.Walks.{begins_at}
-use Rattle.isolation.specs.Cones.{is_marked, AreUpstreamMarks, IsConeOf, ListsMarked}
+use Rattle.isolation.specs.Cones.{is_marked, AreUpstreamMarks, IsConeOf, IsNumberIn, ListsMarked}
 use Rattle.loops.specs.Found.{loops_of}
 use Rattle.loops.proofs.Sweeps.{length-fix}
 use Rattle.netlist.specs.Netlists.{IsNetlist}
@@ -23,6 +23,8 @@ use Rattle.isolation.specs.Excerpts.{gate_in, inputs_in, origins, AreWhole, IsEx
 use Rattle.isolation.specs.Laws.{column_signals, ExcerptsKeep, ColumnsGiveVectors, UnsettledExcerptDecides}
 use Rattle.isolation.proofs.KeptLemmas.{fix-kept}
 use Rattle.isolation.proofs.LoopLemmas.{loop-same, cut-same, sweeps-same, fixed-up, fixed-down}
+use Rattle.isolation.specs.Building.{IsPlaceOf}
+use Rattle.isolation.proofs.BuildingLemmas.{origin_is}
 use Rattle.isolation.proofs.SettledLemmas.{unsettled_loops_decide}
 use Rattle.isolation.proofs.UpstreamLemmas.{upstream-trans}
 
@@ -216,3 +218,28 @@ length-cone net gates =
     let c = length-map (range_with_len 0 (first_gate net)) signal in
     let d = length-range_with_len 0 (first_gate net) in
     omega (arith, a, b, c, d)
+
+column-place : (net : Parts) (s : Sig) → s.0 < first_gate net → get_or (column_signals net) s.0 s ≡ s
+column-place net s less =
+    let l = length-range_with_len 0 (first_gate net) in
+    get_or-map signal (range_with_len 0 (first_gate net)) s.0 0 s (omega (arith, less, l)) ∙ ap signal (get_or-range_with_len 0 (first_gate net) s.0 0 less ∙ omega arith)
+
+pub number-column : (net : Parts) (gates : List ℕ) (s : Sig) (first : ℕ) → first ≡ first_gate net → s.0 < first → IsNumberIn net gates s s.0
+number-column net gates s first is less =
+    let low : s.0 < first_gate net = omega (arith, is, less) in
+    let l = length-map (range_with_len 0 (first_gate net)) signal in
+    let n = length-range_with_len 0 (first_gate net) in
+    record {
+      within = omega (arith, low);
+      is = origin_is net (column_signals net) gates s s.0 (inl (record { within = omega (arith, low, l, n); is = column-place net s low }));
+    }
+
+pub number-gate : (net : Parts) (gates : List ℕ) (s : Sig) (first place number : ℕ) → first ≡ first_gate net → first ≤ s.0 → IsPlaceOf gates (s.0 - first) place → number ≡ first + place → IsNumberIn net gates s number
+number-gate net gates s first place number is high at sum =
+    let l = length-map (range_with_len 0 (first_gate net)) signal in
+    let n = length-range_with_len 0 (first_gate net) in
+    let w = at.within in
+    record {
+      within = omega (arith, sum, is, w);
+      is = origin_is net (column_signals net) gates s number (inr (omega (arith, is, high), place, subst (λ (m : ℕ). IsPlaceOf gates (s.0 - m) place) is at, omega (arith, sum, is, l, n)));
+    }

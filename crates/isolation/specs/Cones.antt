@@ -1,10 +1,13 @@
 -- Cones: marked gates with all that lies upstream of them, taken out of a netlist.
-use Rattle.std.specs.Prelude.{◌≡◌, ◌⊎◌, ◌↔◌, ◌<◌, ◌≤◌, ℕ, Bool, true, false, List, length, Contains, slice_index_or}
+use Rattle.std.specs.Prelude.{◌≡◌, ◌⊎◌, ◌↔◌, ◌<◌, ◌≤◌, ◌+◌, ℕ, Bool, true, false, List, length, Contains, slice_index_or}
+use Rattle.cyc_base.specs.declared.sig.Sig.{Sig}
 use Rattle.netlist.specs.declared.parts.Parts.{Parts}
+use Rattle.netlist.specs.Netlists.{signal}
 use Rattle.netlist.specs.Walks.{Feeds}
 use Rattle.loops.specs.declared.parts.Blocks.{Blocks}
 use Rattle.loops.specs.Blocks.{home_of}
-use Rattle.isolation.specs.Excerpts.{gate_in, AreWhole, IsExcerpt}
+use Rattle.loops.specs.Sweeps.{first_gate}
+use Rattle.isolation.specs.Excerpts.{gate_in, origin, origins, AreWhole, IsExcerpt}
 use Rattle.isolation.specs.Laws.{column_signals, IsUpstream}
 
 -- a gate is marked
@@ -27,6 +30,15 @@ pub record IsConeOf (net : Parts) (marks : List Bool) (gates : List ℕ) (small 
   pub is : IsExcerpt net (column_signals net) gates small
   pub whole : AreWhole net gates
   pub each : (m : ℕ) → m < length net.gates → Contains gates m ↔ LeadsToMark net marks m
+
+-- the signals of a cone as those of the whole: the columns, and then the gates
+abbrev pub cone_signals : Parts → List ℕ → List Sig
+cone_signals net gates = origins net (column_signals net) gates
+
+-- the number of a signal of the whole among those of a cone
+pub record IsNumberIn (net : Parts) (gates : List ℕ) (s : Sig) (number : ℕ) : Type 0 where
+  pub within : number < first_gate net + length gates
+  pub is : origin (cone_signals net gates) (signal number) ≡ s
 
 -- ---- while it is found
 

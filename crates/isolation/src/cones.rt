@@ -4,10 +4,10 @@ ghost use Rattle.std.specs.Prelude.{◌≡◌, ◌<◌, length, All, IfOk, IfSom
 ghost use Rattle.netlist.specs.Netlists.{gate_sig, IsNetlist, IsSignal};
 ghost use Rattle.netlist.specs.Walks.{Feeds};
 ghost use Rattle.loops.specs.Blocks.{AreBlocksOf};
-ghost use Rattle.isolation.specs.Cones.{AddMarks, AreUpstreamMarks, IsConeOf, IsNear, IsNearOne, IsWithMark, ListsMarked};
+ghost use Rattle.isolation.specs.Cones.{AddMarks, AreUpstreamMarks, IsConeOf, IsNear, IsNearOne, IsNumberIn, IsWithMark, ListsMarked};
 ghost use Rattle.isolation.specs.Laws.{column_signals};
 
-use crate::excerpt::{excerpt, gates_at};
+use crate::excerpt::{excerpt, gates_at, place_among};
 use cyc_base::{Items, Sig};
 use indexmap::IndexSet;
 use loops::Blocks;
@@ -172,4 +172,16 @@ pub fn cone_netlist(
         gates: Items::of(gates),
         netlist,
     }))
+}
+
+/// The number that a signal has in the cone of these gates, if it is there: columns have their own.
+pub fn number_in(net: &Netlist, gates: &[u32], signal: Sig) -> Option<usize>
+    ensures { IfSome result (IsNumberIn net.now gates.now signal) }
+{
+    let first = net.inputs() + net.latches();
+    if signal.0 < first {
+        return Some(signal.0 as usize);
+    }
+    let place = place_among(gates, signal.0 - first)?;
+    Some(first as usize + place)
 }

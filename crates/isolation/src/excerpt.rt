@@ -85,7 +85,7 @@ fn place_outside(outside: &IndexSet<Sig>, signal: Sig) -> Option<usize>
 }
 
 /// The place of a gate among these.
-fn place_among(gates: &[u32], gate: u32) -> Option<usize>
+pub(crate) fn place_among(gates: &[u32], gate: u32) -> Option<usize>
     ensures { IfSome result (λ place. IsPlaceOf gates.now gate place) }
 {
     match gates.binary_search(&gate) {
