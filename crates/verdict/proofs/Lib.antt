@@ -1,5 +1,6 @@
 mod AloneLemmas
 mod CareLemmas
+mod ConeLemmas
 mod CauseLemmas
 mod CountLemmas
 mod DecisionLemmas

@@ -1,5 +1,6 @@
 pub mod Alone
 pub mod Causes
+pub mod Cones
 pub mod Costs
 pub mod Enough
 pub mod Laws

@@ -8,10 +8,12 @@
 
 mod alone;
 mod care;
+mod cones;
 mod deciding;
 mod fault;
 mod gates;
 pub mod laws;
+mod leaving;
 mod next;
 mod observing;
 mod parts;
