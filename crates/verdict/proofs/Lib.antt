@@ -1,10 +1,11 @@
-mod AloneLemmas
+mod DeterminationLemmas
 mod CareLemmas
 mod ConeLemmas
 mod CauseLemmas
 mod CountLemmas
 mod DecisionLemmas
 mod EnoughLemmas
+mod KnownLemmas
 mod LeavesLemmas
 mod MarkLemmas
 mod NextLemmas
@@ -14,4 +15,5 @@ mod SizeLemmas
 mod SolutionLemmas
 mod StartLemmas
 mod VerdictLemmas
+mod WitnessLemmas
 mod WorkLemmas

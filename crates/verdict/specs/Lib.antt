@@ -1,8 +1,9 @@
-pub mod Alone
+pub mod Determination
 pub mod Causes
 pub mod Cones
 pub mod Costs
 pub mod Enough
+pub mod Known
 pub mod Laws
 pub mod Next
 pub mod Observed

@@ -14,7 +14,8 @@ ghost use Rattle.verdict.specs.Enough.{IsLaid, IsBelowEnough};
 ghost use Rattle.verdict.specs.Sets.{AreFixed, Tells};
 ghost use Rattle.verdict.specs.Verdicts.{later_refusal, IsVerdict, StandSo};
 
-use crate::alone::{limit_of, settled_counts};
+use crate::alone::limit_of;
+use crate::determined::determined_counts;
 use crate::fault::DecideFault;
 use crate::gates::Gates;
 use crate::parts::{gates_on, leaves};
@@ -95,10 +96,12 @@ fn judge(
         Start::Refused(refusal) => return Ok(Verdict::Refused(refusal)),
     };
     let limit = limit_of(d);
-    let alone = settled_counts(alloc, net, blocks, care, limit)?;
-    match alone {
-        Some(sweeps) => return Ok(Verdict::Accepted { sweeps, loose: 0 }),
-        None => {}
+    let determined = determined_counts(alloc, net, blocks, cut, care, limit)?;
+    if let Some(sweeps) = determined {
+        match care.invariant() {
+            None => return Ok(Verdict::Accepted { sweeps, loose: 0 }),
+            Some(_) => {}
+        }
     }
     let solved = solve(alloc, d, net, blocks, cut, &rails)?;
     let gates = later(

@@ -10,8 +10,10 @@ mod alone;
 mod care;
 mod cones;
 mod deciding;
+mod determined;
 mod fault;
 mod gates;
+mod known;
 pub mod laws;
 mod leaving;
 mod next;
@@ -21,6 +23,7 @@ mod sets;
 mod start;
 mod starting;
 mod verdict;
+mod witness;
 
 pub use deciding::decide;
 pub use fault::DecideFault;

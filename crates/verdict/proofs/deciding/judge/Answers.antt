@@ -1,4 +1,6 @@
 use Rattle.std.proofs.Common.{◌≡◌, ◌∙◌, inl, inr, ◌+◌, ◌*◌, ◌≤◌, ℕ, Err, None, List, length, refl, sym, ap, subst, arith}
+use Rattle.std.specs.Prelude.{IfSome}
+use Rattle.std.specs.Option.{option_copied}
 use Rattle.bdd_store.specs.declared.fault.StoreFault.{StoreFault}
 use Rattle.bdd_store.specs.Arena.{Arena}
 use Rattle.bdd_store.specs.Growth.{KeepsNodes, IsFullOnlyPast}
@@ -16,6 +18,8 @@ use Rattle.fixpoint.specs.Counts.{CountSweeps, IsComparedIn, count_at}
 use Rattle.fixpoint.specs.Working.{IsWorking, HasLargeCover}
 use Rattle.care_sets.specs.Care.{CareSet, columns, is_care_vector}
 use Rattle.refusals.specs.Refusals.{refusal}
+use Rattle.refusals.proofs.RefusalLemmas.{nothing_mapped}
+use Rattle.verdict.specs.Determination.{IsDetermination}
 use Rattle.verdict.specs.Causes.{HasModelOver, IsStoreFor}
 use Rattle.verdict.specs.Enough.{IsLaid, enough}
 use Rattle.verdict.specs.Sets.{Tells, AreFixed}
@@ -25,6 +29,7 @@ use Rattle.verdict.specs.Verdicts.{IsStart, IsCareStart, AreLoose, StandSo, late
 use Rattle.verdict.proofs.CauseLemmas.{IsStoreFor-kept, out_past, out_care, out_solved}
 use Rattle.isolation.proofs.ColumnLemmas.{AreColumns-kept}
 use Rattle.verdict.proofs.CountLemmas.{count-on-care}
+use Rattle.verdict.proofs.DeterminationLemmas.{determinations_accept, nothing_leaves}
 use Rattle.verdict.proofs.EnoughLemmas.{cost_of_columns, cost_before, cost_of_fix, cost_after, cost_of_sweeps, costs-enough, used-more, past-enough, over-net, over-model}
 use Rattle.verdict.proofs.PartLemmas.{Tells-kept}
 use Rattle.verdict.proofs.SolutionLemmas.{loops-are, working-wide, compared-wide}
@@ -268,24 +273,28 @@ returns-in_err-counts-clause-enough g is_full none = record {
       (used-after at.After-later w wide (used-by-fix at.After-solve w wide (used-before at.After-begin w wide (used-by-columns at.After-column_rails none)))) full (omega (arith, sum));
 }
 
--- ---- where loops are settled by themselves
+-- ---- where all gates are determined on care
 
-pub returns-in_err-alone-clause-full : goal.returns-in_err-alone-clause-full
-returns-in_err-alone-clause-full c is_full =
-    let refused = ap {A = StoreFault} Err (sym (rw is_full at c.from_residual-in_err-alone.ensures.1)) in
+pub returns-in_err-determined-clause-full : goal.returns-in_err-determined-clause-full
+returns-in_err-determined-clause-full c is_full =
+    let refused = ap {A = StoreFault} Err (sym (rw is_full at c.from_residual-in_err-determined.ensures.1)) in
     record {
       store = store-after c.args.d.now.limit refl c.requires.vars (KeepsNodes-chain c.column_rails.ensures.keeps c.begin.ensures.keeps);
-      cause = inr (inl (subst (HasLargeCover c.args.net.now) (c.limit_of-limit.ensures.limit ∙ c.begin.ensures.keeps.limit ∙ c.column_rails.ensures.keeps.limit) (c.in_err-alone.ensures.full refused)));
+      cause = inr (inl (subst (HasLargeCover c.args.net.now) (c.limit_of-limit.ensures.limit ∙ c.begin.ensures.keeps.limit ∙ c.column_rails.ensures.keeps.limit) (c.in_err-determined.ensures.full refused)));
     }
 
-pub returns-in_err-alone-clause-enough : goal.returns-in_err-alone-clause-enough
-returns-in_err-alone-clause-enough c is_full none = record {
+pub returns-in_err-determined-clause-enough : goal.returns-in_err-determined-clause-enough
+returns-in_err-determined-clause-enough c is_full none = record {
   below = λ w wide.
-      let refused = ap {A = StoreFault} Err (sym (rw is_full at c.from_residual-in_err-alone.ensures.1)) in
-      over-net c.args.net.now c.args.care.now w c.args.d.now.limit wide (subst (HasLargeCover c.args.net.now) (c.limit_of-limit.ensures.limit ∙ c.begin.ensures.keeps.limit ∙ c.column_rails.ensures.keeps.limit) (c.in_err-alone.ensures.full refused));
+      let refused = ap {A = StoreFault} Err (sym (rw is_full at c.from_residual-in_err-determined.ensures.1)) in
+      over-net c.args.net.now c.args.care.now w c.args.d.now.limit wide (subst (HasLargeCover c.args.net.now) (c.limit_of-limit.ensures.limit ∙ c.begin.ensures.keeps.limit ∙ c.column_rails.ensures.keeps.limit) (c.in_err-determined.ensures.full refused));
 }
 
-pub returns-in-Some-clause-verdict : goal.returns-in-Some-clause-verdict
-returns-in-Some-clause-verdict c =
-    let start : IsCareStart c.args.net.now c.args.care.now c.begin.new.d c.in-Care.set = subst (IsStart c.args.net.now c.args.care.now c.begin.new.d) c.in-Care.is c.in_ok-set.ensures.start in
-    rw c.in-Some.is at (c.in_ok-alone.ensures.accepted c.args.cut.now c.args.observe c.requires.cut start.some)
+pub returns-in-None-clause-verdict : goal.returns-in-None-clause-verdict
+returns-in-None-clause-verdict c =
+    let net = c.args.net.now in
+    let care = c.args.care.now in
+    let start : IsCareStart net care c.begin.new.d c.in-Care.set = subst (IsStart net care c.begin.new.d) c.in-Care.is c.in_ok-set.ensures.start in
+    determinations_accept net c.args.blocks.now c.args.cut.now care c.args.observe c.in-Some.sweeps c.begin.ensures.valid
+    (subst (λ o. IfSome o (IsDetermination net c.args.blocks.now c.args.cut.now care)) c.in-Some.is (c.in_ok-determined.ensures.determined start.some))
+    start.initial start.some (nothing_leaves net care (nothing_mapped _ _ (sym c.invariant.ensures.net ∙ ap option_copied c.in-None.is)))
