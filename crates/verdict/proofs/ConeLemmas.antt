@@ -38,10 +38,15 @@ use Rattle.care_sets.specs.Binding.{IsCareOf, IsBoundTo}
 use Rattle.care_sets.specs.Care.{CareSet, columns, is_one, inputs_at, holds_at, is_in_invariant, is_care_vector, IsCareVector}
 use Rattle.refusals.specs.declared.refusal.Refusal.{Refusal}
 use Rattle.refusals.specs.declared.refusal.Refusal.TheVariants.{Leaves}
-use Rattle.refusals.specs.Refusals.{leaves, leaves_refusal, next_state, care_vectors}
+use Rattle.std.specs.Option.{option_or}
+use Rattle.refusals.specs.declared.observe.Observe.{Observe}
+use Rattle.refusals.specs.Refusals.{leaves, initial_refusal, empty_refusal, leaves_refusal, refusal, next_state}
+use Rattle.verdict.specs.Determination.{AreDeterminedOnCare, IsGate}
+use Rattle.verdict.proofs.DeterminationLemmas.{none-undetermined}
+use Rattle.verdict.proofs.VerdictLemmas.{refused-later}
 use Rattle.refusals.proofs.FirstLemmas.{found_wide}
 use Rattle.refusals.proofs.LawLemmas.{care_test}
-use Rattle.refusals.proofs.RefusalLemmas.{next_state_is}
+use Rattle.refusals.proofs.RefusalLemmas.{next_state_is, sources_known, length-fix_gates}
 use Rattle.refusals.proofs.ShowingLemmas.{care_vector_decides}
 use Rattle.verdict.specs.Cones.{IsConeIn, IsSolvedOn, AreConeRails, AreReadLatches, IsLoad, AreLoads, HasNext, HaveNext, IsStep, IsStepTo}
 use Rattle.verdict.specs.declared.cones.SolvedNetlist.{SolvedNetlist}
@@ -251,17 +256,6 @@ module _ (net : Parts) (care : CareSet) (a : Arena) (vars : a.vars ≡ columns n
 
 -- ---- the step
 
--- without an invariant no state leaves it
-pub stays-without : (net : Parts) (care : CareSet) → care.invariant ≡ None → leaves_refusal net care ≡ None
-stays-without net care lacks = ap (option_map (λ v. Leaves v (next_state net v))) (none (care_vectors net care))
-  where
-    fails : (v : List Bool) → leaves net care v ≡ false
-    fails v = ap (λ (o : Option CareModel). not (option_map_or (λ model. holds_at model (next_state net v)) o true)) lacks
-
-    none : (vs : List (List Bool)) → find (leaves net care) vs ≡ None
-    none [] = refl
-    none (v ∷ vs) = rw (fails v) (none vs)
-
 -- where care is so, the test of the next state is that of what was found
 pub step-is : (net : Parts) (care : CareSet) (s e x : Arena) (set inside outside : Node) (loads : List Rails) (found : Option (List Bool)) (step : Step) → s.vars ≡ columns net → KeepsNodes s e → KeepsNodes e x →
     Tells net s set (is_care_vector net care) → HaveNext net care s loads →
@@ -298,3 +292,16 @@ step-is net care s e x set inside outside loads found step vars keeps more told 
 pub wide-found : {V : Type 0} (items : V → List Bool) (n : ℕ) (p : List Bool → Bool) (found : Option V) → option_map items found ≡ find p (vectors n) → IfSome found (λ v. length (items v) ≡ n)
 wide-found items n p None is = tt
 wide-found items n p (Some v) is = found_wide n p (items v) (sym is)
+
+-- ---- where all gates are determined on care
+
+-- what latches load is known
+pub loads-known : (net : Parts) (care : CareSet) → IsNetlist net → AreDeterminedOnCare net care (IsGate net) → LoadsAreKnown net care
+loads-known net care valid determined v counts =
+    sources_known net v valid counts.width (λ k d less x.
+    determined v counts k (let l = length-fix_gates net (bits v) in omega (arith, less, l)) (get_or_default (fix_gates net (bits v)) k X d less ∙ x))
+
+-- a next state that leaves the invariant refuses the netlist
+pub leaving-refuses : (net : Parts) (care : CareSet) (what : Observe) (r : Refusal) → AreDeterminedOnCare net care (IsGate net) → initial_refusal net care ≡ None → empty_refusal net care ≡ None → leaves_refusal net care ≡ Some r →
+    refusal net care what ≡ Some r
+leaving-refuses net care what r determined initial some leaves_is = refused-later net care what (Some r) initial some (ap₂ option_or (none-undetermined net care what determined) leaves_is)

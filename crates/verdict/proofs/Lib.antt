@@ -1,9 +1,9 @@
-mod DeterminationLemmas
 mod CareLemmas
-mod ConeLemmas
 mod CauseLemmas
+mod ConeLemmas
 mod CountLemmas
 mod DecisionLemmas
+mod DeterminationLemmas
 mod EnoughLemmas
 mod KnownLemmas
 mod LeavesLemmas

@@ -1,19 +1,17 @@
 -- What is decided on the cones of some gates alone.
-use Rattle.std.specs.Prelude.{◌≡◌, ◌≢◌, ◌<◌, ◌+◌, ◌-◌, ℕ, Bool, true, List, length, map, All, Contains, Option, None, Some, IfSome, slice_index_or, if◌then◌else◌}
+use Rattle.std.specs.Prelude.{◌≡◌, ◌<◌, ◌+◌, ◌-◌, ℕ, Bool, true, List, length, map, All, Contains, Option, None, Some, IfSome, if◌then◌else◌}
 use Rattle.bdd_store.specs.Arena.{Arena}
 use Rattle.cyc_base.specs.declared.trit.Trit.{Trit}
-use Rattle.cyc_base.specs.declared.trit.Trit.TheVariants.{X, Zero}
+use Rattle.cyc_base.specs.declared.trit.Trit.TheVariants.{Zero}
 use Rattle.cyc_base.specs.Values.{bits}
 use Rattle.dual_rail.specs.declared.rail.Rails.{Rails}
 use Rattle.dual_rail.specs.Rails.{AreRailsOf, value_of, values_of}
 use Rattle.netlist.specs.declared.parts.Parts.{Parts}
 use Rattle.netlist.specs.Netlists.{IsNetlist}
-use Rattle.netlist.specs.Fixpoint.{fix, fix_gates, next, wire}
-use Rattle.loops.specs.declared.parts.Blocks.{Blocks}
-use Rattle.loops.specs.declared.parts.Cut.{Cut}
-use Rattle.loops.specs.Blocks.{AreBlocksOf, block_at}
-use Rattle.loops.specs.Cuts.{IsCutOf, loops_by}
-use Rattle.loops.specs.Sweeps.{first_gate, value_in, IsCountOfSweeps}
+use Rattle.netlist.specs.Fixpoint.{fix, next, wire}
+use Rattle.loops.specs.Blocks.{AreBlocksOf}
+use Rattle.loops.specs.Cuts.{IsCutOf}
+use Rattle.loops.specs.Sweeps.{first_gate, value_in}
 use Rattle.fixpoint.specs.Orders.{laid}
 use Rattle.fixpoint.specs.Solved.{IsSolution}
 use Rattle.fixpoint.specs.Sweeping.{rails_at}
@@ -23,7 +21,6 @@ use Rattle.isolation.specs.Laws.{column_signals}
 use Rattle.care_sets.specs.Care.{CareSet, IsCareVector, is_in_invariant}
 use Rattle.refusals.specs.Refusals.{leaves_refusal, next_state}
 use Rattle.refusals.specs.declared.refusal.Refusal.TheVariants as refusals
-use Rattle.verdict.specs.Verdicts.{are_care_values}
 use Rattle.verdict.specs.declared.cones.SolvedNetlist.{SolvedNetlist}
 use Rattle.verdict.specs.declared.leaving.Step.{Step}
 use Rattle.verdict.specs.declared.leaving.Step.TheVariants as steps
@@ -85,13 +82,3 @@ abbrev pub IsStep : Parts → CareSet → Step → Type 0
 IsStep net care steps.Stays = leaves_refusal net care ≡ None
 IsStep net care (steps.Leaves refusal) = leaves_refusal net care ≡ Some refusal
 IsStep net care steps.Undecided = Unit {0}
-
--- ---- loops
-
--- Loops at these places are determined on care, and need so many sweeps there.
-pub record AreCountsInCones (net : Parts) (blocks : Blocks) (cut : Cut) (care : CareSet) (places counts : List ℕ) : Type 0 where
-  pub width : length counts ≡ length places
-  pub gates : (place : ℕ) → Contains places place → (v : List Bool) → IsCareVector net care v →
-      All (λ gate. value_in (fix_gates net (bits v)) gate ≢ X) (block_at blocks place).gates
-  pub sweeps : (i : ℕ) → i < length places →
-      All (λ gate. IsCountOfSweeps net (loops_by blocks cut) (are_care_values net care) gate (slice_index_or counts i 0)) (block_at blocks (slice_index_or places i 0)).gates

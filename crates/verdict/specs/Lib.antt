@@ -1,7 +1,7 @@
-pub mod Determination
 pub mod Causes
 pub mod Cones
 pub mod Costs
+pub mod Determination
 pub mod Enough
 pub mod Known
 pub mod Laws
