@@ -1,5 +1,5 @@
 -- The rails of a cone's signals, and of what latches load there.
-use Rattle.std.proofs.Common.{◌≡◌, ◌≢◌, inl, inr, ℕ, zero, suc, ◌+◌, ◌-◌, ◌<◌, ◌≤◌, Bool, true, false, not, ◌&&◌, if◌then◌else◌, List, [], ◌∷◌, ◌++◌, length, map, get_or, slice_get, Option, Some, None, IfSome, Contains, refl, sym, ap, ap₂, ◌∙◌, subst, arith}
+use Rattle.std.proofs.Common.{◌≡◌, ◌≢◌, inl, inr, ℕ, ◌+◌, ◌-◌, ◌<◌, ◌≤◌, Bool, true, false, not, ◌&&◌, if◌then◌else◌, List, [], ◌∷◌, ◌++◌, length, map, get_or, slice_get, Option, Some, None, IfSome, Contains, refl, sym, ap, ap₂, ◌∙◌, subst, arith}
 use Rattle.std.specs.Prelude.{find}
 use Rattle.std.specs.List.{All}
 use Rattle.std.proofs.Math.ListN.{set}
@@ -12,11 +12,11 @@ use Rattle.bdd_store.specs.Arena.{Arena, den}
 use Rattle.bdd_store.specs.Growth.{KeepsNodes}
 use Rattle.cyc_base.specs.declared.sig.Sig.{Sig}
 use Rattle.cyc_base.specs.declared.trit.Trit.{Trit}
-use Rattle.cyc_base.specs.declared.trit.Trit.TheVariants.{X, Zero, One}
+use Rattle.cyc_base.specs.declared.trit.Trit.TheVariants.{X, Zero}
 use Rattle.cyc_base.specs.Values.{bit, bits}
 use Rattle.cyc_base.specs.Vectors.{vectors}
 use Rattle.dual_rail.specs.declared.rail.Rails.{Rails}
-use Rattle.dual_rail.specs.Rails.{AreRailsOf, trit_of, value_of, values_of}
+use Rattle.dual_rail.specs.Rails.{AreRailsOf, value_of, values_of}
 use Rattle.dual_rail.proofs.SurelyLemmas.{length-values}
 use Rattle.netlist.specs.declared.parts.Latch.{Latch}
 use Rattle.netlist.specs.declared.parts.Parts.{Parts}
@@ -35,7 +35,7 @@ use Rattle.isolation.proofs.ExcerptLemmas.{first-small, known_list, bit-known}
 use Rattle.isolation.proofs.ConeLemmas.{cone-wires, length-cone}
 use Rattle.care_sets.specs.declared.model.CareModel.{CareModel}
 use Rattle.care_sets.specs.Binding.{IsCareOf, IsBoundTo}
-use Rattle.care_sets.specs.Care.{CareSet, columns, is_one, inputs_at, holds_at, is_in_invariant, is_care_vector, IsCareVector}
+use Rattle.care_sets.specs.Care.{CareSet, columns, is_one, holds_at, is_in_invariant, is_care_vector, IsCareVector}
 use Rattle.refusals.specs.declared.refusal.Refusal.{Refusal}
 use Rattle.refusals.specs.declared.refusal.Refusal.TheVariants.{Leaves}
 use Rattle.std.specs.Option.{option_or}
@@ -51,7 +51,6 @@ use Rattle.refusals.proofs.ShowingLemmas.{care_vector_decides}
 use Rattle.verdict.specs.Cones.{IsConeIn, IsSolvedOn, AreConeRails, AreReadLatches, IsLoad, AreLoads, HasNext, HaveNext, IsStep, IsStepTo}
 use Rattle.verdict.specs.declared.cones.SolvedNetlist.{SolvedNetlist}
 use Rattle.verdict.specs.declared.leaving.Step.{Step}
-use Rattle.verdict.specs.declared.leaving.Step.TheVariants as steps
 use Rattle.verdict.specs.Next.{LoadsAreKnown}
 use Rattle.verdict.specs.Sets.{Tells, ReadsWithin, difference}
 use Rattle.verdict.proofs.PartLemmas.{told-first, invariant-reads}

@@ -1,4 +1,4 @@
-use Rattle.std.proofs.Common.{◌≡◌, ◌∙◌, ◌++◌, ◌<◌, ◌≤◌, List, Bool, length, take, drop, subst, sym, arith}
+use Rattle.std.proofs.Common.{◌≡◌, ◌∙◌, List, Bool, length, drop, subst, sym, arith}
 use Rattle.std.proofs.lemmas.List.{take-append-le, take_all}
 use Rattle.verdict.specs.Cones.{AreReadLatches}
 use Rattle.verdict.proofs.ConeLemmas.{read-columns, reads_are}

@@ -1,4 +1,4 @@
-use Rattle.std.proofs.Common.{◌∙◌, ◌-◌, arith}
+use Rattle.std.proofs.Common.{◌∙◌, arith}
 use Rattle.std.proofs.lemmas.List.{length-set}
 use Rattle.verdict.proofs.ConeLemmas.{marked-more}
 use Rattle.verdict.proofs.leaving.mark_latches.Goals as goal

@@ -1,4 +1,4 @@
-use Rattle.std.proofs.Common.{◌≡◌, ◌∙◌, Bool, Global, List, Vec, length, ap, subst, sym}
+use Rattle.std.proofs.Common.{◌≡◌, ◌∙◌, Bool, Global, Vec, length, subst, sym}
 use Rattle.std.specs.Prelude.{IfSome}
 use Rattle.std.specs.Option.{option_map}
 use Rattle.bdd_store.specs.Arena.{den}
