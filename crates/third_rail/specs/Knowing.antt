@@ -59,9 +59,13 @@ HasHint a (Unknown gates) = Unit {0}
 
 -- ---- while it is found
 
--- the rails claim that a gate is known at each vector of the set
+-- rails claim that a value is known at each vector of the set
+abbrev pub IsKnownOn : Arena → Node → ThreeRails → Type 0
+IsKnownOn a set r = (v : List Bool) → den a set v ≡ true → den a r.known v ≡ true
+
+-- those of a gate do
 abbrev pub IsClaimedKnown : Arena → Node → ℕ → List ThreeRails → ℕ → Type 0
-IsClaimedKnown a set first rails n = (v : List Bool) → den a set v ≡ true → den a (rails_at rails (first + n)).known v ≡ true
+IsClaimedKnown a set first rails n = IsKnownOn a set (rails_at rails (first + n))
 
 -- that the marked gates are
 abbrev pub AreClaimedKnown : Arena → Node → ℕ → List ThreeRails → List Bool → Type 0

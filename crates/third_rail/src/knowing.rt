@@ -1,13 +1,13 @@
 //! After how many sweeps gates are known on a set of vectors, whatever the data.
 
-ghost use Rattle.std.specs.Prelude.{◌≡◌, ◌<◌, ◌≤◌, ◌+◌, ◌++◌, Bool, true, false, List, length, replicate, All, IfOk, OnOk};
+ghost use Rattle.std.specs.Prelude.{◌≡◌, ◌≢◌, ◌<◌, ◌≤◌, ◌+◌, ◌++◌, Bool, true, false, List, length, replicate, All, IfOk, OnOk};
 ghost use Rattle.bdd_store.specs.Arena.{constant, den, IsNodeOf};
 ghost use Rattle.bdd_store.specs.Growth.{KeepsNodes};
 ghost use Rattle.dual_rail.specs.Rails.{AreRailsOf};
 ghost use Rattle.loops.specs.Blocks.{AreBlocksOf};
 ghost use Rattle.loops.specs.Cuts.{IsCutOf, loops_by};
 ghost use Rattle.loops.specs.Sweeps.{first_gate};
-ghost use Rattle.third_rail.specs.Knowing.{vectors_of, AreClaimedKnown, AreDetermined, AreNoted, AreKnownSince, HasGates, HasHint, HasSwept, HaveNumbers, IsKnowledge};
+ghost use Rattle.third_rail.specs.Knowing.{is_marked, number_of, vectors_of, AreClaimedKnown, AreDetermined, AreNoted, AreKnownSince, IsKnownOn, HasGates, HasHint, HasSwept, HaveNumbers, IsKnowledge};
 ghost use Rattle.third_rail.specs.Nodes.{no_rails, AreNodes};
 ghost use Rattle.third_rail.specs.Sweeping.{AreLaid, AreWires, FitSweeps, Layout};
 
@@ -53,6 +53,26 @@ fn difference(d: &mut Diagrams, m: Node, n: Node) -> Result<Node, StoreFault>
     Ok(missed)
 }
 
+/// Where a gate isn't claimed to be known at each vector of the set, if it is wanted.
+fn missed_at(
+    d: &mut Diagrams,
+    wanted: bool,
+    rails: ThreeRails,
+    set: Node,
+) -> Result<Node, StoreFault>
+    requires set { IsNodeOf d.old set }
+    requires rails { AreNodes d.old rails }
+    ensures node { IfOk result (IsNodeOf d.new) }
+    ensures known { IfOk result (λ missed. missed ≡ constant false → wanted ≡ true → IsKnownOn d.old set rails) }
+    ensures keeps { KeepsNodes d.old d.new }
+{
+    if !wanted {
+        return Ok(Node::of(false));
+    }
+    let missed = difference(d, set, rails.known)?;
+    Ok(missed)
+}
+
 /// Whether a gate is claimed to be known at each vector of the set, where it is wanted.
 fn is_claimed(
     d: &mut Diagrams,
@@ -62,13 +82,10 @@ fn is_claimed(
 ) -> Result<bool, StoreFault>
     requires set { IsNodeOf d.old set }
     requires rails { AreNodes d.old rails }
-    ensures known { IfOk result (λ claimed. claimed ≡ true → wanted ≡ true → (v : List Bool) → den d.old set v ≡ true → den d.old rails.known v ≡ true) }
+    ensures known { IfOk result (λ claimed. claimed ≡ true → wanted ≡ true → IsKnownOn d.old set rails) }
     ensures keeps { KeepsNodes d.old d.new }
 {
-    if !wanted {
-        return Ok(true);
-    }
-    let missed = difference(d, set, rails.known)?;
+    let missed = missed_at(d, wanted, rails, set)?;
     Ok(missed == Node::of(false))
 }
 
@@ -119,6 +136,16 @@ fn unknown_among(
     Ok(unknown)
 }
 
+/// Whether a gate is a marked cut wire without a number.
+fn is_pending(marks: &[bool], cuts: &[bool], since: &[u32], gate: usize) -> bool
+    requires marks { gate < length marks.now }
+    requires cuts { gate < length cuts.now }
+    requires since { gate < length since.now }
+    ensures { result ≡ false → is_marked marks.now gate ≡ true → is_marked cuts.now gate ≡ true → number_of since.now gate ≢ 0 }
+{
+    marks[gate] && cuts[gate] && since[gate] == 0
+}
+
 /// Notes the number of this sweep at each marked cut wire without one that is claimed to be known at each vector of the
 /// set after it. The answer is false where each marked cut wire has a number then, and else says where one isn't known.
 fn note_known(
@@ -145,13 +172,12 @@ fn note_known(
 {
     let mut left = Node::of(false);
     for gate in 0..marks.len() {
-        if marks[gate] && cuts[gate] && since[gate] == 0 {
-            let missed = difference(d, set, rails[first as usize + gate].known)?;
-            if missed == Node::of(false) {
-                since[gate] = number;
-            } else {
-                left = missed;
-            }
+        let pending = is_pending(marks, cuts, since, gate);
+        let missed = missed_at(d, pending, rails[first as usize + gate], set)?;
+        if missed != Node::of(false) {
+            left = missed;
+        } else if pending {
+            since[gate] = number;
         }
     }
     Ok(left)

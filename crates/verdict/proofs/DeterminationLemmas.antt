@@ -35,7 +35,7 @@ use Rattle.refusals.specs.Refusals.{is_empty, is_x, is_among, is_undetermined, c
 use Rattle.refusals.proofs.FirstLemmas.{empty-filter, found_passes, found_wide, nothing_passes}
 use Rattle.refusals.proofs.RefusalLemmas.{bit_known, fails_after, find_none-all, gate_sig_at, gate_wire, known-is_x, length-fix_gates, length-gate_sigs}
 use Rattle.refusals.proofs.ShowingLemmas.{care_vector_decides, care_vector_is}
-use Rattle.verdict.specs.Determination.{sweeps_at, AreCountsBelow, AreDecided, AreDeterminedOnCare, IsDetermination, IsGate, IsOpen, SettleInOneSweep}
+use Rattle.verdict.specs.Determination.{count_of, AreCountsBelow, AreDecided, AreDeterminedOnCare, IsDetermination, IsGate, IsOpen, SettleInOneSweep}
 use Rattle.verdict.specs.Laws.{DeterminationsAccept, NothingLeaves}
 use Rattle.verdict.specs.Observed.{AreMarksOf}
 use Rattle.verdict.specs.Verdicts.{are_care_values}
@@ -97,7 +97,7 @@ settled-more net blocks n here settled before is = record {
 }
 
 -- the number of one block more
-pub counts-more : (blocks : Blocks) (settled : List Bool) (others : List ℕ) (n count : ℕ) (counts : List ℕ) → AreCountsBelow blocks settled others n counts → count ≡ sweeps_at blocks settled others n →
+pub counts-more : (blocks : Blocks) (settled : List Bool) (others : List ℕ) (n count : ℕ) (counts : List ℕ) → AreCountsBelow blocks settled others n counts → count ≡ count_of blocks settled others n →
     AreCountsBelow blocks settled others (n + 1) (counts ++ count ∷ [])
 counts-more blocks settled others n count counts before is = record {
   width = length_push counts count ∙ ap (λ m. m + 1) before.width;
@@ -105,7 +105,7 @@ counts-more blocks settled others n count counts before is = record {
     | inl low ↦ get_or_append_left counts (count ∷ []) 0 b (let w = before.width in omega (arith, w, low)) ∙ before.each b low
     | inr high ↦
         let at : n ≡ b = omega (arith, less, high) in
-        get_or_push counts count 0 b (let w = before.width in omega (arith, w, at)) ∙ is ∙ ap (sweeps_at blocks settled others) at
+        get_or_push counts count 0 b (let w = before.width in omega (arith, w, at)) ∙ is ∙ ap (count_of blocks settled others) at
   ];
 }
 

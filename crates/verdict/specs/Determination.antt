@@ -51,13 +51,13 @@ pub record AreDecided (net : Parts) (blocks : Blocks) (cut : Cut) (care : CareSe
       IsCountOfSweeps net (loops_by blocks cut) (are_care_values net care) n (number_of counts (home_of blocks n))
 
 -- one for a loop that is settled, and else its number among these; 0 for another block
-abbrev pub sweeps_at : Blocks → List Bool → List ℕ → ℕ → ℕ
-sweeps_at blocks settled others b = if (block_at blocks b).looped then (if is_marked settled b then 1 else number_of others b) else 0
+abbrev pub count_of : Blocks → List Bool → List ℕ → ℕ → ℕ
+count_of blocks settled others b = if (block_at blocks b).looped then (if is_marked settled b then 1 else number_of others b) else 0
 
 -- the numbers of the first blocks
 pub record AreCountsBelow (blocks : Blocks) (settled : List Bool) (others : List ℕ) (n : ℕ) (counts : List ℕ) : Type 0 where
   pub width : length counts ≡ n
-  pub each : (b : ℕ) → b < n → number_of counts b ≡ sweeps_at blocks settled others b
+  pub each : (b : ℕ) → b < n → number_of counts b ≡ count_of blocks settled others b
 
 -- ---- loops that are known whatever the data
 

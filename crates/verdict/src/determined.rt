@@ -9,7 +9,7 @@ ghost use Rattle.fixpoint.specs.Working.{HasLargeCover};
 ghost use Rattle.care_sets.specs.Binding.{IsCareOf};
 ghost use Rattle.third_rail.specs.Knowing.{is_marked};
 ghost use Rattle.refusals.specs.Refusals.{empty_refusal};
-ghost use Rattle.verdict.specs.Determination.{sweeps_at, AreCountsBelow, AreDecided, BoundSweeps, IsDetermination};
+ghost use Rattle.verdict.specs.Determination.{count_of, AreCountsBelow, AreDecided, BoundSweeps, IsDetermination};
 
 use crate::alone::{fit_covers, settled_loops};
 use crate::known::known_on_care;
@@ -129,7 +129,7 @@ fn open_counts(
 fn sweeps_of(blocks: &Blocks, settled: &[bool], others: &[u32], place: usize) -> u32
     requires place { place < length blocks.now.list }
     requires settled { length settled.now ≡ length blocks.now.list }
-    ensures { result ≡ sweeps_at blocks.now settled.now others.now place }
+    ensures { result ≡ count_of blocks.now settled.now others.now place }
 {
     if !blocks.list.items()[place].looped {
         return 0;
@@ -186,8 +186,8 @@ fn determine(
 /// The sweeps of the loops on care, where no gate is unknown at any care vector: each loop is settled by itself in one
 /// sweep, or the third rail knows it on care. It is None where that isn't seen.
 ///
-/// It works on diagrams of its own, each with a limit of its own at most. Full where a cover has more nodes than the
-/// limit, as it would be in the netlist's own diagrams.
+/// It works on diagrams of its own, none of more nodes than the limit. Full where a cover has more nodes than that, as it
+/// would be in the netlist's own diagrams.
 pub(crate) fn determined_counts(
     alloc: Global,
     net: &Netlist,
