@@ -2,6 +2,7 @@ mod CareLemmas
 mod CauseLemmas
 mod ConeLemmas
 mod CountLemmas
+mod CountingLemmas
 mod DecisionLemmas
 mod DeterminationLemmas
 mod EnoughLemmas

@@ -9,6 +9,7 @@
 mod alone;
 mod care;
 mod cones;
+mod counting;
 mod deciding;
 mod determined;
 mod fault;
