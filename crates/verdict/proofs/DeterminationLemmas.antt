@@ -195,7 +195,7 @@ marks-are net signals = record {
       ∙ ap (is_among signals) (gate_sig_at net k (gate_sig net k) less);
 }
 
-none-undetermined : (net : Parts) (care : CareSet) (what : Observe) → AreDeterminedOnCare net care (IsGate net) → undetermined_refusal net care what ≡ None
+pub none-undetermined : (net : Parts) (care : CareSet) (what : Observe) → AreDeterminedOnCare net care (IsGate net) → undetermined_refusal net care what ≡ None
 none-undetermined net care what determined =
     undetermined-none net care what (marks_of net (observed net what)) (marks-are net (observed net what)) (length net.gates) (omega arith)
     (λ k less marked. known-on-care net care determined k less)

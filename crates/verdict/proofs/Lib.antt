@@ -1,8 +1,10 @@
-mod DeterminationLemmas
 mod CareLemmas
 mod CauseLemmas
+mod ConeLemmas
 mod CountLemmas
+mod CountingLemmas
 mod DecisionLemmas
+mod DeterminationLemmas
 mod EnoughLemmas
 mod KnownLemmas
 mod LeavesLemmas

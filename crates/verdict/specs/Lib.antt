@@ -1,6 +1,8 @@
-pub mod Determination
 pub mod Causes
+pub mod Cones
 pub mod Costs
+pub mod Counting
+pub mod Determination
 pub mod Enough
 pub mod Known
 pub mod Laws

@@ -18,6 +18,7 @@ use crate::alone::limit_of;
 use crate::determined::determined_counts;
 use crate::fault::DecideFault;
 use crate::gates::Gates;
+use crate::leaving::{Step, leaving};
 use crate::parts::{gates_on, leaves};
 use crate::start::{Start, begin};
 use crate::verdict::Verdict;
@@ -98,9 +99,10 @@ fn judge(
     let limit = limit_of(d);
     let determined = determined_counts(alloc, net, blocks, cut, care, limit)?;
     if let Some(sweeps) = determined {
-        match care.invariant() {
-            None => return Ok(Verdict::Accepted { sweeps, loose: 0 }),
-            Some(_) => {}
+        match leaving(alloc, net, blocks, care, limit)? {
+            Step::Stays => return Ok(Verdict::Accepted { sweeps, loose: 0 }),
+            Step::Leaves(refusal) => return Ok(Verdict::Refused(refusal)),
+            Step::Undecided => {}
         }
     }
     let solved = solve(alloc, d, net, blocks, cut, &rails)?;

@@ -1,5 +1,5 @@
 //! Netlists whose gates are all determined on care, seen without diagrams of the whole: each loop is settled by itself,
-//! or known whatever the data.
+//! known whatever the data, or decided on its cone.
 
 ghost use Rattle.std.specs.Prelude.{◌≡◌, ◌<◌, ◌≤◌, ℕ, true, not, map, None, length, All, IfOk, IfSome};
 ghost use Rattle.netlist.specs.Netlists.{IsNetlist};
@@ -12,6 +12,7 @@ ghost use Rattle.refusals.specs.Refusals.{empty_refusal};
 ghost use Rattle.verdict.specs.Determination.{count_of, AreCountsBelow, AreDecided, BoundSweeps, IsDetermination};
 
 use crate::alone::{fit_covers, settled_loops};
+use crate::counting::cone_counts;
 use crate::known::known_on_care;
 use crate::witness::are_needed;
 use bdd_store::StoreFault;
@@ -89,6 +90,27 @@ fn known_counts(
     Ok(Some(bounds))
 }
 
+/// The sweeps that the loops need on care which aren't settled by themselves, where their cones are determined there.
+fn counted_in_cones(
+    alloc: Global,
+    net: &Netlist,
+    blocks: &Blocks,
+    cut: &Cut,
+    care: &Care,
+    settled: &[bool],
+    limit: u32,
+) -> Result<Option<Vec<u32>>, AllocError>
+    requires blocks { AreBlocksOf net.now blocks.now }
+    requires cut { IsCutOf net.now cut.now }
+    requires care { IsCareOf net.now care.now }
+    requires settled { length settled.now ≡ length blocks.now.list }
+    requires limit { limit ≤ MAX_NODES }
+    ensures { IfOk result (λ found. IfSome found (λ counts. AreDecided net.now blocks.now cut.now care.now settled.now counts.items)) }
+{
+    let marks = open_gates(alloc, blocks, settled)?;
+    cone_counts(alloc, net, blocks, cut, care, &marks, settled, limit)
+}
+
 /// Whether all of these are true.
 fn are_all(marks: &[bool]) -> bool
     ensures { result ≡ true → (k : ℕ) → k < length marks.now → is_marked marks.now k ≡ true }
@@ -121,7 +143,10 @@ fn open_counts(
     if are_all(settled) {
         return Ok(Some(Vec::new(alloc)));
     }
-    known_counts(alloc, net, blocks, cut, care, settled, limit)
+    if let Some(counts) = known_counts(alloc, net, blocks, cut, care, settled, limit)? {
+        return Ok(Some(counts));
+    }
+    counted_in_cones(alloc, net, blocks, cut, care, settled, limit)
 }
 
 /// The sweeps of the block at this place: one for a loop that is settled by itself, and else its number among these.

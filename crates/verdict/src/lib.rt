@@ -8,12 +8,15 @@
 
 mod alone;
 mod care;
+mod cones;
+mod counting;
 mod deciding;
 mod determined;
 mod fault;
 mod gates;
 mod known;
 pub mod laws;
+mod leaving;
 mod next;
 mod observing;
 mod parts;

@@ -1,6 +1,5 @@
 use Rattle.std.proofs.Common.{◌≡◌, ◌∙◌, inl, inr, ◌+◌, ◌*◌, ◌≤◌, ℕ, Err, None, List, length, refl, sym, ap, subst, arith}
 use Rattle.std.specs.Prelude.{IfSome}
-use Rattle.std.specs.Option.{option_copied}
 use Rattle.bdd_store.specs.declared.fault.StoreFault.{StoreFault}
 use Rattle.bdd_store.specs.Arena.{Arena}
 use Rattle.bdd_store.specs.Growth.{KeepsNodes, IsFullOnlyPast}
@@ -18,9 +17,9 @@ use Rattle.fixpoint.specs.Counts.{CountSweeps, IsComparedIn, count_at}
 use Rattle.fixpoint.specs.Working.{IsWorking, HasLargeCover}
 use Rattle.care_sets.specs.Care.{CareSet, columns, is_care_vector}
 use Rattle.refusals.specs.Refusals.{refusal}
-use Rattle.refusals.proofs.RefusalLemmas.{nothing_mapped}
 use Rattle.verdict.specs.Determination.{IsDetermination}
 use Rattle.verdict.specs.Causes.{HasModelOver, IsStoreFor}
+use Rattle.verdict.specs.Cones.{IsStep}
 use Rattle.verdict.specs.Enough.{IsLaid, enough}
 use Rattle.verdict.specs.Sets.{Tells, AreFixed}
 use Rattle.isolation.specs.Columns.{AreColumns}
@@ -29,13 +28,14 @@ use Rattle.verdict.specs.Verdicts.{IsStart, IsCareStart, AreLoose, StandSo, late
 use Rattle.verdict.proofs.CauseLemmas.{IsStoreFor-kept, out_past, out_care, out_solved}
 use Rattle.isolation.proofs.ColumnLemmas.{AreColumns-kept}
 use Rattle.verdict.proofs.CountLemmas.{count-on-care}
-use Rattle.verdict.proofs.DeterminationLemmas.{determinations_accept, nothing_leaves}
+use Rattle.verdict.proofs.ConeLemmas.{loads-known, leaving-refuses}
+use Rattle.verdict.proofs.DeterminationLemmas.{determinations_accept}
 use Rattle.verdict.proofs.EnoughLemmas.{cost_of_columns, cost_before, cost_of_fix, cost_after, cost_of_sweeps, costs-enough, used-more, past-enough, over-net, over-model}
 use Rattle.verdict.proofs.PartLemmas.{Tells-kept}
 use Rattle.verdict.proofs.SolutionLemmas.{loops-are, working-wide, compared-wide}
 use Rattle.verdict.proofs.VerdictLemmas.{refused-later, accepts-is, fixed-is}
 use Rattle.verdict.proofs.deciding.judge.Goals as goal
-use Rattle.verdict.proofs.deciding.judge.Goals.{After-column_rails, After-begin, After-solve, After-later, In-Determined}
+use Rattle.verdict.proofs.deciding.judge.Goals.{After-column_rails, After-begin, After-solve, After-later, In-Determined, In-Some}
 
 pub later-requires-clause-fixed : goal.later-requires-clause-fixed
 later-requires-clause-fixed c =
@@ -290,11 +290,24 @@ returns-in_err-determined-clause-enough c is_full none = record {
       over-net c.args.net.now c.args.care.now w c.args.d.now.limit wide (subst (HasLargeCover c.args.net.now) (c.limit_of-limit.ensures.limit ∙ c.begin.ensures.keeps.limit ∙ c.column_rails.ensures.keeps.limit) (c.in_err-determined.ensures.full refused));
 }
 
-pub returns-in-None-clause-verdict : goal.returns-in-None-clause-verdict
-returns-in-None-clause-verdict c =
-    let net = c.args.net.now in
-    let care = c.args.care.now in
-    let start : IsCareStart net care c.begin.new.d c.in-Care.set = subst (IsStart net care c.begin.new.d) c.in-Care.is c.in_ok-set.ensures.start in
-    determinations_accept net c.args.blocks.now c.args.cut.now care c.args.observe c.in-Some.sweeps c.begin.ensures.valid
-    (subst (λ o. IfSome o (IsDetermination net c.args.blocks.now c.args.cut.now care)) c.in-Some.is (c.in_ok-determined.ensures.determined start.some))
-    start.initial start.some (nothing_leaves net care (nothing_mapped _ _ (sym c.invariant.ensures.net ∙ ap option_copied c.in-None.is)))
+care-start : (c : In-Some) → IsCareStart c.args.net.now c.args.care.now c.begin.new.d c.in-Care.set
+care-start c = subst (IsStart c.args.net.now c.args.care.now c.begin.new.d) c.in-Care.is c.in_ok-set.ensures.start
+
+determination : (c : In-Some) → IsDetermination c.args.net.now c.args.blocks.now c.args.cut.now c.args.care.now c.in-Some.sweeps
+determination c =
+    subst (λ o. IfSome o (IsDetermination c.args.net.now c.args.blocks.now c.args.cut.now c.args.care.now)) c.in-Some.is (c.in_ok-determined.ensures.determined (care-start c).some)
+
+pub leaving-requires-clause-known : goal.leaving-requires-clause-known
+leaving-requires-clause-known c = loads-known c.args.net.now c.args.care.now c.begin.ensures.valid (determination c).determined
+
+pub returns-in-Stays-clause-verdict : goal.returns-in-Stays-clause-verdict
+returns-in-Stays-clause-verdict g =
+    let c : In-Some = (goal.at.returns-in-Stays-clause-verdict g).In-Some in
+    determinations_accept c.args.net.now c.args.blocks.now c.args.cut.now c.args.care.now c.args.observe c.in-Some.sweeps c.begin.ensures.valid (determination c) (care-start c).initial (care-start c).some
+    (subst (IsStep c.args.net.now c.args.care.now) g.in-Stays.is g.in_ok-leaving.ensures)
+
+pub returns-in-Leaves-clause-verdict : goal.returns-in-Leaves-clause-verdict
+returns-in-Leaves-clause-verdict g =
+    let c : In-Some = (goal.at.returns-in-Leaves-clause-verdict g).In-Some in
+    leaving-refuses c.args.net.now c.args.care.now c.args.observe g.in-Leaves.refusal (determination c).determined (care-start c).initial (care-start c).some
+    (subst (IsStep c.args.net.now c.args.care.now) g.in-Leaves.is g.in_ok-leaving.ensures)
