@@ -11,7 +11,7 @@ ghost use Rattle.isolation.specs.Columns.{AreColumns};
 ghost use Rattle.verdict.specs.Cones.{IsSolvedOn};
 ghost use Rattle.verdict.specs.Sets.{Tells};
 
-use crate::start::{Start, begin};
+use crate::beginning::{Start, begin};
 use bdd_ops::Diagrams;
 use bdd_store::{Node, StoreFault};
 use care_sets::Care;

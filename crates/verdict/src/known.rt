@@ -19,7 +19,7 @@ ghost use Rattle.verdict.specs.Known.{IsClaimed};
 ghost use Rattle.verdict.specs.Sets.{Tells};
 
 use crate::sets::{by_variable, least_of};
-use crate::start::{care_on, inside_on};
+use crate::beginning::{care_on, inside_on};
 use bdd_ops::Diagrams;
 use bdd_store::{Node, StoreFault};
 use care_sets::Care;

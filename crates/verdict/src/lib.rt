@@ -7,6 +7,7 @@
 #![tactic(auto)]
 
 mod alone;
+mod beginning;
 mod care;
 mod cones;
 mod counting;
@@ -14,15 +15,14 @@ mod deciding;
 mod determined;
 mod fault;
 mod gates;
+mod initial;
 mod known;
 pub mod laws;
 mod leaving;
 mod next;
 mod observing;
-mod parts;
+mod refusing;
 mod sets;
-mod start;
-mod starting;
 mod verdict;
 mod witness;
 

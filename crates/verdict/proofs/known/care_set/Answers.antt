@@ -11,10 +11,10 @@ care_on-requires-clause-reads c = assume-reads c.args.net.now c.args.care.now _ 
 
 pub returns-clause-told : goal.returns-clause-told
 returns-clause-told c =
-    let are : AreColumns c.inside_on.new.d (order c.args.net.now) c.args.rails.now = AreColumns-kept c.inside_on.ensures.keeps c.requires.columns in
+    let are : AreColumns c.inside_on.new.d (order c.args.net.now) c.args.rails.now = AreColumns-kept c.inside_on.ensures.grows.keeps c.requires.columns in
     record {
       node = c.in_ok-set.ensures.node;
       value = λ v wide.
-          c.in_ok-set.ensures.allowed v (laid c.args.net.now v) (are.values v (wide ∙ c.care_on.ensures.keeps.vars))
-          ∙ ap (λ x. x && is_allowed c.args.care.now v) (c.in_ok-inside.ensures.told.value v (wide ∙ c.care_on.ensures.keeps.vars));
+          c.in_ok-set.ensures.allowed v (laid c.args.net.now v) (are.values v (wide ∙ c.care_on.ensures.grows.keeps.vars))
+          ∙ ap (λ x. x && is_allowed c.args.care.now v) (c.in_ok-inside.ensures.told.value v (wide ∙ c.care_on.ensures.grows.keeps.vars));
     }

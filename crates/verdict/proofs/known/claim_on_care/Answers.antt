@@ -33,5 +33,5 @@ returns-clause-claimed c =
       node = c.in_ok-hint.ensures.node;
       vectors = λ v wide inside.
           let both = and_parts (den b set (laid net v)) (den b c.in-Some.claimed.hint (laid net v)) (sym (c.in_ok-hint.ensures.function (laid net v)) ∙ inside) in
-          sym (still.value v (wide ∙ c.and.ensures.keeps.vars)) ∙ both.0;
+          sym (still.value v (wide ∙ c.and.ensures.grows.keeps.vars)) ∙ both.0;
     }

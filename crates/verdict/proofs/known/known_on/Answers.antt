@@ -24,7 +24,7 @@ claim_on_care-requires-clause-columns c = subst (AreColumns c.column_rails.new.d
 
 pub least_of-requires-clause-columns : goal.least_of-requires-clause-columns
 least_of-requires-clause-columns c =
-    order-layout c.args.net.now c.claim_on_care.new.d.vars c.args.order.now (c.claim_on_care.ensures.keeps.vars ∙ c.column_rails.ensures.keeps.vars ∙ c.requires.vars) c.requires.order
+    order-layout c.args.net.now c.claim_on_care.new.d.vars c.args.order.now (c.claim_on_care.ensures.keeps.vars ∙ c.column_rails.ensures.grows.keeps.vars ∙ c.requires.vars) c.requires.order
 
 -- the hint's least vector
 record IsLeast (net : Parts) (a : Arena) (hint : Node) (vector : List Bool) : Type 0 where
@@ -47,7 +47,7 @@ least c =
 -- the layout of the diagrams is still the netlist's
 still-laid : (c : In-Some-2) → IsLayout c.claim_on_care.new.d.vars c.args.order.now
 still-laid c =
-    order-layout c.args.net.now c.claim_on_care.new.d.vars c.args.order.now (c.claim_on_care.ensures.keeps.vars ∙ c.column_rails.ensures.keeps.vars ∙ c.requires.vars) c.requires.order
+    order-layout c.args.net.now c.claim_on_care.new.d.vars c.args.order.now (c.claim_on_care.ensures.keeps.vars ∙ c.column_rails.ensures.grows.keeps.vars ∙ c.requires.vars) c.requires.order
 
 pub with_data-requires-clause-order : goal.with_data-requires-clause-order
 with_data-requires-clause-order g = still-laid ((goal.at.with_data-requires-clause-order g).In-Some-2)
@@ -73,7 +73,7 @@ returns g =
     let a = g.claim_on_care.new.d in
     let hint = g.in-Some.claimed.hint in
     let marks = g.args.marks.now in
-    let vars : a.vars ≡ columns net = g.claim_on_care.ensures.keeps.vars ∙ g.column_rails.ensures.keeps.vars ∙ g.requires.vars in
+    let vars : a.vars ≡ columns net = g.claim_on_care.ensures.keeps.vars ∙ g.column_rails.ensures.grows.keeps.vars ∙ g.requires.vars in
     let claimed : IsClaimed net g.args.blocks.now g.args.cut.now care a marks g.in-Some.claimed =
     subst (λ o. IfSome o (IsClaimed net g.args.blocks.now g.args.cut.now care a marks)) g.in-Some.is g.in_ok-found.ensures.claimed in
     let cares : (v : List Bool) → length v ≡ a.vars → den a hint (laid net v) ≡ true → IsCareVector net care v =

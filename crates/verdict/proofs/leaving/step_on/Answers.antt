@@ -15,7 +15,7 @@ cone_loads-requires-clause-columns c =
 pub step_by-requires-clause-loads : goal.step_by-requires-clause-loads
 step_by-requires-clause-loads c =
     let net = c.args.net.now in
-    let vars : c.cone_loads.new.d.vars ≡ columns net = c.cone_loads.ensures.keeps.vars ∙ c.care_there.ensures.keeps.vars ∙ c.column_rails.ensures.keeps.vars ∙ c.requires.vars in
+    let vars : c.cone_loads.new.d.vars ≡ columns net = c.cone_loads.ensures.keeps.vars ∙ c.care_there.ensures.keeps.vars ∙ c.column_rails.ensures.grows.keeps.vars ∙ c.requires.vars in
     let loads : AreLoads net c.cone_loads.new.d c.args.reads.now (length net.latches) c.in-Some-2.loads.items = rw c.in-Some-2.is at c.in_ok-loads.ensures.loads in
     subst (HaveNext net c.args.care.now c.cone_loads.new.d) (sym c.deref-6.ensures.value)
     (have-next net c.args.care.now c.cone_loads.new.d vars c.args.reads.now c.requires.reads c.requires.known c.in-Some-2.loads.items loads)
