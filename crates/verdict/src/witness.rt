@@ -13,7 +13,7 @@ use bdd_store::{Node, StoreFault};
 use cyc_base::MAX_NODES;
 use dual_rail::Rails;
 use fixpoint::laws::solutions;
-use fixpoint::{solve, sweeps};
+use fixpoint::{keep_rails, solve, sweeps};
 use loops::{Blocks, Cut, SweepCounts};
 use netlist::Netlist;
 use std::alloc::{AllocError, Global};
@@ -52,8 +52,9 @@ fn sweeps_at(
 {
     let _ = net.gates();
     solutions();
-    let given = constants(alloc, vector)?;
-    let solved = solve(alloc, d, net, blocks, cut, &given)?;
+    let rails = constants(alloc, vector)?;
+    let given = keep_rails(alloc, d, &rails)?;
+    let solved = solve(alloc, d, net, blocks, cut, given)?;
     d.store().laws();
     let counts = sweeps(alloc, d, &solved, blocks, Node::of(true))?;
     Ok(counts)
