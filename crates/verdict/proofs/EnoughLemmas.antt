@@ -1,12 +1,10 @@
 -- What a decision costs, added up, and covers over the limit.
-use Rattle.std.proofs.Common.{◌≡◌, inl, inr, ℕ, ◌+◌, ◌*◌, ◌<◌, ◌≤◌, List, [], ◌∷◌, Option, Some, None, length, arith}
+use Rattle.std.proofs.Common.{inl, inr, ℕ, ◌+◌, ◌*◌, ◌<◌, ◌≤◌, List, [], ◌∷◌, Option, Some, None, length, arith}
 use Rattle.std.specs.Prelude.{IsSomeAnd}
 use Rattle.std.specs.List.{sum_by}
 use Rattle.std.specs.Option.{option_map_or}
 use Rattle.std.proofs.lemmas.List.Sums.{sum_by-cons, get_or-le-sum_by}
 use Rattle.std.proofs.Math.Nat.{mul-le-mul_left, mul-le-mul_right}
-use Rattle.bdd_store.specs.Arena.{Arena}
-use Rattle.bdd_store.specs.Growth.{AddsAtMost, IsFullOnlyPast}
 use Rattle.dual_rail.specs.Local.{size}
 use Rattle.dual_rail.specs.WorkingLists.{IsWide}
 use Rattle.netlist.specs.declared.parts.Gate.{Gate}
@@ -16,37 +14,18 @@ use Rattle.fixpoint.specs.Working.{HasLargeCover, effort}
 use Rattle.care_sets.specs.declared.model.CareModel.{CareModel}
 use Rattle.care_sets.specs.Care.{CareSet, columns}
 use Rattle.verdict.specs.Causes.{HasModelOver}
-use Rattle.verdict.specs.Costs.{assume_effort, invariant_effort}
+use Rattle.verdict.specs.Costs.{assume_effort, invariant_effort, decision_cost}
 use Rattle.verdict.specs.Enough.{IsLaid, enough}
 
 -- ---- the sum
 
--- the columns, what comes before the gates, the fixpoint, what comes after it, and the sweeps
-abbrev pub cost_of_columns : Parts → ℕ
-cost_of_columns net = 2 * columns net
-
-abbrev pub cost_before : Parts → CareSet → ℕ → ℕ
-cost_before net care w = w * (2 * invariant_effort care + columns net + 1 + (2 * assume_effort care + 1))
-
-abbrev pub cost_of_fix : Parts → ℕ → ℕ
-cost_of_fix net w = 10 * w * (length net.gates + 2) * effort net
-
-abbrev pub cost_after : Parts → CareSet → ℕ → ℕ
-cost_after net care w = w * (2 * length net.gates + (2 * length net.latches + 2 * invariant_effort care + 1))
-
-abbrev pub cost_of_sweeps : Parts → ℕ → ℕ
-cost_of_sweeps net w = 6 * w * length net.gates * (length net.gates + 2)
-
-sum-enough : (w v latches gates assumed invariant effort effort_assumed effort_invariant : ℕ) →
-    v + 1 ≤ w → latches ≤ v → gates ≤ effort →
-    2 * v + w * (2 * effort_invariant + v + 1 + (2 * effort_assumed + 1)) + 10 * w * (gates + 2) * effort
-    + w * (2 * gates + (2 * latches + 2 * effort_invariant + 1)) + 6 * w * gates * (gates + 2)
-    ≤ 16 * w * (gates + (assumed + invariant) + 2) * (effort + (effort_assumed + effort_invariant) + v + 4)
-sum-enough w v latches gates assumed invariant effort effort_assumed effort_invariant wide few less =
-    let one : w * latches ≤ w * v = mul-le-mul_left {m = latches} {n = v} w few in
-    let two : w * gates ≤ w * effort = mul-le-mul_left {m = gates} {n = effort} w less in
-    let three : w * gates * gates ≤ w * gates * effort = mul-le-mul_left {m = gates} {n = effort} (w * gates) less in
-    omega (arith, wide, one, two, three)
+sum-enough : (v latches gates assumed invariant effort effort_assumed effort_invariant : ℕ) →
+    latches ≤ v → gates ≤ effort →
+    2 + (2 * effort_invariant + v + 1 + (2 * effort_assumed + 1)) + 10 * (gates + 2) * effort + (2 * gates + (2 * latches + 2 * effort_invariant + 1)) + 6 * gates * (gates + 2)
+    ≤ 16 * (gates + (assumed + invariant) + 2) * (effort + (effort_assumed + effort_invariant) + v + 4)
+sum-enough v latches gates assumed invariant effort effort_assumed effort_invariant few less =
+    let squares : gates * gates ≤ gates * effort = mul-le-mul_left {m = gates} {n = effort} gates less in
+    omega (arith, few, less, squares)
 
 -- each gate counts one at least
 gates-effort : (gates : List Gate) → length gates ≤ sum_by (λ gate. size gate.cover + 1) gates
@@ -57,19 +36,14 @@ gates-effort (gate ∷ gates) =
     omega (arith, rest, sum)
 
 -- the parts together cost no more than is enough
-pub costs-enough : (net : Parts) (care : CareSet) (w : ℕ) → IsWide (columns net) (IsLaid net care) w →
-    cost_of_columns net + cost_before net care w + cost_of_fix net w + cost_after net care w + cost_of_sweeps net w ≤ enough net care w
+pub costs-enough : (net : Parts) (care : CareSet) (w : ℕ) → IsWide (columns net) (IsLaid net care) w → w * decision_cost net care ≤ enough net care w
 costs-enough net care w wide =
-    sum-enough w (columns net) (length net.latches) (length net.gates) (option_map_or (λ model. length model.net.gates) care.assume 0) (option_map_or (λ model. length model.net.gates) care.invariant 0)
-    (effort net) (assume_effort care) (invariant_effort care) wide.variables (omega arith) (gates-effort net.gates)
-
--- what a part leaves used, and that so many more nodes as it wants would be too many
-
-pub used-more : (s t : Arena) (before cost : ℕ) → length s.entries ≤ before → AddsAtMost s t cost → length t.entries ≤ before + cost
-used-more s t before cost within added = omega (arith, within, added)
-
-pub past-enough : (s t : Arena) (limit before cost rest most : ℕ) → t.limit ≡ limit → length s.entries ≤ before → IsFullOnlyPast s t cost → before + cost + rest ≤ most → limit < most
-past-enough s t limit before cost rest most is within full enough_is = omega (arith, is, within, full.past, enough_is)
+    let assumed = option_map_or (λ model. length model.net.gates) care.assume 0 in
+    let invariant = option_map_or (λ model. length model.net.gates) care.invariant 0 in
+    let most : ℕ = 16 * (length net.gates + (assumed + invariant) + 2) * (effort net + (assume_effort care + invariant_effort care) + columns net + 4) in
+    let all = mul-le-mul_left {m = decision_cost net care} {n = most} w
+    (sum-enough (columns net) (length net.latches) (length net.gates) assumed invariant (effort net) (assume_effort care) (invariant_effort care) (omega arith) (gates-effort net.gates)) in
+    omega (arith, all)
 
 -- ---- covers over the limit
 

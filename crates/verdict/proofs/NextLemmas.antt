@@ -28,7 +28,7 @@ use Rattle.fixpoint.proofs.WireLemmas.{rails_at-proper}
 use Rattle.care_sets.specs.Care.{is_one}
 use Rattle.refusals.specs.Refusals.{next_state}
 use Rattle.verdict.specs.Next.{next_within, BoundsSignals}
-use Rattle.verdict.specs.Sets.{AreFixed}
+use Rattle.verdict.specs.Sets.{BoundsBoth, AreFixed}
 use Rattle.verdict.proofs.CareLemmas.{one_rail, value_at-place}
 
 -- ---- rails on a set
@@ -136,14 +136,14 @@ module _ (net : Parts) (s d : Arena) (set : Node) (rails : List Rails) (n : ℕ)
         (λ v wide. ap₂ (λ x y. x && y) (first.function set (laid net v) in_set) (says (laid net v) ∙ ap (is_bit bit) (source-kept v wide))) in
         subst (λ k. nodes k (conjunction d set rail) ≤ w) (sym first.vars) most
 
-    pub rails-bounded : (nodes d.vars (conjunction d set (rails_at rails latch.from.0).one) ≤ w) × (nodes d.vars (conjunction d set (rails_at rails latch.from.0).zero) ≤ w)
+    pub rails-bounded : BoundsBoth d.vars (conjunction d set (rails_at rails latch.from.0).one) (conjunction d set (rails_at rails latch.from.0).zero) w
     rails-bounded =
         let r : Rails = rails_at rails latch.from.0 in
-        let in_s : AreRailsOf s (rails_at rails latch.from.0) = rails_at-proper s rails fixed.proper latch.from.0 in (
-          bounded-rail true r.one (λ v. sym (one-of (den d r.one v) (den d r.zero v))),
-          bounded-rail false r.zero (λ v. sym (zero-of (den d r.one v) (den d r.zero v)
-              (ap₂ (λ x y. x && y) (first.function r.one v in_s.one) (first.function r.zero v in_s.zero) ∙ in_s.proper v))),
-        )
+        let in_s : AreRailsOf s (rails_at rails latch.from.0) = rails_at-proper s rails fixed.proper latch.from.0 in record {
+          first = bounded-rail true r.one (λ v. sym (one-of (den d r.one v) (den d r.zero v)));
+          second = bounded-rail false r.zero (λ v. sym (zero-of (den d r.one v) (den d r.zero v)
+              (ap₂ (λ x y. x && y) (first.function r.one v in_s.one) (first.function r.zero v in_s.zero) ∙ in_s.proper v)));
+        }
 
 pub next-end : (net : Parts) (s a : Arena) (set : Node) (n : ℕ) (list : List Rails) → n ≡ length net.latches → AreFirstNext net s set a n list →
     (v : List Bool) → length v ≡ s.vars → values_of a list (laid net v) ≡ next_within net s set v

@@ -90,13 +90,9 @@ never_is a lawful n c in_n c_is false is columns layout = by_found (find (λ v. 
         absurd (true≢false (sym (is ∙ eq-eqb n.number c.number (ap (λ (m : Node). m.number) same))))
 
 -- what the choice of a difference costs
-pub difference-nodes : (a : Arena) (m n never : Node) (w : ℕ) → never ≡ constant false → nodes a.vars (difference a m n) ≤ w → nodes a.vars (if_then_else a n never m) ≤ w
+pub difference-is_choice : (a : Arena) (m n never : Node) → never ≡ constant false → (v : List Bool) → if_then_else a n never m v ≡ difference a m n v
 unfolding den_within
-difference-nodes a m n never w is fits =
-    let same : nodes a.vars (if_then_else a n never m) ≡ nodes a.vars (difference a m n) =
-    nodes-alike a.vars (if_then_else a n never m) (difference a m n)
-    (λ v wide. by (den a n v) (den a m v) (den a never v) (ap (λ (k : Node). den a k v) is)) in
-    omega (arith, same, fits)
+difference-is_choice a m n never is v = by (den a n v) (den a m v) (den a never v) (ap (λ (k : Node). den a k v) is)
   where
     by : (x y z : Bool) → z ≡ false → (if x then z else y) ≡ (y && not x)
     by true true z e = e

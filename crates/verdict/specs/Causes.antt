@@ -10,6 +10,10 @@ abbrev pub HasModelOver : CareSet → ℕ → Type 0
 HasModelOver care limit =
     IsSomeAnd care.assume (λ model. HasLargeCover model.net limit) ⊎ IsSomeAnd care.invariant (λ model. HasLargeCover model.net limit)
 
+-- a cover of the netlist or of a care model has more nodes than the limit
+abbrev pub HasCoverOver : Parts → CareSet → ℕ → Type 0
+HasCoverOver net care limit = HasLargeCover net limit ⊎ HasModelOver care limit
+
 -- the diagrams have a variable for each column of the netlist, and may hold so many nodes
 pub record IsStoreFor (a : Arena) (net : Parts) (limit : ℕ) : Type 0 where
   pub variables : a.vars ≡ columns net
@@ -19,4 +23,4 @@ pub record IsStoreFor (a : Arena) (net : Parts) (limit : ℕ) : Type 0 where
 -- model has more.
 pub record IsOutOfNodes (a : Arena) (net : Parts) (care : CareSet) (limit : ℕ) : Type 0 where
   pub store : IsStoreFor a net limit
-  pub cause : (length a.entries ≡ limit) ⊎ (HasLargeCover net limit ⊎ HasModelOver care limit)
+  pub cause : (length a.entries ≡ limit) ⊎ HasCoverOver net care limit

@@ -1,8 +1,9 @@
--- What the care models of a decision cost.
-use Rattle.std.specs.Prelude.{ℕ}
+-- What the parts of a decision cost: how many functions each makes.
+use Rattle.std.specs.Prelude.{ℕ, ◌+◌, ◌*◌, length}
 use Rattle.std.specs.Option.{option_map_or}
 use Rattle.fixpoint.specs.Working.{effort}
-use Rattle.care_sets.specs.Care.{CareSet}
+use Rattle.netlist.specs.declared.parts.Parts.{Parts}
+use Rattle.care_sets.specs.Care.{CareSet, columns}
 
 -- the effort of a model that is there
 abbrev pub assume_effort : CareSet → ℕ
@@ -10,3 +11,21 @@ assume_effort care = option_map_or (λ model. effort model.net) care.assume 0
 
 abbrev pub invariant_effort : CareSet → ℕ
 invariant_effort care = option_map_or (λ model. effort model.net) care.invariant 0
+
+-- the vectors of care: the invariant, the permitted states, those that aren't in it, and then the assumption with the
+-- invariant
+abbrev pub start_cost : Parts → CareSet → ℕ
+start_cost net care = 2 * invariant_effort care + columns net + 1 + (2 * assume_effort care + 1)
+
+-- care vectors that leave the invariant: the latches' next values, the invariant of them, and where it fails
+abbrev pub leaving_cost : Parts → CareSet → ℕ
+leaving_cost net care = 2 * length net.latches + 2 * invariant_effort care + 1
+
+-- the unknown gates, and then these
+abbrev pub later_cost : Parts → CareSet → ℕ
+later_cost net care = 2 * length net.gates + leaving_cost net care
+
+-- the whole decision: both rails of each column, whose nodes are fewer than two functions of w nodes have, and then its
+-- parts, with the fixpoint and the sweeps that are counted
+abbrev pub decision_cost : Parts → CareSet → ℕ
+decision_cost net care = 2 + start_cost net care + 10 * (length net.gates + 2) * effort net + later_cost net care + 6 * length net.gates * (length net.gates + 2)

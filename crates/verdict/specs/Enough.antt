@@ -1,19 +1,28 @@
 -- The functions that a decision works with, and how many nodes are enough for it.
-use Rattle.std.specs.Prelude.{◌≡◌, ◌<◌, ◌≤◌, ◌+◌, ◌-◌, ◌*◌, ℕ, Bool, List, length, map, IsSomeAnd, slice_index_or}
+use Rattle.std.specs.Prelude.{◌≡◌, ◌<◌, ◌≤◌, ◌+◌, ◌-◌, ◌*◌, ◌⊎◌, ℕ, Bool, List, Option, Result, length, map, IfSome, IsSomeAnd, slice_index_or}
 use Rattle.std.specs.Option.{option_map_or}
+use Rattle.bdd_store.specs.declared.node.Node.{Node}
+use Rattle.bdd_store.specs.Arena.{Arena}
+use Rattle.bdd_store.specs.declared.fault.StoreFault.{StoreFault}
+use Rattle.bdd_store.specs.Growth.{IsFullOnlyPast, GrowsWithin}
 use Rattle.bdd_ops.specs.Operations.{bit_at}
 use Rattle.cyc_base.specs.declared.trit.Trit.{Trit}
 use Rattle.cyc_base.specs.declared.trit.Trit.TheVariants.{X}
 use Rattle.cyc_base.specs.Values.{bits}
-use Rattle.dual_rail.specs.WorkingLists.{IsWide}
+use Rattle.dual_rail.specs.WorkingLists.{IsWide, BoundsEach}
 use Rattle.netlist.specs.declared.parts.Parts.{Parts}
 use Rattle.netlist.specs.Fixpoint.{next}
 use Rattle.loops.specs.Found.{loops_of}
-use Rattle.fixpoint.specs.Orders.{laid}
+use Rattle.fixpoint.specs.Orders.{laid, order}
 use Rattle.fixpoint.specs.Working.{no_loops, IsGatePart, effort}
+use Rattle.dual_rail.specs.declared.rail.Rails.{Rails}
+use Rattle.isolation.specs.Columns.{AreColumns}
+use Rattle.care_sets.specs.Binding.{IsCareOf}
 use Rattle.care_sets.specs.declared.model.CareModel.{CareModel}
 use Rattle.care_sets.specs.Care.{CareSet, columns, state_of, is_allowed, is_care_vector}
-use Rattle.verdict.specs.Sets.{starts, has_state_inside}
+use Rattle.verdict.specs.Causes.{HasModelOver, HasCoverOver, IsStoreFor}
+use Rattle.verdict.specs.Costs.{decision_cost}
+use Rattle.verdict.specs.Sets.{Tells, starts, has_state_inside}
 
 -- the values of a model's inputs, where the columns from its first one on have these values
 abbrev pub read_by : CareModel → List Trit → List Trit
@@ -22,6 +31,10 @@ read_by model values = map (λ column. slice_index_or values (column - model.fir
 -- a function that a care model works with, on these values of the columns
 abbrev pub IsOfModel : CareModel → (List Bool → List Trit) → (List Bool → Bool) → Type 0
 IsOfModel model values g = IsGatePart model.net no_loops (λ v. read_by model (values v)) g
+
+-- w is at least the number of subfunctions of each function that the model, where there is one, works with
+abbrev pub BoundsModel : Option CareModel → ℕ → (List Bool → List Trit) → ℕ → Type 0
+BoundsModel model vars values w = IfSome model (λ m. BoundsEach vars (IsOfModel m values) w)
 
 -- A function of a vector that a decision works with: a column, the states that the inits permit, the assumption, the
 -- invariant, both of them, or one of the working list of the netlist, of the assumption, of the invariant, or of the
@@ -43,6 +56,27 @@ pub record IsLaid (net : Parts) (care : CareSet) (g : List Bool → Bool) : Type
   pub is : IsOfDecision net care of
   pub same : (v : List Bool) → length v ≡ columns net → g (laid net v) ≡ of v
 
+-- what a part of a decision does to its diagrams: it makes so many functions, of w nodes each where w is wide, and
+-- `Full` has no other cause than a large care model
+abbrev pub GrowsInDecision : {T : Type 0} → Result T StoreFault → Arena → Arena → Parts → CareSet → ℕ → Type 0
+GrowsInDecision result old new net care count = GrowsWithin result old new (HasModelOver care) (IsWide old.vars (IsLaid net care)) count
+
+-- w is wide for a decision on a care set that has these vectors
+pub record IsWideOn (net : Parts) (a : Arena) (set : Node) (w : ℕ) : Type 0 where
+  pub care : CareSet
+  pub told : Tells net a set (is_care_vector net care)
+  pub wide : IsWide a.vars (IsLaid net care) w
+
+-- w is wide for a decision of a netlist that has this care set, whose columns have these rails, and of whose vectors
+-- these have states in the invariant
+pub record IsWideFor (care : CareSet) (a : Arena) (inside : Node) (rails : List Rails) (w : ℕ) : Type 0 where
+  pub net : Parts
+  pub is_care : IsCareOf net care
+  pub vars : a.vars ≡ columns net
+  pub are_columns : AreColumns a (order net) rails
+  pub told : Tells net a inside (has_state_inside net care)
+  pub wide : IsWide a.vars (IsLaid net care) w
+
 -- a number of the netlist and of both care models together
 abbrev pub in_all : (Parts → ℕ) → Parts → CareSet → ℕ
 in_all f net care = f net + (option_map_or (λ model. f model.net) care.assume 0 + option_map_or (λ model. f model.net) care.invariant 0)
@@ -62,3 +96,9 @@ pub record IsEnough (net : Parts) (care : CareSet) (limit : ℕ) : Type 0 where
 -- it is below that
 pub record IsBelowEnough (net : Parts) (care : CareSet) (limit : ℕ) : Type 0 where
   pub below : (w : ℕ) → IsWide (columns net) (IsLaid net care) w → limit < enough net care w
+
+-- why a decision finds its diagrams full: they are the netlist's, and a cover has more nodes than they may have, or
+-- for each w that is wide so many more nodes would have been too many
+pub record IsFullFor (old new : Arena) (net : Parts) (care : CareSet) : Type 0 where
+  pub store : IsStoreFor new net old.limit
+  pub cause : (w : ℕ) → IsWide (columns net) (IsLaid net care) w → HasCoverOver net care old.limit ⊎ IsFullOnlyPast old new (w * decision_cost net care)

@@ -5,14 +5,14 @@ use Rattle.bdd_store.specs.Arena.{Arena, den, IsNodeOf}
 use Rattle.bdd_store.specs.Subfunctions.{nodes}
 use Rattle.cyc_base.specs.Values.{bits}
 use Rattle.dual_rail.specs.declared.rail.Rails.{Rails}
-use Rattle.dual_rail.specs.Rails.{AreRailsOf, values_of}
+use Rattle.dual_rail.specs.Rails.{AreRailsOf, value_of, values_of}
 use Rattle.netlist.specs.declared.parts.Parts.{Parts}
 use Rattle.netlist.specs.Netlists.{count}
 use Rattle.netlist.specs.Fixpoint.{fix}
 use Rattle.fixpoint.specs.Orders.{laid}
 use Rattle.care_sets.specs.declared.model.CareModel.{CareModel}
 use Rattle.care_sets.specs.Care.{CareSet, columns, state_of, is_in_invariant}
-use Rattle.refusals.specs.Refusals.{is_initial}
+use Rattle.refusals.specs.Refusals.{is_initial, is_x}
 
 -- the node is true at the vectors that pass the test
 pub record Tells (net : Parts) (a : Arena) (n : Node) (test : List Bool → Bool) : Type 0 where
@@ -22,6 +22,15 @@ pub record Tells (net : Parts) (a : Arena) (n : Node) (test : List Bool → Bool
 -- true where the first node is and the second isn't
 abbrev pub difference : Arena → Node → Node → List Bool → Bool
 difference a m n v = den a m v && not (den a n v)
+
+-- w is at least the number of subfunctions of both
+pub record BoundsBoth (vars : ℕ) (f g : List Bool → Bool) (w : ℕ) : Type 0 where
+  pub first : nodes vars f ≤ w
+  pub second : nodes vars g ≤ w
+
+-- true in the set where the rails are unknown
+abbrev pub unknown_in : Arena → Node → Rails → List Bool → Bool
+unknown_in a set rails v = den a set v && is_x (value_of a rails v)
 
 -- the inits permit the vector's state
 abbrev pub starts : Parts → List Bool → Bool

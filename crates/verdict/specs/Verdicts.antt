@@ -21,8 +21,8 @@ use Rattle.refusals.specs.declared.observe.Observe.{Observe}
 use Rattle.refusals.specs.declared.refusal.Refusal.{Refusal}
 use Rattle.verdict.specs.declared.gates.Gates.{Gates}
 use Rattle.verdict.specs.declared.gates.Gates.TheVariants as gates
-use Rattle.verdict.specs.declared.start.Start.{Start}
-use Rattle.verdict.specs.declared.start.Start.TheVariants as starts
+use Rattle.verdict.specs.declared.beginning.Start.{Start}
+use Rattle.verdict.specs.declared.beginning.Start.TheVariants as starts
 use Rattle.verdict.specs.declared.verdict.Verdict.{Verdict}
 use Rattle.verdict.specs.declared.verdict.Verdict.TheVariants.{Accepted, Refused}
 use Rattle.verdict.specs.Sets.{Tells}

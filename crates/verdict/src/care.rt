@@ -1,8 +1,8 @@
 //! The vectors on which the models of a care set hold.
 
-ghost use Rattle.std.specs.Prelude.{◌≡◌, ◌-◌, ◌<◌, ◌≤◌, ◌*◌, ◌⊎◌, ℕ, Bool, List, length, map, All, IfOk, IfSome};
+ghost use Rattle.std.specs.Prelude.{◌≡◌, ◌-◌, ◌<◌, ◌≤◌, ◌*◌, Bool, List, length, map, All, IfOk, IfSome};
 ghost use Rattle.bdd_store.specs.Arena.{den, IsNodeOf};
-ghost use Rattle.bdd_store.specs.Growth.{KeepsNodes, AddsAtMost, IsFullOnlyPast};
+ghost use Rattle.bdd_store.specs.Growth.{GrowsWithin};
 ghost use Rattle.cyc_base.specs.Values.{bits};
 ghost use Rattle.dual_rail.specs.Rails.{AreRailsOf, values_of};
 ghost use Rattle.dual_rail.specs.WorkingLists.{BoundsEach};
@@ -12,7 +12,7 @@ ghost use Rattle.fixpoint.specs.Sweeping.{rails_at};
 ghost use Rattle.fixpoint.specs.Working.{HasLargeCover, effort};
 ghost use Rattle.verdict.specs.Causes.{HasModelOver};
 ghost use Rattle.verdict.specs.Costs.{assume_effort, invariant_effort};
-ghost use Rattle.verdict.specs.Enough.{IsOfModel};
+ghost use Rattle.verdict.specs.Enough.{IsOfModel, BoundsModel};
 ghost use Rattle.verdict.specs.Sets.{model_of, ReadsWithin};
 
 use bdd_ops::Diagrams;
@@ -54,11 +54,7 @@ fn holds_on(
     requires rails { All (AreRailsOf d.old) rails.now }
     ensures node { IfOk result (IsNodeOf d.new) }
     ensures holds { IfOk result (λ node. (values v : List Bool) → values_of d.old rails.now v ≡ bits values → den d.new node v ≡ holds_at (model_of model.now first columns.now) values) }
-    ensures keeps { KeepsNodes d.old d.new }
-    ensures added { (w : ℕ) → BoundsEach d.old.vars (IsOfModel (model_of model.now first columns.now) (values_of d.old rails.now)) w →
-        AddsAtMost d.old d.new (w * (2 * effort model.now)) }
-    ensures full { (w : ℕ) → BoundsEach d.old.vars (IsOfModel (model_of model.now first columns.now) (values_of d.old rails.now)) w →
-        result ≡ Err StoreFault.Full → HasLargeCover model.now d.old.limit ⊎ IsFullOnlyPast d.old d.new (w * (2 * effort model.now)) }
+    ensures grows { GrowsWithin result d.old d.new (HasLargeCover model.now) (BoundsEach d.old.vars (IsOfModel (model_of model.now first columns.now) (values_of d.old rails.now))) (2 * effort model.now) }
 {
     let Ok(given) = inputs_of(alloc, columns, first, rails) else {
         return Err(StoreFault::Memory);
@@ -79,11 +75,7 @@ pub(crate) fn assume_on(
     requires rails { All (AreRailsOf d.old) rails.now }
     ensures node { IfOk result (IsNodeOf d.new) }
     ensures allowed { IfOk result (λ node. (values v : List Bool) → values_of d.old rails.now v ≡ bits values → den d.new node v ≡ is_allowed care.now values) }
-    ensures keeps { KeepsNodes d.old d.new }
-    ensures added { (w : ℕ) → IfSome care.now.assume (λ model. BoundsEach d.old.vars (IsOfModel model (values_of d.old rails.now)) w) →
-        AddsAtMost d.old d.new (w * (2 * assume_effort care.now)) }
-    ensures full { (w : ℕ) → IfSome care.now.assume (λ model. BoundsEach d.old.vars (IsOfModel model (values_of d.old rails.now)) w) →
-        result ≡ Err StoreFault.Full → HasModelOver care.now d.old.limit ⊎ IsFullOnlyPast d.old d.new (w * (2 * assume_effort care.now)) }
+    ensures grows { GrowsWithin result d.old d.new (HasModelOver care.now) (BoundsModel care.now.assume d.old.vars (values_of d.old rails.now)) (2 * assume_effort care.now) }
 {
     let Some(model) = care.assume() else {
         return Ok(Node::of(true));
@@ -104,11 +96,7 @@ pub(crate) fn invariant_on(
     requires rails { All (AreRailsOf d.old) latches.now }
     ensures node { IfOk result (IsNodeOf d.new) }
     ensures inside { IfOk result (λ node. (state v : List Bool) → values_of d.old latches.now v ≡ bits state → den d.new node v ≡ is_in_invariant care.now state) }
-    ensures keeps { KeepsNodes d.old d.new }
-    ensures added { (w : ℕ) → IfSome care.now.invariant (λ model. BoundsEach d.old.vars (IsOfModel model (values_of d.old latches.now)) w) →
-        AddsAtMost d.old d.new (w * (2 * invariant_effort care.now)) }
-    ensures full { (w : ℕ) → IfSome care.now.invariant (λ model. BoundsEach d.old.vars (IsOfModel model (values_of d.old latches.now)) w) →
-        result ≡ Err StoreFault.Full → HasModelOver care.now d.old.limit ⊎ IsFullOnlyPast d.old d.new (w * (2 * invariant_effort care.now)) }
+    ensures grows { GrowsWithin result d.old d.new (HasModelOver care.now) (BoundsModel care.now.invariant d.old.vars (values_of d.old latches.now)) (2 * invariant_effort care.now) }
 {
     let Some(model) = care.invariant() else {
         return Ok(Node::of(true));

@@ -1,24 +1,22 @@
 //! The decision.
 
-ghost use Rattle.std.specs.Prelude.{◌≡◌, ◌≤◌, ◌+◌, ◌*◌, ◌⊎◌, ℕ, None, length, IfOk, IfErr};
-ghost use Rattle.bdd_store.specs.Growth.{KeepsNodes, AddsAtMost, IsFullOnlyPast};
-ghost use Rattle.dual_rail.specs.WorkingLists.{IsWide};
+ghost use Rattle.std.specs.Prelude.{◌≡◌, ◌≤◌, ◌⊎◌, IfOk, IfErr};
 ghost use Rattle.care_sets.specs.Binding.{IsCareOf};
 ghost use Rattle.care_sets.specs.Care.{columns, is_care_vector};
 ghost use Rattle.loops.specs.Blocks.{AreBlocksOf};
 ghost use Rattle.loops.specs.Cuts.{IsCutOf};
 ghost use Rattle.fixpoint.specs.Orders.{order as order_of};
-ghost use Rattle.verdict.specs.Causes.{HasModelOver, IsOutOfNodes};
-ghost use Rattle.verdict.specs.Costs.{invariant_effort};
-ghost use Rattle.verdict.specs.Enough.{IsLaid, IsBelowEnough};
+ghost use Rattle.verdict.specs.Causes.{IsOutOfNodes};
+ghost use Rattle.verdict.specs.Costs.{later_cost};
+ghost use Rattle.verdict.specs.Enough.{GrowsInDecision, IsFullFor, IsBelowEnough};
 ghost use Rattle.verdict.specs.Sets.{AreFixed, Tells};
 ghost use Rattle.verdict.specs.Verdicts.{later_refusal, IsVerdict, StandSo};
 
 use crate::alone::{limit_of, settled_counts};
+use crate::beginning::{Start, begin};
 use crate::fault::DecideFault;
 use crate::gates::Gates;
-use crate::parts::{gates_on, leaves};
-use crate::start::{Start, begin};
+use crate::refusing::{gates_on, leaves};
 use crate::verdict::Verdict;
 use bdd_ops::Diagrams;
 use bdd_store::{Node, StoreFault};
@@ -51,11 +49,7 @@ fn later(
     requires fixed { AreFixed net.now d.old rails.now }
     requires set { Tells net.now d.old set (is_care_vector net.now care.now) }
     ensures gates { IfOk result (StandSo (later_refusal net.now care.now observe) net.now care.now) }
-    ensures keeps { KeepsNodes d.old d.new }
-    ensures added { (w : ℕ) → IsWide d.old.vars (IsLaid net.now care.now) w →
-        AddsAtMost d.old d.new (w * (2 * length net.now.gates + (2 * length net.now.latches + 2 * invariant_effort care.now + 1))) }
-    ensures full { (w : ℕ) → IsWide d.old.vars (IsLaid net.now care.now) w → result ≡ Err StoreFault.Full →
-        HasModelOver care.now d.old.limit ⊎ IsFullOnlyPast d.old d.new (w * (2 * length net.now.gates + (2 * length net.now.latches + 2 * invariant_effort care.now + 1))) }
+    ensures grows { GrowsInDecision result d.old d.new net.now care.now (later_cost net.now care.now) }
 {
     let gates = gates_on(alloc, d, net, order, observe, rails, set)?;
     let loose = match gates {
@@ -84,8 +78,7 @@ fn judge(
     requires care { IsCareOf net.now care.now }
     requires vars { d.old.vars ≡ columns net.now }
     ensures verdict { IfOk result (IsVerdict net.now blocks.now cut.now care.now observe) }
-    ensures full { result ≡ Err StoreFault.Full → IsOutOfNodes d.new net.now care.now d.old.limit }
-    ensures enough { result ≡ Err StoreFault.Full → length d.old.entries ≡ 0 → IsBelowEnough net.now care.now d.old.limit }
+    ensures full { result ≡ Err StoreFault.Full → IsFullFor d.old d.new net.now care.now }
 {
     solutions();
     let order = order(alloc, net)?;

@@ -7,17 +7,17 @@
 #![tactic(auto)]
 
 mod alone;
+mod beginning;
 mod care;
 mod deciding;
 mod fault;
 mod gates;
+mod initial;
 pub mod laws;
 mod next;
 mod observing;
-mod parts;
+mod refusing;
 mod sets;
-mod start;
-mod starting;
 mod verdict;
 
 pub use deciding::decide;

@@ -1,9 +1,8 @@
 //! The latches' next values.
 
-ghost use Rattle.std.specs.Prelude.{◌≡◌, ◌≤◌, ◌*◌, ℕ, Bool, List, length, All, IfOk, if◌then◌else◌};
+ghost use Rattle.std.specs.Prelude.{◌≡◌, ◌*◌, Bool, List, length, All, IfOk, if◌then◌else◌};
 ghost use Rattle.bdd_store.specs.Arena.{den, IsNodeOf};
-ghost use Rattle.bdd_store.specs.Growth.{KeepsNodes, AddsAtMost, IsFullOnlyPast};
-ghost use Rattle.bdd_store.specs.Subfunctions.{nodes};
+ghost use Rattle.bdd_store.specs.Growth.{GrowsWithin, NoOtherCause};
 ghost use Rattle.bdd_ops.specs.Operations.{conjunction};
 ghost use Rattle.cyc_base.specs.declared.trit.Trit.TheVariants.{X};
 ghost use Rattle.dual_rail.specs.Rails.{AreRailsOf, value_of, values_of};
@@ -11,7 +10,7 @@ ghost use Rattle.fixpoint.specs.Orders.{laid, order as order_of};
 ghost use Rattle.care_sets.specs.Care.{columns};
 ghost use Rattle.refusals.specs.Refusals.{next_state};
 ghost use Rattle.verdict.specs.Next.{next_within, BoundsSignals};
-ghost use Rattle.verdict.specs.Sets.{AreFixed};
+ghost use Rattle.verdict.specs.Sets.{BoundsBoth, AreFixed};
 
 use crate::sets::by_variable;
 use bdd_ops::Diagrams;
@@ -26,11 +25,7 @@ fn restricted(d: &mut Diagrams, set: Node, rails: Rails) -> Result<Rails, StoreF
     requires rails { AreRailsOf d.old rails }
     ensures rails { IfOk result (AreRailsOf d.new) }
     ensures value { IfOk result (λ r. (v : List Bool) → value_of d.new r v ≡ (if den d.old set v then value_of d.old rails v else X)) }
-    ensures keeps { KeepsNodes d.old d.new }
-    ensures added { (w : ℕ) → nodes d.old.vars (conjunction d.old set rails.one) ≤ w → nodes d.old.vars (conjunction d.old set rails.zero) ≤ w →
-        AddsAtMost d.old d.new (w * 2) }
-    ensures full { (w : ℕ) → nodes d.old.vars (conjunction d.old set rails.one) ≤ w → nodes d.old.vars (conjunction d.old set rails.zero) ≤ w →
-        result ≡ Err StoreFault.Full → IsFullOnlyPast d.old d.new (w * 2) }
+    ensures grows { GrowsWithin result d.old d.new NoOtherCause (BoundsBoth d.old.vars (conjunction d.old set rails.one) (conjunction d.old set rails.zero)) 2 }
 {
     let one = d.and(set, rails.one)?;
     let zero = d.and(set, rails.zero)?;
@@ -51,11 +46,7 @@ pub(crate) fn next_on(
     ensures width { IfOk result (λ list. length list.items ≡ length net.now.latches) }
     ensures rails { IfOk result (λ list. All (AreRailsOf d.new) list.items) }
     ensures values { IfOk result (λ list. (v : List Bool) → length v ≡ d.old.vars → values_of d.new list.items (laid net.now v) ≡ next_within net.now d.old set v) }
-    ensures keeps { KeepsNodes d.old d.new }
-    ensures added { (w : ℕ) → BoundsSignals net.now d.old set w →
-        AddsAtMost d.old d.new (w * (2 * length net.now.latches)) }
-    ensures full { (w : ℕ) → BoundsSignals net.now d.old set w →
-        result ≡ Err StoreFault.Full → IsFullOnlyPast d.old d.new (w * (2 * length net.now.latches)) }
+    ensures grows { GrowsWithin result d.old d.new NoOtherCause (BoundsSignals net.now d.old set) (2 * length net.now.latches) }
 {
     let mut list = Vec::new(alloc);
     for number in 0..net.latches() {

@@ -1,8 +1,8 @@
 //! Sets of vectors as nodes, and their least vectors.
 
-ghost use Rattle.std.specs.Prelude.{◌≡◌, ◌<◌, ◌≤◌, ℕ, Bool, List, All, IfOk, find, is_none, length, option_map};
+ghost use Rattle.std.specs.Prelude.{◌≡◌, ◌<◌, ℕ, Bool, List, All, IfOk, find, is_none, length, option_map};
 ghost use Rattle.bdd_store.specs.Arena.{den, IsNodeOf};
-ghost use Rattle.bdd_store.specs.Growth.{KeepsNodes, AddsAtMost, IsFullOnlyPast};
+ghost use Rattle.bdd_store.specs.Growth.{Grows};
 ghost use Rattle.bdd_store.specs.Subfunctions.{nodes};
 ghost use Rattle.bdd_ops.specs.Least.{IsLayout, by_variable as by_variable_of};
 ghost use Rattle.cyc_base.specs.Vectors.{vectors};
@@ -18,9 +18,7 @@ pub(crate) fn minus(d: &mut Diagrams, m: Node, n: Node) -> Result<Node, StoreFau
     requires n { IsNodeOf d.old n }
     ensures node { IfOk result (IsNodeOf d.new) }
     ensures function { IfOk result (λ set. (v : List Bool) → den d.new set v ≡ difference d.old m n v) }
-    ensures keeps { KeepsNodes d.old d.new }
-    ensures added { (w : ℕ) → nodes d.old.vars (difference d.old m n) ≤ w → AddsAtMost d.old d.new w }
-    ensures full { (w : ℕ) → nodes d.old.vars (difference d.old m n) ≤ w → result ≡ Err StoreFault.Full → IsFullOnlyPast d.old d.new w }
+    ensures grows { Grows result d.old d.new (nodes d.old.vars (difference d.old m n)) }
 {
     Ok(d.ite(n, Node::of(false), m)?)
 }

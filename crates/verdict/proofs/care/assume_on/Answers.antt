@@ -1,13 +1,15 @@
-use Rattle.std.proofs.Common.{Err, ◌≡◌, ◌*◌, ◌∙◌, inl, inr, ℕ, sym, ap, subst, Some, true, length}
-use Rattle.std.specs.Prelude.{IfSome, IsSomeAnd}
+use Rattle.std.proofs.Common.{◌≡◌, ◌*◌, ◌≤◌, ◌∙◌, inl, ℕ, sym, ap, subst, Some, true, length, arith}
+use Rattle.std.specs.Prelude.{IsSomeAnd}
 use Rattle.std.specs.Option.{option_map_or}
-use Rattle.bdd_store.specs.declared.fault.StoreFault.{StoreFault}
-use Rattle.bdd_store.specs.Growth.{AddsAtMost, IsFullOnlyPast}
+use Rattle.bdd_store.specs.Growth.{GrowsWithin}
+use Rattle.bdd_store.proofs.GrowthLemmas.{within_more, within_moved, within_caused, within_answered, within_refused}
 use Rattle.dual_rail.specs.Rails.{values_of}
 use Rattle.dual_rail.specs.WorkingLists.{BoundsEach}
 use Rattle.care_sets.specs.Care.{holds_at}
 use Rattle.fixpoint.specs.Working.{HasLargeCover, effort}
-use Rattle.verdict.specs.Enough.{IsOfModel}
+use Rattle.verdict.specs.Causes.{HasModelOver}
+use Rattle.verdict.specs.Costs.{assume_effort}
+use Rattle.verdict.specs.Enough.{IsOfModel, BoundsModel}
 use Rattle.verdict.specs.Sets.{model_of}
 use Rattle.verdict.proofs.CareLemmas.{model_there, model_is}
 use Rattle.verdict.proofs.care.assume_on.Goals as goal
@@ -17,7 +19,7 @@ use Rattle.verdict.proofs.care.assume_on.Goals.{After-holds_on}
 there : (c : After-holds_on) → c.args.care.now.assume ≡ Some (model_of c.in-Some.model.now 0 c.assume_columns.result.now)
 there c = model_there c.args.care.now.assume c.in-Some.model.now c.assume_columns.result.now 0 (length c.args.rails.now) c.in-Some.ensures.net c.assume_columns.ensures.columns c.requires.reads
 
-bounded : (c : After-holds_on) (w : ℕ) → IfSome c.args.care.now.assume (λ model. BoundsEach c.args.d.now.vars (IsOfModel model (values_of c.args.d.now c.args.rails.now)) w) →
+bounded : (c : After-holds_on) (w : ℕ) → BoundsModel c.args.care.now.assume c.args.d.now.vars (values_of c.args.d.now c.args.rails.now) w →
     BoundsEach c.args.d.now.vars (IsOfModel (model_of c.in-Some.model.now 0 c.assume_columns.result.now) (values_of c.args.d.now c.args.rails.now)) w
 bounded c w = model_is c.args.care.now.assume (model_of c.in-Some.model.now 0 c.assume_columns.result.now)
     (λ model. BoundsEach c.args.d.now.vars (IsOfModel model (values_of c.args.d.now c.args.rails.now)) w) (there c)
@@ -29,20 +31,15 @@ pub returns-clause-allowed : goal.returns-clause-allowed
 returns-clause-allowed c values v are =
     c.in_ok-holds_on.ensures.holds values v are ∙ sym (ap (λ o. option_map_or (λ model. holds_at model values) o true) (there (goal.at.returns-clause-allowed c).After-holds_on))
 
-pub returns-clause-added : goal.returns-clause-added
-returns-clause-added c w bounds =
-    let after : After-holds_on = (goal.at.returns-clause-added c).After-holds_on in
-    subst (λ n. AddsAtMost c.args.d.now c.holds_on.new.d (w * (2 * n))) (costs after) (c.holds_on.ensures.added w (bounded after w bounds))
+holds-grows : (c : After-holds_on) → GrowsWithin c.holds_on.result c.args.d.now c.holds_on.new.d (HasModelOver c.args.care.now) (BoundsModel c.args.care.now.assume c.args.d.now.vars (values_of c.args.d.now c.args.rails.now)) (2 * assume_effort c.args.care.now)
+holds-grows c =
+    let size = costs c in
+    within_more (omega (arith, size))
+    (within_caused (λ over. inl (subst (λ o. IsSomeAnd o (λ model. HasLargeCover model.net c.args.d.now.limit)) (sym (there c)) over))
+    (within_moved (bounded c) c.holds_on.ensures.grows))
 
-pub returns-in_err-holds_on-clause-added : goal.returns-in_err-holds_on-clause-added
-returns-in_err-holds_on-clause-added c w bounds =
-    let after : After-holds_on = (goal.at.returns-in_err-holds_on-clause-added c).After-holds_on in
-    subst (λ n. AddsAtMost c.args.d.now c.holds_on.new.d (w * (2 * n))) (costs after) (c.holds_on.ensures.added w (bounded after w bounds))
+pub returns-clause-grows : goal.returns-clause-grows
+returns-clause-grows c = within_answered (holds-grows (goal.at.returns-clause-grows c).After-holds_on)
 
-pub returns-in_err-holds_on-clause-full : goal.returns-in_err-holds_on-clause-full
-returns-in_err-holds_on-clause-full c w bounds is_full =
-    let after : After-holds_on = (goal.at.returns-in_err-holds_on-clause-full c).After-holds_on in
-    elim (c.in_err-holds_on.ensures.full w (bounded after w bounds) (ap {A = StoreFault} Err (sym (rw is_full at c.from_residual.ensures.1)))) [
-      | inl over ↦ inl (inl (subst (λ o. IsSomeAnd o (λ model. HasLargeCover model.net c.args.d.now.limit)) (sym (there after)) over))
-      | inr full ↦ inr (subst (λ n. IsFullOnlyPast c.args.d.now c.holds_on.new.d (w * (2 * n))) (costs after) full)
-    ]
+pub returns-in_err-holds_on-clause-grows : goal.returns-in_err-holds_on-clause-grows
+returns-in_err-holds_on-clause-grows c = within_refused c.in_err-holds_on.was c.from_residual.ensures.1 (holds-grows (goal.at.returns-in_err-holds_on-clause-grows c).After-holds_on)

@@ -1,7 +1,7 @@
-use Rattle.std.proofs.Common.{Err, ◌≡◌, ◌<◌, ◌∙◌, ℕ, List, length, sym, ap, get_or, arith}
+use Rattle.std.proofs.Common.{◌≡◌, ◌<◌, ◌∙◌, ℕ, List, length, sym, ap, get_or, arith}
 use Rattle.std.proofs.lemmas.List.{get_or_read}
-use Rattle.bdd_store.specs.declared.fault.StoreFault.{StoreFault}
 use Rattle.bdd_store.specs.Arena.{den}
+use Rattle.bdd_store.proofs.GrowthLemmas.{within_moved, within_answered, within_refused}
 use Rattle.cyc_base.specs.declared.sig.Sig.{Sig}
 use Rattle.dual_rail.specs.declared.rail.Rails.{Rails}
 use Rattle.dual_rail.specs.Rails.{values_of}
@@ -25,15 +25,11 @@ bounded : (c : After-lift_gates) (w : ℕ) → BoundsEach c.args.d.now.vars (IsO
     BoundsEach c.args.d.now.vars (IsGatePart c.args.model.now no_loops (values_of c.args.d.now c.deref.result.now)) w
 bounded c w bounds = inputs-bounded c.args.d.now c.args.model.now c.args.columns.now c.args.first c.args.rails.now c.deref.result.now c.requires.columns (c.deref.ensures.value ∙ c.in-Ok.ensures) bounds
 
-pub returns-clause-added : goal.returns-clause-added
-returns-clause-added c w bounds = c.lift_gates.ensures.added w (bounded (goal.at.returns-clause-added c).After-lift_gates w bounds)
+pub returns-clause-grows : goal.returns-clause-grows
+returns-clause-grows c = within_answered (within_moved (bounded (goal.at.returns-clause-grows c).After-lift_gates) c.lift_gates.ensures.grows)
 
-pub returns-in_err-wires-clause-added : goal.returns-in_err-wires-clause-added
-returns-in_err-wires-clause-added c w bounds = c.lift_gates.ensures.added w (bounded (goal.at.returns-in_err-wires-clause-added c).After-lift_gates w bounds)
-
-pub returns-in_err-wires-clause-full : goal.returns-in_err-wires-clause-full
-returns-in_err-wires-clause-full c w bounds is_full =
-    c.in_err-wires.ensures.full w (bounded (goal.at.returns-in_err-wires-clause-full c).After-lift_gates w bounds) (ap {A = StoreFault} Err (sym (rw is_full at c.from_residual.ensures.1)))
+pub returns-in_err-wires-clause-grows : goal.returns-in_err-wires-clause-grows
+returns-in_err-wires-clause-grows c = within_refused c.in_err-wires.was c.from_residual.ensures.1 (within_moved (bounded (goal.at.returns-in_err-wires-clause-grows c).After-lift_gates) c.lift_gates.ensures.grows)
 
 pub returns-clause-holds : goal.returns-clause-holds
 returns-clause-holds c values v are =

@@ -1,24 +1,19 @@
-use Rattle.std.proofs.Common.{◌≡◌, ◌∙◌, inr, ◌+◌, ◌*◌, ℕ, Err, Option, Some, None, length, sym, ap, ap₂, subst, arith}
+use Rattle.std.proofs.Common.{◌≡◌, ◌∙◌, ◌*◌, Option, Some, None, length, sym, ap, ap₂, subst, arith}
 use Rattle.std.specs.Option.{option_or}
-use Rattle.bdd_store.specs.declared.fault.StoreFault.{StoreFault}
-use Rattle.bdd_store.specs.Growth.{AddsAtMost}
-use Rattle.bdd_store.proofs.GrowthLemmas.{added-more, added-within, full-first}
-use Rattle.dual_rail.specs.WorkingLists.{IsWide}
+use Rattle.bdd_store.proofs.GrowthLemmas.{within_only, within_then, within_moved, within_more, within_answered, within_refused}
 use Rattle.refusals.specs.declared.refusal.Refusal.{Refusal}
 use Rattle.refusals.specs.Refusals.{undetermined_refusal, leaves_refusal}
 use Rattle.refusals.proofs.LawLemmas.{sources_determined}
-use Rattle.verdict.specs.Causes.{HasModelOver}
-use Rattle.verdict.specs.Costs.{invariant_effort}
-use Rattle.verdict.specs.Enough.{IsLaid}
+use Rattle.verdict.specs.Costs.{later_cost}
+use Rattle.verdict.specs.Enough.{IsWideOn, GrowsInDecision}
 use Rattle.verdict.specs.Verdicts.{AreLoose, StandSo}
-use Rattle.verdict.proofs.CauseLemmas.{over-more}
 use Rattle.verdict.proofs.DecisionLemmas.{wide-kept}
 use Rattle.verdict.proofs.PartLemmas.{AreFixed-kept}
 use Rattle.verdict.proofs.deciding.later.Goals as goal
 use Rattle.verdict.proofs.deciding.later.Goals.{After-gates_on, After-leaves, In-Determined}
 
 pub leaves-requires-clause-fixed : goal.leaves-requires-clause-fixed
-leaves-requires-clause-fixed c = AreFixed-kept c.gates_on.ensures.keeps c.requires.fixed
+leaves-requires-clause-fixed c = AreFixed-kept c.gates_on.ensures.grows.keeps c.requires.fixed
 
 -- where no observed gate is unknown on care
 gates-stand : (c : In-Determined) → (undetermined_refusal c.args.net.now c.args.care.now c.args.observe ≡ None) × AreLoose c.args.net.now c.args.care.now c.in-Determined.loose
@@ -48,45 +43,32 @@ leaves-requires-clause-loads g v counts =
     let c : In-Determined = (goal.at.leaves-requires-clause-loads g).In-Determined in
     sources_determined c.args.net.now c.args.care.now c.args.observe v c.gates_on.ensures.valid (gates-stand c).0 counts
 
--- ---- what is added, call by call
+-- ---- what it does to the diagrams, call by call
 
-gates-within : (c : After-gates_on) (w : ℕ) → IsWide c.args.d.now.vars (IsLaid c.args.net.now c.args.care.now) w →
-    AddsAtMost c.args.d.now c.gates_on.new.d (w * (2 * length c.args.net.now.gates + (2 * length c.args.net.now.latches + 2 * invariant_effort c.args.care.now + 1)))
-gates-within c w wide =
-    added-within c.args.d.now c.gates_on.new.d w (2 * length c.args.net.now.gates) (2 * length c.args.net.now.gates + (2 * length c.args.net.now.latches + 2 * invariant_effort c.args.care.now + 1)) (omega arith)
-    (c.gates_on.ensures.added c.args.care.now w c.requires.set wide)
+after-gates : (c : After-gates_on) → GrowsInDecision c.gates_on.result c.args.d.now c.gates_on.new.d c.args.net.now c.args.care.now (2 * length c.args.net.now.gates)
+after-gates c = within_only (within_moved (λ w wide. record { care = c.args.care.now; told = c.requires.set; wide = wide }) c.gates_on.ensures.grows)
 
-both-added : (c : After-leaves) (w : ℕ) → IsWide c.args.d.now.vars (IsLaid c.args.net.now c.args.care.now) w →
-    AddsAtMost c.args.d.now c.leaves.new.d (w * (2 * length c.args.net.now.gates + (2 * length c.args.net.now.latches + 2 * invariant_effort c.args.care.now + 1)))
-both-added c w wide =
-    added-more c.args.d.now c.gates_on.new.d c.leaves.new.d w (2 * length c.args.net.now.gates) (2 * length c.args.net.now.latches + 2 * invariant_effort c.args.care.now + 1)
-    (2 * length c.args.net.now.gates + (2 * length c.args.net.now.latches + 2 * invariant_effort c.args.care.now + 1)) (omega arith)
-    (c.gates_on.ensures.added c.args.care.now w c.requires.set wide) (c.leaves.ensures.added w (wide-kept c.gates_on.ensures.keeps wide))
+after-leaves : (c : After-leaves) → GrowsInDecision c.gates_on.result c.args.d.now c.gates_on.new.d c.args.net.now c.args.care.now (2 * length c.args.net.now.gates) →
+    GrowsInDecision c.leaves.result c.args.d.now c.leaves.new.d c.args.net.now c.args.care.now (later_cost c.args.net.now c.args.care.now)
+after-leaves c before = within_then before (within_moved (λ w wide. wide-kept before.keeps wide) c.leaves.ensures.grows)
 
-pub returns-in_err-gates-clause-added : goal.returns-in_err-gates-clause-added
-returns-in_err-gates-clause-added g = gates-within ((goal.at.returns-in_err-gates-clause-added g).After-gates_on)
+pub returns-in_err-gates-clause-grows : goal.returns-in_err-gates-clause-grows
+returns-in_err-gates-clause-grows g = within_more (omega arith) (within_refused g.in_err-gates.was g.from_residual.ensures.1 (after-gates (goal.at.returns-in_err-gates-clause-grows g).After-gates_on))
 
-pub returns-in_err-gates-clause-full : goal.returns-in_err-gates-clause-full
-returns-in_err-gates-clause-full c w wide is_full =
-    let refused = ap {A = StoreFault} Err (sym (rw is_full at c.from_residual.ensures.1)) in
-    inr (full-first c.args.d.now c.gates_on.new.d w (2 * length c.args.net.now.gates) (2 * length c.args.net.now.gates + (2 * length c.args.net.now.latches + 2 * invariant_effort c.args.care.now + 1)) (omega arith)
-    (c.in_err-gates.ensures.full c.args.care.now w c.requires.set wide refused))
+pub returns-in-Refused-clause-grows : goal.returns-in-Refused-clause-grows
+returns-in-Refused-clause-grows g = within_more (omega arith) (within_answered (after-gates (goal.at.returns-in-Refused-clause-grows g).After-gates_on))
 
-pub returns-in-Some-clause-added : goal.returns-in-Some-clause-added
-returns-in-Some-clause-added g = both-added ((goal.at.returns-in-Some-clause-added g).After-leaves)
+pub returns-in_err-left-clause-grows : goal.returns-in_err-left-clause-grows
+returns-in_err-left-clause-grows g =
+    let at = goal.at.returns-in_err-left-clause-grows g in
+    within_refused g.in_err-left.was g.from_residual-in_err-left.ensures.1 (after-leaves at.After-leaves (after-gates at.After-gates_on))
 
-pub returns-in_err-left-clause-added : goal.returns-in_err-left-clause-added
-returns-in_err-left-clause-added g = both-added ((goal.at.returns-in_err-left-clause-added g).After-leaves)
+pub returns-in-Some-clause-grows : goal.returns-in-Some-clause-grows
+returns-in-Some-clause-grows g =
+    let at = goal.at.returns-in-Some-clause-grows g in
+    within_answered (after-leaves at.After-leaves (after-gates at.After-gates_on))
 
-pub returns-in_err-left-clause-full : goal.returns-in_err-left-clause-full
-returns-in_err-left-clause-full c w wide is_full =
-    let refused = ap {A = StoreFault} Err (sym (rw is_full at c.from_residual-in_err-left.ensures.1)) in
-    over-more (HasModelOver c.args.care.now) c.args.d.now c.gates_on.new.d c.leaves.new.d w (2 * length c.args.net.now.gates) (2 * length c.args.net.now.latches + 2 * invariant_effort c.args.care.now + 1)
-    (2 * length c.args.net.now.gates + (2 * length c.args.net.now.latches + 2 * invariant_effort c.args.care.now + 1)) c.gates_on.ensures.keeps (omega arith)
-    (c.gates_on.ensures.added c.args.care.now w c.requires.set wide) (c.in_err-left.ensures.full w (wide-kept c.gates_on.ensures.keeps wide) refused)
-
-pub returns-in-None-clause-added : goal.returns-in-None-clause-added
-returns-in-None-clause-added g = both-added ((goal.at.returns-in-None-clause-added g).After-leaves)
-
-pub returns-in-Refused-clause-added : goal.returns-in-Refused-clause-added
-returns-in-Refused-clause-added g = gates-within ((goal.at.returns-in-Refused-clause-added g).After-gates_on)
+pub returns-in-None-clause-grows : goal.returns-in-None-clause-grows
+returns-in-None-clause-grows g =
+    let at = goal.at.returns-in-None-clause-grows g in
+    within_answered (after-leaves at.After-leaves (after-gates at.After-gates_on))

@@ -1,8 +1,8 @@
 //! The vectors whose states the inits permit.
 
-ghost use Rattle.std.specs.Prelude.{◌≡◌, ◌*◌, ℕ, Bool, List, IfOk};
+ghost use Rattle.std.specs.Prelude.{◌≡◌, Bool, List, IfOk};
 ghost use Rattle.bdd_store.specs.Arena.{Arena, den, IsNodeOf};
-ghost use Rattle.bdd_store.specs.Growth.{KeepsNodes, AddsAtMost, IsFullOnlyPast};
+ghost use Rattle.bdd_store.specs.Growth.{GrowsWithin, NoOtherCause};
 ghost use Rattle.cyc_base.specs.Values.{bit};
 ghost use Rattle.dual_rail.specs.Rails.{AreRailsOf, value_of};
 ghost use Rattle.care_sets.specs.Care.{columns};
@@ -40,9 +40,7 @@ pub(crate) fn starts_on(
     requires order { order.now ≡ order_of net.now }
     requires columns { AreColumns d.old (order_of net.now) rails.now }
     ensures starts { IfOk result (λ set. Tells net.now d.new set (starts net.now)) }
-    ensures keeps { KeepsNodes d.old d.new }
-    ensures added { (w : ℕ) → BoundsStarts net.now w → AddsAtMost d.old d.new (w * columns net.now) }
-    ensures full { (w : ℕ) → BoundsStarts net.now w → result ≡ Err StoreFault.Full → IsFullOnlyPast d.old d.new (w * columns net.now) }
+    ensures grows { GrowsWithin result d.old d.new NoOtherCause (BoundsStarts net.now) (columns net.now) }
 {
     let first = net.inputs();
     let mut set = Node::of(true);

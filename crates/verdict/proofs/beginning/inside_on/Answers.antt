@@ -1,19 +1,19 @@
-use Rattle.std.proofs.Common.{◌≡◌, ◌∙◌, ◌-◌, Err, ℕ, List, length, take, drop, sym, ap, subst, arith}
+use Rattle.std.proofs.Common.{◌≡◌, ◌∙◌, ◌-◌, ℕ, List, length, take, drop, sym, ap, subst, arith}
 use Rattle.std.specs.Prelude.{IfSome}
 use Rattle.std.proofs.lemmas.List.{take_rest, length-drop}
-use Rattle.bdd_store.specs.declared.fault.StoreFault.{StoreFault}
+use Rattle.bdd_store.proofs.GrowthLemmas.{within_moved, within_answered, within_refused}
 use Rattle.dual_rail.specs.declared.rail.Rails.{Rails}
 use Rattle.dual_rail.specs.Rails.{values_of}
-use Rattle.dual_rail.specs.WorkingLists.{IsWide, BoundsEach}
+use Rattle.dual_rail.specs.WorkingLists.{IsWide}
 use Rattle.care_sets.specs.Care.{columns, state_of}
-use Rattle.verdict.specs.Enough.{IsLaid, IsOfModel}
+use Rattle.verdict.specs.Enough.{IsLaid, BoundsModel}
 use Rattle.fixpoint.specs.Orders.{laid}
 use Rattle.verdict.specs.Sets.{ReadsWithin}
 use Rattle.verdict.proofs.PartLemmas.{invariant-reads}
 use Rattle.verdict.proofs.VerdictLemmas.{state-values}
 use Rattle.verdict.proofs.WorkLemmas.{invariant-bounded}
-use Rattle.verdict.proofs.start.inside_on.Goals as goal
-use Rattle.verdict.proofs.start.inside_on.Goals.{After-invariant_on}
+use Rattle.verdict.proofs.beginning.inside_on.Goals as goal
+use Rattle.verdict.proofs.beginning.inside_on.Goals.{After-invariant_on}
 
 pub invariant_on-requires-clause-reads : goal.invariant_on-requires-clause-reads
 invariant_on-requires-clause-reads c =
@@ -36,13 +36,13 @@ returns-clause-told c =
     record {
       node = c.in_ok-invariant_on.ensures.node;
       value = λ v wide. c.in_ok-invariant_on.ensures.inside (state_of net v) (laid net v)
-          (state-values net c.args.d.now rails latches v c.requires.columns (take_rest rails first ∙ ap (λ n. drop n rails) c.inputs-first.ensures.inputs) (wide ∙ c.invariant_on.ensures.keeps.vars));
+          (state-values net c.args.d.now rails latches v c.requires.columns (take_rest rails first ∙ ap (λ n. drop n rails) c.inputs-first.ensures.inputs) (wide ∙ c.invariant_on.ensures.grows.keeps.vars));
     }
 
 -- what the invariant works with
 
 bounded : (c : After-invariant_on) (w : ℕ) → IsWide c.args.d.now.vars (IsLaid c.args.net.now c.args.care.now) w →
-    IfSome c.args.care.now.invariant (λ model. BoundsEach c.args.d.now.vars (IsOfModel model (values_of c.args.d.now (take (length c.args.rails.now - c.inputs-first.result) (drop c.inputs-first.result c.args.rails.now)))) w)
+    BoundsModel c.args.care.now.invariant c.args.d.now.vars (values_of c.args.d.now (take (length c.args.rails.now - c.inputs-first.result) (drop c.inputs-first.result c.args.rails.now))) w
 bounded c w wide =
     let net = c.args.net.now in
     let rails = c.args.rails.now in
@@ -51,18 +51,12 @@ bounded c w wide =
     invariant-bounded net c.args.care.now c.args.d.now.vars c.requires.vars wide (values_of c.args.d.now latches)
     (λ v long. state-values net c.args.d.now rails latches v c.requires.columns (take_rest rails first ∙ ap (λ n. drop n rails) c.inputs-first.ensures.inputs) long)
 
-pub returns-in_err-invariant_on-clause-added : goal.returns-in_err-invariant_on-clause-added
-returns-in_err-invariant_on-clause-added g w wide =
-    let c : After-invariant_on = (goal.at.returns-in_err-invariant_on-clause-added g).After-invariant_on in
-    c.invariant_on.ensures.added w (bounded c w wide)
+pub returns-in_err-invariant_on-clause-grows : goal.returns-in_err-invariant_on-clause-grows
+returns-in_err-invariant_on-clause-grows g =
+    let c : After-invariant_on = (goal.at.returns-in_err-invariant_on-clause-grows g).After-invariant_on in
+    within_refused g.in_err-invariant_on.was g.from_residual.ensures.1 (within_moved (bounded c) c.invariant_on.ensures.grows)
 
-pub returns-in_err-invariant_on-clause-full : goal.returns-in_err-invariant_on-clause-full
-returns-in_err-invariant_on-clause-full g w wide is_full =
-    let c : After-invariant_on = (goal.at.returns-in_err-invariant_on-clause-full g).After-invariant_on in
-    let refused = ap {A = StoreFault} Err (sym (rw is_full at g.from_residual.ensures.1)) in
-    g.in_err-invariant_on.ensures.full w (bounded c w wide) refused
-
-pub returns-clause-added : goal.returns-clause-added
-returns-clause-added g w wide =
-    let c : After-invariant_on = (goal.at.returns-clause-added g).After-invariant_on in
-    c.invariant_on.ensures.added w (bounded c w wide)
+pub returns-clause-grows : goal.returns-clause-grows
+returns-clause-grows g =
+    let c : After-invariant_on = (goal.at.returns-clause-grows g).After-invariant_on in
+    within_answered (within_moved (bounded c) c.invariant_on.ensures.grows)

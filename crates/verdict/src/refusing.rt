@@ -1,22 +1,19 @@
 //! The parts of acceptance: where one fails, its refusal.
 
-ghost use Rattle.std.specs.Prelude.{◌≡◌, ◌&&◌, ◌<◌, ◌≤◌, ◌+◌, ◌*◌, ◌⊎◌, ℕ, Bool, List, None, IfOk, drop, length, is_none};
+ghost use Rattle.std.specs.Prelude.{◌≡◌, ◌*◌, Bool, List, IfOk, drop, length};
 ghost use Rattle.bdd_store.specs.Arena.{den, IsNodeOf};
-ghost use Rattle.bdd_store.specs.Growth.{KeepsNodes, AddsAtMost, IsFullOnlyPast};
+ghost use Rattle.bdd_store.specs.Growth.{Grows, GrowsWithin, NoOtherCause};
 ghost use Rattle.bdd_store.specs.Subfunctions.{nodes};
-ghost use Rattle.dual_rail.specs.Rails.{value_of};
-ghost use Rattle.dual_rail.specs.WorkingLists.{IsWide};
 ghost use Rattle.care_sets.specs.Binding.{IsCareOf};
 ghost use Rattle.care_sets.specs.Care.{CareSet, columns, is_care_vector};
 ghost use Rattle.fixpoint.specs.Orders.{order as order_of};
 ghost use Rattle.netlist.specs.Netlists.{IsNetlist};
-ghost use Rattle.refusals.specs.Refusals.{is_x, initial_refusal as initial_refusal_of, undetermined_refusal, leaves_refusal};
-ghost use Rattle.verdict.specs.Causes.{HasModelOver};
-ghost use Rattle.verdict.specs.Costs.{invariant_effort};
-ghost use Rattle.verdict.specs.Enough.{IsLaid};
+ghost use Rattle.refusals.specs.Refusals.{initial_refusal as initial_refusal_of, undetermined_refusal, leaves_refusal};
+ghost use Rattle.verdict.specs.Costs.{leaving_cost};
+ghost use Rattle.verdict.specs.Enough.{GrowsInDecision, IsWideOn};
 ghost use Rattle.verdict.specs.Next.{LoadsAreKnown};
 ghost use Rattle.verdict.specs.Verdicts.{StandSo};
-ghost use Rattle.verdict.specs.Sets.{Tells, AreFixed, difference, starts as starts_in, has_state_inside};
+ghost use Rattle.verdict.specs.Sets.{Tells, BoundsBoth, AreFixed, difference, unknown_in, starts as starts_in, has_state_inside};
 
 use crate::care::invariant_on;
 use crate::gates::Gates;
@@ -54,9 +51,7 @@ pub(crate) fn initial_refusal(
     requires starts { Tells net.now d.old starts (starts_in net.now) }
     requires inside { IsNodeOf d.old inside }
     ensures refusal { (care : CareSet) → Tells net.now d.old inside (has_state_inside net.now care) → IfOk result (λ found. found ≡ initial_refusal_of net.now care) }
-    ensures keeps { KeepsNodes d.old d.new }
-    ensures added { (w : ℕ) → nodes d.old.vars (difference d.old starts inside) ≤ w → AddsAtMost d.old d.new w }
-    ensures full { (w : ℕ) → nodes d.old.vars (difference d.old starts inside) ≤ w → result ≡ Err StoreFault.Full → IsFullOnlyPast d.old d.new w }
+    ensures grows { Grows result d.old d.new (nodes d.old.vars (difference d.old starts inside)) }
 {
     let outside = minus(d, starts, inside)?;
     let Some(vector) = least_of(alloc, d, order, outside)? else {
@@ -74,12 +69,8 @@ fn unknown_on(d: &mut Diagrams, set: Node, rails: Rails) -> Result<Node, StoreFa
     requires one { IsNodeOf d.old rails.one }
     requires zero { IsNodeOf d.old rails.zero }
     ensures node { IfOk result (IsNodeOf d.new) }
-    ensures unknown { IfOk result (λ found. (v : List Bool) → den d.new found v ≡ (den d.old set v && is_x (value_of d.old rails v))) }
-    ensures keeps { KeepsNodes d.old d.new }
-    ensures added { (w : ℕ) → nodes d.old.vars (difference d.old set rails.one) ≤ w →
-        nodes d.old.vars (λ v. den d.old set v && is_x (value_of d.old rails v)) ≤ w → AddsAtMost d.old d.new (w * 2) }
-    ensures full { (w : ℕ) → nodes d.old.vars (difference d.old set rails.one) ≤ w →
-        nodes d.old.vars (λ v. den d.old set v && is_x (value_of d.old rails v)) ≤ w → result ≡ Err StoreFault.Full → IsFullOnlyPast d.old d.new (w * 2) }
+    ensures unknown { IfOk result (λ found. (v : List Bool) → den d.new found v ≡ unknown_in d.old set rails v) }
+    ensures grows { GrowsWithin result d.old d.new NoOtherCause (BoundsBoth d.old.vars (difference d.old set rails.one) (unknown_in d.old set rails)) 2 }
 {
     let open = minus(d, set, rails.one)?;
     Ok(minus(d, open, rails.zero)?)
@@ -103,11 +94,7 @@ pub(crate) fn gates_on(
     ensures gates { (care : CareSet) → Tells net.now d.old set (is_care_vector net.now care) →
         IfOk result (StandSo (undetermined_refusal net.now care observe) net.now care) }
     ensures valid { IsNetlist net.now }
-    ensures keeps { KeepsNodes d.old d.new }
-    ensures added { (care : CareSet) (w : ℕ) → Tells net.now d.old set (is_care_vector net.now care) → IsWide d.old.vars (IsLaid net.now care) w →
-        AddsAtMost d.old d.new (w * (2 * length net.now.gates)) }
-    ensures full { (care : CareSet) (w : ℕ) → Tells net.now d.old set (is_care_vector net.now care) → IsWide d.old.vars (IsLaid net.now care) w →
-        result ≡ Err StoreFault.Full → IsFullOnlyPast d.old d.new (w * (2 * length net.now.gates)) }
+    ensures grows { GrowsWithin result d.old d.new NoOtherCause (IsWideOn net.now d.old set) (2 * length net.now.gates) }
 {
     let observed = observed_gates(alloc, net, observe)?;
     let first = net.inputs() + net.latches();
@@ -146,11 +133,7 @@ pub(crate) fn leaves(
     requires set { Tells net.now d.old set (is_care_vector net.now care.now) }
     requires loads { LoadsAreKnown net.now care.now }
     ensures refusal { IfOk result (λ found. found ≡ leaves_refusal net.now care.now) }
-    ensures keeps { KeepsNodes d.old d.new }
-    ensures added { (w : ℕ) → IsWide d.old.vars (IsLaid net.now care.now) w →
-        AddsAtMost d.old d.new (w * (2 * length net.now.latches + 2 * invariant_effort care.now + 1)) }
-    ensures full { (w : ℕ) → IsWide d.old.vars (IsLaid net.now care.now) w → result ≡ Err StoreFault.Full →
-        HasModelOver care.now d.old.limit ⊎ IsFullOnlyPast d.old d.new (w * (2 * length net.now.latches + 2 * invariant_effort care.now + 1)) }
+    ensures grows { GrowsInDecision result d.old d.new net.now care.now (leaving_cost net.now care.now) }
 {
     let next = next_on(alloc, d, net, rails, set)?;
     let inside = invariant_on(alloc, d, care, net.inputs(), &next)?;

@@ -1,9 +1,8 @@
-use Rattle.std.proofs.Common.{◌≡◌, Err, ℕ, ◌+◌, ◌-◌, ◌*◌, ◌<◌, ◌≤◌, ◌∙◌, Bool, List, length, drop, get_or, sym, ap, ap₂, arith}
+use Rattle.std.proofs.Common.{◌≡◌, ℕ, ◌+◌, ◌-◌, ◌*◌, ◌<◌, ◌≤◌, ◌∙◌, Bool, List, length, drop, get_or, sym, ap, ap₂, arith}
 use Rattle.std.specs.Prelude.{slice_get, Some}
-use Rattle.bdd_store.specs.declared.fault.StoreFault.{StoreFault}
-use Rattle.bdd_store.specs.Growth.{AddsAtMost}
+use Rattle.bdd_store.specs.Growth.{GrowsWithin, NoOtherCause}
 use Rattle.bdd_store.specs.Subfunctions.{nodes}
-use Rattle.bdd_store.proofs.GrowthLemmas.{KeepsNodes-chain, KeepsNodes-refl, added-next, added-within, full-next}
+use Rattle.bdd_store.proofs.GrowthLemmas.{nothing_grown, within_one, within_then, within_more, within_answered, within_refused}
 use Rattle.bdd_ops.specs.Operations.{conjunction}
 use Rattle.dual_rail.specs.declared.rail.Rails.{Rails}
 use Rattle.dual_rail.specs.Rails.{AreRailsOf}
@@ -13,11 +12,10 @@ use Rattle.fixpoint.proofs.WireLemmas.{rails_at-proper}
 use Rattle.care_sets.specs.Care.{columns}
 use Rattle.isolation.specs.Columns.{AreColumns}
 use Rattle.verdict.specs.Sets.{BoundsStarts}
-use Rattle.verdict.proofs.CauseLemmas.{added-to, full-to}
 use Rattle.isolation.proofs.ColumnLemmas.{AreColumns-kept}
 use Rattle.verdict.proofs.StartLemmas.{all_may_start_at, long-order, order-low, later-none, later-both, later-input, later-more, later-nodes, starts-told}
-use Rattle.verdict.proofs.starting.starts_on.Goals as goal
-use Rattle.verdict.proofs.starting.starts_on.Goals.{After-and}
+use Rattle.verdict.proofs.initial.starts_on.Goals as goal
+use Rattle.verdict.proofs.initial.starts_on.Goals.{After-and}
 
 variable-inside : (c : After-and) → c.loop-variable.variable - 1 < columns c.args.net.now
 variable-inside c = omega (arith, c.loop-variable-test.true, c.loop-variable.auto.variable, c.inputs-first.ensures.inputs, c.latches.ensures.latches)
@@ -30,8 +28,7 @@ column-is c = ap (λ (xs : List ℕ). get_or xs (c.loop-variable.variable - 1) 0
 
 pub loop-variable-init : goal.loop-variable-init
 loop-variable-init c = record {
-  keeps = KeepsNodes-refl c.args.d.now;
-  added = λ w fits. omega arith;
+  grows = nothing_grown;
   later = later-none c.args.net.now c.args.d.now c.of-set.result (c.inputs-first.result + c.latches.result) (c.of-set.ensures.node c.args.d.now) (c.of-set.ensures.value c.args.d.now)
       (omega (arith, c.inputs-first.ensures.inputs, c.latches.ensures.latches));
 }
@@ -64,7 +61,7 @@ both : (c : After-and) → (w : List Bool) → length w ≡ c.loop-variable.d.va
 both c =
     let net = c.args.net.now in
     let k : ℕ = c.loop-variable.variable - 1 in
-    let keeps = c.loop-variable.invariant.keeps in
+    let keeps = c.loop-variable.invariant.grows.keeps in
     let are : AreColumns c.loop-variable.d (order net) c.args.rails.now = AreColumns-kept keeps c.requires.columns in
     let column : Rails = rails_at c.args.rails.now (get_or c.args.order.now k 0) in
     let proper : AreRailsOf c.loop-variable.d column = rails_at-proper c.loop-variable.d c.args.rails.now are.proper (get_or c.args.order.now k 0) in
@@ -81,25 +78,21 @@ fits-one : (c : After-and) (w : ℕ) → BoundsStarts c.args.net.now w → nodes
 fits-one c w fits =
     let inside = variable-inside c in
     later-nodes c.args.net.now c.loop-variable.d c.loop-variable.set c.may_start_on-latch.result (c.loop-variable.variable - 1) w (omega (arith, inside))
-    (c.loop-variable.invariant.keeps.vars ∙ c.requires.vars) (both c) fits
+    (c.loop-variable.invariant.grows.keeps.vars ∙ c.requires.vars) (both c) fits
 
 one-more : (c : After-and) → columns c.args.net.now - c.loop-variable.variable + 1 ≤ columns c.args.net.now - (c.loop-variable.variable - 1)
 one-more c = let inside = variable-inside c in omega (arith, c.loop-variable-test.true, c.loop-variable.auto.variable, inside, c.inputs-first.ensures.inputs, c.latches.ensures.latches)
 
-added-so-far : (c : After-and) (w : ℕ) → BoundsStarts c.args.net.now w → AddsAtMost c.args.d.now c.and.new.self (w * (columns c.args.net.now - (c.loop-variable.variable - 1)))
-added-so-far c w fits =
-    added-within c.args.d.now c.and.new.self w (columns c.args.net.now - c.loop-variable.variable + 1) (columns c.args.net.now - (c.loop-variable.variable - 1)) (one-more c)
-    (added-next c.args.d.now c.loop-variable.d c.and.new.self w (columns c.args.net.now - c.loop-variable.variable) (c.loop-variable.invariant.added w fits)
-    (added-to c.loop-variable.d c.and.new.self _ w (fits-one c w fits) c.and.ensures.added))
+step : (c : After-and) → GrowsWithin c.and.result c.args.d.now c.and.new.self NoOtherCause (BoundsStarts c.args.net.now) (columns c.args.net.now - (c.loop-variable.variable - 1))
+step c = within_more (one-more c) (within_then c.loop-variable.invariant.grows (within_one (fits-one c) c.and.ensures.grows))
 
 pub loop-variable-preserved-then-column-first : goal.loop-variable-preserved-then-column-first
 loop-variable-preserved-then-column-first g =
     let c : After-and = (goal.at.loop-variable-preserved-then-column-first g).After-and in
     record {
-      keeps = KeepsNodes-chain c.loop-variable.invariant.keeps c.and.ensures.keeps;
-      added = added-so-far c;
+      grows = within_answered (step c);
       later = later-more c.args.net.now c.loop-variable.d c.and.new.self c.loop-variable.set c.may_start_on-latch.result g.in_ok-set.set (c.loop-variable.variable - 1)
-          c.and.ensures.keeps (both c) g.in_ok-set.ensures.node g.in_ok-set.ensures.function;
+          c.and.ensures.grows.keeps (both c) g.in_ok-set.ensures.node g.in_ok-set.ensures.function;
     }
 
 -- an input's column stands for all
@@ -107,35 +100,23 @@ pub loop-variable-preserved : goal.loop-variable-preserved
 loop-variable-preserved c =
     let net = c.args.net.now in
     let k : ℕ = c.loop-variable.variable - 1 in
-    let keeps = c.loop-variable.invariant.keeps in
+    let keeps = c.loop-variable.invariant.grows.keeps in
     let inside : k < columns net = omega (arith, c.loop-variable-test.true, c.loop-variable.auto.variable, c.inputs-first.ensures.inputs, c.latches.ensures.latches) in
     let same = ap (λ (xs : List ℕ). get_or xs k 0) c.requires.order in
     record {
-      keeps = keeps;
-      added = λ w fits. added-within c.args.d.now c.loop-variable.d w (columns net - c.loop-variable.variable) (columns net - k) (omega arith) (c.loop-variable.invariant.added w fits);
+      grows = within_more (omega arith) c.loop-variable.invariant.grows;
       later = later-input net c.loop-variable.d c.loop-variable.set c.loop-variable.variable k (omega (arith, c.loop-variable-test.true)) (keeps.vars ∙ c.requires.vars) inside
           (omega (arith, same, c.if-column-first.false, c.inputs-first.ensures.inputs)) c.loop-variable.invariant.later;
     }
 
 pub returns-clause-starts : goal.returns-clause-starts
 returns-clause-starts c =
-    starts-told c.args.net.now c.loop-variable.d c.loop-variable.set c.loop-variable.variable (omega (arith, c.loop-variable-test.false)) (c.loop-variable.invariant.keeps.vars ∙ c.requires.vars) c.loop-variable.invariant.later
+    starts-told c.args.net.now c.loop-variable.d c.loop-variable.set c.loop-variable.variable (omega (arith, c.loop-variable-test.false)) (c.loop-variable.invariant.grows.keeps.vars ∙ c.requires.vars) c.loop-variable.invariant.later
 
--- ---- how much that adds
+-- ---- what it does to the diagrams
 
-pub returns-in_err-set-clause-added : goal.returns-in_err-set-clause-added
-returns-in_err-set-clause-added g w fits =
-    let c : After-and = (goal.at.returns-in_err-set-clause-added g).After-and in
-    added-within c.args.d.now c.and.new.self w (columns c.args.net.now - (c.loop-variable.variable - 1)) (columns c.args.net.now) (omega arith) (added-so-far c w fits)
+pub returns-in_err-set-clause-grows : goal.returns-in_err-set-clause-grows
+returns-in_err-set-clause-grows g = within_more (omega arith) (within_refused g.in_err-set.was g.from_residual.ensures.1 (step (goal.at.returns-in_err-set-clause-grows g).After-and))
 
-pub returns-in_err-set-clause-full : goal.returns-in_err-set-clause-full
-returns-in_err-set-clause-full g w fits is_full =
-    let refused = ap {A = StoreFault} Err (sym (rw is_full at g.from_residual.ensures.1)) in
-    let c : After-and = (goal.at.returns-in_err-set-clause-full g).After-and in
-    let less = one-more c in
-    full-next c.args.d.now c.loop-variable.d c.and.new.self w (columns c.args.net.now - c.loop-variable.variable) (columns c.args.net.now) (omega (arith, less))
-    (c.loop-variable.invariant.added w fits) (full-to c.loop-variable.d c.and.new.self _ w (fits-one c w fits) (g.in_err-set.ensures.full refused))
-
-pub returns-clause-added : goal.returns-clause-added
-returns-clause-added c w fits =
-    added-within c.args.d.now c.loop-variable.d w (columns c.args.net.now - c.loop-variable.variable) (columns c.args.net.now) (omega arith) (c.loop-variable.invariant.added w fits)
+pub returns-clause-grows : goal.returns-clause-grows
+returns-clause-grows c = within_more (omega arith) (within_answered c.loop-variable.invariant.grows)

@@ -1,16 +1,13 @@
-use Rattle.std.proofs.Common.{◌≡◌, ◌∙◌, ◌+◌, ◌*◌, ◌<◌, ◌≤◌, ◌&&◌, Err, ℕ, Vec, Global, Some, Bool, false, List, length, get_or, refl, sym, ap, ap₂, subst, arith, true≢false}
+use Rattle.std.proofs.Common.{◌≡◌, ◌∙◌, ◌+◌, ◌*◌, ◌<◌, ◌≤◌, ◌&&◌, ℕ, Vec, Global, Some, Bool, false, List, length, get_or, refl, sym, ap, ap₂, subst, arith, true≢false}
 use Rattle.std.specs.Prelude.{find, is_none}
 use Rattle.std.specs.Option.{option_map}
-use Rattle.bdd_store.specs.declared.fault.StoreFault.{StoreFault}
 use Rattle.std.proofs.lemmas.List.{get_or_default}
 use Rattle.bdd_store.specs.declared.node.Node.{Node}
 use Rattle.bdd_store.specs.Arena.{den}
-use Rattle.bdd_store.specs.Growth.{AddsAtMost}
-use Rattle.bdd_store.specs.Subfunctions.{nodes}
-use Rattle.bdd_store.proofs.GrowthLemmas.{KeepsNodes-chain, added-more, added-within, full-more}
+use Rattle.bdd_store.specs.Growth.{GrowsWithin, NoOtherCause}
+use Rattle.bdd_store.proofs.GrowthLemmas.{HasGrown, within_then, within_moved, within_more, within_answered, within_refused, within_memory}
 use Rattle.cyc_base.specs.declared.sig.Sig.{Sig}
 use Rattle.dual_rail.specs.declared.rail.Rails.{Rails}
-use Rattle.dual_rail.specs.Rails.{value_of}
 use Rattle.dual_rail.specs.WorkingLists.{IsWide}
 use Rattle.cyc_base.specs.Vectors.{vectors}
 use Rattle.netlist.specs.Netlists.{count, gate_sig}
@@ -19,13 +16,13 @@ use Rattle.fixpoint.specs.Orders.{laid, order}
 use Rattle.fixpoint.specs.Sweeping.{rails_at}
 use Rattle.care_sets.specs.Care.{CareSet, columns, is_care_vector}
 use Rattle.refusals.specs.declared.refusal.Refusal.TheVariants.{Undetermined}
-use Rattle.refusals.specs.Refusals.{is_x, is_undetermined}
-use Rattle.verdict.specs.Enough.{IsLaid}
-use Rattle.verdict.specs.Sets.{Tells, AreFixed, difference}
-use Rattle.verdict.proofs.DecisionLemmas.{open-fits, unknown-fits}
+use Rattle.refusals.specs.Refusals.{is_undetermined}
+use Rattle.verdict.specs.Enough.{IsLaid, IsWideOn}
+use Rattle.verdict.specs.Sets.{Tells, BoundsBoth, AreFixed, difference, unknown_in}
+use Rattle.verdict.proofs.DecisionLemmas.{wide-kept, open-fits, unknown-fits}
 use Rattle.verdict.proofs.PartLemmas.{IsKnownOnCare, by-order, none_found, order-layout, unknown-first, undetermined-found, undetermined-none, known-more, loose-more, loose-same, loose-all, AreFixed-kept, Tells-kept}
-use Rattle.verdict.proofs.parts.gates_on.Goals as goal
-use Rattle.verdict.proofs.parts.gates_on.Goals.{After-unknown_on, then-index+in_ok-vector+in_default, else-index+then-not-is_never, else-index+else-not-is_never}
+use Rattle.verdict.proofs.refusing.gates_on.Goals as goal
+use Rattle.verdict.proofs.refusing.gates_on.Goals.{After-unknown_on, then-index+in_ok-vector+in_default, else-index+then-not-is_never, else-index+else-not-is_never}
 
 -- what a gate costs
 
@@ -33,80 +30,67 @@ gate-inside : (c : After-unknown_on) → c.loop-gate.gate < length c.args.net.no
 gate-inside c = omega (arith, c.loop-gate-test.true, c.gates-gate-end.ensures.gates)
 
 -- the vectors on which it isn't 1, and those on which it is unknown
-gate-fits : (c : After-unknown_on) (care : CareSet) (w : ℕ) → Tells c.args.net.now c.args.d.now c.args.set (is_care_vector c.args.net.now care) → IsWide c.args.d.now.vars (IsLaid c.args.net.now care) w →
+gate-fits : (c : After-unknown_on) (w : ℕ) → IsWideOn c.args.net.now c.args.d.now c.args.set w →
     let r : Rails = rails_at c.args.rails.now ((c.inputs.result + c.latches.result) + c.loop-gate.gate) in
-    (nodes c.loop-gate.d.vars (difference c.loop-gate.d c.args.set r.one) ≤ w) × (nodes c.loop-gate.d.vars (λ v. den c.loop-gate.d c.args.set v && is_x (value_of c.loop-gate.d r v)) ≤ w)
-gate-fits c care w told wide =
+    BoundsBoth c.loop-gate.d.vars (difference c.loop-gate.d c.args.set r.one) (unknown_in c.loop-gate.d c.args.set r) w
+gate-fits c w is =
     let net = c.args.net.now in
     let d = c.loop-gate.d in
-    let keeps = c.loop-gate.invariant.keeps in
+    let keeps = c.loop-gate.invariant.grows.keeps in
     let inside = gate-inside c in
     let place = (c.inputs.result + c.latches.result) + c.loop-gate.gate in
     let within : place < count net = omega (arith, inside, c.inputs.ensures.inputs, c.latches.ensures.latches) in
     let vars : d.vars ≡ columns net = keeps.vars ∙ c.requires.vars in
     let fixed : AreFixed net d c.args.rails.now = AreFixed-kept keeps c.requires.fixed in
-    let set_told : Tells net d c.args.set (is_care_vector net care) = Tells-kept keeps told in
-    let wide_d : IsWide d.vars (IsLaid net care) w = subst (λ k. IsWide k (IsLaid net care) w) (sym keeps.vars) wide in
-    (open-fits net care d c.args.rails.now vars fixed place within c.args.set set_told wide_d, unknown-fits net care d c.args.rails.now vars fixed place within c.args.set set_told wide_d)
+    let set_told : Tells net d c.args.set (is_care_vector net is.care) = Tells-kept keeps is.told in
+    let wide : IsWide d.vars (IsLaid net is.care) w = wide-kept keeps is.wide in
+    record {
+      first = open-fits net is.care d c.args.rails.now vars fixed place within c.args.set set_told wide;
+      second = unknown-fits net is.care d c.args.rails.now vars fixed place within c.args.set set_told wide;
+    }
 
-gate-added : (c : After-unknown_on) (care : CareSet) (w : ℕ) → Tells c.args.net.now c.args.d.now c.args.set (is_care_vector c.args.net.now care) → IsWide c.args.d.now.vars (IsLaid c.args.net.now care) w →
-    AddsAtMost c.args.d.now c.unknown_on.new.d (w * (2 * (c.loop-gate.gate + 1)))
-gate-added c care w told wide =
-    let fits = gate-fits c care w told wide in
-    added-more c.args.d.now c.loop-gate.d c.unknown_on.new.d w (2 * c.loop-gate.gate) 2 (2 * (c.loop-gate.gate + 1)) (omega arith)
-    (c.loop-gate.invariant.added care w told wide) (c.unknown_on.ensures.added w fits.0 fits.1)
+step : (c : After-unknown_on) → GrowsWithin c.unknown_on.result c.args.d.now c.unknown_on.new.d NoOtherCause (IsWideOn c.args.net.now c.args.d.now c.args.set) (2 * c.loop-gate.gate + 2)
+step c = within_then c.loop-gate.invariant.grows (within_moved (gate-fits c) c.unknown_on.ensures.grows)
 
 -- so many at most
-gates-added : (c : After-unknown_on) (care : CareSet) (w : ℕ) → Tells c.args.net.now c.args.d.now c.args.set (is_care_vector c.args.net.now care) → IsWide c.args.d.now.vars (IsLaid c.args.net.now care) w →
-    AddsAtMost c.args.d.now c.unknown_on.new.d (w * (2 * length c.args.net.now.gates))
-gates-added c care w told wide =
+all-gates : (c : After-unknown_on) → GrowsWithin c.unknown_on.result c.args.d.now c.unknown_on.new.d NoOtherCause (IsWideOn c.args.net.now c.args.d.now c.args.set) (2 * length c.args.net.now.gates)
+all-gates c =
     let inside = gate-inside c in
-    added-within c.args.d.now c.unknown_on.new.d w (2 * (c.loop-gate.gate + 1)) (2 * length c.args.net.now.gates) (omega (arith, inside)) (gate-added c care w told wide)
+    within_more (omega (arith, inside)) (step c)
 
-pub returns-in_err-unknown-clause-added : goal.returns-in_err-unknown-clause-added
-returns-in_err-unknown-clause-added g = gates-added ((goal.at.returns-in_err-unknown-clause-added g).After-unknown_on)
+pub returns-in_err-unknown-clause-grows : goal.returns-in_err-unknown-clause-grows
+returns-in_err-unknown-clause-grows c = within_refused c.in_err-unknown.was c.from_residual-in_err-unknown.ensures.1 (all-gates ((goal.at.returns-in_err-unknown-clause-grows c).After-unknown_on))
 
-pub returns-in_err-unknown-clause-full : goal.returns-in_err-unknown-clause-full
-returns-in_err-unknown-clause-full g care w told wide is_full =
-    let c : After-unknown_on = (goal.at.returns-in_err-unknown-clause-full g).After-unknown_on in
-    let refused = ap {A = StoreFault} Err (sym (rw is_full at g.from_residual-in_err-unknown.ensures.1)) in
-    let fits = gate-fits c care w told wide in
-    let inside = gate-inside c in
-    full-more c.args.d.now c.loop-gate.d c.unknown_on.new.d w (2 * c.loop-gate.gate) 2 (2 * length c.args.net.now.gates) (omega (arith, inside))
-    (c.loop-gate.invariant.added care w told wide) (g.in_err-unknown.ensures.full w fits.0 fits.1 refused)
+pub returns-in_err-vector-clause-grows : goal.returns-in_err-vector-clause-grows
+returns-in_err-vector-clause-grows c = within_refused {U = Unit} refl c.from_residual-in_err-vector.ensures.1 (within_memory (all-gates ((goal.at.returns-in_err-vector-clause-grows c).After-unknown_on)))
 
-pub returns-in_err-vector-clause-added : goal.returns-in_err-vector-clause-added
-returns-in_err-vector-clause-added g = gates-added ((goal.at.returns-in_err-vector-clause-added g).After-unknown_on)
+pub returns-in-Some-clause-grows : goal.returns-in-Some-clause-grows
+returns-in-Some-clause-grows c = within_answered (all-gates ((goal.at.returns-in-Some-clause-grows c).After-unknown_on))
 
-pub returns-in-Some-clause-added : goal.returns-in-Some-clause-added
-returns-in-Some-clause-added g = gates-added ((goal.at.returns-in-Some-clause-added g).After-unknown_on)
-
-pub returns-clause-added : goal.returns-clause-added
-returns-clause-added c care w told wide =
-    added-within c.args.d.now c.loop-gate.d w (2 * c.loop-gate.gate) (2 * length c.args.net.now.gates)
-    (omega (arith, c.loop-gate.auto.gate-end, c.gates-gate-end.ensures.gates)) (c.loop-gate.invariant.added care w told wide)
+pub returns-clause-grows : goal.returns-clause-grows
+returns-clause-grows c = within_more (omega (arith, c.loop-gate.auto.gate-end, c.gates-gate-end.ensures.gates)) (within_answered c.loop-gate.invariant.grows)
 
 -- ---- what is known of the gates
 
 -- the order is a layout of the variables
 gate-layout : (c : After-unknown_on) → IsLayout c.unknown_on.new.d.vars (order c.args.net.now)
 gate-layout c =
-    order-layout c.args.net.now c.unknown_on.new.d.vars (order c.args.net.now) (c.unknown_on.ensures.keeps.vars ∙ c.loop-gate.invariant.keeps.vars ∙ c.requires.vars) refl
+    order-layout c.args.net.now c.unknown_on.new.d.vars (order c.args.net.now) (c.unknown_on.ensures.grows.keeps.vars ∙ c.loop-gate.invariant.grows.keeps.vars ∙ c.requires.vars) refl
 
 pub least_of-requires-clause-columns : goal.least_of-requires-clause-columns
 least_of-requires-clause-columns c =
     subst (IsLayout c.unknown_on.new.d.vars) (sym c.requires.order) (gate-layout ((goal.at.least_of-requires-clause-columns c).After-unknown_on))
 
 -- the vectors of care on which this gate is unknown
-gate-unknown : (c : After-unknown_on) (care : CareSet) → Tells c.args.net.now c.args.d.now c.args.set (is_care_vector c.args.net.now care) → (unknown : Node) → ((v : List Bool) → den c.unknown_on.new.d unknown v ≡ (den c.loop-gate.d c.args.set v && is_x (value_of c.loop-gate.d (rails_at c.args.rails.now ((c.inputs.result + c.latches.result) + c.loop-gate.gate)) v))) →
+gate-unknown : (c : After-unknown_on) (care : CareSet) → Tells c.args.net.now c.args.d.now c.args.set (is_care_vector c.args.net.now care) → (unknown : Node) → ((v : List Bool) → den c.unknown_on.new.d unknown v ≡ unknown_in c.loop-gate.d c.args.set (rails_at c.args.rails.now ((c.inputs.result + c.latches.result) + c.loop-gate.gate)) v) →
     find (λ v. den c.unknown_on.new.d unknown (laid c.args.net.now v)) (vectors c.unknown_on.new.d.vars) ≡ find (λ v. is_care_vector c.args.net.now care v && is_undetermined c.args.net.now (gate_sig c.args.net.now c.loop-gate.gate) v) (vectors (columns c.args.net.now))
 gate-unknown c care told unknown is =
     let net = c.args.net.now in
     let gate : ℕ = c.loop-gate.gate in
     let place : (c.inputs.result + c.latches.result) + gate ≡ columns net + gate = omega (arith, c.inputs.ensures.inputs, c.latches.ensures.latches) in
     unknown-first net care c.args.d.now c.loop-gate.d c.unknown_on.new.d c.args.set unknown c.args.rails.now gate c.requires.vars c.requires.fixed told
-    c.loop-gate.invariant.keeps c.unknown_on.ensures.keeps (gate-inside c)
-    (λ v. is v ∙ ap (λ n. den c.loop-gate.d c.args.set v && is_x (value_of c.loop-gate.d (rails_at c.args.rails.now n) v)) place)
+    c.loop-gate.invariant.grows.keeps c.unknown_on.ensures.grows.keeps (gate-inside c)
+    (λ v. is v ∙ ap (λ n. unknown_in c.loop-gate.d c.args.set (rails_at c.args.rails.now n) v) place)
 
 -- an observed gate that is unknown at a vector of care, with the least
 pub returns-in-Some-clause-gates : goal.returns-in-Some-clause-gates
@@ -131,7 +115,7 @@ loop-gate-preserved c =
     let marks : List Bool = c.in_ok-observed.observed.items in
     let set : Node = c.in_ok-unknown.unknown in
     let unknown : After-unknown_on = (goal.at.loop-gate-preserved c).After-unknown_on in
-    let keeps = KeepsNodes-chain c.loop-gate.invariant.keeps c.unknown_on.ensures.keeps in
+    let grows : HasGrown c.args.d.now c.unknown_on.new.d (IsWideOn net c.args.d.now c.args.set) (2 * (gate + 1)) = within_more (omega arith) (within_answered (step unknown)) in
     let layout : IsLayout c.unknown_on.new.d.vars (order net) = gate-layout unknown in
     let few = c.loop-gate.invariant.few in
     elim c.if-index.branch [
@@ -140,8 +124,7 @@ loop-gate-preserved c =
           λ care told. sym (gate-unknown unknown care told set c.in_ok-unknown.ensures.unknown) ∙ sym (w.in_ok-vector.ensures ∙ by-order net c.unknown_on.new.d set c.requires.order) ∙ ap (option_map (λ (v : Vec Bool Global). v.items)) w.in_default.is in
           let same = w.loose-is in
           record {
-            keeps = keeps;
-            added = gate-added unknown;
+            grows = grows;
             known = λ care told. known-more net care marks gate (c.loop-gate.invariant.known care told) (λ is. known care told);
             loose = λ care told. w.loose-is ∙ loose-same net care gate c.loop-gate.loose (gate-inside unknown) (c.loop-gate.invariant.loose care told) (known care told);
             few = omega (arith, few, same);
@@ -152,8 +135,7 @@ loop-gate-preserved c =
           let isnt : get_or marks gate false ≡ false = get_or_default marks gate false c.index.result.now (omega (arith, inside, width)) ∙ sym c.index.ensures ∙ w.if-index.false in
           let same = w.loose-is in
           record {
-            keeps = keeps;
-            added = gate-added unknown;
+            grows = grows;
             known = λ care told. known-more net care marks gate (c.loop-gate.invariant.known care told) (λ is. absurd (true≢false (sym is ∙ isnt)));
             loose = λ care told. w.loose-is ∙ loose-more net care gate c.loop-gate.loose inside (c.loop-gate.invariant.loose care told)
                 (ap is_none (sym (gate-unknown unknown care told set c.in_ok-unknown.ensures.unknown)) ∙ sym (w.is_never.ensures (order net) layout) ∙ w.if-not-is_never.true);
@@ -165,8 +147,7 @@ loop-gate-preserved c =
           (ap is_none (sym (gate-unknown unknown care told set c.in_ok-unknown.ensures.unknown)) ∙ sym (w.is_never.ensures (order net) layout) ∙ w.if-not-is_never.false) in
           let same = w.loose-is in
           record {
-            keeps = keeps;
-            added = gate-added unknown;
+            grows = grows;
             known = λ care told. known-more net care marks gate (c.loop-gate.invariant.known care told) (λ is. known care told);
             loose = λ care told. w.loose-is ∙ loose-same net care gate c.loop-gate.loose (gate-inside unknown) (c.loop-gate.invariant.loose care told) (known care told);
             few = omega (arith, few, same);

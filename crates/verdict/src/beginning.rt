@@ -1,27 +1,25 @@
 //! What is decided before the gates: the initial states, and whether any vector counts.
 
-ghost use Rattle.std.specs.Prelude.{◌≡◌, ◌&&◌, ◌+◌, ◌*◌, ◌⊎◌, ℕ, Bool, List, length, All, IfOk, IfSome};
+ghost use Rattle.std.specs.Prelude.{◌≡◌, ◌&&◌, ◌+◌, ◌*◌, Bool, List, length, All, IfOk, IfSome};
 ghost use Rattle.bdd_store.specs.Arena.{den, IsNodeOf};
-ghost use Rattle.bdd_store.specs.Growth.{KeepsNodes, AddsAtMost, IsFullOnlyPast};
+ghost use Rattle.bdd_store.specs.Growth.{GrowsWithin};
 ghost use Rattle.cyc_base.specs.Values.{bits};
 ghost use Rattle.dual_rail.specs.Rails.{AreRailsOf, values_of};
-ghost use Rattle.dual_rail.specs.WorkingLists.{IsWide};
-ghost use Rattle.netlist.specs.declared.parts.Parts.{Parts};
 ghost use Rattle.netlist.specs.Netlists.{IsNetlist};
 ghost use Rattle.care_sets.specs.Binding.{IsCareOf};
 ghost use Rattle.care_sets.specs.Care.{columns, is_allowed};
 ghost use Rattle.verdict.specs.Causes.{HasModelOver};
-ghost use Rattle.verdict.specs.Costs.{assume_effort, invariant_effort};
-ghost use Rattle.verdict.specs.Enough.{IsLaid};
+ghost use Rattle.verdict.specs.Costs.{assume_effort, invariant_effort, start_cost};
+ghost use Rattle.verdict.specs.Enough.{GrowsInDecision, IsWideFor};
 ghost use Rattle.isolation.specs.Columns.{AreColumns};
 ghost use Rattle.fixpoint.specs.Orders.{order as order_of};
 ghost use Rattle.verdict.specs.Sets.{Tells, ReadsWithin, has_state_inside};
 ghost use Rattle.verdict.specs.Verdicts.{IsStart};
 
 use crate::care::{assume_on, invariant_on};
-use crate::parts::initial_refusal;
+use crate::initial::starts_on;
+use crate::refusing::initial_refusal;
 use crate::sets::is_never;
-use crate::starting::starts_on;
 use bdd_ops::Diagrams;
 use bdd_store::{Node, StoreFault};
 use care_sets::Care;
@@ -51,11 +49,7 @@ fn inside_on(
     requires columns { AreColumns d.old (order_of net.now) rails.now }
     ensures valid { IsNetlist net.now }
     ensures told { IfOk result (λ set. Tells net.now d.new set (has_state_inside net.now care.now)) }
-    ensures keeps { KeepsNodes d.old d.new }
-    ensures added { (w : ℕ) → IsWide d.old.vars (IsLaid net.now care.now) w →
-        AddsAtMost d.old d.new (w * (2 * invariant_effort care.now)) }
-    ensures full { (w : ℕ) → IsWide d.old.vars (IsLaid net.now care.now) w → result ≡ Err StoreFault.Full →
-        HasModelOver care.now d.old.limit ⊎ IsFullOnlyPast d.old d.new (w * (2 * invariant_effort care.now)) }
+    ensures grows { GrowsInDecision result d.old d.new net.now care.now (2 * invariant_effort care.now) }
 {
     let first = net.inputs();
     let latches = &rails[first as usize..];
@@ -75,13 +69,7 @@ fn care_on(
     requires rails { All (AreRailsOf d.old) rails.now }
     ensures node { IfOk result (IsNodeOf d.new) }
     ensures allowed { IfOk result (λ set. (values v : List Bool) → values_of d.old rails.now v ≡ bits values → den d.new set v ≡ (den d.old inside v && is_allowed care.now values)) }
-    ensures keeps { KeepsNodes d.old d.new }
-    ensures added { (net : Parts) (w : ℕ) → IsCareOf net care.now → d.old.vars ≡ columns net → AreColumns d.old (order_of net) rails.now →
-        Tells net d.old inside (has_state_inside net care.now) → IsWide d.old.vars (IsLaid net care.now) w →
-        AddsAtMost d.old d.new (w * (2 * assume_effort care.now + 1)) }
-    ensures full { (net : Parts) (w : ℕ) → IsCareOf net care.now → d.old.vars ≡ columns net → AreColumns d.old (order_of net) rails.now →
-        Tells net d.old inside (has_state_inside net care.now) → IsWide d.old.vars (IsLaid net care.now) w → result ≡ Err StoreFault.Full →
-        HasModelOver care.now d.old.limit ⊎ IsFullOnlyPast d.old d.new (w * (2 * assume_effort care.now + 1)) }
+    ensures grows { GrowsWithin result d.old d.new (HasModelOver care.now) (IsWideFor care.now d.old inside rails.now) (2 * assume_effort care.now + 1) }
 {
     let allowed = assume_on(alloc, d, care, rails)?;
     Ok(d.and(inside, allowed)?)
@@ -102,11 +90,7 @@ pub(crate) fn begin(
     requires columns { AreColumns d.old (order_of net.now) rails.now }
     ensures valid { IsNetlist net.now }
     ensures start { IfOk result (IsStart net.now care.now d.new) }
-    ensures keeps { KeepsNodes d.old d.new }
-    ensures added { (w : ℕ) → IsWide d.old.vars (IsLaid net.now care.now) w →
-        AddsAtMost d.old d.new (w * (2 * invariant_effort care.now + columns net.now + 1 + (2 * assume_effort care.now + 1))) }
-    ensures full { (w : ℕ) → IsWide d.old.vars (IsLaid net.now care.now) w → result ≡ Err StoreFault.Full →
-        HasModelOver care.now d.old.limit ⊎ IsFullOnlyPast d.old d.new (w * (2 * invariant_effort care.now + columns net.now + 1 + (2 * assume_effort care.now + 1))) }
+    ensures grows { GrowsInDecision result d.old d.new net.now care.now (start_cost net.now care.now) }
 {
     let inside = inside_on(alloc, d, net, care, rails)?;
     let permitted = starts_on(d, net, order, rails)?;

@@ -1,0 +1,12 @@
+use Rattle.std.proofs.Common.{◌-◌}
+use Rattle.bdd_store.proofs.GrowthLemmas.{HasGrown}
+use Rattle.care_sets.specs.Care.{columns}
+use Rattle.verdict.specs.Sets.{BoundsStarts}
+use Rattle.verdict.proofs.StartLemmas.{TellsLater}
+use Rattle.verdict.proofs.initial.starts_on.Given as goal
+
+abbrev pub invariant-loop-variable : goal.invariant-loop-variable
+invariant-loop-variable l = record {
+  grows : HasGrown l.fn.d l.d (BoundsStarts l.net) (columns l.net - l.variable);
+  later : TellsLater l.net l.d l.set l.variable;
+}

@@ -1,0 +1,136 @@
+use Rattle.std.proofs.Common.{◌≡◌, ◌∙◌, ℕ, ◌+◌, ◌*◌, ◌≤◌, Vec, Global, Some, None, Bool, true, List, length, refl, sym, ap, ap₂, subst, arith}
+use Rattle.std.specs.Prelude.{IfSome}
+use Rattle.std.specs.Option.{option_map}
+use Rattle.bdd_store.specs.Arena.{den}
+use Rattle.bdd_store.specs.Growth.{KeepsNodes}
+use Rattle.bdd_store.specs.Subfunctions.{nodes}
+use Rattle.bdd_store.proofs.GrowthLemmas.{KeepsNodes-chain, within_only, within_one, within_then, within_moved, within_more, within_answered, within_refused, within_memory}
+use Rattle.cyc_base.specs.Values.{bits}
+use Rattle.dual_rail.specs.declared.rail.Rails.{Rails}
+use Rattle.dual_rail.specs.Rails.{values_of}
+use Rattle.dual_rail.specs.WorkingLists.{IsWide}
+use Rattle.netlist.specs.Fixpoint.{next}
+use Rattle.refusals.specs.declared.refusal.Refusal.TheVariants.{Leaves}
+use Rattle.refusals.specs.Refusals.{next_state}
+use Rattle.refusals.proofs.FirstLemmas.{found_wide}
+use Rattle.bdd_ops.specs.Least.{by_variable}
+use Rattle.fixpoint.specs.Orders.{laid}
+use Rattle.verdict.specs.Costs.{invariant_effort, leaving_cost}
+use Rattle.verdict.specs.Enough.{IsLaid, BoundsModel, GrowsInDecision}
+use Rattle.verdict.specs.Sets.{ReadsWithin, difference}
+use Rattle.verdict.proofs.DecisionLemmas.{signals-bounded, wide-kept}
+use Rattle.verdict.proofs.LeavesLemmas.{within-set, leaves-fit}
+use Rattle.verdict.proofs.PartLemmas.{by-order, invariant-reads, leaves-is, order-layout, AreFixed-kept, Tells-kept}
+use Rattle.verdict.proofs.WorkLemmas.{next-bounded}
+use Rattle.verdict.proofs.refusing.leaves.Goals as goal
+use Rattle.verdict.proofs.refusing.leaves.Goals.{After-next_on, After-invariant_on, After-minus}
+
+pub invariant_on-requires-clause-reads : goal.invariant_on-requires-clause-reads
+invariant_on-requires-clause-reads c =
+    let width = length c.deref.result.now in
+    subst (λ first. IfSome c.args.care.now.invariant (ReadsWithin first width)) (sym c.inputs.ensures.inputs)
+    (invariant-reads c.args.net.now c.args.care.now width c.requires.care (ap length c.deref.ensures.value ∙ c.in_ok-next.ensures.width))
+
+pub least_of-requires-clause-columns : goal.least_of-requires-clause-columns
+least_of-requires-clause-columns c =
+    order-layout c.args.net.now c.minus.new.d.vars c.args.order.now (c.minus.ensures.grows.keeps.vars ∙ c.invariant_on.ensures.grows.keeps.vars ∙ c.next_on.ensures.grows.keeps.vars ∙ c.requires.vars) c.requires.order
+
+pub next_of-requires-clause-fixed : goal.next_of-requires-clause-fixed
+next_of-requires-clause-fixed c =
+    AreFixed-kept (KeepsNodes-chain (KeepsNodes-chain c.next_on.ensures.grows.keeps c.invariant_on.ensures.grows.keeps) c.minus.ensures.grows.keeps) c.requires.fixed
+
+pub next_of-requires-clause-width : goal.next_of-requires-clause-width
+next_of-requires-clause-width c =
+    ap length c.deref-2.ensures.value
+    ∙ found_wide c.minus.new.d.vars (λ v. den c.minus.new.d c.in_ok-outside.outside (by_variable c.args.order.now v)) c.in-Some.vector.items
+    (sym (sym (ap (option_map (λ (v : Vec Bool Global). v.items)) c.in-Some.is) ∙ c.in_ok-vector.ensures))
+
+-- at vectors of care
+next-values : (c : After-invariant_on) → (v : List Bool) → length v ≡ c.args.d.now.vars → den c.args.d.now c.args.set (laid c.args.net.now v) ≡ true → values_of c.next_on.new.d c.in_ok-next.next.items (laid c.args.net.now v) ≡ next c.args.net.now (bits v)
+next-values c v long counts = c.in_ok-next.ensures.values v long ∙ within-set c.args.net.now c.args.d.now c.args.set v counts
+
+pub returns-in_default-clause-refusal : goal.returns-in_default-clause-refusal
+returns-in_default-clause-refusal c =
+    leaves-is c.args.net.now c.args.care.now c.args.d.now c.next_on.new.d c.invariant_on.new.d c.minus.new.d c.args.set c.in_ok-inside.inside c.in_ok-outside.outside c.in_ok-next.next.items None
+    c.requires.vars (KeepsNodes-chain c.next_on.ensures.grows.keeps c.invariant_on.ensures.grows.keeps) c.minus.ensures.grows.keeps c.requires.set c.requires.loads
+    (next-values ((goal.at.returns-in_default-clause-refusal c).After-invariant_on))
+    (λ q v e. c.in_ok-inside.ensures.inside q v (ap (λ (l : List Rails). values_of c.next_on.new.d l v) c.deref.ensures.value ∙ e))
+    c.in_ok-outside.ensures.function (sym (ap (option_map (λ (v : Vec Bool Global). v.items)) c.in_default.is) ∙ c.in_ok-vector.ensures ∙ by-order c.args.net.now c.minus.new.d c.in_ok-outside.outside c.requires.order)
+
+pub returns-clause-refusal : goal.returns-clause-refusal
+returns-clause-refusal c =
+    ap₂ (λ (v q : List Bool). Some (Leaves v q)) c.of.ensures (c.of-2.ensures ∙ c.in_ok-state.ensures ∙ ap (next_state c.args.net.now) c.deref-2.ensures.value)
+    ∙ leaves-is c.args.net.now c.args.care.now c.args.d.now c.next_on.new.d c.invariant_on.new.d c.minus.new.d c.args.set c.in_ok-inside.inside c.in_ok-outside.outside c.in_ok-next.next.items (Some c.in-Some.vector.items)
+    c.requires.vars (KeepsNodes-chain c.next_on.ensures.grows.keeps c.invariant_on.ensures.grows.keeps) c.minus.ensures.grows.keeps c.requires.set c.requires.loads
+    (next-values ((goal.at.returns-clause-refusal c).After-invariant_on))
+    (λ q v e. c.in_ok-inside.ensures.inside q v (ap (λ (l : List Rails). values_of c.next_on.new.d l v) c.deref.ensures.value ∙ e))
+    c.in_ok-outside.ensures.function (sym (ap (option_map (λ (v : Vec Bool Global). v.items)) c.in-Some.is) ∙ c.in_ok-vector.ensures ∙ by-order c.args.net.now c.minus.new.d c.in_ok-outside.outside c.requires.order)
+
+-- ---- what it does to the diagrams, call by call
+
+after-next : (c : After-next_on) → GrowsInDecision c.next_on.result c.args.d.now c.next_on.new.d c.args.net.now c.args.care.now (2 * length c.args.net.now.latches)
+after-next c = within_only (within_moved (λ w wide. signals-bounded c.args.net.now c.args.care.now c.args.d.now c.args.set c.requires.vars c.requires.set wide) c.next_on.ensures.grows)
+
+invariant-fits : (c : After-invariant_on) (w : ℕ) → IsWide c.args.d.now.vars (IsLaid c.args.net.now c.args.care.now) w →
+    BoundsModel c.args.care.now.invariant c.next_on.new.d.vars (values_of c.next_on.new.d c.deref.result.now) w
+invariant-fits c w wide =
+    let keeps = c.next_on.ensures.grows.keeps in
+    next-bounded c.args.net.now c.args.care.now c.next_on.new.d.vars (keeps.vars ∙ c.requires.vars) (wide-kept keeps wide) c.args.d.now c.args.set (sym keeps.vars) c.requires.set
+    (values_of c.next_on.new.d c.deref.result.now)
+    (λ v long. ap (λ (l : List Rails). values_of c.next_on.new.d l (laid c.args.net.now v)) c.deref.ensures.value ∙ c.in_ok-next.ensures.values v (long ∙ keeps.vars))
+
+after-invariant : (c : After-invariant_on) → GrowsInDecision c.next_on.result c.args.d.now c.next_on.new.d c.args.net.now c.args.care.now (2 * length c.args.net.now.latches) →
+    GrowsInDecision c.invariant_on.result c.args.d.now c.invariant_on.new.d c.args.net.now c.args.care.now (2 * length c.args.net.now.latches + 2 * invariant_effort c.args.care.now)
+after-invariant c before = within_then before (within_moved (invariant-fits c) c.invariant_on.ensures.grows)
+
+-- care vectors whose next state isn't in the invariant
+outside-fits : (c : After-minus) (w : ℕ) → IsWide c.args.d.now.vars (IsLaid c.args.net.now c.args.care.now) w →
+    nodes c.invariant_on.new.d.vars (difference c.invariant_on.new.d c.args.set c.in_ok-inside.inside) ≤ w
+outside-fits c w wide =
+    let keeps : KeepsNodes c.args.d.now c.invariant_on.new.d = KeepsNodes-chain c.next_on.ensures.grows.keeps c.invariant_on.ensures.grows.keeps in
+    leaves-fit c.args.net.now c.args.care.now c.invariant_on.new.d c.args.set c.in_ok-inside.inside c.inputs.ensures.valid c.requires.care c.requires.loads (keeps.vars ∙ c.requires.vars)
+    (Tells-kept keeps c.requires.set)
+    (λ q v long counts state.
+    c.in_ok-inside.ensures.inside q (laid c.args.net.now v) (
+    ap (λ (l : List Rails). values_of c.next_on.new.d l (laid c.args.net.now v)) c.deref.ensures.value
+    ∙ c.in_ok-next.ensures.values v (long ∙ keeps.vars)
+    ∙ within-set c.args.net.now c.args.d.now c.args.set v (sym (keeps.function c.args.set (laid c.args.net.now v) c.requires.set.node) ∙ counts)
+    ∙ state))
+    (wide-kept keeps wide)
+
+after-minus : (c : After-minus) → GrowsInDecision c.invariant_on.result c.args.d.now c.invariant_on.new.d c.args.net.now c.args.care.now (2 * length c.args.net.now.latches + 2 * invariant_effort c.args.care.now) →
+    GrowsInDecision c.minus.result c.args.d.now c.minus.new.d c.args.net.now c.args.care.now (leaving_cost c.args.net.now c.args.care.now)
+after-minus c before = within_then before (within_only (within_one (outside-fits c) c.minus.ensures.grows))
+
+pub returns-in_err-next-clause-grows : goal.returns-in_err-next-clause-grows
+returns-in_err-next-clause-grows g = within_more (omega arith) (within_refused g.in_err-next.was g.from_residual.ensures.1 (after-next (goal.at.returns-in_err-next-clause-grows g).After-next_on))
+
+pub returns-in_err-inside-clause-grows : goal.returns-in_err-inside-clause-grows
+returns-in_err-inside-clause-grows g =
+    let at = goal.at.returns-in_err-inside-clause-grows g in
+    within_more (omega arith) (within_refused g.in_err-inside.was g.from_residual-in_err-inside.ensures.1 (after-invariant at.After-invariant_on (after-next at.After-next_on)))
+
+pub returns-in_err-outside-clause-grows : goal.returns-in_err-outside-clause-grows
+returns-in_err-outside-clause-grows g =
+    let at = goal.at.returns-in_err-outside-clause-grows g in
+    within_refused g.in_err-outside.was g.from_residual-in_err-outside.ensures.1 (after-minus at.After-minus (after-invariant at.After-invariant_on (after-next at.After-next_on)))
+
+pub returns-in_err-vector-clause-grows : goal.returns-in_err-vector-clause-grows
+returns-in_err-vector-clause-grows g =
+    let at = goal.at.returns-in_err-vector-clause-grows g in
+    within_refused {U = Unit} refl g.from_residual-in_err-vector.ensures.1 (within_memory (after-minus at.After-minus (after-invariant at.After-invariant_on (after-next at.After-next_on))))
+
+pub returns-in_default-clause-grows : goal.returns-in_default-clause-grows
+returns-in_default-clause-grows g =
+    let at = goal.at.returns-in_default-clause-grows g in
+    within_answered (after-minus at.After-minus (after-invariant at.After-invariant_on (after-next at.After-next_on)))
+
+pub returns-in_err-state-clause-grows : goal.returns-in_err-state-clause-grows
+returns-in_err-state-clause-grows g =
+    let at = goal.at.returns-in_err-state-clause-grows g in
+    within_refused {U = Unit} refl g.from_residual-in_err-state.ensures.1 (within_memory (after-minus at.After-minus (after-invariant at.After-invariant_on (after-next at.After-next_on))))
+
+pub returns-clause-grows : goal.returns-clause-grows
+returns-clause-grows g =
+    let at = goal.at.returns-clause-grows g in
+    within_answered (after-minus at.After-minus (after-invariant at.After-invariant_on (after-next at.After-next_on)))
