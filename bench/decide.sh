@@ -1,73 +1,11 @@
 #!/usr/bin/env bash
-# Decides the rings of `demo`, of 8 to 64 cells, the examples with care files, adders in ones' complement, a multiplier
-# beside a loop, and chains of pairs of units that share a loop. It prints time and peak memory of each, and but for the rings the nodes that the
-# diagrams hold at its end: no node is ever dropped, so that is the least limit that is not reached.
+# Decides the rings of `demo`, of 8 to 64 cells, the examples with care files, and netlists with loops in families of
+# growing size (bench/families.py). It prints time and peak memory of each, and but for the rings the least limit of
+# nodes that isn't met.
 set -u
 top=$(cd "$(dirname "$0")/.." && pwd) || exit 1
 dir=$(mktemp -d) || exit 1
 trap 'rm -rf "$dir"' EXIT
-
-# A pair of units that share a loop, as text of awk: the select says which comes first, and x is what it reads.
-pair='function pair(i, x) {
-    printf ".names c%d %s g%d s%d\n11- 1\n0-1 1\n.names s%d f%d\n0 1\n", i, x, i, i, i, i
-    printf ".names c%d f%d %s t%d\n11- 1\n0-1 1\n.names t%d d%d g%d\n11 1\n", i, i, x, i, i, i, i
-    printf ".names c%d g%d f%d y%d\n11- 1\n0-1 1\n", i, i, i, i
-}'
-
-# So many pairs, each of which reads the one before it.
-chain() {
-    awk -v n="$1" "$pair"'BEGIN {
-        inputs = " x"
-        for (i = 0; i < n; i++) inputs = inputs " c" i " d" i
-        printf ".model chain\n.inputs%s\n.outputs y%d\n", inputs, n - 1
-        for (i = 0; i < n; i++) pair(i, i ? "y" (i - 1) : "x")
-        print ".end"
-    }' >"$dir/chain.blif"
-}
-
-# A multiplier of so many bits, row by row, beside a pair of units that share a loop.
-multiplier() {
-    awk -v n="$1" "$pair"'function full(a, b, c, sum, carry) {
-        printf ".names %s %s %s %s\n100 1\n010 1\n001 1\n111 1\n", a, b, c, sum
-        printf ".names %s %s %s %s\n11- 1\n1-1 1\n-11 1\n", a, b, c, carry
-    }
-    BEGIN {
-        inputs = " x c0 d0"
-        outputs = " y0"
-        for (i = 0; i < n; i++) { inputs = inputs " a" i " b" i; outputs = outputs " r" i "_0" }
-        for (i = 1; i < n; i++) outputs = outputs " r" (n - 1) "_" i
-        printf ".model multiplier\n.inputs%s\n.outputs%s\n.names zero\n", inputs, outputs
-        for (j = 0; j < n; j++) for (i = 0; i < n; i++) printf ".names a%d b%d p%d_%d\n11 1\n", i, j, j, i
-        for (i = 0; i < n; i++) printf ".names p0_%d r0_%d\n1 1\n", i, i
-        printf ".names zero r0_%d\n1 1\n", n
-        for (j = 1; j < n; j++) {
-            printf ".names zero k%d_0\n1 1\n", j
-            for (i = 0; i < n; i++) full("r" (j - 1) "_" (i + 1), "p" j "_" i, "k" j "_" i, "r" j "_" i, "k" j "_" (i + 1))
-            printf ".names k%d_%d r%d_%d\n1 1\n", j, n, j, n
-        }
-        pair(0, "x")
-        print ".end"
-    }' >"$dir/multiplier.blif"
-}
-
-# An adder of so many bits in ones' complement, its operands as buses. It is cared for where some position doesn't
-# propagate.
-end_around() {
-    awk -v n="$1" -v care="$dir/end_around.care" 'BEGIN {
-        for (i = 0; i < n; i++) { a = a " a" i; b = b " b" i; sums = sums " s" i }
-        printf ".model end_around\n.inputs%s%s\n.outputs%s\n", a, b, sums
-        printf ".model assume\n.inputs%s%s\n.outputs o%d\n", a, b, n - 1 >care
-        for (i = 0; i < n; i++) {
-            j = i ? i - 1 : n - 1
-            printf ".names a%d b%d c%d c%d\n11- 1\n1-1 1\n-11 1\n", i, i, j, i
-            printf ".names a%d b%d c%d s%d\n100 1\n010 1\n001 1\n111 1\n", i, i, j, i
-            printf ".names a%d b%d %s%d\n00 1\n11 1\n", i, i, i ? "e" : "o", i >care
-            if (i) printf ".names o%d e%d o%d\n1- 1\n-1 1\n", i - 1, i, i >care
-        }
-        print ".end"
-        print ".end" >care
-    }' >"$dir/end_around.blif"
-}
 
 meets() {
     local limit=$1
@@ -106,6 +44,17 @@ measure() {
     tell "$name" "$(nodes "$@")"
 }
 
+# A netlist of a family, with its care file where there is one.
+family() {
+    rm -f "$dir/$1.care"
+    "$top/bench/families.py" "$1" "$2" "$dir"
+    if [ -e "$dir/$1.care" ]; then
+        measure "$1 $2" "$dir/$1.blif" --care "$dir/$1.care"
+    else
+        measure "$1 $2" "$dir/$1.blif"
+    fi
+}
+
 "$top/cyc" check "$top/examples/full_adder.blif" >/dev/null 2>&1 # builds the program where it isn't built
 for cells in 8 16 32 64; do
     run demo "$cells"
@@ -114,15 +63,10 @@ done
 for name in token_ring_4 round_robin_8 round_robin_32 end_around_carry; do
     measure "$name" "$top/examples/$name.blif" --care "$top/examples/$name.care"
 done
-for bits in 16 32 64; do
-    end_around "$bits"
-    measure "end around $bits" "$dir/end_around.blif" --care "$dir/end_around.care"
-done
-for bits in 12 16; do
-    multiplier "$bits"
-    measure "multiplier $bits" "$dir/multiplier.blif"
-done
-for pairs in 1000 10000; do
-    chain "$pairs"
-    measure "pairs $pairs" "$dir/chain.blif"
-done
+for bits in 16 32 64; do family end_around "$bits"; done
+for bits in 12 16 64; do family multiplier "$bits"; done
+for number in 1000 10000; do family pairs "$number"; done
+for requests in 32 64 128; do family round_robin "$requests"; done
+for bits in 4 8 16 32; do family units "$bits"; done
+for size in 4 8; do family allocator "$size"; done
+for stations in 8 16; do family bus "$stations"; done

@@ -1,13 +1,16 @@
 -- The computed table: what it holds stays right as the table grows, and as the store does.
-use Rattle.std.proofs.Common.{◌≡◌, ℕ, ◌++◌, Bool, true, false, List, [], Contains, take, replicate, if◌then◌else◌}
-use Rattle.std.proofs.lemmas.List.Elements.{All-nil, All-same, All-append, All-take, All-replicate, All-weaker, All-contains}
+use Rattle.std.proofs.Common.{◌≡◌, ◌⊎◌, inl, inr, Bool, false, List, ◌++◌, map, All, Contains, sym, ap, subst, ◌∙◌}
+use Rattle.std.proofs.lemmas.List.{length-map, get_or-map}
+use Rattle.std.proofs.lemmas.List.Elements.{All-append, All-map, All-weaker, All-contains, All-contains_itself, Contains-append_left, Contains-append_right}
 use Rattle.bdd_store.specs.declared.node.Node.{Node}
-use Rattle.bdd_store.specs.Arena.{Arena, complemented_if}
+use Rattle.bdd_store.specs.Arena.{Arena, constant, complemented_if}
 use Rattle.bdd_store.specs.Growth.{KeepsNodes}
 use Rattle.bdd_ops.specs.declared.operands.Operation.{Operation}
+use Rattle.bdd_ops.specs.declared.operands.Operation.TheVariants.{Ite}
 use Rattle.bdd_ops.specs.declared.operands.Operands.{Operands}
+use Rattle.bdd_ops.specs.declared.computed.Chosen.{Chosen}
 use Rattle.bdd_ops.specs.declared.computed.Computed.{Computed}
-use Rattle.bdd_ops.specs.Apply.{AreNodesOf, IsAnswer, IsComputed, AreComputed}
+use Rattle.bdd_ops.specs.Apply.{AreNodesOf, IsAnswer, IsComputed, AreComputed, computed_of}
 use Rattle.bdd_ops.specs.Standard.{IsFormOf}
 use Rattle.bdd_ops.proofs.StandardLemmas.{IsAnswer-back, StandsFor-chain}
 use Rattle.bdd_ops.proofs.ApplyLemmas.{AreNodesOf-kept, IsAnswer-kept}
@@ -18,17 +21,53 @@ IsComputed-kept c k h = record { nodes = AreNodesOf-kept k h.nodes; answer = IsA
 pub AreComputed-kept : (s t : Arena) (table : List Computed) → KeepsNodes s t → AreComputed s table → AreComputed t table
 AreComputed-kept s t table k h = All-weaker (IsComputed s) (IsComputed t) (λ c is. IsComputed-kept c k is) table h
 
--- a list cut or filled up
-pub AreComputed-resized : (s : Arena) (old new : List Computed) (n m : ℕ) (c : Computed) (b : Bool) → new ≡ (if b then take n old ++ replicate m c else old) → IsComputed s c → AreComputed s old → AreComputed s new
-AreComputed-resized s old new n m c true e is h = All-same (IsComputed s) new (take n old ++ replicate m c) e (All-append (IsComputed s) (take n old) (replicate m c) (All-take (IsComputed s) n old h) (All-replicate (IsComputed s) m c is))
-AreComputed-resized s old new n m c false e is h = All-same (IsComputed s) new old e h
+-- its parts: choices, and others after them
+Contains-map : {X Y : Type 0} (f : X → Y) (xs : List X) (x : X) → Contains xs x → Contains (map f xs) (f x)
+Contains-map f xs x (k, within, e) = (k, rw (length-map xs f) within, get_or-map f xs k x (f x) within ∙ ap f e)
 
-pub AreComputed-none : (s : Arena) (table : List Computed) → table ≡ [] → AreComputed s table
-AreComputed-none s table e = All-same (IsComputed s) table [] e (All-nil (IsComputed s))
+-- an operation that three operands say all of
+abbrev pub chosen_of : Computed → Chosen
+chosen_of c = record { a = c.operands.a; b = c.operands.b; c = c.operands.c; answer = c.answer }
+
+IsComputed-chosen : (s : Arena) (c : Computed) → c.operation ≡ Ite → c.operands.d ≡ constant false → IsComputed s c → IsComputed s (computed_of (chosen_of c))
+IsComputed-chosen s c operation last is =
+    subst (λ d. IsComputed s (record { operation = Ite; operands = record { a = c.operands.a; b = c.operands.b; c = c.operands.c; d = d }; answer = c.answer })) last
+    (subst (λ o. IsComputed s (record { operation = o; operands = c.operands; answer = c.answer })) operation is)
+
+pub Contains-choice : (choices : List Chosen) (others : List Computed) (chosen : Chosen) → Contains choices chosen → Contains (map computed_of choices ++ others) (computed_of chosen)
+Contains-choice choices others chosen has = Contains-append_left (map computed_of choices) others (computed_of chosen) (Contains-map computed_of choices chosen has)
+
+pub Contains-other : (choices : List Chosen) (others : List Computed) (c : Computed) → Contains others c → Contains (map computed_of choices ++ others) c
+Contains-other choices others c has = Contains-append_right (map computed_of choices) others c has
+
+AreComputed-parts : (s : Arena) (choices : List Chosen) (others : List Computed) → All (λ chosen. IsComputed s (computed_of chosen)) choices → AreComputed s others → AreComputed s (map computed_of choices ++ others)
+AreComputed-parts s choices others are_choices are_others = All-append (IsComputed s) (map computed_of choices) others (All-map (IsComputed s) computed_of choices are_choices) are_others
+
+AreComputed-choices : (s : Arena) (choices : List Chosen) (others : List Computed) → AreComputed s (map computed_of choices ++ others) → All (λ chosen. IsComputed s (computed_of chosen)) choices
+AreComputed-choices s choices others are = All-weaker (Contains choices) (λ chosen. IsComputed s (computed_of chosen)) (λ chosen has. All-contains (IsComputed s) (map computed_of choices ++ others) (computed_of chosen) are (Contains-choice choices others chosen has)) choices (All-contains_itself choices)
+
+AreComputed-others : (s : Arena) (choices : List Chosen) (others : List Computed) → AreComputed s (map computed_of choices ++ others) → AreComputed s others
+AreComputed-others s choices others are = All-weaker (Contains others) (IsComputed s) (λ c has. All-contains (IsComputed s) (map computed_of choices ++ others) c are (Contains-other choices others c has)) others (All-contains_itself others)
 
 -- the same in each slot
-pub AreComputed-all : (s : Arena) (table : List Computed) (n : ℕ) (c : Computed) → table ≡ replicate n c → IsComputed s c → AreComputed s table
-AreComputed-all s table n c e is = All-same (IsComputed s) table (replicate n c) e (All-replicate (IsComputed s) n c is)
+All-one : {X : Type 0} (P : X → Type 0) (xs : List X) (x : X) → All (λ y. y ≡ x) xs → P x → All P xs
+All-one P xs x are is = All-weaker (λ y. y ≡ x) P (λ y e. subst P (sym e) is) xs are
+
+pub AreComputed-idle : (s : Arena) (choices : List Chosen) (others : List Computed) (chosen : Chosen) (c : Computed) → All (λ x. x ≡ chosen) choices → All (λ x. x ≡ c) others → IsComputed s (computed_of chosen) → IsComputed s c → AreComputed s (map computed_of choices ++ others)
+AreComputed-idle s choices others chosen c choices_are others_are is_choice is = AreComputed-parts s choices others (All-one (λ x. IsComputed s (computed_of x)) choices chosen choices_are is_choice) (All-one (IsComputed s) others c others_are is)
+
+-- in each slot what was in one before, or the new entry
+All-put : {X : Type 0} (P : X → Type 0) (old new : List X) (x : X) → All (λ kept. Contains old kept ⊎ (kept ≡ x)) new → P x → All P old → All P new
+All-put P old new x kept is are = All-weaker (λ y. Contains old y ⊎ (y ≡ x)) P (λ y. elim [
+  | inl has ↦ All-contains P old y are has
+  | inr e ↦ subst P (sym e) is
+]) new kept
+
+pub AreComputed-choice_put : (s : Arena) (old new : List Chosen) (others : List Computed) (c : Computed) → All (λ kept. Contains old kept ⊎ (kept ≡ chosen_of c)) new → c.operation ≡ Ite → c.operands.d ≡ constant false → IsComputed s c → AreComputed s (map computed_of old ++ others) → AreComputed s (map computed_of new ++ others)
+AreComputed-choice_put s old new others c kept operation last is are = AreComputed-parts s new others (All-put (λ x. IsComputed s (computed_of x)) old new (chosen_of c) kept (IsComputed-chosen s c operation last is) (AreComputed-choices s old others are)) (AreComputed-others s old others are)
+
+pub AreComputed-other_put : (s : Arena) (choices : List Chosen) (old new : List Computed) (c : Computed) → All (λ kept. Contains old kept ⊎ (kept ≡ c)) new → IsComputed s c → AreComputed s (map computed_of choices ++ old) → AreComputed s (map computed_of choices ++ new)
+AreComputed-other_put s choices old new c kept is are = AreComputed-parts s choices new (AreComputed-choices s choices old are) (All-put (IsComputed s) old new c kept is (AreComputed-others s choices old are))
 
 -- what the table has at the form of operands answers them, under its mark
 pub IsAnswer-found : (operation : Operation) (s : Arena) (table : List Computed) (q p : Operands) (mark : Bool) (form : Operands) (n : Node) → IsFormOf operation q false p → IsFormOf operation p mark form → Contains table (record { operation = operation; operands = form; answer = n }) → AreComputed s table → IsAnswer operation s q (complemented_if mark n)

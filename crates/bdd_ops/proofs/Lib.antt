@@ -8,3 +8,4 @@ mod ChoiceLemmas
 mod PossibleLemmas
 mod DecideLemmas
 mod RootLemmas
+mod SlotLemmas

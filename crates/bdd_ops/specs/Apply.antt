@@ -2,10 +2,12 @@
 use Rattle.std.specs.Prelude.{◌≡◌, ℕ, ◌<◌, ◌≤◌, ◌⊎◌, Bool, true, false, List, if◌then◌else◌}
 use Rattle.std.specs.List.{slice_index_or, All}
 use Rattle.bdd_store.specs.declared.node.Node.{Node}
-use Rattle.bdd_store.specs.Arena.{Arena, den, choice, top_of, IsNodeOf, IsBranching}
+use Rattle.bdd_store.specs.Arena.{Arena, constant, den, choice, top_of, IsNodeOf, IsBranching}
 use Rattle.bdd_ops.specs.declared.operands.Operation.{Operation}
 use Rattle.bdd_ops.specs.declared.operands.Operation.TheVariants.{Ite, Select}
 use Rattle.bdd_ops.specs.declared.operands.Operands.{Operands}
+use Rattle.bdd_ops.specs.declared.operands.Branches.{Branches}
+use Rattle.bdd_ops.specs.declared.computed.Chosen.{Chosen}
 use Rattle.bdd_ops.specs.declared.computed.Computed.{Computed}
 use Rattle.bdd_ops.specs.Operations.{select}
 
@@ -47,6 +49,14 @@ pub record IsCofactor (s : Arena) (n : Node) (var : ℕ) (bit : Bool) (m : Node)
   pub lower : var < top_of s m
   pub function : (bits : List Bool) → slice_index_or bits var false ≡ bit → den s n bits ≡ den s m bits
 
+-- they are n's: the variable that n reads first, or `vars` for a constant, and the cofactors there
+pub record AreBranches (s : Arena) (n : Node) (b : Branches) : Type 0 where
+  pub node : b.node ≡ n
+  pub var : b.var ≡ top_of s n
+  pub within : IsBranching n → b.var < s.vars
+  pub low : b.var < s.vars → IsCofactor s n b.var false b.lo
+  pub high : b.var < s.vars → IsCofactor s n b.var true b.hi
+
 pub record AreCofactors (s : Arena) (q : Operands) (var : ℕ) (bit : Bool) (p : Operands) : Type 0 where
   pub a : IsCofactor s q.a var bit p.a
   pub b : IsCofactor s q.b var bit p.b
@@ -75,6 +85,10 @@ AreAnswered operation s asked var low high = (p : Operands) × (q : Operands) ×
 pub record IsComputed (s : Arena) (c : Computed) : Type 0 where
   pub nodes : AreNodesOf s c.operands
   pub answer : IsAnswer c.operation s c.operands c.answer
+
+-- a choice and its answer, written as those of any operation are
+abbrev pub computed_of : Chosen → Computed
+computed_of c = record { operation = Ite; operands = record { a = c.a; b = c.b; c = c.c; d = constant false }; answer = c.answer }
 
 abbrev pub AreComputed : Arena → List Computed → Type 0
 AreComputed s table = All (IsComputed s) table

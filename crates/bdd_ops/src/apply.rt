@@ -8,7 +8,7 @@ ghost use Rattle.bdd_ops.specs.Standard.{IsFormOf};
 ghost use Rattle.bdd_ops.specs.Turns.{asked_of, mark_of, WaitsFor, IsAnswered, IsChain, IsTurn, IsTurnOfSome};
 
 use crate::computed::{Computed, ComputedTable};
-use crate::operands::{Operands, Operation, first_variable, split};
+use crate::operands::{Operands, Operation, split};
 use crate::standard::{Standard, simplified, standard_form};
 use crate::terminal::terminal;
 use bdd_store::{Node, Store, StoreFault};
@@ -67,8 +67,7 @@ fn pose(store: &Store, asked: Standard) -> (Question, Operands)
     ensures mark { mark_of result.0 ≡ asked.mark }
     ensures waits { (operation : Operation) → WaitsFor operation store.now result.0 result.1 }
 {
-    let var = first_variable(store, asked.operands);
-    let (low, high) = split(store, asked.operands, var);
+    let (var, low, high) = split(store, asked.operands);
     (Question::Low { asked, var, high }, low)
 }
 
@@ -107,7 +106,8 @@ fn has_branches(store: &Store, n: Node, var: u32, low: Node, high: Node) -> bool
     store.lo(n) == low && store.hi(n) == high
 }
 
-// An operand that has these branches, so that no table needs to be asked for it.
+// An operand that has these branches, so that no table needs to be asked for it. The second hardly ever has them, and
+// is not looked at.
 fn operand_with(store: &Store, q: Operands, var: u32, low: Node, high: Node) -> Option<Node>
     requires nodes { AreNodesOf store.now q }
     requires var { var < store.now.vars }
@@ -115,8 +115,6 @@ fn operand_with(store: &Store, q: Operands, var: u32, low: Node, high: Node) -> 
 {
     if has_branches(store, q.a, var, low, high) {
         Some(q.a)
-    } else if has_branches(store, q.b, var, low, high) {
-        Some(q.b)
     } else if has_branches(store, q.c, var, low, high) {
         Some(q.c)
     } else if has_branches(store, q.d, var, low, high) {

@@ -1,26 +1,47 @@
 //! The computed table (Brace, Rudell and Bryant 1990): answers that operations found, to be found again.
-ghost use Rattle.std.specs.Prelude.{◌≡◌, ◌<◌, IfSome, IfOk, Contains};
-ghost use Rattle.bdd_store.specs.Arena.{Arena};
-ghost use Rattle.bdd_ops.specs.Apply.{IsComputed, AreComputed};
+ghost use Rattle.std.specs.Prelude.{◌≡◌, false, IsTrue, IfSome, IfOk, Contains};
+ghost use Rattle.bdd_store.specs.Arena.{Arena, constant};
+ghost use Rattle.bdd_ops.specs.declared.operands.Operation.TheVariants.{Ite};
+ghost use Rattle.bdd_ops.specs.Apply.{IsComputed, AreComputed, computed_of};
 
 use crate::operands::{Operands, Operation};
+use crate::slots::Slots;
 use bdd_store::Node;
 use std::alloc::{AllocError, Global};
 use std::marker::Model;
 
-const FIRST_SLOTS: usize = 256;
-
-const MOST_SLOTS: usize = 1 << 22;
-
 /// An operation on operands, and its answer.
-#[derive(Clone, Copy, Debug)]
+#[derive(Clone, Copy, Debug, Drop)]
 pub struct Computed {
     pub operation: Operation,
     pub operands: Operands,
     pub answer: Node,
 }
 
-// What stands in a slot that no answer took: false and false is false in every store.
+/// A choice, which three operands say all of, and its answer. It takes sixteen bytes: more of them stand in a cache than
+/// of any operation's answers, and none crosses a cache line.
+#[derive(Clone, Copy, Debug, Drop)]
+pub struct Chosen {
+    pub a: Node,
+    pub b: Node,
+    pub c: Node,
+    pub answer: Node,
+}
+
+// What stands in a slot that no choice took: false and false is false in every store.
+fn idle_choice() -> Chosen
+    ensures { (s : Arena) → IsComputed s (computed_of result) }
+{
+    let no = Node::of(false);
+    Chosen {
+        a: no,
+        b: no,
+        c: no,
+        answer: no,
+    }
+}
+
+// The same, for a slot that no other answer took.
 fn idle() -> Computed
     ensures { (s : Arena) → IsComputed s result }
 {
@@ -32,44 +53,41 @@ fn idle() -> Computed
     }
 }
 
-// What tells the slots of the operations apart.
-fn kind_of(operation: Operation) -> u64 {
-    match operation {
-        Operation::Ite => 0,
-        Operation::Select => 0xc2b2_ae3d_27d4_eb4f,
-    }
+// Whether it is a choice that three operands say all of.
+fn is_choice(operation: Operation, q: Operands) -> bool
+    ensures operation { IsTrue result → operation ≡ Ite }
+    ensures last { IsTrue result → q.d ≡ constant false }
+{
+    operation == Operation::Ite && q.d == Node::of(false)
 }
 
-// The slot of an operation on operands, by multiplicative hashing (Knuth 1973, 6.4).
-fn slot_of(operation: Operation, q: Operands, slots: usize) -> usize
-    requires { 0 < slots }
-    ensures { result < slots }
-{
-    const SPREAD: u64 = 0x9e37_79b9_7f4a_7c15;
+// What names the slot of operands, by multiplicative hashing (Knuth 1973, 6.4) of both halves at once. The upper
+// bits are those that all bits below have a part in: there are as many as the most slots need.
+fn hash_of(q: Operands) -> usize {
+    const FIRST_SPREAD: u64 = 0x9e37_79b9_7f4a_7c15;
+    const LAST_SPREAD: u64 = 0x1656_67b1_9e37_79f9;
     let first = u64::from(q.a.number()) << 32 | u64::from(q.b.number());
     let last = u64::from(q.c.number()) << 32 | u64::from(q.d.number());
-    let spread = ((first ^ kind_of(operation)).wrapping_mul(SPREAD) ^ last).wrapping_mul(SPREAD);
-    (spread >> 32) as usize & (slots - 1)
+    let spread = first.wrapping_mul(FIRST_SPREAD) ^ last.wrapping_mul(LAST_SPREAD);
+    (spread >> 42) as usize
 }
 
 /// Answers, each in the slot that its operands name, where it takes the place of the one before. They are in
-/// their standard form.
+/// their standard form. Choices, which most answers are, have slots of their own.
 #[derive(Drop)]
 pub struct ComputedTable {
-    slots: Vec<Computed>,
-    // How often an answer was found since the table last grew.
-    found: usize,
+    choices: Slots<Chosen>,
+    others: Slots<Computed>,
 }
 
 impl Model for ComputedTable {
-    ghost use Rattle.std.specs.Prelude.{◌<◌, List, length};
+    ghost use Rattle.std.specs.Prelude.{List, ◌++◌, map};
     ghost use Rattle.bdd_ops.specs.declared.computed.Computed.{Computed};
+    ghost use Rattle.bdd_ops.specs.Apply.{computed_of};
 
     ghost Value = { List Computed };
 
-    ghost view = { λ t. t.slots.items };
-
-    ghost invariant = { λ t. 0 < length t.slots.items };
+    ghost view = { λ t. map computed_of t.choices ++ t.others };
 }
 
 impl ComputedTable {
@@ -77,9 +95,9 @@ impl ComputedTable {
     pub(crate) fn new(alloc: Global) -> Result<ComputedTable, AllocError>
         ensures { IfOk result (λ t. (s : Arena) → AreComputed s t) }
     {
-        let mut slots = Vec::new(alloc);
-        slots.resize(FIRST_SLOTS, idle())?;
-        Ok(ComputedTable { slots, found: 0 })
+        let choices = Slots::new(alloc, idle_choice())?;
+        let others = Slots::new(alloc, idle())?;
+        Ok(ComputedTable { choices, others })
     }
 
     // The answer, where its slot has it.
@@ -87,42 +105,46 @@ impl ComputedTable {
         ensures same { self.new ≡ self.old }
         ensures found { IfSome result (λ n. Contains self.old (record { operation = operation; operands = q; answer = n })) }
     {
-        let slot = slot_of(operation, q, self.slots.len());
-        let computed = self.slots[slot];
-        if computed.operation == operation && computed.operands == q {
-            self.found = self.found.wrapping_add(1);
-            Some(computed.answer)
+        let hash = hash_of(q);
+        if is_choice(operation, q) {
+            let chosen = self.choices.at(hash);
+            if chosen.a == q.a && chosen.b == q.b && chosen.c == q.c {
+                self.choices.count();
+                return Some(chosen.answer);
+            }
         } else {
-            None
+            let computed = self.others.at(hash);
+            if computed.operation == operation && computed.operands == q {
+                self.others.count();
+                return Some(computed.answer);
+            }
         }
+        None
     }
 
     // Puts an answer into its slot.
     pub(crate) fn insert(&mut self, computed: Computed)
         ensures { (s : Arena) → AreComputed s self.old → IsComputed s computed → AreComputed s self.new }
     {
-        self.grow();
-        let slot = slot_of(computed.operation, computed.operands, self.slots.len());
-        self.slots[slot] = computed;
+        let Computed {
+            operation,
+            operands: q,
+            answer,
+        } = computed;
+        let hash = hash_of(q);
+        if is_choice(operation, q) {
+            let Operands { a, b, c, .. } = q;
+            self.choices.put(hash, Chosen { a, b, c, answer });
+        } else {
+            self.others.put(hash, computed);
+        }
     }
 
     // Forgets all answers, and is as small as at first. It takes no memory.
     pub(crate) fn clear(&mut self)
         ensures { (s : Arena) → AreComputed s self.new }
     {
-        self.slots.truncate(FIRST_SLOTS);
-        self.slots.fill(idle());
-        self.found = 0;
-    }
-
-    // Doubles a table that was of use as often as it has slots. Where there is no memory it stays as it is.
-    fn grow(&mut self)
-        ensures { (s : Arena) → AreComputed s self.old → AreComputed s self.new }
-    {
-        let slots = self.slots.len();
-        if self.found > slots && slots < MOST_SLOTS {
-            self.found = 0;
-            let _ = self.slots.resize(2 * slots, idle());
-        }
+        self.choices.clear(idle_choice());
+        self.others.clear(idle());
     }
 }

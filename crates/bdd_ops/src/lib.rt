@@ -11,6 +11,7 @@ mod diagrams;
 mod least;
 mod least_by;
 mod operands;
+mod slots;
 mod standard;
 mod terminal;
 

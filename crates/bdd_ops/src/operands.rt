@@ -1,6 +1,6 @@
-ghost use Rattle.std.specs.Prelude.{◌≡◌, ℕ, ◌<◌, ◌≤◌, true, false};
-ghost use Rattle.bdd_store.specs.Arena.{constant, top_of, IsNodeOf};
-ghost use Rattle.bdd_ops.specs.Apply.{AreNodesOf, IsBelow, SomeBranching, IsCofactor, AreCofactors};
+ghost use Rattle.std.specs.Prelude.{◌≡◌, ◌<◌, ◌≤◌, true, false};
+ghost use Rattle.bdd_store.specs.Arena.{Arena, constant, top_of, IsNodeOf};
+ghost use Rattle.bdd_ops.specs.Apply.{AreNodesOf, SomeBranching, IsCofactor, AreBranches, IsSplit};
 
 use bdd_store::{Node, Store};
 
@@ -36,45 +36,69 @@ impl Operands {
     }
 }
 
-// The first variable that one of the operands reads.
-pub(crate) fn first_variable(store: &Store, q: Operands) -> u32
-    requires nodes { AreNodesOf store.now q }
-    requires open { SomeBranching q }
-    ensures within { result < store.now.vars }
-    ensures below { IsBelow store.now q result }
-    ensures most { (v : ℕ) → IsBelow store.now q v → v ≤ result }
-{
-    let first = store.top(q.a).min(store.top(q.b));
-    first.min(store.top(q.c)).min(store.top(q.d))
+/// A node, the variable that it reads first, and its cofactors there. A constant reads none: in place of the variable
+/// it has the number of all.
+#[derive(Clone, Copy, Debug)]
+pub struct Branches {
+    pub node: Node,
+    pub var: u32,
+    pub lo: Node,
+    pub hi: Node,
 }
 
-// The node's function where the bit at `var` is 0, and where it is 1.
-fn cofactors(store: &Store, n: Node, var: u32) -> (Node, Node)
-    requires node { IsNodeOf store.now n }
-    requires var { var < store.now.vars }
-    requires top { var ≤ top_of store.now n }
-    ensures lo { IsCofactor store.now n var false result.0 }
-    ensures hi { IsCofactor store.now n var true result.1 }
-{
-    if store.top(n) == var {
-        (store.lo(n), store.hi(n))
-    } else {
-        (n, n)
+impl Branches {
+    // They are read once for the choice of the variable and for the cofactors at it.
+    fn of(store: &Store, node: Node) -> Branches
+        requires { IsNodeOf store.now node }
+        ensures { AreBranches store.now node result }
+    {
+        let var = store.top(node);
+        if node.is_branching() {
+            Branches {
+                node,
+                var,
+                lo: store.lo(node),
+                hi: store.hi(node),
+            }
+        } else {
+            Branches {
+                node,
+                var,
+                lo: node,
+                hi: node,
+            }
+        }
+    }
+
+    // The node's function where the bit at a variable that is no later than its own is 0, and where it is 1.
+    fn cofactors(self, var: u32) -> (Node, Node)
+        ensures lo { (s : Arena) (n : Node) → IsNodeOf s n → AreBranches s n self → var < s.vars → var ≤ top_of s n → IsCofactor s n var false result.0 }
+        ensures hi { (s : Arena) (n : Node) → IsNodeOf s n → AreBranches s n self → var < s.vars → var ≤ top_of s n → IsCofactor s n var true result.1 }
+    {
+        if self.var == var {
+            (self.lo, self.hi)
+        } else {
+            (self.node, self.node)
+        }
     }
 }
 
-// The cofactors of all operands at `var`.
-pub(crate) fn split(store: &Store, q: Operands, var: u32) -> (Operands, Operands)
+// The first variable that one of the operands reads, and the cofactors of all at it: where the bit is 0, and where it
+// is 1.
+pub(crate) fn split(store: &Store, q: Operands) -> (u32, Operands, Operands)
     requires nodes { AreNodesOf store.now q }
-    requires var { var < store.now.vars }
-    requires below { IsBelow store.now q var }
-    ensures lo { AreCofactors store.now q var false result.0 }
-    ensures hi { AreCofactors store.now q var true result.1 }
+    requires open { SomeBranching q }
+    ensures { IsSplit store.now q result.0 result.1 result.2 }
 {
-    let (a_lo, a_hi) = cofactors(store, q.a, var);
-    let (b_lo, b_hi) = cofactors(store, q.b, var);
-    let (c_lo, c_hi) = cofactors(store, q.c, var);
-    let (d_lo, d_hi) = cofactors(store, q.d, var);
+    let a = Branches::of(store, q.a);
+    let b = Branches::of(store, q.b);
+    let c = Branches::of(store, q.c);
+    let d = Branches::of(store, q.d);
+    let var = a.var.min(b.var).min(c.var).min(d.var);
+    let (a_lo, a_hi) = a.cofactors(var);
+    let (b_lo, b_hi) = b.cofactors(var);
+    let (c_lo, c_hi) = c.cofactors(var);
+    let (d_lo, d_hi) = d.cofactors(var);
     let low = Operands {
         a: a_lo,
         b: b_lo,
@@ -87,5 +111,5 @@ pub(crate) fn split(store: &Store, q: Operands, var: u32) -> (Operands, Operands
         c: c_hi,
         d: d_hi,
     };
-    (low, high)
+    (var, low, high)
 }

@@ -8,7 +8,7 @@ use Rattle.delay_core.specs.declared.plan.Schedule.{Schedule}
 use Rattle.netlist.specs.declared.parts.Parts.{Parts}
 use Rattle.probes.specs.declared.kind.Kind.{Kind}
 use Rattle.cyc_tool.specs.Calls.{ShelfCall}
-use Rattle.cyc_tool.specs.Plans.{Plan, play_on, playing, replaying, with_netlist, with_schedule, with_vectors}
+use Rattle.cyc_tool.specs.Plans.{Plan, play_on, playing, replaying, replaying_on, with_netlist, with_schedule, with_vectors}
 use Rattle.cyc_tool.specs.Plays.{known}
 use Rattle.cyc_tool.specs.Reading.{FollowsAlone, FollowsStillAlone, GoesOn, StopsIn}
 use Rattle.cyc_tool.specs.Requests.{Shows}
@@ -30,42 +30,34 @@ module _ (shows : Shows) (probe : Option Kind) (recorded : List ℕ) where
   behind_vectors net found = play_on shows probe recorded net (known found)
 
   -- the vectors of a netlist, and what comes behind them
-  vectors_used : (vectors : List ℕ) (net : Parts) (found : List (List Trit)) (inputs : List (List Bool)) (files later : Option Files) (a b c : Counts) (end : Outcome)
+  pub replays : (vectors : List ℕ) (net : Parts) (found : List (List Trit)) (inputs : List (List Bool)) (files later : Option Files) (a b c : Counts) (end : Outcome)
       → later ≡ files → GoesOn (with_vectors vectors net false) found (call files a b) → inputs ≡ known found
       → FollowsAlone (play_on shows probe recorded net inputs) (call later b c) end
-      → FollowsAlone (with_vectors vectors net false (behind_vectors net)) (call files a c) end
-  vectors_used vectors net found inputs files later a b c end same goes is follows =
+      → FollowsAlone (replaying_on shows probe recorded vectors net) (call files a c) end
+  replays vectors net found inputs files later a b c end same goes is follows =
       let P : List (List Bool) → Type 0 = λ v. FollowsAlone (play_on shows probe recorded net v) (call later b c) end in
       goes_on_alone (with_vectors vectors net false) found (behind_vectors net) files later a b c end same goes (subst P is follows)
 
-  abbrev behind_netlist : List ℕ → Parts → Plan
-  behind_netlist vectors net = with_vectors vectors net false (behind_vectors net)
+  -- vectors that end the call, and want of memory behind them
+  pub vectors_stop : (vectors : List ℕ) (net : Parts) (files : Option Files) (a b : Counts) (end : Outcome)
+      → StopsIn (with_vectors vectors net false) (call files a b) end → FollowsAlone (replaying_on shows probe recorded vectors net) (call files a b) end
+  vectors_stop vectors net files a b end stops = stops_alone (with_vectors vectors net false) (behind_vectors net) files a b end stops
 
-  -- the netlist and then the vectors, the vectors that end the call, and want of memory behind them
-  pub replays : (file vectors : List ℕ) (net : Parts) (found : List (List Trit)) (inputs : List (List Bool)) (files later last : Option Files)
-      (a b c d : Counts) (end : Outcome) → later ≡ files → GoesOn (with_netlist file) net (call files a b)
-      → last ≡ later → GoesOn (with_vectors vectors net false) found (call later b c) → inputs ≡ known found
-      → FollowsAlone (play_on shows probe recorded net inputs) (call last c d) end
-      → FollowsAlone (replaying shows probe file vectors recorded) (call files a d) end
-  replays file vectors net found inputs files later last a b c d end same goes then_same then_goes is follows =
-      goes_on_alone (with_netlist file) net (behind_netlist vectors) files later a b d end same goes
-      (vectors_used vectors net found inputs later last b c d end then_same then_goes is follows)
+  pub replay_lacks : (vectors : List ℕ) (net : Parts) (found : List (List Trit)) (files later : Option Files) (a b : Counts)
+      → later ≡ files → GoesOn (with_vectors vectors net false) found (call files a b)
+      → FollowsAlone (replaying_on shows probe recorded vectors net) (call files a b) no_memory
+  replay_lacks vectors net found files later a b same goes =
+      goes_on_still (with_vectors vectors net false) found (behind_vectors net) files later a b no_memory same goes
+      (still_lacks (behind_vectors net found) no_memory refl)
 
-  pub vectors_stop : (file vectors : List ℕ) (net : Parts) (files later : Option Files) (a b c : Counts) (end : Outcome)
-      → later ≡ files → GoesOn (with_netlist file) net (call files a b) → StopsIn (with_vectors vectors net false) (call later b c) end
+  -- the netlist of a file, and what comes behind it
+  pub netlist_replays : (file vectors : List ℕ) (net : Parts) (files later : Option Files) (a b c : Counts) (end : Outcome)
+      → later ≡ files → GoesOn (with_netlist file) net (call files a b)
+      → FollowsAlone (replaying_on shows probe recorded vectors net) (call later b c) end
       → FollowsAlone (replaying shows probe file vectors recorded) (call files a c) end
-  vectors_stop file vectors net files later a b c end same goes stops =
-      goes_on_alone (with_netlist file) net (behind_netlist vectors) files later a b c end same goes
-      (stops_alone (with_vectors vectors net false) (behind_vectors net) later b c end stops)
-
-  pub replay_lacks : (file vectors : List ℕ) (net : Parts) (found : List (List Trit)) (files later last : Option Files) (a b c : Counts)
-      → later ≡ files → GoesOn (with_netlist file) net (call files a b) → last ≡ later → GoesOn (with_vectors vectors net false) found (call later b c)
-      → FollowsAlone (replaying shows probe file vectors recorded) (call files a c) no_memory
-  replay_lacks file vectors net found files later last a b c same goes then_same then_goes =
-      goes_on_alone (with_netlist file) net (behind_netlist vectors) files later a b c no_memory same goes
-      (goes_on_still (with_vectors vectors net false) found (behind_vectors net) later last b c no_memory then_same then_goes
-      (still_lacks (behind_vectors net found) no_memory refl))
+  netlist_replays file vectors net files later a b c end same goes follows =
+      goes_on_alone (with_netlist file) net (replaying_on shows probe recorded vectors) files later a b c end same goes follows
 
   pub replay_stops : (file vectors : List ℕ) (files : Option Files) (a b : Counts) (end : Outcome) → StopsIn (with_netlist file) (call files a b) end
       → FollowsAlone (replaying shows probe file vectors recorded) (call files a b) end
-  replay_stops file vectors files a b end stops = stops_alone (with_netlist file) (behind_netlist vectors) files a b end stops
+  replay_stops file vectors files a b end stops = stops_alone (with_netlist file) (replaying_on shows probe recorded vectors) files a b end stops

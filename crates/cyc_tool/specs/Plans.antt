@@ -103,10 +103,13 @@ decision net care options = record {
   observe = unwrap_or options.observe observe.All;
 }
 
--- a decision of the netlist of a file
+-- a decision of a netlist on its care set
+abbrev pub deciding_on : Parts → Options → Purpose → Plan
+deciding_on net options purpose = with_care options.care net (λ care. Decides (decision net care options) purpose)
+
+-- and of the netlist of a file
 abbrev pub deciding : List ℕ → Options → Purpose → Plan
-deciding file options purpose =
-    with_netlist file (λ net. with_care options.care net (λ care. Decides (decision net care options) purpose))
+deciding file options purpose = with_netlist file (λ net. deciding_on net options purpose)
 
 -- The texts of the ring arbiter are taken for files of these names.
 abbrev pub ring_file : List ℕ
@@ -145,9 +148,11 @@ finding_loops file = with_netlist file (λ net. Ends (Prints (loops_text net)))
 abbrev pub simulating : List ℕ → List ℕ → Plan
 simulating file vectors = with_netlist file (λ net. with_vectors vectors net true (λ found. Ends (Prints (sim_text net found))))
 
+abbrev pub replaying_on : Shows → Option Kind → List ℕ → List ℕ → Parts → Plan
+replaying_on shows probe recorded vectors net = with_vectors vectors net false (λ found. play_on shows probe recorded net (known found))
+
 abbrev pub replaying : Shows → Option Kind → List ℕ → List ℕ → List ℕ → Plan
-replaying shows probe file vectors recorded =
-    with_netlist file (λ net. with_vectors vectors net false (λ found. play_on shows probe recorded net (known found)))
+replaying shows probe file vectors recorded = with_netlist file (replaying_on shows probe recorded vectors)
 
 -- the decision of the ring arbiter of so many cells
 abbrev pub ring_deciding : ℕ → Plan

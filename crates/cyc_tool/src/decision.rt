@@ -192,6 +192,37 @@ fn tell_refusal(
     }
 }
 
+// Decides a netlist with these blocks and cut wires, and tells of it what is wanted.
+fn decide_and_tell(
+    alloc: Global,
+    net: &Netlist,
+    blocks: &Blocks,
+    cut: &Cut,
+    care: &Care,
+    limit: u32,
+    observe: Observe,
+    purpose: Purpose,
+    d: &mut Diagrams,
+) -> Result<Outcome, AllocError>
+    requires valid { IsNetlist net.now }
+    requires inputs { length net.now.inputs ≤ 4000000000 }
+    requires blocks { AreBlocksOf net.now blocks.now }
+    requires cut { IsCutOf net.now cut.now }
+    requires care { IsCareOf net.now care.now }
+    requires limit { limit ≤ most_nodes }
+    ensures { IfOk result (λ told. IsDecided record { net = net.now; care = care.now; limit = limit; observe = observe }
+        (purpose_seen purpose) d.new (outcome_of told)) }
+{
+    match decide(alloc, d, net, blocks, cut, care, limit, observe) {
+        Ok(Verdict::Accepted { sweeps, loose }) => Ok(tell_acceptance(
+            alloc, net, blocks, cut, observe, purpose, &sweeps, loose,
+        )?),
+        Ok(Verdict::Refused(refusal)) => Ok(tell_refusal(alloc, net, purpose, &refusal)?),
+        Err(DecideFault::NodeLimit { nodes }) => Ok(tell_limit(alloc, nodes)?),
+        Err(DecideFault::Memory) => Err(AllocError),
+    }
+}
+
 // Decides a netlist on its care set within so many nodes, where these wires are observed, and tells of it what is
 // wanted.
 pub(crate) fn decide_netlist(
@@ -212,12 +243,5 @@ pub(crate) fn decide_netlist(
 {
     let blocks = find_blocks(alloc, net)?;
     let cut = find_cut(alloc, net, &blocks)?;
-    match decide(alloc, d, net, &blocks, &cut, care, limit, observe) {
-        Ok(Verdict::Accepted { sweeps, loose }) => Ok(tell_acceptance(
-            alloc, net, &blocks, &cut, observe, purpose, &sweeps, loose,
-        )?),
-        Ok(Verdict::Refused(refusal)) => Ok(tell_refusal(alloc, net, purpose, &refusal)?),
-        Err(DecideFault::NodeLimit { nodes }) => Ok(tell_limit(alloc, nodes)?),
-        Err(DecideFault::Memory) => Err(AllocError),
-    }
+    decide_and_tell(alloc, net, &blocks, &cut, care, limit, observe, purpose, d)
 }

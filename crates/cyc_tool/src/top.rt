@@ -1,13 +1,15 @@
 // The top call.
 ghost use Rattle.std.specs.Prelude.{◌≡◌, ◌⊎◌, ◌≤◌, [], All, None, Some, length};
+ghost use Rattle.care_sets.specs.Binding.{IsCareOf};
 ghost use Rattle.commands.specs.Seen.{command_seen, options_seen};
 ghost use Rattle.commands.specs.Words.{command_of};
+ghost use Rattle.netlist.specs.Netlists.{IsNetlist};
 ghost use Rattle.sched_text.specs.Fitting.{FitsNetlist};
 ghost use Rattle.cyc_tool.specs.Calls.{shelf_call, sink_call, ComesTo, Follows, Tells, Runs, WriteFailed};
 ghost use Rattle.cyc_tool.specs.Causes.{GivesAnswer, HasRewritten, HasStormed, IsComplete, IsDoneWith, IsFaulty, IsUnread, IsWithoutCommand, MeetsLimit, NoneFell, Reaches};
 ghost use Rattle.cyc_tool.specs.Plays.{AreInputs};
-ghost use Rattle.cyc_tool.specs.Plans.{deciding, finding_loops, flattening, plan_of, play_on, playing, replaying, simulating};
-ghost use Rattle.cyc_tool.specs.Reading.{FollowsAlone, FollowsStillAlone};
+ghost use Rattle.cyc_tool.specs.Plans.{Decides, decision, deciding, deciding_on, finding_loops, flattening, plan_of, play_on, playing, replaying, replaying_on, simulating};
+ghost use Rattle.cyc_tool.specs.Reading.{FollowsAlone, FollowsStill, FollowsStillAlone};
 ghost use Rattle.cyc_tool.specs.Requests.{Shows, request, shown_by};
 ghost use Rattle.cyc_tool.specs.Seen.{end_of, outcome_of, purpose_seen};
 
@@ -19,6 +21,7 @@ use crate::ring::demo;
 use crate::status;
 use crate::texts::{tell_delays, tell_loops, tell_netlist, tell_probed, tell_sim, tell_usage};
 use bdd_ops::Diagrams;
+use care_sets::Care;
 use commands::{Command, Options, command_of_words};
 use cyc_base::{Bits, DEFAULT_NODES, Name};
 use cyc_io::{Shelf, Sink, write_whole};
@@ -30,7 +33,45 @@ use report::NO_MEMORY_TEXT;
 use std::alloc::Global;
 use storm::laws::storms_never_rest;
 
-// Decides the netlist of a file on its care set, and tells of it what is wanted.
+// Decides a netlist on its care set, and tells of it what is wanted.
+fn decide_on_care(
+    alloc: Global,
+    net: &Netlist,
+    care: &Care,
+    options: Options,
+    purpose: Purpose,
+    d: &mut Diagrams,
+) -> Result<Outcome, Stop>
+    requires valid { IsNetlist net.now }
+    requires inputs { length net.now.inputs ≤ 4000000000 }
+    requires care { IsCareOf net.now care.now }
+    ensures { FollowsStill (Decides (decision net.now care.now (options_seen options.entry)) (purpose_seen purpose)) d.new (end_of result) }
+{
+    let limit = options.nodes.unwrap_or(DEFAULT_NODES);
+    let observe = options.observe.unwrap_or(Observe::All);
+    Ok(decide_netlist(alloc, net, care, limit, observe, purpose, d)?)
+}
+
+// The same on the care set of its care file.
+fn decide_on_care_file<S: Shelf>(
+    alloc: Global,
+    shelf: &mut S,
+    net: &Netlist,
+    options: Options,
+    purpose: Purpose,
+    d: &mut Diagrams,
+) -> Result<Outcome, Stop>
+    requires valid { IsNetlist net.now }
+    requires inputs { length net.now.inputs ≤ 4000000000 }
+    ensures comes { Follows (deciding_on net.now (options_seen options.entry) (purpose_seen purpose))
+        (shelf_call S.files S.faults shelf.old shelf.new) d.new (end_of result) }
+    ensures same { S.files shelf.new ≡ S.files shelf.old }
+{
+    let care = read_care(alloc, shelf, net, options.care)?;
+    decide_on_care(alloc, net, &care, options, purpose, d)
+}
+
+// The same of the netlist of a file.
 fn decide_file<S: Shelf>(
     alloc: Global,
     shelf: &mut S,
@@ -44,10 +85,7 @@ fn decide_file<S: Shelf>(
     ensures same { S.files shelf.new ≡ S.files shelf.old }
 {
     let net = read_netlist(alloc, shelf, netlist)?;
-    let care = read_care(alloc, shelf, &net, options.care)?;
-    let limit = options.nodes.unwrap_or(DEFAULT_NODES);
-    let observe = options.observe.unwrap_or(Observe::All);
-    Ok(decide_netlist(alloc, &net, &care, limit, observe, purpose, d)?)
+    decide_on_care_file(alloc, shelf, &net, options, purpose, d)
 }
 
 // Writes the flat netlist of a file.
@@ -161,7 +199,26 @@ fn play_file<S: Shelf>(
     Ok(play(alloc, net, vectors, &schedule, recorded, probes, probe)?)
 }
 
-// Plays the netlist of a file on the vectors of another by the schedule of a third.
+// Plays a netlist on the vectors of a file by the schedule of another.
+fn replay<S: Shelf>(
+    alloc: Global,
+    shelf: &mut S,
+    net: &Netlist,
+    vectors: &Name,
+    recorded: &Name,
+    probes: &mut [Box<dyn Probe>],
+    probe: Option<Kind>,
+) -> Result<Outcome, Stop>
+    requires { All (λ probe. heard probe ≡ []) probes.old }
+    ensures comes { FollowsAlone (replaying_on (shown_by kind text probes.old) probe recorded.now vectors.now net.now) (shelf_call S.files S.faults shelf.old shelf.new) (end_of result) }
+    ensures same { S.files shelf.new ≡ S.files shelf.old }
+{
+    let found = read_vector_file(alloc, shelf, net, false, vectors)?;
+    let inputs = known(alloc, &found)?;
+    play_file(alloc, shelf, net, &inputs, recorded, probes, probe)
+}
+
+// The same of the netlist of a file.
 fn delays<S: Shelf>(
     alloc: Global,
     shelf: &mut S,
@@ -176,9 +233,7 @@ fn delays<S: Shelf>(
     ensures same { S.files shelf.new ≡ S.files shelf.old }
 {
     let net = read_netlist(alloc, shelf, netlist)?;
-    let found = read_vector_file(alloc, shelf, &net, false, vectors)?;
-    let inputs = known(alloc, &found)?;
-    Ok(play_file(alloc, shelf, &net, &inputs, recorded, probes, probe)?)
+    replay(alloc, shelf, &net, vectors, recorded, probes, probe)
 }
 
 fn carry_out<S: Shelf>(

@@ -1,20 +1,19 @@
 -- A small netlist while it is made.
-use Rattle.std.proofs.Common.{◌≡◌, inl, inr, ◌⊎◌, ℕ, ◌+◌, ◌-◌, ◌<◌, ◌≤◌, Bool, true, false, List, [], ◌∷◌, ◌++◌, length, map, get_or, if◌then◌else◌, eqb, Option, Some, None, refl, sym, ap, ◌∙◌, subst, arith, Contains}
+use Rattle.std.proofs.Common.{◌≡◌, inl, inr, ◌⊎◌, ℕ, ◌+◌, ◌-◌, ◌<◌, ◌≤◌, Bool, true, false, List, [], ◌∷◌, ◌++◌, length, map, get_or, if◌then◌else◌, eqb, Option, Some, None, Result, Ok, Err, IfOk, refl, sym, ap, ◌∙◌, subst, arith, Contains}
 use Rattle.std.proofs.lemmas.Bool.{cases_lt, eqb-true}
 use Rattle.std.proofs.lemmas.List.{get_or-map, get_or_default, get_or_append_left, get_or-append_right, get_or_push, length_push, length-map}
 use Rattle.std.specs.List.{position}
 use Rattle.std.specs.Prelude.{IfSome}
 use Rattle.std.proofs.lemmas.List.Quantifiers.{position-Some}
 use Rattle.cyc_base.specs.declared.sig.Sig.{Sig}
-use Rattle.netlist.specs.declared.parts.Gate.{Gate}
 use Rattle.netlist.specs.declared.parts.Parts.{Parts}
 use Rattle.netlist.specs.Netlists.{IsNetlist, count, signal, no_gate, gate_at, gate_sig}
 use Rattle.loops.specs.declared.parts.Blocks.{Blocks}
 use Rattle.loops.specs.Blocks.{AreBlocksOf, block_at, home_of}
 use Rattle.loops.specs.Sweeps.{first_gate}
 use Rattle.loops.proofs.Told.{gate_home}
-use Rattle.isolation.specs.Excerpts.{origins, origin, gate_in}
-use Rattle.isolation.specs.Building.{IsOutside, AreOutside, IsPlaceOf, AreCopies, IsLoopNetlist}
+use Rattle.isolation.specs.Excerpts.{origins, origin, gate_in, IsExcerpt}
+use Rattle.isolation.specs.Building.{IsOutside, AreOutside, IsPlaceOf, IsLoopNetlist}
 
 -- a gate of a block, by its signal
 pub inside_block : (net : Parts) (blocks : Blocks) → AreBlocksOf net blocks → (place : ℕ) (s : Sig) → place < length blocks.list → Contains (map (gate_sig net) (block_at blocks place).gates) s →
@@ -63,21 +62,15 @@ origin_gate net outside gates place number s less above is at =
     ∙ get_or-map (gate_sig net) gates place 0 (signal 0) less
     ∙ ap signal (let m : first_gate net + get_or gates place 0 ≡ s.0 = omega (arith, is, above) in m)
 
--- the finished netlist
-pub loop_is : (net : Parts) (gates : List ℕ) (outside : List Sig) (small : Parts) → AreOutside net gates outside → length small.inputs ≡ length outside → length small.latches ≡ 0 → (made : List Gate) → small.gates ≡ made →
-    AreCopies net (origins net outside gates) gates made (length gates) → IsLoopNetlist net gates small
-loop_is net gates outside small are inputs latches made same copies = record {
-  outside = outside;
-  is = record {
-    inputs = inputs;
-    latches = latches;
-    size = ap (λ (xs : List Gate). length xs) same ∙ copies.size;
-    covers = λ i l. ap (λ (xs : List Gate). (get_or xs i no_gate).cover) same ∙ (copies.each i l).cover;
-    pins = λ i l. ap (λ (xs : List Gate). map (origin (origins net outside gates)) (get_or xs i no_gate).pins) same ∙ (copies.each i l).pins;
-    apart = λ s c. (are s c).apart;
-  };
-  read = λ s c. (are s c).read;
-}
+-- the netlist of a loop
+loop_is : (net : Parts) (gates : List ℕ) (outside : List Sig) (small : Parts) → AreOutside net gates outside → IsExcerpt net outside gates small → IsLoopNetlist net gates small
+loop_is net gates outside small are is = record { outside = outside; is = is; read = λ s c. (are s c).read }
+
+pub loop_found : {E : Type 0} (net : Parts) (gates : List ℕ) (outside : List Sig) (made : Result (Option Parts) E) → AreOutside net gates outside → IfOk made (λ found. IfSome found (IsExcerpt net outside gates)) →
+    IfOk made (λ found. IfSome found (IsLoopNetlist net gates))
+loop_found net gates outside (Ok (Some small)) are is = loop_is net gates outside small are is
+loop_found net gates outside (Ok None) are is = tt
+loop_found net gates outside (Err fault) are is = tt
 
 -- a member of an equal list
 member_same : {A : Type 0} (xs ys : List A) (i : ℕ) (d : A) → xs ≡ ys → i < length xs → Contains ys (get_or xs i d)

@@ -17,11 +17,12 @@ use Rattle.loops.specs.Found.{loops_of}
 use Rattle.loops.specs.Sweeps.{first_gate, gate_of, CutsAreFixed}
 use Rattle.loops.specs.Walks.{AnyGate, Leads, SameLoop}
 use Rattle.loops.proofs.Existence.{loops_exist}
+use Rattle.loops.proofs.LoopCuts.{HasCut, has-cut}
 use Rattle.loops.proofs.OrderLemmas.{block_rises, block_within}
 use Rattle.loops.proofs.Reading.{wire_of_gate}
 use Rattle.loops.proofs.Sweeps.{cut_values_agree, same_within}
 use Rattle.loops.proofs.Told.{gate_home, home_gate}
-use Rattle.loops.proofs.Walks.{cuts_leave_no_loop, on_closed_walk, begins_at}
+use Rattle.loops.proofs.Walks.{begins_at}
 use Rattle.isolation.specs.Excerpts.{gate_in, inputs_in, AreRead, AreWhole}
 use Rattle.isolation.specs.Settled.{SettleInSweeps}
 use Rattle.isolation.specs.Laws.{IsDeterminedAt, SettledLoopsSweep, OneSweepIsExact}
@@ -48,32 +49,6 @@ block-whole net blocks are b within = record {
       let home : home_of blocks g ≡ b = sym ((are.same (get_or (block_at blocks b).gates i 0) g c.0 gl).1 (inr s)) ∙ c.1 in
       subst (λ (p : ℕ). Contains (block_at blocks p).gates g) home (home_gate net blocks are g gl);
 }
-
--- each loop has a cut wire
-record HasCut (loops : Loops) (a : ℕ) : Type 0 where
-  wire : ℕ
-  same : loops.same a wire ≡ true
-  cut : loops.cut wire ≡ true
-
-find-cut : (net : Parts) (loops : Loops) (a : ℕ) (xs : List ℕ) → AllByRecursion (λ n. loops.same a n ≡ true) xs → HasCut loops a ⊎ AllByRecursion (λ n. loops.cut n ≡ false) xs
-find-cut net loops a [] h = inr tt
-find-cut net loops a (x ∷ xs) h = elim (cases_Bool (loops.cut x)) [
-  | inl is ↦ inl (record { wire = x; same = h.0; cut = is })
-  | inr isnt ↦ elim (find-cut net loops a xs h.1) [ inl found ↦ inl found | inr none ↦ inr (isnt, none) ]
-]
-
-same-all : (net : Parts) (loops : Loops) → AreLoopsOf net loops → (a : ℕ) (xs : List ℕ) → AllByRecursion (SameLoop net a) xs → AllByRecursion (λ n. loops.same a n ≡ true) xs
-same-all net loops are a [] h = tt
-same-all net loops are a (x ∷ xs) h = ((are.same a x).1 h.0, same-all net loops are a xs h.1)
-
-has-cut : (net : Parts) (loops : Loops) → AreLoopsOf net loops → (a : ℕ) → Leads net AnyGate a a → HasCut loops a
-has-cut net loops are a leads = elim (cases_Bool (loops.cut a)) [
-  | inl is ↦ record { wire = a; same = (are.same a a).1 (record { there = leads; back = leads }); cut = is }
-  | inr isnt ↦ elim (find-cut net loops a leads.via (same-all net loops are a leads.via (on_closed_walk net a leads.via leads.walk))) [
-    | inl found ↦ found
-    | inr none ↦ absurd (cuts_leave_no_loop net loops are a leads.via leads.walk isnt none)
-  ]
-]
 
 module _ (net : Parts) (blocks : Blocks) (loops : Loops) (valid : IsNetlist net) (are : AreBlocksOf net blocks) (loops_are : AreLoopsOf net loops) (b : ℕ) (within : b < length blocks.list) (looped : (block_at blocks b).looped ≡ true)
     (a : ℕ) (has : Contains (block_at blocks b).gates a) (v : List Trit) (is : IsDeterminedAt net v) where

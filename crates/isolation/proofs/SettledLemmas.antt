@@ -15,12 +15,12 @@ use Rattle.netlist.specs.Walks.{Feeds}
 use Rattle.loops.specs.declared.parts.Blocks.{Blocks}
 use Rattle.loops.specs.Blocks.{AreBlocksOf, block_at, home_of}
 use Rattle.loops.specs.Sweeps.{first_gate, gate_of, value_in}
-use Rattle.loops.specs.Walks.{AnyGate, Leads}
 use Rattle.loops.proofs.Reading.{wire_of_gate, get_or-fix}
 use Rattle.loops.proofs.Walks.{leads-step, leads-trans}
 use Rattle.loops.proofs.Told.{gate_home, home_gate}
 use Rattle.isolation.specs.Excerpts.{gate_in, IsRead}
 use Rattle.isolation.specs.Laws.{IsLooped, IsUpstream, SettledWhere, SettledLoopsDetermine, UnsettledLoopsDecide}
+use Rattle.isolation.proofs.UpstreamLemmas.{upstream-trans, same-up}
 use Rattle.isolation.proofs.ExcerptLemmas.{known_list, bit-known, gates_known}
 
 module _ (net : Parts) (valid : IsNetlist net) (blocks : Blocks) (are : AreBlocksOf net blocks) (settled : ℕ → Bool) (alone : SettledWhere net blocks settled) (v : List Bool) (width : length v ≡ first_gate net) where
@@ -31,16 +31,8 @@ module _ (net : Parts) (valid : IsNetlist net) (blocks : Blocks) (are : AreBlock
   abbrev Clear : ℕ → Type 0
   Clear n = (m : ℕ) → m < length net.gates → IsUpstream net m n → IsLooped blocks m → settled (home_of blocks m) ≡ false → value_in (fix_gates net (bits v)) m ≢ X
 
-  upstream-trans : (a b c : ℕ) → IsUpstream net a b → IsUpstream net b c → IsUpstream net a c
-  upstream-trans a b c (inl e) q = subst (λ (n : ℕ). IsUpstream net n c) (sym e) q
-  upstream-trans a b c (inr r) (inl e) = inr (subst (Leads net AnyGate a) e r)
-  upstream-trans a b c (inr r) (inr q) = inr (leads-trans net a b c r q)
-
   clear-up : (g n : ℕ) → IsUpstream net g n → Clear n → Clear g
-  clear-up g n up clear m l above = clear m l (upstream-trans m g n above up)
-
-  same-up : (a b : ℕ) → a < length net.gates → b < length net.gates → home_of blocks a ≡ home_of blocks b → IsUpstream net a b
-  same-up a b al bl homes = elim ((are.same a b al bl).0 homes) [ inl e ↦ inl e | inr s ↦ inr s.there ]
+  clear-up g n up clear m l above = clear m l (upstream-trans net m g n above up)
 
   -- a wire is known that is an input, a latch or a gate of an earlier block
   pin_known : (n : ℕ) (s : Sig) → s.0 < count net → ((g : ℕ) → g < length net.gates → s ≡ gate_sig net g → value_in (fix_gates net (bits v)) g ≢ X) → wire (fix net (bits v)) s ≢ X
@@ -112,13 +104,13 @@ module _ (net : Parts) (valid : IsNetlist net) (blocks : Blocks) (are : AreBlock
             pin_known n s (pin-signal reader s m.0 read.pin)
             (λ g gl e.
             let feeds = feeds-from reader g s m.0 gl e read.pin in
-            let up : IsUpstream net reader n = same-up reader n m.0 nl m.1 in
+            let up : IsUpstream net reader n = same-up net blocks are reader n m.0 nl m.1 in
             below g gl
             (elim (cases_eq (home_of blocks g) (home_of blocks reader)) [
               | inr other ↦ let after = are.after_reads g reader feeds in let h = m.1 in omega (arith, after, other, here, h)
               | inl same ↦ absurd (apart (inside g gl e (same ∙ m.1)))
             ])
-            (clear-up g n (upstream-trans g reader n (inr (leads-step net g reader feeds)) up) clear))
+            (clear-up g n (upstream-trans net g reader n (inr (leads-step net g reader feeds)) up) clear))
           where
             inside : (g : ℕ) → g < length net.gates → s ≡ gate_sig net g → home_of blocks g ≡ home_of blocks n → Contains (map (gate_sig net) (block_at blocks (home_of blocks n)).gates) s
             inside g gl e home =

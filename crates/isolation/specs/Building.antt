@@ -15,6 +15,10 @@ pub record IsOutside (net : Parts) (gates : List ℕ) (s : Sig) : Type 0 where
 abbrev pub AreOutside : Parts → List ℕ → List Sig → Type 0
 AreOutside net gates outside = (s : Sig) → Contains outside s → IsOutside net gates s
 
+-- each of these wires is outside of the gates
+abbrev pub AreApart : Parts → List ℕ → List Sig → Type 0
+AreApart net gates outside = (s : Sig) → Contains outside s → ¬ Contains (map (gate_sig net) gates) s
+
 -- a value stands at this place of a list
 pub record IsPlaceOf {T : Type 0} (xs : List T) (x : T) (place : ℕ) : Type 0 where
   pub within : place < length xs

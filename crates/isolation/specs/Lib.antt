@@ -1,5 +1,6 @@
 pub mod Building
 pub mod Columns
+pub mod Cones
 pub mod Excerpts
 pub mod Laws
 pub mod Settled

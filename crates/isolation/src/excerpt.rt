@@ -1,16 +1,29 @@
-//! A loop as a netlist of its own.
+//! Some gates of a netlist, such as those of a loop, as a netlist of its own.
 
 ghost use Rattle.std.specs.Prelude.{◌≡◌, false, [], ◌<◌, ◌≤◌, ◌+◌, ◌++◌, ℕ, List, length, map, take, slice_index_or, All, IfOk, IfSome, OnOk, Contains};
 ghost use Rattle.netlist.specs.Netlists.{count, gate_at, gate_sig as sig_of, IsNetlist, IsSignal};
 ghost use Rattle.loops.specs.Blocks.{AreBlocksOf, block_at, home_of};
 ghost use Rattle.isolation.specs.Excerpts.{origin, origins, gate_in, IsRead, IsExcerpt};
-ghost use Rattle.isolation.specs.Building.{AreOutside, IsPlaceOf, IsCopyOf, AreCopies, IsLoopNetlist};
+ghost use Rattle.isolation.specs.Building.{AreApart, AreOutside, IsPlaceOf, IsCopyOf, AreCopies, IsLoopNetlist};
 
 use cyc_base::{Items, Name, Sig};
 use indexmap::IndexSet;
 use loops::Blocks;
 use netlist::{Gate, Netlist, Parts, PartsFault};
 use std::alloc::{AllocError, Global};
+
+/// The gates of the block at this place.
+pub(crate) fn gates_at<'a>(net: &Netlist, blocks: &'a Blocks, place: usize) -> &'a [u32]
+    requires blocks { AreBlocksOf net.now blocks.now }
+    requires place { place < length blocks.now.list }
+    ensures is { result.now ≡ (block_at blocks.now place).gates }
+    ensures within { All (λ n. n < length net.now.gates) result.now }
+    ensures valid { IsNetlist net.now }
+{
+    let _ = net.gates();
+    let gates = blocks.list.items()[place].gates.items();
+    gates
+}
 
 /// Whether a signal is a gate of the block at this place.
 fn is_inside(net: &Netlist, blocks: &Blocks, place: u32, signal: Sig) -> bool
@@ -72,7 +85,7 @@ fn place_outside(outside: &IndexSet<Sig>, signal: Sig) -> Option<usize>
 }
 
 /// The place of a gate among these.
-fn place_among(gates: &[u32], gate: u32) -> Option<usize>
+pub(crate) fn place_among(gates: &[u32], gate: u32) -> Option<usize>
     ensures { IfSome result (λ place. IsPlaceOf gates.now gate place) }
 {
     match gates.binary_search(&gate) {
@@ -194,25 +207,55 @@ fn parts_of(alloc: Global, name: Name, inputs: Vec<Name>, gates: Vec<Gate>) -> P
     }
 }
 
-/// The parts of the small netlist of the block at this place.
-fn loop_parts(
+/// The parts of the small netlist of these gates, whose inputs are these wires outside of them.
+fn excerpt_parts(
     alloc: Global,
     net: &Netlist,
-    blocks: &Blocks,
-    place: u32,
+    gates: &[u32],
+    outside: &IndexSet<Sig>,
 ) -> Result<Option<Parts>, AllocError>
-    requires blocks { AreBlocksOf net.now blocks.now }
-    requires place { place < length blocks.now.list }
-    ensures small { IfOk result (λ found. IfSome found (IsLoopNetlist net.now (block_at blocks.now place).gates)) }
+    requires gates { All (λ gate. gate < length net.now.gates) gates.now }
+    requires outside { All (λ s. s.0 < count net.now) outside.now.keys }
+    requires apart { AreApart net.now gates.now outside.now.keys }
+    ensures small { IfOk result (λ found. IfSome found (IsExcerpt net.now outside.now.keys gates.now)) }
 {
     let name = net.name().copy()?;
-    let gates = blocks.list.items()[place as usize].gates.items();
-    let outside = outside_of(alloc, net, blocks, place)?;
     let inputs = names_of(alloc, net, outside.as_slice())?;
-    let Some(copies) = copy_gates(alloc, net, gates, &outside)? else {
+    let Some(copies) = copy_gates(alloc, net, gates, outside)? else {
         return Ok(None);
     };
     Ok(Some(parts_of(alloc, name, inputs, copies)))
+}
+
+/// The netlist of these parts, if they make one.
+fn made_of(alloc: Global, parts: Parts) -> Result<Option<Netlist>, AllocError>
+    ensures same { IfOk result (λ found. IfSome found (λ small. small ≡ parts)) }
+    ensures valid { IfOk result (λ found. IfSome found IsNetlist) }
+{
+    match Netlist::new(alloc, parts) {
+        Ok(small) => Ok(Some(small)),
+        Err(PartsFault::Memory) => Err(AllocError),
+        Err(_) => Ok(None),
+    }
+}
+
+/// These gates as a netlist of its own, whose inputs are these wires outside of them: names are those of the netlist.
+pub(crate) fn excerpt(
+    alloc: Global,
+    net: &Netlist,
+    gates: &[u32],
+    outside: &IndexSet<Sig>,
+) -> Result<Option<Netlist>, AllocError>
+    requires gates { All (λ gate. gate < length net.now.gates) gates.now }
+    requires outside { All (λ s. s.0 < count net.now) outside.now.keys }
+    requires apart { AreApart net.now gates.now outside.now.keys }
+    ensures small { IfOk result (λ found. IfSome found (IsExcerpt net.now outside.now.keys gates.now)) }
+    ensures valid { IfOk result (λ found. IfSome found IsNetlist) }
+{
+    let Some(parts) = excerpt_parts(alloc, net, gates, outside)? else {
+        return Ok(None);
+    };
+    made_of(alloc, parts)
 }
 
 /// The block at this place as a netlist of its own, whose inputs are the wires outside that its gates read: names are
@@ -228,12 +271,7 @@ pub fn loop_netlist(
     ensures small { IfOk result (λ found. IfSome found (IsLoopNetlist net.now (block_at blocks.now place).gates)) }
     ensures valid { IfOk result (λ found. IfSome found IsNetlist) }
 {
-    let Some(parts) = loop_parts(alloc, net, blocks, place)? else {
-        return Ok(None);
-    };
-    match Netlist::new(alloc, parts) {
-        Ok(small) => Ok(Some(small)),
-        Err(PartsFault::Memory) => Err(AllocError),
-        Err(_) => Ok(None),
-    }
+    let gates = gates_at(net, blocks, place as usize);
+    let outside = outside_of(alloc, net, blocks, place)?;
+    excerpt(alloc, net, gates, &outside)
 }

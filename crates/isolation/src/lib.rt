@@ -7,10 +7,12 @@
 #![tactic(auto)]
 
 mod columns;
+mod cones;
 mod excerpt;
 pub mod laws;
 mod settling;
 
 pub use columns::column_rails;
+pub use cones::{Cone, cone_netlist, mark_driver, mark_upstream, number_in};
 pub use excerpt::loop_netlist;
 pub use settling::settles_alone;

@@ -1,4 +1,5 @@
 pub mod Walks
+pub mod LoopCuts
 pub mod Ancestors
 pub mod Rising
 pub mod Reading

@@ -105,49 +105,6 @@ pub fn call(
     call_over(alloc, line, &mut shelf, write, Vec::new(alloc))
 }
 
-/// Whether the words of a line over both files give this status and these texts.
-pub fn gives(
-    alloc: Global,
-    line: &str,
-    text: &str,
-    care: &str,
-    status: u8,
-    out: &str,
-    err: &str,
-) -> Result<bool, AllocError> {
-    let seen = call(alloc, line, text.as_bytes(), care.as_bytes(), &[], &[])?;
-    Ok(is(&seen, status, out, err))
-}
-
-/// Whether `delays m.blif v.txt s.txt` gives this status, and this text on out where it is 0, else on err.
-pub fn plays(
-    alloc: Global,
-    text: &str,
-    vectors: &str,
-    schedule: &str,
-    status: u8,
-    told: &str,
-) -> Result<bool, AllocError> {
-    let mut shelf = play_shelf(
-        alloc,
-        text.as_bytes(),
-        vectors.as_bytes(),
-        schedule.as_bytes(),
-    )?;
-    let seen = call_over(
-        alloc,
-        "delays m.blif v.txt s.txt",
-        &mut shelf,
-        &[],
-        Vec::new(alloc),
-    )?;
-    Ok(if status == 0 {
-        is(&seen, 0, told, "")
-    } else {
-        is(&seen, status, "", told)
-    })
-}
-
 /// Adds a probe that has heard nothing.
 pub fn add_probe(probes: &mut Vec<Box<dyn Probe>>, probe: Box<dyn Probe>) -> Result<(), AllocError>
     requires silent { All (λ probe. heard probe ≡ []) probes.old.items }

@@ -56,18 +56,6 @@ fn a_failed_read_names_its_file(rt: HostRuntime) -> Result<(), Fail> {
     Ok(())
 }
 
-/// A netlist with a fault ends the call before the care file is read, which isn't there.
-fn fault_is_told_first(alloc: Global) -> Result<bool, AllocError> {
-    let seen = call(alloc, "check m.blif --care none.blif", b"", b"", &[], &[])?;
-    Ok(is(&seen, 3, "", FAULT))
-}
-
-#[test]
-fn a_fault_comes_before_the_next_file(rt: HostRuntime) -> Result<(), Fail> {
-    assert!(rt; fault_is_told_first(rt.alloc())?);
-    Ok(())
-}
-
 /// Whether sinks have parts of these texts after a write that failed.
 fn has_parts(seen: &Seen, out: &str, err: &str) -> bool {
     seen.status == 5
@@ -91,16 +79,5 @@ fn failed_writes_leave_a_part(rt: HostRuntime) -> Result<(), Fail> {
         assert!(rt; verdict_is_cut(rt.alloc(), number)?, "out at {number}");
         assert!(rt; fault_is_cut(rt.alloc(), number)?, "err at {number}");
     }
-    Ok(())
-}
-
-fn absence_is_told(alloc: Global) -> Result<bool, AllocError> {
-    let seen = call(alloc, "check none.blif", GOOD.as_bytes(), b"", &[], &[])?;
-    Ok(is(&seen, 4, "", "none.blif: read failed\n"))
-}
-
-#[test]
-fn a_file_that_is_absent_is_told(rt: HostRuntime) -> Result<(), Fail> {
-    assert!(rt; absence_is_told(rt.alloc())?);
     Ok(())
 }

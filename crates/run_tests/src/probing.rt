@@ -1,15 +1,22 @@
-//! Probes that are handed in.
+//! Probes that are handed in: two of one kind, none, and one that refuses.
 ghost use Rattle.std.specs.Prelude.{[]};
 ghost use Rattle.probes.specs.declared.kind.Kind.TheVariants as kinds;
 
 use crate::calls::{add_probe, call_probed, is};
-use crate::playing::{SETTLING, UNITS};
 use delay_core::Change;
 use netlist::Netlist;
-use probes::{Glitches, Kind, LastRound, Probe, Trace};
+use probes::{Kind, LastRound, Probe};
 use std::alloc::{AllocError, Global};
 use std::test::Fail;
-use vcd_out::{VcdOut, put_code};
+use vcd_out::put_code;
+
+/// Two units that share a loop.
+const UNITS: &str =
+    ".model mux\n.inputs c x d\n.outputs y\n.names c x g fi\n11- 1\n0-1 1\n.names fi f\n0 1\n.names c f x gi\n11- 1\n0-1 1\n.names gi d g\n11 1\n.names c g f y\n11- 1\n0-1 1\n.end\n";
+
+/// A schedule on which they settle.
+const SETTLING: &str =
+    "schedule 1\nlatches\ngates 10000\ntick\nround\ne fi 0 0 0\ne f 1\ne gi 2 2 2\ne g 3 3\ne y 4 4 4\nround\ne fi 0 0 0\ne f 1\ne gi 2 2 2\ne g 3 3\ne y 4 4 4\nround\ne fi 0 0 0\ne f 1\ne gi 2 2 2\ne g 3 3\ne y 4 4 4\nround\ne fi 0 0 0\ne f 1\ne gi 2 2 2\ne g 3 3\ne y 4 4 4\nround\ne fi 0 0 0\ne f 1\ne gi 2 2 2\ne g 3 3\ne y 4 4 4\n";
 
 /// A probe that is never told anything.
 #[derive(Drop)]
@@ -33,89 +40,6 @@ impl Probe for Deaf {
     fn show(&self, _: Global, _: &Netlist) -> Result<Vec<u8>, AllocError> {
         Err(AllocError)
     }
-}
-
-/// Words, vectors and a schedule, and what is told of them on out and on err.
-fn row(
-    number: u32,
-) -> Option<
-    (
-        &'static str,
-        &'static str,
-        &'static str,
-        &'static str,
-        &'static str,
-    ),
-> {
-    match number {
-        0 => Some((
-            "delays m.blif v.txt s.txt --probe trace",
-            "101\n",
-            SETTLING,
-            "tick 1 rounds=5 settled=yes outputs=1\nat=0 tick=1 round=0 c=1\nat=0 tick=1 round=0 x=0\nat=0 tick=1 round=0 d=1\nat=0 tick=1 round=0 fi=1\nat=0 tick=1 round=0 f=0\nat=0 tick=1 round=0 gi=0\nat=0 tick=1 round=0 g=0\nat=0 tick=1 round=0 y=0\nat=1 tick=1 round=1 fi=0\nat=7 tick=1 round=2 f=1\nat=13 tick=1 round=3 gi=1\nat=19 tick=1 round=4 g=1\nat=25 tick=1 round=5 y=1\n",
-            "",
-        )),
-        1 => Some((
-            "delays m.blif v.txt s.txt --probe glitches",
-            "101\n",
-            SETTLING,
-            "tick 1 rounds=5 settled=yes outputs=1\nglitches=0\n",
-            "",
-        )),
-        2 => Some((
-            "delays m.blif v.txt s.txt --probe last",
-            "101\n",
-            SETTLING,
-            "tick 1 rounds=5 settled=yes outputs=1\nlast tick=1 round=5\n",
-            "",
-        )),
-        3 => Some((
-            "delays m.blif v.txt s.txt --probe vcd",
-            "101\n",
-            SETTLING,
-            "$timescale 1ns $end\n$scope module mux $end\n$var wire 1 ! c $end\n$var wire 1 \" x $end\n$var wire 1 # d $end\n$var wire 1 $ fi $end\n$var wire 1 % f $end\n$var wire 1 & gi $end\n$var wire 1 ' g $end\n$var wire 1 ( y $end\n$upscope $end\n$enddefinitions $end\n#0\n$dumpvars\n1!\n0\"\n1#\n1$\n0%\n0&\n0'\n0(\n$end\n#1\n0$\n#7\n1%\n#13\n1&\n#19\n1'\n#25\n1(\n",
-            "tick 1 rounds=5 settled=yes outputs=1\n",
-        )),
-        4 => Some((
-            "delays m.blif v.txt s.txt --probe glitches",
-            "",
-            "schedule 1\nlatches\ngates 10000\n",
-            "glitches=0\n",
-            "",
-        )),
-        5 => Some((
-            "delays m.blif v.txt s.txt --probe vcd",
-            "",
-            "schedule 1\nlatches\ngates 10000\n",
-            "$timescale 1ns $end\n$scope module mux $end\n$var wire 1 ! c $end\n$var wire 1 \" x $end\n$var wire 1 # d $end\n$var wire 1 $ fi $end\n$var wire 1 % f $end\n$var wire 1 & gi $end\n$var wire 1 ' g $end\n$var wire 1 ( y $end\n$upscope $end\n$enddefinitions $end\n#0\n$dumpvars\n$end\n",
-            "",
-        )),
-        _ => None,
-    }
-}
-
-fn row_is_told(alloc: Global, number: u32) -> Result<bool, AllocError> {
-    let Some((line, vectors, schedule, out, err)) = row(number) else {
-        return Ok(false);
-    };
-    let mut probes: Vec<Box<dyn Probe>> = Vec::new(alloc);
-    add_probe(&mut probes, Box::new(alloc, Trace::new(alloc))?)?;
-    add_probe(&mut probes, Box::new(alloc, Glitches::new(alloc))?)?;
-    add_probe(&mut probes, Box::new(alloc, LastRound::new(alloc))?)?;
-    add_probe(&mut probes, Box::new(alloc, VcdOut::new(alloc))?)?;
-    let seen = call_probed(alloc, line, UNITS, vectors, schedule, probes)?;
-    Ok(is(&seen, 0, out, err))
-}
-
-const ROWS: u32 = 6;
-
-#[test]
-fn probes_of_each_kind_show(rt: HostRuntime) -> Result<(), Fail> {
-    assert!(rt; row(ROWS).is_none());
-    for number in 0..ROWS {
-        assert!(rt; row_is_told(rt.alloc(), number)?, "at {number}");
-    }
-    Ok(())
 }
 
 const LAST: &str = "delays m.blif v.txt s.txt --probe last";

@@ -13,7 +13,7 @@ use Rattle.loops.specs.Cuts.{Loops, AreLoopsOf}
 use Rattle.loops.specs.Sweeps.{value_in, sweeps, CutsAreFixed}
 use Rattle.loops.specs.Walks.{AnyGate, Leads, SameLoop}
 use Rattle.loops.proofs.Sweeps.{cut_values_agree, same_within, sweeps_rise, sweeps_stay_below_fix}
-use Rattle.loops.proofs.Walks.{cuts_leave_no_loop, on_closed_walk}
+use Rattle.loops.proofs.LoopCuts.{HasCut, has-cut}
 use Rattle.third_rail.specs.Knowing.{number_of}
 use Rattle.third_rail.specs.Laws.{KnownCutsAreFixed, OneSweepIsNeeded}
 use Rattle.third_rail.proofs.SweepingLemmas.{known_above}
@@ -32,33 +32,6 @@ map_where_kept f g p (x ∷ xs) h = by (p x) refl (map_where_kept f g p xs h)
     by : (b : Bool) → p x ≡ b → map f (filter p xs) ≡ map g (filter p xs) → map f (filter p (x ∷ xs)) ≡ map g (filter p (x ∷ xs))
     by true is again = rw is (ap₂ (λ y ys. y ∷ ys) (h x is) again)
     by false is again = rw is again
-
--- ---- each loop has a cut wire
-
-record HasCut (loops : Loops) (a : ℕ) : Type 0 where
-  wire : ℕ
-  same : loops.same a wire ≡ true
-  cut : loops.cut wire ≡ true
-
-find-cut : (net : Parts) (loops : Loops) (a : ℕ) (xs : List ℕ) → AllByRecursion (λ n. loops.same a n ≡ true) xs → HasCut loops a ⊎ AllByRecursion (λ n. loops.cut n ≡ false) xs
-find-cut net loops a [] h = inr tt
-find-cut net loops a (x ∷ xs) h = elim (cases_Bool (loops.cut x)) [
-  | inl is ↦ inl (record { wire = x; same = h.0; cut = is })
-  | inr isnt ↦ elim (find-cut net loops a xs h.1) [ inl found ↦ inl found | inr none ↦ inr (isnt, none) ]
-]
-
-same-all : (net : Parts) (loops : Loops) → AreLoopsOf net loops → (a : ℕ) (xs : List ℕ) → AllByRecursion (SameLoop net a) xs → AllByRecursion (λ n. loops.same a n ≡ true) xs
-same-all net loops are a [] h = tt
-same-all net loops are a (x ∷ xs) h = ((are.same a x).1 h.0, same-all net loops are a xs h.1)
-
-has-cut : (net : Parts) (loops : Loops) → AreLoopsOf net loops → (a : ℕ) → Leads net AnyGate a a → HasCut loops a
-has-cut net loops are a leads = elim (cases_Bool (loops.cut a)) [
-  | inl is ↦ record { wire = a; same = (are.same a a).1 (record { there = leads; back = leads }); cut = is }
-  | inr isnt ↦ elim (find-cut net loops a leads.via (same-all net loops are a leads.via (on_closed_walk net a leads.via leads.walk))) [
-    | inl found ↦ found
-    | inr none ↦ absurd (cuts_leave_no_loop net loops are a leads.via leads.walk isnt none)
-  ]
-]
 
 -- more sweeps tell as much
 rise-to : (net : Parts) (loops : Loops) (v : List Trit) (k m : ℕ) → k ≤ m → EachBelow (sweeps net loops v k) (sweeps net loops v m)

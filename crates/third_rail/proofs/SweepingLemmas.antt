@@ -25,7 +25,7 @@ use Rattle.loops.proofs.Sweeps.{sweep_each, sweeps_rise, sweeps_stay_below_fix}
 use Rattle.third_rail.specs.declared.rails.ThreeRails.{ThreeRails}
 use Rattle.third_rail.specs.Claims.{Claim, Fits, EachFits, nothing}
 use Rattle.third_rail.specs.Nodes.{no_rails, AreNodes, claim_of, claims_of}
-use Rattle.third_rail.specs.Sweeping.{rails_at, AreWires, is_cut_read, rails_read, FitSweeps}
+use Rattle.third_rail.specs.Sweeping.{rails_at, AreWires, is_cut_read, rails_read, FitSweeps, Layout}
 use Rattle.third_rail.proofs.LiftingLemmas.{nothing_fits, EachFits-at}
 use Rattle.third_rail.proofs.NodeLemmas.{unknown-claim, claims-at, claims_of-kept, All-nodes-kept}
 
@@ -117,20 +117,20 @@ own_cut net blocks cut n pin inside is =
     let s = and_parts (block_at blocks (home_of blocks n)).looped (home_of blocks n == home_of blocks (gate_of net pin)) r.1 in
     ap₂ (λ x y. x && y) p.0 (ap₂ (λ x y. x && y) is s.1)
 
-module _ (net : Parts) (blocks : Blocks) (cut : Cut) (a : Arena) (k : ℕ) (before rails : List ThreeRails) (v : List Bool) (wide : length v ≡ first_gate net)
-    (old : EachFits (claims_of a before v) (wires (bits v) (sweeps net (loops_by blocks cut) (bits v) k)))
-    (now : EachFits (claims_of a rails v) (wires (bits v) (sweeps net (loops_by blocks cut) (bits v) (suc k)))) where
+module _ (net : Parts) (blocks : Blocks) (cut : Cut) (a : Arena) (k : ℕ) (before rails : List ThreeRails) (v w : List Bool) (wide : length v ≡ first_gate net)
+    (old : EachFits (claims_of a before w) (wires (bits v) (sweeps net (loops_by blocks cut) (bits v) k)))
+    (now : EachFits (claims_of a rails w) (wires (bits v) (sweeps net (loops_by blocks cut) (bits v) (suc k)))) where
   loops : Loops
   loops = loops_by blocks cut
 
   wide-bits : length (bits v) ≡ first_gate net
   wide-bits = length-map v bit ∙ wide
 
-  at-before : (pin : Sig) → Fits (claim_of a (rails_at before pin.0) v) (wire (wires (bits v) (sweeps net (loops_by blocks cut) (bits v) k)) pin)
-  at-before pin = subst (λ c. Fits c (wire (wires (bits v) (sweeps net (loops_by blocks cut) (bits v) k)) pin)) (claims-at a before v pin.0) (EachFits-at (claims_of a before v) (wires (bits v) (sweeps net (loops_by blocks cut) (bits v) k)) pin.0 old)
+  at-before : (pin : Sig) → Fits (claim_of a (rails_at before pin.0) w) (wire (wires (bits v) (sweeps net (loops_by blocks cut) (bits v) k)) pin)
+  at-before pin = subst (λ c. Fits c (wire (wires (bits v) (sweeps net (loops_by blocks cut) (bits v) k)) pin)) (claims-at a before w pin.0) (EachFits-at (claims_of a before w) (wires (bits v) (sweeps net (loops_by blocks cut) (bits v) k)) pin.0 old)
 
-  at-now : (pin : Sig) → Fits (claim_of a (rails_at rails pin.0) v) (wire (wires (bits v) (sweeps net (loops_by blocks cut) (bits v) (suc k))) pin)
-  at-now pin = subst (λ c. Fits c (wire (wires (bits v) (sweeps net (loops_by blocks cut) (bits v) (suc k))) pin)) (claims-at a rails v pin.0) (EachFits-at (claims_of a rails v) (wires (bits v) (sweeps net (loops_by blocks cut) (bits v) (suc k))) pin.0 now)
+  at-now : (pin : Sig) → Fits (claim_of a (rails_at rails pin.0) w) (wire (wires (bits v) (sweeps net (loops_by blocks cut) (bits v) (suc k))) pin)
+  at-now pin = subst (λ c. Fits c (wire (wires (bits v) (sweeps net (loops_by blocks cut) (bits v) (suc k))) pin)) (claims-at a rails w pin.0) (EachFits-at (claims_of a rails w) (wires (bits v) (sweeps net (loops_by blocks cut) (bits v) (suc k))) pin.0 now)
 
   below-fix : (j : ℕ) (pin : Sig) → Below (wire (wires (bits v) (sweeps net (loops_by blocks cut) (bits v) j)) pin) (wire (fix net (bits v)) pin)
   below-fix j pin =
@@ -143,39 +143,39 @@ module _ (net : Parts) (blocks : Blocks) (cut : Cut) (a : Arena) (k : ℕ) (befo
   chosen true false c x y z h l m = l refl refl
   chosen false d c x y z h l m = m refl
 
-  read-old : (n : ℕ) (pin : Sig) → is_cut_read net blocks cut n pin ≡ true → Fits (claim_of a (rails_at before pin.0) v) (pin_in net (loops_by blocks cut) (bits v) (sweeps net (loops_by blocks cut) (bits v) k) (sweeps net (loops_by blocks cut) (bits v) (suc k)) n pin)
+  read-old : (n : ℕ) (pin : Sig) → is_cut_read net blocks cut n pin ≡ true → Fits (claim_of a (rails_at before pin.0) w) (pin_in net (loops_by blocks cut) (bits v) (sweeps net (loops_by blocks cut) (bits v) k) (sweeps net (loops_by blocks cut) (bits v) (suc k)) n pin)
   read-old n pin is =
       let p = and_parts (leb (first_gate net) pin.0) _ is in
       let q = and_parts (is_cut cut.wires (gate_of net pin)) _ p.1 in
-      chosen (in_loop_of net (loops_by blocks cut) n pin) (is_cut cut.wires (gate_of net pin)) (claim_of a (rails_at before pin.0) v) _ _ _
-      (λ e d. subst (Fits (claim_of a (rails_at before pin.0) v)) (wire_of_gate (bits v) (sweeps net (loops_by blocks cut) (bits v) k) (first_gate net) pin.0 wide-bits (leb-true (first_gate net) pin.0 p.0)) (at-before pin))
+      chosen (in_loop_of net (loops_by blocks cut) n pin) (is_cut cut.wires (gate_of net pin)) (claim_of a (rails_at before pin.0) w) _ _ _
+      (λ e d. subst (Fits (claim_of a (rails_at before pin.0) w)) (wire_of_gate (bits v) (sweeps net (loops_by blocks cut) (bits v) k) (first_gate net) pin.0 wide-bits (leb-true (first_gate net) pin.0 p.0)) (at-before pin))
       (λ e d. absurd (true≢false (sym q.0 ∙ d)))
-      (λ e. Fits-above (claim_of a (rails_at before pin.0) v) _ _ (below-fix k pin) (at-before pin))
+      (λ e. Fits-above (claim_of a (rails_at before pin.0) w) _ _ (below-fix k pin) (at-before pin))
 
-  read-new : (n : ℕ) (pin : Sig) → is_cut_read net blocks cut n pin ≡ false → Fits (claim_of a (rails_at rails pin.0) v) (pin_in net (loops_by blocks cut) (bits v) (sweeps net (loops_by blocks cut) (bits v) k) (sweeps net (loops_by blocks cut) (bits v) (suc k)) n pin)
+  read-new : (n : ℕ) (pin : Sig) → is_cut_read net blocks cut n pin ≡ false → Fits (claim_of a (rails_at rails pin.0) w) (pin_in net (loops_by blocks cut) (bits v) (sweeps net (loops_by blocks cut) (bits v) k) (sweeps net (loops_by blocks cut) (bits v) (suc k)) n pin)
   read-new n pin isnt =
-      chosen (in_loop_of net (loops_by blocks cut) n pin) (is_cut cut.wires (gate_of net pin)) (claim_of a (rails_at rails pin.0) v) _ _ _
+      chosen (in_loop_of net (loops_by blocks cut) n pin) (is_cut cut.wires (gate_of net pin)) (claim_of a (rails_at rails pin.0) w) _ _ _
       (λ e d. absurd (true≢false (sym (own_cut net blocks cut n pin e d) ∙ isnt)))
-      (λ e d. subst (Fits (claim_of a (rails_at rails pin.0) v)) (wire_of_gate (bits v) (sweeps net (loops_by blocks cut) (bits v) (suc k)) (first_gate net) pin.0 wide-bits (in_loop_from net (loops_by blocks cut) n pin e).0) (at-now pin))
-      (λ e. Fits-above (claim_of a (rails_at rails pin.0) v) _ _ (below-fix (suc k) pin) (at-now pin))
+      (λ e d. subst (Fits (claim_of a (rails_at rails pin.0) w)) (wire_of_gate (bits v) (sweeps net (loops_by blocks cut) (bits v) (suc k)) (first_gate net) pin.0 wide-bits (in_loop_from net (loops_by blocks cut) n pin e).0) (at-now pin))
+      (λ e. Fits-above (claim_of a (rails_at rails pin.0) w) _ _ (below-fix (suc k) pin) (at-now pin))
 
-  read-fits : (n : ℕ) (pin : Sig) → Fits (claim_of a (rails_read net blocks cut before rails n pin) v) (pin_in net (loops_by blocks cut) (bits v) (sweeps net (loops_by blocks cut) (bits v) k) (sweeps net (loops_by blocks cut) (bits v) (suc k)) n pin)
+  read-fits : (n : ℕ) (pin : Sig) → Fits (claim_of a (rails_read net blocks cut before rails n pin) w) (pin_in net (loops_by blocks cut) (bits v) (sweeps net (loops_by blocks cut) (bits v) k) (sweeps net (loops_by blocks cut) (bits v) (suc k)) n pin)
   read-fits n pin = by (is_cut_read net blocks cut n pin) refl
     where
-      by : (b : Bool) → is_cut_read net blocks cut n pin ≡ b → Fits (claim_of a (if b then rails_at before pin.0 else rails_at rails pin.0) v) (pin_in net (loops_by blocks cut) (bits v) (sweeps net (loops_by blocks cut) (bits v) k) (sweeps net (loops_by blocks cut) (bits v) (suc k)) n pin)
+      by : (b : Bool) → is_cut_read net blocks cut n pin ≡ b → Fits (claim_of a (if b then rails_at before pin.0 else rails_at rails pin.0) w) (pin_in net (loops_by blocks cut) (bits v) (sweeps net (loops_by blocks cut) (bits v) k) (sweeps net (loops_by blocks cut) (bits v) (suc k)) n pin)
       by true e = read-old n pin e
       by false e = read-new n pin e
 
   -- a gate's claim that fits its extension fits the sweep
   made-fits : (n : ℕ) → n < length net.gates → IsNetlist net → (c : Claim) →
-      ((values : List Trit) → length values ≡ (gate_at net n).cover.pins → EachFits (claims_of a (map (rails_read net blocks cut before rails n) (gate_at net n).pins) v) values → Fits c (ext (gate_at net n).cover values)) →
+      ((values : List Trit) → length values ≡ (gate_at net n).cover.pins → EachFits (claims_of a (map (rails_read net blocks cut before rails n) (gate_at net n).pins) w) values → Fits c (ext (gate_at net n).cover values)) →
       Fits c (wire (wires (bits v) (sweeps net (loops_by blocks cut) (bits v) (suc k))) (record { 0 = first_gate net + n }))
   made-fits n less valid c fits =
       let read : List Trit = map (pin_in net (loops_by blocks cut) (bits v) (sweeps net (loops_by blocks cut) (bits v) k) (sweeps net (loops_by blocks cut) (bits v) (suc k)) n) (gate_at net n).pins in
       let here : Fits c (gate_in net (loops_by blocks cut) (bits v) (sweeps net (loops_by blocks cut) (bits v) k) (sweeps net (loops_by blocks cut) (bits v) (suc k)) n) =
       fits read (length-map (gate_at net n).pins (pin_in net (loops_by blocks cut) (bits v) (sweeps net (loops_by blocks cut) (bits v) k) (sweeps net (loops_by blocks cut) (bits v) (suc k)) n) ∙ valid.pin_counts n no_gate less)
-      (subst (λ cs. EachFits cs read) (sym (pins-claims a (rails_read net blocks cut before rails n) (gate_at net n).pins v))
-      (EachFits-map (λ pin. claim_of a (rails_read net blocks cut before rails n pin) v) (pin_in net (loops_by blocks cut) (bits v) (sweeps net (loops_by blocks cut) (bits v) k) (sweeps net (loops_by blocks cut) (bits v) (suc k)) n) (gate_at net n).pins (read-fits n))) in
+      (subst (λ cs. EachFits cs read) (sym (pins-claims a (rails_read net blocks cut before rails n) (gate_at net n).pins w))
+      (EachFits-map (λ pin. claim_of a (rails_read net blocks cut before rails n pin) w) (pin_in net (loops_by blocks cut) (bits v) (sweeps net (loops_by blocks cut) (bits v) k) (sweeps net (loops_by blocks cut) (bits v) (suc k)) n) (gate_at net n).pins (read-fits n))) in
       subst (Fits c)
       (sym (wire_of_gate (bits v) (sweeps net (loops_by blocks cut) (bits v) (suc k)) (first_gate net) (first_gate net + n) wide-bits (omega arith)
       ∙ ap (λ m. get_or (sweeps net (loops_by blocks cut) (bits v) (suc k)) m X) (omega arith)
@@ -187,14 +187,14 @@ module _ (net : Parts) (blocks : Blocks) (cut : Cut) (a : Arena) (k : ℕ) (befo
 pub AreWires-kept : {net : Parts} {s t : Arena} {rails : List ThreeRails} → KeepsNodes s t → AreWires net s rails → AreWires net t rails
 AreWires-kept {net} {s} {t} {rails} keeps is = record { width = is.width; nodes = All-nodes-kept keeps rails is.nodes }
 
-pub FitSweeps-kept : (net : Parts) (loops : Loops) (s t : Arena) (k : ℕ) (rails : List ThreeRails) → KeepsNodes s t → All (AreNodes s) rails → FitSweeps net loops s k rails → FitSweeps net loops t k rails
-FitSweeps-kept net loops s t k rails keeps all fits v wide =
-    subst (λ cs. EachFits cs (wires (bits v) (sweeps net loops (bits v) k))) (sym (claims_of-kept keeps rails all v)) (fits v wide)
+pub FitSweeps-kept : (net : Parts) (loops : Loops) (s t : Arena) (laid : Layout) (k : ℕ) (rails : List ThreeRails) → KeepsNodes s t → All (AreNodes s) rails → FitSweeps net loops s laid k rails → FitSweeps net loops t laid k rails
+FitSweeps-kept net loops s t laid k rails keeps all fits v wide =
+    subst (λ cs. EachFits cs (wires (bits v) (sweeps net loops (bits v) k))) (sym (claims_of-kept keeps rails all (laid v))) (fits v wide)
 
 -- one sweep more tells as much
-pub FitSweeps-rise : (net : Parts) (loops : Loops) (a : Arena) (k : ℕ) (rails : List ThreeRails) → FitSweeps net loops a k rails → FitSweeps net loops a (suc k) rails
-FitSweeps-rise net loops a k rails fits v wide =
-    EachFits-above (claims_of a rails v) (wires (bits v) (sweeps net loops (bits v) k)) (wires (bits v) (sweeps net loops (bits v) (suc k)))
+pub FitSweeps-rise : (net : Parts) (loops : Loops) (a : Arena) (laid : Layout) (k : ℕ) (rails : List ThreeRails) → FitSweeps net loops a laid k rails → FitSweeps net loops a laid (suc k) rails
+FitSweeps-rise net loops a laid k rails fits v wide =
+    EachFits-above (claims_of a rails (laid v)) (wires (bits v) (sweeps net loops (bits v) k)) (wires (bits v) (sweeps net loops (bits v) (suc k)))
     (EachBelow-append (bits v) (bits v) (sweeps net loops (bits v) k) (sweeps net loops (bits v) (suc k)) (EachBelow-refl (bits v)) (sweeps_rise net loops (bits v) k))
     (fits v wide)
 
@@ -204,16 +204,16 @@ AreWires-set {net} {s} {t} {rails} {after} p made keeps is nodes same = record {
   nodes = subst (All (AreNodes t)) (sym same) (All-set (AreNodes t) rails p made nodes (All-nodes-kept keeps rails is.nodes));
 }
 
-pub FitSweeps-set : (net : Parts) (blocks : Blocks) (cut : Cut) (s t : Arena) (k gate : ℕ) (before rails after : List ThreeRails) (made : ThreeRails) → IsNetlist net → gate < length net.gates → KeepsNodes s t → AreWires net s before → AreWires net s rails →
-    FitSweeps net (loops_by blocks cut) s k before → FitSweeps net (loops_by blocks cut) s (suc k) rails →
+pub FitSweeps-set : (net : Parts) (blocks : Blocks) (cut : Cut) (s t : Arena) (laid : Layout) (k gate : ℕ) (before rails after : List ThreeRails) (made : ThreeRails) → IsNetlist net → gate < length net.gates → KeepsNodes s t → AreWires net s before → AreWires net s rails →
+    FitSweeps net (loops_by blocks cut) s laid k before → FitSweeps net (loops_by blocks cut) s laid (suc k) rails →
     ((v : List Bool) (values : List Trit) → length values ≡ (gate_at net gate).cover.pins → EachFits (claims_of s (map (rails_read net blocks cut before rails gate) (gate_at net gate).pins) v) values → Fits (claim_of t made v) (ext (gate_at net gate).cover values)) →
-    after ≡ set rails (first_gate net + gate) made → FitSweeps net (loops_by blocks cut) t (suc k) after
-FitSweeps-set net blocks cut s t k gate before rails after made valid less keeps is_before is old now fits same v wide =
-    subst (λ (list : List ThreeRails). EachFits (claims_of t list v) (wires (bits v) (sweeps net (loops_by blocks cut) (bits v) (suc k)))) (sym same)
-    (subst (λ cs. EachFits cs (wires (bits v) (sweeps net (loops_by blocks cut) (bits v) (suc k)))) (sym (claims-set t rails v (first_gate net + gate) made))
-    (EachFits-set (claims_of t rails v) (wires (bits v) (sweeps net (loops_by blocks cut) (bits v) (suc k))) (first_gate net + gate) (claim_of t made v)
-    (FitSweeps-kept net (loops_by blocks cut) s t (suc k) rails keeps is.nodes now v wide)
-    (made-fits net blocks cut s k before rails v wide (old v wide) (now v wide) gate less valid (claim_of t made v) (fits v))))
+    after ≡ set rails (first_gate net + gate) made → FitSweeps net (loops_by blocks cut) t laid (suc k) after
+FitSweeps-set net blocks cut s t laid k gate before rails after made valid less keeps is_before is old now fits same v wide =
+    subst (λ (list : List ThreeRails). EachFits (claims_of t list (laid v)) (wires (bits v) (sweeps net (loops_by blocks cut) (bits v) (suc k)))) (sym same)
+    (subst (λ cs. EachFits cs (wires (bits v) (sweeps net (loops_by blocks cut) (bits v) (suc k)))) (sym (claims-set t rails (laid v) (first_gate net + gate) made))
+    (EachFits-set (claims_of t rails (laid v)) (wires (bits v) (sweeps net (loops_by blocks cut) (bits v) (suc k))) (first_gate net + gate) (claim_of t made (laid v))
+    (FitSweeps-kept net (loops_by blocks cut) s t laid (suc k) rails keeps is.nodes now v wide)
+    (made-fits net blocks cut s k before rails v (laid v) wide (old v wide) (now v wide) gate less valid (claim_of t made (laid v)) (fits (laid v)))))
 
 -- ---- before the first sweep
 
@@ -223,22 +223,22 @@ AreWires-start net a columns rails width nodes same = record {
   nodes = subst (All (AreNodes a)) (sym same) (All-append (AreNodes a) columns (replicate (length net.gates) no_rails) nodes (All-replicate (AreNodes a) (length net.gates) no_rails (unknown-nodes a)));
 }
 
-pub FitSweeps-start : (net : Parts) (loops : Loops) (a : Arena) (columns rails : List ThreeRails) → rails ≡ columns ++ replicate (length net.gates) no_rails →
-    ((v : List Bool) → length v ≡ first_gate net → EachFits (claims_of a columns v) (bits v)) → FitSweeps net loops a zero rails
-FitSweeps-start net loops a columns rails same fits v wide =
-    subst (λ (list : List ThreeRails). EachFits (claims_of a list v) (wires (bits v) (sweeps net loops (bits v) zero))) (sym same)
+pub FitSweeps-start : (net : Parts) (loops : Loops) (a : Arena) (laid : Layout) (columns rails : List ThreeRails) → rails ≡ columns ++ replicate (length net.gates) no_rails →
+    ((v : List Bool) → length v ≡ first_gate net → EachFits (claims_of a columns (laid v)) (bits v)) → FitSweeps net loops a laid zero rails
+FitSweeps-start net loops a laid columns rails same fits v wide =
+    subst (λ (list : List ThreeRails). EachFits (claims_of a list (laid v)) (wires (bits v) (sweeps net loops (bits v) zero))) (sym same)
     (subst (λ cs. EachFits cs (wires (bits v) (sweeps net loops (bits v) zero)))
-    (sym (map-append (λ r. claim_of a r v) columns (replicate (length net.gates) no_rails) ∙ ap (λ cs. claims_of a columns v ++ cs) (claims-replicate a (length net.gates) v)))
-    (EachFits-append (claims_of a columns v) (replicate (length net.gates) nothing) (bits v) (replicate (length net.gates) X) (fits v wide) (EachFits-nothing (length net.gates))))
+    (sym (map-append (λ r. claim_of a r (laid v)) columns (replicate (length net.gates) no_rails) ∙ ap (λ cs. claims_of a columns (laid v) ++ cs) (claims-replicate a (length net.gates) (laid v))))
+    (EachFits-append (claims_of a columns (laid v)) (replicate (length net.gates) nothing) (bits v) (replicate (length net.gates) X) (fits v wide) (EachFits-nothing (length net.gates))))
 
 -- ---- what is known
 
 -- a gate that is claimed to be known after so many sweeps is so
-pub known-after : (net : Parts) (loops : Loops) (a : Arena) (k : ℕ) (rails : List ThreeRails) → FitSweeps net loops a k rails → (v : List Bool) → length v ≡ first_gate net → (n : ℕ) →
-    (claim_of a (rails_at rails (first_gate net + n)) v).known ≡ true → value_in (sweeps net loops (bits v) k) n ≢ X
-known-after net loops a k rails fits v wide n says x =
-    let here : Fits (claim_of a (rails_at rails (first_gate net + n)) v) (get_or (wires (bits v) (sweeps net loops (bits v) k)) (first_gate net + n) X) =
-    subst (λ c. Fits c (get_or (wires (bits v) (sweeps net loops (bits v) k)) (first_gate net + n) X)) (claims-at a rails v (first_gate net + n)) (EachFits-at (claims_of a rails v) (wires (bits v) (sweeps net loops (bits v) k)) (first_gate net + n) (fits v wide)) in
+pub known-after : (net : Parts) (loops : Loops) (a : Arena) (laid : Layout) (k : ℕ) (rails : List ThreeRails) → FitSweeps net loops a laid k rails → (v : List Bool) → length v ≡ first_gate net → (n : ℕ) →
+    (claim_of a (rails_at rails (first_gate net + n)) (laid v)).known ≡ true → value_in (sweeps net loops (bits v) k) n ≢ X
+known-after net loops a laid k rails fits v wide n says x =
+    let here : Fits (claim_of a (rails_at rails (first_gate net + n)) (laid v)) (get_or (wires (bits v) (sweeps net loops (bits v) k)) (first_gate net + n) X) =
+    subst (λ c. Fits c (get_or (wires (bits v) (sweeps net loops (bits v) k)) (first_gate net + n) X)) (claims-at a rails (laid v) (first_gate net + n)) (EachFits-at (claims_of a rails (laid v)) (wires (bits v) (sweeps net loops (bits v) k)) (first_gate net + n) (fits v wide)) in
     here.known says
     (wire_of_gate (bits v) (sweeps net loops (bits v) k) (first_gate net) (first_gate net + n) (length-map v bit ∙ wide) (omega arith)
     ∙ ap (λ m. get_or (sweeps net loops (bits v) k) m X) (omega arith) ∙ x)

@@ -11,7 +11,7 @@ use Rattle.loops.specs.Sweeps.{first_gate, value_in, sweeps}
 use Rattle.third_rail.specs.declared.rails.ThreeRails.{ThreeRails}
 use Rattle.third_rail.specs.declared.knowing.Knowledge.{Knowledge}
 use Rattle.third_rail.specs.declared.knowing.Knowledge.TheVariants.{Known, Unknown}
-use Rattle.third_rail.specs.Sweeping.{rails_at, FitSweeps}
+use Rattle.third_rail.specs.Sweeping.{rails_at, Layout, FitSweeps}
 
 -- a gate is among these
 abbrev pub is_marked : List Bool → ℕ → Bool
@@ -42,10 +42,15 @@ pub record AreKnown (net : Parts) (loops : Loops) (set : List Bool → Bool) (ma
   pub after : AreKnownSince net loops set since
   pub gates : AreDetermined net set marks
 
--- known means so, and the others are gates of the netlist
+-- known means so
 abbrev pub IsKnowledge : Parts → Loops → (List Bool → Bool) → List Bool → Knowledge → Type 0
 IsKnowledge net loops set marks (Known since hint) = AreKnown net loops set marks since
-IsKnowledge net loops set marks (Unknown gates) = All (λ n. n < length net.gates) gates
+IsKnowledge net loops set marks (Unknown gates) = Unit {0}
+
+-- the others are gates of the netlist
+abbrev pub HasGates : Parts → Knowledge → Type 0
+HasGates net (Known since hint) = Unit {0}
+HasGates net (Unknown gates) = All (λ n. n < length net.gates) gates
 
 -- the hint is a node of these diagrams
 abbrev pub HasHint : Arena → Knowledge → Type 0
@@ -54,9 +59,13 @@ HasHint a (Unknown gates) = Unit {0}
 
 -- ---- while it is found
 
--- the rails claim that a gate is known at each vector of the set
+-- rails claim that a value is known at each vector of the set
+abbrev pub IsKnownOn : Arena → Node → ThreeRails → Type 0
+IsKnownOn a set r = (v : List Bool) → den a set v ≡ true → den a r.known v ≡ true
+
+-- those of a gate do
 abbrev pub IsClaimedKnown : Arena → Node → ℕ → List ThreeRails → ℕ → Type 0
-IsClaimedKnown a set first rails n = (v : List Bool) → den a set v ≡ true → den a (rails_at rails (first + n)).known v ≡ true
+IsClaimedKnown a set first rails n = IsKnownOn a set (rails_at rails (first + n))
 
 -- that the marked gates are
 abbrev pub AreClaimedKnown : Arena → Node → ℕ → List ThreeRails → List Bool → Type 0
@@ -71,6 +80,10 @@ abbrev pub AreNoted : Arena → Node → ℕ → List ThreeRails → ℕ → Lis
 AreNoted a set first rails number old new = (n : ℕ) → IsNoted a set first rails number old new n
 
 -- the rails are those after some sweeps
-pub record HasSwept (net : Parts) (loops : Loops) (a : Arena) (rails : List ThreeRails) : Type 0 where
+pub record HasSwept (net : Parts) (loops : Loops) (a : Arena) (laid : Layout) (rails : List ThreeRails) : Type 0 where
   pub number : ℕ
-  pub fits : FitSweeps net loops a number rails
+  pub fits : FitSweeps net loops a laid number rails
+
+-- the vectors, by column, that a node is true at
+abbrev pub vectors_of : Arena → Node → Layout → List Bool → Bool
+vectors_of a set laid v = den a set (laid v)

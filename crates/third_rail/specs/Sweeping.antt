@@ -3,6 +3,8 @@ use Rattle.std.specs.Prelude.{◌≡◌, ◌==◌, ◌&&◌, ℕ, nat_le, Bool, 
 use Rattle.bdd_store.specs.Arena.{Arena}
 use Rattle.cyc_base.specs.declared.sig.Sig.{Sig}
 use Rattle.cyc_base.specs.Values.{bits}
+use Rattle.dual_rail.specs.declared.rail.Rails.{Rails}
+use Rattle.dual_rail.specs.Rails.{values_of}
 use Rattle.netlist.specs.declared.parts.Parts.{Parts}
 use Rattle.netlist.specs.Fixpoint.{wires}
 use Rattle.netlist.specs.Netlists.{count}
@@ -34,8 +36,16 @@ abbrev pub rails_read : Parts → Blocks → Cut → List ThreeRails → List Th
 rails_read net blocks cut before rails n pin =
     if is_cut_read net blocks cut n pin then rails_at before pin.0 else rails_at rails pin.0
 
+-- how vectors by column are laid on the variables of diagrams
+abbrev pub Layout : Type 0
+Layout = List Bool → List Bool
+
+-- the columns' rails have a vector's values where it is laid
+abbrev pub AreLaid : Parts → Arena → List Rails → Layout → Type 0
+AreLaid net a columns laid = (v : List Bool) → length v ≡ first_gate net → values_of a columns (laid v) ≡ bits v
+
 -- at each vector, what is claimed of the columns fits their values, and what is claimed of a gate fits what it has
 -- after so many sweeps of its loop
-abbrev pub FitSweeps : Parts → Loops → Arena → ℕ → List ThreeRails → Type 0
-FitSweeps net loops a k rails =
-    (v : List Bool) → length v ≡ first_gate net → EachFits (claims_of a rails v) (wires (bits v) (sweeps net loops (bits v) k))
+abbrev pub FitSweeps : Parts → Loops → Arena → Layout → ℕ → List ThreeRails → Type 0
+FitSweeps net loops a laid k rails =
+    (v : List Bool) → length v ≡ first_gate net → EachFits (claims_of a rails (laid v)) (wires (bits v) (sweeps net loops (bits v) k))

@@ -1,16 +1,15 @@
 //! After how many sweeps gates are known on a set of vectors, whatever the data.
 
-ghost use Rattle.std.specs.Prelude.{◌≡◌, ◌<◌, ◌≤◌, ◌+◌, ◌++◌, Bool, true, false, List, length, replicate, All, IfOk, OnOk};
+ghost use Rattle.std.specs.Prelude.{◌≡◌, ◌≢◌, ◌<◌, ◌≤◌, ◌+◌, ◌++◌, Bool, true, false, List, length, replicate, All, IfOk, OnOk};
 ghost use Rattle.bdd_store.specs.Arena.{constant, den, IsNodeOf};
 ghost use Rattle.bdd_store.specs.Growth.{KeepsNodes};
-ghost use Rattle.cyc_base.specs.Values.{bits};
-ghost use Rattle.dual_rail.specs.Rails.{AreRailsOf, values_of};
+ghost use Rattle.dual_rail.specs.Rails.{AreRailsOf};
 ghost use Rattle.loops.specs.Blocks.{AreBlocksOf};
 ghost use Rattle.loops.specs.Cuts.{IsCutOf, loops_by};
 ghost use Rattle.loops.specs.Sweeps.{first_gate};
-ghost use Rattle.third_rail.specs.Knowing.{AreClaimedKnown, AreDetermined, AreNoted, AreKnownSince, HasHint, HasSwept, HaveNumbers, IsKnowledge};
+ghost use Rattle.third_rail.specs.Knowing.{is_marked, number_of, vectors_of, AreClaimedKnown, AreDetermined, AreNoted, AreKnownSince, IsKnownOn, HasGates, HasHint, HasSwept, HaveNumbers, IsKnowledge};
 ghost use Rattle.third_rail.specs.Nodes.{no_rails, AreNodes};
-ghost use Rattle.third_rail.specs.Sweeping.{AreWires, FitSweeps};
+ghost use Rattle.third_rail.specs.Sweeping.{AreLaid, AreWires, FitSweeps, Layout};
 
 use crate::claims::column_claims;
 use crate::cones::{copied, mark_upstream};
@@ -54,6 +53,26 @@ fn difference(d: &mut Diagrams, m: Node, n: Node) -> Result<Node, StoreFault>
     Ok(missed)
 }
 
+/// Where a gate isn't claimed to be known at each vector of the set, if it is wanted.
+fn missed_at(
+    d: &mut Diagrams,
+    wanted: bool,
+    rails: ThreeRails,
+    set: Node,
+) -> Result<Node, StoreFault>
+    requires set { IsNodeOf d.old set }
+    requires rails { AreNodes d.old rails }
+    ensures node { IfOk result (IsNodeOf d.new) }
+    ensures known { IfOk result (λ missed. missed ≡ constant false → wanted ≡ true → IsKnownOn d.old set rails) }
+    ensures keeps { KeepsNodes d.old d.new }
+{
+    if !wanted {
+        return Ok(Node::of(false));
+    }
+    let missed = difference(d, set, rails.known)?;
+    Ok(missed)
+}
+
 /// Whether a gate is claimed to be known at each vector of the set, where it is wanted.
 fn is_claimed(
     d: &mut Diagrams,
@@ -63,13 +82,10 @@ fn is_claimed(
 ) -> Result<bool, StoreFault>
     requires set { IsNodeOf d.old set }
     requires rails { AreNodes d.old rails }
-    ensures known { IfOk result (λ claimed. claimed ≡ true → wanted ≡ true → (v : List Bool) → den d.old set v ≡ true → den d.old rails.known v ≡ true) }
+    ensures known { IfOk result (λ claimed. claimed ≡ true → wanted ≡ true → IsKnownOn d.old set rails) }
     ensures keeps { KeepsNodes d.old d.new }
 {
-    if !wanted {
-        return Ok(true);
-    }
-    let missed = difference(d, set, rails.known)?;
+    let missed = missed_at(d, wanted, rails, set)?;
     Ok(missed == Node::of(false))
 }
 
@@ -120,6 +136,16 @@ fn unknown_among(
     Ok(unknown)
 }
 
+/// Whether a gate is a marked cut wire without a number.
+fn is_pending(marks: &[bool], cuts: &[bool], since: &[u32], gate: usize) -> bool
+    requires marks { gate < length marks.now }
+    requires cuts { gate < length cuts.now }
+    requires since { gate < length since.now }
+    ensures { result ≡ false → is_marked marks.now gate ≡ true → is_marked cuts.now gate ≡ true → number_of since.now gate ≢ 0 }
+{
+    marks[gate] && cuts[gate] && since[gate] == 0
+}
+
 /// Notes the number of this sweep at each marked cut wire without one that is claimed to be known at each vector of the
 /// set after it. The answer is false where each marked cut wire has a number then, and else says where one isn't known.
 fn note_known(
@@ -146,13 +172,12 @@ fn note_known(
 {
     let mut left = Node::of(false);
     for gate in 0..marks.len() {
-        if marks[gate] && cuts[gate] && since[gate] == 0 {
-            let missed = difference(d, set, rails[first as usize + gate].known)?;
-            if missed == Node::of(false) {
-                since[gate] = number;
-            } else {
-                left = missed;
-            }
+        let pending = is_pending(marks, cuts, since, gate);
+        let missed = missed_at(d, pending, rails[first as usize + gate], set)?;
+        if missed != Node::of(false) {
+            left = missed;
+        } else if pending {
+            since[gate] = number;
         }
     }
     Ok(left)
@@ -199,15 +224,16 @@ fn sweep_until_known(
     requires cone { length cone.now ≡ length net.now.gates }
     requires marks { length marks.now ≡ length net.now.gates }
     requires wires { AreWires net.now d.old before.items }
-    requires fits { FitSweeps net.now (loops_by blocks.now cut.now) d.old 0 before.items }
     requires set { IsNodeOf d.old set }
     requires since { length since.old ≡ length net.now.gates }
-    requires fresh { AreKnownSince net.now (loops_by blocks.now cut.now) (den d.old set) since.old }
     ensures wires { IfOk result (λ swept. AreWires net.now d.new swept.rails.items) }
-    ensures fits { IfOk result (λ swept. HasSwept net.now (loops_by blocks.now cut.now) d.new swept.rails.items) }
+    ensures fits { (laid : Layout) → FitSweeps net.now (loops_by blocks.now cut.now) d.old laid 0 before.items →
+        IfOk result (λ swept. HasSwept net.now (loops_by blocks.now cut.now) d.new laid swept.rails.items) }
     ensures hint { IfOk result (λ swept. IsNodeOf d.new swept.hint) }
     ensures width { length since.new ≡ length since.old }
-    ensures since { OnOk result (AreKnownSince net.now (loops_by blocks.now cut.now) (den d.old set) since.new) }
+    ensures since { (laid : Layout) → FitSweeps net.now (loops_by blocks.now cut.now) d.old laid 0 before.items →
+        AreKnownSince net.now (loops_by blocks.now cut.now) (vectors_of d.old set laid) since.old →
+        OnOk result (AreKnownSince net.now (loops_by blocks.now cut.now) (vectors_of d.old set laid) since.new) }
     ensures all { IfOk result (λ swept. swept.all ≡ true → HaveNumbers marks.now cut.now.wires since.new) }
     ensures keeps { KeepsNodes d.old d.new }
 {
@@ -255,10 +281,10 @@ fn are_determined(
     requires cone { length cone.now ≡ length net.now.gates }
     requires marks { length marks.now ≡ length net.now.gates }
     requires wires { AreWires net.now d.old swept.now.rails.items }
-    requires fits { HasSwept net.now (loops_by blocks.now cut.now) d.old swept.now.rails.items }
     requires set { IsNodeOf d.old set }
     ensures all { IfOk result (λ known. known ≡ true → swept.now.all ≡ true) }
-    ensures determined { IfOk result (λ known. known ≡ true → AreDetermined net.now (den d.old set) marks.now) }
+    ensures determined { (laid : Layout) → HasSwept net.now (loops_by blocks.now cut.now) d.old laid swept.now.rails.items →
+        IfOk result (λ known. known ≡ true → AreDetermined net.now (vectors_of d.old set laid) marks.now) }
     ensures keeps { KeepsNodes d.old d.new }
 {
     if !swept.all {
@@ -276,8 +302,8 @@ fn are_determined(
 /// The gates upstream are swept from nothing known until each cut wire is known, and once more. What is known so is
 /// determined whatever the data, since claims that fit the sweeps fit the fixpoint above them.
 ///
-/// `set` is a node over all columns, whose rails `columns` has. It leaves every earlier node its function, after a
-/// refusal too. `Full` comes where the diagrams hold as many nodes as they may.
+/// `set` is a node over all columns, whose rails `columns` has, laid on the variables in any order. It leaves every
+/// earlier node its function, after a refusal too. `Full` comes where the diagrams hold as many nodes as they may.
 pub fn known_whatever_the_data(
     alloc: Global,
     d: &mut Diagrams,
@@ -293,11 +319,12 @@ pub fn known_whatever_the_data(
     requires cut { IsCutOf net.now cut.now }
     requires width { length columns.now ≡ first_gate net.now }
     requires rails { All (AreRailsOf d.old) columns.now }
-    requires values { (v : List Bool) → length v ≡ first_gate net.now → values_of d.old columns.now v ≡ bits v }
     requires kept { length kept.now ≡ length columns.now }
     requires marks { length marks.now ≡ length net.now.gates }
     requires set { IsNodeOf d.old set }
-    ensures known { IfOk result (IsKnowledge net.now (loops_by blocks.now cut.now) (den d.old set) marks.now) }
+    ensures known { (laid : Layout) → AreLaid net.now d.old columns.now laid →
+        IfOk result (IsKnowledge net.now (loops_by blocks.now cut.now) (vectors_of d.old set laid) marks.now) }
+    ensures gates { IfOk result (HasGates net.now) }
     ensures hint { IfOk result (HasHint d.new) }
     ensures keeps { KeepsNodes d.old d.new }
 {

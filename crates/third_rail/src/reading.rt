@@ -9,7 +9,7 @@ ghost use Rattle.loops.specs.Blocks.{AreBlocksOf};
 ghost use Rattle.loops.specs.Cuts.{IsCutOf, loops_by};
 ghost use Rattle.third_rail.specs.Claims.{Fits, EachFits};
 ghost use Rattle.third_rail.specs.Nodes.{AreNodes, claim_of, claims_of};
-ghost use Rattle.third_rail.specs.Sweeping.{is_cut_read as is_cut_read_of, rails_read as rails_read_of, AreWires, FitSweeps};
+ghost use Rattle.third_rail.specs.Sweeping.{is_cut_read as is_cut_read_of, rails_read as rails_read_of, AreWires, FitSweeps, Layout};
 
 use crate::lifting::lift_rails;
 use crate::rails::ThreeRails;
@@ -126,9 +126,9 @@ pub(crate) fn set_gate(
     requires before { AreWires net.now d.old before.now }
     requires wires { AreWires net.now d.old rails.old }
     ensures wires { OnOk result (AreWires net.now d.new rails.new) }
-    ensures fits { (k : ℕ) → FitSweeps net.now (loops_by blocks.now cut.now) d.old k before.now →
-        FitSweeps net.now (loops_by blocks.now cut.now) d.old (suc k) rails.old →
-        OnOk result (FitSweeps net.now (loops_by blocks.now cut.now) d.new (suc k) rails.new) }
+    ensures fits { (laid : Layout) (k : ℕ) → FitSweeps net.now (loops_by blocks.now cut.now) d.old laid k before.now →
+        FitSweeps net.now (loops_by blocks.now cut.now) d.old laid (suc k) rails.old →
+        OnOk result (FitSweeps net.now (loops_by blocks.now cut.now) d.new laid (suc k) rails.new) }
     ensures keeps { KeepsNodes d.old d.new }
 {
     let pins = pins_read(alloc, net, blocks, cut, before, rails, gate)?;

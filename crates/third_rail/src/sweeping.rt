@@ -4,7 +4,7 @@ ghost use Rattle.std.specs.Prelude.{◌≡◌, ◌<◌, ℕ, suc, length, All, I
 ghost use Rattle.bdd_store.specs.Growth.{KeepsNodes};
 ghost use Rattle.loops.specs.Blocks.{AreBlocksOf};
 ghost use Rattle.loops.specs.Cuts.{IsCutOf, loops_by};
-ghost use Rattle.third_rail.specs.Sweeping.{AreWires, FitSweeps};
+ghost use Rattle.third_rail.specs.Sweeping.{AreWires, FitSweeps, Layout};
 
 use crate::cones::{gates_at, home_at};
 use crate::rails::ThreeRails;
@@ -39,9 +39,9 @@ fn set_gates(
     requires before { AreWires net.now d.old before.now }
     requires wires { AreWires net.now d.old rails.old }
     ensures wires { OnOk result (AreWires net.now d.new rails.new) }
-    ensures fits { (k : ℕ) → FitSweeps net.now (loops_by blocks.now cut.now) d.old k before.now →
-        FitSweeps net.now (loops_by blocks.now cut.now) d.old (suc k) rails.old →
-        OnOk result (FitSweeps net.now (loops_by blocks.now cut.now) d.new (suc k) rails.new) }
+    ensures fits { (laid : Layout) (k : ℕ) → FitSweeps net.now (loops_by blocks.now cut.now) d.old laid k before.now →
+        FitSweeps net.now (loops_by blocks.now cut.now) d.old laid (suc k) rails.old →
+        OnOk result (FitSweeps net.now (loops_by blocks.now cut.now) d.new laid (suc k) rails.new) }
     ensures keeps { KeepsNodes d.old d.new }
 {
     for gate in order {
@@ -69,9 +69,9 @@ fn sweep_block(
     requires before { AreWires net.now d.old before.now }
     requires wires { AreWires net.now d.old rails.old }
     ensures wires { OnOk result (AreWires net.now d.new rails.new) }
-    ensures fits { (k : ℕ) → FitSweeps net.now (loops_by blocks.now cut.now) d.old k before.now →
-        FitSweeps net.now (loops_by blocks.now cut.now) d.old (suc k) rails.old →
-        OnOk result (FitSweeps net.now (loops_by blocks.now cut.now) d.new (suc k) rails.new) }
+    ensures fits { (laid : Layout) (k : ℕ) → FitSweeps net.now (loops_by blocks.now cut.now) d.old laid k before.now →
+        FitSweeps net.now (loops_by blocks.now cut.now) d.old laid (suc k) rails.old →
+        OnOk result (FitSweeps net.now (loops_by blocks.now cut.now) d.new laid (suc k) rails.new) }
     ensures keeps { KeepsNodes d.old d.new }
 {
     if !wanted[gate as usize] {
@@ -99,9 +99,9 @@ fn sweep_blocks(
     requires before { AreWires net.now d.old before.now }
     requires wires { AreWires net.now d.old rails.old }
     ensures wires { OnOk result (AreWires net.now d.new rails.new) }
-    ensures fits { (k : ℕ) → FitSweeps net.now (loops_by blocks.now cut.now) d.old k before.now →
-        FitSweeps net.now (loops_by blocks.now cut.now) d.old (suc k) rails.old →
-        OnOk result (FitSweeps net.now (loops_by blocks.now cut.now) d.new (suc k) rails.new) }
+    ensures fits { (laid : Layout) (k : ℕ) → FitSweeps net.now (loops_by blocks.now cut.now) d.old laid k before.now →
+        FitSweeps net.now (loops_by blocks.now cut.now) d.old laid (suc k) rails.old →
+        OnOk result (FitSweeps net.now (loops_by blocks.now cut.now) d.new laid (suc k) rails.new) }
     ensures keeps { KeepsNodes d.old d.new }
 {
     for place in 0..blocks.list.items().len() {
@@ -127,8 +127,8 @@ pub(crate) fn sweep(
     requires wanted { length wanted.now ≡ length net.now.gates }
     requires before { AreWires net.now d.old before.now }
     ensures wires { IfOk result (λ rails. AreWires net.now d.new rails.items) }
-    ensures fits { (k : ℕ) → FitSweeps net.now (loops_by blocks.now cut.now) d.old k before.now →
-        IfOk result (λ rails. FitSweeps net.now (loops_by blocks.now cut.now) d.new (suc k) rails.items) }
+    ensures fits { (laid : Layout) (k : ℕ) → FitSweeps net.now (loops_by blocks.now cut.now) d.old laid k before.now →
+        IfOk result (λ rails. FitSweeps net.now (loops_by blocks.now cut.now) d.new laid (suc k) rails.items) }
     ensures keeps { KeepsNodes d.old d.new }
 {
     let mut rails = copied(alloc, before)?;

@@ -11,15 +11,11 @@ mod diagrams;
 #[cfg(test)]
 mod fixpoints;
 #[cfg(test)]
-mod flattening;
-#[cfg(test)]
 mod graphs;
 #[cfg(test)]
 mod lines;
 #[cfg(test)]
 mod lists;
-#[cfg(test)]
-mod models;
 #[cfg(test)]
 mod netlists;
 #[cfg(test)]
@@ -28,10 +24,6 @@ mod rails;
 mod refused;
 #[cfg(test)]
 mod settling;
-#[cfg(test)]
-mod simulations;
-#[cfg(test)]
-mod storms;
 #[cfg(test)]
 mod texts;
 #[cfg(test)]

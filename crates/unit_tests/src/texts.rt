@@ -6,7 +6,7 @@ ghost use Rattle.blif_read.specs.Flattening.{CanBeFlattened};
 
 use blif_read::{Models, read};
 use cyc_base::Name;
-use flatten::{FlatFault, flatten};
+use flatten::flatten;
 use netlist::Netlist;
 use std::alloc::Global;
 use std::test::Fail;
@@ -28,13 +28,6 @@ pub fn net_of(alloc: Global, text: &[u8]) -> Result<Netlist, Fail>
     let models = models_of(alloc, text)?;
     let top = Name::new(b"m".to_vec(alloc)?);
     Ok(flatten(alloc, &models, &top)?)
-}
-
-/// Why a text's model `m` has no flat netlist.
-pub fn fault_of(alloc: Global, text: &[u8]) -> Result<Option<FlatFault>, Fail> {
-    let models = models_of(alloc, text)?;
-    let top = Name::new(b"m".to_vec(alloc)?);
-    Ok(flatten(alloc, &models, &top).err())
 }
 
 /// The netlist of this model of a text, if it has one.

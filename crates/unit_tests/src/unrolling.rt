@@ -1,8 +1,9 @@
 //! Netlists without their loops, as texts, and those that are too large.
 
-use crate::flattening::is_written;
 use crate::texts::net_of;
+use blif_write::write;
 use cyc_base::Items;
+use cyc_io::MemorySink;
 use loops::{SweepCounts, find_blocks, find_cut};
 use netlist::Netlist;
 use std::alloc::Global;
@@ -41,6 +42,13 @@ fn row(number: u32) -> (&'static [u8], u32, &'static [u8]) {
             b".model m\n.inputs x\n.outputs a\n.names x a\n1 1\n.end\n",
         ),
     }
+}
+
+/// Whether the written text of a netlist is this.
+fn is_written(alloc: Global, net: &Netlist, flat: &[u8]) -> Result<bool, Fail> {
+    let mut sink = MemorySink::new(alloc, 400, Vec::new(alloc), 7)?;
+    write(net, &mut sink)?;
+    Ok(sink.bytes() == flat)
 }
 
 /// A netlist unrolled by so many sweeps of each loop.

@@ -1,9 +1,12 @@
-mod AloneLemmas
 mod CareLemmas
 mod CauseLemmas
+mod ConeLemmas
 mod CountLemmas
+mod CountingLemmas
 mod DecisionLemmas
+mod DeterminationLemmas
 mod EnoughLemmas
+mod KnownLemmas
 mod LeavesLemmas
 mod MarkLemmas
 mod NextLemmas
@@ -13,4 +16,5 @@ mod SizeLemmas
 mod SolutionLemmas
 mod StartLemmas
 mod VerdictLemmas
+mod WitnessLemmas
 mod WorkLemmas

@@ -1,7 +1,10 @@
-pub mod Alone
 pub mod Causes
+pub mod Cones
 pub mod Costs
+pub mod Counting
+pub mod Determination
 pub mod Enough
+pub mod Known
 pub mod Laws
 pub mod Next
 pub mod Observed

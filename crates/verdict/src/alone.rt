@@ -1,29 +1,19 @@
-//! Netlists whose loops are settled by themselves, so that no diagrams of the whole are wanted.
+//! Loops that are settled by themselves, so that no diagrams of the whole are wanted.
 
-ghost use Rattle.std.specs.Prelude.{◌≡◌, ◌<◌, ◌≤◌, ℕ, None, true, length, IfOk, IfSome};
-ghost use Rattle.bdd_store.specs.Growth.{KeepsNodes};
-ghost use Rattle.netlist.specs.Netlists.{IsNetlist};
-ghost use Rattle.loops.specs.declared.parts.Cut.{Cut};
-ghost use Rattle.loops.specs.Blocks.{AreBlocksOf};
-ghost use Rattle.loops.specs.Cuts.{IsCutOf};
+ghost use Rattle.std.specs.Prelude.{◌≡◌, ◌<◌, ◌≤◌, true, length, IfOk};
+ghost use Rattle.loops.specs.Blocks.{AreBlocksOf, block_at};
 ghost use Rattle.fixpoint.specs.Working.{HasLargeCover};
-ghost use Rattle.refusals.specs.Refusals.{empty_refusal};
-ghost use Rattle.refusals.specs.declared.observe.Observe.{Observe};
-ghost use Rattle.verdict.specs.Alone.{AreSingleSweeps, IsSingle};
-ghost use Rattle.verdict.specs.Verdicts.{IsAcceptance};
+ghost use Rattle.isolation.specs.Settled.{SettleInSweeps};
+ghost use Rattle.verdict.specs.Determination.{SettleInOneSweep};
 
 use bdd_ops::Diagrams;
 use bdd_store::StoreFault;
-use care_sets::Care;
-use cyc_base::{Items, MAX_NODES};
+use cyc_base::MAX_NODES;
 use dual_rail::local;
 use isolation::settles_alone;
-use loops::{Blocks, SweepCounts};
+use loops::Blocks;
 use netlist::Netlist;
 use std::alloc::{AllocError, Global};
-
-/// The most nodes that are spent on one loop by itself, so that a loop which isn't settled soon costs little.
-const LOOP_NODES: u32 = 100_000;
 
 /// How many nodes there may be.
 pub(crate) fn limit_of(d: &Diagrams) -> u32
@@ -40,7 +30,7 @@ fn may_exceed(pins: usize, limit: u32) -> bool {
 }
 
 /// Full where a cover has more nodes than the limit, as it would be in the netlist's own diagrams.
-fn fit_covers(alloc: Global, net: &Netlist, limit: u32) -> Result<(), StoreFault>
+pub(crate) fn fit_covers(alloc: Global, net: &Netlist, limit: u32) -> Result<(), StoreFault>
     requires { limit ≤ MAX_NODES }
     ensures full { result ≡ Err StoreFault.Full → HasLargeCover net.now limit }
 {
@@ -53,80 +43,47 @@ fn fit_covers(alloc: Global, net: &Netlist, limit: u32) -> Result<(), StoreFault
     Ok(())
 }
 
-/// The sweeps of a block: 1 for a loop that is settled by itself in one, and 0 where it is no loop.
-fn sweeps_alone(
+/// Whether the block at this place is settled by itself in one sweep, or is no loop.
+fn is_settled(
     alloc: Global,
     net: &Netlist,
     blocks: &Blocks,
-    place: u32,
+    place: usize,
     budget: u32,
-) -> Result<Option<u32>, AllocError>
+) -> Result<bool, AllocError>
     requires blocks { AreBlocksOf net.now blocks.now }
     requires place { place < length blocks.now.list }
     requires budget { budget ≤ MAX_NODES }
-    ensures { IfOk result (λ found. IfSome found (IsSingle net.now blocks.now place)) }
+    ensures { IfOk result (λ settled. settled ≡ true → (block_at blocks.now place).looped ≡ true → SettleInSweeps net.now (block_at blocks.now place).gates 1) }
 {
-    if !blocks.list.items()[place as usize].looped {
-        return Ok(Some(0));
+    if !blocks.list.items()[place].looped {
+        return Ok(true);
     }
-    match settles_alone(alloc, net, blocks, place, budget)? {
-        Some(1) => Ok(Some(1)),
-        _ => Ok(None),
+    let Ok(number) = u32::try_from(place) else {
+        return Ok(false);
+    };
+    match settles_alone(alloc, net, blocks, number, budget)? {
+        Some(1) => Ok(true),
+        _ => Ok(false),
     }
 }
 
-/// One sweep for each loop, where each is settled by itself in one.
-fn single_sweeps(
+/// Marks the blocks that are settled by themselves in one sweep, and those that are no loops.
+pub(crate) fn settled_loops(
     alloc: Global,
     net: &Netlist,
     blocks: &Blocks,
     budget: u32,
-) -> Result<Option<SweepCounts>, AllocError>
+) -> Result<Vec<bool>, AllocError>
     requires blocks { AreBlocksOf net.now blocks.now }
     requires budget { budget ≤ MAX_NODES }
-    ensures { IfOk result (λ found. IfSome found (AreSingleSweeps net.now blocks.now)) }
+    ensures width { IfOk result (λ settled. length settled.items ≡ length blocks.now.list) }
+    ensures settled { IfOk result (λ settled. SettleInOneSweep net.now blocks.now settled.items) }
 {
-    let Ok(number) = u32::try_from(blocks.list.items().len()) else {
-        return Ok(None);
-    };
-    let mut counts = Vec::with_capacity(alloc, number as usize)?;
+    let number = blocks.list.items().len();
+    let mut settled = Vec::with_capacity(alloc, number)?;
     for place in 0..number {
-        let Some(sweeps) = sweeps_alone(alloc, net, blocks, place, budget)? else {
-            return Ok(None);
-        };
-        counts.push(sweeps)?;
+        settled.push(is_settled(alloc, net, blocks, place, budget)?)?;
     }
-    Ok(Some(SweepCounts {
-        per_block: Items::of(counts),
-    }))
-}
-
-/// The sweeps of the loops, where each loop is settled by itself in one sweep and there is no invariant: then the
-/// netlist is accepted on each care set with a vector, and no gate is unknown there. Full where a cover has more nodes than the limit.
-pub(crate) fn settled_counts(
-    alloc: Global,
-    net: &Netlist,
-    blocks: &Blocks,
-    care: &Care,
-    limit: u32,
-) -> Result<Option<SweepCounts>, StoreFault>
-    requires blocks { AreBlocksOf net.now blocks.now }
-    requires limit { limit ≤ MAX_NODES }
-    ensures accepted { (cut : Cut) (what : Observe) → IsCutOf net.now cut → empty_refusal net.now care.now ≡ None →
-        IfOk result (λ found. IfSome found (λ counts. IsAcceptance net.now blocks.now cut care.now what counts 0)) }
-    ensures full { result ≡ Err StoreFault.Full → HasLargeCover net.now limit }
-    ensures valid { IsNetlist net.now }
-{
-    let _ = net.gates();
-    match care.invariant() {
-        Some(_) => return Ok(None),
-        None => {}
-    }
-    let Ok(found) = single_sweeps(alloc, net, blocks, limit.min(LOOP_NODES)) else {
-        return Err(StoreFault::Memory);
-    };
-    if found.is_some() {
-        fit_covers(alloc, net, limit)?;
-    }
-    Ok(found)
+    Ok(settled)
 }

@@ -37,7 +37,7 @@ pub enum Start {
 }
 
 /// The vectors whose states are in the invariant.
-fn inside_on(
+pub(crate) fn inside_on(
     alloc: Global,
     d: &mut Diagrams,
     net: &Netlist,
@@ -57,7 +57,7 @@ fn inside_on(
 }
 
 /// The vectors of a set on which the assumption holds.
-fn care_on(
+pub(crate) fn care_on(
     alloc: Global,
     d: &mut Diagrams,
     care: &Care,

@@ -12,10 +12,12 @@ ghost use Rattle.verdict.specs.Enough.{GrowsInDecision, IsFullFor, IsBelowEnough
 ghost use Rattle.verdict.specs.Sets.{AreFixed, Tells};
 ghost use Rattle.verdict.specs.Verdicts.{later_refusal, IsVerdict, StandSo};
 
-use crate::alone::{limit_of, settled_counts};
+use crate::alone::limit_of;
 use crate::beginning::{Start, begin};
+use crate::determined::determined_counts;
 use crate::fault::DecideFault;
 use crate::gates::Gates;
+use crate::leaving::{Step, leaving};
 use crate::refusing::{gates_on, leaves};
 use crate::verdict::Verdict;
 use bdd_ops::Diagrams;
@@ -88,10 +90,13 @@ fn judge(
         Start::Refused(refusal) => return Ok(Verdict::Refused(refusal)),
     };
     let limit = limit_of(d);
-    let alone = settled_counts(alloc, net, blocks, care, limit)?;
-    match alone {
-        Some(sweeps) => return Ok(Verdict::Accepted { sweeps, loose: 0 }),
-        None => {}
+    let determined = determined_counts(alloc, net, blocks, cut, care, limit)?;
+    if let Some(sweeps) = determined {
+        match leaving(alloc, net, blocks, care, limit)? {
+            Step::Stays => return Ok(Verdict::Accepted { sweeps, loose: 0 }),
+            Step::Leaves(refusal) => return Ok(Verdict::Refused(refusal)),
+            Step::Undecided => {}
+        }
     }
     let solved = solve(alloc, d, net, blocks, cut, &rails)?;
     let gates = later(

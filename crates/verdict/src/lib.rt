@@ -9,16 +9,22 @@
 mod alone;
 mod beginning;
 mod care;
+mod cones;
+mod counting;
 mod deciding;
+mod determined;
 mod fault;
 mod gates;
 mod initial;
+mod known;
 pub mod laws;
+mod leaving;
 mod next;
 mod observing;
 mod refusing;
 mod sets;
 mod verdict;
+mod witness;
 
 pub use deciding::decide;
 pub use fault::DecideFault;

@@ -1,44 +1,8 @@
-use Rattle.std.proofs.Common.{◌≡◌, Bool, List, length, sym, ap, subst, ◌∙◌}
-use Rattle.std.specs.Prelude.{All}
-use Rattle.std.proofs.lemmas.Result.{err_from_is_err_and}
-use Rattle.cyc_tool.specs.Plays.{known}
-use Rattle.cyc_tool.specs.Seen.{outcome_of, stop_outcome}
-use Rattle.cyc_tool.proofs.ReplayLemmas.{replay_lacks, replays, vectors_stop}
-use Rattle.cyc_tool.proofs.TickLemmas.{known_width}
+use Rattle.cyc_tool.specs.Seen.{end_of}
+use Rattle.cyc_tool.proofs.ReplayLemmas.{netlist_replays}
 use Rattle.cyc_tool.proofs.top.delays.Goals as goal
-
-pub returns-in_err-found-clause-comes : goal.returns-in_err-found-clause-comes
-returns-in_err-found-clause-comes g c =
-    let q = err_from_is_err_and c.from_residual-in_err-found.result c.from_residual-in_err-found.ensures.1 in
-    rw (q.1, q.2)
-    (vectors_stop _ c.args.probe c.args.recorded.now c.args.netlist.now c.args.vectors.now c.in_ok-net.net _ _ _ _ _ (stop_outcome c.in_err-found.field-0.0)
-    c.read_netlist.ensures.same c.in_ok-net.ensures.good c.in_err-found.ensures.bad)
-
-pub returns-in_err-inputs-clause-comes : goal.returns-in_err-inputs-clause-comes
-returns-in_err-inputs-clause-comes g c =
-    let q = err_from_is_err_and c.from_residual-in_err-inputs.result c.from_residual-in_err-inputs.ensures.1 in
-    rw (q.1, q.2)
-    (replay_lacks _ c.args.probe c.args.recorded.now c.args.netlist.now c.args.vectors.now c.in_ok-net.net c.in_ok-found.found.items _ _ _ _ _ _
-    c.read_netlist.ensures.same c.in_ok-net.ensures.good c.read_vector_file.ensures.same c.in_ok-found.ensures.good)
-
-pub play_file-requires-clause-inputs : goal.play_file-requires-clause-inputs
-play_file-requires-clause-inputs g c =
-    let same : c.deref-2.result.now ≡ known c.in_ok-found.found.items = c.deref-2.ensures.value ∙ c.in_ok-inputs.ensures ∙ ap known c.deref.ensures.value in
-    let P : List (List Bool) → Type 0 = λ vectors. All (λ (inputs : List Bool). length inputs ≡ length c.in_ok-net.net.inputs) vectors in
-    subst P (sym same) (known_width (length c.in_ok-net.net.inputs) c.in_ok-found.found.items c.in_ok-found.ensures.width)
-
-pub returns-in_err-play_file-clause-comes : goal.returns-in_err-play_file-clause-comes
-returns-in_err-play_file-clause-comes g c =
-    let q = err_from_is_err_and c.from_residual-in_err-play_file.result c.from_residual-in_err-play_file.ensures.1 in
-    let same : c.deref-2.result.now ≡ known c.in_ok-found.found.items = c.deref-2.ensures.value ∙ c.in_ok-inputs.ensures ∙ ap known c.deref.ensures.value in
-    rw (q.1, q.2)
-    (replays _ c.args.probe c.args.recorded.now c.args.netlist.now c.args.vectors.now c.in_ok-net.net c.in_ok-found.found.items c.deref-2.result.now
-    _ _ _ _ _ _ _ (stop_outcome c.in_err-play_file.field-0.0) c.read_netlist.ensures.same c.in_ok-net.ensures.good
-    c.read_vector_file.ensures.same c.in_ok-found.ensures.good same c.in_err-play_file.ensures.comes)
 
 pub returns-clause-comes : goal.returns-clause-comes
 returns-clause-comes g c =
-    let same : c.deref-2.result.now ≡ known c.in_ok-found.found.items = c.deref-2.ensures.value ∙ c.in_ok-inputs.ensures ∙ ap known c.deref.ensures.value in
-    replays _ c.args.probe c.args.recorded.now c.args.netlist.now c.args.vectors.now c.in_ok-net.net c.in_ok-found.found.items c.deref-2.result.now
-    _ _ _ _ _ _ _ (outcome_of c.in_ok-play_file.field-0) c.read_netlist.ensures.same c.in_ok-net.ensures.good
-    c.read_vector_file.ensures.same c.in_ok-found.ensures.good same c.in_ok-play_file.ensures.comes
+    netlist_replays _ c.args.probe c.args.recorded.now c.args.netlist.now c.args.vectors.now c.in_ok-net.net _ _ _ _ _ (end_of c.replay.result)
+    c.read_netlist.ensures.same c.in_ok-net.ensures.good c.replay.ensures.comes

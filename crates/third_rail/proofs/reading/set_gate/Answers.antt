@@ -20,8 +20,8 @@ returns-clause-wires c =
     (ap (λ n. set c.args.rails.now n c.in_ok-made.made) (omega (arith, c.inputs.ensures.inputs, c.latches.ensures.latches)))
 
 pub returns-clause-fits : goal.returns-clause-fits
-returns-clause-fits c k old now =
-    FitSweeps-set c.args.net.now c.args.blocks.now c.args.cut.now c.args.d.now c.gate_rails.new.d k c.args.gate c.args.before.now c.args.rails.now _ c.in_ok-made.made
+returns-clause-fits c laid k old now =
+    FitSweeps-set c.args.net.now c.args.blocks.now c.args.cut.now c.args.d.now c.gate_rails.new.d laid k c.args.gate c.args.before.now c.args.rails.now _ c.in_ok-made.made
     c.inputs.ensures.valid c.requires.gate c.gate_rails.ensures.keeps c.requires.before c.requires.wires old now
     (λ v values width fits. c.in_ok-made.ensures.fits v values width (subst (λ (list : List ThreeRails). EachFits (claims_of c.args.d.now list v) values) (sym (c.deref.ensures.value ∙ c.in_ok-pins.ensures)) fits))
     (ap (λ n. set c.args.rails.now n c.in_ok-made.made) (omega (arith, c.inputs.ensures.inputs, c.latches.ensures.latches)))

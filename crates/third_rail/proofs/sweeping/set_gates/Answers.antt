@@ -10,8 +10,8 @@ pub loop-gate-preserved : goal.loop-gate-preserved
 loop-gate-preserved c = record {
   keeps = KeepsNodes-chain c.loop-gate.invariant.keeps c.set_gate.ensures.keeps;
   wires = c.in_ok-set_gate.ensures.wires;
-  fits = λ k old now.
-      c.in_ok-set_gate.ensures.fits k
-      (FitSweeps-kept c.args.net.now (loops_by c.args.blocks.now c.args.cut.now) c.args.d.now c.loop-gate.d k c.args.before.now c.loop-gate.invariant.keeps c.requires.before.nodes old)
-      (c.loop-gate.invariant.fits k old now);
+  fits = λ laid k old now.
+      c.in_ok-set_gate.ensures.fits laid k
+      (FitSweeps-kept c.args.net.now (loops_by c.args.blocks.now c.args.cut.now) c.args.d.now c.loop-gate.d laid k c.args.before.now c.loop-gate.invariant.keeps c.requires.before.nodes old)
+      (c.loop-gate.invariant.fits laid k old now);
 }

@@ -10,8 +10,8 @@ pub loop-place-preserved : goal.loop-place-preserved
 loop-place-preserved c = record {
   keeps = KeepsNodes-chain c.loop-place.invariant.keeps c.sweep_block.ensures.keeps;
   wires = c.in_ok-sweep_block.ensures.wires;
-  fits = λ k old now.
-      c.in_ok-sweep_block.ensures.fits k
-      (FitSweeps-kept c.args.net.now (loops_by c.args.blocks.now c.args.cut.now) c.args.d.now c.loop-place.d k c.args.before.now c.loop-place.invariant.keeps c.requires.before.nodes old)
-      (c.loop-place.invariant.fits k old now);
+  fits = λ laid k old now.
+      c.in_ok-sweep_block.ensures.fits laid k
+      (FitSweeps-kept c.args.net.now (loops_by c.args.blocks.now c.args.cut.now) c.args.d.now c.loop-place.d laid k c.args.before.now c.loop-place.invariant.keeps c.requires.before.nodes old)
+      (c.loop-place.invariant.fits laid k old now);
 }

@@ -1,7 +1,5 @@
-use Rattle.std.proofs.Common.{◌-◌, is_ok}
-use Rattle.std.specs.Vec.{vec_len}
-use Rattle.bdd_ops.proofs.ComputedLemmas.{AreComputed-resized, AreComputed-none}
+use Rattle.bdd_ops.proofs.ComputedLemmas.{AreComputed-idle}
 use Rattle.bdd_ops.proofs.computed.ComputedTable.new.Goals as goal
 
 pub returns : goal.returns
-returns c s = AreComputed-resized s c.new-slots.result.items c.resize.new.self.items 256 (256 - vec_len c.new-slots.result) c.idle.result (is_ok c.resize.result) c.resize.ensures.items (c.idle.ensures s) (AreComputed-none s c.new-slots.result.items c.new-slots.ensures.items)
+returns c s = AreComputed-idle s c.in_ok-choices.choices c.in_ok-others.others c.idle_choice.result c.idle.result c.in_ok-choices.ensures c.in_ok-others.ensures (c.idle_choice.ensures s) (c.idle.ensures s)

@@ -1,0 +1,42 @@
+#!/usr/bin/env bash
+# Decides designs that come with Debian's source packages of yosys and fpga-icestorm: arithmetic, memories, state
+# machines, UARTs, small processors, benchmark circuits. yosys makes a BLIF netlist of each with one kind of flip-flop.
+# It prints time, peak memory, gates and what `check` says of each, and then how many came to what.
+#   bench/real.sh            fetches the sources (`apt-get source`, which wants a deb-src line) and makes the netlists
+#   bench/real.sh FOLDER     the same with FOLDER, which may have the sources' trees, and keeps the netlists there
+set -u
+top=$(cd "$(dirname "$0")/.." && pwd) || exit 1
+if [ $# -gt 0 ]; then
+    dir=$(cd "$1" && pwd) || exit 1
+else
+    dir=$(mktemp -d) || exit 1
+    trap 'rm -rf "$dir"' EXIT
+fi
+
+sources() {
+    find "$dir"/*yosys*/tests/{asicworld,hana,simple,sat,sim,arch/common} "$dir"/*yosys*/examples \
+        "$dir"/*icestorm*/{examples,icefuzz/tests} -name '*.v' 2>/dev/null | sort
+}
+
+netlist() {
+    yosys -q -p "read_verilog -sv $1; hierarchy -auto-top; synth -flatten; async2sync; dffunmap; \
+        dfflegalize -cell \$_DFF_P_ 01; simplemap; opt_clean; write_blif $2" >/dev/null 2>&1
+}
+
+[ -n "$(sources)" ] || (cd "$dir" && apt-get source -qq yosys fpga-icestorm >/dev/null 2>&1)
+mkdir -p "$dir/netlists"
+sources | while read -r design; do
+    name=${design#"$dir"/}
+    blif=$dir/netlists/$(echo "${name%.v}" | tr / _).blif
+    [ -e "$blif" ] || netlist "$design" "$blif" || rm -f "$blif"
+done
+
+"$top/cyc" check "$top/examples/full_adder.blif" >/dev/null 2>&1 # builds the program where it isn't built
+for blif in "$dir"/netlists/*.blif; do
+    /usr/bin/time -o "$dir/time" -f "%U %S %M" "$top/cyc" check "$blif" >"$dir/out" 2>&1
+    line=$(head -n 1 "$dir/out" | sed "s#$dir/netlists/##" | cut -c1-90)
+    tail -n 1 "$dir/time" | awk -v name="$(basename "$blif" .blif)" -v line="$line" \
+        '{ printf "%7.2f s %8d kB  %-50s %s\n", $1 + $2, $3, name, line }'
+done | tee "$dir/told"
+awk '{ told[$6]++ } END { for (word in told) print told[word], word }' "$dir/told"
+sort -rn "$dir/told" | head -n 1

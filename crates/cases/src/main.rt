@@ -1,0 +1,83 @@
+// Worked cases: each line of standard input has the words of one call of `cyc`, over the files of this folder. What each
+// call tells, on out and then on err, and its status stand below its words.
+#![tactic(auto)]
+
+ghost use Rattle.std.specs.Prelude.{◌≡◌, [], All, OnOk};
+
+use bdd_ops::Diagrams;
+use cyc_base::Name;
+use cyc_io::{HostShelf, HostSink};
+use cyc_tool::run;
+use probes::{Glitches, LastRound, Probe, Trace};
+use std::alloc::{AllocError, Global};
+use std::io;
+use vcd_out::VcdOut;
+
+// The words of a line.
+fn words_of(alloc: Global, line: &str) -> Result<Vec<Name>, AllocError> {
+    let mut words = Vec::new(alloc);
+    for word in line.split_ascii_whitespace() {
+        words.push(Name::new(word.as_bytes().to_vec(alloc)?))?;
+    }
+    Ok(words)
+}
+
+// Adds a probe that has heard nothing.
+fn add_probe(probes: &mut Vec<Box<dyn Probe>>, probe: Box<dyn Probe>) -> Result<(), AllocError>
+    requires silent { All (λ probe. heard probe ≡ []) probes.old.items }
+    requires new { heard probe ≡ [] }
+    ensures { OnOk result (All (λ probe. heard probe ≡ []) probes.new.items) }
+{
+    probes.push(probe)?;
+    Ok(())
+}
+
+// The status of a call with these words and probes.
+fn status_with(
+    rt: &HostRuntime,
+    words: &[Name],
+    probes: Vec<Box<dyn Probe>>,
+) -> Result<u8, AllocError>
+    requires { All (λ probe. heard probe ≡ []) probes.items }
+{
+    let mut d = Diagrams::new(rt.alloc(), 0, 1)?;
+    let mut shelf = HostShelf::new(rt.alloc(), rt);
+    let mut out = HostSink::new(rt.stdout());
+    let mut err = HostSink::new(rt.stdout());
+    Ok(run(
+        rt.alloc(),
+        words,
+        &mut shelf,
+        &mut out,
+        &mut err,
+        &mut d,
+        probes,
+    ))
+}
+
+// The same with a probe of each kind.
+fn status_of(rt: &HostRuntime, words: &[Name]) -> Result<u8, AllocError> {
+    let alloc = rt.alloc();
+    let mut probes: Vec<Box<dyn Probe>> = Vec::new(alloc);
+    add_probe(&mut probes, Box::new(alloc, Trace::new(alloc))?)?;
+    add_probe(&mut probes, Box::new(alloc, Glitches::new(alloc))?)?;
+    add_probe(&mut probes, Box::new(alloc, LastRound::new(alloc))?)?;
+    add_probe(&mut probes, Box::new(alloc, VcdOut::new(alloc))?)?;
+    status_with(rt, words, probes)
+}
+
+// One call.
+fn show(rt: &HostRuntime, line: &str) -> io::Result<()> {
+    println!(rt; "$ cyc {line}")?;
+    let words = words_of(rt.alloc(), line)?;
+    let status = status_of(rt, &words)?;
+    println!(rt; "status {status}\n")
+}
+
+fn main(rt: HostRuntime) -> io::Result<()> {
+    let text = io::read_to_string(rt.alloc(), rt.stdin())?;
+    for line in text.lines() {
+        show(&rt, line)?;
+    }
+    Ok(())
+}

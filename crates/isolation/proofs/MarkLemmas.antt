@@ -1,0 +1,235 @@
+-- Marks while gates are marked from the last block to the first.
+use Rattle.std.proofs.Common.{◌≡◌, inl, inr, ◌⊎◌, ℕ, zero, suc, ◌+◌, ◌-◌, ◌<◌, ◌≤◌, Bool, true, false, List, [], ◌∷◌, length, get_or, refl, sym, ap, ◌∙◌, subst, arith, Contains, true≢false}
+use Rattle.std.proofs.Math.ListN.{set}
+use Rattle.std.proofs.lemmas.Bool.{cases_lt, cases_eq}
+use Rattle.std.proofs.lemmas.List.{get_or_default, get_or-set_same, get_or-set_other, length-set}
+use Rattle.std.specs.List.{list_any}
+use Rattle.cyc_base.specs.declared.sig.Sig.{Sig}
+use Rattle.netlist.specs.declared.parts.Parts.{Parts}
+use Rattle.netlist.specs.Netlists.{IsNetlist, no_gate, gate_at, gate_sig}
+use Rattle.netlist.specs.Walks.{Feeds}
+use Rattle.loops.specs.declared.parts.Blocks.{Blocks}
+use Rattle.loops.specs.Blocks.{AreBlocksOf, block_at, home_of}
+use Rattle.loops.specs.Sweeps.{first_gate}
+use Rattle.loops.proofs.Told.{gate_home, home_gate}
+use Rattle.loops.proofs.Walks.{leads-step}
+use Rattle.isolation.specs.Excerpts.{gate_in}
+use Rattle.isolation.specs.Laws.{IsUpstream}
+use Rattle.isolation.specs.Cones.{is_marked, AreUpstreamMarks, AddMarks, IsOnPin, IsNear, IsNearOne, HasMark, IsWithMark, AreMarkedFrom}
+use Rattle.isolation.proofs.UpstreamLemmas.{upstream-trans, same-up, upstream-closed}
+
+-- nothing is marked for want of a gate of the kind
+pub add-none : (kind : ℕ → Type 0) (old : List Bool) → ((m : ℕ) → ¬ kind m) → AddMarks kind old old
+add-none kind old none = record { width = refl; keeps = λ m is. is; adds = λ m k. absurd (none m k); only = λ m is. inl is }
+
+-- the same marks, for what is said otherwise
+pub add-same : (kind other : ℕ → Type 0) (old new : List Bool) → ((m : ℕ) → kind m → other m) → ((m : ℕ) → other m → kind m) → AddMarks kind old new → AddMarks other old new
+add-same kind other old new to from are = record {
+  width = are.width;
+  keeps = are.keeps;
+  adds = λ m k. are.adds m (from m k);
+  only = λ m is. elim (are.only m is) [ inl before ↦ inl before | inr k ↦ inr (to m k) ];
+}
+
+-- one kind after another
+pub add-both : (first second both : ℕ → Type 0) (old mid new : List Bool) → ((m : ℕ) → first m → both m) → ((m : ℕ) → second m → both m) → ((m : ℕ) → both m → first m ⊎ second m) →
+    AddMarks first old mid → AddMarks second mid new → AddMarks both old new
+add-both first second both old mid new to_first to_second from one two = record {
+  width = two.width ∙ one.width;
+  keeps = λ m is. two.keeps m (one.keeps m is);
+  adds = λ m k. elim (from m k) [ inl f ↦ two.keeps m (one.adds m f) | inr s ↦ two.adds m s ];
+  only = λ m is. elim (two.only m is) [
+    | inr s ↦ inr (to_second m s)
+    | inl before ↦ elim (one.only m before) [ inl o ↦ inl o | inr f ↦ inr (to_first m f) ]
+  ];
+}
+
+-- one gate is marked
+pub add-one : (marks : List Bool) (gate : ℕ) → gate < length marks → AddMarks (λ m. m ≡ gate) marks (set marks gate true)
+add-one marks gate less = record {
+  width = length-set marks gate true;
+  keeps = λ m is. elim (cases_eq m gate) [
+    | inl e ↦ ap (λ (n : ℕ). get_or (set marks gate true) n false) e ∙ get_or-set_same marks gate true false less
+    | inr ne ↦ get_or-set_other marks gate m true false ne ∙ is
+  ];
+  adds = λ m e. ap (λ (n : ℕ). get_or (set marks gate true) n false) e ∙ get_or-set_same marks gate true false less;
+  only = λ m is. elim (cases_eq m gate) [
+    | inl e ↦ inr e
+    | inr ne ↦ inl (sym (get_or-set_other marks gate m true false ne) ∙ is)
+  ];
+}
+
+module _ (net : Parts) (valid : IsNetlist net) (gate : ℕ) (less : gate < length net.gates) (pins : List Sig) (same : pins ≡ (gate_at net gate).pins) (k : ℕ) (d : Sig) (within : k < length pins) where
+  at-pin : (m : ℕ) → IsOnPin net (k + 1) gate m → IsOnPin net k gate m ⊎ (get_or pins k d ≡ gate_sig net m)
+  at-pin m on =
+      let e = on.early in
+      elim (cases_lt on.feeds.pin.0 k) [
+        | inl low ↦ inl (record { feeds = on.feeds; early = low })
+        | inr high ↦
+            let at : on.feeds.pin.0 ≡ k = omega (arith, e, high) in
+            inr (get_or_default pins k d (gate_sig net m) within ∙ ap (λ (xs : List Sig). get_or xs k (gate_sig net m)) same ∙ ap (λ (n : ℕ). get_or (gate_at net gate).pins n (gate_sig net m)) (sym at) ∙ on.feeds.pin.2)
+      ]
+
+  on-more : (m : ℕ) → IsOnPin net k gate m → IsOnPin net (k + 1) gate m
+  on-more m on = record { feeds = on.feeds; early = (let e = on.early in omega (arith, e)) }
+
+  -- one pin more
+  pub pin-more : (old marks new : List Bool) → AddMarks (IsOnPin net k gate) old marks → AddMarks (λ m. get_or pins k d ≡ gate_sig net m) marks new → AddMarks (IsOnPin net (k + 1) gate) old new
+  pin-more old marks new one two =
+      add-both (IsOnPin net k gate) (λ m. get_or pins k d ≡ gate_sig net m) (IsOnPin net (k + 1) gate) old marks new on-more
+      (λ m is. record { feeds = drives m is; early = omega arith }) at-pin one two
+    where
+      drives : (m : ℕ) → get_or pins k d ≡ gate_sig net m → Feeds net m gate
+      drives m is =
+          let here : k < length (gate_at net gate).pins = subst (λ (xs : List Sig). k < length xs) same within in
+          let e : get_or (gate_at net gate).pins k (gate_sig net m) ≡ gate_sig net m = ap (λ (xs : List Sig). get_or xs k (gate_sig net m)) (sym same) ∙ get_or_default pins k (gate_sig net m) d within ∙ is in
+          let b = valid.pins gate no_gate less k (gate_sig net m) here in
+          let n = ap (λ (q : Sig). q.0) e in
+          record { source = omega (arith, b, n); reader = less; pin = (k, here, e) }
+
+-- a signal that no gate drives, and one that a gate does
+pub driver-none : (net : Parts) (s : Sig) (marks : List Bool) (first : ℕ) → first ≡ first_gate net → s.0 < first → AddMarks (λ m. s ≡ gate_sig net m) marks marks
+driver-none net s marks first is low = add-none (λ m. s ≡ gate_sig net m) marks (λ m e. let n = ap (λ (q : Sig). q.0) e in omega (arith, is, n, low))
+
+pub driver-marked : (net : Parts) (s : Sig) (marks : List Bool) (first : ℕ) → first ≡ first_gate net → first ≤ s.0 → s.0 - first < length marks → AddMarks (λ m. s ≡ gate_sig net m) marks (set marks (s.0 - first) true)
+driver-marked net s marks first is high inside =
+    add-same (λ m. m ≡ s.0 - first) (λ m. s ≡ gate_sig net m) marks (set marks (s.0 - first) true)
+    (λ m e. ap (λ (n : ℕ). let r : Sig = record { 0 = n } in r) (omega (arith, is, high, e)))
+    (λ m e. let n = ap (λ (q : Sig). q.0) e in omega (arith, is, n, high))
+    (add-one marks (s.0 - first) inside)
+
+-- all pins
+pub pins-marked : (net : Parts) (gate k : ℕ) (pins : List Sig) (old new : List Bool) → pins ≡ (gate_at net gate).pins → length pins ≤ k → AddMarks (IsOnPin net k gate) old new → AddMarks (λ m. Feeds net m gate) old new
+pins-marked net gate k pins old new same all are = add-same (IsOnPin net k gate) (λ m. Feeds net m gate) old new (λ m on. on.feeds)
+    (λ m feeds. record { feeds = feeds; early = (let l = feeds.pin.1 in let e = ap (λ (xs : List Sig). length xs) same in omega (arith, l, e, all)) }) are
+
+pub near-marked : (net : Parts) (gate : ℕ) (marks new : List Bool) → gate < length marks → AddMarks (λ m. Feeds net m gate) (set marks gate true) new → AddMarks (IsNear net gate) marks new
+near-marked net gate marks new less are = add-both (λ m. m ≡ gate) (λ m. Feeds net m gate) (IsNear net gate) marks (set marks gate true) new (λ m e. inl e) (λ m f. inr f) (λ m n. n) (add-one marks gate less) are
+
+pub near-more : (net : Parts) (gates : List ℕ) (k d : ℕ) (old mid new : List Bool) → k < length gates → AddMarks (IsNearOne net gates k) old mid → AddMarks (IsNear net (get_or gates k d)) mid new → AddMarks (IsNearOne net gates (k + 1)) old new
+near-more net gates k d old mid new less one two =
+    let at : get_or gates k d ≡ gate_in gates k = get_or_default gates k d 0 less in
+    add-both (IsNearOne net gates k) (IsNear net (get_or gates k d)) (IsNearOne net gates (k + 1)) old mid new
+    (λ m near. record { place = near.place; within = (let w = near.within in omega (arith, w)); near = near.near })
+    (λ m near. record { place = k; within = omega arith; near = subst (λ (n : ℕ). IsNear net n m) at near })
+    (λ m near. elim (cases_lt near.place k) [
+      | inl low ↦ inl (record { place = near.place; within = low; near = near.near })
+      | inr high ↦
+          let w = near.within in
+          let is : near.place ≡ k = omega (arith, w, high) in
+          inr (subst (λ (n : ℕ). IsNear net n m) (ap (gate_in gates) is ∙ sym at) near.near)
+    ])
+    one two
+
+pub near-none : (net : Parts) (gates : List ℕ) (m : ℕ) → ¬ IsNearOne net gates 0 m
+near-none net gates m near = let w = near.within in omega (arith, w)
+
+-- whether one of the gates is marked
+any-mark : (marks : List Bool) (gates : List ℕ) → list_any (λ g. is_marked marks g) gates ≡ true → HasMark gates marks
+any-mark marks [] is = absurd (true≢false (sym is))
+any-mark marks (g ∷ gates) is = by (is_marked marks g) refl is (any-mark marks gates)
+  where
+    by : (b : Bool) → is_marked marks g ≡ b → list_any (λ n. is_marked marks n) (g ∷ gates) ≡ true → (list_any (λ n. is_marked marks n) gates ≡ true → HasMark gates marks) → HasMark (g ∷ gates) marks
+    by true here any rest = record { gate = g; among = (zero, omega arith, refl); marked = here }
+    by false here any rest =
+        let found = rest (rw here at any) in
+        record { gate = found.gate; among = (suc found.among.0, (let l = found.among.1 in omega (arith, l)), found.among.2); marked = found.marked }
+
+no-mark : (marks : List Bool) (gates : List ℕ) (m : ℕ) → list_any (λ g. is_marked marks g) gates ≡ false → Contains gates m → is_marked marks m ≡ true → ⊥
+no-mark marks [] m none c is = let l = c.1 in omega (arith, l)
+no-mark marks (g ∷ gates) m none c is = by (is_marked marks g) refl none c.0 c.1 c.2 (λ rest among. no-mark marks gates m rest among is)
+  where
+    by : (b : Bool) → is_marked marks g ≡ b → list_any (λ n. is_marked marks n) (g ∷ gates) ≡ false → (k : ℕ) → k < length (g ∷ gates) → get_or (g ∷ gates) k m ≡ m →
+        (list_any (λ n. is_marked marks n) gates ≡ false → Contains gates m → ⊥) → ⊥
+    by true here any k l e rest = true≢false (rw here at any)
+    by false here any zero l e rest = true≢false (sym is ∙ ap (is_marked marks) (sym e) ∙ here)
+    by false here any (suc k) l e rest = rest (rw here at any) (k, (omega (arith, l)), e)
+
+pub block-marked : (net : Parts) (gates : List ℕ) (old new : List Bool) → list_any (λ g. is_marked old g) gates ≡ true → AddMarks (IsNearOne net gates (length gates)) old new → AddMarks (IsWithMark net gates old) old new
+block-marked net gates old new any are = add-same (IsNearOne net gates (length gates)) (IsWithMark net gates old) old new (λ m near. record { mark = any-mark old gates any; near = near }) (λ m with. with.near) are
+
+pub block-passed : (net : Parts) (gates : List ℕ) (old : List Bool) → list_any (λ g. is_marked old g) gates ≡ false → AddMarks (IsWithMark net gates old) old old
+block-passed net gates old none = add-none (IsWithMark net gates old) old (λ m with. no-mark old gates with.mark.gate none with.mark.among with.mark.marked)
+
+module _ (net : Parts) (blocks : Blocks) (are : AreBlocksOf net blocks) (old : List Bool) where
+  pub marked-first : length old ≡ length net.gates → AreMarkedFrom net blocks old (length blocks.list) old
+  marked-first width = record {
+    width = width;
+    keeps = λ m is. is;
+    closed = λ m n feeds past is. absurd (let h = are.home n feeds.reader in omega (arith, h, past));
+    only = λ m is. record { gate = m; marked = is; upstream = inl refl };
+  }
+
+  pub marked-more : (b : ℕ) (gates : List ℕ) (marks new : List Bool) → b < length blocks.list → gates ≡ (block_at blocks b).gates → AreMarkedFrom net blocks old (b + 1) marks → AddMarks (IsWithMark net gates marks) marks new → AreMarkedFrom net blocks old b new
+  marked-more b gates marks new less same before added = record {
+    width = added.width ∙ before.width;
+    keeps = λ m is. added.keeps m (before.keeps m is);
+    closed = λ m n feeds past is. elim (cases_lt b (home_of blocks n)) [
+      | inl later ↦ elim (added.only n is) [
+        | inl was ↦ added.keeps m (before.closed m n feeds (omega (arith, later)) was)
+        | inr with ↦ absurd (let low = near-low n with.near in omega (arith, low, later))
+      ]
+      | inr early ↦
+          let here : home_of blocks n ≡ b = omega (arith, early, past) in
+          let c : Contains gates n = subst (λ (xs : List ℕ). Contains xs n) (sym same) (subst (λ (k : ℕ). Contains (block_at blocks k).gates n) here (home_gate net blocks are n feeds.reader)) in
+          let near : IsNearOne net gates (length gates) m = record { place = c.0; within = c.1; near = inr (subst (Feeds net m) (sym (get_or_default gates c.0 0 n c.1 ∙ c.2)) feeds) } in
+          elim (added.only n is) [
+            | inl was ↦ added.adds m (record { mark = record { gate = n; among = c; marked = was }; near = near })
+            | inr with ↦ added.adds m (record { mark = with.mark; near = near })
+          ]
+    ];
+    only = λ m is. elim (added.only m is) [
+      | inl was ↦ before.only m was
+      | inr with ↦
+          let mark = before.only with.mark.gate with.mark.marked in
+          let h = member with.mark.gate with.mark.among in
+          record {
+            gate = mark.gate;
+            marked = mark.marked;
+            upstream = upstream-trans net m with.mark.gate mark.gate (near-up m with.near with.mark.gate h.0 h.1) mark.upstream;
+          }
+    ];
+  }
+    where
+      member : (n : ℕ) → Contains gates n → (n < length net.gates) × (home_of blocks n ≡ b)
+      member n c = gate_home net blocks are b n less (subst (λ (xs : List ℕ). Contains xs n) same c)
+
+      at : (place : ℕ) → place < length gates → (gate_in gates place < length net.gates) × (home_of blocks (gate_in gates place) ≡ b)
+      at place l = member (gate_in gates place) (place, l, get_or_default gates place (gate_in gates place) 0 l)
+
+      near-low : (n : ℕ) → IsNearOne net gates (length gates) n → home_of blocks n ≤ b
+      near-low n near = by near.near
+        where
+          by : IsNear net (gate_in gates near.place) n → home_of blocks n ≤ b
+          by (inl e) = let h = at near.place near.within in let s = ap (home_of blocks) e ∙ h.1 in omega (arith, s)
+          by (inr feeds) = let h = at near.place near.within in let a = are.after_reads n (gate_in gates near.place) feeds in let s = h.1 in omega (arith, a, s)
+
+      near-up : (m : ℕ) → IsNearOne net gates (length gates) m → (g : ℕ) → g < length net.gates → home_of blocks g ≡ b → IsUpstream net m g
+      near-up m near g gl home = by near.near
+        where
+          h : (gate_in gates near.place < length net.gates) × (home_of blocks (gate_in gates near.place) ≡ b)
+          h = at near.place near.within
+
+          up : IsUpstream net (gate_in gates near.place) g
+          up = same-up net blocks are (gate_in gates near.place) g h.0 gl (h.1 ∙ sym home)
+
+          by : IsNear net (gate_in gates near.place) m → IsUpstream net m g
+          by (inl e) = subst (λ (k : ℕ). IsUpstream net k g) (sym e) up
+          by (inr feeds) = upstream-trans net m (gate_in gates near.place) g (inr (leads-step net m (gate_in gates near.place) feeds)) up
+
+  -- with places counted back
+  pub marked-back : (back count : ℕ) (gates : List ℕ) (marks new : List Bool) → count ≡ length blocks.list → back < count → gates ≡ (block_at blocks (count - 1 - back)).gates →
+      AreMarkedFrom net blocks old (length blocks.list - back) marks → AddMarks (IsWithMark net gates marks) marks new → AreMarkedFrom net blocks old (length blocks.list - (back + 1)) new
+  marked-back back count gates marks new all less same before added =
+      subst (λ (b : ℕ). AreMarkedFrom net blocks old b new) (let e : count - 1 - back ≡ length blocks.list - (back + 1) = omega (arith, all, less) in e)
+      (marked-more (count - 1 - back) gates marks new (omega (arith, all, less)) same
+      (subst (λ (b : ℕ). AreMarkedFrom net blocks old b marks) (let e : length blocks.list - back ≡ count - 1 - back + 1 = omega (arith, all, less) in e) before) added)
+
+  pub marked-all : (marks : List Bool) → AreMarkedFrom net blocks old 0 marks → AreUpstreamMarks net old marks
+  marked-all marks from = record {
+    width = from.width;
+    each = λ m less. (
+      λ is. from.only m is,
+      λ leads. upstream-closed net (λ n. is_marked marks n ≡ true) (λ a b feeds is. from.closed a b feeds (omega arith) is) m leads.gate leads.upstream (from.keeps leads.gate leads.marked),
+    );
+  }

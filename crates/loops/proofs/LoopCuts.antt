@@ -1,0 +1,35 @@
+-- Each loop has a cut wire.
+use Rattle.std.proofs.Common.{◌≡◌, inl, inr, ◌⊎◌, ℕ, Bool, true, false, List, [], ◌∷◌}
+use Rattle.std.proofs.lemmas.Bool.{cases_Bool}
+use Rattle.std.specs.List.{AllByRecursion}
+use Rattle.netlist.specs.declared.parts.Parts.{Parts}
+use Rattle.loops.specs.Cuts.{Loops, AreLoopsOf}
+use Rattle.loops.specs.Walks.{AnyGate, Leads, SameLoop}
+use Rattle.loops.proofs.Walks.{cuts_leave_no_loop, on_closed_walk}
+
+-- a cut wire of the gate's loop
+pub record HasCut (loops : Loops) (a : ℕ) : Type 0 where
+  pub wire : ℕ
+  pub same : loops.same a wire ≡ true
+  pub cut : loops.cut wire ≡ true
+
+-- one of these gates is a cut wire, or none is
+find-cut : (loops : Loops) (a : ℕ) (xs : List ℕ) → AllByRecursion (λ n. loops.same a n ≡ true) xs → HasCut loops a ⊎ AllByRecursion (λ n. loops.cut n ≡ false) xs
+find-cut loops a [] h = inr tt
+find-cut loops a (x ∷ xs) h = elim (cases_Bool (loops.cut x)) [
+  | inl is ↦ inl (record { wire = x; same = h.0; cut = is })
+  | inr isnt ↦ elim (find-cut loops a xs h.1) [ inl found ↦ inl found | inr none ↦ inr (isnt, none) ]
+]
+
+same-all : (net : Parts) (loops : Loops) → AreLoopsOf net loops → (a : ℕ) (xs : List ℕ) → AllByRecursion (SameLoop net a) xs → AllByRecursion (λ n. loops.same a n ≡ true) xs
+same-all net loops are a [] h = tt
+same-all net loops are a (x ∷ xs) h = ((are.same a x).1 h.0, same-all net loops are a xs h.1)
+
+pub has-cut : (net : Parts) (loops : Loops) → AreLoopsOf net loops → (a : ℕ) → Leads net AnyGate a a → HasCut loops a
+has-cut net loops are a leads = elim (cases_Bool (loops.cut a)) [
+  | inl is ↦ record { wire = a; same = (are.same a a).1 (record { there = leads; back = leads }); cut = is }
+  | inr isnt ↦ elim (find-cut loops a leads.via (same-all net loops are a leads.via (on_closed_walk net a leads.via leads.walk))) [
+    | inl found ↦ found
+    | inr none ↦ absurd (cuts_leave_no_loop net loops are a leads.via leads.walk isnt none)
+  ]
+]

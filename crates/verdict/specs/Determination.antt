@@ -1,0 +1,82 @@
+-- Netlists whose gates are all determined on care, and how their loops are seen to be so.
+use Rattle.std.specs.Prelude.{◌≡◌, ◌≢◌, ◌<◌, ◌≤◌, ℕ, Bool, true, false, not, if◌then◌else◌, List, length}
+use Rattle.bdd_store.specs.Arena.{constant}
+use Rattle.cyc_base.specs.declared.trit.Trit.TheVariants.{X}
+use Rattle.cyc_base.specs.Values.{bits}
+use Rattle.dual_rail.specs.declared.rail.Rails.{Rails}
+use Rattle.netlist.specs.declared.parts.Parts.{Parts}
+use Rattle.netlist.specs.Fixpoint.{fix_gates}
+use Rattle.loops.specs.declared.parts.Blocks.{Blocks}
+use Rattle.loops.specs.declared.parts.Cut.{Cut}
+use Rattle.loops.specs.declared.parts.SweepCounts.{SweepCounts}
+use Rattle.loops.specs.Blocks.{block_at, home_of}
+use Rattle.loops.specs.Cuts.{is_cut, loops_by}
+use Rattle.loops.specs.Sweeps.{value_in, CutsAreFixed, IsCountOfSweeps}
+use Rattle.isolation.specs.Laws.{IsLooped}
+use Rattle.isolation.specs.Settled.{SettleInSweeps}
+use Rattle.third_rail.specs.Knowing.{AreKnown, is_marked, number_of}
+use Rattle.care_sets.specs.Care.{CareSet, is_care_vector, IsCareVector}
+use Rattle.verdict.specs.declared.known.Known.{Known}
+use Rattle.verdict.specs.Verdicts.{AreSweepsOnCare, are_care_values}
+
+-- no gate of the kind is X in the fixpoint of a care vector
+abbrev pub AreDeterminedOnCare : Parts → CareSet → (ℕ → Type 0) → Type 0
+AreDeterminedOnCare net care Kind = (v : List Bool) → IsCareVector net care v → (n : ℕ) → Kind n → value_in (fix_gates net (bits v)) n ≢ X
+
+abbrev pub IsGate : Parts → ℕ → Type 0
+IsGate net n = n < length net.gates
+
+-- no gate at all is, and the loops need so many sweeps on care
+pub record IsDetermination (net : Parts) (blocks : Blocks) (cut : Cut) (care : CareSet) (counts : SweepCounts) : Type 0 where
+  pub determined : AreDeterminedOnCare net care (IsGate net)
+  pub sweeps : AreSweepsOnCare net blocks cut care counts
+
+-- ---- how loops are decided
+
+-- each loop at a marked place is settled by itself in one sweep
+abbrev pub SettleInOneSweep : Parts → Blocks → List Bool → Type 0
+SettleInOneSweep net blocks settled = (b : ℕ) → b < length blocks.list → (block_at blocks b).looped ≡ true → is_marked settled b ≡ true →
+    SettleInSweeps net (block_at blocks b).gates 1
+
+-- a gate of a loop at a place without a mark
+pub record IsOpen (net : Parts) (blocks : Blocks) (settled : List Bool) (n : ℕ) : Type 0 where
+  pub within : IsGate net n
+  pub looped : IsLooped blocks n
+  pub unsettled : is_marked settled (home_of blocks n) ≡ false
+
+-- those loops are decided: their gates are determined on care, and they need so many sweeps there
+pub record AreDecided (net : Parts) (blocks : Blocks) (cut : Cut) (care : CareSet) (settled : List Bool) (counts : List ℕ) : Type 0 where
+  pub determined : AreDeterminedOnCare net care (IsOpen net blocks settled)
+  pub sweeps : (n : ℕ) → IsOpen net blocks settled n →
+      IsCountOfSweeps net (loops_by blocks cut) (are_care_values net care) n (number_of counts (home_of blocks n))
+
+-- one for a loop that is settled, and else its number among these; 0 for another block
+abbrev pub count_of : Blocks → List Bool → List ℕ → ℕ → ℕ
+count_of blocks settled others b = if (block_at blocks b).looped then (if is_marked settled b then 1 else number_of others b) else 0
+
+-- the numbers of the first blocks
+pub record AreCountsBelow (blocks : Blocks) (settled : List Bool) (others : List ℕ) (n : ℕ) (counts : List ℕ) : Type 0 where
+  pub width : length counts ≡ n
+  pub each : (b : ℕ) → b < n → number_of counts b ≡ count_of blocks settled others b
+
+-- ---- loops that are known whatever the data
+
+-- the marked gates are known on care, after so many sweeps, and these are care vectors
+pub record IsKnown (net : Parts) (blocks : Blocks) (cut : Cut) (care : CareSet) (marks : List Bool) (known : Known) : Type 0 where
+  pub loops : AreKnown net (loops_by blocks cut) (is_care_vector net care) marks known.since
+  pub vector : IsCareVector net care known.vector
+  pub other : IsCareVector net care known.other
+
+-- a block's number is at least that of each of its cut wires
+abbrev pub BoundSweeps : Parts → Blocks → Cut → List ℕ → List ℕ → Type 0
+BoundSweeps net blocks cut since bounds = (n : ℕ) → n < length net.gates → is_cut cut.wires n ≡ true →
+    number_of since n ≤ number_of bounds (home_of blocks n)
+
+-- the rails of a constant
+abbrev pub constant_rails : Bool → Rails
+constant_rails b = record { one = constant b; zero = constant (not b) }
+
+-- at this vector each loop needs at least so many sweeps
+abbrev pub AreNeededAt : Parts → Blocks → Cut → List Bool → List ℕ → Type 0
+AreNeededAt net blocks cut vector counts = (n : ℕ) → n < length net.gates → IsLooped blocks n →
+    (k : ℕ) → CutsAreFixed net (loops_by blocks cut) (bits vector) n k → number_of counts (home_of blocks n) ≤ k
