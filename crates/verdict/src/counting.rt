@@ -97,7 +97,14 @@ fn spread_counts(
     ensures { IfOk result (λ counts. AreSpread blocks.now small.now cone.now.gates found.now.per_block (length cone.now.gates) counts.items) }
 {
     let mut counts = vec![in alloc; 0; blocks.list.items().len()]?;
-    spread(net, blocks, cone, small, found.per_block.items(), &mut counts);
+    spread(
+        net,
+        blocks,
+        cone,
+        small,
+        found.per_block.items(),
+        &mut counts,
+    );
     Ok(counts)
 }
 

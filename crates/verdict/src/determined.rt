@@ -208,7 +208,7 @@ fn determine(
 }
 
 /// The sweeps of the loops on care, where no gate is unknown at any care vector: each loop is settled by itself in one
-/// sweep, or the third rail knows it on care. It is None where that isn't seen.
+/// sweep, or the third rail knows it on care, or no gate of its cone is unknown there. It is None where that isn't seen.
 ///
 /// It works on diagrams of its own, none of more nodes than the limit. Full where a cover has more nodes than that, as it
 /// would be in the netlist's own diagrams.

@@ -1,4 +1,4 @@
-use Rattle.std.proofs.Common.{◌≡◌, ◌∙◌, List, length, subst, sym}
+use Rattle.std.proofs.Common.{◌≡◌, ◌∙◌, List, length, subst}
 use Rattle.bdd_store.specs.Soundness.{IsLawful}
 use Rattle.dual_rail.specs.declared.rail.Rails.{Rails}
 use Rattle.care_sets.specs.Care.{columns}
