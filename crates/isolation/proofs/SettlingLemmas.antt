@@ -28,11 +28,11 @@ use Rattle.loops.proofs.Told.{blocks_tell_loops, told_parts}
 use Rattle.loops.proofs.Walks.{loops_are_unique}
 use Rattle.fixpoint.specs.declared.solved.Solved.{Solved}
 use Rattle.loops.specs.declared.parts.SweepCounts.{SweepCounts}
-use Rattle.fixpoint.specs.Solved.{IsSolution}
+use Rattle.fixpoint.specs.Kept.{rails_under}
+use Rattle.fixpoint.specs.Solved.{Vectors, IsSolution}
 use Rattle.fixpoint.specs.Counts.{CountSweeps, count_at}
 use Rattle.isolation.specs.Settled.{IsDetermined, SettleInSweeps}
 use Rattle.isolation.specs.Building.{IsLoopNetlist}
-use Rattle.isolation.specs.Columns.{AreColumns}
 use Rattle.isolation.specs.Settling.{AreKnown, IsSettledIn}
 
 -- the loops that blocks and a cut tell are those of the netlist
@@ -41,21 +41,22 @@ loops-are net blocks cut are cut_is =
     let one = loops_are_unique net (loops_by blocks cut) (loops_of net) (blocks_tell_loops net blocks cut are cut_is) (loops_exist net) in
     ap₂ (λ (same : ℕ → ℕ → Bool) (c : ℕ → Bool). let l : Loops = record { same = same; cut = c } in l) (fun_ext (λ a. fun_ext (λ b. one.0 a b))) (fun_ext one.1)
 
-module _ (net : Parts) (blocks : Blocks) (cut : Cut) (are : AreBlocksOf net blocks) (cut_is : IsCutOf net cut) (a : Arena) (layout : List ℕ) (given : List Rails) (vars : a.vars ≡ first_gate net) (columns : AreColumns a layout given) where
+module _ (net : Parts) (blocks : Blocks) (cut : Cut) (are : AreBlocksOf net blocks) (cut_is : IsCutOf net cut) (v : Vectors) (layout : List ℕ) (laid : (u : List Bool) → length u ≡ first_gate net → v (by_variable layout u) ≡ bits u) where
   -- where no rails are X, no gate is
-  pub determined-is : (solved : Solved) → IsSolution net blocks cut a given solved → AreKnown a solved.rails → IsDetermined net
-  determined-is solved is known u wide n less x =
+  pub determined-is : (a : Arena) (solved : Solved) → IsSolution net blocks cut a v solved → AreKnown a (map (rails_under a) solved.rails) → IsDetermined net
+  determined-is a solved is known u wide n less x =
       let w : List Bool = by_variable layout u in
-      let all : values_of a solved.rails w ≡ fix net (bits u) = is.values w ∙ ap (fix net) (columns.values u (wide ∙ sym vars)) in
+      let rails : List Rails = map (rails_under a) solved.rails in
+      let all : values_of a rails w ≡ fix net (bits u) = is.values w ∙ ap (fix net) (laid u wide) in
       let len = ap length all in
-      let l1 = length-map solved.rails (λ r. value_of a r w) in
+      let l1 = length-map rails (λ r. value_of a r w) in
       let l2 = length-append (bits u) (fix_gates net (bits u)) in
       let l3 = length-map u bit in
       let l4 = length-fix net (loops_of net) (bits u) in
       let none : Rails = record { one = record { number = 0 }; zero = record { number = 0 } } in
-      let inside : first_gate net + n < length solved.rails = omega (arith, len, l1, l2, l3, l4, wide, less) in
+      let inside : first_gate net + n < length rails = omega (arith, len, l1, l2, l3, l4, wide, less) in
       known (first_gate net + n) none inside w
-      (sym (get_or-map (λ r. value_of a r w) solved.rails (first_gate net + n) none X inside)
+      (sym (get_or-map (λ r. value_of a r w) rails (first_gate net + n) none X inside)
       ∙ ap (λ (xs : List Trit). get_or xs (first_gate net + n) X) all
       ∙ get_or-append_right (bits u) (fix_gates net (bits u)) (first_gate net) (first_gate net + n) X (l3 ∙ wide) (omega arith)
       ∙ ap (λ (k : ℕ). get_or (fix_gates net (bits u)) k X) (omega arith) ∙ x)
@@ -77,14 +78,14 @@ module _ (net : Parts) (blocks : Blocks) (cut : Cut) (are : AreBlocksOf net bloc
       by false is rest = rw is rest
 
   -- the greatest count is enough for each loop
-  pub sweeps-are : (counts : SweepCounts) (care : Node) (most : ℕ) → length counts.per_block ≡ length blocks.list → CountSweeps net blocks cut a (values_of a given) care counts → ((v : List Bool) → den a care v ≡ true) → All (λ n. n ≤ most) counts.per_block →
+  pub sweeps-are : (a : Arena) (counts : SweepCounts) (care : Node) (most : ℕ) → length counts.per_block ≡ length blocks.list → CountSweeps net blocks cut a v care counts → ((v : List Bool) → den a care v ≡ true) → All (λ n. n ≤ most) counts.per_block →
       (u : List Bool) → length u ≡ first_gate net → (n : ℕ) → n < length net.gates → CutsAreFixed net (loops_of net) (bits u) n most
-  sweeps-are counts care most width found everywhere greatest u wide n less =
+  sweeps-are a counts care most width found everywhere greatest u wide n less =
       subst (λ (l : Loops). CutsAreFixed net l (bits u) n most) (loops-are net blocks cut are cut_is)
       (elim (cases_Bool (block_at blocks (home_of blocks n)).looped) [
         | inl loop ↦
             let one = found.least n less loop in
-            let h = subst (λ (v : List Trit). CutsAreFixed net (loops_by blocks cut) v n (count_at counts (home_of blocks n))) (columns.values u (wide ∙ sym vars)) (one.enough (by_variable layout u) (everywhere (by_variable layout u))) in
+            let h = subst (λ (t : List Trit). CutsAreFixed net (loops_by blocks cut) t n (count_at counts (home_of blocks n))) (laid u wide) (one.enough (by_variable layout u) (everywhere (by_variable layout u))) in
             let home = are.home n less in
             let small : count_at counts (home_of blocks n) ≤ most = greatest (home_of blocks n) 0 (omega (arith, home, width)) in
             subst (CutsAreFixed net (loops_by blocks cut) (bits u) n) (let e : (most - count_at counts (home_of blocks n)) + count_at counts (home_of blocks n) ≡ most = omega (arith, small) in e)

@@ -1,12 +1,14 @@
 //! Whether a loop is settled by itself, whatever the wires outside are.
 
-ghost use Rattle.std.specs.Prelude.{◌≡◌, ◌≢◌, ◌<◌, ◌≤◌, ℕ, true, Bool, List, length, All, IfOk, IfSome};
+ghost use Rattle.std.specs.Prelude.{◌≡◌, ◌≢◌, ◌<◌, ◌≤◌, ℕ, true, Bool, List, length, map, All, IfOk, IfSome};
 ghost use Rattle.bdd_store.specs.Growth.{KeepsNodes};
 ghost use Rattle.cyc_base.specs.declared.trit.Trit.TheVariants.{X};
 ghost use Rattle.dual_rail.specs.Rails.{AreRailsOf, value_of};
 ghost use Rattle.loops.specs.Blocks.{AreBlocksOf, block_at};
 ghost use Rattle.loops.specs.Sweeps.{first_gate};
+ghost use Rattle.fixpoint.specs.Kept.{rails_under, AreKept, RootsStay};
 ghost use Rattle.fixpoint.specs.Orders.{order as order_of};
+ghost use Rattle.fixpoint.specs.Solved.{AreGiven};
 ghost use Rattle.isolation.specs.Columns.{AreColumns};
 ghost use Rattle.isolation.specs.Settled.{SettleInSweeps};
 ghost use Rattle.isolation.specs.Settling.{AreKnown, IsSettledIn};
@@ -18,7 +20,7 @@ use bdd_store::{Node, StoreFault};
 use cyc_base::MAX_NODES;
 use dual_rail::Rails;
 use fixpoint::laws::solutions;
-use fixpoint::{order, solve, sweeps};
+use fixpoint::{KeptRails, keep_rails, order, rails_of, solve, sweeps};
 use loops::{Blocks, find_blocks, find_cut};
 use netlist::Netlist;
 use std::alloc::{AllocError, Global};
@@ -58,14 +60,32 @@ fn greatest(numbers: &[u32]) -> u32
     most
 }
 
-/// The rails of a netlist's columns, laid on the variables in its order.
-fn laid_columns(alloc: Global, d: &mut Diagrams, net: &Netlist) -> Result<Vec<Rails>, StoreFault>
+/// The rails of a netlist's columns, laid on the variables in its order and kept.
+fn kept_columns(
+    alloc: Global,
+    d: &mut Diagrams,
+    net: &Netlist,
+) -> Result<Vec<KeptRails>, StoreFault>
     requires { d.old.vars ≡ first_gate net.now }
-    ensures rails { IfOk result (λ rails. AreColumns d.new (order_of net.now) rails.items) }
-    ensures keeps { KeepsNodes d.old d.new }
+    ensures given { IfOk result (λ kept. AreGiven net.now d.new kept.items) }
+    ensures columns { IfOk result (λ kept. AreColumns d.new (order_of net.now) (map (rails_under d.new) kept.items)) }
 {
     let columns = order(alloc, net)?;
-    Ok(column_rails(alloc, d, &columns)?)
+    let rails = column_rails(alloc, d, &columns)?;
+    Ok(keep_rails(alloc, d, &rails)?)
+}
+
+/// Whether no signal of a solved netlist is X at any vector.
+fn is_determined(alloc: Global, d: &mut Diagrams, solved: &[KeptRails]) -> Result<bool, StoreFault>
+    requires keys { All (AreKept d.old) solved.now }
+    requires proper { All (AreRailsOf d.old) (map (rails_under d.old) solved.now) }
+    ensures known { IfOk result (λ known. known ≡ true → AreKnown d.old (map (rails_under d.old) solved.now)) }
+    ensures roots { RootsStay d.old d.new }
+{
+    d.store().laws();
+    let rails = rails_of(alloc, d, solved)?;
+    let known = are_known(d, &rails)?;
+    Ok(known)
 }
 
 /// How many sweeps are enough for the loops of a netlist without latches, if no gate of it is X at any Boolean
@@ -78,9 +98,9 @@ fn settle(alloc: Global, net: &Netlist, budget: u32) -> Result<Option<u32>, Stor
     let cut = find_cut(alloc, net, &blocks)?;
     let mut d = Diagrams::new(alloc, net.inputs() + net.latches(), budget)?;
     solutions();
-    let given = laid_columns(alloc, &mut d, net)?;
-    let solved = solve(alloc, &mut d, net, &blocks, &cut, &given)?;
-    if !are_known(&mut d, solved.rails.items())? {
+    let given = kept_columns(alloc, &mut d, net)?;
+    let solved = solve(alloc, &mut d, net, &blocks, &cut, given)?;
+    if !is_determined(alloc, &mut d, solved.rails.items())? {
         return Ok(None);
     }
     let counts = sweeps(alloc, &mut d, &solved, &blocks, Node::of(true))?;
