@@ -220,31 +220,6 @@ refused-parts old new f lawful kept parts r =
     (count-refused new lawful.canonical f lawful.constants old kept.more (λ n in_n. subst (λ v. IsNodeOf old n ⊎ IsPartAt v f new n) (sym kept.vars) (parts.each n in_n)) r.part r.is_part r.absent) in
     record { full = r.full; past = omega (arith, past, r.full) }
 
--- ---- adding up
-
-pub added-within : (s t : Arena) (w p n : ℕ) → p ≤ n → AddsAtMost s t (w * p) → AddsAtMost s t (w * n)
-added-within s t w p n less before = omega (arith, before, mul-le-mul_left {m = p} {n = n} w less)
-
-pub added-more : (s t u : Arena) (w p q n : ℕ) → p + q ≤ n → AddsAtMost s t (w * p) → AddsAtMost t u (w * q) → AddsAtMost s u (w * n)
-added-more s t u w p q n less before now = omega (arith, before, now, mul-le-mul_left {m = p + q} {n = n} w less)
-
-pub full-more : (s t u : Arena) (w p q n : ℕ) → p + q ≤ n → AddsAtMost s t (w * p) → IsFullOnlyPast t u (w * q) → IsFullOnlyPast s u (w * n)
-full-more s t u w p q n less before now = record { full = now.full; past = omega (arith, before, now.past, mul-le-mul_left {m = p + q} {n = n} w less) }
-
-pub full-first : (s t : Arena) (w q n : ℕ) → q ≤ n → IsFullOnlyPast s t (w * q) → IsFullOnlyPast s t (w * n)
-full-first s t w q n less now = record { full = now.full; past = omega (arith, now.past, mul-le-mul_left {m = q} {n = n} w less) }
-
--- one step more, of w nodes each
-
-one-more : (w p : ℕ) → w * (p + 1) ≡ w * p + w
-one-more w p = omega arith
-
-pub added-next : (s t u : Arena) (w p : ℕ) → AddsAtMost s t (w * p) → AddsAtMost t u w → AddsAtMost s u (w * (p + 1))
-added-next s t u w p before now = omega (arith, before, now, one-more w p)
-
-pub full-next : (s t u : Arena) (w p n : ℕ) → p + 1 ≤ n → AddsAtMost s t (w * p) → IsFullOnlyPast t u w → IsFullOnlyPast s u (w * n)
-full-next s t u w p n less before now = record { full = now.full; past = omega (arith, before, now.past, one-more w p, mul-le-mul_left {m = p + 1} {n = n} w less) }
-
 -- ---- what a call does, where so many nodes are its bound
 
 refused_alike : {T U : Type 0} (r : Result T StoreFault) (q : Result U StoreFault) (e : StoreFault) → r ≡ Err e → IsErrAnd q (λ x. x ≡ e) → q ≡ Err Full → r ≡ Err Full
@@ -279,9 +254,6 @@ grows_then first g = record { keeps = KeepsNodes-chain first.keeps g.keeps; adde
 -- what a loop has done so far
 abbrev pub HasGrownBy : Arena → Arena → ℕ → Type 0
 HasGrownBy old new n = Grows {T = Unit} (Ok tt) old new n
-
-pub nothing_grown_by : {s : Arena} {n : ℕ} → HasGrownBy s s n
-nothing_grown_by = record { keeps = KeepsNodes-refl _; added = omega arith; full = λ e. absurd cc }
 
 -- ---- what a call adds, where w bounds so many functions
 
