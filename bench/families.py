@@ -5,7 +5,8 @@
 
   pairs N         N pairs of units of one bit that share a loop, each reads the one before it
   multiplier N    a multiplier of N bits, row by row, beside one such pair
-  units N         two adders of N bits that share a loop: a select says which comes first
+  units N         two adders of N bits that share a loop: a select says which comes first, and one reads its operand
+                  rotated, so that all bits are in the loop
   end_around N    an adder of N bits in ones' complement; cared for where some position doesn't propagate
   round_robin N   an arbiter of N requests, whose pointer is a register with one bit set
   allocator N     a wavefront allocator of N by N that wraps around; one bit of its diagonal is set
@@ -81,10 +82,10 @@ def multiplier(n):
 
 def units(n):
     m = Model("units", ["c", *numbered("x", n), *numbered("a", n), *numbered("b", n)], numbered("y", n))
-    for word, bus, other in (("f", "a", "g"), ("g", "b", "f")):
+    for word, bus in (("f", "a"), ("g", "b")):
         carry = m.gate([], f"{word}k0")
         for i in range(n):
-            first = (f"x{i}", f"{other}{i}") if word == "f" else (f"{other}{i}", f"x{i}")
+            first = (f"x{i}", f"g{i}") if word == "f" else (f"f{(i + 1) % n}", f"x{i}")
             m.gate(CHOOSE, f"{word}i{i}", "c", *first)
             full_adder(m, f"{word}i{i}", f"{bus}{i}", carry, f"{word}{i}", f"{word}k{i + 1}")
             carry = f"{word}k{i + 1}"
