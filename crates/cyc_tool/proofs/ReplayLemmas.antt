@@ -58,6 +58,3 @@ module _ (shows : Shows) (probe : Option Kind) (recorded : List ℕ) where
   netlist_replays file vectors net files later a b c end same goes follows =
       goes_on_alone (with_netlist file) net (replaying_on shows probe recorded vectors) files later a b c end same goes follows
 
-  pub replay_stops : (file vectors : List ℕ) (files : Option Files) (a b : Counts) (end : Outcome) → StopsIn (with_netlist file) (call files a b) end
-      → FollowsAlone (replaying shows probe file vectors recorded) (call files a b) end
-  replay_stops file vectors files a b end stops = stops_alone (with_netlist file) (replaying_on shows probe recorded vectors) files a b end stops
