@@ -57,4 +57,3 @@ module _ (shows : Shows) (probe : Option Kind) (recorded : List ℕ) where
       → FollowsAlone (replaying shows probe file vectors recorded) (call files a c) end
   netlist_replays file vectors net files later a b c end same goes follows =
       goes_on_alone (with_netlist file) net (replaying_on shows probe recorded vectors) files later a b c end same goes follows
-

@@ -155,10 +155,11 @@ abbrev pub replaying : Shows → Option Kind → List ℕ → List ℕ → List 
 replaying shows probe file vectors recorded = with_netlist file (replaying_on shows probe recorded vectors)
 
 -- the decision of the ring arbiter of so many cells
+abbrev pub ring_deciding_on : ℕ → Parts → Plan
+ring_deciding_on cells net = using ring_care_file (care_of net (care_text cells)) (λ care. Decides (ring_decision net care) (Demonstrates cells))
+
 abbrev pub ring_deciding : ℕ → Plan
-ring_deciding cells =
-    using ring_file (netlist_of (ring_text cells)) (λ net.
-    using ring_care_file (care_of net (care_text cells)) (λ care. Decides (ring_decision net care) (Demonstrates cells)))
+ring_deciding cells = using ring_file (netlist_of (ring_text cells)) (ring_deciding_on cells)
 
 -- The files of a command are read in the order netlist, care file, vectors, schedule, and all faults of one are looked
 -- for before the next is read.

@@ -7,7 +7,7 @@ ghost use Rattle.contents.specs.NetlistFiles.{netlist_of as netlist_meant};
 ghost use Rattle.maker.specs.Faults.{AreTexts};
 ghost use Rattle.maker.specs.Ring.{ring_text, care_text};
 ghost use Rattle.netlist.specs.Netlists.{IsNetlist};
-ghost use Rattle.cyc_tool.specs.Plans.{ring_care_file, ring_deciding, ring_file};
+ghost use Rattle.cyc_tool.specs.Plans.{ring_care_file, ring_deciding, ring_deciding_on, ring_file};
 ghost use Rattle.cyc_tool.specs.Reading.{FollowsStill, IsStoppedBy};
 ghost use Rattle.cyc_tool.specs.Seen.{end_of, stop_outcome};
 
@@ -59,6 +59,31 @@ fn ring_care(alloc: Global, net: &Netlist, text: &[u8]) -> Result<Care, Stop>
     }
 }
 
+// Decides the ring arbiter's netlist on the care set of this text.
+fn decide_ring_on(
+    alloc: Global,
+    cells: Cells,
+    net: &Netlist,
+    care: &[u8],
+    d: &mut Diagrams,
+) -> Result<Outcome, Stop>
+    requires valid { IsNetlist net.now }
+    requires inputs { length net.now.inputs ≤ 4000000000 }
+    requires care { care.now ≡ care_text (cells_seen cells) }
+    ensures { FollowsStill (ring_deciding_on (cells_seen cells) net.now) d.new (end_of result) }
+{
+    let care = ring_care(alloc, net, care)?;
+    Ok(decide_netlist(
+        alloc,
+        net,
+        &care,
+        DEFAULT_NODES,
+        Observe::All,
+        Purpose::Demonstrate(cells),
+        d,
+    )?)
+}
+
 fn decide_ring(
     alloc: Global,
     cells: Cells,
@@ -71,16 +96,7 @@ fn decide_ring(
     ensures { FollowsStill (ring_deciding (cells_seen cells)) d.new (end_of result) }
 {
     let net = ring_netlist(alloc, text)?;
-    let care = ring_care(alloc, &net, care)?;
-    Ok(decide_netlist(
-        alloc,
-        &net,
-        &care,
-        DEFAULT_NODES,
-        Observe::All,
-        Purpose::Demonstrate(cells),
-        d,
-    )?)
+    decide_ring_on(alloc, cells, &net, care, d)
 }
 
 // Decides the ring arbiter of so many cells, and prints one line.
