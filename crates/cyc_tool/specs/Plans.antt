@@ -145,8 +145,11 @@ flattening file = with_netlist file (λ net. Ends (Prints (written net)))
 abbrev pub finding_loops : List ℕ → Plan
 finding_loops file = with_netlist file (λ net. Ends (Prints (loops_text net)))
 
+abbrev pub simulating_on : List ℕ → Parts → Plan
+simulating_on vectors net = with_vectors vectors net true (λ found. Ends (Prints (sim_text net found)))
+
 abbrev pub simulating : List ℕ → List ℕ → Plan
-simulating file vectors = with_netlist file (λ net. with_vectors vectors net true (λ found. Ends (Prints (sim_text net found))))
+simulating file vectors = with_netlist file (simulating_on vectors)
 
 abbrev pub replaying_on : Shows → Option Kind → List ℕ → List ℕ → Parts → Plan
 replaying_on shows probe recorded vectors net = with_vectors vectors net false (λ found. play_on shows probe recorded net (known found))

@@ -8,7 +8,7 @@ ghost use Rattle.sched_text.specs.Fitting.{FitsNetlist};
 ghost use Rattle.cyc_tool.specs.Calls.{shelf_call, sink_call, ComesTo, Follows, Tells, Runs, WriteFailed};
 ghost use Rattle.cyc_tool.specs.Causes.{GivesAnswer, HasRewritten, HasStormed, IsComplete, IsDoneWith, IsFaulty, IsUnread, IsWithoutCommand, MeetsLimit, NoneFell, Reaches};
 ghost use Rattle.cyc_tool.specs.Plays.{AreInputs};
-ghost use Rattle.cyc_tool.specs.Plans.{Decides, decision, deciding, deciding_on, finding_loops, flattening, plan_of, play_on, playing, replaying, replaying_on, simulating};
+ghost use Rattle.cyc_tool.specs.Plans.{Decides, decision, deciding, deciding_on, finding_loops, flattening, plan_of, play_on, playing, replaying, replaying_on, simulating, simulating_on};
 ghost use Rattle.cyc_tool.specs.Reading.{FollowsAlone, FollowsStill, FollowsStillAlone};
 ghost use Rattle.cyc_tool.specs.Requests.{Shows, request, shown_by};
 ghost use Rattle.cyc_tool.specs.Seen.{end_of, outcome_of, purpose_seen};
@@ -106,7 +106,21 @@ fn loops<S: Shelf>(alloc: Global, shelf: &mut S, netlist: &Name) -> Result<Outco
     Ok(tell_loops(alloc, &net)?)
 }
 
-// Simulates the netlist of a file on the vectors of another.
+// Simulates a netlist on the vectors of a file.
+fn simulate_file<S: Shelf>(
+    alloc: Global,
+    shelf: &mut S,
+    net: &Netlist,
+    vectors: &Name,
+) -> Result<Outcome, Stop>
+    ensures comes { FollowsAlone (simulating_on vectors.now net.now) (shelf_call S.files S.faults shelf.old shelf.new) (end_of result) }
+    ensures same { S.files shelf.new ≡ S.files shelf.old }
+{
+    let found = read_vector_file(alloc, shelf, net, true, vectors)?;
+    Ok(tell_sim(alloc, net, &found)?)
+}
+
+// The same of the netlist of a file.
 fn sim<S: Shelf>(
     alloc: Global,
     shelf: &mut S,
@@ -117,8 +131,7 @@ fn sim<S: Shelf>(
     ensures same { S.files shelf.new ≡ S.files shelf.old }
 {
     let net = read_netlist(alloc, shelf, netlist)?;
-    let found = read_vector_file(alloc, shelf, &net, true, vectors)?;
-    Ok(tell_sim(alloc, &net, &found)?)
+    simulate_file(alloc, shelf, &net, vectors)
 }
 
 // Plays a recorded schedule, which is that of this file, and tells no probe.
