@@ -17,7 +17,7 @@ use Rattle.cyc_base.specs.Values.{bit, bits}
 use Rattle.cyc_base.specs.Vectors.{vectors}
 use Rattle.dual_rail.specs.declared.rail.Rails.{Rails}
 use Rattle.dual_rail.specs.Rails.{AreRailsOf, value_of, values_of}
-use Rattle.dual_rail.proofs.SurelyLemmas.{length-values}
+use Rattle.dual_rail.proofs.SurelyLemmas.{length-values, values_of-kept, All-rails-kept}
 use Rattle.netlist.specs.declared.parts.Latch.{Latch}
 use Rattle.netlist.specs.declared.parts.Parts.{Parts}
 use Rattle.netlist.specs.Netlists.{IsNetlist, signal, gate_sig}
@@ -67,22 +67,30 @@ module _ (net : Parts) (gates : List ℕ) (small : Parts) (cone : IsConeIn net g
       let m = length-map gates (gate_sig net) in
       omega (arith, w, vars, f, c, l, m)
 
-  pub cone-rails : (solved : SolvedNetlist) → IsSolvedOn small a given solved → AreConeRails net gates a solved.solved.rails
-  cone-rails solved is = record {
+  pub cone-rails : (t : Arena) (set_ : Node) (solved : SolvedNetlist) → t.vars ≡ a.vars → IsSolvedOn small a t given set_ solved → AreConeRails net gates t solved.fixpoint.rails
+  cone-rails t set_ solved kept is = record {
     width =
-        let long = length-values a solved.solved.rails [] in
-        let same = ap length (is.solution.values []) in
+        let long = length-values t solved.fixpoint.rails [] in
+        let same = ap length (ap (λ (rails : List Rails). values_of t rails []) is.found.rails_are ∙ is.found.solution.values []) in
         let both = length-append (values_of a given []) (fix_gates small (values_of a given [])) in
         let one = length-values a given [] in
         let two = length-fix small (loops_of small) (values_of a given []) in
         let size = cone.is.size in
         let w = are.width in
         omega (arith, long, same, both, one, two, size, w, vars);
-    proper = is.solution.rails;
+    proper = subst (All (AreRailsOf t)) (sym is.found.rails_are) is.found.solution.rails;
     values = λ v wide.
-        is.solution.values (laid net v) ∙ ap (fix small) (are.values v wide)
-        ∙ cone-wires net gates small cone.valid cone.is cone.whole (bits v) (length-map v bit ∙ wide ∙ vars);
+        ap (λ (rails : List Rails). values_of t rails (laid net v)) is.found.rails_are
+        ∙ is.found.solution.values (laid net v) ∙ ap (fix small) (are.values v (wide ∙ kept))
+        ∙ cone-wires net gates small cone.valid cone.is cone.whole (bits v) (length-map v bit ∙ wide ∙ kept ∙ vars);
   }
+
+pub cone-rails-kept : {net : Parts} {gates : List ℕ} {s t : Arena} {rails : List Rails} → KeepsNodes s t → AreConeRails net gates s rails → AreConeRails net gates t rails
+cone-rails-kept {net} {gates} {s} {t} {rails} keeps is = record {
+  width = is.width;
+  proper = All-rails-kept keeps rails is.proper;
+  values = λ v wide. values_of-kept keeps rails is.proper (laid net v) ∙ is.values v (wide ∙ keeps.vars);
+}
 
 -- ---- what latches load
 

@@ -26,6 +26,7 @@ use Rattle.isolation.specs.Columns.{AreColumns}
 use Rattle.fixpoint.specs.Orders.{order, laid}
 use Rattle.fixpoint.proofs.LayoutLemmas.{by_column, length-by_column, variables-back}
 use Rattle.fixpoint.proofs.OrderLemmas.{order-is}
+use Rattle.fixpoint.specs.Solved.{Vectors}
 use Rattle.verdict.specs.Verdicts.{are_care_values}
 
 -- ---- lists of any length
@@ -74,10 +75,23 @@ within-fit vars es sound bs (suc k) (suc p) = by (within-fit vars es sound bs k)
 den-fit : (a : Arena) → IsSound a.vars a.entries → (n : Node) (bs : List Bool) → den a n (fit a.vars bs) ≡ den a n bs
 den-fit a sound n bs = ap (flipped (is_marked n)) (within-fit a.vars a.entries sound bs (suc (index n)) (index n))
 
-values_of-fit : (a : Arena) → IsSound a.vars a.entries → (rails : List Rails) (bs : List Bool) → values_of a rails (fit a.vars bs) ≡ values_of a rails bs
+pub values_of-fit : (a : Arena) → IsSound a.vars a.entries → (rails : List Rails) (bs : List Bool) → values_of a rails (fit a.vars bs) ≡ values_of a rails bs
 values_of-fit a sound rails bs =
     map_agree (λ r. value_of a r (fit a.vars bs)) (λ r. value_of a r bs) rails
     (λ k d less. ap₂ trit_of (den-fit a sound (get_or rails k d).one bs) (den-fit a sound (get_or rails k d).zero bs))
+
+-- vectors that are those of a netlist's columns, as laid on variables
+pub record AreColumnVectors (net : Parts) (points : Vectors) : Type 0 where
+  pub width : (bs : List Bool) → length (points bs) ≡ columns net
+  pub laid_are : (w : List Bool) → length w ≡ columns net → points (laid net w) ≡ bits w
+  pub fit_are : (bs : List Bool) → points (fit (columns net) bs) ≡ points bs
+
+pub column-vectors : (net : Parts) (a : Arena) (given : List Rails) → IsSound a.vars a.entries → a.vars ≡ columns net → AreColumns a (order net) given → AreColumnVectors net (values_of a given)
+column-vectors net a given sound vars are = record {
+  width = λ bs. length-map {B = Trit} given (λ r. value_of a r bs) ∙ are.width ∙ vars;
+  laid_are = λ w wide. are.values w (wide ∙ sym vars);
+  fit_are = λ bs. subst (λ (n : ℕ). values_of a given (fit n bs) ≡ values_of a given bs) vars (values_of-fit a sound given bs);
+}
 
 -- ---- values of care vectors
 
@@ -102,18 +116,18 @@ care-values net care w wide counts =
     and_from _ _ (bits-known w) (and_from _ _ (eq-eqb (length (bits w)) (columns net) (length-bits w ∙ wide)) (ap (is_care_vector net care) (bits_back w) ∙ counts))
 
 -- a number of sweeps on the vectors of a set is one on care
-pub count-on-care : (net : Parts) (care : CareSet) (loops : Loops) (a : Arena) (given : List Rails) (set : Node) (gate k : ℕ) → IsSound a.vars a.entries → AreColumns a (order net) given → a.vars ≡ columns net →
+pub count-on-care : (net : Parts) (care : CareSet) (loops : Loops) (a : Arena) (points : Vectors) (set : Node) (gate k : ℕ) → IsSound a.vars a.entries → AreColumnVectors net points → a.vars ≡ columns net →
     Tells net a set (is_care_vector net care) →
-    ((bs : List Bool) → den a set bs ≡ true → CutsAreFixed net loops (values_of a given bs) gate k) →
-    ((j : ℕ) → ((bs : List Bool) → den a set bs ≡ true → CutsAreFixed net loops (values_of a given bs) gate j) → k ≤ j) →
+    ((bs : List Bool) → den a set bs ≡ true → CutsAreFixed net loops (points bs) gate k) →
+    ((j : ℕ) → ((bs : List Bool) → den a set bs ≡ true → CutsAreFixed net loops (points bs) gate j) → k ≤ j) →
     IsCountOfSweeps net loops (are_care_values net care) gate k
-count-on-care net care loops a given set gate k sound are vars told enough least = record {
+count-on-care net care loops a points set gate k sound are vars told enough least = record {
   enough = λ v is.
       let first = and_parts (list_all (λ value. not (is_x value)) v) (length v == columns net && is_care_vector net care (map is_one v)) is in
       let second = and_parts (length v == columns net) (is_care_vector net care (map is_one v)) first.1 in
       let w : List Bool = map is_one v in
       let wide : length w ≡ a.vars = length-map v is_one ∙ eqb-true (length v) (columns net) second.0 ∙ sym vars in
-      subst (λ (u : List Trit). CutsAreFixed net loops u gate k) (are.values w wide ∙ sym (known-bits v first.0)) (enough (laid net w) (told.value w wide ∙ second.1));
+      subst (λ (u : List Trit). CutsAreFixed net loops u gate k) (are.laid_are w (wide ∙ vars) ∙ sym (known-bits v first.0)) (enough (laid net w) (told.value w wide ∙ second.1));
   least = λ j fixed. least j (λ bs is.
       let u : List Bool = fit a.vars bs in
       let layout : IsLayout a.vars (order net) = subst (λ n. IsLayout n (order net)) (sym vars) (order-is net) in
@@ -121,5 +135,5 @@ count-on-care net care loops a given set gate k sound are vars told enough least
       let wide : length w ≡ a.vars = length-by_column (order net) u ∙ layout.long in
       let back : laid net w ≡ u = variables-back a.vars (order net) layout u (length-fit a.vars bs) in
       let counts : is_care_vector net care w ≡ true = sym (told.value w wide) ∙ ap (den a set) back ∙ den-fit a sound set bs ∙ is in
-      subst (λ (x : List Trit). CutsAreFixed net loops x gate j) (sym (are.values w wide) ∙ ap (values_of a given) back ∙ values_of-fit a sound given bs) (fixed (bits w) (care-values net care w (wide ∙ vars) counts)));
+      subst (λ (x : List Trit). CutsAreFixed net loops x gate j) (sym (are.laid_are w (wide ∙ vars)) ∙ ap points back ∙ ap (λ (n : ℕ). points (fit n bs)) vars ∙ are.fit_are bs) (fixed (bits w) (care-values net care w (wide ∙ vars) counts)));
 }

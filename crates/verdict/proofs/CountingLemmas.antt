@@ -1,53 +1,51 @@
 -- The sweeps of loops, counted on their cones.
-use Rattle.std.proofs.Common.{◌≡◌, ◌≢◌, ◌↔◌, inl, inr, ℕ, ◌+◌, ◌-◌, ◌<◌, Bool, true, false, not, ◌&&◌, List, [], ◌∷◌, length, map, get_or, Contains, Option, Some, None, Result, Ok, Err, IfOk, refl, sym, ap, ap₂, ◌∙◌, subst, arith, true≢false}
+use Rattle.std.proofs.Common.{◌≡◌, ◌↔◌, inl, inr, ℕ, ◌+◌, ◌-◌, ◌<◌, Bool, false, not, List, length, map, get_or, Contains, Option, Some, None, Result, Ok, Err, IfOk, refl, sym, ap, ◌∙◌, subst, arith}
 use Rattle.std.proofs.Math.ListN.{set}
 use Rattle.std.proofs.lemmas.Bool.{cases_lt, cases_eq}
-use Rattle.std.proofs.lemmas.List.{get_or-map, get_or-set_same, get_or-set_other, get_or_default, length-map}
+use Rattle.std.proofs.lemmas.List.{get_or-map, get_or-set_same, get_or-set_other, get_or_default}
 use Rattle.bdd_store.specs.declared.node.Node.{Node}
 use Rattle.std.specs.List.{All}
 use Rattle.std.specs.Prelude.{IfSome}
-use Rattle.bdd_store.specs.Arena.{Arena, den, IsNodeOf}
+use Rattle.bdd_store.specs.Arena.{Arena, IsNodeOf}
 use Rattle.bdd_store.specs.Growth.{KeepsNodes}
 use Rattle.bdd_store.specs.Soundness.{IsSound}
 use Rattle.cyc_base.specs.declared.trit.Trit.{Trit}
 use Rattle.cyc_base.specs.declared.trit.Trit.TheVariants.{X}
-use Rattle.cyc_base.specs.Values.{bit, bits}
+use Rattle.cyc_base.specs.Values.{bits}
 use Rattle.dual_rail.specs.declared.rail.Rails.{Rails}
-use Rattle.dual_rail.specs.Rails.{AreRailsOf, value_of, values_of}
-use Rattle.dual_rail.proofs.SurelyLemmas.{length-values, value_of-kept}
+use Rattle.dual_rail.specs.Rails.{AreRailsOf, value_of}
+use Rattle.dual_rail.proofs.SurelyLemmas.{value_of-kept}
 use Rattle.netlist.specs.declared.parts.Parts.{Parts}
 use Rattle.netlist.specs.Netlists.{signal, gate_sig}
-use Rattle.netlist.specs.Fixpoint.{fix, fix_gates, wire}
+use Rattle.netlist.specs.Fixpoint.{fix, wire}
 use Rattle.loops.specs.declared.parts.Blocks.{Blocks}
 use Rattle.loops.specs.declared.parts.Cut.{Cut}
 use Rattle.loops.specs.declared.parts.SweepCounts.{SweepCounts}
-use Rattle.loops.specs.Blocks.{AreBlocksOf, block_at, home_of}
-use Rattle.loops.specs.Cuts.{IsCutOf, Loops, AreLoopsOf, loops_by}
+use Rattle.loops.specs.Blocks.{AreBlocksOf, home_of}
+use Rattle.loops.specs.Cuts.{IsCutOf, loops_by}
 use Rattle.loops.specs.Found.{loops_of}
-use Rattle.loops.specs.Sweeps.{first_gate, value_in, CutsAreFixed, IsCountOfSweeps}
+use Rattle.loops.specs.Sweeps.{first_gate, CutsAreFixed, IsCountOfSweeps}
 use Rattle.loops.specs.Walks.{SameLoop}
 use Rattle.loops.proofs.Existence.{loops_exist}
 use Rattle.loops.proofs.Told.{blocks_tell_loops}
 use Rattle.fixpoint.specs.Counts.{CountSweeps, IsLeastSweeps, count_at}
-use Rattle.fixpoint.specs.Orders.{order, laid}
-use Rattle.isolation.specs.Columns.{AreColumns}
+use Rattle.fixpoint.specs.Orders.{laid}
 use Rattle.isolation.specs.Cones.{cone_signals, IsConeOf}
 use Rattle.isolation.specs.Excerpts.{gate_in, inputs_in}
 use Rattle.isolation.specs.Laws.{column_signals, IsLooped}
 use Rattle.isolation.proofs.ConeLemmas.{excerpts_keep, columns_give_vectors, number-gate, length-cone}
 use Rattle.isolation.proofs.LoopLemmas.{loop-same}
 use Rattle.third_rail.specs.Knowing.{is_marked, number_of}
-use Rattle.care_sets.specs.Care.{CareSet, columns, is_care_vector, IsCareVector}
+use Rattle.care_sets.specs.Care.{CareSet, columns, is_care_vector}
 use Rattle.refusals.proofs.RefusalLemmas.{gate_wire}
 use Rattle.refusals.proofs.ShowingLemmas.{care_vector_is}
-use Rattle.verdict.specs.Cones.{AreConeRails, IsConeIn, IsSolvedOn}
+use Rattle.verdict.specs.Cones.{AreConeRails, IsConeIn}
 use Rattle.verdict.specs.Counting.{AreKnownOn, AreSpread, AreConeCounts}
 use Rattle.verdict.specs.Determination.{AreDeterminedOnCare, AreDecided, IsOpen}
 use Rattle.verdict.specs.Sets.{Tells}
 use Rattle.verdict.specs.Verdicts.{are_care_values}
-use Rattle.verdict.specs.declared.cones.SolvedNetlist.{SolvedNetlist}
-use Rattle.verdict.proofs.ConeLemmas.{cone-rails}
-use Rattle.verdict.proofs.CountLemmas.{count-on-care}
+use Rattle.verdict.proofs.CountLemmas.{AreColumnVectors, count-on-care}
+use Rattle.fixpoint.specs.Solved.{Vectors}
 
 -- ---- rails that are known on a set
 
@@ -72,9 +70,9 @@ module _ (net : Parts) (blocks : Blocks) (are : AreBlocksOf net blocks) (gates :
   place-same i j il jl e = elim (cases_lt i j) [
     | inl low ↦ absurd (let r = cone.whole.rise i j low jl in omega (arith, r, e))
     | inr high ↦ elim (cases_lt j i) [
-        | inl low ↦ absurd (let r = cone.whole.rise j i low il in omega (arith, r, e))
-        | inr same ↦ omega (arith, high, same)
-      ]
+      | inl low ↦ absurd (let r = cone.whole.rise j i low il in omega (arith, r, e))
+      | inr same ↦ omega (arith, high, same)
+    ]
   ]
 
   -- gates of one block of the whole are of one block of the cone
@@ -109,7 +107,7 @@ module _ (net : Parts) (blocks : Blocks) (are : AreBlocksOf net blocks) (gates :
 
   -- ---- the cone counted on diagrams
 
-  module _ (care : CareSet) (s : Arena) (vars : s.vars ≡ columns net) (given : List Rails) (columns_are : AreColumns s (order net) given) (set_ : Node) (told : Tells net s set_ (is_care_vector net care))
+  module _ (care : CareSet) (s : Arena) (vars : s.vars ≡ columns net) (points : Vectors) (points_are : AreColumnVectors net points) (set_ : Node) (told : Tells net s set_ (is_care_vector net care))
       (rails : List Rails) (rails_are : AreConeRails net gates s rails) (known : AreKnownOn s set_ rails (length rails)) where
     determined : AreDeterminedOnCare net care (Contains gates)
     determined v counts n c x =
@@ -130,31 +128,31 @@ module _ (net : Parts) (blocks : Blocks) (are : AreBlocksOf net blocks) (gates :
         none = record { one = record { number = 0 }; zero = record { number = 0 } }
 
     -- the sweeps of a loop, as the cone has them
-    count-is : IsSound s.vars s.entries → (cut : Cut) → IsCutOf net cut → (small_cut : Cut) → IsCutOf small small_cut → (found : SweepCounts) → CountSweeps small smalls small_cut s (values_of s given) set_ found →
+    count-is : IsSound s.vars s.entries → (cut : Cut) → IsCutOf net cut → (small_cut : Cut) → IsCutOf small small_cut → (found : SweepCounts) → CountSweeps small smalls small_cut s points set_ found →
         (j : ℕ) → j < length gates → IsLooped blocks (gate_in gates j) → IsCountOfSweeps net (loops_by blocks cut) (are_care_values net care) (gate_in gates j) (count_at found (home_of smalls j))
     count-is sound cut cut_is small_cut small_cut_is found counted j jl loop =
-        count-on-care net care (loops_by blocks cut) s given set_ (gate_in gates j) (count_at found (home_of smalls j)) sound columns_are vars told
+        count-on-care net care (loops_by blocks cut) s points set_ (gate_in gates j) (count_at found (home_of smalls j)) sound points_are vars told
         (λ bs is. to bs (count_at found (home_of smalls j)) (one.enough bs is))
         (λ m fixed. one.least m (λ bs is. from bs m (fixed bs is)))
       where
-        one : IsLeastSweeps small (loops_by smalls small_cut) s (values_of s given) set_ j (count_at found (home_of smalls j))
+        one : IsLeastSweeps small (loops_by smalls small_cut) s points set_ j (count_at found (home_of smalls j))
         one = counted.least j (let z = size in omega (arith, z, jl)) (looped-same j jl loop)
 
-        width : (bs : List Bool) → length (values_of s given bs) ≡ first_gate net
-        width bs = length-values s given bs ∙ columns_are.width ∙ vars
+        width : (bs : List Bool) → length (points bs) ≡ first_gate net
+        width bs = points_are.width bs
 
-        keep : (bs : List Bool) (m : ℕ) → CutsAreFixed small (loops_by smalls small_cut) (inputs_in net (values_of s given bs) (column_signals net)) j m ↔ CutsAreFixed net (loops_by blocks cut) (values_of s given bs) (gate_in gates j) m
+        keep : (bs : List Bool) (m : ℕ) → CutsAreFixed small (loops_by smalls small_cut) (inputs_in net (points bs) (column_signals net)) j m ↔ CutsAreFixed net (loops_by blocks cut) (points bs) (gate_in gates j) m
         keep bs m =
             (excerpts_keep net (column_signals net) gates small (loops_by blocks cut) (loops_by smalls small_cut) cone.valid cone.is cone.whole (blocks_tell_loops net blocks cut are cut_is) (blocks_tell_loops small smalls small_cut small_are small_cut_is)
-            (values_of s given bs) (width bs)).fixed m j jl
+            (points bs) (width bs)).fixed m j jl
 
-        to : (bs : List Bool) (m : ℕ) → CutsAreFixed small (loops_by smalls small_cut) (values_of s given bs) j m → CutsAreFixed net (loops_by blocks cut) (values_of s given bs) (gate_in gates j) m
-        to bs m fixed = (keep bs m).0 (subst (λ (u : List Trit). CutsAreFixed small (loops_by smalls small_cut) u j m) (sym (columns_give_vectors net (values_of s given bs) (width bs))) fixed)
+        to : (bs : List Bool) (m : ℕ) → CutsAreFixed small (loops_by smalls small_cut) (points bs) j m → CutsAreFixed net (loops_by blocks cut) (points bs) (gate_in gates j) m
+        to bs m fixed = (keep bs m).0 (subst (λ (u : List Trit). CutsAreFixed small (loops_by smalls small_cut) u j m) (sym (columns_give_vectors net (points bs) (width bs))) fixed)
 
-        from : (bs : List Bool) (m : ℕ) → CutsAreFixed net (loops_by blocks cut) (values_of s given bs) (gate_in gates j) m → CutsAreFixed small (loops_by smalls small_cut) (values_of s given bs) j m
-        from bs m fixed = subst (λ (u : List Trit). CutsAreFixed small (loops_by smalls small_cut) u j m) (columns_give_vectors net (values_of s given bs) (width bs)) ((keep bs m).1 fixed)
+        from : (bs : List Bool) (m : ℕ) → CutsAreFixed net (loops_by blocks cut) (points bs) (gate_in gates j) m → CutsAreFixed small (loops_by smalls small_cut) (points bs) j m
+        from bs m fixed = subst (λ (u : List Trit). CutsAreFixed small (loops_by smalls small_cut) u j m) (columns_give_vectors net (points bs) (width bs)) ((keep bs m).1 fixed)
 
-    pub cone-counted : IsSound s.vars s.entries → (small_cut : Cut) → IsCutOf small small_cut → (found : SweepCounts) → CountSweeps small smalls small_cut s (values_of s given) set_ found →
+    pub cone-counted : IsSound s.vars s.entries → (small_cut : Cut) → IsCutOf small small_cut → (found : SweepCounts) → CountSweeps small smalls small_cut s points set_ found →
         (counts : List ℕ) → AreSpread blocks smalls gates found.per_block (length gates) counts → AreConeCounts net blocks care gates counts
     cone-counted sound small_cut small_cut_is found counted counts spread = record {
       determined = determined;

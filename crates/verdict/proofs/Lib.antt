@@ -18,3 +18,4 @@ mod StartLemmas
 mod VerdictLemmas
 mod WitnessLemmas
 mod WorkLemmas
+mod SolvingLemmas

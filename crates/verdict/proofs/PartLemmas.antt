@@ -55,6 +55,10 @@ Tells-kept {net} {n = n} k is = record {
   value = λ v wide. k.function n (laid net v) is.node ∙ is.value v (wide ∙ k.vars);
 }
 
+-- another node of the same function, in other diagrams
+pub Tells-same : {net : Parts} {s t : Arena} {m n : Node} {test : List Bool → Bool} → t.vars ≡ s.vars → IsNodeOf t n → ((bits : List Bool) → den t n bits ≡ den s m bits) → Tells net s m test → Tells net t n test
+Tells-same {net} vars node same is = record { node = node; value = λ v wide. same (laid net v) ∙ is.value v (wide ∙ vars) }
+
 -- the first vector of a set that a test tells
 pub told-first : (net : Parts) (a : Arena) (n : Node) (test : List Bool → Bool) (width : ℕ) → a.vars ≡ width → ((v : List Bool) → length v ≡ width → den a n (laid net v) ≡ test v) →
     find (λ v. den a n (laid net v)) (vectors a.vars) ≡ find test (vectors width)

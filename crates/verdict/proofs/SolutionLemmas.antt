@@ -27,9 +27,9 @@ use Rattle.loops.proofs.Reading.{Contains-filter_from}
 use Rattle.loops.proofs.Sweeps.{same-sym, same-trans, same_within}
 use Rattle.loops.proofs.Told.{blocks_tell_loops}
 use Rattle.loops.proofs.Walks.{loops_are_unique, same_truth}
-use Rattle.fixpoint.specs.declared.solved.LoopSteps.{LoopSteps}
+use Rattle.fixpoint.specs.declared.solved.SweptLoop.{SweptLoop}
 use Rattle.fixpoint.specs.declared.solved.Solved.{Solved}
-use Rattle.fixpoint.specs.Solved.{AreStepsOf, Vectors, step_at}
+use Rattle.fixpoint.specs.Solved.{AreStepsOf, AreKeptSteps, Vectors, step_at, loop_under}
 use Rattle.fixpoint.specs.Counts.{IsStepNode, IsComparedIn}
 use Rattle.fixpoint.specs.Working.{IsGatePart, IsWorking}
 use Rattle.fixpoint.proofs.CutLemmas.{one-of, zero-of}
@@ -37,8 +37,8 @@ use Rattle.fixpoint.proofs.WorkLemmas.{sweeps_are_working, gate_parts_agree}
 use Rattle.care_sets.specs.Care.{CareSet, columns, is_care_vector}
 use Rattle.verdict.specs.Enough.{IsLaid, IsColumn, SaysCare, IsOfNetlist}
 use Rattle.verdict.specs.Sets.{Tells}
-use Rattle.isolation.specs.Columns.{AreColumns}
-use Rattle.fixpoint.specs.Orders.{order, laid}
+use Rattle.fixpoint.specs.Orders.{laid}
+use Rattle.verdict.proofs.CountLemmas.{AreColumnVectors}
 use Rattle.verdict.proofs.DecisionLemmas.{IsMade, made-listed, made-told, made-wide}
 
 -- ---- the loops that blocks and a cut tell are those of the netlist
@@ -66,8 +66,8 @@ part-at net loops v g part f = record {
   same = λ x. part.same (f x);
 }
 
-module _ (net : Parts) (care : CareSet) (a : Arena) (given : List Rails) (vars : a.vars ≡ columns net) (columns_are : AreColumns a (order net) given) where
-  working-made : (g : List Bool → Bool) → IsWorking net (loops_of net) (values_of a given) g → IsMade net care g
+module _ (net : Parts) (care : CareSet) (a : Arena) (vars : a.vars ≡ columns net) (points : Vectors) (points_are : AreColumnVectors net points) where
+  working-made : (g : List Bool → Bool) → IsWorking net (loops_of net) points g → IsMade net care g
   working-made g (inl rail) = record {
     of = bit_at rail.signal;
     listed = IsColumn rail.signal rail.within (λ v. refl);
@@ -75,18 +75,18 @@ module _ (net : Parts) (care : CareSet) (a : Arena) (given : List Rails) (vars :
     same = λ v long.
         let low = rail.within in
         rail.same (laid net v)
-        ∙ ap (λ (ts : List Trit). is_bit rail.bit (value_in ts rail.signal)) (columns_are.values v (long ∙ sym vars))
+        ∙ ap (λ (ts : List Trit). is_bit rail.bit (value_in ts rail.signal)) (points_are.laid_are v long)
         ∙ ap (is_bit rail.bit) (get_or-map bit v rail.signal false X (omega (arith, low, long)));
   }
   working-made g (inr part) =
-      let h = gate_parts_agree net (loops_of net) (columns net) (λ v. values_of a given (laid net v)) bits (λ v long. columns_are.values v (long ∙ sym vars)) (λ v. g (laid net v)) (part-at net (loops_of net) (values_of a given) g part (laid net)) in
+      let h = gate_parts_agree net (loops_of net) (columns net) (λ v. points (laid net v)) bits (λ v long. points_are.laid_are v long) (λ v. g (laid net v)) (part-at net (loops_of net) points g part (laid net)) in
       made-listed (IsOfNetlist h.is) h.alike
 
-  pub working-wide : (loops : Loops) {w : ℕ} → loops ≡ loops_of net → IsWide a.vars (IsLaid net care) w → IsWide a.vars (IsWorking net loops (values_of a given)) w
+  pub working-wide : (loops : Loops) {w : ℕ} → loops ≡ loops_of net → IsWide a.vars (IsLaid net care) w → IsWide a.vars (IsWorking net loops points) w
   working-wide loops {w} is wide =
-      subst (λ (l : Loops). IsWide a.vars (IsWorking net l (values_of a given)) w) (sym is)
-      (subst (λ n. IsWide n (IsWorking net (loops_of net) (values_of a given)) w) (sym vars)
-      (IsWide-fewer (IsMade net care) (IsWorking net (loops_of net) (values_of a given)) w working-made (made-wide (subst (λ n. IsWide n (IsLaid net care) w) vars wide))))
+      subst (λ (l : Loops). IsWide a.vars (IsWorking net l points) w) (sym is)
+      (subst (λ n. IsWide n (IsWorking net (loops_of net) points) w) (sym vars)
+      (IsWide-fewer (IsMade net care) (IsWorking net (loops_of net) points) w working-made (made-wide (subst (λ n. IsWide n (IsLaid net care) w) vars wide))))
 
   -- ---- the steps of loops
 
@@ -101,7 +101,7 @@ module _ (net : Parts) (care : CareSet) (a : Arena) (given : List Rails) (vars :
       )
 
   -- a cut wire after so many sweeps
-  swept-made : (gate n k : ℕ) (b : Bool) → Contains (cuts_of net (loops_of net) gate) n → k ≤ length (cuts_of net (loops_of net) gate) + 1 → IsMade net care (λ v. is_bit b (value_in (sweeps net (loops_of net) (values_of a given v) k) n))
+  swept-made : (gate n k : ℕ) (b : Bool) → Contains (cuts_of net (loops_of net) gate) n → k ≤ length (cuts_of net (loops_of net) gate) + 1 → IsMade net care (λ v. is_bit b (value_in (sweeps net (loops_of net) (points v) k) n))
   swept-made gate n zero b has few = record {
     of = is_care_vector net care;
     listed = SaysCare (λ v. refl);
@@ -113,12 +113,12 @@ module _ (net : Parts) (care : CareSet) (a : Arena) (given : List Rails) (vars :
   swept-made gate n (suc k) b has few =
       let is = cut-is (loops_of net) (loops_exist net) gate n has in
       let same = ap length is.1 in
-      working-made (λ v. is_bit b (value_in (sweeps net (loops_of net) (values_of a given v) (suc k)) n))
-      (sweeps_are_working net (loops_of net) (loops_exist net) (values_of a given) n k is.0 (omega (arith, few, same)) b)
+      working-made (λ v. is_bit b (value_in (sweeps net (loops_of net) (points v) (suc k)) n))
+      (sweeps_are_working net (loops_of net) (loops_exist net) points n k is.0 (omega (arith, few, same)) b)
 
   module _ (blocks : Blocks) (cut : Cut) (are : AreBlocksOf net blocks) (cut_is : IsCutOf net cut) where
     -- a rail of a step
-    module _ (loop : LoopSteps) (steps : AreStepsOf net blocks cut a (values_of a given) loop) (node : Node) (is : IsStepNode loop.steps node) where
+    module _ (loop : SweptLoop) (steps : AreStepsOf net blocks cut a points loop) (node : Node) (is : IsStepNode loop.steps node) where
       abbrev gate : ℕ
       gate = get_or (block_at blocks loop.block).gates 0 0
 
@@ -137,17 +137,17 @@ module _ (net : Parts) (care : CareSet) (a : Arena) (given : List Rails) (vars :
       step-is : step_at loop.steps is.among.0 ≡ is.step
       step-is = get_or_default loop.steps is.among.0 [] is.step is.among.1 ∙ is.among.2
 
-      values-are : (v : List Bool) → values_of a is.step v ≡ cuts net (loops_of net) (values_of a given v) gate step
+      values-are : (v : List Bool) → values_of a is.step v ≡ cuts net (loops_of net) (points v) gate step
       values-are v =
           ap (λ (rails : List Rails). values_of a rails v) (sym step-is)
           ∙ steps.each gate step v gate-there is.among.1
-          ∙ ap (λ (l : Loops). cuts net l (values_of a given v) gate step) (loops-are net blocks cut are cut_is)
+          ∙ ap (λ (l : Loops). cuts net l (points v) gate step) (loops-are net blocks cut are cut_is)
 
       width : length is.step ≡ length (cuts_of net (loops_of net) gate)
       width =
           sym (length-map {B = Trit} is.step (λ r. value_of a r []))
           ∙ ap length (values-are [])
-          ∙ length-map {B = Trit} (cuts_of net (loops_of net) gate) (value_in (sweeps net (loops_of net) (values_of a given []) step))
+          ∙ length-map {B = Trit} (cuts_of net (loops_of net) gate) (value_in (sweeps net (loops_of net) (points []) step))
 
       abbrev wire : ℕ
       wire = get_or (cuts_of net (loops_of net) gate) place 0
@@ -159,14 +159,14 @@ module _ (net : Parts) (care : CareSet) (a : Arena) (given : List Rails) (vars :
           let within : is.within.0 < length (cuts_of net (loops_of net) gate) = omega (arith, inside, wide) in
           (is.within.0, within, get_or_default (cuts_of net (loops_of net) gate) is.within.0 (get_or (cuts_of net (loops_of net) gate) is.within.0 0) 0 within)
 
-      rail-value : (v : List Bool) → value_of a is.rails v ≡ value_in (sweeps net (loops_of net) (values_of a given v) step) wire
+      rail-value : (v : List Bool) → value_of a is.rails v ≡ value_in (sweeps net (loops_of net) (points v) step) wire
       rail-value v =
           let inside = is.within.1 in
           let wide = width in
           ap (λ (r : Rails). value_of a r v) (sym is.within.2)
           ∙ sym (get_or-map (λ (r : Rails). value_of a r v) is.step place is.rails X inside)
           ∙ ap (λ (ts : List Trit). get_or ts place X) (values-are v)
-          ∙ get_or-map (value_in (sweeps net (loops_of net) (values_of a given v) step)) (cuts_of net (loops_of net) gate) place 0 X (omega (arith, inside, wide))
+          ∙ get_or-map (value_in (sweeps net (loops_of net) (points v) step)) (cuts_of net (loops_of net) gate) place 0 X (omega (arith, inside, wide))
 
       rail-made : (b : Bool) → IsMade net care (λ v. is_bit b (value_of a is.rails v))
       rail-made b =
@@ -190,17 +190,17 @@ module _ (net : Parts) (care : CareSet) (a : Arena) (given : List Rails) (vars :
                 record { of = m.of; listed = m.listed; by = m.by; same = λ v long. ap (λ (n : Node). den a n (laid net v)) e ∙ sym (zero-of (den a is.rails.one (laid net v)) (den a is.rails.zero (laid net v)) (proper.proper (laid net v))) ∙ m.same v long }
           ]
 
-    compared-made : (set : Node) (solved : Solved) → Tells net a set (is_care_vector net care) → All (AreStepsOf net blocks cut a (values_of a given)) solved.loops → (g : List Bool → Bool) → IsComparedIn a set solved.loops g → IsMade net care g
+    compared-made : (set : Node) (solved : Solved) → Tells net a set (is_care_vector net care) → All (AreKeptSteps net blocks cut a points) solved.loops → (g : List Bool → Bool) → IsComparedIn a set solved.loops g → IsMade net care g
     compared-made set solved told all g is = elim is.of [
       | inl e ↦
           let m = made-told vars (SaysCare (λ v. refl)) told in
           record { of = m.of; listed = m.listed; by = m.by; same = λ v long. is.same (laid net v) ∙ ap (λ (n : Node). den a n (laid net v)) e ∙ m.same v long }
       | inr at ↦
-          let m = step-made at.loop (All-contains (AreStepsOf net blocks cut a (values_of a given)) solved.loops at.loop all at.among) is.node at.node in
+          let m = step-made (loop_under a at.loop) (All-contains (AreKeptSteps net blocks cut a points) solved.loops at.loop all at.among).steps is.node at.node in
           record { of = m.of; listed = m.listed; by = m.by; same = λ v long. is.same (laid net v) ∙ m.same v long }
     ]
 
-    pub compared-wide : (set : Node) (solved : Solved) {w : ℕ} → Tells net a set (is_care_vector net care) → All (AreStepsOf net blocks cut a (values_of a given)) solved.loops → IsWide a.vars (IsLaid net care) w →
+    pub compared-wide : (set : Node) (solved : Solved) {w : ℕ} → Tells net a set (is_care_vector net care) → All (AreKeptSteps net blocks cut a points) solved.loops → IsWide a.vars (IsLaid net care) w →
         IsWide a.vars (IsComparedIn a set solved.loops) w
     compared-wide set solved {w} told all wide =
         subst (λ n. IsWide n (IsComparedIn a set solved.loops) w) (sym vars)

@@ -1,5 +1,5 @@
 -- How the parts make the verdict.
-use Rattle.std.proofs.Common.{◌≡◌, ◌+◌, Bool, ◌&&◌, List, [], length, drop, Option, Some, None, refl, sym, ap, ap₂, ◌∙◌}
+use Rattle.std.proofs.Common.{◌≡◌, ◌+◌, Bool, ◌&&◌, List, [], length, map, drop, Option, Some, None, refl, sym, ap, ap₂, ◌∙◌}
 use Rattle.std.specs.Prelude.{find, is_none, if◌then◌else◌}
 use Rattle.std.specs.Option.{option_or}
 use Rattle.std.proofs.lemmas.List.{length-append, drop-map}
@@ -16,7 +16,9 @@ use Rattle.netlist.specs.Fixpoint.{fix, fix_gates}
 use Rattle.loops.specs.declared.parts.Blocks.{Blocks}
 use Rattle.loops.specs.declared.parts.Cut.{Cut}
 use Rattle.fixpoint.specs.declared.solved.Solved.{Solved}
-use Rattle.fixpoint.specs.Solved.{IsSolution}
+use Rattle.fixpoint.specs.Kept.{rails_under}
+use Rattle.fixpoint.specs.Solved.{Vectors, IsSolution}
+use Rattle.verdict.proofs.CountLemmas.{AreColumnVectors}
 use Rattle.care_sets.specs.Care.{CareSet, columns, state_of, is_allowed, is_care_vector}
 use Rattle.refusals.specs.declared.refusal.Refusal.{Refusal}
 use Rattle.refusals.specs.declared.refusal.Refusal.TheVariants.{EmptyCare}
@@ -86,16 +88,14 @@ state-values net a rails latches v are is wide =
 
 -- ---- the fixpoint at the columns
 
-pub fixed-is : (net : Parts) (blocks : Blocks) (cut : Cut) (a : Arena) (given : List Rails) (solved : Solved) → AreColumns a (order net) given → a.vars ≡ columns net → IsSolution net blocks cut a given solved →
-    AreFixed net a solved.rails
-fixed-is net blocks cut a given solved are vars is = record {
+pub fixed-is : (net : Parts) (blocks : Blocks) (cut : Cut) (a : Arena) (points : Vectors) (solved : Solved) → AreColumnVectors net points → a.vars ≡ columns net → IsSolution net blocks cut a points solved →
+    AreFixed net a (map (rails_under a) solved.rails)
+fixed-is net blocks cut a points solved are vars is = record {
   width =
-      let w = are.width in
-      let given_wide = length-values a given [] in
-      sym (length-values a solved.rails [])
+      sym (length-values a (map (rails_under a) solved.rails) [])
       ∙ ap length (is.values [])
-      ∙ length-append (values_of a given []) (fix_gates net (values_of a given []))
-      ∙ ap₂ (λ m n. m + n) (given_wide ∙ w ∙ vars) (length-fix_gates net (values_of a given []));
+      ∙ length-append (points []) (fix_gates net (points []))
+      ∙ ap₂ (λ m n. m + n) (are.width []) (length-fix_gates net (points []));
   proper = is.rails;
-  values = λ v wide. is.values (laid net v) ∙ ap (fix net) (are.values v wide);
+  values = λ v wide. is.values (laid net v) ∙ ap (fix net) (are.laid_are v (wide ∙ vars));
 }

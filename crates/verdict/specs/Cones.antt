@@ -1,5 +1,6 @@
 -- What is decided on the cones of some gates alone.
 use Rattle.std.specs.Prelude.{◌≡◌, ◌<◌, ◌+◌, ◌-◌, ℕ, Bool, true, List, length, map, All, Contains, Option, None, Some, IfSome, if◌then◌else◌}
+use Rattle.bdd_store.specs.declared.node.Node.{Node}
 use Rattle.bdd_store.specs.Arena.{Arena}
 use Rattle.cyc_base.specs.declared.trit.Trit.{Trit}
 use Rattle.cyc_base.specs.declared.trit.Trit.TheVariants.{Zero}
@@ -13,7 +14,6 @@ use Rattle.loops.specs.Blocks.{AreBlocksOf}
 use Rattle.loops.specs.Cuts.{IsCutOf}
 use Rattle.loops.specs.Sweeps.{first_gate, value_in}
 use Rattle.fixpoint.specs.Orders.{laid}
-use Rattle.fixpoint.specs.Solved.{IsSolution}
 use Rattle.fixpoint.specs.Sweeping.{rails_at}
 use Rattle.isolation.specs.Cones.{cone_signals, is_marked}
 use Rattle.isolation.specs.Excerpts.{AreWhole, IsExcerpt}
@@ -22,6 +22,7 @@ use Rattle.care_sets.specs.Care.{CareSet, IsCareVector, is_in_invariant}
 use Rattle.refusals.specs.Refusals.{leaves_refusal, next_state}
 use Rattle.refusals.specs.declared.refusal.Refusal.TheVariants as refusals
 use Rattle.verdict.specs.declared.cones.SolvedNetlist.{SolvedNetlist}
+use Rattle.verdict.specs.Solving.{IsFixpointOn}
 use Rattle.verdict.specs.declared.leaving.Step.{Step}
 use Rattle.verdict.specs.declared.leaving.Step.TheVariants as steps
 
@@ -31,11 +32,11 @@ pub record IsConeIn (net : Parts) (gates : List ℕ) (small : Parts) : Type 0 wh
   pub whole : AreWhole net gates
   pub valid : IsNetlist small
 
--- a netlist solved on these rails of its inputs and latches
-pub record IsSolvedOn (net : Parts) (a : Arena) (given : List Rails) (solved : SolvedNetlist) : Type 0 where
+-- a netlist solved on these rails of its inputs and latches, beside a set of vectors
+pub record IsSolvedOn (net : Parts) (old new : Arena) (given : List Rails) (set : Node) (solved : SolvedNetlist) : Type 0 where
   pub blocks : AreBlocksOf net solved.blocks
   pub cut : IsCutOf net solved.cut
-  pub solution : IsSolution net solved.blocks solved.cut a given solved.solved
+  pub found : IsFixpointOn net solved.blocks solved.cut old new given set solved.fixpoint
 
 -- the rails of a cone's signals: at each vector they stand for the whole's fixpoint
 pub record AreConeRails (net : Parts) (gates : List ℕ) (a : Arena) (rails : List Rails) : Type 0 where

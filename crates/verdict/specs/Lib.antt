@@ -9,4 +9,5 @@ pub mod Laws
 pub mod Next
 pub mod Observed
 pub mod Sets
+pub mod Solving
 pub mod Verdicts

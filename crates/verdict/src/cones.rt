@@ -1,6 +1,7 @@
 //! Cones solved on diagrams of their own: their signals have the fixpoint that they have in the whole netlist.
 
 ghost use Rattle.std.specs.Prelude.{◌≡◌, length, All, IfOk, IfSome};
+ghost use Rattle.bdd_store.specs.Arena.{IsNodeOf};
 ghost use Rattle.bdd_store.specs.Growth.{KeepsNodes};
 ghost use Rattle.dual_rail.specs.Rails.{AreRailsOf};
 ghost use Rattle.loops.specs.Sweeps.{first_gate};
@@ -12,11 +13,11 @@ ghost use Rattle.verdict.specs.Cones.{IsSolvedOn};
 ghost use Rattle.verdict.specs.Sets.{Tells};
 
 use crate::beginning::{Start, begin};
+use crate::solving::{Fixpoint, solve_beside};
 use bdd_ops::Diagrams;
 use bdd_store::{Node, StoreFault};
 use care_sets::Care;
 use dual_rail::Rails;
-use fixpoint::{Solved, solve};
 use loops::{Blocks, Cut, find_blocks, find_cut};
 use netlist::Netlist;
 use std::alloc::Global;
@@ -24,33 +25,35 @@ use std::alloc::Global;
 /// The most nodes that are spent on cones, so that cones that are too large for it soon cost little.
 pub(crate) const CONE_NODES: u32 = 1_000_000;
 
-/// A netlist's fixpoint as rails, with the blocks and cut wires by which it was found.
+/// A netlist's fixpoint, with the blocks and cut wires by which it was found.
 #[derive(Drop)]
 pub struct SolvedNetlist {
     pub blocks: Blocks,
     pub cut: Cut,
-    pub solved: Solved,
+    pub fixpoint: Fixpoint,
 }
 
-/// The fixpoint of a netlist on these rails of its inputs and latches.
+/// The fixpoint of a netlist on these rails of its inputs and latches, beside a set of vectors.
 pub(crate) fn solve_on(
     alloc: Global,
     d: &mut Diagrams,
     net: &Netlist,
     given: &[Rails],
+    set: Node,
 ) -> Result<SolvedNetlist, StoreFault>
     requires width { length given.now ≡ first_gate net.now }
     requires rails { All (AreRailsOf d.old) given.now }
-    ensures solved { IfOk result (IsSolvedOn net.now d.new given.now) }
-    ensures keeps { KeepsNodes d.old d.new }
+    requires set { IsNodeOf d.old set }
+    ensures solved { IfOk result (IsSolvedOn net.now d.old d.new given.now set) }
+    ensures vars { d.new.vars ≡ d.old.vars }
 {
     let blocks = find_blocks(alloc, net)?;
     let cut = find_cut(alloc, net, &blocks)?;
-    let solved = solve(alloc, d, net, &blocks, &cut, given)?;
+    let fixpoint = solve_beside(alloc, d, net, &blocks, &cut, given, set)?;
     Ok(SolvedNetlist {
         blocks,
         cut,
-        solved,
+        fixpoint,
     })
 }
 

@@ -97,7 +97,14 @@ fn spread_counts(
     ensures { IfOk result (λ counts. AreSpread blocks.now small.now cone.now.gates found.now.per_block (length cone.now.gates) counts.items) }
 {
     let mut counts = vec![in alloc; 0; blocks.list.items().len()]?;
-    spread(net, blocks, cone, small, found.per_block.items(), &mut counts);
+    spread(
+        net,
+        blocks,
+        cone,
+        small,
+        found.per_block.items(),
+        &mut counts,
+    );
     Ok(counts)
 }
 
@@ -119,13 +126,16 @@ fn count_cone(
     ensures { (care : CareSet) → Tells net.now d.old set (is_care_vector net.now care) →
         IfOk result (λ found. IfSome found (λ counts. AreConeCounts net.now blocks.now care cone.now.gates counts.items)) }
 {
-    let solved = solve_on(alloc, d, &cone.netlist, columns)?;
-    if !are_known_on(d, set, solved.solved.rails.items())? {
+    d.store().laws();
+    let solved = solve_on(alloc, d, &cone.netlist, columns, set)?;
+    let fixpoint = &solved.fixpoint;
+    d.store().laws();
+    if !are_known_on(d, fixpoint.set, fixpoint.rails.items())? {
         return Ok(None);
     }
     solutions();
     d.store().laws();
-    let found = sweeps(alloc, d, &solved.solved, &solved.blocks, set)?;
+    let found = sweeps(alloc, d, &fixpoint.solved, &solved.blocks, fixpoint.set)?;
     let counts = spread_counts(alloc, net, blocks, cone, &solved.blocks, &found)?;
     Ok(Some(counts))
 }

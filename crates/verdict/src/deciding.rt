@@ -19,6 +19,7 @@ use crate::fault::DecideFault;
 use crate::gates::Gates;
 use crate::leaving::{Step, leaving};
 use crate::refusing::{gates_on, leaves};
+use crate::solving::solve_beside;
 use crate::verdict::Verdict;
 use bdd_ops::Diagrams;
 use bdd_store::{Node, StoreFault};
@@ -26,7 +27,7 @@ use care_sets::Care;
 use cyc_base::MAX_NODES;
 use dual_rail::Rails;
 use fixpoint::laws::solutions;
-use fixpoint::{order, solve, sweeps};
+use fixpoint::{order, sweeps};
 use isolation::column_rails;
 use loops::{Blocks, Cut};
 use netlist::Netlist;
@@ -98,7 +99,9 @@ fn judge(
             Step::Undecided => {}
         }
     }
-    let solved = solve(alloc, d, net, blocks, cut, &rails)?;
+    d.store().laws();
+    let found = solve_beside(alloc, d, net, blocks, cut, &rails, set)?;
+    d.store().laws();
     let gates = later(
         alloc,
         d,
@@ -106,15 +109,15 @@ fn judge(
         care,
         &order,
         observe,
-        solved.rails.items(),
-        set,
+        found.rails.items(),
+        found.set,
     )?;
     let loose = match gates {
         Gates::Determined { loose } => loose,
         Gates::Refused(refusal) => return Ok(Verdict::Refused(refusal)),
     };
     d.store().laws();
-    let counts = sweeps(alloc, d, &solved, blocks, set)?;
+    let counts = sweeps(alloc, d, &found.solved, blocks, found.set)?;
     Ok(Verdict::Accepted {
         sweeps: counts,
         loose,

@@ -154,32 +154,6 @@ fn loads_on(
     Ok(Some(loads))
 }
 
-/// The rails of all latches, on the cone that was solved.
-fn cone_loads(
-    alloc: Global,
-    d: &mut Diagrams,
-    net: &Netlist,
-    cone: &Cone,
-    reads: &[bool],
-    columns: &[Rails],
-) -> Result<Option<Vec<Rails>>, StoreFault>
-    requires vars { d.old.vars ≡ columns_of net.now }
-    requires cone { IsConeIn net.now cone.now.gates cone.now.netlist }
-    requires reads { length reads.now ≡ length net.now.latches }
-    requires columns { AreColumns d.old (order_of net.now) columns.now }
-    ensures loads { IfOk result (λ found. IfSome found (λ loads. AreLoads net.now d.new reads.now (length net.now.latches) loads.items)) }
-    ensures keeps { KeepsNodes d.old d.new }
-{
-    let solved = solve_on(alloc, d, &cone.netlist, columns)?;
-    Ok(loads_on(
-        alloc,
-        net,
-        cone.gates.items(),
-        solved.solved.rails.items(),
-        reads,
-    )?)
-}
-
 /// A vector's values as ternary ones.
 fn trits_of(alloc: Global, vector: &[bool]) -> Result<Vec<Trit>, AllocError>
     ensures { IfOk result (λ trits. trits.items ≡ bits vector.now) }
@@ -254,6 +228,36 @@ fn step_by(
     Ok(step_to(alloc, net, found)?)
 }
 
+/// Whether a next state leaves the invariant, by what the latches load on the cone that is solved here.
+fn step_from(
+    alloc: Global,
+    d: &mut Diagrams,
+    net: &Netlist,
+    care: &Care,
+    cone: &Cone,
+    reads: &[bool],
+    order: &[u32],
+    columns: &[Rails],
+    set: Node,
+) -> Result<Step, StoreFault>
+    requires vars { d.old.vars ≡ columns_of net.now }
+    requires care { IsCareOf net.now care.now }
+    requires cone { IsConeIn net.now cone.now.gates cone.now.netlist }
+    requires reads { AreReadLatches net.now care.now reads.now }
+    requires known { LoadsAreKnown net.now care.now }
+    requires order { order.now ≡ order_of net.now }
+    requires columns { AreColumns d.old (order_of net.now) columns.now }
+    requires set { Tells net.now d.old set (is_care_vector net.now care.now) }
+    ensures { IfOk result (IsStep net.now care.now) }
+{
+    let solved = solve_on(alloc, d, &cone.netlist, columns, set)?;
+    let rails = solved.fixpoint.rails.items();
+    let Some(loads) = loads_on(alloc, net, cone.gates.items(), rails, reads)? else {
+        return Ok(Step::Undecided);
+    };
+    step_by(alloc, d, net, care, order, solved.fixpoint.set, &loads)
+}
+
 /// Whether a next state leaves the invariant, on diagrams with a variable for each column.
 fn step_on(
     alloc: Global,
@@ -275,10 +279,7 @@ fn step_on(
     let Some(set) = care_there(alloc, d, net, care, &order, &columns)? else {
         return Ok(Step::Undecided);
     };
-    let Some(loads) = cone_loads(alloc, d, net, cone, reads, &columns)? else {
-        return Ok(Step::Undecided);
-    };
-    step_by(alloc, d, net, care, &order, set, &loads)
+    step_from(alloc, d, net, care, cone, reads, &order, &columns, set)
 }
 
 /// Whether a next state leaves the invariant, on a cone with diagrams of its own.

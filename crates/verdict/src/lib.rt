@@ -23,6 +23,7 @@ mod next;
 mod observing;
 mod refusing;
 mod sets;
+mod solving;
 mod verdict;
 mod witness;
 

@@ -8,12 +8,13 @@ ghost use Rattle.third_rail.specs.Knowing.{number_of};
 ghost use Rattle.verdict.specs.Determination.{constant_rails, AreNeededAt};
 
 use crate::known::Known;
+use crate::solving::solve_beside;
 use bdd_ops::Diagrams;
 use bdd_store::{Node, StoreFault};
 use cyc_base::MAX_NODES;
 use dual_rail::Rails;
 use fixpoint::laws::solutions;
-use fixpoint::{solve, sweeps};
+use fixpoint::sweeps;
 use loops::{Blocks, Cut, SweepCounts};
 use netlist::Netlist;
 use std::alloc::{AllocError, Global};
@@ -52,10 +53,11 @@ fn sweeps_at(
 {
     let _ = net.gates();
     solutions();
+    let all = Node::of(true);
     let given = constants(alloc, vector)?;
-    let solved = solve(alloc, d, net, blocks, cut, &given)?;
+    let found = solve_beside(alloc, d, net, blocks, cut, &given, all)?;
     d.store().laws();
-    let counts = sweeps(alloc, d, &solved, blocks, Node::of(true))?;
+    let counts = sweeps(alloc, d, &found.solved, blocks, all)?;
     Ok(counts)
 }
 

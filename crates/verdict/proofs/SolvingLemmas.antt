@@ -1,0 +1,59 @@
+-- Rails and a set that are kept while a netlist is solved.
+use Rattle.std.proofs.Common.{◌≡◌, inl, inr, ℕ, List, Bool, true, length, map, sym, ap, ◌∙◌, subst, arith, Option, Some, None, Result}
+use Rattle.std.specs.List.{All}
+use Rattle.std.proofs.lemmas.List.{length-map}
+use Rattle.bdd_store.specs.declared.fault.StoreFault.{StoreFault}
+use Rattle.bdd_store.specs.declared.node.Node.{Node}
+use Rattle.bdd_store.specs.declared.node.Entry.{Entry}
+use Rattle.bdd_store.specs.Arena.{Arena, root_at, constant, den, node_value}
+use Rattle.bdd_store.specs.Growth.{AddsWithin}
+use Rattle.cyc_base.specs.declared.trit.Trit.{Trit}
+use Rattle.dual_rail.specs.declared.rail.Rails.{Rails}
+use Rattle.dual_rail.specs.Rails.{AreRailsOf, trit_of, values_of}
+use Rattle.netlist.specs.declared.parts.Parts.{Parts}
+use Rattle.loops.specs.Sweeps.{first_gate}
+use Rattle.fixpoint.specs.declared.kept.KeptRails.{KeptRails}
+use Rattle.fixpoint.specs.Kept.{rails_under, values_under, AreKept, GainsRoots, RootsStay}
+use Rattle.fixpoint.specs.Solved.{Vectors, AreGiven}
+use Rattle.fixpoint.proofs.KeptLemmas.{All-rails-gained}
+
+-- ---- before a netlist is solved
+
+module _ {s t : Arena} (gains : GainsRoots s t) (given : List Rails) (kept : List KeptRails) (is : map (rails_under t) kept ≡ given) where
+  pub given-kept : (net : Parts) → length given ≡ first_gate net → All (AreRailsOf s) given → All (AreKept t) kept → AreGiven net t kept
+  given-kept net width proper keys = record {
+    width = sym (length-map {B = Rails} kept (rails_under t)) ∙ ap length is ∙ width;
+    keys = keys;
+    proper = subst (All (AreRailsOf t)) (sym is) (All-rails-gained gains given proper);
+  }
+
+  -- they stand for the same vectors
+  pub values-before : values_under t kept ≡ values_of s given
+  values-before =
+      let by_rails : List Rails → Vectors = λ rails bits. values_of t rails bits in
+      let by_entries : List Entry → Vectors = λ es bits. map {B = Trit} (λ r. trit_of (node_value es r.one bits) (node_value es r.zero bits)) given in
+      ap by_rails is ∙ ap by_entries gains.entries
+
+-- roots that came before a call count for nothing
+pub adds_before : {T : Type 0} {r : Result T StoreFault} {s t u : Arena} {cause bounds : ℕ → Type 0} {count : ℕ} → GainsRoots s t → AddsWithin r t u cause bounds count → AddsWithin r s u cause bounds count
+adds_before {cause = cause} gains a = record {
+  added = λ w b. omega (arith, a.added w b, ap length gains.entries);
+  full = λ w b e. elim (a.full w b e) [
+    | inl other ↦ inl (subst cause gains.limit other)
+    | inr past ↦ inr (record { full = past.full; past = omega (arith, past.past, ap length gains.entries) })
+  ];
+}
+
+-- ---- after it
+
+-- the node that is read under a key has the function of the one that was kept
+pub root-function : {s t u : Arena} → GainsRoots s t → RootsStay t u → (key : ℕ) (n m : Node) → root_at t key ≡ Some n → root_at u key ≡ Some m → (bits : List Bool) → den u m bits ≡ den s n bits
+root-function {s} {t} {u} gains stay key n m was is bits =
+    let at = stay.each key n was in
+    ap (λ (o : Option Node). den u (of o) bits) (sym is ∙ at.root)
+    ∙ at.function bits
+    ∙ ap (λ (es : List Entry). node_value es n bits) gains.entries
+  where
+    of : Option Node → Node
+    of None = constant true
+    of (Some x) = x

@@ -1,0 +1,92 @@
+//! Netlists that are solved on rails, beside a set of vectors that is kept.
+
+ghost use Rattle.std.specs.Prelude.{◌≡◌, ◌+◌, ◌*◌, Some, length, map, All, IfOk};
+ghost use Rattle.bdd_store.specs.Arena.{root_at, IsNodeOf};
+ghost use Rattle.bdd_store.specs.Growth.{AddsWithin};
+ghost use Rattle.dual_rail.specs.Rails.{AreRailsOf, values_of};
+ghost use Rattle.dual_rail.specs.WorkingLists.{IsWide};
+ghost use Rattle.loops.specs.Blocks.{AreBlocksOf};
+ghost use Rattle.loops.specs.Cuts.{IsCutOf, loops_by};
+ghost use Rattle.loops.specs.Sweeps.{first_gate};
+ghost use Rattle.fixpoint.specs.Kept.{rails_under, AreKept, GainsRoots};
+ghost use Rattle.fixpoint.specs.Working.{IsWorking, HasLargeCover, effort};
+ghost use Rattle.verdict.specs.Solving.{IsFixpointOn};
+
+use bdd_ops::Diagrams;
+use bdd_store::{Node, Root, StoreFault};
+use cyc_base::Items;
+use dual_rail::Rails;
+use fixpoint::{KeptRails, Solved, keep_rails, rails_of, solve};
+use loops::{Blocks, Cut};
+use netlist::Netlist;
+use std::alloc::{AllocError, Global};
+
+/// Rails and a set of vectors, kept as roots.
+#[derive(Drop)]
+pub struct Beside {
+    pub rails: Vec<KeptRails>,
+    pub set: Root,
+}
+
+/// A netlist's fixpoint, and a set of vectors that was kept beside it.
+#[derive(Drop)]
+pub struct Fixpoint {
+    pub solved: Solved,
+    /// The rails of all signals.
+    pub rails: Items<Rails>,
+    pub set: Node,
+}
+
+/// Keeps rails and a set.
+fn keep_beside(
+    alloc: Global,
+    d: &mut Diagrams,
+    rails: &[Rails],
+    set: Node,
+) -> Result<Beside, AllocError>
+    requires rails { All (AreRailsOf d.old) rails.now }
+    requires set { IsNodeOf d.old set }
+    ensures keys { IfOk result (λ beside. All (AreKept d.new) beside.rails.items) }
+    ensures rails { IfOk result (λ beside. map (rails_under d.new) beside.rails.items ≡ rails.now) }
+    ensures set { IfOk result (λ beside. root_at d.new beside.set.key ≡ Some set) }
+    ensures gains { GainsRoots d.old d.new }
+{
+    let root = d.keep(set)?;
+    let kept = keep_rails(alloc, d, rails)?;
+    Ok(Beside {
+        rails: kept,
+        set: root,
+    })
+}
+
+/// The fixpoint of a netlist on these rails of its inputs and latches. The set of vectors stays; of other nodes only
+/// the constants mean anything after the call.
+pub(crate) fn solve_beside(
+    alloc: Global,
+    d: &mut Diagrams,
+    net: &Netlist,
+    blocks: &Blocks,
+    cut: &Cut,
+    given: &[Rails],
+    set: Node,
+) -> Result<Fixpoint, StoreFault>
+    requires blocks { AreBlocksOf net.now blocks.now }
+    requires cut { IsCutOf net.now cut.now }
+    requires width { length given.now ≡ first_gate net.now }
+    requires rails { All (AreRailsOf d.old) given.now }
+    requires set { IsNodeOf d.old set }
+    ensures fixpoint { IfOk result (IsFixpointOn net.now blocks.now cut.now d.old d.new given.now set) }
+    ensures vars { d.new.vars ≡ d.old.vars }
+    ensures limit { d.new.limit ≡ d.old.limit }
+    ensures adds { AddsWithin result d.old d.new (HasLargeCover net.now) (IsWide d.old.vars (IsWorking net.now (loops_by blocks.now cut.now) (values_of d.old given.now))) (10 * (length net.now.gates + 2) * effort net.now) }
+{
+    d.store().laws();
+    let Beside { rails, set: root } = keep_beside(alloc, d, given, set)?;
+    let solved = solve(alloc, d, net, blocks, cut, rails)?;
+    let rails = rails_of(alloc, d, solved.rails.items())?;
+    Ok(Fixpoint {
+        solved,
+        rails: Items::of(rails),
+        set: d.root(&root),
+    })
+}
