@@ -1,5 +1,5 @@
 -- Why a decision finds the diagrams full.
-use Rattle.std.proofs.Common.{◌≡◌, inl, inr, ◌<◌, ◌≤◌, ℕ, Err, Result, length, subst, ◌∙◌, arith}
+use Rattle.std.proofs.Common.{◌≡◌, inl, inr, ◌≤◌, ℕ, Err, Result, length, subst, ◌∙◌, arith}
 use Rattle.bdd_store.specs.declared.fault.StoreFault.{StoreFault}
 use Rattle.bdd_store.specs.declared.fault.StoreFault.TheVariants.{Full}
 use Rattle.bdd_store.specs.Arena.{Arena}

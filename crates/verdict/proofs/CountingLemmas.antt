@@ -1,52 +1,49 @@
 -- The sweeps of loops, counted on their cones.
-use Rattle.std.proofs.Common.{◌≡◌, ◌≢◌, ◌↔◌, inl, inr, ℕ, ◌+◌, ◌-◌, ◌<◌, Bool, true, false, not, ◌&&◌, List, [], ◌∷◌, length, map, get_or, Contains, Option, Some, None, Result, Ok, Err, IfOk, refl, sym, ap, ap₂, ◌∙◌, subst, arith, true≢false}
+use Rattle.std.proofs.Common.{◌≡◌, ◌↔◌, inl, inr, ℕ, ◌+◌, ◌-◌, ◌<◌, Bool, false, not, List, length, map, get_or, Contains, Option, Some, None, Result, Ok, Err, IfOk, refl, sym, ap, ◌∙◌, subst, arith}
 use Rattle.std.proofs.Math.ListN.{set}
 use Rattle.std.proofs.lemmas.Bool.{cases_lt, cases_eq}
-use Rattle.std.proofs.lemmas.List.{get_or-map, get_or-set_same, get_or-set_other, get_or_default, length-map}
+use Rattle.std.proofs.lemmas.List.{get_or-map, get_or-set_same, get_or-set_other, get_or_default}
 use Rattle.bdd_store.specs.declared.node.Node.{Node}
 use Rattle.std.specs.List.{All}
 use Rattle.std.specs.Prelude.{IfSome}
-use Rattle.bdd_store.specs.Arena.{Arena, den, IsNodeOf}
+use Rattle.bdd_store.specs.Arena.{Arena, IsNodeOf}
 use Rattle.bdd_store.specs.Growth.{KeepsNodes}
 use Rattle.bdd_store.specs.Soundness.{IsSound}
 use Rattle.cyc_base.specs.declared.trit.Trit.{Trit}
 use Rattle.cyc_base.specs.declared.trit.Trit.TheVariants.{X}
-use Rattle.cyc_base.specs.Values.{bit, bits}
+use Rattle.cyc_base.specs.Values.{bits}
 use Rattle.dual_rail.specs.declared.rail.Rails.{Rails}
-use Rattle.dual_rail.specs.Rails.{AreRailsOf, value_of, values_of}
-use Rattle.dual_rail.proofs.SurelyLemmas.{length-values, value_of-kept}
+use Rattle.dual_rail.specs.Rails.{AreRailsOf, value_of}
+use Rattle.dual_rail.proofs.SurelyLemmas.{value_of-kept}
 use Rattle.netlist.specs.declared.parts.Parts.{Parts}
 use Rattle.netlist.specs.Netlists.{signal, gate_sig}
-use Rattle.netlist.specs.Fixpoint.{fix, fix_gates, wire}
+use Rattle.netlist.specs.Fixpoint.{fix, wire}
 use Rattle.loops.specs.declared.parts.Blocks.{Blocks}
 use Rattle.loops.specs.declared.parts.Cut.{Cut}
 use Rattle.loops.specs.declared.parts.SweepCounts.{SweepCounts}
-use Rattle.loops.specs.Blocks.{AreBlocksOf, block_at, home_of}
-use Rattle.loops.specs.Cuts.{IsCutOf, Loops, AreLoopsOf, loops_by}
+use Rattle.loops.specs.Blocks.{AreBlocksOf, home_of}
+use Rattle.loops.specs.Cuts.{IsCutOf, loops_by}
 use Rattle.loops.specs.Found.{loops_of}
-use Rattle.loops.specs.Sweeps.{first_gate, value_in, CutsAreFixed, IsCountOfSweeps}
+use Rattle.loops.specs.Sweeps.{first_gate, CutsAreFixed, IsCountOfSweeps}
 use Rattle.loops.specs.Walks.{SameLoop}
 use Rattle.loops.proofs.Existence.{loops_exist}
 use Rattle.loops.proofs.Told.{blocks_tell_loops}
 use Rattle.fixpoint.specs.Counts.{CountSweeps, IsLeastSweeps, count_at}
-use Rattle.fixpoint.specs.Orders.{order, laid}
-use Rattle.isolation.specs.Columns.{AreColumns}
+use Rattle.fixpoint.specs.Orders.{laid}
 use Rattle.isolation.specs.Cones.{cone_signals, IsConeOf}
 use Rattle.isolation.specs.Excerpts.{gate_in, inputs_in}
 use Rattle.isolation.specs.Laws.{column_signals, IsLooped}
 use Rattle.isolation.proofs.ConeLemmas.{excerpts_keep, columns_give_vectors, number-gate, length-cone}
 use Rattle.isolation.proofs.LoopLemmas.{loop-same}
 use Rattle.third_rail.specs.Knowing.{is_marked, number_of}
-use Rattle.care_sets.specs.Care.{CareSet, columns, is_care_vector, IsCareVector}
+use Rattle.care_sets.specs.Care.{CareSet, columns, is_care_vector}
 use Rattle.refusals.proofs.RefusalLemmas.{gate_wire}
 use Rattle.refusals.proofs.ShowingLemmas.{care_vector_is}
-use Rattle.verdict.specs.Cones.{AreConeRails, IsConeIn, IsSolvedOn}
+use Rattle.verdict.specs.Cones.{AreConeRails, IsConeIn}
 use Rattle.verdict.specs.Counting.{AreKnownOn, AreSpread, AreConeCounts}
 use Rattle.verdict.specs.Determination.{AreDeterminedOnCare, AreDecided, IsOpen}
 use Rattle.verdict.specs.Sets.{Tells}
 use Rattle.verdict.specs.Verdicts.{are_care_values}
-use Rattle.verdict.specs.declared.cones.SolvedNetlist.{SolvedNetlist}
-use Rattle.verdict.proofs.ConeLemmas.{cone-rails}
 use Rattle.verdict.proofs.CountLemmas.{AreColumnVectors, count-on-care}
 use Rattle.fixpoint.specs.Solved.{Vectors}
 
@@ -73,9 +70,9 @@ module _ (net : Parts) (blocks : Blocks) (are : AreBlocksOf net blocks) (gates :
   place-same i j il jl e = elim (cases_lt i j) [
     | inl low ↦ absurd (let r = cone.whole.rise i j low jl in omega (arith, r, e))
     | inr high ↦ elim (cases_lt j i) [
-        | inl low ↦ absurd (let r = cone.whole.rise j i low il in omega (arith, r, e))
-        | inr same ↦ omega (arith, high, same)
-      ]
+      | inl low ↦ absurd (let r = cone.whole.rise j i low il in omega (arith, r, e))
+      | inr same ↦ omega (arith, high, same)
+    ]
   ]
 
   -- gates of one block of the whole are of one block of the cone

@@ -1,5 +1,5 @@
 -- The least vector of a set.
-use Rattle.std.proofs.Common.{◌≡◌, ◌==◌, ℕ, zero, suc, ◌<◌, ◌≤◌, Bool, true, false, not, ◌&&◌, if◌then◌else◌, cond, List, [], ◌∷◌, length, map, Option, Some, None, refl, sym, ap, ap₂, subst, ◌∙◌, arith, true≢false}
+use Rattle.std.proofs.Common.{◌≡◌, ◌==◌, ℕ, zero, suc, ◌<◌, Bool, true, false, not, ◌&&◌, if◌then◌else◌, cond, List, [], ◌∷◌, length, map, Option, Some, None, refl, sym, ap, ap₂, subst, ◌∙◌, arith, true≢false}
 use Rattle.std.specs.List.{All}
 use Rattle.std.specs.Prelude.{find, is_none}
 use Rattle.std.proofs.lemmas.List.{get_or_default}
@@ -9,8 +9,6 @@ use Rattle.std.proofs.lemmas.List.Folds.{find-append}
 use Rattle.bdd_store.specs.declared.node.Node.{Node}
 use Rattle.bdd_store.specs.Arena.{Arena, constant, den, den_within, IsNodeOf}
 use Rattle.bdd_store.specs.Soundness.{IsLawful}
-use Rattle.bdd_store.specs.Subfunctions.{nodes}
-use Rattle.bdd_store.proofs.SubfunctionLemmas.{nodes-alike}
 use Rattle.bdd_ops.specs.Least.{IsLayout, IsLeast, by_variable}
 use Rattle.bdd_ops.specs.Operations.{if_then_else}
 use Rattle.cyc_base.specs.Vectors.{vectors, AtMost}

@@ -1,5 +1,5 @@
 -- Rails and a set that are kept while a netlist is solved.
-use Rattle.std.proofs.Common.{◌≡◌, inl, inr, ℕ, ◌*◌, List, Bool, true, length, map, sym, ap, ◌∙◌, subst, arith, Option, Some, None, Result, Err, IsErrAnd}
+use Rattle.std.proofs.Common.{◌≡◌, inl, inr, ℕ, List, Bool, true, length, map, sym, ap, ◌∙◌, subst, arith, Option, Some, None, Result}
 use Rattle.std.specs.List.{All}
 use Rattle.std.proofs.lemmas.List.{length-map}
 use Rattle.bdd_store.specs.declared.fault.StoreFault.{StoreFault}

@@ -18,8 +18,8 @@ ghost use Rattle.verdict.specs.Determination.{IsKnown};
 ghost use Rattle.verdict.specs.Known.{IsClaimed};
 ghost use Rattle.verdict.specs.Sets.{Tells};
 
-use crate::sets::{by_variable, least_of};
 use crate::beginning::{care_on, inside_on};
+use crate::sets::{by_variable, least_of};
 use bdd_ops::Diagrams;
 use bdd_store::{Node, StoreFault};
 use care_sets::Care;

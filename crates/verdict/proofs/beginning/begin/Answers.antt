@@ -6,7 +6,7 @@ use Rattle.dual_rail.specs.WorkingLists.{IsWide}
 use Rattle.care_sets.specs.Care.{columns, is_allowed, is_care_vector}
 use Rattle.refusals.specs.Refusals.{initial_refusal}
 use Rattle.verdict.specs.Costs.{invariant_effort, start_cost}
-use Rattle.verdict.specs.Enough.{IsLaid, IsWideFor, GrowsInDecision}
+use Rattle.verdict.specs.Enough.{IsLaid, GrowsInDecision}
 use Rattle.verdict.specs.Sets.{Tells, has_state_inside, difference}
 use Rattle.isolation.specs.Columns.{AreColumns}
 use Rattle.fixpoint.specs.Orders.{order, laid}

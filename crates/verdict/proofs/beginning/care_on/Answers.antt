@@ -6,7 +6,7 @@ use Rattle.bdd_ops.specs.Operations.{conjunction}
 use Rattle.dual_rail.specs.Rails.{values_of}
 use Rattle.verdict.specs.Causes.{HasModelOver}
 use Rattle.verdict.specs.Costs.{assume_effort}
-use Rattle.verdict.specs.Enough.{IsWideFor, BoundsModel, SaysCare}
+use Rattle.verdict.specs.Enough.{IsWideFor, SaysCare}
 use Rattle.verdict.specs.Sets.{Tells, has_state_inside}
 use Rattle.fixpoint.specs.Orders.{laid}
 use Rattle.verdict.proofs.DecisionLemmas.{made-listed, made-one, wide-kept}

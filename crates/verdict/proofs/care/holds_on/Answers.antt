@@ -1,4 +1,4 @@
-use Rattle.std.proofs.Common.{◌≡◌, ◌<◌, ◌∙◌, ℕ, List, length, sym, ap, get_or, arith}
+use Rattle.std.proofs.Common.{◌≡◌, ◌<◌, ◌∙◌, ℕ, List, length, ap, get_or, arith}
 use Rattle.std.proofs.lemmas.List.{get_or_read}
 use Rattle.bdd_store.specs.Arena.{den}
 use Rattle.bdd_store.proofs.GrowthLemmas.{within_moved, within_answered, within_refused}

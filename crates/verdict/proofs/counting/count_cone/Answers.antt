@@ -1,10 +1,9 @@
-use Rattle.std.proofs.Common.{◌≡◌, ◌∙◌, List, length, subst, sym, ap}
+use Rattle.std.proofs.Common.{◌≡◌, ◌∙◌, List, length, subst, sym}
 use Rattle.std.specs.List.{All}
 use Rattle.bdd_store.specs.Soundness.{IsLawful}
 use Rattle.dual_rail.specs.declared.rail.Rails.{Rails}
 use Rattle.dual_rail.specs.Rails.{AreRailsOf, values_of}
 use Rattle.care_sets.specs.Care.{columns}
-use Rattle.fixpoint.specs.Kept.{rails_under}
 use Rattle.fixpoint.specs.Solved.{IsSolution}
 use Rattle.fixpoint.proofs.KeptLemmas.{RootsStay-kept}
 use Rattle.verdict.specs.Cones.{AreConeRails}

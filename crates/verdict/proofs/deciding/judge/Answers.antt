@@ -1,4 +1,4 @@
-use Rattle.std.proofs.Common.{◌≡◌, ◌∙◌, inl, inr, ◌+◌, ◌*◌, ◌≤◌, ℕ, Err, Result, None, List, length, refl, sym, ap, subst, arith}
+use Rattle.std.proofs.Common.{◌≡◌, ◌∙◌, inl, inr, ◌+◌, ◌*◌, ℕ, Err, Result, None, List, length, sym, ap, subst, arith}
 use Rattle.std.specs.Prelude.{IfSome}
 use Rattle.bdd_store.specs.declared.fault.StoreFault.{StoreFault}
 use Rattle.bdd_store.specs.Arena.{Arena}
@@ -17,7 +17,7 @@ use Rattle.fixpoint.specs.Working.{IsWorking, HasLargeCover, effort}
 use Rattle.care_sets.specs.Care.{CareSet, columns, is_care_vector}
 use Rattle.refusals.specs.Refusals.{refusal}
 use Rattle.verdict.specs.Determination.{IsDetermination}
-use Rattle.verdict.specs.Causes.{HasCoverOver, IsStoreFor}
+use Rattle.verdict.specs.Causes.{HasCoverOver}
 use Rattle.verdict.specs.Cones.{IsStep}
 use Rattle.verdict.specs.Costs.{start_cost, later_cost}
 use Rattle.verdict.specs.Enough.{IsLaid}

@@ -5,7 +5,7 @@ use Rattle.refusals.specs.declared.refusal.Refusal.{Refusal}
 use Rattle.refusals.specs.Refusals.{undetermined_refusal, leaves_refusal}
 use Rattle.refusals.proofs.LawLemmas.{sources_determined}
 use Rattle.verdict.specs.Costs.{later_cost}
-use Rattle.verdict.specs.Enough.{IsWideOn, GrowsInDecision}
+use Rattle.verdict.specs.Enough.{GrowsInDecision}
 use Rattle.verdict.specs.Verdicts.{AreLoose, StandSo}
 use Rattle.verdict.proofs.DecisionLemmas.{wide-kept}
 use Rattle.verdict.proofs.PartLemmas.{AreFixed-kept}

@@ -1,5 +1,4 @@
 use Rattle.std.proofs.Common.{◌≡◌, ◌∙◌, ◌+◌, List, ℕ, ap, subst, sym, length}
-use Rattle.dual_rail.specs.declared.rail.Rails.{Rails}
 use Rattle.care_sets.specs.Care.{columns}
 use Rattle.loops.specs.Sweeps.{first_gate}
 use Rattle.verdict.specs.Cones.{AreConeRails, AreLoads, HaveNext}

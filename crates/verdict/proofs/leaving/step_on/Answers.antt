@@ -1,5 +1,4 @@
 use Rattle.std.proofs.Common.{◌∙◌, List, ℕ, subst, sym}
-use Rattle.care_sets.specs.Care.{is_care_vector}
 use Rattle.fixpoint.specs.Orders.{order}
 use Rattle.isolation.specs.Columns.{AreColumns}
 use Rattle.isolation.proofs.ColumnLemmas.{AreColumns-kept}

@@ -1,4 +1,4 @@
-use Rattle.std.proofs.Common.{◌≤◌, ℕ, arith}
+use Rattle.std.proofs.Common.{arith}
 use Rattle.bdd_store.specs.Growth.{GrowsWithin, NoOtherCause}
 use Rattle.bdd_store.proofs.GrowthLemmas.{within_one, within_then, within_more, within_answered, within_refused}
 use Rattle.bdd_ops.specs.Operations.{conjunction}

@@ -1,4 +1,4 @@
-use Rattle.std.proofs.Common.{◌≤◌, ◌&&◌, not, ap₂, ◌∙◌, arith}
+use Rattle.std.proofs.Common.{◌&&◌, not, ap₂, ◌∙◌, arith}
 use Rattle.bdd_store.specs.Arena.{den}
 use Rattle.bdd_store.specs.Growth.{GrowsWithin, NoOtherCause}
 use Rattle.bdd_store.proofs.GrowthLemmas.{within_one, within_then, within_more, within_answered, within_refused}
