@@ -19,9 +19,9 @@ use Rattle.rewriting.specs.Rewriting.{rewritten, rewritten_size, IsRewriting}
 use Rattle.unroll.specs.Unrolled.{IsUnrollFault}
 use Rattle.unroll.specs.declared.fault.UnrollFault.{UnrollFault}
 use Rattle.unroll.specs.declared.fault.UnrollFault.TheVariants.{TooLarge, Memory}
-use Rattle.loops.specs.declared.parts.Blocks.{Blocks}
-use Rattle.loops.specs.declared.parts.Cut.{Cut}
-use Rattle.loops.specs.declared.parts.SweepCounts.{SweepCounts}
+use Rattle.loops.specs.declared.structure.Blocks.{Blocks}
+use Rattle.loops.specs.declared.structure.Cut.{Cut}
+use Rattle.loops.specs.declared.structure.SweepCounts.{SweepCounts}
 use Rattle.verdict.specs.Verdicts.{AreLoose, AreSweepsOnCare}
 use Rattle.cyc_tool.specs.Answer.{told, decided, verdict_of}
 use Rattle.cyc_tool.specs.Calls.{IsAccepted, IsDecided, IsMadeFor, Verdict}

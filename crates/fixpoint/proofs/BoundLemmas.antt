@@ -19,8 +19,8 @@ use Rattle.dual_rail.proofs.WidthLemmas.{IsWide-fewer}
 use Rattle.netlist.specs.declared.parts.Gate.{Gate}
 use Rattle.netlist.specs.declared.parts.Parts.{Parts}
 use Rattle.netlist.specs.Netlists.{IsNetlist, gate_at, no_gate}
-use Rattle.loops.specs.declared.parts.Blocks.{Blocks}
-use Rattle.loops.specs.declared.parts.Cut.{Cut}
+use Rattle.loops.specs.declared.structure.Blocks.{Blocks}
+use Rattle.loops.specs.declared.structure.Cut.{Cut}
 use Rattle.loops.specs.Blocks.{AreBlocksOf, block_at, home_of}
 use Rattle.loops.specs.Cuts.{IsCutOf, Loops, is_cut, in_one_loop, loops_by}
 use Rattle.loops.specs.Orders.{IsOrderOf}

@@ -10,8 +10,8 @@ use Rattle.bdd_store.specs.Soundness.{IsLawful}
 use Rattle.bdd_store.specs.Growth.{KeepsNodes}
 use Rattle.bdd_ops.specs.Operations.{xor, conjunction, exclusive_or}
 use Rattle.dual_rail.specs.declared.rail.Rails.{Rails}
-use Rattle.loops.specs.declared.parts.Blocks.{Blocks}
-use Rattle.loops.specs.declared.parts.SweepCounts.{SweepCounts}
+use Rattle.loops.specs.declared.structure.Blocks.{Blocks}
+use Rattle.loops.specs.declared.structure.SweepCounts.{SweepCounts}
 use Rattle.loops.specs.Blocks.{block_at}
 use Rattle.fixpoint.specs.declared.solved.LoopSteps.{LoopSteps}
 use Rattle.fixpoint.specs.Solved.{IsLoopAt, HasEachLoopOnce, step_at, last_step, steps_under}

@@ -13,10 +13,10 @@ use Rattle.dual_rail.specs.Rails.{AreRailsOf, trit_of, value_of}
 use Rattle.dual_rail.specs.WorkingLists.{is_bit}
 use Rattle.netlist.specs.declared.parts.Parts.{Parts}
 use Rattle.netlist.specs.Fixpoint.{fix_gates}
-use Rattle.loops.specs.declared.parts.Blocks.{Blocks}
-use Rattle.loops.specs.declared.parts.Cut.{Cut}
+use Rattle.loops.specs.declared.structure.Blocks.{Blocks}
+use Rattle.loops.specs.declared.structure.Cut.{Cut}
 use Rattle.loops.specs.Blocks.{AreBlocksOf, block_at, home_of, no_block}
-use Rattle.loops.specs.declared.parts.Block.{Block}
+use Rattle.loops.specs.declared.structure.Block.{Block}
 use Rattle.loops.specs.Orders.{IsOrderOf}
 use Rattle.loops.specs.Cuts.{IsCutOf, is_cut, in_one_loop, loops_by}
 use Rattle.loops.specs.Sweeps.{first_gate, value_in, cuts_of, sweeps, CutsAreFixed}

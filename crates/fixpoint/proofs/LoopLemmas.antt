@@ -14,8 +14,8 @@ use Rattle.dual_rail.specs.Rails.{AreRailsOf, value_of, values_of}
 use Rattle.dual_rail.proofs.SurelyLemmas.{value_of-kept, values_of-kept, All-rails-kept}
 use Rattle.netlist.specs.declared.parts.Parts.{Parts}
 use Rattle.netlist.specs.Fixpoint.{fix_gates}
-use Rattle.loops.specs.declared.parts.Blocks.{Blocks}
-use Rattle.loops.specs.declared.parts.Cut.{Cut}
+use Rattle.loops.specs.declared.structure.Blocks.{Blocks}
+use Rattle.loops.specs.declared.structure.Cut.{Cut}
 use Rattle.loops.specs.Blocks.{AreBlocksOf, block_at, home_of}
 use Rattle.loops.specs.Cuts.{IsCutOf, is_cut, loops_by}
 use Rattle.loops.specs.Orders.{IsOrderOf}

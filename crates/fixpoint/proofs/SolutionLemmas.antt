@@ -10,8 +10,8 @@ use Rattle.bdd_store.specs.Arena.{Arena}
 use Rattle.dual_rail.specs.declared.rail.Rails.{Rails}
 use Rattle.netlist.specs.declared.parts.Parts.{Parts}
 use Rattle.netlist.specs.Netlists.{IsNetlist}
-use Rattle.loops.specs.declared.parts.Blocks.{Blocks}
-use Rattle.loops.specs.declared.parts.Cut.{Cut}
+use Rattle.loops.specs.declared.structure.Blocks.{Blocks}
+use Rattle.loops.specs.declared.structure.Cut.{Cut}
 use Rattle.loops.specs.Blocks.{AreBlocksOf, block_at, home_of}
 use Rattle.loops.specs.Cuts.{IsCutOf, is_cut, loops_by}
 use Rattle.loops.specs.Sweeps.{cuts_of}

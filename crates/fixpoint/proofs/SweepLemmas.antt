@@ -17,8 +17,8 @@ use Rattle.netlist.specs.declared.parts.Parts.{Parts}
 use Rattle.netlist.specs.Netlists.{IsNetlist, IsSignal, count, gate_at, no_gate}
 use Rattle.netlist.specs.Fixpoint.{wire, fix, fix_gates}
 use Rattle.netlist.specs.Walks.{Feeds}
-use Rattle.loops.specs.declared.parts.Blocks.{Blocks}
-use Rattle.loops.specs.declared.parts.Cut.{Cut}
+use Rattle.loops.specs.declared.structure.Blocks.{Blocks}
+use Rattle.loops.specs.declared.structure.Cut.{Cut}
 use Rattle.loops.specs.Blocks.{block_at, home_of}
 use Rattle.loops.specs.Cuts.{AreLoopsOf, IsCutOf, is_cut, in_one_loop, loops_by}
 use Rattle.loops.specs.Orders.{ReadsUncut, IsInOrder}

@@ -16,7 +16,7 @@ use Rattle.netlist.specs.declared.parts.Parts.{Parts}
 use Rattle.netlist.specs.Fixpoint.{fix, fix_gates}
 use Rattle.netlist.specs.Netlists.{count}
 use Rattle.netlist.proofs.FixpointLemmas.{length-steps}
-use Rattle.loops.specs.declared.parts.Cut.{Cut}
+use Rattle.loops.specs.declared.structure.Cut.{Cut}
 use Rattle.loops.specs.Cuts.{is_cut}
 use Rattle.loops.specs.Sweeps.{first_gate, gate_of, value_in}
 use Rattle.loops.proofs.Reading.{wire_of_gate}

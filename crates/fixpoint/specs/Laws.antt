@@ -7,8 +7,8 @@ use Rattle.dual_rail.specs.WorkingLists.{IsWide, is_bit}
 use Rattle.netlist.specs.declared.parts.Parts.{Parts}
 use Rattle.netlist.specs.Fixpoint.{fix}
 use Rattle.netlist.specs.Netlists.{IsNetlist, count}
-use Rattle.loops.specs.declared.parts.Blocks.{Blocks}
-use Rattle.loops.specs.declared.parts.Cut.{Cut}
+use Rattle.loops.specs.declared.structure.Blocks.{Blocks}
+use Rattle.loops.specs.declared.structure.Cut.{Cut}
 use Rattle.loops.specs.Blocks.{AreBlocksOf}
 use Rattle.loops.specs.Cuts.{AreLoopsOf, IsCutOf, Loops}
 use Rattle.loops.specs.Sweeps.{first_gate, value_in, sweeps, cuts_of}

@@ -5,7 +5,7 @@ ghost use Rattle.bdd_store.specs.Arena.{IsNodeOf};
 ghost use Rattle.bdd_store.specs.Growth.{GrowsWithin, NoOtherCause};
 ghost use Rattle.dual_rail.specs.WorkingLists.{IsWide};
 ghost use Rattle.netlist.specs.declared.parts.Parts.{Parts};
-ghost use Rattle.loops.specs.declared.parts.Cut.{Cut};
+ghost use Rattle.loops.specs.declared.structure.Cut.{Cut};
 ghost use Rattle.loops.specs.Blocks.{AreBlocksOf};
 ghost use Rattle.loops.specs.Cuts.{IsCutOf};
 ghost use Rattle.fixpoint.specs.Kept.{rails_under, AreKept};

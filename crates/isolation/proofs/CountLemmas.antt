@@ -10,7 +10,7 @@ use Rattle.cyc_base.specs.Values.{bit, bits}
 use Rattle.netlist.specs.declared.parts.Parts.{Parts}
 use Rattle.netlist.specs.Netlists.{IsNetlist, count, signal, no_gate}
 use Rattle.netlist.specs.Fixpoint.{wire, fix, fix_gates}
-use Rattle.loops.specs.declared.parts.Blocks.{Blocks}
+use Rattle.loops.specs.declared.structure.Blocks.{Blocks}
 use Rattle.loops.specs.Blocks.{AreBlocksOf, block_at, home_of}
 use Rattle.loops.specs.Cuts.{Loops, AreLoopsOf}
 use Rattle.loops.specs.Found.{loops_of}

@@ -16,8 +16,8 @@ use Rattle.dual_rail.specs.Rails.{value_of, values_of}
 use Rattle.netlist.specs.declared.parts.Parts.{Parts}
 use Rattle.netlist.specs.Netlists.{IsNetlist}
 use Rattle.netlist.specs.Fixpoint.{fix, fix_gates}
-use Rattle.loops.specs.declared.parts.Blocks.{Blocks}
-use Rattle.loops.specs.declared.parts.Cut.{Cut}
+use Rattle.loops.specs.declared.structure.Blocks.{Blocks}
+use Rattle.loops.specs.declared.structure.Cut.{Cut}
 use Rattle.loops.specs.Blocks.{AreBlocksOf, block_at, home_of}
 use Rattle.loops.specs.Cuts.{IsCutOf, Loops, AreLoopsOf, loops_by, in_one_loop, is_cut}
 use Rattle.loops.specs.Found.{loops_of}
@@ -27,7 +27,7 @@ use Rattle.loops.proofs.Sweeps.{length-fix, fixed_cuts_give_fix}
 use Rattle.loops.proofs.Told.{blocks_tell_loops, told_parts}
 use Rattle.loops.proofs.Walks.{loops_are_unique}
 use Rattle.fixpoint.specs.declared.solved.Solved.{Solved}
-use Rattle.loops.specs.declared.parts.SweepCounts.{SweepCounts}
+use Rattle.loops.specs.declared.structure.SweepCounts.{SweepCounts}
 use Rattle.fixpoint.specs.Kept.{rails_under}
 use Rattle.fixpoint.specs.Solved.{Vectors, IsSolution}
 use Rattle.fixpoint.specs.Counts.{CountSweeps, count_at}

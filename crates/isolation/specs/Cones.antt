@@ -4,7 +4,7 @@ use Rattle.cyc_base.specs.declared.sig.Sig.{Sig}
 use Rattle.netlist.specs.declared.parts.Parts.{Parts}
 use Rattle.netlist.specs.Netlists.{signal}
 use Rattle.netlist.specs.Walks.{Feeds}
-use Rattle.loops.specs.declared.parts.Blocks.{Blocks}
+use Rattle.loops.specs.declared.structure.Blocks.{Blocks}
 use Rattle.loops.specs.Blocks.{home_of}
 use Rattle.loops.specs.Sweeps.{first_gate}
 use Rattle.isolation.specs.Excerpts.{gate_in, origin, origins, AreWhole, IsExcerpt}

@@ -8,7 +8,7 @@ use Rattle.cyc_base.specs.Values.{bits}
 use Rattle.netlist.specs.declared.parts.Parts.{Parts}
 use Rattle.netlist.specs.Netlists.{IsNetlist, signal}
 use Rattle.netlist.specs.Fixpoint.{fix_gates}
-use Rattle.loops.specs.declared.parts.Blocks.{Blocks}
+use Rattle.loops.specs.declared.structure.Blocks.{Blocks}
 use Rattle.loops.specs.Blocks.{AreBlocksOf, block_at, home_of}
 use Rattle.loops.specs.Cuts.{AreLoopsOf, Loops}
 use Rattle.loops.specs.Sweeps.{first_gate, value_in, sweeps as sweeps_of, CutsAreFixed, IsCountOfSweeps}

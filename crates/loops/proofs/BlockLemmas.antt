@@ -14,7 +14,7 @@ use Rattle.netlist.specs.declared.parts.Parts.{Parts}
 use Rattle.netlist.specs.Walks.{Feeds, Walk}
 use Rattle.netlist.specs.Orders.{gate_graph}
 use Rattle.netlist.proofs.GraphLemmas.{length-gate_graph, feeds_edge, edge_feeds, walk_reaches, reaches_walk}
-use Rattle.loops.specs.declared.parts.Block.{Block}
+use Rattle.loops.specs.declared.structure.Block.{Block}
 use Rattle.loops.specs.Walks.{Leads, AnyGate, SameBlock}
 use Rattle.loops.specs.Blocks.{no_block, block_at, AreBlocksOf}
 use Rattle.loops.specs.Members.{members_below, members, is_loop, block_of}

@@ -7,8 +7,8 @@ use Rattle.netlist.specs.declared.parts.Parts.{Parts}
 use Rattle.netlist.specs.Walks.{Feeds, Walk}
 use Rattle.loops.specs.declared.links.Link.{Link}
 use Rattle.loops.specs.declared.links.LoopLinks.{LoopLinks}
-use Rattle.loops.specs.declared.parts.Blocks.{Blocks}
-use Rattle.loops.specs.declared.parts.Cut.{Cut}
+use Rattle.loops.specs.declared.structure.Blocks.{Blocks}
+use Rattle.loops.specs.declared.structure.Cut.{Cut}
 use Rattle.loops.specs.Blocks.{AreBlocksOf}
 use Rattle.loops.specs.Cuts.{IsCutOf, MayPass, is_cut}
 use Rattle.loops.specs.Links.{link, AreLinksOf, AreLoopLinksOf, AreTurned, IsLoopPin}

@@ -11,7 +11,7 @@ use Rattle.cyc_base.specs.declared.sig.Sig.{Sig}
 use Rattle.netlist.specs.declared.parts.Parts.{Parts}
 use Rattle.netlist.specs.Netlists.{gate_at, gate_sig}
 use Rattle.loops.specs.declared.links.Link.{Link}
-use Rattle.loops.specs.declared.parts.Blocks.{Blocks}
+use Rattle.loops.specs.declared.structure.Blocks.{Blocks}
 use Rattle.loops.specs.Blocks.{AreBlocksOf}
 use Rattle.loops.specs.Links.{link, leads_from, AreLinksOf, ArePinsBelow, GainsPins, IsLoopPin, IsLoopSource}
 use Rattle.loops.proofs.Told.{told_parts}

@@ -10,9 +10,9 @@ use Rattle.components.specs.Graphs.{AreComponentsOf, AreStronglyConnected, Edge,
 use Rattle.netlist.specs.declared.parts.Parts.{Parts}
 use Rattle.netlist.specs.Netlists.{gate_at, gate_sig}
 use Rattle.netlist.specs.Walks.{Feeds}
-use Rattle.loops.specs.declared.parts.Block.{Block}
-use Rattle.loops.specs.declared.parts.Blocks.{Blocks}
-use Rattle.loops.specs.declared.parts.Cut.{Cut}
+use Rattle.loops.specs.declared.structure.Block.{Block}
+use Rattle.loops.specs.declared.structure.Blocks.{Blocks}
+use Rattle.loops.specs.declared.structure.Cut.{Cut}
 use Rattle.loops.specs.Blocks.{AreBlocksOf, block_at, gates_at, home_of, no_block}
 use Rattle.loops.specs.Cuts.{IsCutOf, is_cut, loops_by}
 use Rattle.loops.specs.Orders.{IsInOrder, IsOrderOf, ReadsUncut}

@@ -3,8 +3,8 @@ use Rattle.std.specs.Prelude.{◌≡◌, ◌<◌, ◌≤◌, ◌==◌, ◌↔◌
 use Rattle.std.specs.List.{range_with_len}
 use Rattle.netlist.specs.declared.parts.Parts.{Parts}
 use Rattle.netlist.specs.Walks.{Feeds}
-use Rattle.loops.specs.declared.parts.Block.{Block}
-use Rattle.loops.specs.declared.parts.Blocks.{Blocks}
+use Rattle.loops.specs.declared.structure.Block.{Block}
+use Rattle.loops.specs.declared.structure.Blocks.{Blocks}
 use Rattle.loops.specs.Walks.{AnyGate, Leads, SameBlock}
 
 abbrev pub no_block : Block

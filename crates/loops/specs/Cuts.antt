@@ -1,8 +1,8 @@
 -- The cut wires of loops, found in flat order.
 use Rattle.std.specs.Prelude.{◌≡◌, ◌<◌, ◌==◌, ◌↔◌, ◌&&◌, ℕ, nat_lt, Bool, true, false, List, length, slice_index_or}
 use Rattle.netlist.specs.declared.parts.Parts.{Parts}
-use Rattle.loops.specs.declared.parts.Blocks.{Blocks}
-use Rattle.loops.specs.declared.parts.Cut.{Cut}
+use Rattle.loops.specs.declared.structure.Blocks.{Blocks}
+use Rattle.loops.specs.declared.structure.Cut.{Cut}
 use Rattle.loops.specs.Blocks.{block_at, home_of}
 use Rattle.loops.specs.Walks.{Leads, SameLoop}
 

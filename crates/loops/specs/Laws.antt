@@ -8,8 +8,8 @@ use Rattle.netlist.specs.declared.parts.Parts.{Parts}
 use Rattle.netlist.specs.Fixpoint.{fix_gates}
 use Rattle.netlist.specs.Netlists.{IsNetlist}
 use Rattle.netlist.specs.Walks.{Feeds, Walk, IsLoopFree}
-use Rattle.loops.specs.declared.parts.Blocks.{Blocks}
-use Rattle.loops.specs.declared.parts.Cut.{Cut}
+use Rattle.loops.specs.declared.structure.Blocks.{Blocks}
+use Rattle.loops.specs.declared.structure.Cut.{Cut}
 use Rattle.loops.specs.Blocks.{AreBlocksOf, block_at, home_of}
 use Rattle.loops.specs.Cuts.{AreLoopsOf, IsCutOf, Loops, loops_by}
 use Rattle.loops.specs.Found.{loops_of}

@@ -7,7 +7,7 @@ use Rattle.netlist.specs.Netlists.{gate_at, gate_sig}
 use Rattle.netlist.specs.Walks.{Feeds}
 use Rattle.loops.specs.declared.links.Link.{Link}
 use Rattle.loops.specs.declared.links.LoopLinks.{LoopLinks}
-use Rattle.loops.specs.declared.parts.Blocks.{Blocks}
+use Rattle.loops.specs.declared.structure.Blocks.{Blocks}
 use Rattle.loops.specs.Cuts.{in_one_loop}
 
 abbrev pub link : ℕ → ℕ → Link

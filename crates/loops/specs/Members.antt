@@ -1,7 +1,7 @@
 -- The gates of each block, by the blocks' numbers of the gates.
 use Rattle.std.specs.Prelude.{◌==◌, ℕ, Bool, true, false, List, [], ◌∷◌, length, filter, slice_index_or}
 use Rattle.std.specs.List.{list_any, range_with_len}
-use Rattle.loops.specs.declared.parts.Block.{Block}
+use Rattle.loops.specs.declared.structure.Block.{Block}
 
 -- the gates of a number, in flat order, among the first gates
 abbrev pub members_below : List ℕ → ℕ → ℕ → List ℕ

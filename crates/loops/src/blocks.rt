@@ -5,7 +5,7 @@ ghost use Rattle.std.specs.List.{All, range_with_len};
 ghost use Rattle.loops.specs.Blocks.{AreBlocksOf};
 ghost use Rattle.loops.specs.Members.{members as members_of, is_loop as is_loop_of, block_of};
 
-use crate::parts::{Block, Blocks};
+use crate::structure::{Block, Blocks};
 use components::{Components, Graph};
 use cyc_base::Items;
 use netlist::Netlist;

@@ -7,8 +7,8 @@ ghost use Rattle.loops.specs.Links.{AreTurned};
 ghost use Rattle.loops.specs.Searching.{Connects, IsFree, IsReady};
 
 use crate::links::LoopLinks;
-use crate::parts::{Blocks, Cut};
 use crate::search::Search;
+use crate::structure::{Blocks, Cut};
 use cyc_base::Bits;
 use netlist::Netlist;
 use std::alloc::{AllocError, Global};

@@ -11,11 +11,11 @@ pub mod laws;
 mod links;
 mod listing;
 mod orders;
-mod parts;
 mod search;
+mod structure;
 
 pub use blocks::find_blocks;
 pub use cuts::find_cut;
 pub use listing::{count_loops, loop_from};
 pub use orders::order_of_block;
-pub use parts::{Block, Blocks, Cut, SweepCounts};
+pub use structure::{Block, Blocks, Cut, SweepCounts};

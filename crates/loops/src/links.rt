@@ -7,7 +7,7 @@ ghost use Rattle.loops.specs.Blocks.{AreBlocksOf};
 ghost use Rattle.loops.specs.Cuts.{in_one_loop as are_in_one_loop};
 ghost use Rattle.loops.specs.Links.{link, leads_from, ArePinsBelow, AreLoopLinksOf, GainsPins, IsLoopSource};
 
-use crate::parts::Blocks;
+use crate::structure::Blocks;
 use cyc_base::Sig;
 use netlist::Netlist;
 use std::alloc::{AllocError, Global};

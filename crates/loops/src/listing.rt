@@ -4,7 +4,7 @@ ghost use Rattle.std.specs.Prelude.{◌≡◌, ◌<◌, true, false, length, con
 ghost use Rattle.loops.specs.Blocks.{AreBlocksOf, block_at, home_of};
 ghost use Rattle.loops.specs.Listed.{loop_of, begins_with as begins, first_gates};
 
-use crate::parts::{Block, Blocks};
+use crate::structure::{Block, Blocks};
 use netlist::Netlist;
 
 fn begins_with(gates: &[u32], gate: u32) -> bool

@@ -8,7 +8,7 @@ ghost use Rattle.loops.specs.Orders.{IsOrderOf};
 ghost use Rattle.loops.specs.Placing.{ArePlaced, ArePlacesRead, AreUncutReads, IsPlaceRead, IsUncutSource, Rise};
 
 use crate::links::loop_source;
-use crate::parts::{Blocks, Cut};
+use crate::structure::{Blocks, Cut};
 use components::{Components, Graph};
 use cyc_base::Sig;
 use netlist::Netlist;

@@ -7,7 +7,7 @@ use Rattle.std.specs.List.{flat_map, range_with_len}
 use Rattle.cyc_io.specs.Taken.{IsAppended}
 use Rattle.cyc_io.proofs.TakenLemmas.{over, appended_as, appended_cut, appended_equal, appended_then}
 use Rattle.netlist.specs.declared.parts.Parts.{Parts}
-use Rattle.loops.specs.declared.parts.Cut.{Cut}
+use Rattle.loops.specs.declared.structure.Cut.{Cut}
 use Rattle.loops.specs.Cuts.{IsCutOf, is_cut}
 use Rattle.loops.specs.Listed.{loop_of, begins_with, first_gates}
 use Rattle.loops.proofs.ListedLemmas.{cut_wires_told, kept_more}

@@ -2,7 +2,7 @@
 
 ghost use Rattle.std.specs.Prelude.{◌≡◌, length};
 ghost use Rattle.care_sets.specs.Care.{CareSet};
-ghost use Rattle.loops.specs.declared.parts.Cut.{Cut as Cutting};
+ghost use Rattle.loops.specs.declared.structure.Cut.{Cut as Cutting};
 ghost use Rattle.loops.specs.Blocks.{AreBlocksOf};
 ghost use Rattle.loops.specs.Cuts.{IsCutOf};
 ghost use Rattle.verdict.specs.Verdicts.{AreSweepsOnCare};

@@ -12,7 +12,7 @@ use Rattle.cyc_base.proofs.OrderLemmas.{Below-refl, Below-trans, Below-antisym}
 use Rattle.netlist.specs.declared.parts.Parts.{Parts}
 use Rattle.netlist.specs.Netlists.{IsNetlist, gate_at, gate_sig}
 use Rattle.netlist.specs.Fixpoint.{wires, wire, gate_value, steps, fix, fix_gates}
-use Rattle.loops.specs.declared.parts.Blocks.{Blocks}
+use Rattle.loops.specs.declared.structure.Blocks.{Blocks}
 use Rattle.loops.specs.Blocks.{AreBlocksOf, home_of}
 use Rattle.loops.specs.Sweeps.{first_gate}
 use Rattle.loops.proofs.Reading.{get_or-step}

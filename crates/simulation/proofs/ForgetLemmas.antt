@@ -8,7 +8,7 @@ use Rattle.cyc_base.specs.declared.trit.Trit.TheVariants.{X}
 use Rattle.netlist.specs.declared.parts.Parts.{Parts}
 use Rattle.netlist.specs.Netlists.{gate_sig}
 use Rattle.netlist.specs.Fixpoint.{wire}
-use Rattle.loops.specs.declared.parts.Blocks.{Blocks}
+use Rattle.loops.specs.declared.structure.Blocks.{Blocks}
 use Rattle.loops.specs.Blocks.{AreBlocksOf, gates_at, home_of}
 use Rattle.loops.proofs.Reading.{Contains-filter, Contains-filter_from, Contains-range, Contains-range_from}
 use Rattle.simulation.specs.declared.plan.Plan.{Plan}

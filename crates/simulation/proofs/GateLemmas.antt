@@ -9,7 +9,7 @@ use Rattle.netlist.specs.declared.parts.Parts.{Parts}
 use Rattle.netlist.specs.Netlists.{IsNetlist, count, gate_at, gate_sig}
 use Rattle.netlist.specs.Fixpoint.{wire, gate_value, fix, fix_gates}
 use Rattle.netlist.specs.Walks.{Feeds}
-use Rattle.loops.specs.declared.parts.Blocks.{Blocks}
+use Rattle.loops.specs.declared.structure.Blocks.{Blocks}
 use Rattle.loops.specs.Blocks.{AreBlocksOf, block_at, home_of}
 use Rattle.loops.proofs.Told.{other_blocks_are_single}
 use Rattle.loops.proofs.Walks.{leads-step}

@@ -8,7 +8,7 @@ use Rattle.cyc_base.specs.declared.trit.Trit.TheVariants.{X}
 use Rattle.netlist.specs.declared.parts.Parts.{Parts}
 use Rattle.netlist.specs.Netlists.{count, gate_sig, signal}
 use Rattle.netlist.specs.Fixpoint.{wire, fix, fix_gates}
-use Rattle.loops.specs.declared.parts.Blocks.{Blocks}
+use Rattle.loops.specs.declared.structure.Blocks.{Blocks}
 use Rattle.loops.specs.Blocks.{AreBlocksOf}
 use Rattle.loops.specs.Sweeps.{first_gate}
 use Rattle.netlist.proofs.FixpointLemmas.{length-steps}

@@ -12,7 +12,7 @@ use Rattle.netlist.specs.declared.parts.Gate.{Gate}
 use Rattle.netlist.specs.declared.parts.Parts.{Parts}
 use Rattle.netlist.specs.Netlists.{IsNetlist, count, gate_at, gate_sig, no_gate}
 use Rattle.netlist.specs.Fixpoint.{wires, wire, gate_value, fix, fix_gates}
-use Rattle.loops.specs.declared.parts.Blocks.{Blocks}
+use Rattle.loops.specs.declared.structure.Blocks.{Blocks}
 use Rattle.loops.specs.Blocks.{AreBlocksOf, home_of}
 use Rattle.loops.specs.Sweeps.{first_gate}
 use Rattle.loops.proofs.Reading.{get_or-fix, map_agree}

@@ -5,7 +5,7 @@ use Rattle.cyc_base.specs.declared.trit.Trit.{Trit}
 use Rattle.netlist.specs.declared.parts.Parts.{Parts}
 use Rattle.netlist.specs.Netlists.{count, gate_at, gate_sig}
 use Rattle.netlist.specs.Fixpoint.{wire, fix}
-use Rattle.loops.specs.declared.parts.Blocks.{Blocks}
+use Rattle.loops.specs.declared.structure.Blocks.{Blocks}
 use Rattle.loops.specs.Blocks.{home_of}
 use Rattle.loops.specs.Sweeps.{first_gate}
 

@@ -4,7 +4,7 @@ use Rattle.std.proofs.Math.Seq.{take-append_seam}
 use Rattle.std.proofs.lemmas.List.{get_or_default}
 use Rattle.std.specs.List.{All}
 use Rattle.netlist.specs.declared.parts.Parts.{Parts}
-use Rattle.loops.specs.declared.parts.Blocks.{Blocks}
+use Rattle.loops.specs.declared.structure.Blocks.{Blocks}
 use Rattle.loops.specs.Blocks.{AreBlocksOf, block_at}
 use Rattle.loops.specs.Orders.{IsOrderOf}
 use Rattle.loops.proofs.Told.{gate_home}

@@ -15,8 +15,8 @@ use Rattle.cover_logic.specs.Extensions.{ext}
 use Rattle.netlist.specs.declared.parts.Parts.{Parts}
 use Rattle.netlist.specs.Netlists.{IsNetlist, gate_at, no_gate}
 use Rattle.netlist.specs.Fixpoint.{wire, wires, fix, fix_gates}
-use Rattle.loops.specs.declared.parts.Blocks.{Blocks}
-use Rattle.loops.specs.declared.parts.Cut.{Cut}
+use Rattle.loops.specs.declared.structure.Blocks.{Blocks}
+use Rattle.loops.specs.declared.structure.Cut.{Cut}
 use Rattle.loops.specs.Blocks.{block_at, home_of}
 use Rattle.loops.specs.Cuts.{Loops, is_cut, in_one_loop, loops_by}
 use Rattle.loops.specs.Sweeps.{first_gate, gate_of, in_loop_of, value_in, pin_in, gate_in, sweeps}

@@ -8,8 +8,8 @@ use Rattle.dual_rail.specs.Rails.{values_of}
 use Rattle.netlist.specs.declared.parts.Parts.{Parts}
 use Rattle.netlist.specs.Fixpoint.{wires}
 use Rattle.netlist.specs.Netlists.{count}
-use Rattle.loops.specs.declared.parts.Blocks.{Blocks}
-use Rattle.loops.specs.declared.parts.Cut.{Cut}
+use Rattle.loops.specs.declared.structure.Blocks.{Blocks}
+use Rattle.loops.specs.declared.structure.Cut.{Cut}
 use Rattle.loops.specs.Blocks.{home_of}
 use Rattle.loops.specs.Cuts.{Loops, is_cut}
 use Rattle.loops.specs.Sweeps.{first_gate, gate_of, sweeps}

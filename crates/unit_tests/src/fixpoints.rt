@@ -226,7 +226,8 @@ fn root_stays(alloc: Global, number: u32) -> Result<bool, Fail> {
     let _ = solved_rails(alloc, &mut d, &net)?;
     let kept = d.root(&root);
     let count = d.store().count();
-    let values = (0..4).all(|number| bit_at(&d, kept, vector(number).as_slice()) == Some(number == 1 || number == 2));
+    let values = (0..4).all(|number| bit_at(&d, kept, vector(number).as_slice())
+        == Some(number == 1 || number == 2));
     d.sweep()?;
     Ok(values && d.store().count() == count)
 }

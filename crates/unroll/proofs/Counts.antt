@@ -2,9 +2,9 @@
 use Rattle.std.proofs.Common.{ap}
 use Rattle.std.specs.List.{slice_index_or}
 use Rattle.netlist.specs.declared.parts.Parts.{Parts}
-use Rattle.loops.specs.declared.parts.Blocks.{Blocks}
-use Rattle.loops.specs.declared.parts.Cut.{Cut}
-use Rattle.loops.specs.declared.parts.SweepCounts.{SweepCounts}
+use Rattle.loops.specs.declared.structure.Blocks.{Blocks}
+use Rattle.loops.specs.declared.structure.Cut.{Cut}
+use Rattle.loops.specs.declared.structure.SweepCounts.{SweepCounts}
 use Rattle.loops.specs.Blocks.{AreBlocksOf}
 use Rattle.loops.specs.Cuts.{loops_by}
 use Rattle.loops.proofs.Told.{told_parts}

@@ -7,9 +7,9 @@ use Rattle.netlist.specs.declared.parts.Parts.{Parts}
 use Rattle.netlist.specs.Fixpoint.{wire, fix, outs, next}
 use Rattle.netlist.specs.Netlists.{gate_at, gate_sig, signal_names, IsNetlist}
 use Rattle.netlist.specs.Walks.{IsLoopFree}
-use Rattle.loops.specs.declared.parts.Blocks.{Blocks}
-use Rattle.loops.specs.declared.parts.Cut.{Cut}
-use Rattle.loops.specs.declared.parts.SweepCounts.{SweepCounts}
+use Rattle.loops.specs.declared.structure.Blocks.{Blocks}
+use Rattle.loops.specs.declared.structure.Cut.{Cut}
+use Rattle.loops.specs.declared.structure.SweepCounts.{SweepCounts}
 use Rattle.loops.specs.Blocks.{AreBlocksOf, block_at, home_of}
 use Rattle.loops.specs.Cuts.{Loops, AreLoopsOf, loops_by}
 use Rattle.loops.specs.Sweeps.{first_gate, gate_of, CutsAreFixed}

@@ -6,12 +6,12 @@
 //! (`laws`).
 #![tactic(auto)]
 
+mod assembly;
 mod copies;
 mod fault;
 mod gates;
 pub mod laws;
 mod names;
-mod parts;
 mod pins;
 mod sizes;
 mod unrolling;

@@ -2,7 +2,7 @@
 
 ghost use Rattle.std.specs.Prelude.{◌≡◌, ◌<◌, ◌≤◌, ◌+◌, Some, None, if◌then◌else◌, length, map, IfSome, IfOk};
 ghost use Rattle.netlist.specs.Netlists.{count, gate_at, IsNetlist, IsSignal};
-ghost use Rattle.loops.specs.declared.parts.Cut.{Cut as TheCut};
+ghost use Rattle.loops.specs.declared.structure.Cut.{Cut as TheCut};
 ghost use Rattle.loops.specs.Blocks.{AreBlocksOf};
 ghost use Rattle.loops.specs.Cuts.{IsCutOf, is_cut, loops_by};
 ghost use Rattle.loops.specs.Sweeps.{first_gate as first_gate_of, gate_of, in_loop_of};

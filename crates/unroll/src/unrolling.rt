@@ -9,8 +9,8 @@ ghost use Rattle.loops.specs.Cuts.{IsCutOf, in_one_loop, loops_by};
 ghost use Rattle.unroll.specs.Laws.{AreEnough, KeepsInterface, TellsAsMuchAt};
 ghost use Rattle.unroll.specs.Unrolled.{sweeps_of, unrolled, unrolled_size as size_of, IsUnrollFault};
 
+use crate::assembly::unrolled_parts;
 use crate::fault::UnrollFault;
-use crate::parts::unrolled_parts;
 use crate::sizes::unrolled_size;
 use cyc_base::MAX_REWRITTEN_ITEMS;
 use loops::{Blocks, Cut, SweepCounts};

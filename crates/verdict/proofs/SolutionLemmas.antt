@@ -16,8 +16,8 @@ use Rattle.dual_rail.specs.Rails.{AreRailsOf, value_of, values_of}
 use Rattle.dual_rail.specs.WorkingLists.{IsWide, is_bit}
 use Rattle.dual_rail.proofs.WidthLemmas.{IsWide-fewer}
 use Rattle.netlist.specs.declared.parts.Parts.{Parts}
-use Rattle.loops.specs.declared.parts.Blocks.{Blocks}
-use Rattle.loops.specs.declared.parts.Cut.{Cut}
+use Rattle.loops.specs.declared.structure.Blocks.{Blocks}
+use Rattle.loops.specs.declared.structure.Cut.{Cut}
 use Rattle.loops.specs.Blocks.{AreBlocksOf, block_at}
 use Rattle.loops.specs.Cuts.{AreLoopsOf, IsCutOf, Loops, loops_by}
 use Rattle.loops.specs.Found.{loops_of}

@@ -6,8 +6,8 @@ use Rattle.cyc_base.specs.declared.trit.Trit.TheVariants.{X}
 use Rattle.dual_rail.specs.declared.rail.Rails.{Rails}
 use Rattle.dual_rail.specs.Rails.{value_of}
 use Rattle.netlist.specs.declared.parts.Parts.{Parts}
-use Rattle.loops.specs.declared.parts.Blocks.{Blocks}
-use Rattle.loops.specs.declared.parts.Cut.{Cut}
+use Rattle.loops.specs.declared.structure.Blocks.{Blocks}
+use Rattle.loops.specs.declared.structure.Cut.{Cut}
 use Rattle.loops.specs.Blocks.{home_of}
 use Rattle.loops.specs.Cuts.{IsCutOf, loops_by}
 use Rattle.loops.specs.Sweeps.{IsCountOfSweeps}

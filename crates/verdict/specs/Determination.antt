@@ -6,9 +6,9 @@ use Rattle.cyc_base.specs.Values.{bits}
 use Rattle.dual_rail.specs.declared.rail.Rails.{Rails}
 use Rattle.netlist.specs.declared.parts.Parts.{Parts}
 use Rattle.netlist.specs.Fixpoint.{fix_gates}
-use Rattle.loops.specs.declared.parts.Blocks.{Blocks}
-use Rattle.loops.specs.declared.parts.Cut.{Cut}
-use Rattle.loops.specs.declared.parts.SweepCounts.{SweepCounts}
+use Rattle.loops.specs.declared.structure.Blocks.{Blocks}
+use Rattle.loops.specs.declared.structure.Cut.{Cut}
+use Rattle.loops.specs.declared.structure.SweepCounts.{SweepCounts}
 use Rattle.loops.specs.Blocks.{block_at, home_of}
 use Rattle.loops.specs.Cuts.{is_cut, loops_by}
 use Rattle.loops.specs.Sweeps.{value_in, CutsAreFixed, IsCountOfSweeps}

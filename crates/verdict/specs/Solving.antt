@@ -5,8 +5,8 @@ use Rattle.bdd_store.specs.Arena.{Arena, den, IsNodeOf}
 use Rattle.dual_rail.specs.declared.rail.Rails.{Rails}
 use Rattle.dual_rail.specs.Rails.{values_of}
 use Rattle.netlist.specs.declared.parts.Parts.{Parts}
-use Rattle.loops.specs.declared.parts.Blocks.{Blocks}
-use Rattle.loops.specs.declared.parts.Cut.{Cut}
+use Rattle.loops.specs.declared.structure.Blocks.{Blocks}
+use Rattle.loops.specs.declared.structure.Cut.{Cut}
 use Rattle.fixpoint.specs.Kept.{rails_under}
 use Rattle.fixpoint.specs.Solved.{IsSolution}
 use Rattle.verdict.specs.declared.solving.Fixpoint.{Fixpoint}

@@ -7,9 +7,9 @@ use Rattle.bdd_store.specs.declared.node.Node.{Node}
 use Rattle.bdd_store.specs.Arena.{Arena}
 use Rattle.cyc_base.specs.declared.trit.Trit.{Trit}
 use Rattle.netlist.specs.declared.parts.Parts.{Parts}
-use Rattle.loops.specs.declared.parts.Blocks.{Blocks}
-use Rattle.loops.specs.declared.parts.Cut.{Cut}
-use Rattle.loops.specs.declared.parts.SweepCounts.{SweepCounts}
+use Rattle.loops.specs.declared.structure.Blocks.{Blocks}
+use Rattle.loops.specs.declared.structure.Cut.{Cut}
+use Rattle.loops.specs.declared.structure.SweepCounts.{SweepCounts}
 use Rattle.loops.specs.Blocks.{block_at, home_of}
 use Rattle.loops.specs.Cuts.{loops_by}
 use Rattle.loops.specs.Sweeps.{IsCountOfSweeps}

@@ -3,7 +3,7 @@ use Rattle.bdd_store.specs.Soundness.{IsLawful}
 use Rattle.bdd_store.specs.Growth.{AddsWithin}
 use Rattle.bdd_store.proofs.GrowthLemmas.{adds_moved, adds_refused, adds_swept}
 use Rattle.dual_rail.specs.WorkingLists.{IsWide}
-use Rattle.loops.specs.declared.parts.Block.{Block}
+use Rattle.loops.specs.declared.structure.Block.{Block}
 use Rattle.loops.specs.Blocks.{block_at, home_of, no_block}
 use Rattle.loops.specs.Cuts.{loops_by}
 use Rattle.loops.proofs.Told.{gate_home}

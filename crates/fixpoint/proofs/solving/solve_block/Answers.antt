@@ -8,7 +8,7 @@ use Rattle.loops.specs.Cuts.{loops_by}
 use Rattle.fixpoint.specs.Working.{IsWorking, HasLargeCover, block_cost}
 use Rattle.bdd_store.proofs.GrowthLemmas.{within_moved, within_more, within_refused, within_answered}
 use Rattle.fixpoint.proofs.BoundLemmas.{plain-bounds, plain-cost, gate-few}
-use Rattle.loops.specs.declared.parts.Block.{Block}
+use Rattle.loops.specs.declared.structure.Block.{Block}
 use Rattle.loops.specs.Blocks.{block_at, home_of, no_block}
 use Rattle.fixpoint.specs.Sweeping.{vectors}
 use Rattle.fixpoint.proofs.BlockLemmas.{plain-solved}

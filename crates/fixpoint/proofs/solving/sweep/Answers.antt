@@ -6,7 +6,7 @@ use Rattle.bdd_store.proofs.GrowthLemmas.{KeepsNodes-chain, within_then, within_
 use Rattle.dual_rail.specs.Local.{size}
 use Rattle.dual_rail.specs.WorkingLists.{IsWide}
 use Rattle.netlist.specs.Netlists.{gate_at}
-use Rattle.loops.specs.declared.parts.Blocks.{Blocks}
+use Rattle.loops.specs.declared.structure.Blocks.{Blocks}
 use Rattle.loops.specs.Blocks.{block_at}
 use Rattle.loops.specs.Cuts.{is_cut, loops_by}
 use Rattle.fixpoint.specs.Solved.{Vectors}

@@ -2,7 +2,7 @@ use Rattle.std.proofs.Common.{◌*◌, ◌≤◌, ℕ, length, filter, take}
 use Rattle.bdd_store.specs.Growth.{KeepsNodes}
 use Rattle.bdd_store.proofs.GrowthLemmas.{HasGrown}
 use Rattle.dual_rail.specs.WorkingLists.{IsWide}
-use Rattle.loops.specs.declared.parts.Blocks.{Blocks}
+use Rattle.loops.specs.declared.structure.Blocks.{Blocks}
 use Rattle.loops.specs.Blocks.{block_at}
 use Rattle.loops.specs.Cuts.{is_cut, loops_by}
 use Rattle.fixpoint.specs.Solved.{Vectors}

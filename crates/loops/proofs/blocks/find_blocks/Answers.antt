@@ -1,7 +1,7 @@
 use Rattle.std.proofs.Common.{◌≡◌, ◌∙◌, ℕ, List, ap, map, subst, arith, sym, length}
 use Rattle.std.specs.List.{range_with_len}
 use Rattle.components.specs.Graphs.{AreComponentsOf}
-use Rattle.loops.specs.declared.parts.Block.{Block}
+use Rattle.loops.specs.declared.structure.Block.{Block}
 use Rattle.loops.specs.Blocks.{AreBlocksOf}
 use Rattle.loops.specs.Members.{members, block_of}
 use Rattle.netlist.specs.Orders.{gate_graph}

@@ -1,5 +1,5 @@
 use Rattle.std.proofs.Common.{◌≡◌, ◌<◌, ◌+◌, ℕ, List, Bool, length, arith, ap, sym, ◌∙◌, subst}
-use Rattle.loops.specs.declared.parts.Cut.{Cut}
+use Rattle.loops.specs.declared.structure.Cut.{Cut}
 use Rattle.loops.specs.Searching.{IsReady}
 use Rattle.loops.proofs.CutLemmas.{AreCutsBelow, are_turned, cut_from_below, cut_step}
 use Rattle.loops.proofs.cuts.find_cut.Goals as goal

@@ -1,7 +1,7 @@
 -- The first gate of a block is one of its gates.
 use Rattle.std.proofs.Common.{◌≡◌, ◌<◌, ℕ, List, length, get_or, ap, ◌∙◌, arith}
-use Rattle.loops.specs.declared.parts.Block.{Block}
-use Rattle.loops.specs.declared.parts.Blocks.{Blocks}
+use Rattle.loops.specs.declared.structure.Block.{Block}
+use Rattle.loops.specs.declared.structure.Blocks.{Blocks}
 use Rattle.loops.specs.Blocks.{AreBlocksOf, block_at, gates_at, home_of}
 use Rattle.loops.proofs.OrderLemmas.{block_gates}
 use Rattle.netlist.specs.declared.parts.Parts.{Parts}

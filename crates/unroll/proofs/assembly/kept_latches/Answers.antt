@@ -1,7 +1,7 @@
 use Rattle.std.proofs.Common.{◌++◌, ◌∷◌, [], ap₂, sym, ◌∙◌}
 use Rattle.unroll.specs.Unrolled.{kept_latch}
 use Rattle.unroll.proofs.Kept.{taken_mapped}
-use Rattle.unroll.proofs.parts.kept_latches.Goals as goal
+use Rattle.unroll.proofs.assembly.kept_latches.Goals as goal
 
 pub loop-number-preserved : goal.loop-number-preserved
 loop-number-preserved c =

@@ -1,6 +1,6 @@
 use Rattle.std.proofs.Common.{◌≡◌, map, take}
 use Rattle.unroll.specs.Unrolled.{moved}
-use Rattle.unroll.proofs.parts.kept_outputs.Given as goal
+use Rattle.unroll.proofs.assembly.kept_outputs.Given as goal
 
 abbrev pub invariant-loop-output : goal.invariant-loop-output
 invariant-loop-output l = l.outputs.items ≡ map (moved l.net l.by) (take l.output-index l.net.outputs)

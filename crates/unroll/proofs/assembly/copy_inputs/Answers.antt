@@ -1,7 +1,7 @@
 use Rattle.std.proofs.Common.{◌<◌, ◌++◌, ◌∷◌, [], length, ap₂, sym, ◌∙◌, arith}
 use Rattle.netlist.specs.Netlists.{driven_names}
 use Rattle.unroll.proofs.Kept.{taken_first}
-use Rattle.unroll.proofs.parts.copy_inputs.Goals as goal
+use Rattle.unroll.proofs.assembly.copy_inputs.Goals as goal
 
 pub loop-number-preserved : goal.loop-number-preserved
 loop-number-preserved c =

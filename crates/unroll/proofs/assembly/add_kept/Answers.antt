@@ -4,7 +4,7 @@ use Rattle.std.specs.List.{range_with_len}
 use Rattle.loops.specs.Cuts.{loops_by}
 use Rattle.unroll.specs.Tables.{kept_gate_by}
 use Rattle.unroll.proofs.SizeLemmas.{range_next}
-use Rattle.unroll.proofs.parts.add_kept.Goals as goal
+use Rattle.unroll.proofs.assembly.add_kept.Goals as goal
 
 pub loop-gate-preserved : goal.loop-gate-preserved
 loop-gate-preserved c =

@@ -7,7 +7,7 @@ use Rattle.unroll.specs.Unrolled.{sweeps_of, constants, copies, copy_gate, kept_
 use Rattle.unroll.specs.Tables.{AreLastCopies}
 use Rattle.unroll.proofs.Counts.{sweeps_are_of_loops}
 use Rattle.unroll.proofs.Kept.{kept_same}
-use Rattle.unroll.proofs.parts.unrolled_gates.Goals as goal
+use Rattle.unroll.proofs.assembly.unrolled_gates.Goals as goal
 
 pub returns : goal.returns
 returns c =

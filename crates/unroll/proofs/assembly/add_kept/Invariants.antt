@@ -2,7 +2,7 @@ use Rattle.std.proofs.Common.{◌≡◌, ◌++◌, map}
 use Rattle.std.specs.List.{range_with_len}
 use Rattle.loops.specs.Cuts.{loops_by}
 use Rattle.unroll.specs.Tables.{kept_gate_by}
-use Rattle.unroll.proofs.parts.add_kept.Given as goal
+use Rattle.unroll.proofs.assembly.add_kept.Given as goal
 
 abbrev pub invariant-loop-gate : goal.invariant-loop-gate
 invariant-loop-gate l =
