@@ -3,7 +3,7 @@
 # machines, UARTs, small processors, benchmark circuits. yosys makes a BLIF netlist of each with one kind of flip-flop.
 # It prints time, peak memory, gates and what `check` says of each, and then how many came to what.
 #   bench/real.sh            fetches the sources (`apt-get source`, which wants a deb-src line) and makes the netlists
-#   bench/real.sh FOLDER     the same with FOLDER, which may have the sources' trees, and keeps the netlists there
+#   bench/real.sh FOLDER     the same in FOLDER, which may have the sources' trees; the netlists stay there, for a later run
 set -u
 top=$(cd "$(dirname "$0")/.." && pwd) || exit 1
 if [ $# -gt 0 ]; then
@@ -23,13 +23,15 @@ netlist() {
         dfflegalize -cell \$_DFF_P_ 01; simplemap; opt_clean; write_blif $2" >/dev/null 2>&1
 }
 
-[ -n "$(sources)" ] || (cd "$dir" && apt-get source -qq yosys fpga-icestorm >/dev/null 2>&1)
-mkdir -p "$dir/netlists"
-sources | while read -r design; do
-    name=${design#"$dir"/}
-    blif=$dir/netlists/$(echo "${name%.v}" | tr / _).blif
-    [ -e "$blif" ] || netlist "$design" "$blif" || rm -f "$blif"
-done
+if [ ! -d "$dir/netlists" ]; then
+    [ -n "$(sources)" ] || (cd "$dir" && apt-get source -qq yosys fpga-icestorm >/dev/null 2>&1)
+    mkdir "$dir/netlists"
+    sources | while read -r design; do
+        name=${design#"$dir"/}
+        blif=$dir/netlists/$(echo "${name%.v}" | tr / _).blif
+        netlist "$design" "$blif" || rm -f "$blif"
+    done
+fi
 
 "$top/cyc" check "$top/examples/full_adder.blif" >/dev/null 2>&1 # builds the program where it isn't built
 for blif in "$dir"/netlists/*.blif; do
