@@ -2,7 +2,6 @@
 
 ghost use Rattle.std.specs.Prelude.{◌≡◌, IfOk};
 ghost use Rattle.netlist.specs.Netlists.{IsNetlist};
-ghost use Rattle.fixpoint.specs.Kept.{RootsStay};
 
 use crate::texts::net_of;
 use bdd_ops::Diagrams;
@@ -155,9 +154,7 @@ fn stand_for_settled(
 /// The rails of all signals, where the input and the latch are variables.
 fn solved_rails(alloc: Global, d: &mut Diagrams, net: &Netlist) -> Result<Items<Rails>, Fail>
     requires { d.old.vars ≡ 2 }
-    ensures { RootsStay d.old d.new }
 {
-    d.store().laws();
     let x = var_rails(d, 0)?;
     let q = var_rails(d, 1)?;
     let blocks = find_blocks(alloc, net)?;
@@ -212,33 +209,6 @@ pub fn net_at(alloc: Global, number: u32) -> Result<Netlist, Fail>
 fn net_is_settled(alloc: Global, number: u32) -> Result<bool, Fail> {
     let net = net_at(alloc, number)?;
     is_settled_anew(alloc, &net)
-}
-
-/// Whether a root of before has its function once this netlist is solved, and whether the store then has no node but
-/// those that its roots reach: another sweep leaves as many.
-fn root_stays(alloc: Global, number: u32) -> Result<bool, Fail> {
-    let net = net_at(alloc, number)?;
-    let mut d = Diagrams::new(alloc, 2, 1000)?;
-    let x = d.var(0)?;
-    let q = d.var(1)?;
-    let differ = d.xor(x, q)?;
-    let root = d.keep(differ)?;
-    let _ = solved_rails(alloc, &mut d, &net)?;
-    let kept = d.root(&root);
-    let count = d.store().count();
-    let values = (0..4).all(|number| bit_at(&d, kept, vector(number).as_slice())
-        == Some(number == 1 || number == 2));
-    d.sweep()?;
-    Ok(values && d.store().count() == count)
-}
-
-#[test]
-fn roots_of_before_stay(rt: HostRuntime) -> Result<(), Fail> {
-    let alloc = rt.alloc();
-    for number in 0..NETS {
-        assert!(rt; root_stays(alloc, number)?, "netlist {number}");
-    }
-    Ok(())
 }
 
 #[test]
