@@ -40,5 +40,5 @@ for blif in "$dir"/netlists/*.blif; do
     tail -n 1 "$dir/time" | awk -v name="$(basename "$blif" .blif)" -v line="$line" \
         '{ printf "%7.2f s %8d kB  %-50s %s\n", $1 + $2, $3, name, line }'
 done | tee "$dir/told"
-awk '{ told[$6]++ } END { for (word in told) print told[word], word }' "$dir/told"
+awk '{ word = $6 ~ /^(accepted|refused|node)$/ ? $6 : "with a fault"; told[word]++ } END { for (word in told) print told[word], word }' "$dir/told"
 sort -rn "$dir/told" | head -n 1
