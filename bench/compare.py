@@ -1,0 +1,256 @@
+#!/usr/bin/env python3
+"""Random netlists with loops, decided vector by vector and compared with `cyc`.
+
+  bench/compare.py [CASES] [SEED]      1,000 cases of seed 1, if nothing else is said
+
+Each case is a netlist of at most eight gates, three inputs and two latches, with or without a care file, and observed
+in one of the two ways. It is decided here by simulation with 0, 1 and unknown at each vector alone. What `check` prints
+must be the same text; and what `rewrite` writes of an accepted netlist must have no loop, and the same outputs and next
+states at each care vector. A case that differs is printed with its files, and the status is then 1.
+"""
+import itertools
+import os
+import random
+import subprocess
+import sys
+import tempfile
+
+TOP = os.path.dirname(os.path.dirname(os.path.abspath(__file__)))
+UNKNOWN = 2
+
+
+# ---- covers and netlists
+
+def value(cover, bits):
+    """The value of a cover on bits: a cover is its rows and the value where one of them matches."""
+    rows, on = cover
+    if not rows:
+        return 0
+    hit = any(all(place in ("-", str(bit)) for place, bit in zip(row, bits)) for row in rows)
+    return int(hit == (on == "1"))
+
+
+def extension(cover, trits):
+    """The value that the cover has for all completions, or unknown."""
+    choices = [(0, 1) if trit == UNKNOWN else (trit,) for trit in trits]
+    found = {value(cover, bits) for bits in itertools.product(*choices)}
+    return found.pop() if len(found) == 1 else UNKNOWN
+
+
+class Netlist:
+    """Inputs, latches (source, init) and gates (pins, cover); signals are numbered in this order."""
+
+    def __init__(self, inputs, latches, gates, outputs, names):
+        self.inputs, self.latches, self.gates, self.outputs, self.names = inputs, latches, gates, outputs, names
+        self.first = inputs + len(latches)
+
+    def fixpoint(self, vector):
+        state = [UNKNOWN] * len(self.gates)
+        while True:
+            wires = [*vector, *state]
+            after = [extension(cover, [wires[pin] for pin in pins]) for pins, cover in self.gates]
+            if after == state:
+                return wires
+            state = after
+
+    def reach(self):
+        """For each gate the gates to which a walk leads from it."""
+        after = [set() for _ in self.gates]
+        for gate, (pins, _) in enumerate(self.gates):
+            for pin in pins:
+                if pin >= self.first:
+                    after[pin - self.first].add(gate)
+        found = []
+        for gate in range(len(self.gates)):
+            seen, front = set(), [gate]
+            while front:
+                new = after[front.pop()] - seen
+                seen |= new
+                front += new
+            found.append(seen)
+        return found
+
+    def loops(self):
+        reach = self.reach()
+        looped = [gate for gate in range(len(reach)) if gate in reach[gate]]
+        return len({min(other for other in looped if other in reach[gate] and gate in reach[other]) for gate in looped})
+
+
+# ---- BLIF
+
+def cover_text(cover):
+    return "".join(f"{row} {cover[1]}\n" if row else f"{cover[1]}\n" for row in cover[0])
+
+
+def text_of(net):
+    name = net.names
+    text = f".model m\n.inputs {' '.join(name[: net.inputs])}\n"
+    text += f".outputs {' '.join(name[signal] for signal in net.outputs)}\n"
+    for number, (source, init) in enumerate(net.latches):
+        text += f".latch {name[source]} {name[net.inputs + number]} {init}\n"
+    for number, (pins, cover) in enumerate(net.gates):
+        text += f".names {' '.join(name[signal] for signal in [*pins, net.first + number])}\n{cover_text(cover)}"
+    return text + ".end\n"
+
+
+def netlist_of(text):
+    """Reads what `rewrite` writes: one model, one line a directive."""
+    inputs, outputs, latches, gates = [], [], [], []
+    for line in text.split("\n"):
+        word, *rest = line.split() or [""]
+        if word == ".inputs":
+            inputs = rest
+        elif word == ".outputs":
+            outputs = rest
+        elif word == ".latch":
+            latches.append(rest)
+        elif word == ".names":
+            gates.append((rest, []))
+        elif word and not word.startswith("."):
+            gates[-1][1].append([word, *rest])
+    names = [*inputs, *[latch[1] for latch in latches], *[pins[-1] for pins, _ in gates]]
+    number = {name: place for place, name in enumerate(names)}
+    covers = [(["" if len(row) == 1 else row[0] for row in rows], rows[0][-1] if rows else "1") for _, rows in gates]
+    return Netlist(
+        len(inputs),
+        [(number[latch[0]], latch[-1]) for latch in latches],
+        [([number[name] for name in pins[:-1]], cover) for (pins, _), cover in zip(gates, covers)],
+        [number[name] for name in outputs],
+        names,
+    )
+
+
+# ---- cases
+
+def random_cover(pins):
+    rows = ["".join(random.choice("01--") for _ in range(pins)) for _ in range(random.choice([0, 1, 1, 2, 2, 3]))]
+    return rows, random.choice("01")
+
+
+def random_netlist():
+    inputs, latches, gates = random.randint(0, 3), random.choice([0, 0, 1, 2]), random.randint(1, 8)
+    first = inputs + latches
+    signal = lambda: random.randrange(first + gates)
+    names = [*[f"x{k}" for k in range(inputs)], *[f"q{k}" for k in range(latches)], *[f"g{k}" for k in range(gates)]]
+    parts = [(signal(), random.randint(0, 3)) for _ in range(latches)]
+    pins = [[signal() for _ in range(random.choice([0, 1, 2, 2, 2, 3]))] for _ in range(gates)]
+    outputs = dict.fromkeys(signal() for _ in range(random.randint(0, 2)))
+    return Netlist(inputs, parts, [(on, random_cover(len(on))) for on in pins], list(outputs), names)
+
+
+def random_model(net, columns):
+    """A model of a care file on some of these columns: its columns, and a netlist without loops whose last gate counts."""
+    on = [column for column in columns if random.random() < 0.8]
+    gates = []
+    for _ in range(random.randint(1, 2)):
+        there = len(on) + len(gates)
+        pins = [random.randrange(there) for _ in range(random.randint(0, 3))] if there else []
+        gates.append((pins, random_cover(len(pins))))
+    names = [*[net.names[column] for column in on], *[f"n{k}" for k in range(len(gates))]]
+    return on, Netlist(len(on), [], gates, [len(on) + len(gates) - 1], names)
+
+
+def model_text(word, model):
+    return text_of(model[1]).replace(".model m", f".model {word}", 1)
+
+
+def holds(model, vector):
+    if model is None:
+        return True
+    columns, net = model
+    return net.fixpoint([vector[column] for column in columns])[-1] == 1
+
+
+def vectors(columns):
+    return list(itertools.product((0, 1), repeat=columns))
+
+
+def told(names, bits):
+    return "".join(f" {name}={bit}" for name, bit in zip(names, bits))
+
+
+def decide(net, assume, invariant, observe):
+    """The text of the verdict, and the care vectors."""
+    states, name = net.names[net.inputs : net.first], net.names
+    inside = lambda state: holds(invariant, [0] * net.inputs + list(state))
+    for state in vectors(len(net.latches)):
+        if all(init >= 2 or init == bit for (_, init), bit in zip(net.latches, state)) and not inside(state):
+            return "refused initial" + told(states, state), []
+    care = [vector for vector in vectors(net.first) if inside(vector[net.inputs :]) and holds(assume, vector)]
+    if not care:
+        return "refused empty care", []
+    fixpoints = [net.fixpoint(vector) for vector in care]
+    seen = [*net.outputs, *[source for source, _ in net.latches]]
+    gates = range(net.first, len(name))
+    for gate in gates if observe == "all" else sorted({signal for signal in seen if signal >= net.first}):
+        for vector, wires in zip(care, fixpoints):
+            if wires[gate] == UNKNOWN:
+                at = " at" + told(name, vector) if vector else ""
+                return f"refused undetermined wire={name[gate]}{at}", care
+    for vector, wires in zip(care, fixpoints):
+        after = [wires[source] for source, _ in net.latches]
+        if not inside(after):
+            return "refused leaves at" + told(name, vector) + " next" + told(states, after), care
+    loose = sum(any(wires[gate] == UNKNOWN for wires in fixpoints) for gate in gates)
+    tail = "" if observe == "all" else f" open={loose}"
+    return f"accepted gates={len(net.gates)} loops={net.loops()} latches={len(net.latches)}{tail}", care
+
+
+def differs(net, new, care):
+    """Why a rewritten netlist isn't as good as the netlist, if it isn't."""
+    if new.loops():
+        return "it has a loop"
+    for vector in care:
+        old_wires, new_wires = net.fixpoint(vector), new.fixpoint(vector)
+        for old, after in zip([net.outputs, [s for s, _ in net.latches]], [new.outputs, [s for s, _ in new.latches]]):
+            if [old_wires[signal] for signal in old] != [new_wires[signal] for signal in after]:
+                return f"it differs at {vector}"
+    return ""
+
+
+def cyc(folder, *words):
+    ran = subprocess.run([f"{TOP}/cyc", *words], cwd=folder, capture_output=True, text=True)
+    return ran.stdout if ran.returncode == 0 else ran.stdout + ran.stderr
+
+
+def case(folder):
+    """What differs in one random case, with what the netlist came to."""
+    net = random_netlist()
+    assume = random_model(net, range(net.first)) if random.random() < 0.5 else None
+    invariant = random_model(net, range(net.inputs, net.first)) if net.latches and random.random() < 0.6 else None
+    observe = random.choice(["all", "all", "outputs"])
+    files = {"m.blif": text_of(net)}
+    words = ["m.blif", "--observe", observe]
+    if assume or invariant:
+        models = {"assume": assume, "invariant": invariant}
+        files["c.blif"] = "".join(model_text(word, model) for word, model in models.items() if model)
+        words += ["--care", "c.blif"]
+    for file, text in files.items():
+        with open(f"{folder}/{file}", "w", encoding="utf-8") as it:
+            it.write(text)
+    want, care = decide(net, assume, invariant, observe)
+    got = cyc(folder, "check", *words).strip()
+    why = "" if got == want else f"check says {got!r}, not {want!r}"
+    if not why and want.startswith("accepted"):
+        why = differs(net, netlist_of(cyc(folder, "rewrite", *words)), care)
+    return (f"{why}\n" + "".join(files.values()) if why else ""), " ".join(want.split()[: 1 + want.startswith("refused")])
+
+
+def main():
+    cases = int(sys.argv[1]) if len(sys.argv) > 1 else 1000
+    seed = int(sys.argv[2]) if len(sys.argv) > 2 else 1
+    random.seed(seed)
+    failed, kinds = 0, {}
+    subprocess.run([f"{TOP}/cyc", "check", f"{TOP}/examples/full_adder.blif"], capture_output=True)  # builds it once
+    with tempfile.TemporaryDirectory() as folder:
+        for _ in range(cases):
+            why, kind = case(folder)
+            kinds[kind] = kinds.get(kind, 0) + 1
+            failed += bool(why)
+            if why:
+                print(why)
+    print(f"cases={cases} differ={failed}", *(f"{kind}={number}" for kind, number in sorted(kinds.items())))
+    return 1 if failed else 0
+
+
+sys.exit(main())
