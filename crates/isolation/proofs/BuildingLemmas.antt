@@ -1,5 +1,5 @@
 -- A small netlist while it is made.
-use Rattle.std.proofs.Common.{◌≡◌, ◌≢◌, inl, inr, ◌⊎◌, ℕ, ◌+◌, ◌-◌, ◌<◌, ◌≤◌, Bool, true, false, List, [], ◌∷◌, ◌++◌, length, map, take, get_or, if◌then◌else◌, eqb, Option, Some, None, Result, Ok, Err, IfOk, IsSome, refl, sym, ap, ap₂, ◌∙◌, subst, arith, Contains, true≢false, zero, suc}
+use Rattle.std.proofs.Common.{◌≡◌, ◌≢◌, inl, inr, ℕ, ◌+◌, ◌-◌, ◌<◌, ◌≤◌, Bool, true, false, List, [], ◌∷◌, ◌++◌, length, map, take, get_or, if◌then◌else◌, eqb, Option, Some, None, Result, Ok, Err, IfOk, IsSome, refl, sym, ap, ap₂, ◌∙◌, subst, arith, Contains, true≢false, zero, suc}
 use Rattle.std.proofs.lemmas.Bool.{cases_lt, eqb-true, eq-eqb}
 use Rattle.std.proofs.lemmas.List.{get_or-map, get_or_default, get_or_append_left, get_or-append_right, get_or_push, length_push, length-map, length-append, map-append, take_more, take_all}
 use Rattle.std.proofs.lemmas.List.Elements.{Contains-append_left, Contains-push, Contains-push_cases, All-push}
@@ -17,10 +17,11 @@ use Rattle.netlist.specs.Netlists.{IsNetlist, count, signal, no_gate, gate_at, g
 use Rattle.netlist.proofs.Decisions.{none_found}
 use Rattle.loops.specs.declared.structure.Blocks.{Blocks}
 use Rattle.loops.specs.Blocks.{AreBlocksOf, block_at, home_of}
+use Rattle.loops.specs.Placing.{Rise}
 use Rattle.loops.specs.Sweeps.{first_gate}
 use Rattle.loops.proofs.Told.{gate_home, home_gate}
 use Rattle.isolation.specs.Excerpts.{origins, origin, gate_in, IsRead, AreOnce, IsExcerpt}
-use Rattle.isolation.specs.Building.{IsOutside, AreOutside, AreWires, IsAmong, AddWires, AreClosed, AreReadWithin, AreWiresOf, AreNumerable, AreRising, AreNumbersOf, IsCopyOf, IsPlaceOf, IsLoopNetlist}
+use Rattle.isolation.specs.Building.{IsOutside, AreOutside, AreWires, IsAmong, AddWires, AreClosed, AreWiresOf, AreNumbersOf, IsCopyOf, IsPlaceOf, IsLoopNetlist}
 
 -- a gate of a block, by its signal
 pub inside_block : (net : Parts) (blocks : Blocks) → AreBlocksOf net blocks → (place : ℕ) (s : Sig) → place < length blocks.list → Contains (map (gate_sig net) (block_at blocks place).gates) s →
@@ -292,7 +293,7 @@ copy_is signals gate made pins numbers name cover made_pins are is = record {
 }
 
 -- a search in gates that rise finds what is there
-pub search_none : (gates : List ℕ) (gate i : ℕ) → IsBinarySearchResult (λ y. nat_cmp y gate) gates (Err i) → AreRising gates → Contains gates gate → ⊥
+pub search_none : (gates : List ℕ) (gate i : ℕ) → IsBinarySearchResult (λ y. nat_cmp y gate) gates (Err i) → Rise gates → Contains gates gate → ⊥
 search_none gates gate i found rise c =
     let s = searched gates gate (Err i) found sorted in
     let at : get_or gates c.0 0 ≡ gate = get_or_default gates c.0 0 gate c.1 ∙ c.2 in

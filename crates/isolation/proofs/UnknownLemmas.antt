@@ -1,15 +1,14 @@
 -- Rails that aren't known at all vectors, and the gates that they stand for.
-use Rattle.std.proofs.Common.{◌≡◌, ◌≢◌, inl, inr, ◌⊎◌, ℕ, zero, suc, ◌+◌, ◌-◌, ◌<◌, ◌≤◌, Bool, true, false, ◌||◌, ◌==◌, List, [], ◌∷◌, ◌++◌, length, map, get_or, Option, Some, None, Result, Ok, Err, IfOk, refl, sym, ap, ◌∙◌, subst, arith, true≢false}
+use Rattle.std.proofs.Common.{◌≡◌, ◌≢◌, inl, inr, ◌⊎◌, ℕ, zero, suc, ◌+◌, ◌-◌, ◌<◌, Bool, true, false, ◌||◌, ◌==◌, List, [], ◌∷◌, length, get_or, Option, Some, None, Result, Ok, Err, IfOk, refl, sym, ap, ◌∙◌, arith, true≢false}
 use Rattle.std.proofs.lemmas.Bool.{cases_lt, eq-eqb}
 use Rattle.std.proofs.lemmas.List.{get_or-map, get_or_default, get_or_append_left, get_or-append_right, length-map}
 use Rattle.std.specs.List.{All}
-use Rattle.std.specs.Prelude.{IfSome, IfNone}
+use Rattle.std.specs.Prelude.{IfNone}
 use Rattle.bdd_store.specs.declared.node.Node.{Node}
 use Rattle.bdd_store.specs.Arena.{Arena, constant, den, IsNodeOf}
 use Rattle.bdd_store.specs.Growth.{KeepsNodes}
 use Rattle.bdd_store.specs.Soundness.{IsLawful}
 use Rattle.bdd_ops.specs.Operations.{disjunction}
-use Rattle.cyc_base.specs.declared.sig.Sig.{Sig}
 use Rattle.cyc_base.specs.declared.trit.Trit.{Trit}
 use Rattle.cyc_base.specs.declared.trit.Trit.TheVariants.{X}
 use Rattle.cyc_base.specs.Values.{bit, bits}
@@ -18,7 +17,7 @@ use Rattle.dual_rail.specs.Rails.{AreRailsOf, trit_of, value_of, values_of}
 use Rattle.dual_rail.proofs.SurelyLemmas.{value_of-kept}
 use Rattle.netlist.specs.declared.parts.Parts.{Parts}
 use Rattle.netlist.specs.Fixpoint.{fix, fix_gates}
-use Rattle.netlist.specs.Netlists.{IsNetlist, count}
+use Rattle.netlist.specs.Netlists.{IsNetlist}
 use Rattle.loops.specs.declared.structure.Blocks.{Blocks}
 use Rattle.loops.specs.Blocks.{AreBlocksOf, block_at}
 use Rattle.loops.specs.Sweeps.{first_gate, value_in}
@@ -27,7 +26,6 @@ use Rattle.fixpoint.specs.Solved.{Vectors}
 use Rattle.fixpoint.specs.Sweeping.{rails_at, unknown}
 use Rattle.fixpoint.proofs.LayoutLemmas.{by_column, length-by_column, variables-back}
 use Rattle.fixpoint.proofs.OrderLemmas.{order-is}
-use Rattle.fixpoint.proofs.WireLemmas.{rails_at-proper}
 use Rattle.isolation.specs.Building.{IsLoopNetlist}
 use Rattle.isolation.specs.Settling.{AreColumnVectors, HasUnknownRails, HasUnknownVector}
 use Rattle.isolation.specs.Unsettled.{AreUnsettled, HasUnknown, IsBelowEnough}

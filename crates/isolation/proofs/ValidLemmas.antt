@@ -1,13 +1,12 @@
 -- The parts of an excerpt make a netlist.
-use Rattle.std.proofs.Common.{◌≡◌, ◌≢◌, inl, inr, ◌⊎◌, ℕ, ◌+◌, ◌-◌, ◌<◌, ◌≤◌, Bool, true, false, List, [], ◌∷◌, ◌++◌, length, map, get_or, eqb, Option, Some, None, Result, Ok, Err, refl, sym, ap, ap₂, ◌∙◌, subst, arith, Contains, take, slice_get, true≢false}
-use Rattle.std.proofs.lemmas.Bool.{cases_lt, cases_Bool, eqb-true, ne_eqb}
+use Rattle.std.proofs.Common.{◌≡◌, ◌≢◌, inl, inr, ◌⊎◌, ℕ, ◌+◌, ◌-◌, ◌<◌, ◌≤◌, true, false, List, [], ◌∷◌, ◌++◌, length, map, get_or, eqb, Some, None, refl, sym, ap, ap₂, ◌∙◌, subst, arith, Contains, take, slice_get}
+use Rattle.std.proofs.lemmas.Bool.{cases_lt, eqb-true, ne_eqb}
 use Rattle.std.proofs.lemmas.Cmp.{nat_list_eq_equiv}
 use Rattle.std.proofs.lemmas.List.{ext_get_or, get_or-map, get_or_default, get_or_append_left, get_or-append_right, length-map, length-append, map-append, take_more}
 use Rattle.std.proofs.lemmas.Option.{get_or_from_slice_get}
 use Rattle.std.proofs.lemmas.Map.Keys.{apart_from_distinct, IsDistinct-from_apart}
 use Rattle.std.proofs.lemmas.Map.Steps.{length-le_from_distinct_below}
 use Rattle.std.proofs.lemmas.Map.Views.{Contains-from_any}
-use Rattle.std.proofs.lemmas.Slice.Eq.{bytes_eq-Decides}
 use Rattle.std.specs.List.{All, IsDistinct, list_any}
 use Rattle.std.specs.Str.{bytes_eq}
 use Rattle.cyc_base.specs.Names.{IsBlifName}
@@ -20,9 +19,10 @@ use Rattle.netlist.specs.declared.parts.PartsFault.TheVariants.{Memory}
 use Rattle.netlist.specs.Faults.{first_fault}
 use Rattle.netlist.proofs.Validity.{no_fault_of_netlist}
 use Rattle.netlist.specs.Netlists.{IsNetlist, IsSignal, count, driven_names, gate_at, gate_sig, no_gate, sig_eq, signal, signal_names}
+use Rattle.loops.specs.Placing.{Rise}
 use Rattle.loops.specs.Sweeps.{first_gate}
 use Rattle.isolation.specs.Excerpts.{origins, origin, gate_in, AreOnce, IsExcerpt}
-use Rattle.isolation.specs.Building.{AreApart, AreClosed, AreCopies, AreNumerable, AreRising, IsNamedBy, name_at}
+use Rattle.isolation.specs.Building.{AreApart, AreClosed, AreCopies, AreNumerable, IsNamedBy, name_at}
 
 none-twice : IsDistinct sig_eq []
 unfolding IsDistinct
@@ -31,7 +31,7 @@ none-twice = tt
 -- ---- the signals that an excerpt has
 
 module _ (net : Parts) (gates : List ℕ) (outside : List Sig) (gates_in : All (λ gate. gate < length net.gates) gates) (outside_in : All (λ s. s.0 < count net) outside)
-    (apart : AreApart net gates outside) (rise : AreRising gates) (once : AreOnce outside) where
+    (apart : AreApart net gates outside) (rise : Rise gates) (once : AreOnce outside) where
   size : length (origins net outside gates) ≡ length outside + length gates
   size = length-append outside (map (gate_sig net) gates) ∙ ap (λ (n : ℕ). length outside + n) (length-map gates (gate_sig net))
 

@@ -3,7 +3,8 @@ use Rattle.std.specs.Prelude.{◌≡◌, ◌⊎◌, ◌<◌, ◌≤◌, ◌+◌,
 use Rattle.cyc_base.specs.declared.sig.Sig.{Sig}
 use Rattle.netlist.specs.declared.parts.Gate.{Gate}
 use Rattle.netlist.specs.declared.parts.Parts.{Parts}
-use Rattle.netlist.specs.Netlists.{IsSignal, gate_at, gate_sig, no_gate, signal_names}
+use Rattle.netlist.specs.Netlists.{gate_at, gate_sig, no_gate, signal_names}
+use Rattle.loops.specs.Placing.{Rise}
 use Rattle.isolation.specs.Excerpts.{origin, origins, gate_in, IsRead, AreOnce, AreRead, IsExcerpt}
 
 -- a wire that a gate's pin reads, outside of these gates
@@ -43,19 +44,15 @@ pub record AreWiresOf (net : Parts) (gates : List ℕ) (k : ℕ) (outside : List
 abbrev pub AreApart : Parts → List ℕ → List Sig → Type 0
 AreApart net gates outside = (s : Sig) → Contains outside s → ¬ Contains (map (gate_sig net) gates) s
 
--- gates in flat order
-abbrev pub AreRising : List ℕ → Type 0
-AreRising gates = (i j : ℕ) → i < j → j < length gates → gate_in gates i < gate_in gates j
-
 -- The gates can be taken out with these wires as inputs: all that they read is among the wires and the gates.
 pub record AreClosed (net : Parts) (gates : List ℕ) (outside : List Sig) : Type 0 where
-  pub rise : AreRising gates
+  pub rise : Rise gates
   pub once : AreOnce outside
   pub read : AreReadWithin net gates outside (length gates)
 
 -- their signals can be numbered
 pub record AreNumerable (gates : List ℕ) (outside : List Sig) : Type 0 where
-  pub rise : AreRising gates
+  pub rise : Rise gates
   pub fits : length outside + length gates ≤ 4294967295
 
 -- a value stands at this place of a list

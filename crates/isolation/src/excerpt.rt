@@ -3,8 +3,9 @@
 ghost use Rattle.std.specs.Prelude.{◌≡◌, true, false, [], None, ◌<◌, length, map, All, IfOk, IfSome, OnOk, IsSome, Contains};
 ghost use Rattle.netlist.specs.Netlists.{count, gate_at, gate_sig as sig_of, IsNetlist, IsSignal};
 ghost use Rattle.loops.specs.Blocks.{AreBlocksOf, block_at};
+ghost use Rattle.loops.specs.Placing.{Rise};
 ghost use Rattle.isolation.specs.Excerpts.{origins, IsRead, IsExcerpt};
-ghost use Rattle.isolation.specs.Building.{AddWires, AreApart, AreClosed, AreCopies, AreNumbersOf, AreNumerable, AreRising, AreWires, AreWiresOf, IsAmong, IsCopyOf, IsLoopNetlist, IsNamedBy, IsPlaceOf, name_at};
+ghost use Rattle.isolation.specs.Building.{AddWires, AreApart, AreClosed, AreCopies, AreNumbersOf, AreNumerable, AreWires, AreWiresOf, IsAmong, IsCopyOf, IsLoopNetlist, IsNamedBy, IsPlaceOf, name_at};
 
 use cyc_base::{Items, Name, Sig};
 use indexmap::IndexSet;
@@ -95,7 +96,7 @@ fn place_outside(outside: &IndexSet<Sig>, signal: Sig) -> Option<usize>
 /// The place of a gate among these.
 pub(crate) fn place_among(gates: &[u32], gate: u32) -> Option<usize>
     ensures place { IfSome result (IsPlaceOf gates.now gate) }
-    ensures some { AreRising gates.now → Contains gates.now gate → IsSome result }
+    ensures some { Rise gates.now → Contains gates.now gate → IsSome result }
 {
     match gates.binary_search(&gate) {
         Ok(place) => Some(place),
@@ -106,7 +107,7 @@ pub(crate) fn place_among(gates: &[u32], gate: u32) -> Option<usize>
 /// The place of a gate's signal behind the wires outside.
 fn place_inside(net: &Netlist, gates: &[u32], outside: &IndexSet<Sig>, signal: Sig) -> Option<usize>
     ensures place { IfSome result (IsPlaceOf (origins net.now outside.now.keys gates.now) signal) }
-    ensures some { AreRising gates.now → Contains (map (sig_of net.now) gates.now) signal → IsSome result }
+    ensures some { Rise gates.now → Contains (map (sig_of net.now) gates.now) signal → IsSome result }
 {
     let first = net.inputs() + net.latches();
     if signal.0 < first {
@@ -119,7 +120,7 @@ fn place_inside(net: &Netlist, gates: &[u32], outside: &IndexSet<Sig>, signal: S
 /// The place of a signal among the wires outside and then the gates.
 fn place_of(net: &Netlist, gates: &[u32], outside: &IndexSet<Sig>, signal: Sig) -> Option<usize>
     ensures place { IfSome result (IsPlaceOf (origins net.now outside.now.keys gates.now) signal) }
-    ensures some { AreRising gates.now → IsAmong net.now gates.now outside.now.keys signal → IsSome result }
+    ensures some { Rise gates.now → IsAmong net.now gates.now outside.now.keys signal → IsSome result }
 {
     match place_outside(outside, signal) {
         Some(place) => Some(place),

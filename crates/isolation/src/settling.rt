@@ -1,6 +1,6 @@
 //! Whether a loop is settled by itself, whatever the wires outside are.
 
-ghost use Rattle.std.specs.Prelude.{◌≡◌, ◌≢◌, ◌<◌, ◌≤◌, ◌+◌, ◌*◌, ◌⊎◌, ℕ, true, false, Bool, List, length, map, All, IfOk, IfSome, IfNone};
+ghost use Rattle.std.specs.Prelude.{◌≡◌, ◌≢◌, ◌<◌, ◌≤◌, ◌+◌, ◌*◌, ◌⊎◌, true, false, Bool, List, length, map, All, IfOk, IfSome, IfNone};
 ghost use Rattle.bdd_store.specs.Growth.{AddsWithin, Grows, GrowsWithin, NoOtherCause};
 ghost use Rattle.bdd_store.specs.Subfunctions.{nodes};
 ghost use Rattle.bdd_ops.specs.Operations.{disjunction};
@@ -162,7 +162,7 @@ fn settle_on(
     settled_sweeps(alloc, d, blocks, &solved)
 }
 
-/// The same on diagrams of its own, of at most so many nodes.
+/// How many sweeps are enough, on diagrams of its own that hold at most `budget` nodes.
 fn settle_with(
     alloc: Global,
     net: &Netlist,
@@ -182,7 +182,7 @@ fn settle_with(
     settle_on(alloc, &mut d, net, blocks, cut)
 }
 
-/// The same, from the netlist alone.
+/// How many sweeps are enough for the loops of a netlist, whose blocks and cut wires are found here.
 fn settle(alloc: Global, net: &Netlist, budget: u32) -> Result<Option<u32>, StoreFault>
     requires some { 0 < length net.now.gates }
     requires budget { budget ≤ MAX_NODES }
@@ -195,7 +195,7 @@ fn settle(alloc: Global, net: &Netlist, budget: u32) -> Result<Option<u32>, Stor
     settle_with(alloc, net, &blocks, &cut, budget)
 }
 
-/// The same, where too few nodes are no answer.
+/// The same, and no number where the nodes were too few.
 fn settle_within(alloc: Global, net: &Netlist, budget: u32) -> Result<Option<u32>, AllocError>
     requires some { 0 < length net.now.gates }
     requires budget { budget ≤ MAX_NODES }

@@ -1,6 +1,3 @@
-use Rattle.std.proofs.Common.{◌≡◌, ◌∙◌, ap, sym, subst, List, ℕ}
-use Rattle.std.proofs.lemmas.List.{get_or_default}
-use Rattle.netlist.specs.Netlists.{gate_at}
 use Rattle.isolation.proofs.BuildingLemmas.{not_there, read_all}
 use Rattle.isolation.proofs.excerpt.copy_gates.Goals as goal
 

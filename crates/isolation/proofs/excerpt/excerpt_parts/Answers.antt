@@ -1,4 +1,4 @@
-use Rattle.std.proofs.Common.{◌≡◌, ◌∙◌, ap, subst, length, map}
+use Rattle.std.proofs.Common.{◌∙◌, ap, subst, length, map}
 use Rattle.std.specs.Prelude.{IfSome}
 use Rattle.isolation.specs.Building.{AreCopies, name_at}
 use Rattle.isolation.specs.Excerpts.{origins}

@@ -1,4 +1,4 @@
-use Rattle.std.proofs.Common.{◌≡◌, ◌+◌, ◌≤◌, ◌<◌, length, map, arith, sym, subst, true≢false}
+use Rattle.std.proofs.Common.{map, arith, sym, subst, true≢false}
 use Rattle.std.proofs.lemmas.List.{length-append, length-map}
 use Rattle.netlist.specs.Netlists.{gate_sig}
 use Rattle.isolation.specs.Excerpts.{origins}

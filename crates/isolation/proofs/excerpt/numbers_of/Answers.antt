@@ -1,4 +1,4 @@
-use Rattle.std.proofs.Common.{◌≡◌, sym, subst, arith, take, true≢false}
+use Rattle.std.proofs.Common.{sym, subst, arith, take}
 use Rattle.isolation.specs.Excerpts.{origins}
 use Rattle.isolation.specs.Building.{AreNumbersOf}
 use Rattle.isolation.proofs.BuildingLemmas.{numbers_none, numbers_more, numbers_all, not_there}

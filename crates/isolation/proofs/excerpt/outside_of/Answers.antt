@@ -1,4 +1,4 @@
-use Rattle.std.proofs.Common.{◌≡◌, ◌∙◌, ◌+◌, ap, sym, subst, List, ℕ, refl, arith, length}
+use Rattle.std.proofs.Common.{◌∙◌, ap, arith}
 use Rattle.netlist.specs.declared.parts.Gate.{Gate}
 use Rattle.loops.specs.Blocks.{block_at}
 use Rattle.isolation.proofs.BuildingLemmas.{wires_at, wires_all, pin_at}

@@ -1,4 +1,4 @@
-use Rattle.std.proofs.Common.{◌+◌, length, sym, arith, true≢false}
+use Rattle.std.proofs.Common.{◌+◌, arith, true≢false}
 use Rattle.bdd_store.specs.Growth.{GrowsWithin, NoOtherCause}
 use Rattle.bdd_store.proofs.GrowthLemmas.{within_then, within_one, within_more, within_refused, within_answered}
 use Rattle.fixpoint.specs.Sweeping.{rails_at, unknown}

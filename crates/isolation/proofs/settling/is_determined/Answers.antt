@@ -1,4 +1,4 @@
-use Rattle.std.proofs.Common.{◌≡◌, ◌∙◌, List, length, map, sym, subst, arith}
+use Rattle.std.proofs.Common.{◌∙◌, List, length, map, sym, subst, arith}
 use Rattle.std.specs.List.{All}
 use Rattle.std.proofs.lemmas.List.{length-map}
 use Rattle.bdd_store.specs.Growth.{GrowsWithin, NoOtherCause}

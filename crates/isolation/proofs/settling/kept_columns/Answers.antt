@@ -1,4 +1,4 @@
-use Rattle.std.proofs.Common.{◌+◌, ◌*◌, ◌≤◌, ℕ, length, ap, arith}
+use Rattle.std.proofs.Common.{◌+◌, ◌≤◌, length, ap, arith}
 use Rattle.bdd_store.specs.Growth.{AddsWithin, NoOtherCause}
 use Rattle.bdd_store.proofs.GrowthLemmas.{within_each, adds_refused, adds_swept}
 use Rattle.fixpoint.proofs.KeptLemmas.{adds_lacking, adds_nothing}

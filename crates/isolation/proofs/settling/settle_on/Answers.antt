@@ -1,4 +1,4 @@
-use Rattle.std.proofs.Common.{◌≡◌, ◌∙◌, ◌+◌, ◌*◌, ℕ, length, sym, subst, arith}
+use Rattle.std.proofs.Common.{◌∙◌, ◌+◌, ◌*◌, ℕ, length, sym, subst, arith}
 use Rattle.bdd_store.specs.Growth.{AddsWithin}
 use Rattle.bdd_store.proofs.GrowthLemmas.{adds_then, adds_moved, adds_more, adds_caused, adds_refused}
 use Rattle.dual_rail.specs.WorkingLists.{IsWide}

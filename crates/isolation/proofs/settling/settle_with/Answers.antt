@@ -1,9 +1,4 @@
-use Rattle.std.proofs.Common.{◌≡◌, ◌∙◌, ◌+◌, ◌*◌, ◌<◌, inl, inr, ℕ, ap, length, sym, subst, arith}
-use Rattle.bdd_store.specs.Arena.{Arena}
-use Rattle.dual_rail.specs.WorkingLists.{IsWide}
-use Rattle.loops.specs.Sweeps.{first_gate}
-use Rattle.fixpoint.specs.Working.{HasLargeCover}
-use Rattle.isolation.specs.Unsettled.{IsLaid}
+use Rattle.std.proofs.Common.{◌+◌, arith}
 use Rattle.isolation.proofs.WidthLemmas.{full-below}
 use Rattle.isolation.proofs.settling.settle_with.Goals as goal
 

@@ -1,4 +1,4 @@
-use Rattle.std.proofs.Common.{◌≡◌, ◌∙◌, ◌+◌, ◌*◌, ℕ, List, length, map, sym, subst, arith}
+use Rattle.std.proofs.Common.{ℕ, List, map, sym, subst, arith}
 use Rattle.std.specs.List.{All}
 use Rattle.bdd_store.specs.Growth.{GrowsWithin, NoOtherCause}
 use Rattle.bdd_store.specs.Soundness.{IsLawful}
