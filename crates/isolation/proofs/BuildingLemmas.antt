@@ -1,19 +1,27 @@
 -- A small netlist while it is made.
-use Rattle.std.proofs.Common.{◌≡◌, inl, inr, ◌⊎◌, ℕ, ◌+◌, ◌-◌, ◌<◌, ◌≤◌, Bool, true, false, List, [], ◌∷◌, ◌++◌, length, map, get_or, if◌then◌else◌, eqb, Option, Some, None, Result, Ok, Err, IfOk, refl, sym, ap, ◌∙◌, subst, arith, Contains}
-use Rattle.std.proofs.lemmas.Bool.{cases_lt, eqb-true}
-use Rattle.std.proofs.lemmas.List.{get_or-map, get_or_default, get_or_append_left, get_or-append_right, get_or_push, length_push, length-map}
-use Rattle.std.specs.List.{position}
+use Rattle.std.proofs.Common.{◌≡◌, inl, inr, ℕ, ◌+◌, ◌-◌, ◌<◌, ◌≤◌, Bool, true, false, List, [], ◌∷◌, ◌++◌, length, map, take, get_or, if◌then◌else◌, eqb, Option, Some, None, Result, Ok, Err, IfOk, IsSome, refl, sym, ap, ap₂, ◌∙◌, subst, arith, Contains, true≢false, zero, suc}
+use Rattle.std.proofs.lemmas.Bool.{cases_lt, eqb-true, eq-eqb}
+use Rattle.std.proofs.lemmas.List.{get_or-map, get_or_default, get_or_append_left, get_or-append_right, get_or_push, length_push, length-map, length-append, map-append, take_more, take_all}
+use Rattle.std.proofs.lemmas.List.Elements.{Contains-append_left, Contains-push, Contains-push_cases, All-push}
+use Rattle.std.specs.List.{All, list_any, position}
 use Rattle.std.specs.Prelude.{IfSome}
+use Rattle.std.specs.Ordering.{nat_cmp}
+use Rattle.std.specs.List.Sorted.{IsBinarySearchResult}
+use Rattle.std.proofs.lemmas.List.Sorted.{searched}
 use Rattle.std.proofs.lemmas.List.Quantifiers.{position-Some}
+use Rattle.std.proofs.lemmas.Map.Views.{Contains-from_any}
 use Rattle.cyc_base.specs.declared.sig.Sig.{Sig}
+use Rattle.netlist.specs.declared.parts.Gate.{Gate}
 use Rattle.netlist.specs.declared.parts.Parts.{Parts}
 use Rattle.netlist.specs.Netlists.{IsNetlist, count, signal, no_gate, gate_at, gate_sig}
+use Rattle.netlist.proofs.Decisions.{none_found}
 use Rattle.loops.specs.declared.structure.Blocks.{Blocks}
 use Rattle.loops.specs.Blocks.{AreBlocksOf, block_at, home_of}
+use Rattle.loops.specs.Placing.{Rise}
 use Rattle.loops.specs.Sweeps.{first_gate}
-use Rattle.loops.proofs.Told.{gate_home}
-use Rattle.isolation.specs.Excerpts.{origins, origin, gate_in, IsExcerpt}
-use Rattle.isolation.specs.Building.{IsOutside, AreOutside, IsPlaceOf, IsLoopNetlist}
+use Rattle.loops.proofs.Told.{gate_home, home_gate}
+use Rattle.isolation.specs.Excerpts.{origins, origin, gate_in, IsRead, AreOnce, IsExcerpt}
+use Rattle.isolation.specs.Building.{IsOutside, AreOutside, AreWires, IsAmong, AddWires, AreClosed, AreWiresOf, AreNumbersOf, IsCopyOf, IsPlaceOf, IsLoopNetlist}
 
 -- a gate of a block, by its signal
 pub inside_block : (net : Parts) (blocks : Blocks) → AreBlocksOf net blocks → (place : ℕ) (s : Sig) → place < length blocks.list → Contains (map (gate_sig net) (block_at blocks place).gates) s →
@@ -27,6 +35,20 @@ inside_block net blocks are place s inside c =
     let n = ap (λ (r : Sig). r.0) is in
     let h = gate_home net blocks are place (get_or gates c.0 0) inside (c.0, low, get_or_default gates c.0 (get_or gates c.0 0) 0 low) in
     (omega (arith, n), ap (home_of blocks) (let m : s.0 - first_gate net ≡ get_or gates c.0 0 = omega (arith, n) in m) ∙ h.1)
+
+-- and back
+pub block_inside : (net : Parts) (blocks : Blocks) → AreBlocksOf net blocks → (place : ℕ) (s : Sig) → s.0 < count net → first_gate net ≤ s.0 → home_of blocks (s.0 - first_gate net) ≡ place →
+    Contains (map (gate_sig net) (block_at blocks place).gates) s
+block_inside net blocks are place s within above home =
+    let c : Contains (block_at blocks place).gates (s.0 - first_gate net) = subst (λ (p : ℕ). Contains (block_at blocks p).gates (s.0 - first_gate net)) home (home_gate net blocks are (s.0 - first_gate net) (omega (arith, within, above))) in
+    let l = c.1 in
+    let len = length-map (block_at blocks place).gates (gate_sig net) in (
+      c.0,
+      omega (arith, l, len),
+      get_or-map (gate_sig net) (block_at blocks place).gates c.0 (s.0 - first_gate net) s c.1
+          ∙ ap (gate_sig net) c.2
+          ∙ ap signal (let m : first_gate net + (s.0 - first_gate net) ≡ s.0 = omega (arith, above) in m),
+    )
 
 -- one more wire outside
 pub outside_more : (net : Parts) (gates : List ℕ) (outside : List Sig) (s : Sig) → AreOutside net gates outside → IsOutside net gates s → AreOutside net gates (outside ++ s ∷ [])
@@ -63,34 +85,142 @@ origin_gate net outside gates place number s less above is at =
     ∙ ap signal (let m : first_gate net + get_or gates place 0 ≡ s.0 = omega (arith, is, above) in m)
 
 -- the netlist of a loop
-loop_is : (net : Parts) (gates : List ℕ) (outside : List Sig) (small : Parts) → AreOutside net gates outside → IsExcerpt net outside gates small → IsLoopNetlist net gates small
-loop_is net gates outside small are is = record { outside = outside; is = is; read = λ s c. (are s c).read }
+loop_is : (net : Parts) (gates : List ℕ) (outside : List Sig) (small : Parts) → AreWires net gates outside → IsExcerpt net outside gates small → IsLoopNetlist net gates small
+loop_is net gates outside small wires is = record { outside = outside; is = is; read = λ s c. (wires.are s c).read; once = wires.once }
 
-pub loop_found : {E : Type 0} (net : Parts) (gates : List ℕ) (outside : List Sig) (made : Result (Option Parts) E) → AreOutside net gates outside → IfOk made (λ found. IfSome found (IsExcerpt net outside gates)) →
+pub loop_found : {E : Type 0} (net : Parts) (gates : List ℕ) (outside : List Sig) (made : Result (Option Parts) E) → AreWires net gates outside → IfOk made (λ found. IfSome found (IsExcerpt net outside gates)) →
     IfOk made (λ found. IfSome found (IsLoopNetlist net gates))
-loop_found net gates outside (Ok (Some small)) are is = loop_is net gates outside small are is
-loop_found net gates outside (Ok None) are is = tt
-loop_found net gates outside (Err fault) are is = tt
+loop_found net gates outside (Ok (Some small)) wires is = loop_is net gates outside small wires is
+loop_found net gates outside (Ok None) wires is = tt
+loop_found net gates outside (Err fault) wires is = tt
 
--- a member of an equal list
-member_same : {A : Type 0} (xs ys : List A) (i : ℕ) (d : A) → xs ≡ ys → i < length xs → Contains ys (get_or xs i d)
-member_same xs ys i d same l = subst (λ zs. Contains zs (get_or xs i d)) same (i, l, get_or_default xs i (get_or xs i d) d l)
+-- ---- the wires outside, pin by pin and gate by gate
 
--- a pin that is no gate of these is a wire outside
-pub pin_outside : (net : Parts) (gates : List ℕ) (gate : ℕ) → Contains gates gate → (pins : List Sig) → pins ≡ (gate_at net gate).pins → (i : ℕ) (d : Sig) → i < length pins → (¬ Contains (map (gate_sig net) gates) (get_or pins i d)) → IsOutside net gates (get_or pins i d)
-pin_outside net gates gate has pins same i d less apart = record {
-  apart = apart;
-  read = record {
-    place = has.0;
-    within = has.1;
-    pin = subst (λ (n : ℕ). Contains (gate_at net n).pins (get_or pins i d)) (sym (get_or_default gates has.0 0 gate has.1 ∙ has.2)) (member_same pins (gate_at net gate).pins i d same less);
-  };
+-- one more wire, that isn't there
+once_push : (xs : List Sig) (s : Sig) → AreOnce xs → (¬ Contains xs s) → AreOnce (xs ++ s ∷ [])
+once_push xs s once new i j less within same =
+    let len = length_push xs s in
+    let low : i < length xs = omega (arith, less, within, len) in
+    let first = get_or_append_left xs (s ∷ []) (signal 0) i low in
+    elim (cases_lt j (length xs)) [
+      | inl inside ↦ once i j less inside (sym first ∙ same ∙ get_or_append_left xs (s ∷ []) (signal 0) j inside)
+      | inr last ↦ new (i, low, get_or_default xs i s (signal 0) low ∙ sym first ∙ same ∙ get_or_push xs s (signal 0) j (omega (arith, within, len, last)))
+    ]
+
+none_like : (xs : List Sig) (s : Sig) → list_any (λ (x : Sig). eqb s.0 x.0) xs ≡ false → ¬ Contains xs s
+none_like [] s none c = let l = c.1 in absurd (omega (arith, l))
+none_like (x ∷ xs) s none c = by (eqb s.0 x.0) refl none (none_like xs s) c.0 c.1 c.2
+  where
+    by : (b : Bool) → eqb s.0 x.0 ≡ b → list_any (λ (y : Sig). eqb s.0 y.0) (x ∷ xs) ≡ false → (list_any (λ (y : Sig). eqb s.0 y.0) xs ≡ false → ¬ Contains xs s) → (k : ℕ) → k < length (x ∷ xs) → get_or (x ∷ xs) k s ≡ s → ⊥
+    by true is differ rest k l e = true≢false (rw is at differ)
+    by false is differ rest zero l e = true≢false (sym (eq-eqb s.0 x.0 (sym (ap (λ (r : Sig). r.0) e))) ∙ is)
+    by false is differ rest (suc k) l e = rest (rw is at differ) (k, omega (arith, l), e)
+
+wires_more : (net : Parts) (gates : List ℕ) (old new : List Sig) (s : Sig) (b : Bool) → b ≡ list_any (λ (x : Sig). eqb s.0 x.0) old → new ≡ (if b then old else old ++ s ∷ []) → AreWires net gates old → IsOutside net gates s → AreWires net gates new
+wires_more net gates old new s true any is wires one = subst (AreWires net gates) (sym is) wires
+wires_more net gates old new s false any is wires one = subst (AreWires net gates) (sym is) (record { are = outside_more net gates old s wires.are one; once = once_push old s wires.once (none_like old s (sym any)) })
+
+keeps_more : (old new : List Sig) (s : Sig) (b : Bool) → new ≡ (if b then old else old ++ s ∷ []) → (t : Sig) → Contains old t → Contains new t
+keeps_more old new s true is t c = subst (λ xs. Contains xs t) (sym is) c
+keeps_more old new s false is t c = subst (λ xs. Contains xs t) (sym is) (Contains-append_left old (s ∷ []) t c)
+
+there_now : (old new : List Sig) (s : Sig) (b : Bool) → b ≡ list_any (λ (x : Sig). eqb s.0 x.0) old → new ≡ (if b then old else old ++ s ∷ []) → Contains new s
+there_now old new s true any is =
+    subst (λ xs. Contains xs s) (sym is) (Contains-from_any {eq = λ (x y : Sig). eqb x.0 y.0} (λ x y e. ap signal (eqb-true x.0 y.0 e)) s old (sym any))
+there_now old new s false any is = subst (λ xs. Contains xs s) (sym is) (Contains-push old s)
+
+among_more : (net : Parts) (gates : List ℕ) (old new : List Sig) → ((t : Sig) → Contains old t → Contains new t) → (s : Sig) → IsAmong net gates old s → IsAmong net gates new s
+among_more net gates old new keeps s (inl c) = inl (keeps s c)
+among_more net gates old new keeps s (inr g) = inr g
+
+-- none yet
+pub adds_none : (net : Parts) (gates : List ℕ) (pins old : List Sig) → AreWires net gates old → AddWires net gates (take 0 pins) old old
+adds_none net gates pins old wires = record { wires = wires; keeps = λ s c. c; adds = λ s c. (let l = c.1 in absurd (omega (arith, l))) }
+
+-- the next pin's wire is among them
+adds_next : (net : Parts) (gates : List ℕ) (pins start old new : List Sig) (i : ℕ) (d : Sig) → i < length pins → AddWires net gates (take i pins) start old → AreWires net gates new → ((t : Sig) → Contains old t → Contains new t) → IsAmong net gates new (get_or pins i d) →
+    AddWires net gates (take (i + 1) pins) start new
+adds_next net gates pins start old new i d less before wires keeps here = record {
+  wires = wires;
+  keeps = λ t c. keeps t (before.keeps t c);
+  adds = λ t c.
+      elim (Contains-push_cases (take i pins) (get_or pins i d) t (subst (λ xs. Contains xs t) (take_more pins i d less) c)) [
+        | inl early ↦ among_more net gates old new keeps t (before.adds t early)
+        | inr same ↦ subst (IsAmong net gates new) same here
+      ];
 }
 
--- a wire that is added where it isn't there
-pub outside_insert : (net : Parts) (gates : List ℕ) (old new : List Sig) (s : Sig) (b : Bool) → new ≡ (if b then old else old ++ s ∷ []) → AreOutside net gates old → IsOutside net gates s → AreOutside net gates new
-outside_insert net gates old new s true is are one = subst (AreOutside net gates) (sym is) are
-outside_insert net gates old new s false is are one = subst (AreOutside net gates) (sym is) (outside_more net gates old s are one)
+-- a wire outside is added
+pub adds_outside : (net : Parts) (gates : List ℕ) (pins start old new : List Sig) (i : ℕ) (d : Sig) → i < length pins → AddWires net gates (take i pins) start old →
+    new ≡ (if list_any (λ (x : Sig). eqb (get_or pins i d).0 x.0) old then old else old ++ get_or pins i d ∷ []) → IsOutside net gates (get_or pins i d) → AddWires net gates (take (i + 1) pins) start new
+adds_outside net gates pins start old new i d less before is one =
+    let b : Bool = list_any (λ (x : Sig). eqb (get_or pins i d).0 x.0) old in
+    adds_next net gates pins start old new i d less before (wires_more net gates old new (get_or pins i d) b refl is before.wires one) (keeps_more old new (get_or pins i d) b is) (inl (there_now old new (get_or pins i d) b refl is))
+
+-- a gate is there
+pub adds_gate : (net : Parts) (gates : List ℕ) (pins start old new : List Sig) (i : ℕ) (d : Sig) → i < length pins → AddWires net gates (take i pins) start old → new ≡ old →
+    Contains (map (gate_sig net) gates) (get_or pins i d) → AddWires net gates (take (i + 1) pins) start new
+adds_gate net gates pins start old new i d less before is inside =
+    subst (AddWires net gates (take (i + 1) pins) start) (sym is) (adds_next net gates pins start old old i d less before before.wires (λ t c. c) (inr inside))
+
+pub adds_all : (net : Parts) (gates : List ℕ) (pins start new : List Sig) (i : ℕ) → length pins ≤ i → AddWires net gates (take i pins) start new → AddWires net gates pins start new
+adds_all net gates pins start new i all = subst (λ xs. AddWires net gates xs start new) (take_all i pins all)
+
+pub wires_none : (net : Parts) (gates : List ℕ) (outside : List Sig) → outside ≡ [] → AreWiresOf net gates 0 outside
+wires_none net gates outside none = record {
+  wires = record {
+    are = λ s c. (let l = c.1 in let e = ap length none in absurd (omega (arith, l, e)));
+    once = λ i j less within. (let e = ap length none in absurd (omega (arith, within, e)));
+  };
+  all = λ i less. absurd (omega (arith, less));
+}
+
+pub wires_next : (net : Parts) (gates : List ℕ) (k : ℕ) (pins old new : List Sig) → (gate_at net (gate_in gates k)).pins ≡ pins → AreWiresOf net gates k old → AddWires net gates pins old new → AreWiresOf net gates (k + 1) new
+wires_next net gates k pins old new are before adds = record {
+  wires = adds.wires;
+  all = λ i less s c.
+      elim (cases_lt i k) [
+        | inl early ↦ among_more net gates old new adds.keeps s (before.all i early s c)
+        | inr late ↦
+            let same : i ≡ k = omega (arith, less, late) in
+            adds.adds s (subst (λ xs. Contains xs s) (ap (λ (n : ℕ). (gate_at net (gate_in gates n)).pins) same ∙ are) c)
+      ];
+}
+
+-- a pin of a gate of these
+pub pin_read : (net : Parts) (gates : List ℕ) (k : ℕ) (pins : List Sig) → k < length gates → (gate_at net (gate_in gates k)).pins ≡ pins → All (IsRead net gates) pins
+pin_read net gates k pins less are i d within = record {
+  place = k;
+  within = less;
+  pin = subst (λ xs. Contains xs (get_or pins i d)) (sym are) (i, within, get_or_default pins i (get_or pins i d) d within);
+}
+
+-- the same, where the block's gates are gone through
+pub wires_at : (net : Parts) (block gates : List ℕ) (k d : ℕ) (pins old new : List Sig) → gates ≡ block → k < length gates → pins ≡ (gate_at net (get_or gates k d)).pins → AreWiresOf net block k old → AddWires net block pins old new → AreWiresOf net block (k + 1) new
+wires_at net block gates k d pins old new same less are before adds =
+    wires_next net block k pins old new
+    (ap (λ (n : ℕ). (gate_at net n).pins) (ap (λ (gs : List ℕ). get_or gs k 0) (sym same) ∙ get_or_default gates k 0 d less) ∙ sym are) before adds
+
+pub pin_at : (net : Parts) (block gates : List ℕ) (k d : ℕ) (pins : List Sig) → gates ≡ block → k < length gates → pins ≡ (gate_at net (get_or gates k d)).pins → All (IsRead net block) pins
+pin_at net block gates k d pins same less are =
+    pin_read net block k pins (let e = ap length same in omega (arith, e, less))
+    (ap (λ (n : ℕ). (gate_at net n).pins) (ap (λ (gs : List ℕ). get_or gs k 0) (sym same) ∙ get_or_default gates k 0 d less) ∙ sym are)
+
+pub wires_all : (net : Parts) (block gates : List ℕ) (k : ℕ) (outside : List Sig) → gates ≡ block → length gates ≤ k → AreWiresOf net block k outside → AreWiresOf net block (length block) outside
+wires_all net block gates k outside same all is = record { wires = is.wires; all = λ i less. is.all i (let e = ap length same in omega (arith, e, less, all)) }
+
+-- all that a gate of closed ones reads
+pub read_all : (net : Parts) (gates : List ℕ) (outside : List Sig) (k d : ℕ) → k < length gates → AreClosed net gates outside → All (IsAmong net gates outside) (gate_at net (get_or gates k d)).pins
+read_all net gates outside k d less closed =
+    subst (λ (n : ℕ). All (IsAmong net gates outside) (gate_at net n).pins) (get_or_default gates k 0 d less)
+    (λ j f inside. closed.read k less (get_or (gate_at net (gate_in gates k)).pins j f) (j, inside, get_or_default (gate_at net (gate_in gates k)).pins j (get_or (gate_at net (gate_in gates k)).pins j f) f inside))
+
+-- an option that is both some and none
+pub not_there : {X : Type 0} {o : Option X} → ((x : X) → o ≡ Some x → ⊥) → IsSome o → ⊥
+not_there {o = None} none some = true≢false (sym some)
+not_there {o = Some x} none some = none x refl
+
+-- ---- places and numbers
 
 -- what a search for a signal finds
 pub found_place : (xs : List Sig) (s : Sig) (o : Option ℕ) → o ≡ position (λ x. eqb s.0 x.0) xs → IfSome o (IsPlaceOf xs s)
@@ -99,10 +229,81 @@ found_place xs s (Some k) is =
     let p = position-Some (λ (x : Sig). eqb s.0 x.0) xs k s (sym is) in
     record { within = p.0; is = sym (ap (λ (n : ℕ). let r : Sig = record { 0 = n } in r) (eqb-true s.0 (get_or xs k s).0 p.1)) }
 
--- a signal by its place
-pub origin_is : (net : Parts) (outside : List Sig) (gates : List ℕ) (s : Sig) (number : ℕ) → IsPlaceOf outside s number ⊎ ((first_gate net ≤ s.0) × (place : ℕ) × IsPlaceOf gates (s.0 - first_gate net) place × (number ≡ place + length outside)) →
-    origin (origins net outside gates) (signal number) ≡ s
-origin_is net outside gates s number (inl p) = origin_outside net outside gates number s p.within p.is
-origin_is net outside gates s number (inr q) =
-    let e = q.3 in
-    origin_gate net outside gates q.1 number s q.2.within q.0 (get_or_default gates q.1 0 (s.0 - first_gate net) q.2.within ∙ q.2.is) (omega (arith, e))
+pub found_some : (xs : List Sig) (s : Sig) (o : Option ℕ) → o ≡ position (λ x. eqb s.0 x.0) xs → Contains xs s → IsSome o
+found_some xs s None is c =
+    let differ = none_found (λ (x : Sig). eqb s.0 x.0) xs (sym is) c.0 s c.1 in
+    absurd (true≢false (sym (eq-eqb s.0 (get_or xs c.0 s).0 (sym (ap (λ (r : Sig). r.0) c.2))) ∙ differ))
+found_some xs s (Some k) is c = refl
+
+-- a signal by its place: a wire outside, or a gate
+pub place_outside : (net : Parts) (outside : List Sig) (gates : List ℕ) (s : Sig) (place : ℕ) → IsPlaceOf outside s place → IsPlaceOf (origins net outside gates) s place
+place_outside net outside gates s place p =
+    let l = p.within in
+    let len = length-append outside (map (gate_sig net) gates) in
+    record { within = omega (arith, l, len); is = get_or_append_left outside (map (gate_sig net) gates) s place p.within ∙ p.is }
+
+pub place_gate : (net : Parts) (outside : List Sig) (gates : List ℕ) (s : Sig) (first place number : ℕ) → first ≡ first_gate net → first ≤ s.0 → IsPlaceOf gates (s.0 - first) place → number ≡ place + length outside → IsPlaceOf (origins net outside gates) s number
+place_gate net outside gates s first place number is above p at =
+    let l = p.within in
+    let len = length-append outside (map (gate_sig net) gates) in
+    let len2 = length-map gates (gate_sig net) in
+    let inside : number < length (origins net outside gates) = omega (arith, l, len, len2, at) in
+    record {
+      within = inside;
+      is = get_or_default (origins net outside gates) number s (signal 0) inside
+          ∙ origin_gate net outside gates place number s p.within (omega (arith, is, above)) (get_or_default gates place 0 (s.0 - first) p.within ∙ p.is ∙ ap (λ (n : ℕ). s.0 - n) is) (omega (arith, at));
+    }
+
+pub origin_place : (net : Parts) (outside : List Sig) (gates : List ℕ) (s : Sig) (number : ℕ) → IsPlaceOf (origins net outside gates) s number → origin (origins net outside gates) (signal number) ≡ s
+origin_place net outside gates s number p = get_or_default (origins net outside gates) number (signal 0) s p.within ∙ p.is
+
+-- a gate is where its signal is
+pub gate_there : (net : Parts) (gates : List ℕ) (s : Sig) (first : ℕ) → first ≡ first_gate net → Contains (map (gate_sig net) gates) s → (first ≤ s.0) × Contains gates (s.0 - first)
+gate_there net gates s first is c =
+    let l = c.1 in
+    let len = length-map gates (gate_sig net) in
+    let low : c.0 < length gates = omega (arith, l, len) in
+    let at : gate_sig net (get_or gates c.0 0) ≡ s = sym (get_or-map (gate_sig net) gates c.0 0 s low) ∙ c.2 in
+    let n = ap (λ (r : Sig). r.0) at in (
+      omega (arith, n, is),
+      (c.0, low, get_or_default gates c.0 (s.0 - first) 0 low ∙ omega (arith, n, is)),
+    )
+
+-- the numbers of more pins
+pub numbers_none : (net : Parts) (outside : List Sig) (gates : List ℕ) (pins : List Sig) → AreNumbersOf (origins net outside gates) (take 0 pins) []
+numbers_none net outside gates pins = record { are = refl; within = λ k d l. absurd (omega (arith, l)) }
+
+pub numbers_more : (signals pins numbers new : List Sig) (i : ℕ) (d n : Sig) → i < length pins → new ≡ numbers ++ n ∷ [] → AreNumbersOf signals (take i pins) numbers → IsPlaceOf signals (get_or pins i d) n.0 → AreNumbersOf signals (take (i + 1) pins) new
+numbers_more signals pins numbers new i d n less is before place = subst (AreNumbersOf signals (take (i + 1) pins)) (sym is) (record {
+  are = map-append (origin signals) numbers (n ∷ [])
+      ∙ ap₂ (λ xs x. xs ++ x ∷ []) before.are (get_or_default signals n.0 (signal 0) (get_or pins i d) place.within ∙ place.is)
+      ∙ sym (take_more pins i d less);
+  within = All-push (λ (t : Sig). t.0 < length signals) numbers n before.within place.within;
+})
+
+pub numbers_all : (signals pins numbers : List Sig) (i : ℕ) → length pins ≤ i → AreNumbersOf signals (take i pins) numbers → AreNumbersOf signals pins numbers
+numbers_all signals pins numbers i all = subst (λ xs. AreNumbersOf signals xs numbers) (take_all i pins all)
+
+-- a gate's copy
+pub copy_is : (signals : List Sig) (gate made : Gate) (pins numbers : List Sig) → made.name ≡ gate.name → made.cover ≡ gate.cover → made.pins ≡ numbers → pins ≡ gate.pins → AreNumbersOf signals pins numbers → IsCopyOf signals gate made
+copy_is signals gate made pins numbers name cover made_pins are is = record {
+  name = name;
+  cover = cover;
+  pins = subst (AreNumbersOf signals gate.pins) (sym made_pins) (subst (λ xs. AreNumbersOf signals xs numbers) are is);
+}
+
+-- a search in gates that rise finds what is there
+pub search_none : (gates : List ℕ) (gate i : ℕ) → IsBinarySearchResult (λ y. nat_cmp y gate) gates (Err i) → Rise gates → Contains gates gate → ⊥
+search_none gates gate i found rise c =
+    let s = searched gates gate (Err i) found sorted in
+    let at : get_or gates c.0 0 ≡ gate = get_or_default gates c.0 0 gate c.1 ∙ c.2 in
+    elim (cases_lt c.0 i) [
+      | inl low ↦ (let b = s.1 c.0 low in omega (arith, b, at))
+      | inr high ↦ (let b = s.2 c.0 high c.1 in omega (arith, b, at))
+    ]
+  where
+    sorted : (i j : ℕ) → i ≤ j → j < length gates → get_or gates i 0 ≤ get_or gates j 0
+    sorted i j le less = elim (cases_lt i j) [
+      | inl low ↦ (let r = rise i j low less in omega (arith, r))
+      | inr high ↦ (let same : i ≡ j = omega (arith, le, high) in let e = ap (λ (n : ℕ). get_or gates n 0) same in omega (arith, e))
+    ]

@@ -24,7 +24,7 @@ use Rattle.isolation.specs.Laws.{column_signals, ExcerptsKeep, ColumnsGiveVector
 use Rattle.isolation.proofs.KeptLemmas.{fix-kept}
 use Rattle.isolation.proofs.LoopLemmas.{loop-same, cut-same, sweeps-same, fixed-up, fixed-down}
 use Rattle.isolation.specs.Building.{IsPlaceOf}
-use Rattle.isolation.proofs.BuildingLemmas.{origin_is}
+use Rattle.isolation.proofs.BuildingLemmas.{origin_place, place_outside, place_gate}
 use Rattle.isolation.proofs.SettledLemmas.{unsettled_loops_decide}
 use Rattle.isolation.proofs.UpstreamLemmas.{upstream-trans}
 
@@ -231,7 +231,7 @@ number-column net gates s first is less =
     let n = length-range_with_len 0 (first_gate net) in
     record {
       within = omega (arith, low);
-      is = origin_is net (column_signals net) gates s s.0 (inl (record { within = omega (arith, low, l, n); is = column-place net s low }));
+      is = origin_place net (column_signals net) gates s s.0 (place_outside net (column_signals net) gates s s.0 (record { within = omega (arith, low, l, n); is = column-place net s low }));
     }
 
 pub number-gate : (net : Parts) (gates : List ℕ) (s : Sig) (first place number : ℕ) → first ≡ first_gate net → first ≤ s.0 → IsPlaceOf gates (s.0 - first) place → number ≡ first + place → IsNumberIn net gates s number
@@ -241,5 +241,5 @@ number-gate net gates s first place number is high at sum =
     let w = at.within in
     record {
       within = omega (arith, sum, is, w);
-      is = origin_is net (column_signals net) gates s number (inr (omega (arith, is, high), place, subst (λ (m : ℕ). IsPlaceOf gates (s.0 - m) place) is at, omega (arith, sum, is, l, n)));
+      is = origin_place net (column_signals net) gates s number (place_gate net (column_signals net) gates s first place number is high at (omega (arith, sum, is, l, n)));
     }

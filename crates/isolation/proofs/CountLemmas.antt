@@ -1,8 +1,7 @@
 -- How many sweeps a loop needs that is settled by itself.
-use Rattle.std.proofs.Common.{◌≡◌, ◌≢◌, inl, inr, ◌⊎◌, ℕ, zero, suc, ◌<◌, ◌≤◌, Bool, true, false, List, [], ◌∷◌, length, replicate, get_or, sym, ap, ◌∙◌, subst, arith, Contains}
-use Rattle.std.proofs.lemmas.Bool.{cases_lt, cases_Bool}
+use Rattle.std.proofs.Common.{◌≡◌, ◌≢◌, inl, inr, ℕ, zero, suc, ◌<◌, ◌≤◌, Bool, true, List, length, replicate, get_or, sym, ap, ◌∙◌, subst, arith, Contains}
+use Rattle.std.proofs.lemmas.Bool.{cases_lt}
 use Rattle.std.proofs.lemmas.List.{get_or-map, get_or_default, get_or_append_left, get_or-replicate, length-map}
-use Rattle.std.specs.List.{AllByRecursion}
 use Rattle.cyc_base.specs.declared.sig.Sig.{Sig}
 use Rattle.cyc_base.specs.declared.trit.Trit.{Trit}
 use Rattle.cyc_base.specs.declared.trit.Trit.TheVariants.{X}
@@ -15,9 +14,8 @@ use Rattle.loops.specs.Blocks.{AreBlocksOf, block_at, home_of}
 use Rattle.loops.specs.Cuts.{Loops, AreLoopsOf}
 use Rattle.loops.specs.Found.{loops_of}
 use Rattle.loops.specs.Sweeps.{first_gate, gate_of, CutsAreFixed}
-use Rattle.loops.specs.Walks.{AnyGate, Leads, SameLoop}
 use Rattle.loops.proofs.Existence.{loops_exist}
-use Rattle.loops.proofs.LoopCuts.{HasCut, has-cut}
+use Rattle.loops.proofs.LoopCuts.{has-cut}
 use Rattle.loops.proofs.OrderLemmas.{block_rises, block_within}
 use Rattle.loops.proofs.Reading.{wire_of_gate}
 use Rattle.loops.proofs.Sweeps.{cut_values_agree, same_within}

@@ -1,5 +1,5 @@
 -- What the solution of a small netlist on rails shows.
-use Rattle.std.proofs.Common.{◌≡◌, inl, inr, ℕ, zero, suc, ◌+◌, ◌-◌, ◌<◌, ◌≤◌, Bool, true, false, ◌&&◌, List, [], ◌∷◌, length, map, filter, get_or, Option, Some, None, refl, sym, ap, ap₂, ◌∙◌, subst, arith, true≢false}
+use Rattle.std.proofs.Common.{◌≡◌, inl, inr, ℕ, zero, suc, ◌+◌, ◌-◌, ◌<◌, ◌≤◌, Bool, true, false, ◌&&◌, List, [], ◌∷◌, length, map, filter, get_or, Option, Some, None, Result, Ok, Err, IfOk, refl, sym, ap, ap₂, ◌∙◌, subst, arith, true≢false}
 use Rattle.std.proofs.Math.Path.{fun_ext}
 use Rattle.std.proofs.lemmas.Bool.{cases_Bool, and_parts}
 use Rattle.std.proofs.lemmas.List.{get_or-map, get_or-append_right, length-map, length-append}
@@ -28,12 +28,13 @@ use Rattle.loops.proofs.Told.{blocks_tell_loops, told_parts}
 use Rattle.loops.proofs.Walks.{loops_are_unique}
 use Rattle.fixpoint.specs.declared.solved.Solved.{Solved}
 use Rattle.loops.specs.declared.structure.SweepCounts.{SweepCounts}
-use Rattle.fixpoint.specs.Kept.{rails_under}
+use Rattle.fixpoint.specs.Kept.{rails_under, RootsStay}
+use Rattle.fixpoint.specs.Laws.{SolutionsStay}
 use Rattle.fixpoint.specs.Solved.{Vectors, IsSolution}
 use Rattle.fixpoint.specs.Counts.{CountSweeps, count_at}
 use Rattle.isolation.specs.Settled.{IsDetermined, SettleInSweeps}
 use Rattle.isolation.specs.Building.{IsLoopNetlist}
-use Rattle.isolation.specs.Settling.{AreKnown, IsSettledIn}
+use Rattle.isolation.specs.Settling.{AreKnown, IsSettledIn, IsSolvedNetlist}
 
 -- the loops that blocks and a cut tell are those of the netlist
 pub loops-are : (net : Parts) (blocks : Blocks) (cut : Cut) → AreBlocksOf net blocks → IsCutOf net cut → loops_by blocks cut ≡ loops_of net
@@ -95,6 +96,21 @@ module _ (net : Parts) (blocks : Blocks) (cut : Cut) (are : AreBlocksOf net bloc
             ∙ sym (ap (map (value_in (fix_gates net (bits u)))) (no_cuts n plain (range_with_len 0 (length net.gates))))
       ])
 
+-- a netlist that is solved stays so
+abbrev pub solved-later : {s t : Arena} {blocks : Blocks} {solved : Solved} → SolutionsStay → RootsStay s t → IsSolvedNetlist s blocks solved → IsSolvedNetlist t blocks solved
+solved-later {s} {t} {blocks} {solved} stays roots is = record {
+  net = is.net;
+  cut = is.cut;
+  points = is.points;
+  valid = is.valid;
+  some = is.some;
+  vars = roots.vars ∙ is.vars;
+  blocks_are = is.blocks_are;
+  cut_is = is.cut_is;
+  points_are = is.points_are;
+  solution = stays is.net blocks is.cut s t is.points solved roots is.solution;
+}
+
 -- the loop in the whole netlist
 pub settles-is : (net : Parts) (gates : List ℕ) (small : Parts) (k : ℕ) → IsNetlist small → IsLoopNetlist net gates small → IsSettledIn small k → SettleInSweeps net gates k
 settles-is net gates small k valid is settled = record {
@@ -102,6 +118,8 @@ settles-is net gates small k valid is settled = record {
   sweeps = settled.sweeps;
 }
 
-pub settles-found : (net : Parts) (gates : List ℕ) (small : Parts) (found : Option ℕ) → IsNetlist small → IsLoopNetlist net gates small → IfSome found (IsSettledIn small) → IfSome found (SettleInSweeps net gates)
-settles-found net gates small None valid is settled = tt
-settles-found net gates small (Some k) valid is settled = settles-is net gates small k valid is settled
+-- and what is found of it
+pub settles-found : {E : Type 0} (net : Parts) (gates : List ℕ) (small : Parts) (budget : ℕ) (made : Result (Option ℕ) E) → IsNetlist small → IsLoopNetlist net gates small → IfOk made (λ found. IfSome found (IsSettledIn small)) → IfOk made (λ found. IfSome found (SettleInSweeps net gates))
+settles-found net gates small budget (Ok None) valid is settled = tt
+settles-found net gates small budget (Ok (Some k)) valid is settled = settles-is net gates small k valid is settled
+settles-found net gates small budget (Err fault) valid is settled = tt

@@ -1,5 +1,5 @@
 -- Excerpts: some gates of a netlist taken by themselves, as a small netlist whose inputs are wires outside of them.
-use Rattle.std.specs.Prelude.{◌≡◌, ◌<◌, ℕ, List, ◌++◌, length, map, slice_index_or, Contains}
+use Rattle.std.specs.Prelude.{◌≡◌, ◌≢◌, ◌<◌, ℕ, List, ◌++◌, length, map, slice_index_or, Contains}
 use Rattle.cyc_base.specs.declared.sig.Sig.{Sig}
 use Rattle.cyc_base.specs.declared.trit.Trit.{Trit}
 use Rattle.netlist.specs.declared.parts.Parts.{Parts}
@@ -38,6 +38,10 @@ pub record IsRead (net : Parts) (gates : List ℕ) (s : Sig) : Type 0 where
 
 abbrev pub AreRead : Parts → List ℕ → List Sig → Type 0
 AreRead net gates outside = (s : Sig) → Contains outside s → IsRead net gates s
+
+-- each of these signals stands there once
+abbrev pub AreOnce : List Sig → Type 0
+AreOnce signals = (i j : ℕ) → i < j → j < length signals → slice_index_or signals i (signal 0) ≢ slice_index_or signals j (signal 0)
 
 -- Gates that can be taken by themselves: in flat order, and with each loop that one of them is in.
 pub record AreWhole (net : Parts) (gates : List ℕ) : Type 0 where

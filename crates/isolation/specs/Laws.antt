@@ -1,10 +1,11 @@
 -- The laws of loops that are settled by themselves.
-use Rattle.std.specs.Prelude.{◌≡◌, ◌≢◌, ◌⊎◌, ◌↔◌, ◌<◌, ◌≤◌, ℕ, Bool, true, false, List, length, map, Contains}
+use Rattle.std.specs.Prelude.{◌≡◌, ◌≢◌, ◌⊎◌, ◌↔◌, ◌<◌, ◌≤◌, ◌^◌, ℕ, Bool, true, false, List, length, map, Contains}
 use Rattle.std.specs.List.{range_with_len}
 use Rattle.cyc_base.specs.declared.sig.Sig.{Sig}
 use Rattle.cyc_base.specs.declared.trit.Trit.{Trit}
 use Rattle.cyc_base.specs.declared.trit.Trit.TheVariants.{X}
 use Rattle.cyc_base.specs.Values.{bits}
+use Rattle.dual_rail.specs.WorkingLists.{IsWide}
 use Rattle.netlist.specs.declared.parts.Parts.{Parts}
 use Rattle.netlist.specs.Netlists.{IsNetlist, signal}
 use Rattle.netlist.specs.Fixpoint.{fix_gates}
@@ -15,6 +16,7 @@ use Rattle.loops.specs.Sweeps.{first_gate, value_in, sweeps as sweeps_of, CutsAr
 use Rattle.loops.specs.Walks.{AnyGate, Leads}
 use Rattle.isolation.specs.Excerpts.{gate_in, inputs_in, AreWhole, IsExcerpt}
 use Rattle.isolation.specs.Settled.{SettleAlone, SettleInSweeps}
+use Rattle.isolation.specs.Unsettled.{IsLaid}
 
 -- the gate is in a loop
 abbrev pub IsLooped : Blocks → ℕ → Type 0
@@ -103,3 +105,7 @@ UnsettledExcerptDecides = (net : Parts) (blocks : Blocks) (settled : ℕ → Boo
     (v : List Bool) → length v ≡ first_gate net →
     ((i : ℕ) → i < length gates → value_in (fix_gates small (bits v)) i ≢ X) →
     (n : ℕ) → n < length net.gates → value_in (fix_gates net (bits v)) n ≢ X
+
+-- two to the power of the number of columns is wide, so that what is enough to settle a netlist is a number
+abbrev pub NetlistsHaveWidths : Type 0
+NetlistsHaveWidths = (net : Parts) → IsWide (first_gate net) (IsLaid net) (2 ^ first_gate net)

@@ -5,3 +5,4 @@ pub mod Excerpts
 pub mod Laws
 pub mod Settled
 pub mod Settling
+pub mod Unsettled

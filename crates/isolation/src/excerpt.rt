@@ -1,10 +1,11 @@
 //! Some gates of a netlist, such as those of a loop, as a netlist of its own.
 
-ghost use Rattle.std.specs.Prelude.{◌≡◌, false, [], ◌<◌, ◌≤◌, ◌+◌, ◌++◌, ℕ, List, length, map, take, slice_index_or, All, IfOk, IfSome, OnOk, Contains};
+ghost use Rattle.std.specs.Prelude.{◌≡◌, true, false, [], None, ◌<◌, length, map, All, IfOk, IfSome, OnOk, IsSome, Contains};
 ghost use Rattle.netlist.specs.Netlists.{count, gate_at, gate_sig as sig_of, IsNetlist, IsSignal};
-ghost use Rattle.loops.specs.Blocks.{AreBlocksOf, block_at, home_of};
-ghost use Rattle.isolation.specs.Excerpts.{origin, origins, gate_in, IsRead, IsExcerpt};
-ghost use Rattle.isolation.specs.Building.{AreApart, AreOutside, IsPlaceOf, IsCopyOf, AreCopies, IsLoopNetlist};
+ghost use Rattle.loops.specs.Blocks.{AreBlocksOf, block_at};
+ghost use Rattle.loops.specs.Placing.{Rise};
+ghost use Rattle.isolation.specs.Excerpts.{origins, IsRead, IsExcerpt};
+ghost use Rattle.isolation.specs.Building.{AddWires, AreApart, AreClosed, AreCopies, AreNumbersOf, AreNumerable, AreWires, AreWiresOf, IsAmong, IsCopyOf, IsLoopNetlist, IsNamedBy, IsPlaceOf, name_at};
 
 use cyc_base::{Items, Name, Sig};
 use indexmap::IndexSet;
@@ -31,27 +32,28 @@ fn is_inside(net: &Netlist, blocks: &Blocks, place: u32, signal: Sig) -> bool
     requires place { place < length blocks.now.list }
     requires signal { IsSignal net.now signal }
     ensures outside { result ≡ false → ¬ Contains (map (sig_of net.now) (block_at blocks.now place).gates) signal }
+    ensures inside { result ≡ true → Contains (map (sig_of net.now) (block_at blocks.now place).gates) signal }
 {
     let first = net.inputs() + net.latches();
     signal.0 >= first && blocks.home.items()[(signal.0 - first) as usize] == place
 }
 
-/// Adds the wires outside of a block that this gate of it reads.
+/// Adds the wires outside of a block among these, which its gates read.
 fn add_outside(
     net: &Netlist,
     blocks: &Blocks,
     place: u32,
-    gate: u32,
+    pins: &[Sig],
     outside: &mut IndexSet<Sig>,
 ) -> Result<(), AllocError>
     requires blocks { AreBlocksOf net.now blocks.now }
     requires place { place < length blocks.now.list }
-    requires within { gate < length net.now.gates }
-    requires gate { Contains (block_at blocks.now place).gates gate }
-    requires outside { AreOutside net.now (block_at blocks.now place).gates outside.old.keys }
-    ensures { OnOk result (AreOutside net.now (block_at blocks.now place).gates outside.new.keys) }
+    requires signals { All (IsSignal net.now) pins.now }
+    requires read { All (IsRead net.now (block_at blocks.now place).gates) pins.now }
+    requires wires { AreWires net.now (block_at blocks.now place).gates outside.old.keys }
+    ensures { OnOk result (AddWires net.now (block_at blocks.now place).gates pins.now outside.old.keys outside.new.keys) }
 {
-    for pin in net.gate(gate).pins.items() {
+    for pin in pins {
         if !is_inside(net, blocks, place, *pin) {
             outside.insert(*pin)?;
         }
@@ -68,25 +70,33 @@ fn outside_of(
 ) -> Result<IndexSet<Sig>, AllocError>
     requires blocks { AreBlocksOf net.now blocks.now }
     requires place { place < length blocks.now.list }
-    ensures { IfOk result (λ outside. AreOutside net.now (block_at blocks.now place).gates outside.keys) }
+    ensures { IfOk result (λ outside. AreWiresOf net.now (block_at blocks.now place).gates (length (block_at blocks.now place).gates) outside.keys) }
 {
     let mut outside = IndexSet::new(alloc);
-    for gate in blocks.list.items()[place as usize].gates.items() {
-        add_outside(net, blocks, place, *gate, &mut outside)?;
+    for gate in gates_at(net, blocks, place as usize) {
+        add_outside(
+            net,
+            blocks,
+            place,
+            net.gate(*gate).pins.items(),
+            &mut outside,
+        )?;
     }
     Ok(outside)
 }
 
 /// The place of a signal among the wires outside.
 fn place_outside(outside: &IndexSet<Sig>, signal: Sig) -> Option<usize>
-    ensures { IfSome result (λ place. IsPlaceOf outside.now.keys signal place) }
+    ensures place { IfSome result (IsPlaceOf outside.now.keys signal) }
+    ensures some { Contains outside.now.keys signal → IsSome result }
 {
     outside.get_index_of(&signal)
 }
 
 /// The place of a gate among these.
 pub(crate) fn place_among(gates: &[u32], gate: u32) -> Option<usize>
-    ensures { IfSome result (λ place. IsPlaceOf gates.now gate place) }
+    ensures place { IfSome result (IsPlaceOf gates.now gate) }
+    ensures some { Rise gates.now → Contains gates.now gate → IsSome result }
 {
     match gates.binary_search(&gate) {
         Ok(place) => Some(place),
@@ -94,20 +104,36 @@ pub(crate) fn place_among(gates: &[u32], gate: u32) -> Option<usize>
     }
 }
 
-/// The number in the small netlist of a signal: a wire outside, or one of the gates.
-fn number_of(net: &Netlist, gates: &[u32], outside: &IndexSet<Sig>, signal: Sig) -> Option<Sig>
-    ensures { IfSome result (λ s. origin (origins net.now outside.now.keys gates.now) s ≡ signal) }
+/// The place of a gate's signal behind the wires outside.
+fn place_inside(net: &Netlist, gates: &[u32], outside: &IndexSet<Sig>, signal: Sig) -> Option<usize>
+    ensures place { IfSome result (IsPlaceOf (origins net.now outside.now.keys gates.now) signal) }
+    ensures some { Rise gates.now → Contains (map (sig_of net.now) gates.now) signal → IsSome result }
 {
     let first = net.inputs() + net.latches();
-    let place = match place_outside(outside, signal) {
-        Some(place) => place,
-        None => {
-            if signal.0 < first {
-                return None;
-            }
-            place_among(gates, signal.0 - first)? + outside.len()
-        }
-    };
+    if signal.0 < first {
+        return None;
+    }
+    let place = place_among(gates, signal.0 - first)?;
+    Some(place + outside.len())
+}
+
+/// The place of a signal among the wires outside and then the gates.
+fn place_of(net: &Netlist, gates: &[u32], outside: &IndexSet<Sig>, signal: Sig) -> Option<usize>
+    ensures place { IfSome result (IsPlaceOf (origins net.now outside.now.keys gates.now) signal) }
+    ensures some { Rise gates.now → IsAmong net.now gates.now outside.now.keys signal → IsSome result }
+{
+    match place_outside(outside, signal) {
+        Some(place) => Some(place),
+        None => place_inside(net, gates, outside, signal),
+    }
+}
+
+/// The number in the small netlist of a signal: a wire outside, or one of the gates.
+fn number_of(net: &Netlist, gates: &[u32], outside: &IndexSet<Sig>, signal: Sig) -> Option<Sig>
+    ensures number { IfSome result (λ s. IsPlaceOf (origins net.now outside.now.keys gates.now) signal s.0) }
+    ensures some { AreNumerable gates.now outside.now.keys → IsAmong net.now gates.now outside.now.keys signal → IsSome result }
+{
+    let place = place_of(net, gates, outside, signal)?;
     match u32::try_from(place) {
         Ok(number) => Some(Sig(number)),
         Err(_) => None,
@@ -122,7 +148,8 @@ fn numbers_of(
     outside: &IndexSet<Sig>,
     pins: &[Sig],
 ) -> Result<Option<Vec<Sig>>, AllocError>
-    ensures { IfOk result (λ found. IfSome found (λ numbers. map (origin (origins net.now outside.now.keys gates.now)) numbers.items ≡ pins.now)) }
+    ensures numbers { IfOk result (λ found. IfSome found (λ numbers. AreNumbersOf (origins net.now outside.now.keys gates.now) pins.now numbers.items)) }
+    ensures some { AreNumerable gates.now outside.now.keys → All (IsAmong net.now gates.now outside.now.keys) pins.now → IfOk result IsSome }
 {
     let mut numbers = Vec::with_capacity(alloc, pins.len())?;
     for pin in pins {
@@ -134,6 +161,21 @@ fn numbers_of(
     Ok(Some(numbers))
 }
 
+/// A gate as the small netlist has it, reading these numbers.
+fn copy_with(from: &Gate, pins: Vec<Sig>) -> Result<Gate, AllocError>
+    ensures name { IfOk result (λ made. made.name ≡ from.now.name) }
+    ensures cover { IfOk result (λ made. made.cover ≡ from.now.cover) }
+    ensures pins { IfOk result (λ made. made.pins ≡ pins.items) }
+{
+    let name = from.name.copy()?;
+    let cover = from.cover.copy()?;
+    Ok(Gate {
+        name,
+        pins: Items::of(pins),
+        cover,
+    })
+}
+
 /// A gate as the small netlist has it.
 fn copy_gate(
     alloc: Global,
@@ -143,19 +185,14 @@ fn copy_gate(
     gate: u32,
 ) -> Result<Option<Gate>, AllocError>
     requires { gate < length net.now.gates }
-    ensures { IfOk result (λ found. IfSome found (IsCopyOf (origins net.now outside.now.keys gates.now) (gate_at net.now gate))) }
+    ensures copy { IfOk result (λ found. IfSome found (IsCopyOf (origins net.now outside.now.keys gates.now) (gate_at net.now gate))) }
+    ensures some { AreNumerable gates.now outside.now.keys → All (IsAmong net.now gates.now outside.now.keys) (gate_at net.now gate).pins → IfOk result IsSome }
 {
     let from = net.gate(gate);
     let Some(pins) = numbers_of(alloc, net, gates, outside, from.pins.items())? else {
         return Ok(None);
     };
-    let name = from.name.copy()?;
-    let cover = from.cover.copy()?;
-    Ok(Some(Gate {
-        name,
-        pins: Items::of(pins),
-        cover,
-    }))
+    Ok(Some(copy_with(from, pins)?))
 }
 
 /// The gates as the small netlist has them.
@@ -166,7 +203,8 @@ fn copy_gates(
     outside: &IndexSet<Sig>,
 ) -> Result<Option<Vec<Gate>>, AllocError>
     requires { All (λ gate. gate < length net.now.gates) gates.now }
-    ensures { IfOk result (λ found. IfSome found (λ made. AreCopies net.now (origins net.now outside.now.keys gates.now) gates.now made.items (length gates.now))) }
+    ensures copies { IfOk result (λ found. IfSome found (λ made. AreCopies net.now (origins net.now outside.now.keys gates.now) gates.now made.items (length gates.now))) }
+    ensures some { AreNumerable gates.now outside.now.keys → AreClosed net.now gates.now outside.now.keys → IfOk result IsSome }
 {
     let mut made = Vec::with_capacity(alloc, gates.len())?;
     for gate in gates {
@@ -181,7 +219,7 @@ fn copy_gates(
 /// The names of these signals.
 fn names_of(alloc: Global, net: &Netlist, signals: &[Sig]) -> Result<Vec<Name>, AllocError>
     requires { All (λ s. s.0 < count net.now) signals.now }
-    ensures { IfOk result (λ names. length names.items ≡ length signals.now) }
+    ensures { IfOk result (λ names. names.items ≡ map (name_at net.now) signals.now) }
 {
     let mut names = Vec::with_capacity(alloc, signals.len())?;
     for signal in signals {
@@ -193,9 +231,12 @@ fn names_of(alloc: Global, net: &Netlist, signals: &[Sig]) -> Result<Vec<Name>, 
 
 /// The parts of a netlist without latches and outputs.
 fn parts_of(alloc: Global, name: Name, inputs: Vec<Name>, gates: Vec<Gate>) -> Parts
+    ensures name { result.name ≡ name }
     ensures inputs { result.inputs ≡ inputs.items }
+    ensures clock { result.clock ≡ None }
     ensures latches { result.latches ≡ [] }
     ensures gates { result.gates ≡ gates.items }
+    ensures outputs { result.outputs ≡ [] }
 {
     Parts {
         name,
@@ -218,24 +259,30 @@ fn excerpt_parts(
     requires outside { All (λ s. s.0 < count net.now) outside.now.keys }
     requires apart { AreApart net.now gates.now outside.now.keys }
     ensures small { IfOk result (λ found. IfSome found (IsExcerpt net.now outside.now.keys gates.now)) }
+    ensures named { IfOk result (λ found. IfSome found (IsNamedBy net.now outside.now.keys gates.now)) }
+    ensures some { AreNumerable gates.now outside.now.keys → AreClosed net.now gates.now outside.now.keys → IfOk result IsSome }
+    ensures valid { IsNetlist net.now }
 {
-    let name = net.name().copy()?;
-    let inputs = names_of(alloc, net, outside.as_slice())?;
+    let name = net.name();
     let Some(copies) = copy_gates(alloc, net, gates, outside)? else {
         return Ok(None);
     };
-    Ok(Some(parts_of(alloc, name, inputs, copies)))
+    let inputs = names_of(alloc, net, outside.as_slice())?;
+    Ok(Some(parts_of(alloc, name.copy()?, inputs, copies)))
 }
 
 /// The netlist of these parts, if they make one.
 fn made_of(alloc: Global, parts: Parts) -> Result<Option<Netlist>, AllocError>
     ensures same { IfOk result (λ found. IfSome found (λ small. small ≡ parts)) }
     ensures valid { IfOk result (λ found. IfSome found IsNetlist) }
+    ensures some { IsNetlist parts → IfOk result IsSome }
 {
     match Netlist::new(alloc, parts) {
         Ok(small) => Ok(Some(small)),
-        Err(PartsFault::Memory) => Err(AllocError),
-        Err(_) => Ok(None),
+        Err(fault) => match fault {
+            PartsFault::Memory => Err(AllocError),
+            _ => Ok(None),
+        },
     }
 }
 
@@ -251,6 +298,7 @@ pub(crate) fn excerpt(
     requires apart { AreApart net.now gates.now outside.now.keys }
     ensures small { IfOk result (λ found. IfSome found (IsExcerpt net.now outside.now.keys gates.now)) }
     ensures valid { IfOk result (λ found. IfSome found IsNetlist) }
+    ensures some { AreClosed net.now gates.now outside.now.keys → IfOk result IsSome }
 {
     let Some(parts) = excerpt_parts(alloc, net, gates, outside)? else {
         return Ok(None);
@@ -258,8 +306,10 @@ pub(crate) fn excerpt(
     made_of(alloc, parts)
 }
 
-/// The block at this place as a netlist of its own, whose inputs are the wires outside that its gates read: names are
-/// those of the netlist.
+/// The block at this place as a netlist of its own, whose inputs are the wires outside that its gates read, each once:
+/// names are those of the netlist. It is always there: the parts of a block make a netlist.
+///
+/// The condition is that the blocks are the netlist's, and that there is one at this place.
 pub fn loop_netlist(
     alloc: Global,
     net: &Netlist,
@@ -270,6 +320,7 @@ pub fn loop_netlist(
     requires place { place < length blocks.now.list }
     ensures small { IfOk result (λ found. IfSome found (IsLoopNetlist net.now (block_at blocks.now place).gates)) }
     ensures valid { IfOk result (λ found. IfSome found IsNetlist) }
+    ensures some { IfOk result IsSome }
 {
     let gates = gates_at(net, blocks, place as usize);
     let outside = outside_of(alloc, net, blocks, place)?;

@@ -1,17 +1,23 @@
 //! Whether a loop is settled by itself, whatever the wires outside are.
 
-ghost use Rattle.std.specs.Prelude.{◌≡◌, ◌≢◌, ◌<◌, ◌≤◌, ℕ, true, Bool, List, length, map, All, IfOk, IfSome};
-ghost use Rattle.bdd_store.specs.Growth.{KeepsNodes};
+ghost use Rattle.std.specs.Prelude.{◌≡◌, ◌≢◌, ◌<◌, ◌≤◌, ◌+◌, ◌*◌, ◌⊎◌, true, false, Bool, List, length, map, All, IfOk, IfSome, IfNone};
+ghost use Rattle.bdd_store.specs.Growth.{AddsWithin, Grows, GrowsWithin, NoOtherCause};
+ghost use Rattle.bdd_store.specs.Subfunctions.{nodes};
+ghost use Rattle.bdd_ops.specs.Operations.{disjunction};
 ghost use Rattle.cyc_base.specs.declared.trit.Trit.TheVariants.{X};
 ghost use Rattle.dual_rail.specs.Rails.{AreRailsOf, value_of};
+ghost use Rattle.dual_rail.specs.WorkingLists.{IsWide};
 ghost use Rattle.loops.specs.Blocks.{AreBlocksOf, block_at};
+ghost use Rattle.loops.specs.Cuts.{IsCutOf};
 ghost use Rattle.loops.specs.Sweeps.{first_gate};
-ghost use Rattle.fixpoint.specs.Kept.{rails_under, AreKept, RootsStay};
+ghost use Rattle.fixpoint.specs.Kept.{rails_under, AreKept};
 ghost use Rattle.fixpoint.specs.Orders.{order as order_of};
 ghost use Rattle.fixpoint.specs.Solved.{AreGiven};
+ghost use Rattle.fixpoint.specs.Working.{HasLargeCover};
 ghost use Rattle.isolation.specs.Columns.{AreColumns};
-ghost use Rattle.isolation.specs.Settled.{SettleInSweeps};
-ghost use Rattle.isolation.specs.Settling.{AreKnown, IsSettledIn};
+ghost use Rattle.isolation.specs.Settled.{AreFixedAfter, SettleInSweeps};
+ghost use Rattle.isolation.specs.Settling.{counting_cost, settling_cost, AreKnown, BoundsKnown, HasUnknownRails, HasUnknownVector, IsSettledIn, IsSolvedNetlist};
+ghost use Rattle.isolation.specs.Unsettled.{AreUnsettled, HasUnknown, IsBelowEnough, IsLaid};
 
 use crate::columns::column_rails;
 use crate::excerpt::loop_netlist;
@@ -20,8 +26,8 @@ use bdd_store::{Node, StoreFault};
 use cyc_base::MAX_NODES;
 use dual_rail::Rails;
 use fixpoint::laws::solutions;
-use fixpoint::{KeptRails, keep_rails, order, rails_of, solve, sweeps};
-use loops::{Blocks, find_blocks, find_cut};
+use fixpoint::{KeptRails, Solved, keep_rails, order, rails_of, solve, sweeps};
+use loops::{Blocks, Cut, find_blocks, find_cut};
 use netlist::Netlist;
 use std::alloc::{AllocError, Global};
 
@@ -29,9 +35,11 @@ use std::alloc::{AllocError, Global};
 fn is_known(d: &mut Diagrams, rails: Rails) -> Result<bool, StoreFault>
     requires { AreRailsOf d.old rails }
     ensures known { IfOk result (λ known. known ≡ true → (v : List Bool) → value_of d.old rails v ≢ X) }
-    ensures keeps { KeepsNodes d.old d.new }
+    ensures unknown { IfOk result (λ known. known ≡ false → HasUnknownVector d.old rails) }
+    ensures grows { Grows result d.old d.new (nodes d.old.vars (disjunction d.old rails.one rails.zero)) }
 {
     let either = d.or(rails.one, rails.zero)?;
+    d.store().laws();
     Ok(either == Node::of(true))
 }
 
@@ -39,7 +47,8 @@ fn is_known(d: &mut Diagrams, rails: Rails) -> Result<bool, StoreFault>
 fn are_known(d: &mut Diagrams, rails: &[Rails]) -> Result<bool, StoreFault>
     requires { All (AreRailsOf d.old) rails.now }
     ensures known { IfOk result (λ known. known ≡ true → AreKnown d.old rails.now) }
-    ensures keeps { KeepsNodes d.old d.new }
+    ensures unknown { IfOk result (λ known. known ≡ false → HasUnknownRails d.old rails.now) }
+    ensures grows { GrowsWithin result d.old d.new NoOtherCause (BoundsKnown d.old rails.now) (length rails.now) }
 {
     for one in rails {
         if !is_known(d, *one)? {
@@ -69,6 +78,9 @@ fn kept_columns(
     requires { d.old.vars ≡ first_gate net.now }
     ensures given { IfOk result (λ kept. AreGiven net.now d.new kept.items) }
     ensures columns { IfOk result (λ kept. AreColumns d.new (order_of net.now) (map (rails_under d.new) kept.items)) }
+    ensures vars { d.new.vars ≡ d.old.vars }
+    ensures limit { d.new.limit ≡ d.old.limit }
+    ensures adds { AddsWithin result d.old d.new NoOtherCause (λ w. d.old.vars + 1 ≤ w) 2 }
 {
     let columns = order(alloc, net)?;
     let rails = column_rails(alloc, d, &columns)?;
@@ -80,39 +92,131 @@ fn is_determined(alloc: Global, d: &mut Diagrams, solved: &[KeptRails]) -> Resul
     requires keys { All (AreKept d.old) solved.now }
     requires proper { All (AreRailsOf d.old) (map (rails_under d.old) solved.now) }
     ensures known { IfOk result (λ known. known ≡ true → AreKnown d.old (map (rails_under d.old) solved.now)) }
-    ensures roots { RootsStay d.old d.new }
+    ensures unknown { IfOk result (λ known. known ≡ false → HasUnknownRails d.old (map (rails_under d.old) solved.now)) }
+    ensures grows { GrowsWithin result d.old d.new NoOtherCause (BoundsKnown d.old (map (rails_under d.old) solved.now)) (length solved.now) }
 {
-    d.store().laws();
     let rails = rails_of(alloc, d, solved)?;
     let known = are_known(d, &rails)?;
     Ok(known)
 }
 
-/// How many sweeps are enough for the loops of a netlist without latches, if no gate of it is X at any Boolean
-/// vector.
+/// The greatest number of sweeps that a loop of a solved netlist needs.
+fn most_sweeps(
+    alloc: Global,
+    d: &mut Diagrams,
+    blocks: &Blocks,
+    solved: &Solved,
+) -> Result<u32, StoreFault>
+    requires { IsSolvedNetlist d.old blocks.now solved.now }
+    ensures sweeps { (is : IsSolvedNetlist d.old blocks.now solved.now) → IfOk result (λ k. AreFixedAfter k is.net) }
+    ensures grows { (is : IsSolvedNetlist d.old blocks.now solved.now) →
+        GrowsWithin result d.old d.new NoOtherCause (IsWide d.old.vars (IsLaid is.net)) (6 * length is.net.gates * (length is.net.gates + 2)) }
+{
+    solutions();
+    let counts = sweeps(alloc, d, solved, blocks, Node::of(true))?;
+    Ok(greatest(counts.per_block.items()))
+}
+
+/// How many sweeps are enough for the loops of a solved netlist, if no gate of it is X at any Boolean vector.
+fn settled_sweeps(
+    alloc: Global,
+    d: &mut Diagrams,
+    blocks: &Blocks,
+    solved: &Solved,
+) -> Result<Option<u32>, StoreFault>
+    requires { IsSolvedNetlist d.old blocks.now solved.now }
+    ensures settled { (is : IsSolvedNetlist d.old blocks.now solved.now) → IfOk result (λ found. IfSome found (IsSettledIn is.net)) }
+    ensures unknown { (is : IsSolvedNetlist d.old blocks.now solved.now) → IfOk result (λ found. IfNone found (HasUnknown is.net)) }
+    ensures grows { (is : IsSolvedNetlist d.old blocks.now solved.now) →
+        GrowsWithin result d.old d.new NoOtherCause (IsWide d.old.vars (IsLaid is.net)) (counting_cost is.net) }
+{
+    d.store().laws();
+    solutions();
+    if !is_determined(alloc, d, solved.rails.items())? {
+        return Ok(None);
+    }
+    let most = most_sweeps(alloc, d, blocks, solved)?;
+    Ok(Some(most))
+}
+
+/// How many sweeps are enough for the loops of a netlist, if no gate of it is X at any Boolean vector.
+fn settle_on(
+    alloc: Global,
+    d: &mut Diagrams,
+    net: &Netlist,
+    blocks: &Blocks,
+    cut: &Cut,
+) -> Result<Option<u32>, StoreFault>
+    requires blocks { AreBlocksOf net.now blocks.now }
+    requires cut { IsCutOf net.now cut.now }
+    requires vars { d.old.vars ≡ first_gate net.now }
+    requires some { 0 < length net.now.gates }
+    ensures settled { IfOk result (λ found. IfSome found (IsSettledIn net.now)) }
+    ensures unknown { IfOk result (λ found. IfNone found (HasUnknown net.now)) }
+    ensures limit { d.new.limit ≡ d.old.limit }
+    ensures adds { AddsWithin result d.old d.new (HasLargeCover net.now) (IsWide d.old.vars (IsLaid net.now)) (settling_cost net.now) }
+{
+    let _ = net.gates();
+    let given = kept_columns(alloc, d, net)?;
+    let solved = solve(alloc, d, net, blocks, cut, given)?;
+    settled_sweeps(alloc, d, blocks, &solved)
+}
+
+/// How many sweeps are enough, on diagrams of its own that hold at most `budget` nodes.
+fn settle_with(
+    alloc: Global,
+    net: &Netlist,
+    blocks: &Blocks,
+    cut: &Cut,
+    budget: u32,
+) -> Result<Option<u32>, StoreFault>
+    requires blocks { AreBlocksOf net.now blocks.now }
+    requires cut { IsCutOf net.now cut.now }
+    requires some { 0 < length net.now.gates }
+    requires budget { budget ≤ MAX_NODES }
+    ensures settled { IfOk result (λ found. IfSome found (IsSettledIn net.now)) }
+    ensures unknown { IfOk result (λ found. IfNone found (HasUnknown net.now)) }
+    ensures full { result ≡ Err StoreFault.Full → IsBelowEnough net.now budget }
+{
+    let mut d = Diagrams::new(alloc, net.inputs() + net.latches(), budget)?;
+    settle_on(alloc, &mut d, net, blocks, cut)
+}
+
+/// How many sweeps are enough for the loops of a netlist, whose blocks and cut wires are found here.
 fn settle(alloc: Global, net: &Netlist, budget: u32) -> Result<Option<u32>, StoreFault>
-    requires { budget ≤ MAX_NODES }
-    ensures { IfOk result (λ found. IfSome found (IsSettledIn net.now)) }
+    requires some { 0 < length net.now.gates }
+    requires budget { budget ≤ MAX_NODES }
+    ensures settled { IfOk result (λ found. IfSome found (IsSettledIn net.now)) }
+    ensures unknown { IfOk result (λ found. IfNone found (HasUnknown net.now)) }
+    ensures full { result ≡ Err StoreFault.Full → IsBelowEnough net.now budget }
 {
     let blocks = find_blocks(alloc, net)?;
     let cut = find_cut(alloc, net, &blocks)?;
-    let mut d = Diagrams::new(alloc, net.inputs() + net.latches(), budget)?;
-    solutions();
-    let given = kept_columns(alloc, &mut d, net)?;
-    let solved = solve(alloc, &mut d, net, &blocks, &cut, given)?;
-    if !is_determined(alloc, &mut d, solved.rails.items())? {
-        return Ok(None);
+    settle_with(alloc, net, &blocks, &cut, budget)
+}
+
+/// The same, and no number where the nodes were too few.
+fn settle_within(alloc: Global, net: &Netlist, budget: u32) -> Result<Option<u32>, AllocError>
+    requires some { 0 < length net.now.gates }
+    requires budget { budget ≤ MAX_NODES }
+    ensures settled { IfOk result (λ found. IfSome found (IsSettledIn net.now)) }
+    ensures unknown { IfOk result (λ found. IfNone found (HasUnknown net.now ⊎ IsBelowEnough net.now budget)) }
+{
+    match settle(alloc, net, budget) {
+        Ok(found) => Ok(found),
+        Err(StoreFault::Full) => Ok(None),
+        Err(StoreFault::Memory) => Err(AllocError),
     }
-    let counts = sweeps(alloc, &mut d, &solved, &blocks, Node::of(true))?;
-    Ok(Some(greatest(counts.per_block.items())))
 }
 
 /// How many sweeps are enough for a loop that is settled by itself: taken as a netlist whose inputs are the wires
 /// that its gates read from outside, none of its gates is X at any Boolean vector (Malik 1994, of one block). `place`
-/// is the loop's place among the blocks. The diagrams are the call's own, and hold at most `budget` nodes.
+/// is the loop's place among the blocks. The diagrams are the call's own, and hold at most `budget` nodes. The number
+/// need not be the least.
 ///
-/// It answers `None` where the loop isn't settled by itself, or where `budget` nodes were too few to see it, and
-/// `AllocError` for want of memory alone.
+/// It answers `None` only where one of its gates is X at a Boolean vector of these wires, or where `budget` is below
+/// `16 * w * (gates + 2) * (effort + wires + 4)`, whatever w is that bounds the functions which this netlist's solution
+/// works with (`AreUnsettled`). It answers `AllocError` for want of memory alone.
 ///
 /// The condition is that the blocks are the netlist's, that there is one at this place, and that the budget is at
 /// most 50,000,000.
@@ -126,14 +230,11 @@ pub fn settles_alone(
     requires blocks { AreBlocksOf net.now blocks.now }
     requires place { place < length blocks.now.list }
     requires budget { budget ≤ MAX_NODES }
-    ensures { IfOk result (λ found. IfSome found (SettleInSweeps net.now (block_at blocks.now place).gates)) }
+    ensures settled { IfOk result (λ found. IfSome found (SettleInSweeps net.now (block_at blocks.now place).gates)) }
+    ensures unsettled { IfOk result (λ found. IfNone found (AreUnsettled net.now (block_at blocks.now place).gates budget)) }
 {
     let Some(small) = loop_netlist(alloc, net, blocks, place)? else {
         return Ok(None);
     };
-    match settle(alloc, &small, budget) {
-        Ok(found) => Ok(found),
-        Err(StoreFault::Full) => Ok(None),
-        Err(StoreFault::Memory) => Err(AllocError),
-    }
+    settle_within(alloc, &small, budget)
 }

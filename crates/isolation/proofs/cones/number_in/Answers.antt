@@ -15,4 +15,4 @@ returns c =
     let n = c.inputs.ensures.inputs in
     let l = c.latches.ensures.latches in
     let first : c.inputs.result + c.latches.result ≡ first_gate c.args.net.now = omega (arith, n, l) in
-    number-gate c.args.net.now c.args.gates.now c.args.signal (c.inputs.result + c.latches.result) _ _ first c.if-signal-first.false c.in_ok-place.ensures refl
+    number-gate c.args.net.now c.args.gates.now c.args.signal (c.inputs.result + c.latches.result) _ _ first c.if-signal-first.false c.in_ok-place.ensures.place refl

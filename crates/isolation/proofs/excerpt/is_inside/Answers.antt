@@ -1,20 +1,24 @@
-use Rattle.std.proofs.Common.{◌∙◌, ◌+◌, ◌-◌, ℕ, List, ap, sym, arith, get_or, true≢false}
-use Rattle.std.proofs.lemmas.Bool.{eq-eqb}
+use Rattle.std.proofs.Common.{◌≡◌, ◌≤◌, ◌∙◌, ◌+◌, ◌-◌, ℕ, List, ap, sym, arith, get_or, true≢false}
+use Rattle.std.proofs.lemmas.Bool.{eq-eqb, eqb-true, leb-true}
 use Rattle.loops.specs.Blocks.{home_of}
-use Rattle.isolation.proofs.BuildingLemmas.{inside_block}
+use Rattle.loops.specs.Sweeps.{first_gate}
+use Rattle.isolation.proofs.BuildingLemmas.{inside_block, block_inside}
 use Rattle.isolation.proofs.excerpt.is_inside.Goals as goal
 
 pub returns-then-signal-first : goal.returns-then-signal-first
-returns-then-signal-first c = record {
-  outside = λ e has.
-      let i = inside_block c.args.net.now c.args.blocks.now c.requires.blocks c.args.place c.args.signal c.requires.place has in
-      let n = c.inputs.ensures.inputs in
-      let l = c.latches.ensures.latches in
-      true≢false
-      (sym (eq-eqb _ _
-      (ap (λ (xs : List ℕ). get_or xs (c.args.signal.0 - (c.inputs.result + c.latches.result)) 0) c.items.ensures
-      ∙ ap (home_of c.args.blocks.now) (omega (arith, n, l)) ∙ i.1)) ∙ e);
-}
+returns-then-signal-first c =
+    let n = c.inputs.ensures.inputs in
+    let l = c.latches.ensures.latches in
+    let at : get_or c.items.result.now (c.args.signal.0 - (c.inputs.result + c.latches.result)) 0 ≡ home_of c.args.blocks.now (c.args.signal.0 - first_gate c.args.net.now) =
+    ap (λ (xs : List ℕ). get_or xs (c.args.signal.0 - (c.inputs.result + c.latches.result)) 0) c.items.ensures ∙ ap (home_of c.args.blocks.now) (omega (arith, n, l)) in
+    record {
+      outside = λ e has.
+          let i = inside_block c.args.net.now c.args.blocks.now c.requires.blocks c.args.place c.args.signal c.requires.place has in
+          true≢false (sym (eq-eqb _ _ (at ∙ i.1)) ∙ e);
+      inside = λ e.
+          let above : first_gate c.args.net.now ≤ c.args.signal.0 = omega (arith, n, l, c.if-signal-first.true) in
+          block_inside c.args.net.now c.args.blocks.now c.requires.blocks c.args.place c.args.signal c.requires.signal above (sym at ∙ eqb-true _ _ e);
+    }
 
 pub returns-else-signal-first : goal.returns-else-signal-first
 returns-else-signal-first c = record {
@@ -25,4 +29,5 @@ returns-else-signal-first c = record {
       let low = c.if-signal-first.false in
       let high = i.0 in
       omega (arith, n, l, low, high);
+  inside = λ e. (let h = leb-true _ _ e in let low = c.if-signal-first.false in absurd (omega (arith, h, low)));
 }

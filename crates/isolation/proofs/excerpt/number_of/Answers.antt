@@ -1,22 +1,21 @@
-use Rattle.std.proofs.Common.{◌≡◌, ◌∙◌, ◌+◌, ◌-◌, ◌≤◌, inl, inr, ℕ, ap, sym, subst, arith}
-use Rattle.loops.specs.Sweeps.{first_gate}
+use Rattle.std.proofs.Common.{map, arith, sym, subst, true≢false}
+use Rattle.std.proofs.lemmas.List.{length-append, length-map}
+use Rattle.netlist.specs.Netlists.{gate_sig}
+use Rattle.isolation.specs.Excerpts.{origins}
 use Rattle.isolation.specs.Building.{IsPlaceOf}
-use Rattle.isolation.proofs.BuildingLemmas.{origin_is}
 use Rattle.isolation.proofs.excerpt.number_of.Goals as goal
-use Rattle.isolation.proofs.excerpt.number_of.Goals.{in-Some, in-None+else-signal-first+in_ok-place-in-None}
 
-pub returns-in-Ok : goal.returns-in-Ok
-returns-in-Ok c =
-    let is : c.in-Ok.number ≡ c.match-place_outside.place = c.in-Ok.ensures.1 in
-    let first : c.inputs.result + c.latches.result ≡ first_gate c.args.net.now = (let n = c.inputs.ensures.inputs in let l = c.latches.ensures.latches in omega (arith, n, l)) in
-    origin_is c.args.net.now c.args.outside.now.keys c.args.gates.now c.args.signal c.in-Ok.number
-    (elim c.match-place_outside.branch [
-      | in-Some w ↦ inl (subst (IsPlaceOf c.args.outside.now.keys c.args.signal) (sym (is ∙ w.place-is)) w.in-Some.ensures)
-      | in-None+else-signal-first+in_ok-place-in-None w ↦
-          inr (
-            subst (λ (n : ℕ). n ≤ c.args.signal.0) first w.if-signal-first.false,
-            w.in_ok-place-in-None.field-0,
-            subst (λ (n : ℕ). IsPlaceOf c.args.gates.now (c.args.signal.0 - n) w.in_ok-place-in-None.field-0) first w.in_ok-place-in-None.ensures,
-            is ∙ w.place-is ∙ ap (λ (n : ℕ). w.in_ok-place-in-None.field-0 + n) w.len.ensures.len,
-          )
-    ])
+pub returns-in_err-place-clause-some : goal.returns-in_err-place-clause-some
+returns-in_err-place-clause-some c numerable among = absurd (true≢false (sym (c.in_err-place.ensures.some numerable.rise among)))
+
+pub returns-in-Ok-clause-number : goal.returns-in-Ok-clause-number
+returns-in-Ok-clause-number c =
+    subst (IsPlaceOf (origins c.args.net.now c.args.outside.now.keys c.args.gates.now) c.args.signal) (sym c.in-Ok.ensures.1) c.in_ok-place.ensures.place
+
+pub returns-in-Err-clause-some : goal.returns-in-Err-clause-some
+returns-in-Err-clause-some c numerable among =
+    let within = c.in_ok-place.ensures.place.within in
+    let fits = numerable.fits in
+    let one = length-append c.args.outside.now.keys (map (gate_sig c.args.net.now) c.args.gates.now) in
+    let two = length-map c.args.gates.now (gate_sig c.args.net.now) in
+    absurd (c.in-Err.ensures (omega (arith, within, fits, one, two)))

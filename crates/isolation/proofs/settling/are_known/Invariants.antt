@@ -1,12 +1,14 @@
-use Rattle.std.proofs.Common.{◌≢◌, ℕ, ◌<◌, Bool, List, get_or}
-use Rattle.bdd_store.specs.Growth.{KeepsNodes}
+use Rattle.std.proofs.Common.{◌≢◌, ◌<◌, ◌≤◌, ℕ, Bool, List, get_or, length}
+use Rattle.bdd_store.proofs.GrowthLemmas.{HasGrown}
 use Rattle.cyc_base.specs.declared.trit.Trit.TheVariants.{X}
 use Rattle.dual_rail.specs.declared.rail.Rails.{Rails}
 use Rattle.dual_rail.specs.Rails.{value_of}
+use Rattle.isolation.specs.Settling.{BoundsKnown}
 use Rattle.isolation.proofs.settling.are_known.Given as goal
 
 abbrev pub invariant-loop-one : goal.invariant-loop-one
 invariant-loop-one l = record {
-  keeps : KeepsNodes l.fn.d l.d;
+  grows : HasGrown l.fn.d l.d (BoundsKnown l.fn.d l.rails) l.one-index;
+  within : l.one-index ≤ length l.rails;
   known : (k : ℕ) (none : Rails) → k < l.one-index → (v : List Bool) → value_of l.fn.d (get_or l.rails k none) v ≢ X;
 }

@@ -1,0 +1,397 @@
+-- The functions that a solution and the comparison of its sweeps work with, and what they cost.
+use Rattle.std.proofs.Common.{◌≡◌, inl, inr, ℕ, zero, suc, ◌+◌, ◌*◌, ◌<◌, ◌≤◌, Bool, true, false, ◌&&◌, ◌||◌, List, [], ◌∷◌, length, map, filter, get_or, Result, Err, refl, sym, ap, ap₂, ◌∙◌, subst, arith, Contains}
+use Rattle.std.proofs.Math.Path.{fun_ext}
+use Rattle.std.proofs.Math.Nat.{mul-le-mul_left, mul-le-mul_right}
+use Rattle.std.proofs.lemmas.Bool.{cases_Bool, and_parts}
+use Rattle.std.proofs.lemmas.List.{get_or-map, get_or_default, get_or-replicate, length-map, length-append}
+use Rattle.std.proofs.lemmas.List.Elements.{All-contains}
+use Rattle.std.proofs.lemmas.List.Sums.{sum_by-cons, get_or-le-sum_by}
+use Rattle.std.specs.List.{All, range_with_len, sum_by}
+use Rattle.bdd_store.specs.declared.node.Node.{Node}
+use Rattle.bdd_store.specs.Arena.{Arena, den, empty}
+use Rattle.bdd_store.specs.declared.fault.StoreFault.{StoreFault}
+use Rattle.bdd_store.specs.declared.fault.StoreFault.TheVariants.{Full}
+use Rattle.bdd_store.specs.Growth.{AddsWithin, GrowsWithin, KeepsNodes, NoOtherCause}
+use Rattle.bdd_store.proofs.GrowthLemmas.{adds_then, adds_moved, within_more, within_moved}
+use Rattle.bdd_store.specs.Subfunctions.{nodes}
+use Rattle.bdd_store.proofs.SubfunctionLemmas.{nodes-alike}
+use Rattle.bdd_ops.specs.Operations.{disjunction}
+use Rattle.cover_logic.specs.Covers.{value}
+use Rattle.cover_logic.specs.Extensions.{exact}
+use Rattle.cyc_base.specs.declared.trit.Trit.{Trit}
+use Rattle.cyc_base.specs.declared.trit.Trit.TheVariants.{X}
+use Rattle.cyc_base.specs.Values.{bits}
+use Rattle.dual_rail.specs.declared.rail.Rails.{Rails}
+use Rattle.dual_rail.specs.Local.{size}
+use Rattle.dual_rail.specs.Rails.{AreRailsOf, value_of, values_of}
+use Rattle.dual_rail.specs.WorkingLists.{IsWide, is_bit}
+use Rattle.dual_rail.proofs.WidthLemmas.{IsWide-fewer}
+use Rattle.netlist.specs.declared.parts.Gate.{Gate}
+use Rattle.netlist.specs.declared.parts.Parts.{Parts}
+use Rattle.netlist.specs.Fixpoint.{fix, fix_gates}
+use Rattle.netlist.specs.Netlists.{IsNetlist, count, gate_at, no_gate}
+use Rattle.loops.specs.declared.structure.Blocks.{Blocks}
+use Rattle.loops.specs.declared.structure.Cut.{Cut}
+use Rattle.loops.specs.Blocks.{AreBlocksOf, block_at}
+use Rattle.loops.specs.Cuts.{AreLoopsOf, IsCutOf, Loops, loops_by}
+use Rattle.loops.specs.Found.{loops_of}
+use Rattle.loops.specs.Sweeps.{first_gate, value_in, sweeps, cuts, cuts_of}
+use Rattle.loops.proofs.Existence.{loops_exist}
+use Rattle.loops.proofs.Reading.{Contains-filter_from}
+use Rattle.loops.proofs.Sweeps.{length-fix, same-sym, same-trans, same_within}
+use Rattle.loops.proofs.Walks.{same_truth}
+use Rattle.fixpoint.specs.declared.solved.SweptLoop.{SweptLoop}
+use Rattle.fixpoint.specs.declared.solved.Solved.{Solved}
+use Rattle.fixpoint.specs.Counts.{IsStepNode, IsComparedIn}
+use Rattle.fixpoint.specs.declared.kept.KeptRails.{KeptRails}
+use Rattle.fixpoint.specs.Kept.{rails_under, values_under}
+use Rattle.fixpoint.specs.Orders.{laid, order}
+use Rattle.fixpoint.specs.Solved.{AreStepsOf, AreKeptSteps, IsSolution, Vectors, step_at, loop_under}
+use Rattle.fixpoint.specs.Sweeping.{rails_at, unknown}
+use Rattle.fixpoint.specs.Working.{HasLargeCover, IsGatePart, IsWorking, effort, read_at_fix, read_in_sweep}
+use Rattle.fixpoint.proofs.CutLemmas.{one-of, zero-of}
+use Rattle.fixpoint.proofs.WireLemmas.{rails_at-proper}
+use Rattle.fixpoint.proofs.WorkLemmas.{fix_is_working, sweeps_are_working, gate_parts_agree}
+use Rattle.isolation.specs.Columns.{AreColumns}
+use Rattle.isolation.specs.Settling.{AreColumnVectors, BoundsKnown, IsSolvedNetlist, settling_cost}
+use Rattle.isolation.specs.Unsettled.{IsBelowEnough, IsLaid, enough}
+use Rattle.isolation.proofs.SettlingLemmas.{loops-are}
+
+-- ---- functions that are made of one of the list
+
+pub record IsMade (net : Parts) (h : List Bool → Bool) : Type 0 where
+  pub of : List Bool → Bool
+  pub listed : IsLaid net of
+  pub by : Bool → Bool
+  pub same : (x : List Bool) → length x ≡ first_gate net → h x ≡ by (of x)
+
+-- a width serves them too
+pub made-wide : (net : Parts) {w : ℕ} → IsWide (first_gate net) (IsLaid net) w → IsWide (first_gate net) (IsMade net) w
+made-wide net {w} wide = record {
+  variables = wide.variables;
+  combinations = λ c f g h x y z.
+      let most = wide.combinations (λ p q r. c (x.by p) (y.by q) (z.by r)) x.of y.of z.of x.listed y.listed z.listed in
+      let same : nodes (first_gate net) (λ u. c (f u) (g u) (h u)) ≡ nodes (first_gate net) (λ u. c (x.by (x.of u)) (y.by (y.of u)) (z.by (z.of u))) =
+      nodes-alike (first_gate net) (λ u. c (f u) (g u) (h u)) (λ u. c (x.by (x.of u)) (y.by (y.of u)) (z.by (z.of u)))
+      (λ u long. ap (λ p. c p (g u) (h u)) (x.same u long) ∙ ap₂ (λ q r. c (x.by (x.of u)) q r) (y.same u long) (z.same u long)) in
+      omega (arith, most, same);
+}
+
+-- a function that a gate works with, of other vectors
+part-at : (net : Parts) (loops : Loops) (v : Vectors) (g : List Bool → Bool) → IsGatePart net loops v g → (f : List Bool → List Bool) → IsGatePart net loops (λ x. v (f x)) (λ x. g (f x))
+part-at net loops v g part f = record {
+  gate = part.gate;
+  within = part.within;
+  first = part.first;
+  short = part.short;
+  bit = part.bit;
+  read = λ x. part.read (f x);
+  reads = elim part.reads [
+    | inl r ↦ inl (record { looped = r.looped; sweep = r.sweep; few = r.few; is = λ x. r.is (f x) })
+    | inr r ↦ inr (record { plain = r.plain; is = λ x. r.is (f x) })
+  ];
+  same = λ x. part.same (f x);
+}
+
+module _ (net : Parts) (points : Vectors) (points_are : AreColumnVectors net points) where
+  working-laid : (g : List Bool → Bool) → IsWorking net (loops_of net) points g → IsLaid net g
+  working-laid g (inl rail) = record {
+    of = λ u. is_bit rail.bit (value_in (bits u) rail.signal);
+    is = inl (record { signal = rail.signal; within = rail.within; bit = rail.bit; same = λ u. refl });
+    same = λ u long. rail.same (laid net u) ∙ ap (λ (ts : List Trit). is_bit rail.bit (value_in ts rail.signal)) (points_are u long);
+  }
+  working-laid g (inr part) =
+      let h = gate_parts_agree net (loops_of net) (first_gate net) (λ u. points (laid net u)) bits (λ u long. points_are u long) (λ u. g (laid net u)) (part-at net (loops_of net) points g part (laid net)) in
+      record { of = h.of; is = inr h.is; same = h.alike }
+
+  pub working-wide : (vars : ℕ) → vars ≡ first_gate net → (loops : Loops) {w : ℕ} → loops ≡ loops_of net → IsWide vars (IsLaid net) w → IsWide vars (IsWorking net loops points) w
+  working-wide vars vars_are loops {w} is wide =
+      subst (λ (l : Loops). IsWide vars (IsWorking net l points) w) (sym is) (IsWide-fewer (IsLaid net) (IsWorking net (loops_of net) points) w working-laid wide)
+
+  -- ---- signals at the fixpoint
+
+  module _ (a : Arena) (rails : List Rails) (proper : All (AreRailsOf a) rails) (vector : (x : List Bool) → length (points x) ≡ first_gate net) (values : (x : List Bool) → values_of a rails x ≡ fix net (points x)) where
+    pub rails-size : length rails ≡ count net
+    rails-size =
+        let one = sym (length-map {B = Trit} rails (λ r. value_of a r [])) ∙ ap length (values []) in
+        let two = length-append (points []) (fix_gates net (points [])) in
+        let three = length-fix net (loops_of net) (points []) in
+        let four = vector [] in
+        omega (arith, one, two, three, four)
+
+    signal-value : (k : ℕ) → k < length rails → (x : List Bool) → value_of a (rails_at rails k) x ≡ value_in (fix net (points x)) k
+    signal-value k less x =
+        sym (get_or-map (λ (r : Rails). value_of a r x) rails k unknown X less) ∙ ap (λ (ts : List Trit). get_or ts k X) (values x)
+
+    signal-laid : (k : ℕ) → k < length rails → (b : Bool) → IsLaid net (λ x. is_bit b (value_in (fix net (points x)) k))
+    signal-laid k less b =
+        working-laid (λ x. is_bit b (value_in (fix net (points x)) k)) (fix_is_working net (loops_of net) (loops_exist net) points vector k (let s = rails-size in omega (arith, s, less)) b)
+
+    one-laid : (k : ℕ) → k < length rails → IsLaid net (den a (rails_at rails k).one)
+    one-laid k less =
+        let is = signal-laid k less true in
+        record {
+          of = is.of;
+          is = is.is;
+          same = λ u long. sym (one-of (den a (rails_at rails k).one (laid net u)) (den a (rails_at rails k).zero (laid net u))) ∙ ap (is_bit true) (signal-value k less (laid net u)) ∙ is.same u long;
+        }
+
+    zero-laid : (k : ℕ) → k < length rails → IsLaid net (den a (rails_at rails k).zero)
+    zero-laid k less =
+        let is = signal-laid k less false in
+        let one : AreRailsOf a (rails_at rails k) = rails_at-proper a rails proper k in
+        record {
+          of = is.of;
+          is = is.is;
+          same = λ u long. sym (zero-of (den a (rails_at rails k).one (laid net u)) (den a (rails_at rails k).zero (laid net u)) (one.proper (laid net u))) ∙ ap (is_bit false) (signal-value k less (laid net u)) ∙ is.same u long;
+        }
+
+    pub known-bounded : {w : ℕ} → IsWide a.vars (IsLaid net) w → BoundsKnown a rails w
+    known-bounded wide k less =
+        wide.combinations (λ p q r. p || q) (den a (rails_at rails k).one) (den a (rails_at rails k).zero) (den a (rails_at rails k).zero) (one-laid k less) (zero-laid k less) (zero-laid k less)
+
+  -- ---- the steps of loops
+
+  working-made : (g : List Bool → Bool) → IsWorking net (loops_of net) points g → IsMade net g
+  working-made g is = record { of = g; listed = working-laid g is; by = λ x. x; same = λ x long. refl }
+
+  module _ (some : 0 < length net.gates) where
+    -- there is a function in the list, so that constants are made of it
+    record SomeWorking : Type 0 where
+      of : List Bool → Bool
+      is : IsWorking net (loops_of net) points of
+
+    some-working : SomeWorking
+    some-working = elim (cases_Bool ((loops_of net).same 0 0)) [
+      | inl looped ↦ record {
+        of = λ x. is_bit true (exact (value (gate_at net 0).cover) (read_in_sweep net (loops_of net) (points x) 0 0));
+        is = inr (record {
+          gate = 0;
+          within = some;
+          first = [];
+          short = omega arith;
+          bit = true;
+          read = λ x. read_in_sweep net (loops_of net) (points x) 0 0;
+          reads = inl (record { looped = looped; sweep = 0; few = omega arith; is = λ x. refl });
+          same = λ x. refl;
+        });
+      }
+      | inr plain ↦ record {
+        of = λ x. is_bit true (exact (value (gate_at net 0).cover) (read_at_fix net (points x) 0));
+        is = inr (record {
+          gate = 0;
+          within = some;
+          first = [];
+          short = omega arith;
+          bit = true;
+          read = λ x. read_at_fix net (points x) 0;
+          reads = inr (record { plain = plain; is = λ x. refl });
+          same = λ x. refl;
+        });
+      }
+    ]
+
+    constant-made : (b : Bool) (g : List Bool → Bool) → ((x : List Bool) → g x ≡ b) → IsMade net g
+    constant-made b g is = record { of = some-working.of; listed = working-laid some-working.of some-working.is; by = λ x. b; same = λ x long. is x }
+
+    -- the cut wires of a loop are of that loop, and so many for each
+    cut-is : (loops : Loops) → AreLoopsOf net loops → (gate n : ℕ) → Contains (cuts_of net loops gate) n → (loops.same n n ≡ true) × (cuts_of net loops n ≡ cuts_of net loops gate)
+    cut-is loops are gate n has =
+        let there = and_parts (loops.same gate n) (loops.cut n) (Contains-filter_from (λ m. loops.same gate m && loops.cut m) (range_with_len 0 (length net.gates)) n has).0 in
+        let back = same-sym net loops are gate n there.0 in (
+          same-trans net loops are n gate n back there.0,
+          ap (λ (same : ℕ → Bool). filter (λ m. same m && loops.cut m) (range_with_len 0 (length net.gates)))
+              (fun_ext (λ m. same_truth (loops.same n m) (loops.same gate m) (λ e. same-trans net loops are gate n m there.0 e) (λ e. same-trans net loops are n gate m back e))),
+        )
+
+    -- a cut wire after so many sweeps
+    swept-made : (gate n k : ℕ) (b : Bool) → Contains (cuts_of net (loops_of net) gate) n → k ≤ length (cuts_of net (loops_of net) gate) + 1 → IsMade net (λ x. is_bit b (value_in (sweeps net (loops_of net) (points x) k) n))
+    swept-made gate n zero b has few =
+        constant-made (is_bit b X) (λ x. is_bit b (value_in (sweeps net (loops_of net) (points x) zero) n))
+        (λ x.
+        let within = same_within net (loops_of net) (loops_exist net) n n (cut-is (loops_of net) (loops_exist net) gate n has).0 in
+        ap (is_bit b) (get_or-replicate {A = Trit} (length net.gates) n X X within))
+    swept-made gate n (suc k) b has few =
+        let is = cut-is (loops_of net) (loops_exist net) gate n has in
+        let same = ap length is.1 in
+        working-made (λ x. is_bit b (value_in (sweeps net (loops_of net) (points x) (suc k)) n))
+        (sweeps_are_working net (loops_of net) (loops_exist net) points n k is.0 (omega (arith, few, same)) b)
+
+    module _ (a : Arena) (blocks : Blocks) (cut : Cut) (are : AreBlocksOf net blocks) (cut_is : IsCutOf net cut) where
+      -- a rail of a step
+      module _ (loop : SweptLoop) (steps : AreStepsOf net blocks cut a points loop) (node : Node) (is : IsStepNode loop.steps node) where
+        abbrev gate : ℕ
+        gate = get_or (block_at blocks loop.block).gates 0 0
+
+        gate-there : Contains (block_at blocks loop.block).gates (get_or (block_at blocks loop.block).gates 0 0)
+        gate-there =
+            let filled = are.filled loop.block steps.block.within in
+            (0, filled, get_or_default (block_at blocks loop.block).gates 0 (get_or (block_at blocks loop.block).gates 0 0) 0 filled)
+
+        -- the numbers of the step and of the rail in it
+        abbrev step : ℕ
+        step = is.among.0
+
+        abbrev place : ℕ
+        place = is.within.0
+
+        step-is : step_at loop.steps is.among.0 ≡ is.step
+        step-is = get_or_default loop.steps is.among.0 [] is.step is.among.1 ∙ is.among.2
+
+        values-are : (v : List Bool) → values_of a is.step v ≡ cuts net (loops_of net) (points v) gate step
+        values-are v =
+            ap (λ (rails : List Rails). values_of a rails v) (sym step-is)
+            ∙ steps.each gate step v gate-there is.among.1
+            ∙ ap (λ (l : Loops). cuts net l (points v) gate step) (loops-are net blocks cut are cut_is)
+
+        width : length is.step ≡ length (cuts_of net (loops_of net) gate)
+        width =
+            sym (length-map {B = Trit} is.step (λ r. value_of a r []))
+            ∙ ap length (values-are [])
+            ∙ length-map {B = Trit} (cuts_of net (loops_of net) gate) (value_in (sweeps net (loops_of net) (points []) step))
+
+        abbrev wire : ℕ
+        wire = get_or (cuts_of net (loops_of net) gate) place 0
+
+        wire-there : Contains (cuts_of net (loops_of net) gate) (get_or (cuts_of net (loops_of net) gate) is.within.0 0)
+        wire-there =
+            let inside = is.within.1 in
+            let wide = width in
+            let within : is.within.0 < length (cuts_of net (loops_of net) gate) = omega (arith, inside, wide) in
+            (is.within.0, within, get_or_default (cuts_of net (loops_of net) gate) is.within.0 (get_or (cuts_of net (loops_of net) gate) is.within.0 0) 0 within)
+
+        rail-value : (v : List Bool) → value_of a is.rails v ≡ value_in (sweeps net (loops_of net) (points v) step) wire
+        rail-value v =
+            let inside = is.within.1 in
+            let wide = width in
+            ap (λ (r : Rails). value_of a r v) (sym is.within.2)
+            ∙ sym (get_or-map (λ (r : Rails). value_of a r v) is.step place is.rails X inside)
+            ∙ ap (λ (ts : List Trit). get_or ts place X) (values-are v)
+            ∙ get_or-map (value_in (sweeps net (loops_of net) (points v) step)) (cuts_of net (loops_of net) gate) place 0 X (omega (arith, inside, wide))
+
+        rail-made : (b : Bool) → IsMade net (λ v. is_bit b (value_of a is.rails v))
+        rail-made b =
+            let within = is.among.1 in
+            let few = steps.few in
+            let wires : length loop.cuts ≡ length (cuts_of net (loops_of net) gate) =
+            ap length (steps.wires gate gate-there) ∙ ap (λ (l : Loops). length (cuts_of net l gate)) (loops-are net blocks cut are cut_is) in
+            let m = swept-made gate wire step b wire-there (omega (arith, within, few, wires)) in
+            record { of = m.of; listed = m.listed; by = m.by; same = λ v long. ap (is_bit b) (rail-value v) ∙ m.same v long }
+
+        step-made : IsMade net (den a node)
+        step-made =
+            let all : All (AreRailsOf a) is.step = All-contains (All (AreRailsOf a)) loop.steps is.step steps.rails is.among in
+            let proper : AreRailsOf a is.rails = All-contains (AreRailsOf a) is.step is.rails all is.within in
+            elim is.is [
+              | inl e ↦
+                  let m = rail-made true in
+                  record { of = m.of; listed = m.listed; by = m.by; same = λ v long. ap (λ (n : Node). den a n v) e ∙ sym (one-of (den a is.rails.one v) (den a is.rails.zero v)) ∙ m.same v long }
+              | inr e ↦
+                  let m = rail-made false in
+                  record { of = m.of; listed = m.listed; by = m.by; same = λ v long. ap (λ (n : Node). den a n v) e ∙ sym (zero-of (den a is.rails.one v) (den a is.rails.zero v) (proper.proper v)) ∙ m.same v long }
+            ]
+
+      compared-made : (set : Node) (solved : Solved) → ((v : List Bool) → den a set v ≡ true) → All (AreKeptSteps net blocks cut a points) solved.loops → (g : List Bool → Bool) → IsComparedIn a set solved.loops g → IsMade net g
+      compared-made set solved everywhere all g is = elim is.of [
+        | inl e ↦ constant-made true g (λ v. is.same v ∙ ap (λ (n : Node). den a n v) e ∙ everywhere v)
+        | inr at ↦
+            let m = step-made (loop_under a at.loop) (All-contains (AreKeptSteps net blocks cut a points) solved.loops at.loop all at.among).steps is.node at.node in
+            record { of = m.of; listed = m.listed; by = m.by; same = λ v long. is.same v ∙ m.same v long }
+      ]
+
+      pub compared-wide : (set : Node) (solved : Solved) {w : ℕ} → a.vars ≡ first_gate net → ((v : List Bool) → den a set v ≡ true) → All (AreKeptSteps net blocks cut a points) solved.loops → IsWide a.vars (IsLaid net) w →
+          IsWide a.vars (IsComparedIn a set solved.loops) w
+      compared-wide set solved {w} vars everywhere all wide =
+          subst (λ n. IsWide n (IsComparedIn a set solved.loops) w) (sym vars)
+          (IsWide-fewer (IsMade net) (IsComparedIn a set solved.loops) w (compared-made set solved everywhere all) (made-wide net (subst (λ n. IsWide n (IsLaid net) w) vars wide)))
+
+-- where rails are known, in a store that has grown
+pub known-kept : {s t : Arena} (r : Rails) → KeepsNodes s t → AreRailsOf s r → nodes t.vars (disjunction t r.one r.zero) ≡ nodes s.vars (disjunction s r.one r.zero)
+known-kept {s} {t} r keeps proper =
+    ap (λ (n : ℕ). nodes n (disjunction t r.one r.zero)) keeps.vars
+    ∙ nodes-alike s.vars (disjunction t r.one r.zero) (disjunction s r.one r.zero) (λ x long. ap₂ (λ p q. p || q) (keeps.function r.one x proper.one) (keeps.function r.zero x proper.zero))
+
+-- ---- what a solved netlist costs
+
+pub asked-grows : {r : Result Bool StoreFault} {a t : Arena} {blocks : Blocks} {solved : Solved} (is : IsSolvedNetlist a blocks solved) (kept : List KeptRails) → kept ≡ solved.rails →
+    GrowsWithin r a t NoOtherCause (BoundsKnown a (map (rails_under a) kept)) (length kept) → GrowsWithin r a t NoOtherCause (IsWide a.vars (IsLaid is.net)) (count is.net)
+asked-grows {r} {a} {t} {blocks} {solved} is kept same grows =
+    let size = rails-size is.net is.points is.points_are a (map (rails_under a) solved.rails) is.solution.rails is.solution.vector is.solution.values in
+    let long = length-map {B = Rails} solved.rails (rails_under a) in
+    within_more (omega (arith, size, long))
+    (within_moved (λ w wide. known-bounded is.net is.points is.points_are a (map (rails_under a) solved.rails) is.solution.rails is.solution.vector is.solution.values wide)
+    (subst (λ (xs : List KeptRails). GrowsWithin r a t NoOtherCause (BoundsKnown a (map (rails_under a) xs)) (length xs)) same grows))
+
+abbrev pub solved-is : (net : Parts) (blocks : Blocks) (cut : Cut) (a d : Arena) (given : List KeptRails) (solved : Solved) → IsNetlist net → 0 < length net.gates → AreBlocksOf net blocks → IsCutOf net cut → a.vars ≡ first_gate net → d.vars ≡ a.vars →
+    AreColumns a (order net) (map (rails_under a) given) → IsSolution net blocks cut d (values_under a given) solved → IsSolvedNetlist d blocks solved
+solved-is net blocks cut a d given solved valid some are cut_is vars same columns solution = record {
+  net = net;
+  cut = cut;
+  points = values_under a given;
+  valid = valid;
+  some = some;
+  vars = same ∙ vars;
+  blocks_are = are;
+  cut_is = cut_is;
+  points_are = λ u wide. columns.values u (wide ∙ sym vars);
+  solution = solution;
+}
+
+-- the columns, and then the fixpoint
+pub solution-adds : {T U : Type 0} {r : Result T StoreFault} {q : Result U StoreFault} {s a d : Arena} (net : Parts) (blocks : Blocks) (cut : Cut) (given : List KeptRails) → AreBlocksOf net blocks → IsCutOf net cut → s.vars ≡ first_gate net → a.vars ≡ s.vars → a.limit ≡ s.limit →
+    AreColumns a (order net) (map (rails_under a) given) → AddsWithin r s a NoOtherCause (λ w. s.vars + 1 ≤ w) 2 →
+    AddsWithin q a d (HasLargeCover net) (IsWide a.vars (IsWorking net (loops_by blocks cut) (values_under a given))) (10 * (length net.gates + 2) * effort net) →
+    AddsWithin q s d (HasLargeCover net) (IsWide s.vars (IsLaid net)) (2 + 10 * (length net.gates + 2) * effort net)
+solution-adds {s = s} {a = a} net blocks cut given are cut_is vars same limit columns before adds =
+    adds_then limit (adds_moved (λ w wide. wide.variables) before)
+    (adds_moved (λ w wide.
+    working-wide net (values_under a given) (λ u long. columns.values u (long ∙ sym vars ∙ sym same)) a.vars (same ∙ vars) (loops_by blocks cut) (loops-are net blocks cut are cut_is)
+    (subst (λ (n : ℕ). IsWide n (IsLaid net) w) (sym same) wide)) adds)
+
+-- ---- the sum
+
+-- each gate counts one at least
+gates-effort : (gates : List Gate) → length gates ≤ sum_by (λ gate. size gate.cover + 1) gates
+gates-effort [] = omega arith
+gates-effort (gate ∷ gates) =
+    let rest = gates-effort gates in
+    let sum = sum_by-cons (λ (g : Gate). size g.cover + 1) gate gates in
+    omega (arith, rest, sum)
+
+sum-enough : (v gates effort : ℕ) → gates ≤ effort → 2 + (10 * (gates + 2) * effort + (v + gates + 6 * gates * (gates + 2))) ≤ 16 * (gates + 2) * (effort + v + 4)
+sum-enough v gates effort less =
+    let squares : gates * gates ≤ gates * effort = mul-le-mul_left {m = gates} {n = effort} gates less in
+    omega (arith, less, squares)
+
+-- settling costs no more than is enough
+pub cost-enough : (net : Parts) (w : ℕ) → w * settling_cost net ≤ enough net w
+cost-enough net w =
+    let most : ℕ = 16 * (length net.gates + 2) * (effort net + first_gate net + 4) in
+    let all = mul-le-mul_left {m = settling_cost net} {n = most} w (sum-enough (first_gate net) (length net.gates) (effort net) (gates-effort net.gates)) in
+    omega (arith, all)
+
+effort-enough : (limit e w gates v : ℕ) → limit < e → v + 1 ≤ w → limit < 16 * w * (gates + 2) * (e + v + 4)
+effort-enough limit e w gates v less wide =
+    let one : 1 * e ≤ w * e = mul-le-mul_right {m = 1} {n = w} e (omega (arith, wide)) in
+    omega (arith, less, wide, one)
+
+-- where a cover has more nodes than the limit, so has what is enough
+pub over-enough : (net : Parts) (w limit : ℕ) → IsWide (first_gate net) (IsLaid net) w → HasLargeCover net limit → limit < enough net w
+over-enough net w limit wide is =
+    let over = is.over in
+    let most = get_or-le-sum_by (λ (g : Gate). size g.cover + 1) net.gates is.gate no_gate is.within in
+    effort-enough limit (effort net) w (length net.gates) (first_gate net) (omega (arith, over, most)) wide.variables
+
+-- a solution that finds new diagrams full
+pub full-below : {T : Type 0} {r : Result T StoreFault} (net : Parts) (budget : ℕ) (s t : Arena) (vars : ℕ) → s ≡ empty vars budget → vars ≡ first_gate net → t.limit ≡ s.limit → AddsWithin r s t (HasLargeCover net) (IsWide s.vars (IsLaid net)) (settling_cost net) →
+    r ≡ Err Full → IsBelowEnough net budget
+full-below net budget s t vars is width limit adds full = record {
+  below = λ w wide.
+      let limits : s.limit ≡ budget = ap (λ (a : Arena). a.limit) is in
+      let none : length s.entries ≡ 0 = ap (λ (a : Arena). length a.entries) is in
+      let most = cost-enough net w in
+      elim (adds.full w (subst (λ (n : ℕ). IsWide n (IsLaid net) w) (sym (ap (λ (a : Arena). a.vars) is ∙ width)) wide) full) [
+        | inl large ↦ over-enough net w budget wide (subst (HasLargeCover net) limits large)
+        | inr past ↦ (let p = past.past in omega (arith, p, none, limit, limits, most))
+      ];
+}
