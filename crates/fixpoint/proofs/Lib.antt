@@ -4,6 +4,7 @@ pub mod WireLemmas
 mod SweepLemmas
 pub mod CutLemmas
 mod LoopLemmas
+mod PlanLemmas
 mod BlockLemmas
 mod MinimumLemmas
 pub mod WorkLemmas

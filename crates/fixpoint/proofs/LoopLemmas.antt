@@ -1,5 +1,5 @@
 -- Sweep by sweep to the fixpoint of a loop.
-use Rattle.std.proofs.Common.{◌≡◌, inl, inr, ℕ, suc, ◌+◌, ◌-◌, ◌<◌, ◌≤◌, Bool, true, false, Result, Ok, Err, is_ok, is_err, if◌then◌else◌, List, [], ◌∷◌, ◌++◌, length, map, filter, take, get_or, sym, ap, ◌∙◌, subst, arith, Contains, true≢false}
+use Rattle.std.proofs.Common.{◌≡◌, inl, inr, ℕ, suc, ◌+◌, ◌-◌, ◌<◌, ◌≤◌, Bool, true, false, Result, Ok, Err, is_ok, is_err, if◌then◌else◌, List, [], ◌∷◌, ◌++◌, length, map, filter, take, get_or, refl, sym, ap, ◌∙◌, subst, arith, Contains, true≢false}
 use Rattle.std.proofs.lemmas.Bool.{cases_lt, cases_eq}
 use Rattle.std.proofs.lemmas.List.{get_or_append_left, get_or_push, length_push, get_or_default, get_or-take, get_or-replicate, length-take, ext_get_or}
 use Rattle.std.proofs.lemmas.List.Elements.{All-push, All-map}
@@ -26,6 +26,7 @@ use Rattle.loops.proofs.Told.{gate_home, home_gate, blocks_tell_loops}
 use Rattle.fixpoint.specs.declared.solved.SweptLoop.{SweptLoop}
 use Rattle.fixpoint.specs.Solved.{Vectors, IsLoopAt, AreStepsOf, step_at}
 use Rattle.fixpoint.specs.Sweeping.{unknown, rails_at, AreWires, IsSolvedBelow, AreFresh, CutsAre, AreSwept, OthersStay, after_sweeps}
+use Rattle.fixpoint.specs.Underway.{IsUnderway, IsAtRest}
 use Rattle.fixpoint.proofs.WireLemmas.{rails_at-proper, map-map, unknown-value}
 use Rattle.fixpoint.proofs.CutLemmas.{cuts-are, in-cuts, from-cuts, fixed-at, one-block, rails-canonical}
 
@@ -33,15 +34,6 @@ use Rattle.fixpoint.proofs.CutLemmas.{cuts-are, in-cuts, from-cuts, fixed-at, on
 pub pushed : {T E Y : Type 0} (r : Result Y E) (xs ys zs : List T) → false ≡ is_err r → xs ≡ (if is_ok r then ys else zs) → xs ≡ ys
 pushed (Ok x) xs ys zs e h = h
 pushed (Err x) xs ys zs e h = absurd (true≢false (sym e))
-
--- a loop after as many sweeps as it has steps
-pub record IsUnderway (net : Parts) (blocks : Blocks) (cut : Cut) (a : Arena) (v : Vectors) (b : ℕ) (cuts : List ℕ) (steps : List (List Rails)) (before rails : List Rails) : Type 0 where
-  pub solved : IsSolvedBelow net blocks cut a v b before rails
-  pub cuts_are : CutsAre net blocks cut a (after_sweeps net blocks cut v (length steps)) b before
-  pub fresh : AreFresh net blocks (b + 1) before
-  pub each : (j : ℕ) (bits : List Bool) → j < length steps → values_of a (step_at steps j) bits ≡ map (value_in (after_sweeps net blocks cut v j bits)) cuts
-  pub proper : All (All (AreRailsOf a)) steps
-  pub few : length steps ≤ length cuts
 
 module _ (net : Parts) (blocks : Blocks) (cut : Cut) (are : AreBlocksOf net blocks) (cut_is : IsCutOf net cut) (b : ℕ) (loop : IsLoopAt blocks b) (v : Vectors)
     (order : List ℕ) (is_order : IsOrderOf net (is_cut cut.wires) (block_at blocks b).gates order) where
@@ -166,7 +158,7 @@ module _ (net : Parts) (blocks : Blocks) (cut : Cut) (are : AreBlocksOf net bloc
           (j, inside, get_or_default (cuts_of net (loops_by blocks cut) n) j (get_or (cuts_of net (loops_by blocks cut) n) j none) none inside))) in
           still_is_fix net (loops_by blocks cut) (blocks_tell_loops net blocks cut are cut_is) (v bits) (underway.solved.vector bits) n (length steps) same n (one-block net blocks are cut b loop n n less home less home)
 
-      pub solved-next : IsSolvedBelow net blocks cut e v (b + 1) before after
+      solved-next : IsSolvedBelow net blocks cut e v (b + 1) before after
       solved-next =
           let before_this = solved-swept d e before rails after keeps underway.solved others wires in
           record {
@@ -185,7 +177,7 @@ module _ (net : Parts) (blocks : Blocks) (cut : Cut) (are : AreBlocksOf net bloc
             ];
           }
 
-      pub steps-are : (found : SweptLoop) → found.block ≡ b → found.cuts ≡ cuts → found.steps ≡ steps ++ map (rails_at before) cuts ∷ [] → AreStepsOf net blocks cut e v found
+      steps-are : (found : SweptLoop) → found.block ≡ b → found.cuts ≡ cuts → found.steps ≡ steps ++ map (rails_at before) cuts ∷ [] → AreStepsOf net blocks cut e v found
       steps-are found block_is cuts_is steps_is =
           let pushes = length_push steps (map (rails_at before) cuts) in
           let long : length found.steps ≡ length steps + 1 = ap length steps_is ∙ pushes in
@@ -215,6 +207,9 @@ module _ (net : Parts) (blocks : Blocks) (cut : Cut) (are : AreBlocksOf net bloc
             some = omega (arith, long);
             few = let size : length found.cuts ≡ length cuts = ap length cuts_is in omega (arith, long, few, size);
           }
+
+      pub at-rest : IsAtRest net blocks cut e v b cuts (steps ++ map (rails_at before) cuts ∷ []) before after
+      at-rest = record { solved = solved-next; fresh = underway.fresh; steps_are = steps-are (record { block = b; cuts = cuts; steps = steps ++ map (rails_at before) cuts ∷ [] }) refl refl refl }
 
     -- else the loop goes on, from the cut wires as they are now
     pub underway-next : (before2 : List Rails) → ((n : ℕ) → Contains cuts n → rails_at before2 n ≡ rails_at after (first_gate net + n)) → ((n : ℕ) → ¬ Contains cuts n → rails_at before2 n ≡ rails_at before n)

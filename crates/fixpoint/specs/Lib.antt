@@ -1,6 +1,8 @@
 pub mod Kept
 pub mod Solved
 pub mod Sweeping
+pub mod Underway
+pub mod Plans
 pub mod Lifting
 pub mod Counts
 pub mod Working

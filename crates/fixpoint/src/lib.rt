@@ -7,13 +7,17 @@
 //! vector, and `sweeps` for each loop the least number of sweeps after which it stands still on a care set.
 #![tactic(auto)]
 
+mod clearing;
 mod counting;
+mod keeping;
 mod kept;
 pub mod laws;
 mod layout;
 mod lifting;
+mod locals;
 mod solved;
 mod solving;
+mod sweeping;
 mod wires;
 
 pub use counting::sweeps;

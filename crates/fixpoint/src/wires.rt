@@ -1,11 +1,11 @@
 //! The wires of a netlist while it is solved, and the lifting of one gate.
 
-ghost use Rattle.std.specs.Prelude.{◌≡◌, ◌<◌, ◌+◌, ◌*◌, ◌++◌, List, Bool, length, map, replicate, All, IfOk, OnOk};
-ghost use Rattle.bdd_store.specs.Growth.{GrowsWithin};
+ghost use Rattle.std.specs.Prelude.{◌≡◌, ◌<◌, ◌≤◌, ◌+◌, ◌*◌, ◌++◌, List, Bool, length, map, replicate, All, IfOk, OnOk};
+ghost use Rattle.bdd_store.specs.Growth.{GrowsWithin, NoOtherCause};
 ghost use Rattle.cover_logic.specs.Covers.{value as cover_value};
 ghost use Rattle.cover_logic.specs.Extensions.{ext};
 ghost use Rattle.dual_rail.specs.Rails.{AreRailsOf, value_of, values_of};
-ghost use Rattle.dual_rail.specs.Local.{size};
+ghost use Rattle.dual_rail.specs.Local.{IsDiagramOf, size};
 ghost use Rattle.dual_rail.specs.WorkingLists.{BoundsEach, IsExtended};
 ghost use Rattle.netlist.specs.Netlists.{IsNetlist, IsSignal, gate_at};
 ghost use Rattle.loops.specs.Sweeps.{first_gate};
@@ -14,8 +14,8 @@ ghost use Rattle.fixpoint.specs.Working.{HasLargeCover};
 
 use bdd_ops::Diagrams;
 use bdd_store::{Node, StoreFault};
-use cyc_base::Sig;
-use dual_rail::{Rails, lift, local, sizes};
+use cyc_base::{MAX_NODES, Sig};
+use dual_rail::{LocalDiagram, Rails, lift, local, sizes};
 use loops::Cut;
 use netlist::Netlist;
 use std::alloc::{AllocError, Global};
@@ -88,6 +88,43 @@ fn pins_read(
         .collect(alloc)
 }
 
+/// The diagram of a gate's cover. `Full` comes only where the cover has a size over the limit.
+pub(crate) fn local_of(
+    alloc: Global,
+    net: &Netlist,
+    gate: u32,
+    limit: u32,
+) -> Result<LocalDiagram, StoreFault>
+    requires gate { gate < length net.now.gates }
+    requires limit { limit ≤ MAX_NODES }
+    ensures diagram { IfOk result (λ l. IsDiagramOf l (gate_at net.now gate).cover) }
+    ensures full { result ≡ Err StoreFault.Full → HasLargeCover net.now limit }
+{
+    local(alloc, &net.gate(gate).cover, limit)
+}
+
+/// The rails of a gate's cover on those of its pins, by the cover's diagram.
+fn lift_cover(
+    alloc: Global,
+    d: &mut Diagrams,
+    net: &Netlist,
+    gate: u32,
+    diagram: &LocalDiagram,
+    pins: &[Rails],
+) -> Result<Rails, StoreFault>
+    requires gate { gate < length net.now.gates }
+    requires diagram { IsDiagramOf diagram.now (gate_at net.now gate).cover }
+    requires pins { length pins.now ≡ length (gate_at net.now gate).pins }
+    requires rails { All (AreRailsOf d.old) pins.now }
+    ensures rails { IfOk result (AreRailsOf d.new) }
+    ensures value { IfOk result (λ r. (bits : List Bool) → value_of d.new r bits ≡ ext (gate_at net.now gate).cover (values_of d.old pins.now bits)) }
+    ensures grows { GrowsWithin result d.old d.new NoOtherCause (BoundsEach d.old.vars (IsExtended d.old pins.now (cover_value (gate_at net.now gate).cover))) (2 * size (gate_at net.now gate).cover) }
+{
+    sizes();
+    let _gate = net.gate(gate);
+    lift(alloc, d, diagram, pins)
+}
+
 /// The rails of a gate's cover on those of its pins.
 pub(crate) fn gate_rails(
     alloc: Global,
@@ -103,10 +140,38 @@ pub(crate) fn gate_rails(
     ensures value { IfOk result (λ r. (bits : List Bool) → value_of d.new r bits ≡ ext (gate_at net.now gate).cover (values_of d.old pins.now bits)) }
     ensures grows { GrowsWithin result d.old d.new (HasLargeCover net.now) (BoundsEach d.old.vars (IsExtended d.old pins.now (cover_value (gate_at net.now gate).cover))) (2 * size (gate_at net.now gate).cover) }
 {
-    sizes();
-    let diagram = local(alloc, &net.gate(gate).cover, d.store().limit())?;
-    let rails = lift(alloc, d, &diagram, pins)?;
+    let diagram = local_of(alloc, net, gate, d.store().limit())?;
+    let rails = lift_cover(alloc, d, net, gate, &diagram, pins)?;
     Ok(rails)
+}
+
+/// Sets a gate to the rails of its cover on what it reads, by the cover's diagram.
+pub(crate) fn set_by_diagram(
+    alloc: Global,
+    d: &mut Diagrams,
+    net: &Netlist,
+    cut: &Cut,
+    before: &[Rails],
+    rails: &mut [Rails],
+    gate: u32,
+    diagram: &LocalDiagram,
+) -> Result<(), StoreFault>
+    requires gate { gate < length net.now.gates }
+    requires diagram { IsDiagramOf diagram.now (gate_at net.now gate).cover }
+    requires cut { length cut.now.wires ≡ length net.now.gates }
+    requires wires { AreWires net.now d.old before.now rails.old }
+    ensures valid { IsNetlist net.now }
+    ensures set { OnOk result (IsGateSet net.now cut.now d.old d.new before.now rails.old rails.new gate) }
+    ensures grows { GrowsWithin result d.old d.new NoOtherCause
+        (BoundsEach d.old.vars (IsExtended d.old (map (rails_read_of net.now cut.now before.now rails.old) (gate_at net.now gate).pins) (cover_value (gate_at net.now gate).cover)))
+        (2 * size (gate_at net.now gate).cover) }
+{
+    let Ok(pins) = pins_read(alloc, net, cut, before, rails, net.gate(gate).pins.items()) else {
+        return Err(StoreFault::Memory);
+    };
+    let made = lift_cover(alloc, d, net, gate, diagram, &pins)?;
+    rails[(net.inputs() + net.latches() + gate) as usize] = made;
+    Ok(())
 }
 
 /// Sets a gate to the rails of its cover on what it reads.
@@ -128,10 +193,7 @@ pub(crate) fn set_gate(
         (BoundsEach d.old.vars (IsExtended d.old (map (rails_read_of net.now cut.now before.now rails.old) (gate_at net.now gate).pins) (cover_value (gate_at net.now gate).cover)))
         (2 * size (gate_at net.now gate).cover) }
 {
-    let Ok(pins) = pins_read(alloc, net, cut, before, rails, net.gate(gate).pins.items()) else {
-        return Err(StoreFault::Memory);
-    };
-    let made = gate_rails(alloc, d, net, gate, &pins)?;
-    rails[(net.inputs() + net.latches() + gate) as usize] = made;
-    Ok(())
+    let _gate = net.gate(gate);
+    let diagram = local_of(alloc, net, gate, d.store().limit())?;
+    set_by_diagram(alloc, d, net, cut, before, rails, gate, &diagram)
 }

@@ -1,0 +1,53 @@
+-- What a loop is swept by: the diagrams of its gates' covers, gate by gate.
+use Rattle.std.proofs.Common.{◌≡◌, inl, inr, ℕ, ◌<◌, List, [], ◌∷◌, ◌++◌, length, get_or, refl, sym, ap, ◌∙◌, subst, arith}
+use Rattle.std.proofs.lemmas.Bool.{cases_lt}
+use Rattle.std.proofs.lemmas.List.{get_or_append_left, get_or_push, length_push, get_or_default}
+use Rattle.std.specs.List.{All}
+use Rattle.dual_rail.specs.Local.{IsDiagramOf}
+use Rattle.netlist.specs.declared.parts.Parts.{Parts}
+use Rattle.netlist.specs.Netlists.{gate_at}
+use Rattle.fixpoint.specs.declared.locals.SharedDiagram.{SharedDiagram}
+use Rattle.fixpoint.specs.declared.locals.Locals.{Locals}
+use Rattle.fixpoint.specs.Plans.{HasDiagram, AreShared, AreLocalsOf}
+
+-- the latest diagram, and those before it
+pub diagram-new : (net : Parts) (shared : List SharedDiagram) (one : SharedDiagram) (n : ℕ) → IsDiagramOf one.diagram (gate_at net n).cover → HasDiagram net (shared ++ one ∷ []) n (length shared)
+diagram-new net shared one n is = record {
+  within = omega (arith, length_push shared one);
+  diagram = λ none. subst (λ (x : SharedDiagram). IsDiagramOf x.diagram (gate_at net n).cover) (sym (get_or_push shared one none (length shared) refl)) is;
+}
+
+pub diagram-stays : (net : Parts) (shared : List SharedDiagram) (one : SharedDiagram) (n place : ℕ) → HasDiagram net shared n place → HasDiagram net (shared ++ one ∷ []) n place
+diagram-stays net shared one n place has = record {
+  within = omega (arith, length_push shared one, has.within);
+  diagram = λ none. subst (λ (x : SharedDiagram). IsDiagramOf x.diagram (gate_at net n).cover) (sym (get_or_append_left shared (one ∷ []) none place has.within)) (has.diagram none);
+}
+
+-- one gate more
+pub locals-next : (net : Parts) (gates : List ℕ) (n place : ℕ) (old new : Locals) → AreLocalsOf net gates old → AreShared net new.shared.items
+    → ((m p : ℕ) → HasDiagram net old.shared.items m p → HasDiagram net new.shared.items m p) → new.places.items ≡ old.places.items ++ place ∷ [] → HasDiagram net new.shared.items n place
+    → AreLocalsOf net (gates ++ n ∷ []) new
+locals-next net gates n place old new are shared stay places has = record {
+  shared = shared;
+  width = ap length places ∙ longer;
+  each = λ i less. subst (λ (ps : List ℕ). HasDiagram net new.shared.items (get_or (gates ++ n ∷ []) i 0) (get_or ps i 0)) (sym places) (elim (cases_lt i (length gates)) [
+    | inl low ↦ subst (λ (m : ℕ). HasDiagram net new.shared.items m (get_or (old.places.items ++ place ∷ []) i 0)) (sym (get_or_append_left gates (n ∷ []) 0 i low))
+        (subst (HasDiagram net new.shared.items (get_or gates i 0)) (sym (get_or_append_left old.places.items (place ∷ []) 0 i (omega (arith, low, are.width)))) (stay (get_or gates i 0) (get_or old.places.items i 0) (are.each i low)))
+    | inr high ↦
+        let here : length gates ≡ i = omega (arith, less, high, length_push gates n) in
+        subst (λ (m : ℕ). HasDiagram net new.shared.items m (get_or (old.places.items ++ place ∷ []) i 0)) (sym (get_or_push gates n 0 i here))
+        (subst (HasDiagram net new.shared.items n) (sym (get_or_push old.places.items place 0 i (are.width ∙ here))) has)
+  ]);
+}
+  where
+    longer : length (old.places.items ++ place ∷ []) ≡ length (gates ++ n ∷ [])
+    longer = let a = length_push old.places.items place in let b = length_push gates n in omega (arith, a, b, are.width)
+
+-- a diagram of the list is one of those shared
+pub places-within : (net : Parts) (gates : List ℕ) (locals : Locals) → AreLocalsOf net gates locals → All (λ place. place < length locals.shared.items) locals.places.items
+places-within net gates locals are i none less =
+    subst (λ (p : ℕ). p < length locals.shared.items) (get_or_default locals.places.items i 0 none less) (are.each i (omega (arith, less, are.width))).within
+
+-- numbers below a bound are below one that is equal
+pub each-within : {xs ys : List ℕ} {m n : ℕ} → xs ≡ ys → m ≡ n → All (λ k. k < m) ys → All (λ k. k < n) xs
+each-within {xs} {ys} {m} {n} same bound all = subst (λ (zs : List ℕ). All (λ k. k < n) zs) (sym same) (subst (λ (x : ℕ). All (λ k. k < x) ys) bound all)

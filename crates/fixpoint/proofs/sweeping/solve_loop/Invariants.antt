@@ -1,0 +1,18 @@
+use Rattle.std.proofs.Common.{◌*◌, ◌-◌, length}
+use Rattle.bdd_store.proofs.GrowthLemmas.{HasGrown}
+use Rattle.dual_rail.specs.WorkingLists.{IsWide}
+use Rattle.loops.specs.Cuts.{loops_by}
+use Rattle.fixpoint.specs.Working.{IsWorking, order_cost}
+use Rattle.fixpoint.specs.Sweeping.{vectors, OthersStay}
+use Rattle.fixpoint.specs.Underway.{IsUnderway}
+use Rattle.fixpoint.proofs.sweeping.solve_loop.Given as goal
+
+abbrev pub invariant-loop-steps : goal.invariant-loop-steps
+invariant-loop-steps l = record {
+  grows : HasGrown l.fn.d l.d (IsWide l.fn.d.vars (IsWorking l.net (loops_by l.blocks l.cut) (vectors l.net l.fn.d l.fn.rails))) (2 * (length l.steps.items * order_cost l.net l.plan.order));
+  others : OthersStay l.net l.plan.order l.fn.rails l.rails;
+  underway : IsUnderway l.net l.blocks l.cut l.d (vectors l.net l.fn.d l.fn.rails) l.place l.plan.cuts l.steps.items l.before l.rails;
+}
+
+abbrev pub decreases-loop-steps : goal.decreases-loop-steps
+decreases-loop-steps l = length l.plan.cuts - length l.steps.items

@@ -1,0 +1,22 @@
+use Rattle.std.proofs.Common.{◌*◌, ◌≤◌, ℕ, length, filter, take}
+use Rattle.bdd_store.specs.Growth.{KeepsNodes}
+use Rattle.bdd_store.proofs.GrowthLemmas.{HasGrown}
+use Rattle.dual_rail.specs.WorkingLists.{IsWide}
+use Rattle.loops.specs.declared.structure.Blocks.{Blocks}
+use Rattle.loops.specs.Blocks.{block_at}
+use Rattle.loops.specs.Cuts.{is_cut, loops_by}
+use Rattle.fixpoint.specs.Solved.{Vectors}
+use Rattle.fixpoint.specs.Working.{IsWorking, order_cost}
+use Rattle.fixpoint.specs.Sweeping.{AreWires, IsSweepable, OthersStay, after_sweeps}
+use Rattle.fixpoint.proofs.SweepLemmas.{IsSweeping}
+use Rattle.fixpoint.proofs.sweeping.sweep.Given as goal
+
+abbrev pub invariant-loop-place : goal.invariant-loop-place
+invariant-loop-place l = record {
+  keeps : KeepsNodes l.fn.d l.d;
+  grows : (blocks : Blocks) (b k : ℕ) (v : Vectors) → IsSweepable l.net blocks l.cut l.fn.d v (after_sweeps l.net blocks l.cut v k) b l.order l.before l.fn.rails → k ≤ length (filter (is_cut l.cut.wires) (block_at blocks b).gates)
+      → HasGrown l.fn.d l.d (IsWide l.fn.d.vars (IsWorking l.net (loops_by blocks l.cut) v)) (2 * order_cost l.net (take l.place l.order));
+  wires : AreWires l.net l.d l.before l.rails;
+  others : OthersStay l.net (take l.place l.order) l.initial.rails l.rails;
+  swept : IsSweeping l.net l.cut l.order l.initial.d l.before l.initial.rails l.d l.rails l.place;
+}

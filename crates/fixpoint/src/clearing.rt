@@ -1,0 +1,105 @@
+//! Idle nodes are taken out between blocks.
+
+ghost use Rattle.std.specs.Prelude.{◌≡◌, ◌<◌, ◌≤◌, ◌+◌, ◌++◌, ℕ, None, length, map, All, IfOk, OnOk, IfSome};
+ghost use Rattle.netlist.specs.declared.parts.Parts.{Parts};
+ghost use Rattle.loops.specs.declared.structure.Blocks.{Blocks as TheBlocks};
+ghost use Rattle.loops.specs.declared.structure.Cut.{Cut as TheCut};
+ghost use Rattle.fixpoint.specs.Kept.{rails_under, AreKept, RootsStay};
+ghost use Rattle.fixpoint.specs.Sweeping.{rails_in, IsSolvedTo};
+
+use crate::kept::{KeptRails, rails_of};
+use crate::wires::{unknown, wires};
+use bdd_ops::Diagrams;
+use dual_rail::Rails;
+use std::alloc::{AllocError, Global};
+
+/// The fewest nodes at which idle ones are taken out while blocks are still to be solved.
+const LEAST_SWEPT: u32 = 4_096;
+
+/// Whether idle nodes are to be taken out: there may be as many of them as the last time left others.
+fn is_due(count: u32, left: u32) -> bool {
+    count >= LEAST_SWEPT && count / 2 >= left
+}
+
+/// The rails at a place, or those of X.
+fn rails_at_place(d: &Diagrams, place: &Option<KeptRails>) -> Rails
+    requires { IfSome place.now (AreKept d.now) }
+    ensures { result ≡ rails_in d.now place.now }
+{
+    match place {
+        Some(kept) => kept.rails(d),
+        None => unknown(),
+    }
+}
+
+/// The rails at these places.
+fn rails_at_places(
+    alloc: Global,
+    d: &Diagrams,
+    places: &[Option<KeptRails>],
+) -> Result<Vec<Rails>, AllocError>
+    requires { All (λ place. IfSome place (AreKept d.now)) places.now }
+    ensures { IfOk result (λ rails. rails.items ≡ map (rails_in d.now) places.now) }
+{
+    places
+        .iter()
+        .map(|place| rails_at_place(d, place))
+        .collect(alloc)
+}
+
+/// Takes out what no root reaches, and reads all wires anew.
+fn sweep_store(
+    alloc: Global,
+    d: &mut Diagrams,
+    given: &[KeptRails],
+    places: &[Option<KeptRails>],
+    before: &mut [Rails],
+    rails: &mut [Rails],
+) -> Result<(), AllocError>
+    requires given { All (AreKept d.old) given.now }
+    requires places { All (λ place. IfSome place (AreKept d.old)) places.now }
+    requires before { length before.old ≡ length places.now }
+    requires rails { length rails.old ≡ length given.now + length places.now }
+    ensures before { OnOk result (before.new ≡ map (rails_in d.new) places.now) }
+    ensures rails { OnOk result (rails.new ≡ map (rails_under d.new) given.now ++ before.new) }
+    ensures roots { RootsStay d.old d.new }
+    ensures fewer { length d.new.entries ≤ length d.old.entries }
+{
+    d.store().laws();
+    d.sweep()?;
+    d.store().laws();
+    let gates = rails_at_places(alloc, d, places)?;
+    let columns = rails_of(alloc, d, given)?;
+    let all = wires(alloc, &columns, &gates)?;
+    before.copy_from_slice(&gates);
+    rails.copy_from_slice(&all);
+    Ok(())
+}
+
+/// Takes out what no root reaches, where that is due. `left` is how many nodes there were after the last time, and
+/// the answer is how many there were after this one.
+pub(crate) fn sweep_if_due(
+    alloc: Global,
+    d: &mut Diagrams,
+    given: &[KeptRails],
+    places: &[Option<KeptRails>],
+    before: &mut [Rails],
+    rails: &mut [Rails],
+    left: u32,
+) -> Result<u32, AllocError>
+    requires given { All (AreKept d.old) given.now }
+    requires places { All (λ place. IfSome place (AreKept d.old)) places.now }
+    requires before { length before.old ≡ length places.now }
+    requires rails { length rails.old ≡ length given.now + length places.now }
+    ensures solved { (net : Parts) (blocks : TheBlocks) (cut : TheCut) (b : ℕ) → IsSolvedTo net blocks cut d.old given.now b before.old rails.old places.now →
+        OnOk result (IsSolvedTo net blocks cut d.new given.now b before.new rails.new places.now) }
+    ensures roots { RootsStay d.old d.new }
+    ensures fewer { length d.new.entries ≤ length d.old.entries }
+{
+    d.store().laws();
+    if !is_due(d.store().count(), left) {
+        return Ok(left);
+    }
+    sweep_store(alloc, d, given, places, before, rails)?;
+    Ok(d.store().count())
+}

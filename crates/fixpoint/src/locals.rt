@@ -1,0 +1,231 @@
+//! The diagrams of the covers of many gates, each different cover's made once.
+
+ghost use Rattle.std.specs.Prelude.{◌≡◌, ◌<◌, ◌≤◌, ◌++◌, ◌∷◌, [], ℕ, true, List, length, All, IfOk, OnOk, IfSome, slice_index};
+ghost use Rattle.dual_rail.specs.Local.{IsDiagramOf};
+ghost use Rattle.netlist.specs.declared.parts.Parts.{Parts};
+ghost use Rattle.netlist.specs.Netlists.{gate_at};
+ghost use Rattle.fixpoint.specs.Plans.{HasDiagram, AreShared, AreLocalsOf};
+ghost use Rattle.fixpoint.specs.Working.{HasLargeCover};
+
+use crate::wires::local_of;
+use bdd_store::StoreFault;
+use cover_logic::{Cover, Lit, Row};
+use cyc_base::MAX_NODES;
+use dual_rail::LocalDiagram;
+use netlist::Netlist;
+use std::alloc::Global;
+use std::collections::HashMap;
+
+/// The diagram of a gate's cover, which serves each gate that has an equal one.
+#[derive(Drop)]
+pub struct SharedDiagram {
+    pub(crate) gate: u32,
+    pub(crate) diagram: LocalDiagram,
+}
+
+/// The diagrams of the covers of a list of gates, over their pins.
+#[derive(Drop)]
+pub struct Locals {
+    /// Those of different covers.
+    pub(crate) shared: Vec<SharedDiagram>,
+    /// For each gate of the list the place of its cover's among them.
+    pub(crate) places: Vec<usize>,
+    // For numbers of covers, the place of the last that has it.
+    latest: HashMap<u64, usize>,
+}
+
+/// One step of a hash (Fowler, Noll and Vo).
+fn hash_step(hash: u64, value: u64) -> u64 {
+    (hash ^ value).wrapping_mul(0x0100_0000_01b3)
+}
+
+fn hash_literal(hash: u64, lit: Lit) -> u64 {
+    match lit {
+        Lit::Zero => hash_step(hash, 0),
+        Lit::One => hash_step(hash, 1),
+        Lit::Any => hash_step(hash, 2),
+    }
+}
+
+fn hash_row(hash: u64, lits: &[Lit]) -> u64 {
+    let mut hash = hash;
+    for lit in lits {
+        hash = hash_literal(hash, *lit);
+    }
+    hash
+}
+
+/// A number by which equal covers are found. Others may have it too.
+fn hash_cover(cover: &Cover) -> u64 {
+    let mut hash = hash_step(cover.pins() as u64, cover.plane() as u64);
+    for row in cover.rows() {
+        hash = hash_row(hash, row.lits.items());
+    }
+    hash
+}
+
+/// Whether these literals are the same.
+fn are_equal_literals(lits: &[Lit], others: &[Lit]) -> bool
+    ensures { result ≡ true → lits.now ≡ others.now }
+{
+    if lits.len() != others.len() {
+        return false;
+    }
+    for place in 0..lits.len() {
+        if lits[place] != others[place] {
+            return false;
+        }
+    }
+    true
+}
+
+/// Whether these rows are the same.
+fn are_equal_rows(rows: &[Row], others: &[Row]) -> bool
+    ensures { result ≡ true → rows.now ≡ others.now }
+{
+    if rows.len() != others.len() {
+        return false;
+    }
+    for place in 0..rows.len() {
+        if !are_equal_literals(rows[place].lits.items(), others[place].lits.items()) {
+            return false;
+        }
+    }
+    true
+}
+
+/// Whether these covers are the same.
+fn are_equal(cover: &Cover, other: &Cover) -> bool
+    ensures { result ≡ true → cover.now ≡ other.now }
+{
+    cover.pins() == other.pins()
+        && cover.plane() == other.plane()
+        && are_equal_rows(cover.rows(), other.rows())
+}
+
+/// Whether a place has the diagram of a cover that equals the gate's.
+fn serves(net: &Netlist, shared: &[SharedDiagram], place: usize, gate: u32) -> bool
+    requires gate { gate < length net.now.gates }
+    requires shared { AreShared net.now shared.now }
+    ensures { result ≡ true → HasDiagram net.now shared.now gate place }
+{
+    if place >= shared.len() {
+        return false;
+    }
+    are_equal(&net.gate(shared[place].gate).cover, &net.gate(gate).cover)
+}
+
+/// The place of the diagram of an equal cover, where it is the last that has this number.
+fn find_shared(net: &Netlist, locals: &Locals, gate: u32, hash: u64) -> Option<usize>
+    requires gate { gate < length net.now.gates }
+    requires shared { AreShared net.now locals.now.shared.items }
+    ensures { IfSome result (HasDiagram net.now locals.now.shared.items gate) }
+{
+    let place = locals.latest.get(&hash).copied()?;
+    if serves(net, &locals.shared, place, gate) {
+        return Some(place);
+    }
+    None
+}
+
+/// Makes the diagram of a gate's cover, and gives its place.
+fn add_shared(
+    alloc: Global,
+    net: &Netlist,
+    locals: &mut Locals,
+    gate: u32,
+    hash: u64,
+    limit: u32,
+) -> Result<usize, StoreFault>
+    requires gate { gate < length net.now.gates }
+    requires limit { limit ≤ MAX_NODES }
+    requires shared { AreShared net.now locals.old.shared.items }
+    ensures place { IfOk result (HasDiagram net.now locals.new.shared.items gate) }
+    ensures shared { OnOk result (AreShared net.now locals.new.shared.items) }
+    ensures others { OnOk result ((n place : ℕ) → HasDiagram net.now locals.old.shared.items n place → HasDiagram net.now locals.new.shared.items n place) }
+    ensures places { OnOk result (locals.new.places.items ≡ locals.old.places.items) }
+    ensures full { result ≡ Err StoreFault.Full → HasLargeCover net.now limit }
+{
+    let diagram = local_of(alloc, net, gate, limit)?;
+    let place = locals.shared.len();
+    locals.shared.push(SharedDiagram { gate, diagram })?;
+    locals.latest.insert(hash, place)?;
+    Ok(place)
+}
+
+/// The place of the diagram of a gate's cover: that of an equal cover, or else a new one.
+fn place_of_cover(
+    alloc: Global,
+    net: &Netlist,
+    locals: &mut Locals,
+    gate: u32,
+    limit: u32,
+) -> Result<usize, StoreFault>
+    requires gate { gate < length net.now.gates }
+    requires limit { limit ≤ MAX_NODES }
+    requires shared { AreShared net.now locals.old.shared.items }
+    ensures place { IfOk result (HasDiagram net.now locals.new.shared.items gate) }
+    ensures shared { OnOk result (AreShared net.now locals.new.shared.items) }
+    ensures others { OnOk result ((n place : ℕ) → HasDiagram net.now locals.old.shared.items n place → HasDiagram net.now locals.new.shared.items n place) }
+    ensures places { OnOk result (locals.new.places.items ≡ locals.old.places.items) }
+    ensures full { result ≡ Err StoreFault.Full → HasLargeCover net.now limit }
+{
+    let hash = hash_cover(&net.gate(gate).cover);
+    if let Some(place) = find_shared(net, locals, gate, hash) {
+        return Ok(place);
+    }
+    add_shared(alloc, net, locals, gate, hash, limit)
+}
+
+/// Puts the diagram of a gate's cover last.
+fn add_local(
+    alloc: Global,
+    net: &Netlist,
+    locals: &mut Locals,
+    gate: u32,
+    limit: u32,
+) -> Result<(), StoreFault>
+    requires gate { gate < length net.now.gates }
+    requires limit { limit ≤ MAX_NODES }
+    requires shared { AreShared net.now locals.old.shared.items }
+    ensures locals { (gates : List ℕ) → AreLocalsOf net.now gates locals.old → OnOk result (AreLocalsOf net.now (gates ++ gate ∷ []) locals.new) }
+    ensures full { result ≡ Err StoreFault.Full → HasLargeCover net.now limit }
+{
+    let place = place_of_cover(alloc, net, locals, gate, limit)?;
+    locals.places.push(place)?;
+    Ok(())
+}
+
+impl Locals {
+    /// The diagrams of these gates' covers. `Full` comes only where one of the covers has a size over the limit.
+    pub(crate) fn of(
+        alloc: Global,
+        net: &Netlist,
+        gates: &[u32],
+        limit: u32,
+    ) -> Result<Locals, StoreFault>
+        requires gates { All (λ n. n < length net.now.gates) gates.now }
+        requires limit { limit ≤ MAX_NODES }
+        ensures locals { IfOk result (AreLocalsOf net.now gates.now) }
+        ensures full { result ≡ Err StoreFault.Full → HasLargeCover net.now limit }
+    {
+        let mut locals = Locals {
+            shared: Vec::new(alloc),
+            places: Vec::new(alloc),
+            latest: HashMap::new(alloc),
+        };
+        for gate in gates {
+            add_local(alloc, net, &mut locals, *gate, limit)?;
+        }
+        Ok(locals)
+    }
+
+    /// The diagram of the gate at a place of the list.
+    pub(crate) fn at(&self, place: usize) -> &LocalDiagram
+        requires place { place < length self.now.places.items }
+        requires within { All (λ at. at < length self.now.shared.items) self.now.places.items }
+        ensures { (net : Parts) (gates : List ℕ) → AreLocalsOf net gates self.now → IsDiagramOf result.now (gate_at net (slice_index gates place)).cover }
+    {
+        &self.shared[self.places[place]].diagram
+    }
+}
