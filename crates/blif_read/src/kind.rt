@@ -6,7 +6,7 @@ ghost use Rattle.blif_text.specs.Lines.{line_at};
 use blif_text::Lines;
 
 // What a line is by its first word.
-#[derive(Clone, Copy, Debug)]
+#[derive(Clone, Copy)]
 pub enum Kind {
     Row,
     Model,
@@ -31,73 +31,79 @@ fn begins_with_dot(word: &[u8]) -> bool
     }
 }
 
+fn is(word: &[u8], directive: &[u8]) -> bool
+    ensures { result ≡ bytes_eq word.now directive.now }
+{
+    word == directive
+}
+
 // Whether the profile leaves the directive out.
 fn is_left_out(word: &[u8]) -> bool
     ensures { result ≡ is_left_out word.now }
 {
-    word == b".gate".as_slice()
-        || word == b".mlatch".as_slice()
-        || word == b".exdc".as_slice()
-        || word == b".search".as_slice()
-        || word == b".start_kiss".as_slice()
-        || word == b".end_kiss".as_slice()
-        || word == b".latch_order".as_slice()
-        || word == b".code".as_slice()
-        || word == b".cycle".as_slice()
-        || word == b".clock_event".as_slice()
-        || word == b".blackbox".as_slice()
-        || word == b".conn".as_slice()
-        || word == b".barbuf".as_slice()
+    is(word, b".gate")
+        || is(word, b".mlatch")
+        || is(word, b".exdc")
+        || is(word, b".search")
+        || is(word, b".start_kiss")
+        || is(word, b".end_kiss")
+        || is(word, b".latch_order")
+        || is(word, b".code")
+        || is(word, b".cycle")
+        || is(word, b".clock_event")
+        || is(word, b".blackbox")
+        || is(word, b".conn")
+        || is(word, b".barbuf")
 }
 
 // Whether the directive is read over with all its words.
 fn is_read_over(word: &[u8]) -> bool
     ensures { result ≡ is_read_over word.now }
 {
-    word == b".area".as_slice()
-        || word == b".delay".as_slice()
-        || word == b".wire_load_slope".as_slice()
-        || word == b".wire".as_slice()
-        || word == b".input_arrival".as_slice()
-        || word == b".default_input_arrival".as_slice()
-        || word == b".output_required".as_slice()
-        || word == b".default_output_required".as_slice()
-        || word == b".input_drive".as_slice()
-        || word == b".default_input_drive".as_slice()
-        || word == b".max_input_load".as_slice()
-        || word == b".default_max_input_load".as_slice()
-        || word == b".output_load".as_slice()
-        || word == b".default_output_load".as_slice()
-        || word == b".attr".as_slice()
-        || word == b".param".as_slice()
-        || word == b".cname".as_slice()
+    is(word, b".area")
+        || is(word, b".delay")
+        || is(word, b".wire_load_slope")
+        || is(word, b".wire")
+        || is(word, b".input_arrival")
+        || is(word, b".default_input_arrival")
+        || is(word, b".output_required")
+        || is(word, b".default_output_required")
+        || is(word, b".input_drive")
+        || is(word, b".default_input_drive")
+        || is(word, b".max_input_load")
+        || is(word, b".default_max_input_load")
+        || is(word, b".output_load")
+        || is(word, b".default_output_load")
+        || is(word, b".attr")
+        || is(word, b".param")
+        || is(word, b".cname")
 }
 
 fn directive_of(word: &[u8]) -> Kind
     ensures { result ≡ directive_of word.now }
 {
-    if word == b".names".as_slice() {
+    if is(word, b".names") {
         return Kind::Names;
     }
-    if word == b".latch".as_slice() {
+    if is(word, b".latch") {
         return Kind::Latch;
     }
-    if word == b".subckt".as_slice() {
+    if is(word, b".subckt") {
         return Kind::Subckt;
     }
-    if word == b".inputs".as_slice() {
+    if is(word, b".inputs") {
         return Kind::Inputs;
     }
-    if word == b".outputs".as_slice() {
+    if is(word, b".outputs") {
         return Kind::Outputs;
     }
-    if word == b".clock".as_slice() {
+    if is(word, b".clock") {
         return Kind::Clock;
     }
-    if word == b".model".as_slice() {
+    if is(word, b".model") {
         return Kind::Model;
     }
-    if word == b".end".as_slice() {
+    if is(word, b".end") {
         return Kind::End;
     }
     if is_read_over(word) {

@@ -96,6 +96,30 @@ impl OpenModel {
         Ok(())
     }
 
+    fn add_inputs(&mut self, names: Items<Name>) -> Result<(), AllocError>
+        ensures { OnOk result (seen self.new ≡ add (seen self.old) (Statement.Inputs names)) }
+    {
+        self.end_gate()?;
+        add_names(&mut self.inputs, names)?;
+        Ok(())
+    }
+
+    fn add_outputs(&mut self, names: Items<Name>) -> Result<(), AllocError>
+        ensures { OnOk result (seen self.new ≡ add (seen self.old) (Statement.Outputs names)) }
+    {
+        self.end_gate()?;
+        add_names(&mut self.outputs, names)?;
+        Ok(())
+    }
+
+    fn add_clocks(&mut self, names: Items<Name>) -> Result<(), AllocError>
+        ensures { OnOk result (seen self.new ≡ add (seen self.old) (Statement.Clocks names)) }
+    {
+        self.end_gate()?;
+        add_names(&mut self.clocks, names)?;
+        Ok(())
+    }
+
     // Adds a statement that stands in the model.
     pub fn add(&mut self, alloc: Global, said: Statement) -> Result<(), AllocError>
         requires { FitsModel (seen self.old) said }
@@ -106,18 +130,9 @@ impl OpenModel {
             Statement::Names { pins, output } => return self.begin_gate(alloc, pins, output),
             Statement::Latch(latch) => return self.add_item(Item::Latch(latch)),
             Statement::Part(part) => return self.add_item(Item::Part(part)),
-            Statement::Inputs(names) => {
-                self.end_gate()?;
-                add_names(&mut self.inputs, names)?;
-            }
-            Statement::Outputs(names) => {
-                self.end_gate()?;
-                add_names(&mut self.outputs, names)?;
-            }
-            Statement::Clocks(names) => {
-                self.end_gate()?;
-                add_names(&mut self.clocks, names)?;
-            }
+            Statement::Inputs(names) => return self.add_inputs(names),
+            Statement::Outputs(names) => return self.add_outputs(names),
+            Statement::Clocks(names) => return self.add_clocks(names),
             Statement::Model(_name) => self.end_gate()?,
             Statement::End | Statement::Nothing => self.end_gate()?,
         }

@@ -1,5 +1,5 @@
 // Where a line lies, as far as its faults depend on the lines before it.
-#[derive(Clone, Copy, Debug)]
+#[derive(Clone, Copy)]
 pub struct Place {
     // whether a model is in progress
     pub in_model: bool,

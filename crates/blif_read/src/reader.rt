@@ -8,7 +8,7 @@ ghost use Rattle.blif_read.specs.Kinds.{arguments, kind, model_name};
 ghost use Rattle.blif_read.specs.Faults.{model_fault, fault_inside};
 ghost use Rattle.blif_read.specs.Statements.{statement, statement_of_kind};
 ghost use Rattle.blif_read.specs.Answers.{IsRead, Reads, IsFault};
-ghost use Rattle.blif_read.specs.Running.{Progress, all_ended, begin, end, go_on, follow, fault_next, place_in, FitsProgress};
+ghost use Rattle.blif_read.specs.Running.{Progress, all_ended, new_model, begin, end, go_on, follow, fault_next, place_in, FitsProgress};
 ghost use Rattle.blif_read.specs.Readers.{progress_of, start};
 
 use crate::fault::BlifFault;
@@ -78,6 +78,15 @@ impl Reader {
         Ok(())
     }
 
+    // Begins a model of this name, where the one in progress ends.
+    fn begin_model(&mut self, alloc: Global, name: Name) -> Result<(), AllocError>
+        ensures { OnOk result (progress_of self.new ≡ record (end (progress_of self.old)) { in_progress = Some (new_model name) }) }
+    {
+        self.end_model()?;
+        self.in_progress = Some(OpenModel::new(alloc, name));
+        Ok(())
+    }
+
     // Takes a `.model` line.
     fn take_model(&mut self, alloc: Global, lines: &Lines, i: usize) -> Result<(), BlifFault>
         requires { i < length lines.now }
@@ -96,13 +105,36 @@ impl Reader {
         if !is_new {
             return Err(BlifFault::ModelTwice { line });
         }
-        self.end_model()?;
-        self.in_progress = Some(OpenModel::new(alloc, name));
+        self.begin_model(alloc, name)?;
+        Ok(())
+    }
+
+    // Takes a line of a model that neither begins nor ends it.
+    #[tactic(auto, using(crate::proofs::FollowLemmas::fits))]
+    fn take_inside(
+        &mut self,
+        alloc: Global,
+        kind: Kind,
+        lines: &Lines,
+        i: usize,
+    ) -> Result<(), BlifFault>
+        requires line { i < length lines.now }
+        requires kind { kind ≢ Kind.Model }
+        ensures { let line = line_at lines.now i in
+            let before = progress_of self.old in
+            let fault = fault_inside kind line (place_in before.in_progress) in
+            MatchResult result
+            (λ _. IsRead fault (go_on before (statement_of_kind kind line)) (progress_of self.new))
+            (IsFault fault) }
+    {
+        let place = self.place();
+        let said = read_inside(alloc, kind, place, lines, i)?;
+        self.follow(alloc, said)?;
         Ok(())
     }
 
     // Takes a line that isn't a `.model` line.
-    #[tactic(auto, using(crate::proofs::FollowLemmas::fits, crate::proofs::FollowLemmas::fault_of_other, crate::proofs::FollowLemmas::goes_on))]
+    #[tactic(auto, using(crate::proofs::FollowLemmas::fault_of_other, crate::proofs::FollowLemmas::goes_on))]
     fn take_other(
         &mut self,
         alloc: Global,
@@ -125,10 +157,9 @@ impl Reader {
                 line: lines.number(i),
             });
         }
-        let said = read_inside(alloc, kind, place, lines, i)?;
         match kind {
             Kind::End => self.end_model()?,
-            _ => self.follow(alloc, said)?,
+            _ => self.take_inside(alloc, kind, lines, i)?,
         }
         Ok(())
     }

@@ -3,7 +3,7 @@ use cover_logic::Row;
 use cyc_base::{Items, Name};
 
 // What a line says, once it has no fault.
-#[derive(Debug, Drop)]
+#[derive(Drop)]
 pub enum Statement {
     Model(Name),
     Inputs(Items<Name>),

@@ -1,18 +1,17 @@
 -- Tables of formals: what they have, and where a pair or an input is at fault.
-use Rattle.std.proofs.Common.{◌≡◌, ℕ, ◌+◌, ◌<◌, nat_le, Bool, true, false, not, ◌||◌, List, [], ◌∷◌, ◌++◌, length, get_or, take, drop, refl, sym, ap, ◌∙◌, arith, cond, Some, None, Ok, Err, is_some, option_map}
+use Rattle.std.proofs.Common.{◌≡◌, ℕ, ◌+◌, ◌<◌, nat_le, Bool, true, false, not, ◌||◌, List, [], ◌∷◌, ◌++◌, length, get_or, take, drop, refl, sym, ap, ◌∙◌, arith, cond, if◌then◌else◌, Some, None, Ok, Err, is_some, option_map}
 use Rattle.std.proofs.lemmas.Grind.{common_steps}
 use Rattle.std.specs.List.{list_any}
 use Rattle.std.specs.Str.{bytes_eq}
 use Rattle.std.specs.declared.option.Option.{Option}
 use Rattle.std.specs.Option.{option_or}
 use Rattle.blif_read.specs.declared.models.BlifModel.{BlifModel}
-use Rattle.blif_read.specs.declared.models.PartLine.{PartLine}
 use Rattle.flatten.specs.declared.fault.FlatFault.{FlatFault}
 use Rattle.flatten.specs.declared.fault.FlatFault.TheVariants.{UnknownFormal, FormalTwice, OpenInput}
 use Rattle.flatten.specs.declared.walk.Level.{Level}
 use Rattle.flatten.specs.Paths.{actual_of}
-use Rattle.flatten.specs.Instances.{is_among, model_at, find_model, formals, pair_fault, first_open, pairs_fault, entry}
-use Rattle.flatten.specs.Levels.{entered_on}
+use Rattle.flatten.specs.Instances.{is_among, model_at, find_model, formals, formal_fault, pair_fault, first_open, pairs_fault, entry}
+use Rattle.flatten.specs.Levels.{chosen_on}
 use Rattle.flatten.specs.Linking.{each_once}
 use Rattle.flatten.specs.Laws.{resolved, bound}
 use Rattle.flatten.proofs.Names.{dropped, taken, item_at_default}
@@ -41,18 +40,37 @@ bound_taken prefix table pairs i p l e = ap (λ ps. bound prefix table ps) (take
     bound_onto [] = refl
     bound_onto (q ∷ ps) = ap (λ ys. (q.0, resolved prefix table q.1) ∷ ys) (bound_onto ps)
 
--- the first fault of the pairs, at the pair that the loop stands at
-pub pair_unknown : (names : List (List ℕ)) (pairs : List (List ℕ × List ℕ)) (i : ℕ) (p : List ℕ × List ℕ) → i < length pairs → p ≡ get_or pairs i p → is_among names p.0 ≡ false → pair_fault names (take i pairs) (drop i pairs) ≡ Some (UnknownFormal p.0)
-pair_unknown names pairs i p l e h = rw (dropped pairs i p l e, h) refl
-
-pub pair_twice : (names : List (List ℕ)) (pairs : List (List ℕ × List ℕ)) (i : ℕ) (p : List ℕ × List ℕ) → i < length pairs → p ≡ get_or pairs i p → is_among names p.0 ≡ true → is_some (actual_of (take i pairs) p.0) ≡ true → pair_fault names (take i pairs) (drop i pairs) ≡ Some (FormalTwice p.0)
-pair_twice names pairs i p l e h k = rw (dropped pairs i p l e, h, k) refl
-
 pub pair_later : (names : List (List ℕ)) (pairs : List (List ℕ × List ℕ)) (i : ℕ) (p : List ℕ × List ℕ) → i < length pairs → p ≡ get_or pairs i p → is_among names p.0 ≡ true → is_some (actual_of (take i pairs) p.0) ≡ false → pair_fault names (take i pairs) (drop i pairs) ≡ pair_fault names (take (i + 1) pairs) (drop (i + 1) pairs)
 pair_later names pairs i p l e h k = rw (dropped pairs i p l e, h, k, taken pairs i p l e) refl
 
-cond_eq : (a b : Bool) (x : Option FlatFault) (y z : Option FlatFault) → a ≡ b → y ≡ z → cond a y x ≡ cond b z x
-cond_eq a b x y z e f = cc
+fault_of : (a b : Bool) (x y fault : FlatFault) (rest : Option FlatFault) → (if not a then Some x else (if b then Some y else None)) ≡ Some fault → (if not a then Some x else (if b then Some y else rest)) ≡ Some fault
+fault_of false b x y fault rest e = e
+fault_of true true x y fault rest e = e
+fault_of true false x y fault rest e = absurd (cc)
+
+fits_of : (a b : Bool) (x y : FlatFault) → (if not a then Some x else (if b then Some y else None)) ≡ None → (a ≡ true) × (b ≡ false)
+fits_of false b x y e = absurd (cc)
+fits_of true true x y e = absurd (cc)
+fits_of true false x y e = (refl, refl)
+
+pub formal_fits : (names : List (List ℕ)) (before : List (List ℕ × List ℕ)) (formal : List ℕ) → formal_fault names before formal ≡ None → (is_among names formal ≡ true) × (is_some (actual_of before formal) ≡ false)
+formal_fits names before formal e = fits_of (is_among names formal) (is_some (actual_of before formal)) (UnknownFormal formal) (FormalTwice formal) e
+
+-- the same by the table of the pairs before it
+module _ (names : List (List ℕ)) (prefix : List ℕ) (table pairs entries : List (List ℕ × List ℕ)) (i : ℕ) (p : List ℕ × List ℕ) (l : i < length pairs) (at : p ≡ get_or pairs i p) (so_far : entries ≡ bound prefix table (take i pairs)) where
+  same_there : is_some (actual_of entries p.0) ≡ is_some (actual_of (take i pairs) p.0)
+  same_there = ap (λ es. is_some (actual_of es p.0)) so_far ∙ bound_has prefix table (take i pairs) p.0
+
+  pub pair_refused : (fault : FlatFault) → formal_fault names entries p.0 ≡ Some fault → pair_fault names (take i pairs) (drop i pairs) ≡ Some fault
+  pair_refused fault e =
+      ap (λ ps. pair_fault names (take i pairs) ps) (dropped pairs i p l at)
+      ∙ fault_of (is_among names p.0) (is_some (actual_of (take i pairs) p.0)) (UnknownFormal p.0) (FormalTwice p.0) fault (pair_fault names (take i pairs ++ p ∷ []) (drop (i + 1) pairs))
+      (ap (λ b. if not (is_among names p.0) then Some (UnknownFormal p.0) else (if b then Some (FormalTwice p.0) else None)) (sym same_there) ∙ e)
+
+  pub pair_taken : formal_fault names entries p.0 ≡ None → pair_fault names (take (i + 1) pairs) (drop (i + 1) pairs) ≡ pair_fault names (take i pairs) (drop i pairs)
+  pair_taken e =
+      let f = formal_fits names entries p.0 e in
+      sym (pair_later names pairs i p l at f.0 (sym same_there ∙ f.1))
 
 -- the same by the formals once each
 pub pair_fault_once : (names : List (List ℕ)) (before pairs : List (List ℕ × List ℕ)) → pair_fault (each_once names) before pairs ≡ pair_fault names before pairs
@@ -70,39 +88,42 @@ other_level models name levels i x model l e w g h =
     let m : model_at models x.model ≡ model = item_at_default models x.model model _ w g in
     rw (dropped levels i x l e, m, h) refl
 
-pub entry_err : (name : List ℕ) (a b : Bool) (f : ℕ → Option FlatFault) (x : Option ℕ) (i : ℕ) (fault : FlatFault) → x ≡ Some i → a ≡ false → b ≡ false → f i ≡ Some fault → entry name a b f x ≡ Err fault
-entry_err name a b f x i fault e h k l = rw (e, h, k, l) refl
-
+-- an instance whose model was chosen, before and behind the look at its pairs
 pub entry_ok : (name : List ℕ) (a b : Bool) (f : ℕ → Option FlatFault) (x : Option ℕ) (i : ℕ) → x ≡ Some i → a ≡ false → b ≡ false → f i ≡ None → entry name a b f x ≡ Ok i
 entry_ok name a b f x i e h k l = rw (e, h, k, l) refl
+
+pub entry_refused : (name : List ℕ) (a b : Bool) (f : ℕ → Option FlatFault) (x : Option ℕ) (fault : FlatFault) → entry name a b (λ i. None) x ≡ Err fault → entry name a b f x ≡ Err fault
+entry_refused name a b f None fault e = e
+entry_refused name true b f (Some j) fault e = e
+entry_refused name false true f (Some j) fault e = e
+entry_refused name false false f (Some j) fault e = absurd (cc)
+
+entry_chosen : (name : List ℕ) (a b : Bool) (f : ℕ → Option FlatFault) (x : Option ℕ) (i : ℕ) → entry name a b (λ j. None) x ≡ Ok i → entry name a b f x ≡ elim (f i) [ Some fault ↦ Err fault | None ↦ Ok i ]
+entry_chosen name a b f None i e = absurd (cc)
+entry_chosen name true b f (Some j) i e = absurd (cc)
+entry_chosen name false true f (Some j) i e = absurd (cc)
+entry_chosen name false false f (Some j) i e =
+    let same : j ≡ i = cc in
+    ap (λ k. entry name false false f (Some k)) same
+
+pub entry_faulty : (name : List ℕ) (a b : Bool) (f : ℕ → Option FlatFault) (x : Option ℕ) (i : ℕ) (fault : FlatFault) → entry name a b (λ j. None) x ≡ Ok i → f i ≡ Some fault → entry name a b f x ≡ Err fault
+entry_faulty name a b f x i fault e h = rw (entry_chosen name a b f x i e, h) refl
+
+pub entry_fit : (name : List ℕ) (a b : Bool) (f : ℕ → Option FlatFault) (x : Option ℕ) (i : ℕ) → entry name a b (λ j. None) x ≡ Ok i → f i ≡ None → entry name a b f x ≡ Ok i
+entry_fit name a b f x i e h = rw (entry_chosen name a b f x i e, h) refl
 
 pub none_there : (o : Option (List ℕ)) → is_some o ≡ false → o ≡ None
 none_there None h = refl
 none_there (Some x) h = absurd (cc)
 
--- what entering an instance comes to, once its model is found and neither open nor too deep
-module _ (depth : ℕ) (models : List BlifModel) (below : List Level) (level : Level) (part : PartLine) (i : ℕ)
-    (found : find_model models part.model ≡ Some i)
-    (here : bytes_eq (model_at models level.model).name part.model ≡ false)
-    (there : list_any (λ l. bytes_eq (model_at models l.model).name part.model) below ≡ false)
-    (deep : length below < depth) where
-  opened : Bool
-  opened = bytes_eq (model_at models level.model).name part.model || list_any (λ l. bytes_eq (model_at models l.model).name part.model) below
-
-  closed : opened ≡ false
-  unfolding opened
-  closed = rw (here, there) refl
-
-  shallow : nat_le depth (length below) ≡ false
-  shallow = grind (arith, common_steps)
-
-  pub enters_not : (fault : FlatFault) → pairs_fault (model_at models i) part.pairs ≡ Some fault → entered_on depth models below level part ≡ Err fault
-  unfolding opened
-  enters_not fault e = entry_err part.model opened _ (λ j. pairs_fault (model_at models j) part.pairs) (find_model models part.model) i fault found closed shallow e
-
-  pub enters : pairs_fault (model_at models i) part.pairs ≡ None → entered_on depth models below level part ≡ Ok i
-  unfolding opened
-  enters e = entry_ok part.model opened _ (λ j. pairs_fault (model_at models j) part.pairs) (find_model models part.model) i found closed shallow e
+-- a model that was found and is neither open nor too deep
+pub chooses : (depth : ℕ) (models : List BlifModel) (below : List Level) (level : Level) (name : List ℕ) (i : ℕ) → find_model models name ≡ Some i → bytes_eq (model_at models level.model).name name ≡ false → list_any (λ l. bytes_eq (model_at models l.model).name name) below ≡ false → length below < depth → chosen_on depth models below level name ≡ Ok i
+chooses depth models below level name i found here there deep =
+    let closed : (bytes_eq (model_at models level.model).name name || list_any (λ l. bytes_eq (model_at models l.model).name name) below) ≡ false = rw (here, there) refl in
+    entry_ok name _ (nat_le depth (length below)) (λ j. None) (find_model models name) i found closed (shallow depth (length below) deep) refl
+  where
+    shallow : (d n : ℕ) → n < d → nat_le d n ≡ false
+    shallow d n h = grind (arith, common_steps)
 
 -- the first fault of the pairs, and then the first open input or clock
 pub pairs_fault_at : (model : BlifModel) (keys : List (List ℕ)) (pairs : List (List ℕ × List ℕ)) (fault : FlatFault) → keys ≡ each_once (formals model) → pair_fault keys [] pairs ≡ Some fault → pairs_fault model pairs ≡ Some fault

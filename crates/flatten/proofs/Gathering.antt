@@ -16,9 +16,9 @@ use Rattle.blif_read.specs.declared.models.BlifModel.{BlifModel}
 use Rattle.blif_read.specs.declared.models.GateLine.{GateLine}
 use Rattle.blif_read.specs.declared.models.LatchLine.{LatchLine}
 use Rattle.flatten.specs.declared.fault.FlatFault.{FlatFault}
-use Rattle.flatten.specs.declared.fault.FlatFault.TheVariants.{DeclaredTwice, DrivenTwice, Undriven}
+use Rattle.flatten.specs.declared.fault.FlatFault.TheVariants.{DrivenTwice, Undriven}
 use Rattle.flatten.specs.Walk.{FlatLines}
-use Rattle.flatten.specs.Linking.{own_clocks, twice_after, first_twice, latch_outputs, gate_outputs, drivers, declared_twice, driven_twice, edge_eq, is_clock_of, is_fitting, has_bad_control, is_other_control, has_other_control, gate_with, undriven}
+use Rattle.flatten.specs.Linking.{own_clocks, twice_after, first_twice, latch_outputs, gate_outputs, drivers, driven_twice, edge_eq, is_clock_of, is_fitting, has_bad_control, is_other_control, has_other_control, gate_with, undriven}
 use Rattle.flatten.proofs.Names.{bytes_sym, bytes_same, taken, dropped}
 use Rattle.flatten.proofs.Libraries.{among_push, distinct_fresh}
 
@@ -126,32 +126,25 @@ pub some_first : {X Y : Type 0} (f : X → Y) (o p : Option X) (y : Y) → optio
 some_first f None p y e = absurd (cc)
 some_first f (Some x) p y e = e
 
--- the first fault of declared names and drivers, once no name is declared twice
-module _ (top : BlifModel) (lines : FlatLines) (inputs_once : first_twice top.inputs ≡ None) (outputs_once : first_twice top.outputs ≡ None) where
-  twice_of_drivers : first_twice (drivers top lines) ≡ option_or (twice_after (top.inputs ++ own_clocks top) (latch_outputs lines)) (twice_after ((top.inputs ++ own_clocks top) ++ latch_outputs lines) (gate_outputs lines))
+-- the first driver that drives a wire again, once no input is declared twice
+module _ (top : BlifModel) (lines : FlatLines) (inputs_once : first_twice top.inputs ≡ None) where
+  twice_of_drivers : driven_twice top lines ≡ option_map DrivenTwice (option_or (twice_after (top.inputs ++ own_clocks top) (latch_outputs lines)) (twice_after ((top.inputs ++ own_clocks top) ++ latch_outputs lines) (gate_outputs lines)))
   twice_of_drivers =
-      ap first_twice (sym (append_assoc top.inputs (own_clocks top) (latch_outputs lines ++ gate_outputs lines)))
-      ∙ twice-append [] (top.inputs ++ own_clocks top) (latch_outputs lines ++ gate_outputs lines)
-      ∙ ap (λ o. option_or o (twice_after (top.inputs ++ own_clocks top) (latch_outputs lines ++ gate_outputs lines))) (clocks_once top inputs_once)
-      ∙ twice-append (top.inputs ++ own_clocks top) (latch_outputs lines) (gate_outputs lines)
+      ap (λ ns. option_map DrivenTwice (first_twice ns)) (sym (append_assoc top.inputs (own_clocks top) (latch_outputs lines ++ gate_outputs lines)))
+      ∙ ap (λ o. option_map DrivenTwice o) (twice-append [] (top.inputs ++ own_clocks top) (latch_outputs lines ++ gate_outputs lines))
+      ∙ ap (λ o. option_map DrivenTwice (option_or o (twice_after (top.inputs ++ own_clocks top) (latch_outputs lines ++ gate_outputs lines)))) (clocks_once top inputs_once)
+      ∙ ap (λ o. option_map DrivenTwice o) (twice-append (top.inputs ++ own_clocks top) (latch_outputs lines) (gate_outputs lines))
 
-  none_declared : declared_twice top ≡ None
-  none_declared =
-      ap (λ o. option_map DeclaredTwice (option_or o (first_twice top.outputs))) inputs_once ∙ ap (λ o. option_map DeclaredTwice o) outputs_once
+  pub latch_twice : (fault : FlatFault) → option_map DrivenTwice (twice_after (top.inputs ++ own_clocks top) (latch_outputs lines)) ≡ Some fault → driven_twice top lines ≡ Some fault
+  latch_twice fault e = twice_of_drivers ∙ some_first DrivenTwice _ _ fault e
 
-  both : option_or (declared_twice top) (driven_twice top lines) ≡ option_map DrivenTwice (option_or (twice_after (top.inputs ++ own_clocks top) (latch_outputs lines)) (twice_after ((top.inputs ++ own_clocks top) ++ latch_outputs lines) (gate_outputs lines)))
-  both = ap (λ o. option_or o (driven_twice top lines)) none_declared ∙ ap (λ o. option_map DrivenTwice o) twice_of_drivers
-
-  pub latch_twice : (fault : FlatFault) → option_map DrivenTwice (twice_after (top.inputs ++ own_clocks top) (latch_outputs lines)) ≡ Some fault → option_or (declared_twice top) (driven_twice top lines) ≡ Some fault
-  latch_twice fault e = both ∙ some_first DrivenTwice _ _ fault e
-
-  pub gate_twice : (fault : FlatFault) → twice_after (top.inputs ++ own_clocks top) (latch_outputs lines) ≡ None → option_map DrivenTwice (twice_after ((top.inputs ++ own_clocks top) ++ latch_outputs lines) (gate_outputs lines)) ≡ Some fault → option_or (declared_twice top) (driven_twice top lines) ≡ Some fault
+  pub gate_twice : (fault : FlatFault) → twice_after (top.inputs ++ own_clocks top) (latch_outputs lines) ≡ None → option_map DrivenTwice (twice_after ((top.inputs ++ own_clocks top) ++ latch_outputs lines) (gate_outputs lines)) ≡ Some fault → driven_twice top lines ≡ Some fault
   gate_twice fault n e =
-      both ∙ ap (λ o. option_map DrivenTwice (option_or o (twice_after ((top.inputs ++ own_clocks top) ++ latch_outputs lines) (gate_outputs lines)))) n ∙ e
+      twice_of_drivers ∙ ap (λ o. option_map DrivenTwice (option_or o (twice_after ((top.inputs ++ own_clocks top) ++ latch_outputs lines) (gate_outputs lines)))) n ∙ e
 
-  pub none_twice : twice_after (top.inputs ++ own_clocks top) (latch_outputs lines) ≡ None → twice_after ((top.inputs ++ own_clocks top) ++ latch_outputs lines) (gate_outputs lines) ≡ None → option_or (declared_twice top) (driven_twice top lines) ≡ None
+  pub none_twice : twice_after (top.inputs ++ own_clocks top) (latch_outputs lines) ≡ None → twice_after ((top.inputs ++ own_clocks top) ++ latch_outputs lines) (gate_outputs lines) ≡ None → driven_twice top lines ≡ None
   none_twice n e =
-      both ∙ ap (λ o. option_map DrivenTwice (option_or o (twice_after ((top.inputs ++ own_clocks top) ++ latch_outputs lines) (gate_outputs lines)))) n ∙ ap (λ o. option_map DrivenTwice o) e
+      twice_of_drivers ∙ ap (λ o. option_map DrivenTwice (option_or o (twice_after ((top.inputs ++ own_clocks top) ++ latch_outputs lines) (gate_outputs lines)))) n ∙ ap (λ o. option_map DrivenTwice o) e
 
 -- finding, at the item that a loop stands at
 pub find_here_by : {T : Type 0} (p : List ℕ → Bool) (name : T → List ℕ) (items : List T) (i : ℕ) (x : T) → i < length items → x ≡ get_or items i x → p (name x) ≡ true → find p (map name (drop i items)) ≡ Some (name x)

@@ -23,7 +23,7 @@ use Rattle.flatten.specs.Wires.{mark_of}
 use Rattle.flatten.specs.Paths.{Instance}
 use Rattle.flatten.specs.Instances.{no_model, model_at, is_open, entry, entered, pairs_fault, find_model}
 use Rattle.flatten.specs.Walk.{Event, FlatLines, gate, latch, opens, fails, events, decided, then_gate, then_latch, flat_lines}
-use Rattle.flatten.specs.Levels.{gate_by, latch_by, entered_on, passed_line, passed_part, Waits, remaining, then_lines, Walking, PassesGate, PassesLatch, PassesPart, PartFails, WalkingAt, WalkingWith, IsBegun}
+use Rattle.flatten.specs.Levels.{gate_by, latch_by, entered_on, passed_line, passed_part, Waits, remaining, then_lines, Walking, AddsGate, AddsLatch, PutsBack, PassesGate, PassesLatch, PassesPart, PartFails, WalkingAt, WalkingWith, IsBegun}
 use Rattle.flatten.proofs.Names.{bytes_same}
 use Rattle.flatten.proofs.Waiting.{waits_size, waits_open, waits_within, top_of, gate_step, latch_step, end_step, fault_step, opens_step, open_step}
 
@@ -226,6 +226,25 @@ module _ (depth : ℕ) (models : List BlifModel) (top m : List ℕ) (answer : Re
           },
           let k = ap length h.enters.levels ∙ length-append (s ++ (passed_part l ∷ [])) (h.inner ∷ []) ∙ ap (λ j. j + 1) (length-append s (passed_part l ∷ [])) in omega (arith, k, h.left, h.some),
         )
+
+-- a line that was added, and its level put back
+pub gate_passed : (old mid new : Walk) (level : Level) (g : GateLine) → AddsGate old level.scope g mid → PutsBack mid level new → PassesGate old level g new
+gate_passed old mid new level g a p = record {
+  some = a.some;
+  left = p.left ∙ a.left;
+  levels = p.levels ∙ ap (λ ls. ls ++ (passed_line level ∷ [])) a.levels;
+  latches = p.latches ∙ a.latches;
+  gates = p.gates ∙ a.gates;
+}
+
+pub latch_passed : (old mid new : Walk) (level : Level) (x : LatchLine) → AddsLatch old level.scope x mid → PutsBack mid level new → PassesLatch old level x new
+latch_passed old mid new level x a p = record {
+  some = a.some;
+  left = p.left ∙ a.left;
+  levels = p.levels ∙ ap (λ ls. ls ++ (passed_line level ∷ [])) a.levels;
+  latches = p.latches ∙ a.latches;
+  gates = p.gates ∙ a.gates;
+}
 
 -- a walk that stands before its first item
 pub walking_start : (depth : ℕ) (models : List BlifModel) (i limit : ℕ) (walk : Walk) → i < length models → IsBegun i limit walk → WalkingAt depth models (model_at models i).name (mark_of models) (flat_lines depth limit models i) walk

@@ -36,6 +36,13 @@ formals model = model.inputs ++ (model.outputs ++ model.clocks)
 abbrev pub is_among : List (List ℕ) → List ℕ → Bool
 is_among names name = list_any (bytes_eq name) names
 
+-- what is wrong with one more pair: its formal is none of these, or an earlier pair binds it
+abbrev pub formal_fault : List (List ℕ) → List (List ℕ × List ℕ) → List ℕ → Option FlatFault
+formal_fault names before formal =
+    if not (is_among names formal) then Some (UnknownFormal formal)
+    else (if is_some (actual_of before formal) then Some (FormalTwice formal)
+    else None)
+
 -- the first pair, from left to right, whose formal is none of these or is bound by an earlier pair
 abbrev pub pair_fault : List (List ℕ) → List (List ℕ × List ℕ) → List (List ℕ × List ℕ) → Option FlatFault
 pair_fault names before [] = None

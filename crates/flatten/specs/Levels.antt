@@ -1,5 +1,5 @@
 -- The walk on a list: the instances that are open, and what is still to come.
-use Rattle.std.specs.Prelude.{◌*◌, ◌^◌, ◌≡◌, ◌≢◌, ℕ, suc, ◌+◌, ◌-◌, ◌<◌, ◌≤◌, ◌⊎◌, ◌||◌, nat_le, List, [], ◌∷◌, ◌++◌, length, map, drop, reverse, Ok, Err, option_map}
+use Rattle.std.specs.Prelude.{◌*◌, ◌^◌, ◌≡◌, ◌≢◌, ℕ, suc, ◌+◌, ◌-◌, ◌<◌, ◌≤◌, ◌⊎◌, ◌||◌, nat_le, List, [], ◌∷◌, ◌++◌, length, map, drop, reverse, None, Ok, Err, option_map}
 use Rattle.std.specs.List.{list_any}
 use Rattle.std.specs.Str.{bytes_eq}
 use Rattle.std.specs.Fmt.{decimal}
@@ -12,6 +12,7 @@ use Rattle.blif_read.specs.declared.models.PartLine.{PartLine}
 use Rattle.flatten.specs.declared.fault.FlatFault.{FlatFault}
 use Rattle.flatten.specs.declared.fault.FlatFault.TheVariants.{TooLarge}
 use Rattle.flatten.specs.declared.library.Library.{Library}
+use Rattle.flatten.specs.declared.scope.Scope.{Scope}
 use Rattle.flatten.specs.declared.walk.Level.{Level}
 use Rattle.flatten.specs.declared.walk.FlatBody.{FlatBody}
 use Rattle.flatten.specs.declared.walk.Walk.{Walk}
@@ -51,6 +52,13 @@ entered_on depth models below level part =
     entry part.model
     (bytes_eq (model_at models level.model).name part.model || list_any (λ l. bytes_eq (model_at models l.model).name part.model) below)
     (nat_le depth (length below)) (λ i. pairs_fault (model_at models i) part.pairs) (find_model models part.model)
+
+-- the same before the pairs of the instance are looked at
+abbrev pub chosen_on : ℕ → List BlifModel → List Level → Level → List ℕ → Result ℕ FlatFault
+chosen_on depth models below level name =
+    entry name
+    (bytes_eq (model_at models level.model).name name || list_any (λ l. bytes_eq (model_at models l.model).name name) below)
+    (nat_le depth (length below)) (λ i. None) (find_model models name)
 
 -- a level behind its next gate or latch, and behind its next instance
 abbrev pub passed_line : Level → Level
@@ -101,6 +109,34 @@ pub record Walking (depth : ℕ) (models : List BlifModel) (top m : List ℕ) (l
   pub rest : List Event
   pub waits : Waits depth models top m (reverse levels) path rest
   pub answers : answer ≡ then_lines latches gates (decided room rest)
+
+-- what putting a level back does, alone and below the level of an instance
+pub record PutsBack (old : Walk) (level : Level) (new : Walk) : Type 0 where
+  pub levels : new.levels.items ≡ old.levels.items ++ (passed_line level ∷ [])
+  pub latches : new.latches.items ≡ old.latches.items
+  pub gates : new.gates.items ≡ old.gates.items
+  pub left : new.room ≡ old.room
+
+pub record Opens (old : Walk) (level inner : Level) (new : Walk) : Type 0 where
+  pub levels : new.levels.items ≡ (old.levels.items ++ (passed_part level ∷ [])) ++ (inner ∷ [])
+  pub latches : new.latches.items ≡ old.latches.items
+  pub gates : new.gates.items ≡ old.gates.items
+  pub left : new.room ≡ old.room - 1
+
+-- what adding a gate and a latch does
+pub record AddsGate (old : Walk) (scope : Scope) (g : GateLine) (new : Walk) : Type 0 where
+  pub some : 0 < old.room
+  pub left : new.room ≡ old.room - 1
+  pub levels : new.levels.items ≡ old.levels.items
+  pub latches : new.latches.items ≡ old.latches.items
+  pub gates : new.gates.items ≡ old.gates.items ++ (gate_by scope.prefix scope.table.entries g ∷ [])
+
+pub record AddsLatch (old : Walk) (scope : Scope) (l : LatchLine) (new : Walk) : Type 0 where
+  pub some : 0 < old.room
+  pub left : new.room ≡ old.room - 1
+  pub levels : new.levels.items ≡ old.levels.items
+  pub latches : new.latches.items ≡ old.latches.items ++ (latch_by scope.prefix scope.table.entries l ∷ [])
+  pub gates : new.gates.items ≡ old.gates.items
 
 -- what passing a gate, a latch and an instance does
 pub record PassesGate (old : Walk) (level : Level) (g : GateLine) (new : Walk) : Type 0 where

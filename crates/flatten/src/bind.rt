@@ -1,9 +1,12 @@
-ghost use Rattle.std.specs.Prelude.{◌≡◌, ◌<◌, ◌⊎◌, ◌++◌, [], length, option_map, not, is_some, map, All, None, Some, Ok, Err, IfOk, IfErr, IfSome, OnOk, option_copied};
+ghost use Rattle.std.specs.Prelude.{◌≡◌, ◌<◌, ◌⊎◌, ◌++◌, ◌∷◌, [], length, option_map, not, is_some, false, map, All, None, Some, Ok, Err, IfOk, IfErr, IfSome, OnOk, option_copied};
 ghost use Rattle.std.specs.List.{find, list_any};
 ghost use Rattle.std.specs.Str.{bytes_eq};
-ghost use Rattle.flatten.specs.Instances.{model_at, pair_fault, first_open as first_open_by, pairs_fault};
-ghost use Rattle.flatten.specs.Laws.{bound};
-ghost use Rattle.flatten.specs.Levels.{IsLibraryOf, entered_on};
+ghost use Rattle.flatten.specs.declared.fault.FlatFault.TheVariants.{OpenInput};
+ghost use Rattle.flatten.specs.Paths.{actual_of};
+ghost use Rattle.flatten.specs.Instances.{model_at, formals as formals_by, formal_fault, pair_fault, first_open as first_open_by, pairs_fault};
+ghost use Rattle.flatten.specs.Linking.{each_once};
+ghost use Rattle.flatten.specs.Laws.{resolved, bound};
+ghost use Rattle.flatten.specs.Levels.{IsLibraryOf, chosen_on, entered_on};
 
 use crate::fault::FlatFault;
 use crate::library::{Library, find};
@@ -12,7 +15,68 @@ use crate::walk::Level;
 use blif_read::{BlifModel, PartLine};
 use cyc_base::Name;
 use indexmap::{IndexMap, IndexSet};
-use std::alloc::Global;
+use std::alloc::{AllocError, Global};
+
+/// That the model has the formal, and that no earlier pair binds it.
+fn check_formal(
+    formals: &IndexSet<Name>,
+    table: &IndexMap<Name, Name>,
+    formal: &Name,
+) -> Result<(), FlatFault>
+    ensures fits { OnOk result (formal_fault formals.now.keys table.now.entries formal.now ≡ None) }
+    ensures fault { IfErr result (λ fault. (fault ≡ FlatFault.Memory)
+        ⊎ (formal_fault formals.now.keys table.now.entries formal.now ≡ Some fault)) }
+{
+    if !formals.contains(formal) {
+        return Err(FlatFault::UnknownFormal {
+            name: formal.copy()?,
+        });
+    }
+    if table.contains_key(formal) {
+        return Err(FlatFault::FormalTwice {
+            name: formal.copy()?,
+        });
+    }
+    Ok(())
+}
+
+/// Adds a formal that the table doesn't have, with the printed name of its actual.
+fn bind_formal(
+    alloc: Global,
+    scope: &Scope,
+    table: &mut IndexMap<Name, Name>,
+    formal: &Name,
+    actual: &Name,
+) -> Result<(), AllocError>
+    requires { is_some (actual_of table.old.entries formal.now) ≡ false }
+    ensures { OnOk result (table.new.entries ≡ table.old.entries
+        ++ (formal.now, resolved scope.now.prefix scope.now.table.entries actual.now) ∷ []) }
+{
+    let printed = resolve(alloc, scope, actual)?;
+    table.insert(formal.copy()?, printed)?;
+    Ok(())
+}
+
+fn bind_pairs(
+    alloc: Global,
+    scope: &Scope,
+    formals: &IndexSet<Name>,
+    table: &mut IndexMap<Name, Name>,
+    pairs: &[(Name, Name)],
+) -> Result<(), FlatFault>
+    requires { table.old.entries ≡ [] }
+    ensures table { OnOk result
+        (table.new.entries ≡ bound scope.now.prefix scope.now.table.entries pairs.now) }
+    ensures fits { OnOk result (pair_fault formals.now.keys [] pairs.now ≡ None) }
+    ensures fault { IfErr result
+        (λ fault. (fault ≡ FlatFault.Memory) ⊎ (pair_fault formals.now.keys [] pairs.now ≡ Some fault)) }
+{
+    for (formal, actual) in pairs {
+        check_formal(formals, table, formal)?;
+        bind_formal(alloc, scope, table, formal, actual)?;
+    }
+    Ok(())
+}
 
 /// The table of an instance: each formal with the printed name of its actual.
 fn bind(
@@ -28,20 +92,7 @@ fn bind(
         (λ fault. (fault ≡ FlatFault.Memory) ⊎ (pair_fault formals.now.keys [] pairs.now ≡ Some fault)) }
 {
     let mut table = IndexMap::new(alloc);
-    for (formal, actual) in pairs {
-        if !formals.contains(formal) {
-            return Err(FlatFault::UnknownFormal {
-                name: formal.copy()?,
-            });
-        }
-        if table.contains_key(formal) {
-            return Err(FlatFault::FormalTwice {
-                name: formal.copy()?,
-            });
-        }
-        let printed = resolve(alloc, scope, actual)?;
-        table.insert(formal.copy()?, printed)?;
-    }
+    bind_pairs(alloc, scope, formals, &mut table, pairs)?;
     Ok(table)
 }
 
@@ -54,6 +105,39 @@ fn first_open<'a>(table: &IndexMap<Name, Name>, model: &'a BlifModel) -> Option<
     inputs.chain(clocks).find(|name| !table.contains_key(*name))
 }
 
+/// That the table has each input and each clock of the model.
+fn check_open(table: &IndexMap<Name, Name>, model: &BlifModel) -> Result<(), FlatFault>
+    ensures full { OnOk result
+        (option_map OpenInput (first_open_by table.now.entries (model.now.inputs ++ model.now.clocks)) ≡ None) }
+    ensures fault { IfErr result (λ fault. (fault ≡ FlatFault.Memory)
+        ⊎ (option_map OpenInput (first_open_by table.now.entries (model.now.inputs ++ model.now.clocks)) ≡ Some fault)) }
+{
+    match first_open(table, model) {
+        Some(name) => Err(FlatFault::OpenInput { name: name.copy()? }),
+        None => Ok(()),
+    }
+}
+
+/// The table of an instance that binds each input and each clock of its model.
+fn full_table(
+    alloc: Global,
+    scope: &Scope,
+    formals: &IndexSet<Name>,
+    model: &BlifModel,
+    pairs: &[(Name, Name)],
+) -> Result<IndexMap<Name, Name>, FlatFault>
+    requires { formals.now.keys ≡ each_once (formals_by model.now) }
+    ensures table { IfOk result
+        (λ table. table.entries ≡ bound scope.now.prefix scope.now.table.entries pairs.now) }
+    ensures fits { OnOk result (pairs_fault model.now pairs.now ≡ None) }
+    ensures fault { IfErr result
+        (λ fault. (fault ≡ FlatFault.Memory) ⊎ (pairs_fault model.now pairs.now ≡ Some fault)) }
+{
+    let table = bind(alloc, scope, formals, pairs)?;
+    check_open(&table, model)?;
+    Ok(table)
+}
+
 fn is_open(models: &[BlifModel], levels: &[Level], name: &Name) -> bool
     requires { All (λ l. l.model < length models.now) levels.now }
     ensures { result ≡ list_any (λ l. bytes_eq (model_at models.now l.model).name name.now) levels.now }
@@ -64,6 +148,35 @@ fn is_open(models: &[BlifModel], levels: &[Level], name: &Name) -> bool
         }
     }
     false
+}
+
+/// The place of the model of this name, which is to be neither open nor too deep.
+fn choose(
+    models: &[BlifModel],
+    library: &Library,
+    depth: usize,
+    below: &[Level],
+    level: &Level,
+    name: &Name,
+) -> Result<usize, FlatFault>
+    requires library { IsLibraryOf models.now library.now }
+    requires within { All (λ l. l.model < length models.now) below.now }
+    requires here { level.now.model < length models.now }
+    ensures model { IfOk result (λ i. chosen_on depth models.now below.now level.now name.now ≡ Ok i) }
+    ensures within { IfOk result (λ i. i < length models.now) }
+    ensures fault { IfErr result (λ fault. (fault ≡ FlatFault.Memory)
+        ⊎ (chosen_on depth models.now below.now level.now name.now ≡ Err fault)) }
+{
+    let Some(model) = find(models, library, name) else {
+        return Err(FlatFault::UnknownModel { name: name.copy()? });
+    };
+    if models[level.model].name == *name || is_open(models, below, name) {
+        return Err(FlatFault::Recursive { name: name.copy()? });
+    }
+    if depth <= below.len() {
+        return Err(FlatFault::TooDeep { name: name.copy()? });
+    }
+    Ok(model)
 }
 
 /// The place of the instance's model, and its table. The instance stands in `level`, and the levels below it
@@ -86,25 +199,9 @@ pub(crate) fn enter(
     ensures fault { IfErr result (λ fault. (fault ≡ FlatFault.Memory)
         ⊎ (entered_on depth models.now below.now level.now part.now ≡ Err fault)) }
 {
-    let Some(model) = find(models, library, &part.model) else {
-        return Err(FlatFault::UnknownModel {
-            name: part.model.copy()?,
-        });
-    };
-    if models[level.model].name == part.model || is_open(models, below, &part.model) {
-        return Err(FlatFault::Recursive {
-            name: part.model.copy()?,
-        });
-    }
-    if depth <= below.len() {
-        return Err(FlatFault::TooDeep {
-            name: part.model.copy()?,
-        });
-    }
+    let model = choose(models, library, depth, below, level, &part.model)?;
     let formals = library.formals.as_slice();
-    let table = bind(alloc, &level.scope, &formals[model], part.pairs.items())?;
-    match first_open(&table, &models[model]) {
-        Some(name) => Err(FlatFault::OpenInput { name: name.copy()? }),
-        None => Ok((model, table)),
-    }
+    let pairs = part.pairs.items();
+    let table = full_table(alloc, &level.scope, &formals[model], &models[model], pairs)?;
+    Ok((model, table))
 }

@@ -1,16 +1,17 @@
-ghost use Rattle.std.specs.Prelude.{◌≡◌, ◌≤◌, ◌⊎◌, Ok, Err, IfOk, IfErr};
+ghost use Rattle.std.specs.Prelude.{◌≡◌, ◌<◌, ◌≤◌, ◌⊎◌, length, Ok, Err, IfOk, IfErr};
 ghost use Rattle.netlist.specs.Netlists.{IsNetlist};
 ghost use Rattle.blif_read.specs.Flattening.{CanBeFlattened};
-ghost use Rattle.flatten.specs.Flat.{flat, flat_within};
+ghost use Rattle.flatten.specs.Flat.{flat, flat_at, flat_within};
+ghost use Rattle.flatten.specs.Levels.{IsLibraryOf};
 
 use crate::fault::FlatFault;
-use crate::library::{find, library_of};
+use crate::library::{Library, find, library_of};
 use crate::link::link;
 use crate::mark::mark;
 use crate::walk::flat_lines;
 use blif_read::{BlifModel, Models};
 use cyc_base::{MAX_DEPTH, MAX_FLAT_ITEMS, Name};
-use netlist::{Netlist, PartsFault};
+use netlist::{Netlist, Parts, PartsFault};
 use std::alloc::Global;
 
 /// Parts of a netlist are refused for want of memory alone.
@@ -19,6 +20,51 @@ fn want_of_memory(_fault: PartsFault) -> FlatFault
     ensures { result ≡ FlatFault.Memory }
 {
     FlatFault::Memory
+}
+
+/// The parts of the flat netlist of the model at this place.
+fn flat_parts(
+    alloc: Global,
+    models: &[BlifModel],
+    library: &Library,
+    place: usize,
+    depth: usize,
+    limit: u32,
+) -> Result<Parts, FlatFault>
+    requires library { IsLibraryOf models.now library.now }
+    requires sound { CanBeFlattened models.now }
+    requires place { place < length models.now }
+    requires limit { limit ≤ 4000000 }
+    ensures parts { IfOk result (λ parts. flat_at depth limit models.now place ≡ Ok parts) }
+    ensures valid { IfOk result IsNetlist }
+    ensures fault { IfErr result
+        (λ fault. (fault ≡ FlatFault.Memory) ⊎ (flat_at depth limit models.now place ≡ Err fault)) }
+{
+    let mark = mark(alloc, models)?;
+    let lines = flat_lines(alloc, models, library, &mark, place, depth, limit)?;
+    Ok(link(alloc, &models[place], &lines)?)
+}
+
+/// The parts of the flat netlist of the model of this name.
+fn parts_within(
+    alloc: Global,
+    models: &[BlifModel],
+    top: &Name,
+    depth: usize,
+    limit: u32,
+) -> Result<Parts, FlatFault>
+    requires sound { CanBeFlattened models.now }
+    requires limit { limit ≤ 4000000 }
+    ensures parts { IfOk result (λ parts. flat_within depth limit models.now top.now ≡ Ok parts) }
+    ensures valid { IfOk result IsNetlist }
+    ensures fault { IfErr result
+        (λ fault. (fault ≡ FlatFault.Memory) ⊎ (flat_within depth limit models.now top.now ≡ Err fault)) }
+{
+    let library = library_of(alloc, models)?;
+    match find(models, &library, top) {
+        Some(place) => Ok(flat_parts(alloc, models, &library, place, depth, limit)?),
+        None => Err(FlatFault::UnknownModel { name: top.copy()? }),
+    }
 }
 
 /// The flat netlist, where at most `depth` instances may lie in one another, and at most `limit` gates,
@@ -37,13 +83,7 @@ fn flatten_within(
     ensures fault { IfErr result
         (λ fault. (fault ≡ FlatFault.Memory) ⊎ (flat_within depth limit models.now top.now ≡ Err fault)) }
 {
-    let library = library_of(alloc, models)?;
-    let Some(place) = find(models, &library, top) else {
-        return Err(FlatFault::UnknownModel { name: top.copy()? });
-    };
-    let mark = mark(alloc, models)?;
-    let lines = flat_lines(alloc, models, &library, &mark, place, depth, limit)?;
-    let parts = link(alloc, &models[place], &lines)?;
+    let parts = parts_within(alloc, models, top, depth, limit)?;
     match Netlist::new(alloc, parts) {
         Ok(net) => Ok(net),
         Err(fault) => Err(want_of_memory(fault)),

@@ -1,4 +1,4 @@
-ghost use Rattle.std.specs.Prelude.{◌≡◌, map, fold, IfOk, OnOk, IfSome, length, ◌<◌};
+ghost use Rattle.std.specs.Prelude.{◌≡◌, [], map, fold, IfOk, OnOk, IfSome, length, ◌<◌};
 ghost use Rattle.std.specs.List.{IsDistinct};
 ghost use Rattle.std.specs.Str.{bytes_eq};
 ghost use Rattle.flatten.specs.Instances.{formals, find_model};
@@ -31,28 +31,61 @@ pub(crate) fn add_all(set: &mut IndexSet<Name>, names: &[Name]) -> Result<(), Al
     Ok(())
 }
 
+fn add_formals(set: &mut IndexSet<Name>, model: &BlifModel) -> Result<(), AllocError>
+    requires { set.old.keys ≡ [] }
+    ensures { OnOk result (set.new.keys ≡ each_once (formals model.now)) }
+{
+    add_all(set, model.inputs.items())?;
+    add_all(set, model.outputs.items())?;
+    add_all(set, model.clocks.items())?;
+    Ok(())
+}
+
 fn formals_of(alloc: Global, model: &BlifModel) -> Result<IndexSet<Name>, AllocError>
     ensures { IfOk result (λ set. set.keys ≡ each_once (formals model.now)) }
 {
     let mut set = IndexSet::new(alloc);
-    add_all(&mut set, model.inputs.items())?;
-    add_all(&mut set, model.outputs.items())?;
-    add_all(&mut set, model.clocks.items())?;
+    add_formals(&mut set, model)?;
+    Ok(set)
+}
+
+fn all_formals(alloc: Global, models: &[BlifModel]) -> Result<Vec<IndexSet<Name>>, AllocError>
+    ensures { IfOk result (λ sets.
+        map (λ set. set.keys) sets.items ≡ map (λ model. each_once (formals model)) models.now) }
+{
+    let mut sets = Vec::with_capacity(alloc, models.len())?;
+    for model in models {
+        sets.push(formals_of(alloc, model)?)?;
+    }
+    Ok(sets)
+}
+
+#[tactic(auto, using(crate::proofs::Libraries::names_taken))]
+fn add_model_names(set: &mut IndexSet<Name>, models: &[BlifModel]) -> Result<(), AllocError>
+    requires { set.old.keys ≡ [] }
+    ensures { OnOk result (set.new.keys ≡ each_once (map (λ model. model.name) models.now)) }
+{
+    for model in models {
+        set.insert(model.name.copy()?)?;
+    }
+    Ok(())
+}
+
+fn places_of(alloc: Global, models: &[BlifModel]) -> Result<IndexSet<Name>, AllocError>
+    ensures { IfOk result (λ set. set.keys ≡ each_once (map (λ model. model.name) models.now)) }
+{
+    let mut set = IndexSet::new(alloc);
+    add_model_names(&mut set, models)?;
     Ok(set)
 }
 
 /// The tables of these models.
-#[tactic(auto, using(crate::proofs::Libraries::names_taken))]
 pub(crate) fn library_of(alloc: Global, models: &[BlifModel]) -> Result<Library, AllocError>
     requires { IsDistinct bytes_eq (map (λ model. model.name) models.now) }
     ensures { IfOk result (λ library. IsLibraryOf models.now library) }
 {
-    let mut places = IndexSet::new(alloc);
-    let mut formals = Vec::with_capacity(alloc, models.len())?;
-    for model in models {
-        places.insert(model.name.copy()?)?;
-        formals.push(formals_of(alloc, model)?)?;
-    }
+    let places = places_of(alloc, models)?;
+    let formals = all_formals(alloc, models)?;
     Ok(Library { places, formals })
 }
 

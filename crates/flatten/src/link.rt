@@ -1,8 +1,8 @@
-ghost use Rattle.std.specs.Prelude.{◌≡◌, ◌≤◌, ◌+◌, ◌⊎◌, ◌++◌, not, length, map, None, Some, Ok, Err, IfOk, IfErr, OnOk, option_copied, option_map};
+ghost use Rattle.std.specs.Prelude.{◌≡◌, ◌≤◌, ◌+◌, ◌⊎◌, ◌++◌, [], not, length, map, None, Some, Ok, Err, IfOk, IfErr, OnOk, option_copied, option_map};
 ghost use Rattle.std.specs.List.{find, flat_map};
 ghost use Rattle.std.specs.Option.{option_or};
 ghost use Rattle.flatten.specs.Instances.{is_among};
-ghost use Rattle.flatten.specs.Linking.{reads, own_clocks, twice_after, first_twice, edge_eq, has_control, first_control as first_control_by, is_clock_of, has_bad_control, is_other_control, has_other_control, declared_twice, driven_twice, undriven, bad_clock, latch_with, gate_with, netlist_by, linked};
+ghost use Rattle.flatten.specs.Linking.{reads, drivers, own_clocks, twice_after, first_twice, edge_eq, has_control, first_control as first_control_by, is_clock_of, has_bad_control, is_other_control, has_other_control, declared_twice, driven_twice, undriven, bad_clock, latch_with, gate_with, netlist_by, linked};
 ghost use Rattle.flatten.specs.Drivers.{IsDriversOf, HasSignals, sig_at, sig_or, is_unread};
 ghost use Rattle.flatten.specs.Levels.{lines_of};
 
@@ -24,6 +24,22 @@ pub(crate) struct Drivers {
     pub(crate) clocks: usize,
 }
 
+/// Adds copies of the names that a line of the top declares, all of which are to differ.
+fn declare(set: &mut IndexSet<Name>, names: &[Name]) -> Result<(), FlatFault>
+    requires { set.old.keys ≡ [] }
+    ensures all { OnOk result (set.new.keys ≡ names.now) }
+    ensures once { OnOk result (first_twice names.now ≡ None) }
+    ensures fault { IfErr result (λ fault. (fault ≡ FlatFault.Memory)
+        ⊎ (option_map FlatFault.DeclaredTwice (first_twice names.now) ≡ Some fault)) }
+{
+    for name in names {
+        if !set.insert(name.copy()?)? {
+            return Err(FlatFault::DeclaredTwice { name: name.copy()? });
+        }
+    }
+    Ok(())
+}
+
 /// The names that a line of the top declares, all of them different.
 fn declared(alloc: Global, names: &[Name]) -> Result<IndexSet<Name>, FlatFault>
     ensures all { IfOk result (λ set. set.keys ≡ names.now) }
@@ -32,12 +48,21 @@ fn declared(alloc: Global, names: &[Name]) -> Result<IndexSet<Name>, FlatFault>
         ⊎ (option_map FlatFault.DeclaredTwice (first_twice names.now) ≡ Some fault)) }
 {
     let mut set = IndexSet::new(alloc);
-    for name in names {
-        if !set.insert(name.copy()?)? {
-            return Err(FlatFault::DeclaredTwice { name: name.copy()? });
-        }
-    }
+    declare(&mut set, names)?;
     Ok(set)
+}
+
+/// The inputs of the top, where neither they nor its outputs have a name twice.
+fn declared_inputs(alloc: Global, top: &BlifModel) -> Result<IndexSet<Name>, FlatFault>
+    ensures all { IfOk result (λ set. set.keys ≡ top.now.inputs) }
+    ensures inputs { OnOk result (first_twice top.now.inputs ≡ None) }
+    ensures once { OnOk result (declared_twice top.now ≡ None) }
+    ensures fault { IfErr result
+        (λ fault. (fault ≡ FlatFault.Memory) ⊎ (declared_twice top.now ≡ Some fault)) }
+{
+    let inputs = declared(alloc, top.inputs.items())?;
+    declared(alloc, top.outputs.items())?;
+    Ok(inputs)
 }
 
 /// Adds the clocks of the top that aren't inputs to the inputs, and answers how many they are.
@@ -308,6 +333,26 @@ fn copy_control(latches: &[LatchLine]) -> Result<Option<Clock>, AllocError>
     }
 }
 
+/// Adds the other drivers to the inputs, and answers how many of them are clocks. All drivers are to differ.
+fn add_drivers(
+    set: &mut IndexSet<Name>,
+    top: &BlifModel,
+    lines: &FlatBody,
+) -> Result<usize, FlatFault>
+    requires inputs { set.old.keys ≡ top.now.inputs }
+    requires once { first_twice top.now.inputs ≡ None }
+    ensures all { OnOk result (set.new.keys ≡ drivers top.now (lines_of lines.now)) }
+    ensures clocks { IfOk result (λ clocks. clocks ≡ length (own_clocks top.now)) }
+    ensures once { OnOk result (driven_twice top.now (lines_of lines.now) ≡ None) }
+    ensures fault { IfErr result (λ fault. (fault ≡ FlatFault.Memory)
+        ⊎ (driven_twice top.now (lines_of lines.now) ≡ Some fault)) }
+{
+    let clocks = add_clocks(set, top)?;
+    add_latches(set, &lines.latches)?;
+    add_gates(set, &lines.gates)?;
+    Ok(clocks)
+}
+
 /// The drivers of these lines, all of them different.
 fn drivers_of(alloc: Global, top: &BlifModel, lines: &FlatBody) -> Result<Drivers, FlatFault>
     ensures drivers { IfOk result (λ drivers. IsDriversOf top.now (lines_of lines.now) drivers) }
@@ -315,11 +360,8 @@ fn drivers_of(alloc: Global, top: &BlifModel, lines: &FlatBody) -> Result<Driver
     ensures fault { IfErr result (λ fault. (fault ≡ FlatFault.Memory)
         ⊎ (option_or (declared_twice top.now) (driven_twice top.now (lines_of lines.now)) ≡ Some fault)) }
 {
-    let mut names = declared(alloc, top.inputs.items())?;
-    declared(alloc, top.outputs.items())?;
-    let clocks = add_clocks(&mut names, top)?;
-    add_latches(&mut names, &lines.latches)?;
-    add_gates(&mut names, &lines.gates)?;
+    let mut names = declared_inputs(alloc, top)?;
+    let clocks = add_drivers(&mut names, top, lines)?;
     Ok(Drivers {
         names,
         inputs: top.inputs.items().len(),

@@ -4,7 +4,7 @@ ghost use Rattle.flatten.specs.Wires.{mark_of};
 ghost use Rattle.flatten.specs.Walk.{flat_lines as flat_lines_by};
 ghost use Rattle.blif_read.specs.Flattening.{CanBeFlattened};
 ghost use Rattle.flatten.specs.Printable.{PrintsOn, ArePrintedLines};
-ghost use Rattle.flatten.specs.Levels.{IsLibraryOf, PartFails, PassesGate, PassesLatch, PassesPart, Goes, StepsOn, StepsTo, IsBegun, lines_of};
+ghost use Rattle.flatten.specs.Levels.{IsLibraryOf, entered_on, IsInner, AddsGate, AddsLatch, PutsBack, Opens, PartFails, PassesGate, PassesLatch, PassesPart, Goes, StepsOn, StepsTo, IsBegun, lines_of};
 
 use crate::bind::enter;
 use crate::fault::FlatFault;
@@ -49,9 +49,18 @@ fn item_at(models: &[BlifModel], model: usize, next: usize) -> Option<&Item>
     }
 }
 
-fn pass_gate(alloc: Global, walk: &mut Walk, level: Level, gate: &GateLine) -> Result<(), FlatFault>
+/// Puts a level back, behind the line that was passed.
+fn put_back(walk: &mut Walk, mut level: Level) -> Result<(), AllocError>
     requires { suc level.next < 2 ^ 64 }
-    ensures passed { OnOk result (PassesGate walk.old level gate.now walk.new) }
+    ensures { OnOk result (PutsBack walk.old level walk.new) }
+{
+    level.next += 1;
+    walk.levels.push(level)?;
+    Ok(())
+}
+
+fn add_gate(alloc: Global, walk: &mut Walk, scope: &Scope, gate: &GateLine) -> Result<(), FlatFault>
+    ensures added { OnOk result (AddsGate walk.old scope.now gate.now walk.new) }
     ensures fault { IfErr result
         (λ fault. (fault ≡ FlatFault.Memory) ⊎ ((walk.old.room ≡ 0) × (fault ≡ FlatFault.TooLarge))) }
 {
@@ -59,11 +68,35 @@ fn pass_gate(alloc: Global, walk: &mut Walk, level: Level, gate: &GateLine) -> R
         return Err(FlatFault::TooLarge);
     }
     walk.room -= 1;
-    walk.gates.push(flat_gate(alloc, &level.scope, gate)?)?;
-    walk.levels.push(Level {
-        next: level.next + 1,
-        ..level
-    })?;
+    walk.gates.push(flat_gate(alloc, scope, gate)?)?;
+    Ok(())
+}
+
+fn pass_gate(alloc: Global, walk: &mut Walk, level: Level, gate: &GateLine) -> Result<(), FlatFault>
+    requires { suc level.next < 2 ^ 64 }
+    ensures passed { OnOk result (PassesGate walk.old level gate.now walk.new) }
+    ensures fault { IfErr result
+        (λ fault. (fault ≡ FlatFault.Memory) ⊎ ((walk.old.room ≡ 0) × (fault ≡ FlatFault.TooLarge))) }
+{
+    add_gate(alloc, walk, &level.scope, gate)?;
+    Ok(put_back(walk, level)?)
+}
+
+fn add_latch(
+    alloc: Global,
+    walk: &mut Walk,
+    scope: &Scope,
+    latch: &LatchLine,
+) -> Result<(), FlatFault>
+    ensures added { OnOk result (AddsLatch walk.old scope.now latch.now walk.new) }
+    ensures fault { IfErr result
+        (λ fault. (fault ≡ FlatFault.Memory) ⊎ ((walk.old.room ≡ 0) × (fault ≡ FlatFault.TooLarge))) }
+{
+    if walk.room == 0 {
+        return Err(FlatFault::TooLarge);
+    }
+    walk.room -= 1;
+    walk.latches.push(flat_latch(alloc, scope, latch)?)?;
     Ok(())
 }
 
@@ -78,15 +111,58 @@ fn pass_latch(
     ensures fault { IfErr result
         (λ fault. (fault ≡ FlatFault.Memory) ⊎ ((walk.old.room ≡ 0) × (fault ≡ FlatFault.TooLarge))) }
 {
+    add_latch(alloc, walk, &level.scope, latch)?;
+    Ok(put_back(walk, level)?)
+}
+
+/// The level of an instance that stands in `level`.
+fn inner_level(
+    alloc: Global,
+    models: &[BlifModel],
+    library: &Library,
+    mark: &Name,
+    depth: usize,
+    walk: &Walk,
+    level: &Level,
+    part: &PartLine,
+) -> Result<Level, FlatFault>
+    requires library { IsLibraryOf models.now library.now }
+    requires within { All (λ l. l.model < length models.now) walk.now.levels.items }
+    requires here { level.now.model < length models.now }
+    requires number { suc level.now.parts < 2 ^ 64 }
+    ensures model { IfOk result
+        (λ inner. entered_on depth models.now walk.now.levels.items level.now part.now ≡ Ok inner.model) }
+    ensures inside { IfOk result (IsInner mark.now level.now part.now) }
+    ensures some { OnOk result (0 < walk.now.room) }
+    ensures fault { IfErr result
+        (λ fault. (fault ≡ FlatFault.Memory) ⊎ PartFails depth models.now walk.now level.now part.now fault) }
+{
+    let below = walk.levels.as_slice();
+    let (model, table) = enter(alloc, models, library, depth, below, level, part)?;
     if walk.room == 0 {
         return Err(FlatFault::TooLarge);
     }
+    let prefix = inner_prefix(alloc, &level.scope.prefix, level.parts + 1, mark)?;
+    Ok(Level {
+        model,
+        next: 0,
+        parts: 0,
+        scope: Scope { prefix, table },
+    })
+}
+
+/// Puts a level back, behind the instance that opens above it.
+fn open(walk: &mut Walk, mut level: Level, inner: Level) -> Result<(), AllocError>
+    requires next { suc level.next < 2 ^ 64 }
+    requires parts { suc level.parts < 2 ^ 64 }
+    requires room { 0 < walk.old.room }
+    ensures { OnOk result (Opens walk.old level inner walk.new) }
+{
+    level.next += 1;
+    level.parts += 1;
     walk.room -= 1;
-    walk.latches.push(flat_latch(alloc, &level.scope, latch)?)?;
-    walk.levels.push(Level {
-        next: level.next + 1,
-        ..level
-    })?;
+    walk.levels.push(level)?;
+    walk.levels.push(inner)?;
     Ok(())
 }
 
@@ -109,25 +185,8 @@ fn pass_part(
     ensures fault { IfErr result
         (λ fault. (fault ≡ FlatFault.Memory) ⊎ PartFails depth models.now walk.old level part.now fault) }
 {
-    let below = walk.levels.as_slice();
-    let (model, table) = enter(alloc, models, library, depth, below, &level, part)?;
-    if walk.room == 0 {
-        return Err(FlatFault::TooLarge);
-    }
-    walk.room -= 1;
-    let prefix = inner_prefix(alloc, &level.scope.prefix, level.parts + 1, mark)?;
-    walk.levels.push(Level {
-        next: level.next + 1,
-        parts: level.parts + 1,
-        ..level
-    })?;
-    walk.levels.push(Level {
-        model,
-        next: 0,
-        parts: 0,
-        scope: Scope { prefix, table },
-    })?;
-    Ok(())
+    let inner = inner_level(alloc, models, library, mark, depth, walk, &level, part)?;
+    Ok(open(walk, level, inner)?)
 }
 
 /// One step: past the next item of the innermost level, or out of it where there is none.

@@ -1,6 +1,6 @@
 use Rattle.std.proofs.Common.{◌≡◌, take, drop}
 use Rattle.flatten.specs.Linking.{twice_after, first_twice}
-use Rattle.flatten.proofs.link.declared.Given as goal
+use Rattle.flatten.proofs.link.declare.Given as goal
 
 abbrev pub invariant-loop-name : goal.invariant-loop-name
 invariant-loop-name l = record {

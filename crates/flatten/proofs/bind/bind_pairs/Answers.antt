@@ -1,0 +1,37 @@
+use Rattle.std.proofs.Common.{◌<◌, inl, inr, ⊎_elim, length, sym, ◌∙◌, arith}
+use Rattle.std.proofs.lemmas.Result.{err_from_is_err_and}
+use Rattle.flatten.proofs.Binding.{bound_taken, formal_fits, pair_refused, pair_taken}
+use Rattle.flatten.proofs.bind.bind_pairs.Goals as goal
+
+pub bind_formal-requires : goal.bind_formal-requires
+bind_formal-requires c =
+    (formal_fits c.args.formals.now.keys c.loop-formal.table.entries c.loop-formal-item.result.0 c.in_ok-check_formal.ensures.fits).1
+
+pub returns-in_err-check_formal-clause-fault : goal.returns-in_err-check_formal-clause-fault
+returns-in_err-check_formal-clause-fault c =
+    let pairs = c.args.pairs.now in
+    let i = c.loop-formal.formal-index in
+    let p = c.loop-formal-item.result in
+    let l : i < length pairs = omega arith in
+    let q = err_from_is_err_and c.from_residual.result c.from_residual.ensures.1 in
+    rw (q.1, q.2)
+    (⊎_elim
+    (λ m. inl m)
+    (λ e. inr (sym c.loop-formal.invariant.fault ∙ pair_refused c.args.formals.now.keys c.args.scope.now.prefix c.args.scope.now.table.entries pairs c.loop-formal.table.entries i p l c.loop-formal-item.is c.loop-formal.invariant.table c.in_err-check_formal.field-0.0 e))
+    c.in_err-check_formal.ensures.fault)
+
+pub loop-formal-preserved : goal.loop-formal-preserved
+loop-formal-preserved c =
+    let pairs = c.args.pairs.now in
+    let i = c.loop-formal.formal-index in
+    let p = c.loop-formal-item.result in
+    let l : i < length pairs = omega arith in
+    let b = bound_taken c.args.scope.now.prefix c.args.scope.now.table.entries pairs i p l c.loop-formal-item.is in
+    let e = c.in_ok-bind_formal.ensures in
+    let t = c.loop-formal.invariant.table in
+    record {
+      table = cc;
+      fault =
+          pair_taken c.args.formals.now.keys c.args.scope.now.prefix c.args.scope.now.table.entries pairs c.loop-formal.table.entries i p l c.loop-formal-item.is t c.in_ok-check_formal.ensures.fits
+          ∙ c.loop-formal.invariant.fault;
+    }

@@ -1,0 +1,8 @@
+use Rattle.std.proofs.Common.{◌≡◌, [], take, map, fold}
+use Rattle.std.specs.Str.{bytes_eq}
+use Rattle.indexmap.specs.IndexSet.{insert_key}
+use Rattle.flatten.proofs.library.add_model_names.Given as goal
+
+abbrev pub invariant-loop-model : goal.invariant-loop-model
+invariant-loop-model l =
+    l.set.keys ≡ fold (insert_key bytes_eq) [] (map (λ model. model.name) (take l.model-index l.models))
