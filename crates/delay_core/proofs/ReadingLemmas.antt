@@ -76,6 +76,14 @@ start-some opening marks zero back l = omega arith
 start-some opening marks (suc round) zero l = omega arith
 start-some opening marks (suc round) (suc back) l = start-some opening marks round back l
 
+-- one value more of a list that is made from the front on
+pub pushed : {X : Type 0} (whole before after : List X) (value d : X) (i : ℕ) → i < length whole → after ≡ before ++ value ∷ [] → before ≡ take i whole → get_or whole i d ≡ value → after ≡ take (i + 1) whole
+pushed whole before after value d i l now was here =
+    now
+    ∙ ap (λ xs. xs ++ value ∷ []) was
+    ∙ ap (λ x. take i whole ++ x ∷ []) (sym here)
+    ∙ sym (take_more whole i d l)
+
 -- one value more of a list that a function makes
 pub map-more : {X : Type 0} (f : X → Bool) (xs : List X) (i : ℕ) (d : X) → i < length xs → take (i + 1) (map f xs) ≡ take i (map f xs) ++ f (get_or xs i d) ∷ []
 map-more f xs i d l =
