@@ -1,6 +1,6 @@
 -- What pins see, and where rounds begin.
-use Rattle.std.proofs.Common.{◌≡◌, inl, inr, ℕ, zero, suc, ◌+◌, ◌-◌, ◌<◌, ◌≤◌, Bool, false, List, [], ◌∷◌, ◌++◌, length, map, filter, take, replicate, min, get_or, refl, ap, ap₂, sym, ◌∙◌, arith, nat_lt}
-use Rattle.std.proofs.lemmas.List.{length-map, get_or_default, get_or-map, take_more, take_all, take-replicate}
+use Rattle.std.proofs.Common.{◌≡◌, inl, inr, ℕ, zero, suc, ◌+◌, ◌-◌, ◌<◌, ◌≤◌, Bool, false, List, [], ◌∷◌, ◌++◌, length, filter, take, replicate, min, get_or, refl, ap, ap₂, sym, ◌∙◌, arith, nat_lt}
+use Rattle.std.proofs.lemmas.List.{get_or_default, take_more, take_all, take-replicate}
 use Rattle.std.proofs.lemmas.Bool.{cases_lt, lt-ltb, le-ltb}
 use Rattle.cyc_base.specs.declared.sig.Sig.{Sig}
 use Rattle.schedules.specs.Moments.{History, bit_at, moment_at, seen}
@@ -76,11 +76,13 @@ start-some opening marks zero back l = omega arith
 start-some opening marks (suc round) zero l = omega arith
 start-some opening marks (suc round) (suc back) l = start-some opening marks round back l
 
--- one value more of a list that a function makes
-pub map-more : {X : Type 0} (f : X → Bool) (xs : List X) (i : ℕ) (d : X) → i < length xs → take (i + 1) (map f xs) ≡ take i (map f xs) ++ f (get_or xs i d) ∷ []
-map-more f xs i d l =
-    take_more (map f xs) i false (omega (arith, length-map xs f))
-    ∙ ap (λ b. take i (map f xs) ++ b ∷ []) (get_or-map f xs i d false l)
+-- one value more of a list that is made from the front on
+pub pushed : {X : Type 0} (whole before after : List X) (value d : X) (i : ℕ) → i < length whole → after ≡ before ++ value ∷ [] → before ≡ take i whole → get_or whole i d ≡ value → after ≡ take (i + 1) whole
+pushed whole before after value d i l now was here =
+    now
+    ∙ ap (λ xs. xs ++ value ∷ []) was
+    ∙ ap (λ x. take i whole ++ x ∷ []) (sym here)
+    ∙ sym (take_more whole i d l)
 
 -- without events all rounds begin at the opening
 pub starts-none : (opening round : ℕ) → starts_of opening [] round ≡ replicate round opening

@@ -20,12 +20,9 @@ pub(crate) fn moment_of(
 ) -> Result<Vec<bool>, AllocError>
     ensures { IfOk result (λ moment. moment.items ≡ wires (inputs.now ++ latches.now) gates.now) }
 {
-    inputs
-        .iter()
-        .chain(latches)
-        .chain(gates)
-        .copied()
-        .collect(alloc)
+    let mut moment = vector_of(alloc, inputs, latches)?;
+    moment.extend_from_slice(gates)?;
+    Ok(moment)
 }
 
 /// The values of the inputs, and of the latches behind them.
@@ -36,7 +33,9 @@ pub(crate) fn vector_of(
 ) -> Result<Vec<bool>, AllocError>
     ensures { IfOk result (λ vector. vector.items ≡ inputs.now ++ latches.now) }
 {
-    inputs.iter().chain(latches).copied().collect(alloc)
+    let mut vector = inputs.to_vec(alloc)?;
+    vector.extend_from_slice(latches)?;
+    Ok(vector)
 }
 
 /// What the latches load at the newest moment.

@@ -18,7 +18,6 @@ use netlist::Netlist;
 use std::alloc::Global;
 
 // The ages of a line, which stand behind the name.
-#[tactic(auto, using(crate::proofs::AgeLemmas::ages_next, crate::proofs::AgeLemmas::ages_fault, crate::proofs::AgeLemmas::ages_end))]
 fn read_ages(alloc: Global, lines: &Piece, i: usize) -> Result<Items<u32>, SchedFault>
     requires line { i < length lines.now }
     requires words { 2 ≤ length (line_at lines.now i).words }

@@ -2,7 +2,7 @@ use cyc_base::Bits;
 use delay_core::PlannedEvent;
 
 /// What a line of a schedule says.
-#[derive(Debug, Drop)]
+#[derive(Drop)]
 pub enum Statement {
     /// Which format the lines have.
     Format,

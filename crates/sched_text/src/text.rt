@@ -7,7 +7,7 @@ ghost use Rattle.sched_text.specs.Fitting.{FitsNetlist};
 ghost use Rattle.sched_text.specs.Kinds.{lacks_lines as lacks_lines_behind};
 ghost use Rattle.sched_text.specs.Pieces.{bad_line};
 ghost use Rattle.sched_text.specs.ReadingOn.{ReadsPiece, FailsPiece};
-ghost use Rattle.sched_text.specs.Running.{seen};
+ghost use Rattle.sched_text.specs.Running.{seen, new_draft, ended};
 ghost use Rattle.sched_text.specs.Schedules.{schedule_read};
 
 use crate::draft::Draft;
@@ -64,20 +64,23 @@ fn check_rest(alloc: Global, pieces: &mut Pieces) -> Result<(), SchedFault>
     Ok(())
 }
 
-fn read_text(
+// Reads the lines of a text into a draft that has none.
+fn read_lines(
     alloc: Global,
     net: &Netlist,
     ticks: usize,
     bytes: &[u8],
-) -> Result<Schedule, SchedFault>
-    ensures { Answers result (schedule_read bytes.now net.now ticks) }
+    draft: &mut Draft,
+) -> Result<(), SchedFault>
+    requires { seen draft.old ≡ new_draft }
+    ensures read { OnOk result (schedule_read bytes.now net.now ticks ≡ Ok (ended (seen draft.new))) }
+    ensures fault { IfErr result (λ fault. fault ≢ Memory → schedule_read bytes.now net.now ticks ≡ Err fault) }
 {
     let end = end_line(bytes);
     let mut pieces = Pieces::of(bytes);
     let mut place = Place::first();
-    let mut draft = Draft::new(alloc);
     while let Some(lines) = pieces.next_piece(alloc)? {
-        match take_piece(alloc, net, ticks, end, &lines, place, &mut draft) {
+        match take_piece(alloc, net, ticks, end, &lines, place, draft) {
             Ok(next) => place = next,
             Err(fault) => {
                 check_rest(alloc, &mut pieces)?;
@@ -86,6 +89,19 @@ fn read_text(
         }
     }
     place.check_end(ticks, end)?;
+    Ok(())
+}
+
+fn read_text(
+    alloc: Global,
+    net: &Netlist,
+    ticks: usize,
+    bytes: &[u8],
+) -> Result<Schedule, SchedFault>
+    ensures { Answers result (schedule_read bytes.now net.now ticks) }
+{
+    let mut draft = Draft::new(alloc);
+    read_lines(alloc, net, ticks, bytes, &mut draft)?;
     Ok(draft.end()?)
 }
 

@@ -97,7 +97,7 @@ pub(crate) fn least_completion(
     requires possible { ext cover.now trits.now ≢ bit (not wanted) }
     ensures { IfOk result (λ bits. bits ≡ least_where (value_of cover.now) wanted trits.now) }
 {
-    let mut decided: Vec<Trit> = trits.iter().copied().collect(alloc)?;
+    let mut decided = trits.to_vec(alloc)?;
     let bits = decided_bits(alloc, cover, decided.as_mut_slice(), wanted)?;
     Ok(Bits::of(bits))
 }

@@ -44,7 +44,8 @@ fn gates_with(alloc: Global, plan: &StormPlan, value: bool) -> Result<Vec<bool>,
 fn moment_of(alloc: Global, v: &[bool], gates: &[bool]) -> Result<Bits, AllocError>
     ensures { IfOk result (λ moment. moment ≡ wires v.now gates.now) }
 {
-    let moment: Vec<bool> = v.iter().chain(gates).copied().collect(alloc)?;
+    let mut moment = v.to_vec(alloc)?;
+    moment.extend_from_slice(gates)?;
     Ok(Bits::of(moment))
 }
 
@@ -63,7 +64,7 @@ fn latches_of(alloc: Global, net: &Netlist, v: &[bool]) -> Result<Bits, AllocErr
     requires { length net.now.inputs ≤ length v.now }
     ensures { IfOk result (λ latches. latches ≡ drop (length net.now.inputs) v.now) }
 {
-    let latches: Vec<bool> = v[net.inputs() as usize..].iter().copied().collect(alloc)?;
+    let latches = v[net.inputs() as usize..].to_vec(alloc)?;
     Ok(Bits::of(latches))
 }
 

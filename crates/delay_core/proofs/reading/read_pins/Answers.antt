@@ -1,7 +1,7 @@
-use Rattle.std.proofs.Common.{◌≡◌, ◌<◌, ◌++◌, ◌∷◌, [], false, length, take, get_or, sym, ap, ◌∙◌, arith}
-use Rattle.std.proofs.lemmas.List.{take_more, take_all}
+use Rattle.std.proofs.Common.{◌≡◌, ◌<◌, false, length, get_or, sym, ◌∙◌, arith}
+use Rattle.std.proofs.lemmas.List.{take_all}
 use Rattle.schedules.specs.Moments.{seen}
-use Rattle.delay_core.proofs.ReadingLemmas.{length-seen, seen-at}
+use Rattle.delay_core.proofs.ReadingLemmas.{length-seen, seen-at, pushed}
 use Rattle.delay_core.proofs.reading.read_pins.Goals as goal
 
 pub loop-i-preserved : goal.loop-i-preserved
@@ -12,10 +12,8 @@ loop-i-preserved c =
     seen-at c.args.timeline.now.history c.args.pins.now c.args.ages.now c.loop-i.i (record { 0 = 0 }) 0 c.requires.count c.loop-i-test.true
     ∙ sym c.value.ensures in
     record {
-      seen = c.push_reserved.ensures.items
-          ∙ ap (λ xs. xs ++ c.value.result ∷ []) c.loop-i.invariant.seen
-          ∙ ap (λ b. take c.loop-i.i (seen c.args.timeline.now.history c.args.pins.now c.args.ages.now) ++ b ∷ []) (sym here)
-          ∙ sym (take_more (seen c.args.timeline.now.history c.args.pins.now c.args.ages.now) c.loop-i.i false in_range);
+      seen = pushed (seen c.args.timeline.now.history c.args.pins.now c.args.ages.now) _ _ c.value.result false c.loop-i.i
+          in_range c.push_reserved.ensures.items c.loop-i.invariant.seen here;
       capacity = c.push_reserved.ensures.capacity ∙ c.loop-i.invariant.capacity;
     }
 

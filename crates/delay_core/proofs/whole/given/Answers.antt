@@ -1,10 +1,11 @@
-use Rattle.std.proofs.Common.{◌≡◌, ◌++◌, ◌∷◌, [], ◌+◌, ◌<◌, Bool, List, ℕ, false, length, take, get_or, ap, sym, ◌∙◌, arith}
-use Rattle.std.proofs.lemmas.List.{take_more, length-map, get_or-map, get_or-take, length-take, length-append}
+use Rattle.std.proofs.Common.{◌≡◌, ◌∷◌, [], ◌+◌, ◌<◌, Bool, List, ℕ, false, length, get_or, ap, sym, ◌∙◌, arith}
+use Rattle.std.proofs.lemmas.List.{length-map, get_or-map, get_or-take, length-take, length-append}
 use Rattle.cyc_base.specs.declared.trit.Trit.{Trit}
 use Rattle.cyc_base.specs.declared.trit.Trit.TheVariants.{X}
 use Rattle.cyc_base.specs.Values.{bit, bits}
 use Rattle.schedules.specs.Moments.{newest}
 use Rattle.delay_core.specs.Plans.{given_at}
+use Rattle.delay_core.proofs.ReadingLemmas.{pushed}
 use Rattle.delay_core.proofs.whole.given.Goals as goal
 
 pub loop-number-preserved : goal.loop-number-preserved
@@ -20,9 +21,7 @@ loop-number-preserved c =
     ∙ ap bit (get_or-take columns now c.loop-number.number false here ∙ sym c.value.ensures.value)
     ∙ sym c.of.ensures in
     record {
-      values = c.in_ok-push.ensures.items
-          ∙ ap (λ (xs : List Trit). xs ++ c.of.result ∷ []) c.loop-number.invariant.values
-          ∙ ap (λ (x : Trit). take c.loop-number.number (bits (given_at c.args.net.now now)) ++ x ∷ []) (sym value)
-          ∙ sym (take_more (bits (given_at c.args.net.now now)) c.loop-number.number X (omega (arith, length-map (given_at c.args.net.now now) bit)));
+      values = pushed (bits (given_at c.args.net.now now)) c.loop-number.values.items c.push.new.self.items c.of.result X c.loop-number.number
+          (omega (arith, length-map (given_at c.args.net.now now) bit)) c.in_ok-push.ensures.items c.loop-number.invariant.values value;
       len = omega (arith, ap (λ (xs : List Trit). length xs) c.in_ok-push.ensures.items, length-append c.loop-number.values.items (c.of.result ∷ []), c.loop-number.invariant.len);
     }

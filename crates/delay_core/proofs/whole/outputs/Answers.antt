@@ -1,7 +1,8 @@
-use Rattle.std.proofs.Common.{◌≡◌, ◌++◌, ◌∷◌, [], ◌<◌, Bool, List, length, take, get_or, sym, ap, ◌∙◌}
+use Rattle.std.proofs.Common.{◌≡◌, ◌<◌, Bool, List, false, length, get_or, sym, ◌∙◌, arith}
+use Rattle.std.proofs.lemmas.List.{get_or-map, length-map}
 use Rattle.schedules.specs.Moments.{newest, bit_at}
 use Rattle.schedules.specs.Runs.{outputs_at}
-use Rattle.delay_core.proofs.ReadingLemmas.{map-more}
+use Rattle.delay_core.proofs.ReadingLemmas.{pushed}
 use Rattle.delay_core.proofs.whole.outputs.Goals as goal
 
 pub loop-s-preserved : goal.loop-s-preserved
@@ -10,7 +11,6 @@ loop-s-preserved c =
     let read : c.value.result ≡ bit_at last (get_or c.args.net.now.outputs c.loop-s.s-index (record { 0 = 0 })) =
     rw c.outputs-s-items.ensures.outputs at c.value.ensures.value in
     let in_range : c.loop-s.s-index < length c.args.net.now.outputs = rw c.outputs-s-items.ensures.outputs at c.loop-s-test.true in
-    c.in_ok-push.ensures.items
-    ∙ ap (λ xs. xs ++ c.value.result ∷ []) c.loop-s.invariant
-    ∙ ap (λ b. take c.loop-s.s-index (outputs_at c.args.net.now last) ++ b ∷ []) read
-    ∙ sym (map-more (bit_at last) c.args.net.now.outputs c.loop-s.s-index (record { 0 = 0 }) in_range)
+    pushed (outputs_at c.args.net.now last) c.loop-s.bits.items c.push.new.self.items c.value.result false c.loop-s.s-index
+    (omega (arith, length-map c.args.net.now.outputs (bit_at last))) c.in_ok-push.ensures.items c.loop-s.invariant
+    (get_or-map (bit_at last) c.args.net.now.outputs c.loop-s.s-index (record { 0 = 0 }) false in_range ∙ sym read)

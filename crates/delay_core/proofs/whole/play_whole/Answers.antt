@@ -9,7 +9,7 @@ use Rattle.delay_core.specs.Plays.{most_rounds}
 use Rattle.delay_core.specs.Plans.{PlannedTick, schedule_fault, tick_of}
 use Rattle.delay_core.proofs.EndLemmas.{ticks_told, ticks_in_time, inputs_fit}
 use Rattle.delay_core.proofs.FairLemmas.{schedule_fair}
-use Rattle.delay_core.proofs.WholeLemmas.{err_is, ticks_left, no_ticks_left, first_played, next_faults, next_played, whole_none, whole_ends}
+use Rattle.delay_core.proofs.WholeLemmas.{err_is, ticks_left, no_ticks_left, first_played, first_faults, next_faults, next_played, whole_none, whole_ends}
 use Rattle.delay_core.proofs.whole.play_whole.Goals as goal
 
 pub loop-i-init : goal.loop-i-init
@@ -27,6 +27,26 @@ loop-i-init c =
     rw (c.in_ok-play.ensures.end, c.new-ends.ensures.items)
     (first_played c.args.net.now c.args.schedule.now vectors c.items-first.result.now c.items-plan.result.now is c.in_ok-play.play.state
     c.in_ok-play.ensures.played c.in_ok-play.ensures.none)
+
+pub returns-in_err-play-clause-fault : goal.returns-in_err-play-clause-fault
+returns-in_err-play-clause-fault c =
+    let vectors : List (List Bool) = c.args.vectors.now in
+    let ticks : List (List RoundPlan) = c.args.schedule.now.ticks in
+    let some : 0 < length vectors = grind (arith, common_steps) in
+    let inputs : c.items-first.result.now ≡ get_or vectors 0 [] =
+    c.items-first.ensures ∙ get_or_read vectors 0 c.index-vectors-0.result some c.index-vectors-0.is [] in
+    let rounds : c.items-plan.result.now ≡ get_or ticks 0 [] =
+    c.items-plan.ensures ∙ get_or_read ticks 0 c.index-plans-0.result (omega (arith, c.requires.ticks)) (rw c.items-plans.ensures at c.index-plans-0.is) [] in
+    let is : zip vectors ticks ≡ (c.items-first.result.now, c.items-plan.result.now) ∷ drop 1 (zip vectors ticks) =
+    rw (inputs, rounds) (ticks_left vectors ticks 0 c.requires.ticks some) in
+    let fault : PlayFault = c.in_err-play.field-0.0 in
+    err_is c.from_residual-in_err-play.result fault
+    (λ (f : PlayFault). (f ≡ Memory) ⊎ (schedule_fault c.args.net.now c.args.schedule.now vectors ≡ Some f))
+    c.from_residual-in_err-play.ensures.1
+    (elim c.in_err-play.ensures.fault [
+      | inl memory ↦ inl memory
+      | inr first ↦ inr (first_faults c.args.net.now c.args.schedule.now vectors c.items-first.result.now c.items-plan.result.now is fault first)
+    ])
 
 pub returns-in_err-play_next-clause-fault : goal.returns-in_err-play_next-clause-fault
 returns-in_err-play_next-clause-fault c =

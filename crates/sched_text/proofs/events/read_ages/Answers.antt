@@ -1,0 +1,32 @@
+use Rattle.std.proofs.Common.{ap, sym, ◌∙◌, arith, Some, None}
+use Rattle.std.specs.Prelude.{if◌then◌else◌}
+use Rattle.blif_text.specs.Lines.{line_at}
+use Rattle.sched_text.specs.declared.fault.SchedFault.TheVariants.{BadLine}
+use Rattle.sched_text.specs.Numbers.{number}
+use Rattle.sched_text.proofs.AgeLemmas.{ages_next, ages_fault, ages_good, ages_end}
+use Rattle.sched_text.proofs.events.read_ages.Goals as goal
+
+pub loop-k-preserved : goal.loop-k-preserved
+loop-k-preserved c =
+    ages_next (line_at c.args.lines.now c.args.i).words c.loop-k.ages.items c.push.new.self.items c.loop-k.k c.in-Some.age c.loop-k.invariant
+    (omega (arith, c.loop-k-test.true, c.words-words.ensures))
+    (sym (ap number c.word.ensures) ∙ sym c.number.ensures ∙ c.in-Some.is)
+    c.in_ok-push-in-Some.ensures.items
+
+pub returns-in-None : goal.returns-in-None
+returns-in-None c = λ other.
+    ap (λ t. if t then None else Some (BadLine (line_at c.args.lines.now c.args.i).number))
+    (ages_fault (line_at c.args.lines.now c.args.i).words c.loop-k.ages.items c.loop-k.k c.loop-k.invariant
+    (omega (arith, c.loop-k-test.true, c.words-words.ensures))
+    (sym (ap number c.word.ensures) ∙ sym c.number.ensures ∙ c.in-None.is))
+    ∙ ap (λ n. Some (BadLine n)) (sym c.number-in-None.ensures)
+
+pub returns : goal.returns
+returns c = record {
+  no_fault = ap (λ t. if t then None else Some (BadLine (line_at c.args.lines.now c.args.i).number))
+      (ages_good (line_at c.args.lines.now c.args.i).words c.loop-k.ages.items c.loop-k.k c.loop-k.invariant
+      (omega (arith, c.loop-k-test.false, c.words-words.ensures)));
+  is = c.of.ensures
+      ∙ ages_end (line_at c.args.lines.now c.args.i).words c.loop-k.ages.items c.loop-k.k c.loop-k.invariant
+      (omega (arith, c.loop-k-test.false, c.words-words.ensures));
+}
