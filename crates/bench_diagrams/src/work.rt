@@ -1,4 +1,4 @@
-ghost use Rattle.std.specs.Prelude.{◌≡◌, IfOk};
+ghost use Rattle.std.specs.Prelude.{IsTrue};
 ghost use Rattle.bdd_store.specs.Arena.{IsNodeOf};
 
 use bdd_ops::Diagrams;
@@ -6,12 +6,14 @@ use bdd_store::Node;
 use cyc_base::MAX_NODES;
 use std::alloc::{AllocError, Global};
 
-/// Diagrams, and how many operations there were. A node of other diagrams and a variable that there is not
-/// are errors.
+/// Diagrams, how many operations there were since their start, and whether each gave its node. An operation that
+/// gives none answers the constant 0: where memory or room runs out, at a node of other diagrams, and at a variable
+/// that there is not.
 #[derive(Drop)]
 pub struct Work {
     diagrams: Diagrams,
     operations: u64,
+    is_whole: bool,
 }
 
 impl Work {
@@ -21,13 +23,14 @@ impl Work {
         Ok(Work {
             diagrams,
             operations: 0,
+            is_whole: true,
         })
     }
 
     /// Begins anew with so many variables.
-    pub fn start(&mut self, vars: u32) -> Result<(), AllocError> {
+    pub fn start(&mut self, vars: u32) {
         self.operations = 0;
-        self.diagrams.start(vars, MAX_NODES)
+        self.is_whole = self.diagrams.start(vars, MAX_NODES).is_ok();
     }
 
     pub fn nodes(&self) -> u32 {
@@ -38,63 +41,74 @@ impl Work {
         self.operations
     }
 
-    fn ours(&self, n: Node) -> anyhow::Result<Node>
-        ensures { IfOk result (IsNodeOf self.now.diagrams) }
-    {
-        if self.diagrams.store().contains(n) {
-            Ok(n)
-        } else {
-            anyhow::bail!("a node of other diagrams")
-        }
+    pub fn is_whole(&self) -> bool {
+        self.is_whole
     }
 
-    fn count(&mut self)
-        ensures { self.new.diagrams ≡ self.old.diagrams }
+    fn has(&self, n: Node) -> bool
+        ensures { IsTrue result → IsNodeOf self.now.diagrams n }
     {
+        self.diagrams.store().contains(n)
+    }
+
+    // Counts an operation, and answers its node.
+    fn counted(&mut self, answer: Option<Node>) -> Node {
         self.operations = self.operations.wrapping_add(1);
+        self.is_whole = self.is_whole && answer.is_some();
+        answer.unwrap_or(Node::of(false))
     }
 
-    pub fn var(&mut self, v: u32) -> anyhow::Result<Node> {
-        self.count();
-        if v < self.diagrams.store().vars() {
-            Ok(self.diagrams.var(v)?)
+    pub fn var(&mut self, v: u32) -> Node {
+        let answer = if v < self.diagrams.store().vars() {
+            self.diagrams.var(v).ok()
         } else {
-            anyhow::bail!("there is no variable {v}")
-        }
+            None
+        };
+        self.counted(answer)
     }
 
-    pub fn not(&mut self, a: Node) -> anyhow::Result<Node> {
-        self.count();
-        let a = self.ours(a)?;
-        Ok(self.diagrams.not(a)?)
+    pub fn not(&mut self, a: Node) -> Node {
+        let answer = if self.has(a) {
+            self.diagrams.not(a).ok()
+        } else {
+            None
+        };
+        self.counted(answer)
     }
 
-    pub fn and(&mut self, a: Node, b: Node) -> anyhow::Result<Node> {
-        self.count();
-        let a = self.ours(a)?;
-        let b = self.ours(b)?;
-        Ok(self.diagrams.and(a, b)?)
+    pub fn and(&mut self, a: Node, b: Node) -> Node {
+        let answer = if self.has(a) && self.has(b) {
+            self.diagrams.and(a, b).ok()
+        } else {
+            None
+        };
+        self.counted(answer)
     }
 
-    pub fn or(&mut self, a: Node, b: Node) -> anyhow::Result<Node> {
-        self.count();
-        let a = self.ours(a)?;
-        let b = self.ours(b)?;
-        Ok(self.diagrams.or(a, b)?)
+    pub fn or(&mut self, a: Node, b: Node) -> Node {
+        let answer = if self.has(a) && self.has(b) {
+            self.diagrams.or(a, b).ok()
+        } else {
+            None
+        };
+        self.counted(answer)
     }
 
-    pub fn xor(&mut self, a: Node, b: Node) -> anyhow::Result<Node> {
-        self.count();
-        let a = self.ours(a)?;
-        let b = self.ours(b)?;
-        Ok(self.diagrams.xor(a, b)?)
+    pub fn xor(&mut self, a: Node, b: Node) -> Node {
+        let answer = if self.has(a) && self.has(b) {
+            self.diagrams.xor(a, b).ok()
+        } else {
+            None
+        };
+        self.counted(answer)
     }
 
-    pub fn ite(&mut self, a: Node, b: Node, c: Node) -> anyhow::Result<Node> {
-        self.count();
-        let a = self.ours(a)?;
-        let b = self.ours(b)?;
-        let c = self.ours(c)?;
-        Ok(self.diagrams.ite(a, b, c)?)
+    pub fn ite(&mut self, a: Node, b: Node, c: Node) -> Node {
+        let answer = if self.has(a) && self.has(b) && self.has(c) {
+            self.diagrams.ite(a, b, c).ok()
+        } else {
+            None
+        };
+        self.counted(answer)
     }
 }

@@ -2,14 +2,16 @@
 
 ghost use Rattle.std.specs.Prelude.{◌≡◌, IfOk};
 ghost use Rattle.netlist.specs.Netlists.{IsNetlist};
+ghost use Rattle.loops.specs.Blocks.{AreBlocksOf};
+ghost use Rattle.loops.specs.Cuts.{IsCutOf};
 
 use crate::texts::net_of;
 use bdd_ops::Diagrams;
-use bdd_store::Node;
+use bdd_store::{Node, StoreFault};
 use cyc_base::{Items, Trit};
 use dual_rail::{Rails, var_rails};
 use fixpoint::{keep_rails, rails_of, solve};
-use loops::{find_blocks, find_cut};
+use loops::{Blocks, Cut, find_blocks, find_cut};
 use netlist::Netlist;
 use std::alloc::{AllocError, Global};
 use std::test::Fail;
@@ -17,86 +19,53 @@ use ternary_run::settle;
 
 pub const NETS: u32 = 13;
 
-/// The gates of a netlist whose signal 0 is an input and whose signal 1 is a latch, so that they are the signals
-/// from 2 on. The first letter of a gate is its cover's, and each digit behind it is a signal that it reads.
-fn gates_of(number: u32) -> &'static [&'static str] {
+/// The gates of a netlist as BLIF, whose signal `s0` is an input and whose signal `s1` is a latch, which loads `s2`.
+fn gates_of(number: u32) -> &'static [u8] {
     match number {
         // no loop
-        0 => &["^01", "&20"],
+        0 => b".names s0 s1 s2\n10 1\n01 1\n.names s2 s0 s3\n11 1\n",
         // a gate that needs itself where the input is 1
-        1 => &["&02"],
+        1 => b".names s0 s2 s2\n11 1\n",
         // a tautology of itself
-        2 => &["t2"],
+        2 => b".names s2 s2\n0 1\n1 1\n",
         // a gate or its complement: two gates, so it is unknown
-        3 => &["!3", "|23"],
+        3 => b".names s3 s2\n0 1\n.names s2 s3 s3\n1- 1\n-1 1\n",
         // a ring of three inverters
-        4 => &["!4", "!2", "!3"],
+        4 => b".names s4 s2\n0 1\n.names s2 s3\n0 1\n.names s3 s4\n0 1\n",
         // two cross-coupled gates that the input and the latch set and reset
-        5 => &["N03", "N12"],
+        5 => b".names s0 s3 s2\n00 1\n.names s1 s2 s3\n00 1\n",
         // two units that share a loop
-        6 => &["m015", "!2", "m031", "&41", "m053"],
+        6 => {
+            b".names s0 s1 s5 s2\n11- 1\n0-1 1\n.names s2 s3\n0 1\n.names s0 s3 s1 s4\n11- 1\n0-1 1\n\
+            .names s4 s1 s5\n11 1\n.names s0 s5 s3 s6\n11- 1\n0-1 1\n"
+        }
         // three loops, each of which reads the one before it
-        7 => &["&02", "|23", "m034"],
+        7 =>
+            b".names s0 s2 s2\n11 1\n.names s2 s3 s3\n1- 1\n-1 1\n.names s0 s3 s4 s4\n11- 1\n0-1 1\n",
         // a loop of two cut wires
-        8 => &["m034", "&21", "|23"],
+        8 =>
+            b".names s0 s3 s4 s2\n11- 1\n0-1 1\n.names s2 s1 s3\n11 1\n.names s2 s3 s4\n1- 1\n-1 1\n",
         // a gate that differs from itself
-        9 => &["^02", "!2"],
+        9 => b".names s0 s2 s2\n10 1\n01 1\n.names s2 s3\n0 1\n",
         // two loops that share a gate
-        10 => &["M013", "M024", "&23"],
+        10 => {
+            b".names s0 s1 s3 s2\n11- 1\n1-1 1\n-11 1\n.names s0 s2 s4 s3\n11- 1\n1-1 1\n-11 1\n\
+            .names s2 s3 s4\n11 1\n"
+        }
         // a ring of four gates
-        11 => &["|15", "&20", "&31", "&40"],
+        11 => {
+            b".names s1 s5 s2\n1- 1\n-1 1\n.names s2 s0 s3\n11 1\n.names s3 s1 s4\n11 1\n\
+            .names s4 s0 s5\n11 1\n"
+        }
         // a gate that is unknown selects between equals
-        _ => &["|22", "m200"],
+        _ => b".names s2 s2 s2\n1- 1\n-1 1\n.names s2 s0 s0 s3\n11- 1\n0-1 1\n",
     }
-}
-
-/// The rows of a cover by its letter.
-fn rows_of(gate: &str) -> &'static [&'static str] {
-    match gate.bytes().next() {
-        Some(b'!') => &["0"],
-        Some(b'&') => &["11"],
-        Some(b'|') => &["1-", "-1"],
-        Some(b'^') => &["10", "01"],
-        Some(b'N') => &["00"],
-        Some(b'm') => &["11-", "0-1"],
-        Some(b'M') => &["11-", "1-1", "-11"],
-        _ => &["0", "1"],
-    }
-}
-
-/// The BLIF name of the signal that a digit stands for.
-fn add_signal(text: &mut Vec<u8>, digit: u8) -> Result<(), AllocError> {
-    text.extend_from_slice(b" s")?;
-    text.push(digit)?;
-    Ok(())
-}
-
-fn add_rows(text: &mut Vec<u8>, gate: &str) -> Result<(), AllocError> {
-    for row in rows_of(gate) {
-        text.extend_from_slice(row.as_bytes())?;
-        text.extend_from_slice(b" 1\n")?;
-    }
-    Ok(())
-}
-
-fn add_gate(text: &mut Vec<u8>, signal: u8, gate: &str) -> Result<(), AllocError> {
-    text.extend_from_slice(b".names")?;
-    for digit in gate.bytes().skip(1) {
-        add_signal(text, digit)?;
-    }
-    add_signal(text, signal)?;
-    text.push(b'\n')?;
-    add_rows(text, gate)
 }
 
 /// The text of the netlist of these gates.
-fn text_of(alloc: Global, gates: &[&str]) -> Result<Vec<u8>, AllocError> {
+fn text_of(alloc: Global, gates: &[u8]) -> Result<Vec<u8>, AllocError> {
     let mut text = b".model m\n.inputs s0\n.latch s2 s1 3\n".to_vec(alloc)?;
-    let mut signal = b'2';
-    for gate in gates {
-        add_gate(&mut text, signal, gate)?;
-        signal = signal.wrapping_add(1);
-    }
+    text.extend_from_slice(gates)?;
     Ok(text)
 }
 
@@ -122,11 +91,15 @@ fn value_at(d: &Diagrams, rails: Rails, bits: &[bool]) -> Option<Trit> {
 
 /// Whether rails stand for these values.
 fn stand_for(d: &Diagrams, rails: &[Rails], bits: &[bool], values: &[Trit]) -> bool {
-    rails.len() == values.len()
-        && rails
-            .iter()
-            .zip(values)
-            .all(|(rails, value)| value_at(d, *rails, bits) == Some(*value))
+    if rails.len() != values.len() {
+        return false;
+    }
+    for place in 0..rails.len() {
+        if value_at(d, rails[place], bits) != Some(values[place]) {
+            return false;
+        }
+    }
+    true
 }
 
 /// The vector of this number.
@@ -152,20 +125,46 @@ fn stand_for_settled(
 }
 
 /// The rails of all signals, where the input and the latch are variables.
-fn solved_rails(alloc: Global, d: &mut Diagrams, net: &Netlist) -> Result<Items<Rails>, Fail>
-    requires { d.old.vars ≡ 2 }
+fn rails_by(
+    alloc: Global,
+    d: &mut Diagrams,
+    net: &Netlist,
+    blocks: &Blocks,
+    cut: &Cut,
+) -> Result<Items<Rails>, StoreFault>
+    requires vars { d.old.vars ≡ 2 }
+    requires blocks { AreBlocksOf net.now blocks.now }
+    requires cut { IsCutOf net.now cut.now }
 {
-    let x = var_rails(d, 0)?;
-    let q = var_rails(d, 1)?;
-    let blocks = find_blocks(alloc, net)?;
-    let cut = find_cut(alloc, net, &blocks)?;
     if net.inputs() != 1 || net.latches() != 1 {
         return Ok(Items::of(Vec::new(alloc)));
     }
+    let x = var_rails(d, 0)?;
+    let q = var_rails(d, 1)?;
     let given = keep_rails(alloc, d, [x, q].as_slice())?;
-    let solved = solve(alloc, d, net, &blocks, &cut, given)?;
-    let rails = rails_of(alloc, d, solved.rails.items())?;
-    Ok(Items::of(rails))
+    let solved = solve(alloc, d, net, blocks, cut, given)?;
+    Ok(Items::of(rails_of(alloc, d, solved.rails.items())?))
+}
+
+/// The same, with cut wires of its own.
+fn rails_over(
+    alloc: Global,
+    d: &mut Diagrams,
+    net: &Netlist,
+    blocks: &Blocks,
+) -> Result<Items<Rails>, StoreFault>
+    requires vars { d.old.vars ≡ 2 }
+    requires blocks { AreBlocksOf net.now blocks.now }
+{
+    let cut = find_cut(alloc, net, blocks)?;
+    rails_by(alloc, d, net, blocks, &cut)
+}
+
+fn solved_rails(alloc: Global, d: &mut Diagrams, net: &Netlist) -> Result<Items<Rails>, StoreFault>
+    requires { d.old.vars ≡ 2 }
+{
+    let blocks = find_blocks(alloc, net)?;
+    rails_over(alloc, d, net, &blocks)
 }
 
 /// Whether they do at each vector.
