@@ -30,7 +30,7 @@ pub struct Locals {
     pub(crate) shared: Vec<SharedDiagram>,
     /// For each gate of the list the place of its cover's among them.
     pub(crate) places: Vec<usize>,
-    // For numbers of covers, the place of the last that has it.
+    // By the hash of a cover, the place of the last shared diagram whose cover has it.
     latest: HashMap<u64, usize>,
 }
 
@@ -55,7 +55,7 @@ fn hash_row(hash: u64, lits: &[Lit]) -> u64 {
     hash
 }
 
-/// A number by which equal covers are found. Others may have it too.
+/// The hash of a cover, by which equal ones are found. Others may have it too.
 fn hash_cover(cover: &Cover) -> u64 {
     let mut hash = hash_step(cover.pins() as u64, cover.plane() as u64);
     for row in cover.rows() {
@@ -115,7 +115,7 @@ fn serves(net: &Netlist, shared: &[SharedDiagram], place: usize, gate: u32) -> b
     are_equal(&net.gate(shared[place].gate).cover, &net.gate(gate).cover)
 }
 
-/// The place of the diagram of an equal cover, where it is the last that has this number.
+/// The place of the diagram of an equal cover, where it is the last that has this hash.
 fn find_shared(net: &Netlist, locals: &Locals, gate: u32, hash: u64) -> Option<usize>
     requires gate { gate < length net.now.gates }
     requires shared { AreShared net.now locals.now.shared.items }
