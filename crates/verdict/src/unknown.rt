@@ -259,8 +259,8 @@ fn refusal_in(
 }
 
 /// The refusal of the first observed gate that is unknown at a vector of care, with the least such vector, if it is
-/// found. `unknown` is a gate that is unknown there: observed or not, it has no say but where the search ends. Only the
-/// cone of those gates is solved that come up to it and may be unknown, on diagrams of its own.
+/// found: on the cone of those gates that may be unknown, with diagrams of its own. Where the gate `unknown` is observed,
+/// none behind it is looked at, so the cone is small; the search finds what it should if that gate is unknown on care.
 pub(crate) fn unknown_refusal(
     alloc: Global,
     net: &Netlist,
