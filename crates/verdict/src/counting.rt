@@ -186,6 +186,25 @@ fn counts_on(
 }
 
 /// What a cone shows of its loops on care, on diagrams of its own.
+fn counts_with(
+    alloc: Global,
+    net: &Netlist,
+    blocks: &Blocks,
+    care: &Care,
+    cone: &Cone,
+    limit: u32,
+) -> Result<Counted, StoreFault>
+    requires blocks { AreBlocksOf net.now blocks.now }
+    requires care { IsCareOf net.now care.now }
+    requires cone { IsConeIn net.now cone.now.gates cone.now.netlist }
+    requires limit { limit ≤ MAX_NODES }
+    ensures { IfOk result (IsCounted net.now blocks.now care.now cone.now.gates) }
+{
+    let mut d = Diagrams::new(alloc, net.inputs() + net.latches(), limit.min(CONE_NODES))?;
+    counts_on(alloc, &mut d, net, blocks, care, cone)
+}
+
+/// What a cone shows of its loops on care, as far as the nodes last.
 fn counts_in(
     alloc: Global,
     net: &Netlist,
@@ -200,8 +219,7 @@ fn counts_in(
     requires limit { limit ≤ MAX_NODES }
     ensures { IfOk result (IsCounted net.now blocks.now care.now cone.now.gates) }
 {
-    let mut d = Diagrams::new(alloc, net.inputs() + net.latches(), limit.min(CONE_NODES))?;
-    match counts_on(alloc, &mut d, net, blocks, care, cone) {
+    match counts_with(alloc, net, blocks, care, cone, limit) {
         Ok(found) => Ok(found),
         Err(StoreFault::Full) => Ok(Counted::Undecided),
         Err(StoreFault::Memory) => Err(AllocError),

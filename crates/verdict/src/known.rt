@@ -234,6 +234,28 @@ fn known_on(
     }))
 }
 
+/// The same, or Full where its diagrams were too small.
+fn known_with(
+    alloc: Global,
+    net: &Netlist,
+    blocks: &Blocks,
+    cut: &Cut,
+    care: &Care,
+    marks: &[bool],
+    limit: u32,
+) -> Result<Option<Known>, StoreFault>
+    requires blocks { AreBlocksOf net.now blocks.now }
+    requires cut { IsCutOf net.now cut.now }
+    requires care { IsCareOf net.now care.now }
+    requires marks { length marks.now ≡ length net.now.gates }
+    requires limit { limit ≤ MAX_NODES }
+    ensures { IfOk result (λ found. IfSome found (IsKnown net.now blocks.now cut.now care.now marks.now)) }
+{
+    let columns = order(alloc, net)?;
+    let mut d = Diagrams::new(alloc, net.inputs() + net.latches(), limit.min(MOST_NODES))?;
+    known_on(alloc, &mut d, net, blocks, cut, care, &columns, marks)
+}
+
 /// What is known on care of the loops of the marked gates, which are whole loops, whatever the data. It is None where
 /// they aren't seen to be known with so many nodes.
 pub(crate) fn known_on_care(
@@ -252,9 +274,7 @@ pub(crate) fn known_on_care(
     requires limit { limit ≤ MAX_NODES }
     ensures { IfOk result (λ found. IfSome found (IsKnown net.now blocks.now cut.now care.now marks.now)) }
 {
-    let columns = order(alloc, net)?;
-    let mut d = Diagrams::new(alloc, net.inputs() + net.latches(), limit.min(MOST_NODES))?;
-    match known_on(alloc, &mut d, net, blocks, cut, care, &columns, marks) {
+    match known_with(alloc, net, blocks, cut, care, marks, limit) {
         Ok(found) => Ok(found),
         Err(StoreFault::Full) => Ok(None),
         Err(StoreFault::Memory) => Err(AllocError),

@@ -283,6 +283,26 @@ fn step_on(
 }
 
 /// Whether a next state leaves the invariant, on a cone with diagrams of its own.
+fn step_with(
+    alloc: Global,
+    net: &Netlist,
+    care: &Care,
+    cone: &Cone,
+    reads: &[bool],
+    limit: u32,
+) -> Result<Step, StoreFault>
+    requires care { IsCareOf net.now care.now }
+    requires cone { IsConeIn net.now cone.now.gates cone.now.netlist }
+    requires reads { AreReadLatches net.now care.now reads.now }
+    requires known { LoadsAreKnown net.now care.now }
+    requires limit { limit ≤ MAX_NODES }
+    ensures { IfOk result (IsStep net.now care.now) }
+{
+    let mut d = Diagrams::new(alloc, net.inputs() + net.latches(), limit.min(CONE_NODES))?;
+    step_on(alloc, &mut d, net, care, cone, reads)
+}
+
+/// Whether a next state leaves the invariant, on a cone, as far as the nodes last.
 fn step_in(
     alloc: Global,
     net: &Netlist,
@@ -298,8 +318,7 @@ fn step_in(
     requires limit { limit ≤ MAX_NODES }
     ensures { IfOk result (IsStep net.now care.now) }
 {
-    let mut d = Diagrams::new(alloc, net.inputs() + net.latches(), limit.min(CONE_NODES))?;
-    match step_on(alloc, &mut d, net, care, cone, reads) {
+    match step_with(alloc, net, care, cone, reads, limit) {
         Ok(step) => Ok(step),
         Err(StoreFault::Full) => Ok(Step::Undecided),
         Err(StoreFault::Memory) => Err(AllocError),

@@ -235,6 +235,26 @@ fn refusal_on(
 }
 
 /// The refusal of that gate, on diagrams of their own.
+fn refusal_with(
+    alloc: Global,
+    net: &Netlist,
+    care: &Care,
+    cone: &Cone,
+    asked: &[bool],
+    limit: u32,
+) -> Result<Option<Refusal>, StoreFault>
+    requires care { IsCareOf net.now care.now }
+    requires cone { IsConeIn net.now cone.now.gates cone.now.netlist }
+    requires asked { length asked.now ≡ length net.now.gates }
+    requires limit { limit ≤ MAX_NODES }
+    ensures { (what : Observe) → AreAsked net.now what asked.now → DecideAsked net.now care.now asked.now cone.now.gates →
+        IfOk result (λ found. IfSome found (λ refusal. undetermined_refusal net.now care.now what ≡ Some refusal)) }
+{
+    let mut d = Diagrams::new(alloc, net.inputs() + net.latches(), limit.min(CONE_NODES))?;
+    refusal_on(alloc, &mut d, net, care, cone, asked)
+}
+
+/// The refusal of that gate, on diagrams of their own.
 fn refusal_in(
     alloc: Global,
     net: &Netlist,
@@ -250,8 +270,7 @@ fn refusal_in(
     ensures { (what : Observe) → AreAsked net.now what asked.now → DecideAsked net.now care.now asked.now cone.now.gates →
         IfOk result (λ found. IfSome found (λ refusal. undetermined_refusal net.now care.now what ≡ Some refusal)) }
 {
-    let mut d = Diagrams::new(alloc, net.inputs() + net.latches(), limit.min(CONE_NODES))?;
-    match refusal_on(alloc, &mut d, net, care, cone, asked) {
+    match refusal_with(alloc, net, care, cone, asked, limit) {
         Ok(found) => Ok(found),
         Err(StoreFault::Full) => Ok(None),
         Err(StoreFault::Memory) => Err(AllocError),
