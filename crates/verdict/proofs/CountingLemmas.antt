@@ -1,11 +1,10 @@
 -- The sweeps of loops, counted on their cones.
-use Rattle.std.proofs.Common.{◌≡◌, ◌↔◌, inl, inr, ℕ, ◌+◌, ◌-◌, ◌<◌, Bool, false, not, List, length, map, get_or, Contains, Option, Some, None, Result, Ok, Err, IfOk, refl, sym, ap, ◌∙◌, subst, arith}
+use Rattle.std.proofs.Common.{◌≡◌, ◌↔◌, inl, inr, ℕ, ◌+◌, ◌-◌, ◌<◌, Bool, false, not, List, length, map, get_or, Contains, Result, Ok, Err, IfOk, refl, sym, ap, ◌∙◌, subst, arith}
 use Rattle.std.proofs.Math.ListN.{set}
 use Rattle.std.proofs.lemmas.Bool.{cases_lt, cases_eq}
 use Rattle.std.proofs.lemmas.List.{get_or-map, get_or-set_same, get_or-set_other, get_or_default}
 use Rattle.bdd_store.specs.declared.node.Node.{Node}
 use Rattle.std.specs.List.{All}
-use Rattle.std.specs.Prelude.{IfSome}
 use Rattle.bdd_store.specs.Arena.{Arena, IsNodeOf}
 use Rattle.bdd_store.specs.Growth.{KeepsNodes}
 use Rattle.bdd_store.specs.Soundness.{IsSound}
@@ -40,7 +39,9 @@ use Rattle.care_sets.specs.Care.{CareSet, columns, is_care_vector}
 use Rattle.refusals.proofs.RefusalLemmas.{gate_wire}
 use Rattle.refusals.proofs.ShowingLemmas.{care_vector_is}
 use Rattle.verdict.specs.Cones.{AreConeRails, IsConeIn}
-use Rattle.verdict.specs.Counting.{AreKnownOn, AreSpread, AreConeCounts}
+use Rattle.verdict.specs.declared.counting.Counted.{Counted}
+use Rattle.verdict.specs.declared.counting.Counted.TheVariants as found
+use Rattle.verdict.specs.Counting.{AreKnownOn, AreSpread, AreConeCounts, AreCounted, IsCounted}
 use Rattle.verdict.specs.Determination.{AreDeterminedOnCare, AreDecided, IsOpen}
 use Rattle.verdict.specs.Sets.{Tells}
 use Rattle.verdict.specs.Verdicts.{are_care_values}
@@ -50,9 +51,9 @@ use Rattle.fixpoint.specs.Solved.{Vectors}
 -- ---- rails that are known on a set
 
 -- they stay so where nodes are kept
-pub known-kept : (s t : Arena) (set_ : Node) (rails : List Rails) → KeepsNodes s t → IsNodeOf s set_ → All (AreRailsOf s) rails → AreKnownOn s set_ rails (length rails) → AreKnownOn t set_ rails (length rails)
-known-kept s t set_ rails keeps node proper known k none less v counts x =
-    known k none less v (sym (keeps.function set_ v node) ∙ counts) (sym (value_of-kept keeps (get_or rails k none) (proper k none less) v) ∙ x)
+pub known-kept : (s t : Arena) (set_ : Node) (rails : List Rails) (first n : ℕ) → length rails ≡ first + n → KeepsNodes s t → IsNodeOf s set_ → All (AreRailsOf s) rails → AreKnownOn s set_ rails first n → AreKnownOn t set_ rails first n
+known-kept s t set_ rails first n width keeps node proper known k none less v counts x =
+    known k none less v (sym (keeps.function set_ v node) ∙ counts) (sym (value_of-kept keeps (get_or rails (first + k) none) (proper (first + k) none (omega (arith, width, less))) v) ∙ x)
 
 -- ---- blocks of the cone
 
@@ -108,7 +109,7 @@ module _ (net : Parts) (blocks : Blocks) (are : AreBlocksOf net blocks) (gates :
   -- ---- the cone counted on diagrams
 
   module _ (care : CareSet) (s : Arena) (vars : s.vars ≡ columns net) (points : Vectors) (points_are : AreColumnVectors net points) (set_ : Node) (told : Tells net s set_ (is_care_vector net care))
-      (rails : List Rails) (rails_are : AreConeRails net gates s rails) (known : AreKnownOn s set_ rails (length rails)) where
+      (rails : List Rails) (rails_are : AreConeRails net gates s rails) (known : AreKnownOn s set_ rails (first_gate net) (length gates)) where
     determined : AreDeterminedOnCare net care (Contains gates)
     determined v counts n c x =
         let number = first_gate net + c.0 in
@@ -117,7 +118,7 @@ module _ (net : Parts) (blocks : Blocks) (are : AreBlocksOf net blocks) (gates :
         let l = c.1 in
         let inside : number < length rails = omega (arith, w, l) in
         let at = number-gate net gates (gate_sig net n) (first_gate net) c.0 number refl (omega arith) (record { within = l; is = get_or_default gates c.0 ((gate_sig net n).0 - first_gate net) n l ∙ c.2 ∙ omega arith }) refl in
-        known number (get_or rails number none) inside (laid net v) (told.value v wide ∙ care_vector_is net care v counts)
+        known c.0 (get_or rails number none) l (laid net v) (told.value v wide ∙ care_vector_is net care v counts)
         (sym (get_or-map (λ r. value_of s r (laid net v)) rails number (get_or rails number none) X inside)
         ∙ ap (λ (xs : List Trit). get_or xs number X) (rails_are.values v wide)
         ∙ get_or-map (wire (fix net (bits v))) (cone_signals net gates) number (signal 0) X (let m = length-cone net gates in omega (arith, m, l))
@@ -181,9 +182,14 @@ decided-in net blocks cut cut_is care settled marks gates small counts homes mar
       upstream = inl refl;
     })
 
-pub decided-found : {V E : Type 0} (items : V → List ℕ) (net : Parts) (blocks : Blocks) (cut : Cut) → IsCutOf net cut → (care : CareSet) (settled marks : List Bool) (gates : List ℕ) (small : Parts) (made : Result (Option V) E) →
-    length blocks.home ≡ length net.gates → marks ≡ map (λ home. not (is_marked settled home)) blocks.home → IsConeOf net marks gates small →
-    IfOk made (λ found. IfSome found (λ counts. AreConeCounts net blocks care gates (items counts))) → IfOk made (λ found. IfSome found (λ counts. AreDecided net blocks cut care settled (items counts)))
-decided-found items net blocks cut cut_is care settled marks gates small (Ok (Some counts)) homes marks_are cone counted = decided-in net blocks cut cut_is care settled marks gates small (items counts) homes marks_are cone counted
-decided-found items net blocks cut cut_is care settled marks gates small (Ok None) homes marks_are cone counted = tt
-decided-found items net blocks cut cut_is care settled marks gates small (Err fault) homes marks_are cone counted = tt
+-- and a gate that is unknown there is one of the netlist
+pub counted-in : (net : Parts) (blocks : Blocks) (cut : Cut) → IsCutOf net cut → (care : CareSet) (settled marks : List Bool) (gates : List ℕ) (small : Parts) (counted : Counted) → length blocks.home ≡ length net.gates →
+    marks ≡ map (λ home. not (is_marked settled home)) blocks.home → IsConeOf net marks gates small → IsCounted net blocks care gates counted → AreCounted net blocks cut care settled counted
+counted-in net blocks cut cut_is care settled marks gates small (found.Sweeps counts) homes marks_are cone counted = decided-in net blocks cut cut_is care settled marks gates small counts homes marks_are cone counted
+counted-in net blocks cut cut_is care settled marks gates small (found.Unknown gate) homes marks_are cone counted = counted
+counted-in net blocks cut cut_is care settled marks gates small found.Undecided homes marks_are cone counted = tt
+
+pub counted-so : {E : Type 0} (net : Parts) (blocks : Blocks) (cut : Cut) → IsCutOf net cut → (care : CareSet) (settled marks : List Bool) (gates : List ℕ) (small : Parts) (made : Result Counted E) → length blocks.home ≡ length net.gates →
+    marks ≡ map (λ home. not (is_marked settled home)) blocks.home → IsConeOf net marks gates small → IfOk made (IsCounted net blocks care gates) → IfOk made (AreCounted net blocks cut care settled)
+counted-so net blocks cut cut_is care settled marks gates small (Ok counted) homes marks_are cone is = counted-in net blocks cut cut_is care settled marks gates small counted homes marks_are cone is
+counted-so net blocks cut cut_is care settled marks gates small (Err fault) homes marks_are cone is = tt

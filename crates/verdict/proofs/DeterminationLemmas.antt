@@ -1,5 +1,5 @@
 -- Netlists whose gates are all determined on care.
-use Rattle.std.proofs.Common.{◌≡◌, inl, inr, ℕ, ◌+◌, ◌<◌, Bool, true, false, not, ◌&&◌, ◌==◌, if◌then◌else◌, List, [], ◌∷◌, ◌++◌, length, map, get_or, Option, Some, None, refl, sym, ap, ap₂, ◌∙◌, subst, arith, true≢false}
+use Rattle.std.proofs.Common.{◌≡◌, ◌≢◌, inl, inr, ℕ, ◌+◌, ◌<◌, Bool, true, false, not, ◌&&◌, ◌==◌, if◌then◌else◌, List, [], ◌∷◌, ◌++◌, length, map, get_or, Option, Some, None, refl, sym, ap, ap₂, ◌∙◌, subst, arith, true≢false}
 use Rattle.std.specs.Prelude.{find, is_none, is_some}
 use Rattle.std.specs.List.{list_all}
 use Rattle.std.specs.Option.{option_map_or, option_map, option_or}
@@ -176,17 +176,18 @@ module _ (net : Parts) (valid : IsNetlist net) (blocks : Blocks) (are : AreBlock
 
 -- ---- what a determination decides
 
-known-on-care : (net : Parts) (care : CareSet) → AreDeterminedOnCare net care (IsGate net) → (n : ℕ) → n < length net.gates → IsKnownOnCare net care n
-known-on-care net care determined n inside =
+-- a gate that is X at no care vector
+pub known-here : (net : Parts) (care : CareSet) (n : ℕ) → n < length net.gates → ((v : List Bool) → IsCareVector net care v → value_in (fix_gates net (bits v)) n ≢ X) → IsKnownOnCare net care n
+known-here net care n inside known =
     nothing_passes (columns net) (λ w. is_care_vector net care w && is_undetermined net (gate_sig net n) w)
     (λ w wide. fails_after (is_care_vector net care w) (is_undetermined net (gate_sig net n) w)
-    (λ counts. ap is_x (gate_wire net w n wide) ∙ known-is_x (get_or (fix_gates net (bits w)) n X) (determined w (care_vector_decides net care w wide counts) n inside)))
+    (λ counts. ap is_x (gate_wire net w n wide) ∙ known-is_x (get_or (fix_gates net (bits w)) n X) (known w (care_vector_decides net care w wide counts))))
 
 -- the gates that are among these signals, as marks
-marks_of : Parts → List Sig → List Bool
+pub marks_of : Parts → List Sig → List Bool
 marks_of net signals = map (is_among signals) (gate_sigs net)
 
-marks-are : (net : Parts) (signals : List Sig) → AreMarksOf net signals (marks_of net signals)
+pub marks-are : (net : Parts) (signals : List Sig) → AreMarksOf net signals (marks_of net signals)
 unfolding marks_of
 marks-are net signals = record {
   width = length-map (gate_sigs net) (is_among signals) ∙ length-gate_sigs net;
@@ -198,7 +199,7 @@ marks-are net signals = record {
 pub none-undetermined : (net : Parts) (care : CareSet) (what : Observe) → AreDeterminedOnCare net care (IsGate net) → undetermined_refusal net care what ≡ None
 none-undetermined net care what determined =
     undetermined-none net care what (marks_of net (observed net what)) (marks-are net (observed net what)) (length net.gates) (omega arith)
-    (λ k less marked. known-on-care net care determined k less)
+    (λ k less marked. known-here net care k less (λ v counts. determined v counts k less))
 
 pub determinations_accept : DeterminationsAccept
 determinations_accept net blocks cut care what counts valid is initial some stays = record {

@@ -1,3 +1,4 @@
+mod BehindLemmas
 mod CareLemmas
 mod CauseLemmas
 mod ConeLemmas
@@ -15,6 +16,7 @@ mod SetLemmas
 mod SizeLemmas
 mod SolutionLemmas
 mod StartLemmas
+mod UnknownLemmas
 mod VerdictLemmas
 mod WitnessLemmas
 mod WorkLemmas

@@ -1,3 +1,4 @@
+pub mod Behind
 pub mod Causes
 pub mod Cones
 pub mod Costs
@@ -10,4 +11,6 @@ pub mod Next
 pub mod Observed
 pub mod Sets
 pub mod Solving
+pub mod Standing
+pub mod Unknown
 pub mod Verdicts

@@ -1,9 +1,10 @@
 //! Loops that are settled by themselves, so that no diagrams of the whole are wanted.
 
-ghost use Rattle.std.specs.Prelude.{◌≡◌, ◌<◌, ◌≤◌, true, length, IfOk};
+ghost use Rattle.std.specs.Prelude.{◌≡◌, ◌<◌, ◌≤◌, true, not, length, map, All, IfOk};
 ghost use Rattle.loops.specs.Blocks.{AreBlocksOf, block_at};
 ghost use Rattle.fixpoint.specs.Working.{HasLargeCover};
 ghost use Rattle.isolation.specs.Settled.{SettleInSweeps};
+ghost use Rattle.third_rail.specs.Knowing.{is_marked};
 ghost use Rattle.verdict.specs.Determination.{SettleInOneSweep};
 
 use bdd_ops::Diagrams;
@@ -86,4 +87,21 @@ pub(crate) fn settled_loops(
         settled.push(is_settled(alloc, net, blocks, place, budget)?)?;
     }
     Ok(settled)
+}
+
+/// The gates of the blocks at places that aren't settled, as marks.
+pub(crate) fn open_gates(
+    alloc: Global,
+    blocks: &Blocks,
+    settled: &[bool],
+) -> Result<Vec<bool>, AllocError>
+    requires { All (λ home. home < length settled.now) blocks.now.home }
+    ensures { IfOk result (λ marks. marks.items ≡ map (λ home. not (is_marked settled.now home)) blocks.now.home) }
+{
+    blocks
+        .home
+        .items()
+        .iter()
+        .map(|home| !settled[*home as usize])
+        .collect(alloc)
 }

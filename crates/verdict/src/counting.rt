@@ -1,20 +1,21 @@
 //! Loops that are neither settled by themselves nor known whatever the data: decided exactly, on their cones alone.
 
-ghost use Rattle.std.specs.Prelude.{◌≡◌, ◌≢◌, ◌<◌, ◌≤◌, true, not, Bool, List, length, map, All, IfOk, IfSome};
+ghost use Rattle.std.specs.Prelude.{◌≡◌, ◌≢◌, ◌+◌, ◌≤◌, true, not, Bool, List, None, length, map, All, IfOk, IfSome};
 ghost use Rattle.bdd_store.specs.Arena.{den, IsNodeOf};
 ghost use Rattle.bdd_store.specs.Growth.{KeepsNodes};
 ghost use Rattle.cyc_base.specs.declared.trit.Trit.TheVariants.{X};
 ghost use Rattle.dual_rail.specs.Rails.{AreRailsOf, value_of};
 ghost use Rattle.loops.specs.Blocks.{AreBlocksOf};
 ghost use Rattle.loops.specs.Cuts.{IsCutOf};
+ghost use Rattle.loops.specs.Sweeps.{first_gate};
 ghost use Rattle.care_sets.specs.Binding.{IsCareOf};
 ghost use Rattle.care_sets.specs.Care.{CareSet, columns as columns_of, is_care_vector};
 ghost use Rattle.fixpoint.specs.Orders.{order as order_of};
 ghost use Rattle.isolation.specs.Columns.{AreColumns};
 ghost use Rattle.third_rail.specs.Knowing.{is_marked};
 ghost use Rattle.verdict.specs.Cones.{IsConeIn};
-ghost use Rattle.verdict.specs.Counting.{AreConeCounts, AreKnownOn, AreSpread};
-ghost use Rattle.verdict.specs.Determination.{AreDecided};
+ghost use Rattle.verdict.specs.Counting.{AreCounted, AreKnownOn, AreSpread, IsCounted};
+ghost use Rattle.verdict.specs.Determination.{IsGate};
 ghost use Rattle.verdict.specs.Sets.{Tells};
 
 use crate::cones::{CONE_NODES, care_there, solve_on};
@@ -22,7 +23,7 @@ use crate::sets::minus;
 use bdd_ops::Diagrams;
 use bdd_store::{Node, StoreFault};
 use care_sets::Care;
-use cyc_base::MAX_NODES;
+use cyc_base::{Items, MAX_NODES};
 use dual_rail::Rails;
 use fixpoint::laws::solutions;
 use fixpoint::{order, sweeps};
@@ -30,6 +31,17 @@ use isolation::{Cone, column_rails, cone_netlist};
 use loops::{Blocks, Cut, SweepCounts};
 use netlist::Netlist;
 use std::alloc::{AllocError, Global};
+
+/// What the cones of loops show of them on care.
+#[derive(Drop)]
+pub enum Counted {
+    /// No gate there is unknown: for each block the sweeps that it needs, and 0 for one without a gate there.
+    Sweeps(Items<u32>),
+    /// This gate is unknown at some vector.
+    Unknown(u32),
+    /// The cones were too large to see it.
+    Undecided,
+}
 
 /// Whether rails are known at each vector of a set.
 fn is_known_on(d: &mut Diagrams, set: Node, rails: Rails) -> Result<bool, StoreFault>
@@ -43,19 +55,29 @@ fn is_known_on(d: &mut Diagrams, set: Node, rails: Rails) -> Result<bool, StoreF
     Ok(unknown == Node::of(false))
 }
 
-/// Whether each of these rails is known at each vector of a set.
-fn are_known_on(d: &mut Diagrams, set: Node, rails: &[Rails]) -> Result<bool, StoreFault>
-    requires set { IsNodeOf d.old set }
+/// The first of these gates of a cone that is unknown at a vector of a set.
+fn unknown_gate(
+    d: &mut Diagrams,
+    net: &Netlist,
+    gates: &[u32],
+    rails: &[Rails],
+    set: Node,
+) -> Result<Option<u32>, StoreFault>
+    requires gates { All (IsGate net.now) gates.now }
+    requires width { length rails.now ≡ first_gate net.now + length gates.now }
     requires rails { All (AreRailsOf d.old) rails.now }
-    ensures known { IfOk result (λ known. known ≡ true → AreKnownOn d.old set rails.now (length rails.now)) }
+    requires set { IsNodeOf d.old set }
+    ensures known { IfOk result (λ found. found ≡ None → AreKnownOn d.old set rails.now (first_gate net.now) (length gates.now)) }
+    ensures gate { IfOk result (λ found. IfSome found (IsGate net.now)) }
     ensures keeps { KeepsNodes d.old d.new }
 {
-    for one in rails {
-        if !is_known_on(d, set, *one)? {
-            return Ok(false);
+    let first = (net.inputs() + net.latches()) as usize;
+    for place in 0..gates.len() {
+        if !is_known_on(d, set, rails[first + place])? {
+            return Ok(Some(gates[place]));
         }
     }
-    Ok(true)
+    Ok(None)
 }
 
 /// Gives each block of the whole that the cone has a gate of the number of its block in the cone.
@@ -108,7 +130,7 @@ fn spread_counts(
     Ok(counts)
 }
 
-/// The sweeps that the loops of a cone need on a set of vectors, where no gate of the cone is unknown at any of them.
+/// The sweeps that the loops of a cone need on a set of vectors, or a gate of the cone that is unknown at one of them.
 fn count_cone(
     alloc: Global,
     d: &mut Diagrams,
@@ -117,30 +139,30 @@ fn count_cone(
     cone: &Cone,
     columns: &[Rails],
     set: Node,
-) -> Result<Option<Vec<u32>>, StoreFault>
+) -> Result<Counted, StoreFault>
     requires vars { d.old.vars ≡ columns_of net.now }
     requires blocks { AreBlocksOf net.now blocks.now }
     requires cone { IsConeIn net.now cone.now.gates cone.now.netlist }
     requires columns { AreColumns d.old (order_of net.now) columns.now }
     requires set { IsNodeOf d.old set }
-    ensures { (care : CareSet) → Tells net.now d.old set (is_care_vector net.now care) →
-        IfOk result (λ found. IfSome found (λ counts. AreConeCounts net.now blocks.now care cone.now.gates counts.items)) }
+    ensures { (care : CareSet) → Tells net.now d.old set (is_care_vector net.now care) → IfOk result (IsCounted net.now blocks.now care cone.now.gates) }
 {
     d.store().laws();
     let solved = solve_on(alloc, d, &cone.netlist, columns, set)?;
     let fixpoint = &solved.fixpoint;
     d.store().laws();
-    if !are_known_on(d, fixpoint.set, fixpoint.rails.items())? {
-        return Ok(None);
+    let rails = fixpoint.rails.items();
+    if let Some(gate) = unknown_gate(d, net, cone.gates.items(), rails, fixpoint.set)? {
+        return Ok(Counted::Unknown(gate));
     }
     solutions();
     d.store().laws();
     let found = sweeps(alloc, d, &fixpoint.solved, &solved.blocks, fixpoint.set)?;
     let counts = spread_counts(alloc, net, blocks, cone, &solved.blocks, &found)?;
-    Ok(Some(counts))
+    Ok(Counted::Sweeps(Items::of(counts)))
 }
 
-/// The sweeps that the loops of a cone need on care, on diagrams with a variable for each column.
+/// What a cone shows of its loops on care, on diagrams with a variable for each column.
 fn counts_on(
     alloc: Global,
     d: &mut Diagrams,
@@ -148,22 +170,22 @@ fn counts_on(
     blocks: &Blocks,
     care: &Care,
     cone: &Cone,
-) -> Result<Option<Vec<u32>>, StoreFault>
+) -> Result<Counted, StoreFault>
     requires vars { d.old.vars ≡ columns_of net.now }
     requires blocks { AreBlocksOf net.now blocks.now }
     requires care { IsCareOf net.now care.now }
     requires cone { IsConeIn net.now cone.now.gates cone.now.netlist }
-    ensures { IfOk result (λ found. IfSome found (λ counts. AreConeCounts net.now blocks.now care.now cone.now.gates counts.items)) }
+    ensures { IfOk result (IsCounted net.now blocks.now care.now cone.now.gates) }
 {
     let order = order(alloc, net)?;
     let columns = column_rails(alloc, d, &order)?;
     let Some(set) = care_there(alloc, d, net, care, &order, &columns)? else {
-        return Ok(None);
+        return Ok(Counted::Undecided);
     };
     count_cone(alloc, d, net, blocks, cone, &columns, set)
 }
 
-/// The sweeps that the loops of a cone need on care, on diagrams of their own.
+/// What a cone shows of its loops on care, on diagrams of its own.
 fn counts_in(
     alloc: Global,
     net: &Netlist,
@@ -171,22 +193,22 @@ fn counts_in(
     care: &Care,
     cone: &Cone,
     limit: u32,
-) -> Result<Option<Vec<u32>>, AllocError>
+) -> Result<Counted, AllocError>
     requires blocks { AreBlocksOf net.now blocks.now }
     requires care { IsCareOf net.now care.now }
     requires cone { IsConeIn net.now cone.now.gates cone.now.netlist }
     requires limit { limit ≤ MAX_NODES }
-    ensures { IfOk result (λ found. IfSome found (λ counts. AreConeCounts net.now blocks.now care.now cone.now.gates counts.items)) }
+    ensures { IfOk result (IsCounted net.now blocks.now care.now cone.now.gates) }
 {
     let mut d = Diagrams::new(alloc, net.inputs() + net.latches(), limit.min(CONE_NODES))?;
     match counts_on(alloc, &mut d, net, blocks, care, cone) {
         Ok(found) => Ok(found),
-        Err(StoreFault::Full) => Ok(None),
+        Err(StoreFault::Full) => Ok(Counted::Undecided),
         Err(StoreFault::Memory) => Err(AllocError),
     }
 }
 
-/// The sweeps that the loops at places without a mark need on care, where no gate of their cones is unknown there.
+/// The sweeps that the loops at places without a mark need on care, or a gate of their cones that is unknown there.
 /// `marks` are those of these loops' gates. The cones are solved on diagrams of their own.
 pub(crate) fn cone_counts(
     alloc: Global,
@@ -197,17 +219,17 @@ pub(crate) fn cone_counts(
     marks: &[bool],
     settled: &[bool],
     limit: u32,
-) -> Result<Option<Vec<u32>>, AllocError>
+) -> Result<Counted, AllocError>
     requires blocks { AreBlocksOf net.now blocks.now }
     requires cut { IsCutOf net.now cut.now }
     requires care { IsCareOf net.now care.now }
     requires width { length settled.now ≡ length blocks.now.list }
     requires marks { marks.now ≡ map (λ home. not (is_marked settled.now home)) blocks.now.home }
     requires limit { limit ≤ MAX_NODES }
-    ensures { IfOk result (λ found. IfSome found (λ counts. AreDecided net.now blocks.now cut.now care.now settled.now counts.items)) }
+    ensures { IfOk result (AreCounted net.now blocks.now cut.now care.now settled.now) }
 {
     let Some(cone) = cone_netlist(alloc, net, blocks, marks)? else {
-        return Ok(None);
+        return Ok(Counted::Undecided);
     };
     counts_in(alloc, net, blocks, care, &cone, limit)
 }

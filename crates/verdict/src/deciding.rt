@@ -14,10 +14,9 @@ ghost use Rattle.verdict.specs.Verdicts.{later_refusal, IsVerdict, StandSo};
 
 use crate::alone::limit_of;
 use crate::beginning::{Start, begin};
-use crate::determined::determined_counts;
+use crate::early::early_verdict;
 use crate::fault::DecideFault;
 use crate::gates::Gates;
-use crate::leaving::{Step, leaving};
 use crate::refusing::{gates_on, leaves};
 use crate::solving::solve_beside;
 use crate::verdict::Verdict;
@@ -91,13 +90,8 @@ fn judge(
         Start::Refused(refusal) => return Ok(Verdict::Refused(refusal)),
     };
     let limit = limit_of(d);
-    let determined = determined_counts(alloc, net, blocks, cut, care, limit)?;
-    if let Some(sweeps) = determined {
-        match leaving(alloc, net, blocks, care, limit)? {
-            Step::Stays => return Ok(Verdict::Accepted { sweeps, loose: 0 }),
-            Step::Leaves(refusal) => return Ok(Verdict::Refused(refusal)),
-            Step::Undecided => {}
-        }
+    if let Some(verdict) = early_verdict(alloc, net, blocks, cut, care, observe, limit)? {
+        return Ok(verdict);
     }
     d.store().laws();
     let found = solve_beside(alloc, d, net, blocks, cut, &rails, set)?;

@@ -1,42 +1,22 @@
-//! Netlists whose gates are all determined on care, seen without diagrams of the whole: each loop is settled by itself,
-//! known whatever the data, or decided on its cone.
+//! Loops that aren't settled by themselves: known whatever the data, or decided on their cones.
 
-ghost use Rattle.std.specs.Prelude.{◌≡◌, ◌<◌, ◌≤◌, ℕ, true, not, map, None, length, All, IfOk, IfSome};
-ghost use Rattle.netlist.specs.Netlists.{IsNetlist};
+ghost use Rattle.std.specs.Prelude.{◌≡◌, ◌<◌, ◌≤◌, ℕ, true, length, IfOk, IfSome};
 ghost use Rattle.loops.specs.Blocks.{AreBlocksOf};
 ghost use Rattle.loops.specs.Cuts.{IsCutOf};
-ghost use Rattle.fixpoint.specs.Working.{HasLargeCover};
 ghost use Rattle.care_sets.specs.Binding.{IsCareOf};
 ghost use Rattle.third_rail.specs.Knowing.{is_marked};
-ghost use Rattle.refusals.specs.Refusals.{empty_refusal};
-ghost use Rattle.verdict.specs.Determination.{count_of, AreCountsBelow, AreDecided, BoundSweeps, IsDetermination};
+ghost use Rattle.verdict.specs.Counting.{AreCounted};
+ghost use Rattle.verdict.specs.Determination.{count_of, AreCountsBelow, AreDecided, BoundSweeps};
 
-use crate::alone::{fit_covers, settled_loops};
-use crate::counting::cone_counts;
+use crate::alone::open_gates;
+use crate::counting::{Counted, cone_counts};
 use crate::known::known_on_care;
 use crate::witness::are_needed;
-use bdd_store::StoreFault;
 use care_sets::Care;
 use cyc_base::{Items, MAX_NODES};
 use loops::{Blocks, Cut, SweepCounts};
 use netlist::Netlist;
 use std::alloc::{AllocError, Global};
-
-/// The most nodes that are spent on one loop by itself, so that a loop which isn't settled soon costs little.
-const LOOP_NODES: u32 = 100_000;
-
-/// The gates of the blocks at places that aren't settled, as marks.
-fn open_gates(alloc: Global, blocks: &Blocks, settled: &[bool]) -> Result<Vec<bool>, AllocError>
-    requires { All (λ home. home < length settled.now) blocks.now.home }
-    ensures { IfOk result (λ marks. marks.items ≡ map (λ home. not (is_marked settled.now home)) blocks.now.home) }
-{
-    blocks
-        .home
-        .items()
-        .iter()
-        .map(|home| !settled[*home as usize])
-        .collect(alloc)
-}
 
 /// For each block the greatest number of a cut wire of it, or 0 where it has none.
 fn bounds_of(
@@ -90,7 +70,7 @@ fn known_counts(
     Ok(Some(bounds))
 }
 
-/// The sweeps that the loops need on care which aren't settled by themselves, where their cones are determined there.
+/// What the cones show of the loops that aren't settled by themselves.
 fn counted_in_cones(
     alloc: Global,
     net: &Netlist,
@@ -99,13 +79,13 @@ fn counted_in_cones(
     care: &Care,
     settled: &[bool],
     limit: u32,
-) -> Result<Option<Vec<u32>>, AllocError>
+) -> Result<Counted, AllocError>
     requires blocks { AreBlocksOf net.now blocks.now }
     requires cut { IsCutOf net.now cut.now }
     requires care { IsCareOf net.now care.now }
     requires settled { length settled.now ≡ length blocks.now.list }
     requires limit { limit ≤ MAX_NODES }
-    ensures { IfOk result (λ found. IfSome found (λ counts. AreDecided net.now blocks.now cut.now care.now settled.now counts.items)) }
+    ensures { IfOk result (AreCounted net.now blocks.now cut.now care.now settled.now) }
 {
     let marks = open_gates(alloc, blocks, settled)?;
     cone_counts(alloc, net, blocks, cut, care, &marks, settled, limit)
@@ -123,8 +103,8 @@ fn are_all(marks: &[bool]) -> bool
     true
 }
 
-/// The sweeps that the loops need on care which aren't settled by themselves.
-fn open_counts(
+/// What is seen of the loops on care that aren't settled by themselves.
+pub(crate) fn open_counts(
     alloc: Global,
     net: &Netlist,
     blocks: &Blocks,
@@ -132,19 +112,19 @@ fn open_counts(
     care: &Care,
     settled: &[bool],
     limit: u32,
-) -> Result<Option<Vec<u32>>, AllocError>
+) -> Result<Counted, AllocError>
     requires blocks { AreBlocksOf net.now blocks.now }
     requires cut { IsCutOf net.now cut.now }
     requires care { IsCareOf net.now care.now }
     requires settled { length settled.now ≡ length blocks.now.list }
     requires limit { limit ≤ MAX_NODES }
-    ensures { IfOk result (λ found. IfSome found (λ counts. AreDecided net.now blocks.now cut.now care.now settled.now counts.items)) }
+    ensures { IfOk result (AreCounted net.now blocks.now cut.now care.now settled.now) }
 {
     if are_all(settled) {
-        return Ok(Some(Vec::new(alloc)));
+        return Ok(Counted::Sweeps(Items::of(Vec::new(alloc))));
     }
     if let Some(counts) = known_counts(alloc, net, blocks, cut, care, settled, limit)? {
-        return Ok(Some(counts));
+        return Ok(Counted::Sweeps(Items::of(counts)));
     }
     counted_in_cones(alloc, net, blocks, cut, care, settled, limit)
 }
@@ -165,7 +145,7 @@ fn sweeps_of(blocks: &Blocks, settled: &[bool], others: &[u32], place: usize) ->
 }
 
 /// The sweeps of all blocks.
-fn counts_of(
+pub(crate) fn counts_of(
     alloc: Global,
     blocks: &Blocks,
     settled: &[bool],
@@ -181,59 +161,4 @@ fn counts_of(
     Ok(SweepCounts {
         per_block: Items::of(counts),
     })
-}
-
-/// The sweeps of the loops on care, where all gates are seen to be determined there.
-fn determine(
-    alloc: Global,
-    net: &Netlist,
-    blocks: &Blocks,
-    cut: &Cut,
-    care: &Care,
-    limit: u32,
-) -> Result<Option<SweepCounts>, AllocError>
-    requires blocks { AreBlocksOf net.now blocks.now }
-    requires cut { IsCutOf net.now cut.now }
-    requires care { IsCareOf net.now care.now }
-    requires limit { limit ≤ MAX_NODES }
-    ensures { empty_refusal net.now care.now ≡ None → IfOk result (λ found. IfSome found (IsDetermination net.now blocks.now cut.now care.now)) }
-{
-    let _ = net.gates();
-    let settled = settled_loops(alloc, net, blocks, limit.min(LOOP_NODES))?;
-    let Some(others) = open_counts(alloc, net, blocks, cut, care, &settled, limit)? else {
-        return Ok(None);
-    };
-    let counts = counts_of(alloc, blocks, &settled, &others)?;
-    Ok(Some(counts))
-}
-
-/// The sweeps of the loops on care, where no gate is unknown at any care vector: each loop is settled by itself in one
-/// sweep, or the third rail knows it on care, or no gate of its cone is unknown there. It is None where that isn't seen.
-///
-/// It works on diagrams of its own, none of more nodes than the limit. Full where a cover has more nodes than that, as it
-/// would be in the netlist's own diagrams.
-pub(crate) fn determined_counts(
-    alloc: Global,
-    net: &Netlist,
-    blocks: &Blocks,
-    cut: &Cut,
-    care: &Care,
-    limit: u32,
-) -> Result<Option<SweepCounts>, StoreFault>
-    requires blocks { AreBlocksOf net.now blocks.now }
-    requires cut { IsCutOf net.now cut.now }
-    requires care { IsCareOf net.now care.now }
-    requires limit { limit ≤ MAX_NODES }
-    ensures determined { empty_refusal net.now care.now ≡ None → IfOk result (λ found. IfSome found (IsDetermination net.now blocks.now cut.now care.now)) }
-    ensures full { result ≡ Err StoreFault.Full → HasLargeCover net.now limit }
-    ensures valid { IsNetlist net.now }
-{
-    let _ = net.gates();
-    let Ok(found) = determine(alloc, net, blocks, cut, care, limit) else {
-        return Err(StoreFault::Memory);
-    };
-    if found.is_some() {
-        fit_covers(alloc, net, limit)?;
-    }
-    Ok(found)
 }

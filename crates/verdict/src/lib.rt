@@ -8,11 +8,13 @@
 
 mod alone;
 mod beginning;
+mod behind;
 mod care;
 mod cones;
 mod counting;
 mod deciding;
 mod determined;
+mod early;
 mod fault;
 mod gates;
 mod initial;
@@ -24,6 +26,8 @@ mod observing;
 mod refusing;
 mod sets;
 mod solving;
+mod standing;
+mod unknown;
 mod verdict;
 mod witness;
 

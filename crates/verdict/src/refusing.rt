@@ -64,7 +64,7 @@ pub(crate) fn initial_refusal(
 }
 
 /// The vectors of a set on which these rails are unknown.
-fn unknown_on(d: &mut Diagrams, set: Node, rails: Rails) -> Result<Node, StoreFault>
+pub(crate) fn unknown_on(d: &mut Diagrams, set: Node, rails: Rails) -> Result<Node, StoreFault>
     requires set { IsNodeOf d.old set }
     requires one { IsNodeOf d.old rails.one }
     requires zero { IsNodeOf d.old rails.zero }

@@ -1,5 +1,4 @@
 use Rattle.std.proofs.Common.{◌≡◌, ◌∙◌, inl, inr, ◌+◌, ◌*◌, ℕ, Err, Result, None, List, length, sym, ap, subst, arith}
-use Rattle.std.specs.Prelude.{IfSome}
 use Rattle.bdd_store.specs.declared.fault.StoreFault.{StoreFault}
 use Rattle.bdd_store.specs.Arena.{Arena}
 use Rattle.bdd_store.specs.Growth.{AddsWithin}
@@ -16,9 +15,7 @@ use Rattle.fixpoint.specs.Counts.{CountSweeps, IsComparedIn, count_at}
 use Rattle.fixpoint.specs.Working.{IsWorking, HasLargeCover, effort}
 use Rattle.care_sets.specs.Care.{CareSet, columns, is_care_vector}
 use Rattle.refusals.specs.Refusals.{refusal}
-use Rattle.verdict.specs.Determination.{IsDetermination}
 use Rattle.verdict.specs.Causes.{HasCoverOver}
-use Rattle.verdict.specs.Cones.{IsStep}
 use Rattle.verdict.specs.Costs.{start_cost, later_cost}
 use Rattle.verdict.specs.Enough.{IsLaid}
 use Rattle.verdict.specs.Sets.{Tells, AreFixed}
@@ -28,13 +25,11 @@ use Rattle.verdict.specs.Verdicts.{IsStart, IsCareStart, AreLoose, StandSo, late
 use Rattle.verdict.proofs.CauseLemmas.{full_for}
 use Rattle.isolation.proofs.ColumnLemmas.{AreColumns-kept}
 use Rattle.verdict.proofs.CountLemmas.{AreColumnVectors, column-vectors, count-on-care}
-use Rattle.verdict.proofs.ConeLemmas.{loads-known, leaving-refuses}
-use Rattle.verdict.proofs.DeterminationLemmas.{determinations_accept}
 use Rattle.verdict.proofs.PartLemmas.{Tells-kept, Tells-same}
 use Rattle.verdict.proofs.SolutionLemmas.{loops-are, working-wide, compared-wide}
 use Rattle.verdict.proofs.VerdictLemmas.{refused-later, accepts-is, fixed-is}
 use Rattle.verdict.proofs.deciding.judge.Goals as goal
-use Rattle.verdict.proofs.deciding.judge.Goals.{After-column_rails, After-begin, After-solve_beside, After-later, In-Determined, In-Some}
+use Rattle.verdict.proofs.deciding.judge.Goals.{After-column_rails, After-begin, After-solve_beside, After-later, In-Determined}
 
 -- the vectors that the given rails stood for before the netlist was solved
 abbrev points : After-solve_beside → Vectors
@@ -195,13 +190,13 @@ returns-in_err-set-clause-full g =
     let keeps = KeepsNodes-chain c.column_rails.ensures.grows.keeps c.begin.ensures.grows.keeps in
     full_for (record { variables = keeps.vars ∙ c.requires.vars; most = keeps.limit }) (omega arith) (adds_refused g.in_err-set.was g.from_residual-in_err-set.ensures.1 (after-begin c (after-columns at.After-column_rails)))
 
-pub returns-in_err-determined-clause-full : goal.returns-in_err-determined-clause-full
-returns-in_err-determined-clause-full c is_full =
+pub returns-in_err-verdict-clause-full : goal.returns-in_err-verdict-clause-full
+returns-in_err-verdict-clause-full c is_full =
     let keeps = KeepsNodes-chain c.column_rails.ensures.grows.keeps c.begin.ensures.grows.keeps in
-    let refused = ap {A = StoreFault} Err (sym (rw is_full at c.from_residual-in_err-determined.ensures.1)) in
+    let refused = ap {A = StoreFault} Err (sym (rw is_full at c.from_residual-in_err-verdict.ensures.1)) in
     record {
       store = record { variables = keeps.vars ∙ c.requires.vars; most = keeps.limit };
-      cause = λ w wide. inl (inl (subst (HasLargeCover c.args.net.now) (c.limit_of-limit.ensures.limit ∙ keeps.limit) (c.in_err-determined.ensures.full refused)));
+      cause = λ w wide. inl (inl (subst (HasLargeCover c.args.net.now) (c.limit_of-limit.ensures.limit ∙ keeps.limit) (c.in_err-verdict.ensures.full refused)));
     }
 
 pub returns-in_err-found-clause-full : goal.returns-in_err-found-clause-full
@@ -234,26 +229,14 @@ returns-in_err-counts-clause-full g =
     (adds_refused g.in_err-counts.was g.from_residual-in_err-counts.ensures.1
     (adds_then before (after-later at.After-later (after-solve at.After-solve_beside (after-begin at.After-begin (after-columns at.After-column_rails)))) counted))
 
--- ---- where all gates are determined on care
+-- ---- what is seen without the whole
 
-care-start : (c : In-Some) → IsCareStart c.args.net.now c.args.care.now c.begin.new.d c.in-Care.set
-care-start c = subst (IsStart c.args.net.now c.args.care.now c.begin.new.d) c.in-Care.is c.in_ok-set.ensures.start
+pub early_verdict-requires-clause-initial : goal.early_verdict-requires-clause-initial
+early_verdict-requires-clause-initial c =
+    let start : IsCareStart c.args.net.now c.args.care.now c.begin.new.d c.in-Care.set = subst (IsStart c.args.net.now c.args.care.now c.begin.new.d) c.in-Care.is c.in_ok-set.ensures.start in
+    start.initial
 
-determination : (c : In-Some) → IsDetermination c.args.net.now c.args.blocks.now c.args.cut.now c.args.care.now c.in-Some.sweeps
-determination c =
-    subst (λ o. IfSome o (IsDetermination c.args.net.now c.args.blocks.now c.args.cut.now c.args.care.now)) c.in-Some.is (c.in_ok-determined.ensures.determined (care-start c).some)
-
-pub leaving-requires-clause-known : goal.leaving-requires-clause-known
-leaving-requires-clause-known c = loads-known c.args.net.now c.args.care.now c.begin.ensures.valid (determination c).determined
-
-pub returns-in-Stays-clause-verdict : goal.returns-in-Stays-clause-verdict
-returns-in-Stays-clause-verdict g =
-    let c : In-Some = (goal.at.returns-in-Stays-clause-verdict g).In-Some in
-    determinations_accept c.args.net.now c.args.blocks.now c.args.cut.now c.args.care.now c.args.observe c.in-Some.sweeps c.begin.ensures.valid (determination c) (care-start c).initial (care-start c).some
-    (subst (IsStep c.args.net.now c.args.care.now) g.in-Stays.is g.in_ok-leaving.ensures)
-
-pub returns-in-Leaves-clause-verdict : goal.returns-in-Leaves-clause-verdict
-returns-in-Leaves-clause-verdict g =
-    let c : In-Some = (goal.at.returns-in-Leaves-clause-verdict g).In-Some in
-    leaving-refuses c.args.net.now c.args.care.now c.args.observe g.in-Leaves.refusal (determination c).determined (care-start c).initial (care-start c).some
-    (subst (IsStep c.args.net.now c.args.care.now) g.in-Leaves.is g.in_ok-leaving.ensures)
+pub early_verdict-requires-clause-some : goal.early_verdict-requires-clause-some
+early_verdict-requires-clause-some c =
+    let start : IsCareStart c.args.net.now c.args.care.now c.begin.new.d c.in-Care.set = subst (IsStart c.args.net.now c.args.care.now c.begin.new.d) c.in-Care.is c.in_ok-set.ensures.start in
+    start.some
