@@ -18,6 +18,7 @@ mod SolutionLemmas
 mod StartLemmas
 mod UnknownLemmas
 mod VerdictLemmas
+mod WayLemmas
 mod WitnessLemmas
 mod WorkLemmas
 mod SolvingLemmas

@@ -14,3 +14,4 @@ pub mod Solving
 pub mod Standing
 pub mod Unknown
 pub mod Verdicts
+pub mod Ways

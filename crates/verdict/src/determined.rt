@@ -43,7 +43,7 @@ fn bounds_of(
 }
 
 /// The sweeps that the loops need on care which aren't settled by themselves, where they are known whatever the data.
-fn known_counts(
+pub(crate) fn known_counts(
     alloc: Global,
     net: &Netlist,
     blocks: &Blocks,
@@ -71,7 +71,7 @@ fn known_counts(
 }
 
 /// What the cones show of the loops that aren't settled by themselves.
-fn counted_in_cones(
+pub(crate) fn counted_in_cones(
     alloc: Global,
     net: &Netlist,
     blocks: &Blocks,
@@ -92,7 +92,7 @@ fn counted_in_cones(
 }
 
 /// Whether all of these are true.
-fn are_all(marks: &[bool]) -> bool
+pub(crate) fn are_all(marks: &[bool]) -> bool
     ensures { result ≡ true → (k : ℕ) → k < length marks.now → is_marked marks.now k ≡ true }
 {
     for mark in marks {

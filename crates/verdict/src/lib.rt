@@ -29,9 +29,11 @@ mod solving;
 mod standing;
 mod unknown;
 mod verdict;
+mod ways;
 mod witness;
 
 pub use deciding::decide;
 pub use fault::DecideFault;
 pub use refusals::Observe;
 pub use verdict::Verdict;
+pub use ways::{Way, ways_of};
