@@ -1,5 +1,5 @@
 -- What decisions come to.
-use Rattle.std.proofs.Common.{◌≡◌, ◌<◌, ◌≤◌, ℕ, Bool, true, false, length, Some, None, Ok, Err, sym, ap, subst, ◌∙◌, arith}
+use Rattle.std.proofs.Common.{◌≡◌, ◌⊎◌, ◌<◌, ◌≤◌, ℕ, Bool, true, false, length, Some, None, Ok, Err, sym, ap, subst, ◌∙◌, inl, inr, arith}
 use Rattle.std.specs.Prelude.{nat_le, if◌then◌else◌, IfOk, IfErr, OnOk}
 use Rattle.std.specs.declared.option.Option.{Option}
 use Rattle.std.specs.declared.result.Result.{Result}
@@ -22,13 +22,19 @@ use Rattle.unroll.specs.declared.fault.UnrollFault.TheVariants.{TooLarge, Memory
 use Rattle.loops.specs.declared.structure.Blocks.{Blocks}
 use Rattle.loops.specs.declared.structure.Cut.{Cut}
 use Rattle.loops.specs.declared.structure.SweepCounts.{SweepCounts}
-use Rattle.verdict.specs.Verdicts.{AreLoose, AreSweepsOnCare}
+use Rattle.verdict.specs.Verdicts.{AreLoose, AreSweepsOnCare, IsVerdict}
+use Rattle.verdict.specs.Causes.{IsOutOfNodes}
+use Rattle.verdict.specs.Enough.{IsBelowEnough}
+use Rattle.verdict.specs.declared.fault.DecideFault.{DecideFault}
+use Rattle.verdict.specs.declared.fault.DecideFault.TheVariants.{NodeLimit, Memory as WantsMemory}
+use Rattle.verdict.specs.declared.verdict.Verdict.{Verdict}
+use Rattle.verdict.specs.declared.verdict.Verdict.TheVariants.{Accepted, Refused}
 use Rattle.cyc_tool.specs.Answer.{told, decided, verdict_of}
-use Rattle.cyc_tool.specs.Calls.{IsAccepted, IsDecided, IsMadeFor, Verdict}
+use Rattle.cyc_tool.specs.Calls.{IsAccepted, IsDecided, IsMadeFor, Limit, Verdict as ByVerdict}
 use Rattle.cyc_tool.specs.Endings.{count_of_loops, refused_told, where_outputs}
-use Rattle.cyc_tool.specs.Plans.{Decision, Prints, Outgrows, Purpose, Judges, Rewrites, Demonstrates}
-use Rattle.cyc_tool.specs.Seen.{IsToldOf, outcome_of}
-use Rattle.cyc_tool.specs.Texts.{Outcome}
+use Rattle.cyc_tool.specs.Plans.{Decision, Prints, Declines, Outgrows, Purpose, Judges, Rewrites, Demonstrates, Storms}
+use Rattle.cyc_tool.specs.Seen.{FitsNetlist, IsLimitOf, IsToldOf, outcome_of}
+use Rattle.cyc_tool.specs.Texts.{Outcome, limit_reached}
 use Rattle.cyc_tool.specs.declared.outcome.Outcome.{Outcome as Told}
 
 abbrev pub decision_of : Parts → CareSet → ℕ → Observe → Decision
@@ -40,19 +46,47 @@ pub accepted_decides : (net : Parts) (care : CareSet) (limit : ℕ) (what : Obse
     → IsDecided (decision_of net care limit what) purpose nodes end
 accepted_decides net care limit what purpose nodes end valid accepts is =
     let none : verdict_of (decision_of net care limit what) ≡ None = (accepted_without_refusal net care what valid).1 accepts in
-    Verdict (is.is ∙ sym (ap (decided (decision_of net care limit what) purpose) none))
+    ByVerdict (is.is ∙ sym (ap (decided (decision_of net care limit what) purpose) none))
     (subst (IsMadeFor (decision_of net care limit what) purpose) (sym none) is.made)
 
 pub refused_decides : (net : Parts) (care : CareSet) (limit : ℕ) (what : Observe) (purpose : Purpose) (nodes : Arena) (end : Outcome) (refused : Refusal)
     → refusal net care what ≡ Some refused → end ≡ told (refused_told net purpose refused)
     → IsDecided (decision_of net care limit what) purpose nodes end
 refused_decides net care limit what purpose nodes end refused is same =
-    Verdict (same ∙ sym (ap (decided (decision_of net care limit what) purpose) is))
+    ByVerdict (same ∙ sym (ap (decided (decision_of net care limit what) purpose) is))
     (subst (IsMadeFor (decision_of net care limit what) purpose) (sym is) tt)
 
 pub refusal_fits : (net : Parts) (care : CareSet) (what : Observe) (refused : Refusal) → IsNetlist net → refusal net care what ≡ Some refused
     → IsRefusalOf net refused
 refusal_fits net care what refused valid is = (refusal_is_shown net care what refused valid is).0
+
+-- a decision that met its limit of nodes
+at_limit : (result : Result Verdict DecideFault) (nodes limit : ℕ) → result ≡ Err (NodeLimit nodes)
+    → IfErr result (λ fault. (fault ≡ WantsMemory) ⊎ (fault ≡ NodeLimit limit)) → NodeLimit nodes ≡ NodeLimit limit
+at_limit result nodes limit is fault =
+    let P : Result Verdict DecideFault → Type 0 = λ r. IfErr r (λ fault. (fault ≡ WantsMemory) ⊎ (fault ≡ NodeLimit limit)) in
+    let cases : (NodeLimit nodes ≡ WantsMemory) ⊎ (NodeLimit nodes ≡ NodeLimit limit) = subst P is fault in
+    elim cases [ inl e ↦ cc | inr e ↦ e ]
+
+nodes_are : (nodes limit : ℕ) → NodeLimit nodes ≡ NodeLimit limit → nodes ≡ limit
+nodes_are nodes limit e = cc
+
+pub limit_decides : (net : Parts) (care : CareSet) (limit : ℕ) (what : Observe) (purpose : Purpose) (arena : Arena) (end : Told)
+    (result : Result Verdict DecideFault) (fault : DecideFault) → result ≡ Err fault → IsLimitOf fault end
+    → IfErr result (λ fault. (fault ≡ WantsMemory) ⊎ (fault ≡ NodeLimit limit))
+    → (result ≡ Err (NodeLimit limit) → IsOutOfNodes arena net care limit) → (result ≡ Err (NodeLimit limit) → IsBelowEnough net care limit)
+    → IsDecided (decision_of net care limit what) purpose arena (outcome_of end)
+limit_decides net care limit what purpose arena end result (NodeLimit nodes) is same faults cause enough =
+    let at = at_limit result nodes limit is faults in
+    let met : result ≡ Err (NodeLimit limit) = is ∙ ap Err at in
+    Limit (record { cause = cause met; below = enough met }) (same ∙ ap limit_reached (nodes_are nodes limit at))
+limit_decides net care limit what purpose arena end result WantsMemory is same faults cause enough = absurd same
+
+-- a verdict can be told of its netlist
+pub verdict_fits : (net : Parts) (blocks : Blocks) (cut : Cut) (care : CareSet) (what : Observe) (verdict : Verdict) → IsNetlist net
+    → IsVerdict net blocks cut care what verdict → FitsNetlist net blocks verdict
+verdict_fits net blocks cut care what (Accepted counts loose) valid is = is.sweeps.width
+verdict_fits net blocks cut care what (Refused refused) valid is = refusal_fits net care what refused valid is
 
 -- what is told of an accepted netlist for each purpose
 pub judged : (net : Parts) (care : CareSet) (limit : ℕ) (what : Observe) (loose : ℕ) (given : Option ℕ) (end : Outcome)
@@ -60,6 +94,14 @@ pub judged : (net : Parts) (care : CareSet) (limit : ℕ) (what : Observe) (loos
     → IsAccepted (decision_of net care limit what) Judges end
 judged net care limit what loose given end same is loose_is = record {
   is = same ∙ ap (λ number. told (Prints (accepted_text net (count_of_loops net) number))) (is ∙ ap (where_outputs what) loose_is);
+  made = tt;
+}
+
+pub calmed : (net : Parts) (care : CareSet) (limit : ℕ) (what : Observe) (loose rounds : ℕ) (given : Option ℕ) (end : Outcome)
+    → end ≡ told (Declines (accepted_text net (count_of_loops net) given)) → given ≡ where_outputs what loose → AreLoose net care loose
+    → IsAccepted (decision_of net care limit what) (Storms rounds) end
+calmed net care limit what loose rounds given end same is loose_is = record {
+  is = same ∙ ap (λ number. told (Declines (accepted_text net (count_of_loops net) number))) (is ∙ ap (where_outputs what) loose_is);
   made = tt;
 }
 

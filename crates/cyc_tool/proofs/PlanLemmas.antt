@@ -1,5 +1,7 @@
 -- Going along a plan, from one part of a call to the next.
-use Rattle.std.proofs.Common.{arith, ◌≡◌, ◌≢◌, ◌⊎◌, ℕ, ◌≤◌, List, [], ◌∷◌, ◌++◌, Some, None, Ok, refl, sym, ap, subst, ◌∙◌, inl, inr}
+use Rattle.std.proofs.Common.{arith, ◌≡◌, ◌≢◌, ◌⊎◌, ℕ, ◌≤◌, List, [], ◌∷◌, ◌++◌, Some, None, Ok, Err, refl, sym, ap, subst, ◌∙◌, inl, inr}
+use Rattle.std.specs.Prelude.{IfOk}
+use Rattle.std.specs.declared.alloc.AllocError.{AllocError}
 use Rattle.std.specs.declared.result.Result.{Result}
 use Rattle.std.specs.List.{AllByRecursion}
 use Rattle.std.specs.declared.option.Option.{Option}
@@ -12,7 +14,9 @@ use Rattle.contents.specs.Faults.{Fault, IsErrorOf}
 use Rattle.cyc_tool.specs.Answer.{told}
 use Rattle.cyc_tool.specs.Plans.{Ending, Plan, Reads, Faulty, Ends, Decides, using}
 use Rattle.cyc_tool.specs.Reading.{FollowsAlone, FollowsStillAlone, GoesOn, IsStoppedBy, LeadsTo, StopsAt, StopsIn}
+use Rattle.cyc_tool.specs.Seen.{EndsAs, outcome_of}
 use Rattle.cyc_tool.specs.Texts.{Outcome, no_memory}
+use Rattle.cyc_tool.specs.declared.outcome.Outcome.{Outcome as Told}
 
 -- texts that are given one after another
 gave_more : (files : Option Files) (given more : List (List ℕ)) (plan : Plan) → AreGiven files given plan → AreGiven files more (rest_of given plan)
@@ -197,3 +201,9 @@ pub still_lacks : (plan : Plan) (end : Outcome) → end ≡ no_memory → Follow
 still_lacks plan end lacks = record {
   follows = λ nodes. record { follows = λ files counts. follows_still files counts nodes end plan (inr lacks) };
 }
+
+-- what is told, or want of memory
+pub ends_or_lacks : (result : Result Told AllocError) (P : Outcome → Type 0) (end : Outcome) → EndsAs result end → IfOk result (λ outcome. P (outcome_of outcome))
+    → P end ⊎ (end ≡ no_memory)
+ends_or_lacks (Ok outcome) P end is holds = inl (subst P (sym is) holds)
+ends_or_lacks (Err lacks) P end is holds = inr is

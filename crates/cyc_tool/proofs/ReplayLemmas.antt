@@ -29,26 +29,30 @@ module _ (shows : Shows) (probe : Option Kind) (recorded : List ℕ) where
   abbrev behind_vectors : Parts → List (List Trit) → Plan
   behind_vectors net found = play_on shows probe recorded net (known found)
 
-  -- the vectors of a netlist, and what comes behind them
-  pub replays : (vectors : List ℕ) (net : Parts) (found : List (List Trit)) (inputs : List (List Bool)) (files later : Option Files) (a b c : Counts) (end : Outcome)
-      → later ≡ files → GoesOn (with_vectors vectors net false) found (call files a b) → inputs ≡ known found
-      → FollowsAlone (play_on shows probe recorded net inputs) (call later b c) end
-      → FollowsAlone (replaying_on shows probe recorded vectors net) (call files a c) end
-  replays vectors net found inputs files later a b c end same goes is follows =
-      let P : List (List Bool) → Type 0 = λ v. FollowsAlone (play_on shows probe recorded net v) (call later b c) end in
-      goes_on_alone (with_vectors vectors net false) found (behind_vectors net) files later a b c end same goes (subst P is follows)
+  -- vectors without unknown values, and want of memory in their place
+  pub plays_known : (net : Parts) (found : List (List Trit)) (inputs : List (List Bool)) (files : Option Files) (a b : Counts) (end : Outcome) → inputs ≡ known found
+      → FollowsAlone (play_on shows probe recorded net inputs) (call files a b) end → FollowsAlone (play_on shows probe recorded net (known found)) (call files a b) end
+  plays_known net found inputs files a b end is follows =
+      let P : List (List Bool) → Type 0 = λ v. FollowsAlone (play_on shows probe recorded net v) (call files a b) end in subst P is follows
 
-  -- vectors that end the call, and want of memory behind them
+  pub found_lacks : (net : Parts) (inputs : List (List Bool)) (files : Option Files) (counts : Counts)
+      → FollowsAlone (play_on shows probe recorded net inputs) (call files counts counts) no_memory
+  found_lacks net inputs files counts = record {
+    follows = λ nodes. ((still_lacks (play_on shows probe recorded net inputs) no_memory refl).follows nodes).follows files counts;
+  }
+
+  -- the vectors of a netlist, and what comes behind them
+  pub replays : (vectors : List ℕ) (net : Parts) (found : List (List Trit)) (files later : Option Files) (a b c : Counts) (end : Outcome)
+      → later ≡ files → GoesOn (with_vectors vectors net false) found (call files a b)
+      → FollowsAlone (play_on shows probe recorded net (known found)) (call later b c) end
+      → FollowsAlone (replaying_on shows probe recorded vectors net) (call files a c) end
+  replays vectors net found files later a b c end same goes follows =
+      goes_on_alone (with_vectors vectors net false) found (behind_vectors net) files later a b c end same goes follows
+
+  -- vectors that end the call
   pub vectors_stop : (vectors : List ℕ) (net : Parts) (files : Option Files) (a b : Counts) (end : Outcome)
       → StopsIn (with_vectors vectors net false) (call files a b) end → FollowsAlone (replaying_on shows probe recorded vectors net) (call files a b) end
   vectors_stop vectors net files a b end stops = stops_alone (with_vectors vectors net false) (behind_vectors net) files a b end stops
-
-  pub replay_lacks : (vectors : List ℕ) (net : Parts) (found : List (List Trit)) (files later : Option Files) (a b : Counts)
-      → later ≡ files → GoesOn (with_vectors vectors net false) found (call files a b)
-      → FollowsAlone (replaying_on shows probe recorded vectors net) (call files a b) no_memory
-  replay_lacks vectors net found files later a b same goes =
-      goes_on_still (with_vectors vectors net false) found (behind_vectors net) files later a b no_memory same goes
-      (still_lacks (behind_vectors net found) no_memory refl)
 
   -- the netlist of a file, and what comes behind it
   pub netlist_replays : (file vectors : List ℕ) (net : Parts) (files later : Option Files) (a b c : Counts) (end : Outcome)

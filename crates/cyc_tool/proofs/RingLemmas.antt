@@ -1,5 +1,5 @@
 -- The ring arbiter's texts, taken for files.
-use Rattle.std.proofs.Common.{◌≡◌, ◌⊎◌, ℕ, List, Ok, sym, ap, subst, ◌∙◌}
+use Rattle.std.proofs.Common.{◌≡◌, ◌⊎◌, ℕ, List, Ok, sym, ap, subst, ◌∙◌, inl, inr}
 use Rattle.bdd_store.specs.Arena.{Arena}
 use Rattle.care_sets.specs.Care.{CareSet}
 use Rattle.contents.specs.CareFiles.{care_of}
@@ -8,7 +8,7 @@ use Rattle.maker.specs.Ring.{ring_text, care_text}
 use Rattle.netlist.specs.declared.parts.Parts.{Parts}
 use Rattle.netlist.specs.Netlists.{IsNetlist}
 use Rattle.cyc_tool.specs.Calls.{IsDecided}
-use Rattle.cyc_tool.specs.Plans.{Plan, Decides, Demonstrates, using, ring_care_file, ring_deciding, ring_deciding_on, ring_decision, ring_file}
+use Rattle.cyc_tool.specs.Plans.{Plan, Decides, Demonstrates, ring_care_file, ring_deciding, ring_deciding_on, ring_decision, ring_file}
 use Rattle.cyc_tool.specs.Reading.{FollowsStill, IsStoppedBy}
 use Rattle.cyc_tool.specs.Texts.{Outcome, no_memory}
 use Rattle.cyc_tool.proofs.PlanLemmas.{follows_still, stopped, used}
@@ -39,9 +39,9 @@ ring_care_stops cells care net nodes end is stop =
     record { follows = λ files counts. stopped ring_care_file (care_of net (care_text cells)) (decides cells net) files counts nodes end (subst P is stop) }
 
 pub ring_ends : (cells : ℕ) (care : List ℕ) (net : Parts) (set : CareSet) (nodes : Arena) (end : Outcome) → care ≡ care_text cells → care_of net care ≡ Ok set
-    → (IsNetlist net × IsDecided (ring_decision net set) (Demonstrates cells) nodes end) ⊎ (end ≡ no_memory) → FollowsStill (ring_deciding_on cells net) nodes end
-ring_ends cells care net set nodes end is good ends = record {
+    → IsNetlist net → IsDecided (ring_decision net set) (Demonstrates cells) nodes end ⊎ (end ≡ no_memory) → FollowsStill (ring_deciding_on cells net) nodes end
+ring_ends cells care net set nodes end is good valid ends = record {
   follows = λ files counts.
       used ring_care_file (care_of net (care_text cells)) set (decides cells net) files counts counts nodes end (ap (care_of net) (sym is) ∙ good)
-      (follows_still files counts nodes end (decides cells net set) ends);
+      (follows_still files counts nodes end (decides cells net set) (elim ends [ inl decided ↦ inl (valid, decided) | inr lacks ↦ inr lacks ]));
 }

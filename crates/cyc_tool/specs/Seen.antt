@@ -1,11 +1,18 @@
 -- How clauses see the values of the code.
-use Rattle.std.specs.Prelude.{◌≡◌, Ok, Err}
+use Rattle.std.specs.Prelude.{◌≡◌, Ok, Err, length}
+use Rattle.std.specs.declared.alloc.AllocError.{AllocError}
 use Rattle.std.specs.declared.result.Result.{Result}
 use Rattle.netlist.specs.declared.parts.Parts.{Parts}
 use Rattle.blif_write.specs.Written.{written}
 use Rattle.commands.specs.Seen.{cells_seen, rounds_seen}
+use Rattle.loops.specs.declared.structure.Blocks.{Blocks}
+use Rattle.refusals.specs.Refusals.{IsRefusalOf}
 use Rattle.unroll.specs.declared.fault.UnrollFault.{UnrollFault}
 use Rattle.unroll.specs.declared.fault.UnrollFault.TheVariants.{TooLarge, Memory as NoMemory}
+use Rattle.verdict.specs.declared.fault.DecideFault.{DecideFault}
+use Rattle.verdict.specs.declared.fault.DecideFault.TheVariants.{NodeLimit, Memory as NoNodes}
+use Rattle.verdict.specs.declared.verdict.Verdict.{Verdict}
+use Rattle.verdict.specs.declared.verdict.Verdict.TheVariants.{Accepted, Refused}
 use Rattle.cyc_tool.specs.Answer.{told as done}
 use Rattle.cyc_tool.specs.Plans as plans
 use Rattle.cyc_tool.specs.Texts as texts
@@ -24,11 +31,25 @@ purpose_seen Rewrite = plans.Rewrites
 purpose_seen (Demonstrate cells) = plans.Demonstrates (cells_seen cells)
 purpose_seen (Storm rounds) = plans.Storms (rounds_seen rounds)
 
+-- what is told of a netlist that isn't made: its size
+abbrev pub IsOutgrown : UnrollFault → Outcome → Type 0
+IsOutgrown (TooLarge size) told = outcome_of told ≡ done (plans.Outgrows size)
+IsOutgrown NoMemory told = ⊥
+
 -- what is told of rewriting: the text of the netlist that was made, or its size
 abbrev pub IsToldOf : Result Parts UnrollFault → Outcome → Type 0
 IsToldOf (Ok other) told = outcome_of told ≡ done (plans.Prints (written other))
-IsToldOf (Err (TooLarge size)) told = outcome_of told ≡ done (plans.Outgrows size)
-IsToldOf (Err NoMemory) told = ⊥
+IsToldOf (Err fault) told = IsOutgrown fault told
+
+-- what is told of a decision without a verdict: the limit that it met
+abbrev pub IsLimitOf : DecideFault → Outcome → Type 0
+IsLimitOf (NodeLimit nodes) told = outcome_of told ≡ texts.limit_reached nodes
+IsLimitOf NoNodes told = ⊥
+
+-- a verdict that can be told of a netlist: there is a number of sweeps for each block, or its refusal has the netlist's widths
+abbrev pub FitsNetlist : Parts → Blocks → Verdict → Type 0
+FitsNetlist net blocks (Accepted counts loose) = length counts.per_block ≡ length blocks.list
+FitsNetlist net blocks (Refused refused) = IsRefusalOf net refused
 
 -- want of memory
 abbrev pub no_memory : Stop
@@ -42,3 +63,8 @@ stop_outcome Memory = texts.no_memory
 abbrev pub end_of : Result Outcome Stop → texts.Outcome
 end_of (Ok told) = outcome_of told
 end_of (Err stop) = stop_outcome stop
+
+-- how a call ends with what is told, or for want of memory
+abbrev pub EndsAs : Result Outcome AllocError → texts.Outcome → Type 0
+EndsAs (Ok told) end = end ≡ outcome_of told
+EndsAs (Err lacks) end = end ≡ texts.no_memory

@@ -1,5 +1,6 @@
 // Decisions of netlists on their care sets.
 ghost use Rattle.std.specs.Prelude.{◌≡◌, ◌≤◌, ℕ, IfOk, length};
+ghost use Rattle.bdd_store.specs.Arena.{Arena};
 ghost use Rattle.care_sets.specs.Binding.{IsCareOf};
 ghost use Rattle.care_sets.specs.Care.{CareSet};
 ghost use Rattle.commands.specs.Seen.{cells_seen};
@@ -7,14 +8,16 @@ ghost use Rattle.cyc_base.specs.declared.limits.TheConstants.{MAX_NODES as most_
 ghost use Rattle.loops.specs.Blocks.{AreBlocksOf};
 ghost use Rattle.loops.specs.Cuts.{IsCutOf};
 ghost use Rattle.netlist.specs.Netlists.{IsNetlist};
+ghost use Rattle.refusals.specs.Acceptance.{Accepts};
 ghost use Rattle.refusals.specs.Refusals.{IsRefusalOf};
+ghost use Rattle.refusals.specs.declared.observe.Observe.{Observe as Observed};
 ghost use Rattle.report.specs.Verdicts.{accepted_text, ring_line};
-ghost use Rattle.verdict.specs.Verdicts.{IsAcceptance};
+ghost use Rattle.verdict.specs.Verdicts.{AreSweepsOnCare, IsAcceptance, IsVerdict};
 ghost use Rattle.cyc_tool.specs.Answer.{told as done};
 ghost use Rattle.cyc_tool.specs.Calls.{IsAccepted, IsDecided};
 ghost use Rattle.cyc_tool.specs.Endings.{count_of_loops, refused_told, where_outputs};
-ghost use Rattle.cyc_tool.specs.Plans.{Declines, Prints};
-ghost use Rattle.cyc_tool.specs.Seen.{IsToldOf, outcome_of, purpose_seen};
+ghost use Rattle.cyc_tool.specs.Plans.{Declines, Prints, Rewrites};
+ghost use Rattle.cyc_tool.specs.Seen.{FitsNetlist, IsLimitOf, IsOutgrown, IsToldOf, outcome_of, purpose_seen};
 
 use crate::outcome::Outcome;
 use crate::status;
@@ -109,18 +112,47 @@ fn tell_calm(
     ))
 }
 
+// That the rewritten netlist is too large.
+fn tell_outgrown(alloc: Global, fault: &UnrollFault) -> Result<Outcome, AllocError>
+    ensures { IfOk result (λ told. IsOutgrown fault.now told) }
+{
+    match fault {
+        UnrollFault::TooLarge { size } => tell_too_large(alloc, *size),
+        UnrollFault::Memory => Err(AllocError),
+    }
+}
+
 // What rewriting comes to: the text of the rewritten netlist, or that it is too large.
 fn tell_rewriting(
     alloc: Global,
-    rewriting: Result<Netlist, UnrollFault>,
+    rewriting: &Result<Netlist, UnrollFault>,
 ) -> Result<Outcome, AllocError>
-    ensures { IfOk result (λ told. IsToldOf rewriting told) }
+    ensures { IfOk result (λ told. IsToldOf rewriting.now told) }
 {
     match rewriting {
-        Ok(other) => Ok(tell_netlist(alloc, &other)?),
-        Err(UnrollFault::TooLarge { size }) => Ok(tell_too_large(alloc, size)?),
-        Err(UnrollFault::Memory) => Err(AllocError),
+        Ok(other) => tell_netlist(alloc, other),
+        Err(fault) => tell_outgrown(alloc, fault),
     }
+}
+
+// Rewrites an accepted netlist, and tells what comes of it.
+fn tell_rewritten(
+    alloc: Global,
+    net: &Netlist,
+    blocks: &Blocks,
+    cut: &Cut,
+    sweeps: &SweepCounts,
+) -> Result<Outcome, AllocError>
+    requires blocks { AreBlocksOf net.now blocks.now }
+    requires cut { IsCutOf net.now cut.now }
+    requires sweeps { length sweeps.now.per_block ≡ length blocks.now.list }
+    requires inputs { length net.now.inputs ≤ 4000000000 }
+    ensures { IfOk result (λ told. (care : CareSet) (observe : Observed) (limit : ℕ) → Accepts net.now care observe →
+        AreSweepsOnCare net.now blocks.now cut.now care sweeps.now →
+        IsAccepted record { net = net.now; care = care; limit = limit; observe = observe } Rewrites (outcome_of told)) }
+{
+    let rewriting = rewrite(alloc, net, blocks, cut, sweeps);
+    tell_rewriting(alloc, &rewriting)
 }
 
 fn tell_ring(
@@ -165,13 +197,13 @@ fn tell_acceptance(
         IsAccepted record { net = net.now; care = care; limit = limit; observe = observe } (purpose_seen purpose) (outcome_of told)) }
 {
     match purpose {
-        Purpose::Judge => Ok(tell_accepted(alloc, net, blocks, loose_told(observe, loose))?),
-        Purpose::Rewrite => Ok(tell_rewriting(alloc, rewrite(alloc, net, blocks, cut, sweeps))?),
+        Purpose::Judge => tell_accepted(alloc, net, blocks, loose_told(observe, loose)),
+        Purpose::Rewrite => tell_rewritten(alloc, net, blocks, cut, sweeps),
         Purpose::Demonstrate(cells) => {
             let rewritten = rewritten_gates(net, blocks, sweeps);
-            Ok(tell_ring(alloc, cells, net, blocks, rewritten)?)
+            tell_ring(alloc, cells, net, blocks, rewritten)
         }
-        Purpose::Storm(_) => Ok(tell_calm(alloc, net, blocks, loose_told(observe, loose))?),
+        Purpose::Storm(_) => tell_calm(alloc, net, blocks, loose_told(observe, loose)),
     }
 }
 
@@ -186,9 +218,45 @@ fn tell_refusal(
     ensures { IfOk result (λ told. outcome_of told ≡ done (refused_told net.now (purpose_seen purpose) refusal.now)) }
 {
     match purpose {
-        Purpose::Judge | Purpose::Demonstrate(_) => Ok(tell_refused(alloc, net, refusal)?),
-        Purpose::Rewrite => Ok(tell_declined(alloc, net, refusal)?),
-        Purpose::Storm(rounds) => Ok(tell_storm(alloc, net, refusal, rounds)?),
+        Purpose::Judge | Purpose::Demonstrate(_) => tell_refused(alloc, net, refusal),
+        Purpose::Rewrite => tell_declined(alloc, net, refusal),
+        Purpose::Storm(rounds) => tell_storm(alloc, net, refusal, rounds),
+    }
+}
+
+// What is told of a verdict.
+fn tell_verdict(
+    alloc: Global,
+    net: &Netlist,
+    blocks: &Blocks,
+    cut: &Cut,
+    observe: Observe,
+    purpose: Purpose,
+    verdict: &Verdict,
+) -> Result<Outcome, AllocError>
+    requires valid { IsNetlist net.now }
+    requires inputs { length net.now.inputs ≤ 4000000000 }
+    requires blocks { AreBlocksOf net.now blocks.now }
+    requires cut { IsCutOf net.now cut.now }
+    requires fits { FitsNetlist net.now blocks.now verdict.now }
+    ensures { IfOk result (λ told. (care : CareSet) → IsVerdict net.now blocks.now cut.now care observe verdict.now → (limit : ℕ) (nodes : Arena) →
+        IsDecided record { net = net.now; care = care; limit = limit; observe = observe } (purpose_seen purpose) nodes (outcome_of told)) }
+{
+    match verdict {
+        Verdict::Accepted { sweeps, loose } => {
+            tell_acceptance(alloc, net, blocks, cut, observe, purpose, sweeps, *loose)
+        }
+        Verdict::Refused(refusal) => tell_refusal(alloc, net, purpose, refusal),
+    }
+}
+
+// That the limit of nodes was met.
+fn tell_limited(alloc: Global, fault: &DecideFault) -> Result<Outcome, AllocError>
+    ensures { IfOk result (λ told. IsLimitOf fault.now told) }
+{
+    match fault {
+        DecideFault::NodeLimit { nodes } => tell_limit(alloc, *nodes),
+        DecideFault::Memory => Err(AllocError),
     }
 }
 
@@ -213,14 +281,34 @@ fn decide_and_tell(
     ensures { IfOk result (λ told. IsDecided record { net = net.now; care = care.now; limit = limit; observe = observe }
         (purpose_seen purpose) d.new (outcome_of told)) }
 {
-    match decide(alloc, d, net, blocks, cut, care, limit, observe) {
-        Ok(Verdict::Accepted { sweeps, loose }) => Ok(tell_acceptance(
-            alloc, net, blocks, cut, observe, purpose, &sweeps, loose,
-        )?),
-        Ok(Verdict::Refused(refusal)) => Ok(tell_refusal(alloc, net, purpose, &refusal)?),
-        Err(DecideFault::NodeLimit { nodes }) => Ok(tell_limit(alloc, nodes)?),
-        Err(DecideFault::Memory) => Err(AllocError),
+    let decision = decide(alloc, d, net, blocks, cut, care, limit, observe);
+    match &decision {
+        Ok(verdict) => tell_verdict(alloc, net, blocks, cut, observe, purpose, verdict),
+        Err(fault) => tell_limited(alloc, fault),
     }
+}
+
+// Decides a netlist with these blocks, whose cut wires are found here, and tells of it what is wanted.
+fn decide_with_blocks(
+    alloc: Global,
+    net: &Netlist,
+    blocks: &Blocks,
+    care: &Care,
+    limit: u32,
+    observe: Observe,
+    purpose: Purpose,
+    d: &mut Diagrams,
+) -> Result<Outcome, AllocError>
+    requires valid { IsNetlist net.now }
+    requires inputs { length net.now.inputs ≤ 4000000000 }
+    requires blocks { AreBlocksOf net.now blocks.now }
+    requires care { IsCareOf net.now care.now }
+    requires limit { limit ≤ most_nodes }
+    ensures { IfOk result (λ told. IsDecided record { net = net.now; care = care.now; limit = limit; observe = observe }
+        (purpose_seen purpose) d.new (outcome_of told)) }
+{
+    let cut = find_cut(alloc, net, blocks)?;
+    decide_and_tell(alloc, net, blocks, &cut, care, limit, observe, purpose, d)
 }
 
 // Decides a netlist on its care set within so many nodes, where these wires are observed, and tells of it what is
@@ -242,6 +330,5 @@ pub(crate) fn decide_netlist(
         (purpose_seen purpose) d.new (outcome_of told)) }
 {
     let blocks = find_blocks(alloc, net)?;
-    let cut = find_cut(alloc, net, &blocks)?;
-    decide_and_tell(alloc, net, &blocks, &cut, care, limit, observe, purpose, d)
+    decide_with_blocks(alloc, net, &blocks, care, limit, observe, purpose, d)
 }

@@ -1,3 +1,5 @@
+ghost use Rattle.cyc_tool.specs.Seen.{EndsAs, end_of};
+
 use std::alloc::AllocError;
 
 // A status, and the texts for out and err.
@@ -24,5 +26,15 @@ impl From<AllocError> for Stop {
 
     fn from(_: AllocError) -> Self {
         Stop::Memory
+    }
+}
+
+// An outcome, or the stop for want of memory.
+pub(crate) fn or_stop(told: Result<Outcome, AllocError>) -> Result<Outcome, Stop>
+    ensures { EndsAs told (end_of result) }
+{
+    match told {
+        Ok(outcome) => Ok(outcome),
+        Err(_) => Err(Stop::Memory),
     }
 }

@@ -9,6 +9,8 @@ ghost use Rattle.cyc_tool.specs.Seen.{outcome_of};
 ghost use Rattle.cyc_tool.specs.Simulation.{sim_text};
 ghost use Rattle.cyc_tool.specs.Texts.{has_fault, limit_reached, on_both as both_of, on_err as err_of, on_out as out_of, read_failed, usage};
 ghost use Rattle.blif_write.specs.Written.{written};
+ghost use Rattle.loops.specs.Blocks.{AreBlocksOf};
+ghost use Rattle.loops.specs.Cuts.{IsCutOf};
 ghost use Rattle.refusals.specs.Refusals.{IsRefusalOf};
 ghost use Rattle.report.specs.LoopTexts.{loops_text};
 ghost use Rattle.report.specs.Verdicts.{refusal_text};
@@ -23,7 +25,7 @@ use contents::Fault;
 use cyc_base::{Name, Trits};
 use cyc_io::TextSink;
 use delay_core::TickEnd;
-use loops::{find_blocks, find_cut};
+use loops::{Blocks, Cut, find_blocks, find_cut};
 use netlist::Netlist;
 use probes::Kind;
 use refusals::Refusal;
@@ -152,16 +154,45 @@ pub(crate) fn tell_netlist(alloc: Global, net: &Netlist) -> Result<Outcome, Allo
     }
 }
 
+// The lines of the loops of a netlist, by its blocks and cut wires.
+fn cut_loop_lines(
+    alloc: Global,
+    net: &Netlist,
+    blocks: &Blocks,
+    cut: &Cut,
+) -> Result<Vec<u8>, AllocError>
+    requires blocks { AreBlocksOf net.now blocks.now }
+    requires cut { IsCutOf net.now cut.now }
+    ensures { IfOk result (λ text. text.items ≡ loops_text net.now) }
+{
+    let mut sink = TextSink::new(alloc);
+    match put_loops(net, blocks, cut, &mut sink) {
+        Ok(()) => Ok(sink.into_vec()),
+        Err(_) => Err(AllocError),
+    }
+}
+
+// The same by its blocks alone.
+fn block_loop_lines(alloc: Global, net: &Netlist, blocks: &Blocks) -> Result<Vec<u8>, AllocError>
+    requires { AreBlocksOf net.now blocks.now }
+    ensures { IfOk result (λ text. text.items ≡ loops_text net.now) }
+{
+    let cut = find_cut(alloc, net, blocks)?;
+    cut_loop_lines(alloc, net, blocks, &cut)
+}
+
+// The lines of the loops of a netlist.
+fn loop_lines(alloc: Global, net: &Netlist) -> Result<Vec<u8>, AllocError>
+    ensures { IfOk result (λ text. text.items ≡ loops_text net.now) }
+{
+    let blocks = find_blocks(alloc, net)?;
+    block_loop_lines(alloc, net, &blocks)
+}
+
 pub(crate) fn tell_loops(alloc: Global, net: &Netlist) -> Result<Outcome, AllocError>
     ensures { IfOk result (λ told. outcome_of told ≡ done (Prints (loops_text net.now))) }
 {
-    let blocks = find_blocks(alloc, net)?;
-    let cut = find_cut(alloc, net, &blocks)?;
-    let mut sink = TextSink::new(alloc);
-    match put_loops(net, &blocks, &cut, &mut sink) {
-        Ok(()) => Ok(on_out(alloc, status::DONE, sink.into_vec())),
-        Err(_) => Err(AllocError),
-    }
+    Ok(on_out(alloc, status::DONE, loop_lines(alloc, net)?))
 }
 
 pub(crate) fn tell_sim(

@@ -5,16 +5,17 @@ ghost use Rattle.commands.specs.Seen.{command_seen, options_seen};
 ghost use Rattle.commands.specs.Words.{command_of};
 ghost use Rattle.netlist.specs.Netlists.{IsNetlist};
 ghost use Rattle.sched_text.specs.Fitting.{FitsNetlist};
+ghost use Rattle.sched_text.specs.Vectors.{HaveWidth};
 ghost use Rattle.cyc_tool.specs.Calls.{shelf_call, sink_call, ComesTo, Follows, Tells, Runs, WriteFailed};
 ghost use Rattle.cyc_tool.specs.Causes.{GivesAnswer, HasRewritten, HasStormed, IsComplete, IsDoneWith, IsFaulty, IsUnread, IsWithoutCommand, MeetsLimit, NoneFell, Reaches};
-ghost use Rattle.cyc_tool.specs.Plays.{AreInputs};
+ghost use Rattle.cyc_tool.specs.Plays.{AreInputs, known as known_of};
 ghost use Rattle.cyc_tool.specs.Plans.{Decides, decision, deciding, deciding_on, finding_loops, flattening, plan_of, play_on, playing, replaying, replaying_on, simulating, simulating_on};
 ghost use Rattle.cyc_tool.specs.Reading.{FollowsAlone, FollowsStill, FollowsStillAlone};
 ghost use Rattle.cyc_tool.specs.Requests.{Shows, request, shown_by};
 ghost use Rattle.cyc_tool.specs.Seen.{end_of, outcome_of, purpose_seen};
 
 use crate::decision::{Purpose, decide_netlist};
-use crate::outcome::{Outcome, Stop};
+use crate::outcome::{Outcome, Stop, or_stop};
 use crate::plays::{known, played, probed};
 use crate::reading::{read_care, read_netlist, read_schedule_file, read_vector_file, stop_at};
 use crate::ring::demo;
@@ -23,7 +24,7 @@ use crate::texts::{tell_delays, tell_loops, tell_netlist, tell_probed, tell_sim,
 use bdd_ops::Diagrams;
 use care_sets::Care;
 use commands::{Command, Options, command_of_words};
-use cyc_base::{Bits, DEFAULT_NODES, Name};
+use cyc_base::{Bits, DEFAULT_NODES, Name, Trits};
 use cyc_io::{Shelf, Sink, write_whole};
 use delay_core::Schedule;
 use netlist::Netlist;
@@ -94,7 +95,7 @@ fn flat<S: Shelf>(alloc: Global, shelf: &mut S, netlist: &Name) -> Result<Outcom
     ensures same { S.files shelf.new ≡ S.files shelf.old }
 {
     let net = read_netlist(alloc, shelf, netlist)?;
-    Ok(tell_netlist(alloc, &net)?)
+    or_stop(tell_netlist(alloc, &net))
 }
 
 // Prints the loops of a file's netlist.
@@ -103,7 +104,7 @@ fn loops<S: Shelf>(alloc: Global, shelf: &mut S, netlist: &Name) -> Result<Outco
     ensures same { S.files shelf.new ≡ S.files shelf.old }
 {
     let net = read_netlist(alloc, shelf, netlist)?;
-    Ok(tell_loops(alloc, &net)?)
+    or_stop(tell_loops(alloc, &net))
 }
 
 // Simulates a netlist on the vectors of a file.
@@ -117,7 +118,7 @@ fn simulate_file<S: Shelf>(
     ensures same { S.files shelf.new ≡ S.files shelf.old }
 {
     let found = read_vector_file(alloc, shelf, net, true, vectors)?;
-    Ok(tell_sim(alloc, net, &found)?)
+    or_stop(tell_sim(alloc, net, &found))
 }
 
 // The same of the netlist of a file.
@@ -209,7 +210,26 @@ fn play_file<S: Shelf>(
     ensures same { S.files shelf.new ≡ S.files shelf.old }
 {
     let schedule = read_schedule_file(alloc, shelf, net, vectors.len(), recorded)?;
-    Ok(play(alloc, net, vectors, &schedule, recorded, probes, probe)?)
+    play(alloc, net, vectors, &schedule, recorded, probes, probe)
+}
+
+// Plays the recorded schedule of a file on vectors that have no unknown values.
+fn play_found<S: Shelf>(
+    alloc: Global,
+    shelf: &mut S,
+    net: &Netlist,
+    found: &[Trits],
+    recorded: &Name,
+    probes: &mut [Box<dyn Probe>],
+    probe: Option<Kind>,
+) -> Result<Outcome, Stop>
+    requires width { HaveWidth (length net.now.inputs) found.now }
+    requires silent { All (λ probe. heard probe ≡ []) probes.old }
+    ensures comes { FollowsAlone (play_on (shown_by kind text probes.old) probe recorded.now net.now (known_of found.now)) (shelf_call S.files S.faults shelf.old shelf.new) (end_of result) }
+    ensures same { S.files shelf.new ≡ S.files shelf.old }
+{
+    let inputs = known(alloc, found)?;
+    play_file(alloc, shelf, net, &inputs, recorded, probes, probe)
 }
 
 // Plays a netlist on the vectors of a file by the schedule of another.
@@ -227,8 +247,7 @@ fn replay<S: Shelf>(
     ensures same { S.files shelf.new ≡ S.files shelf.old }
 {
     let found = read_vector_file(alloc, shelf, net, false, vectors)?;
-    let inputs = known(alloc, &found)?;
-    play_file(alloc, shelf, net, &inputs, recorded, probes, probe)
+    play_found(alloc, shelf, net, &found, recorded, probes, probe)
 }
 
 // The same of the netlist of a file.

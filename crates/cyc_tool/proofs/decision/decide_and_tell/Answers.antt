@@ -1,15 +1,23 @@
-use Rattle.cyc_tool.specs.Seen.{outcome_of, purpose_seen}
-use Rattle.cyc_tool.proofs.DecisionLemmas.{accepted_decides, refusal_fits}
+use Rattle.std.proofs.lemmas.Result.{IfOk-weaker}
+use Rattle.cyc_tool.specs.Seen.{purpose_seen}
+use Rattle.cyc_tool.proofs.DecisionLemmas.{limit_decides, verdict_fits}
 use Rattle.cyc_tool.proofs.decision.decide_and_tell.Goals as goal
 
-pub returns-in_ok-tell_acceptance-in-Ok-Accepted : goal.returns-in_ok-tell_acceptance-in-Ok-Accepted
-returns-in_ok-tell_acceptance-in-Ok-Accepted c =
-    let verdict = rw c.in-Ok-Accepted.field-0-is at c.in-Ok-Accepted.ensures.verdict in
-    accepted_decides c.args.net.now c.args.care.now c.args.limit c.args.observe (purpose_seen c.args.purpose) c.decide.new.d
-    (outcome_of c.in_ok-tell_acceptance-in-Ok-Accepted.field-0) c.requires.valid verdict.accepts
-    (c.in_ok-tell_acceptance-in-Ok-Accepted.ensures c.args.care.now verdict c.args.limit)
+pub tell_verdict-requires-clause-fits : goal.tell_verdict-requires-clause-fits
+tell_verdict-requires-clause-fits c =
+    verdict_fits c.args.net.now c.args.blocks.now c.args.cut.now c.args.care.now c.args.observe c.in-Ok.verdict c.requires.valid
+    (rw c.in-Ok.is at c.decide-decision.ensures.verdict)
 
-pub tell_refusal-requires : goal.tell_refusal-requires
-tell_refusal-requires c =
-    refusal_fits c.args.net.now c.args.care.now c.args.observe c.in-Ok-Refused.refusal c.requires.valid
-    (rw c.in-Ok-Refused.field-0-is at c.in-Ok-Refused.ensures.verdict)
+pub returns-in-Ok : goal.returns-in-Ok
+returns-in-Ok c =
+    let is = rw c.in-Ok.is at c.decide-decision.ensures.verdict in
+    IfOk-weaker c.tell_verdict.result _ _ (λ told decided. decided c.args.care.now is c.args.limit c.decide-decision.new.d)
+    c.tell_verdict.ensures
+
+pub returns : goal.returns
+returns c =
+    IfOk-weaker c.tell_limited.result _ _ (λ told same.
+    limit_decides c.args.net.now c.args.care.now c.args.limit c.args.observe (purpose_seen c.args.purpose) c.decide-decision.new.d told
+    c.decide-decision.result c.in-Err.fault c.in-Err.is same
+    c.decide-decision.ensures.fault c.decide-decision.ensures.cause c.decide-decision.ensures.enough)
+    c.tell_limited.ensures

@@ -1,18 +1,31 @@
+use Rattle.std.proofs.lemmas.Result.{IfOk-weaker}
 use Rattle.commands.specs.Seen.{cells_seen}
 use Rattle.cyc_tool.specs.Seen.{outcome_of}
-use Rattle.cyc_tool.proofs.DecisionLemmas.{demonstrated, was_rewritten}
+use Rattle.cyc_tool.proofs.DecisionLemmas.{calmed, demonstrated, judged}
 use Rattle.cyc_tool.proofs.decision.tell_acceptance.Goals as goal
 
-pub returns-in_ok-tell_rewriting-in-Rewrite : goal.returns-in_ok-tell_rewriting-in-Rewrite
-returns-in_ok-tell_rewriting-in-Rewrite c care acceptance limit =
-    rw c.in-Rewrite.is
-    (was_rewritten c.args.net.now c.args.blocks.now c.args.cut.now c.args.sweeps.now care limit c.args.observe c.rewrite.result
-    c.in_ok-tell_rewriting-in-Rewrite.field-0 c.in_ok-tell_rewriting-in-Rewrite.ensures acceptance.accepts acceptance.sweeps
-    c.rewrite.ensures.rewriting c.rewrite.ensures.small c.rewrite.ensures.fault)
+pub returns-in-Judge : goal.returns-in-Judge
+returns-in-Judge c =
+    IfOk-weaker c.tell_accepted.result _ _ (λ told is care acceptance limit.
+    rw c.in-Judge.is (judged c.args.net.now care limit c.args.observe c.args.loose _ (outcome_of told) is c.loose_told.ensures acceptance.loose_is))
+    c.tell_accepted.ensures
 
-pub returns-in_ok-tell_ring-in-Demonstrate : goal.returns-in_ok-tell_ring-in-Demonstrate
-returns-in_ok-tell_ring-in-Demonstrate c care acceptance limit =
+pub returns-in-Rewrite : goal.returns-in-Rewrite
+returns-in-Rewrite c =
+    IfOk-weaker c.tell_rewritten.result _ _ (λ told is care acceptance limit.
+    rw c.in-Rewrite.is (is care c.args.observe limit acceptance.accepts acceptance.sweeps))
+    c.tell_rewritten.ensures
+
+pub returns-in-Demonstrate : goal.returns-in-Demonstrate
+returns-in-Demonstrate c =
+    IfOk-weaker c.tell_ring.result _ _ (λ told is care acceptance limit.
     rw c.in-Demonstrate.is
-    (demonstrated c.args.net.now care limit c.args.observe (cells_seen c.in-Demonstrate.cells) c.rewritten_gates-rewritten.result
-    (outcome_of c.in_ok-tell_ring-in-Demonstrate.field-0) c.in_ok-tell_ring-in-Demonstrate.ensures
-    (c.rewritten_gates-rewritten.ensures c.args.cut.now care c.requires.cut acceptance.sweeps))
+    (demonstrated c.args.net.now care limit c.args.observe (cells_seen c.in-Demonstrate.cells) c.rewritten_gates-rewritten.result (outcome_of told) is
+    (c.rewritten_gates-rewritten.ensures c.args.cut.now care c.requires.cut acceptance.sweeps)))
+    c.tell_ring.ensures
+
+pub returns-in-Storm : goal.returns-in-Storm
+returns-in-Storm c =
+    IfOk-weaker c.tell_calm.result _ _ (λ told is care acceptance limit.
+    rw c.in-Storm.is (calmed c.args.net.now care limit c.args.observe c.args.loose _ _ (outcome_of told) is c.loose_told-in-Storm.ensures acceptance.loose_is))
+    c.tell_calm.ensures

@@ -1,0 +1,5 @@
+use Rattle.std.proofs.Common.{inl, inr}
+use Rattle.cyc_tool.proofs.decision.tell_refusal.Goals as goal
+
+pub returns-in-Judge : goal.returns-in-Judge
+returns-in-Judge c = elim c.in-Judge.is [ inl is ↦ rw is c.tell_refused.ensures | inr is ↦ rw is.1 c.tell_refused.ensures ]

@@ -1,0 +1,19 @@
+use Rattle.std.proofs.lemmas.Result.{IfOk-weaker}
+use Rattle.cyc_tool.specs.Seen.{outcome_of, purpose_seen}
+use Rattle.cyc_tool.proofs.DecisionLemmas.{accepted_decides, refused_decides}
+use Rattle.cyc_tool.proofs.decision.tell_verdict.Goals as goal
+
+pub returns-in-Accepted : goal.returns-in-Accepted
+returns-in-Accepted c =
+    IfOk-weaker c.tell_acceptance.result _ _ (λ told accepted care is limit nodes.
+    let acceptance = rw c.in-Accepted.is at is in
+    accepted_decides c.args.net.now care limit c.args.observe (purpose_seen c.args.purpose) nodes (outcome_of told) c.requires.valid acceptance.accepts
+    (accepted care acceptance limit))
+    c.tell_acceptance.ensures
+
+pub returns-in-Refused : goal.returns-in-Refused
+returns-in-Refused c =
+    IfOk-weaker c.tell_refusal.result _ _ (λ told same care is limit nodes.
+    refused_decides c.args.net.now care limit c.args.observe (purpose_seen c.args.purpose) nodes (outcome_of told) c.in-Refused.refusal
+    (rw c.in-Refused.is at is) same)
+    c.tell_refusal.ensures
