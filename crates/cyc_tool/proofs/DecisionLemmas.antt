@@ -33,7 +33,7 @@ use Rattle.cyc_tool.specs.Answer.{told, decided, verdict_of}
 use Rattle.cyc_tool.specs.Calls.{IsAccepted, IsDecided, IsMadeFor, Limit, Verdict as ByVerdict}
 use Rattle.cyc_tool.specs.Endings.{count_of_loops, refused_told, where_outputs}
 use Rattle.cyc_tool.specs.Plans.{Decision, Prints, Declines, Outgrows, Purpose, Judges, Rewrites, Demonstrates, Storms}
-use Rattle.cyc_tool.specs.Seen.{FitsNetlist, IsLimitOf, IsToldOf, outcome_of}
+use Rattle.cyc_tool.specs.Seen.{IsLimitOf, IsTellable, IsToldOf, outcome_of}
 use Rattle.cyc_tool.specs.Texts.{Outcome, limit_reached}
 use Rattle.cyc_tool.specs.declared.outcome.Outcome.{Outcome as Told}
 
@@ -84,7 +84,7 @@ limit_decides net care limit what purpose arena end result WantsMemory is same f
 
 -- a verdict can be told of its netlist
 pub verdict_fits : (net : Parts) (blocks : Blocks) (cut : Cut) (care : CareSet) (what : Observe) (verdict : Verdict) → IsNetlist net
-    → IsVerdict net blocks cut care what verdict → FitsNetlist net blocks verdict
+    → IsVerdict net blocks cut care what verdict → IsTellable net blocks verdict
 verdict_fits net blocks cut care what (Accepted counts loose) valid is = is.sweeps.width
 verdict_fits net blocks cut care what (Refused refused) valid is = refusal_fits net care what refused valid is
 

@@ -47,9 +47,9 @@ IsLimitOf (NodeLimit nodes) told = outcome_of told ≡ texts.limit_reached nodes
 IsLimitOf NoNodes told = ⊥
 
 -- a verdict that can be told of a netlist: there is a number of sweeps for each block, or its refusal has the netlist's widths
-abbrev pub FitsNetlist : Parts → Blocks → Verdict → Type 0
-FitsNetlist net blocks (Accepted counts loose) = length counts.per_block ≡ length blocks.list
-FitsNetlist net blocks (Refused refused) = IsRefusalOf net refused
+abbrev pub IsTellable : Parts → Blocks → Verdict → Type 0
+IsTellable net blocks (Accepted counts loose) = length counts.per_block ≡ length blocks.list
+IsTellable net blocks (Refused refused) = IsRefusalOf net refused
 
 -- want of memory
 abbrev pub no_memory : Stop

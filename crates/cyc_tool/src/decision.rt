@@ -17,7 +17,7 @@ ghost use Rattle.cyc_tool.specs.Answer.{told as done};
 ghost use Rattle.cyc_tool.specs.Calls.{IsAccepted, IsDecided};
 ghost use Rattle.cyc_tool.specs.Endings.{count_of_loops, refused_told, where_outputs};
 ghost use Rattle.cyc_tool.specs.Plans.{Declines, Prints, Rewrites};
-ghost use Rattle.cyc_tool.specs.Seen.{FitsNetlist, IsLimitOf, IsOutgrown, IsToldOf, outcome_of, purpose_seen};
+ghost use Rattle.cyc_tool.specs.Seen.{IsLimitOf, IsOutgrown, IsTellable, IsToldOf, outcome_of, purpose_seen};
 
 use crate::outcome::Outcome;
 use crate::status;
@@ -238,7 +238,7 @@ fn tell_verdict(
     requires inputs { length net.now.inputs ≤ 4000000000 }
     requires blocks { AreBlocksOf net.now blocks.now }
     requires cut { IsCutOf net.now cut.now }
-    requires fits { FitsNetlist net.now blocks.now verdict.now }
+    requires fits { IsTellable net.now blocks.now verdict.now }
     ensures { IfOk result (λ told. (care : CareSet) → IsVerdict net.now blocks.now cut.now care observe verdict.now → (limit : ℕ) (nodes : Arena) →
         IsDecided record { net = net.now; care = care; limit = limit; observe = observe } (purpose_seen purpose) nodes (outcome_of told)) }
 {

@@ -5,7 +5,7 @@ ghost use Rattle.cyc_io.specs.Text.{text_bytes};
 ghost use Rattle.netlist.specs.Fixpoint.{next, outs};
 ghost use Rattle.report.specs.Ticks.{tick_text};
 ghost use Rattle.simulation.specs.Simulators.{IsSimulatorOf};
-ghost use Rattle.cyc_tool.specs.Simulation.{sim_text, start_value, start_values};
+ghost use Rattle.cyc_tool.specs.Simulation.{sim_text, start_value, start_values, tick_lines};
 
 use cyc_base::{Trit, Trits};
 use cyc_io::TextSink;
@@ -60,6 +60,53 @@ fn put_next(
     Ok(())
 }
 
+// Appends the lines of the ticks of these vectors, where the latches have these values at first.
+fn put_all(
+    alloc: Global,
+    net: &Netlist,
+    simulator: &mut Simulator,
+    vectors: &[Trits],
+    latches: &mut Vec<Trit>,
+    sink: &mut TextSink,
+) -> Result<(), AllocError>
+    requires simulator { IsSimulatorOf net.now simulator.old }
+    requires vectors { All (λ (vector : List TritValue). length vector ≡ length net.now.inputs) vectors.now }
+    requires latches { length latches.old.items ≡ length net.now.latches }
+    ensures { OnOk result (text_bytes sink.new ≡ text_bytes sink.old ++ tick_lines net.now 1 latches.old.items vectors.now) }
+{
+    let mut outputs = Vec::new(alloc);
+    for i in 0..vectors.len() {
+        let inputs = vectors[i].items();
+        put_next(
+            alloc,
+            net,
+            simulator,
+            i as u64 + 1,
+            inputs,
+            latches,
+            &mut outputs,
+            sink,
+        )?;
+    }
+    Ok(())
+}
+
+// The same, where the latches have what they start with.
+fn put_from_start(
+    alloc: Global,
+    net: &Netlist,
+    simulator: &mut Simulator,
+    vectors: &[Trits],
+    sink: &mut TextSink,
+) -> Result<(), AllocError>
+    requires simulator { IsSimulatorOf net.now simulator.old }
+    requires vectors { All (λ (vector : List TritValue). length vector ≡ length net.now.inputs) vectors.now }
+    ensures { OnOk result (text_bytes sink.new ≡ text_bytes sink.old ++ sim_text net.now vectors.now) }
+{
+    let mut latches = start(alloc, net)?;
+    put_all(alloc, net, simulator, vectors, &mut latches, sink)
+}
+
 fn put_ticks(
     alloc: Global,
     net: &Netlist,
@@ -70,22 +117,7 @@ fn put_ticks(
     ensures { OnOk result (text_bytes sink.new ≡ text_bytes sink.old ++ sim_text net.now vectors.now) }
 {
     let mut simulator = Simulator::of(alloc, net)?;
-    let mut latches = start(alloc, net)?;
-    let mut outputs = Vec::new(alloc);
-    for i in 0..vectors.len() {
-        let inputs = vectors[i].items();
-        put_next(
-            alloc,
-            net,
-            &mut simulator,
-            i as u64 + 1,
-            inputs,
-            &mut latches,
-            &mut outputs,
-            sink,
-        )?;
-    }
-    Ok(())
+    put_from_start(alloc, net, &mut simulator, vectors, sink)
 }
 
 // The lines of a simulation.

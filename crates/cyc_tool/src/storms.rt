@@ -116,8 +116,9 @@ fn tell_vector(
     requires { length v.now ≡ length net.now.inputs + length net.now.latches }
     ensures { IfOk result (λ told. outcome_of told ≡ done (storm_told net.now (rounds_seen rounds) v.now)) }
 {
-    match plan(alloc, net, v)? {
-        Some(found) => Ok(tell_planned(alloc, net, v, &found, rounds)?),
+    let found = plan(alloc, net, v)?;
+    match &found {
+        Some(plan) => tell_planned(alloc, net, v, plan, rounds),
         None => Err(AllocError),
     }
 }
