@@ -1,11 +1,13 @@
 #!/usr/bin/env bash
 # Decides the rings of `demo`, of 8 to 64 cells, the examples with care files, and netlists with loops in families of
 # growing size (bench/families.py). It prints time and peak memory of each, and but for the rings the least limit of
-# nodes that isn't met.
+# nodes that isn't met, and how many loops are decided by which step (crates/bench_decide).
+# Run `rt run` in crates/bench_decide once before: it builds that program.
 set -u
 top=$(cd "$(dirname "$0")/.." && pwd) || exit 1
 dir=$(mktemp -d) || exit 1
 trap 'rm -rf "$dir"' EXIT
+decider=$top/crates/bench_decide/out/bench_decide
 
 meets() {
     local limit=$1
@@ -33,15 +35,24 @@ run() {
 }
 
 tell() {
-    tail -n 1 "$dir/time" | awk -v name="$1" -v nodes="$2" -v line="$(head -n 1 "$dir/out" | cut -c1-60)" \
-        '{ printf "%-16s %7.2f s %9d kB %8s nodes   %s\n", name, $1 + $2, $3, nodes, line }'
+    tail -n 1 "$dir/time" | awk -v name="$1" -v nodes="$2" -v ways="$3" -v line="$(head -n 1 "$dir/out" | cut -c1-60)" \
+        '{ printf "%-16s %7.2f s %9d kB %8s nodes   %-44s   %s\n", name, $1 + $2, $3, nodes, ways, line }'
+}
+
+# How the loops are decided of the netlist and the care file among these words.
+ways() {
+    local word files=()
+    for word in "$@"; do
+        [ "$word" = --care ] || files+=("$word")
+    done
+    cat "${files[@]}" | "$decider"
 }
 
 measure() {
     local name=$1
     shift
     run check "$@"
-    tell "$name" "$(nodes "$@")"
+    tell "$name" "$(nodes "$@")" "$(ways "$@")"
 }
 
 # A netlist of a family, with its care file where there is one.
@@ -58,7 +69,7 @@ family() {
 "$top/cyc" check "$top/examples/full_adder.blif" >/dev/null 2>&1 # builds the program where it isn't built
 for cells in 8 16 32 64; do
     run demo "$cells"
-    tell "ring $cells" -
+    tell "ring $cells" - -
 done
 for name in token_ring_4 round_robin_8 round_robin_32 end_around_carry; do
     measure "$name" "$top/examples/$name.blif" --care "$top/examples/$name.care"
