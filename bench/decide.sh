@@ -76,6 +76,8 @@ for name in token_ring_4 round_robin_8 round_robin_32 end_around_carry; do
 done
 for bits in 16 32 64; do family end_around "$bits"; done
 for bits in 12 16 64; do family multiplier "$bits"; done
+for bits in 16 64; do family beside "$bits"; done
+for bits in 16 64; do family behind "$bits"; done
 for number in 1000 10000; do family pairs "$number"; done
 for requests in 32 64 128; do family round_robin "$requests"; done
 for bits in 4 8 16 32; do family units "$bits"; done

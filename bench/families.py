@@ -5,6 +5,8 @@
 
   pairs N         N pairs of units of one bit that share a loop, each reads the one before it
   multiplier N    a multiplier of N bits, row by row, beside one such pair
+  beside N        the multiplier beside a loop that isn't harmless: a gate that reads itself
+  behind N        the multiplier fed by that loop
   units N         two adders of N bits that share a loop: a select says which comes first, and one reads its operand
                   rotated, so that all bits are in the loop
   end_around N    an adder of N bits in ones' complement; cared for where some position doesn't propagate
@@ -61,13 +63,21 @@ def full_adder(m, a, b, carry, total, out):
     m.gate(CARRY, out, a, b, carry)
 
 
-def multiplier(n):
-    results = [f"r{i}_0" for i in range(n)] + [f"r{n - 1}_{i}" for i in range(1, n)]
-    m = Model("multiplier", ["x", "c0", "d0", *[f"{w}{i}" for i in range(n) for w in "ab"]], ["y0", *results])
+def operands(n):
+    return numbered("a", n), numbered("b", n)
+
+
+def results(n):
+    return [f"r{i}_0" for i in range(n)] + [f"r{n - 1}_{i}" for i in range(1, n)]
+
+
+def add_multiplier(m, a, b):
+    """Row by row: each adds the first operand, where its bit of the second is set, to the sum so far."""
+    n = len(a)
     m.gate([], "zero")
     for j in range(n):
         for i in range(n):
-            m.gate(AND, f"p{j}_{i}", f"a{i}", f"b{j}")
+            m.gate(AND, f"p{j}_{i}", a[i], b[j])
     for i in range(n):
         m.gate(COPY, f"r0_{i}", f"p0_{i}")
     m.gate(COPY, f"r0_{n}", "zero")
@@ -76,7 +86,28 @@ def multiplier(n):
         for i in range(n):
             full_adder(m, f"r{j - 1}_{i + 1}", f"p{j}_{i}", f"k{j}_{i}", f"r{j}_{i}", f"k{j}_{i + 1}")
         m.gate(COPY, f"r{j}_{n}", f"k{j}_{n}")
+
+
+def multiplier(n):
+    a, b = operands(n)
+    m = Model("multiplier", ["x", "c0", "d0", *[bit for pair in zip(a, b) for bit in pair]], ["y0", *results(n)])
+    add_multiplier(m, a, b)
     add_pair(m, 0, "x")
+    return m, None
+
+
+def beside(n):
+    a, b = operands(n)
+    m = Model("beside", ["x", *a, *b], ["h", *results(n)])
+    add_multiplier(m, a, b)
+    m.gate(OR, "h", "x", "h")
+    return m, None
+
+
+def behind(n):
+    a, b = operands(n)
+    m = Model("behind", ["x", *a[1:], *b], results(n))
+    add_multiplier(m, [m.gate(OR, "h", "x", "h"), *a[1:]], b)
     return m, None
 
 
@@ -152,7 +183,7 @@ def bus(n, bits=8):
     return m, one_hot("assume", numbered("t", n))
 
 
-FAMILIES = {it.__name__: it for it in (pairs, multiplier, units, end_around, round_robin, allocator, bus)}
+FAMILIES = {it.__name__: it for it in (pairs, multiplier, beside, behind, units, end_around, round_robin, allocator, bus)}
 
 
 def main(family, size, folder):
