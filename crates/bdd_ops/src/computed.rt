@@ -74,10 +74,18 @@ fn hash_of(q: Operands) -> usize {
 
 /// Answers, each in the slot that its operands name, where it takes the place of the one before. They are in
 /// their standard form. Choices, which most answers are, have slots of their own.
-#[derive(Drop)]
 pub struct ComputedTable {
     choices: Slots<Chosen>,
     others: Slots<Computed>,
+}
+
+impl Drop for ComputedTable {
+    fn drop(self) {
+        let ComputedTable {
+            choices: _,
+            others: _,
+        } = self;
+    }
 }
 
 impl Model for ComputedTable {

@@ -23,11 +23,20 @@ use std::marker::Model;
 /// of its function. It leaves every earlier node its function, and adds at most as many nodes as its function
 /// has subfunctions (Bryant 1986), after a refusal too. `Full` comes only where so many more nodes would be
 /// over the limit, and the store then holds as many as it may.
-#[derive(Drop)]
 pub struct Diagrams {
     store: Store,
     computed: ComputedTable,
     alloc: Global,
+}
+
+impl Drop for Diagrams {
+    fn drop(self) {
+        let Diagrams {
+            store: _,
+            computed: _,
+            alloc: _,
+        } = self;
+    }
 }
 
 impl Model for Diagrams {

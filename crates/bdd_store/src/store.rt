@@ -74,7 +74,6 @@ fn value_in(entries: &[Entry], node: Node, bits: &[bool]) -> bool
 /// node's function reads the bit at its variable. The unique table has each triple of a variable and two
 /// branches once. A function and its complement share one entry: no high branch has a mark (Brace, Rudell and
 /// Bryant 1990).
-#[derive(Drop)]
 pub struct Store {
     vars: u32,
     limit: u32,
@@ -83,6 +82,19 @@ pub struct Store {
     // What the layer above found for choices.
     answers: LruCache<Choice, Node>,
     alloc: Global,
+}
+
+impl Drop for Store {
+    fn drop(self) {
+        let Store {
+            vars: _,
+            limit: _,
+            entries: _,
+            roots: _,
+            answers: _,
+            alloc: _,
+        } = self;
+    }
 }
 
 // The number in the invariant is `MAX_NODES`.

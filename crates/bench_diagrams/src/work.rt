@@ -9,11 +9,20 @@ use std::alloc::{AllocError, Global};
 /// Diagrams, how many operations there were since their start, and whether each gave its node. An operation that
 /// gives none answers the constant 0: where memory or room runs out, at a node of other diagrams, and at a variable
 /// that there is not.
-#[derive(Drop)]
 pub struct Work {
     diagrams: Diagrams,
     operations: u64,
     is_whole: bool,
+}
+
+impl Drop for Work {
+    fn drop(self) {
+        let Work {
+            diagrams: _,
+            operations: _,
+            is_whole: _,
+        } = self;
+    }
 }
 
 impl Work {

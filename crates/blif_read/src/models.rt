@@ -13,7 +13,7 @@ pub struct Models {
 }
 
 /// A model: its `.inputs`, `.outputs` and `.clock` names in order, and what its other lines say.
-#[derive(Debug, Drop)]
+#[derive(Debug)]
 pub struct BlifModel {
     pub name: Name,
     pub inputs: Items<Name>,
@@ -21,6 +21,18 @@ pub struct BlifModel {
     pub clocks: Items<Name>,
     /// The gates, latches and instances in the order of the text.
     pub body: Items<Item>,
+}
+
+impl Drop for BlifModel {
+    fn drop(self) {
+        let BlifModel {
+            name: _,
+            inputs: _,
+            outputs: _,
+            clocks: _,
+            body: _,
+        } = self;
+    }
 }
 
 /// A gate, a latch or an instance of a model.
@@ -32,15 +44,25 @@ pub enum Item {
 }
 
 /// A `.names` line with its rows: pin number `i` of the cover reads the wire `pins[i]`.
-#[derive(Debug, Drop)]
+#[derive(Debug)]
 pub struct GateLine {
     pub pins: Items<Name>,
     pub output: Name,
     pub cover: Cover,
 }
 
+impl Drop for GateLine {
+    fn drop(self) {
+        let GateLine {
+            pins: _,
+            output: _,
+            cover: _,
+        } = self;
+    }
+}
+
 /// A `.latch` line. Without a control it belongs to the one global clock.
-#[derive(Debug, Drop)]
+#[derive(Debug)]
 pub struct LatchLine {
     pub from: Name,
     pub output: Name,
@@ -48,11 +70,28 @@ pub struct LatchLine {
     pub init: Init,
 }
 
+impl Drop for LatchLine {
+    fn drop(self) {
+        let LatchLine {
+            from: _,
+            output: _,
+            control: _,
+            init: _,
+        } = self;
+    }
+}
+
 /// A `.subckt` line: an instance of a model, with pairs of a formal and its actual, formal first.
-#[derive(Debug, Drop)]
+#[derive(Debug)]
 pub struct PartLine {
     pub model: Name,
     pub pairs: Items<(Name, Name)>,
+}
+
+impl Drop for PartLine {
+    fn drop(self) {
+        let PartLine { model: _, pairs: _ } = self;
+    }
 }
 
 impl Models {

@@ -17,10 +17,15 @@ pub struct Mark {
 }
 
 // The lines that are ended, and the words and bytes behind them.
-#[derive(Drop)]
 pub struct LineBuffer {
     words: WordBuffer,
     marks: Vec<Mark>,
+}
+
+impl Drop for LineBuffer {
+    fn drop(self) {
+        let LineBuffer { words: _, marks: _ } = self;
+    }
 }
 
 impl Model for LineBuffer {

@@ -7,10 +7,15 @@ use std::alloc::{AllocError, Global};
 use std::marker::Model;
 
 // The parts that are ended, and the bytes behind them.
-#[derive(Drop)]
 pub struct WordBuffer {
     bytes: Vec<u8>,
     ends: Vec<usize>,
+}
+
+impl Drop for WordBuffer {
+    fn drop(self) {
+        let WordBuffer { bytes: _, ends: _ } = self;
+    }
 }
 
 impl Model for WordBuffer {

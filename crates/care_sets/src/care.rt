@@ -12,10 +12,18 @@ use std::marker::Model;
 
 /// A care set: the assumption and the invariant of a care file, each absent or there, with the columns of
 /// the netlist that their inputs name. The columns are the netlist's inputs, and then its latches.
-#[derive(Drop)]
 pub struct Care {
     assume: Option<CareModel>,
     invariant: Option<CareModel>,
+}
+
+impl Drop for Care {
+    fn drop(self) {
+        let Care {
+            assume: _,
+            invariant: _,
+        } = self;
+    }
 }
 
 impl Model for Care {

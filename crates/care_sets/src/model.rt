@@ -12,13 +12,22 @@ use std::alloc::{AllocError, Global};
 use ternary_run::settle;
 
 /// A model of a care set.
-#[derive(Drop)]
 pub(crate) struct CareModel {
     pub net: Netlist,
     /// The first column of the netlist that it may read.
     pub first: u32,
     /// The column that each of its inputs names.
     pub columns: Items<u32>,
+}
+
+impl Drop for CareModel {
+    fn drop(self) {
+        let CareModel {
+            net: _,
+            first: _,
+            columns: _,
+        } = self;
+    }
 }
 
 /// The values of these columns, where those from `first` on have the given values.

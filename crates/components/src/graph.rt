@@ -8,11 +8,19 @@ use std::marker::Model;
 /// node `b` where `b` is a successor of `a` and a node itself. A number that isn't a node's means nothing.
 ///
 /// All successors lie in one list, so a node takes 8 bytes and an edge 4.
-#[derive(Drop)]
 pub struct Graph {
     /// Where the successors of each node end. Those of the next node begin there.
     ends: Vec<usize>,
     targets: Vec<u32>,
+}
+
+impl Drop for Graph {
+    fn drop(self) {
+        let Graph {
+            ends: _,
+            targets: _,
+        } = self;
+    }
 }
 
 impl Model for Graph {

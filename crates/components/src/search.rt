@@ -25,7 +25,6 @@ pub(crate) struct Group {
 /// A search for components (Gabow 2000). The path is a list of open nodes in groups. Those of a group are
 /// strongly connected, and each group leads to the next. An edge back to an earlier group merges the groups
 /// from there on. A group whose edges have all been followed is a component.
-#[derive(Drop)]
 pub(crate) struct Search {
     pub(crate) marks: Vec<Mark>,
     path: Vec<u32>,
@@ -34,6 +33,18 @@ pub(crate) struct Search {
     groups: Vec<Group>,
     /// How many components are closed.
     pub(crate) count: u32,
+}
+
+impl Drop for Search {
+    fn drop(self) {
+        let Search {
+            marks: _,
+            path: _,
+            waiting: _,
+            groups: _,
+            count: _,
+        } = self;
+    }
 }
 
 /// Adds a new node to the path, as a group of its own.

@@ -16,11 +16,21 @@ use thiserror::Error;
 ///
 /// It has at most 1,024 pins, each row has a literal for each pin, and a cover without rows is an
 /// on-plane.
-#[derive(Debug, Drop)]
+#[derive(Debug)]
 pub struct Cover {
     pins: usize,
     plane: bool,
     rows: Vec<Row>,
+}
+
+impl Drop for Cover {
+    fn drop(self) {
+        let Cover {
+            pins: _,
+            plane: _,
+            rows: _,
+        } = self;
+    }
 }
 
 impl Model for Cover {

@@ -14,12 +14,22 @@ use std::marker::Model;
 
 /// Files in memory. The reads whose numbers, from 0, are in a list fail, and so do those of names that aren't there.
 /// Clauses see the files, the list, how many reads were made, and how many of each name failed.
-#[derive(Drop)]
 pub struct MemoryShelf {
     files: Vec<(Name, Vec<u8>)>,
     fail: Vec<u64>,
     calls: u64,
     counts: Counts,
+}
+
+impl Drop for MemoryShelf {
+    fn drop(self) {
+        let MemoryShelf {
+            files: _,
+            fail: _,
+            calls: _,
+            counts: _,
+        } = self;
+    }
 }
 
 impl Model for MemoryShelf {

@@ -12,7 +12,6 @@ use std::marker::Model;
 /// Bytes in memory. The writes whose numbers, from 0, are in a list fail, and so do those for which no room is left.
 /// Clauses see the bytes, the room, how many bytes one write takes at most, the list, how many writes were made, and
 /// how many of them failed.
-#[derive(Drop)]
 pub struct MemorySink {
     bytes: Vec<u8>,
     room: usize,
@@ -20,6 +19,19 @@ pub struct MemorySink {
     fail: Vec<u64>,
     calls: u64,
     faults: u64,
+}
+
+impl Drop for MemorySink {
+    fn drop(self) {
+        let MemorySink {
+            bytes: _,
+            room: _,
+            most: _,
+            fail: _,
+            calls: _,
+            faults: _,
+        } = self;
+    }
 }
 
 impl Model for MemorySink {

@@ -3,11 +3,20 @@ ghost use Rattle.cyc_tool.specs.Seen.{EndsAs, end_of};
 use std::alloc::AllocError;
 
 // A status, and the texts for out and err.
-#[derive(Drop)]
 pub(crate) struct Outcome {
     pub status: u8,
     pub out: Vec<u8>,
     pub err: Vec<u8>,
+}
+
+impl Drop for Outcome {
+    fn drop(self) {
+        let Outcome {
+            status: _,
+            out: _,
+            err: _,
+        } = self;
+    }
 }
 
 // Why a call ends before its command is done.

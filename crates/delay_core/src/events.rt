@@ -20,10 +20,16 @@ pub struct Head {
 /// The events of a round, in the order in which they come. Contracts see a list of `PlannedEvent`.
 ///
 /// The ages of all stand in one list, so that an event takes 16 bytes and 4 for each of its pins.
-#[derive(Debug, Drop)]
+#[derive(Debug)]
 pub struct Events {
     heads: Vec<Head>,
     ages: Vec<u32>,
+}
+
+impl Drop for Events {
+    fn drop(self) {
+        let Events { heads: _, ages: _ } = self;
+    }
 }
 
 impl Model for Events {

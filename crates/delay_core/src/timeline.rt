@@ -12,13 +12,23 @@ const MAX_ENTRIES: usize = 4_294_967_296;
 /// The values of signals over moments. It keeps one entry for each change, and looks back from the newest.
 ///
 /// Contracts see its history, the newest moment first, and a number: so many changes take no memory.
-#[derive(Drop)]
 pub struct Timeline {
     entries: Vec<Entry>,
     /// The newest entry of each signal.
     newest: Vec<u32>,
     moments: usize,
     spare: usize,
+}
+
+impl Drop for Timeline {
+    fn drop(self) {
+        let Timeline {
+            entries: _,
+            newest: _,
+            moments: _,
+            spare: _,
+        } = self;
+    }
 }
 
 impl Model for Timeline {

@@ -11,11 +11,20 @@ use std::marker::Model;
 
 /// The diagram of a cover in a store of its own, whose variables are the cover's pins in their order. The store
 /// has nodes of the cover's function alone: each, or its complement, stands for it with some first pins fixed.
-#[derive(Drop)]
 pub struct LocalDiagram {
     store: Store,
     top: Node,
     pins: usize,
+}
+
+impl Drop for LocalDiagram {
+    fn drop(self) {
+        let LocalDiagram {
+            store: _,
+            top: _,
+            pins: _,
+        } = self;
+    }
 }
 
 impl Model for LocalDiagram {

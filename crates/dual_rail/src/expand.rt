@@ -13,10 +13,16 @@ use std::alloc::{AllocError, Global};
 use std::collections::HashMap;
 
 /// The rows that the pins before this one match, by their numbers.
-#[derive(Debug, PartialEq, Eq, Hash, Drop)]
+#[derive(Debug, PartialEq, Eq, Hash)]
 pub struct Live {
     pub pin: usize,
     pub rows: Vec<usize>,
+}
+
+impl Drop for Live {
+    fn drop(self) {
+        let Live { pin: _, rows: _ } = self;
+    }
 }
 
 impl Live {

@@ -11,12 +11,18 @@ use dual_rail::Rails;
 use std::alloc::{AllocError, Global};
 
 /// Rails whose two nodes are roots. One that is dropped leaves its keys in the map.
-#[derive(Debug, Drop)]
+#[derive(Debug)]
 pub struct KeptRails {
     /// The root of the node that is true where the value is surely 1.
     pub one: Root,
     /// The root of the node that is true where the value is surely 0.
     pub zero: Root,
+}
+
+impl Drop for KeptRails {
+    fn drop(self) {
+        let KeptRails { one: _, zero: _ } = self;
+    }
 }
 
 impl KeptRails {

@@ -17,14 +17,21 @@ use std::alloc::Global;
 use std::collections::HashMap;
 
 /// The diagram of a gate's cover, which serves each gate that has an equal one.
-#[derive(Drop)]
 pub struct SharedDiagram {
     pub(crate) gate: u32,
     pub(crate) diagram: LocalDiagram,
 }
 
+impl Drop for SharedDiagram {
+    fn drop(self) {
+        let SharedDiagram {
+            gate: _,
+            diagram: _,
+        } = self;
+    }
+}
+
 /// The diagrams of the covers of a list of gates, over their pins.
-#[derive(Drop)]
 pub struct Locals {
     /// Those of different covers.
     pub(crate) shared: Vec<SharedDiagram>,
@@ -32,6 +39,16 @@ pub struct Locals {
     pub(crate) places: Vec<usize>,
     // By the hash of a cover, the place of the last shared diagram whose cover has it.
     latest: HashMap<u64, usize>,
+}
+
+impl Drop for Locals {
+    fn drop(self) {
+        let Locals {
+            shared: _,
+            places: _,
+            latest: _,
+        } = self;
+    }
 }
 
 /// One step of a hash (Fowler, Noll and Vo).

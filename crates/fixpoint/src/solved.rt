@@ -3,7 +3,7 @@ use cyc_base::Items;
 use dual_rail::Rails;
 
 /// The cut wires of a loop, sweep by sweep.
-#[derive(Debug, Drop)]
+#[derive(Debug)]
 pub struct LoopSteps {
     /// The place of the loop among the blocks.
     pub block: u32,
@@ -13,13 +13,29 @@ pub struct LoopSteps {
     pub steps: Items<Items<KeptRails>>,
 }
 
+impl Drop for LoopSteps {
+    fn drop(self) {
+        let LoopSteps {
+            block: _,
+            cuts: _,
+            steps: _,
+        } = self;
+    }
+}
+
 /// The fixpoint of a netlist at every vector.
-#[derive(Debug, Drop)]
+#[derive(Debug)]
 pub struct Solved {
     /// One for each signal.
     pub rails: Items<KeptRails>,
     /// The loops, in the order of the blocks.
     pub loops: Items<LoopSteps>,
+}
+
+impl Drop for Solved {
+    fn drop(self) {
+        let Solved { rails: _, loops: _ } = self;
+    }
 }
 
 /// A loop that was just solved: its cut wires, sweep by sweep, as nodes that are not kept yet.

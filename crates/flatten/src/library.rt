@@ -12,12 +12,20 @@ use indexmap::IndexSet;
 use std::alloc::{AllocError, Global};
 
 /// Where the models of a file stand, and what their instances may bind.
-#[derive(Drop)]
 pub(crate) struct Library {
     /// The models' names, in the order of the file.
     pub(crate) places: IndexSet<Name>,
     /// The formals of each model.
     pub(crate) formals: Vec<IndexSet<Name>>,
+}
+
+impl Drop for Library {
+    fn drop(self) {
+        let Library {
+            places: _,
+            formals: _,
+        } = self;
+    }
 }
 
 /// Adds copies of the names that aren't there yet.

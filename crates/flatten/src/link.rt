@@ -17,11 +17,20 @@ use std::alloc::{AllocError, Global};
 
 /// The drivers of a flat netlist, in their order: the top's inputs, its clocks that aren't inputs, the latches
 /// and the gates. The clocks are no signals.
-#[derive(Drop)]
 pub(crate) struct Drivers {
     pub(crate) names: IndexSet<Name>,
     pub(crate) inputs: usize,
     pub(crate) clocks: usize,
+}
+
+impl Drop for Drivers {
+    fn drop(self) {
+        let Drivers {
+            names: _,
+            inputs: _,
+            clocks: _,
+        } = self;
+    }
 }
 
 /// Adds copies of the names that a line of the top declares, all of which are to differ.

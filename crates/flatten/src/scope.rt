@@ -11,10 +11,18 @@ use std::alloc::{AllocError, Global};
 
 /// How the names of a body are resolved on one path: a formal to the printed name that it is bound to, and
 /// any other name behind the prefix of the path.
-#[derive(Drop)]
 pub(crate) struct Scope {
     pub(crate) prefix: Name,
     pub(crate) table: IndexMap<Name, Name>,
+}
+
+impl Drop for Scope {
+    fn drop(self) {
+        let Scope {
+            prefix: _,
+            table: _,
+        } = self;
+    }
 }
 
 fn joined(alloc: Global, first: &Name, second: &Name) -> Result<Name, AllocError>

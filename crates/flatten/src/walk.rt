@@ -17,12 +17,22 @@ use std::alloc::{AllocError, Global};
 
 /// The top or an open instance: its model, the next item of the body, how many instances of the body were
 /// passed, and how its names are resolved.
-#[derive(Drop)]
 pub(crate) struct Level {
     pub(crate) model: usize,
     pub(crate) next: usize,
     pub(crate) parts: usize,
     pub(crate) scope: Scope,
+}
+
+impl Drop for Level {
+    fn drop(self) {
+        let Level {
+            model: _,
+            next: _,
+            parts: _,
+            scope: _,
+        } = self;
+    }
 }
 
 /// How far the walk is: the levels that are open with the top first, the lines so far, and how many gates,
@@ -217,10 +227,18 @@ fn step(
 }
 
 /// The latches and the gates of a flat netlist, by their printed names.
-#[derive(Drop)]
 pub(crate) struct FlatBody {
     pub(crate) latches: Vec<LatchLine>,
     pub(crate) gates: Vec<GateLine>,
+}
+
+impl Drop for FlatBody {
+    fn drop(self) {
+        let FlatBody {
+            latches: _,
+            gates: _,
+        } = self;
+    }
 }
 
 fn begun(alloc: Global, model: usize, room: u32) -> Result<Walk, AllocError>

@@ -135,12 +135,20 @@ fn upstream_of(
 }
 
 /// Some gates of a netlist with all that lies upstream of them.
-#[derive(Drop)]
 pub struct Cone {
     /// The gates by their numbers in the whole, in flat order.
     pub gates: Items<u32>,
     /// A netlist of these gates alone, in this order, whose inputs are all columns of the whole.
     pub netlist: Netlist,
+}
+
+impl Drop for Cone {
+    fn drop(self) {
+        let Cone {
+            gates: _,
+            netlist: _,
+        } = self;
+    }
 }
 
 /// The cone of the marked gates: these and all gates from which a walk along pins leads to one of them, with their

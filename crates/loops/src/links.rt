@@ -20,12 +20,21 @@ pub(crate) struct Link {
 }
 
 /// The pins within loops, in the order of the gates from which the links lead.
-#[derive(Debug, Drop)]
+#[derive(Debug)]
 pub(crate) struct LoopLinks {
     /// From a gate to those that read it.
     pub readers: Vec<Link>,
     /// From a gate to those that it reads.
     pub sources: Vec<Link>,
+}
+
+impl Drop for LoopLinks {
+    fn drop(self) {
+        let LoopLinks {
+            readers: _,
+            sources: _,
+        } = self;
+    }
 }
 
 /// Whether two gates are in one block, and this is a loop.

@@ -10,7 +10,7 @@ use std::alloc::{AllocError, Global};
 
 /// What a search has found so far on its way from the goal: gates before it in flat order that are no
 /// cut wires.
-#[derive(Debug, Drop)]
+#[derive(Debug)]
 pub(crate) struct Search {
     /// For each gate one more than the goal of the last search that found it, or 0.
     pub marks: Vec<u32>,
@@ -18,6 +18,16 @@ pub(crate) struct Search {
     pub found: Vec<u32>,
     /// How many of these were passed, with all links from them.
     pub passed: usize,
+}
+
+impl Drop for Search {
+    fn drop(self) {
+        let Search {
+            marks: _,
+            found: _,
+            passed: _,
+        } = self;
+    }
 }
 
 /// Whether this search may pass a gate that it hasn't found yet.

@@ -1,7 +1,7 @@
 use cyc_base::{Bits, Items};
 
 /// Gates that reach each other along pins, or one gate: a strongly connected component.
-#[derive(Debug, Drop)]
+#[derive(Debug)]
 pub struct Block {
     /// The numbers of its gates, in flat order.
     pub gates: Items<u32>,
@@ -9,13 +9,28 @@ pub struct Block {
     pub looped: bool,
 }
 
+impl Drop for Block {
+    fn drop(self) {
+        let Block {
+            gates: _,
+            looped: _,
+        } = self;
+    }
+}
+
 /// The blocks of a netlist. Each gate is in one of them.
-#[derive(Debug, Drop)]
+#[derive(Debug)]
 pub struct Blocks {
     /// A block stands after the blocks that it reads.
     pub list: Items<Block>,
     /// For each gate the place of its block.
     pub home: Items<u32>,
+}
+
+impl Drop for Blocks {
+    fn drop(self) {
+        let Blocks { list: _, home: _ } = self;
+    }
 }
 
 /// Which gates are cut wires. Without them no loop is left, and none of them can be left out.

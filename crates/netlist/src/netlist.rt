@@ -16,11 +16,16 @@ use std::alloc::Global;
 use std::marker::Model;
 
 /// A flat netlist: parts that meet all conditions of `Netlist::new`.
-#[derive(Drop)]
 pub struct Netlist {
     parts: Parts,
     /// The names of all signals, in the order of their numbers.
     names: IndexSet<Name>,
+}
+
+impl Drop for Netlist {
+    fn drop(self) {
+        let Netlist { parts: _, names: _ } = self;
+    }
 }
 
 impl Model for Netlist {

@@ -17,14 +17,20 @@ pub enum Edge {
 }
 
 /// The one clock of a netlist, which is no signal.
-#[derive(Debug, Drop)]
+#[derive(Debug)]
 pub struct Clock {
     pub edge: Edge,
     pub name: Name,
 }
 
+impl Drop for Clock {
+    fn drop(self) {
+        let Clock { edge: _, name: _ } = self;
+    }
+}
+
 /// A latch: at a tick's end it loads the value of the signal `from`.
-#[derive(Debug, Drop)]
+#[derive(Debug)]
 pub struct Latch {
     pub name: Name,
     pub from: Sig,
@@ -33,17 +39,38 @@ pub struct Latch {
     pub clocked: bool,
 }
 
+impl Drop for Latch {
+    fn drop(self) {
+        let Latch {
+            name: _,
+            from: _,
+            init: _,
+            clocked: _,
+        } = self;
+    }
+}
+
 /// A gate: its cover's pin number `i` reads the signal `pins[i]`.
-#[derive(Debug, Drop)]
+#[derive(Debug)]
 pub struct Gate {
     pub name: Name,
     pub pins: Items<Sig>,
     pub cover: Cover,
 }
 
+impl Drop for Gate {
+    fn drop(self) {
+        let Gate {
+            name: _,
+            pins: _,
+            cover: _,
+        } = self;
+    }
+}
+
 /// What a netlist is made of. Signals are numbered: first the inputs, then the latches, then the gates,
 /// each in their order here.
-#[derive(Debug, Drop)]
+#[derive(Debug)]
 pub struct Parts {
     /// The model's name.
     pub name: Name,
@@ -52,6 +79,19 @@ pub struct Parts {
     pub latches: Items<Latch>,
     pub gates: Items<Gate>,
     pub outputs: Items<Sig>,
+}
+
+impl Drop for Parts {
+    fn drop(self) {
+        let Parts {
+            name: _,
+            inputs: _,
+            clock: _,
+            latches: _,
+            gates: _,
+            outputs: _,
+        } = self;
+    }
 }
 
 /// Why parts make no netlist. They are looked for in this order, but want of memory may come at any time.

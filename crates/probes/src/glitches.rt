@@ -49,11 +49,20 @@ fn enter(turns: &mut Turns, s: Sig, tick: u64) -> Result<bool, AllocError>
 }
 
 /// The glitches of each gate, and of all, among changes that were entered one after another.
-#[derive(Drop)]
 struct Tally {
     turns: Turns,
     counts: Vec<u64>,
     total: u64,
+}
+
+impl Drop for Tally {
+    fn drop(self) {
+        let Tally {
+            turns: _,
+            counts: _,
+            total: _,
+        } = self;
+    }
 }
 
 /// Counts a glitch of the signal, where a gate drives it.

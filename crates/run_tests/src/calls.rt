@@ -9,11 +9,20 @@ use probes::Probe;
 use std::alloc::{AllocError, Global};
 
 /// What a call gave: its status, and the bytes on both sinks.
-#[derive(Drop)]
 pub struct Seen {
     pub status: u8,
     pub out: MemorySink,
     pub err: MemorySink,
+}
+
+impl Drop for Seen {
+    fn drop(self) {
+        let Seen {
+            status: _,
+            out: _,
+            err: _,
+        } = self;
+    }
 }
 
 /// Whether a call gave this status and these texts.

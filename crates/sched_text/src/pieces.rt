@@ -15,10 +15,18 @@ use std::marker::Model;
 const LEAST_PIECE: usize = 65_536;
 
 /// The lines of a piece, behind so many physical lines of the text.
-#[derive(Drop)]
 pub struct Piece {
     lines: Lines,
     before: u64,
+}
+
+impl Drop for Piece {
+    fn drop(self) {
+        let Piece {
+            lines: _,
+            before: _,
+        } = self;
+    }
 }
 
 impl Model for Piece {

@@ -10,11 +10,19 @@ use netlist::Netlist;
 use std::alloc::{AllocError, Global};
 
 /// The blocks of a netlist, each after those that it reads, and the gates that read each signal.
-#[derive(Drop)]
 pub(crate) struct Plan {
     pub blocks: Blocks,
     /// A node for each signal. Its successors are the gates that read it.
     pub readers: Graph,
+}
+
+impl Drop for Plan {
+    fn drop(self) {
+        let Plan {
+            blocks: _,
+            readers: _,
+        } = self;
+    }
 }
 
 impl Plan {

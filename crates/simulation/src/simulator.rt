@@ -18,10 +18,15 @@ use ternary_run::TickValues;
 /// A vector costs one look at each input, latch and block, and the work on those blocks that read a signal
 /// whose value changed: a gate outside loops is computed once, and a loop is settled anew in time linear in
 /// its pins.
-#[derive(Drop)]
 pub struct Simulator {
     plan: Plan,
     wires: Wires,
+}
+
+impl Drop for Simulator {
+    fn drop(self) {
+        let Simulator { plan: _, wires: _ } = self;
+    }
 }
 
 /// Puts what the latches load, where the signals have these values, in place of what the list had.

@@ -16,7 +16,6 @@ use netlist::{Gate, Netlist};
 use std::alloc::{AllocError, Global};
 
 /// The values of all signals, and which blocks are to be settled anew.
-#[derive(Drop)]
 pub(crate) struct Wires {
     /// One for each signal.
     pub values: Vec<Trit>,
@@ -24,6 +23,16 @@ pub(crate) struct Wires {
     pub due: Vec<bool>,
     /// The values of the pins of the gate that is computed.
     pub pins: Vec<Trit>,
+}
+
+impl Drop for Wires {
+    fn drop(self) {
+        let Wires {
+            values: _,
+            due: _,
+            pins: _,
+        } = self;
+    }
 }
 
 /// Makes the blocks of these gates due.

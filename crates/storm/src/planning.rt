@@ -13,7 +13,7 @@ use std::alloc::{AllocError, Global};
 use ternary_run::settle;
 
 /// What a storm needs of a vector. Each list has an entry for each gate, in flat order.
-#[derive(Debug, Drop)]
+#[derive(Debug)]
 pub struct StormPlan {
     /// The gates that the fixpoint of the vector leaves unknown.
     pub shaking: Bits,
@@ -24,6 +24,17 @@ pub struct StormPlan {
     pub low: Items<Bits>,
     /// The least such values at which its cover is 1.
     pub high: Items<Bits>,
+}
+
+impl Drop for StormPlan {
+    fn drop(self) {
+        let StormPlan {
+            shaking: _,
+            rest: _,
+            low: _,
+            high: _,
+        } = self;
+    }
 }
 
 fn is_unknown(value: Trit) -> bool

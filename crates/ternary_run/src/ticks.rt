@@ -13,7 +13,7 @@ use netlist::Netlist;
 use std::alloc::{AllocError, Global};
 
 /// The values of one tick at the least fixpoint.
-#[derive(Debug, Drop)]
+#[derive(Debug)]
 pub struct TickValues {
     /// One for each signal.
     pub wires: Trits,
@@ -21,6 +21,16 @@ pub struct TickValues {
     pub outputs: Trits,
     /// What each latch loads at the tick's end.
     pub next: Trits,
+}
+
+impl Drop for TickValues {
+    fn drop(self) {
+        let TickValues {
+            wires: _,
+            outputs: _,
+            next: _,
+        } = self;
+    }
 }
 
 /// The values of the inputs and then of the latches.

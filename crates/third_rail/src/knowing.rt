@@ -198,11 +198,20 @@ fn start(
 }
 
 /// The rails after the last sweep, where a cut wire wasn't known before it, and whether all are after it.
-#[derive(Drop)]
 struct Swept {
     rails: Vec<ThreeRails>,
     hint: Node,
     all: bool,
+}
+
+impl Drop for Swept {
+    fn drop(self) {
+        let Swept {
+            rails: _,
+            hint: _,
+            all: _,
+        } = self;
+    }
 }
 
 /// Sweeps until all marked cut wires are known at each vector of the set, or a sweep changes nothing, or as often as is

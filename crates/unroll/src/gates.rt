@@ -16,11 +16,17 @@ use netlist::{Gate, Netlist};
 use std::alloc::{AllocError, Global};
 
 /// What copies have in common.
-#[derive(Debug, Drop)]
+#[derive(Debug)]
 pub(crate) struct Plan {
     pub(crate) mark: Name,
     /// How many gates stand before the netlist's own.
     pub(crate) by: u32,
+}
+
+impl Drop for Plan {
+    fn drop(self) {
+        let Plan { mark: _, by: _ } = self;
+    }
 }
 
 /// The cover without pins and rows.

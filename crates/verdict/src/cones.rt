@@ -26,11 +26,20 @@ use std::alloc::Global;
 pub(crate) const CONE_NODES: u32 = 1_000_000;
 
 /// A netlist's fixpoint, with the blocks and cut wires by which it was found.
-#[derive(Drop)]
 pub struct SolvedNetlist {
     pub blocks: Blocks,
     pub cut: Cut,
     pub fixpoint: Fixpoint,
+}
+
+impl Drop for SolvedNetlist {
+    fn drop(self) {
+        let SolvedNetlist {
+            blocks: _,
+            cut: _,
+            fixpoint: _,
+        } = self;
+    }
 }
 
 /// The fixpoint of a netlist on these rails of its inputs and latches, beside a set of vectors.

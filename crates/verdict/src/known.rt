@@ -39,7 +39,6 @@ const MOST_NODES: u32 = 200_000;
 const MOST_TRIES: u32 = 8;
 
 /// What is known of loops on care.
-#[derive(Drop)]
 pub struct Known {
     /// For each cut wire, after how many sweeps it is known at each care vector.
     pub since: Items<u32>,
@@ -47,6 +46,16 @@ pub struct Known {
     pub vector: Bits,
     /// Another one, where the data are 1.
     pub other: Bits,
+}
+
+impl Drop for Known {
+    fn drop(self) {
+        let Known {
+            since: _,
+            vector: _,
+            other: _,
+        } = self;
+    }
 }
 
 /// What the third rail claims of loops: after how many sweeps their cut wires are known, and a set of vectors where

@@ -29,12 +29,21 @@ pub struct Beside {
 }
 
 /// A netlist's fixpoint, and a set of vectors that was kept beside it.
-#[derive(Drop)]
 pub struct Fixpoint {
     pub solved: Solved,
     /// The rails of all signals.
     pub rails: Items<Rails>,
     pub set: Node,
+}
+
+impl Drop for Fixpoint {
+    fn drop(self) {
+        let Fixpoint {
+            solved: _,
+            rails: _,
+            set: _,
+        } = self;
+    }
 }
 
 /// Keeps rails and a set.
