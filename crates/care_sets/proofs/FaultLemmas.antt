@@ -1,5 +1,6 @@
 -- The first fault of a care model, as the checks find it.
-use Rattle.std.proofs.Common.{◌≡◌, ◌⊎◌, inl, inr, ℕ, Bool, true, false, ◌==◌, ◌||◌, ◌≤◌, List, length, Option, Some, None, refl, sym, ◌∙◌, eqb-true}
+use Rattle.std.proofs.Common.{◌≡◌, ◌⊎◌, inl, inr, ℕ, Bool, true, false, ◌==◌, ◌||◌, ◌≤◌, List, length, Option, Some, None, refl, sym, ◌∙◌, eqb-true, arith}
+use Rattle.std.proofs.lemmas.Bool.Decides.{nat_tests}
 use Rattle.std.specs.Prelude.{All, IfSome, IsSomeAnd, is_some, find, option_map}
 use Rattle.std.specs.Option.{option_or}
 use Rattle.std.proofs.lemmas.Option.{same_Some}
@@ -9,7 +10,7 @@ use Rattle.care_sets.proofs.BindingLemmas.{same_length}
 use Rattle.care_sets.specs.declared.fault.CareFault.{CareFault}
 use Rattle.care_sets.specs.declared.fault.CareFault.TheVariants.{HasLatch, NotOneOutput, UnknownName, NotLatch, Memory}
 use Rattle.care_sets.specs.declared.model.CareModel.{CareModel}
-use Rattle.care_sets.specs.Binding.{fault_but_loops, is_unknown_name, is_before, unless, AreColumnsOf, HasNoFault, LoopsIn, IsFaultOf, IsFirstFault, Binds, BindsAny}
+use Rattle.care_sets.specs.Binding.{fault_but_loops, is_unknown_name, is_before, unless, IsShapeFault, AreColumnsOf, HasNoFault, LoopsIn, IsFaultOf, IsFirstFault, Binds, BindsAny}
 use Rattle.care_sets.specs.Laws.{BoundModelsHaveNoFault, FirstFaultIsOne}
 
 module _ (net : Parts) (first : ℕ) (model : Parts) (none : length model.latches ≡ 0) (one : length model.outputs ≡ 1) where
@@ -24,6 +25,21 @@ module _ (net : Parts) (first : ℕ) (model : Parts) (none : length model.latche
 
   pub no_fault : find (is_unknown_name net) model.inputs ≡ None → find (is_before net first) model.inputs ≡ None → fault_but_loops net first model ≡ None
   no_fault known late = names_alone ∙ rw (known, late) refl
+
+-- a failing check's answer, before what is wrong with the inputs
+unequal : (n k : ℕ) → ¬ (n ≡ k) → (n == k) ≡ false
+unequal n k differ = grind (arith, nat_tests)
+
+pub latch_fails : (model : Parts) → ¬ (length model.latches ≡ 0) → IsShapeFault model (HasLatch model.name)
+latch_fails model some = record { first = λ net first. rw (unequal (length model.latches) 0 some) refl }
+
+pub outputs_fail : (model : Parts) → length model.latches ≡ 0 → ¬ (length model.outputs ≡ 1) → IsShapeFault model (NotOneOutput model.name)
+outputs_fail model none differ = record { first = λ net first. rw (none, unequal (length model.outputs) 1 differ) refl }
+
+pub shape_fails : (net : Parts) (first : ℕ) (model : Parts) (fault : CareFault) → (fault ≡ Memory) ⊎ IsShapeFault model fault →
+    (fault ≡ Memory) ⊎ (fault_but_loops net first model ≡ Some fault)
+shape_fails net first model fault (inl memory) = inl memory
+shape_fails net first model fault (inr shape) = inr (shape.first net first)
 
 -- Models without a fault, and with a loop.
 

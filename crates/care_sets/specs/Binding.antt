@@ -45,6 +45,10 @@ fault_but_loops net first model = first_there (
     ∷ option_map NotLatch (find (is_before net first) model.inputs)
     ∷ [])
 
+-- the model has a latch or not one output, which comes before what is wrong with its inputs
+pub record IsShapeFault (model : Parts) (fault : CareFault) : Type 0 where
+  pub first : (net : Parts) (first : ℕ) → fault_but_loops net first model ≡ Some fault
+
 -- a model that can be bound
 pub record HasNoFault (net : Parts) (first : ℕ) (model : Parts) : Type 0 where
   pub others : fault_but_loops net first model ≡ None

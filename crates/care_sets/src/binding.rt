@@ -2,9 +2,10 @@
 
 ghost use Rattle.std.specs.Prelude.{All, ◌≡◌, ◌+◌, ◌++◌, ◌≤◌, ◌<◌, ◌⊎◌, ℕ, Some, None, map, find, position, length, nat_lt, IfOk, IfErr, OnOk, IfSome, OnSome, IfNone, IsSomeAnd, slice_get, option_map};
 ghost use Rattle.std.specs.List.{position_from};
+ghost use Rattle.netlist.specs.Netlists.{IsNetlist};
 ghost use Rattle.netlist.specs.Walks.{IsLoopFree};
 ghost use Rattle.care_sets.specs.declared.fault.CareFault.TheVariants.{UnknownName, NotLatch};
-ghost use Rattle.care_sets.specs.Binding.{column_of as column_of_name, is_unknown_name, is_before, fault_but_loops, IsUnknownName, AreColumnsOf, LoopsIn, IsFaultOf, Binds, BindsAny};
+ghost use Rattle.care_sets.specs.Binding.{column_of as column_of_name, is_unknown_name, is_before, fault_but_loops, IsShapeFault, IsUnknownName, AreColumnsOf, LoopsIn, IsFaultOf, Binds, BindsAny};
 
 use crate::fault::CareFault;
 use crate::model::CareModel;
@@ -46,7 +47,6 @@ fn known_column(net: &Netlist, name: &Name) -> Result<u32, CareFault>
 }
 
 /// The columns that a model's inputs name, or the first name that no column has.
-#[tactic(auto, using(crate::proofs::BindingLemmas::columns_start, crate::proofs::BindingLemmas::columns_more, crate::proofs::BindingLemmas::columns_all, crate::proofs::BindingLemmas::first_unknown_name))]
 fn columns_of(alloc: Global, net: &Netlist, model: &Netlist) -> Result<Vec<u32>, CareFault>
     ensures columns { IfOk result (λ columns. AreColumnsOf net.now model.now.inputs columns.items) }
     ensures fault { IfErr result (λ fault. (fault ≡ CareFault.Memory) ⊎ (option_map UnknownName (find (is_unknown_name net.now) model.now.inputs) ≡ Some fault)) }
@@ -66,8 +66,28 @@ fn first_before(columns: &[u32], first: u32) -> Option<usize>
     columns.iter().position(|column| *column < first)
 }
 
+/// Refuses a model that has a latch, or not one output.
+#[tactic(auto, using(crate::proofs::FaultLemmas::latch_fails, crate::proofs::FaultLemmas::outputs_fail))]
+fn refuse_shape(model: &Netlist) -> Result<(), CareFault>
+    ensures latches { OnOk result (length model.now.latches ≡ 0) }
+    ensures outputs { OnOk result (length model.now.outputs ≡ 1) }
+    ensures valid { IsNetlist model.now }
+    ensures fault { IfErr result (λ fault. (fault ≡ CareFault.Memory) ⊎ IsShapeFault model.now fault) }
+{
+    if model.latches() != 0 {
+        let model = model.name().copy()?;
+        return Err(CareFault::HasLatch { model });
+    }
+    if model.outputs().len() != 1 {
+        let model = model.name().copy()?;
+        return Err(CareFault::NotOneOutput { model });
+    }
+    Ok(())
+}
+
 /// The columns that the inputs of a model name, which may read those from `first` on. Or its first fault,
 /// but for loops.
+#[tactic(auto, using(crate::proofs::FaultLemmas::shape_fails))]
 fn checked_columns(
     alloc: Global,
     net: &Netlist,
@@ -79,14 +99,7 @@ fn checked_columns(
     ensures sound { OnOk result (fault_but_loops net.now first model.now ≡ None) }
     ensures fault { IfErr result (λ fault. (fault ≡ CareFault.Memory) ⊎ (fault_but_loops net.now first model.now ≡ Some fault)) }
 {
-    if model.latches() != 0 {
-        let model = model.name().copy()?;
-        return Err(CareFault::HasLatch { model });
-    }
-    if model.outputs().len() != 1 {
-        let model = model.name().copy()?;
-        return Err(CareFault::NotOneOutput { model });
-    }
+    refuse_shape(model)?;
     let columns = columns_of(alloc, net, model)?;
     if let Some(place) = first_before(&columns, first) {
         let name = input_name(model, place as u32).copy()?;
@@ -100,12 +113,11 @@ fn refuse_loops(alloc: Global, model: &Netlist) -> Result<(), CareFault>
     ensures free { OnOk result (IsLoopFree model.now) }
     ensures fault { IfErr result (λ fault. (fault ≡ CareFault.Memory) ⊎ LoopsIn model.now fault) }
 {
-    match model.in_order(alloc)? {
-        Some(_order) => Ok(()),
-        None => Err(CareFault::Loop {
-            model: model.name().copy()?,
-        }),
+    if model.in_order(alloc)?.is_some() {
+        return Ok(());
     }
+    let model = model.name().copy()?;
+    Err(CareFault::Loop { model })
 }
 
 /// The columns that the inputs of a model name, or its first fault.

@@ -59,7 +59,9 @@ fn columns_of(model: &Option<CareModel>) -> &[u32]
 fn vector(alloc: Global, inputs: &[bool], latches: &[bool]) -> Result<Vec<bool>, AllocError>
     ensures { IfOk result (λ list. list.items ≡ inputs.now ++ latches.now) }
 {
-    inputs.iter().chain(latches).copied().collect(alloc)
+    let mut values = inputs.to_vec(alloc)?;
+    values.extend_from_slice(latches)?;
+    Ok(values)
 }
 
 impl Care {

@@ -7,7 +7,7 @@ use thiserror::Error;
 
 /// Why the models of a care file can't be bound to a netlist. After `NoModels` they are looked for in this
 /// order in the assumption, and then in the invariant; but want of memory may come at any time.
-#[derive(Debug, Drop, PartialEq, Eq, Error)]
+#[derive(Debug, Drop, Error)]
 pub enum CareFault {
     /// There is neither an assumption nor an invariant.
     #[error("no care model")]

@@ -11,7 +11,7 @@ overflow_cast-place c =
     let place_is : position_from (λ column. nat_lt column c.args.first) 0 c.in_ok-columns.columns.items ≡ Some c.in-Some.place =
     ap (position_from (λ column. nat_lt column c.args.first) 0) (sym c.deref.ensures.value) ∙ sym c.first_before.ensures ∙ c.in-Some.is in
     let within : c.in-Some.place < length c.in_ok-columns.columns.items = early_within c.args.first c.in_ok-columns.columns.items c.in-Some.place place_is in
-    omega (arith, same_length c.args.net.now c.args.model.now.inputs c.in_ok-columns.columns.items c.in_ok-columns.ensures.columns, c.latches.ensures.valid.fits)
+    omega (arith, same_length c.args.net.now c.args.model.now.inputs c.in_ok-columns.columns.items c.in_ok-columns.ensures.columns, c.refuse_shape.ensures.valid.fits)
 
 pub input_name-requires : goal.input_name-requires
 input_name-requires c =
@@ -31,7 +31,7 @@ returns-in-Some-clause-fault c =
     early_name net c.args.first model.inputs columns c.in-Some.place c.in_ok-columns.ensures.columns place_is
     ∙ c.input_name.ensures ∙ ap (λ name. Some name) (sym c.in_ok-name.ensures) in
     inr
-    (not_latch net c.args.first model (omega arith) (omega (arith, ap length c.outputs.ensures.outputs)) c.in_ok-name.name
+    (not_latch net c.args.first model c.in_ok-refuse_shape.ensures.latches c.in_ok-refuse_shape.ensures.outputs c.in_ok-name.name
     (no_unknown_name net model.inputs columns c.in_ok-columns.ensures.columns) found)
 
 pub returns-clause-late : goal.returns-clause-late
@@ -47,6 +47,6 @@ returns-clause-sound c =
     let columns = c.in_ok-columns.columns.items in
     let none : position_from (λ column. nat_lt column c.args.first) 0 columns ≡ None =
     ap (position_from (λ column. nat_lt column c.args.first) 0) (sym c.deref.ensures.value) ∙ sym c.first_before.ensures ∙ c.in_default.is in
-    no_fault net c.args.first model (omega arith) (omega (arith, ap length c.outputs.ensures.outputs))
+    no_fault net c.args.first model c.in_ok-refuse_shape.ensures.latches c.in_ok-refuse_shape.ensures.outputs
     (no_unknown_name net model.inputs columns c.in_ok-columns.ensures.columns)
     (no_early_name net c.args.first model.inputs columns c.in_ok-columns.ensures.columns none)

@@ -1,6 +1,11 @@
+use Rattle.std.proofs.Common.{sym, ◌+◌, take, subst, ℕ, List, arith}
 use Rattle.std.proofs.lemmas.Result.{err_from_is_err_and}
-use Rattle.care_sets.proofs.BindingLemmas.{first_unknown_name}
+use Rattle.care_sets.specs.Binding.{AreColumnsOf}
+use Rattle.care_sets.proofs.BindingLemmas.{columns_start, columns_more, columns_all, first_unknown_name}
 use Rattle.care_sets.proofs.binding.columns_of.Goals as goal
+
+pub loop-number-init : goal.loop-number-init
+loop-number-init c = rw c.new-columns.ensures.items (columns_start c.args.net.now c.args.model.now.inputs)
 
 pub returns-in_err-column-clause-fault : goal.returns-in_err-column-clause-fault
 returns-in_err-column-clause-fault c =
@@ -8,3 +13,15 @@ returns-in_err-column-clause-fault c =
     rw (p.1, p.2)
     (first_unknown_name c.args.net.now c.args.model.now.inputs c.loop-number.number c.loop-number.columns.items c.input_name.result.now _
     c.loop-number.invariant c.input_name.ensures c.in_err-column.ensures.fault)
+
+pub loop-number-preserved : goal.loop-number-preserved
+loop-number-preserved c =
+    subst (λ (columns : List ℕ). AreColumnsOf c.args.net.now (take (c.loop-number.number + 1) c.args.model.now.inputs) columns)
+    (sym c.in_ok-push.ensures.items)
+    (columns_more c.args.net.now c.args.model.now.inputs c.loop-number.number c.loop-number.columns.items c.input_name.result.now c.in_ok-column.column
+    c.loop-number.invariant c.input_name.ensures c.in_ok-column.ensures.column)
+
+pub returns-clause-columns : goal.returns-clause-columns
+returns-clause-columns c =
+    columns_all c.args.net.now c.args.model.now.inputs c.loop-number.number c.loop-number.columns.items
+    (omega (arith, c.inputs-number-end.ensures.inputs)) c.loop-number.invariant
