@@ -8,13 +8,23 @@ use cyc_base::{Items, Name};
 use std::alloc::{AllocError, Global};
 use std::marker::Model;
 
-#[derive(Drop)]
 pub struct OpenGate {
     pins: Items<Name>,
     output: Name,
     // whether the first row is of the on-plane, if there is a row
     first: Option<bool>,
     rows: Vec<Row>,
+}
+
+impl Drop for OpenGate {
+    fn drop(self) {
+        let OpenGate {
+            pins: _,
+            output: _,
+            first: _,
+            rows: _,
+        } = self;
+    }
 }
 
 impl Model for OpenGate {
@@ -64,10 +74,16 @@ impl OpenGate {
     pub fn into_line(self) -> GateLine
         ensures { result ≡ gate_line self }
     {
-        let cover = whole_cover(self.pins.items().len(), self.first, self.rows);
+        let OpenGate {
+            pins,
+            output,
+            first,
+            rows,
+        } = self;
+        let cover = whole_cover(pins.items().len(), first, rows);
         GateLine {
-            pins: self.pins,
-            output: self.output,
+            pins,
+            output,
             cover,
         }
     }

@@ -12,7 +12,6 @@ use cyc_base::{Items, Name};
 use std::alloc::{AllocError, Global};
 
 // What a model has so far, and the gate whose rows may go on.
-#[derive(Drop)]
 pub struct OpenModel {
     name: Name,
     inputs: Vec<Name>,
@@ -20,6 +19,19 @@ pub struct OpenModel {
     clocks: Vec<Name>,
     body: Vec<Item>,
     gate: Option<OpenGate>,
+}
+
+impl Drop for OpenModel {
+    fn drop(self) {
+        let OpenModel {
+            name: _,
+            inputs: _,
+            outputs: _,
+            clocks: _,
+            body: _,
+            gate: _,
+        } = self;
+    }
 }
 
 impl OpenModel {
@@ -144,12 +156,20 @@ impl OpenModel {
         ensures { IfOk result (λ model. model ≡ ended (seen self)) }
     {
         self.end_gate()?;
+        let OpenModel {
+            name,
+            inputs,
+            outputs,
+            clocks,
+            body,
+            gate: _,
+        } = self;
         Ok(BlifModel {
-            name: self.name,
-            inputs: Items::of(self.inputs),
-            outputs: Items::of(self.outputs),
-            clocks: Items::of(self.clocks),
-            body: Items::of(self.body),
+            name,
+            inputs: Items::of(inputs),
+            outputs: Items::of(outputs),
+            clocks: Items::of(clocks),
+            body: Items::of(body),
         })
     }
 }

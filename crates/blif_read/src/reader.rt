@@ -24,12 +24,21 @@ use cyc_base::Name;
 use indexmap::IndexSet;
 use std::alloc::{AllocError, Global};
 
-#[derive(Drop)]
 pub struct Reader {
     ended: Vec<BlifModel>,
     in_progress: Option<OpenModel>,
     // the names of all models so far
     names: IndexSet<Name>,
+}
+
+impl Drop for Reader {
+    fn drop(self) {
+        let Reader {
+            ended: _,
+            in_progress: _,
+            names: _,
+        } = self;
+    }
 }
 
 impl Reader {
@@ -185,6 +194,11 @@ impl Reader {
         ensures { IfOk result (λ models. models.items ≡ all_ended (progress_of self)) }
     {
         self.end_model()?;
-        Ok(self.ended)
+        let Reader {
+            ended,
+            in_progress: _,
+            names: _,
+        } = self;
+        Ok(ended)
     }
 }
