@@ -19,7 +19,7 @@ use Rattle.delay_core.specs.declared.plan.PlannedEvent.{PlannedEvent}
 use Rattle.delay_core.specs.declared.plan.RoundPlan.{RoundPlan}
 use Rattle.delay_core.specs.declared.plan.Schedule.{Schedule}
 use Rattle.delay_core.specs.Plays.{PlayState, first_allowed, event_fault, unfair_gate, no_events, most_rounds, after_event, next_tick}
-use Rattle.delay_core.specs.Plans.{planned_fault, after_planned, events_fault, after_plan, unfair_fault, round_fault, after_plans, rounds_fault, PlannedTick, ticks_fault, first_opened, first_fault, round_of, tick_of, IsPlayedFairly, end_at, end_of}
+use Rattle.delay_core.specs.Plans.{planned_fault, after_planned, events_fault, after_plan, unfair_fault, round_fault, after_plans, rounds_fault, PlannedTick, ticks_fault, first_opened, first_fault, round_of, tick_of, IsPlayedFairly, end_at, end_of, rest_of}
 use Rattle.delay_core.proofs.PlayLemmas.{IsAllowed, is_allowed, never_true, each_had}
 
 abbrev pub events_of : List PlannedEvent → Round
@@ -196,10 +196,6 @@ opened_fair start rounds small begun is e =
     rounds_fair start rounds [] small begun (is ∙ sym (take_all most_rounds (length start.history ∷ []) (omega arith))) e
 
 -- ---- ticks
-
--- what is left of a run after this history
-abbrev pub rest_of : Parts → History → List Tick → List Played
-rest_of net history ticks = play net history (loaded_at net (newest history)) (gates_at net (newest history)) ticks
 
 ticks_fair : (start : PlayState) (ticks : List PlannedTick) → start.window < most_rounds → start.done ≡ no_events start.net → ticks_fault start ticks ≡ None → All (IsPlayedFairly start.net start.window) (rest_of start.net start.history (map tick_of ticks))
 ticks_fair start [] small begun e = All-nil (IsPlayedFairly start.net start.window)

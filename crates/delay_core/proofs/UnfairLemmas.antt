@@ -19,8 +19,8 @@ use Rattle.delay_core.specs.declared.plan.PlannedEvent.{PlannedEvent}
 use Rattle.delay_core.specs.declared.plan.RoundPlan.{RoundPlan}
 use Rattle.delay_core.specs.declared.plan.Schedule.{Schedule}
 use Rattle.delay_core.specs.Plays.{PlayState, first_allowed, is_too_old, event_fault, unfair_gate, no_events, most_rounds, after_event, next_tick}
-use Rattle.delay_core.specs.Plans.{planned_fault, after_planned, events_fault, after_plan, unfair_fault, round_fault, after_plans, rounds_fault, PlannedTick, ticks_fault, first_opened, first_fault, round_of, tick_of, IsPlayedFairly}
-use Rattle.delay_core.proofs.FairLemmas.{events_of, events_keep, round_keeps, rounds_keep, rounds_history, first_kept, starts_more, length_more, rest_of}
+use Rattle.delay_core.specs.Plans.{planned_fault, after_planned, events_fault, after_plan, unfair_fault, round_fault, after_plans, rounds_fault, PlannedTick, ticks_fault, first_opened, first_fault, round_of, tick_of, IsPlayedFairly, rest_of}
+use Rattle.delay_core.proofs.FairLemmas.{events_of, events_keep, round_keeps, rounds_keep, rounds_history, first_kept, starts_more, length_more}
 use Rattle.delay_core.proofs.PlayLemmas.{IsAllowed}
 
 -- an element of which a fact holds stands first, or among the rest

@@ -14,8 +14,8 @@ use Rattle.delay_core.specs.declared.plan.RoundPlan.{RoundPlan}
 use Rattle.delay_core.specs.declared.plan.Schedule.{Schedule}
 use Rattle.delay_core.specs.declared.plan.TickEnd.{TickEnd}
 use Rattle.delay_core.specs.Plays.{PlayState, no_events, next_tick}
-use Rattle.delay_core.specs.Plans.{after_plans, rounds_fault, PlannedTick, ticks_fault, first_opened, schedule_fault, tick_of, run_of, end_at, end_of}
-use Rattle.delay_core.proofs.FairLemmas.{rounds_keep, rest_of, ends_of_rest, ends_of_first}
+use Rattle.delay_core.specs.Plans.{after_plans, rounds_fault, PlannedTick, ticks_fault, first_opened, schedule_fault, tick_of, run_of, TicksArePlayed, end_at, end_of, rest_of}
+use Rattle.delay_core.proofs.FairLemmas.{rounds_keep, ends_of_rest, ends_of_first}
 use Rattle.delay_core.proofs.PlanLemmas.{second_fault}
 
 -- the ticks from one on, each with its inputs and its rounds
@@ -39,13 +39,6 @@ module _ (net : Parts) (schedule : Schedule) (vectors : List (List Bool)) where
   abbrev plans : List PlannedTick
   plans = zip vectors schedule.ticks
 
-  -- the first i ticks were played without a fault: any fault is one of what is left, and so are the other ends
-  pub record WholePlayed (now : PlayState) (ends : List TickEnd) (i : ℕ) : Type 0 where
-    pub same : now.net ≡ net
-    pub begun : now.done ≡ no_events net
-    pub fault : schedule_fault net schedule vectors ≡ ticks_fault now (drop i plans)
-    pub all : ends ++ map (end_of net) (rest_of net now.history (map tick_of (drop i plans))) ≡ map (end_of net) (ticks_of net (run_of schedule vectors))
-
   module _ (inputs : List Bool) (rounds : List RoundPlan) (is : plans ≡ (inputs, rounds) ∷ drop 1 plans) where
     abbrev opened : PlayState
     opened = first_opened net schedule inputs
@@ -56,7 +49,7 @@ module _ (net : Parts) (schedule : Schedule) (vectors : List (List Bool)) where
     pub first_faults : (f : PlayFault) → rounds_fault opened rounds ≡ Some f → schedule_fault net schedule vectors ≡ Some f
     first_faults f e = whole_fault ∙ first_of f (rounds_fault opened rounds) (ticks_fault (after_plans opened rounds) (drop 1 plans)) e
 
-    pub first_played : (now : PlayState) → now ≡ after_plans opened rounds → rounds_fault opened rounds ≡ None → WholePlayed now (end_at net (newest now.history) (length rounds) ∷ []) 1
+    pub first_played : (now : PlayState) → now ≡ after_plans opened rounds → rounds_fault opened rounds ≡ None → TicksArePlayed net schedule vectors now (end_at net (newest now.history) (length rounds) ∷ []) 1
     first_played now e none =
         let kept = rounds_keep opened rounds refl in
         let all : map (end_of net) (ticks_of net (run_of schedule vectors)) ≡ end_at net (newest (after_plans opened rounds).history) (length rounds) ∷ map (end_of net) (rest_of net (after_plans opened rounds).history (map tick_of (drop 1 plans))) =
@@ -70,7 +63,7 @@ module _ (net : Parts) (schedule : Schedule) (vectors : List (List Bool)) where
           all = rw e (sym all);
         }
 
-  module _ (now : PlayState) (ends : List TickEnd) (i : ℕ) (before : WholePlayed now ends i) (inputs : List Bool) (rounds : List RoundPlan) (left : drop i plans ≡ (inputs, rounds) ∷ drop (i + 1) plans) where
+  module _ (now : PlayState) (ends : List TickEnd) (i : ℕ) (before : TicksArePlayed net schedule vectors now ends i) (inputs : List Bool) (rounds : List RoundPlan) (left : drop i plans ≡ (inputs, rounds) ∷ drop (i + 1) plans) where
     abbrev next : PlayState
     next = next_tick now inputs
 
@@ -83,7 +76,7 @@ module _ (net : Parts) (schedule : Schedule) (vectors : List (List Bool)) where
     begins : now.done ≡ no_events now.net
     begins = before.begun ∙ ap no_events (sym before.same)
 
-    pub next_played : (later : PlayState) → later ≡ after_plans next rounds → rounds_fault next rounds ≡ None → WholePlayed later (ends ++ end_at net (newest later.history) (length rounds) ∷ []) (i + 1)
+    pub next_played : (later : PlayState) → later ≡ after_plans next rounds → rounds_fault next rounds ≡ None → TicksArePlayed net schedule vectors later (ends ++ end_at net (newest later.history) (length rounds) ∷ []) (i + 1)
     next_played later e none =
         let kept = rounds_keep next rounds begins in
         let rest : List TickEnd = map (end_of net) (rest_of net (after_plans next rounds).history (map tick_of (drop (i + 1) plans))) in
@@ -102,7 +95,7 @@ module _ (net : Parts) (schedule : Schedule) (vectors : List (List Bool)) where
         }
 
   -- all were played
-  module _ (now : PlayState) (ends : List TickEnd) (i : ℕ) (played : WholePlayed now ends i) (none : drop i plans ≡ []) where
+  module _ (now : PlayState) (ends : List TickEnd) (i : ℕ) (played : TicksArePlayed net schedule vectors now ends i) (none : drop i plans ≡ []) where
     pub whole_none : schedule_fault net schedule vectors ≡ None
     whole_none = played.fault ∙ ap (ticks_fault now) none
 

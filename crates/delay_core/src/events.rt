@@ -1,6 +1,6 @@
 //! The events of a round, packed.
 
-ghost use Rattle.std.specs.Prelude.{◌≡◌, ◌+◌, ◌<◌, ◌≤◌, ◌++◌, ◌∷◌, [], length, OnOk, OnErr};
+ghost use Rattle.std.specs.Prelude.{◌≡◌, ◌+◌, ◌<◌, ◌≤◌, ◌++◌, ◌∷◌, [], length, IfOk, OnOk, OnErr};
 ghost use Rattle.delay_core.specs.EventLists.{begin_of as begin_of_ages, planned_at};
 
 use std::alloc::{AllocError, Global};
@@ -42,6 +42,17 @@ impl Model for Events {
     ghost view = { λ events. packed_events events.heads.items events.ages.items };
 
     ghost invariant = { λ events. ArePacked events.heads.items events.ages.items };
+}
+
+/// Where so many ages more end, behind so many.
+fn end_of_more(ages: usize, more: usize) -> Result<u32, AllocError>
+    ensures { IfOk result (λ end. end ≡ ages + more) }
+{
+    let end = ages.checked_add(more).ok_or(AllocError)?;
+    if end > MAX_AGES {
+        return Err(AllocError);
+    }
+    Ok(end as u32)
 }
 
 /// Where the ages of an event begin.
@@ -110,17 +121,10 @@ impl Events {
         ensures ok { OnOk result (self.new ≡ self.old ++ record { line = line; event = record { gate = gate; ages = ages.now } } ∷ []) }
         ensures err { OnErr result (self.new ≡ self.old) }
     {
-        let end = self.ages.len().checked_add(ages.len()).ok_or(AllocError)?;
-        if end > MAX_AGES {
-            return Err(AllocError);
-        }
+        let end = end_of_more(self.ages.len(), ages.len())?;
         self.heads.reserve(1)?;
         self.ages.extend_from_slice(ages)?;
-        self.heads.push_reserved(Head {
-            line,
-            gate,
-            end: end as u32,
-        });
+        self.heads.push_reserved(Head { line, gate, end });
         Ok(())
     }
 

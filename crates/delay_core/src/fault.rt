@@ -6,7 +6,7 @@ use std::alloc::{AllocError, AllocFailed};
 use thiserror::Error;
 
 /// Why an event is refused. The reasons are looked for in this order, but want of memory may come at any time.
-#[derive(Clone, Copy, Debug, PartialEq, Eq, Error)]
+#[derive(Clone, Copy, Debug, Error)]
 pub enum EventFault {
     /// There is no gate of this number.
     #[error("no such gate")]
@@ -22,14 +22,14 @@ pub enum EventFault {
 }
 
 /// This gate, the first such one in flat order, had no event in the round.
-#[derive(Clone, Copy, Debug, PartialEq, Eq, Error)]
+#[derive(Clone, Copy, Debug, Error)]
 #[error("a gate without an event")]
 pub struct Unfair {
     pub gate: u32,
 }
 
 /// Why a schedule isn't played to its end: the first fault in the order of play.
-#[derive(Clone, Copy, Debug, PartialEq, Eq, Error)]
+#[derive(Clone, Copy, Debug, Error)]
 pub enum PlayFault {
     /// The event of this line is refused, for want of memory never.
     #[error("an event is refused")]

@@ -1,6 +1,6 @@
 //! The moments with which a play and its ticks open.
 
-ghost use Rattle.std.specs.Prelude.{◌≡◌, ◌<◌, ◌^◌, ◌++◌, ◌∷◌, List, Bool, length, reverse, All, IfOk, OnOk};
+ghost use Rattle.std.specs.Prelude.{◌≡◌, ◌<◌, ◌+◌, ◌^◌, ◌++◌, ◌∷◌, List, Bool, length, reverse, All, IfOk, OnOk};
 ghost use Rattle.netlist.specs.Netlists.{count};
 ghost use Rattle.netlist.specs.Fixpoint.{wires};
 ghost use Rattle.schedules.specs.Moments.{newest};
@@ -12,7 +12,7 @@ use netlist::Netlist;
 use std::alloc::{AllocError, Global};
 
 /// The values of the inputs, then of the latches, then of the gates.
-pub(crate) fn moment_of(
+fn moment_of(
     alloc: Global,
     inputs: &[bool],
     latches: &[bool],
@@ -26,11 +26,7 @@ pub(crate) fn moment_of(
 }
 
 /// The values of the inputs, and of the latches behind them.
-pub(crate) fn vector_of(
-    alloc: Global,
-    inputs: &[bool],
-    latches: &[bool],
-) -> Result<Vec<bool>, AllocError>
+fn vector_of(alloc: Global, inputs: &[bool], latches: &[bool]) -> Result<Vec<bool>, AllocError>
     ensures { IfOk result (λ vector. vector.items ≡ inputs.now ++ latches.now) }
 {
     let mut vector = inputs.to_vec(alloc)?;
@@ -39,19 +35,29 @@ pub(crate) fn vector_of(
 }
 
 /// What the latches load at the newest moment.
-pub(crate) fn loaded(
-    alloc: Global,
-    net: &Netlist,
-    timeline: &Timeline,
-) -> Result<Vec<bool>, AllocError>
+fn loaded(alloc: Global, net: &Netlist, timeline: &Timeline) -> Result<Vec<bool>, AllocError>
     requires { length (newest timeline.now.history) ≡ count net.now }
     ensures { IfOk result (λ bits. bits.items ≡ loaded_of net.now (newest timeline.now.history)) }
 {
     let mut bits = Vec::with_capacity(alloc, net.latches() as usize)?;
     for number in 0..net.latches() {
-        bits.push(timeline.value(net.latch(number).from.0 as usize, 0))?;
+        bits.push_reserved(timeline.value(net.latch(number).from.0 as usize, 0));
     }
     Ok(bits)
+}
+
+/// The inputs of the tick behind the newest moment, and what its latches load.
+pub(crate) fn next_vector(
+    alloc: Global,
+    net: &Netlist,
+    timeline: &Timeline,
+    inputs: &[bool],
+) -> Result<Vec<bool>, AllocError>
+    requires { length (newest timeline.now.history) ≡ count net.now }
+    ensures { IfOk result (λ vector. vector.items ≡ inputs.now ++ loaded_of net.now (newest timeline.now.history)) }
+{
+    let latches = loaded(alloc, net, timeline)?;
+    vector_of(alloc, inputs, &latches)
 }
 
 /// Adds moments, the oldest first.
@@ -75,11 +81,7 @@ fn push_whole(timeline: &mut Timeline, moment: &[bool]) -> Result<(), AllocError
 }
 
 /// The timeline of a past, the oldest moment first, and of an opening moment.
-pub(crate) fn timeline_of(
-    alloc: Global,
-    past: &[Bits],
-    opening: &[bool],
-) -> Result<Timeline, AllocError>
+fn timeline_of(alloc: Global, past: &[Bits], opening: &[bool]) -> Result<Timeline, AllocError>
     requires past { All (λ (moment : List Bool). length moment ≡ length opening.now) past.now }
     requires signals { length opening.now < 2 ^ 32 }
     ensures { IfOk result (λ timeline. timeline.history ≡ opening.now ∷ reverse past.now) }
@@ -91,4 +93,20 @@ pub(crate) fn timeline_of(
     push_all(&mut timeline, rest)?;
     push_whole(&mut timeline, opening)?;
     Ok(timeline)
+}
+
+/// The timeline of a past, the oldest moment first, and of the moment in which a first tick opens.
+pub(crate) fn opened(
+    alloc: Global,
+    past: &[Bits],
+    inputs: &[bool],
+    latches: &[bool],
+    gates: &[bool],
+) -> Result<Timeline, AllocError>
+    requires past { All (λ (moment : List Bool). length moment ≡ length inputs.now + length latches.now + length gates.now) past.now }
+    requires signals { length inputs.now + length latches.now + length gates.now < 2 ^ 32 }
+    ensures { IfOk result (λ timeline. timeline.history ≡ wires (inputs.now ++ latches.now) gates.now ∷ reverse past.now) }
+{
+    let moment = moment_of(alloc, inputs, latches, gates)?;
+    timeline_of(alloc, past, &moment)
 }

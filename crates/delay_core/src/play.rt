@@ -6,7 +6,7 @@ ghost use Rattle.delay_core.specs.Plays.{PlayState, SeenPlay, event_fault, first
 
 use crate::change::Change;
 use crate::fault::{EventFault, Unfair};
-use crate::opening::{loaded, moment_of, timeline_of, vector_of};
+use crate::opening::{next_vector, opened};
 use crate::reading::{first_moment, first_too_old, first_without, read_pins};
 use crate::timeline::Timeline;
 use cyc_base::{Bits, MAX_PINS, Sig};
@@ -19,7 +19,6 @@ use std::marker::Model;
 /// read any moment of its history.
 ///
 /// Contracts see where it stands (`state`) and a number (`spare`): for so many events it surely has memory.
-#[derive(Drop)]
 pub struct Play<'a> {
     alloc: Global,
     net: &'a Netlist,
@@ -39,6 +38,25 @@ pub struct Play<'a> {
     /// What the pins of an event see.
     bits: Vec<bool>,
     spare: usize,
+}
+
+impl<'a> Drop for Play<'a> {
+    fn drop(self) {
+        let Play {
+            alloc: _,
+            net: _,
+            window: _,
+            timeline: _,
+            past: _,
+            tick: _,
+            opening: _,
+            marks: _,
+            round: _,
+            done: _,
+            bits: _,
+            spare: _,
+        } = self;
+    }
 }
 
 impl<'a> Model for Play<'a> {
@@ -89,8 +107,7 @@ impl<'a> Play<'a> {
         ensures { IfOk result (λ play. play ≡ record { state = starting net.now window (reverse past.now) (inputs.now ++ latches.now) gates.now; spare = 0 }) }
     {
         let _signals = net.count();
-        let moment = moment_of(alloc, inputs, latches, gates)?;
-        let timeline = timeline_of(alloc, past, &moment)?;
+        let timeline = opened(alloc, past, inputs, latches, gates)?;
         let opening = timeline.moments();
         let done = vec![in alloc; false; net.gates() as usize]?;
         let bits = Vec::with_capacity(alloc, MAX_PINS)?;
@@ -201,7 +218,8 @@ impl<'a> Play<'a> {
         self.check(gate, ages)?;
         let value = self.value_of(gate, ages);
         let change = self.change_to(gate, value);
-        self.add(gate, value)?;
+        self.reserve_for_one()?;
+        self.add(gate, value);
         Ok(change)
     }
 
@@ -229,8 +247,7 @@ impl<'a> Play<'a> {
         ensures ok { OnOk result (self.new ≡ record { state = next_tick self.old.state inputs.now; spare = self.old.spare }) }
         ensures err { OnErr result (self.new ≡ self.old) }
     {
-        let latches = loaded(self.alloc, self.net, &self.timeline)?;
-        let vector = vector_of(self.alloc, inputs, &latches)?;
+        let vector = next_vector(self.alloc, self.net, &self.timeline, inputs)?;
         self.timeline.push(&vector)?;
         let opening = self.timeline.moments();
         self.opening = opening;
@@ -318,19 +335,30 @@ impl<'a> Play<'a> {
         })
     }
 
-    /// Adds the moment in which this gate has this value.
-    fn add(&mut self, gate: u32, value: bool) -> Result<(), AllocError>
-        requires { gate < length self.old.state.net.gates }
-        ensures ok { OnOk result (self.new ≡ record { state = after_value self.old.state gate value; spare = self.old.spare - 1 }) }
+    /// Makes room for an event, where there is none.
+    fn reserve_for_one(&mut self) -> Result<(), AllocError>
+        ensures state { OnOk result (self.new.state ≡ self.old.state) }
+        ensures room { OnOk result (1 ≤ self.new.spare) }
+        ensures spare { OnOk result (self.new.spare - 1 ≡ self.old.spare - 1) }
         ensures err { OnErr result (self.new ≡ self.old) }
         ensures succeeds { 1 ≤ self.old.spare → IsOk result }
     {
-        self.marks.reserve(1)?;
-        self.timeline
-            .set(self.net.gate_sig(gate).0 as usize, value)?;
+        if self.spare > 0 {
+            return Ok(());
+        }
+        self.reserve(1)
+    }
+
+    /// Adds the moment in which this gate has this value. There is room for it.
+    fn add(&mut self, gate: u32, value: bool)
+        requires gate { gate < length self.old.state.net.gates }
+        requires room { 1 ≤ self.old.spare }
+        ensures { self.new ≡ record { state = after_value self.old.state gate value; spare = self.old.spare - 1 } }
+    {
+        let s = self.net.gate_sig(gate);
+        self.timeline.set(s.0 as usize, value);
         self.marks.push_reserved(self.round);
         self.done[gate as usize] = true;
-        self.spare = self.spare.saturating_sub(1);
-        Ok(())
+        self.spare -= 1;
     }
 }

@@ -43,6 +43,16 @@ impl Model for Timeline {
     ghost invariant = { λ t. IsTimeline t.entries.items t.newest.items t.moments × (vec_len t.entries + t.spare ≤ vec_capacity t.entries) × (vec_len t.entries + t.spare ≤ 2 ^ 32) × (t.moments + t.spare < 2 ^ 64) };
 }
 
+/// The number of the next moment, where so many more may follow it.
+fn next_moment(moments: usize, spare: usize) -> Result<usize, AllocError>
+    ensures next { IfOk result (λ next. next ≡ moments + 1) }
+    ensures small { IfOk result (λ next. next + spare < 2 ^ 64) }
+{
+    let next = moments.checked_add(1).ok_or(AllocError)?;
+    next.checked_add(spare).ok_or(AllocError)?;
+    Ok(next)
+}
+
 /// Makes room for so many entries more.
 fn reserve_entries(entries: &mut Vec<Entry>, more: usize) -> Result<(), AllocError>
     ensures room { OnOk result (vec_len entries.new + more ≤ vec_capacity entries.new) }
@@ -95,19 +105,16 @@ impl Timeline {
         )
     }
 
-    /// Adds the moment in which the signal has this value, and the others stay.
-    pub fn set(&mut self, s: usize, value: bool) -> Result<(), AllocError>
+    /// Adds the moment in which the signal has this value, and the others stay. There is room for it.
+    pub fn set(&mut self, s: usize, value: bool)
         requires signal { s < length (newest self.old.history) }
-        ensures ok { OnOk result (self.new.history ≡ slice_set (newest self.old.history) s value ∷ self.old.history) }
-        ensures spent { OnOk result (self.old.spare ≤ self.new.spare + 1) }
-        ensures err { OnErr result (self.new ≡ self.old) }
-        ensures succeeds { 1 ≤ self.old.spare → IsOk result }
+        requires room { 1 ≤ self.old.spare }
+        ensures history { self.new.history ≡ slice_set (newest self.old.history) s value ∷ self.old.history }
+        ensures spent { self.new.spare + 1 ≡ self.old.spare }
     {
-        self.reserve(1)?;
         self.spare -= 1;
         self.moments += 1;
         write_changed(&mut self.entries, &mut self.newest, s, self.moments, value);
-        Ok(())
     }
 
     /// Adds the moment in which the first signals have these values, and the others stay.
@@ -116,9 +123,8 @@ impl Timeline {
         ensures ok { OnOk result (self.new ≡ record { history = (values.now ++ drop (length values.now) (newest self.old.history)) ∷ self.old.history; spare = self.old.spare }) }
         ensures err { OnErr result (self.new ≡ self.old) }
     {
-        let after = self.moments.checked_add(1).ok_or(AllocError)?;
-        after.checked_add(self.spare).ok_or(AllocError)?;
-        let room = self.spare.checked_add(values.len()).ok_or(AllocError)?;
+        let after = next_moment(self.moments, self.spare)?;
+        let room = self.spare.saturating_add(values.len());
         reserve_entries(&mut self.entries, room)?;
         write_moment(&mut self.entries, &mut self.newest, after, values);
         self.moments = after;

@@ -10,7 +10,7 @@ ghost use Rattle.schedules.specs.Runs.{outputs_at, ticks_of};
 ghost use Rattle.ternary_run.specs.Reading.{IsFanoutOf};
 ghost use Rattle.delay_core.specs.EventLists.{planned_at};
 ghost use Rattle.delay_core.specs.Plays.{PlayState, after_event, no_events, next_tick};
-ghost use Rattle.delay_core.specs.Plans.{planned_fault, events_fault, after_planned, round_fault, after_plan, rounds_fault, after_plans, first_opened, schedule_fault, run_of, IsPlayedFairly, given_at, agrees as agree, stands_at_fix, end_at, end_of, SettledIsTold, SettlesInTime};
+ghost use Rattle.delay_core.specs.Plans.{planned_fault, events_fault, after_planned, round_fault, after_plan, rounds_fault, after_plans, first_opened, schedule_fault, run_of, IsPlayedFairly, TicksArePlayed, given_at, agrees as agree, stands_at_fix, end_at, end_of, SettledIsTold, SettlesInTime};
 
 use crate::events::Events;
 use crate::fault::{EventFault, PlayFault};
@@ -87,7 +87,7 @@ fn given(alloc: Global, net: &Netlist, play: &Play) -> Result<Vec<Trit>, AllocEr
 {
     let mut values = Vec::with_capacity(alloc, (net.inputs() + net.latches()) as usize)?;
     for number in 0..net.inputs() + net.latches() {
-        values.push(Trit::of(play.value(Sig(number))))?;
+        values.push_reserved(Trit::of(play.value(Sig(number))));
     }
     Ok(values)
 }
@@ -126,9 +126,25 @@ fn outputs(alloc: Global, net: &Netlist, play: &Play) -> Result<Bits, AllocError
 {
     let mut bits = Vec::with_capacity(alloc, net.outputs().len())?;
     for s in net.outputs() {
-        bits.push(play.value(*s))?;
+        bits.push_reserved(play.value(*s));
     }
     Ok(Bits::of(bits))
+}
+
+/// Whether each gate has its value of the ternary fixpoint at the newest moment.
+fn is_settled(
+    alloc: Global,
+    net: &Netlist,
+    fanout: &Fanout,
+    play: &Play,
+) -> Result<bool, AllocError>
+    requires net { play.now.state.net ≡ net.now }
+    requires fanout { IsFanoutOf net.now fanout.now }
+    ensures { IfOk result (λ settled. settled ≡ stands_at_fix net.now (newest play.now.state.history)) }
+{
+    let values = given(alloc, net, play)?;
+    let fixed = fanout.settle(alloc, net, &values)?;
+    Ok(gates_stand_at(net, play, &fixed))
 }
 
 /// What is told of a tick of so many rounds at its last moment, which is the newest.
@@ -143,34 +159,35 @@ fn tick_end(
     requires fanout { IsFanoutOf net.now fanout.now }
     ensures { IfOk result (λ end. end ≡ end_at net.now (newest play.now.state.history) rounds) }
 {
-    let values = given(alloc, net, play)?;
-    let fixed = fanout.settle(alloc, net, &values)?;
+    let settled = is_settled(alloc, net, fanout, play)?;
     let outputs = outputs(alloc, net, play)?;
     Ok(TickEnd {
         rounds: rounds as u64,
-        settled: gates_stand_at(net, play, &fixed),
+        settled,
         outputs,
     })
 }
 
-/// Plays a tick that has opened.
+/// Plays a tick that has opened, and tells how it ended.
 fn play_tick(
     alloc: Global,
     net: &Netlist,
     fanout: &Fanout,
     play: &mut Play,
     plan: &[RoundPlan],
-) -> Result<TickEnd, PlayFault>
+    ends: &mut Vec<TickEnd>,
+) -> Result<(), PlayFault>
     requires net { play.old.state.net ≡ net.now }
     requires fanout { IsFanoutOf net.now fanout.now }
     ensures fault { IfErr result (λ fault. (fault ≡ PlayFault.Memory) ⊎ (rounds_fault play.old.state plan.now ≡ Some fault)) }
     ensures none { OnOk result (rounds_fault play.old.state plan.now ≡ None) }
     ensures played { OnOk result (play.new.state ≡ after_plans play.old.state plan.now) }
-    ensures end { IfOk result (λ end. end ≡ end_at net.now (newest play.new.state.history) (length plan.now)) }
+    ensures end { OnOk result (ends.new.items ≡ ends.old.items ++ end_at net.now (newest play.new.state.history) (length plan.now) ∷ []) }
 {
     play_rounds(play, plan)?;
     let end = tick_end(alloc, net, fanout, play, plan.len())?;
-    Ok(end)
+    ends.push(end)?;
+    Ok(())
 }
 
 /// Starts a play and plays its first tick.
@@ -202,8 +219,7 @@ fn play_first<'a>(
         schedule.latches.items(),
         schedule.gates.items(),
     )?;
-    let end = play_tick(alloc, net, fanout, &mut play, plan)?;
-    ends.push(end)?;
+    play_tick(alloc, net, fanout, &mut play, plan, ends)?;
     Ok(play)
 }
 
@@ -227,9 +243,87 @@ fn play_next(
     ensures end { OnOk result (ends.new.items ≡ ends.old.items ++ end_at net.now (newest play.new.state.history) (length plan.now) ∷ []) }
 {
     play.end_tick(inputs)?;
-    let end = play_tick(alloc, net, fanout, play, plan)?;
-    ends.push(end)?;
+    play_tick(alloc, net, fanout, play, plan, ends)
+}
+
+/// Plays the ticks behind the first, after it.
+fn play_later(
+    alloc: Global,
+    net: &Netlist,
+    fanout: &Fanout,
+    vectors: &[Bits],
+    schedule: &Schedule,
+    play: &mut Play,
+    ends: &mut Vec<TickEnd>,
+) -> Result<(), PlayFault>
+    requires inputs { All (λ (inputs : List Bool). length inputs ≡ length net.now.inputs) vectors.now }
+    requires ticks { length schedule.now.ticks ≡ length vectors.now }
+    requires fanout { IsFanoutOf net.now fanout.now }
+    requires first { TicksArePlayed net.now schedule.now vectors.now play.old.state ends.old.items 1 }
+    ensures fault { IfErr result (λ fault. (fault ≡ PlayFault.Memory) ⊎ (schedule_fault net.now schedule.now vectors.now ≡ Some fault)) }
+    ensures whole { OnOk result (schedule_fault net.now schedule.now vectors.now ≡ None) }
+    ensures ends { OnOk result (ends.new.items ≡ map (end_of net.now) (ticks_of net.now (run_of schedule.now vectors.now))) }
+{
+    let plans = schedule.ticks.items();
+    for i in 1..vectors.len() {
+        let inputs = vectors[i].items();
+        let plan = plans[i].items();
+        play_next(alloc, net, fanout, play, inputs, plan, ends)?;
+    }
     Ok(())
+}
+
+/// Plays all ticks, of which there is one.
+fn play_ticks(
+    alloc: Global,
+    net: &Netlist,
+    fanout: &Fanout,
+    vectors: &[Bits],
+    schedule: &Schedule,
+    ends: &mut Vec<TickEnd>,
+) -> Result<(), PlayFault>
+    requires past { All (λ (moment : List Bool). length moment ≡ count net.now) schedule.now.past }
+    requires latches { length schedule.now.latches ≡ length net.now.latches }
+    requires gates { length schedule.now.gates ≡ length net.now.gates }
+    requires inputs { All (λ (inputs : List Bool). length inputs ≡ length net.now.inputs) vectors.now }
+    requires ticks { length schedule.now.ticks ≡ length vectors.now }
+    requires some { 0 < length vectors.now }
+    requires fanout { IsFanoutOf net.now fanout.now }
+    requires none { ends.old.items ≡ [] }
+    ensures fault { IfErr result (λ fault. (fault ≡ PlayFault.Memory) ⊎ (schedule_fault net.now schedule.now vectors.now ≡ Some fault)) }
+    ensures whole { OnOk result (schedule_fault net.now schedule.now vectors.now ≡ None) }
+    ensures ends { OnOk result (ends.new.items ≡ map (end_of net.now) (ticks_of net.now (run_of schedule.now vectors.now))) }
+{
+    let plans = schedule.ticks.items();
+    let first = vectors[0].items();
+    let plan = plans[0].items();
+    let mut play = play_first(alloc, net, fanout, schedule, first, plan, ends)?;
+    play_later(alloc, net, fanout, vectors, schedule, &mut play, ends)
+}
+
+/// Plays all ticks, and tells how each ended.
+fn play_all(
+    alloc: Global,
+    net: &Netlist,
+    vectors: &[Bits],
+    schedule: &Schedule,
+    ends: &mut Vec<TickEnd>,
+) -> Result<(), PlayFault>
+    requires past { All (λ (moment : List Bool). length moment ≡ count net.now) schedule.now.past }
+    requires latches { length schedule.now.latches ≡ length net.now.latches }
+    requires gates { length schedule.now.gates ≡ length net.now.gates }
+    requires inputs { All (λ (inputs : List Bool). length inputs ≡ length net.now.inputs) vectors.now }
+    requires ticks { length schedule.now.ticks ≡ length vectors.now }
+    requires none { ends.old.items ≡ [] }
+    ensures fault { IfErr result (λ fault. (fault ≡ PlayFault.Memory) ⊎ (schedule_fault net.now schedule.now vectors.now ≡ Some fault)) }
+    ensures whole { OnOk result (schedule_fault net.now schedule.now vectors.now ≡ None) }
+    ensures ends { OnOk result (ends.new.items ≡ map (end_of net.now) (ticks_of net.now (run_of schedule.now vectors.now))) }
+{
+    if vectors.is_empty() {
+        return Ok(());
+    }
+    let fanout = Fanout::of(alloc, net)?;
+    play_ticks(alloc, net, &fanout, vectors, schedule, ends)
 }
 
 /// Plays a recorded schedule whole, one tick for each vector of inputs, and tells how each tick ended; or answers its
@@ -254,18 +348,6 @@ pub fn play_whole(
 {
     let _window = schedule.window;
     let mut ends = Vec::new(alloc);
-    if vectors.is_empty() {
-        return Ok(ends);
-    }
-    let fanout = Fanout::of(alloc, net)?;
-    let plans = schedule.ticks.items();
-    let first = vectors[0].items();
-    let plan = plans[0].items();
-    let mut play = play_first(alloc, net, &fanout, schedule, first, plan, &mut ends)?;
-    for i in 1..vectors.len() {
-        let inputs = vectors[i].items();
-        let plan = plans[i].items();
-        play_next(alloc, net, &fanout, &mut play, inputs, plan, &mut ends)?;
-    }
+    play_all(alloc, net, vectors, schedule, &mut ends)?;
     Ok(ends)
 }

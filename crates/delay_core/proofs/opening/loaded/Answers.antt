@@ -17,5 +17,9 @@ loop-number-preserved c =
     let here : get_or (loaded_at c.args.net.now now) c.loop-number.number false ≡ c.value.result =
     get_or-map load c.args.net.now.latches c.loop-number.number c.latch.result.now false in_range
     ∙ ap load is ∙ sym c.value.ensures in
-    pushed (loaded_at c.args.net.now now) c.loop-number.bits.items c.push.new.self.items c.value.result false c.loop-number.number
-    (omega (arith, length-map c.args.net.now.latches load)) c.in_ok-push.ensures.items c.loop-number.invariant here
+    record {
+      bits = pushed (loaded_at c.args.net.now now) c.loop-number.bits.items c.push_reserved.new.self.items c.value.result false c.loop-number.number
+          (omega (arith, length-map c.args.net.now.latches load)) c.push_reserved.ensures.items c.loop-number.invariant.bits here;
+      len = omega arith;
+      room = omega arith;
+    }

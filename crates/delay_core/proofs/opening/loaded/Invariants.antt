@@ -1,7 +1,13 @@
-use Rattle.std.proofs.Common.{◌≡◌, take}
+use Rattle.std.proofs.Common.{◌≡◌, ◌≤◌, length, take}
+use Rattle.std.specs.Prelude.{vec_len, vec_capacity}
 use Rattle.schedules.specs.Moments.{newest}
 use Rattle.schedules.specs.Runs.{loaded_at}
 use Rattle.delay_core.proofs.opening.loaded.Given as goal
 
 abbrev pub invariant-loop-number : goal.invariant-loop-number
-invariant-loop-number l = l.bits.items ≡ take l.number (loaded_at l.net (newest l.timeline.history))
+invariant-loop-number l =
+    record {
+      bits : l.bits.items ≡ take l.number (loaded_at l.net (newest l.timeline.history));
+      len : vec_len l.bits ≡ l.number;
+      room : length l.net.latches ≤ vec_capacity l.bits;
+    }

@@ -21,7 +21,8 @@ loop-number-preserved c =
     ∙ ap bit (get_or-take columns now c.loop-number.number false here ∙ sym c.value.ensures.value)
     ∙ sym c.of.ensures in
     record {
-      values = pushed (bits (given_at c.args.net.now now)) c.loop-number.values.items c.push.new.self.items c.of.result X c.loop-number.number
-          (omega (arith, length-map (given_at c.args.net.now now) bit)) c.in_ok-push.ensures.items c.loop-number.invariant.values value;
-      len = omega (arith, ap (λ (xs : List Trit). length xs) c.in_ok-push.ensures.items, length-append c.loop-number.values.items (c.of.result ∷ []), c.loop-number.invariant.len);
+      values = pushed (bits (given_at c.args.net.now now)) c.loop-number.values.items c.push_reserved.new.self.items c.of.result X c.loop-number.number
+          (omega (arith, length-map (given_at c.args.net.now now) bit)) c.push_reserved.ensures.items c.loop-number.invariant.values value;
+      len = omega arith;
+      room = omega arith;
     }

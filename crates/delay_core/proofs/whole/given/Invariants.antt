@@ -1,4 +1,5 @@
-use Rattle.std.proofs.Common.{◌≡◌, length, take}
+use Rattle.std.proofs.Common.{◌≡◌, ◌≤◌, ◌+◌, length, take}
+use Rattle.std.specs.Prelude.{vec_len, vec_capacity}
 use Rattle.cyc_base.specs.Values.{bits}
 use Rattle.schedules.specs.Moments.{newest}
 use Rattle.delay_core.specs.Plans.{given_at}
@@ -8,5 +9,6 @@ abbrev pub invariant-loop-number : goal.invariant-loop-number
 invariant-loop-number l =
     record {
       values : l.values.items ≡ take l.number (bits (given_at l.net (newest l.play.state.history)));
-      len : length l.values.items ≡ l.number;
+      len : vec_len l.values ≡ l.number;
+      room : length l.net.inputs + length l.net.latches ≤ vec_capacity l.values;
     }

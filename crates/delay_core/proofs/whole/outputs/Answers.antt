@@ -11,6 +11,10 @@ loop-s-preserved c =
     let read : c.value.result ≡ bit_at last (get_or c.args.net.now.outputs c.loop-s.s-index (record { 0 = 0 })) =
     rw c.outputs-s-items.ensures.outputs at c.value.ensures.value in
     let in_range : c.loop-s.s-index < length c.args.net.now.outputs = rw c.outputs-s-items.ensures.outputs at c.loop-s-test.true in
-    pushed (outputs_at c.args.net.now last) c.loop-s.bits.items c.push.new.self.items c.value.result false c.loop-s.s-index
-    (omega (arith, length-map c.args.net.now.outputs (bit_at last))) c.in_ok-push.ensures.items c.loop-s.invariant
-    (get_or-map (bit_at last) c.args.net.now.outputs c.loop-s.s-index (record { 0 = 0 }) false in_range ∙ sym read)
+    record {
+      bits = pushed (outputs_at c.args.net.now last) c.loop-s.bits.items c.push_reserved.new.self.items c.value.result false c.loop-s.s-index
+          (omega (arith, length-map c.args.net.now.outputs (bit_at last))) c.push_reserved.ensures.items c.loop-s.invariant.bits
+          (get_or-map (bit_at last) c.args.net.now.outputs c.loop-s.s-index (record { 0 = 0 }) false in_range ∙ sym read);
+      len = omega arith;
+      room = omega arith;
+    }

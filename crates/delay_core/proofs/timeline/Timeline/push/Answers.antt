@@ -1,4 +1,4 @@
-use Rattle.std.proofs.Common.{◌≡◌, ◌∷◌, ◌++◌, ◌+◌, length, drop, ap, ◌∙◌, arith, rules}
+use Rattle.std.proofs.Common.{◌≡◌, ◌∷◌, ◌++◌, ◌+◌, length, drop, ap, ◌∙◌, arith}
 use Rattle.schedules.specs.Moments.{History, newest}
 use Rattle.delay_core.specs.Entries.{WritesMoment}
 use Rattle.delay_core.specs.Timelines.{Told}
@@ -7,7 +7,7 @@ use Rattle.delay_core.proofs.timeline.Timeline.push.Goals as goal
 
 pub returns-clause-ok : goal.returns-clause-ok
 returns-clause-ok c =
-    let after : c.in_ok-after.after ≡ c.self.inside.moments + 1 = search rules in
+    let after : c.in_ok-after.after ≡ c.self.inside.moments + 1 = c.in_ok-after.ensures.next in
     let written : WritesMoment (c.self.inside.moments + 1) c.args.values.now c.self.inside.entries.items c.write_moment.new.entries.items c.self.inside.newest.items c.write_moment.new.newest.items =
     rw (after, c.reserve_entries.ensures.same) at c.write_moment.ensures.written in
     rw after

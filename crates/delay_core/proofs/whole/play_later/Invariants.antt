@@ -1,0 +1,5 @@
+use Rattle.delay_core.specs.Plans.{TicksArePlayed}
+use Rattle.delay_core.proofs.whole.play_later.Given as goal
+
+abbrev pub invariant-loop-i : goal.invariant-loop-i
+invariant-loop-i l = TicksArePlayed l.net l.schedule l.vectors l.play.state l.ends.items l.i
