@@ -4,89 +4,61 @@ ghost use Rattle.blif_read.specs.TextFaults.{of_text};
 
 use blif_text::TextFault;
 use std::alloc::{AllocError, AllocFailed};
-use std::error::Error;
-use std::fmt;
+use thiserror::Error;
 
 /// Why a BLIF text has no models. A bad byte anywhere comes before all others; then the first line with a
 /// fault decides, and on one line the first that its variant names. Lines are counted from 1, and the line
 /// of a fault is the first physical line of its logical line.
-#[derive(Clone, Copy)]
+#[derive(Clone, Copy, Debug, Error)]
 pub enum BlifFault {
     /// A byte outside comments is neither blank, tab nor a printed character.
+    #[error("bad byte in line {line}")]
     BadByte { line: u64 },
     /// No model is in progress at the line, and it isn't a `.model` line.
+    #[error("line {line} outside a model")]
     OutsideModel { line: u64 },
     /// A `.model` line has other than one word behind its first.
+    #[error("bad model line {line}")]
     BadModel { line: u64 },
     /// An earlier model has the name of this `.model` line.
+    #[error("model twice in line {line}")]
     ModelTwice { line: u64 },
     /// The directive is one that the profile leaves out.
+    #[error("directive left out in line {line}")]
     LeftOut { line: u64 },
     /// The directive is unknown.
+    #[error("unknown directive in line {line}")]
     UnknownDirective { line: u64 },
     /// The last directive before a row isn't `.names`.
+    #[error("stray row in line {line}")]
     StrayRow { line: u64 },
     /// A row isn't a literal for each pin and a last word `0` or `1`.
+    #[error("bad row in line {line}")]
     BadRow { line: u64 },
     /// The last word of a row differs from that of the cover's first row.
+    #[error("mixed rows in line {line}")]
     MixedRows { line: u64 },
     /// A `.names` line has no output.
+    #[error("no output name in line {line}")]
     NoOutputName { line: u64 },
     /// A `.names` line has over 1,024 pins.
+    #[error("too many pins in line {line}")]
     TooManyPins { line: u64 },
     /// A `.latch` line has a wrong number of words, an unknown type or an unknown init.
+    #[error("bad latch line {line}")]
     BadLatch { line: u64 },
     /// A `.latch` line has one of the types `ah`, `al` and `as`.
+    #[error("level latch in line {line}")]
     LevelLatch { line: u64 },
     /// A `.subckt` line has no model, or a word without `=` or with nothing on one side of it.
+    #[error("bad subcircuit line {line}")]
     BadSubckt { line: u64 },
     /// The text has no `.model` line.
+    #[error("no model")]
     NoModel,
-    /// There is no memory.
+    #[error("no memory")]
     Memory,
 }
-
-impl BlifFault {
-    // What is wrong, and the line in which it is, where it is in one.
-    fn parts(self) -> (&'static str, Option<u64>) {
-        match self {
-            BlifFault::BadByte { line } => ("bad byte", Some(line)),
-            BlifFault::OutsideModel { line } => ("outside a model", Some(line)),
-            BlifFault::BadModel { line } => ("bad model line", Some(line)),
-            BlifFault::ModelTwice { line } => ("model twice", Some(line)),
-            BlifFault::LeftOut { line } => ("directive left out", Some(line)),
-            BlifFault::UnknownDirective { line } => ("unknown directive", Some(line)),
-            BlifFault::StrayRow { line } => ("stray row", Some(line)),
-            BlifFault::BadRow { line } => ("bad row", Some(line)),
-            BlifFault::MixedRows { line } => ("mixed rows", Some(line)),
-            BlifFault::NoOutputName { line } => ("no output name", Some(line)),
-            BlifFault::TooManyPins { line } => ("too many pins", Some(line)),
-            BlifFault::BadLatch { line } => ("bad latch line", Some(line)),
-            BlifFault::LevelLatch { line } => ("level latch", Some(line)),
-            BlifFault::BadSubckt { line } => ("bad subcircuit line", Some(line)),
-            BlifFault::NoModel => ("no model", None),
-            BlifFault::Memory => ("no memory", None),
-        }
-    }
-}
-
-impl fmt::Display for BlifFault {
-    fn fmt<W: fmt::Write>(&self, f: &mut fmt::Formatter<W>) -> fmt::Result {
-        match self.parts() {
-            (words, Some(line)) => write!(f, "line {line}: {words}"),
-            (words, None) => f.write_str(words),
-        }
-    }
-}
-
-// A fault is debugged as it is displayed: its words tell the variants apart.
-impl fmt::Debug for BlifFault {
-    fn fmt<W: fmt::Write>(&self, f: &mut fmt::Formatter<W>) -> fmt::Result {
-        write!(f, "{self}")
-    }
-}
-
-impl Error for BlifFault {}
 
 impl From<AllocError> for BlifFault {
     ghost from_gives = { λ _ e. e ≡ Memory };
