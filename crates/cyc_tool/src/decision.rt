@@ -260,57 +260,6 @@ fn tell_limited(alloc: Global, fault: &DecideFault) -> Result<Outcome, AllocErro
     }
 }
 
-// Decides a netlist with these blocks and cut wires, and tells of it what is wanted.
-fn decide_and_tell(
-    alloc: Global,
-    net: &Netlist,
-    blocks: &Blocks,
-    cut: &Cut,
-    care: &Care,
-    limit: u32,
-    observe: Observe,
-    purpose: Purpose,
-    d: &mut Diagrams,
-) -> Result<Outcome, AllocError>
-    requires valid { IsNetlist net.now }
-    requires inputs { length net.now.inputs ≤ 4000000000 }
-    requires blocks { AreBlocksOf net.now blocks.now }
-    requires cut { IsCutOf net.now cut.now }
-    requires care { IsCareOf net.now care.now }
-    requires limit { limit ≤ most_nodes }
-    ensures { IfOk result (λ told. IsDecided record { net = net.now; care = care.now; limit = limit; observe = observe }
-        (purpose_seen purpose) d.new (outcome_of told)) }
-{
-    let decision = decide(alloc, d, net, blocks, cut, care, limit, observe);
-    match &decision {
-        Ok(verdict) => tell_verdict(alloc, net, blocks, cut, observe, purpose, verdict),
-        Err(fault) => tell_limited(alloc, fault),
-    }
-}
-
-// Decides a netlist with these blocks, whose cut wires are found here, and tells of it what is wanted.
-fn decide_with_blocks(
-    alloc: Global,
-    net: &Netlist,
-    blocks: &Blocks,
-    care: &Care,
-    limit: u32,
-    observe: Observe,
-    purpose: Purpose,
-    d: &mut Diagrams,
-) -> Result<Outcome, AllocError>
-    requires valid { IsNetlist net.now }
-    requires inputs { length net.now.inputs ≤ 4000000000 }
-    requires blocks { AreBlocksOf net.now blocks.now }
-    requires care { IsCareOf net.now care.now }
-    requires limit { limit ≤ most_nodes }
-    ensures { IfOk result (λ told. IsDecided record { net = net.now; care = care.now; limit = limit; observe = observe }
-        (purpose_seen purpose) d.new (outcome_of told)) }
-{
-    let cut = find_cut(alloc, net, blocks)?;
-    decide_and_tell(alloc, net, blocks, &cut, care, limit, observe, purpose, d)
-}
-
 // Decides a netlist on its care set within so many nodes, where these wires are observed, and tells of it what is
 // wanted.
 pub(crate) fn decide_netlist(
@@ -330,5 +279,10 @@ pub(crate) fn decide_netlist(
         (purpose_seen purpose) d.new (outcome_of told)) }
 {
     let blocks = find_blocks(alloc, net)?;
-    decide_with_blocks(alloc, net, &blocks, care, limit, observe, purpose, d)
+    let cut = find_cut(alloc, net, &blocks)?;
+    let decision = decide(alloc, d, net, &blocks, &cut, care, limit, observe);
+    match &decision {
+        Ok(verdict) => tell_verdict(alloc, net, &blocks, &cut, observe, purpose, verdict),
+        Err(fault) => tell_limited(alloc, fault),
+    }
 }

@@ -1,5 +1,5 @@
 // The ring arbiter of so many cells, decided as a file is.
-ghost use Rattle.std.specs.Prelude.{◌≡◌, ◌⊎◌, ◌≤◌, Ok, IfOk, IfErr, length};
+ghost use Rattle.std.specs.Prelude.{◌≡◌, ◌≤◌, Ok, IfOk, IfErr, length};
 ghost use Rattle.care_sets.specs.Binding.{IsCareOf};
 ghost use Rattle.commands.specs.Seen.{cells_seen};
 ghost use Rattle.contents.specs.CareFiles.{care_of as care_meant};
@@ -7,11 +7,9 @@ ghost use Rattle.contents.specs.NetlistFiles.{netlist_of as netlist_meant};
 ghost use Rattle.maker.specs.Faults.{AreTexts};
 ghost use Rattle.maker.specs.Ring.{ring_text, care_text};
 ghost use Rattle.netlist.specs.Netlists.{IsNetlist};
-ghost use Rattle.cyc_tool.specs.Calls.{IsDecided};
-ghost use Rattle.cyc_tool.specs.Plans.{Demonstrates, ring_care_file, ring_deciding, ring_deciding_on, ring_decision, ring_file};
+ghost use Rattle.cyc_tool.specs.Plans.{ring_care_file, ring_deciding, ring_deciding_on, ring_file};
 ghost use Rattle.cyc_tool.specs.Reading.{FollowsStill, IsStoppedBy};
 ghost use Rattle.cyc_tool.specs.Seen.{end_of, stop_outcome};
-ghost use Rattle.cyc_tool.specs.Texts.{no_memory};
 
 use crate::decision::{Purpose, decide_netlist};
 use crate::outcome::{Outcome, Stop, or_stop};
@@ -61,31 +59,7 @@ fn ring_care(alloc: Global, net: &Netlist, text: &[u8]) -> Result<Care, Stop>
     }
 }
 
-// Decides the ring arbiter's netlist on its care set.
-fn decide_ring_on_care(
-    alloc: Global,
-    cells: Cells,
-    net: &Netlist,
-    care: &Care,
-    d: &mut Diagrams,
-) -> Result<Outcome, Stop>
-    requires valid { IsNetlist net.now }
-    requires inputs { length net.now.inputs ≤ 4000000000 }
-    requires care { IsCareOf net.now care.now }
-    ensures { IsDecided (ring_decision net.now care.now) (Demonstrates (cells_seen cells)) d.new (end_of result) ⊎ (end_of result ≡ no_memory) }
-{
-    or_stop(decide_netlist(
-        alloc,
-        net,
-        care,
-        DEFAULT_NODES,
-        Observe::All,
-        Purpose::Demonstrate(cells),
-        d,
-    ))
-}
-
-// The same on the care set of this text.
+// Decides the ring arbiter's netlist on the care set of this text.
 fn decide_ring_on(
     alloc: Global,
     cells: Cells,
@@ -99,7 +73,15 @@ fn decide_ring_on(
     ensures { FollowsStill (ring_deciding_on (cells_seen cells) net.now) d.new (end_of result) }
 {
     let care = ring_care(alloc, net, care)?;
-    decide_ring_on_care(alloc, cells, net, &care, d)
+    or_stop(decide_netlist(
+        alloc,
+        net,
+        &care,
+        DEFAULT_NODES,
+        Observe::All,
+        Purpose::Demonstrate(cells),
+        d,
+    ))
 }
 
 fn decide_ring(

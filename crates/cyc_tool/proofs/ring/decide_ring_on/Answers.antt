@@ -1,6 +1,9 @@
 use Rattle.std.proofs.lemmas.Result.{err_from_is_err_and}
 use Rattle.commands.specs.Seen.{cells_seen}
+use Rattle.cyc_tool.specs.Calls.{IsDecided}
+use Rattle.cyc_tool.specs.Plans.{Demonstrates, ring_decision}
 use Rattle.cyc_tool.specs.Seen.{end_of, stop_outcome}
+use Rattle.cyc_tool.proofs.PlanLemmas.{ends_or_lacks}
 use Rattle.cyc_tool.proofs.RingLemmas.{ring_care_stops, ring_ends}
 use Rattle.cyc_tool.proofs.ring.decide_ring_on.Goals as goal
 
@@ -12,5 +15,8 @@ returns-in_err-care c =
 
 pub returns : goal.returns
 returns c =
-    ring_ends (cells_seen c.args.cells) c.args.care.now c.args.net.now c.in_ok-care.care c.decide_ring_on_care.new.d
-    (end_of c.decide_ring_on_care.result) c.requires.care c.in_ok-care.ensures.good c.requires.valid c.decide_ring_on_care.ensures
+    ring_ends (cells_seen c.args.cells) c.args.care.now c.args.net.now c.in_ok-care.care c.decide_netlist.new.d
+    (end_of c.or_stop.result) c.requires.care c.in_ok-care.ensures.good c.requires.valid
+    (ends_or_lacks c.decide_netlist.result
+    (IsDecided (ring_decision c.args.net.now c.in_ok-care.care) (Demonstrates (cells_seen c.args.cells)) c.decide_netlist.new.d)
+    _ c.or_stop.ensures c.decide_netlist.ensures)

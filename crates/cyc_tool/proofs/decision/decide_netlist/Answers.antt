@@ -1,11 +1,11 @@
 use Rattle.std.proofs.lemmas.Result.{IfOk-weaker}
 use Rattle.cyc_tool.specs.Seen.{purpose_seen}
 use Rattle.cyc_tool.proofs.DecisionLemmas.{limit_decides, verdict_fits}
-use Rattle.cyc_tool.proofs.decision.decide_and_tell.Goals as goal
+use Rattle.cyc_tool.proofs.decision.decide_netlist.Goals as goal
 
 pub tell_verdict-requires-clause-fits : goal.tell_verdict-requires-clause-fits
 tell_verdict-requires-clause-fits c =
-    verdict_fits c.args.net.now c.args.blocks.now c.args.cut.now c.args.care.now c.args.observe c.in-Ok.verdict c.requires.valid
+    verdict_fits c.args.net.now c.in_ok-blocks.blocks c.in_ok-cut.cut c.args.care.now c.args.observe c.in-Ok.verdict c.requires.valid
     (rw c.in-Ok.is at c.decide-decision.ensures.verdict)
 
 pub returns-in-Ok : goal.returns-in-Ok
