@@ -15,7 +15,7 @@ use Rattle.loops.specs.Links.{link, AreLinksOf, AreLoopLinksOf, AreTurned, IsLoo
 use Rattle.loops.specs.declared.search.Search.{Search}
 use Rattle.loops.specs.Searching.{Connects, HasAdvanced, IsFree, Path}
 use Rattle.std.specs.declared.option.Option.{Option}
-use Rattle.std.specs.Prelude.{Some}
+use Rattle.std.specs.Prelude.{Some, None}
 use Rattle.loops.specs.Walks.{Leads, SameLoop}
 use Rattle.loops.proofs.SearchLemmas.{path-append}
 use Rattle.loops.proofs.Told.{told_from}
@@ -158,12 +158,21 @@ cut_from_below net cut are = record {
       ];
 }
 
+-- what a gate that was passed showed, at the links that the search follows
+pub answered : (links followed : List Link) (cut : List Bool) (goal : ℕ) (old new : Search) (answer : Option Bool) (leads : Bool) → followed ≡ links → answer ≡ Some leads →
+    HasAdvanced followed cut goal old new answer → HasAdvanced links cut goal old new (Some leads)
+answered links followed cut goal old new answer leads e d h =
+    subst (λ (a : Option Bool). HasAdvanced links cut goal old new a) d (subst (λ (xs : List Link). HasAdvanced xs cut goal old new answer) e h)
+
+pub searching_on : (links followed : List Link) (cut : List Bool) (goal : ℕ) (old new : Search) (answer : Option Bool) → followed ≡ links → answer ≡ None →
+    HasAdvanced followed cut goal old new answer → HasAdvanced links cut goal old new None
+searching_on links followed cut goal old new answer e d h =
+    subst (λ (a : Option Bool). HasAdvanced links cut goal old new a) d (subst (λ (xs : List Link). HasAdvanced xs cut goal old new answer) e h)
+
 -- what the search along pins shows
 pub answer_by_sources : (links : LoopLinks) → AreTurned links → (cut : List Bool) (goal : ℕ) (sources : List Link) (old new : Search) (answer : Option Bool) (leads : Bool) → sources ≡ links.sources.items → answer ≡ Some leads → HasAdvanced sources cut goal old new answer → (leads ≡ true) ↔ Connects links.readers.items (IsFree cut goal) goal goal
 answer_by_sources links t cut goal sources old new answer leads e d h =
-    let both : HasAdvanced links.sources.items cut goal old new (Some leads) =
-    subst (λ (xs : List Link). HasAdvanced xs cut goal old new (Some leads)) e
-    (subst (λ (a : Option Bool). HasAdvanced sources cut goal old new a) d h) in (
+    let both : HasAdvanced links.sources.items cut goal old new (Some leads) = answered links.sources.items sources cut goal old new answer leads e d h in (
       λ k. turned_connects links.sources.items links.readers.items (IsFree cut goal) (λ a b. (t.turned b a).1) goal goal (both.0.0 k),
       λ c. both.0.1 (turned_connects links.readers.items links.sources.items (IsFree cut goal) (λ a b. (t.turned a b).0) goal goal c),
     )

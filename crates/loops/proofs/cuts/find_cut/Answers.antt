@@ -1,7 +1,7 @@
-use Rattle.std.proofs.Common.{◌≡◌, ◌<◌, ◌+◌, ℕ, List, Bool, length, arith, ap, sym, ◌∙◌, subst}
+use Rattle.std.proofs.Common.{◌≡◌, ◌<◌, ◌+◌, ℕ, List, Bool, false, replicate, length, rules, arith, ap, sym, ◌∙◌, subst}
 use Rattle.loops.specs.declared.structure.Cut.{Cut}
 use Rattle.loops.specs.Searching.{IsReady}
-use Rattle.loops.proofs.CutLemmas.{AreCutsBelow, are_turned, cut_from_below, cut_step}
+use Rattle.loops.proofs.CutLemmas.{AreCutsBelow, no_cuts, are_turned, cut_from_below, cut_step}
 use Rattle.loops.proofs.cuts.find_cut.Goals as goal
 
 pub leads_back-requires-clause-links : goal.leads_back-requires-clause-links
@@ -28,3 +28,12 @@ returns c =
     cut_from_below net cut
     (subst (λ (n : ℕ). AreCutsBelow net n c.of-2.result) last
     (subst (λ (bs : List Bool). AreCutsBelow net c.loop-gate.gate bs) (sym c.of-2.ensures) c.loop-gate.invariant.cut))
+
+pub loop-gate-init : goal.loop-gate-init
+loop-gate-init c =
+    let gates = c.gates-gates.ensures.gates in
+    record {
+      cut = no_cuts c.args.net.now c.in_ok-cut.cut.items (c.in_ok-cut.ensures.items_if_clones_equal (search rules) ∙ ap (λ (n : ℕ). replicate n false) gates);
+      forth = subst (λ (n : ℕ). IsReady n 0 c.in_ok-forth.forth.marks.items) gates c.in_ok-forth.ensures;
+      back = subst (λ (n : ℕ). IsReady n 0 c.in_ok-back.back.marks.items) gates c.in_ok-back.ensures;
+    }
