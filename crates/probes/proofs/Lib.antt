@@ -1,5 +1,6 @@
 mod ChangeLemmas
 mod HearingLemmas
+mod RoundLemmas
 mod ShowLemmas
 mod SignalLemmas
 mod SliceLemmas

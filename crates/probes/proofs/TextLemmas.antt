@@ -1,8 +1,8 @@
 -- Texts that are made line by line.
-use Rattle.std.proofs.Common.{◌≡◌, ◌+◌, ℕ, suc, zero, List, [], ◌∷◌, ◌++◌, ap, sym, ◌∙◌, arith}
+use Rattle.std.proofs.Common.{◌≡◌, ◌<◌, ◌+◌, ℕ, suc, zero, List, [], ◌∷◌, ◌++◌, length, take, get_or, ap, sym, ◌∙◌, arith}
 use Rattle.std.proofs.Math.Numerals.{add-one}
 use Rattle.std.specs.List.{flat_map, range_with_len}
-use Rattle.std.proofs.lemmas.List.{append-nil}
+use Rattle.std.proofs.lemmas.List.{append-nil, take_more}
 use Rattle.std.proofs.lemmas.Grind.{flat_map-append}
 
 range_suc : (a n : ℕ) → range_with_len a (suc n) ≡ range_with_len a n ++ (a + n) ∷ []
@@ -19,3 +19,12 @@ lines_more line a n j e =
     ap (flat_map line) (range_more a n j e)
     ∙ flat_map-append line (range_with_len a n) (j ∷ [])
     ∙ ap (λ (xs : List ℕ). flat_map line (range_with_len a n) ++ xs) (append-nil (line j))
+
+-- the texts of the items so far, and that of the next one
+pub texts_more : {X : Type 0} (text : X → List ℕ) (items : List X) (i : ℕ) (d : X) (before after : List ℕ) → i < length items → before ≡ flat_map text (take i items) → after ≡ before ++ text (get_or items i d) → after ≡ flat_map text (take (i + 1) items)
+texts_more text items i d before after short was now =
+    now
+    ∙ ap (λ (xs : List ℕ). xs ++ text (get_or items i d)) was
+    ∙ sym (ap (flat_map text) (take_more items i d short)
+    ∙ flat_map-append text (take i items) (get_or items i d ∷ [])
+    ∙ ap (λ (xs : List ℕ). flat_map text (take i items) ++ xs) (append-nil (text (get_or items i d))))

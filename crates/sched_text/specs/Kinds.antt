@@ -13,17 +13,22 @@ format_of (first ∷ format ∷ []) =
     else Unknown)
 format_of other = Unknown
 
+-- the lines before the gates' starting values
+abbrev pub kind_of_head : List ℕ → Kind
+kind_of_head word =
+    if bytes_eq word (codes "latches") then Latches
+    else (if bytes_eq word (codes "state") then State
+    else (if bytes_eq word (codes "past") then Past
+    else (if bytes_eq word (codes "window") then Window
+    else Unknown)))
+
 abbrev pub kind_of : List ℕ → Kind
 kind_of word =
     if bytes_eq word (codes "e") then Event
     else (if bytes_eq word (codes "round") then Round
     else (if bytes_eq word (codes "tick") then Tick
     else (if bytes_eq word (codes "gates") then Gates
-    else (if bytes_eq word (codes "latches") then Latches
-    else (if bytes_eq word (codes "state") then State
-    else (if bytes_eq word (codes "past") then Past
-    else (if bytes_eq word (codes "window") then Window
-    else Unknown)))))))
+    else kind_of_head word)))
 
 abbrev pub kind_of_words : List (List ℕ) → Kind
 kind_of_words [] = Unknown

@@ -26,7 +26,7 @@ fn bits_of_word(alloc: Global, word: &[u8]) -> Result<Bits, AllocError>
 {
     let mut bits = Vec::with_capacity(alloc, word.len())?;
     for b in word {
-        bits.push(*b == b'1')?;
+        bits.push_reserved(*b == b'1');
     }
     Ok(Bits::of(bits))
 }

@@ -8,10 +8,15 @@ use delay_core::{Events, PlannedEvent, RoundPlan, Schedule, TickPlan};
 use std::alloc::{AllocError, Global};
 
 // A round whose events may go on.
-#[derive(Drop)]
 pub struct OpenRound {
     line: u64,
     events: Events,
+}
+
+impl Drop for OpenRound {
+    fn drop(self) {
+        let OpenRound { line: _, events: _ } = self;
+    }
 }
 
 impl OpenRound {
@@ -24,22 +29,28 @@ impl OpenRound {
         }
     }
 
-    fn end(mut self) -> RoundPlan
+    fn end(self) -> RoundPlan
         ensures { result ≡ seen_round self }
     {
-        self.events.shrink();
-        RoundPlan {
-            line: self.line,
-            events: self.events,
-        }
+        let OpenRound { line, mut events } = self;
+        events.shrink();
+        RoundPlan { line, events }
     }
 }
 
 // A tick whose rounds may go on.
-#[derive(Drop)]
 pub struct OpenTick {
     rounds: Vec<RoundPlan>,
     round: Option<OpenRound>,
+}
+
+impl Drop for OpenTick {
+    fn drop(self) {
+        let OpenTick {
+            rounds: _,
+            round: _,
+        } = self;
+    }
 }
 
 impl OpenTick {
@@ -86,12 +97,12 @@ impl OpenTick {
         ensures { IfOk result (λ tick. tick ≡ ended_tick (seen_tick self)) }
     {
         self.end_round()?;
-        Ok(TickPlan::of(self.rounds))
+        let OpenTick { rounds, round: _ } = self;
+        Ok(TickPlan::of(rounds))
     }
 }
 
 // What the lines so far say: the ticks that are ended, and the one whose rounds may go on.
-#[derive(Drop)]
 pub struct Draft {
     window: u32,
     past: Vec<Bits>,
@@ -100,6 +111,20 @@ pub struct Draft {
     gates: Bits,
     ticks: Vec<TickPlan>,
     tick: Option<OpenTick>,
+}
+
+impl Drop for Draft {
+    fn drop(self) {
+        let Draft {
+            window: _,
+            past: _,
+            free: _,
+            latches: _,
+            gates: _,
+            ticks: _,
+            tick: _,
+        } = self;
+    }
 }
 
 impl Draft {
@@ -179,13 +204,22 @@ impl Draft {
         ensures { IfOk result (λ schedule. schedule ≡ ended (seen self)) }
     {
         self.end_tick()?;
+        let Draft {
+            window,
+            past,
+            free,
+            latches,
+            gates,
+            ticks,
+            tick: _,
+        } = self;
         Ok(Schedule {
-            window: self.window,
-            past: Items::of(self.past),
-            free: self.free,
-            latches: self.latches,
-            gates: self.gates,
-            ticks: Items::of(self.ticks),
+            window,
+            past: Items::of(past),
+            free,
+            latches,
+            gates,
+            ticks: Items::of(ticks),
         })
     }
 }

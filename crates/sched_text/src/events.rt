@@ -28,7 +28,7 @@ fn read_ages(alloc: Global, lines: &Piece, i: usize) -> Result<Items<u32>, Sched
     let mut ages = Vec::with_capacity(alloc, words - 2)?;
     for k in 2..words {
         match number(lines.word(i, k)) {
-            Some(age) => ages.push(age)?,
+            Some(age) => ages.push_reserved(age),
             None => {
                 return Err(SchedFault::BadLine {
                     line: lines.number(i),

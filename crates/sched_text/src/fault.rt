@@ -9,7 +9,7 @@ use thiserror::Error;
 
 /// Why a text holds no vectors or no schedule. A bad byte anywhere comes before all others; then the first line with
 /// a fault decides, and on one line the first in the order here. Lines are counted from 1.
-#[derive(Debug, Drop, PartialEq, Eq, Error)]
+#[derive(Debug, Drop, Error)]
 pub enum SchedFault {
     /// A byte outside comments is neither blank, tab nor a printed character, or the line isn't one that may stand
     /// there; or a line is missing where the text ends.

@@ -2,12 +2,12 @@
 ghost use Rattle.std.specs.Prelude.{◌≡◌, ◌<◌, length};
 ghost use Rattle.std.specs.Str.{bytes_eq};
 ghost use Rattle.blif_text.specs.Lines.{line_at};
-ghost use Rattle.sched_text.specs.Kinds.{format_of, kind_of, kind, may_follow, lacks_lines};
+ghost use Rattle.sched_text.specs.Kinds.{format_of, kind_of_head, kind_of, kind, may_follow, lacks_lines};
 
 use crate::pieces::Piece;
 
 /// What a line of a schedule is, by its first word; a line `schedule` also by its second.
-#[derive(Clone, Copy, Debug, PartialEq, Eq)]
+#[derive(Clone, Copy)]
 pub enum Kind {
     FormatOne,
     FormatTwo,
@@ -40,6 +40,23 @@ fn format_of(lines: &Piece, i: usize) -> Kind
     }
 }
 
+// What a line is by its first word, where it stands before the gates' starting values.
+fn kind_of_head(word: &[u8]) -> Kind
+    ensures { result ≡ kind_of_head word.now }
+{
+    if word == b"latches".as_slice() {
+        Kind::Latches
+    } else if word == b"state".as_slice() {
+        Kind::State
+    } else if word == b"past".as_slice() {
+        Kind::Past
+    } else if word == b"window".as_slice() {
+        Kind::Window
+    } else {
+        Kind::Unknown
+    }
+}
+
 // What a line is by its first word, where that isn't `schedule`.
 fn kind_of(word: &[u8]) -> Kind
     ensures { result ≡ kind_of word.now }
@@ -52,16 +69,8 @@ fn kind_of(word: &[u8]) -> Kind
         Kind::Tick
     } else if word == b"gates".as_slice() {
         Kind::Gates
-    } else if word == b"latches".as_slice() {
-        Kind::Latches
-    } else if word == b"state".as_slice() {
-        Kind::State
-    } else if word == b"past".as_slice() {
-        Kind::Past
-    } else if word == b"window".as_slice() {
-        Kind::Window
     } else {
-        Kind::Unknown
+        kind_of_head(word)
     }
 }
 

@@ -8,7 +8,7 @@ use crate::fault::SchedFault;
 use crate::kind::{Kind, lacks_lines};
 
 /// Where a line lies: what the line directly before is, and how many ticks began before.
-#[derive(Clone, Copy, Debug)]
+#[derive(Clone, Copy)]
 pub struct Place {
     pub before: Option<Kind>,
     pub begun: usize,

@@ -61,7 +61,7 @@ fn values(alloc: Global, word: &[u8]) -> Result<Trits, AllocError>
 {
     let mut values = Vec::with_capacity(alloc, word.len())?;
     for b in word {
-        values.push(value_of(*b))?;
+        values.push_reserved(value_of(*b));
     }
     Ok(Trits::of(values))
 }
@@ -109,7 +109,7 @@ fn read_lines(
 {
     let mut vectors = Vec::with_capacity(alloc, lines.len())?;
     for i in 0..lines.len() {
-        vectors.push(read_vector(alloc, lines, i, width, unknowns)?)?;
+        vectors.push_reserved(read_vector(alloc, lines, i, width, unknowns)?);
     }
     Ok(vectors)
 }

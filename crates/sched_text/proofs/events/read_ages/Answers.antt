@@ -8,15 +8,19 @@ use Rattle.sched_text.proofs.events.read_ages.Goals as goal
 
 pub loop-k-preserved : goal.loop-k-preserved
 loop-k-preserved c =
-    ages_next (line_at c.args.lines.now c.args.i).words c.loop-k.ages.items c.push.new.self.items c.loop-k.k c.in-Some.age c.loop-k.invariant
-    (omega (arith, c.loop-k-test.true, c.words-words.ensures))
-    (sym (ap number c.word.ensures) ∙ sym c.number.ensures ∙ c.in-Some.is)
-    c.in_ok-push-in-Some.ensures.items
+    record {
+      ages = ages_next (line_at c.args.lines.now c.args.i).words c.loop-k.ages.items c.push_reserved.new.self.items c.loop-k.k c.in-Some.age c.loop-k.invariant.ages
+          (omega (arith, c.loop-k-test.true, c.words-words.ensures))
+          (sym (ap number c.word.ensures) ∙ sym c.number.ensures ∙ c.in-Some.is)
+          c.push_reserved.ensures.items;
+      len = omega arith;
+      room = omega arith;
+    }
 
 pub returns-in-None : goal.returns-in-None
 returns-in-None c = λ other.
     ap (λ t. if t then None else Some (BadLine (line_at c.args.lines.now c.args.i).number))
-    (ages_fault (line_at c.args.lines.now c.args.i).words c.loop-k.ages.items c.loop-k.k c.loop-k.invariant
+    (ages_fault (line_at c.args.lines.now c.args.i).words c.loop-k.ages.items c.loop-k.k c.loop-k.invariant.ages
     (omega (arith, c.loop-k-test.true, c.words-words.ensures))
     (sym (ap number c.word.ensures) ∙ sym c.number.ensures ∙ c.in-None.is))
     ∙ ap (λ n. Some (BadLine n)) (sym c.number-in-None.ensures)
@@ -24,9 +28,9 @@ returns-in-None c = λ other.
 pub returns : goal.returns
 returns c = record {
   no_fault = ap (λ t. if t then None else Some (BadLine (line_at c.args.lines.now c.args.i).number))
-      (ages_good (line_at c.args.lines.now c.args.i).words c.loop-k.ages.items c.loop-k.k c.loop-k.invariant
+      (ages_good (line_at c.args.lines.now c.args.i).words c.loop-k.ages.items c.loop-k.k c.loop-k.invariant.ages
       (omega (arith, c.loop-k-test.false, c.words-words.ensures)));
   is = c.of.ensures
-      ∙ ages_end (line_at c.args.lines.now c.args.i).words c.loop-k.ages.items c.loop-k.k c.loop-k.invariant
+      ∙ ages_end (line_at c.args.lines.now c.args.i).words c.loop-k.ages.items c.loop-k.k c.loop-k.invariant.ages
       (omega (arith, c.loop-k-test.false, c.words-words.ensures));
 }

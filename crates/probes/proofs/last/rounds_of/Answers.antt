@@ -1,0 +1,17 @@
+use Rattle.std.proofs.Common.{◌≡◌, ◌++◌, length, take, drop, ap, sym, ◌∙◌, arith}
+use Rattle.std.proofs.lemmas.List.{take-append-le, take_all}
+use Rattle.probes.proofs.RoundLemmas.{rounds_more}
+use Rattle.probes.proofs.last.rounds_of.Goals as goal
+
+pub loop-change-preserved : goal.loop-change-preserved
+loop-change-preserved c =
+    let new = c.note_round.new.rounds in
+    let old = c.loop-change.rounds.items in
+    let len = c.loop-change.rounds.len in
+    let size : length new ≡ len =
+    c.note_round.ensures.size ∙ ap length c.deref_mut.ensures.value ∙ sym c.loop-change.rounds.ok.0 in
+    let whole : take len (new ++ drop (length new) old) ≡ new =
+    take-append-le len new (drop (length new) old) (omega (arith, size)) ∙ take_all len new (omega (arith, size)) in
+    rw whole
+    (rounds_more c.args.net.now c.args.changes.now c.loop-change.change-index _ c.args.ticks _ _ c.loop-change-test.true c.note_round.ensures
+    (rw c.deref_mut.ensures.value c.loop-change.invariant))
