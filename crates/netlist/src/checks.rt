@@ -1,6 +1,6 @@
 //! The conditions of a netlist's parts, each looked for by itself.
 
-ghost use Rattle.std.specs.Prelude.{◌≡◌, ◌<◌, ◌≤◌, not, length, position, is_some, nat_le, option_map, IfSome, IfOk};
+ghost use Rattle.std.specs.Prelude.{◌≡◌, ◌<◌, ◌≤◌, [], not, length, position, is_some, nat_le, option_map, IfSome, IfOk};
 ghost use Rattle.std.specs.List.{list_all, list_any};
 ghost use Rattle.std.specs.Str.{bytes_eq};
 ghost use Rattle.netlist.specs.Netlists.{count, sig_eq, is_driven as is_driven_in};
@@ -76,11 +76,11 @@ pub(crate) fn has_blif_names(parts: &Parts) -> bool
         && have_blif_names(parts.gates.items())
 }
 
-/// The first output that is an earlier output too.
-pub(crate) fn first_output_twice(alloc: Global, outputs: &[Sig]) -> Result<Option<Sig>, AllocError>
+/// The first output that is an earlier output too. Those before it are put in a set that has none yet.
+fn first_repeated(outputs: &[Sig], seen: &mut IndexSet<Sig>) -> Result<Option<Sig>, AllocError>
+    requires { seen.old.keys ≡ [] }
     ensures { IfOk result (λ twice. twice ≡ option_map (λ p. p.1) (first_repeat sig_eq outputs.now)) }
 {
-    let mut seen = IndexSet::new(alloc);
     for output in outputs {
         let (_, is_new) = seen.insert_full(*output)?;
         if !is_new {
@@ -88,6 +88,14 @@ pub(crate) fn first_output_twice(alloc: Global, outputs: &[Sig]) -> Result<Optio
         }
     }
     Ok(None)
+}
+
+/// The first output that is an earlier output too.
+pub(crate) fn first_output_twice(alloc: Global, outputs: &[Sig]) -> Result<Option<Sig>, AllocError>
+    ensures { IfOk result (λ twice. twice ≡ option_map (λ p. p.1) (first_repeat sig_eq outputs.now)) }
+{
+    let mut seen = IndexSet::new(alloc);
+    first_repeated(outputs, &mut seen)
 }
 
 /// Whether a latch or a gate has this name.

@@ -19,7 +19,7 @@ fn unsettled(alloc: Global, net: &Netlist, given: &[Trit]) -> Result<Vec<Trit>, 
     requires { length given.now ≡ length net.now.inputs + length net.now.latches }
     ensures { IfOk result (λ values. values.items ≡ wires given.now (all_unknown net.now)) }
 {
-    let mut values: Vec<Trit> = given.iter().copied().collect(alloc)?;
+    let mut values = given.to_vec(alloc)?;
     values.resize(net.count() as usize, Trit::X)?;
     Ok(values)
 }

@@ -37,7 +37,9 @@ impl Drop for TickValues {
 fn vector(alloc: Global, inputs: &[Trit], latches: &[Trit]) -> Result<Vec<Trit>, AllocError>
     ensures { IfOk result (λ list. list.items ≡ inputs.now ++ latches.now) }
 {
-    inputs.iter().chain(latches).copied().collect(alloc)
+    let mut values = inputs.to_vec(alloc)?;
+    values.extend_from_slice(latches)?;
+    Ok(values)
 }
 
 /// What the latches load where the signals have these values.

@@ -1,7 +1,7 @@
 use Rattle.std.proofs.Common.{◌≡◌, take, drop}
 use Rattle.netlist.specs.Netlists.{sig_eq}
 use Rattle.netlist.specs.Faults.{repeat_after, first_repeat}
-use Rattle.netlist.proofs.checks.first_output_twice.Given as goal
+use Rattle.netlist.proofs.checks.first_repeated.Given as goal
 
 -- the outputs so far are different, so the first repeat is among the rest
 abbrev pub invariant-loop-output : goal.invariant-loop-output
