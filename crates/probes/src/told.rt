@@ -1,6 +1,6 @@
 //! The run of a recorded schedule, told to probes.
 
-ghost use Rattle.std.specs.Prelude.{◌≡◌, ◌⊎◌, ◌++◌, ◌∷◌, [], ◌+◌, ◌<◌, ◌≤◌, List, Bool, length, map, All, Some, None, IfErr, IfOk, OnOk, OnErr};
+ghost use Rattle.std.specs.Prelude.{◌≡◌, ◌⊎◌, ◌++◌, ◌∷◌, [], ◌+◌, ◌<◌, ◌≤◌, List, Bool, length, map, zip, drop, All, Some, None, IfErr, IfOk, OnOk, OnErr};
 ghost use Rattle.std.specs.List.{cons_option};
 ghost use Rattle.netlist.specs.Netlists.{count};
 ghost use Rattle.netlist.specs.declared.parts.Parts.{Parts as parts_type};
@@ -9,7 +9,7 @@ ghost use Rattle.delay_core.specs.declared.change.Change.{Change as change_type}
 ghost use Rattle.delay_core.specs.EventLists.{planned_at};
 ghost use Rattle.delay_core.specs.Plays.{PlayState, after_event, no_events, next_tick, change_by};
 ghost use Rattle.delay_core.specs.Plans.{after_planned, after_plan, after_plans, first_opened, schedule_fault, run_of, IsPlayedFairly, end_of, SettledIsTold, SettlesInTime};
-ghost use Rattle.probes.specs.Changes.{openings, event_changes, round_changes, tick_changes, changes};
+ghost use Rattle.probes.specs.Changes.{openings, event_changes, round_changes, tick_changes, later_changes, changes};
 ghost use Rattle.probes.specs.Hearing.{EachHears, EachHearsPrefix};
 
 use crate::kind::Kind;
@@ -193,6 +193,31 @@ fn tell_next(
     tell_tick(net, play, rounds, probes, wanted)
 }
 
+/// Plays the ticks behind the first, after it, and tells their changes.
+fn tell_later(
+    net: &Netlist,
+    play: &mut Play,
+    vectors: &[Bits],
+    schedule: &Schedule,
+    probes: &mut [Box<dyn Probe>],
+    wanted: Kind,
+) -> Result<(), AllocError>
+    requires net { play.old.state.net ≡ net.now }
+    requires begun { play.old.state.done ≡ no_events net.now }
+    requires inputs { All (λ (inputs : List Bool). length inputs ≡ length net.now.inputs) vectors.now }
+    requires ticks { length schedule.now.ticks ≡ length vectors.now }
+    ensures heard { OnOk result (EachHears kind heard text wanted (later_changes play.old.state (drop 1 (zip vectors.now schedule.now.ticks))) probes.old probes.new) }
+    ensures err { OnErr result (EachHearsPrefix kind heard text wanted (later_changes play.old.state (drop 1 (zip vectors.now schedule.now.ticks))) probes.old probes.new) }
+{
+    let plans = schedule.ticks.items();
+    for i in 1..vectors.len() {
+        let inputs = vectors[i].items();
+        let rounds = plans[i].items();
+        tell_next(net, play, inputs, rounds, probes, wanted)?;
+    }
+    Ok(())
+}
+
 /// Plays a schedule without a fault whole, and tells its changes.
 fn tell_run(
     alloc: Global,
@@ -217,12 +242,7 @@ fn tell_run(
     let first = vectors[0].items();
     let rounds = plans[0].items();
     let mut play = tell_first(alloc, net, schedule, first, rounds, probes, wanted)?;
-    for i in 1..vectors.len() {
-        let inputs = vectors[i].items();
-        let rounds = plans[i].items();
-        tell_next(net, &mut play, inputs, rounds, probes, wanted)?;
-    }
-    Ok(())
+    tell_later(net, &mut play, vectors, schedule, probes, wanted)
 }
 
 /// Plays a recorded schedule whole as `play_whole` does, and tells each probe of the wanted kind the changes of its run:

@@ -5,7 +5,7 @@ use std::alloc::{AllocError, AllocFailed};
 use thiserror::Error;
 
 /// Why there is no schedule.
-#[derive(Clone, Copy, Debug, PartialEq, Eq, Error)]
+#[derive(Clone, Copy, Debug, Error)]
 pub enum StormFault {
     /// It would have over 4,000,000 events: so many, or 2^64 - 1 where there are more.
     #[error("the schedule would have {events} events")]

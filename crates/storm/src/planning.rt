@@ -70,7 +70,7 @@ fn shaking_gates(alloc: Global, net: &Netlist, values: &[Trit]) -> Result<Bits, 
 {
     let mut shaking = Vec::with_capacity(alloc, net.gates() as usize)?;
     for number in 0..net.gates() {
-        shaking.push(is_unknown(value_of(values, net.gate_sig(number))))?;
+        shaking.push_reserved(is_unknown(value_of(values, net.gate_sig(number))));
     }
     Ok(Bits::of(shaking))
 }
@@ -81,7 +81,7 @@ fn rest_values(alloc: Global, net: &Netlist, values: &[Trit]) -> Result<Bits, Al
 {
     let mut rest = Vec::with_capacity(alloc, net.gates() as usize)?;
     for number in 0..net.gates() {
-        rest.push(or_zero(value_of(values, net.gate_sig(number))))?;
+        rest.push_reserved(or_zero(value_of(values, net.gate_sig(number))));
     }
     Ok(Bits::of(rest))
 }
@@ -117,7 +117,7 @@ fn all_pin_values(
 {
     let mut list = Vec::with_capacity(alloc, net.gates() as usize)?;
     for number in 0..net.gates() {
-        list.push(pin_values_of(alloc, net, values, wanted, number)?)?;
+        list.push_reserved(pin_values_of(alloc, net, values, wanted, number)?);
     }
     Ok(Items::of(list))
 }

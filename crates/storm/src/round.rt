@@ -117,9 +117,9 @@ pub(crate) fn rounds_of(
     requires shaking { shaking ≡ shaking_count plan.now }
     ensures { IfOk result (λ list. list ≡ storm_rounds net.now plan.now rounds) }
 {
-    let mut list = Vec::new(alloc);
+    let mut list = Vec::with_capacity(alloc, rounds as usize)?;
     for round in 0..rounds {
-        list.push(round_of(alloc, net, plan, zeros_back(round, shaking))?)?;
+        list.push_reserved(round_of(alloc, net, plan, zeros_back(round, shaking))?);
     }
     Ok(Items::of(list))
 }

@@ -3,14 +3,14 @@ ghost use Rattle.netlist.specs.Fixpoint.{wires};
 ghost use Rattle.storm.specs.Building.{FitsRound};
 ghost use Rattle.storm.specs.Laws.{PlaysAsStorm, IsTooLarge};
 ghost use Rattle.storm.specs.Plans.{storm_plan};
-ghost use Rattle.storm.specs.Storms.{shaking_count, gates_with, storm_by, storm_of, storm_events, most_events};
+ghost use Rattle.storm.specs.Storms.{shaking_count, gates_with, storm_rounds, storm_by, storm_of, storm_events, most_events};
 
 use crate::fault::StormFault;
 use crate::laws::storms_never_rest;
 use crate::planning::StormPlan;
 use crate::round::rounds_of;
 use cyc_base::{Bits, Items};
-use delay_core::Schedule;
+use delay_core::{Schedule, TickPlan};
 use netlist::Netlist;
 use std::alloc::{AllocError, Global};
 
@@ -49,14 +49,20 @@ fn moment_of(alloc: Global, v: &[bool], gates: &[bool]) -> Result<Bits, AllocErr
     Ok(Bits::of(moment))
 }
 
-/// The past: one moment, with all shaking gates at 0.
+/// The moment with all shaking gates at 0.
+fn zeros_of(alloc: Global, v: &[bool], plan: &StormPlan) -> Result<Bits, AllocError>
+    ensures { IfOk result (λ moment. moment ≡ wires v.now (gates_with plan.now false)) }
+{
+    let gates = gates_with(alloc, plan, false)?;
+    moment_of(alloc, v, &gates)
+}
+
+/// The past: this one moment.
 fn past_of(alloc: Global, v: &[bool], plan: &StormPlan) -> Result<Items<Bits>, AllocError>
     ensures { IfOk result (λ past. past ≡ wires v.now (gates_with plan.now false) ∷ []) }
 {
-    let gates = gates_with(alloc, plan, false)?;
-    let moment = moment_of(alloc, v, &gates)?;
-    let mut past = Vec::new(alloc);
-    past.push(moment)?;
+    let mut past = Vec::with_capacity(alloc, 1)?;
+    past.push_reserved(zeros_of(alloc, v, plan)?);
     Ok(Items::of(past))
 }
 
@@ -66,6 +72,23 @@ fn latches_of(alloc: Global, net: &Netlist, v: &[bool]) -> Result<Bits, AllocErr
 {
     let latches = v[net.inputs() as usize..].to_vec(alloc)?;
     Ok(Bits::of(latches))
+}
+
+/// The one tick of a storm.
+fn ticks_of(
+    alloc: Global,
+    net: &Netlist,
+    plan: &StormPlan,
+    shaking: u32,
+    rounds: u32,
+) -> Result<Items<TickPlan>, AllocError>
+    requires fits { FitsRound net.now plan.now }
+    requires shaking { shaking ≡ shaking_count plan.now }
+    ensures { IfOk result (λ ticks. ticks ≡ storm_rounds net.now plan.now rounds ∷ []) }
+{
+    let mut ticks = Vec::with_capacity(alloc, 1)?;
+    ticks.push_reserved(rounds_of(alloc, net, plan, shaking, rounds)?);
+    Ok(Items::of(ticks))
 }
 
 /// The storm of a plan in which so many gates shake.
@@ -85,16 +108,14 @@ fn storm_of_plan(
     let past = past_of(alloc, v, plan)?;
     let latches = latches_of(alloc, net, v)?;
     let gates = gates_with(alloc, plan, true)?;
-    let tick = rounds_of(alloc, net, plan, shaking, rounds)?;
-    let mut ticks = Vec::new(alloc);
-    ticks.push(tick)?;
+    let ticks = ticks_of(alloc, net, plan, shaking, rounds)?;
     Ok(Schedule {
         window: 1,
         past,
         free: true,
         latches,
         gates: Bits::of(gates),
-        ticks: Items::of(ticks),
+        ticks,
     })
 }
 

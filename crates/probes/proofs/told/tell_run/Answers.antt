@@ -1,12 +1,13 @@
-use Rattle.std.proofs.Common.{◌≡◌, ◌<◌, [], List, Bool, ℕ, length, get_or, refl, ap, ◌∙◌, arith}
+use Rattle.std.proofs.Common.{◌≡◌, ◌<◌, [], List, Bool, length, get_or, refl, ap, ◌∙◌, arith}
 use Rattle.std.proofs.lemmas.Grind.{common_steps}
 use Rattle.std.proofs.lemmas.List.{get_or_read}
+use Rattle.std.proofs.lemmas.Result.{on_ok_weaker, on_err_weaker}
 use Rattle.delay_core.specs.declared.plan.RoundPlan.{RoundPlan}
-use Rattle.delay_core.specs.Plays.{PlayState, no_events, next_tick}
+use Rattle.delay_core.specs.Plays.{PlayState, no_events}
 use Rattle.delay_core.specs.Plans.{first_opened}
 use Rattle.delay_core.proofs.FairLemmas.{rounds_keep}
-use Rattle.probes.proofs.ChangeLemmas.{no_changes, first_left, next_left, ticks_done}
-use Rattle.probes.proofs.HearingLemmas.{each_none, each_prefix_more, none_so_far, more_so_far, prefix_so_far, whole_so_far}
+use Rattle.probes.proofs.ChangeLemmas.{no_changes, first_left}
+use Rattle.probes.proofs.HearingLemmas.{each_none, each_both, each_prefix_later, each_prefix_more}
 use Rattle.probes.proofs.SliceLemmas.{on_err}
 use Rattle.probes.proofs.told.tell_run.Goals as goal
 
@@ -27,8 +28,18 @@ returns-in_err-play-clause-err g c =
     (rw (first_left c.args.schedule.now vectors c.requires.ticks c.args.net.now c.items-first.result.now c.items-rounds.result.now some inputs rounds)
     (each_prefix_more _ _ _ _ _ _ _ _ c.in_err-play.ensures.err))
 
-pub loop-i-init : goal.loop-i-init
-loop-i-init g c =
+pub tell_later-requires-clause-net : goal.tell_later-requires-clause-net
+tell_later-requires-clause-net g c =
+    let kept = rounds_keep (first_opened c.args.net.now c.args.schedule.now c.items-first.result.now) c.items-rounds.result.now refl in
+    ap (λ (p : PlayState). p.net) c.in_ok-play.ensures.played ∙ kept.net
+
+pub tell_later-requires-clause-begun : goal.tell_later-requires-clause-begun
+tell_later-requires-clause-begun g c =
+    let kept = rounds_keep (first_opened c.args.net.now c.args.schedule.now c.items-first.result.now) c.items-rounds.result.now refl in
+    ap (λ (p : PlayState). p.done) c.in_ok-play.ensures.played ∙ kept.begun ∙ ap no_events kept.net
+
+pub returns-clause-heard : goal.returns-clause-heard
+returns-clause-heard g c =
     let vectors : List (List Bool) = c.args.vectors.now in
     let ticks : List (List RoundPlan) = c.args.schedule.now.ticks in
     let some : 0 < length vectors = grind (arith, common_steps) in
@@ -36,51 +47,17 @@ loop-i-init g c =
     c.items-first.ensures ∙ get_or_read vectors 0 c.index-vectors-0.result some c.index-vectors-0.is [] in
     let rounds : c.items-rounds.result.now ≡ get_or ticks 0 [] =
     c.items-rounds.ensures ∙ get_or_read ticks 0 c.index-plans-0.result (omega (arith, c.requires.ticks)) (rw c.items-plans.ensures at c.index-plans-0.is) [] in
-    let kept = rounds_keep (first_opened c.args.net.now c.args.schedule.now c.items-first.result.now) c.items-rounds.result.now refl in
-    record {
-      same = ap (λ (p : PlayState). p.net) c.in_ok-play.ensures.played ∙ kept.net;
-      begun = ap (λ (p : PlayState). p.done) c.in_ok-play.ensures.played ∙ kept.begun ∙ ap no_events kept.net;
-      told = rw c.in_ok-play.ensures.played
-          (more_so_far _ _ _ _ _ _ _ _ _ _ _ (none_so_far _ _ _ _ _ _)
-          (first_left c.args.schedule.now vectors c.requires.ticks c.args.net.now c.items-first.result.now c.items-rounds.result.now some inputs rounds)
-          c.in_ok-play.ensures.heard);
-    }
+    rw (first_left c.args.schedule.now vectors c.requires.ticks c.args.net.now c.items-first.result.now c.items-rounds.result.now some inputs rounds)
+    (on_ok_weaker c.tell_later.result (each_both _ _ _ _ _ _ _ _ _ c.in_ok-play.ensures.heard) (rw c.in_ok-play.ensures.played at c.tell_later.ensures.heard))
 
-pub loop-i-preserved : goal.loop-i-preserved
-loop-i-preserved g c =
+pub returns-clause-err : goal.returns-clause-err
+returns-clause-err g c =
     let vectors : List (List Bool) = c.args.vectors.now in
     let ticks : List (List RoundPlan) = c.args.schedule.now.ticks in
-    let i : ℕ = c.loop-i.i in
-    let inputs : c.items-inputs.result.now ≡ get_or vectors i [] =
-    c.items-inputs.ensures ∙ get_or_read vectors i c.index-vectors-i.result c.loop-i-test.true c.index-vectors-i.is [] in
-    let rounds : c.items-rounds-in-loop-i.result.now ≡ get_or ticks i [] =
-    c.items-rounds-in-loop-i.ensures ∙ get_or_read ticks i c.index-plans-i.result (omega (arith, c.requires.ticks, c.loop-i-test.true)) (rw c.items-plans.ensures at c.index-plans-i.is) [] in
-    let kept = rounds_keep (next_tick c.loop-i.play.state c.items-inputs.result.now) c.items-rounds-in-loop-i.result.now
-    (rw c.loop-i.invariant.same c.loop-i.invariant.begun) in
-    record {
-      same = ap (λ (p : PlayState). p.net) c.in_ok-tell_next.ensures.played ∙ kept.net ∙ c.loop-i.invariant.same;
-      begun = ap (λ (p : PlayState). p.done) c.in_ok-tell_next.ensures.played ∙ kept.begun ∙ ap no_events (kept.net ∙ c.loop-i.invariant.same);
-      told = rw c.in_ok-tell_next.ensures.played
-          (more_so_far _ _ _ _ _ _ _ _ _ _ _ c.loop-i.invariant.told
-          (next_left c.args.schedule.now vectors c.requires.ticks c.loop-i.play.state i c.items-inputs.result.now c.items-rounds-in-loop-i.result.now c.loop-i-test.true inputs rounds)
-          c.in_ok-tell_next.ensures.heard);
-    }
-
-pub returns-in_err-tell_next-clause-err : goal.returns-in_err-tell_next-clause-err
-returns-in_err-tell_next-clause-err g c =
-    let vectors : List (List Bool) = c.args.vectors.now in
-    let ticks : List (List RoundPlan) = c.args.schedule.now.ticks in
-    let i : ℕ = c.loop-i.i in
-    let inputs : c.items-inputs.result.now ≡ get_or vectors i [] =
-    c.items-inputs.ensures ∙ get_or_read vectors i c.index-vectors-i.result c.loop-i-test.true c.index-vectors-i.is [] in
-    let rounds : c.items-rounds-in-loop-i.result.now ≡ get_or ticks i [] =
-    c.items-rounds-in-loop-i.ensures ∙ get_or_read ticks i c.index-plans-i.result (omega (arith, c.requires.ticks, c.loop-i-test.true)) (rw c.items-plans.ensures at c.index-plans-i.is) [] in
-    on_err c.from_residual-in_err-tell_next.result
-    (prefix_so_far _ _ _ _ _ _ _ _ _ _ _ c.loop-i.invariant.told
-    (next_left c.args.schedule.now vectors c.requires.ticks c.loop-i.play.state i c.items-inputs.result.now c.items-rounds-in-loop-i.result.now c.loop-i-test.true inputs rounds)
-    c.in_err-tell_next.ensures.err)
-
-pub returns-clause-heard : goal.returns-clause-heard
-returns-clause-heard g c =
-    whole_so_far _ _ _ _ _ _ _ _ c.loop-i.invariant.told
-    (ticks_done c.args.schedule.now c.args.vectors.now c.requires.ticks c.loop-i.play.state c.loop-i.i (omega (arith, c.loop-i-test.false)))
+    let some : 0 < length vectors = grind (arith, common_steps) in
+    let inputs : c.items-first.result.now ≡ get_or vectors 0 [] =
+    c.items-first.ensures ∙ get_or_read vectors 0 c.index-vectors-0.result some c.index-vectors-0.is [] in
+    let rounds : c.items-rounds.result.now ≡ get_or ticks 0 [] =
+    c.items-rounds.ensures ∙ get_or_read ticks 0 c.index-plans-0.result (omega (arith, c.requires.ticks)) (rw c.items-plans.ensures at c.index-plans-0.is) [] in
+    rw (first_left c.args.schedule.now vectors c.requires.ticks c.args.net.now c.items-first.result.now c.items-rounds.result.now some inputs rounds)
+    (on_err_weaker c.tell_later.result (each_prefix_later _ _ _ _ _ _ _ _ _ c.in_ok-play.ensures.heard) (rw c.in_ok-play.ensures.played at c.tell_later.ensures.err))

@@ -1,4 +1,4 @@
-use Rattle.std.proofs.Common.{ap, ◌∙◌}
+use Rattle.std.proofs.Common.{ap, ◌∙◌, arith}
 use Rattle.netlist.specs.Fixpoint.{wire}
 use Rattle.storm.specs.Plans.{is_unknown, is_shaking}
 use Rattle.storm.proofs.PlanLemmas.{one_more}
@@ -6,5 +6,9 @@ use Rattle.storm.proofs.planning.shaking_gates.Goals as goal
 
 pub loop-number-preserved : goal.loop-number-preserved
 loop-number-preserved c =
-    one_more (is_shaking c.args.net.now c.args.values.now) c.loop-number.number c.loop-number.shaking.items _ _ c.in_ok-push.ensures.items c.loop-number.invariant
-    (c.is_unknown.ensures ∙ ap is_unknown (c.value_of.ensures ∙ ap (wire c.args.values.now) c.gate_sig.ensures.sig))
+    record {
+      shaking = one_more (is_shaking c.args.net.now c.args.values.now) c.loop-number.number c.loop-number.shaking.items _ _ c.push_reserved.ensures.items c.loop-number.invariant.shaking
+          (c.is_unknown.ensures ∙ ap is_unknown (c.value_of.ensures ∙ ap (wire c.args.values.now) c.gate_sig.ensures.sig));
+      len = omega arith;
+      room = omega arith;
+    }

@@ -11,5 +11,9 @@ round_of-requires-clause-back c =
 
 pub loop-round-preserved : goal.loop-round-preserved
 loop-round-preserved c =
-    one_more (nth_round c.args.net.now c.args.plan.now) c.loop-round.round c.loop-round.list.items _ _ c.in_ok-push.ensures.items c.loop-round.invariant
-    (c.in_ok-round_of.ensures ∙ ap (storm_round c.args.net.now c.args.plan.now) (c.zeros_back.ensures c.args.plan.now (sym c.requires.shaking)))
+    record {
+      list = one_more (nth_round c.args.net.now c.args.plan.now) c.loop-round.round c.loop-round.list.items _ _ c.push_reserved.ensures.items c.loop-round.invariant.list
+          (c.in_ok-round_of.ensures ∙ ap (storm_round c.args.net.now c.args.plan.now) (c.zeros_back.ensures c.args.plan.now (sym c.requires.shaking)));
+      len = omega arith;
+      room = omega arith;
+    }
