@@ -1,4 +1,5 @@
 use Rattle.std.proofs.Common.{◌≡◌, ◌∙◌, ◌++◌, ℕ, zero, true, length, replicate, sym, ap, subst, arith}
+use Rattle.bdd_store.proofs.GrowthLemmas.{KeepsNodes-chain, IsNodeOf-kept}
 use Rattle.loops.specs.Cuts.{loops_by}
 use Rattle.third_rail.specs.Knowing.{vectors_of, AreKnown}
 use Rattle.third_rail.specs.Nodes.{no_rails}
@@ -35,3 +36,27 @@ returns-clause-known c laid are =
       gates = λ v wide inside n within marked.
           c.in_ok-known.ensures.determined laid (c.in_ok-swept.ensures.fits laid first) c.if-not-known.false v wide (c.sweep_until_known.ensures.keeps.function c.args.set (laid v) c.requires.set ∙ inside) n within marked;
     })
+
+pub returns-clause-keeps : goal.returns-clause-keeps
+returns-clause-keeps c = KeepsNodes-chain c.sweep_until_known.ensures.keeps c.are_determined.ensures.keeps
+
+pub returns-in_err-swept-clause-keeps : goal.returns-in_err-swept-clause-keeps
+returns-in_err-swept-clause-keeps c = c.sweep_until_known.ensures.keeps
+
+pub returns-in_err-known-clause-keeps : goal.returns-in_err-known-clause-keeps
+returns-in_err-known-clause-keeps c = KeepsNodes-chain c.sweep_until_known.ensures.keeps c.are_determined.ensures.keeps
+
+pub returns-in_err-unknown-clause-keeps : goal.returns-in_err-unknown-clause-keeps
+returns-in_err-unknown-clause-keeps c = KeepsNodes-chain (KeepsNodes-chain c.sweep_until_known.ensures.keeps c.are_determined.ensures.keeps) c.unknown_among.ensures.keeps
+
+pub returns-then-not-known-clause-keeps : goal.returns-then-not-known-clause-keeps
+returns-then-not-known-clause-keeps c = KeepsNodes-chain (KeepsNodes-chain c.sweep_until_known.ensures.keeps c.are_determined.ensures.keeps) c.unknown_among.ensures.keeps
+
+pub are_determined-requires-clause-set : goal.are_determined-requires-clause-set
+are_determined-requires-clause-set c = IsNodeOf-kept c.sweep_until_known.ensures.keeps c.args.set c.requires.set
+
+pub unknown_among-requires-clause-set : goal.unknown_among-requires-clause-set
+unknown_among-requires-clause-set c = IsNodeOf-kept (KeepsNodes-chain c.sweep_until_known.ensures.keeps c.are_determined.ensures.keeps) c.args.set c.requires.set
+
+pub returns-clause-hint : goal.returns-clause-hint
+returns-clause-hint c = IsNodeOf-kept c.are_determined.ensures.keeps c.in_ok-swept.swept.hint c.in_ok-swept.ensures.hint

@@ -1,7 +1,7 @@
-use Rattle.std.proofs.Common.{◌≡◌, ◌∙◌, ℕ, suc, ◌+◌, sym, subst, arith}
-use Rattle.bdd_store.proofs.GrowthLemmas.{KeepsNodes-chain}
+use Rattle.std.proofs.Common.{◌≡◌, ◌∙◌, ℕ, suc, ◌+◌, refl, sym, subst, arith}
+use Rattle.bdd_store.proofs.GrowthLemmas.{KeepsNodes-refl, KeepsNodes-chain, IsNodeOf-kept}
 use Rattle.loops.specs.Cuts.{loops_by}
-use Rattle.third_rail.specs.Sweeping.{FitSweeps, Layout}
+use Rattle.third_rail.specs.Sweeping.{AreWires, FitSweeps, Layout}
 use Rattle.third_rail.proofs.KnowingLemmas.{since-noted}
 use Rattle.third_rail.proofs.SweepingLemmas.{AreWires-kept, FitSweeps-kept}
 use Rattle.third_rail.proofs.knowing.sweep_until_known.Goals as goal
@@ -42,3 +42,55 @@ loop-done-preserved c = record {
       (c.inputs.result + c.latches.result) (c.loop-done.done + 1) (omega (arith, c.inputs.ensures.inputs, c.latches.ensures.latches)) (omega arith)
       c.loop-done.since c.note_known.new.since (c.loop-done.invariant.known laid begins fresh) c.in_ok-left.ensures.noted;
 }
+
+pub loop-done-init : goal.loop-done-init
+loop-done-init c = record {
+  keeps = KeepsNodes-refl c.args.d.now;
+  wires = c.requires.wires;
+  fits = λ laid begins. begins;
+  hint = c.requires.set;
+  width = refl;
+  known = λ laid begins fresh. fresh;
+}
+
+pub sweep-requires-clause-before : goal.sweep-requires-clause-before
+sweep-requires-clause-before c = subst (AreWires c.args.net.now c.loop-done.d) (sym c.deref.ensures.value) c.loop-done.invariant.wires
+
+pub note_known-requires-clause-set : goal.note_known-requires-clause-set
+note_known-requires-clause-set c = IsNodeOf-kept (KeepsNodes-chain c.loop-done.invariant.keeps c.sweep.ensures.keeps) c.args.set c.requires.set
+
+pub returns-in_err-next-clause-keeps : goal.returns-in_err-next-clause-keeps
+returns-in_err-next-clause-keeps c = KeepsNodes-chain c.loop-done.invariant.keeps c.sweep.ensures.keeps
+
+pub returns-in_err-left-clause-keeps : goal.returns-in_err-left-clause-keeps
+returns-in_err-left-clause-keeps c = KeepsNodes-chain (KeepsNodes-chain c.loop-done.invariant.keeps c.sweep.ensures.keeps) c.note_known.ensures.keeps
+
+pub returns-then-all-clause-wires : goal.returns-then-all-clause-wires
+returns-then-all-clause-wires c = AreWires-kept c.note_known.ensures.keeps c.in_ok-next.ensures.wires
+
+pub returns-then-all-clause-hint : goal.returns-then-all-clause-hint
+returns-then-all-clause-hint c = IsNodeOf-kept (KeepsNodes-chain c.sweep.ensures.keeps c.note_known.ensures.keeps) c.loop-done.hint c.loop-done.invariant.hint
+
+pub returns-then-all-clause-width : goal.returns-then-all-clause-width
+returns-then-all-clause-width c = c.in_ok-left.ensures.width ∙ c.loop-done.invariant.width
+
+pub returns-then-all-clause-keeps : goal.returns-then-all-clause-keeps
+returns-then-all-clause-keeps c = KeepsNodes-chain (KeepsNodes-chain c.loop-done.invariant.keeps c.sweep.ensures.keeps) c.note_known.ensures.keeps
+
+pub returns-clause-wires : goal.returns-clause-wires
+returns-clause-wires c = c.loop-done.invariant.wires
+
+pub returns-clause-fits : goal.returns-clause-fits
+returns-clause-fits c laid begins = record { number = c.loop-done.done; fits = c.loop-done.invariant.fits laid begins }
+
+pub returns-clause-hint : goal.returns-clause-hint
+returns-clause-hint c = c.loop-done.invariant.hint
+
+pub returns-clause-width : goal.returns-clause-width
+returns-clause-width c = c.loop-done.invariant.width
+
+pub returns-clause-since : goal.returns-clause-since
+returns-clause-since c = c.loop-done.invariant.known
+
+pub returns-clause-keeps : goal.returns-clause-keeps
+returns-clause-keeps c = c.loop-done.invariant.keeps

@@ -33,3 +33,34 @@ returns-clause-claim c bits =
     let first = k46.function c.in_ok-one.one bits (node-kept k14 c.in_ok-one.one c.in_ok-one.ensures.node) ∙ one in
     let second = k46.function c.in_ok-zero.zero bits (node-kept k24 c.in_ok-zero.zero c.in_ok-zero.ensures.node) ∙ zero in
     (λ j. record { one = first j; zero = second j; known = known j })
+
+pub returns-clause-nodes : goal.returns-clause-nodes
+returns-clause-nodes c =
+    let last : KeepsNodes c.and.new.self c.or-2.new.self = KeepsNodes-chain c.or.ensures.grows.keeps c.or-2.ensures.grows.keeps in
+    let after : KeepsNodes c.select-2.new.self c.or-2.new.self = KeepsNodes-chain (KeepsNodes-chain c.select-3.ensures.grows.keeps c.and.ensures.grows.keeps) last in
+    record {
+      one = node-kept (KeepsNodes-chain c.select-2.ensures.grows.keeps after) c.in_ok-one.one c.in_ok-one.ensures.node;
+      zero = node-kept after c.in_ok-zero.zero c.in_ok-zero.ensures.node;
+      known = c.in_ok-known.ensures.node;
+    }
+
+pub returns-in_err-one-clause-keeps : goal.returns-in_err-one-clause-keeps
+returns-in_err-one-clause-keeps c = c.select.ensures.grows.keeps
+
+pub returns-in_err-zero-clause-keeps : goal.returns-in_err-zero-clause-keeps
+returns-in_err-zero-clause-keeps c = KeepsNodes-chain c.select.ensures.grows.keeps c.select-2.ensures.grows.keeps
+
+pub returns-in_err-selected-clause-keeps : goal.returns-in_err-selected-clause-keeps
+returns-in_err-selected-clause-keeps c = KeepsNodes-chain (KeepsNodes-chain c.select.ensures.grows.keeps c.select-2.ensures.grows.keeps) c.select-3.ensures.grows.keeps
+
+pub returns-in_err-passed-clause-keeps : goal.returns-in_err-passed-clause-keeps
+returns-in_err-passed-clause-keeps c = KeepsNodes-chain (KeepsNodes-chain (KeepsNodes-chain c.select.ensures.grows.keeps c.select-2.ensures.grows.keeps) c.select-3.ensures.grows.keeps) c.and.ensures.grows.keeps
+
+pub returns-in_err-bit-clause-keeps : goal.returns-in_err-bit-clause-keeps
+returns-in_err-bit-clause-keeps c = KeepsNodes-chain (KeepsNodes-chain (KeepsNodes-chain (KeepsNodes-chain c.select.ensures.grows.keeps c.select-2.ensures.grows.keeps) c.select-3.ensures.grows.keeps) c.and.ensures.grows.keeps) c.or.ensures.grows.keeps
+
+pub returns-in_err-known-clause-keeps : goal.returns-in_err-known-clause-keeps
+returns-in_err-known-clause-keeps c = KeepsNodes-chain (KeepsNodes-chain (KeepsNodes-chain (KeepsNodes-chain (KeepsNodes-chain c.select.ensures.grows.keeps c.select-2.ensures.grows.keeps) c.select-3.ensures.grows.keeps) c.and.ensures.grows.keeps) c.or.ensures.grows.keeps) c.or-2.ensures.grows.keeps
+
+pub returns-clause-keeps : goal.returns-clause-keeps
+returns-clause-keeps c = KeepsNodes-chain (KeepsNodes-chain (KeepsNodes-chain (KeepsNodes-chain (KeepsNodes-chain c.select.ensures.grows.keeps c.select-2.ensures.grows.keeps) c.select-3.ensures.grows.keeps) c.and.ensures.grows.keeps) c.or.ensures.grows.keeps) c.or-2.ensures.grows.keeps
