@@ -273,7 +273,7 @@ fn play_later(
     Ok(())
 }
 
-/// Plays all ticks, of which there is one.
+/// Plays all ticks, of which there is at least one.
 fn play_ticks(
     alloc: Global,
     net: &Netlist,
