@@ -123,6 +123,22 @@ fn count_asked(lits: &[Lit], counts: &mut [usize]) {
     }
 }
 
+/// The first of the unknown pins with the highest count, or this one where all counts are 0.
+fn most_asked(counts: &[usize], pins: &[Trit], first: usize) -> usize
+    requires { slice_get pins.now first ≡ Some X }
+    ensures { slice_get pins.now result ≡ Some X }
+{
+    let mut best = first;
+    let mut most = 0;
+    for (pin, count) in counts.iter().enumerate() {
+        if *count > most && matches!(pins.get(pin), Some(Trit::X)) {
+            best = pin;
+            most = *count;
+        }
+    }
+    best
+}
+
 /// The unknown pin that most of the rows that may match ask a value of, or `None` where no pin is unknown.
 fn splitting_pin(alloc: Global, rows: &[Row], pins: &[Trit]) -> Result<Option<usize>, AllocError>
     ensures unknown { IfOk result (λ found. IfSome found (λ pin. slice_get pins.now pin ≡ Some X)) }
@@ -137,15 +153,7 @@ fn splitting_pin(alloc: Global, rows: &[Row], pins: &[Trit]) -> Result<Option<us
             count_asked(row.lits.items(), &mut counts);
         }
     }
-    let mut best = first;
-    let mut most = 0;
-    for (pin, count) in counts.iter().enumerate() {
-        if *count > most && matches!(pins.get(pin), Some(Trit::X)) {
-            best = pin;
-            most = *count;
-        }
-    }
-    Ok(Some(best))
+    Ok(Some(most_asked(&counts, pins, first)))
 }
 
 /// Whether some row matches at each completion of the pins.
@@ -178,7 +186,7 @@ fn rows_are_tautology(alloc: Global, rows: &[Row], pins: &[Trit]) -> Result<bool
 fn copy_of(alloc: Global, pins: &[Trit]) -> Result<Vec<Trit>, AllocError>
     ensures { IfOk result (λ copied. copied.items ≡ pins.now) }
 {
-    pins.iter().copied().collect(alloc)
+    pins.to_vec(alloc)
 }
 
 /// The same where this unknown pin has this value, and after it all pins that have a harder one.

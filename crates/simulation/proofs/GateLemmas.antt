@@ -1,5 +1,5 @@
 -- A gate outside loops is settled by its cover alone.
-use Rattle.std.proofs.Common.{◌≡◌, ◌≢◌, inl, inr, ℕ, ◌+◌, ◌<◌, ◌≤◌, Bool, true, false, List, length, set, ap, sym, ◌∙◌, arith, Contains, true≢false}
+use Rattle.std.proofs.Common.{◌≡◌, ◌≢◌, inl, inr, ℕ, ◌+◌, ◌<◌, ◌≤◌, Bool, true, false, List, length, set, ap, sym, subst, ◌∙◌, arith, Contains, true≢false}
 use Rattle.std.proofs.lemmas.Bool.{cases_lt, cases_eq}
 use Rattle.std.proofs.lemmas.List.{get_or-set_same, get_or-set_other, length-set}
 use Rattle.cyc_base.specs.declared.sig.Sig.{Sig}
@@ -13,7 +13,7 @@ use Rattle.loops.specs.declared.structure.Blocks.{Blocks}
 use Rattle.loops.specs.Blocks.{AreBlocksOf, block_at, home_of}
 use Rattle.loops.proofs.Told.{other_blocks_are_single}
 use Rattle.loops.proofs.Walks.{leads-step}
-use Rattle.simulation.specs.Standing.{AreKept, AreSettled, vector_of}
+use Rattle.simulation.specs.Standing.{AreKept, AreSettled, is_due, vector_of}
 use Rattle.simulation.proofs.PinLemmas.{value_same, signal_cases, pin_within, pin-before, wire-input, fix-gate, length-vector, wire-vector}
 use Rattle.simulation.proofs.BlockLemmas.{AreAtFix, pin_at_fix}
 use Rattle.simulation.proofs.LoadLemmas.{vector-set}
@@ -108,3 +108,10 @@ module _ (net : Parts) (is : IsNetlist net) (blocks : Blocks) (are : AreBlocksOf
                     get_or-set_other values (gate_sig net g).0 (gate_sig net n).0 x X other ∙ settled.each n l early ∙ vector
               ];
         }
+
+-- the block of the gate that drives a signal is due, if that of a gate that drives it is
+pub due_at_gate : (net : Parts) (blocks : Blocks) (due : List Bool) (place g n : ℕ) (signal : Sig) → is_due due place ≡ true → home_of blocks g ≡ place →
+    signal ≡ gate_sig net g → signal ≡ gate_sig net n → is_due due (home_of blocks n) ≡ true
+due_at_gate net blocks due place g n signal is home from_g from_n =
+    let same : n ≡ g = omega (arith, ap (λ (s : Sig). s.0) from_g, ap (λ (s : Sig). s.0) from_n) in
+    subst (λ (m : ℕ). is_due due m ≡ true) (sym (ap (home_of blocks) same ∙ home)) is

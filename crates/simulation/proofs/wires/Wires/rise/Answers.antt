@@ -1,9 +1,11 @@
 -- The gate becomes known, and those that read it wait once more; or it needs to wait no longer.
-use Rattle.std.proofs.Common.{◌≡◌, true, set, refl, ap, arith}
+use Rattle.std.proofs.Common.{◌≡◌, true, set, refl, ap, ◌∙◌, arith}
 use Rattle.cyc_base.specs.declared.sig.Sig.{Sig}
 use Rattle.netlist.specs.Netlists.{gate_sig}
-use Rattle.simulation.specs.Standing.{is_due}
-use Rattle.simulation.proofs.LoopLemmas.{gate_determined_at, determined_falls_at, gate_unchanged, waiting_gate}
+use Rattle.simulation.specs.Standing.{is_due, vector_of}
+use Rattle.simulation.proofs.GateLemmas.{due_at_gate}
+use Rattle.simulation.proofs.LoadLemmas.{vector-set}
+use Rattle.simulation.proofs.LoopLemmas.{gate_determined_at, determined_falls_at, gate_unchanged, unchanged_falls, waiting_gate}
 use Rattle.simulation.proofs.wires.Wires.rise.Goals as goal
 
 pub new_value-requires-clause-gate : goal.new_value-requires-clause-gate
@@ -54,3 +56,47 @@ returns-in_default-clause-rising c =
     rw (c.in_ok-value.ensures.values, c.in_ok-value.ensures.due)
     (gate_unchanged net c.args.plan.now c.args.place c.args.self.now.values.items c.args.self.now.due.items c.args.gate c.args.waiting.now.items c.requires.rising
     (rw c.in_default.is at c.in_ok-value.ensures.value))
+
+pub change-requires-clause-kept : goal.change-requires-clause-kept
+change-requires-clause-kept c = rw (c.in_ok-value.ensures.values, c.in_ok-value.ensures.due) c.requires.rising.kept
+
+pub change-requires-clause-due : goal.change-requires-clause-due
+change-requires-clause-due c = λ n within from_n.
+    rw c.in_ok-value.ensures.due
+    (due_at_gate c.args.net.now c.args.plan.now.blocks c.args.self.now.due.items c.args.place c.args.gate n c.gate_sig-signal.result
+    c.requires.rising.unsettled (c.requires.rising.inside c.args.gate (0, omega arith, refl)) c.gate_sig-signal.ensures.sig from_n)
+
+pub returns-in_ok-queue_inside-clause-kept : goal.returns-in_ok-queue_inside-clause-kept
+returns-in_ok-queue_inside-clause-kept c = c.change.ensures.kept
+
+pub returns-in_ok-queue_inside-clause-vector : goal.returns-in_ok-queue_inside-clause-vector
+returns-in_ok-queue_inside-clause-vector c =
+    let values = c.args.self.now.values.items in
+    let after : c.change.new.self.values.items ≡ set values c.gate_sig-signal.result.0 c.in-Some.value = rw c.in_ok-value.ensures.values at c.change.ensures.values in
+    ap (vector_of c.args.net.now) (after ∙ ap (λ (s : Sig). set values s.0 c.in-Some.value) c.gate_sig-signal.ensures.sig)
+    ∙ vector-set c.args.net.now values c.args.gate c.in-Some.value
+
+pub returns-in_err-queue_inside-clause-kept : goal.returns-in_err-queue_inside-clause-kept
+returns-in_err-queue_inside-clause-kept c = c.change.ensures.kept
+
+pub returns-in_err-queue_inside-clause-vector : goal.returns-in_err-queue_inside-clause-vector
+returns-in_err-queue_inside-clause-vector c =
+    let values = c.args.self.now.values.items in
+    let after : c.change.new.self.values.items ≡ set values c.gate_sig-signal.result.0 c.in-Some.value = rw c.in_ok-value.ensures.values at c.change.ensures.values in
+    ap (vector_of c.args.net.now) (after ∙ ap (λ (s : Sig). set values s.0 c.in-Some.value) c.gate_sig-signal.ensures.sig)
+    ∙ vector-set c.args.net.now values c.args.gate c.in-Some.value
+
+pub returns-in_default-clause-kept : goal.returns-in_default-clause-kept
+returns-in_default-clause-kept c = rw (c.in_ok-value.ensures.values, c.in_ok-value.ensures.due) c.requires.rising.kept
+
+pub returns-in_default-clause-vector : goal.returns-in_default-clause-vector
+returns-in_default-clause-vector c = rw c.in_ok-value.ensures.values refl
+
+pub returns-in_default-clause-less : goal.returns-in_default-clause-less
+returns-in_default-clause-less c = rw c.in_ok-value.ensures.values (unchanged_falls c.args.plan.now c.args.self.now.values.items c.args.gate c.args.waiting.now.items)
+
+pub returns-in_err-value-clause-kept : goal.returns-in_err-value-clause-kept
+returns-in_err-value-clause-kept c = rw (c.new_value.ensures.values, c.new_value.ensures.due) c.requires.rising.kept
+
+pub returns-in_err-value-clause-vector : goal.returns-in_err-value-clause-vector
+returns-in_err-value-clause-vector c = rw c.new_value.ensures.values refl

@@ -1,5 +1,6 @@
 -- No gate waits any longer, so the loop is settled.
-use Rattle.std.proofs.Common.{◌≡◌, [], arith}
+use Rattle.std.proofs.Common.{◌≡◌, ◌<◌, ℕ, List, [], sym, subst, ◌∙◌, arith}
+use Rattle.simulation.specs.Rising.{IsRising, work_left}
 use Rattle.simulation.proofs.GateLemmas.{cleared}
 use Rattle.simulation.proofs.LoopLemmas.{nothing_waits, risen}
 use Rattle.simulation.proofs.wires.Wires.settle_loop.Goals as goal
@@ -17,3 +18,16 @@ returns-clause-kept c =
     c.loop-gate.invariant.rising.kept
     (risen c.args.net.now c.args.plan.now c.args.place c.loop-gate.self.values.items c.loop-gate.self.due.items c.requires.plan
     (rw empty at c.loop-gate.invariant.rising))
+
+pub loop-gate-preserved : goal.loop-gate-preserved
+loop-gate-preserved c = record { rising = c.in_ok-rise.ensures.rising; vector = c.rise.ensures.vector ∙ c.loop-gate.invariant.vector }
+
+pub rise-requires-clause-rising : goal.rise-requires-clause-rising
+rise-requires-clause-rising c =
+    subst (λ (waiting : List ℕ). IsRising c.args.net.now c.args.plan.now c.args.place c.loop-gate.self.values.items c.loop-gate.self.due.items waiting)
+    c.in-Some.ensures.items c.loop-gate.invariant.rising
+
+pub loop-gate-smaller : goal.loop-gate-smaller
+loop-gate-smaller c =
+    subst (λ (waiting : List ℕ). work_left c.args.plan.now c.rise.new.self.values.items c.rise.new.waiting.items < work_left c.args.plan.now c.loop-gate.self.values.items waiting)
+    (sym c.in-Some.ensures.items) c.in_ok-rise.ensures.less
