@@ -1,4 +1,5 @@
 use Rattle.std.proofs.Common.{◌++◌, ◌∷◌, [], ap, ◌∙◌, arith}
+use Rattle.std.proofs.lemmas.Grind.{common_steps}
 use Rattle.sched_text.specs.Vectors.{value_of}
 use Rattle.sched_text.proofs.VectorLemmas.{map_taken}
 use Rattle.sched_text.proofs.vectors.values.Goals as goal
@@ -12,3 +13,6 @@ loop-b-preserved c =
       len = omega arith;
       room = omega arith;
     }
+
+pub returns : goal.returns
+returns c = grind (arith, common_steps)
