@@ -23,6 +23,14 @@ diagram-stays net shared one n place has = record {
   diagram = λ none. subst (λ (x : SharedDiagram). IsDiagramOf x.diagram (gate_at net n).cover) (sym (get_or_append_left shared (one ∷ []) none place has.within)) (has.diagram none);
 }
 
+-- of no gates
+pub locals-none : (net : Parts) (locals : Locals) → locals.shared.items ≡ [] → locals.places.items ≡ [] → AreLocalsOf net [] locals
+locals-none net locals shared places = record {
+  shared = subst (AreShared net) (sym shared) (λ i none less. absurd (omega (arith, less)));
+  width = ap length places;
+  each = λ i less. absurd (omega (arith, less));
+}
+
 -- one gate more
 pub locals-next : (net : Parts) (gates : List ℕ) (n place : ℕ) (old new : Locals) → AreLocalsOf net gates old → AreShared net new.shared.items
     → ((m p : ℕ) → HasDiagram net old.shared.items m p → HasDiagram net new.shared.items m p) → new.places.items ≡ old.places.items ++ place ∷ [] → HasDiagram net new.shared.items n place

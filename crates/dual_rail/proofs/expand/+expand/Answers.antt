@@ -49,3 +49,9 @@ pub expand-returns-clause-full : goal.expand-returns-clause-full
 expand-returns-clause-full t c is_full =
     let are : AreBranches c.args.rows.now c.args.plane c.branch-alloc-2.new.store c.args.live.pin c.args.live.rows.items c.in_ok-low.low c.in_ok-high.high = record { at_zero = IsExpansion-kept c.branch-alloc-2.ensures.keeps c.in_ok-low.ensures.node; at_one = c.in_ok-high.ensures.node } in
     c.join.ensures.full c.args.rows.now c.args.plane are is_full
+
+pub expand-returns-in_err-high-clause-keeps : goal.expand-returns-in_err-high-clause-keeps
+expand-returns-in_err-high-clause-keeps t c = KeepsNodes-chain c.branch-alloc.ensures.keeps c.branch-alloc-2.ensures.keeps
+
+pub expand-returns-clause-keeps : goal.expand-returns-clause-keeps
+expand-returns-clause-keeps t c = KeepsNodes-chain (KeepsNodes-chain c.branch-alloc.ensures.keeps c.branch-alloc-2.ensures.keeps) c.join.ensures.keeps

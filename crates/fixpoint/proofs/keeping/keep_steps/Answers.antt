@@ -1,10 +1,10 @@
-use Rattle.std.proofs.Common.{◌≡◌, ◌++◌, ◌∷◌, [], List, map, get_or, ap, sym, ◌∙◌, subst}
-use Rattle.std.proofs.lemmas.List.{get_or_default}
+use Rattle.std.proofs.Common.{◌≡◌, ◌++◌, ◌∷◌, [], List, map, get_or, ap, sym, ◌∙◌, subst, arith}
+use Rattle.std.proofs.lemmas.List.{get_or_default, take_all}
 use Rattle.std.specs.List.{All}
 use Rattle.dual_rail.specs.Rails.{AreRailsOf}
 use Rattle.fixpoint.specs.declared.kept.KeptRails.{KeptRails}
 use Rattle.fixpoint.specs.Kept.{rails_under, AreKept}
-use Rattle.fixpoint.proofs.KeptLemmas.{GainsRoots-chain, All-rails-gained, lists-more, lists-under-more}
+use Rattle.fixpoint.proofs.KeptLemmas.{GainsRoots-refl, GainsRoots-chain, All-rails-gained, lists-more, lists-under-more}
 use Rattle.fixpoint.proofs.keeping.keep_steps.Goals as goal
 
 pub keep_rails-requires : goal.keep_rails-requires
@@ -25,3 +25,25 @@ loop-step-preserved c =
       steps = ap (map (map (rails_under c.keep_rails.new.d))) items
           ∙ lists-under-more c.in_ok-kept.ensures.gains c.args.steps.now c.loop-step.list.items c.loop-step.step-index kept.items [] c.loop-step-test.true inv.keys inv.steps c.in_ok-kept.ensures.kept is;
     }
+
+pub loop-step-init : goal.loop-step-init
+loop-step-init c = record {
+  gains = GainsRoots-refl c.args.d.now;
+  keys = subst (All (All (AreKept c.args.d.now))) (sym c.in_ok-list.ensures.items) (λ i none less. absurd (omega (arith, less)));
+  steps = ap (map (map (rails_under c.args.d.now))) c.in_ok-list.ensures.items;
+}
+
+pub returns-in_err-kept-clause-gains : goal.returns-in_err-kept-clause-gains
+returns-in_err-kept-clause-gains c = GainsRoots-chain c.loop-step.invariant.gains c.keep_rails.ensures.gains
+
+pub returns-in_err-push-clause-gains : goal.returns-in_err-push-clause-gains
+returns-in_err-push-clause-gains c = GainsRoots-chain c.loop-step.invariant.gains c.in_ok-kept.ensures.gains
+
+pub returns-clause-keys : goal.returns-clause-keys
+returns-clause-keys c = c.loop-step.invariant.keys
+
+pub returns-clause-steps : goal.returns-clause-steps
+returns-clause-steps c = c.loop-step.invariant.steps ∙ take_all c.loop-step.step-index c.args.steps.now c.loop-step-test.false
+
+pub returns-clause-gains : goal.returns-clause-gains
+returns-clause-gains c = c.loop-step.invariant.gains

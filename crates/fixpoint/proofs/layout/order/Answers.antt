@@ -1,10 +1,11 @@
-use Rattle.std.proofs.Common.{◌≡◌, ◌∙◌, ◌+◌, ◌++◌, ℕ, Bool, List, length, drop, sym, ap, subst, arith}
+use Rattle.std.proofs.Common.{◌≡◌, ◌∙◌, ◌+◌, ◌++◌, [], ℕ, Bool, List, false, length, drop, take, replicate, sym, ap, ap₂, subst, arith}
 use Rattle.std.specs.List.{range_with_len}
-use Rattle.std.proofs.lemmas.List.{take_at}
+use Rattle.std.proofs.lemmas.List.{append-nil, length-replicate, take_all, take_at}
 use Rattle.bdd_ops.specs.Least.{IsLayout}
+use Rattle.cyc_base.specs.declared.sig.Sig.{Sig}
 use Rattle.loops.specs.Sweeps.{first_gate}
-use Rattle.fixpoint.specs.Orders.{columns_read, order, AreTaken}
-use Rattle.fixpoint.proofs.OrderLemmas.{columns-more, order-is}
+use Rattle.fixpoint.specs.Orders.{columns_read, first_signals, order, AreTaken}
+use Rattle.fixpoint.proofs.OrderLemmas.{columns-more, gate-more, order-is, taken-none}
 use Rattle.fixpoint.proofs.layout.order.Goals as goal
 
 pub loop-column-preserved : goal.loop-column-preserved
@@ -34,3 +35,45 @@ returns-clause-layout c =
     let taken = subst (λ n. AreTaken (columns_read (first_gate net) net.gates ++ range_with_len 0 n) c.loop-column.marks.items c.loop-column.columns.items) all c.loop-column.invariant.taken in
     let is : c.loop-column.columns.items ≡ order net = taken.taken in
     subst (IsLayout (first_gate net)) (sym is) (order-is net)
+
+pub loop-gate-init : goal.loop-gate-init
+loop-gate-init c =
+    let number : ℕ = c.inputs.result + c.latches.result in
+    let marks : c.in_ok-marks.marks.items ≡ replicate number false = c.in_ok-marks.ensures.items_if_clones_equal (λ y e. e) in
+    record {
+      width = ap length marks ∙ length-replicate number false ∙ omega (arith, c.inputs.ensures.inputs, c.latches.ensures.latches);
+      taken = subst (λ (columns : List ℕ). AreTaken [] c.in_ok-marks.marks.items columns) (sym c.in_ok-columns.ensures.items)
+          (subst (λ (ms : List Bool). AreTaken [] ms []) (sym marks) (taken-none number));
+    }
+
+pub loop-gate-preserved : goal.loop-gate-preserved
+loop-gate-preserved c =
+    let net = c.args.net.now in
+    let n : ℕ = first_gate net in
+    let gate : ℕ = c.loop-gate.gate in
+    let marks : List Bool = c.take_read.new.marks in
+    let items : List Bool = c.loop-gate.marks.items in
+    let value : c.deref_mut.result.now ≡ items = c.deref_mut.ensures.value in
+    let width : length marks ≡ n = c.in_ok-take_read.ensures.width ∙ ap length value ∙ c.loop-gate.invariant.width in
+    let old : length c.deref_mut.result.now ≡ n = ap length value ∙ c.loop-gate.invariant.width in
+    let long : length marks ≡ c.loop-gate.marks.len = c.in_ok-take_read.ensures.width ∙ c.deref_mut.ensures.len in
+    let back = take_at marks (drop (length marks) items) c.loop-gate.marks.len long in
+    let before : AreTaken (columns_read n (take gate net.gates)) c.deref_mut.result.now c.loop-gate.columns.items =
+    subst (λ (ms : List Bool). AreTaken (columns_read n (take gate net.gates)) ms c.loop-gate.columns.items) (sym value) c.loop-gate.invariant.taken in
+    let more : columns_read n (take gate net.gates) ++ first_signals (length c.deref_mut.result.now) c.items.result.now ≡ columns_read n (take (gate + 1) net.gates) =
+    ap₂ (λ m (ps : List Sig). columns_read n (take gate net.gates) ++ first_signals m ps) old c.items.ensures ∙ sym (gate-more n net.gates gate c.gate.result.now c.gate.ensures.gate) in
+    record {
+      width = ap length back ∙ width;
+      taken = subst (λ (ms : List Bool). AreTaken (columns_read n (take (gate + 1) net.gates)) ms c.take_read.new.columns.items) (sym back)
+          (subst (λ (xs : List ℕ). AreTaken xs marks c.take_read.new.columns.items) more (c.in_ok-take_read.ensures.taken (columns_read n (take gate net.gates)) before));
+    }
+
+pub loop-column-init : goal.loop-column-init
+loop-column-init c =
+    let net = c.args.net.now in
+    let all : take c.loop-gate.gate net.gates ≡ net.gates = take_all c.loop-gate.gate net.gates (omega (arith, c.loop-gate-test.false, c.gates-gate-end.ensures.gates)) in
+    record {
+      width = c.loop-gate.invariant.width;
+      taken = subst (λ (xs : List ℕ). AreTaken xs c.loop-gate.marks.items c.loop-gate.columns.items) (ap (columns_read (first_gate net)) all ∙ sym (append-nil (columns_read (first_gate net) net.gates)))
+          c.loop-gate.invariant.taken;
+    }

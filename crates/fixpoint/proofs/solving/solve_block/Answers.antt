@@ -1,4 +1,4 @@
-use Rattle.std.proofs.Common.{◌+◌, ◌*◌, length, ◌≡◌, ◌∙◌, ℕ, List, false, sym, ap, ap₂, get_or}
+use Rattle.std.proofs.Common.{◌+◌, ◌*◌, length, ◌≡◌, ◌∙◌, ℕ, List, false, sym, ap, ap₂, subst, get_or, arith}
 use Rattle.std.proofs.lemmas.List.{get_or_default}
 use Rattle.bdd_store.specs.Growth.{GrowsWithin}
 use Rattle.dual_rail.specs.Local.{size}
@@ -10,7 +10,7 @@ use Rattle.bdd_store.proofs.GrowthLemmas.{within_moved, within_more, within_refu
 use Rattle.fixpoint.proofs.BoundLemmas.{plain-bounds, plain-cost, gate-few}
 use Rattle.loops.specs.declared.structure.Block.{Block}
 use Rattle.loops.specs.Blocks.{block_at, home_of, no_block}
-use Rattle.fixpoint.specs.Sweeping.{vectors}
+use Rattle.fixpoint.specs.Sweeping.{vectors, IsSolvedBelow, AreFresh}
 use Rattle.fixpoint.proofs.BlockLemmas.{plain-solved}
 use Rattle.fixpoint.proofs.solving.solve_block.Goals as goal
 use Rattle.fixpoint.proofs.solving.solve_block.Goals.{After-set_gate}
@@ -44,3 +44,30 @@ returns-clause-grows c = within_answered (gate-set ((goal.at.returns-clause-grow
 
 pub returns-in_err-set_gate-clause-grows : goal.returns-in_err-set_gate-clause-grows
 returns-in_err-set_gate-clause-grows c = within_refused c.in_err-set_gate.was c.from_residual-in_err-set_gate.ensures.1 (gate-set ((goal.at.returns-in_err-set_gate-clause-grows c).After-set_gate))
+
+pub solve_loop-requires-clause-solved : goal.solve_loop-requires-clause-solved
+solve_loop-requires-clause-solved c =
+    subst (λ (b : ℕ). IsSolvedBelow c.args.net.now c.args.blocks.now c.args.cut.now c.args.d.now (vectors c.args.net.now c.args.d.now c.args.rails.now) b c.args.before.now c.args.rails.now)
+    (ap (λ (hs : List ℕ). get_or hs c.args.gate 0) (sym c.items.ensures)) c.requires.solved
+
+pub solve_loop-requires-clause-fresh : goal.solve_loop-requires-clause-fresh
+solve_loop-requires-clause-fresh c =
+    subst (λ (b : ℕ). AreFresh c.args.net.now c.args.blocks.now b c.args.before.now) (ap (λ (hs : List ℕ). get_or hs c.args.gate 0) (sym c.items.ensures)) c.requires.fresh
+
+pub returns-then-items-place-clause-steps : goal.returns-then-items-place-clause-steps
+returns-then-items-place-clause-steps c = (c.in_ok-steps.ensures.steps, c.in_ok-steps.ensures.block ∙ ap (λ (hs : List ℕ). get_or hs c.args.gate 0) c.items.ensures)
+
+pub returns-then-items-place-clause-solved : goal.returns-then-items-place-clause-solved
+returns-then-items-place-clause-solved c =
+    subst (λ (b : ℕ). IsSolvedBelow c.args.net.now c.args.blocks.now c.args.cut.now c.solve_loop.new.d (vectors c.args.net.now c.args.d.now c.args.rails.now) (b + 1) c.solve_loop.new.before c.solve_loop.new.rails)
+    (ap (λ (hs : List ℕ). get_or hs c.args.gate 0) c.items.ensures) c.in_ok-steps.ensures.solved
+
+pub returns-then-items-place-clause-fresh : goal.returns-then-items-place-clause-fresh
+returns-then-items-place-clause-fresh c =
+    subst (λ (b : ℕ). AreFresh c.args.net.now c.args.blocks.now (b + 1) c.solve_loop.new.before) (ap (λ (hs : List ℕ). get_or hs c.args.gate 0) c.items.ensures) c.in_ok-steps.ensures.fresh
+
+pub set_gate-requires-clause-wires : goal.set_gate-requires-clause-wires
+set_gate-requires-clause-wires c = c.requires.solved.wires
+
+pub returns-clause-fresh : goal.returns-clause-fresh
+returns-clause-fresh c n within later = c.requires.fresh n within (omega (arith, later))

@@ -1,0 +1,23 @@
+use Rattle.std.proofs.Common.{ℕ, List, take, sym, subst}
+use Rattle.std.proofs.lemmas.List.{take_all, take_more}
+use Rattle.fixpoint.specs.Plans.{AreLocalsOf}
+use Rattle.fixpoint.proofs.PlanLemmas.{locals-none}
+use Rattle.fixpoint.proofs.locals.Locals.of.Goals as goal
+
+pub loop-gate-init : goal.loop-gate-init
+loop-gate-init c = locals-none c.args.net.now (record { shared = c.new.result; places = c.new-2.result; latest = c.new-3.result }) c.new.ensures.items c.new-2.ensures.items
+
+pub add_local-requires-clause-gate : goal.add_local-requires-clause-gate
+add_local-requires-clause-gate c = c.requires.gates c.loop-gate.gate-index 0 c.loop-gate-test.true
+
+pub add_local-requires-clause-shared : goal.add_local-requires-clause-shared
+add_local-requires-clause-shared c = c.loop-gate.invariant.shared
+
+pub loop-gate-preserved : goal.loop-gate-preserved
+loop-gate-preserved c =
+    subst (λ (gates : List ℕ). AreLocalsOf c.args.net.now gates c.add_local.new.locals) (sym (take_more c.args.gates.now c.loop-gate.gate-index 0 c.loop-gate-test.true))
+    (c.in_ok-add_local.ensures.locals (take c.loop-gate.gate-index c.args.gates.now) c.loop-gate.invariant)
+
+pub returns-clause-locals : goal.returns-clause-locals
+returns-clause-locals c =
+    subst (λ (gates : List ℕ). AreLocalsOf c.args.net.now gates c.loop-gate.locals) (take_all c.loop-gate.gate-index c.args.gates.now c.loop-gate-test.false) c.loop-gate.invariant
