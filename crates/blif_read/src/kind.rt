@@ -1,8 +1,8 @@
 ghost use Rattle.std.specs.Prelude.{◌≡◌, ◌<◌, length};
-ghost use Rattle.std.specs.Str.{bytes_eq};
 ghost use Rattle.blif_read.specs.Kinds.{begins_with_dot, is_left_out, is_read_over, directive_of, kind_of, kind};
 ghost use Rattle.blif_text.specs.Lines.{line_at};
 
+use crate::words::is;
 use blif_text::Lines;
 
 // What a line is by its first word.
@@ -29,12 +29,6 @@ fn begins_with_dot(word: &[u8]) -> bool
         [b, ..] => *b == b'.',
         [] => false,
     }
-}
-
-fn is(word: &[u8], directive: &[u8]) -> bool
-    ensures { result ≡ bytes_eq word.now directive.now }
-{
-    word == directive
 }
 
 // Whether the profile leaves the directive out.

@@ -10,7 +10,7 @@ ghost use Rattle.blif_read.specs.Answers.{Reads};
 use crate::fault::BlifFault;
 use crate::models::LatchLine;
 use crate::statement::Statement;
-use crate::words::name_of;
+use crate::words::{is, name_of};
 use blif_text::Lines;
 use netlist::{Clock, Edge, Init};
 use std::alloc::{AllocError, Global};
@@ -18,22 +18,19 @@ use std::alloc::{AllocError, Global};
 fn is_edge_type(word: &[u8]) -> bool
     ensures { result ≡ is_edge_type word.now }
 {
-    word == b"re".as_slice() || word == b"fe".as_slice()
+    is(word, b"re") || is(word, b"fe")
 }
 
 fn is_level_type(word: &[u8]) -> bool
     ensures { result ≡ is_level_type word.now }
 {
-    word == b"ah".as_slice() || word == b"al".as_slice() || word == b"as".as_slice()
+    is(word, b"ah") || is(word, b"al") || is(word, b"as")
 }
 
 fn is_init(word: &[u8]) -> bool
     ensures { result ≡ is_init word.now }
 {
-    word == b"0".as_slice()
-        || word == b"1".as_slice()
-        || word == b"2".as_slice()
-        || word == b"3".as_slice()
+    is(word, b"0") || is(word, b"1") || is(word, b"2") || is(word, b"3")
 }
 
 fn check_typed(line: u64, trigger: &[u8], init_is_good: bool) -> Result<(), BlifFault>
@@ -67,7 +64,7 @@ fn check_latch(lines: &Lines, i: usize) -> Result<(), BlifFault>
 fn edge_of(word: &[u8]) -> Edge
     ensures { result ≡ edge_of word.now }
 {
-    if word == b"re".as_slice() {
+    if is(word, b"re") {
         Edge::Rise
     } else {
         Edge::Fall
@@ -77,10 +74,10 @@ fn edge_of(word: &[u8]) -> Edge
 fn init_of(word: &[u8]) -> Init
     ensures { result ≡ init_of word.now }
 {
-    if word == b"0".as_slice() {
+    if is(word, b"0") {
         return Init::Zero;
     }
-    if word == b"1".as_slice() {
+    if is(word, b"1") {
         return Init::One;
     }
     Init::Either
@@ -89,7 +86,7 @@ fn init_of(word: &[u8]) -> Init
 fn control_of(alloc: Global, edge: Edge, word: &[u8]) -> Result<Option<Clock>, AllocError>
     ensures { IfOk result (λ control. control ≡ control_of edge word.now) }
 {
-    if word == b"NIL".as_slice() {
+    if is(word, b"NIL") {
         return Ok(None);
     }
     let name = name_of(alloc, word)?;

@@ -11,6 +11,7 @@ ghost use Rattle.blif_read.specs.Answers.{Reads};
 use crate::fault::BlifFault;
 use crate::place::Place;
 use crate::statement::Statement;
+use crate::words::is;
 use blif_text::Lines;
 use cover_logic::{Lit, Row};
 use cyc_base::Items;
@@ -19,7 +20,7 @@ use std::alloc::{AllocError, Global};
 fn is_plane(word: &[u8]) -> bool
     ensures { result ≡ is_plane word.now }
 {
-    word == b"0".as_slice() || word == b"1".as_slice()
+    is(word, b"0") || is(word, b"1")
 }
 
 fn all_lits(word: &[u8]) -> bool
@@ -51,7 +52,7 @@ fn is_on(lines: &Lines, i: usize) -> bool
     ensures { result ≡ is_on (line_at lines.now i) }
 {
     let words = lines.words(i);
-    words != 0 && lines.word(i, words - 1) == b"1".as_slice()
+    words != 0 && is(lines.word(i, words - 1), b"1")
 }
 
 fn differs(first: Option<bool>, plane: bool) -> bool

@@ -1,5 +1,5 @@
 // `.subckt` lines.
-ghost use Rattle.std.specs.Prelude.{◌≡◌, ◌<◌, ◌≤◌, IfOk, length, drop};
+ghost use Rattle.std.specs.Prelude.{◌≡◌, ◌<◌, ◌≤◌, IfOk, length, drop, map};
 ghost use Rattle.std.specs.List.{list_all, position_or_len};
 ghost use Rattle.std.specs.Result.{result_err};
 ghost use Rattle.blif_text.specs.Lines.{line_at};
@@ -86,18 +86,27 @@ fn pair_of(alloc: Global, word: &[u8]) -> Result<(Name, Name), AllocError>
     Ok((formal, actual))
 }
 
-#[tactic(auto, using(crate::proofs::PartLemmas::pair_next, crate::proofs::PartLemmas::pair_none, crate::proofs::PartLemmas::pair_all))]
+#[tactic(auto, using(crate::proofs::PartLemmas::pair_none, crate::proofs::PartLemmas::pair_all))]
+// The pairs, which are the words from the third on.
+fn pairs_of(alloc: Global, lines: &Lines, i: usize) -> Result<Items<(Name, Name)>, AllocError>
+    requires line { i < length lines.now }
+    requires words { 2 ≤ length (line_at lines.now i).words }
+    ensures { IfOk result (λ pairs. pairs ≡ map pair_of (drop 1 (arguments (line_at lines.now i)))) }
+{
+    let mut pairs = Vec::with_capacity(alloc, lines.words(i) - 2)?;
+    for k in 2..lines.words(i) {
+        pairs.push(pair_of(alloc, lines.word(i, k))?)?;
+    }
+    Ok(Items::of(pairs))
+}
+
 fn part_of(alloc: Global, lines: &Lines, i: usize) -> Result<PartLine, AllocError>
     requires line { i < length lines.now }
     requires words { 2 ≤ length (line_at lines.now i).words }
     ensures { IfOk result (λ part. part ≡ part_of (arguments (line_at lines.now i))) }
 {
     let model = name_of(alloc, lines.word(i, 1))?;
-    let mut pairs = Vec::with_capacity(alloc, lines.words(i) - 2)?;
-    for k in 2..lines.words(i) {
-        pairs.push(pair_of(alloc, lines.word(i, k))?)?;
-    }
-    let pairs = Items::of(pairs);
+    let pairs = pairs_of(alloc, lines, i)?;
     Ok(PartLine { model, pairs })
 }
 

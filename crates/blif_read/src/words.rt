@@ -1,11 +1,19 @@
 // Words of a line as names.
 ghost use Rattle.std.specs.Prelude.{◌≡◌, ◌<◌, ◌≤◌, IfOk, length, slice_range};
+ghost use Rattle.std.specs.Str.{bytes_eq};
 ghost use Rattle.blif_text.specs.Lines.{line_at};
 ghost use Rattle.blif_read.specs.Kinds.{arguments, word_at};
 
 use blif_text::Lines;
 use cyc_base::{Items, Name};
 use std::alloc::{AllocError, Global};
+
+// Whether a word is this one.
+pub fn is(word: &[u8], other: &[u8]) -> bool
+    ensures { result ≡ bytes_eq word.now other.now }
+{
+    word == other
+}
 
 // The name that has these bytes.
 pub fn name_of(alloc: Global, bytes: &[u8]) -> Result<Name, AllocError>
@@ -14,7 +22,7 @@ pub fn name_of(alloc: Global, bytes: &[u8]) -> Result<Name, AllocError>
     Ok(Name::new(bytes.to_vec(alloc)?))
 }
 
-#[tactic(auto, using(crate::proofs::WordLemmas::slice_more, crate::proofs::WordLemmas::slice_none))]
+#[tactic(auto, using(crate::proofs::WordLemmas::slice_none))]
 // The words of a line from one place up to another.
 pub fn names_between(
     alloc: Global,

@@ -28,8 +28,7 @@ impl Drop for Scope {
 fn joined(alloc: Global, first: &Name, second: &Name) -> Result<Name, AllocError>
     ensures { IfOk result (λ name. name ≡ first.now ++ second.now) }
 {
-    let mut bytes = Vec::with_capacity(alloc, first.bytes().len())?;
-    bytes.extend_from_slice(first.bytes())?;
+    let mut bytes = first.bytes().to_vec(alloc)?;
     bytes.extend_from_slice(second.bytes())?;
     Ok(Name::new(bytes))
 }
@@ -65,8 +64,7 @@ pub(crate) fn inner_prefix(
     ensures { IfOk result (λ inner. inner ≡ prefix.now ++ (decimal number ++ mark.now)) }
 {
     let digits = format!(in alloc; "{number}")?;
-    let mut bytes = Vec::new(alloc);
-    bytes.extend_from_slice(prefix.bytes())?;
+    let mut bytes = prefix.bytes().to_vec(alloc)?;
     bytes.extend_from_slice(digits.as_bytes())?;
     bytes.extend_from_slice(mark.bytes())?;
     Ok(Name::new(bytes))

@@ -37,12 +37,22 @@ impl Drop for Level {
 
 /// How far the walk is: the levels that are open with the top first, the lines so far, and how many gates,
 /// latches and instances may still come.
-#[derive(Drop)]
 pub(crate) struct Walk {
     pub(crate) levels: Vec<Level>,
     pub(crate) latches: Vec<LatchLine>,
     pub(crate) gates: Vec<GateLine>,
     pub(crate) room: u32,
+}
+
+impl Drop for Walk {
+    fn drop(self) {
+        let Walk {
+            levels: _,
+            latches: _,
+            gates: _,
+            room: _,
+        } = self;
+    }
 }
 
 fn item_at(models: &[BlifModel], model: usize, next: usize) -> Option<&Item>
@@ -241,6 +251,21 @@ impl Drop for FlatBody {
     }
 }
 
+impl Walk {
+    /// The lines, where the walk is over.
+    fn into_body(self) -> FlatBody
+        ensures { lines_of result ≡ record { latches = self.latches.items; gates = self.gates.items } }
+    {
+        let Walk {
+            levels: _,
+            latches,
+            gates,
+            room: _,
+        } = self;
+        FlatBody { latches, gates }
+    }
+}
+
 fn begun(alloc: Global, model: usize, room: u32) -> Result<Walk, AllocError>
     ensures { IfOk result (λ walk. IsBegun model room walk) }
 {
@@ -286,8 +311,5 @@ pub(crate) fn flat_lines(
     while let Some(level) = walk.levels.pop() {
         step(alloc, models, library, mark, depth, &mut walk, level)?;
     }
-    Ok(FlatBody {
-        latches: walk.latches,
-        gates: walk.gates,
-    })
+    Ok(walk.into_body())
 }

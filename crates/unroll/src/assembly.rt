@@ -72,8 +72,9 @@ fn kept_outputs(alloc: Global, net: &Netlist, by: u32) -> Result<Vec<Sig>, Alloc
     requires { count net.now + by ≤ 4294967295 }
     ensures { IfOk result (λ outputs. outputs.items ≡ map (moved_by net.now by) net.now.outputs) }
 {
-    let mut outputs = Vec::with_capacity(alloc, net.outputs().len())?;
-    for output in net.outputs() {
+    let own = net.outputs();
+    let mut outputs = Vec::with_capacity(alloc, own.len())?;
+    for output in own {
         outputs.push(moved(net, by, *output))?;
     }
     Ok(outputs)

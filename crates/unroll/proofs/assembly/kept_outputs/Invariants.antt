@@ -3,4 +3,4 @@ use Rattle.unroll.specs.Unrolled.{moved}
 use Rattle.unroll.proofs.assembly.kept_outputs.Given as goal
 
 abbrev pub invariant-loop-output : goal.invariant-loop-output
-invariant-loop-output l = l.outputs.items ≡ map (moved l.net l.by) (take l.output-index l.net.outputs)
+invariant-loop-output l = l.outputs.items ≡ map (moved l.net l.by) (take l.output-index l.own)
