@@ -53,3 +53,9 @@ returns-in-Ask-clause-parts c root nodes turn = NewAreParts-taken c.args.operati
 
 pub returns-clause-ok : goal.returns-clause-ok
 returns-clause-ok c root nodes turn = subst (λ ws. IsTurn c.args.operation c.loop-question.store root (reverse ws) (Answer c.loop-question.answer)) (c.in_default.ensures.items ∙ append-nil c.pop.new.self.items) (c.loop-question.invariant.turn root nodes turn)
+
+pub returns-clause-keeps : goal.returns-clause-keeps
+returns-clause-keeps c = c.loop-question.invariant.keeps
+
+pub returns-clause-parts : goal.returns-clause-parts
+returns-clause-parts c = c.loop-question.invariant.parts

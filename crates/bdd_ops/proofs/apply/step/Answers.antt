@@ -1,5 +1,5 @@
 use Rattle.std.proofs.Common.{reverse, subst}
-use Rattle.bdd_ops.specs.Turns.{IsTurn}
+use Rattle.bdd_ops.specs.Turns.{IsTurn, IsTurnOfSome}
 use Rattle.bdd_ops.proofs.ChainLemmas.{asked-turn, IsChain-nodes}
 use Rattle.bdd_ops.proofs.apply.step.Goals as goal
 
@@ -10,3 +10,12 @@ ask-requires-clause-nodes c =
 
 pub returns-in-Answer-clause-ok : goal.returns-in-Answer-clause-ok
 returns-in-Answer-clause-ok c root nodes turn = c.ascend.ensures.ok root nodes (subst (IsTurn c.args.operation c.args.store.now root (reverse c.args.waiting.now.items)) c.in-Answer.is turn)
+
+pub ascend-requires-clause-turn : goal.ascend-requires-clause-turn
+ascend-requires-clause-turn c = subst (IsTurnOfSome c.args.operation c.args.store.now (reverse c.args.waiting.now.items)) c.in-Answer.is c.requires.turn
+
+pub returns-in-Answer-clause-parts : goal.returns-in-Answer-clause-parts
+returns-in-Answer-clause-parts c root nodes turn = c.ascend.ensures.parts root nodes (subst (IsTurn c.args.operation c.args.store.now root (reverse c.args.waiting.now.items)) c.in-Answer.is turn)
+
+pub returns-in-Answer-clause-full : goal.returns-in-Answer-clause-full
+returns-in-Answer-clause-full c root nodes turn = c.ascend.ensures.full root nodes (subst (IsTurn c.args.operation c.args.store.now root (reverse c.args.waiting.now.items)) c.in-Answer.is turn)

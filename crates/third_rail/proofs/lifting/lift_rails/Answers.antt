@@ -74,3 +74,18 @@ returns-clause-fits c cover is bits values width fits =
     subst (Fits (claim_of c.loop-position.d c.rails_of_node.result bits))
     (exact-alike (function c.args.local.now) (value cover) values (λ bs len. is.function bs (len ∙ width)))
     (lift.fits bits values (subst (λ (cs : List Claim). EachFits cs values) (sym (claims_of-kept c.loop-position.invariant.keeps c.args.pins.now c.requires.rails bits)) fits))
+
+pub lift_node-requires-clause-table : goal.lift_node-requires-clause-table
+lift_node-requires-clause-table c = subst (IsTable c.args.local.now c.loop-position.d c.args.pins.now) (sym c.deref.ensures.value) c.loop-position.invariant.table
+
+pub lift_node-requires-clause-rails : goal.lift_node-requires-clause-rails
+lift_node-requires-clause-rails c = All-nodes-kept c.loop-position.invariant.keeps c.args.pins.now c.requires.rails
+
+pub returns-in_err-rails-clause-keeps : goal.returns-in_err-rails-clause-keeps
+returns-in_err-rails-clause-keeps c = KeepsNodes-chain c.loop-position.invariant.keeps c.lift_node.ensures.keeps
+
+pub returns-in_err-push-clause-keeps : goal.returns-in_err-push-clause-keeps
+returns-in_err-push-clause-keeps c = KeepsNodes-chain c.loop-position.invariant.keeps c.lift_node.ensures.keeps
+
+pub returns-clause-keeps : goal.returns-clause-keeps
+returns-clause-keeps c = c.loop-position.invariant.keeps
