@@ -2,7 +2,7 @@ use cyc_base::{Bits, Sig};
 
 /// Why a netlist is refused on a care set. The columns of a vector are the netlist's inputs, and then its
 /// latches.
-#[derive(Debug, Drop)]
+#[derive(Debug)]
 pub enum Refusal {
     /// The inits permit this state, and it isn't in the invariant.
     Initial { state: Bits },
@@ -12,4 +12,15 @@ pub enum Refusal {
     Undetermined { vector: Bits, wire: Sig },
     /// The latches' next state after this care vector isn't in the invariant.
     Leaves { vector: Bits, next: Bits },
+}
+
+impl Drop for Refusal {
+    fn drop(self) {
+        match self {
+            Refusal::Initial { state: _ } => {}
+            Refusal::EmptyCare => {}
+            Refusal::Undetermined { vector: _, wire: _ } => {}
+            Refusal::Leaves { vector: _, next: _ } => {}
+        }
+    }
 }

@@ -22,6 +22,7 @@ use Rattle.care_sets.specs.Care.{CareSet, columns, is_one, is_care_vector}
 use Rattle.refusals.specs.Refusals.{is_x}
 use Rattle.refusals.proofs.RefusalLemmas.{bits_back, length-bits}
 use Rattle.verdict.specs.Sets.{Tells}
+use Rattle.verdict.specs.Solving.{AreColumnVectors, fit}
 use Rattle.isolation.specs.Columns.{AreColumns}
 use Rattle.fixpoint.specs.Orders.{order, laid}
 use Rattle.fixpoint.proofs.LayoutLemmas.{by_column, length-by_column, variables-back}
@@ -30,12 +31,6 @@ use Rattle.fixpoint.specs.Solved.{Vectors}
 use Rattle.verdict.specs.Verdicts.{are_care_values}
 
 -- ---- lists of any length
-
--- the first bits of a list, with 0 where it has none
-pub fit : ℕ → List Bool → List Bool
-fit zero bs = []
-fit (suc n) [] = false ∷ fit n []
-fit (suc n) (b ∷ bs) = b ∷ fit n bs
 
 pub length-fit : (n : ℕ) (bs : List Bool) → length (fit n bs) ≡ n
 unfolding fit
@@ -79,12 +74,6 @@ pub values_of-fit : (a : Arena) → IsSound a.vars a.entries → (rails : List R
 values_of-fit a sound rails bs =
     map_agree (λ r. value_of a r (fit a.vars bs)) (λ r. value_of a r bs) rails
     (λ k d less. ap₂ trit_of (den-fit a sound (get_or rails k d).one bs) (den-fit a sound (get_or rails k d).zero bs))
-
--- vectors that are those of a netlist's columns, as laid on variables
-pub record AreColumnVectors (net : Parts) (points : Vectors) : Type 0 where
-  pub width : (bs : List Bool) → length (points bs) ≡ columns net
-  pub laid_are : (w : List Bool) → length w ≡ columns net → points (laid net w) ≡ bits w
-  pub fit_are : (bs : List Bool) → points (fit (columns net) bs) ≡ points bs
 
 pub column-vectors : (net : Parts) (a : Arena) (given : List Rails) → IsSound a.vars a.entries → a.vars ≡ columns net → AreColumns a (order net) given → AreColumnVectors net (values_of a given)
 column-vectors net a given sound vars are = record {

@@ -45,7 +45,8 @@ use Rattle.verdict.specs.Counting.{AreKnownOn, AreSpread, AreConeCounts, AreCoun
 use Rattle.verdict.specs.Determination.{AreDeterminedOnCare, AreDecided, IsOpen}
 use Rattle.verdict.specs.Sets.{Tells}
 use Rattle.verdict.specs.Verdicts.{are_care_values}
-use Rattle.verdict.proofs.CountLemmas.{AreColumnVectors, count-on-care}
+use Rattle.verdict.specs.Solving.{AreColumnVectors}
+use Rattle.verdict.proofs.CountLemmas.{count-on-care}
 use Rattle.fixpoint.specs.Solved.{Vectors}
 
 -- ---- rails that are known on a set

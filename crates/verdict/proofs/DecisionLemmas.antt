@@ -34,7 +34,8 @@ use Rattle.verdict.specs.Enough.{IsOfDecision, IsLaid, IsColumn, SaysStart, Says
 use Rattle.verdict.specs.Next.{BoundsSignals}
 use Rattle.verdict.specs.Sets.{Tells, AreFixed, BoundsStarts, starts, has_state_inside, difference}
 use Rattle.verdict.proofs.CareLemmas.{value_at-place}
-use Rattle.verdict.proofs.CountLemmas.{fit, length-fit, fit-whole}
+use Rattle.verdict.specs.Solving.{fit}
+use Rattle.verdict.proofs.CountLemmas.{length-fit, fit-whole}
 use Rattle.verdict.proofs.PartLemmas.{unknown-values}
 
 -- at vectors by column of the netlist's width, h is made of one function of the decision

@@ -38,7 +38,7 @@ use Rattle.care_sets.specs.Care.{CareSet, columns, is_care_vector}
 use Rattle.verdict.specs.Enough.{IsLaid, IsColumn, SaysCare, IsOfNetlist}
 use Rattle.verdict.specs.Sets.{Tells}
 use Rattle.fixpoint.specs.Orders.{laid}
-use Rattle.verdict.proofs.CountLemmas.{AreColumnVectors}
+use Rattle.verdict.specs.Solving.{AreColumnVectors}
 use Rattle.verdict.proofs.DecisionLemmas.{IsMade, made-listed, made-told, made-wide}
 
 -- ---- the loops that blocks and a cut tell are those of the netlist

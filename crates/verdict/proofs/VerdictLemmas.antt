@@ -18,7 +18,7 @@ use Rattle.loops.specs.declared.structure.Cut.{Cut}
 use Rattle.fixpoint.specs.declared.solved.Solved.{Solved}
 use Rattle.fixpoint.specs.Kept.{rails_under}
 use Rattle.fixpoint.specs.Solved.{Vectors, IsSolution}
-use Rattle.verdict.proofs.CountLemmas.{AreColumnVectors}
+use Rattle.verdict.specs.Solving.{AreColumnVectors}
 use Rattle.care_sets.specs.Care.{CareSet, columns, state_of, is_allowed, is_care_vector}
 use Rattle.refusals.specs.declared.refusal.Refusal.{Refusal}
 use Rattle.refusals.specs.declared.refusal.Refusal.TheVariants.{EmptyCare}

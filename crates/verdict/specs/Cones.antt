@@ -1,7 +1,7 @@
 -- What is decided on the cones of some gates alone.
 use Rattle.std.specs.Prelude.{◌≡◌, ◌<◌, ◌+◌, ◌-◌, ℕ, Bool, true, List, length, map, All, Contains, Option, None, Some, IfSome, if◌then◌else◌}
 use Rattle.bdd_store.specs.declared.node.Node.{Node}
-use Rattle.bdd_store.specs.Arena.{Arena}
+use Rattle.bdd_store.specs.Arena.{Arena, IsNodeOf}
 use Rattle.cyc_base.specs.declared.trit.Trit.{Trit}
 use Rattle.cyc_base.specs.declared.trit.Trit.TheVariants.{Zero}
 use Rattle.cyc_base.specs.Values.{bits}
@@ -14,15 +14,16 @@ use Rattle.loops.specs.Blocks.{AreBlocksOf}
 use Rattle.loops.specs.Cuts.{IsCutOf}
 use Rattle.loops.specs.Sweeps.{first_gate, value_in}
 use Rattle.fixpoint.specs.Orders.{laid}
+use Rattle.fixpoint.specs.Solved.{Vectors, IsSolution}
 use Rattle.fixpoint.specs.Sweeping.{rails_at}
 use Rattle.isolation.specs.Cones.{cone_signals, is_marked}
 use Rattle.isolation.specs.Excerpts.{AreWhole, IsExcerpt}
 use Rattle.isolation.specs.Laws.{column_signals}
-use Rattle.care_sets.specs.Care.{CareSet, IsCareVector, is_in_invariant}
+use Rattle.care_sets.specs.Care.{CareSet, columns, IsCareVector, is_in_invariant}
 use Rattle.refusals.specs.Refusals.{leaves_refusal, next_state}
 use Rattle.refusals.specs.declared.refusal.Refusal.TheVariants as refusals
 use Rattle.verdict.specs.declared.cones.SolvedNetlist.{SolvedNetlist}
-use Rattle.verdict.specs.Solving.{IsFixpointOn}
+use Rattle.verdict.specs.Solving.{AreColumnVectors, IsFixpointOn}
 use Rattle.verdict.specs.declared.leaving.Step.{Step}
 use Rattle.verdict.specs.declared.leaving.Step.TheVariants as steps
 
@@ -43,6 +44,17 @@ pub record AreConeRails (net : Parts) (gates : List ℕ) (a : Arena) (rails : Li
   pub width : length rails ≡ first_gate net + length gates
   pub proper : All (AreRailsOf a) rails
   pub values : (v : List Bool) → length v ≡ a.vars → values_of a rails (laid net v) ≡ map (wire (fix net (bits v))) (cone_signals net gates)
+
+-- a cone that is solved at all vectors of the columns, beside a set of them
+pub record IsSolvedCone (net : Parts) (gates : List ℕ) (small : Parts) (a : Arena) (solved : SolvedNetlist) : Type 0 where
+  pub points : Vectors
+  pub points_are : AreColumnVectors net points
+  pub vars : a.vars ≡ columns net
+  pub blocks : AreBlocksOf small solved.blocks
+  pub cut : IsCutOf small solved.cut
+  pub solution : IsSolution small solved.blocks solved.cut a points solved.fixpoint.solved
+  pub rails : AreConeRails net gates a solved.fixpoint.rails
+  pub set : IsNodeOf a solved.fixpoint.set
 
 -- ---- the invariant's step
 

@@ -25,6 +25,14 @@ leaving_cost net care = 2 * length net.latches + 2 * invariant_effort care + 1
 abbrev pub later_cost : Parts → CareSet → ℕ
 later_cost net care = 2 * length net.gates + leaving_cost net care
 
+-- once the netlist is solved: these, and the sweeps that are counted
+abbrev pub solved_cost : Parts → CareSet → ℕ
+solved_cost net care = later_cost net care + 6 * length net.gates * (length net.gates + 2)
+
+-- the netlist solved, and then this
+abbrev pub whole_cost : Parts → CareSet → ℕ
+whole_cost net care = 10 * (length net.gates + 2) * effort net + solved_cost net care
+
 -- the whole decision: both rails of each column, whose nodes are fewer than two functions of w nodes have, and then its
 -- parts, with the fixpoint and the sweeps that are counted
 abbrev pub decision_cost : Parts → CareSet → ℕ

@@ -4,7 +4,7 @@ use Rattle.std.specs.Option.{option_map_or}
 use Rattle.bdd_store.specs.declared.node.Node.{Node}
 use Rattle.bdd_store.specs.Arena.{Arena}
 use Rattle.bdd_store.specs.declared.fault.StoreFault.{StoreFault}
-use Rattle.bdd_store.specs.Growth.{IsFullOnlyPast, GrowsWithin}
+use Rattle.bdd_store.specs.Growth.{IsFullOnlyPast, AddsWithin, GrowsWithin}
 use Rattle.bdd_ops.specs.Operations.{bit_at}
 use Rattle.cyc_base.specs.declared.trit.Trit.{Trit}
 use Rattle.cyc_base.specs.declared.trit.Trit.TheVariants.{X}
@@ -60,6 +60,10 @@ pub record IsLaid (net : Parts) (care : CareSet) (g : List Bool → Bool) : Type
 -- `Full` has no other cause than a large care model
 abbrev pub GrowsInDecision : {T : Type 0} → Result T StoreFault → Arena → Arena → Parts → CareSet → ℕ → Type 0
 GrowsInDecision result old new net care count = GrowsWithin result old new (HasModelOver care) (IsWide old.vars (IsLaid net care)) count
+
+-- what a part of a decision does that keeps no nodes but those of roots, where a cover of the netlist may be large too
+abbrev pub AddsInDecision : {T : Type 0} → Result T StoreFault → Arena → Arena → Parts → CareSet → ℕ → Type 0
+AddsInDecision result old new net care count = AddsWithin result old new (HasCoverOver net care) (IsWide (columns net) (IsLaid net care)) count
 
 -- w is wide for a decision on a care set that has these vectors
 pub record IsWideOn (net : Parts) (a : Arena) (set : Node) (w : ℕ) : Type 0 where

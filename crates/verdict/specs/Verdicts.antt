@@ -7,13 +7,15 @@ use Rattle.bdd_store.specs.declared.node.Node.{Node}
 use Rattle.bdd_store.specs.Arena.{Arena}
 use Rattle.cyc_base.specs.declared.trit.Trit.{Trit}
 use Rattle.netlist.specs.declared.parts.Parts.{Parts}
+use Rattle.netlist.specs.Netlists.{IsNetlist}
 use Rattle.loops.specs.declared.structure.Blocks.{Blocks}
 use Rattle.loops.specs.declared.structure.Cut.{Cut}
 use Rattle.loops.specs.declared.structure.SweepCounts.{SweepCounts}
 use Rattle.loops.specs.Blocks.{block_at, home_of}
-use Rattle.loops.specs.Cuts.{loops_by}
+use Rattle.loops.specs.Cuts.{IsCutOf, loops_by}
 use Rattle.loops.specs.Sweeps.{IsCountOfSweeps}
 use Rattle.fixpoint.specs.Counts.{count_at}
+use Rattle.fixpoint.specs.Solved.{Vectors, IsSolution}
 use Rattle.care_sets.specs.Care.{CareSet, columns, is_one, is_care_vector}
 use Rattle.refusals.specs.Acceptance.{Accepts}
 use Rattle.refusals.specs.Refusals.{is_x, initial_refusal, empty_refusal, undetermined_refusal, leaves_refusal, refusal, loose_gates}
@@ -25,7 +27,9 @@ use Rattle.verdict.specs.declared.beginning.Start.{Start}
 use Rattle.verdict.specs.declared.beginning.Start.TheVariants as starts
 use Rattle.verdict.specs.declared.verdict.Verdict.{Verdict}
 use Rattle.verdict.specs.declared.verdict.Verdict.TheVariants.{Accepted, Refused}
-use Rattle.verdict.specs.Sets.{Tells}
+use Rattle.verdict.specs.Sets.{AreFixed, Tells}
+use Rattle.verdict.specs.Solving.{AreColumnVectors}
+use Rattle.verdict.specs.declared.solving.Fixpoint.{Fixpoint}
 
 -- the values are known, and those of a care vector
 abbrev pub are_care_values : Parts → CareSet → List Trit → Bool
@@ -59,6 +63,17 @@ pub record IsCareStart (net : Parts) (care : CareSet) (a : Arena) (set : Node) :
   pub told : Tells net a set (is_care_vector net care)
   pub initial : initial_refusal net care ≡ None
   pub some : empty_refusal net care ≡ None
+
+-- a netlist that is solved at all vectors of its columns, beside a set of them
+pub record IsSolvedWhole (net : Parts) (blocks : Blocks) (a : Arena) (found : Fixpoint) : Type 0 where
+  pub cut : Cut
+  pub cut_is : IsCutOf net cut
+  pub points : Vectors
+  pub points_are : AreColumnVectors net points
+  pub valid : IsNetlist net
+  pub vars : a.vars ≡ columns net
+  pub solution : IsSolution net blocks cut a points found.solved
+  pub fixed : AreFixed net a found.rails
 
 -- how far the decision comes without the gates
 abbrev pub IsStart : Parts → CareSet → Arena → Start → Type 0

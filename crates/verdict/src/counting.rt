@@ -13,12 +13,12 @@ ghost use Rattle.care_sets.specs.Care.{CareSet, columns as columns_of, is_care_v
 ghost use Rattle.fixpoint.specs.Orders.{order as order_of};
 ghost use Rattle.isolation.specs.Columns.{AreColumns};
 ghost use Rattle.third_rail.specs.Knowing.{is_marked};
-ghost use Rattle.verdict.specs.Cones.{IsConeIn};
+ghost use Rattle.verdict.specs.Cones.{IsConeIn, IsSolvedCone};
 ghost use Rattle.verdict.specs.Counting.{AreCounted, AreKnownOn, AreSpread, IsCounted};
 ghost use Rattle.verdict.specs.Determination.{IsGate};
 ghost use Rattle.verdict.specs.Sets.{Tells};
 
-use crate::cones::{CONE_NODES, care_there, solve_on};
+use crate::cones::{CONE_NODES, SolvedNetlist, care_there, solve_on};
 use crate::sets::minus;
 use bdd_ops::Diagrams;
 use bdd_store::{Node, StoreFault};
@@ -33,7 +33,6 @@ use netlist::Netlist;
 use std::alloc::{AllocError, Global};
 
 /// What the cones of loops show of them on care.
-#[derive(Drop)]
 pub enum Counted {
     /// No gate there is unknown: for each block the sweeps that it needs, and 0 for one without a gate there.
     Sweeps(Items<u32>),
@@ -41,6 +40,16 @@ pub enum Counted {
     Unknown(u32),
     /// The cones were too large to see it.
     Undecided,
+}
+
+impl Drop for Counted {
+    fn drop(self) {
+        match self {
+            Counted::Sweeps(_) => {}
+            Counted::Unknown(_) => {}
+            Counted::Undecided => {}
+        }
+    }
 }
 
 /// Whether rails are known at each vector of a set.
@@ -130,6 +139,53 @@ fn spread_counts(
     Ok(counts)
 }
 
+/// The sweeps that the loops of a solved cone need on its set of vectors, where no gate of it is unknown there.
+fn count_known(
+    alloc: Global,
+    d: &mut Diagrams,
+    net: &Netlist,
+    blocks: &Blocks,
+    cone: &Cone,
+    solved: &SolvedNetlist,
+) -> Result<Counted, StoreFault>
+    requires blocks { AreBlocksOf net.now blocks.now }
+    requires cone { IsConeIn net.now cone.now.gates cone.now.netlist }
+    requires solved { IsSolvedCone net.now cone.now.gates cone.now.netlist d.old solved.now }
+    requires known { AreKnownOn d.old solved.now.fixpoint.set solved.now.fixpoint.rails (first_gate net.now) (length cone.now.gates) }
+    ensures { (care : CareSet) → Tells net.now d.old solved.now.fixpoint.set (is_care_vector net.now care) → IfOk result (IsCounted net.now blocks.now care cone.now.gates) }
+{
+    solutions();
+    d.store().laws();
+    let fixpoint = &solved.fixpoint;
+    let found = sweeps(alloc, d, &fixpoint.solved, &solved.blocks, fixpoint.set)?;
+    let counts = spread_counts(alloc, net, blocks, cone, &solved.blocks, &found)?;
+    Ok(Counted::Sweeps(Items::of(counts)))
+}
+
+/// The sweeps that the loops of a solved cone need on its set of vectors, or a gate of it that is unknown there.
+fn count_solved(
+    alloc: Global,
+    d: &mut Diagrams,
+    net: &Netlist,
+    blocks: &Blocks,
+    cone: &Cone,
+    solved: &SolvedNetlist,
+) -> Result<Counted, StoreFault>
+    requires blocks { AreBlocksOf net.now blocks.now }
+    requires cone { IsConeIn net.now cone.now.gates cone.now.netlist }
+    requires solved { IsSolvedCone net.now cone.now.gates cone.now.netlist d.old solved.now }
+    ensures { (care : CareSet) → Tells net.now d.old solved.now.fixpoint.set (is_care_vector net.now care) → IfOk result (IsCounted net.now blocks.now care cone.now.gates) }
+{
+    solutions();
+    d.store().laws();
+    let fixpoint = &solved.fixpoint;
+    let rails = fixpoint.rails.items();
+    if let Some(gate) = unknown_gate(d, net, cone.gates.items(), rails, fixpoint.set)? {
+        return Ok(Counted::Unknown(gate));
+    }
+    count_known(alloc, d, net, blocks, cone, solved)
+}
+
 /// The sweeps that the loops of a cone need on a set of vectors, or a gate of the cone that is unknown at one of them.
 fn count_cone(
     alloc: Global,
@@ -149,17 +205,7 @@ fn count_cone(
 {
     d.store().laws();
     let solved = solve_on(alloc, d, &cone.netlist, columns, set)?;
-    let fixpoint = &solved.fixpoint;
-    d.store().laws();
-    let rails = fixpoint.rails.items();
-    if let Some(gate) = unknown_gate(d, net, cone.gates.items(), rails, fixpoint.set)? {
-        return Ok(Counted::Unknown(gate));
-    }
-    solutions();
-    d.store().laws();
-    let found = sweeps(alloc, d, &fixpoint.solved, &solved.blocks, fixpoint.set)?;
-    let counts = spread_counts(alloc, net, blocks, cone, &solved.blocks, &found)?;
-    Ok(Counted::Sweeps(Items::of(counts)))
+    count_solved(alloc, d, net, blocks, cone, &solved)
 }
 
 /// What a cone shows of its loops on care, on diagrams with a variable for each column.

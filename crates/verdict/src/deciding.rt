@@ -7,10 +7,11 @@ ghost use Rattle.loops.specs.Blocks.{AreBlocksOf};
 ghost use Rattle.loops.specs.Cuts.{IsCutOf};
 ghost use Rattle.fixpoint.specs.Orders.{order as order_of};
 ghost use Rattle.verdict.specs.Causes.{IsOutOfNodes};
-ghost use Rattle.verdict.specs.Costs.{later_cost};
-ghost use Rattle.verdict.specs.Enough.{GrowsInDecision, IsFullFor, IsBelowEnough};
+ghost use Rattle.verdict.specs.Costs.{later_cost, solved_cost, whole_cost};
+ghost use Rattle.verdict.specs.Enough.{AddsInDecision, GrowsInDecision, IsFullFor, IsBelowEnough};
 ghost use Rattle.verdict.specs.Sets.{AreFixed, Tells};
-ghost use Rattle.verdict.specs.Verdicts.{later_refusal, IsVerdict, StandSo};
+ghost use Rattle.isolation.specs.Columns.{AreColumns};
+ghost use Rattle.verdict.specs.Verdicts.{later_refusal, IsCareStart, IsSolvedWhole, IsVerdict, StandSo};
 
 use crate::alone::limit_of;
 use crate::beginning::{Start, begin};
@@ -18,7 +19,7 @@ use crate::early::early_verdict;
 use crate::fault::DecideFault;
 use crate::gates::Gates;
 use crate::refusing::{gates_on, leaves};
-use crate::solving::solve_beside;
+use crate::solving::{Fixpoint, solve_beside};
 use crate::verdict::Verdict;
 use bdd_ops::Diagrams;
 use bdd_store::{Node, StoreFault};
@@ -65,6 +66,106 @@ fn later(
     }
 }
 
+/// The verdict of a solved netlist, beside which its care vectors are kept.
+fn judge_solved(
+    alloc: Global,
+    d: &mut Diagrams,
+    net: &Netlist,
+    blocks: &Blocks,
+    care: &Care,
+    order: &[u32],
+    observe: Observe,
+    found: &Fixpoint,
+) -> Result<Verdict, StoreFault>
+    requires blocks { AreBlocksOf net.now blocks.now }
+    requires order { order.now ≡ order_of net.now }
+    requires care { IsCareOf net.now care.now }
+    requires solved { IsSolvedWhole net.now blocks.now d.old found.now }
+    requires start { IsCareStart net.now care.now d.old found.now.set }
+    ensures verdict { (is : IsSolvedWhole net.now blocks.now d.old found.now) → IfOk result (IsVerdict net.now blocks.now is.cut care.now observe) }
+    ensures grows { GrowsInDecision result d.old d.new net.now care.now (solved_cost net.now care.now) }
+{
+    solutions();
+    d.store().laws();
+    let rails = found.rails.items();
+    let gates = later(alloc, d, net, care, order, observe, rails, found.set)?;
+    let loose = match gates {
+        Gates::Determined { loose } => loose,
+        Gates::Refused(refusal) => return Ok(Verdict::Refused(refusal)),
+    };
+    d.store().laws();
+    let counts = sweeps(alloc, d, &found.solved, blocks, found.set)?;
+    Ok(Verdict::Accepted {
+        sweeps: counts,
+        loose,
+    })
+}
+
+/// The verdict by all gates of the netlist, which is solved here on these rails of its columns. `set` are the vectors of
+/// care.
+fn judge_whole(
+    alloc: Global,
+    d: &mut Diagrams,
+    net: &Netlist,
+    blocks: &Blocks,
+    cut: &Cut,
+    care: &Care,
+    order: &[u32],
+    observe: Observe,
+    rails: &[Rails],
+    set: Node,
+) -> Result<Verdict, StoreFault>
+    requires blocks { AreBlocksOf net.now blocks.now }
+    requires cut { IsCutOf net.now cut.now }
+    requires care { IsCareOf net.now care.now }
+    requires vars { d.old.vars ≡ columns net.now }
+    requires order { order.now ≡ order_of net.now }
+    requires columns { AreColumns d.old (order_of net.now) rails.now }
+    requires start { IsCareStart net.now care.now d.old set }
+    ensures verdict { IfOk result (IsVerdict net.now blocks.now cut.now care.now observe) }
+    ensures vars { d.new.vars ≡ d.old.vars }
+    ensures limit { d.new.limit ≡ d.old.limit }
+    ensures adds { AddsInDecision result d.old d.new net.now care.now (whole_cost net.now care.now) }
+{
+    let _ = net.gates();
+    d.store().laws();
+    let found = solve_beside(alloc, d, net, blocks, cut, rails, set)?;
+    judge_solved(alloc, d, net, blocks, care, order, observe, &found)
+}
+
+/// The verdict where some vectors are those of care: it is seen on loops and cones alone, or else by all gates.
+fn judge_care(
+    alloc: Global,
+    d: &mut Diagrams,
+    net: &Netlist,
+    blocks: &Blocks,
+    cut: &Cut,
+    care: &Care,
+    order: &[u32],
+    observe: Observe,
+    rails: &[Rails],
+    set: Node,
+) -> Result<Verdict, StoreFault>
+    requires blocks { AreBlocksOf net.now blocks.now }
+    requires cut { IsCutOf net.now cut.now }
+    requires care { IsCareOf net.now care.now }
+    requires vars { d.old.vars ≡ columns net.now }
+    requires order { order.now ≡ order_of net.now }
+    requires columns { AreColumns d.old (order_of net.now) rails.now }
+    requires start { IsCareStart net.now care.now d.old set }
+    ensures verdict { IfOk result (IsVerdict net.now blocks.now cut.now care.now observe) }
+    ensures vars { d.new.vars ≡ d.old.vars }
+    ensures limit { d.new.limit ≡ d.old.limit }
+    ensures adds { AddsInDecision result d.old d.new net.now care.now (whole_cost net.now care.now) }
+{
+    let limit = limit_of(d);
+    let early = early_verdict(alloc, net, blocks, cut, care, observe, limit)?;
+    match early {
+        Some(verdict) => Ok(verdict),
+        None => judge_whole(alloc, d, net, blocks, cut, care, order, observe, rails, set),
+    }
+}
+
 /// The verdict, on diagrams that have a variable for each column and no nodes.
 fn judge(
     alloc: Global,
@@ -82,40 +183,14 @@ fn judge(
     ensures verdict { IfOk result (IsVerdict net.now blocks.now cut.now care.now observe) }
     ensures full { result ≡ Err StoreFault.Full → IsFullFor d.old d.new net.now care.now }
 {
-    solutions();
     let order = order(alloc, net)?;
     let rails = column_rails(alloc, d, &order)?;
-    let set = match begin(alloc, d, net, care, &order, &rails)? {
-        Start::Care(set) => set,
-        Start::Refused(refusal) => return Ok(Verdict::Refused(refusal)),
-    };
-    let limit = limit_of(d);
-    if let Some(verdict) = early_verdict(alloc, net, blocks, cut, care, observe, limit)? {
-        return Ok(verdict);
+    match begin(alloc, d, net, care, &order, &rails)? {
+        Start::Care(set) => judge_care(
+            alloc, d, net, blocks, cut, care, &order, observe, &rails, set,
+        ),
+        Start::Refused(refusal) => Ok(Verdict::Refused(refusal)),
     }
-    d.store().laws();
-    let found = solve_beside(alloc, d, net, blocks, cut, &rails, set)?;
-    d.store().laws();
-    let gates = later(
-        alloc,
-        d,
-        net,
-        care,
-        &order,
-        observe,
-        found.rails.items(),
-        found.set,
-    )?;
-    let loose = match gates {
-        Gates::Determined { loose } => loose,
-        Gates::Refused(refusal) => return Ok(Verdict::Refused(refusal)),
-    };
-    d.store().laws();
-    let counts = sweeps(alloc, d, &found.solved, blocks, found.set)?;
-    Ok(Verdict::Accepted {
-        sweeps: counts,
-        loose,
-    })
 }
 
 /// Decides a netlist on a care set, by ternary simulation of all care vectors at once (Malik 1994; Shiple, Berry

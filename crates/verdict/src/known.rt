@@ -15,7 +15,7 @@ ghost use Rattle.third_rail.specs.Sweeping.{AreLaid, Layout};
 ghost use Rattle.care_sets.specs.Binding.{IsCareOf};
 ghost use Rattle.care_sets.specs.Care.{columns, is_care_vector};
 ghost use Rattle.verdict.specs.Determination.{IsKnown};
-ghost use Rattle.verdict.specs.Known.{IsClaimed};
+ghost use Rattle.verdict.specs.Known.{IsClaimed, IsVectorOf};
 ghost use Rattle.verdict.specs.Sets.{Tells};
 
 use crate::beginning::{care_on, inside_on};
@@ -207,6 +207,61 @@ fn with_data(
     }
 }
 
+/// What is claimed, as known, with two vectors of its hint, if that has any.
+fn with_vectors(
+    alloc: Global,
+    d: &Diagrams,
+    order: &[u32],
+    kept: &[bool],
+    claimed: Claimed,
+) -> Result<Option<Known>, AllocError>
+    requires order { IsLayout d.now.vars order.now }
+    requires kept { length kept.now ≡ d.now.vars }
+    requires hint { IsNodeOf d.now claimed.hint }
+    ensures since { IfOk result (λ found. IfSome found (λ known. known.since ≡ claimed.since)) }
+    ensures vector { IfOk result (λ found. IfSome found (λ known. IsVectorOf d.now claimed.hint order.now known.vector)) }
+    ensures other { IfOk result (λ found. IfSome found (λ known. IsVectorOf d.now claimed.hint order.now known.other)) }
+{
+    let Some(vector) = least_of(alloc, d, order, claimed.hint)? else {
+        return Ok(None);
+    };
+    let other = with_data(alloc, d, order, claimed.hint, kept, &vector)?;
+    Ok(Some(Known {
+        since: claimed.since,
+        vector: Bits::of(vector),
+        other: Bits::of(other),
+    }))
+}
+
+/// What is known of them, where the columns have these rails.
+fn known_by(
+    alloc: Global,
+    d: &mut Diagrams,
+    net: &Netlist,
+    blocks: &Blocks,
+    cut: &Cut,
+    care: &Care,
+    order: &[u32],
+    rails: &[Rails],
+    marks: &[bool],
+) -> Result<Option<Known>, StoreFault>
+    requires blocks { AreBlocksOf net.now blocks.now }
+    requires cut { IsCutOf net.now cut.now }
+    requires care { IsCareOf net.now care.now }
+    requires vars { d.old.vars ≡ columns net.now }
+    requires order { order.now ≡ order_of net.now }
+    requires columns { AreColumns d.old (order_of net.now) rails.now }
+    requires marks { length marks.now ≡ length net.now.gates }
+    ensures known { IfOk result (λ found. IfSome found (IsKnown net.now blocks.now cut.now care.now marks.now)) }
+{
+    let mut kept = care_columns(alloc, net, care)?;
+    let found = claim_on_care(alloc, d, net, blocks, cut, care, rails, marks, &mut kept)?;
+    match found {
+        Some(claimed) => Ok(with_vectors(alloc, d, order, &kept, claimed)?),
+        None => Ok(None),
+    }
+}
+
 /// What is known of them, on diagrams with a variable for each column.
 fn known_on(
     alloc: Global,
@@ -227,20 +282,7 @@ fn known_on(
     ensures known { IfOk result (λ found. IfSome found (IsKnown net.now blocks.now cut.now care.now marks.now)) }
 {
     let rails = column_rails(alloc, d, order)?;
-    let mut kept = care_columns(alloc, net, care)?;
-    let found = claim_on_care(alloc, d, net, blocks, cut, care, &rails, marks, &mut kept)?;
-    let Some(claimed) = found else {
-        return Ok(None);
-    };
-    let Some(vector) = least_of(alloc, d, order, claimed.hint)? else {
-        return Ok(None);
-    };
-    let other = with_data(alloc, d, order, claimed.hint, &kept, &vector)?;
-    Ok(Some(Known {
-        since: claimed.since,
-        vector: Bits::of(vector),
-        other: Bits::of(other),
-    }))
+    known_by(alloc, d, net, blocks, cut, care, order, &rails, marks)
 }
 
 /// The same, or Full where its diagrams were too small.

@@ -98,10 +98,10 @@ fn stand(
 {
     let _ = net.gates();
     let settled = settled_loops(alloc, net, blocks, limit.min(LOOP_NODES))?;
-    match open_counts(alloc, net, blocks, cut, care, &settled, limit)? {
+    match &open_counts(alloc, net, blocks, cut, care, &settled, limit)? {
         Counted::Sweeps(others) => determined(alloc, blocks, &settled, others.items()),
         Counted::Unknown(gate) => {
-            refused(alloc, net, blocks, care, &settled, observe, gate, limit)
+            refused(alloc, net, blocks, care, &settled, observe, *gate, limit)
         }
         Counted::Undecided => Ok(Standing::Undecided),
     }

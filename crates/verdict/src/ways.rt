@@ -54,7 +54,7 @@ fn open_way(
     if let Some(_) = known_counts(alloc, net, blocks, cut, care, settled, limit)? {
         return Ok(Way::Known);
     }
-    match counted_in_cones(alloc, net, blocks, cut, care, settled, limit)? {
+    match &counted_in_cones(alloc, net, blocks, cut, care, settled, limit)? {
         Counted::Sweeps(_) | Counted::Unknown(_) => Ok(Way::Cone),
         Counted::Undecided => Ok(Way::Whole),
     }

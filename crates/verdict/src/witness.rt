@@ -1,8 +1,11 @@
 //! How many sweeps loops need at one vector, which shows that they need so many on care.
 
-ghost use Rattle.std.specs.Prelude.{◌≡◌, ◌≤◌, ◌⊎◌, ℕ, true, map, length, IfOk};
+ghost use Rattle.std.specs.Prelude.{◌≡◌, ◌≤◌, ◌⊎◌, ℕ, Bool, List, true, map, length, All, IfOk};
+ghost use Rattle.cyc_base.specs.Values.{bits};
+ghost use Rattle.dual_rail.specs.Rails.{AreRailsOf, values_of};
 ghost use Rattle.loops.specs.Blocks.{AreBlocksOf};
 ghost use Rattle.loops.specs.Cuts.{IsCutOf};
+ghost use Rattle.loops.specs.Sweeps.{first_gate};
 ghost use Rattle.care_sets.specs.Care.{columns};
 ghost use Rattle.third_rail.specs.Knowing.{number_of};
 ghost use Rattle.verdict.specs.Determination.{constant_rails, AreNeededAt};
@@ -36,6 +39,31 @@ fn constants(alloc: Global, vector: &[bool]) -> Result<Vec<Rails>, AllocError>
     vector.iter().map(|value| constant(*value)).collect(alloc)
 }
 
+/// The sweeps that loops need where the columns have these rails, at all vectors of the diagrams.
+fn sweeps_on(
+    alloc: Global,
+    d: &mut Diagrams,
+    net: &Netlist,
+    blocks: &Blocks,
+    cut: &Cut,
+    given: &[Rails],
+) -> Result<SweepCounts, StoreFault>
+    requires blocks { AreBlocksOf net.now blocks.now }
+    requires cut { IsCutOf net.now cut.now }
+    requires width { length given.now ≡ first_gate net.now }
+    requires rails { All (AreRailsOf d.old) given.now }
+    ensures width { IfOk result (λ counts. length counts.per_block ≡ length blocks.now.list) }
+    ensures needed { (vector : List Bool) → ((v : List Bool) → values_of d.old given.now v ≡ bits vector) → IfOk result (λ counts. AreNeededAt net.now blocks.now cut.now vector counts.per_block) }
+{
+    let _ = net.gates();
+    solutions();
+    let all = Node::of(true);
+    let found = solve_beside(alloc, d, net, blocks, cut, given, all)?;
+    d.store().laws();
+    let counts = sweeps(alloc, d, &found.solved, blocks, all)?;
+    Ok(counts)
+}
+
 /// The sweeps that loops need at one vector: the netlist is solved with constants for its columns.
 fn sweeps_at(
     alloc: Global,
@@ -51,14 +79,8 @@ fn sweeps_at(
     ensures width { IfOk result (λ counts. length counts.per_block ≡ length blocks.now.list) }
     ensures needed { IfOk result (λ counts. AreNeededAt net.now blocks.now cut.now vector.now counts.per_block) }
 {
-    let _ = net.gates();
-    solutions();
-    let all = Node::of(true);
     let given = constants(alloc, vector)?;
-    let found = solve_beside(alloc, d, net, blocks, cut, &given, all)?;
-    d.store().laws();
-    let counts = sweeps(alloc, d, &found.solved, blocks, all)?;
-    Ok(counts)
+    sweeps_on(alloc, d, net, blocks, cut, &given)
 }
 
 /// Whether each number is at most the one beside it.
