@@ -1,12 +1,11 @@
 //! Refusals against what they show.
 
-ghost use Rattle.std.specs.Prelude.{IfOk};
 ghost use Rattle.care_sets.specs.Binding.{IsCareOf};
 ghost use Rattle.netlist.specs.Netlists.{IsNetlist};
 
-use crate::texts::{net_of, part_of};
+use crate::texts::{care_by, net_of};
 use bdd_ops::Diagrams;
-use care_sets::{Care, bind};
+use care_sets::Care;
 use loops::{find_blocks, find_cut};
 use netlist::Netlist;
 use refusals::shows;
@@ -35,15 +34,6 @@ fn refused(number: u32) -> (&'static [u8], &'static [u8]) {
     }
 }
 
-/// The care set of a care file.
-fn care_of(alloc: Global, net: &Netlist, text: &[u8]) -> Result<Care, Fail>
-    ensures { IfOk result (IsCareOf net.now) }
-{
-    let assume = part_of(alloc, text, b"assume")?;
-    let invariant = part_of(alloc, text, b"invariant")?;
-    Ok(bind(alloc, net, assume, invariant)?)
-}
-
 /// Whether a netlist is refused, and its refusal shows what it says.
 #[tactic(auto, using(crate::proofs::RefusedLemmas::refusal_fits))]
 fn is_refused_and_shown(alloc: Global, net: &Netlist, care: &Care) -> Result<bool, Fail>
@@ -62,7 +52,7 @@ fn is_refused_and_shown(alloc: Global, net: &Netlist, care: &Care) -> Result<boo
 fn is_shown_on(alloc: Global, net: &Netlist, text: &[u8]) -> Result<bool, Fail>
     requires { IsNetlist net.now }
 {
-    let care = care_of(alloc, net, text)?;
+    let care = care_by(alloc, net, text)?;
     is_refused_and_shown(alloc, net, &care)
 }
 
