@@ -1,4 +1,4 @@
-/* The functions of crates/bench_diagrams, by the same operations in the same order, in BuDDy 2.4:
+/* The functions of crates/benchmarks, by the same operations in the same order, in BuDDy 2.4:
  *   cc -O2 bench/buddy.c -lbdd -o /tmp/buddy && /tmp/buddy queens 8
  */
 #include <bdd.h>

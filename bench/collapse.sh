@@ -1,12 +1,12 @@
 #!/usr/bin/env bash
-# Times crates/bench_diagrams on the outputs of netlists without loops and, where berkeley-abc is installed, its
+# Times crates/benchmarks on the outputs of netlists without loops and, where berkeley-abc is installed, its
 # `collapse` on the same netlists, which builds them in CUDD: in the order of the inputs, which is ours, and then with
 # dynamic reordering. Each is run five times in turn, and of each the fastest is printed, with the nodes that are shared
 # by all outputs (ours with those of all operations on the way). abc tells its times to a hundredth of a second.
-# Run `rt run` in crates/bench_diagrams once before: it builds the program.
+# Run `rt run` in crates/benchmarks once before: it builds the program.
 set -u
 cd "$(dirname "$0")/.." || exit 1
-ours=crates/bench_diagrams/out/bench_diagrams
+ours=crates/benchmarks/out/benchmarks
 dir=$(mktemp -d) || exit 1
 trap 'rm -rf "$dir"' EXIT
 

@@ -1,13 +1,13 @@
 #!/usr/bin/env bash
 # Decides the rings of `demo`, of 8 to 64 cells, the examples with care files, and netlists with loops in families of
 # growing size (bench/families.py). It prints time and peak memory of each, and but for the rings the least limit of
-# nodes that isn't met, and how many loops are decided by which step (crates/bench_decide).
-# Run `rt run` in crates/bench_decide once before: it builds that program.
+# nodes that isn't met, and how many loops are decided by which step (crates/benchmarks).
+# Run `rt run` in crates/benchmarks once before: it builds that program.
 set -u
 top=$(cd "$(dirname "$0")/.." && pwd) || exit 1
 dir=$(mktemp -d) || exit 1
 trap 'rm -rf "$dir"' EXIT
-decider=$top/crates/bench_decide/out/bench_decide
+decider=$top/crates/benchmarks/out/benchmarks
 
 meets() {
     local limit=$1
@@ -45,7 +45,7 @@ ways() {
     for word in "$@"; do
         [ "$word" = --care ] || files+=("$word")
     done
-    cat "${files[@]}" | "$decider"
+    cat "${files[@]}" | "$decider" decide
 }
 
 measure() {

@@ -1,9 +1,9 @@
 #!/usr/bin/env bash
-# Times crates/bench_diagrams and, where libbdd-dev is installed, BuDDy on the same functions, in one run: each
+# Times crates/benchmarks and, where libbdd-dev is installed, BuDDy on the same functions, in one run: each
 # function five times by both in turn, and of each the fastest time.
-# Run `rt run` in crates/bench_diagrams once before: it builds the program.
+# Run `rt run` in crates/benchmarks once before: it builds the program.
 cd "$(dirname "$0")/.." || exit 1
-ours=crates/bench_diagrams/out/bench_diagrams
+ours=crates/benchmarks/out/benchmarks
 theirs=$(mktemp)
 lines=$(mktemp)
 trap 'rm -f "$theirs" "$lines"' EXIT

@@ -11,8 +11,6 @@ mod memory_shelf;
 mod memory_sink;
 mod shelf;
 mod sink;
-#[cfg(test)]
-mod tests;
 mod text;
 
 pub use host::{HostShelf, HostSink};

@@ -1,16 +1,19 @@
 //! The rails of a netlist against what settles at each vector.
 
-ghost use Rattle.std.specs.Prelude.{◌≡◌, IfOk};
+ghost use Rattle.std.specs.Prelude.{◌≡◌, All, IfOk, length, map};
 ghost use Rattle.netlist.specs.Netlists.{IsNetlist};
 ghost use Rattle.loops.specs.Blocks.{AreBlocksOf};
 ghost use Rattle.loops.specs.Cuts.{IsCutOf};
+ghost use Rattle.dual_rail.specs.Rails.{AreRailsOf};
+ghost use Rattle.fixpoint.specs.Kept.{AreKept, rails_under};
+ghost use Rattle.fixpoint.specs.Solved.{AreGiven};
 
 use crate::texts::net_of;
 use bdd_ops::Diagrams;
 use bdd_store::{Node, StoreFault};
 use cyc_base::{Items, Trit};
 use dual_rail::{Rails, var_rails};
-use fixpoint::{keep_rails, rails_of, solve};
+use fixpoint::{KeptRails, keep_rails, rails_of, solve};
 use loops::{Blocks, Cut, find_blocks, find_cut};
 use netlist::Netlist;
 use std::alloc::{AllocError, Global};
@@ -124,6 +127,35 @@ fn stand_for_settled(
     Ok(stand_for(d, rails, bits.as_slice(), &values))
 }
 
+/// The input and the latch as variables.
+fn given_rails(alloc: Global, d: &mut Diagrams) -> Result<Vec<KeptRails>, StoreFault>
+    requires vars { d.old.vars ≡ 2 }
+    ensures kept { IfOk result (λ given. All (AreKept d.new) given.items) }
+    ensures proper { IfOk result (λ given. All (AreRailsOf d.new) (map (rails_under d.new) given.items)) }
+    ensures count { IfOk result (λ given. length given.items ≡ 2) }
+{
+    let x = var_rails(d, 0)?;
+    let q = var_rails(d, 1)?;
+    Ok(keep_rails(alloc, d, [x, q].as_slice())?)
+}
+
+/// The rails of all signals, where those of the input and the latch are given.
+fn rails_from(
+    alloc: Global,
+    d: &mut Diagrams,
+    net: &Netlist,
+    blocks: &Blocks,
+    cut: &Cut,
+    given: Vec<KeptRails>,
+) -> Result<Items<Rails>, StoreFault>
+    requires blocks { AreBlocksOf net.now blocks.now }
+    requires cut { IsCutOf net.now cut.now }
+    requires given { AreGiven net.now d.old given.items }
+{
+    let solved = solve(alloc, d, net, blocks, cut, given)?;
+    Ok(Items::of(rails_of(alloc, d, solved.rails.items())?))
+}
+
 /// The rails of all signals, where the input and the latch are variables.
 fn rails_by(
     alloc: Global,
@@ -139,11 +171,8 @@ fn rails_by(
     if net.inputs() != 1 || net.latches() != 1 {
         return Ok(Items::of(Vec::new(alloc)));
     }
-    let x = var_rails(d, 0)?;
-    let q = var_rails(d, 1)?;
-    let given = keep_rails(alloc, d, [x, q].as_slice())?;
-    let solved = solve(alloc, d, net, blocks, cut, given)?;
-    Ok(Items::of(rails_of(alloc, d, solved.rails.items())?))
+    let given = given_rails(alloc, d)?;
+    rails_from(alloc, d, net, blocks, cut, given)
 }
 
 /// The same, with cut wires of its own.

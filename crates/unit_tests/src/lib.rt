@@ -1,21 +1,12 @@
-//! Tests of the library crates, each through its public functions: values from outside, each refusal once. They stand in
-//! one crate since a crate with tests is proved once more for them, and so they share what builds a netlist.
+//! Tests of the library crates, each through its public functions, of what no call of `cyc` tells: other cases are lines
+//! of the crate `cases`. They stand in one crate since a crate with tests is proved once more for them, and so they share
+//! what builds a netlist.
 #![tactic(auto)]
 
-#[cfg(test)]
-mod covers;
-#[cfg(test)]
-mod cuts;
 #[cfg(test)]
 mod diagrams;
 #[cfg(test)]
 mod fixpoints;
-#[cfg(test)]
-mod graphs;
-#[cfg(test)]
-mod lines;
-#[cfg(test)]
-mod lists;
 #[cfg(test)]
 mod netlists;
 #[cfg(test)]
@@ -23,8 +14,10 @@ mod rails;
 #[cfg(test)]
 mod refused;
 #[cfg(test)]
-mod settling;
+mod streams;
 #[cfg(test)]
 mod texts;
 #[cfg(test)]
 mod unrolling;
+#[cfg(test)]
+mod values;

@@ -1,32 +1,20 @@
 //! Diagrams of covers. Covers lifted to rails are tested with the fixpoints.
 
-ghost use Rattle.std.specs.Prelude.{◌≡◌, IfOk};
-
-use crate::covers::{cover, disjoint};
+use crate::texts::net_of;
 use dual_rail::local;
-use std::alloc::{AllocError, Global};
-use std::process::Abort;
+use netlist::Netlist;
+use std::alloc::Global;
 use std::test::Fail;
 
-/// The rows of a cover, and whether it is an on-plane.
-fn rows_at(case: u32) -> (&'static [&'static str], bool) {
-    match case {
-        0 => (&[], true),
-        1 => (&["1", "0"], false),
-        // A multiplexer.
-        2 => (&["11-", "0-1"], true),
-        // Majority.
-        3 => (&["11-", "1-1", "-11"], true),
-        // NOR, as an off-plane.
-        4 => (&["1--", "-1-", "--1"], false),
-        // Parity.
-        _ => (&["100", "010", "001", "111"], true),
-    }
-}
+/// A cover without rows, a constant as an off-plane, a multiplexer, majority, NOR as an off-plane, and parity.
+const COVERS: &[u8] =
+    b".model m\n.inputs a b c\n.names a b none\n.names a never\n1 0\n0 0\n.names a b c mux\n11- 1\n0-1 1\n\
+    .names a b c majority\n11- 1\n1-1 1\n-11 1\n.names a b c nor\n1-- 0\n-1- 0\n--1 0\n\
+    .names a b c parity\n100 1\n010 1\n001 1\n111 1\n";
 
-/// How many pins it has, and how many nodes its reduced diagram has.
-fn sizes_at(case: u32) -> (usize, u32) {
-    match case {
+/// How many pins a cover has, and how many nodes its reduced diagram has.
+fn sizes_at(gate: u32) -> (usize, u32) {
+    match gate {
         0 => (2, 0),
         1 => (1, 0),
         2 => (3, 3),
@@ -37,27 +25,25 @@ fn sizes_at(case: u32) -> (usize, u32) {
     }
 }
 
-/// Whether the diagram of a cover has its pins and that many nodes.
-fn is_reduced(rt: &impl Abort, alloc: Global, case: u32) -> Result<bool, Fail> {
-    let (rows, plane) = rows_at(case);
-    let (pins, nodes) = sizes_at(case);
-    let cover = cover(rt, alloc, pins, plane, rows)?;
-    let diagram = local(alloc, &cover, 100)?;
+/// Whether the diagram of a gate's cover has its pins and nodes.
+fn is_reduced(alloc: Global, net: &Netlist, gate: u32) -> Result<bool, Fail> {
+    let (pins, nodes) = sizes_at(gate);
+    if gate >= net.gates() {
+        return Ok(false);
+    }
+    let diagram = local(alloc, &net.gate(gate).cover, 100)?;
     Ok(diagram.store().count() == nodes && diagram.pins() == pins)
+}
+
+fn case_is_reduced(alloc: Global, gate: u32) -> Result<bool, Fail> {
+    let net = net_of(alloc, COVERS)?;
+    is_reduced(alloc, &net, gate)
 }
 
 #[test]
 fn diagrams_are_reduced(rt: HostRuntime) -> Result<(), Fail> {
-    for case in 0..6 {
-        assert!(rt; is_reduced(&rt, rt.alloc(), case)?, "at {case}");
+    for gate in 0..6 {
+        assert!(rt; case_is_reduced(rt.alloc(), gate)?, "at {gate}");
     }
-    Ok(())
-}
-
-/// Twenty rows that ask 1 of two pins each: two nodes for each row, at once.
-#[test]
-fn pairs_take_two_nodes_each(rt: HostRuntime) -> Result<(), Fail> {
-    let cover = disjoint(&rt, rt.alloc(), 40, 20, 2)?;
-    assert_eq!(rt; local(rt.alloc(), &cover, 40)?.store().count(), 40);
     Ok(())
 }

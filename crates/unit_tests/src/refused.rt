@@ -1,13 +1,14 @@
 //! Refusals against what they show.
 
-ghost use Rattle.std.specs.Prelude.{IfOk};
 ghost use Rattle.care_sets.specs.Binding.{IsCareOf};
+ghost use Rattle.loops.specs.Blocks.{AreBlocksOf};
+ghost use Rattle.loops.specs.Cuts.{IsCutOf};
 ghost use Rattle.netlist.specs.Netlists.{IsNetlist};
 
-use crate::texts::{net_of, part_of};
+use crate::texts::{care_by, net_of};
 use bdd_ops::Diagrams;
-use care_sets::{Care, bind};
-use loops::{find_blocks, find_cut};
+use care_sets::Care;
+use loops::{Blocks, Cut, find_blocks, find_cut};
 use netlist::Netlist;
 use refusals::shows;
 use std::alloc::Global;
@@ -35,34 +36,67 @@ fn refused(number: u32) -> (&'static [u8], &'static [u8]) {
     }
 }
 
-/// The care set of a care file.
-fn care_of(alloc: Global, net: &Netlist, text: &[u8]) -> Result<Care, Fail>
-    ensures { IfOk result (IsCareOf net.now) }
-{
-    let assume = part_of(alloc, text, b"assume")?;
-    let invariant = part_of(alloc, text, b"invariant")?;
-    Ok(bind(alloc, net, assume, invariant)?)
-}
-
-/// Whether a netlist is refused, and its refusal shows what it says.
+/// Whether a netlist is refused over these diagrams, and its refusal shows what it says.
 #[tactic(auto, using(crate::proofs::RefusedLemmas::refusal_fits))]
-fn is_refused_and_shown(alloc: Global, net: &Netlist, care: &Care) -> Result<bool, Fail>
+fn is_shown_by(
+    alloc: Global,
+    d: &mut Diagrams,
+    net: &Netlist,
+    blocks: &Blocks,
+    cut: &Cut,
+    care: &Care,
+) -> Result<bool, Fail>
     requires valid { IsNetlist net.now }
     requires care { IsCareOf net.now care.now }
+    requires blocks { AreBlocksOf net.now blocks.now }
+    requires cut { IsCutOf net.now cut.now }
 {
-    let blocks = find_blocks(alloc, net)?;
-    let cut = find_cut(alloc, net, &blocks)?;
-    let mut d = Diagrams::new(alloc, 0, 1)?;
-    match decide(alloc, &mut d, net, &blocks, &cut, care, 1_000, Observe::All)? {
+    match decide(alloc, d, net, blocks, cut, care, 1_000, Observe::All)? {
         Verdict::Accepted { .. } => Ok(false),
         Verdict::Refused(refusal) => Ok(shows(alloc, net, care, &refusal)?),
     }
 }
 
+/// Whether it is over diagrams of its own.
+fn is_shown_anew(
+    alloc: Global,
+    net: &Netlist,
+    blocks: &Blocks,
+    cut: &Cut,
+    care: &Care,
+) -> Result<bool, Fail>
+    requires valid { IsNetlist net.now }
+    requires care { IsCareOf net.now care.now }
+    requires blocks { AreBlocksOf net.now blocks.now }
+    requires cut { IsCutOf net.now cut.now }
+{
+    let mut d = Diagrams::new(alloc, 0, 1)?;
+    is_shown_by(alloc, &mut d, net, blocks, cut, care)
+}
+
+/// Whether it is with cut wires of its own.
+fn is_shown_over(alloc: Global, net: &Netlist, blocks: &Blocks, care: &Care) -> Result<bool, Fail>
+    requires valid { IsNetlist net.now }
+    requires care { IsCareOf net.now care.now }
+    requires blocks { AreBlocksOf net.now blocks.now }
+{
+    let cut = find_cut(alloc, net, blocks)?;
+    is_shown_anew(alloc, net, blocks, &cut, care)
+}
+
+/// Whether a netlist is refused, and its refusal shows what it says.
+fn is_refused_and_shown(alloc: Global, net: &Netlist, care: &Care) -> Result<bool, Fail>
+    requires valid { IsNetlist net.now }
+    requires care { IsCareOf net.now care.now }
+{
+    let blocks = find_blocks(alloc, net)?;
+    is_shown_over(alloc, net, &blocks, care)
+}
+
 fn is_shown_on(alloc: Global, net: &Netlist, text: &[u8]) -> Result<bool, Fail>
     requires { IsNetlist net.now }
 {
-    let care = care_of(alloc, net, text)?;
+    let care = care_by(alloc, net, text)?;
     is_refused_and_shown(alloc, net, &care)
 }
 

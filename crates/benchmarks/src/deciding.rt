@@ -1,6 +1,5 @@
-//! Tells how many loops of a netlist are decided by which step of a decision, at the limit of nodes that `cyc` has.
-//! Standard input has the netlist's models, the top one first, and after them those of its care file, if it has one.
-#![tactic(auto)]
+//! Tells how many loops of a netlist are decided by which step of a decision, at the limit of nodes that `cyc` has. A text
+//! has the netlist's models, the top one first, and after them those of its care file, if it has one.
 
 ghost use Rattle.std.specs.Prelude.{IfOk};
 ghost use Rattle.loops.specs.Blocks.{AreBlocksOf};
@@ -82,9 +81,8 @@ fn tell_netlist<R: Runtime>(rt: &R, alloc: Global, net: &Netlist, text: &[u8]) -
     tell(rt, &ways)
 }
 
-fn main(rt: HostRuntime) -> io::Result<()> {
-    let alloc = rt.alloc();
-    let text = io::read_to_string(alloc, rt.stdin())?;
-    let net = read_netlist(alloc, text.as_bytes())?;
-    tell_netlist(&rt, alloc, &net, text.as_bytes())
+/// Tells how the loops of the netlist of this text are decided.
+pub fn decide<R: Runtime>(rt: &R, alloc: Global, text: &[u8]) -> io::Result<()> {
+    let net = read_netlist(alloc, text)?;
+    tell_netlist(rt, alloc, &net, text)
 }
