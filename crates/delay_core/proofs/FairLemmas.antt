@@ -10,7 +10,7 @@ use Rattle.netlist.specs.Fixpoint.{wires}
 use Rattle.schedules.specs.declared.event.Event.{Event}
 use Rattle.schedules.specs.Moments.{Moment, History, Round, newest, after_events, after_rounds}
 use Rattle.schedules.specs.Fairness.{IsEventOf, ReadsFrom, IsFairRound, earliest, AreFairAfter, IsFair}
-use Rattle.schedules.specs.Runs.{Tick, Played, gates_at, loaded_at, played, play}
+use Rattle.schedules.specs.Runs.{Played, gates_at, loaded_at, played, play}
 use Rattle.schedules.proofs.RoundLemmas.{length-after_events}
 use Rattle.delay_core.specs.declared.fault.EventFault.{EventFault}
 use Rattle.delay_core.specs.declared.fault.PlayFault.{PlayFault}

@@ -1,5 +1,5 @@
 -- What pins see, and where rounds begin.
-use Rattle.std.proofs.Common.{◌≡◌, inl, inr, ℕ, zero, suc, ◌+◌, ◌-◌, ◌<◌, ◌≤◌, Bool, false, List, [], ◌∷◌, ◌++◌, length, filter, take, replicate, min, get_or, refl, ap, ap₂, sym, ◌∙◌, arith, nat_lt}
+use Rattle.std.proofs.Common.{◌≡◌, inl, inr, ℕ, zero, suc, ◌+◌, ◌-◌, ◌<◌, ◌≤◌, false, List, [], ◌∷◌, ◌++◌, length, filter, take, replicate, min, get_or, refl, ap, ap₂, sym, ◌∙◌, arith, nat_lt}
 use Rattle.std.proofs.lemmas.List.{get_or_default, take_more, take_all, take-replicate}
 use Rattle.std.proofs.lemmas.Bool.{cases_lt, lt-ltb, le-ltb}
 use Rattle.cyc_base.specs.declared.sig.Sig.{Sig}

@@ -1,4 +1,4 @@
-use Rattle.std.proofs.Common.{◌≡◌, ◌<◌, map, reverse, arith}
+use Rattle.std.proofs.Common.{◌<◌, map, reverse, arith}
 use Rattle.std.specs.List.{zip}
 use Rattle.delay_core.specs.Plays.{most_rounds}
 use Rattle.delay_core.specs.Plans.{tick_of}
