@@ -64,8 +64,8 @@ fn is_settled(
         return Ok(false);
     };
     match settles_alone(alloc, net, blocks, number, budget)? {
-        Some(1) => Ok(true),
-        _ => Ok(false),
+        Some(sweeps) => Ok(sweeps == 1),
+        None => Ok(false),
     }
 }
 
