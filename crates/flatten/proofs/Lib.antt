@@ -1,4 +1,5 @@
 pub mod Names
+pub mod Results
 pub mod Marks
 pub mod Libraries
 pub mod Binding
