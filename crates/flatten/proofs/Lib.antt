@@ -9,6 +9,7 @@ pub mod Telling
 pub mod Waiting
 pub mod Stepping
 pub mod Gathering
+pub mod Added
 pub mod Placing
 pub mod Printable
 pub mod Valid
