@@ -1,4 +1,5 @@
 pub mod Names
+pub mod Results
 pub mod Marks
 pub mod Libraries
 pub mod Binding
@@ -8,6 +9,7 @@ pub mod Telling
 pub mod Waiting
 pub mod Stepping
 pub mod Gathering
+pub mod Added
 pub mod Placing
 pub mod Printable
 pub mod Valid

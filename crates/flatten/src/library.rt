@@ -1,7 +1,7 @@
-ghost use Rattle.std.specs.Prelude.{◌≡◌, [], map, fold, IfOk, OnOk, IfSome, length, ◌<◌};
+ghost use Rattle.std.specs.Prelude.{◌≡◌, [], not, map, fold, IfOk, OnOk, IfSome, length, ◌<◌};
 ghost use Rattle.std.specs.List.{IsDistinct};
 ghost use Rattle.std.specs.Str.{bytes_eq};
-ghost use Rattle.flatten.specs.Instances.{formals, find_model};
+ghost use Rattle.flatten.specs.Instances.{formals, find_model, is_among};
 ghost use Rattle.flatten.specs.Linking.{each_once};
 ghost use Rattle.flatten.specs.Levels.{IsLibraryOf};
 ghost use Rattle.indexmap.specs.IndexSet.{insert_key};
@@ -28,13 +28,22 @@ impl Drop for Library {
     }
 }
 
+/// Adds a copy of the name if it isn't there yet, and answers whether it is new.
+pub(crate) fn add_copy(set: &mut IndexSet<Name>, name: &Name) -> Result<bool, AllocError>
+    ensures names { OnOk result (set.new.keys ≡ insert_key bytes_eq set.old.keys name.now) }
+    ensures is_new { IfOk result (λ is_new. is_new ≡ not (is_among set.old.keys name.now)) }
+{
+    let name = name.copy()?;
+    Ok(set.insert(name)?)
+}
+
 /// Adds copies of the names that aren't there yet.
 #[tactic(auto, using(crate::proofs::Libraries::fold_taken))]
 pub(crate) fn add_all(set: &mut IndexSet<Name>, names: &[Name]) -> Result<(), AllocError>
     ensures { OnOk result (set.new.keys ≡ fold (insert_key bytes_eq) set.old.keys names.now) }
 {
     for name in names {
-        set.insert(name.copy()?)?;
+        add_copy(set, name)?;
     }
     Ok(())
 }
@@ -74,7 +83,7 @@ fn add_model_names(set: &mut IndexSet<Name>, models: &[BlifModel]) -> Result<(),
     ensures { OnOk result (set.new.keys ≡ each_once (map (λ model. model.name) models.now)) }
 {
     for model in models {
-        set.insert(model.name.copy()?)?;
+        add_copy(set, &model.name)?;
     }
     Ok(())
 }

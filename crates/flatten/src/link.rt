@@ -7,7 +7,7 @@ ghost use Rattle.flatten.specs.Drivers.{IsDriversOf, HasSignals, sig_at, sig_or,
 ghost use Rattle.flatten.specs.Levels.{lines_of};
 
 use crate::fault::FlatFault;
-use crate::library::add_all;
+use crate::library::{add_all, add_copy};
 use crate::walk::FlatBody;
 use blif_read::{BlifModel, GateLine, LatchLine};
 use cyc_base::{Items, Name, Sig};
@@ -42,7 +42,7 @@ fn declare(set: &mut IndexSet<Name>, names: &[Name]) -> Result<(), FlatFault>
         ⊎ (option_map FlatFault.DeclaredTwice (first_twice names.now) ≡ Some fault)) }
 {
     for name in names {
-        if !set.insert(name.copy()?)? {
+        if !add_copy(set, name)? {
             return Err(FlatFault::DeclaredTwice { name: name.copy()? });
         }
     }
@@ -93,7 +93,7 @@ fn add_latches(set: &mut IndexSet<Name>, latches: &[LatchLine]) -> Result<(), Fl
         ⊎ (option_map FlatFault.DrivenTwice (twice_after set.old.keys (map (λ l. l.output) latches.now)) ≡ Some fault)) }
 {
     for latch in latches {
-        if !set.insert(latch.output.copy()?)? {
+        if !add_copy(set, &latch.output)? {
             return Err(FlatFault::DrivenTwice {
                 name: latch.output.copy()?,
             });
@@ -110,7 +110,7 @@ fn add_gates(set: &mut IndexSet<Name>, gates: &[GateLine]) -> Result<(), FlatFau
         ⊎ (option_map FlatFault.DrivenTwice (twice_after set.old.keys (map (λ g. g.output) gates.now)) ≡ Some fault)) }
 {
     for gate in gates {
-        if !set.insert(gate.output.copy()?)? {
+        if !add_copy(set, &gate.output)? {
             return Err(FlatFault::DrivenTwice {
                 name: gate.output.copy()?,
             });
@@ -396,6 +396,23 @@ fn check_lines(drivers: &Drivers, top: &BlifModel, lines: &FlatBody) -> Result<(
     Ok(())
 }
 
+/// Parts with the top's name, inputs and clock, and nothing else yet.
+fn bare_parts(alloc: Global, top: &BlifModel, lines: &FlatBody) -> Result<Parts, AllocError>
+    ensures { IfOk result (λ parts. parts ≡ record { name = top.now.name; inputs = top.now.inputs; clock = first_control_by lines.now.latches.items; latches = []; gates = []; outputs = [] }) }
+{
+    let name = top.name.copy()?;
+    let inputs = Items::of(copy_names(alloc, top.inputs.items())?);
+    let clock = copy_control(&lines.latches)?;
+    Ok(Parts {
+        name,
+        inputs,
+        clock,
+        latches: Items::of(Vec::new(alloc)),
+        gates: Items::of(Vec::new(alloc)),
+        outputs: Items::of(Vec::new(alloc)),
+    })
+}
+
 /// The parts of the netlist: its signals are the inputs, the latches and the gates.
 fn parts_of(
     alloc: Global,
@@ -409,19 +426,11 @@ fn parts_of(
     ensures fault { IfErr result (λ fault. (fault ≡ FlatFault.Memory)
         ⊎ (option_map FlatFault.ClockRead (find (is_unread drivers.now) (reads top.now (lines_of lines.now))) ≡ Some fault)) }
 {
-    let outputs = Items::of(read_all(alloc, drivers, top.outputs.items())?);
-    let latches = Items::of(flat_latches(alloc, drivers, &lines.latches)?);
-    let gates = Items::of(flat_gates(alloc, drivers, &lines.gates)?);
-    let clock = copy_control(&lines.latches)?;
-    let inputs = Items::of(copy_names(alloc, top.inputs.items())?);
-    Ok(Parts {
-        name: top.name.copy()?,
-        inputs,
-        clock,
-        latches,
-        gates,
-        outputs,
-    })
+    let mut parts = bare_parts(alloc, top, lines)?;
+    parts.outputs = Items::of(read_all(alloc, drivers, top.outputs.items())?);
+    parts.latches = Items::of(flat_latches(alloc, drivers, &lines.latches)?);
+    parts.gates = Items::of(flat_gates(alloc, drivers, &lines.gates)?);
+    Ok(parts)
 }
 
 /// The parts of the netlist of these lines, or their first fault.

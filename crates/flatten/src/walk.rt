@@ -228,11 +228,11 @@ fn step(
 {
     match item_at(models, level.model, level.next) {
         None => Ok(()),
-        Some(Item::Gate(gate)) => Ok(pass_gate(alloc, walk, level, gate)?),
-        Some(Item::Latch(latch)) => Ok(pass_latch(alloc, walk, level, latch)?),
-        Some(Item::Part(part)) => Ok(pass_part(
-            alloc, models, library, mark, depth, walk, level, part,
-        )?),
+        Some(Item::Gate(gate)) => pass_gate(alloc, walk, level, gate),
+        Some(Item::Latch(latch)) => pass_latch(alloc, walk, level, latch),
+        Some(Item::Part(part)) => {
+            pass_part(alloc, models, library, mark, depth, walk, level, part)
+        }
     }
 }
 

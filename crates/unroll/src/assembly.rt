@@ -1,6 +1,6 @@
 //! The parts of the unrolled netlist.
 
-ghost use Rattle.std.specs.Prelude.{◌≡◌, ◌<◌, ◌≤◌, ◌+◌, ◌++◌, length, map, IfOk, OnOk};
+ghost use Rattle.std.specs.Prelude.{◌≡◌, ◌<◌, ◌≤◌, ◌+◌, ◌++◌, [], length, map, IfOk, OnOk};
 ghost use Rattle.std.specs.List.{range_with_len};
 ghost use Rattle.netlist.specs.Netlists.{count, IsNetlist};
 ghost use Rattle.loops.specs.declared.structure.Cut.{Cut as TheCut};
@@ -144,6 +144,34 @@ fn unrolled_gates(
     Ok(gates)
 }
 
+/// Parts with the netlist's name and clock, and nothing else yet.
+fn bare_parts(alloc: Global, net: &Netlist) -> Result<Parts, AllocError>
+    ensures { IfOk result (λ parts. parts ≡ record { name = net.now.name; inputs = []; clock = net.now.clock; latches = []; gates = []; outputs = [] }) }
+{
+    let name = net.name().copy()?;
+    let clock = copy_clock(net)?;
+    Ok(Parts {
+        name,
+        inputs: Items::of(Vec::new(alloc)),
+        clock,
+        latches: Items::of(Vec::new(alloc)),
+        gates: Items::of(Vec::new(alloc)),
+        outputs: Items::of(Vec::new(alloc)),
+    })
+}
+
+/// The parts of the unrolled netlist but for the gates.
+fn parts_without_gates(alloc: Global, net: &Netlist, by: u32) -> Result<Parts, AllocError>
+    requires { count net.now + by ≤ 4294967295 }
+    ensures { IfOk result (λ parts. parts ≡ record { name = net.now.name; inputs = net.now.inputs; clock = net.now.clock; latches = map (kept_latch_by net.now by) net.now.latches; gates = []; outputs = map (moved_by net.now by) net.now.outputs }) }
+{
+    let mut parts = bare_parts(alloc, net)?;
+    parts.inputs = Items::of(copy_inputs(alloc, net)?);
+    parts.latches = Items::of(kept_latches(alloc, net, by)?);
+    parts.outputs = Items::of(kept_outputs(alloc, net, by)?);
+    Ok(parts)
+}
+
 /// The parts of the unrolled netlist, where so many gates stand before the netlist's own.
 pub(crate) fn unrolled_parts(
     alloc: Global,
@@ -160,18 +188,7 @@ pub(crate) fn unrolled_parts(
     requires fits { count net.now + by ≤ 4294967295 }
     ensures { IfOk result (λ parts. parts ≡ unrolled net.now (loops_by blocks.now cut.now) (sweeps_of blocks.now sweeps.now)) }
 {
-    let name = net.name().copy()?;
-    let inputs = Items::of(copy_inputs(alloc, net)?);
-    let clock = copy_clock(net)?;
-    let latches = Items::of(kept_latches(alloc, net, by)?);
-    let gates = Items::of(unrolled_gates(alloc, net, blocks, cut, sweeps, by)?);
-    let outputs = Items::of(kept_outputs(alloc, net, by)?);
-    Ok(Parts {
-        name,
-        inputs,
-        clock,
-        latches,
-        gates,
-        outputs,
-    })
+    let mut parts = parts_without_gates(alloc, net, by)?;
+    parts.gates = Items::of(unrolled_gates(alloc, net, blocks, cut, sweeps, by)?);
+    Ok(parts)
 }

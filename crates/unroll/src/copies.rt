@@ -1,6 +1,6 @@
 //! The copies of loops, number by number.
 
-ghost use Rattle.std.specs.Prelude.{◌≡◌, ◌<◌, ◌≤◌, ◌+◌, ◌++◌, ℕ, suc, nat_lt, length, map, filter, All, IfOk, OnOk};
+ghost use Rattle.std.specs.Prelude.{◌≡◌, ◌<◌, ◌≤◌, ◌+◌, ◌++◌, ℕ, suc, nat_lt, length, map, filter, replicate, All, IfOk, OnOk};
 ghost use Rattle.std.specs.List.{range_with_len};
 ghost use Rattle.netlist.specs.Netlists.{count};
 ghost use Rattle.loops.specs.Blocks.{AreBlocksOf};
@@ -120,9 +120,79 @@ fn add_round(
     Ok(())
 }
 
+/// The gates that have a copy.
+fn copied_gates(
+    alloc: Global,
+    net: &Netlist,
+    blocks: &Blocks,
+    sweeps: &SweepCounts,
+) -> Result<Vec<u32>, AllocError>
+    requires blocks { AreBlocksOf net.now blocks.now }
+    requires sweeps { length sweeps.now.per_block ≡ length blocks.now.list }
+    ensures { IfOk result (λ gates. gates.items ≡ filter (λ n. nat_lt 0 (copies_of_gate (in_one_loop blocks.now) (sweeps_of blocks.now sweeps.now) n)) (range_with_len 0 (length net.now.gates))) }
+{
+    let all = all_gates(alloc, net.gates())?;
+    with_more_copies(alloc, net, blocks, sweeps, &all, 0)
+}
+
+/// Tables in which each gate has the signal of the constant.
+fn first_tables(alloc: Global, net: &Netlist) -> Result<Tables, AllocError>
+    ensures earlier { IfOk result (λ tables. tables.earlier.items ≡ replicate (length net.now.gates) (first_gate_of net.now)) }
+    ensures current { IfOk result (λ tables. tables.current.items ≡ replicate (length net.now.gates) (first_gate_of net.now)) }
+{
+    let constant = first_gate(net);
+    let width = net.gates() as usize;
+    Ok(Tables {
+        earlier: vec![in alloc; constant; width]?,
+        current: vec![in alloc; constant; width]?,
+    })
+}
+
+/// Adds all copies and enters them. It is linear in what it makes: each number goes over the gates that have a
+/// copy of the number before.
+fn add_rounds(
+    alloc: Global,
+    net: &Netlist,
+    blocks: &Blocks,
+    cut: &Cut,
+    sweeps: &SweepCounts,
+    plan: &Plan,
+    tables: &mut Tables,
+    gates: &mut Vec<Gate>,
+) -> Result<(), AllocError>
+    requires blocks { AreBlocksOf net.now blocks.now }
+    requires cut { IsCutOf net.now cut.now }
+    requires sweeps { length sweeps.now.per_block ≡ length blocks.now.list }
+    requires mark { plan.now.mark ≡ mark_of net.now }
+    requires by { plan.now.by ≡ shift net.now (loops_by blocks.now cut.now) (sweeps_of blocks.now sweeps.now) }
+    requires fits { count net.now + plan.now.by ≤ 4294967295 }
+    requires gates { gates.old.items ≡ constants net.now (loops_by blocks.now cut.now) }
+    requires earlier { tables.old.earlier.items ≡ replicate (length net.now.gates) (first_gate_of net.now) }
+    requires current { tables.old.current.items ≡ replicate (length net.now.gates) (first_gate_of net.now) }
+    ensures gates { OnOk result (gates.new.items ≡ constants net.now (loops_by blocks.now cut.now)
+        ++ map (copy_gate_of net.now (loops_by blocks.now cut.now) (sweeps_of blocks.now sweeps.now)) (copies net.now (loops_by blocks.now cut.now) (sweeps_of blocks.now sweeps.now))) }
+    ensures last { OnOk result (AreLastCopies net.now (loops_by blocks.now cut.now) (sweeps_of blocks.now sweeps.now) tables.new.earlier.items) }
+{
+    let mut active = copied_gates(alloc, net, blocks, sweeps)?;
+    for number in 0..most_copies(net, blocks, sweeps) {
+        add_round(
+            alloc,
+            net,
+            blocks,
+            cut,
+            plan,
+            tables,
+            number + 1,
+            &active,
+            gates,
+        )?;
+        active = with_more_copies(alloc, net, blocks, sweeps, &active, number + 1)?;
+    }
+    Ok(())
+}
+
 /// Adds all copies behind the constant, and answers for each gate the signal of its last copy, or that of the
-/// constant where it has none. It is linear in what it makes: each number goes over the gates that have a copy
-/// of the number before.
+/// constant where it has none.
 pub(crate) fn add_copies(
     alloc: Global,
     net: &Netlist,
@@ -143,27 +213,7 @@ pub(crate) fn add_copies(
         ++ map (copy_gate_of net.now (loops_by blocks.now cut.now) (sweeps_of blocks.now sweeps.now)) (copies net.now (loops_by blocks.now cut.now) (sweeps_of blocks.now sweeps.now))) }
     ensures last { IfOk result (λ last. AreLastCopies net.now (loops_by blocks.now cut.now) (sweeps_of blocks.now sweeps.now) last.items) }
 {
-    let constant = first_gate(net);
-    let width = net.gates() as usize;
-    let mut tables = Tables {
-        earlier: vec![in alloc; constant; width]?,
-        current: vec![in alloc; constant; width]?,
-    };
-    let all = all_gates(alloc, net.gates())?;
-    let mut active = with_more_copies(alloc, net, blocks, sweeps, &all, 0)?;
-    for number in 0..most_copies(net, blocks, sweeps) {
-        add_round(
-            alloc,
-            net,
-            blocks,
-            cut,
-            plan,
-            &mut tables,
-            number + 1,
-            &active,
-            gates,
-        )?;
-        active = with_more_copies(alloc, net, blocks, sweeps, &active, number + 1)?;
-    }
+    let mut tables = first_tables(alloc, net)?;
+    add_rounds(alloc, net, blocks, cut, sweeps, plan, &mut tables, gates)?;
     Ok(tables.earlier)
 }

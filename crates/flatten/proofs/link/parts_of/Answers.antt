@@ -12,7 +12,7 @@ pub returns-in_err-read_all-clause-fault : goal.returns-in_err-read_all-clause-f
 returns-in_err-read_all-clause-fault c =
     let p = is_unread c.args.drivers.now in
     let e = find_reads p c.args.top.now.outputs (map (λ (l : LatchLine). l.from) c.args.lines.now.latches.items) (flat_map (λ (g : GateLine). g.pins) c.args.lines.now.gates.items) in
-    let q = err_from_is_err_and c.from_residual.result c.from_residual.ensures.1 in
+    let q = err_from_is_err_and c.from_residual-in_err-read_all.result c.from_residual-in_err-read_all.ensures.1 in
     rw (q.1, q.2)
     (⊎_elim
     (λ m. inl m)

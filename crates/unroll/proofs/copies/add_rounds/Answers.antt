@@ -1,30 +1,38 @@
-use Rattle.std.proofs.Common.{◌≡◌, ◌<◌, ◌≤◌, ℕ, suc, List, length, All, ap, sym, ◌∙◌, subst, arith}
-use Rattle.std.proofs.lemmas.List.FromFn.{get_or-range_with_len, length-range_with_len}
-use Rattle.std.specs.List.{range_with_len}
+use Rattle.std.proofs.Common.{◌≡◌, ◌<◌, ◌≤◌, ◌++◌, ℕ, suc, List, length, map, All, ap, sym, ◌∙◌, subst, arith}
+use Rattle.std.proofs.lemmas.List.{length-replicate}
 use Rattle.loops.specs.Cuts.{loops_by}
+use Rattle.loops.specs.Sweeps.{first_gate}
 use Rattle.loops.proofs.Told.{blocks_tell_loops}
-use Rattle.unroll.specs.Unrolled.{sweeps_of, most}
+use Rattle.unroll.specs.Unrolled.{sweeps_of, most, constants, copies_upto, copy_gate}
 use Rattle.unroll.proofs.Places.{copied_within}
-use Rattle.unroll.proofs.Rounds.{all_entered, round_fits, made_next}
+use Rattle.unroll.proofs.Rounds.{none_made, none_entered, all_entered, round_fits, made_next}
 use Rattle.unroll.proofs.Counts.{sweeps_are_of_loops}
-use Rattle.unroll.proofs.copies.add_copies.Goals as goal
+use Rattle.unroll.proofs.copies.add_rounds.Goals as goal
 
-range_within : (n : ℕ) (xs : List ℕ) → xs ≡ range_with_len 0 n → All (λ k. k < n) xs
-range_within n xs e =
-    subst (λ (ys : List ℕ). All (λ k. k < n) ys) (sym e)
-    (λ k d l. (let len = length-range_with_len 0 n in let at = get_or-range_with_len 0 n k d (omega arith) in omega arith))
+pub loop-number-init : goal.loop-number-init
+loop-number-init c =
+    let net = c.args.net.now in
+    let loops = loops_by c.args.blocks.now c.args.cut.now in
+    let m = sweeps_of c.args.blocks.now c.args.sweeps.now in
+    record {
+      next = c.in_ok-active.ensures;
+      made = none_made net loops m c.args.gates.now.items c.requires.gates;
+      before = none_entered net loops m c.args.tables.now.earlier.items c.requires.earlier;
+      width = ap length c.requires.current ∙ length-replicate (length net.gates) (first_gate net);
+    }
 
-pub with_more_copies-requires-clause-gates : goal.with_more_copies-requires-clause-gates
-with_more_copies-requires-clause-gates c =
-    range_within (length c.args.net.now.gates) c.deref.result.now
-    (c.deref.ensures.value ∙ c.in_ok-all.ensures ∙ ap (range_with_len 0) c.gates.ensures.gates)
+pub add_round-requires-clause-earlier : goal.add_round-requires-clause-earlier
+add_round-requires-clause-earlier c = c.loop-number.invariant.before.width
+
+pub add_round-requires-clause-current : goal.add_round-requires-clause-current
+add_round-requires-clause-current c = c.loop-number.invariant.width
 
 pub add_round-requires-clause-active : goal.add_round-requires-clause-active
 add_round-requires-clause-active c =
     let net = c.args.net.now in
     let loops = loops_by c.args.blocks.now c.args.cut.now in
     let m = sweeps_of c.args.blocks.now c.args.sweeps.now in
-    subst (λ (ys : List ℕ). All (λ k. k < length net.gates) ys) (sym (c.deref-in-loop-number.ensures.value ∙ c.loop-number.invariant.next))
+    subst (λ (ys : List ℕ). All (λ k. k < length net.gates) ys) (sym (c.deref.ensures.value ∙ c.loop-number.invariant.next))
     (copied_within net loops m (suc c.loop-number.number))
 
 pub add_round-requires-clause-fits : goal.add_round-requires-clause-fits
@@ -34,17 +42,17 @@ add_round-requires-clause-fits c =
     let m = sweeps_of c.args.blocks.now c.args.sweeps.now in
     let test = c.loop-number-test.true in
     let top = c.most_copies-number-end.ensures in
-    round_fits net loops m c.loop-number.number c.args.plan.now.by c.loop-number.gates.items c.deref-in-loop-number.result.now
+    round_fits net loops m c.loop-number.number c.args.plan.now.by c.loop-number.gates.items c.deref.result.now
     (let up : suc c.loop-number.number ≤ most loops.same m (length net.gates) = omega arith in up)
     c.requires.by c.requires.fits c.loop-number.invariant.made
-    (c.deref-in-loop-number.ensures.value ∙ c.loop-number.invariant.next)
+    (c.deref.ensures.value ∙ c.loop-number.invariant.next)
 
-pub with_more_copies-requires-in-loop-number-clause-gates : goal.with_more_copies-requires-in-loop-number-clause-gates
-with_more_copies-requires-in-loop-number-clause-gates c =
+pub with_more_copies-requires-clause-gates : goal.with_more_copies-requires-clause-gates
+with_more_copies-requires-clause-gates c =
     let net = c.args.net.now in
     let loops = loops_by c.args.blocks.now c.args.cut.now in
     let m = sweeps_of c.args.blocks.now c.args.sweeps.now in
-    subst (λ (ys : List ℕ). All (λ k. k < length net.gates) ys) (sym (c.deref-in-loop-number-2.ensures.value ∙ c.loop-number.invariant.next))
+    subst (λ (ys : List ℕ). All (λ k. k < length net.gates) ys) (sym (c.deref-in-loop-number.ensures.value ∙ c.loop-number.invariant.next))
     (copied_within net loops m (suc c.loop-number.number))
 
 pub loop-number-preserved : goal.loop-number-preserved
@@ -61,11 +69,22 @@ loop-number-preserved c =
     let are = blocks_tell_loops net blocks c.args.cut.now c.requires.blocks c.requires.cut in
     let of_loops = sweeps_are_of_loops net blocks c.args.cut.now c.args.sweeps.now c.requires.blocks in
     made_next net loops m are of_loops k c.args.plan.now.by c.args.plan.now.mark
-    c.loop-number.active.items c.deref-in-loop-number.result.now c.deref-in-loop-number-2.result.now c.in_ok-active-2.active.items
+    c.loop-number.active.items c.deref.result.now c.deref-in-loop-number.result.now c.in_ok-active-2.active.items
     c.loop-number.gates.items c.add_round.new.gates.items
     c.loop-number.tables.earlier.items c.add_round.new.tables.earlier.items c.loop-number.tables.current.items c.add_round.new.tables.current.items
-    top c.requires.mark c.requires.by inv c.deref-in-loop-number.ensures.value c.deref-in-loop-number-2.ensures.value
+    top c.requires.mark c.requires.by inv c.deref.ensures.value c.deref-in-loop-number.ensures.value
     c.in_ok-add_round.ensures.gates c.in_ok-add_round.ensures.earlier c.in_ok-add_round.ensures.widths.1 c.in_ok-active-2.ensures
+
+pub returns-clause-gates : goal.returns-clause-gates
+returns-clause-gates c =
+    let net = c.args.net.now in
+    let loops = loops_by c.args.blocks.now c.args.cut.now in
+    let m = sweeps_of c.args.blocks.now c.args.sweeps.now in
+    let test = c.loop-number-test.false in
+    let end = c.loop-number.auto.number-end in
+    let top = c.most_copies-number-end.ensures in
+    let all : c.loop-number.number ≡ most loops.same m (length net.gates) = omega arith in
+    c.loop-number.invariant.made ∙ ap (λ k. constants net loops ++ map (copy_gate net loops m) (copies_upto net loops m k)) all
 
 pub returns-clause-last : goal.returns-clause-last
 returns-clause-last c =

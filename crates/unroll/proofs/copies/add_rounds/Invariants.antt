@@ -1,7 +1,7 @@
 use Rattle.loops.specs.Cuts.{loops_by}
 use Rattle.unroll.specs.Unrolled.{sweeps_of}
 use Rattle.unroll.specs.Tables.{AreMade}
-use Rattle.unroll.proofs.copies.add_copies.Given as goal
+use Rattle.unroll.proofs.copies.add_rounds.Given as goal
 
 abbrev pub invariant-loop-number : goal.invariant-loop-number
 invariant-loop-number l =

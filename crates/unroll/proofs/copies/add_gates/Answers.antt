@@ -1,0 +1,19 @@
+use Rattle.std.proofs.Common.{◌<◌, ◌++◌, ◌∷◌, [], length, get_or, map, take, ap, ap₂, sym, ◌∙◌, arith}
+use Rattle.std.proofs.lemmas.List.{append_assoc, map_more}
+use Rattle.loops.specs.Cuts.{loops_by}
+use Rattle.unroll.specs.Tables.{copy_gate_by}
+use Rattle.unroll.proofs.copies.add_gates.Goals as goal
+
+pub loop-gate-preserved : goal.loop-gate-preserved
+loop-gate-preserved c =
+    let active = c.args.active.now in
+    let plan = c.args.plan.now in
+    let tables = c.args.tables.now in
+    let copy = copy_gate_by c.args.net.now (loops_by c.args.blocks.now c.args.cut.now) plan.mark plan.by tables.earlier.items tables.current.items c.args.number in
+    let old = c.args.gates.now.items in
+    let i = c.loop-gate.gate-index in
+    let inside : i < length active = omega arith in
+    c.in_ok-push.ensures.items
+    ∙ ap₂ (λ gates gate. gates ++ gate ∷ []) c.loop-gate.invariant c.in_ok-copy_gate.ensures
+    ∙ append_assoc old (map copy (take i active)) (copy (get_or active i 0) ∷ [])
+    ∙ ap (λ gates. old ++ gates) (sym (map_more copy active i 0 inside))
