@@ -3,11 +3,11 @@ use Rattle.std.proofs.Common.{◌≡◌, inl, inr, ℕ, ◌+◌, ◌≤◌, ◌<
 use Rattle.std.proofs.lemmas.Bool.{cases_eq, cases_lt}
 use Rattle.std.proofs.lemmas.List.{length-replicate, get_or-replicate, get_or_past}
 use Rattle.netlist.specs.declared.parts.Parts.{Parts}
-use Rattle.schedules.specs.Moments.{History}
+use Rattle.schedules.specs.Moments.{History, newest}
 use Rattle.std.specs.Prelude.{if◌then◌else◌, position, option_map}
 use Rattle.std.proofs.lemmas.Bool.{ltb-true, ltb-false}
 use Rattle.netlist.proofs.Decisions.{none_found}
-use Rattle.netlist.specs.Netlists.{gate_at}
+use Rattle.netlist.specs.Netlists.{count, gate_at}
 use Rattle.schedules.specs.declared.event.Event.{Event}
 use Rattle.schedules.specs.Fairness.{IsEventOf}
 use Rattle.delay_core.specs.declared.fault.EventFault.{EventFault}
@@ -83,3 +83,20 @@ module _ (net : Parts) (history : History) (before now opening : ℕ) (marks : L
         had = λ n t. absurd (true≢false (sym t ∙ never_true (length net.gates) n));
         none = is.none;
       }
+
+-- a tick that has just opened fits
+pub opens : (net : Parts) (history : History) (before now opening : ℕ) → length (newest history) ≡ count net → 1 ≤ now → before + now ≤ opening → opening ≡ length history → IsPlay net history before now opening [] 1 (no_events net)
+opens net history before now opening wide tick ticks moments =
+    record {
+      width = wide;
+      done = length-replicate (length net.gates) false;
+      tick = tick;
+      ticks = ticks;
+      moments = omega (arith, moments);
+      begun = omega arith;
+      behind = λ i l. absurd (omega arith);
+      rising = λ i j d le lt. absurd (omega arith);
+      rounds = λ some. omega arith;
+      had = λ n t. absurd (true≢false (sym t ∙ never_true (length net.gates) n));
+      none = λ e. refl;
+    }

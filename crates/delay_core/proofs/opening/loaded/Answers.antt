@@ -1,6 +1,7 @@
 use Rattle.std.proofs.Common.{◌≡◌, ◌<◌, Bool, List, false, length, get_or, sym, ap, ◌∙◌, arith}
-use Rattle.std.proofs.lemmas.List.{get_or-map, length-map}
+use Rattle.std.proofs.lemmas.List.{get_or-map, length-map, take_all}
 use Rattle.std.proofs.lemmas.Option.{get_or_from_slice_get}
+use Rattle.netlist.specs.Netlists.{count}
 use Rattle.netlist.specs.declared.parts.Latch.{Latch}
 use Rattle.schedules.specs.Moments.{newest, bit_at}
 use Rattle.schedules.specs.Runs.{loaded_at}
@@ -23,3 +24,33 @@ loop-number-preserved c =
       len = omega arith;
       room = omega arith;
     }
+
+pub loop-number-init : goal.loop-number-init
+loop-number-init c =
+    record {
+      bits = c.in_ok-bits.ensures.items;
+      len = c.in_ok-bits.ensures.len;
+      room = omega (arith, c.in_ok-bits.ensures.capacity, c.latches.ensures.latches);
+    }
+
+pub latch-requires : goal.latch-requires
+latch-requires c = omega (arith, c.loop-number-test.true, c.latches-number-end.ensures.latches)
+
+pub value-requires-clause-signal : goal.value-requires-clause-signal
+value-requires-clause-signal c =
+    let is : get_or c.args.net.now.latches c.loop-number.number c.latch.result.now ≡ c.latch.result.now =
+    get_or_from_slice_get c.args.net.now.latches c.loop-number.number c.latch.result.now c.latch.result.now c.latch.ensures.latch in
+    let source : c.latch.result.now.from.0 < count c.args.net.now =
+    rw is at (c.latch.ensures.valid.sources c.loop-number.number c.latch.result.now (omega (arith, c.loop-number-test.true, c.latches-number-end.ensures.latches))) in
+    rw c.requires source
+
+pub push_reserved-requires : goal.push_reserved-requires
+push_reserved-requires c =
+    omega (arith, c.loop-number.invariant.len, c.loop-number.invariant.room, c.loop-number-test.true, c.latches-number-end.ensures.latches)
+
+pub returns : goal.returns
+returns c =
+    let now : List Bool = newest c.args.timeline.now.history in
+    c.loop-number.invariant.bits
+    ∙ take_all c.loop-number.number (loaded_at c.args.net.now now)
+    (omega (arith, length-map c.args.net.now.latches (λ (latch : Latch). bit_at now latch.from), c.loop-number-test.false, c.latches-number-end.ensures.latches))

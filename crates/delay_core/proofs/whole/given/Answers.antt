@@ -1,7 +1,9 @@
 use Rattle.std.proofs.Common.{◌≡◌, ◌+◌, ◌<◌, Bool, List, ℕ, false, length, get_or, ap, sym, ◌∙◌, arith}
-use Rattle.std.proofs.lemmas.List.{length-map, get_or-map, get_or-take, length-take}
+use Rattle.std.proofs.lemmas.List.{take_all, length-map, get_or-map, get_or-take, length-take}
 use Rattle.cyc_base.specs.declared.trit.Trit.TheVariants.{X}
 use Rattle.cyc_base.specs.Values.{bit, bits}
+use Rattle.netlist.specs.declared.parts.Parts.{Parts}
+use Rattle.netlist.specs.Netlists.{count}
 use Rattle.schedules.specs.Moments.{newest}
 use Rattle.delay_core.specs.Plans.{given_at}
 use Rattle.delay_core.proofs.ReadingLemmas.{pushed}
@@ -25,3 +27,31 @@ loop-number-preserved c =
       len = omega arith;
       room = omega arith;
     }
+
+pub loop-number-init : goal.loop-number-init
+loop-number-init c =
+    record {
+      values = c.in_ok-values.ensures.items;
+      len = c.in_ok-values.ensures.len;
+      room = omega (arith, c.in_ok-values.ensures.capacity, c.inputs.ensures.inputs, c.latches.ensures.latches);
+    }
+
+pub value-requires : goal.value-requires
+value-requires c =
+    omega (arith, ap (λ (net : Parts). count net) c.requires, c.loop-number-test.true, c.inputs-2.ensures.inputs, c.latches-2.ensures.latches)
+
+pub push_reserved-requires : goal.push_reserved-requires
+push_reserved-requires c =
+    omega (arith, c.loop-number.invariant.len, c.loop-number.invariant.room, c.loop-number-test.true, c.inputs-2.ensures.inputs, c.latches-2.ensures.latches)
+
+pub returns-clause-given : goal.returns-clause-given
+returns-clause-given c =
+    let now : List Bool = newest c.args.play.now.state.history in
+    let columns : ℕ = length c.args.net.now.inputs + length c.args.net.now.latches in
+    c.loop-number.invariant.values
+    ∙ take_all c.loop-number.number (bits (given_at c.args.net.now now))
+    (omega (arith, length-map (given_at c.args.net.now now) bit, length-take columns now, c.loop-number-test.false, c.inputs-2.ensures.inputs, c.latches-2.ensures.latches))
+
+pub returns-clause-width : goal.returns-clause-width
+returns-clause-width c =
+    omega (arith, c.loop-number.values.ok, c.loop-number.invariant.len, c.loop-number.auto.number-end, c.loop-number-test.false, c.inputs-2.ensures.inputs, c.latches-2.ensures.latches)

@@ -1,5 +1,6 @@
-use Rattle.std.proofs.Common.{◌≡◌, ◌<◌, Bool, List, false, length, get_or, sym, ◌∙◌, arith}
-use Rattle.std.proofs.lemmas.List.{get_or-map, length-map}
+use Rattle.std.proofs.Common.{◌≡◌, ◌<◌, Bool, List, false, length, get_or, ap, sym, ◌∙◌, arith}
+use Rattle.std.proofs.lemmas.List.{get_or-map, length-map, take_all}
+use Rattle.cyc_base.specs.declared.sig.Sig.{Sig}
 use Rattle.schedules.specs.Moments.{newest, bit_at}
 use Rattle.schedules.specs.Runs.{outputs_at}
 use Rattle.delay_core.proofs.ReadingLemmas.{pushed}
@@ -18,3 +19,27 @@ loop-s-preserved c =
       len = omega arith;
       room = omega arith;
     }
+
+pub loop-s-init : goal.loop-s-init
+loop-s-init c =
+    record {
+      bits = c.in_ok-bits.ensures.items;
+      len = c.in_ok-bits.ensures.len;
+      room = omega (arith, c.in_ok-bits.ensures.capacity, ap (λ (ss : List Sig). length ss) c.outputs.ensures.outputs);
+    }
+
+pub value-requires : goal.value-requires
+value-requires c =
+    let in_range : c.loop-s.s-index < length c.args.net.now.outputs = rw c.outputs-s-items.ensures.outputs at c.loop-s-test.true in
+    rw (c.requires, c.outputs-s-items.ensures.outputs) (c.outputs-s-items.ensures.valid.outputs c.loop-s.s-index (record { 0 = 0 }) in_range)
+
+pub push_reserved-requires : goal.push_reserved-requires
+push_reserved-requires c =
+    omega (arith, c.loop-s.invariant.len, c.loop-s.invariant.room, c.loop-s-test.true, ap (λ (ss : List Sig). length ss) c.outputs-s-items.ensures.outputs)
+
+pub returns : goal.returns
+returns c =
+    let last : List Bool = newest c.args.play.now.state.history in
+    c.of.ensures ∙ c.loop-s.invariant.bits
+    ∙ take_all c.loop-s.s-index (outputs_at c.args.net.now last)
+    (omega (arith, c.loop-s-test.false, length-map c.args.net.now.outputs (bit_at last), ap (λ (ss : List Sig). length ss) c.outputs-s-items.ensures.outputs))

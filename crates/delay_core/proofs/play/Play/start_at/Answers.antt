@@ -1,0 +1,64 @@
+use Rattle.std.proofs.Common.{◌≡◌, ◌∷◌, [], ◌++◌, ◌+◌, ℕ, suc, List, Bool, length, reverse, false, replicate, ap, ap₂, sym, ◌∙◌, arith}
+use Rattle.std.proofs.lemmas.List.{length-append, length-reverse}
+use Rattle.netlist.specs.Netlists.{count}
+use Rattle.netlist.specs.Fixpoint.{wires}
+use Rattle.schedules.specs.Moments.{History, newest}
+use Rattle.delay_core.specs.Plays.{SeenPlay, no_events, starts_of}
+use Rattle.delay_core.proofs.PlayLemmas.{opens}
+use Rattle.delay_core.proofs.ReadingLemmas.{starts-none}
+use Rattle.delay_core.proofs.play.Play.start_at.Goals as goal
+
+pub opened-requires : goal.opened-requires
+opened-requires c =
+    let wide : length c.args.inputs.now + length c.args.latches.now + length c.args.gates.now ≡ count c.args.net.now =
+    omega (arith, c.requires.inputs, c.requires.latches, c.requires.gates) in
+    record {
+      past = λ k d l. c.requires.past k d l ∙ sym wide;
+      signals = omega (arith, wide, c.count-signals.ensures.count, c.count-signals.type_inv);
+    }
+
+pub invariant_of-result : goal.invariant_of-result
+invariant_of-result c =
+    let past : History = reverse c.args.past.now in
+    let opening : List Bool = wires (c.args.inputs.now ++ c.args.latches.now) c.args.gates.now in
+    let history : c.in_ok-timeline.timeline.history ≡ opening ∷ past = c.in_ok-timeline.ensures in
+    let wide : length opening ≡ count c.args.net.now =
+    omega (arith, length-append (c.args.inputs.now ++ c.args.latches.now) c.args.gates.now, length-append c.args.inputs.now c.args.latches.now, c.requires.inputs, c.requires.latches, c.requires.gates) in
+    let long : length c.in_ok-timeline.timeline.history ≡ suc (length c.args.past.now) =
+    ap (λ (h : History). length h) history ∙ ap suc (length-reverse c.args.past.now) in
+    let done : c.in_ok-done.done.items ≡ no_events c.args.net.now =
+    c.in_ok-done.ensures.items_if_clones_equal (λ y e. e) ∙ ap (λ n. replicate n false) c.gates.ensures.gates in
+    let is = opens c.args.net.now c.in_ok-timeline.timeline.history (length c.args.past.now) 1 c.moments-opening.result
+    (ap (λ (h : History). length (newest h)) history ∙ wide)
+    (omega arith)
+    (omega (arith, c.moments-opening.ensures, long))
+    c.moments-opening.ensures in
+    (rw (c.new.ensures.items, done) is, omega (arith, c.in_ok-bits.ensures.capacity), omega arith, omega (arith, c.new.ensures.len))
+
+pub returns : goal.returns
+returns c =
+    let past : History = reverse c.args.past.now in
+    let opening : List Bool = wires (c.args.inputs.now ++ c.args.latches.now) c.args.gates.now in
+    let history : c.in_ok-timeline.timeline.history ≡ opening ∷ past = c.in_ok-timeline.ensures in
+    let number : c.moments-opening.result ≡ suc (length past) =
+    c.moments-opening.ensures ∙ ap (λ (h : History). length h) history in
+    let starts : starts_of c.moments-opening.result c.new.result.items 1 ≡ suc (length past) ∷ [] =
+    ap₂ (λ n (ms : List ℕ). starts_of n ms 1) number c.new.ensures.items ∙ starts-none (suc (length past)) 1 in
+    let done : c.in_ok-done.done.items ≡ no_events c.args.net.now =
+    c.in_ok-done.ensures.items_if_clones_equal (λ y e. e) ∙ ap (λ n. replicate n false) c.gates.ensures.gates in
+    let build : ℕ → ℕ → History → List ℕ → List Bool → SeenPlay = λ p o h ss d. record {
+      state = record {
+        net = c.args.net.now;
+        window = c.args.window;
+        past = p;
+        history = h;
+        tick = 1;
+        opening = o;
+        starts = ss;
+        done = d;
+      };
+      spare = 0;
+    } in
+    ap₂ (λ p o. build p o c.in_ok-timeline.timeline.history (starts_of c.moments-opening.result c.new.result.items 1) c.in_ok-done.done.items) (sym (length-reverse c.args.past.now)) number
+    ∙ ap₂ (λ h ss. build (length past) (suc (length past)) h ss c.in_ok-done.done.items) history starts
+    ∙ ap (build (length past) (suc (length past)) (opening ∷ past) (suc (length past) ∷ [])) done
