@@ -21,7 +21,7 @@ use Rattle.loops.specs.Placing.{Rise}
 use Rattle.loops.specs.Sweeps.{first_gate}
 use Rattle.loops.proofs.Told.{gate_home, home_gate}
 use Rattle.isolation.specs.Excerpts.{origins, origin, gate_in, IsRead, AreOnce, IsExcerpt}
-use Rattle.isolation.specs.Building.{IsOutside, AreOutside, AreWires, IsAmong, AddWires, AreClosed, AreWiresOf, AreNumbersOf, IsCopyOf, IsPlaceOf, IsLoopNetlist}
+use Rattle.isolation.specs.Building.{IsOutside, AreOutside, AreWires, IsAmong, AddWires, AreClosed, AreCopies, AreWiresOf, AreNumbersOf, IsCopyOf, IsPlaceOf, IsLoopNetlist}
 
 -- a gate of a block, by its signal
 pub inside_block : (net : Parts) (blocks : Blocks) → AreBlocksOf net blocks → (place : ℕ) (s : Sig) → place < length blocks.list → Contains (map (gate_sig net) (block_at blocks place).gates) s →
@@ -307,3 +307,27 @@ search_none gates gate i found rise c =
       | inl low ↦ (let r = rise i j low less in omega (arith, r))
       | inr high ↦ (let same : i ≡ j = omega (arith, le, high) in let e = ap (λ (n : ℕ). get_or gates n 0) same in omega (arith, e))
     ]
+
+-- ---- the gates, copied one by one
+
+pub copies_none : (net : Parts) (signals : List Sig) (gates : List ℕ) (made : List Gate) → made ≡ [] → AreCopies net signals gates made 0
+copies_none net signals gates made none = record {
+  size = ap (λ (gs : List Gate). length gs) none;
+  each = λ i less. absurd (omega (arith, less));
+}
+
+pub copies_more : (net : Parts) (signals : List Sig) (gates : List ℕ) (made new : List Gate) (n d : ℕ) (copy : Gate) → n < length gates → AreCopies net signals gates made n → IsCopyOf signals (gate_at net (get_or gates n d)) copy → new ≡ made ++ copy ∷ [] →
+    AreCopies net signals gates new (n + 1)
+copies_more net signals gates made new n d copy inside are one is = subst (λ (gs : List Gate). AreCopies net signals gates gs (n + 1)) (sym is) (record {
+  size = let s = are.size in let l = length_push made copy in omega (arith, s, l);
+  each = λ i less. elim (cases_lt i n) [
+    | inl low ↦
+        let s = are.size in
+        subst (IsCopyOf signals (gate_at net (gate_in gates i))) (sym (get_or_append_left made (copy ∷ []) no_gate i (omega (arith, s, low)))) (are.each i low)
+    | inr high ↦
+        let s = are.size in
+        let at : i ≡ n = omega (arith, less, high) in
+        subst (λ (g : Gate). IsCopyOf signals g (get_or (made ++ copy ∷ []) i no_gate)) (ap (gate_at net) (get_or_default gates n d 0 inside ∙ ap (gate_in gates) (sym at)))
+        (subst (IsCopyOf signals (gate_at net (get_or gates n d))) (sym (get_or_push made copy no_gate i (omega (arith, s, at)))) one)
+  ];
+})

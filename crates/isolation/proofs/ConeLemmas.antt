@@ -14,7 +14,7 @@ use Rattle.netlist.specs.Netlists.{count, signal, gate_sig}
 use Rattle.netlist.specs.Fixpoint.{wire, fix, fix_gates}
 use Rattle.loops.specs.Sweeps.{first_gate, value_in}
 use Rattle.loops.proofs.Walks.{begins_at}
-use Rattle.isolation.specs.Cones.{is_marked, AreUpstreamMarks, IsConeOf, IsNumberIn, ListsMarked}
+use Rattle.isolation.specs.Cones.{is_marked, AreGatesUpstream, AreUpstreamMarks, IsConeOf, IsNumberIn, ListsMarked}
 use Rattle.loops.specs.Found.{loops_of}
 use Rattle.loops.proofs.Sweeps.{length-fix}
 use Rattle.netlist.specs.Netlists.{IsNetlist}
@@ -165,10 +165,8 @@ columns-apart net gates columns is s column gate =
     let n = c.1 in
     omega (arith, g, e, l, n)
 
-pub cone-is : (net : Parts) (marks up : List Bool) (gates : List ℕ) (columns : List Sig) (small : Parts) → columns ≡ column_signals net → IsExcerpt net columns gates small → ListsMarked up (length net.gates) gates → AreUpstreamMarks net marks up →
-    IsConeOf net marks gates small
-cone-is net marks up gates columns small columns_are excerpt listed marked = record {
-  is = subst (λ (xs : List Sig). IsExcerpt net xs gates small) columns_are excerpt;
+pub gates-upstream : (net : Parts) (marks up : List Bool) (gates : List ℕ) → ListsMarked up (length net.gates) gates → AreUpstreamMarks net marks up → AreGatesUpstream net marks gates
+gates-upstream net marks up gates listed marked = record {
   whole = record {
     within = λ i l. (member i l).0;
     rise = listed.rise;
@@ -186,6 +184,15 @@ cone-is net marks up gates columns small columns_are excerpt listed marked = rec
   where
     member : (i : ℕ) → i < length gates → (gate_in gates i < length net.gates) × (is_marked up (gate_in gates i) ≡ true)
     member i l = (listed.each (gate_in gates i)).0 (i, l, get_or_default gates i (gate_in gates i) 0 l)
+
+pub upstream-within : (net : Parts) (marks : List Bool) (gates : List ℕ) → AreGatesUpstream net marks gates → All (λ gate. gate < length net.gates) gates
+upstream-within net marks gates are k d less =
+    let e = get_or_default gates k d 0 less in
+    let w = are.whole.within k less in
+    omega (arith, e, w)
+
+pub cone-is : (net : Parts) (marks : List Bool) (gates : List ℕ) (small : Parts) → IsExcerpt net (column_signals net) gates small → AreGatesUpstream net marks gates → IsConeOf net marks gates small
+cone-is net marks gates small excerpt are = record { is = excerpt; whole = are.whole; each = are.each }
 
 -- ---- the signals of a cone
 

@@ -25,6 +25,11 @@ pub record AreUpstreamMarks (net : Parts) (old new : List Bool) : Type 0 where
   pub width : length new ≡ length net.gates
   pub each : (m : ℕ) → m < length net.gates → (is_marked new m ≡ true) ↔ LeadsToMark net old m
 
+-- These are just the gates upstream of marked ones, with their whole loops.
+pub record AreGatesUpstream (net : Parts) (marks : List Bool) (gates : List ℕ) : Type 0 where
+  pub whole : AreWhole net gates
+  pub each : (m : ℕ) → m < length net.gates → Contains gates m ↔ LeadsToMark net marks m
+
 -- The netlist of a cone: just the gates upstream of marked ones, with their whole loops, and with the columns as inputs.
 pub record IsConeOf (net : Parts) (marks : List Bool) (gates : List ℕ) (small : Parts) : Type 0 where
   pub is : IsExcerpt net (column_signals net) gates small

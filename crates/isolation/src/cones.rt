@@ -4,7 +4,8 @@ ghost use Rattle.std.specs.Prelude.{◌≡◌, ◌<◌, length, All, IfOk, IfSom
 ghost use Rattle.netlist.specs.Netlists.{gate_sig, IsNetlist, IsSignal};
 ghost use Rattle.netlist.specs.Walks.{Feeds};
 ghost use Rattle.loops.specs.Blocks.{AreBlocksOf};
-ghost use Rattle.isolation.specs.Cones.{AddMarks, AreUpstreamMarks, IsConeOf, IsNear, IsNearOne, IsNumberIn, IsWithMark, ListsMarked};
+ghost use Rattle.isolation.specs.Cones.{AddMarks, AreGatesUpstream, AreUpstreamMarks, IsConeOf, IsNear, IsNearOne, IsNumberIn, IsWithMark, ListsMarked};
+ghost use Rattle.isolation.specs.Excerpts.{IsExcerpt};
 ghost use Rattle.isolation.specs.Laws.{column_signals};
 
 use crate::excerpt::{excerpt, gates_at, place_among};
@@ -151,6 +152,31 @@ impl Drop for Cone {
     }
 }
 
+/// The gates that lie upstream of the marked gates, with their whole loops, in flat order.
+fn gates_upstream(
+    alloc: Global,
+    net: &Netlist,
+    blocks: &Blocks,
+    marks: &[bool],
+) -> Result<Items<u32>, AllocError>
+    requires blocks { AreBlocksOf net.now blocks.now }
+    requires width { length marks.now ≡ length net.now.gates }
+    ensures { IfOk result (AreGatesUpstream net.now marks.now) }
+{
+    let upstream = upstream_of(alloc, net, blocks, marks)?;
+    Ok(Items::of(marked_gates(alloc, net, &upstream)?))
+}
+
+/// These gates as a netlist of its own, whose inputs are all columns.
+fn netlist_of(alloc: Global, net: &Netlist, gates: &[u32]) -> Result<Option<Netlist>, AllocError>
+    requires { All (λ n. n < length net.now.gates) gates.now }
+    ensures small { IfOk result (λ found. IfSome found (IsExcerpt net.now (column_signals net.now) gates.now)) }
+    ensures valid { IfOk result (λ found. IfSome found IsNetlist) }
+{
+    let columns = column_set(alloc, net)?;
+    excerpt(alloc, net, gates, &columns)
+}
+
 /// The cone of the marked gates: these and all gates from which a walk along pins leads to one of them, with their
 /// whole loops, as a netlist whose inputs are the columns of the whole. At each vector its gates have the values, and
 /// its loops the sweeps, that they have in the whole (`laws::excerpts_keep`).
@@ -170,16 +196,11 @@ pub fn cone_netlist(
     ensures cone { IfOk result (λ found. IfSome found (λ cone. IsConeOf net.now marks.now cone.gates cone.netlist)) }
     ensures valid { IfOk result (λ found. IfSome found (λ cone. IsNetlist cone.netlist)) }
 {
-    let upstream = upstream_of(alloc, net, blocks, marks)?;
-    let gates = marked_gates(alloc, net, &upstream)?;
-    let columns = column_set(alloc, net)?;
-    let Some(netlist) = excerpt(alloc, net, &gates, &columns)? else {
+    let gates = gates_upstream(alloc, net, blocks, marks)?;
+    let Some(netlist) = netlist_of(alloc, net, gates.items())? else {
         return Ok(None);
     };
-    Ok(Some(Cone {
-        gates: Items::of(gates),
-        netlist,
-    }))
+    Ok(Some(Cone { gates, netlist }))
 }
 
 /// The number that a signal has in the cone of these gates, if it is there: columns have their own.
