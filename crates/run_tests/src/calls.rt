@@ -44,23 +44,11 @@ fn words_of(alloc: Global, line: &str) -> Result<Vec<Name>, AllocError> {
     Ok(words)
 }
 
-/// Adds a file of this name and text.
-fn add_file(
-    alloc: Global,
-    files: &mut Vec<(Name, Vec<u8>)>,
-    file: &str,
-    text: &[u8],
-) -> Result<(), AllocError> {
-    let file = name(alloc, file)?;
-    files.push((file, text.to_vec(alloc)?))?;
-    Ok(())
-}
-
 /// The netlist file `m.blif` and the care file `c.blif`, where the reads of these numbers fail.
 fn shelf(alloc: Global, text: &[u8], care: &[u8], fail: &[u64]) -> Result<MemoryShelf, AllocError> {
-    let mut files = Vec::new(alloc);
-    add_file(alloc, &mut files, "m.blif", text)?;
-    add_file(alloc, &mut files, "c.blif", care)?;
+    let netlist = (Name::new(b"m.blif".to_vec(alloc)?), text.to_vec(alloc)?);
+    let care = (Name::new(b"c.blif".to_vec(alloc)?), care.to_vec(alloc)?);
+    let files = vec![in alloc; netlist, care]?;
     Ok(MemoryShelf::new(alloc, files, fail.to_vec(alloc)?))
 }
 
@@ -71,10 +59,10 @@ fn play_shelf(
     vectors: &[u8],
     schedule: &[u8],
 ) -> Result<MemoryShelf, AllocError> {
-    let mut files = Vec::new(alloc);
-    add_file(alloc, &mut files, "m.blif", text)?;
-    add_file(alloc, &mut files, "v.txt", vectors)?;
-    add_file(alloc, &mut files, "s.txt", schedule)?;
+    let netlist = (Name::new(b"m.blif".to_vec(alloc)?), text.to_vec(alloc)?);
+    let vectors = (Name::new(b"v.txt".to_vec(alloc)?), vectors.to_vec(alloc)?);
+    let schedule = (Name::new(b"s.txt".to_vec(alloc)?), schedule.to_vec(alloc)?);
+    let files = vec![in alloc; netlist, vectors, schedule]?;
     Ok(MemoryShelf::new(alloc, files, Vec::new(alloc)))
 }
 
