@@ -1,0 +1,46 @@
+-- The core that a refutation leaves, and what a step shows of one that came before.
+use Rattle.std.proofs.Common.{◌≡◌, ◌<◌, ◌≤◌, ◌∙◌, List, length, get_or, map, Ok, Err, Some, Option, subst, arith}
+use Rattle.std.specs.Prelude.{Result, IfOk, IfSome}
+use Rattle.std.specs.List.{All, Contains}
+use Rattle.std.proofs.Math.ListN.{get_or-map}
+use Rattle.std.proofs.lemmas.List.{length-map, get_or_default}
+use Rattle.std.proofs.lemmas.List.Elements.{All-map}
+use Rattle.sat.specs.declared.lit.Lit.{Lit}
+use Rattle.sat.specs.Cnf.{negated}
+use Rattle.sat.specs.declared.values.Truth.{Truth}
+use Rattle.sat.specs.declared.steps.Verdict.{Verdict}
+use Rattle.sat.specs.declared.steps.Verdict.TheVariants.{Refuted}
+use Rattle.sat.specs.declared.steps.Step.{Step}
+use Rattle.sat.specs.declared.steps.Step.TheVariants.{Decided, Conflict, Found}
+use Rattle.sat.specs.Values.{open_count}
+use Rattle.sat.specs.Answers.{IsCore, IsVerdict, Refutes, Shows}
+use Rattle.sat.proofs.CnfLemmas.{refuted}
+
+-- the complements of a clause's literals are in the core
+complements : (clause : List Lit) → All (λ l. Contains (map negated clause) (negated l)) clause
+complements clause k d within =
+    let inside : k < length (map negated clause) = rw (length-map clause negated) within in
+    (k, inside, get_or_default (map negated clause) k (negated (get_or clause k d)) (negated d) inside ∙ get_or-map negated clause k d)
+
+pub core_of : (formula : List (List Lit)) (assumptions clause : List Lit) → Refutes formula assumptions clause → IsCore formula assumptions (map negated clause)
+core_of formula assumptions clause refutes = record {
+  assumed = All-map (Contains assumptions) negated clause refutes.assumed;
+  refuted = refuted formula clause (map negated clause) refutes.entailed (complements clause);
+}
+
+-- what was found is that the assumptions are refuted
+pub refutes_of : (formula : List (List Lit)) (assumptions : List Lit) (values : List Truth) (clause : List Lit) (found : Option Verdict) (verdict : Verdict) →
+    IfSome found (IsVerdict formula assumptions values clause) → found ≡ Some verdict → verdict ≡ Refuted → Refutes formula assumptions clause
+refutes_of formula assumptions values clause found verdict shown is refuted =
+    let here : IsVerdict formula assumptions values clause verdict = subst (λ (o : Option Verdict). IfSome o (IsVerdict formula assumptions values clause)) is shown in
+    subst (λ (v : Verdict). IsVerdict formula assumptions values clause v) refuted here
+
+module _ (formula database : List (List Lit)) (assumptions : List Lit) (before mid values : List Truth) (clause : List Lit) (fewer : open_count mid ≤ open_count before) where
+  shows_since : (step : Step) → Shows formula database assumptions mid values clause step → Shows formula database assumptions before values clause step
+  shows_since Decided shown = omega (arith, shown, fewer)
+  shows_since Conflict shown = shown
+  shows_since (Found verdict) shown = shown
+
+  pub shows_from : {E : Type 0} (result : Result Step E) → IfOk result (Shows formula database assumptions mid values clause) → IfOk result (Shows formula database assumptions before values clause)
+  shows_from {E} (Ok step) shown = shows_since step shown
+  shows_from {E} (Err e) shown = shown

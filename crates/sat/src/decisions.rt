@@ -1,0 +1,54 @@
+ghost use Rattle.std.specs.Prelude.{◌≡◌, MatchOption, IfSome, ⊤};
+ghost use Rattle.std.specs.List.{All};
+ghost use Rattle.sat.specs.declared.values.Truth.TheVariants.{Open, True};
+ghost use Rattle.sat.specs.Values.{value_of};
+ghost use Rattle.sat.specs.Decisions.{IsNext};
+
+use crate::lit::Lit;
+use crate::queue::{Queue, next_open};
+use crate::trail::{Trail, is_open, is_true, phase_of};
+
+/// What the search is to do where no clause forces anything.
+#[derive(Clone, Copy)]
+pub(crate) enum Next {
+    Decide(Lit),
+    /// An assumption is false.
+    Fails(Lit),
+    /// No variable is open.
+    Full,
+}
+
+/// The first assumption that isn't true.
+fn next_assumption(trail: &Trail, assumptions: &[Lit]) -> Option<Lit>
+    ensures { MatchOption result (All (λ l. value_of trail.now.values.items l ≡ True) assumptions.now) (λ l. ⊤) }
+{
+    for assumption in assumptions {
+        if !is_true(trail, *assumption) {
+            return Some(*assumption);
+        }
+    }
+    None
+}
+
+/// An open variable with its last value.
+#[tactic(auto, using(crate::proofs::ValueLemmas::open_variable))]
+fn next_variable(trail: &Trail, queue: &mut Queue) -> Option<Lit>
+    ensures { IfSome result (λ l. value_of trail.now.values.items l ≡ Open) }
+{
+    let variable = next_open(queue, &trail.values)?;
+    Some(Lit::of(variable, !phase_of(trail, variable)))
+}
+
+/// The first assumption that isn't true, or else a variable that is open.
+pub(crate) fn next_decision(trail: &Trail, queue: &mut Queue, assumptions: &[Lit]) -> Next
+    ensures { IsNext trail.now.values.items assumptions.now result }
+{
+    match next_assumption(trail, assumptions) {
+        Some(lit) if is_open(trail, lit) => Next::Decide(lit),
+        Some(lit) => Next::Fails(lit),
+        None => match next_variable(trail, queue) {
+            Some(lit) => Next::Decide(lit),
+            None => Next::Full,
+        },
+    }
+}

@@ -1,0 +1,188 @@
+ghost use Rattle.std.specs.Prelude.{IfOk};
+ghost use Rattle.std.specs.List.{All};
+ghost use Rattle.sat.specs.Cnf.{Entails, Extends};
+ghost use Rattle.sat.specs.Answers.{IsOutcome};
+
+use crate::clauses::Clauses;
+use crate::lit::Lit;
+use crate::reduction::reduce;
+use crate::search::{Search, back_to, load_clause, reload};
+use crate::steps::{Verdict, to_conflict};
+use crate::trail::NONE;
+use crate::working::Working;
+use crate::{search, working};
+use std::alloc::{AllocError, Global};
+use std::mem;
+
+/// When the search begins again at level 0: by Knuth's reluctant doubling, after 1, 1, 2, 1, 1, 2, 4, .. units.
+#[derive(Clone, Copy)]
+struct Pace {
+    u: u64,
+    v: u64,
+    left: u64,
+    /// How many learned clauses are kept.
+    limit: usize,
+}
+
+const UNIT: u64 = 128;
+
+fn is_due(pace: &mut Pace) -> bool {
+    if pace.left > 0 {
+        pace.left -= 1;
+        return false;
+    }
+    let low = pace.u & pace.u.wrapping_neg();
+    if low == pace.v {
+        pace.u = pace.u.wrapping_add(1);
+        pace.v = 1;
+    } else {
+        pace.v = pace.v.wrapping_mul(2);
+    }
+    pace.left = pace.v.wrapping_mul(UNIT);
+    true
+}
+
+impl Pace {
+    fn new() -> Pace {
+        Pace {
+            u: 1,
+            v: 1,
+            left: UNIT,
+            limit: 2000,
+        }
+    }
+}
+
+/// Begins again at level 0 where that is due, maybe with fewer learned clauses.
+fn restart(
+    alloc: Global,
+    database: &mut Clauses,
+    search: &mut Search,
+    pace: &mut Pace,
+) -> Result<(), AllocError>
+    ensures { Extends database.old database.new }
+{
+    if !is_due(pace) {
+        return Ok(());
+    }
+    back_to(search, 0);
+    reduce(alloc, database, search, &mut pace.limit)
+}
+
+/// What a call found, and after how many conflicts. Without a verdict it met as many as were allowed.
+#[derive(Clone, Copy)]
+pub(crate) struct Outcome {
+    pub(crate) verdict: Option<Verdict>,
+    pub(crate) conflicts: u64,
+}
+
+/// Goes on from conflict to conflict, up to a verdict or to so many conflicts.
+fn run(
+    alloc: Global,
+    formula: &Clauses,
+    database: &mut Clauses,
+    search: &mut Search,
+    working: &mut Working,
+    assumptions: &[Lit],
+    conflicts: u64,
+) -> Result<Outcome, AllocError>
+    requires follows { All (Entails formula.now) database.old }
+    ensures follows { All (Entails formula.now) database.new }
+    ensures found { IfOk result (IsOutcome formula.now assumptions.now search.new.trail.values.items working.new.lits.items conflicts) }
+{
+    let mut pace = Pace::new();
+    let mut met = 0;
+    while met < conflicts {
+        let verdict = to_conflict(formula, database, search, working, assumptions)?;
+        if verdict.is_some() {
+            return Ok(Outcome {
+                verdict,
+                conflicts: met,
+            });
+        }
+        met += 1;
+        restart(alloc, database, search, &mut pace)?;
+    }
+    Ok(Outcome {
+        verdict: None,
+        conflicts: met,
+    })
+}
+
+/// Puts the clauses of the formula that the search doesn't know yet into the database.
+fn load(formula: &Clauses, database: &mut Clauses, search: &mut Search) -> Result<(), AllocError>
+    requires { All (Entails formula.now) database.old }
+    ensures { All (Entails formula.now) database.new }
+{
+    for number in search.loaded..formula.len() {
+        if database.len() == NONE {
+            return Err(AllocError);
+        }
+        let clause = formula.clause(number);
+        database.push(clause)?;
+        search.loaded = number + 1;
+        load_clause(search, clause, database.len() - 1, 0)?;
+    }
+    Ok(())
+}
+
+/// How many variables there are up to the last one of these literals.
+fn variables_of(lits: &[Lit]) -> usize {
+    lits.iter()
+        .fold(0, |most, lit| most.max(lit.variable() as usize + 1))
+}
+
+/// Adds the variables of which only the assumptions speak.
+fn add_variables(
+    search: &mut Search,
+    working: &mut Working,
+    assumptions: &[Lit],
+) -> Result<(), AllocError> {
+    let variables = variables_of(assumptions);
+    if variables > search.trail.values.as_slice().len() {
+        search::widen(search, variables)?;
+        working::widen(working, variables)?;
+    }
+    Ok(())
+}
+
+/// Makes the search ready for a call. What one that ran out of memory has left is made anew.
+fn begin(alloc: Global, database: &Clauses, search: &mut Search) -> Result<(), AllocError> {
+    if search.is_underway {
+        let glues = mem::replace(&mut search.watches.glues, Vec::new(alloc));
+        return reload(database, search, &glues);
+    }
+    search.is_underway = true;
+    back_to(search, 0);
+    Ok(())
+}
+
+/// Looks for a model of the formula in which the assumptions hold.
+pub(crate) fn look(
+    alloc: Global,
+    formula: &Clauses,
+    database: &mut Clauses,
+    search: &mut Search,
+    working: &mut Working,
+    assumptions: &[Lit],
+    conflicts: u64,
+) -> Result<Outcome, AllocError>
+    requires follows { All (Entails formula.now) database.old }
+    ensures follows { All (Entails formula.now) database.new }
+    ensures found { IfOk result (IsOutcome formula.now assumptions.now search.new.trail.values.items working.new.lits.items conflicts) }
+{
+    begin(alloc, database, search)?;
+    add_variables(search, working, assumptions)?;
+    load(formula, database, search)?;
+    let found = run(
+        alloc,
+        formula,
+        database,
+        search,
+        working,
+        assumptions,
+        conflicts,
+    )?;
+    search.is_underway = false;
+    Ok(found)
+}

@@ -1,0 +1,187 @@
+ghost use Rattle.std.specs.Prelude.{◌≡◌, ◌<◌, ◌≤◌, OnOk, true};
+ghost use Rattle.sat.specs.declared.values.Truth.TheVariants.{Open, True, False};
+ghost use Rattle.sat.specs.Values.{value_of, assigned, open_count};
+
+use crate::lit::Lit;
+use crate::tables::{at, put, short};
+use crate::values::{Truth, make_true, value_in};
+use std::alloc::{AllocError, Global};
+
+/// No clause.
+pub(crate) const NONE: u32 = 4294967295;
+
+/// What is assigned, in which order, and why. Only the values are more than hints.
+pub(crate) struct Trail {
+    /// The value of each variable.
+    pub(crate) values: Vec<Truth>,
+    /// Of each variable the level at which it was assigned, the clause that forced it, and its last value.
+    levels: Vec<u32>,
+    reasons: Vec<u32>,
+    phases: Vec<bool>,
+    /// The true literals in the order in which they were assigned, and how many there were at each decision.
+    pub(crate) lits: Vec<Lit>,
+    starts: Vec<u32>,
+    /// How many of them have been propagated.
+    pub(crate) head: usize,
+}
+
+impl Drop for Trail {
+    fn drop(self) {
+        let Trail {
+            values: _,
+            levels: _,
+            reasons: _,
+            phases: _,
+            lits: _,
+            starts: _,
+            head: _,
+        } = self;
+    }
+}
+
+impl Trail {
+    /// Without variables.
+    pub(crate) fn new(alloc: Global) -> Trail {
+        Trail {
+            values: Vec::new(alloc),
+            levels: Vec::new(alloc),
+            reasons: Vec::new(alloc),
+            phases: Vec::new(alloc),
+            lits: Vec::new(alloc),
+            starts: Vec::new(alloc),
+            head: 0,
+        }
+    }
+}
+
+/// Adds variables up to so many. They are open, and false is tried first.
+pub(crate) fn widen(trail: &mut Trail, variables: usize) -> Result<(), AllocError> {
+    trail.values.resize(variables, Truth::Open)?;
+    trail.levels.resize(variables, 0)?;
+    trail.reasons.resize(variables, NONE)?;
+    trail.phases.resize(variables, false)
+}
+
+#[inline(always)]
+pub(crate) fn value(trail: &Trail, lit: Lit) -> Truth
+    ensures { result ≡ value_of trail.now.values.items lit }
+{
+    value_in(&trail.values, lit)
+}
+
+#[inline(always)]
+pub(crate) fn is_false(trail: &Trail, lit: Lit) -> bool {
+    match value(trail, lit) {
+        Truth::False => true,
+        Truth::True => false,
+        Truth::Open => false,
+    }
+}
+
+#[inline(always)]
+pub(crate) fn is_true(trail: &Trail, lit: Lit) -> bool
+    ensures { result ≡ true → value_of trail.now.values.items lit ≡ True }
+{
+    match value(trail, lit) {
+        Truth::True => true,
+        Truth::False => false,
+        Truth::Open => false,
+    }
+}
+
+#[inline(always)]
+pub(crate) fn is_open(trail: &Trail, lit: Lit) -> bool
+    ensures { result ≡ true → value_of trail.now.values.items lit ≡ Open }
+{
+    match value(trail, lit) {
+        Truth::Open => true,
+        Truth::True => false,
+        Truth::False => false,
+    }
+}
+
+/// The present level: how many decisions there are.
+#[inline(always)]
+pub(crate) fn level(trail: &Trail) -> u32 {
+    short(trail.starts.as_slice().len())
+}
+
+/// The level at which the literal's variable was assigned.
+#[inline(always)]
+pub(crate) fn level_of(trail: &Trail, lit: Lit) -> u32 {
+    at(&trail.levels, lit.variable() as usize, 0)
+}
+
+/// The clause that forced the literal's variable, if there is one.
+#[inline(always)]
+pub(crate) fn reason_of(trail: &Trail, lit: Lit) -> u32 {
+    at(&trail.reasons, lit.variable() as usize, NONE)
+}
+
+pub(crate) fn set_reason(trail: &mut Trail, lit: Lit, reason: u32)
+    ensures { trail.new.values ≡ trail.old.values }
+{
+    put(&mut trail.reasons, lit.variable() as usize, reason);
+}
+
+/// The value that a variable had last.
+pub(crate) fn phase_of(trail: &Trail, variable: u32) -> bool {
+    at(&trail.phases, variable as usize, false)
+}
+
+/// Makes a literal true.
+#[inline(always)]
+#[tactic(auto, using(crate::proofs::ValueLemmas::open_assigned))]
+pub(crate) fn assign(trail: &mut Trail, lit: Lit, reason: u32) -> Result<(), AllocError>
+    ensures assigned { OnOk result (trail.new.values.items ≡ assigned trail.old.values.items lit) }
+    ensures open { open_count trail.new.values.items ≤ open_count trail.old.values.items }
+{
+    trail.lits.push(lit)?;
+    let now = level(trail);
+    let variable = lit.variable() as usize;
+    make_true(&mut trail.values, lit);
+    put(&mut trail.levels, variable, now);
+    put(&mut trail.reasons, variable, reason);
+    Ok(())
+}
+
+fn open_level(trail: &mut Trail) -> Result<(), AllocError>
+    ensures { trail.new.values ≡ trail.old.values }
+{
+    let start = short(trail.lits.as_slice().len());
+    trail.starts.push(start)?;
+    Ok(())
+}
+
+/// Makes an open literal true on a new level.
+#[tactic(auto, using(crate::proofs::ValueLemmas::open_decided))]
+pub(crate) fn decide(trail: &mut Trail, lit: Lit) -> Result<(), AllocError>
+    requires { value_of trail.old.values.items lit ≡ Open }
+    ensures { OnOk result (open_count trail.new.values.items < open_count trail.old.values.items) }
+{
+    open_level(trail)?;
+    assign(trail, lit, NONE)
+}
+
+/// Takes the last literal back, if it was assigned past a place.
+pub(crate) fn take_back(trail: &mut Trail, start: usize) -> Option<Lit> {
+    if trail.lits.as_slice().len() <= start {
+        return None;
+    }
+    let lit = trail.lits.pop()?;
+    let variable = lit.variable() as usize;
+    put(&mut trail.values, variable, Truth::Open);
+    put(&mut trail.phases, variable, lit.code % 2 == 0);
+    Some(lit)
+}
+
+/// How many literals were assigned when a level began, and no fewer than there are where it hasn't.
+pub(crate) fn start_of(trail: &Trail, level: u32) -> usize {
+    at(&trail.starts, level as usize, NONE) as usize
+}
+
+/// Ends the levels past one whose literals have been taken back.
+pub(crate) fn close_levels(trail: &mut Trail, level: u32) {
+    trail.starts.truncate(level as usize);
+    trail.head = trail.head.min(trail.lits.as_slice().len());
+}
