@@ -27,7 +27,7 @@ use Rattle.ternary_clauses.specs.declared.formula.Rails.{Rails}
 use Rattle.ternary_clauses.specs.Formulas.{says, IsModel, IsFormula, HasModelFrom, Grows}
 use Rattle.ternary_clauses.specs.Rails.{Reads, ReadsAll, AreWithin, AreRailsOf, value_read, no_rails, rails_at, unknown_rails}
 use Rattle.ternary_clauses.specs.Nodes.{new_rails, wire_clauses}
-use Rattle.ternary_clauses.specs.Sweeps.{ReadsPlaces, ReadsOutside, SaysSweep, HasCopies, AreCopies, IsInside, IsSeen, ReadsSeen, value_seen, BindsCopy, AreCopied}
+use Rattle.ternary_clauses.specs.Sweeps.{ReadsPlaces, ReadsOutside, SaysSweep, HasCopies, AreCopies, IsSeen, ReadsSeen, value_seen, BindsCopy, AreCopied}
 use Rattle.ternary_clauses.proofs.ClauseLemmas.{get_or-after}
 use Rattle.ternary_clauses.proofs.NodeLemmas.{whole-wire, wire-read, wire-holds, Reads-unique}
 use Rattle.ternary_clauses.proofs.MoreLemmas.{wire-more}
@@ -104,9 +104,6 @@ module _ (start old new : Formula) (copies : List Rails) (k : ℕ) (r : Rails) (
           (record { within = within; reads = λ m h. wire-read m r (added-both old new (wire_clauses r) was.grows.formula literals m h).1 })
 
 -- ---- what gates see
-
-pub inside-rails : (net : Parts) (gates : List ℕ) (cut : ℕ → Bool) (before after : List Rails) (pin : Sig) (place : ℕ) (b : Bool) → first_gate net ≤ pin.0 → place < length gates → get_or gates place 0 ≡ gate_of net pin → b ≡ cut (gate_of net pin) → IsInside net gates cut before after pin (if b then rails_at before place else rails_at after place)
-inside-rails net gates cut before after pin place b high inside here e = record { gate = high; place = place; within = inside; here = here; is = ap (λ x. if x then rails_at before place else rails_at after place) e }
 
 seen-read : (net : Parts) (gates : List ℕ) (cut : ℕ → Bool) (rails before after : List Rails) (m : List Bool) (see : Sig → Trit) (pins : List Sig) (seen : List Rails) → All (λ pin. (r : Rails) → IsSeen net gates cut rails before after pin r → Reads m r (see pin)) pins → AllZip (IsSeen net gates cut rails before after) pins seen → ReadsAll m seen (map see pins)
 seen-read net gates cut rails before after m see [] [] all zip = tt

@@ -1,7 +1,10 @@
 use Rattle.std.proofs.Common.{◌<◌, length, arith}
 use Rattle.loops.specs.Cuts.{is_cut}
-use Rattle.ternary_clauses.proofs.SweepLemmas.{copied-step}
+use Rattle.ternary_clauses.proofs.SweepLemmas.{copied-none, copied-step}
 use Rattle.ternary_clauses.proofs.sweeps.bind_copies.Goals as goal
+
+pub loop-place-init : goal.loop-place-init
+loop-place-init c = copied-none c.args.net.now c.args.gates.now (is_cut c.args.cut.now) c.args.rails.now c.args.before.now c.args.after.now c.args.formula.now c.requires.formula
 
 pub loop-place-preserved : goal.loop-place-preserved
 loop-place-preserved c =
