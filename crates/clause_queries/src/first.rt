@@ -1,6 +1,6 @@
 //! The first literal that can be true, by bisection.
 
-ghost use Rattle.std.specs.Prelude.{◌≡◌, ◌<◌, ◌≤◌, ◌-◌, ◌*◌, ◌++◌, ◌∷◌, [], true, length, slice_index, IfOk};
+ghost use Rattle.std.specs.Prelude.{ℕ, false, ◌≡◌, ◌<◌, ◌≤◌, ◌-◌, ◌*◌, ◌++◌, ◌∷◌, [], true, length, slice_index, IfOk};
 ghost use Rattle.ternary_clauses.specs.Formulas.{says};
 ghost use Rattle.clause_queries.specs.Bisection.{IsOpen};
 ghost use Rattle.clause_queries.specs.Clauses.{IsWithin};
@@ -19,7 +19,7 @@ pub enum First {
     Unknown,
 }
 
-/// Where the first literal that can be true is: none before `low` can be, and the one at `high` can.
+// Where the first literal that can be true is: none before `low` can be, and the one at `high` can.
 #[derive(Clone, Copy)]
 struct Interval {
     low: usize,
@@ -32,6 +32,7 @@ fn first_true(literals: &[u32], model: &[bool], last: usize) -> usize
     requires last { says model.now (slice_index literals.now last) ≡ true }
     ensures within { result ≤ last }
     ensures is_true { says model.now (slice_index literals.now result) ≡ true }
+    ensures before { (place : ℕ) → place < result → says model.now (slice_index literals.now place) ≡ false }
 {
     literals[..last]
         .iter()

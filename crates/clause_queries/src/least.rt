@@ -28,10 +28,8 @@ fn vector(alloc: Global, columns: &[u32], model: &[bool]) -> Result<Vec<bool>, A
 }
 
 impl Query {
-    // The columns are fixed one by one: at 0 where the last model has 0, or another one with what is fixed has, and
-    // else at 1.
-
-    // Fixes one more column as low as what is fixed permits, in a model that shows it. False where the solver gave up.
+    // Fixes one more column as low as what is fixed permits: at 0 where the last model has 0 or a new one has, and else
+    // at 1. The model is one of what is fixed. False where the solver gave up.
     fn fix_column(
         &mut self,
         alloc: Global,

@@ -23,7 +23,7 @@ const MAX_CLAUSES: u32 = u32::MAX;
 pub enum QueryFault {
     /// There are over 2,147,483,647 variables, over 4,294,967,295 clauses, or a clause with a variable that is none of
     /// the formula's.
-    #[error("too many clauses")]
+    #[error("too many variables or clauses")]
     TooMany,
     #[error("out of memory")]
     Memory,
