@@ -26,7 +26,7 @@ if [ ! -d "$dir/netlists" ]; then
     sources | while read -r design; do
         name=${design#"$dir"/}
         blif=$dir/netlists/$(echo "${name%.v}" | tr / _).blif
-        "$top/recipes/to_blif.sh" -o "$blif" "$design" >/dev/null 2>&1 || rm -f "$blif"
+        "$top/recipes/to_blif.sh" --sv -o "$blif" "$design" >/dev/null 2>&1 || rm -f "$blif"
     done
 fi
 

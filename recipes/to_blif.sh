@@ -1,11 +1,12 @@
 #!/usr/bin/env bash
 # From Verilog to BLIF that cyc reads: gates, plain flip-flops, no hierarchy, no memories, no unknown bits.
 #
-#   recipes/to_blif.sh [-o FILE] [--init WIRE=VALUE].. [--sample-clocks] FILE.v.. [TOP]
+#   recipes/to_blif.sh [-o FILE] [--sv] [--init WIRE=VALUE].. [--sample-clocks] FILE.v.. [TOP]
 #   recipes/to_blif.sh [-o FILE] --care FILE.v..
 #
 #   TOP                  the module to take; without it the one that Yosys finds to be the top
 #   -o FILE              writes FILE; without it standard output
+#   --sv                 reads all files as SystemVerilog; without it those that end in .sv
 #   --init WIRE=VALUE    gives registers a start value, as --init "pointer=4'b0001" for the state after a reset
 #   --sample-clocks      for more than one clock: each register reads its clock as data, and a tick is any change of a clock
 #   --care               writes a care file: the modules `assume` and `invariant`, or the one that the files have
@@ -25,11 +26,12 @@ usage() {
     exit 2
 }
 
-out='' top='' samples='' writes_care='' files=() inits=()
+verilog=read_verilog out='' top='' samples='' writes_care='' files=() inits=()
 while [ $# -gt 0 ]; do
     case $1 in
     -o) [ $# -gt 1 ] || usage; out=$2; shift ;;
     --init) [[ ${2:-} == ?*=?* ]] || usage; inits+=("$2"); shift ;;
+    --sv) verilog='read_verilog -sv' ;;
     --sample-clocks) samples=yes ;;
     --care) writes_care=yes ;;
     -*) usage ;;
@@ -58,7 +60,7 @@ read_files() {
     for file in "${files[@]}"; do
         case $file in
         *.sv) echo "read_verilog -sv \"$file\"" ;;
-        *) echo "read_verilog \"$file\"" ;;
+        *) echo "$verilog \"$file\"" ;;
         esac
     done
 }
