@@ -6,7 +6,7 @@
 #
 #   bench/decide.sh [--seconds N] [--memory MB] [--ways] [FAMILY SIZE]..     (needs the package time)
 #
-#   --seconds N     the time that each has, 60 without the option
+#   --seconds N     the processor time that each has, 60 without the option
 #   --memory MB     the memory that each has, 4000 without the option
 #   --ways          tells for each the least limit of nodes that isn't met, and how many loops are decided by which step
 #                   (crates/benchmarks; `rt run` there builds that program)
@@ -34,10 +34,14 @@ dir=$(mktemp -d) || exit 1
 trap 'rm -rf "$dir"' EXIT
 right=0 wrong=0 missing=0
 
+limited() {
+    (ulimit -t "$seconds" -v $((memory * 1000)) && exec "$@")
+}
+
 meets() {
     local limit=$1
     shift
-    timeout "$seconds" "$cyc" check "$@" --nodes "$limit" >/dev/null 2>&1
+    limited "$cyc" check "$@" --nodes "$limit" >/dev/null 2>&1
     [ $? -eq 6 ]
 }
 
@@ -62,18 +66,15 @@ ways() {
     for word in "$@"; do
         [ ! -f "$word" ] || files+=("$word")
     done
-    cat "${files[@]}" | timeout "$seconds" "$decider" decide
+    cat "${files[@]}" | limited "$decider" decide
 }
 
 # Runs a call under the limits, and tells its time, its memory and its verdict, which is to match the pattern.
 run() {
     local name=$1 expected=$2 line mark=
     shift 2
-    (ulimit -v $((memory * 1000)) && exec /usr/bin/time -o "$dir/time" -f "%U %S %M" timeout "$seconds" "$cyc" "$@") \
-        >"$dir/out" 2>&1
-    case $? in
-    124 | 137) echo "after $seconds s" >"$dir/out" ;;
-    esac
+    limited /usr/bin/time -o "$dir/time" -f "%U %S %M" "$cyc" "$@" >"$dir/out" 2>&1
+    ! grep -q 'terminated by signal' "$dir/time" || echo "after $seconds s" >"$dir/out"
     line=$(head -n 1 "$dir/out")
     # shellcheck disable=SC2053 # (a pattern)
     if [[ $line == $expected ]]; then

@@ -96,14 +96,17 @@ run_yosys() {
     fi
 }
 
-# A latch behind an asynchronous reset has a name of `async2sync`. It gets that of its register, as `state_held[0]`.
+# A latch behind an asynchronous reset has a name of `async2sync`. It gets that of its register, as `state_held[0]`, where
+# no wire has that name.
 name_held() {
     awk '
         FNR == 1 { pass++ }
+        pass == 1 { for (i = 2; i <= NF; i++) taken[$i] }
         pass == 1 && $1 == ".latch" && $3 ~ /async2sync/ { held[$3] = $3 }
         pass == 2 && $1 == ".names" && NF == 5 && ($2 in held || $3 in held) {
             place = index($5, "[")
-            held[$2 in held ? $2 : $3] = place ? substr($5, 1, place - 1) "_held" substr($5, place) : $5 "_held"
+            wanted = place ? substr($5, 1, place - 1) "_held" substr($5, place) : $5 "_held"
+            if (!(wanted in taken)) held[$2 in held ? $2 : $3] = wanted
         }
         pass == 3 { for (i = 2; i <= NF; i++) if ($i in held) $i = held[$i]; print }
     ' "$1" "$1" "$1"

@@ -28,14 +28,16 @@ whole() {
     "$top/recipes/synthesis.sh" "$@" 2>&1 | grep -v '^loop [0-9]'
 }
 
-for file in *.v; do
-    name=${file%.v}
-    care=$name.care.v
-    case $name in
-    *.care) continue ;;
+design() {
+    local file=$1.v care=$1.care.v
+    case $1 in
     latch) alone "$file" | head -n 2 ;;
     round_robin) alone "$file"; not_started "$file" "$care"; whole --init "pointer=4'b0001" "$file" "$care" ;;
     *) if [ -f "$care" ]; then alone "$file"; whole "$file" "$care"; else whole "$file"; fi ;;
-    esac 2>&1 | sed "s/^/$name: /"
+    esac
+}
+
+for file in *.v; do
+    [[ $file == *.care.v ]] || design "${file%.v}" 2>&1 | sed "s/^/${file%.v}: /"
 done | tee "$dir/told"
 diff "$dir/told" expected.txt >&2 && echo "each line as expected"
