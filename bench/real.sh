@@ -1,6 +1,7 @@
 #!/usr/bin/env bash
 # Decides designs that come with Debian's source packages of yosys and fpga-icestorm: arithmetic, memories, state
-# machines, UARTs, small processors, benchmark circuits. recipes/to_blif.sh makes a BLIF netlist of each.
+# machines, UARTs, small processors, benchmark circuits. recipes/to_blif.sh makes a BLIF netlist of each,
+# but for a few whose memories it would make latches of for over five minutes.
 # It prints time, peak memory, gates and what `check` says of each, and then how many came to what.
 #   bench/real.sh            fetches the sources (`apt-get source`, which wants a deb-src line) and makes the netlists
 #   bench/real.sh FOLDER     the same in FOLDER, which may have the sources' trees; the netlists stay there, for a later run
@@ -26,7 +27,7 @@ if [ ! -d "$dir/netlists" ]; then
     sources | while read -r design; do
         name=${design#"$dir"/}
         blif=$dir/netlists/$(echo "${name%.v}" | tr / _).blif
-        "$top/recipes/to_blif.sh" --sv -o "$blif" "$design" >/dev/null 2>&1 || rm -f "$blif"
+        timeout 300 "$top/recipes/to_blif.sh" --sv -o "$blif" "$design" >/dev/null 2>&1 || rm -f "$blif"
     done
 fi
 

@@ -48,7 +48,7 @@ END {
     for (i = 1; i <= rounds; i++) {
         x = at(begins[i] - 0.5)
         printf "<path d=\"M %g 4 V %d\" stroke=\"gray\" stroke-dasharray=\"3 3\"/>\n", x, axis
-        word = (begins[i < rounds ? i + 1 : i] - begins[i]) * scale < 60 ? "" : "round "
+        word = ((i < rounds ? begins[i + 1] : moment + 1) - begins[i]) * scale < 60 ? "" : "round "
         printf "<text x=\"%g\" y=\"%d\" fill=\"gray\">%s%d</text>\n", x + 3, axis + 32, word, i
     }
     for (i = 1; i <= drawn; i++) {
