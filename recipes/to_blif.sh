@@ -115,6 +115,7 @@ name_held() {
 # The BLIF of one module, given as to `passes`. Instances that are left are cells that BLIF has no line for.
 convert() {
     passes "$@" | run_yosys
+    grep -q '^\.model' "$dir/blif" || say "the module has nothing in it, so Yosys takes it for a black box"
     awk '$1 == ".subckt" { left[$2]++ }
         END { for (cell in left) { print "to_blif: Yosys left in: " left[cell] " of " cell; status = 1 } exit status }
     ' "$dir/blif" >&2 || exit 1
