@@ -17,8 +17,8 @@ Two units share a loop where each may be fed by the other's output and a select 
                        multiplexer with the pins data, data, select
   alu_shifter N        an ALU of N bits beside a shifter, likewise
   both_selects N       two adders that share a loop, with a select each: both may read the other
-  three_units N        three adders of N bits in any order, which a word of three bits chooses
-  four_units N         four adders of N bits in any order, which a word of five bits chooses
+  three_units N        two adders of N bits and a rotation in any order, which a word of three bits chooses
+  four_units N         three adders of N bits and a rotation in any order, which a word of five bits chooses
   multiplied_select N  two adders of eight bits, the select being a middle bit of a product of N bits
   looped_multiplier N  a multiplier of N bits and an adder that share a loop
   equal_words N        a loop closed where a = b, and b = c, and not a = c, for words of N bits
@@ -356,32 +356,48 @@ def add_selection(m, output, *pairs):
     return m.gate(rows, output, *itertools.chain(*pairs))
 
 
+def add_tree(m, word, data, select):
+    """Stage by stage, multiplexers with the pins data, data, select: the one of the data that a word chooses."""
+    for stage, bit in enumerate(select):
+        pairs = zip(data[::2], data[1::2])
+        data = [m.gate(MULTIPLEX, f"{word}_{stage}_{i}", *pair, bit) for i, pair in enumerate(pairs)]
+    return data[0]
+
+
 def ordered_units(name, count, n):
-    """Adders in any order. The word o chooses it; where it chooses none, each unit is fed zeros."""
+    """Adders and a rotation in any order. The word o chooses it; where it chooses none, each unit is fed x. A word of each
+    unit, made of o, says what feeds it: x, or another unit."""
     orders = list(itertools.permutations(range(count)))
     o = numbered("o", (len(orders) - 1).bit_length())
-    operand = {unit: [f"a{unit}_{i}" for i in range(n)] for unit in range(count)}
-    m = Model(name, [*o, *numbered("x", n), *itertools.chain(*operand.values())], [f"y{i}" for i in range(n)])
-    for k in range(len(orders)):
-        m.gate(is_equal_to(o, k), f"is{k}", *o)
+    operand = [numbered(f"a{unit}_", n) for unit in range(count - 1)]
+    m = Model(name, [*o, *numbered("x", n), *itertools.chain(*operand), *amount_of(n)], numbered("y", n))
+    zero = m.gate([], "zero")
 
-    def add_any(output, chosen):
-        return m.gate(["-" * i + "1" + "-" * (len(chosen) - 1 - i) + " 1" for i in range(len(chosen))], output, *chosen)
+    def add_word(word, numbers):
+        """A word that is the number of the order that o chooses."""
+        bits = range(max(numbers).bit_length())
+        rows = [[is_equal_to(o, k)[0] for k, number in enumerate(numbers) if number >> bit & 1] for bit in bits]
+        return [m.gate(rows[bit], f"{word}{bit}", *o) for bit in bits]
 
-    first = [add_any(f"first{u}", [f"is{k}" for k, it in enumerate(orders) if it[0] == u]) for u in range(count)]
-    last = [add_any(f"last{u}", [f"is{k}" for k, it in enumerate(orders) if it[-1] == u]) for u in range(count)]
-    after = {
-        (u, v): add_any(f"after{u}_{v}", [f"is{k}" for k, it in enumerate(orders) if (u, v) in zip(it, it[1:])])
-        for u, v in itertools.permutations(range(count), 2)
-    }
+    def padded(data):
+        return data + [zero] * ((1 << (len(data) - 1).bit_length()) - len(data))
+
     for v in range(count):
+        others = [u for u in range(count) if u != v]
+        before = [it[it.index(v) - 1] if it[0] != v else None for it in orders]
+        select = add_word(f"s{v}_", [0 if u is None else others.index(u) + 1 for u in before])
         fed = []
         for i in range(n):
-            pairs = [(after[u, v], f"f{u}_{(i + u + 1) % n}") for u in range(count) if u != v]
-            fed.append(add_selection(m, f"in{v}_{i}", (first[v], f"x{i}"), *pairs))
-        add_adder(m, f"f{v}_", fed, operand[v])
+            data = padded([f"x{i}", *(f"f{u}_{(i + u + 1) % n}" for u in others)])
+            fed.append(add_tree(m, f"in{v}_{i}", data, select))
+        if v < count - 1:
+            add_adder_of_gates(m, f"f{v}_", fed, operand[v], zero)
+        else:
+            for i, bit in enumerate(add_barrel(m, "t", fed, amount_of(n))):
+                m.gate(COPY, f"f{v}_{i}", bit)
+    select = add_word("last", [it[-1] for it in orders])
     for i in range(n):
-        add_selection(m, f"y{i}", *((last[u], f"f{u}_{i}") for u in range(count)))
+        m.gate(COPY, f"y{i}", add_tree(m, f"out{i}", padded([f"f{u}_{i}" for u in range(count)]), select))
     return m, None
 
 
