@@ -4,11 +4,16 @@
   bench/gate.py               prints a Markdown table of a whole run of `rt ci` from nothing (`rt ci --anew`)
   bench/gate.py WORD..        the same of the command `rt WORD..`, as `ci netlist`
   bench/gate.py --edits WORD..  and a line for each edit whose trial took ten seconds or more
+  bench/gate.py --way         the longest way of the first build, crate by crate, by the proofs in the table of docs/GATE.md
+
+The longest way is the chain of crates, each of which stands on the one before it, whose proofs take the most together:
+however many crates are checked side by side, a first build isn't shorter. It is printed below the table of a run too.
 
 A check is a process `rattle`. Its processor time is read once a second from /proc, so the last second of each is
 lost. Only processes below this command are counted. The command's own output goes to standard error.
 """
 import collections
+import functools
 import os
 import subprocess
 import sys
@@ -107,21 +112,56 @@ def watched(command):
     return ran.returncode, [(*checks[key], seconds) for key, seconds in spent.items()]
 
 
+def uses():
+    """The crates of crates.txt in its order, each with the crates of this repository that it uses."""
+    lines = [it.partition(":") for it in read(f"{TOP}/crates.txt").split("\n") if it and it[0] not in "# "]
+    words = {name.split()[0]: after.split() for name, _, after in lines}
+    return {name: [it for it in after if it in words] for name, after in words.items()}
+
+
+def recorded():
+    """The minutes of the proofs in the table of docs/GATE.md."""
+    rows = [it.split("|") for it in read(f"{TOP}/docs/GATE.md").split("\n") if it.startswith("| `")]
+    return {cells[1].strip(" `"): float(cells[2]) for cells in rows if len(cells) == 8}
+
+
+def longest_way(minutes):
+    """The dearest chain of crates, the lowest first, with the sum of the minutes up to each."""
+    below = uses()
+
+    @functools.cache
+    def way_to(crate):
+        before = max(map(way_to, below[crate]), key=lambda way: way[-1][1], default=())
+        return *before, (crate, (before[-1][1] if before else 0) + minutes.get(crate, 0))
+
+    return max(map(way_to, below), key=lambda way: way[-1][1])
+
+
+def print_way(minutes):
+    print("| on the longest way | proof | sum |\n|---|---:|---:|")
+    for crate, so_far in longest_way(minutes):
+        print(f"| `{crate}` | {minutes.get(crate, 0):.1f} | {so_far:.1f} |")
+    print(f"\n{sum(minutes.values()):.1f} minutes in all")
+
+
 def table(spent):
     sums = collections.Counter()
     for crate, kind, _, seconds in spent:
         sums[crate, kind] += seconds / 60
-    order = [it.partition(":")[0].split()[0] for it in read(f"{TOP}/crates.txt").split("\n") if it and it[0] not in "# "]
-    rows = [it for it in order if any(sums[it, kind] for kind in KINDS)]
+    rows = [it for it in uses() if any(sums[it, kind] for kind in KINDS)]
     print("| crate | proof | tests | proof under edits | edits | sum |\n|---|---:|---:|---:|---:|---:|")
     for crate in rows:
         found = [sums[crate, kind] for kind in KINDS]
         print(f"| `{crate}` |", " | ".join(f"{it:.1f}" for it in [*found, sum(found)]), "|")
     whole = [sum(sums[it, kind] for it in rows) for kind in KINDS]
-    print("| all |", " | ".join(f"{it:.1f}" for it in [*whole, sum(whole)]), "|")
+    print("| all |", " | ".join(f"{it:.1f}" for it in [*whole, sum(whole)]), "|\n")
+    print_way({it: sums[it, "proof"] for it in rows})
 
 
 def main(words):
+    if words == ["--way"]:
+        print_way(recorded())
+        return 0
     tells_edits = words[:1] == ["--edits"]
     status, spent = watched(["rt", *(words[tells_edits:] or ["ci", "--anew"])])
     table(spent)

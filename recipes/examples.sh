@@ -3,8 +3,11 @@
 # it, and compares the outputs of both netlists on random vectors, where no care file says which vectors count.
 #
 #   recipes/examples.sh     (needs yosys and berkeley-abc)
+#
+# CYC=PROGRAM in the environment takes that program in place of ./cyc.
 set -eu -o pipefail
 top=$(cd "$(dirname "$0")/.." && pwd)
+cyc=${CYC:-$top/cyc}
 dir=$(mktemp -d)
 trap 'rm -rf "$dir"' EXIT
 
@@ -12,8 +15,8 @@ for file in "$top"/examples/*.blif; do
     name=$(basename "$file" .blif)
     care=
     [ -f "$top/examples/$name.care" ] && care="--care $top/examples/$name.care"
-    "$top/cyc" rewrite "$file" $care >"$dir/open.blif" 2>"$dir/refusal" || continue
-    "$top/cyc" check "$dir/open.blif" >"$dir/verdict"
+    "$cyc" rewrite "$file" $care >"$dir/open.blif" 2>"$dir/refusal" || continue
+    "$cyc" check "$dir/open.blif" >"$dir/verdict"
     grep -q '^accepted gates=[0-9]* loops=0 ' "$dir/verdict" || { echo "$name: $(cat "$dir/verdict")"; exit 1; }
     yosys -q -p "read_blif -sop $dir/open.blif; check -assert"
     berkeley-abc -q "read_blif $dir/open.blif; strash" >/dev/null
@@ -21,8 +24,8 @@ for file in "$top"/examples/*.blif; do
     if [ -z "$care" ]; then
         inputs=$(sed -n 's/^\.inputs *//p' "$dir/open.blif" | wc -w)
         awk -v n="$inputs" 'BEGIN { srand(1); for (t = 0; t < 500; t++) { v = ""; for (i = 0; i < n; i++) v = v (rand() < 0.5); print n ? v : "-" } }' >"$dir/vectors"
-        "$top/cyc" sim "$file" "$dir/vectors" >"$dir/before"
-        "$top/cyc" sim "$dir/open.blif" "$dir/vectors" >"$dir/after"
+        "$cyc" sim "$file" "$dir/vectors" >"$dir/before"
+        "$cyc" sim "$dir/open.blif" "$dir/vectors" >"$dir/after"
         cmp "$dir/before" "$dir/after"
         same="500 vectors the same"
     fi

@@ -4,21 +4,24 @@
 # waves of one storm go through GTKWave's converters, and must come back with the same changes.
 #
 #   recipes/storms.sh [FILE.svg]     (needs gtkwave for its vcd2fst and fst2vcd; FILE.svg gets a picture of the waves)
+#
+# CYC=PROGRAM in the environment takes that program in place of ./cyc.
 set -eu -o pipefail
 top=$(cd "$(dirname "$0")/.." && pwd)
+cyc=${CYC:-$top/cyc}
 dir=$(mktemp -d)
 trap 'rm -rf "$dir"' EXIT
 rounds=20
 
 # The storm of a file, and the vector of inputs that it is for.
 storm() {
-    "$top/cyc" storm "$1" "$2" >"$dir/storm" 2>/dev/null && sed -n '1s/^# inputs //p' "$dir/storm" >"$dir/vectors"
+    "$cyc" storm "$1" "$2" >"$dir/storm" 2>/dev/null && sed -n '1s/^# inputs //p' "$dir/storm" >"$dir/vectors"
 }
 
 for file in "$top"/examples/*.blif; do
     storm "$file" $rounds || continue
-    wire=$("$top/cyc" check "$file" | sed -n 's/^refused undetermined wire=\([^ ]*\).*/\1/p') || true
-    "$top/cyc" delays "$file" "$dir/vectors" "$dir/storm" --probe trace >"$dir/trace"
+    wire=$("$cyc" check "$file" | sed -n 's/^refused undetermined wire=\([^ ]*\).*/\1/p') || true
+    "$cyc" delays "$file" "$dir/vectors" "$dir/storm" --probe trace >"$dir/trace"
     awk -v wire="$wire" -v rounds=$rounds '
         $4 == wire "=0" { falls[$3] = 1 }
         $4 == wire "=1" && $3 in falls { rises[$3] = 1 }
@@ -34,9 +37,12 @@ changes() {
 
 file=$top/examples/ring_oscillator.blif
 storm "$file" 4
-"$top/cyc" delays "$file" "$dir/vectors" "$dir/storm" --probe vcd >"$dir/waves.vcd" 2>"$dir/ticks"
+"$cyc" delays "$file" "$dir/vectors" "$dir/storm" --probe vcd >"$dir/waves.vcd" 2>"$dir/ticks"
 vcd2fst "$dir/waves.vcd" "$dir/waves.fst"
 fst2vcd "$dir/waves.fst" >"$dir/back.vcd"
 cmp <(changes "$dir/waves.vcd") <(changes "$dir/back.vcd")
 echo "$(changes "$dir/waves.vcd" | wc -l) changes, the same after vcd2fst and fst2vcd"
-[ $# -eq 0 ] || awk -f "$top/recipes/waves.awk" "$dir/waves.vcd" >"$1"
+if [ $# -gt 0 ]; then
+    "$cyc" loops "$file" >"$dir/loops"
+    awk -f "$top/recipes/waves.awk" "$dir/loops" "$dir/storm" "$dir/waves.vcd" >"$1"
+fi
