@@ -18,7 +18,7 @@ use Rattle.dual_rail.specs.Expansion.{lits_of, literal, is_any, is_settled, matc
 
 -- ---- lists
 
-any_same : (f g : ℕ → Bool) → ((x : ℕ) → f x ≡ g x) → (xs : List ℕ) → list_any f xs ≡ list_any g xs
+pub any_same : (f g : ℕ → Bool) → ((x : ℕ) → f x ≡ g x) → (xs : List ℕ) → list_any f xs ≡ list_any g xs
 any_same f g h [] = refl
 any_same f g h (x ∷ xs) = λ j. h x j || any_same f g h xs j
 
@@ -87,7 +87,7 @@ remainder-settled rows plane pin live h bits =
     ∙ in_plane-true plane
 
 -- the literals of a row that is there, or none
-lits_at : (rows : List Row) (n : ℕ) → ((d : Row) → (n < length rows) × (lits_of rows n ≡ (get_or rows n d).lits)) ⊎ (lits_of rows n ≡ [])
+pub lits_at : (rows : List Row) (n : ℕ) → ((d : Row) → (n < length rows) × (lits_of rows n ≡ (get_or rows n d).lits)) ⊎ (lits_of rows n ≡ [])
 lits_at [] n = inr refl
 lits_at (row ∷ rows) zero = inl (λ d. (omega arith, refl))
 lits_at (row ∷ rows) (suc n) = elim (lits_at rows n) [ inl there ↦ inl (λ d. let less = (there d).0 in (omega (arith, less), (there d).1)) | inr none ↦ inr none ]
@@ -141,11 +141,6 @@ module _ (rows : List Row) (plane : Bool) (pin : ℕ) (live : List ℕ) (b : Boo
     short = omega (arith, length-first);
     same = λ bits len. later bits ∙ sym (remainder-narrowed rows plane pin live b (first ++ drop (length first) bits) (omega (arith, length-first, length-append first (drop (length first) bits), length-drop (length first) bits)) (read_first bits));
   }
-
-pub IsPart-next : (rows : List Row) (plane : Bool) {pin : ℕ} (live : List ℕ) (b : Bool) {vars next : ℕ} (left : List ℕ) → pin < vars → next ≡ pin + 1 → left ≡ narrowed rows pin b live → IsPart vars (remainder rows plane pin live) (remainder rows plane next left)
-IsPart-next rows plane {pin} live b {vars} left less at rest =
-    subst (λ (n : ℕ). IsPart vars (remainder rows plane pin live) (remainder rows plane n left)) (sym at)
-    (subst (λ (l : List ℕ). IsPart vars (remainder rows plane pin live) (remainder rows plane (pin + 1) l)) (sym rest) (IsPart-narrowed rows plane pin live b vars less))
 
 -- ---- nodes
 

@@ -1,4 +1,6 @@
+mod ClassLemmas
 mod ExpansionLemmas
+mod LiveLemmas
 mod MemoLemmas
 pub mod SizeLemmas
 pub mod SurelyLemmas

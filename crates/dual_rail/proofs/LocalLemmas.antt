@@ -16,15 +16,14 @@ use Rattle.dual_rail.proofs.ExpansionLemmas.{remainder-whole}
 use Rattle.dual_rail.proofs.SizeLemmas.{nodes-below_power}
 
 -- at the first pin all is left
-pub remainder-cover : (cover : Cover) → IsCover cover → (rows : List Row) (plane : Bool) (pin : ℕ) (live : List ℕ) → rows ≡ cover.rows → plane ≡ cover.plane → pin ≡ 0 → live ≡ range_with_len 0 (length rows) → (bits : List Bool) → remainder rows plane pin live bits ≡ value cover bits
-remainder-cover cover is rows plane pin live rows_are plane_is pin_is all bits =
-    (λ j. remainder (rows_are j) (plane_is j) (pin_is j) (all j) bits)
-    ∙ (λ j. remainder cover.rows cover.plane 0 (range_with_len 0 (length (rows_are j))) bits)
+pub remainder-cover : (cover : Cover) → IsCover cover → (rows : List Row) (plane : Bool) → rows ≡ cover.rows → plane ≡ cover.plane → (bits : List Bool) → remainder rows plane 0 (range_with_len 0 (length rows)) bits ≡ value cover bits
+remainder-cover cover is rows plane rows_are plane_is bits =
+    (λ j. remainder (rows_are j) (plane_is j) 0 (range_with_len 0 (length (rows_are j))) bits)
     ∙ remainder-whole cover.rows cover.plane is.plane bits
 
-pub function-cover : {E : Type 0} (cover : Cover) (is : IsCover cover) (rows : List Row) (plane : Bool) (pin : ℕ) (live : List ℕ) → rows ≡ cover.rows → plane ≡ cover.plane → pin ≡ 0 → live ≡ range_with_len 0 (length rows) → (s : Arena) → s.vars ≡ cover.pins → (r : Result Node E) → IfOk r (IsExpansion rows plane s pin live) → IfOk r (λ n. (bits : List Bool) → length bits ≡ cover.pins → den s n bits ≡ value cover bits)
-function-cover cover is rows plane pin live rows_are plane_is pin_is all s vars (Ok n) e = λ bits len. e.function bits (len ∙ sym vars) ∙ remainder-cover cover is rows plane pin live rows_are plane_is pin_is all bits
-function-cover cover is rows plane pin live rows_are plane_is pin_is all s vars (Err x) e = tt
+pub function-cover : {E : Type 0} (cover : Cover) (is : IsCover cover) (rows : List Row) (plane : Bool) → rows ≡ cover.rows → plane ≡ cover.plane → (s : Arena) → s.vars ≡ cover.pins → (r : Result Node E) → IfOk r (IsExpansion rows plane s 0 (range_with_len 0 (length rows))) → IfOk r (λ n. (bits : List Bool) → length bits ≡ cover.pins → den s n bits ≡ value cover bits)
+function-cover cover is rows plane rows_are plane_is s vars (Ok n) e = λ bits len. e.function bits (len ∙ sym vars) ∙ remainder-cover cover is rows plane rows_are plane_is bits
+function-cover cover is rows plane rows_are plane_is s vars (Err x) e = tt
 
 pub NewAreParts-alike : {s t : Arena} {f g : List Bool → Bool} → Alike s.vars f g → NewAreParts s t f → NewAreParts s t g
 NewAreParts-alike {s} {t} same new = record { each = λ n node. elim (new.each n node) [ inl was ↦ inl was | inr part ↦ inr (IsPartAt-into t t n (λ m at here. IsPart-of_alike here same) part) ] }

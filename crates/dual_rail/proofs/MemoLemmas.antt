@@ -9,7 +9,7 @@ use Rattle.bdd_store.specs.declared.node.Node.{Node}
 use Rattle.bdd_store.specs.Arena.{Arena}
 use Rattle.bdd_store.specs.Growth.{KeepsNodes}
 use Rattle.cover_logic.specs.declared.row.Row.{Row}
-use Rattle.dual_rail.specs.declared.expand.Live.{Live}
+use Rattle.dual_rail.specs.declared.live.Live.{Live}
 use Rattle.dual_rail.specs.Expansion.{IsExpansion}
 use Rattle.dual_rail.specs.Memo.{Memo, live_eq, IsMemo}
 use Rattle.dual_rail.proofs.ExpansionLemmas.{IsExpansion-kept}

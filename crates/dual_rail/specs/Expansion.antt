@@ -1,6 +1,6 @@
 -- Shannon's expansion of rows: what is left to be matched where the first pins are known.
-use Rattle.std.specs.Prelude.{◌≡◌, ◌≤◌, ◌+◌, ℕ, Bool, true, false, not, List, [], length, drop, slice_get, if◌then◌else◌}
-use Rattle.std.specs.List.{list_any, list_all, filter, slice_index_or}
+use Rattle.std.specs.Prelude.{◌≡◌, ◌≤◌, ◌+◌, ◌==◌, ◌&&◌, ℕ, Bool, true, false, not, List, [], length, drop, slice_get, if◌then◌else◌}
+use Rattle.std.specs.List.{list_any, list_all, filter, slice_index_or, zip}
 use Rattle.std.specs.Option.{option_map_or}
 use Rattle.bdd_store.specs.declared.node.Node.{Node}
 use Rattle.bdd_store.specs.Arena.{Arena, den, top_of, IsNodeOf}
@@ -21,13 +21,33 @@ is_any Zero = false
 is_any One = false
 is_any Any = true
 
+-- its literals from a pin on
+abbrev pub suffix : List Row → ℕ → ℕ → List Lit
+suffix rows pin row = drop pin (lits_of rows row)
+
 -- whether it asks nothing of this pin and of those after it
 abbrev pub is_settled : List Row → ℕ → ℕ → Bool
-is_settled rows pin row = list_all is_any (drop pin (lits_of rows row))
+is_settled rows pin row = list_all is_any (suffix rows pin row)
 
 -- whether it matches at this pin and at those after it
 abbrev pub matches_from : List Row → ℕ → List Bool → ℕ → Bool
-matches_from rows pin bits row = matches (drop pin (lits_of rows row)) (drop pin bits)
+matches_from rows pin bits row = matches (suffix rows pin row) (drop pin bits)
+
+-- from this pin on some of the rows match where some of the others do, and nowhere else
+abbrev pub MatchAlike : List Row → ℕ → List ℕ → List ℕ → Type 0
+MatchAlike rows pin some others = (bits : List Bool) → list_any (matches_from rows pin bits) some ≡ list_any (matches_from rows pin bits) others
+
+-- whether the second literal is `-` or the first one
+abbrev pub is_within : Lit → Lit → Bool
+is_within lit Any = true
+is_within Zero Zero = true
+is_within One One = true
+is_within lit wide = false
+
+-- whether each literal of the other row is `-` or this row's own, from this pin on
+abbrev pub is_contained : List Row → ℕ → ℕ → ℕ → Bool
+is_contained rows pin row other =
+    (length (suffix rows pin row) == length (suffix rows pin other)) && list_all (λ pair. is_within pair.0 pair.1) (zip (suffix rows pin row) (suffix rows pin other))
 
 abbrev pub in_plane : Bool → Bool → Bool
 in_plane plane some = if plane then some else not some

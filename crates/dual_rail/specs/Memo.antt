@@ -7,7 +7,7 @@ use Rattle.std.specs.declared.hash.BuildHasherDefault.{BuildHasherDefault}
 use Rattle.bdd_store.specs.declared.node.Node.{Node}
 use Rattle.bdd_store.specs.Arena.{Arena}
 use Rattle.cover_logic.specs.declared.row.Row.{Row}
-use Rattle.dual_rail.specs.declared.expand.Live.{Live}
+use Rattle.dual_rail.specs.declared.live.Live.{Live}
 use Rattle.dual_rail.specs.Expansion.{IsExpansion}
 
 abbrev pub Memo : Type 0

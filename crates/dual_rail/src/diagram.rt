@@ -67,8 +67,9 @@ impl LocalDiagram {
 /// makes nodes of the cover's function alone, so at most `size` of the cover, and at most `2^pins - 1`. `Full`
 /// comes only where the cover's size is over the limit.
 ///
-/// Sets of rows that still match at a pin are expanded once each, and reading one takes a step for each of its
-/// rows. There may be many more such sets than nodes, where different sets have one function.
+/// Rows that agree from a pin on are one there, and a set of them that is left to be matched is expanded once. Of a
+/// small set the rows that are contained in another one are left out. There may still be many more sets than nodes,
+/// where different sets have one function. The classes of the rows take a number for each row and pin.
 pub fn local(alloc: Global, cover: &Cover, limit: u32) -> Result<LocalDiagram, StoreFault>
     requires { limit ≤ MAX_NODES }
     ensures diagram { IfOk result (λ l. IsDiagramOf l cover.now) }

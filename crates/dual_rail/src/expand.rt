@@ -1,89 +1,20 @@
 //! Shannon's expansion of a cover's rows, pin by pin (Bryant 1986).
-ghost use Rattle.std.specs.Prelude.{◌≡◌, ◌<◌, ◌≤◌, ◌+◌, ℕ, Bool, List, length, drop, All, IfOk, OnOk, IfSome, IfNone};
-ghost use Rattle.std.specs.List.{list_all, list_any, range_with_len};
+ghost use Rattle.std.specs.Prelude.{◌≡◌, ◌<◌, ◌≤◌, ◌+◌, ℕ, Bool, List, length, All, IfOk, OnOk, IfSome, IfNone};
+ghost use Rattle.std.specs.List.{list_any, range_with_len};
 ghost use Rattle.bdd_store.specs.Arena.{den, top_of, IsNodeOf};
 ghost use Rattle.bdd_store.specs.Growth.{KeepsNodes, NewAreParts, IsRefusedPart};
-ghost use Rattle.dual_rail.specs.Expansion.{literal, is_any, is_settled, narrowed, remainder, IsExpansion, AreBranches};
-ghost use Rattle.cover_logic.specs.Covers.{allows, value};
+ghost use Rattle.dual_rail.specs.Expansion.{is_settled, remainder, narrowed, IsExpansion, AreBranches};
+ghost use Rattle.dual_rail.specs.Classes.{AreClassesOf};
+ghost use Rattle.cover_logic.specs.Covers.{value};
 ghost use Rattle.dual_rail.specs.Memo.{IsMemo};
 
+use crate::classes::Classes;
+use crate::live::Live;
+use crate::rows::is_settled;
 use bdd_store::{Node, Store, StoreFault};
-use cover_logic::{Cover, Lit, Row};
-use std::alloc::{AllocError, Global};
+use cover_logic::{Cover, Row};
+use std::alloc::Global;
 use std::collections::HashMap;
-
-/// The rows that the pins before this one match, by their numbers.
-#[derive(Debug, PartialEq, Eq, Hash)]
-pub struct Live {
-    pub pin: usize,
-    pub rows: Vec<usize>,
-}
-
-impl Drop for Live {
-    fn drop(self) {
-        let Live { pin: _, rows: _ } = self;
-    }
-}
-
-impl Live {
-    /// All of so many rows, and the first pin.
-    pub(crate) fn at_first(alloc: Global, count: usize) -> Result<Live, AllocError>
-        ensures pin { IfOk result (λ live. live.pin ≡ 0) }
-        ensures rows { IfOk result (λ live. live.rows.items ≡ range_with_len 0 count) }
-    {
-        let mut rows = Vec::new(alloc);
-        for row in 0..count {
-            rows.push(row)?;
-        }
-        Ok(Live { pin: 0, rows })
-    }
-}
-
-fn literal(rows: &[Row], row: usize, pin: usize) -> Lit
-    ensures { result ≡ literal rows.now row pin }
-{
-    match rows.get(row) {
-        Some(row) => row.lits.items().get(pin).copied().unwrap_or(Lit::Any),
-        None => Lit::Any,
-    }
-}
-
-fn is_allowed(lit: Lit, bit: bool) -> bool
-    ensures { result ≡ allows lit bit }
-{
-    match lit {
-        Lit::Zero => !bit,
-        Lit::One => bit,
-        Lit::Any => true,
-    }
-}
-
-fn ask_nothing(lits: &[Lit]) -> bool
-    ensures { result ≡ list_all is_any lits.now }
-{
-    lits.iter().all(|lit| matches!(*lit, Lit::Any))
-}
-
-#[tactic(auto, using(std::proofs::lemmas::List::drop_all))]
-fn ask_nothing_from(lits: &[Lit], pin: usize) -> bool
-    ensures { result ≡ list_all is_any (drop pin lits.now) }
-{
-    if pin < lits.len() {
-        ask_nothing(&lits[pin..])
-    } else {
-        true
-    }
-}
-
-// Whether a row asks nothing of this pin and of those after it.
-fn is_settled(rows: &[Row], row: usize, pin: usize) -> bool
-    ensures { result ≡ is_settled rows.now pin row }
-{
-    match rows.get(row) {
-        Some(row) => ask_nothing_from(row.lits.items(), pin),
-        None => ask_nothing_from(&[], pin),
-    }
-}
 
 fn any_settled(rows: &[Row], live: &[usize], pin: usize) -> bool
     ensures { result ≡ list_any (is_settled rows.now pin) live.now }
@@ -103,21 +34,6 @@ fn decided(rows: &[Row], plane: bool, pin: usize, live: &[usize]) -> Option<bool
         return Some(plane);
     }
     None
-}
-
-// The rows that match this value of the pin too.
-fn narrowed(alloc: Global, rows: &[Row], live: &Live, bit: bool) -> Result<Live, AllocError>
-    requires { live.now.pin < 1024 }
-    ensures { IfOk result (λ next. (next.pin ≡ live.now.pin + 1) × (next.rows.items ≡ narrowed rows.now live.now.pin bit live.now.rows.items)) }
-{
-    let pin = live.pin;
-    let rows = live
-        .rows
-        .iter()
-        .copied()
-        .filter(|row| is_allowed(literal(rows, *row, pin), bit))
-        .collect(alloc)?;
-    Ok(Live { pin: pin + 1, rows })
 }
 
 // The node of the remainder from those at both values of its pin.
@@ -151,9 +67,9 @@ fn join(
 // The node of the remainder at one value of the pin.
 #[cycle(expand)]
 fn branch(
-    alloc: Global,
     rows: &[Row],
     plane: bool,
+    classes: &Classes,
     store: &mut Store,
     memo: &mut HashMap<Live, Node>,
     live: &Live,
@@ -161,6 +77,7 @@ fn branch(
 ) -> Result<Node, StoreFault>
     requires width { All (λ row. length row.lits ≡ store.old.vars) rows.now }
     requires pins { store.old.vars ≤ 1024 }
+    requires classes { AreClassesOf rows.now classes.now }
     requires at { live.now.pin < store.old.vars }
     requires memo { IsMemo rows.now plane store.old memo.old }
 
@@ -170,8 +87,8 @@ fn branch(
     ensures parts { NewAreParts store.old store.new (remainder rows.now plane live.now.pin live.now.rows.items) }
     ensures full { result ≡ Err StoreFault.Full → IsRefusedPart store.new (remainder rows.now plane live.now.pin live.now.rows.items) }
 {
-    match narrowed(alloc, rows, live, bit) {
-        Ok(next) => expand(alloc, rows, plane, store, memo, next),
+    match live.narrowed(rows, classes, bit) {
+        Ok(next) => expand(rows, plane, classes, store, memo, next),
         Err(_) => Err(StoreFault::Memory),
     }
 }
@@ -179,15 +96,16 @@ fn branch(
 // The node of what these rows leave to be matched from their pin on. It recurses once for each pin.
 #[cycle(expand)]
 fn expand(
-    alloc: Global,
     rows: &[Row],
     plane: bool,
+    classes: &Classes,
     store: &mut Store,
     memo: &mut HashMap<Live, Node>,
     live: Live,
 ) -> Result<Node, StoreFault>
     requires width { All (λ row. length row.lits ≡ store.old.vars) rows.now }
     requires pins { store.old.vars ≤ 1024 }
+    requires classes { AreClassesOf rows.now classes.now }
     requires at { live.pin ≤ store.old.vars }
     requires memo { IsMemo rows.now plane store.old memo.old }
 
@@ -203,9 +121,35 @@ fn expand(
     if let Some(n) = memo.get(&live).copied() {
         return Ok(n);
     }
-    let low = branch(alloc, rows, plane, store, memo, &live, false)?;
-    let high = branch(alloc, rows, plane, store, memo, &live, true)?;
+    let low = branch(rows, plane, classes, store, memo, &live, false)?;
+    let high = branch(rows, plane, classes, store, memo, &live, true)?;
     join(store, memo, live, low, high)
+}
+
+// The node of the value of rows of a store's width.
+fn expand_rows(
+    alloc: Global,
+    rows: &[Row],
+    plane: bool,
+    pins: usize,
+    store: &mut Store,
+) -> Result<Node, StoreFault>
+    requires width { All (λ row. length row.lits ≡ pins) rows.now }
+    requires vars { store.old.vars ≡ pins }
+    requires pins { pins ≤ 1024 }
+    ensures node { IfOk result (IsExpansion rows.now plane store.new 0 (range_with_len 0 (length rows.now))) }
+    ensures keeps { KeepsNodes store.old store.new }
+    ensures parts { NewAreParts store.old store.new (remainder rows.now plane 0 (range_with_len 0 (length rows.now))) }
+    ensures full { result ≡ Err StoreFault.Full → IsRefusedPart store.new (remainder rows.now plane 0 (range_with_len 0 (length rows.now))) }
+{
+    let Ok(classes) = Classes::of(alloc, rows, pins) else {
+        return Err(StoreFault::Memory);
+    };
+    let Ok(live) = Live::at_first(alloc, rows, &classes) else {
+        return Err(StoreFault::Memory);
+    };
+    let mut memo = HashMap::new(alloc);
+    expand(rows, plane, &classes, store, &mut memo, live)
 }
 
 /// The node of a cover's function.
@@ -221,10 +165,5 @@ pub(crate) fn expand_cover(
     ensures parts { NewAreParts store.old store.new (value cover.now) }
     ensures full { result ≡ Err StoreFault.Full → IsRefusedPart store.new (value cover.now) }
 {
-    let rows = cover.rows();
-    let Ok(live) = Live::at_first(alloc, rows.len()) else {
-        return Err(StoreFault::Memory);
-    };
-    let mut memo = HashMap::new(alloc);
-    expand(alloc, rows, cover.plane(), store, &mut memo, live)
+    expand_rows(alloc, cover.rows(), cover.plane(), cover.pins(), store)
 }

@@ -5,11 +5,14 @@
 //! keeps its function, and how many nodes are added (`grows`).
 #![tactic(auto)]
 
+mod classes;
 mod diagram;
 mod expand;
 mod laws;
 mod lifting;
+mod live;
 mod rail;
+mod rows;
 
 pub use diagram::{LocalDiagram, local};
 pub use laws::{sizes, working_lists};

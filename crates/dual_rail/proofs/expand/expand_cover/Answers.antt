@@ -4,12 +4,12 @@ use Rattle.dual_rail.proofs.expand.expand_cover.Goals as goal
 
 pub returns-clause-function : goal.returns-clause-function
 returns-clause-function c =
-    function-cover c.args.cover.now c.rows-rows.ensures.proper c.rows-rows.result.now c.plane.result c.in-Ok.live.pin c.in-Ok.live.rows.items c.rows-rows.ensures.rows c.plane.ensures.plane c.in-Ok.ensures.pin c.in-Ok.ensures.rows c.expand.new.store (c.expand.ensures.keeps.vars ∙ c.requires) c.expand.result c.expand.ensures.node
+    function-cover c.args.cover.now c.rows.ensures.proper c.rows.result.now c.plane.result c.rows.ensures.rows c.plane.ensures.plane c.expand_rows.new.store (c.expand_rows.ensures.keeps.vars ∙ c.requires) c.expand_rows.result c.expand_rows.ensures.node
 
 pub returns-clause-parts : goal.returns-clause-parts
 returns-clause-parts c =
-    NewAreParts-alike (λ bits len. remainder-cover c.args.cover.now c.rows-rows.ensures.proper c.rows-rows.result.now c.plane.result c.in-Ok.live.pin c.in-Ok.live.rows.items c.rows-rows.ensures.rows c.plane.ensures.plane c.in-Ok.ensures.pin c.in-Ok.ensures.rows bits) c.expand.ensures.parts
+    NewAreParts-alike (λ bits len. remainder-cover c.args.cover.now c.rows.ensures.proper c.rows.result.now c.plane.result c.rows.ensures.rows c.plane.ensures.plane bits) c.expand_rows.ensures.parts
 
 pub returns-clause-full : goal.returns-clause-full
 returns-clause-full c is_full =
-    IsRefusedPart-alike (λ bits len. remainder-cover c.args.cover.now c.rows-rows.ensures.proper c.rows-rows.result.now c.plane.result c.in-Ok.live.pin c.in-Ok.live.rows.items c.rows-rows.ensures.rows c.plane.ensures.plane c.in-Ok.ensures.pin c.in-Ok.ensures.rows bits) (c.expand.ensures.full is_full)
+    IsRefusedPart-alike (λ bits len. remainder-cover c.args.cover.now c.rows.ensures.proper c.rows.result.now c.plane.result c.rows.ensures.rows c.plane.ensures.plane bits) (c.expand_rows.ensures.full is_full)

@@ -1,0 +1,148 @@
+-- Lists of rows that match alike.
+use Rattle.std.proofs.Common.{◌≡◌, ℕ, ◌+◌, ◌<◌, Bool, true, false, not, cond, ◌&&◌, ◌||◌, List, [], ◌∷◌, ◌++◌, length, drop, map, Result, Ok, Err, IfOk, refl, sym, ap, subst, ◌∙◌, arith, true≢false, eqb, eqb-true}
+use Rattle.std.proofs.lemmas.Bool.{and_parts}
+use Rattle.std.proofs.lemmas.List.Filters.{dedup_is}
+use Rattle.std.proofs.lemmas.List.Folds.{list_any-append, Any-from_list_any, list_any-from_Any}
+use Rattle.std.proofs.lemmas.List.Kept.{Contains-dedup_nat, Contains-from_dedup}
+use Rattle.std.proofs.lemmas.List.Sorted.{list_any-IsPermutation}
+use Rattle.std.specs.List.{list_any, list_all, filter, zip, dedup, Contains}
+use Rattle.std.specs.List.Retain.{IsFiltered, DiffersFromLast}
+use Rattle.std.specs.List.Sorted.{IsPermutation}
+use Rattle.bdd_store.specs.declared.node.Node.{Node}
+use Rattle.bdd_store.specs.Arena.{Arena}
+use Rattle.cover_logic.specs.declared.row.Lit.{Lit}
+use Rattle.cover_logic.specs.declared.row.Lit.TheVariants.{Zero, One, Any as Either}
+use Rattle.cover_logic.specs.declared.row.Row.{Row}
+use Rattle.cover_logic.specs.Covers.{allows, matches}
+use Rattle.dual_rail.specs.Expansion.{suffix, matches_from, MatchAlike, is_within, is_contained, remainder, narrowed, in_plane, IsExpansion}
+use Rattle.dual_rail.specs.declared.live.Live.{Live}
+use Rattle.bdd_store.specs.Subfunctions.{IsPart}
+use Rattle.bdd_store.proofs.SubfunctionLemmas.{IsPart-alike}
+use Rattle.dual_rail.proofs.ExpansionLemmas.{any_weaker, IsPart-narrowed}
+
+-- ---- one list in place of another one
+
+either_way : (b c : Bool) → (b ≡ true → c ≡ true) → (c ≡ true → b ≡ true) → b ≡ c
+either_way true c to from = sym (to refl)
+either_way false true to from = from refl
+either_way false false to from = refl
+
+any_moved : (test : ℕ → Bool) (xs ys : List ℕ) → ((x : ℕ) → Contains xs x → Contains ys x) → list_any test xs ≡ true → list_any test ys ≡ true
+any_moved test xs ys to e =
+    let found = Any-from_list_any test xs e in
+    let there = to found.1 (found.0, found.2, found.3) in
+    list_any-from_Any test ys (there.0, found.1, there.1, there.2, found.4)
+
+-- what `dedup` leaves passes a test as before
+any_dedup : (test : ℕ → Bool) (xs : List ℕ) → list_any test (dedup eqb xs) ≡ list_any test xs
+any_dedup test xs = either_way _ _ (any_moved test (dedup eqb xs) xs (λ x. Contains-from_dedup eqb xs x)) (any_moved test xs (dedup eqb xs) (λ x. Contains-dedup_nat xs x))
+
+pub any_ascending : (xs sorted ys : List ℕ) → IsPermutation xs sorted → IsFiltered (DiffersFromLast eqb) [] sorted ys → (test : ℕ → Bool) → list_any test ys ≡ list_any test xs
+any_ascending xs sorted ys moved kept test =
+    (λ j. list_any test (dedup_is eqb sorted ys kept j)) ∙ any_dedup test sorted ∙ sym (list_any-IsPermutation test xs sorted moved)
+
+-- the rows' classes match where the rows do
+pub any_map : (test : ℕ → Bool) (f : ℕ → ℕ) → (xs : List ℕ) → ((x : ℕ) → test (f x) ≡ test x) → list_any test (map f xs) ≡ list_any test xs
+any_map test f [] same = refl
+any_map test f (x ∷ xs) same = λ j. same x j || any_map test f xs same j
+
+-- ---- rows in others
+
+within_allows : (lit wide : Lit) (bit : Bool) → is_within lit wide ≡ true → allows lit bit ≡ true → allows wide bit ≡ true
+within_allows lit Either bit w a = refl
+within_allows Zero Zero bit w a = a
+within_allows One One bit w a = a
+within_allows Zero One bit w a = absurd (true≢false (sym w))
+within_allows One Zero bit w a = absurd (true≢false (sym w))
+within_allows Either Zero bit w a = absurd (true≢false (sym w))
+within_allows Either One bit w a = absurd (true≢false (sym w))
+
+both : (a b : Bool) → a ≡ true → b ≡ true → (a && b) ≡ true
+both a b h k = (λ j. h j && k j)
+
+within_matches : (lits wide : List Lit) (bits : List Bool) → length lits ≡ length wide → list_all (λ pair. is_within pair.0 pair.1) (zip lits wide) ≡ true → matches lits bits ≡ true → matches wide bits ≡ true
+within_matches [] [] bits len w m = m
+within_matches [] (v ∷ wide) bits len w m = absurd (omega (arith, len))
+within_matches (l ∷ lits) [] bits len w m = absurd (omega (arith, len))
+within_matches (l ∷ lits) (v ∷ wide) [] len w m = refl
+within_matches (l ∷ lits) (v ∷ wide) (b ∷ bits) len w m =
+    let w = and_parts (is_within l v) (list_all (λ pair. is_within pair.0 pair.1) (zip lits wide)) w in
+    let m = and_parts (allows l b) (matches lits bits) m in
+    both (allows v b) (matches wide bits) (within_allows l v b w.0 m.0) (within_matches lits wide bits (omega (arith, len)) w.1 m.1)
+
+contained_matches : (rows : List Row) (pin : ℕ) (bits : List Bool) (row other : ℕ) → is_contained rows pin row other ≡ true → matches_from rows pin bits row ≡ true → matches_from rows pin bits other ≡ true
+contained_matches rows pin bits row other c m =
+    let parts = and_parts (eqb (length (suffix rows pin row)) (length (suffix rows pin other))) (list_all (λ pair. is_within pair.0 pair.1) (zip (suffix rows pin row) (suffix rows pin other))) c in
+    within_matches (suffix rows pin row) (suffix rows pin other) (drop pin bits) (eqb-true (length (suffix rows pin row)) (length (suffix rows pin other)) parts.0) parts.1 m
+
+or_true : (b : Bool) → (b || true) ≡ true
+or_true true = refl
+or_true false = refl
+
+or_false : (b : Bool) → (b || false) ≡ b
+or_false true = refl
+or_false false = refl
+
+-- a row that is contained in one of them says nothing new
+pub any_contained : (rows : List Row) (pin : ℕ) (kept : List ℕ) (row : ℕ) → list_any (is_contained rows pin row) kept ≡ true → (bits : List Bool)
+    → list_any (matches_from rows pin bits) kept ≡ (list_any (matches_from rows pin bits) kept || matches_from rows pin bits row)
+any_contained rows pin kept row c bits = by (matches_from rows pin bits row) refl
+  where
+    by : (m : Bool) → matches_from rows pin bits row ≡ m → list_any (matches_from rows pin bits) kept ≡ (list_any (matches_from rows pin bits) kept || m)
+    by true e = any_weaker (is_contained rows pin row) (matches_from rows pin bits) (λ other w. contained_matches rows pin bits row other w e) kept c ∙ sym (or_true (list_any (matches_from rows pin bits) kept))
+    by false e = sym (or_false (list_any (matches_from rows pin bits) kept))
+
+-- nor do those that are contained in it
+any_others : (rows : List Row) (pin : ℕ) (row : ℕ) (bits : List Bool) → matches_from rows pin bits row ≡ false → (kept : List ℕ)
+    → list_any (matches_from rows pin bits) (filter (λ other. not (is_contained rows pin other row)) kept) ≡ list_any (matches_from rows pin bits) kept
+any_others rows pin row bits e [] = refl
+any_others rows pin row bits e (k ∷ kept) = by (any_others rows pin row bits e kept) (is_contained rows pin k row) refl
+  where
+    no : (m : Bool) → matches_from rows pin bits k ≡ m → is_contained rows pin k row ≡ true → m ≡ false
+    no true m c = absurd (true≢false (sym (contained_matches rows pin bits k row c m) ∙ e))
+    no false m c = refl
+
+    by : list_any (matches_from rows pin bits) (filter (λ other. not (is_contained rows pin other row)) kept) ≡ list_any (matches_from rows pin bits) kept → (b : Bool) → is_contained rows pin k row ≡ b → list_any (matches_from rows pin bits) (cond (not b) (k ∷ filter (λ other. not (is_contained rows pin other row)) kept) (filter (λ other. not (is_contained rows pin other row)) kept)) ≡ (matches_from rows pin bits k || list_any (matches_from rows pin bits) kept)
+    by rest true c = rest ∙ sym (ap (λ m. m || list_any (matches_from rows pin bits) kept) (no (matches_from rows pin bits k) refl c))
+    by rest false c = ap (λ r. matches_from rows pin bits k || r) rest
+
+pub any_kept : (rows : List Row) (pin : ℕ) (kept left new : List ℕ) (row : ℕ) → left ≡ filter (λ other. not (is_contained rows pin other row)) kept → new ≡ left ++ row ∷ [] → (bits : List Bool)
+    → list_any (matches_from rows pin bits) new ≡ (list_any (matches_from rows pin bits) kept || matches_from rows pin bits row)
+any_kept rows pin kept left new row fewer is bits =
+    (λ j. list_any (matches_from rows pin bits) (is j))
+    ∙ list_any-append (matches_from rows pin bits) left (row ∷ [])
+    ∙ ap (λ m. list_any (matches_from rows pin bits) left || m) (or_false (matches_from rows pin bits row))
+    ∙ by (matches_from rows pin bits row) refl
+  where
+    by : (m : Bool) → matches_from rows pin bits row ≡ m → (list_any (matches_from rows pin bits) left || m) ≡ (list_any (matches_from rows pin bits) kept || m)
+    by true e = or_true (list_any (matches_from rows pin bits) left) ∙ sym (or_true (list_any (matches_from rows pin bits) kept))
+    by false e = ap (λ b. b || false) ((λ j. list_any (matches_from rows pin bits) (fewer j)) ∙ any_others rows pin row bits e kept)
+
+-- ---- what is left to be matched
+
+pub MatchAlike-chain : (rows : List Row) (pin : ℕ) (xs ys zs : List ℕ) → MatchAlike rows pin xs ys → MatchAlike rows pin ys zs → MatchAlike rows pin xs zs
+MatchAlike-chain rows pin xs ys zs xy yz bits = xy bits ∙ yz bits
+
+pub MatchAlike-of : {E : Type 0} (rows : List Row) (pin : ℕ) (xs ys : List ℕ) (r : Result Live E) → IfOk r (λ next. MatchAlike rows pin next.rows.items xs) → MatchAlike rows pin xs ys → IfOk r (λ next. MatchAlike rows pin next.rows.items ys)
+MatchAlike-of rows pin xs ys (Ok next) is same = MatchAlike-chain rows pin next.rows.items xs ys is same
+MatchAlike-of rows pin xs ys (Err e) is same = is
+
+pub remainder-alike : (rows : List Row) (plane : Bool) (pin : ℕ) (xs ys : List ℕ) → MatchAlike rows pin xs ys → (bits : List Bool) → remainder rows plane pin xs bits ≡ remainder rows plane pin ys bits
+remainder-alike rows plane pin xs ys same bits = ap (in_plane plane) (same bits)
+
+pub IsExpansion-alike : {rows : List Row} {plane : Bool} {s : Arena} {pin : ℕ} {xs ys : List ℕ} {n : Node} → MatchAlike rows pin xs ys → IsExpansion rows plane s pin xs n → IsExpansion rows plane s pin ys n
+IsExpansion-alike {rows} {plane} {pin = pin} {xs} {ys} same is = record { node = is.node; function = λ bits len. is.function bits len ∙ remainder-alike rows plane pin xs ys same bits; top = is.top }
+
+-- what is left at a value of the pin is a part
+pub IsPart-next : (rows : List Row) (plane : Bool) {pin : ℕ} (live : List ℕ) (b : Bool) {vars next : ℕ} (left : List ℕ) → pin < vars → next ≡ pin + 1 → MatchAlike rows (pin + 1) left (narrowed rows pin b live) → IsPart vars (remainder rows plane pin live) (remainder rows plane next left)
+IsPart-next rows plane {pin} live b {vars} left less at same =
+    subst (λ (n : ℕ). IsPart vars (remainder rows plane pin live) (remainder rows plane n left)) (sym at)
+    (IsPart-alike (IsPart-narrowed rows plane pin live b vars less) (λ bits len. remainder-alike rows plane (pin + 1) left (narrowed rows pin b live) same bits))
+
+pub IsExpansion-next : {E : Type 0} (rows : List Row) (plane : Bool) (s : Arena) (pin next : ℕ) (left live : List ℕ) (r : Result Node E) → IfOk r (IsExpansion rows plane s next left) → next ≡ pin → MatchAlike rows pin left live → IfOk r (IsExpansion rows plane s pin live)
+IsExpansion-next rows plane s pin next left live (Ok n) is at same = IsExpansion-alike same (subst (λ p. IsExpansion rows plane s p left n) at is)
+IsExpansion-next rows plane s pin next left live (Err e) is at same = is
+
+-- at the first pin
+pub remainder-first : (rows : List Row) (plane : Bool) (pin : ℕ) (live all : List ℕ) → pin ≡ 0 → MatchAlike rows 0 live all → (bits : List Bool) → remainder rows plane pin live bits ≡ remainder rows plane 0 all bits
+remainder-first rows plane pin live all at same bits = (λ j. remainder rows plane (at j) live bits) ∙ remainder-alike rows plane 0 live all same bits

@@ -1,0 +1,24 @@
+use Rattle.std.proofs.Common.{rules, sym, ap, subst, ◌∙◌, ◌≡◌, ◌+◌, ◌-◌, arith, [], length, get_or}
+use Rattle.std.proofs.lemmas.List.{length_push, get_or_read}
+use Rattle.dual_rail.specs.Classes.{AreClasses}
+use Rattle.dual_rail.proofs.ClassLemmas.{AreClassesBack-end, AreClassesBack-more}
+use Rattle.dual_rail.proofs.classes.from_last.Goals as goal
+
+pub loop-back-init : goal.loop-back-init
+loop-back-init c = record {
+  long = search rules;
+  classes = rw c.in_ok-push.ensures.items (rw c.in_ok-classes.ensures.items (AreClassesBack-end c.args.rows.now c.args.pins c.of.result c.requires.width (search rules)));
+}
+
+pub classes_before-requires-clause-rests : goal.classes_before-requires-clause-rests
+classes_before-requires-clause-rests c =
+    let here = c.loop-back.invariant.classes c.loop-back.back (omega (arith, c.loop-back.invariant.long)) in
+    let next : c.args.pins - c.loop-back.back ≡ c.args.pins - 1 - c.loop-back.back + 1 = omega (arith, c.loop-back-test.true) in
+    let read = get_or_read c.loop-back.classes.items c.loop-back.back c.index.result.now (omega (arith, c.loop-back.invariant.long)) c.index.ensures [] in
+    subst (AreClasses c.args.rows.now (c.args.pins - 1 - c.loop-back.back + 1)) (sym (c.items.ensures ∙ read)) (subst (λ p. AreClasses c.args.rows.now p (get_or c.loop-back.classes.items c.loop-back.back [])) next here)
+
+pub loop-back-preserved : goal.loop-back-preserved
+loop-back-preserved c = record {
+  long = omega (arith, ap length c.in_ok-push-2.ensures.items, length_push c.loop-back.classes.items c.of-in-loop-back.result, c.loop-back.invariant.long);
+  classes = rw c.in_ok-push-2.ensures.items (AreClassesBack-more c.args.rows.now c.args.pins c.loop-back.classes.items c.of-in-loop-back.result c.loop-back.back c.loop-back.invariant.long c.loop-back.invariant.classes (rw c.of-in-loop-back.ensures c.in_ok-numbers.ensures));
+}
