@@ -1,5 +1,5 @@
 -- The bits by column, decided in turn: at each place 0 where that leaves the function true somewhere.
-use Rattle.std.proofs.Common.{◌≡◌, ◌≢◌, ℕ, zero, suc, ◌+◌, ◌<◌, ◌≤◌, Bool, true, false, List, [], ◌∷◌, ◌++◌, length, take, get_or, set, replicate, refl, sym, ap, subst, ◌∙◌, inl, inr, arith, length-set}
+use Rattle.std.proofs.Common.{◌≡◌, ◌≢◌, ℕ, zero, suc, ◌+◌, ◌<◌, ◌≤◌, Bool, true, false, List, [], ◌∷◌, ◌++◌, length, take, get_or, set, replicate, refl, sym, ap, subst, ◌∙◌, inl, inr, arith, length-set, get_or-set_same}
 use Rattle.std.proofs.lemmas.Bool.{cases_eq, cases_lt}
 use Rattle.std.proofs.lemmas.List.{length-replicate, length-take-le, take-set, take_more, take_more_set, take_all, get_or_at}
 use Rattle.std.proofs.Math.Seq.{take-append_seam}
@@ -11,7 +11,7 @@ use Rattle.bdd_store.proofs.ValueLemmas.{no_entry}
 use Rattle.bdd_store.proofs.BranchLemmas.{IsBranch, entry, exact_lo, exact_hi}
 use Rattle.bdd_ops.specs.Apply.{IsCofactor}
 use Rattle.bdd_ops.specs.Least.{IsLeast, IsLayout, by_variable}
-use Rattle.bdd_ops.specs.Possible.{Takes}
+use Rattle.bdd_ops.specs.Possible.{Takes, IsUnread}
 use Rattle.bdd_ops.proofs.LeastLemmas.{AtMost-extend, number_one, high_alive}
 use Rattle.bdd_ops.proofs.PossibleLemmas.{Takes-branch}
 
@@ -73,6 +73,21 @@ module _ (f : List Bool → Bool) (count : ℕ) (out : List Bool) (c : ℕ) (lon
   -- a vector at which the function is true, and its next bit
   next_bit : (w : List Bool) (b : Bool) → length w ≡ count → take c w ≡ take c out → get_or w c false ≡ b → take (c + 1) w ≡ take c out ++ b ∷ []
   next_bit w b w_long begins bit = take_more w c false (omega arith) ∙ (λ j. begins j ++ bit j ∷ [])
+
+  -- where the bit isn't read, some vector goes on with 0
+  pub Takes-unread : IsUnread f c → Takes f count (take (c + 1) (set out c false)) true
+  Takes-unread unread =
+      let old = were.possible in
+      let zeroed = set old.vector c false in
+      let begins : take c zeroed ≡ take c out = take-set old.vector c false ∙ ap (λ k. take k old.vector) (sym length-first) ∙ old.begins in
+      let size : length (take (c + 1) (set out c false)) ≡ c + 1 = length-take-le (c + 1) (set out c false) (omega (arith, length-set out c false)) in
+      let zeroed_long : length zeroed ≡ count = length-set old.vector c false ∙ old.long in
+      record {
+        vector = zeroed;
+        long = zeroed_long;
+        begins = ap (λ k. take k zeroed) size ∙ next_bit zeroed false zeroed_long begins (get_or-set_same old.vector c false false (omega (arith, old.long))) ∙ sym (take_more_set out c false less);
+        value_there = unread old.vector false ∙ old.value_there;
+      }
 
   module _ (none : Takes f count (take (c + 1) (set out c false)) true → ⊥) where
     not_zero : (w : List Bool) → length w ≡ count → f w ≡ true → take c w ≡ take c out → get_or w c false ≡ false → ⊥

@@ -6,6 +6,7 @@ mod OperationLemmas
 mod StandardLemmas
 mod ChoiceLemmas
 mod PossibleLemmas
+mod ReadLemmas
 mod DecideLemmas
 mod RootLemmas
 mod SlotLemmas

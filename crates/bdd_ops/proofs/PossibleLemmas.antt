@@ -104,7 +104,7 @@ module _ (s : Arena) (lawful : IsLawful s) (columns : List ℕ) (are : IsLayout 
   read w b at = by_variable-read columns w (top_of s n) (omega (arith, are.long, within)) ∙ at
 
   -- the function is the branch's, by the bit at the column
-  same_there : (w : List Bool) (b : Bool) → get_or w column false ≡ b → of_node n w ≡ of_node (if b then hi else lo) w
+  pub same_there : (w : List Bool) (b : Bool) → get_or w column false ≡ b → of_node n w ≡ of_node (if b then hi else lo) w
   same_there w true at = high.function (by_variable columns w) (read w true at)
   same_there w false at = low.function (by_variable columns w) (read w false at)
 

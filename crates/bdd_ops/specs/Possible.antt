@@ -1,5 +1,6 @@
 -- Which values functions take where the first bits of a vector by column are given.
-use Rattle.std.specs.Prelude.{◌≡◌, ◌↔◌, ◌<◌, ◌||◌, ℕ, suc, Bool, true, false, List, length, take, slice_get, Option, Some, None, if◌then◌else◌}
+use Rattle.std.specs.Prelude.{◌≡◌, ◌↔◌, ◌<◌, ◌||◌, ℕ, suc, Bool, true, false, List, length, take, set, slice_get, Option, Some, None, if◌then◌else◌}
+use Rattle.std.specs.List.{slice_index_or}
 use Rattle.bdd_store.specs.Arena.{Arena, value_at}
 use Rattle.bdd_ops.specs.declared.least_by.Values.{Values}
 use Rattle.bdd_ops.specs.Least.{by_variable}
@@ -10,6 +11,14 @@ pub record Takes (f : List Bool → Bool) (count : ℕ) (first : List Bool) (val
   pub long : length vector ≡ count
   pub begins : take (length first) vector ≡ first
   pub value_there : f vector ≡ value
+
+-- the bit at this column makes no difference to the function
+abbrev pub IsUnread : (List Bool → Bool) → ℕ → Type 0
+IsUnread f column = (v : List Bool) (bit : Bool) → f (set v column bit) ≡ f v
+
+-- each column that the function reads has a mark
+abbrev pub MarksRead : (List Bool → Bool) → List Bool → Type 0
+MarksRead f marks = (column : ℕ) → slice_index_or marks column false ≡ false → IsUnread f column
 
 -- exactly these values
 pub record AreValuesOf (f : List Bool → Bool) (count : ℕ) (first : List Bool) (values : Values) : Type 0 where

@@ -1,9 +1,10 @@
 //! The least vector in an order of its places that need not be the order of the variables. A node is asked for each
-//! place in turn whether it is true at some vector that has 0 there, after the bits that are decided.
-ghost use Rattle.std.specs.Prelude.{◌≡◌, ◌≢◌, ◌↔◌, ◌+◌, ◌<◌, ◌≤◌, ℕ, Bool, true, false, List, Some, IsTrue, length, slice_get, slice_index_or};
+//! place in turn whether it is true at some vector that has 0 there, after the bits that are decided. A place that the
+//! node's function doesn't read has 0 without being asked for.
+ghost use Rattle.std.specs.Prelude.{◌≡◌, ◌≢◌, ◌↔◌, ◌+◌, ◌<◌, ◌≤◌, ℕ, Bool, true, false, List, Some, IsTrue, IfOk, length, slice_get, slice_index_or};
 ghost use Rattle.bdd_store.specs.Arena.{constant, den, index, is_marked, IsNodeOf};
 ghost use Rattle.bdd_ops.specs.Least.{IsLeast, IsLayout, by_variable};
-ghost use Rattle.bdd_ops.specs.Possible.{Takes, flipped_values, either, branch_values, AreFound};
+ghost use Rattle.bdd_ops.specs.Possible.{Takes, MarksRead, flipped_values, either, branch_values, AreFound};
 
 use bdd_store::{Node, Store};
 use std::alloc::{AllocError, Global};
@@ -95,11 +96,60 @@ fn is_possible(
     values_of(found, n).one
 }
 
-// Decides the bits by column in turn. Each is 0 where some vector that goes on so makes the function true.
-fn decide(store: &Store, n: Node, columns: &[u32], found: &mut [Values], out: &mut [bool])
+// Marks the columns that the node's function may read: those of the entries that the node leads to. Branches stand
+// earlier, so one pass from the last to the first reaches them all.
+fn mark_read(store: &Store, n: Node, columns: &[u32], reached: &mut [bool], read: &mut [bool])
+    requires node { IsNodeOf store.now n }
+    requires columns { IsLayout store.now.vars columns.now }
+    requires reached { length reached.old ≡ index n + 1 }
+    requires read { length read.old ≡ store.now.vars }
+    ensures { MarksRead (λ v. den store.now n (by_variable columns.now v)) read.new }
+{
+    store.laws();
+    reached[n.index() as usize] = true;
+    for position in (0..n.index()).rev() {
+        if reached[position as usize + 1] {
+            let entry = store.at(position);
+            read[columns[store.top(entry) as usize] as usize] = true;
+            reached[store.lo(entry).index() as usize] = true;
+            reached[store.hi(entry).index() as usize] = true;
+        }
+    }
+}
+
+// Marks for the columns that the node's function may read.
+fn read_columns(
+    alloc: Global,
+    store: &Store,
+    n: Node,
+    columns: &[u32],
+) -> Result<Vec<bool>, AllocError>
+    requires node { IsNodeOf store.now n }
+    requires columns { IsLayout store.now.vars columns.now }
+    ensures marks { IfOk result (λ read. MarksRead (λ v. den store.now n (by_variable columns.now v)) read.items) }
+    ensures long { IfOk result (λ read. length read.items ≡ store.now.vars) }
+{
+    let mut read = vec![in alloc; false; store.vars() as usize]?;
+    let mut reached = vec![in alloc; false; n.index() as usize + 1]?;
+    mark_read(store, n, columns, &mut reached, &mut read);
+    Ok(read)
+}
+
+// Decides the bits by column in turn. Each is 0 where some vector that goes on so makes the function true, and so
+// where the function doesn't read it.
+fn decide(
+    store: &Store,
+    n: Node,
+    columns: &[u32],
+    read: &[bool],
+    found: &mut [Values],
+    out: &mut [bool],
+)
     requires node { IsNodeOf store.now n }
     requires alive { n ≢ constant false }
     requires columns { IsLayout store.now.vars columns.now }
+    requires read { MarksRead (λ v. den store.now n (by_variable columns.now v)) read.now }
+    requires marks { length read.now ≡ store.now.vars }
     requires room { length found.old ≡ index n + 1 }
     requires bits { length out.old ≡ store.now.vars }
     ensures { IsLeast (λ v. den store.now n (by_variable columns.now v)) out.new }
@@ -107,7 +157,7 @@ fn decide(store: &Store, n: Node, columns: &[u32], found: &mut [Values], out: &m
     store.laws();
     for column in 0..out.len() {
         out[column] = false;
-        if !is_possible(store, n, columns, &out[..column + 1], found) {
+        if read[column] && !is_possible(store, n, columns, &out[..column + 1], found) {
             out[column] = true;
         }
     }
@@ -135,7 +185,8 @@ pub(crate) fn least_by(
         one: false,
         zero: false,
     };
+    let read = read_columns(alloc, store, n, columns)?;
     let mut found = vec![in alloc; none; n.index() as usize + 1]?;
-    decide(store, n, columns, &mut found, out);
+    decide(store, n, columns, &read, &mut found, out);
     Ok(true)
 }
