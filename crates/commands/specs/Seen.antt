@@ -2,7 +2,7 @@
 use Rattle.std.specs.Prelude.{ℕ, option_copied}
 use Rattle.commands.specs.declared.command.Cells.{Cells}
 use Rattle.commands.specs.declared.command.Command.{Command}
-use Rattle.commands.specs.declared.command.Command.TheVariants.{Check, Rewrite, Flat, Loops, Sim, Delays, Demo, Storm}
+use Rattle.commands.specs.declared.command.Command.TheVariants.{Check, Rewrite, Flat, Loops, Sim, Delays, Demo, Storm, Help, HelpOn, Version}
 use Rattle.commands.specs.declared.command.Options.{Options}
 use Rattle.commands.specs.declared.command.Rounds.{Rounds}
 use Rattle.commands.specs.Words as asked
@@ -25,3 +25,6 @@ command_seen (Sim netlist vectors) = asked.Sim netlist.now vectors.now
 command_seen (Delays netlist vectors schedule probe) = asked.Delays netlist.now vectors.now schedule.now probe
 command_seen (Demo cells) = asked.Demo (cells_seen cells)
 command_seen (Storm netlist rounds options) = asked.Storm netlist.now (rounds_seen rounds) (options_seen options)
+command_seen Help = asked.Help
+command_seen (HelpOn topic) = asked.HelpOn topic
+command_seen Version = asked.Version

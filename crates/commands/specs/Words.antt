@@ -9,6 +9,8 @@ use Rattle.refusals.specs.declared.observe.Observe.{Observe}
 use Rattle.refusals.specs.declared.observe.Observe.TheVariants as observe
 use Rattle.probes.specs.declared.kind.Kind.{Kind}
 use Rattle.probes.specs.declared.kind.Kind.TheVariants as kind
+use Rattle.commands.specs.declared.topic.Topic.{Topic}
+use Rattle.commands.specs.declared.topic.Topic.TheVariants as topic
 
 -- the options of a decision: a care file, the greatest number of nodes, and the wires that a user looks at
 pub record Options : Type 0 where
@@ -37,10 +39,24 @@ pub data Command : Type 0 where
   Demo : ℕ → Command
   -- decides the netlist of a file, and writes a schedule of so many rounds on which a refused wire never rests
   Storm : List ℕ → ℕ → Options → Command
+  -- tells what each command does
+  Help : Command
+  -- tells what this one does
+  HelpOn : Topic → Command
+  -- tells which program this is, and what it is proved with
+  Version : Command
 
 -- a word that may name a file
 abbrev pub is_file_word : List ℕ → Bool
 is_file_word word = not (bytes_eq word []) && not (starts_with nat_eq word (codes "--"))
+
+-- standard input, as a file
+abbrev pub standard_input : List ℕ
+standard_input = codes "/dev/stdin"
+
+-- the file that a word names, where a dash is standard input
+abbrev pub file_of : List ℕ → List ℕ
+file_of word = if bytes_eq word (codes "-") then standard_input else word
 
 abbrev pub is_digit : ℕ → Bool
 is_digit b = nat_le 48 b && nat_le b 57
@@ -69,7 +85,7 @@ observe_of word =
 abbrev pub with_care : List ℕ → Options → Option Options
 with_care value known =
     if is_file_word value && is_none known.care
-    then Some (record { care = Some value; nodes = known.nodes; observe = known.observe }) else None
+    then Some (record { care = Some (file_of value); nodes = known.nodes; observe = known.observe }) else None
 
 abbrev pub with_nodes : List ℕ → Options → Option Options
 with_nodes value known =
@@ -105,7 +121,7 @@ rewrite_on file rest = option_map (Rewrite file) (options_of no_options rest)
 
 -- a simulation wants one more file
 abbrev pub sim_on : List ℕ → List (List ℕ) → Option Command
-sim_on file (vectors ∷ []) = if is_file_word vectors then Some (Sim file vectors) else None
+sim_on file (vectors ∷ []) = if is_file_word vectors then Some (Sim file (file_of vectors)) else None
 sim_on file other = None
 
 abbrev pub kind_of : List ℕ → Option Kind
@@ -125,7 +141,7 @@ probe_of other = None
 -- a play wants two more, and may have a probe
 abbrev pub delays_on : List ℕ → List (List ℕ) → Option Command
 delays_on file (vectors ∷ schedule ∷ rest) =
-    if is_file_word vectors && is_file_word schedule then option_map (Delays file vectors schedule) (probe_of rest) else None
+    if is_file_word vectors && is_file_word schedule then option_map (Delays file (file_of vectors) (file_of schedule)) (probe_of rest) else None
 delays_on file other = None
 
 -- a demonstration wants a number of cells alone
@@ -147,6 +163,24 @@ abbrev pub storm_on : List ℕ → List (List ℕ) → Option Command
 storm_on file [] = None
 storm_on file (word ∷ rest) = option_and_then (λ number. storm_with file number rest) (rounds word)
 
+-- what each command's name tells of
+abbrev pub topic_of : List ℕ → Option Topic
+topic_of word =
+    if bytes_eq word (codes "check") then Some topic.Check
+    else if bytes_eq word (codes "rewrite") then Some topic.Rewrite
+    else if bytes_eq word (codes "flat") then Some topic.Flat
+    else if bytes_eq word (codes "loops") then Some topic.Loops
+    else if bytes_eq word (codes "sim") then Some topic.Sim
+    else if bytes_eq word (codes "delays") then Some topic.Delays
+    else if bytes_eq word (codes "demo") then Some topic.Demo
+    else if bytes_eq word (codes "storm") then Some topic.Storm
+    else None
+
+-- help wants the name of a command alone
+abbrev pub help_on : List ℕ → List (List ℕ) → Option Command
+help_on word [] = option_map HelpOn (topic_of word)
+help_on word other = None
+
 -- the command of this name on a word, with the words behind it
 abbrev pub command_on : List ℕ → List ℕ → List (List ℕ) → Option Command
 command_on command word rest =
@@ -158,9 +192,18 @@ command_on command word rest =
     else if bytes_eq command (codes "delays") then delays_on word rest
     else if bytes_eq command (codes "demo") then demo_on word rest
     else if bytes_eq command (codes "storm") then storm_on word rest
+    else if bytes_eq command (codes "help") then help_on word rest
+    else None
+
+-- a command without files
+abbrev pub command_alone : List ℕ → Option Command
+command_alone word =
+    if bytes_eq word (codes "--help") then Some Help
+    else if bytes_eq word (codes "--version") then Some Version
     else None
 
 -- nothing for words outside the grammar
 abbrev pub command_of : List (List ℕ) → Option Command
-command_of (command ∷ word ∷ rest) = if is_file_word word then command_on command word rest else None
-command_of _ = None
+command_of (word ∷ []) = command_alone word
+command_of (command ∷ word ∷ rest) = if is_file_word word then command_on command (file_of word) rest else None
+command_of [] = None

@@ -1,5 +1,6 @@
 ghost use Rattle.std.specs.Prelude.{◌≤◌, unwrap_or};
 
+use crate::topic::Topic;
 use cyc_base::Name;
 use probes::Kind;
 use refusals::Observe;
@@ -53,4 +54,10 @@ pub enum Command<'a> {
     Demo(Cells),
     /// Decides the netlist of this file, and writes a schedule of so many rounds on which a refused wire never rests.
     Storm(&'a Name, Rounds, Options<'a>),
+    /// Tells what each command does.
+    Help,
+    /// Tells what this one does.
+    HelpOn(Topic),
+    /// Tells which program this is, and what it is proved with.
+    Version,
 }

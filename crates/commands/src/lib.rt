@@ -6,6 +6,8 @@
 
 mod command;
 mod parse;
+mod topic;
 
 pub use command::{Cells, Command, Options, Rounds};
-pub use parse::command_of_words;
+pub use parse::{STANDARD_INPUT, command_of_words};
+pub use topic::Topic;

@@ -2,9 +2,10 @@
 ghost use Rattle.std.specs.Prelude.{◌≡◌, ◌≤◌, ◌+◌, ◌-◌, ◌*◌, ◌&&◌, nat_le, true, false, MatchOption, IfSome, None, Some};
 ghost use Rattle.cyc_base.specs.declared.limits.TheConstants.{MAX_NODES as most_nodes};
 ghost use Rattle.commands.specs.Seen.{cells_seen, command_seen, options_seen, rounds_seen};
-ghost use Rattle.commands.specs.Words.{cells as cells_asked, check_on as check_asked, command_of, command_on as command_asked, delays_on as delays_asked, demo_on as demo_asked, is_digit, is_file_word, no_options as asked_no_options, number_between as number_asked, kind_of as kind_asked, observe_of as observe_asked, options_of as options_asked, probe_of as probe_asked, rewrite_on as rewrite_asked, rounds as rounds_asked, sim_on as sim_asked, storm_on as storm_asked, storm_with as storm_asked_with, up_to, with_care as asked_with_care, with_nodes as asked_with_nodes, with_observe as asked_with_observe, with_option as asked_with_option};
+ghost use Rattle.commands.specs.Words.{cells as cells_asked, check_on as check_asked, command_alone as alone_asked, command_of, command_on as command_asked, delays_on as delays_asked, demo_on as demo_asked, file_of as file_asked, help_on as help_asked, is_digit, is_file_word, no_options as asked_no_options, number_between as number_asked, kind_of as kind_asked, observe_of as observe_asked, options_of as options_asked, probe_of as probe_asked, rewrite_on as rewrite_asked, rounds as rounds_asked, sim_on as sim_asked, standard_input as standard_input_name, storm_on as storm_asked, storm_with as storm_asked_with, topic_of as topic_asked, up_to, with_care as asked_with_care, with_nodes as asked_with_nodes, with_observe as asked_with_observe, with_option as asked_with_option};
 
 use crate::command::{Cells, Command, Options, Rounds};
+use crate::topic::Topic;
 use cyc_base::{MAX_NODES, MAX_RING_CELLS, MIN_NODES, MIN_RING_CELLS, Name};
 use probes::Kind;
 use refusals::Observe;
@@ -12,28 +13,53 @@ use refusals::Observe;
 /// The most rounds of a storm.
 const MAX_ROUNDS: u32 = 10_000;
 
-/// The command that the words ask for, or nothing for words outside the grammar.
-pub fn command_of_words(words: &[Name]) -> Option<Command<'_>>
+/// Standard input, as a file.
+pub const STANDARD_INPUT: &[u8] = b"/dev/stdin";
+
+/// The command that the words ask for, or nothing for words outside the grammar. A file that is `-` is standard input,
+/// whose name is given.
+pub fn command_of_words<'a>(words: &'a [Name], standard_input: &'a Name) -> Option<Command<'a>>
+    requires { standard_input.now ≡ standard_input_name }
     ensures { MatchOption result (command_of words.now ≡ None) (λ command. command_of words.now ≡ Some (command_seen command)) }
 {
     match words {
+        [word] => command_alone(word.bytes()),
         [command, word, rest @ ..] if is_file(word.bytes()) => {
-            command_on(command.bytes(), word, rest)
+            let word = file_of(word, standard_input);
+            command_on(command.bytes(), word, rest, standard_input)
         }
         _ => None,
     }
 }
 
+fn command_alone<'a>(word: &[u8]) -> Option<Command<'a>>
+    ensures { MatchOption result (alone_asked word.now ≡ None) (λ asked. alone_asked word.now ≡ Some (command_seen asked)) }
+{
+    if word == b"--help".as_slice() {
+        Some(Command::Help)
+    } else if word == b"--version".as_slice() {
+        Some(Command::Version)
+    } else {
+        None
+    }
+}
+
 // The command of this name on a word, with the words behind it.
-fn command_on<'a>(command: &[u8], word: &'a Name, rest: &'a [Name]) -> Option<Command<'a>>
+fn command_on<'a>(
+    command: &[u8],
+    word: &'a Name,
+    rest: &'a [Name],
+    standard_input: &'a Name,
+) -> Option<Command<'a>>
+    requires { standard_input.now ≡ standard_input_name }
     ensures { MatchOption result (command_asked command.now word.now rest.now ≡ None)
         (λ asked. command_asked command.now word.now rest.now ≡ Some (command_seen asked)) }
 {
     if command == b"check".as_slice() {
-        return check_on(word, rest);
+        return check_on(word, rest, standard_input);
     }
     if command == b"rewrite".as_slice() {
-        return rewrite_on(word, rest);
+        return rewrite_on(word, rest, standard_input);
     }
     if command == b"flat".as_slice() && rest.is_empty() {
         return Some(Command::Flat(word));
@@ -42,18 +68,33 @@ fn command_on<'a>(command: &[u8], word: &'a Name, rest: &'a [Name]) -> Option<Co
         return Some(Command::Loops(word));
     }
     if command == b"sim".as_slice() {
-        return sim_on(word, rest);
+        return sim_on(word, rest, standard_input);
     }
     if command == b"delays".as_slice() {
-        return delays_on(word, rest);
+        return delays_on(word, rest, standard_input);
     }
     if command == b"demo".as_slice() {
         return demo_on(word, rest);
     }
     if command == b"storm".as_slice() {
-        return storm_on(word, rest);
+        return storm_on(word, rest, standard_input);
+    }
+    if command == b"help".as_slice() {
+        return help_on(word, rest);
     }
     None
+}
+
+// The file that a word names.
+fn file_of<'a>(word: &'a Name, standard_input: &'a Name) -> &'a Name
+    requires { standard_input.now ≡ standard_input_name }
+    ensures { result.now ≡ file_asked word.now }
+{
+    if word.bytes() == b"-".as_slice() {
+        standard_input
+    } else {
+        word
+    }
 }
 
 fn no_options<'a>() -> Options<'a>
@@ -67,41 +108,49 @@ fn no_options<'a>() -> Options<'a>
 }
 
 #[tactic(auto, using(crate::proofs::WordLemmas::check_asked, crate::proofs::WordLemmas::check_not_asked))]
-fn check_on<'a>(file: &'a Name, rest: &'a [Name]) -> Option<Command<'a>>
+fn check_on<'a>(file: &'a Name, rest: &'a [Name], standard_input: &'a Name) -> Option<Command<'a>>
+    requires { standard_input.now ≡ standard_input_name }
     ensures { MatchOption result (check_asked file.now rest.now ≡ None)
         (λ asked. check_asked file.now rest.now ≡ Some (command_seen asked)) }
 {
-    let options = options_of(no_options(), rest)?;
+    let options = options_of(no_options(), rest, standard_input)?;
     Some(Command::Check(file, options))
 }
 
 #[tactic(auto, using(crate::proofs::WordLemmas::rewrite_asked, crate::proofs::WordLemmas::rewrite_not_asked))]
-fn rewrite_on<'a>(file: &'a Name, rest: &'a [Name]) -> Option<Command<'a>>
+fn rewrite_on<'a>(file: &'a Name, rest: &'a [Name], standard_input: &'a Name) -> Option<Command<'a>>
+    requires { standard_input.now ≡ standard_input_name }
     ensures { MatchOption result (rewrite_asked file.now rest.now ≡ None)
         (λ asked. rewrite_asked file.now rest.now ≡ Some (command_seen asked)) }
 {
-    let options = options_of(no_options(), rest)?;
+    let options = options_of(no_options(), rest, standard_input)?;
     Some(Command::Rewrite(file, options))
 }
 
 // A simulation wants one more file.
-fn sim_on<'a>(file: &'a Name, rest: &'a [Name]) -> Option<Command<'a>>
+fn sim_on<'a>(file: &'a Name, rest: &'a [Name], standard_input: &'a Name) -> Option<Command<'a>>
+    requires { standard_input.now ≡ standard_input_name }
     ensures { MatchOption result (sim_asked file.now rest.now ≡ None)
         (λ asked. sim_asked file.now rest.now ≡ Some (command_seen asked)) }
 {
     match rest {
-        [vectors] if is_file(vectors.bytes()) => Some(Command::Sim(file, vectors)),
+        [vectors] if is_file(vectors.bytes()) => {
+            Some(Command::Sim(file, file_of(vectors, standard_input)))
+        }
         _ => None,
     }
 }
 
 // A play wants two more, and may have a probe.
-fn delays_on<'a>(file: &'a Name, rest: &'a [Name]) -> Option<Command<'a>>
+fn delays_on<'a>(file: &'a Name, rest: &'a [Name], standard_input: &'a Name) -> Option<Command<'a>>
+    requires { standard_input.now ≡ standard_input_name }
     ensures { MatchOption result (delays_asked file.now rest.now ≡ None)
         (λ asked. delays_asked file.now rest.now ≡ Some (command_seen asked)) }
 {
     match rest {
         [vectors, schedule, rest @ ..] if is_file(vectors.bytes()) && is_file(schedule.bytes()) => {
+            let vectors = file_of(vectors, standard_input);
+            let schedule = file_of(schedule, standard_input);
             Some(Command::Delays(file, vectors, schedule, probe_of(rest)?))
         }
         _ => None,
@@ -149,23 +198,65 @@ fn demo_on<'a>(word: &Name, rest: &'a [Name]) -> Option<Command<'a>>
 }
 
 // A storm wants a number of rounds, and may have options.
-fn storm_on<'a>(file: &'a Name, rest: &'a [Name]) -> Option<Command<'a>>
+fn storm_on<'a>(file: &'a Name, rest: &'a [Name], standard_input: &'a Name) -> Option<Command<'a>>
+    requires { standard_input.now ≡ standard_input_name }
     ensures { MatchOption result (storm_asked file.now rest.now ≡ None)
         (λ asked. storm_asked file.now rest.now ≡ Some (command_seen asked)) }
 {
     match rest {
-        [word, rest @ ..] => storm_with(file, rounds(word.bytes())?, rest),
+        [word, rest @ ..] => storm_with(file, rounds(word.bytes())?, rest, standard_input),
         [] => None,
     }
 }
 
 #[tactic(auto, using(crate::proofs::WordLemmas::storm_asked, crate::proofs::WordLemmas::storm_not_asked))]
-fn storm_with<'a>(file: &'a Name, rounds: Rounds, rest: &'a [Name]) -> Option<Command<'a>>
+fn storm_with<'a>(
+    file: &'a Name,
+    rounds: Rounds,
+    rest: &'a [Name],
+    standard_input: &'a Name,
+) -> Option<Command<'a>>
+    requires { standard_input.now ≡ standard_input_name }
     ensures { MatchOption result (storm_asked_with file.now (rounds_seen rounds) rest.now ≡ None)
         (λ asked. storm_asked_with file.now (rounds_seen rounds) rest.now ≡ Some (command_seen asked)) }
 {
-    let options = options_of(no_options(), rest)?;
+    let options = options_of(no_options(), rest, standard_input)?;
     Some(Command::Storm(file, rounds, options))
+}
+
+// Help wants the name of a command alone.
+fn help_on<'a>(word: &Name, rest: &'a [Name]) -> Option<Command<'a>>
+    ensures { MatchOption result (help_asked word.now rest.now ≡ None)
+        (λ asked. help_asked word.now rest.now ≡ Some (command_seen asked)) }
+{
+    match rest {
+        [] => Some(Command::HelpOn(topic_of(word.bytes())?)),
+        _ => None,
+    }
+}
+
+fn topic_of(word: &[u8]) -> Option<Topic>
+    ensures { result ≡ topic_asked word.now }
+{
+    if word == b"check".as_slice() {
+        Some(Topic::Check)
+    } else if word == b"rewrite".as_slice() {
+        Some(Topic::Rewrite)
+    } else if word == b"flat".as_slice() {
+        Some(Topic::Flat)
+    } else if word == b"loops".as_slice() {
+        Some(Topic::Loops)
+    } else if word == b"sim".as_slice() {
+        Some(Topic::Sim)
+    } else if word == b"delays".as_slice() {
+        Some(Topic::Delays)
+    } else if word == b"demo".as_slice() {
+        Some(Topic::Demo)
+    } else if word == b"storm".as_slice() {
+        Some(Topic::Storm)
+    } else {
+        None
+    }
 }
 
 fn rounds(word: &[u8]) -> Option<Rounds>
@@ -185,24 +276,38 @@ fn cells(word: &[u8]) -> Option<Cells>
 // The options that these words give beside those that are known. They recurse at most once for each option, since each
 // comes once.
 #[tactic(auto, using(crate::proofs::WordLemmas::more_options, crate::proofs::WordLemmas::no_more_options))]
-fn options_of<'a>(known: Options<'a>, words: &'a [Name]) -> Option<Options<'a>>
+fn options_of<'a>(
+    known: Options<'a>,
+    words: &'a [Name],
+    standard_input: &'a Name,
+) -> Option<Options<'a>>
+    requires { standard_input.now ≡ standard_input_name }
     ensures { MatchOption result (options_asked (options_seen known.entry) words.now ≡ None)
         (λ options. options_asked (options_seen known.entry) words.now ≡ Some (options_seen options)) }
 {
     match words {
         [] => Some(known),
-        [word, value, rest @ ..] => options_of(with_option(word.bytes(), value, known)?, rest),
+        [word, value, rest @ ..] => {
+            let more = with_option(word.bytes(), value, known, standard_input)?;
+            options_of(more, rest, standard_input)
+        },
         _ => None,
     }
 }
 
 // An option with its value, beside those that are known.
-fn with_option<'a>(word: &[u8], value: &'a Name, known: Options<'a>) -> Option<Options<'a>>
+fn with_option<'a>(
+    word: &[u8],
+    value: &'a Name,
+    known: Options<'a>,
+    standard_input: &'a Name,
+) -> Option<Options<'a>>
+    requires { standard_input.now ≡ standard_input_name }
     ensures { MatchOption result (asked_with_option word.now value.now (options_seen known.entry) ≡ None)
         (λ options. asked_with_option word.now value.now (options_seen known.entry) ≡ Some (options_seen options)) }
 {
     if word == b"--care".as_slice() {
-        return with_care(value, known);
+        return with_care(value, known, standard_input);
     }
     if word == b"--nodes".as_slice() {
         return with_nodes(value, known);
@@ -213,13 +318,18 @@ fn with_option<'a>(word: &[u8], value: &'a Name, known: Options<'a>) -> Option<O
     None
 }
 
-fn with_care<'a>(value: &'a Name, known: Options<'a>) -> Option<Options<'a>>
+fn with_care<'a>(
+    value: &'a Name,
+    known: Options<'a>,
+    standard_input: &'a Name,
+) -> Option<Options<'a>>
+    requires { standard_input.now ≡ standard_input_name }
     ensures { MatchOption result (asked_with_care value.now (options_seen known.entry) ≡ None)
         (λ options. asked_with_care value.now (options_seen known.entry) ≡ Some (options_seen options)) }
 {
     if is_file(value.bytes()) && known.care.is_none() {
         Some(Options {
-            care: Some(value),
+            care: Some(file_of(value, standard_input)),
             nodes: known.nodes,
             observe: known.observe,
         })

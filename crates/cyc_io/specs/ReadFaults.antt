@@ -14,3 +14,6 @@ no_memory = read.Memory
 
 abbrev pub shelf_memory : ShelfFault
 shelf_memory = shelf.Memory
+
+abbrev pub shelf_failed : ShelfFault
+shelf_failed = shelf.Failed

@@ -1,5 +1,6 @@
 // Real files, and standard output and standard error. Both tell no content.
-ghost use Rattle.std.specs.Prelude.{◌≡◌, ℕ, List, None};
+ghost use Rattle.std.specs.Prelude.{◌≡◌, ◌≤◌, ◌+◌, ℕ, List, None};
+ghost use Rattle.cyc_base.specs.declared.limits.TheConstants.{MAX_FILE_BYTES as most_bytes};
 ghost use Rattle.std.specs.Io.{ReadsAtMost};
 ghost use Rattle.cyc_io.specs.Counts.{count_of};
 
@@ -8,14 +9,56 @@ use crate::{Failed, Shelf, ShelfFault, Sink};
 use cyc_base::Name;
 use std::alloc::Global;
 use std::fs::{File, Files};
-use std::io;
 use std::io::{Read, Seek, SeekFrom, Write};
 
-/// The files of the system.
-#[derive(Drop)]
+// The file that was read last, which stays open, and where that read ended.
+struct LastFile<F: Read + Seek + Drop> {
+    name: Name,
+    file: F,
+    at: u64,
+}
+
+impl<F: Read + Seek + Drop> Drop for LastFile<F> {
+    fn drop(self) {
+        let LastFile {
+            name: _,
+            file: _,
+            at: _,
+        } = self;
+    }
+}
+
+impl<F: Read + Seek + Drop> LastFile<F> {
+    // A read that goes on where the last one ended doesn't seek, so that a pipe can be read.
+    fn read_at(&mut self, at: u64, buf: &mut [u8]) -> Result<usize, ShelfFault>
+        requires { at ≤ most_bytes + 1 }
+        ensures { ReadsAtMost result buf.new }
+    {
+        if self.at != at {
+            self.file.seek(SeekFrom::Start(at))?;
+        }
+        let count = self.file.read(buf)?;
+        self.at = at + count as u64;
+        Ok(count)
+    }
+}
+
+/// The files of the system. The one that was read last stays open, and is read on where the next read begins at the
+/// place where the last one ended: so pipes are read like files.
 pub struct HostShelf<'a, R: Files> {
     files: &'a R,
     counts: Counts,
+    last: Option<LastFile<R::File>>,
+}
+
+impl<R: Files> Drop for HostShelf<'_, R> {
+    fn drop(self) {
+        let HostShelf {
+            files: _,
+            counts: _,
+            last: _,
+        } = self;
+    }
 }
 
 impl<'a, R: Files> HostShelf<'a, R> {
@@ -26,20 +69,39 @@ impl<'a, R: Files> HostShelf<'a, R> {
         HostShelf {
             files,
             counts: Counts::new(alloc),
+            last: None,
         }
     }
 }
 
 // A name that is no text is that of no file.
-fn read_at<R: Files>(files: &R, name: &Name, at: u64, buf: &mut [u8]) -> io::Result<usize>
+fn open_file<R: Files>(files: &R, name: &Name) -> Result<LastFile<R::File>, ShelfFault> {
+    let Ok(path) = str::from_utf8(name.bytes()) else {
+        return Err(ShelfFault::Failed);
+    };
+    let name = name.copy()?;
+    let file = File::open(files, path)?;
+    Ok(LastFile { name, file, at: 0 })
+}
+
+// Reads a file, which is opened where it isn't the last one. It stays open unless its read failed.
+fn read_on<R: Files>(
+    files: &R,
+    last: &mut Option<LastFile<R::File>>,
+    name: &Name,
+    at: u64,
+    buf: &mut [u8],
+) -> Result<usize, ShelfFault>
+    requires { at ≤ most_bytes + 1 }
     ensures { ReadsAtMost result buf.new }
 {
-    let Ok(path) = str::from_utf8(name.bytes()) else {
-        return Err(io::Error::from(io::ErrorKind::NotFound));
+    let mut open = match last.take() {
+        Some(open) if open.name == *name => open,
+        _ => open_file(files, name)?,
     };
-    let mut file = File::open(files, path)?;
-    file.seek(SeekFrom::Start(at))?;
-    file.read(buf)
+    let count = open.read_at(at, buf)?;
+    *last = Some(open);
+    Ok(count)
 }
 
 impl<R: Files> Shelf for HostShelf<'_, R> {
@@ -50,12 +112,13 @@ impl<R: Files> Shelf for HostShelf<'_, R> {
     #[tactic(auto, using(crate::proofs::FaultLemmas::raised_only, crate::proofs::FaultLemmas::raised_rose, crate::proofs::FaultLemmas::same_only))]
     fn read(&mut self, name: &Name, at: u64, buf: &mut [u8]) -> Result<usize, ShelfFault> {
         reserve(&mut self.counts, name)?;
-        match read_at(self.files, name, at, buf) {
+        match read_on(self.files, &mut self.last, name, at, buf) {
             Ok(count) => Ok(count),
-            Err(_) => {
+            Err(ShelfFault::Failed) => {
                 raise(&mut self.counts, name);
                 Err(ShelfFault::Failed)
             }
+            Err(ShelfFault::Memory) => Err(ShelfFault::Memory),
         }
     }
 }

@@ -2,10 +2,11 @@ ghost use Rattle.std.specs.Prelude.{◌≡◌, ◌<◌, ◌≤◌, ℕ, List, Op
 ghost use Rattle.std.specs.Io.{ReadsAtMost};
 ghost use Rattle.cyc_io.specs.Faults.{Rose, Counts, ChangesCountOf};
 ghost use Rattle.cyc_io.specs.Files.{Files, IsFile, IsFront, GivesPart};
-ghost use Rattle.cyc_io.specs.ReadFaults.{fault_of, no_memory, shelf_memory};
+ghost use Rattle.cyc_io.specs.ReadFaults.{fault_of, no_memory, shelf_failed, shelf_memory};
 
 use cyc_base::{MAX_FILE_BYTES, Name};
 use std::alloc::{AllocError, Global};
+use std::io;
 use thiserror::Error;
 
 /// Why a shelf gave nothing.
@@ -55,6 +56,14 @@ impl From<AllocError> for ShelfFault {
 
     fn from(_: AllocError) -> Self {
         ShelfFault::Memory
+    }
+}
+
+impl From<io::Error> for ShelfFault {
+    ghost from_gives = { λ _ e. e ≡ shelf_failed };
+
+    fn from(_: io::Error) -> Self {
+        ShelfFault::Failed
     }
 }
 

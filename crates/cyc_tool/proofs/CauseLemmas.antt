@@ -1,5 +1,5 @@
 -- The cause of each status of a run.
-use Rattle.std.proofs.Common.{◌≡◌, ◌≢◌, ◌≤◌, ◌⊎◌, ℕ, Bool, true, false, List, Some, None, refl, sym, ap, subst, ◌∙◌, inl, inr, arith}
+use Rattle.std.proofs.Common.{◌≡◌, ◌≢◌, ◌≤◌, ◌⊎◌, ℕ, Bool, true, false, List, [], ◌∷◌, Some, None, refl, sym, ap, subst, ◌∙◌, inl, inr, arith}
 use Rattle.std.specs.Prelude.{IsSomeAnd, nat_le, if◌then◌else◌}
 use Rattle.std.specs.declared.option.Option.{Option}
 use Rattle.std.proofs.lemmas.Option.{none-some}
@@ -18,14 +18,15 @@ use Rattle.storm.specs.Storms.{most_events}
 use Rattle.storm.specs.Laws.{StormsNeverRest}
 use Rattle.refusals.proofs.LawLemmas.{accepted_without_refusal, refusal_is_shown}
 use Rattle.cyc_tool.specs.Answer.{told, decided, verdict_of}
-use Rattle.cyc_tool.specs.Calls.{ShelfCall, SinkCall, WriteFailed, Takes, EndsAt, rest_of, ComesTo, Follows, IsDecided, IsMade, IsMadeFor, Verdict, Limit, Tells, Runs}
-use Rattle.cyc_tool.specs.Causes.{IsWithoutCommand, Leads, Reaches, IsFaulty, IsUnread, MeetsLimit, IsVerdict, IsDoneWith, HasRewritten, HasStormed}
+use Rattle.cyc_tool.specs.Calls.{ShelfCall, SinkCall, WriteFailed, Takes, AreGiven, EndsAt, rest_of, ComesTo, Follows, IsDecided, IsMade, IsMadeFor, Verdict, Limit, Tells, Runs}
+use Rattle.cyc_tool.specs.Causes.{IsHelped, IsHelpedBy, IsWithoutCommand, Leads, Reaches, IsFaulty, IsUnread, MeetsLimit, IsVerdict, IsDoneWith, HasRewritten, HasStormed}
 use Rattle.cyc_tool.specs.Endings.{ending_of, storm_or_refusal}
 use Rattle.cyc_tool.specs.Storms.{events_of, events_told, storm_text}
 use Rattle.cyc_tool.specs.Plans.{Ending, Prints, PrintsBeside, Refuses, Declines, Outgrows, Decision, Judges, Rewrites, Demonstrates, Storms, Plan, Reads, Faulty, Ends, Decides, plan_of}
 use Rattle.cyc_tool.specs.Requests.{Request}
-use Rattle.cyc_tool.specs.Texts.{Outcome}
-use Rattle.commands.specs.Words.{Command, command_of}
+use Rattle.cyc_tool.specs.Texts.{Outcome, no_memory}
+use Rattle.report.specs.Help.{help_text, topic_text, version_text}
+use Rattle.commands.specs.Words.{Command, Check, Rewrite, Flat, Loops, Sim, Delays, Demo, Storm, Help, HelpOn, Version, command_of}
 
 abbrev status_of : Outcome → ℕ
 status_of end = end.status
@@ -225,6 +226,43 @@ usage_told request shelf nodes out err status runs = by_command (command_of requ
     by_command : (asked : Option Command) → command_of request.words ≡ asked → IsWithoutCommand asked status
     by_command None is = low None is refl (run_by request shelf nodes out err status runs)
     by_command (Some command) is = λ two. none-some command (sym (usage_cause request shelf nodes out err status runs two) ∙ is)
+
+-- help and the version are told
+helped_at : (shelf : ShelfCall) (nodes : Arena) (end : Outcome) (text : List ℕ) → Follows (Ends (Prints text)) shelf nodes end
+    → end.status ≡ 0 ⊎ end.status ≡ 7
+helped_at shelf nodes end text follows = by_given follows.given follows.gave follows.ends
+  where
+    by_given : (given : List (List ℕ)) → AreGiven shelf.files given (Ends (Prints text))
+        → EndsAt shelf nodes end (rest_of given (Ends (Prints text))) ⊎ (end ≡ no_memory) → end.status ≡ 0 ⊎ end.status ≡ 7
+    by_given [] gave (inl at) = inl (ap status_of at)
+    by_given [] gave (inr lacks) = inr (ap status_of lacks)
+    by_given (bytes ∷ given) gave ends = absurd gave
+
+helped_by : (out err : SinkCall) (status : ℕ) (end : Outcome) → Tells end out err status → end.status ≡ 0 ⊎ end.status ≡ 7 → IsHelped status
+helped_by out err status end (inl whole) (inl zero) = inl (whole.is ∙ zero)
+helped_by out err status end (inl whole) (inr seven) = inr (inr (whole.is ∙ seven))
+helped_by out err status end (inr cut) low = inr (inl cut.is)
+
+pub help_told : (request : Request) (shelf : ShelfCall) (nodes : Arena) (out err : SinkCall) (status : ℕ) → Runs request shelf nodes out err status
+    → IsHelpedBy (command_of request.words) status
+help_told request shelf nodes out err status runs = by_command (command_of request.words) runs.comes
+  where
+    told_by : (text : List ℕ) → Follows (Ends (Prints text)) shelf nodes runs.end → IsHelped status
+    told_by text follows = helped_by out err status runs.end runs.tells (helped_at shelf nodes runs.end text follows)
+
+    by_command : (asked : Option Command) → ComesTo request.shows asked shelf nodes runs.end → IsHelpedBy asked status
+    by_command (Some Help) comes = told_by help_text comes
+    by_command (Some (HelpOn topic)) comes = told_by (topic_text topic) comes
+    by_command (Some Version) comes = told_by version_text comes
+    by_command (Some (Check file options)) comes = tt
+    by_command (Some (Rewrite file options)) comes = tt
+    by_command (Some (Flat file)) comes = tt
+    by_command (Some (Loops file)) comes = tt
+    by_command (Some (Sim file vectors)) comes = tt
+    by_command (Some (Delays file vectors recorded probe)) comes = tt
+    by_command (Some (Demo cells)) comes = tt
+    by_command (Some (Storm file rounds options)) comes = tt
+    by_command None comes = tt
 
 -- what was put on out to rewrite
 has_rewritten : (shelf : ShelfCall) (nodes : Arena) (out : SinkCall) (end : Outcome) (rest : Plan) → end.status ≡ 0 → Takes out end.out

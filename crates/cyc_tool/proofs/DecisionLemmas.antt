@@ -113,6 +113,17 @@ demonstrated net care limit what cells gates end same is = record {
   made = tt;
 }
 
+-- the gates of a netlist that was made by rewriting
+pub gates_counted : (net : Parts) (blocks : Blocks) (cut : Cut) (counts : SweepCounts) (made : Result Parts UnrollFault) (other : Parts) (gates : ℕ)
+    → made ≡ Ok other → gates ≡ length other.gates
+    → IfOk made (λ other. (care : CareSet) (what : Observe) → Accepts net care what → AreSweepsOnCare net blocks cut care counts → IsRewriting net care other)
+    → (care : CareSet) (what : Observe) → Accepts net care what → AreSweepsOnCare net blocks cut care counts → gates ≡ length (rewritten net care).gates
+gates_counted net blocks cut counts made other gates is same rewriting care what accepts sweeps =
+    let P : Result Parts UnrollFault → Type 0 = λ r. IfOk r (λ other. (care : CareSet) (what : Observe) → Accepts net care what
+    → AreSweepsOnCare net blocks cut care counts → IsRewriting net care other) in
+    let here : (care : CareSet) (what : Observe) → Accepts net care what → AreSweepsOnCare net blocks cut care counts → IsRewriting net care other = subst P is rewriting in
+    same ∙ ap (λ (n : Parts). length n.gates) (here care what accepts sweeps).is
+
 is_within : (size : ℕ) → size ≤ 4000000 → nat_le size MAX_REWRITTEN_ITEMS ≡ true
 is_within size small = grind (arith, small)
 

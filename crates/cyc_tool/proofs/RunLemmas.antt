@@ -1,14 +1,15 @@
 -- What a call comes to.
-use Rattle.std.proofs.Common.{◌≡◌, ◌⊎◌, ◌≤◌, ℕ, List, Some, None, refl, sym, subst, arith}
+use Rattle.std.proofs.Common.{◌≡◌, ◌⊎◌, ◌≤◌, ℕ, List, Some, None, refl, sym, subst, inr, arith}
 use Rattle.std.specs.declared.option.Option.{Option}
 use Rattle.cyc_io.specs.Faults.{Counts}
 use Rattle.cyc_io.specs.Files.{Files}
 use Rattle.bdd_store.specs.Arena.{Arena}
-use Rattle.commands.specs.Words.{Command}
-use Rattle.cyc_tool.specs.Calls.{ShelfCall, ComesTo, Follows}
+use Rattle.commands.specs.Words.{Command, Check, Rewrite, Flat, Loops, Sim, Delays, Demo, Storm, Help, HelpOn, Version}
+use Rattle.cyc_tool.specs.Calls.{ShelfCall, ComesTo, Follows, KeepsNodes}
 use Rattle.cyc_tool.specs.Plans.{plan_of}
 use Rattle.cyc_tool.specs.Requests.{Shows}
 use Rattle.cyc_tool.specs.Texts.{Outcome, no_memory, usage}
+use Rattle.cyc_tool.proofs.PlanLemmas.{follows_still}
 
 -- a call comes to what its command comes to, and words outside the grammar to the usage
 pub comes_to_command : (shows : Shows) (asked : Option Command) (command : Command) (shelf : ShelfCall) (nodes : Arena) (end : Outcome) → asked ≡ Some command
@@ -22,6 +23,31 @@ pub comes_to_usage : (shows : Shows) (asked : Option Command) (files : Option Fi
 comes_to_usage shows asked files counts nodes end is ends =
     let P : Option Command → Type 0 = λ c. ComesTo shows c (record { files = files; before = counts; now = counts }) nodes end in
     subst P (sym is) (record { counts = record { later = λ other. omega arith; others = λ other differs. refl }; ends = ends })
+
+-- want of memory before anything is read
+pub comes_to_lack : (shows : Shows) (asked : Option Command) (files : Option Files) (counts : Counts) (nodes : Arena) (end : Outcome) → end ≡ no_memory
+    → ComesTo shows asked (record { files = files; before = counts; now = counts }) nodes end
+comes_to_lack shows None files counts nodes end lacks = record { counts = record { later = λ other. omega arith; others = λ other differs. refl }; ends = inr lacks }
+comes_to_lack shows (Some command) files counts nodes end lacks = follows_still files counts nodes end (plan_of shows command) (inr lacks)
+
+-- diagrams that stay are kept
+pub keeps_still : (asked : Option Command) (nodes : Arena) → KeepsNodes asked nodes nodes
+keeps_still None nodes = refl
+keeps_still (Some (Check file options)) nodes = tt
+keeps_still (Some (Rewrite file options)) nodes = tt
+keeps_still (Some (Flat file)) nodes = refl
+keeps_still (Some (Loops file)) nodes = refl
+keeps_still (Some (Sim file vectors)) nodes = refl
+keeps_still (Some (Delays file vectors recorded probe)) nodes = refl
+keeps_still (Some (Demo cells)) nodes = tt
+keeps_still (Some (Storm file rounds options)) nodes = tt
+keeps_still (Some Help) nodes = refl
+keeps_still (Some (HelpOn topic)) nodes = refl
+keeps_still (Some Version) nodes = refl
+
+pub keeps_by_command : (asked : Option Command) (command : Command) (before now : Arena) → asked ≡ Some command → KeepsNodes (Some command) before now
+    → KeepsNodes asked before now
+keeps_by_command asked command before now is keeps = let P : Option Command → Type 0 = λ c. KeepsNodes c before now in subst P (sym is) keeps
 
 -- the counts on both sides of a run
 pub counts_later : (shows : Shows) (asked : Option Command) (shelf : ShelfCall) (nodes : Arena) (end : Outcome) → ComesTo shows asked shelf nodes end

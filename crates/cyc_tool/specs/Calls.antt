@@ -11,7 +11,7 @@ use Rattle.bdd_store.specs.Arena.{Arena}
 use Rattle.netlist.specs.Netlists.{IsNetlist}
 use Rattle.verdict.specs.Causes.{IsOutOfNodes}
 use Rattle.verdict.specs.Enough.{IsBelowEnough}
-use Rattle.commands.specs.Words.{Command, command_of}
+use Rattle.commands.specs.Words.{Command, Check, Rewrite, Demo, Storm, command_of}
 use Rattle.contents.specs.NetlistFiles.{netlist_of}
 use Rattle.cyc_base.specs.declared.limits.TheConstants.{MAX_REWRITTEN_ITEMS}
 use Rattle.refusals.specs.declared.refusal.Refusal.{Refusal}
@@ -130,6 +130,14 @@ pub record ComesToUsage (shelf : ShelfCall) (end : Outcome) : Type 0 where
 abbrev pub ComesTo : Shows → Option Command → ShelfCall → Arena → Outcome → Type 0
 ComesTo shows None shelf nodes end = ComesToUsage shelf end
 ComesTo shows (Some command) shelf nodes end = Follows (plan_of shows command) shelf nodes end
+
+-- A command that decides a netlist uses the diagrams. Any other leaves them as they were, and so do words outside the grammar.
+abbrev pub KeepsNodes : Option Command → Arena → Arena → Type 0
+KeepsNodes (Some (Check file options)) before now = Unit {0}
+KeepsNodes (Some (Rewrite file options)) before now = Unit {0}
+KeepsNodes (Some (Demo cells)) before now = Unit {0}
+KeepsNodes (Some (Storm file rounds options)) before now = Unit {0}
+KeepsNodes other before now = now ≡ before
 
 -- This was told whole.
 pub record IsTold (end : Outcome) (out err : SinkCall) (status : ℕ) : Type 0 where

@@ -9,7 +9,7 @@ use Rattle.refusals.specs.declared.refusal.Refusal.{Refusal}
 use Rattle.refusals.specs.declared.refusal.Refusal.TheVariants.{EmptyCare, Undetermined}
 use Rattle.verdict.specs.Enough.{IsEnough}
 use Rattle.blif_write.specs.Written.{written}
-use Rattle.commands.specs.Words.{Command, command_of}
+use Rattle.commands.specs.Words.{Command, Help, HelpOn, Version, command_of}
 use Rattle.cyc_base.specs.declared.sig.Sig.{Sig}
 use Rattle.storm.specs.Laws.{PlaysAsStorm}
 use Rattle.storm.specs.Storms.{storm_of}
@@ -25,6 +25,16 @@ use Rattle.cyc_tool.specs.Texts.{no_memory}
 abbrev pub IsWithoutCommand : Option Command → ℕ → Type 0
 IsWithoutCommand None status = status ≡ 2 ⊎ status ≡ 5 ⊎ status ≡ 7
 IsWithoutCommand (Some command) status = status ≡ 2 → ⊥
+
+-- Help and the version are told, unless a write failed or memory ran out.
+abbrev pub IsHelped : ℕ → Type 0
+IsHelped status = status ≡ 0 ⊎ status ≡ 5 ⊎ status ≡ 7
+
+abbrev pub IsHelpedBy : Option Command → ℕ → Type 0
+IsHelpedBy (Some Help) status = IsHelped status
+IsHelpedBy (Some (HelpOn topic)) status = IsHelped status
+IsHelpedBy (Some Version) status = IsHelped status
+IsHelpedBy other status = Unit {0}
 
 -- What the shelf gave leads through a plan to a rest of it of which this holds.
 pub record Leads (P : Plan → Type 0) (shelf : ShelfCall) (plan : Plan) : Type 0 where

@@ -14,12 +14,13 @@ use Rattle.blif_write.specs.Written.{written}
 use Rattle.care_sets.specs.Care.{CareSet}
 use Rattle.refusals.specs.declared.observe.Observe.{Observe}
 use Rattle.refusals.specs.declared.observe.Observe.TheVariants as observe
-use Rattle.commands.specs.Words.{Options, Command, Check, Rewrite, Flat, Loops, Sim, Delays, Demo, Storm}
+use Rattle.commands.specs.Words.{Options, Command, Check, Rewrite, Flat, Loops, Sim, Delays, Demo, Storm, Help, HelpOn, Version}
 use Rattle.contents.specs.CareFiles.{no_care, care_of}
 use Rattle.contents.specs.Faults.{Fault}
 use Rattle.contents.specs.NetlistFiles.{netlist_of}
 use Rattle.contents.specs.ScheduleFiles.{vectors_of, schedule_of}
 use Rattle.maker.specs.Ring.{ring_text, care_text}
+use Rattle.report.specs.Help.{help_text, topic_text, version_text}
 use Rattle.report.specs.LoopTexts.{loops_text}
 use Rattle.cyc_tool.specs.Plays.{known, played, delays_text}
 use Rattle.cyc_tool.specs.Requests.{Shows}
@@ -175,3 +176,6 @@ plan_of shows (Sim file vectors) = simulating file vectors
 plan_of shows (Delays file vectors recorded probe) = replaying shows probe file vectors recorded
 plan_of shows (Demo cells) = ring_deciding cells
 plan_of shows (Storm file rounds options) = deciding file options (Storms rounds)
+plan_of shows Help = Ends (Prints help_text)
+plan_of shows (HelpOn topic) = Ends (Prints (topic_text topic))
+plan_of shows Version = Ends (Prints version_text)

@@ -12,6 +12,7 @@ ghost use Rattle.refusals.specs.Acceptance.{Accepts};
 ghost use Rattle.refusals.specs.Refusals.{IsRefusalOf};
 ghost use Rattle.refusals.specs.declared.observe.Observe.{Observe as Observed};
 ghost use Rattle.report.specs.Verdicts.{accepted_text, ring_line};
+ghost use Rattle.rewriting.specs.Rewriting.{rewritten as rewritten_netlist};
 ghost use Rattle.verdict.specs.Verdicts.{AreSweepsOnCare, IsAcceptance, IsVerdict};
 ghost use Rattle.cyc_tool.specs.Answer.{told as done};
 ghost use Rattle.cyc_tool.specs.Calls.{IsAccepted, IsDecided};
@@ -155,6 +156,28 @@ fn tell_rewritten(
     tell_rewriting(alloc, &rewriting)
 }
 
+// How many gates the rewritten netlist of an accepted one has. It is made, unless it is too large.
+fn count_rewritten(
+    alloc: Global,
+    net: &Netlist,
+    blocks: &Blocks,
+    cut: &Cut,
+    sweeps: &SweepCounts,
+) -> Result<u64, AllocError>
+    requires blocks { AreBlocksOf net.now blocks.now }
+    requires cut { IsCutOf net.now cut.now }
+    requires sweeps { length sweeps.now.per_block ≡ length blocks.now.list }
+    requires inputs { length net.now.inputs ≤ 4000000000 }
+    ensures { IfOk result (λ gates. (care : CareSet) (observe : Observed) → Accepts net.now care observe →
+        AreSweepsOnCare net.now blocks.now cut.now care sweeps.now → gates ≡ length (rewritten_netlist net.now care).gates) }
+{
+    match rewrite(alloc, net, blocks, cut, sweeps) {
+        Ok(other) => Ok(u64::from(other.gates())),
+        Err(UnrollFault::TooLarge { size: _ }) => Ok(rewritten_gates(net, blocks, sweeps)),
+        Err(UnrollFault::Memory) => Err(AllocError),
+    }
+}
+
 fn tell_ring(
     alloc: Global,
     cells: Cells,
@@ -200,7 +223,7 @@ fn tell_acceptance(
         Purpose::Judge => tell_accepted(alloc, net, blocks, loose_told(observe, loose)),
         Purpose::Rewrite => tell_rewritten(alloc, net, blocks, cut, sweeps),
         Purpose::Demonstrate(cells) => {
-            let rewritten = rewritten_gates(net, blocks, sweeps);
+            let rewritten = count_rewritten(alloc, net, blocks, cut, sweeps)?;
             tell_ring(alloc, cells, net, blocks, rewritten)
         }
         Purpose::Storm(_) => tell_calm(alloc, net, blocks, loose_told(observe, loose)),

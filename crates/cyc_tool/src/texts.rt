@@ -12,6 +12,7 @@ ghost use Rattle.blif_write.specs.Written.{written};
 ghost use Rattle.loops.specs.Blocks.{AreBlocksOf};
 ghost use Rattle.loops.specs.Cuts.{IsCutOf};
 ghost use Rattle.refusals.specs.Refusals.{IsRefusalOf};
+ghost use Rattle.report.specs.Help.{help_text, topic_text, version_text};
 ghost use Rattle.report.specs.LoopTexts.{loops_text};
 ghost use Rattle.report.specs.Verdicts.{refusal_text};
 ghost use Rattle.sched_text.specs.Vectors.{HaveWidth};
@@ -21,6 +22,7 @@ use crate::plays::end_lines;
 use crate::sim_lines::simulate;
 use crate::status;
 use blif_write::write;
+use commands::Topic;
 use contents::Fault;
 use cyc_base::{Name, Trits};
 use cyc_io::TextSink;
@@ -30,7 +32,8 @@ use netlist::Netlist;
 use probes::Kind;
 use refusals::Refusal;
 use report::{
-    USAGE_TEXT, put_fault, put_limit, put_loops, put_read_failed, put_refusal, put_too_large,
+    USAGE_TEXT, put_fault, put_help, put_limit, put_loops, put_read_failed, put_refusal,
+    put_too_large, put_topic, put_version,
 };
 use std::alloc::{AllocError, Global};
 
@@ -64,6 +67,39 @@ pub(crate) fn tell_usage(alloc: Global) -> Result<Outcome, AllocError>
     ensures { IfOk result (λ told. outcome_of told ≡ usage) }
 {
     Ok(on_err(alloc, status::USAGE, USAGE_TEXT.to_vec(alloc)?))
+}
+
+// What the program does, command by command.
+pub(crate) fn tell_help(alloc: Global) -> Result<Outcome, AllocError>
+    ensures { IfOk result (λ told. outcome_of told ≡ done (Prints help_text)) }
+{
+    let mut sink = TextSink::new(alloc);
+    match put_help(&mut sink) {
+        Ok(()) => Ok(on_out(alloc, status::DONE, sink.into_vec())),
+        Err(_) => Err(AllocError),
+    }
+}
+
+// What one command does.
+pub(crate) fn tell_topic(alloc: Global, topic: Topic) -> Result<Outcome, AllocError>
+    ensures { IfOk result (λ told. outcome_of told ≡ done (Prints (topic_text topic))) }
+{
+    let mut sink = TextSink::new(alloc);
+    match put_topic(topic, &mut sink) {
+        Ok(()) => Ok(on_out(alloc, status::DONE, sink.into_vec())),
+        Err(_) => Err(AllocError),
+    }
+}
+
+// Which program this is, and what it is proved with.
+pub(crate) fn tell_version(alloc: Global) -> Result<Outcome, AllocError>
+    ensures { IfOk result (λ told. outcome_of told ≡ done (Prints version_text)) }
+{
+    let mut sink = TextSink::new(alloc);
+    match put_version(&mut sink) {
+        Ok(()) => Ok(on_out(alloc, status::DONE, sink.into_vec())),
+        Err(_) => Err(AllocError),
+    }
 }
 
 // What is told of a fault of this file.

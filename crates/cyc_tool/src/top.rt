@@ -2,12 +2,12 @@
 ghost use Rattle.std.specs.Prelude.{◌≡◌, ◌⊎◌, ◌≤◌, [], All, None, Some, length};
 ghost use Rattle.care_sets.specs.Binding.{IsCareOf};
 ghost use Rattle.commands.specs.Seen.{command_seen, options_seen};
-ghost use Rattle.commands.specs.Words.{command_of};
+ghost use Rattle.commands.specs.Words.{command_of, standard_input as standard_input_name};
 ghost use Rattle.netlist.specs.Netlists.{IsNetlist};
 ghost use Rattle.sched_text.specs.Fitting.{FitsNetlist};
 ghost use Rattle.sched_text.specs.Vectors.{HaveWidth};
-ghost use Rattle.cyc_tool.specs.Calls.{shelf_call, sink_call, ComesTo, Follows, Tells, Runs, WriteFailed};
-ghost use Rattle.cyc_tool.specs.Causes.{GivesAnswer, HasRewritten, HasStormed, IsComplete, IsDoneWith, IsFaulty, IsUnread, IsWithoutCommand, MeetsLimit, NoneFell, Reaches};
+ghost use Rattle.cyc_tool.specs.Calls.{shelf_call, sink_call, ComesTo, Follows, KeepsNodes, Tells, Runs, WriteFailed};
+ghost use Rattle.cyc_tool.specs.Causes.{GivesAnswer, HasRewritten, HasStormed, IsComplete, IsDoneWith, IsFaulty, IsHelpedBy, IsUnread, IsWithoutCommand, MeetsLimit, NoneFell, Reaches};
 ghost use Rattle.cyc_tool.specs.Plays.{AreInputs, known as known_of};
 ghost use Rattle.cyc_tool.specs.Plans.{Decides, decision, deciding, deciding_on, finding_loops, flattening, plan_of, play_on, playing, replaying, replaying_on, simulating, simulating_on};
 ghost use Rattle.cyc_tool.specs.Reading.{FollowsAlone, FollowsStill, FollowsStillAlone};
@@ -20,10 +20,13 @@ use crate::plays::{known, played, probed};
 use crate::reading::{read_care, read_netlist, read_schedule_file, read_vector_file, stop_at};
 use crate::ring::demo;
 use crate::status;
-use crate::texts::{tell_delays, tell_loops, tell_netlist, tell_probed, tell_sim, tell_usage};
+use crate::texts::{
+    tell_delays, tell_help, tell_loops, tell_netlist, tell_probed, tell_sim, tell_topic,
+    tell_usage, tell_version,
+};
 use bdd_ops::Diagrams;
 use care_sets::Care;
-use commands::{Command, Options, command_of_words};
+use commands::{Command, Options, STANDARD_INPUT, command_of_words};
 use cyc_base::{Bits, DEFAULT_NODES, Name, Trits};
 use cyc_io::{Shelf, Sink, write_whole};
 use delay_core::Schedule;
@@ -279,6 +282,7 @@ fn carry_out<S: Shelf>(
     ensures comes { Follows (plan_of (shown_by kind text probes.old) (command_seen command.entry))
         (shelf_call S.files S.faults shelf.old shelf.new) d.new (end_of result) }
     ensures same { S.files shelf.new ≡ S.files shelf.old }
+    ensures kept { KeepsNodes (Some (command_seen command.entry)) d.old d.new }
 {
     match command {
         Command::Check(netlist, options) => {
@@ -297,6 +301,30 @@ fn carry_out<S: Shelf>(
         Command::Storm(netlist, rounds, options) => {
             decide_file(alloc, shelf, netlist, options, Purpose::Storm(rounds), d)
         }
+        Command::Help => or_stop(tell_help(alloc)),
+        Command::HelpOn(topic) => or_stop(tell_topic(alloc, topic)),
+        Command::Version => or_stop(tell_version(alloc)),
+    }
+}
+
+// Does what the words ask for, where this is the name of standard input.
+fn do_words<S: Shelf>(
+    alloc: Global,
+    words: &[Name],
+    standard_input: &Name,
+    shelf: &mut S,
+    d: &mut Diagrams,
+    probes: &mut [Box<dyn Probe>],
+) -> Result<Outcome, Stop>
+    requires input { standard_input.now ≡ standard_input_name }
+    requires silent { All (λ probe. heard probe ≡ []) probes.old }
+    ensures comes { ComesTo (shown_by kind text probes.old) (command_of words.now) (shelf_call S.files S.faults shelf.old shelf.new) d.new (end_of result) }
+    ensures same { S.files shelf.new ≡ S.files shelf.old }
+    ensures kept { KeepsNodes (command_of words.now) d.old d.new }
+{
+    match command_of_words(words, standard_input) {
+        Some(command) => carry_out(alloc, shelf, command, d, probes),
+        None => Ok(tell_usage(alloc)?),
     }
 }
 
@@ -310,11 +338,10 @@ fn find_outcome<S: Shelf>(
     requires { All (λ probe. heard probe ≡ []) probes.old }
     ensures comes { ComesTo (shown_by kind text probes.old) (command_of words.now) (shelf_call S.files S.faults shelf.old shelf.new) d.new (end_of result) }
     ensures same { S.files shelf.new ≡ S.files shelf.old }
+    ensures kept { KeepsNodes (command_of words.now) d.old d.new }
 {
-    match command_of_words(words) {
-        Some(command) => carry_out(alloc, shelf, command, d, probes),
-        None => Ok(tell_usage(alloc)?),
-    }
+    let standard_input = Name::new(STANDARD_INPUT.to_vec(alloc)?);
+    do_words(alloc, words, &standard_input, shelf, d, probes)
 }
 
 #[tactic(auto, using(crate::proofs::TellLemmas::whole_prefix))]
@@ -361,6 +388,7 @@ fn answer_and_tell<S: Shelf, O: Sink, E: Sink>(
     ensures runs { Runs (request kind text words.now probes.old) (shelf_call S.files S.faults shelf.old shelf.new) d.new
         (sink_call O.put O.faults out.old out.new) (sink_call E.put E.faults err.old err.new) result }
     ensures same { S.files shelf.new ≡ S.files shelf.old }
+    ensures kept { KeepsNodes (command_of words.now) d.old d.new }
     ensures out_later { O.faults out.old ≤ O.faults out.new }
     ensures err_later { E.faults err.old ≤ E.faults err.new }
 {
@@ -385,6 +413,7 @@ fn answer_with<S: Shelf, O: Sink, E: Sink>(
     ensures runs { Runs (request kind text words.now probes.items) (shelf_call S.files S.faults shelf.old shelf.new) d.new
         (sink_call O.put O.faults out.old out.new) (sink_call E.put E.faults err.old err.new) result }
     ensures same { S.files shelf.new ≡ S.files shelf.old }
+    ensures kept { KeepsNodes (command_of words.now) d.old d.new }
     ensures out_later { O.faults out.old ≤ O.faults out.new }
     ensures err_later { E.faults err.old ≤ E.faults err.new }
 {
@@ -394,8 +423,10 @@ fn answer_with<S: Shelf, O: Sink, E: Sink>(
 /// Does what the words ask for: reads their files from the shelf in order, and writes to out and to err only when all
 /// computing is done. Answers the status.
 ///
+/// A file that is `-` is standard input: `/dev/stdin` is read from the shelf.
+///
 /// `d` may hold anything when the call starts. A command that decides starts it anew, and its nodes at the end of
-/// the call show the cause of status 6.
+/// the call show the cause of status 6. All other words leave it as it was.
 ///
 /// `probes` are told the changes of a run that `delays` plays, if they are of the kind that the words ask for, and what they
 /// show comes on out in their order, behind the lines of the ticks; of the kind `Vcd` it is all of out, and these lines go
@@ -420,6 +451,7 @@ pub fn run<S: Shelf, O: Sink, E: Sink>(
     // What follows for each status, over any shelf and any sinks.
     ensures usage { result ≡ 2 → command_of words.now ≡ None }
     ensures no_command { IsWithoutCommand (command_of words.now) result }
+    ensures helped { IsHelpedBy (command_of words.now) result }
     ensures fault { result ≡ 3
         → Reaches IsFaulty (request kind text words.now probes.items) (shelf_call S.files S.faults shelf.old shelf.new) }
     ensures read_failed { result ≡ 4
@@ -446,6 +478,7 @@ pub fn run<S: Shelf, O: Sink, E: Sink>(
         (sink_call O.put O.faults out.old out.new) (sink_call E.put E.faults err.old err.new) result }
 
     // What the next call may rest on.
+    ensures kept { KeepsNodes (command_of words.now) d.old d.new }
     ensures same { S.files shelf.new ≡ S.files shelf.old }
     ensures counts { NoneFell (shelf_call S.files S.faults shelf.old shelf.new)
         (sink_call O.put O.faults out.old out.new) (sink_call E.put E.faults err.old err.new) }

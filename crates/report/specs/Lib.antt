@@ -3,3 +3,4 @@ pub mod Verdicts
 pub mod LoopTexts
 pub mod Ticks
 pub mod Messages
+pub mod Help

@@ -6,6 +6,7 @@
 #![tactic(auto)]
 
 mod fault;
+mod help;
 mod loop_text;
 mod message;
 mod put;
@@ -13,6 +14,7 @@ mod tick;
 mod verdict;
 
 pub use fault::{Tail, put_fault};
+pub use help::{put_help, put_topic, put_version};
 pub use loop_text::put_loops;
 pub use message::{
     NO_MEMORY_TEXT, USAGE_TEXT, put_limit, put_no_memory, put_read_failed, put_too_large, put_usage,

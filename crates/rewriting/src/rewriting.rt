@@ -3,11 +3,13 @@
 ghost use Rattle.std.specs.Prelude.{◌≡◌, ◌≤◌, length, IfOk, IfErr, OnOk};
 ghost use Rattle.care_sets.specs.Care.{CareSet};
 ghost use Rattle.netlist.specs.Netlists.{IsNetlist};
+ghost use Rattle.netlist.specs.Walks.{IsLoopFree};
 ghost use Rattle.loops.specs.Blocks.{AreBlocksOf};
-ghost use Rattle.loops.specs.Cuts.{IsCutOf};
+ghost use Rattle.loops.specs.Cuts.{IsCutOf, in_one_loop, loops_by};
 ghost use Rattle.refusals.specs.declared.observe.Observe.{Observe};
 ghost use Rattle.refusals.specs.Acceptance.{Accepts};
-ghost use Rattle.unroll.specs.Unrolled.{IsUnrollFault};
+ghost use Rattle.unroll.specs.Laws.{KeepsInterface};
+ghost use Rattle.unroll.specs.Unrolled.{sweeps_of, unrolled, unrolled_size, IsUnrollFault};
 ghost use Rattle.verdict.specs.Verdicts.{AreSweepsOnCare};
 ghost use Rattle.rewriting.specs.Rewriting.{rewritten_size as size_of, IsRewriting};
 
@@ -47,6 +49,13 @@ pub fn rewrite(
     ensures fault { IfErr result (λ fault. (care : CareSet) → AreSweepsOnCare net.now blocks.now cut.now care sweeps.now →
         IsUnrollFault (size_of net.now care) fault) }
     ensures valid { IfOk result IsNetlist }
+
+    // Whatever the sweeps are, it is the netlist unrolled by them.
+    ensures unrolled { IfOk result (λ other. other ≡ unrolled net.now (loops_by blocks.now cut.now) (sweeps_of blocks.now sweeps.now)) }
+    ensures fits { OnOk result (unrolled_size net.now (in_one_loop blocks.now) (sweeps_of blocks.now sweeps.now) ≤ 4000000) }
+    ensures outgrown { IfErr result (IsUnrollFault (unrolled_size net.now (in_one_loop blocks.now) (sweeps_of blocks.now sweeps.now))) }
+    ensures loop_free { IfOk result IsLoopFree }
+    ensures interface { IfOk result (KeepsInterface net.now) }
 {
     have_covers(net);
     Ok(unroll(alloc, net, blocks, cut, sweeps)?)

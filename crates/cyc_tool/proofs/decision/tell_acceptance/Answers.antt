@@ -16,12 +16,12 @@ returns-in-Rewrite c =
     rw c.in-Rewrite.is (is care c.args.observe limit acceptance.accepts acceptance.sweeps))
     c.tell_rewritten.ensures
 
-pub returns-in-Demonstrate : goal.returns-in-Demonstrate
-returns-in-Demonstrate c =
+pub returns-in_ok-rewritten-in-Demonstrate : goal.returns-in_ok-rewritten-in-Demonstrate
+returns-in_ok-rewritten-in-Demonstrate c =
     IfOk-weaker c.tell_ring.result _ _ (λ told is care acceptance limit.
     rw c.in-Demonstrate.is
-    (demonstrated c.args.net.now care limit c.args.observe (cells_seen c.in-Demonstrate.cells) c.rewritten_gates-rewritten.result (outcome_of told) is
-    (c.rewritten_gates-rewritten.ensures c.args.cut.now care c.requires.cut acceptance.sweeps)))
+    (demonstrated c.args.net.now care limit c.args.observe (cells_seen c.in-Demonstrate.cells) c.in_ok-rewritten-in-Demonstrate.rewritten (outcome_of told) is
+    (c.in_ok-rewritten-in-Demonstrate.ensures care c.args.observe acceptance.accepts acceptance.sweeps)))
     c.tell_ring.ensures
 
 pub returns-in-Storm : goal.returns-in-Storm

@@ -1,3 +1,8 @@
+use Rattle.std.proofs.Common.{◌≡◌}
+use Rattle.report.specs.Help.{help_text, topic_text, version_text}
+use Rattle.cyc_tool.specs.Answer.{told}
+use Rattle.cyc_tool.specs.Plans.{Ending, Prints}
+use Rattle.cyc_tool.proofs.PlanLemmas.{ends_or_lacks, still_ends}
 use Rattle.cyc_tool.proofs.top.carry_out.Goals as goal
 
 pub returns-in-Check-clause-comes : goal.returns-in-Check-clause-comes
@@ -23,3 +28,21 @@ returns-in-Demo-clause-comes g c = rw c.in-Demo.is (c.demo.ensures.follows _ _)
 
 pub returns-in-Storm-clause-comes : goal.returns-in-Storm-clause-comes
 returns-in-Storm-clause-comes g c = rw c.in-Storm.is c.decide_file-in-Storm.ensures.comes
+
+pub returns-in-Help-clause-comes : goal.returns-in-Help-clause-comes
+returns-in-Help-clause-comes g c =
+    let ending : Ending = Prints help_text in
+    rw c.in-Help.is
+    (((still_ends ending _ (ends_or_lacks c.tell_help.result (λ end. end ≡ told ending) _ c.or_stop.ensures c.tell_help.ensures)).follows c.args.d.now).follows _ _)
+
+pub returns-in-HelpOn-clause-comes : goal.returns-in-HelpOn-clause-comes
+returns-in-HelpOn-clause-comes g c =
+    let ending : Ending = Prints (topic_text c.in-HelpOn.topic) in
+    rw c.in-HelpOn.is
+    (((still_ends ending _ (ends_or_lacks c.tell_topic.result (λ end. end ≡ told ending) _ c.or_stop-in-HelpOn.ensures c.tell_topic.ensures)).follows c.args.d.now).follows _ _)
+
+pub returns-in-Version-clause-comes : goal.returns-in-Version-clause-comes
+returns-in-Version-clause-comes g c =
+    let ending : Ending = Prints version_text in
+    rw c.in-Version.is
+    (((still_ends ending _ (ends_or_lacks c.tell_version.result (λ end. end ≡ told ending) _ c.or_stop-in-Version.ensures c.tell_version.ensures)).follows c.args.d.now).follows _ _)

@@ -1,6 +1,6 @@
 use Rattle.std.proofs.Common.{refl}
 use Rattle.cyc_tool.proofs.AnswerLemmas.{gives_answer, is_complete}
-use Rattle.cyc_tool.proofs.CauseLemmas.{Eight, One, Zero, done_cause, fault_cause, limit_cause, read_cause, rewritten_cause, stormed_cause, usage_cause, usage_told, write_cause}
+use Rattle.cyc_tool.proofs.CauseLemmas.{Eight, One, Zero, done_cause, fault_cause, help_told, limit_cause, read_cause, rewritten_cause, stormed_cause, usage_cause, usage_told, write_cause}
 use Rattle.cyc_tool.proofs.RunLemmas.{counts_later}
 use Rattle.cyc_tool.proofs.top.run.Goals as goal
 
@@ -9,6 +9,9 @@ returns-clause-usage g c = usage_cause _ _ _ _ _ _ c.answer_with.ensures.runs
 
 pub returns-clause-no_command : goal.returns-clause-no_command
 returns-clause-no_command g c = usage_told _ _ _ _ _ _ c.answer_with.ensures.runs
+
+pub returns-clause-helped : goal.returns-clause-helped
+returns-clause-helped g c = help_told _ _ _ _ _ _ c.answer_with.ensures.runs
 
 pub returns-clause-fault : goal.returns-clause-fault
 returns-clause-fault g c = fault_cause _ _ _ _ _ _ c.answer_with.ensures.runs

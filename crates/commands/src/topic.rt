@@ -1,0 +1,12 @@
+/// A command that `help` tells of.
+#[derive(Clone, Copy, Debug, PartialEq, Eq, Drop)]
+pub enum Topic {
+    Check,
+    Rewrite,
+    Flat,
+    Loops,
+    Sim,
+    Delays,
+    Demo,
+    Storm,
+}
