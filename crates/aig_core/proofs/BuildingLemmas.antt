@@ -1,0 +1,301 @@
+-- The edges of the gates that are built have the values of the netlist's fixpoint.
+use Rattle.std.proofs.Common.{◌≡◌, inl, inr, ℕ, ◌+◌, ◌-◌, ◌<◌, ◌≤◌, ◌||◌, Bool, true, false, if◌then◌else◌, List, [], ◌∷◌, ◌++◌, length, get_or, set, take, drop, map, fold, filter, slice_get, Some, All, refl, sym, ap, ap₂, subst, ◌∙◌, arith}
+use Rattle.std.specs.Prelude.{nat_eq, nat_le}
+use Rattle.std.specs.List.{list_any}
+use Rattle.std.proofs.lemmas.Bool.{cases_lt, cases_eq, lt-ltb, le-ltb, le-leb, ne_eqb, false≢true}
+use Rattle.std.proofs.lemmas.List.{append-nil, append_assoc, length-map, length-append, length-replicate, length-set, get_or-map, get_or_append_left, get_or-append_right, get_or-set_same, get_or-set_other, take-append-drop, map-append, get_or-append-add}
+use Rattle.std.proofs.lemmas.List.Sums.{fold-append, fold_more}
+use Rattle.std.proofs.lemmas.List.Folds.{list_any-append}
+use Rattle.std.proofs.lemmas.List.Elements.{All-nil, All-cons, All-head, All-tail, All-map, All-append, All-get_or, All-set, All-replicate, filter-append}
+use Rattle.std.proofs.lemmas.Option.{none-some}
+use Rattle.cyc_base.specs.declared.sig.Sig.{Sig}
+use Rattle.cyc_base.specs.declared.trit.Trit.{Trit}
+use Rattle.cyc_base.specs.declared.trit.Trit.TheVariants.{X}
+use Rattle.cyc_base.specs.Values.{bit, bits}
+use Rattle.cover_logic.specs.Covers.{value}
+use Rattle.cover_logic.specs.Extensions.{ext}
+use Rattle.cover_logic.proofs.ExtensionLemmas.{ext_at_bits}
+use Rattle.netlist.specs.declared.parts.Latch.{Latch}
+use Rattle.netlist.specs.declared.parts.Parts.{Parts}
+use Rattle.netlist.specs.Netlists.{gate_at, no_gate, IsSignal, IsNetlist}
+use Rattle.netlist.specs.Orders.{numbers_from, gate_graph, IsGateOrder}
+use Rattle.netlist.specs.Fixpoint.{wire, wires, gate_value, fix_gates, fix}
+use Rattle.netlist.proofs.FixpointLemmas.{fix_is_fixpoint}
+use Rattle.netlist.proofs.GraphLemmas.{length-gate_graph}
+use Rattle.aig_core.specs.declared.edge.Edge.{Edge}
+use Rattle.aig_core.specs.declared.edge.And.{And}
+use Rattle.aig_core.specs.Graphs.{Graph, empty, edge, edge_to, IsEdge, den}
+use Rattle.aig_core.specs.Soundness.{IsSound}
+use Rattle.aig_core.specs.Building.{columns, needed_signals, build_order, Building, signal_edge, gate_made, with_gate, nothing_built, building, built}
+use Rattle.aig_core.specs.Answers.{HasEdges, HasValues, FitsNetlist}
+use Rattle.aig_core.proofs.GraphLemmas.{den-column}
+use Rattle.aig_core.proofs.ConjunctionLemmas.{IsMade}
+use Rattle.aig_core.proofs.CoverLemmas.{edges_kept, cover_is, cover-grows}
+use Rattle.aig_core.proofs.OrderLemmas.{AllAmong, AllFollow, postorder_is, numbers_within, gate_successors, gate_ranks}
+
+-- ---- the number of ANDs
+
+pub gate-grows : (net : Parts) (b : Building) (n : ℕ) → length b.graph.ands ≤ length (with_gate net b n).graph.ands
+gate-grows net b n = cover-grows b.graph (map (signal_edge net b.edges) (gate_at net n).pins) (gate_at net n).cover
+
+gates-grow : (net : Parts) (b : Building) (gates : List ℕ) → length b.graph.ands ≤ length (fold (with_gate net) b gates).graph.ands
+gates-grow net b [] = omega arith
+gates-grow net b (n ∷ rest) =
+    let one = gate-grows net b n in
+    let others = gates-grow net (with_gate net b n) rest in
+    omega (arith, one, others)
+
+pub building-grows : (net : Parts) (gates : List ℕ) (n : ℕ) → length (building net (take n gates)).graph.ands ≤ length (building net gates).graph.ands
+unfolding building
+building-grows net gates n =
+    let split : fold (with_gate net) (nothing_built net) gates ≡ fold (with_gate net) (fold (with_gate net) (nothing_built net) (take n gates)) (drop n gates) =
+    ap (fold (with_gate net) (nothing_built net)) (sym (take-append-drop n gates)) ∙ fold-append (with_gate net) (nothing_built net) (take n gates) (drop n gates) in
+    let grows = gates-grow net (fold (with_gate net) (nothing_built net) (take n gates)) (drop n gates) in
+    omega (arith, ap (λ (b : Building). length b.graph.ands) split, grows)
+
+pub building-none : (net : Parts) → building net [] ≡ nothing_built net
+unfolding building
+building-none net = refl
+
+pub building_next : (net : Parts) (gates : List ℕ) (k n : ℕ) → k < length gates → n ≡ get_or gates k n → with_gate net (building net (take k gates)) n ≡ building net (take (k + 1) gates)
+unfolding building
+building_next net gates k n l is =
+    ap (with_gate net (building net (take k gates))) is ∙ sym (fold_more (with_gate net) (nothing_built net) gates k n l)
+
+-- ---- signals
+
+-- what is known once these gates are built
+pub record AreBuilt (net : Parts) (gates : List ℕ) (b : Building) : Type 0 where
+  pub sound : IsSound b.graph
+  pub has : HasEdges net b.graph b.edges
+  pub values : (n : ℕ) (v : List Bool) → n < length net.gates → list_any (nat_eq n) gates ≡ true → length v ≡ columns net →
+      bit (den b.graph (get_or b.edges n (edge 0)) v) ≡ get_or (fix_gates net (bits v)) n X
+
+signal_edge-column : (net : Parts) (edges : List Edge) (s : Sig) → s.0 < columns net → signal_edge net edges s ≡ edge_to (1 + s.0)
+signal_edge-column net edges s l = ap (λ t. if t then edge_to (1 + s.0) else get_or edges (s.0 - columns net) (edge 0)) (lt-ltb s.0 (columns net) l)
+
+signal_edge-gate : (net : Parts) (edges : List Edge) (s : Sig) → columns net ≤ s.0 → signal_edge net edges s ≡ get_or edges (s.0 - columns net) (edge 0)
+signal_edge-gate net edges s l = ap (λ t. if t then edge_to (1 + s.0) else get_or edges (s.0 - columns net) (edge 0)) (le-ltb s.0 (columns net) l)
+
+pub signal_edge_is : (net : Parts) (g : Graph) (edges : List Edge) (s : Sig) → HasEdges net g edges → IsSignal net s → IsEdge g (signal_edge net edges s)
+signal_edge_is net g edges s has signal = elim (cases_lt s.0 (columns net)) [
+  | inl l ↦ rw (signal_edge-column net edges s l) (omega (arith, has.inputs, has.latches))
+  | inr m ↦ rw (signal_edge-gate net edges s m) (All-get_or (IsEdge g) edges (s.0 - columns net) (edge 0) (omega (arith, has.width, signal)) has.all)
+]
+
+pub signal_edges_are : (net : Parts) (g : Graph) (edges : List Edge) (signals : List Sig) → HasEdges net g edges → All (IsSignal net) signals → All (IsEdge g) (map (signal_edge net edges) signals)
+signal_edges_are net g edges signals has all =
+    All-map (IsEdge g) (signal_edge net edges) signals (λ k d l. signal_edge_is net g edges (get_or signals k d) has (all k d l))
+
+bits-at : (v : List Bool) (i : ℕ) → i < length v → get_or (bits v) i X ≡ bit (get_or v i false)
+bits-at v i l = get_or-map bit v i false X l
+
+wire-column : (net : Parts) (v : List Bool) (s : Sig) → length v ≡ columns net → s.0 < columns net → wire (fix net (bits v)) s ≡ bit (get_or v s.0 false)
+wire-column net v s width l =
+    let len = length-map v bit in
+    let m : s.0 < length v = omega arith in
+    get_or_append_left (bits v) (fix_gates net (bits v)) X s.0 (omega arith) ∙ bits-at v s.0 m
+
+wire-gate : (net : Parts) (v : List Bool) (s : Sig) → length v ≡ columns net → columns net ≤ s.0 → wire (fix net (bits v)) s ≡ get_or (fix_gates net (bits v)) (s.0 - columns net) X
+wire-gate net v s width m =
+    let len = length-map v bit in
+    get_or-append_right (bits v) (fix_gates net (bits v)) (columns net) s.0 X (omega arith) m
+
+pub signal_value : (net : Parts) (gates : List ℕ) (b : Building) (v : List Bool) (s : Sig) → AreBuilt net gates b → IsSignal net s
+    → (columns net ≤ s.0 → list_any (nat_eq (s.0 - columns net)) gates ≡ true) → length v ≡ columns net
+    → bit (den b.graph (signal_edge net b.edges s) v) ≡ wire (fix net (bits v)) s
+signal_value net gates b v s are signal among width = elim (cases_lt s.0 (columns net)) [
+  | inl l ↦
+      let m : s.0 < length v = omega arith in
+      ap bit (ap (λ e. den b.graph e v) (signal_edge-column net b.edges s l) ∙ den-column b.graph s.0 v m) ∙ sym (wire-column net v s width l)
+  | inr m ↦
+      ap (λ e. bit (den b.graph e v)) (signal_edge-gate net b.edges s m)
+      ∙ are.values (s.0 - columns net) v (omega (arith, signal)) (among m) width
+      ∙ sym (wire-gate net v s width m)
+]
+
+-- a gate among signals is among their numbers
+among_numbers : (net : Parts) (gates : List ℕ) (s : Sig) (rest : List Sig) → AllAmong gates (numbers_from (columns net) (s ∷ rest)) → columns net ≤ s.0 → list_any (nat_eq (s.0 - columns net)) gates ≡ true
+among_numbers net gates s rest all m =
+    let P : List ℕ → Type 0 = λ ns. AllAmong gates ns in
+    let e : numbers_from (columns net) (s ∷ rest) ≡ (s.0 - columns net) ∷ numbers_from (columns net) rest = rw (le-leb (columns net) s.0 m) refl in
+    All-head (λ n. list_any (nat_eq n) gates ≡ true) (s.0 - columns net) (numbers_from (columns net) rest) (subst P e all)
+
+among_rest : (net : Parts) (gates : List ℕ) (s : Sig) (rest : List Sig) → AllAmong gates (numbers_from (columns net) (s ∷ rest)) → AllAmong gates (numbers_from (columns net) rest)
+among_rest net gates s rest all = by (nat_le (columns net) s.0) refl
+  where
+    P : List ℕ → Type 0
+    P ns = AllAmong gates ns
+
+    by : (t : Bool) → nat_le (columns net) s.0 ≡ t → AllAmong gates (numbers_from (columns net) rest)
+    by true e =
+        let is : numbers_from (columns net) (s ∷ rest) ≡ (s.0 - columns net) ∷ numbers_from (columns net) rest = rw e refl in
+        let Q : List ℕ → Type 0 = λ ns. AllAmong gates ns in
+        All-tail (λ n. list_any (nat_eq n) gates ≡ true) (s.0 - columns net) (numbers_from (columns net) rest) (subst Q is all)
+    by false e =
+        let is : numbers_from (columns net) (s ∷ rest) ≡ numbers_from (columns net) rest = rw e refl in
+        let Q : List ℕ → Type 0 = λ ns. AllAmong gates ns in
+        subst Q is all
+
+pub signals_values : (net : Parts) (gates : List ℕ) (b : Building) (v : List Bool) (signals : List Sig) → AreBuilt net gates b → All (IsSignal net) signals
+    → AllAmong gates (numbers_from (columns net) signals) → length v ≡ columns net
+    → bits (map (λ e. den b.graph e v) (map (signal_edge net b.edges) signals)) ≡ map (wire (fix net (bits v))) signals
+signals_values net gates b v [] are all among width = refl
+signals_values net gates b v (s ∷ rest) are all among width =
+    ap₂ (λ x xs. x ∷ xs)
+    (signal_value net gates b v s are (All-head (IsSignal net) s rest all) (among_numbers net gates s rest among) width)
+    (signals_values net gates b v rest are (All-tail (IsSignal net) s rest all) (among_rest net gates s rest among) width)
+
+-- ---- one more gate
+
+fix-at : (net : Parts) (w : List Trit) (n : ℕ) → n < length net.gates → get_or (fix_gates net w) n X ≡ gate_value (fix net w) (gate_at net n)
+fix-at net w n l =
+    ap (λ s. get_or s n X) (sym (fix_is_fixpoint net w)) ∙ get_or-map (gate_value (wires w (fix_gates net w))) net.gates n no_gate X l
+
+pub HasEdges-gate : (net : Parts) (b : Building) (n : ℕ) → IsSound b.graph → IsNetlist net → HasEdges net b.graph b.edges → n < length net.gates
+    → IsMade b.graph (gate_made net b n) (λ v. value (gate_at net n).cover (map (λ e. den b.graph e v) (map (signal_edge net b.edges) (gate_at net n).pins)))
+HasEdges-gate net b n sound valid has l =
+    cover_is b.graph (map (signal_edge net b.edges) (gate_at net n).pins) (gate_at net n).cover sound
+    (signal_edges_are net b.graph b.edges (gate_at net n).pins has (valid.pins n no_gate l))
+
+pub gate_built : (net : Parts) (gates : List ℕ) (b : Building) (n : ℕ) → IsNetlist net → AreBuilt net gates b → n < length net.gates
+    → AllAmong gates (numbers_from (columns net) (gate_at net n).pins) → AreBuilt net (gates ++ n ∷ []) (with_gate net b n)
+gate_built net gates b n valid are l among =
+    let is = HasEdges-gate net b n are.sound valid are.has l in
+    let made = gate_made net b n in
+    let edges = set b.edges n made.edge in
+    record {
+      sound = is.sound;
+      has = record {
+        inputs = ap (λ (g : Graph). g.inputs) is.extends.is ∙ are.has.inputs;
+        latches = ap (λ (g : Graph). g.latches) is.extends.is ∙ are.has.latches;
+        width = length-set b.edges n made.edge ∙ are.has.width;
+        all = All-set (IsEdge made.graph) b.edges n made.edge is.is_edge (edges_kept b.edges is.extends are.has.all);
+      };
+      values = λ m v k there width. elim (cases_eq m n) [
+        | inl e ↦
+            subst (λ i. bit (den made.graph (get_or edges i (edge 0)) v) ≡ get_or (fix_gates net (bits v)) i X) (sym e)
+            (ap (λ x. bit (den made.graph x v)) (get_or-set_same b.edges n made.edge (edge 0) (omega (arith, are.has.width)))
+            ∙ ap bit (is.value_is v (omega (arith, are.has.inputs, are.has.latches)))
+            ∙ sym (ext_at_bits (gate_at net n).cover (map (λ x. den b.graph x v) (map (signal_edge net b.edges) (gate_at net n).pins)))
+            ∙ ap (ext (gate_at net n).cover) (signals_values net gates b v (gate_at net n).pins are (valid.pins n no_gate l) among width)
+            ∙ sym (fix-at net (bits v) n l))
+        | inr ne ↦
+            let before : list_any (nat_eq m) gates ≡ true =
+            sym (list_any-append (nat_eq m) gates (n ∷ []) ∙ ap (λ t. list_any (nat_eq m) gates || (t || false)) (ne_eqb m n ne) ∙ or_false (list_any (nat_eq m) gates)) ∙ there in
+            ap (λ x. bit (den made.graph x v)) (get_or-set_other b.edges n m made.edge (edge 0) ne)
+            ∙ ap bit (is.extends.keeps (get_or b.edges m (edge 0)) v (All-get_or (IsEdge b.graph) b.edges m (edge 0) (omega (arith, are.has.width)) are.has.all) (omega (arith, are.has.inputs, are.has.latches)))
+            ∙ are.values m v k before width
+      ];
+    }
+  where
+    or_false : (t : Bool) → (t || (false || false)) ≡ t
+    or_false true = refl
+    or_false false = refl
+
+pub nothing_is_built : (net : Parts) → AreBuilt net [] (nothing_built net)
+nothing_is_built net = record {
+  sound = record { each = λ i x at. absurd (none i x at); once = λ i j x at _. absurd (none i x at) };
+  has = record {
+    inputs = refl;
+    latches = refl;
+    width = length-replicate (length net.gates) (edge 0);
+    all = All-replicate (IsEdge (empty (length net.inputs) (length net.latches))) (length net.gates) (edge 0) (omega arith);
+  };
+  values = λ n v l there width. absurd (false≢true there);
+}
+  where
+    none : (i : ℕ) (x : And) → slice_get {X = And} [] i ≡ Some x → ⊥
+    none i x at = absurd (none-some x at)
+
+gates_built : (net : Parts) (seen rest : List ℕ) (b : Building) → IsNetlist net → AreBuilt net seen b → AllFollow (gate_graph net) seen rest → AreBuilt net (seen ++ rest) (fold (with_gate net) b rest)
+gates_built net seen [] b valid are follow = let P : List ℕ → Type 0 = λ gates. AreBuilt net gates b in subst P (sym (append-nil seen)) are
+gates_built net seen (n ∷ rest) b valid are follow =
+    let size = length-gate_graph net in
+    let l : n < length net.gates = omega (arith, follow.0) in
+    let Q : List ℕ → Type 0 = λ ns. AllAmong seen ns in
+    let one = gate_built net seen b n valid are l (subst Q (gate_successors net n l) follow.1) in
+    let P : List ℕ → Type 0 = λ gates. AreBuilt net gates (fold (with_gate net) (with_gate net b n) rest) in
+    subst P (append_assoc seen (n ∷ []) rest) (gates_built net (seen ++ n ∷ []) rest (with_gate net b n) valid one follow.2)
+
+-- ---- the whole netlist
+
+pub map-map : {A B C : Type 0} (xs : List A) (f : A → B) (h : B → C) → map h (map f xs) ≡ map (λ x. h (f x)) xs
+map-map {A} {B} {C} [] f h = refl
+map-map {A} {B} {C} (x ∷ xs) f h = ap (λ ys. h (f x) ∷ ys) (map-map xs f h)
+
+pub sources_are : (net : Parts) → IsNetlist net → All (IsSignal net) (map (λ (latch : Latch). latch.from) net.latches)
+sources_are net valid = All-map (IsSignal net) (λ (latch : Latch). latch.from) net.latches valid.sources
+
+pub needed_within : (net : Parts) → IsNetlist net → All (λ n. n < length net.gates) (numbers_from (columns net) (needed_signals net))
+needed_within net valid =
+    numbers_within net (needed_signals net)
+    (All-append (IsSignal net) net.outputs (map (λ (latch : Latch). latch.from) net.latches) valid.outputs (sources_are net valid))
+
+numbers-append : (first : ℕ) (xs ys : List Sig) → numbers_from first (xs ++ ys) ≡ numbers_from first xs ++ numbers_from first ys
+numbers-append first xs ys = ap (map (λ (s : Sig). s.0 - first)) (filter-append (λ (s : Sig). nat_le first s.0) xs ys) ∙ map-append (λ (s : Sig). s.0 - first) (filter (λ (s : Sig). nat_le first s.0) xs) (filter (λ (s : Sig). nat_le first s.0) ys)
+
+all_left : (P : ℕ → Type 0) (xs ys : List ℕ) → All P (xs ++ ys) → All P xs
+all_left P xs ys h k d l = subst P (get_or_append_left xs ys d k l) (h k d (omega (arith, length-append xs ys)))
+
+all_right : (P : ℕ → Type 0) (xs ys : List ℕ) → All P (xs ++ ys) → All P ys
+all_right P xs ys h k d l = subst P (get_or-append-add xs ys k d) (h (length xs + k) d (omega (arith, length-append xs ys)))
+
+pub needed_in_graph : (net : Parts) → IsNetlist net → All (λ n. n < length (gate_graph net)) (numbers_from (columns net) (needed_signals net))
+needed_in_graph net valid k d l =
+    let size = length-gate_graph net in
+    let low = needed_within net valid k d l in
+    omega (arith, low)
+
+order_within : (graph : List (List ℕ)) (count : ℕ) (seen nodes : List ℕ) → length graph ≡ count → AllFollow graph seen nodes → All (λ n. n < count) nodes
+order_within graph count seen [] size h = All-nil (λ n. n < count)
+order_within graph count seen (n ∷ rest) size h = All-cons (λ m. m < count) n rest (omega (arith, h.0)) (order_within graph count (seen ++ n ∷ []) rest size h.2)
+
+pub build_order_within : (net : Parts) (order : List ℕ) → IsNetlist net → IsGateOrder net order → All (λ n. n < length net.gates) (build_order net)
+build_order_within net order valid is =
+    let placed = postorder_is (gate_graph net) (gate_ranks net order valid is) (numbers_from (columns net) (needed_signals net)) (needed_in_graph net valid) in
+    order_within (gate_graph net) (length net.gates) [] (build_order net) (length-gate_graph net) placed.order
+
+pub record IsBuiltWhole (net : Parts) (gates : List ℕ) (b : Building) : Type 0 where
+  pub are : AreBuilt net gates b
+  pub outputs : AllAmong gates (numbers_from (columns net) net.outputs)
+  pub nexts : AllAmong gates (numbers_from (columns net) (map (λ (latch : Latch). latch.from) net.latches))
+
+pub whole_built : (net : Parts) (order : List ℕ) → IsNetlist net → IsGateOrder net order → IsBuiltWhole net (build_order net) (building net (build_order net))
+unfolding building
+whole_built net order valid is =
+    let ranks = gate_ranks net order valid is in
+    let placed = postorder_is (gate_graph net) ranks (numbers_from (columns net) (needed_signals net)) (needed_in_graph net valid) in
+    let P : List ℕ → Type 0 = λ ns. AllAmong (build_order net) ns in
+    let all = subst P (numbers-append (columns net) net.outputs (map (λ (latch : Latch). latch.from) net.latches)) placed.all in
+    let among = λ (n : ℕ). list_any (nat_eq n) (build_order net) ≡ true in
+    record {
+      are = gates_built net [] (build_order net) (nothing_built net) valid (nothing_is_built net) placed.order;
+      outputs = all_left among (numbers_from (columns net) net.outputs) (numbers_from (columns net) (map (λ (latch : Latch). latch.from) net.latches)) all;
+      nexts = all_right among (numbers_from (columns net) net.outputs) (numbers_from (columns net) (map (λ (latch : Latch). latch.from) net.latches)) all;
+    }
+
+pub built_has_values : (net : Parts) (order : List ℕ) → IsNetlist net → IsGateOrder net order → HasValues net (built net)
+built_has_values net order valid is =
+    let whole = whole_built net order valid is in
+    let b = building net (build_order net) in
+    record {
+      outputs = λ v width. signals_values net (build_order net) b v net.outputs whole.are valid.outputs whole.outputs width;
+      nexts = λ v width.
+          ap (λ es. bits (map (λ e. den b.graph e v) es)) (sym (map-map net.latches (λ (latch : Latch). latch.from) (signal_edge net b.edges)))
+          ∙ signals_values net (build_order net) b v (map (λ (latch : Latch). latch.from) net.latches) whole.are (sources_are net valid) whole.nexts width
+          ∙ map-map net.latches (λ (latch : Latch). latch.from) (wire (fix net (bits v)));
+    }
+
+pub built_fits : (net : Parts) (order : List ℕ) → IsNetlist net → IsGateOrder net order → FitsNetlist net (built net)
+built_fits net order valid is =
+    let whole = whole_built net order valid is in
+    let b = building net (build_order net) in
+    record {
+      inputs = whole.are.has.inputs;
+      latches = whole.are.has.latches;
+      output_count = length-map net.outputs (signal_edge net b.edges);
+      next_count = length-map net.latches (λ (latch : Latch). signal_edge net b.edges latch.from);
+      outputs = signal_edges_are net b.graph b.edges net.outputs whole.are.has valid.outputs;
+      nexts = All-map (IsEdge b.graph) (λ (latch : Latch). signal_edge net b.edges latch.from) net.latches (λ k d l. signal_edge_is net b.graph b.edges (get_or net.latches k d).from whole.are.has (valid.sources k d l));
+    }

@@ -1,0 +1,325 @@
+-- The conjunction of two edges is a sound graph's edge, with the value of the conjunction.
+use Rattle.std.proofs.Common.{◌≡◌, ◌≢◌, ◌⊎◌, inl, inr, ℕ, ◌+◌, ◌%◌, ◌<◌, ◌≤◌, ◌==◌, ◌&&◌, ◌||◌, Bool, true, false, not, leb, if◌then◌else◌, List, [], ◌∷◌, ◌++◌, length, get_or, slice_get, Option, Some, None, MatchOption, refl, sym, ap, ap₂, subst, ◌∙◌, arith, length-append, true≢false}
+use Rattle.std.specs.List.{list_any, position_or_len}
+use Rattle.std.specs.Option.{option_map_or}
+use Rattle.std.proofs.lemmas.Bool.{cases_Bool, cases_lt, eqb-true, eqb-false, leb-true, leb-false, and_parts}
+use Rattle.std.proofs.lemmas.List.{append-nil, length_push, get_or_push, get_or_append_left}
+use Rattle.std.proofs.lemmas.Option.{slice_get-get_or, slice_get_within, get_or_from_slice_get}
+use Rattle.std.proofs.lemmas.List.Sums.{passes_at_first, position_or_len_is}
+use Rattle.std.proofs.lemmas.List.Folds.{list_any_at}
+use Rattle.aig_core.specs.declared.edge.Edge.{Edge}
+use Rattle.aig_core.specs.declared.edge.And.{And}
+use Rattle.aig_core.specs.Graphs.{Graph, with_ands, first_and, variables, edge, complement, IsEdge, den}
+use Rattle.aig_core.specs.Soundness.{IsSoundAnd, IsSound, IsVector, Extends}
+use Rattle.aig_core.specs.Conjunctions.{Made, simple_and, pair_of, same_pair, entered, hashed, conjunction, found}
+use Rattle.aig_core.proofs.GraphLemmas.{den-complement, den-constant, den-and, extended}
+
+pub same_edge : (a b : Edge) → a.0 ≡ b.0 → a ≡ b
+same_edge a b e = λ j. record { 0 = e j }
+
+pub same_and : (x y : And) → same_pair x y ≡ true → x ≡ y
+same_and x y h =
+    let parts = and_parts (x.greater.0 == y.greater.0) (x.smaller.0 == y.smaller.0) h in
+    let high = eqb-true x.greater.0 y.greater.0 parts.0 in
+    let low = eqb-true x.smaller.0 y.smaller.0 parts.1 in
+    λ j. record { greater = record { 0 = high j }; smaller = record { 0 = low j } }
+
+-- what is known where no simple case applies
+pub record AreApart (a b : Edge) : Type 0 where
+  pub a_zero : a.0 ≢ 0
+  pub b_zero : b.0 ≢ 0
+  pub complements : a.0 ≢ (complement b).0
+  pub a_one : a.0 ≢ 1
+  pub b_one : b.0 ≢ 1
+  pub equal : a.0 ≢ b.0
+
+-- the answer of a simple case
+pub record IsSimple (a b e : Edge) : Type 0 where
+  pub edge_of : (g : Graph) → IsEdge g a → IsEdge g b → IsEdge g e
+  pub value : (g : Graph) (v : List Bool) → den g e v ≡ (den g a v && den g b v)
+
+and_comm : (b c : Bool) → (b && c) ≡ (c && b)
+and_comm true true = refl
+and_comm true false = refl
+and_comm false true = refl
+and_comm false false = refl
+
+and_false : (b : Bool) → false ≡ (b && false)
+and_false true = refl
+and_false false = refl
+
+and_true : (b : Bool) → b ≡ (b && true)
+and_true true = refl
+and_true false = refl
+
+and_same : (b : Bool) → b ≡ (b && b)
+and_same true = refl
+and_same false = refl
+
+and_opposite : (b : Bool) → false ≡ (not b && b)
+and_opposite true = refl
+and_opposite false = refl
+
+den-zero : (g : Graph) (e : Edge) (v : List Bool) → e.0 ≡ 0 → den g e v ≡ false
+den-zero g e v h = ap (λ x. den g x v) (same_edge e (edge 0) h) ∙ den-constant g v
+
+den-one : (g : Graph) (e : Edge) (v : List Bool) → e.0 ≡ 1 → den g e v ≡ true
+den-one g e v h = ap (λ x. den g x v) (same_edge e (complement (edge 0)) h) ∙ den-complement g (edge 0) v ∙ ap not (den-constant g v)
+
+zero_is_edge : (g : Graph) → IsEdge g (edge 0)
+zero_is_edge g = omega arith
+
+module _ (a b : Edge) where
+  zero_left : a.0 ≡ 0 → IsSimple a b (edge 0)
+  zero_left h = record {
+    edge_of = λ g _ _. zero_is_edge g;
+    value = λ g v. den-constant g v ∙ ap (λ x. x && den g b v) (sym (den-zero g a v h));
+  }
+
+  zero_right : b.0 ≡ 0 → IsSimple a b (edge 0)
+  zero_right h = record {
+    edge_of = λ g _ _. zero_is_edge g;
+    value = λ g v. den-constant g v ∙ and_false (den g a v) ∙ ap (λ x. den g a v && x) (sym (den-zero g b v h));
+  }
+
+  opposites : a.0 ≡ (complement b).0 → IsSimple a b (edge 0)
+  opposites h = record {
+    edge_of = λ g _ _. zero_is_edge g;
+    value = λ g v.
+        den-constant g v ∙ and_opposite (den g b v)
+        ∙ ap (λ x. x && den g b v) (sym (ap (λ x. den g x v) (same_edge a (complement b) h) ∙ den-complement g b v));
+  }
+
+  one_left : a.0 ≡ 1 → IsSimple a b b
+  one_left h = record { edge_of = λ g _ k. k; value = λ g v. ap (λ x. x && den g b v) (sym (den-one g a v h)) }
+
+  one_right : b.0 ≡ 1 → IsSimple a b a
+  one_right h = record {
+    edge_of = λ g k _. k;
+    value = λ g v. and_true (den g a v) ∙ ap (λ x. den g a v && x) (sym (den-one g b v h));
+  }
+
+  equals : a.0 ≡ b.0 → IsSimple a b a
+  equals h = record {
+    edge_of = λ g k _. k;
+    value = λ g v. and_same (den g a v) ∙ ap (λ x. den g a v && x) (ap (λ x. den g x v) (same_edge a b h));
+  }
+
+  pub simple_cases : MatchOption (simple_and a b) (AreApart a b) (IsSimple a b)
+  simple_cases = by (a.0 == 0) (b.0 == 0) (a.0 == (complement b).0) (a.0 == 1) (b.0 == 1) (a.0 == b.0) refl refl refl refl refl refl
+    where
+      by : (t0 t1 t2 t3 t4 t5 : Bool) → (a.0 == 0) ≡ t0 → (b.0 == 0) ≡ t1 → (a.0 == (complement b).0) ≡ t2 → (a.0 == 1) ≡ t3 → (b.0 == 1) ≡ t4 → (a.0 == b.0) ≡ t5 → MatchOption (if t0 || (t1 || t2) then Some (edge 0) else (if t3 then Some b else (if t4 || t5 then Some a else None))) (AreApart a b) (IsSimple a b)
+      by true t1 t2 t3 t4 t5 e0 e1 e2 e3 e4 e5 = zero_left (eqb-true a.0 0 e0)
+      by false true t2 t3 t4 t5 e0 e1 e2 e3 e4 e5 = zero_right (eqb-true b.0 0 e1)
+      by false false true t3 t4 t5 e0 e1 e2 e3 e4 e5 = opposites (eqb-true a.0 (complement b).0 e2)
+      by false false false true t4 t5 e0 e1 e2 e3 e4 e5 = one_left (eqb-true a.0 1 e3)
+      by false false false false true t5 e0 e1 e2 e3 e4 e5 = one_right (eqb-true b.0 1 e4)
+      by false false false false false true e0 e1 e2 e3 e4 e5 = equals (eqb-true a.0 b.0 e5)
+      by false false false false false false e0 e1 e2 e3 e4 e5 = record {
+        a_zero = eqb-false a.0 0 e0;
+        b_zero = eqb-false b.0 0 e1;
+        complements = eqb-false a.0 (complement b).0 e2;
+        a_one = eqb-false a.0 1 e3;
+        b_one = eqb-false b.0 1 e4;
+        equal = eqb-false a.0 b.0 e5;
+      }
+
+-- ---- an AND that is made or found
+
+opposite_back : (a b : Edge) → b.0 ≡ (complement a).0 → a.0 ≡ (complement b).0
+opposite_back a b h =
+    elim (cases_lt (a.0 % 2) 1) [ inl low ↦ omega (arith, h) | inr high ↦ omega (arith, h) ]
+
+-- the pair of edges that are apart
+pub record IsPair (g : Graph) (a b : Edge) (x : And) : Type 0 where
+  pub sound : IsSoundAnd (variables g) x
+  pub value : (v : List Bool) → (den g x.greater v && den g x.smaller v) ≡ (den g a v && den g b v)
+
+pub pair_is : (g : Graph) (a b : Edge) → IsEdge g a → IsEdge g b → AreApart a b → IsPair g a b (pair_of a b)
+pair_is g a b in_a in_b apart = by (leb b.0 a.0) refl
+  where
+    by : (t : Bool) → leb b.0 a.0 ≡ t → IsPair g a b (if t then record { greater = a; smaller = b } else record { greater = b; smaller = a })
+    by true e =
+        let le = leb-true b.0 a.0 e in
+        let other = apart.equal in
+        let one = apart.b_one in
+        let zero_b = apart.b_zero in
+        record {
+          sound = record { earlier = in_a; greater = omega arith; constant = omega arith; apart = apart.complements };
+          value = λ v. refl;
+        }
+    by false e =
+        let lt = leb-false b.0 a.0 e in
+        let one = apart.a_one in
+        let zero_a = apart.a_zero in
+        record {
+          sound = record { earlier = in_b; greater = omega arith; constant = omega arith; apart = λ h. apart.complements (opposite_back a b h) };
+          value = λ v. and_comm (den g b v) (den g a v);
+        }
+
+-- where no AND passes a test, the first place that does is past the end
+none_passes : (ands : List And) (x : And) → list_any (same_pair x) ands ≡ false → position_or_len (same_pair x) ands ≡ length ands
+none_passes ands x none =
+    position_or_len_is (same_pair x) ands (length ands) x (omega arith)
+    (λ k l. elim (cases_Bool (same_pair x (get_or ands k x))) [
+      | inl t ↦ absurd (true≢false (sym (list_any_at (same_pair x) ands k x l t) ∙ none))
+      | inr f ↦ f
+    ])
+    (λ l. absurd (omega (arith, l)))
+
+-- what is known of the ANDs after one was entered, at its place
+pub record IsEntered (g : Graph) (x : And) : Type 0 where
+  pub sound : IsSound (hashed g x).graph
+  pub extends : Extends g (hashed g x).graph
+  pub place : slice_get (entered g.ands x) (position_or_len (same_pair x) g.ands) ≡ Some x
+  pub within : position_or_len (same_pair x) g.ands < length (entered g.ands x)
+  pub earlier : position_or_len (same_pair x) g.ands ≤ length g.ands
+  pub grows : length g.ands ≤ length (entered g.ands x)
+
+pub any_place : {T : Type 0} (p : T → Bool) (xs : List T) → list_any p xs ≡ true → position_or_len p xs < length xs
+any_place {T} p [] h = absurd (true≢false (sym h))
+any_place {T} p (y ∷ ys) h = by (p y) refl (λ e. any_place p ys (sym (ap (λ t. t || list_any p ys) e) ∙ h))
+  where
+    by : (t : Bool) → p y ≡ t → (p y ≡ false → position_or_len p ys < length ys) → position_or_len p (y ∷ ys) < length (y ∷ ys)
+    by true e rest = rw e (omega arith)
+    by false e rest = rw e (let l = rest e in omega (arith, l))
+
+slice_get-left : (xs ys : List And) (p : ℕ) → p < length xs → slice_get (xs ++ ys) p ≡ slice_get xs p
+slice_get-left [] ys p h = absurd (omega arith)
+slice_get-left (x ∷ xs) ys p h =
+    let longer : p < length ((x ∷ xs) ++ ys) = omega (arith, length-append (x ∷ xs) ys) in
+    slice_get-get_or ((x ∷ xs) ++ ys) p x longer ∙ ap Some (get_or_append_left (x ∷ xs) ys x p h) ∙ sym (slice_get-get_or (x ∷ xs) p x h)
+
+-- an AND of a longer list is there already or is the last
+read_push : (xs : List And) (x y : And) (p : ℕ) → slice_get (xs ++ x ∷ []) p ≡ Some y → (slice_get xs p ≡ Some y) ⊎ ((p ≡ length xs) × (y ≡ x))
+read_push xs x y p at = elim (cases_lt p (length xs)) [
+  | inl l ↦ inl (sym (slice_get-left xs (x ∷ []) p l) ∙ at)
+  | inr g ↦
+      let within : p < length (xs ++ x ∷ []) = slice_get_within (xs ++ x ∷ []) p y at in
+      let last : p ≡ length xs = omega (arith, length_push xs x) in
+      inr (last, sym (get_or_from_slice_get (xs ++ x ∷ []) p y x at) ∙ get_or_push xs x x p (sym last))
+]
+
+-- the AND itself isn't among those that none of passes
+absent : (ands : List And) (x : And) (p : ℕ) → list_any (same_pair x) ands ≡ false → slice_get ands p ≡ Some x → ⊥
+absent ands x p none at =
+    let within = slice_get_within ands p x at in
+    let is = get_or_from_slice_get ands p x x at in
+    true≢false (sym (list_any_at (same_pair x) ands p x within (ap (same_pair x) is ∙ same_itself)) ∙ none)
+  where
+    eqb-refl : (n : ℕ) → (n == n) ≡ true
+    eqb-refl n = elim (cases_Bool (n == n)) [ inl t ↦ t | inr f ↦ absurd (eqb-false n n f refl) ]
+
+    same_itself : same_pair x x ≡ true
+    same_itself = ap₂ (λ b c. b && c) (eqb-refl x.greater.0) (eqb-refl x.smaller.0)
+
+pushed_sound : (g : Graph) (x : And) → IsSound g → IsSoundAnd (variables g) x → list_any (same_pair x) g.ands ≡ false → IsSound (with_ands g (g.ands ++ x ∷ []))
+pushed_sound g x sound here none = record {
+  each = λ i y at. elim (read_push g.ands x y i at) [
+    | inl a ↦ sound.each i y a
+    | inr l ↦ subst (λ (z : And). IsSoundAnd (first_and g + i) z) (sym l.1) (subst (λ k. IsSoundAnd (first_and g + k) x) (sym l.0) here)
+  ];
+  once = λ i j y at_i at_j. elim (read_push g.ands x y i at_i) [
+    | inl a ↦ elim (read_push g.ands x y j at_j) [
+      | inl b ↦ sound.once i j y a b
+      | inr l ↦ absurd (absent g.ands x i none (a ∙ ap Some l.1))
+    ]
+    | inr k ↦ elim (read_push g.ands x y j at_j) [
+      | inl b ↦ absurd (absent g.ands x j none (b ∙ ap Some k.1))
+      | inr l ↦ k.0 ∙ sym l.0
+    ]
+  ];
+}
+
+pub entered_is : (g : Graph) (x : And) → IsSound g → IsSoundAnd (variables g) x → IsEntered g x
+entered_is g x sound here = elim (cases_Bool (list_any (same_pair x) g.ands)) [
+  | inl t ↦
+      let old : entered g.ands x ≡ g.ands = ap (λ b. if b then g.ands else g.ands ++ x ∷ []) t in
+      let p = position_or_len (same_pair x) g.ands in
+      let l = any_place (same_pair x) g.ands t in
+      let is : slice_get g.ands p ≡ Some x =
+      slice_get-get_or g.ands p x l ∙ ap Some (sym (same_and x (get_or g.ands p x) (passes_at_first (same_pair x) g.ands x l))) in
+      record {
+        sound = subst (λ ands. IsSound (with_ands g ands)) (sym old) sound;
+        extends = subst (λ ands. Extends g (with_ands g ands)) (append-nil g.ands ∙ sym old) (extended g []);
+        place = ap (λ ands. slice_get ands p) old ∙ is;
+        within = omega (arith, ap length old, l);
+        earlier = omega (arith, l);
+        grows = omega (arith, ap length old);
+      }
+  | inr f ↦
+      let new : entered g.ands x ≡ g.ands ++ x ∷ [] = ap (λ b. if b then g.ands else g.ands ++ x ∷ []) f in
+      let p = position_or_len (same_pair x) g.ands in
+      let last : p ≡ length g.ands = none_passes g.ands x f in
+      let longer = length_push g.ands x in
+      record {
+        sound = subst (λ ands. IsSound (with_ands g ands)) (sym new) (pushed_sound g x sound here f);
+        extends = subst (λ ands. Extends g (with_ands g ands)) (sym new) (extended g (x ∷ []));
+        place = ap (λ ands. slice_get ands p) new ∙ slice_get-get_or (g.ands ++ x ∷ []) p x (omega arith) ∙ ap Some (get_or_push g.ands x x p (sym last));
+        within = omega (arith, ap length new);
+        earlier = omega arith;
+        grows = omega (arith, ap length new);
+      }
+]
+
+-- ---- what is made
+
+pub record IsMade (old : Graph) (made : Made) (value : List Bool → Bool) : Type 0 where
+  pub sound : IsSound made.graph
+  pub extends : Extends old made.graph
+  pub is_edge : IsEdge made.graph made.edge
+  pub grows : length old.ands ≤ length made.graph.ands
+  pub value_is : (v : List Bool) → IsVector old v → den made.graph made.edge v ≡ value v
+
+pub found_is : (g : Graph) (e : Edge) → IsSound g → IsEdge g e → IsMade g (found g e) (λ v. den g e v)
+found_is g e sound is_edge = record {
+  sound = sound;
+  extends = subst (λ ands. Extends g (with_ands g ands)) (append-nil g.ands) (extended g []);
+  is_edge = is_edge;
+  grows = omega arith;
+  value_is = λ v h. refl;
+}
+
+pub hashed_is : (g : Graph) (a b : Edge) → IsSound g → IsEdge g a → IsEdge g b → AreApart a b → IsMade g (hashed g (pair_of a b)) (λ v. den g a v && den g b v)
+hashed_is g a b sound in_a in_b apart =
+    let pair = pair_is g a b in_a in_b apart in
+    let x = pair_of a b in
+    let is = entered_is g x sound pair.sound in
+    let p = position_or_len (same_pair x) g.ands in
+    let at = is.place in
+    let high = pair.sound.earlier in
+    let low = pair.sound.greater in
+    record {
+      sound = is.sound;
+      extends = is.extends;
+      is_edge = omega (arith, is.within);
+      grows = is.grows;
+      value_is = λ v h.
+          den-and (hashed g x).graph p x v at (is.sound.each p x at) h
+          ∙ ap₂ (λ s t. s && t) (is.extends.keeps x.greater v high h) (is.extends.keeps x.smaller v (omega arith) h)
+          ∙ pair.value v;
+    }
+
+pub conjunction_is : (g : Graph) (a b : Edge) → IsSound g → IsEdge g a → IsEdge g b → IsMade g (conjunction g a b) (λ v. den g a v && den g b v)
+unfolding conjunction
+conjunction_is g a b sound in_a in_b = by (simple_and a b) (simple_cases a b)
+  where
+    by : (o : Option Edge) → MatchOption o (AreApart a b) (IsSimple a b) → IsMade g (option_map_or (found g) o (hashed g (pair_of a b))) (λ v. den g a v && den g b v)
+    by None apart = hashed_is g a b sound in_a in_b apart
+    by (Some e) simple =
+        let is = found_is g e sound (simple.edge_of g in_a in_b) in
+        record { sound = is.sound; extends = is.extends; is_edge = is.is_edge; grows = is.grows; value_is = λ v h. simple.value g v }
+
+pub conjunction-some : (g : Graph) (a b e : Edge) → simple_and a b ≡ Some e → conjunction g a b ≡ found g e
+unfolding conjunction
+conjunction-some g a b e h = rw h refl
+
+pub conjunction-none : (g : Graph) (a b : Edge) → simple_and a b ≡ None → conjunction g a b ≡ hashed g (pair_of a b)
+unfolding conjunction
+conjunction-none g a b h = rw h refl
+
+pub apart_at : (a b : Edge) → simple_and a b ≡ None → AreApart a b
+apart_at a b h = let C : Option Edge → Type 0 = λ o. MatchOption o (AreApart a b) (IsSimple a b) in subst C h (simple_cases a b)
+
+pub simple_at : (a b e : Edge) → simple_and a b ≡ Some e → IsSimple a b e
+simple_at a b e h = let C : Option Edge → Type 0 = λ o. MatchOption o (AreApart a b) (IsSimple a b) in subst C h (simple_cases a b)

@@ -1,0 +1,229 @@
+-- In a graph without a loop a depth-first search needs no bound on its depth, and tasks lead to the same list.
+use Rattle.std.proofs.Common.{◌≡◌, inl, inr, ℕ, zero, suc, ◌+◌, ◌<◌, ◌≤◌, ◌||◌, Bool, true, false, if◌then◌else◌, List, [], ◌∷◌, ◌++◌, length, get_or, set, take, map, reverse, fold, All, refl, sym, ap, ap₂, subst, ◌∙◌, arith}
+use Rattle.std.specs.Prelude.{nat_eq}
+use Rattle.std.specs.List.{list_any, sum_by}
+use Rattle.std.proofs.lemmas.Bool.{cases_eq, eq-eqb, ne_eqb}
+use Rattle.std.proofs.lemmas.List.{append_assoc, reverse-append, map-append, get_or-set_same, get_or-set_other, length-set, map_more}
+use Rattle.std.proofs.lemmas.List.Sums.{fold-append, sum_by-cons, sum_by-append, sum_by_push}
+use Rattle.std.proofs.lemmas.List.Folds.{fold-map, list_any-append}
+use Rattle.std.proofs.lemmas.List.Elements.{All-head, All-tail, All-append, All-push, All-map, Contains-get_or}
+use Rattle.components.specs.Graphs.{successors}
+use Rattle.aig_core.specs.declared.depth.Task.{Task}
+use Rattle.aig_core.specs.declared.depth.Task.TheVariants.{Visit, Place}
+use Rattle.aig_core.specs.Depth.{placed, HasRanks}
+use Rattle.aig_core.specs.Tasks.{visit, node_of, AreWithin, done, finished, weight, task_weight, tasks_left, HasMarks, Advances}
+
+-- ---- folds and sums with equal steps
+
+pub fold_same : {A : Type 0} (f h : List ℕ → A → List ℕ) (xs : List A) (a : List ℕ) → All (λ x. (b : List ℕ) → f b x ≡ h b x) xs → fold f a xs ≡ fold h a xs
+fold_same {A} f h [] a same = refl
+fold_same {A} f h (x ∷ xs) a same =
+    ap (λ b. fold f b xs) (All-head (λ (y : A). (b : List ℕ) → f b y ≡ h b y) x xs same a)
+    ∙ fold_same f h xs (h a x) (All-tail (λ (y : A). (b : List ℕ) → f b y ≡ h b y) x xs same)
+
+pub sum_same : (f h : ℕ → ℕ) (xs : List ℕ) → All (λ x. f x ≡ h x) xs → sum_by f xs ≡ sum_by h xs
+sum_same f h [] same = refl
+sum_same f h (x ∷ xs) same =
+    sum_by-cons f x xs ∙ ap₂ (λ a b. a + b) (All-head (λ y. f y ≡ h y) x xs same) (sum_same f h xs (All-tail (λ y. f y ≡ h y) x xs same)) ∙ sym (sum_by-cons h x xs)
+
+pub map-reverse : {A B : Type 0} (f : A → B) (xs : List A) → map f (reverse xs) ≡ reverse (map f xs)
+map-reverse {A} {B} f [] = refl
+map-reverse {A} {B} f (x ∷ xs) =
+    ap (map f) (reverse-append (x ∷ []) xs)
+    ∙ map-append f (reverse xs) (x ∷ [])
+    ∙ ap (λ ys. ys ++ f x ∷ []) (map-reverse f xs)
+    ∙ sym (reverse-append (f x ∷ []) (map f xs))
+
+pub sum_by-reverse : {A : Type 0} (f : A → ℕ) (xs : List A) → sum_by f (reverse xs) ≡ sum_by f xs
+sum_by-reverse {A} f [] = refl
+sum_by-reverse {A} f (x ∷ xs) =
+    let e = ap (sum_by f) (reverse-append (x ∷ []) xs) ∙ sum_by-append f (reverse xs) (x ∷ []) in
+    let rest = sum_by-reverse f xs in
+    let one = sum_by-cons f x [] in
+    let all = sum_by-cons f x xs in
+    omega (arith, e)
+
+reverse-reversed : {A : Type 0} (xs : List A) → reverse (reverse xs) ≡ xs
+reverse-reversed {A} [] = refl
+reverse-reversed {A} (x ∷ xs) =
+    ap reverse (reverse-append (x ∷ []) xs) ∙ reverse-append (reverse xs) (x ∷ []) ∙ ap (λ ys. x ∷ ys) (reverse-reversed xs)
+
+-- ---- the bound on the depth
+
+abbrev pub Lower : (graph : List (List ℕ)) → HasRanks graph → ℕ → ℕ → Type 0
+Lower graph ranks d n = (n < length graph) × (ranks.rank n < d)
+
+pub successors_lower : (graph : List (List ℕ)) (ranks : HasRanks graph) (d n : ℕ) → n < length graph → ranks.rank n ≤ d → All (Lower graph ranks d) (successors graph n)
+successors_lower graph ranks d n l low k x m =
+    let falls = ranks.falls n (get_or (successors graph n) k x) l (Contains-get_or (successors graph n) k x m) in
+    (ranks.nodes n l k x m, omega arith)
+
+pub All-imp : {A : Type 0} (P Q : A → Type 0) (xs : List A) → ((x : A) → P x → Q x) → All P xs → All Q xs
+All-imp {A} P Q xs f h k d l = f (get_or xs k d) (h k d l)
+
+module _ (graph : List (List ℕ)) (ranks : HasRanks graph) where
+  pub placed-depth : (d e n : ℕ) (before : List ℕ) → Lower graph ranks d n → Lower graph ranks e n → placed graph d before n ≡ placed graph e before n
+  unfolding placed
+  placed-depth zero e n before low lower = absurd (omega (arith, low.1))
+  placed-depth (suc d) zero n before low lower = absurd (omega (arith, lower.1))
+  placed-depth (suc d) (suc e) n before low lower =
+      ap (λ after. if list_any (nat_eq n) before then before else after ++ n ∷ [])
+      (fold_same (placed graph d) (placed graph e) (successors graph n) before
+      (λ k x l b.
+      let s = get_or (successors graph n) k x in
+      placed-depth d e s b (successors_lower graph ranks d n low.0 (omega (arith, low.1)) k x l) (successors_lower graph ranks e n low.0 (omega (arith, lower.1)) k x l)))
+
+  pub weight-depth : (d e n : ℕ) → Lower graph ranks d n → Lower graph ranks e n → weight graph d n ≡ weight graph e n
+  unfolding weight
+  weight-depth zero e n low lower = absurd (omega (arith, low.1))
+  weight-depth (suc d) zero n low lower = absurd (omega (arith, lower.1))
+  weight-depth (suc d) (suc e) n low lower =
+      ap (λ s. 2 + s)
+      (sum_same (weight graph d) (weight graph e) (successors graph n)
+      (λ k x l.
+      let s = get_or (successors graph n) k x in
+      weight-depth d e s (successors_lower graph ranks d n low.0 (omega (arith, low.1)) k x l) (successors_lower graph ranks e n low.0 (omega (arith, lower.1)) k x l)))
+
+  -- ---- one visit
+
+  placed-opened : (g : ℕ) (before : List ℕ) (n : ℕ) → Lower graph ranks g n → list_any (nat_eq n) before ≡ false → placed graph g before n ≡ fold (placed graph g) before (successors graph n) ++ n ∷ []
+  unfolding placed
+  placed-opened zero before n low new = absurd (omega (arith, low.1))
+  placed-opened (suc d) before n low new =
+      ap (λ t. if t then before else fold (placed graph d) before (successors graph n) ++ n ∷ []) new
+      ∙ ap (λ after. after ++ n ∷ [])
+      (fold_same (placed graph d) (placed graph (suc d)) (successors graph n) before
+      (λ k x l b.
+      let s = get_or (successors graph n) k x in
+      let lower = successors_lower graph ranks d n low.0 (omega (arith, low.1)) k x l in
+      placed-depth d (suc d) s b lower (lower.0, omega (arith, lower.1))))
+
+  weight-opened : (g n : ℕ) → Lower graph ranks g n → weight graph g n ≡ 2 + sum_by (weight graph g) (successors graph n)
+  unfolding weight
+  weight-opened zero n low = absurd (omega (arith, low.1))
+  weight-opened (suc d) n low =
+      ap (λ s. 2 + s)
+      (sum_same (weight graph d) (weight graph (suc d)) (successors graph n)
+      (λ k x l.
+      let s = get_or (successors graph n) k x in
+      let lower = successors_lower graph ranks d n low.0 (omega (arith, low.1)) k x l in
+      weight-depth d (suc d) s lower (lower.0, omega (arith, lower.1))))
+
+  pub placed-new : (before : List ℕ) (n : ℕ) → n < length graph → list_any (nat_eq n) before ≡ false → placed graph (length graph) before n ≡ fold (placed graph (length graph)) before (successors graph n) ++ n ∷ []
+  placed-new before n l new = placed-opened (length graph) before n (l, ranks.within n l) new
+
+  weight-new : (n : ℕ) → n < length graph → weight graph (length graph) n ≡ 2 + sum_by (weight graph (length graph)) (successors graph n)
+  weight-new n l = weight-opened (length graph) n (l, ranks.within n l)
+
+pub placed-there : (graph : List (List ℕ)) (g : ℕ) (before : List ℕ) (n : ℕ) → list_any (nat_eq n) before ≡ true → placed graph g before n ≡ before
+unfolding placed
+placed-there graph zero before n there = refl
+placed-there graph (suc d) before n there = ap (λ t. if t then before else fold (placed graph d) before (successors graph n) ++ n ∷ []) there
+
+weight-positive : (graph : List (List ℕ)) (g n : ℕ) → 0 < weight graph g n
+unfolding weight
+weight-positive graph zero n = omega arith
+weight-positive graph (suc d) n = omega arith
+
+-- ---- tasks
+
+pub finished_push : (graph : List (List ℕ)) (before : List ℕ) (tasks : List Task) (task : Task) → finished graph before (tasks ++ task ∷ []) ≡ finished graph (done graph before task) tasks
+finished_push graph before tasks task = ap (fold (done graph) before) (reverse-append tasks (task ∷ []))
+
+pub tasks_push : (graph : List (List ℕ)) (tasks : List Task) (task : Task) → tasks_left graph (tasks ++ task ∷ []) ≡ tasks_left graph tasks + task_weight graph task
+tasks_push graph tasks task = sum_by_push (task_weight graph) tasks task
+
+visits : (graph : List (List ℕ)) (before nodes : List ℕ) → fold (done graph) before (map visit nodes) ≡ fold (placed graph (length graph)) before nodes
+visits graph before nodes = fold-map (done graph) visit before nodes
+
+pub finished_visits : (graph : List (List ℕ)) (before : List ℕ) (tasks : List Task) (nodes : List ℕ) → finished graph before (tasks ++ map visit (reverse nodes)) ≡ finished graph (fold (placed graph (length graph)) before nodes) tasks
+finished_visits graph before tasks nodes =
+    ap (fold (done graph) before)
+    (reverse-append tasks (map visit (reverse nodes))
+    ∙ ap (λ xs. xs ++ reverse tasks) (sym (map-reverse visit (reverse nodes)) ∙ ap (map visit) (reverse-reversed nodes)))
+    ∙ fold-append (done graph) before (map visit nodes) (reverse tasks)
+    ∙ ap (λ b. fold (done graph) b (reverse tasks)) (visits graph before nodes)
+
+visits_left : (graph : List (List ℕ)) (tasks : List Task) (nodes : List ℕ) → tasks_left graph (tasks ++ map visit (reverse nodes)) ≡ tasks_left graph tasks + sum_by (weight graph (length graph)) nodes
+visits_left graph tasks nodes =
+    let weights : sum_by (task_weight graph) (map visit (reverse nodes)) ≡ sum_by (weight graph (length graph)) (reverse nodes) =
+    fold-map (λ a t. a + task_weight graph t) visit 0 (reverse nodes) in
+    let back = sum_by-reverse (weight graph (length graph)) nodes in
+    sum_by-append (task_weight graph) tasks (map visit (reverse nodes)) ∙ ap (λ s. tasks_left graph tasks + s) (weights ∙ back)
+
+-- one more visit, as a loop adds it
+pub visits_more : (old tasks : List Task) (nodes : List ℕ) (k n : ℕ) → k < length nodes → n ≡ get_or nodes k n → tasks ≡ old ++ map visit (take k nodes) → tasks ++ Visit n ∷ [] ≡ old ++ map visit (take (k + 1) nodes)
+visits_more old tasks nodes k n l is e =
+    ap₂ (λ xs m. xs ++ visit m ∷ []) e is
+    ∙ append_assoc old (map visit (take k nodes)) (visit (get_or nodes k n) ∷ [])
+    ∙ ap (λ xs. old ++ xs) (sym (map_more visit nodes k n l))
+
+reversed_within : (count : ℕ) (nodes : List ℕ) → All (λ n. n < count) nodes → All (λ n. n < count) (reverse nodes)
+reversed_within count [] h = h
+reversed_within count (x ∷ xs) h =
+    let P : List ℕ → Type 0 = λ ys. All (λ n. n < count) ys in
+    subst P (sym (reverse-append (x ∷ []) xs))
+    (All-push (λ n. n < count) (reverse xs) x (reversed_within count xs (All-tail (λ n. n < count) x xs h)) (All-head (λ n. n < count) x xs h))
+
+pub visits_within : (count : ℕ) (tasks : List Task) (nodes : List ℕ) → AreWithin count tasks → All (λ n. n < count) nodes → AreWithin count (tasks ++ map visit (reverse nodes))
+visits_within count tasks nodes h k =
+    All-append (λ (t : Task). node_of t < count) tasks (map visit (reverse nodes)) h
+    (All-map (λ (t : Task). node_of t < count) visit (reverse nodes) (reversed_within count nodes k))
+
+-- a node is placed
+pub place_advances : (graph : List (List ℕ)) (before : List ℕ) (tasks : List Task) (n : ℕ) → AreWithin (length graph) tasks → Advances graph before (before ++ n ∷ []) (tasks ++ Place n ∷ []) tasks
+place_advances graph before tasks n within = record {
+  end = sym (finished_push graph before tasks (Place n));
+  less = omega (arith, tasks_push graph tasks (Place n));
+  within = within;
+}
+
+-- a node that is visited again
+pub pass_advances : (graph : List (List ℕ)) (before : List ℕ) (tasks : List Task) (n : ℕ) → AreWithin (length graph) tasks → list_any (nat_eq n) before ≡ true → Advances graph before before (tasks ++ Visit n ∷ []) tasks
+pass_advances graph before tasks n within there = record {
+  end = sym (finished_push graph before tasks (Visit n) ∙ ap (λ b. finished graph b tasks) (placed-there graph (length graph) before n there));
+  less = omega (arith, tasks_push graph tasks (Visit n), weight-positive graph (length graph) n);
+  within = within;
+}
+
+-- a node that is visited first
+pub open_advances : (graph : List (List ℕ)) → HasRanks graph → (before : List ℕ) (tasks : List Task) (n : ℕ) → AreWithin (length graph) tasks → n < length graph → list_any (nat_eq n) before ≡ false → Advances graph before before (tasks ++ Visit n ∷ []) ((tasks ++ Place n ∷ []) ++ map visit (reverse (successors graph n)))
+open_advances graph ranks before tasks n within l new = record {
+  end =
+      finished_visits graph before (tasks ++ Place n ∷ []) (successors graph n)
+      ∙ finished_push graph (fold (placed graph (length graph)) before (successors graph n)) tasks (Place n)
+      ∙ sym (finished_push graph before tasks (Visit n) ∙ ap (λ b. finished graph b tasks) (placed-new graph ranks before n l new));
+  less =
+      let visited = visits_left graph (tasks ++ Place n ∷ []) (successors graph n) in
+      let placing = tasks_push graph tasks (Place n) in
+      let visiting = tasks_push graph tasks (Visit n) in
+      let opened = weight-new graph ranks n l in
+      omega (arith, visited, placing, visiting, opened);
+  within = visits_within (length graph) (tasks ++ Place n ∷ []) (successors graph n) (All-push (λ (t : Task). node_of t < length graph) tasks (Place n) within l) (ranks.nodes n l);
+}
+
+-- ---- marks
+
+pub no_marks : (marks : List Bool) → ((k : ℕ) → k < length marks → get_or marks k false ≡ false) → HasMarks [] marks
+no_marks marks h n l = h n l
+
+pub marked_more : (nodes : List ℕ) (marks : List Bool) (n : ℕ) → n < length marks → HasMarks nodes marks → HasMarks (nodes ++ n ∷ []) (set marks n true)
+marked_more nodes marks n l has k m =
+    let len = length-set marks n true in
+    elim (cases_eq k n) [
+      | inl e ↦
+          subst (λ i. get_or (set marks n true) i false ≡ list_any (nat_eq i) (nodes ++ n ∷ [])) (sym e)
+          (get_or-set_same marks n true false l ∙ sym (list_any-append (nat_eq n) nodes (n ∷ []) ∙ ap (λ t. list_any (nat_eq n) nodes || (t || false)) (eq-eqb n n refl) ∙ or_true (list_any (nat_eq n) nodes)))
+      | inr ne ↦
+          get_or-set_other marks n k true false ne
+          ∙ has k (omega arith)
+          ∙ sym (list_any-append (nat_eq k) nodes (n ∷ []) ∙ ap (λ t. list_any (nat_eq k) nodes || (t || false)) (ne_eqb k n ne) ∙ or_false (list_any (nat_eq k) nodes))
+    ]
+  where
+    or_true : (b : Bool) → (b || (true || false)) ≡ true
+    or_true true = refl
+    or_true false = refl
+
+    or_false : (b : Bool) → (b || (false || false)) ≡ b
+    or_false true = refl
+    or_false false = refl

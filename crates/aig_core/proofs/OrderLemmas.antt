@@ -1,0 +1,129 @@
+-- In the postorder of a graph without a loop each node follows its successors; and the graph of a netlist's gates is one.
+use Rattle.std.proofs.Common.{◌≡◌, ℕ, zero, suc, ◌-◌, ◌<◌, ◌||◌, Bool, true, false, if◌then◌else◌, List, [], ◌∷◌, ◌++◌, length, get_or, fold, All, refl, sym, ap, subst, ◌∙◌, arith}
+use Rattle.std.specs.Prelude.{nat_eq, nat_le}
+use Rattle.std.specs.List.{list_any, position_or_len}
+use Rattle.std.proofs.lemmas.Bool.{eq-eqb, eqb-true, or_right, leb-true}
+use Rattle.std.proofs.lemmas.List.{append-nil, append_assoc, get_or-map}
+use Rattle.std.proofs.lemmas.List.Sums.{passes_at_first}
+use Rattle.std.proofs.lemmas.List.Folds.{list_any-append, list_any_at}
+use Rattle.std.proofs.lemmas.List.Elements.{All-nil, All-head, All-tail, All-cons}
+use Rattle.cyc_base.specs.declared.sig.Sig.{Sig}
+use Rattle.components.specs.Graphs.{successors}
+use Rattle.netlist.specs.declared.parts.Parts.{Parts}
+use Rattle.netlist.specs.Netlists.{gate_at, no_gate, IsSignal, IsNetlist}
+use Rattle.netlist.specs.Orders.{numbers_from, gates_read, gate_graph, IsGateOrder}
+use Rattle.netlist.specs.Walks.{Feeds}
+use Rattle.netlist.proofs.GraphLemmas.{length-gate_graph, edge_feeds}
+use Rattle.aig_core.specs.Depth.{placed, postorder, HasRanks}
+use Rattle.aig_core.specs.Building.{columns}
+use Rattle.aig_core.proofs.ConjunctionLemmas.{any_place}
+use Rattle.aig_core.proofs.DepthLemmas.{Lower, successors_lower}
+
+abbrev pub AllAmong : List ℕ → List ℕ → Type 0
+AllAmong seen nodes = All (λ n. list_any (nat_eq n) seen ≡ true) nodes
+
+-- each of these nodes follows its successors, where those that are seen stand before them
+abbrev pub AllFollow : List (List ℕ) → List ℕ → List ℕ → Type 0
+AllFollow graph seen [] = Unit {0}
+AllFollow graph seen (n ∷ rest) = (n < length graph) × AllAmong seen (successors graph n) × AllFollow graph (seen ++ n ∷ []) rest
+
+pub AllFollow-push : (graph : List (List ℕ)) (seen nodes : List ℕ) (n : ℕ) → AllFollow graph seen nodes → n < length graph → AllAmong (seen ++ nodes) (successors graph n) → AllFollow graph seen (nodes ++ n ∷ [])
+AllFollow-push graph seen [] n h l among = (l, rw append-nil at among, tt)
+AllFollow-push graph seen (m ∷ rest) n h l among =
+    (h.0, h.1, AllFollow-push graph (seen ++ m ∷ []) rest n h.2 l (rw (← append_assoc seen (m ∷ []) rest) at among))
+
+among_push : (seen : List ℕ) (m n : ℕ) → list_any (nat_eq m) seen ≡ true → list_any (nat_eq m) (seen ++ n ∷ []) ≡ true
+among_push seen m n h = list_any-append (nat_eq m) seen (n ∷ []) ∙ ap (λ t. t || list_any (nat_eq m) (n ∷ [])) h
+
+among_last : (seen : List ℕ) (n : ℕ) → list_any (nat_eq n) (seen ++ n ∷ []) ≡ true
+among_last seen n =
+    list_any-append (nat_eq n) seen (n ∷ [])
+    ∙ or_right (list_any (nat_eq n) seen) (list_any (nat_eq n) (n ∷ [])) (ap (λ t. t || false) (eq-eqb n n refl))
+
+-- what is known of the nodes after these were placed
+pub record ArePlaced (graph : List (List ℕ)) (before after nodes : List ℕ) : Type 0 where
+  pub order : AllFollow graph [] after
+  pub all : AllAmong after nodes
+  pub kept : (m : ℕ) → list_any (nat_eq m) before ≡ true → list_any (nat_eq m) after ≡ true
+
+module _ (graph : List (List ℕ)) (ranks : HasRanks graph) where
+  fold_placed : (d : ℕ) (nodes before : List ℕ) → ((n : ℕ) (b : List ℕ) → Lower graph ranks d n → AllFollow graph [] b → ArePlaced graph b (placed graph d b n) (n ∷ []))
+      → All (Lower graph ranks d) nodes → AllFollow graph [] before → ArePlaced graph before (fold (placed graph d) before nodes) nodes
+  fold_placed d [] before one low h = record { order = h; all = All-nil (λ n. list_any (nat_eq n) before ≡ true); kept = λ m k. k }
+  fold_placed d (n ∷ rest) before one low h =
+      let first = one n before (All-head (Lower graph ranks d) n rest low) h in
+      let others = fold_placed d rest (placed graph d before n) one (All-tail (Lower graph ranks d) n rest low) first.order in
+      let after = fold (placed graph d) (placed graph d before n) rest in
+      record {
+        order = others.order;
+        all = All-cons (λ m. list_any (nat_eq m) after ≡ true) n rest (others.kept n (All-head (λ m. list_any (nat_eq m) (placed graph d before n) ≡ true) n [] first.all)) others.all;
+        kept = λ m k. others.kept m (first.kept m k);
+      }
+
+  one_placed : (d n : ℕ) (before : List ℕ) → Lower graph ranks d n → AllFollow graph [] before → ArePlaced graph before (placed graph d before n) (n ∷ [])
+  unfolding placed
+  one_placed zero n before low h = absurd (omega (arith, low.1))
+  one_placed (suc d) n before low h =
+      by (list_any (nat_eq n) before) refl
+      (fold_placed d (successors graph n) before (λ m b l k. one_placed d m b l k) (successors_lower graph ranks d n low.0 (omega (arith, low.1))) h)
+    where
+      by : (t : Bool) → list_any (nat_eq n) before ≡ t → ArePlaced graph before (fold (placed graph d) before (successors graph n)) (successors graph n)
+          → ArePlaced graph before (if t then before else fold (placed graph d) before (successors graph n) ++ n ∷ []) (n ∷ [])
+      by true e parts = record {
+        order = h;
+        all = All-cons (λ m. list_any (nat_eq m) before ≡ true) n [] e (All-nil (λ m. list_any (nat_eq m) before ≡ true));
+        kept = λ m k. k;
+      }
+      by false e parts =
+          let between = fold (placed graph d) before (successors graph n) in
+          record {
+            order = AllFollow-push graph [] between n parts.order low.0 parts.all;
+            all = All-cons (λ m. list_any (nat_eq m) (between ++ n ∷ []) ≡ true) n [] (among_last between n) (All-nil (λ m. list_any (nat_eq m) (between ++ n ∷ []) ≡ true));
+            kept = λ m k. among_push between m n (parts.kept m k);
+          }
+
+  pub postorder_is : (needed : List ℕ) → All (λ n. n < length graph) needed → ArePlaced graph [] (postorder graph needed) needed
+  postorder_is needed within =
+      fold_placed (length graph) needed [] (λ n b l h. one_placed (length graph) n b l h)
+      (λ k d l. (within k d l, ranks.within (get_or needed k d) (within k d l))) tt
+
+-- ---- the graph of a netlist's gates
+
+pub numbers_within : (net : Parts) (signals : List Sig) → All (IsSignal net) signals → All (λ n. n < length net.gates) (numbers_from (columns net) signals)
+numbers_within net [] h = All-nil (λ n. n < length net.gates)
+numbers_within net (s ∷ rest) h = by (nat_le (columns net) s.0) refl (numbers_within net rest (All-tail (IsSignal net) s rest h))
+  where
+    by : (t : Bool) → nat_le (columns net) s.0 ≡ t → All (λ n. n < length net.gates) (numbers_from (columns net) rest) → All (λ n. n < length net.gates) (numbers_from (columns net) (s ∷ rest))
+    by true e others =
+        let low = leb-true (columns net) s.0 e in
+        let signal = All-head (IsSignal net) s rest h in
+        rw e (All-cons (λ n. n < length net.gates) (s.0 - columns net) (numbers_from (columns net) rest) (omega (arith, low, signal)) others)
+    by false e others = rw e others
+
+pub gate_successors : (net : Parts) (n : ℕ) → n < length net.gates → successors (gate_graph net) n ≡ numbers_from (columns net) (gate_at net n).pins
+gate_successors net n l = get_or-map (gates_read (columns net)) net.gates n no_gate [] l
+
+pub gate_ranks : (net : Parts) (order : List ℕ) → IsNetlist net → IsGateOrder net order → HasRanks (gate_graph net)
+gate_ranks net order valid is =
+    let size = length-gate_graph net in
+    let place : ℕ → ℕ = λ a. position_or_len (nat_eq a) order in
+    let there : (a : ℕ) → a < length net.gates → place a < length order = λ a l.
+    (let c = is.each a l in any_place (nat_eq a) order (list_any_at (nat_eq a) order c.0 a c.1 (eq-eqb a (get_or order c.0 a) (sym c.2)))) in
+    let at : (a : ℕ) → a < length net.gates → get_or order (place a) 0 ≡ a = λ a l.
+    sym (eqb-true a (get_or order (place a) 0) (passes_at_first (nat_eq a) order 0 (there a l))) in
+    let nodes : (a : ℕ) → a < length (gate_graph net) → All (λ b. b < length (gate_graph net)) (successors (gate_graph net) a) = λ a l k d m.
+    (let own : a < length net.gates = omega arith in
+    let within = numbers_within net (gate_at net a).pins (valid.pins a no_gate own) in
+    let P : List ℕ → Type 0 = λ xs. All (λ b. b < length net.gates) xs in
+    let low = subst P (sym (gate_successors net a own)) within k d m in omega (arith, low)) in
+    record {
+      rank = place;
+      within = λ a l. (let own : a < length net.gates = omega arith in let t = there a own in let same = is.size in omega arith);
+      falls = λ a b l listed.
+          (let own : a < length net.gates = omega arith in
+          let target : b < length (gate_graph net) = (let P : ℕ → Type 0 = λ x. x < length (gate_graph net) in subst P listed.2 (nodes a l listed.0 b listed.1)) in
+          let low : b < length net.gates = omega arith in
+          let feeds = edge_feeds net b a (record { source = l; target = target; listed = listed }) in
+          is.after (place b) (place a) (there b low) (there a own) (subst (λ x. Feeds net x (get_or order (place a) 0)) (sym (at b low)) (subst (λ y. Feeds net b y) (sym (at a own)) feeds)));
+      nodes = nodes;
+    }

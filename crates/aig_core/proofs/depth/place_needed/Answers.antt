@@ -1,0 +1,24 @@
+use Rattle.std.proofs.Common.{◌≡◌, ◌<◌, ◌++◌, [], List, Some, length, map, reverse, sym, ap, ap₂, subst, ◌∙◌}
+use Rattle.std.proofs.lemmas.List.Elements.{All-nil, All-pop}
+use Rattle.aig_core.specs.declared.depth.Task.{Task}
+use Rattle.aig_core.specs.Tasks.{visit, node_of, AreWithin, finished}
+use Rattle.aig_core.proofs.DepthLemmas.{finished_visits, visits_within}
+use Rattle.aig_core.proofs.depth.place_needed.Goals as goal
+
+pub loop-task-init : goal.loop-task-init
+loop-task-init c =
+    let graph = c.args.graph.now in
+    let needed = c.args.needed.now in
+    let items : c.add_visits.new.tasks.items ≡ [] ++ map visit (reverse needed) =
+    c.in_ok-add_visits.ensures ∙ ap (λ xs. xs ++ map visit (reverse needed)) c.new-tasks.ensures.items in
+    let P : List Task → Type 0 = λ tasks. AreWithin (length graph) tasks in
+    record {
+      end = ap₂ (λ ns ts. finished graph ns ts) c.requires.nodes items ∙ finished_visits graph [] [] needed;
+      within = subst P (sym items) (visits_within (length graph) [] needed (All-nil (λ (t : Task). node_of t < length graph)) c.requires.needed);
+      marks = c.requires.marks;
+      width = c.requires.width;
+    }
+
+pub step-requires-clause-task : goal.step-requires-clause-task
+step-requires-clause-task c =
+    (All-pop (λ (t : Task). node_of t < length c.args.graph.now) c.loop-task.tasks.items c.pop.new.self.items (Some c.in-Some.task) c.in-Some.ensures.items c.loop-task.invariant.within).1

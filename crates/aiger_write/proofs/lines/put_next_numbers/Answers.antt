@@ -1,0 +1,17 @@
+use Rattle.std.proofs.Common.{◌++◌, arith}
+use Rattle.std.specs.Prelude.{codes, decimal}
+use Rattle.cyc_io.proofs.TakenLemmas.{appended_none}
+use Rattle.cyc_io.proofs.ItemLemmas.{appended_copied, appended_in_copied, appended_items}
+use Rattle.aiger_write.proofs.lines.put_next_numbers.Goals as goal
+
+pub loop-number-init : goal.loop-number-init
+loop-number-init g c = appended_none _ _ _
+
+pub loop-number-preserved : goal.loop-number-preserved
+loop-number-preserved g c = appended_copied (λ number. codes " " ++ decimal number) c.args.numbers.now c.loop-number.number-index _ _ _ _ _ _ _ _ _ (omega arith) c.loop-number.invariant c.in_ok-put_next_number.ensures
+
+pub returns-in_err-put_next_number : goal.returns-in_err-put_next_number
+returns-in_err-put_next_number g c = appended_in_copied (λ number. codes " " ++ decimal number) c.args.numbers.now c.loop-number.number-index _ _ _ _ _ _ _ _ _ _ (omega arith) c.loop-number.invariant c.in_err-put_next_number.ensures c.from_residual.ensures.0
+
+pub returns : goal.returns
+returns g c = appended_items (λ number. codes " " ++ decimal number) c.args.numbers.now c.loop-number.number-index _ _ (omega arith) c.loop-number.invariant
