@@ -17,14 +17,14 @@ use Rattle.loops.specs.declared.structure.Blocks.{Blocks}
 use Rattle.loops.specs.declared.structure.Cut.{Cut}
 use Rattle.loops.specs.declared.structure.SweepCounts.{SweepCounts}
 use Rattle.loops.specs.Blocks.{AreBlocksOf, block_at, home_of}
-use Rattle.loops.specs.Cuts.{IsCutOf, loops_by}
-use Rattle.loops.specs.Sweeps.{value_in, IsCountOfSweeps}
+use Rattle.loops.specs.Cuts.{IsCutOf, Loops, loops_by}
+use Rattle.loops.specs.Sweeps.{value_in, CutsAreFixed, IsCountOfSweeps}
 use Rattle.loops.proofs.Told.{blocks_tell_loops, home_gate}
 use Rattle.isolation.specs.Laws.{IsLooped, SettledWhere, IsDeterminedAt}
 use Rattle.isolation.specs.Settled.{SettleInSweeps}
 use Rattle.isolation.proofs.CountLemmas.{one_sweep_is_exact}
 use Rattle.isolation.proofs.SettledLemmas.{unsettled_loops_decide}
-use Rattle.third_rail.specs.Knowing.{is_marked, number_of}
+use Rattle.isolation.specs.Cones.{is_marked}
 use Rattle.care_sets.specs.Care.{CareSet, columns, is_one, is_care_vector, holds_at, IsCareVector}
 use Rattle.care_sets.specs.declared.model.CareModel.{CareModel}
 use Rattle.refusals.specs.declared.refusal.Refusal.{Refusal}
@@ -35,7 +35,9 @@ use Rattle.refusals.specs.Refusals.{is_empty, is_x, is_among, is_undetermined, c
 use Rattle.refusals.proofs.FirstLemmas.{empty-filter, found_passes, found_wide, nothing_passes}
 use Rattle.refusals.proofs.RefusalLemmas.{bit_known, fails_after, find_none-all, gate_sig_at, gate_wire, known-is_x, length-fix_gates, length-gate_sigs}
 use Rattle.refusals.proofs.ShowingLemmas.{care_vector_decides, care_vector_is}
-use Rattle.verdict.specs.Determination.{count_of, AreCountsBelow, AreDecided, AreDeterminedOnCare, IsDetermination, IsGate, IsOpen, SettleInOneSweep}
+use Rattle.verdict.specs.Determination.{count_of, number_of, AreCountsBelow, AreDecided, AreDeterminedOnCare, IsDetermination, IsGate, IsOpen, SettleInOneSweep}
+use Rattle.clause_decision.specs.Sweeping.{IsLeastCount}
+use Rattle.verdict.specs.Scopes.{AreCountsAt, IsCountAt}
 use Rattle.verdict.specs.Laws.{DeterminationsAccept, NothingLeaves}
 use Rattle.verdict.specs.Observed.{AreMarksOf}
 use Rattle.verdict.specs.Verdicts.{are_care_values}
@@ -62,7 +64,7 @@ bits-of-care net care v is =
     }
 
 -- there is a care vector
-some_vector : (net : Parts) (care : CareSet) → empty_refusal net care ≡ None → SomeCareVector net care
+pub some_vector : (net : Parts) (care : CareSet) → empty_refusal net care ≡ None → SomeCareVector net care
 some_vector net care none = by (find (is_care_vector net care) (vectors (columns net))) refl
   where
     filled : (t : Bool) → (let nothing : Option Refusal = None in if t then Some EmptyCare else nothing) ≡ None → t ≡ false
@@ -109,16 +111,47 @@ counts-more blocks settled others n count counts before is = record {
   ];
 }
 
--- where all places are marked, no loop is left to decide
-pub none-open : (net : Parts) (blocks : Blocks) → AreBlocksOf net blocks → (cut : Cut) (care : CareSet) (settled : List Bool) (counts : List ℕ) → length settled ≡ length blocks.list →
-    ((k : ℕ) → k < length settled → is_marked settled k ≡ true) → AreDecided net blocks cut care settled counts
-none-open net blocks are cut care settled counts wide all = record {
-  determined = λ v is n is_open. absurd (no n is_open);
-  sweeps = λ n is_open. absurd (no n is_open);
+-- the least number of sweeps at Boolean care vectors is that of the loop on care
+least-count : (net : Parts) (loops : Loops) (care : CareSet) (a m : ℕ) → IsLeastCount net loops care a m → IsCountOfSweeps net loops (are_care_values net care) a m
+least-count net loops care a m is = record {
+  enough = λ v counts. let b = bits-of-care net care v counts in subst (λ (u : List Trit). CutsAreFixed net loops u a m) (sym b.is) (is.enough b.vector b.counts);
+  least = λ k all. elim (cases_lt k m) [
+    | inl low ↦
+        let more = is.least k low in
+        absurd (more.open_cuts (all (bits more.vector) (care-values net care more.vector more.counts.width (care_vector_is net care more.vector more.counts))))
+    | inr high ↦ high
+  ];
 }
-  where
-    no : (n : ℕ) → IsOpen net blocks settled n → ⊥
-    no n is_open = true≢false (sym (all (home_of blocks n) (let h = are.home n is_open.within in omega (arith, wide, h))) ∙ is_open.unsettled)
+
+-- the loops that aren't settled are decided, where their gates are known on care and their sweeps are counted
+pub open-decided : (net : Parts) (blocks : Blocks) → AreBlocksOf net blocks → (cut : Cut) (care : CareSet) (settled : List Bool) (counts : List ℕ) → length settled ≡ length blocks.list →
+    AreDeterminedOnCare net care (IsOpen net blocks settled) → AreCountsAt net blocks cut care settled (length settled) counts → AreDecided net blocks cut care settled counts
+open-decided net blocks are cut care settled counts wide known at = record {
+  determined = known;
+  sweeps = λ n is_open.
+      least-count net (loops_by blocks cut) care n (number_of counts (home_of blocks n))
+      (at.each (home_of blocks n) (let h = are.home n is_open.within in omega (arith, wide, h)) is_open.looped is_open.unsettled n (home_gate net blocks are n is_open.within));
+}
+
+-- where the gates of open loops are known on care, all are
+pub open-determine : (net : Parts) → IsNetlist net → (blocks : Blocks) → AreBlocksOf net blocks → (care : CareSet) (settled : List Bool) → SettleInOneSweep net blocks settled →
+    AreDeterminedOnCare net care (IsOpen net blocks settled) → AreDeterminedOnCare net care (IsGate net)
+open-determine net valid blocks are care settled soon known v is n within =
+    unsettled_loops_decide net blocks (is_marked settled) valid are (λ b inside loop marked. (soon b inside loop marked).alone) v is.width n within
+    (λ m less up loop unsettled. known v is m (record { within = less; looped = loop; unsettled = unsettled }))
+
+-- one place more is counted
+pub counts_at-more : (net : Parts) (blocks : Blocks) (cut : Cut) (care : CareSet) (settled : List Bool) (n count : ℕ) (counts : List ℕ) → AreCountsAt net blocks cut care settled n counts → IsCountAt net blocks cut care settled n count →
+    AreCountsAt net blocks cut care settled (n + 1) (counts ++ count ∷ [])
+counts_at-more net blocks cut care settled n count counts before is = record {
+  width = length_push counts count ∙ ap (λ m. m + 1) before.width;
+  each = λ place less. elim (cases_lt place n) [
+    | inl low ↦ subst (IsCountAt net blocks cut care settled place) (sym (get_or_append_left counts (count ∷ []) 0 place (let w = before.width in omega (arith, w, low)))) (before.each place low)
+    | inr high ↦
+        let here : n ≡ place = omega (arith, less, high) in
+        subst (IsCountAt net blocks cut care settled place) (sym (get_or_push counts count 0 place (let w = before.width in omega (arith, w, here)))) (subst (λ p. IsCountAt net blocks cut care settled p count) here is)
+  ];
+}
 
 module _ (net : Parts) (valid : IsNetlist net) (blocks : Blocks) (are : AreBlocksOf net blocks) (cut : Cut) (cut_is : IsCutOf net cut) (care : CareSet) (some : empty_refusal net care ≡ None)
     (settled : List Bool) (others : List ℕ) (soon : SettleInOneSweep net blocks settled) (decided : AreDecided net blocks cut care settled others) where

@@ -30,7 +30,8 @@ use Rattle.refusals.specs.Refusals.{next_state}
 use Rattle.refusals.proofs.RefusalLemmas.{next_state_is, length-fix_gates, length-next_state}
 use Rattle.refusals.proofs.ShowingLemmas.{care_vector_decides}
 use Rattle.verdict.specs.Enough.{read_by, IsOfModel, IsLaid, SaysCare, IsOfNext}
-use Rattle.verdict.specs.Next.{next_within, LoadsAreKnown}
+use Rattle.clause_decision.specs.Loads.{LoadsAreKnown}
+use Rattle.verdict.specs.Next.{next_within}
 use Rattle.verdict.specs.Sets.{Tells, difference}
 use Rattle.verdict.proofs.CareLemmas.{model_is}
 use Rattle.verdict.proofs.DecisionLemmas.{IsMadeOf, vector_of, length-vector_of, laid-vector_of, made-laid, made-listed, made-told, made-two, made-signal}

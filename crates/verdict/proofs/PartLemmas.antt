@@ -40,7 +40,7 @@ use Rattle.refusals.proofs.FirstLemmas.{find-map, find-filter, any-find, nothing
 use Rattle.refusals.proofs.ShowingLemmas.{care_vector_decides}
 use Rattle.refusals.proofs.RefusalLemmas.{length-gate_sigs, length-fix_gates, gate_sig_at, gate_wire, known-is_x, fails_after, find_none-all, no_first, next_state_is}
 use Rattle.refusals.proofs.LawLemmas.{care_test, observed_test, is_loose}
-use Rattle.verdict.specs.Next.{LoadsAreKnown}
+use Rattle.clause_decision.specs.Loads.{LoadsAreKnown}
 use Rattle.verdict.specs.Observed.{AreMarksOf}
 use Rattle.verdict.specs.Sets.{Tells, AreFixed, starts, has_state_inside, difference, ReadsWithin}
 use Rattle.verdict.specs.Verdicts.{AreLoose}

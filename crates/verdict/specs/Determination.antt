@@ -1,5 +1,5 @@
 -- Netlists whose gates are all determined on care, and how their loops are seen to be so.
-use Rattle.std.specs.Prelude.{◌≡◌, ◌≢◌, ◌<◌, ◌≤◌, ℕ, Bool, true, false, not, if◌then◌else◌, List, length}
+use Rattle.std.specs.Prelude.{◌≡◌, ◌≢◌, ◌<◌, ◌≤◌, ℕ, Bool, true, false, not, if◌then◌else◌, List, length, slice_index_or}
 use Rattle.bdd_store.specs.Arena.{constant}
 use Rattle.cyc_base.specs.declared.trit.Trit.TheVariants.{X}
 use Rattle.cyc_base.specs.Values.{bits}
@@ -14,10 +14,13 @@ use Rattle.loops.specs.Cuts.{is_cut, loops_by}
 use Rattle.loops.specs.Sweeps.{value_in, CutsAreFixed, IsCountOfSweeps}
 use Rattle.isolation.specs.Laws.{IsLooped}
 use Rattle.isolation.specs.Settled.{SettleInSweeps}
-use Rattle.third_rail.specs.Knowing.{AreKnown, is_marked, number_of}
+use Rattle.isolation.specs.Cones.{is_marked}
 use Rattle.care_sets.specs.Care.{CareSet, is_care_vector, IsCareVector}
-use Rattle.verdict.specs.declared.known.Known.{Known}
 use Rattle.verdict.specs.Verdicts.{AreSweepsOnCare, are_care_values}
+
+-- the number at a place
+abbrev pub number_of : List ℕ → ℕ → ℕ
+number_of counts n = slice_index_or counts n 0
 
 -- no gate of the kind is X in the fixpoint of a care vector
 abbrev pub AreDeterminedOnCare : Parts → CareSet → (ℕ → Type 0) → Type 0
@@ -58,25 +61,3 @@ count_of blocks settled others b = if (block_at blocks b).looped then (if is_mar
 pub record AreCountsBelow (blocks : Blocks) (settled : List Bool) (others : List ℕ) (n : ℕ) (counts : List ℕ) : Type 0 where
   pub width : length counts ≡ n
   pub each : (b : ℕ) → b < n → number_of counts b ≡ count_of blocks settled others b
-
--- ---- loops that are known whatever the data
-
--- the marked gates are known on care, after so many sweeps, and these are care vectors
-pub record IsKnown (net : Parts) (blocks : Blocks) (cut : Cut) (care : CareSet) (marks : List Bool) (known : Known) : Type 0 where
-  pub loops : AreKnown net (loops_by blocks cut) (is_care_vector net care) marks known.since
-  pub vector : IsCareVector net care known.vector
-  pub other : IsCareVector net care known.other
-
--- a block's number is at least that of each of its cut wires
-abbrev pub BoundSweeps : Parts → Blocks → Cut → List ℕ → List ℕ → Type 0
-BoundSweeps net blocks cut since bounds = (n : ℕ) → n < length net.gates → is_cut cut.wires n ≡ true →
-    number_of since n ≤ number_of bounds (home_of blocks n)
-
--- the rails of a constant
-abbrev pub constant_rails : Bool → Rails
-constant_rails b = record { one = constant b; zero = constant (not b) }
-
--- at this vector each loop needs at least so many sweeps
-abbrev pub AreNeededAt : Parts → Blocks → Cut → List Bool → List ℕ → Type 0
-AreNeededAt net blocks cut vector counts = (n : ℕ) → n < length net.gates → IsLooped blocks n →
-    (k : ℕ) → CutsAreFixed net (loops_by blocks cut) (bits vector) n k → number_of counts (home_of blocks n) ≤ k

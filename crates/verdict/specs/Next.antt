@@ -27,7 +27,3 @@ IsSignalOn net a set signal bit g = (v : List Bool) → length v ≡ a.vars →
 abbrev pub BoundsSignals : Parts → Arena → Node → ℕ → Type 0
 BoundsSignals net a set w = (signal : ℕ) (bit : Bool) → signal < count net →
     (g : List Bool → Bool) → IsSignalOn net a set signal bit g → nodes a.vars g ≤ w
-
--- on care, what the latches load is known
-abbrev pub LoadsAreKnown : Parts → CareSet → Type 0
-LoadsAreKnown net care = (v : List Bool) → IsCareVector net care v → All (λ latch. wire (fix net (bits v)) latch.from ≢ X) net.latches

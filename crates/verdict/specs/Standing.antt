@@ -6,8 +6,8 @@ use Rattle.loops.specs.declared.structure.Cut.{Cut}
 use Rattle.care_sets.specs.Care.{CareSet}
 use Rattle.refusals.specs.Refusals.{undetermined_refusal}
 use Rattle.refusals.specs.declared.observe.Observe.{Observe}
-use Rattle.verdict.specs.declared.standing.Standing.{Standing}
-use Rattle.verdict.specs.declared.standing.Standing.TheVariants as standing
+use Rattle.verdict.specs.declared.clauses.Standing.{Standing}
+use Rattle.verdict.specs.declared.clauses.Standing.TheVariants as standing
 use Rattle.verdict.specs.Determination.{IsDetermination}
 
 -- no gate is unknown on care, or an observed one refuses the netlist, or nothing is said

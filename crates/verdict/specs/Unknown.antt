@@ -1,15 +1,17 @@
 -- The refusal of a gate that is unknown on care, found on cones.
-use Rattle.std.specs.Prelude.{◌≡◌, ◌<◌, ℕ, Bool, true, List, length, Contains}
+use Rattle.std.specs.Prelude.{◌≡◌, ◌<◌, ℕ, Bool, true, None, List, length, find}
 use Rattle.netlist.specs.declared.parts.Parts.{Parts}
 use Rattle.netlist.specs.Netlists.{gate_sig}
 use Rattle.loops.specs.declared.structure.Blocks.{Blocks}
 use Rattle.isolation.specs.Cones.{is_marked}
 use Rattle.isolation.specs.Laws.{IsUpstream}
-use Rattle.care_sets.specs.Care.{CareSet}
+use Rattle.cyc_base.specs.Vectors.{vectors}
+use Rattle.care_sets.specs.Care.{CareSet, columns}
+use Rattle.clause_decision.specs.Tests.{is_unknown_at}
 use Rattle.refusals.specs.Acceptance.{observed}
 use Rattle.refusals.specs.Refusals.{is_among}
 use Rattle.refusals.specs.declared.observe.Observe.{Observe}
-use Rattle.verdict.specs.Determination.{AreDeterminedOnCare, IsGate, IsOpen}
+use Rattle.verdict.specs.Determination.{IsOpen}
 
 -- Gates that are asked for: they are observed, and with each of them all observed ones before it are asked for.
 pub record AreAsked (net : Parts) (what : Observe) (asked : List Bool) : Type 0 where
@@ -23,17 +25,13 @@ pub record IsBehindOpen (net : Parts) (blocks : Blocks) (settled : List Bool) (n
   pub opened : IsOpen net blocks settled gate
   pub upstream : IsUpstream net gate n
 
--- those among the gates asked for are marked
+-- those among the gates asked for are marked, and no others
 pub record AreSuspects (net : Parts) (blocks : Blocks) (settled asked marks : List Bool) : Type 0 where
   pub width : length marks ≡ length net.gates
   pub each : (n : ℕ) → is_marked asked n ≡ true → IsBehindOpen net blocks settled n → is_marked marks n ≡ true
+  pub only : (n : ℕ) → is_marked marks n ≡ true → is_marked asked n ≡ true
 
--- a gate that is asked for, and isn't one of these
-pub record IsAskedBeside (net : Parts) (asked : List Bool) (gates : List ℕ) (n : ℕ) : Type 0 where
-  pub within : IsGate net n
-  pub wanted : is_marked asked n ≡ true
-  pub apart : ¬ Contains gates n
-
--- no gate is unknown on care that is asked for, and isn't one of these
-abbrev pub DecideAsked : Parts → CareSet → List Bool → List ℕ → Type 0
-DecideAsked net care asked gates = AreDeterminedOnCare net care (IsAskedBeside net asked gates)
+-- an observed gate, before which no observed one is unknown on care
+pub record IsFirstToRefuse (net : Parts) (care : CareSet) (what : Observe) (n : ℕ) : Type 0 where
+  pub seen : is_among (observed net what) (gate_sig net n) ≡ true
+  pub before : (m : ℕ) → m < n → is_among (observed net what) (gate_sig net m) ≡ true → find (is_unknown_at net care m) (vectors (columns net)) ≡ None

@@ -2,47 +2,15 @@
 
 ghost use Rattle.std.specs.Prelude.{◌≡◌, ◌<◌, ◌≤◌, true, not, length, map, All, IfOk};
 ghost use Rattle.loops.specs.Blocks.{AreBlocksOf, block_at};
-ghost use Rattle.fixpoint.specs.Working.{HasLargeCover};
 ghost use Rattle.isolation.specs.Settled.{SettleInSweeps};
-ghost use Rattle.third_rail.specs.Knowing.{is_marked};
+ghost use Rattle.isolation.specs.Cones.{is_marked};
 ghost use Rattle.verdict.specs.Determination.{SettleInOneSweep};
 
-use bdd_ops::Diagrams;
-use bdd_store::StoreFault;
 use cyc_base::MAX_NODES;
-use dual_rail::local;
 use isolation::settles_alone;
 use loops::Blocks;
 use netlist::Netlist;
 use std::alloc::{AllocError, Global};
-
-/// How many nodes there may be.
-pub(crate) fn limit_of(d: &Diagrams) -> u32
-    ensures limit { result ≡ d.now.limit }
-    ensures most { result ≤ MAX_NODES }
-{
-    d.store().limit()
-}
-
-/// Whether the diagram of a cover of so many pins may have more nodes than the limit: it has at most one less than two
-/// to their number.
-fn may_exceed(pins: usize, limit: u32) -> bool {
-    pins >= 32 || (1u64 << pins) - 1 > u64::from(limit)
-}
-
-/// Full where a cover has more nodes than the limit, as it would be in the netlist's own diagrams.
-pub(crate) fn fit_covers(alloc: Global, net: &Netlist, limit: u32) -> Result<(), StoreFault>
-    requires { limit ≤ MAX_NODES }
-    ensures full { result ≡ Err StoreFault.Full → HasLargeCover net.now limit }
-{
-    for gate in 0..net.gates() {
-        let cover = &net.gate(gate).cover;
-        if may_exceed(cover.pins(), limit) {
-            let _ = local(alloc, cover, limit)?;
-        }
-    }
-    Ok(())
-}
 
 /// Whether the block at this place is settled by itself in one sweep, or is no loop.
 fn is_settled(

@@ -55,7 +55,7 @@ fn are_reached(net: &Netlist, gates: &[u32], marks: &[bool]) -> bool
 }
 
 /// Marks these gates.
-fn mark_all(gates: &[u32], marks: &mut [bool])
+pub(crate) fn mark_all(gates: &[u32], marks: &mut [bool])
     requires { All (λ n. n < length marks.old) gates.now }
     ensures { AddMarks (Contains gates.now) marks.old marks.new }
 {
@@ -76,7 +76,7 @@ fn mark_reached(net: &Netlist, gates: &[u32], marks: &mut [bool])
 }
 
 /// The gates of the block at this place.
-fn gates_at<'a>(net: &Netlist, blocks: &'a Blocks, place: usize) -> &'a [u32]
+pub(crate) fn gates_at<'a>(net: &Netlist, blocks: &'a Blocks, place: usize) -> &'a [u32]
     requires blocks { AreBlocksOf net.now blocks.now }
     requires place { place < length blocks.now.list }
     ensures is { result.now ≡ (block_at blocks.now place).gates }

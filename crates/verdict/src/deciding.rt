@@ -1,22 +1,22 @@
 //! The decision.
 
-ghost use Rattle.std.specs.Prelude.{◌≡◌, ◌≤◌, ◌⊎◌, IfOk, IfErr};
+ghost use Rattle.std.specs.Prelude.{◌≡◌, ◌≤◌, ◌⊎◌, ◌+◌, IfOk, IfErr, IfSome};
 ghost use Rattle.care_sets.specs.Binding.{IsCareOf};
 ghost use Rattle.care_sets.specs.Care.{columns, is_care_vector};
 ghost use Rattle.loops.specs.Blocks.{AreBlocksOf};
 ghost use Rattle.loops.specs.Cuts.{IsCutOf};
 ghost use Rattle.fixpoint.specs.Orders.{order as order_of};
 ghost use Rattle.verdict.specs.Causes.{IsOutOfNodes};
-ghost use Rattle.verdict.specs.Costs.{later_cost, solved_cost, whole_cost};
+ghost use Rattle.verdict.specs.Costs.{later_cost, solved_cost, start_cost, whole_cost};
 ghost use Rattle.verdict.specs.Enough.{AddsInDecision, GrowsInDecision, IsFullFor, IsBelowEnough};
 ghost use Rattle.verdict.specs.Sets.{AreFixed, Tells};
 ghost use Rattle.isolation.specs.Columns.{AreColumns};
 ghost use Rattle.verdict.specs.Verdicts.{later_refusal, IsCareStart, IsSolvedWhole, IsVerdict, StandSo};
 
-use crate::alone::limit_of;
 use crate::beginning::{Start, begin};
-use crate::early::early_verdict;
+use crate::clauses::verdict_by_clauses;
 use crate::fault::DecideFault;
+use crate::fitting::{fit_all, limit_of};
 use crate::gates::Gates;
 use crate::refusing::{gates_on, leaves};
 use crate::solving::{Fixpoint, solve_beside};
@@ -32,7 +32,14 @@ use isolation::column_rails;
 use loops::{Blocks, Cut};
 use netlist::Netlist;
 use refusals::Observe;
-use std::alloc::Global;
+use std::alloc::{AllocError, Global};
+
+/// How many conflicts a search may meet in the first try by clauses, and in the second.
+const FEW_CONFLICTS: u64 = 20_000;
+const MANY_CONFLICTS: u64 = 2_000_000;
+
+/// How many nodes the diagrams may have between these.
+const FEW_NODES: u32 = 200_000;
 
 /// The refusal of an undetermined gate that is observed, or else of a state that leaves the invariant, or else how
 /// many gates are unknown on care. `set` are the vectors of care, and the rails of all signals stand for the fixpoint.
@@ -133,8 +140,8 @@ fn judge_whole(
     judge_solved(alloc, d, net, blocks, care, order, observe, &found)
 }
 
-/// The verdict where some vectors are those of care: it is seen on loops and cones alone, or else by all gates.
-fn judge_care(
+/// The verdict by diagrams, which have a variable for each column. These are the rails of the columns.
+fn judge(
     alloc: Global,
     d: &mut Diagrams,
     net: &Netlist,
@@ -144,7 +151,6 @@ fn judge_care(
     order: &[u32],
     observe: Observe,
     rails: &[Rails],
-    set: Node,
 ) -> Result<Verdict, StoreFault>
     requires blocks { AreBlocksOf net.now blocks.now }
     requires cut { IsCutOf net.now cut.now }
@@ -152,22 +158,95 @@ fn judge_care(
     requires vars { d.old.vars ≡ columns net.now }
     requires order { order.now ≡ order_of net.now }
     requires columns { AreColumns d.old (order_of net.now) rails.now }
-    requires start { IsCareStart net.now care.now d.old set }
     ensures verdict { IfOk result (IsVerdict net.now blocks.now cut.now care.now observe) }
     ensures vars { d.new.vars ≡ d.old.vars }
     ensures limit { d.new.limit ≡ d.old.limit }
-    ensures adds { AddsInDecision result d.old d.new net.now care.now (whole_cost net.now care.now) }
+    ensures adds { AddsInDecision result d.old d.new net.now care.now (start_cost net.now care.now + whole_cost net.now care.now) }
 {
-    let limit = limit_of(d);
-    let early = early_verdict(alloc, net, blocks, cut, care, observe, limit)?;
-    match early {
-        Some(verdict) => Ok(verdict),
-        None => judge_whole(alloc, d, net, blocks, cut, care, order, observe, rails, set),
+    match begin(alloc, d, net, care, order, rails)? {
+        Start::Care(set) => {
+            judge_whole(alloc, d, net, blocks, cut, care, order, observe, rails, set)
+        }
+        Start::Refused(refusal) => Ok(Verdict::Refused(refusal)),
     }
 }
 
-/// The verdict, on diagrams that have a variable for each column and no nodes.
-fn judge(
+/// The verdict by diagrams that have a variable for each column and no nodes.
+fn judge_from_columns(
+    alloc: Global,
+    d: &mut Diagrams,
+    net: &Netlist,
+    blocks: &Blocks,
+    cut: &Cut,
+    care: &Care,
+    observe: Observe,
+) -> Result<Verdict, StoreFault>
+    requires blocks { AreBlocksOf net.now blocks.now }
+    requires cut { IsCutOf net.now cut.now }
+    requires care { IsCareOf net.now care.now }
+    requires vars { d.old.vars ≡ columns net.now }
+    ensures { IfOk result (IsVerdict net.now blocks.now cut.now care.now observe) }
+{
+    let order = order(alloc, net)?;
+    let rails = column_rails(alloc, d, &order)?;
+    judge(alloc, d, net, blocks, cut, care, &order, observe, &rails)
+}
+
+/// The verdict by diagrams of their own, of at most so many nodes, or none where these don't do.
+fn verdict_by_diagrams(
+    alloc: Global,
+    net: &Netlist,
+    blocks: &Blocks,
+    cut: &Cut,
+    care: &Care,
+    observe: Observe,
+    limit: u32,
+) -> Result<Option<Verdict>, AllocError>
+    requires blocks { AreBlocksOf net.now blocks.now }
+    requires cut { IsCutOf net.now cut.now }
+    requires care { IsCareOf net.now care.now }
+    requires limit { limit ≤ MAX_NODES }
+    ensures { IfOk result (λ found. IfSome found (IsVerdict net.now blocks.now cut.now care.now observe)) }
+{
+    let mut d = Diagrams::new(alloc, net.inputs() + net.latches(), limit)?;
+    match judge_from_columns(alloc, &mut d, net, blocks, cut, care, observe) {
+        Ok(verdict) => Ok(Some(verdict)),
+        Err(StoreFault::Full) => Ok(None),
+        Err(StoreFault::Memory) => Err(AllocError),
+    }
+}
+
+/// What is tried before the handed-in diagrams are filled: clauses for a while, diagrams for a while, and clauses for
+/// long. A direction that is chosen by a parity, once as a chain and once as a tree, is quick for diagrams and endless for
+/// clauses; a multiplier in a loop is the other way round.
+fn early_verdict(
+    alloc: Global,
+    net: &Netlist,
+    blocks: &Blocks,
+    cut: &Cut,
+    care: &Care,
+    observe: Observe,
+    limit: u32,
+) -> Result<Option<Verdict>, AllocError>
+    requires blocks { AreBlocksOf net.now blocks.now }
+    requires cut { IsCutOf net.now cut.now }
+    requires care { IsCareOf net.now care.now }
+    requires limit { limit ≤ MAX_NODES }
+    ensures { IfOk result (λ found. IfSome found (IsVerdict net.now blocks.now cut.now care.now observe)) }
+{
+    if let Some(verdict) = verdict_by_clauses(alloc, net, blocks, cut, care, observe, FEW_CONFLICTS)? {
+        return Ok(Some(verdict));
+    }
+    let few = limit.min(FEW_NODES);
+    if let Some(verdict) = verdict_by_diagrams(alloc, net, blocks, cut, care, observe, few)? {
+        return Ok(Some(verdict));
+    }
+    verdict_by_clauses(alloc, net, blocks, cut, care, observe, MANY_CONFLICTS)
+}
+
+/// The verdict, on diagrams that have a variable for each column and no nodes. Where the columns don't fit, or a cover
+/// of the netlist or of a care model, nothing else is tried.
+fn decide_on(
     alloc: Global,
     d: &mut Diagrams,
     net: &Netlist,
@@ -185,11 +264,11 @@ fn judge(
 {
     let order = order(alloc, net)?;
     let rails = column_rails(alloc, d, &order)?;
-    match begin(alloc, d, net, care, &order, &rails)? {
-        Start::Care(set) => judge_care(
-            alloc, d, net, blocks, cut, care, &order, observe, &rails, set,
-        ),
-        Start::Refused(refusal) => Ok(Verdict::Refused(refusal)),
+    let limit = limit_of(d);
+    fit_all(alloc, net, care, limit)?;
+    match early_verdict(alloc, net, blocks, cut, care, observe, limit)? {
+        Some(verdict) => Ok(verdict),
+        None => judge(alloc, d, net, blocks, cut, care, &order, observe, &rails),
     }
 }
 
@@ -232,7 +311,7 @@ pub fn decide(
     if d.start(net.inputs() + net.latches(), limit).is_err() {
         return Err(DecideFault::Memory);
     }
-    match judge(alloc, d, net, blocks, cut, care, observe) {
+    match decide_on(alloc, d, net, blocks, cut, care, observe) {
         Ok(verdict) => Ok(verdict),
         Err(StoreFault::Full) => Err(DecideFault::NodeLimit { nodes: limit }),
         Err(StoreFault::Memory) => Err(DecideFault::Memory),

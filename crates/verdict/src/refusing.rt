@@ -11,7 +11,7 @@ ghost use Rattle.netlist.specs.Netlists.{IsNetlist};
 ghost use Rattle.refusals.specs.Refusals.{initial_refusal as initial_refusal_of, undetermined_refusal, leaves_refusal};
 ghost use Rattle.verdict.specs.Costs.{leaving_cost};
 ghost use Rattle.verdict.specs.Enough.{GrowsInDecision, IsWideOn};
-ghost use Rattle.verdict.specs.Next.{LoadsAreKnown};
+ghost use Rattle.clause_decision.specs.Loads.{LoadsAreKnown};
 ghost use Rattle.verdict.specs.Verdicts.{StandSo};
 ghost use Rattle.verdict.specs.Sets.{Tells, BoundsBoth, AreFixed, difference, unknown_in, starts as starts_in, has_state_inside};
 

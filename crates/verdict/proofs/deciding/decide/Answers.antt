@@ -5,8 +5,8 @@ use Rattle.verdict.proofs.CauseLemmas.{out_of_nodes, below_enough}
 use Rattle.verdict.proofs.deciding.decide.Goals as goal
 use Rattle.verdict.proofs.deciding.decide.Goals.{In-Err-Full}
 
-full : (c : In-Err-Full) → IsFullFor c.start.new.self c.judge.new.d c.args.net.now c.args.care.now
-full c = c.judge.ensures.full (c.in-Err-Full.is ∙ ap {A = StoreFault} Err c.in-Err-Full.field-0-is)
+full : (c : In-Err-Full) → IsFullFor c.start.new.self c.decide_on.new.d c.args.net.now c.args.care.now
+full c = c.decide_on.ensures.full (c.in-Err-Full.is ∙ ap {A = StoreFault} Err c.in-Err-Full.field-0-is)
 
 -- the diagrams were begun anew
 same_limit : (c : In-Err-Full) → c.start.new.self.limit ≡ c.args.limit

@@ -1,0 +1,44 @@
+-- What is decided without the gates: initial states and the care set.
+use Rattle.std.proofs.Common.{◌≡◌, Bool, true, false, not, List, length, Option, Some, None, refl, sym, ap, ◌∙◌, subst, true≢false}
+use Rattle.std.specs.Prelude.{find, is_none, is_some, if◌then◌else◌}
+use Rattle.std.specs.Option.{option_map}
+use Rattle.cyc_base.specs.Vectors.{vectors}
+use Rattle.netlist.specs.declared.parts.Parts.{Parts}
+use Rattle.care_sets.specs.Care.{CareSet, columns, is_in_invariant, is_care_vector}
+use Rattle.refusals.specs.declared.observe.Observe.{Observe}
+use Rattle.refusals.specs.declared.refusal.Refusal.{Refusal}
+use Rattle.refusals.specs.declared.refusal.Refusal.TheVariants.{Initial, EmptyCare}
+use Rattle.refusals.specs.Refusals.{is_initial, care_vectors, is_empty, initial_refusal, empty_refusal, refusal}
+use Rattle.refusals.proofs.FirstLemmas.{find-filter, empty-filter}
+use Rattle.clause_queries.specs.Vectors.{TellsWhetherAny}
+use Rattle.clause_decision.specs.Tests.{is_outside}
+use Rattle.verdict.specs.Scopes.{MayGoOn}
+use Rattle.verdict.proofs.VerdictLemmas.{refused-initial, refused-empty}
+
+-- the refusal is that of the first permitted state outside the invariant
+pub initial-first : (net : Parts) (care : CareSet) → initial_refusal net care ≡ option_map Initial (find (is_outside net care) (vectors (length net.latches)))
+initial-first net care = ap (option_map Initial) (find-filter (λ q. not (is_in_invariant care q)) (is_initial net) (vectors (length net.latches)))
+
+pub initial-none : (net : Parts) (care : CareSet) → find (is_outside net care) (vectors (length net.latches)) ≡ None → initial_refusal net care ≡ None
+initial-none net care none = initial-first net care ∙ ap (option_map Initial) none
+
+pub initial-refuses : (net : Parts) (care : CareSet) (what : Observe) (q : List Bool) → find (is_outside net care) (vectors (length net.latches)) ≡ Some q → refusal net care what ≡ Some (Initial q)
+initial-refuses net care what q found = refused-initial net care what (Initial q) (sym (initial-first net care ∙ ap (option_map Initial) found))
+
+-- whether there is a care vector
+some-none : (o : Option (List Bool)) → is_none o ≡ not (is_some o)
+some-none None = refl
+some-none (Some v) = refl
+
+empty-is : (net : Parts) (care : CareSet) (some : Bool) → is_some (find (is_care_vector net care) (vectors (columns net))) ≡ some → is_empty (care_vectors net care) ≡ not some
+empty-is net care some is = empty-filter (is_care_vector net care) (vectors (columns net)) ∙ some-none _ ∙ ap not is
+
+pub care-some : (net : Parts) (care : CareSet) → is_some (find (is_care_vector net care) (vectors (columns net))) ≡ true → initial_refusal net care ≡ None → MayGoOn net care
+care-some net care is initial = record {
+  initial = initial;
+  some = ap (λ (t : Bool). let nothing : Option Refusal = None in if t then Some EmptyCare else nothing) (empty-is net care true is);
+}
+
+pub care-none : (net : Parts) (care : CareSet) (what : Observe) → is_some (find (is_care_vector net care) (vectors (columns net))) ≡ false → initial_refusal net care ≡ None → refusal net care what ≡ Some EmptyCare
+care-none net care what is initial =
+    refused-empty net care what initial (ap (λ (t : Bool). let nothing : Option Refusal = None in if t then Some EmptyCare else nothing) (empty-is net care false is))

@@ -1,0 +1,117 @@
+-- Which gates the clauses of a question speak of.
+use Rattle.std.proofs.Common.{◌≡◌, ◌≢◌, inl, inr, ℕ, ◌+◌, ◌-◌, ◌<◌, Bool, true, false, not, List, [], ◌∷◌, ◌++◌, length, map, get_or, slice_get, Option, Some, None, IfSome, subst, refl, sym, ap, ◌∙◌, arith, true≢false, Contains}
+use Rattle.std.specs.List.{All}
+use Rattle.std.specs.Option.{option_map_or}
+use Rattle.std.proofs.lemmas.Bool.{cases_lt}
+use Rattle.std.proofs.lemmas.List.Elements.{All-push, Contains-append_left, Contains-append_right}
+use Rattle.std.proofs.lemmas.Option.{get_or_from_slice_get}
+use Rattle.cyc_base.specs.declared.sig.Sig.{Sig}
+use Rattle.std.proofs.lemmas.List.{get_or-map, get_or_default}
+use Rattle.netlist.specs.declared.parts.Parts.{Parts}
+use Rattle.netlist.specs.declared.parts.Latch.{Latch}
+use Rattle.netlist.specs.Netlists.{gate_sig, IsNetlist}
+use Rattle.netlist.specs.Walks.{Feeds}
+use Rattle.loops.specs.declared.structure.Blocks.{Blocks}
+use Rattle.loops.specs.Blocks.{AreBlocksOf}
+use Rattle.loops.proofs.Walks.{leads-step}
+use Rattle.isolation.specs.Cones.{is_marked, AddMarks, AreUpstreamMarks}
+use Rattle.isolation.proofs.SettledLemmas.{unsettled_loops_decide}
+use Rattle.isolation.proofs.UpstreamLemmas.{upstream-trans}
+use Rattle.care_sets.specs.declared.model.CareModel.{CareModel}
+use Rattle.care_sets.specs.Care.{CareSet}
+use Rattle.clause_decision.specs.declared.scope.Scope.{Scope}
+use Rattle.clause_decision.specs.Loads.{HasLoads}
+use Rattle.clause_decision.specs.Scopes.{AreClosed, AreInScope, AreNeverUnknown}
+use Rattle.verdict.specs.Behind.{AreDownstreamMarks}
+use Rattle.verdict.specs.Determination.{IsOpen, SettleInOneSweep}
+use Rattle.verdict.specs.Scopes.{AreDrivers, AreDriversBefore}
+
+not-false : (b : Bool) → not b ≡ true → b ≡ false
+not-false true e = absurd (true≢false (sym e))
+not-false false e = refl
+
+-- the gates that are not behind a loop that isn't settled are known at each Boolean vector
+pub never-behind : (net : Parts) → IsNetlist net → (blocks : Blocks) → AreBlocksOf net blocks → (settled opened behind known : List Bool) → SettleInOneSweep net blocks settled →
+    opened ≡ map (λ home. not (is_marked settled home)) blocks.home → AreDownstreamMarks net opened behind → known ≡ map not behind → AreNeverUnknown net known
+never-behind net valid blocks are settled opened behind known soon opened_is behind_is known_is v wide n within marked =
+    unsettled_loops_decide net blocks (is_marked settled) valid are (λ b inside loop mark. (soon b inside loop mark).alone) v wide n within
+    (λ m less up loop unsettled. absurd (true≢false (
+    sym ((behind_is.each n within).1 (record {
+      gate = m;
+      marked =
+          ap (λ (ms : List Bool). get_or ms m false) opened_is
+          ∙ get_or-map (λ home. not (is_marked settled home)) blocks.home m 0 false (let w = are.homes in omega (arith, less, w))
+          ∙ ap not unsettled;
+      upstream = up;
+    }))
+    ∙ not-false (is_marked behind n)
+    (sym (ap (λ (ms : List Bool). get_or ms n false) known_is ∙ get_or-map not behind n false false (let w = behind_is.width in omega (arith, within, w))) ∙ marked))))
+
+-- what lies upstream of a marked gate is marked
+pub upstream-closes : (net : Parts) (old new : List Bool) → AreUpstreamMarks net old new → AreClosed net new
+upstream-closes net old new are m n feeds marked =
+    let lead = (are.each n feeds.reader).0 marked in
+    (are.each m feeds.source).1 (record { gate = lead.gate; marked = lead.marked; upstream = upstream-trans net m n lead.gate (inr (leads-step net m n feeds)) lead.upstream })
+
+-- and the gates themselves are
+pub cone-within : (net : Parts) (gates : List ℕ) (start old new : List Bool) → All (λ n. n < length net.gates) gates → AddMarks (Contains gates) start old → AreUpstreamMarks net old new → All (λ n. is_marked new n ≡ true) gates
+cone-within net gates start old new within adds are k d less =
+    (are.each (get_or gates k d) (within k d less)).1 (record { gate = get_or gates k d; marked = adds.adds (get_or gates k d) (k, less, get_or_default gates k _ d less); upstream = inl refl })
+
+-- ---- the gates that drive the latches which the invariant reads
+
+-- a gate by its signal
+same-gate : (net : Parts) (m n : ℕ) → gate_sig net m ≡ gate_sig net n → m ≡ n
+same-gate net m n is = let e = ap (λ (s : Sig). s.0) is in omega (arith, e)
+
+-- one column more, whose latch a gate drives
+pub drivers-more : (net : Parts) (columns : List ℕ) (k gate : ℕ) (gates : List ℕ) (latch : Latch) → slice_get net.latches (get_or columns k 0 - length net.inputs) ≡ Some latch → k < length columns → gate < length net.gates → latch.from ≡ gate_sig net gate →
+    AreDriversBefore net columns k gates → AreDriversBefore net columns (k + 1) (gates ++ gate ∷ [])
+drivers-more net columns k gate gates latch there inside within from before = record {
+  within = All-push (λ n. n < length net.gates) gates gate before.within within;
+  all = λ j d n none less low is. elim (cases_lt j k) [
+    | inl early ↦ Contains-append_left gates (gate ∷ []) n (before.all j d n none early low is)
+    | inr late ↦
+        let at : k ≡ j = omega (arith, less, late) in
+        let here : latch ≡ get_or net.latches (get_or columns j d - length net.inputs) none =
+            sym (get_or_from_slice_get net.latches (get_or columns k 0 - length net.inputs) latch none there) ∙ ap (λ (m : ℕ). get_or net.latches (m - length net.inputs) none) (ap (λ (m : ℕ). get_or columns m 0) at ∙ get_or_default columns j 0 d (omega (arith, inside, at))) in
+        subst (Contains (gates ++ gate ∷ [])) (same-gate net gate n (sym from ∙ ap (λ (l : Latch). l.from) here ∙ is)) (Contains-append_right gates (gate ∷ []) gate (0, omega arith, refl))
+  ];
+}
+
+-- or none does
+pub drivers-same : (net : Parts) (columns : List ℕ) (k : ℕ) (gates : List ℕ) (latch : Latch) → slice_get net.latches (get_or columns k 0 - length net.inputs) ≡ Some latch → k < length columns → ((n : ℕ) → latch.from ≡ gate_sig net n → ⊥) →
+    AreDriversBefore net columns k gates → AreDriversBefore net columns (k + 1) gates
+drivers-same net columns k gates latch there inside apart before = record {
+  within = before.within;
+  all = λ j d n none less low is. elim (cases_lt j k) [
+    | inl early ↦ before.all j d n none early low is
+    | inr late ↦
+        let at : k ≡ j = omega (arith, less, late) in
+        let here : latch ≡ get_or net.latches (get_or columns j d - length net.inputs) none =
+            sym (get_or_from_slice_get net.latches (get_or columns k 0 - length net.inputs) latch none there) ∙ ap (λ (m : ℕ). get_or net.latches (m - length net.inputs) none) (ap (λ (m : ℕ). get_or columns m 0) at ∙ get_or_default columns j 0 d (omega (arith, inside, at))) in
+        absurd (apart n (ap (λ (l : Latch). l.from) here ∙ is))
+  ];
+}
+
+-- all columns
+pub drivers-all : (net : Parts) (care : CareSet) (columns : List ℕ) (gates : List ℕ) → columns ≡ option_map_or (λ model. model.columns) care.invariant [] → AreDriversBefore net columns (length columns) gates → AreDrivers net care gates
+drivers-all net care columns gates is are = by care.invariant is
+  where
+    by : (o : Option CareModel) → columns ≡ option_map_or (λ model. model.columns) o [] →
+        IfSome o (λ model. (column n : ℕ) (none : Latch) → Contains model.columns column → n < length net.gates → (get_or net.latches (column - length net.inputs) none).from ≡ gate_sig net n → Contains gates n)
+    by None e = tt
+    by (Some model) e = λ column n none c low from.
+        let here : Contains columns column = subst (λ (xs : List ℕ). Contains xs column) (sym e) c in
+        are.all here.0 column n none here.1 low (ap (λ (m : ℕ). (get_or net.latches (m - length net.inputs) none).from) here.2 ∙ from)
+
+-- in whose scope they are
+pub drivers-within : (net : Parts) (care : CareSet) (scope : Scope) (gates : List ℕ) → AreDrivers net care gates → AreInScope net scope gates → HasLoads net care scope
+drivers-within net care scope gates are within = by care.invariant are
+  where
+    by : (o : Option CareModel) → IfSome o (λ model. (column n : ℕ) (none : Latch) → Contains model.columns column → n < length net.gates → (get_or net.latches (column - length net.inputs) none).from ≡ gate_sig net n → Contains gates n) →
+        IfSome o (λ model. (column n : ℕ) (none : Latch) → Contains model.columns column → n < length net.gates → (get_or net.latches (column - length net.inputs) none).from ≡ gate_sig net n → is_marked scope.gates n ≡ true)
+    by None is = tt
+    by (Some model) is = λ column n none c low from.
+        let d = is column n none c low from in
+        subst (λ (m : ℕ). is_marked scope.gates m ≡ true) d.2 (within d.0 n d.1)

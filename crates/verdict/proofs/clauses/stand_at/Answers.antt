@@ -1,0 +1,12 @@
+use Rattle.std.proofs.Common.{subst}
+use Rattle.clause_decision.specs.Tests.{TellsFirstUnknown}
+use Rattle.verdict.proofs.SuspectLemmas.{open-known}
+use Rattle.verdict.proofs.clauses.stand_at.Goals as goal
+
+pub count-requires-clause-known : goal.count-requires-clause-known
+count-requires-clause-known c =
+    open-known c.args.net.now c.args.blocks.now c.args.care.now c.args.settled.now c.args.gates.now c.requires.gates
+    (subst (TellsFirstUnknown c.args.net.now c.args.care.now c.args.gates.now) c.in-Nowhere.is c.requires.first)
+
+pub returns-in-Nowhere : goal.returns-in-Nowhere
+returns-in-Nowhere c = c.count.ensures c.args.observe

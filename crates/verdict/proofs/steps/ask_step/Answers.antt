@@ -1,0 +1,8 @@
+use Rattle.std.proofs.Common.{◌≡◌, ◌∙◌, ℕ, List, subst, sym, ap, true, length, Contains, IfSome}
+use Rattle.verdict.specs.Scopes.{AreDrivers}
+use Rattle.verdict.proofs.ScopeLemmas.{drivers-within}
+use Rattle.verdict.proofs.steps.ask_step.Goals as goal
+
+pub least_leaving-requires-clause-loads : goal.least_leaving-requires-clause-loads
+least_leaving-requires-clause-loads c =
+    drivers-within c.args.net.now c.args.care.now c.in_ok-scope.scope c.deref.result.now (subst (AreDrivers c.args.net.now c.args.care.now) (sym c.deref.ensures.value) c.in_ok-drivers.ensures.drivers) c.in_ok-scope.ensures.within

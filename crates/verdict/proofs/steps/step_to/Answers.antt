@@ -1,0 +1,26 @@
+use Rattle.std.proofs.Common.{◌≡◌, Bool, List, length, Some, subst, sym, ap}
+use Rattle.std.proofs.lemmas.Result.{IfOk-weaker}
+use Rattle.care_sets.specs.Care.{columns}
+use Rattle.refusals.proofs.FirstLemmas.{found_wide}
+use Rattle.clause_decision.specs.Tests.{is_leaving}
+use Rattle.clause_queries.specs.Vectors.{IsFirstOf}
+use Rattle.verdict.specs.Steps.{IsStep}
+use Rattle.verdict.proofs.StepLemmas.{step-stays, step-leaves}
+use Rattle.verdict.proofs.steps.step_to.Goals as goal
+
+pub leaves_at-requires : goal.leaves_at-requires
+leaves_at-requires c =
+    found_wide (columns c.args.net.now) (is_leaving c.args.net.now c.args.care.now) c.in-Least.vector.items
+    (subst (IsFirstOf (is_leaving c.args.net.now c.args.care.now) (columns c.args.net.now)) c.in-Least.is c.requires)
+
+pub returns-in-Least : goal.returns-in-Least
+returns-in-Least c =
+    IfOk-weaker c.leaves_at.result _ (IsStep c.args.net.now c.args.care.now)
+    (λ step is. subst (IsStep c.args.net.now c.args.care.now) (sym is)
+    (step-leaves c.args.net.now c.args.care.now c.in-Least.vector.items (subst (IsFirstOf (is_leaving c.args.net.now c.args.care.now) (columns c.args.net.now)) c.in-Least.is c.requires)))
+    c.leaves_at.ensures
+
+pub returns-in-NoVector : goal.returns-in-NoVector
+returns-in-NoVector c =
+    step-stays c.args.net.now c.args.care.now
+    (subst (IsFirstOf (is_leaving c.args.net.now c.args.care.now) (columns c.args.net.now)) c.in-NoVector.is c.requires)

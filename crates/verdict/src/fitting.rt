@@ -1,0 +1,69 @@
+//! Covers that are too large for the diagrams.
+
+ghost use Rattle.std.specs.Prelude.{◌≡◌, ◌≤◌, Err};
+ghost use Rattle.fixpoint.specs.Working.{HasLargeCover};
+ghost use Rattle.verdict.specs.Causes.{HasCoverOver, HasModelOver};
+
+use bdd_ops::Diagrams;
+use bdd_store::StoreFault;
+use care_sets::Care;
+use cyc_base::MAX_NODES;
+use dual_rail::local;
+use netlist::Netlist;
+use std::alloc::Global;
+
+/// How many nodes there may be.
+pub(crate) fn limit_of(d: &Diagrams) -> u32
+    ensures limit { result ≡ d.now.limit }
+    ensures most { result ≤ MAX_NODES }
+{
+    d.store().limit()
+}
+
+/// Whether the diagram of a cover of so many pins may have more nodes than the limit: it has at most one less than two
+/// to their number.
+fn may_exceed(pins: usize, limit: u32) -> bool {
+    pins >= 32 || (1u64 << pins) - 1 > u64::from(limit)
+}
+
+/// Full where a cover of a netlist has more nodes than the limit.
+fn fit_covers(alloc: Global, net: &Netlist, limit: u32) -> Result<(), StoreFault>
+    requires { limit ≤ MAX_NODES }
+    ensures full { result ≡ Err StoreFault.Full → HasLargeCover net.now limit }
+{
+    for gate in 0..net.gates() {
+        let cover = &net.gate(gate).cover;
+        if may_exceed(cover.pins(), limit) {
+            let _ = local(alloc, cover, limit)?;
+        }
+    }
+    Ok(())
+}
+
+/// Full where a cover of a care model has more nodes than the limit.
+fn fit_models(alloc: Global, care: &Care, limit: u32) -> Result<(), StoreFault>
+    requires { limit ≤ MAX_NODES }
+    ensures full { result ≡ Err StoreFault.Full → HasModelOver care.now limit }
+{
+    if let Some(model) = care.invariant() {
+        fit_covers(alloc, model, limit)?;
+    }
+    if let Some(model) = care.assume() {
+        fit_covers(alloc, model, limit)?;
+    }
+    Ok(())
+}
+
+/// Full where a cover of the netlist or of a care model has more nodes than the limit, as it would be in the diagrams.
+pub(crate) fn fit_all(
+    alloc: Global,
+    net: &Netlist,
+    care: &Care,
+    limit: u32,
+) -> Result<(), StoreFault>
+    requires { limit ≤ MAX_NODES }
+    ensures full { result ≡ Err StoreFault.Full → HasCoverOver net.now care.now limit }
+{
+    fit_covers(alloc, net, limit)?;
+    fit_models(alloc, care, limit)
+}

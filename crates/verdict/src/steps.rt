@@ -1,0 +1,137 @@
+//! The invariant's step: whether a next state leaves it.
+
+ghost use Rattle.std.specs.Prelude.{◌≡◌, ◌<◌, length, map, IfOk};
+ghost use Rattle.cyc_base.specs.Values.{bits};
+ghost use Rattle.loops.specs.Blocks.{AreBlocksOf};
+ghost use Rattle.care_sets.specs.Binding.{IsCareOf};
+ghost use Rattle.care_sets.specs.Care.{columns as columns_of, is_one as is_one_of};
+ghost use Rattle.clause_decision.specs.Loads.{LoadsAreKnown};
+ghost use Rattle.clause_queries.specs.Vectors.{IsFirstOf};
+ghost use Rattle.clause_decision.specs.Tests.{is_leaving};
+ghost use Rattle.refusals.specs.Refusals.{next_state};
+ghost use Rattle.verdict.specs.Determination.{SettleInOneSweep};
+ghost use Rattle.verdict.specs.Steps.{IsLeavingAt, IsStep};
+
+use crate::scopes::{drivers_read, scope_of};
+use care_sets::Care;
+use clause_decision::{Found, least_leaving};
+use cyc_base::{Bits, Trit};
+use loops::Blocks;
+use netlist::Netlist;
+use refusals::Refusal;
+use std::alloc::{AllocError, Global};
+use ternary_run::tick;
+
+/// Whether a next state leaves the invariant.
+#[derive(Drop)]
+pub enum Step {
+    /// No care vector's next state does.
+    Stays,
+    /// That of a care vector does: the refusal of the least one.
+    Leaves(Refusal),
+    /// The solver gave up.
+    Undecided,
+}
+
+/// A vector's values as ternary ones.
+fn trits_of(alloc: Global, vector: &[bool]) -> Result<Vec<Trit>, AllocError>
+    ensures { IfOk result (λ trits. trits.items ≡ bits vector.now) }
+{
+    vector.iter().map(|value| Trit::of(*value)).collect(alloc)
+}
+
+/// Whether a value is 1.
+fn is_one(value: Trit) -> bool
+    ensures { result ≡ is_one_of value }
+{
+    match value {
+        Trit::One => true,
+        _ => false,
+    }
+}
+
+/// Which values are 1.
+fn ones_of(alloc: Global, values: &[Trit]) -> Result<Vec<bool>, AllocError>
+    ensures { IfOk result (λ ones. ones.items ≡ map is_one_of values.now) }
+{
+    values.iter().map(|value| is_one(*value)).collect(alloc)
+}
+
+/// What the latches load at a vector, by ternary simulation.
+fn next_at(alloc: Global, net: &Netlist, vector: &[bool]) -> Result<Vec<bool>, AllocError>
+    requires { length vector.now ≡ columns_of net.now }
+    ensures { IfOk result (λ state. state.items ≡ next_state net.now vector.now) }
+{
+    let given = trits_of(alloc, vector)?;
+    let (inputs, latches) = given.split_at(net.inputs() as usize);
+    let values = tick(alloc, net, inputs, latches)?;
+    ones_of(alloc, values.next.items())
+}
+
+/// The refusal of a vector whose next state isn't in the invariant.
+fn leaves_at(alloc: Global, net: &Netlist, vector: Vec<bool>) -> Result<Step, AllocError>
+    requires { length vector.items ≡ columns_of net.now }
+    ensures { IfOk result (λ step. IsLeavingAt net.now vector.items step) }
+{
+    let state = next_at(alloc, net, &vector)?;
+    Ok(Step::Leaves(Refusal::Leaves {
+        vector: Bits::of(vector),
+        next: Bits::of(state),
+    }))
+}
+
+/// The step to the least vector of care whose next state isn't in the invariant, as it was found.
+fn step_to(alloc: Global, net: &Netlist, care: &Care, found: Found) -> Result<Step, AllocError>
+    requires { IsFirstOf (is_leaving net.now care.now) (columns_of net.now) found }
+    ensures { IfOk result (IsStep net.now care.now) }
+{
+    match found {
+        Found::Least(vector) => leaves_at(alloc, net, vector),
+        Found::NoVector => Ok(Step::Stays),
+        Found::Unknown => Ok(Step::Undecided),
+    }
+}
+
+/// Whether a next state leaves an invariant, asked of the clauses of what the latches load that it reads.
+fn ask_step(
+    alloc: Global,
+    net: &Netlist,
+    blocks: &Blocks,
+    care: &Care,
+    settled: &[bool],
+    conflicts: u64,
+) -> Result<Step, AllocError>
+    requires blocks { AreBlocksOf net.now blocks.now }
+    requires care { IsCareOf net.now care.now }
+    requires width { length settled.now ≡ length blocks.now.list }
+    requires settled { SettleInOneSweep net.now blocks.now settled.now }
+    requires known { LoadsAreKnown net.now care.now }
+    ensures { IfOk result (IsStep net.now care.now) }
+{
+    let drivers = drivers_read(alloc, net, care)?;
+    let scope = scope_of(alloc, net, blocks, settled, &drivers)?;
+    let found = least_leaving(alloc, net, care, &scope, conflicts)?;
+    step_to(alloc, net, care, found)
+}
+
+/// Whether a care vector's next state isn't in the invariant, where on care all that latches load is known.
+pub(crate) fn step_of(
+    alloc: Global,
+    net: &Netlist,
+    blocks: &Blocks,
+    care: &Care,
+    settled: &[bool],
+    conflicts: u64,
+) -> Result<Step, AllocError>
+    requires blocks { AreBlocksOf net.now blocks.now }
+    requires care { IsCareOf net.now care.now }
+    requires width { length settled.now ≡ length blocks.now.list }
+    requires settled { SettleInOneSweep net.now blocks.now settled.now }
+    requires known { LoadsAreKnown net.now care.now }
+    ensures { IfOk result (IsStep net.now care.now) }
+{
+    match care.invariant() {
+        Some(_) => ask_step(alloc, net, blocks, care, settled, conflicts),
+        None => Ok(Step::Stays),
+    }
+}

@@ -1,0 +1,188 @@
+//! The refusal of the first observed gate that is unknown on care.
+
+ghost use Rattle.std.specs.Prelude.{◌≡◌, ◌<◌, ◌≤◌, ◌&&◌, ℕ, Some, true, false, length, All, Contains, IfOk, IfSome};
+ghost use Rattle.loops.specs.Blocks.{AreBlocksOf};
+ghost use Rattle.care_sets.specs.Binding.{IsCareOf};
+ghost use Rattle.isolation.specs.Cones.{is_marked, ListsMarked};
+ghost use Rattle.refusals.specs.Refusals.{undetermined_refusal};
+ghost use Rattle.clause_decision.specs.Tests.{TellsFirstUnknown};
+ghost use Rattle.verdict.specs.Determination.{SettleInOneSweep};
+ghost use Rattle.verdict.specs.Unknown.{AreAsked, AreSuspects, IsFirstToRefuse};
+
+use crate::alone::open_gates;
+use crate::behind::mark_downstream;
+use crate::observing::observed_gates;
+use crate::scopes::{marked_places, scope_of};
+use care_sets::Care;
+use clause_decision::{First, Found, first_unknown, least_unknown};
+use cyc_base::Bits;
+use loops::Blocks;
+use netlist::Netlist;
+use refusals::{Observe, Refusal};
+use std::alloc::{AllocError, Global};
+
+/// Clears the marks behind a place.
+fn clear_behind(last: u32, marks: &mut [bool])
+    ensures width { length marks.new ≡ length marks.old }
+    ensures kept { (k : ℕ) → k ≤ last → is_marked marks.new k ≡ is_marked marks.old k }
+    ensures cleared { (k : ℕ) → last < k → is_marked marks.new k ≡ false }
+{
+    for place in 0..marks.len() {
+        if place > last as usize {
+            marks[place] = false;
+        }
+    }
+}
+
+/// The gates that are asked for: those that are observed, and none behind a gate that is unknown, where that one is
+/// observed itself.
+fn asked_gates(
+    alloc: Global,
+    net: &Netlist,
+    observe: Observe,
+    unknown: u32,
+) -> Result<Vec<bool>, AllocError>
+    requires { unknown < length net.now.gates }
+    ensures { IfOk result (λ asked. AreAsked net.now observe asked.items) }
+{
+    let mut asked = observed_gates(alloc, net, observe)?;
+    if asked[unknown as usize] {
+        clear_behind(unknown, &mut asked);
+    }
+    Ok(asked)
+}
+
+/// Clears the marks of gates that aren't asked for.
+fn keep_asked(asked: &[bool], marks: &mut [bool])
+    requires { length asked.now ≡ length marks.old }
+    ensures width { length marks.new ≡ length marks.old }
+    ensures each { (k : ℕ) → is_marked marks.new k ≡ (is_marked marks.old k && is_marked asked.now k) }
+{
+    for place in 0..marks.len() {
+        if !asked[place] {
+            marks[place] = false;
+        }
+    }
+}
+
+/// Marks of the gates asked for that may be unknown: those in loops at places that aren't settled, and behind them.
+fn suspects(
+    alloc: Global,
+    net: &Netlist,
+    blocks: &Blocks,
+    settled: &[bool],
+    asked: &[bool],
+) -> Result<Vec<bool>, AllocError>
+    requires blocks { AreBlocksOf net.now blocks.now }
+    requires settled { length settled.now ≡ length blocks.now.list }
+    requires asked { length asked.now ≡ length net.now.gates }
+    ensures { IfOk result (λ marks. AreSuspects net.now blocks.now settled.now asked.now marks.items) }
+{
+    let mut marks = open_gates(alloc, blocks, settled)?;
+    mark_downstream(net, blocks, &mut marks);
+    keep_asked(asked, &mut marks);
+    Ok(marks)
+}
+
+/// The place of the first of these gates that is unknown at some care vector.
+pub(crate) fn first_of(
+    alloc: Global,
+    net: &Netlist,
+    blocks: &Blocks,
+    care: &Care,
+    settled: &[bool],
+    gates: &[u32],
+    conflicts: u64,
+) -> Result<First, AllocError>
+    requires blocks { AreBlocksOf net.now blocks.now }
+    requires care { IsCareOf net.now care.now }
+    requires width { length settled.now ≡ length blocks.now.list }
+    requires settled { SettleInOneSweep net.now blocks.now settled.now }
+    requires gates { All (λ n. n < length net.now.gates) gates.now }
+    ensures { IfOk result (TellsFirstUnknown net.now care.now gates.now) }
+{
+    if gates.is_empty() {
+        return Ok(First::Nowhere);
+    }
+    let scope = scope_of(alloc, net, blocks, settled, gates)?;
+    first_unknown(alloc, net, care, &scope, gates, conflicts)
+}
+
+/// The refusal of a gate, where it is the first that refuses the netlist.
+fn refusal_of(
+    alloc: Global,
+    net: &Netlist,
+    blocks: &Blocks,
+    care: &Care,
+    settled: &[bool],
+    gate: u32,
+    conflicts: u64,
+) -> Result<Option<Refusal>, AllocError>
+    requires blocks { AreBlocksOf net.now blocks.now }
+    requires care { IsCareOf net.now care.now }
+    requires width { length settled.now ≡ length blocks.now.list }
+    requires settled { SettleInOneSweep net.now blocks.now settled.now }
+    requires gate { gate < length net.now.gates }
+    ensures { (what : Observe) → IsFirstToRefuse net.now care.now what gate → IfOk result (λ found. IfSome found (λ refusal. undetermined_refusal net.now care.now what ≡ Some refusal)) }
+{
+    let scope = scope_of(alloc, net, blocks, settled, &[gate])?;
+    match least_unknown(alloc, net, care, &scope, gate, conflicts)? {
+        Found::Least(vector) => Ok(Some(Refusal::Undetermined {
+            vector: Bits::of(vector),
+            wire: net.gate_sig(gate),
+        })),
+        Found::NoVector => Ok(None),
+        Found::Unknown => Ok(None),
+    }
+}
+
+/// The refusal of the first of these gates that is unknown.
+fn first_refusal(
+    alloc: Global,
+    net: &Netlist,
+    blocks: &Blocks,
+    care: &Care,
+    settled: &[bool],
+    asked: &[bool],
+    conflicts: u64,
+) -> Result<Option<Refusal>, AllocError>
+    requires blocks { AreBlocksOf net.now blocks.now }
+    requires care { IsCareOf net.now care.now }
+    requires width { length settled.now ≡ length blocks.now.list }
+    requires settled { SettleInOneSweep net.now blocks.now settled.now }
+    requires asked { length asked.now ≡ length net.now.gates }
+    ensures { (what : Observe) → AreAsked net.now what asked.now → IfOk result (λ found. IfSome found (λ refusal. undetermined_refusal net.now care.now what ≡ Some refusal)) }
+{
+    let _ = net.gates();
+    let marks = suspects(alloc, net, blocks, settled, asked)?;
+    let gates = marked_places(alloc, &marks)?;
+    match first_of(alloc, net, blocks, care, settled, &gates, conflicts)? {
+        First::At(place) => refusal_of(alloc, net, blocks, care, settled, gates[place], conflicts),
+        First::Nowhere => Ok(None),
+        First::Unknown => Ok(None),
+    }
+}
+
+/// The refusal of the first observed gate that is unknown at a vector of care, with the least such vector, if it is
+/// found. Where the gate `unknown` is observed, none behind it is asked for, so the clauses are few; the search finds
+/// what it should if that gate is unknown on care.
+pub(crate) fn unknown_refusal(
+    alloc: Global,
+    net: &Netlist,
+    blocks: &Blocks,
+    care: &Care,
+    settled: &[bool],
+    observe: Observe,
+    unknown: u32,
+    conflicts: u64,
+) -> Result<Option<Refusal>, AllocError>
+    requires blocks { AreBlocksOf net.now blocks.now }
+    requires care { IsCareOf net.now care.now }
+    requires width { length settled.now ≡ length blocks.now.list }
+    requires settled { SettleInOneSweep net.now blocks.now settled.now }
+    requires unknown { unknown < length net.now.gates }
+    ensures { IfOk result (λ found. IfSome found (λ refusal. undetermined_refusal net.now care.now observe ≡ Some refusal)) }
+{
+    let asked = asked_gates(alloc, net, observe, unknown)?;
+    first_refusal(alloc, net, blocks, care, settled, &asked, conflicts)
+}
