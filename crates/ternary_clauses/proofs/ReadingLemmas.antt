@@ -1,0 +1,61 @@
+-- What rails and lists of them are read as.
+use Rattle.std.proofs.Common.{◌≡◌, ℕ, zero, suc, ◌<◌, ◌≤◌, ◌+◌, ◌*◌, Bool, false, List, [], ◌∷◌, ◌++◌, length, get_or, refl, ap, ◌∙◌, arith}
+use Rattle.std.proofs.lemmas.List.Elements.{All-get_or, All-from_get_or}
+use Rattle.std.specs.List.{All}
+use Rattle.cyc_base.specs.declared.trit.Trit.{Trit}
+use Rattle.cyc_base.specs.declared.trit.Trit.TheVariants.{X}
+use Rattle.ternary_clauses.specs.declared.formula.Rails.{Rails}
+use Rattle.ternary_clauses.specs.Rails.{is_one, is_zero, is_known, Reads, ReadsAll, AreWithin, no_rails}
+use Rattle.ternary_clauses.specs.Nodes.{new_rails}
+use Rattle.ternary_clauses.proofs.ClauseLemmas.{says-more, says-even, get_or-after}
+
+-- ---- readings at further variables
+
+pub Reads-more : (m more : List Bool) (r : Rails) (t : Trit) → AreWithin (length m) r → Reads m r t → Reads (m ++ more) r t
+Reads-more m more r t is h = record {
+  one = says-more m more r.one is.one ∙ h.one;
+  zero = says-more m more r.zero is.zero ∙ h.zero;
+  known = says-more m more r.known is.known ∙ h.known;
+}
+
+-- the values of three new variables
+abbrev pub new_values : Trit → List Bool
+new_values t = is_one t ∷ is_zero t ∷ is_known t ∷ []
+
+pub new-read : (m : List Bool) (v : ℕ) (t : Trit) → length m ≡ v → Reads (m ++ new_values t) (new_rails v) t
+new-read m v t e = record {
+  one = says-even (m ++ new_values t) (2 * v) v (omega arith) (omega arith) ∙ get_or-after m (new_values t) v 0 false (omega (arith, e));
+  zero = says-even (m ++ new_values t) (2 * v + 2) (v + 1) (omega arith) (omega arith) ∙ get_or-after m (new_values t) (v + 1) 1 false (omega (arith, e));
+  known = says-even (m ++ new_values t) (2 * v + 4) (v + 2) (omega arith) (omega arith) ∙ get_or-after m (new_values t) (v + 2) 2 false (omega (arith, e));
+}
+
+pub within-more : (v w : ℕ) (r : Rails) → v ≤ w → AreWithin v r → AreWithin w r
+within-more v w r less is = record { one = omega (arith, is.one); zero = omega (arith, is.zero); known = omega (arith, is.known) }
+
+pub All-within-more : (v w : ℕ) (rs : List Rails) → v ≤ w → All (AreWithin v) rs → All (AreWithin w) rs
+All-within-more v w rs less all = All-from_get_or (AreWithin w) rs no_rails (λ i inside. within-more v w (get_or rs i no_rails) less (All-get_or (AreWithin v) rs i no_rails inside all))
+
+-- ---- lists of readings
+
+pub ReadsAll-length : (m : List Bool) (rs : List Rails) (ts : List Trit) → ReadsAll m rs ts → length rs ≡ length ts
+ReadsAll-length m [] [] h = refl
+ReadsAll-length m [] (t ∷ ts) h = absurd h
+ReadsAll-length m (r ∷ rs) [] h = absurd h
+ReadsAll-length m (r ∷ rs) (t ∷ ts) h = ap suc (ReadsAll-length m rs ts h.1)
+
+pub ReadsAll-at : (m : List Bool) (rs : List Rails) (ts : List Trit) (i : ℕ) (d : Rails) (e : Trit) → i < length rs → ReadsAll m rs ts → Reads m (get_or rs i d) (get_or ts i e)
+ReadsAll-at m [] ts i d e less h = absurd (omega (arith, less))
+ReadsAll-at m (r ∷ rs) [] i d e less h = absurd h
+ReadsAll-at m (r ∷ rs) (t ∷ ts) zero d e less h = h.0
+ReadsAll-at m (r ∷ rs) (t ∷ ts) (suc i) d e less h = ReadsAll-at m rs ts i d e (omega (arith, less)) h.1
+
+pub ReadsAll-from : (m : List Bool) (rs : List Rails) (ts : List Trit) (d : Rails) (e : Trit) → length rs ≡ length ts → ((i : ℕ) → i < length rs → Reads m (get_or rs i d) (get_or ts i e)) → ReadsAll m rs ts
+ReadsAll-from m [] [] d e len h = tt
+ReadsAll-from m [] (t ∷ ts) d e len h = absurd (omega (arith, len))
+ReadsAll-from m (r ∷ rs) [] d e len h = absurd (omega (arith, len))
+ReadsAll-from m (r ∷ rs) (t ∷ ts) d e len h = (h zero (omega arith), ReadsAll-from m rs ts d e (omega (arith, len)) (λ i less. h (suc i) (omega (arith, less))))
+
+pub ReadsAll-more : (m more : List Bool) (rs : List Rails) (ts : List Trit) → All (AreWithin (length m)) rs → ReadsAll m rs ts → ReadsAll (m ++ more) rs ts
+ReadsAll-more m more rs ts all h =
+    ReadsAll-from (m ++ more) rs ts no_rails X (ReadsAll-length m rs ts h) (λ i less.
+    Reads-more m more (get_or rs i no_rails) (get_or ts i X) (All-get_or (AreWithin (length m)) rs i no_rails less all) (ReadsAll-at m rs ts i no_rails X less h))

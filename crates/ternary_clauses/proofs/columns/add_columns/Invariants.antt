@@ -1,0 +1,5 @@
+use Rattle.ternary_clauses.specs.Columns.{SaysColumns}
+use Rattle.ternary_clauses.proofs.columns.add_columns.Given as goal
+
+abbrev pub invariant-loop : goal.invariant-loop
+invariant-loop l = SaysColumns l.fn.formula l.formula l.rails.items l.counter

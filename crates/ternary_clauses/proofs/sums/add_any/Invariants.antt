@@ -1,0 +1,10 @@
+use Rattle.std.proofs.Common.{take}
+use Rattle.ternary_clauses.specs.Sums.{SaysAny}
+use Rattle.ternary_clauses.proofs.SumLemmas.{IsLast}
+use Rattle.ternary_clauses.proofs.sums.add_any.Given as goal
+
+abbrev pub invariant-loop-literal : goal.invariant-loop-literal
+invariant-loop-literal l = record {
+  sums : SaysAny l.fn.formula l.formula (take l.literal-index l.literals) l.sums.items;
+  last : IsLast l.formula (take l.literal-index l.literals) l.last;
+}
