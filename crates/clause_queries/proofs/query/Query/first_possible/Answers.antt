@@ -1,0 +1,23 @@
+use Rattle.std.proofs.Common.{◌≡◌, ◌-◌, ◌++◌, ◌∷◌, [], length, get_or, true, sym, subst, arith}
+use Rattle.std.proofs.lemmas.Bool.Decides.{nat_tests}
+use Rattle.ternary_clauses.specs.Formulas.{says}
+use Rattle.clause_queries.specs.Queries.{IsReply}
+use Rattle.clause_queries.specs.Bisection.{IsOpen}
+use Rattle.clause_queries.proofs.BisectionLemmas.{open-first, possible-earlier, none-earlier}
+use Rattle.clause_queries.proofs.query.Query.first_possible.Goals as goal
+
+pub bisect-requires-clause-interval : goal.bisect-requires-clause-interval
+bisect-requires-clause-interval c =
+    let last = length c.args.literals.now - 1 in
+    let reply = subst (IsReply c.args.self.now (c.args.assumptions.now ++ get_or c.args.literals.now last 0 ∷ [])) c.in-Model.is c.in_ok-model.ensures.reply in
+    subst (λ p. IsOpen p c.args.literals.now c.args.assumptions.now 0 c.first_true-high.result) (sym c.in_ok-model.ensures.unchanged)
+    (open-first c.args.self.now c.args.literals.now c.args.assumptions.now c.first_true-high.result (let bound = c.first_true-high.ensures.within in let some = c.if-is_empty.ensures in grind (arith, nat_tests))
+    (possible-earlier c.args.self.now c.args.literals.now c.args.assumptions.now last c.first_true-high.result c.in-Model.model.items reply.0
+    (subst (λ m. says m (get_or c.args.literals.now c.first_true-high.result 0) ≡ true) c.deref.ensures.value c.first_true-high.ensures.is_true)))
+
+pub returns-in-NoModel-clause-first : goal.returns-in-NoModel-clause-first
+returns-in-NoModel-clause-first c = λ j less.
+    let last = length c.args.literals.now - 1 in
+    none-earlier c.args.self.now c.args.literals.now c.args.assumptions.now last c.requires.rising (omega arith)
+    (subst (IsReply c.args.self.now (c.args.assumptions.now ++ get_or c.args.literals.now last 0 ∷ [])) c.in-NoModel.is c.in_ok-model.ensures.reply)
+    j (omega arith)

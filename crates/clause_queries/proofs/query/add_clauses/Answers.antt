@@ -1,0 +1,36 @@
+use Rattle.std.proofs.Common.{◌≡◌, ◌<◌, ◌+◌, ◌∷◌, ◌∙◌, sym, ap, subst, true≢false, take, drop, map, ◌++◌, [], arith}
+use Rattle.clause_queries.specs.Clauses.{IsWithin}
+use Rattle.clause_queries.specs.Loaded.{lit}
+use Rattle.clause_queries.proofs.ClauseLemmas.{AreLoading, loading-more, loading-full, loading-foreign}
+use Rattle.clause_queries.proofs.query.add_clauses.Goals as goal
+use Rattle.clause_queries.proofs.query.add_clauses.Goals.{then-added-via-then-added, then-added-via-else-added+then-not-is_within}
+
+pub returns-then-added-clause-many : goal.returns-then-added-clause-many
+returns-then-added-clause-many c = λ _.
+    let size = c.in-Some.size.now in
+    let after = c.in-Some.after.now in
+    let before = subst (λ rest. AreLoading c.args.variables c.args.literals.now c.loop-size.added rest c.loop-size.solver.formula) c.in-Some.ensures.cases.0 c.loop-size.invariant.0 in
+    elim c.then-added.branch [
+      | then-added-via-then-added w ↦ loading-full c.args.variables c.args.literals.now c.loop-size.added size after c.loop-size.solver.formula before w.if-added.true
+      | then-added-via-else-added+then-not-is_within w ↦
+          loading-foreign c.args.variables c.args.literals.now c.loop-size.added size after c.loop-size.solver.formula before
+          (λ within. true≢false (sym (w.is_within.ensures.1 (subst (IsWithin c.args.variables) (sym c.split_clause.ensures.clause) within)) ∙ w.if-not-is_within.true))
+    ]
+
+pub loop-size-preserved : goal.loop-size-preserved
+loop-size-preserved c =
+    let variables = c.args.variables in
+    let literals = c.args.literals.now in
+    let added = c.loop-size.added in
+    let formula = c.loop-size.solver.formula in
+    let size = c.in-Some.size.now in
+    let after = c.in-Some.after.now in
+    let before = subst (λ rest. AreLoading variables literals added rest formula) c.in-Some.ensures.cases.0 c.loop-size.invariant.0 in
+    let within = subst (IsWithin variables) c.split_clause.ensures.clause (c.is_within.ensures.0 c.if-not-is_within.false) in
+    let room : added < 4294967295 = omega (arith, c.loop-size.invariant.0.few, c.if-added.false) in
+    let more = loading-more variables literals added size after formula before room within in
+    let clause : c.add_clause.new.solver.formula ≡ formula ++ map lit (take size after) ∷ [] = c.in_ok-add_clause.ensures.formula ∙ ap (λ cl. formula ++ map lit cl ∷ []) c.split_clause.ensures.clause in (
+      subst (λ rest. AreLoading variables literals (added + 1) rest c.add_clause.new.solver.formula) (sym c.split_clause.ensures.rest)
+          (subst (AreLoading variables literals (added + 1) (drop size after)) (sym clause) more),
+      c.in_ok-add_clause.ensures.variables ∙ c.loop-size.invariant.1,
+    )

@@ -1,0 +1,30 @@
+//! Whether there is a model at all.
+
+ghost use Rattle.std.specs.Prelude.{◌≡◌, ℕ, Bool, List, length, IfOk};
+ghost use Rattle.clause_queries.specs.Clauses.{IsWithin};
+ghost use Rattle.clause_queries.specs.Queries.{IsPossible};
+ghost use Rattle.clause_queries.specs.Vectors.{Asks, TellsWhetherAny};
+
+use crate::query::{Query, Reply};
+use std::alloc::{AllocError, Global};
+
+impl Query {
+    /// Whether some model has each assumption true, or none where the solver gives up after so many conflicts.
+    pub fn is_possible(
+        &mut self,
+        alloc: Global,
+        assumptions: &[u32],
+        conflicts: u64,
+    ) -> Result<Option<bool>, AllocError>
+        requires { IsWithin self.old.variables assumptions.now }
+        ensures unchanged { self.new ≡ self.old }
+        ensures possible { IfOk result (IsPossible self.old assumptions.now) }
+        ensures vectors { IfOk result (λ possible. (columns : List ℕ) (passes : List Bool → Bool) → Asks self.old columns assumptions.now passes → TellsWhetherAny passes (length columns) possible) }
+    {
+        match self.ask(alloc, assumptions, conflicts)? {
+            Reply::Model(_) => Ok(Some(true)),
+            Reply::NoModel => Ok(Some(false)),
+            Reply::Unknown => Ok(None),
+        }
+    }
+}
