@@ -1,0 +1,166 @@
+-- Formulas over columns, and literals that tell tests of their vectors.
+use Rattle.std.proofs.Common.{◌≡◌, ℕ, zero, suc, ◌+◌, ◌*◌, ◌-◌, ◌<◌, ◌≤◌, Bool, true, false, not, ◌&&◌, List, [], ◌∷◌, ◌++◌, length, map, drop, get_or, refl, sym, ap, ap₂, ◌∙◌, subst, arith}
+use Rattle.std.specs.List.{All, list_all}
+use Rattle.std.proofs.lemmas.Bool.{and_parts}
+use Rattle.std.proofs.lemmas.List.{length-map}
+use Rattle.std.proofs.lemmas.List.Elements.{All-map}
+use Rattle.cyc_base.specs.declared.trit.Trit.{Trit}
+use Rattle.cyc_base.specs.Values.{bit, bits}
+use Rattle.netlist.specs.declared.parts.Parts.{Parts}
+use Rattle.care_sets.specs.Care.{CareSet, columns, state_of, is_allowed, is_in_invariant, is_care_vector}
+use Rattle.ternary_clauses.specs.declared.formula.Formula.{Formula}
+use Rattle.ternary_clauses.specs.declared.formula.Rails.{Rails}
+use Rattle.ternary_clauses.specs.Columns.{vector_read, SaysColumns}
+use Rattle.ternary_clauses.specs.Formulas.{says, holds, IsModel, IsFormula, HasModelFrom, Grows}
+use Rattle.ternary_clauses.specs.Rails.{Reads, ReadsAll, AreWithin, is_one}
+use Rattle.ternary_clauses.proofs.GrowthLemmas.{Grows-refl, Grows-chain, model-here}
+use Rattle.ternary_clauses.proofs.ReadingLemmas.{All-within-more, ReadsAll-more, ReadsAll-length}
+use Rattle.clause_queries.specs.Queries.{problem, IsModelUnder}
+use Rattle.clause_queries.specs.Vectors.{vector_of, Asks, HasVector as HasVectorUnder}
+use Rattle.clause_queries.proofs.ClauseLemmas.{models-same}
+use Rattle.clause_decision.specs.Formulas.{SaysTest, HasVector, IsOver, TellsOf, IsCareFormula}
+
+-- ---- readings of lists
+
+pub ReadsAll-drop : (m : List Bool) (n : ℕ) (rs : List Rails) (ts : List Trit) → ReadsAll m rs ts → ReadsAll m (drop n rs) (drop n ts)
+ReadsAll-drop m zero rs ts h = h
+ReadsAll-drop m (suc n) [] [] h = tt
+ReadsAll-drop m (suc n) [] (t ∷ ts) h = absurd h
+ReadsAll-drop m (suc n) (r ∷ rs) [] h = absurd h
+ReadsAll-drop m (suc n) (r ∷ rs) (t ∷ ts) h = ReadsAll-drop m n rs ts h.1
+
+bits-drop : (n : ℕ) (v : List Bool) → drop n (bits v) ≡ bits (drop n v)
+bits-drop zero v = refl
+bits-drop (suc n) [] = refl
+bits-drop (suc n) (b ∷ v) = bits-drop n v
+
+pub state-read : (m : List Bool) (n : ℕ) (rs : List Rails) (v : List Bool) → ReadsAll m rs (bits v) → ReadsAll m (drop n rs) (bits (drop n v))
+state-read m n rs v h = subst (ReadsAll m (drop n rs)) (bits-drop n v) (ReadsAll-drop m n rs (bits v) h)
+
+-- the literals of the columns read the vector
+one-bit : (b : Bool) → is_one (bit b) ≡ b
+one-bit true = refl
+one-bit false = refl
+
+pub ones-read : (m : List Bool) (rs : List Rails) (v : List Bool) → ReadsAll m rs (bits v) → map (says m) (map (λ r. r.one) rs) ≡ v
+ones-read m [] [] h = refl
+ones-read m [] (b ∷ v) h = absurd h
+ones-read m (r ∷ rs) [] h = absurd h
+ones-read m (r ∷ rs) (b ∷ v) h = ap₂ (λ (x : Bool) (xs : List Bool). x ∷ xs) (h.0.one ∙ one-bit b) (ones-read m rs v h.1)
+
+-- ---- formulas over columns
+
+-- the first formula has a model
+first-model : (f : Formula) → f.literals.items ≡ 1 ∷ 0 ∷ [] → IsModel (true ∷ []) f
+first-model f is = ap (holds (true ∷ [])) is
+
+pub over-columns : (old new : Formula) (rails : List Rails) (width : ℕ) → old.variables ≡ 1 → old.literals.items ≡ 1 ∷ 0 ∷ [] → SaysColumns old new rails width → IsOver new rails width
+over-columns old new rails width one is says_it = record {
+  formula = says_it.grows.formula;
+  within = says_it.within;
+  size = says_it.size;
+  sound = says_it.sound;
+  complete = λ v wide.
+      let has = says_it.complete (true ∷ []) v (sym one) (first-model old is) wide in
+      record { model = (true ∷ []) ++ has.more; long = has.width; holds = has.model; reads = has.reads };
+}
+
+-- what says nothing new of the columns keeps them
+pub over-grows : (old new : Formula) (rails : List Rails) (width : ℕ) → IsOver old rails width → Grows old new →
+    ((m v : List Bool) → length m ≡ old.variables → IsModel m old → ReadsAll m rails (bits v) → HasModelFrom new m) → IsOver new rails width
+over-grows old new rails width over grows complete = record {
+  formula = grows.formula;
+  within = All-within-more old.variables new.variables rails grows.more over.within;
+  size = over.size;
+  sound = λ m is. over.sound m (grows.sound m is);
+  complete = λ v wide.
+      let has = over.complete v wide in
+      let more = complete has.model v has.long has.holds has.reads in
+      record {
+        model = has.model ++ more.more;
+        long = more.width;
+        holds = more.model;
+        reads = ReadsAll-more has.model more.more rails (bits v) (subst (λ (n : ℕ). All (AreWithin n) rails) (sym has.long) over.within) has.reads;
+      };
+}
+
+-- ---- literals of tests
+
+-- the literal 0 is true
+pub says-true : (f : Formula) (rails : List Rails) (test : List Bool → Bool) → IsFormula f → ((v : List Bool) → test v ≡ true) → SaysTest f f rails test 0
+says-true f rails test formula passes = record {
+  grows = Grows-refl f formula;
+  within = let s = formula.some in omega (arith, s);
+  says_it = λ m values is reads. formula.truth m is ∙ sym (passes values);
+  complete = λ m values long is reads. model-here f m long is;
+}
+
+-- the care set's literals
+pub care-formula : (net : Parts) (care : CareSet) (old mid new : Formula) (rails : List Rails) (inside allowed : ℕ) → IsOver old rails (columns net) →
+    SaysTest old mid (drop (length net.inputs) rails) (is_in_invariant care) inside → SaysTest mid new rails (is_allowed care) allowed → IsCareFormula net care new rails inside allowed
+care-formula net care old mid new rails inside allowed over first second = record {
+  over = over-grows mid new rails (columns net) middle second.grows (λ m v long is reads. second.complete m v long is reads);
+  inside_within = let w = first.within in let g = second.grows.more in omega (arith, w, g);
+  inside_tells = λ m v is reads. first.says_it m (state_of net v) (second.grows.sound m is) (state-read m (length net.inputs) rails v reads);
+  allowed_within = second.within;
+  allowed_tells = λ m v is reads. second.says_it m v is reads;
+}
+  where
+    middle : IsOver mid rails (columns net)
+    middle = over-grows old mid rails (columns net) over first.grows (λ m v long is reads. first.complete m (state_of net v) long is (state-read m (length net.inputs) rails v reads))
+
+-- ---- what is asked for
+
+pub both : (m : List Bool) (a b : ℕ) → list_all (says m) (a ∷ b ∷ []) ≡ (says m a && says m b)
+both m a b = by (says m a) (says m b)
+  where
+    by : (x y : Bool) → (x && (y && true)) ≡ (x && y)
+    by true true = refl
+    by true false = refl
+    by false y = refl
+
+pub all-says : (m : List Bool) (ls : List ℕ) → All (λ l. says m l ≡ true) ls → list_all (says m) ls ≡ true
+all-says m [] h = refl
+all-says m (l ∷ ls) h = and-true (h 0 l (omega arith)) (all-says m ls (λ k d less. h (suc k) d (omega (arith, less))))
+  where
+    and-true : {x y : Bool} → x ≡ true → y ≡ true → (x && y) ≡ true
+    and-true {x} {y} a b = ap₂ (λ s t. s && t) a b
+
+says-all : (m : List Bool) (ls : List ℕ) → list_all (says m) ls ≡ true → All (λ l. says m l ≡ true) ls
+says-all m [] h k d less = absurd (omega (arith, less))
+says-all m (l ∷ ls) h zero d less = (and_parts (says m l) (list_all (says m) ls) h).0
+says-all m (l ∷ ls) h (suc k) d less = says-all m ls (and_parts (says m l) (list_all (says m) ls) h).1 k d (omega (arith, less))
+
+-- where the literals of a test are all true just at the vectors that pass it, they ask for them
+pub asks-over : (f : Formula) (rails : List Rails) (width : ℕ) (columns_read assumed : List ℕ) (test : List Bool → Bool) → IsOver f rails width → columns_read ≡ map (λ r. r.one) rails →
+    ((m v : List Bool) → IsModel m f → ReadsAll m rails (bits v) → list_all (says m) assumed ≡ test v) → Asks (problem f) columns_read assumed test
+asks-over f rails width columns_read assumed test over are tells = record {
+  sound = λ m under.
+      let model : IsModel m f = sym (models-same f m) ∙ under.model in
+      let reads = over.sound m model in
+      let v : List Bool = map (λ r. says m r.one) rails in
+      ap test (ap (λ (cs : List ℕ). map (says m) cs) are ∙ ones-read m rails v reads) ∙ sym (tells m v model reads) ∙ all-says m assumed under.assumed;
+  complete = λ v wide passes.
+      let has = over.complete v (wide ∙ ap (λ (cs : List ℕ). length cs) are ∙ length-map rails (λ (r : Rails). r.one) ∙ over.size) in
+      record {
+        model = has.model;
+        under = record { model = models-same f has.model ∙ has.holds; assumed = says-all has.model assumed (tells has.model v has.holds has.reads ∙ passes) };
+        reads = ap (λ (cs : List ℕ). map (says has.model) cs) are ∙ ones-read has.model rails v has.reads;
+      };
+}
+
+-- the care set's
+pub care-asks : (net : Parts) (care : CareSet) (f : Formula) (rails : List Rails) (inside allowed : ℕ) (columns_read assumed : List ℕ) → IsCareFormula net care f rails inside allowed → columns_read ≡ map (λ r. r.one) rails →
+    assumed ≡ inside ∷ allowed ∷ [] → Asks (problem f) columns_read assumed (is_care_vector net care)
+care-asks net care f rails inside allowed columns_read assumed is are assumed_are =
+    asks-over f rails (columns net) columns_read assumed (is_care_vector net care) is.over are
+    (λ m v model reads. ap (list_all (says m)) assumed_are ∙ both m inside allowed ∙ ap₂ (λ x y. x && y) (is.inside_tells m v model reads) (is.allowed_tells m v model reads))
+
+-- the literals are of the formula
+pub ones-within : (f : Formula) (rails : List Rails) → All (AreWithin f.variables) rails → All (λ l. l < 2 * f.variables) (map (λ r. r.one) rails)
+ones-within f rails all = All-map (λ l. l < 2 * f.variables) (λ (r : Rails). r.one) rails (λ k d less. (all k d less).one)
+
+pub two-within : (n a b : ℕ) → a < n → b < n → All (λ l. l < n) (a ∷ b ∷ [])
+two-within n a b first second zero d less = first
+two-within n a b first second (suc zero) d less = second
+two-within n a b first second (suc (suc k)) d less = absurd (omega (arith, less))

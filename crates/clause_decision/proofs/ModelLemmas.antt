@@ -1,0 +1,181 @@
+-- The literals of care models.
+use Rattle.std.proofs.Common.{◌≡◌, ◌≢◌, inl, inr, ℕ, zero, suc, ◌+◌, ◌-◌, ◌*◌, ◌<◌, ◌≤◌, Bool, true, false, List, [], ◌∷◌, ◌++◌, length, map, drop, get_or, Option, Some, None, IfSome, refl, sym, ap, ap₂, ◌∙◌, subst, arith}
+use Rattle.std.specs.Prelude.{replicate}
+use Rattle.std.specs.List.{All}
+use Rattle.std.specs.Option.{option_map, option_map_or}
+use Rattle.std.proofs.lemmas.Bool.{cases_lt}
+use Rattle.std.proofs.lemmas.List.{get_or-map, get_or_default, get_or-replicate, length-map, length-replicate, get_or_append_left, length-drop}
+use Rattle.std.proofs.lemmas.List.Elements.{All-map, All-get_or}
+use Rattle.std.proofs.lemmas.Option.{same_Some}
+use Rattle.cyc_base.specs.declared.sig.Sig.{Sig}
+use Rattle.cyc_base.specs.declared.trit.Trit.{Trit}
+use Rattle.cyc_base.specs.declared.trit.Trit.TheVariants.{Zero, One, X}
+use Rattle.cyc_base.specs.Values.{bit, bits}
+use Rattle.netlist.specs.declared.parts.Parts.{Parts}
+use Rattle.netlist.specs.Netlists.{IsNetlist, count, gate_at, no_gate}
+use Rattle.netlist.specs.Fixpoint.{wire, wires, fix, fix_gates, outs}
+use Rattle.netlist.specs.Walks.{IsLoopFree}
+use Rattle.loops.specs.Sweeps.{first_gate, gate_of, value_in}
+use Rattle.loops.proofs.Determined.{loop_free_is_determined}
+use Rattle.loops.proofs.Reading.{wire_of_gate}
+use Rattle.care_sets.specs.declared.model.CareModel.{CareModel}
+use Rattle.care_sets.specs.Binding.{IsCareOf, IsBoundTo, IsCareModel}
+use Rattle.care_sets.specs.Care.{CareSet, columns, is_one, inputs_at, holds_at, is_allowed, is_in_invariant, HasValues}
+use Rattle.care_sets.proofs.CareLemmas.{vectors_serve_assume, states_serve_invariant}
+use Rattle.ternary_clauses.specs.declared.formula.Formula.{Formula}
+use Rattle.ternary_clauses.specs.declared.formula.Rails.{Rails}
+use Rattle.ternary_clauses.specs.Encoding.{IsWanted, IsClosed, IsStill, AreNeverUnknown, SaysNetlist, is_marked, gate_rails}
+use Rattle.ternary_clauses.specs.Formulas.{says, IsModel, IsFormula, HasModelFrom}
+use Rattle.ternary_clauses.specs.Rails.{Reads, ReadsAll, AreWithin, rails_at, no_rails, is_one as is_one_rail}
+use Rattle.ternary_clauses.proofs.LawLemmas.{still_is_fix_without_loops}
+use Rattle.ternary_clauses.proofs.ReadingLemmas.{ReadsAll-at, ReadsAll-from, ReadsAll-length}
+use Rattle.clause_decision.specs.Formulas.{SaysTest, accepts, ReadsWithin}
+
+-- ---- all gates are wanted
+
+abbrev all : Parts → List Bool
+all net = replicate (length net.gates) true
+
+pub all-closed : (net : Parts) → IsNetlist net → IsClosed net (all net)
+all-closed net valid n wanted k d less behind =
+    let here : gate_of net (get_or (gate_at net n).pins k d) < length net.gates = (let low = valid.pins n no_gate wanted.within k d less in omega (arith, low, behind)) in
+    get_or-replicate (length net.gates) (gate_of net (get_or (gate_at net n).pins k d)) true false here
+
+pub all-known : (net : Parts) → IsNetlist net → IsLoopFree net → AreNeverUnknown net (all net) (all net)
+all-known net valid free v wide n wanted marked = loop_free_is_determined net valid free v wide n wanted.within
+
+-- ---- the output
+
+same-one : (t : Trit) → is_one_rail t ≡ is_one t
+same-one Zero = refl
+same-one One = refl
+same-one X = refl
+
+module _ (net : Parts) (valid : IsNetlist net) (free : IsLoopFree net) (given : List Rails) (old new : Formula) (rails : List Rails) (said : SaysNetlist net (all net) given old new rails) (wide : length given ≡ first_gate net) where
+  -- what the rails of a signal say
+  signal-says : (m values : List Bool) (n : ℕ) → n < count net → IsModel m new → ReadsAll m given (bits values) → says m (rails_at rails n).one ≡ is_one (get_or (fix net (bits values)) n X)
+  signal-says m values n inside is reads = elim (cases_lt n (first_gate net)) [
+    | inl low ↦
+        let at : Reads m (rails_at given n) (get_or (bits values) n X) = ReadsAll-at m given (bits values) n no_rails X (omega (arith, low, wide)) reads in
+        ap (λ (r : Rails). says m r.one) (said.columns n low)
+        ∙ at.one ∙ same-one (get_or (bits values) n X)
+        ∙ ap is_one (sym (get_or_append_left (bits values) (fix_gates net (bits values)) X n (omega (arith, low, long))))
+    | inr high ↦
+        let gate : ℕ = n - first_gate net in
+        let wanted : IsWanted net (all net) gate = record { within = omega (arith, inside, high); marked = get_or-replicate (length net.gates) gate true false (omega (arith, inside, high)) } in
+        let still = said.sound m (bits values) is reads in
+        let at = still.reads gate wanted in
+        let number : first_gate net + gate ≡ n = omega (arith, high) in
+        sym (ap (λ (k : ℕ). says m (rails_at rails k).one) number)
+        ∙ at.one ∙ same-one (value_in still.state gate)
+        ∙ ap is_one (still_is_fix_without_loops net (all net) values still.state valid free (all-closed net valid) (sym (length-map values bit) ∙ long) still.still gate wanted
+        ∙ sym (wire_of_gate (bits values) (fix_gates net (bits values)) (first_gate net) n long high))
+  ]
+    where
+      long : length (bits values) ≡ first_gate net
+      long = sym (ReadsAll-length m given (bits values) reads) ∙ wide
+
+  pub output-says : (output : Sig) → 0 < length net.outputs → output ≡ get_or net.outputs 0 output → (literal : ℕ) → literal ≡ (rails_at rails output.0).one → SaysTest old new given (accepts net) literal
+  output-says output some is literal literal_is = record {
+    grows = said.grows;
+    within = let w = (All-get_or (AreWithin new.variables) rails output.0 no_rails (let z = said.size in omega (arith, inside, z)) said.within).one in omega (arith, w, literal_is);
+    says_it = λ m values model reads.
+        ap (says m) literal_is
+        ∙ signal-says m values output.0 inside model reads
+        ∙ ap is_one (sym (get_or-map (wire (fix net (bits values))) net.outputs 0 output X some ∙ ap (wire (fix net (bits values))) (sym is)));
+    complete = λ m values long model reads. let has = said.complete m values long model reads in record { more = has.more; width = has.width; model = has.model };
+  }
+    where
+      inside : output.0 < count net
+      inside = subst (λ (s : Sig). s.0 < count net) (sym is) (valid.outputs 0 output some)
+
+-- ---- models of a care set
+
+-- the columns' rails that a model reads
+pub inputs-read : (model : CareModel) (m : List Bool) (rails list : List Rails) (values : List Bool) → All (λ column. column - model.first < length rails) model.columns →
+    list ≡ map (λ column. rails_at rails (column - model.first)) model.columns → ReadsAll m rails (bits values) → ReadsAll m list (bits (inputs_at model values))
+inputs-read model m rails list values within is reads =
+    subst (λ (rs : List Rails). ReadsAll m rs (bits (inputs_at model values))) (sym is)
+    (ReadsAll-from m (map (λ column. rails_at rails (column - model.first)) model.columns) (bits (inputs_at model values)) no_rails X same each)
+  where
+    same : length (map (λ column. rails_at rails (column - model.first)) model.columns) ≡ length (bits (inputs_at model values))
+    same =
+        length-map model.columns (λ column. rails_at rails (column - model.first))
+        ∙ sym (length-map (inputs_at model values) bit ∙ length-map model.columns (λ column. get_or values (column - model.first) false))
+
+    each : (i : ℕ) → i < length (map (λ column. rails_at rails (column - model.first)) model.columns) →
+        Reads m (get_or (map (λ column. rails_at rails (column - model.first)) model.columns) i no_rails) (get_or (bits (inputs_at model values)) i X)
+    each i less =
+        let inside : i < length model.columns = (let l = length-map model.columns (λ column. rails_at rails (column - model.first)) in omega (arith, less, l)) in
+        let place : ℕ = get_or model.columns i 0 - model.first in
+        let low : place < length rails = within i 0 inside in
+        let long : length rails ≡ length values = ReadsAll-length m rails (bits values) reads ∙ length-map values bit in
+        subst (λ (r : Rails). Reads m r (get_or (bits (inputs_at model values)) i X)) (sym (get_or-map (λ column. rails_at rails (column - model.first)) model.columns i 0 no_rails inside))
+        (subst (λ (t : Trit). Reads m (rails_at rails place) t)
+        (get_or-map bit values place false X (omega (arith, low, long))
+        ∙ sym (get_or-map bit (inputs_at model values) i false X (let l = length-map model.columns (λ column. get_or values (column - model.first) false) in omega (arith, inside, l)) ∙ ap bit (get_or-map (λ column. get_or values (column - model.first) false) model.columns i 0 false inside)))
+        (ReadsAll-at m rails (bits values) place no_rails X low reads))
+
+-- so a literal for a model's inputs is one for the columns
+pub model-says : (old new : Formula) (model : CareModel) (rails list : List Rails) (literal : ℕ) → All (λ column. column - model.first < length rails) model.columns → list ≡ map (λ column. rails_at rails (column - model.first)) model.columns →
+    SaysTest old new list (accepts model.net) literal → SaysTest old new rails (holds_at model) literal
+model-says old new model rails list literal within is said = record {
+  grows = said.grows;
+  within = said.within;
+  says_it = λ m values holds reads. said.says_it m (inputs_at model values) holds (inputs-read model m rails list values within is reads);
+  complete = λ m values long holds reads. said.complete m (inputs_at model values) long holds (inputs-read model m rails list values within is reads);
+}
+
+-- a model that is there, of its parts
+pub there : (o : Option CareModel) (net : Parts) (columns_read : List ℕ) → Some net ≡ option_map (λ model. model.net) o → columns_read ≡ option_map_or (λ model. model.columns) o [] → (first width : ℕ) → IfSome o (ReadsWithin first width) →
+    o ≡ Some (record { net = net; first = first; columns = columns_read })
+there None net columns_read is are first width reads = cc
+there (Some model) net columns_read is are first width reads =
+    ap₂ (λ (n : Parts) (cs : List ℕ). Some (record { net = n; first = model.first; columns = cs })) (sym (same_Some net model.net is)) (sym are)
+    ∙ ap (λ (f : ℕ). Some (record { net = net; first = f; columns = columns_read })) reads.start
+
+pub of-there : (o : Option CareModel) (model : CareModel) (P : CareModel → Type 0) → o ≡ Some model → IfSome o P → P model
+of-there o model P is holds = subst (λ (p : Option CareModel). IfSome p P) is holds
+
+pub none-there : (o : Option CareModel) → (let nothing : Option Parts = None in nothing) ≡ option_map (λ model. model.net) o → o ≡ None
+none-there None e = refl
+none-there (Some model) e = cc
+
+-- ---- which columns they read
+
+vector : ℕ → List Bool
+vector zero = []
+vector (suc n) = false ∷ vector n
+
+wide-vector : (n : ℕ) → length (vector n) ≡ n
+unfolding vector
+wide-vector zero = refl
+wide-vector (suc n) = ap suc (wide-vector n)
+
+pub invariant-reads : (net : Parts) (care : CareSet) (width : ℕ) → IsCareOf net care → width ≡ length net.latches → IfSome care.invariant (ReadsWithin (length net.inputs) width)
+invariant-reads net care width bound is = by care.invariant bound.invariant (states_serve_invariant net care (vector (length net.latches)) bound (wide-vector (length net.latches)))
+  where
+    by : (o : Option CareModel) → IfSome o (IsBoundTo net (length net.inputs)) → IfSome o (HasValues (vector (length net.latches))) → IfSome o (ReadsWithin (length net.inputs) width)
+    by None b h = tt
+    by (Some model) b h = record {
+      start = b.start;
+      late = b.late;
+      within = λ k d inside. let low = h.each k d inside in let long = wide-vector (length net.latches) in let start = b.start in omega (arith, low, long, is, start);
+    }
+
+pub assume-reads : (net : Parts) (care : CareSet) (width : ℕ) → IsCareOf net care → width ≡ columns net → IfSome care.assume (ReadsWithin 0 width)
+assume-reads net care width bound is = by care.assume bound.assume (vectors_serve_assume net care (vector (columns net)) bound (wide-vector (columns net)))
+  where
+    by : (o : Option CareModel) → IfSome o (IsBoundTo net 0) → IfSome o (HasValues (vector (columns net))) → IfSome o (ReadsWithin 0 width)
+    by None b h = tt
+    by (Some model) b h = record {
+      start = b.start;
+      late = b.late;
+      within = λ k d inside. let low = h.each k d inside in let long = wide-vector (columns net) in let start = b.start in omega (arith, low, long, is, start);
+    }
+
+-- rails of columns are of the formula
+pub rails-within : (k : ℕ) (columns_read : List ℕ) (first : ℕ) (rails list : List Rails) → All (AreWithin k) rails → All (λ column. column - first < length rails) columns_read → list ≡ map (λ column. rails_at rails (column - first)) columns_read → All (AreWithin k) list
+rails-within k columns_read first rails list all within is =
+    subst (All (AreWithin k)) (sym is) (All-map (AreWithin k) (λ column. rails_at rails (column - first)) columns_read
+    (λ j d less. All-get_or (AreWithin k) rails (get_or columns_read j d - first) no_rails (within j d less) all))

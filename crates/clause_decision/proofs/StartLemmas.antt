@@ -1,0 +1,97 @@
+-- What inits ask of a state.
+use Rattle.std.proofs.Common.{◌≡◌, inl, inr, ℕ, zero, suc, ◌+◌, ◌-◌, ◌*◌, ◌%◌, ◌==◌, if◌then◌else◌, ◌<◌, Bool, true, false, not, ◌&&◌, List, [], ◌∷◌, ◌++◌, length, map, take, get_or, refl, sym, ap, ap₂, ◌∙◌, subst, arith}
+use Rattle.std.specs.Prelude.{zip}
+use Rattle.std.specs.List.{All, list_all}
+use Rattle.std.proofs.lemmas.List.{append_assoc, append-nil}
+use Rattle.std.proofs.lemmas.List.Elements.{All-append, All-nil}
+use Rattle.std.proofs.lemmas.List.Folds.{list_all-append}
+use Rattle.cyc_base.specs.declared.trit.Trit.{Trit}
+use Rattle.cyc_base.specs.Values.{bit, bits}
+use Rattle.netlist.specs.declared.parts.Init.{Init}
+use Rattle.netlist.specs.declared.parts.Init.TheVariants.{Zero, One, Either}
+use Rattle.netlist.specs.declared.parts.Latch.{Latch}
+use Rattle.netlist.specs.declared.parts.Parts.{Parts}
+use Rattle.care_sets.specs.Care.{CareSet, is_in_invariant}
+use Rattle.refusals.specs.Refusals.{is_initial, may_start}
+use Rattle.ternary_clauses.specs.declared.formula.Formula.{Formula}
+use Rattle.ternary_clauses.specs.declared.formula.Rails.{Rails}
+use Rattle.ternary_clauses.specs.Formulas.{says, negation, IsModel}
+use Rattle.ternary_clauses.specs.Rails.{Reads, ReadsAll, AreWithin, is_one, is_zero}
+use Rattle.ternary_clauses.proofs.ClauseLemmas.{parity, says-negation}
+use Rattle.clause_decision.specs.Starts.{asked_of, asked_starts}
+use Rattle.clause_decision.specs.Tests.{is_outside}
+
+-- ---- latch by latch
+
+pub asked-more : (k : ℕ) (latches : List Latch) (rails : List Rails) (latch : Latch) (r : Rails) → k < length latches → k < length rails → asked_starts (take (k + 1) latches) (take (k + 1) rails) ≡ (asked_starts (take k latches) (take k rails) ++ asked_of (get_or latches k latch).init (get_or rails k r))
+asked-more zero [] rails latch r low high = absurd (omega (arith, low))
+asked-more zero (l ∷ latches) [] latch r low high = absurd (omega (arith, high))
+asked-more zero (l ∷ latches) (s ∷ rails) latch r low high = append-nil (asked_of l.init s)
+asked-more (suc k) [] rails latch r low high = absurd (omega (arith, low))
+asked-more (suc k) (l ∷ latches) [] latch r low high = absurd (omega (arith, high))
+asked-more (suc k) (l ∷ latches) (s ∷ rails) latch r low high =
+    let e : suc k + 1 ≡ suc (k + 1) = omega arith in
+    ap (λ (n : ℕ). asked_starts (take n (l ∷ latches)) (take n (s ∷ rails))) e
+    ∙ ap (λ (ls : List ℕ). asked_of l.init s ++ ls) (asked-more k latches rails latch r (omega (arith, low)) (omega (arith, high)))
+    ∙ sym (append_assoc (asked_of l.init s) (asked_starts (take k latches) (take k rails)) (asked_of (get_or latches k latch).init (get_or rails k r)))
+
+-- ---- what they say of a state
+
+start-told : (m : List Bool) (init : Init) (r : Rails) (b : Bool) → Reads m r (bit b) → list_all (says m) (asked_of init r) ≡ may_start init b
+start-told m Zero r b reads = ap (λ x. x && true) (reads.zero) ∙ by b
+  where
+    by : (b : Bool) → (is_zero (bit b) && true) ≡ not b
+    by true = refl
+    by false = refl
+start-told m One r b reads = ap (λ x. x && true) (reads.one) ∙ by b
+  where
+    by : (b : Bool) → (is_one (bit b) && true) ≡ b
+    by true = refl
+    by false = refl
+start-told m Either r b reads = refl
+
+pub starts-told : (m : List Bool) (latches : List Latch) (rails : List Rails) (q : List Bool) → length rails ≡ length latches → ReadsAll m rails (bits q) → list_all (says m) (asked_starts latches rails) ≡ list_all (λ p. may_start p.0.init p.1) (zip latches q)
+starts-told m [] rails q wide reads = refl
+starts-told m (l ∷ latches) [] q wide reads = absurd (omega (arith, wide))
+starts-told m (l ∷ latches) (r ∷ rails) [] wide reads = absurd reads
+starts-told m (l ∷ latches) (r ∷ rails) (b ∷ q) wide reads =
+    list_all-append (says m) (asked_of l.init r) (asked_starts latches rails)
+    ∙ ap₂ (λ x y. x && y) (start-told m l.init r b reads.0) (starts-told m latches rails q (omega (arith, wide)) reads.1)
+
+and-swap : (a b : Bool) → (a && b) ≡ (b && a)
+and-swap true true = refl
+and-swap true false = refl
+and-swap false true = refl
+and-swap false false = refl
+
+-- with the invariant's literal negated
+pub outside-told : (net : Parts) (care : CareSet) (m : List Bool) (rails : List Rails) (q : List Bool) (inside : ℕ) → length rails ≡ length net.latches → ReadsAll m rails (bits q) → says m inside ≡ is_in_invariant care q →
+    list_all (says m) (negation inside ∷ asked_starts net.latches rails) ≡ is_outside net care q
+outside-told net care m rails q inside wide reads is =
+    ap₂ (λ x y. x && y) (says-negation m inside ∙ ap not is) (starts-told m net.latches rails q wide reads)
+    ∙ and-swap (not (is_in_invariant care q)) (is_initial net q)
+
+-- ---- they are of the formula
+
+asked-within : (n : ℕ) (init : Init) (r : Rails) → AreWithin n r → All (λ l. l < 2 * n) (asked_of init r)
+asked-within n Zero r is zero d less = is.zero
+asked-within n Zero r is (suc k) d less = absurd (omega (arith, less))
+asked-within n One r is zero d less = is.one
+asked-within n One r is (suc k) d less = absurd (omega (arith, less))
+asked-within n Either r is k d less = absurd (omega (arith, less))
+
+pub starts-within : (n : ℕ) (latches : List Latch) (rails : List Rails) → All (AreWithin n) rails → All (λ l. l < 2 * n) (asked_starts latches rails)
+starts-within n [] rails all = All-nil (λ l. l < 2 * n)
+starts-within n (l ∷ latches) [] all = All-nil (λ l. l < 2 * n)
+starts-within n (l ∷ latches) (r ∷ rails) all =
+    All-append (λ x. x < 2 * n) (asked_of l.init r) (asked_starts latches rails) (asked-within n l.init r (all 0 r (omega arith))) (starts-within n latches rails (λ k d less. all (suc k) d (omega (arith, less))))
+
+pub negation-within : (n l : ℕ) → l < 2 * n → negation l < 2 * n
+negation-within n l less = elim (parity l) [
+  | inl even ↦ subst (λ (x : ℕ). x < 2 * n) (sym (ap (λ (r : ℕ). if r == 0 then l + 1 else l - 1) even)) (omega (arith, less, even))
+  | inr odd ↦ subst (λ (x : ℕ). x < 2 * n) (sym (ap (λ (r : ℕ). if r == 0 then l + 1 else l - 1) odd)) (omega (arith, less))
+]
+
+pub cons-within : (n l : ℕ) (ls : List ℕ) → l < n → All (λ x. x < n) ls → All (λ x. x < n) (l ∷ ls)
+cons-within n l ls first rest zero d less = first
+cons-within n l ls first rest (suc k) d less = rest k d (omega (arith, less))

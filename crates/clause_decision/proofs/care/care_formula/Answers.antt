@@ -1,0 +1,13 @@
+use Rattle.std.proofs.Common.{◌≡◌, ◌∙◌, ◌+◌, ℕ, List, length, subst, sym, ap₂}
+use Rattle.ternary_clauses.specs.declared.formula.Rails.{Rails}
+use Rattle.ternary_clauses.specs.Columns.{SaysColumns}
+use Rattle.care_sets.specs.Care.{columns}
+use Rattle.clause_decision.specs.Formulas.{IsOver}
+use Rattle.clause_decision.proofs.FormulaLemmas.{over-columns}
+use Rattle.clause_decision.proofs.care.care_formula.Goals as goal
+
+pub say_care-requires-clause-over : goal.say_care-requires-clause-over
+say_care-requires-clause-over c =
+    subst (λ (rs : List Rails). IsOver c.add_columns.new.formula rs (columns c.args.net.now)) (sym c.deref.ensures.value)
+    (over-columns c.in_ok-formula.formula c.add_columns.new.formula c.in_ok-columns.columns.items (columns c.args.net.now) c.in_ok-formula.ensures.variables c.in_ok-formula.ensures.literals
+    (subst (SaysColumns c.in_ok-formula.formula c.add_columns.new.formula c.in_ok-columns.columns.items) (ap₂ (λ (i l : ℕ). i + l) c.inputs.ensures.inputs c.latches.ensures.latches) c.in_ok-columns.ensures))

@@ -1,0 +1,36 @@
+use Rattle.std.proofs.Common.{◌≡◌, ◌∙◌, ◌+◌, ◌-◌, ℕ, length, take, drop, List, subst, sym, ap, arith}
+use Rattle.std.proofs.lemmas.List.{length-drop, take_all}
+use Rattle.std.specs.Prelude.{IfSome}
+use Rattle.ternary_clauses.specs.declared.formula.Rails.{Rails}
+use Rattle.care_sets.specs.Care.{is_in_invariant}
+use Rattle.clause_decision.specs.Formulas.{ReadsWithin, SaysTest}
+use Rattle.clause_decision.proofs.FormulaLemmas.{care-formula}
+use Rattle.clause_decision.proofs.ModelLemmas.{assume-reads, invariant-reads}
+use Rattle.clause_decision.proofs.care.say_care.Goals as goal
+use Rattle.clause_decision.proofs.care.say_care.Goals.{After-add_invariant-arg-2-1}
+
+-- the latches' rails
+abbrev latches : After-add_invariant-arg-2-1 → List Rails
+latches c = take (length c.args.columns.now - c.inputs-first.result) (drop c.inputs-first.result c.args.columns.now)
+
+latches-are : (c : After-add_invariant-arg-2-1) → latches c ≡ drop (length c.args.net.now.inputs) c.args.columns.now
+latches-are c =
+    take_all (length c.args.columns.now - c.inputs-first.result) (drop c.inputs-first.result c.args.columns.now) (let l = length-drop c.inputs-first.result c.args.columns.now in omega (arith, l))
+    ∙ ap (λ (n : ℕ). drop n c.args.columns.now) c.inputs-first.ensures.inputs
+
+pub add_invariant-requires-clause-reads : goal.add_invariant-requires-clause-reads
+add_invariant-requires-clause-reads c =
+    let first = c.inputs-first.ensures.inputs in
+    subst (λ (n : ℕ). IfSome c.args.care.now.invariant (ReadsWithin n (length (latches c)))) (sym first)
+    (invariant-reads c.args.net.now c.args.care.now (length (latches c)) c.requires.care
+    (ap (λ (rs : List Rails). length rs) (latches-are c) ∙ length-drop (length c.args.net.now.inputs) c.args.columns.now ∙ (let z = c.requires.over.size in omega (arith, z))))
+
+pub add_assumption-requires-clause-reads : goal.add_assumption-requires-clause-reads
+add_assumption-requires-clause-reads c = assume-reads c.args.net.now c.args.care.now (length c.args.columns.now) c.requires.care c.requires.over.size
+
+pub returns : goal.returns
+returns g =
+    let c = (goal.at.returns g).After-add_invariant-arg-2-1 in
+    care-formula g.args.net.now g.args.care.now g.args.formula.now g.add_invariant.new.formula g.add_assumption.new.formula g.args.columns.now g.in_ok-inside.inside g.in_ok-allowed.allowed g.requires.over
+    (subst (λ (rs : List Rails). SaysTest g.args.formula.now g.add_invariant.new.formula rs (is_in_invariant g.args.care.now) g.in_ok-inside.inside) (latches-are c) g.in_ok-inside.ensures)
+    g.in_ok-allowed.ensures

@@ -1,0 +1,51 @@
+use Rattle.std.proofs.Common.{◌≡◌, ◌∙◌, ◌∷◌, ℕ, ◌*◌, ◌<◌, Bool, List, length, map, subst, sym, ap, arith}
+use Rattle.std.specs.Prelude.{IfSome}
+use Rattle.std.specs.List.{All, list_all}
+use Rattle.std.proofs.lemmas.List.{length-map}
+use Rattle.cyc_base.specs.Values.{bits}
+use Rattle.care_sets.specs.Care.{is_in_invariant}
+use Rattle.ternary_clauses.specs.Columns.{SaysColumns}
+use Rattle.ternary_clauses.specs.declared.formula.Rails.{Rails}
+use Rattle.ternary_clauses.specs.Formulas.{negation, says as says_lit}
+use Rattle.clause_decision.specs.Formulas.{IsOver, ReadsWithin, SaysTest}
+use Rattle.clause_decision.specs.Starts.{asked_starts}
+use Rattle.clause_decision.specs.Tests.{is_outside}
+use Rattle.clause_decision.proofs.FormulaLemmas.{asks-over, ones-within, over-columns, over-grows}
+use Rattle.clause_decision.proofs.ModelLemmas.{invariant-reads}
+use Rattle.clause_decision.proofs.StartLemmas.{cons-within, negation-within, outside-told, starts-within}
+use Rattle.clause_decision.proofs.initial.outside_question.Goals as goal
+use Rattle.clause_decision.proofs.initial.outside_question.Goals.{In_ok-latches}
+
+-- the columns are the latches
+over : (c : In_ok-latches) → IsOver c.add_columns.new.formula c.in_ok-latches.latches.items (length c.args.net.now.latches)
+over c =
+    over-columns c.in_ok-formula.formula c.add_columns.new.formula c.in_ok-latches.latches.items (length c.args.net.now.latches) c.in_ok-formula.ensures.variables c.in_ok-formula.ensures.literals
+    (subst (SaysColumns c.in_ok-formula.formula c.add_columns.new.formula c.in_ok-latches.latches.items) c.latches.ensures.latches c.in_ok-latches.ensures)
+
+pub add_invariant-requires-clause-reads : goal.add_invariant-requires-clause-reads
+add_invariant-requires-clause-reads g =
+    let c : In_ok-latches = (goal.at.add_invariant-requires-clause-reads g).In_ok-latches in
+    subst (λ (n : ℕ). IfSome g.args.care.now.invariant (ReadsWithin n (length g.deref.result.now))) (sym g.inputs.ensures.inputs)
+    (invariant-reads g.args.net.now g.args.care.now (length g.deref.result.now) g.requires (ap (λ (rs : List Rails). length rs) g.deref.ensures.value ∙ (over c).size))
+
+pub returns : goal.returns
+returns g =
+    let c : In_ok-latches = (goal.at.returns g).In_ok-latches in
+    let net = g.args.net.now in
+    let care = g.args.care.now in
+    let rails : List Rails = g.in_ok-latches.latches.items in
+    let f = g.add_invariant.new.formula in
+    let inside : ℕ = g.in_ok-inside.inside in
+    let says : SaysTest g.add_columns.new.formula f rails (is_in_invariant care) inside = subst (λ (rs : List Rails). SaysTest g.add_columns.new.formula f rs (is_in_invariant care) inside) g.deref.ensures.value g.in_ok-inside.ensures in
+    let now : IsOver f rails (length net.latches) = over-grows g.add_columns.new.formula f rails (length net.latches) (over c) says.grows (λ m v long is reads. says.complete m v long is reads) in
+    let ones : g.in_ok-columns.columns.items ≡ map (λ r. r.one) rails = g.in_ok-columns.ensures ∙ ap (λ (rs : List Rails). map (λ (r : Rails). r.one) rs) g.deref-2.ensures.value in
+    let assumed : g.in_ok-assumed.assumed.items ≡ (negation inside ∷ asked_starts net.latches rails) = g.in_ok-assumed.ensures ∙ ap (λ (rs : List Rails). negation inside ∷ asked_starts net.latches rs) g.deref-3.ensures.value in
+    record {
+      askable = record {
+        columns = subst (All (λ l. l < 2 * f.variables)) (sym ones) (ones-within f rails now.within);
+        assumed = subst (All (λ l. l < 2 * f.variables)) (sym assumed) (cons-within (2 * f.variables) (negation inside) (asked_starts net.latches rails) (negation-within f.variables inside says.within) (starts-within f.variables net.latches rails now.within));
+      };
+      wide = ap (λ (cs : List ℕ). length cs) ones ∙ length-map rails (λ (r : Rails). r.one) ∙ now.size;
+      asks = asks-over f rails (length net.latches) g.in_ok-columns.columns.items g.in_ok-assumed.assumed.items (is_outside net care) now ones
+          (λ m v is reads. ap (list_all (says_lit m)) assumed ∙ outside-told net care m rails v inside now.size reads (says.says_it m v is reads));
+    }

@@ -1,0 +1,94 @@
+//! The care set with the gates of a scope as clauses.
+
+ghost use Rattle.std.specs.Prelude.{◌≡◌, IfOk};
+ghost use Rattle.care_sets.specs.Binding.{IsCareOf};
+ghost use Rattle.clause_decision.specs.Cones.{IsCone};
+ghost use Rattle.clause_decision.specs.Formulas.{IsCareFormula};
+ghost use Rattle.clause_decision.specs.Scopes.{IsScopeOf};
+
+use crate::care::{CareFormula, care_formula};
+use crate::scope::Scope;
+use care_sets::Care;
+use netlist::Netlist;
+use std::alloc::Global;
+use ternary_clauses::{ClausesFault, Formula, Rails, add_netlist};
+
+/// Clauses over the columns of a netlist and its gates in a scope, with the literals of the care set.
+pub(crate) struct Cone {
+    pub formula: Formula,
+    /// The rails of each signal: the columns', and then those of the gates in the scope.
+    pub rails: Vec<Rails>,
+    pub inside: u32,
+    pub allowed: u32,
+}
+
+impl Drop for Cone {
+    fn drop(self) {
+        let Cone {
+            formula: _,
+            rails: _,
+            inside: _,
+            allowed: _,
+        } = self;
+    }
+}
+
+impl Cone {
+    /// The clauses alone.
+    pub(crate) fn into_formula(self) -> Formula
+        ensures { result ≡ self.formula }
+    {
+        let Cone {
+            formula,
+            rails: _,
+            inside: _,
+            allowed: _,
+        } = self;
+        formula
+    }
+}
+
+/// Adds the gates of the scope. The answer has the rails of each signal.
+fn add_gates(
+    alloc: Global,
+    said: &mut CareFormula,
+    net: &Netlist,
+    care: &Care,
+    scope: &Scope,
+) -> Result<Vec<Rails>, ClausesFault>
+    requires scope { IsScopeOf net.now scope.now }
+    requires said { IsCareFormula net.now care.now said.old.formula said.old.columns.items said.old.inside said.old.allowed }
+    ensures { IfOk result (λ rails. IsCone net.now care.now scope.now.gates said.new.formula rails.items said.new.inside said.new.allowed) }
+{
+    let _ = net.gates();
+    add_netlist(
+        alloc,
+        &mut said.formula,
+        net,
+        &said.columns,
+        scope.gates.items(),
+        scope.known.items(),
+    )
+}
+
+/// The care set and the gates of the scope as clauses.
+pub(crate) fn cone_of(
+    alloc: Global,
+    net: &Netlist,
+    care: &Care,
+    scope: &Scope,
+) -> Result<Cone, ClausesFault>
+    requires care { IsCareOf net.now care.now }
+    requires scope { IsScopeOf net.now scope.now }
+    ensures { IfOk result (λ cone. IsCone net.now care.now scope.now.gates cone.formula cone.rails.items cone.inside cone.allowed) }
+{
+    let mut said = care_formula(alloc, net, care)?;
+    let rails = add_gates(alloc, &mut said, net, care, scope)?;
+    let (inside, allowed) = (said.inside, said.allowed);
+    Ok(Cone {
+        formula: said.into_formula(),
+        rails,
+        inside,
+        allowed,
+    })
+}

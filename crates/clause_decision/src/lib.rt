@@ -1,0 +1,26 @@
+//! The parts of a decision by clauses: whether an initial state lies outside the invariant, whether there is a care
+//! vector, which gate is unknown first and where, whether a next state leaves the invariant, and how many sweeps a loop
+//! needs.
+//!
+//! It stands on `ternary_clauses`, whose clauses have the least fixpoint of each vector as a model, and on
+//! `clause_queries`, which asks a solver about them. The layer above uses that each answer is the one of the definitions
+//! of `refusals` and `loops`, or that the solver gave up.
+#![tactic(auto)]
+
+mod care;
+mod cones;
+mod initial;
+mod leaving;
+mod models;
+mod question;
+mod scope;
+mod sweeping;
+mod unknown;
+
+pub use care::is_possible;
+pub use clause_queries::{First, Found};
+pub use initial::least_outside;
+pub use leaving::least_leaving;
+pub use scope::Scope;
+pub use sweeping::sweeps_needed;
+pub use unknown::{first_unknown, least_unknown};
