@@ -4,11 +4,11 @@
 # by construction is compared: `WRONG` is another verdict than that, `NONE` is no verdict within the limits. Then it
 # counts them; the status is 1 where one was wrong or missing.
 #
-#   bench/decide.sh [--seconds N] [--memory MB] [--ways] [FAMILY SIZE]..     (needs the package time)
+#   bench/decide.sh [--seconds N] [--memory MB] [--nodes] [FAMILY SIZE]..     (needs the package time)
 #
 #   --seconds N     the processor time that each has, 60 without the option
 #   --memory MB     the memory that each has, 4000 without the option
-#   --ways          tells for each the least limit of nodes that isn't met, and how many loops are decided by which step
+#   --nodes          tells for each the least limit of nodes that isn't met
 #                   (crates/benchmarks; `rt run` there builds that program)
 #   FAMILY SIZE     these alone
 #
@@ -19,12 +19,12 @@ cyc=${CYC:-$top/crates/cyc/out/cyc}
 decider=$top/crates/benchmarks/out/benchmarks
 seconds=60
 memory=4000
-tells_ways=
+tells_nodes=
 while [ $# -gt 0 ]; do
     case $1 in
     --seconds) seconds=$2 && shift 2 ;;
     --memory) memory=$2 && shift 2 ;;
-    --ways) tells_ways=yes && shift ;;
+    --nodes) tells_nodes=yes && shift ;;
     -*) sed -n '/^#   bench/s/^# *//p' "$0" >&2 && exit 2 ;;
     *) break ;;
     esac
@@ -60,15 +60,6 @@ nodes() {
     echo "$high"
 }
 
-# How the loops are decided of the netlist and the care file among these words.
-ways() {
-    local word files=()
-    for word in "$@"; do
-        [ ! -f "$word" ] || files+=("$word")
-    done
-    cat "${files[@]}" | limited "$decider" decide
-}
-
 # Runs a call under the limits, and tells its time, its memory and its verdict, which is to match the pattern.
 run() {
     local name=$1 expected=$2 line mark=
@@ -94,7 +85,7 @@ measure() {
     local name=$1 expected=$2
     shift 2
     run "$name" "$expected" check "$@"
-    [ -z "$tells_ways" ] || echo "    $(nodes "$@") nodes, $(ways "$@")"
+    [ -z "$tells_nodes" ] || echo "    $(nodes "$@") nodes"
 }
 
 # A netlist of a family, with its care file and its options where it has some.
