@@ -1,0 +1,137 @@
+-- The gates of a scope on top of the clauses of a care set.
+use Rattle.std.proofs.Common.{◌≡◌, ◌≢◌, ◌⊎◌, inl, inr, ℕ, ◌<◌, ◌≤◌, ◌+◌, ◌-◌, ◌*◌, Bool, true, List, ◌++◌, length, map, take, get_or, refl, sym, ap, subst, ◌∙◌, arith}
+use Rattle.std.specs.Prelude.{Contains}
+use Rattle.std.specs.List.{All}
+use Rattle.std.proofs.lemmas.List.{length-map, length-take-le, ext_get_or, get_or-take}
+use Rattle.std.proofs.lemmas.List.Elements.{All-get_or, All-from_get_or, All-take, All-contains, Contains-get_or}
+use Rattle.cyc_base.specs.declared.sig.Sig.{Sig}
+use Rattle.cyc_base.specs.declared.trit.Trit.{Trit}
+use Rattle.cyc_base.specs.Values.{bit, bits, Below}
+use Rattle.netlist.specs.declared.parts.Gate.{Gate}
+use Rattle.netlist.specs.declared.parts.Parts.{Parts}
+use Rattle.netlist.specs.Fixpoint.{fix_gates}
+use Rattle.netlist.specs.Netlists.{count, gate_sig, gate_at, no_gate, signal, IsSignal, IsNetlist}
+use Rattle.netlist.specs.Walks.{Feeds}
+use Rattle.loops.specs.Sweeps.{first_gate, gate_of, value_in}
+use Rattle.care_sets.specs.Care.{CareSet, columns, is_allowed, is_in_invariant, state_of}
+use Rattle.ternary_clauses.specs.declared.formula.Formula.{Formula}
+use Rattle.ternary_clauses.specs.declared.formula.Rails.{Rails}
+use Rattle.ternary_clauses.specs.Encoding.{IsWanted, IsClosed, ReadsGates, ReadsStill, HasState, SaysNetlist, gate_rails, AreNeverUnknown as AreNeverUnknownAmong}
+use Rattle.ternary_clauses.specs.Formulas.{says, IsModel, IsFormula, HasModelFrom, Grows}
+use Rattle.ternary_clauses.specs.Rails.{Reads, ReadsAll, AreWithin, no_rails, rails_at}
+use Rattle.ternary_clauses.proofs.LawLemmas.{still_is_above_fix}
+use Rattle.ternary_clauses.proofs.ReadingLemmas.{Reads-more, ReadsAll-more, ReadsAll-length, All-within-more}
+use Rattle.clause_decision.specs.Cones.{column_rails, vector_in, ReadsAbove, ReadsFix, IsCone}
+use Rattle.clause_decision.specs.Formulas.{HasVector, IsCareFormula}
+use Rattle.clause_decision.specs.Scopes.{is_marked, AreClosed, AreNeverUnknown}
+
+-- each pin of a marked gate is a column, or a gate that feeds it
+pub closed-by_pins : (net : Parts) (marks : List Bool) → IsNetlist net → AreClosed net marks → IsClosed net marks
+closed-by_pins net marks proper closed n is =
+    All-from_get_or (λ (pin : Sig). first_gate net ≤ pin.0 → is_marked marks (gate_of net pin) ≡ true) (gate_at net n).pins (signal 0)
+    (λ i inside high. fed i inside high)
+  where
+    fed : (i : ℕ) → i < length (gate_at net n).pins → first_gate net ≤ (get_or (gate_at net n).pins i (signal 0)).0 → is_marked marks (gate_of net (get_or (gate_at net n).pins i (signal 0))) ≡ true
+    fed i inside high =
+        let pin : Sig = get_or (gate_at net n).pins i (signal 0) in
+        let of_signals : All (IsSignal net) (gate_at net n).pins = All-get_or (λ (gate : Gate). All (IsSignal net) gate.pins) net.gates n no_gate is.within proper.pins in
+        let below : pin.0 < count net = All-get_or (IsSignal net) (gate_at net n).pins i (signal 0) inside of_signals in
+        let same : pin ≡ gate_sig net (gate_of net pin) = (let e : pin.0 ≡ first_gate net + gate_of net pin = omega (arith, high) in ap signal e) in
+        closed (gate_of net pin) n
+        (record {
+          source = omega (arith, high, below);
+          reader = is.within;
+          pin = subst (Contains (gate_at net n).pins) same (Contains-get_or (gate_at net n).pins i (signal 0) inside);
+        })
+        is.marked
+
+-- a gate that no Boolean vector leaves unknown fits in each fixpoint
+pub known-among : (net : Parts) (marks known : List Bool) → AreNeverUnknown net known → AreNeverUnknownAmong net marks known
+known-among net marks known never v wide n is marked = never v wide n is.within marked
+
+-- the columns' rails come first
+pub column_rails-are : (net : Parts) (marks : List Bool) (given : List Rails) (old new : Formula) (rails : List Rails) → length given ≡ columns net → SaysNetlist net marks given old new rails → column_rails net rails ≡ given
+column_rails-are net marks given old new rails wide says_it =
+    let size : length rails ≡ count net = says_it.size in
+    let long : length (take (columns net) rails) ≡ columns net = length-take-le (columns net) rails (omega (arith, size)) in
+    ext_get_or no_rails (take (columns net) rails) given (long ∙ sym wide)
+    (λ i less. let inside : i < columns net = omega (arith, less, long) in get_or-take (columns net) rails i no_rails inside ∙ says_it.columns i inside)
+
+module _ (net : Parts) (care : CareSet) (marks : List Bool) (old new : Formula) (given rails : List Rails) (inside allowed : ℕ)
+    (said : IsCareFormula net care old given inside allowed) (closed : IsClosed net marks) (gates : SaysNetlist net marks given old new rails) where
+  first : column_rails net rails ≡ given
+  first = column_rails-are net marks given old new rails said.over.size gates
+
+  reads-vector : (m : List Bool) → IsModel m new → ReadsAll m given (bits (map (λ r. says m r.one) given))
+  reads-vector m h = said.over.sound m (gates.grows.sound m h)
+
+  same-vector : (m : List Bool) → map (λ r. says m r.one) given ≡ vector_in net rails m
+  same-vector m = ap (map (λ r. says m r.one)) (sym first)
+
+  above-fix : (m : List Bool) → IsModel m new → ReadsAbove net marks rails m (map (λ r. says m r.one) given)
+  above-fix m h =
+      let v = map (λ r. says m r.one) given in
+      let still : ReadsStill net marks rails m (bits v) = gates.sound m (bits v) h (reads-vector m h) in
+      record {
+        state = still.state;
+        reads = still.reads;
+        above = λ n is. still_is_above_fix net marks (bits v) still.state closed (length-map v bit ∙ length-map given (λ r. says m r.one) ∙ said.over.size) still.still n is;
+      }
+
+  reads-fix : (v : List Bool) → length v ≡ columns net → ReadsFix net marks new rails v
+  reads-fix v wide =
+      let has : HasVector old given v = said.over.complete v wide in
+      let more : HasState net marks new rails has.model (fix_gates net (bits v)) = gates.complete has.model v has.long has.holds has.reads in
+      record {
+        model = has.model ++ more.more;
+        long = more.width;
+        holds = more.model;
+        columns = subst (λ rs. ReadsAll (has.model ++ more.more) rs (bits v)) (sym first)
+            (ReadsAll-more has.model more.more given (bits v) (subst (λ k. All (AreWithin k) given) (sym has.long) said.over.within) has.reads);
+        fixpoint = more.reads;
+      }
+
+  pub cone-of : IsCone net care marks new rails inside allowed
+  cone-of = record {
+    formula = gates.grows.formula;
+    within = gates.within;
+    size = gates.size;
+    inside_within = (let x = gates.grows.more in let y = said.inside_within in omega (arith, x, y));
+    allowed_within = (let x = gates.grows.more in let y = said.allowed_within in omega (arith, x, y));
+    sound = λ m h. subst (λ rs. ReadsAll m rs (bits (map (λ r. says m r.one) rs))) (sym first) (reads-vector m h);
+    inside_tells = λ m h. said.inside_tells m (map (λ r. says m r.one) given) (gates.grows.sound m h) (reads-vector m h) ∙ ap (λ v. is_in_invariant care (state_of net v)) (same-vector m);
+    allowed_tells = λ m h. said.allowed_tells m (map (λ r. says m r.one) given) (gates.grows.sound m h) (reads-vector m h) ∙ ap (is_allowed care) (same-vector m);
+    above = λ m h. subst (ReadsAbove net marks rails m) (same-vector m) (above-fix m h);
+    complete = reads-fix;
+  }
+
+-- A cone stays one where more is said of further variables, and each model has values for these.
+pub cone-kept : (net : Parts) (care : CareSet) (marks : List Bool) (f g : Formula) (rails : List Rails) (inside allowed : ℕ) →
+    IsCone net care marks f rails inside allowed → Grows f g → ((m : List Bool) → length m ≡ f.variables → IsModel m f → HasModelFrom g m) → IsCone net care marks g rails inside allowed
+cone-kept net care marks f g rails inside allowed cone grows extends = record {
+  formula = grows.formula;
+  within = All-within-more f.variables g.variables rails grows.more cone.within;
+  size = cone.size;
+  inside_within = (let x = grows.more in let y = cone.inside_within in omega (arith, x, y));
+  allowed_within = (let x = grows.more in let y = cone.allowed_within in omega (arith, x, y));
+  sound = λ m h. cone.sound m (grows.sound m h);
+  inside_tells = λ m h. cone.inside_tells m (grows.sound m h);
+  allowed_tells = λ m h. cone.allowed_tells m (grows.sound m h);
+  above = λ m h. cone.above m (grows.sound m h);
+  complete = λ v wide. kept v (cone.complete v wide);
+}
+  where
+    kept : (v : List Bool) → ReadsFix net marks f rails v → ReadsFix net marks g rails v
+    kept v has =
+        let more : HasModelFrom g has.model = extends has.model has.long has.holds in
+        let within : All (AreWithin (length has.model)) rails = subst (λ k. All (AreWithin k) rails) (sym has.long) cone.within in
+        record {
+          model = has.model ++ more.more;
+          long = more.width;
+          holds = more.model;
+          columns = ReadsAll-more has.model more.more (column_rails net rails) (bits v) (All-take (AreWithin (length has.model)) (columns net) rails within) has.columns;
+          fixpoint = λ n is.
+              Reads-more has.model more.more (gate_rails net rails n) (value_in (fix_gates net (bits v)) n)
+              (All-get_or (AreWithin (length has.model)) rails (first_gate net + n) no_rails (let x = is.within in let y = cone.size in omega (arith, x, y)) within)
+              (has.fixpoint n is);
+        }

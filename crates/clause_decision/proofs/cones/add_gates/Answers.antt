@@ -1,0 +1,21 @@
+use Rattle.std.proofs.Common.{List, Bool, sym, subst}
+use Rattle.std.proofs.lemmas.Result.{IfOk-weaker}
+use Rattle.ternary_clauses.specs.Encoding.{IsClosed, AreNeverUnknown, SaysNetlist}
+use Rattle.ternary_clauses.specs.declared.formula.Rails.{Rails}
+use Rattle.clause_decision.proofs.ConeLemmas.{closed-by_pins, known-among, cone-of}
+use Rattle.clause_decision.proofs.cones.add_gates.Goals as goal
+
+pub add_netlist-requires-clause-closed : goal.add_netlist-requires-clause-closed
+add_netlist-requires-clause-closed c =
+    subst (IsClosed c.args.net.now) (sym c.items.ensures) (closed-by_pins c.args.net.now c.args.scope.now.gates c.gates.ensures.valid c.requires.scope.closed)
+
+pub returns : goal.returns
+returns c =
+    let net = c.args.net.now in
+    let said = c.args.said.now in
+    IfOk-weaker c.add_netlist.result _ _ (λ rails says_it.
+    cone-of net c.args.care.now c.args.scope.now.gates said.formula c.add_netlist.new.formula said.columns.items rails.items said.inside said.allowed
+    c.requires.said (closed-by_pins net c.args.scope.now.gates c.gates.ensures.valid c.requires.scope.closed)
+    (subst (λ (marks : List Bool). SaysNetlist net marks said.columns.items said.formula c.add_netlist.new.formula rails.items) c.items.ensures
+    (subst (λ (given : List Rails). SaysNetlist net c.items.result.now given said.formula c.add_netlist.new.formula rails.items) c.deref.ensures.value says_it)))
+    c.add_netlist.ensures
