@@ -1,0 +1,3 @@
+mod FormulaLemmas
+mod ConeLemmas
+mod UnknownLemmas
