@@ -9,14 +9,12 @@
 #   --seconds N     the processor time that each has, 60 without the option
 #   --memory MB     the memory that each has, 4000 without the option
 #   --nodes          tells for each the least limit of nodes that isn't met
-#                   (crates/benchmarks; `rt run` there builds that program)
 #   FAMILY SIZE     these alone
 #
 # CYC=PROGRAM in the environment measures that program in place of ./cyc.
 set -u
 top=$(cd "$(dirname "$0")/.." && pwd) || exit 1
 cyc=${CYC:-$top/crates/cyc/out/cyc}
-decider=$top/crates/benchmarks/out/benchmarks
 seconds=60
 memory=4000
 tells_nodes=

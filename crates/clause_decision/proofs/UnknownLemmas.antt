@@ -1,0 +1,317 @@
+-- Which gates the models of a cone leave unknown.
+use Rattle.std.proofs.Common.{◌≡◌, ◌⊎◌, inl, inr, ℕ, zero, suc, ◌<◌, ◌≤◌, ◌+◌, ◌*◌, Bool, true, false, not, ◌&&◌, ◌||◌, List, [], ◌∷◌, ◌++◌, length, map, take, get_or, Option, Some, None, refl, sym, ap, ap₂, subst, ◌∙◌, arith, true≢false}
+use Rattle.std.specs.Prelude.{find, is_some}
+use Rattle.std.specs.List.{All, list_any}
+use Rattle.std.proofs.lemmas.Bool.{cases_lt}
+use Rattle.std.proofs.lemmas.List.{length-map, length-take-le, get_or-map}
+use Rattle.std.proofs.lemmas.List.Elements.{All-nil, All-cons, All-get_or, All-from_get_or, All-map, All-weaker, All-take}
+use Rattle.std.proofs.lemmas.Simd.{map-map}
+use Rattle.cyc_base.specs.declared.trit.Trit.{Trit}
+use Rattle.cyc_base.specs.declared.trit.Trit.TheVariants.{Zero, One, X}
+use Rattle.cyc_base.specs.Values.{bit, bits, Below}
+use Rattle.cyc_base.specs.Vectors.{vectors}
+use Rattle.netlist.specs.declared.parts.Parts.{Parts}
+use Rattle.netlist.specs.Fixpoint.{wire, fix, fix_gates}
+use Rattle.netlist.specs.Netlists.{count, gate_sig}
+use Rattle.loops.specs.Sweeps.{first_gate, value_in}
+use Rattle.care_sets.specs.Care.{CareSet, columns, is_allowed, is_in_invariant, is_care_vector, state_of}
+use Rattle.refusals.specs.Refusals.{is_x, is_undetermined}
+use Rattle.refusals.proofs.FirstLemmas.{none_passes, nothing_passes}
+use Rattle.refusals.proofs.RefusalLemmas.{both, is_x_decides, gate_wire}
+use Rattle.ternary_clauses.specs.declared.formula.Formula.{Formula}
+use Rattle.ternary_clauses.specs.declared.formula.Rails.{Rails}
+use Rattle.ternary_clauses.specs.Encoding.{IsWanted, gate_rails}
+use Rattle.ternary_clauses.specs.Formulas.{says, negation, IsModel}
+use Rattle.ternary_clauses.specs.Rails.{ReadsAll, AreWithin, is_known, is_one, no_rails}
+use Rattle.ternary_clauses.specs.Sums.{SaysAny}
+use Rattle.ternary_clauses.proofs.ClauseLemmas.{says-negation}
+use Rattle.ternary_clauses.proofs.SumLemmas.{negation-within}
+use Rattle.clause_queries.specs.Clauses.{IsWithin}
+use Rattle.clause_queries.specs.Queries.{problem, IsModelUnder, HasModelUnder, HasNoModelUnder, AreRising, IsFirst, IsFirstAt}
+use Rattle.clause_queries.specs.Vectors.{vector_of, HasVector, Asks}
+use Rattle.clause_queries.specs.declared.first.First.{First}
+use Rattle.clause_queries.specs.declared.first.First.TheVariants as firsts
+use Rattle.clause_queries.proofs.ClauseLemmas.{models-same}
+use Rattle.clause_decision.specs.declared.question.Question.{Question}
+use Rattle.clause_decision.specs.Cones.{column_rails, vector_in, ReadsAbove, ReadsFix, IsCone}
+use Rattle.clause_decision.specs.Questions.{IsQuestionOf}
+use Rattle.clause_decision.specs.Scopes.{is_marked}
+use Rattle.clause_decision.specs.Tests.{is_unknown_at, is_unknown, IsFirstUnknown, TellsFirstUnknown}
+use Rattle.clause_decision.specs.Unknowns.{unknown_literals, TellUnknowns}
+use Rattle.clause_decision.proofs.ConeLemmas.{cone-kept}
+
+-- ---- the first so many of a list
+
+-- one of the first so many passes a test
+pub record Passes (p : ℕ → Bool) (xs : List ℕ) (many : ℕ) : Type 0 where
+  pub place : ℕ
+  pub early : place < many
+  pub inside : place < length xs
+  pub passes : p (get_or xs place 0) ≡ true
+
+passes-of_any : (p : ℕ → Bool) (xs : List ℕ) (many : ℕ) → list_any p (take many xs) ≡ true → Passes p xs many
+passes-of_any p xs zero h = absurd (true≢false (sym h))
+passes-of_any p [] (suc many) h = absurd (true≢false (sym h))
+passes-of_any p (x ∷ xs) (suc many) h = by_test (passes-of_any p xs many) (p x) refl h
+  where
+    by_test : (list_any p (take many xs) ≡ true → Passes p xs many) → (t : Bool) → p x ≡ t → (t || list_any p (take many xs)) ≡ true → Passes p (x ∷ xs) (suc many)
+    by_test rest true here e = record { place = 0; early = omega arith; inside = omega arith; passes = here }
+    by_test rest false here e =
+        let later : Passes p xs many = rest e in
+        let early : later.place < many = later.early in
+        let inside : later.place < length xs = later.inside in
+        record { place = suc later.place; early = omega (arith, early); inside = omega (arith, inside); passes = later.passes }
+
+or-right : (a b : Bool) → b ≡ true → (a || b) ≡ true
+or-right true b h = refl
+or-right false b h = h
+
+any-of_passes : (p : ℕ → Bool) (xs : List ℕ) (many j : ℕ) → j < many → j < length xs → p (get_or xs j 0) ≡ true → list_any p (take many xs) ≡ true
+any-of_passes p xs zero j early inside h = absurd (omega (arith, early))
+any-of_passes p [] (suc many) j early inside h = absurd (omega (arith, inside))
+any-of_passes p (x ∷ xs) (suc many) zero early inside h = ap (λ t. t || list_any p (take many xs)) h
+any-of_passes p (x ∷ xs) (suc many) (suc j) early inside h = or-right (p x) (list_any p (take many xs)) (any-of_passes p xs many j (omega (arith, early)) (omega (arith, inside)) h)
+
+-- ---- values
+
+unknown-value : (t : Trit) → not (is_known t) ≡ true → t ≡ X
+unknown-value X e = refl
+unknown-value Zero e = absurd (true≢false (sym e))
+unknown-value One e = absurd (true≢false (sym e))
+
+-- what is below X is X
+unknown-below : (x y : Trit) → Below x y → y ≡ X → x ≡ X
+unknown-below X y h e = refl
+unknown-below Zero y h e = cc
+unknown-below One y h e = cc
+
+one-of_bit : (b : Bool) → is_one (bit b) ≡ b
+one-of_bit true = refl
+one-of_bit false = refl
+
+vector-read : (m : List Bool) (rs : List Rails) (v : List Bool) → ReadsAll m rs (bits v) → map (λ r. says m r.one) rs ≡ v
+vector-read m [] [] h = refl
+vector-read m [] (b ∷ v) h = absurd h
+vector-read m (r ∷ rs) [] h = absurd h
+vector-read m (r ∷ rs) (b ∷ v) h = ap₂ (λ x xs. x ∷ xs) (h.0.one ∙ one-of_bit b) (vector-read m rs v h.1)
+
+-- ---- a gate that is unknown at some care vector
+
+some-unknown : (net : Parts) (care : CareSet) (n : ℕ) (v : List Bool) → length v ≡ columns net → is_unknown_at net care n v ≡ true → is_unknown net care n ≡ true
+some-unknown net care n v wide h = by_found (find (is_unknown_at net care n) (vectors (columns net))) refl
+  where
+    by_found : (o : Option (List Bool)) → find (is_unknown_at net care n) (vectors (columns net)) ≡ o → is_some o ≡ true
+    by_found (Some w) e = refl
+    by_found None e = absurd (true≢false (sym h ∙ none_passes (columns net) (is_unknown_at net care n) v e wide))
+
+never-unknown : (net : Parts) (care : CareSet) (n : ℕ) → ((v : List Bool) → length v ≡ columns net → ¬ (is_unknown_at net care n v ≡ true)) → is_unknown net care n ≡ false
+never-unknown net care n never =
+    ap (λ (o : Option (List Bool)). is_some o) (nothing_passes (columns net) (is_unknown_at net care n) (λ w wide. fails (is_unknown_at net care n w) (never w wide)))
+  where
+    fails : (b : Bool) → ¬ (b ≡ true) → b ≡ false
+    fails true h = absurd (h refl)
+    fails false h = refl
+
+-- ---- the literals
+
+-- a gate's rails are of the formula's variables
+known-within : (net : Parts) (rails : List Rails) (variables n : ℕ) → length rails ≡ count net → All (AreWithin variables) rails → n < length net.gates → negation (gate_rails net rails n).known < 2 * variables
+known-within net rails variables n wide all inside =
+    negation-within (gate_rails net rails n).known variables (All-get_or (AreWithin variables) rails (first_gate net + n) no_rails (omega (arith, wide, inside)) all).known
+
+pub unknown_literals-within : (net : Parts) (rails : List Rails) (variables : ℕ) (gates : List ℕ) → length rails ≡ count net → All (AreWithin variables) rails → All (λ n. n < length net.gates) gates →
+    All (λ l. l < 2 * variables) (unknown_literals net rails gates)
+unknown_literals-within net rails variables gates wide all inside =
+    All-map (λ l. l < 2 * variables) (λ n. negation (gate_rails net rails n).known) gates
+    (All-weaker (λ n. n < length net.gates) (λ n. negation (gate_rails net rails n).known < 2 * variables) (λ n less. known-within net rails variables n wide all less) gates inside)
+
+pub unknowns-told : (net : Parts) (care : CareSet) (marks : List Bool) (old new : Formula) (rails : List Rails) (inside allowed : ℕ) (gates sums : List ℕ) →
+    IsCone net care marks old rails inside allowed → SaysAny old new (unknown_literals net rails gates) sums → TellUnknowns net care marks new rails inside allowed gates sums
+unknowns-told net care marks old new rails inside allowed gates sums cone any =
+    let size : length (unknown_literals net rails gates) ≡ length gates = length-map gates (λ n. negation (gate_rails net rails n).known) in
+    record {
+      cone = cone-kept net care marks old new rails inside allowed cone any.grows any.complete;
+      within = any.within;
+      size = any.size ∙ size;
+      says_each = λ m h i less. any.says_each m h i (omega (arith, less, size));
+    }
+
+-- ---- the gates that a cone's models leave unknown
+
+-- a model in which the columns read the vector, the care literals are true, and so is one more
+pub record HasUnknown (net : Parts) (f : Formula) (rails : List Rails) (inside allowed unknown : ℕ) (v : List Bool) : Type 0 where
+  pub model : List Bool
+  pub holds : IsModel model f
+  pub vector : vector_in net rails model ≡ v
+  pub inside_holds : says model inside ≡ true
+  pub allowed_holds : says model allowed ≡ true
+  pub unknown_holds : says model unknown ≡ true
+
+module _ (net : Parts) (care : CareSet) (marks : List Bool) (f : Formula) (rails : List Rails) (inside allowed : ℕ) (cone : IsCone net care marks f rails inside allowed) where
+  width : length (column_rails net rails) ≡ columns net
+  width = length-take-le (columns net) rails (let x = cone.size in omega (arith, x))
+
+  wide-vector : (m : List Bool) → length (vector_in net rails m) ≡ columns net
+  wide-vector m = length-map (column_rails net rails) (λ r. says m r.one) ∙ width
+
+  -- where a gate's literal is true in a model beside the care literals, its vector leaves the gate unknown
+  unknown-there : (n : ℕ) → n < length net.gates → is_marked marks n ≡ true → (m : List Bool) → IsModel m f → says m inside ≡ true → says m allowed ≡ true →
+      says m (negation (gate_rails net rails n).known) ≡ true → is_unknown_at net care n (vector_in net rails m) ≡ true
+  unknown-there n within marked m h in_care may unknown =
+      let v = vector_in net rails m in
+      let is : IsWanted net marks n = record { within = within; marked = marked } in
+      let there : ReadsAbove net marks rails m v = cone.above m h in
+      let open_value : not (is_known (value_in there.state n)) ≡ true = ap not (sym (there.reads n is).known) ∙ sym (says-negation m (gate_rails net rails n).known) ∙ unknown in
+      let at : value_in (fix_gates net (bits v)) n ≡ X = unknown-below (value_in (fix_gates net (bits v)) n) (value_in there.state n) (there.above n is) (unknown-value (value_in there.state n) open_value) in
+      let counts : is_care_vector net care v ≡ true = ap₂ (λ s t. s && t) (sym (cone.inside_tells m h) ∙ in_care) (sym (cone.allowed_tells m h) ∙ may) in
+      ap₂ (λ s t. s && is_x t) counts (gate_wire net v n (wide-vector m) ∙ at)
+
+  -- and each such vector has such a model
+  unknown-read : (n : ℕ) → n < length net.gates → is_marked marks n ≡ true → (v : List Bool) → length v ≡ columns net → is_unknown_at net care n v ≡ true →
+      HasUnknown net f rails inside allowed (negation (gate_rails net rails n).known) v
+  unknown-read n within marked v wide h =
+      let has : ReadsFix net marks f rails v = cone.complete v wide in
+      let split = both (is_care_vector net care v) (is_undetermined net (gate_sig net n) v) h in
+      let counts = both (is_in_invariant care (state_of net v)) (is_allowed care v) split.0 in
+      let at : value_in (fix_gates net (bits v)) n ≡ X = sym (gate_wire net v n wide) ∙ is_x_decides (wire (fix net (bits v)) (gate_sig net n)) split.1 in
+      let vector : vector_in net rails has.model ≡ v = vector-read has.model (column_rails net rails) v has.columns in
+      record {
+        model = has.model;
+        holds = has.holds;
+        vector = vector;
+        inside_holds = cone.inside_tells has.model has.holds ∙ ap (λ w. is_in_invariant care (state_of net w)) vector ∙ counts.0;
+        allowed_holds = cone.allowed_tells has.model has.holds ∙ ap (is_allowed care) vector ∙ counts.1;
+        unknown_holds = says-negation has.model (gate_rails net rails n).known ∙ ap not ((has.fixpoint n (record { within = within; marked = marked })).known ∙ ap is_known at);
+      }
+
+  -- ---- the question at which care vectors a gate is unknown
+
+  module _ (n : ℕ) (within : n < length net.gates) (marked : is_marked marks n ≡ true) where
+    unknown-under : (v : List Bool) → HasUnknown net f rails inside allowed (negation (gate_rails net rails n).known) v →
+        HasVector (problem f) (map (λ r. r.one) (column_rails net rails)) (inside ∷ allowed ∷ negation (gate_rails net rails n).known ∷ []) v
+    unknown-under v has = record {
+      model = has.model;
+      under = record {
+        model = models-same f has.model ∙ has.holds;
+        assumed = All-cons (λ l. says has.model l ≡ true) inside (allowed ∷ negation (gate_rails net rails n).known ∷ []) has.inside_holds
+            (All-cons (λ l. says has.model l ≡ true) allowed (negation (gate_rails net rails n).known ∷ []) has.allowed_holds
+            (All-cons (λ l. says has.model l ≡ true) (negation (gate_rails net rails n).known) [] has.unknown_holds (All-nil (λ l. says has.model l ≡ true))));
+      };
+      reads = map-map (says has.model) (λ (r : Rails). r.one) (column_rails net rails) ∙ has.vector;
+    }
+
+    asks-unknown : Asks (problem f) (map (λ r. r.one) (column_rails net rails)) (inside ∷ allowed ∷ negation (gate_rails net rails n).known ∷ []) (is_unknown_at net care n)
+    asks-unknown = record {
+      sound = λ m under.
+          ap (is_unknown_at net care n) (map-map (says m) (λ (r : Rails). r.one) (column_rails net rails))
+          ∙ unknown-there n within marked m (sym (models-same f m) ∙ under.model) (under.assumed 0 0 (omega arith)) (under.assumed 1 0 (omega arith)) (under.assumed 2 0 (omega arith));
+      complete = λ v wide h. unknown-under v (unknown-read n within marked v (wide ∙ length-map (column_rails net rails) (λ (r : Rails). r.one) ∙ width) h);
+    }
+
+    pub unknown-question : (q : Question) → q.formula ≡ f → q.columns.items ≡ map (λ r. r.one) (column_rails net rails) → q.assumed.items ≡ (inside ∷ allowed ∷ negation (gate_rails net rails n).known ∷ []) →
+        IsQuestionOf (columns net) (is_unknown_at net care n) q
+    unknown-question q formula_is columns_are assumed_are = record {
+      askable = record {
+        columns = subst (λ (g : Formula). IsWithin g.variables q.columns.items) (sym formula_is)
+            (subst (IsWithin f.variables) (sym columns_are)
+            (All-map (λ l. l < 2 * f.variables) (λ (r : Rails). r.one) (column_rails net rails)
+            (All-weaker (AreWithin f.variables) (λ r. r.one < 2 * f.variables) (λ r is. is.one) (column_rails net rails) (All-take (AreWithin f.variables) (columns net) rails cone.within))));
+        assumed = subst (λ (g : Formula). IsWithin g.variables q.assumed.items) (sym formula_is)
+            (subst (IsWithin f.variables) (sym assumed_are)
+            (All-cons (λ l. l < 2 * f.variables) inside (allowed ∷ negation (gate_rails net rails n).known ∷ []) cone.inside_within
+            (All-cons (λ l. l < 2 * f.variables) allowed (negation (gate_rails net rails n).known ∷ []) cone.allowed_within
+            (All-cons (λ l. l < 2 * f.variables) (negation (gate_rails net rails n).known) [] (known-within net rails f.variables n cone.size cone.within within) (All-nil (λ l. l < 2 * f.variables))))));
+      };
+      wide = ap length columns_are ∙ length-map (column_rails net rails) (λ (r : Rails). r.one) ∙ width;
+      asks = subst (λ (g : Formula). Asks (problem g) q.columns.items q.assumed.items (is_unknown_at net care n)) (sym formula_is)
+          (subst (λ cs. Asks (problem f) cs q.assumed.items (is_unknown_at net care n)) (sym columns_are)
+          (subst (λ ls. Asks (problem f) (map (λ r. r.one) (column_rails net rails)) ls (is_unknown_at net care n)) (sym assumed_are) asks-unknown));
+    }
+
+-- ---- the first gate that is unknown
+
+module _ (net : Parts) (care : CareSet) (marks : List Bool) (f : Formula) (rails : List Rails) (inside allowed : ℕ) (gates sums : List ℕ)
+    (told : TellUnknowns net care marks f rails inside allowed gates sums) where
+  literals-size : length (unknown_literals net rails gates) ≡ length gates
+  literals-size = length-map gates (λ n. negation (gate_rails net rails n).known)
+
+  literal-at : (i : ℕ) → i < length gates → get_or (unknown_literals net rails gates) i 0 ≡ negation (gate_rails net rails (get_or gates i 0)).known
+  literal-at i less = get_or-map (λ n. negation (gate_rails net rails n).known) gates i 0 0 less
+
+  -- where one sum is true, the next one is
+  pub sums-rise : AreRising (problem f) sums
+  sums-rise m i h next is =
+      let size : length sums ≡ length gates = told.size in
+      let model : IsModel m f = sym (models-same f m) ∙ h in
+      let some : Passes (says m) (unknown_literals net rails gates) (i + 1) = passes-of_any (says m) (unknown_literals net rails gates) (i + 1) (sym (told.says_each m model i (omega (arith, next, size))) ∙ is) in
+      let early : some.place < i + 1 = some.early in
+      told.says_each m model (i + 1) (omega (arith, next, size)) ∙ any-of_passes (says m) (unknown_literals net rails gates) (i + 1 + 1) some.place (omega (arith, early)) some.inside some.passes
+
+  pub care-within : IsWithin f.variables (inside ∷ allowed ∷ [])
+  care-within =
+      All-cons (λ l. l < 2 * f.variables) inside (allowed ∷ []) told.cone.inside_within
+      (All-cons (λ l. l < 2 * f.variables) allowed [] told.cone.allowed_within (All-nil (λ l. l < 2 * f.variables)))
+
+  module _ (within : All (λ n. n < length net.gates) gates) (marked : All (λ n. is_marked marks n ≡ true) gates) where
+    -- one of the first so many gates is unknown at a care vector
+    pub record Unknown (many : ℕ) : Type 0 where
+      pub place : ℕ
+      pub early : place < many
+      pub listed : place < length gates
+      pub is : is_unknown net care (get_or gates place 0) ≡ true
+
+    unknown-of_sum : (i : ℕ) → i < length gates → HasModelUnder (problem f) (inside ∷ allowed ∷ get_or sums i 0 ∷ []) → Unknown (i + 1)
+    unknown-of_sum i less has =
+        let m = has.model in
+        let model : IsModel m f = sym (models-same f m) ∙ has.is.model in
+        let some : Passes (says m) (unknown_literals net rails gates) (i + 1) = passes-of_any (says m) (unknown_literals net rails gates) (i + 1) (sym (told.says_each m model i less) ∙ has.is.assumed 2 0 (omega arith)) in
+        let there : some.place < length gates = (let x = some.inside in omega (arith, x, literals-size)) in
+        let n = get_or gates some.place 0 in
+        record {
+          place = some.place;
+          early = some.early;
+          listed = there;
+          is = some-unknown net care n (vector_in net rails m) (wide-vector net care marks f rails inside allowed told.cone m)
+              (unknown-there net care marks f rails inside allowed told.cone n (within some.place 0 there) (marked some.place 0 there) m model
+              (has.is.assumed 0 0 (omega arith)) (has.is.assumed 1 0 (omega arith)) (ap (says m) (sym (literal-at some.place there)) ∙ some.passes));
+        }
+
+    known-of_sum : (j : ℕ) → j < length gates → HasNoModelUnder (problem f) (inside ∷ allowed ∷ get_or sums j 0 ∷ []) → is_unknown net care (get_or gates j 0) ≡ false
+    known-of_sum j less none = never-unknown net care (get_or gates j 0) (λ v wide h.
+        no_model (unknown-read net care marks f rails inside allowed told.cone (get_or gates j 0) (within j 0 less) (marked j 0 less) v wide h))
+      where
+        no_model : {v : List Bool} → HasUnknown net f rails inside allowed (negation (gate_rails net rails (get_or gates j 0)).known) v → ⊥
+        no_model {v} has =
+            let sum : says has.model (get_or sums j 0) ≡ true =
+            told.says_each has.model has.holds j less
+            ∙ any-of_passes (says has.model) (unknown_literals net rails gates) (j + 1) j (omega arith) (omega (arith, less, literals-size)) (ap (says has.model) (literal-at j less) ∙ has.unknown_holds) in
+            none has.model (record {
+              model = models-same f has.model ∙ has.holds;
+              assumed = All-cons (λ l. says has.model l ≡ true) inside (allowed ∷ get_or sums j 0 ∷ []) has.inside_holds
+                  (All-cons (λ l. says has.model l ≡ true) allowed (get_or sums j 0 ∷ []) has.allowed_holds
+                  (All-cons (λ l. says has.model l ≡ true) (get_or sums j 0) [] sum (All-nil (λ l. says has.model l ≡ true))));
+            })
+
+    first-at : (place : ℕ) → IsFirstAt (problem f) sums (inside ∷ allowed ∷ []) place → IsFirstUnknown net care gates place
+    first-at place is =
+        let size : length sums ≡ length gates = told.size in
+        let less : place < length gates = (let x = is.within in omega (arith, x, size)) in
+        record {
+          within = less;
+          unknown = unknown_by (unknown-of_sum place less is.possible);
+          before = λ j early. known-of_sum j (omega (arith, early, less)) (is.before j early);
+        }
+      where
+        unknown_by : Unknown (place + 1) → is_unknown net care (get_or gates place 0) ≡ true
+        unknown_by some = elim (cases_lt some.place place) [
+          | inl early ↦ absurd (true≢false (sym some.is ∙ known-of_sum some.place some.listed (is.before some.place early)))
+          | inr high ↦
+              let early : some.place < place + 1 = some.early in
+              let same : some.place ≡ place = omega (arith, early, high) in
+              subst (λ k. is_unknown net care (get_or gates k 0) ≡ true) same some.is
+        ]
+
+    pub first-unknown : (first : First) → IsFirst (problem f) sums (inside ∷ allowed ∷ []) first → TellsFirstUnknown net care gates first
+    first-unknown (firsts.At place) is = first-at place is
+    first-unknown firsts.Nowhere is = λ j less. known-of_sum j less (is j (let size = told.size in omega (arith, less, size)))
+    first-unknown firsts.Unknown is = tt

@@ -1,0 +1,19 @@
+use Rattle.std.proofs.Common.{◌≡◌, ℕ, ◌+◌, List, [], ◌∷◌, map, take, ap, ap₂, ◌∙◌}
+use Rattle.care_sets.specs.Care.{columns}
+use Rattle.ternary_clauses.specs.declared.formula.Rails.{Rails}
+use Rattle.ternary_clauses.specs.Encoding.{gate_rails}
+use Rattle.ternary_clauses.specs.Formulas.{negation}
+use Rattle.clause_decision.proofs.UnknownLemmas.{unknown-question}
+use Rattle.clause_decision.proofs.unknown.unknown_question.Goals as goal
+
+pub returns : goal.returns
+returns c =
+    let net = c.args.net.now in
+    let cone = c.in_ok-cone.cone in
+    let width : c.inputs.result + c.latches.result ≡ columns net = ap₂ (λ a b. a + b) c.inputs.ensures.inputs c.latches.ensures.latches in
+    unknown-question net c.args.care.now c.args.scope.now.gates cone.formula cone.rails.items cone.inside cone.allowed c.in_ok-cone.ensures c.args.gate c.requires.gate c.requires.within
+    (record { formula = c.into_formula.result; columns = c.in_ok-columns.columns; assumed = c.in_ok-assumed.assumed })
+    c.into_formula.ensures
+    (c.in_ok-columns.ensures ∙ ap₂ (λ (k : ℕ) (rails : List Rails). map (λ r. r.one) (take k rails)) width c.deref.ensures.value)
+    (c.in_ok-assumed.ensures.items
+    ∙ ap (λ l. cone.inside ∷ cone.allowed ∷ l ∷ []) (c.unknown_of-unknown.ensures ∙ ap (λ rails. negation (gate_rails net rails c.args.gate).known) c.deref-2.ensures.value))
