@@ -10,7 +10,6 @@ pub struct Scope {
     pub known: Items<bool>,
 }
 
-
 impl Drop for Scope {
     fn drop(self) {
         let Scope { gates: _, known: _ } = self;

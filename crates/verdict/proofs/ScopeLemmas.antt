@@ -74,7 +74,7 @@ drivers-more net columns k gate gates latch there inside within from before = re
     | inr late ↦
         let at : k ≡ j = omega (arith, less, late) in
         let here : latch ≡ get_or net.latches (get_or columns j d - length net.inputs) none =
-            sym (get_or_from_slice_get net.latches (get_or columns k 0 - length net.inputs) latch none there) ∙ ap (λ (m : ℕ). get_or net.latches (m - length net.inputs) none) (ap (λ (m : ℕ). get_or columns m 0) at ∙ get_or_default columns j 0 d (omega (arith, inside, at))) in
+        sym (get_or_from_slice_get net.latches (get_or columns k 0 - length net.inputs) latch none there) ∙ ap (λ (m : ℕ). get_or net.latches (m - length net.inputs) none) (ap (λ (m : ℕ). get_or columns m 0) at ∙ get_or_default columns j 0 d (omega (arith, inside, at))) in
         subst (Contains (gates ++ gate ∷ [])) (same-gate net gate n (sym from ∙ ap (λ (l : Latch). l.from) here ∙ is)) (Contains-append_right gates (gate ∷ []) gate (0, omega arith, refl))
   ];
 }
@@ -89,7 +89,7 @@ drivers-same net columns k gates latch there inside apart before = record {
     | inr late ↦
         let at : k ≡ j = omega (arith, less, late) in
         let here : latch ≡ get_or net.latches (get_or columns j d - length net.inputs) none =
-            sym (get_or_from_slice_get net.latches (get_or columns k 0 - length net.inputs) latch none there) ∙ ap (λ (m : ℕ). get_or net.latches (m - length net.inputs) none) (ap (λ (m : ℕ). get_or columns m 0) at ∙ get_or_default columns j 0 d (omega (arith, inside, at))) in
+        sym (get_or_from_slice_get net.latches (get_or columns k 0 - length net.inputs) latch none there) ∙ ap (λ (m : ℕ). get_or net.latches (m - length net.inputs) none) (ap (λ (m : ℕ). get_or columns m 0) at ∙ get_or_default columns j 0 d (omega (arith, inside, at))) in
         absurd (apart n (ap (λ (l : Latch). l.from) here ∙ is))
   ];
 }

@@ -60,12 +60,7 @@ fn begin_with_care(
 }
 
 /// The initial states and the care set.
-fn begin(
-    alloc: Global,
-    net: &Netlist,
-    care: &Care,
-    conflicts: u64,
-) -> Result<Beginning, AllocError>
+fn begin(alloc: Global, net: &Netlist, care: &Care, conflicts: u64) -> Result<Beginning, AllocError>
     requires { IsCareOf net.now care.now }
     ensures { IfOk result (IsBeginning net.now care.now) }
 {

@@ -106,9 +106,7 @@ fn count_at(
     if settled[place] || !blocks.list.items()[place].looped {
         return Ok(Some(0));
     }
-    ask_sweeps(
-        alloc, net, blocks, cut, care, settled, place, conflicts,
-    )
+    ask_sweeps(alloc, net, blocks, cut, care, settled, place, conflicts)
 }
 
 /// The sweeps of the loops that aren't settled, by the places of the blocks, or none where the solver gave up.
@@ -132,10 +130,7 @@ pub(crate) fn open_counts(
 {
     let mut counts = Vec::new(alloc);
     for place in 0..settled.len() {
-        let Some(count) = count_at(
-            alloc, net, blocks, cut, care, settled, place, conflicts,
-        )?
-        else {
+        let Some(count) = count_at(alloc, net, blocks, cut, care, settled, place, conflicts)? else {
             return Ok(None);
         };
         counts.push(count)?;

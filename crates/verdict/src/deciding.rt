@@ -36,6 +36,7 @@ use std::alloc::{AllocError, Global};
 
 /// How many conflicts a search may meet in the first try by clauses, and in the second.
 const FEW_CONFLICTS: u64 = 20_000;
+
 const MANY_CONFLICTS: u64 = 2_000_000;
 
 /// How many nodes the diagrams may have between these.
@@ -234,7 +235,15 @@ fn early_verdict(
     requires limit { limit ≤ MAX_NODES }
     ensures { IfOk result (λ found. IfSome found (IsVerdict net.now blocks.now cut.now care.now observe)) }
 {
-    if let Some(verdict) = verdict_by_clauses(alloc, net, blocks, cut, care, observe, FEW_CONFLICTS)? {
+    if let Some(verdict) = verdict_by_clauses(
+        alloc,
+        net,
+        blocks,
+        cut,
+        care,
+        observe,
+        FEW_CONFLICTS,
+    )? {
         return Ok(Some(verdict));
     }
     let few = limit.min(FEW_NODES);

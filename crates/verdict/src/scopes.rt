@@ -127,7 +127,11 @@ fn driver(net: &Netlist, signal: Sig) -> Option<u32>
 }
 
 /// The gates that drive the latches which the invariant reads.
-pub(crate) fn drivers_read(alloc: Global, net: &Netlist, care: &Care) -> Result<Vec<u32>, AllocError>
+pub(crate) fn drivers_read(
+    alloc: Global,
+    net: &Netlist,
+    care: &Care,
+) -> Result<Vec<u32>, AllocError>
     requires { IsCareOf net.now care.now }
     ensures within { IfOk result (λ gates. All (λ n. n < length net.now.gates) gates.items) }
     ensures drivers { IfOk result (λ gates. AreDrivers net.now care.now gates.items) }
