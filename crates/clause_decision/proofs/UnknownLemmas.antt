@@ -1,10 +1,10 @@
 -- Which gates the models of a cone leave unknown.
-use Rattle.std.proofs.Common.{◌≡◌, ◌⊎◌, inl, inr, ℕ, zero, suc, ◌<◌, ◌≤◌, ◌+◌, ◌*◌, Bool, true, false, not, ◌&&◌, ◌||◌, List, [], ◌∷◌, ◌++◌, length, map, take, get_or, Option, Some, None, refl, sym, ap, ap₂, subst, ◌∙◌, arith, true≢false}
+use Rattle.std.proofs.Common.{◌≡◌, inl, inr, ℕ, zero, suc, ◌<◌, ◌+◌, ◌*◌, Bool, true, false, not, ◌&&◌, ◌||◌, List, [], ◌∷◌, length, map, take, get_or, Option, Some, None, refl, sym, ap, ap₂, subst, ◌∙◌, arith, true≢false}
 use Rattle.std.specs.Prelude.{find, is_some}
 use Rattle.std.specs.List.{All, list_any}
 use Rattle.std.proofs.lemmas.Bool.{cases_lt}
 use Rattle.std.proofs.lemmas.List.{length-map, length-take-le, get_or-map}
-use Rattle.std.proofs.lemmas.List.Elements.{All-nil, All-cons, All-get_or, All-from_get_or, All-map, All-weaker, All-take}
+use Rattle.std.proofs.lemmas.List.Elements.{All-nil, All-cons, All-get_or, All-map, All-weaker, All-take}
 use Rattle.std.proofs.lemmas.Simd.{map-map}
 use Rattle.cyc_base.specs.declared.trit.Trit.{Trit}
 use Rattle.cyc_base.specs.declared.trit.Trit.TheVariants.{Zero, One, X}
@@ -27,8 +27,8 @@ use Rattle.ternary_clauses.specs.Sums.{SaysAny}
 use Rattle.ternary_clauses.proofs.ClauseLemmas.{says-negation}
 use Rattle.ternary_clauses.proofs.SumLemmas.{negation-within}
 use Rattle.clause_queries.specs.Clauses.{IsWithin}
-use Rattle.clause_queries.specs.Queries.{problem, IsModelUnder, HasModelUnder, HasNoModelUnder, AreRising, IsFirst, IsFirstAt}
-use Rattle.clause_queries.specs.Vectors.{vector_of, HasVector, Asks}
+use Rattle.clause_queries.specs.Queries.{problem, HasModelUnder, HasNoModelUnder, AreRising, IsFirst, IsFirstAt}
+use Rattle.clause_queries.specs.Vectors.{HasVector, Asks}
 use Rattle.clause_queries.specs.declared.first.First.{First}
 use Rattle.clause_queries.specs.declared.first.First.TheVariants as firsts
 use Rattle.clause_queries.proofs.ClauseLemmas.{models-same}

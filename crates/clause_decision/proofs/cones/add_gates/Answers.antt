@@ -1,8 +1,8 @@
 use Rattle.std.proofs.Common.{List, Bool, sym, subst}
 use Rattle.std.proofs.lemmas.Result.{IfOk-weaker}
-use Rattle.ternary_clauses.specs.Encoding.{IsClosed, AreNeverUnknown, SaysNetlist}
+use Rattle.ternary_clauses.specs.Encoding.{IsClosed, SaysNetlist}
 use Rattle.ternary_clauses.specs.declared.formula.Rails.{Rails}
-use Rattle.clause_decision.proofs.ConeLemmas.{closed-by_pins, known-among, cone-of}
+use Rattle.clause_decision.proofs.ConeLemmas.{closed-by_pins, cone-of}
 use Rattle.clause_decision.proofs.cones.add_gates.Goals as goal
 
 pub add_netlist-requires-clause-closed : goal.add_netlist-requires-clause-closed
