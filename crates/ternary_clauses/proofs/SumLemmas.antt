@@ -1,5 +1,5 @@
 -- Literals that sum up others.
-use Rattle.std.proofs.Common.{◌≡◌, ◌⊎◌, inl, inr, ℕ, ◌<◌, ◌≤◌, ◌+◌, ◌-◌, ◌*◌, ◌==◌, Bool, true, false, not, ◌&&◌, ◌||◌, if◌then◌else◌, List, [], ◌∷◌, ◌++◌, length, take, get_or, refl, sym, ap, ◌∙◌, arith, length-append}
+use Rattle.std.proofs.Common.{◌≡◌, ◌⊎◌, inl, inr, ℕ, ◌<◌, ◌≤◌, ◌+◌, ◌*◌, Bool, true, false, not, ◌&&◌, ◌||◌, List, [], ◌∷◌, ◌++◌, length, take, get_or, refl, sym, ap, ◌∙◌, arith, length-append}
 use Rattle.std.proofs.lemmas.Bool.{cases_lt, and_parts, and_from}
 use Rattle.std.proofs.lemmas.List.{length_push, get_or_append_left, take-append-le}
 use Rattle.std.proofs.lemmas.List.Elements.{All-nil, All-push, All-weaker}
@@ -9,14 +9,8 @@ use Rattle.std.specs.List.{list_any}
 use Rattle.ternary_clauses.specs.declared.formula.Formula.{Formula}
 use Rattle.ternary_clauses.specs.Formulas.{says, negation, holds, IsModel, IsFormula, HasModelFrom}
 use Rattle.ternary_clauses.specs.Sums.{SaysOr, SaysAny}
-use Rattle.ternary_clauses.proofs.ClauseLemmas.{parity, says-negation, says-more, says-even, get_or-after}
+use Rattle.ternary_clauses.proofs.ClauseLemmas.{says-negation, says-more, says-even, get_or-after}
 use Rattle.ternary_clauses.proofs.GrowthLemmas.{Grows-refl, Grows-chain, model-here, model-after, model-kept}
-
-pub negation-within : (l v : ℕ) → l < 2 * v → negation l < 2 * v
-negation-within l v less = elim (parity l) [
-  | inl e ↦ let n : negation l ≡ l + 1 = ap (λ r. if r == 0 then l + 1 else l - 1) e in omega (arith, less, n, e)
-  | inr e ↦ let n : negation l ≡ l - 1 = ap (λ r. if r == 0 then l + 1 else l - 1) e in omega (arith, less, n, e)
-]
 
 -- ---- one of two
 
@@ -105,7 +99,7 @@ module _ (old mid one two new : Formula) (a b sum : ℕ) (formula : IsFormula ol
 
 -- ---- one of many
 
-pub false-says : (m : List Bool) → says m 0 ≡ true → says m 1 ≡ false
+false-says : (m : List Bool) → says m 0 ≡ true → says m 1 ≡ false
 false-says m truth = ap not truth
 
 -- the last of the sums, or false where there is none

@@ -1,0 +1,338 @@
+-- The copies of a loop's gates after a sweep.
+use Rattle.std.proofs.Common.{◌≡◌, ◌⊎◌, inl, inr, ℕ, zero, suc, ◌<◌, ◌≤◌, ◌+◌, ◌==◌, leb, Bool, true, false, not, if◌then◌else◌, List, [], ◌∷◌, ◌++◌, length, map, take, get_or, Contains, refl, sym, ap, subst, ◌∙◌, arith, append_assoc, length-append}
+use Rattle.std.proofs.lemmas.Bool.{cases_lt, and_parts, and_from, leb-true, le-leb, eq-eqb, eqb-true}
+use Rattle.std.proofs.lemmas.List.{length-map, length_push, get_or_append_left, get_or_past, get_or_default, take_more}
+use Rattle.std.proofs.lemmas.List.FromFn.{get_or-map-range_with_len}
+use Rattle.std.proofs.lemmas.List.Elements.{All-nil, All-push, All-head, All-tail, All-get_or, All-weaker, Contains-get_or}
+use Rattle.std.specs.List.{All, AllZip, range_with_len}
+use Rattle.cyc_base.specs.declared.sig.Sig.{Sig}
+use Rattle.cyc_base.specs.declared.trit.Trit.{Trit}
+use Rattle.cyc_base.specs.declared.trit.Trit.TheVariants.{X}
+use Rattle.netlist.specs.declared.parts.Gate.{Gate}
+use Rattle.netlist.specs.declared.parts.Parts.{Parts}
+use Rattle.netlist.specs.Netlists.{no_gate, gate_at, IsNetlist}
+use Rattle.netlist.specs.Fixpoint.{wire, fix}
+use Rattle.loops.specs.declared.structure.Blocks.{Blocks}
+use Rattle.loops.specs.declared.structure.Cut.{Cut}
+use Rattle.loops.specs.Blocks.{AreBlocksOf, block_at, home_of}
+use Rattle.loops.specs.Cuts.{IsCutOf, is_cut, in_one_loop, loops_by}
+use Rattle.loops.specs.Placing.{Rise}
+use Rattle.loops.specs.Sweeps.{first_gate, gate_of, in_loop_of, value_in, pin_in, gate_in, sweep}
+use Rattle.loops.proofs.OrderedSweeps.{sweep_of_one_loop}
+use Rattle.loops.proofs.OrderLemmas.{block_rises, block_within}
+use Rattle.loops.proofs.Sweeps.{sweep_each}
+use Rattle.loops.proofs.Told.{blocks_tell_loops, blocks_have_loops, gate_home}
+use Rattle.ternary_clauses.specs.declared.formula.Formula.{Formula}
+use Rattle.ternary_clauses.specs.declared.formula.Rails.{Rails}
+use Rattle.ternary_clauses.specs.Formulas.{says, IsModel, IsFormula, HasModelFrom, Grows}
+use Rattle.ternary_clauses.specs.Rails.{Reads, ReadsAll, AreWithin, AreRailsOf, value_read, no_rails, rails_at, unknown_rails}
+use Rattle.ternary_clauses.specs.Nodes.{new_rails, wire_clauses}
+use Rattle.ternary_clauses.specs.Sweeps.{ReadsPlaces, ReadsOutside, SaysSweep, HasCopies, AreCopies, IsSeen, ReadsSeen, value_seen, BindsCopy, AreCopied}
+use Rattle.ternary_clauses.proofs.ClauseLemmas.{get_or-after}
+use Rattle.ternary_clauses.proofs.NodeLemmas.{whole-wire, wire-read, wire-holds, Reads-unique}
+use Rattle.ternary_clauses.proofs.MoreLemmas.{wire-more}
+use Rattle.ternary_clauses.proofs.ReadingLemmas.{Reads-more, All-within-more, within-more, new_values, new-read}
+use Rattle.ternary_clauses.proofs.GrowthLemmas.{Grows-refl, Grows-chain, added-both, added-model, added-grows, model-here, model-after, model-kept, rails-kept}
+
+pub unknown-read : (f : Formula) (m : List Bool) → IsFormula f → IsModel m f → Reads m unknown_rails X
+unknown-read f m formula h = let e : says m 1 ≡ false = ap not (formula.truth m h) in record { one = e; zero = e; known = e }
+
+-- ---- new rails
+
+pub copies-none : (f : Formula) → IsFormula f → AreCopies f f [] 0
+copies-none f formula = record {
+  grows = Grows-refl f formula;
+  within = All-nil (AreWithin f.variables);
+  size = refl;
+  own = λ i less. absurd (omega (arith, less));
+  complete = λ m values len h.
+      let has : HasModelFrom f m = model-here f m len h in
+      record { more = has.more; width = has.width; model = has.model; reads = λ i less. absurd (omega (arith, less)) };
+}
+
+module _ (start old new : Formula) (copies : List Rails) (k : ℕ) (r : Rails) (was : AreCopies start old copies k) (is : r ≡ new_rails old.variables) (variables : new.variables ≡ old.variables + 3) (literals : new.literals.items ≡ old.literals.items ++ wire_clauses r) where
+  within : AreWithin new.variables r
+  within = subst (AreWithin new.variables) (sym is) (record { one = omega (arith, variables); zero = omega (arith, variables); known = omega (arith, variables) })
+
+  grown : Grows old new
+  grown = added-grows old new (wire_clauses r) was.grows.formula literals (omega (arith, variables)) (whole-wire r) (λ m more long. wire-more m more r (within-more new.variables (length m) r long within))
+
+  early : (i : ℕ) → i < k → rails_at copies i ≡ rails_at (copies ++ r ∷ []) i
+  early i less = sym (get_or_append_left copies (r ∷ []) no_rails i (let x = was.size in omega (arith, less, x)))
+
+  last : (i : ℕ) → i < k + 1 → k ≤ i → r ≡ rails_at (copies ++ r ∷ []) i
+  last i below high = sym (get_or-after copies (r ∷ []) i 0 no_rails (let x = was.size in omega (arith, below, high, x)))
+
+  copies-complete : (m : List Bool) (values : ℕ → Trit) → length m ≡ start.variables → IsModel m start → HasCopies new (copies ++ r ∷ []) (k + 1) m values
+  copies-complete m values len h =
+      let had : HasCopies old copies k m values = was.complete m values len h in
+      let t = values k in
+      let long = m ++ had.more in
+      let at : Reads ((m ++ had.more) ++ new_values (values k)) r (values k) = subst (λ (q : Rails). Reads ((m ++ had.more) ++ new_values (values k)) q (values k)) (sym is) (new-read (m ++ had.more) old.variables (values k) had.width) in
+      let model : IsModel ((m ++ had.more) ++ new_values (values k)) new = added-model old new (wire_clauses r) was.grows.formula literals ((m ++ had.more) ++ new_values (values k)) (model-kept {f = old} (m ++ had.more) (new_values (values k)) was.grows.formula had.width had.model) (wire-holds ((m ++ had.more) ++ new_values (values k)) r (values k) at) in
+      let wide : length ((m ++ had.more) ++ new_values (values k)) ≡ new.variables = length-append (m ++ had.more) (new_values (values k)) ∙ ap (λ l. l + 3) had.width ∙ sym variables in
+      let same : ((m ++ had.more) ++ new_values (values k)) ≡ (m ++ (had.more ++ new_values (values k))) = append_assoc m had.more (new_values (values k)) in
+      record {
+        more = had.more ++ new_values (values k);
+        width = ap length (sym same) ∙ wide;
+        model = subst (λ (l : List Bool). IsModel l new) same model;
+        reads = λ i below. subst (λ (l : List Bool). Reads l (rails_at (copies ++ r ∷ []) i) (values i)) same (by had at i below (cases_lt i k));
+      }
+    where
+      by : (had : HasCopies old copies k m values) → Reads ((m ++ had.more) ++ new_values (values k)) r (values k) → (i : ℕ) → i < k + 1 → (i < k) ⊎ (k ≤ i) → Reads ((m ++ had.more) ++ new_values (values k)) (rails_at (copies ++ r ∷ []) i) (values i)
+      by had at i below (inl low) =
+          subst (λ (q : Rails). Reads ((m ++ had.more) ++ new_values (values k)) q (values i)) (early i low)
+          (Reads-more (m ++ had.more) (new_values (values k)) (rails_at copies i) (values i) (subst (λ l. AreWithin l (rails_at copies i)) (sym had.width) (was.own i low).within) (had.reads i low))
+      by had at i below (inr high) =
+          let here : k ≡ i = omega (arith, below, high) in
+          subst (λ (q : Rails). Reads ((m ++ had.more) ++ new_values (values k)) q (values i)) (last i below high)
+          (subst (λ j. Reads ((m ++ had.more) ++ new_values (values k)) r (values j)) here at)
+
+  pub copies-step : AreCopies start new (copies ++ r ∷ []) (k + 1)
+  copies-step = record {
+    grows = Grows-chain was.grows grown;
+    within = All-push (AreWithin new.variables) copies r (All-within-more old.variables new.variables copies grown.more was.within) within;
+    size = (let x = was.size in let y = length_push copies r in omega (arith, x, y));
+    own = λ i below. own_by i below (cases_lt i k);
+    complete = copies-complete;
+  }
+    where
+      own_by : (i : ℕ) → i < k + 1 → (i < k) ⊎ (k ≤ i) → AreRailsOf new (rails_at (copies ++ r ∷ []) i)
+      own_by i below (inl low) = subst (AreRailsOf new) (early i low) (rails-kept grown (was.own i low))
+      own_by i below (inr high) =
+          subst (AreRailsOf new) (last i below high)
+          (record { within = within; reads = λ m h. wire-read m r (added-both old new (wire_clauses r) was.grows.formula literals m h).1 })
+
+-- ---- what gates see
+
+seen-read : (net : Parts) (gates : List ℕ) (cut : ℕ → Bool) (rails before after : List Rails) (m : List Bool) (see : Sig → Trit) (pins : List Sig) (seen : List Rails) → All (λ pin. (r : Rails) → IsSeen net gates cut rails before after pin r → Reads m r (see pin)) pins → AllZip (IsSeen net gates cut rails before after) pins seen → ReadsAll m seen (map see pins)
+seen-read net gates cut rails before after m see [] [] all zip = tt
+seen-read net gates cut rails before after m see [] (r ∷ seen) all zip = absurd zip
+seen-read net gates cut rails before after m see (pin ∷ pins) [] all zip = absurd zip
+seen-read net gates cut rails before after m see (pin ∷ pins) (r ∷ seen) all zip = (
+  All-head (λ p. (r : Rails) → IsSeen net gates cut rails before after p r → Reads m r (see p)) pin pins all r zip.0,
+  seen-read net gates cut rails before after m see pins seen (All-tail (λ p. (r : Rails) → IsSeen net gates cut rails before after p r → Reads m r (see p)) pin pins all) zip.1,
+)
+
+pub seen-push : (net : Parts) (gates : List ℕ) (cut : ℕ → Bool) (rails before after : List Rails) (pins : List Sig) (seen : List Rails) (pin : Sig) (r : Rails) → AllZip (IsSeen net gates cut rails before after) pins seen → IsSeen net gates cut rails before after pin r → AllZip (IsSeen net gates cut rails before after) (pins ++ pin ∷ []) (seen ++ r ∷ [])
+seen-push net gates cut rails before after [] [] pin r zip is = (is, tt)
+seen-push net gates cut rails before after [] (s ∷ seen) pin r zip is = absurd zip
+seen-push net gates cut rails before after (p ∷ pins) [] pin r zip is = absurd zip
+seen-push net gates cut rails before after (p ∷ pins) (s ∷ seen) pin r zip is = (zip.0, seen-push net gates cut rails before after pins seen pin r zip.1 is)
+
+-- one pin more
+pub seen-step : (net : Parts) (gates : List ℕ) (cut : ℕ → Bool) (rails before after : List Rails) (pins : List Sig) (i : ℕ) (none : Sig) (seen more : List Rails) (r : Rails) → i < length pins → more ≡ seen ++ r ∷ []
+    → AllZip (IsSeen net gates cut rails before after) (take i pins) seen → IsSeen net gates cut rails before after (get_or pins i none) r → AllZip (IsSeen net gates cut rails before after) (take (i + 1) pins) more
+seen-step net gates cut rails before after pins i none seen more r inside items zip is =
+    subst (λ (ps : List Sig). AllZip (IsSeen net gates cut rails before after) ps more) (sym (take_more pins i none inside))
+    (subst (λ (rs : List Rails). AllZip (IsSeen net gates cut rails before after) (take i pins ++ get_or pins i none ∷ []) rs) (sym items) (seen-push net gates cut rails before after (take i pins) seen (get_or pins i none) r zip is))
+
+pub seen-length : (net : Parts) (gates : List ℕ) (cut : ℕ → Bool) (rails before after : List Rails) (pins : List Sig) (seen : List Rails) → AllZip (IsSeen net gates cut rails before after) pins seen → length seen ≡ length pins
+seen-length net gates cut rails before after [] [] zip = refl
+seen-length net gates cut rails before after [] (r ∷ seen) zip = absurd zip
+seen-length net gates cut rails before after (pin ∷ pins) [] zip = absurd zip
+seen-length net gates cut rails before after (pin ∷ pins) (r ∷ seen) zip = ap suc (seen-length net gates cut rails before after pins seen zip.1)
+
+-- ---- copies that are bound
+
+pub copied-none : (net : Parts) (gates : List ℕ) (cut : ℕ → Bool) (rails before after : List Rails) (f : Formula) → IsFormula f → AreCopied net gates cut rails before after f f 0
+copied-none net gates cut rails before after f formula = record {
+  grows = Grows-refl f formula;
+  reads = λ m see h reads i less. absurd (omega (arith, less));
+  complete = λ m see len h reads still. model-here f m len h;
+}
+
+-- values of further variables change nothing of what rails are read as
+Seen-more : (net : Parts) (gates : List ℕ) (cut : ℕ → Bool) (rails before after : List Rails) (m more : List Bool) (see : ℕ → Sig → Trit) → ((pin : Sig) (r : Rails) → IsSeen net gates cut rails before after pin r → AreWithin (length m) r) → ReadsSeen net gates cut rails before after m see → ReadsSeen net gates cut rails before after (m ++ more) see
+Seen-more net gates cut rails before after m more see inside reads i less = by (gate_at net (get_or gates i 0)).pins (reads i less)
+  where
+    by : (pins : List Sig) → All (λ pin. (r : Rails) → IsSeen net gates cut rails before after pin r → Reads m r (see i pin)) pins → All (λ pin. (r : Rails) → IsSeen net gates cut rails before after pin r → Reads (m ++ more) r (see i pin)) pins
+    by pins all = All-weaker (λ pin. (r : Rails) → IsSeen net gates cut rails before after pin r → Reads m r (see i pin)) (λ pin. (r : Rails) → IsSeen net gates cut rails before after pin r → Reads (m ++ more) r (see i pin)) (λ pin here r is. Reads-more m more r (see i pin) (inside pin r is) (here r is)) pins all
+
+rails-in : (v : ℕ) (xs : List Rails) (i : ℕ) → 0 < v → All (AreWithin v) xs → AreWithin v (get_or xs i no_rails)
+rails-in v xs i some all = elim (cases_lt i (length xs)) [
+  | inl low ↦ All-get_or (AreWithin v) xs i no_rails low all
+  | inr high ↦ subst (AreWithin v) (sym (get_or_past xs i no_rails high)) (record { one = omega (arith, some); zero = omega (arith, some); known = omega (arith, some) })
+]
+
+seen-within : (net : Parts) (gates : List ℕ) (cut : ℕ → Bool) (rails before after : List Rails) (v : ℕ) → 0 < v → All (AreWithin v) rails → All (AreWithin v) before → All (AreWithin v) after → (pin : Sig) (r : Rails) → IsSeen net gates cut rails before after pin r → AreWithin v r
+seen-within net gates cut rails before after v some a b c pin r (inl out) = subst (AreWithin v) (sym out.is) (rails-in v rails pin.0 some a)
+seen-within net gates cut rails before after v some a b c pin r (inr one) = subst (AreWithin v) (sym one.is) (by (cut (gate_of net pin)))
+  where
+    by : (x : Bool) → AreWithin v (if x then rails_at before one.place else rails_at after one.place)
+    by true = rails-in v before one.place some b
+    by false = rails-in v after one.place some c
+
+module _ (net : Parts) (proper : IsNetlist net) (gates : List ℕ) (cut : ℕ → Bool) (rails before after : List Rails) (start old new : Formula) (k : ℕ) (inside : k < length gates) (is_gate : get_or gates k 0 < length net.gates)
+    (rails_in : All (AreWithin start.variables) rails) (before_in : All (AreWithin start.variables) before) (after_in : All (AreWithin start.variables) after) (some : 0 < start.variables)
+    (was : AreCopied net gates cut rails before after start old k) (bound : BindsCopy net gates cut rails before after k old new) where
+  pin-width : (see : ℕ → Sig → Trit) → length (map (see k) (gate_at net (get_or gates k 0)).pins) ≡ (gate_at net (get_or gates k 0)).cover.pins
+  pin-width see = length-map (gate_at net (get_or gates k 0)).pins (see k) ∙ All-get_or (λ (g : Gate). length g.pins ≡ g.cover.pins) net.gates (get_or gates k 0) no_gate is_gate proper.pin_counts
+
+  pins-seen : (m : List Bool) (see : ℕ → Sig → Trit) → ReadsSeen net gates cut rails before after m see → ReadsAll m bound.pins (map (see k) (gate_at net (get_or gates k 0)).pins)
+  pins-seen m see reads = seen-read net gates cut rails before after m (see k) (gate_at net (get_or gates k 0)).pins bound.pins (reads k inside) bound.seen
+
+  pub copied-step : AreCopied net gates cut rails before after start new (k + 1)
+  copied-step = record {
+    grows = Grows-chain was.grows bound.says_gate.grows;
+    reads = λ m see h reads i below. at m see h reads i below (cases_lt i k);
+    complete = λ m see len h reads still.
+        let had : HasModelFrom old m = was.complete m see len h reads still in
+        let within : (pin : Sig) (r : Rails) → IsSeen net gates cut rails before after pin r → AreWithin (length m) r = subst (λ l. (pin : Sig) (r : Rails) → IsSeen net gates cut rails before after pin r → AreWithin l r) (sym len) (seen-within net gates cut rails before after start.variables some rails_in before_in after_in) in
+        let own : AreWithin (length m) (rails_at after k) = subst (λ l. AreWithin l (rails_at after k)) (sym len) (rails-in start.variables after k some after_in) in
+        model-after new m had.more
+        (bound.says_gate.complete (m ++ had.more) (map (see k) (gate_at net (get_or gates k 0)).pins) (pin-width see) had.width had.model
+        (pins-seen (m ++ had.more) see (Seen-more net gates cut rails before after m had.more see within reads))
+        (Reads-more m had.more (rails_at after k) (value_seen net gates see k) own (still k inside)));
+  }
+    where
+      at : (m : List Bool) (see : ℕ → Sig → Trit) → IsModel m new → ReadsSeen net gates cut rails before after m see → (i : ℕ) → i < k + 1 → (i < k) ⊎ (k ≤ i) → Reads m (rails_at after i) (value_seen net gates see i)
+      at m see h reads i below (inl low) = was.reads m see (bound.says_gate.grows.sound m h) reads i low
+      at m see h reads i below (inr high) =
+          let here : k ≡ i = omega (arith, below, high) in
+          subst (λ j. Reads m (rails_at after j) (value_seen net gates see j)) here
+          (bound.says_gate.reads m (map (see k) (gate_at net (get_or gates k 0)).pins) (pin-width see) h (pins-seen m see reads))
+
+-- ---- a whole sweep
+
+-- the value that the copy of a gate is read as
+copy_value : List Bool → List ℕ → List Rails → ℕ → Trit
+copy_value m [] rs n = X
+copy_value m (g ∷ gates) [] n = X
+copy_value m (g ∷ gates) (r ∷ rs) n = if g == n then value_read m r else copy_value m gates rs n
+
+differ : (a b : ℕ) → a < b → (a == b) ≡ false
+differ a b less = by (a == b) refl
+  where
+    by : (x : Bool) → (a == b) ≡ x → (a == b) ≡ false
+    by false e = e
+    by true e = absurd (let same : a ≡ b = eqb-true a b e in omega (arith, less, same))
+
+rise-tail : (g : ℕ) (gates : List ℕ) → Rise (g ∷ gates) → Rise gates
+rise-tail g gates rise i j less inside = rise (suc i) (suc j) (omega (arith, less)) (omega (arith, inside))
+
+copy-at : (m : List Bool) (gates : List ℕ) (rs : List Rails) (i : ℕ) → Rise gates → length rs ≡ length gates → i < length gates → copy_value m gates rs (get_or gates i 0) ≡ value_read m (get_or rs i no_rails)
+unfolding copy_value
+copy-at m [] rs i rise size less = absurd (omega (arith, less))
+copy-at m (g ∷ gates) [] i rise size less = absurd (omega (arith, size))
+copy-at m (g ∷ gates) (r ∷ rs) zero rise size less = ap (λ b. if b then value_read m r else copy_value m gates rs g) (eq-eqb g g refl)
+copy-at m (g ∷ gates) (r ∷ rs) (suc i) rise size less =
+    let above : g < get_or gates i 0 = rise zero (suc i) (omega arith) less in
+    let other : (g == get_or gates i 0) ≡ false = differ g (get_or gates i 0) above in
+    ap (λ b. if b then value_read m r else copy_value m gates rs (get_or gates i 0)) other ∙ copy-at m gates rs i (rise-tail g gates rise) (omega (arith, size)) (omega (arith, less))
+
+module _ (net : Parts) (blocks : Blocks) (are : AreBlocksOf net blocks) (cut : Cut) (cut_is : IsCutOf net cut) (block : ℕ) (bl : block < length blocks.list) (looped : (block_at blocks block).looped ≡ true) where
+  home-looped : (n : ℕ) → home_of blocks n ≡ block → (block_at blocks (home_of blocks n)).looped ≡ true
+  home-looped n home = subst (λ b. (block_at blocks b).looped ≡ true) (sym home) looped
+
+  same-to : (n g : ℕ) → Contains (block_at blocks block).gates n → in_one_loop blocks n g ≡ true → Contains (block_at blocks block).gates g
+  same-to n g c e =
+      let h = gate_home net blocks are block n bl c in
+      subst (λ b. Contains (block_at blocks b).gates g) h.1 ((blocks_have_loops net blocks cut are n h.0 (home-looped n h.1)).0 g e)
+
+  same-from : (n g : ℕ) → Contains (block_at blocks block).gates n → Contains (block_at blocks block).gates g → in_one_loop blocks n g ≡ true
+  same-from n g c d =
+      let h = gate_home net blocks are block n bl c in
+      (blocks_have_loops net blocks cut are n h.0 (home-looped n h.1)).1 g (subst (λ b. Contains (block_at blocks b).gates g) (sym h.1) d)
+
+  module _ (rails before after : List Rails) (m : List Bool) (v c s : List Trit) (outside : ReadsOutside net (loops_by blocks cut) (block_at blocks block).gates rails m v)
+      (reads_before : ReadsPlaces (block_at blocks block).gates before m c) (reads_after : ReadsPlaces (block_at blocks block).gates after m s) where
+    see-one : (n : ℕ) → Contains (block_at blocks block).gates n → (pin : Sig) (r : Rails) → IsSeen net (block_at blocks block).gates (is_cut cut.wires) rails before after pin r → (in_loop_of net (loops_by blocks cut) n pin ≡ false → Reads m (rails_at rails pin.0) (wire (fix net v) pin)) → Reads m r (pin_in net (loops_by blocks cut) v c s n pin)
+    see-one n listed pin r (inl out) at =
+        let apart : in_loop_of net (loops_by blocks cut) n pin ≡ false = no-loop (in_loop_of net (loops_by blocks cut) n pin) refl in
+        subst (λ (q : Rails). Reads m q (pin_in net (loops_by blocks cut) v c s n pin)) (sym out.is)
+        (subst (Reads m (rails_at rails pin.0)) (sym (ap (λ b. if b then (if is_cut cut.wires (gate_of net pin) then value_in c (gate_of net pin) else value_in s (gate_of net pin)) else wire (fix net v) pin) apart)) (at apart))
+      where
+        no-loop : (b : Bool) → in_loop_of net (loops_by blocks cut) n pin ≡ b → in_loop_of net (loops_by blocks cut) n pin ≡ false
+        no-loop false e = e
+        no-loop true e =
+            let p = and_parts (leb (first_gate net) pin.0) (in_one_loop blocks n (gate_of net pin)) e in
+            absurd (out.no_gate (leb-true (first_gate net) pin.0 p.0) (same-to n (gate_of net pin) listed p.1))
+    see-one n listed pin r (inr one) at =
+        let g = gate_of net pin in
+        let there : Contains (block_at blocks block).gates (gate_of net pin) = subst (Contains (block_at blocks block).gates) one.here (Contains-get_or (block_at blocks block).gates one.place 0 one.within) in
+        let inside : in_loop_of net (loops_by blocks cut) n pin ≡ true = and_from (leb (first_gate net) pin.0) (in_one_loop blocks n (gate_of net pin)) (le-leb (first_gate net) pin.0 one.gate) (same-from n (gate_of net pin) listed there) in
+        subst (λ (q : Rails). Reads m q (pin_in net (loops_by blocks cut) v c s n pin)) (sym one.is)
+        (subst (Reads m (if is_cut cut.wires g then rails_at before one.place else rails_at after one.place)) (sym (ap (λ b. if b then (if is_cut cut.wires (gate_of net pin) then value_in c (gate_of net pin) else value_in s (gate_of net pin)) else wire (fix net v) pin) inside)) (by (is_cut cut.wires g)))
+      where
+        by : (b : Bool) → Reads m (if b then rails_at before one.place else rails_at after one.place) (if b then value_in c (gate_of net pin) else value_in s (gate_of net pin))
+        by true = subst (λ g. Reads m (rails_at before one.place) (value_in c g)) one.here (reads_before one.place one.within)
+        by false = subst (λ g. Reads m (rails_at after one.place) (value_in s g)) one.here (reads_after one.place one.within)
+
+    sees : ReadsSeen net (block_at blocks block).gates (is_cut cut.wires) rails before after m (λ i pin. pin_in net (loops_by blocks cut) v c s (get_or (block_at blocks block).gates i 0) pin)
+    sees i less =
+        let n = get_or (block_at blocks block).gates i 0 in
+        let listed : Contains (block_at blocks block).gates (get_or (block_at blocks block).gates i 0) = Contains-get_or (block_at blocks block).gates i 0 less in
+        All-weaker (λ pin. in_loop_of net (loops_by blocks cut) n pin ≡ false → Reads m (rails_at rails pin.0) (wire (fix net v) pin))
+        (λ pin. (r : Rails) → IsSeen net (block_at blocks block).gates (is_cut cut.wires) rails before after pin r → Reads m r (pin_in net (loops_by blocks cut) v c s n pin))
+        (λ pin at r is. see-one n listed pin r is at) (gate_at net n).pins (outside n listed)
+
+  module _ (rails before after : List Rails) (old mid new : Formula) (rails_in : All (AreWithin old.variables) rails) (before_in : All (AreWithin old.variables) before) (some : 0 < old.variables)
+      (copies : AreCopies old mid after (length (block_at blocks block).gates)) (copied : AreCopied net (block_at blocks block).gates (is_cut cut.wires) rails before after mid new (length (block_at blocks block).gates)) where
+    after-read : (m : List Bool) → IsModel m mid → ReadsPlaces (block_at blocks block).gates after m (map (copy_value m (block_at blocks block).gates after) (range_with_len 0 (length net.gates)))
+    after-read m h i less =
+        let n = get_or (block_at blocks block).gates i 0 in
+        let value : value_in (map (copy_value m (block_at blocks block).gates after) (range_with_len 0 (length net.gates))) n ≡ value_read m (rails_at after i) =
+        get_or-map-range_with_len (copy_value m (block_at blocks block).gates after) 0 (length net.gates) n n X (block_within net blocks are block bl i less) (omega arith)
+        ∙ copy-at m (block_at blocks block).gates after i (block_rises net blocks are block bl) copies.size less in
+        subst (Reads m (rails_at after i)) (sym value) ((copies.own i less).reads m h)
+
+    sweep-sound : (m : List Bool) (v c : List Trit) → IsModel m new → ReadsOutside net (loops_by blocks cut) (block_at blocks block).gates rails m v → ReadsPlaces (block_at blocks block).gates before m c → ReadsPlaces (block_at blocks block).gates after m (sweep net (loops_by blocks cut) v c)
+    sweep-sound m v c h outside reads_before i less =
+        let s = map (copy_value m (block_at blocks block).gates after) (range_with_len 0 (length net.gates)) in
+        let n = get_or (block_at blocks block).gates i 0 in
+        let listed : Contains (block_at blocks block).gates n = Contains-get_or (block_at blocks block).gates i 0 less in
+        let reads : ReadsPlaces (block_at blocks block).gates after m s = after-read m (copied.grows.sound m h) in
+        let see : ℕ → Sig → Trit = λ j pin. pin_in net (loops_by blocks cut) v c s (get_or (block_at blocks block).gates j 0) pin in
+        let seen : ReadsSeen net (block_at blocks block).gates (is_cut cut.wires) rails before after m see = sees rails before after m v c s outside reads_before reads in
+        let at_place : (j : ℕ) → j < length (block_at blocks block).gates → value_in s (get_or (block_at blocks block).gates j 0) ≡ gate_in net (loops_by blocks cut) v c s (get_or (block_at blocks block).gates j 0) =
+        λ j inside. Reads-unique m (rails_at after j) (value_in s (get_or (block_at blocks block).gates j 0)) (gate_in net (loops_by blocks cut) v c s (get_or (block_at blocks block).gates j 0)) (reads j inside) (copied.reads m see h seen j inside) in
+        let each : (g : ℕ) → in_one_loop blocks n g ≡ true → value_in s g ≡ gate_in net (loops_by blocks cut) v c s g =
+        λ g e. at-gate s c v at_place g (same-to n g listed e) in
+        subst (Reads m (rails_at after i)) (sweep_of_one_loop net (loops_by blocks cut) (blocks_tell_loops net blocks cut are cut_is) v c s n each n (same-from n n listed listed)) (reads i less)
+      where
+        at-gate : (s c v : List Trit) → ((j : ℕ) → j < length (block_at blocks block).gates → value_in s (get_or (block_at blocks block).gates j 0) ≡ gate_in net (loops_by blocks cut) v c s (get_or (block_at blocks block).gates j 0)) → (g : ℕ) → Contains (block_at blocks block).gates g → value_in s g ≡ gate_in net (loops_by blocks cut) v c s g
+        at-gate s c v all g there =
+            let is : get_or (block_at blocks block).gates there.0 0 ≡ g = get_or_default (block_at blocks block).gates there.0 0 g there.1 ∙ there.2 in
+            subst (λ k. value_in s k ≡ gate_in net (loops_by blocks cut) v c s k) is (all there.0 there.1)
+
+    outside-more : (m more : List Bool) (v : List Trit) → length m ≡ old.variables → ReadsOutside net (loops_by blocks cut) (block_at blocks block).gates rails m v → ReadsOutside net (loops_by blocks cut) (block_at blocks block).gates rails (m ++ more) v
+    outside-more m more v len outside n listed =
+        All-weaker (λ pin. in_loop_of net (loops_by blocks cut) n pin ≡ false → Reads m (rails_at rails pin.0) (wire (fix net v) pin))
+        (λ pin. in_loop_of net (loops_by blocks cut) n pin ≡ false → Reads (m ++ more) (rails_at rails pin.0) (wire (fix net v) pin))
+        (λ pin at e. Reads-more m more (rails_at rails pin.0) (wire (fix net v) pin) (subst (λ l. AreWithin l (rails_at rails pin.0)) (sym len) (rails-in old.variables rails pin.0 some rails_in)) (at e)) (gate_at net n).pins (outside n listed)
+
+    sweep-complete : (m : List Bool) (v c : List Trit) → length m ≡ old.variables → IsModel m old → ReadsOutside net (loops_by blocks cut) (block_at blocks block).gates rails m v → ReadsPlaces (block_at blocks block).gates before m c → HasModelFrom new m
+    sweep-complete m v c len h outside reads_before =
+        let s = sweep net (loops_by blocks cut) v c in
+        let values : ℕ → Trit = λ i. value_in s (get_or (block_at blocks block).gates i 0) in
+        let first : HasCopies mid after (length (block_at blocks block).gates) m values = copies.complete m values len h in
+        let long = m ++ first.more in
+        let there : ReadsOutside net (loops_by blocks cut) (block_at blocks block).gates rails long v = outside-more m first.more v len outside in
+        let early : ReadsPlaces (block_at blocks block).gates before long c = λ i less. Reads-more m first.more (rails_at before i) (value_in c (get_or (block_at blocks block).gates i 0)) (subst (λ l. AreWithin l (rails_at before i)) (sym len) (rails-in old.variables before i some before_in)) (reads_before i less) in
+        let see : ℕ → Sig → Trit = λ j pin. pin_in net (loops_by blocks cut) v c s (get_or (block_at blocks block).gates j 0) pin in
+        let seen : ReadsSeen net (block_at blocks block).gates (is_cut cut.wires) rails before after long see = sees rails before after long v c s there early first.reads in
+        let still : (i : ℕ) → i < length (block_at blocks block).gates → Reads long (rails_at after i) (value_seen net (block_at blocks block).gates see i) =
+        λ i less. subst (Reads long (rails_at after i)) (sweep_each net (loops_by blocks cut) v c (get_or (block_at blocks block).gates i 0) (block_within net blocks are block bl i less)) (first.reads i less) in
+        model-after new m first.more (copied.complete long see first.width first.model seen still)
+
+    pub sweep-says : SaysSweep net (loops_by blocks cut) (block_at blocks block).gates rails before old new after
+    sweep-says = record {
+      grows = Grows-chain copies.grows copied.grows;
+      within = All-within-more mid.variables new.variables after copied.grows.more copies.within;
+      size = copies.size;
+      sound = sweep-sound;
+      complete = sweep-complete;
+    }
+
+-- and of the lists as the code holds them
+pub sweep-made : (net : Parts) (blocks : Blocks) (are : AreBlocksOf net blocks) (cut : Cut) (cut_is : IsCutOf net cut) (block : ℕ) (bl : block < length blocks.list) (looped : (block_at blocks block).looped ≡ true)
+    (rails before after : List Rails) (old mid new : Formula) (gates : List ℕ) (wires : List Bool) (copies : List Rails) → gates ≡ (block_at blocks block).gates → wires ≡ cut.wires → copies ≡ after
+    → All (AreWithin old.variables) rails → All (AreWithin old.variables) before → 0 < old.variables
+    → AreCopies old mid after (length gates) → AreCopied net gates (is_cut wires) rails before copies mid new (length gates) → SaysSweep net (loops_by blocks cut) (block_at blocks block).gates rails before old new after
+sweep-made net blocks are cut cut_is block bl looped rails before after old mid new gates wires copies same same_wires same_copies rails_in before_in some made bound =
+    sweep-says net blocks are cut cut_is block bl looped rails before after old mid new rails_in before_in some
+    (subst (λ (gs : List ℕ). AreCopies old mid after (length gs)) same made)
+    (subst (λ (gs : List ℕ). AreCopied net gs (is_cut cut.wires) rails before after mid new (length gs)) same
+    (subst (λ (ws : List Bool). AreCopied net gates (is_cut ws) rails before after mid new (length gates)) same_wires
+    (subst (λ (rs : List Rails). AreCopied net gates (is_cut wires) rails before rs mid new (length gates)) same_copies bound)))

@@ -1,0 +1,5 @@
+use Rattle.ternary_clauses.specs.Sweeps.{AreCopies}
+use Rattle.ternary_clauses.proofs.sweeps.add_copies.Given as goal
+
+abbrev pub invariant-loop : goal.invariant-loop
+invariant-loop l = AreCopies l.fn.formula l.formula l.copies.items l.counter

@@ -1,0 +1,13 @@
+use Rattle.std.proofs.Common.{sym, subst}
+use Rattle.std.proofs.lemmas.List.Elements.{All-push}
+use Rattle.std.specs.List.{All}
+use Rattle.loops.specs.Cuts.{is_cut}
+use Rattle.ternary_clauses.specs.Rails.{AreWithin}
+use Rattle.ternary_clauses.proofs.SweepLemmas.{seen-step}
+use Rattle.ternary_clauses.proofs.sweeps.seen_pins.Goals as goal
+
+pub loop-pin-preserved : goal.loop-pin-preserved
+loop-pin-preserved c = record {
+  seen = seen-step c.args.net.now c.args.gates.now (is_cut c.args.cut.now) c.args.rails.now c.args.before.now c.args.after.now c.items-signals.result.now c.loop-pin.pin-index _ c.loop-pin.pins.items c.push.new.self.items c.seen.result c.loop-pin-test.true c.in_ok-push.ensures.items c.loop-pin.invariant.seen c.seen.ensures.seen;
+  within = λ v rails before after. subst (All (AreWithin v)) (sym c.in_ok-push.ensures.items) (All-push (AreWithin v) c.loop-pin.pins.items c.seen.result (c.loop-pin.invariant.within v rails before after) (c.seen.ensures.within v rails before after));
+}
