@@ -1,0 +1,4 @@
+pub mod FormulaLemmas
+pub mod LeavingLemmas
+pub mod ModelLemmas
+pub mod SignalLemmas

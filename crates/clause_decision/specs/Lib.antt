@@ -1,0 +1,10 @@
+pub mod Cones
+pub mod Formulas
+pub mod Loads
+pub mod NextStates
+pub mod Questions
+pub mod Scopes
+pub mod Starts
+pub mod Sweeping
+pub mod Tests
+pub mod Unknowns
