@@ -1,5 +1,7 @@
 pub mod ConeLemmas
 pub mod FormulaLemmas
+pub mod LeavingLemmas
 pub mod ModelLemmas
+pub mod SignalLemmas
 pub mod StartLemmas
 pub mod UnknownLemmas

@@ -1,6 +1,7 @@
 pub mod Cones
 pub mod Formulas
 pub mod Loads
+pub mod NextStates
 pub mod Questions
 pub mod Scopes
 pub mod Starts

@@ -1,0 +1,212 @@
+-- The invariant of the next state, as a literal of a cone.
+use Rattle.std.proofs.Common.{◌≡◌, ◌≢◌, inl, inr, ℕ, ◌<◌, ◌≤◌, ◌+◌, ◌-◌, ◌*◌, Bool, true, false, not, ◌&&◌, List, [], ◌∷◌, ◌++◌, length, map, take, get_or, Option, Some, None, IfSome, refl, sym, ap, ap₂, subst, ◌∙◌, arith}
+use Rattle.std.specs.List.{All}
+use Rattle.std.specs.Option.{option_map, option_map_or}
+use Rattle.std.proofs.lemmas.Bool.{and_parts}
+use Rattle.std.proofs.lemmas.List.{length-map, get_or-map}
+use Rattle.std.specs.Prelude.{Contains}
+use Rattle.std.proofs.lemmas.List.Elements.{All-take, All-map, All-get_or, Contains-get_or}
+use Rattle.std.proofs.lemmas.Option.{same_Some}
+use Rattle.cyc_base.specs.declared.trit.Trit.{Trit}
+use Rattle.cyc_base.specs.declared.trit.Trit.TheVariants.{X}
+use Rattle.cyc_base.specs.Values.{bit, bits}
+use Rattle.cyc_base.specs.declared.sig.Sig.{Sig}
+use Rattle.netlist.specs.declared.parts.Latch.{Latch}
+use Rattle.netlist.specs.declared.parts.Parts.{Parts}
+use Rattle.netlist.specs.Netlists.{IsNetlist, count, gate_sig, signal}
+use Rattle.netlist.specs.Fixpoint.{wire, fix, next}
+use Rattle.loops.specs.Sweeps.{first_gate, gate_of}
+use Rattle.care_sets.specs.declared.model.CareModel.{CareModel}
+use Rattle.care_sets.specs.Binding.{IsCareOf}
+use Rattle.care_sets.specs.Care.{CareSet, columns, is_one, inputs_at, holds_at, state_of, is_allowed, is_in_invariant, is_care_vector, IsCareVector}
+use Rattle.refusals.specs.Refusals.{next_state, leaves}
+use Rattle.refusals.proofs.RefusalLemmas.{known_bit_is}
+use Rattle.ternary_clauses.specs.declared.formula.Formula.{Formula}
+use Rattle.ternary_clauses.specs.declared.formula.Rails.{Rails}
+use Rattle.ternary_clauses.specs.Formulas.{says, negation, IsModel, HasModelFrom}
+use Rattle.ternary_clauses.specs.Rails.{Reads, ReadsAll, AreWithin, no_rails, rails_at}
+use Rattle.ternary_clauses.proofs.ClauseLemmas.{says-negation}
+use Rattle.ternary_clauses.proofs.ReadingLemmas.{ReadsAll-from, ReadsAll-more, All-within-more}
+use Rattle.clause_queries.specs.Clauses.{IsWithin}
+use Rattle.clause_queries.specs.Queries.{problem, is_model, IsModelUnder}
+use Rattle.clause_queries.specs.Vectors.{vector_of, Asks, HasVector}
+use Rattle.clause_queries.proofs.ClauseLemmas.{models-same}
+use Rattle.clause_decision.specs.declared.scope.Scope.{Scope}
+use Rattle.clause_decision.specs.Cones.{column_rails, vector_in, ReadsAbove, ReadsFix, IsCone}
+use Rattle.clause_decision.specs.Formulas.{SaysTest, accepts, ReadsWithin}
+use Rattle.clause_decision.specs.Loads.{HasLoads, LoadsAreKnown}
+use Rattle.clause_decision.specs.NextStates.{no_latch, latch_of, load_rails, loads_rails, AreLatchColumns}
+use Rattle.clause_decision.specs.declared.question.Question.{Question}
+use Rattle.clause_decision.specs.Questions.{IsQuestionOf}
+use Rattle.clause_decision.specs.Tests.{is_leaving}
+use Rattle.clause_decision.proofs.FormulaLemmas.{ones-read}
+use Rattle.clause_decision.proofs.ModelLemmas.{invariant-reads, of-there}
+use Rattle.clause_decision.proofs.SignalLemmas.{negation-within, column_rails-length, ones-within, fix-above, signal-read, three}
+
+-- the invariant that is there, of its net and its columns
+pub record IsThere (care : CareSet) (invariant : Parts) (columns_read : List ℕ) : Type 0 where
+  pub model : CareModel
+  pub is : care.invariant ≡ Some model
+  pub net_is : invariant ≡ model.net
+  pub columns_are : columns_read ≡ model.columns
+
+pub there : (care : CareSet) (invariant : Parts) (columns_read : List ℕ) → Some invariant ≡ option_map (λ model. model.net) care.invariant →
+    columns_read ≡ option_map_or (λ model. model.columns) care.invariant [] → IsThere care invariant columns_read
+there care invariant columns_read is are = by care.invariant refl is are
+  where
+    by : (o : Option CareModel) → care.invariant ≡ o → Some invariant ≡ option_map (λ model. model.net) o → columns_read ≡ option_map_or (λ model. model.columns) o [] → IsThere care invariant columns_read
+    by None at e f = cc
+    by (Some model) at e f = record { model = model; is = at; net_is = same_Some invariant model.net e; columns_are = f }
+
+-- which read latches alone
+pub latch-columns : (net : Parts) (care : CareSet) (columns_read : List ℕ) → IsCareOf net care → columns_read ≡ option_map_or (λ model. model.columns) care.invariant [] → AreLatchColumns net columns_read
+latch-columns net care columns_read bound are = by care.invariant are (invariant-reads net care (length net.latches) bound refl)
+  where
+    by : (o : Option CareModel) → columns_read ≡ option_map_or (λ model. model.columns) o [] → IfSome o (ReadsWithin (length net.inputs) (length net.latches)) → AreLatchColumns net columns_read
+    by None e h = subst (AreLatchColumns net) (sym e) (record { late = λ k d less. absurd (omega (arith, less)); within = λ k d less. absurd (omega (arith, less)) })
+    by (Some model) e h = subst (AreLatchColumns net) (sym e) (record { late = h.late; within = h.within })
+
+-- rails of what they load are of the formula
+pub loads-within : (net : Parts) (rails : List Rails) (k : ℕ) (columns_read : List ℕ) (list : List Rails) → IsNetlist net → length rails ≡ count net → All (AreWithin k) rails → AreLatchColumns net columns_read →
+    list ≡ loads_rails net rails columns_read → All (AreWithin k) list
+loads-within net rails k columns_read list proper size within latches is =
+    subst (All (AreWithin k)) (sym is) (All-map (AreWithin k) (load_rails net rails) columns_read
+    (λ i d less. All-get_or (AreWithin k) rails (latch_of net (get_or columns_read i d)).from.0 no_rails (let low = proper.sources (get_or columns_read i d - length net.inputs) no_latch (latches.within i d less) in omega (arith, low, size)) within))
+
+-- without an invariant no next state is outside
+pub none-leaves : (net : Parts) (care : CareSet) → (let nothing : Option Parts = None in nothing) ≡ option_map (λ model. model.net) care.invariant → (v : List Bool) → is_leaving net care v ≡ false
+none-leaves net care none v =
+    ap (λ b. is_care_vector net care v && not b) (passes care.invariant none)
+    ∙ and-false (is_care_vector net care v)
+  where
+    passes : (o : Option CareModel) → (let nothing : Option Parts = None in nothing) ≡ option_map (λ model. model.net) o → option_map_or (λ model. holds_at model (next_state net v)) o true ≡ true
+    passes None e = refl
+    passes (Some model) e = cc
+
+    and-false : (b : Bool) → (b && false) ≡ false
+    and-false true = refl
+    and-false false = refl
+
+module _ (net : Parts) (care : CareSet) (marks : List Bool) (f g : Formula) (rails : List Rails) (inside allowed literal : ℕ) (cone : IsCone net care marks f rails inside allowed)
+    (model : CareModel) (is : care.invariant ≡ Some model) (start : model.first ≡ length net.inputs) (latches : AreLatchColumns net model.columns) (proper : IsNetlist net)
+    (scoped : (column n : ℕ) (none : Latch) → Contains model.columns column → n < length net.gates → (get_or net.latches (column - length net.inputs) none).from ≡ gate_sig net n → get_or marks n false ≡ true)
+    (known : LoadsAreKnown net care) (said : SaysTest f g (loads_rails net rails model.columns) (accepts model.net) literal) where
+  -- at a care vector the rails of the loads stand for what the model reads of the next state
+  loads-read : (m v : List Bool) → ReadsAll m (column_rails net rails) (bits v) → ReadsAbove net marks rails m v → IsCareVector net care v →
+      ReadsAll m (loads_rails net rails model.columns) (bits (inputs_at model (next_state net v)))
+  loads-read m v reads above counts = ReadsAll-from m (loads_rails net rails model.columns) (bits (inputs_at model (next_state net v))) no_rails X same each
+    where
+      same : length (loads_rails net rails model.columns) ≡ length (bits (inputs_at model (next_state net v)))
+      same =
+          length-map model.columns (load_rails net rails)
+          ∙ sym (length-map (inputs_at model (next_state net v)) bit ∙ length-map model.columns (λ column. get_or (next_state net v) (column - model.first) false))
+
+      value : (i : ℕ) → i < length model.columns → get_or (bits (inputs_at model (next_state net v))) i X ≡ wire (fix net (bits v)) (latch_of net (get_or model.columns i 0)).from
+      value i less =
+          let column : ℕ = get_or model.columns i 0 in
+          let place : ℕ = column - length net.inputs in
+          let low : place < length net.latches = latches.within i 0 less in
+          get_or-map bit (inputs_at model (next_state net v)) i false X (let l = length-map model.columns (λ c. get_or (next_state net v) (c - model.first) false) in omega (arith, less, l))
+          ∙ ap bit (get_or-map (λ c. get_or (next_state net v) (c - model.first) false) model.columns i 0 false less)
+          ∙ ap (λ (k : ℕ). bit (get_or (next_state net v) (column - k) false)) start
+          ∙ ap bit (get_or-map is_one (next net (bits v)) place X false (let l = length-map net.latches (λ (latch : Latch). wire (fix net (bits v)) latch.from) in omega (arith, low, l)))
+          ∙ ap (λ (t : Trit). bit (is_one t)) (get_or-map (λ (latch : Latch). wire (fix net (bits v)) latch.from) net.latches place no_latch X low)
+          ∙ known_bit_is (wire (fix net (bits v)) (latch_of net column).from) (known v counts place no_latch low)
+
+      each : (i : ℕ) → i < length (loads_rails net rails model.columns) → Reads m (get_or (loads_rails net rails model.columns) i no_rails) (get_or (bits (inputs_at model (next_state net v))) i X)
+      each i below =
+          let less : i < length model.columns = (let l = length-map model.columns (load_rails net rails) in omega (arith, below, l)) in
+          let column : ℕ = get_or model.columns i 0 in
+          let place : ℕ = column - length net.inputs in
+          let low : place < length net.latches = latches.within i 0 less in
+          let from : Sig = (latch_of net column).from in
+          let inside_net : from.0 < count net = proper.sources place no_latch low in
+          let read : Reads m (rails_at rails from.0) (wire (fix net (bits v)) from) =
+          signal-read net marks rails m v cone.size counts.width reads above from inside_net
+          (λ high. scoped column (gate_of net from) no_latch (Contains-get_or model.columns i 0 less) (omega (arith, inside_net, high)) (let e : from.0 ≡ first_gate net + gate_of net from = omega (arith, high) in ap signal e))
+          (known v counts place no_latch low) in
+          subst (λ (r : Rails). Reads m r (get_or (bits (inputs_at model (next_state net v))) i X)) (sym (get_or-map (load_rails net rails) model.columns i 0 no_rails less))
+          (subst (λ (t : Trit). Reads m (rails_at rails from.0) t) (sym (value i less)) read)
+
+  in-model : (q : List Bool) → holds_at model q ≡ is_in_invariant care q
+  in-model q = ap (λ (o : Option CareModel). option_map_or (λ (c : CareModel). holds_at c q) o true) (sym is)
+
+  under-model : (m : List Bool) → is_model (problem g) m ≡ true → IsModel m g
+  under-model m h = sym (models-same g m) ∙ h
+
+  sound : (m : List Bool) → IsModelUnder (problem g) (inside ∷ allowed ∷ negation literal ∷ []) m → is_leaving net care (vector_in net rails m) ≡ true
+  sound m under =
+      let v : List Bool = vector_in net rails m in
+      let model_g : IsModel m g = under-model m under.model in
+      let model_f : IsModel m f = said.grows.sound m model_g in
+      let in_invariant : is_in_invariant care (state_of net v) ≡ true = sym (cone.inside_tells m model_f) ∙ under.assumed 0 0 (omega arith) in
+      let may : is_allowed care v ≡ true = sym (cone.allowed_tells m model_f) ∙ under.assumed 1 0 (omega arith) in
+      let counts : IsCareVector net care v = record { width = length-map (column_rails net rails) (λ (r : Rails). says m r.one) ∙ column_rails-length net rails cone.size; state = in_invariant; allowed = may } in
+      let tells : says m literal ≡ is_in_invariant care (next_state net v) =
+      said.says_it m (inputs_at model (next_state net v)) model_g (loads-read m v (cone.sound m model_f) (cone.above m model_f) counts) ∙ in-model (next_state net v) in
+      let out : leaves net care v ≡ true = ap not (sym tells) ∙ sym (says-negation m literal) ∙ under.assumed 2 0 (omega arith) in
+      ap₂ (λ (a b : Bool). a && b) (ap₂ (λ (a b : Bool). a && b) in_invariant may) out
+
+  complete : (v : List Bool) → length v ≡ columns net → is_leaving net care v ≡ true → HasVector (problem g) (map (λ r. r.one) (column_rails net rails)) (inside ∷ allowed ∷ negation literal ∷ []) v
+  complete v wide passes =
+      let parts = and_parts (is_care_vector net care v) (leaves net care v) passes in
+      let both = and_parts (is_in_invariant care (state_of net v)) (is_allowed care v) parts.0 in
+      let counts : IsCareVector net care v = record { width = wide; state = both.0; allowed = both.1 } in
+      let has : ReadsFix net marks f rails v = cone.complete v wide in
+      let more : HasModelFrom g has.model = said.complete has.model (inputs_at model (next_state net v)) has.long has.holds (loads-read has.model v has.columns (fix-above net marks rails has.model v has.fixpoint) counts) in
+      let all : List Bool = has.model ++ more.more in
+      let within : All (AreWithin (length has.model)) rails = subst (λ k. All (AreWithin k) rails) (sym has.long) cone.within in
+      let reads : ReadsAll all (column_rails net rails) (bits v) = ReadsAll-more has.model more.more (column_rails net rails) (bits v) (All-take (AreWithin (length has.model)) (columns net) rails within) has.columns in
+      let model_f : IsModel all f = said.grows.sound all more.model in
+      let vector : vector_in net rails all ≡ v = sym (ones-read all (column_rails net rails) (vector_in net rails all) (cone.sound all model_f)) ∙ ones-read all (column_rails net rails) v reads in
+      let above : ReadsAbove net marks rails all v = subst (ReadsAbove net marks rails all) vector (cone.above all model_f) in
+      let in_invariant : says all inside ≡ true = cone.inside_tells all model_f ∙ ap (λ u. is_in_invariant care (state_of net u)) vector ∙ both.0 in
+      let may : says all allowed ≡ true = cone.allowed_tells all model_f ∙ ap (is_allowed care) vector ∙ both.1 in
+      let out : says all (negation literal) ≡ true =
+      says-negation all literal
+      ∙ ap not (said.says_it all (inputs_at model (next_state net v)) more.model (loads-read all v reads above counts) ∙ in-model (next_state net v))
+      ∙ parts.1 in
+      record {
+        model = all;
+        under = record { model = models-same g all ∙ more.model; assumed = three (λ l. says all l ≡ true) inside allowed (negation literal) in_invariant may out };
+        reads = ones-read all (column_rails net rails) v reads;
+      }
+
+  pub asks : Asks (problem g) (map (λ r. r.one) (column_rails net rails)) (inside ∷ allowed ∷ negation literal ∷ []) (is_leaving net care)
+  asks = record {
+    sound = λ m under.
+        subst (λ u. is_leaving net care u ≡ true) (sym (ones-read m (column_rails net rails) (vector_in net rails m) (cone.sound m (said.grows.sound m (under-model m under.model))))) (sound m under);
+    complete = λ v wide passes. complete v (wide ∙ length-map (column_rails net rails) (λ (r : Rails). r.one) ∙ column_rails-length net rails cone.size) passes;
+  }
+
+pub leaving-question : (net : Parts) (care : CareSet) (scope : Scope) (f g : Formula) (rails list : List Rails) (inside allowed literal : ℕ) (invariant : Parts) (columns_read : List ℕ) (q : Question) →
+    IsNetlist net → IsCareOf net care → IsCone net care scope.gates f rails inside allowed → HasLoads net care scope → LoadsAreKnown net care →
+    Some invariant ≡ option_map (λ model. model.net) care.invariant → columns_read ≡ option_map_or (λ model. model.columns) care.invariant [] →
+    list ≡ loads_rails net rails columns_read → SaysTest f g list (accepts invariant) literal →
+    q.formula ≡ g → q.columns.items ≡ map (λ r. r.one) (column_rails net rails) → q.assumed.items ≡ inside ∷ allowed ∷ negation literal ∷ [] → IsQuestionOf (columns net) (is_leaving net care) q
+leaving-question net care scope f g rails list inside allowed literal invariant columns_read q proper bound cone loads known is are list_is said formula_is columns_is assumed_is =
+    let it : IsThere care invariant columns_read = there care invariant columns_read is are in
+    let start : it.model.first ≡ length net.inputs = (of-there care.invariant it.model (ReadsWithin (length net.inputs) (length net.latches)) it.is (invariant-reads net care (length net.latches) bound refl)).start in
+    let list_here : list ≡ loads_rails net rails it.model.columns = list_is ∙ ap (loads_rails net rails) it.columns_are in
+    let said_here : SaysTest f g (loads_rails net rails it.model.columns) (accepts it.model.net) literal =
+    subst (λ (rs : List Rails). SaysTest f g rs (accepts it.model.net) literal) list_here (subst (λ (n : Parts). SaysTest f g list (accepts n) literal) it.net_is said) in
+    let asked : Asks (problem g) (map (λ r. r.one) (column_rails net rails)) (inside ∷ allowed ∷ negation literal ∷ []) (is_leaving net care) =
+    asks net care scope.gates f g rails inside allowed literal cone it.model it.is start (subst (AreLatchColumns net) it.columns_are (latch-columns net care columns_read bound are)) proper
+    (of-there care.invariant it.model (λ model. (column n : ℕ) (none : Latch) → Contains model.columns column → n < length net.gates → (get_or net.latches (column - length net.inputs) none).from ≡ gate_sig net n → get_or scope.gates n false ≡ true) it.is loads)
+    known said_here in
+    let of_g : IsWithin g.variables (map (λ r. r.one) (column_rails net rails)) = ones-within net rails g.variables (All-within-more f.variables g.variables rails said.grows.more cone.within) in
+    let care_of_g : IsWithin g.variables (inside ∷ allowed ∷ negation literal ∷ []) =
+    three (λ l. l < 2 * g.variables) inside allowed (negation literal)
+    (let w = cone.inside_within in let m = said.grows.more in omega (arith, w, m))
+    (let w = cone.allowed_within in let m = said.grows.more in omega (arith, w, m))
+    (negation-within literal g.variables said.within) in
+    record {
+      askable = record {
+        columns = subst (λ (h : Formula). IsWithin h.variables q.columns.items) (sym formula_is) (subst (IsWithin g.variables) (sym columns_is) of_g);
+        assumed = subst (λ (h : Formula). IsWithin h.variables q.assumed.items) (sym formula_is) (subst (IsWithin g.variables) (sym assumed_is) care_of_g);
+      };
+      wide = ap length columns_is ∙ length-map (column_rails net rails) (λ (r : Rails). r.one) ∙ column_rails-length net rails cone.size;
+      asks = subst (λ (h : Formula). Asks (problem h) q.columns.items q.assumed.items (is_leaving net care)) (sym formula_is)
+          (subst (λ (cs : List ℕ). Asks (problem g) cs q.assumed.items (is_leaving net care)) (sym columns_is)
+          (subst (λ (ls : List ℕ). Asks (problem g) (map (λ r. r.one) (column_rails net rails)) ls (is_leaving net care)) (sym assumed_is) asked));
+    }

@@ -1,0 +1,80 @@
+-- What signals stand for in a cone, where they are known at the fixpoint.
+use Rattle.std.proofs.Common.{◌≡◌, ◌≢◌, inl, inr, ℕ, zero, suc, ◌==◌, if◌then◌else◌, ◌%◌, ◌<◌, ◌≤◌, ◌+◌, ◌-◌, ◌*◌, Bool, true, List, [], ◌∷◌, ◌++◌, length, map, take, get_or, refl, sym, ap, subst, ◌∙◌, arith}
+use Rattle.std.specs.List.{All}
+use Rattle.std.proofs.lemmas.Bool.{cases_lt}
+use Rattle.std.proofs.lemmas.List.{length-map, length-take-le, get_or-take, get_or_append_left}
+use Rattle.std.proofs.lemmas.List.Elements.{All-map, All-take, All-get_or}
+use Rattle.cyc_base.specs.declared.sig.Sig.{Sig}
+use Rattle.cyc_base.specs.declared.trit.Trit.{Trit}
+use Rattle.cyc_base.specs.declared.trit.Trit.TheVariants.{Zero, One, X}
+use Rattle.cyc_base.specs.Values.{bit, bits, Below}
+use Rattle.cyc_base.proofs.OrderLemmas.{Below-refl}
+use Rattle.netlist.specs.declared.parts.Parts.{Parts}
+use Rattle.netlist.specs.Netlists.{count}
+use Rattle.netlist.specs.Fixpoint.{wire, fix, fix_gates}
+use Rattle.loops.specs.Sweeps.{first_gate, gate_of, value_in}
+use Rattle.loops.proofs.Reading.{wire_of_gate}
+use Rattle.care_sets.specs.Care.{columns}
+use Rattle.ternary_clauses.specs.declared.formula.Rails.{Rails}
+use Rattle.ternary_clauses.specs.Encoding.{IsWanted, ReadsGates, gate_rails}
+use Rattle.ternary_clauses.specs.Formulas.{negation}
+use Rattle.ternary_clauses.specs.Rails.{Reads, ReadsAll, AreWithin, no_rails, rails_at}
+use Rattle.ternary_clauses.proofs.ClauseLemmas.{parity}
+use Rattle.ternary_clauses.proofs.ReadingLemmas.{ReadsAll-at}
+use Rattle.clause_queries.specs.Clauses.{IsWithin}
+use Rattle.clause_decision.specs.Cones.{column_rails, ReadsAbove}
+use Rattle.clause_decision.specs.Scopes.{is_marked}
+
+pub known-below : (x y : Trit) → Below x y → x ≢ X → y ≡ x
+known-below Zero y h e = h
+known-below One y h e = h
+known-below X y h e = absurd (e refl)
+
+pub negation-within : (l k : ℕ) → l < 2 * k → negation l < 2 * k
+negation-within l k less = elim (parity l) [
+  | inl e ↦ (let n : negation l ≡ l + 1 = ap (λ r. if r == 0 then l + 1 else l - 1) e in omega (arith, n, e, less))
+  | inr e ↦ (let n : negation l ≡ l - 1 = ap (λ r. if r == 0 then l + 1 else l - 1) e in omega (arith, n, less))
+]
+
+pub three : (P : ℕ → Type 0) (a b c : ℕ) → P a → P b → P c → All P (a ∷ b ∷ c ∷ [])
+three P a b c x y z zero d less = x
+three P a b c x y z (suc zero) d less = y
+three P a b c x y z (suc (suc zero)) d less = z
+three P a b c x y z (suc (suc (suc k))) d less = absurd (omega (arith, less))
+
+pub column_rails-length : (net : Parts) (rails : List Rails) → length rails ≡ count net → length (column_rails net rails) ≡ columns net
+column_rails-length net rails size = length-take-le (columns net) rails (omega (arith, size))
+
+-- the literals of the columns are of the formula
+pub ones-within : (net : Parts) (rails : List Rails) (k : ℕ) → All (AreWithin k) rails → IsWithin k (map (λ r. r.one) (column_rails net rails))
+ones-within net rails k within =
+    All-map (λ l. l < 2 * k) (λ (r : Rails). r.one) (column_rails net rails)
+    (λ i d less. (All-get_or (AreWithin k) (column_rails net rails) i d less (All-take (AreWithin k) (columns net) rails within)).one)
+
+-- a model that reads the fixpoint reads a state above it
+pub fix-above : (net : Parts) (gates : List Bool) (rails : List Rails) (m v : List Bool) → ReadsGates net gates rails m (fix_gates net (bits v)) → ReadsAbove net gates rails m v
+fix-above net gates rails m v reads = record { state = fix_gates net (bits v); reads = reads; above = λ n is. Below-refl (value_in (fix_gates net (bits v)) n) }
+
+-- a signal that is read and known stands for its value at the fixpoint
+pub signal-read : (net : Parts) (gates : List Bool) (rails : List Rails) (m v : List Bool) → length rails ≡ count net → length v ≡ columns net →
+    ReadsAll m (column_rails net rails) (bits v) → ReadsAbove net gates rails m v →
+    (s : Sig) → s.0 < count net → (first_gate net ≤ s.0 → is_marked gates (gate_of net s) ≡ true) → wire (fix net (bits v)) s ≢ X → Reads m (rails_at rails s.0) (wire (fix net (bits v)) s)
+signal-read net gates rails m v size wide reads above s inside marked known = elim (cases_lt s.0 (first_gate net)) [
+  | inl low ↦
+      let at : Reads m (get_or (column_rails net rails) s.0 no_rails) (get_or (bits v) s.0 X) =
+      ReadsAll-at m (column_rails net rails) (bits v) s.0 no_rails X (let l = column_rails-length net rails size in omega (arith, low, l)) reads in
+      subst (λ (t : Trit). Reads m (rails_at rails s.0) t) (sym (get_or_append_left (bits v) (fix_gates net (bits v)) X s.0 (omega (arith, low, long))))
+      (subst (λ (r : Rails). Reads m r (get_or (bits v) s.0 X)) (get_or-take (columns net) rails s.0 no_rails low) at)
+  | inr high ↦
+      let n : ℕ = gate_of net s in
+      let wanted : IsWanted net gates n = record { within = omega (arith, inside, high); marked = marked high } in
+      let is : wire (fix net (bits v)) s ≡ value_in (fix_gates net (bits v)) n = wire_of_gate (bits v) (fix_gates net (bits v)) (first_gate net) s.0 long high in
+      let same : value_in above.state n ≡ wire (fix net (bits v)) s =
+      known-below (value_in (fix_gates net (bits v)) n) (value_in above.state n) (above.above n wanted) (λ x. known (is ∙ x)) ∙ sym is in
+      let number : first_gate net + n ≡ s.0 = omega (arith, high) in
+      subst (λ (k : ℕ). Reads m (rails_at rails k) (wire (fix net (bits v)) s)) number
+      (subst (λ (t : Trit). Reads m (gate_rails net rails n) t) same (above.reads n wanted))
+]
+  where
+    long : length (bits v) ≡ first_gate net
+    long = length-map v bit ∙ wide
