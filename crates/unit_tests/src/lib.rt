@@ -8,6 +8,8 @@ mod diagrams;
 #[cfg(test)]
 mod fixpoints;
 #[cfg(test)]
+mod graphs;
+#[cfg(test)]
 mod netlists;
 #[cfg(test)]
 mod rails;
