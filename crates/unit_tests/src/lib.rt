@@ -10,6 +10,8 @@ mod fixpoints;
 #[cfg(test)]
 mod formulas;
 #[cfg(test)]
+mod graphs;
+#[cfg(test)]
 mod netlists;
 #[cfg(test)]
 mod rails;
