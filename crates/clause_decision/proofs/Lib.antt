@@ -4,4 +4,5 @@ pub mod LeavingLemmas
 pub mod ModelLemmas
 pub mod SignalLemmas
 pub mod StartLemmas
+pub mod SweepingLemmas
 pub mod UnknownLemmas

@@ -55,26 +55,35 @@ ones-within net rails k within =
 pub fix-above : (net : Parts) (gates : List Bool) (rails : List Rails) (m v : List Bool) → ReadsGates net gates rails m (fix_gates net (bits v)) → ReadsAbove net gates rails m v
 fix-above net gates rails m v reads = record { state = fix_gates net (bits v); reads = reads; above = λ n is. Below-refl (value_in (fix_gates net (bits v)) n) }
 
--- a signal that is read and known stands for its value at the fixpoint
-pub signal-read : (net : Parts) (gates : List Bool) (rails : List Rails) (m v : List Bool) → length rails ≡ count net → length v ≡ columns net →
-    ReadsAll m (column_rails net rails) (bits v) → ReadsAbove net gates rails m v →
-    (s : Sig) → s.0 < count net → (first_gate net ≤ s.0 → is_marked gates (gate_of net s) ≡ true) → wire (fix net (bits v)) s ≢ X → Reads m (rails_at rails s.0) (wire (fix net (bits v)) s)
-signal-read net gates rails m v size wide reads above s inside marked known = elim (cases_lt s.0 (first_gate net)) [
+-- a signal stands for its value at the fixpoint where its gate does
+pub signal-at : (net : Parts) (rails : List Rails) (m v : List Bool) → length rails ≡ count net → length v ≡ columns net → ReadsAll m (column_rails net rails) (bits v) →
+    (s : Sig) → (first_gate net ≤ s.0 → Reads m (gate_rails net rails (gate_of net s)) (value_in (fix_gates net (bits v)) (gate_of net s))) → Reads m (rails_at rails s.0) (wire (fix net (bits v)) s)
+signal-at net rails m v size wide reads s gate = elim (cases_lt s.0 (first_gate net)) [
   | inl low ↦
       let at : Reads m (get_or (column_rails net rails) s.0 no_rails) (get_or (bits v) s.0 X) =
       ReadsAll-at m (column_rails net rails) (bits v) s.0 no_rails X (let l = column_rails-length net rails size in omega (arith, low, l)) reads in
       subst (λ (t : Trit). Reads m (rails_at rails s.0) t) (sym (get_or_append_left (bits v) (fix_gates net (bits v)) X s.0 (omega (arith, low, long))))
       (subst (λ (r : Rails). Reads m r (get_or (bits v) s.0 X)) (get_or-take (columns net) rails s.0 no_rails low) at)
   | inr high ↦
-      let n : ℕ = gate_of net s in
-      let wanted : IsWanted net gates n = record { within = omega (arith, inside, high); marked = marked high } in
-      let is : wire (fix net (bits v)) s ≡ value_in (fix_gates net (bits v)) n = wire_of_gate (bits v) (fix_gates net (bits v)) (first_gate net) s.0 long high in
-      let same : value_in above.state n ≡ wire (fix net (bits v)) s =
-      known-below (value_in (fix_gates net (bits v)) n) (value_in above.state n) (above.above n wanted) (λ x. known (is ∙ x)) ∙ sym is in
-      let number : first_gate net + n ≡ s.0 = omega (arith, high) in
+      let number : first_gate net + gate_of net s ≡ s.0 = omega (arith, high) in
       subst (λ (k : ℕ). Reads m (rails_at rails k) (wire (fix net (bits v)) s)) number
-      (subst (λ (t : Trit). Reads m (gate_rails net rails n) t) same (above.reads n wanted))
+      (subst (λ (t : Trit). Reads m (gate_rails net rails (gate_of net s)) t) (sym (wire_of_gate (bits v) (fix_gates net (bits v)) (first_gate net) s.0 long high)) (gate high))
 ]
   where
     long : length (bits v) ≡ first_gate net
     long = length-map v bit ∙ wide
+
+-- a gate that is known stands for its value at the fixpoint
+pub gate-read : (net : Parts) (gates : List Bool) (rails : List Rails) (m v : List Bool) → ReadsAbove net gates rails m v → (n : ℕ) → IsWanted net gates n → value_in (fix_gates net (bits v)) n ≢ X →
+    Reads m (gate_rails net rails n) (value_in (fix_gates net (bits v)) n)
+gate-read net gates rails m v above n wanted known =
+    subst (λ (t : Trit). Reads m (gate_rails net rails n) t) (known-below (value_in (fix_gates net (bits v)) n) (value_in above.state n) (above.above n wanted) known) (above.reads n wanted)
+
+-- a signal that is known does
+pub signal-read : (net : Parts) (gates : List Bool) (rails : List Rails) (m v : List Bool) → length rails ≡ count net → length v ≡ columns net →
+    ReadsAll m (column_rails net rails) (bits v) → ReadsAbove net gates rails m v →
+    (s : Sig) → s.0 < count net → (first_gate net ≤ s.0 → is_marked gates (gate_of net s) ≡ true) → wire (fix net (bits v)) s ≢ X → Reads m (rails_at rails s.0) (wire (fix net (bits v)) s)
+signal-read net gates rails m v size wide reads above s inside marked known =
+    signal-at net rails m v size wide reads s (λ high.
+    gate-read net gates rails m v above (gate_of net s) (record { within = omega (arith, inside, high); marked = marked high })
+    (λ x. known (wire_of_gate (bits v) (fix_gates net (bits v)) (first_gate net) s.0 (length-map v bit ∙ wide) high ∙ x)))

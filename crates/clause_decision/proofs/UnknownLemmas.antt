@@ -25,7 +25,7 @@ use Rattle.ternary_clauses.specs.Formulas.{says, negation, IsModel}
 use Rattle.ternary_clauses.specs.Rails.{ReadsAll, AreWithin, is_known, is_one, no_rails}
 use Rattle.ternary_clauses.specs.Sums.{SaysAny}
 use Rattle.ternary_clauses.proofs.ClauseLemmas.{says-negation}
-use Rattle.ternary_clauses.proofs.SumLemmas.{negation-within}
+use Rattle.clause_decision.proofs.SignalLemmas.{negation-within}
 use Rattle.clause_queries.specs.Clauses.{IsWithin}
 use Rattle.clause_queries.specs.Queries.{problem, HasModelUnder, HasNoModelUnder, AreRising, IsFirst, IsFirstAt}
 use Rattle.clause_queries.specs.Vectors.{HasVector, Asks}

@@ -6,5 +6,6 @@ pub mod Questions
 pub mod Scopes
 pub mod Starts
 pub mod Sweeping
+pub mod Sweepings
 pub mod Tests
 pub mod Unknowns

@@ -1,0 +1,406 @@
+-- Sweeps of a loop on top of a cone, and how many are needed.
+use Rattle.std.proofs.Common.{◌≡◌, ◌≢◌, ◌⊎◌, inl, inr, ℕ, zero, suc, ◌<◌, ◌≤◌, ◌+◌, ◌-◌, ◌*◌, ◌==◌, Bool, true, false, not, ◌&&◌, ◌||◌, cond, List, [], ◌∷◌, ◌++◌, length, map, filter, take, replicate, get_or, Option, Some, None, Contains, refl, sym, ap, ap₂, subst, ◌∙◌, arith, true≢false, append-nil}
+use Rattle.std.specs.List.{All, list_any, range_with_len}
+use Rattle.std.proofs.lemmas.Bool.{cases_lt, cases_Bool, and_parts, and_from, eq-eqb, eqb-true}
+use Rattle.std.proofs.lemmas.List.{length-map, get_or-map, get_or-replicate, get_or_default, length_push, take_all}
+use Rattle.std.proofs.lemmas.List.FromFn.{length-range_with_len}
+use Rattle.std.proofs.lemmas.List.Elements.{All-push, All-weaker, All-map, All-get_or, All-take, All-contains, Contains-get_or, Contains-append_left, Contains-push, filter_more, filter_passes}
+use Rattle.cyc_base.specs.declared.sig.Sig.{Sig}
+use Rattle.cyc_base.specs.declared.trit.Trit.{Trit}
+use Rattle.cyc_base.specs.declared.trit.Trit.TheVariants.{Zero, One, X}
+use Rattle.cyc_base.specs.Values.{bit, bits, Below}
+use Rattle.cyc_base.proofs.OrderLemmas.{EachBelow-at}
+use Rattle.netlist.specs.declared.parts.Parts.{Parts}
+use Rattle.netlist.specs.Netlists.{IsNetlist, IsSignal, count, gate_at, gate_sig, no_gate, signal}
+use Rattle.netlist.specs.Fixpoint.{wire, fix, fix_gates}
+use Rattle.netlist.specs.Walks.{Feeds}
+use Rattle.loops.specs.declared.structure.Blocks.{Blocks}
+use Rattle.loops.specs.declared.structure.Cut.{Cut}
+use Rattle.loops.specs.Blocks.{AreBlocksOf, block_at, home_of, gates_at}
+use Rattle.loops.specs.Cuts.{AreLoopsOf, IsCutOf, Loops, loops_by, is_cut}
+use Rattle.loops.specs.Orders.{AreGatesOfLoop}
+use Rattle.loops.specs.Sweeps.{CutsAreFixed, cuts_of, cut_values, first_gate, gate_of, in_loop_of, sweeps, value_in}
+use Rattle.loops.proofs.LoopCuts.{has-cut}
+use Rattle.loops.proofs.Reading.{Contains-filter, Contains-filter_from, Contains-range, Contains-range_from, map_agree}
+use Rattle.loops.proofs.Sweeps.{cut_values_agree, few_sweeps_are_enough, sweeps_stay_below_fix}
+use Rattle.loops.proofs.Told.{blocks_have_loops, blocks_tell_loops, gate_home}
+use Rattle.loops.proofs.Walks.{same_truth}
+use Rattle.care_sets.specs.Care.{CareSet, columns, state_of, is_allowed, is_in_invariant, IsCareVector}
+use Rattle.refusals.specs.Acceptance.{SomeCareVector}
+use Rattle.ternary_clauses.specs.declared.formula.Formula.{Formula}
+use Rattle.ternary_clauses.specs.declared.formula.Rails.{Rails}
+use Rattle.ternary_clauses.specs.Encoding.{IsWanted, gate_rails}
+use Rattle.ternary_clauses.specs.Formulas.{says, negation, IsModel, HasModelFrom, Grows}
+use Rattle.ternary_clauses.specs.Rails.{Reads, ReadsAll, AreWithin, no_rails, rails_at, is_known}
+use Rattle.ternary_clauses.specs.Sums.{SaysAny}
+use Rattle.ternary_clauses.specs.Sweeps.{ReadsOutside, ReadsPlaces, SaysSweep}
+use Rattle.ternary_clauses.proofs.ClauseLemmas.{says-negation}
+use Rattle.ternary_clauses.proofs.ReadingLemmas.{Reads-more, ReadsAll-more, All-within-more}
+use Rattle.clause_queries.specs.Queries.{problem, is_model, IsModelUnder, HasModelUnder, HasNoModelUnder, IsPossible}
+use Rattle.clause_queries.proofs.ClauseLemmas.{models-same}
+use Rattle.clause_decision.specs.Cones.{column_rails, vector_in, ReadsAbove, ReadsFix, IsCone}
+use Rattle.clause_decision.specs.Scopes.{is_marked, AreClosed, AreKnownOnCare}
+use Rattle.clause_decision.specs.Sweeping.{IsLeastCount, NeedsMore}
+use Rattle.clause_decision.specs.Sweepings.{open_literals, AreCutPlacesBelow, AreCutPlaces, IsOpenAfter, AreKnownAfter, SaysOpen, TellsAfter}
+use Rattle.clause_decision.proofs.FormulaLemmas.{ones-read}
+use Rattle.clause_decision.proofs.SignalLemmas.{known-below, negation-within, column_rails-length, fix-above, signal-at, gate-read, three}
+
+-- ---- the places of cut wires
+
+pub places-cut : (cut : ℕ → Bool) (gates : List ℕ) (k : ℕ) (places : List ℕ) → k < length gates → cut (get_or gates k 0) ≡ true → AreCutPlacesBelow cut gates k places → AreCutPlacesBelow cut gates (k + 1) (places ++ k ∷ [])
+places-cut cut gates k places less is h = record {
+  within = All-push (λ i. i < k + 1) places k (All-weaker (λ i. i < k) (λ i. i < k + 1) (λ i l. omega (arith, l)) places h.within) (omega arith);
+  are = All-push (λ i. cut (get_or gates i 0) ≡ true) places k h.are is;
+  each = λ i low cut_i. elim (cases_lt i k) [
+    | inl l ↦ Contains-append_left places (k ∷ []) i (h.each i l cut_i)
+    | inr high ↦ (let e : k ≡ i = omega (arith, low, high) in subst (Contains (places ++ k ∷ [])) e (Contains-push places k))
+  ];
+  number = length_push places k ∙ ap (λ n. n + 1) h.number
+      ∙ sym (ap length (filter_more cut gates k 0 less ∙ ap (λ b. filter cut (take k gates) ++ cond b (get_or gates k 0 ∷ []) []) is) ∙ length_push (filter cut (take k gates)) (get_or gates k 0));
+}
+
+pub places-uncut : (cut : ℕ → Bool) (gates : List ℕ) (k : ℕ) (places : List ℕ) → k < length gates → cut (get_or gates k 0) ≡ false → AreCutPlacesBelow cut gates k places → AreCutPlacesBelow cut gates (k + 1) places
+places-uncut cut gates k places less isnt h = record {
+  within = All-weaker (λ i. i < k) (λ i. i < k + 1) (λ i l. omega (arith, l)) places h.within;
+  are = h.are;
+  each = λ i low cut_i. elim (cases_lt i k) [
+    | inl l ↦ h.each i l cut_i
+    | inr high ↦ (let e : k ≡ i = omega (arith, low, high) in absurd (true≢false (sym cut_i ∙ ap (λ j. cut (get_or gates j 0)) (sym e) ∙ isnt)))
+  ];
+  number = h.number
+      ∙ sym (ap length (filter_more cut gates k 0 less ∙ ap (λ b. filter cut (take k gates) ++ cond b (get_or gates k 0 ∷ []) []) isnt ∙ append-nil (filter cut (take k gates))));
+}
+
+-- ---- a literal for the cut wires that are unknown
+
+pub open-within : (k : ℕ) (copies : List Rails) (places : List ℕ) → All (AreWithin k) copies → All (λ i. i < length copies) places → All (λ l. l < 2 * k) (open_literals copies places)
+open-within k copies places within low =
+    All-map (λ l. l < 2 * k) (λ i. negation (rails_at copies i).known) places
+    (λ j d less. negation-within (rails_at copies (get_or places j d)).known k (All-get_or (AreWithin k) copies (get_or places j d) no_rails (low j d less) within).known)
+
+pub says-open : (old new : Formula) (copies : List Rails) (places literals sums : List ℕ) (literal d : ℕ) → SaysAny old new literals sums → literals ≡ open_literals copies places → 0 < length places →
+    literal ≡ get_or sums (length places - 1) d → SaysOpen old new copies places literal
+says-open old new copies places literals sums literal d said are some there = record {
+  grows = said.grows;
+  within = subst (λ l. l < 2 * new.variables) (sym is) (All-get_or (λ l. l < 2 * new.variables) sums (length places - 1) 0 (let s = said.size in omega (arith, s, long, some)) said.within);
+  says_it = λ m model.
+      ap (says m) is
+      ∙ said.says_each m model (length places - 1) (omega (arith, long, some))
+      ∙ ap (list_any (says m)) (take_all (length places - 1 + 1) literals (omega (arith, long, some)) ∙ are);
+  complete = said.complete;
+}
+  where
+    long : length literals ≡ length places
+    long = ap length are ∙ length-map places (λ i. negation (rails_at copies i).known)
+
+    is : literal ≡ get_or sums (length places - 1) 0
+    is = there ∙ get_or_default sums (length places - 1) d 0 (let s = said.size in omega (arith, s, long, some))
+
+-- one of these passes where one is found to
+pub record AnyAt (p : ℕ → Bool) (xs : List ℕ) : Type 0 where
+  pub place : ℕ
+  pub less : place < length xs
+  pub passes : p (get_or xs place 0) ≡ true
+
+pub any-at : (f : ℕ → ℕ) (p : ℕ → Bool) (xs : List ℕ) → list_any p (map f xs) ≡ true → AnyAt (λ x. p (f x)) xs
+any-at f p [] e = absurd (true≢false (sym e))
+any-at f p (x ∷ xs) e = by (p (f x)) refl e (any-at f p xs)
+  where
+    by : (b : Bool) → p (f x) ≡ b → (b || list_any p (map f xs)) ≡ true → (list_any p (map f xs) ≡ true → AnyAt (λ y. p (f y)) xs) → AnyAt (λ y. p (f y)) (x ∷ xs)
+    by true is h after = record { place = 0; less = omega arith; passes = is }
+    by false is h after = let rest = after h in record { place = suc rest.place; less = (let l = rest.less in omega (arith, l)); passes = rest.passes }
+
+pub any-from : (f : ℕ → ℕ) (p : ℕ → Bool) (xs : List ℕ) (k : ℕ) → k < length xs → p (f (get_or xs k 0)) ≡ true → list_any p (map f xs) ≡ true
+any-from f p [] k less e = absurd (omega (arith, less))
+any-from f p (x ∷ xs) zero less e = ap (λ b. b || list_any p (map f xs)) e
+any-from f p (x ∷ xs) (suc k) less e = ap (λ b. p (f x) || b) (any-from f p xs k (omega (arith, less)) e) ∙ or-true (p (f x))
+  where
+    or-true : (b : Bool) → (b || true) ≡ true
+    or-true true = refl
+    or-true false = refl
+
+-- ---- a cone that grows
+
+pub cone-grows : (net : Parts) (care : CareSet) (marks : List Bool) (f g : Formula) (rails : List Rails) (inside allowed : ℕ) → IsCone net care marks f rails inside allowed → Grows f g →
+    ((v : List Bool) → length v ≡ columns net → (has : ReadsFix net marks f rails v) → HasModelFrom g has.model) → IsCone net care marks g rails inside allowed
+cone-grows net care marks f g rails inside allowed cone grows extends = record {
+  formula = grows.formula;
+  within = All-within-more f.variables g.variables rails grows.more cone.within;
+  size = cone.size;
+  inside_within = (let x = grows.more in let y = cone.inside_within in omega (arith, x, y));
+  allowed_within = (let x = grows.more in let y = cone.allowed_within in omega (arith, x, y));
+  sound = λ m h. cone.sound m (grows.sound m h);
+  inside_tells = λ m h. cone.inside_tells m (grows.sound m h);
+  allowed_tells = λ m h. cone.allowed_tells m (grows.sound m h);
+  above = λ m h. cone.above m (grows.sound m h);
+  complete = λ v wide. kept v wide (cone.complete v wide);
+}
+  where
+    kept : (v : List Bool) → length v ≡ columns net → ReadsFix net marks f rails v → ReadsFix net marks g rails v
+    kept v wide has =
+        let more : HasModelFrom g has.model = extends v wide has in
+        let within : All (AreWithin (length has.model)) rails = subst (λ k. All (AreWithin k) rails) (sym has.long) cone.within in
+        record {
+          model = has.model ++ more.more;
+          long = more.width;
+          holds = more.model;
+          columns = ReadsAll-more has.model more.more (column_rails net rails) (bits v) (All-take (AreWithin (length has.model)) (columns net) rails within) has.columns;
+          fixpoint = λ n is.
+              Reads-more has.model more.more (gate_rails net rails n) (value_in (fix_gates net (bits v)) n)
+              (All-get_or (AreWithin (length has.model)) rails (first_gate net + n) no_rails (let x = is.within in let y = cone.size in omega (arith, x, y)) within)
+              (has.fixpoint n is);
+        }
+
+-- ---- what is outside of a loop
+
+module _ (net : Parts) (marks : List Bool) (loops : Loops) (gates : List ℕ) (proper : IsNetlist net) (closed : AreClosed net marks) (width : length marks ≡ length net.gates) (marked : All (λ n. is_marked marks n ≡ true) gates) where
+  gate-within : (n : ℕ) → is_marked marks n ≡ true → n < length net.gates
+  gate-within n is = elim (cases_lt n (length net.gates)) [
+    | inl less ↦ less
+    | inr high ↦ absurd (true≢false (sym is ∙ past marks n (omega (arith, high, width))))
+  ]
+    where
+      past : (bs : List Bool) (k : ℕ) → length bs ≤ k → get_or bs k false ≡ false
+      past [] k l = refl
+      past (b ∷ bs) zero l = absurd (omega (arith, l))
+      past (b ∷ bs) (suc k) l = past bs k (omega (arith, l))
+
+  -- it stands for the fixpoint where the gates of the scope do
+  pub outside-read : (rails : List Rails) (m v : List Bool) → length rails ≡ count net → length v ≡ columns net → ReadsAll m (column_rails net rails) (bits v) →
+      ((n : ℕ) → IsWanted net marks n → Reads m (gate_rails net rails n) (value_in (fix_gates net (bits v)) n)) → ReadsOutside net loops gates rails m (bits v)
+  outside-read rails m v size wide columns_read gates_read n inside k d less out =
+      let is_in : is_marked marks n ≡ true = All-contains (λ g. is_marked marks g ≡ true) gates n marked inside in
+      let reader : n < length net.gates = gate-within n is_in in
+      let pin : Sig = get_or (gate_at net n).pins k d in
+      let low : pin.0 < count net = proper.pins n no_gate reader k d less in
+      signal-at net rails m v size wide columns_read pin (λ high.
+      gates_read (gate_of net pin) (record {
+        within = omega (arith, low, high);
+        marked = closed (gate_of net pin) n
+            (record {
+              source = omega (arith, low, high);
+              reader = reader;
+              pin = subst (Contains (gate_at net n).pins) (let e : pin.0 ≡ first_gate net + gate_of net pin = omega (arith, high) in ap signal e) (Contains-get_or (gate_at net n).pins k d less);
+            })
+            is_in;
+      }))
+
+  -- at care vectors, where no gate is unknown, it does in each model
+  pub outside-on-care : (care : CareSet) (f : Formula) (rails : List Rails) (inside allowed : ℕ) → IsCone net care marks f rails inside allowed → AreKnownOnCare net care →
+      (m : List Bool) → IsModel m f → IsCareVector net care (vector_in net rails m) → ReadsOutside net loops gates rails m (bits (vector_in net rails m))
+  outside-on-care care f rails inside allowed cone known m is counts =
+      outside-read rails m (vector_in net rails m) cone.size counts.width (cone.sound m is)
+      (λ n wanted. gate-read net marks rails m (vector_in net rails m) (cone.above m is) n wanted (known (vector_in net rails m) counts n wanted.within))
+
+  pub outside-of-fix : (f : Formula) (rails : List Rails) (v : List Bool) → length rails ≡ count net → length v ≡ columns net → (has : ReadsFix net marks f rails v) → ReadsOutside net loops gates rails has.model (bits v)
+  outside-of-fix f rails v size wide has = outside-read rails has.model v size wide has.columns has.fixpoint
+
+  -- ---- one sweep more
+
+  pub sweep-cone : (care : CareSet) (f g : Formula) (rails before after : List Rails) (inside allowed k : ℕ) → IsCone net care marks f rails inside allowed →
+      ((m : List Bool) (v : List Trit) → IsModel m f → ReadsOutside net loops gates rails m v → ReadsPlaces gates before m (sweeps net loops v k)) → SaysSweep net loops gates rails before f g after →
+      IsCone net care marks g rails inside allowed
+  sweep-cone care f g rails before after inside allowed k cone reads said =
+      cone-grows net care marks f g rails inside allowed cone said.grows
+      (λ v wide has.
+      let out : ReadsOutside net loops gates rails has.model (bits v) = outside-of-fix f rails v cone.size wide has in
+      said.complete has.model (bits v) (sweeps net loops (bits v) k) has.long has.holds out (reads has.model (bits v) has.holds out))
+
+pub sweep-reads : (net : Parts) (loops : Loops) (gates : List ℕ) (f g : Formula) (rails before after : List Rails) (k : ℕ) →
+    ((m : List Bool) (v : List Trit) → IsModel m f → ReadsOutside net loops gates rails m v → ReadsPlaces gates before m (sweeps net loops v k)) → SaysSweep net loops gates rails before f g after →
+    (m : List Bool) (v : List Trit) → IsModel m g → ReadsOutside net loops gates rails m v → ReadsPlaces gates after m (sweeps net loops v (k + 1))
+sweep-reads net loops gates f g rails before after k reads said m v is out =
+    let next : suc k ≡ k + 1 = omega arith in
+    subst (λ (j : ℕ). ReadsPlaces gates after m (sweeps net loops v j)) next (said.sound m v (sweeps net loops v k) is out (reads m v (said.grows.sound m is) out))
+
+-- ---- what a question about cut wires tells
+
+module _ (net : Parts) (care : CareSet) (marks : List Bool) (loops : Loops) (gates places : List ℕ) (f : Formula) (rails copies : List Rails) (inside allowed literal k : ℕ)
+    (proper : IsNetlist net) (closed : AreClosed net marks) (width : length marks ≡ length net.gates) (marked : All (λ n. is_marked marks n ≡ true) gates) (known : AreKnownOnCare net care)
+    (cone : IsCone net care marks f rails inside allowed) (wires : AreCutPlaces loops.cut gates places)
+    (reads : (m : List Bool) (v : List Trit) → IsModel m f → ReadsOutside net loops gates rails m v → ReadsPlaces gates copies m (sweeps net loops v k))
+    (tells : (m : List Bool) → IsModel m f → says m literal ≡ list_any (says m) (open_literals copies places)) where
+  unknown-said : (t : Trit) → not (is_known t) ≡ true → t ≡ X
+  unknown-said X e = refl
+  unknown-said Zero e = absurd (true≢false (sym e))
+  unknown-said One e = absurd (true≢false (sym e))
+
+  open-after : HasModelUnder (problem f) (inside ∷ allowed ∷ literal ∷ []) → IsOpenAfter net loops care gates k
+  open-after has =
+      let m : List Bool = has.model in
+      let is : IsModel m f = sym (models-same f m) ∙ has.is.model in
+      let v : List Bool = vector_in net rails m in
+      let counts : IsCareVector net care v = record {
+        width = length-map (column_rails net rails) (λ (r : Rails). says m r.one) ∙ column_rails-length net rails cone.size;
+        state = sym (cone.inside_tells m is) ∙ has.is.assumed 0 0 (omega arith);
+        allowed = sym (cone.allowed_tells m is) ∙ has.is.assumed 1 0 (omega arith);
+      } in
+      let any : AnyAt (λ i. says m (negation (rails_at copies i).known)) places =
+      any-at (λ i. negation (rails_at copies i).known) (says m) places (sym (tells m is) ∙ has.is.assumed 2 0 (omega arith)) in
+      let i : ℕ = get_or places any.place 0 in
+      let low : i < length gates = wires.within any.place 0 any.less in
+      let read : Reads m (rails_at copies i) (value_in (sweeps net loops (bits v) k) (get_or gates i 0)) =
+      reads m (bits v) is (outside-on-care net marks loops gates proper closed width marked care f rails inside allowed cone known m is counts) i low in
+      record {
+        vector = v;
+        counts = counts;
+        wire = get_or gates i 0;
+        inside = Contains-get_or gates i 0 low;
+        is_cut = wires.are any.place 0 any.less;
+        unknown = unknown-said (value_in (sweeps net loops (bits v) k) (get_or gates i 0)) (ap not (sym read.known) ∙ sym (says-negation m (rails_at copies i).known) ∙ any.passes);
+      }
+
+  known-after : HasNoModelUnder (problem f) (inside ∷ allowed ∷ literal ∷ []) → AreKnownAfter net loops care gates k
+  known-after none v counts n in_gates cut unknown =
+      let has : ReadsFix net marks f rails v = cone.complete v counts.width in
+      let m : List Bool = has.model in
+      let vector : vector_in net rails m ≡ v = sym (ones-read m (column_rails net rails) (vector_in net rails m) (cone.sound m has.holds)) ∙ ones-read m (column_rails net rails) v has.columns in
+      let i : ℕ = in_gates.0 in
+      let at : get_or gates i 0 ≡ n = get_or_default gates i 0 n in_gates.1 ∙ in_gates.2 in
+      let placed : Contains places i = wires.each i in_gates.1 (ap loops.cut at ∙ cut) in
+      let at_place : get_or places placed.0 0 ≡ i = get_or_default places placed.0 0 i placed.1 ∙ placed.2 in
+      let read : Reads m (rails_at copies i) (value_in (sweeps net loops (bits v) k) (get_or gates i 0)) =
+      reads m (bits v) has.holds (outside-of-fix net marks loops gates proper closed width marked f rails v cone.size counts.width has) i in_gates.1 in
+      let open_here : says m (negation (rails_at copies i).known) ≡ true =
+      says-negation m (rails_at copies i).known ∙ ap not (read.known ∙ ap (λ (j : ℕ). is_known (value_in (sweeps net loops (bits v) k) j)) at ∙ ap is_known unknown) in
+      let literal_holds : says m literal ≡ true =
+      tells m has.holds
+      ∙ any-from (λ j. negation (rails_at copies j).known) (says m) places placed.0 placed.1 (ap (λ j. says m (negation (rails_at copies j).known)) at_place ∙ open_here) in
+      none m (record {
+        model = models-same f m ∙ has.holds;
+        assumed = three (λ l. says m l ≡ true) inside allowed literal
+            (cone.inside_tells m has.holds ∙ ap (λ u. is_in_invariant care (state_of net u)) vector ∙ counts.state)
+            (cone.allowed_tells m has.holds ∙ ap (is_allowed care) vector ∙ counts.allowed)
+            literal_holds;
+      })
+
+  pub tells-after : (found : Option Bool) → IsPossible (problem f) (inside ∷ allowed ∷ literal ∷ []) found → TellsAfter net loops care gates k found
+  tells-after (Some true) h = open-after h
+  tells-after (Some false) h = known-after h
+  tells-after None h = tt
+
+-- ---- how many sweeps are needed
+
+-- tests that agree on a list keep the same of it
+kept-agree : (p q : ℕ → Bool) (xs : List ℕ) → All (λ n. p n ≡ q n) xs → filter p xs ≡ filter q xs
+kept-agree p q [] h = refl
+kept-agree p q (x ∷ xs) h = ap₂ (λ (b : Bool) (ys : List ℕ). cond b (x ∷ ys) ys) (h 0 x (omega arith)) (kept-agree p q xs (λ k d less. h (suc k) d (omega (arith, less))))
+
+kept-both : (p q : ℕ → Bool) (xs : List ℕ) → filter (λ n. p n && q n) xs ≡ filter q (filter p xs)
+kept-both p q [] = refl
+kept-both p q (x ∷ xs) = ap (λ (ys : List ℕ). cond (p x && q x) (x ∷ ys) ys) (kept-both p q xs) ∙ by (p x)
+  where
+    by : (b : Bool) → cond (b && q x) (x ∷ filter q (filter p xs)) (filter q (filter p xs)) ≡ filter q (cond b (x ∷ filter p xs) (filter p xs))
+    by true = refl
+    by false = refl
+
+kept-fewer : (p : ℕ → Bool) (xs : List ℕ) → length (filter p xs) ≤ length xs
+kept-fewer p [] = omega arith
+kept-fewer p (x ∷ xs) = by (p x) (kept-fewer p xs)
+  where
+    by : (b : Bool) → length (filter p xs) ≤ length xs → length (cond b (x ∷ filter p xs) (filter p xs)) ≤ suc (length xs)
+    by true h = omega (arith, h)
+    by false h = omega (arith, h)
+
+module _ (net : Parts) (blocks : Blocks) (cut : Cut) (are : AreBlocksOf net blocks) (cut_is : IsCutOf net cut) (b : ℕ) (less : b < length blocks.list) (looped : (block_at blocks b).looped ≡ true) where
+  are-loops : AreLoopsOf net (loops_by blocks cut)
+  are-loops = blocks_tell_loops net blocks cut are cut_is
+
+  -- the gates of the block are those of the loop of each of them
+  of-loop : (a : ℕ) → Contains (block_at blocks b).gates a → AreGatesOfLoop (loops_by blocks cut) a (block_at blocks b).gates
+  of-loop a inside =
+      let at = gate_home net blocks are b a less inside in
+      subst (λ (h : ℕ). AreGatesOfLoop (loops_by blocks cut) a (block_at blocks h).gates) at.1
+      (blocks_have_loops net blocks cut are a at.0 (subst (λ (h : ℕ). (block_at blocks h).looped ≡ true) (sym at.1) looped))
+
+  -- cut wires that are known stand at the fixpoint
+  fixed-where-known : (care : CareSet) (k : ℕ) → AreKnownAfter net (loops_by blocks cut) care (block_at blocks b).gates k → (a : ℕ) → Contains (block_at blocks b).gates a →
+      (v : List Bool) → IsCareVector net care v → CutsAreFixed net (loops_by blocks cut) (bits v) a k
+  fixed-where-known care k known a inside v counts =
+      map_agree (value_in (sweeps net (loops_by blocks cut) (bits v) k)) (value_in (fix_gates net (bits v))) (cuts_of net (loops_by blocks cut) a)
+      (λ j d low.
+      let n : ℕ = get_or (cuts_of net (loops_by blocks cut) a) j d in
+      let kept = Contains-filter_from (λ g. (loops_by blocks cut).same a g && (loops_by blocks cut).cut g) (range_with_len 0 (length net.gates)) n (Contains-get_or (cuts_of net (loops_by blocks cut) a) j d low) in
+      let both = and_parts ((loops_by blocks cut).same a n) ((loops_by blocks cut).cut n) kept.0 in
+      sym (known-below (value_in (sweeps net (loops_by blocks cut) (bits v) k) n) (value_in (fix_gates net (bits v)) n)
+      (EachBelow-at (sweeps net (loops_by blocks cut) (bits v) k) (fix_gates net (bits v)) n (sweeps_stay_below_fix net (loops_by blocks cut) (bits v) (length-map v bit ∙ counts.width) k))
+      (known v counts n ((of-loop a inside).0 n both.0) both.1)))
+
+  -- where one is unknown, more sweeps are needed
+  needs-more : (care : CareSet) → AreKnownOnCare net care → (k : ℕ) → IsOpenAfter net (loops_by blocks cut) care (block_at blocks b).gates k → (a : ℕ) → Contains (block_at blocks b).gates a →
+      NeedsMore net (loops_by blocks cut) care a k
+  needs-more care known k found a inside = record {
+    vector = found.vector;
+    counts = found.counts;
+    open_cuts = λ fixed.
+        known found.vector found.counts found.wire (gate_home net blocks are b found.wire less found.inside).0
+        (sym (cut_values_agree net (loops_by blocks cut) are-loops a (sweeps net (loops_by blocks cut) (bits found.vector) k) (fix_gates net (bits found.vector)) fixed found.wire ((of-loop a inside).1 found.wire found.inside) found.is_cut)
+        ∙ found.unknown);
+  }
+
+  -- before the first sweep each cut wire is unknown
+  pub open-first : (care : CareSet) → SomeCareVector net care → IsOpenAfter net (loops_by blocks cut) care (block_at blocks b).gates 0
+  open-first care some =
+      let a : ℕ = get_or (block_at blocks b).gates 0 0 in
+      let inside : Contains (block_at blocks b).gates a = Contains-get_or (block_at blocks b).gates 0 0 (are.filled b less) in
+      let at = gate_home net blocks are b a less inside in
+      let has = has-cut net (loops_by blocks cut) are-loops a ((are.looped a at.0).0 (subst (λ (h : ℕ). (block_at blocks h).looped ≡ true) (sym at.1) looped)) in
+      let wire_inside : Contains (block_at blocks b).gates has.wire = (of-loop a inside).0 has.wire has.same in
+      record {
+        vector = some.vector;
+        counts = some.counts;
+        wire = has.wire;
+        inside = wire_inside;
+        is_cut = has.cut;
+        unknown = get_or-replicate (length net.gates) has.wire X X (gate_home net blocks are b has.wire less wire_inside).0;
+      }
+
+  pub known-count : (care : CareSet) → AreKnownOnCare net care → (k : ℕ) → AreKnownAfter net (loops_by blocks cut) care (block_at blocks b).gates k →
+      ((j : ℕ) → j < k → IsOpenAfter net (loops_by blocks cut) care (block_at blocks b).gates j) → (a : ℕ) → Contains (block_at blocks b).gates a → IsLeastCount net (loops_by blocks cut) care a k
+  known-count care known k closed_ more a inside = record {
+    enough = fixed-where-known care k closed_ a inside;
+    least = λ j low. needs-more care known j (more j low) a inside;
+  }
+
+  -- the cut wires of the loop
+  cuts-number : (a : ℕ) → Contains (block_at blocks b).gates a → length (cuts_of net (loops_by blocks cut) a) ≡ length (filter (is_cut cut.wires) (block_at blocks b).gates)
+  cuts-number a inside =
+      ap length
+      (kept-both ((loops_by blocks cut).same a) (is_cut cut.wires) (range_with_len 0 (length net.gates))
+      ∙ ap (filter (is_cut cut.wires))
+      (kept-agree ((loops_by blocks cut).same a) (λ n. home_of blocks n == b) (range_with_len 0 (length net.gates))
+      (λ j d low. agree (get_or (range_with_len 0 (length net.gates)) j d) (Contains-range_from (length net.gates) (get_or (range_with_len 0 (length net.gates)) j d) (Contains-get_or (range_with_len 0 (length net.gates)) j d low)))
+      ∙ ap (λ (n : ℕ). filter (λ g. home_of blocks g == b) (range_with_len 0 n)) (sym are.homes)
+      ∙ sym (are.gates b less)))
+    where
+      agree : (n : ℕ) → n < length net.gates → (loops_by blocks cut).same a n ≡ (home_of blocks n == b)
+      agree n low =
+          same_truth ((loops_by blocks cut).same a n) (home_of blocks n == b)
+          (λ s. eq-eqb (home_of blocks n) b (gate_home net blocks are b n less ((of-loop a inside).0 n s)).1)
+          (λ e. (of-loop a inside).1 n
+          (subst (λ (ns : List ℕ). Contains ns n) (sym (are.gates b less))
+          (Contains-filter (λ g. home_of blocks g == b) (range_with_len 0 (length blocks.home)) n e (Contains-range (length blocks.home) n (let h = are.homes in omega (arith, low, h))))))
+
+  places-number : (places : List ℕ) → AreCutPlaces (is_cut cut.wires) (block_at blocks b).gates places → length places ≡ length (filter (is_cut cut.wires) (block_at blocks b).gates)
+  places-number places wires = wires.number ∙ ap (λ (gs : List ℕ). length (filter (is_cut cut.wires) gs)) (take_all (length (block_at blocks b).gates) (block_at blocks b).gates (omega arith))
+
+  -- as many sweeps as cut wires are enough
+  pub few-count : (care : CareSet) → AreKnownOnCare net care → (places : List ℕ) → AreCutPlaces (is_cut cut.wires) (block_at blocks b).gates places → (k : ℕ) → k ≡ length places →
+      ((j : ℕ) → j < k → IsOpenAfter net (loops_by blocks cut) care (block_at blocks b).gates j) → (a : ℕ) → Contains (block_at blocks b).gates a → IsLeastCount net (loops_by blocks cut) care a k
+  few-count care known places wires k is more a inside = record {
+    enough = λ v counts.
+        subst (λ (n : ℕ). CutsAreFixed net (loops_by blocks cut) (bits v) a n) (cuts-number a inside ∙ sym (places-number places wires) ∙ sym is)
+        (few_sweeps_are_enough net (loops_by blocks cut) are-loops a (bits v) (length-map v bit ∙ counts.width));
+    least = λ j low. needs-more care known j (more j low) a inside;
+  }
+
+  pub places-fit : (places : List ℕ) → IsNetlist net → AreCutPlaces (is_cut cut.wires) (block_at blocks b).gates places → length places ≤ 4294967295
+  places-fit places proper wires =
+      let first = places-number places wires in
+      let second = kept-fewer (is_cut cut.wires) (block_at blocks b).gates in
+      let third = ap length (are.gates b less) in
+      let fourth = kept-fewer (λ n. home_of blocks n == b) (range_with_len 0 (length blocks.home)) in
+      let fifth = length-range_with_len 0 (length blocks.home) in
+      let sixth = are.homes in
+      let seventh = proper.fits in
+      omega (arith, first, second, third, fourth, fifth, sixth, seventh)

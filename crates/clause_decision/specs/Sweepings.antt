@@ -1,0 +1,98 @@
+-- A loop after some sweeps, as clauses on top of a cone.
+use Rattle.std.specs.Prelude.{◌≡◌, ◌≢◌, ◌<◌, ◌*◌, ℕ, Bool, true, false, List, length, map, filter, take, All, Contains, slice_index, Some, None}
+use Rattle.std.specs.declared.option.Option.{Option}
+use Rattle.std.specs.List.{list_any}
+use Rattle.cyc_base.specs.declared.trit.Trit.{Trit}
+use Rattle.cyc_base.specs.declared.trit.Trit.TheVariants.{X}
+use Rattle.cyc_base.specs.Values.{bits}
+use Rattle.netlist.specs.declared.parts.Parts.{Parts}
+use Rattle.loops.specs.Cuts.{Loops}
+use Rattle.loops.specs.Sweeps.{sweeps, value_in}
+use Rattle.care_sets.specs.Care.{CareSet, IsCareVector}
+use Rattle.ternary_clauses.specs.declared.formula.Formula.{Formula}
+use Rattle.ternary_clauses.specs.declared.formula.Rails.{Rails}
+use Rattle.netlist.specs.Netlists.{count}
+use Rattle.ternary_clauses.specs.Formulas.{says, negation, IsFormula, IsModel, HasModelFrom, Grows}
+use Rattle.ternary_clauses.specs.Rails.{AreWithin, rails_at}
+use Rattle.ternary_clauses.specs.Sweeps.{ReadsOutside, ReadsPlaces}
+use Rattle.clause_decision.specs.declared.sweeping.Swept.{Swept}
+use Rattle.clause_decision.specs.Cones.{IsCone}
+
+-- The copies of a loop's gates stand for their values after so many sweeps, where what is outside of the loop stands for
+-- its value at the fixpoint.
+pub record IsSwept (net : Parts) (care : CareSet) (marks : List Bool) (loops : Loops) (gates : List ℕ) (s : Swept) (k : ℕ) : Type 0 where
+  pub cone : IsCone net care marks s.cone.formula s.cone.rails.items s.cone.inside s.cone.allowed
+  pub size : length s.copies.items ≡ length gates
+  pub within : All (AreWithin s.cone.formula.variables) s.copies.items
+  pub reads : (m : List Bool) (v : List Trit) → IsModel m s.cone.formula → ReadsOutside net loops gates s.cone.rails.items m v →
+      ReadsPlaces gates s.copies.items m (sweeps net loops v k)
+
+-- the literals of care are of its variables
+pub record IsOnCare (s : Swept) : Type 0 where
+  pub inside : s.cone.inside < 2 * s.cone.formula.variables
+  pub allowed : s.cone.allowed < 2 * s.cone.formula.variables
+
+-- what one sweep more is said of
+pub record IsSweepable (net : Parts) (gates : List ℕ) (s : Swept) : Type 0 where
+  pub formula : IsFormula s.cone.formula
+  pub rails : length s.cone.rails.items ≡ count net
+  pub rails_within : All (AreWithin s.cone.formula.variables) s.cone.rails.items
+  pub size : length s.copies.items ≡ length gates
+  pub within : All (AreWithin s.cone.formula.variables) s.copies.items
+  pub on_care : IsOnCare s
+
+-- the places of the cut wires among the first k of these gates
+pub record AreCutPlacesBelow (cut : ℕ → Bool) (gates : List ℕ) (k : ℕ) (places : List ℕ) : Type 0 where
+  pub within : All (λ i. i < k) places
+  pub are : All (λ i. cut (slice_index gates i) ≡ true) places
+  pub each : (i : ℕ) → i < k → cut (slice_index gates i) ≡ true → Contains places i
+  pub number : length places ≡ length (filter cut (take k gates))
+
+-- and among all of them
+abbrev pub AreCutPlaces : (ℕ → Bool) → List ℕ → List ℕ → Type 0
+AreCutPlaces cut gates places = AreCutPlacesBelow cut gates (length gates) places
+
+-- the literals that say that the copies at these places are unknown
+abbrev pub open_literals : List Rails → List ℕ → List ℕ
+open_literals copies places = map (λ i. negation (rails_at copies i).known) places
+
+-- the new formula says in addition what a literal says: whether one of these copies is unknown
+pub record SaysOpen (old new : Formula) (copies : List Rails) (places : List ℕ) (literal : ℕ) : Type 0 where
+  pub grows : Grows old new
+  pub within : literal < 2 * new.variables
+  pub says_it : (m : List Bool) → IsModel m new → says m literal ≡ list_any (says m) (open_literals copies places)
+  pub complete : (m : List Bool) → length m ≡ old.variables → IsModel m old → HasModelFrom new m
+
+-- the literal says whether one of these copies is unknown
+pub record TellsOpen (s : Swept) (places : List ℕ) (literal : ℕ) : Type 0 where
+  pub within : literal < 2 * s.cone.formula.variables
+  pub says_it : (m : List Bool) → IsModel m s.cone.formula → says m literal ≡ list_any (says m) (open_literals s.copies.items places)
+
+-- after so many sweeps a cut wire among these gates is unknown at a care vector
+pub record IsOpenAfter (net : Parts) (loops : Loops) (care : CareSet) (gates : List ℕ) (k : ℕ) : Type 0 where
+  pub vector : List Bool
+  pub counts : IsCareVector net care vector
+  pub wire : ℕ
+  pub inside : Contains gates wire
+  pub is_cut : loops.cut wire ≡ true
+  pub unknown : value_in (sweeps net loops (bits vector) k) wire ≡ X
+
+-- after so many sweeps all of them are known on care
+abbrev pub AreKnownAfter : Parts → Loops → CareSet → List ℕ → ℕ → Type 0
+AreKnownAfter net loops care gates k = (v : List Bool) → IsCareVector net care v → (n : ℕ) → Contains gates n → loops.cut n ≡ true →
+    value_in (sweeps net loops (bits v) k) n ≢ X
+
+abbrev pub TellsAfter : Parts → Loops → CareSet → List ℕ → ℕ → Option Bool → Type 0
+TellsAfter net loops care gates k (Some true) = IsOpenAfter net loops care gates k
+TellsAfter net loops care gates k (Some false) = AreKnownAfter net loops care gates k
+TellsAfter net loops care gates k None = Unit {0}
+
+-- so many sweeps, and whether a cut wire is unknown after them
+pub record IsSweptOn (net : Parts) (care : CareSet) (marks : List Bool) (loops : Loops) (gates : List ℕ) (s : Swept) (k : ℕ) (found : Option Bool) : Type 0 where
+  pub swept : IsSwept net care marks loops gates s k
+  pub tells : TellsAfter net loops care gates k found
+
+-- so many sweeps, and a literal that says whether a cut wire is unknown after them
+pub record IsSweptWith (net : Parts) (care : CareSet) (marks : List Bool) (loops : Loops) (gates places : List ℕ) (s : Swept) (k literal : ℕ) : Type 0 where
+  pub swept : IsSwept net care marks loops gates s k
+  pub tells : TellsOpen s places literal
