@@ -1,16 +1,17 @@
-// Worked cases: each line of standard input has the words of one call of `cyc`, over the files of this folder. What each
-// call tells, on out and then on err, and its status stand below its words.
+// Worked cases: each line of standard input has the words of one call of `cyc`, over the files of this folder, or `#` and
+// what the next ones show. What each call tells on out, and then on err, and its status stand below its words.
 #![tactic(auto)]
 
 ghost use Rattle.std.specs.Prelude.{◌≡◌, [], All, OnOk};
 
 use bdd_ops::Diagrams;
 use cyc_base::Name;
-use cyc_io::{HostShelf, HostSink};
+use cyc_io::{HostShelf, HostSink, TextSink};
 use cyc_tool::run;
 use probes::{Glitches, LastRound, Probe, Trace};
 use std::alloc::{AllocError, Global};
 use std::io;
+use std::io::Write;
 use vcd_out::VcdOut;
 
 // The words of a line.
@@ -32,10 +33,11 @@ fn add_probe(probes: &mut Vec<Box<dyn Probe>>, probe: Box<dyn Probe>) -> Result<
     Ok(())
 }
 
-// The status of a call with these words and probes.
+// The status of a call with these words and probes, and what it told on err.
 fn status_with(
     rt: &HostRuntime,
     words: &[Name],
+    err: &mut TextSink,
     probes: Vec<Box<dyn Probe>>,
 ) -> Result<u8, AllocError>
     requires { All (λ probe. heard probe ≡ []) probes.items }
@@ -43,35 +45,45 @@ fn status_with(
     let mut d = Diagrams::new(rt.alloc(), 0, 1)?;
     let mut shelf = HostShelf::new(rt.alloc(), rt);
     let mut out = HostSink::new(rt.stdout());
-    let mut err = HostSink::new(rt.stdout());
-    Ok(run(
-        rt.alloc(),
-        words,
-        &mut shelf,
-        &mut out,
-        &mut err,
-        &mut d,
-        probes,
-    ))
+    Ok(run(rt.alloc(), words, &mut shelf, &mut out, err, &mut d, probes))
 }
 
 // The same with a probe of each kind.
-fn status_of(rt: &HostRuntime, words: &[Name]) -> Result<u8, AllocError> {
+fn status_of(rt: &HostRuntime, words: &[Name], err: &mut TextSink) -> Result<u8, AllocError> {
     let alloc = rt.alloc();
     let mut probes: Vec<Box<dyn Probe>> = Vec::new(alloc);
     add_probe(&mut probes, Box::new(alloc, Trace::new(alloc))?)?;
     add_probe(&mut probes, Box::new(alloc, Glitches::new(alloc))?)?;
     add_probe(&mut probes, Box::new(alloc, LastRound::new(alloc))?)?;
     add_probe(&mut probes, Box::new(alloc, VcdOut::new(alloc))?)?;
-    status_with(rt, words, probes)
+    status_with(rt, words, err, probes)
 }
 
-// One call.
+// What a call told on err.
+fn show_err(rt: &HostRuntime, text: &[u8]) -> io::Result<()> {
+    if text.is_empty() {
+        return Ok(());
+    }
+    println!(rt; "on err:")?;
+    rt.stdout().write_all(text)
+}
+
+// A call with these words.
+fn show_call(rt: &HostRuntime, words: &[Name]) -> io::Result<()> {
+    let mut err = TextSink::new(rt.alloc());
+    let status = status_of(rt, words, &mut err)?;
+    show_err(rt, &err.into_vec())?;
+    println!(rt; "status {status}\n")
+}
+
+// The call of a line, or the heading of those behind it.
 fn show(rt: &HostRuntime, line: &str) -> io::Result<()> {
+    if line.starts_with("#") {
+        return println!(rt; "{line}\n");
+    }
     println!(rt; "$ cyc {line}")?;
     let words = words_of(rt.alloc(), line)?;
-    let status = status_of(rt, &words)?;
-    println!(rt; "status {status}\n")
+    show_call(rt, &words)
 }
 
 fn main(rt: HostRuntime) -> io::Result<()> {
