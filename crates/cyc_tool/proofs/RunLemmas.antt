@@ -1,5 +1,5 @@
 -- What a call comes to.
-use Rattle.std.proofs.Common.{◌≡◌, ◌⊎◌, ◌≤◌, ℕ, List, Some, None, refl, sym, subst, inr, arith}
+use Rattle.std.proofs.Common.{◌≡◌, ◌⊎◌, ◌≤◌, ℕ, List, Some, None, refl, sym, subst, arith}
 use Rattle.std.specs.declared.option.Option.{Option}
 use Rattle.cyc_io.specs.Faults.{Counts}
 use Rattle.cyc_io.specs.Files.{Files}
@@ -9,7 +9,6 @@ use Rattle.cyc_tool.specs.Calls.{ShelfCall, ComesTo, Follows, KeepsNodes}
 use Rattle.cyc_tool.specs.Plans.{plan_of}
 use Rattle.cyc_tool.specs.Requests.{Shows}
 use Rattle.cyc_tool.specs.Texts.{Outcome, no_memory, usage}
-use Rattle.cyc_tool.proofs.PlanLemmas.{follows_still}
 
 -- a call comes to what its command comes to, and words outside the grammar to the usage
 pub comes_to_command : (shows : Shows) (asked : Option Command) (command : Command) (shelf : ShelfCall) (nodes : Arena) (end : Outcome) → asked ≡ Some command
@@ -23,12 +22,6 @@ pub comes_to_usage : (shows : Shows) (asked : Option Command) (files : Option Fi
 comes_to_usage shows asked files counts nodes end is ends =
     let P : Option Command → Type 0 = λ c. ComesTo shows c (record { files = files; before = counts; now = counts }) nodes end in
     subst P (sym is) (record { counts = record { later = λ other. omega arith; others = λ other differs. refl }; ends = ends })
-
--- want of memory before anything is read
-pub comes_to_lack : (shows : Shows) (asked : Option Command) (files : Option Files) (counts : Counts) (nodes : Arena) (end : Outcome) → end ≡ no_memory
-    → ComesTo shows asked (record { files = files; before = counts; now = counts }) nodes end
-comes_to_lack shows None files counts nodes end lacks = record { counts = record { later = λ other. omega arith; others = λ other differs. refl }; ends = inr lacks }
-comes_to_lack shows (Some command) files counts nodes end lacks = follows_still files counts nodes end (plan_of shows command) (inr lacks)
 
 -- diagrams that stay are kept
 pub keeps_still : (asked : Option Command) (nodes : Arena) → KeepsNodes asked nodes nodes

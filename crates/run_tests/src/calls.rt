@@ -1,5 +1,5 @@
 //! A call of `run` over files in memory.
-ghost use Rattle.std.specs.Prelude.{◌≡◌, [], All, OnOk};
+ghost use Rattle.std.specs.Prelude.{◌≡◌, ◌≤◌, [], All, OnOk};
 
 use bdd_ops::Diagrams;
 use cyc_base::Name;
@@ -66,9 +66,19 @@ fn play_shelf(
     Ok(MemoryShelf::new(alloc, files, Vec::new(alloc)))
 }
 
-fn sink(alloc: Global, fail: &[u64]) -> Result<MemorySink, AllocError> {
+/// Standard input alone.
+fn input_shelf(alloc: Global, text: &[u8]) -> Result<MemoryShelf, AllocError> {
+    let input = (Name::new(b"/dev/stdin".to_vec(alloc)?), text.to_vec(alloc)?);
+    let files = vec![in alloc; input]?;
+    Ok(MemoryShelf::new(alloc, files, Vec::new(alloc)))
+}
+
+/// A sink of which a write takes at most so many bytes, and where the writes of these numbers fail.
+fn sink(alloc: Global, fail: &[u64], most: usize) -> Result<MemorySink, AllocError>
+    requires { 1 ≤ most }
+{
     let fail = fail.to_vec(alloc)?;
-    MemorySink::new(alloc, 500, fail, 4)
+    MemorySink::new(alloc, 500, fail, most)
 }
 
 fn status_of(
@@ -91,12 +101,14 @@ fn call_over(
     line: &str,
     shelf: &mut MemoryShelf,
     fail: &[u64],
+    most: usize,
     probes: Vec<Box<dyn Probe>>,
 ) -> Result<Seen, AllocError>
-    requires { All (λ probe. heard probe ≡ []) probes.items }
+    requires most { 1 ≤ most }
+    requires silent { All (λ probe. heard probe ≡ []) probes.items }
 {
-    let mut out = sink(alloc, fail)?;
-    let mut err = sink(alloc, fail)?;
+    let mut out = sink(alloc, fail, most)?;
+    let mut err = sink(alloc, fail, most)?;
     let status = status_of(alloc, line, shelf, &mut out, &mut err, probes)?;
     Ok(Seen { status, out, err })
 }
@@ -111,7 +123,25 @@ pub fn call(
     write: &[u64],
 ) -> Result<Seen, AllocError> {
     let mut shelf = shelf(alloc, text, care, read)?;
-    call_over(alloc, line, &mut shelf, write, Vec::new(alloc))
+    call_over(alloc, line, &mut shelf, write, 4, Vec::new(alloc))
+}
+
+/// The same where sinks take one byte a write.
+pub fn call_by_bytes(
+    alloc: Global,
+    line: &str,
+    text: &[u8],
+    care: &[u8],
+    write: &[u64],
+) -> Result<Seen, AllocError> {
+    let mut shelf = shelf(alloc, text, care, &[])?;
+    call_over(alloc, line, &mut shelf, write, 1, Vec::new(alloc))
+}
+
+/// The words of a line where standard input has this text.
+pub fn call_on_input(alloc: Global, line: &str, text: &[u8]) -> Result<Seen, AllocError> {
+    let mut shelf = input_shelf(alloc, text)?;
+    call_over(alloc, line, &mut shelf, &[], 4, Vec::new(alloc))
 }
 
 /// Adds a probe that has heard nothing.
@@ -141,5 +171,5 @@ pub fn call_probed(
         vectors.as_bytes(),
         schedule.as_bytes(),
     )?;
-    call_over(alloc, line, &mut shelf, &[], probes)
+    call_over(alloc, line, &mut shelf, &[], 4, probes)
 }

@@ -1,6 +1,6 @@
 //! Reads and writes that fail.
 
-use crate::calls::{Seen, call, is};
+use crate::calls::{Seen, call, call_by_bytes, is};
 use std::alloc::{AllocError, Global};
 use std::test::Fail;
 
@@ -79,5 +79,38 @@ fn failed_writes_leave_a_part(rt: HostRuntime) -> Result<(), Fail> {
         assert!(rt; verdict_is_cut(rt.alloc(), number)?, "out at {number}");
         assert!(rt; fault_is_cut(rt.alloc(), number)?, "err at {number}");
     }
+    Ok(())
+}
+
+const LOOP: &str = ".model m\n.inputs x\n.outputs a\n.names x a a\n1- 1\n-1 1\n.end\n";
+
+const ALWAYS_ONE: &str = ".model assume\n.inputs x\n.outputs ok\n.names x ok\n1 1\n.end\n";
+
+const REWRITTEN: &str =
+    ".model m\n.inputs x\n.outputs a\n.names z~\n.names x z~ c1~a\n1- 1\n-1 1\n.names x c1~a a\n1- 1\n-1 1\n.end\n";
+
+/// Whether out has just the bytes that were written before this write.
+fn rewriting_is_cut(alloc: Global, write: u64) -> Result<bool, AllocError> {
+    let (net, care) = (LOOP.as_bytes(), ALWAYS_ONE.as_bytes());
+    let seen = call_by_bytes(alloc, "rewrite m.blif --care c.blif", net, care, &[write])?;
+    Ok(has_parts(&seen, REWRITTEN, "") && seen.out.bytes().len() as u64 == write)
+}
+
+#[test]
+fn a_text_is_cut_off_at_each_byte(rt: HostRuntime) -> Result<(), Fail> {
+    for number in 0..REWRITTEN.len() as u64 {
+        assert!(rt; rewriting_is_cut(rt.alloc(), number)?, "at {number}");
+    }
+    Ok(())
+}
+
+fn refusal_is_not_told(alloc: Global) -> Result<bool, AllocError> {
+    let seen = call(alloc, "rewrite m.blif", LOOP.as_bytes(), b"", &[], &[0])?;
+    Ok(is(&seen, 5, "", ""))
+}
+
+#[test]
+fn a_refusal_that_cannot_be_told_leaves_both_sinks_empty(rt: HostRuntime) -> Result<(), Fail> {
+    assert!(rt; refusal_is_not_told(rt.alloc())?);
     Ok(())
 }
