@@ -1,5 +1,5 @@
 -- The gates of a scope on top of the clauses of a care set.
-use Rattle.std.proofs.Common.{◌≡◌, ℕ, ◌<◌, ◌≤◌, ◌+◌, ◌-◌, Bool, true, List, ◌++◌, length, map, take, get_or, sym, ap, subst, ◌∙◌, arith}
+use Rattle.std.proofs.Common.{◌≡◌, ℕ, ◌<◌, ◌≤◌, ◌+◌, Bool, true, List, ◌++◌, length, map, take, get_or, sym, ap, subst, ◌∙◌, arith}
 use Rattle.std.specs.Prelude.{Contains}
 use Rattle.std.specs.List.{All}
 use Rattle.std.proofs.lemmas.List.{length-map, length-take-le, ext_get_or, get_or-take}
@@ -14,14 +14,14 @@ use Rattle.loops.specs.Sweeps.{first_gate, gate_of, value_in}
 use Rattle.care_sets.specs.Care.{CareSet, columns, is_allowed, is_in_invariant, state_of}
 use Rattle.ternary_clauses.specs.declared.formula.Formula.{Formula}
 use Rattle.ternary_clauses.specs.declared.formula.Rails.{Rails}
-use Rattle.ternary_clauses.specs.Encoding.{IsClosed, ReadsStill, HasState, SaysNetlist, gate_rails}
+use Rattle.ternary_clauses.specs.Encoding.{IsClosed, ReadsStill, HasState, SaysNetlist, gate_rails, AreNeverUnknown as AreNeverUnknownAmong}
 use Rattle.ternary_clauses.specs.Formulas.{says, IsModel, HasModelFrom, Grows}
 use Rattle.ternary_clauses.specs.Rails.{ReadsAll, AreWithin, no_rails}
 use Rattle.ternary_clauses.proofs.LawLemmas.{still_is_above_fix}
 use Rattle.ternary_clauses.proofs.ReadingLemmas.{Reads-more, ReadsAll-more, All-within-more}
 use Rattle.clause_decision.specs.Cones.{column_rails, vector_in, ReadsAbove, ReadsFix, IsCone}
 use Rattle.clause_decision.specs.Formulas.{HasVector, IsCareFormula}
-use Rattle.clause_decision.specs.Scopes.{is_marked, AreClosed}
+use Rattle.clause_decision.specs.Scopes.{is_marked, AreClosed, AreNeverUnknown}
 
 -- each pin of a marked gate is a column, or a gate that feeds it
 pub closed-by_pins : (net : Parts) (marks : List Bool) → IsNetlist net → AreClosed net marks → IsClosed net marks
@@ -42,6 +42,10 @@ closed-by_pins net marks proper closed n is =
           pin = subst (Contains (gate_at net n).pins) same (Contains-get_or (gate_at net n).pins i (signal 0) inside);
         })
         is.marked
+
+-- a gate that no Boolean vector leaves unknown fits in each fixpoint
+pub known-among : (net : Parts) (marks known : List Bool) → AreNeverUnknown net known → AreNeverUnknownAmong net marks known
+known-among net marks known never v wide n is marked = never v wide n is.within marked
 
 -- the columns' rails come first
 pub column_rails-are : (net : Parts) (marks : List Bool) (given : List Rails) (old new : Formula) (rails : List Rails) → length given ≡ columns net → SaysNetlist net marks given old new rails → column_rails net rails ≡ given

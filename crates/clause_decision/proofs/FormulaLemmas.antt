@@ -1,5 +1,5 @@
 -- Formulas over columns, and literals that tell tests of their vectors.
-use Rattle.std.proofs.Common.{◌≡◌, ℕ, zero, suc, ◌+◌, ◌*◌, ◌-◌, ◌<◌, ◌≤◌, Bool, true, false, not, ◌&&◌, List, [], ◌∷◌, ◌++◌, length, map, drop, get_or, refl, sym, ap, ap₂, ◌∙◌, subst, arith}
+use Rattle.std.proofs.Common.{◌≡◌, ℕ, zero, suc, ◌*◌, ◌<◌, Bool, true, false, ◌&&◌, List, [], ◌∷◌, ◌++◌, length, map, drop, refl, sym, ap, ap₂, ◌∙◌, subst, arith}
 use Rattle.std.specs.List.{All, list_all}
 use Rattle.std.proofs.lemmas.Bool.{and_parts}
 use Rattle.std.proofs.lemmas.List.{length-map}
@@ -10,15 +10,15 @@ use Rattle.netlist.specs.declared.parts.Parts.{Parts}
 use Rattle.care_sets.specs.Care.{CareSet, columns, state_of, is_allowed, is_in_invariant, is_care_vector}
 use Rattle.ternary_clauses.specs.declared.formula.Formula.{Formula}
 use Rattle.ternary_clauses.specs.declared.formula.Rails.{Rails}
-use Rattle.ternary_clauses.specs.Columns.{vector_read, SaysColumns}
+use Rattle.ternary_clauses.specs.Columns.{SaysColumns}
 use Rattle.ternary_clauses.specs.Formulas.{says, holds, IsModel, IsFormula, HasModelFrom, Grows}
-use Rattle.ternary_clauses.specs.Rails.{Reads, ReadsAll, AreWithin, is_one}
-use Rattle.ternary_clauses.proofs.GrowthLemmas.{Grows-refl, Grows-chain, model-here}
-use Rattle.ternary_clauses.proofs.ReadingLemmas.{All-within-more, ReadsAll-more, ReadsAll-length}
-use Rattle.clause_queries.specs.Queries.{problem, IsModelUnder}
-use Rattle.clause_queries.specs.Vectors.{vector_of, Asks, HasVector as HasVectorUnder}
+use Rattle.ternary_clauses.specs.Rails.{ReadsAll, AreWithin, is_one}
+use Rattle.ternary_clauses.proofs.GrowthLemmas.{Grows-refl, model-here}
+use Rattle.ternary_clauses.proofs.ReadingLemmas.{All-within-more, ReadsAll-more}
+use Rattle.clause_queries.specs.Queries.{problem}
+use Rattle.clause_queries.specs.Vectors.{Asks}
 use Rattle.clause_queries.proofs.ClauseLemmas.{models-same}
-use Rattle.clause_decision.specs.Formulas.{SaysTest, HasVector, IsOver, TellsOf, IsCareFormula}
+use Rattle.clause_decision.specs.Formulas.{SaysTest, IsOver, IsCareFormula}
 
 -- ---- readings of lists
 

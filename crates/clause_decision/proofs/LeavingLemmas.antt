@@ -1,5 +1,5 @@
 -- The invariant of the next state, as a literal of a cone.
-use Rattle.std.proofs.Common.{◌≡◌, ◌≢◌, inl, inr, ℕ, ◌<◌, ◌≤◌, ◌+◌, ◌-◌, ◌*◌, Bool, true, false, not, ◌&&◌, List, [], ◌∷◌, ◌++◌, length, map, take, get_or, Option, Some, None, IfSome, refl, sym, ap, ap₂, subst, ◌∙◌, arith}
+use Rattle.std.proofs.Common.{◌≡◌, ℕ, ◌<◌, ◌+◌, ◌-◌, ◌*◌, Bool, true, false, not, ◌&&◌, List, [], ◌∷◌, ◌++◌, length, map, get_or, Option, Some, None, IfSome, refl, sym, ap, ap₂, subst, ◌∙◌, arith}
 use Rattle.std.specs.List.{All}
 use Rattle.std.specs.Option.{option_map, option_map_or}
 use Rattle.std.proofs.lemmas.Bool.{and_parts}
@@ -29,7 +29,7 @@ use Rattle.ternary_clauses.proofs.ClauseLemmas.{says-negation}
 use Rattle.ternary_clauses.proofs.ReadingLemmas.{ReadsAll-from, ReadsAll-more, All-within-more}
 use Rattle.clause_queries.specs.Clauses.{IsWithin}
 use Rattle.clause_queries.specs.Queries.{problem, is_model, IsModelUnder}
-use Rattle.clause_queries.specs.Vectors.{vector_of, Asks, HasVector}
+use Rattle.clause_queries.specs.Vectors.{Asks, HasVector}
 use Rattle.clause_queries.proofs.ClauseLemmas.{models-same}
 use Rattle.clause_decision.specs.declared.scope.Scope.{Scope}
 use Rattle.clause_decision.specs.Cones.{column_rails, vector_in, ReadsAbove, ReadsFix, IsCone}

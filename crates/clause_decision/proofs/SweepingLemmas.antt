@@ -1,25 +1,24 @@
 -- Sweeps of a loop on top of a cone, and how many are needed.
-use Rattle.std.proofs.Common.{◌≡◌, ◌≢◌, ◌⊎◌, inl, inr, ℕ, zero, suc, ◌<◌, ◌≤◌, ◌+◌, ◌-◌, ◌*◌, ◌==◌, Bool, true, false, not, ◌&&◌, ◌||◌, cond, List, [], ◌∷◌, ◌++◌, length, map, filter, take, replicate, get_or, Option, Some, None, Contains, refl, sym, ap, ap₂, subst, ◌∙◌, arith, true≢false, append-nil}
+use Rattle.std.proofs.Common.{◌≡◌, inl, inr, ℕ, zero, suc, ◌<◌, ◌≤◌, ◌+◌, ◌-◌, ◌*◌, ◌==◌, Bool, true, false, not, ◌&&◌, ◌||◌, cond, List, [], ◌∷◌, ◌++◌, length, map, filter, take, get_or, Option, Some, None, Contains, refl, sym, ap, ap₂, subst, ◌∙◌, arith, true≢false, append-nil}
 use Rattle.std.specs.List.{All, list_any, range_with_len}
-use Rattle.std.proofs.lemmas.Bool.{cases_lt, cases_Bool, and_parts, and_from, eq-eqb, eqb-true}
-use Rattle.std.proofs.lemmas.List.{length-map, get_or-map, get_or-replicate, get_or_default, length_push, take_all}
+use Rattle.std.proofs.lemmas.Bool.{cases_lt, and_parts, eq-eqb}
+use Rattle.std.proofs.lemmas.List.{length-map, get_or-replicate, get_or_default, length_push, take_all}
 use Rattle.std.proofs.lemmas.List.FromFn.{length-range_with_len}
-use Rattle.std.proofs.lemmas.List.Elements.{All-push, All-weaker, All-map, All-get_or, All-take, All-contains, Contains-get_or, Contains-append_left, Contains-push, filter_more, filter_passes}
+use Rattle.std.proofs.lemmas.List.Elements.{All-push, All-weaker, All-map, All-get_or, All-take, All-contains, Contains-get_or, Contains-append_left, Contains-push, filter_more}
 use Rattle.cyc_base.specs.declared.sig.Sig.{Sig}
 use Rattle.cyc_base.specs.declared.trit.Trit.{Trit}
 use Rattle.cyc_base.specs.declared.trit.Trit.TheVariants.{Zero, One, X}
-use Rattle.cyc_base.specs.Values.{bit, bits, Below}
+use Rattle.cyc_base.specs.Values.{bit, bits}
 use Rattle.cyc_base.proofs.OrderLemmas.{EachBelow-at}
 use Rattle.netlist.specs.declared.parts.Parts.{Parts}
-use Rattle.netlist.specs.Netlists.{IsNetlist, IsSignal, count, gate_at, gate_sig, no_gate, signal}
-use Rattle.netlist.specs.Fixpoint.{wire, fix, fix_gates}
-use Rattle.netlist.specs.Walks.{Feeds}
+use Rattle.netlist.specs.Netlists.{IsNetlist, count, gate_at, no_gate, signal}
+use Rattle.netlist.specs.Fixpoint.{fix_gates}
 use Rattle.loops.specs.declared.structure.Blocks.{Blocks}
 use Rattle.loops.specs.declared.structure.Cut.{Cut}
-use Rattle.loops.specs.Blocks.{AreBlocksOf, block_at, home_of, gates_at}
+use Rattle.loops.specs.Blocks.{AreBlocksOf, block_at, home_of}
 use Rattle.loops.specs.Cuts.{AreLoopsOf, IsCutOf, Loops, loops_by, is_cut}
 use Rattle.loops.specs.Orders.{AreGatesOfLoop}
-use Rattle.loops.specs.Sweeps.{CutsAreFixed, cuts_of, cut_values, first_gate, gate_of, in_loop_of, sweeps, value_in}
+use Rattle.loops.specs.Sweeps.{CutsAreFixed, cuts_of, first_gate, gate_of, sweeps, value_in}
 use Rattle.loops.proofs.LoopCuts.{has-cut}
 use Rattle.loops.proofs.Reading.{Contains-filter, Contains-filter_from, Contains-range, Contains-range_from, map_agree}
 use Rattle.loops.proofs.Sweeps.{cut_values_agree, few_sweeps_are_enough, sweeps_stay_below_fix}
@@ -36,14 +35,14 @@ use Rattle.ternary_clauses.specs.Sums.{SaysAny}
 use Rattle.ternary_clauses.specs.Sweeps.{ReadsOutside, ReadsPlaces, SaysSweep}
 use Rattle.ternary_clauses.proofs.ClauseLemmas.{says-negation}
 use Rattle.ternary_clauses.proofs.ReadingLemmas.{Reads-more, ReadsAll-more, All-within-more}
-use Rattle.clause_queries.specs.Queries.{problem, is_model, IsModelUnder, HasModelUnder, HasNoModelUnder, IsPossible}
+use Rattle.clause_queries.specs.Queries.{problem, HasModelUnder, HasNoModelUnder, IsPossible}
 use Rattle.clause_queries.proofs.ClauseLemmas.{models-same}
-use Rattle.clause_decision.specs.Cones.{column_rails, vector_in, ReadsAbove, ReadsFix, IsCone}
+use Rattle.clause_decision.specs.Cones.{column_rails, vector_in, ReadsFix, IsCone}
 use Rattle.clause_decision.specs.Scopes.{is_marked, AreClosed, AreKnownOnCare}
 use Rattle.clause_decision.specs.Sweeping.{IsLeastCount, NeedsMore}
 use Rattle.clause_decision.specs.Sweepings.{open_literals, AreCutPlacesBelow, AreCutPlaces, IsOpenAfter, AreKnownAfter, SaysOpen, TellsAfter}
 use Rattle.clause_decision.proofs.FormulaLemmas.{ones-read}
-use Rattle.clause_decision.proofs.SignalLemmas.{known-below, negation-within, column_rails-length, fix-above, signal-at, gate-read, three}
+use Rattle.clause_decision.proofs.SignalLemmas.{known-below, negation-within, column_rails-length, signal-at, gate-read, three}
 
 -- ---- the places of cut wires
 

@@ -1,19 +1,15 @@
 -- Formulas over the columns of a netlist, and literals that say of a vector whether it passes a test.
-use Rattle.std.specs.Prelude.{◌≡◌, ◌<◌, ◌≤◌, ◌*◌, ◌-◌, ℕ, Bool, true, not, List, length, map, All, slice_index_or}
-use Rattle.cyc_base.specs.declared.trit.Trit.{Trit}
+use Rattle.std.specs.Prelude.{◌≡◌, ◌<◌, ◌≤◌, ◌*◌, ◌-◌, ℕ, Bool, List, length, map, All, slice_index_or}
 use Rattle.cyc_base.specs.declared.trit.Trit.TheVariants.{X}
-use Rattle.cyc_base.specs.Values.{Below, bits}
+use Rattle.cyc_base.specs.Values.{bits}
 use Rattle.netlist.specs.declared.parts.Parts.{Parts}
-use Rattle.netlist.specs.Fixpoint.{fix_gates, outs}
-use Rattle.netlist.specs.Netlists.{count}
-use Rattle.loops.specs.Sweeps.{value_in}
+use Rattle.netlist.specs.Fixpoint.{outs}
 use Rattle.care_sets.specs.declared.model.CareModel.{CareModel}
 use Rattle.care_sets.specs.Care.{CareSet, columns, is_one, is_allowed, is_in_invariant, state_of}
 use Rattle.ternary_clauses.specs.declared.formula.Formula.{Formula}
 use Rattle.ternary_clauses.specs.declared.formula.Rails.{Rails}
-use Rattle.ternary_clauses.specs.Encoding.{ReadsGates}
 use Rattle.ternary_clauses.specs.Formulas.{says, IsModel, IsFormula, HasModelFrom, Grows}
-use Rattle.ternary_clauses.specs.Rails.{ReadsAll, AreWithin, rails_at}
+use Rattle.ternary_clauses.specs.Rails.{ReadsAll, AreWithin}
 
 -- The new formula says in addition what a literal says: whether the values that the rails read pass a test.
 pub record SaysTest (old new : Formula) (rails : List Rails) (test : List Bool → Bool) (literal : ℕ) : Type 0 where

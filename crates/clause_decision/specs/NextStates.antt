@@ -1,5 +1,5 @@
 -- The rails of what latches load.
-use Rattle.std.specs.Prelude.{◌≡◌, ◌<◌, ◌≤◌, ◌-◌, ℕ, false, List, [], length, map, All, slice_index_or}
+use Rattle.std.specs.Prelude.{◌<◌, ◌≤◌, ◌-◌, ℕ, false, List, [], length, map, All, slice_index_or}
 use Rattle.netlist.specs.declared.parts.Init.TheVariants.{Zero}
 use Rattle.netlist.specs.declared.parts.Latch.{Latch}
 use Rattle.netlist.specs.declared.parts.Parts.{Parts}

@@ -1,5 +1,5 @@
 -- How many sweeps a loop needs on care.
-use Rattle.std.specs.Prelude.{◌≡◌, ◌<◌, ℕ, Bool, true, List}
+use Rattle.std.specs.Prelude.{◌<◌, ℕ, Bool, List}
 use Rattle.cyc_base.specs.Values.{bits}
 use Rattle.netlist.specs.declared.parts.Parts.{Parts}
 use Rattle.loops.specs.Cuts.{Loops}

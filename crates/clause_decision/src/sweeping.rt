@@ -60,11 +60,7 @@ fn open_of(copies: &[Rails], place: usize) -> u32
 }
 
 /// The literals that say that the copies at these places are unknown.
-fn literals_of(
-    alloc: Global,
-    copies: &[Rails],
-    places: &[usize],
-) -> Result<Vec<u32>, AllocError>
+fn literals_of(alloc: Global, copies: &[Rails], places: &[usize]) -> Result<Vec<u32>, AllocError>
     requires { All (λ i. i < length copies.now) places.now }
     ensures { IfOk result (λ literals. literals.items ≡ open_literals copies.now places.now) }
 {
@@ -224,7 +220,9 @@ fn count_sweeps(
     let gates = blocks.list.items()[block as usize].gates.items();
     let mut swept = unswept(alloc, net, care, scope, gates)?;
     for sweeps in 1..most {
-        match is_open_after(alloc, &mut swept, net, blocks, cut, block, places, conflicts)? {
+        match is_open_after(
+            alloc, &mut swept, net, blocks, cut, block, places, conflicts,
+        )? {
             Some(true) => {}
             Some(false) => return Ok(Some(sweeps)),
             None => return Ok(None),

@@ -1,4 +1,4 @@
-use Rattle.std.proofs.Common.{◌≡◌, ◌∙◌, ◌+◌, ℕ, List, length, subst, sym, ap₂}
+use Rattle.std.proofs.Common.{◌+◌, ℕ, List, subst, sym, ap₂}
 use Rattle.ternary_clauses.specs.declared.formula.Rails.{Rails}
 use Rattle.ternary_clauses.specs.Columns.{SaysColumns}
 use Rattle.care_sets.specs.Care.{columns}

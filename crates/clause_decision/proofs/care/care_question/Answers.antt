@@ -1,11 +1,11 @@
-use Rattle.std.proofs.Common.{◌≡◌, ◌∙◌, ◌∷◌, [], ℕ, ◌*◌, ◌<◌, List, length, map, subst, sym, ap, arith}
+use Rattle.std.proofs.Common.{◌≡◌, ◌∙◌, ℕ, ◌*◌, ◌<◌, List, length, map, subst, sym, ap}
 use Rattle.std.specs.List.{All}
 use Rattle.std.proofs.lemmas.List.{length-map}
 use Rattle.ternary_clauses.specs.declared.formula.Formula.{Formula}
 use Rattle.ternary_clauses.specs.declared.formula.Rails.{Rails}
 use Rattle.clause_queries.specs.Queries.{problem}
 use Rattle.clause_queries.specs.Vectors.{Asks}
-use Rattle.care_sets.specs.Care.{columns, is_care_vector}
+use Rattle.care_sets.specs.Care.{is_care_vector}
 use Rattle.clause_decision.proofs.FormulaLemmas.{care-asks, ones-within, two-within}
 use Rattle.clause_decision.proofs.care.care_question.Goals as goal
 

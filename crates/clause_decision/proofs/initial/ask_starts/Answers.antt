@@ -1,4 +1,4 @@
-use Rattle.std.proofs.Common.{◌≡◌, ◌∙◌, ◌+◌, ◌++◌, ◌<◌, ℕ, List, length, take, get_or, slice_get, Some, sym, ap, ap₂, subst, arith}
+use Rattle.std.proofs.Common.{◌∙◌, ◌++◌, ◌<◌, ℕ, List, length, take, get_or, sym, ap, ap₂, arith}
 use Rattle.std.proofs.lemmas.List.{append_assoc, get_or_default}
 use Rattle.std.proofs.lemmas.Option.{get_or_from_slice_get, slice_get_within}
 use Rattle.netlist.specs.declared.parts.Latch.{Latch}

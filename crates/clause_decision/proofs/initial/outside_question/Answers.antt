@@ -1,8 +1,7 @@
-use Rattle.std.proofs.Common.{◌≡◌, ◌∙◌, ◌∷◌, ℕ, ◌*◌, ◌<◌, Bool, List, length, map, subst, sym, ap, arith}
+use Rattle.std.proofs.Common.{◌≡◌, ◌∙◌, ◌∷◌, ℕ, ◌*◌, ◌<◌, List, length, map, subst, sym, ap}
 use Rattle.std.specs.Prelude.{IfSome}
 use Rattle.std.specs.List.{All, list_all}
 use Rattle.std.proofs.lemmas.List.{length-map}
-use Rattle.cyc_base.specs.Values.{bits}
 use Rattle.care_sets.specs.Care.{is_in_invariant}
 use Rattle.ternary_clauses.specs.Columns.{SaysColumns}
 use Rattle.ternary_clauses.specs.declared.formula.Rails.{Rails}

@@ -1,8 +1,4 @@
-use Rattle.std.proofs.Common.{rules, ◌≡◌, ◌∙◌, ◌∷◌, [], List, ℕ, map, sym, ap, subst}
-use Rattle.std.specs.List.{All}
-use Rattle.ternary_clauses.specs.Rails.{AreWithin}
-use Rattle.ternary_clauses.specs.Formulas.{negation as negation_of}
-use Rattle.clause_decision.specs.Cones.{column_rails}
+use Rattle.std.proofs.Common.{rules}
 use Rattle.clause_decision.proofs.LeavingLemmas.{latch-columns, loads-within, leaving-question}
 use Rattle.clause_decision.proofs.leaving.leaving_question.Goals as goal
 

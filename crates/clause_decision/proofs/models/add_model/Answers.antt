@@ -1,7 +1,6 @@
-use Rattle.std.proofs.Common.{◌≡◌, ◌∙◌, ◌+◌, ◌<◌, ℕ, Bool, List, true, length, replicate, get_or, subst, sym, ap, arith}
+use Rattle.std.proofs.Common.{◌≡◌, ◌∙◌, ◌<◌, Bool, List, true, length, replicate, get_or, subst, sym, ap, arith}
 use Rattle.std.proofs.lemmas.List.{get_or_default}
 use Rattle.cyc_base.specs.declared.sig.Sig.{Sig}
-use Rattle.loops.specs.Sweeps.{first_gate}
 use Rattle.ternary_clauses.specs.declared.formula.Rails.{Rails}
 use Rattle.ternary_clauses.specs.Encoding.{AreNeverUnknown, IsClosed, SaysNetlist}
 use Rattle.ternary_clauses.specs.Rails.{no_rails, rails_at}

@@ -1,4 +1,4 @@
-use Rattle.std.proofs.Common.{rules, ◌≡◌, ◌∙◌, ◌<◌, ◌*◌, sym, ap, subst}
+use Rattle.std.proofs.Common.{rules, ◌<◌, ◌*◌}
 use Rattle.std.proofs.lemmas.List.Elements.{All-same}
 use Rattle.clause_decision.specs.Sweepings.{open_literals}
 use Rattle.clause_decision.proofs.SweepingLemmas.{open-within, says-open}
