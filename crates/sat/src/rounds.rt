@@ -5,6 +5,7 @@ ghost use Rattle.sat.specs.Answers.{IsOutcome};
 
 use crate::clauses::Clauses;
 use crate::lit::Lit;
+use crate::merits::GIVEN;
 use crate::reduction::reduce;
 use crate::search::{Search, back_to, load_clause, reload};
 use crate::steps::{Verdict, to_conflict};
@@ -20,11 +21,16 @@ struct Pace {
     u: u64,
     v: u64,
     left: u64,
-    /// How many learned clauses are kept.
+    /// How many learned clauses are kept, and when that rises next: after how many conflicts, and of how many.
     limit: usize,
+    rise: u64,
+    period: u64,
 }
 
-const UNIT: u64 = 128;
+const UNIT: u64 = 100;
+
+/// As many learned clauses are kept as there are clauses of the formula for three, and no fewer than these.
+const FEWEST: usize = 100;
 
 fn is_due(pace: &mut Pace) -> bool {
     if pace.left > 0 {
@@ -43,14 +49,34 @@ fn is_due(pace: &mut Pace) -> bool {
 }
 
 impl Pace {
-    fn new() -> Pace {
+    /// For so many clauses.
+    fn new(clauses: usize) -> Pace {
         Pace {
             u: 1,
             v: 1,
             left: UNIT,
-            limit: 2000,
+            limit: (clauses / 3).max(FEWEST),
+            rise: UNIT,
+            period: UNIT,
         }
     }
+}
+
+/// The number of learned clauses that are kept rises by a tenth, each time after half as many conflicts more.
+fn raise(pace: &mut Pace) {
+    if pace.rise > 0 {
+        pace.rise -= 1;
+        return;
+    }
+    pace.period = pace.period.saturating_add(pace.period / 2);
+    pace.rise = pace.period;
+    pace.limit = pace.limit.saturating_add(pace.limit / 10);
+}
+
+/// Whether there are more learned clauses than a limit, beside those that are the reasons of literals.
+fn has_over(search: &Search, clauses: u32, limit: usize) -> bool {
+    let learned = (clauses as usize).saturating_sub(search.loaded as usize);
+    learned.saturating_sub(search.trail.lits.as_slice().len()) > limit
 }
 
 /// Begins again at level 0 where that is due, maybe with fewer learned clauses.
@@ -62,11 +88,15 @@ fn restart(
 ) -> Result<(), AllocError>
     ensures { Extends database.old database.new }
 {
-    if !is_due(pace) {
-        return Ok(());
+    raise(pace);
+    let is_full = has_over(search, database.len(), pace.limit);
+    if is_due(pace) || is_full {
+        back_to(search, 0);
     }
-    back_to(search, 0);
-    reduce(alloc, database, search, &mut pace.limit)
+    if is_full {
+        reduce(alloc, database, search)?;
+    }
+    Ok(())
 }
 
 /// What a call found, and after how many conflicts. Without a verdict it met as many as were allowed.
@@ -90,7 +120,7 @@ fn run(
     ensures follows { All (Entails formula.now) database.new }
     ensures found { IfOk result (IsOutcome formula.now assumptions.now search.new.trail.values.items working.new.lits.items conflicts) }
 {
-    let mut pace = Pace::new();
+    let mut pace = Pace::new(formula.len() as usize);
     let mut met = 0;
     while met < conflicts {
         let verdict = to_conflict(formula, database, search, working, assumptions)?;
@@ -121,7 +151,7 @@ fn load(formula: &Clauses, database: &mut Clauses, search: &mut Search) -> Resul
         let clause = formula.clause(number);
         database.push(clause)?;
         search.loaded = number + 1;
-        load_clause(search, clause, database.len() - 1, 0)?;
+        load_clause(search, clause, database.len() - 1, GIVEN)?;
     }
     Ok(())
 }
@@ -134,13 +164,14 @@ fn variables_of(lits: &[Lit]) -> usize {
 
 /// Adds the variables of which only the assumptions speak.
 fn add_variables(
+    alloc: Global,
     search: &mut Search,
     working: &mut Working,
     assumptions: &[Lit],
 ) -> Result<(), AllocError> {
     let variables = variables_of(assumptions);
     if variables > search.trail.values.as_slice().len() {
-        search::widen(search, variables)?;
+        search::widen(alloc, search, variables)?;
         working::widen(working, variables)?;
     }
     Ok(())
@@ -149,8 +180,8 @@ fn add_variables(
 /// Makes the search ready for a call. What one that ran out of memory has left is made anew.
 fn begin(alloc: Global, database: &Clauses, search: &mut Search) -> Result<(), AllocError> {
     if search.is_underway {
-        let glues = mem::replace(&mut search.watches.glues, Vec::new(alloc));
-        return reload(database, search, &glues);
+        let merits = mem::replace(&mut search.merits.merits, Vec::new(alloc));
+        return reload(database, search, &merits);
     }
     search.is_underway = true;
     back_to(search, 0);
@@ -172,7 +203,7 @@ pub(crate) fn look(
     ensures found { IfOk result (IsOutcome formula.now assumptions.now search.new.trail.values.items working.new.lits.items conflicts) }
 {
     begin(alloc, database, search)?;
-    add_variables(search, working, assumptions)?;
+    add_variables(alloc, search, working, assumptions)?;
     load(formula, database, search)?;
     let found = run(
         alloc,

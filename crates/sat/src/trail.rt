@@ -10,13 +10,26 @@ use std::alloc::{AllocError, Global};
 /// No clause.
 pub(crate) const NONE: u32 = 4294967295;
 
+/// How a variable came to its value: the level, the clause that forced it, and its place among the literals.
+#[derive(Clone, Copy)]
+struct Cause {
+    level: u32,
+    reason: u32,
+    place: u32,
+}
+
+const NO_CAUSE: Cause = Cause {
+    level: 0,
+    reason: NONE,
+    place: 0,
+};
+
 /// What is assigned, in which order, and why. Only the values are more than hints.
 pub(crate) struct Trail {
     /// The value of each variable.
     pub(crate) values: Vec<Truth>,
-    /// Of each variable the level at which it was assigned, the clause that forced it, and its last value.
-    levels: Vec<u32>,
-    reasons: Vec<u32>,
+    causes: Vec<Cause>,
+    /// The last value of each variable.
     phases: Vec<bool>,
     /// The true literals in the order in which they were assigned, and how many there were at each decision.
     pub(crate) lits: Vec<Lit>,
@@ -29,8 +42,7 @@ impl Drop for Trail {
     fn drop(self) {
         let Trail {
             values: _,
-            levels: _,
-            reasons: _,
+            causes: _,
             phases: _,
             lits: _,
             starts: _,
@@ -44,8 +56,7 @@ impl Trail {
     pub(crate) fn new(alloc: Global) -> Trail {
         Trail {
             values: Vec::new(alloc),
-            levels: Vec::new(alloc),
-            reasons: Vec::new(alloc),
+            causes: Vec::new(alloc),
             phases: Vec::new(alloc),
             lits: Vec::new(alloc),
             starts: Vec::new(alloc),
@@ -57,8 +68,7 @@ impl Trail {
 /// Adds variables up to so many. They are open, and false is tried first.
 pub(crate) fn widen(trail: &mut Trail, variables: usize) -> Result<(), AllocError> {
     trail.values.resize(variables, Truth::Open)?;
-    trail.levels.resize(variables, 0)?;
-    trail.reasons.resize(variables, NONE)?;
+    trail.causes.resize(variables, NO_CAUSE)?;
     trail.phases.resize(variables, false)
 }
 
@@ -106,22 +116,36 @@ pub(crate) fn level(trail: &Trail) -> u32 {
     short(trail.starts.as_slice().len())
 }
 
+#[inline(always)]
+fn cause_of(trail: &Trail, lit: Lit) -> Cause {
+    at(&trail.causes, lit.variable() as usize, NO_CAUSE)
+}
+
+/// Where the literal's variable stands among those assigned.
+pub(crate) fn place_of(trail: &Trail, lit: Lit) -> u32 {
+    cause_of(trail, lit).place
+}
+
 /// The level at which the literal's variable was assigned.
 #[inline(always)]
 pub(crate) fn level_of(trail: &Trail, lit: Lit) -> u32 {
-    at(&trail.levels, lit.variable() as usize, 0)
+    cause_of(trail, lit).level
 }
 
 /// The clause that forced the literal's variable, if there is one.
 #[inline(always)]
 pub(crate) fn reason_of(trail: &Trail, lit: Lit) -> u32 {
-    at(&trail.reasons, lit.variable() as usize, NONE)
+    cause_of(trail, lit).reason
 }
 
 pub(crate) fn set_reason(trail: &mut Trail, lit: Lit, reason: u32)
     ensures { trail.new.values ≡ trail.old.values }
 {
-    put(&mut trail.reasons, lit.variable() as usize, reason);
+    let cause = Cause {
+        reason,
+        ..cause_of(trail, lit)
+    };
+    put(&mut trail.causes, lit.variable() as usize, cause);
 }
 
 /// The value that a variable had last.
@@ -136,12 +160,14 @@ pub(crate) fn assign(trail: &mut Trail, lit: Lit, reason: u32) -> Result<(), All
     ensures assigned { OnOk result (trail.new.values.items ≡ assigned trail.old.values.items lit) }
     ensures open { open_count trail.new.values.items ≤ open_count trail.old.values.items }
 {
+    let cause = Cause {
+        level: level(trail),
+        reason,
+        place: short(trail.lits.as_slice().len()),
+    };
     trail.lits.push(lit)?;
-    let now = level(trail);
-    let variable = lit.variable() as usize;
     make_true(&mut trail.values, lit);
-    put(&mut trail.levels, variable, now);
-    put(&mut trail.reasons, variable, reason);
+    put(&mut trail.causes, lit.variable() as usize, cause);
     Ok(())
 }
 
