@@ -20,13 +20,19 @@ pub(crate) const GIVEN: Merit = Merit {
 /// The merit of each clause. All of it is hints.
 pub(crate) struct Merits {
     pub(crate) merits: Vec<Merit>,
+    /// How many clauses may be forgotten.
+    pub(crate) passing: usize,
     /// What a clause's score gains.
     gain: f64,
 }
 
 impl Drop for Merits {
     fn drop(self) {
-        let Merits { merits: _, gain: _ } = self;
+        let Merits {
+            merits: _,
+            passing: _,
+            gain: _,
+        } = self;
     }
 }
 
@@ -35,9 +41,30 @@ impl Merits {
     pub(crate) fn new(alloc: Global) -> Merits {
         Merits {
             merits: Vec::new(alloc),
+            passing: 0,
             gain: 1.0,
         }
     }
+}
+
+/// Whether a clause may be forgotten: those of the formula stay, and those of one or two levels.
+pub(crate) fn is_passing(merit: Merit) -> bool {
+    merit.glue > 2
+}
+
+/// Adds the merit of the next clause.
+pub(crate) fn add(merits: &mut Merits, merit: Merit) -> Result<(), AllocError> {
+    merits.merits.push(merit)?;
+    if is_passing(merit) {
+        merits.passing = merits.passing.wrapping_add(1);
+    }
+    Ok(())
+}
+
+/// Without clauses again.
+pub(crate) fn clear(merits: &mut Merits) {
+    merits.merits.clear();
+    merits.passing = 0;
 }
 
 /// The merit of a clause that has just been learned.

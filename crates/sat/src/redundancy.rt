@@ -88,8 +88,7 @@ fn levels_of(trail: &Trail, lits: &[Lit]) -> Levels {
 
 /// Whether a literal may be found: a clause made it false at one of the levels.
 fn may_be_found(database: &Clauses, trail: &Trail, levels: Levels, lit: Lit) -> bool {
-    reason_of(trail, lit) < database.len()
-        && levels.bits & bit_of(level_of(trail, lit)) != 0
+    reason_of(trail, lit) < database.len() && levels.bits & bit_of(level_of(trail, lit)) != 0
 }
 
 /// Finds the other literals of a literal's reason. False where one can't be found.

@@ -21,16 +21,17 @@ struct Pace {
     u: u64,
     v: u64,
     left: u64,
-    /// How many learned clauses are kept, and when that rises next: after how many conflicts, and of how many.
+    /// How many clauses are kept that may be forgotten.
     limit: usize,
+    /// After how many conflicts more that rises, and after how many it did so last.
     rise: u64,
     period: u64,
 }
 
 const UNIT: u64 = 100;
 
-/// As many learned clauses are kept as there are clauses of the formula for three, and no fewer than these.
-const FEWEST: usize = 100;
+/// So many learned clauses are kept, and one for three clauses of the formula.
+const FEWEST: usize = 1000;
 
 fn is_due(pace: &mut Pace) -> bool {
     if pace.left > 0 {
@@ -55,14 +56,14 @@ impl Pace {
             u: 1,
             v: 1,
             left: UNIT,
-            limit: (clauses / 3).max(FEWEST),
+            limit: FEWEST.saturating_add(clauses / 3),
             rise: UNIT,
             period: UNIT,
         }
     }
 }
 
-/// The number of learned clauses that are kept rises by a tenth, each time after half as many conflicts more.
+/// The number of learned clauses that are kept rises by a tenth, each time after half as many conflicts again.
 fn raise(pace: &mut Pace) {
     if pace.rise > 0 {
         pace.rise -= 1;
@@ -71,12 +72,6 @@ fn raise(pace: &mut Pace) {
     pace.period = pace.period.saturating_add(pace.period / 2);
     pace.rise = pace.period;
     pace.limit = pace.limit.saturating_add(pace.limit / 10);
-}
-
-/// Whether there are more learned clauses than a limit, beside those that are the reasons of literals.
-fn has_over(search: &Search, clauses: u32, limit: usize) -> bool {
-    let learned = (clauses as usize).saturating_sub(search.loaded as usize);
-    learned.saturating_sub(search.trail.lits.as_slice().len()) > limit
 }
 
 /// Begins again at level 0 where that is due, maybe with fewer learned clauses.
@@ -89,7 +84,7 @@ fn restart(
     ensures { Extends database.old database.new }
 {
     raise(pace);
-    let is_full = has_over(search, database.len(), pace.limit);
+    let is_full = search.merits.passing > pace.limit;
     if is_due(pace) || is_full {
         back_to(search, 0);
     }

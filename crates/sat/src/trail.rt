@@ -24,10 +24,22 @@ const NO_CAUSE: Cause = Cause {
     place: 0,
 };
 
+/// What a literal is.
+#[derive(Clone, Copy)]
+struct Mark(u8);
+
+const OPEN: Mark = Mark(0);
+
+const TRUE: Mark = Mark(1);
+
+const FALSE: Mark = Mark(2);
+
 /// What is assigned, in which order, and why. Only the values are more than hints.
 pub(crate) struct Trail {
     /// The value of each variable.
     pub(crate) values: Vec<Truth>,
+    /// The same by literals, for the searches that no proof reads.
+    marks: Vec<Mark>,
     causes: Vec<Cause>,
     /// The last value of each variable.
     phases: Vec<bool>,
@@ -42,6 +54,7 @@ impl Drop for Trail {
     fn drop(self) {
         let Trail {
             values: _,
+            marks: _,
             causes: _,
             phases: _,
             lits: _,
@@ -56,6 +69,7 @@ impl Trail {
     pub(crate) fn new(alloc: Global) -> Trail {
         Trail {
             values: Vec::new(alloc),
+            marks: Vec::new(alloc),
             causes: Vec::new(alloc),
             phases: Vec::new(alloc),
             lits: Vec::new(alloc),
@@ -68,6 +82,7 @@ impl Trail {
 /// Adds variables up to so many. They are open, and false is tried first.
 pub(crate) fn widen(trail: &mut Trail, variables: usize) -> Result<(), AllocError> {
     trail.values.resize(variables, Truth::Open)?;
+    trail.marks.resize(variables.saturating_mul(2), OPEN)?;
     trail.causes.resize(variables, NO_CAUSE)?;
     trail.phases.resize(variables, false)
 }
@@ -79,13 +94,24 @@ pub(crate) fn value(trail: &Trail, lit: Lit) -> Truth
     value_in(&trail.values, lit)
 }
 
+/// Whether a literal is marked as false.
 #[inline(always)]
 pub(crate) fn is_false(trail: &Trail, lit: Lit) -> bool {
-    match value(trail, lit) {
-        Truth::False => true,
-        Truth::True => false,
-        Truth::Open => false,
-    }
+    at(&trail.marks, lit.code as usize, OPEN).0 == FALSE.0
+}
+
+/// Whether a literal is marked as true.
+#[inline(always)]
+pub(crate) fn seems_true(trail: &Trail, lit: Lit) -> bool {
+    at(&trail.marks, lit.code as usize, OPEN).0 == TRUE.0
+}
+
+#[inline(always)]
+fn set_marks(trail: &mut Trail, lit: Lit, own: Mark, other: Mark)
+    ensures { trail.new.values ≡ trail.old.values }
+{
+    put(&mut trail.marks, lit.code as usize, own);
+    put(&mut trail.marks, lit.negated().code as usize, other);
 }
 
 #[inline(always)]
@@ -167,6 +193,7 @@ pub(crate) fn assign(trail: &mut Trail, lit: Lit, reason: u32) -> Result<(), All
     };
     trail.lits.push(lit)?;
     make_true(&mut trail.values, lit);
+    set_marks(trail, lit, TRUE, FALSE);
     put(&mut trail.causes, lit.variable() as usize, cause);
     Ok(())
 }
@@ -197,6 +224,7 @@ pub(crate) fn take_back(trail: &mut Trail, start: usize) -> Option<Lit> {
     let lit = trail.lits.pop()?;
     let variable = lit.variable() as usize;
     put(&mut trail.values, variable, Truth::Open);
+    set_marks(trail, lit, OPEN, OPEN);
     put(&mut trail.phases, variable, lit.code % 2 == 0);
     Some(lit)
 }

@@ -4,7 +4,7 @@ ghost use Rattle.sat.specs.Values.{open_count};
 use crate::clauses::Clauses;
 use crate::lit::Lit;
 use crate::tables::{at, put};
-use crate::trail::{NONE, Trail, assign, is_false, is_true, level_of, value};
+use crate::trail::{NONE, Trail, assign, is_false, level_of, seems_true, value};
 use crate::values::Truth;
 use std::alloc::{AllocError, Global};
 use std::mem;
@@ -123,11 +123,7 @@ pub(crate) fn best_pair(trail: &Trail, clause: &[Lit]) -> Pair {
 }
 
 /// Watches two literals of the clause with the next number.
-pub(crate) fn attach(
-    watches: &mut Watches,
-    number: u32,
-    pair: &Pair,
-) -> Result<(), AllocError> {
+pub(crate) fn attach(watches: &mut Watches, number: u32, pair: &Pair) -> Result<(), AllocError> {
     watches.pairs.push(pair.first.code ^ pair.second.code)?;
     if pair.second.code == NONE {
         return Ok(());
@@ -180,7 +176,7 @@ fn look(
     let other = Lit {
         code: at(pairs, number as usize, 0) ^ gone.code,
     };
-    if is_true(trail, other) {
+    if seems_true(trail, other) {
         return Ok(Outlook::Stays(other));
     }
     if let Some(lit) = replacement(trail, database.clause(number), other) {
@@ -216,7 +212,7 @@ fn sift(
     let mut found = None;
     for place in 0..list.as_slice().len() {
         let mut watch = at(list, place, NO_WATCH);
-        if found.is_none() && watch.clause < database.len() && !is_true(trail, watch.blocker) {
+        if !seems_true(trail, watch.blocker) && found.is_none() && watch.clause < database.len() {
             match look(database, trail, lists, pairs, watch.clause, gone)? {
                 Outlook::Stays(blocker) => watch.blocker = blocker,
                 Outlook::Moves => continue,

@@ -7,5 +7,5 @@ abbrev pub invariant-loop-place : goal.invariant-loop-place
 invariant-loop-place l =
     record {
       fewer : open_count l.trail.values.items ≤ open_count l.initial.trail.values.items;
-      found : IfSome l.found (λ number. number < length l.database)
+      found : IfSome l.found (λ number. number < length l.database);
     }
