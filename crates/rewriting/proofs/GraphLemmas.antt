@@ -1,5 +1,5 @@
 -- A graph with the rewritten netlist's values is a machine that does what the accepted netlist does.
-use Rattle.std.proofs.Common.{◌≡◌, ◌≢◌, ℕ, Bool, List, [], length, map, sym, ap, ◌∙◌, subst, arith}
+use Rattle.std.proofs.Common.{◌≡◌, ◌≢◌, Bool, List, [], length, sym, ap, ◌∙◌, subst, arith}
 use Rattle.std.specs.Prelude.{slice_index_or}
 use Rattle.std.proofs.lemmas.List.{length-map}
 use Rattle.std.proofs.lemmas.List.Elements.{All-map}
@@ -23,7 +23,7 @@ use Rattle.accepted_runs.proofs.MachineLemmas.{runs_are_machines}
 use Rattle.aig_core.specs.declared.building.Built.{Built}
 use Rattle.aig_core.specs.Answers.{FitsNetlist, HasValues}
 use Rattle.aig_core.specs.Building.{built, columns}
-use Rattle.rewriting.specs.Graphs.{graph_of, machine_of, IsGraphing}
+use Rattle.rewriting.specs.Graphs.{machine_of, IsGraphing}
 use Rattle.rewriting.specs.Laws.{GraphsShowTheSame}
 use Rattle.rewriting.specs.Rewriting.{rewritten, IsRewriting}
 use Rattle.rewriting.proofs.RewrittenLemmas.{same_interface, tells_as_much}

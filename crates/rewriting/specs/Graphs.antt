@@ -1,5 +1,5 @@
 -- The and-inverter graph of the netlist that an accepted one is rewritten into, and what a user has of it.
-use Rattle.std.specs.Prelude.{◌≡◌, ℕ, List, map}
+use Rattle.std.specs.Prelude.{◌≡◌, ℕ, map}
 use Rattle.netlist.specs.declared.parts.Parts.{Parts}
 use Rattle.care_sets.specs.Care.{CareSet}
 use Rattle.schedules.specs.Runs.{Run, IsRun, inputs_of, latches_of, outputs_of}

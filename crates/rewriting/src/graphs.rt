@@ -3,7 +3,6 @@
 ghost use Rattle.std.specs.Prelude.{◌≡◌, ◌<◌, ◌≤◌, length, IfOk, IfErr};
 ghost use Rattle.aig_core.specs.Answers.{FitsNetlist};
 ghost use Rattle.aig_core.specs.Building.{built, columns};
-ghost use Rattle.aig_core.specs.declared.fault.AigFault.{AigFault as Fault};
 ghost use Rattle.care_sets.specs.Care.{CareSet};
 ghost use Rattle.netlist.specs.Netlists.{IsNetlist};
 ghost use Rattle.netlist.specs.Walks.{IsLoopFree};
