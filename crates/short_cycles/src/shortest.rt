@@ -19,6 +19,17 @@ pub struct ShortCycle {
     pub way: Items<u32>,
 }
 
+impl ShortCycle {
+    /// The cycle and the way.
+    pub fn into_parts(self) -> (Items<u32>, Items<u32>)
+        ensures cycle { result.0 ≡ self.cycle }
+        ensures way { result.1 ≡ self.way }
+    {
+        let ShortCycle { cycle, way } = self;
+        (cycle, way)
+    }
+}
+
 impl Drop for ShortCycle {
     fn drop(self) {
         let ShortCycle { cycle: _, way: _ } = self;
