@@ -6,6 +6,8 @@
 #[cfg(test)]
 mod diagrams;
 #[cfg(test)]
+mod explained;
+#[cfg(test)]
 mod fixpoints;
 #[cfg(test)]
 mod formulas;
