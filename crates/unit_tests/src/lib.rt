@@ -16,9 +16,15 @@ mod graphs;
 #[cfg(test)]
 mod netlists;
 #[cfg(test)]
+mod operations;
+#[cfg(test)]
+mod plays;
+#[cfg(test)]
 mod rails;
 #[cfg(test)]
 mod refused;
+#[cfg(test)]
+mod simulators;
 #[cfg(test)]
 mod streams;
 #[cfg(test)]
