@@ -5,13 +5,11 @@ use Rattle.std.specs.List.{list_any}
 use Rattle.cyc_base.specs.declared.trit.Trit.{Trit}
 use Rattle.cyc_base.specs.declared.trit.Trit.TheVariants.{Zero, One, X}
 use Rattle.cyc_base.specs.Values.{bits}
-use Rattle.dual_rail.specs.WorkingLists.{IsWide}
 use Rattle.netlist.specs.declared.parts.Parts.{Parts}
 use Rattle.netlist.specs.Netlists.{IsSignal}
 use Rattle.netlist.specs.Fixpoint.{wire, fix}
 use Rattle.care_sets.specs.Care.{CareSet, columns}
 use Rattle.refusals.specs.Refusals.{care_vectors}
-use Rattle.verdict.specs.Enough.{IsLaid, enough}
 use Rattle.equal.specs.declared.pairs.Pair.{Pair}
 
 -- one value is 1, and the other 0
@@ -41,6 +39,3 @@ pub record IsPairOf (net : Parts) (pair : Pair) : Type 0 where
   pub here : IsSignal net pair.here
   pub there : IsSignal net pair.there
 
--- the limit is below what is enough for a netlist and pairs of its wires
-pub record IsBelowEnoughFor (net : Parts) (care : CareSet) (pairs : List Pair) (limit : ℕ) : Type 0 where
-  pub below : (w : ℕ) → IsWide (columns net) (IsLaid net care) w → limit < enough net care w + 8 * w * length pairs
