@@ -28,7 +28,7 @@ use Rattle.refusals.proofs.LawLemmas.{accepted_without_refusal}
 use Rattle.refusals.proofs.ObservedLemmas.{all_observes_gates}
 use Rattle.refusals.proofs.RefusalLemmas.{known-is_x}
 use Rattle.refusals.proofs.ShowingLemmas.{care_vector_decides}
-use Rattle.equal.specs.declared.pairs.Pair.{Pair}
+use Rattle.differences.specs.declared.pairs.Pair.{Pair}
 use Rattle.equal.specs.Differences.{by_name, differs, difference, AreAccepted}
 use Rattle.equal.specs.Joined.{joined_pairs, difference_netlist}
 use Rattle.equal.proofs.NameLemmas.{find_nowhere}

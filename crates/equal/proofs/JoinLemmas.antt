@@ -24,8 +24,8 @@ use Rattle.refusals.specs.Acceptance.{gate_sigs, AreDetermined}
 use Rattle.refusals.proofs.RefusalLemmas.{column_known, gate_sig_at, length-gate_sigs}
 use Rattle.care_sets.specs.Care.{columns}
 use Rattle.unroll.specs.Marks.{mark}
-use Rattle.equal.specs.declared.pairs.Pair.{Pair}
-use Rattle.equal.specs.Pairs.{are_apart, is_apart_at, some_is_apart, IsPairOf}
+use Rattle.differences.specs.declared.pairs.Pair.{Pair}
+use Rattle.differences.specs.Pairs.{are_apart, is_apart_at, some_is_apart, IsPairOf}
 use Rattle.equal.specs.Matching.{name_of, init_eq, latch_named, has_latch, is_output, output_names}
 use Rattle.equal.specs.Differences.{number_or_0, columns_by_name, by_name, signal_named, source_named, pair_of, output_pairs, latch_pairs, are_different, differs_at, differs}
 use Rattle.equal.specs.Joined.{moved_by, moved, moved_gate_by, moved_gates, moved_pair_by, joined, joined_pairs}

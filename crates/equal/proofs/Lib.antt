@@ -5,3 +5,5 @@ pub mod LoopLemmas
 pub mod JoinLemmas
 pub mod TellingLemmas
 pub mod DifferenceLemmas
+pub mod CompareLemmas
+pub mod BoundLemmas

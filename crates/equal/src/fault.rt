@@ -1,4 +1,9 @@
+ghost use Rattle.std.specs.Prelude.{◌≡◌, ℕ};
+ghost use Rattle.equal.specs.declared.fault.EqualFault.TheVariants.{Memory};
+
+use std::alloc::AllocError;
 use thiserror::Error;
+use verdict::DecideFault;
 
 /// Why two netlists aren't compared.
 #[derive(Clone, Copy, Debug, PartialEq, Eq, Error)]
@@ -8,4 +13,23 @@ pub enum EqualFault {
     NodeLimit { nodes: u32 },
     #[error("out of memory")]
     Memory,
+}
+
+impl From<AllocError> for EqualFault {
+    ghost from_gives = { λ _ fault. fault ≡ Memory };
+
+    fn from(_e: AllocError) -> EqualFault {
+        EqualFault::Memory
+    }
+}
+
+/// The same fault of a comparison.
+pub(crate) fn fault_of(fault: DecideFault) -> EqualFault
+    ensures limit { (n : ℕ) → fault ≡ DecideFault.NodeLimit n → result ≡ EqualFault.NodeLimit n }
+    ensures memory { fault ≡ DecideFault.Memory → result ≡ EqualFault.Memory }
+{
+    match fault {
+        DecideFault::NodeLimit { nodes } => EqualFault::NodeLimit { nodes },
+        DecideFault::Memory => EqualFault::Memory,
+    }
 }

@@ -5,15 +5,9 @@ ghost use Rattle.equal.specs.Differences.{column_named, columns_by_name, signal_
 
 use crate::matching::latch_of;
 use cyc_base::{Name, Sig};
+use differences::Pair;
 use netlist::Netlist;
 use std::alloc::{AllocError, Global};
-
-/// Two wires.
-#[derive(Clone, Copy, Debug, PartialEq, Eq)]
-pub struct Pair {
-    pub here: Sig,
-    pub there: Sig,
-}
 
 /// The column of this name.
 #[tactic(auto, using(crate::proofs::NameLemmas::column_found, crate::proofs::NameLemmas::column_behind, crate::proofs::NameLemmas::column_absent))]

@@ -8,8 +8,9 @@ ghost use Rattle.equal.specs.Differences.{are_different as are_other, by_name as
 ghost use Rattle.equal.specs.Places.{answer_at};
 
 use crate::answer::Answer;
-use crate::pairs::{Pair, find_columns, latch_pairs, output_pairs};
+use crate::pairs::{find_columns, latch_pairs, output_pairs};
 use cyc_base::{Bits, Sig, Trit};
+use differences::Pair;
 use netlist::Netlist;
 use std::alloc::{AllocError, Global};
 use ternary_run::settle;

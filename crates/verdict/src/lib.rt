@@ -28,7 +28,10 @@ mod steps;
 mod suspects;
 mod verdict;
 
+pub use care::{assume_on, invariant_on};
 pub use deciding::decide;
 pub use fault::DecideFault;
 pub use refusals::Observe;
+pub use sets::least_of;
+pub use solving::{Fixpoint, solve_beside};
 pub use verdict::Verdict;

@@ -1,5 +1,5 @@
--- Pairs of wires of one netlist, and the care vectors on which two of a pair differ.
-use Rattle.std.specs.Prelude.{◌<◌, ◌+◌, ◌*◌, ℕ, Bool, true, false, List, length, find}
+-- Pairs of wires of one netlist, and the care vectors on which the two of a pair differ.
+use Rattle.std.specs.Prelude.{Bool, true, false, List, find}
 use Rattle.std.specs.declared.option.Option.{Option}
 use Rattle.std.specs.List.{list_any}
 use Rattle.cyc_base.specs.declared.trit.Trit.{Trit}
@@ -8,9 +8,9 @@ use Rattle.cyc_base.specs.Values.{bits}
 use Rattle.netlist.specs.declared.parts.Parts.{Parts}
 use Rattle.netlist.specs.Netlists.{IsSignal}
 use Rattle.netlist.specs.Fixpoint.{wire, fix}
-use Rattle.care_sets.specs.Care.{CareSet, columns}
+use Rattle.care_sets.specs.Care.{CareSet}
 use Rattle.refusals.specs.Refusals.{care_vectors}
-use Rattle.equal.specs.declared.pairs.Pair.{Pair}
+use Rattle.differences.specs.declared.pairs.Pair.{Pair}
 
 -- one value is 1, and the other 0
 abbrev pub are_apart : Trit → Trit → Bool
@@ -38,4 +38,3 @@ least_apart net care pairs = find (some_is_apart net pairs) (care_vectors net ca
 pub record IsPairOf (net : Parts) (pair : Pair) : Type 0 where
   pub here : IsSignal net pair.here
   pub there : IsSignal net pair.there
-
