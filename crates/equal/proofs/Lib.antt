@@ -6,4 +6,5 @@ pub mod JoinLemmas
 pub mod TellingLemmas
 pub mod DifferenceLemmas
 pub mod CompareLemmas
+pub mod ValidLemmas
 pub mod BoundLemmas

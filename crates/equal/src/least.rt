@@ -1,7 +1,9 @@
 //! The least care vector on which two netlists differ that are accepted.
 
-ghost use Rattle.std.specs.Prelude.{◌≡◌, ◌≤◌, ◌+◌, ◌-◌, ◌⊎◌, ◌++◌, [], None, suc, true, length, map, All, IfOk, IfErr};
-ghost use Rattle.netlist.specs.Netlists.{count};
+ghost use Rattle.std.specs.Prelude.{◌≡◌, ◌≤◌, ◌+◌, ◌-◌, ◌⊎◌, ◌++◌, [], Some, None, Option, Bool, List, suc, true, length, map, option_map, All, IfOk, IfErr};
+ghost use Rattle.cyc_base.specs.declared.sig.Sig.{Sig as Signal};
+ghost use Rattle.refusals.specs.declared.refusal.Refusal.TheVariants.{Undetermined};
+ghost use Rattle.netlist.specs.Netlists.{count, IsNetlist};
 ghost use Rattle.bdd_ops.specs.Least.{IsLayout};
 ghost use Rattle.fixpoint.specs.Orders.{order as order_of};
 ghost use Rattle.care_sets.specs.Care.{columns as column_count};
@@ -24,7 +26,7 @@ use cyc_base::{Bits, MAX_NODES};
 use differences::{Pair, least_apart};
 use fixpoint::order;
 use loops::{find_blocks, find_cut};
-use netlist::{Gate, Netlist};
+use netlist::{Gate, Netlist, PartsFault};
 use refusals::Refusal;
 use std::alloc::{AllocError, Global};
 use unroll::mark;
@@ -106,14 +108,22 @@ fn joined_pairs(
     moved_pairs(alloc, columns, a.count(), &own)
 }
 
+/// The parts of these netlists are refused for want of memory alone.
+fn want_of_memory(_fault: PartsFault) -> AllocError
+    requires { _fault ≡ PartsFault.Memory }
+{
+    AllocError
+}
+
 /// The netlist of the first one's columns and these gates.
 fn netlist_of(alloc: Global, a: &Netlist, gates: Vec<Gate>) -> Result<Netlist, AllocError>
+    requires { IsNetlist record { name = a.now.name; inputs = a.now.inputs; clock = a.now.clock; latches = a.now.latches; gates = gates.items; outputs = [] } }
     ensures { IfOk result (λ net. net ≡ record { name = a.now.name; inputs = a.now.inputs; clock = a.now.clock; latches = a.now.latches; gates = gates.items; outputs = [] }) }
 {
     let parts = joined_parts(alloc, a, gates)?;
     match Netlist::new(alloc, parts) {
         Ok(net) => Ok(net),
-        Err(_) => Err(AllocError),
+        Err(fault) => Err(want_of_memory(fault)),
     }
 }
 
@@ -124,10 +134,12 @@ fn joined_netlist(
     b: &Netlist,
     columns: &[u32],
 ) -> Result<Netlist, AllocError>
+    requires matched { unmatched a.now b.now ≡ None }
     requires columns { columns.now ≡ columns_by_name a.now b.now }
     requires fits { count a.now + length b.now.gates ≤ 4294967295 }
     ensures { IfOk result (λ net. net ≡ joined a.now b.now []) }
 {
+    let _ = b.gates();
     let mark = mark(alloc, a)?;
     let gates = joined_gates(alloc, a, b, columns, &mark)?;
     netlist_of(alloc, a, gates)
@@ -142,7 +154,7 @@ fn difference_gates(
     pairs: &[Pair],
 ) -> Result<Vec<Gate>, AllocError>
     requires columns { columns.now ≡ columns_by_name a.now b.now }
-    requires fits { count a.now + suc (length b.now.gates + length pairs.now) ≤ 4294967295 }
+    requires fits { count a.now + suc (length b.now.gates + length pairs.now) ≤ 4294967294 }
     ensures { IfOk result (λ gates. gates.items ≡ a.now.gates ++ (moved_gates a.now b.now ++ telling_gates a.now (length b.now.gates) pairs.now)) }
 {
     let mark = mark(alloc, a)?;
@@ -159,13 +171,29 @@ fn difference_netlist(
     columns: &[u32],
     pairs: &[Pair],
 ) -> Result<Netlist, AllocError>
+    requires matched { unmatched a.now b.now ≡ None }
     requires columns { columns.now ≡ columns_by_name a.now b.now }
     requires pairs { pairs.now ≡ joined_pairs_of a.now b.now }
-    requires fits { count a.now + suc (length b.now.gates + length pairs.now) ≤ 4294967295 }
+    requires fits { count a.now + suc (length b.now.gates + length pairs.now) ≤ 4294967294 }
     ensures { IfOk result (λ net. net ≡ difference_netlist_of a.now b.now) }
 {
+    let _ = a.gates();
+    let _ = b.gates();
     let gates = difference_gates(alloc, a, b, columns, pairs)?;
     netlist_of(alloc, a, gates)
+}
+
+/// The vector of a refusal for an unknown gate.
+fn early_of(alloc: Global, refusal: &Refusal) -> Result<Early, AllocError>
+    ensures { IfOk result (λ early. (s : Signal) (least : Option (List Bool)) → Some refusal.now ≡ option_map (λ v. Undetermined v s) least → IsFound least early) }
+{
+    match refusal {
+        Refusal::Undetermined { vector, .. } => {
+            let copied = vector.items().to_vec(alloc)?;
+            Ok(Early::Found(Some(Bits::of(copied))))
+        }
+        _ => Ok(Early::Nothing),
+    }
 }
 
 /// What refuses the netlist that tells, on diagrams of its own: a vector on which its last gate is unknown, if anything
@@ -173,16 +201,16 @@ fn difference_netlist(
 fn refusal_within(alloc: Global, net: &Netlist, care: &Care, limit: u32) -> Result<Early, AllocError>
     requires care { IsCareOf net.now care.now }
     requires limit { limit ≤ MAX_NODES }
-    ensures { IfOk result (λ early. IsKnownEarly net.now care.now early) }
+    ensures { IfOk result (IsKnownEarly net.now care.now) }
 {
     let _ = net.gates();
     let mut d = Diagrams::new(alloc, 0, 1)?;
     let blocks = find_blocks(alloc, net)?;
     let cut = find_cut(alloc, net, &blocks)?;
-    match decide(alloc, &mut d, net, &blocks, &cut, care, limit, Observe::All) {
+    let decision = decide(alloc, &mut d, net, &blocks, &cut, care, limit, Observe::All);
+    match &decision {
         Ok(Verdict::Accepted { .. }) => Ok(Early::Found(None)),
-        Ok(Verdict::Refused(Refusal::Undetermined { vector, .. })) => Ok(Early::Found(Some(vector))),
-        Ok(Verdict::Refused(_)) => Ok(Early::Nothing),
+        Ok(Verdict::Refused(refusal)) => early_of(alloc, refusal),
         Err(DecideFault::NodeLimit { .. }) => Ok(Early::Nothing),
         Err(DecideFault::Memory) => Err(AllocError),
     }
@@ -190,13 +218,13 @@ fn refusal_within(alloc: Global, net: &Netlist, care: &Care, limit: u32) -> Resu
 
 /// Whether there are numbers for all signals of the netlist that tells.
 fn fits(a: &Netlist, b: &Netlist, pairs: usize) -> bool
-    ensures { result ≡ true → count a.now + suc (length b.now.gates + pairs) ≤ 4294967295 }
+    ensures { result ≡ true → count a.now + suc (length b.now.gates + pairs) ≤ 4294967294 }
 {
-    if pairs >= 4_294_967_295 {
+    if pairs >= 4_294_967_294 {
         return false;
     }
     let signals = u64::from(a.count()) + u64::from(b.gates());
-    signals + (pairs as u64) < 4_294_967_295
+    signals + (pairs as u64) < 4_294_967_294
 }
 
 /// The least vector on which they differ, if the netlist that tells is decided within a budget.
@@ -212,7 +240,7 @@ fn early_difference(
     requires matched { unmatched a.now b.now ≡ None }
     requires columns { columns.now ≡ columns_by_name a.now b.now }
     requires pairs { pairs.now ≡ joined_pairs_of a.now b.now }
-    requires fits { count a.now + suc (length b.now.gates + length pairs.now) ≤ 4294967295 }
+    requires fits { count a.now + suc (length b.now.gates + length pairs.now) ≤ 4294967294 }
     requires care { IsCareOf a.now care.now }
     requires accepted { AreAccepted a.now b.now care.now }
     requires limit { limit ≤ MAX_NODES }
