@@ -1,5 +1,5 @@
 -- The states of vectors on rails.
-use Rattle.std.proofs.Common.{◌≡◌, ℕ, Bool, List, length, drop, ap, sym, ◌∙◌}
+use Rattle.std.proofs.Common.{◌≡◌, Bool, List, length, drop, ap, sym, ◌∙◌}
 use Rattle.std.proofs.lemmas.List.{drop-map}
 use Rattle.bdd_store.specs.Arena.{Arena}
 use Rattle.cyc_base.specs.Values.{bit, bits}

@@ -1,5 +1,5 @@
 -- What the least vector of pairs says, where rails stand for the fixpoint and a set for the care vectors.
-use Rattle.std.proofs.Common.{◌≡◌, ℕ, zero, suc, ◌+◌, ◌<◌, ◌≤◌, Bool, true, false, ◌&&◌, ◌||◌, List, [], ◌∷◌, length, map, get_or, refl, sym, ap, ap₂, subst, ◌∙◌, arith, true≢false, Ok, Err, Result}
+use Rattle.std.proofs.Common.{◌≡◌, ℕ, suc, ◌+◌, ◌<◌, Bool, true, false, ◌&&◌, ◌||◌, List, [], ◌∷◌, length, map, get_or, refl, sym, ap, ap₂, ◌∙◌, arith, true≢false, Ok, Err, Result}
 use Rattle.std.specs.Prelude.{find, IfOk}
 use Rattle.std.specs.List.{All, list_any}
 use Rattle.std.proofs.lemmas.List.{length-append}
@@ -10,7 +10,7 @@ use Rattle.cyc_base.specs.declared.trit.Trit.{Trit}
 use Rattle.cyc_base.specs.Values.{bits}
 use Rattle.cyc_base.specs.Vectors.{vectors}
 use Rattle.dual_rail.specs.declared.rail.Rails.{Rails}
-use Rattle.dual_rail.specs.Rails.{AreRailsOf, trit_of, value_of, values_of}
+use Rattle.dual_rail.specs.Rails.{AreRailsOf, trit_of, value_of}
 use Rattle.dual_rail.specs.WorkingLists.{IsWide}
 use Rattle.dual_rail.proofs.SurelyLemmas.{length-values}
 use Rattle.netlist.specs.declared.parts.Parts.{Parts}
@@ -31,7 +31,7 @@ use Rattle.verdict.proofs.SetLemmas.{find-alike}
 use Rattle.differences.specs.declared.pairs.Pair.{Pair}
 use Rattle.differences.specs.Comparisons.{IsLaidBy}
 use Rattle.differences.specs.Pairs.{are_apart, is_apart_at, some_is_apart, least_apart, IsPairOf}
-use Rattle.differences.specs.Sets.{TellsBy, AreFixedBy, HasRails, differ, pair_differs, some_differ, BoundsPairs}
+use Rattle.differences.specs.Sets.{TellsBy, AreFixedBy, HasRails, pair_differs, some_differ, BoundsPairs}
 use Rattle.differences.proofs.LaidLemmas.{above-bounded}
 
 -- ---- values

@@ -1,7 +1,6 @@
 -- What a comparison costs, added up, and why it finds the diagrams full.
-use Rattle.std.proofs.Common.{◌≡◌, inl, inr, ℕ, ◌+◌, ◌*◌, ◌<◌, ◌≤◌, List, [], ◌∷◌, Option, Some, None, Err, Result, length, subst, ◌∙◌, arith}
+use Rattle.std.proofs.Common.{◌≡◌, inl, inr, ℕ, ◌+◌, ◌*◌, ◌<◌, ◌≤◌, List, Option, Some, None, Err, Result, length, subst, ◌∙◌, arith}
 use Rattle.std.specs.Prelude.{IsSomeAnd}
-use Rattle.std.specs.List.{sum_by}
 use Rattle.std.specs.Option.{option_map_or}
 use Rattle.std.proofs.lemmas.List.Sums.{get_or-le-sum_by}
 use Rattle.std.proofs.Math.Nat.{mul-le-mul_left, mul-le-mul_right}
@@ -19,7 +18,7 @@ use Rattle.netlist.specs.Netlists.{no_gate}
 use Rattle.fixpoint.specs.Working.{HasLargeCover, effort}
 use Rattle.care_sets.specs.declared.model.CareModel.{CareModel}
 use Rattle.care_sets.specs.Care.{CareSet, columns}
-use Rattle.verdict.specs.Causes.{HasCoverOver, HasModelOver, IsOutOfNodes, IsStoreFor}
+use Rattle.verdict.specs.Causes.{HasCoverOver, IsOutOfNodes, IsStoreFor}
 use Rattle.verdict.specs.Costs.{assume_effort, invariant_effort}
 use Rattle.verdict.specs.Enough.{enough}
 use Rattle.differences.specs.declared.pairs.Pair.{Pair}

@@ -1,5 +1,5 @@
 -- Functions that are made of those of a comparison, where the columns are laid on the variables in some order.
-use Rattle.std.proofs.Common.{◌≡◌, inl, inr, ℕ, ◌<◌, ◌≤◌, Bool, true, false, ◌&&◌, List, length, refl, sym, ap, ap₂, subst, ◌∙◌, arith, Option, Some}
+use Rattle.std.proofs.Common.{◌≡◌, inl, inr, ℕ, ◌<◌, ◌≤◌, Bool, true, false, ◌&&◌, List, length, refl, sym, ap, ap₂, subst, ◌∙◌, arith}
 use Rattle.std.specs.Prelude.{IfSome}
 use Rattle.std.proofs.lemmas.List.{get_or-map}
 use Rattle.bdd_store.specs.declared.node.Node.{Node}
@@ -182,7 +182,9 @@ module _ (order : List ℕ) (net : Parts) (care : CareSet) (layout : IsLayout (c
           let r : Rails = rails_at rails signal in
           let m = made-signal net care signal within true in
           record {
-            of = m.of; listed = m.listed; by = m.by;
+            of = m.of;
+            listed = m.listed;
+            by = m.by;
             same = λ v long. sym (one-of (den a r.one (by_variable order v)) (den a r.zero (by_variable order v))) ∙ ap (is_bit true) (signal-value signal within v long) ∙ m.same v long;
           }
 
@@ -192,7 +194,9 @@ module _ (order : List ℕ) (net : Parts) (care : CareSet) (layout : IsLayout (c
           let proper : AreRailsOf a r = rails_at-proper a rails fixed.proper signal in
           let m = made-signal net care signal within false in
           record {
-            of = m.of; listed = m.listed; by = m.by;
+            of = m.of;
+            listed = m.listed;
+            by = m.by;
             same = λ v long.
                 sym (zero-of (den a r.one (by_variable order v)) (den a r.zero (by_variable order v)) (proper.proper (by_variable order v))) ∙ ap (is_bit false) (signal-value signal within v long) ∙ m.same v long;
           }

@@ -1,7 +1,10 @@
 -- The lesser of two vectors, and what it is the first to pass.
-use Rattle.std.proofs.Common.{◌≡◌, inl, inr, ℕ, zero, suc, ◌<◌, ◌≤◌, Bool, true, false, ◌||◌, List, [], ◌∷◌, length, take, get_or, Option, Some, None, refl, sym, ap, subst, ◌∙◌, arith, true≢false}
+use Rattle.std.proofs.Common.{◌≡◌, inl, inr, ℕ, zero, suc, ◌<◌, ◌≤◌, Bool, true, false, not, ◌||◌, List, [], ◌∷◌, length, take, get_or, Some, None, refl, sym, ap, subst, ◌∙◌, arith, true≢false}
 use Rattle.std.specs.Prelude.{find}
+use Rattle.std.specs.Bool.{beq}
+use Rattle.std.proofs.Math.Dec.{leb}
 use Rattle.std.proofs.lemmas.Bool.{or_cases}
+use Rattle.std.proofs.lemmas.Bool.Decides.{leb_tells}
 use Rattle.bdd_ops.specs.Least.{IsLeast}
 use Rattle.cyc_base.specs.Vectors.{vectors, AtMost}
 use Rattle.refusals.proofs.FirstLemmas.{found_passes, found_wide, found_least, none_passes}
@@ -26,7 +29,7 @@ behind-same x y v w same is = subst (λ z. AtMost (x ∷ v) (z ∷ w)) same (beh
 
 -- at the first place where they differ the first has 0
 pub differs-below : (v w : List Bool) (k : ℕ) → k < length v → k < length w → take k v ≡ take k w → get_or v k false ≡ false → get_or w k false ≡ true → AtMost v w
-unfolding head-of, tail-of
+unfolding head-of tail-of
 differs-below [] w k inside there same low high = tt
 differs-below (x ∷ v) [] k inside there same low high = absurd (omega (arith, there))
 differs-below (x ∷ v) (y ∷ w) zero inside there same low high =
@@ -36,7 +39,7 @@ differs-below (x ∷ v) (y ∷ w) (suc k) inside there same low high =
 
 -- the first begins the second
 pub begins-at_most : (v w : List Bool) (k : ℕ) → length v ≤ k → length v ≤ length w → take k v ≡ take k w → AtMost v w
-unfolding head-of, tail-of
+unfolding head-of tail-of
 begins-at_most [] w k all more same = tt
 begins-at_most (x ∷ v) [] k all more same = absurd (omega (arith, more))
 begins-at_most (x ∷ v) (y ∷ w) zero all more same = absurd (omega (arith, all))
@@ -54,6 +57,20 @@ at_most-trans (false ∷ u) (true ∷ v) (true ∷ w) first second = tt
 at_most-trans (true ∷ u) (false ∷ v) w first second = absurd first
 at_most-trans (true ∷ u) (true ∷ v) (false ∷ w) first second = absurd second
 at_most-trans (true ∷ u) (true ∷ v) (true ∷ w) first second = at_most-trans u v w first second
+
+-- a bit that isn't the other
+pub other-bit : (x y : Bool) → not (beq x y) ≡ true → y ≡ true → x ≡ false
+other-bit false y apart is = refl
+other-bit true true apart is = absurd (true≢false (sym apart))
+other-bit true false apart is = absurd (true≢false (sym is))
+
+pub one-bit : (x y : Bool) → not (beq x y) ≡ true → y ≡ false → x ≡ true
+one-bit true y apart is = refl
+one-bit false true apart is = absurd (true≢false is)
+one-bit false false apart is = absurd (true≢false (sym apart))
+
+pub longer : (m n : ℕ) → leb m n ≡ false → n < m
+longer m n is = elim (leb_tells m n) [ inl there ↦ absurd (true≢false (sym there.0 ∙ is)) | inr above ↦ above.1 ]
 
 -- ---- the first to pass one of two tests
 

@@ -1,7 +1,6 @@
 -- Where rails differ, in diagrams that keep their nodes.
-use Rattle.std.proofs.Common.{◌≡◌, ℕ, ◌≤◌, Bool, ◌&&◌, ◌||◌, List, [], ◌∷◌, length, get_or, refl, sym, ap, ap₂, subst, ◌∙◌, arith}
+use Rattle.std.proofs.Common.{◌≡◌, ℕ, ◌≤◌, Bool, ◌&&◌, ◌||◌, List, sym, ap, ap₂, subst, ◌∙◌, arith}
 use Rattle.std.specs.Prelude.{find}
-use Rattle.std.specs.List.{All, list_any}
 use Rattle.bdd_store.specs.declared.node.Node.{Node}
 use Rattle.bdd_store.specs.Arena.{Arena, IsNodeOf}
 use Rattle.bdd_store.specs.Growth.{KeepsNodes}
@@ -12,7 +11,7 @@ use Rattle.cyc_base.specs.Vectors.{vectors}
 use Rattle.dual_rail.specs.declared.rail.Rails.{Rails}
 use Rattle.dual_rail.specs.Rails.{AreRailsOf}
 use Rattle.verdict.proofs.SetLemmas.{find-alike}
-use Rattle.differences.specs.Sets.{is_above, differ, BoundsAbove}
+use Rattle.differences.specs.Sets.{is_above, differ, BoundsAbove, BoundsPair}
 
 -- ---- a function by other nodes
 
@@ -42,3 +41,6 @@ module _ {s t : Arena} (keeps : KeepsNodes s t) (set : Node) (in_set : IsNodeOf 
         (λ v. ap₂ (λ x y. x && y) (keeps.function here.one v first.one) (keeps.function there.zero v second.zero)) bounds.first;
     second = bounded-same t.vars s.vars (is_above t set here there) (is_above s set here there) keeps.vars (above-kept here there first second) bounds.second;
   }
+
+  pub pair-kept : (here there : Rails) → AreRailsOf s here → AreRailsOf s there → {w : ℕ} → BoundsPair s set here there w → BoundsPair t set here there w
+  pair-kept here there first second bounds = record { above = bounds-kept here there first second bounds.above; below = bounds-kept there here second first bounds.below }

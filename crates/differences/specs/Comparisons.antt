@@ -12,7 +12,6 @@ use Rattle.netlist.specs.declared.parts.Parts.{Parts}
 use Rattle.loops.specs.Found.{loops_of}
 use Rattle.fixpoint.specs.Working.{IsGatePart, effort}
 use Rattle.isolation.specs.Columns.{AreColumns}
-use Rattle.care_sets.specs.Binding.{IsCareOf}
 use Rattle.care_sets.specs.Care.{CareSet, columns, state_of, is_care_vector}
 use Rattle.verdict.specs.Causes.{HasCoverOver, IsStoreFor}
 use Rattle.verdict.specs.Costs.{assume_effort, invariant_effort}

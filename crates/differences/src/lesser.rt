@@ -19,21 +19,12 @@ fn is_at_most(v: &[bool], w: &[bool]) -> bool
 
 /// The lesser of two vectors, or the one that is there: it is the first that passes one of two tests, where each is the
 /// first to pass its own.
-pub(crate) fn lesser(
-    first: Option<Vec<bool>>,
-    second: Option<Vec<bool>>,
-) -> Option<Vec<bool>>
+pub(crate) fn lesser(first: Option<Vec<bool>>, second: Option<Vec<bool>>) -> Option<Vec<bool>>
     ensures { (width : ℕ) (p q : List Bool → Bool) → option_map (λ v. v.items) first ≡ find p (vectors width) → option_map (λ v. v.items) second ≡ find q (vectors width) →
         option_map (λ v. v.items) result ≡ find (λ v. p v || q v) (vectors width) }
 {
     match (first, second) {
-        (Some(v), Some(w)) => {
-            if is_at_most(&v, &w) {
-                Some(v)
-            } else {
-                Some(w)
-            }
-        }
+        (Some(v), Some(w)) => { if is_at_most(&v, &w) { Some(v) } else { Some(w) } }
         (Some(v), None) => Some(v),
         (None, found) => found,
     }

@@ -17,12 +17,7 @@ use std::alloc::Global;
 use verdict::least_of;
 
 /// The vectors of a set at which the first rails are 1 and the second 0.
-fn above(
-    d: &mut Diagrams,
-    set: Node,
-    here: Rails,
-    there: Rails,
-) -> Result<Node, StoreFault>
+fn above(d: &mut Diagrams, set: Node, here: Rails, there: Rails) -> Result<Node, StoreFault>
     requires set { IsNodeOf d.old set }
     requires here { AreRailsOf d.old here }
     requires there { AreRailsOf d.old there }

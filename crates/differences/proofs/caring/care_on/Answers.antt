@@ -49,15 +49,21 @@ state-at c values v are =
     let first : ℕ = c.inputs-first.result in
     state-values c.args.net.now c.args.d.now rails (take (length rails - first) (drop first rails)) values v (take_rest rails first ∙ ap (λ n. drop n rails) c.inputs-first.ensures.inputs) are
 
-counted : (c : After-and) (values v : List Bool) → values_of c.args.d.now c.args.rails.now v ≡ bits values → conjunction c.assume_on.new.d c.in_ok-inside.inside c.in_ok-allowed.allowed v ≡ is_care_vector c.args.net.now c.args.care.now values
-counted c values v are =
+abbrev TellsState : After-and → Type 0
+TellsState c = (values v : List Bool) → values_of c.args.d.now c.args.rails.now v ≡ bits values →
+    values_of c.args.d.now (take (length c.args.rails.now - c.inputs-first.result) (drop c.inputs-first.result c.args.rails.now)) v ≡ bits (state_of c.args.net.now values)
+
+counted : (c : After-and) → TellsState c → (values v : List Bool) → values_of c.args.d.now c.args.rails.now v ≡ bits values → conjunction c.assume_on.new.d c.in_ok-inside.inside c.in_ok-allowed.allowed v ≡ is_care_vector c.args.net.now c.args.care.now values
+counted c state values v are =
     ap₂ (λ x y. x && y)
     (c.assume_on.ensures.grows.keeps.function c.in_ok-inside.inside v c.in_ok-inside.ensures.node
-    ∙ c.in_ok-inside.ensures.inside (state_of c.args.net.now values) v (state-at c values v are))
+    ∙ c.in_ok-inside.ensures.inside (state_of c.args.net.now values) v (state values v are))
     (c.in_ok-allowed.ensures.allowed values v (values_of-kept c.invariant_on.ensures.grows.keeps c.args.rails.now c.requires.rails v ∙ are))
 
 pub returns-clause-counts : goal.returns-clause-counts
-returns-clause-counts g values v are = g.in_ok-and.ensures.function v ∙ counted (goal.at.returns-clause-counts g).After-and values v are
+returns-clause-counts g values v are =
+    let at = goal.at.returns-clause-counts g in
+    g.in_ok-and.ensures.function v ∙ counted at.After-and (state-at at.After-invariant_on) values v are
 
 -- ---- what it does to the diagrams, call by call
 
@@ -84,16 +90,16 @@ after-allowed : (c : After-assume_on) → GrowsWithin c.invariant_on.result c.ar
 after-allowed c before = within_then before (within_moved (allowed-fits c) c.assume_on.ensures.grows)
 
 -- the set is that of the care vectors
-set-fits : (c : After-and) (w : ℕ) → IsWideOnColumns c.args.net.now c.args.care.now c.args.d.now c.args.rails.now w →
+set-fits : (c : After-and) → TellsState c → (w : ℕ) → IsWideOnColumns c.args.net.now c.args.care.now c.args.d.now c.args.rails.now w →
     nodes c.assume_on.new.d.vars (conjunction c.assume_on.new.d c.in_ok-inside.inside c.in_ok-allowed.allowed) ≤ w
-set-fits c w is =
+set-fits c state w is =
     let keeps : KeepsNodes c.args.d.now c.assume_on.new.d = KeepsNodes-chain c.invariant_on.ensures.grows.keeps c.assume_on.ensures.grows.keeps in
     made-one is.order c.args.net.now c.args.care.now is.layout is.wide c.assume_on.new.d.vars (keeps.vars ∙ is.vars) (conjunction c.assume_on.new.d c.in_ok-inside.inside c.in_ok-allowed.allowed)
-    (made-listed (SaysCare (λ v. refl)) (λ v long. counted c v (by_variable is.order v) (is.are_columns.values v (long ∙ sym is.vars))))
+    (made-listed (SaysCare (λ v. refl)) (λ v long. counted c state v (by_variable is.order v) (is.are_columns.values v (long ∙ sym is.vars))))
 
-after-set : (c : After-and) → GrowsWithin c.assume_on.result c.args.d.now c.assume_on.new.d (HasModelOver c.args.care.now) (IsWideOnColumns c.args.net.now c.args.care.now c.args.d.now c.args.rails.now) (2 * invariant_effort c.args.care.now + 2 * assume_effort c.args.care.now) →
+after-set : (c : After-and) → TellsState c → GrowsWithin c.assume_on.result c.args.d.now c.assume_on.new.d (HasModelOver c.args.care.now) (IsWideOnColumns c.args.net.now c.args.care.now c.args.d.now c.args.rails.now) (2 * invariant_effort c.args.care.now + 2 * assume_effort c.args.care.now) →
     GrowsWithin c.and.result c.args.d.now c.and.new.self (HasModelOver c.args.care.now) (IsWideOnColumns c.args.net.now c.args.care.now c.args.d.now c.args.rails.now) (care_cost c.args.care.now)
-after-set c before = within_then before (within_only (within_one (set-fits c) c.and.ensures.grows))
+after-set c state before = within_then before (within_only (within_one (set-fits c state) c.and.ensures.grows))
 
 pub returns-in_err-inside-clause-grows : goal.returns-in_err-inside-clause-grows
 returns-in_err-inside-clause-grows g = within_more (omega arith) (within_refused g.in_err-inside.was g.from_residual.ensures.1 (after-inside (goal.at.returns-in_err-inside-clause-grows g).After-invariant_on))
@@ -106,9 +112,9 @@ returns-in_err-allowed-clause-grows g =
 pub returns-in_err-and-clause-grows : goal.returns-in_err-and-clause-grows
 returns-in_err-and-clause-grows g =
     let at = goal.at.returns-in_err-and-clause-grows g in
-    within_refused g.in_err-and.was g.from_residual-in_err-and.ensures.1 (after-set at.After-and (after-allowed at.After-assume_on (after-inside at.After-invariant_on)))
+    within_refused g.in_err-and.was g.from_residual-in_err-and.ensures.1 (after-set at.After-and (state-at at.After-invariant_on) (after-allowed at.After-assume_on (after-inside at.After-invariant_on)))
 
 pub returns-clause-grows : goal.returns-clause-grows
 returns-clause-grows g =
     let at = goal.at.returns-clause-grows g in
-    within_answered (after-set at.After-and (after-allowed at.After-assume_on (after-inside at.After-invariant_on)))
+    within_answered (after-set at.After-and (state-at at.After-invariant_on) (after-allowed at.After-assume_on (after-inside at.After-invariant_on)))

@@ -1,9 +1,8 @@
-use Rattle.std.proofs.Common.{◌≡◌, ◌∙◌, ◌+◌, ◌*◌, ◌≤◌, ℕ, inl, inr, Bool, List, length, sym, subst, arith}
+use Rattle.std.proofs.Common.{◌≡◌, ◌∙◌, inl, inr, Bool, List, length, sym, subst, arith}
 use Rattle.bdd_store.proofs.GrowthLemmas.{adds_then, adds_caused, adds_moved, adds_more, adds_refused, within_only}
 use Rattle.bdd_ops.specs.Least.{by_variable}
 use Rattle.cyc_base.specs.Values.{bits}
 use Rattle.dual_rail.specs.Rails.{values_of}
-use Rattle.dual_rail.specs.WorkingLists.{IsWide}
 use Rattle.dual_rail.proofs.SurelyLemmas.{All-rails-kept}
 use Rattle.loops.specs.Cuts.{loops_by}
 use Rattle.fixpoint.specs.Working.{HasLargeCover}
@@ -11,7 +10,7 @@ use Rattle.care_sets.specs.Care.{columns, is_care_vector}
 use Rattle.isolation.specs.Columns.{AreColumns}
 use Rattle.isolation.proofs.ColumnLemmas.{AreColumns-kept}
 use Rattle.verdict.proofs.SolutionLemmas.{loops-are}
-use Rattle.differences.specs.Comparisons.{AddsInComparison, IsLaidBy, care_cost, solving_cost, pairs_cost, whole_cost}
+use Rattle.differences.specs.Comparisons.{AddsInComparison, care_cost, solving_cost}
 use Rattle.differences.specs.Sets.{AreFixedBy, TellsBy}
 use Rattle.differences.proofs.ComparingLemmas.{fixed-is, TellsBy-same}
 use Rattle.differences.proofs.LaidLemmas.{working-wide}

@@ -1,4 +1,4 @@
-use Rattle.std.proofs.Common.{◌≡◌, ◌∙◌, ◌+◌, ◌≤◌, ℕ, List, subst, sym, arith}
+use Rattle.std.proofs.Common.{◌∙◌, ◌+◌, ◌≤◌, subst, sym, arith}
 use Rattle.bdd_store.proofs.GrowthLemmas.{within_only, within_each, adds_then, adds_refused}
 use Rattle.bdd_ops.specs.Least.{IsLayout}
 use Rattle.isolation.specs.Columns.{AreColumns}

@@ -1,4 +1,4 @@
-use Rattle.std.proofs.Common.{◌≡◌, ◌∙◌, ℕ, Bool, List, sym, refl, subst, arith}
+use Rattle.std.proofs.Common.{◌∙◌, sym, refl, subst}
 use Rattle.bdd_store.specs.Arena.{den}
 use Rattle.bdd_store.proofs.GrowthLemmas.{within_answered, within_memory, within_refused}
 use Rattle.bdd_ops.specs.Least.{IsLayout, by_variable}

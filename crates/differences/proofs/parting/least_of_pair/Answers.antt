@@ -1,4 +1,4 @@
-use Rattle.std.proofs.Common.{◌≡◌, ◌∙◌, ◌+◌, ◌≤◌, ℕ, Bool, List, sym, subst, arith}
+use Rattle.std.proofs.Common.{◌∙◌, sym, subst, arith}
 use Rattle.bdd_store.specs.Growth.{GrowsWithin, NoOtherCause}
 use Rattle.bdd_store.proofs.GrowthLemmas.{within_moved, within_then, within_more, within_answered, within_refused}
 use Rattle.bdd_ops.specs.Least.{IsLayout, by_variable}
@@ -8,14 +8,14 @@ use Rattle.differences.proofs.PartingLemmas.{above-kept, bounds-kept, first-same
 use Rattle.differences.proofs.parting.least_of_pair.Goals as goal
 use Rattle.differences.proofs.parting.least_of_pair.Goals.{After-least_above-2}
 
-pub least_above-2-requires-clause-layout : goal.least_above-2-requires-clause-layout
-least_above-2-requires-clause-layout c = subst (λ n. IsLayout n c.args.order.now) (sym c.least_above.ensures.grows.keeps.vars) c.requires.layout
+pub least_above-requires-2-clause-layout : goal.least_above-requires-2-clause-layout
+least_above-requires-2-clause-layout c = subst (λ n. IsLayout n c.args.order.now) (sym c.least_above.ensures.grows.keeps.vars) c.requires.layout
 
-pub least_above-2-requires-clause-here : goal.least_above-2-requires-clause-here
-least_above-2-requires-clause-here c = AreRailsOf-kept c.least_above.ensures.grows.keeps c.args.there c.requires.there
+pub least_above-requires-2-clause-here : goal.least_above-requires-2-clause-here
+least_above-requires-2-clause-here c = AreRailsOf-kept c.least_above.ensures.grows.keeps c.args.there c.requires.there
 
-pub least_above-2-requires-clause-there : goal.least_above-2-requires-clause-there
-least_above-2-requires-clause-there c = AreRailsOf-kept c.least_above.ensures.grows.keeps c.args.here c.requires.here
+pub least_above-requires-2-clause-there : goal.least_above-requires-2-clause-there
+least_above-requires-2-clause-there c = AreRailsOf-kept c.least_above.ensures.grows.keeps c.args.here c.requires.here
 
 first : (c : After-least_above-2) → GrowsWithin c.least_above.result c.args.d.now c.least_above.new.d NoOtherCause (BoundsPair c.args.d.now c.args.set c.args.here c.args.there) 2
 first c = within_moved (λ w b. b.above) c.least_above.ensures.grows
