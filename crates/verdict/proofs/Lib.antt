@@ -1,22 +1,23 @@
 mod BeginningLemmas
 mod BehindLemmas
-mod CareLemmas
+pub mod CareLemmas
 mod CauseLemmas
-mod CountLemmas
+pub mod CountLemmas
 mod DecisionLemmas
 mod DeterminationLemmas
 mod EnoughLemmas
 mod LeavesLemmas
+mod LooseLemmas
 mod MarkLemmas
 mod NextLemmas
-mod PartLemmas
+pub mod PartLemmas
 mod ScopeLemmas
-mod SetLemmas
+pub mod SetLemmas
 mod SizeLemmas
-mod SolutionLemmas
+pub mod SolutionLemmas
 mod SolvingLemmas
 mod StartLemmas
 mod StepLemmas
 mod SuspectLemmas
 mod VerdictLemmas
-mod WorkLemmas
+pub mod WorkLemmas

@@ -26,16 +26,16 @@ use Rattle.verdict.proofs.DecisionLemmas.{vector_of, length-vector_of, laid-vect
 
 module _ (model : CareModel) (u : Vectors) (g : List Bool → Bool) (is : IsOfModel model u g) where
   -- what it says of such values
-  says : List Trit → Bool
+  pub says : List Trit → Bool
   says values = is_bit is.bit (exact (λ rest. value (gate_at model.net is.gate).cover (is.first ++ rest)) (drop (length is.first) (read_at_fix model.net (read_by model values) is.gate)))
 
-  says-own : (x : List Bool) → g x ≡ says (u x)
+  pub says-own : (x : List Bool) → g x ≡ says (u x)
   unfolding says
   says-own x =
       let reads : is.read x ≡ read_at_fix model.net (read_by model (u x)) is.gate = elim is.reads [ inl r ↦ absurd (true≢false (sym r.looped)) | inr r ↦ r.is x ] in
       is.same x ∙ ap (λ (ts : List Trit). is_bit is.bit (exact (λ rest. value (gate_at model.net is.gate).cover (is.first ++ rest)) (drop (length is.first) ts))) reads
 
-  says-of : (v : Vectors) → IsOfModel model v (λ x. says (v x))
+  pub says-of : (v : Vectors) → IsOfModel model v (λ x. says (v x))
   unfolding says
   says-of v = record {
     gate = is.gate;
@@ -50,7 +50,7 @@ module _ (model : CareModel) (u : Vectors) (g : List Bool → Bool) (is : IsOfMo
 
 -- ---- the models of a care set
 
-there_each : (o : Option CareModel) (P : CareModel → Type 0) → ((model : CareModel) → o ≡ Some model → P model) → IfSome o P
+pub there_each : (o : Option CareModel) (P : CareModel → Type 0) → ((model : CareModel) → o ≡ Some model → P model) → IfSome o P
 there_each None P each = tt
 there_each (Some model) P each = each model refl
 

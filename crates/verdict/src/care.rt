@@ -65,7 +65,7 @@ fn holds_on(
 }
 
 /// The vectors on which the assumption holds, where its columns have these rails.
-pub(crate) fn assume_on(
+pub fn assume_on(
     alloc: Global,
     d: &mut Diagrams,
     care: &Care,
@@ -85,7 +85,7 @@ pub(crate) fn assume_on(
 
 /// The vectors on which the invariant holds of a state, where the latches have these rails. `first` is the
 /// column of the first latch.
-pub(crate) fn invariant_on(
+pub fn invariant_on(
     alloc: Global,
     d: &mut Diagrams,
     care: &Care,

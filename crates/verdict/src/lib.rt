@@ -9,6 +9,7 @@
 mod alone;
 mod beginning;
 mod behind;
+mod beside;
 mod care;
 mod clauses;
 mod counts;
@@ -26,9 +27,13 @@ mod sets;
 mod solving;
 mod steps;
 mod suspects;
+mod unknown;
 mod verdict;
 
+pub use care::{assume_on, invariant_on};
 pub use deciding::decide;
 pub use fault::DecideFault;
 pub use refusals::Observe;
+pub use sets::least_of;
+pub use solving::{Fixpoint, solve_beside};
 pub use verdict::Verdict;

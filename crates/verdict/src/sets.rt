@@ -48,7 +48,7 @@ pub(crate) fn by_variable(
 }
 
 /// The least vector by column of a set, if it has one. `columns` has the column of each variable.
-pub(crate) fn least_of(
+pub fn least_of(
     alloc: Global,
     d: &Diagrams,
     columns: &[u32],

@@ -70,7 +70,7 @@ fn keep_beside(
 
 /// The fixpoint of a netlist on these rails of its inputs and latches. The set of vectors stays; of other nodes only
 /// the constants mean anything after the call.
-pub(crate) fn solve_beside(
+pub fn solve_beside(
     alloc: Global,
     d: &mut Diagrams,
     net: &Netlist,

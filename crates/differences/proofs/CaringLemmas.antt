@@ -1,0 +1,18 @@
+-- The states of vectors on rails.
+use Rattle.std.proofs.Common.{◌≡◌, Bool, List, length, drop, ap, sym, ◌∙◌}
+use Rattle.std.proofs.lemmas.List.{drop-map}
+use Rattle.bdd_store.specs.Arena.{Arena}
+use Rattle.cyc_base.specs.Values.{bit, bits}
+use Rattle.dual_rail.specs.declared.rail.Rails.{Rails}
+use Rattle.dual_rail.specs.Rails.{value_of, values_of}
+use Rattle.netlist.specs.declared.parts.Parts.{Parts}
+use Rattle.care_sets.specs.Care.{state_of}
+
+-- the latches' rails stand for the state, where those of all columns stand for the vector
+pub state-values : (net : Parts) (a : Arena) (rails latches : List Rails) (values v : List Bool) → latches ≡ drop (length net.inputs) rails → values_of a rails v ≡ bits values →
+    values_of a latches v ≡ bits (state_of net values)
+state-values net a rails latches values v is are =
+    ap (λ (l : List Rails). values_of a l v) is
+    ∙ sym (drop-map (λ (r : Rails). value_of a r v) (length net.inputs) rails)
+    ∙ ap (drop (length net.inputs)) are
+    ∙ drop-map bit (length net.inputs) values

@@ -1,0 +1,130 @@
+-- What the least vector of pairs says, where rails stand for the fixpoint and a set for the care vectors.
+use Rattle.std.proofs.Common.{◌≡◌, ℕ, suc, ◌+◌, ◌<◌, Bool, true, false, ◌&&◌, ◌||◌, List, [], ◌∷◌, length, map, get_or, refl, sym, ap, ap₂, ◌∙◌, arith, true≢false, Ok, Err, Result}
+use Rattle.std.specs.Prelude.{find, IfOk}
+use Rattle.std.specs.List.{All, list_any}
+use Rattle.std.proofs.lemmas.List.{length-append}
+use Rattle.bdd_store.specs.declared.node.Node.{Node}
+use Rattle.bdd_store.specs.Arena.{Arena, den, IsNodeOf}
+use Rattle.bdd_ops.specs.Least.{IsLayout, by_variable}
+use Rattle.cyc_base.specs.declared.trit.Trit.{Trit}
+use Rattle.cyc_base.specs.Values.{bits}
+use Rattle.cyc_base.specs.Vectors.{vectors}
+use Rattle.dual_rail.specs.declared.rail.Rails.{Rails}
+use Rattle.dual_rail.specs.Rails.{AreRailsOf, trit_of, value_of}
+use Rattle.dual_rail.specs.WorkingLists.{IsWide}
+use Rattle.dual_rail.proofs.SurelyLemmas.{length-values}
+use Rattle.netlist.specs.declared.parts.Parts.{Parts}
+use Rattle.netlist.specs.Fixpoint.{wire, fix, fix_gates}
+use Rattle.netlist.specs.Netlists.{count}
+use Rattle.loops.specs.declared.structure.Blocks.{Blocks}
+use Rattle.loops.specs.declared.structure.Cut.{Cut}
+use Rattle.fixpoint.specs.declared.solved.Solved.{Solved}
+use Rattle.fixpoint.specs.Kept.{rails_under}
+use Rattle.fixpoint.specs.Solved.{Vectors, IsSolution}
+use Rattle.fixpoint.specs.Sweeping.{rails_at}
+use Rattle.fixpoint.proofs.WireLemmas.{rails_at-proper}
+use Rattle.care_sets.specs.Care.{CareSet, columns, is_care_vector}
+use Rattle.refusals.proofs.LawLemmas.{care_test}
+use Rattle.refusals.proofs.RefusalLemmas.{length-fix_gates}
+use Rattle.verdict.proofs.CareLemmas.{value_at-place}
+use Rattle.verdict.proofs.SetLemmas.{find-alike}
+use Rattle.differences.specs.declared.pairs.Pair.{Pair}
+use Rattle.differences.specs.Comparisons.{IsLaidBy}
+use Rattle.differences.specs.Pairs.{are_apart, is_apart_at, some_is_apart, least_apart, IsPairOf}
+use Rattle.differences.specs.Sets.{TellsBy, AreFixedBy, HasRails, pair_differs, some_differ, BoundsPairs}
+use Rattle.differences.proofs.LaidLemmas.{above-bounded}
+
+-- ---- values
+
+-- one rail with the other's opposite, in a set
+apart-rails : (s h1 h0 t1 t0 : Bool) → (h1 && h0) ≡ false → (t1 && t0) ≡ false → ((s && (h1 && t0)) || (s && (t1 && h0))) ≡ (s && are_apart (trit_of h1 h0) (trit_of t1 t0))
+apart-rails false h1 h0 t1 t0 here there = refl
+apart-rails true true true t1 t0 here there = absurd (true≢false here)
+apart-rails true true false true true here there = absurd (true≢false there)
+apart-rails true true false true false here there = refl
+apart-rails true true false false true here there = refl
+apart-rails true true false false false here there = refl
+apart-rails true false true true true here there = absurd (true≢false there)
+apart-rails true false true true false here there = refl
+apart-rails true false true false true here there = refl
+apart-rails true false true false false here there = refl
+apart-rails true false false true true here there = absurd (true≢false there)
+apart-rails true false false true false here there = refl
+apart-rails true false false false true here there = refl
+apart-rails true false false false false here there = refl
+
+-- a test in a set
+any-in : {T : Type 0} (s : Bool) (f g : T → Bool) (xs : List T) → ((k : ℕ) (d : T) → k < length xs → g (get_or xs k d) ≡ (s && f (get_or xs k d))) → list_any g xs ≡ (s && list_any f xs)
+any-in true f g [] each = refl
+any-in false f g [] each = refl
+any-in s f g (x ∷ xs) each =
+    ap₂ (λ p q. p || q) (each 0 x (omega arith)) (any-in s f g xs (λ k d less. each (suc k) d (omega (arith, less)))) ∙ by s (f x) (list_any f xs)
+  where
+    by : (s p q : Bool) → ((s && p) || (s && q)) ≡ (s && (p || q))
+    by true p q = refl
+    by false p q = refl
+
+-- ---- pairs
+
+pub has-rails : (net : Parts) (rails : List Rails) (pairs : List Pair) → length rails ≡ count net → All (IsPairOf net) pairs → All (HasRails rails) pairs
+has-rails net rails pairs wide are k d less =
+    let is = are k d less in
+    record { here = omega (arith, wide, is.here); there = omega (arith, wide, is.there) }
+
+module _ (order : List ℕ) (net : Parts) (care : CareSet) (a : Arena) (vars : a.vars ≡ columns net) (set : Node) (rails : List Rails)
+    (told : TellsBy order a set (is_care_vector net care)) (fixed : AreFixedBy order net a rails) (pairs : List Pair) (are : All (IsPairOf net) pairs) where
+  pair-apart : (v : List Bool) → length v ≡ columns net → (pair : Pair) → IsPairOf net pair → pair_differs a set rails (by_variable order v) pair ≡ (is_care_vector net care v && is_apart_at net v pair)
+  pair-apart v long pair is =
+      let w : List Bool = by_variable order v in
+      let h : Rails = rails_at rails pair.here.0 in
+      let t : Rails = rails_at rails pair.there.0 in
+      let wide = fixed.width in
+      let h_is : AreRailsOf a h = rails_at-proper a rails fixed.proper pair.here.0 in
+      let t_is : AreRailsOf a t = rails_at-proper a rails fixed.proper pair.there.0 in
+      let here : value_of a h w ≡ wire (fix net (bits v)) pair.here =
+      value_at-place a rails pair.here.0 w (omega (arith, wide, is.here)) ∙ ap (λ (ts : List Trit). wire ts pair.here) (fixed.values v (long ∙ sym vars)) in
+      let there : value_of a t w ≡ wire (fix net (bits v)) pair.there =
+      value_at-place a rails pair.there.0 w (omega (arith, wide, is.there)) ∙ ap (λ (ts : List Trit). wire ts pair.there) (fixed.values v (long ∙ sym vars)) in
+      apart-rails (den a set w) (den a h.one w) (den a h.zero w) (den a t.one w) (den a t.zero w) (h_is.proper w) (t_is.proper w)
+      ∙ ap₂ (λ s b. s && b) (told.value v (long ∙ sym vars)) (ap₂ are_apart here there)
+
+  -- the least vector of the set is the least care vector
+  pub least-is : find (λ v. some_differ a set rails pairs (by_variable order v)) (vectors a.vars) ≡ least_apart net care pairs
+  least-is =
+      ap (λ (n : ℕ). find (λ v. some_differ a set rails pairs (by_variable order v)) (vectors n)) vars
+      ∙ find-alike (columns net) (λ v. some_differ a set rails pairs (by_variable order v)) (λ v. is_care_vector net care v && some_is_apart net pairs v)
+      (λ v long. any-in (is_care_vector net care v) (is_apart_at net v) (pair_differs a set rails (by_variable order v)) pairs (λ k d less. pair-apart v long (get_or pairs k d) (are k d less)))
+      ∙ sym (care_test net care (some_is_apart net pairs))
+
+  -- what it works with
+  pub pairs-bounded : IsLayout (columns net) order → (w : ℕ) → IsWide (columns net) (IsLaidBy order net care) w → BoundsPairs a set rails pairs w
+  pairs-bounded layout w wide k d less =
+      let is = are k d less in
+      let pair : Pair = get_or pairs k d in
+      record {
+        above = above-bounded order net care layout wide a.vars vars a refl rails fixed set told pair.here.0 pair.there.0 is.here is.there;
+        below = above-bounded order net care layout wide a.vars vars a refl rails fixed set told pair.there.0 pair.here.0 is.there is.here;
+      }
+
+-- ---- the fixpoint at the columns
+
+pub fixed-is : (order : List ℕ) (net : Parts) (blocks : Blocks) (cut : Cut) (a : Arena) (points : Vectors) (solved : Solved) → a.vars ≡ columns net →
+    ((v : List Bool) → length v ≡ columns net → points (by_variable order v) ≡ bits v) → IsSolution net blocks cut a points solved → AreFixedBy order net a (map (rails_under a) solved.rails)
+fixed-is order net blocks cut a points solved vars are is = record {
+  width =
+      sym (length-values a (map (rails_under a) solved.rails) [])
+      ∙ ap length (is.values [])
+      ∙ length-append (points []) (fix_gates net (points []))
+      ∙ ap₂ (λ m n. m + n) (is.vector []) (length-fix_gates net (points []));
+  proper = is.rails;
+  values = λ v wide. is.values (by_variable order v) ∙ ap (fix net) (are v (wide ∙ vars));
+}
+
+-- another node of the same function, in other diagrams
+pub TellsBy-same : {order : List ℕ} {s t : Arena} {m n : Node} {test : List Bool → Bool} → t.vars ≡ s.vars → IsNodeOf t n → ((w : List Bool) → den t n w ≡ den s m w) → TellsBy order s m test → TellsBy order t n test
+TellsBy-same {order} vars node same is = record { node = node; value = λ v wide. same (by_variable order v) ∙ is.value v (wide ∙ vars) }
+
+-- what holds of an answer where something else does
+pub ok-moved : {T E : Type 0} (r : Result T E) (P Q : T → Type 0) → ((x : T) → P x → Q x) → IfOk r P → IfOk r Q
+ok-moved (Ok x) P Q into is = into x is
+ok-moved (Err e) P Q into is = tt

@@ -1,0 +1,103 @@
+-- What a comparison costs, added up, and why it finds the diagrams full.
+use Rattle.std.proofs.Common.{◌≡◌, inl, inr, ℕ, ◌+◌, ◌*◌, ◌<◌, ◌≤◌, List, Option, Some, None, Err, Result, length, subst, ◌∙◌, arith}
+use Rattle.std.specs.Prelude.{IsSomeAnd}
+use Rattle.std.specs.Option.{option_map_or}
+use Rattle.std.proofs.lemmas.List.Sums.{get_or-le-sum_by}
+use Rattle.std.proofs.Math.Nat.{mul-le-mul_left, mul-le-mul_right}
+use Rattle.bdd_store.specs.declared.fault.StoreFault.{StoreFault}
+use Rattle.bdd_store.specs.declared.fault.StoreFault.TheVariants.{Full}
+use Rattle.bdd_store.specs.Arena.{Arena}
+use Rattle.bdd_store.specs.Growth.{AddsWithin}
+use Rattle.bdd_store.proofs.GrowthLemmas.{adds_more}
+use Rattle.dual_rail.specs.Local.{size}
+use Rattle.dual_rail.specs.WorkingLists.{IsWide}
+use Rattle.dual_rail.proofs.WidthLemmas.{IsWide-some}
+use Rattle.netlist.specs.declared.parts.Gate.{Gate}
+use Rattle.netlist.specs.declared.parts.Parts.{Parts}
+use Rattle.netlist.specs.Netlists.{no_gate}
+use Rattle.fixpoint.specs.Working.{HasLargeCover, effort}
+use Rattle.care_sets.specs.declared.model.CareModel.{CareModel}
+use Rattle.care_sets.specs.Care.{CareSet, columns}
+use Rattle.verdict.specs.Causes.{HasCoverOver, IsOutOfNodes, IsStoreFor}
+use Rattle.verdict.specs.Costs.{assume_effort, invariant_effort}
+use Rattle.verdict.specs.Enough.{enough}
+use Rattle.differences.specs.declared.pairs.Pair.{Pair}
+use Rattle.differences.specs.Comparisons.{IsLaidBy, comparison_cost, IsBelowEnoughFor, IsFullFor}
+
+-- ---- the sum
+
+sum-enough : (v gates models effort assumed inside pairs w : ℕ) →
+    w * (2 + (2 * inside + 2 * assumed + 1 + (10 * (gates + 2) * effort + 4 * pairs))) ≤ 16 * w * (gates + models + 2) * (effort + (assumed + inside) + v + 4) + 8 * w * pairs
+sum-enough v gates models effort assumed inside pairs w =
+    let one : 2 + (2 * inside + 2 * assumed + 1 + 10 * (gates + 2) * effort) ≤ 16 * (gates + models + 2) * (effort + (assumed + inside) + v + 4) = omega arith in
+    let times : w * (2 + (2 * inside + 2 * assumed + 1 + 10 * (gates + 2) * effort)) ≤ w * (16 * (gates + models + 2) * (effort + (assumed + inside) + v + 4)) =
+    mul-le-mul_left {m = 2 + (2 * inside + 2 * assumed + 1 + 10 * (gates + 2) * effort)} {n = 16 * (gates + models + 2) * (effort + (assumed + inside) + v + 4)} w one in
+    omega (arith, times)
+
+-- the parts together cost no more than is enough
+costs-enough : (net : Parts) (care : CareSet) (pairs : List Pair) (w : ℕ) → w * comparison_cost net care pairs ≤ enough net care w + 8 * w * length pairs
+costs-enough net care pairs w =
+    sum-enough (columns net) (length net.gates) (option_map_or (λ model. length model.net.gates) care.assume 0 + option_map_or (λ model. length model.net.gates) care.invariant 0)
+    (effort net) (assume_effort care) (invariant_effort care) (length pairs) w
+
+-- ---- covers over the limit
+
+large-effort : (net : Parts) (limit : ℕ) → HasLargeCover net limit → limit < effort net
+large-effort net limit is =
+    let over = is.over in
+    let most = get_or-le-sum_by (λ (g : Gate). size g.cover + 1) net.gates is.gate no_gate is.within in
+    omega (arith, over, most)
+
+model-effort : (o : Option CareModel) (limit : ℕ) → IsSomeAnd o (λ model. HasLargeCover model.net limit) → limit < option_map_or (λ model. effort model.net) o 0
+model-effort None limit is = absurd is
+model-effort (Some model) limit is = large-effort model.net limit is
+
+cover-effort : (net : Parts) (care : CareSet) (limit : ℕ) → HasCoverOver net care limit → limit < effort net + (assume_effort care + invariant_effort care)
+cover-effort net care limit is = elim is [
+  | inl own ↦ let e = large-effort net limit own in omega (arith, e)
+  | inr of_model ↦ elim of_model [
+    | inl over ↦ let e = model-effort care.assume limit over in omega (arith, e)
+    | inr over ↦ let e = model-effort care.invariant limit over in omega (arith, e)
+  ]
+]
+
+effort-enough : (limit e w gates v : ℕ) → limit < e → v + 1 ≤ w → limit < 16 * w * (gates + 2) * (e + v + 4)
+effort-enough limit e w gates v less wide =
+    let one : 1 * e ≤ w * e = mul-le-mul_right {m = 1} {n = w} e (omega (arith, wide)) in
+    omega (arith, less, wide, one)
+
+over-enough : (net : Parts) (care : CareSet) (w limit : ℕ) → columns net + 1 ≤ w → HasCoverOver net care limit → limit < enough net care w
+over-enough net care w limit wide is =
+    effort-enough limit (effort net + (assume_effort care + invariant_effort care)) w
+    (length net.gates + (option_map_or (λ model. length model.net.gates) care.assume 0 + option_map_or (λ model. length model.net.gates) care.invariant 0))
+    (columns net) (cover-effort net care limit is) wide
+
+-- ---- why the diagrams are full
+
+pub full_for : {T : Type 0} {r : Result T StoreFault} {old new : Arena} {order : List ℕ} {net : Parts} {care : CareSet} {pairs : List Pair} {n : ℕ} → IsStoreFor new net old.limit →
+    n ≤ comparison_cost net care pairs → AddsWithin r old new (HasCoverOver net care) (IsWide (columns net) (IsLaidBy order net care)) n → r ≡ Err Full → IsFullFor old new order net care pairs
+full_for store less adds is_full = record { store = store; cause = λ w wide. (adds_more less adds).full w wide is_full }
+
+-- some w is wide, so there is a cause
+pub out_of_nodes : {old new : Arena} {order : List ℕ} {net : Parts} {care : CareSet} {pairs : List Pair} {limit : ℕ} → old.limit ≡ limit → IsFullFor old new order net care pairs → IsOutOfNodes new net care limit
+out_of_nodes {old} {new} {order} {net} {care} most is =
+    let store : IsStoreFor new net old.limit = is.store in
+    record {
+      store = record { variables = store.variables; most = store.most ∙ most };
+      cause = elim (is.cause _ (IsWide-some (columns net) (IsLaidBy order net care))) [
+        | inl over ↦ inr (subst (HasCoverOver net care) most over)
+        | inr past ↦ inl (past.full ∙ store.most ∙ most)
+      ];
+    }
+
+-- and where nothing was before, the limit is below what is enough
+pub below_enough : {old new : Arena} {order : List ℕ} {net : Parts} {care : CareSet} {pairs : List Pair} {limit : ℕ} → old.limit ≡ limit → length old.entries ≡ 0 → IsFullFor old new order net care pairs →
+    IsBelowEnoughFor order net care pairs limit
+below_enough {old} {new} {order} {net} {care} {pairs} {limit} most none is =
+    let store : IsStoreFor new net old.limit = is.store in
+    record {
+      below = λ w wide. elim (is.cause w wide) [
+        | inl over ↦ let e = over-enough net care w limit wide.variables (subst (HasCoverOver net care) most over) in omega (arith, e)
+        | inr past ↦ omega (arith, past.past, none, most, store.most, costs-enough net care pairs w)
+      ];
+    }

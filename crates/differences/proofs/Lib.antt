@@ -1,0 +1,6 @@
+mod CaringLemmas
+mod ComparingLemmas
+mod EnoughLemmas
+mod LaidLemmas
+mod LesserLemmas
+mod PartingLemmas

@@ -1,0 +1,33 @@
+use Rattle.std.proofs.Common.{◌∙◌, ◌+◌, ◌≤◌, subst, sym, arith}
+use Rattle.bdd_store.proofs.GrowthLemmas.{within_only, within_each, adds_then, adds_refused}
+use Rattle.bdd_ops.specs.Least.{IsLayout}
+use Rattle.isolation.specs.Columns.{AreColumns}
+use Rattle.differences.specs.Comparisons.{AddsInComparison, comparison_cost, whole_cost}
+use Rattle.differences.proofs.EnoughLemmas.{full_for}
+use Rattle.differences.proofs.comparing.compare_on.Goals as goal
+use Rattle.differences.proofs.comparing.compare_on.Goals.{After-column_rails}
+
+pub column_rails-requires : goal.column_rails-requires
+column_rails-requires c = subst (λ n. IsLayout n c.args.order.now) (sym c.requires.vars) c.requires.order
+
+pub compare_columns-requires-clause-columns : goal.compare_columns-requires-clause-columns
+compare_columns-requires-clause-columns c = subst (AreColumns c.column_rails.new.d c.args.order.now) (sym c.deref.ensures.value) c.in_ok-rails.ensures.rails
+
+after-columns : (c : After-column_rails) → AddsInComparison c.column_rails.result c.args.d.now c.column_rails.new.d c.args.order.now c.args.net.now c.args.care.now 2
+after-columns c =
+    let vars = c.requires.vars in
+    (within_only (within_each (λ w wide. omega (arith, wide.variables, vars)) c.column_rails.ensures.grows)).adds
+
+pub returns-in_err-rails-clause-full : goal.returns-in_err-rails-clause-full
+returns-in_err-rails-clause-full g =
+    let c : After-column_rails = (goal.at.returns-in_err-rails-clause-full g).After-column_rails in
+    let keeps = c.column_rails.ensures.grows.keeps in
+    full_for (record { variables = keeps.vars ∙ c.requires.vars; most = keeps.limit }) (omega arith) (adds_refused g.in_err-rails.was g.from_residual.ensures.1 (after-columns c))
+
+pub returns-clause-full : goal.returns-clause-full
+returns-clause-full g =
+    let c : After-column_rails = (goal.at.returns-clause-full g).After-column_rails in
+    let keeps = c.column_rails.ensures.grows.keeps in
+    let cost : 2 + whole_cost g.args.net.now g.args.care.now g.args.pairs.now ≤ comparison_cost g.args.net.now g.args.care.now g.args.pairs.now = omega arith in
+    full_for (record { variables = g.compare_columns.ensures.vars ∙ keeps.vars ∙ g.requires.vars; most = g.compare_columns.ensures.limit ∙ keeps.limit }) cost
+    (adds_then keeps.limit (after-columns c) g.compare_columns.ensures.adds)

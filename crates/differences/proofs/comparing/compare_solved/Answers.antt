@@ -1,0 +1,39 @@
+use Rattle.std.proofs.Common.{◌∙◌, List, sym, ap, subst}
+use Rattle.std.specs.Prelude.{find}
+use Rattle.std.specs.List.{All}
+use Rattle.bdd_store.proofs.GrowthLemmas.{within_moved}
+use Rattle.bdd_ops.specs.Least.{IsLayout, by_variable}
+use Rattle.cyc_base.specs.Vectors.{vectors}
+use Rattle.dual_rail.specs.declared.rail.Rails.{Rails}
+use Rattle.dual_rail.specs.Rails.{AreRailsOf}
+use Rattle.differences.specs.Sets.{HasRails, some_differ, BoundsPairs}
+use Rattle.differences.proofs.ComparingLemmas.{has-rails, least-is, ok-moved, pairs-bounded}
+use Rattle.differences.proofs.comparing.compare_solved.Goals as goal
+
+pub least_of_pairs-requires-clause-layout : goal.least_of_pairs-requires-clause-layout
+least_of_pairs-requires-clause-layout c = subst (λ n. IsLayout n c.args.order.now) (sym c.requires.vars) c.requires.order
+
+pub least_of_pairs-requires-clause-rails : goal.least_of_pairs-requires-clause-rails
+least_of_pairs-requires-clause-rails c = subst (All (AreRailsOf c.args.d.now)) (sym c.items.ensures) c.requires.fixed.proper
+
+pub least_of_pairs-requires-clause-pairs : goal.least_of_pairs-requires-clause-pairs
+least_of_pairs-requires-clause-pairs c =
+    subst (λ (rails : List Rails). All (HasRails rails) c.args.pairs.now) (sym c.items.ensures)
+    (has-rails c.args.net.now c.args.found.now.rails c.args.pairs.now c.requires.fixed.width c.requires.pairs)
+
+pub returns-clause-found : goal.returns-clause-found
+returns-clause-found c =
+    ok-moved c.least_of_pairs.result _ _
+    (λ found is.
+    is
+    ∙ ap (λ (rails : List Rails). find (λ v. some_differ c.args.d.now c.args.found.now.set rails c.args.pairs.now (by_variable c.args.order.now v)) (vectors c.args.d.now.vars)) c.items.ensures
+    ∙ least-is c.args.order.now c.args.net.now c.args.care.now c.args.d.now c.requires.vars c.args.found.now.set c.args.found.now.rails c.requires.set c.requires.fixed c.args.pairs.now c.requires.pairs)
+    c.least_of_pairs.ensures.least
+
+pub returns-clause-grows : goal.returns-clause-grows
+returns-clause-grows c =
+    within_moved
+    (λ w wide.
+    subst (λ (rails : List Rails). BoundsPairs c.args.d.now c.args.found.now.set rails c.args.pairs.now w) (sym c.items.ensures)
+    (pairs-bounded c.args.order.now c.args.net.now c.args.care.now c.args.d.now c.requires.vars c.args.found.now.set c.args.found.now.rails c.requires.set c.requires.fixed c.args.pairs.now c.requires.pairs c.requires.order w wide))
+    c.least_of_pairs.ensures.grows

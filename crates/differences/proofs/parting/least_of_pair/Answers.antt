@@ -1,0 +1,42 @@
+use Rattle.std.proofs.Common.{◌∙◌, sym, subst, arith}
+use Rattle.bdd_store.specs.Growth.{GrowsWithin, NoOtherCause}
+use Rattle.bdd_store.proofs.GrowthLemmas.{within_moved, within_then, within_more, within_answered, within_refused}
+use Rattle.bdd_ops.specs.Least.{IsLayout, by_variable}
+use Rattle.dual_rail.proofs.SurelyLemmas.{AreRailsOf-kept}
+use Rattle.differences.specs.Sets.{is_above, BoundsPair}
+use Rattle.differences.proofs.PartingLemmas.{above-kept, bounds-kept, first-same}
+use Rattle.differences.proofs.parting.least_of_pair.Goals as goal
+use Rattle.differences.proofs.parting.least_of_pair.Goals.{After-least_above-2}
+
+pub least_above-requires-2-clause-layout : goal.least_above-requires-2-clause-layout
+least_above-requires-2-clause-layout c = subst (λ n. IsLayout n c.args.order.now) (sym c.least_above.ensures.grows.keeps.vars) c.requires.layout
+
+pub least_above-requires-2-clause-here : goal.least_above-requires-2-clause-here
+least_above-requires-2-clause-here c = AreRailsOf-kept c.least_above.ensures.grows.keeps c.args.there c.requires.there
+
+pub least_above-requires-2-clause-there : goal.least_above-requires-2-clause-there
+least_above-requires-2-clause-there c = AreRailsOf-kept c.least_above.ensures.grows.keeps c.args.here c.requires.here
+
+first : (c : After-least_above-2) → GrowsWithin c.least_above.result c.args.d.now c.least_above.new.d NoOtherCause (BoundsPair c.args.d.now c.args.set c.args.here c.args.there) 2
+first c = within_moved (λ w b. b.above) c.least_above.ensures.grows
+
+both : (c : After-least_above-2) → GrowsWithin c.least_above-2.result c.args.d.now c.least_above-2.new.d NoOtherCause (BoundsPair c.args.d.now c.args.set c.args.here c.args.there) 4
+both c = within_then (first c) (within_moved (λ w b. bounds-kept c.least_above.ensures.grows.keeps c.args.set c.requires.set c.args.there c.args.here c.requires.there c.requires.here b.below) c.least_above-2.ensures.grows)
+
+pub returns-in_err-above-clause-grows : goal.returns-in_err-above-clause-grows
+returns-in_err-above-clause-grows c = within_more (omega arith) (within_refused c.in_err-above.was c.from_residual.ensures.1 (within_moved (λ w b. b.above) c.least_above.ensures.grows))
+
+pub returns-in_err-below-clause-grows : goal.returns-in_err-below-clause-grows
+returns-in_err-below-clause-grows c = within_refused c.in_err-below.was c.from_residual-in_err-below.ensures.1 (both (goal.at.returns-in_err-below-clause-grows c).After-least_above-2)
+
+pub returns-clause-grows : goal.returns-clause-grows
+returns-clause-grows c = within_answered (both (goal.at.returns-clause-grows c).After-least_above-2)
+
+pub returns-clause-least : goal.returns-clause-least
+returns-clause-least c =
+    c.lesser.ensures c.args.d.now.vars (λ v. is_above c.args.d.now c.args.set c.args.here c.args.there (by_variable c.args.order.now v)) (λ v. is_above c.args.d.now c.args.set c.args.there c.args.here (by_variable c.args.order.now v))
+    c.in_ok-above.ensures.least
+    (c.in_ok-below.ensures.least
+    ∙ first-same c.least_above.new.d.vars c.args.d.now.vars (λ v. is_above c.least_above.new.d c.args.set c.args.there c.args.here (by_variable c.args.order.now v)) (λ v. is_above c.args.d.now c.args.set c.args.there c.args.here (by_variable c.args.order.now v))
+    c.least_above.ensures.grows.keeps.vars
+    (λ v. above-kept c.least_above.ensures.grows.keeps c.args.set c.requires.set c.args.there c.args.here c.requires.there c.requires.here (by_variable c.args.order.now v)))

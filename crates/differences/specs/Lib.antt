@@ -1,0 +1,3 @@
+pub mod Comparisons
+pub mod Pairs
+pub mod Sets

@@ -1,0 +1,150 @@
+//! The least care vector on which the wires of some pair differ.
+
+ghost use Rattle.std.specs.Prelude.{◌≡◌, ◌≤◌, ◌⊎◌, IfOk, IfErr, All, option_map};
+ghost use Rattle.bdd_store.specs.Growth.{GrowsWithin, NoOtherCause};
+ghost use Rattle.bdd_ops.specs.Least.{IsLayout};
+ghost use Rattle.dual_rail.specs.WorkingLists.{IsWide};
+ghost use Rattle.care_sets.specs.Binding.{IsCareOf};
+ghost use Rattle.care_sets.specs.Care.{columns, is_care_vector};
+ghost use Rattle.loops.specs.Blocks.{AreBlocksOf};
+ghost use Rattle.loops.specs.Cuts.{IsCutOf};
+ghost use Rattle.isolation.specs.Columns.{AreColumns};
+ghost use Rattle.verdict.specs.Causes.{IsOutOfNodes};
+ghost use Rattle.differences.specs.Comparisons.{AddsInComparison, IsBelowEnoughFor, IsFullFor, IsLaidBy, pairs_cost, whole_cost};
+ghost use Rattle.differences.specs.Pairs.{IsPairOf, least_apart as least_apart_of};
+ghost use Rattle.differences.specs.Sets.{AreFixedBy, TellsBy};
+
+use crate::caring::care_on;
+use crate::pairs::Pair;
+use crate::parting::least_of_pairs;
+use bdd_ops::Diagrams;
+use bdd_store::StoreFault;
+use care_sets::Care;
+use cyc_base::{Bits, MAX_NODES};
+use dual_rail::Rails;
+use isolation::column_rails;
+use loops::{Blocks, Cut};
+use netlist::Netlist;
+use std::alloc::Global;
+use verdict::{DecideFault, Fixpoint, solve_beside};
+
+/// The least care vector on which the wires of some pair differ, where the netlist is solved and the care vectors are kept
+/// beside it.
+fn compare_solved(
+    alloc: Global,
+    d: &mut Diagrams,
+    net: &Netlist,
+    care: &Care,
+    order: &[u32],
+    pairs: &[Pair],
+    found: &Fixpoint,
+) -> Result<Option<Vec<bool>>, StoreFault>
+    requires vars { d.old.vars ≡ columns net.now }
+    requires order { IsLayout (columns net.now) order.now }
+    requires pairs { All (IsPairOf net.now) pairs.now }
+    requires fixed { AreFixedBy order.now net.now d.old found.now.rails }
+    requires set { TellsBy order.now d.old found.now.set (is_care_vector net.now care.now) }
+    ensures found { IfOk result (λ vector. option_map (λ v. v.items) vector ≡ least_apart_of net.now care.now pairs.now) }
+    ensures grows { GrowsWithin result d.old d.new NoOtherCause (IsWide (columns net.now) (IsLaidBy order.now net.now care.now)) (pairs_cost pairs.now) }
+{
+    least_of_pairs(alloc, d, order, found.set, found.rails.items(), pairs)
+}
+
+/// The same, where the netlist is solved here on these rails of its columns.
+fn compare_columns(
+    alloc: Global,
+    d: &mut Diagrams,
+    net: &Netlist,
+    blocks: &Blocks,
+    cut: &Cut,
+    care: &Care,
+    order: &[u32],
+    pairs: &[Pair],
+    rails: &[Rails],
+) -> Result<Option<Vec<bool>>, StoreFault>
+    requires blocks { AreBlocksOf net.now blocks.now }
+    requires cut { IsCutOf net.now cut.now }
+    requires care { IsCareOf net.now care.now }
+    requires vars { d.old.vars ≡ columns net.now }
+    requires order { IsLayout (columns net.now) order.now }
+    requires pairs { All (IsPairOf net.now) pairs.now }
+    requires columns { AreColumns d.old order.now rails.now }
+    ensures found { IfOk result (λ vector. option_map (λ v. v.items) vector ≡ least_apart_of net.now care.now pairs.now) }
+    ensures vars { d.new.vars ≡ d.old.vars }
+    ensures limit { d.new.limit ≡ d.old.limit }
+    ensures adds { AddsInComparison result d.old d.new order.now net.now care.now (whole_cost net.now care.now pairs.now) }
+{
+    let set = care_on(alloc, d, net, care, rails)?;
+    d.store().laws();
+    let found = solve_beside(alloc, d, net, blocks, cut, rails, set)?;
+    compare_solved(alloc, d, net, care, order, pairs, &found)
+}
+
+/// The same on diagrams that have a variable for each column and no nodes.
+fn compare_on(
+    alloc: Global,
+    d: &mut Diagrams,
+    net: &Netlist,
+    blocks: &Blocks,
+    cut: &Cut,
+    care: &Care,
+    order: &[u32],
+    pairs: &[Pair],
+) -> Result<Option<Vec<bool>>, StoreFault>
+    requires blocks { AreBlocksOf net.now blocks.now }
+    requires cut { IsCutOf net.now cut.now }
+    requires care { IsCareOf net.now care.now }
+    requires vars { d.old.vars ≡ columns net.now }
+    requires order { IsLayout (columns net.now) order.now }
+    requires pairs { All (IsPairOf net.now) pairs.now }
+    ensures found { IfOk result (λ vector. option_map (λ v. v.items) vector ≡ least_apart_of net.now care.now pairs.now) }
+    ensures full { result ≡ Err StoreFault.Full → IsFullFor d.old d.new order.now net.now care.now pairs.now }
+{
+    let rails = column_rails(alloc, d, order)?;
+    compare_columns(alloc, d, net, blocks, cut, care, order, pairs, &rails)
+}
+
+/// The least care vector on which the wires of some pair have different values in the fixpoint, one of them 1 and the
+/// other 0, or none where there is no such vector. It starts the diagrams anew, with a variable for each column and the
+/// limit. The columns are laid on the variables in the given order; the vector is least by column all the same.
+///
+/// `NodeLimit` carries the limit, and comes only where the diagrams hold as many nodes as the call ends, or a cover of the
+/// netlist or of a care model has more. It never comes at a limit of at least
+/// `16 * w * (G + 2) * (E + V + 4) + 8 * w * P` for P pairs, for each w that is wide for the functions of the comparison,
+/// laid on the variables in that order: G are the gates of the netlist and of both care models, E is their effort, and V
+/// is the number of columns. Nothing more is said of the diagrams after the call.
+///
+/// The condition is that blocks, cut and care are the netlist's, that the order has each column once, that the wires of
+/// each pair are the netlist's, and that the limit is at most 50,000,000.
+pub fn least_apart(
+    alloc: Global,
+    d: &mut Diagrams,
+    net: &Netlist,
+    blocks: &Blocks,
+    cut: &Cut,
+    care: &Care,
+    order: &[u32],
+    pairs: &[Pair],
+    limit: u32,
+) -> Result<Option<Bits>, DecideFault>
+    requires blocks { AreBlocksOf net.now blocks.now }
+    requires cut { IsCutOf net.now cut.now }
+    requires care { IsCareOf net.now care.now }
+    requires order { IsLayout (columns net.now) order.now }
+    requires pairs { All (IsPairOf net.now) pairs.now }
+    requires limit { limit ≤ MAX_NODES }
+    ensures found { IfOk result (λ vector. vector ≡ least_apart_of net.now care.now pairs.now) }
+    ensures fault { IfErr result (λ fault. (fault ≡ DecideFault.Memory) ⊎ (fault ≡ DecideFault.NodeLimit limit)) }
+    ensures cause { result ≡ Err (DecideFault.NodeLimit limit) → IsOutOfNodes d.new net.now care.now limit }
+    ensures below { result ≡ Err (DecideFault.NodeLimit limit) → IsBelowEnoughFor order.now net.now care.now pairs.now limit }
+{
+    if d.start(net.inputs() + net.latches(), limit).is_err() {
+        return Err(DecideFault::Memory);
+    }
+    match compare_on(alloc, d, net, blocks, cut, care, order, pairs) {
+        Ok(Some(vector)) => Ok(Some(Bits::of(vector))),
+        Ok(None) => Ok(None),
+        Err(StoreFault::Full) => Err(DecideFault::NodeLimit { nodes: limit }),
+        Err(StoreFault::Memory) => Err(DecideFault::Memory),
+    }
+}
