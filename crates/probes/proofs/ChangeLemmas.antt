@@ -16,7 +16,7 @@ use Rattle.probes.specs.Changes.{event_changes, round_changes, tick_changes, lat
 use Rattle.probes.proofs.HearingLemmas.{option_first}
 
 -- what is left of a list begins with the item at that place
-left_from : {T : Type 0} (items : List T) (i : ℕ) (item : T) → i < length items → item ≡ get_or items i item → drop i items ≡ item ∷ drop (i + 1) items
+pub left_from : {T : Type 0} (items : List T) (i : ℕ) (item : T) → i < length items → item ≡ get_or items i item → drop i items ≡ item ∷ drop (i + 1) items
 left_from items i item short is = drop_more items i item short ∙ ap (λ x. x ∷ drop (i + 1) items) (sym is)
 
 pub signals_left : (count n : ℕ) → n < count → drop n (range_with_len 0 count) ≡ n ∷ drop (n + 1) (range_with_len 0 count)
@@ -64,7 +64,7 @@ module _ (play : PlayState) (rounds : List RoundPlan) (i : ℕ) (round : RoundPl
   rounds_after = ap (after_plans play) (left_from rounds i round short is)
 
 -- the ticks from one on, each with its inputs and its rounds
-ticks_left : (vectors : List (List Bool)) (plans : List (List RoundPlan)) (i : ℕ) → length plans ≡ length vectors → i < length vectors → drop i (zip vectors plans) ≡ (get_or vectors i [], get_or plans i []) ∷ drop (i + 1) (zip vectors plans)
+pub ticks_left : (vectors : List (List Bool)) (plans : List (List RoundPlan)) (i : ℕ) → length plans ≡ length vectors → i < length vectors → drop i (zip vectors plans) ≡ (get_or vectors i [], get_or plans i []) ∷ drop (i + 1) (zip vectors plans)
 ticks_left vectors plans i e l =
     drop_more (zip vectors plans) i ([], []) (omega (arith, length-zip vectors plans))
     ∙ ap (λ (t : PlannedTick). t ∷ drop (i + 1) (zip vectors plans)) (get_or-zip vectors plans i ([], []) l (omega arith))

@@ -1,4 +1,5 @@
 mod ChangeLemmas
+mod FaultLemmas
 mod HearingLemmas
 mod RoundLemmas
 mod ShowLemmas

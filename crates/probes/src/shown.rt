@@ -1,10 +1,11 @@
 //! A recorded schedule, played, told and shown.
 
-ghost use Rattle.std.specs.Prelude.{◌≡◌, ◌⊎◌, [], List, Bool, length, map, All, Some, None, IfErr, IfOk, OnOk};
+ghost use Rattle.std.specs.Prelude.{◌≡◌, ◌⊎◌, [], List, Bool, length, map, All, Some, None, IfErr, IfOk, OnOk, OnErr};
 ghost use Rattle.netlist.specs.Netlists.{count};
 ghost use Rattle.schedules.specs.Runs.{ticks_of};
 ghost use Rattle.delay_core.specs.Plans.{schedule_fault, run_of, end_of, SettledIsTold, SettlesInTime};
 ghost use Rattle.probes.specs.Changes.{changes};
+ghost use Rattle.probes.specs.Hearing.{EachHears, EachHearsPrefix};
 ghost use Rattle.probes.specs.Showing.{texts_of};
 
 use crate::kind::Kind;
@@ -44,6 +45,9 @@ pub fn play_shown(
     ensures ends { IfOk result (λ run. run.ends.items ≡ map (end_of net.now) (ticks_of net.now (run_of schedule.now vectors.now))) }
     ensures settled { OnOk result (All (SettledIsTold net.now) (ticks_of net.now (run_of schedule.now vectors.now))) }
     ensures in_time { OnOk result (All (SettlesInTime net.now schedule.now.window) (ticks_of net.now (run_of schedule.now vectors.now))) }
+    ensures heard { OnOk result (EachHears kind heard text wanted (changes net.now schedule.now vectors.now) probes.old probes.new) }
+    ensures err { OnErr result (EachHearsPrefix kind heard text wanted (changes net.now schedule.now vectors.now) probes.old probes.new) }
+    ensures untold { IfErr result (λ fault. (fault ≡ PlayFault.Memory) ⊎ EachHears kind heard text wanted [] probes.old probes.new) }
     ensures text { IfOk result (λ run. run.text.items ≡ texts_of kind text wanted net.now (changes net.now schedule.now vectors.now) probes.old) }
 {
     let ends = play_told(alloc, net, vectors, schedule, probes, wanted)?;

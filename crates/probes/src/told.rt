@@ -8,7 +8,7 @@ ghost use Rattle.schedules.specs.Runs.{ticks_of};
 ghost use Rattle.delay_core.specs.declared.change.Change.{Change as change_type};
 ghost use Rattle.delay_core.specs.EventLists.{planned_at};
 ghost use Rattle.delay_core.specs.Plays.{PlayState, after_event, no_events, next_tick, change_by};
-ghost use Rattle.delay_core.specs.Plans.{after_planned, after_plan, after_plans, first_opened, schedule_fault, run_of, IsPlayedFairly, end_of, SettledIsTold, SettlesInTime};
+ghost use Rattle.delay_core.specs.Plans.{planned_fault, events_fault, after_planned, round_fault, after_plan, rounds_fault, after_plans, ticks_fault, first_opened, schedule_fault, run_of, IsPlayedFairly, end_of, SettledIsTold, SettlesInTime};
 ghost use Rattle.probes.specs.Changes.{openings, event_changes, round_changes, tick_changes, later_changes, changes};
 ghost use Rattle.probes.specs.Hearing.{EachHears, EachHearsPrefix};
 
@@ -16,7 +16,9 @@ use crate::kind::Kind;
 use crate::probe::Probe;
 use crate::tell::tell;
 use cyc_base::{Bits, Sig};
-use delay_core::{Change, Events, Play, PlayFault, RoundPlan, Schedule, TickEnd, play_whole};
+use delay_core::{
+    Change, EventFault, Events, Play, PlayFault, RoundPlan, Schedule, TickEnd, play_whole,
+};
 use netlist::Netlist;
 use std::alloc::{AllocError, Global};
 
@@ -52,7 +54,7 @@ fn tell_openings(
     Ok(())
 }
 
-/// Plays the event at this place, of a schedule without a fault, and tells what it changes.
+/// Plays the event at this place, which isn't refused, and tells what it changes.
 fn tell_event(
     play: &mut Play,
     events: &Events,
@@ -60,25 +62,27 @@ fn tell_event(
     probes: &mut [Box<dyn Probe>],
     wanted: Kind,
 ) -> Result<(), AllocError>
-    requires { i < length events.now }
+    requires place { i < length events.now }
+    requires none { planned_fault play.old.state (planned_at events.now i) ≡ None }
     ensures played { OnOk result (play.new.state ≡ after_event play.old.state (planned_at events.now i).event) }
     ensures heard { OnOk result (EachHears kind heard text wanted (cons_option (change_by play.old.state (planned_at events.now i).event) []) probes.old probes.new) }
     ensures err { OnErr result (EachHearsPrefix kind heard text wanted (cons_option (change_by play.old.state (planned_at events.now i).event) []) probes.old probes.new) }
 {
     match play.update(events.gate(i), events.ages(i)) {
         Ok(change) => tell_some(probes, wanted, change),
-        // There is no other fault, so memory was wanting.
-        Err(_) => Err(AllocError),
+        Err(EventFault::Memory) => Err(AllocError),
+        Err(_) => unreachable!(),
     }
 }
 
-/// Plays the events of a round.
+/// Plays the events of a round, of which none is refused.
 fn tell_events(
     play: &mut Play,
     events: &Events,
     probes: &mut [Box<dyn Probe>],
     wanted: Kind,
 ) -> Result<(), AllocError>
+    requires { events_fault play.old.state events.now ≡ None }
     ensures played { OnOk result (play.new.state ≡ after_planned play.old.state events.now) }
     ensures heard { OnOk result (EachHears kind heard text wanted (event_changes play.old.state events.now) probes.old probes.new) }
     ensures err { OnErr result (EachHearsPrefix kind heard text wanted (event_changes play.old.state events.now) probes.old probes.new) }
@@ -89,13 +93,14 @@ fn tell_events(
     Ok(())
 }
 
-/// Plays a round to its end.
+/// Plays a round without a fault to its end.
 fn tell_round(
     play: &mut Play,
     round: &RoundPlan,
     probes: &mut [Box<dyn Probe>],
     wanted: Kind,
 ) -> Result<(), AllocError>
+    requires { round_fault play.old.state round.now ≡ None }
     ensures played { OnOk result (play.new.state ≡ after_plan play.old.state round.now) }
     ensures heard { OnOk result (EachHears kind heard text wanted (event_changes play.old.state round.now.events) probes.old probes.new) }
     ensures err { OnErr result (EachHearsPrefix kind heard text wanted (event_changes play.old.state round.now.events) probes.old probes.new) }
@@ -103,18 +108,18 @@ fn tell_round(
     tell_events(play, &round.events, probes, wanted)?;
     match play.end_round() {
         Ok(()) => Ok(()),
-        // A schedule without a fault has an event of each gate.
-        Err(_) => Err(AllocError),
+        Err(_) => unreachable!(),
     }
 }
 
-/// Plays the rounds of a tick.
+/// Plays the rounds of a tick without a fault.
 fn tell_rounds(
     play: &mut Play,
     rounds: &[RoundPlan],
     probes: &mut [Box<dyn Probe>],
     wanted: Kind,
 ) -> Result<(), AllocError>
+    requires { rounds_fault play.old.state rounds.now ≡ None }
     ensures played { OnOk result (play.new.state ≡ after_plans play.old.state rounds.now) }
     ensures heard { OnOk result (EachHears kind heard text wanted (round_changes play.old.state rounds.now) probes.old probes.new) }
     ensures err { OnErr result (EachHearsPrefix kind heard text wanted (round_changes play.old.state rounds.now) probes.old probes.new) }
@@ -125,7 +130,7 @@ fn tell_rounds(
     Ok(())
 }
 
-/// Tells the opening of a tick, and plays its rounds.
+/// Tells the opening of a tick without a fault, and plays its rounds.
 fn tell_tick(
     net: &Netlist,
     play: &mut Play,
@@ -133,7 +138,8 @@ fn tell_tick(
     probes: &mut [Box<dyn Probe>],
     wanted: Kind,
 ) -> Result<(), AllocError>
-    requires { play.old.state.net ≡ net.now }
+    requires net { play.old.state.net ≡ net.now }
+    requires none { rounds_fault play.old.state rounds.now ≡ None }
     ensures played { OnOk result (play.new.state ≡ after_plans play.old.state rounds.now) }
     ensures heard { OnOk result (EachHears kind heard text wanted (tick_changes play.old.state rounds.now) probes.old probes.new) }
     ensures err { OnErr result (EachHearsPrefix kind heard text wanted (tick_changes play.old.state rounds.now) probes.old probes.new) }
@@ -142,7 +148,7 @@ fn tell_tick(
     tell_rounds(play, rounds, probes, wanted)
 }
 
-/// Starts a play and plays its first tick.
+/// Starts a play and plays its first tick, which has no fault.
 fn tell_first<'a>(
     alloc: Global,
     net: &'a Netlist,
@@ -156,6 +162,7 @@ fn tell_first<'a>(
     requires latches { length schedule.now.latches ≡ length net.now.latches }
     requires gates { length schedule.now.gates ≡ length net.now.gates }
     requires inputs { length inputs.now ≡ length net.now.inputs }
+    requires none { rounds_fault (first_opened net.now schedule.now inputs.now) rounds.now ≡ None }
     ensures played { IfOk result (λ play. play.state ≡ after_plans (first_opened net.now schedule.now inputs.now) rounds.now) }
     ensures heard { OnOk result (EachHears kind heard text wanted (tick_changes (first_opened net.now schedule.now inputs.now) rounds.now) probes.old probes.new) }
     ensures err { OnErr result (EachHearsPrefix kind heard text wanted (tick_changes (first_opened net.now schedule.now inputs.now) rounds.now) probes.old probes.new) }
@@ -173,7 +180,7 @@ fn tell_first<'a>(
     Ok(play)
 }
 
-/// Opens the next tick and plays it.
+/// Opens the next tick, which has no fault, and plays it.
 fn tell_next(
     net: &Netlist,
     play: &mut Play,
@@ -185,6 +192,7 @@ fn tell_next(
     requires net { play.old.state.net ≡ net.now }
     requires begun { play.old.state.done ≡ no_events net.now }
     requires inputs { length inputs.now ≡ length net.now.inputs }
+    requires none { rounds_fault (next_tick play.old.state inputs.now) rounds.now ≡ None }
     ensures played { OnOk result (play.new.state ≡ after_plans (next_tick play.old.state inputs.now) rounds.now) }
     ensures heard { OnOk result (EachHears kind heard text wanted (tick_changes (next_tick play.old.state inputs.now) rounds.now) probes.old probes.new) }
     ensures err { OnErr result (EachHearsPrefix kind heard text wanted (tick_changes (next_tick play.old.state inputs.now) rounds.now) probes.old probes.new) }
@@ -193,7 +201,7 @@ fn tell_next(
     tell_tick(net, play, rounds, probes, wanted)
 }
 
-/// Plays the ticks behind the first, after it, and tells their changes.
+/// Plays the ticks behind the first, which have no fault, after it, and tells their changes.
 fn tell_later(
     net: &Netlist,
     play: &mut Play,
@@ -206,6 +214,7 @@ fn tell_later(
     requires begun { play.old.state.done ≡ no_events net.now }
     requires inputs { All (λ (inputs : List Bool). length inputs ≡ length net.now.inputs) vectors.now }
     requires ticks { length schedule.now.ticks ≡ length vectors.now }
+    requires none { ticks_fault play.old.state (drop 1 (zip vectors.now schedule.now.ticks)) ≡ None }
     ensures heard { OnOk result (EachHears kind heard text wanted (later_changes play.old.state (drop 1 (zip vectors.now schedule.now.ticks))) probes.old probes.new) }
     ensures err { OnErr result (EachHearsPrefix kind heard text wanted (later_changes play.old.state (drop 1 (zip vectors.now schedule.now.ticks))) probes.old probes.new) }
 {
@@ -232,6 +241,7 @@ fn tell_run(
     requires gates { length schedule.now.gates ≡ length net.now.gates }
     requires inputs { All (λ (inputs : List Bool). length inputs ≡ length net.now.inputs) vectors.now }
     requires ticks { length schedule.now.ticks ≡ length vectors.now }
+    requires none { schedule_fault net.now schedule.now vectors.now ≡ None }
     ensures heard { OnOk result (EachHears kind heard text wanted (changes net.now schedule.now vectors.now) probes.old probes.new) }
     ensures err { OnErr result (EachHearsPrefix kind heard text wanted (changes net.now schedule.now vectors.now) probes.old probes.new) }
 {

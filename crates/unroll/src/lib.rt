@@ -17,5 +17,6 @@ mod sizes;
 mod unrolling;
 
 pub use fault::UnrollFault;
+pub use names::{copy_name, mark};
 pub use sizes::unrolled_size;
 pub use unrolling::unroll;

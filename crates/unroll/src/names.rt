@@ -46,8 +46,8 @@ fn longest_run_in(net: &Netlist) -> usize
     }
 }
 
-/// The mark: a run of `~` that is longer by one.
-pub(crate) fn mark(alloc: Global, net: &Netlist) -> Result<Name, AllocError>
+/// The mark of new names: a run of `~` that is longer by one than each in a name of the netlist.
+pub fn mark(alloc: Global, net: &Netlist) -> Result<Name, AllocError>
     ensures { IfOk result (λ mark. mark ≡ mark_of net.now) }
 {
     let longest = longest_run_in(net);
@@ -65,8 +65,9 @@ pub(crate) fn zero_name(alloc: Global, mark: &Name) -> Result<Name, AllocError>
     Ok(Name::new(bytes))
 }
 
-/// The name of a copy of a gate with this name.
-pub(crate) fn copy_name(
+/// The name of copy number so many of a gate with this name. Where the mark is a netlist's, it is none of its names, and
+/// copies of other numbers have other names.
+pub fn copy_name(
     alloc: Global,
     mark: &Name,
     number: u32,

@@ -1,4 +1,3 @@
-use Rattle.std.proofs.Common.{List, ℕ, ◌≡◌, ◌++◌, sym, ap, ◌∙◌}
 use Rattle.probes.proofs.TextLemmas.{texts_more}
 use Rattle.probes.proofs.show.show_kind.Goals as goal
 

@@ -7,5 +7,5 @@ returns-in-Ok-clause-heard g c = rw (← c.gate.ensures, ← c.ages.ensures, ←
 pub returns-in-Ok-clause-err : goal.returns-in-Ok-clause-err
 returns-in-Ok-clause-err g c = rw (← c.gate.ensures, ← c.ages.ensures, ← c.in-Ok.ensures.change) c.tell_some.ensures.err
 
-pub returns-in-Err-clause-err : goal.returns-in-Err-clause-err
-returns-in-Err-clause-err g c = each_prefix_none _ _ _ _ _ _
+pub returns-in-Err-Memory-clause-err : goal.returns-in-Err-Memory-clause-err
+returns-in-Err-Memory-clause-err g c = each_prefix_none _ _ _ _ _ _

@@ -1,11 +1,16 @@
-use Rattle.std.proofs.Common.{◌≡◌, ap}
-use Rattle.delay_core.specs.Plays.{SeenPlay, next_tick}
+use Rattle.std.proofs.Common.{◌≡◌, ap, ◌∙◌}
+use Rattle.delay_core.specs.Plays.{PlayState, SeenPlay, next_tick}
+use Rattle.delay_core.specs.Plans.{rounds_fault}
 use Rattle.probes.proofs.HearingLemmas.{each_prefix_none}
 use Rattle.probes.proofs.SliceLemmas.{on_err}
 use Rattle.probes.proofs.told.tell_next.Goals as goal
 
 pub returns-in_err-end_tick-clause-err : goal.returns-in_err-end_tick-clause-err
 returns-in_err-end_tick-clause-err g c = on_err c.from_residual.result (each_prefix_none _ _ _ _ _ _)
+
+pub tell_tick-requires-clause-none : goal.tell_tick-requires-clause-none
+tell_tick-requires-clause-none g c =
+    ap (λ (p : PlayState). rounds_fault p c.args.rounds.now) (ap (λ (p : SeenPlay). p.state) c.in_ok-end_tick.ensures.ok) ∙ c.requires.none
 
 pub returns-clause-heard : goal.returns-clause-heard
 returns-clause-heard g c =

@@ -1,13 +1,18 @@
 use Rattle.std.proofs.Common.{drop, ◌+◌, refl, ap, sym, ◌∙◌, arith}
 use Rattle.delay_core.specs.Plays.{PlayState}
-use Rattle.delay_core.specs.Plans.{after_plans}
+use Rattle.delay_core.specs.Plans.{rounds_fault, after_plans}
 use Rattle.probes.proofs.ChangeLemmas.{rounds_left, rounds_after, rounds_done}
+use Rattle.probes.proofs.FaultLemmas.{round_none, rounds_none}
 use Rattle.probes.proofs.HearingLemmas.{none_so_far, more_so_far, prefix_so_far, whole_so_far}
 use Rattle.probes.proofs.SliceLemmas.{on_err}
 use Rattle.probes.proofs.told.tell_rounds.Goals as goal
 
 pub loop-round-init : goal.loop-round-init
-loop-round-init g c = record { after = refl; told = none_so_far _ _ _ _ _ _ }
+loop-round-init g c = record { after = refl; none = c.requires; told = none_so_far _ _ _ _ _ _ }
+
+pub tell_round-requires : goal.tell_round-requires
+tell_round-requires g c =
+    round_none c.loop-round.play.state c.args.rounds.now c.loop-round.round-index c.round-item.result c.loop-round-test.true c.round-item.is c.loop-round.invariant.none
 
 pub loop-round-preserved : goal.loop-round-preserved
 loop-round-preserved g c =
@@ -15,6 +20,8 @@ loop-round-preserved g c =
       after = c.loop-round.invariant.after
           ∙ rounds_after c.loop-round.play.state c.args.rounds.now c.loop-round.round-index c.round-item.result c.loop-round-test.true c.round-item.is
           ∙ ap (λ (p : PlayState). after_plans p (drop (c.loop-round.round-index + 1) c.args.rounds.now)) (sym c.in_ok-tell_round.ensures.played);
+      none = ap (λ (p : PlayState). rounds_fault p (drop (c.loop-round.round-index + 1) c.args.rounds.now)) c.in_ok-tell_round.ensures.played
+          ∙ rounds_none c.loop-round.play.state c.args.rounds.now c.loop-round.round-index c.round-item.result c.loop-round-test.true c.round-item.is c.loop-round.invariant.none;
       told = rw c.in_ok-tell_round.ensures.played
           (more_so_far _ _ _ _ _ _ _ _ _ _ _ c.loop-round.invariant.told
           (rounds_left c.loop-round.play.state c.args.rounds.now c.loop-round.round-index c.round-item.result c.loop-round-test.true c.round-item.is)

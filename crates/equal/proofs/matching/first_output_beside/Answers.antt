@@ -1,0 +1,22 @@
+use Rattle.std.proofs.Common.{◌<◌, List, length, map, refl, ap, sym, ◌∙◌, arith}
+use Rattle.cyc_base.specs.declared.sig.Sig.{Sig}
+use Rattle.std.proofs.lemmas.List.{length-map}
+use Rattle.equal.specs.Matching.{name_of, is_output, output_names}
+use Rattle.equal.proofs.LoopLemmas.{output_next, output_here}
+use Rattle.equal.proofs.NameLemmas.{find_end}
+use Rattle.std.proofs.Common.{not}
+use Rattle.equal.proofs.matching.first_output_beside.Goals as goal
+
+pub loop-output-preserved : goal.loop-output-preserved
+loop-output-preserved c =
+    let own = c.outputs-own.result.now in
+    let inside : c.loop-output.output-index < length own = omega arith in
+    output_next c.args.net.now c.args.other.now own c.outputs-own.ensures.outputs c.loop-output.output-index _ _ c.name_of-name.result.now inside refl c.name_of-name.ensures.name c.loop-output.invariant
+    (sym c.is_output.ensures ∙ c.if-not-is_output.false)
+
+pub returns-then-not-is_output : goal.returns-then-not-is_output
+returns-then-not-is_output c =
+    let own = c.outputs-own.result.now in
+    let inside : c.loop-output.output-index < length own = omega arith in
+    output_here c.args.net.now c.args.other.now own c.outputs-own.ensures.outputs c.loop-output.output-index _ _ c.name_of-name.result.now inside refl c.name_of-name.ensures.name c.loop-output.invariant
+    (sym c.is_output.ensures ∙ c.if-not-is_output.true)

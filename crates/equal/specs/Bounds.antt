@@ -1,0 +1,39 @@
+-- How many nodes are enough for a comparison, and what its node limit rests on.
+use Rattle.std.specs.Prelude.{◌≡◌, ◌<◌, ◌+◌, ◌*◌, ◌⊎◌, ℕ, length}
+use Rattle.bdd_store.specs.Arena.{Arena}
+use Rattle.dual_rail.specs.WorkingLists.{IsWide}
+use Rattle.netlist.specs.declared.parts.Parts.{Parts}
+use Rattle.fixpoint.specs.Orders.{order}
+use Rattle.fixpoint.specs.Working.{effort, HasLargeCover}
+use Rattle.care_sets.specs.Care.{CareSet, columns}
+use Rattle.verdict.specs.Causes.{HasModelOver}
+use Rattle.verdict.specs.Enough.{IsLaid, in_all, enough}
+use Rattle.differences.specs.Comparisons.{IsLaidBy}
+use Rattle.equal.specs.Joined.{joined}
+
+-- w is wide for both decisions, and for the comparison of both netlists' gates on the first one's columns in its order
+pub record IsWideForBoth (a : Parts) (care_a : CareSet) (b : Parts) (care_b : CareSet) (w : ℕ) : Type 0 where
+  pub first : IsWide (columns a) (IsLaid a care_a) w
+  pub second : IsWide (columns b) (IsLaid b care_b) w
+  pub both : IsWide (columns a) (IsLaidBy (order a) (joined a b []) care_a) w
+
+-- a number of both netlists and their care models together
+abbrev pub in_both : (Parts → ℕ) → Parts → CareSet → Parts → CareSet → ℕ
+in_both f a care_a b care_b = in_all f a care_a + in_all f b care_b
+
+-- so many nodes are enough: for each decision, and for the comparison
+abbrev pub enough_for_both : Parts → CareSet → Parts → CareSet → ℕ → ℕ
+enough_for_both a care_a b care_b w =
+    enough a care_a w + enough b care_b w
+    + 16 * w * (in_both (λ net. length net.gates) a care_a b care_b + 2) * (in_both effort a care_a b care_b + columns a + 4)
+    + 8 * w * (length a.outputs + length a.latches)
+
+-- the limit is below that
+pub record IsBelowEnoughForBoth (a : Parts) (care_a : CareSet) (b : Parts) (care_b : CareSet) (limit : ℕ) : Type 0 where
+  pub below : (w : ℕ) → IsWideForBoth a care_a b care_b w → limit < enough_for_both a care_a b care_b w
+
+-- What a node limit rests on: the diagrams hold as many nodes as they may, or a cover of one of the netlists or of a care
+-- model has more.
+pub record IsOutOfNodesForBoth (d : Arena) (a : Parts) (care_a : CareSet) (b : Parts) (limit : ℕ) : Type 0 where
+  pub most : d.limit ≡ limit
+  pub cause : (length d.entries ≡ limit) ⊎ (HasLargeCover a limit ⊎ (HasLargeCover b limit ⊎ HasModelOver care_a limit))
