@@ -40,7 +40,7 @@ outputs_observed net care v accepted vector k d l =
     let here : get_or (net.outputs ++ sources) k d ≡ get_or net.outputs k d = get_or_append_left net.outputs sources d k l in
     rw here at (accepted.determined v vector k d (omega (arith, length-append net.outputs sources)))
 
-outputs_known : (net : Parts) (care : CareSet) (what : Observe) (v : List Bool) → IsNetlist net → Accepts net care what → IsCareVector net care v → AreDetermined net v net.outputs
+pub outputs_known : (net : Parts) (care : CareSet) (what : Observe) (v : List Bool) → IsNetlist net → Accepts net care what → IsCareVector net care v → AreDetermined net v net.outputs
 outputs_known net care observe.All v valid accepted vector = outputs_observed net care v (all_is_more net care observe.Outputs valid accepted) vector
 outputs_known net care observe.Outputs v valid accepted vector = outputs_observed net care v accepted vector
 

@@ -155,7 +155,7 @@ sound_model name rest blif each few =
       few_inputs = omega arith;
     }
 
-few_behind : (s : Statement) (rest : List Statement) → total input_count (s ∷ rest) ≤ 4000000000 → total input_count rest ≤ 4000000000
+few_behind : {most : ℕ} (s : Statement) (rest : List Statement) → total input_count (s ∷ rest) ≤ most → total input_count rest ≤ most
 few_behind s rest few = omega arith
 
 sound_models : (said : List Statement) → AreSound said → total input_count said ≤ 4000000000 → All IsSoundModel (models said)
@@ -277,3 +277,37 @@ of_lines text (Ok all) found are is few =
 
 pub can_be_flattened : (text : List ℕ) (found : List BlifModel) → reads text ≡ Ok found → length text ≤ 4000000000 → CanBeFlattened found
 can_be_flattened text found is few = of_lines text (lines text true) found refl is few
+
+-- No model has more inputs than its text has bytes.
+
+abbrev HasFewInputs : ℕ → BlifModel → Type 0
+HasFewInputs most model = length model.inputs ≤ most
+
+few_in_models : (most : ℕ) (said : List Statement) → total input_count said ≤ most → All (HasFewInputs most) (models said)
+few_in_models most [] few = All-nil (HasFewInputs most)
+few_in_models most (Model name ∷ rest) few =
+    let count = flat_count (members rest) in
+    let fewer = members_count rest in
+    All-cons (HasFewInputs most) (model_of name (members rest)) (models rest) (omega arith) (few_in_models most rest (few_behind (Model name) rest few))
+few_in_models most (Inputs names ∷ rest) few = few_in_models most rest (few_behind (Inputs names) rest few)
+few_in_models most (Outputs names ∷ rest) few = few_in_models most rest (few_behind (Outputs names) rest few)
+few_in_models most (Clocks names ∷ rest) few = few_in_models most rest (few_behind (Clocks names) rest few)
+few_in_models most (Names pins output ∷ rest) few = few_in_models most rest (few_behind (Names pins output) rest few)
+few_in_models most (Row row plane ∷ rest) few = few_in_models most rest (few_behind (Row row plane) rest few)
+few_in_models most (Latch latch ∷ rest) few = few_in_models most rest (few_behind (Latch latch) rest few)
+few_in_models most (Part part ∷ rest) few = few_in_models most rest (few_behind (Part part) rest few)
+few_in_models most (End ∷ rest) few = few_in_models most rest (few_behind End rest few)
+few_in_models most (Nothing ∷ rest) few = few_in_models most rest (few_behind Nothing rest few)
+
+few_of_lines : (text : List ℕ) (all : Result (List Line) ℕ) (found : List BlifModel) → lines text true ≡ all → reads_lines all ≡ Ok found
+    → All (λ model. length model.inputs ≤ length text) found
+few_of_lines text (Err n) found are is = absurd (cc is)
+few_of_lines text (Ok all) found are is =
+    let both = models_are (first_fault [] all) (models (map statement all)) found is in
+    let words = words_are_few text true all are in
+    let inputs = lines_count all in
+    let P : List BlifModel → Type 0 = λ ms. All (HasFewInputs (length text)) ms in
+    subst P both.1 (few_in_models (length text) (map statement all) (omega arith))
+
+pub few_inputs : (text : List ℕ) (found : List BlifModel) → reads text ≡ Ok found → All (λ model. length model.inputs ≤ length text) found
+few_inputs text found is = few_of_lines text (lines text true) found refl is

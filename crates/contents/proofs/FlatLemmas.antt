@@ -1,38 +1,64 @@
--- A flat netlist has the inputs of its top.
-use Rattle.std.proofs.Common.{◌≡◌, inl, inr, ℕ, ◌<◌, ◌≤◌, ◌⊎◌, List, length, get_or, Option, Some, None, Result, Ok, Err, refl, sym, ap, ◌∙◌, subst, arith}
+-- A flat netlist has the inputs of its top and the latches of its lines, and there are limits to both.
+use Rattle.std.proofs.Common.{◌≡◌, inl, inr, ℕ, ◌≤◌, List, [], length, Option, Some, None, Result, Ok, Err, refl, ap, ◌∙◌, arith}
 use Rattle.std.proofs.lemmas.Bool.{cases_lt}
-use Rattle.std.proofs.lemmas.List.{get_or_past}
+use Rattle.std.proofs.lemmas.List.{get_or_past, length-map}
 use Rattle.netlist.specs.declared.parts.Parts.{Parts}
+use Rattle.blif_read.specs.Reads.{reads}
 use Rattle.blif_read.specs.declared.models.BlifModel.{BlifModel}
-use Rattle.blif_read.specs.Flattening.{CanBeFlattened}
+use Rattle.blif_read.proofs.FlattenLemmas.{few_inputs}
 use Rattle.flatten.specs.declared.fault.FlatFault.{FlatFault}
 use Rattle.flatten.specs.Flat.{flat, linked_lines, flat_from, max_depth, max_items}
 use Rattle.flatten.specs.Instances.{find_model, model_at, no_model}
-use Rattle.flatten.specs.Linking.{linked, link_fault, netlist_by, signal_list, sig_of}
-use Rattle.flatten.specs.Walk.{FlatLines, flat_lines}
+use Rattle.flatten.specs.Linking.{latch_with, link_fault, netlist_by, signal_list, sig_of}
+use Rattle.flatten.specs.Walk.{FlatLines, events, flat_lines}
+use Rattle.flatten.specs.Wires.{mark_of}
+use Rattle.flatten.proofs.Stepping.{few_lines}
 
-top_inputs : (top : BlifModel) (all : Result FlatLines FlatFault) (net : Parts) → linked_lines top all ≡ Ok net → net.inputs ≡ top.inputs
-top_inputs top (Err fault) net e = cc
-top_inputs top (Ok lines) net e = by (link_fault top lines) e
+-- what a netlist has of its top and of the lines that were linked
+record IsLinked (top : BlifModel) (all : Result FlatLines FlatFault) (net : Parts) : Type 0 where
+  pub lines : FlatLines
+  pub are : all ≡ Ok lines
+  pub inputs : length net.inputs ≡ length top.inputs
+  pub latches : length net.latches ≡ length lines.latches
+
+is_linked : (top : BlifModel) (all : Result FlatLines FlatFault) (net : Parts) → linked_lines top all ≡ Ok net → IsLinked top all net
+is_linked top (Err fault) net e = absurd (cc)
+is_linked top (Ok lines) net e = by (link_fault top lines) e
   where
     by : (fault : Option FlatFault)
         → (let r : Result Parts FlatFault = elim fault [ Some fault ↦ Err fault | None ↦ Ok (netlist_by (sig_of (signal_list top lines)) top lines) ] in r ≡ Ok net)
-        → net.inputs ≡ top.inputs
-    by None is = (let h : netlist_by (sig_of (signal_list top lines)) top lines ≡ net = cc in ap (λ (p : Parts). p.inputs) (sym h))
-    by (Some fault) is = cc
+        → IsLinked top (Ok lines) net
+    by None is =
+        let h : net ≡ netlist_by (sig_of (signal_list top lines)) top lines = cc in
+        record {
+          lines = lines;
+          are = refl;
+          inputs = ap (λ (p : Parts). length p.inputs) h;
+          latches = ap (λ (p : Parts). length p.latches) h ∙ length-map lines.latches (latch_with (sig_of (signal_list top lines)));
+        }
+    by (Some fault) is = absurd (cc)
 
-few : (models : List BlifModel) (i : ℕ) → CanBeFlattened models → length (model_at models i).inputs ≤ 4000000000
-few models i can =
+few : (text : List ℕ) (models : List BlifModel) (i : ℕ) → reads text ≡ Ok models → length (model_at models i).inputs ≤ length text
+few text models i are =
     elim (cases_lt i (length models)) [
-      | inl inside ↦ (can.sound i no_model inside).few_inputs
+      | inl inside ↦ few_inputs text models are i no_model inside
       | inr past ↦ rw (get_or_past models i no_model past) (omega arith)
     ]
 
-pub flat_has_few_inputs : (models : List BlifModel) (top : List ℕ) (net : Parts) → CanBeFlattened models → flat models top ≡ Ok net
-    → length net.inputs ≤ 4000000000
-flat_has_few_inputs models top net can e = by (find_model models top) e
+-- at most as many inputs as its text has bytes, and at most as many latches as a flat netlist may have
+pub record HasFewColumns (text : List ℕ) (net : Parts) : Type 0 where
+  pub inputs : length net.inputs ≤ length text
+  pub latches : length net.latches ≤ 4000000
+
+pub flat_has_few_columns : (text : List ℕ) (models : List BlifModel) (top : List ℕ) (net : Parts) → reads text ≡ Ok models → flat models top ≡ Ok net
+    → HasFewColumns text net
+flat_has_few_columns text models top net are e = by (find_model models top) e
   where
-    by : (found : Option ℕ) → flat_from max_depth max_items models top found ≡ Ok net → length net.inputs ≤ 4000000000
-    by None is = cc
+    by : (found : Option ℕ) → flat_from max_depth max_items models top found ≡ Ok net → HasFewColumns text net
+    by None is = absurd (cc)
     by (Some i) is =
-        subst (λ (k : ℕ). k ≤ 4000000000) (sym (ap length (top_inputs (model_at models i) (flat_lines max_depth max_items models i) net is))) (few models i can)
+        let model = model_at models i in
+        let linked = is_linked model (flat_lines max_depth max_items models i) net is in
+        let inputs = few text models i are in
+        let latches = few_lines max_items (events max_depth max_depth models model.name (mark_of models) [] 1 model.body) linked.lines linked.are in
+        record { inputs = omega (arith, linked.inputs, inputs); latches = omega (arith, linked.latches, latches) }

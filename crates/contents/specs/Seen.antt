@@ -7,15 +7,12 @@ use Rattle.flatten.specs.declared.fault.FlatFault.{FlatFault}
 use Rattle.flatten.specs.declared.fault.FlatFault.TheVariants as walk
 use Rattle.care_sets.specs.declared.fault.CareFault.{CareFault}
 use Rattle.care_sets.specs.declared.fault.CareFault.TheVariants as care
-use Rattle.delay_core.specs.declared.fault.EventFault.TheVariants as event
-use Rattle.delay_core.specs.declared.fault.PlayFault.{PlayFault}
-use Rattle.delay_core.specs.declared.fault.PlayFault.TheVariants as play
 use Rattle.netlist.specs.declared.parts.Parts.{Parts}
 use Rattle.sched_text.specs.declared.fault.SchedFault.{SchedFault}
 use Rattle.sched_text.specs.declared.fault.SchedFault.TheVariants as sched
 use Rattle.report.specs.Texts.{no_tail, name_tail, number_tail}
 use Rattle.contents.specs.Faults as found
-use Rattle.contents.specs.ScheduleFiles.{sched_fault, play_fault}
+use Rattle.contents.specs.ScheduleFiles.{sched_fault}
 use Rattle.contents.specs.declared.fault.Fault.{Fault}
 use Rattle.contents.specs.declared.fault.FileError.{FileError}
 use Rattle.contents.specs.declared.fault.FileError.TheVariants.{Has, Memory}

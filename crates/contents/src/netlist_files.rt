@@ -23,12 +23,12 @@ fn top(models: &[BlifModel]) -> &Name
 }
 
 // The netlist of a text that isn't too long.
-#[tactic(auto, using(crate::proofs::FlatLemmas::flat_has_few_inputs))]
 fn netlist_in(alloc: Global, bytes: &[u8]) -> Result<Netlist, FileError>
     requires { length bytes.now ≤ MAX_FILE_BYTES }
     ensures good { IfOk result (λ net. netlist_meant bytes.now ≡ Ok net) }
     ensures valid { IfOk result IsNetlist }
-    ensures inputs { IfOk result (λ net. length net.inputs ≤ 4000000000) }
+    ensures inputs { IfOk result (λ net. length net.inputs ≤ 67108864) }
+    ensures latches { IfOk result (λ net. length net.latches ≤ 4000000) }
     ensures bad { IfErr result (λ error. IsErrorOf (netlist_meant bytes.now) (error_seen error)) }
 {
     let models = read(alloc, bytes)?;
@@ -36,12 +36,14 @@ fn netlist_in(alloc: Global, bytes: &[u8]) -> Result<Netlist, FileError>
 }
 
 /// The netlist of a file at its first model, or the file's first fault: that it is over 67,108,864 bytes long, then
-/// that of its text, then that of flattening. A netlist has at most 4,000,000,000 inputs.
+/// that of its text, then that of flattening. A netlist has at most as many inputs as a file has bytes, and at most
+/// 4,000,000 latches.
 #[tactic(auto, using(crate::proofs::NetlistLemmas::netlist_of_long))]
 pub fn netlist_of(alloc: Global, bytes: &[u8]) -> Result<Netlist, FileError>
     ensures good { IfOk result (λ net. netlist_meant bytes.now ≡ Ok net) }
     ensures valid { IfOk result IsNetlist }
-    ensures inputs { IfOk result (λ net. length net.inputs ≤ 4000000000) }
+    ensures inputs { IfOk result (λ net. length net.inputs ≤ 67108864) }
+    ensures latches { IfOk result (λ net. length net.latches ≤ 4000000) }
     ensures bad { IfErr result (λ error. IsErrorOf (netlist_meant bytes.now) (error_seen error)) }
 {
     if bytes.len() > MAX_FILE_BYTES {

@@ -51,6 +51,7 @@ pub record Match (a b : Parts) : Type 0 where
   pub latches_ab : (k : ℕ) (d : Latch) → k < length a.latches → has_latch b (get_or a.latches k d) ≡ true
   pub latches_ba : (k : ℕ) (d : Latch) → k < length b.latches → is_latch a (get_or b.latches k d).name ≡ true
   pub outputs_ab : (k : ℕ) (d : List ℕ) → k < length (output_names a) → is_output b (get_or (output_names a) k d) ≡ true
+  pub outputs_ba : (k : ℕ) (d : List ℕ) → k < length (output_names b) → is_output a (get_or (output_names b) k d) ≡ true
 
 pub matched : (a b : Parts) → unmatched a b ≡ None → Match a b
 matched a b none =
@@ -59,12 +60,14 @@ matched a b none =
     let three = none_first _ _ two.1 in
     let four = none_first _ _ three.1 in
     let five = none_first _ _ four.1 in
+    let six = none_first _ _ five.1 in
     record {
       inputs_ab = passes (is_input b) a.inputs one.0;
       inputs_ba = passes (is_input a) b.inputs two.0;
       latches_ab = passes (has_latch b) a.latches (none_mapped latch_name _ three.0);
       latches_ba = passes (λ latch. is_latch a latch.name) b.latches (none_mapped latch_name _ four.0);
       outputs_ab = passes (is_output b) (output_names a) five.0;
+      outputs_ba = passes (is_output a) (output_names b) six.0;
     }
 
 -- ---- columns by name

@@ -104,6 +104,7 @@ fn joined_pairs(
     ensures { IfOk result (λ pairs. pairs.items ≡ joined_pairs_of a.now b.now) }
 {
     let own = own_pairs(alloc, a, b)?;
+    let _ = a.gates();
     let _ = b.gates();
     moved_pairs(alloc, columns, a.count(), &own)
 }
@@ -139,6 +140,7 @@ fn joined_netlist(
     requires fits { count a.now + length b.now.gates ≤ 4294967295 }
     ensures { IfOk result (λ net. net ≡ joined a.now b.now []) }
 {
+    let _ = a.gates();
     let _ = b.gates();
     let mark = mark(alloc, a)?;
     let gates = joined_gates(alloc, a, b, columns, &mark)?;

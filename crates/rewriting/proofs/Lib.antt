@@ -2,3 +2,4 @@ mod AgreeLemmas
 mod NeededLemmas
 mod CoverLemmas
 mod RewrittenLemmas
+mod GraphLemmas

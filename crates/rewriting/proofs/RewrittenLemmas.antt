@@ -51,7 +51,7 @@ rewritten_has_its_size net care = unrolled_has_its_size net (loops_of net) (loop
 pub rewritten_latches : (net : Parts) (care : CareSet) → length (rewritten net care).latches ≡ length net.latches
 rewritten_latches net care = length-map net.latches (kept_latch net (shift net (loops_of net) (sweeps_needed net care)))
 
-same_interface : (net : Parts) (care : CareSet) → HasSameInterface net (rewritten net care)
+pub same_interface : (net : Parts) (care : CareSet) → HasSameInterface net (rewritten net care)
 same_interface net care =
     let keeps = unrolled_keeps_interface net (loops_of net) (loops_exist net) (sweeps_needed net care) (needed_is_of_loops net care) in
     record { inputs = keeps.inputs; latches = keeps.latches; inits = keeps.inits; outputs = keeps.outputs; clock = keeps.clock }
@@ -62,7 +62,7 @@ enough_on_care net care v counts = record {
   fixed = λ a looped. (needed_is_least net care a).enough (bits v) (care-values net care v counts);
 }
 
-tells_as_much : (net : Parts) (care : CareSet) → TellsAsMuch net (rewritten net care) care
+pub tells_as_much : (net : Parts) (care : CareSet) → TellsAsMuch net (rewritten net care) care
 tells_as_much net care =
     let at = λ (v : List Bool) (counts : IsCareVector net care v).
     unrolled_tells_as_much net (loops_of net) (loops_exist net) (sweeps_needed net care) (needed_is_of_loops net care) (bits v) (enough_on_care net care v counts) in

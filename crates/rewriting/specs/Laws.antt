@@ -1,5 +1,5 @@
 -- The laws of rewriting.
-use Rattle.std.specs.Prelude.{◌≡◌, ◌+◌, ℕ, List, length}
+use Rattle.std.specs.Prelude.{◌≡◌, ◌+◌, ℕ, length}
 use Rattle.netlist.specs.declared.parts.Parts.{Parts}
 use Rattle.netlist.specs.Netlists.{IsNetlist}
 use Rattle.netlist.specs.Walks.{IsLoopFree}
@@ -10,6 +10,9 @@ use Rattle.refusals.specs.declared.observe.Observe.{Observe}
 use Rattle.refusals.specs.Acceptance.{Accepts}
 use Rattle.schedules.specs.Settling.{Same}
 use Rattle.verdict.specs.Verdicts.{are_care_values}
+use Rattle.aig_core.specs.declared.building.Built.{Built}
+use Rattle.aig_core.specs.Answers.{HasValues}
+use Rattle.rewriting.specs.Graphs.{RunsAs, machine_of}
 use Rattle.rewriting.specs.Rewriting.{sweeps_needed, rewritten, rewritten_size}
 
 -- a loop needs the least number of sweeps after which its cut wires stand at the fixpoint on all care vectors
@@ -30,3 +33,8 @@ RewrittenHasItsSize = (net : Parts) (care : CareSet) →
 abbrev pub RewrittenShowsTheSame : Type 0
 RewrittenShowsTheSame = (net : Parts) (care : CareSet) (what : Observe) → IsNetlist net → Accepts net care what →
     Same net (rewritten net care) care
+
+-- So do the machines of all graphs that have the rewritten netlist's values, over all runs.
+abbrev pub GraphsShowTheSame : Type 0
+GraphsShowTheSame = (net : Parts) (care : CareSet) (what : Observe) (graph : Built) → IsNetlist net → Accepts net care what →
+    HasValues (rewritten net care) graph → RunsAs net care (machine_of graph)

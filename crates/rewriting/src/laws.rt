@@ -1,6 +1,6 @@
 //! The laws of rewriting, each the contract of a function that does nothing.
 
-ghost use Rattle.rewriting.specs.Laws.{NeededIsLeast, RewrittenIsLoopFree, RewrittenHasItsSize, RewrittenShowsTheSame};
+ghost use Rattle.rewriting.specs.Laws.{GraphsShowTheSame, NeededIsLeast, RewrittenIsLoopFree, RewrittenHasItsSize, RewrittenShowsTheSame};
 
 /// The sweeps that are counted for a netlist are those that its loops need.
 pub fn needed_sweeps_are_least()
@@ -12,4 +12,10 @@ pub fn rewriting_keeps_behaviour()
     ensures loop_free { RewrittenIsLoopFree }
     ensures size { RewrittenHasItsSize }
     ensures same { RewrittenShowsTheSame }
+{}
+
+/// Each run of an accepted netlist within care does what the machine of a graph does that has the rewritten netlist's
+/// values.
+pub fn graphs_keep_behaviour()
+    ensures { GraphsShowTheSame }
 {}

@@ -1,7 +1,8 @@
-use Rattle.std.proofs.Common.{ap, ◌∙◌}
+use Rattle.std.proofs.Common.{ap, ◌∙◌, arith}
 use Rattle.std.proofs.lemmas.Result.{err_from_is_err_and}
 use Rattle.contents.specs.NetlistFiles.{models_result, top_of}
 use Rattle.contents.proofs.ErrorLemmas.{or_more, text_says, walk_says}
+use Rattle.contents.proofs.FlatLemmas.{flat_has_few_columns}
 use Rattle.contents.proofs.NetlistLemmas.{first_bad, netlist_of_short}
 use Rattle.contents.proofs.netlist_files.netlist_in.Goals as goal
 
@@ -17,3 +18,11 @@ returns-in_err-flatten-clause-bad c =
     rw q.1 (walk_says _ c.in_err-flatten.field-0.0 _ q.2
     (or_more (first_bad c.args.bytes.now _ c.top.result.now _ c.requires c.in_ok-models.ensures.models (c.top.ensures ∙ ap top_of c.items.ensures))
     c.in_err-flatten.ensures.fault))
+
+pub returns-clause-inputs : goal.returns-clause-inputs
+returns-clause-inputs c =
+    let few = (flat_has_few_columns c.args.bytes.now _ _ _ c.in_ok-models.ensures.models c.in_ok-flatten.ensures.netlist).inputs in
+    omega (arith, few, c.requires)
+
+pub returns-clause-latches : goal.returns-clause-latches
+returns-clause-latches c = (flat_has_few_columns c.args.bytes.now _ _ _ c.in_ok-models.ensures.models c.in_ok-flatten.ensures.netlist).latches

@@ -1,0 +1,7 @@
+use Rattle.equal.proofs.least.difference_netlist.Goals as goal
+
+pub netlist_of-requires : goal.netlist_of-requires
+netlist_of-requires c = ?
+
+pub returns : goal.returns
+returns c = ?

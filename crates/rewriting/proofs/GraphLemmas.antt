@@ -1,0 +1,98 @@
+-- A graph with the rewritten netlist's values is a machine that does what the accepted netlist does.
+use Rattle.std.proofs.Common.{◌≡◌, ◌≢◌, Bool, List, [], length, sym, ap, ◌∙◌, subst, arith}
+use Rattle.std.specs.Prelude.{slice_index_or}
+use Rattle.std.proofs.lemmas.List.{length-map}
+use Rattle.std.proofs.lemmas.List.Elements.{All-map}
+use Rattle.cyc_base.specs.declared.sig.Sig.{Sig}
+use Rattle.cyc_base.specs.declared.trit.Trit.{Trit}
+use Rattle.cyc_base.specs.declared.trit.Trit.TheVariants.{X}
+use Rattle.cyc_base.specs.Values.{bits, Completes, EachBelow}
+use Rattle.cyc_base.proofs.OrderLemmas.{above_bits}
+use Rattle.netlist.specs.declared.parts.Latch.{Latch}
+use Rattle.netlist.specs.declared.parts.Parts.{Parts}
+use Rattle.netlist.specs.Netlists.{signal_names, IsNetlist}
+use Rattle.netlist.specs.Fixpoint.{wire, fix, outs, next}
+use Rattle.care_sets.specs.Care.{CareSet, IsCareVector}
+use Rattle.refusals.specs.declared.observe.Observe.{Observe}
+use Rattle.refusals.specs.Acceptance.{Accepts}
+use Rattle.isolation.proofs.ExcerptLemmas.{known_list}
+use Rattle.schedules.specs.Settling.{HasSameInterface}
+use Rattle.accepted_runs.specs.Machines.{FitsFixpoint}
+use Rattle.accepted_runs.proofs.CareLemmas.{outputs_known}
+use Rattle.accepted_runs.proofs.MachineLemmas.{runs_are_machines}
+use Rattle.aig_core.specs.declared.building.Built.{Built}
+use Rattle.aig_core.specs.Answers.{FitsNetlist, HasValues}
+use Rattle.aig_core.specs.Building.{built, columns}
+use Rattle.rewriting.specs.Graphs.{machine_of, IsGraphing}
+use Rattle.rewriting.specs.Laws.{GraphsShowTheSame}
+use Rattle.rewriting.specs.Rewriting.{rewritten, IsRewriting}
+use Rattle.rewriting.proofs.RewrittenLemmas.{same_interface, tells_as_much}
+
+-- values that are known, and values above them that are told by Boolean ones
+known_told : (values above : List Trit) (known told : List Bool) → EachBelow values above → bits known ≡ values → bits told ≡ above → values ≡ bits told
+known_told values above known told below is_known is_told =
+    let lower : EachBelow (bits known) above = subst (λ (x : List Trit). EachBelow x above) (sym is_known) below in
+    let completes : Completes (bits known) told = subst (EachBelow (bits known)) (sym is_told) lower in
+    sym is_known ∙ ap bits (sym (above_bits known told completes))
+
+-- how many columns the rewritten netlist has
+pub same_columns : (net other : Parts) → HasSameInterface net other → columns other ≡ columns net
+same_columns net other same =
+    let inputs = ap length same.inputs in
+    let names = ap length same.latches in
+    let own = length-map net.latches (λ (latch : Latch). latch.name) in
+    let others = length-map other.latches (λ (latch : Latch). latch.name) in
+    omega (arith, inputs, names, own, others)
+
+module _ (net : Parts) (care : CareSet) (what : Observe) (graph : Built) (valid : IsNetlist net) (accepts : Accepts net care what) (values : HasValues (rewritten net care) graph) where
+  width : (v : List Bool) → IsCareVector net care v → length v ≡ columns (rewritten net care)
+  width v counts = counts.width ∙ sym (same_columns net (rewritten net care) (same_interface net care))
+
+  outputs_told : (v : List Bool) → IsCareVector net care v → outs net (bits v) ≡ bits ((machine_of graph).shown v)
+  outputs_told v counts =
+      let determined = outputs_known net care what v valid accepts counts in
+      let known = known_list (outs net (bits v)) (All-map (λ value. value ≢ X) (wire (fix net (bits v))) net.outputs determined) in
+      known_told (outs net (bits v)) (outs (rewritten net care) (bits v)) known.0 ((machine_of graph).shown v)
+      ((tells_as_much net care).outputs v counts) known.1 (values.outputs v (width v counts))
+
+  loads_told : (v : List Bool) → IsCareVector net care v → next net (bits v) ≡ bits ((machine_of graph).loads v)
+  loads_told v counts =
+      let after = accepts.closed v counts in
+      known_told (next net (bits v)) (next (rewritten net care) (bits v)) after.state ((machine_of graph).loads v)
+      ((tells_as_much net care).loads v counts) (sym after.is) (values.nexts v (width v counts))
+
+  fits_fixpoint : FitsFixpoint net care (machine_of graph)
+  fits_fixpoint = record { outputs = outputs_told; loads = loads_told }
+
+pub graphs_show_the_same : GraphsShowTheSame
+graphs_show_the_same net care what graph valid accepts values run is within =
+    runs_are_machines net care what (machine_of graph) run valid accepts (fits_fixpoint net care what graph valid accepts values) is within
+
+-- a graph that fits a netlist fits each one of the same interface
+fits_too : (net other : Parts) (graph : Built) → HasSameInterface net other → FitsNetlist other graph → FitsNetlist net graph
+fits_too net other graph same fits =
+    let inputs = ap length same.inputs in
+    let names = ap length same.latches in
+    let own = length-map net.latches (λ (latch : Latch). latch.name) in
+    let others = length-map other.latches (λ (latch : Latch). latch.name) in
+    let outputs = ap length same.outputs in
+    let own_outputs = length-map net.outputs (λ (s : Sig). slice_index_or (signal_names net) s.0 []) in
+    let other_outputs = length-map other.outputs (λ (s : Sig). slice_index_or (signal_names other) s.0 []) in
+    record {
+      inputs = omega (arith, inputs, fits.inputs);
+      latches = omega (arith, names, own, others, fits.latches);
+      output_count = omega (arith, outputs, own_outputs, other_outputs, fits.output_count);
+      next_count = omega (arith, names, own, others, fits.next_count);
+      outputs = fits.outputs;
+      nexts = fits.nexts;
+    }
+
+-- what a user has of the graph of a netlist that was made by rewriting
+pub is_graphing : (net : Parts) (care : CareSet) (what : Observe) (other : Parts) (graph : Built) → IsNetlist net → Accepts net care what
+    → IsRewriting net care other → graph ≡ built other → FitsNetlist other graph → HasValues other graph → IsGraphing net care graph
+is_graphing net care what other graph valid accepts rewriting is fits values = record {
+  is = is ∙ ap built rewriting.is;
+  fits = fits_too net other graph rewriting.same.interface fits;
+  interface = same_interface net care;
+  runs = graphs_show_the_same net care what graph valid accepts (subst (λ (p : Parts). HasValues p graph) rewriting.is values);
+}
