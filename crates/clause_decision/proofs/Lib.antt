@@ -1,3 +1,4 @@
+pub mod ChangeLemmas
 pub mod ConeLemmas
 pub mod FormulaLemmas
 pub mod LeavingLemmas

@@ -1,24 +1,25 @@
 -- Sweeps of a loop on top of a cone, and how many are needed.
-use Rattle.std.proofs.Common.{◌≡◌, inl, inr, ℕ, zero, suc, ◌<◌, ◌≤◌, ◌+◌, ◌-◌, ◌*◌, ◌==◌, Bool, true, false, not, ◌&&◌, ◌||◌, cond, List, [], ◌∷◌, ◌++◌, length, map, filter, take, get_or, Option, Some, None, Contains, refl, sym, ap, ap₂, subst, ◌∙◌, arith, true≢false, append-nil}
+use Rattle.std.proofs.Common.{◌≡◌, inl, inr, ℕ, zero, suc, ◌<◌, ◌≤◌, ◌+◌, ◌-◌, ◌*◌, ◌==◌, Bool, true, false, not, ◌&&◌, ◌||◌, cond, List, [], ◌∷◌, ◌++◌, length, map, filter, take, get_or, leb, Option, Some, None, Contains, refl, sym, ap, ap₂, subst, ◌∙◌, arith, true≢false, append-nil}
 use Rattle.std.specs.List.{All, list_any, range_with_len}
-use Rattle.std.proofs.lemmas.Bool.{cases_lt, and_parts, eq-eqb}
+use Rattle.std.proofs.lemmas.Bool.{cases_lt, and_parts, and_from, eq-eqb, le-leb}
 use Rattle.std.proofs.lemmas.List.{length-map, get_or-replicate, get_or_default, length_push, take_all}
 use Rattle.std.proofs.lemmas.List.FromFn.{length-range_with_len}
 use Rattle.std.proofs.lemmas.List.Elements.{All-push, All-weaker, All-map, All-get_or, All-take, All-contains, Contains-get_or, Contains-append_left, Contains-push, filter_more}
 use Rattle.cyc_base.specs.declared.sig.Sig.{Sig}
 use Rattle.cyc_base.specs.declared.trit.Trit.{Trit}
-use Rattle.cyc_base.specs.declared.trit.Trit.TheVariants.{Zero, One, X}
+use Rattle.cyc_base.specs.declared.trit.Trit.TheVariants.{X}
 use Rattle.cyc_base.specs.Values.{bit, bits}
 use Rattle.cyc_base.proofs.OrderLemmas.{EachBelow-at}
 use Rattle.netlist.specs.declared.parts.Parts.{Parts}
 use Rattle.netlist.specs.Netlists.{IsNetlist, count, gate_at, no_gate, signal}
 use Rattle.netlist.specs.Fixpoint.{fix_gates}
+use Rattle.netlist.specs.Walks.{Feeds}
 use Rattle.loops.specs.declared.structure.Blocks.{Blocks}
 use Rattle.loops.specs.declared.structure.Cut.{Cut}
 use Rattle.loops.specs.Blocks.{AreBlocksOf, block_at, home_of}
 use Rattle.loops.specs.Cuts.{AreLoopsOf, IsCutOf, Loops, loops_by, is_cut}
 use Rattle.loops.specs.Orders.{AreGatesOfLoop}
-use Rattle.loops.specs.Sweeps.{CutsAreFixed, cuts_of, first_gate, gate_of, sweeps, value_in}
+use Rattle.loops.specs.Sweeps.{CutsAreFixed, cuts_of, first_gate, gate_of, in_loop_of, sweeps, value_in}
 use Rattle.loops.proofs.LoopCuts.{has-cut}
 use Rattle.loops.proofs.Reading.{Contains-filter, Contains-filter_from, Contains-range, Contains-range_from, map_agree}
 use Rattle.loops.proofs.Sweeps.{cut_values_agree, few_sweeps_are_enough, sweeps_stay_below_fix}
@@ -43,6 +44,7 @@ use Rattle.clause_decision.specs.Sweeping.{IsLeastCount, NeedsMore}
 use Rattle.clause_decision.specs.Sweepings.{open_literals, AreCutPlacesBelow, AreCutPlaces, IsOpenAfter, AreKnownAfter, SaysOpen, TellsAfter}
 use Rattle.clause_decision.proofs.FormulaLemmas.{ones-read}
 use Rattle.clause_decision.proofs.SignalLemmas.{known-below, negation-within, column_rails-length, signal-at, gate-read, three}
+use Rattle.clause_decision.proofs.UnknownLemmas.{unknown-value}
 
 -- ---- the places of cut wires
 
@@ -164,25 +166,30 @@ module _ (net : Parts) (marks : List Bool) (loops : Loops) (gates : List ℕ) (p
       past (b ∷ bs) zero l = absurd (omega (arith, l))
       past (b ∷ bs) (suc k) l = past bs k (omega (arith, l))
 
-  -- it stands for the fixpoint where the gates of the scope do
-  pub outside-read : (rails : List Rails) (m v : List Bool) → length rails ≡ count net → length v ≡ columns net → ReadsAll m (column_rails net rails) (bits v) →
-      ((n : ℕ) → IsWanted net marks n → Reads m (gate_rails net rails n) (value_in (fix_gates net (bits v)) n)) → ReadsOutside net loops gates rails m (bits v)
-  outside-read rails m v size wide columns_read gates_read n inside k d less out =
+  -- it stands for the fixpoint where the gates of the scope do that feed the loop
+  pub fed-read : (rails : List Rails) (m v : List Bool) → length rails ≡ count net → length v ≡ columns net → ReadsAll m (column_rails net rails) (bits v) →
+      ((g n : ℕ) → Contains gates n → Feeds net g n → loops.same n g ≡ false → IsWanted net marks g → Reads m (gate_rails net rails g) (value_in (fix_gates net (bits v)) g)) → ReadsOutside net loops gates rails m (bits v)
+  fed-read rails m v size wide columns_read gates_read n inside k d less out =
       let is_in : is_marked marks n ≡ true = All-contains (λ g. is_marked marks g ≡ true) gates n marked inside in
       let reader : n < length net.gates = gate-within n is_in in
       let pin : Sig = get_or (gate_at net n).pins k d in
       let low : pin.0 < count net = proper.pins n no_gate reader k d less in
       signal-at net rails m v size wide columns_read pin (λ high.
-      gates_read (gate_of net pin) (record {
-        within = omega (arith, low, high);
-        marked = closed (gate_of net pin) n
-            (record {
-              source = omega (arith, low, high);
-              reader = reader;
-              pin = subst (Contains (gate_at net n).pins) (let e : pin.0 ≡ first_gate net + gate_of net pin = omega (arith, high) in ap signal e) (Contains-get_or (gate_at net n).pins k d less);
-            })
-            is_in;
-      }))
+      let feeds : Feeds net (gate_of net pin) n = record {
+        source = omega (arith, low, high);
+        reader = reader;
+        pin = subst (Contains (gate_at net n).pins) (let e : pin.0 ≡ first_gate net + gate_of net pin = omega (arith, high) in ap signal e) (Contains-get_or (gate_at net n).pins k d less);
+      } in
+      gates_read (gate_of net pin) n inside feeds (apart n pin high out (loops.same n (gate_of net pin)) refl) (record { within = feeds.source; marked = closed (gate_of net pin) n feeds is_in }))
+    where
+      apart : (n : ℕ) (pin : Sig) → first_gate net ≤ pin.0 → in_loop_of net loops n pin ≡ false → (b : Bool) → loops.same n (gate_of net pin) ≡ b → loops.same n (gate_of net pin) ≡ false
+      apart n pin high out false e = e
+      apart n pin high out true e = absurd (true≢false (sym (and_from (leb (first_gate net) pin.0) (loops.same n (gate_of net pin)) (le-leb (first_gate net) pin.0 high) e) ∙ out))
+
+  -- and so where all gates of the scope do
+  pub outside-read : (rails : List Rails) (m v : List Bool) → length rails ≡ count net → length v ≡ columns net → ReadsAll m (column_rails net rails) (bits v) →
+      ((n : ℕ) → IsWanted net marks n → Reads m (gate_rails net rails n) (value_in (fix_gates net (bits v)) n)) → ReadsOutside net loops gates rails m (bits v)
+  outside-read rails m v size wide columns_read gates_read = fed-read rails m v size wide columns_read (λ g n inside feeds apart wanted. gates_read g wanted)
 
   -- at care vectors, where no gate is unknown, it does in each model
   pub outside-on-care : (care : CareSet) (f : Formula) (rails : List Rails) (inside allowed : ℕ) → IsCone net care marks f rails inside allowed → AreKnownOnCare net care →
@@ -219,11 +226,6 @@ module _ (net : Parts) (care : CareSet) (marks : List Bool) (loops : Loops) (gat
     (cone : IsCone net care marks f rails inside allowed) (wires : AreCutPlaces loops.cut gates places)
     (reads : (m : List Bool) (v : List Trit) → IsModel m f → ReadsOutside net loops gates rails m v → ReadsPlaces gates copies m (sweeps net loops v k))
     (tells : (m : List Bool) → IsModel m f → says m literal ≡ list_any (says m) (open_literals copies places)) where
-  unknown-said : (t : Trit) → not (is_known t) ≡ true → t ≡ X
-  unknown-said X e = refl
-  unknown-said Zero e = absurd (true≢false (sym e))
-  unknown-said One e = absurd (true≢false (sym e))
-
   open-after : HasModelUnder (problem f) (inside ∷ allowed ∷ literal ∷ []) → IsOpenAfter net loops care gates k
   open-after has =
       let m : List Bool = has.model in
@@ -246,7 +248,7 @@ module _ (net : Parts) (care : CareSet) (marks : List Bool) (loops : Loops) (gat
         wire = get_or gates i 0;
         inside = Contains-get_or gates i 0 low;
         is_cut = wires.are any.place 0 any.less;
-        unknown = unknown-said (value_in (sweeps net loops (bits v) k) (get_or gates i 0)) (ap not (sym read.known) ∙ sym (says-negation m (rails_at copies i).known) ∙ any.passes);
+        unknown = unknown-value (value_in (sweeps net loops (bits v) k) (get_or gates i 0)) (ap not (sym read.known) ∙ sym (says-negation m (rails_at copies i).known) ∙ any.passes);
       }
 
   known-after : HasNoModelUnder (problem f) (inside ∷ allowed ∷ literal ∷ []) → AreKnownAfter net loops care gates k
@@ -302,11 +304,11 @@ kept-fewer p (x ∷ xs) = by (p x) (kept-fewer p xs)
     by false h = omega (arith, h)
 
 module _ (net : Parts) (blocks : Blocks) (cut : Cut) (are : AreBlocksOf net blocks) (cut_is : IsCutOf net cut) (b : ℕ) (less : b < length blocks.list) (looped : (block_at blocks b).looped ≡ true) where
-  are-loops : AreLoopsOf net (loops_by blocks cut)
+  pub are-loops : AreLoopsOf net (loops_by blocks cut)
   are-loops = blocks_tell_loops net blocks cut are cut_is
 
   -- the gates of the block are those of the loop of each of them
-  of-loop : (a : ℕ) → Contains (block_at blocks b).gates a → AreGatesOfLoop (loops_by blocks cut) a (block_at blocks b).gates
+  pub of-loop : (a : ℕ) → Contains (block_at blocks b).gates a → AreGatesOfLoop (loops_by blocks cut) a (block_at blocks b).gates
   of-loop a inside =
       let at = gate_home net blocks are b a less inside in
       subst (λ (h : ℕ). AreGatesOfLoop (loops_by blocks cut) a (block_at blocks h).gates) at.1
@@ -362,7 +364,7 @@ module _ (net : Parts) (blocks : Blocks) (cut : Cut) (are : AreBlocksOf net bloc
   }
 
   -- the cut wires of the loop
-  cuts-number : (a : ℕ) → Contains (block_at blocks b).gates a → length (cuts_of net (loops_by blocks cut) a) ≡ length (filter (is_cut cut.wires) (block_at blocks b).gates)
+  pub cuts-number : (a : ℕ) → Contains (block_at blocks b).gates a → length (cuts_of net (loops_by blocks cut) a) ≡ length (filter (is_cut cut.wires) (block_at blocks b).gates)
   cuts-number a inside =
       ap length
       (kept-both ((loops_by blocks cut).same a) (is_cut cut.wires) (range_with_len 0 (length net.gates))
@@ -380,7 +382,7 @@ module _ (net : Parts) (blocks : Blocks) (cut : Cut) (are : AreBlocksOf net bloc
           (subst (λ (ns : List ℕ). Contains ns n) (sym (are.gates b less))
           (Contains-filter (λ g. home_of blocks g == b) (range_with_len 0 (length blocks.home)) n e (Contains-range (length blocks.home) n (let h = are.homes in omega (arith, low, h))))))
 
-  places-number : (places : List ℕ) → AreCutPlaces (is_cut cut.wires) (block_at blocks b).gates places → length places ≡ length (filter (is_cut cut.wires) (block_at blocks b).gates)
+  pub places-number : (places : List ℕ) → AreCutPlaces (is_cut cut.wires) (block_at blocks b).gates places → length places ≡ length (filter (is_cut cut.wires) (block_at blocks b).gates)
   places-number places wires = wires.number ∙ ap (λ (gs : List ℕ). length (filter (is_cut cut.wires) gs)) (take_all (length (block_at blocks b).gates) (block_at blocks b).gates (omega arith))
 
   -- as many sweeps as cut wires are enough

@@ -25,8 +25,9 @@ use Rattle.ternary_clauses.specs.Formulas.{says, negation, IsModel}
 use Rattle.ternary_clauses.specs.Rails.{ReadsAll, AreWithin, is_known, is_one, no_rails}
 use Rattle.ternary_clauses.specs.Sums.{SaysAny}
 use Rattle.ternary_clauses.proofs.ClauseLemmas.{says-negation}
-use Rattle.clause_decision.proofs.SignalLemmas.{negation-within}
+use Rattle.clause_decision.proofs.SignalLemmas.{negation-within, three}
 use Rattle.clause_queries.specs.Clauses.{IsWithin}
+use Rattle.clause_queries.specs.Each.{CanBe, CannotBe, TellEach}
 use Rattle.clause_queries.specs.Queries.{problem, HasModelUnder, HasNoModelUnder, AreRising, IsFirst, IsFirstAt}
 use Rattle.clause_queries.specs.Vectors.{HasVector, Asks}
 use Rattle.clause_queries.specs.declared.first.First.{First}
@@ -36,7 +37,7 @@ use Rattle.clause_decision.specs.declared.question.Question.{Question}
 use Rattle.clause_decision.specs.Cones.{column_rails, vector_in, ReadsAbove, ReadsFix, IsCone}
 use Rattle.clause_decision.specs.Questions.{IsQuestionOf}
 use Rattle.clause_decision.specs.Scopes.{is_marked}
-use Rattle.clause_decision.specs.Tests.{is_unknown_at, is_unknown, IsFirstUnknown, TellsFirstUnknown}
+use Rattle.clause_decision.specs.Tests.{is_unknown_at, is_unknown, IsFirstUnknown, TellsFirstUnknown, TellEachUnknown}
 use Rattle.clause_decision.specs.Unknowns.{unknown_literals, TellUnknowns}
 use Rattle.clause_decision.proofs.ConeLemmas.{cone-kept}
 
@@ -74,7 +75,7 @@ any-of_passes p (x ∷ xs) (suc many) (suc j) early inside h = or-right (p x) (l
 
 -- ---- values
 
-unknown-value : (t : Trit) → not (is_known t) ≡ true → t ≡ X
+pub unknown-value : (t : Trit) → not (is_known t) ≡ true → t ≡ X
 unknown-value X e = refl
 unknown-value Zero e = absurd (true≢false (sym e))
 unknown-value One e = absurd (true≢false (sym e))
@@ -227,6 +228,44 @@ module _ (net : Parts) (care : CareSet) (marks : List Bool) (f : Formula) (rails
           (subst (λ cs. Asks (problem f) cs q.assumed.items (is_unknown_at net care n)) (sym columns_are)
           (subst (λ ls. Asks (problem f) (map (λ r. r.one) (column_rails net rails)) ls (is_unknown_at net care n)) (sym assumed_are) asks-unknown));
     }
+
+-- ---- for each gate whether it is unknown
+
+module _ (net : Parts) (care : CareSet) (marks : List Bool) (f : Formula) (rails : List Rails) (inside allowed : ℕ) (cone : IsCone net care marks f rails inside allowed)
+    (gates literals : List ℕ) (within : All (λ n. n < length net.gates) gates) (marked : All (λ n. is_marked marks n ≡ true) gates) (are : literals ≡ unknown_literals net rails gates) where
+  each-literal : (i : ℕ) → i < length gates → get_or literals i 0 ≡ negation (gate_rails net rails (get_or gates i 0)).known
+  each-literal i less = ap (λ (ls : List ℕ). get_or ls i 0) are ∙ get_or-map (λ n. negation (gate_rails net rails n).known) gates i 0 0 less
+
+  can-be : (i : ℕ) → i < length gates → CanBe (problem f) literals (inside ∷ allowed ∷ []) i → is_unknown net care (get_or gates i 0) ≡ true
+  can-be i less has =
+      let m = has.model in
+      some-unknown net care (get_or gates i 0) (vector_in net rails m) (wide-vector net care marks f rails inside allowed cone m)
+      (unknown-there net care marks f rails inside allowed cone (get_or gates i 0) (within i 0 less) (marked i 0 less) m (sym (models-same f m) ∙ has.is.model)
+      (has.is.assumed 0 0 (omega arith)) (has.is.assumed 1 0 (omega arith)) (ap (says m) (sym (each-literal i less)) ∙ has.is.assumed 2 0 (omega arith)))
+
+  cannot-be : (i : ℕ) → i < length gates → CannotBe (problem f) literals (inside ∷ allowed ∷ []) i → is_unknown net care (get_or gates i 0) ≡ false
+  cannot-be i less none = never-unknown net care (get_or gates i 0) (λ v wide h.
+      no_model (unknown-read net care marks f rails inside allowed cone (get_or gates i 0) (within i 0 less) (marked i 0 less) v wide h))
+    where
+      no_model : {v : List Bool} → HasUnknown net f rails inside allowed (negation (gate_rails net rails (get_or gates i 0)).known) v → ⊥
+      no_model {v} has =
+          none has.model (record {
+            model = models-same f has.model ∙ has.holds;
+            assumed = three (λ l. says has.model l ≡ true) inside allowed (get_or literals i 0) has.inside_holds has.allowed_holds (ap (says has.model) (each-literal i less) ∙ has.unknown_holds);
+          })
+
+  pub each-told : (found : List Bool) → TellEach (problem f) literals (inside ∷ allowed ∷ []) found → TellEachUnknown net care gates found
+  each-told found told = record {
+    width = told.width ∙ ap length are ∙ length-map gates (λ n. negation (gate_rails net rails n).known);
+    each = λ i less. by i less (get_or found i false) refl;
+  }
+    where
+      size : length literals ≡ length gates
+      size = ap length are ∙ length-map gates (λ n. negation (gate_rails net rails n).known)
+
+      by : (i : ℕ) → i < length gates → (b : Bool) → get_or found i false ≡ b → is_unknown net care (get_or gates i 0) ≡ get_or found i false
+      by i less true is = can-be i less (told.possible i (omega (arith, less, size)) is) ∙ sym is
+      by i less false is = cannot-be i less (told.impossible i (omega (arith, less, size)) is) ∙ sym is
 
 -- ---- the first gate that is unknown
 

@@ -1,3 +1,4 @@
+pub mod Changes
 pub mod Cones
 pub mod Formulas
 pub mod Loads

@@ -1,5 +1,5 @@
 -- The tests of vectors that a decision asks for.
-use Rattle.std.specs.Prelude.{◌≡◌, ◌<◌, ◌&&◌, ℕ, Bool, true, false, not, List, length, is_some, find, slice_index}
+use Rattle.std.specs.Prelude.{◌≡◌, ◌<◌, ◌&&◌, ℕ, Bool, true, false, not, List, length, is_some, find, slice_index, slice_index_or}
 use Rattle.cyc_base.specs.Vectors.{vectors}
 use Rattle.netlist.specs.declared.parts.Parts.{Parts}
 use Rattle.netlist.specs.Netlists.{gate_sig}
@@ -35,3 +35,8 @@ abbrev pub TellsFirstUnknown : Parts → CareSet → List ℕ → First → Type
 TellsFirstUnknown net care gates (firsts.At place) = IsFirstUnknown net care gates place
 TellsFirstUnknown net care gates firsts.Nowhere = (j : ℕ) → j < length gates → is_unknown net care (slice_index gates j) ≡ false
 TellsFirstUnknown net care gates firsts.Unknown = Unit {0}
+
+-- for each of these gates whether it is
+pub record TellEachUnknown (net : Parts) (care : CareSet) (gates : List ℕ) (found : List Bool) : Type 0 where
+  pub width : length found ≡ length gates
+  pub each : (i : ℕ) → i < length gates → is_unknown net care (slice_index gates i) ≡ slice_index_or found i false

@@ -1,6 +1,6 @@
 //! The parts of a decision by clauses: whether an initial state lies outside the invariant, whether there is a care
-//! vector, which gate is unknown first and where, whether a next state leaves the invariant, and how many sweeps a loop
-//! needs.
+//! vector, which gate is unknown first and where, which gates are unknown at all, whether a next state leaves the
+//! invariant, and how many sweeps a loop needs.
 //!
 //! It stands on `ternary_clauses`, whose clauses have the least fixpoint of each vector as a model, and on
 //! `clause_queries`, which asks a solver about them. The layer above uses that each answer is the one of the definitions
@@ -8,6 +8,7 @@
 #![tactic(auto)]
 
 mod care;
+mod changing;
 mod cones;
 mod initial;
 mod leaving;
@@ -18,9 +19,10 @@ mod sweeping;
 mod unknown;
 
 pub use care::is_possible;
+pub use changing::sweeps_fed_known;
 pub use clause_queries::{First, Found};
 pub use initial::least_outside;
 pub use leaving::least_leaving;
 pub use scope::Scope;
 pub use sweeping::sweeps_needed;
-pub use unknown::{first_unknown, least_unknown};
+pub use unknown::{each_unknown, first_unknown, least_unknown};

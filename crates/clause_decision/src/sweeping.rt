@@ -38,7 +38,11 @@ impl Drop for Swept {
 }
 
 /// The places of the cut wires among these gates.
-fn cut_places(alloc: Global, gates: &[u32], wires: &[bool]) -> Result<Vec<usize>, AllocError>
+pub(crate) fn cut_places(
+    alloc: Global,
+    gates: &[u32],
+    wires: &[bool],
+) -> Result<Vec<usize>, AllocError>
     requires { All (λ n. n < length wires.now) gates.now }
     ensures { IfOk result (λ places. AreCutPlaces (is_cut wires.now) gates.now places.items) }
 {
@@ -89,7 +93,7 @@ fn add_open(
 }
 
 /// The loop before the first sweep: its gates are unknown.
-fn unswept(
+pub(crate) fn unswept(
     alloc: Global,
     net: &Netlist,
     care: &Care,

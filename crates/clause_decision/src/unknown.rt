@@ -1,6 +1,6 @@
 //! Gates that are unknown at a care vector.
 
-ghost use Rattle.std.specs.Prelude.{◌≡◌, ◌<◌, ℕ, Bool, List, true, length, All, IfOk};
+ghost use Rattle.std.specs.Prelude.{◌≡◌, ◌<◌, ℕ, Bool, List, true, length, All, IfOk, IfSome};
 ghost use Rattle.care_sets.specs.Binding.{IsCareOf};
 ghost use Rattle.care_sets.specs.Care.{CareSet, columns};
 ghost use Rattle.ternary_clauses.specs.Encoding.{gate_rails};
@@ -12,7 +12,7 @@ ghost use Rattle.clause_queries.specs.Vectors.{IsFirstOf};
 ghost use Rattle.clause_decision.specs.Cones.{IsCone};
 ghost use Rattle.clause_decision.specs.Questions.{IsQuestionOf};
 ghost use Rattle.clause_decision.specs.Scopes.{is_marked, AreInScope, IsScopeOf};
-ghost use Rattle.clause_decision.specs.Tests.{is_unknown_at, TellsFirstUnknown};
+ghost use Rattle.clause_decision.specs.Tests.{is_unknown_at, TellsFirstUnknown, TellEachUnknown};
 ghost use Rattle.clause_decision.specs.Unknowns.{unknown_literals, AreRisingIn, TellUnknowns};
 
 use crate::care::ones;
@@ -134,6 +134,53 @@ pub fn first_unknown(
     match unknowns_of(alloc, net, care, scope, gates) {
         Ok(asked) => ask_first(alloc, &asked, conflicts),
         Err(ClausesFault::TooMany) => Ok(First::Unknown),
+        Err(ClausesFault::Memory) => Err(AllocError),
+    }
+}
+
+/// For each of these gates whether it is unknown at some care vector.
+fn ask_each(
+    alloc: Global,
+    cone: &Cone,
+    net: &Netlist,
+    care: &Care,
+    scope: &Scope,
+    gates: &[u32],
+    conflicts: u64,
+) -> Result<Option<Vec<bool>>, AllocError>
+    requires cone { IsCone net.now care.now scope.now.gates cone.now.formula cone.now.rails.items cone.now.inside cone.now.allowed }
+    requires gates { All (λ n. n < length net.now.gates) gates.now }
+    requires within { AreInScope net.now scope.now gates.now }
+    ensures { IfOk result (λ told. IfSome told (λ found. TellEachUnknown net.now care.now gates.now found.items)) }
+{
+    let literals = literals_of(alloc, net, &cone.rails, gates)?;
+    let Some(mut query) = query_of(alloc, &cone.formula)? else {
+        return Ok(None);
+    };
+    query.possible_each(alloc, &literals, &[cone.inside, cone.allowed], conflicts)
+}
+
+/// For each of these gates whether it is unknown at some care vector, or none where the solver gives up after so many
+/// conflicts in one of its searches.
+///
+/// The condition is that the care set and the scope are the netlist's, and that the gates are in the scope.
+pub fn each_unknown(
+    alloc: Global,
+    net: &Netlist,
+    care: &Care,
+    scope: &Scope,
+    gates: &[u32],
+    conflicts: u64,
+) -> Result<Option<Vec<bool>>, AllocError>
+    requires care { IsCareOf net.now care.now }
+    requires scope { IsScopeOf net.now scope.now }
+    requires gates { All (λ n. n < length net.now.gates) gates.now }
+    requires within { AreInScope net.now scope.now gates.now }
+    ensures { IfOk result (λ told. IfSome told (λ found. TellEachUnknown net.now care.now gates.now found.items)) }
+{
+    match cone_of(alloc, net, care, scope) {
+        Ok(cone) => ask_each(alloc, &cone, net, care, scope, gates, conflicts),
+        Err(ClausesFault::TooMany) => Ok(None),
         Err(ClausesFault::Memory) => Err(AllocError),
     }
 }

@@ -2,4 +2,5 @@ pub mod AnswerLemmas
 pub mod BisectionLemmas
 pub mod ClauseLemmas
 pub mod DescentLemmas
+pub mod EachLemmas
 pub mod VectorLemmas

@@ -42,7 +42,7 @@ fn first_true(literals: &[u32], model: &[bool], last: usize) -> usize
 
 impl Query {
     // Asks with one more assumption.
-    fn ask_with(
+    pub(crate) fn ask_with(
         &mut self,
         alloc: Global,
         assumptions: &[u32],

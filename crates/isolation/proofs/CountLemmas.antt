@@ -1,19 +1,22 @@
 -- How many sweeps a loop needs that is settled by itself.
-use Rattle.std.proofs.Common.{◌≡◌, ◌≢◌, inl, inr, ℕ, zero, suc, ◌<◌, ◌≤◌, Bool, true, List, length, replicate, get_or, sym, ap, ◌∙◌, subst, arith, Contains}
+use Rattle.std.proofs.Common.{◌≡◌, ◌≢◌, inl, inr, ℕ, zero, suc, ◌<◌, ◌≤◌, ◌+◌, Bool, true, List, length, replicate, get_or, sym, ap, ◌∙◌, subst, arith, Contains}
 use Rattle.std.proofs.lemmas.Bool.{cases_lt}
 use Rattle.std.proofs.lemmas.List.{get_or-map, get_or_default, get_or_append_left, get_or-replicate, length-map}
+use Rattle.std.proofs.lemmas.List.Elements.{Contains-get_or}
 use Rattle.cyc_base.specs.declared.sig.Sig.{Sig}
 use Rattle.cyc_base.specs.declared.trit.Trit.{Trit}
 use Rattle.cyc_base.specs.declared.trit.Trit.TheVariants.{X}
 use Rattle.cyc_base.specs.Values.{bit, bits}
 use Rattle.netlist.specs.declared.parts.Parts.{Parts}
-use Rattle.netlist.specs.Netlists.{IsNetlist, count, signal, no_gate}
+use Rattle.netlist.specs.Netlists.{IsNetlist, count, gate_at, signal, no_gate}
 use Rattle.netlist.specs.Fixpoint.{wire, fix, fix_gates}
+use Rattle.netlist.specs.Walks.{Feeds}
 use Rattle.loops.specs.declared.structure.Blocks.{Blocks}
 use Rattle.loops.specs.Blocks.{AreBlocksOf, block_at, home_of}
 use Rattle.loops.specs.Cuts.{Loops, AreLoopsOf}
 use Rattle.loops.specs.Found.{loops_of}
 use Rattle.loops.specs.Sweeps.{first_gate, gate_of, CutsAreFixed}
+use Rattle.loops.specs.Walks.{SameLoop}
 use Rattle.loops.proofs.Existence.{loops_exist}
 use Rattle.loops.proofs.LoopCuts.{has-cut}
 use Rattle.loops.proofs.OrderLemmas.{block_rises, block_within}
@@ -23,17 +26,24 @@ use Rattle.loops.proofs.Told.{gate_home, home_gate}
 use Rattle.loops.proofs.Walks.{begins_at}
 use Rattle.isolation.specs.Excerpts.{gate_in, inputs_in, AreRead, AreWhole}
 use Rattle.isolation.specs.Settled.{SettleInSweeps}
-use Rattle.isolation.specs.Laws.{IsDeterminedAt, SettledLoopsSweep, OneSweepIsExact}
+use Rattle.isolation.specs.Laws.{AreDeterminedAt, SettledLoopsSweep, OneSweepIsExact}
 use Rattle.isolation.proofs.ExcerptLemmas.{known_list, first-small}
 use Rattle.isolation.proofs.LoopLemmas.{fixed-up}
 
--- a wire is known where no column and no gate is X
-wire-known : (net : Parts) (v : List Trit) → IsDeterminedAt net v → (s : Sig) → s.0 < count net → wire (fix net v) s ≢ X
-wire-known net v is s inside x =
+-- a wire on a pin of such a gate is known
+wire-known : (net : Parts) (gates : List ℕ) (v : List Trit) → AreDeterminedAt net gates v → (n : ℕ) → Contains gates n → n < length net.gates → (s : Sig) → Contains (gate_at net n).pins s → s.0 < count net →
+    wire (fix net v) s ≢ X
+wire-known net gates v is n among reader s pin inside x =
     let w = is.width in
     elim (cases_lt s.0 (first_gate net)) [
       | inl low ↦ is.columns s.0 (omega (arith, low, w)) (sym (get_or_append_left v (fix_gates net v) X s.0 (omega (arith, low, w))) ∙ x)
-      | inr high ↦ is.gates (gate_of net s) (omega (arith, inside, high)) (sym (wire_of_gate v (fix_gates net v) (first_gate net) s.0 is.width high) ∙ x)
+      | inr high ↦
+          let feeds : Feeds net (gate_of net s) n = record {
+            source = omega (arith, inside, high);
+            reader = reader;
+            pin = subst (Contains (gate_at net n).pins) (let e : s.0 ≡ first_gate net + gate_of net s = omega (arith, high) in ap signal e) pin;
+          } in
+          is.feeding (gate_of net s) n among feeds (sym (wire_of_gate v (fix_gates net v) (first_gate net) s.0 is.width high) ∙ x)
     ]
 
 -- a block is whole
@@ -49,7 +59,7 @@ block-whole net blocks are b within = record {
 }
 
 module _ (net : Parts) (blocks : Blocks) (loops : Loops) (valid : IsNetlist net) (are : AreBlocksOf net blocks) (loops_are : AreLoopsOf net loops) (b : ℕ) (within : b < length blocks.list) (looped : (block_at blocks b).looped ≡ true)
-    (a : ℕ) (has : Contains (block_at blocks b).gates a) (v : List Trit) (is : IsDeterminedAt net v) where
+    (a : ℕ) (has : Contains (block_at blocks b).gates a) (v : List Trit) (is : AreDeterminedAt net (block_at blocks b).gates v) where
   home : (a < length net.gates) × (home_of blocks a ≡ b)
   home = gate_home net blocks are b a within has
 
@@ -64,7 +74,8 @@ module _ (net : Parts) (blocks : Blocks) (loops : Loops) (valid : IsNetlist net)
       let r = read (get_or outside j (signal 0)) (j, l, get_or_default outside j (get_or outside j (signal 0)) (signal 0) l) in
       let p = valid.pins (gate_in (block_at blocks b).gates r.place) no_gate (block_within net blocks are b within r.place r.within) r.pin.0 (get_or outside j (signal 0)) r.pin.1 in
       let e = ap (λ (q : Sig). q.0) r.pin.2 in
-      λ x. wire-known net v is (get_or outside j (signal 0)) (omega (arith, p, e)) (sym (get_or-map (wire (fix net v)) outside j (signal 0) d l) ∙ x))
+      λ x. wire-known net (block_at blocks b).gates v is (gate_in (block_at blocks b).gates r.place) (Contains-get_or (block_at blocks b).gates r.place 0 r.within) (block_within net blocks are b within r.place r.within)
+      (get_or outside j (signal 0)) r.pin (omega (arith, p, e)) (sym (get_or-map (wire (fix net v)) outside j (signal 0) d l) ∙ x))
 
   -- as many sweeps as the loop needs by itself are enough
   enough-alone : (k : ℕ) → SettleInSweeps net (block_at blocks b).gates k → CutsAreFixed net loops v a k
@@ -85,7 +96,9 @@ module _ (net : Parts) (blocks : Blocks) (loops : Loops) (valid : IsNetlist net)
   one-needed zero h =
       let c = has-cut net loops loops_are a ((are.looped a home.0).0 (subst (λ (p : ℕ). (block_at blocks p).looped ≡ true) (sym home.1) looped)) in
       let l = same_within net loops loops_are a c.wire c.same in
-      absurd (is.gates c.wire l (sym (cut_values_agree net loops loops_are a (replicate (length net.gates) X) (fix_gates net v) h c.wire c.same c.cut) ∙ get_or-replicate (length net.gates) c.wire X X l))
+      let own : Contains (block_at blocks b).gates c.wire =
+      (block-whole net blocks are b within).loops has.0 c.wire has.1 (subst (λ (n : ℕ). SameLoop net n c.wire) (sym at) ((loops_are.same a c.wire).0 c.same)) in
+      absurd (is.own c.wire own (sym (cut_values_agree net loops loops_are a (replicate (length net.gates) X) (fix_gates net v) h c.wire c.same c.cut) ∙ get_or-replicate (length net.gates) c.wire X X l))
 
 pub settled_loops_sweep : SettledLoopsSweep
 settled_loops_sweep net blocks loops valid are loops_are b k within looped alone care determined a m has count = (

@@ -9,6 +9,7 @@ use Rattle.dual_rail.specs.WorkingLists.{IsWide}
 use Rattle.netlist.specs.declared.parts.Parts.{Parts}
 use Rattle.netlist.specs.Netlists.{IsNetlist, signal}
 use Rattle.netlist.specs.Fixpoint.{fix_gates}
+use Rattle.netlist.specs.Walks.{Feeds}
 use Rattle.loops.specs.declared.structure.Blocks.{Blocks}
 use Rattle.loops.specs.Blocks.{AreBlocksOf, block_at, home_of}
 use Rattle.loops.specs.Cuts.{AreLoopsOf, Loops}
@@ -47,26 +48,27 @@ UnsettledLoopsDecide = (net : Parts) (blocks : Blocks) (settled : ℕ → Bool) 
     value_in (fix_gates net (bits v)) m ≢ X) →
     value_in (fix_gates net (bits v)) n ≢ X
 
--- a vector of known values, at which no gate is X
-pub record IsDeterminedAt (net : Parts) (v : List Trit) : Type 0 where
+-- a vector of known values, at which none of these gates is X, and none that feeds one of them
+pub record AreDeterminedAt (net : Parts) (gates : List ℕ) (v : List Trit) : Type 0 where
   pub width : length v ≡ first_gate net
   pub columns : (k : ℕ) → k < length v → value_in v k ≢ X
-  pub gates : (n : ℕ) → n < length net.gates → value_in (fix_gates net v) n ≢ X
+  pub own : (n : ℕ) → Contains gates n → value_in (fix_gates net v) n ≢ X
+  pub feeding : (m n : ℕ) → Contains gates n → Feeds net m n → value_in (fix_gates net v) m ≢ X
 
--- A loop that is settled by itself in k sweeps needs at most so many on any vectors at which no gate is X, and where
--- there is such a vector at least one.
+-- A loop that is settled by itself in k sweeps needs at most so many on any vectors at which neither a gate of it nor one
+-- that feeds it is X, and where there is such a vector at least one.
 abbrev pub SettledLoopsSweep : Type 0
 SettledLoopsSweep = (net : Parts) (blocks : Blocks) (loops : Loops) → IsNetlist net → AreBlocksOf net blocks → AreLoopsOf net loops →
     (b k : ℕ) → b < length blocks.list → (block_at blocks b).looped ≡ true → SettleInSweeps net (block_at blocks b).gates k →
-    (care : List Trit → Bool) → ((v : List Trit) → care v ≡ true → IsDeterminedAt net v) →
+    (care : List Trit → Bool) → ((v : List Trit) → care v ≡ true → AreDeterminedAt net (block_at blocks b).gates v) →
     (a m : ℕ) → Contains (block_at blocks b).gates a → IsCountOfSweeps net loops care a m →
     (m ≤ k) × ((v : List Trit) → care v ≡ true → 1 ≤ m)
 
--- a loop that is settled by itself in one sweep needs just one on any vectors at which no gate is X, where there are some
+-- a loop that is settled by itself in one sweep needs just one on any such vectors, where there are some
 abbrev pub OneSweepIsExact : Type 0
 OneSweepIsExact = (net : Parts) (blocks : Blocks) (loops : Loops) → IsNetlist net → AreBlocksOf net blocks → AreLoopsOf net loops →
     (b : ℕ) → b < length blocks.list → (block_at blocks b).looped ≡ true → SettleInSweeps net (block_at blocks b).gates 1 →
-    (care : List Trit → Bool) → ((v : List Trit) → care v ≡ true → IsDeterminedAt net v) → (v : List Trit) → care v ≡ true →
+    (care : List Trit → Bool) → ((v : List Trit) → care v ≡ true → AreDeterminedAt net (block_at blocks b).gates v) → (v : List Trit) → care v ≡ true →
     (a : ℕ) → Contains (block_at blocks b).gates a → IsCountOfSweeps net loops care a 1
 
 -- What an excerpt has of the whole, where the vector of the whole gives its inputs their values: the fixpoint, the loops

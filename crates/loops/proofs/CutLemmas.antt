@@ -1,68 +1,40 @@
--- Paths along links within loops are the walks that make a gate a cut wire.
-use Rattle.std.proofs.Common.{◌≡◌, ◌↔◌, inl, inr, ℕ, ◌<◌, ◌≤◌, ◌+◌, Bool, true, false, List, [], ◌∷◌, ◌++◌, length, get_or, set, replicate, ap, sym, ◌∙◌, subst, arith, Contains, true≢false}
+-- Paths through gates that are kept are the walks that make a gate a cut wire, and levels show where there are none.
+use Rattle.std.proofs.Common.{◌≡◌, ◌⊎◌, ◌↔◌, inl, inr, ℕ, ◌<◌, ◌≤◌, ◌+◌, ◌-◌, Bool, true, false, List, [], ◌∷◌, ◌++◌, length, get_or, set, replicate, ap, sym, ◌∙◌, subst, arith, Contains, true≢false}
 use Rattle.std.proofs.lemmas.Bool.{cases_eq, cases_lt}
 use Rattle.std.proofs.lemmas.List.{get_or-set_same, get_or-set_other, length-set, length-replicate, get_or-replicate, get_or_past}
-use Rattle.std.specs.List.{AllByRecursion}
+use Rattle.std.specs.List.{All, AllByRecursion}
 use Rattle.netlist.specs.declared.parts.Parts.{Parts}
 use Rattle.netlist.specs.Walks.{Feeds, Walk}
-use Rattle.loops.specs.declared.links.Link.{Link}
-use Rattle.loops.specs.declared.links.LoopLinks.{LoopLinks}
 use Rattle.loops.specs.declared.structure.Blocks.{Blocks}
 use Rattle.loops.specs.declared.structure.Cut.{Cut}
 use Rattle.loops.specs.Blocks.{AreBlocksOf}
 use Rattle.loops.specs.Cuts.{IsCutOf, MayPass, is_cut}
-use Rattle.loops.specs.Links.{link, AreLinksOf, AreLoopLinksOf, AreTurned, IsLoopPin}
-use Rattle.loops.specs.declared.search.Search.{Search}
-use Rattle.loops.specs.Searching.{Connects, HasAdvanced, IsFree, Path}
-use Rattle.std.specs.declared.option.Option.{Option}
-use Rattle.std.specs.Prelude.{Some, None}
+use Rattle.loops.specs.Keeping.{AreNear, HasParted, HaveGained, IsAhead, IsBehind, IsKept, IsNear, IsPlaced, Meeting}
+use Rattle.loops.specs.Links.{IsLoopPin}
+use Rattle.loops.specs.Searching.{Connects, InRow, IsFree, Path, level_at, row_at}
 use Rattle.loops.specs.Walks.{Leads, SameLoop}
+use Rattle.loops.proofs.KeptLemmas.{of_within}
 use Rattle.loops.proofs.SearchLemmas.{path-append}
 use Rattle.loops.proofs.Told.{told_from}
 use Rattle.loops.proofs.Walks.{all_append, all_both, all_weaker, begins_at, leads-any, on_closed_walk, same_loop-sym, same_loop-trans}
 
--- turned links lead back
-module _ (one two : List Link) (P : ℕ → Type 0) (turn : (a b : ℕ) → Contains one (link a b) → Contains two (link b a)) where
-  turned_path : (a b : ℕ) (via : List ℕ) → AllByRecursion P via → Path one a via b → Connects two P b a
-  turned_path a b [] kind path = record { via = []; kind = tt; path = turn a b path }
-  turned_path a b (x ∷ via) kind path =
-      let rest = turned_path x b via kind.1 path.1 in
-      record {
-        via = rest.via ++ (x ∷ []);
-        kind = all_append P rest.via (x ∷ []) rest.kind (kind.0, tt);
-        path = path-append two b x a rest.via [] rest.path (turn a x path.0);
-      }
+module _ (net : Parts) (blocks : Blocks) (are : AreBlocksOf net blocks) where
+  path_walks : (a b : ℕ) (via : List ℕ) → Path (IsLoopPin net blocks) a via b → Walk net a via b
+  path_walks a b [] path = path.feeds
+  path_walks a b (x ∷ via) path = (let pin = path.0 in pin.feeds, path_walks x b via path.1)
 
-  pub turned_connects : (a b : ℕ) → Connects one P a b → Connects two P b a
-  turned_connects a b c = turned_path a b c.via c.kind c.path
-
-pub are_turned : (net : Parts) (blocks : Blocks) (links : LoopLinks) → AreLoopLinksOf net blocks links → AreTurned links
-are_turned net blocks links are = record {
-  readers = are.readers.sorted;
-  sources = are.sources.sorted;
-  turned = λ a b. (
-    λ c. (are.sources.all b a).1 ((are.readers.all a b).0 c),
-    λ c. (are.readers.all a b).1 ((are.sources.all b a).0 c),
-  );
-}
-
-module _ (net : Parts) (blocks : Blocks) (are : AreBlocksOf net blocks) (readers : List Link) (links : AreLinksOf (IsLoopPin net blocks) readers) where
-  path_walks : (a b : ℕ) (via : List ℕ) → Path readers a via b → Walk net a via b
-  path_walks a b [] path = (let pin = (links.all a b).0 path in pin.feeds)
-  path_walks a b (x ∷ via) path = (let pin = (links.all a x).0 path.0 in pin.feeds, path_walks x b via path.1)
-
-  pin_links : (c a b : ℕ) → SameLoop net c a → SameLoop net c b → Feeds net a b → Contains readers (link a b)
+  pin_links : (c a b : ℕ) → SameLoop net c a → SameLoop net c b → Feeds net a b → IsLoopPin net blocks a b
   pin_links c a b first second feeds =
-      (links.all a b).1 (record { feeds = feeds; loop = told_from net blocks are a b (same_loop-trans net a c b (same_loop-sym net c a first) second) })
+      record { feeds = feeds; loop = told_from net blocks are a b (same_loop-trans net a c b (same_loop-sym net c a first) second) }
 
-  walk_paths : (c a b : ℕ) (via : List ℕ) → SameLoop net c a → SameLoop net c b → AllByRecursion (SameLoop net c) via → Walk net a via b → Path readers a via b
+  walk_paths : (c a b : ℕ) (via : List ℕ) → SameLoop net c a → SameLoop net c b → AllByRecursion (SameLoop net c) via → Walk net a via b → Path (IsLoopPin net blocks) a via b
   walk_paths c a b [] first last all walk = pin_links c a b first last walk
   walk_paths c a b (x ∷ via) first last all walk =
       (pin_links c a x first all.0 walk.0, walk_paths c x b via all.0 last all.1 walk.1)
 
-  -- what the searches find
-  pub leads_by_links : (cut : List Bool) (n : ℕ) → Connects readers (IsFree cut n) n n ↔ Leads net (MayPass net (is_cut cut) n) n n
-  leads_by_links cut n = (
+  -- paths are walks
+  pub leads_by_pins : (cut : List Bool) (n : ℕ) → Connects (IsLoopPin net blocks) (IsFree cut n) n n ↔ Leads net (MayPass net (is_cut cut) n) n n
+  leads_by_pins cut n = (
     λ c.
         let walk = path_walks n n c.via c.path in
         record {
@@ -158,29 +130,380 @@ cut_from_below net cut are = record {
       ];
 }
 
--- what a gate that was passed showed, at the links that the search follows
-pub answered : (links followed : List Link) (cut : List Bool) (goal : ℕ) (old new : Search) (answer : Option Bool) (leads : Bool) → followed ≡ links → answer ≡ Some leads →
-    HasAdvanced followed cut goal old new answer → HasAdvanced links cut goal old new (Some leads)
-answered links followed cut goal old new answer leads e d h =
-    subst (λ (a : Option Bool). HasAdvanced links cut goal old new a) d (subst (λ (xs : List Link). HasAdvanced xs cut goal old new answer) e h)
-
-pub searching_on : (links followed : List Link) (cut : List Bool) (goal : ℕ) (old new : Search) (answer : Option Bool) → followed ≡ links → answer ≡ None →
-    HasAdvanced followed cut goal old new answer → HasAdvanced links cut goal old new None
-searching_on links followed cut goal old new answer e d h =
-    subst (λ (a : Option Bool). HasAdvanced links cut goal old new a) d (subst (λ (xs : List Link). HasAdvanced xs cut goal old new answer) e h)
-
--- what the search along pins shows
-pub answer_by_sources : (links : LoopLinks) → AreTurned links → (cut : List Bool) (goal : ℕ) (sources : List Link) (old new : Search) (answer : Option Bool) (leads : Bool) → sources ≡ links.sources.items → answer ≡ Some leads → HasAdvanced sources cut goal old new answer → (leads ≡ true) ↔ Connects links.readers.items (IsFree cut goal) goal goal
-answer_by_sources links t cut goal sources old new answer leads e d h =
-    let both : HasAdvanced links.sources.items cut goal old new (Some leads) = answered links.sources.items sources cut goal old new answer leads e d h in (
-      λ k. turned_connects links.sources.items links.readers.items (IsFree cut goal) (λ a b. (t.turned b a).1) goal goal (both.0.0 k),
-      λ c. both.0.1 (turned_connects links.readers.items links.sources.items (IsFree cut goal) (λ a b. (t.turned a b).0) goal goal c),
-    )
-
 -- a gate more
-pub cut_step : (net : Parts) (blocks : Blocks) → AreBlocksOf net blocks → (links : LoopLinks) → AreLoopLinksOf net blocks links → (n : ℕ) (cut seen : List Bool) (b : Bool) → n < length net.gates → seen ≡ cut → (b ≡ true) ↔ Connects links.readers.items (IsFree seen n) n n → AreCutsBelow net n cut → AreCutsBelow net (n + 1) (set cut n b)
-cut_step net blocks are links of_loops n cut seen b l e answer below =
-    let now : (b ≡ true) ↔ Connects links.readers.items (IsFree cut n) n n =
-    subst (λ (bs : List Bool). (b ≡ true) ↔ Connects links.readers.items (IsFree bs n) n n) e answer in
-    let walks = leads_by_links net blocks are links.readers.items of_loops.readers cut n in
+pub cut_step : (net : Parts) (blocks : Blocks) → AreBlocksOf net blocks → (n : ℕ) (cut : List Bool) (b : Bool) → n < length net.gates → (b ≡ true) ↔ Connects (IsLoopPin net blocks) (IsFree cut n) n n → AreCutsBelow net n cut → AreCutsBelow net (n + 1) (set cut n b)
+cut_step net blocks are n cut b l now below =
+    let walks = leads_by_pins net blocks are cut n in
     cuts_below_more net n cut b l below (λ k. walks.0 (now.0 k), λ w. now.1 (walks.1 w))
+
+empty : List ℕ
+empty = []
+
+no_entry : (xs : List ℕ) (x : ℕ) → xs ≡ [] → ¬ Contains xs x
+no_entry xs x e c = (let l = c.1 in omega (arith, ap (λ (ys : List ℕ). length ys) e))
+
+-- nothing is kept at first
+pub nothing_kept : (R : ℕ → ℕ → Type 0) (cut : List Bool) (readers sources : List (List ℕ)) (levels : List ℕ) (gates : ℕ) → length cut ≡ gates → readers ≡ replicate gates [] → sources ≡ replicate gates [] → levels ≡ replicate gates 4294967296 → IsKept R cut 0 readers sources levels
+unfolding empty
+nothing_kept R cut readers sources levels gates width r s v = record {
+  readers_size = ap (λ (xs : List (List ℕ)). length xs) r ∙ length-replicate gates [] ∙ sym width;
+  sources_size = ap (λ (xs : List (List ℕ)). length xs) s ∙ length-replicate gates [] ∙ sym width;
+  levels_size = ap (λ (xs : List ℕ). length xs) v ∙ length-replicate gates 4294967296 ∙ sym width;
+  read_by = λ x y. (λ c. absurd (no_row x y (subst (λ (xs : List (List ℕ)). InRow xs x y) r c)), λ w. absurd (let l = w.1.before in omega arith));
+  reads = λ x y free. absurd (let l = free.before in omega arith);
+  reads_within = λ x y c. absurd (no_row y x (subst (λ (xs : List (List ℕ)). InRow xs y x) s c));
+  rise = λ x y h free other. absurd (let l = free.before in omega arith);
+  near = λ x l. (let at = middle x (let w = ap (λ (xs : List ℕ). length xs) v ∙ length-replicate gates 4294967296 in omega arith) in record { high = omega arith; low = omega arith });
+}
+  where
+    middle : (x : ℕ) → x < gates → level_at levels x ≡ 4294967296
+    middle x l = ap (λ (xs : List ℕ). level_at xs x) v ∙ get_or-replicate gates x 4294967296 0 l
+
+    no_row : (x y : ℕ) → ¬ InRow (replicate gates empty) x y
+    no_row x y =
+        elim (cases_lt x gates) [
+          | inl l ↦ no_entry (row_at (replicate gates empty) x) y (get_or-replicate gates x empty [] l)
+          | inr past ↦ no_entry (row_at (replicate gates empty) x) y (get_or_past (replicate gates empty) x [] (let w = length-replicate gates empty in omega arith))
+        ]
+
+module _ (R : ℕ → ℕ → Type 0) (cut : List Bool) (n : ℕ) (l : n < length cut) (readers sources : List (List ℕ)) (levels : List ℕ) where
+  -- the row of the next gate is laid
+  pub row_laid : (row : List ℕ) → IsKept R cut n readers sources levels → ((x : ℕ) → Contains row x ↔ (R x n × IsFree cut n x)) → IsKept R cut n readers (set sources n row) levels × ((x : ℕ) → InRow (set sources n row) n x ↔ (R x n × IsFree cut n x))
+  row_laid row k own = (
+    record {
+      readers_size = k.readers_size;
+      sources_size = length-set sources n row ∙ k.sources_size;
+      levels_size = k.levels_size;
+      read_by = k.read_by;
+      reads = λ x y free. (
+        λ c. (k.reads x y free).0 (subst (λ (r : List ℕ). Contains r x) (other y (let b = free.before in omega arith)) c),
+        λ w. subst (λ (r : List ℕ). Contains r x) (sym (other y (let b = free.before in omega arith))) ((k.reads x y free).1 w),
+      );
+      reads_within = λ x y c. within x y c;
+      rise = k.rise;
+      near = k.near;
+    },
+    λ x. (
+      λ c. (own x).0 (subst (λ (r : List ℕ). Contains r x) here c),
+      λ w. subst (λ (r : List ℕ). Contains r x) (sym here) ((own x).1 w),
+    ),
+  )
+    where
+      here : row_at (set sources n row) n ≡ row
+      here = (let size = k.sources_size in get_or-set_same sources n row [] (omega arith))
+
+      other : (y : ℕ) → ¬ (y ≡ n) → row_at (set sources n row) y ≡ row_at sources y
+      other y ne = get_or-set_other sources n y row [] ne
+
+      within : (x y : ℕ) → InRow (set sources n row) y x → x < length cut
+      within x y c =
+          elim (cases_eq y n) [
+            | inr ne ↦ k.reads_within x y (subst (λ (r : List ℕ). Contains r x) (other y ne) c)
+            | inl e ↦
+                let w = (own x).0 (subst (λ (r : List ℕ). Contains r x) here (subst (λ (z : ℕ). InRow (set sources n row) z x) e c)) in
+                let b = w.1.before in
+                omega arith
+          ]
+
+  module _ (k : IsKept R cut n readers sources levels) (own : (x : ℕ) → InRow sources n x ↔ (R x n × IsFree cut n x)) where
+    -- paths along rows are paths along R
+    fore : (a b : ℕ) (via : List ℕ) → Path (InRow readers) a via b → AllByRecursion (IsFree cut n) via × Path R a via b × IsFree cut n b
+    fore a b [] h = (let w = (k.read_by a b).0 h in (tt, w.0, w.1))
+    fore a b (x ∷ via) h =
+        let w = (k.read_by a x).0 h.0 in
+        let rest = fore x b via h.1 in
+        ((w.1, rest.0), (w.0, rest.1), rest.2)
+
+    aft : (a b : ℕ) (via : List ℕ) → ((x : ℕ) → InRow sources a x → R x a × IsFree cut n x) → Path (InRow sources) a via b → Connects R (IsFree cut n) b a × IsFree cut n b
+    aft a b [] q h = (let w = q b h in (record { via = []; kind = tt; path = w.0 }, w.1))
+    aft a b (x ∷ via) q h =
+        let w = q x h.0 in
+        let rest = aft x b via (λ y c. (k.reads y x w.1).0 c) h.1 in (
+          record {
+            via = rest.0.via ++ (x ∷ []);
+            kind = all_append (IsFree cut n) rest.0.via (x ∷ []) rest.0.kind (w.1, tt);
+            path = path-append R b x a rest.0.via [] rest.0.path w.0;
+          },
+          rest.1,
+        )
+
+    pub closes : Meeting readers sources n → Connects R (IsFree cut n) n n
+    closes m =
+        let f = fore n m.gate m.forth.via m.forth.path in
+        let b = aft n m.gate m.back.via (λ x c. (own x).0 c) m.back.path in
+        record {
+          via = m.forth.via ++ (m.gate ∷ b.0.via);
+          kind = all_append (IsFree cut n) m.forth.via (m.gate ∷ b.0.via) f.0 (f.2, b.0.kind);
+          path = path-append R n m.gate n m.forth.via b.0.via f.1 b.0.path;
+        }
+
+    -- what levels do that part what the gate reads from what reads it
+    pub record IsParted (new : List ℕ) : Type 0 where
+      pub size : length new ≡ length levels
+      pub rise : (x y : ℕ) → R x y → IsFree cut n x → IsFree cut n y → level_at new x ≤ level_at new y
+      pub apart : (p s : ℕ) → InRow sources n p → InRow readers n s → level_at new p < level_at new s
+      pub near : AreNear (n + 1) new
+
+    ahead_parted : (new : List ℕ) → IsAhead readers sources n levels new → IsParted new
+    ahead_parted new a = record {
+      size = a.raised.size;
+      rise = λ x y h fx fy.
+          (let up = a.raised.rises y in
+          let was = k.rise x y h fx fy in
+          elim (a.raised.moved x) [
+            | inl same ↦ omega arith
+            | inr w ↦
+                let at = w.1 in
+                elim (cases_lt a.high (level_at levels y)) [
+                  | inl above ↦ omega arith
+                  | inr not_above ↦
+                      let r = reached y (a.ended.closed x y w.0 ((k.read_by x y).1 (h, fy)) (omega arith)) in
+                      omega arith
+                ]
+          ]);
+      apart = λ p s ip rs.
+          (let r = reached s (a.ended.begins s rs) in
+          let below = a.above p ip in
+          elim (a.raised.moved p) [ inl same ↦ omega arith | inr w ↦ absurd (a.ended.apart p w.0 ip) ]);
+      near = λ x xl.
+          (let size = a.raised.size in
+          let was = k.near x (omega arith) in
+          let h1 = was.high in
+          let l1 = was.low in
+          let h2 = a.near.high in
+          let l2 = a.near.low in
+          elim (a.raised.moved x) [
+            | inl same ↦ record { high = omega arith; low = omega arith }
+            | inr w ↦ let at = w.1 in record { high = omega arith; low = omega arith }
+          ]);
+    }
+      where
+        reached : (y : ℕ) → Contains a.found y → a.high + 1 ≤ level_at new y
+        reached y c = subst (λ (z : ℕ). a.high + 1 ≤ level_at new z) c.2 (a.raised.reached c.0 y c.1)
+
+    behind_parted : (new : List ℕ) → IsBehind readers sources n levels new → IsParted new
+    behind_parted new b = record {
+      size = b.lowered.size;
+      rise = λ x y h fx fy.
+          (let down = b.lowered.falls x in
+          let was = k.rise x y h fx fy in
+          let next = b.next in
+          elim (b.lowered.moved y) [
+            | inl same ↦ omega arith
+            | inr w ↦
+                let at = w.1 in
+                elim (cases_lt (level_at levels x) b.low) [
+                  | inl below ↦ omega arith
+                  | inr not_below ↦
+                      let r = reached x (b.ended.closed y x w.0 ((k.reads x y fy).1 (h, fx)) (omega arith)) in
+                      omega arith
+                ]
+          ]);
+      apart = λ p s ip rs.
+          (let r = reached p (b.ended.begins p ip) in
+          let above = b.below s rs in
+          let next = b.next in
+          elim (b.lowered.moved s) [ inl same ↦ omega arith | inr w ↦ absurd (b.ended.apart s w.0 rs) ]);
+      near = λ x xl.
+          (let size = b.lowered.size in
+          let was = k.near x (omega arith) in
+          let h1 = was.high in
+          let l1 = was.low in
+          let h2 = b.near.high in
+          let l2 = b.near.low in
+          let next = b.next in
+          elim (b.lowered.moved x) [
+            | inl same ↦ record { high = omega arith; low = omega arith }
+            | inr w ↦ let at = w.1 in record { high = omega arith; low = omega arith }
+          ]);
+    }
+      where
+        reached : (y : ℕ) → Contains b.found y → level_at new y ≤ b.most
+        reached y c = subst (λ (z : ℕ). level_at new z ≤ b.most) c.2 (b.lowered.reached c.0 y c.1)
+
+    pub parted : (new : List ℕ) → HasParted readers sources n levels new false → IsParted new
+    parted new h = elim h [ inl a ↦ ahead_parted new a | inr b ↦ behind_parted new b ]
+
+    -- no path leads back where levels are parted
+    module _ (new : List ℕ) (p : IsParted new) where
+      never : (s x : ℕ) (via : List ℕ) → InRow readers n s → IsFree cut n x → level_at new s ≤ level_at new x → AllByRecursion (IsFree cut n) via → ¬ Path R x via n
+      never s x [] rs fx up kind h = (let a = p.apart x s ((own x).1 (h, fx)) rs in omega arith)
+      never s x (y ∷ via) rs fx up kind h =
+          never s y via rs kind.0 (let r = p.rise x y h.0 fx kind.0 in omega arith) kind.1 h.1
+
+      pub stays_open : ¬ R n n → ¬ Connects R (IsFree cut n) n n
+      stays_open none c = by c.via c.kind c.path
+        where
+          by : (via : List ℕ) → AllByRecursion (IsFree cut n) via → ¬ Path R n via n
+          by [] kind h = none h
+          by (x ∷ via) kind h = never x x via ((k.read_by n x).1 (h.0, kind.0)) kind.0 (omega arith) kind.1 h.1
+
+      -- the gate is entered
+      pub entered : (placed : List ℕ) (more_readers more_sources : List (List ℕ)) → ¬ R n n → IsPlaced (row_at sources n) (row_at readers n) n new placed →
+          length more_readers ≡ length readers → ((x y : ℕ) → InRow more_readers x y ↔ (InRow readers x y ⊎ (R x n × (y ≡ n)))) →
+          HaveGained (row_at readers n) n (length (row_at readers n)) sources more_sources →
+          IsKept R (set cut n false) (n + 1) more_readers more_sources placed
+      entered placed more_readers more_sources none at readers_length gained g = record {
+        readers_size = readers_length ∙ k.readers_size ∙ sym (length-set cut n false);
+        sources_size = g.size ∙ k.sources_size ∙ sym (length-set cut n false);
+        levels_size = ap (λ (xs : List ℕ). length xs) at.is ∙ length-set new n at.level ∙ p.size ∙ k.levels_size ∙ sym (length-set cut n false);
+        read_by = λ x y. (
+          λ c.
+              elim ((gained x y).0 c) [
+                | inl old ↦ let w = (k.read_by x y).0 old in (w.0, free_to y w.1)
+                | inr w ↦ (subst (λ (z : ℕ). R x z) (sym w.1) w.0, subst (λ (z : ℕ). IsFree (set cut n false) (n + 1) z) (sym w.1) free_here)
+              ],
+          λ w.
+              elim (cases_eq y n) [
+                | inl e ↦ (gained x y).1 (inr (subst (λ (z : ℕ). R x z) e w.0, e))
+                | inr ne ↦ (gained x y).1 (inl ((k.read_by x y).1 (w.0, free_from y w.1 ne)))
+              ],
+        );
+        reads = λ x y fy. (
+          λ c. source_of x y fy (g.only y x c),
+          λ w. source_to x y fy w.0 w.1,
+        );
+        reads_within = λ x y c.
+            (let size = length-set cut n false in
+            elim (g.only y x c) [
+              | inl old ↦ let b = k.reads_within x y old in omega arith
+              | inr w ↦ let e = w.1 in omega arith
+            ]);
+        rise = λ x y h fx fy. rise x y h fx fy;
+        near = λ x xl. near x xl;
+      }
+        where
+          same_cut : (y : ℕ) → ¬ (y ≡ n) → is_cut (set cut n false) y ≡ is_cut cut y
+          same_cut y ne = get_or-set_other cut n y false false ne
+
+          free_to : (y : ℕ) → IsFree cut n y → IsFree (set cut n false) (n + 1) y
+          free_to y f =
+              let b = f.before in record { before = omega arith; uncut = same_cut y (omega arith) ∙ f.uncut }
+
+          free_from : (y : ℕ) → IsFree (set cut n false) (n + 1) y → ¬ (y ≡ n) → IsFree cut n y
+          free_from y f ne = let b = f.before in record { before = omega (arith, ne); uncut = sym (same_cut y ne) ∙ f.uncut }
+
+          free_here : IsFree (set cut n false) (n + 1) n
+          free_here = record { before = omega arith; uncut = get_or-set_same cut n false false l }
+
+          source_of : (x y : ℕ) → IsFree (set cut n false) (n + 1) y → InRow sources y x ⊎ (InRow readers n y × (x ≡ n)) → R x y × IsFree (set cut n false) (n + 1) x
+          source_of x y fy (inl old) =
+              elim (cases_eq y n) [
+                | inr ne ↦ let w = (k.reads x y (free_from y fy ne)).0 old in (w.0, free_to x w.1)
+                | inl e ↦ let w = (own x).0 (subst (λ (z : ℕ). InRow sources z x) e old) in (subst (λ (z : ℕ). R x z) (sym e) w.0, free_to x w.1)
+              ]
+          source_of x y fy (inr w) =
+              let h = (k.read_by n y).0 w.0 in (subst (λ (z : ℕ). R z y) (sym w.1) h.0, subst (λ (z : ℕ). IsFree (set cut n false) (n + 1) z) (sym w.1) free_here)
+
+          source_to : (x y : ℕ) → IsFree (set cut n false) (n + 1) y → R x y → IsFree (set cut n false) (n + 1) x → InRow more_sources y x
+          source_to x y fy h fx =
+              elim (cases_eq x n) [
+                | inl e ↦
+                    elim (cases_eq y n) [
+                      | inl same ↦ absurd (none (subst (λ (z : ℕ). R z n) e (subst (λ (z : ℕ). R x z) same h)))
+                      | inr ne ↦
+                          let c = (k.read_by n y).1 (subst (λ (z : ℕ). R z y) e h, free_from y fy ne) in
+                          subst (λ (z : ℕ). InRow more_sources y z) (sym e)
+                          (subst (λ (z : ℕ). InRow more_sources z n) c.2 (g.each c.0 y c.1))
+                    ]
+                | inr ne ↦
+                    let fx_old = free_from x fx ne in
+                    elim (cases_eq y n) [
+                      | inl same ↦ subst (λ (z : ℕ). InRow more_sources z x) (sym same) (g.keeps n x ((own x).1 (subst (λ (z : ℕ). R x z) same h, fx_old)))
+                      | inr differ ↦ g.keeps y x ((k.reads x y (free_from y fy differ)).1 (h, fx_old))
+                    ]
+              ]
+
+          here : level_at placed n ≡ at.level
+          here =
+              let size = p.size in
+              let width = k.levels_size in
+              ap (λ (xs : List ℕ). level_at xs n) at.is ∙ get_or-set_same new n at.level 0 (omega arith)
+
+          other : (x : ℕ) → ¬ (x ≡ n) → level_at placed x ≡ level_at new x
+          other x ne = ap (λ (xs : List ℕ). level_at xs x) at.is ∙ get_or-set_other new n x at.level 0 ne
+
+          rise : (x y : ℕ) → R x y → IsFree (set cut n false) (n + 1) x → IsFree (set cut n false) (n + 1) y → level_at placed x ≤ level_at placed y
+          rise x y h fx fy =
+              elim (cases_eq x n) [
+                | inl e ↦
+                    elim (cases_eq y n) [
+                      | inl same ↦ absurd (none (subst (λ (z : ℕ). R z n) e (subst (λ (z : ℕ). R x z) same h)))
+                      | inr ne ↦
+                          let b = at.below y ((k.read_by n y).1 (subst (λ (z : ℕ). R z y) e h, free_from y fy ne)) in
+                          let o = other y ne in
+                          subst (λ (z : ℕ). level_at placed z ≤ level_at placed y) (sym e) (omega (arith, here))
+                    ]
+                | inr ne ↦
+                    let fx_old = free_from x fx ne in
+                    let o = other x ne in
+                    elim (cases_eq y n) [
+                      | inl same ↦
+                          let a = at.above x ((own x).1 (subst (λ (z : ℕ). R x z) same h, fx_old)) in
+                          subst (λ (z : ℕ). level_at placed x ≤ level_at placed z) (sym same) (omega (arith, here))
+                      | inr differ ↦
+                          let q = other y differ in
+                          let r = p.rise x y h fx_old (free_from y fy differ) in
+                          omega arith
+                    ]
+              ]
+
+          near : AreNear (n + 1) placed
+          near x xl =
+              elim (cases_eq x n) [
+                | inl e ↦
+                    let m = at.near (n + 1) p.near in
+                    let h1 = m.high in
+                    let l1 = m.low in
+                    subst (λ (z : ℕ). IsNear (n + 1) (level_at placed z)) (sym e) (record { high = omega (arith, here); low = omega (arith, here) })
+                | inr ne ↦
+                    let o = other x ne in
+                    let size = ap (λ (xs : List ℕ). length xs) at.is ∙ length-set new n at.level in
+                    let m = p.near x (omega arith) in
+                    let h1 = m.high in
+                    let l1 = m.low in
+                    record { high = omega arith; low = omega arith }
+              ]
+
+-- a gate that is cut leaves all as it is
+pub left_out : (R : ℕ → ℕ → Type 0) (cut : List Bool) (n : ℕ) → n < length cut → (readers sources : List (List ℕ)) (levels : List ℕ) → IsKept R cut n readers sources levels → IsKept R (set cut n true) (n + 1) readers sources levels
+left_out R cut n l readers sources levels k = record {
+  readers_size = k.readers_size ∙ sym (length-set cut n true);
+  sources_size = k.sources_size ∙ sym (length-set cut n true);
+  levels_size = k.levels_size ∙ sym (length-set cut n true);
+  read_by = λ x y. (
+    λ c. (let w = (k.read_by x y).0 c in (w.0, free_to y w.1)),
+    λ w. (k.read_by x y).1 (w.0, free_from y w.1),
+  );
+  reads = λ x y fy. (
+    λ c. (let w = (k.reads x y (free_from y fy)).0 c in (w.0, free_to x w.1)),
+    λ w. (k.reads x y (free_from y fy)).1 (w.0, free_from x w.1),
+  );
+  reads_within = λ x y c. (let size = length-set cut n true in let b = k.reads_within x y c in omega arith);
+  rise = λ x y h fx fy. k.rise x y h (free_from x fx) (free_from y fy);
+  near = λ x xl. (let m = k.near x xl in let h1 = m.high in let l1 = m.low in record { high = omega arith; low = omega arith });
+}
+  where
+    free_to : (y : ℕ) → IsFree cut n y → IsFree (set cut n true) (n + 1) y
+    free_to y f =
+        let b = f.before in record { before = omega arith; uncut = get_or-set_other cut n y true false (omega arith) ∙ f.uncut }
+
+    free_from : (y : ℕ) → IsFree (set cut n true) (n + 1) y → IsFree cut n y
+    free_from y f =
+        elim (cases_eq y n) [
+          | inl e ↦ absurd (true≢false (sym (get_or-set_same cut n true false l) ∙ subst (λ (z : ℕ). is_cut (set cut n true) z ≡ false) e f.uncut))
+          | inr ne ↦ let b = f.before in record { before = omega (arith, ne); uncut = sym (get_or-set_other cut n y true false ne) ∙ f.uncut }
+        ]
+
+-- the highest level of what a gate reads, and the lowest of what reads it, are near the middle
+pub high_is_near : (levels : List ℕ) (goal : ℕ) (row : List ℕ) (high floor : ℕ) → AreNear goal levels → All (λ x. x < length levels) row → floor ≡ 4294967296 - goal → goal < 4294967296 → floor ≤ high → ((bound : ℕ) → floor ≤ bound → ((n : ℕ) → Contains row n → level_at levels n ≤ bound) → high ≤ bound) → IsNear goal high
+high_is_near levels goal row high floor near within is fits up least = record {
+  high = least (4294967296 + goal) (omega arith) (λ n c. (let m = near n (of_within row (length levels) within n c) in m.high));
+  low = omega arith;
+}
+
+pub low_is_near : (levels : List ℕ) (goal : ℕ) (row : List ℕ) (low ceiling : ℕ) → AreNear goal levels → All (λ x. x < length levels) row → ceiling ≡ 4294967296 + goal → goal < 4294967296 → low ≤ ceiling → ((bound : ℕ) → bound ≤ ceiling → ((n : ℕ) → Contains row n → bound ≤ level_at levels n) → bound ≤ low) → IsNear goal low
+low_is_near levels goal row low ceiling near within is fits down greatest = record {
+  high = omega arith;
+  low = (let g = greatest (4294967296 - goal) (omega arith) (λ n c. (let m = near n (of_within row (length levels) within n c) in let l = m.low in omega arith)) in omega arith);
+}

@@ -11,8 +11,8 @@ pub mod Counts
 pub mod Searches
 pub mod Determined
 pub mod Told
-pub mod LinkLemmas
 pub mod SearchLemmas
+pub mod KeptLemmas
 pub mod CutLemmas
 pub mod ListedLemmas
 pub mod OrderLemmas

@@ -1,18 +1,21 @@
--- Following links finds gates, and a search that has passed all that it found has found all.
-use Rattle.std.proofs.Common.{◌≡◌, ◌⊎◌, ◌==◌, inl, inr, ℕ, zero, suc, ◌+◌, ◌<◌, ◌≤◌, Bool, true, false, List, [], ◌∷◌, ◌++◌, length, filter, get_or, set, refl, ap, sym, ◌∙◌, subst, arith, Contains, true≢false}
-use Rattle.std.proofs.lemmas.Bool.{cases_eq, or_cases, or_left, or_right, eqb-true, eq-eqb, ne_eqb}
-use Rattle.std.proofs.lemmas.List.{get_or-set_same, get_or-set_other, length-set, get_or_append_left, length_push}
-use Rattle.std.proofs.lemmas.List.Elements.{All-set, Contains-append_left, Contains-push, Contains-push_cases, Contains-get_or}
-use Rattle.std.specs.List.{AllByRecursion, list_any}
-use Rattle.loops.specs.declared.links.Link.{Link}
+-- Following rows finds gates, and a search that has passed all that it found has found all.
+use Rattle.std.proofs.Common.{◌≡◌, ◌⊎◌, ◌==◌, inl, inr, ℕ, zero, suc, ◌+◌, ◌<◌, ◌≤◌, Bool, true, false, List, [], ◌∷◌, ◌++◌, length, get_or, set, refl, ap, sym, ◌∙◌, subst, arith, Contains}
+use Rattle.std.proofs.lemmas.Bool.{cases_eq, cases_lt, eq-eqb, ne_eqb}
+use Rattle.std.proofs.lemmas.List.{get_or-set_same, get_or-set_other, length-set, get_or_append_left, get_or_past, length_push}
+use Rattle.std.proofs.lemmas.List.Elements.{All-set, Contains-append_left, Contains-push, Contains-push_cases}
+use Rattle.std.specs.declared.option.Option.{Option}
+use Rattle.std.specs.Prelude.{Some, None}
+use Rattle.loops.specs.declared.search.Limit.{Limit}
+use Rattle.loops.specs.declared.search.Limit.TheVariants.{AtLeast}
 use Rattle.loops.specs.declared.search.Search.{Search}
-use Rattle.loops.specs.Links.{link, leads_from}
-use Rattle.loops.specs.Searching.{Connects, Follows, IsFree, IsMarked, IsNew, IsPassed, IsReached, IsReady, IsSearching, LeadTo, Path, unmarked_count, work_left}
-use Rattle.loops.proofs.Walks.{all_append}
+use Rattle.loops.specs.Keeping.{HasEnded, Meeting}
+use Rattle.loops.specs.Searching.{Admits, Connects, Follows, GoesOn, HasAdvanced, InRow, IsMarked, IsNew, IsPassed, IsReady, IsSearching, Meets, MeetsAt, Path, level_at, row_at, unmarked_count, work_left}
+use Rattle.loops.specs.Walks.{AnyGate}
+use Rattle.loops.proofs.Walks.{all_any}
 
-pub path-append : (links : List Link) (a b c : ℕ) (via rest : List ℕ) → Path links a via b → Path links b rest c → Path links a (via ++ (b ∷ rest)) c
-path-append links a b c [] rest h k = (h, k)
-path-append links a b c (x ∷ via) rest h k = (h.0, path-append links x b c via rest h.1 k)
+pub path-append : (R : ℕ → ℕ → Type 0) (a b c : ℕ) (via rest : List ℕ) → Path R a via b → Path R b rest c → Path R a (via ++ (b ∷ rest)) c
+path-append R a b c [] rest h k = (h, k)
+path-append R a b c (x ∷ via) rest h k = (h.0, path-append R x b c via rest h.1 k)
 
 unmarked_set : (goal : ℕ) (marks : List ℕ) (x : ℕ) → x < length marks → ¬ IsMarked goal marks x → unmarked_count goal (set marks x (goal + 1)) + 1 ≡ unmarked_count goal marks
 unmarked_set goal [] x l none = absurd (omega arith)
@@ -37,8 +40,13 @@ only_set : (goal : ℕ) (marks : List ℕ) (x y : ℕ) → IsMarked goal (set ma
 only_set goal marks x y h =
     elim (cases_eq y x) [ inl e ↦ inr e | inr ne ↦ inl (sym (get_or-set_other marks x y (goal + 1) 0 ne) ∙ h) ]
 
-module _ (cut : List Bool) (goal : ℕ) (links : List Link) (marks found : List ℕ) where
-  pub follows_skip : (after more : List ℕ) (i n : ℕ) → Follows cut goal links i marks after found more → ((d : Link) → (get_or links i d).to ≡ n) → ¬ IsNew cut goal after n → Follows cut goal links (i + 1) marks after found more
+-- a gate with a mark has an entry
+marked_within : (goal : ℕ) (marks : List ℕ) (x : ℕ) → IsMarked goal marks x → x < length marks
+marked_within goal marks x m =
+    elim (cases_lt x (length marks)) [ inl l ↦ l | inr past ↦ absurd (let none = get_or_past marks x 0 (omega arith) in omega (arith, m)) ]
+
+module _ (levels : List ℕ) (limit : Limit) (goal : ℕ) (row : List ℕ) (marks found : List ℕ) where
+  pub follows_skip : (after more : List ℕ) (i n : ℕ) → Follows levels limit goal row i marks after found more → ((d : ℕ) → get_or row i d ≡ n) → ¬ IsNew levels limit goal after n → Follows levels limit goal row (i + 1) marks after found more
   follows_skip after more i n f is old = record {
     size = f.size;
     bound = f.bound;
@@ -46,22 +54,22 @@ module _ (cut : List Bool) (goal : ℕ) (links : List Link) (marks found : List 
     same = f.same;
     keeps = f.keeps;
     marked = f.marked;
-    each = λ j d l free.
+    each = λ j d l admitted.
         elim (cases_eq j i) [
-          | inr ne ↦ f.each j d (omega (arith, ne)) free
+          | inr ne ↦ f.each j d (omega (arith, ne)) admitted
           | inl e ↦
-              let to : (get_or links j d).to ≡ n = ap (λ (k : ℕ). (get_or links k d).to) e ∙ is d in
+              let to : get_or row j d ≡ n = ap (λ (k : ℕ). get_or row k d) e ∙ is d in
               subst (λ (x : ℕ). IsMarked goal after x) (sym to)
               (elim (cases_eq (get_or after n 0) (goal + 1)) [
                 | inl marked ↦ marked
-                | inr unmarked ↦ absurd (old (record { free = subst (λ (x : ℕ). IsFree cut goal x) to free; unmarked = unmarked }))
+                | inr unmarked ↦ absurd (old (record { admitted = subst (λ (x : ℕ). Admits limit (level_at levels x)) to admitted; unmarked = unmarked }))
               ])
         ];
     only = f.only;
     falls = f.falls;
   }
 
-  pub follows_push : (after more : List ℕ) (i n : ℕ) → i < length links → n < length after → Follows cut goal links i marks after found more → ((d : Link) → (get_or links i d).to ≡ n) → IsNew cut goal after n → Follows cut goal links (i + 1) marks (set after n (goal + 1)) found (more ++ n ∷ [])
+  pub follows_push : (after more : List ℕ) (i n : ℕ) → i < length row → n < length after → Follows levels limit goal row i marks after found more → ((d : ℕ) → get_or row i d ≡ n) → IsNew levels limit goal after n → Follows levels limit goal row (i + 1) marks (set after n (goal + 1)) found (more ++ n ∷ [])
   follows_push after more i n il l f is new = record {
     size = length-set after n (goal + 1) ∙ f.size;
     bound = λ all. All-set (λ m. m ≤ goal + 1) after n (goal + 1) (omega arith) (f.bound all);
@@ -71,167 +79,135 @@ module _ (cut : List Bool) (goal : ℕ) (links : List Link) (marks found : List 
     marked = λ x h.
         elim (only_set goal after n x h) [
           | inr e ↦ inr (subst (λ (y : ℕ). Contains (more ++ n ∷ []) y) (sym e) (Contains-push more n))
-          | inl m ↦
-              elim (f.marked x m) [ inl old ↦ inl old | inr c ↦ inr (Contains-append_left more (n ∷ []) x c) ]
+          | inl m ↦ elim (f.marked x m) [ inl old ↦ inl old | inr c ↦ inr (Contains-append_left more (n ∷ []) x c) ]
         ];
-    each = λ j d jl free.
+    each = λ j d jl admitted.
         elim (cases_eq j i) [
-          | inr ne ↦ keeps_set goal after n (get_or links j d).to l (f.each j d (omega (arith, ne)) free)
+          | inr ne ↦ keeps_set goal after n (get_or row j d) l (f.each j d (omega (arith, ne)) admitted)
           | inl e ↦
-              let to : (get_or links j d).to ≡ n = ap (λ (k : ℕ). (get_or links k d).to) e ∙ is d in
+              let to : get_or row j d ≡ n = ap (λ (k : ℕ). get_or row k d) e ∙ is d in
               subst (λ (x : ℕ). IsMarked goal (set after n (goal + 1)) x) (sym to) (get_or-set_same after n (goal + 1) 0 l)
         ];
     only = λ x c.
         elim (Contains-push_cases more n x c) [
-          | inl there ↦ f.only x there
-          | inr e ↦
-              let d : Link = link n n in
-              inr (subst (λ (y : ℕ). IsFree cut goal y × LeadTo links y) e (
-                new.free,
-                record { at = get_or links i d; is = Contains-get_or links i d il; to = is d },
-              ))
+          | inl there ↦
+              elim (f.only x there) [ inl old ↦ inl old | inr w ↦ inr (w.0, keeps_set goal after n x l w.1) ]
+          | inr e ↦ inr (subst (λ (y : ℕ). Contains row y × IsMarked goal (set after n (goal + 1)) y) e ((i, il, is n), get_or-set_same after n (goal + 1) 0 l))
         ];
     falls = (let a = f.falls in let b = unmarked_set goal after n l new.unmarked in let p = length_push more n in omega arith);
   }
 
--- whether a link leads to a gate
-leads_from_any : (links : List Link) (n : ℕ) → list_any (λ x. x.to == n) links ≡ true → LeadTo links n
-leads_from_any [] n e = absurd (true≢false (sym e))
-leads_from_any (x ∷ links) n e =
-    elim (or_cases (x.to == n) (list_any (λ y. y.to == n) links) e) [
-      | inl here ↦ record { at = x; is = (zero, omega arith, refl); to = eqb-true x.to n here }
-      | inr later ↦
-          let r = leads_from_any links n later in
-          let l = r.is.1 in
-          record { at = r.at; is = (suc r.is.0, omega arith, r.is.2); to = r.to }
-    ]
+module _ (rows : List (List ℕ)) (levels : List ℕ) (limit : Limit) (goal : ℕ) where
+  none_marked : (marks : List ℕ) → IsReady (length levels) goal marks → (x : ℕ) → ¬ IsMarked goal marks x
+  none_marked marks ready x m =
+      let b = ready.bound x 0 (marked_within goal marks x m) in omega (arith, m)
 
-any_from_at : (links : List Link) (n k : ℕ) (d : Link) → k < length links → (get_or links k d).to ≡ n → list_any (λ x. x.to == n) links ≡ true
-any_from_at [] n k d l e = absurd (omega arith)
-any_from_at (x ∷ links) n zero d l e = or_left (x.to == n) (list_any (λ y. y.to == n) links) (eq-eqb x.to n e)
-any_from_at (x ∷ links) n (suc k) d l e = or_right (x.to == n) (list_any (λ y. y.to == n) links) (any_from_at links n k d (omega arith) e)
+  -- a search that has found the gates of the goal's row
+  pub begun : (marks after more : List ℕ) → IsReady (length levels) goal marks → Follows levels (AtLeast 0) goal (row_at rows goal) (length (row_at rows goal)) marks after [] more → (new : Search) → new.marks.items ≡ after → new.found.items ≡ more → new.passed ≡ 0 → IsSearching rows levels limit goal new
+  begun marks after more ready f new e d p = record {
+    ready = subst (λ (xs : List ℕ). IsReady (length levels) (goal + 1) xs) (sym e)
+        (record { size = f.size ∙ ready.size; bound = f.bound (λ k z l. (let b = ready.bound k z l in omega arith)) });
+    begins = λ x c. marks_new x (subst (λ (n : ℕ). IsMarked goal after n) c.2 (f.each c.0 x c.1 (omega arith)));
+    found = λ x m.
+        subst (λ (xs : List ℕ). Contains xs x) (sym d)
+        (elim (f.marked x (subst (λ (xs : List ℕ). IsMarked goal xs x) e m)) [ inl old ↦ absurd (none_marked marks ready x old) | inr c ↦ c ]);
+    reached = λ x c.
+        elim (f.only x (subst (λ (xs : List ℕ). Contains xs x) d c)) [
+          | inl none ↦ absurd (let l = none.1 in omega arith)
+          | inr w ↦ record { marked = marks_new x w.1; path = record { via = []; kind = tt; path = w.0 } }
+        ];
+    within = omega (arith, p);
+    passed = λ k z l. absurd (omega (arith, p));
+  }
+    where
+      marks_new : (x : ℕ) → IsMarked goal after x → IsMarked goal new.marks.items x
+      marks_new x m = subst (λ (xs : List ℕ). IsMarked goal xs x) (sym e) m
 
--- the links that lead from a gate
-from_filter : (links : List Link) (g k : ℕ) (x : Link) → k < length (filter (leads_from g) links) → get_or (filter (leads_from g) links) k x ≡ x → Contains links x × (x.from ≡ g)
-from_filter [] g k x l e = absurd (omega arith)
-from_filter (y ∷ links) g k x l e = by (leads_from g y) refl k l e (λ j jl je. from_filter links g j x jl je)
-  where
-    by : (b : Bool) → leads_from g y ≡ b → (j : ℕ) → j < length (filter (leads_from g) (y ∷ links)) → get_or (filter (leads_from g) (y ∷ links)) j x ≡ x → ((i : ℕ) → i < length (filter (leads_from g) links) → get_or (filter (leads_from g) links) i x ≡ x → Contains links x × (x.from ≡ g)) → Contains (y ∷ links) x × (x.from ≡ g)
-    by false is j jl je rest =
-        let r = rest j (rw is at jl) (rw is at je) in
-        let l2 = r.0.1 in
-        ((suc r.0.0, omega arith, r.0.2), r.1)
-    by true is j jl je rest = kept j (rw is at jl) (rw is at je)
-      where
-        kept : (i : ℕ) → i < length (y ∷ filter (leads_from g) links) → get_or (y ∷ filter (leads_from g) links) i x ≡ x → Contains (y ∷ links) x × (x.from ≡ g)
-        kept zero il ie = ((zero, omega arith, ie), ap (λ (z : Link). z.from) (sym ie) ∙ eqb-true y.from g is)
-        kept (suc i) il ie =
-            let r = rest i (omega arith) ie in
-            let l2 = r.0.1 in
-            ((suc r.0.0, omega arith, r.0.2), r.1)
+  pub begun_first : (marks after more : List ℕ) → Follows levels (AtLeast 0) goal (row_at rows goal) (length (row_at rows goal)) marks after [] more → (n : ℕ) → Contains more n → Contains (row_at rows goal) n
+  begun_first marks after more f n c = elim (f.only n c) [ inl none ↦ absurd (let l = none.1 in omega arith) | inr w ↦ w.0 ]
 
-to_filter : (links : List Link) (g k : ℕ) (x : Link) → k < length links → get_or links k x ≡ x → x.from ≡ g → Contains (filter (leads_from g) links) x
-to_filter [] g k x l e f = absurd (omega arith)
-to_filter (y ∷ links) g zero x l e f =
-    let is : leads_from g y ≡ true = eq-eqb y.from g (ap (λ (z : Link). z.from) e ∙ f) in
-    rw is (zero, omega arith, e)
-to_filter (y ∷ links) g (suc k) x l e f = by (leads_from g y) refl (to_filter links g k x (omega arith) e f)
-  where
-    by : (b : Bool) → leads_from g y ≡ b → Contains (filter (leads_from g) links) x → Contains (filter (leads_from g) (y ∷ links)) x
-    by true is c = rw is (let l2 = c.1 in (suc c.0, omega arith, c.2))
-    by false is c = rw is c
-
-module _ (links : List Link) (cut : List Bool) (goal : ℕ) (search : Search) (s : IsSearching links cut goal search) where
-  -- a search that has passed all that it found
-  all_passed : search.passed ≡ length search.found.items → (a : ℕ) → Contains search.found.items a → IsPassed links cut goal search.found.items a
-  all_passed all a c =
-      let l = c.1 in
-      subst (λ (n : ℕ). IsPassed links cut goal search.found.items n) c.2 (s.passed c.0 a (omega arith))
-
-  never : search.passed ≡ length search.found.items → (a : ℕ) (via : List ℕ) → Contains search.found.items a → AllByRecursion (IsFree cut goal) via → ¬ Path links a via goal
-  never all a [] c free path = (all_passed all a c).away path
-  never all a (x ∷ via) c free path = never all x via ((all_passed all a c).each x path.0 free.0) free.1 path.1
-
-  pub exhausted : search.passed ≡ length search.found.items → ¬ Connects links (IsFree cut goal) goal goal
-  exhausted all c = never all goal c.via s.begins c.kind c.path
-
-  -- a link from a gate that was found goes on from the goal
-  onward : (g x : ℕ) → Contains search.found.items g → Contains links (link g x) → Connects links (IsFree cut goal) goal x
-  onward g x c l =
-      elim (s.reached g c) [
-        | inl e ↦ record { via = []; kind = tt; path = subst (λ (n : ℕ). Contains links (link n x)) e l }
-        | inr r ↦ record {
+  module _ (search : Search) (s : IsSearching rows levels limit goal search) where
+    -- a gate in the row of one that was found goes on from the goal
+    onward : (g x : ℕ) → Contains search.found.items g → InRow rows g x → Connects (InRow rows) AnyGate goal x
+    onward g x c l =
+        let r = s.reached g c in
+        record {
           via = r.path.via ++ (g ∷ []);
-          kind = all_append (IsFree cut goal) r.path.via (g ∷ []) r.path.kind (r.free, tt);
-          path = path-append links goal g x r.path.via [] r.path.path l;
+          kind = all_any (r.path.via ++ (g ∷ []));
+          path = path-append (InRow rows) goal g x r.path.via [] r.path.path l;
         }
-      ]
 
-  -- the gate that is passed next
-  module _ (g : ℕ) (here : Contains search.found.items g) where
-    from_onward : (x : ℕ) → LeadTo (filter (leads_from g) links) x → Contains links (link g x)
-    from_onward x t =
-        let f = from_filter links g t.is.0 t.at t.is.1 t.is.2 in
-        subst (λ (n : ℕ). Contains links (link n x)) f.1
-        (subst (λ (n : ℕ). Contains links (link t.at.from n)) t.to f.0)
+    pub meets_at : (g : ℕ) (others : List ℕ) → Contains search.found.items g → Meets goal (row_at rows g) others → MeetsAt rows goal others
+    meets_at g others here m = record { gate = m.gate; path = onward g m.gate here m.listed; marked = m.marked }
 
-    pub leads_back : list_any (λ x. x.to == goal) (filter (leads_from g) links) ≡ true → Connects links (IsFree cut goal) goal goal
-    leads_back e = onward g goal here (from_onward goal (leads_from_any (filter (leads_from g) links) goal e))
+    pub found_within : (x : ℕ) → Contains search.found.items x → x < length levels
+    found_within x c =
+        let r = s.reached x c in
+        let size = s.ready.size in
+        let l = marked_within goal search.marks.items x r.marked in
+        omega arith
 
-    module _ (after more : List ℕ) (f : Follows cut goal (filter (leads_from g) links) (length (filter (leads_from g) links)) search.marks.items after search.found.items more) where
+    pub ended : (others : List ℕ) → search.passed ≡ length search.found.items → ((x : ℕ) → Contains search.found.items x → ¬ Contains others x) → HasEnded rows levels limit goal others search.found.items
+    ended others all apart = record {
+      begins = λ x c. s.found x (s.begins x c);
+      closed = λ x y c r a.
+          (let l = c.1 in s.found y (s.passed c.0 x (omega (arith, all)) y (subst (λ (n : ℕ). InRow rows n y) (sym c.2) r) a));
+      apart = apart;
+      within = found_within;
+    }
+
+    -- the gate that is passed next
+    module _ (g : ℕ) (here : Contains search.found.items g) (after more others : List ℕ) (f : Follows levels limit goal (row_at rows g) (length (row_at rows g)) search.marks.items after search.found.items more) where
       still : (x : ℕ) → Contains search.found.items x → Contains more x
       still x c =
           let a = f.longer in
           let l = c.1 in
           (c.0, omega arith, f.same c.0 x l ∙ c.2)
 
-      now_marked : (x : ℕ) → IsMarked goal after x → Contains more x
-      now_marked x m = elim (f.marked x m) [ inl old ↦ still x (s.marked x old) | inr c ↦ c ]
-
-      passes : list_any (λ x. x.to == goal) (filter (leads_from g) links) ≡ false → IsPassed links cut goal more g
-      passes away = record {
-        away = λ c.
-            let k = to_filter links g c.0 (link g goal) c.1 c.2 refl in
-            true≢false (sym (any_from_at (filter (leads_from g) links) goal k.0 (link g goal) k.1 (ap (λ (z : Link). z.to) k.2)) ∙ away);
-        each = λ y c free.
-            let k = to_filter links g c.0 (link g y) c.1 c.2 refl in
-            let to : (get_or (filter (leads_from g) links) k.0 (link g y)).to ≡ y = ap (λ (z : Link). z.to) k.2 in
-            now_marked y (subst (λ (n : ℕ). IsMarked goal after n) to
-            (f.each k.0 (link g y) k.1 (subst (λ (n : ℕ). IsFree cut goal n) (sym to) free)));
-      }
-
-      pub searching_more : list_any (λ x. x.to == goal) (filter (leads_from g) links) ≡ false → search.passed < length search.found.items → ((d : ℕ) → get_or search.found.items search.passed d ≡ g) → (new : Search) → new.marks.items ≡ after → new.found.items ≡ more → new.passed ≡ search.passed + 1 → IsSearching links cut goal new × (work_left goal new < work_left goal search)
-      searching_more away less is new e d p = (
-        record {
-          ready = subst (λ (xs : List ℕ). IsReady (length cut) (goal + 1) xs) (sym e)
+      pub goes_on : ((n : ℕ) → Contains (row_at rows g) n → ¬ IsMarked goal others n) → search.passed < length search.found.items → ((d : ℕ) → get_or search.found.items search.passed d ≡ g) → (new : Search) → new.marks.items ≡ after → new.found.items ≡ more → new.passed ≡ search.passed + 1 → GoesOn rows levels limit goal others search new
+      goes_on apart less is new e d p = record {
+        searching = record {
+          ready = subst (λ (xs : List ℕ). IsReady (length levels) (goal + 1) xs) (sym e)
               (record { size = f.size ∙ s.ready.size; bound = f.bound s.ready.bound });
-          begins = moved goal (still goal s.begins);
-          reached = λ x c. reached x (f.only x (subst (λ (xs : List ℕ). Contains xs x) d c));
-          marked = λ x m. moved x (now_marked x (subst (λ (xs : List ℕ). IsMarked goal xs x) e m));
-          within = (let a = f.longer in let b = ap (λ (xs : List ℕ). length xs) d in omega arith);
+          begins = λ x c. marks_new x (f.keeps x (s.begins x c));
+          found = λ x m.
+              subst (λ (xs : List ℕ). Contains xs x) (sym d)
+              (elim (f.marked x (subst (λ (xs : List ℕ). IsMarked goal xs x) e m)) [ inl old ↦ still x (s.found x old) | inr c ↦ c ]);
+          reached = λ x c.
+              elim (f.only x (subst (λ (xs : List ℕ). Contains xs x) d c)) [
+                | inl old ↦
+                    let r = s.reached x old in
+                    record { marked = marks_new x (f.keeps x r.marked); path = r.path }
+                | inr w ↦ record { marked = marks_new x w.1; path = onward g x here w.0 }
+              ];
+          within = (let a = f.longer in let b = ap (λ (xs : List ℕ). length xs) d in omega (arith, p));
           passed = λ k z l.
-              subst (λ (xs : List ℕ). IsPassed links cut goal xs (get_or xs k z)) (sym d) (places k z (omega arith));
-        },
-        falls,
-      )
+              subst (λ (xs : List ℕ). IsPassed rows levels limit goal new.marks.items (get_or xs k z)) (sym d) (places k z (omega (arith, p)));
+        };
+        apart = λ x c.
+            elim (f.only x (subst (λ (xs : List ℕ). Contains xs x) d c)) [ inl old ↦ inl old | inr w ↦ inr (apart x w.0) ];
+        keeps = λ x m. marks_new x (f.keeps x m);
+        less = falls;
+      }
         where
-          moved : (x : ℕ) → Contains more x → Contains new.found.items x
-          moved x c = subst (λ (xs : List ℕ). Contains xs x) (sym d) c
+          marks_new : (x : ℕ) → IsMarked goal after x → IsMarked goal new.marks.items x
+          marks_new x m = subst (λ (xs : List ℕ). IsMarked goal xs x) (sym e) m
 
-          reached : (x : ℕ) → Contains search.found.items x ⊎ (IsFree cut goal x × LeadTo (filter (leads_from g) links) x) → (x ≡ goal) ⊎ IsReached links cut goal x
-          reached x (inl c) = s.reached x c
-          reached x (inr w) = inr (record { free = w.0; path = onward g x here (from_onward x w.1) })
+          here_passed : IsPassed rows levels limit goal new.marks.items g
+          here_passed y c a =
+              marks_new y (subst (λ (n : ℕ). IsMarked goal after n) c.2
+              (f.each c.0 y c.1 (subst (λ (n : ℕ). Admits limit (level_at levels n)) (sym c.2) a)))
 
-          places : (k z : ℕ) → k < search.passed + 1 → IsPassed links cut goal more (get_or more k z)
+          places : (k z : ℕ) → k < search.passed + 1 → IsPassed rows levels limit goal new.marks.items (get_or more k z)
           places k z l =
-              subst (λ (n : ℕ). IsPassed links cut goal more n) (sym (f.same k z (omega arith)))
+              subst (λ (n : ℕ). IsPassed rows levels limit goal new.marks.items n) (sym (f.same k z (omega arith)))
               (elim (cases_eq k search.passed) [
                 | inl same ↦
-                    subst (λ (n : ℕ). IsPassed links cut goal more n)
-                    (sym (ap (λ (j : ℕ). get_or search.found.items j z) same ∙ is z)) (passes away)
+                    subst (λ (n : ℕ). IsPassed rows levels limit goal new.marks.items n)
+                    (sym (ap (λ (j : ℕ). get_or search.found.items j z) same ∙ is z)) here_passed
                 | inr ne ↦
                     let old = s.passed k z (omega (arith, ne)) in
-                    record { away = old.away; each = λ y c free. still y (old.each y c free) }
+                    λ y c a. marks_new y (f.keeps y (old y c a))
               ])
 
           falls : work_left goal new < work_left goal search
@@ -240,14 +216,54 @@ module _ (links : List Link) (cut : List Bool) (goal : ℕ) (search : Search) (s
               let b = f.longer in
               let marks = ap (unmarked_count goal) e in
               let len = ap (λ (xs : List ℕ). length xs) d in
-              omega arith
+              omega (arith, p)
 
-pub follows_same : (cut : List Bool) (goal : ℕ) (links : List Link) (k : ℕ) (marks after found more marks' found' : List ℕ) → Follows cut goal links k marks after found more → marks' ≡ after → found' ≡ more → Follows cut goal links k marks marks' found found'
-follows_same cut goal links k marks after found more marks' found' f e d =
-    subst (λ (xs : List ℕ). Follows cut goal links k marks xs found found') (sym e)
-    (subst (λ (xs : List ℕ). Follows cut goal links k marks after found xs) (sym d) f)
+-- two searches that have met
+pub meeting : (readers sources : List (List ℕ)) (levels : List ℕ) (limit : Limit) (goal : ℕ) (back : Search) → IsSearching sources levels limit goal back → MeetsAt readers goal back.marks.items → Meeting readers sources goal
+meeting readers sources levels limit goal back b m = record {
+  gate = m.gate;
+  forth = m.path;
+  back = (let r = b.reached m.gate (b.found m.gate m.marked) in r.path);
+}
 
-pub follows_from : (cut : List Bool) (goal : ℕ) (links links' : List Link) (marks marks' after found more : List ℕ) → links ≡ links' → marks ≡ marks' → Follows cut goal links (length links) marks after found more → Follows cut goal links' (length links') marks' after found more
-follows_from cut goal links links' marks marks' after found more e d f =
-    subst (λ (xs : List Link). Follows cut goal xs (length xs) marks' after found more) e
-    (subst (λ (xs : List ℕ). Follows cut goal links (length links) xs after found more) d f)
+pub meeting_back : (readers sources : List (List ℕ)) (levels : List ℕ) (limit : Limit) (goal : ℕ) (forth : Search) → IsSearching readers levels limit goal forth → MeetsAt sources goal forth.marks.items → Meeting readers sources goal
+meeting_back readers sources levels limit goal forth f m = record {
+  gate = m.gate;
+  forth = (let r = f.reached m.gate (f.found m.gate m.marked) in r.path);
+  back = m.path;
+}
+
+pub meets_begun : (readers sources : List (List ℕ)) (levels : List ℕ) (limit : Limit) (goal : ℕ) (forth : Search) → IsSearching readers levels limit goal forth → Meets goal (row_at sources goal) forth.marks.items → Meeting readers sources goal
+meets_begun readers sources levels limit goal forth f m = record {
+  gate = m.gate;
+  forth = (let r = f.reached m.gate (f.found m.gate m.marked) in r.path);
+  back = record { via = []; kind = tt; path = m.listed };
+}
+
+-- the search has ended, by what one more gate showed
+pub ended_by : (rows : List (List ℕ)) (levels : List ℕ) (limit : Limit) (goal : ℕ) (others marks : List ℕ) (old new : Search) (answer : Option Bool) (met : Bool) → IsSearching rows levels limit goal old → answer ≡ Some met → met ≡ false → HasAdvanced rows levels limit goal marks old new answer → ((x : ℕ) → Contains old.found.items x → ¬ Contains others x) → HasEnded rows levels limit goal others new.found.items
+ended_by rows levels limit goal others marks old new answer met s e is h apart =
+    let both : HasAdvanced rows levels limit goal marks old new (Some false) =
+    subst (λ (b : Bool). HasAdvanced rows levels limit goal marks old new (Some b)) is (subst (λ (a : Option Bool). HasAdvanced rows levels limit goal marks old new a) e h) in
+    subst (λ (t : Search). HasEnded rows levels limit goal others t.found.items) (sym both.1)
+    (ended rows levels limit goal old s others both.0 apart)
+
+-- or goes on
+pub goes_by : (rows : List (List ℕ)) (levels : List ℕ) (limit : Limit) (goal : ℕ) (marks : List ℕ) (old new : Search) (answer : Option Bool) → answer ≡ None → HasAdvanced rows levels limit goal marks old new answer → GoesOn rows levels limit goal marks old new
+goes_by rows levels limit goal marks old new answer e h = subst (λ (a : Option Bool). HasAdvanced rows levels limit goal marks old new a) e h
+
+-- what goes on stays apart from the other search's row
+pub stays_apart : (rows other_rows : List (List ℕ)) (levels : List ℕ) (limit other_limit : Limit) (goal : ℕ) (old new other : Search) → IsSearching other_rows levels other_limit goal other → ((x : ℕ) → Contains old.found.items x → ¬ InRow other_rows goal x) → GoesOn rows levels limit goal other.marks.items old new → (x : ℕ) → Contains new.found.items x → ¬ InRow other_rows goal x
+stays_apart rows other_rows levels limit other_limit goal old new other s apart g x c r =
+    elim (g.apart x c) [ inl was ↦ apart x was r | inr unmarked ↦ unmarked (s.begins x r) ]
+
+pub follows_same : (levels : List ℕ) (limit : Limit) (goal : ℕ) (row : List ℕ) (k : ℕ) (marks after found more marks' found' : List ℕ) → Follows levels limit goal row k marks after found more → marks' ≡ after → found' ≡ more → Follows levels limit goal row k marks marks' found found'
+follows_same levels limit goal row k marks after found more marks' found' f e d =
+    subst (λ (xs : List ℕ). Follows levels limit goal row k marks xs found found') (sym e)
+    (subst (λ (xs : List ℕ). Follows levels limit goal row k marks after found xs) (sym d) f)
+
+pub follows_from : (levels : List ℕ) (limit : Limit) (goal : ℕ) (row row' marks marks' after found found' more : List ℕ) → row ≡ row' → marks ≡ marks' → found ≡ found' → Follows levels limit goal row (length row) marks after found more → Follows levels limit goal row' (length row') marks' after found' more
+follows_from levels limit goal row row' marks marks' after found found' more e d g f =
+    subst (λ (xs : List ℕ). Follows levels limit goal xs (length xs) marks' after found' more) e
+    (subst (λ (xs : List ℕ). Follows levels limit goal row (length row) xs after found' more) d
+    (subst (λ (xs : List ℕ). Follows levels limit goal row (length row) marks after xs more) g f))

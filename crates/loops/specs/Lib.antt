@@ -9,4 +9,5 @@ pub mod Laws
 pub mod Links
 pub mod Placing
 pub mod Searching
+pub mod Keeping
 pub mod Listed

@@ -12,9 +12,9 @@ use netlist::Netlist;
 use std::alloc::{AllocError, Global};
 use std::marker::Model;
 
-/// The gates of a block, to which more are added.
+/// A list of gates, to which more are added.
 #[derive(Drop)]
-struct Members {
+pub(crate) struct Members {
     gates: Vec<u32>,
 }
 
@@ -27,7 +27,7 @@ impl Model for Members {
 }
 
 impl Members {
-    fn new(alloc: Global) -> Members
+    pub(crate) fn new(alloc: Global) -> Members
         ensures { result ≡ [] }
     {
         Members {
@@ -35,14 +35,14 @@ impl Members {
         }
     }
 
-    fn push(&mut self, gate: u32) -> Result<(), AllocError>
+    pub(crate) fn push(&mut self, gate: u32) -> Result<(), AllocError>
         ensures { OnOk result (self.new ≡ self.old ++ gate ∷ []) }
     {
         self.gates.push(gate)?;
         Ok(())
     }
 
-    fn gates(&self) -> &[u32]
+    pub(crate) fn gates(&self) -> &[u32]
         ensures { result.now ≡ self.now }
     {
         &self.gates
@@ -55,7 +55,7 @@ impl Members {
     }
 }
 
-fn no_members(alloc: Global, count: u32) -> Result<Vec<Members>, AllocError>
+pub(crate) fn no_members(alloc: Global, count: u32) -> Result<Vec<Members>, AllocError>
     ensures { IfOk result (λ lists. lists.items ≡ replicate count []) }
 {
     let mut lists = Vec::with_capacity(alloc, count as usize)?;

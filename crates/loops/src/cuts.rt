@@ -1,47 +1,163 @@
 //! The cut wires of a netlist's loops.
+//!
+//! Gates are entered in flat order, and each that would close a walk through those entered before is a cut wire
+//! instead. The entered gates have levels that rise along their pins, so that a search from one need not leave the
+//! levels between what it reads and what reads it: the two-way search of Bender, Fineman, Gilbert and Tarjan (2015),
+//! with what one of both searches has found moved to another level.
 
-ghost use Rattle.std.specs.Prelude.{◌≡◌, ◌<◌, ◌+◌, ◌^◌, ◌↔◌, true, length, IfOk, OnOk};
+ghost use Rattle.std.specs.Prelude.{◌≡◌, ◌<◌, ◌≤◌, ◌+◌, ◌^◌, ◌↔◌, ℕ, true, length, set, IfOk, OnOk, Contains};
+ghost use Rattle.std.specs.List.{All};
 ghost use Rattle.loops.specs.Blocks.{AreBlocksOf};
 ghost use Rattle.loops.specs.Cuts.{IsCutOf};
-ghost use Rattle.loops.specs.Links.{AreTurned};
-ghost use Rattle.loops.specs.Searching.{Connects, IsFree, IsReady};
+ghost use Rattle.loops.specs.Keeping.{AreNear, HasOutcome, HasParted, IsKept};
+ghost use Rattle.loops.specs.Links.{IsLoopPin};
+ghost use Rattle.loops.specs.Searching.{Connects, InRow, IsFree, IsReady, level_at};
 
-use crate::links::LoopLinks;
-use crate::search::Search;
+use crate::blocks::{Members, no_members};
+use crate::kept::{add_reader, add_source, reads_itself, sources_before};
+use crate::levels::{MIDDLE, highest, lower, lowest, place, raise};
+use crate::search::{Limit, Search, meets};
 use crate::structure::{Blocks, Cut};
 use cyc_base::Bits;
 use netlist::Netlist;
 use std::alloc::{AllocError, Global};
 
-/// Whether a walk leads from this gate back to it through gates of its loop that come before it and
-/// are no cut wires. Two searches go in step, one along readers and one along pins, so that the
-/// shorter of both decides.
-fn leads_back(
-    links: &LoopLinks,
-    cut: &[bool],
+/// How two searches from a gate ended.
+#[derive(Clone, Copy, Debug)]
+enum Outcome {
+    /// They have found the same gate.
+    Met,
+    /// All that the gate leads to was found.
+    Ahead,
+    /// All that leads to the gate was found.
+    Behind,
+}
+
+/// Two searches go in step, one along readers up to a level and one along sources down to a level, until they
+/// meet or one has found all.
+fn search(
+    readers: &[Members],
+    sources: &[Members],
+    levels: &[u64],
+    high: u64,
+    low: u64,
+    goal: u32,
+    forth: &mut Search,
+    back: &mut Search,
+) -> Result<Outcome, AllocError>
+    requires fits { goal + 1 < 2 ^ 32 }
+    requires goal { goal < length levels.now }
+    requires readers_size { length readers.now ≡ length levels.now }
+    requires sources_size { length sources.now ≡ length levels.now }
+    requires readers { All (All (λ gate. gate < length levels.now)) readers.now }
+    requires sources { All (All (λ gate. gate < length levels.now)) sources.now }
+    requires forth { IsReady (length levels.now) goal forth.old.marks.items }
+    requires back { IsReady (length levels.now) goal back.old.marks.items }
+    ensures outcome { IfOk result (HasOutcome readers.now sources.now levels.now high low goal forth.new.found.items back.new.found.items) }
+    ensures forth { OnOk result (IsReady (length levels.now) (goal + 1) forth.new.marks.items) }
+    ensures back { OnOk result (IsReady (length levels.now) (goal + 1) back.new.marks.items) }
+{
+    forth.start(readers, levels, Limit::AtMost(high), goal)?;
+    back.start(sources, levels, Limit::AtLeast(low), goal)?;
+    if meets(sources[goal as usize].gates(), goal, &forth.marks) {
+        return Ok(Outcome::Met);
+    }
+    loop {
+        if let Some(met) = forth.advance(readers, levels, Limit::AtMost(high), goal, &back.marks)? {
+            return Ok(if met { Outcome::Met } else { Outcome::Ahead });
+        }
+        if let Some(met) = back.advance(sources, levels, Limit::AtLeast(low), goal, &forth.marks)? {
+            return Ok(if met { Outcome::Met } else { Outcome::Behind });
+        }
+    }
+}
+
+/// Moves levels so that the gates which the goal reads are below those that read it, or answers that a walk leads
+/// from one of these to one of those.
+fn close(
+    readers: &[Members],
+    sources: &[Members],
+    levels: &mut [u64],
     goal: u32,
     forth: &mut Search,
     back: &mut Search,
 ) -> Result<bool, AllocError>
     requires fits { goal + 1 < 2 ^ 32 }
-    requires cut { goal < length cut.now }
-    requires links { AreTurned links.now }
-    requires forth { IsReady (length cut.now) goal forth.old.marks.items }
-    requires back { IsReady (length cut.now) goal back.old.marks.items }
-    ensures leads { IfOk result (λ leads. (leads ≡ true) ↔ Connects links.now.readers.items (IsFree cut.now goal) goal goal) }
-    ensures forth { OnOk result (IsReady (length cut.now) (goal + 1) forth.new.marks.items) }
-    ensures back { OnOk result (IsReady (length cut.now) (goal + 1) back.new.marks.items) }
+    requires goal { goal < length levels.old }
+    requires readers_size { length readers.now ≡ length levels.old }
+    requires sources_size { length sources.now ≡ length levels.old }
+    requires readers { All (All (λ gate. gate < length levels.old)) readers.now }
+    requires sources { All (All (λ gate. gate < length levels.old)) sources.now }
+    requires near { AreNear goal levels.old }
+    requires forth { IsReady (length levels.old) goal forth.old.marks.items }
+    requires back { IsReady (length levels.old) goal back.old.marks.items }
+    ensures parted { IfOk result (HasParted readers.now sources.now goal levels.old levels.new) }
+    ensures forth { OnOk result (IsReady (length levels.old) (goal + 1) forth.new.marks.items) }
+    ensures back { OnOk result (IsReady (length levels.old) (goal + 1) back.new.marks.items) }
 {
-    forth.start(&links.readers, cut, goal)?;
-    back.start(&links.sources, cut, goal)?;
-    loop {
-        if let Some(leads) = forth.advance(&links.readers, cut, goal)? {
-            return Ok(leads);
+    let high = highest(
+        levels,
+        sources[goal as usize].gates(),
+        MIDDLE - u64::from(goal),
+    );
+    let low = lowest(
+        levels,
+        readers[goal as usize].gates(),
+        MIDDLE + u64::from(goal),
+    );
+    match search(readers, sources, levels, high, low, goal, forth, back)? {
+        Outcome::Met => Ok(true),
+        Outcome::Ahead => {
+            raise(levels, &forth.found, high + 1);
+            Ok(false)
         }
-        if let Some(leads) = back.advance(&links.sources, cut, goal)? {
-            return Ok(leads);
+        Outcome::Behind => {
+            lower(levels, &back.found, low - 1);
+            Ok(false)
         }
     }
+}
+
+/// Enters a gate, or answers that it is a cut wire: a walk leads from it back to it through gates of its loop that
+/// come before it and are no cut wires.
+fn enter(
+    alloc: Global,
+    net: &Netlist,
+    blocks: &Blocks,
+    cut: &[bool],
+    gate: u32,
+    readers: &mut [Members],
+    sources: &mut [Members],
+    levels: &mut [u64],
+    forth: &mut Search,
+    back: &mut Search,
+) -> Result<bool, AllocError>
+    requires blocks { AreBlocksOf net.now blocks.now }
+    requires gate { gate < length net.now.gates }
+    requires fits { gate + 1 < 2 ^ 32 }
+    requires cut { length cut.now ≡ length net.now.gates }
+    requires kept { IsKept (IsLoopPin net.now blocks.now) cut.now gate readers.old sources.old levels.old }
+    requires forth { IsReady (length cut.now) gate forth.old.marks.items }
+    requires back { IsReady (length cut.now) gate back.old.marks.items }
+    ensures leads { IfOk result (λ leads. (leads ≡ true) ↔ Connects (IsLoopPin net.now blocks.now) (IsFree cut.now gate) gate gate) }
+    ensures kept { IfOk result (λ leads. IsKept (IsLoopPin net.now blocks.now) (set cut.now gate leads) (gate + 1) readers.new sources.new levels.new) }
+    ensures forth { OnOk result (IsReady (length cut.now) (gate + 1) forth.new.marks.items) }
+    ensures back { OnOk result (IsReady (length cut.now) (gate + 1) back.new.marks.items) }
+{
+    if reads_itself(net, blocks, gate) {
+        return Ok(true);
+    }
+    let row = sources_before(alloc, net, blocks, cut, gate)?;
+    sources[gate as usize] = row;
+    if close(readers, sources, levels, gate, forth, back)? {
+        return Ok(true);
+    }
+    let behind = sources[gate as usize].gates();
+    let ahead = readers[gate as usize].gates();
+    place(levels, behind, ahead, gate);
+    add_source(sources, ahead, gate)?;
+    add_reader(readers, net, blocks, gate)?;
+    Ok(false)
 }
 
 /// The cut wires of a netlist, found in flat order: a gate is one exactly where a walk leads from it
@@ -53,12 +169,25 @@ pub fn find_cut(alloc: Global, net: &Netlist, blocks: &Blocks) -> Result<Cut, Al
     ensures { IfOk result (IsCutOf net.now) }
 {
     let gates = net.gates();
-    let links = LoopLinks::of(alloc, net, blocks)?;
     let mut cut = vec![in alloc; false; gates as usize]?;
+    let mut readers = no_members(alloc, gates)?;
+    let mut sources = no_members(alloc, gates)?;
+    let mut levels = vec![in alloc; MIDDLE; gates as usize]?;
     let mut forth = Search::new(alloc, gates)?;
     let mut back = Search::new(alloc, gates)?;
     for gate in 0..gates {
-        let leads = leads_back(&links, &cut, gate, &mut forth, &mut back)?;
+        let leads = enter(
+            alloc,
+            net,
+            blocks,
+            &cut,
+            gate,
+            &mut readers,
+            &mut sources,
+            &mut levels,
+            &mut forth,
+            &mut back,
+        )?;
         cut[gate as usize] = leads;
     }
     Ok(Cut {

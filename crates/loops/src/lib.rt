@@ -7,7 +7,9 @@
 
 mod blocks;
 mod cuts;
+mod kept;
 pub mod laws;
+mod levels;
 mod links;
 mod listing;
 mod orders;

@@ -1,22 +1,27 @@
-//! A search along links for a walk from a gate, the goal, back to it.
+//! A search along rows of gates, from one gate on.
 
-ghost use Rattle.std.specs.Prelude.{◌≡◌, ◌<◌, ◌+◌, ◌^◌, ◌==◌, ◌↔◌, true, length, IfOk, OnOk};
-ghost use Rattle.std.specs.List.{list_any};
-ghost use Rattle.std.specs.List.Sorted.{IsNonDecreasingBy};
-ghost use Rattle.loops.specs.Searching.{Follows, HasAdvanced, IsNew, IsReady, IsSearching};
+ghost use Rattle.std.specs.Prelude.{◌≡◌, ◌<◌, ◌+◌, ◌^◌, ◌↔◌, ℕ, true, false, [], length, IfOk, OnOk, Contains, slice_index_or};
+ghost use Rattle.std.specs.List.{All};
+ghost use Rattle.loops.specs.Searching.{Admits, Follows, HasAdvanced, IsMarked, IsNew, IsReady, IsSearching, Meets, row_at};
 
-use crate::links::{Link, links_from};
+use crate::blocks::Members;
 use std::alloc::{AllocError, Global};
 
-/// What a search has found so far on its way from the goal: gates before it in flat order that are no
-/// cut wires.
+/// Which levels a search enters.
+#[derive(Clone, Copy, Debug)]
+pub(crate) enum Limit {
+    AtMost(u64),
+    AtLeast(u64),
+}
+
+/// What a search has found so far on its way from a gate, the goal.
 #[derive(Debug)]
 pub(crate) struct Search {
     /// For each gate one more than the goal of the last search that found it, or 0.
     pub marks: Vec<u32>,
-    /// The gates that this search found, in their order: first the goal.
+    /// The gates that this search found, in their order.
     pub found: Vec<u32>,
-    /// How many of these were passed, with all links from them.
+    /// How many of these were passed, with all gates to which they lead.
     pub passed: usize,
 }
 
@@ -30,43 +35,61 @@ impl Drop for Search {
     }
 }
 
-/// Whether this search may pass a gate that it hasn't found yet.
-fn is_new(cut: &[bool], goal: u32, marks: &[u32], gate: u32) -> bool
-    requires fits { goal + 1 < 2 ^ 32 }
-    requires cut { goal < length cut.now }
-    requires marks { length marks.now ≡ length cut.now }
-    ensures { (result ≡ true) ↔ IsNew cut.now goal marks.now gate }
+fn admits(limit: Limit, level: u64) -> bool
+    ensures { (result ≡ true) ↔ Admits limit level }
 {
-    gate < goal && !cut[gate as usize] && marks[gate as usize] != goal + 1
+    match limit {
+        Limit::AtMost(bound) => level <= bound,
+        Limit::AtLeast(bound) => bound <= level,
+    }
 }
 
-/// Finds the gates to which these links lead.
+/// Whether this search enters a gate that it hasn't found yet.
+fn is_new(levels: &[u64], limit: Limit, goal: u32, marks: &[u32], gate: u32) -> bool
+    requires fits { goal + 1 < 2 ^ 32 }
+    requires gate { gate < length levels.now }
+    requires marks { length marks.now ≡ length levels.now }
+    ensures { (result ≡ true) ↔ IsNew levels.now limit goal marks.now gate }
+{
+    marks[gate as usize] != goal + 1 && admits(limit, levels[gate as usize])
+}
+
+/// Finds the gates of a row.
 fn follow(
-    cut: &[bool],
+    levels: &[u64],
+    limit: Limit,
     goal: u32,
-    links: &[Link],
+    row: &[u32],
     marks: &mut [u32],
     found: &mut Vec<u32>,
 ) -> Result<(), AllocError>
     requires fits { goal + 1 < 2 ^ 32 }
-    requires cut { goal < length cut.now }
-    requires marks { length marks.old ≡ length cut.now }
-    ensures { OnOk result (Follows cut.now goal links.now (length links.now) marks.old marks.new found.old.items found.new.items) }
+    requires row { All (λ gate. gate < length levels.now) row.now }
+    requires marks { length marks.old ≡ length levels.now }
+    ensures { OnOk result (Follows levels.now limit goal row.now (length row.now) marks.old marks.new found.old.items found.new.items) }
 {
-    for link in links {
-        if is_new(cut, goal, marks, link.to) {
-            marks[link.to as usize] = goal + 1;
-            found.push(link.to)?;
+    for gate in row {
+        if is_new(levels, limit, goal, marks, *gate) {
+            marks[*gate as usize] = goal + 1;
+            found.push(*gate)?;
         }
     }
     Ok(())
 }
 
-/// Whether one of these links leads to the gate.
-fn lead_to(links: &[Link], gate: u32) -> bool
-    ensures { result ≡ list_any (λ x. x.to == gate) links.now }
+/// Whether a search that marks these gates has found one of the row.
+pub(crate) fn meets(row: &[u32], goal: u32, marks: &[u32]) -> bool
+    requires fits { goal + 1 < 2 ^ 32 }
+    requires row { All (λ gate. gate < length marks.now) row.now }
+    ensures some { result ≡ true → Meets goal row.now marks.now }
+    ensures none { result ≡ false → (n : ℕ) → Contains row.now n → ¬ IsMarked goal marks.now n }
 {
-    links.iter().any(|link| link.to == gate)
+    for gate in row {
+        if marks[*gate as usize] == goal + 1 {
+            return true;
+        }
+    }
+    false
 }
 
 impl Search {
@@ -82,38 +105,61 @@ impl Search {
         })
     }
 
-    /// Begins the search for a walk from this gate back to it.
-    pub fn start(&mut self, links: &[Link], cut: &[bool], goal: u32) -> Result<(), AllocError>
-        requires { IsReady (length cut.now) goal self.old.marks.items }
-        ensures { OnOk result (IsSearching links.now cut.now goal self.new) }
+    /// Begins the search from this gate with all gates of its row.
+    pub fn start(
+        &mut self,
+        rows: &[Members],
+        levels: &[u64],
+        limit: Limit,
+        goal: u32,
+    ) -> Result<(), AllocError>
+        requires fits { goal + 1 < 2 ^ 32 }
+        requires goal { goal < length levels.now }
+        requires size { length rows.now ≡ length levels.now }
+        requires rows { All (All (λ gate. gate < length levels.now)) rows.now }
+        requires ready { IsReady (length levels.now) goal self.old.marks.items }
+        ensures searching { OnOk result (IsSearching rows.now levels.now limit goal self.new) }
+        ensures first { OnOk result ((n : ℕ) → Contains self.new.found.items n → Contains (row_at rows.now goal) n) }
     {
         self.found.clear();
-        self.found.push(goal)?;
         self.passed = 0;
+        let row = rows[goal as usize].gates();
+        follow(
+            levels,
+            Limit::AtLeast(0),
+            goal,
+            row,
+            &mut self.marks,
+            &mut self.found,
+        )?;
         Ok(())
     }
 
-    /// Passes one more gate, and answers whether a walk leads back to the goal once this is known.
+    /// Passes one more gate. It answers `true` where the gate leads to one that another search with this goal has
+    /// marked, and `false` where all gates that were found have been passed.
     pub fn advance(
         &mut self,
-        links: &[Link],
-        cut: &[bool],
+        rows: &[Members],
+        levels: &[u64],
+        limit: Limit,
         goal: u32,
+        others: &[u32],
     ) -> Result<Option<bool>, AllocError>
         requires fits { goal + 1 < 2 ^ 32 }
-        requires cut { goal < length cut.now }
-        requires sorted { IsNonDecreasingBy (λ x. x.from) links.now }
-        requires searching { IsSearching links.now cut.now goal self.old }
-        ensures { IfOk result (HasAdvanced links.now cut.now goal self.old self.new) }
+        requires size { length rows.now ≡ length levels.now }
+        requires rows { All (All (λ gate. gate < length levels.now)) rows.now }
+        requires others { length others.now ≡ length levels.now }
+        requires searching { IsSearching rows.now levels.now limit goal self.old }
+        ensures { IfOk result (HasAdvanced rows.now levels.now limit goal others.now self.old self.new) }
     {
         if self.passed == self.found.len() {
             return Ok(Some(false));
         }
-        let onward = links_from(links, self.found[self.passed]);
-        if lead_to(onward, goal) {
+        let row = rows[self.found[self.passed] as usize].gates();
+        if meets(row, goal, others) {
             return Ok(Some(true));
         }
-        follow(cut, goal, onward, &mut self.marks, &mut self.found)?;
+        follow(levels, limit, goal, row, &mut self.marks, &mut self.found)?;
         self.passed += 1;
         Ok(None)
     }

@@ -5,10 +5,12 @@ ghost use Rattle.sat.specs.Cnf.{Entails, Extends, IsLast};
 use crate::analysis::{analyse, fix};
 use crate::clauses::Clauses;
 use crate::lit::Lit;
+use crate::merits;
+use crate::merits::{GIVEN, Merit, of_learned};
 use crate::queue::age;
-use crate::search::{Search, back_to, bump_all, glue_of};
+use crate::search::{Search, back_to, bump_all, glue_of, watch_clause};
 use crate::trail::{NONE, assign, level, reason_of, set_reason};
-use crate::watches::{Pair, attach, best_pair};
+use crate::watches::{Pair, best_pair};
 use crate::working::Working;
 use std::alloc::AllocError;
 
@@ -39,8 +41,9 @@ pub(crate) fn keep_learned(
     let number = keep(database, &working.lits)?;
     let pair = best_pair(&search.trail, &working.lits);
     let glue = glue_of(search, &working.lits);
+    let merit = of_learned(&search.merits, glue);
     back_to(search, pair.level);
-    attach(&mut search.watches, &pair, glue)?;
+    watch_clause(search, number, &pair, merit)?;
     assign(&mut search.trail, pair.first, number)?;
     Ok(())
 }
@@ -56,9 +59,16 @@ pub(crate) fn learn(
     ensures extends { Extends database.old database.new }
     ensures last { OnOk result (IsLast database.new working.new.lits.items) }
 {
-    analyse(database, &search.trail, working, conflict)?;
+    analyse(
+        database,
+        &search.trail,
+        &mut search.redundancy,
+        working,
+        conflict,
+    )?;
     bump_all(search, &working.seen);
     age(&mut search.queue);
+    merits::bump_all(&mut search.merits, &working.used);
     keep_learned(database, search, working)
 }
 
@@ -82,7 +92,7 @@ pub(crate) fn restore(
     let clause = formula.clause(number);
     database.push(clause)?;
     let pair = best_pair(&search.trail, clause);
-    attach(&mut search.watches, &pair, 0)?;
+    watch_clause(search, last, &pair, GIVEN)?;
     Ok(last)
 }
 
@@ -103,7 +113,11 @@ fn keep_unit(
         second: Lit { code: NONE },
         level: 0,
     };
-    attach(&mut search.watches, &alone, 1)?;
+    let merit = Merit {
+        glue: 1,
+        score: 0.0,
+    };
+    watch_clause(search, number, &alone, merit)?;
     set_reason(&mut search.trail, lit, number);
     Ok(())
 }

@@ -5,6 +5,7 @@ ghost use Rattle.sat.specs.Answers.{IsOutcome};
 
 use crate::clauses::Clauses;
 use crate::lit::Lit;
+use crate::merits::GIVEN;
 use crate::reduction::reduce;
 use crate::search::{Search, back_to, load_clause, reload};
 use crate::steps::{Verdict, to_conflict};
@@ -20,11 +21,17 @@ struct Pace {
     u: u64,
     v: u64,
     left: u64,
-    /// How many learned clauses are kept.
+    /// How many clauses are kept that may be forgotten.
     limit: usize,
+    /// After how many conflicts more that rises, and after how many it did so last.
+    rise: u64,
+    period: u64,
 }
 
-const UNIT: u64 = 128;
+const UNIT: u64 = 100;
+
+/// So many learned clauses are kept, and one for three clauses of the formula.
+const FEWEST: usize = 1000;
 
 fn is_due(pace: &mut Pace) -> bool {
     if pace.left > 0 {
@@ -43,14 +50,28 @@ fn is_due(pace: &mut Pace) -> bool {
 }
 
 impl Pace {
-    fn new() -> Pace {
+    /// For so many clauses.
+    fn new(clauses: usize) -> Pace {
         Pace {
             u: 1,
             v: 1,
             left: UNIT,
-            limit: 2000,
+            limit: FEWEST.saturating_add(clauses / 3),
+            rise: UNIT,
+            period: UNIT,
         }
     }
+}
+
+/// The number of learned clauses that are kept rises by a tenth, each time after half as many conflicts again.
+fn raise(pace: &mut Pace) {
+    if pace.rise > 0 {
+        pace.rise -= 1;
+        return;
+    }
+    pace.period = pace.period.saturating_add(pace.period / 2);
+    pace.rise = pace.period;
+    pace.limit = pace.limit.saturating_add(pace.limit / 10);
 }
 
 /// Begins again at level 0 where that is due, maybe with fewer learned clauses.
@@ -62,11 +83,15 @@ fn restart(
 ) -> Result<(), AllocError>
     ensures { Extends database.old database.new }
 {
-    if !is_due(pace) {
-        return Ok(());
+    raise(pace);
+    let is_full = search.merits.passing > pace.limit;
+    if is_due(pace) || is_full {
+        back_to(search, 0);
     }
-    back_to(search, 0);
-    reduce(alloc, database, search, &mut pace.limit)
+    if is_full {
+        reduce(alloc, database, search)?;
+    }
+    Ok(())
 }
 
 /// What a call found, and after how many conflicts. Without a verdict it met as many as were allowed.
@@ -90,7 +115,7 @@ fn run(
     ensures follows { All (Entails formula.now) database.new }
     ensures found { IfOk result (IsOutcome formula.now assumptions.now search.new.trail.values.items working.new.lits.items conflicts) }
 {
-    let mut pace = Pace::new();
+    let mut pace = Pace::new(formula.len() as usize);
     let mut met = 0;
     while met < conflicts {
         let verdict = to_conflict(formula, database, search, working, assumptions)?;
@@ -121,7 +146,7 @@ fn load(formula: &Clauses, database: &mut Clauses, search: &mut Search) -> Resul
         let clause = formula.clause(number);
         database.push(clause)?;
         search.loaded = number + 1;
-        load_clause(search, clause, database.len() - 1, 0)?;
+        load_clause(search, clause, database.len() - 1, GIVEN)?;
     }
     Ok(())
 }
@@ -134,13 +159,14 @@ fn variables_of(lits: &[Lit]) -> usize {
 
 /// Adds the variables of which only the assumptions speak.
 fn add_variables(
+    alloc: Global,
     search: &mut Search,
     working: &mut Working,
     assumptions: &[Lit],
 ) -> Result<(), AllocError> {
     let variables = variables_of(assumptions);
     if variables > search.trail.values.as_slice().len() {
-        search::widen(search, variables)?;
+        search::widen(alloc, search, variables)?;
         working::widen(working, variables)?;
     }
     Ok(())
@@ -149,8 +175,8 @@ fn add_variables(
 /// Makes the search ready for a call. What one that ran out of memory has left is made anew.
 fn begin(alloc: Global, database: &Clauses, search: &mut Search) -> Result<(), AllocError> {
     if search.is_underway {
-        let glues = mem::replace(&mut search.watches.glues, Vec::new(alloc));
-        return reload(database, search, &glues);
+        let merits = mem::replace(&mut search.merits.merits, Vec::new(alloc));
+        return reload(database, search, &merits);
     }
     search.is_underway = true;
     back_to(search, 0);
@@ -172,7 +198,7 @@ pub(crate) fn look(
     ensures found { IfOk result (IsOutcome formula.now assumptions.now search.new.trail.values.items working.new.lits.items conflicts) }
 {
     begin(alloc, database, search)?;
-    add_variables(search, working, assumptions)?;
+    add_variables(alloc, search, working, assumptions)?;
     load(formula, database, search)?;
     let found = run(
         alloc,

@@ -10,13 +10,38 @@ use std::alloc::{AllocError, Global};
 /// No clause.
 pub(crate) const NONE: u32 = 4294967295;
 
+/// How a variable came to its value: the level, the clause that forced it, and its place among the literals.
+#[derive(Clone, Copy)]
+struct Cause {
+    level: u32,
+    reason: u32,
+    place: u32,
+}
+
+const NO_CAUSE: Cause = Cause {
+    level: 0,
+    reason: NONE,
+    place: 0,
+};
+
+/// What a literal is.
+#[derive(Clone, Copy)]
+struct Mark(u8);
+
+const OPEN: Mark = Mark(0);
+
+const TRUE: Mark = Mark(1);
+
+const FALSE: Mark = Mark(2);
+
 /// What is assigned, in which order, and why. Only the values are more than hints.
 pub(crate) struct Trail {
     /// The value of each variable.
     pub(crate) values: Vec<Truth>,
-    /// Of each variable the level at which it was assigned, the clause that forced it, and its last value.
-    levels: Vec<u32>,
-    reasons: Vec<u32>,
+    /// The same by literals, for the searches that no proof reads.
+    marks: Vec<Mark>,
+    causes: Vec<Cause>,
+    /// The last value of each variable.
     phases: Vec<bool>,
     /// The true literals in the order in which they were assigned, and how many there were at each decision.
     pub(crate) lits: Vec<Lit>,
@@ -29,8 +54,8 @@ impl Drop for Trail {
     fn drop(self) {
         let Trail {
             values: _,
-            levels: _,
-            reasons: _,
+            marks: _,
+            causes: _,
             phases: _,
             lits: _,
             starts: _,
@@ -44,8 +69,8 @@ impl Trail {
     pub(crate) fn new(alloc: Global) -> Trail {
         Trail {
             values: Vec::new(alloc),
-            levels: Vec::new(alloc),
-            reasons: Vec::new(alloc),
+            marks: Vec::new(alloc),
+            causes: Vec::new(alloc),
             phases: Vec::new(alloc),
             lits: Vec::new(alloc),
             starts: Vec::new(alloc),
@@ -57,8 +82,8 @@ impl Trail {
 /// Adds variables up to so many. They are open, and false is tried first.
 pub(crate) fn widen(trail: &mut Trail, variables: usize) -> Result<(), AllocError> {
     trail.values.resize(variables, Truth::Open)?;
-    trail.levels.resize(variables, 0)?;
-    trail.reasons.resize(variables, NONE)?;
+    trail.marks.resize(variables.saturating_mul(2), OPEN)?;
+    trail.causes.resize(variables, NO_CAUSE)?;
     trail.phases.resize(variables, false)
 }
 
@@ -69,13 +94,24 @@ pub(crate) fn value(trail: &Trail, lit: Lit) -> Truth
     value_in(&trail.values, lit)
 }
 
+/// Whether a literal is marked as false.
 #[inline(always)]
 pub(crate) fn is_false(trail: &Trail, lit: Lit) -> bool {
-    match value(trail, lit) {
-        Truth::False => true,
-        Truth::True => false,
-        Truth::Open => false,
-    }
+    at(&trail.marks, lit.code as usize, OPEN).0 == FALSE.0
+}
+
+/// Whether a literal is marked as true.
+#[inline(always)]
+pub(crate) fn seems_true(trail: &Trail, lit: Lit) -> bool {
+    at(&trail.marks, lit.code as usize, OPEN).0 == TRUE.0
+}
+
+#[inline(always)]
+fn set_marks(trail: &mut Trail, lit: Lit, own: Mark, other: Mark)
+    ensures { trail.new.values ≡ trail.old.values }
+{
+    put(&mut trail.marks, lit.code as usize, own);
+    put(&mut trail.marks, lit.negated().code as usize, other);
 }
 
 #[inline(always)]
@@ -106,22 +142,36 @@ pub(crate) fn level(trail: &Trail) -> u32 {
     short(trail.starts.as_slice().len())
 }
 
+#[inline(always)]
+fn cause_of(trail: &Trail, lit: Lit) -> Cause {
+    at(&trail.causes, lit.variable() as usize, NO_CAUSE)
+}
+
+/// Where the literal's variable stands among those assigned.
+pub(crate) fn place_of(trail: &Trail, lit: Lit) -> u32 {
+    cause_of(trail, lit).place
+}
+
 /// The level at which the literal's variable was assigned.
 #[inline(always)]
 pub(crate) fn level_of(trail: &Trail, lit: Lit) -> u32 {
-    at(&trail.levels, lit.variable() as usize, 0)
+    cause_of(trail, lit).level
 }
 
 /// The clause that forced the literal's variable, if there is one.
 #[inline(always)]
 pub(crate) fn reason_of(trail: &Trail, lit: Lit) -> u32 {
-    at(&trail.reasons, lit.variable() as usize, NONE)
+    cause_of(trail, lit).reason
 }
 
 pub(crate) fn set_reason(trail: &mut Trail, lit: Lit, reason: u32)
     ensures { trail.new.values ≡ trail.old.values }
 {
-    put(&mut trail.reasons, lit.variable() as usize, reason);
+    let cause = Cause {
+        reason,
+        ..cause_of(trail, lit)
+    };
+    put(&mut trail.causes, lit.variable() as usize, cause);
 }
 
 /// The value that a variable had last.
@@ -136,12 +186,15 @@ pub(crate) fn assign(trail: &mut Trail, lit: Lit, reason: u32) -> Result<(), All
     ensures assigned { OnOk result (trail.new.values.items ≡ assigned trail.old.values.items lit) }
     ensures open { open_count trail.new.values.items ≤ open_count trail.old.values.items }
 {
+    let cause = Cause {
+        level: level(trail),
+        reason,
+        place: short(trail.lits.as_slice().len()),
+    };
     trail.lits.push(lit)?;
-    let now = level(trail);
-    let variable = lit.variable() as usize;
     make_true(&mut trail.values, lit);
-    put(&mut trail.levels, variable, now);
-    put(&mut trail.reasons, variable, reason);
+    set_marks(trail, lit, TRUE, FALSE);
+    put(&mut trail.causes, lit.variable() as usize, cause);
     Ok(())
 }
 
@@ -171,6 +224,7 @@ pub(crate) fn take_back(trail: &mut Trail, start: usize) -> Option<Lit> {
     let lit = trail.lits.pop()?;
     let variable = lit.variable() as usize;
     put(&mut trail.values, variable, Truth::Open);
+    set_marks(trail, lit, OPEN, OPEN);
     put(&mut trail.phases, variable, lit.code % 2 == 0);
     Some(lit)
 }

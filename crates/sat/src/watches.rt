@@ -3,39 +3,40 @@ ghost use Rattle.sat.specs.Values.{open_count};
 
 use crate::clauses::Clauses;
 use crate::lit::Lit;
-use crate::tables::{at, put, short};
-use crate::trail::{NONE, Trail, assign, is_false, is_true, level_of, value};
+use crate::tables::{at, put};
+use crate::trail::{NONE, Trail, assign, is_false, level_of, seems_true, value};
 use crate::values::Truth;
 use std::alloc::{AllocError, Global};
+use std::mem;
 
-/// One of the two literals that a clause watches, and the next watch of that literal. Those of a clause stand beside
-/// each other.
+/// A clause that watches a literal, and another literal of it: where that is true, the clause forces nothing.
 #[derive(Clone, Copy)]
 struct Watch {
-    lit: Lit,
-    next: u32,
+    clause: u32,
+    blocker: Lit,
 }
 
 const NO_WATCH: Watch = Watch {
-    lit: Lit { code: NONE },
-    next: NONE,
+    clause: NONE,
+    blocker: Lit { code: NONE },
 };
 
 /// Two literals of each clause, by which it is seen when it forces one (Moskewicz et al. 2001). All of it is hints.
 pub(crate) struct Watches {
-    /// The first watch of each literal.
-    firsts: Vec<u32>,
-    watches: Vec<Watch>,
-    /// Of each clause its glue; a clause of the formula has 0.
-    pub(crate) glues: Vec<u32>,
+    /// The watches of each literal.
+    lists: Vec<Vec<Watch>>,
+    /// Of each clause the exclusive or of its two watched literals: with the one it gives the other.
+    pairs: Vec<u32>,
+    /// Those of the literal that is gone through.
+    current: Vec<Watch>,
 }
 
 impl Drop for Watches {
     fn drop(self) {
         let Watches {
-            firsts: _,
-            watches: _,
-            glues: _,
+            lists: _,
+            pairs: _,
+            current: _,
         } = self;
     }
 }
@@ -44,43 +45,42 @@ impl Watches {
     /// Without variables.
     pub(crate) fn new(alloc: Global) -> Watches {
         Watches {
-            firsts: Vec::new(alloc),
-            watches: Vec::new(alloc),
-            glues: Vec::new(alloc),
+            lists: Vec::new(alloc),
+            pairs: Vec::new(alloc),
+            current: Vec::new(alloc),
         }
     }
 }
 
 /// Adds variables up to so many.
-pub(crate) fn widen(watches: &mut Watches, variables: usize) -> Result<(), AllocError> {
-    watches.firsts.resize(variables.saturating_mul(2), NONE)
+pub(crate) fn widen(
+    alloc: Global,
+    watches: &mut Watches,
+    variables: usize,
+) -> Result<(), AllocError> {
+    for _ in watches.lists.as_slice().len()..variables.saturating_mul(2) {
+        watches.lists.push(Vec::new(alloc))?;
+    }
+    Ok(())
 }
 
 /// Watches nothing.
 pub(crate) fn clear(watches: &mut Watches) {
-    watches.watches.clear();
-    watches.glues.clear();
-    for first in watches.firsts.iter_mut() {
-        *first = NONE;
+    watches.pairs.clear();
+    watches.current.clear();
+    for list in watches.lists.iter_mut() {
+        list.clear();
     }
 }
 
-/// Puts a watch in front of those of a literal.
+/// Adds a watch to those of a literal.
 #[inline(always)]
-fn link(watches: &mut Watches, watch: u32, lit: Lit) {
-    let next = at(&watches.firsts, lit.code as usize, NONE);
-    put(&mut watches.watches, watch as usize, Watch { lit, next });
-    put(&mut watches.firsts, lit.code as usize, watch);
-}
-
-/// Takes the watch after another one, or the first, out of those of a literal.
-#[inline(always)]
-fn unlink(watches: &mut Watches, lit: Lit, before: u32, next: u32) {
-    if before == NONE {
-        put(&mut watches.firsts, lit.code as usize, next);
-    } else {
-        put(&mut watches.watches, before as usize, Watch { lit, next });
+fn push(lists: &mut [Vec<Watch>], lit: Lit, watch: Watch) -> Result<(), AllocError> {
+    let place = lit.code as usize;
+    if place < lists.len() {
+        lists[place].push(watch)?;
     }
+    Ok(())
 }
 
 /// How well a literal serves as a watch: the later it becomes false the better.
@@ -123,15 +123,17 @@ pub(crate) fn best_pair(trail: &Trail, clause: &[Lit]) -> Pair {
 }
 
 /// Watches two literals of the clause with the next number.
-pub(crate) fn attach(watches: &mut Watches, pair: &Pair, glue: u32) -> Result<(), AllocError> {
-    let watch = short(watches.watches.as_slice().len());
-    for lit in [pair.first, pair.second] {
-        watches.watches.push(Watch { lit, next: NONE })?;
+pub(crate) fn attach(watches: &mut Watches, number: u32, pair: &Pair) -> Result<(), AllocError> {
+    watches.pairs.push(pair.first.code ^ pair.second.code)?;
+    if pair.second.code == NONE {
+        return Ok(());
     }
-    watches.glues.push(glue)?;
-    if pair.second.code != NONE {
-        link(watches, watch, pair.first);
-        link(watches, watch ^ 1, pair.second);
+    for (lit, blocker) in [(pair.first, pair.second), (pair.second, pair.first)] {
+        let watch = Watch {
+            clause: number,
+            blocker,
+        };
+        push(&mut watches.lists, lit, watch)?;
     }
     Ok(())
 }
@@ -140,11 +142,96 @@ pub(crate) fn attach(watches: &mut Watches, pair: &Pair, glue: u32) -> Result<()
 #[inline(always)]
 fn replacement(trail: &Trail, clause: &[Lit], other: Lit) -> Option<Lit> {
     for lit in clause {
-        if !is_false(trail, *lit) && lit.code != other.code {
+        if lit.code != other.code && !is_false(trail, *lit) {
             return Some(*lit);
         }
     }
     None
+}
+
+/// What becomes of a watch whose literal is false.
+#[derive(Clone, Copy)]
+enum Outlook {
+    /// It stays, with this blocker.
+    Stays(Lit),
+    /// The clause watches another literal in its place.
+    Moves,
+    /// All literals of the clause are false.
+    Fails,
+}
+
+/// Looks at a clause one of whose watched literals has become false, and makes its last literal true.
+#[inline(always)]
+fn look(
+    database: &Clauses,
+    trail: &mut Trail,
+    lists: &mut [Vec<Watch>],
+    pairs: &mut [u32],
+    number: u32,
+    gone: Lit,
+) -> Result<Outlook, AllocError>
+    requires { number < length database.now }
+    ensures open { open_count trail.new.values.items ≤ open_count trail.old.values.items }
+{
+    let other = Lit {
+        code: at(pairs, number as usize, 0) ^ gone.code,
+    };
+    if seems_true(trail, other) {
+        return Ok(Outlook::Stays(other));
+    }
+    if let Some(lit) = replacement(trail, database.clause(number), other) {
+        put(pairs, number as usize, other.code ^ lit.code);
+        let watch = Watch {
+            clause: number,
+            blocker: other,
+        };
+        push(lists, lit, watch)?;
+        return Ok(Outlook::Moves);
+    }
+    if is_false(trail, other) {
+        return Ok(Outlook::Fails);
+    }
+    assign(trail, other, number)?;
+    Ok(Outlook::Stays(other))
+}
+
+/// Goes through the watches of a literal that has become false, and leaves those that stay. It answers a clause that
+/// has no other literals.
+fn sift(
+    database: &Clauses,
+    trail: &mut Trail,
+    lists: &mut [Vec<Watch>],
+    pairs: &mut [u32],
+    list: &mut Vec<Watch>,
+    gone: Lit,
+) -> Result<Option<u32>, AllocError>
+    ensures open { open_count trail.new.values.items ≤ open_count trail.old.values.items }
+    ensures conflict { IfOk result (λ found. IfSome found (λ number. number < length database.now)) }
+{
+    let mut kept: usize = 0;
+    let mut found = None;
+    for place in 0..list.as_slice().len() {
+        let mut watch = at(list, place, NO_WATCH);
+        if !seems_true(trail, watch.blocker) && found.is_none() && watch.clause < database.len() {
+            match look(database, trail, lists, pairs, watch.clause, gone)? {
+                Outlook::Stays(blocker) => watch.blocker = blocker,
+                Outlook::Moves => continue,
+                Outlook::Fails => found = Some(watch.clause),
+            }
+        }
+        put(list, kept, watch);
+        kept = kept.wrapping_add(1);
+    }
+    list.truncate(kept);
+    Ok(found)
+}
+
+/// Changes the current watches for those of a literal.
+fn change(watches: &mut Watches, lit: Lit) {
+    let place = lit.code as usize;
+    if place < watches.lists.as_slice().len() {
+        mem::swap(&mut watches.lists[place], &mut watches.current);
+    }
 }
 
 /// Goes through the watches of a literal that has become false. It answers a clause that has no other literals.
@@ -157,35 +244,17 @@ fn visit(
     ensures open { open_count trail.new.values.items ≤ open_count trail.old.values.items }
     ensures conflict { IfOk result (λ found. IfSome found (λ number. number < length database.now)) }
 {
-    let mut before = NONE;
-    let mut watch = at(&watches.firsts, gone.code as usize, NONE);
-    for _ in 0..watches.watches.as_slice().len() {
-        if watch == NONE {
-            break;
-        }
-        let number = watch / 2;
-        let next = at(&watches.watches, watch as usize, NO_WATCH).next;
-        let other = at(&watches.watches, (watch ^ 1) as usize, NO_WATCH).lit;
-        if is_true(trail, other) || number >= database.len() {
-            before = watch;
-        } else {
-            match replacement(trail, database.clause(number), other) {
-                Some(lit) => {
-                    unlink(watches, gone, before, next);
-                    link(watches, watch, lit);
-                }
-                None => {
-                    if is_false(trail, other) {
-                        return Ok(Some(number));
-                    }
-                    assign(trail, other, number)?;
-                    before = watch;
-                }
-            }
-        }
-        watch = next;
-    }
-    Ok(None)
+    change(watches, gone);
+    let found = sift(
+        database,
+        trail,
+        &mut watches.lists,
+        &mut watches.pairs,
+        &mut watches.current,
+        gone,
+    )?;
+    change(watches, gone);
+    Ok(found)
 }
 
 /// Follows what the clauses force. It answers a clause all of whose literals have become false.

@@ -1,5 +1,5 @@
 -- What is decided without the gates: initial states and the care set.
-use Rattle.std.proofs.Common.{◌≡◌, Bool, true, false, not, List, length, Option, Some, None, refl, sym, ap, ◌∙◌, subst, true≢false}
+use Rattle.std.proofs.Common.{◌≡◌, Bool, true, false, not, List, length, Option, Some, None, refl, sym, ap, ◌∙◌}
 use Rattle.std.specs.Prelude.{find, is_none, is_some, if◌then◌else◌}
 use Rattle.std.specs.Option.{option_map}
 use Rattle.cyc_base.specs.Vectors.{vectors}
@@ -8,9 +8,8 @@ use Rattle.care_sets.specs.Care.{CareSet, columns, is_in_invariant, is_care_vect
 use Rattle.refusals.specs.declared.observe.Observe.{Observe}
 use Rattle.refusals.specs.declared.refusal.Refusal.{Refusal}
 use Rattle.refusals.specs.declared.refusal.Refusal.TheVariants.{Initial, EmptyCare}
-use Rattle.refusals.specs.Refusals.{is_initial, care_vectors, is_empty, initial_refusal, empty_refusal, refusal}
+use Rattle.refusals.specs.Refusals.{is_initial, care_vectors, is_empty, initial_refusal, refusal}
 use Rattle.refusals.proofs.FirstLemmas.{find-filter, empty-filter}
-use Rattle.clause_queries.specs.Vectors.{TellsWhetherAny}
 use Rattle.clause_decision.specs.Tests.{is_outside}
 use Rattle.verdict.specs.Scopes.{MayGoOn}
 use Rattle.verdict.proofs.VerdictLemmas.{refused-initial, refused-empty}

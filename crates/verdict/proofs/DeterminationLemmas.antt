@@ -1,5 +1,5 @@
 -- Netlists whose gates are all determined on care.
-use Rattle.std.proofs.Common.{◌≡◌, ◌≢◌, inl, inr, ℕ, ◌+◌, ◌<◌, Bool, true, false, not, ◌&&◌, ◌==◌, if◌then◌else◌, List, [], ◌∷◌, ◌++◌, length, map, get_or, Option, Some, None, refl, sym, ap, ap₂, ◌∙◌, subst, arith, true≢false}
+use Rattle.std.proofs.Common.{◌≡◌, ◌≢◌, inl, inr, ℕ, ◌+◌, ◌<◌, Bool, true, false, not, ◌&&◌, ◌==◌, if◌then◌else◌, List, [], ◌∷◌, ◌++◌, length, map, get_or, Option, Some, None, refl, sym, ap, ap₂, ◌∙◌, subst, arith, true≢false, Contains}
 use Rattle.std.specs.Prelude.{find, is_none, is_some}
 use Rattle.std.specs.List.{list_all}
 use Rattle.std.specs.Option.{option_map_or, option_map, option_or}
@@ -13,14 +13,15 @@ use Rattle.cyc_base.specs.Vectors.{vectors}
 use Rattle.netlist.specs.declared.parts.Parts.{Parts}
 use Rattle.netlist.specs.Netlists.{IsNetlist, gate_sig}
 use Rattle.netlist.specs.Fixpoint.{fix_gates}
+use Rattle.netlist.specs.Walks.{Feeds}
 use Rattle.loops.specs.declared.structure.Blocks.{Blocks}
 use Rattle.loops.specs.declared.structure.Cut.{Cut}
 use Rattle.loops.specs.declared.structure.SweepCounts.{SweepCounts}
 use Rattle.loops.specs.Blocks.{AreBlocksOf, block_at, home_of}
 use Rattle.loops.specs.Cuts.{IsCutOf, Loops, loops_by}
 use Rattle.loops.specs.Sweeps.{value_in, CutsAreFixed, IsCountOfSweeps}
-use Rattle.loops.proofs.Told.{blocks_tell_loops, home_gate}
-use Rattle.isolation.specs.Laws.{IsLooped, SettledWhere, IsDeterminedAt}
+use Rattle.loops.proofs.Told.{blocks_tell_loops, gate_home, home_gate}
+use Rattle.isolation.specs.Laws.{IsLooped, SettledWhere, AreDeterminedAt}
 use Rattle.isolation.specs.Settled.{SettleInSweeps}
 use Rattle.isolation.proofs.CountLemmas.{one_sweep_is_exact}
 use Rattle.isolation.proofs.SettledLemmas.{unsettled_loops_decide}
@@ -40,7 +41,8 @@ use Rattle.clause_decision.specs.Sweeping.{IsLeastCount}
 use Rattle.verdict.specs.Scopes.{AreCountsAt, IsCountAt}
 use Rattle.verdict.specs.Laws.{DeterminationsAccept, NothingLeaves}
 use Rattle.verdict.specs.Observed.{AreMarksOf}
-use Rattle.verdict.specs.Verdicts.{are_care_values}
+use Rattle.verdict.specs.Standing.{AreStanding}
+use Rattle.verdict.specs.Verdicts.{are_care_values, AreLoose}
 use Rattle.verdict.proofs.CountLemmas.{known-bits, care-values}
 use Rattle.verdict.proofs.PartLemmas.{IsKnownOnCare, loose-none, undetermined-none}
 use Rattle.verdict.proofs.VerdictLemmas.{accepts-is, refused-later}
@@ -61,6 +63,24 @@ bits-of-care net care v is =
       vector = map is_one v;
       is = known-bits v first.0;
       counts = care_vector_decides net care (map is_one v) (length-map v is_one ∙ eqb-true (length v) (columns net) second.0) second.1;
+    }
+
+-- where on care none of these gates is X, and none that feeds one of them, they are determined at such values
+pub determined-around : (net : Parts) (care : CareSet) (gates : List ℕ) →
+    ((v : List Bool) → IsCareVector net care v → (n : ℕ) → Contains gates n → value_in (fix_gates net (bits v)) n ≢ X) →
+    ((v : List Bool) → IsCareVector net care v → (m n : ℕ) → Contains gates n → Feeds net m n → value_in (fix_gates net (bits v)) m ≢ X) →
+    (v : List Trit) → are_care_values net care v ≡ true → AreDeterminedAt net gates v
+determined-around net care gates own feeding v is =
+    let as_bits = bits-of-care net care v is in
+    let w : List Bool = as_bits.vector in
+    let long : length v ≡ length w = ap length as_bits.is ∙ length-map w bit in
+    record {
+      width = long ∙ as_bits.counts.width;
+      columns = λ k less x.
+          bit_known (get_or w k false)
+          (sym (get_or-map bit w k false X (omega (arith, long, less))) ∙ sym (ap (λ (t : List Trit). get_or t k X) as_bits.is) ∙ x);
+      own = λ n among x. own w as_bits.counts n among (sym (ap (λ (t : List Trit). value_in (fix_gates net t) n) as_bits.is) ∙ x);
+      feeding = λ m n among feeds x. feeding w as_bits.counts m n among feeds (sym (ap (λ (t : List Trit). value_in (fix_gates net t) m) as_bits.is) ∙ x);
     }
 
 -- there is a care vector
@@ -112,7 +132,7 @@ counts-more blocks settled others n count counts before is = record {
 }
 
 -- the least number of sweeps at Boolean care vectors is that of the loop on care
-least-count : (net : Parts) (loops : Loops) (care : CareSet) (a m : ℕ) → IsLeastCount net loops care a m → IsCountOfSweeps net loops (are_care_values net care) a m
+pub least-count : (net : Parts) (loops : Loops) (care : CareSet) (a m : ℕ) → IsLeastCount net loops care a m → IsCountOfSweeps net loops (are_care_values net care) a m
 least-count net loops care a m is = record {
   enough = λ v counts. let b = bits-of-care net care v counts in subst (λ (u : List Trit). CutsAreFixed net loops u a m) (sym b.is) (is.enough b.vector b.counts);
   least = λ k all. elim (cases_lt k m) [
@@ -163,18 +183,10 @@ module _ (net : Parts) (valid : IsNetlist net) (blocks : Blocks) (are : AreBlock
       unsettled_loops_decide net blocks (is_marked settled) valid are alone v is.width n within
       (λ m less up loop unsettled. decided.determined v is m (record { within = less; looped = loop; unsettled = unsettled }))
 
-  determined-at : (v : List Trit) → are_care_values net care v ≡ true → IsDeterminedAt net v
-  determined-at v is =
-      let as_bits = bits-of-care net care v is in
-      let w : List Bool = as_bits.vector in
-      let long : length v ≡ length w = ap length as_bits.is ∙ length-map w bit in
-      record {
-        width = long ∙ as_bits.counts.width;
-        columns = λ k less x.
-            bit_known (get_or w k false)
-            (sym (get_or-map bit w k false X (omega (arith, long, less))) ∙ sym (ap (λ (t : List Trit). get_or t k X) as_bits.is) ∙ x);
-        gates = λ n less x. determined w as_bits.counts n less (sym (ap (λ (t : List Trit). value_in (fix_gates net t) n) as_bits.is) ∙ x);
-      }
+  determined-at : (b : ℕ) → b < length blocks.list → (v : List Trit) → are_care_values net care v ≡ true → AreDeterminedAt net (block_at blocks b).gates v
+  determined-at b inside =
+      determined-around net care (block_at blocks b).gates
+      (λ v counts n among. determined v counts n (gate_home net blocks are b n inside among).0) (λ v counts m n among feeds. determined v counts m feeds.source)
 
   vector : SomeCareVector net care
   vector = some_vector net care some
@@ -184,7 +196,7 @@ module _ (net : Parts) (valid : IsNetlist net) (blocks : Blocks) (are : AreBlock
       IsCountOfSweeps net (loops_by blocks cut) (are_care_values net care) gate 1
   one gate less loop marked =
       one_sweep_is_exact net blocks (loops_by blocks cut) valid are (blocks_tell_loops net blocks cut are cut_is) (home_of blocks gate) (are.home gate less) loop (soon (home_of blocks gate) (are.home gate less) loop marked)
-      (are_care_values net care) determined-at (bits vector.vector) (care-values net care vector.vector vector.counts.width (care_vector_is net care vector.vector vector.counts)) gate (home_gate net blocks are gate less)
+      (are_care_values net care) (determined-at (home_of blocks gate) (are.home gate less)) (bits vector.vector) (care-values net care vector.vector vector.counts.width (care_vector_is net care vector.vector vector.counts)) gate (home_gate net blocks are gate less)
 
   counted : (gate : ℕ) → gate < length net.gates → (loop : Bool) → (block_at blocks (home_of blocks gate)).looped ≡ loop → loop ≡ true → (mark : Bool) → is_marked settled (home_of blocks gate) ≡ mark →
       IsCountOfSweeps net (loops_by blocks cut) (are_care_values net care) gate (if loop then (if mark then 1 else number_of others (home_of blocks gate)) else 0)
@@ -234,12 +246,23 @@ none-undetermined net care what determined =
     undetermined-none net care what (marks_of net (observed net what)) (marks-are net (observed net what)) (length net.gates) (omega arith)
     (λ k less marked. known-here net care k less (λ v counts. determined v counts k less))
 
+determination-loose : (net : Parts) (care : CareSet) → AreDeterminedOnCare net care (IsGate net) → AreLoose net care 0
+determination-loose net care determined =
+    loose-none net care (λ v counts k d less x.
+    determined v counts k (let l = length-fix_gates net (bits v) in omega (arith, less, l)) (get_or_default (fix_gates net (bits v)) k X d less ∙ x))
+
 pub determinations_accept : DeterminationsAccept
 determinations_accept net blocks cut care what counts valid is initial some stays = record {
   accepts = accepts-is net care what valid (refused-later net care what None initial some (ap₂ option_or (none-undetermined net care what is.determined) stays));
   sweeps = is.sweeps;
-  loose_is = loose-none net care (λ v counts k d less x.
-      is.determined v counts k (let l = length-fix_gates net (bits v) in omega (arith, less, l)) (get_or_default (fix_gates net (bits v)) k X d less ∙ x));
+  loose_is = determination-loose net care is.determined;
+}
+
+-- and how the gates stand then
+pub determination-stands : (net : Parts) (blocks : Blocks) (cut : Cut) (care : CareSet) (what : Observe) (counts : SweepCounts) → IsDetermination net blocks cut care counts → AreStanding net blocks cut care what counts 0
+determination-stands net blocks cut care what counts is = record {
+  number = record { none = none-undetermined net care what is.determined; number = determination-loose net care is.determined };
+  sweeps = is.sweeps;
 }
 
 pub nothing_leaves : NothingLeaves

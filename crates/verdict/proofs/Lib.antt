@@ -7,6 +7,7 @@ mod DecisionLemmas
 mod DeterminationLemmas
 mod EnoughLemmas
 mod LeavesLemmas
+mod LooseLemmas
 mod MarkLemmas
 mod NextLemmas
 pub mod PartLemmas

@@ -1,5 +1,5 @@
 -- Which gates the clauses of a question speak of.
-use Rattle.std.proofs.Common.{◌≡◌, ◌≢◌, inl, inr, ℕ, ◌+◌, ◌-◌, ◌<◌, Bool, true, false, not, List, [], ◌∷◌, ◌++◌, length, map, get_or, slice_get, Option, Some, None, IfSome, subst, refl, sym, ap, ◌∙◌, arith, true≢false, Contains}
+use Rattle.std.proofs.Common.{◌≡◌, inl, inr, ℕ, ◌+◌, ◌-◌, ◌<◌, Bool, true, false, not, List, [], ◌∷◌, ◌++◌, length, map, get_or, slice_get, Option, Some, None, IfSome, subst, refl, sym, ap, ◌∙◌, arith, true≢false, Contains}
 use Rattle.std.specs.List.{All}
 use Rattle.std.specs.Option.{option_map_or}
 use Rattle.std.proofs.lemmas.Bool.{cases_lt}
@@ -10,7 +10,6 @@ use Rattle.std.proofs.lemmas.List.{get_or-map, get_or_default}
 use Rattle.netlist.specs.declared.parts.Parts.{Parts}
 use Rattle.netlist.specs.declared.parts.Latch.{Latch}
 use Rattle.netlist.specs.Netlists.{gate_sig, IsNetlist}
-use Rattle.netlist.specs.Walks.{Feeds}
 use Rattle.loops.specs.declared.structure.Blocks.{Blocks}
 use Rattle.loops.specs.Blocks.{AreBlocksOf}
 use Rattle.loops.proofs.Walks.{leads-step}
@@ -23,7 +22,7 @@ use Rattle.clause_decision.specs.declared.scope.Scope.{Scope}
 use Rattle.clause_decision.specs.Loads.{HasLoads}
 use Rattle.clause_decision.specs.Scopes.{AreClosed, AreInScope, AreNeverUnknown}
 use Rattle.verdict.specs.Behind.{AreDownstreamMarks}
-use Rattle.verdict.specs.Determination.{IsOpen, SettleInOneSweep}
+use Rattle.verdict.specs.Determination.{SettleInOneSweep}
 use Rattle.verdict.specs.Scopes.{AreDrivers, AreDriversBefore}
 
 not-false : (b : Bool) → not b ≡ true → b ≡ false

@@ -1,5 +1,5 @@
 -- The refusal of the first observed gate that is unknown on care.
-use Rattle.std.proofs.Common.{◌≡◌, ◌≢◌, inl, inr, ◌⊎◌, ℕ, zero, suc, ◌+◌, ◌-◌, ◌<◌, ◌≤◌, Bool, true, false, not, ◌&&◌, List, [], ◌∷◌, length, map, get_or, Option, Some, None, refl, sym, ap, ap₂, ◌∙◌, subst, arith, Contains, true≢false}
+use Rattle.std.proofs.Common.{◌≡◌, inl, inr, ℕ, ◌<◌, ◌≤◌, Bool, true, false, not, ◌&&◌, List, length, map, get_or, Option, Some, None, refl, sym, ap, ap₂, ◌∙◌, subst, arith, Contains, true≢false}
 use Rattle.std.specs.Prelude.{find, is_some}
 use Rattle.std.specs.List.{All}
 use Rattle.std.proofs.lemmas.Bool.{and_parts, and_from, cases_lt, cases_eq}
@@ -16,7 +16,7 @@ use Rattle.care_sets.specs.Care.{CareSet, columns, is_care_vector}
 use Rattle.refusals.specs.declared.observe.Observe.{Observe}
 use Rattle.refusals.specs.declared.refusal.Refusal.TheVariants.{Undetermined}
 use Rattle.refusals.specs.Acceptance.{observed}
-use Rattle.refusals.specs.Refusals.{is_among, is_undetermined, is_x, undetermined_refusal}
+use Rattle.refusals.specs.Refusals.{is_undetermined, is_x, undetermined_refusal}
 use Rattle.refusals.proofs.FirstLemmas.{none_passes}
 use Rattle.refusals.proofs.RefusalLemmas.{gate_wire}
 use Rattle.refusals.proofs.ShowingLemmas.{care_vector_is}
@@ -27,7 +27,7 @@ use Rattle.verdict.specs.Scopes.{AreOpenGates}
 use Rattle.verdict.specs.Observed.{AreMarksOf}
 use Rattle.verdict.specs.Unknown.{AreAsked, AreSuspects, IsFirstToRefuse}
 use Rattle.verdict.proofs.DeterminationLemmas.{known-here, marks_of, marks-are}
-use Rattle.verdict.proofs.PartLemmas.{IsKnownOnCare, undetermined-found}
+use Rattle.verdict.proofs.PartLemmas.{undetermined-found}
 
 marked-within : (marks : List Bool) (n : ℕ) → is_marked marks n ≡ true → n < length marks
 marked-within marks n marked = elim (cases_lt n (length marks)) [
@@ -89,7 +89,7 @@ suspects-are net blocks settled asked open_marks behind marks homes wide open_ar
 -- ---- the first of them that is unknown
 
 -- what isn't found is known
-none-some : (o : Option (List Bool)) → is_some o ≡ false → o ≡ None
+pub none-some : (o : Option (List Bool)) → is_some o ≡ false → o ≡ None
 none-some None is = refl
 none-some (Some v) is = absurd (true≢false is)
 

@@ -1,21 +1,19 @@
 -- Netlists whose gates are all determined on care, and how their loops are seen to be so.
-use Rattle.std.specs.Prelude.{◌≡◌, ◌≢◌, ◌<◌, ◌≤◌, ℕ, Bool, true, false, not, if◌then◌else◌, List, length, slice_index_or}
-use Rattle.bdd_store.specs.Arena.{constant}
+use Rattle.std.specs.Prelude.{◌≡◌, ◌≢◌, ◌<◌, ℕ, Bool, true, false, if◌then◌else◌, List, length, slice_index_or}
 use Rattle.cyc_base.specs.declared.trit.Trit.TheVariants.{X}
 use Rattle.cyc_base.specs.Values.{bits}
-use Rattle.dual_rail.specs.declared.rail.Rails.{Rails}
 use Rattle.netlist.specs.declared.parts.Parts.{Parts}
 use Rattle.netlist.specs.Fixpoint.{fix_gates}
 use Rattle.loops.specs.declared.structure.Blocks.{Blocks}
 use Rattle.loops.specs.declared.structure.Cut.{Cut}
 use Rattle.loops.specs.declared.structure.SweepCounts.{SweepCounts}
 use Rattle.loops.specs.Blocks.{block_at, home_of}
-use Rattle.loops.specs.Cuts.{is_cut, loops_by}
-use Rattle.loops.specs.Sweeps.{value_in, CutsAreFixed, IsCountOfSweeps}
+use Rattle.loops.specs.Cuts.{loops_by}
+use Rattle.loops.specs.Sweeps.{value_in, IsCountOfSweeps}
 use Rattle.isolation.specs.Laws.{IsLooped}
 use Rattle.isolation.specs.Settled.{SettleInSweeps}
 use Rattle.isolation.specs.Cones.{is_marked}
-use Rattle.care_sets.specs.Care.{CareSet, is_care_vector, IsCareVector}
+use Rattle.care_sets.specs.Care.{CareSet, IsCareVector}
 use Rattle.verdict.specs.Verdicts.{AreSweepsOnCare, are_care_values}
 
 -- the number at a place

@@ -4,6 +4,7 @@ pub mod Costs
 pub mod Determination
 pub mod Enough
 pub mod Laws
+pub mod Loose
 pub mod Next
 pub mod Observed
 pub mod Scopes

@@ -1,5 +1,5 @@
 -- What latches load at the vectors of a set.
-use Rattle.std.specs.Prelude.{◌≡◌, ◌≢◌, ◌<◌, ◌≤◌, ◌&&◌, ℕ, Bool, List, length, replicate, All, if◌then◌else◌}
+use Rattle.std.specs.Prelude.{◌≡◌, ◌<◌, ◌≤◌, ◌&&◌, ℕ, Bool, List, length, replicate, if◌then◌else◌}
 use Rattle.bdd_store.specs.declared.node.Node.{Node}
 use Rattle.bdd_store.specs.Arena.{Arena, den}
 use Rattle.bdd_store.specs.Subfunctions.{nodes}
@@ -8,11 +8,10 @@ use Rattle.cyc_base.specs.declared.trit.Trit.TheVariants.{X}
 use Rattle.cyc_base.specs.Values.{bits}
 use Rattle.dual_rail.specs.WorkingLists.{is_bit}
 use Rattle.netlist.specs.declared.parts.Parts.{Parts}
-use Rattle.netlist.specs.Fixpoint.{fix, wire, next}
+use Rattle.netlist.specs.Fixpoint.{fix, next}
 use Rattle.netlist.specs.Netlists.{count}
 use Rattle.loops.specs.Sweeps.{value_in}
 use Rattle.fixpoint.specs.Orders.{laid}
-use Rattle.care_sets.specs.Care.{CareSet, IsCareVector}
 
 -- the latches' next values at a vector of the set, and X elsewhere
 abbrev pub next_within : Parts → Arena → Node → List Bool → List Trit

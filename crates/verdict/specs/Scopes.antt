@@ -9,7 +9,6 @@ use Rattle.loops.specs.Blocks.{block_at}
 use Rattle.loops.specs.Cuts.{loops_by}
 use Rattle.isolation.specs.Cones.{is_marked}
 use Rattle.care_sets.specs.Care.{CareSet}
-use Rattle.refusals.specs.Acceptance.{SomeCareVector}
 use Rattle.refusals.specs.Refusals.{initial_refusal, empty_refusal, refusal}
 use Rattle.refusals.specs.declared.observe.Observe.{Observe}
 use Rattle.clause_decision.specs.Sweeping.{IsLeastCount}

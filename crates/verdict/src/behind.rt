@@ -38,7 +38,7 @@ fn reads_mark(net: &Netlist, gate: u32, marks: &[bool]) -> bool
 }
 
 /// Whether one of these gates is marked or reads a marked one.
-fn are_reached(net: &Netlist, gates: &[u32], marks: &[bool]) -> bool
+pub(crate) fn are_reached(net: &Netlist, gates: &[u32], marks: &[bool]) -> bool
     requires gates { All (λ n. n < length net.now.gates) gates.now }
     requires width { length marks.now ≡ length net.now.gates }
     ensures { (result ≡ true) ↔ AreReached net.now gates.now marks.now }

@@ -8,16 +8,19 @@ ghost use Rattle.loops.specs.Cuts.{IsCutOf};
 ghost use Rattle.care_sets.specs.Binding.{IsCareOf};
 ghost use Rattle.refusals.specs.Refusals.{empty_refusal, initial_refusal};
 ghost use Rattle.clause_decision.specs.Tests.{TellsFirstUnknown};
-ghost use Rattle.verdict.specs.Determination.{AreDeterminedOnCare, IsDetermination, IsGate, IsOpen, SettleInOneSweep};
+ghost use Rattle.verdict.specs.Determination.{AreDeterminedOnCare, IsOpen, SettleInOneSweep};
+ghost use Rattle.verdict.specs.Loose.{AreUnknownMarks, IsLooseNumber};
 ghost use Rattle.verdict.specs.Scopes.{AreOpenGates, IsBeginning, MayGoOn};
 ghost use Rattle.verdict.specs.Standing.{StandsAs};
-ghost use Rattle.verdict.specs.Verdicts.{IsVerdict};
+ghost use Rattle.verdict.specs.Verdicts.{AreSweepsOnCare, IsVerdict};
 
 use crate::alone::{open_gates, settled_loops};
+use crate::beside::sweeps_beside;
 use crate::counts::{counts_of, open_counts};
 use crate::scopes::marked_places;
 use crate::steps::{Step, step_of};
 use crate::suspects::{first_of, unknown_refusal};
+use crate::unknown::{loose_number, unknown_gates};
 use crate::verdict::Verdict;
 use care_sets::Care;
 use clause_decision::{First, Found, is_possible, least_outside};
@@ -76,11 +79,11 @@ fn begin(alloc: Global, net: &Netlist, care: &Care, conflicts: u64) -> Result<Be
 /// How the gates of a netlist stand on care.
 #[derive(Drop)]
 pub enum Standing {
-    /// None is unknown at any care vector, and the loops need so many sweeps.
-    Determined(SweepCounts),
+    /// No observed one is unknown at any care vector, and so many others are. The loops need so many sweeps.
+    Determined { sweeps: SweepCounts, loose: u32 },
     /// The first observed one that is unknown refuses the netlist.
     Refused(Refusal),
-    /// The solver gave up, or only gates that aren't observed are unknown.
+    /// The solver gave up, or unknown gates that aren't observed feed a loop.
     Undecided,
 }
 
@@ -107,8 +110,99 @@ fn count(
     let Some(others) = open_counts(alloc, net, blocks, cut, care, settled, conflicts)? else {
         return Ok(Standing::Undecided);
     };
-    let counts = counts_of(alloc, blocks, settled, &others)?;
-    Ok(Standing::Determined(counts))
+    let sweeps = counts_of(alloc, blocks, settled, &others)?;
+    Ok(Standing::Determined { sweeps, loose: 0 })
+}
+
+/// How the gates stand where these are unknown at some care vector.
+fn stand_with(
+    alloc: Global,
+    net: &Netlist,
+    blocks: &Blocks,
+    cut: &Cut,
+    care: &Care,
+    observe: Observe,
+    settled: &[bool],
+    unknown: &[bool],
+    conflicts: u64,
+) -> Result<Standing, AllocError>
+    requires blocks { AreBlocksOf net.now blocks.now }
+    requires cut { IsCutOf net.now cut.now }
+    requires care { IsCareOf net.now care.now }
+    requires width { length settled.now ≡ length blocks.now.list }
+    requires settled { SettleInOneSweep net.now blocks.now settled.now }
+    requires some { empty_refusal net.now care.now ≡ None }
+    requires unknown { AreUnknownMarks net.now care.now unknown.now }
+    ensures { IfOk result (StandsAs net.now blocks.now cut.now care.now observe) }
+{
+    let Some(loose) = loose_number(alloc, net, care, observe, unknown)? else {
+        return Ok(Standing::Undecided);
+    };
+    match sweeps_beside(alloc, net, blocks, cut, care, settled, unknown, conflicts)? {
+        Some(sweeps) => Ok(Standing::Determined { sweeps, loose }),
+        None => Ok(Standing::Undecided),
+    }
+}
+
+/// How the gates stand where one is unknown on care, and no observed one was found to be.
+fn stand_beside(
+    alloc: Global,
+    net: &Netlist,
+    blocks: &Blocks,
+    cut: &Cut,
+    care: &Care,
+    observe: Observe,
+    settled: &[bool],
+    conflicts: u64,
+) -> Result<Standing, AllocError>
+    requires blocks { AreBlocksOf net.now blocks.now }
+    requires cut { IsCutOf net.now cut.now }
+    requires care { IsCareOf net.now care.now }
+    requires width { length settled.now ≡ length blocks.now.list }
+    requires settled { SettleInOneSweep net.now blocks.now settled.now }
+    requires some { empty_refusal net.now care.now ≡ None }
+    ensures { IfOk result (StandsAs net.now blocks.now cut.now care.now observe) }
+{
+    match unknown_gates(alloc, net, blocks, care, settled, conflicts)? {
+        Some(unknown) => stand_with(
+            alloc, net, blocks, cut, care, observe, settled, &unknown, conflicts,
+        ),
+        None => Ok(Standing::Undecided),
+    }
+}
+
+/// The refusal of an observed gate where one is unknown on care, and else how the gates stand if it is found.
+fn stand_unknown(
+    alloc: Global,
+    net: &Netlist,
+    blocks: &Blocks,
+    cut: &Cut,
+    care: &Care,
+    observe: Observe,
+    settled: &[bool],
+    unknown: u32,
+    conflicts: u64,
+) -> Result<Standing, AllocError>
+    requires blocks { AreBlocksOf net.now blocks.now }
+    requires cut { IsCutOf net.now cut.now }
+    requires care { IsCareOf net.now care.now }
+    requires width { length settled.now ≡ length blocks.now.list }
+    requires settled { SettleInOneSweep net.now blocks.now settled.now }
+    requires some { empty_refusal net.now care.now ≡ None }
+    requires unknown { unknown < length net.now.gates }
+    ensures { IfOk result (StandsAs net.now blocks.now cut.now care.now observe) }
+{
+    if let Some(refusal) = unknown_refusal(
+        alloc, net, blocks, care, settled, observe, unknown, conflicts,
+    )? {
+        return Ok(Standing::Refused(refusal));
+    }
+    match observe {
+        Observe::All => Ok(Standing::Undecided),
+        Observe::Outputs => {
+            stand_beside(alloc, net, blocks, cut, care, observe, settled, conflicts)
+        }
+    }
 }
 
 /// How the gates stand where the first gate that is unknown in these loops was looked for.
@@ -137,10 +231,9 @@ fn stand_at(
     match first {
         First::At(place) => {
             let gate = gates[place];
-            match unknown_refusal(alloc, net, blocks, care, settled, observe, gate, conflicts)? {
-                Some(refusal) => Ok(Standing::Refused(refusal)),
-                None => Ok(Standing::Undecided),
-            }
+            stand_unknown(
+                alloc, net, blocks, cut, care, observe, settled, gate, conflicts,
+            )
         }
         First::Nowhere => count(alloc, net, blocks, cut, care, settled, conflicts),
         First::Unknown => Ok(Standing::Undecided),
@@ -189,27 +282,29 @@ fn stand(
     )
 }
 
-/// The verdict where no gate is unknown on care, so that the invariant's step decides.
+/// The verdict where no observed gate is unknown on care, so that the invariant's step decides.
 fn step_verdict(
     alloc: Global,
     net: &Netlist,
     blocks: &Blocks,
     care: &Care,
+    observe: Observe,
     settled: &[bool],
     sweeps: SweepCounts,
+    loose: u32,
     conflicts: u64,
 ) -> Result<Option<Verdict>, AllocError>
     requires blocks { AreBlocksOf net.now blocks.now }
     requires care { IsCareOf net.now care.now }
     requires width { length settled.now ≡ length blocks.now.list }
     requires settled { SettleInOneSweep net.now blocks.now settled.now }
-    requires determined { AreDeterminedOnCare net.now care.now (IsGate net.now) }
-    ensures { (cut : CutSpec) (what : Observe) → IsDetermination net.now blocks.now cut care.now sweeps → initial_refusal net.now care.now ≡ None → empty_refusal net.now care.now ≡ None →
-        IfOk result (λ found. IfSome found (IsVerdict net.now blocks.now cut care.now what)) }
+    requires begins { MayGoOn net.now care.now }
+    requires loose { IsLooseNumber net.now care.now observe loose }
+    ensures { (cut : CutSpec) → AreSweepsOnCare net.now blocks.now cut care.now sweeps → IfOk result (λ found. IfSome found (IsVerdict net.now blocks.now cut care.now observe)) }
 {
     let _ = net.gates();
     match step_of(alloc, net, blocks, care, settled, conflicts)? {
-        Step::Stays => Ok(Some(Verdict::Accepted { sweeps, loose: 0 })),
+        Step::Stays => Ok(Some(Verdict::Accepted { sweeps, loose })),
         Step::Leaves(refusal) => Ok(Some(Verdict::Refused(refusal))),
         Step::Undecided => Ok(None),
     }
@@ -233,16 +328,16 @@ fn judge_gates(
 {
     let settled = settled_loops(alloc, net, blocks, LOOP_NODES)?;
     match stand(alloc, net, blocks, cut, care, observe, &settled, conflicts)? {
-        Standing::Determined(sweeps) => {
-            step_verdict(alloc, net, blocks, care, &settled, sweeps, conflicts)
-        }
+        Standing::Determined { sweeps, loose } => step_verdict(
+            alloc, net, blocks, care, observe, &settled, sweeps, loose, conflicts,
+        ),
         Standing::Refused(refusal) => Ok(Some(Verdict::Refused(refusal))),
         Standing::Undecided => Ok(None),
     }
 }
 
-/// The verdict by clauses, or none where the solver gave up in a search after so many conflicts, or where only gates that
-/// aren't observed are unknown on care.
+/// The verdict by clauses, or none where the solver gave up in a search after so many conflicts, or where unknown gates that
+/// aren't observed feed a loop.
 pub(crate) fn verdict_by_clauses(
     alloc: Global,
     net: &Netlist,

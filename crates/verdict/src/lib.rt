@@ -9,6 +9,7 @@
 mod alone;
 mod beginning;
 mod behind;
+mod beside;
 mod care;
 mod clauses;
 mod counts;
@@ -26,6 +27,7 @@ mod sets;
 mod solving;
 mod steps;
 mod suspects;
+mod unknown;
 mod verdict;
 
 pub use care::{assume_on, invariant_on};

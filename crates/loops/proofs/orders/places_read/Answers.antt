@@ -2,7 +2,7 @@ use Rattle.std.proofs.Common.{◌≡◌, ◌+◌, ◌<◌, ℕ, List, length, ap
 use Rattle.netlist.specs.declared.parts.Gate.{Gate}
 use Rattle.netlist.specs.Netlists.{gate_at}
 use Rattle.loops.specs.Placing.{ArePlacesRead}
-use Rattle.loops.proofs.LinkLemmas.{same_element}
+use Rattle.loops.proofs.KeptLemmas.{same_element}
 use Rattle.loops.proofs.OrderLemmas.{places_push, places_skip}
 use Rattle.loops.proofs.orders.places_read.Goals as goal
 use Rattle.loops.proofs.orders.places_read.Goals.{in-Some+in_ok-push, in_default}

@@ -1,6 +1,4 @@
-use Rattle.std.proofs.Common.{◌≡◌, Bool, List, length, Some, subst, sym, ap}
-use Rattle.std.specs.Prelude.{find}
-use Rattle.cyc_base.specs.Vectors.{vectors}
+use Rattle.std.proofs.Common.{◌≡◌, Bool, List, length, Some, subst, sym}
 use Rattle.refusals.specs.declared.refusal.Refusal.TheVariants.{Initial}
 use Rattle.refusals.specs.Refusals.{refusal}
 use Rattle.clause_decision.specs.Tests.{is_outside}

@@ -1,4 +1,4 @@
-use Rattle.std.proofs.Common.{subst, sym, ◌∙◌, ap}
+use Rattle.std.proofs.Common.{subst, ◌∙◌}
 use Rattle.care_sets.specs.Care.{columns, is_care_vector}
 use Rattle.clause_queries.specs.Vectors.{TellsWhetherAny}
 use Rattle.verdict.proofs.BeginningLemmas.{care-some, care-none}

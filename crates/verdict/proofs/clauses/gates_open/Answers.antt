@@ -1,4 +1,4 @@
-use Rattle.std.proofs.Common.{◌∙◌, Bool, List, length, subst, sym, ap}
+use Rattle.std.proofs.Common.{◌∙◌}
 use Rattle.std.proofs.lemmas.Result.{IfOk-weaker}
 use Rattle.verdict.proofs.SuspectLemmas.{open-gates}
 use Rattle.verdict.proofs.clauses.gates_open.Goals as goal

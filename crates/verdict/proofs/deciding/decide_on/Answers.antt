@@ -1,4 +1,4 @@
-use Rattle.std.proofs.Common.{◌≡◌, ◌∙◌, Err, inl, ◌+◌, ◌≤◌, ℕ, List, ap, sym, subst, arith}
+use Rattle.std.proofs.Common.{◌∙◌, Err, inl, ◌+◌, ◌≤◌, ℕ, List, ap, sym, subst, arith}
 use Rattle.bdd_store.specs.declared.fault.StoreFault.{StoreFault}
 use Rattle.bdd_store.proofs.GrowthLemmas.{within_only, within_each, adds_then, adds_refused}
 use Rattle.fixpoint.specs.Orders.{order}

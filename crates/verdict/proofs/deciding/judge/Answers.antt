@@ -1,4 +1,4 @@
-use Rattle.std.proofs.Common.{◌∙◌, inr, ◌+◌, ◌≤◌, ℕ, List, sym, subst, arith}
+use Rattle.std.proofs.Common.{inr, ◌+◌, ◌≤◌, sym, subst, arith}
 use Rattle.bdd_store.proofs.GrowthLemmas.{adds_then, adds_caused, adds_moved, adds_more, adds_refused, adds_answered}
 use Rattle.dual_rail.specs.WorkingLists.{IsWide}
 use Rattle.isolation.proofs.ColumnLemmas.{AreColumns-kept}

@@ -5,7 +5,6 @@ use Rattle.dual_rail.specs.Rails.{values_of}
 use Rattle.dual_rail.specs.WorkingLists.{IsWide}
 use Rattle.loops.specs.Cuts.{loops_by}
 use Rattle.fixpoint.specs.Working.{HasLargeCover, effort}
-use Rattle.care_sets.specs.Care.{columns}
 use Rattle.verdict.specs.Enough.{AddsInDecision, IsLaid}
 use Rattle.verdict.specs.Sets.{AreFixed}
 use Rattle.verdict.specs.Solving.{AreColumnVectors}

@@ -1,6 +1,3 @@
-use Rattle.std.proofs.Common.{◌≡◌, ◌<◌, ◌-◌, ℕ, List, length, get_or, Contains}
-use Rattle.std.specs.List.{All}
-use Rattle.netlist.specs.declared.parts.Latch.{Latch}
 use Rattle.verdict.specs.Scopes.{AreDriversBefore}
 use Rattle.verdict.proofs.scopes.drivers_read.Given as goal
 

@@ -1,4 +1,4 @@
-use Rattle.std.proofs.Common.{◌≡◌, ◌∙◌, ℕ, List, subst, sym, ap, true, length, Contains, IfSome}
+use Rattle.std.proofs.Common.{subst, sym}
 use Rattle.verdict.specs.Scopes.{AreDrivers}
 use Rattle.verdict.proofs.ScopeLemmas.{drivers-within}
 use Rattle.verdict.proofs.steps.ask_step.Goals as goal

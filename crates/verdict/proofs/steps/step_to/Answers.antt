@@ -1,4 +1,4 @@
-use Rattle.std.proofs.Common.{◌≡◌, Bool, List, length, Some, subst, sym, ap}
+use Rattle.std.proofs.Common.{subst, sym}
 use Rattle.std.proofs.lemmas.Result.{IfOk-weaker}
 use Rattle.care_sets.specs.Care.{columns}
 use Rattle.refusals.proofs.FirstLemmas.{found_wide}

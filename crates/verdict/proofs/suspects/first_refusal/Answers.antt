@@ -1,7 +1,6 @@
-use Rattle.std.proofs.Common.{◌≡◌, ◌<◌, ◌∙◌, ℕ, Bool, List, length, get_or, subst, sym, ap, arith, Contains}
-use Rattle.std.specs.List.{All}
-use Rattle.std.proofs.lemmas.List.{get_or_default, get_or_read}
-use Rattle.isolation.specs.Cones.{is_marked, ListsMarked}
+use Rattle.std.proofs.Common.{◌≡◌, ◌<◌, ◌∙◌, ℕ, Bool, List, length, get_or, subst, sym, ap, arith}
+use Rattle.std.proofs.lemmas.List.{get_or_default}
+use Rattle.isolation.specs.Cones.{ListsMarked}
 use Rattle.isolation.specs.Excerpts.{gate_in}
 use Rattle.clause_decision.specs.Tests.{IsFirstUnknown, TellsFirstUnknown}
 use Rattle.verdict.specs.Unknown.{IsFirstToRefuse}

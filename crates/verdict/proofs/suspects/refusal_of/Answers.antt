@@ -1,7 +1,6 @@
-use Rattle.std.proofs.Common.{◌≡◌, ◌∙◌, Bool, List, Some, subst, sym, ap, ap₂}
+use Rattle.std.proofs.Common.{◌∙◌, Bool, List, Some, subst, sym, ap₂}
 use Rattle.cyc_base.specs.declared.sig.Sig.{Sig}
 use Rattle.care_sets.specs.Care.{columns}
-use Rattle.netlist.specs.Netlists.{gate_sig}
 use Rattle.refusals.specs.declared.refusal.Refusal.TheVariants.{Undetermined}
 use Rattle.clause_decision.specs.Tests.{is_unknown_at}
 use Rattle.clause_queries.specs.Vectors.{IsFirstOf}

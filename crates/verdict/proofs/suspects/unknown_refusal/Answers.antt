@@ -1,4 +1,4 @@
-use Rattle.std.proofs.Common.{Bool, List, subst, sym}
+use Rattle.std.proofs.Common.{subst, sym}
 use Rattle.verdict.specs.Unknown.{AreAsked}
 use Rattle.verdict.proofs.suspects.unknown_refusal.Goals as goal
 

@@ -1,0 +1,313 @@
+#!/usr/bin/env python3
+"""Formulas in DIMACS form, in families of any size, for `bench/sat.sh`.
+
+  bench/formulas.py FAMILY SIZE [SEED]     writes the formula to standard output
+
+  pigeons N           N pigeons in N - 1 holes: no
+  factors N           the number N is a product of two numbers, neither of them 1, by an array of adders
+  random N SEED       4.26 N clauses of three of N variables
+  sparse N SEED       4.0 N of them, which mostly have a model
+  products N          two multipliers of N bits, one with its operands the other way around, differ: no
+  adders N            a chain of carries and a chain of carries that skip over four bits differ in a sum of N bits: no
+  parity N SEED       the parities of N bits, by two chains in different orders, differ: no
+  clique N SEED       the edges of a graph of N nodes in two colours without a triangle of one colour
+  queens N            N queens on N by N squares
+  grid N SEED         sums of two over the nodes of a grid of N by N, one of which is odd: no
+  loops FAMILY:N      some gate of the netlist of this family and size (`bench/families.py`) is unknown at some care
+                      vector; wires that no loop drives have one variable, the others three: they are 1, 0, known
+"""
+import itertools
+import random
+import sys
+
+import families
+
+
+class Formula:
+    def __init__(self):
+        self.variables, self.clauses = 0, []
+
+    def new(self):
+        self.variables += 1
+        return self.variables
+
+    def news(self, count):
+        return [self.new() for _ in range(count)]
+
+    def add(self, *clause):
+        self.clauses.append(clause)
+
+    def both(self, a, b):
+        x = self.new()
+        self.add(-x, a), self.add(-x, b), self.add(x, -a, -b)
+        return x
+
+    def either(self, a, b):
+        return -self.both(-a, -b)
+
+    def differ(self, a, b):
+        x = self.new()
+        self.add(-x, a, b), self.add(-x, -a, -b), self.add(x, -a, b), self.add(x, a, -b)
+        return x
+
+    def full(self, a, b, c):
+        """The sum and the carry of three bits."""
+        half = self.differ(a, b)
+        return self.differ(half, c), self.either(self.both(a, b), self.both(half, c))
+
+    def text(self):
+        lines = [f"p cnf {self.variables} {len(self.clauses)}"]
+        return "\n".join(lines + [" ".join(map(str, [*c, 0])) for c in self.clauses]) + "\n"
+
+
+def pigeons(f, n, seed):
+    at = [f.news(n - 1) for _ in range(n)]
+    for row in at:
+        f.add(*row)
+    for hole in range(n - 1):
+        for a, b in itertools.combinations(range(n), 2):
+            f.add(-at[a][hole], -at[b][hole])
+
+
+def product(f, a, b):
+    """The bits of a product, the lowest first, row by row."""
+    total, zero = [], f.new()
+    f.add(-zero)
+    rest = [zero] * len(a)
+    for bit in b:
+        carry, row = zero, []
+        for digit, factor in zip(rest, a):
+            digit, carry = f.full(digit, f.both(factor, bit), carry)
+            row.append(digit)
+        total.append(row[0])
+        rest = row[1:] + [carry]
+    return total + rest
+
+
+def factors(f, n, seed):
+    width = n.bit_length()
+    a, b = f.news(width // 2 + width % 2), f.news(width // 2 + width % 2)
+    f.add(*a[1:]), f.add(*b[1:])
+    for place, bit in enumerate(product(f, a, b)):
+        f.add(bit if n >> place & 1 else -bit)
+
+
+def three(f, n, seed, ratio):
+    choose = random.Random(seed)
+    f.news(n)
+    for _ in range(int(ratio * n)):
+        f.add(*(v if choose.random() < 0.5 else -v for v in choose.sample(range(1, n + 1), 3)))
+
+
+def products(f, n, seed):
+    a, b = f.news(n), f.news(n)
+    f.add(*(f.differ(x, y) for x, y in zip(product(f, a, b), product(f, b, a))))
+
+
+def adders(f, n, seed):
+    a, b, carry = f.news(n), f.news(n), f.new()
+    chain, skip, block, sums = carry, carry, carry, []
+    passes = None
+    for place, (x, y) in enumerate(zip(a, b)):
+        half, both = f.differ(x, y), f.both(x, y)
+        sums.append(f.differ(f.differ(half, chain), f.differ(half, skip)))
+        chain = f.either(both, f.both(half, chain))
+        skip = f.either(both, f.both(half, skip))
+        passes = half if passes is None else f.both(passes, half)
+        if place % 4 == 3:
+            skip = f.either(f.both(passes, block), f.both(-passes, skip))
+            block, passes = skip, None
+    f.add(*sums, f.differ(chain, skip))
+
+
+def parity(f, n, seed):
+    bits = f.news(n)
+    chains = []
+    for order in (bits, random.Random(seed).sample(bits, n)):
+        total = order[0]
+        for bit in order[1:]:
+            total = f.differ(total, bit)
+        chains.append(total)
+    f.add(f.differ(*chains))
+
+
+def clique(f, n, seed):
+    choose = random.Random(seed)
+    edges = {e: f.new() for e in itertools.combinations(range(n), 2) if choose.random() < 0.78}
+    for a, b, c in itertools.combinations(range(n), 3):
+        if {(a, b), (a, c), (b, c)} <= edges.keys():
+            three = edges[a, b], edges[a, c], edges[b, c]
+            f.add(*three), f.add(*(-e for e in three))
+
+
+def queens(f, n, seed):
+    at = [f.news(n) for _ in range(n)]
+    squares = list(itertools.product(range(n), range(n)))
+    for row in at:
+        f.add(*row)
+    for (a, b), (c, d) in itertools.combinations(squares, 2):
+        if a == c or b == d or abs(a - c) == abs(b - d):
+            f.add(-at[a][b], -at[c][d])
+
+
+def grid(f, n, seed):
+    edges = {}
+    for x, y in itertools.product(range(n), range(n)):
+        for to in ((x + 1) % n, y), (x, (y + 1) % n):
+            edges[frozenset([(x, y), to])] = f.new()
+    for node in itertools.product(range(n), range(n)):
+        around = [e for ends, e in edges.items() if node in ends]
+        odd = node == (0, 0)
+        for signs in itertools.product((0, 1), repeat=len(around)):
+            if sum(signs) % 2 != odd:
+                f.add(*(-e if s else e for s, e in zip(signs, around)))
+
+
+def netlist_of(model):
+    """The pins and rows of each gate, by its output, with the columns and the first output."""
+    gates, rows, output = {}, [], None
+    for words in map(str.split, model.text().split("\n")):
+        if words and words[0] == ".names":
+            rows = []
+            gates[words[-1]] = words[1:-1], rows
+        elif words and words[0] == ".outputs":
+            output = words[1]
+        elif words and words[0][0] != ".":
+            rows.append(words)
+    return gates, model.columns, output
+
+
+def ordered(gates):
+    """The gates that no loop drives, each after those that it reads. The others are in loops or behind them."""
+    readers, left, done = {}, {}, []
+    for gate, (pins, _) in gates.items():
+        left[gate] = sum(pin in gates for pin in pins)
+        for pin in pins:
+            readers.setdefault(pin, []).append(gate)
+    ready = [gate for gate, count in left.items() if not count]
+    while ready:
+        gate = ready.pop()
+        done.append(gate)
+        for reader in readers.get(gate, []):
+            left[reader] -= 1
+            if not left[reader]:
+                ready.append(reader)
+    return done
+
+
+def diagram(rows, order):
+    """The nodes of a cover's diagram, each after its branches: a pin and two branches. 0 and 1 are the ends."""
+    plane = rows[0][-1] == "1" if rows else True
+    nodes, table, known = [None, None], {}, {}
+
+    def build(at, live):
+        rest = {tuple(rows[r][0][pin] for pin in order[at:]): r for r in live}
+        if not rest or any(set(cubes) <= {"-"} for cubes in rest):
+            return int(plane == bool(rest))
+        key = at, frozenset(rest)
+        if key not in known:
+            pin = order[at]
+            high = build(at + 1, [r for r in rest.values() if rows[r][0][pin] != "0"])
+            low = build(at + 1, [r for r in rest.values() if rows[r][0][pin] != "1"])
+            if high != low and (pin, high, low) not in table:
+                table[pin, high, low] = len(nodes)
+                nodes.append((pin, high, low))
+            known[key] = high if high == low else table[pin, high, low]
+        return known[key]
+
+    return build(0, range(len(rows))), nodes
+
+
+def add_rail(f, one, zero, high, low, node):
+    f.add(-one, -high, node), f.add(-zero, -low, node), f.add(-high, -low, node)
+    f.add(high, low, -node), f.add(one, low, -node), f.add(zero, high, -node)
+
+
+def add_wire(f):
+    one, zero, known = f.news(3)
+    f.add(-one, -zero), f.add(-known, one, zero), f.add(-one, known), f.add(-zero, known)
+    return one, zero, known
+
+
+def add_gate(f, true, pins, rows, out):
+    """A gate's rails, bound both ways to those of its pins (Malik 1994)."""
+    never = [p for p in range(len(pins)) if pins[p][2] == true]
+    order = never + [p for p in range(len(pins)) if p not in never] if len(pins) <= 8 else range(len(pins))
+    root, nodes = diagram(rows, list(order))
+    rails = [(-true, true, true), (true, -true, true)]
+    for place, (pin, high, low) in enumerate(nodes[2:], 2):
+        (one, zero, known), h, l = pins[pin], rails[high], rails[low]
+        if out is None:
+            v = f.new()
+            add_rail(f, one, zero, h[0], l[0], v)
+            rails.append((v, -v, true))
+            continue
+        node = out if place == root else add_wire(f)
+        rails.append(node)
+        add_rail(f, one, zero, h[0], l[0], node[0]), add_rail(f, one, zero, h[1], l[1], node[1])
+        f.add(-known, -h[2], -l[2], node[2]), f.add(-one, -h[2], node[2]), f.add(-zero, -l[2], node[2])
+    if out and root < 2:
+        for a, b in zip(out, rails[root]):
+            f.add(-a, b), f.add(a, -b)
+    return out or rails[root]
+
+
+def add_known(f, true, gates, rails):
+    """Rails of the gates that no loop drives."""
+    for gate in ordered(gates):
+        pins, rows = gates[gate]
+        rails[gate] = add_gate(f, true, [rails[p] for p in pins], rows, None)
+
+
+def add_loops(f, true, gates, rails):
+    """Rails of the other gates, of which one isn't known."""
+    rest = [gate for gate in gates if gate not in rails]
+    for gate in rest:
+        rails[gate] = add_wire(f)
+    for gate in rest:
+        pins, rows = gates[gate]
+        add_gate(f, true, [rails[p] for p in pins], rows, rails[gate])
+    f.add(*(-rails[gate][2] for gate in rest))
+
+
+def loops(f, size, seed):
+    name, number = size.split(":")
+    netlist, care = families.FAMILIES[name][0](int(number))
+    gates, columns, _ = netlist_of(netlist)
+    true = f.new()
+    f.add(true)
+    rails = {column: (v, -v, true) for column, v in zip(columns, f.news(len(columns)))}
+    if care:
+        cared, _, allowed = netlist_of(care)
+        within = {column: rails[column] for column in care.columns}
+        add_known(f, true, cared, within)
+        f.add(within[allowed][0])
+    add_known(f, true, gates, rails)
+    add_loops(f, true, gates, rails)
+
+
+FAMILIES = {
+    "pigeons": pigeons,
+    "factors": factors,
+    "random": lambda f, n, seed: three(f, n, seed, 4.26),
+    "sparse": lambda f, n, seed: three(f, n, seed, 4.0),
+    "products": products,
+    "adders": adders,
+    "parity": parity,
+    "clique": clique,
+    "queens": queens,
+    "grid": grid,
+    "loops": loops,
+}
+
+
+def main(name, size, seed="1"):
+    formula = Formula()
+    FAMILIES[name](formula, size if name == "loops" else int(size), int(seed))
+    sys.stdout.write(formula.text())
+
+
+if __name__ == "__main__":
+    if len(sys.argv) not in (3, 4) or sys.argv[1] not in FAMILIES:
+        sys.exit(__doc__.rstrip())
+    main(*sys.argv[1:])

@@ -1,0 +1,64 @@
+#!/usr/bin/env bash
+# Solves twenty formulas by `benchmarks sat` and, where they are installed, by `minisat` and `cadical`, and prints the
+# user seconds of each, the best of three runs (or of as many as the first word says), and the ratio to minisat's.
+# Each has 60 seconds. The last formulas are the questions of netlists with loops.
+set -u
+top=$(cd "$(dirname "$0")/.." && pwd) || exit 1
+runs=${1:-3}
+dir=$(mktemp -d) || exit 1
+trap 'rm -rf "$dir"' EXIT
+program=$top/crates/benchmarks/out/benchmarks
+
+(cd "$top/crates/benchmarks" && rt run >/dev/null 2>&1 </dev/null) || { echo "the build of benchmarks failed" >&2; exit 1; }
+
+# The best user time of a command that reads the formula from standard input, and - where it isn't done in time.
+time_of() {
+    local best=-
+    for _ in $(seq "$runs"); do
+        /usr/bin/time -o "$dir/time" -f %U timeout 60 "$@" <"$dir/formula" >"$dir/out" 2>/dev/null
+        case $? in
+        0 | 10 | 20) best=$(tail -n 1 "$dir/time" | awk -v best="$best" '{ print best == "-" || $1 < best ? $1 : best }') ;;
+        *) echo -; return ;;
+        esac
+    done
+    echo "$best"
+}
+
+# The formula goes to minisat as a file, since it reads none from standard input.
+by_minisat() {
+    if command -v minisat >/dev/null; then time_of minisat -verb=0 "$dir/formula"; else echo -; fi
+}
+
+by_cadical() {
+    if command -v cadical >/dev/null; then time_of cadical -q; else echo -; fi
+}
+
+printf '%-28s %9s %9s %9s %7s\n' formula benchmarks minisat cadical ratio
+while read -r -a words; do
+    python3 "$top/bench/formulas.py" "${words[@]}" >"$dir/formula"
+    ours=$(time_of "$program" sat)
+    theirs=$(by_minisat)
+    printf '%-28s %9s %9s %9s %7s\n' "${words[*]}" "$ours" "$theirs" "$(by_cadical)" \
+        "$(awk -v a="$ours" -v b="$theirs" 'BEGIN { if (a != "-" && b > 0) printf "%.1f", a / b; else print "-" }')"
+done <<'FORMULAS'
+pigeons 9
+pigeons 10
+factors 34359214081
+factors 4295098369
+random 200 1
+random 250 2
+sparse 350 3
+products 6
+products 7
+adders 512
+parity 25 1
+queens 40
+loops pairs:1000
+loops parity:26
+loops decoded_selects:40
+loops allocator:20
+loops four_units:64
+loops looped_multiplier:32
+loops wide_multiplexers:400
+loops mesh:24
+FORMULAS

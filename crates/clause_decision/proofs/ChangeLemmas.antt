@@ -1,0 +1,210 @@
+-- Cut wires that a sweep changes on care, and how many sweeps are needed where none does.
+use Rattle.std.proofs.Common.{◌≡◌, ◌≢◌, ℕ, suc, ◌<◌, ◌+◌, Bool, true, false, not, ◌&&◌, List, [], ◌∷◌, length, get_or, Option, Some, None, Contains, refl, sym, ap, subst, ◌∙◌, arith, true≢false}
+use Rattle.std.specs.List.{All, range_with_len}
+use Rattle.std.proofs.lemmas.Bool.{and_parts}
+use Rattle.std.proofs.lemmas.List.{length-map, get_or_default}
+use Rattle.std.proofs.lemmas.List.Elements.{All-cons, All-contains, Contains-get_or}
+use Rattle.cyc_base.specs.declared.trit.Trit.{Trit}
+use Rattle.cyc_base.specs.declared.trit.Trit.TheVariants.{Zero, One, X}
+use Rattle.cyc_base.specs.Values.{bit, bits, Below}
+use Rattle.cyc_base.proofs.OrderLemmas.{EachBelow-at}
+use Rattle.netlist.specs.declared.parts.Parts.{Parts}
+use Rattle.netlist.specs.Netlists.{IsNetlist}
+use Rattle.netlist.specs.Fixpoint.{fix_gates}
+use Rattle.loops.specs.declared.structure.Blocks.{Blocks}
+use Rattle.loops.specs.declared.structure.Cut.{Cut}
+use Rattle.loops.specs.Blocks.{AreBlocksOf, block_at}
+use Rattle.loops.specs.Cuts.{IsCutOf, Loops, loops_by, is_cut}
+use Rattle.loops.specs.Sweeps.{CutsAreFixed, cuts, cuts_of, sweeps, value_in}
+use Rattle.loops.proofs.Reading.{Contains-filter_from, map_agree}
+use Rattle.loops.proofs.Sweeps.{cut_values_agree, few_sweeps_are_enough, fixed_cuts_give_fix, still_is_fix, sweeps_rise}
+use Rattle.care_sets.specs.Care.{CareSet, state_of, is_allowed, is_in_invariant, IsCareVector}
+use Rattle.ternary_clauses.specs.declared.formula.Formula.{Formula}
+use Rattle.ternary_clauses.specs.declared.formula.Rails.{Rails}
+use Rattle.ternary_clauses.specs.Formulas.{says, negation, IsModel}
+use Rattle.ternary_clauses.specs.Rails.{Reads, rails_at, is_known}
+use Rattle.ternary_clauses.specs.Sweeps.{ReadsOutside, ReadsPlaces}
+use Rattle.ternary_clauses.proofs.ClauseLemmas.{says-negation}
+use Rattle.clause_queries.specs.Queries.{problem, HasNoModelUnder}
+use Rattle.clause_queries.proofs.ClauseLemmas.{models-same}
+use Rattle.clause_decision.specs.Changes.{change_literals, AreFedKnown, HasChange, ChangesAfter, StandAfter, TellsChange, TellsChangeAfter}
+use Rattle.clause_decision.specs.Cones.{column_rails, vector_in, ReadsFix, IsCone}
+use Rattle.clause_decision.specs.Scopes.{is_marked, AreClosed}
+use Rattle.clause_decision.specs.Sweeping.{IsLeastCount, NeedsMore}
+use Rattle.clause_decision.specs.Sweepings.{AreCutPlaces}
+use Rattle.clause_decision.proofs.FormulaLemmas.{ones-read}
+use Rattle.clause_decision.proofs.SignalLemmas.{known-below, column_rails-length, gate-read, three}
+use Rattle.clause_decision.proofs.SweepingLemmas.{are-loops, cuts-number, fed-read, of-loop, outside-of-fix, places-number}
+use Rattle.clause_decision.proofs.UnknownLemmas.{unknown-value}
+
+-- ---- what a question about a change tells
+
+module _ (net : Parts) (care : CareSet) (marks : List Bool) (loops : Loops) (gates places : List ℕ) (f : Formula) (rails before after : List Rails) (inside allowed k : ℕ)
+    (proper : IsNetlist net) (closed : AreClosed net marks) (width : length marks ≡ length net.gates) (marked : All (λ n. is_marked marks n ≡ true) gates)
+    (fed : AreFedKnown net care gates) (apart : (n g : ℕ) → Contains gates n → loops.same n g ≡ false → ¬ Contains gates g)
+    (cone : IsCone net care marks f rails inside allowed) (wires : AreCutPlaces loops.cut gates places)
+    (reads_before : (m : List Bool) (v : List Trit) → IsModel m f → ReadsOutside net loops gates rails m v → ReadsPlaces gates before m (sweeps net loops v k))
+    (reads_after : (m : List Bool) (v : List Trit) → IsModel m f → ReadsOutside net loops gates rails m v → ReadsPlaces gates after m (sweeps net loops v (k + 1))) where
+  -- at care vectors what is outside of the loop stands for the fixpoint
+  outside-fed : (m : List Bool) → IsModel m f → IsCareVector net care (vector_in net rails m) → ReadsOutside net loops gates rails m (bits (vector_in net rails m))
+  outside-fed m is counts =
+      fed-read net marks loops gates proper closed width marked rails m (vector_in net rails m) cone.size counts.width (cone.sound m is)
+      (λ g n inside_gates feeds same wanted. gate-read net marks rails m (vector_in net rails m) (cone.above m is) g wanted (fed (vector_in net rails m) counts g n feeds inside_gates (apart n g inside_gates same)))
+
+  known-said : (t : Trit) → is_known t ≡ true → t ≢ X
+  known-said X e x = true≢false (sym e)
+  known-said Zero e x = cc
+  known-said One e x = cc
+
+  changes-after : HasChange (problem f) inside allowed before after places → ChangesAfter net loops care gates k
+  changes-after has =
+      let m : List Bool = has.possible.model in
+      let is : IsModel m f = sym (models-same f m) ∙ has.possible.is.model in
+      let v : List Bool = vector_in net rails m in
+      let counts : IsCareVector net care v = record {
+        width = length-map (column_rails net rails) (λ (r : Rails). says m r.one) ∙ column_rails-length net rails cone.size;
+        state = sym (cone.inside_tells m is) ∙ has.possible.is.assumed 0 0 (omega arith);
+        allowed = sym (cone.allowed_tells m is) ∙ has.possible.is.assumed 1 0 (omega arith);
+      } in
+      let i : ℕ = has.place in
+      let low : i < length gates = All-contains (λ j. j < length gates) places i wires.within has.among in
+      let out : ReadsOutside net loops gates rails m (bits v) = outside-fed m is counts in
+      let first : Reads m (rails_at before i) (value_in (sweeps net loops (bits v) k) (get_or gates i 0)) = reads_before m (bits v) is out i low in
+      let second : Reads m (rails_at after i) (value_in (sweeps net loops (bits v) (k + 1)) (get_or gates i 0)) = reads_after m (bits v) is out i low in
+      record {
+        vector = v;
+        counts = counts;
+        wire = get_or gates i 0;
+        inside = Contains-get_or gates i 0 low;
+        is_cut = All-contains (λ j. loops.cut (get_or gates j 0) ≡ true) places i wires.are has.among;
+        unknown = unknown-value (value_in (sweeps net loops (bits v) k) (get_or gates i 0)) (ap not (sym first.known) ∙ sym (says-negation m (rails_at before i).known) ∙ has.possible.is.assumed 2 0 (omega arith));
+        known = known-said (value_in (sweeps net loops (bits v) (k + 1)) (get_or gates i 0)) (sym second.known ∙ has.possible.is.assumed 3 0 (omega arith));
+      }
+
+  stand-after : All (λ i. HasNoModelUnder (problem f) (change_literals inside allowed before after i)) places → StandAfter net loops care gates k
+  stand-after none v counts n in_gates cut unknown = by (value_in (sweeps net loops (bits v) (k + 1)) n) refl
+    where
+      has : ReadsFix net marks f rails v
+      has = cone.complete v counts.width
+
+      vector : vector_in net rails has.model ≡ v
+      vector = sym (ones-read has.model (column_rails net rails) (vector_in net rails has.model) (cone.sound has.model has.holds)) ∙ ones-read has.model (column_rails net rails) v has.columns
+
+      out : ReadsOutside net loops gates rails has.model (bits v)
+      out = outside-of-fix net marks loops gates proper closed width marked f rails v cone.size counts.width has
+
+      at : get_or gates in_gates.0 0 ≡ n
+      at = get_or_default gates in_gates.0 0 n in_gates.1 ∙ in_gates.2
+
+      placed : Contains places in_gates.0
+      placed = wires.each in_gates.0 in_gates.1 (ap loops.cut at ∙ cut)
+
+      first : Reads has.model (rails_at before in_gates.0) (value_in (sweeps net loops (bits v) k) (get_or gates in_gates.0 0))
+      first = reads_before has.model (bits v) has.holds out in_gates.0 in_gates.1
+
+      second : Reads has.model (rails_at after in_gates.0) (value_in (sweeps net loops (bits v) (k + 1)) (get_or gates in_gates.0 0))
+      second = reads_after has.model (bits v) has.holds out in_gates.0 in_gates.1
+
+      -- else there would be a model
+      refuted : is_known (value_in (sweeps net loops (bits v) (k + 1)) n) ≡ true → ⊥
+      refuted known =
+          All-contains (λ i. HasNoModelUnder (problem f) (change_literals inside allowed before after i)) places in_gates.0 none placed has.model (record {
+            model = models-same f has.model ∙ has.holds;
+            assumed = All-cons (λ l. says has.model l ≡ true) inside (allowed ∷ negation (rails_at before in_gates.0).known ∷ (rails_at after in_gates.0).known ∷ [])
+                (cone.inside_tells has.model has.holds ∙ ap (λ u. is_in_invariant care (state_of net u)) vector ∙ counts.state)
+                (three (λ l. says has.model l ≡ true) allowed (negation (rails_at before in_gates.0).known) (rails_at after in_gates.0).known
+                (cone.allowed_tells has.model has.holds ∙ ap (is_allowed care) vector ∙ counts.allowed)
+                (says-negation has.model (rails_at before in_gates.0).known ∙ ap not (first.known ∙ ap (λ (j : ℕ). is_known (value_in (sweeps net loops (bits v) k) j)) at ∙ ap is_known unknown))
+                (second.known ∙ ap (λ (j : ℕ). is_known (value_in (sweeps net loops (bits v) (k + 1)) j)) at ∙ known));
+          })
+
+      by : (t : Trit) → value_in (sweeps net loops (bits v) (k + 1)) n ≡ t → value_in (sweeps net loops (bits v) (k + 1)) n ≡ X
+      by X e = e
+      by Zero e = absurd (refuted (ap is_known e))
+      by One e = absurd (refuted (ap is_known e))
+
+  pub tells-change : (found : Option Bool) → TellsChange (problem f) inside allowed before after places found → TellsChangeAfter net loops care gates k found
+  tells-change (Some true) h = changes-after h
+  tells-change (Some false) h = stand-after h
+  tells-change None h = tt
+
+-- ---- how many sweeps are needed
+
+module _ (net : Parts) (blocks : Blocks) (cut : Cut) (are : AreBlocksOf net blocks) (cut_is : IsCutOf net cut) (b : ℕ) (less : b < length blocks.list) (looped : (block_at blocks b).looped ≡ true) where
+  -- what is outside of the loop is no gate of the block
+  pub outside-apart : (n g : ℕ) → Contains (block_at blocks b).gates n → (loops_by blocks cut).same n g ≡ false → ¬ Contains (block_at blocks b).gates g
+  outside-apart n g inside same among = true≢false (sym ((of-loop net blocks cut are cut_is b less looped n inside).1 g among) ∙ same)
+
+  -- where a cut wire changes, more sweeps are needed
+  change-needs : (care : CareSet) (k : ℕ) → ChangesAfter net (loops_by blocks cut) care (block_at blocks b).gates k → (a : ℕ) → Contains (block_at blocks b).gates a → NeedsMore net (loops_by blocks cut) care a k
+  change-needs care k found a inside = record {
+    vector = found.vector;
+    counts = found.counts;
+    open_cuts = λ fixed.
+        let loops : Loops = loops_by blocks cut in
+        let v : List Trit = bits found.vector in
+        let same = (of-loop net blocks cut are cut_is b less looped a inside).1 found.wire found.inside in
+        let next : CutsAreFixed net loops v a (suc k) = (fixed_cuts_give_fix net loops (are-loops net blocks cut are cut_is b less looped) v (length-map found.vector bit ∙ found.counts.width) a k fixed).0 in
+        let now_is = cut_values_agree net loops (are-loops net blocks cut are cut_is b less looped) a (sweeps net loops v k) (fix_gates net v) fixed found.wire same found.is_cut in
+        let next_is = cut_values_agree net loops (are-loops net blocks cut are cut_is b less looped) a (sweeps net loops v (suc k)) (fix_gates net v) next found.wire same found.is_cut in
+        let e : suc k ≡ k + 1 = omega arith in
+        found.known (ap (λ (j : ℕ). value_in (sweeps net loops v j) found.wire) (sym e) ∙ next_is ∙ sym now_is ∙ found.unknown);
+  }
+
+  -- where none does, the loop stands at the fixpoint
+  module _ (care : CareSet) (k : ℕ) (stand : StandAfter net (loops_by blocks cut) care (block_at blocks b).gates k) (a : ℕ) (inside : Contains (block_at blocks b).gates a) (v : List Bool) (counts : IsCareVector net care v) where
+    is-cut-of : (j : ℕ) (d : ℕ) → j < length (cuts_of net (loops_by blocks cut) a) → ((loops_by blocks cut).same a (get_or (cuts_of net (loops_by blocks cut) a) j d) ≡ true) × ((loops_by blocks cut).cut (get_or (cuts_of net (loops_by blocks cut) a) j d) ≡ true)
+    is-cut-of j d low =
+        let n : ℕ = get_or (cuts_of net (loops_by blocks cut) a) j d in
+        let kept = Contains-filter_from (λ g. (loops_by blocks cut).same a g && (loops_by blocks cut).cut g) (range_with_len 0 (length net.gates)) n (Contains-get_or (cuts_of net (loops_by blocks cut) a) j d low) in
+        and_parts ((loops_by blocks cut).same a n) ((loops_by blocks cut).cut n) kept.0
+
+    still-at : (n : ℕ) → (loops_by blocks cut).same a n ≡ true → (loops_by blocks cut).cut n ≡ true → value_in (sweeps net (loops_by blocks cut) (bits v) (suc k)) n ≡ value_in (sweeps net (loops_by blocks cut) (bits v) k) n
+    still-at n same is_cut = by (value_in (sweeps net (loops_by blocks cut) (bits v) k) n) refl
+      where
+        e : k + 1 ≡ suc k
+        e = omega arith
+
+        below : Below (value_in (sweeps net (loops_by blocks cut) (bits v) k) n) (value_in (sweeps net (loops_by blocks cut) (bits v) (suc k)) n)
+        below = EachBelow-at (sweeps net (loops_by blocks cut) (bits v) k) (sweeps net (loops_by blocks cut) (bits v) (suc k)) n (sweeps_rise net (loops_by blocks cut) (bits v) k)
+
+        known : value_in (sweeps net (loops_by blocks cut) (bits v) k) n ≢ X → value_in (sweeps net (loops_by blocks cut) (bits v) (suc k)) n ≡ value_in (sweeps net (loops_by blocks cut) (bits v) k) n
+        known isnt = known-below (value_in (sweeps net (loops_by blocks cut) (bits v) k) n) (value_in (sweeps net (loops_by blocks cut) (bits v) (suc k)) n) below isnt
+
+        by : (t : Trit) → value_in (sweeps net (loops_by blocks cut) (bits v) k) n ≡ t → value_in (sweeps net (loops_by blocks cut) (bits v) (suc k)) n ≡ value_in (sweeps net (loops_by blocks cut) (bits v) k) n
+        by X is =
+            ap (λ (j : ℕ). value_in (sweeps net (loops_by blocks cut) (bits v) j) n) (sym e)
+            ∙ stand v counts n ((of-loop net blocks cut are cut_is b less looped a inside).0 n same) is_cut is ∙ sym is
+        by Zero is = known (λ x. let c : Zero ≡ X = sym is ∙ x in cc)
+        by One is = known (λ x. let c : One ≡ X = sym is ∙ x in cc)
+
+    still : cuts net (loops_by blocks cut) (bits v) a (suc k) ≡ cuts net (loops_by blocks cut) (bits v) a k
+    still =
+        map_agree (value_in (sweeps net (loops_by blocks cut) (bits v) (suc k))) (value_in (sweeps net (loops_by blocks cut) (bits v) k)) (cuts_of net (loops_by blocks cut) a)
+        (λ j d low. still-at (get_or (cuts_of net (loops_by blocks cut) a) j d) (is-cut-of j d low).0 (is-cut-of j d low).1)
+
+    stand-fixed : CutsAreFixed net (loops_by blocks cut) (bits v) a k
+    stand-fixed =
+        map_agree (value_in (sweeps net (loops_by blocks cut) (bits v) k)) (value_in (fix_gates net (bits v))) (cuts_of net (loops_by blocks cut) a)
+        (λ j d low.
+        sym (still-at (get_or (cuts_of net (loops_by blocks cut) a) j d) (is-cut-of j d low).0 (is-cut-of j d low).1)
+        ∙ still_is_fix net (loops_by blocks cut) (are-loops net blocks cut are cut_is b less looped) (bits v) (length-map v bit ∙ counts.width) a k still
+        (get_or (cuts_of net (loops_by blocks cut) a) j d) (is-cut-of j d low).0)
+
+  pub stand-count : (care : CareSet) (k : ℕ) → StandAfter net (loops_by blocks cut) care (block_at blocks b).gates k → ((j : ℕ) → j < k → ChangesAfter net (loops_by blocks cut) care (block_at blocks b).gates j) →
+      (a : ℕ) → Contains (block_at blocks b).gates a → IsLeastCount net (loops_by blocks cut) care a k
+  stand-count care k stand more a inside = record {
+    enough = λ v counts. stand-fixed care k stand a inside v counts;
+    least = λ j low. change-needs care j (more j low) a inside;
+  }
+
+  -- as many sweeps as cut wires are enough
+  pub few-changes : (care : CareSet) (places : List ℕ) → AreCutPlaces (is_cut cut.wires) (block_at blocks b).gates places → (k : ℕ) → k ≡ length places →
+      ((j : ℕ) → j < k → ChangesAfter net (loops_by blocks cut) care (block_at blocks b).gates j) → (a : ℕ) → Contains (block_at blocks b).gates a → IsLeastCount net (loops_by blocks cut) care a k
+  few-changes care places wires k is more a inside = record {
+    enough = λ v counts.
+        subst (λ (n : ℕ). CutsAreFixed net (loops_by blocks cut) (bits v) a n)
+        (cuts-number net blocks cut are cut_is b less looped a inside ∙ sym (places-number net blocks cut are cut_is b less looped places wires) ∙ sym is)
+        (few_sweeps_are_enough net (loops_by blocks cut) (are-loops net blocks cut are cut_is b less looped) a (bits v) (length-map v bit ∙ counts.width));
+    least = λ j low. change-needs care j (more j low) a inside;
+  }

@@ -1,0 +1,20 @@
+-- Which of some literals can be true, each by itself.
+use Rattle.std.specs.Prelude.{◌≡◌, ◌<◌, ℕ, Bool, true, false, List, [], ◌∷◌, ◌++◌, length, slice_index, slice_index_or}
+use Rattle.clause_queries.specs.Queries.{Problem, HasModelUnder, HasNoModelUnder}
+
+-- the literal at this place can be true, or it can't
+abbrev pub CanBe : Problem → List ℕ → List ℕ → ℕ → Type 0
+CanBe p literals assumptions i = HasModelUnder p (assumptions ++ slice_index literals i ∷ [])
+
+abbrev pub CannotBe : Problem → List ℕ → List ℕ → ℕ → Type 0
+CannotBe p literals assumptions i = HasNoModelUnder p (assumptions ++ slice_index literals i ∷ [])
+
+-- a mark for each literal: it can be true, or it can't where it is one of the first k
+pub record AreToldBelow (p : Problem) (literals assumptions : List ℕ) (k : ℕ) (found : List Bool) : Type 0 where
+  pub width : length found ≡ length literals
+  pub possible : (i : ℕ) → i < length literals → slice_index_or found i false ≡ true → CanBe p literals assumptions i
+  pub impossible : (i : ℕ) → i < k → slice_index_or found i false ≡ false → CannotBe p literals assumptions i
+
+-- and all of them
+abbrev pub TellEach : Problem → List ℕ → List ℕ → List Bool → Type 0
+TellEach p literals assumptions found = AreToldBelow p literals assumptions (length literals) found

@@ -1,0 +1,282 @@
+-- Choosing values of free pins, one by one.
+use Rattle.std.proofs.Common.{◌≡◌, ◌⊎◌, inl, inr, ℕ, zero, suc, ◌<◌, Bool, true, false, not, List, [], ◌∷◌, length, map, get_or, set, refl, ap, sym, ◌∙◌, subst, arith, true≢false, ◌↔◌, ◌&&◌}
+use Rattle.std.specs.List.{list_any, AllZip, All}
+use Rattle.std.specs.Prelude.{IfOk, Ok, Err}
+use Rattle.std.specs.declared.result.Result.{Result}
+use Rattle.std.proofs.lemmas.Bool.{and_parts, and_from, or_cases, or_parts, or_left, or_right, false_from_ne_true, not-false, not-true, not_from_false}
+use Rattle.cyc_base.specs.declared.trit.Trit.{Trit}
+use Rattle.cyc_base.specs.declared.trit.Trit.TheVariants.{Zero, One, X}
+use Rattle.cyc_base.specs.Values.{bit, Below, EachBelow, Completes}
+use Rattle.cyc_base.proofs.OrderLemmas.{Below-refl, Below-bit, Below-at, EachBelow-refl, same_bit}
+use Rattle.cover_logic.specs.declared.row.Lit.{Lit}
+use Rattle.cover_logic.specs.declared.row.Row.{Row}
+use Rattle.cover_logic.specs.Covers.{Cover, value, allows, matches, some_row_matches, value_of_rows}
+use Rattle.cover_logic.specs.Extensions.{ext}
+use Rattle.cover_logic.specs.Partial.{asks}
+use Rattle.cover_logic.proofs.ExtensionLemmas.{exact_says, exact_from, ext_is_monotone}
+use Rattle.explanations.specs.declared.pins.Pin.{Pin}
+use Rattle.explanations.specs.declared.pins.Pin.TheVariants.{Known, Open, Free}
+use Rattle.explanations.specs.Pins.{trit_of, is_free, MayBe, StaysOpen, CanBe, spoiling, IsBetter, free_count}
+
+-- ---- rows at the two values of a pin
+
+allows_other : (l : Lit) (b : Bool) → not (allows l (not b)) ≡ false → allows l (not b) ≡ true
+allows_other l true h = not-false (allows l false) h
+allows_other l false h = not-false (allows l true) h
+
+-- a row that doesn't ask for b at a pin, and matches where the pin is b, matches at the other value too
+matches_other : (lits : List Lit) (bs : List Bool) (pin : ℕ) (b : Bool) → asks lits pin b ≡ false → matches lits (set bs pin b) ≡ true → matches lits (set bs pin (not b)) ≡ true
+matches_other [] bs pin b n h = refl
+matches_other (l ∷ lits) [] pin b n h = refl
+matches_other (l ∷ lits) (d ∷ bs) zero b n h =
+    let p = and_parts (allows l b) (matches lits bs) h in
+    and_from (allows l (not b)) (matches lits bs) (allows_other l b n) p.1
+matches_other (l ∷ lits) (d ∷ bs) (suc pin) b n h =
+    let p = and_parts (allows l d) (matches lits (set bs pin b)) h in
+    and_from (allows l d) (matches lits (set bs pin (not b))) p.0 (matches_other lits bs pin b n p.1)
+
+some_matches_other : (rows : List Row) (bs : List Bool) (pin : ℕ) (b : Bool) → list_any (λ row. asks row.lits pin b) rows ≡ false → some_row_matches rows (set bs pin b) ≡ true → some_row_matches rows (set bs pin (not b)) ≡ true
+some_matches_other [] bs pin b n h = h
+some_matches_other (row ∷ rows) bs pin b n h =
+    let q = or_parts (asks row.lits pin b) (list_any (λ r. asks r.lits pin b) rows) n in
+    elim (or_cases (matches row.lits (set bs pin b)) (some_row_matches rows (set bs pin b)) h) [
+      | inl e ↦ or_left (matches row.lits (set bs pin (not b))) (some_row_matches rows (set bs pin (not b))) (matches_other row.lits bs pin b q.0 e)
+      | inr e ↦ or_right (matches row.lits (set bs pin (not b))) (some_row_matches rows (set bs pin (not b))) (some_matches_other rows bs pin b q.1 e)
+    ]
+
+-- where rows match that list a value, or don't that list the other, a gate has it
+value_moves : (plane : Bool) (rows : List Row) (bs cs : List Bool) → (some_row_matches rows bs ≡ true → some_row_matches rows cs ≡ true) → value_of_rows plane rows bs ≡ plane → value_of_rows plane rows cs ≡ plane
+value_moves true rows bs cs m h = m h
+value_moves false [] bs cs m h = refl
+value_moves false (row ∷ rows) bs cs m h =
+    let matching : some_row_matches (row ∷ rows) bs ≡ true = not-false (some_row_matches (row ∷ rows) bs) h in
+    ap not (m matching)
+
+value_stays : (plane : Bool) (rows : List Row) (bs cs : List Bool) → (some_row_matches rows cs ≡ true → some_row_matches rows bs ≡ true) → value_of_rows plane rows bs ≡ not plane → value_of_rows plane rows cs ≡ not plane
+value_stays true rows bs cs m h = false_from_ne_true (some_row_matches rows cs) (λ e. true≢false (sym (m e) ∙ h))
+value_stays false [] bs cs m h = absurd (true≢false (sym h))
+value_stays false (row ∷ rows) bs cs m h =
+    not_from_false (some_row_matches (row ∷ rows) cs)
+    (false_from_ne_true (some_row_matches (row ∷ rows) cs) (λ e. true≢false (sym (m e) ∙ not-true (some_row_matches (row ∷ rows) bs) h)))
+
+-- the gate has the wanted value at b wherever it has it at not b
+value_better : (plane : Bool) (rows : List Row) (bs : List Bool) (pin : ℕ) (wanted b : Bool) → list_any (λ row. asks row.lits pin (spoiling plane wanted b)) rows ≡ false →
+    value_of_rows plane rows (set bs pin (not b)) ≡ wanted → value_of_rows plane rows (set bs pin b) ≡ wanted
+value_better true rows bs pin true true n h = value_moves true rows (set bs pin false) (set bs pin true) (some_matches_other rows bs pin false n) h
+value_better true rows bs pin true false n h = value_moves true rows (set bs pin true) (set bs pin false) (some_matches_other rows bs pin true n) h
+value_better false rows bs pin false true n h = value_moves false rows (set bs pin false) (set bs pin true) (some_matches_other rows bs pin false n) h
+value_better false rows bs pin false false n h = value_moves false rows (set bs pin true) (set bs pin false) (some_matches_other rows bs pin true n) h
+value_better true rows bs pin false true n h = value_stays true rows (set bs pin false) (set bs pin true) (some_matches_other rows bs pin true n) h
+value_better true rows bs pin false false n h = value_stays true rows (set bs pin true) (set bs pin false) (some_matches_other rows bs pin false n) h
+value_better false rows bs pin true true n h = value_stays false rows (set bs pin false) (set bs pin true) (some_matches_other rows bs pin true n) h
+value_better false rows bs pin true false n h = value_stays false rows (set bs pin true) (set bs pin false) (some_matches_other rows bs pin false n) h
+
+-- ---- completions with another value of a pin
+
+completes_other : (trits : List Trit) (bs : List Bool) (pin : ℕ) (c d : Bool) → Completes (set trits pin (bit c)) bs → Completes (set trits pin (bit d)) (set bs pin d)
+completes_other [] [] pin c d h = tt
+completes_other [] (e ∷ bs) pin c d h = absurd h
+completes_other (t ∷ trits) [] zero c d h = absurd h
+completes_other (t ∷ trits) [] (suc pin) c d h = absurd h
+completes_other (t ∷ trits) (e ∷ bs) zero c d h = (Below-refl (bit d), h.1)
+completes_other (t ∷ trits) (e ∷ bs) (suc pin) c d h = (h.0, completes_other trits bs pin c d h.1)
+
+has_set : (trits : List Trit) (bs : List Bool) (pin : ℕ) (d : Bool) → Completes (set trits pin (bit d)) bs → set bs pin d ≡ bs
+has_set [] [] pin d c = refl
+has_set [] (e ∷ bs) pin d c = absurd c
+has_set (t ∷ trits) [] zero d c = absurd c
+has_set (t ∷ trits) [] (suc pin) d c = absurd c
+has_set (t ∷ trits) (e ∷ bs) zero d c = ap (λ b. b ∷ bs) (sym (same_bit e d (Below-bit d (bit e) c.0)))
+has_set (t ∷ trits) (e ∷ bs) (suc pin) d c = ap (λ r. e ∷ r) (has_set trits bs pin d c.1)
+
+ext_better : (cover : Cover) (values : List Trit) (pin : ℕ) (wanted b : Bool) → IsBetter cover pin wanted b → ext cover (set values pin (bit (not b))) ≡ bit wanted → ext cover (set values pin (bit b)) ≡ bit wanted
+ext_better cover values pin wanted b better e =
+    exact_from (value cover) (set values pin (bit b)) wanted (λ bs c.
+    let other = exact_says (value cover) (set values pin (bit (not b))) wanted e (set bs pin (not b)) (completes_other values bs pin b (not b) c) in
+    subst (λ (cs : List Bool). value cover cs ≡ wanted) (has_set values bs pin b c)
+    (value_better cover.plane cover.rows bs pin wanted b better other))
+
+-- ---- pins and their values
+
+may_be_known : (pin : Pin) → MayBe pin (trit_of pin)
+may_be_known (Known b) = refl
+may_be_known Open = refl
+may_be_known Free = tt
+
+all_may_be_known : (pins : List Pin) → AllZip MayBe pins (map trit_of pins)
+all_may_be_known [] = tt
+all_may_be_known (pin ∷ pins) = (may_be_known pin, all_may_be_known pins)
+
+pub can_be_known : (cover : Cover) (pins : List Pin) (wanted : Bool) → ext cover (map trit_of pins) ≡ bit wanted → CanBe cover pins wanted
+can_be_known cover pins wanted e = record { values = map trit_of pins; may = all_may_be_known pins; is = e }
+
+-- without a free pin there is no choice
+same_known : (pin : Pin) (value : Trit) → is_free pin ≡ false → MayBe pin value → value ≡ trit_of pin
+same_known (Known b) value n m = m
+same_known Open value n m = m
+same_known Free value n m = absurd (true≢false n)
+
+only_known : (pins : List Pin) (values : List Trit) → All (λ pin. is_free pin ≡ false) pins → AllZip MayBe pins values → values ≡ map trit_of pins
+only_known [] [] n m = refl
+only_known [] (v ∷ values) n m = absurd m
+only_known (pin ∷ pins) [] n m = absurd m
+only_known (pin ∷ pins) (v ∷ values) n m =
+    ap (λ t. t ∷ values) (same_known pin v (n 0 pin (omega arith)) m.0)
+    ∙ ap (λ ts. trit_of pin ∷ ts) (only_known pins values (λ k d l. n (suc k) d (omega arith)) m.1)
+
+pub cannot_be : (cover : Cover) (pins : List Pin) (wanted : Bool) → All (λ pin. is_free pin ≡ false) pins → (ext cover (map trit_of pins) ≡ bit wanted → ⊥) → ¬ CanBe cover pins wanted
+cannot_be cover pins wanted n not_known can = not_known (ap (ext cover) (sym (only_known pins can.values n can.may)) ∙ can.is)
+
+may_set : (pins : List Pin) (values : List Trit) (pin : ℕ) (b : Bool) → AllZip MayBe pins values → AllZip MayBe (set pins pin (Known b)) (set values pin (bit b))
+may_set [] [] pin b m = tt
+may_set [] (v ∷ values) pin b m = absurd m
+may_set (p ∷ pins) [] pin b m = absurd m
+may_set (p ∷ pins) (v ∷ values) zero b m = (refl, m.1)
+may_set (p ∷ pins) (v ∷ values) (suc pin) b m = (m.0, may_set pins values pin b m.1)
+
+may_unset : (pins : List Pin) (values : List Trit) (pin : ℕ) (b : Bool) → get_or pins pin Free ≡ Free → AllZip MayBe (set pins pin (Known b)) values → AllZip MayBe pins values
+may_unset [] values pin b e m = m
+may_unset (p ∷ pins) [] zero b e m = absurd m
+may_unset (p ∷ pins) [] (suc pin) b e m = absurd m
+may_unset (p ∷ pins) (v ∷ values) zero b e m = (rw e tt, m.1)
+may_unset (p ∷ pins) (v ∷ values) (suc pin) b e m = (m.0, may_unset pins values pin b e m.1)
+
+set_known : (pins : List Pin) (values : List Trit) (pin : ℕ) (b : Bool) → AllZip MayBe (set pins pin (Known b)) values → set values pin (bit b) ≡ values
+set_known [] [] pin b m = refl
+set_known [] (v ∷ values) pin b m = absurd m
+set_known (p ∷ pins) [] zero b m = absurd m
+set_known (p ∷ pins) [] (suc pin) b m = absurd m
+set_known (p ∷ pins) (v ∷ values) zero b m = ap (λ t. t ∷ values) (sym m.0)
+set_known (p ∷ pins) (v ∷ values) (suc pin) b m = ap (λ ts. v ∷ ts) (set_known pins values pin b m.1)
+
+-- a choice at one value is a choice
+pub can_be_at : (cover : Cover) (pins : List Pin) (pin : ℕ) (b wanted : Bool) → get_or pins pin Free ≡ Free → CanBe cover (set pins pin (Known b)) wanted → CanBe cover pins wanted
+can_be_at cover pins pin b wanted free can = record { values = can.values; may = may_unset pins can.values pin b free can.may; is = can.is }
+
+-- and each choice is one at a value that the pin has there, or may have
+below_chosen : (values : List Trit) (pin : ℕ) (b : Bool) → Below (get_or values pin X) (bit b) → EachBelow values (set values pin (bit b))
+below_chosen [] pin b h = tt
+below_chosen (v ∷ values) zero b h = (h, EachBelow-refl values)
+below_chosen (v ∷ values) (suc pin) b h = (Below-refl v, below_chosen values pin b h)
+
+chosen : Trit → Bool
+chosen One = true
+chosen Zero = false
+chosen X = false
+
+below-chosen : (t : Trit) → Below t (bit (chosen t))
+unfolding chosen
+below-chosen One = refl
+below-chosen Zero = refl
+below-chosen X = tt
+
+pub can_be_split : (cover : Cover) (pins : List Pin) (pin : ℕ) (wanted : Bool) → CanBe cover pins wanted → CanBe cover (set pins pin (Known false)) wanted ⊎ CanBe cover (set pins pin (Known true)) wanted
+can_be_split cover pins pin wanted can = at (chosen (get_or can.values pin X)) (below-chosen (get_or can.values pin X))
+  where
+    with_value : (b : Bool) → Below (get_or can.values pin X) (bit b) → CanBe cover (set pins pin (Known b)) wanted
+    with_value b h = record {
+      values = set can.values pin (bit b);
+      may = may_set pins can.values pin b can.may;
+      is = Below-at (ext cover can.values) (ext cover (set can.values pin (bit b))) wanted
+          (ext_is_monotone cover can.values (set can.values pin (bit b)) (below_chosen can.values pin b h)) can.is;
+    }
+
+    at : (b : Bool) → Below (get_or can.values pin X) (bit b) → CanBe cover (set pins pin (Known false)) wanted ⊎ CanBe cover (set pins pin (Known true)) wanted
+    at false h = inl (with_value false h)
+    at true h = inr (with_value true h)
+
+can_be_better : (cover : Cover) (pins : List Pin) (pin : ℕ) (b wanted : Bool) → IsBetter cover pin wanted b → CanBe cover (set pins pin (Known (not b))) wanted → CanBe cover (set pins pin (Known b)) wanted
+can_be_better cover pins pin b wanted better can =
+    let is : ext cover (set can.values pin (bit (not b))) ≡ bit wanted = ap (ext cover) (set_known pins can.values pin (not b) can.may) ∙ can.is in
+    record {
+      values = set can.values pin (bit b);
+      may = subst (λ (ps : List Pin). AllZip MayBe ps (set can.values pin (bit b))) (set_set pins pin (Known (not b)) (Known b)) (may_set (set pins pin (Known (not b))) can.values pin b can.may);
+      is = ext_better cover can.values pin wanted b better is;
+    }
+  where
+    set_set : (ps : List Pin) (n : ℕ) (x y : Pin) → set (set ps n x) n y ≡ set ps n y
+    set_set [] n x y = refl
+    set_set (p ∷ ps) zero x y = refl
+    set_set (p ∷ ps) (suc n) x y = ap (λ r. p ∷ r) (set_set ps n x y)
+
+pub can_be_by_better : (cover : Cover) (pins : List Pin) (pin : ℕ) (b wanted : Bool) → IsBetter cover pin wanted b → CanBe cover pins wanted → CanBe cover (set pins pin (Known b)) wanted
+can_be_by_better cover pins pin true wanted better can =
+    elim (can_be_split cover pins pin wanted can) [ inl low ↦ can_be_better cover pins pin true wanted better low | inr high ↦ high ]
+can_be_by_better cover pins pin false wanted better can =
+    elim (can_be_split cover pins pin wanted can) [ inl low ↦ low | inr high ↦ can_be_better cover pins pin false wanted better high ]
+
+pub free_count-set : (pins : List Pin) (pin : ℕ) (b : Bool) → get_or pins pin Open ≡ Free → free_count pins ≡ suc (free_count (set pins pin (Known b)))
+free_count-set [] pin b e = cc
+free_count-set (Free ∷ pins) zero b e = refl
+free_count-set (Known c ∷ pins) zero b e = cc
+free_count-set (Open ∷ pins) zero b e = cc
+free_count-set (Free ∷ pins) (suc pin) b e = ap suc (free_count-set pins pin b e)
+free_count-set (Known c ∷ pins) (suc pin) b e = free_count-set pins pin b e
+free_count-set (Open ∷ pins) (suc pin) b e = free_count-set pins pin b e
+
+-- ---- both values
+
+open_or_bit : (t : Trit) → (t ≡ X) ⊎ ((b : Bool) × (t ≡ bit b))
+open_or_bit X = inl refl
+open_or_bit Zero = inr (false, refl)
+open_or_bit One = inr (true, refl)
+
+pub stays_open_without : (cover : Cover) (pins : List Pin) → ¬ CanBe cover pins true → ¬ CanBe cover pins false → StaysOpen cover pins
+stays_open_without cover pins one zero' = λ values may.
+    elim (open_or_bit (ext cover values)) [
+      | inl e ↦ e
+      | inr b ↦ absurd (none b.0 values may b.1)
+    ]
+  where
+    none : (b : Bool) (values : List Trit) → AllZip MayBe pins values → ext cover values ≡ bit b → ⊥
+    none true values may e = one (record { values = values; may = may; is = e })
+    none false values may e = zero' (record { values = values; may = may; is = e })
+
+pub open_cannot_be : (cover : Cover) (pins : List Pin) (b : Bool) → StaysOpen cover pins → ¬ CanBe cover pins b
+open_cannot_be cover pins true stays can = let e : X ≡ One = sym (stays can.values can.may) ∙ can.is in cc
+open_cannot_be cover pins false stays can = let e : X ≡ Zero = sym (stays can.values can.may) ∙ can.is in cc
+
+-- ---- the steps of the choice
+
+pub free_there : (pins : List Pin) (pin : ℕ) → get_or pins pin Open ≡ Free → get_or pins pin Free ≡ Free
+free_there [] pin e = refl
+free_there (p ∷ pins) zero e = e
+free_there (p ∷ pins) (suc pin) e = free_there pins pin e
+
+pub free_within : (pins : List Pin) (pin : ℕ) → get_or pins pin Open ≡ Free → pin < length pins
+free_within [] pin e = let no' : Open ≡ Free = e in cc
+free_within (p ∷ pins) zero e = omega arith
+free_within (p ∷ pins) (suc pin) e = (let l = free_within pins pin e in omega arith)
+
+pub is_free_is : (pin : Pin) → is_free pin ≡ true → pin ≡ Free
+is_free_is Free e = refl
+is_free_is (Known b) e = absurd (true≢false (sym e))
+is_free_is Open e = absurd (true≢false (sym e))
+
+pub by_better : (cover : Cover) (pins : List Pin) (pin : ℕ) (b wanted can : Bool) → get_or pins pin Open ≡ Free → IsBetter cover pin wanted b →
+    (can ≡ true) ↔ CanBe cover (set pins pin (Known b)) wanted → (can ≡ true) ↔ CanBe cover pins wanted
+by_better cover pins pin b wanted can free better h =
+    (λ e. can_be_at cover pins pin b wanted (free_there pins pin free) (h.0 e), λ c. h.1 (can_be_by_better cover pins pin b wanted better c))
+
+pub by_low : (cover : Cover) (pins : List Pin) (pin : ℕ) (wanted : Bool) → get_or pins pin Open ≡ Free → CanBe cover (set pins pin (Known false)) wanted → CanBe cover pins wanted
+by_low cover pins pin wanted free c = can_be_at cover pins pin false wanted (free_there pins pin free) c
+
+pub by_high : (cover : Cover) (pins : List Pin) (pin : ℕ) (wanted can : Bool) → get_or pins pin Open ≡ Free → ¬ CanBe cover (set pins pin (Known false)) wanted →
+    (can ≡ true) ↔ CanBe cover (set pins pin (Known true)) wanted → (can ≡ true) ↔ CanBe cover pins wanted
+by_high cover pins pin wanted can free none h = (
+  λ e. can_be_at cover pins pin true wanted (free_there pins pin free) (h.0 e),
+  λ c. elim (can_be_split cover pins pin wanted c) [ inl low ↦ absurd (none low) | inr high ↦ h.1 high ],
+)
+
+pub neither : (cover : Cover) (pins : List Pin) (one zero' : Bool) → (one ≡ true) ↔ CanBe cover pins true → (zero' ≡ true) ↔ CanBe cover pins false → ((not one && not zero') ≡ true) ↔ StaysOpen cover pins
+neither cover pins true zero' h k = (λ e. absurd (true≢false (sym e)), λ stays. absurd (open_cannot_be cover pins true stays (h.0 refl)))
+neither cover pins false true h k = (λ e. absurd (true≢false (sym e)), λ stays. absurd (open_cannot_be cover pins false stays (k.0 refl)))
+neither cover pins false false h k = (
+  λ e. stays_open_without cover pins (λ c. true≢false (sym (h.1 c))) (λ c. true≢false (sym (k.1 c))),
+  λ stays. refl,
+)
+
+-- what is true of an answer whatever it is, is true of a result
+pub mapped : {A E : Type 0} {P Q : A → Type 0} (r : Result A E) → IfOk r P → ((a : A) → P a → Q a) → IfOk r Q
+mapped (Ok a) h f = f a h
+mapped (Err e) h f = h

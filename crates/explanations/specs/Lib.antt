@@ -1,0 +1,5 @@
+pub mod Explained
+pub mod Graph
+pub mod Held
+pub mod Laws
+pub mod Pins

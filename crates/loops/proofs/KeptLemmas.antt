@@ -1,0 +1,199 @@
+-- Rows that gain a gate, the sources of a gate's pins, and levels that are moved.
+use Rattle.std.proofs.Common.{◌≡◌, ◌⊎◌, ◌↔◌, inl, inr, ℕ, ◌+◌, ◌<◌, ◌≤◌, Bool, List, [], ◌∷◌, ◌++◌, length, get_or, set, max, min, ap, sym, ◌∙◌, subst, arith, Contains}
+use Rattle.std.proofs.lemmas.Bool.{cases_eq}
+use Rattle.std.proofs.lemmas.List.{get_or-set_same, get_or-set_other, get_or_default, get_or_read, length-set}
+use Rattle.std.proofs.lemmas.List.Elements.{Contains-append_left, Contains-get_or, Contains-push, Contains-push_cases}
+use Rattle.std.specs.List.{All}
+use Rattle.cyc_base.specs.declared.sig.Sig.{Sig}
+use Rattle.netlist.specs.declared.parts.Parts.{Parts}
+use Rattle.netlist.specs.Netlists.{gate_at, gate_sig}
+use Rattle.loops.specs.declared.structure.Blocks.{Blocks}
+use Rattle.loops.specs.Blocks.{AreBlocksOf}
+use Rattle.loops.specs.Keeping.{AreSourcesBelow, HaveGained, HaveGainedPins}
+use Rattle.loops.specs.Links.{IsLoopPin, IsLoopSource}
+use Rattle.loops.specs.Searching.{InRow, IsFree, level_at, row_at}
+use Rattle.loops.proofs.Told.{told_parts}
+
+-- an element of a list that equals another, whatever is read past the end
+pub same_element : {A : Type 0} (xs ys : List A) (i : ℕ) (e : A) → ys ≡ xs → i < length ys → (d : A) → get_or xs i d ≡ get_or ys i e
+same_element xs ys i e same l d = rw (← same) (get_or_default ys i d e l)
+
+-- the source of a pin is one gate
+pub one_source : (net : Parts) (blocks : Blocks) (gate k : ℕ) (pin : Sig) (a b : ℕ) (d : Sig) → ((e : Sig) → get_or (gate_at net gate).pins k e ≡ pin) → IsLoopSource net blocks gate pin b → IsLoopSource net blocks gate (get_or (gate_at net gate).pins k d) a → a ≡ b
+one_source net blocks gate k pin a b d at source other =
+    let same : gate_sig net a ≡ gate_sig net b = sym other.is ∙ at d ∙ source.is in
+    let number = ap (λ (s : Sig). s.0) same in
+    omega arith
+
+pub same_source : (net : Parts) (blocks : Blocks) (gate : ℕ) (pin : Sig) (a b : ℕ) → IsLoopSource net blocks gate pin a → IsLoopSource net blocks gate pin b → a ≡ b
+same_source net blocks gate pin a b one two =
+    let number = ap (λ (s : Sig). s.0) (sym one.is ∙ two.is) in
+    omega arith
+
+pub pin_of_source : (net : Parts) (blocks : Blocks) (gate k : ℕ) (pin : Sig) (a : ℕ) → AreBlocksOf net blocks → k < length (gate_at net gate).pins → ((d : Sig) → get_or (gate_at net gate).pins k d ≡ pin) → IsLoopSource net blocks gate pin a → IsLoopPin net blocks a gate
+pin_of_source net blocks gate k pin a are kl at source =
+    let told = told_parts net blocks are a gate source.loop in
+    record {
+      feeds = record { source = told.first; reader = told.second; pin = (k, kl, at (gate_sig net a) ∙ source.is) };
+      loop = source.loop;
+    }
+
+-- a gate is added to the row at a place
+module _ (rows : List (List ℕ)) (n gate : ℕ) (row : List ℕ) (l : n < length rows) (row_is : row ≡ row_at rows n) where
+  pub pushed_keeps : (x y : ℕ) → InRow rows x y → InRow (set rows n (row ++ gate ∷ [])) x y
+  pushed_keeps x y c =
+      elim (cases_eq x n) [
+        | inr ne ↦ subst (λ (r : List ℕ). Contains r y) (sym (get_or-set_other rows n x (row ++ gate ∷ []) [] ne)) c
+        | inl e ↦
+            let old : Contains row y = subst (λ (r : List ℕ). Contains r y) (sym row_is) (subst (λ (z : ℕ). InRow rows z y) e c) in
+            subst (λ (z : ℕ). InRow (set rows n (row ++ gate ∷ [])) z y) (sym e)
+            (subst (λ (r : List ℕ). Contains r y) (sym (get_or-set_same rows n (row ++ gate ∷ []) [] l)) (Contains-append_left row (gate ∷ []) y old))
+      ]
+
+  pub pushed_new : InRow (set rows n (row ++ gate ∷ [])) n gate
+  pushed_new = subst (λ (r : List ℕ). Contains r gate) (sym (get_or-set_same rows n (row ++ gate ∷ []) [] l)) (Contains-push row gate)
+
+  pub pushed_only : (x y : ℕ) → InRow (set rows n (row ++ gate ∷ [])) x y → InRow rows x y ⊎ ((x ≡ n) × (y ≡ gate))
+  pushed_only x y c =
+      elim (cases_eq x n) [
+        | inr ne ↦ inl (subst (λ (r : List ℕ). Contains r y) (get_or-set_other rows n x (row ++ gate ∷ []) [] ne) c)
+        | inl e ↦
+            let at : Contains (row ++ gate ∷ []) y =
+            subst (λ (r : List ℕ). Contains r y) (get_or-set_same rows n (row ++ gate ∷ []) [] l) (subst (λ (z : ℕ). InRow (set rows n (row ++ gate ∷ [])) z y) e c) in
+            elim (Contains-push_cases row gate y at) [
+              | inl old ↦ inl (subst (λ (z : ℕ). InRow rows z y) (sym e) (subst (λ (r : List ℕ). Contains r y) row_is old))
+              | inr g ↦ inr (e, sym g)
+            ]
+      ]
+
+  pub gained_more : (readers : List ℕ) (k : ℕ) (first : List (List ℕ)) → k < length readers → ((d : ℕ) → get_or readers k d ≡ n) → HaveGained readers gate k first rows → HaveGained readers gate (k + 1) first (set rows n (row ++ gate ∷ []))
+  gained_more readers k first kl at g = record {
+    size = length-set rows n (row ++ gate ∷ []) ∙ g.size;
+    keeps = λ x y c. pushed_keeps x y (g.keeps x y c);
+    each = λ j d jl.
+        elim (cases_eq j k) [
+          | inr ne ↦ pushed_keeps (get_or readers j d) gate (g.each j d (omega (arith, ne)))
+          | inl e ↦ subst (λ (z : ℕ). InRow (set rows n (row ++ gate ∷ [])) z gate) (sym (ap (λ (i : ℕ). get_or readers i d) e ∙ at d)) pushed_new
+        ];
+    only = λ x y c.
+        elim (pushed_only x y c) [
+          | inl old ↦ g.only x y old
+          | inr w ↦ inr (subst (λ (z : ℕ). Contains readers z) (sym w.0) (k, kl, at n), w.1)
+        ];
+  }
+
+  pub gained_pin : (net : Parts) (blocks : Blocks) (k : ℕ) (pin : Sig) (first : List (List ℕ)) → AreBlocksOf net blocks → k < length (gate_at net gate).pins → ((d : Sig) → get_or (gate_at net gate).pins k d ≡ pin) → IsLoopSource net blocks gate pin n → HaveGainedPins net blocks gate k first rows → HaveGainedPins net blocks gate (k + 1) first (set rows n (row ++ gate ∷ []))
+  gained_pin net blocks k pin first are kl at source g = record {
+    size = length-set rows n (row ++ gate ∷ []) ∙ g.size;
+    keeps = λ x y c. pushed_keeps x y (g.keeps x y c);
+    each = λ a j d jl other.
+        elim (cases_eq j k) [
+          | inr ne ↦ pushed_keeps a gate (g.each a j d (omega (arith, ne)) other)
+          | inl e ↦ subst (λ (z : ℕ). InRow (set rows n (row ++ gate ∷ [])) z gate) (sym (one_source net blocks gate k pin a n d at source (subst (λ (i : ℕ). IsLoopSource net blocks gate (get_or (gate_at net gate).pins i d) a) e other))) pushed_new
+        ];
+    only = λ x y c.
+        elim (pushed_only x y c) [
+          | inl old ↦ g.only x y old
+          | inr w ↦ inr (subst (λ (z : ℕ). IsLoopPin net blocks z gate) (sym w.0) (pin_of_source net blocks gate k pin n are kl at source), w.1)
+        ];
+  }
+
+module _ (net : Parts) (blocks : Blocks) (gate : ℕ) where
+  pub skipped_pin : (k : ℕ) (pin : Sig) (first rows : List (List ℕ)) → ((d : Sig) → get_or (gate_at net gate).pins k d ≡ pin) → ((a : ℕ) → ¬ IsLoopSource net blocks gate pin a) → HaveGainedPins net blocks gate k first rows → HaveGainedPins net blocks gate (k + 1) first rows
+  skipped_pin k pin first rows at none g = record {
+    size = g.size;
+    keeps = g.keeps;
+    each = λ a j d jl other.
+        elim (cases_eq j k) [
+          | inr ne ↦ g.each a j d (omega (arith, ne)) other
+          | inl e ↦ absurd (none a (subst (λ (p : Sig). IsLoopSource net blocks gate p a) (ap (λ (i : ℕ). get_or (gate_at net gate).pins i d) e ∙ at d) other))
+        ];
+    only = g.only;
+  }
+
+  module _ (cut : List Bool) where
+    pub no_source : (k : ℕ) (pin : Sig) (row : List ℕ) → ((d : Sig) → get_or (gate_at net gate).pins k d ≡ pin) → ((a : ℕ) → IsLoopSource net blocks gate pin a → ¬ IsFree cut gate a) → AreSourcesBelow net blocks cut gate k row → AreSourcesBelow net blocks cut gate (k + 1) row
+    no_source k pin row at none s = record {
+      each = λ a j d jl source free.
+          elim (cases_eq j k) [
+            | inr ne ↦ s.each a j d (omega (arith, ne)) source free
+            | inl e ↦ absurd (none a (subst (λ (p : Sig). IsLoopSource net blocks gate p a) (ap (λ (i : ℕ). get_or (gate_at net gate).pins i d) e ∙ at d) source) free)
+          ];
+      only = s.only;
+    }
+
+    pub one_more_source : (k a : ℕ) (pin : Sig) (row : List ℕ) → AreBlocksOf net blocks → k < length (gate_at net gate).pins → ((d : Sig) → get_or (gate_at net gate).pins k d ≡ pin) → IsLoopSource net blocks gate pin a → IsFree cut gate a → AreSourcesBelow net blocks cut gate k row → AreSourcesBelow net blocks cut gate (k + 1) (row ++ a ∷ [])
+    one_more_source k a pin row are kl at source free s = record {
+      each = λ b j d jl other is.
+          elim (cases_eq j k) [
+            | inr ne ↦ Contains-append_left row (a ∷ []) b (s.each b j d (omega (arith, ne)) other is)
+            | inl e ↦
+                let same : b ≡ a = one_source net blocks gate k pin b a d at source (subst (λ (i : ℕ). IsLoopSource net blocks gate (get_or (gate_at net gate).pins i d) b) e other) in
+                subst (λ (z : ℕ). Contains (row ++ a ∷ []) z) (sym same) (Contains-push row a)
+          ];
+      only = λ b c.
+          elim (Contains-push_cases row a b c) [
+            | inl old ↦ s.only b old
+            | inr e ↦ subst (λ (z : ℕ). IsLoopPin net blocks z gate × IsFree cut gate z) e (pin_of_source net blocks gate k pin a are kl at source, free)
+          ];
+    }
+
+-- the levels of one gate more
+pub highest_more : (levels gates : List ℕ) (level k v : ℕ) → k < length gates → v ≡ max level (level_at levels (get_or gates k 0)) → ((j d : ℕ) → j < k → level_at levels (get_or gates j d) ≤ level) → (j d : ℕ) → j < k + 1 → level_at levels (get_or gates j d) ≤ v
+highest_more levels gates level k v kl is h j d l =
+    elim (cases_eq j k) [
+      | inr ne ↦ let a = h j d (omega (arith, ne)) in omega (arith, is)
+      | inl e ↦
+          let at : get_or gates j d ≡ get_or gates k 0 = ap (λ (i : ℕ). get_or gates i d) e ∙ get_or_default gates k d 0 kl in
+          subst (λ (z : ℕ). level_at levels z ≤ v) (sym at) (omega (arith, is))
+    ]
+
+pub lowest_more : (levels gates : List ℕ) (level k v : ℕ) → k < length gates → v ≡ min level (level_at levels (get_or gates k 0)) → ((j d : ℕ) → j < k → level ≤ level_at levels (get_or gates j d)) → (j d : ℕ) → j < k + 1 → v ≤ level_at levels (get_or gates j d)
+lowest_more levels gates level k v kl is h j d l =
+    elim (cases_eq j k) [
+      | inr ne ↦ let a = h j d (omega (arith, ne)) in omega (arith, is)
+      | inl e ↦
+          let at : get_or gates j d ≡ get_or gates k 0 = ap (λ (i : ℕ). get_or gates i d) e ∙ get_or_default gates k d 0 kl in
+          subst (λ (z : ℕ). v ≤ level_at levels z) (sym at) (omega (arith, is))
+    ]
+
+-- a row that is read
+pub row_read : (rows : List (List ℕ)) (g : ℕ) (row entry : List ℕ) → g < length rows → entry ≡ get_or rows g entry → row ≡ entry → row ≡ row_at rows g
+row_read rows g row entry l is e = e ∙ get_or_read rows g entry l is []
+
+pub row_within : (rows : List (List ℕ)) (width g : ℕ) (row : List ℕ) → All (All (λ x. x < width)) rows → g < length rows → row ≡ row_at rows g → All (λ x. x < width) row
+row_within rows width g row all l e = subst (λ (r : List ℕ). All (λ x. x < width) r) (sym e) (all g [] l)
+
+pub within_of : (xs : List ℕ) (width : ℕ) → ((x : ℕ) → Contains xs x → x < width) → All (λ x. x < width) xs
+within_of xs width h k d l = h (get_or xs k d) (Contains-get_or xs k d l)
+
+pub of_within : (xs : List ℕ) (width : ℕ) → All (λ x. x < width) xs → (x : ℕ) → Contains xs x → x < width
+of_within xs width all x c = subst (λ (z : ℕ). z < width) c.2 (all c.0 x c.1)
+
+pub all_within : (rows : List (List ℕ)) (width : ℕ) → ((x y : ℕ) → InRow rows x y → y < width) → All (All (λ x. x < width)) rows
+all_within rows width h i d il =
+    subst (λ (r : List ℕ). All (λ x. x < width) r) (get_or_default rows i [] d il) (within_of (row_at rows i) width (λ y c. h i y c))
+
+-- the free sources of all pins of a gate
+pub own_row : (net : Parts) (blocks : Blocks) (cut : List Bool) (gate : ℕ) (row : List ℕ) → AreSourcesBelow net blocks cut gate (length (gate_at net gate).pins) row → (x : ℕ) → Contains row x ↔ (IsLoopPin net blocks x gate × IsFree cut gate x)
+own_row net blocks cut gate row s x = (
+  λ c. s.only x c,
+  λ w.
+      let pin = w.0 in
+      let at = pin.feeds.pin in
+      s.each x at.0 (gate_sig net x) at.1 (record { is = at.2; loop = pin.loop }) w.1,
+)
+
+-- the rows of all sources of a gate's pins have gained it
+pub gained_rows : (net : Parts) (blocks : Blocks) (gate : ℕ) (old new : List (List ℕ)) → HaveGainedPins net blocks gate (length (gate_at net gate).pins) old new → (x y : ℕ) → InRow new x y ↔ (InRow old x y ⊎ (IsLoopPin net blocks x gate × (y ≡ gate)))
+gained_rows net blocks gate old new g x y = (
+  λ c. g.only x y c,
+  λ w.
+      elim w [
+        | inl was ↦ g.keeps x y was
+        | inr here ↦
+            let pin = here.0 in
+            let at = pin.feeds.pin in
+            subst (λ (z : ℕ). InRow new x z) (sym here.1) (g.each x at.0 (gate_sig net x) at.1 (record { is = at.2; loop = pin.loop }))
+      ],
+)

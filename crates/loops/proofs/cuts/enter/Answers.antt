@@ -1,0 +1,169 @@
+-- A gate closes a walk, or is entered between what it reads and what reads it.
+use Rattle.std.proofs.Common.{◌≡◌, ◌<◌, ◌+◌, ℕ, Bool, true, List, [], length, set, refl, arith, subst, sym, ◌∙◌, Contains, true≢false}
+use Rattle.std.proofs.lemmas.List.{get_or_default}
+use Rattle.loops.specs.Keeping.{HasParted, HaveGained, IsKept, IsPlaced}
+use Rattle.loops.specs.Links.{IsLoopPin}
+use Rattle.loops.specs.Searching.{row_at}
+use Rattle.loops.proofs.CutLemmas.{closes, entered, left_out, parted, row_laid, stays_open}
+use Rattle.loops.proofs.KeptLemmas.{all_within, gained_rows, own_row, within_of}
+use Rattle.loops.proofs.cuts.enter.Goals as goal
+
+pub returns-then-reads_itself-clause-kept : goal.returns-then-reads_itself-clause-kept
+returns-then-reads_itself-clause-kept c =
+    left_out (IsLoopPin c.args.net.now c.args.blocks.now) c.args.cut.now c.args.gate (omega (arith, c.requires.gate, c.requires.cut)) c.args.readers.now c.args.sources.now c.args.levels.now c.requires.kept
+
+pub close-requires-clause-readers : goal.close-requires-clause-readers
+close-requires-clause-readers c =
+    all_within c.args.readers.now (length c.args.levels.now) (λ x y listed.
+    let free = (c.requires.kept.read_by x y).0 listed in
+    let before = free.1.before in
+    omega (arith, c.requires.gate, c.requires.cut, c.requires.kept.levels_size))
+
+pub close-requires-clause-sources : goal.close-requires-clause-sources
+close-requires-clause-sources c =
+    let R = IsLoopPin c.args.net.now c.args.blocks.now in
+    let n = c.args.gate in
+    let l : n < length c.args.cut.now = omega (arith, c.requires.gate, c.requires.cut) in
+    let laid = row_laid R c.args.cut.now n l c.args.readers.now c.args.sources.now c.args.levels.now c.in_ok-row.row c.requires.kept
+    (own_row c.args.net.now c.args.blocks.now c.args.cut.now n c.in_ok-row.row c.in_ok-row.ensures) in
+    let sources : List (List ℕ) = set c.args.sources.now n c.in_ok-row.row in
+    let kept = laid.0 in
+    all_within sources (length c.args.levels.now) (λ y x listed. let within = kept.reads_within x y listed in omega (arith, kept.levels_size))
+
+pub returns-then-branch-clause-leads : goal.returns-then-branch-clause-leads
+returns-then-branch-clause-leads c =
+    let R = IsLoopPin c.args.net.now c.args.blocks.now in
+    let n = c.args.gate in
+    let l : n < length c.args.cut.now = omega (arith, c.requires.gate, c.requires.cut) in
+    let laid = row_laid R c.args.cut.now n l c.args.readers.now c.args.sources.now c.args.levels.now c.in_ok-row.row c.requires.kept
+    (own_row c.args.net.now c.args.blocks.now c.args.cut.now n c.in_ok-row.row c.in_ok-row.ensures) in
+    let sources : List (List ℕ) = set c.args.sources.now n c.in_ok-row.row in
+    let met : HasParted c.args.readers.now sources n c.args.levels.now c.close.new.levels true =
+    subst (λ (b : Bool). HasParted c.args.readers.now sources n c.args.levels.now c.close.new.levels b) c.if-branch.true c.in_ok-close.ensures.parted in
+    (λ e. closes R c.args.cut.now n l c.args.readers.now sources c.args.levels.now laid.0 laid.1 met.0, λ k. refl)
+
+pub returns-then-branch-clause-kept : goal.returns-then-branch-clause-kept
+returns-then-branch-clause-kept c =
+    let R = IsLoopPin c.args.net.now c.args.blocks.now in
+    let n = c.args.gate in
+    let l : n < length c.args.cut.now = omega (arith, c.requires.gate, c.requires.cut) in
+    let laid = row_laid R c.args.cut.now n l c.args.readers.now c.args.sources.now c.args.levels.now c.in_ok-row.row c.requires.kept
+    (own_row c.args.net.now c.args.blocks.now c.args.cut.now n c.in_ok-row.row c.in_ok-row.ensures) in
+    let sources : List (List ℕ) = set c.args.sources.now n c.in_ok-row.row in
+    let met : HasParted c.args.readers.now sources n c.args.levels.now c.close.new.levels true =
+    subst (λ (b : Bool). HasParted c.args.readers.now sources n c.args.levels.now c.close.new.levels b) c.if-branch.true c.in_ok-close.ensures.parted in
+    subst (λ (xs : List ℕ). IsKept R (set c.args.cut.now n true) (n + 1) c.args.readers.now sources xs) (sym met.1)
+    (left_out R c.args.cut.now n l c.args.readers.now sources c.args.levels.now laid.0)
+
+pub place-requires-clause-behind : goal.place-requires-clause-behind
+place-requires-clause-behind c =
+    let R = IsLoopPin c.args.net.now c.args.blocks.now in
+    let n = c.args.gate in
+    let l : n < length c.args.cut.now = omega (arith, c.requires.gate, c.requires.cut) in
+    let laid = row_laid R c.args.cut.now n l c.args.readers.now c.args.sources.now c.args.levels.now c.in_ok-row.row c.requires.kept
+    (own_row c.args.net.now c.args.blocks.now c.args.cut.now n c.in_ok-row.row c.in_ok-row.ensures) in
+    let sources : List (List ℕ) = set c.args.sources.now n c.in_ok-row.row in
+    let levels = c.close.new.levels in
+    let apart = parted R c.args.cut.now n l c.args.readers.now sources c.args.levels.now laid.0 laid.1 levels
+    (subst (λ (b : Bool). HasParted c.args.readers.now sources n c.args.levels.now levels b) c.if-branch.false c.in_ok-close.ensures.parted) in
+    let sizes = laid.0 in
+    let behind : c.gates-behind.result.now ≡ row_at sources n = c.gates-behind.ensures ∙ get_or_default sources n c.index-sources-gate-2.result [] (omega (arith, l, sizes.sources_size)) in
+    let ahead : c.gates-ahead.result.now ≡ row_at c.args.readers.now n = c.gates-ahead.ensures ∙ get_or_default c.args.readers.now n c.index-readers-gate.result [] (omega (arith, l, sizes.readers_size)) in
+    within_of c.gates-behind.result.now (length levels) (λ x listed.
+    let within = sizes.reads_within x n (subst (λ (xs : List ℕ). Contains xs x) behind listed) in
+    omega (arith, apart.size, sizes.levels_size))
+
+pub place-requires-clause-ahead : goal.place-requires-clause-ahead
+place-requires-clause-ahead c =
+    let R = IsLoopPin c.args.net.now c.args.blocks.now in
+    let n = c.args.gate in
+    let l : n < length c.args.cut.now = omega (arith, c.requires.gate, c.requires.cut) in
+    let laid = row_laid R c.args.cut.now n l c.args.readers.now c.args.sources.now c.args.levels.now c.in_ok-row.row c.requires.kept
+    (own_row c.args.net.now c.args.blocks.now c.args.cut.now n c.in_ok-row.row c.in_ok-row.ensures) in
+    let sources : List (List ℕ) = set c.args.sources.now n c.in_ok-row.row in
+    let levels = c.close.new.levels in
+    let apart = parted R c.args.cut.now n l c.args.readers.now sources c.args.levels.now laid.0 laid.1 levels
+    (subst (λ (b : Bool). HasParted c.args.readers.now sources n c.args.levels.now levels b) c.if-branch.false c.in_ok-close.ensures.parted) in
+    let sizes = laid.0 in
+    let behind : c.gates-behind.result.now ≡ row_at sources n = c.gates-behind.ensures ∙ get_or_default sources n c.index-sources-gate-2.result [] (omega (arith, l, sizes.sources_size)) in
+    let ahead : c.gates-ahead.result.now ≡ row_at c.args.readers.now n = c.gates-ahead.ensures ∙ get_or_default c.args.readers.now n c.index-readers-gate.result [] (omega (arith, l, sizes.readers_size)) in
+    within_of c.gates-ahead.result.now (length levels) (λ x listed.
+    let free = (sizes.read_by n x).0 (subst (λ (xs : List ℕ). Contains xs x) ahead listed) in
+    let before = free.1.before in
+    omega (arith, l, apart.size, sizes.levels_size))
+
+pub place-requires-clause-apart : goal.place-requires-clause-apart
+place-requires-clause-apart c =
+    let R = IsLoopPin c.args.net.now c.args.blocks.now in
+    let n = c.args.gate in
+    let l : n < length c.args.cut.now = omega (arith, c.requires.gate, c.requires.cut) in
+    let laid = row_laid R c.args.cut.now n l c.args.readers.now c.args.sources.now c.args.levels.now c.in_ok-row.row c.requires.kept
+    (own_row c.args.net.now c.args.blocks.now c.args.cut.now n c.in_ok-row.row c.in_ok-row.ensures) in
+    let sources : List (List ℕ) = set c.args.sources.now n c.in_ok-row.row in
+    let levels = c.close.new.levels in
+    let apart = parted R c.args.cut.now n l c.args.readers.now sources c.args.levels.now laid.0 laid.1 levels
+    (subst (λ (b : Bool). HasParted c.args.readers.now sources n c.args.levels.now levels b) c.if-branch.false c.in_ok-close.ensures.parted) in
+    let sizes = laid.0 in
+    let behind : c.gates-behind.result.now ≡ row_at sources n = c.gates-behind.ensures ∙ get_or_default sources n c.index-sources-gate-2.result [] (omega (arith, l, sizes.sources_size)) in
+    let ahead : c.gates-ahead.result.now ≡ row_at c.args.readers.now n = c.gates-ahead.ensures ∙ get_or_default c.args.readers.now n c.index-readers-gate.result [] (omega (arith, l, sizes.readers_size)) in
+    λ p s one two.
+    (let less = apart.apart p s (subst (λ (xs : List ℕ). Contains xs p) behind one) (subst (λ (xs : List ℕ). Contains xs s) ahead two) in omega arith)
+
+pub add_source-requires : goal.add_source-requires
+add_source-requires c =
+    let R = IsLoopPin c.args.net.now c.args.blocks.now in
+    let n = c.args.gate in
+    let l : n < length c.args.cut.now = omega (arith, c.requires.gate, c.requires.cut) in
+    let laid = row_laid R c.args.cut.now n l c.args.readers.now c.args.sources.now c.args.levels.now c.in_ok-row.row c.requires.kept
+    (own_row c.args.net.now c.args.blocks.now c.args.cut.now n c.in_ok-row.row c.in_ok-row.ensures) in
+    let sources : List (List ℕ) = set c.args.sources.now n c.in_ok-row.row in
+    let levels = c.close.new.levels in
+    let apart = parted R c.args.cut.now n l c.args.readers.now sources c.args.levels.now laid.0 laid.1 levels
+    (subst (λ (b : Bool). HasParted c.args.readers.now sources n c.args.levels.now levels b) c.if-branch.false c.in_ok-close.ensures.parted) in
+    let sizes = laid.0 in
+    let behind : c.gates-behind.result.now ≡ row_at sources n = c.gates-behind.ensures ∙ get_or_default sources n c.index-sources-gate-2.result [] (omega (arith, l, sizes.sources_size)) in
+    let ahead : c.gates-ahead.result.now ≡ row_at c.args.readers.now n = c.gates-ahead.ensures ∙ get_or_default c.args.readers.now n c.index-readers-gate.result [] (omega (arith, l, sizes.readers_size)) in
+    within_of c.gates-ahead.result.now (length sources) (λ x listed.
+    let free = (sizes.read_by n x).0 (subst (λ (xs : List ℕ). Contains xs x) ahead listed) in
+    let before = free.1.before in
+    omega (arith, l, sizes.sources_size))
+
+pub returns-clause-leads : goal.returns-clause-leads
+returns-clause-leads c =
+    let R = IsLoopPin c.args.net.now c.args.blocks.now in
+    let n = c.args.gate in
+    let l : n < length c.args.cut.now = omega (arith, c.requires.gate, c.requires.cut) in
+    let laid = row_laid R c.args.cut.now n l c.args.readers.now c.args.sources.now c.args.levels.now c.in_ok-row.row c.requires.kept
+    (own_row c.args.net.now c.args.blocks.now c.args.cut.now n c.in_ok-row.row c.in_ok-row.ensures) in
+    let sources : List (List ℕ) = set c.args.sources.now n c.in_ok-row.row in
+    let levels = c.close.new.levels in
+    let apart = parted R c.args.cut.now n l c.args.readers.now sources c.args.levels.now laid.0 laid.1 levels
+    (subst (λ (b : Bool). HasParted c.args.readers.now sources n c.args.levels.now levels b) c.if-branch.false c.in_ok-close.ensures.parted) in
+    let sizes = laid.0 in (
+      λ e. absurd (true≢false (sym e)),
+      λ k. absurd (stays_open R c.args.cut.now n l c.args.readers.now sources c.args.levels.now laid.0 laid.1 levels apart
+          (λ h. true≢false (sym (c.reads_itself.ensures.1 h) ∙ c.if-reads_itself.false)) k),
+    )
+
+pub returns-clause-kept : goal.returns-clause-kept
+returns-clause-kept c =
+    let R = IsLoopPin c.args.net.now c.args.blocks.now in
+    let n = c.args.gate in
+    let l : n < length c.args.cut.now = omega (arith, c.requires.gate, c.requires.cut) in
+    let laid = row_laid R c.args.cut.now n l c.args.readers.now c.args.sources.now c.args.levels.now c.in_ok-row.row c.requires.kept
+    (own_row c.args.net.now c.args.blocks.now c.args.cut.now n c.in_ok-row.row c.in_ok-row.ensures) in
+    let sources : List (List ℕ) = set c.args.sources.now n c.in_ok-row.row in
+    let levels = c.close.new.levels in
+    let apart = parted R c.args.cut.now n l c.args.readers.now sources c.args.levels.now laid.0 laid.1 levels
+    (subst (λ (b : Bool). HasParted c.args.readers.now sources n c.args.levels.now levels b) c.if-branch.false c.in_ok-close.ensures.parted) in
+    let sizes = laid.0 in
+    let behind : c.gates-behind.result.now ≡ row_at sources n = c.gates-behind.ensures ∙ get_or_default sources n c.index-sources-gate-2.result [] (omega (arith, l, sizes.sources_size)) in
+    let ahead : c.gates-ahead.result.now ≡ row_at c.args.readers.now n = c.gates-ahead.ensures ∙ get_or_default c.args.readers.now n c.index-readers-gate.result [] (omega (arith, l, sizes.readers_size)) in
+    let placed : IsPlaced (row_at sources n) (row_at c.args.readers.now n) n levels c.place.new.levels =
+    subst (λ (xs : List ℕ). IsPlaced xs (row_at c.args.readers.now n) n levels c.place.new.levels) behind
+    (subst (λ (xs : List ℕ). IsPlaced c.gates-behind.result.now xs n levels c.place.new.levels) ahead c.place.ensures) in
+    let gained : HaveGained (row_at c.args.readers.now n) n (length (row_at c.args.readers.now n)) sources c.add_source.new.sources =
+    subst (λ (xs : List ℕ). HaveGained xs n (length xs) sources c.add_source.new.sources) ahead c.in_ok-add_source.ensures in
+    entered R c.args.cut.now n l c.args.readers.now sources c.args.levels.now laid.0 laid.1 levels apart c.place.new.levels c.add_reader.new.readers c.add_source.new.sources
+    (λ h. true≢false (sym (c.reads_itself.ensures.1 h) ∙ c.if-reads_itself.false)) placed c.in_ok-add_reader.ensures.size
+    (gained_rows c.args.net.now c.args.blocks.now n c.args.readers.now c.add_reader.new.readers c.in_ok-add_reader.ensures) gained

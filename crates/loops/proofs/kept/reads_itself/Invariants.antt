@@ -1,0 +1,9 @@
+use Rattle.std.proofs.Common.{◌<◌, ℕ, get_or}
+use Rattle.cyc_base.specs.declared.sig.Sig.{Sig}
+use Rattle.netlist.specs.Netlists.{gate_at}
+use Rattle.loops.specs.Links.{IsLoopSource}
+use Rattle.loops.proofs.kept.reads_itself.Given as goal
+
+abbrev pub invariant-loop-pin : goal.invariant-loop-pin
+invariant-loop-pin l = (j : ℕ) (d : Sig) → j < l.pin-index →
+    ¬ IsLoopSource l.net l.blocks l.gate (get_or (gate_at l.net l.gate).pins j d) l.gate

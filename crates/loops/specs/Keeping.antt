@@ -1,0 +1,120 @@
+-- The gates that are no cut wires, while the cut is found: who reads whom, and their levels.
+use Rattle.std.specs.Prelude.{◌≡◌, ◌⊎◌, ◌<◌, ◌≤◌, ◌+◌, ◌↔◌, ℕ, Bool, true, false, List, length, slice_index_or, set, Contains}
+use Rattle.cyc_base.specs.declared.sig.Sig.{Sig}
+use Rattle.netlist.specs.declared.parts.Parts.{Parts}
+use Rattle.netlist.specs.Netlists.{gate_at}
+use Rattle.loops.specs.declared.search.Limit.{Limit}
+use Rattle.loops.specs.declared.search.Limit.TheVariants.{AtMost, AtLeast}
+use Rattle.loops.specs.declared.structure.Blocks.{Blocks}
+use Rattle.loops.specs.declared.cuts.Outcome.{Outcome}
+use Rattle.loops.specs.declared.cuts.Outcome.TheVariants.{Met, Ahead, Behind}
+use Rattle.loops.specs.Links.{IsLoopPin, IsLoopSource}
+use Rattle.loops.specs.Searching.{Admits, Connects, InRow, IsFree, level_at, row_at}
+use Rattle.loops.specs.Walks.{AnyGate}
+
+-- the first k of these gates are raised to a level at least
+pub record IsRaised (gates : List ℕ) (k least : ℕ) (old new : List ℕ) : Type 0 where
+  pub size : length new ≡ length old
+  pub rises : (x : ℕ) → level_at old x ≤ level_at new x
+  pub moved : (x : ℕ) → (level_at new x ≡ level_at old x) ⊎ (Contains gates x × (level_at new x ≡ least))
+  pub reached : (j d : ℕ) → j < k → least ≤ level_at new (slice_index_or gates j d)
+
+-- the first k of these gates are lowered to a level at most
+pub record IsLowered (gates : List ℕ) (k most : ℕ) (old new : List ℕ) : Type 0 where
+  pub size : length new ≡ length old
+  pub falls : (x : ℕ) → level_at new x ≤ level_at old x
+  pub moved : (x : ℕ) → (level_at new x ≡ level_at old x) ⊎ (Contains gates x × (level_at new x ≡ most))
+  pub reached : (j d : ℕ) → j < k → level_at new (slice_index_or gates j d) ≤ most
+
+-- a gate to which the goal leads by both rows
+pub record Meeting (readers sources : List (List ℕ)) (goal : ℕ) : Type 0 where
+  pub gate : ℕ
+  pub forth : Connects (InRow readers) AnyGate goal gate
+  pub back : Connects (InRow sources) AnyGate goal gate
+
+-- a search that has found all that is admitted, and none of the other row
+pub record HasEnded (rows : List (List ℕ)) (levels : List ℕ) (limit : Limit) (goal : ℕ) (others found : List ℕ) : Type 0 where
+  pub begins : (x : ℕ) → InRow rows goal x → Contains found x
+  pub closed : (x y : ℕ) → Contains found x → InRow rows x y → Admits limit (level_at levels y) → Contains found y
+  pub apart : (x : ℕ) → Contains found x → ¬ Contains others x
+  pub within : (x : ℕ) → Contains found x → x < length levels
+
+-- how two searches from the goal ended
+abbrev pub HasOutcome : List (List ℕ) → List (List ℕ) → List ℕ → ℕ → ℕ → ℕ → List ℕ → List ℕ → Outcome → Type 0
+HasOutcome readers sources levels high low goal forth back Met = Meeting readers sources goal
+HasOutcome readers sources levels high low goal forth back Ahead = HasEnded readers levels (AtMost high) goal (row_at sources goal) forth
+HasOutcome readers sources levels high low goal forth back Behind = HasEnded sources levels (AtLeast low) goal (row_at readers goal) back
+
+-- levels within so many of the middle
+pub record IsNear (n : ℕ) (level : ℕ) : Type 0 where
+  pub high : level ≤ 4294967296 + n
+  pub low : 4294967296 ≤ level + n
+
+abbrev pub AreNear : ℕ → List ℕ → Type 0
+AreNear n levels = (x : ℕ) → x < length levels → IsNear n (level_at levels x)
+
+-- what the goal reaches is raised over all that it reads
+pub record IsAhead (readers sources : List (List ℕ)) (goal : ℕ) (old new : List ℕ) : Type 0 where
+  pub high : ℕ
+  pub found : List ℕ
+  pub near : IsNear goal high
+  pub above : (p : ℕ) → InRow sources goal p → level_at old p ≤ high
+  pub ended : HasEnded readers old (AtMost high) goal (row_at sources goal) found
+  pub raised : IsRaised found (length found) (high + 1) old new
+
+-- what reaches the goal is lowered under all that reads it
+pub record IsBehind (readers sources : List (List ℕ)) (goal : ℕ) (old new : List ℕ) : Type 0 where
+  pub low : ℕ
+  pub most : ℕ
+  pub found : List ℕ
+  pub near : IsNear goal low
+  pub next : most + 1 ≡ low
+  pub below : (s : ℕ) → InRow readers goal s → low ≤ level_at old s
+  pub ended : HasEnded sources old (AtLeast low) goal (row_at readers goal) found
+  pub lowered : IsLowered found (length found) most old new
+
+-- whether both rows of the goal meet: where they don't, levels are moved so that what it reads is below what reads it
+abbrev pub HasParted : List (List ℕ) → List (List ℕ) → ℕ → List ℕ → List ℕ → Bool → Type 0
+HasParted readers sources goal old new true = Meeting readers sources goal × (new ≡ old)
+HasParted readers sources goal old new false =
+    IsAhead readers sources goal old new ⊎ IsBehind readers sources goal old new
+
+-- the rows of the first k readers have gained the gate
+pub record HaveGained (readers : List ℕ) (gate k : ℕ) (old new : List (List ℕ)) : Type 0 where
+  pub size : length new ≡ length old
+  pub keeps : (x y : ℕ) → InRow old x y → InRow new x y
+  pub each : (j d : ℕ) → j < k → InRow new (slice_index_or readers j d) gate
+  pub only : (x y : ℕ) → InRow new x y → InRow old x y ⊎ (Contains readers x × (y ≡ gate))
+
+-- the sources of the first k pins that are free
+pub record AreSourcesBelow (net : Parts) (blocks : Blocks) (cut : List Bool) (gate k : ℕ) (row : List ℕ) : Type 0 where
+  pub each : (a j : ℕ) (d : Sig) → j < k → IsLoopSource net blocks gate (slice_index_or (gate_at net gate).pins j d) a →
+      IsFree cut gate a → Contains row a
+  pub only : (a : ℕ) → Contains row a → IsLoopPin net blocks a gate × IsFree cut gate a
+
+-- the rows of the sources of the first k pins have gained the gate
+pub record HaveGainedPins (net : Parts) (blocks : Blocks) (gate k : ℕ) (old new : List (List ℕ)) : Type 0 where
+  pub size : length new ≡ length old
+  pub keeps : (x y : ℕ) → InRow old x y → InRow new x y
+  pub each : (a j : ℕ) (d : Sig) → j < k → IsLoopSource net blocks gate (slice_index_or (gate_at net gate).pins j d) a →
+      InRow new a gate
+  pub only : (x y : ℕ) → InRow new x y → InRow old x y ⊎ (IsLoopPin net blocks x gate × (y ≡ gate))
+
+-- the gates before n that are no cut wires: their rows along R, and levels that rise along it
+pub record IsKept (R : ℕ → ℕ → Type 0) (cut : List Bool) (n : ℕ) (readers sources : List (List ℕ)) (levels : List ℕ) : Type 0 where
+  pub readers_size : length readers ≡ length cut
+  pub sources_size : length sources ≡ length cut
+  pub levels_size : length levels ≡ length cut
+  pub read_by : (x y : ℕ) → InRow readers x y ↔ (R x y × IsFree cut n y)
+  pub reads : (x y : ℕ) → IsFree cut n y → InRow sources y x ↔ (R x y × IsFree cut n x)
+  pub reads_within : (x y : ℕ) → InRow sources y x → x < length cut
+  pub rise : (x y : ℕ) → R x y → IsFree cut n x → IsFree cut n y → level_at levels x ≤ level_at levels y
+  pub near : AreNear n levels
+
+-- a gate's level is between those of the gates behind it and of those ahead of it
+pub record IsPlaced (behind ahead : List ℕ) (gate : ℕ) (old new : List ℕ) : Type 0 where
+  pub level : ℕ
+  pub is : new ≡ set old gate level
+  pub above : (p : ℕ) → Contains behind p → level_at old p ≤ level
+  pub below : (s : ℕ) → Contains ahead s → level ≤ level_at old s
+  pub near : (n : ℕ) → AreNear n old → IsNear n level

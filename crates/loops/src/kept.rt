@@ -1,0 +1,97 @@
+//! Who reads whom among the gates that are no cut wires, within loops: for each gate those that read it, and those
+//! that it reads.
+
+ghost use Rattle.std.specs.Prelude.{◌≡◌, ◌<◌, ◌+◌, ◌↔◌, ◌^◌, ℕ, true, length, IfOk, OnOk, Contains};
+ghost use Rattle.std.specs.List.{All};
+ghost use Rattle.netlist.specs.Netlists.{gate_at};
+ghost use Rattle.loops.specs.Blocks.{AreBlocksOf};
+ghost use Rattle.loops.specs.Keeping.{AreSourcesBelow, HaveGained, HaveGainedPins};
+ghost use Rattle.loops.specs.Links.{IsLoopPin};
+ghost use Rattle.loops.specs.Searching.{IsFree};
+
+use crate::blocks::Members;
+use crate::links::loop_source;
+use crate::structure::Blocks;
+use netlist::Netlist;
+use std::alloc::{AllocError, Global};
+
+/// Whether a gate of a loop is a pin of itself.
+pub(crate) fn reads_itself(net: &Netlist, blocks: &Blocks, gate: u32) -> bool
+    requires blocks { AreBlocksOf net.now blocks.now }
+    requires gate { gate < length net.now.gates }
+    ensures { (result ≡ true) ↔ IsLoopPin net.now blocks.now gate gate }
+{
+    for pin in net.gate(gate).pins.items() {
+        if loop_source(net, blocks, gate, *pin) == Some(gate) {
+            return true;
+        }
+    }
+    false
+}
+
+/// Whether a gate comes before this one and is no cut wire.
+fn is_free(cut: &[bool], gate: u32, source: u32) -> bool
+    requires cut { gate < length cut.now }
+    ensures { (result ≡ true) ↔ IsFree cut.now gate source }
+{
+    source < gate && !cut[source as usize]
+}
+
+/// The gates that this one reads in its loop, which come before it and are no cut wires.
+pub(crate) fn sources_before(
+    alloc: Global,
+    net: &Netlist,
+    blocks: &Blocks,
+    cut: &[bool],
+    gate: u32,
+) -> Result<Members, AllocError>
+    requires blocks { AreBlocksOf net.now blocks.now }
+    requires gate { gate < length net.now.gates }
+    requires cut { gate < length cut.now }
+    ensures { IfOk result (AreSourcesBelow net.now blocks.now cut.now gate (length (gate_at net.now gate).pins)) }
+{
+    let mut row = Members::new(alloc);
+    for pin in net.gate(gate).pins.items() {
+        if let Some(source) = loop_source(net, blocks, gate, *pin) {
+            if is_free(cut, gate, source) {
+                row.push(source)?;
+            }
+        }
+    }
+    Ok(row)
+}
+
+/// Enters a gate as a reader of those that it reads in its loop.
+pub(crate) fn add_reader(
+    readers: &mut [Members],
+    net: &Netlist,
+    blocks: &Blocks,
+    gate: u32,
+) -> Result<(), AllocError>
+    requires blocks { AreBlocksOf net.now blocks.now }
+    requires gate { gate < length net.now.gates }
+    requires size { length readers.old ≡ length net.now.gates }
+    ensures { OnOk result (HaveGainedPins net.now blocks.now gate (length (gate_at net.now gate).pins) readers.old readers.new) }
+{
+    for pin in net.gate(gate).pins.items() {
+        if let Some(source) = loop_source(net, blocks, gate, *pin) {
+            readers[source as usize].push(gate)?;
+        }
+    }
+    Ok(())
+}
+
+/// Enters a gate as a source of those that read it.
+pub(crate) fn add_source(
+    sources: &mut [Members],
+    readers: &[u32],
+    gate: u32,
+) -> Result<(), AllocError>
+    requires { All (λ reader. reader < length sources.old) readers.now }
+    ensures { OnOk result (HaveGained readers.now gate (length readers.now) sources.old sources.new) }
+{
+    for reader in readers {
+        sources[*reader as usize].push(gate)?;
+    }
+    Ok(())
+}

@@ -1,0 +1,42 @@
+use Rattle.std.proofs.Common.{◌≡◌, List, Option, None, length, drop, sym, subst}
+use Rattle.short_cycles.specs.declared.search.Step.{Step}
+use Rattle.short_cycles.specs.Search.{IsSearch, IsRooted, IsWayBack, IsBest, IsBestOf, IsNearestOf}
+use Rattle.short_cycles.proofs.SearchLemmas.{search_is_rooted}
+use Rattle.short_cycles.proofs.CycleLemmas.{reaches_none, cycle_is_placed, is_shortest, split_first}
+use Rattle.short_cycles.proofs.shortest.shortest_cycle.Goals as goal
+
+pub returns-in_default-clause-none : goal.returns-in_default-clause-none
+returns-in_default-clause-none c =
+    let reached : IsSearch c.args.graph.now c.args.goal (length c.args.graph.now) c.in_ok-reached.reached.items = rw c.len.ensures at c.in_ok-reached.ensures in
+    let none : IsBest c.args.graph.now c.in_ok-reached.reached.items (length c.args.graph.now) None = rw (c.in_default.is, c.deref.ensures.value) at c.in_ok-cycle.ensures in
+    reaches_none c.args.graph.now c.args.goal c.in_ok-reached.reached.items reached none
+
+pub nearest-start-requires-clause-placed : goal.nearest-start-requires-clause-placed
+nearest-start-requires-clause-placed c =
+    let reached : IsSearch c.args.graph.now c.args.goal (length c.args.graph.now) c.in_ok-reached.reached.items = rw c.len.ensures at c.in_ok-reached.ensures in
+    let best : IsBestOf c.args.graph.now c.in_ok-reached.reached.items (length c.args.graph.now) c.in-Some.cycle = rw (c.in-Some.is, c.deref.ensures.value) at c.in_ok-cycle.ensures in
+    rw (c.items.ensures, c.deref-2.ensures.value)
+    (cycle_is_placed c.args.graph.now c.args.goal c.in_ok-reached.reached.items reached c.in-Some.cycle best.cycle best.placed)
+
+pub nearest-start-requires-clause-some : goal.nearest-start-requires-clause-some
+nearest-start-requires-clause-some c =
+    let best : IsBestOf c.args.graph.now c.in_ok-reached.reached.items (length c.args.graph.now) c.in-Some.cycle = rw (c.in-Some.is, c.deref.ensures.value) at c.in_ok-cycle.ensures in
+    rw c.items.ensures best.cycle.some
+
+pub way_back-requires : goal.way_back-requires
+way_back-requires c =
+    let reached : IsSearch c.args.graph.now c.args.goal (length c.args.graph.now) c.in_ok-reached.reached.items = rw c.len.ensures at c.in_ok-reached.ensures in
+    subst (λ (steps : List (Option Step)). IsRooted steps) (sym c.deref-3.ensures.value)
+    (search_is_rooted c.args.graph.now c.args.goal (length c.args.graph.now) c.in_ok-reached.reached.items reached)
+
+pub returns-clause-found : goal.returns-clause-found
+returns-clause-found c =
+    let steps = c.in_ok-reached.reached.items in
+    let reached : IsSearch c.args.graph.now c.args.goal (length c.args.graph.now) steps = rw c.len.ensures at c.in_ok-reached.ensures in
+    let best : IsBestOf c.args.graph.now steps (length c.args.graph.now) c.in-Some.cycle = rw (c.in-Some.is, c.deref.ensures.value) at c.in_ok-cycle.ensures in
+    let nearest : IsNearestOf steps c.in-Some.cycle (length c.in-Some.cycle) c.nearest-start.result = rw (c.items.ensures, c.deref-2.ensures.value) at c.nearest-start.ensures in
+    let back : IsWayBack steps c.nearest-start.result c.in_ok-whole.whole.items = rw c.deref-3.ensures.value at c.in_ok-whole.ensures in
+    let rest : c.in_ok-way.way.items ≡ drop 1 c.in_ok-whole.whole.items = rw c.deref-4.ensures.value at c.in_ok-way.ensures in
+    rw (c.of.ensures, rest)
+    (is_shortest c.args.graph.now c.args.goal steps reached c.in-Some.cycle c.in_ok-whole.whole.items (drop 1 c.in_ok-whole.whole.items) c.nearest-start.result best nearest back
+    (split_first c.in_ok-whole.whole.items c.nearest-start.result back.some back.starts))

@@ -1,0 +1,183 @@
+-- Gates that are unknown on care where no observed one is, and the sweeps of loops beside them.
+use Rattle.std.proofs.Common.{◌≡◌, ◌≢◌, inl, inr, ℕ, ◌+◌, ◌<◌, Bool, true, false, not, ◌↔◌, List, [], ◌∷◌, ◌++◌, length, Option, Some, None, refl, sym, ap, ap₂, ◌∙◌, subst, arith, Contains, true≢false}
+use Rattle.std.specs.Prelude.{find, is_none, is_some}
+use Rattle.std.specs.Option.{option_or}
+use Rattle.std.proofs.lemmas.Bool.{and_from, cases_lt}
+use Rattle.std.proofs.lemmas.List.{get_or_append_left, get_or_default, get_or_past, get_or_push, length_push}
+use Rattle.cyc_base.specs.declared.trit.Trit.TheVariants.{X}
+use Rattle.cyc_base.specs.Values.{bits}
+use Rattle.cyc_base.specs.Vectors.{vectors}
+use Rattle.netlist.specs.declared.parts.Parts.{Parts}
+use Rattle.netlist.specs.Netlists.{IsNetlist, gate_sig}
+use Rattle.netlist.specs.Fixpoint.{fix_gates}
+use Rattle.netlist.specs.Walks.{Feeds}
+use Rattle.loops.specs.declared.structure.Blocks.{Blocks}
+use Rattle.loops.specs.declared.structure.Cut.{Cut}
+use Rattle.loops.specs.declared.structure.SweepCounts.{SweepCounts}
+use Rattle.loops.specs.Blocks.{AreBlocksOf, block_at, home_of}
+use Rattle.loops.specs.Cuts.{IsCutOf, loops_by}
+use Rattle.loops.specs.Sweeps.{value_in, IsCountOfSweeps}
+use Rattle.loops.proofs.Told.{blocks_tell_loops, gate_home, home_gate}
+use Rattle.isolation.specs.Cones.{is_marked, ListsMarked}
+use Rattle.isolation.proofs.CountLemmas.{one_sweep_is_exact}
+use Rattle.isolation.proofs.SettledLemmas.{unsettled_loops_decide}
+use Rattle.care_sets.specs.Care.{CareSet, columns, is_care_vector, IsCareVector}
+use Rattle.refusals.specs.declared.observe.Observe.{Observe}
+use Rattle.refusals.specs.declared.refusal.Refusal.{Refusal}
+use Rattle.refusals.specs.Acceptance.{SomeCareVector}
+use Rattle.refusals.specs.Refusals.{is_undetermined, is_x, leaves_refusal, refusal}
+use Rattle.refusals.proofs.FirstLemmas.{none_passes}
+use Rattle.refusals.proofs.RefusalLemmas.{gate_wire}
+use Rattle.refusals.proofs.ShowingLemmas.{care_vector_is}
+use Rattle.clause_decision.specs.Changes.{AreFedKnown}
+use Rattle.clause_decision.specs.Sweeping.{IsLeastCount}
+use Rattle.clause_decision.specs.Tests.{is_unknown, is_unknown_at, TellEachUnknown}
+use Rattle.verdict.specs.Behind.{AreReached}
+use Rattle.verdict.specs.Determination.{SettleInOneSweep}
+use Rattle.verdict.specs.Loose.{AreAllSuspects, AreLoopCounts, AreSpread, AreUnknownMarks, AreWithout, IsLooseNumber, IsLoopCount}
+use Rattle.verdict.specs.Scopes.{MayGoOn}
+use Rattle.verdict.specs.Verdicts.{are_care_values, AreSweepsOnCare, IsAcceptance}
+use Rattle.verdict.proofs.CountLemmas.{care-values}
+use Rattle.verdict.proofs.DeterminationLemmas.{determined-around, known-here, least-count}
+use Rattle.verdict.proofs.PartLemmas.{IsKnownOnCare}
+use Rattle.verdict.proofs.SuspectLemmas.{none-some}
+use Rattle.verdict.proofs.VerdictLemmas.{accepts-is, refused-later}
+
+-- what a test says that isn't so
+pub says-not : {P : Type 0} (b : Bool) → ((b ≡ true) ↔ P) → not b ≡ true → ¬ P
+says-not true tells isnt p = true≢false (sym isnt)
+says-not false tells isnt p = true≢false (sym (tells.1 p))
+
+-- ---- which gates are unknown on care
+
+-- the suspects, listed
+pub listed-suspects : (net : Parts) (blocks : Blocks) (settled suspects seen : List Bool) (gates : List ℕ) → AreAllSuspects net blocks settled suspects → seen ≡ suspects → ListsMarked seen (length seen) gates →
+    ListsMarked suspects (length net.gates) gates
+listed-suspects net blocks settled suspects seen gates are same listed =
+    subst (λ (n : ℕ). ListsMarked suspects n gates) are.width (subst (λ (ms : List Bool). ListsMarked ms (length ms) gates) same listed)
+
+module _ (net : Parts) (valid : IsNetlist net) (blocks : Blocks) (are : AreBlocksOf net blocks) (settled : List Bool) (soon : SettleInOneSweep net blocks settled) (care : CareSet)
+    (suspects : List Bool) (gates : List ℕ) (found marks : List Bool) (suspects_are : AreAllSuspects net blocks settled suspects) (listed : ListsMarked suspects (length net.gates) gates)
+    (told : TellEachUnknown net care gates found) (spread : AreSpread (length net.gates) gates found (length gates) marks) where
+  -- one that isn't marked, and is listed
+  listed-known : (n : ℕ) → is_marked marks n ≡ false → (c : Contains gates n) → (b : Bool) → is_marked found c.0 ≡ b → is_unknown net care n ≡ false
+  listed-known n isnt c true has =
+      absurd (true≢false (sym (subst (λ (k : ℕ). is_marked marks k ≡ true) (get_or_default gates c.0 0 n c.1 ∙ c.2) (spread.to c.0 c.1 has)) ∙ isnt))
+  listed-known n isnt c false has = subst (λ (k : ℕ). is_unknown net care k ≡ false) (get_or_default gates c.0 0 n c.1 ∙ c.2) (told.each c.0 c.1 ∙ has)
+
+  -- or isn't
+  never-suspected : (n : ℕ) → n < length net.gates → is_marked suspects n ≡ false → is_unknown net care n ≡ false
+  never-suspected n less apart =
+      ap (λ (o : Option (List Bool)). is_some o)
+      (known-here net care n less (λ v counts.
+      unsettled_loops_decide net blocks (is_marked settled) valid are (λ b within loop marked. (soon b within loop marked).alone) v counts.width n less
+      (λ g low up loop unsettled. absurd (true≢false (sym (suspects_are.each n less (record { gate = g; opened = record { within = low; looped = loop; unsettled = unsettled }; upstream = up })) ∙ apart)))))
+
+  unmarked : (n : ℕ) → n < length net.gates → is_marked marks n ≡ false → (b : Bool) → is_marked suspects n ≡ b → is_unknown net care n ≡ false
+  unmarked n less isnt true suspected = let c = (listed.each n).1 (less, suspected) in listed-known n isnt c (is_marked found c.0) refl
+  unmarked n less isnt false apart = never-suspected n less apart
+
+  by-mark : (n : ℕ) → n < length net.gates → (b : Bool) → is_marked marks n ≡ b → is_unknown net care n ≡ is_marked marks n
+  by-mark n less true is =
+      let at = spread.from n is in
+      subst (λ (k : ℕ). is_unknown net care k ≡ true) at.is (told.each at.place at.early ∙ at.has) ∙ sym is
+  by-mark n less false is = unmarked n less is (is_marked suspects n) refl ∙ sym is
+
+  pub unknown-marked : AreUnknownMarks net care marks
+  unknown-marked = record { width = spread.width_is; each = λ n less. by-mark n less (is_marked marks n) refl }
+
+module _ (net : Parts) (care : CareSet) (marks : List Bool) (are : AreUnknownMarks net care marks) where
+  -- one without a mark is known on care
+  pub unmarked-known : (n : ℕ) → n < length net.gates → is_marked marks n ≡ false → IsKnownOnCare net care n
+  unmarked-known n less isnt = none-some (find (is_unknown_at net care n) (vectors (columns net))) (are.each n less ∙ isnt)
+
+  -- and isn't X at a care vector
+  pub unmarked-value : (n : ℕ) → n < length net.gates → is_marked marks n ≡ false → (v : List Bool) → IsCareVector net care v → value_in (fix_gates net (bits v)) n ≢ X
+  unmarked-value n less isnt v counts x =
+      true≢false (sym (and_from (is_care_vector net care v) (is_undetermined net (gate_sig net n) v) (care_vector_is net care v counts) (ap is_x (gate_wire net v n counts.width ∙ x))) ∙ none_passes (columns net) (is_unknown_at net care n) v (unmarked-known n less isnt) counts.width)
+
+  -- one with a mark isn't known
+  pub marked-unknown : (n : ℕ) → n < length net.gates → is_marked marks n ≡ true → is_none (find (is_unknown_at net care n) (vectors (columns net))) ≡ false
+  marked-unknown n less is = by (find (is_unknown_at net care n) (vectors (columns net))) (are.each n less ∙ is)
+    where
+      by : (o : Option (List Bool)) → is_some o ≡ true → is_none o ≡ false
+      by (Some v) e = refl
+      by None e = absurd (true≢false (sym e))
+
+  -- ---- what feeds a loop
+
+  pub fed-known : (gates : List ℕ) (others : List Bool) → AreWithout gates marks others → ¬ AreReached net gates others → AreFedKnown net care gates
+  fed-known gates others without apart v counts m n feeds inside outside = by (is_marked marks m) refl
+    where
+      by : (b : Bool) → is_marked marks m ≡ b → value_in (fix_gates net (bits v)) m ≢ X
+      by true is = absurd (apart (record { gate = n; among = inside; mark = inr (record { gate = m; feeds = feeds; marked = without.kept m outside ∙ is }) }))
+      by false is = unmarked-value m feeds.source is v counts
+
+  -- ---- a loop that is settled by itself, where all around it is known on care
+
+  module _ (valid : IsNetlist net) (blocks : Blocks) (blocks_are : AreBlocksOf net blocks) (cut : Cut) (cut_is : IsCutOf net cut) (some : SomeCareVector net care) (settled : List Bool) (soon : SettleInOneSweep net blocks settled)
+      (place : ℕ) (within : place < length blocks.list) (looped : (block_at blocks place).looped ≡ true) (settled_here : is_marked settled place ≡ true) (apart : ¬ AreReached net (block_at blocks place).gates marks) where
+    own-known : (n : ℕ) → Contains (block_at blocks place).gates n → (b : Bool) → is_marked marks n ≡ b → (v : List Bool) → IsCareVector net care v → value_in (fix_gates net (bits v)) n ≢ X
+    own-known n among true is = absurd (apart (record { gate = n; among = among; mark = inl is }))
+    own-known n among false is = unmarked-value n (gate_home net blocks blocks_are place n within among).0 is
+
+    feeding-known : (m n : ℕ) → Contains (block_at blocks place).gates n → Feeds net m n → (b : Bool) → is_marked marks m ≡ b → (v : List Bool) → IsCareVector net care v → value_in (fix_gates net (bits v)) m ≢ X
+    feeding-known m n among feeds true is = absurd (apart (record { gate = n; among = among; mark = inr (record { gate = m; feeds = feeds; marked = is }) }))
+    feeding-known m n among feeds false is = unmarked-value m feeds.source is
+
+    pub one-sweep : (gate : ℕ) → Contains (block_at blocks place).gates gate → IsCountOfSweeps net (loops_by blocks cut) (are_care_values net care) gate 1
+    one-sweep gate inside =
+        one_sweep_is_exact net blocks (loops_by blocks cut) valid blocks_are (blocks_tell_loops net blocks cut blocks_are cut_is) place within looped (soon place within looped settled_here)
+        (are_care_values net care)
+        (determined-around net care (block_at blocks place).gates (λ v counts n among. own-known n among (is_marked marks n) refl v counts) (λ v counts m n among feeds. feeding-known m n among feeds (is_marked marks m) refl v counts))
+        (bits some.vector) (care-values net care some.vector some.counts.width (care_vector_is net care some.vector some.counts)) gate inside
+
+-- ---- the sweeps of all loops
+
+-- those of a loop, by the least number at Boolean care vectors
+pub least-loop : (net : Parts) (blocks : Blocks) (cut : Cut) (care : CareSet) (place count : ℕ) → (block_at blocks place).looped ≡ true →
+    ((gate : ℕ) → Contains (block_at blocks place).gates gate → IsLeastCount net (loops_by blocks cut) care gate count) → IsLoopCount net blocks cut care place count
+least-loop net blocks cut care place count looped least = record {
+  loops = λ loop gate inside. least-count net (loops_by blocks cut) care gate count (least gate inside);
+  others = λ plain. absurd (true≢false (sym looped ∙ plain));
+}
+
+-- one place more is counted
+pub loop-counts-more : (net : Parts) (blocks : Blocks) (cut : Cut) (care : CareSet) (n count : ℕ) (counts : List ℕ) → AreLoopCounts net blocks cut care n counts → IsLoopCount net blocks cut care n count →
+    AreLoopCounts net blocks cut care (n + 1) (counts ++ count ∷ [])
+loop-counts-more net blocks cut care n count counts before is = record {
+  width = length_push counts count ∙ ap (λ m. m + 1) before.width;
+  each = λ place less. elim (cases_lt place n) [
+    | inl low ↦ subst (IsLoopCount net blocks cut care place) (sym (get_or_append_left counts (count ∷ []) 0 place (let w = before.width in omega (arith, w, low)))) (before.each place low)
+    | inr high ↦
+        let here : n ≡ place = omega (arith, less, high) in
+        subst (IsLoopCount net blocks cut care place) (sym (get_or_push counts count 0 place (let w = before.width in omega (arith, w, here)))) (subst (λ p. IsLoopCount net blocks cut care p count) here is)
+  ];
+}
+
+-- and so all are
+pub loop-counts-all : (net : Parts) (blocks : Blocks) → AreBlocksOf net blocks → (cut : Cut) (care : CareSet) (n : ℕ) (counts : SweepCounts) → n ≡ length blocks.list → AreLoopCounts net blocks cut care n counts.per_block →
+    AreSweepsOnCare net blocks cut care counts
+loop-counts-all net blocks are cut care n counts all at = record {
+  width = at.width ∙ all;
+  loops = λ gate less looped.
+      (at.each (home_of blocks gate) (let h = are.home gate less in omega (arith, h, all))).loops looped gate (home_gate net blocks are gate less);
+  others = λ b plain. elim (cases_lt b n) [
+    | inl within ↦ (at.each b within).others plain
+    | inr past ↦ get_or_past counts.per_block b 0 (let w = at.width in omega (arith, past, w))
+  ];
+}
+
+-- ---- the verdict
+
+pub standing-accepts : (net : Parts) (blocks : Blocks) (cut : Cut) (care : CareSet) (what : Observe) (counts : SweepCounts) (loose : ℕ) → IsNetlist net → MayGoOn net care → IsLooseNumber net care what loose →
+    AreSweepsOnCare net blocks cut care counts → leaves_refusal net care ≡ None → IsAcceptance net blocks cut care what counts loose
+standing-accepts net blocks cut care what counts loose valid begins is sweeps stays = record {
+  accepts = accepts-is net care what valid (refused-later net care what None begins.initial begins.some (ap₂ option_or is.none stays));
+  sweeps = sweeps;
+  loose_is = is.number;
+}
+
+-- a next state that leaves the invariant refuses the netlist
+pub leaving-refuses : (net : Parts) (care : CareSet) (what : Observe) (loose : ℕ) (r : Refusal) → MayGoOn net care → IsLooseNumber net care what loose → leaves_refusal net care ≡ Some r → refusal net care what ≡ Some r
+leaving-refuses net care what loose r begins is leaves = refused-later net care what (Some r) begins.initial begins.some (ap₂ option_or is.none leaves)

@@ -1,0 +1,15 @@
+use Rattle.std.proofs.Common.{◌≡◌, ◌≤◌}
+use Rattle.care_sets.specs.Care.{CareSet}
+use Rattle.refusals.specs.Acceptance.{observed}
+use Rattle.refusals.specs.declared.observe.Observe.{Observe}
+use Rattle.verdict.specs.Loose.{AreUnknownMarks}
+use Rattle.verdict.specs.Observed.{AreMarksOf}
+use Rattle.verdict.proofs.PartLemmas.{AreKnownBelow, loose_below}
+use Rattle.verdict.proofs.unknown.count_loose.Given as goal
+
+abbrev pub invariant-loop-gate : goal.invariant-loop-gate
+invariant-loop-gate l = record {
+  known : (care : CareSet) (what : Observe) → AreMarksOf l.net (observed l.net what) l.observed → AreUnknownMarks l.net care l.unknown → AreKnownBelow l.net care l.observed l.gate;
+  loose : (care : CareSet) → AreUnknownMarks l.net care l.unknown → l.loose ≡ loose_below l.net care l.gate;
+  few : l.loose ≤ l.gate;
+}

@@ -1,0 +1,5 @@
+use Rattle.verdict.specs.Loose.{AreSpread}
+use Rattle.verdict.proofs.unknown.spread.Given as goal
+
+abbrev pub invariant-loop-place : goal.invariant-loop-place
+invariant-loop-place l = AreSpread l.width l.places l.values l.place l.marks.items

@@ -1,0 +1,138 @@
+//! Which gates are unknown on care, where clauses say so, and how many where no observed one is.
+
+ghost use Rattle.std.specs.Prelude.{◌≡◌, ◌<◌, None, length, All, IfOk, IfSome};
+ghost use Rattle.loops.specs.Blocks.{AreBlocksOf};
+ghost use Rattle.care_sets.specs.Binding.{IsCareOf};
+ghost use Rattle.care_sets.specs.Care.{CareSet};
+ghost use Rattle.refusals.specs.Acceptance.{observed as observed_signals};
+ghost use Rattle.refusals.specs.Refusals.{undetermined_refusal};
+ghost use Rattle.clause_decision.specs.Tests.{TellEachUnknown};
+ghost use Rattle.verdict.specs.Determination.{SettleInOneSweep};
+ghost use Rattle.verdict.specs.Loose.{AreAllSuspects, AreSpread, AreUnknownMarks, IsLooseNumber};
+ghost use Rattle.verdict.specs.Observed.{AreMarksOf};
+
+use crate::alone::open_gates;
+use crate::behind::mark_downstream;
+use crate::observing::observed_gates;
+use crate::scopes::{marked_places, scope_of};
+use care_sets::Care;
+use clause_decision::each_unknown;
+use loops::Blocks;
+use netlist::Netlist;
+use refusals::Observe;
+use std::alloc::{AllocError, Global};
+
+/// A mark for each of so many places: those of the list whose value is true.
+fn spread(
+    alloc: Global,
+    width: usize,
+    places: &[u32],
+    values: &[bool],
+) -> Result<Vec<bool>, AllocError>
+    requires places { All (λ n. n < width) places.now }
+    requires values { length values.now ≡ length places.now }
+    ensures { IfOk result (λ marks. AreSpread width places.now values.now (length places.now) marks.items) }
+{
+    let mut marks = vec![in alloc; false; width]?;
+    for place in 0..places.len() {
+        if values[place] {
+            marks[places[place] as usize] = true;
+        }
+    }
+    Ok(marks)
+}
+
+/// For each of these gates whether it is unknown on care, or none where the solver gave up.
+fn ask_gates(
+    alloc: Global,
+    net: &Netlist,
+    blocks: &Blocks,
+    care: &Care,
+    settled: &[bool],
+    gates: &[u32],
+    conflicts: u64,
+) -> Result<Option<Vec<bool>>, AllocError>
+    requires blocks { AreBlocksOf net.now blocks.now }
+    requires care { IsCareOf net.now care.now }
+    requires width { length settled.now ≡ length blocks.now.list }
+    requires settled { SettleInOneSweep net.now blocks.now settled.now }
+    requires gates { All (λ n. n < length net.now.gates) gates.now }
+    ensures { IfOk result (λ told. IfSome told (λ found. TellEachUnknown net.now care.now gates.now found.items)) }
+{
+    let scope = scope_of(alloc, net, blocks, settled, gates)?;
+    each_unknown(alloc, net, care, &scope, gates, conflicts)
+}
+
+/// The gates in loops that aren't settled, and behind them.
+fn all_suspects(
+    alloc: Global,
+    net: &Netlist,
+    blocks: &Blocks,
+    settled: &[bool],
+) -> Result<Vec<bool>, AllocError>
+    requires blocks { AreBlocksOf net.now blocks.now }
+    requires settled { length settled.now ≡ length blocks.now.list }
+    ensures { IfOk result (λ marks. AreAllSuspects net.now blocks.now settled.now marks.items) }
+{
+    let mut marks = open_gates(alloc, blocks, settled)?;
+    mark_downstream(net, blocks, &mut marks);
+    Ok(marks)
+}
+
+/// Marks of the gates that are unknown at some care vector, or none where the solver gave up.
+pub(crate) fn unknown_gates(
+    alloc: Global,
+    net: &Netlist,
+    blocks: &Blocks,
+    care: &Care,
+    settled: &[bool],
+    conflicts: u64,
+) -> Result<Option<Vec<bool>>, AllocError>
+    requires blocks { AreBlocksOf net.now blocks.now }
+    requires care { IsCareOf net.now care.now }
+    requires width { length settled.now ≡ length blocks.now.list }
+    requires settled { SettleInOneSweep net.now blocks.now settled.now }
+    ensures { IfOk result (λ found. IfSome found (λ marks. AreUnknownMarks net.now care.now marks.items)) }
+{
+    let _ = net.gates();
+    let marks = all_suspects(alloc, net, blocks, settled)?;
+    let gates = marked_places(alloc, &marks)?;
+    let Some(found) = ask_gates(alloc, net, blocks, care, settled, &gates, conflicts)? else {
+        return Ok(None);
+    };
+    Ok(Some(spread(alloc, marks.len(), &gates, &found)?))
+}
+
+/// How many gates are marked, or none where an observed one is.
+fn count_loose(net: &Netlist, observed: &[bool], unknown: &[bool]) -> Option<u32>
+    requires observed { length observed.now ≡ length net.now.gates }
+    requires unknown { length unknown.now ≡ length net.now.gates }
+    ensures { (care : CareSet) (what : Observe) → AreMarksOf net.now (observed_signals net.now what) observed.now → AreUnknownMarks net.now care unknown.now →
+        IfSome result (IsLooseNumber net.now care what) }
+{
+    let mut loose = 0;
+    for gate in 0..net.gates() {
+        if unknown[gate as usize] {
+            if observed[gate as usize] {
+                return None;
+            }
+            loose += 1;
+        }
+    }
+    Some(loose)
+}
+
+/// How many gates are unknown on care, or none where an observed one is.
+pub(crate) fn loose_number(
+    alloc: Global,
+    net: &Netlist,
+    care: &Care,
+    observe: Observe,
+    unknown: &[bool],
+) -> Result<Option<u32>, AllocError>
+    requires { AreUnknownMarks net.now care.now unknown.now }
+    ensures { IfOk result (λ found. IfSome found (IsLooseNumber net.now care.now observe)) }
+{
+    let observed = observed_gates(alloc, net, observe)?;
+    Ok(count_loose(net, &observed, unknown))
+}
