@@ -1,15 +1,16 @@
 -- The bounds of a comparison, from those of its parts.
 use Rattle.std.proofs.Common.{◌≡◌, ◌⊎◌, inl, inr, ℕ, zero, suc, ◌+◌, ◌-◌, ◌*◌, ◌<◌, ◌≤◌, Bool, true, false, List, [], ◌∷◌, ◌++◌, length, map, get_or, Option, Some, None, refl, sym, ap, ap₂, subst, ◌∙◌, arith}
-use Rattle.std.specs.Prelude.{IsSomeAnd, option_map}
+use Rattle.std.specs.Prelude.{IsSomeAnd, option_map, Result, Err}
 use Rattle.std.specs.List.{sum_by, range_with_len}
 use Rattle.std.specs.Option.{option_map_or}
 use Rattle.std.proofs.lemmas.Bool.{cases_lt}
 use Rattle.std.proofs.lemmas.List.{length-append, length-map, append-nil}
 use Rattle.std.proofs.lemmas.List.FromFn.{fill_by_all}
-use Rattle.std.proofs.lemmas.List.Sums.{sum_by-append}
+use Rattle.std.proofs.lemmas.List.Sums.{sum_by-append, sum_by-cons}
 use Rattle.std.proofs.lemmas.Nat.{mul-le}
 use Rattle.bdd_store.specs.Arena.{Arena}
 use Rattle.netlist.specs.declared.parts.Gate.{Gate}
+use Rattle.netlist.specs.declared.parts.Latch.{Latch}
 use Rattle.netlist.specs.declared.parts.Parts.{Parts}
 use Rattle.netlist.specs.Netlists.{count, gate_at, no_gate}
 use Rattle.dual_rail.specs.Local.{size}
@@ -20,9 +21,11 @@ use Rattle.care_sets.specs.declared.model.CareModel.{CareModel}
 use Rattle.verdict.specs.Causes.{HasModelOver, HasCoverOver, IsOutOfNodes}
 use Rattle.verdict.specs.Enough.{in_all, enough, IsBelowEnough}
 use Rattle.differences.specs.Comparisons.{IsBelowEnoughFor}
-use Rattle.equal.specs.Bounds.{in_both, enough_for_both, IsWideForBoth, IsBelowEnoughForBoth, IsOutOfNodesForBoth}
-use Rattle.equal.specs.Differences.{output_pairs, latch_pairs, model_of, HaveOneSource}
-use Rattle.equal.specs.Joined.{moved_gates, joined, joined_pairs}
+use Rattle.unroll.specs.Marks.{mark}
+use Rattle.equal.specs.Bounds.{in_both, enough_for_both, IsBelowEnoughForBoth, IsOutOfNodesForBoth}
+use Rattle.equal.specs.Matching.{name_of}
+use Rattle.equal.specs.Differences.{columns_by_name, pair_of, signal_named, source_named, output_pairs, latch_pairs, model_of, HaveOneSource}
+use Rattle.equal.specs.Joined.{moved_gate_by, moved_gates, moved_pair_by, joined, joined_pairs}
 use Rattle.equal.proofs.JoinLemmas.{first_gate, second_gate, length-joined, length-moved}
 
 -- ---- the joined netlist's gates are those of both
@@ -32,14 +35,15 @@ use Rattle.equal.proofs.JoinLemmas.{first_gate, second_gate, length-joined, leng
 
 sum_mapped : {A B : Type 0} (f : B → ℕ) (g : A → B) (xs : List A) → sum_by f (map g xs) ≡ sum_by (λ x. f (g x)) xs
 sum_mapped f g [] = refl
-sum_mapped f g (x ∷ xs) = ap (λ n. f (g x) + n) (sum_mapped f g xs)
+sum_mapped f g (x ∷ xs) =
+    sum_by-cons f (g x) (map g xs) ∙ ap (λ n. f (g x) + n) (sum_mapped f g xs) ∙ sym (sum_by-cons (λ y. f (g y)) x xs)
 
 own_gates : (net : Parts) → map (gate_at net) (range_with_len 0 (length net.gates)) ≡ net.gates
 own_gates net = sym (fill_by_all (gate_at net) net.gates (length net.gates) no_gate refl (λ k l. refl))
 
 effort_moved : (a b : Parts) → sum_by (λ gate. size gate.cover + 1) (moved_gates a b) ≡ effort b
 effort_moved a b =
-    sum_mapped (λ (gate : Gate). size gate.cover + 1) _ (range_with_len 0 (length b.gates))
+    sum_mapped (λ (gate : Gate). size gate.cover + 1) (moved_gate_by (columns_by_name a b) (count a) (mark a) b) (range_with_len 0 (length b.gates))
     ∙ sym (sum_mapped (λ (gate : Gate). size gate.cover + 1) (gate_at b) (range_with_len 0 (length b.gates)))
     ∙ ap (sum_by (λ (gate : Gate). size gate.cover + 1)) (own_gates b)
 
@@ -53,10 +57,11 @@ gates_joined a b = length-joined a b [] ∙ omega arith
 
 length_pairs : (a b : Parts) → length (joined_pairs a b) ≡ length a.outputs + length a.latches
 length_pairs a b =
-    let x = length-map (output_pairs a b ++ latch_pairs a b) _ in
-    length-map (output_pairs a b ++ latch_pairs a b) _
+    length-map (output_pairs a b ++ latch_pairs a b) (moved_pair_by (columns_by_name a b) (count a))
     ∙ length-append (output_pairs a b) (latch_pairs a b)
-    ∙ ap₂ (λ m n. m + n) (length-map a.outputs _) (length-map a.latches _)
+    ∙ ap₂ (λ m n. m + n)
+    (length-map a.outputs (λ s. pair_of s (signal_named b (name_of a s))))
+    (length-map a.latches (λ (latch : Latch). pair_of latch.from (source_named b latch.name)))
 
 -- ---- what is enough
 
@@ -74,10 +79,10 @@ below_three l x y p q r s h m e = omega arith
 
 module _ (a : Parts) (care_a : CareSet) (b : Parts) (care_b : CareSet) (limit : ℕ) where
   pub below_first : IsBelowEnough a care_a limit → IsBelowEnoughForBoth a care_a b care_b limit
-  below_first is = record { below = λ w wide. below_one limit (enough a care_a w) (enough b care_b w) _ _ (is.below w wide.first) }
+  below_first is = record { below = λ v w u wide_a wide_b wide. below_one limit (enough a care_a v) (enough b care_b w) _ _ (is.below v wide_a) }
 
   pub below_second : IsBelowEnough b care_b limit → IsBelowEnoughForBoth a care_a b care_b limit
-  below_second is = record { below = λ w wide. below_two limit (enough a care_a w) (enough b care_b w) _ _ (is.below w wide.second) }
+  below_second is = record { below = λ v w u wide_a wide_b wide. below_two limit (enough a care_a v) (enough b care_b w) _ _ (is.below w wide_b) }
 
   joined_le : (w : ℕ) → enough (joined a b []) care_a w ≤ 16 * w * (in_both (λ net. length net.gates) a care_a b care_b + 2) * (in_both effort a care_a b care_b + columns a + 4)
   joined_le w =
@@ -88,9 +93,9 @@ module _ (a : Parts) (care_a : CareSet) (b : Parts) (care_b : CareSet) (limit : 
 
   pub below_both : IsBelowEnoughFor (order a) (joined a b []) care_a (joined_pairs a b) limit → IsBelowEnoughForBoth a care_a b care_b limit
   below_both is = record {
-    below = λ w wide.
-        below_three limit (enough a care_a w) (enough b care_b w) _ _ (enough (joined a b []) care_a w) (8 * w * length (joined_pairs a b)) (is.below w wide.both) (joined_le w)
-        (ap (λ n. 8 * w * n) (length_pairs a b));
+    below = λ v w u wide_a wide_b wide.
+        below_three limit (enough a care_a v) (enough b care_b w) _ _ (enough (joined a b []) care_a u) (8 * u * length (joined_pairs a b)) (is.below u wide) (joined_le u)
+        (ap (λ n. 8 * u * n) (length_pairs a b));
   }
 
 -- ---- causes
@@ -101,7 +106,7 @@ some_same x y e = cc
 large_model : (m n : Option CareModel) (limit : ℕ) → model_of m ≡ model_of n → IsSomeAnd n (λ model. HasLargeCover model.net limit) → IsSomeAnd m (λ model. HasLargeCover model.net limit)
 large_model None None limit e h = h
 large_model None (Some n) limit e h = cc
-large_model (Some m) None limit e h = h
+large_model (Some m) None limit e h = cc
 large_model (Some m) (Some n) limit e h = subst (λ net. HasLargeCover net limit) (sym (some_same m.net n.net e)) h
 
 model_over : (care_a care_b : CareSet) (limit : ℕ) → HaveOneSource care_a care_b → HasModelOver care_b limit → HasModelOver care_a limit
@@ -147,3 +152,7 @@ out_both d a care_a b limit is = record { most = is.store.most; cause = by is.ca
     by (inl e) = inl e
     by (inr (inl h)) = elim (large_joined a b limit h) [ | inl x ↦ inr (inl x) | inr x ↦ inr (inr (inl x)) ]
     by (inr (inr h)) = inr (inr (inr h))
+
+-- one fault of two results
+pub same_fault : {T U E : Type 0} (x y : E) → ◌≡◌ {A = Result T E} (Err x) (Err y) → ◌≡◌ {A = Result U E} (Err x) (Err y)
+same_fault x y e = let same : x ≡ y = cc in ap (λ z. Err z) same

@@ -1,10 +1,12 @@
 -- The steps of a comparison.
 use Rattle.std.proofs.Common.{◌≡◌, ◌≢◌, ◌⊎◌, inl, inr, ℕ, zero, suc, ◌+◌, ◌-◌, ◌<◌, ◌≤◌, Bool, true, false, not, ◌&&◌, cond, List, [], ◌∷◌, ◌++◌, length, map, get_or, All, Option, Some, None, IfSome, refl, sym, ap, ap₂, subst, ◌∙◌, arith, true≢false}
-use Rattle.std.specs.Prelude.{find, option_map}
+use Rattle.std.specs.Prelude.{find, option_map, Result, IfOk, Ok, Err}
 use Rattle.std.proofs.lemmas.Bool.{cases_lt}
 use Rattle.std.proofs.lemmas.List.Elements.{All-map}
 use Rattle.cyc_base.specs.declared.sig.Sig.{Sig}
 use Rattle.cyc_base.specs.Vectors.{vectors}
+use Rattle.std.specs.Option.{option_map_or}
+use Rattle.netlist.specs.Faults.{first_there}
 use Rattle.netlist.specs.declared.parts.Gate.{Gate}
 use Rattle.netlist.specs.declared.parts.Parts.{Parts}
 use Rattle.netlist.specs.Netlists.{count, signal, IsSignal, IsNetlist}
@@ -20,8 +22,20 @@ use Rattle.refusals.proofs.LawLemmas.{accepted_without_refusal}
 use Rattle.refusals.proofs.ShowingLemmas.{care_vector_decides}
 use Rattle.differences.specs.declared.pairs.Pair.{Pair}
 use Rattle.differences.specs.Pairs.{some_is_apart, least_apart, IsPairOf}
+use Rattle.loops.specs.declared.structure.Blocks.{Blocks}
+use Rattle.loops.specs.declared.structure.Cut.{Cut}
+use Rattle.loops.specs.declared.structure.SweepCounts.{SweepCounts}
+use Rattle.verdict.specs.declared.verdict.Verdict.{Verdict}
+use Rattle.verdict.specs.declared.verdict.Verdict.TheVariants.{Accepted, Refused}
+use Rattle.verdict.specs.Verdicts.{IsAcceptance, IsVerdict}
+use Rattle.refusals.specs.declared.refusal.Refusal.TheVariants.{Undetermined}
+use Rattle.equal.specs.declared.least.Early.{Early}
+use Rattle.equal.specs.declared.least.Early.TheVariants.{Found}
+use Rattle.equal.specs.Early.{IsFound, IsKnownEarly}
 use Rattle.equal.specs.Matching.{unmatched}
-use Rattle.equal.specs.Differences.{columns_by_name, by_name, output_pairs, latch_pairs, differs, difference, HaveOneSource, AreAccepted}
+use Rattle.equal.specs.declared.answer.Answer.{Answer}
+use Rattle.equal.specs.declared.answer.Answer.TheVariants.{Equal, Unmatched, First, Second}
+use Rattle.equal.specs.Differences.{columns_by_name, by_name, output_pairs, latch_pairs, differs, difference, at_difference, comparison_of_accepted, comparison, HaveOneSource, AreAccepted}
 use Rattle.equal.specs.Joined.{moved, moved_by, moved_pair_by, joined, joined_pairs}
 use Rattle.equal.proofs.MatchLemmas.{Match, matched, length-by_name, length-table, care_by_name}
 use Rattle.equal.proofs.JoinLemmas.{IsPairFor, pairs_for, apart_same, moved_within, length-joined}
@@ -84,3 +98,63 @@ module _ (a b : Parts) (valid_a : IsNetlist a) (valid_b : IsNetlist b) (none : u
 pub difference_wide : (a b : Parts) (care : CareSet) (v : List Bool) → difference a b care ≡ Some v → length v ≡ columns a
 difference_wide a b care v is =
     found_wide (columns a) (λ w. is_care_vector a care w && differs a b w) v (sym (find-filter (differs a b) (is_care_vector a care) (vectors (columns a))) ∙ is)
+
+-- ---- the answer, part by part
+
+abbrev told : Option (List ℕ) → Option Refusal → Option Refusal → Answer → Answer
+told name first second last = option_map_or (λ (answer : Answer). answer) (first_there (option_map Unmatched name ∷ option_map First first ∷ option_map Second second ∷ [])) last
+
+module _ (a : Parts) (care_a : CareSet) (b : Parts) (care_b : CareSet) where
+  pub told_unmatched : (name : List ℕ) → Some name ≡ unmatched a b → Unmatched name ≡ comparison a care_a b care_b
+  told_unmatched name is = ap (λ n. told n (refusal a care_a observe.All) (refusal b care_b observe.All) (comparison_of_accepted a b care_a)) is
+
+  module _ (none : unmatched a b ≡ None) where
+    pub told_first : (r : Refusal) → Some r ≡ refusal a care_a observe.All → First r ≡ comparison a care_a b care_b
+    told_first r is = ap₂ (λ n x. told n x (refusal b care_b observe.All) (comparison_of_accepted a b care_a)) (sym none) is
+
+    pub told_second : (r : Refusal) → None ≡ refusal a care_a observe.All → Some r ≡ refusal b care_b observe.All → Second r ≡ comparison a care_a b care_b
+    told_second r first is =
+        ap₂ (λ n x. told n x (Some r) (comparison_of_accepted a b care_a)) (sym none) first
+        ∙ ap (λ y. told (unmatched a b) (refusal a care_a observe.All) y (comparison_of_accepted a b care_a)) is
+
+    pub told_last : None ≡ refusal a care_a observe.All → None ≡ refusal b care_b observe.All → comparison_of_accepted a b care_a ≡ comparison a care_a b care_b
+    told_last first second =
+        ap₂ (λ n x. told n x None (comparison_of_accepted a b care_a)) (sym none) first
+        ∙ ap (λ y. told (unmatched a b) (refusal a care_a observe.All) y (comparison_of_accepted a b care_a)) second
+
+-- at a vector, or nowhere
+pub told_at : (a b : Parts) (care : CareSet) (v : List Bool) → Some v ≡ difference a b care → at_difference a b v ≡ comparison_of_accepted a b care
+told_at a b care v is = ap (λ o. option_map_or (at_difference a b) o Equal) is
+
+pub told_nowhere : (a b : Parts) (care : CareSet) → None ≡ difference a b care → Equal ≡ comparison_of_accepted a b care
+told_nowhere a b care is = ap (λ o. option_map_or (at_difference a b) o Equal) is
+
+-- a netlist that is accepted has no refusal's vector
+pub accepted_early : (net : Parts) (blocks : Blocks) (cut : Cut) (care : CareSet) (counts : SweepCounts) (loose : ℕ) → IsNetlist net → IsAcceptance net blocks cut care observe.All counts loose → IsKnownEarly net care (Found None)
+accepted_early net blocks cut care counts loose valid is s None e = refl
+accepted_early net blocks cut care counts loose valid is s (Some v) e =
+    let none : refusal net care observe.All ≡ None = accepted_none net care valid is.accepts in
+    let here : None ≡ Some (Undetermined v s) = sym none ∙ e in
+    cc
+
+pub accepted_verdict : (v : Verdict) (counts : SweepCounts) (loose : ℕ) → v ≡ Accepted counts loose → (net : Parts) (blocks : Blocks) (cut : Cut) (care : CareSet) → IsNetlist net → IsVerdict net blocks cut care observe.All v →
+    IsKnownEarly net care (Found None)
+accepted_verdict v counts loose is_accepted net blocks cut care valid told =
+    accepted_early net blocks cut care counts loose valid (subst (IsVerdict net blocks cut care observe.All) is_accepted told)
+
+-- and one that is refused has that of its refusal
+pub refused_verdict : {E : Type 0} (result : Result Early E) (v : Verdict) (r : Refusal) → v ≡ Refused r →
+    IfOk result (λ early. (s : Sig) (least : Option (List Bool)) → Some r ≡ option_map (λ v. Undetermined v s) least → IsFound least early) →
+    IfOk result (λ early. (net : Parts) (blocks : Blocks) (cut : Cut) (care : CareSet) → IsNetlist net → IsVerdict net blocks cut care observe.All v → IsKnownEarly net care early)
+refused_verdict (Ok early) v r is_refused known = λ net blocks cut care valid verdict s least e.
+    let here : refusal net care observe.All ≡ Some r = subst (IsVerdict net blocks cut care observe.All) is_refused verdict in
+    known s least (sym here ∙ e)
+refused_verdict (Err x) v r is_refused known = known
+
+-- of the verdict of a decision
+pub early_known : {E F : Type 0} (net : Parts) (blocks : Blocks) (cut : Cut) (care : CareSet) (result : Result Early E) (decision : Result Verdict F) (v : Verdict) → IsNetlist net → decision ≡ Ok v → IfOk decision (IsVerdict net blocks cut care observe.All) →
+    IfOk result (λ early. (net : Parts) (blocks : Blocks) (cut : Cut) (care : CareSet) → IsNetlist net → IsVerdict net blocks cut care observe.All v → IsKnownEarly net care early) →
+    IfOk result (IsKnownEarly net care)
+early_known {F = F} net blocks cut care (Ok early) decision v valid is_v verdict known =
+    known net blocks cut care valid (subst (λ (r : Result Verdict F). IfOk r (IsVerdict net blocks cut care observe.All)) is_v verdict)
+early_known net blocks cut care (Err x) decision v valid is_v verdict known = known

@@ -1,6 +1,6 @@
 -- The netlist that tells whether two netlists differ is refused just where they do, with the least vector of that.
 use Rattle.std.proofs.Common.{◌≡◌, ◌≢◌, inl, inr, ℕ, zero, suc, ◌+◌, ◌-◌, ◌<◌, ◌≤◌, Bool, true, false, not, ◌&&◌, cond, List, [], ◌∷◌, ◌++◌, length, map, get_or, Option, Some, None, refl, sym, ap, ap₂, subst, ◌∙◌, arith, true≢false}
-use Rattle.std.specs.Prelude.{find, filter, is_none, if◌then◌else◌}
+use Rattle.std.specs.Prelude.{find, filter, is_none, if◌then◌else◌, Result, IfOk, Ok, Err}
 use Rattle.std.specs.List.{list_any, range_with_len}
 use Rattle.std.specs.Option.{option_or, option_map, option_and_then}
 use Rattle.std.proofs.lemmas.Bool.{cases_lt}
@@ -30,6 +30,8 @@ use Rattle.refusals.proofs.RefusalLemmas.{known-is_x}
 use Rattle.refusals.proofs.ShowingLemmas.{care_vector_decides}
 use Rattle.differences.specs.declared.pairs.Pair.{Pair}
 use Rattle.equal.specs.Differences.{by_name, differs, difference, AreAccepted}
+use Rattle.equal.specs.declared.least.Early.{Early}
+use Rattle.equal.specs.Early.{IsFound, IsKnownEarly}
 use Rattle.equal.specs.Joined.{joined_pairs, difference_netlist}
 use Rattle.equal.proofs.NameLemmas.{find_nowhere}
 use Rattle.equal.proofs.MatchLemmas.{Match}
@@ -181,3 +183,8 @@ module _ (a b : Parts) (care_a : CareSet) (valid_a : IsNetlist a) (valid_b : IsN
       same : (o : Option Refusal) → option_or None (option_or None (option_or o (option_or None None))) ≡ o
       same None = refl
       same (Some r) = refl
+
+  -- so what refuses it, within a budget, is where they differ
+  pub early_found : {E : Type 0} (result : Result Early E) → IfOk result (IsKnownEarly net care_a) → IfOk result (IsFound (difference a b care_a))
+  early_found (Ok early) known = known (gate_sig net last) (difference a b care_a) refusal_is
+  early_found (Err e) known = known

@@ -1,5 +1,5 @@
 -- The joined netlist is a netlist.
-use Rattle.std.proofs.Common.{◌≡◌, ◌≢◌, inl, inr, ℕ, zero, suc, ◌+◌, ◌-◌, ◌^◌, ◌<◌, ◌≤◌, Bool, true, false, ◌||◌, List, [], ◌∷◌, ◌++◌, length, map, get_or, All, Option, Some, None, IfSome, refl, sym, ap, ap₂, subst, ◌∙◌, arith}
+use Rattle.std.proofs.Common.{◌≡◌, ◌≢◌, ◌⊎◌, inl, inr, ℕ, zero, suc, ◌+◌, ◌-◌, ◌^◌, ◌<◌, ◌≤◌, Bool, true, false, ◌||◌, List, [], ◌∷◌, ◌++◌, length, map, get_or, All, Option, Some, None, IfSome, refl, sym, ap, ap₂, subst, ◌∙◌, arith}
 use Rattle.std.specs.List.{AllByRecursion, IsDistinct, list_any, range_with_len}
 use Rattle.std.specs.Option.{option_map_or}
 use Rattle.std.specs.Str.{bytes_eq}
@@ -43,10 +43,10 @@ names_of gates = map (λ gate. gate.name) gates
 -- ---- names of added gates
 
 -- these names have numbers from k on, and the mark
-record IsCopyName (a : Parts) (k : ℕ) (name : List ℕ) : Type 0 where
-  own : List ℕ
-  fits : IsBlifName own
-  is : name ≡ copy_name (mark a) k own
+pub record IsCopyName (a : Parts) (k : ℕ) (name : List ℕ) : Type 0 where
+  pub own : List ℕ
+  pub fits : IsBlifName own
+  pub is : name ≡ copy_name (mark a) k own
 
 abbrev pub AreNumbered : Parts → ℕ → List (List ℕ) → Type 0
 AreNumbered a k names = (i : ℕ) → i < length names → IsCopyName a (k + i) (get_or names i [])
@@ -151,7 +151,7 @@ telling_numbered a k pairs valid_a (suc i) l =
     length-links : length links ≡ length pairs
     length-links = length-map-range_with_len (link_gate a k pairs) 0 (length pairs)
 
-    by : _ → get_or (names_of rest) i [] ≡ copy_name (mark a) (suc k + i) a.name
+    by : (i < length pairs) ⊎ (length pairs ≤ i) → get_or (names_of rest) i [] ≡ copy_name (mark a) (suc k + i) a.name
     by (inl low) =
         let e = length-links in
         let f = length-append links (telling_gate a k (length pairs) ∷ []) in
@@ -260,6 +260,10 @@ module _ (a b : Parts) (valid_a : IsNetlist a) (valid_b : IsNetlist b) (none : u
   clock_kept None short h = h
   clock_kept (Some clock) short h = record { blif = h.blif; named = h.named; undriven = still_undriven clock.name (omega arith) h.undriven }
 
+  nothing_twice : IsDistinct sig_eq []
+  unfolding IsDistinct
+  nothing_twice = tt
+
   pub joined_is_netlist : IsNetlist net
   joined_is_netlist = record {
     fits = let e = length-net in omega arith;
@@ -274,10 +278,6 @@ module _ (a b : Parts) (valid_a : IsNetlist a) (valid_b : IsNetlist b) (none : u
     clocked = valid_a.clocked;
     clock = clock_kept a.clock (let whole = longest-append (signal_names a) (clock_names a) in omega arith) valid_a.clock;
   }
-    where
-      nothing_twice : IsDistinct sig_eq []
-      unfolding IsDistinct
-      nothing_twice = tt
 
 -- ---- the gates that tell
 

@@ -34,16 +34,13 @@ moved_gate_by table first mark b n = record {
 abbrev pub moved_gates : Parts → Parts → List Gate
 moved_gates a b = map (moved_gate_by (columns_by_name a b) (count a) (mark a) b) (range_with_len 0 (length b.gates))
 
+-- the columns of a netlist, with these gates
+abbrev pub with_gates : Parts → List Gate → Parts
+with_gates a gates = record { name = a.name; inputs = a.inputs; clock = a.clock; latches = a.latches; gates = gates; outputs = [] }
+
 -- the joined netlist, with further gates behind its own
 abbrev pub joined : Parts → Parts → List Gate → Parts
-joined a b more = record {
-  name = a.name;
-  inputs = a.inputs;
-  clock = a.clock;
-  latches = a.latches;
-  gates = a.gates ++ (moved_gates a b ++ more);
-  outputs = [];
-}
+joined a b more = with_gates a (a.gates ++ (moved_gates a b ++ more))
 
 -- pairs of a signal of each netlist, as pairs of the joined netlist
 abbrev pub moved_pair_by : List ℕ → ℕ → Pair → Pair

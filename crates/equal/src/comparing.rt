@@ -71,8 +71,37 @@ fn compare_accepted(
     ensures below { result ≡ Err (EqualFault.NodeLimit limit) → IsBelowEnoughFor (order_of a.now) (joined a.now b.now []) care.now (joined_pairs a.now b.now) limit }
 {
     match least_difference(alloc, d, a, b, care, limit)? {
-        Some(vector) => Ok(at_difference(alloc, a, b, vector)?),
+        Some(vector) => at_difference(alloc, a, b, vector),
         None => Ok(Answer::Equal),
+    }
+}
+
+/// The comparison of two netlists of which the first is accepted.
+fn compare_second(
+    alloc: Global,
+    d: &mut Diagrams,
+    a: &Netlist,
+    b: &Netlist,
+    care_a: &Care,
+    care_b: &Care,
+    limit: u32,
+) -> Result<Answer, EqualFault>
+    requires matched { unmatched a.now b.now ≡ None }
+    requires first { IsCareOf a.now care_a.now }
+    requires second { IsCareOf b.now care_b.now }
+    requires source { HaveOneSource care_a.now care_b.now }
+    requires accepted { None ≡ refusal_by a.now care_a.now Observe.All }
+    requires limit { limit ≤ MAX_NODES }
+    ensures answer { IfOk result (λ answer. answer ≡ comparison a.now care_a.now b.now care_b.now) }
+    ensures fault { IfErr result (λ fault. (fault ≡ EqualFault.Memory) ⊎ (fault ≡ EqualFault.NodeLimit limit)) }
+    ensures cause { result ≡ Err (EqualFault.NodeLimit limit) → IsOutOfNodesForBoth d.new a.now care_a.now b.now limit }
+    ensures below { result ≡ Err (EqualFault.NodeLimit limit) → IsBelowEnoughForBoth a.now care_a.now b.now care_b.now limit }
+{
+    let _ = b.gates();
+    match refusal_of(alloc, d, b, care_b, limit) {
+        Ok(Some(refusal)) => Ok(Answer::Second(refusal)),
+        Ok(None) => compare_accepted(alloc, d, a, b, care_a, limit),
+        Err(fault) => Err(fault),
     }
 }
 
@@ -96,15 +125,11 @@ fn compare_matched(
     ensures cause { result ≡ Err (EqualFault.NodeLimit limit) → IsOutOfNodesForBoth d.new a.now care_a.now b.now limit }
     ensures below { result ≡ Err (EqualFault.NodeLimit limit) → IsBelowEnoughForBoth a.now care_a.now b.now care_b.now limit }
 {
-    let _ = a.gates();
-    let _ = b.gates();
-    if let Some(refusal) = refusal_of(alloc, d, a, care_a, limit)? {
-        return Ok(Answer::First(refusal));
+    match refusal_of(alloc, d, a, care_a, limit) {
+        Ok(Some(refusal)) => Ok(Answer::First(refusal)),
+        Ok(None) => compare_second(alloc, d, a, b, care_a, care_b, limit),
+        Err(fault) => Err(fault),
     }
-    if let Some(refusal) = refusal_of(alloc, d, b, care_b, limit)? {
-        return Ok(Answer::Second(refusal));
-    }
-    compare_accepted(alloc, d, a, b, care_a, limit)
 }
 
 /// Whether two netlists agree, signal for signal of the same name: first that their inputs, latches and outputs have the

@@ -7,6 +7,11 @@ ghost use Rattle.netlist.specs.Netlists.{count, IsNetlist};
 ghost use Rattle.bdd_ops.specs.Least.{IsLayout};
 ghost use Rattle.fixpoint.specs.Orders.{order as order_of};
 ghost use Rattle.care_sets.specs.Care.{columns as column_count};
+ghost use Rattle.netlist.specs.declared.parts.Parts.{Parts as TheParts};
+ghost use Rattle.loops.specs.declared.structure.Blocks.{Blocks as TheBlocks};
+ghost use Rattle.loops.specs.declared.structure.Cut.{Cut as TheCut};
+ghost use Rattle.care_sets.specs.Care.{CareSet};
+ghost use Rattle.verdict.specs.Verdicts.{IsVerdict};
 ghost use Rattle.verdict.specs.Causes.{IsOutOfNodes};
 ghost use Rattle.differences.specs.Pairs.{IsPairOf, least_apart as least_apart_of};
 ghost use Rattle.differences.specs.Comparisons.{IsBelowEnoughFor};
@@ -36,21 +41,12 @@ use verdict::{DecideFault, Observe, Verdict, decide};
 const FEW_NODES: u32 = 200_000;
 
 /// What is found within a budget.
-#[derive(Debug)]
+#[derive(Debug, Drop)]
 pub(crate) enum Early {
     /// The least vector on which they differ, if there is one.
     Found(Option<Bits>),
     /// The budget didn't do.
     Nothing,
-}
-
-impl Drop for Early {
-    fn drop(self) {
-        match self {
-            Early::Found(_) => {}
-            Early::Nothing => {}
-        }
-    }
 }
 
 /// A pair of wires of both netlists as one of the joined netlist.
@@ -186,7 +182,7 @@ fn difference_netlist(
 }
 
 /// The vector of a refusal for an unknown gate.
-fn early_of(alloc: Global, refusal: &Refusal) -> Result<Early, AllocError>
+fn vector_of(alloc: Global, refusal: &Refusal) -> Result<Early, AllocError>
     ensures { IfOk result (λ early. (s : Signal) (least : Option (List Bool)) → Some refusal.now ≡ option_map (λ v. Undetermined v s) least → IsFound least early) }
 {
     match refusal {
@@ -195,6 +191,16 @@ fn early_of(alloc: Global, refusal: &Refusal) -> Result<Early, AllocError>
             Ok(Early::Found(Some(Bits::of(copied))))
         }
         _ => Ok(Early::Nothing),
+    }
+}
+
+/// The vector of a verdict.
+fn early_of(alloc: Global, verdict: &Verdict) -> Result<Early, AllocError>
+    ensures { IfOk result (λ early. (net : TheParts) (blocks : TheBlocks) (cut : TheCut) (care : CareSet) → IsNetlist net → IsVerdict net blocks cut care Observe.All verdict.now → IsKnownEarly net care early) }
+{
+    match verdict {
+        Verdict::Accepted { .. } => Ok(Early::Found(None)),
+        Verdict::Refused(refusal) => vector_of(alloc, refusal),
     }
 }
 
@@ -211,8 +217,7 @@ fn refusal_within(alloc: Global, net: &Netlist, care: &Care, limit: u32) -> Resu
     let cut = find_cut(alloc, net, &blocks)?;
     let decision = decide(alloc, &mut d, net, &blocks, &cut, care, limit, Observe::All);
     match &decision {
-        Ok(Verdict::Accepted { .. }) => Ok(Early::Found(None)),
-        Ok(Verdict::Refused(refusal)) => early_of(alloc, refusal),
+        Ok(verdict) => early_of(alloc, verdict),
         Err(DecideFault::NodeLimit { .. }) => Ok(Early::Nothing),
         Err(DecideFault::Memory) => Err(AllocError),
     }
@@ -305,6 +310,7 @@ fn late_difference(
     ensures cause { result ≡ Err (EqualFault.NodeLimit limit) → IsOutOfNodes d.new (joined a.now b.now []) care.now limit }
     ensures below { result ≡ Err (EqualFault.NodeLimit limit) → IsBelowEnoughFor (order_of a.now) (joined a.now b.now []) care.now (joined_pairs_of a.now b.now) limit }
 {
+    let _ = a.gates();
     let _ = b.gates();
     let net = joined_netlist(alloc, a, b, columns)?;
     let order = order(alloc, a)?;

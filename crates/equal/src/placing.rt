@@ -1,6 +1,6 @@
 //! Where two netlists differ at a vector.
 
-ghost use Rattle.std.specs.Prelude.{◌≡◌, false, Bool, List, length, map, position, All, IfOk, slice_index_or};
+ghost use Rattle.std.specs.Prelude.{◌≡◌, false, Bool, List, length, map, position, All, IfOk, slice_index_or, IfErr};
 ghost use Rattle.cyc_base.specs.Values.{bits};
 ghost use Rattle.netlist.specs.Fixpoint.{wire, fix};
 ghost use Rattle.care_sets.specs.Care.{columns};
@@ -8,6 +8,7 @@ ghost use Rattle.equal.specs.Differences.{are_different as are_other, by_name as
 ghost use Rattle.equal.specs.Places.{answer_at};
 
 use crate::answer::Answer;
+use crate::fault::EqualFault;
 use crate::pairs::{find_columns, latch_pairs, output_pairs};
 use cyc_base::{Bits, Sig, Trit};
 use differences::Pair;
@@ -197,9 +198,10 @@ pub(crate) fn at_difference(
     a: &Netlist,
     b: &Netlist,
     vector: Bits,
-) -> Result<Answer, AllocError>
+) -> Result<Answer, EqualFault>
     requires { length vector ≡ columns a.now }
-    ensures { IfOk result (λ answer. answer ≡ at_difference_of a.now b.now vector) }
+    ensures answer { IfOk result (λ answer. answer ≡ at_difference_of a.now b.now vector) }
+    ensures fault { IfErr result (λ fault. fault ≡ EqualFault.Memory) }
 {
     let place = find_place(alloc, a, b, vector.items())?;
     match place {
