@@ -1,8 +1,7 @@
 -- The bounds of a comparison, from those of its parts.
-use Rattle.std.proofs.Common.{◌≡◌, ◌⊎◌, inl, inr, ℕ, zero, suc, ◌+◌, ◌-◌, ◌*◌, ◌<◌, ◌≤◌, Bool, true, false, List, [], ◌∷◌, ◌++◌, length, map, get_or, Option, Some, None, refl, sym, ap, ap₂, subst, ◌∙◌, arith}
-use Rattle.std.specs.Prelude.{IsSomeAnd, option_map, Result, Err}
+use Rattle.std.proofs.Common.{◌≡◌, ◌⊎◌, inl, inr, ℕ, ◌+◌, ◌-◌, ◌*◌, ◌<◌, ◌≤◌, List, [], ◌∷◌, ◌++◌, length, map, Option, Some, None, refl, sym, ap, ap₂, subst, ◌∙◌, arith}
+use Rattle.std.specs.Prelude.{IsSomeAnd, Result, Err}
 use Rattle.std.specs.List.{sum_by, range_with_len}
-use Rattle.std.specs.Option.{option_map_or}
 use Rattle.std.proofs.lemmas.Bool.{cases_lt}
 use Rattle.std.proofs.lemmas.List.{length-append, length-map, append-nil}
 use Rattle.std.proofs.lemmas.List.FromFn.{fill_by_all}
@@ -22,17 +21,14 @@ use Rattle.verdict.specs.Causes.{HasModelOver, HasCoverOver, IsOutOfNodes}
 use Rattle.verdict.specs.Enough.{in_all, enough, IsBelowEnough}
 use Rattle.differences.specs.Comparisons.{IsBelowEnoughFor}
 use Rattle.unroll.specs.Marks.{mark}
-use Rattle.equal.specs.Bounds.{in_both, enough_for_both, IsBelowEnoughForBoth, IsOutOfNodesForBoth}
+use Rattle.equal.specs.Bounds.{in_both, IsBelowEnoughForBoth, IsOutOfNodesForBoth}
 use Rattle.equal.specs.Matching.{name_of, unmatched}
 use Rattle.equal.specs.Differences.{columns_by_name, pair_of, signal_named, source_named, output_pairs, latch_pairs, model_of, HaveOneSource}
 use Rattle.equal.specs.Joined.{moved_gate_by, moved_gates, moved_pair_by, joined, joined_pairs}
 use Rattle.equal.proofs.BothLemmas.{both_are_wide}
-use Rattle.equal.proofs.JoinLemmas.{first_gate, second_gate, length-joined, length-moved}
+use Rattle.equal.proofs.JoinLemmas.{first_gate, second_gate, length-joined}
 
 -- ---- the joined netlist's gates are those of both
-
-
-
 
 sum_mapped : {A B : Type 0} (f : B → ℕ) (g : A → B) (xs : List A) → sum_by f (map g xs) ≡ sum_by (λ x. f (g x)) xs
 sum_mapped f g [] = refl
@@ -151,7 +147,7 @@ out_both d a care_a b limit is = record { most = is.store.most; cause = by is.ca
   where
     by : (length d.entries ≡ limit) ⊎ HasCoverOver (joined a b []) care_a limit → (length d.entries ≡ limit) ⊎ (HasLargeCover a limit ⊎ (HasLargeCover b limit ⊎ HasModelOver care_a limit))
     by (inl e) = inl e
-    by (inr (inl h)) = elim (large_joined a b limit h) [ | inl x ↦ inr (inl x) | inr x ↦ inr (inr (inl x)) ]
+    by (inr (inl h)) = elim (large_joined a b limit h) [ inl x ↦ inr (inl x) | inr x ↦ inr (inr (inl x)) ]
     by (inr (inr h)) = inr (inr (inr h))
 
 -- one fault of two results

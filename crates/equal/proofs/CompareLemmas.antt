@@ -1,7 +1,6 @@
 -- The steps of a comparison.
-use Rattle.std.proofs.Common.{◌≡◌, ◌≢◌, ◌⊎◌, inl, inr, ℕ, zero, suc, ◌+◌, ◌-◌, ◌<◌, ◌≤◌, Bool, true, false, not, ◌&&◌, cond, List, [], ◌∷◌, ◌++◌, length, map, get_or, All, Option, Some, None, IfSome, refl, sym, ap, ap₂, subst, ◌∙◌, arith, true≢false}
-use Rattle.std.specs.Prelude.{find, option_map, Result, IfOk, Ok, Err}
-use Rattle.std.proofs.lemmas.Bool.{cases_lt}
+use Rattle.std.proofs.Common.{◌≡◌, ℕ, ◌+◌, ◌-◌, ◌≤◌, Bool, ◌&&◌, List, [], ◌∷◌, ◌++◌, length, All, Option, Some, None, IfSome, refl, sym, ap, ap₂, subst, ◌∙◌, arith}
+use Rattle.std.specs.Prelude.{option_map, Result, IfOk, Ok, Err}
 use Rattle.std.proofs.lemmas.List.Elements.{All-map}
 use Rattle.cyc_base.specs.declared.sig.Sig.{Sig}
 use Rattle.cyc_base.specs.Vectors.{vectors}
@@ -9,18 +8,17 @@ use Rattle.std.specs.Option.{option_map_or}
 use Rattle.netlist.specs.Faults.{first_there}
 use Rattle.netlist.specs.declared.parts.Gate.{Gate}
 use Rattle.netlist.specs.declared.parts.Parts.{Parts}
-use Rattle.netlist.specs.Netlists.{count, signal, IsSignal, IsNetlist}
+use Rattle.netlist.specs.Netlists.{count, IsNetlist}
 use Rattle.care_sets.specs.Binding.{IsBoundTo, IsCareOf}
 use Rattle.care_sets.specs.declared.model.CareModel.{CareModel}
-use Rattle.care_sets.specs.Care.{CareSet, columns, is_care_vector, IsCareVector}
+use Rattle.care_sets.specs.Care.{CareSet, columns, is_care_vector}
 use Rattle.refusals.specs.declared.observe.Observe.TheVariants as observe
 use Rattle.refusals.specs.declared.refusal.Refusal.{Refusal}
-use Rattle.refusals.specs.Acceptance.{Accepts, gate_sigs, AreDetermined}
-use Rattle.refusals.specs.Refusals.{care_vectors, refusal}
+use Rattle.refusals.specs.Acceptance.{Accepts}
+use Rattle.refusals.specs.Refusals.{refusal}
 use Rattle.refusals.proofs.FirstLemmas.{find-filter, found_wide}
 use Rattle.refusals.proofs.LawLemmas.{accepted_without_refusal}
 use Rattle.refusals.proofs.ShowingLemmas.{care_vector_decides}
-use Rattle.differences.specs.declared.pairs.Pair.{Pair}
 use Rattle.differences.specs.Pairs.{some_is_apart, least_apart, IsPairOf}
 use Rattle.loops.specs.declared.structure.Blocks.{Blocks}
 use Rattle.loops.specs.declared.structure.Cut.{Cut}
@@ -36,9 +34,9 @@ use Rattle.equal.specs.Matching.{unmatched}
 use Rattle.equal.specs.declared.answer.Answer.{Answer}
 use Rattle.equal.specs.declared.answer.Answer.TheVariants.{Equal, Unmatched, First, Second}
 use Rattle.equal.specs.Differences.{columns_by_name, by_name, output_pairs, latch_pairs, differs, difference, at_difference, comparison_of_accepted, comparison, HaveOneSource, AreAccepted}
-use Rattle.equal.specs.Joined.{moved, moved_by, moved_pair_by, joined, joined_pairs}
-use Rattle.equal.proofs.MatchLemmas.{Match, matched, length-by_name, length-table, care_by_name}
-use Rattle.equal.proofs.JoinLemmas.{IsPairFor, pairs_for, apart_same, moved_within, length-joined}
+use Rattle.equal.specs.Joined.{moved_pair_by, joined, joined_pairs}
+use Rattle.equal.proofs.MatchLemmas.{matched, length-by_name, length-table, care_by_name}
+use Rattle.equal.proofs.JoinLemmas.{pairs_for, apart_same, moved_within, length-joined}
 use Rattle.equal.proofs.DifferenceLemmas.{agree_on_care, known_a}
 
 -- what decide accepts, nothing refuses

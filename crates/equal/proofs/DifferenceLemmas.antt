@@ -1,10 +1,9 @@
 -- The netlist that tells whether two netlists differ is refused just where they do, with the least vector of that.
-use Rattle.std.proofs.Common.{◌≡◌, ◌≢◌, inl, inr, ℕ, zero, suc, ◌+◌, ◌-◌, ◌<◌, ◌≤◌, Bool, true, false, not, ◌&&◌, cond, List, [], ◌∷◌, ◌++◌, length, map, get_or, Option, Some, None, refl, sym, ap, ap₂, subst, ◌∙◌, arith, true≢false}
-use Rattle.std.specs.Prelude.{find, filter, is_none, if◌then◌else◌, Result, IfOk, Ok, Err}
+use Rattle.std.proofs.Common.{◌≡◌, ◌≢◌, inl, inr, ℕ, zero, suc, ◌+◌, ◌-◌, ◌<◌, Bool, true, false, not, ◌&&◌, cond, List, [], ◌∷◌, length, map, get_or, Option, Some, None, refl, sym, ap, ap₂, subst, ◌∙◌, arith}
+use Rattle.std.specs.Prelude.{find, is_none, Result, IfOk, Ok, Err}
 use Rattle.std.specs.List.{list_any, range_with_len}
 use Rattle.std.specs.Option.{option_or, option_map, option_and_then}
 use Rattle.std.proofs.lemmas.Bool.{cases_lt}
-use Rattle.std.proofs.lemmas.List.{length-map}
 use Rattle.std.proofs.lemmas.List.Folds.{find-append}
 use Rattle.std.proofs.lemmas.List.FromFn.{map-range_with_len_more, length-map-range_with_len, get_or-map-range_with_len}
 use Rattle.cyc_base.specs.declared.sig.Sig.{Sig}
@@ -16,13 +15,12 @@ use Rattle.netlist.specs.declared.parts.Parts.{Parts}
 use Rattle.netlist.specs.Netlists.{gate_sig, IsNetlist}
 use Rattle.netlist.specs.Fixpoint.{wire, fix, next}
 use Rattle.loops.proofs.Reading.{map_agree}
-use Rattle.care_sets.specs.Binding.{IsCareOf}
 use Rattle.care_sets.specs.Care.{CareSet, columns, is_one, is_in_invariant, is_care_vector, IsCareVector}
 use Rattle.refusals.specs.declared.observe.Observe.TheVariants as observe
 use Rattle.refusals.specs.declared.refusal.Refusal.{Refusal}
-use Rattle.refusals.specs.declared.refusal.Refusal.TheVariants.{Initial, EmptyCare, Undetermined, Leaves}
-use Rattle.refusals.specs.Acceptance.{Accepts, gate_sigs, AreDetermined}
-use Rattle.refusals.specs.Refusals.{care_vectors, is_undetermined, observed_gates, first_failing, next_state, leaves, initial_refusal, empty_refusal, undetermined_refusal, leaves_refusal, refusal}
+use Rattle.refusals.specs.declared.refusal.Refusal.TheVariants.{Undetermined, Leaves}
+use Rattle.refusals.specs.Acceptance.{gate_sigs, AreDetermined}
+use Rattle.refusals.specs.Refusals.{care_vectors, is_undetermined, first_failing, next_state, leaves, initial_refusal, empty_refusal, undetermined_refusal, leaves_refusal, refusal}
 use Rattle.refusals.proofs.FirstLemmas.{find-map, find-filter, any-find}
 use Rattle.refusals.proofs.LawLemmas.{accepted_without_refusal}
 use Rattle.refusals.proofs.ObservedLemmas.{all_observes_gates}
@@ -36,7 +34,7 @@ use Rattle.equal.specs.Joined.{joined_pairs, difference_netlist}
 use Rattle.equal.proofs.NameLemmas.{find_nowhere}
 use Rattle.equal.proofs.MatchLemmas.{Match}
 use Rattle.equal.proofs.JoinLemmas.{fix_first, apart_same, pair_known, gate_known}
-use Rattle.equal.proofs.TellingLemmas.{told, teller, place, length-net, link_known, teller_is}
+use Rattle.equal.proofs.TellingLemmas.{told, place, length-net, link_known, teller_is}
 
 -- ---- tests that agree on all vectors that count
 

@@ -1,12 +1,11 @@
 -- Both netlists stand in the joined one, each with the fixpoint that it has alone.
-use Rattle.std.proofs.Common.{◌≡◌, ◌≢◌, inl, inr, ℕ, zero, suc, ◌+◌, ◌-◌, ◌<◌, ◌≤◌, nat_lt, Bool, true, false, not, ◌||◌, cond, if◌then◌else◌, List, [], ◌∷◌, ◌++◌, length, map, get_or, slice_get, position, All, Option, Some, None, refl, sym, ap, ap₂, subst, ◌∙◌, arith, true≢false}
-use Rattle.std.specs.Prelude.{find}
-use Rattle.std.specs.List.{list_any, range_with_len, position_or_len}
+use Rattle.std.proofs.Common.{◌≡◌, ◌≢◌, inl, inr, ℕ, ◌+◌, ◌-◌, ◌<◌, ◌≤◌, Bool, true, false, if◌then◌else◌, List, [], ◌∷◌, ◌++◌, length, get_or, slice_get, position, All, Option, Some, None, refl, sym, ap, ap₂, subst, ◌∙◌, arith}
+use Rattle.std.specs.List.{list_any, position_or_len}
 use Rattle.std.specs.Option.{option_map_or}
 use Rattle.std.specs.Str.{bytes_eq}
 use Rattle.std.proofs.lemmas.Bool.{cases_lt, lt-ltb, le-ltb}
-use Rattle.std.proofs.lemmas.List.{length-append, length-map, map-id, get_or-map, get_or_append_left, get_or-append-add, get_or_default}
-use Rattle.std.proofs.lemmas.List.Elements.{All-append, All-map, All-get_or}
+use Rattle.std.proofs.lemmas.List.{length-append, length-map, map-id, get_or-map, get_or_append_left, get_or-append-add}
+use Rattle.std.proofs.lemmas.List.Elements.{All-append, All-map}
 use Rattle.std.proofs.lemmas.List.Folds.{find_at}
 use Rattle.std.proofs.lemmas.List.FromFn.{length-map-range_with_len, get_or-map-range_with_len}
 use Rattle.std.proofs.lemmas.List.Quantifiers.{position-Some}
@@ -19,19 +18,19 @@ use Rattle.netlist.specs.declared.parts.Gate.{Gate}
 use Rattle.netlist.specs.declared.parts.Latch.{Latch}
 use Rattle.netlist.specs.declared.parts.Parts.{Parts}
 use Rattle.netlist.specs.Netlists.{count, signal, gate_at, no_gate, gate_sig, signal_names, IsSignal, IsNetlist}
-use Rattle.netlist.specs.Fixpoint.{wire, fix, fix_gates}
+use Rattle.netlist.specs.Fixpoint.{wire, fix}
 use Rattle.refusals.specs.Acceptance.{gate_sigs, AreDetermined}
 use Rattle.refusals.proofs.RefusalLemmas.{column_known, gate_sig_at, length-gate_sigs}
 use Rattle.care_sets.specs.Care.{columns}
 use Rattle.unroll.specs.Marks.{mark}
 use Rattle.differences.specs.declared.pairs.Pair.{Pair}
-use Rattle.differences.specs.Pairs.{are_apart, is_apart_at, some_is_apart, IsPairOf}
-use Rattle.equal.specs.Matching.{name_of, init_eq, latch_named, has_latch, is_output, output_names}
+use Rattle.differences.specs.Pairs.{are_apart, is_apart_at, some_is_apart}
+use Rattle.equal.specs.Matching.{name_of, init_eq, latch_named, has_latch, is_output}
 use Rattle.equal.specs.Differences.{number_or_0, columns_by_name, by_name, signal_named, source_named, pair_of, output_pairs, latch_pairs, are_different, differs_at, differs}
-use Rattle.equal.specs.Joined.{moved_by, moved, moved_gate_by, moved_gates, moved_pair_by, joined, joined_pairs}
+use Rattle.equal.specs.Joined.{moved, moved_gate_by, moved_gates, moved_pair_by, joined, joined_pairs}
 use Rattle.equal.proofs.NameLemmas.{any_mapped, any_agree, length-names}
 use Rattle.equal.proofs.PartLemmas.{IsPartOf, fix_at}
-use Rattle.equal.proofs.MatchLemmas.{Match, table_at, table_within, length-table, length-by_name, by_name_at, bits_at}
+use Rattle.equal.proofs.MatchLemmas.{Match, table_within, length-table, length-by_name, by_name_at, bits_at}
 
 -- ---- where signals stand
 
@@ -210,8 +209,7 @@ module _ (a b : Parts) (more : List Gate) (valid_a : IsNetlist a) (valid_b : IsN
       let is = pairs_for a b valid_a valid_b match_ k d less in
       let here : IsSignal a (get_or pairs k d).here = is.here in
       let there : IsSignal b (get_or pairs k d).there = is.there in
-      let at : get_or (joined_pairs a b) k d ≡ moved_pair_by (columns_by_name a b) (count a) (get_or pairs k d) = get_or-map (moved_pair_by (columns_by_name a b) (count a)) pairs k d d less in
-      (
+      let at : get_or (joined_pairs a b) k d ≡ moved_pair_by (columns_by_name a b) (count a) (get_or pairs k d) = get_or-map (moved_pair_by (columns_by_name a b) (count a)) pairs k d d less in (
         subst (λ (p : Pair). wire (fix (joined a b more) (bits v)) p.here ≢ X) (sym at)
             (λ e. known_here (get_or pairs k d).here here (sym (fix_first a b more valid_a valid_b match_ v wide (get_or pairs k d).here here) ∙ e)),
         subst (λ (p : Pair). wire (fix (joined a b more) (bits v)) p.there ≢ X) (sym at)

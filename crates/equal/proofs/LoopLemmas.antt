@@ -1,5 +1,5 @@
 -- Steps of loops over outputs.
-use Rattle.std.proofs.Common.{◌≡◌, ◌≢◌, inl, inr, ℕ, zero, suc, ◌+◌, ◌<◌, Bool, true, false, not, if◌then◌else◌, List, [], ◌∷◌, ◌++◌, length, map, take, get_or, slice_get, Option, Some, None, refl, sym, ap, ap₂, subst, ◌∙◌, arith, true≢false}
+use Rattle.std.proofs.Common.{◌≡◌, ◌≢◌, inl, inr, ℕ, ◌+◌, ◌<◌, true, false, not, if◌then◌else◌, List, [], ◌∷◌, ◌++◌, length, map, take, get_or, slice_get, Some, None, sym, ap, ap₂, subst, ◌∙◌, arith}
 use Rattle.std.specs.Prelude.{find}
 use Rattle.std.specs.Bool.{Decides}
 use Rattle.std.specs.List.{list_any, AllPairs, IsDistinct}
@@ -9,7 +9,7 @@ use Rattle.std.proofs.lemmas.Map.Made.{AllPairs-from_IsDistinct}
 use Rattle.std.proofs.lemmas.Option.{get_or_from_slice_get, slice_get-get_or}
 use Rattle.cyc_base.specs.declared.sig.Sig.{Sig}
 use Rattle.netlist.specs.declared.parts.Parts.{Parts}
-use Rattle.netlist.specs.Netlists.{signal, sig_eq, signal_names, IsNetlist}
+use Rattle.netlist.specs.Netlists.{signal, sig_eq, signal_names}
 use Rattle.differences.specs.declared.pairs.Pair.{Pair}
 use Rattle.equal.specs.Matching.{name_of, is_output, output_names}
 use Rattle.equal.specs.Differences.{pair_of, signal_named}
@@ -30,7 +30,7 @@ sig_decides : (a b : Sig) → Decides (sig_eq a b) (a ≡ b)
 sig_decides a b = (λ e. ap signal (eqb-true a.0 b.0 e), λ e. eq-eqb a.0 b.0 (ap (λ (s : Sig). s.0) e))
 
 not_same : (a b : Sig) → a ≢ b → sig_eq a b ≡ false
-not_same a b other = elim (cases_Bool (sig_eq a b)) [ | inl e ↦ absurd (other ((sig_decides a b).0 e)) | inr e ↦ e ]
+not_same a b other = elim (cases_Bool (sig_eq a b)) [ inl e ↦ absurd (other ((sig_decides a b).0 e)) | inr e ↦ e ]
 
 -- one more output in the set of outputs
 pub outputs_more : (own : List Sig) (i : ℕ) (s d : Sig) (old new : List Sig) → IsDistinct sig_eq own → i < length own → s ≡ get_or own i d → old ≡ take i own →

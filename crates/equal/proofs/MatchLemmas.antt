@@ -1,31 +1,30 @@
 -- What it means that all names match, and vectors by name.
-use Rattle.std.proofs.Common.{◌≡◌, inl, inr, ℕ, zero, suc, ◌+◌, ◌-◌, ◌<◌, ◌≤◌, Bool, true, false, not, ◌&&◌, ◌||◌, cond, List, [], ◌∷◌, ◌++◌, length, map, take, drop, get_or, slice_get, position, Option, Some, None, IfSome, refl, sym, ap, ap₂, subst, ◌∙◌, arith, true≢false}
+use Rattle.std.proofs.Common.{◌≡◌, inl, inr, ℕ, zero, suc, ◌+◌, ◌-◌, ◌<◌, ◌≤◌, Bool, true, false, not, ◌&&◌, ◌||◌, cond, List, [], ◌∷◌, ◌++◌, length, map, take, drop, get_or, slice_get, Option, Some, None, IfSome, refl, sym, ap, ap₂, subst, ◌∙◌, arith, true≢false}
 use Rattle.std.specs.Prelude.{find, option_map}
 use Rattle.std.specs.List.{list_any}
 use Rattle.std.specs.Option.{option_or, option_map_or}
 use Rattle.std.specs.Str.{bytes_eq}
 use Rattle.std.proofs.lemmas.Bool.{cases_lt}
-use Rattle.std.proofs.lemmas.List.{append_assoc, map-append, length-append, length-map, get_or-map, get_or-drop, get_or_append_left, get_or-append-add, get_or_default}
+use Rattle.std.proofs.lemmas.List.{append_assoc, map-append, length-append, length-map, get_or-map, get_or-drop, get_or_append_left, get_or-append-add}
 use Rattle.std.proofs.lemmas.List.Folds.{list_any-append}
 use Rattle.std.proofs.lemmas.List.Quantifiers.{position-Some}
 use Rattle.std.proofs.lemmas.Option.{get_or_from_slice_get}
 use Rattle.std.proofs.lemmas.Slice.Eq.{bytes_eq-Decides}
 use Rattle.cyc_base.specs.declared.sig.Sig.{Sig}
-use Rattle.cyc_base.specs.declared.trit.Trit.{Trit}
 use Rattle.cyc_base.specs.declared.trit.Trit.TheVariants.{X}
 use Rattle.cyc_base.specs.Values.{bit, bits}
 use Rattle.netlist.specs.declared.parts.Latch.{Latch}
 use Rattle.netlist.specs.declared.parts.Parts.{Parts}
-use Rattle.netlist.specs.Netlists.{count, signal, signal_names, IsSignal, IsNetlist}
+use Rattle.netlist.specs.Netlists.{signal_names}
 use Rattle.netlist.specs.Fixpoint.{outs}
 use Rattle.netlist.proofs.Decisions.{none_found}
-use Rattle.care_sets.specs.Binding.{column_of, AreColumnsOf, IsBoundTo, IsCareOf}
-use Rattle.care_sets.specs.Care.{CareSet, columns, column_names, state_of, inputs_at, is_one, holds_at, is_allowed, is_in_invariant, is_care_vector, IsCareVector}
+use Rattle.care_sets.specs.Binding.{column_of, IsBoundTo, IsCareOf}
+use Rattle.care_sets.specs.Care.{CareSet, columns, column_names, inputs_at, is_one, holds_at, is_care_vector}
 use Rattle.care_sets.specs.declared.model.CareModel.{CareModel}
 use Rattle.unroll.proofs.Kept.{taken_first}
-use Rattle.equal.specs.Matching.{name_of, latch_named, is_input, is_latch, has_latch, is_output, output_names, latch_name, unmatched}
-use Rattle.equal.specs.Differences.{number_or_0, column_named, columns_by_name, by_name, signal_named, source_named, model_of, HaveOneSource}
-use Rattle.equal.proofs.NameLemmas.{nowhere_any, nowhere_find, any_nowhere, length-names}
+use Rattle.equal.specs.Matching.{name_of, is_input, is_latch, has_latch, is_output, output_names, latch_name, unmatched}
+use Rattle.equal.specs.Differences.{number_or_0, column_named, columns_by_name, by_name, model_of, HaveOneSource}
+use Rattle.equal.proofs.NameLemmas.{nowhere_find, any_nowhere}
 
 -- ---- all names match
 

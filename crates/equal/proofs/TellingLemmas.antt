@@ -1,5 +1,5 @@
 -- The gates that tell whether some pair differs.
-use Rattle.std.proofs.Common.{◌≡◌, ◌≢◌, ℕ, zero, suc, ◌+◌, ◌-◌, ◌<◌, ◌≤◌, Bool, true, false, not, ◌||◌, List, [], ◌∷◌, ◌++◌, length, map, take, get_or, refl, sym, ap, ap₂, subst, ◌∙◌, arith}
+use Rattle.std.proofs.Common.{◌≡◌, ◌≢◌, ℕ, zero, suc, ◌+◌, ◌-◌, ◌<◌, ◌≤◌, Bool, true, false, ◌||◌, List, [], ◌∷◌, ◌++◌, length, map, take, get_or, refl, sym, ap, ap₂, subst, ◌∙◌, arith}
 use Rattle.std.specs.List.{list_any, range_with_len}
 use Rattle.std.proofs.lemmas.List.{length-append, length-map, get_or_append_left, get_or-append-add, get_or-append_right, get_or_at, get_or-replicate, take_all}
 use Rattle.std.proofs.lemmas.List.FromFn.{length-map-range_with_len, get_or-map-range_with_len}
@@ -19,7 +19,7 @@ use Rattle.care_sets.specs.Care.{columns}
 use Rattle.refusals.specs.Refusals.{is_x}
 use Rattle.differences.specs.declared.pairs.Pair.{Pair}
 use Rattle.differences.specs.Pairs.{are_apart, is_apart_at, some_is_apart}
-use Rattle.equal.specs.Joined.{moved_gates, joined, never_cover, link_cover, both_cover, no_pair, never_gate, link_gate, telling_gate, telling_gates}
+use Rattle.equal.specs.Joined.{moved_gates, joined, never_cover, link_cover, both_cover, no_pair, link_gate, telling_gate, telling_gates}
 use Rattle.equal.proofs.JoinLemmas.{length-moved, length-joined}
 
 -- ---- the covers

@@ -1,11 +1,11 @@
 -- The joined netlist is a netlist.
-use Rattle.std.proofs.Common.{◌≡◌, ◌≢◌, ◌⊎◌, inl, inr, ℕ, zero, suc, ◌+◌, ◌-◌, ◌^◌, ◌<◌, ◌≤◌, Bool, true, false, ◌||◌, List, [], ◌∷◌, ◌++◌, length, map, get_or, All, Option, Some, None, IfSome, refl, sym, ap, ap₂, subst, ◌∙◌, arith}
+use Rattle.std.proofs.Common.{◌≡◌, ◌⊎◌, inl, inr, ℕ, zero, suc, ◌+◌, ◌-◌, ◌<◌, ◌≤◌, false, List, [], ◌∷◌, ◌++◌, length, map, get_or, All, Option, Some, None, IfSome, refl, sym, ap, subst, ◌∙◌, arith}
 use Rattle.std.specs.List.{AllByRecursion, IsDistinct, list_any, range_with_len}
 use Rattle.std.specs.Option.{option_map_or}
 use Rattle.std.specs.Str.{bytes_eq}
 use Rattle.std.proofs.lemmas.Bool.{cases_lt, or_parts, or_from}
 use Rattle.std.proofs.lemmas.List.{append_assoc, map-append, length-append, length-map, get_or-map, get_or_append_left, get_or-append_right}
-use Rattle.std.proofs.lemmas.List.Elements.{All-append, All-map, All-weaker}
+use Rattle.std.proofs.lemmas.List.Elements.{All-append, All-map}
 use Rattle.std.proofs.lemmas.List.Folds.{list_any-append}
 use Rattle.std.proofs.lemmas.List.FromFn.{length-range_with_len, get_or-range_with_len, length-map-range_with_len, get_or-map-range_with_len}
 use Rattle.cyc_base.specs.Names.{IsBlifName}
@@ -15,17 +15,16 @@ use Rattle.netlist.specs.declared.parts.Gate.{Gate}
 use Rattle.netlist.specs.declared.parts.Latch.{Latch}
 use Rattle.netlist.specs.declared.parts.Parts.{Parts}
 use Rattle.netlist.specs.Netlists.{count, signal, sig_eq, gate_at, no_gate, signal_names, driven_names, is_driven, IsSignal, IsClockName, IsNetlist}
-use Rattle.care_sets.specs.Care.{columns}
-use Rattle.unroll.specs.Marks.{longest_run, longest_run_of, longest_run_in, clock_names, mark, tildes, copy_name}
+use Rattle.unroll.specs.Marks.{longest_run, longest_run_of, longest_run_in, clock_names, mark, copy_name}
 use Rattle.unroll.proofs.MarkLemmas.{longest-append}
 use Rattle.unroll.proofs.NameLemmas.{not_equal, copy_is_long, copy_names_tell, copy_name_fits, all_short, distinct_append, short_from_long, short_is_none}
 use Rattle.differences.specs.declared.pairs.Pair.{Pair}
 use Rattle.differences.specs.Pairs.{IsPairOf}
 use Rattle.equal.specs.Matching.{unmatched}
-use Rattle.equal.specs.Differences.{columns_by_name, output_pairs, latch_pairs}
-use Rattle.equal.specs.Joined.{moved, moved_by, moved_gate_by, moved_gates, joined, joined_pairs, no_pair, never_gate, link_gate, telling_gate, telling_gates, difference_netlist}
+use Rattle.equal.specs.Differences.{columns_by_name}
+use Rattle.equal.specs.Joined.{moved, moved_gate_by, moved_gates, joined, joined_pairs, no_pair, link_gate, telling_gate, telling_gates, difference_netlist}
 use Rattle.equal.proofs.NameLemmas.{any_mapped}
-use Rattle.equal.proofs.MatchLemmas.{Match, matched}
+use Rattle.equal.proofs.MatchLemmas.{matched}
 use Rattle.equal.proofs.JoinLemmas.{length-moved, length-joined, moved_within}
 use Rattle.equal.proofs.TellingLemmas.{length-told}
 use Rattle.equal.proofs.CompareLemmas.{pairs_joined}
@@ -87,8 +86,7 @@ numbered_fit a k xs few h i d l =
 numbered_apart : (a : Parts) (j k : ℕ) (own : List ℕ) (xs : List (List ℕ)) → j < k → k + length xs ≤ 4294967295 → AreNumbered a k xs → AllByRecursion (λ name. bytes_eq (copy_name (mark a) j own) name ≡ false) xs
 numbered_apart a j k own [] less few h = tt
 numbered_apart a j k own (x ∷ xs) less few h =
-    let here = h zero (omega arith) in
-    (
+    let here = h zero (omega arith) in (
       not_equal (copy_name (mark a) j own) x (λ e.
           let t = copy_names_tell (longest_run_in a) j (k + zero) own here.own (omega arith) (omega arith) (e ∙ here.is) in
           let same = t.0 in
@@ -100,8 +98,7 @@ numbered_distinct : (a : Parts) (k : ℕ) (xs : List (List ℕ)) → k + length 
 unfolding IsDistinct
 numbered_distinct a k [] few h = tt
 numbered_distinct a k (x ∷ xs) few h =
-    let here = h zero (omega arith) in
-    (
+    let here = h zero (omega arith) in (
       subst (λ (n : List ℕ). AllByRecursion (λ name. bytes_eq n name ≡ false) xs) (sym here.is) (numbered_apart a (k + zero) (suc k) here.own xs (omega arith) (omega arith) (numbered_rest a k x xs h)),
       numbered_distinct a (suc k) xs (omega arith) (numbered_rest a k x xs h),
     )

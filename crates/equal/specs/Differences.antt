@@ -1,5 +1,5 @@
 -- Where two netlists differ whose names match, and what is told of two netlists.
-use Rattle.std.specs.Prelude.{◌≡◌, ◌++◌, ℕ, Bool, true, false, List, [], ◌∷◌, map, find, position, option_map, slice_index_or, Some, None}
+use Rattle.std.specs.Prelude.{◌≡◌, ◌++◌, ℕ, Bool, true, false, List, [], ◌∷◌, map, find, position, option_map, slice_index_or, None}
 use Rattle.std.specs.declared.option.Option.{Option}
 use Rattle.std.specs.List.{list_any}
 use Rattle.std.specs.Option.{option_map_or}
@@ -8,7 +8,6 @@ use Rattle.cyc_base.specs.declared.sig.Sig.{Sig}
 use Rattle.cyc_base.specs.declared.trit.Trit.{Trit}
 use Rattle.cyc_base.specs.declared.trit.Trit.TheVariants.{Zero, One, X}
 use Rattle.cyc_base.specs.Values.{bits}
-use Rattle.netlist.specs.declared.parts.Latch.{Latch}
 use Rattle.netlist.specs.declared.parts.Parts.{Parts}
 use Rattle.netlist.specs.Netlists.{signal, signal_names}
 use Rattle.netlist.specs.Faults.{first_there}
@@ -96,10 +95,10 @@ abbrev pub comparison : Parts → CareSet → Parts → CareSet → Answer
 comparison a care_a b care_b =
     option_map_or (λ answer. answer)
     (first_there (
-      option_map Unmatched (unmatched a b)
-      ∷ option_map First (refusal a care_a observe.All)
-      ∷ option_map Second (refusal b care_b observe.All)
-      ∷ []))
+    option_map Unmatched (unmatched a b)
+    ∷ option_map First (refusal a care_a observe.All)
+    ∷ option_map Second (refusal b care_b observe.All)
+    ∷ []))
     (comparison_of_accepted a b care_a)
 
 -- the models of a care set, as they are before they are bound

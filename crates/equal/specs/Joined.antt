@@ -1,6 +1,6 @@
 -- The joined netlist of two whose names match: the columns and gates of the first, then the gates of the second, which
 -- read the first one's columns by name. The gates that are added have names of their own.
-use Rattle.std.specs.Prelude.{◌≡◌, ◌+◌, ◌-◌, ◌++◌, ℕ, suc, nat_lt, Bool, true, if◌then◌else◌, List, [], ◌∷◌, length, map, slice_index_or}
+use Rattle.std.specs.Prelude.{◌+◌, ◌-◌, ◌++◌, ℕ, suc, nat_lt, true, if◌then◌else◌, List, [], ◌∷◌, length, map, slice_index_or}
 use Rattle.std.specs.List.{range_with_len}
 use Rattle.cyc_base.specs.declared.sig.Sig.{Sig}
 use Rattle.cover_logic.specs.Covers.{Cover}
@@ -10,7 +10,6 @@ use Rattle.cover_logic.specs.declared.row.Row.{Row}
 use Rattle.netlist.specs.declared.parts.Gate.{Gate}
 use Rattle.netlist.specs.declared.parts.Parts.{Parts}
 use Rattle.netlist.specs.Netlists.{signal, count, gate_at}
-use Rattle.care_sets.specs.Care.{columns}
 use Rattle.unroll.specs.Marks.{mark, copy_name}
 use Rattle.differences.specs.declared.pairs.Pair.{Pair}
 use Rattle.equal.specs.Differences.{columns_by_name, pair_of, output_pairs, latch_pairs}

@@ -206,7 +206,12 @@ fn early_of(alloc: Global, verdict: &Verdict) -> Result<Early, AllocError>
 
 /// What refuses the netlist that tells, on diagrams of its own: a vector on which its last gate is unknown, if anything
 /// does.
-fn refusal_within(alloc: Global, net: &Netlist, care: &Care, limit: u32) -> Result<Early, AllocError>
+fn refusal_within(
+    alloc: Global,
+    net: &Netlist,
+    care: &Care,
+    limit: u32,
+) -> Result<Early, AllocError>
     requires care { IsCareOf net.now care.now }
     requires limit { limit ≤ MAX_NODES }
     ensures { IfOk result (IsKnownEarly net.now care.now) }

@@ -178,12 +178,7 @@ fn place_of(
 }
 
 /// The first output that differs at a vector, or else the first latch.
-fn find_place(
-    alloc: Global,
-    a: &Netlist,
-    b: &Netlist,
-    vector: &[bool],
-) -> Result<Place, AllocError>
+fn find_place(alloc: Global, a: &Netlist, b: &Netlist, vector: &[bool]) -> Result<Place, AllocError>
     requires { length vector.now ≡ columns a.now }
     ensures { IfOk result (λ place. answer_at vector.now place ≡ at_difference_of a.now b.now vector.now) }
 {

@@ -1,4 +1,4 @@
-use Rattle.std.proofs.Common.{◌≡◌, Option, List, Bool, sym, subst, ◌∙◌}
+use Rattle.std.proofs.Common.{◌≡◌, sym, subst, ◌∙◌}
 use Rattle.std.specs.Prelude.{IfOk}
 use Rattle.equal.specs.declared.answer.Answer.{Answer}
 use Rattle.equal.proofs.CompareLemmas.{difference_wide, told_at, told_nowhere}

@@ -1,4 +1,4 @@
-use Rattle.std.proofs.Common.{◌≡◌, sym, ap, subst, ◌∙◌}
+use Rattle.std.proofs.Common.{◌≡◌, sym, subst, ◌∙◌}
 use Rattle.std.specs.Prelude.{IfOk}
 use Rattle.equal.specs.declared.answer.Answer.{Answer}
 use Rattle.equal.proofs.BoundLemmas.{below_second, below_both, out_second, out_both, same_fault}

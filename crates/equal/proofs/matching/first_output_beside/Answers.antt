@@ -1,10 +1,5 @@
-use Rattle.std.proofs.Common.{◌<◌, List, length, map, refl, ap, sym, ◌∙◌, arith}
-use Rattle.cyc_base.specs.declared.sig.Sig.{Sig}
-use Rattle.std.proofs.lemmas.List.{length-map}
-use Rattle.equal.specs.Matching.{name_of, is_output, output_names}
+use Rattle.std.proofs.Common.{◌<◌, length, refl, sym, ◌∙◌, arith}
 use Rattle.equal.proofs.LoopLemmas.{output_next, output_here}
-use Rattle.equal.proofs.NameLemmas.{find_end}
-use Rattle.std.proofs.Common.{not}
 use Rattle.equal.proofs.matching.first_output_beside.Goals as goal
 
 pub loop-output-preserved : goal.loop-output-preserved
