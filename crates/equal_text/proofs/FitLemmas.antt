@@ -1,14 +1,10 @@
 -- What is found of two netlists speaks of their own wires and vectors.
-use Rattle.std.proofs.Common.{◌≡◌, ℕ, ◌<◌, ◌≤◌, Bool, true, false, ◌&&◌, ◌||◌, List, [], ◌∷◌, ◌++◌, length, map, position, Option, Some, None, refl, sym, ap, ap₂, subst, ◌∙◌, arith, true≢false}
-use Rattle.std.specs.Prelude.{find, option_map}
-use Rattle.std.specs.List.{list_any}
+use Rattle.std.proofs.Common.{◌≡◌, ℕ, ◌<◌, Bool, true, ◌&&◌, ◌||◌, List, length, position, Option, Some, None, refl, sym, ap₂, subst, ◌∙◌, true≢false}
+use Rattle.std.specs.Prelude.{option_map}
 use Rattle.std.specs.Option.{option_or, option_map_or}
 use Rattle.std.proofs.lemmas.List.{length-map}
 use Rattle.std.proofs.lemmas.List.Folds.{list_any-append}
 use Rattle.std.proofs.lemmas.List.Quantifiers.{position-Some}
-use Rattle.cyc_base.specs.Values.{bits}
-use Rattle.cyc_base.specs.Vectors.{vectors}
-use Rattle.netlist.specs.declared.parts.Latch.{Latch as LatchParts}
 use Rattle.netlist.specs.declared.parts.Parts.{Parts}
 use Rattle.netlist.specs.Netlists.{signal, IsNetlist}
 use Rattle.netlist.proofs.Decisions.{none_found}
@@ -18,11 +14,10 @@ use Rattle.refusals.specs.declared.refusal.Refusal.{Refusal}
 use Rattle.refusals.specs.Refusals.{care_vectors, refusal, IsRefusalOf}
 use Rattle.refusals.proofs.FirstLemmas.{found_passes, found_wide}
 use Rattle.refusals.proofs.LawLemmas.{care_test, refusal_is_shown}
-use Rattle.differences.specs.declared.pairs.Pair.{Pair}
 use Rattle.equal.specs.declared.answer.Answer.{Answer}
 use Rattle.equal.specs.declared.answer.Answer.TheVariants.{Equal, Unmatched, First, Second, Output, Latch}
 use Rattle.equal.specs.Matching.{unmatched}
-use Rattle.equal.specs.Differences.{number_or_0, output_pairs, latch_pairs, differs_at, differs, difference, at_difference, comparison, comparison_of_accepted}
+use Rattle.equal.specs.Differences.{number_or_0, output_pairs, latch_pairs, differs_at, differs, difference, at_difference, comparison_of_accepted}
 use Rattle.equal.proofs.NameLemmas.{any_nowhere}
 use Rattle.equal_text.specs.Answers.{IsAnswerOf, AnswersFit}
 

@@ -1,9 +1,7 @@
 -- The text of what is found of two netlists. It is one line.
 use Rattle.std.specs.Prelude.{ℕ, List, [], ◌++◌, map, slice_index_or, codes}
-use Rattle.cyc_base.specs.declared.sig.Sig.{Sig}
 use Rattle.netlist.specs.declared.parts.Parts.{Parts}
-use Rattle.netlist.specs.Netlists.{signal}
-use Rattle.report.specs.Verdicts.{refusal_text, signal_name, vector_text}
+use Rattle.report.specs.Verdicts.{refusal_text, vector_text}
 use Rattle.equal.specs.declared.answer.Answer.{Answer}
 use Rattle.equal.specs.declared.answer.Answer.TheVariants.{Equal, Unmatched, First, Second, Output, Latch}
 use Rattle.equal.specs.Matching.{latch_name, output_names}

@@ -62,7 +62,13 @@ pub fn put_answer<K: Sink>(
         Answer::Second(refusal) => put_refused(sink, b"second ", b, refusal),
         Answer::Output { vector, at } => {
             let output = a.outputs()[*at as usize];
-            put_differing(sink, b"differ output=", a.name_of(output), a, vector.items())
+            put_differing(
+                sink,
+                b"differ output=",
+                a.name_of(output),
+                a,
+                vector.items(),
+            )
         }
         Answer::Latch { vector, at } => {
             let latch = a.latch(*at);
