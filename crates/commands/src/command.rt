@@ -41,6 +41,8 @@ pub enum Command<'a> {
     Check(&'a Name, Options<'a>),
     /// Decides it, and writes it without loops.
     Rewrite(&'a Name, Options<'a>),
+    /// Decides it, and writes its and-inverter graph, without loops.
+    Aiger(&'a Name, Options<'a>),
     /// Writes its flat netlist.
     Flat(&'a Name),
     /// Prints its loops and their cut wires.

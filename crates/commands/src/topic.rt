@@ -3,6 +3,7 @@
 pub enum Topic {
     Check,
     Rewrite,
+    Aiger,
     Flat,
     Loops,
     Sim,

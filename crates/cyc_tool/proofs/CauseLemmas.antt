@@ -1,6 +1,6 @@
 -- The cause of each status of a run.
 use Rattle.std.proofs.Common.{◌≡◌, ◌≢◌, ◌≤◌, ◌⊎◌, ℕ, Bool, true, false, List, [], ◌∷◌, Some, None, refl, sym, ap, subst, ◌∙◌, inl, inr, arith}
-use Rattle.std.specs.Prelude.{IsSomeAnd, nat_le, if◌then◌else◌}
+use Rattle.std.specs.Prelude.{◌+◌, IsSomeAnd, length, nat_le, if◌then◌else◌}
 use Rattle.std.specs.declared.option.Option.{Option}
 use Rattle.std.proofs.lemmas.Option.{none-some}
 use Rattle.bdd_store.specs.Arena.{Arena}
@@ -8,7 +8,10 @@ use Rattle.accepted_runs.proofs.HarmlessLemmas.{accepted_is_harmless}
 use Rattle.cyc_base.specs.declared.limits.TheConstants.{MAX_REWRITTEN_ITEMS}
 use Rattle.netlist.specs.declared.parts.Parts.{Parts}
 use Rattle.netlist.specs.Netlists.{IsNetlist}
+use Rattle.aig_core.specs.declared.building.Built.{Built}
+use Rattle.aiger_write.specs.Text.{aiger_text}
 use Rattle.blif_write.specs.Written.{written}
+use Rattle.rewriting.specs.Graphs.{graph_of, most_ands}
 use Rattle.rewriting.specs.Rewriting.{rewritten, rewritten_size}
 use Rattle.cyc_base.specs.declared.sig.Sig.{Sig}
 use Rattle.refusals.specs.Refusals.{IsRefusalOf, Proves}
@@ -19,14 +22,14 @@ use Rattle.storm.specs.Laws.{StormsNeverRest}
 use Rattle.refusals.proofs.LawLemmas.{accepted_without_refusal, refusal_is_shown}
 use Rattle.cyc_tool.specs.Answer.{told, decided, verdict_of}
 use Rattle.cyc_tool.specs.Calls.{ShelfCall, SinkCall, WriteFailed, Takes, AreGiven, EndsAt, rest_of, ComesTo, Follows, IsDecided, IsMade, IsMadeFor, Verdict, Limit, Tells, Runs}
-use Rattle.cyc_tool.specs.Causes.{IsHelped, IsHelpedBy, IsWithoutCommand, Leads, Reaches, IsFaulty, IsUnread, MeetsLimit, IsVerdict, IsDoneWith, HasRewritten, HasStormed}
-use Rattle.cyc_tool.specs.Endings.{ending_of, storm_or_refusal}
+use Rattle.cyc_tool.specs.Causes.{IsHelped, IsHelpedBy, IsWithoutCommand, Leads, Reaches, IsFaulty, IsUnread, MeetsLimit, IsVerdict, IsDoneWith, HasGraph, HasRewritten, HasStormed}
+use Rattle.cyc_tool.specs.Endings.{aiger_told, ending_of, storm_or_refusal}
 use Rattle.cyc_tool.specs.Storms.{events_of, events_told, storm_text}
-use Rattle.cyc_tool.specs.Plans.{Ending, Prints, PrintsBeside, Refuses, Declines, Outgrows, Decision, Judges, Rewrites, Demonstrates, Storms, Plan, Reads, Faulty, Ends, Decides, plan_of}
+use Rattle.cyc_tool.specs.Plans.{Ending, Prints, PrintsBeside, Refuses, Declines, Outgrows, Decision, Judges, Rewrites, WritesGraph, Demonstrates, Storms, Plan, Reads, Faulty, Ends, Decides, plan_of}
 use Rattle.cyc_tool.specs.Requests.{Request}
 use Rattle.cyc_tool.specs.Texts.{Outcome, no_memory}
 use Rattle.report.specs.Help.{help_text, topic_text, version_text}
-use Rattle.commands.specs.Words.{Command, Check, Rewrite, Flat, Loops, Sim, Delays, Demo, Storm, Help, HelpOn, Version, command_of}
+use Rattle.commands.specs.Words.{Command, Check, Rewrite, Aiger, Flat, Loops, Sim, Delays, Demo, Storm, Help, HelpOn, Version, command_of}
 
 abbrev status_of : Outcome → ℕ
 status_of end = end.status
@@ -256,6 +259,7 @@ help_told request shelf nodes out err status runs = by_command (command_of reque
     by_command (Some Version) comes = told_by version_text comes
     by_command (Some (Check file options)) comes = tt
     by_command (Some (Rewrite file options)) comes = tt
+    by_command (Some (Aiger file options)) comes = tt
     by_command (Some (Flat file)) comes = tt
     by_command (Some (Loops file)) comes = tt
     by_command (Some (Sim file vectors)) comes = tt
@@ -271,6 +275,7 @@ has_rewritten shelf nodes out end (Reads role name next) done took ends = tt
 has_rewritten shelf nodes out end (Faulty name fault) done took ends = tt
 has_rewritten shelf nodes out end (Ends ending) done took ends = tt
 has_rewritten shelf nodes out end (Decides decision Judges) done took ends = tt
+has_rewritten shelf nodes out end (Decides decision WritesGraph) done took ends = tt
 has_rewritten shelf nodes out end (Decides decision (Demonstrates cells)) done took ends = tt
 has_rewritten shelf nodes out end (Decides decision (Storms rounds)) done took ends = tt
 has_rewritten shelf nodes out end (Decides decision Rewrites) done took ends = by_decision ends.1
@@ -296,6 +301,51 @@ has_rewritten shelf nodes out end (Decides decision Rewrites) done took ends = b
     by_decision (Verdict same made) = by_verdict (verdict_of decision) same made
     by_decision (Limit limited same) = absurd (let six = ap status_of same in omega (arith, done, six))
 
+-- what was put on out for a graph
+has_graph : (shelf : ShelfCall) (nodes : Arena) (out : SinkCall) (end : Outcome) (rest : Plan) → end.status ≡ 0 → Takes out end.out
+    → EndsAt shelf nodes end rest → HasGraph out rest
+has_graph shelf nodes out end (Reads role name next) done took ends = tt
+has_graph shelf nodes out end (Faulty name fault) done took ends = tt
+has_graph shelf nodes out end (Ends ending) done took ends = tt
+has_graph shelf nodes out end (Decides decision Judges) done took ends = tt
+has_graph shelf nodes out end (Decides decision Rewrites) done took ends = tt
+has_graph shelf nodes out end (Decides decision (Demonstrates cells)) done took ends = tt
+has_graph shelf nodes out end (Decides decision (Storms rounds)) done took ends = tt
+has_graph shelf nodes out end (Decides decision WritesGraph) done took ends = by_decision ends.1
+  where
+    size : ℕ
+    size = rewritten_size decision.net decision.care
+
+    other : Parts
+    other = rewritten decision.net decision.care
+
+    graph : Built
+    graph = graph_of decision.net decision.care
+
+    ands : ℕ
+    ands = length graph.aig.ands
+
+    by_ands : size ≤ MAX_REWRITTEN_ITEMS → (fits : Bool) → nat_le ands most_ands ≡ fits
+        → end ≡ told (if fits then Prints (aiger_text other graph) else Outgrows (most_ands + 1))
+        → IsMade decision WritesGraph → HasGraph out (Decides decision WritesGraph)
+    by_ands small true fits same made =
+        (made small (let le : ands ≤ most_ands = grind (arith, fits) in le), subst (Takes out) (ap (λ (o : Outcome). o.out) same) took)
+    by_ands small false fits same made = absurd (let eight = ap status_of same in omega (arith, done, eight))
+
+    by_size : (fits : Bool) → nat_le size MAX_REWRITTEN_ITEMS ≡ fits → end ≡ told (if fits then aiger_told other graph else Outgrows size)
+        → IsMade decision WritesGraph → HasGraph out (Decides decision WritesGraph)
+    by_size true fits same made = by_ands (let le : size ≤ MAX_REWRITTEN_ITEMS = grind (arith, fits) in le) (nat_le ands most_ands) refl same made
+    by_size false fits same made = absurd (let eight = ap status_of same in omega (arith, done, eight))
+
+    by_verdict : (verdict : Option Refusal) → end ≡ decided decision WritesGraph verdict → IsMadeFor decision WritesGraph verdict
+        → HasGraph out (Decides decision WritesGraph)
+    by_verdict None same made = by_size (nat_le size MAX_REWRITTEN_ITEMS) refl same made
+    by_verdict (Some refused) same made = absurd (let one = ap status_of same in omega (arith, done, one))
+
+    by_decision : IsDecided decision WritesGraph nodes end → HasGraph out (Decides decision WritesGraph)
+    by_decision (Verdict same made) = by_verdict (verdict_of decision) same made
+    by_decision (Limit limited same) = absurd (let six = ap status_of same in omega (arith, done, six))
+
 -- what was put on out for a storm
 has_stormed : StormsNeverRest → (shelf : ShelfCall) (nodes : Arena) (out : SinkCall) (end : Outcome) (rest : Plan) → end.status ≡ 0 → Takes out end.out
     → EndsAt shelf nodes end rest → HasStormed out rest
@@ -304,6 +354,7 @@ has_stormed law shelf nodes out end (Faulty name fault) done took ends = tt
 has_stormed law shelf nodes out end (Ends ending) done took ends = tt
 has_stormed law shelf nodes out end (Decides decision Judges) done took ends = tt
 has_stormed law shelf nodes out end (Decides decision Rewrites) done took ends = tt
+has_stormed law shelf nodes out end (Decides decision WritesGraph) done took ends = tt
 has_stormed law shelf nodes out end (Decides decision (Demonstrates cells)) done took ends = tt
 has_stormed law shelf nodes out end (Decides decision (Storms rounds)) done took ends = by_decision ends.1
   where
@@ -375,6 +426,10 @@ leads_done P request shelf nodes out err status shows runs at = by_telling runs.
 pub rewritten_cause : (request : Request) (shelf : ShelfCall) (nodes : Arena) (out err : SinkCall) (status : ℕ) → Runs request shelf nodes out err status
     → status ≡ 0 → Reaches (HasRewritten out) request shelf
 rewritten_cause request shelf nodes out err status = leads_done (HasRewritten out) request shelf nodes out err status (has_rewritten shelf nodes out)
+
+pub graphed_cause : (request : Request) (shelf : ShelfCall) (nodes : Arena) (out err : SinkCall) (status : ℕ) → Runs request shelf nodes out err status
+    → status ≡ 0 → Reaches (HasGraph out) request shelf
+graphed_cause request shelf nodes out err status = leads_done (HasGraph out) request shelf nodes out err status (has_graph shelf nodes out)
 
 pub stormed_cause : StormsNeverRest → (request : Request) (shelf : ShelfCall) (nodes : Arena) (out err : SinkCall) (status : ℕ) → Runs request shelf nodes out err status
     → status ≡ 0 → Reaches (HasStormed out) request shelf

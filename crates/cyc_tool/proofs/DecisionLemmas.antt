@@ -1,12 +1,19 @@
 -- What decisions come to.
-use Rattle.std.proofs.Common.{◌≡◌, ◌⊎◌, ◌<◌, ◌≤◌, ℕ, Bool, true, false, length, Some, None, Ok, Err, sym, ap, subst, ◌∙◌, inl, inr, arith}
-use Rattle.std.specs.Prelude.{nat_le, if◌then◌else◌, IfOk, IfErr, OnOk}
+use Rattle.std.proofs.Common.{◌≡◌, ◌⊎◌, ◌<◌, ◌≤◌, ℕ, Bool, true, false, length, Some, None, Ok, Err, refl, sym, ap, ap₂, subst, ◌∙◌, inl, inr, arith}
+use Rattle.std.proofs.lemmas.List.{length-map}
+use Rattle.std.specs.Prelude.{◌+◌, nat_le, if◌then◌else◌, IfOk, IfErr, OnOk}
 use Rattle.std.specs.declared.option.Option.{Option}
 use Rattle.std.specs.declared.result.Result.{Result}
 use Rattle.bdd_store.specs.Arena.{Arena}
 use Rattle.cyc_base.specs.declared.limits.TheConstants.{MAX_REWRITTEN_ITEMS}
+use Rattle.netlist.specs.declared.parts.Latch.{Latch}
 use Rattle.netlist.specs.declared.parts.Parts.{Parts}
 use Rattle.netlist.specs.Netlists.{IsNetlist}
+use Rattle.aig_core.specs.declared.building.Built.{Built}
+use Rattle.aig_core.specs.declared.fault.AigFault.{AigFault}
+use Rattle.aig_core.specs.declared.fault.AigFault.TheVariants.{TooLarge as ManyAnds, Memory as NoRoom}
+use Rattle.aig_core.specs.Building.{built, columns}
+use Rattle.aiger_write.specs.Text.{aiger_text}
 use Rattle.blif_write.specs.Written.{written}
 use Rattle.care_sets.specs.Care.{CareSet}
 use Rattle.refusals.specs.Acceptance.{Accepts}
@@ -15,7 +22,9 @@ use Rattle.refusals.specs.declared.observe.Observe.{Observe}
 use Rattle.refusals.specs.declared.refusal.Refusal.{Refusal}
 use Rattle.refusals.proofs.LawLemmas.{accepted_without_refusal, refusal_is_shown}
 use Rattle.report.specs.Verdicts.{accepted_text, ring_line}
+use Rattle.rewriting.specs.Graphs.{graph_of, most_ands, IsGraphing}
 use Rattle.rewriting.specs.Rewriting.{rewritten, rewritten_size, IsRewriting}
+use Rattle.unroll.specs.Laws.{KeepsInterface}
 use Rattle.unroll.specs.Unrolled.{IsUnrollFault}
 use Rattle.unroll.specs.declared.fault.UnrollFault.{UnrollFault}
 use Rattle.unroll.specs.declared.fault.UnrollFault.TheVariants.{TooLarge, Memory}
@@ -31,9 +40,9 @@ use Rattle.verdict.specs.declared.verdict.Verdict.{Verdict}
 use Rattle.verdict.specs.declared.verdict.Verdict.TheVariants.{Accepted, Refused}
 use Rattle.cyc_tool.specs.Answer.{told, decided, verdict_of}
 use Rattle.cyc_tool.specs.Calls.{IsAccepted, IsDecided, IsMadeFor, Limit, Verdict as ByVerdict}
-use Rattle.cyc_tool.specs.Endings.{count_of_loops, refused_told, where_outputs}
-use Rattle.cyc_tool.specs.Plans.{Decision, Prints, Declines, Outgrows, Purpose, Judges, Rewrites, Demonstrates, Storms}
-use Rattle.cyc_tool.specs.Seen.{IsLimitOf, IsTellable, IsToldOf, outcome_of}
+use Rattle.cyc_tool.specs.Endings.{accepted_told, aiger_told, count_of_loops, refused_told, where_outputs}
+use Rattle.cyc_tool.specs.Plans.{Decision, Prints, Declines, Outgrows, Purpose, Judges, Rewrites, WritesGraph, Demonstrates, Storms}
+use Rattle.cyc_tool.specs.Seen.{IsLimitOf, IsOutgrown, IsTellable, IsToldOf, IsToldOfGraph, outcome_of}
 use Rattle.cyc_tool.specs.Texts.{Outcome, limit_reached}
 use Rattle.cyc_tool.specs.declared.outcome.Outcome.{Outcome as Told}
 
@@ -153,3 +162,61 @@ was_rewritten net blocks cut counts care limit what (Err (TooLarge size)) end sa
       made = λ within. absurd (let over = is.0 in omega (arith, over, within));
     }
 was_rewritten net blocks cut counts care limit what (Err Memory) end same accepts sweeps rewriting small fault = absurd same
+
+-- how many columns a netlist has that keeps the interface
+pub kept_columns : (net other : Parts) → KeepsInterface net other → columns net ≤ 1000000000 → columns other ≤ 1000000000
+kept_columns net other keeps few =
+    let inputs = ap length keeps.inputs in
+    let names = ap length keeps.latches in
+    let own = length-map net.latches (λ (latch : Latch). latch.name) in
+    let others = length-map other.latches (λ (latch : Latch). latch.name) in
+    omega (arith, inputs, names, own, others, few)
+
+-- a graph, or what is told in place of one
+graph_fits : (net : Parts) (graph : Built) → length graph.aig.ands ≤ most_ands → told (aiger_told net graph) ≡ told (Prints (aiger_text net graph))
+graph_fits net graph few =
+    let within : nat_le (length graph.aig.ands) most_ands ≡ true = grind (arith, few) in
+    ap (λ (t : Bool). told (if t then Prints (aiger_text net graph) else Outgrows (most_ands + 1))) within
+
+graph_outgrows : (net : Parts) (graph : Built) → most_ands < length graph.aig.ands → told (aiger_told net graph) ≡ told (Outgrows (most_ands + 1))
+graph_outgrows net graph many =
+    let over : nat_le (length graph.aig.ands) most_ands ≡ false = grind (arith, many) in
+    ap (λ (t : Bool). told (if t then Prints (aiger_text net graph) else Outgrows (most_ands + 1))) over
+
+told_where : (net : Parts) (care : CareSet) (limit : ℕ) (what : Observe) (t : Bool) → nat_le (rewritten_size net care) MAX_REWRITTEN_ITEMS ≡ t
+    → told (accepted_told (decision_of net care limit what) WritesGraph)
+    ≡ told (if t then aiger_told (rewritten net care) (graph_of net care) else Outgrows (rewritten_size net care))
+told_where net care limit what t is =
+    ap (λ (t : Bool). told (if t then aiger_told (rewritten net care) (graph_of net care) else Outgrows (rewritten_size net care))) is
+
+-- what is told of the graph of a netlist that was made by rewriting
+pub was_graphed : (net : Parts) (care : CareSet) (limit : ℕ) (what : Observe) (other : Parts) (made : Result Built AigFault) (end : Told) → IsToldOfGraph other made end
+    → IsNetlist net → Accepts net care what → rewritten_size net care ≤ 4000000 → IsRewriting net care other
+    → IfOk made (λ graph. graph ≡ built other) → IfOk made (λ graph. length graph.aig.ands ≤ most_ands)
+    → IfOk made (λ graph. (net : Parts) (care : CareSet) (what : Observe) → IsNetlist net → Accepts net care what → IsRewriting net care other → IsGraphing net care graph)
+    → IfErr made (λ fault. fault ≡ ManyAnds → most_ands < length (built other).aig.ands)
+    → IsAccepted (decision_of net care limit what) WritesGraph (outcome_of end)
+was_graphed net care limit what other (Ok graph) end same valid accepts small rewriting is few graphing many =
+    let own : graph ≡ graph_of net care = is ∙ ap built rewriting.is in
+    record {
+      is = same ∙ sym (graph_fits other graph few) ∙ ap₂ (λ (n : Parts) (g : Built). told (aiger_told n g)) rewriting.is own
+          ∙ sym (told_where net care limit what true (is_within (rewritten_size net care) small));
+      made = λ within fits. subst (IsGraphing net care) own (graphing net care what valid accepts rewriting);
+    }
+was_graphed net care limit what other (Err ManyAnds) end same valid accepts small rewriting is few graphing many =
+    let over : most_ands < length (graph_of net care).aig.ands = subst (λ (n : Parts). most_ands < length (built n).aig.ands) rewriting.is (many refl) in
+    record {
+      is = same ∙ sym (graph_outgrows (rewritten net care) (graph_of net care) over)
+          ∙ sym (told_where net care limit what true (is_within (rewritten_size net care) small));
+      made = λ within fits. absurd (omega (arith, over, fits));
+    }
+was_graphed net care limit what other (Err NoRoom) end same valid accepts small rewriting is few graphing many = absurd same
+
+-- and of a netlist that is too large itself
+pub outgrown_graph : (net : Parts) (care : CareSet) (limit : ℕ) (what : Observe) (fault : UnrollFault) (end : Told) → IsOutgrown fault end
+    → IsUnrollFault (rewritten_size net care) fault → IsAccepted (decision_of net care limit what) WritesGraph (outcome_of end)
+outgrown_graph net care limit what (TooLarge size) end same is = record {
+  is = same ∙ ap (λ (n : ℕ). told (Outgrows n)) is.1 ∙ sym (told_where net care limit what false (is_over (rewritten_size net care) is.0));
+  made = λ within fits. absurd (let over = is.0 in omega (arith, over, within));
+}
+outgrown_graph net care limit what Memory end same is = absurd same

@@ -1,5 +1,5 @@
 -- What a call of `run` did with its shelf and its sinks.
-use Rattle.std.specs.Prelude.{◌≡◌, ◌≢◌, ◌≤◌, ◌⊎◌, ℕ, List, [], ◌∷◌, Some, None, IfOk}
+use Rattle.std.specs.Prelude.{◌≡◌, ◌≢◌, ◌≤◌, ◌⊎◌, ℕ, List, [], ◌∷◌, length, Some, None, IfOk}
 use Rattle.std.specs.declared.option.Option.{Option}
 use Rattle.std.specs.List.{AllByRecursion}
 use Rattle.std.specs.Io.KnownBytes.{Appends}
@@ -11,14 +11,15 @@ use Rattle.bdd_store.specs.Arena.{Arena}
 use Rattle.netlist.specs.Netlists.{IsNetlist}
 use Rattle.verdict.specs.Causes.{IsOutOfNodes}
 use Rattle.verdict.specs.Enough.{IsBelowEnough}
-use Rattle.commands.specs.Words.{Command, Check, Rewrite, Demo, Storm, command_of}
+use Rattle.commands.specs.Words.{Command, Check, Rewrite, Aiger, Demo, Storm, command_of}
 use Rattle.contents.specs.NetlistFiles.{netlist_of}
 use Rattle.cyc_base.specs.declared.limits.TheConstants.{MAX_REWRITTEN_ITEMS}
 use Rattle.refusals.specs.declared.refusal.Refusal.{Refusal}
+use Rattle.rewriting.specs.Graphs.{graph_of, most_ands, IsGraphing}
 use Rattle.rewriting.specs.Rewriting.{rewritten, rewritten_size, IsRewriting}
 use Rattle.cyc_tool.specs.Answer.{told, decided, verdict_of}
 use Rattle.cyc_tool.specs.Endings.{accepted_told}
-use Rattle.cyc_tool.specs.Plans.{Role, Netlist, Care, Vectors, Recorded, Decision, Purpose, Judges, Rewrites, Demonstrates, Storms, Plan, Reads, Faulty, Ends, Decides, plan_of}
+use Rattle.cyc_tool.specs.Plans.{Role, Netlist, Care, Vectors, Recorded, Decision, Purpose, Judges, Rewrites, WritesGraph, Demonstrates, Storms, Plan, Reads, Faulty, Ends, Decides, plan_of}
 use Rattle.cyc_tool.specs.Requests.{Request, Shows}
 use Rattle.cyc_tool.specs.Texts.{Outcome, usage, has_fault, read_failed, limit_reached, no_memory}
 
@@ -82,12 +83,16 @@ pub record IsLimited (decision : Decision) (nodes : Arena) : Type 0 where
   pub cause : IsOutOfNodes nodes decision.net decision.care decision.limit
   pub below : IsBelowEnough decision.net decision.care decision.limit
 
--- What is made for the purpose of a decision whose netlist is accepted: to rewrite, a netlist without loops that shows the
--- same in all runs, unless it would be too large.
+-- What is made for the purpose of a decision whose netlist is accepted, unless it would be too large: to rewrite, a netlist
+-- without loops that shows the same in all runs; to write a graph, one whose machine does.
 abbrev pub IsMade : Decision → Purpose → Type 0
 IsMade decision Rewrites =
     rewritten_size decision.net decision.care ≤ MAX_REWRITTEN_ITEMS
     → IsRewriting decision.net decision.care (rewritten decision.net decision.care)
+IsMade decision WritesGraph =
+    rewritten_size decision.net decision.care ≤ MAX_REWRITTEN_ITEMS
+    → length (graph_of decision.net decision.care).aig.ands ≤ most_ands
+    → IsGraphing decision.net decision.care (graph_of decision.net decision.care)
 IsMade decision Judges = Unit {0}
 IsMade decision (Demonstrates cells) = Unit {0}
 IsMade decision (Storms rounds) = Unit {0}
@@ -135,6 +140,7 @@ ComesTo shows (Some command) shelf nodes end = Follows (plan_of shows command) s
 abbrev pub KeepsNodes : Option Command → Arena → Arena → Type 0
 KeepsNodes (Some (Check file options)) before now = Unit {0}
 KeepsNodes (Some (Rewrite file options)) before now = Unit {0}
+KeepsNodes (Some (Aiger file options)) before now = Unit {0}
 KeepsNodes (Some (Demo cells)) before now = Unit {0}
 KeepsNodes (Some (Storm file rounds options)) before now = Unit {0}
 KeepsNodes other before now = now ≡ before

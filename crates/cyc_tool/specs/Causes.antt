@@ -14,10 +14,12 @@ use Rattle.cyc_base.specs.declared.sig.Sig.{Sig}
 use Rattle.storm.specs.Laws.{PlaysAsStorm}
 use Rattle.storm.specs.Storms.{storm_of}
 use Rattle.cyc_tool.specs.Storms.{storm_text}
+use Rattle.aiger_write.specs.Text.{aiger_text}
+use Rattle.rewriting.specs.Graphs.{graph_of, IsGraphing}
 use Rattle.rewriting.specs.Rewriting.{rewritten, IsRewriting}
 use Rattle.cyc_tool.specs.Answer.{told, decided, verdict_of, answer}
 use Rattle.cyc_tool.specs.Calls.{ShelfCall, SinkCall, ReadFailed, WriteFailed, Takes, AreGiven, rest_of, IsLimited, IsTold}
-use Rattle.cyc_tool.specs.Plans.{Decision, Rewrites, Storms, Plan, Reads, Faulty, Ends, Decides, plan_of}
+use Rattle.cyc_tool.specs.Plans.{Decision, Rewrites, WritesGraph, Storms, Plan, Reads, Faulty, Ends, Decides, plan_of}
 use Rattle.cyc_tool.specs.Requests.{Request}
 use Rattle.cyc_tool.specs.Texts.{no_memory}
 
@@ -86,6 +88,14 @@ HasRewritten out (Decides decision Rewrites) =
     IsRewriting decision.net decision.care (rewritten decision.net decision.care)
     × Takes out (written (rewritten decision.net decision.care))
 HasRewritten out plan = Unit {0}
+
+-- What was put on out for a graph whose status is 0: the AIGER text of the rewritten netlist's graph, whose machine has the
+-- outputs and the latches of each run within care at each tick.
+abbrev pub HasGraph : SinkCall → Plan → Type 0
+HasGraph out (Decides decision WritesGraph) =
+    IsGraphing decision.net decision.care (graph_of decision.net decision.care)
+    × Takes out (aiger_text (rewritten decision.net decision.care) (graph_of decision.net decision.care))
+HasGraph out plan = Unit {0}
 
 -- A refused wire has its storm on out: a fair schedule of the refusal's vector on which each gate that the fixpoint leaves
 -- unknown falls and rises in each round, and all else stands at the fixpoint.

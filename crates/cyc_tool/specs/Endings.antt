@@ -1,10 +1,12 @@
 -- What a call ends with that makes a decision, by its verdict: nothing, or what refuses the netlist.
-use Rattle.std.specs.Prelude.{ℕ, Bool, List, length, nat_le, if◌then◌else◌, Some, None}
+use Rattle.std.specs.Prelude.{ℕ, ◌+◌, Bool, List, length, nat_le, if◌then◌else◌, Some, None}
 use Rattle.std.specs.declared.option.Option.{Option}
 use Rattle.cyc_base.specs.declared.limits.TheConstants.{MAX_REWRITTEN_ITEMS}
 use Rattle.netlist.specs.declared.parts.Parts.{Parts}
 use Rattle.loops.specs.Listed.{first_gates}
 use Rattle.blif_write.specs.Written.{written}
+use Rattle.aig_core.specs.declared.building.Built.{Built}
+use Rattle.aiger_write.specs.Text.{aiger_text}
 use Rattle.refusals.specs.Refusals.{loose_gates}
 use Rattle.refusals.specs.declared.observe.Observe.{Observe}
 use Rattle.refusals.specs.declared.observe.Observe.TheVariants.{All, Outputs}
@@ -12,8 +14,9 @@ use Rattle.refusals.specs.declared.refusal.Refusal.{Refusal}
 use Rattle.refusals.specs.declared.refusal.Refusal.TheVariants.{Undetermined}
 use Rattle.report.specs.Verdicts.{accepted_text, refusal_text, ring_line}
 use Rattle.storm.specs.Storms.{most_events}
+use Rattle.rewriting.specs.Graphs.{graph_of, most_ands}
 use Rattle.rewriting.specs.Rewriting.{rewritten, rewritten_size}
-use Rattle.cyc_tool.specs.Plans.{Ending, Prints, Refuses, Declines, Outgrows, Decision, Purpose, Judges, Rewrites, Demonstrates, Storms}
+use Rattle.cyc_tool.specs.Plans.{Ending, Prints, Refuses, Declines, Outgrows, Decision, Purpose, Judges, Rewrites, WritesGraph, Demonstrates, Storms}
 use Rattle.cyc_tool.specs.Storms.{events_of, events_told, storm_text}
 
 -- a number that is told only where the outputs alone are observed
@@ -35,6 +38,18 @@ rewritten_told decision =
     then Prints (written (rewritten decision.net decision.care))
     else Outgrows (rewritten_size decision.net decision.care)
 
+-- a graph of a netlist, unless it has too many ANDs. They aren't counted further than to the first that is too many
+abbrev pub aiger_told : Parts → Built → Ending
+aiger_told net graph =
+    if nat_le (length graph.aig.ands) most_ands then Prints (aiger_text net graph) else Outgrows (most_ands + 1)
+
+-- that of the rewritten netlist, unless this has too many gates and latches
+abbrev pub graph_told : Decision → Ending
+graph_told decision =
+    if nat_le (rewritten_size decision.net decision.care) MAX_REWRITTEN_ITEMS
+    then aiger_told (rewritten decision.net decision.care) (graph_of decision.net decision.care)
+    else Outgrows (rewritten_size decision.net decision.care)
+
 -- the storm of a vector, unless it has too many events
 abbrev pub storm_told : Parts → ℕ → List Bool → Ending
 storm_told net rounds v =
@@ -48,6 +63,7 @@ storm_or_refusal net rounds refused = Declines (refusal_text net refused)
 abbrev pub accepted_told : Decision → Purpose → Ending
 accepted_told decision Judges = Prints (accepted_text decision.net (count_of_loops decision.net) (loose_told decision))
 accepted_told decision Rewrites = rewritten_told decision
+accepted_told decision WritesGraph = graph_told decision
 accepted_told decision (Demonstrates cells) =
     Prints (ring_line cells decision.net (count_of_loops decision.net) (length (rewritten decision.net decision.care).gates))
 accepted_told decision (Storms rounds) = Declines (accepted_text decision.net (count_of_loops decision.net) (loose_told decision))
@@ -55,6 +71,7 @@ accepted_told decision (Storms rounds) = Declines (accepted_text decision.net (c
 abbrev pub refused_told : Parts → Purpose → Refusal → Ending
 refused_told net Judges refused = Refuses (refusal_text net refused)
 refused_told net Rewrites refused = Declines (refusal_text net refused)
+refused_told net WritesGraph refused = Declines (refusal_text net refused)
 refused_told net (Demonstrates cells) refused = Refuses (refusal_text net refused)
 refused_told net (Storms rounds) refused = storm_or_refusal net rounds refused
 

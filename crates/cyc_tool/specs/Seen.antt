@@ -1,14 +1,19 @@
 -- How clauses see the values of the code.
-use Rattle.std.specs.Prelude.{◌≡◌, Ok, Err, length}
+use Rattle.std.specs.Prelude.{◌≡◌, ◌+◌, Ok, Err, length}
 use Rattle.std.specs.declared.alloc.AllocError.{AllocError}
 use Rattle.std.specs.declared.result.Result.{Result}
 use Rattle.netlist.specs.declared.parts.Parts.{Parts}
+use Rattle.aig_core.specs.declared.building.Built.{Built}
+use Rattle.aig_core.specs.declared.fault.AigFault.{AigFault}
+use Rattle.aig_core.specs.declared.fault.AigFault.TheVariants.{TooLarge as ManyAnds, Memory as NoRoom}
+use Rattle.aiger_write.specs.Text.{aiger_text}
 use Rattle.blif_write.specs.Written.{written}
 use Rattle.commands.specs.Seen.{cells_seen, rounds_seen}
 use Rattle.loops.specs.declared.structure.Blocks.{Blocks}
 use Rattle.refusals.specs.Refusals.{IsRefusalOf}
 use Rattle.unroll.specs.declared.fault.UnrollFault.{UnrollFault}
 use Rattle.unroll.specs.declared.fault.UnrollFault.TheVariants.{TooLarge, Memory as NoMemory}
+use Rattle.rewriting.specs.Graphs.{most_ands}
 use Rattle.verdict.specs.declared.fault.DecideFault.{DecideFault}
 use Rattle.verdict.specs.declared.fault.DecideFault.TheVariants.{NodeLimit, Memory as NoNodes}
 use Rattle.verdict.specs.declared.verdict.Verdict.{Verdict}
@@ -17,7 +22,7 @@ use Rattle.cyc_tool.specs.Answer.{told as done}
 use Rattle.cyc_tool.specs.Plans as plans
 use Rattle.cyc_tool.specs.Texts as texts
 use Rattle.cyc_tool.specs.declared.decision.Purpose.{Purpose}
-use Rattle.cyc_tool.specs.declared.decision.Purpose.TheVariants.{Judge, Rewrite, Demonstrate, Storm}
+use Rattle.cyc_tool.specs.declared.decision.Purpose.TheVariants.{Judge, Rewrite, Aiger, Demonstrate, Storm}
 use Rattle.cyc_tool.specs.declared.outcome.Outcome.{Outcome}
 use Rattle.cyc_tool.specs.declared.outcome.Stop.{Stop}
 use Rattle.cyc_tool.specs.declared.outcome.Stop.TheVariants.{At, Memory}
@@ -28,6 +33,7 @@ outcome_of told = record { status = told.status; out = told.out.items; err = tol
 abbrev pub purpose_seen : Purpose → plans.Purpose
 purpose_seen Judge = plans.Judges
 purpose_seen Rewrite = plans.Rewrites
+purpose_seen Aiger = plans.WritesGraph
 purpose_seen (Demonstrate cells) = plans.Demonstrates (cells_seen cells)
 purpose_seen (Storm rounds) = plans.Storms (rounds_seen rounds)
 
@@ -40,6 +46,16 @@ IsOutgrown NoMemory told = ⊥
 abbrev pub IsToldOf : Result Parts UnrollFault → Outcome → Type 0
 IsToldOf (Ok other) told = outcome_of told ≡ done (plans.Prints (written other))
 IsToldOf (Err fault) told = IsOutgrown fault told
+
+-- what is told of a graph that isn't made: the first number of ANDs that is too great
+abbrev pub IsOverfull : AigFault → Outcome → Type 0
+IsOverfull ManyAnds told = outcome_of told ≡ done (plans.Outgrows (most_ands + 1))
+IsOverfull NoRoom told = ⊥
+
+-- what is told of the graph of a netlist: its text, or that number
+abbrev pub IsToldOfGraph : Parts → Result Built AigFault → Outcome → Type 0
+IsToldOfGraph other (Ok graph) told = outcome_of told ≡ done (plans.Prints (aiger_text other graph))
+IsToldOfGraph other (Err fault) told = IsOverfull fault told
 
 -- what is told of a decision without a verdict: the limit that it met
 abbrev pub IsLimitOf : DecideFault → Outcome → Type 0

@@ -1,5 +1,7 @@
 // Decisions of netlists on their care sets.
 ghost use Rattle.std.specs.Prelude.{◌≡◌, ◌≤◌, ℕ, IfOk, length};
+ghost use Rattle.aig_core.specs.Answers.{FitsNetlist};
+ghost use Rattle.aig_core.specs.Building.{columns};
 ghost use Rattle.bdd_store.specs.Arena.{Arena};
 ghost use Rattle.care_sets.specs.Binding.{IsCareOf};
 ghost use Rattle.care_sets.specs.Care.{CareSet};
@@ -8,23 +10,26 @@ ghost use Rattle.cyc_base.specs.declared.limits.TheConstants.{MAX_NODES as most_
 ghost use Rattle.loops.specs.Blocks.{AreBlocksOf};
 ghost use Rattle.loops.specs.Cuts.{IsCutOf};
 ghost use Rattle.netlist.specs.Netlists.{IsNetlist};
+ghost use Rattle.netlist.specs.Walks.{IsLoopFree};
+ghost use Rattle.netlist.specs.declared.parts.Parts.{Parts};
 ghost use Rattle.refusals.specs.Acceptance.{Accepts};
 ghost use Rattle.refusals.specs.Refusals.{IsRefusalOf};
 ghost use Rattle.refusals.specs.declared.observe.Observe.{Observe as Observed};
 ghost use Rattle.report.specs.Verdicts.{accepted_text, ring_line};
-ghost use Rattle.rewriting.specs.Rewriting.{rewritten as rewritten_netlist};
+ghost use Rattle.rewriting.specs.Rewriting.{rewritten as rewritten_netlist, rewritten_size as rewritten_size_of, IsRewriting};
 ghost use Rattle.verdict.specs.Verdicts.{AreSweepsOnCare, IsAcceptance, IsVerdict};
 ghost use Rattle.cyc_tool.specs.Answer.{told as done};
 ghost use Rattle.cyc_tool.specs.Calls.{IsAccepted, IsDecided};
 ghost use Rattle.cyc_tool.specs.Endings.{count_of_loops, refused_told, where_outputs};
-ghost use Rattle.cyc_tool.specs.Plans.{Declines, Prints, Rewrites};
-ghost use Rattle.cyc_tool.specs.Seen.{IsLimitOf, IsOutgrown, IsTellable, IsToldOf, outcome_of, purpose_seen};
+ghost use Rattle.cyc_tool.specs.Plans.{Declines, Prints, Rewrites, WritesGraph};
+ghost use Rattle.cyc_tool.specs.Seen.{IsLimitOf, IsOutgrown, IsOverfull, IsTellable, IsToldOf, IsToldOfGraph, outcome_of, purpose_seen};
 
 use crate::outcome::Outcome;
 use crate::status;
 use crate::storms::tell_storm;
 use crate::texts::{
-    on_err, on_out, tell_declined, tell_limit, tell_netlist, tell_refused, tell_too_large,
+    on_err, on_out, tell_aiger, tell_declined, tell_limit, tell_netlist, tell_refused,
+    tell_too_large,
 };
 use bdd_ops::Diagrams;
 use care_sets::Care;
@@ -35,10 +40,13 @@ use loops::{Blocks, Cut, count_loops, find_blocks, find_cut};
 use netlist::Netlist;
 use refusals::{Observe, Refusal};
 use report::{put_accepted, put_ring};
-use rewriting::{rewrite, rewritten_gates};
+use rewriting::{AigFault, Built, graph, rewrite, rewritten_gates};
 use std::alloc::{AllocError, Global};
 use unroll::UnrollFault;
 use verdict::{DecideFault, Verdict, decide};
+
+// The first number of ANDs that a graph can't have.
+const TOO_MANY_ANDS: u64 = 4_000_001;
 
 // What a netlist is decided for.
 #[derive(Clone, Copy, Drop)]
@@ -47,6 +55,8 @@ pub(crate) enum Purpose {
     Judge,
     // To write it without loops.
     Rewrite,
+    // To write its and-inverter graph, without loops.
+    Aiger,
     // To tell that the ring arbiter of so many cells is accepted.
     Demonstrate(Cells),
     // To write a schedule of so many rounds on which a refused wire never rests.
@@ -147,13 +157,74 @@ fn tell_rewritten(
     requires blocks { AreBlocksOf net.now blocks.now }
     requires cut { IsCutOf net.now cut.now }
     requires sweeps { length sweeps.now.per_block ≡ length blocks.now.list }
-    requires inputs { length net.now.inputs ≤ 4000000000 }
+    requires columns { columns net.now ≤ 1000000000 }
     ensures { IfOk result (λ told. (care : CareSet) (observe : Observed) (limit : ℕ) → Accepts net.now care observe →
         AreSweepsOnCare net.now blocks.now cut.now care sweeps.now →
         IsAccepted record { net = net.now; care = care; limit = limit; observe = observe } Rewrites (outcome_of told)) }
 {
     let rewriting = rewrite(alloc, net, blocks, cut, sweeps);
     tell_rewriting(alloc, &rewriting)
+}
+
+// That the graph has too many ANDs.
+fn tell_overfull(alloc: Global, fault: &AigFault) -> Result<Outcome, AllocError>
+    ensures { IfOk result (λ told. IsOverfull fault.now told) }
+{
+    match fault {
+        AigFault::TooLarge => tell_too_large(alloc, TOO_MANY_ANDS),
+        AigFault::Memory => Err(AllocError),
+    }
+}
+
+// What comes of the graph of a netlist: its text, or that it has too many ANDs.
+fn tell_graph(
+    alloc: Global,
+    other: &Netlist,
+    graph: &Result<Built, AigFault>,
+) -> Result<Outcome, AllocError>
+    requires { IfOk graph.now (FitsNetlist other.now) }
+    ensures { IfOk result (λ told. IsToldOfGraph other.now graph.now told) }
+{
+    match graph {
+        Ok(graph) => tell_aiger(alloc, other, graph),
+        Err(fault) => tell_overfull(alloc, fault),
+    }
+}
+
+// Makes the graph of a netlist without loops, and tells what comes of it.
+fn tell_graph_of(alloc: Global, other: &Netlist) -> Result<Outcome, AllocError>
+    requires loop_free { IsLoopFree other.now }
+    requires columns { columns other.now ≤ 1000000000 }
+    ensures { IfOk result (λ told. (net : Parts) (care : CareSet) (observe : Observed) (limit : ℕ) → IsNetlist net → Accepts net care observe →
+        rewritten_size_of net care ≤ 4000000 → IsRewriting net care other.now →
+        IsAccepted record { net = net; care = care; limit = limit; observe = observe } WritesGraph (outcome_of told)) }
+{
+    let made = graph(alloc, other);
+    tell_graph(alloc, other, &made)
+}
+
+// Rewrites an accepted netlist, and tells what comes of its graph.
+fn tell_graphed(
+    alloc: Global,
+    net: &Netlist,
+    blocks: &Blocks,
+    cut: &Cut,
+    sweeps: &SweepCounts,
+) -> Result<Outcome, AllocError>
+    requires valid { IsNetlist net.now }
+    requires blocks { AreBlocksOf net.now blocks.now }
+    requires cut { IsCutOf net.now cut.now }
+    requires sweeps { length sweeps.now.per_block ≡ length blocks.now.list }
+    requires columns { columns net.now ≤ 1000000000 }
+    ensures { IfOk result (λ told. (care : CareSet) (observe : Observed) (limit : ℕ) → Accepts net.now care observe →
+        AreSweepsOnCare net.now blocks.now cut.now care sweeps.now →
+        IsAccepted record { net = net.now; care = care; limit = limit; observe = observe } WritesGraph (outcome_of told)) }
+{
+    let rewriting = rewrite(alloc, net, blocks, cut, sweeps);
+    match &rewriting {
+        Ok(other) => tell_graph_of(alloc, other),
+        Err(fault) => tell_outgrown(alloc, fault),
+    }
 }
 
 // How many gates the rewritten netlist of an accepted one has. It is made, unless it is too large.
@@ -167,7 +238,7 @@ fn count_rewritten(
     requires blocks { AreBlocksOf net.now blocks.now }
     requires cut { IsCutOf net.now cut.now }
     requires sweeps { length sweeps.now.per_block ≡ length blocks.now.list }
-    requires inputs { length net.now.inputs ≤ 4000000000 }
+    requires columns { columns net.now ≤ 1000000000 }
     ensures { IfOk result (λ gates. (care : CareSet) (observe : Observed) → Accepts net.now care observe →
         AreSweepsOnCare net.now blocks.now cut.now care sweeps.now → gates ≡ length (rewritten_netlist net.now care).gates) }
 {
@@ -212,16 +283,18 @@ fn tell_acceptance(
     sweeps: &SweepCounts,
     loose: u32,
 ) -> Result<Outcome, AllocError>
+    requires valid { IsNetlist net.now }
     requires blocks { AreBlocksOf net.now blocks.now }
     requires cut { IsCutOf net.now cut.now }
     requires sweeps { length sweeps.now.per_block ≡ length blocks.now.list }
-    requires inputs { length net.now.inputs ≤ 4000000000 }
+    requires columns { columns net.now ≤ 1000000000 }
     ensures { IfOk result (λ told. (care : CareSet) → IsAcceptance net.now blocks.now cut.now care observe sweeps.now loose → (limit : ℕ) →
         IsAccepted record { net = net.now; care = care; limit = limit; observe = observe } (purpose_seen purpose) (outcome_of told)) }
 {
     match purpose {
         Purpose::Judge => tell_accepted(alloc, net, blocks, loose_told(observe, loose)),
         Purpose::Rewrite => tell_rewritten(alloc, net, blocks, cut, sweeps),
+        Purpose::Aiger => tell_graphed(alloc, net, blocks, cut, sweeps),
         Purpose::Demonstrate(cells) => {
             let rewritten = count_rewritten(alloc, net, blocks, cut, sweeps)?;
             tell_ring(alloc, cells, net, blocks, rewritten)
@@ -242,7 +315,7 @@ fn tell_refusal(
 {
     match purpose {
         Purpose::Judge | Purpose::Demonstrate(_) => tell_refused(alloc, net, refusal),
-        Purpose::Rewrite => tell_declined(alloc, net, refusal),
+        Purpose::Rewrite | Purpose::Aiger => tell_declined(alloc, net, refusal),
         Purpose::Storm(rounds) => tell_storm(alloc, net, refusal, rounds),
     }
 }
@@ -258,7 +331,7 @@ fn tell_verdict(
     verdict: &Verdict,
 ) -> Result<Outcome, AllocError>
     requires valid { IsNetlist net.now }
-    requires inputs { length net.now.inputs ≤ 4000000000 }
+    requires columns { columns net.now ≤ 1000000000 }
     requires blocks { AreBlocksOf net.now blocks.now }
     requires cut { IsCutOf net.now cut.now }
     requires fits { IsTellable net.now blocks.now verdict.now }
@@ -295,7 +368,7 @@ pub(crate) fn decide_netlist(
     d: &mut Diagrams,
 ) -> Result<Outcome, AllocError>
     requires valid { IsNetlist net.now }
-    requires inputs { length net.now.inputs ≤ 4000000000 }
+    requires columns { columns net.now ≤ 1000000000 }
     requires care { IsCareOf net.now care.now }
     requires limit { limit ≤ most_nodes }
     ensures { IfOk result (λ told. IsDecided record { net = net.now; care = care.now; limit = limit; observe = observe }

@@ -1,6 +1,7 @@
 // Reading the files of a command: what is in a file, or where the call ends.
 ghost use Rattle.std.specs.Prelude.{◌≡◌, ◌≤◌, Some, IfOk, IfErr, length, option_copied};
 ghost use Rattle.netlist.specs.Netlists.{IsNetlist};
+ghost use Rattle.aig_core.specs.Building.{columns};
 ghost use Rattle.care_sets.specs.Binding.{IsCareOf};
 ghost use Rattle.contents.specs.Seen.{error_seen};
 ghost use Rattle.cyc_io.specs.Faults.{ChangesCountOf};
@@ -58,7 +59,7 @@ pub(crate) fn read_netlist<S: Shelf>(
 ) -> Result<Netlist, Stop>
     ensures good { IfOk result (λ net. GoesOn (with_netlist file.now) net (shelf_call S.files S.faults shelf.old shelf.new)) }
     ensures valid { IfOk result IsNetlist }
-    ensures inputs { IfOk result (λ net. length net.inputs ≤ 4000000000) }
+    ensures columns { IfOk result (λ net. columns net ≤ 1000000000) }
     ensures bad { IfErr result (λ stop. StopsIn (with_netlist file.now) (shelf_call S.files S.faults shelf.old shelf.new) (stop_outcome stop)) }
     ensures same { S.files shelf.new ≡ S.files shelf.old }
 {

@@ -1,5 +1,6 @@
 // The ring arbiter of so many cells, decided as a file is.
 ghost use Rattle.std.specs.Prelude.{◌≡◌, ◌≤◌, Ok, IfOk, IfErr, length};
+ghost use Rattle.aig_core.specs.Building.{columns};
 ghost use Rattle.care_sets.specs.Binding.{IsCareOf};
 ghost use Rattle.commands.specs.Seen.{cells_seen};
 ghost use Rattle.contents.specs.CareFiles.{care_of as care_meant};
@@ -37,7 +38,7 @@ fn ring_texts(alloc: Global, cells: Cells) -> Result<(Vec<u8>, Vec<u8>), AllocEr
 fn ring_netlist(alloc: Global, text: &[u8]) -> Result<Netlist, Stop>
     ensures good { IfOk result (λ net. netlist_meant text.now ≡ Ok net) }
     ensures valid { IfOk result IsNetlist }
-    ensures inputs { IfOk result (λ net. length net.inputs ≤ 4000000000) }
+    ensures columns { IfOk result (λ net. columns net ≤ 1000000000) }
     ensures bad { IfErr result (λ stop. IsStoppedBy ring_file (netlist_meant text.now) (stop_outcome stop)) }
 {
     let file = Name::new(b"ring.blif".to_vec(alloc)?);
@@ -68,7 +69,7 @@ fn decide_ring_on(
     d: &mut Diagrams,
 ) -> Result<Outcome, Stop>
     requires valid { IsNetlist net.now }
-    requires inputs { length net.now.inputs ≤ 4000000000 }
+    requires columns { columns net.now ≤ 1000000000 }
     requires care { care.now ≡ care_text (cells_seen cells) }
     ensures { FollowsStill (ring_deciding_on (cells_seen cells) net.now) d.new (end_of result) }
 {

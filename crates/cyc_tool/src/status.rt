@@ -16,5 +16,5 @@ pub const WRITE_FAILED: u8 = 5;
 pub const LIMIT_REACHED: u8 = 6;
 /// No memory was found.
 pub const NO_MEMORY: u8 = 7;
-/// The rewritten netlist would be too large.
+/// The result would be too large.
 pub const TOO_LARGE: u8 = 8;

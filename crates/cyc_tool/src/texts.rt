@@ -8,6 +8,8 @@ ghost use Rattle.cyc_tool.specs.Plays.{delays_text};
 ghost use Rattle.cyc_tool.specs.Seen.{outcome_of};
 ghost use Rattle.cyc_tool.specs.Simulation.{sim_text};
 ghost use Rattle.cyc_tool.specs.Texts.{has_fault, limit_reached, on_both as both_of, on_err as err_of, on_out as out_of, read_failed, usage};
+ghost use Rattle.aig_core.specs.Answers.{FitsNetlist};
+ghost use Rattle.aiger_write.specs.Text.{aiger_text};
 ghost use Rattle.blif_write.specs.Written.{written};
 ghost use Rattle.loops.specs.Blocks.{AreBlocksOf};
 ghost use Rattle.loops.specs.Cuts.{IsCutOf};
@@ -21,6 +23,7 @@ use crate::outcome::Outcome;
 use crate::plays::end_lines;
 use crate::sim_lines::simulate;
 use crate::status;
+use aiger_write::write as write_aiger;
 use blif_write::write;
 use commands::Topic;
 use contents::Fault;
@@ -35,6 +38,7 @@ use report::{
     USAGE_TEXT, put_fault, put_help, put_limit, put_loops, put_read_failed, put_refusal,
     put_too_large, put_topic, put_version,
 };
+use rewriting::Built;
 use std::alloc::{AllocError, Global};
 
 pub(crate) fn on_err(alloc: Global, status: u8, err: Vec<u8>) -> Outcome
@@ -185,6 +189,18 @@ pub(crate) fn tell_netlist(alloc: Global, net: &Netlist) -> Result<Outcome, Allo
 {
     let mut sink = TextSink::new(alloc);
     match write(net, &mut sink) {
+        Ok(()) => Ok(on_out(alloc, status::DONE, sink.into_vec())),
+        Err(_) => Err(AllocError),
+    }
+}
+
+// A graph of a netlist as a text.
+pub(crate) fn tell_aiger(alloc: Global, net: &Netlist, graph: &Built) -> Result<Outcome, AllocError>
+    requires { FitsNetlist net.now graph.now }
+    ensures { IfOk result (λ told. outcome_of told ≡ done (Prints (aiger_text net.now graph.now))) }
+{
+    let mut sink = TextSink::new(alloc);
+    match write_aiger(net, graph, &mut sink) {
         Ok(()) => Ok(on_out(alloc, status::DONE, sink.into_vec())),
         Err(_) => Err(AllocError),
     }

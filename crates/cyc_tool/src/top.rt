@@ -1,5 +1,6 @@
 // The top call.
 ghost use Rattle.std.specs.Prelude.{◌≡◌, ◌⊎◌, ◌≤◌, [], All, None, Some, length};
+ghost use Rattle.aig_core.specs.Building.{columns};
 ghost use Rattle.care_sets.specs.Binding.{IsCareOf};
 ghost use Rattle.commands.specs.Seen.{command_seen, options_seen};
 ghost use Rattle.commands.specs.Words.{command_of, standard_input as standard_input_name};
@@ -7,7 +8,7 @@ ghost use Rattle.netlist.specs.Netlists.{IsNetlist};
 ghost use Rattle.sched_text.specs.Fitting.{FitsNetlist};
 ghost use Rattle.sched_text.specs.Vectors.{HaveWidth};
 ghost use Rattle.cyc_tool.specs.Calls.{shelf_call, sink_call, ComesTo, Follows, KeepsNodes, Tells, Runs, WriteFailed};
-ghost use Rattle.cyc_tool.specs.Causes.{GivesAnswer, HasRewritten, HasStormed, IsComplete, IsDoneWith, IsFaulty, IsHelpedBy, IsUnread, IsWithoutCommand, MeetsLimit, NoneFell, Reaches};
+ghost use Rattle.cyc_tool.specs.Causes.{GivesAnswer, HasGraph, HasRewritten, HasStormed, IsComplete, IsDoneWith, IsFaulty, IsHelpedBy, IsUnread, IsWithoutCommand, MeetsLimit, NoneFell, Reaches};
 ghost use Rattle.cyc_tool.specs.Plays.{AreInputs, known as known_of};
 ghost use Rattle.cyc_tool.specs.Plans.{Decides, decision, deciding, deciding_on, finding_loops, flattening, plan_of, play_on, playing, replaying, replaying_on, simulating, simulating_on};
 ghost use Rattle.cyc_tool.specs.Reading.{FollowsAlone, FollowsStill, FollowsStillAlone};
@@ -47,7 +48,7 @@ fn decide_on_care(
     d: &mut Diagrams,
 ) -> Result<Outcome, Stop>
     requires valid { IsNetlist net.now }
-    requires inputs { length net.now.inputs ≤ 4000000000 }
+    requires columns { columns net.now ≤ 1000000000 }
     requires care { IsCareOf net.now care.now }
     ensures { FollowsStill (Decides (decision net.now care.now (options_seen options.entry)) (purpose_seen purpose)) d.new (end_of result) }
 {
@@ -66,7 +67,7 @@ fn decide_on_care_file<S: Shelf>(
     d: &mut Diagrams,
 ) -> Result<Outcome, Stop>
     requires valid { IsNetlist net.now }
-    requires inputs { length net.now.inputs ≤ 4000000000 }
+    requires columns { columns net.now ≤ 1000000000 }
     ensures comes { Follows (deciding_on net.now (options_seen options.entry) (purpose_seen purpose))
         (shelf_call S.files S.faults shelf.old shelf.new) d.new (end_of result) }
     ensures same { S.files shelf.new ≡ S.files shelf.old }
@@ -291,6 +292,9 @@ fn carry_out<S: Shelf>(
         Command::Rewrite(netlist, options) => {
             decide_file(alloc, shelf, netlist, options, Purpose::Rewrite, d)
         }
+        Command::Aiger(netlist, options) => {
+            decide_file(alloc, shelf, netlist, options, Purpose::Aiger, d)
+        }
         Command::Flat(netlist) => flat(alloc, shelf, netlist),
         Command::Loops(netlist) => loops(alloc, shelf, netlist),
         Command::Sim(netlist, vectors) => sim(alloc, shelf, netlist, vectors),
@@ -434,7 +438,8 @@ fn answer_with<S: Shelf, O: Sink, E: Sink>(
 ///
 /// 0: done or accepted. 1: refused. 2: the words aren't in the grammar. 3: a file has a fault. 4: a file wasn't read.
 /// 5: a write failed; each sink has a prefix of its text. 6: the limit of nodes was met, which is below what is enough.
-/// 7: want of memory. 8: the rewritten netlist would have over 4,000,000 gates and latches, or the storm as many events.
+/// 7: want of memory. 8: the rewritten netlist would have over 4,000,000 gates and latches, its graph as many ANDs, or the
+/// storm as many events.
 pub fn run<S: Shelf, O: Sink, E: Sink>(
     alloc: Global,
     words: &[Name],
@@ -470,6 +475,8 @@ pub fn run<S: Shelf, O: Sink, E: Sink>(
         → Reaches (HasStormed (sink_call O.put O.faults out.old out.new)) (request kind text words.now probes.items) (shelf_call S.files S.faults shelf.old shelf.new) }
     ensures rewritten { result ≡ 0
         → Reaches (HasRewritten (sink_call O.put O.faults out.old out.new)) (request kind text words.now probes.items) (shelf_call S.files S.faults shelf.old shelf.new) }
+    ensures graphed { result ≡ 0
+        → Reaches (HasGraph (sink_call O.put O.faults out.old out.new)) (request kind text words.now probes.items) (shelf_call S.files S.faults shelf.old shelf.new) }
 
     // What follows where the files are told.
     ensures answer { GivesAnswer (request kind text words.now probes.items) (shelf_call S.files S.faults shelf.old shelf.new) d.new

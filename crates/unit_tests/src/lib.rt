@@ -8,6 +8,8 @@ mod comparisons;
 #[cfg(test)]
 mod diagrams;
 #[cfg(test)]
+mod explained;
+#[cfg(test)]
 mod fixpoints;
 #[cfg(test)]
 mod formulas;
@@ -16,9 +18,15 @@ mod graphs;
 #[cfg(test)]
 mod netlists;
 #[cfg(test)]
+mod operations;
+#[cfg(test)]
+mod plays;
+#[cfg(test)]
 mod rails;
 #[cfg(test)]
 mod refused;
+#[cfg(test)]
+mod simulators;
 #[cfg(test)]
 mod streams;
 #[cfg(test)]

@@ -16,6 +16,12 @@ returns-in-Rewrite c =
     rw c.in-Rewrite.is (is care c.args.observe limit acceptance.accepts acceptance.sweeps))
     c.tell_rewritten.ensures
 
+pub returns-in-Aiger : goal.returns-in-Aiger
+returns-in-Aiger c =
+    IfOk-weaker c.tell_graphed.result _ _ (λ told is care acceptance limit.
+    rw c.in-Aiger.is (is care c.args.observe limit acceptance.accepts acceptance.sweeps))
+    c.tell_graphed.ensures
+
 pub returns-in_ok-rewritten-in-Demonstrate : goal.returns-in_ok-rewritten-in-Demonstrate
 returns-in_ok-rewritten-in-Demonstrate c =
     IfOk-weaker c.tell_ring.result _ _ (λ told is care acceptance limit.

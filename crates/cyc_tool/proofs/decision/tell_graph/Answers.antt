@@ -6,5 +6,5 @@ tell_aiger-requires c = rw c.in-Ok.is at c.requires
 pub returns-in-Ok : goal.returns-in-Ok
 returns-in-Ok c = rw c.in-Ok.is c.tell_aiger.ensures
 
-pub returns-in-Err-TooLarge : goal.returns-in-Err-TooLarge
-returns-in-Err-TooLarge c = rw c.in-Err-TooLarge.is c.tell_too_large.ensures
+pub returns-in-Err : goal.returns-in-Err
+returns-in-Err c = rw c.in-Err.is c.tell_overfull.ensures

@@ -17,8 +17,8 @@ returns-in-Ok c =
     is c.args.net.now care what limit c.requires.valid accepts (small care sweeps) (rewriting care what accepts sweeps))
     c.tell_graph_of.ensures
 
-pub returns-in-Err : goal.returns-in-Err
-returns-in-Err c =
+pub returns : goal.returns
+returns c =
     let fault = rw c.in-Err.is at c.rewrite-rewriting.ensures.fault in
     IfOk-weaker c.tell_outgrown.result _ _ (λ told is care what limit accepts sweeps.
     outgrown_graph c.args.net.now care limit what c.in-Err.fault told is (fault care sweeps))

@@ -11,6 +11,9 @@ returns-in-Check-clause-comes g c = rw c.in-Check.is c.decide_file.ensures.comes
 pub returns-in-Rewrite-clause-comes : goal.returns-in-Rewrite-clause-comes
 returns-in-Rewrite-clause-comes g c = rw c.in-Rewrite.is c.decide_file-in-Rewrite.ensures.comes
 
+pub returns-in-Aiger-clause-comes : goal.returns-in-Aiger-clause-comes
+returns-in-Aiger-clause-comes g c = rw c.in-Aiger.is c.decide_file-in-Aiger.ensures.comes
+
 pub returns-in-Flat-clause-comes : goal.returns-in-Flat-clause-comes
 returns-in-Flat-clause-comes g c = rw c.in-Flat.is (c.flat.ensures.comes.follows c.args.d.now)
 
