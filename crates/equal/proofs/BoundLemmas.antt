@@ -11,7 +11,7 @@ use Rattle.bdd_store.specs.Arena.{Arena}
 use Rattle.netlist.specs.declared.parts.Gate.{Gate}
 use Rattle.netlist.specs.declared.parts.Latch.{Latch}
 use Rattle.netlist.specs.declared.parts.Parts.{Parts}
-use Rattle.netlist.specs.Netlists.{count, gate_at, no_gate}
+use Rattle.netlist.specs.Netlists.{count, gate_at, no_gate, IsNetlist}
 use Rattle.dual_rail.specs.Local.{size}
 use Rattle.fixpoint.specs.Orders.{order}
 use Rattle.fixpoint.specs.Working.{effort, HasLargeCover}
@@ -22,9 +22,10 @@ use Rattle.verdict.specs.Enough.{in_all, enough, IsBelowEnough}
 use Rattle.differences.specs.Comparisons.{IsBelowEnoughFor}
 use Rattle.unroll.specs.Marks.{mark}
 use Rattle.equal.specs.Bounds.{in_both, IsBelowEnoughForBoth, IsOutOfNodesForBoth}
-use Rattle.equal.specs.Matching.{name_of}
+use Rattle.equal.specs.Matching.{name_of, unmatched}
 use Rattle.equal.specs.Differences.{columns_by_name, pair_of, signal_named, source_named, output_pairs, latch_pairs, model_of, HaveOneSource}
 use Rattle.equal.specs.Joined.{moved_gate_by, moved_gates, moved_pair_by, joined, joined_pairs}
+use Rattle.equal.proofs.BothLemmas.{both_are_wide}
 use Rattle.equal.proofs.JoinLemmas.{first_gate, second_gate, length-joined}
 
 -- ---- the joined netlist's gates are those of both
@@ -87,10 +88,10 @@ module _ (a : Parts) (care_a : CareSet) (b : Parts) (care_b : CareSet) (limit : 
       product_le w (in_all (λ net. length net.gates) (joined a b []) care_a + 2) (in_all effort (joined a b []) care_a + columns a + 4)
       (in_both (λ net. length net.gates) a care_a b care_b + 2) (in_both effort a care_a b care_b + columns a + 4) (omega arith) (omega arith)
 
-  pub below_both : IsBelowEnoughFor (order a) (joined a b []) care_a (joined_pairs a b) limit → IsBelowEnoughForBoth a care_a b care_b limit
-  below_both is = record {
+  pub below_both : IsNetlist a → IsNetlist b → unmatched a b ≡ None → IsBelowEnoughFor (order a) (joined a b []) care_a (joined_pairs a b) limit → IsBelowEnoughForBoth a care_a b care_b limit
+  below_both valid_a valid_b none is = record {
     below = λ v w u wide_a wide_b wide.
-        below_three limit (enough a care_a v) (enough b care_b w) _ _ (enough (joined a b []) care_a u) (8 * u * length (joined_pairs a b)) (is.below u wide) (joined_le u)
+        below_three limit (enough a care_a v) (enough b care_b w) _ _ (enough (joined a b []) care_a u) (8 * u * length (joined_pairs a b)) (is.below u (both_are_wide a b care_a care_b valid_a valid_b none u wide)) (joined_le u)
         (ap (λ n. 8 * u * n) (length_pairs a b));
   }
 

@@ -34,12 +34,12 @@ use Rattle.equal.proofs.MatchLemmas.{Match, table_within, length-table, length-b
 
 -- ---- where signals stand
 
-moved_low : (a b : Parts) (s : Sig) → s.0 < columns b → moved a b s ≡ signal (get_or (columns_by_name a b) s.0 0)
+pub moved_low : (a b : Parts) (s : Sig) → s.0 < columns b → moved a b s ≡ signal (get_or (columns_by_name a b) s.0 0)
 moved_low a b s l =
     let e = length-table a b in
     ap (λ t. if t then signal (get_or (columns_by_name a b) s.0 0) else signal (count a + (s.0 - length (columns_by_name a b)))) (lt-ltb s.0 (length (columns_by_name a b)) (omega arith))
 
-moved_high : (a b : Parts) (s : Sig) → columns b ≤ s.0 → moved a b s ≡ signal (count a + (s.0 - columns b))
+pub moved_high : (a b : Parts) (s : Sig) → columns b ≤ s.0 → moved a b s ≡ signal (count a + (s.0 - columns b))
 moved_high a b s l =
     let e = length-table a b in
     ap (λ t. if t then signal (get_or (columns_by_name a b) s.0 0) else signal (count a + (s.0 - length (columns_by_name a b)))) (le-ltb s.0 (length (columns_by_name a b)) (omega arith))

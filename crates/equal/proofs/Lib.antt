@@ -8,3 +8,6 @@ pub mod DifferenceLemmas
 pub mod CompareLemmas
 pub mod ValidLemmas
 pub mod BoundLemmas
+pub mod BareLemmas
+pub mod StandingLemmas
+pub mod BothLemmas

@@ -1,22 +1,20 @@
 -- How many nodes are enough for a comparison, and what its node limit rests on.
-use Rattle.std.specs.Prelude.{◌≡◌, ◌<◌, ◌+◌, ◌*◌, ◌⊎◌, ℕ, [], length}
+use Rattle.std.specs.Prelude.{◌≡◌, ◌<◌, ◌+◌, ◌*◌, ◌⊎◌, ℕ, length}
 use Rattle.bdd_store.specs.Arena.{Arena}
 use Rattle.dual_rail.specs.WorkingLists.{IsWide}
 use Rattle.netlist.specs.declared.parts.Parts.{Parts}
-use Rattle.fixpoint.specs.Orders.{order}
 use Rattle.fixpoint.specs.Working.{effort, HasLargeCover}
 use Rattle.care_sets.specs.Care.{CareSet, columns}
 use Rattle.verdict.specs.Causes.{HasModelOver}
 use Rattle.verdict.specs.Enough.{IsLaid, in_all, enough}
-use Rattle.differences.specs.Comparisons.{IsLaidBy}
-use Rattle.equal.specs.Joined.{joined}
+use Rattle.equal.specs.Both.{IsLaidForBoth}
 
 -- a number of both netlists and their care models together
 abbrev pub in_both : (Parts → ℕ) → Parts → CareSet → Parts → CareSet → ℕ
 in_both f a care_a b care_b = in_all f a care_a + in_all f b care_b
 
 -- So many nodes are enough: for the first decision, where v is wide for it, for the second, where w is, and for the
--- comparison, where u is wide for the functions of both netlists' gates on the first one's columns in its order.
+-- comparison, where u is wide for the functions of both decisions, laid by the first one's order.
 abbrev pub enough_for_both : Parts → CareSet → Parts → CareSet → ℕ → ℕ → ℕ → ℕ
 enough_for_both a care_a b care_b v w u =
     enough a care_a v + enough b care_b w
@@ -26,7 +24,7 @@ enough_for_both a care_a b care_b v w u =
 -- the limit is below that
 pub record IsBelowEnoughForBoth (a : Parts) (care_a : CareSet) (b : Parts) (care_b : CareSet) (limit : ℕ) : Type 0 where
   pub below : (v w u : ℕ) → IsWide (columns a) (IsLaid a care_a) v → IsWide (columns b) (IsLaid b care_b) w →
-      IsWide (columns a) (IsLaidBy (order a) (joined a b []) care_a) u → limit < enough_for_both a care_a b care_b v w u
+      IsWide (columns a) (IsLaidForBoth a care_a b care_b) u → limit < enough_for_both a care_a b care_b v w u
 
 -- What a node limit rests on: the diagrams hold as many nodes as they may, or a cover of one of the netlists or of a care
 -- model has more.

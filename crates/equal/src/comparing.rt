@@ -98,6 +98,7 @@ fn compare_second(
     ensures below { result ≡ Err (EqualFault.NodeLimit limit) → IsBelowEnoughForBoth a.now care_a.now b.now care_b.now limit }
 {
     let _ = b.gates();
+    let _ = a.gates();
     match refusal_of(alloc, d, b, care_b, limit) {
         Ok(Some(refusal)) => Ok(Answer::Second(refusal)),
         Ok(None) => compare_accepted(alloc, d, a, b, care_a, limit),

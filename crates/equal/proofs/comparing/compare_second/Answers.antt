@@ -21,7 +21,7 @@ returns-in-Ok-None c = record {
       (told_last c.args.a.now c.args.care_a.now c.args.b.now c.args.care_b.now c.requires.matched c.requires.accepted (sym c.in-Ok-None.field-0-is ∙ c.in-Ok-None.ensures.refusal)) c.compare_accepted.ensures.answer;
   fault = c.compare_accepted.ensures.fault;
   cause = λ e. out_both c.compare_accepted.new.d c.args.a.now c.args.care_a.now c.args.b.now c.args.limit (c.compare_accepted.ensures.cause e);
-  below = λ e. below_both c.args.a.now c.args.care_a.now c.args.b.now c.args.care_b.now c.args.limit (c.compare_accepted.ensures.below e);
+  below = λ e. below_both c.args.a.now c.args.care_a.now c.args.b.now c.args.care_b.now c.args.limit c.gates-2.ensures.valid c.gates.ensures.valid c.requires.matched (c.compare_accepted.ensures.below e);
 }
 
 pub returns-in-Err-clause-cause : goal.returns-in-Err-clause-cause
