@@ -116,11 +116,10 @@ told_as end same_end out err status whole same = let P : Outcome → Type 0 = λ
 
 -- an explanation that was told
 explains_wire : (out err : SinkCall) (end : Outcome) (status : ℕ) (rest : Plan) → IsTold end out err status → ExplainedAt end rest → ExplainsWire out err rest × (status ≡ 1)
-explains_wire out err end status (Decides decision Explains) whole explained =
-    (
-      (explained.vector, (explained.wire, why_told decision out err end whole.out_text whole.err_text explained)),
-      whole.is ∙ ap (λ (o : Outcome). o.status) explained.shown.is,
-    )
+explains_wire out err end status (Decides decision Explains) whole explained = (
+  (explained.vector, (explained.wire, why_told decision out err end whole.out_text whole.err_text explained)),
+  whole.is ∙ ap (λ (o : Outcome). o.status) explained.shown.is,
+)
 explains_wire out err end status (Decides decision Judges) whole explained = absurd explained
 explains_wire out err end status (Decides decision Rewrites) whole explained = absurd explained
 explains_wire out err end status (Decides decision WritesGraph) whole explained = absurd explained

@@ -21,8 +21,8 @@ use Rattle.storm.specs.Storms.{most_events}
 use Rattle.storm.specs.Laws.{StormsNeverRest}
 use Rattle.refusals.proofs.LawLemmas.{accepted_without_refusal, refusal_is_shown}
 use Rattle.cyc_tool.specs.Answer.{told, decided, verdict_of}
-use Rattle.cyc_tool.specs.Calls.{ShelfCall, SinkCall, WriteFailed, Takes, AreGiven, EndsAt, rest_of, ComesTo, Follows, IsDecided, IsExplained, IsMade, IsMadeFor, IsToldAlone, Verdict, Explained, Limit, IsTold, Tells, Runs}
-use Rattle.cyc_tool.specs.Causes.{IsHelped, IsHelpedBy, IsWithoutCommand, Leads, Reaches, IsFaulty, IsUnread, MeetsLimit, IsVerdict, IsDoneWith, HasExplained, HasWhy, ExplainsWire, HasGraph, HasRewritten, HasStormed}
+use Rattle.cyc_tool.specs.Calls.{ShelfCall, SinkCall, WriteFailed, Takes, AreGiven, EndsAt, rest_of, ComesTo, Follows, IsDecided, IsExplained, IsMade, IsMadeFor, Verdict, Explained, Limit, IsTold, Tells, Runs}
+use Rattle.cyc_tool.specs.Causes.{IsHelped, IsHelpedBy, IsWithoutCommand, Leads, Reaches, IsFaulty, IsUnread, MeetsLimit, IsVerdict, IsDoneWith, HasExplained, HasWhy, HasGraph, HasRewritten, HasStormed}
 use Rattle.cyc_tool.specs.Endings.{aiger_told, ending_of, storm_or_refusal}
 use Rattle.cyc_tool.specs.Storms.{events_of, events_told, storm_text}
 use Rattle.cyc_tool.specs.Plans.{Ending, Prints, PrintsBeside, Refuses, Declines, Outgrows, Decision, Purpose, Judges, Rewrites, WritesGraph, Explains, Demonstrates, Storms, Plan, Reads, Faulty, Ends, Decides, plan_of}
@@ -79,9 +79,11 @@ shown_at shelf nodes end (Decides decision purpose) ends = by_decision ends.1
         (ending_status (ending_of decision purpose (verdict_of decision)) end.status (ap status_of same))
     by_decision (Explained same explained) =
         let one : end.status ≡ 1 = ap status_of explained.shown.is in
-        Done (Some (Undetermined explained.vector explained.wire),
-            verdict_is decision (Some (Undetermined explained.vector explained.wire)) ends.0 explained.refused,
-            one ∙ subst (λ (p : Purpose). 1 ≡ (decided decision p (Some (Undetermined explained.vector explained.wire))).status) (sym same) refl)
+        Done (
+          Some (Undetermined explained.vector explained.wire),
+          verdict_is decision (Some (Undetermined explained.vector explained.wire)) ends.0 explained.refused,
+          one ∙ subst (λ (p : Purpose). 1 ≡ (decided decision p (Some (Undetermined explained.vector explained.wire))).status) (sym same) refl,
+        )
         (One one)
     by_decision (Limit limited same) = Full limited (ap status_of same)
 

@@ -482,7 +482,7 @@ pub fn run<S: Shelf, O: Sink, E: Sink>(
         → Reaches (HasGraph (sink_call O.put O.faults out.old out.new)) (request kind text words.now probes.items) (shelf_call S.files S.faults shelf.old shelf.new) }
     ensures explained { result ≡ 1
         → Reaches (HasExplained (sink_call O.put O.faults out.old out.new) (sink_call E.put E.faults err.old err.new))
-            (request kind text words.now probes.items) (shelf_call S.files S.faults shelf.old shelf.new) }
+        (request kind text words.now probes.items) (shelf_call S.files S.faults shelf.old shelf.new) }
 
     // What follows where the files are told.
     ensures answer { GivesAnswer (request kind text words.now probes.items) (shelf_call S.files S.faults shelf.old shelf.new) d.new

@@ -1,10 +1,8 @@
-use Rattle.std.proofs.Common.{◌≡◌, ◌+◌, ◌-◌, ℕ, length, ap, sym, ◌∙◌, subst, arith}
+use Rattle.std.proofs.Common.{◌≡◌, ◌+◌, ◌-◌, ℕ, length, ap, ◌∙◌, subst, arith}
 use Rattle.std.proofs.lemmas.Result.{IfOk-weaker}
-use Rattle.cyc_base.specs.declared.sig.Sig.{Sig}
-use Rattle.cyc_base.specs.declared.trit.Trit.TheVariants.{X}
 use Rattle.cyc_base.specs.Values.{bits}
 use Rattle.netlist.specs.Fixpoint.{fix, wire}
-use Rattle.netlist.specs.Netlists.{signal, gate_sig}
+use Rattle.netlist.specs.Netlists.{gate_sig}
 use Rattle.explanations.specs.Explained.{Explains}
 use Rattle.cyc_tool.proofs.ExplainedLemmas.{fits_netlist, was_explained, number_of_gate}
 use Rattle.cyc_tool.proofs.explained.tell_wire.Goals as goal
@@ -33,8 +31,8 @@ returns-in-Some c =
     was_explained c.args.net.now c.args.vector.now c.args.wire c.in-Some.why _ explains (rw c.requires.refusal at same))
     c.tell_explanation.ensures
 
-pub returns-in-None : goal.returns-in-None
-returns-in-None c =
+pub returns : goal.returns
+returns c =
     let inputs = c.inputs.ensures.inputs in
     let latches = c.latches.ensures.latches in
     let behind = c.requires.at.gate.behind in
