@@ -21,5 +21,6 @@ pub use loop_text::put_loops;
 pub use message::{
     NO_MEMORY_TEXT, USAGE_TEXT, put_limit, put_no_memory, put_read_failed, put_too_large, put_usage,
 };
+pub use put::{put_three, put_two};
 pub use tick::{put_played_tick, put_tick};
-pub use verdict::{put_accepted, put_refusal, put_ring};
+pub use verdict::{put_accepted, put_refusal, put_ring, put_vector};

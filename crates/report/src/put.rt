@@ -5,14 +5,14 @@ ghost use Rattle.cyc_io.specs.Taken.{IsAppended, sink_call};
 use cyc_io::{Failed, Sink, write_whole};
 use itoa::Buffer;
 
-pub(crate) fn put_two<K: Sink>(sink: &mut K, front: &[u8], back: &[u8]) -> Result<(), Failed>
+pub fn put_two<K: Sink>(sink: &mut K, front: &[u8], back: &[u8]) -> Result<(), Failed>
     ensures { IsAppended (front.now ++ back.now) (sink_call K.put K.faults sink.old sink.new) result }
 {
     write_whole(sink, front)?;
     write_whole(sink, back)
 }
 
-pub(crate) fn put_three<K: Sink>(
+pub fn put_three<K: Sink>(
     sink: &mut K,
     front: &[u8],
     middle: &[u8],

@@ -66,8 +66,8 @@ fn put_at<K: Sink>(sink: &mut K, net: &Netlist, vector: &[bool]) -> Result<(), F
     put_last_columns(sink, net, 0, vector)
 }
 
-// A vector, where there is a column, and the end of the line.
-fn put_vector<K: Sink>(sink: &mut K, net: &Netlist, vector: &[bool]) -> Result<(), Failed>
+/// Appends a vector, where there is a column, and the end of the line. It takes no memory.
+pub fn put_vector<K: Sink>(sink: &mut K, net: &Netlist, vector: &[bool]) -> Result<(), Failed>
     requires valid { IsNetlist net.now }
     requires fits { length vector.now ≤ count net.now }
     ensures { IsAppended (vector_text net.now vector.now) (sink_call K.put K.faults sink.old sink.new) result }

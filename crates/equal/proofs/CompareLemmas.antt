@@ -1,0 +1,158 @@
+-- The steps of a comparison.
+use Rattle.std.proofs.Common.{◌≡◌, ℕ, ◌+◌, ◌-◌, ◌≤◌, Bool, ◌&&◌, List, [], ◌∷◌, ◌++◌, length, All, Option, Some, None, IfSome, refl, sym, ap, ap₂, subst, ◌∙◌, arith}
+use Rattle.std.specs.Prelude.{option_map, Result, IfOk, Ok, Err}
+use Rattle.std.proofs.lemmas.List.Elements.{All-map}
+use Rattle.cyc_base.specs.declared.sig.Sig.{Sig}
+use Rattle.cyc_base.specs.Vectors.{vectors}
+use Rattle.std.specs.Option.{option_map_or}
+use Rattle.netlist.specs.Faults.{first_there}
+use Rattle.netlist.specs.declared.parts.Gate.{Gate}
+use Rattle.netlist.specs.declared.parts.Parts.{Parts}
+use Rattle.netlist.specs.Netlists.{count, IsNetlist}
+use Rattle.care_sets.specs.Binding.{IsBoundTo, IsCareOf}
+use Rattle.care_sets.specs.declared.model.CareModel.{CareModel}
+use Rattle.care_sets.specs.Care.{CareSet, columns, is_care_vector}
+use Rattle.refusals.specs.declared.observe.Observe.TheVariants as observe
+use Rattle.refusals.specs.declared.refusal.Refusal.{Refusal}
+use Rattle.refusals.specs.Acceptance.{Accepts}
+use Rattle.refusals.specs.Refusals.{refusal}
+use Rattle.refusals.proofs.FirstLemmas.{find-filter, found_wide}
+use Rattle.refusals.proofs.LawLemmas.{accepted_without_refusal}
+use Rattle.refusals.proofs.ShowingLemmas.{care_vector_decides}
+use Rattle.differences.specs.Pairs.{some_is_apart, least_apart, IsPairOf}
+use Rattle.loops.specs.declared.structure.Blocks.{Blocks}
+use Rattle.loops.specs.declared.structure.Cut.{Cut}
+use Rattle.loops.specs.declared.structure.SweepCounts.{SweepCounts}
+use Rattle.verdict.specs.declared.verdict.Verdict.{Verdict}
+use Rattle.verdict.specs.declared.verdict.Verdict.TheVariants.{Accepted, Refused}
+use Rattle.verdict.specs.Verdicts.{IsAcceptance, IsVerdict}
+use Rattle.refusals.specs.declared.refusal.Refusal.TheVariants.{Undetermined}
+use Rattle.equal.specs.declared.least.Early.{Early}
+use Rattle.equal.specs.declared.least.Early.TheVariants.{Found}
+use Rattle.equal.specs.Early.{IsFound, IsKnownEarly}
+use Rattle.equal.specs.Matching.{unmatched}
+use Rattle.equal.specs.declared.answer.Answer.{Answer}
+use Rattle.equal.specs.declared.answer.Answer.TheVariants.{Equal, Unmatched, First, Second}
+use Rattle.equal.specs.Differences.{columns_by_name, by_name, output_pairs, latch_pairs, differs, difference, at_difference, comparison_of_accepted, comparison, HaveOneSource, AreAccepted}
+use Rattle.equal.specs.Joined.{moved_pair_by, joined, joined_pairs}
+use Rattle.equal.proofs.MatchLemmas.{matched, length-by_name, length-table, care_by_name}
+use Rattle.equal.proofs.JoinLemmas.{pairs_for, apart_same, moved_within, length-joined}
+use Rattle.equal.proofs.DifferenceLemmas.{agree_on_care, known_a}
+
+-- what decide accepts, nothing refuses
+pub accepted_none : (net : Parts) (care : CareSet) → IsNetlist net → Accepts net care observe.All → refusal net care observe.All ≡ None
+accepted_none net care valid accepts = (accepted_without_refusal net care observe.All valid).1 accepts
+
+-- two netlists that are accepted, each on its care set
+pub both_accepted : (a b : Parts) (care_a care_b : CareSet) → IsNetlist b → IsCareOf a care_a → IsCareOf b care_b → HaveOneSource care_a care_b →
+    refusal a care_a observe.All ≡ None → refusal b care_b observe.All ≡ None → AreAccepted a b care_a
+both_accepted a b care_a care_b valid_b is_a is_b one first second = record {
+  first = first;
+  second = λ v counts.
+      let accepts = (accepted_without_refusal b care_b observe.All valid_b).0 second in
+      accepts.determined (by_name a b v)
+      (care_vector_decides b care_b (by_name a b v) (length-by_name a b v)
+      (care_by_name a b care_a care_b v is_a is_b one ∙ ap₂ (λ s t. s && t) counts.state counts.allowed));
+}
+
+-- a care set of the first netlist is one of the joined netlist, which has its columns
+bound_joined : (a b : Parts) (more : List Gate) (first : ℕ) (model : Option CareModel) → IfSome model (IsBoundTo a first) → IfSome model (IsBoundTo (joined a b more) first)
+bound_joined a b more first None h = h
+bound_joined a b more first (Some m) h = record { start = h.start; names = record { named = h.names.named }; late = h.late }
+
+pub care_joined : (a b : Parts) (more : List Gate) (care : CareSet) → IsCareOf a care → IsCareOf (joined a b more) care
+care_joined a b more care is = record {
+  assume = bound_joined a b more 0 care.assume is.assume;
+  invariant = bound_joined a b more (length a.inputs) care.invariant is.invariant;
+}
+
+module _ (a b : Parts) (valid_a : IsNetlist a) (valid_b : IsNetlist b) (none : unmatched a b ≡ None) where
+  -- pairs have numbers in the joined netlist
+  pub pairs_fit : (table : List ℕ) (most : ℕ) → table ≡ columns_by_name a b → count a + length b.gates ≤ most → All (λ pair. count a + (pair.there.0 - length table) ≤ most) (output_pairs a b ++ latch_pairs a b)
+  pairs_fit table most is fits k d l =
+      let p = pairs_for a b valid_a valid_b (matched a b none) k d l in
+      let there = p.there in
+      let e : length table ≡ columns b = ap length is ∙ length-table a b in
+      omega arith
+
+  -- and are wires of it
+  pub pairs_joined : (more : List Gate) → All (IsPairOf (joined a b more)) (joined_pairs a b)
+  pairs_joined more =
+      All-map (IsPairOf (joined a b more)) (moved_pair_by (columns_by_name a b) (count a)) (output_pairs a b ++ latch_pairs a b)
+      (λ k d l.
+      let p = pairs_for a b valid_a valid_b (matched a b none) k d l in
+      let e = length-joined a b more in
+      let here = p.here in
+      record { here = omega arith; there = moved_within a b more (matched a b none) _ p.there })
+
+  module _ (care : CareSet) (accepted : AreAccepted a b care) where
+    -- so the least vector of the joined netlist on which some pair differs is that of the two netlists
+    pub least_joined : (more : List Gate) → least_apart (joined a b more) care (joined_pairs a b) ≡ difference a b care
+    least_joined more =
+        agree_on_care a care (some_is_apart (joined a b more) (joined_pairs a b)) (differs a b)
+        (λ v counts. apart_same a b more valid_a valid_b (matched a b none) v counts.width (known_a a b care valid_a valid_b (matched a b none) accepted v counts) (accepted.second v counts))
+
+-- such a vector has the first netlist's width
+pub difference_wide : (a b : Parts) (care : CareSet) (v : List Bool) → difference a b care ≡ Some v → length v ≡ columns a
+difference_wide a b care v is =
+    found_wide (columns a) (λ w. is_care_vector a care w && differs a b w) v (sym (find-filter (differs a b) (is_care_vector a care) (vectors (columns a))) ∙ is)
+
+-- ---- the answer, part by part
+
+abbrev told : Option (List ℕ) → Option Refusal → Option Refusal → Answer → Answer
+told name first second last = option_map_or (λ (answer : Answer). answer) (first_there (option_map Unmatched name ∷ option_map First first ∷ option_map Second second ∷ [])) last
+
+module _ (a : Parts) (care_a : CareSet) (b : Parts) (care_b : CareSet) where
+  pub told_unmatched : (name : List ℕ) → Some name ≡ unmatched a b → Unmatched name ≡ comparison a care_a b care_b
+  told_unmatched name is = ap (λ n. told n (refusal a care_a observe.All) (refusal b care_b observe.All) (comparison_of_accepted a b care_a)) is
+
+  module _ (none : unmatched a b ≡ None) where
+    pub told_first : (r : Refusal) → Some r ≡ refusal a care_a observe.All → First r ≡ comparison a care_a b care_b
+    told_first r is = ap₂ (λ n x. told n x (refusal b care_b observe.All) (comparison_of_accepted a b care_a)) (sym none) is
+
+    pub told_second : (r : Refusal) → None ≡ refusal a care_a observe.All → Some r ≡ refusal b care_b observe.All → Second r ≡ comparison a care_a b care_b
+    told_second r first is =
+        ap₂ (λ n x. told n x (Some r) (comparison_of_accepted a b care_a)) (sym none) first
+        ∙ ap (λ y. told (unmatched a b) (refusal a care_a observe.All) y (comparison_of_accepted a b care_a)) is
+
+    pub told_last : None ≡ refusal a care_a observe.All → None ≡ refusal b care_b observe.All → comparison_of_accepted a b care_a ≡ comparison a care_a b care_b
+    told_last first second =
+        ap₂ (λ n x. told n x None (comparison_of_accepted a b care_a)) (sym none) first
+        ∙ ap (λ y. told (unmatched a b) (refusal a care_a observe.All) y (comparison_of_accepted a b care_a)) second
+
+-- at a vector, or nowhere
+pub told_at : (a b : Parts) (care : CareSet) (v : List Bool) → Some v ≡ difference a b care → at_difference a b v ≡ comparison_of_accepted a b care
+told_at a b care v is = ap (λ o. option_map_or (at_difference a b) o Equal) is
+
+pub told_nowhere : (a b : Parts) (care : CareSet) → None ≡ difference a b care → Equal ≡ comparison_of_accepted a b care
+told_nowhere a b care is = ap (λ o. option_map_or (at_difference a b) o Equal) is
+
+-- a netlist that is accepted has no refusal's vector
+pub accepted_early : (net : Parts) (blocks : Blocks) (cut : Cut) (care : CareSet) (counts : SweepCounts) (loose : ℕ) → IsNetlist net → IsAcceptance net blocks cut care observe.All counts loose → IsKnownEarly net care (Found None)
+accepted_early net blocks cut care counts loose valid is s None e = refl
+accepted_early net blocks cut care counts loose valid is s (Some v) e =
+    let none : refusal net care observe.All ≡ None = accepted_none net care valid is.accepts in
+    let here : None ≡ Some (Undetermined v s) = sym none ∙ e in
+    cc
+
+pub accepted_verdict : (v : Verdict) (counts : SweepCounts) (loose : ℕ) → v ≡ Accepted counts loose → (net : Parts) (blocks : Blocks) (cut : Cut) (care : CareSet) → IsNetlist net → IsVerdict net blocks cut care observe.All v →
+    IsKnownEarly net care (Found None)
+accepted_verdict v counts loose is_accepted net blocks cut care valid told =
+    accepted_early net blocks cut care counts loose valid (subst (IsVerdict net blocks cut care observe.All) is_accepted told)
+
+-- and one that is refused has that of its refusal
+pub refused_verdict : {E : Type 0} (result : Result Early E) (v : Verdict) (r : Refusal) → v ≡ Refused r →
+    IfOk result (λ early. (s : Sig) (least : Option (List Bool)) → Some r ≡ option_map (λ v. Undetermined v s) least → IsFound least early) →
+    IfOk result (λ early. (net : Parts) (blocks : Blocks) (cut : Cut) (care : CareSet) → IsNetlist net → IsVerdict net blocks cut care observe.All v → IsKnownEarly net care early)
+refused_verdict (Ok early) v r is_refused known = λ net blocks cut care valid verdict s least e.
+    let here : refusal net care observe.All ≡ Some r = subst (IsVerdict net blocks cut care observe.All) is_refused verdict in
+    known s least (sym here ∙ e)
+refused_verdict (Err x) v r is_refused known = known
+
+-- of the verdict of a decision
+pub early_known : {E F : Type 0} (net : Parts) (blocks : Blocks) (cut : Cut) (care : CareSet) (result : Result Early E) (decision : Result Verdict F) (v : Verdict) → IsNetlist net → decision ≡ Ok v → IfOk decision (IsVerdict net blocks cut care observe.All) →
+    IfOk result (λ early. (net : Parts) (blocks : Blocks) (cut : Cut) (care : CareSet) → IsNetlist net → IsVerdict net blocks cut care observe.All v → IsKnownEarly net care early) →
+    IfOk result (IsKnownEarly net care)
+early_known {F = F} net blocks cut care (Ok early) decision v valid is_v verdict known =
+    known net blocks cut care valid (subst (λ (r : Result Verdict F). IfOk r (IsVerdict net blocks cut care observe.All)) is_v verdict)
+early_known net blocks cut care (Err x) decision v valid is_v verdict known = known

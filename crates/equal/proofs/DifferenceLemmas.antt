@@ -1,0 +1,188 @@
+-- The netlist that tells whether two netlists differ is refused just where they do, with the least vector of that.
+use Rattle.std.proofs.Common.{◌≡◌, ◌≢◌, inl, inr, ℕ, zero, suc, ◌+◌, ◌-◌, ◌<◌, Bool, true, false, not, ◌&&◌, cond, List, [], ◌∷◌, length, map, get_or, Option, Some, None, refl, sym, ap, ap₂, subst, ◌∙◌, arith}
+use Rattle.std.specs.Prelude.{find, is_none, Result, IfOk, Ok, Err}
+use Rattle.std.specs.List.{list_any, range_with_len}
+use Rattle.std.specs.Option.{option_or, option_map, option_and_then}
+use Rattle.std.proofs.lemmas.Bool.{cases_lt}
+use Rattle.std.proofs.lemmas.List.Folds.{find-append}
+use Rattle.std.proofs.lemmas.List.FromFn.{map-range_with_len_more, length-map-range_with_len, get_or-map-range_with_len}
+use Rattle.cyc_base.specs.declared.sig.Sig.{Sig}
+use Rattle.cyc_base.specs.declared.trit.Trit.TheVariants.{X}
+use Rattle.cyc_base.specs.Values.{bits}
+use Rattle.cyc_base.specs.Vectors.{vectors}
+use Rattle.netlist.specs.declared.parts.Latch.{Latch}
+use Rattle.netlist.specs.declared.parts.Parts.{Parts}
+use Rattle.netlist.specs.Netlists.{gate_sig, IsNetlist}
+use Rattle.netlist.specs.Fixpoint.{wire, fix, next}
+use Rattle.loops.proofs.Reading.{map_agree}
+use Rattle.care_sets.specs.Care.{CareSet, columns, is_one, is_in_invariant, is_care_vector, IsCareVector}
+use Rattle.refusals.specs.declared.observe.Observe.TheVariants as observe
+use Rattle.refusals.specs.declared.refusal.Refusal.{Refusal}
+use Rattle.refusals.specs.declared.refusal.Refusal.TheVariants.{Undetermined, Leaves}
+use Rattle.refusals.specs.Acceptance.{gate_sigs, AreDetermined}
+use Rattle.refusals.specs.Refusals.{care_vectors, is_undetermined, first_failing, next_state, leaves, initial_refusal, empty_refusal, undetermined_refusal, leaves_refusal, refusal}
+use Rattle.refusals.proofs.FirstLemmas.{find-map, find-filter, any-find}
+use Rattle.refusals.proofs.LawLemmas.{accepted_without_refusal}
+use Rattle.refusals.proofs.ObservedLemmas.{all_observes_gates}
+use Rattle.refusals.proofs.RefusalLemmas.{known-is_x}
+use Rattle.refusals.proofs.ShowingLemmas.{care_vector_decides}
+use Rattle.differences.specs.declared.pairs.Pair.{Pair}
+use Rattle.equal.specs.Differences.{by_name, differs, difference, AreAccepted}
+use Rattle.equal.specs.declared.least.Early.{Early}
+use Rattle.equal.specs.Early.{IsFound, IsKnownEarly}
+use Rattle.equal.specs.Joined.{joined_pairs, difference_netlist}
+use Rattle.equal.proofs.NameLemmas.{find_nowhere}
+use Rattle.equal.proofs.MatchLemmas.{Match}
+use Rattle.equal.proofs.JoinLemmas.{fix_first, apart_same, pair_known, gate_known}
+use Rattle.equal.proofs.TellingLemmas.{told, place, length-net, link_known, teller_is}
+
+-- ---- tests that agree on all vectors that count
+
+agree_vectors : (n : ℕ) (p q : List Bool → Bool) → ((v : List Bool) → length v ≡ n → p v ≡ q v) → find p (vectors n) ≡ find q (vectors n)
+agree_vectors zero p q same = ap (λ t. cond t (Some []) None) (same [] refl)
+agree_vectors (suc n) p q same =
+    halves p
+    ∙ ap₂ (λ low high. option_or (option_map (λ (u : List Bool). false ∷ u) low) (option_map (λ (u : List Bool). true ∷ u) high))
+    (agree_vectors n (λ u. p (false ∷ u)) (λ u. q (false ∷ u)) (λ v wide. same (false ∷ v) (ap suc wide)))
+    (agree_vectors n (λ u. p (true ∷ u)) (λ u. q (true ∷ u)) (λ v wide. same (true ∷ v) (ap suc wide)))
+    ∙ sym (halves q)
+  where
+    halves : (r : List Bool → Bool) → find r (vectors (suc n)) ≡ option_or (option_map (λ (u : List Bool). false ∷ u) (find (λ u. r (false ∷ u)) (vectors n))) (option_map (λ (u : List Bool). true ∷ u) (find (λ u. r (true ∷ u)) (vectors n)))
+    halves r =
+        find-append r (map (λ u. false ∷ u) (vectors n)) (map (λ u. true ∷ u) (vectors n))
+        ∙ ap₂ option_or (find-map r (λ (u : List Bool). false ∷ u) (vectors n)) (find-map r (λ (u : List Bool). true ∷ u) (vectors n))
+
+agree_after : (s : Bool) (p q : Bool) → (s ≡ true → p ≡ q) → (s && p) ≡ (s && q)
+agree_after true p q same = same refl
+agree_after false p q same = refl
+
+pub agree_on_care : (net : Parts) (care : CareSet) (p q : List Bool → Bool) → ((v : List Bool) → IsCareVector net care v → p v ≡ q v) → find p (care_vectors net care) ≡ find q (care_vectors net care)
+agree_on_care net care p q same =
+    find-filter p (is_care_vector net care) (vectors (columns net))
+    ∙ agree_vectors (columns net) (λ v. is_care_vector net care v && p v) (λ v. is_care_vector net care v && q v)
+    (λ v wide. agree_after (is_care_vector net care v) (p v) (q v) (λ counts. same v (care_vector_decides net care v wide counts)))
+    ∙ sym (find-filter q (is_care_vector net care) (vectors (columns net)))
+
+-- ---- what the parts of a refusal say where there is none
+
+first_none : {A : Type 0} (x y : Option A) → option_or x y ≡ None → (x ≡ None) × (y ≡ None)
+first_none None y e = (refl, e)
+first_none (Some x) y e = cc
+
+nothing_mapped : {A B : Type 0} (f : A → B) (o : Option A) → option_map f o ≡ None → o ≡ None
+nothing_mapped f None e = refl
+nothing_mapped f (Some x) e = cc
+
+-- what is unknown at one place alone
+find_last : (p : Sig → Bool) (f : ℕ → Sig) (n : ℕ) → ((k : ℕ) → k < n → p (f k) ≡ false) → find p (map f (range_with_len 0 (suc n))) ≡ cond (p (f n)) (Some (f n)) None
+find_last p f n none =
+    ap (find p) (ap (λ m. map f (range_with_len 0 m)) (let e : suc n ≡ n + 1 = omega arith in e) ∙ map-range_with_len_more f 0 n n (omega arith))
+    ∙ find-append p (map f (range_with_len 0 n)) (f n ∷ [])
+    ∙ ap (λ o. option_or o (find p (f n ∷ [])))
+    (find_nowhere p (map f (range_with_len 0 n)) (λ k d l.
+    let m = length-map-range_with_len f 0 n in
+    ap p (get_or-map-range_with_len f 0 n k k d (omega arith) (omega arith)) ∙ none k (omega arith)))
+
+first_of_one : {V : Type 0} (s : Sig) (o : Option V) (fails : Sig → Option V) → fails s ≡ o →
+    option_and_then {U = Sig × V} (λ (w : Sig). option_map (λ (v : V). (w, v)) (fails w)) (cond (not (is_none o)) (Some s) None) ≡ option_map (λ (v : V). (s, v)) o
+first_of_one s None fails e = refl
+first_of_one s (Some v) fails e = ap (option_map (λ (u : _). (s, u))) e
+
+module _ (a b : Parts) (care_a : CareSet) (valid_a : IsNetlist a) (valid_b : IsNetlist b) (match_ : Match a b) (accepted : AreAccepted a b care_a) where
+  accepted_a : refusal a care_a observe.All ≡ None
+  accepted_a = accepted.first
+
+  -- all gates of both are known on care
+  pub known_a : (v : List Bool) → IsCareVector a care_a v → AreDetermined a v (gate_sigs a)
+  known_a v counts = let accepts = (accepted_without_refusal a care_a observe.All valid_a).0 accepted_a in accepts.determined v counts
+
+  known_b : (v : List Bool) → IsCareVector a care_a v → AreDetermined b (by_name a b v) (gate_sigs b)
+  known_b v counts = accepted.second v counts
+
+  abbrev pairs : List Pair
+  pairs = joined_pairs a b
+
+  abbrev net : Parts
+  net = difference_netlist a b
+
+  abbrev last : ℕ
+  last = place a b pairs (suc (length pairs))
+
+  -- the last gate is unknown just where they differ
+  last_is : (v : List Bool) → IsCareVector a care_a v → is_undetermined net (gate_sig net last) v ≡ differs a b v
+  last_is v counts =
+      teller_is a b pairs v counts.width (pair_known a b (told a b pairs) valid_a valid_b match_ v counts.width (known_a v counts) (known_b v counts))
+      ∙ apart_same a b (told a b pairs) valid_a valid_b match_ v counts.width (known_a v counts) (known_b v counts)
+
+  -- and the others are known
+  others_known : (v : List Bool) → IsCareVector a care_a v → (k : ℕ) → k < last → is_undetermined net (gate_sig net k) v ≡ false
+  others_known v counts k l =
+      known-is_x (wire (fix net (bits v)) (gate_sig net k)) (elim (cases_lt k (length a.gates + length b.gates)) [
+        | inl low ↦ gate_known a b (told a b pairs) valid_a valid_b match_ v counts.width (known_a v counts) (known_b v counts) k low
+        | inr high ↦
+            let i : ℕ = k - (length a.gates + length b.gates) in
+            let e : place a b pairs i ≡ k = omega arith in
+            subst (λ n. wire (fix net (bits v)) (gate_sig net n) ≢ X) e
+            (link_known a b pairs v counts.width (pair_known a b (told a b pairs) valid_a valid_b match_ v counts.width (known_a v counts) (known_b v counts)) i (omega arith))
+      ])
+
+  never_loose : (k : ℕ) → k < last → list_any (is_undetermined net (gate_sig net k)) (care_vectors net care_a) ≡ false
+  never_loose k l =
+      any-find (is_undetermined net (gate_sig net k)) (care_vectors net care_a)
+      ∙ ap (λ o. not (is_none o))
+      (agree_on_care a care_a (is_undetermined net (gate_sig net k)) (λ v. false) (λ v counts. others_known v counts k l)
+      ∙ find_nowhere (λ v. false) (care_vectors a care_a) (λ i d m. refl))
+
+  found_last : find (is_undetermined net (gate_sig net last)) (care_vectors net care_a) ≡ difference a b care_a
+  found_last = agree_on_care a care_a (is_undetermined net (gate_sig net last)) (differs a b) last_is
+
+  undetermined_is : undetermined_refusal net care_a observe.All ≡ option_map (λ v. Undetermined v (gate_sig net last)) (difference a b care_a)
+  undetermined_is =
+      let loose : Sig → Bool = λ s. list_any (is_undetermined net s) (care_vectors net care_a) in
+      ap (λ among. option_map (λ (u : Sig × List Bool). Undetermined u.1 u.0) (first_failing (is_undetermined net) among (care_vectors net care_a)))
+      (all_observes_gates net ∙ ap (λ m. map (gate_sig net) (range_with_len 0 m)) (length-net a b pairs))
+      ∙ ap (λ o. option_map (λ (u : Sig × List Bool). Undetermined u.1 u.0) (option_and_then (λ w. option_map (λ v. (w, v)) (find (is_undetermined net w) (care_vectors net care_a))) o))
+      (find_last (λ s. list_any (is_undetermined net s) (care_vectors net care_a)) (gate_sig net) last never_loose
+      ∙ ap (λ t. cond t (Some (gate_sig net last)) None) (any-find (is_undetermined net (gate_sig net last)) (care_vectors net care_a) ∙ ap (λ o. not (is_none o)) found_last))
+      ∙ ap (option_map (λ (u : Sig × List Bool). Undetermined u.1 u.0))
+      (first_of_one (gate_sig net last) (difference a b care_a) (λ w. find (is_undetermined net w) (care_vectors net care_a)) found_last)
+      ∙ twice (difference a b care_a)
+    where
+      twice : (o : Option (List Bool)) → option_map (λ (u : Sig × List Bool). Undetermined u.1 u.0) (option_map (λ v. (gate_sig net last, v)) o) ≡ option_map (λ v. Undetermined v (gate_sig net last)) o
+      twice None = refl
+      twice (Some v) = refl
+
+  -- the latches load what they load in the first netlist
+  next_same : (v : List Bool) → length v ≡ columns a → next net (bits v) ≡ next a (bits v)
+  next_same v wide =
+      map_agree (λ (latch : Latch). wire (fix net (bits v)) latch.from) (λ (latch : Latch). wire (fix a (bits v)) latch.from) a.latches
+      (λ k d l. fix_first a b (told a b pairs) valid_a valid_b match_ v wide (get_or a.latches k d).from (valid_a.sources k d l))
+
+  leaves_is : find (leaves net care_a) (care_vectors net care_a) ≡ find (leaves a care_a) (care_vectors a care_a)
+  leaves_is =
+      agree_on_care a care_a (leaves net care_a) (leaves a care_a)
+      (λ v counts. ap (λ values. not (is_in_invariant care_a (map is_one values))) (next_same v counts.width))
+
+  pub refusal_is : refusal net care_a observe.All ≡ option_map (λ v. Undetermined v (gate_sig net last)) (difference a b care_a)
+  refusal_is =
+      let first = first_none _ _ accepted_a in
+      let second = first_none _ _ first.1 in
+      let third = first_none _ _ second.1 in
+      let fourth = first_none _ _ third.1 in
+      let stays : find (leaves a care_a) (care_vectors a care_a) ≡ None = nothing_mapped (λ v. Leaves v (next_state a v)) _ fourth.0 in
+      let none_initial : initial_refusal net care_a ≡ None = first.0 in
+      let none_empty : empty_refusal net care_a ≡ None = second.0 in
+      let none_leaves : leaves_refusal net care_a ≡ None = ap (option_map (λ v. Leaves v (next_state net v))) (leaves_is ∙ stays) in
+      ap₂ option_or none_initial
+      (ap₂ option_or none_empty
+      (ap₂ option_or undetermined_is (ap (λ o. option_or o None) none_leaves)))
+      ∙ same (option_map (λ v. Undetermined v (gate_sig net last)) (difference a b care_a))
+    where
+      same : (o : Option Refusal) → option_or None (option_or None (option_or o (option_or None None))) ≡ o
+      same None = refl
+      same (Some r) = refl
+
+  -- so what refuses it, within a budget, is where they differ
+  pub early_found : {E : Type 0} (result : Result Early E) → IfOk result (IsKnownEarly net care_a) → IfOk result (IsFound (difference a b care_a))
+  early_found (Ok early) known = known (gate_sig net last) (difference a b care_a) refusal_is
+  early_found (Err e) known = known

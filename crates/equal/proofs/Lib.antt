@@ -1,0 +1,13 @@
+pub mod NameLemmas
+pub mod PartLemmas
+pub mod MatchLemmas
+pub mod LoopLemmas
+pub mod JoinLemmas
+pub mod TellingLemmas
+pub mod DifferenceLemmas
+pub mod CompareLemmas
+pub mod ValidLemmas
+pub mod BoundLemmas
+pub mod BareLemmas
+pub mod StandingLemmas
+pub mod BothLemmas

@@ -1,0 +1,259 @@
+-- What it means that all names match, and vectors by name.
+use Rattle.std.proofs.Common.{◌≡◌, inl, inr, ℕ, zero, suc, ◌+◌, ◌-◌, ◌<◌, ◌≤◌, Bool, true, false, not, ◌&&◌, ◌||◌, cond, List, [], ◌∷◌, ◌++◌, length, map, take, drop, get_or, slice_get, Option, Some, None, IfSome, refl, sym, ap, ap₂, subst, ◌∙◌, arith, true≢false}
+use Rattle.std.specs.Prelude.{find, option_map}
+use Rattle.std.specs.List.{list_any}
+use Rattle.std.specs.Option.{option_or, option_map_or}
+use Rattle.std.specs.Str.{bytes_eq}
+use Rattle.std.proofs.lemmas.Bool.{cases_lt}
+use Rattle.std.proofs.lemmas.List.{append_assoc, map-append, length-append, length-map, get_or-map, get_or-drop, get_or_append_left, get_or-append-add}
+use Rattle.std.proofs.lemmas.List.Folds.{list_any-append}
+use Rattle.std.proofs.lemmas.List.Quantifiers.{position-Some}
+use Rattle.std.proofs.lemmas.Option.{get_or_from_slice_get}
+use Rattle.std.proofs.lemmas.Slice.Eq.{bytes_eq-Decides}
+use Rattle.cyc_base.specs.declared.sig.Sig.{Sig}
+use Rattle.cyc_base.specs.declared.trit.Trit.TheVariants.{X}
+use Rattle.cyc_base.specs.Values.{bit, bits}
+use Rattle.netlist.specs.declared.parts.Latch.{Latch}
+use Rattle.netlist.specs.declared.parts.Parts.{Parts}
+use Rattle.netlist.specs.Netlists.{signal_names}
+use Rattle.netlist.specs.Fixpoint.{outs}
+use Rattle.netlist.proofs.Decisions.{none_found}
+use Rattle.care_sets.specs.Binding.{column_of, IsBoundTo, IsCareOf}
+use Rattle.care_sets.specs.Care.{CareSet, columns, column_names, inputs_at, is_one, holds_at, is_care_vector}
+use Rattle.care_sets.specs.declared.model.CareModel.{CareModel}
+use Rattle.unroll.proofs.Kept.{taken_first}
+use Rattle.equal.specs.Matching.{name_of, is_input, is_latch, has_latch, is_output, output_names, latch_name, unmatched}
+use Rattle.equal.specs.Differences.{number_or_0, column_named, columns_by_name, by_name, model_of, HaveOneSource}
+use Rattle.equal.proofs.NameLemmas.{nowhere_find, any_nowhere}
+
+-- ---- all names match
+
+none_first : {A : Type 0} (x y : Option A) → option_or x y ≡ None → (x ≡ None) × (y ≡ None)
+none_first None y e = (refl, e)
+none_first (Some a) y e = cc
+
+none_mapped : {A B : Type 0} (f : A → B) (x : Option A) → option_map f x ≡ None → x ≡ None
+none_mapped f None e = refl
+none_mapped f (Some a) e = cc
+
+not_not : (b : Bool) → not b ≡ false → b ≡ true
+not_not true e = refl
+not_not false e = cc
+
+passes : {A : Type 0} (p : A → Bool) (xs : List A) → find (λ x. not (p x)) xs ≡ None → (k : ℕ) (d : A) → k < length xs → p (get_or xs k d) ≡ true
+passes p xs none k d l = not_not (p (get_or xs k d)) (nowhere_find (λ x. not (p x)) xs none k d l)
+
+-- the names of both netlists match
+pub record Match (a b : Parts) : Type 0 where
+  pub inputs_ab : (k : ℕ) (d : List ℕ) → k < length a.inputs → is_input b (get_or a.inputs k d) ≡ true
+  pub inputs_ba : (k : ℕ) (d : List ℕ) → k < length b.inputs → is_input a (get_or b.inputs k d) ≡ true
+  pub latches_ab : (k : ℕ) (d : Latch) → k < length a.latches → has_latch b (get_or a.latches k d) ≡ true
+  pub latches_ba : (k : ℕ) (d : Latch) → k < length b.latches → is_latch a (get_or b.latches k d).name ≡ true
+  pub outputs_ab : (k : ℕ) (d : List ℕ) → k < length (output_names a) → is_output b (get_or (output_names a) k d) ≡ true
+  pub outputs_ba : (k : ℕ) (d : List ℕ) → k < length (output_names b) → is_output a (get_or (output_names b) k d) ≡ true
+
+pub matched : (a b : Parts) → unmatched a b ≡ None → Match a b
+matched a b none =
+    let one = none_first _ _ none in
+    let two = none_first _ _ one.1 in
+    let three = none_first _ _ two.1 in
+    let four = none_first _ _ three.1 in
+    let five = none_first _ _ four.1 in
+    let six = none_first _ _ five.1 in
+    record {
+      inputs_ab = passes (is_input b) a.inputs one.0;
+      inputs_ba = passes (is_input a) b.inputs two.0;
+      latches_ab = passes (has_latch b) a.latches (none_mapped latch_name _ three.0);
+      latches_ba = passes (λ latch. is_latch a latch.name) b.latches (none_mapped latch_name _ four.0);
+      outputs_ab = passes (is_output b) (output_names a) five.0;
+      outputs_ba = passes (is_output a) (output_names b) six.0;
+    }
+
+-- ---- columns by name
+
+same_name : (x y : List ℕ) → bytes_eq x y ≡ true → x ≡ y
+same_name x y e = (bytes_eq-Decides x y).0 e
+
+-- a column that is there
+pub record HasColumn (net : Parts) (name : List ℕ) : Type 0 where
+  pub column : ℕ
+  pub is : column_of net name ≡ Some column
+  pub inside : column < columns net
+  pub named : get_or (column_names net) column [] ≡ name
+
+length-columns : (net : Parts) → length (column_names net) ≡ columns net
+length-columns net = omega (arith, length-append net.inputs (map latch_name net.latches), length-map net.latches latch_name)
+
+column_inside : (net : Parts) (name : List ℕ) (c : ℕ) → column_of net name ≡ Some c → c < columns net
+column_inside net name c is = let p = position-Some (bytes_eq name) (column_names net) c [] is in subst (λ n. c < n) (length-columns net) p.0
+
+column_is : (net : Parts) (name : List ℕ) (c : ℕ) → column_of net name ≡ Some c → get_or (column_names net) c [] ≡ name
+column_is net name c is = let p = position-Some (bytes_eq name) (column_names net) c [] is in sym (same_name name (get_or (column_names net) c []) p.1)
+
+pub has_column : (net : Parts) (name : List ℕ) (c : ℕ) → column_of net name ≡ Some c → HasColumn net name
+has_column net name c is = record {
+  column = c;
+  is = is;
+  inside = column_inside net name c is;
+  named = column_is net name c is;
+}
+
+pub column_there : (net : Parts) (name : List ℕ) → list_any (bytes_eq name) (column_names net) ≡ true → HasColumn net name
+column_there net name any = by (column_of net name) refl
+  where
+    by : (o : Option ℕ) → column_of net name ≡ o → HasColumn net name
+    by (Some c) e = has_column net name c e
+    by None e =
+        absurd (true≢false (sym any ∙ any_nowhere (bytes_eq name) (column_names net) (none_found (bytes_eq name) (column_names net) e)))
+
+or_left : (x y : Bool) → x ≡ true → (x || y) ≡ true
+or_left true y e = refl
+or_left false y e = cc
+
+or_right : (x y : Bool) → y ≡ true → (x || y) ≡ true
+or_right true y e = refl
+or_right false y e = e
+
+-- a latch that is there has a column
+latch_any : (name : List ℕ) (latches : List Latch) → option_map_or (λ (latch : Latch). true) (find (λ latch. bytes_eq name latch.name) latches) false ≡ true → list_any (bytes_eq name) (map latch_name latches) ≡ true
+latch_any name [] e = e
+latch_any name (l ∷ ls) e = by (latch_any name ls) (bytes_eq name l.name) refl e
+  where
+    by : (option_map_or (λ (latch : Latch). true) (find (λ latch. bytes_eq name latch.name) ls) false ≡ true → list_any (bytes_eq name) (map latch_name ls) ≡ true) → (t : Bool) → bytes_eq name l.name ≡ t → option_map_or (λ (latch : Latch). true) (cond t (Some l) (find (λ latch. bytes_eq name latch.name) ls)) false ≡ true → list_any (bytes_eq name) (map latch_name (l ∷ ls)) ≡ true
+    by rest true is h = rw is refl
+    by rest false is h = rw is (rest h)
+
+input_column : (net : Parts) (name : List ℕ) → is_input net name ≡ true → HasColumn net name
+input_column net name e =
+    column_there net name (list_any-append (bytes_eq name) net.inputs (map latch_name net.latches) ∙ or_left (is_input net name) (list_any (bytes_eq name) (map latch_name net.latches)) e)
+
+latch_column : (net : Parts) (name : List ℕ) → is_latch net name ≡ true → HasColumn net name
+latch_column net name e =
+    column_there net name (list_any-append (bytes_eq name) net.inputs (map latch_name net.latches) ∙ or_right (is_input net name) (list_any (bytes_eq name) (map latch_name net.latches)) (latch_any name net.latches e))
+
+module _ (a b : Parts) (match_ : Match a b) where
+  -- each column of b is one of a
+  pub column_in_a : (c : ℕ) → c < columns b → HasColumn a (get_or (column_names b) c [])
+  column_in_a c l = elim (cases_lt c (length b.inputs)) [
+    | inl low ↦
+        subst (HasColumn a) (sym (get_or_append_left b.inputs (map latch_name b.latches) [] c low))
+        (input_column a (get_or b.inputs c []) (match_.inputs_ba c [] low))
+    | inr high ↦
+        let i : ℕ = c - length b.inputs in
+        let e : length b.inputs + i ≡ c = omega arith in
+        let less : i < length b.latches = omega arith in
+        by i less e
+  ]
+    where
+      by : (i : ℕ) → i < length b.latches → length b.inputs + i ≡ c → HasColumn a (get_or (column_names b) c [])
+      by i less e = at b.latches refl i less e
+        where
+          at : (ls : List Latch) → ls ≡ b.latches → (i : ℕ) → i < length ls → length b.inputs + i ≡ c → HasColumn a (get_or (column_names b) c [])
+          at [] same i less e = absurd (omega arith)
+          at (l ∷ ls) same i less e =
+              subst (HasColumn a)
+              (sym (get_or-map latch_name b.latches i l [] (subst (λ xs. i < length xs) same less))
+              ∙ sym (get_or-append-add b.inputs (map latch_name b.latches) i [])
+              ∙ ap (λ k. get_or (column_names b) k []) e)
+              (latch_column a (get_or b.latches i l).name (match_.latches_ba i l (subst (λ xs. i < length xs) same less)))
+
+  -- so the table of columns has a column for each
+  pub table_at : (c : ℕ) → c < columns b → get_or (columns_by_name a b) c 0 ≡ column_named a (get_or (column_names b) c [])
+  table_at c l = get_or-map (column_named a) (column_names b) c [] 0 (subst (λ n. c < n) (sym (length-columns b)) l)
+
+  pub table_within : (c : ℕ) → c < columns b → get_or (columns_by_name a b) c 0 < columns a
+  table_within c l =
+      let h = column_in_a c l in
+      let inside = h.inside in
+      subst (λ n. n < columns a) (sym (table_at c l ∙ ap number_or_0 h.is)) inside
+
+pub length-table : (a b : Parts) → length (columns_by_name a b) ≡ columns b
+length-table a b = length-map (column_names b) (column_named a) ∙ length-columns b
+
+pub length-by_name : (a b : Parts) (v : List Bool) → length (by_name a b v) ≡ columns b
+length-by_name a b v = length-map (columns_by_name a b) (λ column. get_or v column false) ∙ length-table a b
+
+-- the value of a column by name
+pub by_name_at : (a b : Parts) (v : List Bool) (c : ℕ) → c < columns b → get_or (by_name a b v) c false ≡ get_or v (get_or (columns_by_name a b) c 0) false
+by_name_at a b v c l = get_or-map (λ column. get_or v column false) (columns_by_name a b) c 0 false (subst (λ n. c < n) (sym (length-table a b)) l)
+
+pub bits_at : (v : List Bool) (k : ℕ) → k < length v → get_or (bits v) k X ≡ bit (get_or v k false)
+bits_at v k l = get_or-map bit v k false X l
+
+-- ---- care sets of one source
+
+-- a column that a model reads, in both netlists
+value_named : (a b : Parts) (v : List Bool) (name : List ℕ) (c e : ℕ) → column_of a name ≡ Some c → column_of b name ≡ Some e → get_or (by_name a b v) e false ≡ get_or v c false
+value_named a b v name c e in_a in_b =
+    let inside = column_inside b name e in_b in
+    let named = column_is b name e in_b in
+    by_name_at a b v e inside
+    ∙ ap (λ k. get_or v k false)
+    (get_or-map (column_named a) (column_names b) e [] 0 (subst (λ n. e < n) (sym (length-columns b)) inside)
+    ∙ ap (column_named a) named ∙ ap number_or_0 in_a)
+
+-- a column of a state, counted from the first latch
+state_at : (v : List Bool) (first c : ℕ) → first ≤ c → get_or (drop first v) (c - first) false ≡ get_or v c false
+state_at v first c l = get_or-drop first v (c - first) false ∙ ap (λ k. get_or v k false) (let e : first + (c - first) ≡ c = omega arith in e)
+
+-- values of models' inputs, where each model reads the columns from a first one on
+inputs_same : (a b : Parts) (v : List Bool) (first_a first_b : ℕ) (names : List (List ℕ)) (xs ys : List ℕ) →
+    map (λ c. Some c) xs ≡ map (column_of a) names → map (λ c. Some c) ys ≡ map (column_of b) names →
+    ((k d : ℕ) → k < length xs → first_a ≤ get_or xs k d) → ((k d : ℕ) → k < length ys → first_b ≤ get_or ys k d) →
+    map (λ c. get_or (drop first_a v) (c - first_a) false) xs ≡ map (λ c. get_or (drop first_b (by_name a b v)) (c - first_b) false) ys
+inputs_same a b v first_a first_b [] [] [] e f late_a late_b = refl
+inputs_same a b v first_a first_b [] [] (y ∷ ys) e f late_a late_b = cc
+inputs_same a b v first_a first_b [] (x ∷ xs) ys e f late_a late_b = cc
+inputs_same a b v first_a first_b (n ∷ names) [] ys e f late_a late_b = cc
+inputs_same a b v first_a first_b (n ∷ names) (x ∷ xs) [] e f late_a late_b = cc
+inputs_same a b v first_a first_b (n ∷ names) (x ∷ xs) (y ∷ ys) e f late_a late_b =
+    let here_a : column_of a n ≡ Some x = cc in
+    let here_b : column_of b n ≡ Some y = cc in
+    let rest_a : map (λ c. Some c) xs ≡ map (column_of a) names = cc in
+    let rest_b : map (λ c. Some c) ys ≡ map (column_of b) names = cc in
+    ap₂ (λ z zs. z ∷ zs)
+    (state_at v first_a x (late_a zero x (omega arith)) ∙ sym (value_named a b v n x y here_a here_b) ∙ sym (state_at (by_name a b v) first_b y (late_b zero y (omega arith))))
+    (inputs_same a b v first_a first_b names xs ys rest_a rest_b (λ k d l. late_a (suc k) d (omega arith)) (λ k d l. late_b (suc k) d (omega arith)))
+
+-- what a model says of a vector, it says of the vector by name
+holds_same : (a b : Parts) (v : List Bool) (first_a first_b : ℕ) (m n : CareModel) → IsBoundTo a first_a m → IsBoundTo b first_b n → m.net ≡ n.net → holds_at m (drop first_a v) ≡ holds_at n (drop first_b (by_name a b v))
+holds_same a b v first_a first_b m n bound_m bound_n same =
+    let names_m : map (λ c. Some c) m.columns ≡ map (column_of a) m.net.inputs = bound_m.names.named in
+    let names_n : map (λ c. Some c) n.columns ≡ map (column_of b) m.net.inputs = bound_n.names.named ∙ ap (λ (net : Parts). map (column_of b) net.inputs) (sym same) in
+    let inputs : inputs_at m (drop first_a v) ≡ inputs_at n (drop first_b (by_name a b v)) =
+    ap (λ f. map (λ c. get_or (drop first_a v) (c - f) false) m.columns) bound_m.start
+    ∙ inputs_same a b v first_a first_b m.net.inputs m.columns n.columns names_m names_n bound_m.late bound_n.late
+    ∙ ap (λ f. map (λ c. get_or (drop first_b (by_name a b v)) (c - f) false) n.columns) (sym bound_n.start) in
+    ap₂ (λ (net : Parts) (values : List Bool). is_one (get_or (outs net (bits values)) 0 X)) same inputs
+
+some_same : {A : Type 0} (x y : A) → Some x ≡ Some y → x ≡ y
+some_same x y e = cc
+
+part_same : (a b : Parts) (v : List Bool) (first_a first_b : ℕ) (m n : Option CareModel) → IfSome m (IsBoundTo a first_a) → IfSome n (IsBoundTo b first_b) → model_of m ≡ model_of n →
+    option_map_or (λ model. holds_at model (drop first_a v)) m true ≡ option_map_or (λ model. holds_at model (drop first_b (by_name a b v))) n true
+part_same a b v first_a first_b None None bound_m bound_n e = refl
+part_same a b v first_a first_b None (Some n) bound_m bound_n e = cc
+part_same a b v first_a first_b (Some m) None bound_m bound_n e = cc
+part_same a b v first_a first_b (Some m) (Some n) bound_m bound_n e = holds_same a b v first_a first_b m n bound_m bound_n (some_same m.net n.net e)
+
+pub care_by_name : (a b : Parts) (care_a care_b : CareSet) (v : List Bool) → IsCareOf a care_a → IsCareOf b care_b → HaveOneSource care_a care_b → is_care_vector b care_b (by_name a b v) ≡ is_care_vector a care_a v
+care_by_name a b care_a care_b v is_a is_b one =
+    sym (ap₂ (λ x y. x && y)
+    (part_same a b v (length a.inputs) (length b.inputs) care_a.invariant care_b.invariant is_a.invariant is_b.invariant one.invariant)
+    (part_same a b v 0 0 care_a.assume care_b.assume is_a.assume is_b.assume one.assume))
+
+pub length_by_name_is : (a b : Parts) (v named : List Bool) → named ≡ by_name a b v → length named ≡ columns b
+length_by_name_is a b v named is = ap length is ∙ length-by_name a b v
+
+-- the name of a column, by its number
+pub column_taken : {T : Type 0} (net : Parts) (f : List ℕ → T) (i : ℕ) (name : List ℕ) → i < columns net → slice_get (signal_names net) i ≡ Some name → map f (take (i + 1) (column_names net)) ≡ map f (take i (column_names net)) ++ f name ∷ []
+column_taken net f i name l is =
+    let e = length-columns net in
+    let split : signal_names net ≡ column_names net ++ map (λ gate. gate.name) net.gates = sym (append_assoc net.inputs (map latch_name net.latches) (map (λ gate. gate.name) net.gates)) in
+    ap (map f)
+    (taken_first (column_names net) (map (λ gate. gate.name) net.gates) i name (omega arith) (ap (λ names. slice_get names i) (sym split) ∙ is))
+    ∙ map-append f (take i (column_names net)) (name ∷ [])
+
+-- the name of a signal, and that of an input
+pub named : (net : Parts) (s : Sig) (name : List ℕ) → slice_get (signal_names net) s.0 ≡ Some name → name_of net s ≡ name
+named net s name is = get_or_from_slice_get (signal_names net) s.0 name [] is

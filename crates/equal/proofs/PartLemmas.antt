@@ -1,0 +1,59 @@
+-- A netlist that stands in another one, gate by gate, has there the fixpoint that it has alone.
+use Rattle.std.proofs.Common.{◌≡◌, inl, inr, ℕ, zero, suc, ◌+◌, ◌-◌, ◌<◌, ◌≤◌, List, length, map, get_or, sym, ap, ap₂, subst, ◌∙◌, arith}
+use Rattle.std.proofs.lemmas.Bool.{cases_lt}
+use Rattle.std.proofs.lemmas.List.{get_or_append_left, get_or-replicate}
+use Rattle.std.proofs.lemmas.Simd.{map-map}
+use Rattle.cyc_base.specs.declared.sig.Sig.{Sig}
+use Rattle.cyc_base.specs.declared.trit.Trit.{Trit}
+use Rattle.cyc_base.specs.declared.trit.Trit.TheVariants.{X}
+use Rattle.cover_logic.specs.Covers.{Cover}
+use Rattle.cover_logic.specs.Extensions.{ext}
+use Rattle.netlist.specs.declared.parts.Parts.{Parts}
+use Rattle.netlist.specs.Netlists.{gate_at, no_gate, IsSignal, IsNetlist}
+use Rattle.netlist.specs.Fixpoint.{wires, wire, steps, fix, fix_gates}
+use Rattle.netlist.proofs.FixpointLemmas.{fix_is_reached}
+use Rattle.loops.proofs.Reading.{map_agree, wire_of_gate, get_or-step}
+use Rattle.care_sets.specs.Care.{columns}
+
+-- the signals of the small netlist are these of the big one: columns are columns, and each gate has its cover and its pins
+pub record IsPartOf (small big : Parts) (at : Sig → Sig) (place : ℕ → ℕ) : Type 0 where
+  pub few : length small.gates ≤ length big.gates
+  pub within : (n : ℕ) → n < length small.gates → place n < length big.gates
+  pub covers : (n : ℕ) → n < length small.gates → (gate_at big (place n)).cover ≡ (gate_at small n).cover
+  pub pins : (n : ℕ) → n < length small.gates → (gate_at big (place n)).pins ≡ map at (gate_at small n).pins
+  pub gates : (s : Sig) → columns small ≤ s.0 → IsSignal small s → (at s).0 ≡ columns big + place (s.0 - columns small)
+  pub column : (s : Sig) → s.0 < columns small → (at s).0 < columns big
+
+module _ (small big : Parts) (at : Sig → Sig) (place : ℕ → ℕ) (part : IsPartOf small big at place) (valid : IsNetlist small)
+    (v w : List Trit) (wide_v : length v ≡ columns small) (wide_w : length w ≡ columns big)
+    (same : (s : Sig) → s.0 < columns small → get_or w (at s).0 X ≡ get_or v s.0 X) where
+  wire_at : (s t : List Trit) → ((n : ℕ) → n < length small.gates → get_or t (place n) X ≡ get_or s n X) → (x : Sig) → IsSignal small x → wire (wires w t) (at x) ≡ wire (wires v s) x
+  wire_at s t gates x inside = elim (cases_lt x.0 (columns small)) [
+    | inl low ↦
+        get_or_append_left w t X (at x).0 (subst (λ n. (at x).0 < n) (sym wide_w) (part.column x low))
+        ∙ same x low
+        ∙ sym (get_or_append_left v s X x.0 (subst (λ n. x.0 < n) (sym wide_v) low))
+    | inr high ↦
+        let e : (at x).0 ≡ columns big + place (x.0 - columns small) = part.gates x high inside in
+        wire_of_gate w t (columns big) (at x).0 wide_w (omega (arith, e))
+        ∙ ap (λ n. get_or t n X) (let f : (at x).0 - columns big ≡ place (x.0 - columns small) = omega (arith, e) in f)
+        ∙ gates (x.0 - columns small) (omega (arith, inside, high))
+        ∙ sym (wire_of_gate v s (columns small) x.0 wide_v high)
+  ]
+
+  steps_at : (k n : ℕ) → n < length small.gates → get_or (steps big w k) (place n) X ≡ get_or (steps small v k) n X
+  steps_at zero n l =
+      get_or-replicate (length big.gates) (place n) X X (part.within n l)
+      ∙ sym (get_or-replicate (length small.gates) n X X l)
+  steps_at (suc k) n l =
+      get_or-step big w (steps big w k) (place n) (part.within n l)
+      ∙ ap₂ (λ (c : Cover) (xs : List Trit). ext c xs) (part.covers n l)
+      (ap (map (wire (wires w (steps big w k)))) (part.pins n l)
+      ∙ map-map (wire (wires w (steps big w k))) at (gate_at small n).pins
+      ∙ map_agree (λ x. wire (wires w (steps big w k)) (at x)) (wire (wires v (steps small v k))) (gate_at small n).pins
+      (λ i d here. wire_at (steps small v k) (steps big w k) (steps_at k) (get_or (gate_at small n).pins i d) (valid.pins n no_gate l i d here)))
+      ∙ sym (get_or-step small v (steps small v k) n l)
+
+  pub fix_at : (x : Sig) → IsSignal small x → wire (fix big w) (at x) ≡ wire (fix small v) x
+  fix_at = wire_at (fix_gates small v) (fix_gates big w)
+      (λ n l. steps_at (length big.gates) n l ∙ ap (λ s. get_or s n X) (fix_is_reached small v (length big.gates) part.few))

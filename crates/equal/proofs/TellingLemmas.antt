@@ -1,0 +1,196 @@
+-- The gates that tell whether some pair differs.
+use Rattle.std.proofs.Common.{◌≡◌, ◌≢◌, ℕ, zero, suc, ◌+◌, ◌-◌, ◌<◌, ◌≤◌, Bool, true, false, ◌||◌, List, [], ◌∷◌, ◌++◌, length, map, take, get_or, refl, sym, ap, ap₂, subst, ◌∙◌, arith}
+use Rattle.std.specs.List.{list_any, range_with_len}
+use Rattle.std.proofs.lemmas.List.{length-append, length-map, get_or_append_left, get_or-append-add, get_or-append_right, get_or_at, get_or-replicate, take_all}
+use Rattle.std.proofs.lemmas.List.FromFn.{length-map-range_with_len, get_or-map-range_with_len}
+use Rattle.cyc_base.specs.declared.sig.Sig.{Sig}
+use Rattle.cyc_base.specs.declared.trit.Trit.{Trit}
+use Rattle.cyc_base.specs.declared.trit.Trit.TheVariants.{Zero, One, X}
+use Rattle.cyc_base.specs.Values.{bit, bits, Below}
+use Rattle.cyc_base.proofs.OrderLemmas.{EachBelow-at}
+use Rattle.cover_logic.specs.Extensions.{ext}
+use Rattle.netlist.specs.declared.parts.Gate.{Gate}
+use Rattle.netlist.specs.declared.parts.Parts.{Parts}
+use Rattle.netlist.specs.Netlists.{count, signal, gate_at, no_gate, gate_sig}
+use Rattle.netlist.specs.Fixpoint.{wires, wire, gate_value, steps, fix, fix_gates}
+use Rattle.netlist.proofs.FixpointLemmas.{steps_below_fix}
+use Rattle.loops.proofs.Reading.{wire_of_gate, get_or-step, get_or-fix}
+use Rattle.care_sets.specs.Care.{columns}
+use Rattle.refusals.specs.Refusals.{is_x}
+use Rattle.differences.specs.declared.pairs.Pair.{Pair}
+use Rattle.differences.specs.Pairs.{are_apart, is_apart_at, some_is_apart}
+use Rattle.equal.specs.Joined.{moved_gates, joined, never_cover, link_cover, both_cover, no_pair, link_gate, telling_gate, telling_gates}
+use Rattle.equal.proofs.JoinLemmas.{length-moved, length-joined}
+
+-- ---- the covers
+
+never_is : ext never_cover [] ≡ Zero
+never_is = refl
+
+link_is : (p : Bool) (x y : Trit) → x ≢ X → y ≢ X → ext link_cover (bit p ∷ x ∷ y ∷ []) ≡ bit (p || are_apart x y)
+link_is p X y h k = absurd (h refl)
+link_is p Zero X h k = absurd (k refl)
+link_is p One X h k = absurd (k refl)
+link_is true Zero Zero h k = refl
+link_is true Zero One h k = refl
+link_is true One Zero h k = refl
+link_is true One One h k = refl
+link_is false Zero Zero h k = refl
+link_is false Zero One h k = refl
+link_is false One Zero h k = refl
+link_is false One One h k = refl
+
+both_zero : (y : Trit) → ext both_cover (Zero ∷ y ∷ []) ≡ Zero
+both_zero Zero = refl
+both_zero One = refl
+both_zero X = refl
+
+both_unknown : (x : Trit) → Below x One → ext both_cover (x ∷ X ∷ []) ≡ X
+both_unknown X below = refl
+both_unknown One below = refl
+both_unknown Zero below = cc
+
+bit-known : (b : Bool) → bit b ≢ X
+bit-known true e = cc
+bit-known false e = cc
+
+any_take : {A : Type 0} (p : A → Bool) (xs : List A) (i : ℕ) (d : A) → i < length xs → list_any p (take (suc i) xs) ≡ (list_any p (take i xs) || p (get_or xs i d))
+any_take p [] i d l = absurd (omega arith)
+any_take p (x ∷ xs) zero d l = by (p x)
+  where
+    by : (t : Bool) → (t || false) ≡ (false || t)
+    by true = refl
+    by false = refl
+any_take p (x ∷ xs) (suc i) d l = by (p x) (any_take p xs i d (omega arith))
+  where
+    by : (t : Bool) → list_any p (take (suc i) xs) ≡ (list_any p (take i xs) || p (get_or xs i d)) → (t || list_any p (take (suc i) xs)) ≡ ((t || list_any p (take i xs)) || p (get_or xs i d))
+    by true rest = refl
+    by false rest = rest
+
+module _ (a b : Parts) (pairs : List Pair) where
+  abbrev pub first : ℕ
+  first = length b.gates
+
+  abbrev pub told : List Gate
+  told = telling_gates a first pairs
+
+  abbrev pub net : Parts
+  net = joined a b told
+
+  abbrev links : List Gate
+  links = map (link_gate a first pairs) (range_with_len 0 (length pairs))
+
+  -- the gate's number, and its signal
+  abbrev pub place : ℕ → ℕ
+  place j = length a.gates + (first + j)
+
+  abbrev pub teller : Sig
+  teller = gate_sig net (place (suc (length pairs)))
+
+  pub length-told : length told ≡ suc (suc (length pairs))
+  length-told =
+      let x = length-append links (telling_gate a first (length pairs) ∷ []) in
+      let y = length-map-range_with_len (link_gate a first pairs) 0 (length pairs) in
+      omega arith
+
+  pub length-net : length net.gates ≡ suc (place (suc (length pairs)))
+  length-net = let x = length-joined a b told in let y = length-told in omega arith
+
+  gate_is : (j : ℕ) → gate_at net (place j) ≡ get_or told j no_gate
+  gate_is j =
+      get_or-append-add a.gates (moved_gates a b ++ told) (first + j) no_gate
+      ∙ get_or-append_right (moved_gates a b) told first (first + j) no_gate (length-moved a b) (omega arith)
+      ∙ ap (λ k. get_or told k no_gate) (let e : (first + j) - first ≡ j = omega arith in e)
+
+  link_at : (i : ℕ) → i < length pairs → gate_at net (place (suc i)) ≡ link_gate a first pairs i
+  link_at i l =
+      let y = length-map-range_with_len (link_gate a first pairs) 0 (length pairs) in
+      gate_is (suc i)
+      ∙ get_or_append_left links (telling_gate a first (length pairs) ∷ []) no_gate i (omega arith)
+      ∙ get_or-map-range_with_len (link_gate a first pairs) 0 (length pairs) i i no_gate l (omega arith)
+
+  teller_at : gate_at net (place (suc (length pairs))) ≡ telling_gate a first (length pairs)
+  teller_at =
+      gate_is (suc (length pairs))
+      ∙ get_or_at links (telling_gate a first (length pairs)) [] no_gate (length pairs) (length-map-range_with_len (link_gate a first pairs) 0 (length pairs))
+
+  module _ (v : List Bool) (wide : length v ≡ columns a) where
+    abbrev w : List Trit
+    w = bits v
+
+    abbrev now : Sig → Trit
+    now = wire (fix net w)
+
+    wide_w : length w ≡ columns net
+    wide_w = length-map v bit ∙ wide
+
+    -- what the state of the gates says of a gate's signal
+    gate_of_state : (s : List Trit) (n : ℕ) → wire (wires w s) (gate_sig net n) ≡ get_or s n X
+    gate_of_state s n =
+        wire_of_gate w s (columns net) (columns net + n) wide_w (omega arith)
+        ∙ ap (λ k. get_or s k X) (let e : (columns net + n) - columns net ≡ n = omega arith in e)
+
+    value_is : (n : ℕ) → n < length net.gates → now (gate_sig net n) ≡ gate_value (fix net w) (gate_at net n)
+    value_is n l = gate_of_state (fix_gates net w) n ∙ get_or-fix net w n l
+
+    sig_is : (j : ℕ) → signal (count a + (first + j)) ≡ gate_sig net (place j)
+    sig_is j = ap signal (omega arith)
+
+    module _ (known : (k : ℕ) (d : Pair) → k < length pairs → (now (get_or pairs k d).here ≢ X) × (now (get_or pairs k d).there ≢ X)) where
+      -- each link has an answer on the pairs up to its own
+      chain : (i : ℕ) → i ≤ length pairs → now (gate_sig net (place i)) ≡ bit (list_any (is_apart_at net v) (take i pairs))
+      chain zero l =
+          let e = length-net in
+          value_is (place zero) (omega arith)
+          ∙ ap (gate_value (fix net w)) (gate_is zero)
+      chain (suc i) l =
+          let e = length-net in
+          let k = known i no_pair (omega arith) in
+          value_is (place (suc i)) (omega arith)
+          ∙ ap (gate_value (fix net w)) (link_at i (omega arith))
+          ∙ ap (λ x. ext link_cover (x ∷ now (get_or pairs i no_pair).here ∷ now (get_or pairs i no_pair).there ∷ []))
+          (ap now (sig_is i) ∙ chain i (omega arith))
+          ∙ link_is (list_any (is_apart_at net v) (take i pairs)) (now (get_or pairs i no_pair).here) (now (get_or pairs i no_pair).there) k.0 k.1
+          ∙ ap bit (sym (any_take (is_apart_at net v) pairs i no_pair (omega arith)))
+
+      pub link_known : (i : ℕ) → i ≤ length pairs → now (gate_sig net (place i)) ≢ X
+      link_known i l e = bit-known (list_any (is_apart_at net v) (take i pairs)) (sym (chain i l) ∙ e)
+
+      last_link : now (gate_sig net (place (length pairs))) ≡ bit (some_is_apart net pairs v)
+      last_link = chain (length pairs) (omega arith) ∙ ap (λ ps. bit (list_any (is_apart_at net v) ps)) (take_all (length pairs) pairs (omega arith))
+
+      teller_sig : signal (count a + suc (first + length pairs)) ≡ teller
+      teller_sig = ap signal (omega arith)
+
+      -- where no pair differs, the last gate is 0
+      known_teller : some_is_apart net pairs v ≡ false → now teller ≡ Zero
+      known_teller none =
+          let e = length-net in
+          value_is (place (suc (length pairs))) (omega arith)
+          ∙ ap (gate_value (fix net w)) teller_at
+          ∙ ap (λ x. ext both_cover (x ∷ now (signal (count a + suc (first + length pairs))) ∷ [])) (ap now (sig_is (length pairs)) ∙ last_link ∙ ap bit none)
+          ∙ both_zero (now (signal (count a + suc (first + length pairs))))
+
+      -- where one does, it is unknown after each step
+      unknown_step : some_is_apart net pairs v ≡ true → (k : ℕ) → get_or (steps net w k) (place (suc (length pairs))) X ≡ X
+      unknown_step some zero = let e = length-net in get_or-replicate (length net.gates) (place (suc (length pairs))) X X (omega arith)
+      unknown_step some (suc k) =
+          let e = length-net in
+          let s : List Trit = steps net w k in
+          let below : Below (get_or (steps net w k) (place (length pairs)) X) One =
+          subst (λ x. Below (get_or (steps net w k) (place (length pairs)) X) x)
+          (sym (gate_of_state (fix_gates net w) (place (length pairs))) ∙ last_link ∙ ap bit some)
+          (EachBelow-at (steps net w k) (fix_gates net w) (place (length pairs)) (steps_below_fix net w k)) in
+          get_or-step net w (steps net w k) (place (suc (length pairs))) (omega arith)
+          ∙ ap (gate_value (wires w (steps net w k))) teller_at
+          ∙ ap₂ (λ x y. ext both_cover (x ∷ y ∷ []))
+          (ap (wire (wires w (steps net w k))) (sig_is (length pairs)) ∙ gate_of_state (steps net w k) (place (length pairs)))
+          (ap (wire (wires w (steps net w k))) teller_sig ∙ gate_of_state (steps net w k) (place (suc (length pairs))) ∙ unknown_step some k)
+          ∙ both_unknown (get_or (steps net w k) (place (length pairs)) X) below
+
+      pub teller_is : is_x (now teller) ≡ some_is_apart net pairs v
+      teller_is = by (some_is_apart net pairs v) refl
+        where
+          by : (t : Bool) → some_is_apart net pairs v ≡ t → is_x (now teller) ≡ some_is_apart net pairs v
+          by true e = ap is_x (gate_of_state (fix_gates net w) (place (suc (length pairs))) ∙ unknown_step e (length net.gates)) ∙ sym e
+          by false e = ap is_x (known_teller e) ∙ sym e

@@ -1,0 +1,16 @@
+use Rattle.std.proofs.Common.{◌++◌, ◌∷◌, [], map, ap, ap₂, sym, ◌∙◌}
+use Rattle.std.proofs.lemmas.List.{append_assoc, map-append}
+use Rattle.std.specs.List.{range_with_len}
+use Rattle.unroll.proofs.SizeLemmas.{range_next}
+use Rattle.equal.specs.Joined.{moved_gate_by}
+use Rattle.equal.proofs.joining.add_moved.Goals as goal
+
+pub loop-number-preserved : goal.loop-number-preserved
+loop-number-preserved c =
+    let n = c.loop-number.number in
+    let f = moved_gate_by c.args.columns.now c.args.first c.args.mark.now c.args.b.now in
+    let old = c.args.gates.now.items in
+    c.in_ok-push.ensures.items
+    ∙ ap₂ (λ xs x. xs ++ x ∷ []) c.loop-number.invariant c.in_ok-moved_gate.ensures
+    ∙ append_assoc old (map f (range_with_len 0 n)) (f n ∷ [])
+    ∙ ap (λ xs. old ++ xs) (sym (ap (map f) (range_next n) ∙ map-append f (range_with_len 0 n) (n ∷ [])))

@@ -1,0 +1,12 @@
+use Rattle.std.proofs.Common.{◌++◌, ap₂, ◌∙◌}
+use Rattle.std.proofs.lemmas.List.{append_assoc}
+use Rattle.equal.specs.Joined.{moved_gates, telling_gates}
+use Rattle.equal.proofs.least.difference_gates.Goals as goal
+
+pub returns : goal.returns
+returns c =
+    let a = c.args.a.now in
+    let b = c.args.b.now in
+    c.in_ok-add_telling.ensures
+    ∙ ap₂ (λ gates number. gates ++ telling_gates c.args.a.now number c.args.pairs.now) c.in_ok-gates.ensures c.gates.ensures.gates
+    ∙ append_assoc a.gates (moved_gates a b) (telling_gates a _ c.args.pairs.now)

@@ -1,0 +1,14 @@
+use Rattle.std.proofs.Common.{◌+◌, ◌-◌, ◌≤◌, ◌++◌, List, length, All, subst, sym, ◌∙◌}
+use Rattle.differences.specs.declared.pairs.Pair.{Pair}
+use Rattle.equal.specs.Differences.{output_pairs, latch_pairs}
+use Rattle.equal.proofs.CompareLemmas.{pairs_fit}
+use Rattle.equal.proofs.least.joined_pairs.Goals as goal
+
+pub moved_pairs-requires : goal.moved_pairs-requires
+moved_pairs-requires c =
+    let a = c.args.a.now in
+    let b = c.args.b.now in
+    let table = c.args.columns.now in
+    subst (λ (pairs : List Pair). All (λ pair. c.count.result + (pair.there.0 - length c.args.columns.now) ≤ 4294967295) pairs) (sym (c.deref.ensures.value ∙ c.in_ok-own.ensures))
+    (subst (λ n. All (λ pair. n + (pair.there.0 - length c.args.columns.now) ≤ 4294967295) (output_pairs c.args.a.now c.args.b.now ++ latch_pairs c.args.a.now c.args.b.now)) (sym c.count.ensures.count)
+    (pairs_fit a b c.gates.ensures.valid c.gates-2.ensures.valid c.requires.matched table 4294967295 c.requires.columns c.requires.fits))

@@ -1,0 +1,7 @@
+use Rattle.std.proofs.Common.{◌≡◌, not, take, None}
+use Rattle.std.specs.Prelude.{find}
+use Rattle.equal.specs.Matching.{has_latch}
+use Rattle.equal.proofs.matching.first_other_latch.Given as goal
+
+abbrev pub invariant-loop-number : goal.invariant-loop-number
+invariant-loop-number l = find (λ item. not (has_latch l.other item)) (take l.number l.net.latches) ≡ None

@@ -1,0 +1,7 @@
+use Rattle.std.proofs.Common.{◌≡◌, map, take}
+use Rattle.care_sets.specs.Care.{column_names}
+use Rattle.equal.specs.Differences.{column_named}
+use Rattle.equal.proofs.pairs.find_columns.Given as goal
+
+abbrev pub invariant-loop-number : goal.invariant-loop-number
+invariant-loop-number l = l.columns.items ≡ map (column_named l.a) (take l.number (column_names l.b))

@@ -1,0 +1,16 @@
+use Rattle.std.proofs.Common.{◌++◌, ◌∷◌, [], map, ap, ap₂, sym, ◌∙◌}
+use Rattle.std.proofs.lemmas.List.{append_assoc, map-append}
+use Rattle.std.specs.List.{range_with_len}
+use Rattle.unroll.proofs.SizeLemmas.{range_next}
+use Rattle.equal.specs.Joined.{link_gate}
+use Rattle.equal.proofs.telling.add_links.Goals as goal
+
+pub loop-place-preserved : goal.loop-place-preserved
+loop-place-preserved c =
+    let n = c.loop-place.place in
+    let f = link_gate c.args.a.now c.args.number c.args.pairs.now in
+    let old = c.args.gates.now.items in
+    c.in_ok-push.ensures.items
+    ∙ ap₂ (λ xs x. xs ++ x ∷ []) c.loop-place.invariant c.in_ok-link_gate.ensures
+    ∙ append_assoc old (map f (range_with_len 0 n)) (f n ∷ [])
+    ∙ ap (λ xs. old ++ xs) (sym (ap (map f) (range_next n) ∙ map-append f (range_with_len 0 n) (n ∷ [])))

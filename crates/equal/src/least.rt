@@ -1,0 +1,382 @@
+//! The least care vector on which two netlists differ that are accepted.
+
+ghost use Rattle.std.specs.Prelude.{◌≡◌, ◌≤◌, ◌+◌, ◌-◌, ◌⊎◌, ◌++◌, [], Some, None, Option, Bool, List, suc, true, length, map, option_map, All, IfOk, IfErr};
+ghost use Rattle.cyc_base.specs.declared.sig.Sig.{Sig as Signal};
+ghost use Rattle.refusals.specs.declared.refusal.Refusal.TheVariants.{Undetermined};
+ghost use Rattle.netlist.specs.Netlists.{count, IsNetlist};
+ghost use Rattle.bdd_ops.specs.Least.{IsLayout};
+ghost use Rattle.fixpoint.specs.Orders.{order as order_of};
+ghost use Rattle.care_sets.specs.Care.{columns as column_count};
+ghost use Rattle.netlist.specs.declared.parts.Parts.{Parts as TheParts};
+ghost use Rattle.loops.specs.declared.structure.Blocks.{Blocks as TheBlocks};
+ghost use Rattle.loops.specs.declared.structure.Cut.{Cut as TheCut};
+ghost use Rattle.care_sets.specs.Care.{CareSet};
+ghost use Rattle.verdict.specs.Verdicts.{IsVerdict};
+ghost use Rattle.verdict.specs.Causes.{IsOutOfNodes};
+ghost use Rattle.differences.specs.Pairs.{IsPairOf, least_apart as least_apart_of};
+ghost use Rattle.differences.specs.Comparisons.{IsBelowEnoughFor};
+ghost use Rattle.care_sets.specs.Binding.{IsCareOf};
+ghost use Rattle.equal.specs.Differences.{columns_by_name, difference, output_pairs as output_pairs_of, latch_pairs as latch_pairs_of, AreAccepted};
+ghost use Rattle.equal.specs.Early.{IsFound, IsKnownEarly};
+ghost use Rattle.equal.specs.Joined.{moved_gates, moved_pair_by, telling_gates, joined, joined_pairs as joined_pairs_of, difference_netlist as difference_netlist_of};
+ghost use Rattle.equal.specs.Matching.{unmatched};
+
+use crate::fault::{EqualFault, fault_of};
+use crate::joining::{joined_gates, joined_parts, moved};
+use crate::pairs::{find_columns, latch_pairs, output_pairs};
+use crate::telling::add_telling;
+use bdd_ops::Diagrams;
+use care_sets::Care;
+use cyc_base::{Bits, MAX_NODES};
+use differences::{Pair, least_apart};
+use fixpoint::order;
+use loops::{find_blocks, find_cut};
+use netlist::{Gate, Netlist, PartsFault};
+use refusals::Refusal;
+use std::alloc::{AllocError, Global};
+use unroll::mark;
+use verdict::{DecideFault, Observe, Verdict, decide};
+
+/// How many nodes the diagrams may have that the netlist of differences gets.
+const FEW_NODES: u32 = 200_000;
+
+/// What is found within a budget.
+#[derive(Debug, Drop)]
+pub(crate) enum Early {
+    /// The least vector on which they differ, if there is one.
+    Found(Option<Bits>),
+    /// The budget didn't do.
+    Nothing,
+}
+
+/// A pair of wires of both netlists as one of the joined netlist.
+fn moved_pair(columns: &[u32], first: u32, pair: Pair) -> Pair
+    requires { first + (pair.there.0 - length columns.now) ≤ 4294967295 }
+    ensures { result ≡ moved_pair_by columns.now first pair }
+{
+    Pair {
+        here: pair.here,
+        there: moved(columns, first, pair.there),
+    }
+}
+
+/// Pairs of both netlists as pairs of the joined netlist.
+fn moved_pairs(
+    alloc: Global,
+    columns: &[u32],
+    first: u32,
+    own: &[Pair],
+) -> Result<Vec<Pair>, AllocError>
+    requires { All (λ pair. first + (pair.there.0 - length columns.now) ≤ 4294967295) own.now }
+    ensures { IfOk result (λ pairs. pairs.items ≡ map (moved_pair_by columns.now first) own.now) }
+{
+    let mut pairs = Vec::with_capacity(alloc, own.len())?;
+    for pair in own {
+        pairs.push(moved_pair(columns, first, *pair))?;
+    }
+    Ok(pairs)
+}
+
+/// The outputs of one name, and what the latches of one name load.
+fn own_pairs(alloc: Global, a: &Netlist, b: &Netlist) -> Result<Vec<Pair>, AllocError>
+    ensures { IfOk result (λ pairs. pairs.items ≡ output_pairs_of a.now b.now ++ latch_pairs_of a.now b.now) }
+{
+    let mut pairs = output_pairs(alloc, a, b)?;
+    let latches = latch_pairs(alloc, a, b)?;
+    pairs.extend_from_slice(&latches)?;
+    Ok(pairs)
+}
+
+/// These as pairs of the joined netlist.
+fn joined_pairs(
+    alloc: Global,
+    a: &Netlist,
+    b: &Netlist,
+    columns: &[u32],
+) -> Result<Vec<Pair>, AllocError>
+    requires matched { unmatched a.now b.now ≡ None }
+    requires columns { columns.now ≡ columns_by_name a.now b.now }
+    requires fits { count a.now + length b.now.gates ≤ 4294967295 }
+    ensures { IfOk result (λ pairs. pairs.items ≡ joined_pairs_of a.now b.now) }
+{
+    let own = own_pairs(alloc, a, b)?;
+    let _ = a.gates();
+    let _ = b.gates();
+    moved_pairs(alloc, columns, a.count(), &own)
+}
+
+/// The parts of these netlists are refused for want of memory alone.
+fn want_of_memory(_fault: PartsFault) -> AllocError
+    requires { _fault ≡ PartsFault.Memory }
+{
+    AllocError
+}
+
+/// The netlist of the first one's columns and these gates.
+fn netlist_of(alloc: Global, a: &Netlist, gates: Vec<Gate>) -> Result<Netlist, AllocError>
+    requires { IsNetlist record { name = a.now.name; inputs = a.now.inputs; clock = a.now.clock; latches = a.now.latches; gates = gates.items; outputs = [] } }
+    ensures { IfOk result (λ net. net ≡ record { name = a.now.name; inputs = a.now.inputs; clock = a.now.clock; latches = a.now.latches; gates = gates.items; outputs = [] }) }
+{
+    let parts = joined_parts(alloc, a, gates)?;
+    match Netlist::new(alloc, parts) {
+        Ok(net) => Ok(net),
+        Err(fault) => Err(want_of_memory(fault)),
+    }
+}
+
+/// The joined netlist.
+fn joined_netlist(
+    alloc: Global,
+    a: &Netlist,
+    b: &Netlist,
+    columns: &[u32],
+) -> Result<Netlist, AllocError>
+    requires matched { unmatched a.now b.now ≡ None }
+    requires columns { columns.now ≡ columns_by_name a.now b.now }
+    requires fits { count a.now + length b.now.gates ≤ 4294967295 }
+    ensures { IfOk result (λ net. net ≡ joined a.now b.now []) }
+{
+    let _ = a.gates();
+    let _ = b.gates();
+    let mark = mark(alloc, a)?;
+    let gates = joined_gates(alloc, a, b, columns, &mark)?;
+    netlist_of(alloc, a, gates)
+}
+
+/// The gates of both netlists, and those that tell whether they differ.
+fn difference_gates(
+    alloc: Global,
+    a: &Netlist,
+    b: &Netlist,
+    columns: &[u32],
+    pairs: &[Pair],
+) -> Result<Vec<Gate>, AllocError>
+    requires columns { columns.now ≡ columns_by_name a.now b.now }
+    requires fits { count a.now + suc (length b.now.gates + length pairs.now) ≤ 4294967294 }
+    ensures { IfOk result (λ gates. gates.items ≡ a.now.gates ++ (moved_gates a.now b.now ++ telling_gates a.now (length b.now.gates) pairs.now)) }
+{
+    let mark = mark(alloc, a)?;
+    let mut gates = joined_gates(alloc, a, b, columns, &mark)?;
+    add_telling(alloc, a, &mark, b.gates(), pairs, &mut gates)?;
+    Ok(gates)
+}
+
+/// The netlist that tells whether they differ.
+fn difference_netlist(
+    alloc: Global,
+    a: &Netlist,
+    b: &Netlist,
+    columns: &[u32],
+    pairs: &[Pair],
+) -> Result<Netlist, AllocError>
+    requires matched { unmatched a.now b.now ≡ None }
+    requires columns { columns.now ≡ columns_by_name a.now b.now }
+    requires pairs { pairs.now ≡ joined_pairs_of a.now b.now }
+    requires fits { count a.now + suc (length b.now.gates + length pairs.now) ≤ 4294967294 }
+    ensures { IfOk result (λ net. net ≡ difference_netlist_of a.now b.now) }
+{
+    let _ = a.gates();
+    let _ = b.gates();
+    let gates = difference_gates(alloc, a, b, columns, pairs)?;
+    netlist_of(alloc, a, gates)
+}
+
+/// The vector of a refusal for an unknown gate.
+fn vector_of(alloc: Global, refusal: &Refusal) -> Result<Early, AllocError>
+    ensures { IfOk result (λ early. (s : Signal) (least : Option (List Bool)) → Some refusal.now ≡ option_map (λ v. Undetermined v s) least → IsFound least early) }
+{
+    match refusal {
+        Refusal::Undetermined { vector, .. } => {
+            let copied = vector.items().to_vec(alloc)?;
+            Ok(Early::Found(Some(Bits::of(copied))))
+        }
+        _ => Ok(Early::Nothing),
+    }
+}
+
+/// The vector of a verdict.
+fn early_of(alloc: Global, verdict: &Verdict) -> Result<Early, AllocError>
+    ensures { IfOk result (λ early. (net : TheParts) (blocks : TheBlocks) (cut : TheCut) (care : CareSet) → IsNetlist net → IsVerdict net blocks cut care Observe.All verdict.now → IsKnownEarly net care early) }
+{
+    match verdict {
+        Verdict::Accepted { .. } => Ok(Early::Found(None)),
+        Verdict::Refused(refusal) => vector_of(alloc, refusal),
+    }
+}
+
+/// What refuses the netlist that tells, on diagrams of its own: a vector on which its last gate is unknown, if anything
+/// does.
+fn refusal_within(
+    alloc: Global,
+    net: &Netlist,
+    care: &Care,
+    limit: u32,
+) -> Result<Early, AllocError>
+    requires care { IsCareOf net.now care.now }
+    requires limit { limit ≤ MAX_NODES }
+    ensures { IfOk result (IsKnownEarly net.now care.now) }
+{
+    let _ = net.gates();
+    let mut d = Diagrams::new(alloc, 0, 1)?;
+    let blocks = find_blocks(alloc, net)?;
+    let cut = find_cut(alloc, net, &blocks)?;
+    let decision = decide(alloc, &mut d, net, &blocks, &cut, care, limit, Observe::All);
+    match &decision {
+        Ok(verdict) => early_of(alloc, verdict),
+        Err(DecideFault::NodeLimit { .. }) => Ok(Early::Nothing),
+        Err(DecideFault::Memory) => Err(AllocError),
+    }
+}
+
+/// Whether there are numbers for all signals of the netlist that tells.
+fn fits(a: &Netlist, b: &Netlist, pairs: usize) -> bool
+    ensures { result ≡ true → count a.now + suc (length b.now.gates + pairs) ≤ 4294967294 }
+{
+    if pairs >= 4_294_967_294 {
+        return false;
+    }
+    let signals = u64::from(a.count()) + u64::from(b.gates());
+    signals + (pairs as u64) < 4_294_967_294
+}
+
+/// The least vector on which they differ, if the netlist that tells is decided within a budget.
+fn early_difference(
+    alloc: Global,
+    a: &Netlist,
+    b: &Netlist,
+    columns: &[u32],
+    pairs: &[Pair],
+    care: &Care,
+    limit: u32,
+) -> Result<Early, AllocError>
+    requires matched { unmatched a.now b.now ≡ None }
+    requires columns { columns.now ≡ columns_by_name a.now b.now }
+    requires pairs { pairs.now ≡ joined_pairs_of a.now b.now }
+    requires fits { count a.now + suc (length b.now.gates + length pairs.now) ≤ 4294967294 }
+    requires care { IsCareOf a.now care.now }
+    requires accepted { AreAccepted a.now b.now care.now }
+    requires limit { limit ≤ MAX_NODES }
+    ensures { IfOk result (IsFound (difference a.now b.now care.now)) }
+{
+    let _ = a.gates();
+    let _ = b.gates();
+    let net = difference_netlist(alloc, a, b, columns, pairs)?;
+    refusal_within(alloc, &net, care, limit)
+}
+
+/// The least vector on which the wires of some pair of the joined netlist differ, by the diagrams.
+fn least_on(
+    alloc: Global,
+    d: &mut Diagrams,
+    net: &Netlist,
+    care: &Care,
+    order: &[u32],
+    pairs: &[Pair],
+    limit: u32,
+) -> Result<Option<Bits>, EqualFault>
+    requires care { IsCareOf net.now care.now }
+    requires order { IsLayout (column_count net.now) order.now }
+    requires pairs { All (IsPairOf net.now) pairs.now }
+    requires limit { limit ≤ MAX_NODES }
+    ensures found { IfOk result (λ found. found ≡ least_apart_of net.now care.now pairs.now) }
+    ensures fault { IfErr result (λ fault. (fault ≡ EqualFault.Memory) ⊎ (fault ≡ EqualFault.NodeLimit limit)) }
+    ensures cause { result ≡ Err (EqualFault.NodeLimit limit) → IsOutOfNodes d.new net.now care.now limit }
+    ensures below { result ≡ Err (EqualFault.NodeLimit limit) → IsBelowEnoughFor order.now net.now care.now pairs.now limit }
+{
+    let _ = net.gates();
+    let blocks = find_blocks(alloc, net)?;
+    let cut = find_cut(alloc, net, &blocks)?;
+    match least_apart(alloc, d, net, &blocks, &cut, care, order, pairs, limit) {
+        Ok(found) => Ok(found),
+        Err(fault) => Err(fault_of(fault)),
+    }
+}
+
+/// The least vector on which they differ, by the diagrams.
+fn late_difference(
+    alloc: Global,
+    d: &mut Diagrams,
+    a: &Netlist,
+    b: &Netlist,
+    columns: &[u32],
+    pairs: &[Pair],
+    care: &Care,
+    limit: u32,
+) -> Result<Option<Bits>, EqualFault>
+    requires matched { unmatched a.now b.now ≡ None }
+    requires columns { columns.now ≡ columns_by_name a.now b.now }
+    requires pairs { pairs.now ≡ joined_pairs_of a.now b.now }
+    requires fits { count a.now + length b.now.gates ≤ 4294967295 }
+    requires care { IsCareOf a.now care.now }
+    requires accepted { AreAccepted a.now b.now care.now }
+    requires limit { limit ≤ MAX_NODES }
+    ensures found { IfOk result (λ found. found ≡ difference a.now b.now care.now) }
+    ensures fault { IfErr result (λ fault. (fault ≡ EqualFault.Memory) ⊎ (fault ≡ EqualFault.NodeLimit limit)) }
+    ensures cause { result ≡ Err (EqualFault.NodeLimit limit) → IsOutOfNodes d.new (joined a.now b.now []) care.now limit }
+    ensures below { result ≡ Err (EqualFault.NodeLimit limit) → IsBelowEnoughFor (order_of a.now) (joined a.now b.now []) care.now (joined_pairs_of a.now b.now) limit }
+{
+    let _ = a.gates();
+    let _ = b.gates();
+    let net = joined_netlist(alloc, a, b, columns)?;
+    let order = order(alloc, a)?;
+    least_on(alloc, d, &net, care, &order, pairs, limit)
+}
+
+/// The same, within a budget or else by the diagrams.
+fn difference_of_pairs(
+    alloc: Global,
+    d: &mut Diagrams,
+    a: &Netlist,
+    b: &Netlist,
+    columns: &[u32],
+    pairs: &[Pair],
+    care: &Care,
+    limit: u32,
+) -> Result<Option<Bits>, EqualFault>
+    requires matched { unmatched a.now b.now ≡ None }
+    requires columns { columns.now ≡ columns_by_name a.now b.now }
+    requires pairs { pairs.now ≡ joined_pairs_of a.now b.now }
+    requires care { IsCareOf a.now care.now }
+    requires accepted { AreAccepted a.now b.now care.now }
+    requires limit { limit ≤ MAX_NODES }
+    ensures found { IfOk result (λ found. found ≡ difference a.now b.now care.now) }
+    ensures fault { IfErr result (λ fault. (fault ≡ EqualFault.Memory) ⊎ (fault ≡ EqualFault.NodeLimit limit)) }
+    ensures cause { result ≡ Err (EqualFault.NodeLimit limit) → IsOutOfNodes d.new (joined a.now b.now []) care.now limit }
+    ensures below { result ≡ Err (EqualFault.NodeLimit limit) → IsBelowEnoughFor (order_of a.now) (joined a.now b.now []) care.now (joined_pairs_of a.now b.now) limit }
+{
+    if !fits(a, b, pairs.len()) {
+        return Err(EqualFault::Memory);
+    }
+    let few = limit.min(FEW_NODES);
+    match early_difference(alloc, a, b, columns, pairs, care, few)? {
+        Early::Found(found) => Ok(found),
+        Early::Nothing => late_difference(alloc, d, a, b, columns, pairs, care, limit),
+    }
+}
+
+/// The least care vector on which two accepted netlists differ. A netlist that tells of each vector whether they do is
+/// decided within a budget; where that doesn't do, the diagrams solve both netlists at once.
+pub(crate) fn least_difference(
+    alloc: Global,
+    d: &mut Diagrams,
+    a: &Netlist,
+    b: &Netlist,
+    care: &Care,
+    limit: u32,
+) -> Result<Option<Bits>, EqualFault>
+    requires matched { unmatched a.now b.now ≡ None }
+    requires care { IsCareOf a.now care.now }
+    requires accepted { AreAccepted a.now b.now care.now }
+    requires limit { limit ≤ MAX_NODES }
+    ensures found { IfOk result (λ found. found ≡ difference a.now b.now care.now) }
+    ensures fault { IfErr result (λ fault. (fault ≡ EqualFault.Memory) ⊎ (fault ≡ EqualFault.NodeLimit limit)) }
+    ensures cause { result ≡ Err (EqualFault.NodeLimit limit) → IsOutOfNodes d.new (joined a.now b.now []) care.now limit }
+    ensures below { result ≡ Err (EqualFault.NodeLimit limit) → IsBelowEnoughFor (order_of a.now) (joined a.now b.now []) care.now (joined_pairs_of a.now b.now) limit }
+{
+    if !fits(a, b, 0) {
+        return Err(EqualFault::Memory);
+    }
+    let columns = find_columns(alloc, a, b)?;
+    let pairs = joined_pairs(alloc, a, b, &columns)?;
+    difference_of_pairs(alloc, d, a, b, &columns, &pairs, care, limit)
+}

@@ -1,0 +1,91 @@
+//! Wires of the same name.
+
+ghost use Rattle.std.specs.Prelude.{◌≡◌, IfOk};
+ghost use Rattle.equal.specs.Differences.{column_named, columns_by_name, signal_named, source_named, output_pairs as output_pairs_of, latch_pairs as latch_pairs_of};
+
+use crate::matching::latch_of;
+use cyc_base::{Name, Sig};
+use differences::Pair;
+use netlist::Netlist;
+use std::alloc::{AllocError, Global};
+
+/// The column of this name.
+#[tactic(auto, using(crate::proofs::NameLemmas::column_found, crate::proofs::NameLemmas::column_behind, crate::proofs::NameLemmas::column_absent))]
+fn column_in(net: &Netlist, name: &Name) -> u32
+    ensures { result ≡ column_named net.now name.now }
+{
+    match net.find(name) {
+        Some(signal) => {
+            if signal.0 < net.inputs() + net.latches() {
+                signal.0
+            } else {
+                0
+            }
+        }
+        None => 0,
+    }
+}
+
+/// For each column of the second netlist the column of the first that has its name.
+pub(crate) fn find_columns(alloc: Global, a: &Netlist, b: &Netlist) -> Result<Vec<u32>, AllocError>
+    ensures { IfOk result (λ columns. columns.items ≡ columns_by_name a.now b.now) }
+{
+    let mut columns = Vec::new(alloc);
+    for number in 0..b.inputs() + b.latches() {
+        columns.push(column_in(a, b.name_of(Sig(number))))?;
+    }
+    Ok(columns)
+}
+
+/// The signal of this name.
+#[tactic(auto, using(crate::proofs::NameLemmas::signal_found, crate::proofs::NameLemmas::signal_absent))]
+fn signal_in(net: &Netlist, name: &Name) -> Sig
+    ensures { result ≡ signal_named net.now name.now }
+{
+    match net.find(name) {
+        Some(signal) => signal,
+        None => Sig(0),
+    }
+}
+
+/// What the latch of this name loads.
+fn source_in(net: &Netlist, name: &Name) -> Sig
+    ensures { result ≡ source_named net.now name.now }
+{
+    match latch_of(net, name) {
+        Some(latch) => latch.from,
+        None => Sig(0),
+    }
+}
+
+/// The outputs of the first netlist, and the signals of the second of the same names.
+pub(crate) fn output_pairs(alloc: Global, a: &Netlist, b: &Netlist) -> Result<Vec<Pair>, AllocError>
+    ensures { IfOk result (λ pairs. pairs.items ≡ output_pairs_of a.now b.now) }
+{
+    let mut pairs = Vec::new(alloc);
+    let own = a.outputs();
+    for output in own {
+        let there = signal_in(b, a.name_of(*output));
+        pairs.push(Pair {
+            here: *output,
+            there,
+        })?;
+    }
+    Ok(pairs)
+}
+
+/// What the latches of the first netlist load, and what those of the second of the same names do.
+pub(crate) fn latch_pairs(alloc: Global, a: &Netlist, b: &Netlist) -> Result<Vec<Pair>, AllocError>
+    ensures { IfOk result (λ pairs. pairs.items ≡ latch_pairs_of a.now b.now) }
+{
+    let mut pairs = Vec::new(alloc);
+    for number in 0..a.latches() {
+        let latch = a.latch(number);
+        let there = source_in(b, &latch.name);
+        pairs.push(Pair {
+            here: latch.from,
+            there,
+        })?;
+    }
+    Ok(pairs)
+}

@@ -1,0 +1,2 @@
+pub mod AlikeLemmas
+mod RenamingLemmas

@@ -1,0 +1,73 @@
+#!/usr/bin/env bash
+# Each accepted example and each accepted design of examples/verilog through `cyc aiger` into Yosys and abc: Yosys reads the
+# graph, and abc finds it equal to what `cyc rewrite` writes. Then a design with a loop goes into abc's model checker `pdr`,
+# which proves that no two cells are acknowledged at once, and finds that the third one may be.
+#
+#   recipes/aiger.sh     (needs yosys and berkeley-abc)
+#
+# CYC=PROGRAM in the environment takes that program in place of ./cyc.
+set -eu -o pipefail
+top=$(cd "$(dirname "$0")/.." && pwd)
+cyc=${CYC:-$top/cyc}
+dir=$(mktemp -d)
+trap 'rm -rf "$dir"' EXIT
+
+# The binary form of a graph, which abc reads. Yosys adds a clock of its own, which is no input of the netlist.
+to_binary() {
+    yosys -q -p "read_aiger -clk_name aiger_clock $1; delete -port w:aiger_clock; write_aiger -symbols $2"
+}
+
+# Has abc compare the graph with the netlist: step by step over all states where there are latches.
+compare() {
+    local command=cec
+    [ "$(awk 'NR == 1 { print $4 }' "$dir/open.aag")" -eq 0 ] || command=dsec
+    berkeley-abc -q "$command $dir/open.blif $dir/open.aig" >"$dir/told"
+    grep -q 'Networks are equivalent' "$dir/told" || { echo "$1: abc's $command says:"; cat "$dir/told"; exit 1; }
+}
+
+# The way of one netlist, with its words for cyc. A netlist that is refused goes no way.
+whole() {
+    local name=$1
+    shift
+    "$cyc" rewrite "$@" >"$dir/open.blif" 2>/dev/null || return 0
+    "$cyc" aiger "$@" >"$dir/open.aag"
+    to_binary "$dir/open.aag" "$dir/open.aig"
+    berkeley-abc -q "&r $dir/open.aig; &ps" >/dev/null
+    compare "$name"
+    echo "$name: $(head -n 1 "$dir/open.aag"), read by Yosys, equal in abc"
+}
+
+for file in "$top"/examples/*.blif; do
+    care=${file%.blif}.care
+    if [ -f "$care" ]; then whole "$(basename "$file")" "$file" --care "$care"; else whole "$(basename "$file")" "$file"; fi
+done
+
+for file in "$top"/examples/verilog/*.v; do
+    name=$(basename "$file" .v) care=${file%.v}.care.v inits=()
+    case $name in
+    *.care | latch) continue ;;
+    round_robin) inits=(--init "pointer=4'b0001") ;;
+    esac
+    "$top/recipes/to_blif.sh" -o "$dir/loop.blif" ${inits[@]+"${inits[@]}"} "$file"
+    if [ -f "$care" ]; then
+        "$top/recipes/to_blif.sh" --care -o "$dir/loop.care" "$care"
+        whole "$name.v" "$dir/loop.blif" --care "$dir/loop.care"
+    else
+        whole "$name.v" "$dir/loop.blif"
+    fi
+done
+
+"$top/recipes/to_blif.sh" -o "$dir/loop.blif" "$top/recipes/two_grants.v" "$top/examples/verilog/token_ring.v" two_grants
+"$top/recipes/to_blif.sh" --care -o "$dir/loop.care" "$top/recipes/two_grants.care.v"
+"$cyc" check "$dir/loop.blif" --care "$dir/loop.care"
+"$cyc" aiger "$dir/loop.blif" --care "$dir/loop.care" >"$dir/open.aag"
+to_binary "$dir/open.aag" "$dir/open.aig"
+
+# What pdr says of one output, from the start state on.
+model_check() {
+    berkeley-abc -q "read $dir/open.aig; strash; zero; cone -s -O $1; pdr" | sed -n 's/^Property proved.*/proved/p; s/.*was asserted in frame \([0-9]*\).*/happens in tick \1/p'
+}
+
+echo "two at once: $(model_check 0)"
+echo "the third: $(model_check 1)"
+[ "$(model_check 0)" = proved ] && model_check 1 | grep -q '^happens'
