@@ -4,7 +4,7 @@ use Rattle.std.specs.Prelude.{if◌then◌else◌, nat_le, option_map}
 use Rattle.std.proofs.Math.Seq.{take-length}
 use Rattle.std.specs.List.{list_all}
 use Rattle.std.specs.Option.{option_and_then}
-use Rattle.commands.specs.Words.{Options, Check, Rewrite, Aiger, Storm, no_options, is_digit, with_digits, up_to, with_option, options_of, check_on, rewrite_on, aiger_on, storm_with}
+use Rattle.commands.specs.Words.{Options, Check, Rewrite, Aiger, Explain, Storm, no_options, is_digit, with_digits, up_to, with_option, options_of, check_on, rewrite_on, aiger_on, explain_on, storm_with}
 
 -- more digits make no less of a number
 no_less : (n : ℕ) (digits : List ℕ) → n ≤ with_digits n digits
@@ -74,6 +74,13 @@ aiger_asked file rest options found = ap (option_map (Aiger file)) found
 
 pub aiger_not_asked : (file : List ℕ) (rest : List (List ℕ)) → options_of no_options rest ≡ None → aiger_on file rest ≡ None
 aiger_not_asked file rest found = ap (option_map (Aiger file)) found
+
+pub explain_asked : (file : List ℕ) (rest : List (List ℕ)) (options : Options) → options_of no_options rest ≡ Some options
+    → explain_on file rest ≡ Some (Explain file options)
+explain_asked file rest options found = ap (option_map (Explain file)) found
+
+pub explain_not_asked : (file : List ℕ) (rest : List (List ℕ)) → options_of no_options rest ≡ None → explain_on file rest ≡ None
+explain_not_asked file rest found = ap (option_map (Explain file)) found
 
 pub storm_asked : (file : List ℕ) (rounds : ℕ) (rest : List (List ℕ)) (options : Options) → options_of no_options rest ≡ Some options
     → storm_with file rounds rest ≡ Some (Storm file rounds options)

@@ -29,6 +29,8 @@ pub data Command : Type 0 where
   Rewrite : List ℕ → Options → Command
   -- decides it, and writes its and-inverter graph, without loops
   Aiger : List ℕ → Options → Command
+  -- decides it, and shows why a refused wire is undetermined
+  Explain : List ℕ → Options → Command
   -- writes its flat netlist
   Flat : List ℕ → Command
   -- prints its loops and their cut wires
@@ -124,6 +126,9 @@ rewrite_on file rest = option_map (Rewrite file) (options_of no_options rest)
 abbrev pub aiger_on : List ℕ → List (List ℕ) → Option Command
 aiger_on file rest = option_map (Aiger file) (options_of no_options rest)
 
+abbrev pub explain_on : List ℕ → List (List ℕ) → Option Command
+explain_on file rest = option_map (Explain file) (options_of no_options rest)
+
 -- a simulation wants one more file
 abbrev pub sim_on : List ℕ → List (List ℕ) → Option Command
 sim_on file (vectors ∷ []) = if is_file_word vectors then Some (Sim file (file_of vectors)) else None
@@ -174,6 +179,7 @@ topic_of word =
     if bytes_eq word (codes "check") then Some topic.Check
     else if bytes_eq word (codes "rewrite") then Some topic.Rewrite
     else if bytes_eq word (codes "aiger") then Some topic.Aiger
+    else if bytes_eq word (codes "explain") then Some topic.Explain
     else if bytes_eq word (codes "flat") then Some topic.Flat
     else if bytes_eq word (codes "loops") then Some topic.Loops
     else if bytes_eq word (codes "sim") then Some topic.Sim
@@ -193,6 +199,7 @@ command_on command word rest =
     if bytes_eq command (codes "check") then check_on word rest
     else if bytes_eq command (codes "rewrite") then rewrite_on word rest
     else if bytes_eq command (codes "aiger") then aiger_on word rest
+    else if bytes_eq command (codes "explain") then explain_on word rest
     else if bytes_eq command (codes "flat") && length rest == 0 then Some (Flat word)
     else if bytes_eq command (codes "loops") && length rest == 0 then Some (Loops word)
     else if bytes_eq command (codes "sim") then sim_on word rest

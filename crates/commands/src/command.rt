@@ -43,6 +43,8 @@ pub enum Command<'a> {
     Rewrite(&'a Name, Options<'a>),
     /// Decides it, and writes its and-inverter graph, without loops.
     Aiger(&'a Name, Options<'a>),
+    /// Decides it, and shows why a refused wire is undetermined.
+    Explain(&'a Name, Options<'a>),
     /// Writes its flat netlist.
     Flat(&'a Name),
     /// Prints its loops and their cut wires.

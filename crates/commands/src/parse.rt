@@ -2,7 +2,7 @@
 ghost use Rattle.std.specs.Prelude.{◌≡◌, ◌≤◌, ◌+◌, ◌-◌, ◌*◌, ◌&&◌, nat_le, true, false, MatchOption, IfSome, None, Some};
 ghost use Rattle.cyc_base.specs.declared.limits.TheConstants.{MAX_NODES as most_nodes};
 ghost use Rattle.commands.specs.Seen.{cells_seen, command_seen, options_seen, rounds_seen};
-ghost use Rattle.commands.specs.Words.{aiger_on as aiger_asked, cells as cells_asked, check_on as check_asked, command_alone as alone_asked, command_of, command_on as command_asked, delays_on as delays_asked, demo_on as demo_asked, file_of as file_asked, help_on as help_asked, is_digit, is_file_word, no_options as asked_no_options, number_between as number_asked, kind_of as kind_asked, observe_of as observe_asked, options_of as options_asked, probe_of as probe_asked, rewrite_on as rewrite_asked, rounds as rounds_asked, sim_on as sim_asked, standard_input as standard_input_name, storm_on as storm_asked, storm_with as storm_asked_with, topic_of as topic_asked, up_to, with_care as asked_with_care, with_nodes as asked_with_nodes, with_observe as asked_with_observe, with_option as asked_with_option};
+ghost use Rattle.commands.specs.Words.{aiger_on as aiger_asked, cells as cells_asked, check_on as check_asked, command_alone as alone_asked, command_of, command_on as command_asked, delays_on as delays_asked, demo_on as demo_asked, file_of as file_asked, explain_on as explain_asked, help_on as help_asked, is_digit, is_file_word, no_options as asked_no_options, number_between as number_asked, kind_of as kind_asked, observe_of as observe_asked, options_of as options_asked, probe_of as probe_asked, rewrite_on as rewrite_asked, rounds as rounds_asked, sim_on as sim_asked, standard_input as standard_input_name, storm_on as storm_asked, storm_with as storm_asked_with, topic_of as topic_asked, up_to, with_care as asked_with_care, with_nodes as asked_with_nodes, with_observe as asked_with_observe, with_option as asked_with_option};
 
 use crate::command::{Cells, Command, Options, Rounds};
 use crate::topic::Topic;
@@ -63,6 +63,9 @@ fn command_on<'a>(
     }
     if command == b"aiger".as_slice() {
         return aiger_on(word, rest, standard_input);
+    }
+    if command == b"explain".as_slice() {
+        return explain_on(word, rest, standard_input);
     }
     if command == b"flat".as_slice() && rest.is_empty() {
         return Some(Command::Flat(word));
@@ -138,6 +141,16 @@ fn aiger_on<'a>(file: &'a Name, rest: &'a [Name], standard_input: &'a Name) -> O
 {
     let options = options_of(no_options(), rest, standard_input)?;
     Some(Command::Aiger(file, options))
+}
+
+#[tactic(auto, using(crate::proofs::WordLemmas::explain_asked, crate::proofs::WordLemmas::explain_not_asked))]
+fn explain_on<'a>(file: &'a Name, rest: &'a [Name], standard_input: &'a Name) -> Option<Command<'a>>
+    requires { standard_input.now ≡ standard_input_name }
+    ensures { MatchOption result (explain_asked file.now rest.now ≡ None)
+        (λ asked. explain_asked file.now rest.now ≡ Some (command_seen asked)) }
+{
+    let options = options_of(no_options(), rest, standard_input)?;
+    Some(Command::Explain(file, options))
 }
 
 // A simulation wants one more file.
@@ -257,6 +270,8 @@ fn topic_of(word: &[u8]) -> Option<Topic>
         Some(Topic::Rewrite)
     } else if word == b"aiger".as_slice() {
         Some(Topic::Aiger)
+    } else if word == b"explain".as_slice() {
+        Some(Topic::Explain)
     } else if word == b"flat".as_slice() {
         Some(Topic::Flat)
     } else if word == b"loops".as_slice() {

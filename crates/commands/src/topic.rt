@@ -4,6 +4,7 @@ pub enum Topic {
     Check,
     Rewrite,
     Aiger,
+    Explain,
     Flat,
     Loops,
     Sim,

@@ -6,9 +6,10 @@ use Rattle.std.specs.declared.option.Option.{Option}
 use Rattle.bdd_store.specs.Arena.{Arena}
 use Rattle.cyc_io.specs.Files.{Files, IsFile}
 use Rattle.cyc_tool.specs.Answer.{outcome_at, answer}
-use Rattle.cyc_tool.specs.Calls.{ShelfCall, SinkCall, ReadFailed, AreGiven, rest_of, EndsAt, ComesTo, IsDecided, Verdict, Limit, IsTold, Tells, Runs}
-use Rattle.cyc_tool.specs.Causes.{Leads, Reaches, MeetsLimit, NoneFailed, IsWell, GivesAnswer, IsEnoughFor, HasEnoughNodes, IsComplete}
-use Rattle.cyc_tool.specs.Plans.{Plan, Reads, Faulty, Ends, Decides, plan_of}
+use Rattle.cyc_tool.specs.Calls.{ShelfCall, SinkCall, ReadFailed, AreGiven, rest_of, EndsAt, ComesTo, IsDecided, IsExplained, Verdict, Explained, Limit, IsTold, Tells, Runs}
+use Rattle.cyc_tool.specs.Causes.{Leads, Reaches, MeetsLimit, ExplainsWire, NoneFailed, IsWell, GivesAnswer, IsEnoughFor, HasEnoughNodes, IsComplete}
+use Rattle.cyc_tool.specs.Plans.{Purpose, Judges, Rewrites, WritesGraph, Explains, Demonstrates, Storms, Plan, Reads, Faulty, Ends, Decides, plan_of}
+use Rattle.cyc_tool.proofs.CauseLemmas.{why_told}
 use Rattle.cyc_tool.specs.Requests.{Request}
 use Rattle.cyc_tool.specs.Texts.{Outcome, usage, read_failed, no_memory}
 use Rattle.commands.specs.Words.{Command, command_of}
@@ -39,9 +40,15 @@ same_outcome shelf files (bytes ∷ given) (Faulty name fault) is gave = absurd 
 same_outcome shelf files (bytes ∷ given) (Ends ending) is gave = absurd gave
 same_outcome shelf files (bytes ∷ given) (Decides decision purpose) is gave = absurd gave
 
+-- a wire was explained by this
+abbrev ExplainedAt : Outcome → Plan → Type 0
+ExplainedAt end (Decides decision Explains) = IsExplained decision end
+ExplainedAt end plan = ⊥
+
 -- what a call came to at what is left of its plan, where the files are told
 data EndsTold (nodes : Arena) (files : Files) (end : Outcome) (rest : Plan) : Type 0 where
   IsAnswer : end ≡ outcome_at files rest → EndsTold nodes files end rest
+  IsWhy : ExplainedAt end rest → EndsTold nodes files end rest
   IsAtLimit : MeetsLimit nodes rest → end.status ≡ 6 → EndsTold nodes files end rest
 
 ends_told : (shelf : ShelfCall) (files : Files) (nodes : Arena) (end : Outcome) (rest : Plan) → NoneFailed shelf files rest → EndsAt shelf nodes end rest
@@ -59,11 +66,13 @@ ends_told shelf files nodes end (Decides decision purpose) well ends = by_decisi
   where
     by_decision : IsDecided decision purpose nodes end → EndsTold nodes files end (Decides decision purpose)
     by_decision (Verdict is made) = IsAnswer is
+    by_decision (Explained same explained) = IsWhy (subst (λ (p : Purpose). ExplainedAt end (Decides decision p)) (sym same) explained)
     by_decision (Limit limited is) = IsAtLimit limited (ap (λ (o : Outcome). o.status) is)
 
 -- what a call came to for its words
 data ComesToTold (request : Request) (shelf : ShelfCall) (nodes : Arena) (files : Files) (end : Outcome) : Type 0 where
   GaveAnswer : end ≡ answer request files → ComesToTold request shelf nodes files end
+  ToldWhy : Reaches (ExplainedAt end) request shelf → ComesToTold request shelf nodes files end
   MetLimit : Reaches (MeetsLimit nodes) request shelf → end.status ≡ 6 → ComesToTold request shelf nodes files end
   LacksMemory : end ≡ no_memory → ComesToTold request shelf nodes files end
 
@@ -90,6 +99,9 @@ comes_told request shelf nodes files end told = by_command (command_of request.w
         by_told (IsAnswer same) =
             GaveAnswer (same ∙ same_outcome shelf files follows.given (plan_of request.shows command) told follows.gave
             ∙ sym (ap (λ (asked : Option Command). option_map_or (λ command. outcome_at files (plan_of request.shows command)) asked usage) is))
+        by_told (IsWhy explained) =
+            let P : Option Command → Type 0 = λ asked. IsSomeAnd asked (λ command. Leads (ExplainedAt end) shelf (plan_of request.shows command)) in
+            ToldWhy (subst P (sym is) (record { given = follows.given; gave = follows.gave; holds = explained }))
         by_told (IsAtLimit limited six) =
             let P : Option Command → Type 0 = λ asked. IsSomeAnd asked (λ command. Leads (MeetsLimit nodes) shelf (plan_of request.shows command)) in
             MetLimit (subst P (sym is) (record { given = follows.given; gave = follows.gave; holds = limited })) six
@@ -102,23 +114,50 @@ comes_told request shelf nodes files end told = by_command (command_of request.w
 told_as : (end same_end : Outcome) (out err : SinkCall) (status : ℕ) → IsTold end out err status → end ≡ same_end → IsTold same_end out err status
 told_as end same_end out err status whole same = let P : Outcome → Type 0 = λ o. IsTold o out err status in subst P same whole
 
+-- an explanation that was told
+explains_wire : (out err : SinkCall) (end : Outcome) (status : ℕ) (rest : Plan) → IsTold end out err status → ExplainedAt end rest → ExplainsWire out err rest × (status ≡ 1)
+explains_wire out err end status (Decides decision Explains) whole explained = (
+  (explained.vector, (explained.wire, why_told decision out err end whole.out_text whole.err_text explained)),
+  whole.is ∙ ap (λ (o : Outcome). o.status) explained.shown.is,
+)
+explains_wire out err end status (Decides decision Judges) whole explained = absurd explained
+explains_wire out err end status (Decides decision Rewrites) whole explained = absurd explained
+explains_wire out err end status (Decides decision WritesGraph) whole explained = absurd explained
+explains_wire out err end status (Decides decision (Demonstrates cells)) whole explained = absurd explained
+explains_wire out err end status (Decides decision (Storms rounds)) whole explained = absurd explained
+explains_wire out err end status (Reads role name next) whole explained = absurd explained
+explains_wire out err end status (Faulty name fault) whole explained = absurd explained
+explains_wire out err end status (Ends ending) whole explained = absurd explained
+
+wire_explained : (request : Request) (shelf : ShelfCall) (out err : SinkCall) (end : Outcome) (status : ℕ) → IsTold end out err status
+    → Reaches (ExplainedAt end) request shelf → Reaches (ExplainsWire out err) request shelf × (status ≡ 1)
+wire_explained request shelf out err end status whole = by_command (command_of request.words)
+  where
+    by_command : (asked : Option Command) → IsSomeAnd asked (λ command. Leads (ExplainedAt end) shelf (plan_of request.shows command))
+        → IsSomeAnd asked (λ command. Leads (ExplainsWire out err) shelf (plan_of request.shows command)) × (status ≡ 1)
+    by_command None leads = absurd leads
+    by_command (Some command) leads =
+        let told = explains_wire out err end status (rest_of leads.given (plan_of request.shows command)) whole leads.holds in
+        (record { given = leads.given; gave = leads.gave; holds = told.0 }, told.1)
+
 pub gives_answer : (request : Request) (shelf : ShelfCall) (nodes : Arena) (out err : SinkCall) (status : ℕ) → Runs request shelf nodes out err status
     → GivesAnswer request shelf nodes out err status
 gives_answer request shelf nodes out err status runs = at_files shelf.files refl
   where
     by_outcome : (files : Files) → IsTold runs.end out err status → ComesToTold request shelf nodes files runs.end
-        → IsTold (answer request files) out err status ⊎ (Reaches (MeetsLimit nodes) request shelf × (status ≡ 6)) ⊎ IsTold no_memory out err status
+        → IsTold (answer request files) out err status ⊎ (Reaches (MeetsLimit nodes) request shelf × (status ≡ 6)) ⊎ (Reaches (ExplainsWire out err) request shelf × (status ≡ 1)) ⊎ IsTold no_memory out err status
     by_outcome files whole (GaveAnswer same) = inl (told_as runs.end (answer request files) out err status whole same)
     by_outcome files whole (MetLimit met six) = inr (inl (met, whole.is ∙ six))
-    by_outcome files whole (LacksMemory same) = inr (inr (told_as runs.end no_memory out err status whole same))
+    by_outcome files whole (ToldWhy explained) = inr (inr (inl (wire_explained request shelf out err runs.end status whole explained)))
+    by_outcome files whole (LacksMemory same) = inr (inr (inr (told_as runs.end no_memory out err status whole same)))
 
     by_telling : (files : Files) → Tells runs.end out err status → ComesToTold request shelf nodes files runs.end → IsWell request shelf out err files
-        → IsTold (answer request files) out err status ⊎ (Reaches (MeetsLimit nodes) request shelf × (status ≡ 6)) ⊎ IsTold no_memory out err status
+        → IsTold (answer request files) out err status ⊎ (Reaches (MeetsLimit nodes) request shelf × (status ≡ 6)) ⊎ (Reaches (ExplainsWire out err) request shelf × (status ≡ 1)) ⊎ IsTold no_memory out err status
     by_telling files (inl whole) comes well = by_outcome files whole comes
     by_telling files (inr cut) comes well = absurd (elim cut.cause [ inl rose ↦ well.writes_out rose | inr rose ↦ well.writes_err rose ])
 
     at_files : (told : Option Files) → shelf.files ≡ told → IfSome told (λ files. IsWell request shelf out err files
-        → IsTold (answer request files) out err status ⊎ (Reaches (MeetsLimit nodes) request shelf × (status ≡ 6)) ⊎ IsTold no_memory out err status)
+        → IsTold (answer request files) out err status ⊎ (Reaches (MeetsLimit nodes) request shelf × (status ≡ 6)) ⊎ (Reaches (ExplainsWire out err) request shelf × (status ≡ 1)) ⊎ IsTold no_memory out err status)
     at_files None is = tt
     at_files (Some files) is = λ well. by_telling files runs.tells (comes_told request shelf nodes files runs.end is well.reads runs.comes) well
 
@@ -146,11 +185,14 @@ is_complete request shelf nodes out err status runs = at_files shelf.files (give
   where
     at_files : (told : Option Files)
         → IfSome told (λ files. IsWell request shelf out err files
-        → IsTold (answer request files) out err status ⊎ (Reaches (MeetsLimit nodes) request shelf × (status ≡ 6)) ⊎ IsTold no_memory out err status)
+        → IsTold (answer request files) out err status ⊎ (Reaches (MeetsLimit nodes) request shelf × (status ≡ 6)) ⊎ (Reaches (ExplainsWire out err) request shelf × (status ≡ 1)) ⊎ IsTold no_memory out err status)
         → IfSome told (λ files. IsWell request shelf out err files → HasEnoughNodes request shelf
-        → IsTold (answer request files) out err status ⊎ IsTold no_memory out err status)
+        → IsTold (answer request files) out err status ⊎ (Reaches (ExplainsWire out err) request shelf × (status ≡ 1)) ⊎ IsTold no_memory out err status)
     at_files None gives = tt
     at_files (Some files) gives = λ well has. elim (gives well) [
       | inl whole ↦ inl whole
-      | inr rest ↦ elim rest [ inl met ↦ absurd (not_limited request shelf nodes has met.0) | inr want ↦ inr want ]
+      | inr rest ↦ elim rest [
+        | inl met ↦ absurd (not_limited request shelf nodes has met.0)
+        | inr other ↦ inr other
+      ]
     ]

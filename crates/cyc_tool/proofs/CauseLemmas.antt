@@ -21,15 +21,15 @@ use Rattle.storm.specs.Storms.{most_events}
 use Rattle.storm.specs.Laws.{StormsNeverRest}
 use Rattle.refusals.proofs.LawLemmas.{accepted_without_refusal, refusal_is_shown}
 use Rattle.cyc_tool.specs.Answer.{told, decided, verdict_of}
-use Rattle.cyc_tool.specs.Calls.{ShelfCall, SinkCall, WriteFailed, Takes, AreGiven, EndsAt, rest_of, ComesTo, Follows, IsDecided, IsMade, IsMadeFor, Verdict, Limit, Tells, Runs}
-use Rattle.cyc_tool.specs.Causes.{IsHelped, IsHelpedBy, IsWithoutCommand, Leads, Reaches, IsFaulty, IsUnread, MeetsLimit, IsVerdict, IsDoneWith, HasGraph, HasRewritten, HasStormed}
+use Rattle.cyc_tool.specs.Calls.{ShelfCall, SinkCall, WriteFailed, Takes, AreGiven, EndsAt, rest_of, ComesTo, Follows, IsDecided, IsExplained, IsMade, IsMadeFor, Verdict, Explained, Limit, IsTold, Tells, Runs}
+use Rattle.cyc_tool.specs.Causes.{IsHelped, IsHelpedBy, IsWithoutCommand, Leads, Reaches, IsFaulty, IsUnread, MeetsLimit, IsVerdict, IsDoneWith, HasExplained, HasWhy, HasGraph, HasRewritten, HasStormed}
 use Rattle.cyc_tool.specs.Endings.{aiger_told, ending_of, storm_or_refusal}
 use Rattle.cyc_tool.specs.Storms.{events_of, events_told, storm_text}
-use Rattle.cyc_tool.specs.Plans.{Ending, Prints, PrintsBeside, Refuses, Declines, Outgrows, Decision, Judges, Rewrites, WritesGraph, Demonstrates, Storms, Plan, Reads, Faulty, Ends, Decides, plan_of}
+use Rattle.cyc_tool.specs.Plans.{Ending, Prints, PrintsBeside, Refuses, Declines, Outgrows, Decision, Purpose, Judges, Rewrites, WritesGraph, Explains, Demonstrates, Storms, Plan, Reads, Faulty, Ends, Decides, plan_of}
 use Rattle.cyc_tool.specs.Requests.{Request}
 use Rattle.cyc_tool.specs.Texts.{Outcome, no_memory}
 use Rattle.report.specs.Help.{help_text, topic_text, version_text}
-use Rattle.commands.specs.Words.{Command, Check, Rewrite, Aiger, Flat, Loops, Sim, Delays, Demo, Storm, Help, HelpOn, Version, command_of}
+use Rattle.commands.specs.Words.{Command, Check, Rewrite, Aiger, Explain, Flat, Loops, Sim, Delays, Demo, Storm, Help, HelpOn, Version, command_of}
 
 abbrev status_of : Outcome → ℕ
 status_of end = end.status
@@ -77,6 +77,14 @@ shown_at shelf nodes end (Decides decision purpose) ends = by_decision ends.1
     by_decision (Verdict same made) =
         Done (verdict_of decision, verdict_is decision (verdict_of decision) ends.0 refl, ap status_of same)
         (ending_status (ending_of decision purpose (verdict_of decision)) end.status (ap status_of same))
+    by_decision (Explained same explained) =
+        let one : end.status ≡ 1 = ap status_of explained.shown.is in
+        Done (
+          Some (Undetermined explained.vector explained.wire),
+          verdict_is decision (Some (Undetermined explained.vector explained.wire)) ends.0 explained.refused,
+          one ∙ subst (λ (p : Purpose). 1 ≡ (decided decision p (Some (Undetermined explained.vector explained.wire))).status) (sym same) refl,
+        )
+        (One one)
     by_decision (Limit limited same) = Full limited (ap status_of same)
 
 -- what a status shows of a run
@@ -260,6 +268,7 @@ help_told request shelf nodes out err status runs = by_command (command_of reque
     by_command (Some (Check file options)) comes = tt
     by_command (Some (Rewrite file options)) comes = tt
     by_command (Some (Aiger file options)) comes = tt
+    by_command (Some (Explain file options)) comes = tt
     by_command (Some (Flat file)) comes = tt
     by_command (Some (Loops file)) comes = tt
     by_command (Some (Sim file vectors)) comes = tt
@@ -275,6 +284,7 @@ has_rewritten shelf nodes out end (Reads role name next) done took ends = tt
 has_rewritten shelf nodes out end (Faulty name fault) done took ends = tt
 has_rewritten shelf nodes out end (Ends ending) done took ends = tt
 has_rewritten shelf nodes out end (Decides decision Judges) done took ends = tt
+has_rewritten shelf nodes out end (Decides decision Explains) done took ends = tt
 has_rewritten shelf nodes out end (Decides decision WritesGraph) done took ends = tt
 has_rewritten shelf nodes out end (Decides decision (Demonstrates cells)) done took ends = tt
 has_rewritten shelf nodes out end (Decides decision (Storms rounds)) done took ends = tt
@@ -299,6 +309,7 @@ has_rewritten shelf nodes out end (Decides decision Rewrites) done took ends = b
 
     by_decision : IsDecided decision Rewrites nodes end → HasRewritten out (Decides decision Rewrites)
     by_decision (Verdict same made) = by_verdict (verdict_of decision) same made
+    by_decision (Explained same explained) = absurd (let one = ap status_of explained.shown.is in omega (arith, done, one))
     by_decision (Limit limited same) = absurd (let six = ap status_of same in omega (arith, done, six))
 
 -- what was put on out for a graph
@@ -308,6 +319,7 @@ has_graph shelf nodes out end (Reads role name next) done took ends = tt
 has_graph shelf nodes out end (Faulty name fault) done took ends = tt
 has_graph shelf nodes out end (Ends ending) done took ends = tt
 has_graph shelf nodes out end (Decides decision Judges) done took ends = tt
+has_graph shelf nodes out end (Decides decision Explains) done took ends = tt
 has_graph shelf nodes out end (Decides decision Rewrites) done took ends = tt
 has_graph shelf nodes out end (Decides decision (Demonstrates cells)) done took ends = tt
 has_graph shelf nodes out end (Decides decision (Storms rounds)) done took ends = tt
@@ -344,6 +356,7 @@ has_graph shelf nodes out end (Decides decision WritesGraph) done took ends = by
 
     by_decision : IsDecided decision WritesGraph nodes end → HasGraph out (Decides decision WritesGraph)
     by_decision (Verdict same made) = by_verdict (verdict_of decision) same made
+    by_decision (Explained same explained) = absurd (let one = ap status_of explained.shown.is in omega (arith, done, one))
     by_decision (Limit limited same) = absurd (let six = ap status_of same in omega (arith, done, six))
 
 -- what was put on out for a storm
@@ -353,6 +366,7 @@ has_stormed law shelf nodes out end (Reads role name next) done took ends = tt
 has_stormed law shelf nodes out end (Faulty name fault) done took ends = tt
 has_stormed law shelf nodes out end (Ends ending) done took ends = tt
 has_stormed law shelf nodes out end (Decides decision Judges) done took ends = tt
+has_stormed law shelf nodes out end (Decides decision Explains) done took ends = tt
 has_stormed law shelf nodes out end (Decides decision Rewrites) done took ends = tt
 has_stormed law shelf nodes out end (Decides decision WritesGraph) done took ends = tt
 has_stormed law shelf nodes out end (Decides decision (Demonstrates cells)) done took ends = tt
@@ -390,6 +404,7 @@ has_stormed law shelf nodes out end (Decides decision (Storms rounds)) done took
 
     by_decision : IsDecided decision (Storms rounds) nodes end → HasStormed out (Decides decision (Storms rounds))
     by_decision (Verdict same made) = by_verdict (verdict_of decision) refl same
+    by_decision (Explained same explained) = absurd (let one = ap status_of explained.shown.is in omega (arith, done, one))
     by_decision (Limit limited same) = absurd (let six = ap status_of same in omega (arith, done, six))
 
 -- what a call with status 0 put on out
@@ -434,3 +449,69 @@ graphed_cause request shelf nodes out err status = leads_done (HasGraph out) req
 pub stormed_cause : StormsNeverRest → (request : Request) (shelf : ShelfCall) (nodes : Arena) (out err : SinkCall) (status : ℕ) → Runs request shelf nodes out err status
     → status ≡ 0 → Reaches (HasStormed out) request shelf
 stormed_cause law request shelf nodes out err status = leads_done (HasStormed out) request shelf nodes out err status (has_stormed law shelf nodes out)
+
+-- ---- an explanation
+
+same_some : {A : Type 0} {a b : A} → Some a ≡ Some b → a ≡ b
+same_some e = cc
+
+-- a wire that was told with why
+pub why_told : (decision : Decision) (out err : SinkCall) (end : Outcome) → Takes out end.out → Takes err end.err → (explained : IsExplained decision end)
+    → HasWhy decision explained.vector explained.wire out err
+why_told decision out err end took other explained = record {
+  refused = explained.refused;
+  why = explained.shown.why;
+  explains = explained.shown.explains;
+  out_text = subst (Takes out) (ap (λ (o : Outcome). o.out) explained.shown.is) took;
+  err_text = subst (Takes err) (ap (λ (o : Outcome). o.err) explained.shown.is) other;
+}
+
+-- what was put on out and on err to explain
+has_explained : (shelf : ShelfCall) (nodes : Arena) (out err : SinkCall) (end : Outcome) (rest : Plan) → Takes out end.out → Takes err end.err
+    → end.status ≡ 1 → EndsAt shelf nodes end rest → HasExplained out err rest
+has_explained shelf nodes out err end (Reads role name next) took other one ends = tt
+has_explained shelf nodes out err end (Faulty name fault) took other one ends = tt
+has_explained shelf nodes out err end (Ends ending) took other one ends = tt
+has_explained shelf nodes out err end (Decides decision Judges) took other one ends = tt
+has_explained shelf nodes out err end (Decides decision Rewrites) took other one ends = tt
+has_explained shelf nodes out err end (Decides decision WritesGraph) took other one ends = tt
+has_explained shelf nodes out err end (Decides decision (Demonstrates cells)) took other one ends = tt
+has_explained shelf nodes out err end (Decides decision (Storms rounds)) took other one ends = tt
+has_explained shelf nodes out err end (Decides decision Explains) took other one ends = by_decision ends.1
+  where
+    by_decision : IsDecided decision Explains nodes end → HasExplained out err (Decides decision Explains)
+    by_decision (Verdict same made) = λ vector wire refused. absurd (subst (IsMadeFor decision Explains) refused made)
+    by_decision (Explained same explained) = λ vector wire refused.
+        let is : Undetermined explained.vector explained.wire ≡ Undetermined vector wire = same_some (sym explained.refused ∙ refused) in
+        let same_vector : explained.vector ≡ vector = cc in
+        let same_wire : explained.wire ≡ wire = cc in
+        subst (λ (w : Sig). HasWhy decision vector w out err) same_wire
+        (subst (λ (v : List Bool). HasWhy decision v explained.wire out err) same_vector (why_told decision out err end took other explained))
+    by_decision (Limit limited same) = absurd (let six = ap status_of same in omega (arith, one, six))
+
+pub explained_cause : (request : Request) (shelf : ShelfCall) (nodes : Arena) (out err : SinkCall) (status : ℕ) → Runs request shelf nodes out err status
+    → status ≡ 1 → Reaches (HasExplained out err) request shelf
+explained_cause request shelf nodes out err status runs at = by_telling runs.tells
+  where
+    by_end : (command : Command) → IsTold runs.end out err status → Follows (plan_of request.shows command) shelf nodes runs.end
+        → Leads (HasExplained out err) shelf (plan_of request.shows command)
+    by_end command whole follows = elim follows.ends [
+      | inl ends ↦ record {
+        given = follows.given;
+        gave = follows.gave;
+        holds = has_explained shelf nodes out err runs.end (rest_of follows.given (plan_of request.shows command)) whole.out_text whole.err_text (sym whole.is ∙ at) ends;
+      }
+      | inr same ↦ absurd (let seven = ap status_of same in let is = whole.is in omega (arith, at, is, seven))
+    ]
+
+    by_command : (asked : Option Command) → IsTold runs.end out err status → ComesTo request.shows asked shelf nodes runs.end
+        → IsSomeAnd asked (λ command. Leads (HasExplained out err) shelf (plan_of request.shows command))
+    by_command None whole comes = absurd (elim comes.ends [
+      | inl same ↦ (let two = ap status_of same in let is = whole.is in omega (arith, at, is, two))
+      | inr same ↦ (let seven = ap status_of same in let is = whole.is in omega (arith, at, is, seven))
+    ])
+    by_command (Some command) whole follows = by_end command whole follows
+
+    by_telling : Tells runs.end out err status → Reaches (HasExplained out err) request shelf
+    by_telling (inl whole) = by_command (command_of request.words) whole runs.comes
+    by_telling (inr cut) = absurd (let five = cut.is in omega (arith, at, five))

@@ -20,6 +20,7 @@ use Rattle.refusals.specs.Acceptance.{Accepts}
 use Rattle.refusals.specs.Refusals.{IsRefusalOf, refusal}
 use Rattle.refusals.specs.declared.observe.Observe.{Observe}
 use Rattle.refusals.specs.declared.refusal.Refusal.{Refusal}
+use Rattle.refusals.specs.declared.refusal.Refusal.TheVariants.{Initial, EmptyCare, Undetermined, Leaves as LeavesCare}
 use Rattle.refusals.proofs.LawLemmas.{accepted_without_refusal, refusal_is_shown}
 use Rattle.report.specs.Verdicts.{accepted_text, ring_line}
 use Rattle.rewriting.specs.Graphs.{graph_of, most_ands, IsGraphing}
@@ -39,10 +40,10 @@ use Rattle.verdict.specs.declared.fault.DecideFault.TheVariants.{NodeLimit, Memo
 use Rattle.verdict.specs.declared.verdict.Verdict.{Verdict}
 use Rattle.verdict.specs.declared.verdict.Verdict.TheVariants.{Accepted, Refused}
 use Rattle.cyc_tool.specs.Answer.{told, decided, verdict_of}
-use Rattle.cyc_tool.specs.Calls.{IsAccepted, IsDecided, IsMadeFor, Limit, Verdict as ByVerdict}
+use Rattle.cyc_tool.specs.Calls.{IsAccepted, IsDecided, IsMadeFor, IsToldAlone, Explained, Limit, Verdict as ByVerdict}
 use Rattle.cyc_tool.specs.Endings.{accepted_told, aiger_told, count_of_loops, refused_told, where_outputs}
-use Rattle.cyc_tool.specs.Plans.{Decision, Prints, Declines, Outgrows, Purpose, Judges, Rewrites, WritesGraph, Demonstrates, Storms}
-use Rattle.cyc_tool.specs.Seen.{IsLimitOf, IsOutgrown, IsTellable, IsToldOf, IsToldOfGraph, outcome_of}
+use Rattle.cyc_tool.specs.Plans.{Decision, Prints, Declines, Outgrows, Purpose, Judges, Rewrites, WritesGraph, Explains, Demonstrates, Storms}
+use Rattle.cyc_tool.specs.Seen.{IsLimitOf, IsOutgrown, IsRefusalTold, IsTellable, IsToldOf, IsToldOfGraph, outcome_of}
 use Rattle.cyc_tool.specs.Texts.{Outcome, limit_reached}
 use Rattle.cyc_tool.specs.declared.outcome.Outcome.{Outcome as Told}
 
@@ -58,12 +59,27 @@ accepted_decides net care limit what purpose nodes end valid accepts is =
     ByVerdict (is.is ∙ sym (ap (decided (decision_of net care limit what) purpose) none))
     (subst (IsMadeFor (decision_of net care limit what) purpose) (sym none) is.made)
 
-pub refused_decides : (net : Parts) (care : CareSet) (limit : ℕ) (what : Observe) (purpose : Purpose) (nodes : Arena) (end : Outcome) (refused : Refusal)
-    → refusal net care what ≡ Some refused → end ≡ told (refused_told net purpose refused)
+alone_decides : (net : Parts) (care : CareSet) (limit : ℕ) (what : Observe) (purpose : Purpose) (nodes : Arena) (end : Outcome) (refused : Refusal)
+    → refusal net care what ≡ Some refused → IsToldAlone purpose refused → end ≡ told (refused_told net purpose refused)
     → IsDecided (decision_of net care limit what) purpose nodes end
-refused_decides net care limit what purpose nodes end refused is same =
+alone_decides net care limit what purpose nodes end refused is alone same =
     ByVerdict (same ∙ sym (ap (decided (decision_of net care limit what) purpose) is))
-    (subst (IsMadeFor (decision_of net care limit what) purpose) (sym is) tt)
+    (subst (IsMadeFor (decision_of net care limit what) purpose) (sym is) alone)
+
+pub refused_decides : (net : Parts) (care : CareSet) (limit : ℕ) (what : Observe) (purpose : Purpose) (nodes : Arena) (end : Outcome) (refused : Refusal)
+    → IsNetlist net → refusal net care what ≡ Some refused → IsRefusalTold net purpose refused end
+    → IsDecided (decision_of net care limit what) purpose nodes end
+refused_decides net care limit what Judges nodes end refused valid is same = alone_decides net care limit what Judges nodes end refused is tt same
+refused_decides net care limit what Rewrites nodes end refused valid is same = alone_decides net care limit what Rewrites nodes end refused is tt same
+refused_decides net care limit what WritesGraph nodes end refused valid is same = alone_decides net care limit what WritesGraph nodes end refused is tt same
+refused_decides net care limit what (Demonstrates cells) nodes end refused valid is same = alone_decides net care limit what (Demonstrates cells) nodes end refused is tt same
+refused_decides net care limit what (Storms rounds) nodes end refused valid is same = alone_decides net care limit what (Storms rounds) nodes end refused is tt same
+refused_decides net care limit what Explains nodes end (Initial q) valid is same = alone_decides net care limit what Explains nodes end (Initial q) is tt same
+refused_decides net care limit what Explains nodes end EmptyCare valid is same = alone_decides net care limit what Explains nodes end EmptyCare is tt same
+refused_decides net care limit what Explains nodes end (LeavesCare v q) valid is same = alone_decides net care limit what Explains nodes end (LeavesCare v q) is tt same
+refused_decides net care limit what Explains nodes end (Undetermined v wire) valid is same =
+    let known = (refusal_is_shown net care what (Undetermined v wire) valid is).1 (λ e. cc) in
+    Explained refl (record { vector = v; wire = wire; refused = is; shown = same known.unknown })
 
 pub refusal_fits : (net : Parts) (care : CareSet) (what : Observe) (refused : Refusal) → IsNetlist net → refusal net care what ≡ Some refused
     → IsRefusalOf net refused
@@ -102,6 +118,14 @@ pub judged : (net : Parts) (care : CareSet) (limit : ℕ) (what : Observe) (loos
     → end ≡ told (Prints (accepted_text net (count_of_loops net) given)) → given ≡ where_outputs what loose → AreLoose net care loose
     → IsAccepted (decision_of net care limit what) Judges end
 judged net care limit what loose given end same is loose_is = record {
+  is = same ∙ ap (λ number. told (Prints (accepted_text net (count_of_loops net) number))) (is ∙ ap (where_outputs what) loose_is);
+  made = tt;
+}
+
+pub told_accepted : (net : Parts) (care : CareSet) (limit : ℕ) (what : Observe) (loose : ℕ) (given : Option ℕ) (end : Outcome)
+    → end ≡ told (Prints (accepted_text net (count_of_loops net) given)) → given ≡ where_outputs what loose → AreLoose net care loose
+    → IsAccepted (decision_of net care limit what) Explains end
+told_accepted net care limit what loose given end same is loose_is = record {
   is = same ∙ ap (λ number. told (Prints (accepted_text net (count_of_loops net) number))) (is ∙ ap (where_outputs what) loose_is);
   made = tt;
 }

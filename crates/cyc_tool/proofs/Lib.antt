@@ -9,3 +9,4 @@ pub mod RunLemmas
 pub mod StormLemmas
 pub mod TellLemmas
 pub mod TickLemmas
+pub mod ExplainedLemmas

@@ -1,5 +1,5 @@
 -- What follows of a run for each status, and where the files are told.
-use Rattle.std.specs.Prelude.{◌≡◌, ◌≢◌, ◌≤◌, ◌⊎◌, ℕ, Bool, List, Some, None, IfSome, IsSomeAnd}
+use Rattle.std.specs.Prelude.{◌≡◌, ◌≢◌, ◌≤◌, ◌⊎◌, ◌+◌, ◌-◌, ◌++◌, length, [], ℕ, Bool, List, Some, None, IfSome, IsSomeAnd}
 use Rattle.std.specs.declared.option.Option.{Option}
 use Rattle.bdd_store.specs.Arena.{Arena}
 use Rattle.accepted_runs.specs.Harmless.{IsHarmless}
@@ -19,7 +19,11 @@ use Rattle.rewriting.specs.Graphs.{graph_of, IsGraphing}
 use Rattle.rewriting.specs.Rewriting.{rewritten, IsRewriting}
 use Rattle.cyc_tool.specs.Answer.{told, decided, verdict_of, answer}
 use Rattle.cyc_tool.specs.Calls.{ShelfCall, SinkCall, ReadFailed, WriteFailed, Takes, AreGiven, rest_of, IsLimited, IsTold}
-use Rattle.cyc_tool.specs.Plans.{Decision, Rewrites, WritesGraph, Storms, Plan, Reads, Faulty, Ends, Decides, plan_of}
+use Rattle.explanations.specs.declared.explanation.Explanation.{Explanation}
+use Rattle.explanations.specs.Explained.{Explains as ExplainsGate}
+use Rattle.report.specs.Verdicts.{refusal_text}
+use Rattle.report.specs.Explanations.{explanation_text}
+use Rattle.cyc_tool.specs.Plans.{Decision, Rewrites, WritesGraph, Explains, Storms, Plan, Reads, Faulty, Ends, Decides, plan_of}
 use Rattle.cyc_tool.specs.Requests.{Request}
 use Rattle.cyc_tool.specs.Texts.{no_memory}
 
@@ -112,6 +116,26 @@ abbrev pub HasStormed : SinkCall → Plan → Type 0
 HasStormed out (Decides decision (Storms rounds)) = IsStormed decision rounds out
 HasStormed out plan = Unit {0}
 
+-- A refused wire has its explanation on out, and nothing is on err: behind the refusal a cycle of unknown gates, with the
+-- fewest of those that lead to the wire, the way from it, and values of the vector that hold all these gates open.
+pub record HasWhy (decision : Decision) (vector : List Bool) (wire : Sig) (out err : SinkCall) : Type 0 where
+  pub refused : verdict_of decision ≡ Some (Undetermined vector wire)
+  pub why : Explanation
+  pub explains : ExplainsGate decision.net vector (wire.0 - (length decision.net.inputs + length decision.net.latches)) why
+  pub out_text : Takes out (refusal_text decision.net (Undetermined vector wire) ++ explanation_text decision.net why)
+  pub err_text : Takes err []
+
+-- What was put on out to explain, where the status is 1.
+abbrev pub HasExplained : SinkCall → SinkCall → Plan → Type 0
+HasExplained out err (Decides decision Explains) =
+    (vector : List Bool) (wire : Sig) → verdict_of decision ≡ Some (Undetermined vector wire) → HasWhy decision vector wire out err
+HasExplained out err plan = Unit {0}
+
+-- A wire was explained.
+abbrev pub ExplainsWire : SinkCall → SinkCall → Plan → Type 0
+ExplainsWire out err (Decides decision Explains) = (vector : List Bool) × ((wire : Sig) × HasWhy decision vector wire out err)
+ExplainsWire out err plan = ⊥
+
 -- No read failed of a file that is there.
 abbrev pub NoneFailed : ShelfCall → Files → Plan → Type 0
 NoneFailed shelf files (Reads role name next) =
@@ -124,11 +148,12 @@ pub record IsWell (request : Request) (shelf : ShelfCall) (out err : SinkCall) (
   pub writes_out : WriteFailed out → ⊥
   pub writes_err : WriteFailed err → ⊥
 
--- Over files that are told, where no read or write failed, the call gives the answer, or met the limit of nodes, or
--- wants memory.
+-- Over files that are told, where no read or write failed, the call gives the answer, or explains a refused wire, or met
+-- the limit of nodes, or wants memory.
 abbrev pub GivesAnswer : Request → ShelfCall → Arena → SinkCall → SinkCall → ℕ → Type 0
 GivesAnswer request shelf nodes out err status = IfSome shelf.files (λ files. IsWell request shelf out err files
-    → IsTold (answer request files) out err status ⊎ (Reaches (MeetsLimit nodes) request shelf × (status ≡ 6)) ⊎ IsTold no_memory out err status)
+    → IsTold (answer request files) out err status ⊎ (Reaches (MeetsLimit nodes) request shelf × (status ≡ 6))
+    ⊎ (Reaches (ExplainsWire out err) request shelf × (status ≡ 1)) ⊎ IsTold no_memory out err status)
 
 -- The limit of the decision that is next is enough.
 abbrev pub IsEnoughFor : Plan → Type 0
@@ -140,10 +165,11 @@ abbrev pub HasEnoughNodes : Request → ShelfCall → Type 0
 HasEnoughNodes request shelf = IfSome (command_of request.words) (λ command.
     (given : List (List ℕ)) → AreGiven shelf.files given (plan_of request.shows command) → IsEnoughFor (rest_of given (plan_of request.shows command)))
 
--- With enough nodes it gives the answer, or wants memory.
+-- With enough nodes it gives the answer, or explains a refused wire, or wants memory.
 abbrev pub IsComplete : Request → ShelfCall → SinkCall → SinkCall → ℕ → Type 0
 IsComplete request shelf out err status = IfSome shelf.files (λ files. IsWell request shelf out err files
-    → HasEnoughNodes request shelf → IsTold (answer request files) out err status ⊎ IsTold no_memory out err status)
+    → HasEnoughNodes request shelf → IsTold (answer request files) out err status ⊎ (Reaches (ExplainsWire out err) request shelf × (status ≡ 1))
+    ⊎ IsTold no_memory out err status)
 
 -- what the next call may rest on: no count of faults fell
 pub record NoneFell (shelf : ShelfCall) (out err : SinkCall) : Type 0 where

@@ -14,7 +14,7 @@ use Rattle.blif_write.specs.Written.{written}
 use Rattle.care_sets.specs.Care.{CareSet}
 use Rattle.refusals.specs.declared.observe.Observe.{Observe}
 use Rattle.refusals.specs.declared.observe.Observe.TheVariants as observe
-use Rattle.commands.specs.Words.{Options, Command, Check, Rewrite, Aiger, Flat, Loops, Sim, Delays, Demo, Storm, Help, HelpOn, Version}
+use Rattle.commands.specs.Words.{Options, Command, Check, Rewrite, Aiger, Explain, Flat, Loops, Sim, Delays, Demo, Storm, Help, HelpOn, Version}
 use Rattle.contents.specs.CareFiles.{no_care, care_of}
 use Rattle.contents.specs.Faults.{Fault}
 use Rattle.contents.specs.NetlistFiles.{netlist_of}
@@ -61,6 +61,8 @@ pub data Purpose : Type 0 where
   Rewrites : Purpose
   -- to write its and-inverter graph, without loops
   WritesGraph : Purpose
+  -- to show why a refused wire is undetermined
+  Explains : Purpose
   -- to tell that the ring arbiter of so many cells is accepted
   Demonstrates : ℕ → Purpose
   -- to write a schedule of so many rounds on which a refused wire never rests
@@ -173,6 +175,7 @@ abbrev pub plan_of : Shows → Command → Plan
 plan_of shows (Check file options) = deciding file options Judges
 plan_of shows (Rewrite file options) = deciding file options Rewrites
 plan_of shows (Aiger file options) = deciding file options WritesGraph
+plan_of shows (Explain file options) = deciding file options Explains
 plan_of shows (Flat file) = flattening file
 plan_of shows (Loops file) = finding_loops file
 plan_of shows (Sim file vectors) = simulating file vectors

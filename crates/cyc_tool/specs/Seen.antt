@@ -11,6 +11,13 @@ use Rattle.blif_write.specs.Written.{written}
 use Rattle.commands.specs.Seen.{cells_seen, rounds_seen}
 use Rattle.loops.specs.declared.structure.Blocks.{Blocks}
 use Rattle.refusals.specs.Refusals.{IsRefusalOf}
+use Rattle.refusals.specs.declared.refusal.Refusal.{Refusal}
+use Rattle.refusals.specs.declared.refusal.Refusal.TheVariants.{Undetermined}
+use Rattle.cyc_base.specs.declared.trit.Trit.TheVariants.{X}
+use Rattle.cyc_base.specs.Values.{bits}
+use Rattle.netlist.specs.Fixpoint.{fix, wire as wire_of}
+use Rattle.cyc_tool.specs.Calls.{IsWireExplained}
+use Rattle.cyc_tool.specs.Endings.{refused_told}
 use Rattle.unroll.specs.declared.fault.UnrollFault.{UnrollFault}
 use Rattle.unroll.specs.declared.fault.UnrollFault.TheVariants.{TooLarge, Memory as NoMemory}
 use Rattle.rewriting.specs.Graphs.{most_ands}
@@ -22,7 +29,7 @@ use Rattle.cyc_tool.specs.Answer.{told as done}
 use Rattle.cyc_tool.specs.Plans as plans
 use Rattle.cyc_tool.specs.Texts as texts
 use Rattle.cyc_tool.specs.declared.decision.Purpose.{Purpose}
-use Rattle.cyc_tool.specs.declared.decision.Purpose.TheVariants.{Judge, Rewrite, Aiger, Demonstrate, Storm}
+use Rattle.cyc_tool.specs.declared.decision.Purpose.TheVariants.{Judge, Rewrite, Aiger, Explain, Demonstrate, Storm}
 use Rattle.cyc_tool.specs.declared.outcome.Outcome.{Outcome}
 use Rattle.cyc_tool.specs.declared.outcome.Stop.{Stop}
 use Rattle.cyc_tool.specs.declared.outcome.Stop.TheVariants.{At, Memory}
@@ -34,6 +41,7 @@ abbrev pub purpose_seen : Purpose → plans.Purpose
 purpose_seen Judge = plans.Judges
 purpose_seen Rewrite = plans.Rewrites
 purpose_seen Aiger = plans.WritesGraph
+purpose_seen Explain = plans.Explains
 purpose_seen (Demonstrate cells) = plans.Demonstrates (cells_seen cells)
 purpose_seen (Storm rounds) = plans.Storms (rounds_seen rounds)
 
@@ -56,6 +64,16 @@ IsOverfull NoRoom told = ⊥
 abbrev pub IsToldOfGraph : Parts → Result Built AigFault → Outcome → Type 0
 IsToldOfGraph other (Ok graph) told = outcome_of told ≡ done (plans.Prints (aiger_text other graph))
 IsToldOfGraph other (Err fault) told = IsOverfull fault told
+
+-- what is told of a refusal to explain it: a wire that is undetermined at the vector is told with why
+abbrev pub IsRefusalExplained : Parts → Refusal → texts.Outcome → Type 0
+IsRefusalExplained net (Undetermined v wire) end = wire_of (fix net (bits v)) wire ≡ X → IsWireExplained net v wire end
+IsRefusalExplained net refused end = end ≡ done (refused_told net plans.Explains refused)
+
+-- what is told of a refusal for a purpose
+abbrev pub IsRefusalTold : Parts → plans.Purpose → Refusal → texts.Outcome → Type 0
+IsRefusalTold net plans.Explains refused end = IsRefusalExplained net refused end
+IsRefusalTold net purpose refused end = end ≡ done (refused_told net purpose refused)
 
 -- what is told of a decision without a verdict: the limit that it met
 abbrev pub IsLimitOf : DecideFault → Outcome → Type 0

@@ -20,10 +20,11 @@ ghost use Rattle.rewriting.specs.Rewriting.{rewritten as rewritten_netlist, rewr
 ghost use Rattle.verdict.specs.Verdicts.{AreSweepsOnCare, IsAcceptance, IsVerdict};
 ghost use Rattle.cyc_tool.specs.Answer.{told as done};
 ghost use Rattle.cyc_tool.specs.Calls.{IsAccepted, IsDecided};
-ghost use Rattle.cyc_tool.specs.Endings.{count_of_loops, refused_told, where_outputs};
+ghost use Rattle.cyc_tool.specs.Endings.{count_of_loops, where_outputs};
 ghost use Rattle.cyc_tool.specs.Plans.{Declines, Prints, Rewrites, WritesGraph};
-ghost use Rattle.cyc_tool.specs.Seen.{IsLimitOf, IsOutgrown, IsOverfull, IsTellable, IsToldOf, IsToldOfGraph, outcome_of, purpose_seen};
+ghost use Rattle.cyc_tool.specs.Seen.{IsLimitOf, IsOutgrown, IsOverfull, IsRefusalTold, IsTellable, IsToldOf, IsToldOfGraph, outcome_of, purpose_seen};
 
+use crate::explained::tell_explained;
 use crate::outcome::Outcome;
 use crate::status;
 use crate::storms::tell_storm;
@@ -57,6 +58,8 @@ pub(crate) enum Purpose {
     Rewrite,
     // To write its and-inverter graph, without loops.
     Aiger,
+    // To show why a refused wire is undetermined.
+    Explain,
     // To tell that the ring arbiter of so many cells is accepted.
     Demonstrate(Cells),
     // To write a schedule of so many rounds on which a refused wire never rests.
@@ -295,6 +298,7 @@ fn tell_acceptance(
         Purpose::Judge => tell_accepted(alloc, net, blocks, loose_told(observe, loose)),
         Purpose::Rewrite => tell_rewritten(alloc, net, blocks, cut, sweeps),
         Purpose::Aiger => tell_graphed(alloc, net, blocks, cut, sweeps),
+        Purpose::Explain => tell_accepted(alloc, net, blocks, loose_told(observe, loose)),
         Purpose::Demonstrate(cells) => {
             let rewritten = count_rewritten(alloc, net, blocks, cut, sweeps)?;
             tell_ring(alloc, cells, net, blocks, rewritten)
@@ -310,12 +314,14 @@ fn tell_refusal(
     purpose: Purpose,
     refusal: &Refusal,
 ) -> Result<Outcome, AllocError>
-    requires { IsRefusalOf net.now refusal.now }
-    ensures { IfOk result (λ told. outcome_of told ≡ done (refused_told net.now (purpose_seen purpose) refusal.now)) }
+    requires valid { IsNetlist net.now }
+    requires fits { IsRefusalOf net.now refusal.now }
+    ensures { IfOk result (λ told. IsRefusalTold net.now (purpose_seen purpose) refusal.now (outcome_of told)) }
 {
     match purpose {
         Purpose::Judge | Purpose::Demonstrate(_) => tell_refused(alloc, net, refusal),
         Purpose::Rewrite | Purpose::Aiger => tell_declined(alloc, net, refusal),
+        Purpose::Explain => tell_explained(alloc, net, refusal),
         Purpose::Storm(rounds) => tell_storm(alloc, net, refusal, rounds),
     }
 }

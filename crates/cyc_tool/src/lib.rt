@@ -5,6 +5,7 @@
 #![tactic(auto)]
 
 mod decision;
+mod explained;
 mod outcome;
 mod plays;
 mod reading;

@@ -8,7 +8,7 @@ ghost use Rattle.netlist.specs.Netlists.{IsNetlist};
 ghost use Rattle.sched_text.specs.Fitting.{FitsNetlist};
 ghost use Rattle.sched_text.specs.Vectors.{HaveWidth};
 ghost use Rattle.cyc_tool.specs.Calls.{shelf_call, sink_call, ComesTo, Follows, KeepsNodes, Tells, Runs, WriteFailed};
-ghost use Rattle.cyc_tool.specs.Causes.{GivesAnswer, HasGraph, HasRewritten, HasStormed, IsComplete, IsDoneWith, IsFaulty, IsHelpedBy, IsUnread, IsWithoutCommand, MeetsLimit, NoneFell, Reaches};
+ghost use Rattle.cyc_tool.specs.Causes.{GivesAnswer, HasExplained, HasGraph, HasRewritten, HasStormed, IsComplete, IsDoneWith, IsFaulty, IsHelpedBy, IsUnread, IsWithoutCommand, MeetsLimit, NoneFell, Reaches};
 ghost use Rattle.cyc_tool.specs.Plays.{AreInputs, known as known_of};
 ghost use Rattle.cyc_tool.specs.Plans.{Decides, decision, deciding, deciding_on, finding_loops, flattening, plan_of, play_on, playing, replaying, replaying_on, simulating, simulating_on};
 ghost use Rattle.cyc_tool.specs.Reading.{FollowsAlone, FollowsStill, FollowsStillAlone};
@@ -295,6 +295,9 @@ fn carry_out<S: Shelf>(
         Command::Aiger(netlist, options) => {
             decide_file(alloc, shelf, netlist, options, Purpose::Aiger, d)
         }
+        Command::Explain(netlist, options) => {
+            decide_file(alloc, shelf, netlist, options, Purpose::Explain, d)
+        }
         Command::Flat(netlist) => flat(alloc, shelf, netlist),
         Command::Loops(netlist) => loops(alloc, shelf, netlist),
         Command::Sim(netlist, vectors) => sim(alloc, shelf, netlist, vectors),
@@ -477,6 +480,9 @@ pub fn run<S: Shelf, O: Sink, E: Sink>(
         → Reaches (HasRewritten (sink_call O.put O.faults out.old out.new)) (request kind text words.now probes.items) (shelf_call S.files S.faults shelf.old shelf.new) }
     ensures graphed { result ≡ 0
         → Reaches (HasGraph (sink_call O.put O.faults out.old out.new)) (request kind text words.now probes.items) (shelf_call S.files S.faults shelf.old shelf.new) }
+    ensures explained { result ≡ 1
+        → Reaches (HasExplained (sink_call O.put O.faults out.old out.new) (sink_call E.put E.faults err.old err.new))
+        (request kind text words.now probes.items) (shelf_call S.files S.faults shelf.old shelf.new) }
 
     // What follows where the files are told.
     ensures answer { GivesAnswer (request kind text words.now probes.items) (shelf_call S.files S.faults shelf.old shelf.new) d.new

@@ -2,7 +2,7 @@
 use Rattle.std.specs.Prelude.{ℕ, List, [], ◌∷◌, ◌++◌, codes}
 use Rattle.std.specs.List.{flat_map}
 use Rattle.commands.specs.declared.topic.Topic.{Topic}
-use Rattle.commands.specs.declared.topic.Topic.TheVariants.{Check, Rewrite, Aiger, Flat, Loops, Sim, Delays, Demo, Storm}
+use Rattle.commands.specs.declared.topic.Topic.TheVariants.{Check, Rewrite, Aiger, Explain, Flat, Loops, Sim, Delays, Demo, Storm}
 
 -- the program's version, and the kit that it is proved with
 abbrev pub version_text : List ℕ
@@ -10,13 +10,14 @@ version_text = codes "cyc 1.0.0\nproved with rattle-kit-13f logic dac8208d650f15
 
 -- the commands, in the order in which help tells of them
 unfoldable pub topics : List Topic
-topics = Check ∷ Rewrite ∷ Aiger ∷ Flat ∷ Loops ∷ Sim ∷ Delays ∷ Demo ∷ Storm ∷ []
+topics = Check ∷ Rewrite ∷ Aiger ∷ Explain ∷ Flat ∷ Loops ∷ Sim ∷ Delays ∷ Demo ∷ Storm ∷ []
 
 -- a command's name, its files and its options
 abbrev pub words_of : Topic → List ℕ
 words_of Check = codes "check FILE [--care CARE] [--nodes N] [--observe all|outputs]"
 words_of Rewrite = codes "rewrite FILE [--care CARE] [--nodes N] [--observe all|outputs]"
 words_of Aiger = codes "aiger FILE [--care CARE] [--nodes N] [--observe all|outputs]"
+words_of Explain = codes "explain FILE [--care CARE] [--nodes N] [--observe all|outputs]"
 words_of Flat = codes "flat FILE"
 words_of Loops = codes "loops FILE"
 words_of Sim = codes "sim FILE VECTORS"
@@ -29,6 +30,7 @@ abbrev pub purpose_of : Topic → List ℕ
 purpose_of Check = codes "says that each loop is harmless, or prints a wire and a vector that show why not"
 purpose_of Rewrite = codes "writes an accepted netlist without loops, with the same outputs at every tick"
 purpose_of Aiger = codes "writes an accepted netlist as an and-inverter graph without loops, in AIGER's ASCII form"
+purpose_of Explain = codes "does as check, and shows which cycle of gates leaves a refused wire unknown, and which values"
 purpose_of Flat = codes "writes the netlist without its hierarchy"
 purpose_of Loops = codes "prints the loops and the wires that cut them open"
 purpose_of Sim = codes "simulates the netlist with 0, 1 and x, tick by tick"

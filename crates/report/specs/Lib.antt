@@ -4,3 +4,4 @@ pub mod LoopTexts
 pub mod Ticks
 pub mod Messages
 pub mod Help
+pub mod Explanations

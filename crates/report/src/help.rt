@@ -20,6 +20,7 @@ fn topics() -> &'static [Topic]
         Topic::Check,
         Topic::Rewrite,
         Topic::Aiger,
+        Topic::Explain,
         Topic::Flat,
         Topic::Loops,
         Topic::Sim,
@@ -82,6 +83,7 @@ fn words(topic: Topic) -> &'static [u8]
         Topic::Check => b"check FILE [--care CARE] [--nodes N] [--observe all|outputs]",
         Topic::Rewrite => b"rewrite FILE [--care CARE] [--nodes N] [--observe all|outputs]",
         Topic::Aiger => b"aiger FILE [--care CARE] [--nodes N] [--observe all|outputs]",
+        Topic::Explain => b"explain FILE [--care CARE] [--nodes N] [--observe all|outputs]",
         Topic::Flat => b"flat FILE",
         Topic::Loops => b"loops FILE",
         Topic::Sim => b"sim FILE VECTORS",
@@ -102,6 +104,8 @@ fn purpose(topic: Topic) -> &'static [u8]
             b"writes an accepted netlist without loops, with the same outputs at every tick",
         Topic::Aiger =>
             b"writes an accepted netlist as an and-inverter graph without loops, in AIGER's ASCII form",
+        Topic::Explain =>
+            b"does as check, and shows which cycle of gates leaves a refused wire unknown, and which values",
         Topic::Flat => b"writes the netlist without its hierarchy",
         Topic::Loops => b"prints the loops and the wires that cut them open",
         Topic::Sim => b"simulates the netlist with 0, 1 and x, tick by tick",

@@ -5,6 +5,7 @@
 //! appends exactly its text, whole or a prefix of it where a write failed; `specs/` has a file for each kind of text.
 #![tactic(auto)]
 
+mod explain_text;
 mod fault;
 mod help;
 mod loop_text;
@@ -13,6 +14,7 @@ mod put;
 mod tick;
 mod verdict;
 
+pub use explain_text::put_explained;
 pub use fault::{Tail, put_fault};
 pub use help::{put_help, put_topic, put_version};
 pub use loop_text::put_loops;

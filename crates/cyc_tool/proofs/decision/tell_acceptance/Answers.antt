@@ -1,7 +1,7 @@
 use Rattle.std.proofs.lemmas.Result.{IfOk-weaker}
 use Rattle.commands.specs.Seen.{cells_seen}
 use Rattle.cyc_tool.specs.Seen.{outcome_of}
-use Rattle.cyc_tool.proofs.DecisionLemmas.{calmed, demonstrated, judged}
+use Rattle.cyc_tool.proofs.DecisionLemmas.{calmed, demonstrated, judged, told_accepted}
 use Rattle.cyc_tool.proofs.decision.tell_acceptance.Goals as goal
 
 pub returns-in-Judge : goal.returns-in-Judge
@@ -21,6 +21,12 @@ returns-in-Aiger c =
     IfOk-weaker c.tell_graphed.result _ _ (λ told is care acceptance limit.
     rw c.in-Aiger.is (is care c.args.observe limit acceptance.accepts acceptance.sweeps))
     c.tell_graphed.ensures
+
+pub returns-in-Explain : goal.returns-in-Explain
+returns-in-Explain c =
+    IfOk-weaker c.tell_accepted-in-Explain.result _ _ (λ told is care acceptance limit.
+    rw c.in-Explain.is (told_accepted c.args.net.now care limit c.args.observe c.args.loose _ (outcome_of told) is c.loose_told-in-Explain.ensures acceptance.loose_is))
+    c.tell_accepted-in-Explain.ensures
 
 pub returns-in_ok-rewritten-in-Demonstrate : goal.returns-in_ok-rewritten-in-Demonstrate
 returns-in_ok-rewritten-in-Demonstrate c =

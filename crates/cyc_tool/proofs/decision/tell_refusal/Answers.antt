@@ -6,3 +6,6 @@ returns-in-Judge c = elim c.in-Judge.is [ inl is ↦ rw is c.tell_refused.ensure
 
 pub returns-in-Rewrite : goal.returns-in-Rewrite
 returns-in-Rewrite c = elim c.in-Rewrite.is [ inl is ↦ rw is c.tell_declined.ensures | inr is ↦ rw is c.tell_declined.ensures ]
+
+pub returns-in-Explain : goal.returns-in-Explain
+returns-in-Explain c = rw c.in-Explain.is c.tell_explained.ensures

@@ -14,6 +14,6 @@ returns-in-Accepted c =
 pub returns-in-Refused : goal.returns-in-Refused
 returns-in-Refused c =
     IfOk-weaker c.tell_refusal.result _ _ (λ told same care is limit nodes.
-    refused_decides c.args.net.now care limit c.args.observe (purpose_seen c.args.purpose) nodes (outcome_of told) c.in-Refused.refusal
+    refused_decides c.args.net.now care limit c.args.observe (purpose_seen c.args.purpose) nodes (outcome_of told) c.in-Refused.refusal c.requires.valid
     (rw c.in-Refused.is at is) same)
     c.tell_refusal.ensures

@@ -14,6 +14,9 @@ returns-in-Rewrite-clause-comes g c = rw c.in-Rewrite.is c.decide_file-in-Rewrit
 pub returns-in-Aiger-clause-comes : goal.returns-in-Aiger-clause-comes
 returns-in-Aiger-clause-comes g c = rw c.in-Aiger.is c.decide_file-in-Aiger.ensures.comes
 
+pub returns-in-Explain-clause-comes : goal.returns-in-Explain-clause-comes
+returns-in-Explain-clause-comes g c = rw c.in-Explain.is c.decide_file-in-Explain.ensures.comes
+
 pub returns-in-Flat-clause-comes : goal.returns-in-Flat-clause-comes
 returns-in-Flat-clause-comes g c = rw c.in-Flat.is (c.flat.ensures.comes.follows c.args.d.now)
 

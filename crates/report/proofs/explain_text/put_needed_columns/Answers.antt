@@ -1,0 +1,29 @@
+use Rattle.std.proofs.Common.{◌≡◌, ℕ, ◌<◌, length, get_or, sym, ◌∙◌, arith}
+use Rattle.std.specs.List.{range_with_len}
+use Rattle.std.proofs.lemmas.List.FromFn.{length-range_with_len, get_or-range_with_len}
+use Rattle.report.specs.Explanations.{needed_column}
+use Rattle.cyc_io.proofs.TakenLemmas.{appended_none}
+use Rattle.cyc_io.proofs.ItemLemmas.{appended_item, appended_in_item, appended_items}
+use Rattle.report.proofs.explain_text.put_needed_columns.Goals as goal
+
+-- the numbers in order
+at_range : (n i : ℕ) → i < n → i ≡ get_or (range_with_len 0 n) i i
+at_range n i l = sym (get_or-range_with_len 0 n i i l ∙ omega arith)
+
+pub loop-column-init : goal.loop-column-init
+loop-column-init g c = appended_none _ _ _
+
+pub loop-column-preserved : goal.loop-column-preserved
+loop-column-preserved g c =
+    appended_item (needed_column c.args.net.now c.args.needs.now) (range_with_len 0 (length c.args.needs.now)) c.loop-column.column c.loop-column.column _ _ _ _ _ _ _ _
+    (omega (arith, length-range_with_len 0 (length c.args.needs.now))) (at_range (length c.args.needs.now) c.loop-column.column (omega arith)) c.loop-column.invariant c.in_ok-put_needed_column.ensures
+
+pub returns-in_err-put_needed_column : goal.returns-in_err-put_needed_column
+returns-in_err-put_needed_column g c =
+    appended_in_item (needed_column c.args.net.now c.args.needs.now) (range_with_len 0 (length c.args.needs.now)) c.loop-column.column c.loop-column.column _ _ _ _ _ _ _ _ _
+    (omega (arith, length-range_with_len 0 (length c.args.needs.now))) (at_range (length c.args.needs.now) c.loop-column.column (omega arith)) c.loop-column.invariant c.in_err-put_needed_column.ensures c.from_residual.ensures.0
+
+pub returns : goal.returns
+returns g c =
+    appended_items (needed_column c.args.net.now c.args.needs.now) (range_with_len 0 (length c.args.needs.now)) c.loop-column.column _ _
+    (omega (arith, length-range_with_len 0 (length c.args.needs.now))) c.loop-column.invariant
