@@ -67,12 +67,7 @@ pub(crate) fn zero_name(alloc: Global, mark: &Name) -> Result<Name, AllocError>
 
 /// The name of copy number so many of a gate with this name. Where the mark is a netlist's, it is none of its names, and
 /// copies of other numbers have other names.
-pub fn copy_name(
-    alloc: Global,
-    mark: &Name,
-    number: u32,
-    name: &Name,
-) -> Result<Name, AllocError>
+pub fn copy_name(alloc: Global, mark: &Name, number: u32, name: &Name) -> Result<Name, AllocError>
     ensures { IfOk result (λ copy. copy ≡ copy_name_by mark.now number name.now) }
 {
     let start = format!(in alloc; "c{number}")?;
