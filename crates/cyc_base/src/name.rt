@@ -1,4 +1,4 @@
-ghost use Rattle.std.specs.Prelude.{◌≡◌, ◌==◌, IfOk, IsTrue, ◌↔◌, fold};
+ghost use Rattle.std.specs.Prelude.{◌≡◌, ◌==◌, ◌≤◌, IfOk, IsTrue, ◌↔◌, fold, length, take};
 ghost use Rattle.std.proofs.Common.{rules};
 ghost use Rattle.std.specs.Cmp.Lexicographic.{nat_list_eq_equiv};
 ghost use Rattle.std.specs.Cmp.{partial_equiv_from_equiv};
@@ -11,18 +11,61 @@ use std::alloc::AllocError;
 use std::hash::{Hash, Hasher};
 use std::marker::Model;
 
+/// The most bytes that a name holds in place. With them it has the size of four words.
+const MAX_IN_PLACE: usize = 30;
+
+/// The first bytes of a place, which are a name.
+#[derive(Clone, Copy, Debug, Drop)]
+struct Short {
+    place: [u8; MAX_IN_PLACE],
+    length: u8,
+}
+
+/// The bytes of a name. Most names are short, and need no allocation.
+#[derive(Debug, Drop)]
+enum Held {
+    InPlace(Short),
+    Allocated(Vec<u8>),
+}
+
+impl Short {
+    fn of(bytes: &[u8]) -> Short
+        requires { length bytes.now ≤ 30 }
+        ensures within { result.length ≤ 30 }
+        ensures bytes { take result.length result.place ≡ bytes.now }
+    {
+        let mut place = [0; MAX_IN_PLACE];
+        place[..bytes.len()].copy_from_slice(bytes);
+        Short {
+            place,
+            length: bytes.len() as u8,
+        }
+    }
+
+    fn bytes(&self) -> &[u8]
+        requires { self.now.length ≤ 30 }
+        ensures { result.now ≡ take self.now.length self.now.place }
+    {
+        let all = &self.place[..];
+        &all[..usize::from(self.length)]
+    }
+}
+
 /// A name, seen as its bytes. It may hold any bytes.
 #[derive(Debug, Drop)]
 pub struct Name {
-    bytes: Vec<u8>,
+    held: Held,
 }
 
 impl Model for Name {
     ghost use Rattle.std.specs.Prelude.{List, ℕ};
+    ghost use Rattle.cyc_base.specs.Held.{bytes_of, IsWithin};
 
     ghost Value = { List ℕ };
 
-    ghost view = { λ name. name.bytes.items };
+    ghost view = { λ name. bytes_of name.held };
+
+    ghost invariant = { λ name. IsWithin name.held };
 }
 
 impl Name {
@@ -30,30 +73,41 @@ impl Name {
     pub fn new(bytes: Vec<u8>) -> Name
         ensures { result ≡ bytes.items }
     {
-        Name { bytes }
+        let held = if bytes.len() <= MAX_IN_PLACE {
+            Held::InPlace(Short::of(&bytes))
+        } else {
+            Held::Allocated(bytes)
+        };
+        Name { held }
     }
 
     pub fn bytes(&self) -> &[u8]
         ensures { result.now ≡ self.now }
     {
-        &self.bytes
+        match &self.held {
+            Held::InPlace(short) => short.bytes(),
+            Held::Allocated(bytes) => bytes,
+        }
     }
 
     /// An equal name.
     pub fn copy(&self) -> Result<Name, AllocError>
         ensures { IfOk result (λ name. name ≡ self.now) }
     {
-        let bytes = self.bytes.clone()?;
-        Ok(Name { bytes })
+        let held = match &self.held {
+            Held::InPlace(short) => Held::InPlace(*short),
+            Held::Allocated(bytes) => Held::Allocated(bytes.clone()?),
+        };
+        Ok(Name { held })
     }
 
     /// Whether it may stand in a BLIF text: one or more printed characters without blank and `#`.
     pub fn is_blif(&self) -> bool
         ensures { IsTrue result ↔ IsBlifName self.now }
     {
-        !self.bytes.is_empty()
-            && self
-                .bytes
+        let bytes = self.bytes();
+        !bytes.is_empty()
+            && bytes
                 .iter()
                 .all(|byte| (0x21..=0x7E).contains(byte) && *byte != b'#')
     }
