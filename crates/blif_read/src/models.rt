@@ -61,6 +61,20 @@ impl Drop for GateLine {
     }
 }
 
+impl GateLine {
+    /// Its pins, its output and its cover, handed over.
+    pub fn into_parts(self) -> (Items<Name>, Name, Cover)
+        ensures { result ≡ (self.pins, self.output, self.cover) }
+    {
+        let GateLine {
+            pins,
+            output,
+            cover,
+        } = self;
+        (pins, output, cover)
+    }
+}
+
 /// A `.latch` line. Without a control it belongs to the one global clock.
 #[derive(Debug)]
 pub struct LatchLine {

@@ -78,8 +78,9 @@ impl OpenGate {
             pins,
             output,
             first,
-            rows,
+            mut rows,
         } = self;
+        rows.shrink_to_fit();
         let cover = whole_cover(pins.items().len(), first, rows);
         GateLine {
             pins,

@@ -42,7 +42,7 @@ fn flat_parts(
 {
     let mark = mark(alloc, models)?;
     let lines = flat_lines(alloc, models, library, &mark, place, depth, limit)?;
-    Ok(link(alloc, &models[place], &lines)?)
+    Ok(link(alloc, &models[place], lines)?)
 }
 
 /// The parts of the flat netlist of the model of this name.

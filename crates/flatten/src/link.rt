@@ -301,21 +301,33 @@ fn flat_latches(
     Ok(flat)
 }
 
-fn flat_gates(alloc: Global, drivers: &Drivers, gates: &[GateLine]) -> Result<Vec<Gate>, FlatFault>
+/// The gate of a line, which hands its name and its cover over.
+fn flat_gate(alloc: Global, drivers: &Drivers, gate: GateLine) -> Result<Gate, FlatFault>
     requires { HasSignals drivers.now }
-    ensures gates { IfOk result (λ flat. flat.items ≡ map (gate_with (sig_or drivers.now)) gates.now) }
-    ensures read { OnOk result (find (is_unread drivers.now) (flat_map (λ g. g.pins) gates.now) ≡ None) }
+    ensures gate { IfOk result (λ flat. flat ≡ gate_with (sig_or drivers.now) gate) }
+    ensures read { OnOk result (find (is_unread drivers.now) gate.pins ≡ None) }
     ensures fault { IfErr result (λ fault. (fault ≡ FlatFault.Memory)
-        ⊎ (option_map FlatFault.ClockRead (find (is_unread drivers.now) (flat_map (λ g. g.pins) gates.now)) ≡ Some fault)) }
+        ⊎ (option_map FlatFault.ClockRead (find (is_unread drivers.now) gate.pins) ≡ Some fault)) }
+{
+    let pins = Items::of(read_all(alloc, drivers, gate.pins.items())?);
+    let (_, name, cover) = gate.into_parts();
+    Ok(Gate { name, pins, cover })
+}
+
+fn flat_gates(
+    alloc: Global,
+    drivers: &Drivers,
+    gates: Vec<GateLine>,
+) -> Result<Vec<Gate>, FlatFault>
+    requires { HasSignals drivers.now }
+    ensures gates { IfOk result (λ flat. flat.items ≡ map (gate_with (sig_or drivers.now)) gates.items) }
+    ensures read { OnOk result (find (is_unread drivers.now) (flat_map (λ g. g.pins) gates.items) ≡ None) }
+    ensures fault { IfErr result (λ fault. (fault ≡ FlatFault.Memory)
+        ⊎ (option_map FlatFault.ClockRead (find (is_unread drivers.now) (flat_map (λ g. g.pins) gates.items)) ≡ Some fault)) }
 {
     let mut flat = Vec::with_capacity(alloc, gates.len())?;
     for gate in gates {
-        let pins = Items::of(read_all(alloc, drivers, gate.pins.items())?);
-        flat.push(Gate {
-            name: gate.output.copy()?,
-            pins,
-            cover: gate.cover.copy()?,
-        })?;
+        flat.push(flat_gate(alloc, drivers, gate)?)?;
     }
     Ok(flat)
 }
@@ -418,30 +430,30 @@ fn parts_of(
     alloc: Global,
     drivers: &Drivers,
     top: &BlifModel,
-    lines: &FlatBody,
+    lines: FlatBody,
 ) -> Result<Parts, FlatFault>
     requires { HasSignals drivers.now }
-    ensures parts { IfOk result (λ parts. parts ≡ netlist_by (sig_or drivers.now) top.now (lines_of lines.now)) }
-    ensures read { OnOk result (find (is_unread drivers.now) (reads top.now (lines_of lines.now)) ≡ None) }
+    ensures parts { IfOk result (λ parts. parts ≡ netlist_by (sig_or drivers.now) top.now (lines_of lines)) }
+    ensures read { OnOk result (find (is_unread drivers.now) (reads top.now (lines_of lines)) ≡ None) }
     ensures fault { IfErr result (λ fault. (fault ≡ FlatFault.Memory)
-        ⊎ (option_map FlatFault.ClockRead (find (is_unread drivers.now) (reads top.now (lines_of lines.now))) ≡ Some fault)) }
+        ⊎ (option_map FlatFault.ClockRead (find (is_unread drivers.now) (reads top.now (lines_of lines))) ≡ Some fault)) }
 {
-    let mut parts = bare_parts(alloc, top, lines)?;
+    let mut parts = bare_parts(alloc, top, &lines)?;
     parts.outputs = Items::of(read_all(alloc, drivers, top.outputs.items())?);
     parts.latches = Items::of(flat_latches(alloc, drivers, &lines.latches)?);
-    parts.gates = Items::of(flat_gates(alloc, drivers, &lines.gates)?);
+    parts.gates = Items::of(flat_gates(alloc, drivers, lines.into_gates())?);
     Ok(parts)
 }
 
 /// The parts of the netlist of these lines, or their first fault.
-pub(crate) fn link(alloc: Global, top: &BlifModel, lines: &FlatBody) -> Result<Parts, FlatFault>
+pub(crate) fn link(alloc: Global, top: &BlifModel, lines: FlatBody) -> Result<Parts, FlatFault>
     requires inputs { length top.now.inputs ≤ 4000000000 }
-    requires lines { length lines.now.latches.items + length lines.now.gates.items ≤ 4000000 }
-    ensures parts { IfOk result (λ parts. linked top.now (lines_of lines.now) ≡ Ok parts) }
+    requires lines { length lines.latches.items + length lines.gates.items ≤ 4000000 }
+    ensures parts { IfOk result (λ parts. linked top.now (lines_of lines) ≡ Ok parts) }
     ensures fault { IfErr result
-        (λ fault. (fault ≡ FlatFault.Memory) ⊎ (linked top.now (lines_of lines.now) ≡ Err fault)) }
+        (λ fault. (fault ≡ FlatFault.Memory) ⊎ (linked top.now (lines_of lines) ≡ Err fault)) }
 {
-    let drivers = drivers_of(alloc, top, lines)?;
-    check_lines(&drivers, top, lines)?;
+    let drivers = drivers_of(alloc, top, &lines)?;
+    check_lines(&drivers, top, &lines)?;
     Ok(parts_of(alloc, &drivers, top, lines)?)
 }

@@ -251,6 +251,15 @@ impl Drop for FlatBody {
     }
 }
 
+impl FlatBody {
+    pub(crate) fn into_gates(self) -> Vec<GateLine>
+        ensures { result ≡ self.gates }
+    {
+        let FlatBody { latches: _, gates } = self;
+        gates
+    }
+}
+
 impl Walk {
     /// The lines, where the walk is over.
     fn into_body(self) -> FlatBody

@@ -1,36 +1,41 @@
-use Rattle.std.proofs.Common.{◌≡◌, inl, inr, ⊎_elim, ◌<◌, length, map, sym, ap, ◌∙◌, arith, None, option_map}
+use Rattle.std.proofs.Common.{◌≡◌, ◌++◌, [], ◌∷◌, inl, inr, ⊎_elim, sym, ap, ap₂, ◌∙◌, append_assoc, option_map}
+use Rattle.std.proofs.iter.Next.{Yields-more}
+use Rattle.std.proofs.lemmas.List.{map-append}
 use Rattle.std.proofs.lemmas.Result.{err_from_is_err_and}
-use Rattle.std.specs.List.{find}
+use Rattle.std.specs.List.{find, flat_map}
+use Rattle.std.specs.Vec.Iter.{into_iter_items, into_iter_steps}
 use Rattle.flatten.specs.declared.fault.FlatFault.TheVariants.{ClockRead}
+use Rattle.flatten.specs.Linking.{gate_with}
 use Rattle.flatten.specs.Drivers.{sig_or, is_unread}
-use Rattle.flatten.proofs.Gathering.{find_in_pins, some_first, none_or_is, gates_taken}
+use Rattle.flatten.proofs.Gathering.{find_behind, none_or_is, some_first, taken_front}
 use Rattle.flatten.proofs.link.flat_gates.Goals as goal
 
-pub returns-in_err-read_all-clause-fault : goal.returns-in_err-read_all-clause-fault
-returns-in_err-read_all-clause-fault c =
-    let l : c.loop-gate.gate-index < length c.args.gates.now = omega arith in
-    let e = find_in_pins (is_unread c.args.drivers.now) c.args.gates.now c.loop-gate.gate-index c.gate-item.result l c.gate-item.is in
-    let p = err_from_is_err_and c.from_residual-in_err-read_all.result c.from_residual-in_err-read_all.ensures.1 in
-    rw (p.1, p.2)
+pub returns-in_err-flat_gate-clause-fault : goal.returns-in_err-flat_gate-clause-fault
+returns-in_err-flat_gate-clause-fault c =
+    let p = is_unread c.args.drivers.now in
+    let all = c.into_iter-gate-iterator in
+    let before = c.loop-gate.yielded in
+    let gate = c.in-Some.gate in
+    let left = c.next.new.self in
+    let more = Yields-more into_iter_steps all.result before c.loop-gate.gate-iterator gate left c.loop-gate.yielded_by c.in-Some.ensures.steps in
+    let is : c.args.gates.items ≡ before ++ gate ∷ into_iter_items left = sym all.ensures.into_iter_gives.0 ∙ taken_front all.result (before ++ gate ∷ []) left more ∙ append_assoc before (gate ∷ []) (into_iter_items left) in
+    let q = err_from_is_err_and c.from_residual-in_err-flat_gate.result c.from_residual-in_err-flat_gate.ensures.1 in
+    rw (q.1, q.2)
     (⊎_elim
     (λ m. inl m)
     (λ h.
     inr
-    (ap (λ o. option_map ClockRead o) (sym (sym e ∙ c.loop-gate.invariant.rest))
-    ∙ some_first ClockRead (find (is_unread c.args.drivers.now) c.gate-item.result.pins) _ c.in_err-read_all.field-0.0 (ap (λ ns. option_map ClockRead (find (is_unread c.args.drivers.now) ns)) (sym c.items.ensures) ∙ h)))
-    c.in_err-read_all.ensures.fault)
+    (ap (λ gates. option_map ClockRead (find p (flat_map (λ x. x.pins) gates))) is
+    ∙ ap (λ o. option_map ClockRead o) (find_behind p before gate (into_iter_items left) c.loop-gate.invariant.read)
+    ∙ some_first ClockRead (find p gate.pins) _ c.in_err-flat_gate.field-0.0 h))
+    c.in_err-flat_gate.ensures.fault)
 
 pub loop-gate-preserved : goal.loop-gate-preserved
 loop-gate-preserved c =
-    let l : c.loop-gate.gate-index < length c.args.gates.now = omega arith in
-    let e = find_in_pins (is_unread c.args.drivers.now) c.args.gates.now c.loop-gate.gate-index c.gate-item.result l c.gate-item.is in
-    let n : find (is_unread c.args.drivers.now) c.gate-item.result.pins ≡ None = ap (λ ns. find (is_unread c.args.drivers.now) ns) (sym c.items.ensures) ∙ c.in_ok-read_all.ensures.read in
     let d = c.args.drivers.now in
-    let pushed = c.in_ok-push.ensures.items in
-    let before = c.loop-gate.invariant.flat in
-    let after = gates_taken (sig_or d) c.args.gates.now c.loop-gate.gate-index c.gate-item.result l c.gate-item.is in
-    let name = c.in_ok-copy.ensures in
-    let cover = c.in_ok-copy-2.ensures in
-    let pins : c.of-pins.result ≡ map (sig_or d) c.gate-item.result.pins =
-    c.of-pins.ensures ∙ c.in_ok-read_all.ensures.sigs ∙ ap (λ ns. map (sig_or d) ns) c.items.ensures in
-    record { flat = cc; rest = sym (e ∙ none_or_is _ _ n) ∙ c.loop-gate.invariant.rest }
+    let before = c.loop-gate.yielded in
+    let gate = c.in-Some.gate in
+    record {
+      flat = c.in_ok-push.ensures.items ∙ ap₂ (λ gates g. gates ++ g ∷ []) c.loop-gate.invariant.flat c.in_ok-flat_gate.ensures.gate ∙ sym (map-append (gate_with (sig_or d)) before (gate ∷ []));
+      read = find_behind (is_unread d) before gate [] c.loop-gate.invariant.read ∙ none_or_is _ _ c.in_ok-flat_gate.ensures.read;
+    }
