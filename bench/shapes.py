@@ -76,6 +76,12 @@ def columns(n):
     return check(model("columns", [*numbered("i", n), "x", "c", "d"], ["y"], pair("x")))
 
 
+@shape(20000)
+def columns_refused(n):
+    """n inputs beside a gate that reads itself."""
+    return check(model("columns", [*numbered("i", n), "x"], ["y"], [gate(OR, "y", "x", "y")]))
+
+
 @shape(500)
 def and_chain(n):
     """An AND chain of n inputs before a gate that reads itself."""
@@ -232,6 +238,16 @@ def doubling(n):
     return Files("flat", "net.blif", net_blif=text + model(f"m{n}", ["a"], ["y"], [gate(wide("1", 1, 200), "y", *["a"] * len(pins))]))
 
 
+@shape(4)
+def doubling_names(n):
+    """Models that double n times over a wire whose name has 4,000 bytes."""
+    text = model("m0", ["a"], ["y"], [".subckt m1 a=a y=y", ".subckt m1 a=a y=z"])
+    for k in range(1, n):
+        text += model(f"m{k}", ["a"], ["y"], [f".subckt m{k + 1} a=a y=y", f".subckt m{k + 1} a=a y=z"])
+    name = "w" * 4000
+    return Files("flat", "net.blif", net_blif=text + model(f"m{n}", ["a"], ["y"], [gate(NOT, name, "a"), gate(NOT, "y", name)]))
+
+
 @shape(1000)
 def marks(n):
     """A name of n marks, and n instances."""
@@ -243,6 +259,15 @@ def marks(n):
 def long_names_in_a_storm(n):
     """A storm of 1,000 rounds over a gate with a name of n bytes."""
     return Files("storm", "net.blif", "1000", net_blif=model("net", ["x"], ["a" * n], [gate(OR, "a" * n, "x", "a" * n)]))
+
+
+@shape(1000)
+def long_names_traced(n):
+    """1,000 rounds over a gate with a name of n bytes, each change of which is told."""
+    net = model("net", ["x"], ["a" * n], [gate(OR, "a" * n, "x", "a" * n)])
+    rounds = ("round\n" + "".join(f"e {'a' * n} {age} 1\n" for age in (0, 1))) * 1000
+    text = f"schedule 2\nwindow 1\npast 00\nstate\ngates 1\ntick\n{rounds}"
+    return Files("delays", "net.blif", "net.vectors", "net.schedule", "--probe", "trace", net_blif=net, net_vectors="0\n", net_schedule=text)
 
 
 # From here on linear.
