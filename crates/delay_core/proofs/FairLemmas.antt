@@ -1,9 +1,9 @@
 -- What is played without a fault is fair, and makes the moments of its run.
-use Rattle.std.proofs.Common.{◌≡◌, ◌⊎◌, inl, inr, ℕ, zero, suc, ◌+◌, ◌<◌, Bool, true, false, List, [], ◌∷◌, ◌++◌, length, map, take, reverse, get_or, All, Any, None, Some, Option, refl, ap, ap₂, sym, ◌∙◌, arith, true≢false}
+use Rattle.std.proofs.Common.{◌≡◌, ◌⊎◌, inl, inr, ℕ, suc, ◌+◌, Bool, true, false, List, [], ◌∷◌, ◌++◌, length, map, reverse, get_or, All, Any, None, Some, Option, refl, ap, ap₂, sym, ◌∙◌, arith, true≢false}
 use Rattle.std.specs.Prelude.{option_map}
 use Rattle.std.specs.Option.{option_or}
 use Rattle.std.proofs.lemmas.Bool.{cases_eq}
-use Rattle.std.proofs.lemmas.List.{length-set, length-map, length-replicate, get_or-set_other, get_or-take, take_all}
+use Rattle.std.proofs.lemmas.List.{length-set, length-map, length-replicate, get_or-set_other}
 use Rattle.std.proofs.lemmas.List.Elements.{All-nil, All-cons}
 use Rattle.netlist.specs.declared.parts.Parts.{Parts}
 use Rattle.netlist.specs.Fixpoint.{wires}
@@ -18,7 +18,7 @@ use Rattle.delay_core.specs.declared.fault.PlayFault.TheVariants as refused
 use Rattle.delay_core.specs.declared.plan.PlannedEvent.{PlannedEvent}
 use Rattle.delay_core.specs.declared.plan.RoundPlan.{RoundPlan}
 use Rattle.delay_core.specs.declared.plan.Schedule.{Schedule}
-use Rattle.delay_core.specs.Plays.{PlayState, first_allowed, event_fault, unfair_gate, no_events, most_rounds, after_event, next_tick}
+use Rattle.delay_core.specs.Plays.{PlayState, first_allowed, event_fault, unfair_gate, no_events, after_event, next_tick}
 use Rattle.delay_core.specs.Plans.{planned_fault, after_planned, events_fault, after_plan, unfair_fault, round_fault, after_plans, rounds_fault, PlannedTick, ticks_fault, first_opened, first_fault, round_of, tick_of, IsPlayedFairly, end_at, end_of, rest_of}
 use Rattle.delay_core.proofs.PlayLemmas.{IsAllowed, is_allowed, never_true, each_had}
 
@@ -151,79 +151,62 @@ round_fair start round begun e =
 
 -- ---- rounds
 
-take_less : (n : ℕ) (xs : List ℕ) → take n (take (suc n) xs) ≡ take n xs
-take_less n [] = refl
-take_less zero (x ∷ xs) = refl
-take_less (suc n) (x ∷ xs) = ap (λ (ys : List ℕ). x ∷ ys) (take_less n xs)
+pub starts_more : (start : PlayState) (round : RoundPlan) (before : List ℕ) → start.starts ≡ length start.history ∷ before → (after_plan start round).starts ≡ length (after_plan start round).history ∷ length start.history ∷ before
+starts_more start round before is =
+    ap (λ (ss : List ℕ). length (after_planned start round.events).history ∷ ss) ((events_keep start round.events).starts ∙ is)
 
-take_again : (n x : ℕ) (xs : List ℕ) → take n (x ∷ take n xs) ≡ take n (x ∷ xs)
-take_again zero x xs = refl
-take_again (suc n) x xs = ap (λ (ys : List ℕ). x ∷ ys) (take_less n xs)
+-- each round adds its start
+pub count_more : (start : PlayState) (round : RoundPlan) → length (after_plan start round).starts ≡ suc (length start.starts)
+count_more start round = ap (λ (ss : List ℕ). suc (length ss)) (events_keep start round.events).starts
 
--- the starts that a play keeps are as many as its window looks back to
-pub first_kept : (start : PlayState) (starts : List ℕ) → start.window < most_rounds → start.starts ≡ take most_rounds starts → first_allowed start ≡ earliest start.window starts
-first_kept start starts small e =
-    ap (λ (ss : List ℕ). get_or ss start.window 1) e ∙ get_or-take most_rounds starts start.window 1 small
+pub length_more : (start : PlayState) (round : RoundPlan) → length (after_plan start round).history ≡ length start.history + length (round_of round)
+length_more start round =
+    ap (λ (h : History). length h) (events_history start round.events)
+    ∙ length-after_events start.net start.history (round_of round)
 
-module _ (start : PlayState) (round : RoundPlan) (before : List ℕ) (is : start.starts ≡ take most_rounds (length start.history ∷ before)) where
-  pub starts_more : (after_plan start round).starts ≡ take most_rounds (length (after_plan start round).history ∷ length start.history ∷ before)
-  starts_more =
-      let now : ℕ = length (after_planned start round.events).history in
-      ap (λ (ss : List ℕ). take most_rounds (now ∷ ss)) ((events_keep start round.events).starts ∙ is)
-      ∙ take_again most_rounds now (length start.history ∷ before)
-
-  pub length_more : length (after_plan start round).history ≡ length start.history + length (round_of round)
-  length_more =
-      ap (λ (h : History). length h) (events_history start round.events)
-      ∙ length-after_events start.net start.history (round_of round)
-
-rounds_fair : (start : PlayState) (rounds : List RoundPlan) (before : List ℕ) → start.window < most_rounds → start.done ≡ no_events start.net → start.starts ≡ take most_rounds (length start.history ∷ before) → rounds_fault start rounds ≡ None → AreFairAfter start.net start.window before (length start.history) (map round_of rounds)
-rounds_fair start [] before small begun is e = tt
-rounds_fair start (round ∷ later) before small begun is e =
+rounds_fair : (start : PlayState) (rounds : List RoundPlan) (before : List ℕ) → start.done ≡ no_events start.net → start.starts ≡ length start.history ∷ before → rounds_fault start rounds ≡ None → AreFairAfter start.net start.window before (length start.history) (map round_of rounds)
+rounds_fair start [] before begun is e = tt
+rounds_fair start (round ∷ later) before begun is e =
     let next : PlayState = after_plan start round in
     let parts = both_none (round_fault start round) (rounds_fault next later) e in
     let here : IsFairRound start.net (earliest start.window (length start.history ∷ before)) (length start.history) (round_of round) =
-    rw (first_kept start (length start.history ∷ before) small is) at (round_fair start round begun parts.0) in
+    rw (ap (earliest start.window) is) at (round_fair start round begun parts.0) in
     let kept = round_keeps start round in
-    let still : next.window < most_rounds = rw kept.window small in
     let rest : AreFairAfter next.net next.window (length start.history ∷ before) (length next.history) (map round_of later) =
-    rounds_fair next later (length start.history ∷ before) still refl (starts_more start round before is) parts.1 in
-    (here, rw (kept.net, kept.window, length_more start round before is) at rest)
+    rounds_fair next later (length start.history ∷ before) refl (starts_more start round before is) parts.1 in
+    (here, rw (kept.net, kept.window, length_more start round) at rest)
 
 -- a tick that has opened
-pub opened_fair : (start : PlayState) (rounds : List RoundPlan) → start.window < most_rounds → start.done ≡ no_events start.net → start.starts ≡ length start.history ∷ [] → rounds_fault start rounds ≡ None → IsFair start.net start.window start.history (map round_of rounds)
-opened_fair start rounds small begun is e =
-    rounds_fair start rounds [] small begun (is ∙ sym (take_all most_rounds (length start.history ∷ []) (omega arith))) e
+pub opened_fair : (start : PlayState) (rounds : List RoundPlan) → start.done ≡ no_events start.net → start.starts ≡ length start.history ∷ [] → rounds_fault start rounds ≡ None → IsFair start.net start.window start.history (map round_of rounds)
+opened_fair start rounds begun is e = rounds_fair start rounds [] begun is e
 
 -- ---- ticks
 
-ticks_fair : (start : PlayState) (ticks : List PlannedTick) → start.window < most_rounds → start.done ≡ no_events start.net → ticks_fault start ticks ≡ None → All (IsPlayedFairly start.net start.window) (rest_of start.net start.history (map tick_of ticks))
-ticks_fair start [] small begun e = All-nil (IsPlayedFairly start.net start.window)
-ticks_fair start (tick ∷ later) small begun e =
+ticks_fair : (start : PlayState) (ticks : List PlannedTick) → start.done ≡ no_events start.net → ticks_fault start ticks ≡ None → All (IsPlayedFairly start.net start.window) (rest_of start.net start.history (map tick_of ticks))
+ticks_fair start [] begun e = All-nil (IsPlayedFairly start.net start.window)
+ticks_fair start (tick ∷ later) begun e =
     let opened : PlayState = next_tick start tick.0 in
     let after : PlayState = after_plans opened tick.1 in
     let parts = both_none (rounds_fault opened tick.1) (ticks_fault after later) e in
     let first : Played = played start.net start.history (loaded_at start.net (newest start.history)) (gates_at start.net (newest start.history)) (tick_of tick) in
-    let here : IsPlayedFairly start.net start.window first = opened_fair opened tick.1 small begun refl parts.0 in
+    let here : IsPlayedFairly start.net start.window first = opened_fair opened tick.1 begun refl parts.0 in
     let kept = rounds_keep opened tick.1 begun in
-    let still : after.window < most_rounds = rw kept.window small in
     let rest : All (IsPlayedFairly after.net after.window) (rest_of after.net after.history (map tick_of later)) =
-    ticks_fair after later still kept.begun parts.1 in
+    ticks_fair after later kept.begun parts.1 in
     All-cons (IsPlayedFairly start.net start.window) first (rest_of start.net first.ended (map tick_of later)) here
     (rw (kept.net, kept.window, rounds_history opened tick.1) at rest)
 
-pub schedule_fair : (net : Parts) (schedule : Schedule) (plans : List PlannedTick) → schedule.window < most_rounds → first_fault net schedule plans ≡ None → All (IsPlayedFairly net schedule.window) (play net (reverse schedule.past) schedule.latches schedule.gates (map tick_of plans))
-schedule_fair net schedule [] small e = All-nil (IsPlayedFairly net schedule.window)
-schedule_fair net schedule (tick ∷ later) small e =
+pub schedule_fair : (net : Parts) (schedule : Schedule) (plans : List PlannedTick) → first_fault net schedule plans ≡ None → All (IsPlayedFairly net schedule.window) (play net (reverse schedule.past) schedule.latches schedule.gates (map tick_of plans))
+schedule_fair net schedule [] e = All-nil (IsPlayedFairly net schedule.window)
+schedule_fair net schedule (tick ∷ later) e =
     let opened : PlayState = first_opened net schedule tick.0 in
     let after : PlayState = after_plans opened tick.1 in
     let parts = both_none (rounds_fault opened tick.1) (ticks_fault after later) e in
     let first : Played = played net (reverse schedule.past) schedule.latches schedule.gates (tick_of tick) in
-    let here : IsPlayedFairly net schedule.window first = opened_fair opened tick.1 small refl refl parts.0 in
+    let here : IsPlayedFairly net schedule.window first = opened_fair opened tick.1 refl refl parts.0 in
     let kept = rounds_keep opened tick.1 refl in
-    let still : after.window < most_rounds = rw kept.window small in
     let rest : All (IsPlayedFairly after.net after.window) (rest_of after.net after.history (map tick_of later)) =
-    ticks_fair after later still kept.begun parts.1 in
+    ticks_fair after later kept.begun parts.1 in
     All-cons (IsPlayedFairly net schedule.window) first (rest_of net first.ended (map tick_of later)) here
     (rw (kept.net, kept.window, rounds_history opened tick.1) at rest)
 

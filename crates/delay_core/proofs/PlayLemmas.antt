@@ -1,5 +1,5 @@
 -- What is known of an event that isn't refused.
-use Rattle.std.proofs.Common.{◌≡◌, inl, inr, ℕ, ◌+◌, ◌≤◌, ◌<◌, ◌==◌, Bool, true, false, not, List, [], length, replicate, get_or, All, Some, None, Option, refl, sym, ◌∙◌, arith, nat_lt, eqb-true, true≢false}
+use Rattle.std.proofs.Common.{◌≡◌, inl, inr, ℕ, ◌+◌, ◌≤◌, ◌<◌, ◌==◌, Bool, true, false, not, List, [], ◌∷◌, length, replicate, get_or, All, Some, None, Option, refl, ap, sym, ◌∙◌, arith, nat_lt, eqb-true, true≢false}
 use Rattle.std.proofs.lemmas.Bool.{cases_eq, cases_lt}
 use Rattle.std.proofs.lemmas.List.{length-replicate, get_or-replicate, get_or_past}
 use Rattle.netlist.specs.declared.parts.Parts.{Parts}
@@ -12,7 +12,7 @@ use Rattle.schedules.specs.declared.event.Event.{Event}
 use Rattle.schedules.specs.Fairness.{IsEventOf}
 use Rattle.delay_core.specs.declared.fault.EventFault.{EventFault}
 use Rattle.delay_core.specs.declared.fault.EventFault.TheVariants.{NoGate, AgeCount, TooOld}
-use Rattle.delay_core.specs.Plays.{PlayState, first_allowed, is_too_old, event_fault, no_events, most_rounds, IsPlay}
+use Rattle.delay_core.specs.Plays.{PlayState, first_allowed, is_too_old, event_fault, no_events, IsPlay}
 
 nothing : (o : Option ℕ) → option_map TooOld o ≡ None → o ≡ None
 nothing None e = refl
@@ -54,16 +54,20 @@ true_not false e = cc
 pub each_had : (gates : List Bool) → position (λ had. not had) gates ≡ None → (n : ℕ) → n < length gates → get_or gates n false ≡ true
 each_had gates none n l = true_not (get_or gates n false) (none_found (λ (b : Bool). not b) gates none n false l)
 
+no_gates : (gates : List Bool) → length gates ≡ 0 → gates ≡ []
+no_gates [] e = refl
+no_gates (had ∷ gates) e = absurd (omega arith)
+
 module _ (net : Parts) (history : History) (before now opening : ℕ) (marks : List ℕ) (round : ℕ) (gates : List Bool) (is : IsPlay net history before now opening marks round gates) (fair : position (λ had. not had) gates ≡ None) where
   -- as many rounds as there are events, at most, where there is a gate
   pub round_behind : 1 ≤ length net.gates → round ≤ length marks
   round_behind some = is.had 0 (each_had gates fair 0 (omega (arith, is.done)))
 
-  -- so that a number of rounds over that of the events is reached without events alone
-  pub round_full : length marks < most_rounds → round ≡ most_rounds → marks ≡ []
-  round_full few full =
+  -- so that only a netlist without gates can have more rounds than events
+  pub none_had : length marks < round → no_events net ≡ gates
+  none_had more =
       elim (cases_eq (length net.gates) 0) [
-        | inl none ↦ is.none none
+        | inl none ↦ ap (λ (n : ℕ). replicate n false) none ∙ sym (no_gates gates (is.done ∙ none))
         | inr some ↦ let l = round_behind (omega arith) in absurd (omega arith)
       ]
 

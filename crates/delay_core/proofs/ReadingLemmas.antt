@@ -1,6 +1,6 @@
 -- What pins see, and where rounds begin.
-use Rattle.std.proofs.Common.{◌≡◌, inl, inr, ℕ, zero, suc, ◌+◌, ◌-◌, ◌<◌, ◌≤◌, false, List, [], ◌∷◌, ◌++◌, length, filter, take, replicate, min, get_or, refl, ap, ap₂, sym, ◌∙◌, arith, nat_lt}
-use Rattle.std.proofs.lemmas.List.{get_or_default, take_more, take_all, take-replicate}
+use Rattle.std.proofs.Common.{◌≡◌, inl, inr, ℕ, zero, suc, ◌+◌, ◌-◌, ◌<◌, ◌≤◌, false, List, [], ◌∷◌, ◌++◌, length, filter, take, replicate, get_or, refl, ap, ap₂, sym, ◌∙◌, arith, nat_lt}
+use Rattle.std.proofs.lemmas.List.{get_or_default, take_more}
 use Rattle.std.proofs.lemmas.Bool.{cases_lt, lt-ltb, le-ltb}
 use Rattle.cyc_base.specs.declared.sig.Sig.{Sig}
 use Rattle.schedules.specs.Moments.{History, bit_at, moment_at, seen}
@@ -88,23 +88,3 @@ pushed whole before after value d i l now was here =
 pub starts-none : (opening round : ℕ) → starts_of opening [] round ≡ replicate round opening
 starts-none opening zero = refl
 starts-none opening (suc round) = ap₂ (λ s ss. s ∷ ss) (omega arith) (starts-none opening round)
-
--- the next round's start comes in front, up to a number of rounds that only a tick without events reaches
-pub starts-after : (most opening : ℕ) (marks : List ℕ) (round : ℕ) → ((i : ℕ) → i < length marks → get_or marks i 0 ≤ round) → round ≤ most → (round ≡ most → marks ≡ []) → starts_of opening marks (min (round + 1) most) ≡ take most ((opening + length marks) ∷ starts_of opening marks round)
-starts-after most opening marks round behind few full =
-    elim (cases_lt round most) [
-      | inl l ↦
-          let next : min (round + 1) most ≡ suc round = omega arith in
-          let here : starts_of opening marks (suc round) ≡ (opening + length marks) ∷ starts_of opening marks round =
-          ap (λ s. s ∷ starts_of opening marks round) (start-next opening marks round behind) in
-          rw next
-          (here ∙ sym (take_all most ((opening + length marks) ∷ starts_of opening marks round) (omega (arith, length-starts opening marks round))))
-      | inr l ↦
-          let e : round ≡ most = omega arith in
-          let same : min (round + 1) most ≡ most = omega arith in
-          let all : starts_of opening [] most ≡ take most ((opening + 0) ∷ starts_of opening [] most) =
-          starts-none opening most
-          ∙ sym (take-replicate most (suc most) opening (omega arith))
-          ∙ ap₂ (λ (s : ℕ) (ss : List ℕ). take most (s ∷ ss)) (omega arith) (sym (starts-none opening most)) in
-          rw (same, full e, e) all
-    ]

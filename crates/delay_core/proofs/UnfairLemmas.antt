@@ -1,16 +1,16 @@
 -- What is fair is played without a fault.
-use Rattle.std.proofs.Common.{◌≡◌, ◌⊎◌, inl, inr, ℕ, zero, suc, ◌+◌, ◌<◌, ◌==◌, Bool, true, false, not, List, [], ◌∷◌, length, map, take, reverse, get_or, set, All, Any, None, Option, refl, ap, sym, ◌∙◌, arith, nat_lt}
+use Rattle.std.proofs.Common.{◌≡◌, ◌⊎◌, inl, inr, ℕ, zero, suc, ◌+◌, ◌<◌, ◌==◌, Bool, true, false, not, List, [], ◌∷◌, length, map, reverse, get_or, set, All, Any, None, Option, refl, ap, ◌∙◌, arith, nat_lt}
 use Rattle.std.specs.Prelude.{position, option_map}
 use Rattle.std.specs.Option.{option_or}
 use Rattle.std.proofs.lemmas.Bool.{cases_eq, lt-ltb, le-ltb, eq-eqb}
-use Rattle.std.proofs.lemmas.List.{length-set, length-replicate, get_or-set_same, get_or-set_other, get_or_default, take_all}
+use Rattle.std.proofs.lemmas.List.{length-set, length-replicate, get_or-set_same, get_or-set_other, get_or_default}
 use Rattle.std.proofs.lemmas.List.Elements.{All-head, All-tail}
 use Rattle.netlist.specs.declared.parts.Parts.{Parts}
 use Rattle.netlist.specs.Netlists.{gate_at}
 use Rattle.netlist.proofs.Decisions.{found_none}
 use Rattle.schedules.specs.declared.event.Event.{Event}
 use Rattle.schedules.specs.Moments.{newest}
-use Rattle.schedules.specs.Fairness.{IsEventOf, ReadsFrom, IsFairRound, AreFairAfter, IsFair}
+use Rattle.schedules.specs.Fairness.{IsEventOf, ReadsFrom, IsFairRound, earliest, AreFairAfter, IsFair}
 use Rattle.schedules.specs.Runs.{Played, gates_at, loaded_at, played, play}
 use Rattle.delay_core.specs.declared.fault.EventFault.{EventFault}
 use Rattle.delay_core.specs.declared.fault.PlayFault.{PlayFault}
@@ -18,9 +18,9 @@ use Rattle.delay_core.specs.declared.fault.PlayFault.TheVariants as refused
 use Rattle.delay_core.specs.declared.plan.PlannedEvent.{PlannedEvent}
 use Rattle.delay_core.specs.declared.plan.RoundPlan.{RoundPlan}
 use Rattle.delay_core.specs.declared.plan.Schedule.{Schedule}
-use Rattle.delay_core.specs.Plays.{PlayState, first_allowed, is_too_old, event_fault, unfair_gate, no_events, most_rounds, after_event, next_tick}
+use Rattle.delay_core.specs.Plays.{PlayState, first_allowed, is_too_old, event_fault, unfair_gate, no_events, after_event, next_tick}
 use Rattle.delay_core.specs.Plans.{planned_fault, after_planned, events_fault, after_plan, unfair_fault, round_fault, after_plans, rounds_fault, PlannedTick, ticks_fault, first_opened, first_fault, round_of, tick_of, IsPlayedFairly, rest_of}
-use Rattle.delay_core.proofs.FairLemmas.{events_of, events_keep, round_keeps, rounds_keep, rounds_history, first_kept, starts_more, length_more}
+use Rattle.delay_core.proofs.FairLemmas.{events_of, events_keep, round_keeps, rounds_keep, rounds_history, starts_more, length_more}
 use Rattle.delay_core.proofs.PlayLemmas.{IsAllowed}
 
 -- an element of which a fact holds stands first, or among the rest
@@ -98,49 +98,45 @@ round_none start round begun fair =
     (events_none start round.events fair.events fair.reads)
     (ap (λ (g : Option ℕ). option_map (λ n. refused.Unfair round.line n) g) none)
 
-rounds_none : (start : PlayState) (rounds : List RoundPlan) (before : List ℕ) → start.window < most_rounds → start.done ≡ no_events start.net → start.starts ≡ take most_rounds (length start.history ∷ before) → AreFairAfter start.net start.window before (length start.history) (map round_of rounds) → rounds_fault start rounds ≡ None
-rounds_none start [] before small begun is fair = refl
-rounds_none start (round ∷ later) before small begun is fair =
+rounds_none : (start : PlayState) (rounds : List RoundPlan) (before : List ℕ) → start.done ≡ no_events start.net → start.starts ≡ length start.history ∷ before → AreFairAfter start.net start.window before (length start.history) (map round_of rounds) → rounds_fault start rounds ≡ None
+rounds_none start [] before begun is fair = refl
+rounds_none start (round ∷ later) before begun is fair =
     let next : PlayState = after_plan start round in
     let here : IsFairRound start.net (first_allowed start) (length start.history) (round_of round) =
-    rw (first_kept start (length start.history ∷ before) small is) fair.0 in
+    rw (ap (earliest start.window) is) fair.0 in
     let kept = round_keeps start round in
-    let still : next.window < most_rounds = rw kept.window small in
     let rest : AreFairAfter next.net next.window (length start.history ∷ before) (length next.history) (map round_of later) =
-    rw (kept.net, kept.window, length_more start round before is) fair.1 in
+    rw (kept.net, kept.window, length_more start round) fair.1 in
     no_first (round_fault start round) (rounds_fault next later) (round_none start round begun here)
-    (rounds_none next later (length start.history ∷ before) still refl (starts_more start round before is) rest)
+    (rounds_none next later (length start.history ∷ before) refl (starts_more start round before is) rest)
 
-opened_none : (start : PlayState) (rounds : List RoundPlan) → start.window < most_rounds → start.done ≡ no_events start.net → start.starts ≡ length start.history ∷ [] → IsFair start.net start.window start.history (map round_of rounds) → rounds_fault start rounds ≡ None
-opened_none start rounds small begun is fair =
-    rounds_none start rounds [] small begun (is ∙ sym (take_all most_rounds (length start.history ∷ []) (omega arith))) fair
+opened_none : (start : PlayState) (rounds : List RoundPlan) → start.done ≡ no_events start.net → start.starts ≡ length start.history ∷ [] → IsFair start.net start.window start.history (map round_of rounds) → rounds_fault start rounds ≡ None
+opened_none start rounds begun is fair = rounds_none start rounds [] begun is fair
 
-ticks_none : (start : PlayState) (ticks : List PlannedTick) → start.window < most_rounds → start.done ≡ no_events start.net → All (IsPlayedFairly start.net start.window) (rest_of start.net start.history (map tick_of ticks)) → ticks_fault start ticks ≡ None
-ticks_none start [] small begun fair = refl
-ticks_none start (tick ∷ later) small begun fair =
+ticks_none : (start : PlayState) (ticks : List PlannedTick) → start.done ≡ no_events start.net → All (IsPlayedFairly start.net start.window) (rest_of start.net start.history (map tick_of ticks)) → ticks_fault start ticks ≡ None
+ticks_none start [] begun fair = refl
+ticks_none start (tick ∷ later) begun fair =
     let opened : PlayState = next_tick start tick.0 in
     let after : PlayState = after_plans opened tick.1 in
     let first : Played = played start.net start.history (loaded_at start.net (newest start.history)) (gates_at start.net (newest start.history)) (tick_of tick) in
     let rest : List Played = rest_of start.net first.ended (map tick_of later) in
     let here : IsPlayedFairly start.net start.window first = All-head (IsPlayedFairly start.net start.window) first rest fair in
     let kept = rounds_keep opened tick.1 begun in
-    let still : after.window < most_rounds = rw kept.window small in
     let others : All (IsPlayedFairly after.net after.window) (rest_of after.net after.history (map tick_of later)) =
     rw (kept.net, kept.window, rounds_history opened tick.1) (All-tail (IsPlayedFairly start.net start.window) first rest fair) in
     no_first (rounds_fault opened tick.1) (ticks_fault after later)
-    (opened_none opened tick.1 small begun refl here) (ticks_none after later still kept.begun others)
+    (opened_none opened tick.1 begun refl here) (ticks_none after later kept.begun others)
 
-pub schedule_none : (net : Parts) (schedule : Schedule) (plans : List PlannedTick) → schedule.window < most_rounds → All (IsPlayedFairly net schedule.window) (play net (reverse schedule.past) schedule.latches schedule.gates (map tick_of plans)) → first_fault net schedule plans ≡ None
-schedule_none net schedule [] small fair = refl
-schedule_none net schedule (tick ∷ later) small fair =
+pub schedule_none : (net : Parts) (schedule : Schedule) (plans : List PlannedTick) → All (IsPlayedFairly net schedule.window) (play net (reverse schedule.past) schedule.latches schedule.gates (map tick_of plans)) → first_fault net schedule plans ≡ None
+schedule_none net schedule [] fair = refl
+schedule_none net schedule (tick ∷ later) fair =
     let opened : PlayState = first_opened net schedule tick.0 in
     let after : PlayState = after_plans opened tick.1 in
     let first : Played = played net (reverse schedule.past) schedule.latches schedule.gates (tick_of tick) in
     let rest : List Played = rest_of net first.ended (map tick_of later) in
     let here : IsPlayedFairly net schedule.window first = All-head (IsPlayedFairly net schedule.window) first rest fair in
     let kept = rounds_keep opened tick.1 refl in
-    let still : after.window < most_rounds = rw kept.window small in
     let others : All (IsPlayedFairly after.net after.window) (rest_of after.net after.history (map tick_of later)) =
     rw (kept.net, kept.window, rounds_history opened tick.1) (All-tail (IsPlayedFairly net schedule.window) first rest fair) in
     no_first (rounds_fault opened tick.1) (ticks_fault after later)
-    (opened_none opened tick.1 small refl refl here) (ticks_none after later still kept.begun others)
+    (opened_none opened tick.1 refl refl here) (ticks_none after later kept.begun others)

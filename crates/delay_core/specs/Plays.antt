@@ -1,5 +1,5 @@
 -- A play: where it stands, why it refuses an event, and what each call makes of it.
-use Rattle.std.specs.Prelude.{◌≡◌, ◌+◌, ◌-◌, ◌<◌, ◌≤◌, ◌==◌, ◌&&◌, ◌||◌, ℕ, zero, suc, nat_lt, Bool, true, false, not, if◌then◌else◌, List, [], ◌∷◌, ◌++◌, length, take, filter, replicate, slice_set, slice_index_or, position, option_map, Some, None}
+use Rattle.std.specs.Prelude.{◌≡◌, ◌+◌, ◌-◌, ◌<◌, ◌≤◌, ◌==◌, ◌&&◌, ◌||◌, ℕ, zero, suc, nat_lt, Bool, true, false, not, if◌then◌else◌, List, [], ◌∷◌, ◌++◌, length, filter, replicate, slice_set, slice_index_or, position, option_map, Some, None}
 use Rattle.std.specs.List.Sorted.{IsNonDecreasing}
 use Rattle.std.specs.declared.option.Option.{Option}
 use Rattle.cyc_base.specs.declared.sig.Sig.{Sig}
@@ -100,15 +100,14 @@ unfair_gate play = position (λ had. not had) play.done
 abbrev pub no_events : Parts → List Bool
 no_events net = replicate (length net.gates) false
 
--- as many rounds as a number of 64 bits counts
+-- the greatest number of a round that a play tells
 abbrev pub most_rounds : ℕ
 most_rounds = 18446744073709551615
 
--- After a round the next one begins, at the newest moment. More rounds than that only a tick without gates can have; its
--- rounds all begin at the opening.
+-- after a round the next one begins, at the newest moment
 abbrev pub after_round : PlayState → PlayState
 after_round play = record play {
-  starts = take most_rounds (length play.history ∷ play.starts);
+  starts = length play.history ∷ play.starts;
   done = no_events play.net;
 }
 

@@ -2,7 +2,7 @@ ghost use Rattle.std.specs.Prelude.{◌≡◌, ◌≢◌, ◌+◌, ◌-◌, ◌<
 ghost use Rattle.std.specs.Result.{result_err};
 ghost use Rattle.netlist.specs.Netlists.{count};
 ghost use Rattle.schedules.specs.Moments.{bit_at, newest, event_value};
-ghost use Rattle.delay_core.specs.Plays.{PlayState, SeenPlay, event_fault, first_allowed, is_too_old, after_value, after_event, change_to, change_by, events_of_round, unfair_gate, no_events, after_round, starting, next_tick, opening_change, is_given, differ, moment_of_number};
+ghost use Rattle.delay_core.specs.Plays.{PlayState, SeenPlay, event_fault, first_allowed, is_too_old, after_value, after_event, change_to, change_by, events_of_round, unfair_gate, no_events, most_rounds, after_round, starting, next_tick, opening_change, is_given, differ, moment_of_number};
 
 use crate::change::Change;
 use crate::fault::{EventFault, Unfair};
@@ -31,7 +31,7 @@ pub struct Play<'a> {
     opening: usize,
     /// The round of each event of the tick.
     marks: Vec<u64>,
-    /// The round in progress. Its number stays at the greatest one.
+    /// The round in progress.
     round: u64,
     /// Which gates had an event in this round.
     done: Vec<bool>,
@@ -158,7 +158,7 @@ impl<'a> Play<'a> {
         self.tick
     }
 
-    /// The number of the round in progress, from 1 at each tick's start, or the greatest one.
+    /// The number of the round in progress, from 1 at each tick's start.
     pub fn round(&self) -> u64
         ensures { result ≡ length self.now.state.starts }
     {
@@ -224,10 +224,13 @@ impl<'a> Play<'a> {
     }
 
     /// Ends the round, or answers the first gate that had no event in it. It takes no memory.
+    ///
+    /// Only a tick without gates can come to its round 2^64 - 1, and it stays in that one.
     pub fn end_round(&mut self) -> Result<(), Unfair>
         ensures unfair { IfErr result (λ unfair. unfair_gate self.old.state ≡ Some unfair.gate) }
         ensures fair { OnOk result (unfair_gate self.old.state ≡ None) }
-        ensures ok { OnOk result (self.new ≡ record { state = after_round self.old.state; spare = self.old.spare }) }
+        ensures ok { OnOk result (length self.old.state.starts < most_rounds → self.new ≡ record { state = after_round self.old.state; spare = self.old.spare }) }
+        ensures full { OnOk result (most_rounds ≤ length self.old.state.starts → self.new ≡ self.old) }
         ensures err { OnErr result (self.new ≡ self.old) }
     {
         let _gates = self.net.gates();

@@ -9,7 +9,7 @@ ghost use Rattle.schedules.specs.Moments.{newest};
 ghost use Rattle.schedules.specs.Runs.{outputs_at, ticks_of};
 ghost use Rattle.ternary_run.specs.Reading.{IsFanoutOf};
 ghost use Rattle.delay_core.specs.EventLists.{planned_at};
-ghost use Rattle.delay_core.specs.Plays.{PlayState, after_event, no_events, next_tick};
+ghost use Rattle.delay_core.specs.Plays.{PlayState, most_rounds, after_event, no_events, next_tick};
 ghost use Rattle.delay_core.specs.Plans.{planned_fault, events_fault, after_planned, round_fault, after_plan, rounds_fault, after_plans, first_opened, schedule_fault, run_of, IsPlayedFairly, TicksArePlayed, given_at, agrees as agree, stands_at_fix, end_at, end_of, SettledIsTold, SettlesInTime};
 
 use crate::events::Events;
@@ -53,6 +53,7 @@ fn play_events(play: &mut Play, events: &Events) -> Result<(), PlayFault>
 
 /// Plays a round to its end.
 fn play_round(play: &mut Play, round: &RoundPlan) -> Result<(), PlayFault>
+    requires { length play.old.state.starts < most_rounds }
     ensures fault { IfErr result (λ fault. (fault ≡ PlayFault.Memory) ⊎ (round_fault play.old.state round.now ≡ Some fault)) }
     ensures none { OnOk result (round_fault play.old.state round.now ≡ None) }
     ensures played { OnOk result (play.new.state ≡ after_plan play.old.state round.now) }
@@ -69,6 +70,7 @@ fn play_round(play: &mut Play, round: &RoundPlan) -> Result<(), PlayFault>
 
 /// Plays the rounds of a tick.
 fn play_rounds(play: &mut Play, rounds: &[RoundPlan]) -> Result<(), PlayFault>
+    requires { length play.old.state.starts ≡ 1 }
     ensures fault { IfErr result (λ fault. (fault ≡ PlayFault.Memory) ⊎ (rounds_fault play.old.state rounds.now ≡ Some fault)) }
     ensures none { OnOk result (rounds_fault play.old.state rounds.now ≡ None) }
     ensures played { OnOk result (play.new.state ≡ after_plans play.old.state rounds.now) }
@@ -178,6 +180,7 @@ fn play_tick(
     ends: &mut Vec<TickEnd>,
 ) -> Result<(), PlayFault>
     requires net { play.old.state.net ≡ net.now }
+    requires first { length play.old.state.starts ≡ 1 }
     requires fanout { IsFanoutOf net.now fanout.now }
     ensures fault { IfErr result (λ fault. (fault ≡ PlayFault.Memory) ⊎ (rounds_fault play.old.state plan.now ≡ Some fault)) }
     ensures none { OnOk result (rounds_fault play.old.state plan.now ≡ None) }

@@ -1,14 +1,11 @@
--- Cones: marked gates with all that lies upstream of them, taken out of a netlist.
-use Rattle.std.specs.Prelude.{◌≡◌, ◌⊎◌, ◌↔◌, ◌<◌, ◌≤◌, ◌+◌, ℕ, Bool, true, false, List, length, Contains, slice_index_or}
-use Rattle.cyc_base.specs.declared.sig.Sig.{Sig}
+-- Marks of gates, and of all that lies upstream of them.
+use Rattle.std.specs.Prelude.{◌≡◌, ◌⊎◌, ◌↔◌, ◌<◌, ◌≤◌, ℕ, Bool, true, false, List, length, Contains, slice_index_or}
 use Rattle.netlist.specs.declared.parts.Parts.{Parts}
-use Rattle.netlist.specs.Netlists.{signal}
 use Rattle.netlist.specs.Walks.{Feeds}
 use Rattle.loops.specs.declared.structure.Blocks.{Blocks}
 use Rattle.loops.specs.Blocks.{home_of}
-use Rattle.loops.specs.Sweeps.{first_gate}
-use Rattle.isolation.specs.Excerpts.{gate_in, origin, origins, AreWhole, IsExcerpt}
-use Rattle.isolation.specs.Laws.{column_signals, IsUpstream}
+use Rattle.isolation.specs.Excerpts.{gate_in}
+use Rattle.isolation.specs.Laws.{IsUpstream}
 
 -- a gate is marked
 abbrev pub is_marked : List Bool → ℕ → Bool
@@ -25,27 +22,7 @@ pub record AreUpstreamMarks (net : Parts) (old new : List Bool) : Type 0 where
   pub width : length new ≡ length net.gates
   pub each : (m : ℕ) → m < length net.gates → (is_marked new m ≡ true) ↔ LeadsToMark net old m
 
--- These are just the gates upstream of marked ones, with their whole loops.
-pub record AreGatesUpstream (net : Parts) (marks : List Bool) (gates : List ℕ) : Type 0 where
-  pub whole : AreWhole net gates
-  pub each : (m : ℕ) → m < length net.gates → Contains gates m ↔ LeadsToMark net marks m
-
--- The netlist of a cone: just the gates upstream of marked ones, with their whole loops, and with the columns as inputs.
-pub record IsConeOf (net : Parts) (marks : List Bool) (gates : List ℕ) (small : Parts) : Type 0 where
-  pub is : IsExcerpt net (column_signals net) gates small
-  pub whole : AreWhole net gates
-  pub each : (m : ℕ) → m < length net.gates → Contains gates m ↔ LeadsToMark net marks m
-
--- the signals of a cone as those of the whole: the columns, and then the gates
-abbrev pub cone_signals : Parts → List ℕ → List Sig
-cone_signals net gates = origins net (column_signals net) gates
-
--- the number of a signal of the whole among those of a cone
-pub record IsNumberIn (net : Parts) (gates : List ℕ) (s : Sig) (number : ℕ) : Type 0 where
-  pub within : number < first_gate net + length gates
-  pub is : origin (cone_signals net gates) (signal number) ≡ s
-
--- ---- while it is found
+-- ---- while they are marked
 
 -- the marks are the earlier ones, and those of gates of this kind
 pub record AddMarks (kind : ℕ → Type 0) (old new : List Bool) : Type 0 where

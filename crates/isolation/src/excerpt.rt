@@ -94,7 +94,7 @@ fn place_outside(outside: &IndexSet<Sig>, signal: Sig) -> Option<usize>
 }
 
 /// The place of a gate among these.
-pub(crate) fn place_among(gates: &[u32], gate: u32) -> Option<usize>
+fn place_among(gates: &[u32], gate: u32) -> Option<usize>
     ensures place { IfSome result (IsPlaceOf gates.now gate) }
     ensures some { Rise gates.now → Contains gates.now gate → IsSome result }
 {
@@ -287,7 +287,7 @@ fn made_of(alloc: Global, parts: Parts) -> Result<Option<Netlist>, AllocError>
 }
 
 /// These gates as a netlist of its own, whose inputs are these wires outside of them: names are those of the netlist.
-pub(crate) fn excerpt(
+fn excerpt(
     alloc: Global,
     net: &Netlist,
     gates: &[u32],

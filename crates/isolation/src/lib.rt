@@ -13,6 +13,6 @@ pub mod laws;
 mod settling;
 
 pub use columns::column_rails;
-pub use cones::{Cone, cone_netlist, mark_driver, mark_upstream, number_in};
+pub use cones::{mark_driver, mark_upstream};
 pub use excerpt::loop_netlist;
 pub use settling::settles_alone;

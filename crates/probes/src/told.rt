@@ -7,7 +7,7 @@ ghost use Rattle.netlist.specs.declared.parts.Parts.{Parts as parts_type};
 ghost use Rattle.schedules.specs.Runs.{ticks_of};
 ghost use Rattle.delay_core.specs.declared.change.Change.{Change as change_type};
 ghost use Rattle.delay_core.specs.EventLists.{planned_at};
-ghost use Rattle.delay_core.specs.Plays.{PlayState, after_event, no_events, next_tick, change_by};
+ghost use Rattle.delay_core.specs.Plays.{PlayState, most_rounds, after_event, no_events, next_tick, change_by};
 ghost use Rattle.delay_core.specs.Plans.{planned_fault, events_fault, after_planned, round_fault, after_plan, rounds_fault, after_plans, ticks_fault, first_opened, schedule_fault, run_of, IsPlayedFairly, end_of, SettledIsTold, SettlesInTime};
 ghost use Rattle.probes.specs.Changes.{openings, event_changes, round_changes, tick_changes, later_changes, changes};
 ghost use Rattle.probes.specs.Hearing.{EachHears, EachHearsPrefix};
@@ -100,7 +100,8 @@ fn tell_round(
     probes: &mut [Box<dyn Probe>],
     wanted: Kind,
 ) -> Result<(), AllocError>
-    requires { round_fault play.old.state round.now ≡ None }
+    requires none { round_fault play.old.state round.now ≡ None }
+    requires few { length play.old.state.starts < most_rounds }
     ensures played { OnOk result (play.new.state ≡ after_plan play.old.state round.now) }
     ensures heard { OnOk result (EachHears kind heard text wanted (event_changes play.old.state round.now.events) probes.old probes.new) }
     ensures err { OnErr result (EachHearsPrefix kind heard text wanted (event_changes play.old.state round.now.events) probes.old probes.new) }
@@ -119,7 +120,8 @@ fn tell_rounds(
     probes: &mut [Box<dyn Probe>],
     wanted: Kind,
 ) -> Result<(), AllocError>
-    requires { rounds_fault play.old.state rounds.now ≡ None }
+    requires none { rounds_fault play.old.state rounds.now ≡ None }
+    requires first { length play.old.state.starts ≡ 1 }
     ensures played { OnOk result (play.new.state ≡ after_plans play.old.state rounds.now) }
     ensures heard { OnOk result (EachHears kind heard text wanted (round_changes play.old.state rounds.now) probes.old probes.new) }
     ensures err { OnErr result (EachHearsPrefix kind heard text wanted (round_changes play.old.state rounds.now) probes.old probes.new) }
@@ -140,6 +142,7 @@ fn tell_tick(
 ) -> Result<(), AllocError>
     requires net { play.old.state.net ≡ net.now }
     requires none { rounds_fault play.old.state rounds.now ≡ None }
+    requires first { length play.old.state.starts ≡ 1 }
     ensures played { OnOk result (play.new.state ≡ after_plans play.old.state rounds.now) }
     ensures heard { OnOk result (EachHears kind heard text wanted (tick_changes play.old.state rounds.now) probes.old probes.new) }
     ensures err { OnErr result (EachHearsPrefix kind heard text wanted (tick_changes play.old.state rounds.now) probes.old probes.new) }

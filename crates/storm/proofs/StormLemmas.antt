@@ -227,7 +227,7 @@ module _ (net : Parts) (v : List Bool) (valid : IsNetlist net) (wide : length v 
     plays : FaultsAreUnfairness → PlaysAsStorm net v (storm_of net v rounds)
     plays faults = record {
       fits = fits;
-      no_fault = (faults net (storm_of net v rounds) (inputs_in net v ∷ []) (omega arith)).1
+      no_fault = (faults net (storm_of net v rounds) (inputs_in net v ∷ [])).1
           (All-cons (IsPlayedFairly net 1) the_tick [] tick_is_storm.fair (All-nil (IsPlayedFairly net 1)));
       storm = All-cons (IsStorm net v) the_tick [] tick_is_storm (All-nil (IsStorm net v));
     }

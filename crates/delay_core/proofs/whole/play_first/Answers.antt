@@ -1,7 +1,10 @@
-use Rattle.std.proofs.Common.{◌≡◌, ap, sym, ◌∙◌}
+use Rattle.std.proofs.Common.{◌≡◌, length, ap, sym, ◌∙◌}
 use Rattle.delay_core.specs.Plays.{PlayState, SeenPlay}
 use Rattle.delay_core.specs.Plans.{first_opened, rounds_fault, after_plans}
 use Rattle.delay_core.proofs.whole.play_first.Goals as goal
+
+pub play_tick-requires-clause-first : goal.play_tick-requires-clause-first
+play_tick-requires-clause-first c = ap (λ (p : SeenPlay). length p.state.starts) c.in_ok-play.ensures
 
 pub returns-clause-none : goal.returns-clause-none
 returns-clause-none c =

@@ -1,10 +1,13 @@
-use Rattle.std.proofs.Common.{◌≡◌, drop}
+use Rattle.std.proofs.Common.{◌≡◌, ◌+◌, ◌<◌, drop, length}
+use Rattle.delay_core.specs.Plays.{most_rounds}
 use Rattle.delay_core.specs.Plans.{rounds_fault, after_plans}
 use Rattle.delay_core.proofs.whole.play_rounds.Given as goal
 
 abbrev pub invariant-loop-round : goal.invariant-loop-round
 invariant-loop-round l =
     record {
+      starts : length l.play.state.starts ≡ l.round-index + 1;
+      few : length l.rounds < most_rounds;
       fault : rounds_fault l.fn.play.state l.rounds ≡ rounds_fault l.play.state (drop l.round-index l.rounds);
       after : after_plans l.fn.play.state l.rounds ≡ after_plans l.play.state (drop l.round-index l.rounds);
     }

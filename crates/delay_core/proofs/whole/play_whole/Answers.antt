@@ -1,6 +1,5 @@
-use Rattle.std.proofs.Common.{◌<◌, map, reverse, arith}
+use Rattle.std.proofs.Common.{map, reverse}
 use Rattle.std.specs.List.{zip}
-use Rattle.delay_core.specs.Plays.{most_rounds}
 use Rattle.delay_core.specs.Plans.{tick_of}
 use Rattle.delay_core.proofs.EndLemmas.{ticks_told, ticks_in_time, inputs_fit}
 use Rattle.delay_core.proofs.FairLemmas.{schedule_fair}
@@ -8,8 +7,7 @@ use Rattle.delay_core.proofs.whole.play_whole.Goals as goal
 
 pub returns-clause-fair : goal.returns-clause-fair
 returns-clause-fair c =
-    let small : c.args.schedule.now.window < most_rounds = omega arith in
-    schedule_fair c.args.net.now c.args.schedule.now (zip c.args.vectors.now c.args.schedule.now.ticks) small c.in_ok-play_all.ensures.whole
+    schedule_fair c.args.net.now c.args.schedule.now (zip c.args.vectors.now c.args.schedule.now.ticks) c.in_ok-play_all.ensures.whole
 
 pub returns-clause-settled : goal.returns-clause-settled
 returns-clause-settled c =

@@ -1,4 +1,4 @@
-use Rattle.std.proofs.Common.{◌≡◌, refl, ap, ◌∙◌}
+use Rattle.std.proofs.Common.{◌≡◌, length, refl, ap, ◌∙◌}
 use Rattle.delay_core.specs.Plays.{PlayState, SeenPlay}
 use Rattle.delay_core.specs.Plans.{first_opened, rounds_fault}
 use Rattle.probes.proofs.HearingLemmas.{each_prefix_none}
@@ -13,6 +13,9 @@ tell_tick-requires-clause-none g c =
     let opened : c.in_ok-play.play.state ≡ first_opened c.args.net.now c.args.schedule.now c.args.inputs.now =
     ap (λ (p : SeenPlay). p.state) c.in_ok-play.ensures ∙ rw (c.items.ensures, c.items-2.ensures, c.items-3.ensures) refl in
     ap (λ (p : PlayState). rounds_fault p c.args.rounds.now) opened ∙ c.requires.none
+
+pub tell_tick-requires-clause-first : goal.tell_tick-requires-clause-first
+tell_tick-requires-clause-first g c = ap (λ (p : SeenPlay). length p.state.starts) c.in_ok-play.ensures
 
 pub returns-in_err-tell_tick-clause-err : goal.returns-in_err-tell_tick-clause-err
 returns-in_err-tell_tick-clause-err g c =

@@ -1,8 +1,8 @@
-use Rattle.std.proofs.Common.{◌≡◌, ◌∷◌, ℕ, List, [], Bool, not, length, take, replicate, false, None, ap, ap₂, sym, ◌∙◌, arith}
+use Rattle.std.proofs.Common.{◌≡◌, ◌∷◌, ◌<◌, ◌≤◌, ℕ, suc, List, Bool, not, length, replicate, false, None, ap, ap₂, sym, ◌∙◌, arith}
 use Rattle.std.specs.Prelude.{position}
 use Rattle.delay_core.specs.Plays.{SeenPlay, starts_of, no_events, after_round, most_rounds, IsPlay}
-use Rattle.delay_core.proofs.PlayLemmas.{round_ends, round_full}
-use Rattle.delay_core.proofs.ReadingLemmas.{starts-after}
+use Rattle.delay_core.proofs.PlayLemmas.{round_ends, none_had}
+use Rattle.delay_core.proofs.ReadingLemmas.{length-starts, start-next}
 use Rattle.delay_core.proofs.play.Play.end_round.Goals as goal
 
 pub invariant_of-self : goal.invariant_of-self
@@ -19,19 +19,17 @@ invariant_of-self c =
     (rw done next, c.self.invariant.1, c.self.invariant.2, c.self.invariant.3)
 
 pub returns-clause-ok : goal.returns-clause-ok
-returns-clause-ok c =
+returns-clause-ok c less =
     let is = c.self.invariant.0 in
     let opening : ℕ = c.self.inside.opening in
     let marks : List ℕ = c.self.inside.marks.items in
-    let fair : position (λ (had : Bool). not had) c.self.inside.done.items ≡ None =
-    ap (λ (had : List Bool). position (λ (h : Bool). not h) had) (sym c.deref.ensures.value) ∙ sym c.first_without.ensures.first ∙ c.in_default.is in
-    let full : c.self.inside.round ≡ most_rounds → marks ≡ [] =
-    round_full c.self.inside.net.now c.self.inside.timeline.history c.self.inside.past c.self.inside.tick opening marks c.self.inside.round c.self.inside.done.items is fair
-    (omega (arith, c.self.inside.marks.ok, c.self.inside.marks.small)) in
-    let starts : starts_of opening marks c.saturating_add-self-inside.result ≡ take most_rounds (length c.self.inside.timeline.history ∷ starts_of opening marks c.self.inside.round) =
-    ap (starts_of opening marks) c.saturating_add-self-inside.ensures
-    ∙ starts-after most_rounds opening marks c.self.inside.round is.behind (omega arith) full
-    ∙ ap (λ (n : ℕ). take most_rounds (n ∷ starts_of opening marks c.self.inside.round)) is.moments in
+    let below : c.self.inside.round < most_rounds =
+    (let viewed = ap (λ (p : SeenPlay). length p.state.starts) c.self.view_is in
+    omega (arith, less, viewed, length-starts opening marks c.self.inside.round)) in
+    let next : c.saturating_add-self-inside.result ≡ suc c.self.inside.round = omega (arith, c.saturating_add-self-inside.ensures, below) in
+    let starts : starts_of opening marks c.saturating_add-self-inside.result ≡ length c.self.inside.timeline.history ∷ starts_of opening marks c.self.inside.round =
+    ap (starts_of opening marks) next
+    ∙ ap (λ (n : ℕ). n ∷ starts_of opening marks c.self.inside.round) (start-next opening marks c.self.inside.round is.behind ∙ is.moments) in
     let done : c.fill.new.self.items ≡ no_events c.self.inside.net.now =
     c.fill.ensures.items (λ y e. e) ∙ ap (λ n. replicate n false) (c.self.inside.done.ok.0 ∙ is.done) in
     let build : List ℕ → List Bool → SeenPlay = λ ss d. record {
@@ -48,3 +46,33 @@ returns-clause-ok c =
       spare = c.self.inside.spare;
     } in
     ap₂ build starts done ∙ ap (λ (p : SeenPlay). record { state = after_round p.state; spare = p.spare }) c.self.view_is
+
+pub returns-clause-full : goal.returns-clause-full
+returns-clause-full c most =
+    let is = c.self.invariant.0 in
+    let opening : ℕ = c.self.inside.opening in
+    let marks : List ℕ = c.self.inside.marks.items in
+    let fair : position (λ (had : Bool). not had) c.self.inside.done.items ≡ None =
+    ap (λ (had : List Bool). position (λ (h : Bool). not h) had) (sym c.deref.ensures.value) ∙ sym c.first_without.ensures.first ∙ c.in_default.is in
+    let over : most_rounds ≤ c.self.inside.round =
+    (let viewed = ap (λ (p : SeenPlay). length p.state.starts) c.self.view_is in
+    omega (arith, most, viewed, length-starts opening marks c.self.inside.round)) in
+    let same : c.saturating_add-self-inside.result ≡ c.self.inside.round = omega (arith, c.saturating_add-self-inside.ensures, over) in
+    let done : c.fill.new.self.items ≡ c.self.inside.done.items =
+    c.fill.ensures.items (λ y e. e) ∙ ap (λ n. replicate n false) (c.self.inside.done.ok.0 ∙ is.done)
+    ∙ none_had c.self.inside.net.now c.self.inside.timeline.history c.self.inside.past c.self.inside.tick opening marks c.self.inside.round c.self.inside.done.items is fair
+    (omega (arith, over, c.self.inside.marks.ok, c.self.inside.marks.small)) in
+    let build : ℕ → List Bool → SeenPlay = λ round d. record {
+      state = record {
+        net = c.self.inside.net.now;
+        window = c.self.inside.window;
+        past = c.self.inside.past;
+        history = c.self.inside.timeline.history;
+        tick = c.self.inside.tick;
+        opening = opening;
+        starts = starts_of opening marks round;
+        done = d;
+      };
+      spare = c.self.inside.spare;
+    } in
+    ap₂ build same done ∙ c.self.view_is
