@@ -4,6 +4,7 @@
   bench/gate.py               prints a Markdown table of a whole run of `rt ci` from nothing (`rt ci --anew`)
   bench/gate.py WORD..        the same of the command `rt WORD..`, as `ci netlist`
   bench/gate.py --edits WORD..  and a line for each edit whose trial took ten seconds or more
+  bench/gate.py --pid NUMBER  the same of a run of `rt ci` that goes already, from now on, of the text that stands here
   bench/gate.py --way         the longest way of the first build, crate by crate, by the proofs in the table of docs/GATE.md
 
 The longest way is the chain of crates, each of which stands on the one before it, whose proofs take the most together:
@@ -90,18 +91,17 @@ def check_of(number, edits):
     return crate, "edits" if edit else "seed", edit
 
 
-def watched(command):
-    """Runs the command, and returns the processor seconds of each check."""
+def watched(root, goes_on):
+    """The processor seconds of each check below a process, for as long as it goes on."""
     edits, checks, spent = {}, {}, {}
-    ran = subprocess.Popen(command, cwd=TOP, stdin=subprocess.DEVNULL, stdout=sys.stderr)
-    while ran.poll() is None:
+    while goes_on():
         found = processes()
         for number, (_, start, seconds) in found.items():
             key = number, start
             try:
                 if key not in checks:
                     # (a process that was forked a moment ago has yet to become rattle)
-                    named = check_of(number, edits) if is_below(number, ran.pid, found) else None
+                    named = check_of(number, edits) if is_below(number, root, found) else None
                     if named:
                         checks[key] = named
                 if key in checks:
@@ -109,7 +109,7 @@ def watched(command):
             except OSError:
                 continue
         time.sleep(1)
-    return ran.returncode, [(*checks[key], seconds) for key, seconds in spent.items()]
+    return [(*checks[key], seconds) for key, seconds in spent.items()]
 
 
 def uses():
@@ -120,9 +120,10 @@ def uses():
 
 
 def recorded():
-    """The minutes of the proofs in the table of docs/GATE.md."""
-    rows = [it.split("|") for it in read(f"{TOP}/docs/GATE.md").split("\n") if it.startswith("| `")]
-    return {cells[1].strip(" `"): float(cells[2]) for cells in rows if len(cells) == 8}
+    """The processor minutes of the proofs in the table of docs/GATE.md, which has seconds."""
+    measured = read(f"{TOP}/docs/GATE.md").partition("## The longest way")[0]
+    rows = [it.split("|") for it in measured.split("\n") if it.startswith("| `")]
+    return {cells[1].strip(" `"): float(cells[2]) / 60 for cells in rows if cells[2].strip()}
 
 
 def longest_way(minutes):
@@ -162,8 +163,13 @@ def main(words):
     if words == ["--way"]:
         print_way(recorded())
         return 0
+    if words[:1] == ["--pid"]:
+        table(watched(int(words[1]), lambda: os.path.exists(f"/proc/{words[1]}")))
+        return 0
     tells_edits = words[:1] == ["--edits"]
-    status, spent = watched(["rt", *(words[tells_edits:] or ["ci", "--anew"])])
+    ran = subprocess.Popen(["rt", *(words[tells_edits:] or ["ci", "--anew"])], cwd=TOP, stdin=subprocess.DEVNULL, stdout=sys.stderr)
+    spent = watched(ran.pid, lambda: ran.poll() is None)
+    status = ran.returncode
     table(spent)
     if tells_edits:
         each = collections.Counter()

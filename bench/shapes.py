@@ -4,7 +4,8 @@ and, for the last doubling, how many times more seconds it took: 2 is linear, 4 
 
   bench/shapes.py [--cyc PROGRAM] [--seconds N] [--memory MB] [SHAPE [SIZE]]..
 
-The shapes that are linear stand at the end of the list. A run that passes the limits of time or of memory has `-`.
+The shapes that are linear stand at the end of the list. A run that passes the limits of time or of memory has `-`. A peak
+below some 35 MB is that of this program, from which the call is forked.
 """
 import argparse
 import os

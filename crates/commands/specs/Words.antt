@@ -9,6 +9,8 @@ use Rattle.refusals.specs.declared.observe.Observe.{Observe}
 use Rattle.refusals.specs.declared.observe.Observe.TheVariants as observe
 use Rattle.probes.specs.declared.kind.Kind.{Kind}
 use Rattle.probes.specs.declared.kind.Kind.TheVariants as kind
+use Rattle.commands.specs.declared.form.Form.{Form}
+use Rattle.commands.specs.declared.form.Form.TheVariants as form
 use Rattle.commands.specs.declared.topic.Topic.{Topic}
 use Rattle.commands.specs.declared.topic.Topic.TheVariants as topic
 
@@ -34,7 +36,7 @@ pub data Command : Type 0 where
   -- writes its flat netlist
   Flat : List ℕ → Command
   -- prints its loops and their cut wires
-  Loops : List ℕ → Command
+  Loops : List ℕ → Form → Command
   -- simulates it on the vectors of a file
   Sim : List ℕ → List ℕ → Command
   -- plays it on the vectors of a file by the schedule of another, and shows its changes as probes of this kind do
@@ -129,6 +131,12 @@ aiger_on file rest = option_map (Aiger file) (options_of no_options rest)
 abbrev pub explain_on : List ℕ → List (List ℕ) → Option Command
 explain_on file rest = option_map (Explain file) (options_of no_options rest)
 
+-- loops are told as lines, or as a graph
+abbrev pub loops_on : List ℕ → List (List ℕ) → Option Command
+loops_on file [] = Some (Loops file form.Lines)
+loops_on file (word ∷ []) = if bytes_eq word (codes "--dot") then Some (Loops file form.Dot) else None
+loops_on file other = None
+
 -- a simulation wants one more file
 abbrev pub sim_on : List ℕ → List (List ℕ) → Option Command
 sim_on file (vectors ∷ []) = if is_file_word vectors then Some (Sim file (file_of vectors)) else None
@@ -201,7 +209,7 @@ command_on command word rest =
     else if bytes_eq command (codes "aiger") then aiger_on word rest
     else if bytes_eq command (codes "explain") then explain_on word rest
     else if bytes_eq command (codes "flat") && length rest == 0 then Some (Flat word)
-    else if bytes_eq command (codes "loops") && length rest == 0 then Some (Loops word)
+    else if bytes_eq command (codes "loops") then loops_on word rest
     else if bytes_eq command (codes "sim") then sim_on word rest
     else if bytes_eq command (codes "delays") then delays_on word rest
     else if bytes_eq command (codes "demo") then demo_on word rest

@@ -1,5 +1,6 @@
 ghost use Rattle.std.specs.Prelude.{◌≤◌, unwrap_or};
 
+use crate::form::Form;
 use crate::topic::Topic;
 use cyc_base::Name;
 use probes::Kind;
@@ -48,7 +49,7 @@ pub enum Command<'a> {
     /// Writes its flat netlist.
     Flat(&'a Name),
     /// Prints its loops and their cut wires.
-    Loops(&'a Name),
+    Loops(&'a Name, Form),
     /// Simulates it on the vectors of a second file.
     Sim(&'a Name, &'a Name),
     /// Plays it on the vectors of a second file by the schedule of a third, and shows the changes of the run as probes of

@@ -5,9 +5,11 @@
 #![tactic(auto)]
 
 mod command;
+mod form;
 mod parse;
 mod topic;
 
 pub use command::{Cells, Command, Options, Rounds};
+pub use form::Form;
 pub use parse::{STANDARD_INPUT, command_of_words};
 pub use topic::Topic;

@@ -2,9 +2,10 @@
 ghost use Rattle.std.specs.Prelude.{◌≡◌, ◌≤◌, ◌+◌, ◌-◌, ◌*◌, ◌&&◌, nat_le, true, false, MatchOption, IfSome, None, Some};
 ghost use Rattle.cyc_base.specs.declared.limits.TheConstants.{MAX_NODES as most_nodes};
 ghost use Rattle.commands.specs.Seen.{cells_seen, command_seen, options_seen, rounds_seen};
-ghost use Rattle.commands.specs.Words.{aiger_on as aiger_asked, cells as cells_asked, check_on as check_asked, command_alone as alone_asked, command_of, command_on as command_asked, delays_on as delays_asked, demo_on as demo_asked, file_of as file_asked, explain_on as explain_asked, help_on as help_asked, is_digit, is_file_word, no_options as asked_no_options, number_between as number_asked, kind_of as kind_asked, observe_of as observe_asked, options_of as options_asked, probe_of as probe_asked, rewrite_on as rewrite_asked, rounds as rounds_asked, sim_on as sim_asked, standard_input as standard_input_name, storm_on as storm_asked, storm_with as storm_asked_with, topic_of as topic_asked, up_to, with_care as asked_with_care, with_nodes as asked_with_nodes, with_observe as asked_with_observe, with_option as asked_with_option};
+ghost use Rattle.commands.specs.Words.{aiger_on as aiger_asked, cells as cells_asked, check_on as check_asked, command_alone as alone_asked, command_of, command_on as command_asked, delays_on as delays_asked, demo_on as demo_asked, file_of as file_asked, explain_on as explain_asked, help_on as help_asked, loops_on as loops_asked, is_digit, is_file_word, no_options as asked_no_options, number_between as number_asked, kind_of as kind_asked, observe_of as observe_asked, options_of as options_asked, probe_of as probe_asked, rewrite_on as rewrite_asked, rounds as rounds_asked, sim_on as sim_asked, standard_input as standard_input_name, storm_on as storm_asked, storm_with as storm_asked_with, topic_of as topic_asked, up_to, with_care as asked_with_care, with_nodes as asked_with_nodes, with_observe as asked_with_observe, with_option as asked_with_option};
 
 use crate::command::{Cells, Command, Options, Rounds};
+use crate::form::Form;
 use crate::topic::Topic;
 use cyc_base::{MAX_NODES, MAX_RING_CELLS, MIN_NODES, MIN_RING_CELLS, Name};
 use probes::Kind;
@@ -70,8 +71,8 @@ fn command_on<'a>(
     if command == b"flat".as_slice() && rest.is_empty() {
         return Some(Command::Flat(word));
     }
-    if command == b"loops".as_slice() && rest.is_empty() {
-        return Some(Command::Loops(word));
+    if command == b"loops".as_slice() {
+        return loops_on(word, rest);
     }
     if command == b"sim".as_slice() {
         return sim_on(word, rest, standard_input);
@@ -151,6 +152,18 @@ fn explain_on<'a>(file: &'a Name, rest: &'a [Name], standard_input: &'a Name) ->
 {
     let options = options_of(no_options(), rest, standard_input)?;
     Some(Command::Explain(file, options))
+}
+
+// Loops are told as lines, or as a graph.
+fn loops_on<'a>(file: &'a Name, rest: &'a [Name]) -> Option<Command<'a>>
+    ensures { MatchOption result (loops_asked file.now rest.now ≡ None)
+        (λ asked. loops_asked file.now rest.now ≡ Some (command_seen asked)) }
+{
+    match rest {
+        [] => Some(Command::Loops(file, Form::Lines)),
+        [word] if word.bytes() == b"--dot".as_slice() => Some(Command::Loops(file, Form::Dot)),
+        _ => None,
+    }
 }
 
 // A simulation wants one more file.

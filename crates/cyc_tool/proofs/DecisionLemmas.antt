@@ -1,7 +1,7 @@
 -- What decisions come to.
 use Rattle.std.proofs.Common.{◌≡◌, ◌⊎◌, ◌<◌, ◌≤◌, ℕ, Bool, true, false, length, Some, None, Ok, Err, refl, sym, ap, ap₂, subst, ◌∙◌, inl, inr, arith}
 use Rattle.std.proofs.lemmas.List.{length-map}
-use Rattle.std.specs.Prelude.{◌+◌, nat_le, if◌then◌else◌, IfOk, IfErr, OnOk}
+use Rattle.std.specs.Prelude.{◌+◌, ◌++◌, nat_le, if◌then◌else◌, IfOk, IfErr, OnOk}
 use Rattle.std.specs.declared.option.Option.{Option}
 use Rattle.std.specs.declared.result.Result.{Result}
 use Rattle.bdd_store.specs.Arena.{Arena}
@@ -22,9 +22,10 @@ use Rattle.refusals.specs.declared.observe.Observe.{Observe}
 use Rattle.refusals.specs.declared.refusal.Refusal.{Refusal}
 use Rattle.refusals.specs.declared.refusal.Refusal.TheVariants.{Initial, EmptyCare, Undetermined, Leaves as LeavesCare}
 use Rattle.refusals.proofs.LawLemmas.{accepted_without_refusal, refusal_is_shown}
+use Rattle.accepted_loops.specs.Lines.{told_loops}
 use Rattle.report.specs.Verdicts.{accepted_text, ring_line}
 use Rattle.rewriting.specs.Graphs.{graph_of, most_ands, IsGraphing}
-use Rattle.rewriting.specs.Rewriting.{rewritten, rewritten_size, IsRewriting}
+use Rattle.rewriting.specs.Rewriting.{rewritten, rewritten_size, sweeps_needed, IsRewriting}
 use Rattle.unroll.specs.Laws.{KeepsInterface}
 use Rattle.unroll.specs.Unrolled.{IsUnrollFault}
 use Rattle.unroll.specs.declared.fault.UnrollFault.{UnrollFault}
@@ -131,11 +132,11 @@ judged net care limit what loose given end same is loose_is = record {
   made = tt;
 }
 
-pub told_accepted : (net : Parts) (care : CareSet) (limit : ℕ) (what : Observe) (loose : ℕ) (given : Option ℕ) (end : Outcome)
-    → end ≡ told (Prints (accepted_text net (count_of_loops net) given)) → given ≡ where_outputs what loose → AreLoose net care loose
-    → IsAccepted (decision_of net care limit what) Explains end
-told_accepted net care limit what loose given end same is loose_is = record {
-  is = same ∙ ap (λ number. told (Prints (accepted_text net (count_of_loops net) number))) (is ∙ ap (where_outputs what) loose_is);
+pub loops_told : (net : Parts) (care : CareSet) (limit : ℕ) (what : Observe) (loose : ℕ) (given : Option ℕ) (end : Outcome)
+    → end ≡ told (Prints (accepted_text net (count_of_loops net) given ++ told_loops net (sweeps_needed net care))) → given ≡ where_outputs what loose
+    → AreLoose net care loose → IsAccepted (decision_of net care limit what) Explains end
+loops_told net care limit what loose given end same is loose_is = record {
+  is = same ∙ ap (λ number. told (Prints (accepted_text net (count_of_loops net) number ++ told_loops net (sweeps_needed net care)))) (is ∙ ap (where_outputs what) loose_is);
   made = tt;
 }
 

@@ -1,5 +1,5 @@
 -- What a call ends with that makes a decision, by its verdict: nothing, or what refuses the netlist.
-use Rattle.std.specs.Prelude.{ℕ, ◌+◌, Bool, List, length, nat_le, if◌then◌else◌, Some, None}
+use Rattle.std.specs.Prelude.{ℕ, ◌+◌, ◌++◌, Bool, List, length, nat_le, if◌then◌else◌, Some, None}
 use Rattle.std.specs.declared.option.Option.{Option}
 use Rattle.cyc_base.specs.declared.limits.TheConstants.{MAX_REWRITTEN_ITEMS}
 use Rattle.netlist.specs.declared.parts.Parts.{Parts}
@@ -12,10 +12,11 @@ use Rattle.refusals.specs.declared.observe.Observe.{Observe}
 use Rattle.refusals.specs.declared.observe.Observe.TheVariants.{All, Outputs}
 use Rattle.refusals.specs.declared.refusal.Refusal.{Refusal}
 use Rattle.refusals.specs.declared.refusal.Refusal.TheVariants.{Undetermined}
+use Rattle.accepted_loops.specs.Lines.{told_loops}
 use Rattle.report.specs.Verdicts.{accepted_text, refusal_text, ring_line}
 use Rattle.storm.specs.Storms.{most_events}
 use Rattle.rewriting.specs.Graphs.{graph_of, most_ands}
-use Rattle.rewriting.specs.Rewriting.{rewritten, rewritten_size}
+use Rattle.rewriting.specs.Rewriting.{rewritten, rewritten_size, sweeps_needed}
 use Rattle.cyc_tool.specs.Plans.{Ending, Prints, Refuses, Declines, Outgrows, Decision, Purpose, Judges, Rewrites, WritesGraph, Explains, Demonstrates, Storms}
 use Rattle.cyc_tool.specs.Storms.{events_of, events_told, storm_text}
 
@@ -60,11 +61,17 @@ abbrev pub storm_or_refusal : Parts → ℕ → Refusal → Ending
 storm_or_refusal net rounds (Undetermined v wire) = storm_told net rounds v
 storm_or_refusal net rounds refused = Declines (refusal_text net refused)
 
+-- the line of an accepted netlist, and behind it those of its loops, with the sweeps that they need on care
+abbrev pub loops_explained : Decision → List ℕ
+loops_explained decision =
+    accepted_text decision.net (count_of_loops decision.net) (loose_told decision)
+    ++ told_loops decision.net (sweeps_needed decision.net decision.care)
+
 abbrev pub accepted_told : Decision → Purpose → Ending
 accepted_told decision Judges = Prints (accepted_text decision.net (count_of_loops decision.net) (loose_told decision))
 accepted_told decision Rewrites = rewritten_told decision
 accepted_told decision WritesGraph = graph_told decision
-accepted_told decision Explains = Prints (accepted_text decision.net (count_of_loops decision.net) (loose_told decision))
+accepted_told decision Explains = Prints (loops_explained decision)
 accepted_told decision (Demonstrates cells) =
     Prints (ring_line cells decision.net (count_of_loops decision.net) (length (rewritten decision.net decision.care).gates))
 accepted_told decision (Storms rounds) = Declines (accepted_text decision.net (count_of_loops decision.net) (loose_told decision))

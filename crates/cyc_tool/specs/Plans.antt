@@ -15,10 +15,13 @@ use Rattle.care_sets.specs.Care.{CareSet}
 use Rattle.refusals.specs.declared.observe.Observe.{Observe}
 use Rattle.refusals.specs.declared.observe.Observe.TheVariants as observe
 use Rattle.commands.specs.Words.{Options, Command, Check, Rewrite, Aiger, Explain, Flat, Loops, Sim, Delays, Demo, Storm, Help, HelpOn, Version}
+use Rattle.commands.specs.declared.form.Form.{Form}
+use Rattle.commands.specs.declared.form.Form.TheVariants.{Lines, Dot}
 use Rattle.contents.specs.CareFiles.{no_care, care_of}
 use Rattle.contents.specs.Faults.{Fault}
 use Rattle.contents.specs.NetlistFiles.{netlist_of}
 use Rattle.contents.specs.ScheduleFiles.{vectors_of, schedule_of}
+use Rattle.dot_text.specs.LoopGraphs.{loops_graph}
 use Rattle.maker.specs.Ring.{ring_text, care_text}
 use Rattle.report.specs.Help.{help_text, topic_text, version_text}
 use Rattle.report.specs.LoopTexts.{loops_text}
@@ -147,8 +150,13 @@ play_on shows probe recorded net vectors = with_schedule recorded net (length ve
 abbrev pub flattening : List ℕ → Plan
 flattening file = with_netlist file (λ net. Ends (Prints (written net)))
 
-abbrev pub finding_loops : List ℕ → Plan
-finding_loops file = with_netlist file (λ net. Ends (Prints (loops_text net)))
+-- the loops of a netlist, as lines or as a graph
+abbrev pub loops_shown : Form → Parts → List ℕ
+loops_shown Lines net = loops_text net
+loops_shown Dot net = loops_graph net
+
+abbrev pub finding_loops : Form → List ℕ → Plan
+finding_loops form file = with_netlist file (λ net. Ends (Prints (loops_shown form net)))
 
 abbrev pub simulating_on : List ℕ → Parts → Plan
 simulating_on vectors net = with_vectors vectors net true (λ found. Ends (Prints (sim_text net found)))
@@ -177,7 +185,7 @@ plan_of shows (Rewrite file options) = deciding file options Rewrites
 plan_of shows (Aiger file options) = deciding file options WritesGraph
 plan_of shows (Explain file options) = deciding file options Explains
 plan_of shows (Flat file) = flattening file
-plan_of shows (Loops file) = finding_loops file
+plan_of shows (Loops file form) = finding_loops form file
 plan_of shows (Sim file vectors) = simulating file vectors
 plan_of shows (Delays file vectors recorded probe) = replaying shows probe file vectors recorded
 plan_of shows (Demo cells) = ring_deciding cells

@@ -24,7 +24,7 @@ ghost use Rattle.cyc_tool.specs.Endings.{count_of_loops, where_outputs};
 ghost use Rattle.cyc_tool.specs.Plans.{Declines, Prints, Rewrites, WritesGraph};
 ghost use Rattle.cyc_tool.specs.Seen.{IsLimitOf, IsOutgrown, IsOverfull, IsRefusalTold, IsShown, IsTellable, IsToldOf, IsToldOfGraph, outcome_of, purpose_seen};
 
-use crate::explained::tell_explained;
+use crate::explained::{tell_explained, tell_loops_explained};
 use crate::outcome::Outcome;
 use crate::status;
 use crate::storms::tell_storm;
@@ -298,7 +298,9 @@ fn tell_acceptance(
         Purpose::Judge => tell_accepted(alloc, net, blocks, loose_told(observe, loose)),
         Purpose::Rewrite => tell_rewritten(alloc, net, blocks, cut, sweeps),
         Purpose::Aiger => tell_graphed(alloc, net, blocks, cut, sweeps),
-        Purpose::Explain => tell_accepted(alloc, net, blocks, loose_told(observe, loose)),
+        Purpose::Explain => {
+            tell_loops_explained(alloc, net, blocks, cut, sweeps, loose_told(observe, loose))
+        }
         Purpose::Demonstrate(cells) => {
             let rewritten = count_rewritten(alloc, net, blocks, cut, sweeps)?;
             tell_ring(alloc, cells, net, blocks, rewritten)

@@ -1,9 +1,10 @@
 // The texts of a call's outcomes.
-ghost use Rattle.std.specs.Prelude.{◌≡◌, IfOk, length};
+ghost use Rattle.std.specs.Prelude.{◌≡◌, ◌++◌, IfOk, OnOk, length};
+ghost use Rattle.cyc_io.specs.Text.{text_bytes};
 ghost use Rattle.contents.specs.Seen.{fault_seen};
 ghost use Rattle.delay_core.specs.declared.plan.TickEnd.{TickEnd as TickEnded};
 ghost use Rattle.cyc_tool.specs.Answer.{told as done};
-ghost use Rattle.cyc_tool.specs.Plans.{Declines, Outgrows, Prints, Refuses, probed_told};
+ghost use Rattle.cyc_tool.specs.Plans.{Declines, Outgrows, Prints, Refuses, loops_shown, probed_told};
 ghost use Rattle.cyc_tool.specs.Plays.{delays_text};
 ghost use Rattle.cyc_tool.specs.Seen.{outcome_of};
 ghost use Rattle.cyc_tool.specs.Simulation.{sim_text};
@@ -15,7 +16,6 @@ ghost use Rattle.loops.specs.Blocks.{AreBlocksOf};
 ghost use Rattle.loops.specs.Cuts.{IsCutOf};
 ghost use Rattle.refusals.specs.Refusals.{IsRefusalOf};
 ghost use Rattle.report.specs.Help.{help_text, topic_text, version_text};
-ghost use Rattle.report.specs.LoopTexts.{loops_text};
 ghost use Rattle.report.specs.Verdicts.{refusal_text};
 ghost use Rattle.sched_text.specs.Vectors.{HaveWidth};
 
@@ -25,11 +25,12 @@ use crate::sim_lines::simulate;
 use crate::status;
 use aiger_write::write as write_aiger;
 use blif_write::write;
-use commands::Topic;
+use commands::{Form, Topic};
 use contents::Fault;
 use cyc_base::{Name, Trits};
-use cyc_io::TextSink;
+use cyc_io::{Failed, TextSink};
 use delay_core::TickEnd;
+use dot_text::put_loops_graph;
 use loops::{Blocks, Cut, find_blocks, find_cut};
 use netlist::Netlist;
 use probes::Kind;
@@ -206,45 +207,67 @@ pub(crate) fn tell_aiger(alloc: Global, net: &Netlist, graph: &Built) -> Result<
     }
 }
 
-// The lines of the loops of a netlist, by its blocks and cut wires.
-fn cut_loop_lines(
+// The loops of a netlist by its blocks and its cut wires, in this form.
+fn put_shown(
+    net: &Netlist,
+    blocks: &Blocks,
+    cut: &Cut,
+    form: Form,
+    sink: &mut TextSink,
+) -> Result<(), Failed>
+    requires blocks { AreBlocksOf net.now blocks.now }
+    requires cut { IsCutOf net.now cut.now }
+    ensures { OnOk result (text_bytes sink.new ≡ text_bytes sink.old ++ loops_shown form net.now) }
+{
+    match form {
+        Form::Lines => put_loops(net, blocks, cut, sink),
+        Form::Dot => put_loops_graph(net, blocks, cut, sink),
+    }
+}
+
+fn cut_loops_shown(
     alloc: Global,
     net: &Netlist,
     blocks: &Blocks,
     cut: &Cut,
+    form: Form,
 ) -> Result<Vec<u8>, AllocError>
     requires blocks { AreBlocksOf net.now blocks.now }
     requires cut { IsCutOf net.now cut.now }
-    ensures { IfOk result (λ text. text.items ≡ loops_text net.now) }
+    ensures { IfOk result (λ text. text.items ≡ loops_shown form net.now) }
 {
     let mut sink = TextSink::new(alloc);
-    match put_loops(net, blocks, cut, &mut sink) {
+    match put_shown(net, blocks, cut, form, &mut sink) {
         Ok(()) => Ok(sink.into_vec()),
         Err(_) => Err(AllocError),
     }
 }
 
 // The same by its blocks alone.
-fn block_loop_lines(alloc: Global, net: &Netlist, blocks: &Blocks) -> Result<Vec<u8>, AllocError>
+fn block_loops_shown(
+    alloc: Global,
+    net: &Netlist,
+    blocks: &Blocks,
+    form: Form,
+) -> Result<Vec<u8>, AllocError>
     requires { AreBlocksOf net.now blocks.now }
-    ensures { IfOk result (λ text. text.items ≡ loops_text net.now) }
+    ensures { IfOk result (λ text. text.items ≡ loops_shown form net.now) }
 {
     let cut = find_cut(alloc, net, blocks)?;
-    cut_loop_lines(alloc, net, blocks, &cut)
+    cut_loops_shown(alloc, net, blocks, &cut, form)
 }
 
-// The lines of the loops of a netlist.
-fn loop_lines(alloc: Global, net: &Netlist) -> Result<Vec<u8>, AllocError>
-    ensures { IfOk result (λ text. text.items ≡ loops_text net.now) }
+fn loops_shown_in(alloc: Global, net: &Netlist, form: Form) -> Result<Vec<u8>, AllocError>
+    ensures { IfOk result (λ text. text.items ≡ loops_shown form net.now) }
 {
     let blocks = find_blocks(alloc, net)?;
-    block_loop_lines(alloc, net, &blocks)
+    block_loops_shown(alloc, net, &blocks, form)
 }
 
-pub(crate) fn tell_loops(alloc: Global, net: &Netlist) -> Result<Outcome, AllocError>
-    ensures { IfOk result (λ told. outcome_of told ≡ done (Prints (loops_text net.now))) }
+pub(crate) fn tell_loops(alloc: Global, net: &Netlist, form: Form) -> Result<Outcome, AllocError>
+    ensures { IfOk result (λ told. outcome_of told ≡ done (Prints (loops_shown form net.now))) }
 {
-    Ok(on_out(alloc, status::DONE, loop_lines(alloc, net)?))
+    Ok(on_out(alloc, status::DONE, loops_shown_in(alloc, net, form)?))
 }
 
 pub(crate) fn tell_sim(

@@ -29,7 +29,7 @@ use crate::texts::{
 };
 use bdd_ops::Diagrams;
 use care_sets::Care;
-use commands::{Command, Options, STANDARD_INPUT, command_of_words};
+use commands::{Command, Form, Options, STANDARD_INPUT, command_of_words};
 use cyc_base::{Bits, DEFAULT_NODES, Name, Trits};
 use cyc_io::{Shelf, Sink, write_whole};
 use delay_core::Schedule;
@@ -105,12 +105,17 @@ fn flat<S: Shelf>(alloc: Global, shelf: &mut S, netlist: &Name) -> Result<Outcom
 }
 
 // Prints the loops of a file's netlist.
-fn loops<S: Shelf>(alloc: Global, shelf: &mut S, netlist: &Name) -> Result<Outcome, Stop>
-    ensures comes { FollowsAlone (finding_loops netlist.now) (shelf_call S.files S.faults shelf.old shelf.new) (end_of result) }
+fn loops<S: Shelf>(
+    alloc: Global,
+    shelf: &mut S,
+    netlist: &Name,
+    form: Form,
+) -> Result<Outcome, Stop>
+    ensures comes { FollowsAlone (finding_loops form netlist.now) (shelf_call S.files S.faults shelf.old shelf.new) (end_of result) }
     ensures same { S.files shelf.new ≡ S.files shelf.old }
 {
     let net = read_netlist(alloc, shelf, netlist)?;
-    or_stop(tell_loops(alloc, &net))
+    or_stop(tell_loops(alloc, &net, form))
 }
 
 // Simulates a netlist on the vectors of a file.
@@ -313,7 +318,7 @@ fn carry_out<S: Shelf>(
             decide_file(alloc, shelf, netlist, options, Purpose::Explain, d)
         }
         Command::Flat(netlist) => flat(alloc, shelf, netlist),
-        Command::Loops(netlist) => loops(alloc, shelf, netlist),
+        Command::Loops(netlist, form) => loops(alloc, shelf, netlist, form),
         Command::Sim(netlist, vectors) => sim(alloc, shelf, netlist, vectors),
         Command::Delays(netlist, vectors, recorded, probe) => {
             delays(alloc, shelf, netlist, vectors, recorded, probes, probe)

@@ -21,15 +21,19 @@ abbrev pub loop_lines : Parts → ℕ → ℕ → List ℕ
 loop_lines net number first =
     loop_line net number (codes " gates") (loop_of net first) ++ loop_line net number (codes " cut") (cut_wires_of net first)
 
--- those of the loop that begins at this gate, where one does
-abbrev pub loop_at : Parts → ℕ → ℕ → List ℕ
-loop_at net number gate = if begins_with (loop_of net gate) gate then loop_lines net number gate else []
+-- the text of the loop that begins at this gate, where one does, by its number and its first gate
+abbrev pub loop_at : (ℕ → ℕ → List ℕ) → Parts → ℕ → ℕ → List ℕ
+loop_at text net number gate = if begins_with (loop_of net gate) gate then text number gate else []
 
--- the lines of loops by their first gates, which are numbered from here on
-abbrev pub numbered_loops : Parts → ℕ → List ℕ → List ℕ
-numbered_loops net number [] = []
-numbered_loops net number (first ∷ rest) = loop_lines net number first ++ numbered_loops net (number + 1) rest
+-- the texts of loops by their first gates, which are numbered from here on
+abbrev pub numbered_loops : (ℕ → ℕ → List ℕ) → ℕ → List ℕ → List ℕ
+numbered_loops text number [] = []
+numbered_loops text number (first ∷ rest) = text number first ++ numbered_loops text (number + 1) rest
+
+-- the texts of all loops, in the order of their first gates
+abbrev pub each_loop : (ℕ → ℕ → List ℕ) → Parts → List ℕ
+each_loop text net = numbered_loops text 1 (first_gates net)
 
 -- how many loops there are, and each one
 abbrev pub loops_text : Parts → List ℕ
-loops_text net = (codes "loops=" ++ decimal (length (first_gates net))) ++ (codes "\n" ++ numbered_loops net 1 (first_gates net))
+loops_text net = (codes "loops=" ++ decimal (length (first_gates net))) ++ (codes "\n" ++ each_loop (loop_lines net) net)

@@ -85,7 +85,7 @@ fn words(topic: Topic) -> &'static [u8]
         Topic::Aiger => b"aiger FILE [--care CARE] [--nodes N] [--observe all|outputs]",
         Topic::Explain => b"explain FILE [--care CARE] [--nodes N] [--observe all|outputs]",
         Topic::Flat => b"flat FILE",
-        Topic::Loops => b"loops FILE",
+        Topic::Loops => b"loops FILE [--dot]",
         Topic::Sim => b"sim FILE VECTORS",
         Topic::Delays => b"delays FILE VECTORS SCHEDULE [--probe trace|glitches|last|vcd]",
         Topic::Demo => b"demo CELLS",
@@ -105,9 +105,10 @@ fn purpose(topic: Topic) -> &'static [u8]
         Topic::Aiger =>
             b"writes an accepted netlist as an and-inverter graph without loops, in AIGER's ASCII form",
         Topic::Explain =>
-            b"does as check, and shows which cycle of gates leaves a refused wire unknown, and which values",
+            b"does as check, and shows what leaves a refused wire unknown, or what each accepted loop needs",
         Topic::Flat => b"writes the netlist without its hierarchy",
-        Topic::Loops => b"prints the loops and the wires that cut them open",
+        Topic::Loops =>
+            b"prints the loops and the wires that cut them open, with --dot as a graph for Graphviz",
         Topic::Sim => b"simulates the netlist with 0, 1 and x, tick by tick",
         Topic::Delays =>
             b"plays a recorded schedule of gate updates, and says whether each tick settles",

@@ -17,10 +17,10 @@ mod verdict;
 pub use explain_text::put_explained;
 pub use fault::{Tail, put_fault};
 pub use help::{put_help, put_topic, put_version};
-pub use loop_text::put_loops;
+pub use loop_text::{put_loop, put_loops};
 pub use message::{
     NO_MEMORY_TEXT, USAGE_TEXT, put_limit, put_no_memory, put_read_failed, put_too_large, put_usage,
 };
-pub use put::{put_three, put_two};
+pub use put::{put_number, put_three, put_two};
 pub use tick::{put_played_tick, put_tick};
 pub use verdict::{put_accepted, put_refusal, put_ring, put_vector};

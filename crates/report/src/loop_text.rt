@@ -3,8 +3,8 @@ ghost use Rattle.std.specs.Prelude.{◌≡◌, ◌<◌, ◌+◌, All, IfOk, leng
 ghost use Rattle.cyc_io.specs.Taken.{IsAppended, sink_call};
 ghost use Rattle.loops.specs.Blocks.{AreBlocksOf};
 ghost use Rattle.loops.specs.Cuts.{IsCutOf, is_cut};
-ghost use Rattle.loops.specs.Listed.{loop_of, begins_with, first_gates};
-ghost use Rattle.report.specs.LoopTexts.{gate_name, names_text, loop_line, loop_at, numbered_loops, loops_text};
+ghost use Rattle.loops.specs.Listed.{loop_of, begins_with};
+ghost use Rattle.report.specs.LoopTexts.{gate_name, names_text, loop_line, loop_lines, loop_at, each_loop, loops_text};
 
 use crate::put::{put_number, put_two};
 use cyc_io::{Failed, Sink, write_whole};
@@ -95,8 +95,8 @@ fn put_cut_line<K: Sink>(
     write_whole(sink, b"\n")
 }
 
-// The two lines of a loop with these gates.
-fn put_loop<K: Sink>(
+/// Appends the two lines of a loop: its gates, and those of them that are cut wires. It takes no memory.
+pub fn put_loop<K: Sink>(
     sink: &mut K,
     net: &Netlist,
     cut: &[bool],
@@ -127,7 +127,7 @@ fn put_loop_at<K: Sink>(
     requires gate { gate < length net.now.gates }
     requires loops { loops < 4294967295 }
     ensures count { IfOk result (λ count. count ≡ loops + cond (begins_with (loop_of net.now gate) gate) 1 0) }
-    ensures text { IsAppended (loop_at net.now (loops + 1) gate) (sink_call K.put K.faults sink.old sink.new) result }
+    ensures text { IsAppended (loop_at (loop_lines net.now) net.now (loops + 1) gate) (sink_call K.put K.faults sink.old sink.new) result }
 {
     match loop_from(net, blocks, gate) {
         Some(block) => {
@@ -147,7 +147,7 @@ fn put_each_loop<K: Sink>(
 ) -> Result<(), Failed>
     requires blocks { AreBlocksOf net.now blocks.now }
     requires cut { IsCutOf net.now cut.now }
-    ensures { IsAppended (numbered_loops net.now 1 (first_gates net.now)) (sink_call K.put K.faults sink.old sink.new) result }
+    ensures { IsAppended (each_loop (loop_lines net.now) net.now) (sink_call K.put K.faults sink.old sink.new) result }
 {
     let mut loops = 0;
     for gate in 0..net.gates() {

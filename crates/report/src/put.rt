@@ -26,7 +26,7 @@ pub fn put_three<K: Sink>(
 }
 
 // A number behind these words.
-pub(crate) fn put_number<K: Sink>(sink: &mut K, words: &[u8], number: u64) -> Result<(), Failed>
+pub fn put_number<K: Sink>(sink: &mut K, words: &[u8], number: u64) -> Result<(), Failed>
     ensures { IsAppended (words.now ++ decimal number) (sink_call K.put K.faults sink.old sink.new) result }
 {
     put_two(sink, words, Buffer::new().format(number).as_bytes())

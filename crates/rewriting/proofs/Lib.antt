@@ -1,5 +1,5 @@
 mod AgreeLemmas
 mod NeededLemmas
 mod CoverLemmas
-mod RewrittenLemmas
+pub mod RewrittenLemmas
 mod GraphLemmas

@@ -98,7 +98,7 @@ module _ (net : Parts) (blocks : Blocks) (cut : Cut) (care : CareSet) (counts : 
       let high = second.least a first.enough in
       omega arith
 
-  counts_are_needed : (n : ℕ) → (loops_of net).same n n ≡ true → sweeps_of blocks counts n ≡ sweeps_needed net care n
+  pub counts_are_needed : (n : ℕ) → (loops_of net).same n n ≡ true → sweeps_of blocks counts n ≡ sweeps_needed net care n
   counts_are_needed n looped =
       let told = told_parts net blocks are n n (subst (λ (l : Loops). l.same n n ≡ true) (sym loops) looped) in
       one_least (loops_of net) (are_care_values net care) n (sweeps_of blocks counts n) (sweeps_needed net care n)

@@ -1,7 +1,7 @@
 use Rattle.std.proofs.lemmas.Result.{IfOk-weaker}
 use Rattle.commands.specs.Seen.{cells_seen}
 use Rattle.cyc_tool.specs.Seen.{outcome_of}
-use Rattle.cyc_tool.proofs.DecisionLemmas.{calmed, demonstrated, judged, told_accepted}
+use Rattle.cyc_tool.proofs.DecisionLemmas.{calmed, demonstrated, judged, loops_told}
 use Rattle.cyc_tool.proofs.decision.tell_acceptance.Goals as goal
 
 pub returns-in-Judge : goal.returns-in-Judge
@@ -24,9 +24,10 @@ returns-in-Aiger c =
 
 pub returns-in-Explain : goal.returns-in-Explain
 returns-in-Explain c =
-    IfOk-weaker c.tell_accepted-in-Explain.result _ _ (λ told is care acceptance limit.
-    rw c.in-Explain.is (told_accepted c.args.net.now care limit c.args.observe c.args.loose _ (outcome_of told) is c.loose_told-in-Explain.ensures acceptance.loose_is))
-    c.tell_accepted-in-Explain.ensures
+    IfOk-weaker c.tell_loops_explained.result _ _ (λ told is care acceptance limit.
+    rw c.in-Explain.is
+    (loops_told c.args.net.now care limit c.args.observe c.args.loose _ (outcome_of told) (is care acceptance.sweeps) c.loose_told-in-Explain.ensures acceptance.loose_is))
+    c.tell_loops_explained.ensures
 
 pub returns-in_ok-rewritten-in-Demonstrate : goal.returns-in_ok-rewritten-in-Demonstrate
 returns-in_ok-rewritten-in-Demonstrate c =

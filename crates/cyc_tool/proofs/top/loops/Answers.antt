@@ -1,8 +1,7 @@
 use Rattle.std.proofs.Common.{◌≡◌}
 use Rattle.std.proofs.lemmas.Result.{err_from_is_err_and}
-use Rattle.report.specs.LoopTexts.{loops_text}
 use Rattle.cyc_tool.specs.Answer.{told}
-use Rattle.cyc_tool.specs.Plans.{Ends, Prints, with_netlist}
+use Rattle.cyc_tool.specs.Plans.{Ends, Prints, loops_shown, with_netlist}
 use Rattle.cyc_tool.specs.Seen.{end_of, stop_outcome}
 use Rattle.cyc_tool.proofs.PlanLemmas.{ends_or_lacks, goes_on_still, still_ends, stops_alone}
 use Rattle.cyc_tool.proofs.top.loops.Goals as goal
@@ -10,11 +9,11 @@ use Rattle.cyc_tool.proofs.top.loops.Goals as goal
 pub returns-in_err-net-clause-comes : goal.returns-in_err-net-clause-comes
 returns-in_err-net-clause-comes g c =
     let q = err_from_is_err_and c.from_residual.result c.from_residual.ensures.1 in
-    rw (q.1, q.2) (stops_alone (with_netlist c.args.netlist.now) (λ net. Ends (Prints (loops_text net))) _ _ _ (stop_outcome c.in_err-net.field-0.0) c.in_err-net.ensures.bad)
+    rw (q.1, q.2) (stops_alone (with_netlist c.args.netlist.now) (λ net. Ends (Prints (loops_shown c.args.form net))) _ _ _ (stop_outcome c.in_err-net.field-0.0) c.in_err-net.ensures.bad)
 
 pub returns-clause-comes : goal.returns-clause-comes
 returns-clause-comes g c =
-    let ending = Prints (loops_text c.in_ok-net.net) in
-    goes_on_still (with_netlist c.args.netlist.now) c.in_ok-net.net (λ net. Ends (Prints (loops_text net))) _ _ _ _ (end_of c.or_stop.result)
+    let ending = Prints (loops_shown c.args.form c.in_ok-net.net) in
+    goes_on_still (with_netlist c.args.netlist.now) c.in_ok-net.net (λ net. Ends (Prints (loops_shown c.args.form net))) _ _ _ _ (end_of c.or_stop.result)
     c.read_netlist.ensures.same c.in_ok-net.ensures.good
     (still_ends ending _ (ends_or_lacks c.tell_loops.result (λ end. end ≡ told ending) _ c.or_stop.ensures c.tell_loops.ensures))

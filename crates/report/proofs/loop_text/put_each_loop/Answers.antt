@@ -2,6 +2,7 @@ use Rattle.std.proofs.Common.{◌+◌, ◌≤◌, cond, refl, sym, ap, ◌∙◌
 use Rattle.cyc_io.proofs.TakenLemmas.{appended_none}
 use Rattle.loops.specs.Listed.{loop_of, begins_with}
 use Rattle.loops.proofs.ListedLemmas.{at_most_one, counted_more}
+use Rattle.report.specs.LoopTexts.{loop_lines}
 use Rattle.report.proofs.LoopTextLemmas.{loops_more, loops_cut}
 use Rattle.report.proofs.loop_text.put_each_loop.Goals as goal
 
@@ -20,10 +21,10 @@ loop-gate-preserved g c =
           ∙ ap (λ k. k + begun) c.loop-gate.invariant.counted
           ∙ sym (counted_more (λ n. begins_with (loop_of c.args.net.now n) n) c.loop-gate.gate);
       few = omega (arith, count, one, few);
-      text = loops_more c.args.net.now c.loop-gate.gate c.loop-gate.loops _ _ _ _ _ _ _ c.loop-gate.invariant.counted _ c.loop-gate.invariant.text c.in_ok-loops.ensures.text;
+      text = loops_more (loop_lines c.args.net.now) c.args.net.now c.loop-gate.gate c.loop-gate.loops _ _ _ _ _ _ _ c.loop-gate.invariant.counted _ c.loop-gate.invariant.text c.in_ok-loops.ensures.text;
     }
 
 pub returns-in_err-loops : goal.returns-in_err-loops
 returns-in_err-loops g c =
-    loops_cut c.args.net.now c.loop-gate.gate c.loop-gate.loops 0 _ _ _ _ _ _ c.loop-gate.invariant.counted _ _ _ (omega arith)
+    loops_cut (loop_lines c.args.net.now) c.args.net.now c.loop-gate.gate c.loop-gate.loops 0 _ _ _ _ _ _ c.loop-gate.invariant.counted _ _ _ (omega arith)
     c.loop-gate.invariant.text c.in_err-loops.ensures.text c.from_residual.ensures.0

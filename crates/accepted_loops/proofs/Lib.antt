@@ -1,0 +1,3 @@
+mod ReachLemmas
+mod ReadLemmas
+mod LineLemmas

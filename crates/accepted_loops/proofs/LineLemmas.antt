@@ -1,0 +1,86 @@
+-- The lines of loops, one after another.
+use Rattle.std.proofs.Common.{◌≡◌, ◌<◌, inl, inr, ℕ, zero, suc, ◌+◌, Bool, true, false, cond, List, [], ◌∷◌, ◌++◌, length, filter, refl, sym, ap, ap₂, ◌∙◌, arith, append_assoc, true≢false}
+use Rattle.std.proofs.lemmas.Bool.{eqb-true}
+use Rattle.std.specs.Prelude.{if◌then◌else◌, codes}
+use Rattle.std.specs.List.{range_with_len}
+use Rattle.netlist.specs.declared.parts.Parts.{Parts}
+use Rattle.loops.specs.declared.structure.Blocks.{Blocks}
+use Rattle.loops.specs.declared.structure.Cut.{Cut}
+use Rattle.loops.specs.declared.structure.SweepCounts.{SweepCounts}
+use Rattle.loops.specs.Blocks.{AreBlocksOf}
+use Rattle.loops.specs.Cuts.{IsCutOf, is_cut}
+use Rattle.loops.specs.Found.{loops_of}
+use Rattle.loops.specs.Listed.{gate_numbers, loop_of, begins_with}
+use Rattle.loops.specs.Sweeps.{first_gate}
+use Rattle.loops.proofs.ListedLemmas.{cut_wires_told}
+use Rattle.care_sets.specs.Care.{CareSet}
+use Rattle.isolation.specs.Cones.{is_marked}
+use Rattle.report.specs.LoopTexts.{loop_line, loop_lines, loop_at, numbered_loops, each_loop}
+use Rattle.report.proofs.LoopTextLemmas.{begun_before, texts_before, texts_more}
+use Rattle.rewriting.specs.Rewriting.{sweeps_needed}
+use Rattle.rewriting.proofs.RewrittenLemmas.{counts_are_needed}
+use Rattle.unroll.specs.Unrolled.{sweeps_of}
+use Rattle.verdict.specs.Verdicts.{AreSweepsOnCare}
+use Rattle.accepted_loops.specs.Columns.{columns_read, is_read, marked_columns, AreColumnsRead}
+use Rattle.accepted_loops.specs.Lines.{sweeps_line, columns_line, told_lines, told_loops}
+
+-- numbers of a range that are kept by two tests which agree on it
+kept_alike : (p q : ℕ → Bool) (a n bound : ℕ) → a + n ≡ bound → ((k : ℕ) → k < bound → p k ≡ q k) → filter p (range_with_len a n) ≡ filter q (range_with_len a n)
+kept_alike p q a zero bound is agree = refl
+kept_alike p q a (suc n) bound is agree =
+    ap₂ (λ (t : Bool) (ns : List ℕ). cond t (a ∷ ns) ns) (agree a (omega (arith, is))) (kept_alike p q (a + 1) n bound (omega (arith, is)) agree)
+
+marked_are_read : (net : Parts) (gate : ℕ) (read : List Bool) → AreColumnsRead net gate read → marked_columns net read ≡ columns_read net gate
+marked_are_read net gate read are = kept_alike (is_marked read) (is_read net gate) 0 (first_gate net) (first_gate net) (omega arith) are.each
+
+-- the lines of a loop with these gates, as they are put
+pub lines_are : (net : Parts) (cut : Cut) (sweeps : ℕ → ℕ) (number gate count : ℕ) (gates : List ℕ) (read : List Bool) → IsCutOf net cut
+    → gates ≡ loop_of net gate → count ≡ sweeps gate → AreColumnsRead net gate read
+    → (loop_line net number (codes " gates") gates ++ loop_line net number (codes " cut") (filter (is_cut cut.wires) gates))
+    ++ (sweeps_line number count ++ columns_line net number (marked_columns net read)) ≡ told_lines net sweeps number gate
+lines_are net cut sweeps number gate count gates read is loop counted are =
+    ap₂ (λ (front back : List ℕ). front ++ back)
+    (ap (λ (gs : List ℕ). loop_line net number (codes " gates") gs ++ loop_line net number (codes " cut") (filter (is_cut cut.wires) gs)) loop
+    ∙ ap (λ (wires : List ℕ). loop_line net number (codes " gates") (loop_of net gate) ++ loop_line net number (codes " cut") wires)
+    (sym (cut_wires_told net cut gate (loop_of net gate) is refl)))
+    (ap₂ (λ (m : ℕ) (columns : List ℕ). sweeps_line number m ++ columns_line net number columns) counted (marked_are_read net gate read are))
+
+-- one more gate
+pub told_more : (text : ℕ → ℕ → List ℕ) (net : Parts) (gate loops : ℕ) (old mid new : List ℕ) → loops ≡ length (begun_before net gate)
+    → mid ≡ old ++ texts_before text net gate → new ≡ mid ++ loop_at text net (loops + 1) gate → new ≡ old ++ texts_before text net (gate + 1)
+told_more text net gate loops old mid new counted before after =
+    after
+    ∙ ap (λ (told : List ℕ). told ++ loop_at text net (loops + 1) gate) before
+    ∙ append_assoc old (texts_before text net gate) (loop_at text net (loops + 1) gate)
+    ∙ ap (λ (told : List ℕ). old ++ told) (sym (texts_more text net gate loops counted))
+
+-- ---- the sweeps that are needed
+
+-- what a kept number begins with passes the test
+begun-passes : (p : ℕ → Bool) (ns : List ℕ) (n : ℕ) → begins_with (filter p ns) n ≡ true → p n ≡ true
+begun-passes p [] n begun = absurd (true≢false (sym begun))
+begun-passes p (m ∷ ns) n begun = by (p m) refl begun (begun-passes p ns n)
+  where
+    by : (t : Bool) → p m ≡ t → begins_with (cond t (m ∷ filter p ns) (filter p ns)) n ≡ true → (begins_with (filter p ns) n ≡ true → p n ≡ true) → p n ≡ true
+    by true passes begun rest = ap p (sym (eqb-true m n begun)) ∙ passes
+    by false fails begun rest = rest begun
+
+-- texts that agree on the loops that are told
+numbered-alike : (one two : ℕ → ℕ → List ℕ) (test : ℕ → Bool) → ((k n : ℕ) → test n ≡ true → one k n ≡ two k n) → (ns : List ℕ) (k : ℕ)
+    → numbered_loops one k (filter test ns) ≡ numbered_loops two k (filter test ns)
+numbered-alike one two test agree [] k = refl
+numbered-alike one two test agree (n ∷ ns) k = by (test n) refl (numbered-alike one two test agree ns)
+  where
+    by : (t : Bool) → test n ≡ t → ((j : ℕ) → numbered_loops one j (filter test ns) ≡ numbered_loops two j (filter test ns))
+        → numbered_loops one k (cond t (n ∷ filter test ns) (filter test ns)) ≡ numbered_loops two k (cond t (n ∷ filter test ns) (filter test ns))
+    by true passes rest = ap₂ (λ (text others : List ℕ). text ++ others) (agree k n passes) (rest (k + 1))
+    by false fails rest = rest k
+
+pub told_on_care : (net : Parts) (blocks : Blocks) (cut : Cut) (care : CareSet) (counts : SweepCounts) → AreBlocksOf net blocks → IsCutOf net cut
+    → AreSweepsOnCare net blocks cut care counts → told_loops net (sweeps_of blocks counts) ≡ told_loops net (sweeps_needed net care)
+told_on_care net blocks cut care counts are is on_care =
+    numbered-alike (told_lines net (sweeps_of blocks counts)) (told_lines net (sweeps_needed net care)) (λ n. begins_with (loop_of net n) n)
+    (λ k n begun.
+    ap (λ (m : ℕ). loop_lines net k n ++ (sweeps_line k m ++ columns_line net k (columns_read net n)))
+    (counts_are_needed net blocks cut care counts are is on_care n (begun-passes ((loops_of net).same n) (gate_numbers net) n begun)))
+    (gate_numbers net) 1

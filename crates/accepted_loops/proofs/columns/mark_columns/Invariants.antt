@@ -1,0 +1,7 @@
+use Rattle.std.proofs.Common.{take, length}
+use Rattle.isolation.specs.Cones.{AddMarks}
+use Rattle.accepted_loops.specs.Columns.{IsAmong}
+use Rattle.accepted_loops.proofs.columns.mark_columns.Given as goal
+
+abbrev pub invariant-loop-signal : goal.invariant-loop-signal
+invariant-loop-signal l = AddMarks (IsAmong (length l.fn.read) (take l.signal-index l.signals)) l.fn.read l.read

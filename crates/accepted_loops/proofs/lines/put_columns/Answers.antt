@@ -1,0 +1,50 @@
+use Rattle.std.proofs.Common.{◌≡◌, ℕ, ◌<◌, [], List, length, get_or, sym, ◌∙◌, arith}
+use Rattle.std.specs.Prelude.{if◌then◌else◌}
+use Rattle.std.specs.List.{range_with_len}
+use Rattle.std.proofs.lemmas.List.FromFn.{length-range_with_len, get_or-range_with_len}
+use Rattle.netlist.specs.declared.parts.Parts.{Parts}
+use Rattle.loops.specs.Sweeps.{first_gate}
+use Rattle.isolation.specs.Cones.{is_marked}
+use Rattle.cyc_io.proofs.TakenLemmas.{appended_none, appended_equal}
+use Rattle.cyc_io.proofs.ItemLemmas.{appended_item, appended_in_item, appended_items}
+use Rattle.report.proofs.LoopTextLemmas.{kept_texts}
+use Rattle.accepted_loops.specs.Lines.{column_name}
+use Rattle.accepted_loops.proofs.lines.put_columns.Goals as goal
+
+-- the numbers in order
+at_range : (n i : ℕ) → i < n → i ≡ get_or (range_with_len 0 n) i i
+at_range n i l = sym (get_or-range_with_len 0 n i i l ∙ omega arith)
+
+pub loop-column-init : goal.loop-column-init
+loop-column-init g c = appended_none _ _ _
+
+pub loop-column-preserved : goal.loop-column-preserved
+loop-column-preserved g c =
+    let n = first_gate c.args.net.now in
+    let inputs = c.inputs.ensures.inputs in
+    let latches = c.latches.ensures.latches in
+    let test = c.loop-column-test.true in
+    let inside : c.loop-column.column < n = omega (arith, inputs, latches, test) in
+    appended_item (λ (column : ℕ). if is_marked c.args.read.now column then column_name c.args.net.now column else []) (range_with_len 0 n) c.loop-column.column c.loop-column.column _ _ _ _ _ _ _ _
+    (omega (arith, inside, length-range_with_len 0 n)) (at_range n c.loop-column.column inside) c.loop-column.invariant c.in_ok-put_column.ensures
+
+pub returns-in_err-put_column : goal.returns-in_err-put_column
+returns-in_err-put_column g c =
+    let n = first_gate c.args.net.now in
+    let inputs = c.inputs.ensures.inputs in
+    let latches = c.latches.ensures.latches in
+    let test = c.loop-column-test.true in
+    let inside : c.loop-column.column < n = omega (arith, inputs, latches, test) in
+    appended_equal _ _ _ _ (kept_texts (is_marked c.args.read.now) (column_name c.args.net.now) (range_with_len 0 n))
+    (appended_in_item (λ (column : ℕ). if is_marked c.args.read.now column then column_name c.args.net.now column else []) (range_with_len 0 n) c.loop-column.column c.loop-column.column _ _ _ _ _ _ _ _ _
+    (omega (arith, inside, length-range_with_len 0 n)) (at_range n c.loop-column.column inside) c.loop-column.invariant c.in_err-put_column.ensures c.from_residual.ensures.0)
+
+pub returns : goal.returns
+returns g c =
+    let n = first_gate c.args.net.now in
+    let inputs = c.inputs.ensures.inputs in
+    let latches = c.latches.ensures.latches in
+    let test = c.loop-column-test.false in
+    appended_equal _ _ _ _ (kept_texts (is_marked c.args.read.now) (column_name c.args.net.now) (range_with_len 0 n))
+    (appended_items (λ (column : ℕ). if is_marked c.args.read.now column then column_name c.args.net.now column else []) (range_with_len 0 n) c.loop-column.column _ _
+    (omega (arith, inputs, latches, test, length-range_with_len 0 n)) c.loop-column.invariant)

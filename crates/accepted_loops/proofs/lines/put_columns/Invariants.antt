@@ -1,0 +1,13 @@
+use Rattle.std.proofs.Common.{take, []}
+use Rattle.std.specs.Prelude.{if◌then◌else◌}
+use Rattle.std.specs.List.{flat_map, range_with_len}
+use Rattle.cyc_io.specs.Taken.{IsAppendedWhole, sink_call}
+use Rattle.isolation.specs.Cones.{is_marked}
+use Rattle.loops.specs.Sweeps.{first_gate}
+use Rattle.accepted_loops.specs.Lines.{column_name}
+use Rattle.accepted_loops.proofs.lines.put_columns.Given as goal
+
+abbrev pub invariant-loop-column : goal.invariant-loop-column
+invariant-loop-column g l =
+    IsAppendedWhole (flat_map (λ column. if is_marked l.read column then column_name l.net column else []) (take l.column (range_with_len 0 (first_gate l.net))))
+    (sink_call g.K.Sink.put g.K.Sink.faults l.fn.sink l.sink)

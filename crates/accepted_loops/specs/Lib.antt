@@ -1,0 +1,4 @@
+-- the columns that a gate speaks of
+pub mod Columns
+-- the lines of loops
+pub mod Lines

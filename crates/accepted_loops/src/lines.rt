@@ -1,0 +1,264 @@
+//! The lines of loops.
+
+ghost use Rattle.std.specs.Prelude.{◌≡◌, ◌<◌, ◌+◌, ◌++◌, ℕ, All, IfOk, OnOk, true, [], codes, cond, filter, if◌then◌else◌, length};
+ghost use Rattle.std.specs.List.{flat_map};
+ghost use Rattle.care_sets.specs.Care.{CareSet};
+ghost use Rattle.cyc_io.specs.Taken.{IsAppended, sink_call};
+ghost use Rattle.cyc_io.specs.Text.{text_bytes};
+ghost use Rattle.isolation.specs.Cones.{is_marked};
+ghost use Rattle.loops.specs.Blocks.{AreBlocksOf};
+ghost use Rattle.loops.specs.Cuts.{IsCutOf, is_cut};
+ghost use Rattle.loops.specs.Listed.{begins_with, loop_of};
+ghost use Rattle.loops.specs.Sweeps.{first_gate};
+ghost use Rattle.netlist.specs.Netlists.{signal};
+ghost use Rattle.report.specs.LoopTexts.{loop_at, loop_line};
+ghost use Rattle.report.specs.Verdicts.{signal_name};
+ghost use Rattle.rewriting.specs.Rewriting.{sweeps_needed};
+ghost use Rattle.unroll.specs.Unrolled.{sweeps_of};
+ghost use Rattle.verdict.specs.Verdicts.{AreSweepsOnCare};
+ghost use Rattle.accepted_loops.specs.Columns.{marked_columns, AreColumnsRead};
+ghost use Rattle.accepted_loops.specs.Lines.{column_name as column_text, columns_line, sweeps_line, told_lines, told_loops};
+
+use crate::columns::columns_read;
+use cyc_base::{Name, Sig};
+use cyc_io::{Failed, Sink, TextSink, write_whole};
+use loops::{Blocks, Cut, SweepCounts, loop_from};
+use netlist::Netlist;
+use report::{put_loop, put_number, put_two};
+use std::alloc::{AllocError, Global};
+
+fn column_name(net: &Netlist, column: u32) -> &Name
+    requires { column < first_gate net.now }
+    ensures { result.now ≡ signal_name net.now (signal column) }
+{
+    net.name_of(Sig(column))
+}
+
+fn put_name<K: Sink>(sink: &mut K, net: &Netlist, column: u32) -> Result<(), Failed>
+    requires { column < first_gate net.now }
+    ensures { IsAppended (column_text net.now column) (sink_call K.put K.faults sink.old sink.new) result }
+{
+    put_two(sink, b" ", column_name(net, column).bytes())
+}
+
+// The name of a column, where it is marked.
+#[tactic(auto, using(cyc_io::proofs::TakenLemmas::appended_none))]
+fn put_column<K: Sink>(
+    sink: &mut K,
+    net: &Netlist,
+    read: &[bool],
+    column: u32,
+) -> Result<(), Failed>
+    requires width { length read.now ≡ first_gate net.now }
+    requires column { column < first_gate net.now }
+    ensures { IsAppended (if is_marked read.now column then column_text net.now column else []) (sink_call K.put K.faults sink.old sink.new) result }
+{
+    if read[column as usize] {
+        put_name(sink, net, column)
+    } else {
+        Ok(())
+    }
+}
+
+// The names of the marked columns.
+fn put_columns<K: Sink>(sink: &mut K, net: &Netlist, read: &[bool]) -> Result<(), Failed>
+    requires { length read.now ≡ first_gate net.now }
+    ensures { IsAppended (flat_map (column_text net.now) (marked_columns net.now read.now)) (sink_call K.put K.faults sink.old sink.new) result }
+{
+    for column in 0..net.inputs() + net.latches() {
+        put_column(sink, net, read, column)?;
+    }
+    Ok(())
+}
+
+fn put_columns_line<K: Sink>(
+    sink: &mut K,
+    net: &Netlist,
+    number: u32,
+    read: &[bool],
+) -> Result<(), Failed>
+    requires { length read.now ≡ first_gate net.now }
+    ensures { IsAppended (columns_line net.now number (marked_columns net.now read.now)) (sink_call K.put K.faults sink.old sink.new) result }
+{
+    put_number(sink, b"loop ", number as u64)?;
+    write_whole(sink, b" columns")?;
+    put_columns(sink, net, read)?;
+    write_whole(sink, b"\n")
+}
+
+fn put_sweeps_line<K: Sink>(sink: &mut K, number: u32, sweeps: u32) -> Result<(), Failed>
+    ensures { IsAppended (sweeps_line number sweeps) (sink_call K.put K.faults sink.old sink.new) result }
+{
+    put_number(sink, b"loop ", number as u64)?;
+    put_number(sink, b" sweeps ", sweeps as u64)?;
+    write_whole(sink, b"\n")
+}
+
+// The lines of a loop with these gates, which needs so many sweeps and speaks of the marked columns.
+fn put_told<K: Sink>(
+    sink: &mut K,
+    net: &Netlist,
+    cut: &[bool],
+    number: u32,
+    gates: &[u32],
+    sweeps: u32,
+    read: &[bool],
+) -> Result<(), Failed>
+    requires gates { All (λ gate. gate < length net.now.gates) gates.now }
+    requires cut { length cut.now ≡ length net.now.gates }
+    requires read { length read.now ≡ first_gate net.now }
+    ensures { IsAppended ((loop_line net.now number (codes " gates") gates.now ++ loop_line net.now number (codes " cut") (filter (is_cut cut.now) gates.now))
+        ++ (sweeps_line number sweeps ++ columns_line net.now number (marked_columns net.now read.now))) (sink_call K.put K.faults sink.old sink.new) result }
+{
+    put_loop(sink, net, cut, number, gates)?;
+    put_sweeps_line(sink, number, sweeps)?;
+    put_columns_line(sink, net, number, read)
+}
+
+// How many sweeps the loop of a gate needs.
+fn sweeps_at(net: &Netlist, blocks: &Blocks, sweeps: &SweepCounts, gate: u32) -> u32
+    requires blocks { AreBlocksOf net.now blocks.now }
+    requires sweeps { length sweeps.now.per_block ≡ length blocks.now.list }
+    requires gate { gate < length net.now.gates }
+    ensures { result ≡ sweeps_of blocks.now sweeps.now gate }
+{
+    let home = blocks.home.items()[gate as usize];
+    sweeps.per_block.items()[home as usize]
+}
+
+// The lines of the loop that begins at this gate, which speaks of the marked columns.
+fn put_loop_told<K: Sink>(
+    sink: &mut K,
+    net: &Netlist,
+    blocks: &Blocks,
+    cut: &Cut,
+    sweeps: &SweepCounts,
+    gates: &[u32],
+    number: u32,
+    gate: u32,
+    read: &[bool],
+) -> Result<(), Failed>
+    requires blocks { AreBlocksOf net.now blocks.now }
+    requires cut { IsCutOf net.now cut.now }
+    requires sweeps { length sweeps.now.per_block ≡ length blocks.now.list }
+    requires gate { gate < length net.now.gates }
+    requires gates { gates.now ≡ loop_of net.now gate }
+    requires read { AreColumnsRead net.now gate read.now }
+    ensures { IsAppended (told_lines net.now (sweeps_of blocks.now sweeps.now) number gate) (sink_call K.put K.faults sink.old sink.new) result }
+{
+    let count = sweeps_at(net, blocks, sweeps, gate);
+    put_told(sink, net, cut.wires.items(), number, gates, count, read)
+}
+
+// The lines of the loop that begins at this gate.
+fn tell_loop(
+    alloc: Global,
+    net: &Netlist,
+    blocks: &Blocks,
+    cut: &Cut,
+    sweeps: &SweepCounts,
+    gates: &[u32],
+    number: u32,
+    gate: u32,
+    sink: &mut TextSink,
+) -> Result<(), AllocError>
+    requires blocks { AreBlocksOf net.now blocks.now }
+    requires cut { IsCutOf net.now cut.now }
+    requires sweeps { length sweeps.now.per_block ≡ length blocks.now.list }
+    requires gate { gate < length net.now.gates }
+    requires gates { gates.now ≡ loop_of net.now gate }
+    ensures { OnOk result (text_bytes sink.new ≡ text_bytes sink.old ++ told_lines net.now (sweeps_of blocks.now sweeps.now) number gate) }
+{
+    let read = columns_read(alloc, net, blocks, gate)?;
+    if put_loop_told(sink, net, blocks, cut, sweeps, gates, number, gate, &read).is_err() {
+        return Err(AllocError);
+    }
+    Ok(())
+}
+
+// The same, where one begins there, behind this number of loops; and how many there are then.
+fn tell_loop_at(
+    alloc: Global,
+    net: &Netlist,
+    blocks: &Blocks,
+    cut: &Cut,
+    sweeps: &SweepCounts,
+    loops: u32,
+    gate: u32,
+    sink: &mut TextSink,
+) -> Result<u32, AllocError>
+    requires blocks { AreBlocksOf net.now blocks.now }
+    requires cut { IsCutOf net.now cut.now }
+    requires sweeps { length sweeps.now.per_block ≡ length blocks.now.list }
+    requires gate { gate < length net.now.gates }
+    requires loops { loops < 4294967295 }
+    ensures count { IfOk result (λ count. count ≡ loops + cond (begins_with (loop_of net.now gate) gate) 1 0) }
+    ensures text { OnOk result (text_bytes sink.new ≡ text_bytes sink.old ++ loop_at (told_lines net.now (sweeps_of blocks.now sweeps.now)) net.now (loops + 1) gate) }
+{
+    match loop_from(net, blocks, gate) {
+        Some(block) => {
+            let gates = block.gates.items();
+            tell_loop(
+                alloc,
+                net,
+                blocks,
+                cut,
+                sweeps,
+                gates,
+                loops + 1,
+                gate,
+                sink,
+            )?;
+            Ok(loops + 1)
+        }
+        None => Ok(loops),
+    }
+}
+
+// The lines of all loops.
+fn tell_each_loop(
+    alloc: Global,
+    net: &Netlist,
+    blocks: &Blocks,
+    cut: &Cut,
+    sweeps: &SweepCounts,
+    sink: &mut TextSink,
+) -> Result<(), AllocError>
+    requires blocks { AreBlocksOf net.now blocks.now }
+    requires cut { IsCutOf net.now cut.now }
+    requires sweeps { length sweeps.now.per_block ≡ length blocks.now.list }
+    ensures { OnOk result (text_bytes sink.new ≡ text_bytes sink.old ++ told_loops net.now (sweeps_of blocks.now sweeps.now)) }
+{
+    let mut loops = 0;
+    for gate in 0..net.gates() {
+        loops = tell_loop_at(alloc, net, blocks, cut, sweeps, loops, gate, sink)?;
+    }
+    Ok(())
+}
+
+/// Appends the lines of all loops of a netlist, in the order of their first gates: for each those of `loops`, then how many
+/// sweeps it needs, then the columns that are read by a gate of it or by what drives it.
+///
+/// The condition is that the blocks and the cut are the netlist's, and that there is a number for each block. It takes
+/// time in proportion to the loops times the gates and pins.
+///
+/// # Errors
+///
+/// `AllocError` for want of memory alone.
+pub fn tell_loops(
+    alloc: Global,
+    net: &Netlist,
+    blocks: &Blocks,
+    cut: &Cut,
+    sweeps: &SweepCounts,
+    sink: &mut TextSink,
+) -> Result<(), AllocError>
+    requires blocks { AreBlocksOf net.now blocks.now }
+    requires cut { IsCutOf net.now cut.now }
+    requires sweeps { length sweeps.now.per_block ≡ length blocks.now.list }
+    ensures told { OnOk result (text_bytes sink.new ≡ text_bytes sink.old ++ told_loops net.now (sweeps_of blocks.now sweeps.now)) }
+    ensures on_care { OnOk result ((care : CareSet) → AreSweepsOnCare net.now blocks.now cut.now care sweeps.now →
+        text_bytes sink.new ≡ text_bytes sink.old ++ told_loops net.now (sweeps_needed net.now care)) }
+{
+    tell_each_loop(alloc, net, blocks, cut, sweeps, sink)
+}

@@ -1,0 +1,8 @@
+/// How loops are told.
+#[derive(Clone, Copy, Debug, PartialEq, Eq, Drop)]
+pub enum Form {
+    /// As lines.
+    Lines,
+    /// As a graph in the DOT language of Graphviz.
+    Dot,
+}

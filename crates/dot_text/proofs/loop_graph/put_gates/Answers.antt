@@ -1,0 +1,17 @@
+use Rattle.std.proofs.Common.{arith}
+use Rattle.dot_text.specs.LoopGraphs.{gate_node}
+use Rattle.cyc_io.proofs.TakenLemmas.{appended_none}
+use Rattle.cyc_io.proofs.ItemLemmas.{appended_copied, appended_in_copied, appended_items}
+use Rattle.dot_text.proofs.loop_graph.put_gates.Goals as goal
+
+pub loop-gate-init : goal.loop-gate-init
+loop-gate-init g c = appended_none _ _ _
+
+pub loop-gate-preserved : goal.loop-gate-preserved
+loop-gate-preserved g c = appended_copied (gate_node c.args.net.now) c.args.gates.now c.loop-gate.gate-index _ _ _ _ _ _ _ _ _ (omega arith) c.loop-gate.invariant c.in_ok-put_gate.ensures
+
+pub returns-in_err-put_gate : goal.returns-in_err-put_gate
+returns-in_err-put_gate g c = appended_in_copied (gate_node c.args.net.now) c.args.gates.now c.loop-gate.gate-index _ _ _ _ _ _ _ _ _ _ (omega arith) c.loop-gate.invariant c.in_err-put_gate.ensures c.from_residual.ensures.0
+
+pub returns : goal.returns
+returns g c = appended_items (gate_node c.args.net.now) c.args.gates.now c.loop-gate.gate-index _ _ (omega arith) c.loop-gate.invariant

@@ -1,0 +1,12 @@
+use Rattle.cyc_io.proofs.TakenLemmas.{appended_then, appended_cut}
+use Rattle.dot_text.proofs.GraphLemmas.{clusters_are}
+use Rattle.dot_text.proofs.loop_graph.put_loops_graph.Goals as goal
+
+pub returns-in_err-write_whole : goal.returns-in_err-write_whole
+returns-in_err-write_whole g c = rw (clusters_are c.args.net.now c.args.blocks.now c.args.cut.now c.requires.blocks c.requires.cut) (appended_cut _ _ _ _ _ c.in_err-write_whole.ensures c.from_residual.ensures.0)
+
+pub returns-in_err-put_clusters : goal.returns-in_err-put_clusters
+returns-in_err-put_clusters g c = rw (clusters_are c.args.net.now c.args.blocks.now c.args.cut.now c.requires.blocks c.requires.cut) (appended_then _ _ _ _ _ _ _ _ _ _ c.in_ok-write_whole.ensures (appended_cut _ _ _ _ _ c.in_err-put_clusters.ensures c.from_residual-in_err-put_clusters.ensures.0))
+
+pub returns : goal.returns
+returns g c = rw (clusters_are c.args.net.now c.args.blocks.now c.args.cut.now c.requires.blocks c.requires.cut) (appended_then _ _ _ _ _ _ _ _ _ _ c.in_ok-write_whole.ensures (appended_then _ _ _ _ _ _ _ _ _ _ c.in_ok-put_clusters.ensures c.write_whole-2.ensures))

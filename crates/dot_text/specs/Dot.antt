@@ -1,0 +1,25 @@
+-- Nodes and wires in the DOT language of Graphviz.
+use Rattle.std.specs.Prelude.{ℕ, List, [], ◌∷◌, ◌++◌, ◌==◌, codes, decimal, if◌then◌else◌}
+use Rattle.std.specs.List.{flat_map}
+
+-- A byte of a text between quotes, as `dot` shows it: a quote and a backslash stand behind a backslash, an ampersand would
+-- begin an entity, and a line ends at the left.
+abbrev pub quoted_byte : ℕ → List ℕ
+quoted_byte b =
+    if b == 34 then codes "\\\""
+    else if b == 92 then codes "\\\\"
+    else if b == 38 then codes "&amp;"
+    else if b == 10 then codes "\\l"
+    else b ∷ []
+
+abbrev pub quoted : List ℕ → List ℕ
+quoted text = flat_map quoted_byte text
+
+-- A signal's node, by its number: DOT takes a name that begins with a percent sign for none. Its name stands between
+-- what opens the label and what closes it.
+abbrev pub node : ℕ → List ℕ → List ℕ → List ℕ → List ℕ
+node number opens name closes = (codes "  s" ++ decimal number) ++ (opens ++ (quoted name ++ closes))
+
+-- a wire from one signal to the gate of another
+abbrev pub wire : ℕ → ℕ → List ℕ → List ℕ
+wire from to style = (codes "  s" ++ decimal from) ++ ((codes " -> s" ++ decimal to) ++ style)

@@ -1,0 +1,4 @@
+-- nodes and wires
+pub mod Dot
+-- loops
+pub mod LoopGraphs

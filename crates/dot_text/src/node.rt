@@ -1,0 +1,65 @@
+//! Nodes and wires.
+
+ghost use Rattle.std.specs.Prelude.{◌≡◌, ◌++◌, codes, decimal};
+ghost use Rattle.std.specs.List.{flat_map};
+ghost use Rattle.cyc_io.specs.Taken.{IsAppended, sink_call};
+ghost use Rattle.dot_text.specs.Dot.{node, quoted as quoted_text, quoted_byte, wire};
+
+use cyc_base::Sig;
+use cyc_io::{Failed, Sink, write_whole};
+use report::put_number;
+
+// A byte between quotes.
+fn put_byte<K: Sink>(sink: &mut K, byte: u8) -> Result<(), Failed>
+    ensures { IsAppended (quoted_byte byte) (sink_call K.put K.faults sink.old sink.new) result }
+{
+    if byte == b'"' {
+        write_whole(sink, b"\\\"")
+    } else if byte == b'\\' {
+        write_whole(sink, b"\\\\")
+    } else if byte == b'&' {
+        write_whole(sink, b"&amp;")
+    } else if byte == b'\n' {
+        write_whole(sink, b"\\l")
+    } else {
+        write_whole(sink, &[byte])
+    }
+}
+
+pub(crate) fn put_quoted<K: Sink>(sink: &mut K, text: &[u8]) -> Result<(), Failed>
+    ensures { IsAppended (quoted_text text.now) (sink_call K.put K.faults sink.old sink.new) result }
+{
+    for byte in text {
+        put_byte(sink, *byte)?;
+    }
+    Ok(())
+}
+
+// The node of a signal, whose name stands between what opens its label and what closes it.
+pub(crate) fn put_node<K: Sink>(
+    sink: &mut K,
+    signal: Sig,
+    opens: &[u8],
+    name: &[u8],
+    closes: &[u8],
+) -> Result<(), Failed>
+    ensures { IsAppended (node signal.0 opens.now name.now closes.now) (sink_call K.put K.faults sink.old sink.new) result }
+{
+    put_number(sink, b"  s", signal.0 as u64)?;
+    write_whole(sink, opens)?;
+    put_quoted(sink, name)?;
+    write_whole(sink, closes)
+}
+
+pub(crate) fn put_wire<K: Sink>(
+    sink: &mut K,
+    from: Sig,
+    to: Sig,
+    style: &[u8],
+) -> Result<(), Failed>
+    ensures { IsAppended (wire from.0 to.0 style.now) (sink_call K.put K.faults sink.old sink.new) result }
+{
+    put_number(sink, b"  s", from.0 as u64)?;
+    put_number(sink, b" -> s", to.0 as u64)?;
+    write_whole(sink, style)
+}
