@@ -34,7 +34,7 @@ use Rattle.clause_decision.specs.Sweeping.{IsLeastCount, NeedsMore}
 use Rattle.clause_decision.specs.Sweepings.{AreCutPlaces}
 use Rattle.clause_decision.proofs.FormulaLemmas.{ones-read}
 use Rattle.clause_decision.proofs.SignalLemmas.{known-below, column_rails-length, gate-read, three}
-use Rattle.clause_decision.proofs.SweepingLemmas.{are-loops, cuts-number, fed-read, of-loop, outside-of-fix, places-number}
+use Rattle.clause_decision.proofs.SweepingLemmas.{are-loops, cut-of, cuts-number, fed-read, of-loop, outside-of-fix, places-number}
 use Rattle.clause_decision.proofs.UnknownLemmas.{unknown-value}
 
 -- ---- what a question about a change tells
@@ -153,12 +153,6 @@ module _ (net : Parts) (blocks : Blocks) (cut : Cut) (are : AreBlocksOf net bloc
 
   -- where none does, the loop stands at the fixpoint
   module _ (care : CareSet) (k : ℕ) (stand : StandAfter net (loops_by blocks cut) care (block_at blocks b).gates k) (a : ℕ) (inside : Contains (block_at blocks b).gates a) (v : List Bool) (counts : IsCareVector net care v) where
-    is-cut-of : (j : ℕ) (d : ℕ) → j < length (cuts_of net (loops_by blocks cut) a) → ((loops_by blocks cut).same a (get_or (cuts_of net (loops_by blocks cut) a) j d) ≡ true) × ((loops_by blocks cut).cut (get_or (cuts_of net (loops_by blocks cut) a) j d) ≡ true)
-    is-cut-of j d low =
-        let n : ℕ = get_or (cuts_of net (loops_by blocks cut) a) j d in
-        let kept = Contains-filter_from (λ g. (loops_by blocks cut).same a g && (loops_by blocks cut).cut g) (range_with_len 0 (length net.gates)) n (Contains-get_or (cuts_of net (loops_by blocks cut) a) j d low) in
-        and_parts ((loops_by blocks cut).same a n) ((loops_by blocks cut).cut n) kept.0
-
     still-at : (n : ℕ) → (loops_by blocks cut).same a n ≡ true → (loops_by blocks cut).cut n ≡ true → value_in (sweeps net (loops_by blocks cut) (bits v) (suc k)) n ≡ value_in (sweeps net (loops_by blocks cut) (bits v) k) n
     still-at n same is_cut = by (value_in (sweeps net (loops_by blocks cut) (bits v) k) n) refl
       where
@@ -181,15 +175,15 @@ module _ (net : Parts) (blocks : Blocks) (cut : Cut) (are : AreBlocksOf net bloc
     still : cuts net (loops_by blocks cut) (bits v) a (suc k) ≡ cuts net (loops_by blocks cut) (bits v) a k
     still =
         map_agree (value_in (sweeps net (loops_by blocks cut) (bits v) (suc k))) (value_in (sweeps net (loops_by blocks cut) (bits v) k)) (cuts_of net (loops_by blocks cut) a)
-        (λ j d low. still-at (get_or (cuts_of net (loops_by blocks cut) a) j d) (is-cut-of j d low).0 (is-cut-of j d low).1)
+        (λ j d low. still-at (get_or (cuts_of net (loops_by blocks cut) a) j d) (cut-of net (loops_by blocks cut) a j d low).0 (cut-of net (loops_by blocks cut) a j d low).1)
 
     stand-fixed : CutsAreFixed net (loops_by blocks cut) (bits v) a k
     stand-fixed =
         map_agree (value_in (sweeps net (loops_by blocks cut) (bits v) k)) (value_in (fix_gates net (bits v))) (cuts_of net (loops_by blocks cut) a)
         (λ j d low.
-        sym (still-at (get_or (cuts_of net (loops_by blocks cut) a) j d) (is-cut-of j d low).0 (is-cut-of j d low).1)
+        sym (still-at (get_or (cuts_of net (loops_by blocks cut) a) j d) (cut-of net (loops_by blocks cut) a j d low).0 (cut-of net (loops_by blocks cut) a j d low).1)
         ∙ still_is_fix net (loops_by blocks cut) (are-loops net blocks cut are cut_is b less looped) (bits v) (length-map v bit ∙ counts.width) a k still
-        (get_or (cuts_of net (loops_by blocks cut) a) j d) (is-cut-of j d low).0)
+        (get_or (cuts_of net (loops_by blocks cut) a) j d) (cut-of net (loops_by blocks cut) a j d low).0)
 
   pub stand-count : (care : CareSet) (k : ℕ) → StandAfter net (loops_by blocks cut) care (block_at blocks b).gates k → ((j : ℕ) → j < k → ChangesAfter net (loops_by blocks cut) care (block_at blocks b).gates j) →
       (a : ℕ) → Contains (block_at blocks b).gates a → IsLeastCount net (loops_by blocks cut) care a k

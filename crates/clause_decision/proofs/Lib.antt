@@ -4,6 +4,7 @@ pub mod FormulaLemmas
 pub mod LeavingLemmas
 pub mod ModelLemmas
 pub mod SignalLemmas
+pub mod SimulationLemmas
 pub mod StartLemmas
 pub mod SweepingLemmas
 pub mod UnknownLemmas

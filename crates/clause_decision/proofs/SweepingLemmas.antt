@@ -1,5 +1,5 @@
 -- Sweeps of a loop on top of a cone, and how many are needed.
-use Rattle.std.proofs.Common.{◌≡◌, inl, inr, ℕ, zero, suc, ◌<◌, ◌≤◌, ◌+◌, ◌-◌, ◌*◌, ◌==◌, Bool, true, false, not, ◌&&◌, ◌||◌, cond, List, [], ◌∷◌, ◌++◌, length, map, filter, take, get_or, leb, Option, Some, None, Contains, refl, sym, ap, ap₂, subst, ◌∙◌, arith, true≢false, append-nil}
+use Rattle.std.proofs.Common.{◌≡◌, inl, inr, ℕ, zero, suc, ◌<◌, ◌≤◌, ◌+◌, ◌-◌, ◌*◌, ◌==◌, Bool, true, false, not, ◌&&◌, ◌||◌, cond, List, [], ◌∷◌, ◌++◌, length, map, filter, take, get_or, leb, Contains, refl, sym, ap, ap₂, subst, ◌∙◌, arith, true≢false, append-nil}
 use Rattle.std.specs.List.{All, list_any, range_with_len}
 use Rattle.std.proofs.lemmas.Bool.{cases_lt, and_parts, and_from, eq-eqb, le-leb}
 use Rattle.std.proofs.lemmas.List.{length-map, get_or-replicate, get_or_default, length_push, take_all}
@@ -22,7 +22,7 @@ use Rattle.loops.specs.Orders.{AreGatesOfLoop}
 use Rattle.loops.specs.Sweeps.{CutsAreFixed, cuts_of, first_gate, gate_of, in_loop_of, sweeps, value_in}
 use Rattle.loops.proofs.LoopCuts.{has-cut}
 use Rattle.loops.proofs.Reading.{Contains-filter, Contains-filter_from, Contains-range, Contains-range_from, map_agree}
-use Rattle.loops.proofs.Sweeps.{cut_values_agree, few_sweeps_are_enough, sweeps_stay_below_fix}
+use Rattle.loops.proofs.Sweeps.{cut_values_agree, few_sweeps_are_enough, fixed_cuts_give_fix, sweeps_stay_below_fix}
 use Rattle.loops.proofs.Told.{blocks_have_loops, blocks_tell_loops, gate_home}
 use Rattle.loops.proofs.Walks.{same_truth}
 use Rattle.care_sets.specs.Care.{CareSet, columns, state_of, is_allowed, is_in_invariant, IsCareVector}
@@ -36,12 +36,16 @@ use Rattle.ternary_clauses.specs.Sums.{SaysAny}
 use Rattle.ternary_clauses.specs.Sweeps.{ReadsOutside, ReadsPlaces, SaysSweep}
 use Rattle.ternary_clauses.proofs.ClauseLemmas.{says-negation}
 use Rattle.ternary_clauses.proofs.ReadingLemmas.{Reads-more, ReadsAll-more, All-within-more}
-use Rattle.clause_queries.specs.Queries.{problem, HasModelUnder, HasNoModelUnder, IsPossible}
+use Rattle.clause_queries.specs.declared.query.Reply.{Reply}
+use Rattle.clause_queries.specs.declared.query.Reply.TheVariants as replies
+use Rattle.clause_queries.specs.Queries.{problem, HasNoModelUnder, IsModelUnder, IsReply}
 use Rattle.clause_queries.proofs.ClauseLemmas.{models-same}
+use Rattle.clause_decision.specs.declared.sweeping.Swept.{Swept}
 use Rattle.clause_decision.specs.Cones.{column_rails, vector_in, ReadsFix, IsCone}
 use Rattle.clause_decision.specs.Scopes.{is_marked, AreClosed, AreKnownOnCare}
-use Rattle.clause_decision.specs.Sweeping.{IsLeastCount, NeedsMore}
-use Rattle.clause_decision.specs.Sweepings.{open_literals, AreCutPlacesBelow, AreCutPlaces, IsOpenAfter, AreKnownAfter, SaysOpen, TellsAfter}
+use Rattle.clause_decision.specs.Simulations.{IsCountAt}
+use Rattle.clause_decision.specs.Sweeping.{IsLeastCount}
+use Rattle.clause_decision.specs.Sweepings.{open_literals, AreCutPlacesBelow, AreCutPlaces, AreKnownAfter, IsOpenAt, IsSwept, NeedAtLeast, SaysOpen, TellsOpen}
 use Rattle.clause_decision.proofs.FormulaLemmas.{ones-read}
 use Rattle.clause_decision.proofs.SignalLemmas.{known-below, negation-within, column_rails-length, signal-at, gate-read, three}
 use Rattle.clause_decision.proofs.UnknownLemmas.{unknown-value}
@@ -152,6 +156,17 @@ cone-grows net care marks f g rails inside allowed cone grows extends = record {
               (has.fixpoint n is);
         }
 
+-- ---- a swept loop whose clauses grow
+
+pub swept-grows : (net : Parts) (care : CareSet) (marks : List Bool) (loops : Loops) (gates : List ℕ) (s : Swept) (k : ℕ) (g : Formula) → IsSwept net care marks loops gates s k → Grows s.cone.formula g →
+    ((m : List Bool) → length m ≡ s.cone.formula.variables → IsModel m s.cone.formula → HasModelFrom g m) → IsSwept net care marks loops gates (record { cone = record { formula = g; rails = s.cone.rails; inside = s.cone.inside; allowed = s.cone.allowed }; copies = s.copies }) k
+swept-grows net care marks loops gates s k g swept grows complete = record {
+  cone = cone-grows net care marks s.cone.formula g s.cone.rails.items s.cone.inside s.cone.allowed swept.cone grows (λ v wide has. complete has.model has.long has.holds);
+  size = swept.size;
+  within = All-within-more s.cone.formula.variables g.variables s.copies.items grows.more swept.within;
+  reads = λ m v is. swept.reads m v (grows.sound m is);
+}
+
 -- ---- what is outside of a loop
 
 module _ (net : Parts) (marks : List Bool) (loops : Loops) (gates : List ℕ) (proper : IsNetlist net) (closed : AreClosed net marks) (width : length marks ≡ length net.gates) (marked : All (λ n. is_marked marks n ≡ true) gates) where
@@ -226,24 +241,22 @@ module _ (net : Parts) (care : CareSet) (marks : List Bool) (loops : Loops) (gat
     (cone : IsCone net care marks f rails inside allowed) (wires : AreCutPlaces loops.cut gates places)
     (reads : (m : List Bool) (v : List Trit) → IsModel m f → ReadsOutside net loops gates rails m v → ReadsPlaces gates copies m (sweeps net loops v k))
     (tells : (m : List Bool) → IsModel m f → says m literal ≡ list_any (says m) (open_literals copies places)) where
-  open-after : HasModelUnder (problem f) (inside ∷ allowed ∷ literal ∷ []) → IsOpenAfter net loops care gates k
-  open-after has =
-      let m : List Bool = has.model in
-      let is : IsModel m f = sym (models-same f m) ∙ has.is.model in
+  open-at : (m : List Bool) → IsModelUnder (problem f) (inside ∷ allowed ∷ literal ∷ []) m → IsOpenAt net loops care gates k (vector_in net rails m)
+  open-at m under =
+      let is : IsModel m f = sym (models-same f m) ∙ under.model in
       let v : List Bool = vector_in net rails m in
       let counts : IsCareVector net care v = record {
         width = length-map (column_rails net rails) (λ (r : Rails). says m r.one) ∙ column_rails-length net rails cone.size;
-        state = sym (cone.inside_tells m is) ∙ has.is.assumed 0 0 (omega arith);
-        allowed = sym (cone.allowed_tells m is) ∙ has.is.assumed 1 0 (omega arith);
+        state = sym (cone.inside_tells m is) ∙ under.assumed 0 0 (omega arith);
+        allowed = sym (cone.allowed_tells m is) ∙ under.assumed 1 0 (omega arith);
       } in
       let any : AnyAt (λ i. says m (negation (rails_at copies i).known)) places =
-      any-at (λ i. negation (rails_at copies i).known) (says m) places (sym (tells m is) ∙ has.is.assumed 2 0 (omega arith)) in
+      any-at (λ i. negation (rails_at copies i).known) (says m) places (sym (tells m is) ∙ under.assumed 2 0 (omega arith)) in
       let i : ℕ = get_or places any.place 0 in
       let low : i < length gates = wires.within any.place 0 any.less in
       let read : Reads m (rails_at copies i) (value_in (sweeps net loops (bits v) k) (get_or gates i 0)) =
       reads m (bits v) is (outside-on-care net marks loops gates proper closed width marked care f rails inside allowed cone known m is counts) i low in
       record {
-        vector = v;
         counts = counts;
         wire = get_or gates i 0;
         inside = Contains-get_or gates i 0 low;
@@ -275,10 +288,10 @@ module _ (net : Parts) (care : CareSet) (marks : List Bool) (loops : Loops) (gat
             literal_holds;
       })
 
-  pub tells-after : (found : Option Bool) → IsPossible (problem f) (inside ∷ allowed ∷ literal ∷ []) found → TellsAfter net loops care gates k found
-  tells-after (Some true) h = open-after h
-  tells-after (Some false) h = known-after h
-  tells-after None h = tt
+  pub tells-open : (reply : Reply) → IsReply (problem f) (inside ∷ allowed ∷ literal ∷ []) reply → TellsOpen net loops care gates rails k reply
+  tells-open (replies.Model m) h = open-at m.items h.0
+  tells-open replies.NoModel h = known-after h
+  tells-open replies.Unknown h = tt
 
 -- ---- how many sweeps are needed
 
@@ -302,6 +315,20 @@ kept-fewer p (x ∷ xs) = by (p x) (kept-fewer p xs)
     by : (b : Bool) → length (filter p xs) ≤ length xs → length (cond b (x ∷ filter p xs) (filter p xs)) ≤ suc (length xs)
     by true h = omega (arith, h)
     by false h = omega (arith, h)
+
+-- where a loop is at the fixpoint, it is after more sweeps
+fixed-later : (net : Parts) (loops : Loops) → AreLoopsOf net loops → (v : List Trit) → length v ≡ first_gate net → (a m k n : ℕ) → n ≡ k + m → CutsAreFixed net loops v a m → CutsAreFixed net loops v a n
+fixed-later net loops are v wide a m zero n e fixed = let same : m ≡ n = omega (arith, e) in subst (λ (j : ℕ). CutsAreFixed net loops v a j) same fixed
+fixed-later net loops are v wide a m (suc k) n e fixed =
+    let next : suc (k + m) ≡ n = omega (arith, e) in
+    subst (λ (j : ℕ). CutsAreFixed net loops v a j) next (fixed_cuts_give_fix net loops are v wide a (k + m) (fixed-later net loops are v wide a m k (k + m) refl fixed)).0
+
+-- what is listed as a cut wire of a loop is one
+pub cut-of : (net : Parts) (loops : Loops) (a j d : ℕ) → j < length (cuts_of net loops a) → (loops.same a (get_or (cuts_of net loops a) j d) ≡ true) × (loops.cut (get_or (cuts_of net loops a) j d) ≡ true)
+cut-of net loops a j d low =
+    let n : ℕ = get_or (cuts_of net loops a) j d in
+    let kept = Contains-filter_from (λ g. loops.same a g && loops.cut g) (range_with_len 0 (length net.gates)) n (Contains-get_or (cuts_of net loops a) j d low) in
+    and_parts (loops.same a n) (loops.cut n) kept.0
 
 module _ (net : Parts) (blocks : Blocks) (cut : Cut) (are : AreBlocksOf net blocks) (cut_is : IsCutOf net cut) (b : ℕ) (less : b < length blocks.list) (looped : (block_at blocks b).looped ≡ true) where
   pub are-loops : AreLoopsOf net (loops_by blocks cut)
@@ -327,20 +354,16 @@ module _ (net : Parts) (blocks : Blocks) (cut : Cut) (are : AreBlocksOf net bloc
       (EachBelow-at (sweeps net (loops_by blocks cut) (bits v) k) (fix_gates net (bits v)) n (sweeps_stay_below_fix net (loops_by blocks cut) (bits v) (length-map v bit ∙ counts.width) k))
       (known v counts n ((of-loop a inside).0 n both.0) both.1)))
 
-  -- where one is unknown, more sweeps are needed
-  needs-more : (care : CareSet) → AreKnownOnCare net care → (k : ℕ) → IsOpenAfter net (loops_by blocks cut) care (block_at blocks b).gates k → (a : ℕ) → Contains (block_at blocks b).gates a →
-      NeedsMore net (loops_by blocks cut) care a k
-  needs-more care known k found a inside = record {
-    vector = found.vector;
-    counts = found.counts;
-    open_cuts = λ fixed.
-        known found.vector found.counts found.wire (gate_home net blocks are b found.wire less found.inside).0
-        (sym (cut_values_agree net (loops_by blocks cut) are-loops a (sweeps net (loops_by blocks cut) (bits found.vector) k) (fix_gates net (bits found.vector)) fixed found.wire ((of-loop a inside).1 found.wire found.inside) found.is_cut)
-        ∙ found.unknown);
-  }
+  -- where one is unknown, they don't
+  open-unfixed : (care : CareSet) → AreKnownOnCare net care → (k : ℕ) (v : List Bool) → IsOpenAt net (loops_by blocks cut) care (block_at blocks b).gates k v → (a : ℕ) → Contains (block_at blocks b).gates a →
+      ¬ CutsAreFixed net (loops_by blocks cut) (bits v) a k
+  open-unfixed care known k v found a inside fixed =
+      known v found.counts found.wire (gate_home net blocks are b found.wire less found.inside).0
+      (sym (cut_values_agree net (loops_by blocks cut) are-loops a (sweeps net (loops_by blocks cut) (bits v) k) (fix_gates net (bits v)) fixed found.wire ((of-loop a inside).1 found.wire found.inside) found.is_cut)
+      ∙ found.unknown)
 
   -- before the first sweep each cut wire is unknown
-  pub open-first : (care : CareSet) → SomeCareVector net care → IsOpenAfter net (loops_by blocks cut) care (block_at blocks b).gates 0
+  open-first : (care : CareSet) (some : SomeCareVector net care) → IsOpenAt net (loops_by blocks cut) care (block_at blocks b).gates 0 some.vector
   open-first care some =
       let a : ℕ = get_or (block_at blocks b).gates 0 0 in
       let inside : Contains (block_at blocks b).gates a = Contains-get_or (block_at blocks b).gates 0 0 (are.filled b less) in
@@ -348,7 +371,6 @@ module _ (net : Parts) (blocks : Blocks) (cut : Cut) (are : AreBlocksOf net bloc
       let has = has-cut net (loops_by blocks cut) are-loops a ((are.looped a at.0).0 (subst (λ (h : ℕ). (block_at blocks h).looped ≡ true) (sym at.1) looped)) in
       let wire_inside : Contains (block_at blocks b).gates has.wire = (of-loop a inside).0 has.wire has.same in
       record {
-        vector = some.vector;
         counts = some.counts;
         wire = has.wire;
         inside = wire_inside;
@@ -356,12 +378,49 @@ module _ (net : Parts) (blocks : Blocks) (cut : Cut) (are : AreBlocksOf net bloc
         unknown = get_or-replicate (length net.gates) has.wire X X (gate_home net blocks are b has.wire less wire_inside).0;
       }
 
-  pub known-count : (care : CareSet) → AreKnownOnCare net care → (k : ℕ) → AreKnownAfter net (loops_by blocks cut) care (block_at blocks b).gates k →
-      ((j : ℕ) → j < k → IsOpenAfter net (loops_by blocks cut) care (block_at blocks b).gates j) → (a : ℕ) → Contains (block_at blocks b).gates a → IsLeastCount net (loops_by blocks cut) care a k
-  known-count care known k closed_ more a inside = record {
-    enough = fixed-where-known care k closed_ a inside;
-    least = λ j low. needs-more care known j (more j low) a inside;
-  }
+  -- so one sweep is needed
+  pub one-needed : (care : CareSet) → SomeCareVector net care → AreKnownOnCare net care → NeedAtLeast net (loops_by blocks cut) care (block_at blocks b).gates 1
+  one-needed care some known a j inside low =
+      let none : 0 ≡ j = omega (arith, low) in
+      record {
+        vector = some.vector;
+        counts = some.counts;
+        open_cuts = subst (λ (k : ℕ). ¬ CutsAreFixed net (loops_by blocks cut) (bits some.vector) a k) none (open-unfixed care known 0 some.vector (open-first care some) a inside);
+      }
+
+  -- a vector at which a cut wire is unknown after k sweeps needs more, and care at least as many as it
+  pub more-needed : (care : CareSet) → AreKnownOnCare net care → (k : ℕ) (v : List Bool) → IsOpenAt net (loops_by blocks cut) care (block_at blocks b).gates k v → (m : ℕ) →
+      IsCountAt net (loops_by blocks cut) v (block_at blocks b).gates m → (k < m) × NeedAtLeast net (loops_by blocks cut) care (block_at blocks b).gates m
+  more-needed care known k v found m count = (
+    elim (cases_lt k m) [
+      | inl low ↦ low
+      | inr high ↦
+          (let a : ℕ = get_or (block_at blocks b).gates 0 0 in
+          let inside : Contains (block_at blocks b).gates a = Contains-get_or (block_at blocks b).gates 0 0 (are.filled b less) in
+          absurd (open-unfixed care known k v found a inside
+          (fixed-later net (loops_by blocks cut) are-loops (bits v) (length-map v bit ∙ found.counts.width) a m (k - m) k (omega (arith, high)) (count.enough a inside))))
+    ],
+    λ a j inside low. record { vector = v; counts = found.counts; open_cuts = count.least a j inside low },
+  )
+
+  -- each care vector needs one
+  pub vector-needed : (care : CareSet) → AreKnownOnCare net care → (v : List Bool) → IsCareVector net care v → (m : ℕ) → IsCountAt net (loops_by blocks cut) v (block_at blocks b).gates m →
+      (0 < m) × NeedAtLeast net (loops_by blocks cut) care (block_at blocks b).gates m
+  vector-needed care known v counts = more-needed care known 0 v (open-first care (record { vector = v; counts = counts }))
+
+  -- where all are known, as many are enough
+  pub these-needed : (care : CareSet) (k : ℕ) → AreKnownAfter net (loops_by blocks cut) care (block_at blocks b).gates k → NeedAtLeast net (loops_by blocks cut) care (block_at blocks b).gates k →
+      (a : ℕ) → Contains (block_at blocks b).gates a → IsLeastCount net (loops_by blocks cut) care a k
+  these-needed care k known more a inside = record { enough = fixed-where-known care k known a inside; least = λ j low. more a j inside low }
+
+  -- which gates are in it
+  pub same-home : (a : ℕ) → Contains (block_at blocks b).gates a → (n : ℕ) → n < length net.gates → (loops_by blocks cut).same a n ≡ (home_of blocks n == b)
+  same-home a inside n low =
+      same_truth ((loops_by blocks cut).same a n) (home_of blocks n == b)
+      (λ s. eq-eqb (home_of blocks n) b (gate_home net blocks are b n less ((of-loop a inside).0 n s)).1)
+      (λ e. (of-loop a inside).1 n
+      (subst (λ (ns : List ℕ). Contains ns n) (sym (are.gates b less))
+      (Contains-filter (λ g. home_of blocks g == b) (range_with_len 0 (length blocks.home)) n e (Contains-range (length blocks.home) n (let h = are.homes in omega (arith, low, h))))))
 
   -- the cut wires of the loop
   pub cuts-number : (a : ℕ) → Contains (block_at blocks b).gates a → length (cuts_of net (loops_by blocks cut) a) ≡ length (filter (is_cut cut.wires) (block_at blocks b).gates)
@@ -370,29 +429,21 @@ module _ (net : Parts) (blocks : Blocks) (cut : Cut) (are : AreBlocksOf net bloc
       (kept-both ((loops_by blocks cut).same a) (is_cut cut.wires) (range_with_len 0 (length net.gates))
       ∙ ap (filter (is_cut cut.wires))
       (kept-agree ((loops_by blocks cut).same a) (λ n. home_of blocks n == b) (range_with_len 0 (length net.gates))
-      (λ j d low. agree (get_or (range_with_len 0 (length net.gates)) j d) (Contains-range_from (length net.gates) (get_or (range_with_len 0 (length net.gates)) j d) (Contains-get_or (range_with_len 0 (length net.gates)) j d low)))
+      (λ j d low. same-home a inside (get_or (range_with_len 0 (length net.gates)) j d) (Contains-range_from (length net.gates) (get_or (range_with_len 0 (length net.gates)) j d) (Contains-get_or (range_with_len 0 (length net.gates)) j d low)))
       ∙ ap (λ (n : ℕ). filter (λ g. home_of blocks g == b) (range_with_len 0 n)) (sym are.homes)
       ∙ sym (are.gates b less)))
-    where
-      agree : (n : ℕ) → n < length net.gates → (loops_by blocks cut).same a n ≡ (home_of blocks n == b)
-      agree n low =
-          same_truth ((loops_by blocks cut).same a n) (home_of blocks n == b)
-          (λ s. eq-eqb (home_of blocks n) b (gate_home net blocks are b n less ((of-loop a inside).0 n s)).1)
-          (λ e. (of-loop a inside).1 n
-          (subst (λ (ns : List ℕ). Contains ns n) (sym (are.gates b less))
-          (Contains-filter (λ g. home_of blocks g == b) (range_with_len 0 (length blocks.home)) n e (Contains-range (length blocks.home) n (let h = are.homes in omega (arith, low, h))))))
 
   pub places-number : (places : List ℕ) → AreCutPlaces (is_cut cut.wires) (block_at blocks b).gates places → length places ≡ length (filter (is_cut cut.wires) (block_at blocks b).gates)
   places-number places wires = wires.number ∙ ap (λ (gs : List ℕ). length (filter (is_cut cut.wires) gs)) (take_all (length (block_at blocks b).gates) (block_at blocks b).gates (omega arith))
 
   -- as many sweeps as cut wires are enough
-  pub few-count : (care : CareSet) → AreKnownOnCare net care → (places : List ℕ) → AreCutPlaces (is_cut cut.wires) (block_at blocks b).gates places → (k : ℕ) → k ≡ length places →
-      ((j : ℕ) → j < k → IsOpenAfter net (loops_by blocks cut) care (block_at blocks b).gates j) → (a : ℕ) → Contains (block_at blocks b).gates a → IsLeastCount net (loops_by blocks cut) care a k
-  few-count care known places wires k is more a inside = record {
+  pub few-needed : (care : CareSet) (places : List ℕ) → AreCutPlaces (is_cut cut.wires) (block_at blocks b).gates places → (k : ℕ) → k ≡ length places →
+      NeedAtLeast net (loops_by blocks cut) care (block_at blocks b).gates k → (a : ℕ) → Contains (block_at blocks b).gates a → IsLeastCount net (loops_by blocks cut) care a k
+  few-needed care places wires k is more a inside = record {
     enough = λ v counts.
         subst (λ (n : ℕ). CutsAreFixed net (loops_by blocks cut) (bits v) a n) (cuts-number a inside ∙ sym (places-number places wires) ∙ sym is)
         (few_sweeps_are_enough net (loops_by blocks cut) are-loops a (bits v) (length-map v bit ∙ counts.width));
-    least = λ j low. needs-more care known j (more j low) a inside;
+    least = λ j low. more a j inside low;
   }
 
   pub places-fit : (places : List ℕ) → IsNetlist net → AreCutPlaces (is_cut cut.wires) (block_at blocks b).gates places → length places ≤ 4294967295

@@ -5,6 +5,7 @@ pub mod Loads
 pub mod NextStates
 pub mod Questions
 pub mod Scopes
+pub mod Simulations
 pub mod Starts
 pub mod Sweeping
 pub mod Sweepings

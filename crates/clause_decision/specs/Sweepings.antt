@@ -1,6 +1,5 @@
 -- A loop after some sweeps, as clauses on top of a cone.
-use Rattle.std.specs.Prelude.{◌≡◌, ◌≢◌, ◌<◌, ◌*◌, ℕ, Bool, true, false, List, length, map, filter, take, All, Contains, slice_index, Some, None}
-use Rattle.std.specs.declared.option.Option.{Option}
+use Rattle.std.specs.Prelude.{◌≡◌, ◌≢◌, ◌<◌, ◌*◌, ℕ, Bool, true, false, List, length, map, filter, take, All, Contains, slice_index}
 use Rattle.std.specs.List.{list_any}
 use Rattle.cyc_base.specs.declared.trit.Trit.{Trit}
 use Rattle.cyc_base.specs.declared.trit.Trit.TheVariants.{X}
@@ -15,8 +14,13 @@ use Rattle.netlist.specs.Netlists.{count}
 use Rattle.ternary_clauses.specs.Formulas.{says, negation, IsFormula, IsModel, HasModelFrom, Grows}
 use Rattle.ternary_clauses.specs.Rails.{AreWithin, rails_at}
 use Rattle.ternary_clauses.specs.Sweeps.{ReadsOutside, ReadsPlaces}
+use Rattle.clause_queries.specs.declared.query.Reply.{Reply}
+use Rattle.clause_queries.specs.declared.query.Reply.TheVariants as replies
+use Rattle.clause_decision.specs.declared.sweeping.Needed.{Needed}
+use Rattle.clause_decision.specs.declared.sweeping.Needed.TheVariants as needs
 use Rattle.clause_decision.specs.declared.sweeping.Swept.{Swept}
-use Rattle.clause_decision.specs.Cones.{IsCone}
+use Rattle.clause_decision.specs.Cones.{vector_in, IsCone}
+use Rattle.clause_decision.specs.Sweeping.{IsLeastCount, NeedsMore}
 
 -- The copies of a loop's gates stand for their values after so many sweeps, where what is outside of the loop stands for
 -- its value at the fixpoint.
@@ -63,36 +67,40 @@ pub record SaysOpen (old new : Formula) (copies : List Rails) (places : List ℕ
   pub says_it : (m : List Bool) → IsModel m new → says m literal ≡ list_any (says m) (open_literals copies places)
   pub complete : (m : List Bool) → length m ≡ old.variables → IsModel m old → HasModelFrom new m
 
--- the literal says whether one of these copies is unknown
-pub record TellsOpen (s : Swept) (places : List ℕ) (literal : ℕ) : Type 0 where
-  pub within : literal < 2 * s.cone.formula.variables
-  pub says_it : (m : List Bool) → IsModel m s.cone.formula → says m literal ≡ list_any (says m) (open_literals s.copies.items places)
-
--- after so many sweeps a cut wire among these gates is unknown at a care vector
-pub record IsOpenAfter (net : Parts) (loops : Loops) (care : CareSet) (gates : List ℕ) (k : ℕ) : Type 0 where
-  pub vector : List Bool
-  pub counts : IsCareVector net care vector
+-- after k sweeps a cut wire among these gates is unknown at a care vector
+pub record IsOpenAt (net : Parts) (loops : Loops) (care : CareSet) (gates : List ℕ) (k : ℕ) (v : List Bool) : Type 0 where
+  pub counts : IsCareVector net care v
   pub wire : ℕ
   pub inside : Contains gates wire
   pub is_cut : loops.cut wire ≡ true
-  pub unknown : value_in (sweeps net loops (bits vector) k) wire ≡ X
+  pub unknown : value_in (sweeps net loops (bits v) k) wire ≡ X
 
 -- after so many sweeps all of them are known on care
 abbrev pub AreKnownAfter : Parts → Loops → CareSet → List ℕ → ℕ → Type 0
 AreKnownAfter net loops care gates k = (v : List Bool) → IsCareVector net care v → (n : ℕ) → Contains gates n → loops.cut n ≡ true →
     value_in (sweeps net loops (bits v) k) n ≢ X
 
-abbrev pub TellsAfter : Parts → Loops → CareSet → List ℕ → ℕ → Option Bool → Type 0
-TellsAfter net loops care gates k (Some true) = IsOpenAfter net loops care gates k
-TellsAfter net loops care gates k (Some false) = AreKnownAfter net loops care gates k
-TellsAfter net loops care gates k None = Unit {0}
+-- the vector of a model is one where one is unknown
+abbrev pub TellsOpen : Parts → Loops → CareSet → List ℕ → List Rails → ℕ → Reply → Type 0
+TellsOpen net loops care gates rails k (replies.Model m) = IsOpenAt net loops care gates k (vector_in net rails m.items)
+TellsOpen net loops care gates rails k replies.NoModel = AreKnownAfter net loops care gates k
+TellsOpen net loops care gates rails k replies.Unknown = Unit {0}
 
--- so many sweeps, and whether a cut wire is unknown after them
-pub record IsSweptOn (net : Parts) (care : CareSet) (marks : List Bool) (loops : Loops) (gates : List ℕ) (s : Swept) (k : ℕ) (found : Option Bool) : Type 0 where
+-- so many sweeps, and what a question tells of the cut wires after them
+pub record IsAsked (net : Parts) (care : CareSet) (marks : List Bool) (loops : Loops) (gates : List ℕ) (s : Swept) (k : ℕ) (reply : Reply) : Type 0 where
   pub swept : IsSwept net care marks loops gates s k
-  pub tells : TellsAfter net loops care gates k found
+  pub tells : TellsOpen net loops care gates s.cone.rails.items k reply
 
--- so many sweeps, and a literal that says whether a cut wire is unknown after them
-pub record IsSweptWith (net : Parts) (care : CareSet) (marks : List Bool) (loops : Loops) (gates places : List ℕ) (s : Swept) (k literal : ℕ) : Type 0 where
+-- for each number of sweeps below m some care vector needs more in the loop of these gates
+abbrev pub NeedAtLeast : Parts → Loops → CareSet → List ℕ → ℕ → Type 0
+NeedAtLeast net loops care gates m = (a j : ℕ) → Contains gates a → j < m → NeedsMore net loops care a j
+
+abbrev pub TellsNeeded : Parts → Loops → CareSet → List ℕ → ℕ → Needed → Type 0
+TellsNeeded net loops care gates k needs.These = (a : ℕ) → Contains gates a → IsLeastCount net loops care a k
+TellsNeeded net loops care gates k (needs.AtLeast m) = (k < m) × NeedAtLeast net loops care gates m
+TellsNeeded net loops care gates k needs.Unknown = Unit {0}
+
+-- so many sweeps, and how many are needed
+pub record IsCountedTo (net : Parts) (care : CareSet) (marks : List Bool) (loops : Loops) (gates : List ℕ) (s : Swept) (k : ℕ) (found : Needed) : Type 0 where
   pub swept : IsSwept net care marks loops gates s k
-  pub tells : TellsOpen s places literal
+  pub tells : TellsNeeded net loops care gates k found

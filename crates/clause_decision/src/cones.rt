@@ -1,8 +1,9 @@
 //! The care set with the gates of a scope as clauses.
 
-ghost use Rattle.std.specs.Prelude.{◌≡◌, IfOk};
+ghost use Rattle.std.specs.Prelude.{◌≡◌, length, IfOk};
+ghost use Rattle.netlist.specs.Netlists.{count};
 ghost use Rattle.care_sets.specs.Binding.{IsCareOf};
-ghost use Rattle.clause_decision.specs.Cones.{IsCone};
+ghost use Rattle.clause_decision.specs.Cones.{vector_in as vector_in_rails, IsCone};
 ghost use Rattle.clause_decision.specs.Formulas.{IsCareFormula};
 ghost use Rattle.clause_decision.specs.Scopes.{IsScopeOf};
 
@@ -10,8 +11,8 @@ use crate::care::{CareFormula, care_formula};
 use crate::scope::Scope;
 use care_sets::Care;
 use netlist::Netlist;
-use std::alloc::Global;
-use ternary_clauses::{ClausesFault, Formula, Rails, add_netlist};
+use std::alloc::{AllocError, Global};
+use ternary_clauses::{ClausesFault, Formula, Rails, add_netlist, value_of};
 
 /// Clauses over the columns of a netlist and its gates in a scope, with the literals of the care set.
 pub(crate) struct Cone {
@@ -34,6 +35,23 @@ impl Drop for Cone {
 }
 
 impl Cone {
+    /// The vector of a model.
+    pub(crate) fn vector_in(
+        &self,
+        alloc: Global,
+        net: &Netlist,
+        model: &[bool],
+    ) -> Result<Vec<bool>, AllocError>
+        requires { length self.now.rails.items ≡ count net.now }
+        ensures { IfOk result (λ vector. vector.items ≡ vector_in_rails net.now self.now.rails.items model.now) }
+    {
+        let width = (net.inputs() + net.latches()) as usize;
+        self.rails[..width]
+            .iter()
+            .map(|r| value_of(model, r.one))
+            .collect(alloc)
+    }
+
     /// The clauses alone.
     pub(crate) fn into_formula(self) -> Formula
         ensures { result ≡ self.formula }

@@ -15,6 +15,7 @@ mod leaving;
 mod models;
 mod question;
 mod scope;
+mod simulating;
 mod sweeping;
 mod unknown;
 

@@ -1,24 +1,27 @@
 //! How many sweeps a loop needs on care.
 
-ghost use Rattle.std.specs.Prelude.{◌≡◌, ◌<◌, ◌≤◌, ◌+◌, ◌*◌, ◌∷◌, [], ℕ, true, length, All, Contains, IfOk, IfSome, OnOk};
+ghost use Rattle.std.specs.Prelude.{◌≡◌, ◌<◌, ◌≤◌, ◌+◌, ◌*◌, ◌∷◌, [], ℕ, List, true, length, filter, All, Contains, IfOk, IfSome, OnOk};
+ghost use Rattle.netlist.specs.declared.parts.Parts.{Parts};
 ghost use Rattle.netlist.specs.Netlists.{IsNetlist};
 ghost use Rattle.loops.specs.Blocks.{AreBlocksOf, block_at};
 ghost use Rattle.loops.specs.Cuts.{IsCutOf, Loops, is_cut, loops_by};
 ghost use Rattle.care_sets.specs.Binding.{IsCareOf};
-ghost use Rattle.care_sets.specs.Care.{CareSet};
+ghost use Rattle.care_sets.specs.Care.{columns, is_care_vector as is_care_vector_of, CareSet};
 ghost use Rattle.refusals.specs.Acceptance.{SomeCareVector};
 ghost use Rattle.ternary_clauses.specs.Formulas.{IsFormula};
 ghost use Rattle.ternary_clauses.specs.Rails.{AreWithin};
-ghost use Rattle.clause_queries.specs.Queries.{problem, IsPossible};
+ghost use Rattle.clause_queries.specs.Queries.{problem, IsReply};
 ghost use Rattle.clause_decision.specs.declared.scope.Scope.{Scope as TheScope};
 ghost use Rattle.clause_decision.specs.Scopes.{AreInScope, AreKnownOnCare, IsScopeOf};
 ghost use Rattle.clause_decision.specs.Sweeping.{IsLeastCount};
-ghost use Rattle.clause_decision.specs.Sweepings.{open_literals, AreCutPlaces, IsOnCare, IsSweepable, IsSwept, IsSweptOn, IsSweptWith, SaysOpen};
+ghost use Rattle.clause_decision.specs.Sweepings.{open_literals, AreCutPlaces, IsAsked, IsCountedTo, IsOnCare, IsSweepable, IsSwept, NeedAtLeast, SaysOpen};
 
 use crate::cones::{Cone, cone_of};
 use crate::question::query_of;
 use crate::scope::Scope;
+use crate::simulating::sweeps_at;
 use care_sets::Care;
+use clause_queries::Reply;
 use loops::{Blocks, Cut};
 use netlist::Netlist;
 use std::alloc::{AllocError, Global};
@@ -109,7 +112,7 @@ pub(crate) fn unswept(
     Ok(Swept { cone, copies })
 }
 
-/// One sweep more. The answer is a literal that says whether a cut wire is unknown after it.
+/// One sweep more.
 fn sweep_on(
     alloc: Global,
     swept: &mut Swept,
@@ -117,20 +120,16 @@ fn sweep_on(
     blocks: &Blocks,
     cut: &Cut,
     block: u32,
-    places: &[usize],
-) -> Result<u32, ClausesFault>
+) -> Result<(), ClausesFault>
     requires swept { IsSweepable net.now (block_at blocks.now block).gates swept.old }
     requires blocks { AreBlocksOf net.now blocks.now }
     requires cut { IsCutOf net.now cut.now }
     requires block { block < length blocks.now.list }
     requires looped { (block_at blocks.now block).looped ≡ true }
-    requires places { All (λ i. i < length (block_at blocks.now block).gates) places.now }
-    requires some { 0 < length places.now }
     ensures sweepable { OnOk result (IsSweepable net.now (block_at blocks.now block).gates swept.new) }
-    ensures within { IfOk result (λ literal. literal < 2 * swept.new.cone.formula.variables) }
     ensures swept { (care : CareSet) (scope : TheScope) (k : ℕ) → IsNetlist net.now → IsScopeOf net.now scope → AreInScope net.now scope (block_at blocks.now block).gates →
         IsSwept net.now care scope.gates (loops_by blocks.now cut.now) (block_at blocks.now block).gates swept.old k →
-        IfOk result (IsSweptWith net.now care scope.gates (loops_by blocks.now cut.now) (block_at blocks.now block).gates places.now swept.new (k + 1)) }
+        OnOk result (IsSwept net.now care scope.gates (loops_by blocks.now cut.now) (block_at blocks.now block).gates swept.new (k + 1)) }
 {
     let after = add_sweep(
         alloc,
@@ -142,31 +141,57 @@ fn sweep_on(
         &swept.cone.rails,
         &swept.copies,
     )?;
-    let literal = add_open(alloc, &mut swept.cone.formula, &after, places)?;
     swept.copies = after;
-    Ok(literal)
+    Ok(())
 }
 
-/// Whether a literal can be true at a care vector.
-fn ask_open(
-    alloc: Global,
-    swept: &Swept,
-    literal: u32,
-    conflicts: u64,
-) -> Result<Option<bool>, AllocError>
+/// Asks for a model at a care vector in which a literal is true.
+fn ask(alloc: Global, swept: &Swept, literal: u32, conflicts: u64) -> Result<Reply, AllocError>
     requires care { IsOnCare swept.now }
     requires literal { literal < 2 * swept.now.cone.formula.variables }
-    ensures { IfOk result (IsPossible (problem swept.now.cone.formula) (swept.now.cone.inside ∷ swept.now.cone.allowed ∷ literal ∷ [])) }
+    ensures { IfOk result (IsReply (problem swept.now.cone.formula) (swept.now.cone.inside ∷ swept.now.cone.allowed ∷ literal ∷ [])) }
 {
     let Some(mut query) = query_of(alloc, &swept.cone.formula)? else {
-        return Ok(None);
+        return Ok(Reply::Unknown);
     };
     let assumed = [swept.cone.inside, swept.cone.allowed, literal];
-    query.is_possible(alloc, &assumed, conflicts)
+    query.ask(alloc, &assumed, conflicts)
 }
 
-/// One sweep more, and whether a cut wire is unknown after it at some care vector.
-fn is_open_after(
+/// Asks for a model at a care vector in which one of the copies at these places is unknown.
+fn ask_open(
+    alloc: Global,
+    swept: &mut Swept,
+    places: &[usize],
+    conflicts: u64,
+) -> Result<Reply, ClausesFault>
+    requires formula { IsFormula swept.old.cone.formula }
+    requires care { IsOnCare swept.old }
+    requires copies { All (AreWithin swept.old.cone.formula.variables) swept.old.copies.items }
+    requires places { All (λ i. i < length swept.old.copies.items) places.now }
+    requires some { 0 < length places.now }
+    ensures rails { swept.new.cone.rails ≡ swept.old.cone.rails }
+    ensures asked { (net : Parts) (care : CareSet) (scope : TheScope) (loops : Loops) (gates : List ℕ) (k : ℕ) → IsNetlist net → IsScopeOf net scope → AreInScope net scope gates →
+        AreKnownOnCare net care → AreCutPlaces loops.cut gates places.now → IsSwept net care scope.gates loops gates swept.old k → IfOk result (IsAsked net care scope.gates loops gates swept.new k) }
+{
+    let literal = add_open(alloc, &mut swept.cone.formula, &swept.copies, places)?;
+    Ok(ask(alloc, swept, literal, conflicts)?)
+}
+
+/// What is known, after some sweeps, of how many a loop needs on care.
+#[derive(Clone, Copy)]
+pub(crate) enum Needed {
+    /// These.
+    These,
+    /// At least so many, which are more.
+    AtLeast(u32),
+    /// The solver gave up.
+    Unknown,
+}
+
+/// Whether these sweeps are enough, of which each smaller number is too few. Where a cut wire is unknown after them at a
+/// care vector, at least as many are needed as at that vector.
+fn needed_after(
     alloc: Global,
     swept: &mut Swept,
     net: &Netlist,
@@ -175,7 +200,7 @@ fn is_open_after(
     block: u32,
     places: &[usize],
     conflicts: u64,
-) -> Result<Option<bool>, ClausesFault>
+) -> Result<Needed, ClausesFault>
     requires swept { IsSweepable net.now (block_at blocks.now block).gates swept.old }
     requires blocks { AreBlocksOf net.now blocks.now }
     requires cut { IsCutOf net.now cut.now }
@@ -185,10 +210,99 @@ fn is_open_after(
     requires some { 0 < length places.now }
     ensures { (care : CareSet) (scope : TheScope) (k : ℕ) → IsNetlist net.now → IsScopeOf net.now scope → AreInScope net.now scope (block_at blocks.now block).gates →
         AreKnownOnCare net.now care → IsSwept net.now care scope.gates (loops_by blocks.now cut.now) (block_at blocks.now block).gates swept.old k →
-        IfOk result (IsSweptOn net.now care scope.gates (loops_by blocks.now cut.now) (block_at blocks.now block).gates swept.new (k + 1)) }
+        NeedAtLeast net.now (loops_by blocks.now cut.now) care (block_at blocks.now block).gates k →
+        IfOk result (IsCountedTo net.now care scope.gates (loops_by blocks.now cut.now) (block_at blocks.now block).gates swept.new k) }
 {
-    let literal = sweep_on(alloc, swept, net, blocks, cut, block, places)?;
-    Ok(ask_open(alloc, swept, literal, conflicts)?)
+    let _ = net.gates();
+    match ask_open(alloc, swept, places, conflicts)? {
+        Reply::Model(model) => {
+            let vector = swept.cone.vector_in(alloc, net, &model)?;
+            let most = places.len() as u32;
+            let number = sweeps_at(alloc, net, blocks, cut, block, most, &vector)?;
+            Ok(Needed::AtLeast(number))
+        }
+        Reply::NoModel => Ok(Needed::These),
+        Reply::Unknown => Ok(Needed::Unknown),
+    }
+}
+
+/// One sweep more, to this number, where at least so many are needed. The solver is asked where both are the same.
+fn next_needed(
+    alloc: Global,
+    swept: &mut Swept,
+    net: &Netlist,
+    blocks: &Blocks,
+    cut: &Cut,
+    block: u32,
+    places: &[usize],
+    sweeps: u32,
+    needed: u32,
+    conflicts: u64,
+) -> Result<Needed, ClausesFault>
+    requires swept { IsSweepable net.now (block_at blocks.now block).gates swept.old }
+    requires blocks { AreBlocksOf net.now blocks.now }
+    requires cut { IsCutOf net.now cut.now }
+    requires block { block < length blocks.now.list }
+    requires looped { (block_at blocks.now block).looped ≡ true }
+    requires places { AreCutPlaces (is_cut cut.now.wires) (block_at blocks.now block).gates places.now }
+    requires some { 0 < length places.now }
+    requires needed { sweeps ≤ needed }
+    ensures { (care : CareSet) (scope : TheScope) (k : ℕ) → IsNetlist net.now → IsScopeOf net.now scope → AreInScope net.now scope (block_at blocks.now block).gates →
+        AreKnownOnCare net.now care → IsSwept net.now care scope.gates (loops_by blocks.now cut.now) (block_at blocks.now block).gates swept.old k → k + 1 ≡ sweeps →
+        NeedAtLeast net.now (loops_by blocks.now cut.now) care (block_at blocks.now block).gates needed →
+        IfOk result (IsCountedTo net.now care scope.gates (loops_by blocks.now cut.now) (block_at blocks.now block).gates swept.new sweeps) }
+{
+    sweep_on(alloc, swept, net, blocks, cut, block)?;
+    if sweeps < needed {
+        return Ok(Needed::AtLeast(needed));
+    }
+    needed_after(alloc, swept, net, blocks, cut, block, places, conflicts)
+}
+
+/// Whether a vector is one of care.
+#[tactic(auto, using(care_sets::proofs::CareLemmas::vectors_serve_assume, care_sets::proofs::CareLemmas::states_serve_invariant))]
+fn is_care_vector(
+    alloc: Global,
+    net: &Netlist,
+    care: &Care,
+    vector: &[bool],
+) -> Result<bool, AllocError>
+    requires care { IsCareOf net.now care.now }
+    requires width { length vector.now ≡ columns net.now }
+    ensures { IfOk result (λ counts. counts ≡ is_care_vector_of net.now care.now vector.now) }
+{
+    let (inputs, latches) = vector.split_at(net.inputs() as usize);
+    if !care.state_in(alloc, latches)? {
+        return Ok(false);
+    }
+    care.allows(alloc, inputs, latches)
+}
+
+/// How many sweeps are needed at least: those at the vector of zeros, if it is one of care.
+fn first_needed(
+    alloc: Global,
+    net: &Netlist,
+    blocks: &Blocks,
+    cut: &Cut,
+    care: &Care,
+    block: u32,
+    most: u32,
+) -> Result<u32, AllocError>
+    requires blocks { AreBlocksOf net.now blocks.now }
+    requires cut { IsCutOf net.now cut.now }
+    requires care { IsCareOf net.now care.now }
+    requires block { block < length blocks.now.list }
+    requires looped { (block_at blocks.now block).looped ≡ true }
+    requires most { most ≡ length (filter (is_cut cut.now.wires) (block_at blocks.now block).gates) }
+    requires some { SomeCareVector net.now care.now }
+    requires known { AreKnownOnCare net.now care.now }
+    ensures { IfOk result (λ number. (0 < number) × NeedAtLeast net.now (loops_by blocks.now cut.now) care.now (block_at blocks.now block).gates number) }
+{
+    let zeros = vec![in alloc; false; (net.inputs() + net.latches()) as usize]?;
+    if !is_care_vector(alloc, net, care, &zeros)? {
+        return Ok(1);
+    }
+    sweeps_at(alloc, net, blocks, cut, block, most, &zeros)
 }
 
 /// How many sweeps a loop needs on care, of which these are the places of the cut wires. As many as cut wires are enough.
@@ -218,18 +332,22 @@ fn count_sweeps(
 {
     let _ = net.gates();
     let most = places.len() as u32;
-    if most == 1 {
-        return Ok(Some(1));
+    let mut needed = first_needed(alloc, net, blocks, cut, care, block, most)?;
+    if needed >= most {
+        return Ok(Some(most));
     }
     let gates = blocks.list.items()[block as usize].gates.items();
     let mut swept = unswept(alloc, net, care, scope, gates)?;
     for sweeps in 1..most {
-        match is_open_after(
-            alloc, &mut swept, net, blocks, cut, block, places, conflicts,
+        match next_needed(
+            alloc, &mut swept, net, blocks, cut, block, places, sweeps, needed, conflicts,
         )? {
-            Some(true) => {}
-            Some(false) => return Ok(Some(sweeps)),
-            None => return Ok(None),
+            Needed::These => return Ok(Some(sweeps)),
+            Needed::AtLeast(number) => needed = number,
+            Needed::Unknown => return Ok(None),
+        }
+        if needed >= most {
+            return Ok(Some(most));
         }
     }
     Ok(Some(most))

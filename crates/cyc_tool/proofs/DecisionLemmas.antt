@@ -44,7 +44,7 @@ use Rattle.cyc_tool.specs.Answer.{told, decided, verdict_of}
 use Rattle.cyc_tool.specs.Calls.{IsAccepted, IsDecided, IsMadeFor, IsToldAlone, Explained, Limit, Verdict as ByVerdict}
 use Rattle.cyc_tool.specs.Endings.{accepted_told, aiger_told, count_of_loops, refused_told, where_outputs}
 use Rattle.cyc_tool.specs.Plans.{Decision, Prints, Declines, Outgrows, Purpose, Judges, Rewrites, WritesGraph, Explains, Demonstrates, Storms}
-use Rattle.cyc_tool.specs.Seen.{IsLimitOf, IsOutgrown, IsRefusalTold, IsTellable, IsToldOf, IsToldOfGraph, outcome_of}
+use Rattle.cyc_tool.specs.Seen.{IsLimitOf, IsOutgrown, IsRefusalTold, IsShown, IsTellable, IsToldOf, IsToldOfGraph, outcome_of}
 use Rattle.cyc_tool.specs.Texts.{Outcome, limit_reached}
 use Rattle.cyc_tool.specs.declared.outcome.Outcome.{Outcome as Told}
 
@@ -86,6 +86,14 @@ pub refusal_fits : (net : Parts) (care : CareSet) (what : Observe) (refused : Re
     → IsRefusalOf net refused
 refusal_fits net care what refused valid is = (refusal_is_shown net care what refused valid is).0
 
+refusal_shown : (net : Parts) (care : CareSet) (what : Observe) (refused : Refusal) → IsNetlist net → refusal net care what ≡ Some refused
+    → IsShown net refused
+refusal_shown net care what (Initial q) valid is = tt
+refusal_shown net care what EmptyCare valid is = tt
+refusal_shown net care what (LeavesCare v q) valid is = tt
+refusal_shown net care what (Undetermined v wire) valid is =
+    let known = (refusal_is_shown net care what (Undetermined v wire) valid is).1 (λ e. cc) in known.unknown
+
 -- a decision that met its limit of nodes
 at_limit : (result : Result Verdict DecideFault) (nodes limit : ℕ) → result ≡ Err (NodeLimit nodes)
     → IfErr result (λ fault. (fault ≡ WantsMemory) ⊎ (fault ≡ NodeLimit limit)) → NodeLimit nodes ≡ NodeLimit limit
@@ -112,7 +120,8 @@ limit_decides net care limit what purpose arena end result WantsMemory is same f
 pub verdict_fits : (net : Parts) (blocks : Blocks) (cut : Cut) (care : CareSet) (what : Observe) (verdict : Verdict) → IsNetlist net
     → IsVerdict net blocks cut care what verdict → IsTellable net blocks verdict
 verdict_fits net blocks cut care what (Accepted counts loose) valid is = is.sweeps.width
-verdict_fits net blocks cut care what (Refused refused) valid is = refusal_fits net care what refused valid is
+verdict_fits net blocks cut care what (Refused refused) valid is =
+    (refusal_fits net care what refused valid is, refusal_shown net care what refused valid is)
 
 -- what is told of an accepted netlist for each purpose
 pub judged : (net : Parts) (care : CareSet) (limit : ℕ) (what : Observe) (loose : ℕ) (given : Option ℕ) (end : Outcome)

@@ -10,3 +10,4 @@ pub mod StormLemmas
 pub mod TellLemmas
 pub mod TickLemmas
 pub mod ExplainedLemmas
+pub mod HearLemmas

@@ -116,6 +116,30 @@ leads_still files counts plan rest is = record {
   is = is;
 }
 
+-- What leads on in one part of a call leads on in the next.
+leads_more : (files : Option Files) (a b c : Counts) (plan rest last : Plan) → (leads : LeadsTo plan rest (record { files = files; before = a; now = b }))
+    → LeadsTo (rest_of leads.given plan) last (record { files = files; before = b; now = c })
+    → LeadsTo plan last (record { files = files; before = a; now = c })
+leads_more files a b c plan rest last leads more = record {
+  given = leads.given ++ more.given;
+  gave = gave_more files leads.given more.given plan leads.gave more.gave;
+  counts = record {
+    later = λ other. omega (arith, leads.counts.later other, more.counts.later other);
+    others = λ other differs.
+        more.counts.others other (names_later (λ name. other ≢ name) files leads.given more.given plan leads.gave differs)
+        ∙ leads.counts.others other (names_first (λ name. other ≢ name) leads.given more.given plan differs);
+  };
+  is = rest_more files leads.given more.given plan leads.gave ∙ more.is;
+}
+
+pub leads_after : (files later : Option Files) (a b c : Counts) (plan rest last : Plan) → later ≡ files
+    → LeadsTo plan rest (record { files = files; before = a; now = b }) → LeadsTo rest last (record { files = later; before = b; now = c })
+    → LeadsTo plan last (record { files = files; before = a; now = c })
+leads_after files later a b c plan rest last same leads more =
+    let P : Option Files → Type 0 = λ f. LeadsTo rest last (record { files = f; before = b; now = c }) in
+    let Q : Plan → Type 0 = λ p. LeadsTo p last (record { files = files; before = b; now = c }) in
+    leads_more files a b c plan rest last leads (subst Q (sym leads.is) (subst P same more))
+
 -- A command goes on with a file that it uses.
 pub goes_on : {T : Type 0} (plan : (T → Plan) → Plan) (value : T) (next : T → Plan) (files later : Option Files) (a b c : Counts) (nodes : Arena) (end : Outcome)
     → later ≡ files → GoesOn plan value (record { files = files; before = a; now = b })

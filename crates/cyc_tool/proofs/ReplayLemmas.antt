@@ -1,19 +1,22 @@
 -- Going along the plan of a recorded schedule, whatever the probes show.
-use Rattle.std.proofs.Common.{◌≡◌, ℕ, Bool, false, List, length, refl, subst}
+use Rattle.std.proofs.Common.{◌≡◌, ℕ, Bool, false, List, length, Some, Ok, refl, subst, ap, ◌∙◌, inl}
 use Rattle.std.specs.declared.option.Option.{Option}
 use Rattle.cyc_base.specs.declared.trit.Trit.{Trit}
 use Rattle.cyc_io.specs.Faults.{Counts}
 use Rattle.cyc_io.specs.Files.{Files}
 use Rattle.delay_core.specs.declared.plan.Schedule.{Schedule}
+use Rattle.delay_core.specs.declared.plan.TickEnd.{TickEnd}
+use Rattle.probes.specs.Changes.{changes}
 use Rattle.netlist.specs.declared.parts.Parts.{Parts}
 use Rattle.probes.specs.declared.kind.Kind.{Kind}
 use Rattle.cyc_tool.specs.Calls.{ShelfCall}
-use Rattle.cyc_tool.specs.Plans.{Plan, play_on, playing, replaying, replaying_on, with_netlist, with_schedule, with_vectors}
-use Rattle.cyc_tool.specs.Plays.{known}
+use Rattle.cyc_tool.specs.Answer.{told}
+use Rattle.cyc_tool.specs.Plans.{Plan, Ends, play_on, playing, probed_told, run_told, replaying, replaying_on, with_netlist, with_schedule, with_vectors}
+use Rattle.cyc_tool.specs.Plays.{known, played, delays_text}
 use Rattle.cyc_tool.specs.Reading.{FollowsAlone, FollowsStillAlone, GoesOn, StopsIn}
 use Rattle.cyc_tool.specs.Requests.{Shows}
 use Rattle.cyc_tool.specs.Texts.{Outcome, no_memory}
-use Rattle.cyc_tool.proofs.PlanLemmas.{goes_on_alone, goes_on_still, still_lacks, stops_alone}
+use Rattle.cyc_tool.proofs.PlanLemmas.{goes_on_alone, goes_on_still, still_ends, still_lacks, still_used, stops_alone}
 
 abbrev call : Option Files → Counts → Counts → ShelfCall
 call files before now = record { files = files; before = before; now = now }
@@ -61,3 +64,12 @@ module _ (shows : Shows) (probe : Option Kind) (recorded : List ℕ) where
       → FollowsAlone (replaying shows probe file vectors recorded) (call files a c) end
   netlist_replays file vectors net files later a b c end same goes follows =
       goes_on_alone (with_netlist file) net (replaying_on shows probe recorded vectors) files later a b c end same goes follows
+
+-- what is told of a run and of what probes of a kind show
+pub run_probed : (shows : Shows) (wanted : Kind) (recorded : List ℕ) (net : Parts) (vectors : List (List Bool)) (schedule : Schedule) (ends : List TickEnd) (shown : List ℕ) (end : Outcome)
+    → played net vectors schedule ≡ Ok ends → shown ≡ shows wanted net (changes net schedule vectors) → end ≡ told (probed_told wanted (delays_text ends) shown)
+    → FollowsStillAlone (playing shows (Some wanted) recorded net vectors schedule) end
+run_probed shows wanted recorded net vectors schedule ends shown end is text same =
+    still_used recorded (played net vectors schedule) ends (λ xs. Ends (run_told shows (Some wanted) net (changes net schedule vectors) (delays_text xs))) end is
+    (still_ends (run_told shows (Some wanted) net (changes net schedule vectors) (delays_text ends)) end
+    (inl (same ∙ ap (λ (t : List ℕ). told (probed_told wanted (delays_text ends) t)) text)))

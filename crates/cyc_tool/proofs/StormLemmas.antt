@@ -1,15 +1,19 @@
 -- The storm of a plan is the storm of its vector.
-use Rattle.std.proofs.Common.{◌≡◌, ◌<◌, ◌≤◌, ◌++◌, ℕ, Bool, true, false, List, Some, None, sym, ap, subst, ◌∙◌, arith}
+use Rattle.std.proofs.Common.{◌≡◌, ◌<◌, ◌≤◌, ◌++◌, ◌-◌, ℕ, Bool, true, false, List, Some, None, sym, ap, subst, ◌∙◌, arith}
 use Rattle.std.specs.Prelude.{nat_le, if◌then◌else◌}
 use Rattle.std.specs.List.{list_any}
 use Rattle.std.specs.declared.option.Option.{Option}
 use Rattle.cyc_base.specs.Values.{bits}
+use Rattle.cyc_base.specs.declared.trit.Trit.TheVariants.{X}
+use Rattle.care_sets.specs.Care.{columns}
 use Rattle.delay_core.specs.declared.plan.Schedule.{Schedule}
 use Rattle.cyc_base.specs.declared.sig.Sig.{Sig}
 use Rattle.netlist.specs.declared.parts.Parts.{Parts}
+use Rattle.refusals.specs.Refusals.{IsAt, IsRefusalOf}
 use Rattle.refusals.specs.declared.refusal.Refusal.{Refusal}
 use Rattle.refusals.specs.declared.refusal.Refusal.TheVariants.{Undetermined}
-use Rattle.netlist.specs.Fixpoint.{fix}
+use Rattle.netlist.specs.Fixpoint.{wire, fix}
+use Rattle.netlist.specs.Netlists.{signal, gate_sig}
 use Rattle.sched_text.specs.Written.{written}
 use Rattle.storm.specs.Laws.{IsTooLarge}
 use Rattle.storm.specs.Plans.{if_shaking, plan_at, storm_plan}
@@ -19,7 +23,8 @@ use Rattle.storm.specs.declared.planning.StormPlan.{StormPlan}
 use Rattle.cyc_tool.specs.Answer.{told}
 use Rattle.cyc_tool.specs.Endings.{storm_or_refusal, storm_told}
 use Rattle.cyc_tool.specs.Plans.{Outgrows, Prints}
-use Rattle.cyc_tool.specs.Storms.{events_of, events_told, inputs_line, storm_text}
+use Rattle.cyc_tool.specs.Seen.{IsShown}
+use Rattle.cyc_tool.specs.Storms.{events_of, events_told, inputs_line, storm_text, LeavesUnknown}
 use Rattle.cyc_tool.specs.Texts.{Outcome}
 
 plan_is : (net : Parts) (v : List Bool) (plan : StormPlan) → storm_plan net v ≡ Some plan → plan ≡ plan_at net (fix net (bits v))
@@ -56,6 +61,22 @@ outgrown net v rounds plan events end planned large same =
     subst (λ (p : StormPlan). IsTooLarge (storm_events net p rounds) (TooLarge events)) (plan_is net v plan planned) large in
     same ∙ ap (λ (n : ℕ). told (Outgrows n)) (told_events events (events_told (events_of net v rounds)) many.is)
     ∙ sym (ap (λ (t : Bool). told (if t then Prints (storm_text net v rounds) else Outgrows (events_told (events_of net v rounds)))) (too_many (events_of net v rounds) many.over))
+
+-- a refused wire is a gate that its vector leaves unknown
+pub leaves_unknown : (net : Parts) (v given : List Bool) (refused_wire : Sig) (refused : Refusal) → refused ≡ Undetermined v refused_wire → given ≡ v
+    → IsRefusalOf net refused → IsShown net refused → LeavesUnknown net given
+leaves_unknown net v given refused_wire refused is same fits shown =
+    let at : IsAt net v refused_wire = rw is at fits in
+    let unknown : wire (fix net (bits v)) refused_wire ≡ X = rw is at shown in
+    let low = at.gate.behind in
+    let high = at.gate.within in
+    let gate : ℕ = refused_wire.0 - columns net in
+    let sig : gate_sig net gate ≡ refused_wire = ap signal (omega (arith, low)) in
+    record {
+      gate = gate;
+      within = omega (arith, low, high);
+      unknown = ap (λ (b : List Bool). wire (fix net (bits b)) (gate_sig net gate)) same ∙ ap (wire (fix net (bits v))) sig ∙ unknown;
+    }
 
 -- a refused wire is told by its storm
 pub wire_stormed : (net : Parts) (rounds : ℕ) (v given : List Bool) (wire : Sig) (refused : Refusal) (end : Outcome) → refused ≡ Undetermined v wire

@@ -12,3 +12,4 @@ pub mod Causes
 -- What functions below `run` say of parts of a call, and how clauses see the values of the code.
 pub mod Reading
 pub mod Seen
+pub mod Hearing

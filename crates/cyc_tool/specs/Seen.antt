@@ -80,10 +80,16 @@ abbrev pub IsLimitOf : DecideFault → Outcome → Type 0
 IsLimitOf (NodeLimit nodes) told = outcome_of told ≡ texts.limit_reached nodes
 IsLimitOf NoNodes told = ⊥
 
--- a verdict that can be told of a netlist: there is a number of sweeps for each block, or its refusal has the netlist's widths
+-- the wire of a refusal is unknown at its vector
+abbrev pub IsShown : Parts → Refusal → Type 0
+IsShown net (Undetermined v wire) = wire_of (fix net (bits v)) wire ≡ X
+IsShown net refused = Unit {0}
+
+-- a verdict that can be told of a netlist: there is a number of sweeps for each block, or its refusal has the netlist's
+-- widths and a wire that is unknown
 abbrev pub IsTellable : Parts → Blocks → Verdict → Type 0
 IsTellable net blocks (Accepted counts loose) = length counts.per_block ≡ length blocks.list
-IsTellable net blocks (Refused refused) = IsRefusalOf net refused
+IsTellable net blocks (Refused refused) = IsRefusalOf net refused × IsShown net refused
 
 -- want of memory
 abbrev pub no_memory : Stop

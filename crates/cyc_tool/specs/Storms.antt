@@ -1,9 +1,11 @@
 -- What `storm` prints of a vector: its inputs, as a comment, and its storm as a schedule file.
-use Rattle.std.specs.Prelude.{ℕ, Bool, List, [], ◌∷◌, ◌++◌, ◌^◌, ◌-◌, length, take, min, codes}
+use Rattle.std.specs.Prelude.{◌≡◌, ◌<◌, ℕ, Bool, List, [], ◌∷◌, ◌++◌, ◌^◌, ◌-◌, length, take, min, codes}
 use Rattle.std.specs.List.{flat_map}
+use Rattle.cyc_base.specs.declared.trit.Trit.TheVariants.{X}
 use Rattle.cyc_base.specs.Values.{bits}
 use Rattle.netlist.specs.declared.parts.Parts.{Parts}
-use Rattle.netlist.specs.Fixpoint.{fix}
+use Rattle.netlist.specs.Fixpoint.{wire, fix}
+use Rattle.netlist.specs.Netlists.{gate_sig}
 use Rattle.report.specs.Ticks.{bit_text}
 use Rattle.sched_text.specs.Written.{written}
 use Rattle.storm.specs.Plans.{plan_at}
@@ -19,6 +21,12 @@ inputs_line net v = codes "# inputs " ++ (bits_or_dash (take (length net.inputs)
 
 abbrev pub storm_text : Parts → List Bool → ℕ → List ℕ
 storm_text net v rounds = inputs_line net v ++ written net (storm_of net v rounds)
+
+-- a gate is unknown in the fixpoint at this vector
+pub record LeavesUnknown (net : Parts) (v : List Bool) : Type 0 where
+  pub gate : ℕ
+  pub within : gate < length net.gates
+  pub unknown : wire (fix net (bits v)) (gate_sig net gate) ≡ X
 
 -- how many events the storm of a vector has
 abbrev pub events_of : Parts → List Bool → ℕ → ℕ

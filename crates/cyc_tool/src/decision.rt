@@ -22,7 +22,7 @@ ghost use Rattle.cyc_tool.specs.Answer.{told as done};
 ghost use Rattle.cyc_tool.specs.Calls.{IsAccepted, IsDecided};
 ghost use Rattle.cyc_tool.specs.Endings.{count_of_loops, where_outputs};
 ghost use Rattle.cyc_tool.specs.Plans.{Declines, Prints, Rewrites, WritesGraph};
-ghost use Rattle.cyc_tool.specs.Seen.{IsLimitOf, IsOutgrown, IsOverfull, IsRefusalTold, IsTellable, IsToldOf, IsToldOfGraph, outcome_of, purpose_seen};
+ghost use Rattle.cyc_tool.specs.Seen.{IsLimitOf, IsOutgrown, IsOverfull, IsRefusalTold, IsShown, IsTellable, IsToldOf, IsToldOfGraph, outcome_of, purpose_seen};
 
 use crate::explained::{tell_explained, tell_loops_explained};
 use crate::outcome::Outcome;
@@ -318,6 +318,7 @@ fn tell_refusal(
 ) -> Result<Outcome, AllocError>
     requires valid { IsNetlist net.now }
     requires fits { IsRefusalOf net.now refusal.now }
+    requires shown { IsShown net.now refusal.now }
     ensures { IfOk result (λ told. IsRefusalTold net.now (purpose_seen purpose) refusal.now (outcome_of told)) }
 {
     match purpose {

@@ -1,10 +1,11 @@
 // Plays of recorded schedules.
-ghost use Rattle.std.specs.Prelude.{◌≡◌, ◌+◌, ◌++◌, [], All, Ok, IfOk, IfErr, OnOk, length, map};
+ghost use Rattle.std.specs.Prelude.{◌≡◌, ◌+◌, ◌++◌, [], All, Ok, IfOk, IfErr, OnOk, OnErr, length, map};
 ghost use Rattle.care_sets.specs.Care.{is_one};
 ghost use Rattle.contents.specs.Faults.{IsErrorOf};
 ghost use Rattle.contents.specs.Seen.{error_seen};
 ghost use Rattle.cyc_io.specs.Text.{text_bytes};
 ghost use Rattle.probes.specs.Changes.{changes};
+ghost use Rattle.probes.specs.Hearing.{EachHears, EachHearsPrefix};
 ghost use Rattle.probes.specs.Showing.{texts_of};
 ghost use Rattle.report.specs.Ticks.{played_text};
 ghost use Rattle.sched_text.specs.Fitting.{FitsNetlist};
@@ -80,6 +81,8 @@ pub(crate) fn probed(
     requires fits { FitsNetlist net.now (length vectors.now) schedule.now }
     requires silent { All (λ probe. heard probe ≡ []) probes.old }
     ensures good { IfOk result (λ run. played_meant net.now vectors.now schedule.now ≡ Ok run.ends.items) }
+    ensures heard { OnOk result (EachHears kind heard text wanted (changes net.now schedule.now vectors.now) probes.old probes.new) }
+    ensures err { OnErr result (EachHearsPrefix kind heard text wanted (changes net.now schedule.now vectors.now) probes.old probes.new) }
     ensures shown { IfOk result (λ run. run.text.items ≡ texts_of kind text wanted net.now (changes net.now schedule.now vectors.now) probes.old) }
     ensures bad { IfErr result (λ error. IsErrorOf (played_meant net.now vectors.now schedule.now) (error_seen error)) }
 {

@@ -10,8 +10,8 @@ ghost use Rattle.storm.specs.Laws.{FitsOneTick};
 ghost use Rattle.storm.specs.Plans.{storm_plan};
 ghost use Rattle.cyc_tool.specs.Answer.{told as done};
 ghost use Rattle.cyc_tool.specs.Endings.{storm_or_refusal, storm_told};
-ghost use Rattle.cyc_tool.specs.Seen.{outcome_of};
-ghost use Rattle.cyc_tool.specs.Storms.{bits_or_dash, inputs_line};
+ghost use Rattle.cyc_tool.specs.Seen.{IsShown, outcome_of};
+ghost use Rattle.cyc_tool.specs.Storms.{bits_or_dash, inputs_line, LeavesUnknown};
 
 use crate::outcome::Outcome;
 use crate::status;
@@ -23,6 +23,7 @@ use netlist::Netlist;
 use refusals::Refusal;
 use sched_text::put_schedule;
 use std::alloc::{AllocError, Global};
+use storm::laws::unknown_gates_have_plans;
 use storm::{StormFault, StormPlan, plan, schedule};
 
 fn push_bits(text: &mut Vec<u8>, bits: &[bool]) -> Result<(), AllocError>
@@ -106,20 +107,22 @@ fn tell_planned(
     }
 }
 
-// The storm of a vector that leaves a wire unknown. It has a plan then.
+// The storm of a vector that leaves a gate unknown: it has a plan then.
 fn tell_vector(
     alloc: Global,
     net: &Netlist,
     v: &[bool],
     rounds: Rounds,
 ) -> Result<Outcome, AllocError>
-    requires { length v.now ≡ length net.now.inputs + length net.now.latches }
+    requires width { length v.now ≡ length net.now.inputs + length net.now.latches }
+    requires unknown { LeavesUnknown net.now v.now }
     ensures { IfOk result (λ told. outcome_of told ≡ done (storm_told net.now (rounds_seen rounds) v.now)) }
 {
+    unknown_gates_have_plans();
     let found = plan(alloc, net, v)?;
     match &found {
         Some(plan) => tell_planned(alloc, net, v, plan, rounds),
-        None => Err(AllocError),
+        None => unreachable!(),
     }
 }
 
@@ -130,7 +133,8 @@ pub(crate) fn tell_storm(
     refusal: &Refusal,
     rounds: Rounds,
 ) -> Result<Outcome, AllocError>
-    requires { IsRefusalOf net.now refusal.now }
+    requires fits { IsRefusalOf net.now refusal.now }
+    requires shown { IsShown net.now refusal.now }
     ensures { IfOk result (λ told. outcome_of told ≡ done (storm_or_refusal net.now (rounds_seen rounds) refusal.now)) }
 {
     match refusal {

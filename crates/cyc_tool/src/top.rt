@@ -5,10 +5,12 @@ ghost use Rattle.care_sets.specs.Binding.{IsCareOf};
 ghost use Rattle.commands.specs.Seen.{command_seen, options_seen};
 ghost use Rattle.commands.specs.Words.{command_of, standard_input as standard_input_name};
 ghost use Rattle.netlist.specs.Netlists.{IsNetlist};
+ghost use Rattle.probes.specs.Changes.{changes};
 ghost use Rattle.sched_text.specs.Fitting.{FitsNetlist};
 ghost use Rattle.sched_text.specs.Vectors.{HaveWidth};
 ghost use Rattle.cyc_tool.specs.Calls.{shelf_call, sink_call, ComesTo, Follows, KeepsNodes, Tells, Runs, WriteFailed};
 ghost use Rattle.cyc_tool.specs.Causes.{GivesAnswer, HasExplained, HasGraph, HasRewritten, HasStormed, IsComplete, IsDoneWith, IsFaulty, IsHelpedBy, IsUnread, IsWithoutCommand, MeetsLimit, NoneFell, Reaches};
+ghost use Rattle.cyc_tool.specs.Hearing.{HearCommand, HearPlay, HearRun};
 ghost use Rattle.cyc_tool.specs.Plays.{AreInputs, known as known_of};
 ghost use Rattle.cyc_tool.specs.Plans.{Decides, decision, deciding, deciding_on, finding_loops, flattening, plan_of, play_on, playing, replaying, replaying_on, simulating, simulating_on};
 ghost use Rattle.cyc_tool.specs.Reading.{FollowsAlone, FollowsStill, FollowsStillAlone};
@@ -175,7 +177,8 @@ fn play_probed(
     requires inputs { AreInputs net.now vectors.now }
     requires fits { FitsNetlist net.now (length vectors.now) schedule.now }
     requires silent { All (λ probe. heard probe ≡ []) probes.old }
-    ensures { FollowsStillAlone (playing (shown_by kind text probes.old) (Some wanted) recorded.now net.now vectors.now schedule.now) (end_of result) }
+    ensures heard { HearRun kind heard text (Some wanted) probes.old probes.new (changes net.now schedule.now vectors.now) }
+    ensures comes { FollowsStillAlone (playing (shown_by kind text probes.old) (Some wanted) recorded.now net.now vectors.now schedule.now) (end_of result) }
 {
     match probed(alloc, net, vectors, schedule, probes, wanted) {
         Ok(ShownRun { ends, text: shown }) => Ok(tell_probed(alloc, wanted, &ends, shown)?),
@@ -195,7 +198,8 @@ fn play(
     requires inputs { AreInputs net.now vectors.now }
     requires fits { FitsNetlist net.now (length vectors.now) schedule.now }
     requires silent { All (λ probe. heard probe ≡ []) probes.old }
-    ensures { FollowsStillAlone (playing (shown_by kind text probes.old) probe recorded.now net.now vectors.now schedule.now) (end_of result) }
+    ensures heard { HearRun kind heard text probe probes.old probes.new (changes net.now schedule.now vectors.now) }
+    ensures comes { FollowsStillAlone (playing (shown_by kind text probes.old) probe recorded.now net.now vectors.now schedule.now) (end_of result) }
 {
     match probe {
         Some(wanted) => play_probed(alloc, net, vectors, schedule, recorded, probes, wanted),
@@ -216,6 +220,8 @@ fn play_file<S: Shelf>(
     requires inputs { AreInputs net.now vectors.now }
     requires silent { All (λ probe. heard probe ≡ []) probes.old }
     ensures comes { FollowsAlone (play_on (shown_by kind text probes.old) probe recorded.now net.now vectors.now) (shelf_call S.files S.faults shelf.old shelf.new) (end_of result) }
+    ensures heard { HearPlay kind heard text probe (λ shows. play_on shows probe recorded.now net.now vectors.now) (shelf_call S.files S.faults shelf.old shelf.new)
+        probes.old probes.new }
     ensures same { S.files shelf.new ≡ S.files shelf.old }
 {
     let schedule = read_schedule_file(alloc, shelf, net, vectors.len(), recorded)?;
@@ -235,6 +241,8 @@ fn play_found<S: Shelf>(
     requires width { HaveWidth (length net.now.inputs) found.now }
     requires silent { All (λ probe. heard probe ≡ []) probes.old }
     ensures comes { FollowsAlone (play_on (shown_by kind text probes.old) probe recorded.now net.now (known_of found.now)) (shelf_call S.files S.faults shelf.old shelf.new) (end_of result) }
+    ensures heard { HearPlay kind heard text probe (λ shows. play_on shows probe recorded.now net.now (known_of found.now)) (shelf_call S.files S.faults shelf.old shelf.new)
+        probes.old probes.new }
     ensures same { S.files shelf.new ≡ S.files shelf.old }
 {
     let inputs = known(alloc, found)?;
@@ -253,6 +261,8 @@ fn replay<S: Shelf>(
 ) -> Result<Outcome, Stop>
     requires { All (λ probe. heard probe ≡ []) probes.old }
     ensures comes { FollowsAlone (replaying_on (shown_by kind text probes.old) probe recorded.now vectors.now net.now) (shelf_call S.files S.faults shelf.old shelf.new) (end_of result) }
+    ensures heard { HearPlay kind heard text probe (λ shows. replaying_on shows probe recorded.now vectors.now net.now) (shelf_call S.files S.faults shelf.old shelf.new)
+        probes.old probes.new }
     ensures same { S.files shelf.new ≡ S.files shelf.old }
 {
     let found = read_vector_file(alloc, shelf, net, false, vectors)?;
@@ -271,6 +281,8 @@ fn delays<S: Shelf>(
 ) -> Result<Outcome, Stop>
     requires { All (λ probe. heard probe ≡ []) probes.old }
     ensures comes { FollowsAlone (replaying (shown_by kind text probes.old) probe netlist.now vectors.now recorded.now) (shelf_call S.files S.faults shelf.old shelf.new) (end_of result) }
+    ensures heard { HearPlay kind heard text probe (λ shows. replaying shows probe netlist.now vectors.now recorded.now) (shelf_call S.files S.faults shelf.old shelf.new)
+        probes.old probes.new }
     ensures same { S.files shelf.new ≡ S.files shelf.old }
 {
     let net = read_netlist(alloc, shelf, netlist)?;
@@ -287,6 +299,8 @@ fn carry_out<S: Shelf>(
     requires { All (λ probe. heard probe ≡ []) probes.old }
     ensures comes { Follows (plan_of (shown_by kind text probes.old) (command_seen command.entry))
         (shelf_call S.files S.faults shelf.old shelf.new) d.new (end_of result) }
+    ensures heard { HearCommand kind heard text (Some (command_seen command.entry)) (shelf_call S.files S.faults shelf.old shelf.new)
+        probes.old probes.new }
     ensures same { S.files shelf.new ≡ S.files shelf.old }
     ensures kept { KeepsNodes (Some (command_seen command.entry)) d.old d.new }
 {
@@ -331,6 +345,8 @@ fn do_words<S: Shelf>(
     requires input { standard_input.now ≡ standard_input_name }
     requires silent { All (λ probe. heard probe ≡ []) probes.old }
     ensures comes { ComesTo (shown_by kind text probes.old) (command_of words.now) (shelf_call S.files S.faults shelf.old shelf.new) d.new (end_of result) }
+    ensures heard { HearCommand kind heard text (command_of words.now) (shelf_call S.files S.faults shelf.old shelf.new)
+        probes.old probes.new }
     ensures same { S.files shelf.new ≡ S.files shelf.old }
     ensures kept { KeepsNodes (command_of words.now) d.old d.new }
 {
@@ -349,6 +365,8 @@ fn find_outcome<S: Shelf>(
 ) -> Result<Outcome, Stop>
     requires { All (λ probe. heard probe ≡ []) probes.old }
     ensures comes { ComesTo (shown_by kind text probes.old) (command_of words.now) (shelf_call S.files S.faults shelf.old shelf.new) d.new (end_of result) }
+    ensures heard { HearCommand kind heard text (command_of words.now) (shelf_call S.files S.faults shelf.old shelf.new)
+        probes.old probes.new }
     ensures same { S.files shelf.new ≡ S.files shelf.old }
     ensures kept { KeepsNodes (command_of words.now) d.old d.new }
 {
@@ -399,6 +417,8 @@ fn answer_and_tell<S: Shelf, O: Sink, E: Sink>(
     requires { All (λ probe. heard probe ≡ []) probes.old }
     ensures runs { Runs (request kind text words.now probes.old) (shelf_call S.files S.faults shelf.old shelf.new) d.new
         (sink_call O.put O.faults out.old out.new) (sink_call E.put E.faults err.old err.new) result }
+    ensures heard { HearCommand kind heard text (command_of words.now) (shelf_call S.files S.faults shelf.old shelf.new)
+        probes.old probes.new }
     ensures same { S.files shelf.new ≡ S.files shelf.old }
     ensures kept { KeepsNodes (command_of words.now) d.old d.new }
     ensures out_later { O.faults out.old ≤ O.faults out.new }

@@ -1,6 +1,6 @@
 mod ChangeLemmas
 mod FaultLemmas
-mod HearingLemmas
+pub mod HearingLemmas
 mod RoundLemmas
 mod ShowLemmas
 mod SignalLemmas

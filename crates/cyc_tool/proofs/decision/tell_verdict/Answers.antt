@@ -17,3 +17,9 @@ returns-in-Refused c =
     refused_decides c.args.net.now care limit c.args.observe (purpose_seen c.args.purpose) nodes (outcome_of told) c.in-Refused.refusal c.requires.valid
     (rw c.in-Refused.is at is) same)
     c.tell_refusal.ensures
+
+pub tell_refusal-requires-clause-fits : goal.tell_refusal-requires-clause-fits
+tell_refusal-requires-clause-fits c = let fits = rw c.in-Refused.is at c.requires.fits in fits.0
+
+pub tell_refusal-requires-clause-shown : goal.tell_refusal-requires-clause-shown
+tell_refusal-requires-clause-shown c = let fits = rw c.in-Refused.is at c.requires.fits in fits.1

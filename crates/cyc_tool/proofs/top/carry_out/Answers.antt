@@ -1,4 +1,4 @@
-use Rattle.std.proofs.Common.{◌≡◌}
+use Rattle.std.proofs.Common.{◌≡◌, refl}
 use Rattle.report.specs.Help.{help_text, topic_text, version_text}
 use Rattle.cyc_tool.specs.Answer.{told}
 use Rattle.cyc_tool.specs.Plans.{Ending, Prints}
@@ -52,3 +52,42 @@ returns-in-Version-clause-comes g c =
     let ending : Ending = Prints version_text in
     rw c.in-Version.is
     (((still_ends ending _ (ends_or_lacks c.tell_version.result (λ end. end ≡ told ending) _ c.or_stop-in-Version.ensures c.tell_version.ensures)).follows c.args.d.now).follows _ _)
+
+pub returns-in-Check-clause-heard : goal.returns-in-Check-clause-heard
+returns-in-Check-clause-heard g c = rw c.in-Check.is refl
+
+pub returns-in-Rewrite-clause-heard : goal.returns-in-Rewrite-clause-heard
+returns-in-Rewrite-clause-heard g c = rw c.in-Rewrite.is refl
+
+pub returns-in-Aiger-clause-heard : goal.returns-in-Aiger-clause-heard
+returns-in-Aiger-clause-heard g c = rw c.in-Aiger.is refl
+
+pub returns-in-Explain-clause-heard : goal.returns-in-Explain-clause-heard
+returns-in-Explain-clause-heard g c = rw c.in-Explain.is refl
+
+pub returns-in-Flat-clause-heard : goal.returns-in-Flat-clause-heard
+returns-in-Flat-clause-heard g c = rw c.in-Flat.is refl
+
+pub returns-in-Loops-clause-heard : goal.returns-in-Loops-clause-heard
+returns-in-Loops-clause-heard g c = rw c.in-Loops.is refl
+
+pub returns-in-Sim-clause-heard : goal.returns-in-Sim-clause-heard
+returns-in-Sim-clause-heard g c = rw c.in-Sim.is refl
+
+pub returns-in-Demo-clause-heard : goal.returns-in-Demo-clause-heard
+returns-in-Demo-clause-heard g c = rw c.in-Demo.is refl
+
+pub returns-in-Storm-clause-heard : goal.returns-in-Storm-clause-heard
+returns-in-Storm-clause-heard g c = rw c.in-Storm.is refl
+
+pub returns-in-Help-clause-heard : goal.returns-in-Help-clause-heard
+returns-in-Help-clause-heard g c = rw c.in-Help.is refl
+
+pub returns-in-HelpOn-clause-heard : goal.returns-in-HelpOn-clause-heard
+returns-in-HelpOn-clause-heard g c = rw c.in-HelpOn.is refl
+
+pub returns-in-Version-clause-heard : goal.returns-in-Version-clause-heard
+returns-in-Version-clause-heard g c = rw c.in-Version.is refl
+
+pub returns-in-Delays-clause-heard : goal.returns-in-Delays-clause-heard
+returns-in-Delays-clause-heard g c = rw c.in-Delays.is c.delays.ensures.heard

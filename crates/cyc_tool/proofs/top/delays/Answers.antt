@@ -1,4 +1,5 @@
 use Rattle.cyc_tool.specs.Seen.{end_of}
+use Rattle.cyc_tool.proofs.HearLemmas.{netlist_hears}
 use Rattle.cyc_tool.proofs.ReplayLemmas.{netlist_replays}
 use Rattle.cyc_tool.proofs.top.delays.Goals as goal
 
@@ -6,3 +7,8 @@ pub returns-clause-comes : goal.returns-clause-comes
 returns-clause-comes g c =
     netlist_replays _ c.args.probe c.args.recorded.now c.args.netlist.now c.args.vectors.now c.in_ok-net.net _ _ _ _ _ (end_of c.replay.result)
     c.read_netlist.ensures.same c.in_ok-net.ensures.good c.replay.ensures.comes
+
+pub returns-clause-heard : goal.returns-clause-heard
+returns-clause-heard g c =
+    netlist_hears _ _ _ c.args.probe _ _ c.args.recorded.now c.args.netlist.now c.args.vectors.now c.in_ok-net.net
+    _ _ _ _ _ c.read_netlist.ensures.same c.in_ok-net.ensures.good c.replay.ensures.heard

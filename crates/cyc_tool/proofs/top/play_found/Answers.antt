@@ -3,6 +3,7 @@ use Rattle.std.specs.Prelude.{All}
 use Rattle.std.proofs.lemmas.Result.{err_from_is_err_and}
 use Rattle.cyc_tool.specs.Plays.{known}
 use Rattle.cyc_tool.specs.Seen.{end_of}
+use Rattle.cyc_tool.proofs.HearLemmas.{hears_known}
 use Rattle.cyc_tool.proofs.ReplayLemmas.{found_lacks, plays_known}
 use Rattle.cyc_tool.proofs.TickLemmas.{known_width}
 use Rattle.cyc_tool.proofs.top.play_found.Goals as goal
@@ -22,3 +23,8 @@ pub returns-clause-comes : goal.returns-clause-comes
 returns-clause-comes g c =
     let same : c.deref.result.now ≡ known c.args.found.now = c.deref.ensures.value ∙ c.in_ok-inputs.ensures in
     plays_known _ c.args.probe c.args.recorded.now c.args.net.now c.args.found.now c.deref.result.now _ _ _ (end_of c.play_file.result) same c.play_file.ensures.comes
+
+pub returns-clause-heard : goal.returns-clause-heard
+returns-clause-heard g c =
+    let same : c.deref.result.now ≡ known c.args.found.now = c.deref.ensures.value ∙ c.in_ok-inputs.ensures in
+    hears_known _ _ _ c.args.probe _ _ c.args.recorded.now c.args.net.now c.args.found.now c.deref.result.now _ same c.play_file.ensures.heard

@@ -1,0 +1,32 @@
+-- A loop at one vector, sweep by sweep.
+use Rattle.std.specs.Prelude.{◌≡◌, ◌≢◌, ◌<◌, ◌==◌, ◌&&◌, ℕ, nat_le, Bool, true, if◌then◌else◌, List, Contains}
+use Rattle.cyc_base.specs.declared.sig.Sig.{Sig}
+use Rattle.cyc_base.specs.declared.trit.Trit.{Trit}
+use Rattle.cyc_base.specs.Values.{bits}
+use Rattle.netlist.specs.declared.parts.Parts.{Parts}
+use Rattle.netlist.specs.Fixpoint.{wire}
+use Rattle.loops.specs.declared.structure.Blocks.{Blocks}
+use Rattle.loops.specs.declared.structure.Cut.{Cut}
+use Rattle.loops.specs.Blocks.{home_of}
+use Rattle.loops.specs.Cuts.{Loops, is_cut}
+use Rattle.loops.specs.Sweeps.{CutsAreFixed, first_gate, gate_of, value_in}
+
+-- What a gate of the block at place b sees of a signal: a cut wire of the block as it was before the sweep, another gate of
+-- it as it is, and all else as it is outside.
+abbrev pub seen_of : Parts → Blocks → Cut → ℕ → (outside before after : List Trit) → Sig → Trit
+seen_of net blocks cut b outside before after pin =
+    if nat_le (first_gate net) pin.0 && home_of blocks (gate_of net pin) == b
+    then (if is_cut cut.wires (gate_of net pin) then value_in before (gate_of net pin) else value_in after (gate_of net pin))
+    else wire outside pin
+
+-- a cut wire among these gates that differs in two states
+pub record HasChanged (cut : ℕ → Bool) (gates : List ℕ) (before after : List Trit) : Type 0 where
+  pub wire : ℕ
+  pub inside : Contains gates wire
+  pub is_cut : cut wire ≡ true
+  pub differs : value_in before wire ≢ value_in after wire
+
+-- so many sweeps of the loop of these gates are enough at the vector, and no fewer are
+pub record IsCountAt (net : Parts) (loops : Loops) (v : List Bool) (gates : List ℕ) (m : ℕ) : Type 0 where
+  pub enough : (a : ℕ) → Contains gates a → CutsAreFixed net loops (bits v) a m
+  pub least : (a k : ℕ) → Contains gates a → k < m → ¬ CutsAreFixed net loops (bits v) a k

@@ -1,0 +1,82 @@
+-- What probes hear of a call, whatever they show.
+use Rattle.std.proofs.Common.{◌≡◌, ◌⊎◌, ℕ, Bool, false, List, length, Some, sym, subst, inl, inr}
+use Rattle.std.specs.declared.option.Option.{Option}
+use Rattle.cyc_base.specs.declared.trit.Trit.{Trit}
+use Rattle.cyc_io.specs.Faults.{Counts}
+use Rattle.cyc_io.specs.Files.{Files}
+use Rattle.netlist.specs.declared.parts.Parts.{Parts}
+use Rattle.delay_core.specs.declared.change.Change.{Change}
+use Rattle.delay_core.specs.declared.plan.Schedule.{Schedule}
+use Rattle.probes.specs.Changes.{changes}
+use Rattle.probes.specs.declared.kind.Kind.{Kind}
+use Rattle.commands.specs.Words.{Command}
+use Rattle.cyc_tool.specs.Calls.{ShelfCall}
+use Rattle.cyc_tool.specs.Hearing.{CameToRun, HearCommand, HearPlay, HearRun}
+use Rattle.cyc_tool.specs.Plans.{Plan, play_on, playing, replaying, replaying_on, with_netlist, with_schedule, with_vectors}
+use Rattle.cyc_tool.specs.Plays.{known}
+use Rattle.cyc_tool.specs.Reading.{GoesOn}
+use Rattle.cyc_tool.specs.Requests.{Shows}
+use Rattle.cyc_tool.proofs.PlanLemmas.{leads_after}
+
+abbrev call : Option Files → Counts → Counts → ShelfCall
+call files before now = record { files = files; before = before; now = now }
+
+module _ {P : Type 0} (kind : P → Kind) (heard : P → List Change) (text : P → List Change → Parts → List ℕ) (probe : Option Kind) (old new : List P) where
+  -- a schedule, once it is read
+  pub hears_file : (recorded : List ℕ) (net : Parts) (vectors : List (List Bool)) (schedule : Schedule) (files : Option Files) (a b : Counts)
+      → GoesOn (with_schedule recorded net (length vectors)) schedule (call files a b)
+      → HearRun kind heard text probe old new (changes net schedule vectors)
+      → HearPlay kind heard text probe (λ shows. play_on shows probe recorded net vectors) (call files a b) old new
+  hears_file recorded net vectors schedule files a b goes told = inr (record {
+    recorded = recorded;
+    net = net;
+    vectors = vectors;
+    schedule = schedule;
+    leads = λ shows. goes.leads (λ s. playing shows probe recorded net vectors s);
+    told = told;
+  })
+
+  pub hears_known : (recorded : List ℕ) (net : Parts) (found : List (List Trit)) (inputs : List (List Bool)) (shelf : ShelfCall) → inputs ≡ known found
+      → HearPlay kind heard text probe (λ shows. play_on shows probe recorded net inputs) shelf old new
+      → HearPlay kind heard text probe (λ shows. play_on shows probe recorded net (known found)) shelf old new
+  hears_known recorded net found inputs shelf is hears =
+      let Q : List (List Bool) → Type 0 = λ v. HearPlay kind heard text probe (λ shows. play_on shows probe recorded net v) shelf old new in subst Q is hears
+
+  -- a file that is read before
+  hears_on : {T : Type 0} (plan : (T → Plan) → Plan) (value : T) (next : Shows → T → Plan) (files later : Option Files) (a b c : Counts) → later ≡ files
+      → GoesOn plan value (call files a b)
+      → HearPlay kind heard text probe (λ shows. next shows value) (call later b c) old new
+      → HearPlay kind heard text probe (λ shows. plan (next shows)) (call files a c) old new
+  hears_on plan value next files later a b c same goes (inl silent) = inl silent
+  hears_on plan value next files later a b c same goes (inr run) = inr (record {
+    recorded = run.recorded;
+    net = run.net;
+    vectors = run.vectors;
+    schedule = run.schedule;
+    leads = λ shows.
+        leads_after files later a b c (plan (next shows)) (next shows value) (playing shows probe run.recorded run.net run.vectors run.schedule) same
+        (goes.leads (next shows)) (run.leads shows);
+    told = run.told;
+  })
+
+  pub replay_hears : (recorded vectors : List ℕ) (net : Parts) (found : List (List Trit)) (files later : Option Files) (a b c : Counts) → later ≡ files
+      → GoesOn (with_vectors vectors net false) found (call files a b)
+      → HearPlay kind heard text probe (λ shows. play_on shows probe recorded net (known found)) (call later b c) old new
+      → HearPlay kind heard text probe (λ shows. replaying_on shows probe recorded vectors net) (call files a c) old new
+  replay_hears recorded vectors net found files later a b c same goes hears =
+      hears_on (with_vectors vectors net false) found (λ shows xs. play_on shows probe recorded net (known xs)) files later a b c same goes hears
+
+  pub netlist_hears : (recorded file vectors : List ℕ) (net : Parts) (files later : Option Files) (a b c : Counts) → later ≡ files
+      → GoesOn (with_netlist file) net (call files a b)
+      → HearPlay kind heard text probe (λ shows. replaying_on shows probe recorded vectors net) (call later b c) old new
+      → HearPlay kind heard text probe (λ shows. replaying shows probe file vectors recorded) (call files a c) old new
+  netlist_hears recorded file vectors net files later a b c same goes hears =
+      hears_on (with_netlist file) net (λ shows n. replaying_on shows probe recorded vectors n) files later a b c same goes hears
+
+-- what the command of the words hears, they do
+pub hears_command : {P : Type 0} (kind : P → Kind) (heard : P → List Change) (text : P → List Change → Parts → List ℕ) (old new : List P) (asked : Option Command)
+    (command : Command) (shelf : ShelfCall) → asked ≡ Some command → HearCommand kind heard text (Some command) shelf old new
+    → HearCommand kind heard text asked shelf old new
+hears_command kind heard text old new asked command shelf is hears =
+    let Q : Option Command → Type 0 = λ c. HearCommand kind heard text c shelf old new in
+    subst Q (sym is) hears
