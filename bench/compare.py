@@ -5,8 +5,12 @@
 
 Each case is a netlist of at most eight gates, three inputs and two latches, with or without a care file, and observed
 in one of the two ways. It is decided here by simulation with 0, 1 and unknown at each vector alone. What `check` prints
-must be the same text; and what `rewrite` writes of an accepted netlist must have no loop, and the same outputs and next
-states at each care vector. A case that differs is printed with its files, and the status is then 1.
+must be the same text. What `rewrite` writes of an accepted netlist must have no loop, and that netlist and the graph of
+`aiger` must have the same outputs and next states at each care vector. What `explain` shows of an undetermined wire
+must be a shortest cycle that leads to it, the way from there, and values that hold these gates open, all of them
+needed. A case that differs is printed with its files, and the status is then 1.
+
+CYC=PROGRAM in the environment compares that program in place of ./cyc.
 """
 import itertools
 import os
@@ -16,6 +20,7 @@ import sys
 import tempfile
 
 TOP = os.path.dirname(os.path.dirname(os.path.abspath(__file__)))
+PROGRAM = os.environ.get("CYC", f"{TOP}/cyc")
 UNKNOWN = 2
 
 
@@ -196,21 +201,140 @@ def decide(net, assume, invariant, observe):
     return f"accepted gates={len(net.gates)} loops={net.loops()} latches={len(net.latches)}{tail}", care
 
 
+def seen(net, vector):
+    """The outputs and what the latches load."""
+    wires = net.fixpoint(vector)
+    return [wires[signal] for signal in [*net.outputs, *[source for source, _ in net.latches]]]
+
+
 def differs(net, new, care):
     """Why a rewritten netlist isn't as good as the netlist, if it isn't."""
     if new.loops():
         return "it has a loop"
+    return next((f"it differs at {vector}" for vector in care if seen(net, vector) != seen(new, vector)), "")
+
+
+# ---- graphs
+
+def graph_differs(net, text, care):
+    """Why an and-inverter graph isn't as good as the netlist, if it isn't."""
+    lines = [line.split() for line in text.split("\n")]
+    count, inputs, latches, outputs, ands = map(int, lines[0][1:])
+    rows = iter(lines[1:])
+    take = lambda number: [next(rows) for _ in range(number)]
+    columns = take(inputs)
+    loads = take(latches)
+    shown, pairs = take(outputs), take(ands)
+    if (count, inputs, latches) != (inputs + latches + ands, net.inputs, len(net.latches)):
+        return "its head is another"
+    if [row[2:] for row in loads] != [{0: [], 1: ["1"]}.get(init, row[:1]) for row, (_, init) in zip(loads, net.latches)]:
+        return "its latches start otherwise"
     for vector in care:
-        old_wires, new_wires = net.fixpoint(vector), new.fixpoint(vector)
-        for old, after in zip([net.outputs, [s for s, _ in net.latches]], [new.outputs, [s for s, _ in new.latches]]):
-            if [old_wires[signal] for signal in old] != [new_wires[signal] for signal in after]:
-                return f"it differs at {vector}"
+        edges = {0: 0, 1: 1}
+        for (edge, *_), bit in zip([*columns, *loads], vector):
+            edges[int(edge)], edges[int(edge) ^ 1] = bit, 1 - bit
+        for edge, *pins in pairs:
+            bit = min(edges[int(pin)] for pin in pins)
+            edges[int(edge)], edges[int(edge) ^ 1] = bit, 1 - bit
+        if [edges[int(row[0])] for row in shown] + [edges[int(row[1])] for row in loads] != seen(net, vector):
+            return f"it differs at {vector}"
+    return ""
+
+
+# ---- explanations
+
+def held_open(net, given):
+    """The greatest set of gates that stay unknown as long as all of it does, where some columns have these values."""
+    known = net.fixpoint(given)
+    held = {net.first + gate for gate in range(len(net.gates)) if known[net.first + gate] == UNKNOWN}
+
+    def is_held(signal):
+        pins, cover = net.gates[signal - net.first]
+        choices = [(UNKNOWN,) if pin in held or known[pin] != UNKNOWN else (0, 1) for pin in pins]
+        return all(
+            extension(cover, [known[pin] if len(choice) == 1 else bit for pin, choice, bit in zip(pins, choices, bits)]) == UNKNOWN
+            for bits in itertools.product(*choices)
+        )
+
+    while True:
+        out = {signal for signal in held if not is_held(signal)}
+        if not out:
+            return held
+        held -= out
+
+
+def shortest_cycle(net, wires, goal):
+    """The number of gates on a shortest cycle of unknown gates that leads to a gate."""
+    unknown = [signal for signal in range(net.first, len(wires)) if wires[signal] == UNKNOWN]
+    reads = {signal: [pin for pin in net.gates[signal - net.first][0] if pin in unknown] for signal in unknown}
+
+    def distances(start):
+        found, front = {}, [start]
+        for far in itertools.count(1):
+            front = [pin for signal in front for pin in reads[signal] if found.setdefault(pin, far) == far]
+            front = list(dict.fromkeys(front))
+            if not front or far > len(unknown):
+                return found
+
+    leading = {goal, *distances(goal)}
+    return min(distances(signal).get(signal, len(wires) + 1) for signal in leading)
+
+
+def why_explained_wrong(net, text):
+    """What is wrong in an explanation of an undetermined wire, if something is."""
+    verdict, *lines = text.strip().split("\n")
+    number = {name: signal for signal, name in enumerate(net.names)}
+    values = dict(word.split("=") for word in verdict.split(" at ")[1].split()) if " at " in verdict else {}
+    vector = [int(values[name]) for name in net.names[: net.first]]
+    wires = net.fixpoint(vector)
+    goal = number[verdict.split("wire=")[1].split()[0]]
+    parts = {line.split()[0]: line.split()[1:] for line in lines}
+    if list(parts) not in (["cycle", "needs"], ["cycle", "reaches", "needs"]):
+        return f"its lines are {list(parts)}"
+    cycle, way = [number[name] for name in parts["cycle"]], [number[name] for name in parts.get("reaches", [])]
+    reads = lambda signal, pin: signal >= net.first and pin in net.gates[signal - net.first][0]
+    if any(wires[signal] != UNKNOWN for signal in cycle + way):
+        return "it shows a known wire"
+    if not all(reads(signal, pin) for signal, pin in zip(cycle, cycle[-1:] + cycle[:-1])):
+        return "its cycle is none"
+    if len(cycle) != shortest_cycle(net, wires, goal):
+        return f"a shortest cycle has {shortest_cycle(net, wires, goal)} gates"
+    if way and not (any(reads(way[0], pin) for pin in cycle) and all(map(reads, way[1:], way)) and not set(way) & set(cycle)):
+        return "its way is none"
+    if goal not in (way[-1:] or cycle):
+        return "it doesn't lead to the wire"
+    given = [UNKNOWN] * net.first
+    for need in parts["needs"]:
+        name, bit = need.split("=")
+        given[number[name]] = int(bit)
+    if any(bit not in (UNKNOWN, wires[column]) for column, bit in enumerate(given)):
+        return "a needed value isn't the vector's"
+    if not held_open(net, given) >= set(cycle + way):
+        return "the needed values hold it not open"
+    for column, bit in enumerate(given):
+        if bit != UNKNOWN and held_open(net, [*given[:column], UNKNOWN, *given[column + 1 :]]) >= set(cycle + way):
+            return f"{net.names[column]} isn't needed"
     return ""
 
 
 def cyc(folder, *words):
-    ran = subprocess.run([f"{TOP}/cyc", *words], cwd=folder, capture_output=True, text=True)
+    ran = subprocess.run([PROGRAM, *words], cwd=folder, capture_output=True, text=True)
     return ran.stdout if ran.returncode == 0 else ran.stdout + ran.stderr
+
+
+def why_decided_wrong(net, folder, words, want, care):
+    """What is wrong in what the commands that decide one netlist tell, if something is."""
+    got = cyc(folder, "check", *words).strip()
+    if got != want:
+        return f"check says {got!r}, not {want!r}"
+    if want.startswith("accepted"):
+        return differs(net, netlist_of(cyc(folder, "rewrite", *words)), care) or graph_differs(
+            net, cyc(folder, "aiger", *words), care
+        )
+    told = cyc(folder, "explain", *words)
+    if told.split("\n")[0] != want:
+        return f"explain says {told!r}"
+    return why_explained_wrong(net, told) if want.startswith("refused undetermined") else ""
 
 
 def case(folder):
@@ -229,10 +353,7 @@ def case(folder):
         with open(f"{folder}/{file}", "w", encoding="utf-8") as it:
             it.write(text)
     want, care = decide(net, assume, invariant, observe)
-    got = cyc(folder, "check", *words).strip()
-    why = "" if got == want else f"check says {got!r}, not {want!r}"
-    if not why and want.startswith("accepted"):
-        why = differs(net, netlist_of(cyc(folder, "rewrite", *words)), care)
+    why = why_decided_wrong(net, folder, words, want, care)
     return (f"{why}\n" + "".join(files.values()) if why else ""), " ".join(want.split()[: 1 + want.startswith("refused")])
 
 
@@ -241,7 +362,7 @@ def main():
     seed = int(sys.argv[2]) if len(sys.argv) > 2 else 1
     random.seed(seed)
     failed, kinds = 0, {}
-    subprocess.run([f"{TOP}/cyc", "check", f"{TOP}/examples/full_adder.blif"], capture_output=True)  # builds it once
+    subprocess.run([PROGRAM, "check", f"{TOP}/examples/full_adder.blif"], capture_output=True)  # builds it once
     with tempfile.TemporaryDirectory() as folder:
         for _ in range(cases):
             why, kind = case(folder)
