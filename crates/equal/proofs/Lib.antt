@@ -11,3 +11,4 @@ pub mod BoundLemmas
 pub mod BareLemmas
 pub mod StandingLemmas
 pub mod BothLemmas
+pub mod ReboundLemmas

@@ -81,13 +81,13 @@ pub record HasColumn (net : Parts) (name : List ℕ) : Type 0 where
   pub inside : column < columns net
   pub named : get_or (column_names net) column [] ≡ name
 
-length-columns : (net : Parts) → length (column_names net) ≡ columns net
+pub length-columns : (net : Parts) → length (column_names net) ≡ columns net
 length-columns net = omega (arith, length-append net.inputs (map latch_name net.latches), length-map net.latches latch_name)
 
-column_inside : (net : Parts) (name : List ℕ) (c : ℕ) → column_of net name ≡ Some c → c < columns net
+pub column_inside : (net : Parts) (name : List ℕ) (c : ℕ) → column_of net name ≡ Some c → c < columns net
 column_inside net name c is = let p = position-Some (bytes_eq name) (column_names net) c [] is in subst (λ n. c < n) (length-columns net) p.0
 
-column_is : (net : Parts) (name : List ℕ) (c : ℕ) → column_of net name ≡ Some c → get_or (column_names net) c [] ≡ name
+pub column_is : (net : Parts) (name : List ℕ) (c : ℕ) → column_of net name ≡ Some c → get_or (column_names net) c [] ≡ name
 column_is net name c is = let p = position-Some (bytes_eq name) (column_names net) c [] is in sym (same_name name (get_or (column_names net) c []) p.1)
 
 pub has_column : (net : Parts) (name : List ℕ) (c : ℕ) → column_of net name ≡ Some c → HasColumn net name
@@ -131,31 +131,35 @@ latch_column : (net : Parts) (name : List ℕ) → is_latch net name ≡ true �
 latch_column net name e =
     column_there net name (list_any-append (bytes_eq name) net.inputs (map latch_name net.latches) ∙ or_right (is_input net name) (list_any (bytes_eq name) (map latch_name net.latches)) (latch_any name net.latches e))
 
+-- each column of a netlist is one of another that has its inputs and latches
+pub column_among : (net other : Parts) → ((k : ℕ) (d : List ℕ) → k < length other.inputs → is_input net (get_or other.inputs k d) ≡ true) → ((k : ℕ) (d : Latch) → k < length other.latches → is_latch net (get_or other.latches k d).name ≡ true) → (c : ℕ) → c < columns other → HasColumn net (get_or (column_names other) c [])
+column_among net other inputs latches c l = elim (cases_lt c (length other.inputs)) [
+  | inl low ↦
+      subst (HasColumn net) (sym (get_or_append_left other.inputs (map latch_name other.latches) [] c low))
+      (input_column net (get_or other.inputs c []) (inputs c [] low))
+  | inr high ↦
+      let i : ℕ = c - length other.inputs in
+      let e : length other.inputs + i ≡ c = omega arith in
+      let less : i < length other.latches = omega arith in
+      by i less e
+]
+  where
+    by : (i : ℕ) → i < length other.latches → length other.inputs + i ≡ c → HasColumn net (get_or (column_names other) c [])
+    by i less e = at other.latches refl i less e
+      where
+        at : (ls : List Latch) → ls ≡ other.latches → (i : ℕ) → i < length ls → length other.inputs + i ≡ c → HasColumn net (get_or (column_names other) c [])
+        at [] same i less e = absurd (omega arith)
+        at (l ∷ ls) same i less e =
+            subst (HasColumn net)
+            (sym (get_or-map latch_name other.latches i l [] (subst (λ xs. i < length xs) same less))
+            ∙ sym (get_or-append-add other.inputs (map latch_name other.latches) i [])
+            ∙ ap (λ k. get_or (column_names other) k []) e)
+            (latch_column net (get_or other.latches i l).name (latches i l (subst (λ xs. i < length xs) same less)))
+
 module _ (a b : Parts) (match_ : Match a b) where
   -- each column of b is one of a
   pub column_in_a : (c : ℕ) → c < columns b → HasColumn a (get_or (column_names b) c [])
-  column_in_a c l = elim (cases_lt c (length b.inputs)) [
-    | inl low ↦
-        subst (HasColumn a) (sym (get_or_append_left b.inputs (map latch_name b.latches) [] c low))
-        (input_column a (get_or b.inputs c []) (match_.inputs_ba c [] low))
-    | inr high ↦
-        let i : ℕ = c - length b.inputs in
-        let e : length b.inputs + i ≡ c = omega arith in
-        let less : i < length b.latches = omega arith in
-        by i less e
-  ]
-    where
-      by : (i : ℕ) → i < length b.latches → length b.inputs + i ≡ c → HasColumn a (get_or (column_names b) c [])
-      by i less e = at b.latches refl i less e
-        where
-          at : (ls : List Latch) → ls ≡ b.latches → (i : ℕ) → i < length ls → length b.inputs + i ≡ c → HasColumn a (get_or (column_names b) c [])
-          at [] same i less e = absurd (omega arith)
-          at (l ∷ ls) same i less e =
-              subst (HasColumn a)
-              (sym (get_or-map latch_name b.latches i l [] (subst (λ xs. i < length xs) same less))
-              ∙ sym (get_or-append-add b.inputs (map latch_name b.latches) i [])
-              ∙ ap (λ k. get_or (column_names b) k []) e)
-              (latch_column a (get_or b.latches i l).name (match_.latches_ba i l (subst (λ xs. i < length xs) same less)))
+  column_in_a = column_among a b match_.inputs_ba match_.latches_ba
 
   -- so the table of columns has a column for each
   pub table_at : (c : ℕ) → c < columns b → get_or (columns_by_name a b) c 0 ≡ column_named a (get_or (column_names b) c [])

@@ -11,12 +11,14 @@ ghost use Rattle.equal.specs.Bounds.{IsBelowEnoughForBoth, IsOutOfNodesForBoth};
 ghost use Rattle.equal.specs.Differences.{comparison, comparison_of_accepted, AreAccepted, HaveOneSource};
 ghost use Rattle.equal.specs.Joined.{joined, joined_pairs};
 ghost use Rattle.equal.specs.Matching.{unmatched};
+ghost use Rattle.equal.specs.Rebound.{found as found_of, rebound, IsLimited};
 
 use crate::answer::Answer;
 use crate::fault::{EqualFault, fault_of};
 use crate::least::least_difference;
 use crate::matching::first_unmatched;
 use crate::placing::at_difference;
+use crate::rebinding::rebind;
 use bdd_ops::Diagrams;
 use care_sets::Care;
 use cyc_base::MAX_NODES;
@@ -171,5 +173,48 @@ pub fn compare(
     match first_unmatched(alloc, a, b)? {
         Some(name) => Ok(Answer::Unmatched { name }),
         None => compare_matched(alloc, d, a, b, care_a, care_b, limit),
+    }
+}
+
+/// The comparison of two netlists whose names match, on a care set of the first.
+fn compare_rebound(
+    alloc: Global,
+    d: &mut Diagrams,
+    a: &Netlist,
+    b: &Netlist,
+    care: &Care,
+    limit: u32,
+) -> Result<Answer, EqualFault>
+    requires matched { unmatched a.now b.now ≡ None }
+    requires care { IsCareOf a.now care.now }
+    requires limit { limit ≤ MAX_NODES }
+    ensures answer { IfOk result (λ answer. answer ≡ found_of a.now b.now care.now) }
+    ensures fault { IfErr result (λ fault. (fault ≡ EqualFault.Memory) ⊎ (fault ≡ EqualFault.NodeLimit limit)) }
+    ensures cause { result ≡ Err (EqualFault.NodeLimit limit) → IsOutOfNodesForBoth d.new a.now care.now b.now limit }
+    ensures below { result ≡ Err (EqualFault.NodeLimit limit) → IsBelowEnoughForBoth a.now care.now b.now (rebound b.now care.now) limit }
+{
+    let other = rebind(alloc, a, b, care)?;
+    compare_matched(alloc, d, a, b, care, &other, limit)
+}
+
+/// The same as `compare`, where the care set of the second netlist is that of the first: its models, bound to the second
+/// one's columns by name. Where a name isn't matched, they aren't looked at.
+pub fn compare_by_name(
+    alloc: Global,
+    d: &mut Diagrams,
+    a: &Netlist,
+    b: &Netlist,
+    care: &Care,
+    limit: u32,
+) -> Result<Answer, EqualFault>
+    requires care { IsCareOf a.now care.now }
+    requires limit { limit ≤ MAX_NODES }
+    ensures answer { IfOk result (λ answer. answer ≡ found_of a.now b.now care.now) }
+    ensures fault { IfErr result (λ fault. (fault ≡ EqualFault.Memory) ⊎ (fault ≡ EqualFault.NodeLimit limit)) }
+    ensures limited { result ≡ Err (EqualFault.NodeLimit limit) → IsLimited d.new a.now b.now care.now limit }
+{
+    match first_unmatched(alloc, a, b)? {
+        Some(name) => Ok(Answer::Unmatched { name }),
+        None => compare_rebound(alloc, d, a, b, care, limit),
     }
 }

@@ -9,7 +9,7 @@ ghost use Rattle.equal.specs.Differences.{columns_by_name};
 ghost use Rattle.equal.specs.Joined.{moved_by, moved_gate_by, moved_gates, joined};
 
 use cyc_base::{Items, Name, Sig};
-use netlist::{Clock, Gate, Latch, Netlist, Parts};
+use netlist::{Clock, Gate, Latch, Netlist, Parts, PartsFault};
 use std::alloc::{AllocError, Global};
 use unroll::copy_name;
 
@@ -197,4 +197,33 @@ pub(crate) fn joined_parts(
     let mut parts = parts_without_gates(alloc, a)?;
     parts.gates = Items::of(gates);
     Ok(parts)
+}
+
+/// The parts of these netlists are refused for want of memory alone.
+pub(crate) fn want_of_memory(_fault: PartsFault) -> AllocError
+    requires { _fault ≡ PartsFault.Memory }
+{
+    AllocError
+}
+
+/// The parts of a netlist.
+fn copy_parts(alloc: Global, net: &Netlist) -> Result<Parts, AllocError>
+    ensures { IfOk result (λ parts. parts ≡ net.now) }
+{
+    let mut parts = parts_without_gates(alloc, net)?;
+    parts.gates = Items::of(copy_gates(alloc, net)?);
+    parts.outputs = Items::of(net.outputs().to_vec(alloc)?);
+    Ok(parts)
+}
+
+/// An equal netlist.
+pub(crate) fn copy_netlist(alloc: Global, net: &Netlist) -> Result<Netlist, AllocError>
+    ensures { IfOk result (λ copy. copy ≡ net.now) }
+{
+    let _ = net.gates();
+    let parts = copy_parts(alloc, net)?;
+    match Netlist::new(alloc, parts) {
+        Ok(copy) => Ok(copy),
+        Err(fault) => Err(want_of_memory(fault)),
+    }
 }

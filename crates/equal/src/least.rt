@@ -22,7 +22,7 @@ ghost use Rattle.equal.specs.Joined.{moved_gates, moved_pair_by, telling_gates, 
 ghost use Rattle.equal.specs.Matching.{unmatched};
 
 use crate::fault::{EqualFault, fault_of};
-use crate::joining::{joined_gates, joined_parts, moved};
+use crate::joining::{joined_gates, joined_parts, moved, want_of_memory};
 use crate::pairs::{find_columns, latch_pairs, output_pairs};
 use crate::telling::add_telling;
 use bdd_ops::Diagrams;
@@ -31,7 +31,7 @@ use cyc_base::{Bits, MAX_NODES};
 use differences::{Pair, least_apart};
 use fixpoint::order;
 use loops::{find_blocks, find_cut};
-use netlist::{Gate, Netlist, PartsFault};
+use netlist::{Gate, Netlist};
 use refusals::Refusal;
 use std::alloc::{AllocError, Global};
 use unroll::mark;
@@ -103,13 +103,6 @@ fn joined_pairs(
     let _ = a.gates();
     let _ = b.gates();
     moved_pairs(alloc, columns, a.count(), &own)
-}
-
-/// The parts of these netlists are refused for want of memory alone.
-fn want_of_memory(_fault: PartsFault) -> AllocError
-    requires { _fault ≡ PartsFault.Memory }
-{
-    AllocError
 }
 
 /// The netlist of the first one's columns and these gates.

@@ -14,8 +14,9 @@ mod least;
 mod matching;
 mod pairs;
 mod placing;
+mod rebinding;
 mod telling;
 
 pub use answer::Answer;
-pub use comparing::compare;
+pub use comparing::{compare, compare_by_name};
 pub use fault::EqualFault;

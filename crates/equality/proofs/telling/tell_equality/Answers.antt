@@ -1,0 +1,20 @@
+use Rattle.std.proofs.Common.{subst}
+use Rattle.equal.specs.declared.answer.Answer.{Answer}
+use Rattle.equal.specs.Rebound.{rebound}
+use Rattle.equality.specs.Told.{IsToldOf}
+use Rattle.equality.proofs.ShownLemmas.{found_shows_itself}
+use Rattle.equality.proofs.telling.tell_equality.Goals as goal
+
+pub tell_answer-requires : goal.tell_answer-requires
+tell_answer-requires c =
+    c.answers_fit.ensures c.args.a.now c.args.b.now c.args.care.now (rebound c.args.b.now c.args.care.now) c.in_ok-answer.answer
+    c.gates.ensures.valid c.gates-2.ensures.valid c.in_ok-answer.ensures.answer
+
+pub returns-clause-told : goal.returns-clause-told
+returns-clause-told c =
+    subst (λ (answer : Answer). IsToldOf c.args.a.now c.args.b.now answer c.in_ok-tell_answer.field-0) c.in_ok-answer.ensures.answer c.in_ok-tell_answer.ensures
+
+pub returns-clause-shown : goal.returns-clause-shown
+returns-clause-shown c =
+    found_shows_itself c.equal_netlists_run_alike.ensures c.args.a.now c.args.b.now c.args.care.now c.gates.ensures.valid c.gates-2.ensures.valid c.requires.care
+    c.assume.ensures.valid
