@@ -5,7 +5,8 @@
 
 Each case is a netlist of at most eight gates, three inputs and two latches, with or without a care file, and observed
 in one of the two ways. It is decided here by simulation with 0, 1 and unknown at each vector alone. What `check` prints
-must be the same text. What `rewrite` writes of an accepted netlist must have no loop, and that netlist and the graph of
+must be the same text. Of an accepted netlist `explain` must show each loop's gates, cut wires, sweeps and columns, as
+they are defined. What `rewrite` writes of an accepted netlist must have no loop, and that netlist and the graph of
 `aiger` must have the same outputs and next states at each care vector. What `explain` shows of an undetermined wire
 must be a shortest cycle that leads to it, the way from there, and values that hold these gates open, all of them
 needed. A case that differs is printed with its files, and the status is then 1.
@@ -76,9 +77,11 @@ class Netlist:
         return found
 
     def loops(self):
+        """For each loop, in the order of their first gates, its gates in flat order."""
         reach = self.reach()
         looped = [gate for gate in range(len(reach)) if gate in reach[gate]]
-        return len({min(other for other in looped if other in reach[gate] and gate in reach[other]) for gate in looped})
+        found = [tuple(other for other in looped if other in reach[gate] and gate in reach[other]) for gate in looped]
+        return list(dict.fromkeys(found))
 
 
 # ---- BLIF
@@ -198,7 +201,7 @@ def decide(net, assume, invariant, observe):
             return "refused leaves at" + told(name, vector) + " next" + told(states, after), care
     loose = sum(any(wires[gate] == UNKNOWN for wires in fixpoints) for gate in gates)
     tail = "" if observe == "all" else f" open={loose}"
-    return f"accepted gates={len(net.gates)} loops={net.loops()} latches={len(net.latches)}{tail}", care
+    return f"accepted gates={len(net.gates)} loops={len(net.loops())} latches={len(net.latches)}{tail}", care
 
 
 def seen(net, vector):
@@ -239,6 +242,74 @@ def graph_differs(net, text, care):
         if [edges[int(row[0])] for row in shown] + [edges[int(row[1])] for row in loads] != seen(net, vector):
             return f"it differs at {vector}"
     return ""
+
+
+# ---- loops
+
+def cut_of(net, loop):
+    """The gates from which a walk leads back to them through gates of the loop that come before and are none of these."""
+    cut = []
+    for gate in loop:
+        seen, front = set(), [gate]
+        while front:
+            read = {pin - net.first for pin in net.gates[front.pop()][0]} & set(loop)
+            front += [other for other in read - seen if other < gate and other not in cut]
+            seen |= read
+        if gate in seen:
+            cut.append(gate)
+    return cut
+
+
+def sweep(net, loop, wires, cut):
+    """The cut wires after one sweep more."""
+    found = {}
+
+    def value_of(signal):
+        gate = signal - net.first
+        return cut[gate] if gate in cut else value_at(gate) if gate in loop else wires[signal]
+
+    def value_at(gate):
+        if gate not in found:
+            pins, cover = net.gates[gate]
+            found[gate] = extension(cover, [value_of(pin) for pin in pins])
+        return found[gate]
+
+    return {gate: value_at(gate) for gate in cut}
+
+
+def sweeps_of(net, loop, care):
+    """How many sweeps the loop needs at most on these vectors."""
+    most = 0
+    for vector in care:
+        wires, cut = net.fixpoint(vector), dict.fromkeys(cut_of(net, loop), UNKNOWN)
+        for number in itertools.count():
+            if all(wires[net.first + gate] == bit for gate, bit in cut.items()):
+                break
+            cut = sweep(net, loop, wires, cut)
+        most = max(most, number)
+    return most
+
+
+def upstream_of(net, gates):
+    seen, front = set(gates), list(gates)
+    while front:
+        read = {pin - net.first for pin in net.gates[front.pop()][0] if pin >= net.first} - seen
+        seen |= read
+        front += read
+    return seen
+
+
+def told_of_loops(net, care):
+    """What `explain` tells of the loops of an accepted netlist."""
+    lines = []
+    for number, loop in enumerate(net.loops(), 1):
+        names = lambda gates: "".join(" " + net.names[net.first + gate] for gate in gates)
+        columns = sorted({pin for gate in upstream_of(net, loop) for pin in net.gates[gate][0] if pin < net.first})
+        lines.append(f"loop {number} gates{names(loop)}")
+        lines.append(f"loop {number} cut{names(cut_of(net, loop))}")
+        lines.append(f"loop {number} sweeps {sweeps_of(net, loop, care)}")
+        lines.append(f"loop {number} columns" + "".join(" " + net.names[column] for column in columns))
+    return lines
 
 
 # ---- explanations
@@ -327,14 +398,17 @@ def why_decided_wrong(net, folder, words, want, care):
     got = cyc(folder, "check", *words).strip()
     if got != want:
         return f"check says {got!r}, not {want!r}"
+    shown = cyc(folder, "explain", *words)
     if want.startswith("accepted"):
+        lines = [want, *told_of_loops(net, care)]
+        if shown.split("\n") != [*lines, ""]:
+            return f"explain says {shown!r}, not {lines}"
         return differs(net, netlist_of(cyc(folder, "rewrite", *words)), care) or graph_differs(
             net, cyc(folder, "aiger", *words), care
         )
-    told = cyc(folder, "explain", *words)
-    if told.split("\n")[0] != want:
-        return f"explain says {told!r}"
-    return why_explained_wrong(net, told) if want.startswith("refused undetermined") else ""
+    if shown.split("\n")[0] != want:
+        return f"explain says {shown!r}"
+    return why_explained_wrong(net, shown) if want.startswith("refused undetermined") else ""
 
 
 def case(folder):
