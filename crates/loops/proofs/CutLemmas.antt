@@ -10,10 +10,12 @@ use Rattle.loops.specs.declared.structure.Cut.{Cut}
 use Rattle.loops.specs.Blocks.{AreBlocksOf}
 use Rattle.loops.specs.Cuts.{IsCutOf, MayPass, is_cut}
 use Rattle.loops.specs.Keeping.{AreNear, HasParted, HaveGained, IsAhead, IsBehind, IsKept, IsNear, IsPlaced, Meeting}
+use Rattle.loops.specs.Landmarks.{ReadsBack}
 use Rattle.loops.specs.Links.{IsLoopPin}
 use Rattle.loops.specs.Searching.{Connects, InRow, IsFree, Path, level_at, row_at}
-use Rattle.loops.specs.Walks.{Leads, SameLoop}
+use Rattle.loops.specs.Walks.{AnyGate, Leads, SameLoop}
 use Rattle.loops.proofs.KeptLemmas.{of_within}
+use Rattle.loops.proofs.LandmarkLemmas.{joined, one_step}
 use Rattle.loops.proofs.SearchLemmas.{path-append}
 use Rattle.loops.proofs.Told.{told_from}
 use Rattle.loops.proofs.Walks.{all_append, all_both, all_weaker, begins_at, leads-any, on_closed_walk, same_loop-sym, same_loop-trans}
@@ -166,6 +168,16 @@ nothing_kept R cut readers sources levels gates width r s v = record {
           | inr past ↦ no_entry (row_at (replicate gates empty) x) y (get_or_past (replicate gates empty) x [] (let w = length-replicate gates empty in omega arith))
         ]
 
+-- ways back from a kept gate along sources are ways to it along readers
+pub reads_back : (R : ℕ → ℕ → Type 0) (cut : List Bool) (n : ℕ) (readers sources : List (List ℕ)) (levels : List ℕ) → IsKept R cut n readers sources levels → (g : ℕ) → IsFree cut n g → ReadsBack readers sources g
+reads_back R cut n readers sources levels k g free x w = turn g x w.via free w.path
+  where
+    turn : (a b : ℕ) (via : List ℕ) → IsFree cut n a → Path (InRow sources) a via b → Connects (InRow readers) AnyGate b a
+    turn a b [] fa h = (let w = (k.reads b a fa).0 h in one_step readers b a ((k.read_by b a).1 (w.0, fa)))
+    turn a b (y ∷ via) fa h =
+        let w = (k.reads y a fa).0 h.0 in
+        joined readers b y a (turn y b via w.1 h.1) (one_step readers y a ((k.read_by y a).1 (w.0, fa)))
+
 module _ (R : ℕ → ℕ → Type 0) (cut : List Bool) (n : ℕ) (l : n < length cut) (readers sources : List (List ℕ)) (levels : List ℕ) where
   -- the row of the next gate is laid
   pub row_laid : (row : List ℕ) → IsKept R cut n readers sources levels → ((x : ℕ) → Contains row x ↔ (R x n × IsFree cut n x)) → IsKept R cut n readers (set sources n row) levels × ((x : ℕ) → InRow (set sources n row) n x ↔ (R x n × IsFree cut n x))
@@ -226,6 +238,10 @@ module _ (R : ℕ → ℕ → Type 0) (cut : List Bool) (n : ℕ) (l : n < lengt
           },
           rest.1,
         )
+
+    -- what is found back from the gate is kept
+    pub found_free : (x : ℕ) → Connects (InRow sources) AnyGate n x → IsFree cut n x
+    found_free x w = (let f = aft n x w.via (λ y c. (own y).0 c) w.path in f.1)
 
     pub closes : Meeting readers sources n → Connects R (IsFree cut n) n n
     closes m =

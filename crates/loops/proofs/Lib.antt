@@ -13,6 +13,7 @@ pub mod Determined
 pub mod Told
 pub mod SearchLemmas
 pub mod KeptLemmas
+pub mod LandmarkLemmas
 pub mod CutLemmas
 pub mod ListedLemmas
 pub mod OrderLemmas

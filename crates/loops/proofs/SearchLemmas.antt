@@ -9,7 +9,7 @@ use Rattle.loops.specs.declared.search.Limit.{Limit}
 use Rattle.loops.specs.declared.search.Limit.TheVariants.{AtLeast}
 use Rattle.loops.specs.declared.search.Search.{Search}
 use Rattle.loops.specs.Keeping.{HasEnded, Meeting}
-use Rattle.loops.specs.Searching.{Admits, Connects, Follows, GoesOn, HasAdvanced, InRow, IsMarked, IsNew, IsPassed, IsReady, IsSearching, Meets, MeetsAt, Path, level_at, row_at, unmarked_count, work_left}
+use Rattle.loops.specs.Searching.{Admits, Connects, Follows, GoesOn, HasAdvanced, InRow, IsMarked, IsNew, IsPassed, IsReady, HasSpread, IsSearching, Meets, MeetsAt, Path, Reaches, level_at, row_at, unmarked_count, work_left}
 use Rattle.loops.specs.Walks.{AnyGate}
 use Rattle.loops.proofs.Walks.{all_any}
 
@@ -41,7 +41,7 @@ only_set goal marks x y h =
     elim (cases_eq y x) [ inl e ↦ inr e | inr ne ↦ inl (sym (get_or-set_other marks x y (goal + 1) 0 ne) ∙ h) ]
 
 -- a gate with a mark has an entry
-marked_within : (goal : ℕ) (marks : List ℕ) (x : ℕ) → IsMarked goal marks x → x < length marks
+pub marked_within : (goal : ℕ) (marks : List ℕ) (x : ℕ) → IsMarked goal marks x → x < length marks
 marked_within goal marks x m =
     elim (cases_lt x (length marks)) [ inl l ↦ l | inr past ↦ absurd (let none = get_or_past marks x 0 (omega arith) in omega (arith, m)) ]
 
@@ -267,3 +267,92 @@ follows_from levels limit goal row row' marks marks' after found found' more e d
     subst (λ (xs : List ℕ). Follows levels limit goal xs (length xs) marks' after found' more) e
     (subst (λ (xs : List ℕ). Follows levels limit goal row (length row) xs after found' more) d
     (subst (λ (xs : List ℕ). Follows levels limit goal row (length row) marks after xs more) g f))
+
+-- a row's gate is reached where the gate before it is
+pub reaches_next : (rows : List (List ℕ)) (a b x : ℕ) → Reaches rows a b → InRow rows b x → Connects (InRow rows) AnyGate a x
+reaches_next rows a b x r l =
+    elim r [
+      | inl e ↦ record { via = []; kind = tt; path = subst (λ (n : ℕ). InRow rows n x) (sym e) l }
+      | inr w ↦ record {
+        via = w.via ++ (b ∷ []);
+        kind = all_any (w.via ++ (b ∷ []));
+        path = path-append (InRow rows) a b x w.via [] w.path l;
+      }
+    ]
+
+-- a search that goes on from a gate
+pub record IsSpreading (rows : List (List ℕ)) (width goal gate : ℕ) (marks : List ℕ) (search : Search) : Type 0 where
+  pub size : length search.marks.items ≡ width
+  pub within : search.passed ≤ length search.found.items
+  pub low : (x : ℕ) → Contains search.found.items x → x < width
+  pub reached : (x : ℕ) → Contains search.found.items x → Reaches rows gate x
+  pub marked : (x : ℕ) → IsMarked goal search.marks.items x → IsMarked goal marks x ⊎ Contains search.found.items x
+
+module _ (rows : List (List ℕ)) (width goal gate : ℕ) (marks : List ℕ) where
+  pub spread_begun : gate < width → length marks ≡ width → (new : Search) → new.marks.items ≡ marks → new.found.items ≡ gate ∷ [] → new.passed ≡ 0 → IsSpreading rows width goal gate marks new
+  spread_begun l size new e d p = record {
+    size = ap (λ (xs : List ℕ). length xs) e ∙ size;
+    within = omega (arith, p);
+    low = λ x c. (let is = one x c in omega (arith, l));
+    reached = λ x c. inl (sym (one x c));
+    marked = λ x m. inl (subst (λ (xs : List ℕ). IsMarked goal xs x) e m);
+  }
+    where
+      one : (x : ℕ) → Contains new.found.items x → x ≡ gate
+      one x c =
+          elim (Contains-push_cases [] gate x (subst (λ (xs : List ℕ). Contains xs x) d c)) [
+            | inl none ↦ absurd (let l = none.1 in omega arith)
+            | inr e ↦ sym e
+          ]
+
+  module _ (search : Search) (s : IsSpreading rows width goal gate marks search) where
+    pub spread_done : (before : List ℕ) → length before ≡ width → marks ≡ set before gate (goal + 1) → HasSpread rows goal gate before search.marks.items
+    spread_done before size e = record {
+      size = s.size ∙ sym size;
+      marked = λ x m.
+          elim (s.marked x m) [
+            | inr c ↦ inr (s.reached x c)
+            | inl old ↦
+                elim (only_set goal before gate x (subst (λ (xs : List ℕ). IsMarked goal xs x) e old)) [
+                  | inl first ↦ inl first
+                  | inr is ↦ inr (inl (sym is))
+                ]
+          ];
+    }
+
+    -- the gate that is passed next
+    module _ (levels : List ℕ) (g : ℕ) (below : (x : ℕ) → InRow rows g x → x < width) (less : search.passed < length search.found.items) (is : (d : ℕ) → get_or search.found.items search.passed d ≡ g) (after more : List ℕ) (f : Follows levels (AtLeast 0) goal (row_at rows g) (length (row_at rows g)) search.marks.items after search.found.items more) (new : Search) (e : new.marks.items ≡ after) (d : new.found.items ≡ more) (p : new.passed ≡ search.passed + 1) where
+      pub spread_on : IsSpreading rows width goal gate marks new
+      spread_on = record {
+        size = ap (λ (xs : List ℕ). length xs) e ∙ f.size ∙ s.size;
+        within = (let a = f.longer in let b = ap (λ (xs : List ℕ). length xs) d in omega (arith, p));
+        low = λ x c.
+            elim (f.only x (subst (λ (xs : List ℕ). Contains xs x) d c)) [ inl old ↦ s.low x old | inr w ↦ below x w.0 ];
+        reached = λ x c.
+            elim (f.only x (subst (λ (xs : List ℕ). Contains xs x) d c)) [
+              | inl old ↦ s.reached x old
+              | inr w ↦ inr (reaches_next rows gate g x (s.reached g (search.passed, less, is g)) w.0)
+            ];
+        marked = λ x m.
+            elim (f.marked x (subst (λ (xs : List ℕ). IsMarked goal xs x) e m)) [
+              | inl old ↦ elim (s.marked x old) [ inl first ↦ inl first | inr c ↦ inr (into x (still x c)) ]
+              | inr c ↦ inr (into x c)
+            ];
+      }
+        where
+          into : (x : ℕ) → Contains more x → Contains new.found.items x
+          into x c = subst (λ (xs : List ℕ). Contains xs x) (sym d) c
+
+          still : (x : ℕ) → Contains search.found.items x → Contains more x
+          still x c =
+              let a = f.longer in
+              let l = c.1 in
+              (c.0, omega arith, f.same c.0 x l ∙ c.2)
+
+      pub spread_less : work_left goal new < work_left goal search
+      spread_less =
+          let a = f.falls in
+          let b = f.longer in
+          let marks = ap (unmarked_count goal) e in
+          let len = ap (λ (xs : List ℕ). length xs) d in
+          omega (arith, p)

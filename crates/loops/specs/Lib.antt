@@ -9,5 +9,6 @@ pub mod Laws
 pub mod Links
 pub mod Placing
 pub mod Searching
+pub mod Landmarks
 pub mod Keeping
 pub mod Listed

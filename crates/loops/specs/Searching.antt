@@ -114,3 +114,12 @@ abbrev pub HasAdvanced : List (List ℕ) → List ℕ → Limit → ℕ → List
 HasAdvanced rows levels limit goal others old new (Some true) = MeetsAt rows goal others × (new ≡ old)
 HasAdvanced rows levels limit goal others old new (Some false) = (old.passed ≡ length old.found.items) × (new ≡ old)
 HasAdvanced rows levels limit goal others old new None = GoesOn rows levels limit goal others old new
+
+-- the gate itself, or one to which rows lead from it
+abbrev pub Reaches : List (List ℕ) → ℕ → ℕ → Type 0
+Reaches rows a b = (a ≡ b) ⊎ Connects (InRow rows) AnyGate a b
+
+-- what a search marks that goes on from a gate is what that gate reaches
+pub record HasSpread (rows : List (List ℕ)) (goal gate : ℕ) (marks after : List ℕ) : Type 0 where
+  pub size : length after ≡ length marks
+  pub marked : (x : ℕ) → IsMarked goal after x → IsMarked goal marks x ⊎ Reaches rows gate x

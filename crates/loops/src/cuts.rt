@@ -10,11 +10,14 @@ ghost use Rattle.std.specs.List.{All};
 ghost use Rattle.loops.specs.Blocks.{AreBlocksOf};
 ghost use Rattle.loops.specs.Cuts.{IsCutOf};
 ghost use Rattle.loops.specs.Keeping.{AreNear, HasOutcome, HasParted, IsKept};
+ghost use Rattle.loops.specs.Landmarks.{AreLandmarks};
 ghost use Rattle.loops.specs.Links.{IsLoopPin};
 ghost use Rattle.loops.specs.Searching.{Connects, InRow, IsFree, IsReady, level_at};
+ghost use Rattle.loops.specs.Walks.{AnyGate};
 
 use crate::blocks::{Members, no_members};
 use crate::kept::{add_reader, add_source, reads_itself, sources_before};
+use crate::landmarks::Landmarks;
 use crate::levels::{MIDDLE, highest, lower, lowest, place, raise};
 use crate::search::{Limit, Search, meets};
 use crate::structure::{Blocks, Cut};
@@ -56,6 +59,7 @@ fn search(
     ensures outcome { IfOk result (HasOutcome readers.now sources.now levels.now high low goal forth.new.found.items back.new.found.items) }
     ensures forth { OnOk result (IsReady (length levels.now) (goal + 1) forth.new.marks.items) }
     ensures back { OnOk result (IsReady (length levels.now) (goal + 1) back.new.marks.items) }
+    ensures reached { OnOk result ((n : ℕ) → Contains back.new.found.items n → Connects (InRow sources.now) AnyGate goal n) }
 {
     forth.start(readers, levels, Limit::AtMost(high), goal)?;
     back.start(sources, levels, Limit::AtLeast(low), goal)?;
@@ -94,6 +98,7 @@ fn close(
     ensures parted { IfOk result (HasParted readers.now sources.now goal levels.old levels.new) }
     ensures forth { OnOk result (IsReady (length levels.old) (goal + 1) forth.new.marks.items) }
     ensures back { OnOk result (IsReady (length levels.old) (goal + 1) back.new.marks.items) }
+    ensures reached { OnOk result ((n : ℕ) → Contains back.new.found.items n → Connects (InRow sources.now) AnyGate goal n) }
 {
     let high = highest(
         levels,
@@ -131,6 +136,7 @@ fn enter(
     levels: &mut [u64],
     forth: &mut Search,
     back: &mut Search,
+    landmarks: &mut Landmarks,
 ) -> Result<bool, AllocError>
     requires blocks { AreBlocksOf net.now blocks.now }
     requires gate { gate < length net.now.gates }
@@ -139,17 +145,23 @@ fn enter(
     requires kept { IsKept (IsLoopPin net.now blocks.now) cut.now gate readers.old sources.old levels.old }
     requires forth { IsReady (length cut.now) gate forth.old.marks.items }
     requires back { IsReady (length cut.now) gate back.old.marks.items }
+    requires landmarks { AreLandmarks readers.old (length cut.now) landmarks.old.list.items }
     ensures leads { IfOk result (λ leads. (leads ≡ true) ↔ Connects (IsLoopPin net.now blocks.now) (IsFree cut.now gate) gate gate) }
     ensures kept { IfOk result (λ leads. IsKept (IsLoopPin net.now blocks.now) (set cut.now gate leads) (gate + 1) readers.new sources.new levels.new) }
     ensures forth { OnOk result (IsReady (length cut.now) (gate + 1) forth.new.marks.items) }
     ensures back { OnOk result (IsReady (length cut.now) (gate + 1) back.new.marks.items) }
+    ensures landmarks { OnOk result (AreLandmarks readers.new (length cut.now) landmarks.new.list.items) }
 {
     if reads_itself(net, blocks, gate) {
         return Ok(true);
     }
     let row = sources_before(alloc, net, blocks, cut, gate)?;
     sources[gate as usize] = row;
+    if landmarks.is_closed(readers, sources, gate) {
+        return Ok(true);
+    }
     if close(readers, sources, levels, gate, forth, back)? {
+        landmarks.learn(alloc, readers, sources, levels, net.gates(), back)?;
         return Ok(true);
     }
     let behind = sources[gate as usize].gates();
@@ -157,6 +169,7 @@ fn enter(
     place(levels, behind, ahead, gate);
     add_source(sources, ahead, gate)?;
     add_reader(readers, net, blocks, gate)?;
+    landmarks.extend(readers, sources, levels, gate)?;
     Ok(false)
 }
 
@@ -175,6 +188,7 @@ pub fn find_cut(alloc: Global, net: &Netlist, blocks: &Blocks) -> Result<Cut, Al
     let mut levels = vec![in alloc; MIDDLE; gates as usize]?;
     let mut forth = Search::new(alloc, gates)?;
     let mut back = Search::new(alloc, gates)?;
+    let mut landmarks = Landmarks::new(alloc);
     for gate in 0..gates {
         let leads = enter(
             alloc,
@@ -187,6 +201,7 @@ pub fn find_cut(alloc: Global, net: &Netlist, blocks: &Blocks) -> Result<Cut, Al
             &mut levels,
             &mut forth,
             &mut back,
+            &mut landmarks,
         )?;
         cut[gate as usize] = leads;
     }

@@ -8,6 +8,7 @@
 mod blocks;
 mod cuts;
 mod kept;
+mod landmarks;
 pub mod laws;
 mod levels;
 mod links;

@@ -2,7 +2,7 @@
 
 ghost use Rattle.std.specs.Prelude.{◌≡◌, ◌<◌, ◌+◌, ◌^◌, ◌↔◌, ℕ, true, false, [], length, IfOk, OnOk, Contains, slice_index_or};
 ghost use Rattle.std.specs.List.{All};
-ghost use Rattle.loops.specs.Searching.{Admits, Follows, HasAdvanced, IsMarked, IsNew, IsReady, IsSearching, Meets, row_at};
+ghost use Rattle.loops.specs.Searching.{Admits, Follows, HasAdvanced, HasSpread, IsMarked, IsNew, IsReady, IsSearching, Meets, row_at};
 
 use crate::blocks::Members;
 use std::alloc::{AllocError, Global};
@@ -162,5 +162,39 @@ impl Search {
         follow(levels, limit, goal, row, &mut self.marks, &mut self.found)?;
         self.passed += 1;
         Ok(None)
+    }
+
+    /// Goes on from a gate, past all that the goal has marked: it marks the gate and all to which that leads.
+    pub fn spread(
+        &mut self,
+        rows: &[Members],
+        levels: &[u64],
+        goal: u32,
+        gate: u32,
+    ) -> Result<(), AllocError>
+        requires fits { goal + 1 < 2 ^ 32 }
+        requires gate { gate < length levels.now }
+        requires size { length rows.now ≡ length levels.now }
+        requires rows { All (All (λ other. other < length levels.now)) rows.now }
+        requires marks { length self.old.marks.items ≡ length levels.now }
+        ensures { OnOk result (HasSpread rows.now goal gate self.old.marks.items self.new.marks.items) }
+    {
+        self.found.clear();
+        self.passed = 0;
+        self.marks[gate as usize] = goal + 1;
+        self.found.push(gate)?;
+        while self.passed < self.found.len() {
+            let row = rows[self.found[self.passed] as usize].gates();
+            follow(
+                levels,
+                Limit::AtLeast(0),
+                goal,
+                row,
+                &mut self.marks,
+                &mut self.found,
+            )?;
+            self.passed += 1;
+        }
+        Ok(())
     }
 }

@@ -1,11 +1,14 @@
 -- A gate closes a walk, or is entered between what it reads and what reads it.
-use Rattle.std.proofs.Common.{◌≡◌, ◌<◌, ◌+◌, ℕ, Bool, true, List, [], length, set, refl, arith, subst, sym, ◌∙◌, Contains, true≢false}
-use Rattle.std.proofs.lemmas.List.{get_or_default}
+use Rattle.std.proofs.Common.{◌≡◌, ◌<◌, ◌+◌, ℕ, Bool, true, false, List, [], length, set, get_or, refl, ap, inl, arith, subst, sym, ◌∙◌, Contains, true≢false}
+use Rattle.std.proofs.lemmas.List.{get_or-set_same, get_or_default, length-set}
+use Rattle.loops.specs.declared.landmarks.Landmark.{Landmark}
 use Rattle.loops.specs.Keeping.{HasParted, HaveGained, IsKept, IsPlaced}
+use Rattle.loops.specs.Landmarks.{IsLandmark}
 use Rattle.loops.specs.Links.{IsLoopPin}
-use Rattle.loops.specs.Searching.{row_at}
-use Rattle.loops.proofs.CutLemmas.{closes, entered, left_out, parted, row_laid, stays_open}
+use Rattle.loops.specs.Searching.{InRow, IsFree, row_at}
+use Rattle.loops.proofs.CutLemmas.{closes, entered, found_free, left_out, parted, reads_back, row_laid, stays_open}
 use Rattle.loops.proofs.KeptLemmas.{all_within, gained_rows, own_row, within_of}
+use Rattle.loops.proofs.LandmarkLemmas.{landmark_kept, passed_meet}
 use Rattle.loops.proofs.cuts.enter.Goals as goal
 
 pub returns-then-reads_itself-clause-kept : goal.returns-then-reads_itself-clause-kept
@@ -167,3 +170,214 @@ returns-clause-kept c =
     entered R c.args.cut.now n l c.args.readers.now sources c.args.levels.now laid.0 laid.1 levels apart c.place.new.levels c.add_reader.new.readers c.add_source.new.sources
     (λ h. true≢false (sym (c.reads_itself.ensures.1 h) ∙ c.if-reads_itself.false)) placed c.in_ok-add_reader.ensures.size
     (gained_rows c.args.net.now c.args.blocks.now n c.args.readers.now c.add_reader.new.readers c.in_ok-add_reader.ensures) gained
+
+pub is_closed-requires-clause-readers : goal.is_closed-requires-clause-readers
+is_closed-requires-clause-readers c =
+    all_within c.args.readers.now (length c.args.readers.now) (λ x y listed.
+    let free = (c.requires.kept.read_by x y).0 listed in
+    let before = free.1.before in
+    omega (arith, c.requires.gate, c.requires.cut, c.requires.kept.readers_size))
+
+pub is_closed-requires-clause-sources : goal.is_closed-requires-clause-sources
+is_closed-requires-clause-sources c =
+    let R = IsLoopPin c.args.net.now c.args.blocks.now in
+    let n = c.args.gate in
+    let l : n < length c.args.cut.now = omega (arith, c.requires.gate, c.requires.cut) in
+    let laid = row_laid R c.args.cut.now n l c.args.readers.now c.args.sources.now c.args.levels.now c.in_ok-row.row c.requires.kept
+    (own_row c.args.net.now c.args.blocks.now c.args.cut.now n c.in_ok-row.row c.in_ok-row.ensures) in
+    let sources : List (List ℕ) = set c.args.sources.now n c.in_ok-row.row in
+    let kept = laid.0 in
+    all_within sources (length c.args.readers.now) (λ y x listed. let within = kept.reads_within x y listed in omega (arith, kept.readers_size))
+
+pub returns-then-is_closed-clause-leads : goal.returns-then-is_closed-clause-leads
+returns-then-is_closed-clause-leads c =
+    let R = IsLoopPin c.args.net.now c.args.blocks.now in
+    let n = c.args.gate in
+    let l : n < length c.args.cut.now = omega (arith, c.requires.gate, c.requires.cut) in
+    let laid = row_laid R c.args.cut.now n l c.args.readers.now c.args.sources.now c.args.levels.now c.in_ok-row.row c.requires.kept
+    (own_row c.args.net.now c.args.blocks.now c.args.cut.now n c.in_ok-row.row c.in_ok-row.ensures) in
+    let sources : List (List ℕ) = set c.args.sources.now n c.in_ok-row.row in
+    let met = passed_meet c.args.readers.now sources n (c.is_closed.ensures c.if-is_closed.true) in
+    (λ e. closes R c.args.cut.now n l c.args.readers.now sources c.args.levels.now laid.0 laid.1 met, λ k. refl)
+
+pub returns-then-is_closed-clause-kept : goal.returns-then-is_closed-clause-kept
+returns-then-is_closed-clause-kept c =
+    let R = IsLoopPin c.args.net.now c.args.blocks.now in
+    let n = c.args.gate in
+    let l : n < length c.args.cut.now = omega (arith, c.requires.gate, c.requires.cut) in
+    let laid = row_laid R c.args.cut.now n l c.args.readers.now c.args.sources.now c.args.levels.now c.in_ok-row.row c.requires.kept
+    (own_row c.args.net.now c.args.blocks.now c.args.cut.now n c.in_ok-row.row c.in_ok-row.ensures) in
+    let sources : List (List ℕ) = set c.args.sources.now n c.in_ok-row.row in
+    left_out R c.args.cut.now n l c.args.readers.now sources c.args.levels.now laid.0
+
+pub learn-requires-clause-readers : goal.learn-requires-clause-readers
+learn-requires-clause-readers c =
+    let R = IsLoopPin c.args.net.now c.args.blocks.now in
+    let n = c.args.gate in
+    let l : n < length c.args.cut.now = omega (arith, c.requires.gate, c.requires.cut) in
+    let laid = row_laid R c.args.cut.now n l c.args.readers.now c.args.sources.now c.args.levels.now c.in_ok-row.row c.requires.kept
+    (own_row c.args.net.now c.args.blocks.now c.args.cut.now n c.in_ok-row.row c.in_ok-row.ensures) in
+    let sources : List (List ℕ) = set c.args.sources.now n c.in_ok-row.row in
+    let met : HasParted c.args.readers.now sources n c.args.levels.now c.close.new.levels true =
+    subst (λ (b : Bool). HasParted c.args.readers.now sources n c.args.levels.now c.close.new.levels b) c.if-branch.true c.in_ok-close.ensures.parted in
+    let same = ap (λ (xs : List ℕ). length xs) met.1 in
+    let kept = laid.0 in
+    all_within c.args.readers.now (length c.close.new.levels) (λ x y listed.
+    let free = (kept.read_by x y).0 listed in
+    let before = free.1.before in
+    omega (arith, l, same, kept.levels_size))
+
+pub learn-requires-clause-sources : goal.learn-requires-clause-sources
+learn-requires-clause-sources c =
+    let R = IsLoopPin c.args.net.now c.args.blocks.now in
+    let n = c.args.gate in
+    let l : n < length c.args.cut.now = omega (arith, c.requires.gate, c.requires.cut) in
+    let laid = row_laid R c.args.cut.now n l c.args.readers.now c.args.sources.now c.args.levels.now c.in_ok-row.row c.requires.kept
+    (own_row c.args.net.now c.args.blocks.now c.args.cut.now n c.in_ok-row.row c.in_ok-row.ensures) in
+    let sources : List (List ℕ) = set c.args.sources.now n c.in_ok-row.row in
+    let met : HasParted c.args.readers.now sources n c.args.levels.now c.close.new.levels true =
+    subst (λ (b : Bool). HasParted c.args.readers.now sources n c.args.levels.now c.close.new.levels b) c.if-branch.true c.in_ok-close.ensures.parted in
+    let same = ap (λ (xs : List ℕ). length xs) met.1 in
+    let kept = laid.0 in
+    all_within sources (length c.close.new.levels) (λ y x listed. let within = kept.reads_within x y listed in omega (arith, same, kept.levels_size))
+
+pub learn-requires-clause-within : goal.learn-requires-clause-within
+learn-requires-clause-within c =
+    let R = IsLoopPin c.args.net.now c.args.blocks.now in
+    let n = c.args.gate in
+    let l : n < length c.args.cut.now = omega (arith, c.requires.gate, c.requires.cut) in
+    let laid = row_laid R c.args.cut.now n l c.args.readers.now c.args.sources.now c.args.levels.now c.in_ok-row.row c.requires.kept
+    (own_row c.args.net.now c.args.blocks.now c.args.cut.now n c.in_ok-row.row c.in_ok-row.ensures) in
+    let sources : List (List ℕ) = set c.args.sources.now n c.in_ok-row.row in
+    let met : HasParted c.args.readers.now sources n c.args.levels.now c.close.new.levels true =
+    subst (λ (b : Bool). HasParted c.args.readers.now sources n c.args.levels.now c.close.new.levels b) c.if-branch.true c.in_ok-close.ensures.parted in
+    let same = ap (λ (xs : List ℕ). length xs) met.1 in
+    let kept = laid.0 in
+    λ x found.
+    (let free = found_free R c.args.cut.now n l c.args.readers.now sources c.args.levels.now laid.0 laid.1 x (c.in_ok-close.ensures.reached x found) in
+    let before = free.before in
+    omega (arith, l, same, kept.levels_size))
+
+pub learn-requires-clause-back : goal.learn-requires-clause-back
+learn-requires-clause-back c =
+    let R = IsLoopPin c.args.net.now c.args.blocks.now in
+    let n = c.args.gate in
+    let l : n < length c.args.cut.now = omega (arith, c.requires.gate, c.requires.cut) in
+    let laid = row_laid R c.args.cut.now n l c.args.readers.now c.args.sources.now c.args.levels.now c.in_ok-row.row c.requires.kept
+    (own_row c.args.net.now c.args.blocks.now c.args.cut.now n c.in_ok-row.row c.in_ok-row.ensures) in
+    let sources : List (List ℕ) = set c.args.sources.now n c.in_ok-row.row in
+    λ x found.
+    reads_back R c.args.cut.now n c.args.readers.now sources c.args.levels.now laid.0 x
+    (found_free R c.args.cut.now n l c.args.readers.now sources c.args.levels.now laid.0 laid.1 x (c.in_ok-close.ensures.reached x found))
+
+pub extend-requires-clause-readers : goal.extend-requires-clause-readers
+extend-requires-clause-readers c =
+    let R = IsLoopPin c.args.net.now c.args.blocks.now in
+    let n = c.args.gate in
+    let l : n < length c.args.cut.now = omega (arith, c.requires.gate, c.requires.cut) in
+    let laid = row_laid R c.args.cut.now n l c.args.readers.now c.args.sources.now c.args.levels.now c.in_ok-row.row c.requires.kept
+    (own_row c.args.net.now c.args.blocks.now c.args.cut.now n c.in_ok-row.row c.in_ok-row.ensures) in
+    let sources : List (List ℕ) = set c.args.sources.now n c.in_ok-row.row in
+    let levels = c.close.new.levels in
+    let apart = parted R c.args.cut.now n l c.args.readers.now sources c.args.levels.now laid.0 laid.1 levels
+    (subst (λ (b : Bool). HasParted c.args.readers.now sources n c.args.levels.now levels b) c.if-branch.false c.in_ok-close.ensures.parted) in
+    let sizes = laid.0 in
+    let behind : c.gates-behind.result.now ≡ row_at sources n = c.gates-behind.ensures ∙ get_or_default sources n c.index-sources-gate-2.result [] (omega (arith, l, sizes.sources_size)) in
+    let ahead : c.gates-ahead.result.now ≡ row_at c.args.readers.now n = c.gates-ahead.ensures ∙ get_or_default c.args.readers.now n c.index-readers-gate.result [] (omega (arith, l, sizes.readers_size)) in
+    let placed : IsPlaced (row_at sources n) (row_at c.args.readers.now n) n levels c.place.new.levels =
+    subst (λ (xs : List ℕ). IsPlaced xs (row_at c.args.readers.now n) n levels c.place.new.levels) behind
+    (subst (λ (xs : List ℕ). IsPlaced c.gates-behind.result.now xs n levels c.place.new.levels) ahead c.place.ensures) in
+    let gained : HaveGained (row_at c.args.readers.now n) n (length (row_at c.args.readers.now n)) sources c.add_source.new.sources =
+    subst (λ (xs : List ℕ). HaveGained xs n (length xs) sources c.add_source.new.sources) ahead c.in_ok-add_source.ensures in
+    let gains = gained_rows c.args.net.now c.args.blocks.now n c.args.readers.now c.add_reader.new.readers c.in_ok-add_reader.ensures in
+    let kept =
+    entered R c.args.cut.now n l c.args.readers.now sources c.args.levels.now laid.0 laid.1 levels apart c.place.new.levels c.add_reader.new.readers c.add_source.new.sources
+    (λ h. true≢false (sym (c.reads_itself.ensures.1 h) ∙ c.if-reads_itself.false)) placed c.in_ok-add_reader.ensures.size gains gained in
+    let width = length-set c.args.cut.now n false in
+    all_within c.add_reader.new.readers (length c.place.new.levels) (λ x y listed.
+    let free = (kept.read_by x y).0 listed in
+    let before = free.1.before in
+    omega (arith, l, width, kept.levels_size))
+
+pub extend-requires-clause-sources : goal.extend-requires-clause-sources
+extend-requires-clause-sources c =
+    let R = IsLoopPin c.args.net.now c.args.blocks.now in
+    let n = c.args.gate in
+    let l : n < length c.args.cut.now = omega (arith, c.requires.gate, c.requires.cut) in
+    let laid = row_laid R c.args.cut.now n l c.args.readers.now c.args.sources.now c.args.levels.now c.in_ok-row.row c.requires.kept
+    (own_row c.args.net.now c.args.blocks.now c.args.cut.now n c.in_ok-row.row c.in_ok-row.ensures) in
+    let sources : List (List ℕ) = set c.args.sources.now n c.in_ok-row.row in
+    let levels = c.close.new.levels in
+    let apart = parted R c.args.cut.now n l c.args.readers.now sources c.args.levels.now laid.0 laid.1 levels
+    (subst (λ (b : Bool). HasParted c.args.readers.now sources n c.args.levels.now levels b) c.if-branch.false c.in_ok-close.ensures.parted) in
+    let sizes = laid.0 in
+    let behind : c.gates-behind.result.now ≡ row_at sources n = c.gates-behind.ensures ∙ get_or_default sources n c.index-sources-gate-2.result [] (omega (arith, l, sizes.sources_size)) in
+    let ahead : c.gates-ahead.result.now ≡ row_at c.args.readers.now n = c.gates-ahead.ensures ∙ get_or_default c.args.readers.now n c.index-readers-gate.result [] (omega (arith, l, sizes.readers_size)) in
+    let placed : IsPlaced (row_at sources n) (row_at c.args.readers.now n) n levels c.place.new.levels =
+    subst (λ (xs : List ℕ). IsPlaced xs (row_at c.args.readers.now n) n levels c.place.new.levels) behind
+    (subst (λ (xs : List ℕ). IsPlaced c.gates-behind.result.now xs n levels c.place.new.levels) ahead c.place.ensures) in
+    let gained : HaveGained (row_at c.args.readers.now n) n (length (row_at c.args.readers.now n)) sources c.add_source.new.sources =
+    subst (λ (xs : List ℕ). HaveGained xs n (length xs) sources c.add_source.new.sources) ahead c.in_ok-add_source.ensures in
+    let gains = gained_rows c.args.net.now c.args.blocks.now n c.args.readers.now c.add_reader.new.readers c.in_ok-add_reader.ensures in
+    let kept =
+    entered R c.args.cut.now n l c.args.readers.now sources c.args.levels.now laid.0 laid.1 levels apart c.place.new.levels c.add_reader.new.readers c.add_source.new.sources
+    (λ h. true≢false (sym (c.reads_itself.ensures.1 h) ∙ c.if-reads_itself.false)) placed c.in_ok-add_reader.ensures.size gains gained in
+    let width = length-set c.args.cut.now n false in
+    all_within c.add_source.new.sources (length c.place.new.levels) (λ y x listed. let within = kept.reads_within x y listed in omega (arith, kept.levels_size))
+
+pub extend-requires-clause-back : goal.extend-requires-clause-back
+extend-requires-clause-back c =
+    let R = IsLoopPin c.args.net.now c.args.blocks.now in
+    let n = c.args.gate in
+    let l : n < length c.args.cut.now = omega (arith, c.requires.gate, c.requires.cut) in
+    let laid = row_laid R c.args.cut.now n l c.args.readers.now c.args.sources.now c.args.levels.now c.in_ok-row.row c.requires.kept
+    (own_row c.args.net.now c.args.blocks.now c.args.cut.now n c.in_ok-row.row c.in_ok-row.ensures) in
+    let sources : List (List ℕ) = set c.args.sources.now n c.in_ok-row.row in
+    let levels = c.close.new.levels in
+    let apart = parted R c.args.cut.now n l c.args.readers.now sources c.args.levels.now laid.0 laid.1 levels
+    (subst (λ (b : Bool). HasParted c.args.readers.now sources n c.args.levels.now levels b) c.if-branch.false c.in_ok-close.ensures.parted) in
+    let sizes = laid.0 in
+    let behind : c.gates-behind.result.now ≡ row_at sources n = c.gates-behind.ensures ∙ get_or_default sources n c.index-sources-gate-2.result [] (omega (arith, l, sizes.sources_size)) in
+    let ahead : c.gates-ahead.result.now ≡ row_at c.args.readers.now n = c.gates-ahead.ensures ∙ get_or_default c.args.readers.now n c.index-readers-gate.result [] (omega (arith, l, sizes.readers_size)) in
+    let placed : IsPlaced (row_at sources n) (row_at c.args.readers.now n) n levels c.place.new.levels =
+    subst (λ (xs : List ℕ). IsPlaced xs (row_at c.args.readers.now n) n levels c.place.new.levels) behind
+    (subst (λ (xs : List ℕ). IsPlaced c.gates-behind.result.now xs n levels c.place.new.levels) ahead c.place.ensures) in
+    let gained : HaveGained (row_at c.args.readers.now n) n (length (row_at c.args.readers.now n)) sources c.add_source.new.sources =
+    subst (λ (xs : List ℕ). HaveGained xs n (length xs) sources c.add_source.new.sources) ahead c.in_ok-add_source.ensures in
+    let gains = gained_rows c.args.net.now c.args.blocks.now n c.args.readers.now c.add_reader.new.readers c.in_ok-add_reader.ensures in
+    let kept =
+    entered R c.args.cut.now n l c.args.readers.now sources c.args.levels.now laid.0 laid.1 levels apart c.place.new.levels c.add_reader.new.readers c.add_source.new.sources
+    (λ h. true≢false (sym (c.reads_itself.ensures.1 h) ∙ c.if-reads_itself.false)) placed c.in_ok-add_reader.ensures.size gains gained in
+    let width = length-set c.args.cut.now n false in
+    let free : IsFree (set c.args.cut.now n false) (n + 1) n = record { before = omega arith; uncut = get_or-set_same c.args.cut.now n false false l } in
+    reads_back R (set c.args.cut.now n false) (n + 1) c.add_reader.new.readers c.add_source.new.sources c.place.new.levels kept n free
+
+pub extend-requires-clause-landmarks : goal.extend-requires-clause-landmarks
+extend-requires-clause-landmarks c =
+    let R = IsLoopPin c.args.net.now c.args.blocks.now in
+    let n = c.args.gate in
+    let l : n < length c.args.cut.now = omega (arith, c.requires.gate, c.requires.cut) in
+    let laid = row_laid R c.args.cut.now n l c.args.readers.now c.args.sources.now c.args.levels.now c.in_ok-row.row c.requires.kept
+    (own_row c.args.net.now c.args.blocks.now c.args.cut.now n c.in_ok-row.row c.in_ok-row.ensures) in
+    let sources : List (List ℕ) = set c.args.sources.now n c.in_ok-row.row in
+    let levels = c.close.new.levels in
+    let apart = parted R c.args.cut.now n l c.args.readers.now sources c.args.levels.now laid.0 laid.1 levels
+    (subst (λ (b : Bool). HasParted c.args.readers.now sources n c.args.levels.now levels b) c.if-branch.false c.in_ok-close.ensures.parted) in
+    let sizes = laid.0 in
+    let behind : c.gates-behind.result.now ≡ row_at sources n = c.gates-behind.ensures ∙ get_or_default sources n c.index-sources-gate-2.result [] (omega (arith, l, sizes.sources_size)) in
+    let ahead : c.gates-ahead.result.now ≡ row_at c.args.readers.now n = c.gates-ahead.ensures ∙ get_or_default c.args.readers.now n c.index-readers-gate.result [] (omega (arith, l, sizes.readers_size)) in
+    let placed : IsPlaced (row_at sources n) (row_at c.args.readers.now n) n levels c.place.new.levels =
+    subst (λ (xs : List ℕ). IsPlaced xs (row_at c.args.readers.now n) n levels c.place.new.levels) behind
+    (subst (λ (xs : List ℕ). IsPlaced c.gates-behind.result.now xs n levels c.place.new.levels) ahead c.place.ensures) in
+    let gained : HaveGained (row_at c.args.readers.now n) n (length (row_at c.args.readers.now n)) sources c.add_source.new.sources =
+    subst (λ (xs : List ℕ). HaveGained xs n (length xs) sources c.add_source.new.sources) ahead c.in_ok-add_source.ensures in
+    let gains = gained_rows c.args.net.now c.args.blocks.now n c.args.readers.now c.add_reader.new.readers c.in_ok-add_reader.ensures in
+    let kept =
+    entered R c.args.cut.now n l c.args.readers.now sources c.args.levels.now laid.0 laid.1 levels apart c.place.new.levels c.add_reader.new.readers c.add_source.new.sources
+    (λ h. true≢false (sym (c.reads_itself.ensures.1 h) ∙ c.if-reads_itself.false)) placed c.in_ok-add_reader.ensures.size gains gained in
+    let width = length-set c.args.cut.now n false in
+    let wide : length c.args.cut.now ≡ length c.place.new.levels = sym (kept.levels_size ∙ width) in
+    λ k d kl.
+    (let landmark : Landmark = get_or c.args.landmarks.now.list.items k d in
+    landmark_kept c.args.readers.now c.add_reader.new.readers (λ x y old. (gains x y).1 (inl old)) (length c.place.new.levels) landmark
+    (subst (λ (w : ℕ). IsLandmark c.args.readers.now w landmark) wide (c.requires.landmarks k d kl)))

@@ -3,6 +3,7 @@ use Rattle.std.proofs.lemmas.List.{length-replicate, length-set, with_items_is}
 use Rattle.std.specs.Vec.{with_items}
 use Rattle.loops.specs.declared.structure.Cut.{Cut}
 use Rattle.loops.specs.Keeping.{IsKept}
+use Rattle.loops.specs.Landmarks.{AreLandmarks}
 use Rattle.loops.specs.Links.{IsLoopPin}
 use Rattle.loops.specs.Searching.{Connects, IsFree, IsReady}
 use Rattle.loops.proofs.CutLemmas.{AreCutsBelow, no_cuts, nothing_kept, cut_from_below, cut_step}
@@ -19,6 +20,7 @@ loop-gate-init c =
           c.in_ok-readers.ensures c.in_ok-sources.ensures (c.in_ok-levels.ensures.items_if_clones_equal (search rules));
       forth = subst (λ (n : ℕ). IsReady n 0 c.in_ok-forth.forth.marks.items) gates c.in_ok-forth.ensures;
       back = subst (λ (n : ℕ). IsReady n 0 c.in_ok-back.back.marks.items) gates c.in_ok-back.ensures;
+      landmarks = c.new-landmarks.ensures c.in_ok-readers.readers.items (length c.args.net.now.gates);
     }
 
 pub loop-gate-preserved : goal.loop-gate-preserved
@@ -47,6 +49,9 @@ loop-gate-preserved c =
           (subst (λ (xs : List ℕ). IsKept R cut (gate + 1) c.enter.new.readers c.enter.new.sources xs) (sym (with_items_is c.loop-gate.levels c.enter.new.levels levels)) kept));
       forth = subst (λ (n : ℕ). IsReady n (gate + 1) c.enter.new.forth.marks.items) width c.in_ok-leads.ensures.forth;
       back = subst (λ (n : ℕ). IsReady n (gate + 1) c.enter.new.back.marks.items) width c.in_ok-leads.ensures.back;
+      landmarks =
+          subst (λ (xs : List (List ℕ)). AreLandmarks xs (length net.gates) c.enter.new.landmarks.list.items) (sym (with_items_is c.loop-gate.readers c.enter.new.readers readers))
+          (subst (λ (n : ℕ). AreLandmarks c.enter.new.readers n c.enter.new.landmarks.list.items) width c.in_ok-leads.ensures.landmarks);
     }
 
 pub returns : goal.returns

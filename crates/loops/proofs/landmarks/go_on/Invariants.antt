@@ -1,0 +1,6 @@
+use Rattle.std.proofs.Common.{length}
+use Rattle.loops.specs.Landmarks.{AreLandmarks}
+use Rattle.loops.proofs.landmarks.go_on.Given as goal
+
+abbrev pub invariant-loop-landmark : goal.invariant-loop-landmark
+invariant-loop-landmark l = AreLandmarks l.readers (length l.levels) l.landmarks

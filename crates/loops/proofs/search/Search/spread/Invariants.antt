@@ -1,0 +1,10 @@
+use Rattle.std.proofs.Common.{ℕ, length}
+use Rattle.loops.specs.Searching.{work_left}
+use Rattle.loops.proofs.SearchLemmas.{IsSpreading}
+use Rattle.loops.proofs.search.Search.spread.Given as goal
+
+abbrev pub invariant-loop-self : goal.invariant-loop-self
+invariant-loop-self l = IsSpreading l.rows (length l.levels) l.goal l.gate l.initial.self.marks.items l.self
+
+abbrev pub decreases-loop-self : goal.decreases-loop-self
+decreases-loop-self l = work_left l.goal l.self

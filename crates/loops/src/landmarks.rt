@@ -1,0 +1,295 @@
+//! Landmarks: a few gates of which it is kept to which gates they lead and which lead to them, so that a walk past one
+//! of them is seen without a search (hops of Cohen, Halperin, Kaplan and Zwick 2003, kept up to date after Italiano
+//! 1986).
+
+ghost use Rattle.std.specs.Prelude.{◌≡◌, ◌<◌, ◌+◌, ◌^◌, ℕ, List, true, length, IfOk, OnOk, Contains};
+ghost use Rattle.std.specs.List.{All};
+ghost use Rattle.loops.specs.Landmarks.{AreLandmarks, IsLandmark, Passes, ReadsBack};
+ghost use Rattle.loops.specs.Searching.{Meets, row_at};
+
+use crate::blocks::Members;
+use crate::search::{Search, meets};
+use std::alloc::{AllocError, Global};
+
+/// How many landmarks there are at most.
+const MOST: usize = 4;
+
+/// A gate, and two searches from it that go on as gates are entered.
+#[derive(Debug)]
+pub(crate) struct Landmark {
+    pub gate: u32,
+    /// It has marked gates to which the landmark leads.
+    pub ahead: Search,
+    /// It has marked gates that lead to the landmark.
+    pub behind: Search,
+}
+
+impl Drop for Landmark {
+    fn drop(self) {
+        let Landmark {
+            gate: _,
+            ahead: _,
+            behind: _,
+        } = self;
+    }
+}
+
+/// The landmarks, the oldest of which make place for others.
+#[derive(Debug)]
+pub(crate) struct Landmarks {
+    pub list: Vec<Landmark>,
+    /// The place of the next one.
+    pub next: usize,
+    /// How many gates searches have found since the last one was chosen.
+    pub found: usize,
+}
+
+impl Drop for Landmarks {
+    fn drop(self) {
+        let Landmarks {
+            list: _,
+            next: _,
+            found: _,
+        } = self;
+    }
+}
+
+/// A landmark at a gate.
+fn landmark_at(
+    alloc: Global,
+    readers: &[Members],
+    sources: &[Members],
+    levels: &[u64],
+    gates: u32,
+    gate: u32,
+) -> Result<Landmark, AllocError>
+    requires gates { gates ≡ length levels.now }
+    requires gate { gate < length levels.now }
+    requires readers_size { length readers.now ≡ length levels.now }
+    requires sources_size { length sources.now ≡ length levels.now }
+    requires readers { All (All (λ other. other < length levels.now)) readers.now }
+    requires sources { All (All (λ other. other < length levels.now)) sources.now }
+    requires back { ReadsBack readers.now sources.now gate }
+    ensures { IfOk result (IsLandmark readers.now (length levels.now)) }
+{
+    let mut ahead = Search::new(alloc, gates)?;
+    ahead.spread(readers, levels, gate, gate)?;
+    let mut behind = Search::new(alloc, gates)?;
+    behind.spread(sources, levels, gate, gate)?;
+    Ok(Landmark {
+        gate,
+        ahead,
+        behind,
+    })
+}
+
+/// Whether a walk is known to lead from one row past the landmark to the other.
+fn leads_past(landmark: &Landmark, ahead: &[u32], behind: &[u32]) -> bool
+    requires fits { landmark.now.gate + 1 < 2 ^ 32 }
+    requires ahead { All (λ gate. gate < length landmark.now.behind.marks.items) ahead.now }
+    requires behind { All (λ gate. gate < length landmark.now.ahead.marks.items) behind.now }
+    ensures { result ≡ true → Meets landmark.now.gate ahead.now landmark.now.behind.marks.items × Meets landmark.now.gate behind.now landmark.now.ahead.marks.items }
+{
+    meets(ahead, landmark.gate, &landmark.behind.marks)
+        && meets(behind, landmark.gate, &landmark.ahead.marks)
+}
+
+/// The landmark leads to a gate that was entered, if it leads to one that this gate reads.
+fn go_ahead(
+    landmark: &mut Landmark,
+    readers: &[Members],
+    sources: &[Members],
+    levels: &[u64],
+    gate: u32,
+) -> Result<(), AllocError>
+    requires gate { gate < length levels.now }
+    requires readers_size { length readers.now ≡ length levels.now }
+    requires sources_size { length sources.now ≡ length levels.now }
+    requires readers { All (All (λ other. other < length levels.now)) readers.now }
+    requires sources { All (All (λ other. other < length levels.now)) sources.now }
+    requires back { ReadsBack readers.now sources.now gate }
+    requires landmark { IsLandmark readers.now (length levels.now) landmark.old }
+    ensures { OnOk result (IsLandmark readers.now (length levels.now) landmark.new) }
+{
+    if meets(
+        sources[gate as usize].gates(),
+        landmark.gate,
+        &landmark.ahead.marks,
+    ) {
+        landmark.ahead.spread(readers, levels, landmark.gate, gate)?;
+    }
+    Ok(())
+}
+
+/// A gate that was entered leads to the landmark, if one does that reads it.
+fn go_back(
+    landmark: &mut Landmark,
+    readers: &[Members],
+    sources: &[Members],
+    levels: &[u64],
+    gate: u32,
+) -> Result<(), AllocError>
+    requires gate { gate < length levels.now }
+    requires readers_size { length readers.now ≡ length levels.now }
+    requires sources_size { length sources.now ≡ length levels.now }
+    requires readers { All (All (λ other. other < length levels.now)) readers.now }
+    requires sources { All (All (λ other. other < length levels.now)) sources.now }
+    requires back { ReadsBack readers.now sources.now gate }
+    requires landmark { IsLandmark readers.now (length levels.now) landmark.old }
+    ensures { OnOk result (IsLandmark readers.now (length levels.now) landmark.new) }
+{
+    if meets(
+        readers[gate as usize].gates(),
+        landmark.gate,
+        &landmark.behind.marks,
+    ) {
+        landmark
+            .behind
+            .spread(sources, levels, landmark.gate, gate)?;
+    }
+    Ok(())
+}
+
+/// The landmarks go on from a gate that was entered.
+fn go_on(
+    landmarks: &mut [Landmark],
+    readers: &[Members],
+    sources: &[Members],
+    levels: &[u64],
+    gate: u32,
+) -> Result<(), AllocError>
+    requires gate { gate < length levels.now }
+    requires readers_size { length readers.now ≡ length levels.now }
+    requires sources_size { length sources.now ≡ length levels.now }
+    requires readers { All (All (λ other. other < length levels.now)) readers.now }
+    requires sources { All (All (λ other. other < length levels.now)) sources.now }
+    requires back { ReadsBack readers.now sources.now gate }
+    requires landmarks { AreLandmarks readers.now (length levels.now) landmarks.old }
+    ensures { OnOk result (AreLandmarks readers.now (length levels.now) landmarks.new) }
+{
+    for landmark in landmarks.iter_mut() {
+        go_ahead(landmark, readers, sources, levels, gate)?;
+        go_back(landmark, readers, sources, levels, gate)?;
+    }
+    Ok(())
+}
+
+/// Whether a walk is known to lead from one row past a landmark to the other.
+fn leads_past_any(
+    landmarks: &[Landmark],
+    readers: &[Members],
+    ahead: &[u32],
+    behind: &[u32],
+) -> bool
+    requires ahead { All (λ gate. gate < length readers.now) ahead.now }
+    requires behind { All (λ gate. gate < length readers.now) behind.now }
+    requires landmarks { AreLandmarks readers.now (length readers.now) landmarks.now }
+    ensures { result ≡ true → Passes readers.now ahead.now behind.now }
+{
+    for landmark in landmarks {
+        if leads_past(landmark, ahead, behind) {
+            return true;
+        }
+    }
+    false
+}
+
+impl Landmarks {
+    /// No landmarks.
+    pub fn new(alloc: Global) -> Landmarks
+        ensures { (readers : List (List ℕ)) → (gates : ℕ) → AreLandmarks readers gates result.list.items }
+    {
+        Landmarks {
+            list: Vec::new(alloc),
+            next: 0,
+            found: 0,
+        }
+    }
+
+    /// Whether a walk is known to lead from what reads a gate past a landmark to what the gate reads.
+    pub fn is_closed(&self, readers: &[Members], sources: &[Members], gate: u32) -> bool
+        requires gate { gate < length readers.now }
+        requires sources_size { length sources.now ≡ length readers.now }
+        requires readers { All (All (λ other. other < length readers.now)) readers.now }
+        requires sources { All (All (λ other. other < length readers.now)) sources.now }
+        requires landmarks { AreLandmarks readers.now (length readers.now) self.now.list.items }
+        ensures { result ≡ true → Passes readers.now (row_at readers.now gate) (row_at sources.now gate) }
+    {
+        leads_past_any(
+            &self.list,
+            readers,
+            readers[gate as usize].gates(),
+            sources[gate as usize].gates(),
+        )
+    }
+
+    /// Goes on from a gate that was entered.
+    pub fn extend(
+        &mut self,
+        readers: &[Members],
+        sources: &[Members],
+        levels: &[u64],
+        gate: u32,
+    ) -> Result<(), AllocError>
+        requires gate { gate < length levels.now }
+        requires readers_size { length readers.now ≡ length levels.now }
+        requires sources_size { length sources.now ≡ length levels.now }
+        requires readers { All (All (λ other. other < length levels.now)) readers.now }
+        requires sources { All (All (λ other. other < length levels.now)) sources.now }
+        requires back { ReadsBack readers.now sources.now gate }
+        requires landmarks { AreLandmarks readers.now (length levels.now) self.old.list.items }
+        ensures { OnOk result (AreLandmarks readers.now (length levels.now) self.new.list.items) }
+    {
+        go_on(&mut self.list, readers, sources, levels, gate)
+    }
+
+    /// Puts a landmark in the next place.
+    fn put(&mut self, landmark: Landmark) -> Result<(), AllocError>
+        ensures { (readers : List (List ℕ)) → (gates : ℕ) → IsLandmark readers gates landmark → AreLandmarks readers gates self.old.list.items → OnOk result (AreLandmarks readers gates self.new.list.items) }
+    {
+        if self.next < self.list.len() {
+            self.list[self.next] = landmark;
+        } else {
+            self.list.push(landmark)?;
+        }
+        self.next = self.next.saturating_add(1) % MOST;
+        Ok(())
+    }
+
+    /// Learns from a search whose walk was closed: its gate becomes a landmark once searches have found as many gates
+    /// as there are, which pays for the landmark's two searches.
+    pub fn learn(
+        &mut self,
+        alloc: Global,
+        readers: &[Members],
+        sources: &[Members],
+        levels: &[u64],
+        gates: u32,
+        back: &Search,
+    ) -> Result<(), AllocError>
+        requires gates { gates ≡ length levels.now }
+        requires readers_size { length readers.now ≡ length levels.now }
+        requires sources_size { length sources.now ≡ length levels.now }
+        requires readers { All (All (λ other. other < length levels.now)) readers.now }
+        requires sources { All (All (λ other. other < length levels.now)) sources.now }
+        requires within { (n : ℕ) → Contains back.now.found.items n → n < length levels.now }
+        requires back { (n : ℕ) → Contains back.now.found.items n → ReadsBack readers.now sources.now n }
+        requires landmarks { AreLandmarks readers.now (length levels.now) self.old.list.items }
+        ensures { OnOk result (AreLandmarks readers.now (length levels.now) self.new.list.items) }
+    {
+        self.found = self.found.saturating_add(back.found.len());
+        if self.found < gates as usize || back.passed >= back.found.len() {
+            return Ok(());
+        }
+        let landmark = landmark_at(
+            alloc,
+            readers,
+            sources,
+            levels,
+            gates,
+            back.found[back.passed],
+        )?;
+        self.found = 0;
+        self.put(landmark)
+    }
+}
