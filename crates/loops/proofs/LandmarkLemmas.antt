@@ -1,5 +1,5 @@
 -- Ways along rows are joined, and landmarks go on from a gate that is entered.
-use Rattle.std.proofs.Common.{◌≡◌, ◌⊎◌, inl, inr, ℕ, ◌+◌, ◌<◌, ◌^◌, List, [], ◌∷◌, ◌++◌, length, get_or, sym, ◌∙◌, subst, arith, Contains}
+use Rattle.std.proofs.Common.{inl, inr, ℕ, List, [], ◌∷◌, ◌++◌, sym, ◌∙◌, subst, arith}
 use Rattle.loops.specs.declared.landmarks.Landmark.{Landmark}
 use Rattle.loops.specs.declared.search.Search.{Search}
 use Rattle.loops.specs.Keeping.{Meeting}

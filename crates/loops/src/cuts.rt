@@ -1,9 +1,10 @@
 //! The cut wires of a netlist's loops.
 //!
 //! Gates are entered in flat order, and each that would close a walk through those entered before is a cut wire
-//! instead. The entered gates have levels that rise along their pins, so that a search from one need not leave the
-//! levels between what it reads and what reads it. Two searches go in step and meet, after Bender, Fineman, Gilbert and
-//! Tarjan (2015); what one of them has found moves to another level, which isn't their rule, so their bound isn't claimed.
+//! instead. Most such walks pass a landmark, and are seen without a search. The entered gates have levels that rise
+//! along their pins, so that a search from one need not leave the levels between what it reads and what reads it. Two
+//! searches go in step and meet, after Bender, Fineman, Gilbert and Tarjan (2015); what one of them has found moves to
+//! another level, which isn't their rule, so their bound isn't claimed.
 
 ghost use Rattle.std.specs.Prelude.{◌≡◌, ◌<◌, ◌≤◌, ◌+◌, ◌^◌, ◌↔◌, ℕ, true, length, set, IfOk, OnOk, Contains};
 ghost use Rattle.std.specs.List.{All};

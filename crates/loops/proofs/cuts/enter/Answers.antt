@@ -5,7 +5,7 @@ use Rattle.loops.specs.declared.landmarks.Landmark.{Landmark}
 use Rattle.loops.specs.Keeping.{HasParted, HaveGained, IsKept, IsPlaced}
 use Rattle.loops.specs.Landmarks.{IsLandmark}
 use Rattle.loops.specs.Links.{IsLoopPin}
-use Rattle.loops.specs.Searching.{InRow, IsFree, row_at}
+use Rattle.loops.specs.Searching.{IsFree, row_at}
 use Rattle.loops.proofs.CutLemmas.{closes, entered, found_free, left_out, parted, reads_back, row_laid, stays_open}
 use Rattle.loops.proofs.KeptLemmas.{all_within, gained_rows, own_row, within_of}
 use Rattle.loops.proofs.LandmarkLemmas.{landmark_kept, passed_meet}

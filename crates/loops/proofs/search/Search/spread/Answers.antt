@@ -1,5 +1,5 @@
 -- A gate that is passed leaves the search at gates that the first one reaches.
-use Rattle.std.proofs.Common.{◌≡◌, ◌<◌, ◌+◌, ◌++◌, ℕ, List, [], ◌∷◌, length, get_or, set, refl, ap, arith, sym, ◌∙◌, Contains}
+use Rattle.std.proofs.Common.{◌≡◌, ◌<◌, ◌+◌, ◌++◌, ℕ, List, [], ◌∷◌, length, get_or, set, refl, ap, arith, sym, ◌∙◌}
 use Rattle.std.proofs.lemmas.List.{get_or_read, length-set, with_items_is}
 use Rattle.std.specs.Vec.{with_items}
 use Rattle.loops.specs.declared.search.Search.{Search}

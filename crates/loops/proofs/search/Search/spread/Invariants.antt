@@ -1,4 +1,4 @@
-use Rattle.std.proofs.Common.{ℕ, length}
+use Rattle.std.proofs.Common.{length}
 use Rattle.loops.specs.Searching.{work_left}
 use Rattle.loops.proofs.SearchLemmas.{IsSpreading}
 use Rattle.loops.proofs.search.Search.spread.Given as goal
