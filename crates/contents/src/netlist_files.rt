@@ -9,7 +9,7 @@ use crate::errors::too_long;
 use crate::fault::FileError;
 use blif_read::{BlifModel, read};
 use cyc_base::{MAX_FILE_BYTES, Name};
-use flatten::flatten;
+use flatten::flatten_owned;
 use netlist::Netlist;
 use std::alloc::Global;
 
@@ -32,7 +32,8 @@ fn netlist_in(alloc: Global, bytes: &[u8]) -> Result<Netlist, FileError>
     ensures bad { IfErr result (λ error. IsErrorOf (netlist_meant bytes.now) (error_seen error)) }
 {
     let models = read(alloc, bytes)?;
-    Ok(flatten(alloc, &models, top(models.list.items()))?)
+    let top = top(models.list.items()).copy()?;
+    Ok(flatten_owned(alloc, models, &top)?)
 }
 
 /// The netlist of a file at its first model, or the file's first fault: that it is over 67,108,864 bytes long, then

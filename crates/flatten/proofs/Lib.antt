@@ -8,6 +8,7 @@ pub mod Climbing
 pub mod Telling
 pub mod Waiting
 pub mod Stepping
+pub mod OwnLines
 pub mod Gathering
 pub mod Added
 pub mod Placing

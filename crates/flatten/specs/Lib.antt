@@ -8,3 +8,4 @@ pub mod Flat
 pub mod Laws
 pub mod Levels
 pub mod Printable
+pub mod Alone

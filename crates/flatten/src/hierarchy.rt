@@ -1,9 +1,13 @@
-ghost use Rattle.std.specs.Prelude.{◌≡◌, ◌<◌, ◌≤◌, ◌⊎◌, length, Ok, Err, IfOk, IfErr};
+ghost use Rattle.std.specs.Prelude.{◌≡◌, ◌<◌, ◌≤◌, ◌⊎◌, false, length, Some, Ok, Err, IfOk, IfErr, IfSome};
+ghost use Rattle.std.specs.List.{list_any};
 ghost use Rattle.netlist.specs.Netlists.{IsNetlist};
 ghost use Rattle.blif_read.specs.Flattening.{CanBeFlattened};
-ghost use Rattle.flatten.specs.Flat.{flat, flat_at, flat_within};
+ghost use Rattle.flatten.specs.Alone.{is_part};
+ghost use Rattle.flatten.specs.Flat.{flat, flat_at, flat_within, max_depth, max_items};
+ghost use Rattle.flatten.specs.Instances.{find_model, model_at};
 ghost use Rattle.flatten.specs.Levels.{IsLibraryOf};
 
+use crate::alone::{has_parts, parts_alone};
 use crate::fault::FlatFault;
 use crate::library::{Library, find, library_of};
 use crate::link::link;
@@ -20,6 +24,18 @@ fn want_of_memory(_fault: PartsFault) -> FlatFault
     ensures { result ≡ FlatFault.Memory }
 {
     FlatFault::Memory
+}
+
+/// The netlist of parts that have no fault.
+fn netlist_of(alloc: Global, parts: Parts) -> Result<Netlist, FlatFault>
+    requires { IsNetlist parts }
+    ensures netlist { IfOk result (λ net. net ≡ parts) }
+    ensures fault { IfErr result (λ fault. fault ≡ FlatFault.Memory) }
+{
+    match Netlist::new(alloc, parts) {
+        Ok(net) => Ok(net),
+        Err(fault) => Err(want_of_memory(fault)),
+    }
 }
 
 /// The parts of the flat netlist of the model at this place.
@@ -84,10 +100,7 @@ fn flatten_within(
         (λ fault. (fault ≡ FlatFault.Memory) ⊎ (flat_within depth limit models.now top.now ≡ Err fault)) }
 {
     let parts = parts_within(alloc, models, top, depth, limit)?;
-    match Netlist::new(alloc, parts) {
-        Ok(net) => Ok(net),
-        Err(fault) => Err(want_of_memory(fault)),
-    }
+    netlist_of(alloc, parts)
 }
 
 /// The flat netlist of a model of the file, with all instances below it: its gates and latches in depth-first
@@ -109,4 +122,57 @@ pub fn flatten(alloc: Global, models: &Models, top: &Name) -> Result<Netlist, Fl
         MAX_DEPTH as usize,
         MAX_FLAT_ITEMS,
     )
+}
+
+/// The place of the model of this name, where no instance stands in it.
+fn place_alone(models: &Models, top: &Name) -> Option<usize>
+    ensures found { IfSome result (λ i. find_model models.now.list top.now ≡ Some i) }
+    ensures alone { IfSome result (λ i. list_any is_part (model_at models.now.list i).body ≡ false) }
+    ensures within { IfSome result (λ i. i < length models.now.list) }
+{
+    let place = models.find(top)?;
+    if has_parts(models.list.items()[place].body.items()) {
+        return None;
+    }
+    Some(place)
+}
+
+/// The model at this place, where the others are dropped.
+fn take_model(models: Models, place: usize) -> BlifModel
+    requires { place < length models.list }
+    ensures { result ≡ model_at models.list place }
+{
+    models.list.into_vec().swap_remove(place)
+}
+
+/// The parts of the flat netlist of the model at this place, in which no instance stands.
+fn take_parts(alloc: Global, models: Models, place: usize) -> Result<Parts, FlatFault>
+    requires sound { CanBeFlattened models.list }
+    requires place { place < length models.list }
+    requires alone { list_any is_part (model_at models.list place).body ≡ false }
+    ensures parts { IfOk result (λ parts. flat_at max_depth max_items models.list place ≡ Ok parts) }
+    ensures valid { IfOk result IsNetlist }
+    ensures fault { IfErr result
+        (λ fault. (fault ≡ FlatFault.Memory) ⊎ (flat_at max_depth max_items models.list place ≡ Err fault)) }
+{
+    let model = take_model(models, place);
+    parts_alone(alloc, model, MAX_FLAT_ITEMS)
+}
+
+/// As `flatten`, of models that nothing else needs. Where no instance stands in the top, its lines are handed over, and
+/// not copied.
+pub fn flatten_owned(alloc: Global, models: Models, top: &Name) -> Result<Netlist, FlatFault>
+    requires { CanBeFlattened models.list }
+    ensures netlist { IfOk result (λ net. flat models.list top.now ≡ Ok net) }
+    ensures valid { IfOk result IsNetlist }
+    ensures fault { IfErr result
+        (λ fault. (fault ≡ FlatFault.Memory) ⊎ (flat models.list top.now ≡ Err fault)) }
+{
+    match place_alone(&models, top) {
+        Some(place) => {
+            let parts = take_parts(alloc, models, place)?;
+            netlist_of(alloc, parts)
+        }
+        None => flatten(alloc, &models, top),
+    }
 }

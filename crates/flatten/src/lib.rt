@@ -1,9 +1,10 @@
 //! Flattening: one netlist from a hierarchy of models.
 //!
 //! It stands on `blif_read` for the models and on `netlist` for the netlist. The layer above uses that
-//! `flatten` gives the flat netlist by definition (`specs/Flat.antt`), or its first fault.
+//! `flatten` gives the flat netlist by definition (`specs/Flat.antt`), or its first fault, and `flatten_owned` too.
 #![tactic(auto)]
 
+mod alone;
 mod bind;
 mod fault;
 mod hierarchy;
@@ -15,4 +16,4 @@ mod scope;
 mod walk;
 
 pub use fault::FlatFault;
-pub use hierarchy::flatten;
+pub use hierarchy::{flatten, flatten_owned};

@@ -1,10 +1,10 @@
 use Rattle.std.proofs.Common.{◌≡◌, ⊎_elim, sym, ◌∙◌, Some, None}
 use Rattle.netlist.proofs.Validity.{no_fault_of_netlist}
-use Rattle.flatten.proofs.hierarchy.flatten_within.Goals as goal
+use Rattle.flatten.proofs.hierarchy.netlist_of.Goals as goal
 
 pub want_of_memory-requires : goal.want_of_memory-requires
 want_of_memory-requires c =
     ⊎_elim
     (λ m. m)
-    (λ f. absurd (let k : Some c.in-Err.fault ≡ None = sym f ∙ no_fault_of_netlist c.in_ok-parts.parts c.in_ok-parts.ensures.valid in cc))
+    (λ f. absurd (let k : Some c.in-Err.fault ≡ None = sym f ∙ no_fault_of_netlist c.args.parts c.requires in cc))
     c.in-Err.ensures.fault

@@ -1,0 +1,9 @@
+use Rattle.std.proofs.Common.{◌≡◌}
+use Rattle.flatten.specs.Alone.{own_gates, own_latches}
+use Rattle.flatten.proofs.alone.add_lines.Given as goal
+
+abbrev pub invariant-loop-item : goal.invariant-loop-item
+invariant-loop-item l = record {
+  gates : l.lines.gates.items ≡ own_gates l.yielded;
+  latches : l.lines.latches.items ≡ own_latches l.yielded;
+}
