@@ -4,7 +4,7 @@ use Rattle.std.specs.Prelude.{if◌then◌else◌, nat_le, option_map}
 use Rattle.std.proofs.Math.Seq.{take-length}
 use Rattle.std.specs.List.{list_all}
 use Rattle.std.specs.Option.{option_and_then}
-use Rattle.commands.specs.Words.{Options, Check, Rewrite, Aiger, Explain, Storm, no_options, is_digit, with_digits, up_to, with_option, options_of, check_on, rewrite_on, aiger_on, explain_on, storm_with}
+use Rattle.commands.specs.Words.{Options, Check, Rewrite, Aiger, Explain, Equal, Storm, no_options, is_digit, with_digits, up_to, with_option, options_of, check_on, rewrite_on, aiger_on, explain_on, unobserved, equal_with, storm_with}
 
 -- more digits make no less of a number
 no_less : (n : ℕ) (digits : List ℕ) → n ≤ with_digits n digits
@@ -81,6 +81,19 @@ explain_asked file rest options found = ap (option_map (Explain file)) found
 
 pub explain_not_asked : (file : List ℕ) (rest : List (List ℕ)) → options_of no_options rest ≡ None → explain_on file rest ≡ None
 explain_not_asked file rest found = ap (option_map (Explain file)) found
+
+pub equal_asked : (file second : List ℕ) (rest : List (List ℕ)) (options known : Options) → options_of no_options rest ≡ Some options
+    → unobserved options ≡ Some known → equal_with file second rest ≡ Some (Equal file second known)
+equal_asked file second rest options known found bare =
+    ap (λ o. option_map (Equal file second) (option_and_then unobserved o)) found ∙ ap (option_map (Equal file second)) bare
+
+pub equal_not_asked : (file second : List ℕ) (rest : List (List ℕ)) → options_of no_options rest ≡ None → equal_with file second rest ≡ None
+equal_not_asked file second rest none = ap (λ o. option_map (Equal file second) (option_and_then unobserved o)) none
+
+pub equal_observed : (file second : List ℕ) (rest : List (List ℕ)) (options : Options) → options_of no_options rest ≡ Some options
+    → unobserved options ≡ None → equal_with file second rest ≡ None
+equal_observed file second rest options found observed =
+    ap (λ o. option_map (Equal file second) (option_and_then unobserved o)) found ∙ ap (option_map (Equal file second)) observed
 
 pub storm_asked : (file : List ℕ) (rounds : ℕ) (rest : List (List ℕ)) (options : Options) → options_of no_options rest ≡ Some options
     → storm_with file rounds rest ≡ Some (Storm file rounds options)

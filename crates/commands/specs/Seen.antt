@@ -2,7 +2,7 @@
 use Rattle.std.specs.Prelude.{ℕ, option_copied}
 use Rattle.commands.specs.declared.command.Cells.{Cells}
 use Rattle.commands.specs.declared.command.Command.{Command}
-use Rattle.commands.specs.declared.command.Command.TheVariants.{Check, Rewrite, Aiger, Explain, Flat, Loops, Sim, Delays, Demo, Storm, Help, HelpOn, Version}
+use Rattle.commands.specs.declared.command.Command.TheVariants.{Check, Rewrite, Aiger, Explain, Equal, Flat, Loops, Sim, Delays, Demo, Storm, Help, HelpOn, Version}
 use Rattle.commands.specs.declared.command.Options.{Options}
 use Rattle.commands.specs.declared.command.Rounds.{Rounds}
 use Rattle.commands.specs.Words as asked
@@ -21,6 +21,7 @@ command_seen (Check netlist options) = asked.Check netlist.now (options_seen opt
 command_seen (Rewrite netlist options) = asked.Rewrite netlist.now (options_seen options)
 command_seen (Aiger netlist options) = asked.Aiger netlist.now (options_seen options)
 command_seen (Explain netlist options) = asked.Explain netlist.now (options_seen options)
+command_seen (Equal first second options) = asked.Equal first.now second.now (options_seen options)
 command_seen (Flat netlist) = asked.Flat netlist.now
 command_seen (Loops netlist form) = asked.Loops netlist.now form
 command_seen (Sim netlist vectors) = asked.Sim netlist.now vectors.now

@@ -33,6 +33,8 @@ pub data Command : Type 0 where
   Aiger : List ℕ → Options → Command
   -- decides it, and shows why a refused wire is undetermined
   Explain : List ℕ → Options → Command
+  -- compares the netlist of a file with that of a second one
+  Equal : List ℕ → List ℕ → Options → Command
   -- writes its flat netlist
   Flat : List ℕ → Command
   -- prints its loops and their cut wires
@@ -137,6 +139,17 @@ loops_on file [] = Some (Loops file form.Lines)
 loops_on file (word ∷ []) = if bytes_eq word (codes "--dot") then Some (Loops file form.Dot) else None
 loops_on file other = None
 
+-- a comparison wants one more file, and may have options. It observes all wires
+abbrev pub unobserved : Options → Option Options
+unobserved options = if is_none options.observe then Some options else None
+
+abbrev pub equal_with : List ℕ → List ℕ → List (List ℕ) → Option Command
+equal_with file second rest = option_map (Equal file second) (option_and_then unobserved (options_of no_options rest))
+
+abbrev pub equal_on : List ℕ → List (List ℕ) → Option Command
+equal_on file [] = None
+equal_on file (second ∷ rest) = if is_file_word second then equal_with file (file_of second) rest else None
+
 -- a simulation wants one more file
 abbrev pub sim_on : List ℕ → List (List ℕ) → Option Command
 sim_on file (vectors ∷ []) = if is_file_word vectors then Some (Sim file (file_of vectors)) else None
@@ -188,6 +201,7 @@ topic_of word =
     else if bytes_eq word (codes "rewrite") then Some topic.Rewrite
     else if bytes_eq word (codes "aiger") then Some topic.Aiger
     else if bytes_eq word (codes "explain") then Some topic.Explain
+    else if bytes_eq word (codes "equal") then Some topic.Equal
     else if bytes_eq word (codes "flat") then Some topic.Flat
     else if bytes_eq word (codes "loops") then Some topic.Loops
     else if bytes_eq word (codes "sim") then Some topic.Sim
@@ -208,6 +222,7 @@ command_on command word rest =
     else if bytes_eq command (codes "rewrite") then rewrite_on word rest
     else if bytes_eq command (codes "aiger") then aiger_on word rest
     else if bytes_eq command (codes "explain") then explain_on word rest
+    else if bytes_eq command (codes "equal") then equal_on word rest
     else if bytes_eq command (codes "flat") && length rest == 0 then Some (Flat word)
     else if bytes_eq command (codes "loops") then loops_on word rest
     else if bytes_eq command (codes "sim") then sim_on word rest

@@ -46,6 +46,8 @@ pub enum Command<'a> {
     Aiger(&'a Name, Options<'a>),
     /// Decides it, and shows why a refused wire is undetermined.
     Explain(&'a Name, Options<'a>),
+    /// Compares the netlist of this file with that of a second one. All wires are observed.
+    Equal(&'a Name, &'a Name, Options<'a>),
     /// Writes its flat netlist.
     Flat(&'a Name),
     /// Prints its loops and their cut wires.

@@ -2,7 +2,7 @@
 ghost use Rattle.std.specs.Prelude.{◌≡◌, ◌≤◌, ◌+◌, ◌-◌, ◌*◌, ◌&&◌, nat_le, true, false, MatchOption, IfSome, None, Some};
 ghost use Rattle.cyc_base.specs.declared.limits.TheConstants.{MAX_NODES as most_nodes};
 ghost use Rattle.commands.specs.Seen.{cells_seen, command_seen, options_seen, rounds_seen};
-ghost use Rattle.commands.specs.Words.{aiger_on as aiger_asked, cells as cells_asked, check_on as check_asked, command_alone as alone_asked, command_of, command_on as command_asked, delays_on as delays_asked, demo_on as demo_asked, file_of as file_asked, explain_on as explain_asked, help_on as help_asked, loops_on as loops_asked, is_digit, is_file_word, no_options as asked_no_options, number_between as number_asked, kind_of as kind_asked, observe_of as observe_asked, options_of as options_asked, probe_of as probe_asked, rewrite_on as rewrite_asked, rounds as rounds_asked, sim_on as sim_asked, standard_input as standard_input_name, storm_on as storm_asked, storm_with as storm_asked_with, topic_of as topic_asked, up_to, with_care as asked_with_care, with_nodes as asked_with_nodes, with_observe as asked_with_observe, with_option as asked_with_option};
+ghost use Rattle.commands.specs.Words.{aiger_on as aiger_asked, cells as cells_asked, check_on as check_asked, command_alone as alone_asked, command_of, command_on as command_asked, delays_on as delays_asked, demo_on as demo_asked, equal_on as equal_asked, equal_with as equal_asked_with, file_of as file_asked, explain_on as explain_asked, help_on as help_asked, loops_on as loops_asked, is_digit, is_file_word, no_options as asked_no_options, number_between as number_asked, kind_of as kind_asked, observe_of as observe_asked, options_of as options_asked, probe_of as probe_asked, rewrite_on as rewrite_asked, rounds as rounds_asked, sim_on as sim_asked, standard_input as standard_input_name, storm_on as storm_asked, storm_with as storm_asked_with, topic_of as topic_asked, unobserved as asked_unobserved, up_to, with_care as asked_with_care, with_nodes as asked_with_nodes, with_observe as asked_with_observe, with_option as asked_with_option};
 
 use crate::command::{Cells, Command, Options, Rounds};
 use crate::form::Form;
@@ -67,6 +67,9 @@ fn command_on<'a>(
     }
     if command == b"explain".as_slice() {
         return explain_on(word, rest, standard_input);
+    }
+    if command == b"equal".as_slice() {
+        return equal_on(word, rest, standard_input);
     }
     if command == b"flat".as_slice() && rest.is_empty() {
         return Some(Command::Flat(word));
@@ -163,6 +166,49 @@ fn loops_on<'a>(file: &'a Name, rest: &'a [Name]) -> Option<Command<'a>>
         [] => Some(Command::Loops(file, Form::Lines)),
         [word] if word.bytes() == b"--dot".as_slice() => Some(Command::Loops(file, Form::Dot)),
         _ => None,
+    }
+}
+
+// A comparison wants one more file, and may have options.
+fn equal_on<'a>(file: &'a Name, rest: &'a [Name], standard_input: &'a Name) -> Option<Command<'a>>
+    requires { standard_input.now ≡ standard_input_name }
+    ensures { MatchOption result (equal_asked file.now rest.now ≡ None)
+        (λ asked. equal_asked file.now rest.now ≡ Some (command_seen asked)) }
+{
+    match rest {
+        [second, rest @ ..] if is_file(second.bytes()) => {
+            let second = file_of(second, standard_input);
+            equal_with(file, second, rest, standard_input)
+        }
+        _ => None,
+    }
+}
+
+#[tactic(auto, using(crate::proofs::WordLemmas::equal_asked, crate::proofs::WordLemmas::equal_not_asked, crate::proofs::WordLemmas::equal_observed))]
+fn equal_with<'a>(
+    file: &'a Name,
+    second: &'a Name,
+    rest: &'a [Name],
+    standard_input: &'a Name,
+) -> Option<Command<'a>>
+    requires { standard_input.now ≡ standard_input_name }
+    ensures { MatchOption result (equal_asked_with file.now second.now rest.now ≡ None)
+        (λ asked. equal_asked_with file.now second.now rest.now ≡ Some (command_seen asked)) }
+{
+    let known = options_of(no_options(), rest, standard_input)?;
+    let options = unobserved(known)?;
+    Some(Command::Equal(file, second, options))
+}
+
+// These options, unless they say what is observed.
+fn unobserved<'a>(options: Options<'a>) -> Option<Options<'a>>
+    ensures { MatchOption result (asked_unobserved (options_seen options.entry) ≡ None)
+        (λ same. asked_unobserved (options_seen options.entry) ≡ Some (options_seen same)) }
+{
+    if options.observe.is_none() {
+        Some(options)
+    } else {
+        None
     }
 }
 
@@ -285,6 +331,8 @@ fn topic_of(word: &[u8]) -> Option<Topic>
         Some(Topic::Aiger)
     } else if word == b"explain".as_slice() {
         Some(Topic::Explain)
+    } else if word == b"equal".as_slice() {
+        Some(Topic::Equal)
     } else if word == b"flat".as_slice() {
         Some(Topic::Flat)
     } else if word == b"loops".as_slice() {

@@ -6,9 +6,9 @@ use Rattle.std.specs.declared.option.Option.{Option}
 use Rattle.bdd_store.specs.Arena.{Arena}
 use Rattle.cyc_io.specs.Files.{Files, IsFile}
 use Rattle.cyc_tool.specs.Answer.{outcome_at, answer}
-use Rattle.cyc_tool.specs.Calls.{ShelfCall, SinkCall, ReadFailed, AreGiven, rest_of, EndsAt, ComesTo, IsDecided, IsExplained, Verdict, Explained, Limit, IsTold, Tells, Runs}
+use Rattle.cyc_tool.specs.Calls.{ShelfCall, SinkCall, ReadFailed, AreGiven, rest_of, EndsAt, ComesTo, IsDecided, IsCompared, IsExplained, Verdict, Explained, Limit, Found, Unfinished, IsTold, Tells, Runs}
 use Rattle.cyc_tool.specs.Causes.{Leads, Reaches, MeetsLimit, ExplainsWire, NoneFailed, IsWell, GivesAnswer, IsEnoughFor, HasEnoughNodes, IsComplete}
-use Rattle.cyc_tool.specs.Plans.{Purpose, Judges, Rewrites, WritesGraph, Explains, Demonstrates, Storms, Plan, Reads, Faulty, Ends, Decides, plan_of}
+use Rattle.cyc_tool.specs.Plans.{Purpose, Judges, Rewrites, WritesGraph, Explains, Demonstrates, Storms, Plan, Reads, Faulty, Ends, Decides, Compares, plan_of}
 use Rattle.cyc_tool.proofs.CauseLemmas.{why_told}
 use Rattle.cyc_tool.specs.Requests.{Request}
 use Rattle.cyc_tool.specs.Texts.{Outcome, usage, read_failed, no_memory}
@@ -29,6 +29,7 @@ none_failed_later shelf files (bytes ∷ given) (Reads role name next) is gave w
 none_failed_later shelf files (bytes ∷ given) (Faulty name fault) is gave well = absurd gave
 none_failed_later shelf files (bytes ∷ given) (Ends ending) is gave well = absurd gave
 none_failed_later shelf files (bytes ∷ given) (Decides decision purpose) is gave well = absurd gave
+none_failed_later shelf files (bytes ∷ given) (Compares c) is gave well = absurd gave
 
 same_outcome : (shelf : ShelfCall) (files : Files) (given : List (List ℕ)) (plan : Plan) → shelf.files ≡ Some files → AreGiven shelf.files given plan
     → outcome_at files (rest_of given plan) ≡ outcome_at files plan
@@ -39,6 +40,7 @@ same_outcome shelf files (bytes ∷ given) (Reads role name next) is gave =
 same_outcome shelf files (bytes ∷ given) (Faulty name fault) is gave = absurd gave
 same_outcome shelf files (bytes ∷ given) (Ends ending) is gave = absurd gave
 same_outcome shelf files (bytes ∷ given) (Decides decision purpose) is gave = absurd gave
+same_outcome shelf files (bytes ∷ given) (Compares c) is gave = absurd gave
 
 -- a wire was explained by this
 abbrev ExplainedAt : Outcome → Plan → Type 0
@@ -68,6 +70,11 @@ ends_told shelf files nodes end (Decides decision purpose) well ends = by_decisi
     by_decision (Verdict is made) = IsAnswer is
     by_decision (Explained same explained) = IsWhy (subst (λ (p : Purpose). ExplainedAt end (Decides decision p)) (sym same) explained)
     by_decision (Limit limited is) = IsAtLimit limited (ap (λ (o : Outcome). o.status) is)
+ends_told shelf files nodes end (Compares c) well ends = by_comparison ends
+  where
+    by_comparison : IsCompared c nodes end → EndsTold nodes files end (Compares c)
+    by_comparison (Found is shown) = IsAnswer is
+    by_comparison (Unfinished limited is) = IsAtLimit limited (ap (λ (o : Outcome). o.status) is)
 
 -- what a call came to for its words
 data ComesToTold (request : Request) (shelf : ShelfCall) (nodes : Arena) (files : Files) (end : Outcome) : Type 0 where
@@ -125,6 +132,7 @@ explains_wire out err end status (Decides decision Rewrites) whole explained = a
 explains_wire out err end status (Decides decision WritesGraph) whole explained = absurd explained
 explains_wire out err end status (Decides decision (Demonstrates cells)) whole explained = absurd explained
 explains_wire out err end status (Decides decision (Storms rounds)) whole explained = absurd explained
+explains_wire out err end status (Compares c) whole explained = absurd explained
 explains_wire out err end status (Reads role name next) whole explained = absurd explained
 explains_wire out err end status (Faulty name fault) whole explained = absurd explained
 explains_wire out err end status (Ends ending) whole explained = absurd explained
@@ -169,6 +177,10 @@ not_met nodes (Ends ending) is met = met
 not_met nodes (Decides decision purpose) is met =
     let below = met.below.below is.width is.wide in
     absurd (omega (arith, below, is.within))
+not_met nodes (Compares c) is met =
+    let enough = is met.matched in
+    let below = met.below.below enough.first enough.second enough.both enough.first_wide enough.second_wide enough.both_wide in
+    absurd (omega (arith, below, enough.within))
 
 not_limited : (request : Request) (shelf : ShelfCall) (nodes : Arena) → HasEnoughNodes request shelf → Reaches (MeetsLimit nodes) request shelf → ⊥
 not_limited request shelf nodes = by_command (command_of request.words)

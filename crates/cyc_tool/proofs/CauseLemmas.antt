@@ -20,16 +20,22 @@ use Rattle.refusals.specs.declared.refusal.Refusal.TheVariants.{Initial, EmptyCa
 use Rattle.storm.specs.Storms.{most_events}
 use Rattle.storm.specs.Laws.{StormsNeverRest}
 use Rattle.refusals.proofs.LawLemmas.{accepted_without_refusal, refusal_is_shown}
-use Rattle.cyc_tool.specs.Answer.{told, decided, verdict_of}
-use Rattle.cyc_tool.specs.Calls.{ShelfCall, SinkCall, WriteFailed, Takes, AreGiven, EndsAt, rest_of, ComesTo, Follows, IsDecided, IsExplained, IsMade, IsMadeFor, Verdict, Explained, Limit, IsTold, Tells, Runs}
-use Rattle.cyc_tool.specs.Causes.{IsHelped, IsHelpedBy, IsWithoutCommand, Leads, Reaches, IsFaulty, IsUnread, MeetsLimit, IsVerdict, IsDoneWith, HasExplained, HasWhy, HasGraph, HasRewritten, HasStormed}
-use Rattle.cyc_tool.specs.Endings.{aiger_told, ending_of, storm_or_refusal}
+use Rattle.equal.specs.declared.answer.Answer.{Answer}
+use Rattle.equal.specs.declared.answer.Answer.TheVariants.{Equal as AreEqual, Unmatched, First, Second, Output, Latch}
+use Rattle.equal.specs.Rebound.{found}
+use Rattle.equal_text.specs.Texts.{answer_text}
+use Rattle.equality.specs.Shown.{IsShown}
+use Rattle.equality.specs.Told.{is_equal}
+use Rattle.cyc_tool.specs.Answer.{told, decided, verdict_of, compared}
+use Rattle.cyc_tool.specs.Calls.{ShelfCall, SinkCall, WriteFailed, Takes, AreGiven, EndsAt, rest_of, ComesTo, Follows, IsDecided, IsCompared, IsExplained, IsMade, IsMadeFor, Verdict, Explained, Limit, Found, Unfinished, IsTold, Tells, Runs}
+use Rattle.cyc_tool.specs.Causes.{IsHelped, IsHelpedBy, IsWithoutCommand, Leads, Reaches, IsFaulty, IsUnread, MeetsLimit, IsVerdict, IsDoneWith, HasCompared, HasExplained, HasWhy, HasGraph, HasRewritten, HasStormed}
+use Rattle.cyc_tool.specs.Endings.{aiger_told, comparison_told, ending_of, found_told, storm_or_refusal}
 use Rattle.cyc_tool.specs.Storms.{events_of, events_told, storm_text}
-use Rattle.cyc_tool.specs.Plans.{Ending, Prints, PrintsBeside, Refuses, Declines, Outgrows, Decision, Purpose, Judges, Rewrites, WritesGraph, Explains, Demonstrates, Storms, Plan, Reads, Faulty, Ends, Decides, plan_of}
+use Rattle.cyc_tool.specs.Plans.{Ending, Prints, PrintsBeside, Refuses, Declines, Outgrows, Decision, Purpose, Judges, Rewrites, WritesGraph, Explains, Demonstrates, Storms, Comparison, Plan, Reads, Faulty, Ends, Decides, Compares, plan_of}
 use Rattle.cyc_tool.specs.Requests.{Request}
 use Rattle.cyc_tool.specs.Texts.{Outcome, no_memory}
 use Rattle.report.specs.Help.{help_text, topic_text, version_text}
-use Rattle.commands.specs.Words.{Command, Check, Rewrite, Aiger, Explain, Flat, Loops, Sim, Delays, Demo, Storm, Help, HelpOn, Version, command_of}
+use Rattle.commands.specs.Words.{Command, Check, Rewrite, Aiger, Explain, Equal, Flat, Loops, Sim, Delays, Demo, Storm, Help, HelpOn, Version, command_of}
 
 abbrev status_of : Outcome → ℕ
 status_of end = end.status
@@ -86,6 +92,11 @@ shown_at shelf nodes end (Decides decision purpose) ends = by_decision ends.1
         )
         (One one)
     by_decision (Limit limited same) = Full limited (ap status_of same)
+shown_at shelf nodes end (Compares c) ends = by_comparison ends
+  where
+    by_comparison : IsCompared c nodes end → Shown shelf nodes (Compares c) end.status
+    by_comparison (Found same shown) = Done (shown, ap status_of same) (ending_status (comparison_told c) end.status (ap status_of same))
+    by_comparison (Unfinished limited same) = Full limited (ap status_of same)
 
 -- what a status shows of a run
 data Cause (request : Request) (shelf : ShelfCall) (nodes : Arena) (out err : SinkCall) (status : ℕ) : Type 0 where
@@ -269,6 +280,7 @@ help_told request shelf nodes out err status runs = by_command (command_of reque
     by_command (Some (Rewrite file options)) comes = tt
     by_command (Some (Aiger file options)) comes = tt
     by_command (Some (Explain file options)) comes = tt
+    by_command (Some (Equal file second options)) comes = tt
     by_command (Some (Flat file)) comes = tt
     by_command (Some (Loops file form)) comes = tt
     by_command (Some (Sim file vectors)) comes = tt
@@ -283,6 +295,7 @@ has_rewritten : (shelf : ShelfCall) (nodes : Arena) (out : SinkCall) (end : Outc
 has_rewritten shelf nodes out end (Reads role name next) done took ends = tt
 has_rewritten shelf nodes out end (Faulty name fault) done took ends = tt
 has_rewritten shelf nodes out end (Ends ending) done took ends = tt
+has_rewritten shelf nodes out end (Compares c) done took ends = tt
 has_rewritten shelf nodes out end (Decides decision Judges) done took ends = tt
 has_rewritten shelf nodes out end (Decides decision Explains) done took ends = tt
 has_rewritten shelf nodes out end (Decides decision WritesGraph) done took ends = tt
@@ -318,6 +331,7 @@ has_graph : (shelf : ShelfCall) (nodes : Arena) (out : SinkCall) (end : Outcome)
 has_graph shelf nodes out end (Reads role name next) done took ends = tt
 has_graph shelf nodes out end (Faulty name fault) done took ends = tt
 has_graph shelf nodes out end (Ends ending) done took ends = tt
+has_graph shelf nodes out end (Compares c) done took ends = tt
 has_graph shelf nodes out end (Decides decision Judges) done took ends = tt
 has_graph shelf nodes out end (Decides decision Explains) done took ends = tt
 has_graph shelf nodes out end (Decides decision Rewrites) done took ends = tt
@@ -365,6 +379,7 @@ has_stormed : StormsNeverRest → (shelf : ShelfCall) (nodes : Arena) (out : Sin
 has_stormed law shelf nodes out end (Reads role name next) done took ends = tt
 has_stormed law shelf nodes out end (Faulty name fault) done took ends = tt
 has_stormed law shelf nodes out end (Ends ending) done took ends = tt
+has_stormed law shelf nodes out end (Compares c) done took ends = tt
 has_stormed law shelf nodes out end (Decides decision Judges) done took ends = tt
 has_stormed law shelf nodes out end (Decides decision Explains) done took ends = tt
 has_stormed law shelf nodes out end (Decides decision Rewrites) done took ends = tt
@@ -407,6 +422,28 @@ has_stormed law shelf nodes out end (Decides decision (Storms rounds)) done took
     by_decision (Explained same explained) = absurd (let one = ap status_of explained.shown.is in omega (arith, done, one))
     by_decision (Limit limited same) = absurd (let six = ap status_of same in omega (arith, done, six))
 
+-- what was put on out for a comparison
+has_compared : (shelf : ShelfCall) (nodes : Arena) (out : SinkCall) (end : Outcome) (rest : Plan) → end.status ≡ 0 → Takes out end.out
+    → EndsAt shelf nodes end rest → HasCompared out rest
+has_compared shelf nodes out end (Reads role name next) done took ends = tt
+has_compared shelf nodes out end (Faulty name fault) done took ends = tt
+has_compared shelf nodes out end (Ends ending) done took ends = tt
+has_compared shelf nodes out end (Decides decision purpose) done took ends = tt
+has_compared shelf nodes out end (Compares c) done took ends = by_comparison ends
+  where
+    by_answer : (answer : Answer) → end ≡ told (found_told (is_equal answer) (answer_text c.first c.second answer))
+        → IsShown c.first c.second c.care answer → HasCompared out (Compares c)
+    by_answer AreEqual same shown = (shown, subst (Takes out) (ap (λ (o : Outcome). o.out) same) took)
+    by_answer (Unmatched name) same shown = absurd (let one = ap status_of same in omega (arith, done, one))
+    by_answer (First refused) same shown = absurd (let one = ap status_of same in omega (arith, done, one))
+    by_answer (Second refused) same shown = absurd (let one = ap status_of same in omega (arith, done, one))
+    by_answer (Output v at) same shown = absurd (let one = ap status_of same in omega (arith, done, one))
+    by_answer (Latch v at) same shown = absurd (let one = ap status_of same in omega (arith, done, one))
+
+    by_comparison : IsCompared c nodes end → HasCompared out (Compares c)
+    by_comparison (Found same shown) = by_answer (found c.first c.second c.care) same shown.shown
+    by_comparison (Unfinished limited same) = absurd (let six = ap status_of same in omega (arith, done, six))
+
 -- what a call with status 0 put on out
 leads_done : (P : Plan → Type 0) (request : Request) (shelf : ShelfCall) (nodes : Arena) (out err : SinkCall) (status : ℕ)
     → ((end : Outcome) (rest : Plan) → end.status ≡ 0 → Takes out end.out → EndsAt shelf nodes end rest → P rest)
@@ -446,6 +483,10 @@ pub graphed_cause : (request : Request) (shelf : ShelfCall) (nodes : Arena) (out
     → status ≡ 0 → Reaches (HasGraph out) request shelf
 graphed_cause request shelf nodes out err status = leads_done (HasGraph out) request shelf nodes out err status (has_graph shelf nodes out)
 
+pub compared_cause : (request : Request) (shelf : ShelfCall) (nodes : Arena) (out err : SinkCall) (status : ℕ) → Runs request shelf nodes out err status
+    → status ≡ 0 → Reaches (HasCompared out) request shelf
+compared_cause request shelf nodes out err status = leads_done (HasCompared out) request shelf nodes out err status (has_compared shelf nodes out)
+
 pub stormed_cause : StormsNeverRest → (request : Request) (shelf : ShelfCall) (nodes : Arena) (out err : SinkCall) (status : ℕ) → Runs request shelf nodes out err status
     → status ≡ 0 → Reaches (HasStormed out) request shelf
 stormed_cause law request shelf nodes out err status = leads_done (HasStormed out) request shelf nodes out err status (has_stormed law shelf nodes out)
@@ -472,6 +513,7 @@ has_explained : (shelf : ShelfCall) (nodes : Arena) (out err : SinkCall) (end : 
 has_explained shelf nodes out err end (Reads role name next) took other one ends = tt
 has_explained shelf nodes out err end (Faulty name fault) took other one ends = tt
 has_explained shelf nodes out err end (Ends ending) took other one ends = tt
+has_explained shelf nodes out err end (Compares c) took other one ends = tt
 has_explained shelf nodes out err end (Decides decision Judges) took other one ends = tt
 has_explained shelf nodes out err end (Decides decision Rewrites) took other one ends = tt
 has_explained shelf nodes out err end (Decides decision WritesGraph) took other one ends = tt

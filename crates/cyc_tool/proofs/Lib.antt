@@ -11,3 +11,4 @@ pub mod TellLemmas
 pub mod TickLemmas
 pub mod ExplainedLemmas
 pub mod HearLemmas
+mod ComparedLemmas

@@ -12,7 +12,7 @@ use Rattle.cyc_io.proofs.FaultLemmas.{Rose_later}
 use Rattle.cyc_tool.specs.Calls.{AreGiven, rest_of, names_read, EndsAt, Follows}
 use Rattle.contents.specs.Faults.{Fault, IsErrorOf}
 use Rattle.cyc_tool.specs.Answer.{told}
-use Rattle.cyc_tool.specs.Plans.{Ending, Plan, Reads, Faulty, Ends, Decides, using}
+use Rattle.cyc_tool.specs.Plans.{Ending, Plan, Reads, Faulty, Ends, Decides, Compares, using}
 use Rattle.cyc_tool.specs.Reading.{FollowsAlone, FollowsStillAlone, GoesOn, IsStoppedBy, LeadsTo, StopsAt, StopsIn}
 use Rattle.cyc_tool.specs.Seen.{EndsAs, outcome_of}
 use Rattle.cyc_tool.specs.Texts.{Outcome, no_memory}
@@ -26,6 +26,7 @@ gave_more files (bytes ∷ given) more (Reads role name next) gave later = (gave
 gave_more files (bytes ∷ given) more (Faulty name fault) gave later = absurd gave
 gave_more files (bytes ∷ given) more (Ends ending) gave later = absurd gave
 gave_more files (bytes ∷ given) more (Decides decision purpose) gave later = absurd gave
+gave_more files (bytes ∷ given) more (Compares c) gave later = absurd gave
 
 rest_more : (files : Option Files) (given more : List (List ℕ)) (plan : Plan) → AreGiven files given plan
     → rest_of (given ++ more) plan ≡ rest_of more (rest_of given plan)
@@ -34,6 +35,7 @@ rest_more files (bytes ∷ given) more (Reads role name next) gave = rest_more f
 rest_more files (bytes ∷ given) more (Faulty name fault) gave = absurd gave
 rest_more files (bytes ∷ given) more (Ends ending) gave = absurd gave
 rest_more files (bytes ∷ given) more (Decides decision purpose) gave = absurd gave
+rest_more files (bytes ∷ given) more (Compares c) gave = absurd gave
 
 -- the names of their files
 names_first : (Q : List ℕ → Type 0) (given more : List (List ℕ)) (plan : Plan) → AllByRecursion Q (names_read (given ++ more) plan)
@@ -43,10 +45,12 @@ names_first Q [] (bytes ∷ more) (Reads role name next) all = (all.0, tt)
 names_first Q [] (bytes ∷ more) (Faulty name fault) all = tt
 names_first Q [] (bytes ∷ more) (Ends ending) all = tt
 names_first Q [] (bytes ∷ more) (Decides decision purpose) all = tt
+names_first Q [] (bytes ∷ more) (Compares c) all = tt
 names_first Q (bytes ∷ given) more (Reads role name next) all = (all.0, names_first Q given more (next bytes) all.1)
 names_first Q (bytes ∷ given) more (Faulty name fault) all = tt
 names_first Q (bytes ∷ given) more (Ends ending) all = tt
 names_first Q (bytes ∷ given) more (Decides decision purpose) all = tt
+names_first Q (bytes ∷ given) more (Compares c) all = tt
 
 names_later : (Q : List ℕ → Type 0) (files : Option Files) (given more : List (List ℕ)) (plan : Plan) → AreGiven files given plan
     → AllByRecursion Q (names_read (given ++ more) plan) → AllByRecursion Q (names_read more (rest_of given plan))
@@ -55,6 +59,7 @@ names_later Q files (bytes ∷ given) more (Reads role name next) gave all = nam
 names_later Q files (bytes ∷ given) more (Faulty name fault) gave all = absurd gave
 names_later Q files (bytes ∷ given) more (Ends ending) gave all = absurd gave
 names_later Q files (bytes ∷ given) more (Decides decision purpose) gave all = absurd gave
+names_later Q files (bytes ∷ given) more (Compares c) gave all = absurd gave
 
 -- a read that failed in the second part failed in both together
 ends_before : (files : Option Files) (a b c : Counts) (nodes : Arena) (end : Outcome) (rest : Plan) → ((name : List ℕ) → a name ≤ b name)
@@ -63,6 +68,7 @@ ends_before files a b c nodes end (Reads role name next) later ends = (Rose_late
 ends_before files a b c nodes end (Faulty name fault) later ends = ends
 ends_before files a b c nodes end (Ends ending) later ends = ends
 ends_before files a b c nodes end (Decides decision purpose) later ends = ends
+ends_before files a b c nodes end (Compares comparison) later ends = ends
 
 follows_more : (files : Option Files) (a b c : Counts) (nodes : Arena) (end : Outcome) (plan rest : Plan)
     → (leads : LeadsTo plan rest (record { files = files; before = a; now = b }))

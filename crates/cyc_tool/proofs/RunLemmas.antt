@@ -4,7 +4,7 @@ use Rattle.std.specs.declared.option.Option.{Option}
 use Rattle.cyc_io.specs.Faults.{Counts}
 use Rattle.cyc_io.specs.Files.{Files}
 use Rattle.bdd_store.specs.Arena.{Arena}
-use Rattle.commands.specs.Words.{Command, Check, Rewrite, Aiger, Explain, Flat, Loops, Sim, Delays, Demo, Storm, Help, HelpOn, Version}
+use Rattle.commands.specs.Words.{Command, Check, Rewrite, Aiger, Explain, Equal, Flat, Loops, Sim, Delays, Demo, Storm, Help, HelpOn, Version}
 use Rattle.cyc_tool.specs.Calls.{ShelfCall, ComesTo, Follows, KeepsNodes}
 use Rattle.cyc_tool.specs.Plans.{plan_of}
 use Rattle.cyc_tool.specs.Requests.{Shows}
@@ -30,6 +30,7 @@ keeps_still (Some (Check file options)) nodes = tt
 keeps_still (Some (Rewrite file options)) nodes = tt
 keeps_still (Some (Aiger file options)) nodes = tt
 keeps_still (Some (Explain file options)) nodes = tt
+keeps_still (Some (Equal file second options)) nodes = tt
 keeps_still (Some (Flat file)) nodes = refl
 keeps_still (Some (Loops file form)) nodes = refl
 keeps_still (Some (Sim file vectors)) nodes = refl

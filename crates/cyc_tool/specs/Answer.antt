@@ -6,8 +6,8 @@ use Rattle.refusals.specs.Refusals.{refusal}
 use Rattle.refusals.specs.declared.refusal.Refusal.{Refusal}
 use Rattle.report.specs.Messages.{too_large_text}
 use Rattle.commands.specs.Words.{command_of}
-use Rattle.cyc_tool.specs.Endings.{ending_of}
-use Rattle.cyc_tool.specs.Plans.{Ending, Prints, PrintsBeside, Refuses, Declines, Outgrows, Decision, Purpose, Plan, Reads, Faulty, Ends, Decides, plan_of}
+use Rattle.cyc_tool.specs.Endings.{ending_of, comparison_told}
+use Rattle.cyc_tool.specs.Plans.{Ending, Prints, PrintsBeside, Refuses, Declines, Outgrows, Decision, Purpose, Comparison, Plan, Reads, Faulty, Ends, Decides, Compares, plan_of}
 use Rattle.cyc_tool.specs.Requests.{Request}
 use Rattle.cyc_tool.specs.Texts.{Outcome, on_out, on_both, on_err, usage, has_fault, read_failed}
 
@@ -27,12 +27,17 @@ verdict_of decision = refusal decision.net decision.care decision.observe
 abbrev pub decided : Decision → Purpose → Option Refusal → Outcome
 decided decision purpose verdict = told (ending_of decision purpose verdict)
 
+-- the outcome of a comparison
+abbrev pub compared : Comparison → Outcome
+compared c = told (comparison_told c)
+
 -- the outcome of a plan, where these are the files
 abbrev pub outcome_at : Files → Plan → Outcome
 outcome_at files (Reads role name next) = option_map_or (λ bytes. outcome_at files (next bytes)) (files name) (read_failed name)
 outcome_at files (Faulty name fault) = has_fault name fault
 outcome_at files (Ends ending) = told ending
 outcome_at files (Decides decision purpose) = decided decision purpose (verdict_of decision)
+outcome_at files (Compares c) = compared c
 
 -- the answer to a request, where these are the files
 abbrev pub answer : Request → Files → Outcome

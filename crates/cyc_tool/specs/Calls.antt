@@ -11,7 +11,7 @@ use Rattle.bdd_store.specs.Arena.{Arena}
 use Rattle.netlist.specs.Netlists.{IsNetlist}
 use Rattle.verdict.specs.Causes.{IsOutOfNodes}
 use Rattle.verdict.specs.Enough.{IsBelowEnough}
-use Rattle.commands.specs.Words.{Command, Check, Rewrite, Aiger, Explain, Demo, Storm, command_of}
+use Rattle.commands.specs.Words.{Command, Check, Rewrite, Aiger, Explain, Equal, Demo, Storm, command_of}
 use Rattle.contents.specs.NetlistFiles.{netlist_of}
 use Rattle.cyc_base.specs.declared.limits.TheConstants.{MAX_REWRITTEN_ITEMS}
 use Rattle.refusals.specs.declared.refusal.Refusal.{Refusal}
@@ -22,11 +22,13 @@ use Rattle.explanations.specs.declared.explanation.Explanation.{Explanation}
 use Rattle.explanations.specs.Explained.{Explains as ExplainsGate}
 use Rattle.report.specs.Verdicts.{refusal_text}
 use Rattle.report.specs.Explanations.{explanation_text}
+use Rattle.equal.specs.Rebound.{IsLimited as IsComparisonLimited}
+use Rattle.equality.specs.Shown.{ShowsItself}
 use Rattle.rewriting.specs.Graphs.{graph_of, most_ands, IsGraphing}
 use Rattle.rewriting.specs.Rewriting.{rewritten, rewritten_size, IsRewriting}
-use Rattle.cyc_tool.specs.Answer.{told, decided, verdict_of}
+use Rattle.cyc_tool.specs.Answer.{told, decided, verdict_of, compared}
 use Rattle.cyc_tool.specs.Endings.{accepted_told}
-use Rattle.cyc_tool.specs.Plans.{Role, Netlist, Care, Vectors, Recorded, Refuses, Decision, Purpose, Judges, Rewrites, WritesGraph, Explains, Demonstrates, Storms, Plan, Reads, Faulty, Ends, Decides, plan_of}
+use Rattle.cyc_tool.specs.Plans.{Role, Netlist, Care, Vectors, Recorded, Refuses, Decision, Purpose, Judges, Rewrites, WritesGraph, Explains, Demonstrates, Storms, Comparison, Plan, Reads, Faulty, Ends, Decides, Compares, plan_of}
 use Rattle.cyc_tool.specs.Requests.{Request, Shows}
 use Rattle.cyc_tool.specs.Texts.{Outcome, usage, has_fault, read_failed, limit_reached, no_memory}
 
@@ -72,6 +74,7 @@ AreGiven files (bytes ∷ given) (Reads role name next) = IsFile files name byte
 AreGiven files (bytes ∷ given) (Faulty name fault) = ⊥
 AreGiven files (bytes ∷ given) (Ends ending) = ⊥
 AreGiven files (bytes ∷ given) (Decides decision purpose) = ⊥
+AreGiven files (bytes ∷ given) (Compares c) = ⊥
 
 -- what is left of a plan behind these texts
 abbrev pub rest_of : List (List ℕ) → Plan → Plan
@@ -140,12 +143,19 @@ pub data IsDecided (decision : Decision) (purpose : Purpose) (nodes : Arena) (en
   Explained : purpose ≡ Explains → IsExplained decision end → IsDecided decision purpose nodes end
   Limit : IsLimited decision nodes → end ≡ limit_reached decision.limit → IsDecided decision purpose nodes end
 
+-- A comparison came to what is found, which shows itself, or met its limit of nodes: it is below what is enough for both
+-- decisions and the comparison.
+pub data IsCompared (c : Comparison) (nodes : Arena) (end : Outcome) : Type 0 where
+  Found : end ≡ compared c → ShowsItself c.first c.second c.care → IsCompared c nodes end
+  Unfinished : IsComparisonLimited nodes c.first c.second c.care c.limit → end ≡ limit_reached c.limit → IsCompared c nodes end
+
 -- how a call ends at what is left of its plan
 abbrev pub EndsAt : ShelfCall → Arena → Outcome → Plan → Type 0
 EndsAt shelf nodes end (Reads role name next) = ReadFailed shelf name × (end ≡ read_failed name)
 EndsAt shelf nodes end (Faulty name fault) = end ≡ has_fault name fault
 EndsAt shelf nodes end (Ends ending) = end ≡ told ending
 EndsAt shelf nodes end (Decides decision purpose) = IsNetlist decision.net × IsDecided decision purpose nodes end
+EndsAt shelf nodes end (Compares c) = IsCompared c nodes end
 
 -- A call went along a plan to this outcome, by what the shelf gave and these diagrams show, or it wants memory. It
 -- read no file but those of the plan, in its order.
@@ -164,12 +174,13 @@ abbrev pub ComesTo : Shows → Option Command → ShelfCall → Arena → Outcom
 ComesTo shows None shelf nodes end = ComesToUsage shelf end
 ComesTo shows (Some command) shelf nodes end = Follows (plan_of shows command) shelf nodes end
 
--- A command that decides a netlist uses the diagrams. Any other leaves them as they were, and so do words outside the grammar.
+-- A command that decides a netlist or compares two uses the diagrams. Any other leaves them as they were, and so do words outside the grammar.
 abbrev pub KeepsNodes : Option Command → Arena → Arena → Type 0
 KeepsNodes (Some (Check file options)) before now = Unit {0}
 KeepsNodes (Some (Rewrite file options)) before now = Unit {0}
 KeepsNodes (Some (Aiger file options)) before now = Unit {0}
 KeepsNodes (Some (Explain file options)) before now = Unit {0}
+KeepsNodes (Some (Equal file second options)) before now = Unit {0}
 KeepsNodes (Some (Demo cells)) before now = Unit {0}
 KeepsNodes (Some (Storm file rounds options)) before now = Unit {0}
 KeepsNodes other before now = now ≡ before

@@ -1,5 +1,5 @@
 -- What follows of a run for each status, and where the files are told.
-use Rattle.std.specs.Prelude.{◌≡◌, ◌≢◌, ◌≤◌, ◌⊎◌, ◌+◌, ◌-◌, ◌++◌, length, [], ℕ, Bool, List, Some, None, IfSome, IsSomeAnd}
+use Rattle.std.specs.Prelude.{◌≡◌, ◌≢◌, ◌≤◌, ◌⊎◌, ◌+◌, ◌-◌, ◌++◌, codes, length, [], ℕ, Bool, List, Some, None, IfSome, IsSomeAnd}
 use Rattle.std.specs.declared.option.Option.{Option}
 use Rattle.bdd_store.specs.Arena.{Arena}
 use Rattle.accepted_runs.specs.Harmless.{IsHarmless}
@@ -15,15 +15,19 @@ use Rattle.storm.specs.Laws.{PlaysAsStorm}
 use Rattle.storm.specs.Storms.{storm_of}
 use Rattle.cyc_tool.specs.Storms.{storm_text}
 use Rattle.aiger_write.specs.Text.{aiger_text}
+use Rattle.equal.specs.Matching.{unmatched}
+use Rattle.equal.specs.Rebound.{IsEnoughForBoth, IsLimited as IsComparisonLimited}
+use Rattle.equal_runs.specs.Runs.{RunAlike}
+use Rattle.equality.specs.Shown.{ShowsItself}
 use Rattle.rewriting.specs.Graphs.{graph_of, IsGraphing}
 use Rattle.rewriting.specs.Rewriting.{rewritten, IsRewriting}
-use Rattle.cyc_tool.specs.Answer.{told, decided, verdict_of, answer}
+use Rattle.cyc_tool.specs.Answer.{told, decided, verdict_of, compared, answer}
 use Rattle.cyc_tool.specs.Calls.{ShelfCall, SinkCall, ReadFailed, WriteFailed, Takes, AreGiven, rest_of, IsLimited, IsTold}
 use Rattle.explanations.specs.declared.explanation.Explanation.{Explanation}
 use Rattle.explanations.specs.Explained.{Explains as ExplainsGate}
 use Rattle.report.specs.Verdicts.{refusal_text}
 use Rattle.report.specs.Explanations.{explanation_text}
-use Rattle.cyc_tool.specs.Plans.{Decision, Rewrites, WritesGraph, Explains, Storms, Plan, Reads, Faulty, Ends, Decides, plan_of}
+use Rattle.cyc_tool.specs.Plans.{Decision, Rewrites, WritesGraph, Explains, Storms, Plan, Reads, Faulty, Ends, Decides, Compares, plan_of}
 use Rattle.cyc_tool.specs.Requests.{Request}
 use Rattle.cyc_tool.specs.Texts.{no_memory}
 
@@ -62,9 +66,10 @@ abbrev pub IsUnread : ShelfCall → Plan → Type 0
 IsUnread shelf (Reads role name next) = ReadFailed shelf name
 IsUnread shelf plan = ⊥
 
--- The decision that is next met its limit of nodes.
+-- The decision or the comparison that is next met its limit of nodes.
 abbrev pub MeetsLimit : Arena → Plan → Type 0
 MeetsLimit nodes (Decides decision purpose) = IsLimited decision nodes
+MeetsLimit nodes (Compares c) = IsComparisonLimited nodes c.first c.second c.care c.limit
 MeetsLimit nodes plan = ⊥
 
 -- This refuses the netlist. Its vector shows why; an empty care set alone has none.
@@ -78,11 +83,13 @@ abbrev pub IsVerdict : Decision → Option Refusal → Type 0
 IsVerdict decision None = IsHarmless decision.net decision.care decision.observe
 IsVerdict decision (Some refused) = IsRefusedBy decision refused
 
--- All was given without a fault, and the status is that of what is told then; where a decision is made, of its verdict.
+-- All was given without a fault, and the status is that of what is told then; where a decision is made, of its verdict;
+-- where two netlists are compared, of what is found, which shows itself.
 abbrev pub IsDoneWith : ℕ → Plan → Type 0
 IsDoneWith status (Ends ending) = status ≡ (told ending).status
 IsDoneWith status (Decides decision purpose) =
     (verdict : Option Refusal) × IsVerdict decision verdict × (status ≡ (decided decision purpose verdict).status)
+IsDoneWith status (Compares c) = ShowsItself c.first c.second c.care × (status ≡ (compared c).status)
 IsDoneWith status plan = ⊥
 
 -- What was put on out for a decision whose status is 0: to rewrite, the text of a netlist without loops, which reads back
@@ -100,6 +107,13 @@ HasGraph out (Decides decision WritesGraph) =
     IsGraphing decision.net decision.care (graph_of decision.net decision.care)
     × Takes out (aiger_text (rewritten decision.net decision.care) (graph_of decision.net decision.care))
 HasGraph out plan = Unit {0}
+
+-- What was put on out for a comparison whose status is 0: that the two netlists are equal. Each run of the first within
+-- care and each run of the second, over the same inputs and from equal latches, have equal outputs and latches by name at
+-- each tick, whatever their windows of older reads, their pasts and their fair schedules are.
+abbrev pub HasCompared : SinkCall → Plan → Type 0
+HasCompared out (Compares c) = RunAlike c.first c.second c.care × Takes out (codes "equal\n")
+HasCompared out plan = Unit {0}
 
 -- A refused wire has its storm on out: a fair schedule of the refusal's vector on which each gate that the fixpoint leaves
 -- unknown falls and rises in each round, and all else stands at the fixpoint.
@@ -155,12 +169,13 @@ GivesAnswer request shelf nodes out err status = IfSome shelf.files (λ files. I
     → IsTold (answer request files) out err status ⊎ (Reaches (MeetsLimit nodes) request shelf × (status ≡ 6))
     ⊎ (Reaches (ExplainsWire out err) request shelf × (status ≡ 1)) ⊎ IsTold no_memory out err status)
 
--- The limit of the decision that is next is enough.
+-- The limit of the decision that is next is enough, or that of the comparison, unless a name isn't matched.
 abbrev pub IsEnoughFor : Plan → Type 0
 IsEnoughFor (Decides decision purpose) = IsEnough decision.net decision.care decision.limit
+IsEnoughFor (Compares c) = unmatched c.first c.second ≡ None → IsEnoughForBoth c.first c.second c.care c.limit
 IsEnoughFor plan = Unit {0}
 
--- It is enough for whatever the shelf gave. A command that doesn't decide has none.
+-- It is enough for whatever the shelf gave. A command that neither decides nor compares has none.
 abbrev pub HasEnoughNodes : Request → ShelfCall → Type 0
 HasEnoughNodes request shelf = IfSome (command_of request.words) (λ command.
     (given : List (List ℕ)) → AreGiven shelf.files given (plan_of request.shows command) → IsEnoughFor (rest_of given (plan_of request.shows command)))

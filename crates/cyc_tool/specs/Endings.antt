@@ -1,5 +1,6 @@
--- What a call ends with that makes a decision, by its verdict: nothing, or what refuses the netlist.
-use Rattle.std.specs.Prelude.{ℕ, ◌+◌, ◌++◌, Bool, List, length, nat_le, if◌then◌else◌, Some, None}
+-- What a call ends with that makes a decision, by its verdict: nothing, or what refuses the netlist. And what one ends
+-- with that compares two netlists.
+use Rattle.std.specs.Prelude.{ℕ, ◌+◌, ◌++◌, Bool, true, false, List, length, nat_le, if◌then◌else◌, Some, None}
 use Rattle.std.specs.declared.option.Option.{Option}
 use Rattle.cyc_base.specs.declared.limits.TheConstants.{MAX_REWRITTEN_ITEMS}
 use Rattle.netlist.specs.declared.parts.Parts.{Parts}
@@ -17,7 +18,8 @@ use Rattle.report.specs.Verdicts.{accepted_text, refusal_text, ring_line}
 use Rattle.storm.specs.Storms.{most_events}
 use Rattle.rewriting.specs.Graphs.{graph_of, most_ands}
 use Rattle.rewriting.specs.Rewriting.{rewritten, rewritten_size, sweeps_needed}
-use Rattle.cyc_tool.specs.Plans.{Ending, Prints, Refuses, Declines, Outgrows, Decision, Purpose, Judges, Rewrites, WritesGraph, Explains, Demonstrates, Storms}
+use Rattle.equality.specs.Told.{are_equal, found_text}
+use Rattle.cyc_tool.specs.Plans.{Ending, Prints, Refuses, Declines, Outgrows, Decision, Purpose, Judges, Rewrites, WritesGraph, Explains, Demonstrates, Storms, Comparison}
 use Rattle.cyc_tool.specs.Storms.{events_of, events_told, storm_text}
 
 -- a number that is told only where the outputs alone are observed
@@ -87,3 +89,11 @@ refused_told net (Storms rounds) refused = storm_or_refusal net rounds refused
 abbrev pub ending_of : Decision → Purpose → Option Refusal → Ending
 ending_of decision purpose None = accepted_told decision purpose
 ending_of decision purpose (Some refused) = refused_told decision.net purpose refused
+
+-- what is found of two netlists, which are equal or aren't
+abbrev pub found_told : Bool → List ℕ → Ending
+found_told true text = Prints text
+found_told false text = Refuses text
+
+abbrev pub comparison_told : Comparison → Ending
+comparison_told c = found_told (are_equal c.first c.second c.care) (found_text c.first c.second c.care)

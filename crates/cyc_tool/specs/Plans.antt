@@ -14,7 +14,7 @@ use Rattle.blif_write.specs.Written.{written}
 use Rattle.care_sets.specs.Care.{CareSet}
 use Rattle.refusals.specs.declared.observe.Observe.{Observe}
 use Rattle.refusals.specs.declared.observe.Observe.TheVariants as observe
-use Rattle.commands.specs.Words.{Options, Command, Check, Rewrite, Aiger, Explain, Flat, Loops, Sim, Delays, Demo, Storm, Help, HelpOn, Version}
+use Rattle.commands.specs.Words.{Options, Command, Check, Rewrite, Aiger, Explain, Equal, Flat, Loops, Sim, Delays, Demo, Storm, Help, HelpOn, Version}
 use Rattle.commands.specs.declared.form.Form.{Form}
 use Rattle.commands.specs.declared.form.Form.TheVariants.{Lines, Dot}
 use Rattle.contents.specs.CareFiles.{no_care, care_of}
@@ -42,7 +42,7 @@ pub data Ending : Type 0 where
   Prints : List ℕ → Ending
   -- its result, which stands alone on out, and lines beside it
   PrintsBeside : List ℕ → List ℕ → Ending
-  -- why the netlist is refused, which is a result
+  -- why the netlist is refused, or what two netlists differ in, which is a result
   Refuses : List ℕ → Ending
   -- the same in place of a result
   Declines : List ℕ → Ending
@@ -71,6 +71,13 @@ pub data Purpose : Type 0 where
   -- to write a schedule of so many rounds on which a refused wire never rests
   Storms : ℕ → Purpose
 
+-- two netlists to be compared on a care set of the first, with at most so many nodes
+pub record Comparison : Type 0 where
+  pub first : Parts
+  pub second : Parts
+  pub care : CareSet
+  pub limit : ℕ
+
 -- what is done next
 pub data Plan : Type 0 where
   -- the file of this name is read, and its bytes say what is done then
@@ -81,6 +88,8 @@ pub data Plan : Type 0 where
   Ends : Ending → Plan
   -- a decision is made, and its verdict says what the call ends with
   Decides : Decision → Purpose → Plan
+  -- two netlists are compared, and what is found says what the call ends with
+  Compares : Comparison → Plan
 
 -- A text is used for what it means, or its first fault ends the call as one of the file of this name.
 abbrev pub using : {T : Type 0} → List ℕ → Result T Fault → (T → Plan) → Plan
@@ -118,6 +127,21 @@ deciding_on net options purpose = with_care options.care net (λ care. Decides (
 -- and of the netlist of a file
 abbrev pub deciding : List ℕ → Options → Purpose → Plan
 deciding file options purpose = with_netlist file (λ net. deciding_on net options purpose)
+
+abbrev pub comparison : Parts → Parts → CareSet → Options → Comparison
+comparison first second care options = record { first = first; second = second; care = care; limit = unwrap_or options.nodes DEFAULT_NODES }
+
+-- a comparison of a netlist with a second one, on a care set of the first
+abbrev pub comparing_on : Options → Parts → Parts → Plan
+comparing_on options first second = with_care options.care first (λ care. Compares (comparison first second care options))
+
+-- with that of a file
+abbrev pub comparing_with : List ℕ → Options → Parts → Plan
+comparing_with file options first = with_netlist file (comparing_on options first)
+
+-- and of the netlists of both files
+abbrev pub comparing : List ℕ → List ℕ → Options → Plan
+comparing file second options = with_netlist file (comparing_with second options)
 
 -- The texts of the ring arbiter are taken for files of these names.
 abbrev pub ring_file : List ℕ
@@ -177,13 +201,14 @@ ring_deciding_on cells net = using ring_care_file (care_of net (care_text cells)
 abbrev pub ring_deciding : ℕ → Plan
 ring_deciding cells = using ring_file (netlist_of (ring_text cells)) (ring_deciding_on cells)
 
--- The files of a command are read in the order netlist, care file, vectors, schedule, and all faults of one are looked
+-- The files of a command are read in the order netlist, second netlist, care file, vectors, schedule, and all faults of one are looked
 -- for before the next is read.
 abbrev pub plan_of : Shows → Command → Plan
 plan_of shows (Check file options) = deciding file options Judges
 plan_of shows (Rewrite file options) = deciding file options Rewrites
 plan_of shows (Aiger file options) = deciding file options WritesGraph
 plan_of shows (Explain file options) = deciding file options Explains
+plan_of shows (Equal file second options) = comparing file second options
 plan_of shows (Flat file) = flattening file
 plan_of shows (Loops file form) = finding_loops form file
 plan_of shows (Sim file vectors) = simulating file vectors

@@ -21,6 +21,8 @@ use Rattle.cyc_tool.specs.Endings.{refused_told}
 use Rattle.unroll.specs.declared.fault.UnrollFault.{UnrollFault}
 use Rattle.unroll.specs.declared.fault.UnrollFault.TheVariants.{TooLarge, Memory as NoMemory}
 use Rattle.rewriting.specs.Graphs.{most_ands}
+use Rattle.equal.specs.declared.fault.EqualFault.{EqualFault}
+use Rattle.equal.specs.declared.fault.EqualFault.TheVariants.{NodeLimit as PairLimit, Memory as NoPair}
 use Rattle.verdict.specs.declared.fault.DecideFault.{DecideFault}
 use Rattle.verdict.specs.declared.fault.DecideFault.TheVariants.{NodeLimit, Memory as NoNodes}
 use Rattle.verdict.specs.declared.verdict.Verdict.{Verdict}
@@ -79,6 +81,11 @@ IsRefusalTold net purpose refused end = end ≡ done (refused_told net purpose r
 abbrev pub IsLimitOf : DecideFault → Outcome → Type 0
 IsLimitOf (NodeLimit nodes) told = outcome_of told ≡ texts.limit_reached nodes
 IsLimitOf NoNodes told = ⊥
+
+-- and of a comparison
+abbrev pub IsComparisonLimitOf : EqualFault → Outcome → Type 0
+IsComparisonLimitOf (PairLimit nodes) told = outcome_of told ≡ texts.limit_reached nodes
+IsComparisonLimitOf NoPair told = ⊥
 
 -- the wire of a refusal is unknown at its vector
 abbrev pub IsShown : Parts → Refusal → Type 0

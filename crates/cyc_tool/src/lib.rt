@@ -4,6 +4,7 @@
 //! answer of its words (`specs/Answer.antt`) at what the shelf gave, or wants memory, or that a write failed.
 #![tactic(auto)]
 
+mod compared;
 mod decision;
 mod explained;
 mod outcome;

@@ -1,8 +1,8 @@
 // The statuses of a call.
 
-/// Done, or accepted.
+/// Done, or accepted, or equal.
 pub const DONE: u8 = 0;
-/// The netlist is refused.
+/// The netlist is refused, or two aren't equal.
 pub const REFUSED: u8 = 1;
 /// The words aren't in the grammar.
 pub const USAGE: u8 = 2;

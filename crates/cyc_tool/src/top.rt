@@ -9,7 +9,7 @@ ghost use Rattle.probes.specs.Changes.{changes};
 ghost use Rattle.sched_text.specs.Fitting.{FitsNetlist};
 ghost use Rattle.sched_text.specs.Vectors.{HaveWidth};
 ghost use Rattle.cyc_tool.specs.Calls.{shelf_call, sink_call, ComesTo, Follows, KeepsNodes, Tells, Runs, WriteFailed};
-ghost use Rattle.cyc_tool.specs.Causes.{GivesAnswer, HasExplained, HasGraph, HasRewritten, HasStormed, IsComplete, IsDoneWith, IsFaulty, IsHelpedBy, IsUnread, IsWithoutCommand, MeetsLimit, NoneFell, Reaches};
+ghost use Rattle.cyc_tool.specs.Causes.{GivesAnswer, HasCompared, HasExplained, HasGraph, HasRewritten, HasStormed, IsComplete, IsDoneWith, IsFaulty, IsHelpedBy, IsUnread, IsWithoutCommand, MeetsLimit, NoneFell, Reaches};
 ghost use Rattle.cyc_tool.specs.Hearing.{HearCommand, HearPlay, HearRun};
 ghost use Rattle.cyc_tool.specs.Plays.{AreInputs, known as known_of};
 ghost use Rattle.cyc_tool.specs.Plans.{Decides, decision, deciding, deciding_on, finding_loops, flattening, plan_of, play_on, playing, replaying, replaying_on, simulating, simulating_on};
@@ -17,6 +17,7 @@ ghost use Rattle.cyc_tool.specs.Reading.{FollowsAlone, FollowsStill, FollowsStil
 ghost use Rattle.cyc_tool.specs.Requests.{Shows, request, shown_by};
 ghost use Rattle.cyc_tool.specs.Seen.{end_of, outcome_of, purpose_seen};
 
+use crate::compared::compare_files;
 use crate::decision::{Purpose, decide_netlist};
 use crate::outcome::{Outcome, Stop, or_stop};
 use crate::plays::{known, played, probed};
@@ -317,6 +318,9 @@ fn carry_out<S: Shelf>(
         Command::Explain(netlist, options) => {
             decide_file(alloc, shelf, netlist, options, Purpose::Explain, d)
         }
+        Command::Equal(netlist, second, options) => {
+            compare_files(alloc, shelf, netlist, second, options, d)
+        }
         Command::Flat(netlist) => flat(alloc, shelf, netlist),
         Command::Loops(netlist, form) => loops(alloc, shelf, netlist, form),
         Command::Sim(netlist, vectors) => sim(alloc, shelf, netlist, vectors),
@@ -457,14 +461,14 @@ fn answer_with<S: Shelf, O: Sink, E: Sink>(
 ///
 /// A file that is `-` is standard input: `/dev/stdin` is read from the shelf.
 ///
-/// `d` may hold anything when the call starts. A command that decides starts it anew, and its nodes at the end of
+/// `d` may hold anything when the call starts. A command that decides or compares starts it anew, and its nodes at the end of
 /// the call show the cause of status 6. All other words leave it as it was.
 ///
 /// `probes` are told the changes of a run that `delays` plays, if they are of the kind that the words ask for, and what they
 /// show comes on out in their order, behind the lines of the ticks; of the kind `Vcd` it is all of out, and these lines go
 /// to err. They have heard nothing before, and are dropped.
 ///
-/// 0: done or accepted. 1: refused. 2: the words aren't in the grammar. 3: a file has a fault. 4: a file wasn't read.
+/// 0: done, accepted or equal. 1: refused, or not equal. 2: the words aren't in the grammar. 3: a file has a fault. 4: a file wasn't read.
 /// 5: a write failed; each sink has a prefix of its text. 6: the limit of nodes was met, which is below what is enough.
 /// 7: want of memory. 8: the rewritten netlist would have over 4,000,000 gates and latches, its graph as many ANDs, or the
 /// storm as many events.
@@ -505,6 +509,8 @@ pub fn run<S: Shelf, O: Sink, E: Sink>(
         → Reaches (HasRewritten (sink_call O.put O.faults out.old out.new)) (request kind text words.now probes.items) (shelf_call S.files S.faults shelf.old shelf.new) }
     ensures graphed { result ≡ 0
         → Reaches (HasGraph (sink_call O.put O.faults out.old out.new)) (request kind text words.now probes.items) (shelf_call S.files S.faults shelf.old shelf.new) }
+    ensures compared { result ≡ 0
+        → Reaches (HasCompared (sink_call O.put O.faults out.old out.new)) (request kind text words.now probes.items) (shelf_call S.files S.faults shelf.old shelf.new) }
     ensures explained { result ≡ 1
         → Reaches (HasExplained (sink_call O.put O.faults out.old out.new) (sink_call E.put E.faults err.old err.new))
         (request kind text words.now probes.items) (shelf_call S.files S.faults shelf.old shelf.new) }

@@ -21,6 +21,7 @@ fn topics() -> &'static [Topic]
         Topic::Rewrite,
         Topic::Aiger,
         Topic::Explain,
+        Topic::Equal,
         Topic::Flat,
         Topic::Loops,
         Topic::Sim,
@@ -61,8 +62,8 @@ A file that is - is standard input. Options stand behind the files, in any order
   --probe KIND        what is shown of the changes of a run
 
 Statuses:
-  0  done, or accepted
-  1  refused
+  0  done, or accepted, or equal
+  1  refused, or not equal
   2  the words aren't in the grammar
   3  a file has a fault
   4  a file wasn't read
@@ -84,6 +85,7 @@ fn words(topic: Topic) -> &'static [u8]
         Topic::Rewrite => b"rewrite FILE [--care CARE] [--nodes N] [--observe all|outputs]",
         Topic::Aiger => b"aiger FILE [--care CARE] [--nodes N] [--observe all|outputs]",
         Topic::Explain => b"explain FILE [--care CARE] [--nodes N] [--observe all|outputs]",
+        Topic::Equal => b"equal FILE FILE [--care CARE] [--nodes N]",
         Topic::Flat => b"flat FILE",
         Topic::Loops => b"loops FILE [--dot]",
         Topic::Sim => b"sim FILE VECTORS",
@@ -106,6 +108,8 @@ fn purpose(topic: Topic) -> &'static [u8]
             b"writes an accepted netlist as an and-inverter graph without loops, in AIGER's ASCII form",
         Topic::Explain =>
             b"does as check, and shows what leaves a refused wire unknown, or what each accepted loop needs",
+        Topic::Equal =>
+            b"says that two netlists have the same outputs and latches at every tick, or prints what differs",
         Topic::Flat => b"writes the netlist without its hierarchy",
         Topic::Loops =>
             b"prints the loops and the wires that cut them open, with --dot as a graph for Graphviz",

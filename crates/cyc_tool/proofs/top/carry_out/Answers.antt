@@ -17,6 +17,9 @@ returns-in-Aiger-clause-comes g c = rw c.in-Aiger.is c.decide_file-in-Aiger.ensu
 pub returns-in-Explain-clause-comes : goal.returns-in-Explain-clause-comes
 returns-in-Explain-clause-comes g c = rw c.in-Explain.is c.decide_file-in-Explain.ensures.comes
 
+pub returns-in-Equal-clause-comes : goal.returns-in-Equal-clause-comes
+returns-in-Equal-clause-comes g c = rw c.in-Equal.is c.compare_files.ensures.comes
+
 pub returns-in-Flat-clause-comes : goal.returns-in-Flat-clause-comes
 returns-in-Flat-clause-comes g c = rw c.in-Flat.is (c.flat.ensures.comes.follows c.args.d.now)
 

@@ -1,6 +1,6 @@
 use Rattle.std.proofs.Common.{refl}
 use Rattle.cyc_tool.proofs.AnswerLemmas.{gives_answer, is_complete}
-use Rattle.cyc_tool.proofs.CauseLemmas.{Eight, One, Zero, done_cause, explained_cause, fault_cause, graphed_cause, help_told, limit_cause, read_cause, rewritten_cause, stormed_cause, usage_cause, usage_told, write_cause}
+use Rattle.cyc_tool.proofs.CauseLemmas.{Eight, One, Zero, compared_cause, done_cause, explained_cause, fault_cause, graphed_cause, help_told, limit_cause, read_cause, rewritten_cause, stormed_cause, usage_cause, usage_told, write_cause}
 use Rattle.cyc_tool.proofs.RunLemmas.{counts_later}
 use Rattle.cyc_tool.proofs.top.run.Goals as goal
 
@@ -42,6 +42,9 @@ returns-clause-rewritten g c = rewritten_cause _ _ _ _ _ _ c.answer_with.ensures
 
 pub returns-clause-graphed : goal.returns-clause-graphed
 returns-clause-graphed g c = graphed_cause _ _ _ _ _ _ c.answer_with.ensures.runs
+
+pub returns-clause-compared : goal.returns-clause-compared
+returns-clause-compared g c = compared_cause _ _ _ _ _ _ c.answer_with.ensures.runs
 
 pub returns-clause-explained : goal.returns-clause-explained
 returns-clause-explained g c = explained_cause _ _ _ _ _ _ c.answer_with.ensures.runs

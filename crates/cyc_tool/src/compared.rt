@@ -1,0 +1,133 @@
+// Comparisons of two netlists.
+ghost use Rattle.std.specs.Prelude.{◌≡◌, IfOk};
+ghost use Rattle.care_sets.specs.Binding.{IsCareOf};
+ghost use Rattle.commands.specs.Seen.{options_seen};
+ghost use Rattle.cyc_base.specs.declared.limits.TheConstants.{MAX_NODES as most_nodes};
+ghost use Rattle.cyc_tool.specs.Calls.{shelf_call, Follows, IsCompared};
+ghost use Rattle.cyc_tool.specs.Answer.{told as done};
+ghost use Rattle.cyc_tool.specs.Endings.{found_told};
+ghost use Rattle.cyc_tool.specs.Plans.{Compares, comparing, comparing_on, comparing_with, comparison};
+ghost use Rattle.cyc_tool.specs.Reading.{FollowsStill};
+ghost use Rattle.cyc_tool.specs.Seen.{IsComparisonLimitOf, end_of, outcome_of};
+
+use crate::outcome::{Outcome, Stop};
+use crate::reading::{read_care, read_netlist};
+use crate::status;
+use crate::texts::{on_out, tell_limit};
+use bdd_ops::Diagrams;
+use care_sets::Care;
+use commands::Options;
+use cyc_base::{DEFAULT_NODES, Name};
+use cyc_io::Shelf;
+use equal::EqualFault;
+use equality::{Told, tell_equality};
+use netlist::Netlist;
+use std::alloc::{AllocError, Global};
+
+// What was found of two netlists.
+fn tell_found(alloc: Global, told: Told) -> Outcome
+    ensures { outcome_of result ≡ done (found_told told.equal told.text.items) }
+{
+    let Told { equal, text } = told;
+    if equal {
+        on_out(alloc, status::DONE, text)
+    } else {
+        on_out(alloc, status::REFUSED, text)
+    }
+}
+
+// That the limit of nodes was met.
+fn tell_unfinished(alloc: Global, fault: EqualFault) -> Result<Outcome, AllocError>
+    ensures { IfOk result (λ told. IsComparisonLimitOf fault told) }
+{
+    match fault {
+        EqualFault::NodeLimit { nodes } => tell_limit(alloc, nodes),
+        EqualFault::Memory => Err(AllocError),
+    }
+}
+
+// Compares two netlists on a care set of the first within so many nodes, and tells what is found.
+fn compare_netlists(
+    alloc: Global,
+    first: &Netlist,
+    second: &Netlist,
+    care: &Care,
+    limit: u32,
+    d: &mut Diagrams,
+) -> Result<Outcome, AllocError>
+    requires care { IsCareOf first.now care.now }
+    requires limit { limit ≤ most_nodes }
+    ensures { IfOk result (λ told. IsCompared record { first = first.now; second = second.now; care = care.now; limit = limit } d.new (outcome_of told)) }
+{
+    match tell_equality(alloc, d, first, second, care, limit) {
+        Ok(told) => Ok(tell_found(alloc, told)),
+        Err(fault) => tell_unfinished(alloc, fault),
+    }
+}
+
+// The same within as many nodes as the options allow.
+fn compare_on_care(
+    alloc: Global,
+    first: &Netlist,
+    second: &Netlist,
+    care: &Care,
+    options: Options,
+    d: &mut Diagrams,
+) -> Result<Outcome, Stop>
+    requires { IsCareOf first.now care.now }
+    ensures { FollowsStill (Compares (comparison first.now second.now care.now (options_seen options.entry))) d.new (end_of result) }
+{
+    let limit = options.nodes.unwrap_or(DEFAULT_NODES);
+    Ok(compare_netlists(alloc, first, second, care, limit, d)?)
+}
+
+// The same on the care set of its care file.
+fn compare_on_care_file<S: Shelf>(
+    alloc: Global,
+    shelf: &mut S,
+    first: &Netlist,
+    second: &Netlist,
+    options: Options,
+    d: &mut Diagrams,
+) -> Result<Outcome, Stop>
+    ensures comes { Follows (comparing_on (options_seen options.entry) first.now second.now)
+        (shelf_call S.files S.faults shelf.old shelf.new) d.new (end_of result) }
+    ensures same { S.files shelf.new ≡ S.files shelf.old }
+{
+    let care = read_care(alloc, shelf, first, options.care)?;
+    compare_on_care(alloc, first, second, &care, options, d)
+}
+
+// The same with the netlist of a second file.
+fn compare_with_file<S: Shelf>(
+    alloc: Global,
+    shelf: &mut S,
+    first: &Netlist,
+    second: &Name,
+    options: Options,
+    d: &mut Diagrams,
+) -> Result<Outcome, Stop>
+    ensures comes { Follows (comparing_with second.now (options_seen options.entry) first.now)
+        (shelf_call S.files S.faults shelf.old shelf.new) d.new (end_of result) }
+    ensures same { S.files shelf.new ≡ S.files shelf.old }
+{
+    let other = read_netlist(alloc, shelf, second)?;
+    compare_on_care_file(alloc, shelf, first, &other, options, d)
+}
+
+// The same of the netlists of two files.
+pub(crate) fn compare_files<S: Shelf>(
+    alloc: Global,
+    shelf: &mut S,
+    netlist: &Name,
+    second: &Name,
+    options: Options,
+    d: &mut Diagrams,
+) -> Result<Outcome, Stop>
+    ensures comes { Follows (comparing netlist.now second.now (options_seen options.entry))
+        (shelf_call S.files S.faults shelf.old shelf.new) d.new (end_of result) }
+    ensures same { S.files shelf.new ≡ S.files shelf.old }
+{
+    let first = read_netlist(alloc, shelf, netlist)?;
+    compare_with_file(alloc, shelf, &first, second, options, d)
+}
