@@ -1,3 +1,4 @@
 mod ReachLemmas
 mod ReadLemmas
 mod LineLemmas
+mod GraphLemmas

@@ -57,7 +57,7 @@ told_more text net gate loops old mid new counted before after =
 -- ---- the sweeps that are needed
 
 -- what a kept number begins with passes the test
-begun-passes : (p : ℕ → Bool) (ns : List ℕ) (n : ℕ) → begins_with (filter p ns) n ≡ true → p n ≡ true
+pub begun-passes : (p : ℕ → Bool) (ns : List ℕ) (n : ℕ) → begins_with (filter p ns) n ≡ true → p n ≡ true
 begun-passes p [] n begun = absurd (true≢false (sym begun))
 begun-passes p (m ∷ ns) n begun = by (p m) refl begun (begun-passes p ns n)
   where
@@ -66,7 +66,7 @@ begun-passes p (m ∷ ns) n begun = by (p m) refl begun (begun-passes p ns n)
     by false fails begun rest = rest begun
 
 -- texts that agree on the loops that are told
-numbered-alike : (one two : ℕ → ℕ → List ℕ) (test : ℕ → Bool) → ((k n : ℕ) → test n ≡ true → one k n ≡ two k n) → (ns : List ℕ) (k : ℕ)
+pub numbered-alike : (one two : ℕ → ℕ → List ℕ) (test : ℕ → Bool) → ((k n : ℕ) → test n ≡ true → one k n ≡ two k n) → (ns : List ℕ) (k : ℕ)
     → numbered_loops one k (filter test ns) ≡ numbered_loops two k (filter test ns)
 numbered-alike one two test agree [] k = refl
 numbered-alike one two test agree (n ∷ ns) k = by (test n) refl (numbered-alike one two test agree ns)

@@ -2,3 +2,5 @@
 pub mod Columns
 -- the lines of loops
 pub mod Lines
+-- the graph of loops
+pub mod Graphs

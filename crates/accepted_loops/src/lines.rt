@@ -151,7 +151,7 @@ fn put_loop_told<K: Sink>(
 }
 
 // The lines of the loop that begins at this gate.
-fn tell_loop(
+pub(crate) fn tell_loop(
     alloc: Global,
     net: &Netlist,
     blocks: &Blocks,

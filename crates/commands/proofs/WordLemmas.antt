@@ -4,7 +4,8 @@ use Rattle.std.specs.Prelude.{if◌then◌else◌, nat_le, option_map}
 use Rattle.std.proofs.Math.Seq.{take-length}
 use Rattle.std.specs.List.{list_all}
 use Rattle.std.specs.Option.{option_and_then}
-use Rattle.commands.specs.Words.{Options, Check, Rewrite, Aiger, Explain, Equal, Storm, no_options, is_digit, with_digits, up_to, with_option, options_of, check_on, rewrite_on, aiger_on, explain_on, unobserved, equal_with, storm_with}
+use Rattle.commands.specs.declared.form.Form.{Form}
+use Rattle.commands.specs.Words.{Options, Check, Rewrite, Aiger, Explain, Equal, Storm, command_of, command_on, explain_with, file_of, is_dot, is_file_word, with_dot, no_options, is_digit, with_digits, up_to, with_option, options_of, check_on, rewrite_on, aiger_on, unobserved, equal_with, storm_with}
 
 -- more digits make no less of a number
 no_less : (n : ℕ) (digits : List ℕ) → n ≤ with_digits n digits
@@ -75,13 +76,6 @@ aiger_asked file rest options found = ap (option_map (Aiger file)) found
 pub aiger_not_asked : (file : List ℕ) (rest : List (List ℕ)) → options_of no_options rest ≡ None → aiger_on file rest ≡ None
 aiger_not_asked file rest found = ap (option_map (Aiger file)) found
 
-pub explain_asked : (file : List ℕ) (rest : List (List ℕ)) (options : Options) → options_of no_options rest ≡ Some options
-    → explain_on file rest ≡ Some (Explain file options)
-explain_asked file rest options found = ap (option_map (Explain file)) found
-
-pub explain_not_asked : (file : List ℕ) (rest : List (List ℕ)) → options_of no_options rest ≡ None → explain_on file rest ≡ None
-explain_not_asked file rest found = ap (option_map (Explain file)) found
-
 pub equal_asked : (file second : List ℕ) (rest : List (List ℕ)) (options known : Options) → options_of no_options rest ≡ Some options
     → unobserved options ≡ Some known → equal_with file second rest ≡ Some (Equal file second known)
 equal_asked file second rest options known found bare =
@@ -101,3 +95,63 @@ storm_asked file rounds rest options found = ap (option_map (Storm file rounds))
 
 pub storm_not_asked : (file : List ℕ) (rounds : ℕ) (rest : List (List ℕ)) → options_of no_options rest ≡ None → storm_with file rounds rest ≡ None
 storm_not_asked file rounds rest found = ap (option_map (Storm file rounds)) found
+
+-- the options of an explanation, word by word
+pub dot_asked : (file word : List ℕ) (known : Options) (told drawn : Form) (rest : List (List ℕ)) → is_dot word ≡ true → with_dot told ≡ Some drawn
+    → explain_with file known told (word ∷ rest) ≡ explain_with file known drawn rest
+dot_asked file word known told drawn [] dot is =
+    ap (λ t. if t then option_and_then (λ f. Some (Explain file known f)) (with_dot told) else None) dot ∙ ap (option_and_then (λ f. Some (Explain file known f))) is
+dot_asked file word known told drawn (value ∷ rest) dot is =
+    ap (λ t. if t then option_and_then (λ f. explain_with file known f (value ∷ rest)) (with_dot told) else option_and_then (λ more. explain_with file more told rest) (with_option word value known)) dot
+    ∙ ap (option_and_then (λ f. explain_with file known f (value ∷ rest))) is
+
+pub dot_refused : (file word : List ℕ) (known : Options) (told : Form) (rest : List (List ℕ)) → is_dot word ≡ true → with_dot told ≡ None
+    → explain_with file known told (word ∷ rest) ≡ None
+dot_refused file word known told [] dot is =
+    ap (λ t. if t then option_and_then (λ f. Some (Explain file known f)) (with_dot told) else None) dot ∙ ap (option_and_then (λ f. Some (Explain file known f))) is
+dot_refused file word known told (value ∷ rest) dot is =
+    ap (λ t. if t then option_and_then (λ f. explain_with file known f (value ∷ rest)) (with_dot told) else option_and_then (λ more. explain_with file more told rest) (with_option word value known)) dot
+    ∙ ap (option_and_then (λ f. explain_with file known f (value ∷ rest))) is
+
+pub option_asked : (file word value : List ℕ) (known more : Options) (told : Form) (rest : List (List ℕ)) → is_dot word ≡ false → with_option word value known ≡ Some more
+    → explain_with file known told (word ∷ value ∷ rest) ≡ explain_with file more told rest
+option_asked file word value known more told rest dot is =
+    ap (λ t. if t then option_and_then (λ f. explain_with file known f (value ∷ rest)) (with_dot told) else option_and_then (λ o. explain_with file o told rest) (with_option word value known)) dot
+    ∙ ap (option_and_then (λ o. explain_with file o told rest)) is
+
+pub option_refused : (file word value : List ℕ) (known : Options) (told : Form) (rest : List (List ℕ)) → is_dot word ≡ false → with_option word value known ≡ None
+    → explain_with file known told (word ∷ value ∷ rest) ≡ None
+option_refused file word value known told rest dot is =
+    ap (λ t. if t then option_and_then (λ f. explain_with file known f (value ∷ rest)) (with_dot told) else option_and_then (λ o. explain_with file o told rest) (with_option word value known)) dot
+    ∙ ap (option_and_then (λ o. explain_with file o told rest)) is
+
+pub word_alone : (file word : List ℕ) (known : Options) (told : Form) → is_dot word ≡ false → explain_with file known told (word ∷ []) ≡ None
+word_alone file word known told dot = ap (λ t. if t then option_and_then (λ f. Some (Explain file known f)) (with_dot told) else None) dot
+
+-- the same, where the words are at least one, or two
+pub dot_behind : (file : List ℕ) (words : List (List ℕ)) (word : List ℕ) (known : Options) (told drawn : Form) → 1 ≤ length words → word ≡ get_or words 0 word
+    → is_dot word ≡ true → with_dot told ≡ Some drawn
+    → explain_with file known told words ≡ explain_with file known drawn (take (length words - 1) (drop 1 words))
+dot_behind file [] word known told drawn one first dot is = absurd (omega (arith, one))
+dot_behind file (w ∷ rest) word known told drawn one first dot is =
+    dot_asked file w known told drawn rest (ap is_dot (sym first) ∙ dot) is
+    ∙ ap (explain_with file known drawn) (sym (ap (λ n. take n rest) (let e : length (w ∷ rest) - 1 ≡ length rest = omega arith in e) ∙ take-length rest))
+
+pub option_behind : (file : List ℕ) (words : List (List ℕ)) (word again value : List ℕ) (known more : Options) (told : Form) → 2 ≤ length words
+    → word ≡ get_or words 0 word → again ≡ get_or words 0 again → value ≡ get_or words 1 value → is_dot again ≡ false → with_option word value known ≡ Some more
+    → explain_with file known told words ≡ explain_with file more told (take (length words - 2) (drop 2 words))
+option_behind file [] word again value known more told two first once_more second dot is = absurd (omega (arith, two))
+option_behind file (w ∷ []) word again value known more told two first once_more second dot is = absurd (omega (arith, two))
+option_behind file (w ∷ v ∷ rest) word again value known more told two first once_more second dot is =
+    option_asked file w v known more told rest (ap is_dot (sym once_more) ∙ dot) (ap₂ (λ a b. with_option a b known) (sym first) (sym second) ∙ is)
+    ∙ ap (explain_with file more told) (sym (ap (λ n. take n rest) (let e : length (w ∷ v ∷ rest) - 2 ≡ length rest = omega arith in e) ∙ take-length rest))
+
+-- a command on a word, and the words behind it
+pub command_behind : (words : List (List ℕ)) (command word : List ℕ) → 2 ≤ length words → command ≡ get_or words 0 command → word ≡ get_or words 1 word
+    → is_file_word word ≡ true → command_of words ≡ command_on command (file_of word) (take (length words - 2) (drop 2 words))
+command_behind [] command word two first second file = absurd (omega (arith, two))
+command_behind (c ∷ []) command word two first second file = absurd (omega (arith, two))
+command_behind (c ∷ w ∷ rest) command word two first second file =
+    ap (λ t. if t then command_on c (file_of w) rest else None) (ap is_file_word (sym second) ∙ file)
+    ∙ ap₂ (λ a b. command_on a (file_of b) rest) (sym first) (sym second)
+    ∙ ap (command_on command (file_of word)) (sym (ap (λ n. take n rest) (let e : length (c ∷ w ∷ rest) - 2 ≡ length rest = omega arith in e) ∙ take-length rest))

@@ -20,7 +20,7 @@ abbrev pub command_seen : Command → asked.Command
 command_seen (Check netlist options) = asked.Check netlist.now (options_seen options)
 command_seen (Rewrite netlist options) = asked.Rewrite netlist.now (options_seen options)
 command_seen (Aiger netlist options) = asked.Aiger netlist.now (options_seen options)
-command_seen (Explain netlist options) = asked.Explain netlist.now (options_seen options)
+command_seen (Explain netlist options form) = asked.Explain netlist.now (options_seen options) form
 command_seen (Equal first second options) = asked.Equal first.now second.now (options_seen options)
 command_seen (Flat netlist) = asked.Flat netlist.now
 command_seen (Loops netlist form) = asked.Loops netlist.now form

@@ -32,7 +32,7 @@ pub data Command : Type 0 where
   -- decides it, and writes its and-inverter graph, without loops
   Aiger : List ℕ → Options → Command
   -- decides it, and shows why a refused wire is undetermined
-  Explain : List ℕ → Options → Command
+  Explain : List ℕ → Options → Form → Command
   -- compares the netlist of a file with that of a second one
   Equal : List ℕ → List ℕ → Options → Command
   -- writes its flat netlist
@@ -130,13 +130,29 @@ rewrite_on file rest = option_map (Rewrite file) (options_of no_options rest)
 abbrev pub aiger_on : List ℕ → List (List ℕ) → Option Command
 aiger_on file rest = option_map (Aiger file) (options_of no_options rest)
 
+-- An explanation is told as lines, or as a graph where `--dot` stands once among its options.
+abbrev pub is_dot : List ℕ → Bool
+is_dot word = bytes_eq word (codes "--dot")
+
+abbrev pub with_dot : Form → Option Form
+with_dot form.Lines = Some form.Dot
+with_dot form.Dot = None
+
+abbrev pub explain_with : List ℕ → Options → Form → List (List ℕ) → Option Command
+explain_with file known told [] = Some (Explain file known told)
+explain_with file known told (word ∷ []) =
+    if is_dot word then option_and_then (λ drawn. Some (Explain file known drawn)) (with_dot told) else None
+explain_with file known told (word ∷ value ∷ rest) =
+    if is_dot word then option_and_then (λ drawn. explain_with file known drawn (value ∷ rest)) (with_dot told)
+    else option_and_then (λ more. explain_with file more told rest) (with_option word value known)
+
 abbrev pub explain_on : List ℕ → List (List ℕ) → Option Command
-explain_on file rest = option_map (Explain file) (options_of no_options rest)
+explain_on file rest = explain_with file no_options form.Lines rest
 
 -- loops are told as lines, or as a graph
 abbrev pub loops_on : List ℕ → List (List ℕ) → Option Command
 loops_on file [] = Some (Loops file form.Lines)
-loops_on file (word ∷ []) = if bytes_eq word (codes "--dot") then Some (Loops file form.Dot) else None
+loops_on file (word ∷ []) = if is_dot word then Some (Loops file form.Dot) else None
 loops_on file other = None
 
 -- a comparison wants one more file, and may have options. It observes all wires

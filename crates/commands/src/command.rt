@@ -45,7 +45,7 @@ pub enum Command<'a> {
     /// Decides it, and writes its and-inverter graph, without loops.
     Aiger(&'a Name, Options<'a>),
     /// Decides it, and shows why a refused wire is undetermined.
-    Explain(&'a Name, Options<'a>),
+    Explain(&'a Name, Options<'a>, Form),
     /// Compares the netlist of this file with that of a second one. All wires are observed.
     Equal(&'a Name, &'a Name, Options<'a>),
     /// Writes its flat netlist.

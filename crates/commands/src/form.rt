@@ -1,4 +1,4 @@
-/// How loops are told.
+/// How loops and explanations are told.
 #[derive(Clone, Copy, Debug, PartialEq, Eq, Drop)]
 pub enum Form {
     /// As lines.

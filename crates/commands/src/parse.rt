@@ -2,7 +2,7 @@
 ghost use Rattle.std.specs.Prelude.{◌≡◌, ◌≤◌, ◌+◌, ◌-◌, ◌*◌, ◌&&◌, nat_le, true, false, MatchOption, IfSome, None, Some};
 ghost use Rattle.cyc_base.specs.declared.limits.TheConstants.{MAX_NODES as most_nodes};
 ghost use Rattle.commands.specs.Seen.{cells_seen, command_seen, options_seen, rounds_seen};
-ghost use Rattle.commands.specs.Words.{aiger_on as aiger_asked, cells as cells_asked, check_on as check_asked, command_alone as alone_asked, command_of, command_on as command_asked, delays_on as delays_asked, demo_on as demo_asked, equal_on as equal_asked, equal_with as equal_asked_with, file_of as file_asked, explain_on as explain_asked, help_on as help_asked, loops_on as loops_asked, is_digit, is_file_word, no_options as asked_no_options, number_between as number_asked, kind_of as kind_asked, observe_of as observe_asked, options_of as options_asked, probe_of as probe_asked, rewrite_on as rewrite_asked, rounds as rounds_asked, sim_on as sim_asked, standard_input as standard_input_name, storm_on as storm_asked, storm_with as storm_asked_with, topic_of as topic_asked, unobserved as asked_unobserved, up_to, with_care as asked_with_care, with_nodes as asked_with_nodes, with_observe as asked_with_observe, with_option as asked_with_option};
+ghost use Rattle.commands.specs.Words.{aiger_on as aiger_asked, cells as cells_asked, check_on as check_asked, command_alone as alone_asked, command_of, command_on as command_asked, delays_on as delays_asked, demo_on as demo_asked, equal_on as equal_asked, equal_with as equal_asked_with, file_of as file_asked, explain_on as explain_asked, explain_with as explain_asked_with, help_on as help_asked, loops_on as loops_asked, is_digit, is_dot as asked_is_dot, is_file_word, no_options as asked_no_options, number_between as number_asked, kind_of as kind_asked, observe_of as observe_asked, options_of as options_asked, probe_of as probe_asked, rewrite_on as rewrite_asked, rounds as rounds_asked, sim_on as sim_asked, standard_input as standard_input_name, storm_on as storm_asked, storm_with as storm_asked_with, topic_of as topic_asked, unobserved as asked_unobserved, up_to, with_care as asked_with_care, with_dot as asked_with_dot, with_nodes as asked_with_nodes, with_observe as asked_with_observe, with_option as asked_with_option};
 
 use crate::command::{Cells, Command, Options, Rounds};
 use crate::form::Form;
@@ -147,14 +147,54 @@ fn aiger_on<'a>(file: &'a Name, rest: &'a [Name], standard_input: &'a Name) -> O
     Some(Command::Aiger(file, options))
 }
 
-#[tactic(auto, using(crate::proofs::WordLemmas::explain_asked, crate::proofs::WordLemmas::explain_not_asked))]
 fn explain_on<'a>(file: &'a Name, rest: &'a [Name], standard_input: &'a Name) -> Option<Command<'a>>
     requires { standard_input.now ≡ standard_input_name }
     ensures { MatchOption result (explain_asked file.now rest.now ≡ None)
         (λ asked. explain_asked file.now rest.now ≡ Some (command_seen asked)) }
 {
-    let options = options_of(no_options(), rest, standard_input)?;
-    Some(Command::Explain(file, options))
+    explain_with(file, no_options(), Form::Lines, rest, standard_input)
+}
+
+// The options that these words give beside those that are known, where an explanation is told in this form. It recurses
+// at most once for each word.
+fn explain_with<'a>(
+    file: &'a Name,
+    known: Options<'a>,
+    form: Form,
+    words: &'a [Name],
+    standard_input: &'a Name,
+) -> Option<Command<'a>>
+    requires { standard_input.now ≡ standard_input_name }
+    ensures { MatchOption result (explain_asked_with file.now (options_seen known.entry) form words.now ≡ None)
+        (λ asked. explain_asked_with file.now (options_seen known.entry) form words.now ≡ Some (command_seen asked)) }
+{
+    match words {
+        [] => Some(Command::Explain(file, known, form)),
+        [word, rest @ ..] if is_dot(word.bytes()) => {
+            explain_with(file, known, with_dot(form)?, rest, standard_input)
+        }
+        [word, value, rest @ ..] => {
+            let more = with_option(word.bytes(), value, known, standard_input)?;
+            explain_with(file, more, form, rest, standard_input)
+        }
+        _ => None,
+    }
+}
+
+fn is_dot(word: &[u8]) -> bool
+    ensures { result ≡ asked_is_dot word.now }
+{
+    word == b"--dot".as_slice()
+}
+
+// A graph, where lines were asked for so far.
+fn with_dot(form: Form) -> Option<Form>
+    ensures { result ≡ asked_with_dot form }
+{
+    match form {
+        Form::Lines => Some(Form::Dot),
+        Form::Dot => None,
+    }
 }
 
 // Loops are told as lines, or as a graph.
@@ -164,7 +204,7 @@ fn loops_on<'a>(file: &'a Name, rest: &'a [Name]) -> Option<Command<'a>>
 {
     match rest {
         [] => Some(Command::Loops(file, Form::Lines)),
-        [word] if word.bytes() == b"--dot".as_slice() => Some(Command::Loops(file, Form::Dot)),
+        [word] if is_dot(word.bytes()) => Some(Command::Loops(file, Form::Dot)),
         _ => None,
     }
 }

@@ -23,3 +23,10 @@ node number opens name closes = (codes "  s" ++ decimal number) ++ (opens ++ (qu
 -- a wire from one signal to the gate of another
 abbrev pub wire : ℕ → ℕ → List ℕ → List ℕ
 wire from to style = (codes "  s" ++ decimal from) ++ ((codes " -> s" ++ decimal to) ++ style)
+
+-- a graph with this text as its label
+abbrev pub graph_head : List ℕ → List ℕ
+graph_head label = codes "digraph {\n  label=\"" ++ (quoted label ++ codes "\";\n")
+
+abbrev pub labelled_graph : List ℕ → List ℕ → List ℕ
+labelled_graph label body = graph_head label ++ (body ++ codes "}\n")

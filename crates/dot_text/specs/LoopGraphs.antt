@@ -9,7 +9,7 @@ use Rattle.loops.specs.Found.{loops_of}
 use Rattle.loops.specs.Listed.{loop_of}
 use Rattle.loops.specs.Sweeps.{gate_of, in_loop_of}
 use Rattle.report.specs.LoopTexts.{each_loop}
-use Rattle.dot_text.specs.Dot.{node, wire}
+use Rattle.dot_text.specs.Dot.{node, quoted, wire}
 
 abbrev pub gate_node : Parts → ℕ → List ℕ
 gate_node net n = node (gate_sig net n).0 (codes " [label=\"") (gate_at net n).name (codes "\"];\n")
@@ -26,11 +26,17 @@ abbrev pub loop_wires : Parts → Loops → ℕ → List ℕ
 loop_wires net loops n = flat_map (loop_wire net loops n) (gate_at net n).pins
 
 -- these gates and the wires between them
+abbrev pub cluster_body : Parts → Loops → List ℕ → List ℕ
+cluster_body net loops gates = flat_map (gate_node net) gates ++ (flat_map (loop_wires net loops) gates ++ codes "}\n")
+
 abbrev pub cluster : Parts → Loops → ℕ → List ℕ → List ℕ
 cluster net loops number gates =
-    (codes "subgraph cluster_" ++ decimal number)
-    ++ ((codes " {\n  label=\"loop " ++ decimal number)
-    ++ (codes "\";\n" ++ (flat_map (gate_node net) gates ++ (flat_map (loop_wires net loops) gates ++ codes "}\n"))))
+    (codes "subgraph cluster_" ++ decimal number) ++ ((codes " {\n  label=\"loop " ++ decimal number) ++ (codes "\";\n" ++ cluster_body net loops gates))
+
+-- the same with this text as its label
+abbrev pub labelled_cluster : Parts → Loops → ℕ → List ℕ → List ℕ → List ℕ
+labelled_cluster net loops number label gates =
+    (codes "subgraph cluster_" ++ decimal number) ++ (codes " {\n  label=\"" ++ (quoted label ++ (codes "\";\n" ++ cluster_body net loops gates)))
 
 -- the loop that begins at this gate
 abbrev pub loop_graph : Parts → Loops → ℕ → ℕ → List ℕ

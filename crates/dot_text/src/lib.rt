@@ -1,10 +1,14 @@
-//! Loops as graphs in the DOT language of Graphviz.
+//! Loops, and why a gate is undetermined, as graphs in the DOT language of Graphviz.
 //!
-//! It stands on `report`, for the order of loops, and on `isolation`, for what blocks and cut wires tell of loops. The layer
-//! above uses that `put_loops_graph` appends the text of its definition, whole or a prefix of it where a write failed.
+//! It stands on `report`, for the order of loops, on `isolation`, for what blocks and cut wires tell of loops, and on
+//! `explanations` and `ternary_run`, for what an explanation has and which gates are unknown. The layer above uses that each
+//! call appends the text of its definition.
 #![tactic(auto)]
 
+mod explanation_graph;
 mod loop_graph;
 mod node;
 
-pub use loop_graph::put_loops_graph;
+pub use explanation_graph::tell_explanation_graph;
+pub use loop_graph::{put_labelled_cluster, put_loops_graph};
+pub use node::{open_graph, put_label_graph};

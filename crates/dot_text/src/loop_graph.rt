@@ -5,14 +5,15 @@ ghost use Rattle.std.specs.List.{flat_map};
 ghost use Rattle.cyc_io.specs.Taken.{IsAppended, sink_call};
 ghost use Rattle.loops.specs.Blocks.{AreBlocksOf};
 ghost use Rattle.loops.specs.Cuts.{IsCutOf, is_cut, loops_by};
+ghost use Rattle.loops.specs.Found.{loops_of};
 ghost use Rattle.loops.specs.Listed.{begins_with, loop_of};
 ghost use Rattle.loops.specs.Sweeps.{gate_of, in_loop_of};
 ghost use Rattle.loops.specs.declared.structure.Cut.{Cut as TheCut};
 ghost use Rattle.netlist.specs.Netlists.{IsSignal};
 ghost use Rattle.report.specs.LoopTexts.{loop_at};
-ghost use Rattle.dot_text.specs.LoopGraphs.{cluster, clusters, gate_node, loop_graph, loop_wire, loop_wires, loops_graph, wire_style};
+ghost use Rattle.dot_text.specs.LoopGraphs.{cluster, cluster_body, clusters, gate_node, labelled_cluster, loop_graph, loop_wire, loop_wires, loops_graph, wire_style};
 
-use crate::node::{put_node, put_wire};
+use crate::node::{put_node, put_quoted, put_wire};
 use cyc_base::Sig;
 use cyc_io::{Failed, Sink, write_whole};
 use loops::{Blocks, Cut, loop_from};
@@ -154,6 +155,49 @@ fn put_wires<K: Sink>(
     Ok(())
 }
 
+// Gates and the wires between them, at the end of a cluster.
+fn put_body<K: Sink>(
+    sink: &mut K,
+    net: &Netlist,
+    blocks: &Blocks,
+    cut: &Cut,
+    gates: &[u32],
+) -> Result<(), Failed>
+    requires blocks { AreBlocksOf net.now blocks.now }
+    requires cut { IsCutOf net.now cut.now }
+    requires gates { All (λ gate. gate < length net.now.gates) gates.now }
+    ensures { IsAppended (cluster_body net.now (loops_by blocks.now cut.now) gates.now) (sink_call K.put K.faults sink.old sink.new) result }
+{
+    put_gates(sink, net, gates)?;
+    put_wires(sink, net, blocks, cut, gates)?;
+    write_whole(sink, b"}\n")
+}
+
+/// Appends these gates and the wires between them as the cluster of this number, with this text as its label, cut wires
+/// dashed. It takes no memory.
+///
+/// The condition is that the blocks and the cut are the netlist's, and that the gates are in range.
+pub fn put_labelled_cluster<K: Sink>(
+    net: &Netlist,
+    blocks: &Blocks,
+    cut: &Cut,
+    number: u32,
+    label: &[u8],
+    gates: &[u32],
+    sink: &mut K,
+) -> Result<(), Failed>
+    requires blocks { AreBlocksOf net.now blocks.now }
+    requires cut { IsCutOf net.now cut.now }
+    requires gates { All (λ gate. gate < length net.now.gates) gates.now }
+    ensures { IsAppended (labelled_cluster net.now (loops_of net.now) number label.now gates.now) (sink_call K.put K.faults sink.old sink.new) result }
+{
+    put_number(sink, b"subgraph cluster_", number as u64)?;
+    write_whole(sink, b" {\n  label=\"")?;
+    put_quoted(sink, label)?;
+    write_whole(sink, b"\";\n")?;
+    put_body(sink, net, blocks, cut, gates)
+}
+
 // A loop with these gates.
 fn put_cluster<K: Sink>(
     sink: &mut K,
@@ -171,9 +215,7 @@ fn put_cluster<K: Sink>(
     put_number(sink, b"subgraph cluster_", number as u64)?;
     put_number(sink, b" {\n  label=\"loop ", number as u64)?;
     write_whole(sink, b"\";\n")?;
-    put_gates(sink, net, gates)?;
-    put_wires(sink, net, blocks, cut, gates)?;
-    write_whole(sink, b"}\n")
+    put_body(sink, net, blocks, cut, gates)
 }
 
 // The loop that begins at this gate, where one does, behind this number of loops; and how many there are then.

@@ -1,9 +1,9 @@
 //! Nodes and wires.
 
-ghost use Rattle.std.specs.Prelude.{◌≡◌, ◌++◌, codes, decimal};
+ghost use Rattle.std.specs.Prelude.{◌≡◌, ◌++◌, [], codes, decimal};
 ghost use Rattle.std.specs.List.{flat_map};
 ghost use Rattle.cyc_io.specs.Taken.{IsAppended, sink_call};
-ghost use Rattle.dot_text.specs.Dot.{node, quoted as quoted_text, quoted_byte, wire};
+ghost use Rattle.dot_text.specs.Dot.{graph_head, labelled_graph, node, quoted as quoted_text, quoted_byte, wire};
 
 use cyc_base::Sig;
 use cyc_io::{Failed, Sink, write_whole};
@@ -62,4 +62,21 @@ pub(crate) fn put_wire<K: Sink>(
     put_number(sink, b"  s", from.0 as u64)?;
     put_number(sink, b" -> s", to.0 as u64)?;
     write_whole(sink, style)
+}
+
+/// Appends what stands before the body of a graph with this text as its label. It takes no memory.
+pub fn open_graph<K: Sink>(sink: &mut K, label: &[u8]) -> Result<(), Failed>
+    ensures { IsAppended (graph_head label.now) (sink_call K.put K.faults sink.old sink.new) result }
+{
+    write_whole(sink, b"digraph {\n  label=\"")?;
+    put_quoted(sink, label)?;
+    write_whole(sink, b"\";\n")
+}
+
+/// Appends a graph that has this text as its label, and nothing else. It takes no memory.
+pub fn put_label_graph<K: Sink>(label: &[u8], sink: &mut K) -> Result<(), Failed>
+    ensures { IsAppended (labelled_graph label.now []) (sink_call K.put K.faults sink.old sink.new) result }
+{
+    open_graph(sink, label)?;
+    write_whole(sink, b"}\n")
 }

@@ -17,7 +17,7 @@ abbrev pub words_of : Topic → List ℕ
 words_of Check = codes "check FILE [--care CARE] [--nodes N] [--observe all|outputs]"
 words_of Rewrite = codes "rewrite FILE [--care CARE] [--nodes N] [--observe all|outputs]"
 words_of Aiger = codes "aiger FILE [--care CARE] [--nodes N] [--observe all|outputs]"
-words_of Explain = codes "explain FILE [--care CARE] [--nodes N] [--observe all|outputs]"
+words_of Explain = codes "explain FILE [--care CARE] [--nodes N] [--observe all|outputs] [--dot]"
 words_of Equal = codes "equal FILE FILE [--care CARE] [--nodes N]"
 words_of Flat = codes "flat FILE"
 words_of Loops = codes "loops FILE [--dot]"

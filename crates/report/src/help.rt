@@ -84,7 +84,7 @@ fn words(topic: Topic) -> &'static [u8]
         Topic::Check => b"check FILE [--care CARE] [--nodes N] [--observe all|outputs]",
         Topic::Rewrite => b"rewrite FILE [--care CARE] [--nodes N] [--observe all|outputs]",
         Topic::Aiger => b"aiger FILE [--care CARE] [--nodes N] [--observe all|outputs]",
-        Topic::Explain => b"explain FILE [--care CARE] [--nodes N] [--observe all|outputs]",
+        Topic::Explain => b"explain FILE [--care CARE] [--nodes N] [--observe all|outputs] [--dot]",
         Topic::Equal => b"equal FILE FILE [--care CARE] [--nodes N]",
         Topic::Flat => b"flat FILE",
         Topic::Loops => b"loops FILE [--dot]",

@@ -10,11 +10,5 @@ returns-in_err-put_number-2 g c = appended_then _ _ _ _ _ _ _ _ _ _ c.in_ok-put_
 pub returns-in_err-write_whole : goal.returns-in_err-write_whole
 returns-in_err-write_whole g c = appended_then _ _ _ _ _ _ _ _ _ _ c.in_ok-put_number.ensures (appended_then _ _ _ _ _ _ _ _ _ _ c.in_ok-put_number-2.ensures (appended_cut _ _ _ _ _ c.in_err-write_whole.ensures c.from_residual-in_err-write_whole.ensures.0))
 
-pub returns-in_err-put_gates : goal.returns-in_err-put_gates
-returns-in_err-put_gates g c = appended_then _ _ _ _ _ _ _ _ _ _ c.in_ok-put_number.ensures (appended_then _ _ _ _ _ _ _ _ _ _ c.in_ok-put_number-2.ensures (appended_then _ _ _ _ _ _ _ _ _ _ c.in_ok-write_whole.ensures (appended_cut _ _ _ _ _ c.in_err-put_gates.ensures c.from_residual-in_err-put_gates.ensures.0)))
-
-pub returns-in_err-put_wires : goal.returns-in_err-put_wires
-returns-in_err-put_wires g c = appended_then _ _ _ _ _ _ _ _ _ _ c.in_ok-put_number.ensures (appended_then _ _ _ _ _ _ _ _ _ _ c.in_ok-put_number-2.ensures (appended_then _ _ _ _ _ _ _ _ _ _ c.in_ok-write_whole.ensures (appended_then _ _ _ _ _ _ _ _ _ _ c.in_ok-put_gates.ensures (appended_cut _ _ _ _ _ c.in_err-put_wires.ensures c.from_residual-in_err-put_wires.ensures.0))))
-
 pub returns : goal.returns
-returns g c = appended_then _ _ _ _ _ _ _ _ _ _ c.in_ok-put_number.ensures (appended_then _ _ _ _ _ _ _ _ _ _ c.in_ok-put_number-2.ensures (appended_then _ _ _ _ _ _ _ _ _ _ c.in_ok-write_whole.ensures (appended_then _ _ _ _ _ _ _ _ _ _ c.in_ok-put_gates.ensures (appended_then _ _ _ _ _ _ _ _ _ _ c.in_ok-put_wires.ensures c.write_whole-2.ensures))))
+returns g c = appended_then _ _ _ _ _ _ _ _ _ _ c.in_ok-put_number.ensures (appended_then _ _ _ _ _ _ _ _ _ _ c.in_ok-put_number-2.ensures (appended_then _ _ _ _ _ _ _ _ _ _ c.in_ok-write_whole.ensures c.put_body.ensures))

@@ -1,0 +1,47 @@
+-- The graph of loops.
+use Rattle.std.proofs.Common.{◌≡◌, ℕ, List, ◌++◌, ap, ap₂, ◌∙◌, append_assoc}
+use Rattle.care_sets.specs.Care.{CareSet}
+use Rattle.dot_text.specs.Dot.{labelled_graph}
+use Rattle.dot_text.specs.LoopGraphs.{labelled_cluster}
+use Rattle.loops.specs.declared.structure.Blocks.{Blocks}
+use Rattle.loops.specs.declared.structure.Cut.{Cut}
+use Rattle.loops.specs.declared.structure.SweepCounts.{SweepCounts}
+use Rattle.loops.specs.Blocks.{AreBlocksOf}
+use Rattle.loops.specs.Cuts.{IsCutOf}
+use Rattle.loops.specs.Found.{loops_of}
+use Rattle.loops.specs.Listed.{gate_numbers, loop_of, begins_with}
+use Rattle.netlist.specs.declared.parts.Parts.{Parts}
+use Rattle.report.specs.LoopTexts.{loop_lines}
+use Rattle.rewriting.specs.Rewriting.{sweeps_needed}
+use Rattle.rewriting.proofs.RewrittenLemmas.{counts_are_needed}
+use Rattle.unroll.specs.Unrolled.{sweeps_of}
+use Rattle.verdict.specs.Verdicts.{AreSweepsOnCare}
+use Rattle.accepted_loops.specs.Columns.{columns_read}
+use Rattle.accepted_loops.specs.Graphs.{told_cluster, told_clusters, told_graph}
+use Rattle.accepted_loops.specs.Lines.{columns_line, sweeps_line, told_lines}
+use Rattle.accepted_loops.proofs.LineLemmas.{begun-passes, numbered-alike}
+
+-- three texts, one after another
+pub three_told : (old one two new front middle back : List ℕ) → one ≡ old ++ front → two ≡ one ++ middle → new ≡ two ++ back
+    → new ≡ old ++ (front ++ (middle ++ back))
+three_told old one two new front middle back first second third =
+    third
+    ∙ ap (λ (text : List ℕ). text ++ back) (second ∙ ap (λ (text : List ℕ). text ++ middle) first)
+    ∙ append_assoc (old ++ front) middle back
+    ∙ append_assoc old front (middle ++ back)
+
+-- a cluster with this label and these gates
+pub cluster_is : (net : Parts) (sweeps : ℕ → ℕ) (number gate : ℕ) (label gates : List ℕ) → label ≡ told_lines net sweeps number gate → gates ≡ loop_of net gate
+    → labelled_cluster net (loops_of net) number label gates ≡ told_cluster net sweeps number gate
+cluster_is net sweeps number gate label gates lines are = ap₂ (λ (text ns : List ℕ). labelled_cluster net (loops_of net) number text ns) lines are
+
+-- the sweeps that are needed
+pub drawn_on_care : (net : Parts) (label : List ℕ) (blocks : Blocks) (cut : Cut) (care : CareSet) (counts : SweepCounts) → AreBlocksOf net blocks → IsCutOf net cut
+    → AreSweepsOnCare net blocks cut care counts → told_graph net label (sweeps_of blocks counts) ≡ told_graph net label (sweeps_needed net care)
+drawn_on_care net label blocks cut care counts are is on_care =
+    ap (labelled_graph label)
+    (numbered-alike (told_cluster net (sweeps_of blocks counts)) (told_cluster net (sweeps_needed net care)) (λ n. begins_with (loop_of net n) n)
+    (λ k n begun.
+    ap (λ (m : ℕ). labelled_cluster net (loops_of net) k (loop_lines net k n ++ (sweeps_line k m ++ columns_line net k (columns_read net n))) (loop_of net n))
+    (counts_are_needed net blocks cut care counts are is on_care n (begun-passes ((loops_of net).same n) (gate_numbers net) n begun)))
+    (gate_numbers net) 1)

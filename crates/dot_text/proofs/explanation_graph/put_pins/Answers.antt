@@ -1,0 +1,18 @@
+use Rattle.std.proofs.Common.{arith}
+use Rattle.cyc_io.proofs.TakenLemmas.{appended_none}
+use Rattle.cyc_io.proofs.ItemLemmas.{appended_copied, appended_in_copied, appended_items}
+use Rattle.dot_text.specs.ExplanationGraphs.{pin_wire}
+use Rattle.dot_text.specs.Seen.{picture_seen}
+use Rattle.dot_text.proofs.explanation_graph.put_pins.Goals as goal
+
+pub loop-pin-init : goal.loop-pin-init
+loop-pin-init g c = appended_none _ _ _
+
+pub loop-pin-preserved : goal.loop-pin-preserved
+loop-pin-preserved g c = appended_copied (pin_wire (picture_seen c.args.drawing.now) c.args.gate) c.args.pins.now c.loop-pin.pin-index _ _ _ _ _ _ _ _ _ (omega arith) c.loop-pin.invariant c.in_ok-put_pin.ensures
+
+pub returns-in_err-put_pin : goal.returns-in_err-put_pin
+returns-in_err-put_pin g c = appended_in_copied (pin_wire (picture_seen c.args.drawing.now) c.args.gate) c.args.pins.now c.loop-pin.pin-index _ _ _ _ _ _ _ _ _ _ (omega arith) c.loop-pin.invariant c.in_err-put_pin.ensures c.from_residual.ensures.0
+
+pub returns : goal.returns
+returns g c = appended_items (pin_wire (picture_seen c.args.drawing.now) c.args.gate) c.args.pins.now c.loop-pin.pin-index _ _ (omega arith) c.loop-pin.invariant

@@ -1,0 +1,9 @@
+use Rattle.std.proofs.Common.{take}
+use Rattle.std.specs.List.{flat_map}
+use Rattle.cyc_io.specs.Taken.{IsAppendedWhole, sink_call}
+use Rattle.dot_text.specs.ExplanationGraphs.{pin_wire}
+use Rattle.dot_text.specs.Seen.{picture_seen}
+use Rattle.dot_text.proofs.explanation_graph.put_pins.Given as goal
+
+abbrev pub invariant-loop-pin : goal.invariant-loop-pin
+invariant-loop-pin g l = IsAppendedWhole (flat_map (pin_wire (picture_seen l.drawing) l.gate) (take l.pin-index l.pins)) (sink_call g.K.Sink.put g.K.Sink.faults l.fn.sink l.sink)

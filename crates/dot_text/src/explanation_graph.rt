@@ -1,0 +1,463 @@
+//! Why a gate is undetermined.
+
+ghost use Rattle.std.specs.Prelude.{◌≡◌, ◌≤◌, ◌<◌, ◌+◌, ◌++◌, ◌&&◌, ℕ, false, [], if◌then◌else◌, All, Contains, IfOk, OnOk, length, slice_index_or};
+ghost use Rattle.std.specs.List.{flat_map, range_with_len};
+ghost use Rattle.cyc_base.specs.Values.{bits};
+ghost use Rattle.cyc_base.specs.declared.trit.Trit.TheVariants.{X};
+ghost use Rattle.cyc_io.specs.Taken.{IsAppended, sink_call};
+ghost use Rattle.cyc_io.specs.Text.{text_bytes};
+ghost use Rattle.isolation.specs.Cones.{AddMarks, is_marked};
+ghost use Rattle.loops.specs.Blocks.{AreBlocksOf};
+ghost use Rattle.loops.specs.Cuts.{IsCutOf, in_one_loop, is_cut};
+ghost use Rattle.netlist.specs.Fixpoint.{fix, wire as value_of};
+ghost use Rattle.netlist.specs.Netlists.{IsNetlist, IsSignal, count, gate_sig, signal};
+ghost use Rattle.report.specs.Explanations.{IsExplanationOf};
+ghost use Rattle.report.specs.Verdicts.{signal_name};
+ghost use Rattle.dot_text.specs.Dot.{labelled_graph};
+ghost use Rattle.dot_text.specs.ExplanationGraphs.{drawn_gates, explanation_graph, gate_node, gate_opens as gate_opens_of, gate_wire, needed_box, needed_node, needed_wire, picture, pin_wire, pin_wires, style as style_of, unknown_style as unknown_style_of};
+ghost use Rattle.dot_text.specs.LoopGraphs.{wire_style as known_style_of};
+ghost use Rattle.dot_text.specs.Seen.{AreMarksOf, IsDrawing, picture_seen};
+
+use crate::node::{open_graph, put_node, put_wire};
+use cyc_base::{Name, Sig, Trit};
+use cyc_io::{Failed, Sink, TextSink, write_whole};
+use explanations::Explanation;
+use loops::{Blocks, Cut};
+use netlist::Netlist;
+use std::alloc::{AllocError, Global};
+use ternary_run::settle;
+
+// What is drawn of a netlist.
+#[derive(Clone, Copy, Drop)]
+pub(crate) struct Drawing<'a> {
+    net: &'a Netlist,
+    blocks: &'a Blocks,
+    cut: &'a Cut,
+    // The values of the signals.
+    values: &'a [Trit],
+    // A gate of the loop that is drawn.
+    first: u32,
+    // The gates beside it that are drawn, and those of the cycle, by a mark for each gate.
+    way: &'a [bool],
+    cycle: &'a [bool],
+    // The values of columns that are needed.
+    needs: &'a [Trit],
+}
+
+fn gate_opens(value: Trit) -> &'static [u8]
+    ensures { result.now ≡ gate_opens_of value }
+{
+    match value {
+        Trit::X => b" [color=red, label=\"",
+        _ => b" [label=\"",
+    }
+}
+
+fn unknown_style(bold: bool, cut: bool) -> &'static [u8]
+    ensures { result.now ≡ unknown_style_of bold cut }
+{
+    match (bold, cut) {
+        (false, false) => b" [color=red];\n",
+        (false, true) => b" [color=red, style=dashed];\n",
+        (true, false) => b" [color=red, style=bold];\n",
+        (true, true) => b" [color=red, style=\"bold,dashed\"];\n",
+    }
+}
+
+fn known_style(cut: bool) -> &'static [u8]
+    ensures { result.now ≡ known_style_of cut }
+{
+    if cut { b" [style=dashed];\n" } else { b";\n" }
+}
+
+fn style(value: Trit, bold: bool, cut: bool) -> &'static [u8]
+    ensures { result.now ≡ style_of value bold cut }
+{
+    match value {
+        Trit::X => unknown_style(bold, cut),
+        _ => known_style(cut),
+    }
+}
+
+// Whether two gates are in one loop.
+fn are_in_one_loop(net: &Netlist, blocks: &Blocks, gate: u32, other: u32) -> bool
+    requires blocks { AreBlocksOf net.now blocks.now }
+    requires gate { gate < length net.now.gates }
+    requires other { other < length net.now.gates }
+    ensures { result ≡ in_one_loop blocks.now gate other }
+{
+    let home = blocks.home.items()[gate as usize];
+    blocks.list.items()[home as usize].looped && home == blocks.home.items()[other as usize]
+}
+
+fn is_drawn(drawing: &Drawing<'_>, gate: u32) -> bool
+    requires drawing { IsDrawing drawing.now }
+    requires gate { gate < length drawing.now.net.now.gates }
+    ensures { result ≡ (picture_seen drawing.now).drawn gate }
+{
+    are_in_one_loop(drawing.net, drawing.blocks, drawing.first, gate) || drawing.way[gate as usize]
+}
+
+// The node of a gate.
+fn put_gate<K: Sink>(sink: &mut K, drawing: &Drawing<'_>, gate: u32) -> Result<(), Failed>
+    requires drawing { IsDrawing drawing.now }
+    requires gate { gate < length drawing.now.net.now.gates }
+    ensures { IsAppended (gate_node (picture_seen drawing.now) gate) (sink_call K.put K.faults sink.old sink.new) result }
+{
+    let signal = drawing.net.gate_sig(gate);
+    put_node(
+        sink,
+        signal,
+        gate_opens(drawing.values[signal.0 as usize]),
+        drawing.net.gate(gate).name.bytes(),
+        b"\"];\n",
+    )
+}
+
+#[tactic(auto, using(cyc_io::proofs::TakenLemmas::appended_none))]
+fn put_gate_at<K: Sink>(sink: &mut K, drawing: &Drawing<'_>, gate: u32) -> Result<(), Failed>
+    requires drawing { IsDrawing drawing.now }
+    requires gate { gate < length drawing.now.net.now.gates }
+    ensures { IsAppended (if (picture_seen drawing.now).drawn gate then gate_node (picture_seen drawing.now) gate else []) (sink_call K.put K.faults sink.old sink.new) result }
+{
+    if is_drawn(drawing, gate) {
+        put_gate(sink, drawing, gate)
+    } else {
+        Ok(())
+    }
+}
+
+// The nodes of the gates.
+fn put_gates<K: Sink>(sink: &mut K, drawing: &Drawing<'_>) -> Result<(), Failed>
+    requires drawing { IsDrawing drawing.now }
+    ensures { IsAppended (flat_map (gate_node (picture_seen drawing.now)) (drawn_gates (picture_seen drawing.now))) (sink_call K.put K.faults sink.old sink.new) result }
+{
+    for gate in 0..drawing.net.gates() {
+        put_gate_at(sink, drawing, gate)?;
+    }
+    Ok(())
+}
+
+// How the wire from one gate to another is drawn.
+fn style_between(drawing: &Drawing<'_>, from: u32, to: u32) -> &'static [u8]
+    requires drawing { IsDrawing drawing.now }
+    requires from { from < length drawing.now.net.now.gates }
+    requires to { to < length drawing.now.net.now.gates }
+    ensures { result.now ≡ style_of (value_of drawing.now.values.now (gate_sig drawing.now.net.now from))
+        (is_marked drawing.now.cycle.now from && is_marked drawing.now.cycle.now to)
+        (in_one_loop drawing.now.blocks.now to from && is_cut drawing.now.cut.now.wires from) }
+{
+    let value = drawing.values[drawing.net.gate_sig(from).0 as usize];
+    let bold = drawing.cycle[from as usize] && drawing.cycle[to as usize];
+    let cut = are_in_one_loop(drawing.net, drawing.blocks, to, from)
+        && drawing.cut.wires.items()[from as usize];
+    style(value, bold, cut)
+}
+
+// The wire from one gate to another, where the first is drawn.
+#[tactic(auto, using(cyc_io::proofs::TakenLemmas::appended_none))]
+fn put_gate_wire<K: Sink>(
+    sink: &mut K,
+    drawing: &Drawing<'_>,
+    gate: u32,
+    source: u32,
+) -> Result<(), Failed>
+    requires drawing { IsDrawing drawing.now }
+    requires gate { gate < length drawing.now.net.now.gates }
+    requires source { source < length drawing.now.net.now.gates }
+    ensures { IsAppended (gate_wire (picture_seen drawing.now) gate source) (sink_call K.put K.faults sink.old sink.new) result }
+{
+    if is_drawn(drawing, source) {
+        let net = drawing.net;
+        put_wire(
+            sink,
+            net.gate_sig(source),
+            net.gate_sig(gate),
+            style_between(drawing, source, gate),
+        )
+    } else {
+        Ok(())
+    }
+}
+
+// The value of a column, where it is needed.
+fn need(needs: &[Trit], column: u32) -> Trit
+    ensures { result ≡ slice_index_or needs.now column X }
+{
+    needs.get(column as usize).copied().unwrap_or(Trit::X)
+}
+
+// The wire from a column to a gate, where the value of the column is needed.
+#[tactic(auto, using(cyc_io::proofs::TakenLemmas::appended_none))]
+fn put_needed_wire<K: Sink>(
+    sink: &mut K,
+    column: Sig,
+    net: &Netlist,
+    gate: u32,
+    value: Trit,
+) -> Result<(), Failed>
+    requires { gate < length net.now.gates }
+    ensures { IsAppended (needed_wire column.0 net.now gate value) (sink_call K.put K.faults sink.old sink.new) result }
+{
+    match value {
+        Trit::X => Ok(()),
+        _ => put_wire(sink, column, net.gate_sig(gate), b";\n"),
+    }
+}
+
+// The wire that a pin of a gate reads.
+fn put_pin<K: Sink>(sink: &mut K, drawing: &Drawing<'_>, gate: u32, pin: Sig) -> Result<(), Failed>
+    requires drawing { IsDrawing drawing.now }
+    requires gate { gate < length drawing.now.net.now.gates }
+    requires pin { IsSignal drawing.now.net.now pin }
+    ensures { IsAppended (pin_wire (picture_seen drawing.now) gate pin) (sink_call K.put K.faults sink.old sink.new) result }
+{
+    let first = drawing.net.inputs() + drawing.net.latches();
+    if pin.0 >= first {
+        put_gate_wire(sink, drawing, gate, pin.0 - first)
+    } else {
+        let value = need(drawing.needs, pin.0);
+        put_needed_wire(sink, pin, drawing.net, gate, value)
+    }
+}
+
+fn put_pins<K: Sink>(
+    sink: &mut K,
+    drawing: &Drawing<'_>,
+    gate: u32,
+    pins: &[Sig],
+) -> Result<(), Failed>
+    requires drawing { IsDrawing drawing.now }
+    requires gate { gate < length drawing.now.net.now.gates }
+    requires pins { All (IsSignal drawing.now.net.now) pins.now }
+    ensures { IsAppended (flat_map (pin_wire (picture_seen drawing.now) gate) pins.now) (sink_call K.put K.faults sink.old sink.new) result }
+{
+    for pin in pins {
+        put_pin(sink, drawing, gate, *pin)?;
+    }
+    Ok(())
+}
+
+fn put_wires_of<K: Sink>(sink: &mut K, drawing: &Drawing<'_>, gate: u32) -> Result<(), Failed>
+    requires drawing { IsDrawing drawing.now }
+    requires gate { gate < length drawing.now.net.now.gates }
+    ensures { IsAppended (pin_wires (picture_seen drawing.now) gate) (sink_call K.put K.faults sink.old sink.new) result }
+{
+    put_pins(sink, drawing, gate, drawing.net.gate(gate).pins.items())
+}
+
+#[tactic(auto, using(cyc_io::proofs::TakenLemmas::appended_none))]
+fn put_wires_at<K: Sink>(sink: &mut K, drawing: &Drawing<'_>, gate: u32) -> Result<(), Failed>
+    requires drawing { IsDrawing drawing.now }
+    requires gate { gate < length drawing.now.net.now.gates }
+    ensures { IsAppended (if (picture_seen drawing.now).drawn gate then pin_wires (picture_seen drawing.now) gate else []) (sink_call K.put K.faults sink.old sink.new) result }
+{
+    if is_drawn(drawing, gate) {
+        put_wires_of(sink, drawing, gate)
+    } else {
+        Ok(())
+    }
+}
+
+// The wires that the gates read.
+fn put_wires<K: Sink>(sink: &mut K, drawing: &Drawing<'_>) -> Result<(), Failed>
+    requires drawing { IsDrawing drawing.now }
+    ensures { IsAppended (flat_map (pin_wires (picture_seen drawing.now)) (drawn_gates (picture_seen drawing.now))) (sink_call K.put K.faults sink.old sink.new) result }
+{
+    for gate in 0..drawing.net.gates() {
+        put_wires_at(sink, drawing, gate)?;
+    }
+    Ok(())
+}
+
+// The box of a value, where it is needed.
+#[tactic(auto, using(cyc_io::proofs::TakenLemmas::appended_none))]
+fn put_box<K: Sink>(sink: &mut K, column: Sig, name: &Name, value: Trit) -> Result<(), Failed>
+    ensures { IsAppended (needed_box column.0 name.now value) (sink_call K.put K.faults sink.old sink.new) result }
+{
+    let opens = b" [shape=box, label=\"";
+    match value {
+        Trit::Zero => put_node(sink, column, opens, name.bytes(), b"=0\"];\n"),
+        Trit::One => put_node(sink, column, opens, name.bytes(), b"=1\"];\n"),
+        Trit::X => Ok(()),
+    }
+}
+
+fn column_name(net: &Netlist, column: u32) -> &Name
+    requires { column < count net.now }
+    ensures { result.now ≡ signal_name net.now (signal column) }
+{
+    net.name_of(Sig(column))
+}
+
+fn put_need<K: Sink>(sink: &mut K, drawing: &Drawing<'_>, column: u32) -> Result<(), Failed>
+    requires drawing { IsDrawing drawing.now }
+    requires column { column < length drawing.now.needs.now }
+    ensures { IsAppended (needed_node (picture_seen drawing.now) column) (sink_call K.put K.faults sink.old sink.new) result }
+{
+    put_box(
+        sink,
+        Sig(column),
+        column_name(drawing.net, column),
+        need(drawing.needs, column),
+    )
+}
+
+// The boxes of the values that are needed.
+fn put_needs<K: Sink>(sink: &mut K, drawing: &Drawing<'_>) -> Result<(), Failed>
+    requires drawing { IsDrawing drawing.now }
+    ensures { IsAppended (flat_map (needed_node (picture_seen drawing.now)) (range_with_len 0 (length drawing.now.needs.now))) (sink_call K.put K.faults sink.old sink.new) result }
+{
+    for column in 0..drawing.needs.len() {
+        put_need(sink, drawing, column as u32)?;
+    }
+    Ok(())
+}
+
+fn put_picture<K: Sink>(sink: &mut K, drawing: &Drawing<'_>) -> Result<(), Failed>
+    requires drawing { IsDrawing drawing.now }
+    ensures { IsAppended (picture (picture_seen drawing.now)) (sink_call K.put K.faults sink.old sink.new) result }
+{
+    put_needs(sink, drawing)?;
+    put_gates(sink, drawing)?;
+    put_wires(sink, drawing)
+}
+
+fn put_drawing<K: Sink>(sink: &mut K, label: &[u8], drawing: &Drawing<'_>) -> Result<(), Failed>
+    requires drawing { IsDrawing drawing.now }
+    ensures { IsAppended (labelled_graph label.now (picture (picture_seen drawing.now))) (sink_call K.put K.faults sink.old sink.new) result }
+{
+    open_graph(sink, label)?;
+    put_picture(sink, drawing)?;
+    write_whole(sink, b"}\n")
+}
+
+// Marks these gates.
+#[tactic(auto, using(crate::proofs::MarkLemmas::none_marked, crate::proofs::MarkLemmas::all_marked))]
+fn mark(gates: &[u32], marks: &mut [bool])
+    requires { All (λ gate. gate < length marks.old) gates.now }
+    ensures { AddMarks (Contains gates.now) marks.old marks.new }
+{
+    for gate in gates {
+        marks[*gate as usize] = true;
+    }
+}
+
+// The same where nothing is marked.
+fn mark_alone(net: &Netlist, gates: &[u32], marks: &mut [bool])
+    requires gates { All (λ gate. gate < length net.now.gates) gates.now }
+    requires width { length marks.old ≡ length net.now.gates }
+    requires none { (n : ℕ) → is_marked marks.old n ≡ false }
+    ensures { AreMarksOf net.now gates.now marks.new }
+{
+    mark(gates, marks);
+}
+
+// A mark for each gate, which says whether it is one of these.
+#[tactic(auto, using(crate::proofs::MarkLemmas::unmarked))]
+fn marks_of(alloc: Global, net: &Netlist, gates: &[u32]) -> Result<Vec<bool>, AllocError>
+    requires { All (λ gate. gate < length net.now.gates) gates.now }
+    ensures { IfOk result (λ marks. AreMarksOf net.now gates.now marks.items) }
+{
+    let mut marks = vec![in alloc; false; net.gates() as usize]?;
+    mark_alone(net, gates, &mut marks);
+    Ok(marks)
+}
+
+fn trits_of(alloc: Global, vector: &[bool]) -> Result<Vec<Trit>, AllocError>
+    ensures { IfOk result (λ trits. trits.items ≡ bits vector.now) }
+{
+    vector.iter().map(|value| Trit::of(*value)).collect(alloc)
+}
+
+// The values of all signals at a vector.
+fn values_at(alloc: Global, net: &Netlist, vector: &[bool]) -> Result<Vec<Trit>, AllocError>
+    requires { length vector.now ≡ length net.now.inputs + length net.now.latches }
+    ensures { IfOk result (λ values. values.items ≡ fix net.now (bits vector.now)) }
+{
+    let given = trits_of(alloc, vector)?;
+    settle(alloc, net, &given)
+}
+
+fn tell_labelled(
+    label: &[u8],
+    drawing: &Drawing<'_>,
+    sink: &mut TextSink,
+) -> Result<(), AllocError>
+    requires { IsDrawing drawing.now }
+    ensures { OnOk result (text_bytes sink.new ≡ text_bytes sink.old ++ labelled_graph label.now (picture (picture_seen drawing.now))) }
+{
+    if put_drawing(sink, label, drawing).is_err() {
+        return Err(AllocError);
+    }
+    Ok(())
+}
+
+// The graph where the signals have these values, and where the gates of the way and of the cycle are marked.
+fn tell_drawing(
+    net: &Netlist,
+    blocks: &Blocks,
+    cut: &Cut,
+    why: &Explanation,
+    values: &[Trit],
+    way: &[bool],
+    cycle: &[bool],
+    label: &[u8],
+    sink: &mut TextSink,
+) -> Result<(), AllocError>
+    requires valid { IsNetlist net.now }
+    requires blocks { AreBlocksOf net.now blocks.now }
+    requires cut { IsCutOf net.now cut.now }
+    requires why { IsExplanationOf net.now why.now }
+    requires some { 0 < length why.now.cycle }
+    requires values { length values.now ≡ count net.now }
+    requires way { AreMarksOf net.now why.now.way way.now }
+    requires cycle { AreMarksOf net.now why.now.cycle cycle.now }
+    ensures { OnOk result (text_bytes sink.new ≡ text_bytes sink.old ++ explanation_graph net.now label.now values.now why.now) }
+{
+    let drawing = Drawing {
+        net,
+        blocks,
+        cut,
+        values,
+        first: why.cycle.items()[0],
+        way,
+        cycle,
+        needs: why.needs.items(),
+    };
+    tell_labelled(label, &drawing, sink)
+}
+
+/// Appends why a gate is undetermined at a vector as a graph with this text as its label: the gates of the loop in which the
+/// cycle lies and those of the way, the wires between them, and the values that are needed as boxes. What is unknown at the
+/// vector is red, the wires of the cycle are bold, and cut wires are dashed.
+///
+/// The condition is that the blocks and the cut are the netlist's, that the explanation speaks of its gates and columns, and
+/// that there is a cycle. It takes time in proportion to the gates and pins.
+///
+/// # Errors
+///
+/// `AllocError` for want of memory alone.
+pub fn tell_explanation_graph(
+    alloc: Global,
+    net: &Netlist,
+    blocks: &Blocks,
+    cut: &Cut,
+    vector: &[bool],
+    why: &Explanation,
+    label: &[u8],
+    sink: &mut TextSink,
+) -> Result<(), AllocError>
+    requires valid { IsNetlist net.now }
+    requires blocks { AreBlocksOf net.now blocks.now }
+    requires cut { IsCutOf net.now cut.now }
+    requires width { length vector.now ≡ length net.now.inputs + length net.now.latches }
+    requires why { IsExplanationOf net.now why.now }
+    requires some { 0 < length why.now.cycle }
+    ensures { OnOk result (text_bytes sink.new ≡ text_bytes sink.old ++ explanation_graph net.now label.now (fix net.now (bits vector.now)) why.now) }
+{
+    let values = values_at(alloc, net, vector)?;
+    let way = marks_of(alloc, net, why.way.items())?;
+    let cycle = marks_of(alloc, net, why.cycle.items())?;
+    tell_drawing(net, blocks, cut, why, &values, &way, &cycle, label, sink)
+}
