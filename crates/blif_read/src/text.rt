@@ -1,4 +1,6 @@
-ghost use Rattle.std.specs.Prelude.{◌≡◌, ◌≢◌, ◌≤◌, MatchResult, IfOk, Ok, Err, length};
+ghost use Rattle.std.specs.Prelude.{◌≡◌, ◌≢◌, ◌≤◌, true, MatchResult, IfOk, Ok, Err, length};
+ghost use Rattle.blif_text.specs.Texts.{lines};
+ghost use Rattle.blif_text.specs.Faults.{Refuses};
 ghost use Rattle.blif_read.specs.Reads.{if_any, reads_lines, reads};
 ghost use Rattle.blif_read.specs.Answers.{Answers};
 ghost use Rattle.blif_read.specs.Flattening.{CanBeFlattened};
@@ -7,7 +9,7 @@ ghost use Rattle.blif_read.specs.declared.fault.BlifFault.TheVariants.{Memory};
 use crate::fault::BlifFault;
 use crate::models::{BlifModel, Models};
 use crate::reader::Reader;
-use blif_text::Lines;
+use blif_text::{Lines, TextFault};
 use cyc_base::Items;
 use std::alloc::Global;
 
@@ -48,6 +50,27 @@ pub fn read(alloc: Global, bytes: &[u8]) -> Result<Models, BlifFault>
     ensures flat { length bytes.now ≤ 4000000000 → IfOk result (λ models. CanBeFlattened models.list) }
 {
     let lines = Lines::of(alloc, bytes, true)?;
+    let list = read_lines(alloc, &lines)?;
+    Ok(Models { list })
+}
+
+// The lines of a text, which is dropped.
+fn own_lines(alloc: Global, bytes: Vec<u8>) -> Result<Lines, TextFault>
+    ensures { MatchResult result
+        (λ found. lines bytes.items true ≡ Ok found)
+        (λ fault. Refuses fault (lines bytes.items true)) }
+{
+    Lines::of(alloc, &bytes, true)
+}
+
+/// As `read`, of a text that nothing else needs: it is dropped once its lines stand.
+pub fn read_owned(alloc: Global, bytes: Vec<u8>) -> Result<Models, BlifFault>
+    ensures models { MatchResult result
+        (λ models. reads bytes.items ≡ Ok models.list)
+        (λ fault. fault ≢ Memory → reads bytes.items ≡ Err fault) }
+    ensures flat { length bytes.items ≤ 4000000000 → IfOk result (λ models. CanBeFlattened models.list) }
+{
+    let lines = own_lines(alloc, bytes)?;
     let list = read_lines(alloc, &lines)?;
     Ok(Models { list })
 }

@@ -15,7 +15,7 @@ ghost use Rattle.cyc_tool.specs.Seen.{stop_outcome};
 use crate::outcome::Stop;
 use crate::texts::{tell_fault, tell_read_failed};
 use care_sets::Care;
-use contents::{FileError, care_of, netlist_of, schedule_of, too_long, vectors_of};
+use contents::{FileError, care_of, netlist_of_owned, schedule_of, too_long, vectors_of};
 use cyc_base::{Name, Trits};
 use cyc_io::{ReadFault, Shelf, read_whole};
 use delay_core::Schedule;
@@ -64,7 +64,7 @@ pub(crate) fn read_netlist<S: Shelf>(
     ensures same { S.files shelf.new ≡ S.files shelf.old }
 {
     let bytes = read_text(alloc, shelf, file)?;
-    match netlist_of(alloc, &bytes) {
+    match netlist_of_owned(alloc, bytes) {
         Ok(net) => Ok(net),
         Err(error) => Err(stop_at(alloc, file, error)),
     }

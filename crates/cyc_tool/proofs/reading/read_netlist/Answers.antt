@@ -1,6 +1,4 @@
-use Rattle.std.proofs.Common.{◌≡◌, Ok, sym, ap, subst, ◌∙◌}
 use Rattle.std.proofs.lemmas.Result.{err_from_is_err_and}
-use Rattle.contents.specs.Faults.{IsErrorOf}
 use Rattle.contents.specs.NetlistFiles.{netlist_of}
 use Rattle.contents.specs.Seen.{error_seen}
 use Rattle.contents.proofs.NetlistLemmas.{netlist_of_long}
@@ -16,12 +14,10 @@ returns-in_err-bytes-clause-bad g c =
 
 pub returns-in-Ok-clause-good : goal.returns-in-Ok-clause-good
 returns-in-Ok-clause-good g c =
-    let is : netlist_of c.in_ok-bytes.bytes.items ≡ Ok c.in-Ok.net = ap netlist_of (sym c.deref.ensures.value) ∙ c.in-Ok.ensures.good in
-    file_goes_on Netlist netlist_of c.args.file.now c.in_ok-bytes.bytes.items _ c.in-Ok.net (sound_netlist c.in_ok-bytes.bytes.items c.in-Ok.net is c.in-Ok.ensures.valid)
-    c.in_ok-bytes.ensures.good c.read_text.ensures.counts is
+    file_goes_on Netlist netlist_of c.args.file.now c.in_ok-bytes.bytes.items _ c.in-Ok.net (sound_netlist c.in_ok-bytes.bytes.items c.in-Ok.net c.in-Ok.ensures.good c.in-Ok.ensures.valid)
+    c.in_ok-bytes.ensures.good c.read_text.ensures.counts c.in-Ok.ensures.good
 
-pub returns-clause-bad : goal.returns-clause-bad
-returns-clause-bad g c =
-    let is = subst (λ bytes. IsErrorOf (netlist_of bytes) (error_seen c.in-Err.error)) c.deref.ensures.value c.in-Err.ensures.bad in
+pub returns-in-Err-clause-bad : goal.returns-in-Err-clause-bad
+returns-in-Err-clause-bad g c =
     error_stops Netlist netlist_of c.args.file.now c.in_ok-bytes.bytes.items _ (error_seen c.in-Err.error) (stop_outcome c.stop_at.result)
-    (sound_fault c.in_ok-bytes.bytes.items) c.in_ok-bytes.ensures.good c.read_text.ensures.counts is c.stop_at.ensures
+    (sound_fault c.in_ok-bytes.bytes.items) c.in_ok-bytes.ensures.good c.read_text.ensures.counts c.in-Err.ensures.bad c.stop_at.ensures
