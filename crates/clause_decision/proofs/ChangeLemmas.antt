@@ -1,7 +1,6 @@
--- Cut wires that a sweep changes on care, and how many sweeps are needed where none does.
-use Rattle.std.proofs.Common.{◌≡◌, ◌≢◌, ℕ, suc, ◌<◌, ◌+◌, Bool, true, false, not, ◌&&◌, List, [], ◌∷◌, length, get_or, Option, Some, None, Contains, refl, sym, ap, subst, ◌∙◌, arith, true≢false}
-use Rattle.std.specs.List.{All, range_with_len}
-use Rattle.std.proofs.lemmas.Bool.{and_parts}
+-- Cut wires that a sweep changes on care: where none does, the sweeps are enough.
+use Rattle.std.proofs.Common.{◌≡◌, ◌≢◌, ℕ, suc, ◌<◌, ◌+◌, Bool, true, false, not, List, [], ◌∷◌, length, get_or, Contains, refl, sym, ap, ◌∙◌, arith, true≢false}
+use Rattle.std.specs.List.{All}
 use Rattle.std.proofs.lemmas.List.{length-map, get_or_default}
 use Rattle.std.proofs.lemmas.List.Elements.{All-cons, All-contains, Contains-get_or}
 use Rattle.cyc_base.specs.declared.trit.Trit.{Trit}
@@ -14,10 +13,10 @@ use Rattle.netlist.specs.Fixpoint.{fix_gates}
 use Rattle.loops.specs.declared.structure.Blocks.{Blocks}
 use Rattle.loops.specs.declared.structure.Cut.{Cut}
 use Rattle.loops.specs.Blocks.{AreBlocksOf, block_at}
-use Rattle.loops.specs.Cuts.{IsCutOf, Loops, loops_by, is_cut}
+use Rattle.loops.specs.Cuts.{IsCutOf, Loops, loops_by}
 use Rattle.loops.specs.Sweeps.{CutsAreFixed, cuts, cuts_of, sweeps, value_in}
-use Rattle.loops.proofs.Reading.{Contains-filter_from, map_agree}
-use Rattle.loops.proofs.Sweeps.{cut_values_agree, few_sweeps_are_enough, fixed_cuts_give_fix, still_is_fix, sweeps_rise}
+use Rattle.loops.proofs.Reading.{map_agree}
+use Rattle.loops.proofs.Sweeps.{cut_values_agree, fixed_cuts_give_fix, still_is_fix, sweeps_rise}
 use Rattle.care_sets.specs.Care.{CareSet, state_of, is_allowed, is_in_invariant, IsCareVector}
 use Rattle.ternary_clauses.specs.declared.formula.Formula.{Formula}
 use Rattle.ternary_clauses.specs.declared.formula.Rails.{Rails}
@@ -25,16 +24,18 @@ use Rattle.ternary_clauses.specs.Formulas.{says, negation, IsModel}
 use Rattle.ternary_clauses.specs.Rails.{Reads, rails_at, is_known}
 use Rattle.ternary_clauses.specs.Sweeps.{ReadsOutside, ReadsPlaces}
 use Rattle.ternary_clauses.proofs.ClauseLemmas.{says-negation}
+use Rattle.clause_queries.specs.declared.query.Reply.{Reply}
+use Rattle.clause_queries.specs.declared.query.Reply.TheVariants as replies
 use Rattle.clause_queries.specs.Queries.{problem, HasNoModelUnder}
 use Rattle.clause_queries.proofs.ClauseLemmas.{models-same}
 use Rattle.clause_decision.specs.Changes.{change_literals, AreFedKnown, HasChange, ChangesAfter, StandAfter, TellsChange, TellsChangeAfter}
 use Rattle.clause_decision.specs.Cones.{column_rails, vector_in, ReadsFix, IsCone}
 use Rattle.clause_decision.specs.Scopes.{is_marked, AreClosed}
-use Rattle.clause_decision.specs.Sweeping.{IsLeastCount, NeedsMore}
+use Rattle.clause_decision.specs.Countings.{AreTooFewAt, TellsTooFew}
 use Rattle.clause_decision.specs.Sweepings.{AreCutPlaces}
 use Rattle.clause_decision.proofs.FormulaLemmas.{ones-read}
 use Rattle.clause_decision.proofs.SignalLemmas.{known-below, column_rails-length, gate-read, three}
-use Rattle.clause_decision.proofs.SweepingLemmas.{are-loops, cut-of, cuts-number, fed-read, of-loop, outside-of-fix, places-number}
+use Rattle.clause_decision.proofs.SweepingLemmas.{are-loops, cut-of, fed-read, of-loop, outside-of-fix}
 use Rattle.clause_decision.proofs.UnknownLemmas.{unknown-value}
 
 -- ---- what a question about a change tells
@@ -56,15 +57,14 @@ module _ (net : Parts) (care : CareSet) (marks : List Bool) (loops : Loops) (gat
   known-said Zero e x = cc
   known-said One e x = cc
 
-  changes-after : HasChange (problem f) inside allowed before after places → ChangesAfter net loops care gates k
-  changes-after has =
-      let m : List Bool = has.possible.model in
-      let is : IsModel m f = sym (models-same f m) ∙ has.possible.is.model in
+  changes-after : (m : List Bool) → HasChange (problem f) inside allowed before after places m → ChangesAfter net loops care gates k (vector_in net rails m)
+  changes-after m has =
+      let is : IsModel m f = sym (models-same f m) ∙ has.is.model in
       let v : List Bool = vector_in net rails m in
       let counts : IsCareVector net care v = record {
         width = length-map (column_rails net rails) (λ (r : Rails). says m r.one) ∙ column_rails-length net rails cone.size;
-        state = sym (cone.inside_tells m is) ∙ has.possible.is.assumed 0 0 (omega arith);
-        allowed = sym (cone.allowed_tells m is) ∙ has.possible.is.assumed 1 0 (omega arith);
+        state = sym (cone.inside_tells m is) ∙ has.is.assumed 0 0 (omega arith);
+        allowed = sym (cone.allowed_tells m is) ∙ has.is.assumed 1 0 (omega arith);
       } in
       let i : ℕ = has.place in
       let low : i < length gates = All-contains (λ j. j < length gates) places i wires.within has.among in
@@ -72,13 +72,12 @@ module _ (net : Parts) (care : CareSet) (marks : List Bool) (loops : Loops) (gat
       let first : Reads m (rails_at before i) (value_in (sweeps net loops (bits v) k) (get_or gates i 0)) = reads_before m (bits v) is out i low in
       let second : Reads m (rails_at after i) (value_in (sweeps net loops (bits v) (k + 1)) (get_or gates i 0)) = reads_after m (bits v) is out i low in
       record {
-        vector = v;
         counts = counts;
         wire = get_or gates i 0;
         inside = Contains-get_or gates i 0 low;
         is_cut = All-contains (λ j. loops.cut (get_or gates j 0) ≡ true) places i wires.are has.among;
-        unknown = unknown-value (value_in (sweeps net loops (bits v) k) (get_or gates i 0)) (ap not (sym first.known) ∙ sym (says-negation m (rails_at before i).known) ∙ has.possible.is.assumed 2 0 (omega arith));
-        known = known-said (value_in (sweeps net loops (bits v) (k + 1)) (get_or gates i 0)) (sym second.known ∙ has.possible.is.assumed 3 0 (omega arith));
+        unknown = unknown-value (value_in (sweeps net loops (bits v) k) (get_or gates i 0)) (ap not (sym first.known) ∙ sym (says-negation m (rails_at before i).known) ∙ has.is.assumed 2 0 (omega arith));
+        known = known-said (value_in (sweeps net loops (bits v) (k + 1)) (get_or gates i 0)) (sym second.known ∙ has.is.assumed 3 0 (omega arith));
       }
 
   stand-after : All (λ i. HasNoModelUnder (problem f) (change_literals inside allowed before after i)) places → StandAfter net loops care gates k
@@ -123,12 +122,12 @@ module _ (net : Parts) (care : CareSet) (marks : List Bool) (loops : Loops) (gat
       by Zero e = absurd (refuted (ap is_known e))
       by One e = absurd (refuted (ap is_known e))
 
-  pub tells-change : (found : Option Bool) → TellsChange (problem f) inside allowed before after places found → TellsChangeAfter net loops care gates k found
-  tells-change (Some true) h = changes-after h
-  tells-change (Some false) h = stand-after h
-  tells-change None h = tt
+  pub tells-change : (reply : Reply) → TellsChange (problem f) inside allowed before after places reply → TellsChangeAfter net loops care gates rails k reply
+  tells-change (replies.Model m) h = changes-after m.items h
+  tells-change replies.NoModel h = stand-after h
+  tells-change replies.Unknown h = tt
 
--- ---- how many sweeps are needed
+-- ---- whether sweeps are enough
 
 module _ (net : Parts) (blocks : Blocks) (cut : Cut) (are : AreBlocksOf net blocks) (cut_is : IsCutOf net cut) (b : ℕ) (less : b < length blocks.list) (looped : (block_at blocks b).looped ≡ true) where
   -- what is outside of the loop is no gate of the block
@@ -136,19 +135,17 @@ module _ (net : Parts) (blocks : Blocks) (cut : Cut) (are : AreBlocksOf net bloc
   outside-apart n g inside same among = true≢false (sym ((of-loop net blocks cut are cut_is b less looped n inside).1 g among) ∙ same)
 
   -- where a cut wire changes, more sweeps are needed
-  change-needs : (care : CareSet) (k : ℕ) → ChangesAfter net (loops_by blocks cut) care (block_at blocks b).gates k → (a : ℕ) → Contains (block_at blocks b).gates a → NeedsMore net (loops_by blocks cut) care a k
-  change-needs care k found a inside = record {
-    vector = found.vector;
+  change-too-few : (care : CareSet) (k : ℕ) (v : List Bool) → ChangesAfter net (loops_by blocks cut) care (block_at blocks b).gates k v → AreTooFewAt net (loops_by blocks cut) care (block_at blocks b).gates k v
+  change-too-few care k v found = record {
     counts = found.counts;
-    open_cuts = λ fixed.
+    open_cuts = λ a inside fixed.
         let loops : Loops = loops_by blocks cut in
-        let v : List Trit = bits found.vector in
         let same = (of-loop net blocks cut are cut_is b less looped a inside).1 found.wire found.inside in
-        let next : CutsAreFixed net loops v a (suc k) = (fixed_cuts_give_fix net loops (are-loops net blocks cut are cut_is b less looped) v (length-map found.vector bit ∙ found.counts.width) a k fixed).0 in
-        let now_is = cut_values_agree net loops (are-loops net blocks cut are cut_is b less looped) a (sweeps net loops v k) (fix_gates net v) fixed found.wire same found.is_cut in
-        let next_is = cut_values_agree net loops (are-loops net blocks cut are cut_is b less looped) a (sweeps net loops v (suc k)) (fix_gates net v) next found.wire same found.is_cut in
+        let next : CutsAreFixed net loops (bits v) a (suc k) = (fixed_cuts_give_fix net loops (are-loops net blocks cut are cut_is b less looped) (bits v) (length-map v bit ∙ found.counts.width) a k fixed).0 in
+        let now_is = cut_values_agree net loops (are-loops net blocks cut are cut_is b less looped) a (sweeps net loops (bits v) k) (fix_gates net (bits v)) fixed found.wire same found.is_cut in
+        let next_is = cut_values_agree net loops (are-loops net blocks cut are cut_is b less looped) a (sweeps net loops (bits v) (suc k)) (fix_gates net (bits v)) next found.wire same found.is_cut in
         let e : suc k ≡ k + 1 = omega arith in
-        found.known (ap (λ (j : ℕ). value_in (sweeps net loops v j) found.wire) (sym e) ∙ next_is ∙ sym now_is ∙ found.unknown);
+        found.known (ap (λ (j : ℕ). value_in (sweeps net loops (bits v) j) found.wire) (sym e) ∙ next_is ∙ sym now_is ∙ found.unknown);
   }
 
   -- where none does, the loop stands at the fixpoint
@@ -185,20 +182,8 @@ module _ (net : Parts) (blocks : Blocks) (cut : Cut) (are : AreBlocksOf net bloc
         ∙ still_is_fix net (loops_by blocks cut) (are-loops net blocks cut are cut_is b less looped) (bits v) (length-map v bit ∙ counts.width) a k still
         (get_or (cuts_of net (loops_by blocks cut) a) j d) (cut-of net (loops_by blocks cut) a j d low).0)
 
-  pub stand-count : (care : CareSet) (k : ℕ) → StandAfter net (loops_by blocks cut) care (block_at blocks b).gates k → ((j : ℕ) → j < k → ChangesAfter net (loops_by blocks cut) care (block_at blocks b).gates j) →
-      (a : ℕ) → Contains (block_at blocks b).gates a → IsLeastCount net (loops_by blocks cut) care a k
-  stand-count care k stand more a inside = record {
-    enough = λ v counts. stand-fixed care k stand a inside v counts;
-    least = λ j low. change-needs care j (more j low) a inside;
-  }
-
-  -- as many sweeps as cut wires are enough
-  pub few-changes : (care : CareSet) (places : List ℕ) → AreCutPlaces (is_cut cut.wires) (block_at blocks b).gates places → (k : ℕ) → k ≡ length places →
-      ((j : ℕ) → j < k → ChangesAfter net (loops_by blocks cut) care (block_at blocks b).gates j) → (a : ℕ) → Contains (block_at blocks b).gates a → IsLeastCount net (loops_by blocks cut) care a k
-  few-changes care places wires k is more a inside = record {
-    enough = λ v counts.
-        subst (λ (n : ℕ). CutsAreFixed net (loops_by blocks cut) (bits v) a n)
-        (cuts-number net blocks cut are cut_is b less looped a inside ∙ sym (places-number net blocks cut are cut_is b less looped places wires) ∙ sym is)
-        (few_sweeps_are_enough net (loops_by blocks cut) (are-loops net blocks cut are cut_is b less looped) a (bits v) (length-map v bit ∙ counts.width));
-    least = λ j low. change-needs care j (more j low) a inside;
-  }
+  pub change-tells : (care : CareSet) (rails : List Rails) (k : ℕ) (reply : Reply) → TellsChangeAfter net (loops_by blocks cut) care (block_at blocks b).gates rails k reply →
+      TellsTooFew net (loops_by blocks cut) care (block_at blocks b).gates rails k reply
+  change-tells care rails k (replies.Model m) h = change-too-few care k (vector_in net rails m.items) h
+  change-tells care rails k replies.NoModel h = λ a inside v counts. stand-fixed care k h a inside v counts
+  change-tells care rails k replies.Unknown h = tt

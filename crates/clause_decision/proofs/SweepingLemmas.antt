@@ -40,12 +40,15 @@ use Rattle.clause_queries.specs.declared.query.Reply.{Reply}
 use Rattle.clause_queries.specs.declared.query.Reply.TheVariants as replies
 use Rattle.clause_queries.specs.Queries.{problem, HasNoModelUnder, IsModelUnder, IsReply}
 use Rattle.clause_queries.proofs.ClauseLemmas.{models-same}
+use Rattle.clause_decision.specs.declared.counting.Sign.{Sign}
+use Rattle.clause_decision.specs.declared.counting.Sign.TheVariants as signs
 use Rattle.clause_decision.specs.declared.sweeping.Swept.{Swept}
 use Rattle.clause_decision.specs.Cones.{column_rails, vector_in, ReadsFix, IsCone}
+use Rattle.clause_decision.specs.Countings.{first_number, AreEnough, AreTooFewAt, NeedAtLeast, Serves, TellsTooFew}
 use Rattle.clause_decision.specs.Scopes.{is_marked, AreClosed, AreKnownOnCare}
 use Rattle.clause_decision.specs.Simulations.{IsCountAt}
 use Rattle.clause_decision.specs.Sweeping.{IsLeastCount}
-use Rattle.clause_decision.specs.Sweepings.{open_literals, AreCutPlacesBelow, AreCutPlaces, AreKnownAfter, IsOpenAt, IsSwept, NeedAtLeast, SaysOpen, TellsOpen}
+use Rattle.clause_decision.specs.Sweepings.{open_literals, AreCutPlacesBelow, AreCutPlaces, AreKnownAfter, IsOpenAt, IsSwept, SaysOpen, TellsOpen}
 use Rattle.clause_decision.proofs.FormulaLemmas.{ones-read}
 use Rattle.clause_decision.proofs.SignalLemmas.{known-below, negation-within, column_rails-length, signal-at, gate-read, three}
 use Rattle.clause_decision.proofs.UnknownLemmas.{unknown-value}
@@ -379,7 +382,7 @@ module _ (net : Parts) (blocks : Blocks) (cut : Cut) (are : AreBlocksOf net bloc
       }
 
   -- so one sweep is needed
-  pub one-needed : (care : CareSet) → SomeCareVector net care → AreKnownOnCare net care → NeedAtLeast net (loops_by blocks cut) care (block_at blocks b).gates 1
+  one-needed : (care : CareSet) → SomeCareVector net care → AreKnownOnCare net care → NeedAtLeast net (loops_by blocks cut) care (block_at blocks b).gates 1
   one-needed care some known a j inside low =
       let none : 0 ≡ j = omega (arith, low) in
       record {
@@ -388,30 +391,47 @@ module _ (net : Parts) (blocks : Blocks) (cut : Cut) (are : AreBlocksOf net bloc
         open_cuts = subst (λ (k : ℕ). ¬ CutsAreFixed net (loops_by blocks cut) (bits some.vector) a k) none (open-unfixed care known 0 some.vector (open-first care some) a inside);
       }
 
-  -- a vector at which a cut wire is unknown after k sweeps needs more, and care at least as many as it
-  pub more-needed : (care : CareSet) → AreKnownOnCare net care → (k : ℕ) (v : List Bool) → IsOpenAt net (loops_by blocks cut) care (block_at blocks b).gates k v → (m : ℕ) →
+  open-too-few : (care : CareSet) → AreKnownOnCare net care → (k : ℕ) (v : List Bool) → IsOpenAt net (loops_by blocks cut) care (block_at blocks b).gates k v →
+      AreTooFewAt net (loops_by blocks cut) care (block_at blocks b).gates k v
+  open-too-few care known k v found = record { counts = found.counts; open_cuts = λ a inside. open-unfixed care known k v found a inside }
+
+  pub open-tells : (care : CareSet) → AreKnownOnCare net care → (rails : List Rails) (k : ℕ) (reply : Reply) → TellsOpen net (loops_by blocks cut) care (block_at blocks b).gates rails k reply →
+      TellsTooFew net (loops_by blocks cut) care (block_at blocks b).gates rails k reply
+  open-tells care known rails k (replies.Model m) h = open-too-few care known k (vector_in net rails m.items) h
+  open-tells care known rails k replies.NoModel h = λ a inside v counts. fixed-where-known care k h a inside v counts
+  open-tells care known rails k replies.Unknown h = tt
+
+  -- a vector at which k sweeps are too few needs more, and care at least as many as it
+  pub more-needed : (care : CareSet) (k : ℕ) (v : List Bool) → AreTooFewAt net (loops_by blocks cut) care (block_at blocks b).gates k v → (m : ℕ) →
       IsCountAt net (loops_by blocks cut) v (block_at blocks b).gates m → (k < m) × NeedAtLeast net (loops_by blocks cut) care (block_at blocks b).gates m
-  more-needed care known k v found m count = (
+  more-needed care k v few m count = (
     elim (cases_lt k m) [
       | inl low ↦ low
       | inr high ↦
           (let a : ℕ = get_or (block_at blocks b).gates 0 0 in
           let inside : Contains (block_at blocks b).gates a = Contains-get_or (block_at blocks b).gates 0 0 (are.filled b less) in
-          absurd (open-unfixed care known k v found a inside
-          (fixed-later net (loops_by blocks cut) are-loops (bits v) (length-map v bit ∙ found.counts.width) a m (k - m) k (omega (arith, high)) (count.enough a inside))))
+          absurd (few.open_cuts a inside
+          (fixed-later net (loops_by blocks cut) are-loops (bits v) (length-map v bit ∙ few.counts.width) a m (k - m) k (omega (arith, high)) (count.enough a inside))))
     ],
-    λ a j inside low. record { vector = v; counts = found.counts; open_cuts = count.least a j inside low },
+    λ a j inside low. record { vector = v; counts = few.counts; open_cuts = count.least a j inside low },
   )
 
-  -- each care vector needs one
-  pub vector-needed : (care : CareSet) → AreKnownOnCare net care → (v : List Bool) → IsCareVector net care v → (m : ℕ) → IsCountAt net (loops_by blocks cut) v (block_at blocks b).gates m →
-      (0 < m) × NeedAtLeast net (loops_by blocks cut) care (block_at blocks b).gates m
-  vector-needed care known v counts = more-needed care known 0 v (open-first care (record { vector = v; counts = counts }))
+  -- what a sign gives before the first question: at a care vector, and without one
+  pub vector-needed : (care : CareSet) (sign : Sign) → Serves sign net care (block_at blocks b).gates → (v : List Bool) → IsCareVector net care v → (m : ℕ) →
+      IsCountAt net (loops_by blocks cut) v (block_at blocks b).gates m → (first_number sign ≤ m) × NeedAtLeast net (loops_by blocks cut) care (block_at blocks b).gates m
+  vector-needed care signs.Open serves v counts m count =
+      let more = more-needed care 0 v (open-too-few care serves.1 0 v (open-first care (record { vector = v; counts = counts }))) m count in
+      (let low = more.0 in omega (arith, low), more.1)
+  vector-needed care signs.Changing serves v counts m count = (omega arith, λ a j inside low. record { vector = v; counts = counts; open_cuts = count.least a j inside low })
 
-  -- where all are known, as many are enough
-  pub these-needed : (care : CareSet) (k : ℕ) → AreKnownAfter net (loops_by blocks cut) care (block_at blocks b).gates k → NeedAtLeast net (loops_by blocks cut) care (block_at blocks b).gates k →
+  pub first-needed : (care : CareSet) (sign : Sign) → Serves sign net care (block_at blocks b).gates → NeedAtLeast net (loops_by blocks cut) care (block_at blocks b).gates (first_number sign)
+  first-needed care signs.Open serves = one-needed care serves.0 serves.1
+  first-needed care signs.Changing serves = λ a j inside low. absurd (omega (arith, low))
+
+  -- where they are enough, and no fewer are, these are needed
+  pub these-needed : (care : CareSet) (k : ℕ) → AreEnough net (loops_by blocks cut) care (block_at blocks b).gates k → NeedAtLeast net (loops_by blocks cut) care (block_at blocks b).gates k →
       (a : ℕ) → Contains (block_at blocks b).gates a → IsLeastCount net (loops_by blocks cut) care a k
-  these-needed care k known more a inside = record { enough = fixed-where-known care k known a inside; least = λ j low. more a j inside low }
+  these-needed care k enough more a inside = record { enough = enough a inside; least = λ j low. more a j inside low }
 
   -- which gates are in it
   pub same-home : (a : ℕ) → Contains (block_at blocks b).gates a → (n : ℕ) → n < length net.gates → (loops_by blocks cut).same a n ≡ (home_of blocks n == b)

@@ -1,5 +1,6 @@
 pub mod Changes
 pub mod Cones
+pub mod Countings
 pub mod Formulas
 pub mod Loads
 pub mod NextStates

@@ -1,5 +1,5 @@
 -- A loop after some sweeps, as clauses on top of a cone.
-use Rattle.std.specs.Prelude.{◌≡◌, ◌≢◌, ◌<◌, ◌*◌, ℕ, Bool, true, false, List, length, map, filter, take, All, Contains, slice_index}
+use Rattle.std.specs.Prelude.{◌≡◌, ◌≢◌, ◌<◌, ◌+◌, ◌*◌, ℕ, Bool, true, List, length, map, filter, take, All, Contains, slice_index}
 use Rattle.std.specs.List.{list_any}
 use Rattle.cyc_base.specs.declared.trit.Trit.{Trit}
 use Rattle.cyc_base.specs.declared.trit.Trit.TheVariants.{X}
@@ -16,11 +16,8 @@ use Rattle.ternary_clauses.specs.Rails.{AreWithin, rails_at}
 use Rattle.ternary_clauses.specs.Sweeps.{ReadsOutside, ReadsPlaces}
 use Rattle.clause_queries.specs.declared.query.Reply.{Reply}
 use Rattle.clause_queries.specs.declared.query.Reply.TheVariants as replies
-use Rattle.clause_decision.specs.declared.sweeping.Needed.{Needed}
-use Rattle.clause_decision.specs.declared.sweeping.Needed.TheVariants as needs
 use Rattle.clause_decision.specs.declared.sweeping.Swept.{Swept}
 use Rattle.clause_decision.specs.Cones.{vector_in, IsCone}
-use Rattle.clause_decision.specs.Sweeping.{IsLeastCount, NeedsMore}
 
 -- The copies of a loop's gates stand for their values after so many sweeps, where what is outside of the loop stands for
 -- its value at the fixpoint.
@@ -44,6 +41,17 @@ pub record IsSweepable (net : Parts) (gates : List ℕ) (s : Swept) : Type 0 whe
   pub size : length s.copies.items ≡ length gates
   pub within : All (AreWithin s.cone.formula.variables) s.copies.items
   pub on_care : IsOnCare s
+
+-- copies of these gates, of its variables
+pub record AreCopies (gates : List ℕ) (s : Swept) (copies : List Rails) : Type 0 where
+  pub size : length copies ≡ length gates
+  pub within : All (AreWithin s.cone.formula.variables) copies
+
+-- one sweep more than k: the copies before it stand for the values after k sweeps
+pub record IsSweptOn (net : Parts) (care : CareSet) (marks : List Bool) (loops : Loops) (gates : List ℕ) (before : List Rails) (s : Swept) (k : ℕ) : Type 0 where
+  pub swept : IsSwept net care marks loops gates s (k + 1)
+  pub reads_before : (m : List Bool) (v : List Trit) → IsModel m s.cone.formula → ReadsOutside net loops gates s.cone.rails.items m v →
+      ReadsPlaces gates before m (sweeps net loops v k)
 
 -- the places of the cut wires among the first k of these gates
 pub record AreCutPlacesBelow (cut : ℕ → Bool) (gates : List ℕ) (k : ℕ) (places : List ℕ) : Type 0 where
@@ -90,17 +98,3 @@ TellsOpen net loops care gates rails k replies.Unknown = Unit {0}
 pub record IsAsked (net : Parts) (care : CareSet) (marks : List Bool) (loops : Loops) (gates : List ℕ) (s : Swept) (k : ℕ) (reply : Reply) : Type 0 where
   pub swept : IsSwept net care marks loops gates s k
   pub tells : TellsOpen net loops care gates s.cone.rails.items k reply
-
--- for each number of sweeps below m some care vector needs more in the loop of these gates
-abbrev pub NeedAtLeast : Parts → Loops → CareSet → List ℕ → ℕ → Type 0
-NeedAtLeast net loops care gates m = (a j : ℕ) → Contains gates a → j < m → NeedsMore net loops care a j
-
-abbrev pub TellsNeeded : Parts → Loops → CareSet → List ℕ → ℕ → Needed → Type 0
-TellsNeeded net loops care gates k needs.These = (a : ℕ) → Contains gates a → IsLeastCount net loops care a k
-TellsNeeded net loops care gates k (needs.AtLeast m) = (k < m) × NeedAtLeast net loops care gates m
-TellsNeeded net loops care gates k needs.Unknown = Unit {0}
-
--- so many sweeps, and how many are needed
-pub record IsCountedTo (net : Parts) (care : CareSet) (marks : List Bool) (loops : Loops) (gates : List ℕ) (s : Swept) (k : ℕ) (found : Needed) : Type 0 where
-  pub swept : IsSwept net care marks loops gates s k
-  pub tells : TellsNeeded net loops care gates k found

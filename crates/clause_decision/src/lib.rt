@@ -10,6 +10,7 @@
 mod care;
 mod changing;
 mod cones;
+mod counting;
 mod initial;
 mod leaving;
 mod models;
@@ -20,10 +21,9 @@ mod sweeping;
 mod unknown;
 
 pub use care::is_possible;
-pub use changing::sweeps_fed_known;
 pub use clause_queries::{First, Found};
+pub use counting::{sweeps_fed_known, sweeps_needed};
 pub use initial::least_outside;
 pub use leaving::least_leaving;
 pub use scope::Scope;
-pub use sweeping::sweeps_needed;
 pub use unknown::{each_unknown, first_unknown, least_unknown};

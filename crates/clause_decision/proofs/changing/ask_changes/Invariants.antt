@@ -7,4 +7,4 @@ use Rattle.clause_decision.proofs.changing.ask_changes.Given as goal
 abbrev pub invariant-loop-place : goal.invariant-loop-place
 invariant-loop-place l =
     (l.query ≡ problem l.swept.cone.formula)
-    × All (λ i. HasNoModelUnder (problem l.swept.cone.formula) (change_literals l.swept.cone.inside l.swept.cone.allowed l.swept.copies.items l.after i)) (take l.place-index l.places)
+    × All (λ i. HasNoModelUnder (problem l.swept.cone.formula) (change_literals l.swept.cone.inside l.swept.cone.allowed l.before l.swept.copies.items i)) (take l.place-index l.places)

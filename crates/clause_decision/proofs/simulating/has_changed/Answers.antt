@@ -1,4 +1,4 @@
-use Rattle.std.proofs.Common.{rules, ◌≡◌, ◌∙◌, ℕ, List, true, false, get_or, sym, ap, subst, true≢false}
+use Rattle.std.proofs.Common.{rules, ◌∙◌, ℕ, List, sym, subst, true≢false}
 use Rattle.std.proofs.lemmas.List.{take_all}
 use Rattle.std.specs.List.{Contains}
 use Rattle.loops.specs.Cuts.{is_cut}

@@ -1,12 +1,6 @@
-use Rattle.std.proofs.Common.{◌≡◌, ◌∙◌, ◌<◌, ◌+◌, ◌-◌, ℕ, List, length, drop, get_or, sym, ap, subst, arith}
-use Rattle.std.proofs.lemmas.List.{drop_more, drop_all, length-set}
-use Rattle.std.specs.List.{Contains}
+use Rattle.std.proofs.Common.{◌∙◌, get_or, arith}
+use Rattle.std.proofs.lemmas.List.{length-set}
 use Rattle.std.proofs.lemmas.List.Elements.{Contains-get_or}
-use Rattle.cyc_base.specs.declared.trit.Trit.{Trit}
-use Rattle.netlist.specs.Fixpoint.{fix}
-use Rattle.loops.specs.Blocks.{block_at}
-use Rattle.loops.specs.Cuts.{loops_by}
-use Rattle.loops.specs.Orders.{sweep_in}
 use Rattle.loops.proofs.Told.{gate_home}
 use Rattle.clause_decision.proofs.SimulationLemmas.{order-step}
 use Rattle.clause_decision.proofs.simulating.sweep.Goals as goal

@@ -1,21 +1,20 @@
-use Rattle.std.proofs.Common.{◌≡◌, ◌∙◌, ◌<◌, ◌+◌, inl, inr, ℕ, List, Bool, true, false, length, get_or, sym, ap, ap₂, subst, arith, length-append}
-use Rattle.std.specs.List.{All, Contains}
+use Rattle.std.proofs.Common.{◌≡◌, ◌∙◌, ◌+◌, inl, inr, ℕ, List, Bool, length, get_or, sym, ap, ap₂, subst, arith, length-append}
+use Rattle.std.specs.List.{Contains}
 use Rattle.std.proofs.lemmas.Bool.{cases_lt}
 use Rattle.std.proofs.lemmas.List.{length-map, get_or_default}
 use Rattle.std.proofs.lemmas.List.Elements.{Contains-get_or}
 use Rattle.cyc_base.specs.declared.trit.Trit.{Trit}
 use Rattle.cyc_base.specs.Values.{bit, bits}
 use Rattle.netlist.specs.Fixpoint.{fix, fix_gates}
-use Rattle.netlist.specs.Netlists.{count}
 use Rattle.loops.specs.declared.structure.Block.{Block}
 use Rattle.loops.specs.Blocks.{block_at, no_block}
 use Rattle.loops.specs.Cuts.{is_cut, loops_by}
 use Rattle.loops.specs.Orders.{sweep_in}
-use Rattle.loops.specs.Sweeps.{CutsAreFixed, first_gate, sweeps, value_in}
+use Rattle.loops.specs.Sweeps.{CutsAreFixed, first_gate}
 use Rattle.loops.proofs.Sweeps.{few_sweeps_are_enough, length-fix}
 use Rattle.loops.proofs.Told.{gate_home}
 use Rattle.clause_decision.specs.Simulations.{HasChanged}
-use Rattle.clause_decision.proofs.SimulationLemmas.{changed-lists, changed-needs, same-lists, still-fixed, sweep-same, swept-next, unknown-first}
+use Rattle.clause_decision.proofs.SimulationLemmas.{changed-lists, changed-needs, same-lists, still-fixed, sweep-same, swept-next}
 use Rattle.clause_decision.proofs.SweepingLemmas.{are-loops, cuts-number}
 use Rattle.clause_decision.proofs.simulating.sweeps_at.Goals as goal
 use Rattle.clause_decision.proofs.simulating.sweeps_at.Goals.{After-sweep}

@@ -1,7 +1,10 @@
-use Rattle.std.proofs.Common.{rules}
+use Rattle.std.proofs.Common.{rules, ◌≡◌, ◌∙◌, ◌+◌, length, ap, subst, sym}
+use Rattle.std.specs.List.{All}
 use Rattle.loops.specs.Blocks.{block_at}
 use Rattle.loops.specs.Cuts.{loops_by}
-use Rattle.ternary_clauses.specs.Sweeps.{SaysSweep}
+use Rattle.loops.specs.Sweeps.{sweeps}
+use Rattle.ternary_clauses.specs.Rails.{AreWithin}
+use Rattle.ternary_clauses.specs.Sweeps.{ReadsPlaces, SaysSweep}
 use Rattle.clause_decision.proofs.SweepingLemmas.{sweep-cone, sweep-reads}
 use Rattle.clause_decision.proofs.sweeping.sweep_on.Goals as goal
 
@@ -16,9 +19,14 @@ returns-clause-swept c care scope k proper scope_is marked swept =
     let old = c.args.swept.now.cone.formula in
     let new = c.add_sweep.new.formula in
     let said : SaysSweep net loops gates rails before old new after = search rules in
+    let before_is : c.replace.result.items ≡ before = ap (λ copies. copies.items) c.replace.ensures.value in
+    let after_is : c.replace.new.dest.items ≡ after = ap (λ copies. copies.items) c.replace.ensures.after in
     record {
-      cone = sweep-cone net scope.gates loops gates proper scope_is.closed scope_is.width marked care old new rails before after c.args.swept.now.cone.inside c.args.swept.now.cone.allowed k swept.cone swept.reads said;
-      size = said.size;
-      within = said.within;
-      reads = sweep-reads net loops gates old new rails before after k swept.reads said;
+      swept = record {
+        cone = sweep-cone net scope.gates loops gates proper scope_is.closed scope_is.width marked care old new rails before after c.args.swept.now.cone.inside c.args.swept.now.cone.allowed k swept.cone swept.reads said;
+        size = ap length after_is ∙ said.size;
+        within = subst (All (AreWithin new.variables)) (sym after_is) said.within;
+        reads = λ m v is out. subst (λ copies. ReadsPlaces gates copies m (sweeps net loops v (k + 1))) (sym after_is) (sweep-reads net loops gates old new rails before after k swept.reads said m v is out);
+      };
+      reads_before = λ m v is out. subst (λ copies. ReadsPlaces gates copies m (sweeps net loops v k)) (sym before_is) (swept.reads m v (said.grows.sound m is) out);
     }
