@@ -9,7 +9,10 @@ must be the same text. Of an accepted netlist `explain` must show each loop's ga
 they are defined. What `rewrite` writes of an accepted netlist must have no loop, and that netlist and the graph of
 `aiger` must have the same outputs and next states at each care vector. What `explain` shows of an undetermined wire
 must be a shortest cycle that leads to it, the way from there, and values that hold these gates open, all of them
-needed. A case that differs is printed with its files, and the status is then 1.
+needed. And `equal` must tell of the netlist and a version of it, with all in another order and perhaps one thing
+changed, what is found of them here: the first name that isn't matched, the refusal of one, the least vector of a
+difference with its output or latch, or that they are equal. A case that differs is printed with its files, and the
+status is then 1.
 
 CYC=PROGRAM in the environment compares that program in place of ./cyc.
 """
@@ -388,6 +391,82 @@ def why_explained_wrong(net, text):
     return ""
 
 
+# ---- two netlists
+
+def shuffled(count):
+    order = list(range(count))
+    random.shuffle(order)
+    return order
+
+
+def version_of(net):
+    """The same netlist with all in another order, and perhaps another gate, another name or another start of a latch."""
+    inputs, latches, gates = shuffled(net.inputs), shuffled(len(net.latches)), shuffled(len(net.gates))
+    order = [*inputs, *[net.inputs + k for k in latches], *[net.first + k for k in gates]]
+    place = {signal: number for number, signal in enumerate(order)}
+    parts = [([place[pin] for pin in net.gates[k][0]], net.gates[k][1]) for k in gates]
+    starts = [(place[net.latches[k][0]], net.latches[k][1]) for k in latches]
+    outputs = [place[net.outputs[k]] for k in shuffled(len(net.outputs))]
+    names = [net.names[signal] for signal in order]
+    change = random.choice(["none", "none", "gate", "gate", "name", "start", "output"])
+    if change == "gate":
+        gate = random.randrange(len(parts))
+        parts[gate] = (parts[gate][0], random_cover(len(parts[gate][0])))
+    elif change == "name":
+        names[random.randrange(len(names))] = "other"
+    elif change == "start" and starts:
+        latch = random.randrange(len(starts))
+        starts[latch] = (starts[latch][0], random.randint(0, 3))
+    elif change == "output" and outputs:
+        outputs.pop()
+    return Netlist(len(inputs), starts, parts, outputs, names)
+
+
+def unmatched(net, other):
+    """The first name that only one of the two has, as an input, a latch with this start, or an output."""
+    kinds = [
+        (net.names[: net.inputs], other.names[: other.inputs]),
+        ([(name, min(init, 2)) for name, (_, init) in zip(net.names[net.inputs :], net.latches)],
+         [(name, min(init, 2)) for name, (_, init) in zip(other.names[other.inputs :], other.latches)]),
+        ([net.names[signal] for signal in net.outputs], [other.names[signal] for signal in other.outputs]),
+    ]
+    for ours, theirs in kinds:
+        for name in [name for name in ours if name not in theirs] + [name for name in theirs if name not in ours]:
+            return name if isinstance(name, str) else name[0]
+    return None
+
+
+def model_for(net, other, model):
+    """A care model of one netlist for another that has the same columns by name."""
+    if model is None:
+        return None
+    return [other.names.index(net.names[column]) for column in model[0]], model[1]
+
+
+def compared(net, other, assume, invariant, verdict, care):
+    """What `equal` tells, where this is the verdict on the first with all gates observed."""
+    name = unmatched(net, other)
+    if name:
+        return f"unmatched {name}"
+    if verdict.startswith("refused"):
+        return f"first {verdict}"
+    second, _ = decide(other, model_for(net, other, assume), model_for(net, other, invariant), "all")
+    if second.startswith("refused"):
+        return f"second {second}"
+    at = [net.names.index(name) for name in other.names[: other.first]]
+    for vector in care:
+        ours, theirs = net.fixpoint(vector), other.fixpoint([vector[column] for column in at])
+        said = " at" + told(net.names, vector) if vector else ""
+        for signal in net.outputs:
+            if ours[signal] != theirs[other.names.index(net.names[signal])]:
+                return f"differ output={net.names[signal]}{said}"
+        for latch, (source, _) in enumerate(net.latches):
+            name = net.names[net.inputs + latch]
+            if ours[source] != theirs[other.latches[other.names.index(name) - other.inputs][0]]:
+                return f"differ latch={name}{said}"
+    return "equal"
+
+
 def cyc(folder, *words):
     ran = subprocess.run([PROGRAM, *words], cwd=folder, capture_output=True, text=True)
     return ran.stdout if ran.returncode == 0 else ran.stdout + ran.stderr
@@ -411,6 +490,18 @@ def why_decided_wrong(net, folder, words, want, care):
     return why_explained_wrong(net, shown) if want.startswith("refused undetermined") else ""
 
 
+def why_compared_wrong(net, folder, words, assume, invariant):
+    """What is wrong in what `equal` tells of a netlist and a version of it, if something is; and that version's text."""
+    other = version_of(net)
+    text = text_of(other)
+    with open(f"{folder}/r.blif", "w", encoding="utf-8") as it:
+        it.write(text)
+    verdict, care = decide(net, assume, invariant, "all")
+    want = compared(net, other, assume, invariant, verdict, care)
+    got = cyc(folder, "equal", "m.blif", "r.blif", *words).strip()
+    return ("" if got == want else f"equal says {got!r}, not {want!r}"), text
+
+
 def case(folder):
     """What differs in one random case, with what the netlist came to."""
     net = random_netlist()
@@ -418,16 +509,18 @@ def case(folder):
     invariant = random_model(net, range(net.inputs, net.first)) if net.latches and random.random() < 0.6 else None
     observe = random.choice(["all", "all", "outputs"])
     files = {"m.blif": text_of(net)}
-    words = ["m.blif", "--observe", observe]
+    on_care = []
     if assume or invariant:
         models = {"assume": assume, "invariant": invariant}
         files["c.blif"] = "".join(model_text(word, model) for word, model in models.items() if model)
-        words += ["--care", "c.blif"]
+        on_care = ["--care", "c.blif"]
     for file, text in files.items():
         with open(f"{folder}/{file}", "w", encoding="utf-8") as it:
             it.write(text)
     want, care = decide(net, assume, invariant, observe)
-    why = why_decided_wrong(net, folder, words, want, care)
+    why = why_decided_wrong(net, folder, ["m.blif", "--observe", observe, *on_care], want, care)
+    if not why:
+        why, files["r.blif"] = why_compared_wrong(net, folder, on_care, assume, invariant)
     return (f"{why}\n" + "".join(files.values()) if why else ""), " ".join(want.split()[: 1 + want.startswith("refused")])
 
 

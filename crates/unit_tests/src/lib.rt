@@ -4,6 +4,8 @@
 #![tactic(auto)]
 
 #[cfg(test)]
+mod clauses;
+#[cfg(test)]
 mod comparisons;
 #[cfg(test)]
 mod diagrams;
@@ -25,6 +27,8 @@ mod plays;
 mod rails;
 #[cfg(test)]
 mod refused;
+#[cfg(test)]
+mod settling;
 #[cfg(test)]
 mod simulators;
 #[cfg(test)]

@@ -2,3 +2,4 @@ mod CodeLemmas
 mod DumpLemmas
 mod LineLemmas
 mod PieceLemmas
+pub mod KindLemmas

@@ -1,0 +1,161 @@
+//! The clauses of a netlist, and what is asked of them.
+
+ghost use Rattle.std.specs.Prelude.{◌≡◌, ◌<◌, ◌*◌, length, All, IfOk, OnOk};
+ghost use Rattle.netlist.specs.Netlists.{IsNetlist, count};
+ghost use Rattle.ternary_clauses.specs.Formulas.{IsFormula};
+ghost use Rattle.ternary_clauses.specs.Rails.{AreWithin};
+
+use crate::texts::net_of;
+use clause_queries::{First, Found, Query, Reply};
+use netlist::Netlist;
+use std::alloc::{AllocError, Global};
+use std::test::Fail;
+use ternary_clauses::{
+    ClausesFault, Formula, MAX_VARIABLES, Rails, add_columns, add_netlist, negation, value_of,
+};
+
+/// A gate that is 1 where its input is, and unknown where it isn't.
+const SELF_LOOP: &[u8] = b".model m\n.inputs x\n.outputs a\n.names x a a\n1- 1\n-1 1\n.end\n";
+
+/// More conflicts than a search here has.
+const MANY: u64 = 1_000;
+
+/// The rails of a netlist's wires, of which nothing is said but that each gate has the value of its cover.
+#[tactic(auto, using(crate::proofs::ClauseLemmas::all_closed, crate::proofs::ClauseLemmas::none_never))]
+fn add_wires(
+    alloc: Global,
+    formula: &mut Formula,
+    net: &Netlist,
+) -> Result<Vec<Rails>, ClausesFault>
+    requires formula { IsFormula formula.old }
+    requires valid { IsNetlist net.now }
+    ensures formula { OnOk result (IsFormula formula.new) }
+    ensures size { IfOk result (λ rails. length rails.items ≡ count net.now) }
+    ensures within { IfOk result (λ rails. All (AreWithin formula.new.variables) rails.items) }
+{
+    let columns = add_columns(alloc, formula, net.inputs() + net.latches())?;
+    let wanted = vec![in alloc; true; net.gates() as usize]?;
+    let never = vec![in alloc; false; net.gates() as usize]?;
+    add_netlist(alloc, formula, net, &columns, &wanted, &never)
+}
+
+/// Whether the gate can be unknown, and only where its input is 0.
+fn tells_possible(
+    alloc: Global,
+    query: &mut Query,
+    x: u32,
+    unknown: u32,
+) -> Result<bool, AllocError>
+    requires x { x < 2 * query.old.variables }
+    requires unknown { unknown < 2 * query.old.variables }
+    ensures { query.new ≡ query.old }
+{
+    let somewhere = query.is_possible(alloc, &[unknown], MANY)?;
+    let at_one = query.is_possible(alloc, &[x, unknown], MANY)?;
+    Ok(somewhere == Some(true) && at_one == Some(false))
+}
+
+/// Whether the input is 0 in a model in which the gate is unknown.
+fn finds_model(alloc: Global, query: &mut Query, x: u32, unknown: u32) -> Result<bool, AllocError>
+    requires { unknown < 2 * query.old.variables }
+    ensures { query.new ≡ query.old }
+{
+    match query.ask(alloc, &[unknown], MANY)? {
+        Reply::Model(model) => Ok(!value_of(&model, x)),
+        Reply::NoModel | Reply::Unknown => Ok(false),
+    }
+}
+
+/// Whether the input is 0 in the least vector in which the gate is 1, as the gate may keep its value.
+fn finds_least(alloc: Global, query: &mut Query, x: u32, a: u32) -> Result<bool, AllocError>
+    requires x { x < 2 * query.old.variables }
+    requires a { a < 2 * query.old.variables }
+    ensures { query.new ≡ query.old }
+{
+    match query.least_vector(alloc, &[a, x], &[a], MANY)? {
+        Found::Least(vector) => Ok(vector.as_slice() == [true, false].as_slice()),
+        Found::NoVector | Found::Unknown => Ok(false),
+    }
+}
+
+/// Whether, where the input is 1, the gate can be 1 and can't be unknown.
+fn finds_each(
+    alloc: Global,
+    query: &mut Query,
+    x: u32,
+    a: u32,
+    unknown: u32,
+) -> Result<bool, AllocError>
+    requires x { x < 2 * query.old.variables }
+    requires a { a < 2 * query.old.variables }
+    requires unknown { unknown < 2 * query.old.variables }
+    ensures { query.new ≡ query.old }
+{
+    match query.possible_each(alloc, &[a, unknown], &[x], MANY)? {
+        Some(found) => Ok(found.as_slice() == [true, false].as_slice()),
+        None => Ok(false),
+    }
+}
+
+/// Whether the first literal that can be true is found, and that there is none.
+fn finds_first(alloc: Global, query: &mut Query, x: u32, unknown: u32) -> Result<bool, AllocError>
+    requires x { x < 2 * query.old.variables }
+    requires unknown { unknown < 2 * query.old.variables }
+    ensures { query.new ≡ query.old }
+{
+    let somewhere = query.first_possible(alloc, &[unknown], &[], MANY)?;
+    let at_one = query.first_possible(alloc, &[unknown], &[x], MANY)?;
+    Ok(matches!(somewhere, First::At(0)) && matches!(at_one, First::Nowhere))
+}
+
+/// Whether all questions are answered right.
+fn is_answered(
+    alloc: Global,
+    query: &mut Query,
+    x: u32,
+    a: u32,
+    unknown: u32,
+) -> Result<bool, AllocError>
+    requires x { x < 2 * query.old.variables }
+    requires a { a < 2 * query.old.variables }
+    requires unknown { unknown < 2 * query.old.variables }
+{
+    Ok(
+        tells_possible(alloc, query, x, unknown)?
+            && finds_model(alloc, query, x, unknown)?
+            && finds_least(alloc, query, x, a)?
+            && finds_each(alloc, query, x, a, unknown)?
+            && finds_first(alloc, query, x, unknown)?,
+    )
+}
+
+/// Whether the clauses of the self-loop answer right.
+fn is_right(alloc: Global, formula: &Formula, rails: &[Rails]) -> Result<bool, Fail> {
+    if rails.len() != 2 || formula.variables > MAX_VARIABLES {
+        return Ok(false);
+    }
+    let most = 2 * formula.variables;
+    let x = rails[0].one;
+    let a = rails[1].one;
+    let unknown = negation(rails[1].known);
+    if x >= most || a >= most || unknown >= most {
+        return Ok(false);
+    }
+    let mut query = Query::of(alloc, formula)?;
+    Ok(is_answered(alloc, &mut query, x, a, unknown)?)
+}
+
+fn is_encoded(alloc: Global, net: &Netlist) -> Result<bool, Fail>
+    requires { IsNetlist net.now }
+{
+    let mut formula = Formula::first(alloc)?;
+    let rails = add_wires(alloc, &mut formula, net)?;
+    is_right(alloc, &formula, &rails)
+}
+
+#[test]
+fn a_self_loop_is_unknown_at_zero(rt: HostRuntime) -> Result<(), Fail> {
+    let net = net_of(rt.alloc(), SELF_LOOP)?;
+    assert!(rt; is_encoded(rt.alloc(), &net)?);
+    Ok(())
+}

@@ -1,0 +1,50 @@
+//! Loops that are settled where they stand.
+
+ghost use Rattle.std.specs.Prelude.{◌≤◌};
+ghost use Rattle.loops.specs.Blocks.{AreBlocksOf};
+
+use crate::texts::net_of;
+use isolation::settles_alone;
+use loops::{Blocks, find_blocks};
+use netlist::Netlist;
+use std::alloc::{AllocError, Global};
+use std::test::Fail;
+
+/// Two units that share a loop: c says which of them comes first.
+const UNITS: &[u8] =
+    b".model m\n.inputs c x\n.outputs f g\n.names c x g f\n11- 1\n0-1 1\n.names c f x g\n11- 1\n0-1 1\n.end\n";
+
+/// A gate that reads itself.
+const SELF_LOOP: &[u8] = b".model m\n.inputs x\n.outputs a\n.names x a a\n1- 1\n-1 1\n.end\n";
+
+/// How many sweeps are enough for a netlist's one loop, within so many nodes.
+fn sweeps_on(
+    alloc: Global,
+    net: &Netlist,
+    blocks: &Blocks,
+    budget: u32,
+) -> Result<Option<u32>, AllocError>
+    requires blocks { AreBlocksOf net.now blocks.now }
+    requires budget { budget ≤ 1000 }
+{
+    if blocks.list.items().len() != 1 {
+        return Ok(None);
+    }
+    settles_alone(alloc, net, blocks, 0, budget)
+}
+
+fn sweeps_of(alloc: Global, text: &[u8], budget: u32) -> Result<Option<u32>, Fail>
+    requires { budget ≤ 1000 }
+{
+    let net = net_of(alloc, text)?;
+    let blocks = find_blocks(alloc, &net)?;
+    Ok(sweeps_on(alloc, &net, &blocks, budget)?)
+}
+
+#[test]
+fn a_loop_is_settled_alone(rt: HostRuntime) -> Result<(), Fail> {
+    assert_eq!(rt; sweeps_of(rt.alloc(), UNITS, 1_000)?, Some(1));
+    assert_eq!(rt; sweeps_of(rt.alloc(), UNITS, 1)?, None);
+    assert_eq!(rt; sweeps_of(rt.alloc(), SELF_LOOP, 1_000)?, None);
+    Ok(())
+}
