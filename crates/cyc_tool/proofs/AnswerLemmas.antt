@@ -44,7 +44,7 @@ same_outcome shelf files (bytes ∷ given) (Compares c) is gave = absurd gave
 
 -- a wire was explained by this
 abbrev ExplainedAt : Outcome → Plan → Type 0
-ExplainedAt end (Decides decision Explains) = IsExplained decision end
+ExplainedAt end (Decides decision (Explains form)) = IsExplained form decision end
 ExplainedAt end plan = ⊥
 
 -- what a call came to at what is left of its plan, where the files are told
@@ -68,7 +68,7 @@ ends_told shelf files nodes end (Decides decision purpose) well ends = by_decisi
   where
     by_decision : IsDecided decision purpose nodes end → EndsTold nodes files end (Decides decision purpose)
     by_decision (Verdict is made) = IsAnswer is
-    by_decision (Explained same explained) = IsWhy (subst (λ (p : Purpose). ExplainedAt end (Decides decision p)) (sym same) explained)
+    by_decision (Explained form same explained) = IsWhy (subst (λ (p : Purpose). ExplainedAt end (Decides decision p)) (sym same) explained)
     by_decision (Limit limited is) = IsAtLimit limited (ap (λ (o : Outcome). o.status) is)
 ends_told shelf files nodes end (Compares c) well ends = by_comparison ends
   where
@@ -123,8 +123,8 @@ told_as end same_end out err status whole same = let P : Outcome → Type 0 = λ
 
 -- an explanation that was told
 explains_wire : (out err : SinkCall) (end : Outcome) (status : ℕ) (rest : Plan) → IsTold end out err status → ExplainedAt end rest → ExplainsWire out err rest × (status ≡ 1)
-explains_wire out err end status (Decides decision Explains) whole explained = (
-  (explained.vector, (explained.wire, why_told decision out err end whole.out_text whole.err_text explained)),
+explains_wire out err end status (Decides decision (Explains form)) whole explained = (
+  (explained.vector, (explained.wire, why_told form decision out err end whole.out_text whole.err_text explained)),
   whole.is ∙ ap (λ (o : Outcome). o.status) explained.shown.is,
 )
 explains_wire out err end status (Decides decision Judges) whole explained = absurd explained

@@ -35,6 +35,7 @@ use Rattle.cyc_tool.specs.Plans.{Ending, Prints, PrintsBeside, Refuses, Declines
 use Rattle.cyc_tool.specs.Requests.{Request}
 use Rattle.cyc_tool.specs.Texts.{Outcome, no_memory}
 use Rattle.report.specs.Help.{help_text, topic_text, version_text}
+use Rattle.commands.specs.declared.form.Form.{Form}
 use Rattle.commands.specs.Words.{Command, Check, Rewrite, Aiger, Explain, Equal, Flat, Loops, Sim, Delays, Demo, Storm, Help, HelpOn, Version, command_of}
 
 abbrev status_of : Outcome → ℕ
@@ -83,7 +84,7 @@ shown_at shelf nodes end (Decides decision purpose) ends = by_decision ends.1
     by_decision (Verdict same made) =
         Done (verdict_of decision, verdict_is decision (verdict_of decision) ends.0 refl, ap status_of same)
         (ending_status (ending_of decision purpose (verdict_of decision)) end.status (ap status_of same))
-    by_decision (Explained same explained) =
+    by_decision (Explained form same explained) =
         let one : end.status ≡ 1 = ap status_of explained.shown.is in
         Done (
           Some (Undetermined explained.vector explained.wire),
@@ -279,7 +280,7 @@ help_told request shelf nodes out err status runs = by_command (command_of reque
     by_command (Some (Check file options)) comes = tt
     by_command (Some (Rewrite file options)) comes = tt
     by_command (Some (Aiger file options)) comes = tt
-    by_command (Some (Explain file options)) comes = tt
+    by_command (Some (Explain file options form)) comes = tt
     by_command (Some (Equal file second options)) comes = tt
     by_command (Some (Flat file)) comes = tt
     by_command (Some (Loops file form)) comes = tt
@@ -297,7 +298,7 @@ has_rewritten shelf nodes out end (Faulty name fault) done took ends = tt
 has_rewritten shelf nodes out end (Ends ending) done took ends = tt
 has_rewritten shelf nodes out end (Compares c) done took ends = tt
 has_rewritten shelf nodes out end (Decides decision Judges) done took ends = tt
-has_rewritten shelf nodes out end (Decides decision Explains) done took ends = tt
+has_rewritten shelf nodes out end (Decides decision (Explains form)) done took ends = tt
 has_rewritten shelf nodes out end (Decides decision WritesGraph) done took ends = tt
 has_rewritten shelf nodes out end (Decides decision (Demonstrates cells)) done took ends = tt
 has_rewritten shelf nodes out end (Decides decision (Storms rounds)) done took ends = tt
@@ -322,7 +323,7 @@ has_rewritten shelf nodes out end (Decides decision Rewrites) done took ends = b
 
     by_decision : IsDecided decision Rewrites nodes end → HasRewritten out (Decides decision Rewrites)
     by_decision (Verdict same made) = by_verdict (verdict_of decision) same made
-    by_decision (Explained same explained) = absurd (let one = ap status_of explained.shown.is in omega (arith, done, one))
+    by_decision (Explained form same explained) = absurd (let one = ap status_of explained.shown.is in omega (arith, done, one))
     by_decision (Limit limited same) = absurd (let six = ap status_of same in omega (arith, done, six))
 
 -- what was put on out for a graph
@@ -333,7 +334,7 @@ has_graph shelf nodes out end (Faulty name fault) done took ends = tt
 has_graph shelf nodes out end (Ends ending) done took ends = tt
 has_graph shelf nodes out end (Compares c) done took ends = tt
 has_graph shelf nodes out end (Decides decision Judges) done took ends = tt
-has_graph shelf nodes out end (Decides decision Explains) done took ends = tt
+has_graph shelf nodes out end (Decides decision (Explains form)) done took ends = tt
 has_graph shelf nodes out end (Decides decision Rewrites) done took ends = tt
 has_graph shelf nodes out end (Decides decision (Demonstrates cells)) done took ends = tt
 has_graph shelf nodes out end (Decides decision (Storms rounds)) done took ends = tt
@@ -370,7 +371,7 @@ has_graph shelf nodes out end (Decides decision WritesGraph) done took ends = by
 
     by_decision : IsDecided decision WritesGraph nodes end → HasGraph out (Decides decision WritesGraph)
     by_decision (Verdict same made) = by_verdict (verdict_of decision) same made
-    by_decision (Explained same explained) = absurd (let one = ap status_of explained.shown.is in omega (arith, done, one))
+    by_decision (Explained form same explained) = absurd (let one = ap status_of explained.shown.is in omega (arith, done, one))
     by_decision (Limit limited same) = absurd (let six = ap status_of same in omega (arith, done, six))
 
 -- what was put on out for a storm
@@ -381,7 +382,7 @@ has_stormed law shelf nodes out end (Faulty name fault) done took ends = tt
 has_stormed law shelf nodes out end (Ends ending) done took ends = tt
 has_stormed law shelf nodes out end (Compares c) done took ends = tt
 has_stormed law shelf nodes out end (Decides decision Judges) done took ends = tt
-has_stormed law shelf nodes out end (Decides decision Explains) done took ends = tt
+has_stormed law shelf nodes out end (Decides decision (Explains form)) done took ends = tt
 has_stormed law shelf nodes out end (Decides decision Rewrites) done took ends = tt
 has_stormed law shelf nodes out end (Decides decision WritesGraph) done took ends = tt
 has_stormed law shelf nodes out end (Decides decision (Demonstrates cells)) done took ends = tt
@@ -419,7 +420,7 @@ has_stormed law shelf nodes out end (Decides decision (Storms rounds)) done took
 
     by_decision : IsDecided decision (Storms rounds) nodes end → HasStormed out (Decides decision (Storms rounds))
     by_decision (Verdict same made) = by_verdict (verdict_of decision) refl same
-    by_decision (Explained same explained) = absurd (let one = ap status_of explained.shown.is in omega (arith, done, one))
+    by_decision (Explained form same explained) = absurd (let one = ap status_of explained.shown.is in omega (arith, done, one))
     by_decision (Limit limited same) = absurd (let six = ap status_of same in omega (arith, done, six))
 
 -- what was put on out for a comparison
@@ -497,9 +498,9 @@ same_some : {A : Type 0} {a b : A} → Some a ≡ Some b → a ≡ b
 same_some e = cc
 
 -- a wire that was told with why
-pub why_told : (decision : Decision) (out err : SinkCall) (end : Outcome) → Takes out end.out → Takes err end.err → (explained : IsExplained decision end)
-    → HasWhy decision explained.vector explained.wire out err
-why_told decision out err end took other explained = record {
+pub why_told : (form : Form) (decision : Decision) (out err : SinkCall) (end : Outcome) → Takes out end.out → Takes err end.err → (explained : IsExplained form decision end)
+    → HasWhy form decision explained.vector explained.wire out err
+why_told form decision out err end took other explained = record {
   refused = explained.refused;
   why = explained.shown.why;
   explains = explained.shown.explains;
@@ -519,16 +520,18 @@ has_explained shelf nodes out err end (Decides decision Rewrites) took other one
 has_explained shelf nodes out err end (Decides decision WritesGraph) took other one ends = tt
 has_explained shelf nodes out err end (Decides decision (Demonstrates cells)) took other one ends = tt
 has_explained shelf nodes out err end (Decides decision (Storms rounds)) took other one ends = tt
-has_explained shelf nodes out err end (Decides decision Explains) took other one ends = by_decision ends.1
+has_explained shelf nodes out err end (Decides decision (Explains form)) took other one ends = by_decision ends.1
   where
-    by_decision : IsDecided decision Explains nodes end → HasExplained out err (Decides decision Explains)
-    by_decision (Verdict same made) = λ vector wire refused. absurd (subst (IsMadeFor decision Explains) refused made)
-    by_decision (Explained same explained) = λ vector wire refused.
+    by_decision : IsDecided decision (Explains form) nodes end → HasExplained out err (Decides decision (Explains form))
+    by_decision (Verdict same made) = λ vector wire refused. absurd (subst (IsMadeFor decision (Explains form)) refused made)
+    by_decision (Explained other_form same explained) = λ vector wire refused.
         let is : Undetermined explained.vector explained.wire ≡ Undetermined vector wire = same_some (sym explained.refused ∙ refused) in
         let same_vector : explained.vector ≡ vector = cc in
         let same_wire : explained.wire ≡ wire = cc in
-        subst (λ (w : Sig). HasWhy decision vector w out err) same_wire
-        (subst (λ (v : List Bool). HasWhy decision v explained.wire out err) same_vector (why_told decision out err end took other explained))
+        let same_form : other_form ≡ form = cc in
+        subst (λ (f : Form). HasWhy f decision vector wire out err) same_form
+        (subst (λ (w : Sig). HasWhy other_form decision vector w out err) same_wire
+        (subst (λ (v : List Bool). HasWhy other_form decision v explained.wire out err) same_vector (why_told other_form decision out err end took other explained)))
     by_decision (Limit limited same) = absurd (let six = ap status_of same in omega (arith, one, six))
 
 pub explained_cause : (request : Request) (shelf : ShelfCall) (nodes : Arena) (out err : SinkCall) (status : ℕ) → Runs request shelf nodes out err status

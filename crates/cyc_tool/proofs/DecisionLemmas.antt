@@ -22,10 +22,10 @@ use Rattle.refusals.specs.declared.observe.Observe.{Observe}
 use Rattle.refusals.specs.declared.refusal.Refusal.{Refusal}
 use Rattle.refusals.specs.declared.refusal.Refusal.TheVariants.{Initial, EmptyCare, Undetermined, Leaves as LeavesCare}
 use Rattle.refusals.proofs.LawLemmas.{accepted_without_refusal, refusal_is_shown}
-use Rattle.accepted_loops.specs.Lines.{told_loops}
+use Rattle.commands.specs.declared.form.Form.{Form}
 use Rattle.report.specs.Verdicts.{accepted_text, ring_line}
 use Rattle.rewriting.specs.Graphs.{graph_of, most_ands, IsGraphing}
-use Rattle.rewriting.specs.Rewriting.{rewritten, rewritten_size, sweeps_needed, IsRewriting}
+use Rattle.rewriting.specs.Rewriting.{rewritten, rewritten_size, IsRewriting}
 use Rattle.unroll.specs.Laws.{KeepsInterface}
 use Rattle.unroll.specs.Unrolled.{IsUnrollFault}
 use Rattle.unroll.specs.declared.fault.UnrollFault.{UnrollFault}
@@ -42,7 +42,7 @@ use Rattle.verdict.specs.declared.verdict.Verdict.{Verdict}
 use Rattle.verdict.specs.declared.verdict.Verdict.TheVariants.{Accepted, Refused}
 use Rattle.cyc_tool.specs.Answer.{told, decided, verdict_of}
 use Rattle.cyc_tool.specs.Calls.{IsAccepted, IsDecided, IsMadeFor, IsToldAlone, Explained, Limit, Verdict as ByVerdict}
-use Rattle.cyc_tool.specs.Endings.{accepted_told, aiger_told, count_of_loops, refused_told, where_outputs}
+use Rattle.cyc_tool.specs.Endings.{accepted_told, aiger_told, count_of_loops, loops_explained, refused_told, where_outputs}
 use Rattle.cyc_tool.specs.Plans.{Decision, Prints, Declines, Outgrows, Purpose, Judges, Rewrites, WritesGraph, Explains, Demonstrates, Storms}
 use Rattle.cyc_tool.specs.Seen.{IsLimitOf, IsOutgrown, IsRefusalTold, IsShown, IsTellable, IsToldOf, IsToldOfGraph, outcome_of}
 use Rattle.cyc_tool.specs.Texts.{Outcome, limit_reached}
@@ -75,12 +75,12 @@ refused_decides net care limit what Rewrites nodes end refused valid is same = a
 refused_decides net care limit what WritesGraph nodes end refused valid is same = alone_decides net care limit what WritesGraph nodes end refused is tt same
 refused_decides net care limit what (Demonstrates cells) nodes end refused valid is same = alone_decides net care limit what (Demonstrates cells) nodes end refused is tt same
 refused_decides net care limit what (Storms rounds) nodes end refused valid is same = alone_decides net care limit what (Storms rounds) nodes end refused is tt same
-refused_decides net care limit what Explains nodes end (Initial q) valid is same = alone_decides net care limit what Explains nodes end (Initial q) is tt same
-refused_decides net care limit what Explains nodes end EmptyCare valid is same = alone_decides net care limit what Explains nodes end EmptyCare is tt same
-refused_decides net care limit what Explains nodes end (LeavesCare v q) valid is same = alone_decides net care limit what Explains nodes end (LeavesCare v q) is tt same
-refused_decides net care limit what Explains nodes end (Undetermined v wire) valid is same =
+refused_decides net care limit what (Explains form) nodes end (Initial q) valid is same = alone_decides net care limit what (Explains form) nodes end (Initial q) is tt same
+refused_decides net care limit what (Explains form) nodes end EmptyCare valid is same = alone_decides net care limit what (Explains form) nodes end EmptyCare is tt same
+refused_decides net care limit what (Explains form) nodes end (LeavesCare v q) valid is same = alone_decides net care limit what (Explains form) nodes end (LeavesCare v q) is tt same
+refused_decides net care limit what (Explains form) nodes end (Undetermined v wire) valid is same =
     let known = (refusal_is_shown net care what (Undetermined v wire) valid is).1 (λ e. cc) in
-    Explained refl (record { vector = v; wire = wire; refused = is; shown = same known.unknown })
+    Explained form refl (record { vector = v; wire = wire; refused = is; shown = same known.unknown })
 
 pub refusal_fits : (net : Parts) (care : CareSet) (what : Observe) (refused : Refusal) → IsNetlist net → refusal net care what ≡ Some refused
     → IsRefusalOf net refused
@@ -132,11 +132,11 @@ judged net care limit what loose given end same is loose_is = record {
   made = tt;
 }
 
-pub loops_told : (net : Parts) (care : CareSet) (limit : ℕ) (what : Observe) (loose : ℕ) (given : Option ℕ) (end : Outcome)
-    → end ≡ told (Prints (accepted_text net (count_of_loops net) given ++ told_loops net (sweeps_needed net care))) → given ≡ where_outputs what loose
-    → AreLoose net care loose → IsAccepted (decision_of net care limit what) Explains end
-loops_told net care limit what loose given end same is loose_is = record {
-  is = same ∙ ap (λ number. told (Prints (accepted_text net (count_of_loops net) number ++ told_loops net (sweeps_needed net care)))) (is ∙ ap (where_outputs what) loose_is);
+pub loops_told : (form : Form) (net : Parts) (care : CareSet) (limit : ℕ) (what : Observe) (loose : ℕ) (given : Option ℕ) (end : Outcome)
+    → end ≡ told (Prints (loops_explained form net care given)) → given ≡ where_outputs what loose
+    → AreLoose net care loose → IsAccepted (decision_of net care limit what) (Explains form) end
+loops_told form net care limit what loose given end same is loose_is = record {
+  is = same ∙ ap (λ number. told (Prints (loops_explained form net care number))) (is ∙ ap (where_outputs what) loose_is);
   made = tt;
 }
 

@@ -9,13 +9,13 @@ use Rattle.netlist.specs.declared.parts.Parts.{Parts}
 use Rattle.netlist.specs.Fixpoint.{fix}
 use Rattle.netlist.specs.Netlists.{signal, gate_sig}
 use Rattle.care_sets.specs.Care.{columns}
+use Rattle.commands.specs.declared.form.Form.{Form}
 use Rattle.explanations.specs.declared.explanation.Explanation.{Explanation}
 use Rattle.explanations.specs.Explained.{Explains, IsUnknown}
-use Rattle.refusals.specs.declared.refusal.Refusal.TheVariants.{Undetermined}
-use Rattle.report.specs.Explanations.{explanation_text, IsExplanationOf}
-use Rattle.report.specs.Verdicts.{refusal_text}
+use Rattle.report.specs.Explanations.{IsExplanationOf}
 use Rattle.cyc_tool.specs.Answer.{told}
 use Rattle.cyc_tool.specs.Calls.{IsWireExplained}
+use Rattle.cyc_tool.specs.Endings.{wire_explained}
 use Rattle.cyc_tool.specs.Plans.{Refuses}
 use Rattle.cyc_tool.specs.Texts.{Outcome}
 
@@ -27,9 +27,10 @@ fits_netlist net v gate why width h = record {
   needs = (let size = EachBelow-length why.needs (bits v) h.needs.of_vector in let same = length-map v bit in omega arith);
 }
 
-pub was_explained : (net : Parts) (v : List Bool) (wire : Sig) (why : Explanation) (end : Outcome) → Explains net v (wire.0 - (length net.inputs + length net.latches)) why
-    → end ≡ told (Refuses (refusal_text net (Undetermined v wire) ++ explanation_text net why)) → IsWireExplained net v wire end
-was_explained net v wire why end explains same = record { why = why; explains = explains; is = same }
+pub was_explained : (form : Form) (net : Parts) (v : List Bool) (wire : Sig) (why : Explanation) (end : Outcome)
+    → Explains net v (wire.0 - (length net.inputs + length net.latches)) why → end ≡ told (Refuses (wire_explained form net v wire why))
+    → IsWireExplained form net v wire end
+was_explained form net v wire why end explains same = record { why = why; explains = explains; is = same }
 
 pub number_of_gate : (net : Parts) (wire : Sig) (gate : ℕ) → length net.inputs + length net.latches + gate ≡ wire.0 → gate_sig net gate ≡ wire
 number_of_gate net wire gate e = ap signal e

@@ -9,6 +9,7 @@ use Rattle.refusals.specs.declared.refusal.Refusal.{Refusal}
 use Rattle.refusals.specs.declared.refusal.Refusal.TheVariants.{EmptyCare, Undetermined}
 use Rattle.verdict.specs.Enough.{IsEnough}
 use Rattle.blif_write.specs.Written.{written}
+use Rattle.commands.specs.declared.form.Form.{Form}
 use Rattle.commands.specs.Words.{Command, Help, HelpOn, Version, command_of}
 use Rattle.cyc_base.specs.declared.sig.Sig.{Sig}
 use Rattle.storm.specs.Laws.{PlaysAsStorm}
@@ -25,8 +26,7 @@ use Rattle.cyc_tool.specs.Answer.{told, decided, verdict_of, compared, answer}
 use Rattle.cyc_tool.specs.Calls.{ShelfCall, SinkCall, ReadFailed, WriteFailed, Takes, AreGiven, rest_of, IsLimited, IsTold}
 use Rattle.explanations.specs.declared.explanation.Explanation.{Explanation}
 use Rattle.explanations.specs.Explained.{Explains as ExplainsGate}
-use Rattle.report.specs.Verdicts.{refusal_text}
-use Rattle.report.specs.Explanations.{explanation_text}
+use Rattle.cyc_tool.specs.Endings.{wire_explained}
 use Rattle.cyc_tool.specs.Plans.{Decision, Rewrites, WritesGraph, Explains, Storms, Plan, Reads, Faulty, Ends, Decides, Compares, plan_of}
 use Rattle.cyc_tool.specs.Requests.{Request}
 use Rattle.cyc_tool.specs.Texts.{no_memory}
@@ -130,24 +130,25 @@ abbrev pub HasStormed : SinkCall → Plan → Type 0
 HasStormed out (Decides decision (Storms rounds)) = IsStormed decision rounds out
 HasStormed out plan = Unit {0}
 
--- A refused wire has its explanation on out, and nothing is on err: behind the refusal a cycle of unknown gates, with the
--- fewest of those that lead to the wire, the way from it, and values of the vector that hold all these gates open.
-pub record HasWhy (decision : Decision) (vector : List Bool) (wire : Sig) (out err : SinkCall) : Type 0 where
+-- A refused wire has its explanation on out, and nothing is on err: behind the refusal, or in a graph, a cycle of unknown
+-- gates, with the fewest of those that lead to the wire, the way from it, and values of the vector that hold all these gates
+-- open.
+pub record HasWhy (form : Form) (decision : Decision) (vector : List Bool) (wire : Sig) (out err : SinkCall) : Type 0 where
   pub refused : verdict_of decision ≡ Some (Undetermined vector wire)
   pub why : Explanation
   pub explains : ExplainsGate decision.net vector (wire.0 - (length decision.net.inputs + length decision.net.latches)) why
-  pub out_text : Takes out (refusal_text decision.net (Undetermined vector wire) ++ explanation_text decision.net why)
+  pub out_text : Takes out (wire_explained form decision.net vector wire why)
   pub err_text : Takes err []
 
 -- What was put on out to explain, where the status is 1.
 abbrev pub HasExplained : SinkCall → SinkCall → Plan → Type 0
-HasExplained out err (Decides decision Explains) =
-    (vector : List Bool) (wire : Sig) → verdict_of decision ≡ Some (Undetermined vector wire) → HasWhy decision vector wire out err
+HasExplained out err (Decides decision (Explains form)) =
+    (vector : List Bool) (wire : Sig) → verdict_of decision ≡ Some (Undetermined vector wire) → HasWhy form decision vector wire out err
 HasExplained out err plan = Unit {0}
 
 -- A wire was explained.
 abbrev pub ExplainsWire : SinkCall → SinkCall → Plan → Type 0
-ExplainsWire out err (Decides decision Explains) = (vector : List Bool) × ((wire : Sig) × HasWhy decision vector wire out err)
+ExplainsWire out err (Decides decision (Explains form)) = (vector : List Bool) × ((wire : Sig) × HasWhy form decision vector wire out err)
 ExplainsWire out err plan = ⊥
 
 -- No read failed of a file that is there.

@@ -1,8 +1,17 @@
 -- What a call ends with that makes a decision, by its verdict: nothing, or what refuses the netlist. And what one ends
 -- with that compares two netlists.
-use Rattle.std.specs.Prelude.{ℕ, ◌+◌, ◌++◌, Bool, true, false, List, length, nat_le, if◌then◌else◌, Some, None}
+use Rattle.std.specs.Prelude.{ℕ, ◌+◌, ◌++◌, Bool, true, false, List, [], length, nat_le, if◌then◌else◌, Some, None}
 use Rattle.std.specs.declared.option.Option.{Option}
 use Rattle.cyc_base.specs.declared.limits.TheConstants.{MAX_REWRITTEN_ITEMS}
+use Rattle.cyc_base.specs.declared.sig.Sig.{Sig}
+use Rattle.cyc_base.specs.Values.{bits}
+use Rattle.care_sets.specs.Care.{CareSet}
+use Rattle.commands.specs.declared.form.Form.{Form}
+use Rattle.commands.specs.declared.form.Form.TheVariants.{Lines, Dot}
+use Rattle.dot_text.specs.Dot.{labelled_graph}
+use Rattle.dot_text.specs.ExplanationGraphs.{explanation_graph}
+use Rattle.explanations.specs.declared.explanation.Explanation.{Explanation}
+use Rattle.netlist.specs.Fixpoint.{fix}
 use Rattle.netlist.specs.declared.parts.Parts.{Parts}
 use Rattle.loops.specs.Listed.{first_gates}
 use Rattle.blif_write.specs.Written.{written}
@@ -13,7 +22,9 @@ use Rattle.refusals.specs.declared.observe.Observe.{Observe}
 use Rattle.refusals.specs.declared.observe.Observe.TheVariants.{All, Outputs}
 use Rattle.refusals.specs.declared.refusal.Refusal.{Refusal}
 use Rattle.refusals.specs.declared.refusal.Refusal.TheVariants.{Undetermined}
+use Rattle.accepted_loops.specs.Graphs.{told_graph}
 use Rattle.accepted_loops.specs.Lines.{told_loops}
+use Rattle.report.specs.Explanations.{explanation_text}
 use Rattle.report.specs.Verdicts.{accepted_text, refusal_text, ring_line}
 use Rattle.storm.specs.Storms.{most_events}
 use Rattle.rewriting.specs.Graphs.{graph_of, most_ands}
@@ -63,17 +74,27 @@ abbrev pub storm_or_refusal : Parts → ℕ → Refusal → Ending
 storm_or_refusal net rounds (Undetermined v wire) = storm_told net rounds v
 storm_or_refusal net rounds refused = Declines (refusal_text net refused)
 
--- the line of an accepted netlist, and behind it those of its loops, with the sweeps that they need on care
-abbrev pub loops_explained : Decision → List ℕ
-loops_explained decision =
-    accepted_text decision.net (count_of_loops decision.net) (loose_told decision)
-    ++ told_loops decision.net (sweeps_needed decision.net decision.care)
+-- The line of an accepted netlist, and behind it those of its loops, with the sweeps that they need on care. As a graph
+-- the first is the label.
+abbrev pub loops_explained : Form → Parts → CareSet → Option ℕ → List ℕ
+loops_explained Lines net care loose = accepted_text net (count_of_loops net) loose ++ told_loops net (sweeps_needed net care)
+loops_explained Dot net care loose = told_graph net (accepted_text net (count_of_loops net) loose) (sweeps_needed net care)
+
+-- a refusal without more, or a graph that has it as its label
+abbrev pub refusal_shown : Form → Parts → Refusal → List ℕ
+refusal_shown Lines net refused = refusal_text net refused
+refusal_shown Dot net refused = labelled_graph (refusal_text net refused) []
+
+-- a wire that is undetermined at a vector, with why
+abbrev pub wire_explained : Form → Parts → List Bool → Sig → Explanation → List ℕ
+wire_explained Lines net v wire why = refusal_text net (Undetermined v wire) ++ explanation_text net why
+wire_explained Dot net v wire why = explanation_graph net (refusal_text net (Undetermined v wire)) (fix net (bits v)) why
 
 abbrev pub accepted_told : Decision → Purpose → Ending
 accepted_told decision Judges = Prints (accepted_text decision.net (count_of_loops decision.net) (loose_told decision))
 accepted_told decision Rewrites = rewritten_told decision
 accepted_told decision WritesGraph = graph_told decision
-accepted_told decision Explains = Prints (loops_explained decision)
+accepted_told decision (Explains form) = Prints (loops_explained form decision.net decision.care (loose_told decision))
 accepted_told decision (Demonstrates cells) =
     Prints (ring_line cells decision.net (count_of_loops decision.net) (length (rewritten decision.net decision.care).gates))
 accepted_told decision (Storms rounds) = Declines (accepted_text decision.net (count_of_loops decision.net) (loose_told decision))
@@ -82,7 +103,7 @@ abbrev pub refused_told : Parts → Purpose → Refusal → Ending
 refused_told net Judges refused = Refuses (refusal_text net refused)
 refused_told net Rewrites refused = Declines (refusal_text net refused)
 refused_told net WritesGraph refused = Declines (refusal_text net refused)
-refused_told net Explains refused = Refuses (refusal_text net refused)
+refused_told net (Explains form) refused = Refuses (refusal_shown form net refused)
 refused_told net (Demonstrates cells) refused = Refuses (refusal_text net refused)
 refused_told net (Storms rounds) refused = storm_or_refusal net rounds refused
 

@@ -64,8 +64,8 @@ pub data Purpose : Type 0 where
   Rewrites : Purpose
   -- to write its and-inverter graph, without loops
   WritesGraph : Purpose
-  -- to show why a refused wire is undetermined
-  Explains : Purpose
+  -- to show why a refused wire is undetermined, as lines or as a graph
+  Explains : Form → Purpose
   -- to tell that the ring arbiter of so many cells is accepted
   Demonstrates : ℕ → Purpose
   -- to write a schedule of so many rounds on which a refused wire never rests
@@ -207,7 +207,7 @@ abbrev pub plan_of : Shows → Command → Plan
 plan_of shows (Check file options) = deciding file options Judges
 plan_of shows (Rewrite file options) = deciding file options Rewrites
 plan_of shows (Aiger file options) = deciding file options WritesGraph
-plan_of shows (Explain file options) = deciding file options Explains
+plan_of shows (Explain file options form) = deciding file options (Explains form)
 plan_of shows (Equal file second options) = comparing file second options
 plan_of shows (Flat file) = flattening file
 plan_of shows (Loops file form) = finding_loops form file

@@ -9,6 +9,7 @@ use Rattle.aig_core.specs.declared.fault.AigFault.TheVariants.{TooLarge as ManyA
 use Rattle.aiger_write.specs.Text.{aiger_text}
 use Rattle.blif_write.specs.Written.{written}
 use Rattle.commands.specs.Seen.{cells_seen, rounds_seen}
+use Rattle.commands.specs.declared.form.Form.{Form}
 use Rattle.loops.specs.declared.structure.Blocks.{Blocks}
 use Rattle.refusals.specs.Refusals.{IsRefusalOf}
 use Rattle.refusals.specs.declared.refusal.Refusal.{Refusal}
@@ -43,7 +44,7 @@ abbrev pub purpose_seen : Purpose → plans.Purpose
 purpose_seen Judge = plans.Judges
 purpose_seen Rewrite = plans.Rewrites
 purpose_seen Aiger = plans.WritesGraph
-purpose_seen Explain = plans.Explains
+purpose_seen (Explain form) = plans.Explains form
 purpose_seen (Demonstrate cells) = plans.Demonstrates (cells_seen cells)
 purpose_seen (Storm rounds) = plans.Storms (rounds_seen rounds)
 
@@ -68,13 +69,13 @@ IsToldOfGraph other (Ok graph) told = outcome_of told ≡ done (plans.Prints (ai
 IsToldOfGraph other (Err fault) told = IsOverfull fault told
 
 -- what is told of a refusal to explain it: a wire that is undetermined at the vector is told with why
-abbrev pub IsRefusalExplained : Parts → Refusal → texts.Outcome → Type 0
-IsRefusalExplained net (Undetermined v wire) end = wire_of (fix net (bits v)) wire ≡ X → IsWireExplained net v wire end
-IsRefusalExplained net refused end = end ≡ done (refused_told net plans.Explains refused)
+abbrev pub IsRefusalExplained : Form → Parts → Refusal → texts.Outcome → Type 0
+IsRefusalExplained form net (Undetermined v wire) end = wire_of (fix net (bits v)) wire ≡ X → IsWireExplained form net v wire end
+IsRefusalExplained form net refused end = end ≡ done (refused_told net (plans.Explains form) refused)
 
 -- what is told of a refusal for a purpose
 abbrev pub IsRefusalTold : Parts → plans.Purpose → Refusal → texts.Outcome → Type 0
-IsRefusalTold net plans.Explains refused end = IsRefusalExplained net refused end
+IsRefusalTold net (plans.Explains form) refused end = IsRefusalExplained form net refused end
 IsRefusalTold net purpose refused end = end ≡ done (refused_told net purpose refused)
 
 -- what is told of a decision without a verdict: the limit that it met

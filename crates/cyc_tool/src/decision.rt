@@ -29,18 +29,18 @@ use crate::outcome::Outcome;
 use crate::status;
 use crate::storms::tell_storm;
 use crate::texts::{
-    on_err, on_out, tell_aiger, tell_declined, tell_limit, tell_netlist, tell_refused,
-    tell_too_large,
+    accepted_line, on_err, on_out, tell_aiger, tell_declined, tell_limit, tell_netlist,
+    tell_refused, tell_too_large,
 };
 use bdd_ops::Diagrams;
 use care_sets::Care;
-use commands::{Cells, Rounds};
+use commands::{Cells, Form, Rounds};
 use cyc_io::TextSink;
 use fixpoint::SweepCounts;
 use loops::{Blocks, Cut, count_loops, find_blocks, find_cut};
 use netlist::Netlist;
 use refusals::{Observe, Refusal};
-use report::{put_accepted, put_ring};
+use report::put_ring;
 use rewriting::{AigFault, Built, graph, rewrite, rewritten_gates};
 use std::alloc::{AllocError, Global};
 use unroll::UnrollFault;
@@ -59,7 +59,7 @@ pub(crate) enum Purpose {
     // To write its and-inverter graph, without loops.
     Aiger,
     // To show why a refused wire is undetermined.
-    Explain,
+    Explain(Form),
     // To tell that the ring arbiter of so many cells is accepted.
     Demonstrate(Cells),
     // To write a schedule of so many rounds on which a refused wire never rests.
@@ -73,23 +73,6 @@ fn loose_told(observe: Observe, loose: u32) -> Option<u32>
     match observe {
         Observe::All => None,
         Observe::Outputs => Some(loose),
-    }
-}
-
-// The line of an accepted netlist.
-fn accepted_line(
-    alloc: Global,
-    net: &Netlist,
-    blocks: &Blocks,
-    loose: Option<u32>,
-) -> Result<Vec<u8>, AllocError>
-    requires { AreBlocksOf net.now blocks.now }
-    ensures { IfOk result (λ text. text.items ≡ accepted_text net.now (count_of_loops net.now) loose) }
-{
-    let mut sink = TextSink::new(alloc);
-    match put_accepted(net, count_loops(net, blocks), loose, &mut sink) {
-        Ok(()) => Ok(sink.into_vec()),
-        Err(_) => Err(AllocError),
     }
 }
 
@@ -298,8 +281,9 @@ fn tell_acceptance(
         Purpose::Judge => tell_accepted(alloc, net, blocks, loose_told(observe, loose)),
         Purpose::Rewrite => tell_rewritten(alloc, net, blocks, cut, sweeps),
         Purpose::Aiger => tell_graphed(alloc, net, blocks, cut, sweeps),
-        Purpose::Explain => {
-            tell_loops_explained(alloc, net, blocks, cut, sweeps, loose_told(observe, loose))
+        Purpose::Explain(form) => {
+            let number = loose_told(observe, loose);
+            tell_loops_explained(alloc, net, blocks, cut, sweeps, number, form)
         }
         Purpose::Demonstrate(cells) => {
             let rewritten = count_rewritten(alloc, net, blocks, cut, sweeps)?;
@@ -313,10 +297,14 @@ fn tell_acceptance(
 fn tell_refusal(
     alloc: Global,
     net: &Netlist,
+    blocks: &Blocks,
+    cut: &Cut,
     purpose: Purpose,
     refusal: &Refusal,
 ) -> Result<Outcome, AllocError>
     requires valid { IsNetlist net.now }
+    requires blocks { AreBlocksOf net.now blocks.now }
+    requires cut { IsCutOf net.now cut.now }
     requires fits { IsRefusalOf net.now refusal.now }
     requires shown { IsShown net.now refusal.now }
     ensures { IfOk result (λ told. IsRefusalTold net.now (purpose_seen purpose) refusal.now (outcome_of told)) }
@@ -324,7 +312,7 @@ fn tell_refusal(
     match purpose {
         Purpose::Judge | Purpose::Demonstrate(_) => tell_refused(alloc, net, refusal),
         Purpose::Rewrite | Purpose::Aiger => tell_declined(alloc, net, refusal),
-        Purpose::Explain => tell_explained(alloc, net, refusal),
+        Purpose::Explain(form) => tell_explained(alloc, net, blocks, cut, refusal, form),
         Purpose::Storm(rounds) => tell_storm(alloc, net, refusal, rounds),
     }
 }
@@ -351,7 +339,7 @@ fn tell_verdict(
         Verdict::Accepted { sweeps, loose } => {
             tell_acceptance(alloc, net, blocks, cut, observe, purpose, sweeps, *loose)
         }
-        Verdict::Refused(refusal) => tell_refusal(alloc, net, purpose, refusal),
+        Verdict::Refused(refusal) => tell_refusal(alloc, net, blocks, cut, purpose, refusal),
     }
 }
 

@@ -4,6 +4,7 @@ ghost use Rattle.cyc_io.specs.Text.{text_bytes};
 ghost use Rattle.contents.specs.Seen.{fault_seen};
 ghost use Rattle.delay_core.specs.declared.plan.TickEnd.{TickEnd as TickEnded};
 ghost use Rattle.cyc_tool.specs.Answer.{told as done};
+ghost use Rattle.cyc_tool.specs.Endings.{count_of_loops};
 ghost use Rattle.cyc_tool.specs.Plans.{Declines, Outgrows, Prints, Refuses, loops_shown, probed_told};
 ghost use Rattle.cyc_tool.specs.Plays.{delays_text};
 ghost use Rattle.cyc_tool.specs.Seen.{outcome_of};
@@ -16,7 +17,7 @@ ghost use Rattle.loops.specs.Blocks.{AreBlocksOf};
 ghost use Rattle.loops.specs.Cuts.{IsCutOf};
 ghost use Rattle.refusals.specs.Refusals.{IsRefusalOf};
 ghost use Rattle.report.specs.Help.{help_text, topic_text, version_text};
-ghost use Rattle.report.specs.Verdicts.{refusal_text};
+ghost use Rattle.report.specs.Verdicts.{accepted_text, refusal_text};
 ghost use Rattle.sched_text.specs.Vectors.{HaveWidth};
 
 use crate::outcome::Outcome;
@@ -31,13 +32,13 @@ use cyc_base::{Name, Trits};
 use cyc_io::{Failed, TextSink};
 use delay_core::TickEnd;
 use dot_text::put_loops_graph;
-use loops::{Blocks, Cut, find_blocks, find_cut};
+use loops::{Blocks, Cut, count_loops, find_blocks, find_cut};
 use netlist::Netlist;
 use probes::Kind;
 use refusals::Refusal;
 use report::{
-    USAGE_TEXT, put_fault, put_help, put_limit, put_loops, put_read_failed, put_refusal,
-    put_too_large, put_topic, put_version,
+    USAGE_TEXT, put_accepted, put_fault, put_help, put_limit, put_loops, put_read_failed,
+    put_refusal, put_too_large, put_topic, put_version,
 };
 use rewriting::Built;
 use std::alloc::{AllocError, Global};
@@ -148,8 +149,29 @@ pub(crate) fn tell_too_large(alloc: Global, size: u64) -> Result<Outcome, AllocE
     }
 }
 
+// The line of an accepted netlist.
+pub(crate) fn accepted_line(
+    alloc: Global,
+    net: &Netlist,
+    blocks: &Blocks,
+    loose: Option<u32>,
+) -> Result<Vec<u8>, AllocError>
+    requires { AreBlocksOf net.now blocks.now }
+    ensures { IfOk result (λ text. text.items ≡ accepted_text net.now (count_of_loops net.now) loose) }
+{
+    let mut sink = TextSink::new(alloc);
+    match put_accepted(net, count_loops(net, blocks), loose, &mut sink) {
+        Ok(()) => Ok(sink.into_vec()),
+        Err(_) => Err(AllocError),
+    }
+}
+
 // The text of a refusal.
-fn refusal_of(alloc: Global, net: &Netlist, refusal: &Refusal) -> Result<Vec<u8>, AllocError>
+pub(crate) fn refusal_of(
+    alloc: Global,
+    net: &Netlist,
+    refusal: &Refusal,
+) -> Result<Vec<u8>, AllocError>
     requires { IsRefusalOf net.now refusal.now }
     ensures { IfOk result (λ text. text.items ≡ refusal_text net.now refusal.now) }
 {

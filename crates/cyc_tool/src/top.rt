@@ -315,8 +315,8 @@ fn carry_out<S: Shelf>(
         Command::Aiger(netlist, options) => {
             decide_file(alloc, shelf, netlist, options, Purpose::Aiger, d)
         }
-        Command::Explain(netlist, options) => {
-            decide_file(alloc, shelf, netlist, options, Purpose::Explain, d)
+        Command::Explain(netlist, options, form) => {
+            decide_file(alloc, shelf, netlist, options, Purpose::Explain(form), d)
         }
         Command::Equal(netlist, second, options) => {
             compare_files(alloc, shelf, netlist, second, options, d)

@@ -26,7 +26,7 @@ pub returns-in-Explain : goal.returns-in-Explain
 returns-in-Explain c =
     IfOk-weaker c.tell_loops_explained.result _ _ (λ told is care acceptance limit.
     rw c.in-Explain.is
-    (loops_told c.args.net.now care limit c.args.observe c.args.loose _ (outcome_of told) (is care acceptance.sweeps) c.loose_told-in-Explain.ensures acceptance.loose_is))
+    (loops_told c.in-Explain.form c.args.net.now care limit c.args.observe c.args.loose _ (outcome_of told) (is care acceptance.sweeps) c.loose_told-number.ensures acceptance.loose_is))
     c.tell_loops_explained.ensures
 
 pub returns-in_ok-rewritten-in-Demonstrate : goal.returns-in_ok-rewritten-in-Demonstrate

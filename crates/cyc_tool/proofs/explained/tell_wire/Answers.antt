@@ -15,8 +15,13 @@ explain-requires-clause-gate c =
     let within = c.requires.at.gate.within in
     omega arith
 
-pub tell_explanation-requires-clause-why : goal.tell_explanation-requires-clause-why
-tell_explanation-requires-clause-why c =
+pub tell_why-requires-clause-some : goal.tell_why-requires-clause-some
+tell_why-requires-clause-some c =
+    let explains : Explains c.args.net.now c.args.vector.now _ c.in-Some.why = rw c.in-Some.is at c.in_ok-found.ensures.found in
+    explains.cycle.some
+
+pub tell_why-requires-clause-why : goal.tell_why-requires-clause-why
+tell_why-requires-clause-why c =
     let explains : Explains c.args.net.now c.args.vector.now _ c.in-Some.why = rw c.in-Some.is at c.in_ok-found.ensures.found in
     fits_netlist c.args.net.now c.args.vector.now _ c.in-Some.why c.requires.at.width explains
 
@@ -27,9 +32,9 @@ returns-in-Some c =
     let number : c.args.wire.0 - (c.inputs.result + c.latches.result) ≡ c.args.wire.0 - (length c.args.net.now.inputs + length c.args.net.now.latches) = omega arith in
     let explains : Explains c.args.net.now c.args.vector.now (c.args.wire.0 - (length c.args.net.now.inputs + length c.args.net.now.latches)) c.in-Some.why =
     subst (λ (g : ℕ). Explains c.args.net.now c.args.vector.now g c.in-Some.why) number (rw c.in-Some.is at c.in_ok-found.ensures.found) in
-    IfOk-weaker c.tell_explanation.result _ _ (λ told same unknown.
-    was_explained c.args.net.now c.args.vector.now c.args.wire c.in-Some.why _ explains (rw c.requires.refusal at same))
-    c.tell_explanation.ensures
+    IfOk-weaker c.tell_why.result _ _ (λ told same unknown.
+    was_explained c.args.form c.args.net.now c.args.vector.now c.args.wire c.in-Some.why _ explains same)
+    c.tell_why.ensures
 
 pub returns : goal.returns
 returns c =
@@ -38,6 +43,6 @@ returns c =
     let behind = c.requires.at.gate.behind in
     let known = rw c.in-None.is at c.in_ok-found.ensures.none in
     let is : gate_sig c.args.net.now (c.args.wire.0 - (c.inputs.result + c.latches.result)) ≡ c.args.wire = number_of_gate c.args.net.now c.args.wire _ (omega arith) in
-    IfOk-weaker c.tell_refused.result _ _ (λ told same unknown.
+    IfOk-weaker c.tell_alone.result _ _ (λ told same unknown.
     absurd (known (ap (wire (fix c.args.net.now (bits c.args.vector.now))) is ∙ unknown)))
-    c.tell_refused.ensures
+    c.tell_alone.ensures

@@ -1,0 +1,13 @@
+use Rattle.std.proofs.Common.{ap, ◌∙◌}
+use Rattle.std.proofs.lemmas.Result.{IfOk-weaker}
+use Rattle.accepted_loops.specs.Graphs.{told_graph}
+use Rattle.rewriting.specs.Rewriting.{sweeps_needed}
+use Rattle.cyc_tool.specs.Answer.{told as done}
+use Rattle.cyc_tool.specs.Plans.{Prints}
+use Rattle.cyc_tool.proofs.explained.draw_loops.Goals as goal
+
+pub returns : goal.returns
+returns c =
+    IfOk-weaker c.draw_labelled.result _ _ (λ told is care on_care.
+    is care on_care ∙ ap (λ label. done (Prints (told_graph c.args.net.now label (sweeps_needed c.args.net.now care)))) (c.deref.ensures.value ∙ c.in_ok-label.ensures))
+    c.draw_labelled.ensures
