@@ -8,6 +8,6 @@ pub returns : goal.returns
 returns c = λ care on_care.
     c.on_out.ensures
     ∙ ap (λ text. on_out 0 text)
-      (c.into_vec.ensures
-      ∙ c.in_ok-tell_loops_graph.ensures.on_care care on_care
-      ∙ ap (λ text. text ++ told_graph c.args.net.now c.args.label.now (sweeps_needed c.args.net.now care)) c.new-sink.ensures.empty)
+    (c.into_vec.ensures
+    ∙ c.in_ok-tell_loops_graph.ensures.on_care care on_care
+    ∙ ap (λ text. text ++ told_graph c.args.net.now c.args.label.now (sweeps_needed c.args.net.now care)) c.new-sink.ensures.empty)
