@@ -218,17 +218,6 @@ def late_pins_delayed(n):
     return Files("delays", "net.blif", "net.vectors", "net.schedule", net_blif=late(n), net_vectors="1\n", net_schedule=f"schedule 1\nlatches\ngates {'0' * (n + 1)}\ntick\n")
 
 
-@shape(1000)
-def ticks_without_rounds(n):
-    """n inverters in a line, over n ticks without a round."""
-    chain = [gate(NOT, "g0", "x"), *[gate(NOT, f"g{k}", f"g{k - 1}") for k in range(1, n)]]
-    return Files(
-        "delays", "net.blif", "net.vectors", "net.schedule",
-        net_blif=model("chain", ["x"], [f"g{n - 1}"], chain),
-        net_vectors="1\n" * n, net_schedule=f"schedule 1\nlatches\ngates {'0' * n}\n" + "tick\n" * n,
-    )
-
-
 @shape(4)
 def doubling(n):
     """Models that double n times over a gate of 200 pins."""
@@ -272,6 +261,17 @@ def long_names_traced(n):
 
 
 # From here on linear.
+
+
+@shape(1000)
+def ticks_without_rounds(n):
+    """n inverters in a line, over n ticks without a round."""
+    chain = [gate(NOT, "g0", "x"), *[gate(NOT, f"g{k}", f"g{k - 1}") for k in range(1, n)]]
+    return Files(
+        "delays", "net.blif", "net.vectors", "net.schedule",
+        net_blif=model("chain", ["x"], [f"g{n - 1}"], chain),
+        net_vectors="1\n" * n, net_schedule=f"schedule 1\nlatches\ngates {'0' * n}\n" + "tick\n" * n,
+    )
 
 
 @shape(50000)

@@ -1,7 +1,7 @@
 //! Plays of a netlist whose gates are computed one at a time: the moments that events, rounds and ticks make, read back
 //! at any age.
 //!
-//! It stands on `schedules`, whose histories and fair schedules it plays, and on `ternary_run`, for the fixpoint at
+//! It stands on `schedules`, whose histories and fair schedules it plays, and on `simulation`, for the fixpoint at
 //! which a tick is settled.
 #![tactic(auto)]
 

@@ -7,7 +7,7 @@ ghost use Rattle.netlist.specs.Netlists.{count};
 ghost use Rattle.netlist.specs.Fixpoint.{fix};
 ghost use Rattle.schedules.specs.Moments.{newest};
 ghost use Rattle.schedules.specs.Runs.{outputs_at, ticks_of};
-ghost use Rattle.ternary_run.specs.Reading.{IsFanoutOf};
+ghost use Rattle.simulation.specs.Simulators.{IsSimulatorOf};
 ghost use Rattle.delay_core.specs.EventLists.{planned_at};
 ghost use Rattle.delay_core.specs.Plays.{PlayState, most_rounds, after_event, no_events, next_tick};
 ghost use Rattle.delay_core.specs.Plans.{planned_fault, events_fault, after_planned, round_fault, after_plan, rounds_fault, after_plans, first_opened, schedule_fault, run_of, IsPlayedFairly, TicksArePlayed, given_at, agrees as agree, stands_at_fix, end_at, end_of, SettledIsTold, SettlesInTime};
@@ -18,8 +18,8 @@ use crate::plan::{RoundPlan, Schedule, TickEnd};
 use crate::play::Play;
 use cyc_base::{Bits, Sig, Trit};
 use netlist::Netlist;
+use simulation::Simulator;
 use std::alloc::{AllocError, Global};
-use ternary_run::Fanout;
 
 /// Plays the event at this place.
 fn play_event(play: &mut Play, events: &Events, i: usize) -> Result<(), PlayFault>
@@ -133,35 +133,39 @@ fn outputs(alloc: Global, net: &Netlist, play: &Play) -> Result<Bits, AllocError
     Ok(Bits::of(bits))
 }
 
-/// Whether each gate has its value of the ternary fixpoint at the newest moment.
+/// Whether each gate has its value of the ternary fixpoint at the newest moment. The fixpoint is found by work on what
+/// has changed since the tick before.
 fn is_settled(
     alloc: Global,
     net: &Netlist,
-    fanout: &Fanout,
+    simulator: &mut Simulator,
     play: &Play,
 ) -> Result<bool, AllocError>
     requires net { play.now.state.net ≡ net.now }
-    requires fanout { IsFanoutOf net.now fanout.now }
-    ensures { IfOk result (λ settled. settled ≡ stands_at_fix net.now (newest play.now.state.history)) }
+    requires simulator { IsSimulatorOf net.now simulator.old }
+    ensures simulator { IsSimulatorOf net.now simulator.new }
+    ensures settled { IfOk result (λ settled. settled ≡ stands_at_fix net.now (newest play.now.state.history)) }
 {
     let values = given(alloc, net, play)?;
-    let fixed = fanout.settle(alloc, net, &values)?;
-    Ok(gates_stand_at(net, play, &fixed))
+    let (inputs, latches) = values.split_at(net.inputs() as usize);
+    let tick = simulator.tick(alloc, net, inputs, latches)?;
+    Ok(gates_stand_at(net, play, tick.wires.items()))
 }
 
 /// What is told of a tick of so many rounds at its last moment, which is the newest.
 fn tick_end(
     alloc: Global,
     net: &Netlist,
-    fanout: &Fanout,
+    simulator: &mut Simulator,
     play: &Play,
     rounds: usize,
 ) -> Result<TickEnd, AllocError>
     requires net { play.now.state.net ≡ net.now }
-    requires fanout { IsFanoutOf net.now fanout.now }
-    ensures { IfOk result (λ end. end ≡ end_at net.now (newest play.now.state.history) rounds) }
+    requires simulator { IsSimulatorOf net.now simulator.old }
+    ensures simulator { IsSimulatorOf net.now simulator.new }
+    ensures end { IfOk result (λ end. end ≡ end_at net.now (newest play.now.state.history) rounds) }
 {
-    let settled = is_settled(alloc, net, fanout, play)?;
+    let settled = is_settled(alloc, net, simulator, play)?;
     let outputs = outputs(alloc, net, play)?;
     Ok(TickEnd {
         rounds: rounds as u64,
@@ -174,21 +178,22 @@ fn tick_end(
 fn play_tick(
     alloc: Global,
     net: &Netlist,
-    fanout: &Fanout,
+    simulator: &mut Simulator,
     play: &mut Play,
     plan: &[RoundPlan],
     ends: &mut Vec<TickEnd>,
 ) -> Result<(), PlayFault>
     requires net { play.old.state.net ≡ net.now }
     requires first { length play.old.state.starts ≡ 1 }
-    requires fanout { IsFanoutOf net.now fanout.now }
+    requires simulator { IsSimulatorOf net.now simulator.old }
+    ensures simulator { IsSimulatorOf net.now simulator.new }
     ensures fault { IfErr result (λ fault. (fault ≡ PlayFault.Memory) ⊎ (rounds_fault play.old.state plan.now ≡ Some fault)) }
     ensures none { OnOk result (rounds_fault play.old.state plan.now ≡ None) }
     ensures played { OnOk result (play.new.state ≡ after_plans play.old.state plan.now) }
     ensures end { OnOk result (ends.new.items ≡ ends.old.items ++ end_at net.now (newest play.new.state.history) (length plan.now) ∷ []) }
 {
     play_rounds(play, plan)?;
-    let end = tick_end(alloc, net, fanout, play, plan.len())?;
+    let end = tick_end(alloc, net, simulator, play, plan.len())?;
     ends.push(end)?;
     Ok(())
 }
@@ -197,7 +202,7 @@ fn play_tick(
 fn play_first<'a>(
     alloc: Global,
     net: &'a Netlist,
-    fanout: &Fanout,
+    simulator: &mut Simulator,
     schedule: &Schedule,
     inputs: &[bool],
     plan: &[RoundPlan],
@@ -207,7 +212,8 @@ fn play_first<'a>(
     requires latches { length schedule.now.latches ≡ length net.now.latches }
     requires gates { length schedule.now.gates ≡ length net.now.gates }
     requires inputs { length inputs.now ≡ length net.now.inputs }
-    requires fanout { IsFanoutOf net.now fanout.now }
+    requires simulator { IsSimulatorOf net.now simulator.old }
+    ensures simulator { IsSimulatorOf net.now simulator.new }
     ensures fault { IfErr result (λ fault. (fault ≡ PlayFault.Memory) ⊎ (rounds_fault (first_opened net.now schedule.now inputs.now) plan.now ≡ Some fault)) }
     ensures none { OnOk result (rounds_fault (first_opened net.now schedule.now inputs.now) plan.now ≡ None) }
     ensures played { IfOk result (λ play. play.state ≡ after_plans (first_opened net.now schedule.now inputs.now) plan.now) }
@@ -222,7 +228,7 @@ fn play_first<'a>(
         schedule.latches.items(),
         schedule.gates.items(),
     )?;
-    play_tick(alloc, net, fanout, &mut play, plan, ends)?;
+    play_tick(alloc, net, simulator, &mut play, plan, ends)?;
     Ok(play)
 }
 
@@ -230,7 +236,7 @@ fn play_first<'a>(
 fn play_next(
     alloc: Global,
     net: &Netlist,
-    fanout: &Fanout,
+    simulator: &mut Simulator,
     play: &mut Play,
     inputs: &[bool],
     plan: &[RoundPlan],
@@ -239,21 +245,22 @@ fn play_next(
     requires net { play.old.state.net ≡ net.now }
     requires begun { play.old.state.done ≡ no_events net.now }
     requires inputs { length inputs.now ≡ length net.now.inputs }
-    requires fanout { IsFanoutOf net.now fanout.now }
+    requires simulator { IsSimulatorOf net.now simulator.old }
+    ensures simulator { IsSimulatorOf net.now simulator.new }
     ensures fault { IfErr result (λ fault. (fault ≡ PlayFault.Memory) ⊎ (rounds_fault (next_tick play.old.state inputs.now) plan.now ≡ Some fault)) }
     ensures none { OnOk result (rounds_fault (next_tick play.old.state inputs.now) plan.now ≡ None) }
     ensures played { OnOk result (play.new.state ≡ after_plans (next_tick play.old.state inputs.now) plan.now) }
     ensures end { OnOk result (ends.new.items ≡ ends.old.items ++ end_at net.now (newest play.new.state.history) (length plan.now) ∷ []) }
 {
     play.end_tick(inputs)?;
-    play_tick(alloc, net, fanout, play, plan, ends)
+    play_tick(alloc, net, simulator, play, plan, ends)
 }
 
 /// Plays the ticks behind the first, after it.
 fn play_later(
     alloc: Global,
     net: &Netlist,
-    fanout: &Fanout,
+    simulator: &mut Simulator,
     vectors: &[Bits],
     schedule: &Schedule,
     play: &mut Play,
@@ -261,8 +268,9 @@ fn play_later(
 ) -> Result<(), PlayFault>
     requires inputs { All (λ (inputs : List Bool). length inputs ≡ length net.now.inputs) vectors.now }
     requires ticks { length schedule.now.ticks ≡ length vectors.now }
-    requires fanout { IsFanoutOf net.now fanout.now }
+    requires simulator { IsSimulatorOf net.now simulator.old }
     requires first { TicksArePlayed net.now schedule.now vectors.now play.old.state ends.old.items 1 }
+    ensures simulator { IsSimulatorOf net.now simulator.new }
     ensures fault { IfErr result (λ fault. (fault ≡ PlayFault.Memory) ⊎ (schedule_fault net.now schedule.now vectors.now ≡ Some fault)) }
     ensures whole { OnOk result (schedule_fault net.now schedule.now vectors.now ≡ None) }
     ensures ends { OnOk result (ends.new.items ≡ map (end_of net.now) (ticks_of net.now (run_of schedule.now vectors.now))) }
@@ -271,7 +279,7 @@ fn play_later(
     for i in 1..vectors.len() {
         let inputs = vectors[i].items();
         let plan = plans[i].items();
-        play_next(alloc, net, fanout, play, inputs, plan, ends)?;
+        play_next(alloc, net, simulator, play, inputs, plan, ends)?;
     }
     Ok(())
 }
@@ -280,7 +288,7 @@ fn play_later(
 fn play_ticks(
     alloc: Global,
     net: &Netlist,
-    fanout: &Fanout,
+    simulator: &mut Simulator,
     vectors: &[Bits],
     schedule: &Schedule,
     ends: &mut Vec<TickEnd>,
@@ -291,8 +299,9 @@ fn play_ticks(
     requires inputs { All (λ (inputs : List Bool). length inputs ≡ length net.now.inputs) vectors.now }
     requires ticks { length schedule.now.ticks ≡ length vectors.now }
     requires some { 0 < length vectors.now }
-    requires fanout { IsFanoutOf net.now fanout.now }
+    requires simulator { IsSimulatorOf net.now simulator.old }
     requires none { ends.old.items ≡ [] }
+    ensures simulator { IsSimulatorOf net.now simulator.new }
     ensures fault { IfErr result (λ fault. (fault ≡ PlayFault.Memory) ⊎ (schedule_fault net.now schedule.now vectors.now ≡ Some fault)) }
     ensures whole { OnOk result (schedule_fault net.now schedule.now vectors.now ≡ None) }
     ensures ends { OnOk result (ends.new.items ≡ map (end_of net.now) (ticks_of net.now (run_of schedule.now vectors.now))) }
@@ -300,8 +309,8 @@ fn play_ticks(
     let plans = schedule.ticks.items();
     let first = vectors[0].items();
     let plan = plans[0].items();
-    let mut play = play_first(alloc, net, fanout, schedule, first, plan, ends)?;
-    play_later(alloc, net, fanout, vectors, schedule, &mut play, ends)
+    let mut play = play_first(alloc, net, simulator, schedule, first, plan, ends)?;
+    play_later(alloc, net, simulator, vectors, schedule, &mut play, ends)
 }
 
 /// Plays all ticks, and tells how each ended.
@@ -325,8 +334,8 @@ fn play_all(
     if vectors.is_empty() {
         return Ok(());
     }
-    let fanout = Fanout::of(alloc, net)?;
-    play_ticks(alloc, net, &fanout, vectors, schedule, ends)
+    let mut simulator = Simulator::of(alloc, net)?;
+    play_ticks(alloc, net, &mut simulator, vectors, schedule, ends)
 }
 
 /// Plays a recorded schedule whole, one tick for each vector of inputs, and tells how each tick ended; or answers its

@@ -9,7 +9,7 @@ use Rattle.delay_core.proofs.WholeLemmas.{err_is, ticks_left, no_ticks_left, nex
 use Rattle.delay_core.proofs.whole.play_later.Goals as goal
 
 pub loop-i-init : goal.loop-i-init
-loop-i-init c = c.requires.first
+loop-i-init c = record { played = c.requires.first; simulator = c.requires.simulator }
 
 pub returns-in_err-play_next-clause-fault : goal.returns-in_err-play_next-clause-fault
 returns-in_err-play_next-clause-fault c =
@@ -29,7 +29,7 @@ returns-in_err-play_next-clause-fault c =
     (elim c.in_err-play_next.ensures.fault [
       | inl memory ↦ inl memory
       | inr first ↦
-          inr (next_faults c.args.net.now c.args.schedule.now vectors c.loop-i.play.state c.loop-i.ends.items i c.loop-i.invariant
+          inr (next_faults c.args.net.now c.args.schedule.now vectors c.loop-i.play.state c.loop-i.ends.items i c.loop-i.invariant.played
           c.items-inputs.result.now c.items-plan.result.now left fault first)
     ])
 
@@ -45,17 +45,20 @@ loop-i-preserved c =
     c.items-plan.ensures ∙ get_or_read ticks i c.index-plans-i.result (omega (arith, c.requires.ticks, c.loop-i-test.true)) (rw c.items-plans.ensures at c.index-plans-i.is) [] in
     let left : drop i plans ≡ (c.items-inputs.result.now, c.items-plan.result.now) ∷ drop (i + 1) plans =
     rw (inputs, rounds) (ticks_left vectors ticks i c.requires.ticks c.loop-i-test.true) in
-    rw c.in_ok-play_next.ensures.end
-    (next_played c.args.net.now c.args.schedule.now vectors c.loop-i.play.state c.loop-i.ends.items i c.loop-i.invariant
-    c.items-inputs.result.now c.items-plan.result.now left c.play_next.new.play.state
-    c.in_ok-play_next.ensures.played c.in_ok-play_next.ensures.none)
+    record {
+      played = rw c.in_ok-play_next.ensures.end
+          (next_played c.args.net.now c.args.schedule.now vectors c.loop-i.play.state c.loop-i.ends.items i c.loop-i.invariant.played
+          c.items-inputs.result.now c.items-plan.result.now left c.play_next.new.play.state
+          c.in_ok-play_next.ensures.played c.in_ok-play_next.ensures.none);
+      simulator = c.play_next.ensures.simulator;
+    }
 
 pub returns-clause-whole : goal.returns-clause-whole
 returns-clause-whole c =
-    whole_none c.args.net.now c.args.schedule.now c.args.vectors.now c.loop-i.play.state c.loop-i.ends.items c.loop-i.i c.loop-i.invariant
+    whole_none c.args.net.now c.args.schedule.now c.args.vectors.now c.loop-i.play.state c.loop-i.ends.items c.loop-i.i c.loop-i.invariant.played
     (no_ticks_left c.args.vectors.now c.args.schedule.now.ticks c.loop-i.i (omega (arith, c.loop-i-test.false)))
 
 pub returns-clause-ends : goal.returns-clause-ends
 returns-clause-ends c =
-    whole_ends c.args.net.now c.args.schedule.now c.args.vectors.now c.loop-i.play.state c.loop-i.ends.items c.loop-i.i c.loop-i.invariant
+    whole_ends c.args.net.now c.args.schedule.now c.args.vectors.now c.loop-i.play.state c.loop-i.ends.items c.loop-i.i c.loop-i.invariant.played
     (no_ticks_left c.args.vectors.now c.args.schedule.now.ticks c.loop-i.i (omega (arith, c.loop-i-test.false)))

@@ -1,0 +1,15 @@
+-- The values of a tick have an entry for each signal.
+use Rattle.std.proofs.Common.{◌≡◌, ◌+◌, ◌++◌, List, length, ap, ◌∙◌, arith}
+use Rattle.std.proofs.lemmas.List.{length-append}
+use Rattle.cyc_base.specs.declared.trit.Trit.{Trit}
+use Rattle.simulation.proofs.LoadLemmas.{length-fix}
+use Rattle.delay_core.proofs.whole.is_settled.Goals as goal
+
+pub gates_stand_at-requires-clause-width : goal.gates_stand_at-requires-clause-width
+gates_stand_at-requires-clause-width c =
+    let net = c.args.net.now in
+    let inputs : List Trit = c.split_at.result.0.now in
+    let latches : List Trit = c.split_at.result.1.now in
+    let width : length (inputs ++ latches) ≡ length net.inputs + length net.latches =
+    omega (arith, length-append inputs latches, c.split_at.ensures.front_len, c.split_at.ensures.back_len, ap (λ (xs : List Trit). length xs) c.deref.ensures.value, c.in_ok-values.ensures.width, c.inputs.ensures.inputs) in
+    ap (λ (xs : List Trit). length xs) (c.items.ensures ∙ c.in_ok-tick.ensures.tick.wires) ∙ length-fix net (inputs ++ latches) width
