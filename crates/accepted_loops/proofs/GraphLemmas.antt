@@ -17,7 +17,7 @@ use Rattle.rewriting.proofs.RewrittenLemmas.{counts_are_needed}
 use Rattle.unroll.specs.Unrolled.{sweeps_of}
 use Rattle.verdict.specs.Verdicts.{AreSweepsOnCare}
 use Rattle.accepted_loops.specs.Columns.{columns_read}
-use Rattle.accepted_loops.specs.Graphs.{told_cluster, told_clusters, told_graph}
+use Rattle.accepted_loops.specs.Graphs.{told_cluster, told_graph}
 use Rattle.accepted_loops.specs.Lines.{columns_line, sweeps_line, told_lines}
 use Rattle.accepted_loops.proofs.LineLemmas.{begun-passes, numbered-alike}
 

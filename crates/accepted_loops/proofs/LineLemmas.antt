@@ -1,7 +1,7 @@
 -- The lines of loops, one after another.
-use Rattle.std.proofs.Common.{◌≡◌, ◌<◌, inl, inr, ℕ, zero, suc, ◌+◌, Bool, true, false, cond, List, [], ◌∷◌, ◌++◌, length, filter, refl, sym, ap, ap₂, ◌∙◌, arith, append_assoc, true≢false}
+use Rattle.std.proofs.Common.{◌≡◌, ◌<◌, ℕ, zero, suc, ◌+◌, Bool, true, false, cond, List, [], ◌∷◌, ◌++◌, length, filter, refl, sym, ap, ap₂, ◌∙◌, arith, append_assoc, true≢false}
 use Rattle.std.proofs.lemmas.Bool.{eqb-true}
-use Rattle.std.specs.Prelude.{if◌then◌else◌, codes}
+use Rattle.std.specs.Prelude.{codes}
 use Rattle.std.specs.List.{range_with_len}
 use Rattle.netlist.specs.declared.parts.Parts.{Parts}
 use Rattle.loops.specs.declared.structure.Blocks.{Blocks}
@@ -15,7 +15,7 @@ use Rattle.loops.specs.Sweeps.{first_gate}
 use Rattle.loops.proofs.ListedLemmas.{cut_wires_told}
 use Rattle.care_sets.specs.Care.{CareSet}
 use Rattle.isolation.specs.Cones.{is_marked}
-use Rattle.report.specs.LoopTexts.{loop_line, loop_lines, loop_at, numbered_loops, each_loop}
+use Rattle.report.specs.LoopTexts.{loop_line, loop_lines, loop_at, numbered_loops}
 use Rattle.report.proofs.LoopTextLemmas.{begun_before, texts_before, texts_more}
 use Rattle.rewriting.specs.Rewriting.{sweeps_needed}
 use Rattle.rewriting.proofs.RewrittenLemmas.{counts_are_needed}

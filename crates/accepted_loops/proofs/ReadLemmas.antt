@@ -1,7 +1,7 @@
 -- Marks while the columns are found that are read upstream of a gate.
-use Rattle.std.proofs.Common.{◌≡◌, ◌⊎◌, ◌↔◌, inl, inr, ℕ, ◌+◌, ◌<◌, ◌≤◌, Bool, true, false, ◌&&◌, List, [], ◌∷◌, ◌++◌, length, take, get_or, replicate, refl, sym, ap, ◌∙◌, subst, arith, Contains, true≢false}
+use Rattle.std.proofs.Common.{◌≡◌, inl, inr, ℕ, ◌+◌, ◌<◌, ◌≤◌, Bool, true, false, ◌&&◌, List, [], ◌∷◌, ◌++◌, length, take, get_or, replicate, refl, sym, ap, ◌∙◌, subst, arith, Contains, true≢false}
 use Rattle.std.proofs.Math.ListN.{set}
-use Rattle.std.proofs.lemmas.Bool.{cases_lt, cases_eq, and_parts, and_from}
+use Rattle.std.proofs.lemmas.Bool.{cases_lt, and_parts, and_from}
 use Rattle.std.proofs.lemmas.List.{take_more, take_all, get_or-replicate, get_or_past, length-replicate}
 use Rattle.std.proofs.lemmas.List.Elements.{Contains-append_left, Contains-push, Contains-push_cases}
 use Rattle.std.proofs.lemmas.List.Folds.{Any-from_list_any}
@@ -12,7 +12,7 @@ use Rattle.netlist.specs.declared.parts.Parts.{Parts}
 use Rattle.netlist.specs.Netlists.{gate_at, signal}
 use Rattle.loops.specs.Sweeps.{first_gate}
 use Rattle.loops.proofs.Walks.{same_truth}
-use Rattle.isolation.specs.Cones.{is_marked, AddMarks, AreUpstreamMarks, LeadsToMark}
+use Rattle.isolation.specs.Cones.{is_marked, AddMarks, AreUpstreamMarks}
 use Rattle.isolation.specs.Laws.{IsUpstream}
 use Rattle.isolation.proofs.MarkLemmas.{add-none, add-same, add-both, add-one}
 use Rattle.refusals.specs.Refusals.{is_among}

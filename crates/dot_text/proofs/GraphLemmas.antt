@@ -1,5 +1,5 @@
 -- Wires of loops, and what their sources say of them. What is drawn, as the code sees it.
-use Rattle.std.proofs.Common.{◌≡◌, ◌<◌, ◌+◌, length, ◌++◌, arith, get_or, ℕ, Bool, true, false, [], List, Some, None, refl, sym, ap, ap₂, ◌∙◌}
+use Rattle.std.proofs.Common.{◌≡◌, ◌<◌, ◌+◌, length, ◌++◌, arith, get_or, ℕ, Bool, true, [], List, Some, None, refl, sym, ap, ap₂, ◌∙◌}
 use Rattle.std.proofs.lemmas.List.FromFn.{get_or-range_with_len}
 use Rattle.std.specs.List.{range_with_len}
 use Rattle.std.proofs.lemmas.List.{length-append, length-map}
@@ -8,7 +8,6 @@ use Rattle.netlist.specs.Fixpoint.{fix, fix_gates}
 use Rattle.loops.proofs.Sweeps.{length-fix}
 use Rattle.std.specs.Prelude.{if◌then◌else◌, codes, slice_index, ◌||◌}
 use Rattle.std.proofs.Math.Path.{fun_ext}
-use Rattle.std.specs.declared.option.Option.{Option}
 use Rattle.cyc_base.specs.declared.sig.Sig.{Sig}
 use Rattle.cyc_base.specs.declared.trit.Trit.{Trit}
 use Rattle.netlist.specs.declared.parts.Parts.{Parts}
@@ -16,7 +15,7 @@ use Rattle.netlist.specs.Netlists.{count, gate_sig}
 use Rattle.loops.specs.declared.structure.Blocks.{Blocks}
 use Rattle.loops.specs.declared.structure.Cut.{Cut}
 use Rattle.loops.specs.Blocks.{AreBlocksOf}
-use Rattle.loops.specs.Cuts.{IsCutOf, Loops, in_one_loop, is_cut, loops_by}
+use Rattle.loops.specs.Cuts.{IsCutOf, Loops, in_one_loop, loops_by}
 use Rattle.explanations.specs.declared.explanation.Explanation.{Explanation}
 use Rattle.isolation.specs.Cones.{is_marked}
 use Rattle.loops.specs.Found.{loops_of}
@@ -72,7 +71,7 @@ picture_is net blocks cut values why first way cycle needs are is begins needed 
     ap₂ (λ (drawn on : ℕ → Bool). picture_by net (loops_by blocks cut) values drawn on why.needs)
     (fun_ext (λ n. ap₂ (λ (m : ℕ) (b : Bool). in_one_loop blocks m n || b) begins (on_way.each n))) (fun_ext on_cycle.each)
     ∙ ap (λ (l : Loops). picture_by net l values (λ n. l.same (slice_index why.cycle 0) n || is_one_of why.way n) (is_one_of why.cycle) why.needs)
-      (loops-are net blocks cut are is)
+    (loops-are net blocks cut are is)
 
 -- the values of all signals
 pub values_fit : (net : Parts) (v : List Bool) → length v ≡ length net.inputs + length net.latches → length (fix net (bits v)) ≡ count net

@@ -379,11 +379,7 @@ fn values_at(alloc: Global, net: &Netlist, vector: &[bool]) -> Result<Vec<Trit>,
     settle(alloc, net, &given)
 }
 
-fn tell_labelled(
-    label: &[u8],
-    drawing: &Drawing<'_>,
-    sink: &mut TextSink,
-) -> Result<(), AllocError>
+fn tell_labelled(label: &[u8], drawing: &Drawing<'_>, sink: &mut TextSink) -> Result<(), AllocError>
     requires { IsDrawing drawing.now }
     ensures { OnOk result (text_bytes sink.new ≡ text_bytes sink.old ++ labelled_graph label.now (picture (picture_seen drawing.now))) }
 {

@@ -16,5 +16,5 @@ returns c =
     IfOk-weaker c.tell_labelled.result _ _ (λ done told.
     told
     ∙ ap (λ text. text_bytes c.args.sink.now ++ text)
-      (cluster_is c.args.net.now (sweeps_of c.args.blocks.now c.args.sweeps.now) c.args.number c.args.gate _ c.args.gates.now (c.deref.ensures.value ∙ c.in_ok-lines.ensures) c.requires.gates))
+    (cluster_is c.args.net.now (sweeps_of c.args.blocks.now c.args.sweeps.now) c.args.number c.args.gate _ c.args.gates.now (c.deref.ensures.value ∙ c.in_ok-lines.ensures) c.requires.gates))
     c.tell_labelled.ensures

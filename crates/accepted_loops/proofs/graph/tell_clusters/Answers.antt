@@ -1,5 +1,4 @@
-use Rattle.std.proofs.Common.{◌≡◌, ◌+◌, ◌≤◌, ◌++◌, cond, length, refl, sym, ap, ◌∙◌, arith}
-use Rattle.cyc_io.specs.Text.{text_bytes}
+use Rattle.std.proofs.Common.{◌+◌, ◌≤◌, cond, sym, ap, ◌∙◌, arith}
 use Rattle.loops.specs.Listed.{loop_of, begins_with}
 use Rattle.loops.proofs.ListedLemmas.{at_most_one, counted_more}
 use Rattle.unroll.specs.Unrolled.{sweeps_of}

@@ -1,8 +1,7 @@
-use Rattle.std.proofs.Common.{◌≡◌, ℕ, ◌<◌, [], List, length, get_or, sym, ◌∙◌, arith}
+use Rattle.std.proofs.Common.{◌≡◌, ℕ, ◌<◌, [], get_or, sym, ◌∙◌, arith}
 use Rattle.std.specs.Prelude.{if◌then◌else◌}
 use Rattle.std.specs.List.{range_with_len}
 use Rattle.std.proofs.lemmas.List.FromFn.{length-range_with_len, get_or-range_with_len}
-use Rattle.netlist.specs.declared.parts.Parts.{Parts}
 use Rattle.loops.specs.Sweeps.{first_gate}
 use Rattle.isolation.specs.Cones.{is_marked}
 use Rattle.cyc_io.proofs.TakenLemmas.{appended_none, appended_equal}

@@ -12,6 +12,6 @@ returns c =
     IfOk-weaker c.tell_labelled.result _ _ (λ done told.
     told
     ∙ ap (λ p. text_bytes c.args.sink.now ++ labelled_graph c.args.label.now (picture p))
-      (picture_is c.args.net.now c.args.blocks.now c.args.cut.now c.args.values.now c.args.why.now (slice_index c.items.result.now 0) c.args.way.now c.args.cycle.now
-      c.items-2.result.now c.requires.blocks c.requires.cut (ap (λ gates. slice_index gates 0) c.items.ensures) c.items-2.ensures c.requires.way c.requires.cycle))
+    (picture_is c.args.net.now c.args.blocks.now c.args.cut.now c.args.values.now c.args.why.now (slice_index c.items.result.now 0) c.args.way.now c.args.cycle.now
+    c.items-2.result.now c.requires.blocks c.requires.cut (ap (λ gates. slice_index gates 0) c.items.ensures) c.items-2.ensures c.requires.way c.requires.cycle))
     c.tell_labelled.ensures
