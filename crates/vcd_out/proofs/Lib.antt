@@ -2,4 +2,3 @@ mod CodeLemmas
 mod DumpLemmas
 mod LineLemmas
 mod PieceLemmas
-pub mod KindLemmas
