@@ -26,12 +26,12 @@ use Rattle.equal.specs.Rebound.{found}
 use Rattle.equal_text.specs.Texts.{answer_text}
 use Rattle.equality.specs.Shown.{IsShown}
 use Rattle.equality.specs.Told.{is_equal}
-use Rattle.cyc_tool.specs.Answer.{told, decided, verdict_of, compared}
+use Rattle.cyc_tool.specs.Answer.{told, decided, verdict_of}
 use Rattle.cyc_tool.specs.Calls.{ShelfCall, SinkCall, WriteFailed, Takes, AreGiven, EndsAt, rest_of, ComesTo, Follows, IsDecided, IsCompared, IsExplained, IsMade, IsMadeFor, Verdict, Explained, Limit, Found, Unfinished, IsTold, Tells, Runs}
 use Rattle.cyc_tool.specs.Causes.{IsHelped, IsHelpedBy, IsWithoutCommand, Leads, Reaches, IsFaulty, IsUnread, MeetsLimit, IsVerdict, IsDoneWith, HasCompared, HasExplained, HasWhy, HasGraph, HasRewritten, HasStormed}
 use Rattle.cyc_tool.specs.Endings.{aiger_told, comparison_told, ending_of, found_told, storm_or_refusal}
 use Rattle.cyc_tool.specs.Storms.{events_of, events_told, storm_text}
-use Rattle.cyc_tool.specs.Plans.{Ending, Prints, PrintsBeside, Refuses, Declines, Outgrows, Decision, Purpose, Judges, Rewrites, WritesGraph, Explains, Demonstrates, Storms, Comparison, Plan, Reads, Faulty, Ends, Decides, Compares, plan_of}
+use Rattle.cyc_tool.specs.Plans.{Ending, Prints, PrintsBeside, Refuses, Declines, Outgrows, Decision, Purpose, Judges, Rewrites, WritesGraph, Explains, Demonstrates, Storms, Plan, Reads, Faulty, Ends, Decides, Compares, plan_of}
 use Rattle.cyc_tool.specs.Requests.{Request}
 use Rattle.cyc_tool.specs.Texts.{Outcome, no_memory}
 use Rattle.report.specs.Help.{help_text, topic_text, version_text}

@@ -1,10 +1,8 @@
 -- What a comparison comes to.
-use Rattle.std.proofs.Common.{◌≡◌, ◌⊎◌, inl, inr, ℕ, Bool, List, Err, refl, sym, ap, ap₂, subst, ◌∙◌}
+use Rattle.std.proofs.Common.{◌≡◌, ◌⊎◌, inl, inr, ℕ, Bool, List, Err, ap, ap₂, subst, ◌∙◌}
 use Rattle.std.specs.Prelude.{IfErr}
 use Rattle.std.specs.declared.result.Result.{Result}
 use Rattle.bdd_store.specs.Arena.{Arena}
-use Rattle.netlist.specs.declared.parts.Parts.{Parts}
-use Rattle.care_sets.specs.Care.{CareSet}
 use Rattle.equal.specs.declared.fault.EqualFault.{EqualFault}
 use Rattle.equal.specs.declared.fault.EqualFault.TheVariants.{NodeLimit, Memory}
 use Rattle.equal.specs.Rebound.{found, IsLimited}

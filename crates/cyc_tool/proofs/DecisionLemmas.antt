@@ -1,7 +1,7 @@
 -- What decisions come to.
 use Rattle.std.proofs.Common.{◌≡◌, ◌⊎◌, ◌<◌, ◌≤◌, ℕ, Bool, true, false, length, Some, None, Ok, Err, refl, sym, ap, ap₂, subst, ◌∙◌, inl, inr, arith}
 use Rattle.std.proofs.lemmas.List.{length-map}
-use Rattle.std.specs.Prelude.{◌+◌, ◌++◌, nat_le, if◌then◌else◌, IfOk, IfErr, OnOk}
+use Rattle.std.specs.Prelude.{◌+◌, nat_le, if◌then◌else◌, IfOk, IfErr, OnOk}
 use Rattle.std.specs.declared.option.Option.{Option}
 use Rattle.std.specs.declared.result.Result.{Result}
 use Rattle.bdd_store.specs.Arena.{Arena}

@@ -1,5 +1,5 @@
 -- What probes hear of a call, whatever they show.
-use Rattle.std.proofs.Common.{◌≡◌, ◌⊎◌, ℕ, Bool, false, List, length, Some, sym, subst, inl, inr}
+use Rattle.std.proofs.Common.{◌≡◌, ℕ, Bool, false, List, length, Some, sym, subst, inl, inr}
 use Rattle.std.specs.declared.option.Option.{Option}
 use Rattle.cyc_base.specs.declared.trit.Trit.{Trit}
 use Rattle.cyc_io.specs.Faults.{Counts}
@@ -11,7 +11,7 @@ use Rattle.probes.specs.Changes.{changes}
 use Rattle.probes.specs.declared.kind.Kind.{Kind}
 use Rattle.commands.specs.Words.{Command}
 use Rattle.cyc_tool.specs.Calls.{ShelfCall}
-use Rattle.cyc_tool.specs.Hearing.{CameToRun, HearCommand, HearPlay, HearRun}
+use Rattle.cyc_tool.specs.Hearing.{HearCommand, HearPlay, HearRun}
 use Rattle.cyc_tool.specs.Plans.{Plan, play_on, playing, replaying, replaying_on, with_netlist, with_schedule, with_vectors}
 use Rattle.cyc_tool.specs.Plays.{known}
 use Rattle.cyc_tool.specs.Reading.{GoesOn}
