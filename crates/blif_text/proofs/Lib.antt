@@ -1,7 +1,9 @@
 pub mod Pieces
 pub mod ReadingLemmas
 pub mod CutLemmas
+pub mod EndsLemmas
 pub mod WordBufferLemmas
 pub mod LineBufferLemmas
+pub mod MarksLemmas
 pub mod LoopLemmas
 pub mod LineFacts

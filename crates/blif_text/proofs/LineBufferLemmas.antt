@@ -7,7 +7,7 @@ use Rattle.std.specs.Prelude.{Bool, if◌then◌else◌}
 use Rattle.blif_text.specs.WordBuffers.{last_end}
 use Rattle.blif_text.specs.Texts.{Line, ends_in_backslash}
 use Rattle.blif_text.specs.Reading.{word_if_filled, line_if_filled}
-use Rattle.blif_text.specs.declared.line_buffer.Mark.{Mark}
+use Rattle.blif_text.specs.declared.marks.Mark.{Mark}
 use Rattle.blif_text.specs.Lines.{line_at}
 use Rattle.blif_text.specs.LineBuffers.{end_of, line_of, done_of, words_left, AreMarks, mark_at, mark_begins}
 use Rattle.blif_text.proofs.CutLemmas.{rises_bound, rises_to, rises_end, last_end_end, cut_more, cut_end, length_cut, end_before, begins_first, begins_later, cut_at, part_within}

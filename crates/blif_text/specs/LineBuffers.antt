@@ -2,7 +2,7 @@
 use Rattle.std.specs.Prelude.{ℕ, List, drop, length, slice_index_or, ◌==◌, ◌-◌, if◌then◌else◌}
 use Rattle.blif_text.specs.Texts.{Line}
 use Rattle.blif_text.specs.WordBuffers.{cut, last_end, Rises}
-use Rattle.blif_text.specs.declared.line_buffer.Mark.{Mark}
+use Rattle.blif_text.specs.declared.marks.Mark.{Mark}
 
 -- lines that are ended, and the words and bytes behind them
 pub record Stored : Type 0 where

@@ -5,6 +5,7 @@
 //! which the text has by definition, or the first line with a byte that isn't allowed.
 #![tactic(auto)]
 
+mod ends;
 mod fault;
 mod line_buffer;
 mod lines;

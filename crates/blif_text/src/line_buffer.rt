@@ -4,22 +4,15 @@ ghost use Rattle.blif_text.specs.Texts.{without_last, ends_in_backslash};
 ghost use Rattle.blif_text.specs.Lines.{line_at};
 ghost use Rattle.blif_text.specs.Reading.{word_if_filled, line_if_filled};
 
-use crate::marks::{count_of, last_end, start_of};
+use crate::marks::{Mark, Marks};
 use crate::word_buffer::WordBuffer;
 use std::alloc::{AllocError, Global};
 use std::marker::Model;
 
-// A line's number, and how many words there are up to its end.
-#[derive(Clone, Copy)]
-pub struct Mark {
-    pub number: u64,
-    pub end: usize,
-}
-
 // The lines that are ended, and the words and bytes behind them.
 pub struct LineBuffer {
     words: WordBuffer,
-    marks: Vec<Mark>,
+    marks: Marks,
 }
 
 impl Drop for LineBuffer {
@@ -34,12 +27,12 @@ impl Model for LineBuffer {
     ghost Value = { Stored };
 
     ghost view = { λ buffer. record {
-      done = done_of buffer.words.parts buffer.marks.items;
-      words = words_left buffer.words.parts buffer.marks.items;
+      done = done_of buffer.words.parts buffer.marks;
+      words = words_left buffer.words.parts buffer.marks;
       run = buffer.words.run;
     } };
 
-    ghost invariant = { λ buffer. AreMarks buffer.words.parts buffer.marks.items };
+    ghost invariant = { λ buffer. AreMarks buffer.words.parts buffer.marks };
 }
 
 impl LineBuffer {
@@ -51,7 +44,7 @@ impl LineBuffer {
     {
         LineBuffer {
             words: WordBuffer::new(alloc),
-            marks: Vec::new(alloc),
+            marks: Marks::new(alloc),
         }
     }
 
@@ -100,7 +93,7 @@ impl LineBuffer {
         ensures run { OnOk result (self.new.run ≡ self.old.run) }
     {
         let end = self.words.len();
-        if last_end(&self.marks) < end {
+        if self.marks.last_end() < end {
             self.marks.push(Mark { number, end })?;
         }
         Ok(())
@@ -118,7 +111,7 @@ impl LineBuffer {
         requires { i < length self.now.done }
         ensures { result ≡ (line_at self.now.done i).number }
     {
-        self.marks[i].number
+        self.marks.at(i).number
     }
 
     #[tactic(auto, using(crate::proofs::LineBufferLemmas::length_done, crate::proofs::LineBufferLemmas::words_low, crate::proofs::LineBufferLemmas::words_count))]
@@ -126,7 +119,7 @@ impl LineBuffer {
         requires { i < length self.now.done }
         ensures { result ≡ length (line_at self.now.done i).words }
     {
-        count_of(&self.marks, i)
+        self.marks.count_of(i)
     }
 
     #[tactic(auto, using(crate::proofs::LineBufferLemmas::length_done, crate::proofs::LineBufferLemmas::word_within, crate::proofs::LineBufferLemmas::word_is))]
@@ -136,7 +129,7 @@ impl LineBuffer {
         ensures { result.now ≡ slice_index_or (line_at self.now.done i).words k [] }
     {
         let _count = self.words.len();
-        self.words.part(start_of(&self.marks, i) + k)
+        self.words.part(self.marks.start_of(i) + k)
     }
 }
 

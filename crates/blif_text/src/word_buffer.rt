@@ -3,13 +3,14 @@ ghost use Rattle.std.specs.Prelude.{◌≡◌, ◌<◌, ◌&&◌, ◌==◌, ◌+
 ghost use Rattle.blif_text.specs.WordBuffers.{Pieces, parts_of, run_of, AreEnds, last_end, begins_at};
 ghost use Rattle.blif_text.specs.Texts.{is_filled, without_last, ends_in_backslash};
 
+use crate::ends::Ends;
 use std::alloc::{AllocError, Global};
 use std::marker::Model;
 
 // The parts that are ended, and the bytes behind them.
 pub struct WordBuffer {
     bytes: Vec<u8>,
-    ends: Vec<usize>,
+    ends: Ends,
 }
 
 impl Drop for WordBuffer {
@@ -21,9 +22,9 @@ impl Drop for WordBuffer {
 impl Model for WordBuffer {
     ghost Value = { Pieces };
 
-    ghost view = { λ buffer. record { parts = parts_of buffer.bytes.items buffer.ends.items; run = run_of buffer.bytes.items buffer.ends.items } };
+    ghost view = { λ buffer. record { parts = parts_of buffer.bytes.items buffer.ends; run = run_of buffer.bytes.items buffer.ends } };
 
-    ghost invariant = { λ buffer. AreEnds buffer.bytes.items buffer.ends.items };
+    ghost invariant = { λ buffer. AreEnds buffer.bytes.items buffer.ends };
 }
 
 impl WordBuffer {
@@ -34,7 +35,7 @@ impl WordBuffer {
     {
         WordBuffer {
             bytes: Vec::new(alloc),
-            ends: Vec::new(alloc),
+            ends: Ends::new(alloc),
         }
     }
 
@@ -92,22 +93,22 @@ impl WordBuffer {
 }
 
 #[tactic(auto, using(crate::proofs::WordBufferLemmas::run_fits, crate::proofs::WordBufferLemmas::run_is))]
-fn run_behind<'a>(bytes: &'a [u8], ends: &[usize]) -> &'a [u8]
+fn run_behind<'a>(bytes: &'a [u8], ends: &Ends) -> &'a [u8]
     requires { AreEnds bytes.now ends.now }
     ensures { result.now ≡ run_of bytes.now ends.now }
 {
-    let start = last_end(ends);
+    let start = ends.last();
     between(bytes, start, bytes.len())
 }
 
 #[tactic(auto, using(crate::proofs::WordBufferLemmas::part_low, crate::proofs::WordBufferLemmas::part_high, crate::proofs::WordBufferLemmas::part_is))]
-fn part_of<'a>(bytes: &'a [u8], ends: &[usize], k: usize) -> &'a [u8]
+fn part_of<'a>(bytes: &'a [u8], ends: &Ends, k: usize) -> &'a [u8]
     requires are { AreEnds bytes.now ends.now }
     requires inside { k < length ends.now }
     ensures { result.now ≡ slice_index_or (parts_of bytes.now ends.now) k [] }
 {
     let start = start_of(ends, k);
-    let end = ends[k];
+    let end = ends.at(k);
     between(bytes, start, end)
 }
 
@@ -120,20 +121,9 @@ fn between(bytes: &[u8], start: usize, end: usize) -> &[u8]
 }
 
 // Where the part at a place begins.
-fn start_of(ends: &[usize], k: usize) -> usize
+fn start_of(ends: &Ends, k: usize) -> usize
     requires { k < length ends.now }
     ensures { result ≡ begins_at ends.now k }
 {
-    if k == 0 { 0 } else { ends[k - 1] }
-}
-
-// Where the last part ends.
-#[tactic(auto, using(crate::proofs::WordBufferLemmas::last_end_is))]
-fn last_end(ends: &[usize]) -> usize
-    ensures { result ≡ last_end (λ e. e) 0 ends.now }
-{
-    match ends {
-        [.., last] => *last,
-        [] => 0,
-    }
+    if k == 0 { 0 } else { ends.at(k - 1) }
 }
