@@ -1,3 +1,4 @@
+pub mod Apart
 pub mod Changes
 pub mod Cones
 pub mod Countings

@@ -7,6 +7,7 @@
 //! of `refusals` and `loops`, or that the solver gave up.
 #![tactic(auto)]
 
+mod apart;
 mod care;
 mod changing;
 mod cones;
@@ -14,16 +15,19 @@ mod counting;
 mod initial;
 mod leaving;
 mod models;
+mod pairs;
 mod question;
 mod scope;
 mod simulating;
 mod sweeping;
 mod unknown;
 
+pub use apart::are_never_apart;
 pub use care::is_possible;
 pub use clause_queries::{First, Found};
 pub use counting::{sweeps_fed_known, sweeps_needed};
 pub use initial::least_outside;
 pub use leaving::least_leaving;
+pub use pairs::Pair;
 pub use scope::Scope;
 pub use unknown::{each_unknown, first_unknown, least_unknown};
