@@ -1,5 +1,5 @@
 -- Why a gate is undetermined, as a graph: the loop in which its cycle lies and the way from it, with the wires between these
--- gates, and the values that are needed as boxes. What is unknown is red, and the wires of the cycle are bold.
+-- gates, and the values that are needed as boxes. What is unknown is red, and wires between gates of the cycle are bold.
 use Rattle.std.specs.Prelude.{ℕ, ◌==◌, ◌&&◌, ◌||◌, Bool, true, false, nat_le, List, [], ◌++◌, length, filter, slice_index, slice_index_or, codes, if◌then◌else◌}
 use Rattle.std.specs.List.{flat_map, list_any, range_with_len}
 use Rattle.cyc_base.specs.declared.sig.Sig.{Sig}
@@ -51,7 +51,7 @@ needed_node p column = needed_box column (signal_name p.net (signal column)) (sl
 
 -- ---- wires
 
--- An unknown wire is red, and bold on the cycle. A cut wire is dashed.
+-- An unknown wire is red, and bold between gates of the cycle. A cut wire is dashed.
 abbrev pub unknown_style : Bool → Bool → List ℕ
 unknown_style false false = codes " [color=red];\n"
 unknown_style false true = codes " [color=red, style=dashed];\n"
@@ -98,7 +98,6 @@ abbrev pub is_one_of : List ℕ → ℕ → Bool
 is_one_of gates n = list_any (λ gate. gate == n) gates
 
 -- What is drawn of an explanation where the signals have these values: the gates of the cycle's loop, and those of the way.
--- A wire between two gates of the cycle is a step of it, since it has the fewest gates.
 abbrev pub picture_of : Parts → List Trit → Explanation → Picture
 picture_of net values why = record {
   net = net;

@@ -426,7 +426,7 @@ fn tell_drawing(
 
 /// Appends why a gate is undetermined at a vector as a graph with this text as its label: the gates of the loop in which the
 /// cycle lies and those of the way, the wires between them, and the values that are needed as boxes. What is unknown at the
-/// vector is red, the wires of the cycle are bold, and cut wires are dashed.
+/// vector is red, wires between gates of the cycle are bold, and cut wires are dashed.
 ///
 /// The condition is that the blocks and the cut are the netlist's, that the explanation speaks of its gates and columns, and
 /// that there is a cycle. It takes time in proportion to the gates and pins.
