@@ -187,7 +187,7 @@ set-completes (t ∷ trits) [] (suc pin) d c = absurd c
 set-completes (t ∷ trits) (e ∷ bs) zero d c = ap (λ b. b ∷ bs) (sym (same_bit e d (Below-bit d (bit e) c.0)))
 set-completes (t ∷ trits) (e ∷ bs) (suc pin) d c = ap (λ r. e ∷ r) (set-completes trits bs pin d c.1)
 
-same_bool : (a b : Bool) → (a ≡ true → b ≡ true) → (b ≡ true → a ≡ true) → a ≡ b
+pub same_bool : (a b : Bool) → (a ≡ true → b ≡ true) → (b ≡ true → a ≡ true) → a ≡ b
 same_bool true b f g = sym (f refl)
 same_bool false true f g = g refl
 same_bool false false f g = refl

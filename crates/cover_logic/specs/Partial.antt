@@ -1,6 +1,6 @@
 -- What rows say where some pins are X.
-use Rattle.std.specs.Prelude.{ℕ, suc, Bool, true, false, not, ◌&&◌, List, [], ◌∷◌, slice_index_or}
-use Rattle.std.specs.List.{list_any, list_all, zip}
+use Rattle.std.specs.Prelude.{ℕ, suc, Bool, true, false, not, ◌&&◌, List, [], ◌∷◌, map, slice_index_or}
+use Rattle.std.specs.List.{list_any, list_all, filter, zip}
 use Rattle.cyc_base.specs.declared.trit.Trit.{Trit}
 use Rattle.cyc_base.specs.declared.trit.Trit.TheVariants.{Zero, One, X}
 use Rattle.cover_logic.specs.declared.row.Lit.{Lit}
@@ -50,3 +50,21 @@ unknown_count [] = 0
 unknown_count (X ∷ trits) = suc (unknown_count trits)
 unknown_count (Zero ∷ trits) = unknown_count trits
 unknown_count (One ∷ trits) = unknown_count trits
+
+-- the unknown pins, and of the rows that may match what they ask of those
+abbrev pub is_unknown : Trit → Bool
+is_unknown X = true
+is_unknown Zero = false
+is_unknown One = false
+
+abbrev pub open_pins : List Trit → List Trit
+open_pins trits = filter is_unknown trits
+
+abbrev pub open_lits : List Lit → List Trit → List Lit
+open_lits lits trits = map (λ pin. pin.0) (filter (λ pin. is_unknown pin.1) (zip lits trits))
+
+abbrev pub open_row : List Trit → Row → Row
+open_row trits row = record { lits = open_lits row.lits trits }
+
+abbrev pub open_rows : List Row → List Trit → List Row
+open_rows rows trits = map (open_row trits) (filter (λ row. may_match row.lits trits) rows)

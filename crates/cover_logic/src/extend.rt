@@ -4,18 +4,19 @@
 //! That no row matches is read off the rows, since each row that no known pin contradicts matches at some
 //! completion. That some row matches at every completion, a tautology, is asked of the cofactors at an
 //! unknown pin. Where the rows ask for one value alone at that pin, the other one is harder, and its
-//! cofactor decides. So only pins that rows ask both values of are split.
+//! cofactor decides. So only pins that rows ask both values of are split. A cofactor is rows of its own, over the
+//! pins that are still unknown.
 
 ghost use Rattle.std.specs.Prelude.{◌≡◌, ◌≢◌, ◌≤◌, [], true, false, slice_get, slice_set, IfOk, IfSome, IfNone, Some, All};
 ghost use Rattle.cyc_base.specs.declared.trit.Trit.TheVariants.{X};
 ghost use Rattle.cyc_base.specs.Values.{bit};
 ghost use Rattle.cover_logic.specs.Covers.{value_of_rows};
 ghost use Rattle.cover_logic.specs.Extensions.{exact};
-ghost use Rattle.cover_logic.specs.Partial.{may_allow, must_allow, may_match, must_match, some_row_may_match, some_row_must_match, asks, some_row_asks, is_tautology, unknown_count};
+ghost use Rattle.cover_logic.specs.Partial.{may_allow, must_allow, may_match, must_match, some_row_may_match, some_row_must_match, asks, some_row_asks, is_tautology, unknown_count, open_lits, open_row, open_rows, open_pins};
 
 use crate::row::{Lit, Row};
 use crate::value::is_allowed;
-use cyc_base::Trit;
+use cyc_base::{Items, Trit};
 use std::alloc::{AllocError, Global};
 
 fn is_maybe_allowed(lit: Lit, pin: Trit) -> bool
@@ -115,31 +116,42 @@ fn reduce(rows: &[Row], pins: &mut [Trit])
     }
 }
 
-fn count_asked(lits: &[Lit], counts: &mut [usize]) {
-    for (lit, count) in lits.iter().zip(counts) {
+/// How many literals of a row count: each one more halves its weight, down to 1.
+const MOST_WEIGHED: usize = 32;
+
+/// The weight of a row, which is larger where it asks less (Jeroslow and Wang, 1990).
+fn weight(lits: &[Lit]) -> usize {
+    let asked = lits.iter().filter(|lit| **lit != Lit::Any).count();
+    1 << MOST_WEIGHED.saturating_sub(asked)
+}
+
+/// Adds the weight of a row at each pin that it asks a value of.
+fn add_weight(lits: &[Lit], weights: &mut [usize]) {
+    let added = weight(lits);
+    for (lit, weight) in lits.iter().zip(weights) {
         if *lit != Lit::Any {
-            *count = count.saturating_add(1);
+            *weight = weight.saturating_add(added);
         }
     }
 }
 
-/// The first of the unknown pins with the highest count, or this one where all counts are 0.
-fn most_asked(counts: &[usize], pins: &[Trit], first: usize) -> usize
+/// The first of the unknown pins with the highest weight, or this one where all weights are 0.
+fn heaviest(weights: &[usize], pins: &[Trit], first: usize) -> usize
     requires { slice_get pins.now first ≡ Some X }
     ensures { slice_get pins.now result ≡ Some X }
 {
     let mut best = first;
     let mut most = 0;
-    for (pin, count) in counts.iter().enumerate() {
-        if *count > most && matches!(pins.get(pin), Some(Trit::X)) {
+    for (pin, weight) in weights.iter().enumerate() {
+        if *weight > most && matches!(pins.get(pin), Some(Trit::X)) {
             best = pin;
-            most = *count;
+            most = *weight;
         }
     }
     best
 }
 
-/// The unknown pin that most of the rows that may match ask a value of, or `None` where no pin is unknown.
+/// The unknown pin with the heaviest rows that ask a value of it, or `None` where no pin is unknown.
 fn splitting_pin(alloc: Global, rows: &[Row], pins: &[Trit]) -> Result<Option<usize>, AllocError>
     ensures unknown { IfOk result (λ found. IfSome found (λ pin. slice_get pins.now pin ≡ Some X)) }
     ensures none { IfOk result (λ found. IfNone found (All (λ pin. pin ≢ X) pins.now)) }
@@ -147,13 +159,13 @@ fn splitting_pin(alloc: Global, rows: &[Row], pins: &[Trit]) -> Result<Option<us
     let Some(first) = pins.iter().position(|pin| *pin == Trit::X) else {
         return Ok(None);
     };
-    let mut counts = vec![in alloc; 0_usize; pins.len()]?;
+    let mut weights = vec![in alloc; 0_usize; pins.len()]?;
     for row in rows {
         if row_maybe_matches(row.lits.items(), pins) {
-            count_asked(row.lits.items(), &mut counts);
+            add_weight(row.lits.items(), &mut weights);
         }
     }
-    Ok(Some(most_asked(&counts, pins, first)))
+    Ok(Some(heaviest(&weights, pins, first)))
 }
 
 /// Whether some row matches at each completion of the pins.
@@ -189,6 +201,58 @@ fn copy_of(alloc: Global, pins: &[Trit]) -> Result<Vec<Trit>, AllocError>
     pins.to_vec(alloc)
 }
 
+/// What a row asks of the unknown pins.
+fn open_lits(alloc: Global, lits: &[Lit], pins: &[Trit]) -> Result<Vec<Lit>, AllocError>
+    ensures { IfOk result (λ left. left.items ≡ open_lits lits.now pins.now) }
+{
+    lits.iter()
+        .zip(pins)
+        .filter(|pair| *pair.1 == Trit::X)
+        .map(|pair| *pair.0)
+        .collect(alloc)
+}
+
+fn open_row(alloc: Global, row: &Row, pins: &[Trit]) -> Result<Row, AllocError>
+    ensures { IfOk result (λ left. left ≡ open_row pins.now row.now) }
+{
+    let lits = open_lits(alloc, row.lits.items(), pins)?;
+    Ok(Row {
+        lits: Items::of(lits),
+    })
+}
+
+/// The rows that may match, and of each what it asks of the unknown pins.
+fn open_rows(alloc: Global, rows: &[Row], pins: &[Trit]) -> Result<Vec<Row>, AllocError>
+    ensures { IfOk result (λ left. left.items ≡ open_rows rows.now pins.now) }
+{
+    let mut left = Vec::new(alloc);
+    for row in rows {
+        if row_maybe_matches(row.lits.items(), pins) {
+            left.push(open_row(alloc, row, pins)?)?;
+        }
+    }
+    Ok(left)
+}
+
+fn unknown_pins(alloc: Global, pins: &[Trit]) -> Result<Vec<Trit>, AllocError>
+    ensures { IfOk result (λ left. left.items ≡ open_pins pins.now) }
+{
+    pins.iter()
+        .copied()
+        .filter(|pin| *pin == Trit::X)
+        .collect(alloc)
+}
+
+/// The same, asked of the unknown pins alone.
+#[cycle(tautology)]
+fn open_are_tautology(alloc: Global, rows: &[Row], pins: &[Trit]) -> Result<bool, AllocError>
+    ensures { IfOk result (λ all. all ≡ is_tautology rows.now pins.now) }
+{
+    let open = open_rows(alloc, rows, pins)?;
+    let unknown = unknown_pins(alloc, pins)?;
+    rows_are_tautology(alloc, &open, &unknown)
+}
+
 /// The same where this unknown pin has this value, and after it all pins that have a harder one.
 #[cycle(tautology)]
 fn cofactor_is_tautology(
@@ -204,8 +268,11 @@ fn cofactor_is_tautology(
     let mut copied = copy_of(alloc, pins)?;
     let pins = copied.as_mut_slice();
     pins[pin] = Trit::of(value);
+    if any_row_surely_matches(rows, pins) {
+        return Ok(true);
+    }
     reduce(rows, pins);
-    rows_are_tautology(alloc, rows, pins)
+    open_are_tautology(alloc, rows, pins)
 }
 
 /// The exact extension of the function of rows in a plane. A plane without rows is an on-plane.

@@ -1,13 +1,15 @@
-use Rattle.std.proofs.Common.{◌≡◌, ◌≤◌, suc, set, sym, ◌∙◌, subst, true≢false, arith, IfOk}
+use Rattle.std.proofs.Common.{◌≡◌, ◌≤◌, true, suc, set, ap, sym, ◌∙◌, subst, true≢false, arith, IfOk}
 use Rattle.std.proofs.lemmas.Option.{get_or_from_slice_get}
 use Rattle.cyc_base.specs.declared.trit.Trit.TheVariants.{X, Zero}
-use Rattle.cover_logic.specs.Partial.{unknown_count}
+use Rattle.cyc_base.specs.Values.{bit}
+use Rattle.cover_logic.specs.Partial.{some_row_must_match, is_tautology, unknown_count, open_pins, open_rows}
+use Rattle.cover_logic.proofs.OpenLemmas.{same_open, same_unknown_count}
 use Rattle.cover_logic.proofs.TautologyLemmas.{sure, never, decided, one_cofactor, first_fails, first_holds, unknown_count-set}
 use Rattle.cover_logic.proofs.extend.+tautology.Goals as goal
 
-pub cofactor_is_tautology-rows_are_tautology-requires :
-    goal.cofactor_is_tautology-rows_are_tautology-requires
-cofactor_is_tautology-rows_are_tautology-requires t c =
+pub cofactor_is_tautology-open_are_tautology-requires :
+    goal.cofactor_is_tautology-open_are_tautology-requires
+cofactor_is_tautology-open_are_tautology-requires t c =
     let fewer : unknown_count c.args.pins.now ≡ suc (unknown_count (set c.args.pins.now c.args.pin c.of.result)) =
     rw c.of.ensures (unknown_count-set c.args.pins.now c.args.pin c.args.value (get_or_from_slice_get c.args.pins.now c.args.pin X Zero c.requires)) in
     let least : unknown_count c.reduce.new.pins ≤ unknown_count (set c.args.pins.now c.args.pin c.of.result) =
@@ -53,3 +55,34 @@ rows_are_tautology-returns-else-low t c =
     let unknown = rw c.in-Some.is at c.in_ok-pin.ensures.unknown in
     sym (first_fails c.args.rows.now c.args.pins.now c.in-Some.pin
     (get_or_from_slice_get c.args.pins.now c.in-Some.pin X X unknown) (sym c.in_ok-low-in-None.ensures ∙ c.if-low.false))
+
+pub cofactor_is_tautology-returns-then-any_row_surely_matches :
+    goal.cofactor_is_tautology-returns-then-any_row_surely_matches
+cofactor_is_tautology-returns-then-any_row_surely_matches t c =
+    let certain : some_row_must_match c.args.rows.now (set c.args.pins.now c.args.pin (bit c.args.value)) ≡ true =
+    rw (← c.of.ensures, ← c.in_ok-copied.ensures, ← c.as_mut_slice-pins.ensures.value)
+    (sym c.any_row_surely_matches.ensures ∙ c.if-any_row_surely_matches.true) in
+    sym (sure c.args.rows.now (set c.args.pins.now c.args.pin (bit c.args.value)) certain)
+
+pub open_are_tautology-rows_are_tautology-requires :
+    goal.open_are_tautology-rows_are_tautology-requires
+open_are_tautology-rows_are_tautology-requires t c =
+    let value = c.deref-2.ensures.value in
+    let kept = c.in_ok-unknown.ensures in
+    let pins : c.deref-2.result.now ≡ open_pins c.args.pins.now = cc in
+    let same : unknown_count c.deref-2.result.now ≡ unknown_count c.args.pins.now = ap unknown_count pins ∙ same_unknown_count c.args.pins.now in
+    (omega arith, tt)
+
+pub open_are_tautology-returns : goal.open_are_tautology-returns
+open_are_tautology-returns t c =
+    let value = c.deref.ensures.value in
+    let value-2 = c.deref-2.ensures.value in
+    let kept = c.in_ok-open.ensures in
+    let kept-2 = c.in_ok-unknown.ensures in
+    let rows : c.deref.result.now ≡ open_rows c.args.rows.now c.args.pins.now = cc in
+    let pins : c.deref-2.result.now ≡ open_pins c.args.pins.now = cc in
+    let same : is_tautology c.deref.result.now c.deref-2.result.now ≡ is_tautology c.args.rows.now c.args.pins.now =
+    ap (λ r. is_tautology r c.deref-2.result.now) rows
+    ∙ ap (is_tautology (open_rows c.args.rows.now c.args.pins.now)) pins
+    ∙ same_open c.args.rows.now c.args.pins.now in
+    subst (λ b. IfOk c.rows_are_tautology.result (λ all. all ≡ b)) same c.rows_are_tautology.ensures
