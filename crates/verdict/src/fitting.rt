@@ -1,6 +1,6 @@
 //! Covers that are too large for the diagrams.
 
-ghost use Rattle.std.specs.Prelude.{◌≡◌, ◌≤◌, Err};
+ghost use Rattle.std.specs.Prelude.{◌≡◌, ◌≤◌, ◌<◌, Err};
 ghost use Rattle.fixpoint.specs.Working.{HasLargeCover};
 ghost use Rattle.verdict.specs.Causes.{HasCoverOver, HasModelOver};
 
@@ -20,10 +20,22 @@ pub(crate) fn limit_of(d: &Diagrams) -> u32
     d.store().limit()
 }
 
-/// Whether the diagram of a cover of so many pins may have more nodes than the limit: it has at most one less than two
-/// to their number.
+/// How many nodes a diagram over fewer than 32 pins has at most: at each pin one for each value of the pins before it,
+/// and one for each function of that pin and of those after it.
+fn most_nodes(pins: u32) -> u64
+    requires { pins < 32 }
+{
+    let mut most = 0_u64;
+    for pin in 0..pins {
+        let functions = 1_u32 << (pins - pin).min(5);
+        most = most.saturating_add(1 << pin.min(functions));
+    }
+    most
+}
+
+/// Whether the diagram of a cover of so many pins may have more nodes than the limit.
 fn may_exceed(pins: usize, limit: u32) -> bool {
-    pins >= 32 || (1u64 << pins) - 1 > u64::from(limit)
+    pins >= 32 || most_nodes(pins as u32) > u64::from(limit)
 }
 
 /// Full where a cover of a netlist has more nodes than the limit.
