@@ -22,7 +22,7 @@ use std::alloc::{AllocError, Global};
 use ternary_clauses::{ClausesFault, Formula, Rails, add_apart};
 
 /// How many hints the solver may give up on: no more are asked for then.
-const FAILURES: usize = 100;
+const FAILURES: usize = 1_000;
 
 /// A cone, with a literal for each hint and for each pair.
 struct Asked {
