@@ -1,3 +1,4 @@
+mod ApartLemmas
 mod BeginningLemmas
 mod BehindLemmas
 pub mod CareLemmas

@@ -31,7 +31,7 @@ use refusals::{Observe, Refusal};
 use std::alloc::{AllocError, Global};
 
 /// The most nodes that are spent on one loop by itself, so that a loop which isn't settled soon costs little.
-const LOOP_NODES: u32 = 100_000;
+pub(crate) const LOOP_NODES: u32 = 100_000;
 
 /// How far the decision comes without the gates.
 #[derive(Drop)]

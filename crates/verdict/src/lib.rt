@@ -3,10 +3,12 @@
 //! All gates are observed, or what is seen from outside.
 //!
 //! It stands on `fixpoint`, on the diagrams below it, and on the definitions of `refusals`. The layer above uses
-//! that `decide` answers as the definition of acceptance and refusals says (`verdict`).
+//! that `decide` answers as the definition of acceptance and refusals says (`verdict`), and which wires are told never
+//! apart on care.
 #![tactic(auto)]
 
 mod alone;
+mod apart;
 mod beginning;
 mod behind;
 mod beside;
@@ -30,6 +32,7 @@ mod suspects;
 mod unknown;
 mod verdict;
 
+pub use apart::are_never_apart;
 pub use care::{assume_on, invariant_on};
 pub use deciding::decide;
 pub use fault::DecideFault;

@@ -41,7 +41,7 @@ fn others(alloc: Global, marks: &[bool]) -> Result<Vec<bool>, AllocError>
 }
 
 /// The gates that are neither in a loop that isn't settled nor behind one: no Boolean vector leaves them unknown.
-fn known_gates(
+pub(crate) fn known_gates(
     alloc: Global,
     net: &Netlist,
     blocks: &Blocks,
