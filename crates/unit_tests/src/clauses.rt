@@ -97,6 +97,24 @@ fn finds_each(
     }
 }
 
+/// Whether, where the input is 1, it is found that the gate can't be unknown, and nothing else of its literals.
+fn finds_never(
+    alloc: Global,
+    query: &mut Query,
+    x: u32,
+    a: u32,
+    unknown: u32,
+) -> Result<bool, AllocError>
+    requires x { x < 2 * query.old.variables }
+    requires a { a < 2 * query.old.variables }
+    requires unknown { unknown < 2 * query.old.variables }
+    ensures { query.new ≡ query.old }
+{
+    let any = query.is_any_possible(alloc, &[unknown], &[x], MANY)?;
+    let never = query.never_each(alloc, &[a, unknown], &[x], MANY, 1)?;
+    Ok(any == Some(false) && never.as_slice() == [false, true].as_slice())
+}
+
 /// Whether the first literal that can be true is found, and that there is none.
 fn finds_first(alloc: Global, query: &mut Query, x: u32, unknown: u32) -> Result<bool, AllocError>
     requires x { x < 2 * query.old.variables }
@@ -125,6 +143,7 @@ fn is_answered(
             && finds_model(alloc, query, x, unknown)?
             && finds_least(alloc, query, x, a)?
             && finds_each(alloc, query, x, a, unknown)?
+            && finds_never(alloc, query, x, a, unknown)?
             && finds_first(alloc, query, x, unknown)?,
     )
 }
