@@ -1,4 +1,5 @@
 mod CodeLemmas
 mod DumpLemmas
+mod KindLemmas
 mod LineLemmas
 mod PieceLemmas
