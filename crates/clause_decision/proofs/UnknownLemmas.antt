@@ -90,7 +90,7 @@ one-of_bit : (b : Bool) → is_one (bit b) ≡ b
 one-of_bit true = refl
 one-of_bit false = refl
 
-vector-read : (m : List Bool) (rs : List Rails) (v : List Bool) → ReadsAll m rs (bits v) → map (λ r. says m r.one) rs ≡ v
+pub vector-read : (m : List Bool) (rs : List Rails) (v : List Bool) → ReadsAll m rs (bits v) → map (λ r. says m r.one) rs ≡ v
 vector-read m [] [] h = refl
 vector-read m [] (b ∷ v) h = absurd h
 vector-read m (r ∷ rs) [] h = absurd h

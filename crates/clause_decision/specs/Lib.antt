@@ -5,6 +5,7 @@ pub mod Countings
 pub mod Formulas
 pub mod Loads
 pub mod NextStates
+pub mod Pairs
 pub mod Questions
 pub mod Scopes
 pub mod Simulations

@@ -1,6 +1,6 @@
 //! The parts of a decision by clauses: whether an initial state lies outside the invariant, whether there is a care
 //! vector, which gate is unknown first and where, which gates are unknown at all, whether a next state leaves the
-//! invariant, and how many sweeps a loop needs.
+//! invariant, how many sweeps a loop needs, and whether wires are never apart.
 //!
 //! It stands on `ternary_clauses`, whose clauses have the least fixpoint of each vector as a model, and on
 //! `clause_queries`, which asks a solver about them. The layer above uses that each answer is the one of the definitions

@@ -3,4 +3,5 @@ pub mod BisectionLemmas
 pub mod ClauseLemmas
 pub mod DescentLemmas
 pub mod EachLemmas
+pub mod NeverLemmas
 pub mod VectorLemmas

@@ -1,5 +1,6 @@
 -- Which of some literals can be true, each by itself.
-use Rattle.std.specs.Prelude.{◌≡◌, ◌<◌, ℕ, Bool, true, false, List, [], ◌∷◌, ◌++◌, length, slice_index, slice_index_or}
+use Rattle.std.specs.Prelude.{◌≡◌, ◌<◌, ℕ, Bool, true, false, List, [], ◌∷◌, ◌++◌, length, slice_index, slice_index_or, All, Any, Some, None}
+use Rattle.std.specs.declared.option.Option.{Option}
 use Rattle.clause_queries.specs.Queries.{Problem, HasModelUnder, HasNoModelUnder}
 
 -- the literal at this place can be true, or it can't
@@ -18,3 +19,14 @@ pub record AreToldBelow (p : Problem) (literals assumptions : List ℕ) (k : ℕ
 -- and all of them
 abbrev pub TellEach : Problem → List ℕ → List ℕ → List Bool → Type 0
 TellEach p literals assumptions found = AreToldBelow p literals assumptions (length literals) found
+
+-- marks of literals that can't
+pub record AreNever (p : Problem) (literals assumptions : List ℕ) (never : List Bool) : Type 0 where
+  pub width : length never ≡ length literals
+  pub impossible : (i : ℕ) → i < length literals → slice_index_or never i false ≡ true → CannotBe p literals assumptions i
+
+-- whether any of them can
+abbrev pub IsAnyPossible : Problem → List ℕ → List ℕ → Option Bool → Type 0
+IsAnyPossible p literals assumptions (Some true) = Any (λ l. HasModelUnder p (assumptions ++ l ∷ [])) literals
+IsAnyPossible p literals assumptions (Some false) = All (λ l. HasNoModelUnder p (assumptions ++ l ∷ [])) literals
+IsAnyPossible p literals assumptions None = Unit {0}

@@ -11,7 +11,7 @@ use std::alloc::{AllocError, Global};
 use ternary_clauses::value_of;
 
 // Notes which of the literals are true in a model.
-fn note(literals: &[u32], model: &[bool], found: &mut [bool])
+pub(crate) fn note(literals: &[u32], model: &[bool], found: &mut [bool])
     requires { length found.old ≡ length literals.now }
     ensures width { length found.new ≡ length found.old }
     ensures each { (i : ℕ) → i < length literals.now → slice_index_or found.new i false ≡ (slice_index_or found.old i false || says model.now (slice_index literals.now i)) }

@@ -1,6 +1,6 @@
 //! Questions to a solver about a formula: whether there is a model under assumptions, the least vector of one in some
-//! columns, the first of some literals that can be true (by asking column by column, and by bisection), and which of them
-//! can be.
+//! columns, the first of some literals that can be true (by asking column by column, and by bisection), which of them can
+//! be, and which can't.
 //!
 //! It stands on `sat`, for the answers, and on `ternary_clauses`, for what formulas and their models are. The layer above
 //! uses that what is answered is the first vector that passes a test, where the formula asks for the test (`Asks`).
@@ -10,6 +10,7 @@ mod each;
 mod first;
 pub mod laws;
 mod least;
+mod never;
 mod possible;
 mod query;
 

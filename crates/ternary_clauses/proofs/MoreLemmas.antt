@@ -8,7 +8,7 @@ use Rattle.ternary_clauses.proofs.ClauseLemmas.{says-negation, says-more}
 use Rattle.ternary_clauses.proofs.NodeCases.{rail_test, wire_test, known_test}
 use Rattle.ternary_clauses.proofs.NodeLemmas.{pick-parts, node-parts, equal-parts}
 
-negation-more : (m more : List Bool) (l : ℕ) → l < 2 * length m → says (m ++ more) (negation l) ≡ says m (negation l)
+pub negation-more : (m more : List Bool) (l : ℕ) → l < 2 * length m → says (m ++ more) (negation l) ≡ says m (negation l)
 negation-more m more l less = says-negation (m ++ more) l ∙ ap not (says-more m more l less) ∙ sym (says-negation m l)
 
 pub rail-more : (m more : List Bool) (o z h l n : ℕ) → o < 2 * length m → z < 2 * length m → h < 2 * length m → l < 2 * length m → n < 2 * length m → holds (m ++ more) (rail_clauses o z h l n) ≡ holds m (rail_clauses o z h l n)

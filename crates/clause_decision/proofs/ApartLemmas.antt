@@ -1,0 +1,206 @@
+-- Pairs of wires in a cone's models, and at care vectors.
+use Rattle.std.proofs.Common.{◌≡◌, inl, inr, ℕ, suc, ◌<◌, ◌+◌, ◌*◌, Bool, true, false, not, List, [], ◌∷◌, ◌++◌, get_or, Some, refl, sym, ap, subst, ◌∙◌, arith, true≢false}
+use Rattle.std.specs.List.{All, AllZip}
+use Rattle.std.proofs.lemmas.Bool.{cases_lt}
+use Rattle.std.proofs.lemmas.List.{get_or_default, get_or-take}
+use Rattle.std.proofs.lemmas.List.Elements.{All-nil, All-cons, All-get_or, All-push, All-weaker}
+use Rattle.std.proofs.lemmas.List.Folds.{list_any_none}
+use Rattle.std.proofs.lemmas.Slice.Zip.{all_zipped_more}
+use Rattle.cyc_base.specs.declared.sig.Sig.{Sig}
+use Rattle.cyc_base.specs.declared.trit.Trit.{Trit}
+use Rattle.cyc_base.specs.declared.trit.Trit.TheVariants.{Zero, One, X}
+use Rattle.cyc_base.specs.Values.{bits}
+use Rattle.netlist.specs.declared.parts.Parts.{Parts}
+use Rattle.netlist.specs.Fixpoint.{wire, fix}
+use Rattle.netlist.specs.Netlists.{count}
+use Rattle.loops.specs.Sweeps.{first_gate, gate_of, value_in}
+use Rattle.care_sets.specs.Care.{CareSet, columns, is_allowed, is_in_invariant, state_of, IsCareVector}
+use Rattle.ternary_clauses.specs.declared.formula.Formula.{Formula}
+use Rattle.ternary_clauses.specs.declared.formula.Rails.{Rails}
+use Rattle.ternary_clauses.specs.Apart.{SaysApart}
+use Rattle.ternary_clauses.specs.Encoding.{IsWanted, gate_rails}
+use Rattle.ternary_clauses.specs.Formulas.{says, IsModel, IsFormula, HasModelFrom, Grows}
+use Rattle.ternary_clauses.specs.Nodes.{agreed}
+use Rattle.ternary_clauses.specs.Rails.{is_known, no_rails, rails_at, value_read, Reads, AreWithin, AreRailsOf}
+use Rattle.ternary_clauses.proofs.GrowthLemmas.{Grows-refl, Grows-chain, model-here, model-after, rails-kept}
+use Rattle.ternary_clauses.proofs.NodeLemmas.{value-is}
+use Rattle.ternary_clauses.proofs.ReadingLemmas.{ReadsAll-at}
+use Rattle.clause_queries.specs.Each.{AreNever, IsAnyPossible}
+use Rattle.clause_queries.specs.Queries.{Problem, problem, HasNoModelUnder}
+use Rattle.clause_queries.proofs.ClauseLemmas.{models-same}
+use Rattle.clause_decision.specs.declared.apart.Asked.{Asked}
+use Rattle.clause_decision.specs.declared.pairs.Pair.{Pair}
+use Rattle.clause_decision.specs.declared.scope.Scope.{Scope}
+use Rattle.clause_decision.specs.Apart.{are_apart, is_apart_at, AreNeverApart, IsPairOf, IsWireIn, IsPairIn, ArePairsIn}
+use Rattle.clause_decision.specs.Cones.{column_rails, vector_in, ReadsAbove, ReadsFix, IsCone}
+use Rattle.clause_decision.specs.Pairs.{HasRails, SaysPair, SayPairs, TellPairs, AreRefuted}
+use Rattle.clause_decision.proofs.ConeLemmas.{cone-kept}
+use Rattle.clause_decision.proofs.SignalLemmas.{column_rails-length, signal-at, three}
+use Rattle.clause_decision.proofs.UnknownLemmas.{vector-read}
+
+-- what is read past the end of a list of pairs
+abbrev pub no_pair : Pair
+no_pair = record { here = record { 0 = 0 }; there = record { 0 = 0 } }
+
+-- ---- the rails of wires
+
+module _ (net : Parts) (care : CareSet) (scope : Scope) (f : Formula) (rails : List Rails) (inside allowed : ℕ) (cone : IsCone net care scope.gates f rails inside allowed) where
+  -- where rails are read as some value, they are read as theirs
+  read-own : (m : List Bool) (r : Rails) (t : Trit) → Reads m r t → Reads m r (value_read m r)
+  read-own m r t reads = subst (Reads m r) (value-is m r t reads) reads
+
+  wire-reads : (s : Sig) → s.0 < count net → IsWireIn net scope s → (m : List Bool) → IsModel m f → Reads m (rails_at rails s.0) (value_read m (rails_at rails s.0))
+  wire-reads s listed marked m h = elim (cases_lt s.0 (first_gate net)) [
+    | inl low ↦
+        let v = vector_in net rails m in
+        let at : Reads m (get_or (column_rails net rails) s.0 no_rails) (get_or (bits v) s.0 X) =
+        ReadsAll-at m (column_rails net rails) (bits v) s.0 no_rails X (let l = column_rails-length net rails cone.size in omega (arith, low, l)) (cone.sound m h) in
+        read-own m (rails_at rails s.0) (get_or (bits v) s.0 X)
+        (subst (λ (r : Rails). Reads m r (get_or (bits v) s.0 X)) (get_or-take (columns net) rails s.0 no_rails low) at)
+    | inr high ↦
+        let there : ReadsAbove net scope.gates rails m (vector_in net rails m) = cone.above m h in
+        let number : first_gate net + gate_of net s ≡ s.0 = omega (arith, high) in
+        let wanted : IsWanted net scope.gates (gate_of net s) = record { within = omega (arith, listed, high); marked = marked high } in
+        subst (λ (k : ℕ). Reads m (rails_at rails k) (value_read m (rails_at rails k))) number
+        (read-own m (gate_rails net rails (gate_of net s)) (value_in there.state (gate_of net s)) (there.reads (gate_of net s) wanted))
+  ]
+
+  wire-rails : (s : Sig) → s.0 < count net → IsWireIn net scope s → AreRailsOf f (rails_at rails s.0)
+  wire-rails s listed marked = record {
+    within = All-get_or (AreWithin f.variables) rails s.0 no_rails (let size = cone.size in omega (arith, listed, size)) cone.within;
+    reads = wire-reads s listed marked;
+  }
+
+  pair-rails : (pair : Pair) → IsPairOf net pair → IsPairIn net scope pair → HasRails f rails pair
+  pair-rails pair is within = record {
+    here_within = (let x = is.here in let size = cone.size in omega (arith, x, size));
+    here = wire-rails pair.here is.here within.here;
+    there_within = (let x = is.there in let size = cone.size in omega (arith, x, size));
+    there = wire-rails pair.there is.there within.there;
+  }
+
+  pub pairs-have_rails : (pairs : List Pair) → All (IsPairOf net) pairs → ArePairsIn net scope pairs → All (HasRails f rails) pairs
+  pairs-have_rails pairs are within = λ k d less. pair-rails (get_or pairs k d) (are k d less) (within k d less)
+
+pub rails-still : (old new : Formula) (rails : List Rails) → Grows old new → (pair : Pair) → HasRails old rails pair → HasRails new rails pair
+rails-still old new rails grows pair has = record {
+  here_within = has.here_within;
+  here = rails-kept grows has.here;
+  there_within = has.there_within;
+  there = rails-kept grows has.there;
+}
+
+-- ---- literals that are added one by one
+
+pub pairs-none : (f : Formula) (rails : List Rails) → IsFormula f → SayPairs f f rails [] []
+pairs-none f rails formula = record {
+  grows = Grows-refl f formula;
+  within = All-nil (λ l. l < 2 * f.variables);
+  says_each = λ m h. tt;
+  complete = λ m len h. model-here f m len h;
+}
+
+pub pairs-step : (old mid new : Formula) (rails : List Rails) (pairs : List Pair) (literals : List ℕ) (pair : Pair) (l : ℕ) →
+    SayPairs old mid rails pairs literals → SaysApart mid new (rails_at rails pair.here.0) (rails_at rails pair.there.0) l → SayPairs old new rails (pairs ++ pair ∷ []) (literals ++ l ∷ [])
+pairs-step old mid new rails pairs literals pair l was step = record {
+  grows = Grows-chain was.grows step.grows;
+  within = All-push (λ k. k < 2 * new.variables) literals l
+      (All-weaker (λ k. k < 2 * mid.variables) (λ k. k < 2 * new.variables) (λ k less. let x = step.grows.more in omega (arith, less, x)) literals was.within) step.within;
+  says_each = λ m h. all_zipped_more (SaysPair m rails) pairs literals pair l (was.says_each m (step.grows.sound m h)) (λ s t here there. step.says_it m s t h here there);
+  complete = λ m len h.
+      let one : HasModelFrom mid m = was.complete m len h in
+      model-after new m one.more (step.complete (m ++ one.more) one.width one.model);
+}
+
+-- hints, and then pairs
+pub pairs-told : (net : Parts) (care : CareSet) (marks : List Bool) (old mid : Formula) (hints pairs : List Pair) (asked : Asked) →
+    IsCone net care marks old asked.cone.rails.items asked.cone.inside asked.cone.allowed → SayPairs old mid asked.cone.rails.items hints asked.hints.items → SayPairs mid asked.cone.formula asked.cone.rails.items pairs asked.pairs.items →
+    TellPairs net care marks pairs asked
+pairs-told net care marks old mid hints pairs asked cone first last =
+    let f = asked.cone.formula in
+    let kept : IsCone net care marks f asked.cone.rails.items asked.cone.inside asked.cone.allowed =
+    cone-kept net care marks mid f asked.cone.rails.items asked.cone.inside asked.cone.allowed
+    (cone-kept net care marks old mid asked.cone.rails.items asked.cone.inside asked.cone.allowed cone first.grows first.complete) last.grows last.complete in
+    record {
+      cone = kept;
+      askable = record {
+        care = All-cons (λ l. l < 2 * f.variables) asked.cone.inside (asked.cone.allowed ∷ []) kept.inside_within
+            (All-cons (λ l. l < 2 * f.variables) asked.cone.allowed [] kept.allowed_within (All-nil (λ l. l < 2 * f.variables)));
+        hints = All-weaker (λ k. k < 2 * mid.variables) (λ k. k < 2 * f.variables) (λ k less. let x = last.grows.more in omega (arith, less, x)) asked.hints.items first.within;
+        pairs = last.within;
+      };
+      says_each = last.says_each;
+    }
+
+-- ---- at care vectors
+
+-- values that are known and equal aren't apart
+equal-apart : (s t : Trit) → not (is_known (agreed s t)) ≡ false → are_apart s t ≡ false
+equal-apart Zero Zero e = refl
+equal-apart Zero One e = absurd (true≢false e)
+equal-apart Zero X e = refl
+equal-apart One Zero e = absurd (true≢false e)
+equal-apart One One e = refl
+equal-apart One X e = refl
+equal-apart X Zero e = refl
+equal-apart X One e = refl
+equal-apart X X e = refl
+
+module _ (net : Parts) (care : CareSet) (scope : Scope) (pairs : List Pair) (asked : Asked) (told : TellPairs net care scope.gates pairs asked) (none : AreRefuted asked) where
+  -- a literal that is refuted is false in the model of a care vector's fixpoint
+  refuted-at : (v : List Bool) → IsCareVector net care v → (has : ReadsFix net scope.gates asked.cone.formula asked.cone.rails.items v) → (l : ℕ) →
+      HasNoModelUnder (problem asked.cone.formula) (asked.cone.inside ∷ asked.cone.allowed ∷ l ∷ []) → says has.model l ≡ false
+  refuted-at v counts has l refuted = by (says has.model l) refl
+    where
+      vector : vector_in net asked.cone.rails.items has.model ≡ v
+      vector = vector-read has.model (column_rails net asked.cone.rails.items) v has.columns
+
+      by : (b : Bool) → says has.model l ≡ b → says has.model l ≡ false
+      by false e = e
+      by true e =
+          absurd (refuted has.model (record {
+            model = models-same asked.cone.formula has.model ∙ has.holds;
+            assumed = three (λ k. says has.model k ≡ true) asked.cone.inside asked.cone.allowed l
+                (told.cone.inside_tells has.model has.holds ∙ ap (λ w. is_in_invariant care (state_of net w)) vector ∙ counts.state)
+                (told.cone.allowed_tells has.model has.holds ∙ ap (is_allowed care) vector ∙ counts.allowed) e;
+          }))
+
+  -- a wire is read as its value
+  wire-read : (v : List Bool) → IsCareVector net care v → (has : ReadsFix net scope.gates asked.cone.formula asked.cone.rails.items v) → (s : Sig) → s.0 < count net →
+      IsWireIn net scope s → Reads has.model (rails_at asked.cone.rails.items s.0) (wire (fix net (bits v)) s)
+  wire-read v counts has s inside marked =
+      signal-at net asked.cone.rails.items has.model v told.cone.size counts.width has.columns s
+      (λ high. has.fixpoint (gate_of net s) (record { within = omega (arith, inside, high); marked = marked high }))
+
+  none-apart : (v : List Bool) → IsCareVector net care v → (has : ReadsFix net scope.gates asked.cone.formula asked.cone.rails.items v) → (some : List Pair) (literals : List ℕ) →
+      All (IsPairOf net) some → ArePairsIn net scope some → AllZip (SaysPair has.model asked.cone.rails.items) some literals →
+      All (λ l. HasNoModelUnder (problem asked.cone.formula) (asked.cone.inside ∷ asked.cone.allowed ∷ l ∷ [])) literals → All (λ pair. is_apart_at net v pair ≡ false) some
+  none-apart v counts has [] [] are within each refuted = All-nil (λ pair. is_apart_at net v pair ≡ false)
+  none-apart v counts has [] (l ∷ literals) are within each refuted = absurd each
+  none-apart v counts has (pair ∷ some) [] are within each refuted = absurd each
+  none-apart v counts has (pair ∷ some) (l ∷ literals) are within each refuted =
+      let is : IsPairOf net pair = are 0 pair (omega arith) in
+      let inside : IsPairIn net scope pair = within 0 pair (omega arith) in
+      let here = wire-read v counts has pair.here is.here inside.here in
+      let there = wire-read v counts has pair.there is.there inside.there in
+      All-cons (λ p. is_apart_at net v p ≡ false) pair some
+      (equal-apart (wire (fix net (bits v)) pair.here) (wire (fix net (bits v)) pair.there)
+      (sym (each.0 (wire (fix net (bits v)) pair.here) (wire (fix net (bits v)) pair.there) here there) ∙ refuted-at v counts has l (refuted 0 l (omega arith))))
+      (none-apart v counts has some literals (λ k d less. are (suc k) d (omega (arith, less))) (λ k d less. within (suc k) d (omega (arith, less))) each.1 (λ k d less. refuted (suc k) d (omega (arith, less))))
+
+  pub never-apart : All (IsPairOf net) pairs → ArePairsIn net scope pairs → AreNeverApart net care pairs
+  never-apart are within = λ v counts.
+      let has : ReadsFix net scope.gates asked.cone.formula asked.cone.rails.items v = told.cone.complete v counts.width in
+      list_any_none (is_apart_at net v) pairs (none-apart v counts has pairs asked.pairs.items are within (told.says_each has.model has.holds) none)
+
+-- ---- what is asked
+
+-- none of these is possible
+pub any-refuted : (p : Problem) (last care : List ℕ) (possible : Bool) → IsAnyPossible p last care (Some possible) → not possible ≡ true → All (λ l. HasNoModelUnder p (care ++ l ∷ [])) last
+any-refuted p last care false is h = is
+any-refuted p last care true is h = absurd (true≢false (sym h))
+
+-- each has a mark
+pub all-refuted : (p : Problem) (last care : List ℕ) (never : List Bool) → AreNever p last care never → All (λ mark. mark ≡ true) never → All (λ l. HasNoModelUnder p (care ++ l ∷ [])) last
+all-refuted p last care never told marked = λ k d less.
+    subst (λ l. HasNoModelUnder p (care ++ l ∷ [])) (get_or_default last k 0 d less) (told.impossible k less (marked k false (let width = told.width in omega (arith, less, width))))

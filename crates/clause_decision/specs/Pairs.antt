@@ -1,0 +1,51 @@
+-- Pairs of wires, as clauses.
+use Rattle.std.specs.Prelude.{◌≡◌, ◌<◌, ℕ, Bool, not, List, [], ◌∷◌, length, All}
+use Rattle.std.specs.List.{AllZip}
+use Rattle.cyc_base.specs.declared.trit.Trit.{Trit}
+use Rattle.netlist.specs.declared.parts.Parts.{Parts}
+use Rattle.care_sets.specs.Care.{CareSet}
+use Rattle.ternary_clauses.specs.declared.formula.Formula.{Formula}
+use Rattle.ternary_clauses.specs.declared.formula.Rails.{Rails}
+use Rattle.ternary_clauses.specs.Formulas.{says, IsModel, HasModelFrom, Grows}
+use Rattle.ternary_clauses.specs.Nodes.{agreed}
+use Rattle.ternary_clauses.specs.Rails.{is_known, rails_at, Reads, AreRailsOf}
+use Rattle.clause_queries.specs.Clauses.{IsWithin}
+use Rattle.clause_queries.specs.Queries.{problem, HasNoModelUnder}
+use Rattle.clause_decision.specs.declared.apart.Asked.{Asked}
+use Rattle.clause_decision.specs.declared.pairs.Pair.{Pair}
+use Rattle.clause_decision.specs.Cones.{IsCone}
+
+-- there are rails for both wires of a pair, which stand for values in each model
+pub record HasRails (f : Formula) (rails : List Rails) (pair : Pair) : Type 0 where
+  pub here_within : pair.here.0 < length rails
+  pub here : AreRailsOf f (rails_at rails pair.here.0)
+  pub there_within : pair.there.0 < length rails
+  pub there : AreRailsOf f (rails_at rails pair.there.0)
+
+-- the literal is true unless the wires of the pair are known and equal
+abbrev pub SaysPair : List Bool → List Rails → Pair → ℕ → Type 0
+SaysPair m rails pair l = (s t : Trit) → Reads m (rails_at rails pair.here.0) s → Reads m (rails_at rails pair.there.0) t →
+    says m l ≡ not (is_known (agreed s t))
+
+-- The new formula says nothing but that each of these literals is true unless the wires of its pair are known and equal.
+pub record SayPairs (old new : Formula) (rails : List Rails) (pairs : List Pair) (literals : List ℕ) : Type 0 where
+  pub grows : Grows old new
+  pub within : IsWithin new.variables literals
+  pub says_each : (m : List Bool) → IsModel m new → AllZip (SaysPair m rails) pairs literals
+  pub complete : (m : List Bool) → length m ≡ old.variables → IsModel m old → HasModelFrom new m
+
+-- these literals can be asked for: they are of the formula's variables
+pub record AreAskable (asked : Asked) : Type 0 where
+  pub care : IsWithin asked.cone.formula.variables (asked.cone.inside ∷ asked.cone.allowed ∷ [])
+  pub hints : IsWithin asked.cone.formula.variables asked.hints.items
+  pub pairs : IsWithin asked.cone.formula.variables asked.pairs.items
+
+-- a cone, in whose models the literals say so of these pairs
+pub record TellPairs (net : Parts) (care : CareSet) (marks : List Bool) (pairs : List Pair) (asked : Asked) : Type 0 where
+  pub cone : IsCone net care marks asked.cone.formula asked.cone.rails.items asked.cone.inside asked.cone.allowed
+  pub askable : AreAskable asked
+  pub says_each : (m : List Bool) → IsModel m asked.cone.formula → AllZip (SaysPair m asked.cone.rails.items) pairs asked.pairs.items
+
+-- no literal of a pair is true in a model with both care literals
+abbrev pub AreRefuted : Asked → Type 0
+AreRefuted asked = All (λ l. HasNoModelUnder (problem asked.cone.formula) (asked.cone.inside ∷ asked.cone.allowed ∷ l ∷ [])) asked.pairs.items
