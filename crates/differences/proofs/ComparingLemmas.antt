@@ -28,9 +28,10 @@ use Rattle.refusals.proofs.LawLemmas.{care_test}
 use Rattle.refusals.proofs.RefusalLemmas.{length-fix_gates}
 use Rattle.verdict.proofs.CareLemmas.{value_at-place}
 use Rattle.verdict.proofs.SetLemmas.{find-alike}
-use Rattle.differences.specs.declared.pairs.Pair.{Pair}
+use Rattle.clause_decision.specs.declared.pairs.Pair.{Pair}
 use Rattle.differences.specs.Comparisons.{IsLaidBy}
-use Rattle.differences.specs.Pairs.{are_apart, is_apart_at, some_is_apart, least_apart, IsPairOf}
+use Rattle.clause_decision.specs.Apart.{are_apart, is_apart_at, some_is_apart, IsPairOf}
+use Rattle.differences.specs.Pairs.{least_apart}
 use Rattle.differences.specs.Sets.{TellsBy, AreFixedBy, HasRails, pair_differs, some_differ, BoundsPairs}
 use Rattle.differences.proofs.LaidLemmas.{above-bounded}
 

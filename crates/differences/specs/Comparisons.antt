@@ -16,7 +16,7 @@ use Rattle.care_sets.specs.Care.{CareSet, columns, state_of, is_care_vector}
 use Rattle.verdict.specs.Causes.{HasCoverOver, IsStoreFor}
 use Rattle.verdict.specs.Costs.{assume_effort, invariant_effort}
 use Rattle.verdict.specs.Enough.{IsOfModel, enough}
-use Rattle.differences.specs.declared.pairs.Pair.{Pair}
+use Rattle.clause_decision.specs.declared.pairs.Pair.{Pair}
 
 -- A function of a vector that a comparison works with: a column, the care vectors, or one of the working list of the
 -- netlist, of the assumption, or of the invariant.

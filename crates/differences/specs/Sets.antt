@@ -13,7 +13,7 @@ use Rattle.netlist.specs.Netlists.{count}
 use Rattle.netlist.specs.Fixpoint.{fix}
 use Rattle.fixpoint.specs.Sweeping.{rails_at}
 use Rattle.verdict.specs.Sets.{BoundsBoth}
-use Rattle.differences.specs.declared.pairs.Pair.{Pair}
+use Rattle.clause_decision.specs.declared.pairs.Pair.{Pair}
 
 -- the node is true at the vectors that pass the test
 pub record TellsBy (order : List ℕ) (a : Arena) (n : Node) (test : List Bool → Bool) : Type 0 where

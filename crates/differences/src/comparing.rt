@@ -11,15 +11,16 @@ ghost use Rattle.loops.specs.Cuts.{IsCutOf};
 ghost use Rattle.isolation.specs.Columns.{AreColumns};
 ghost use Rattle.verdict.specs.Causes.{IsOutOfNodes};
 ghost use Rattle.differences.specs.Comparisons.{AddsInComparison, IsBelowEnoughFor, IsFullFor, IsLaidBy, pairs_cost, whole_cost};
-ghost use Rattle.differences.specs.Pairs.{IsPairOf, least_apart as least_apart_of};
+ghost use Rattle.clause_decision.specs.Apart.{IsPairOf};
+ghost use Rattle.differences.specs.Pairs.{least_apart as least_apart_of};
 ghost use Rattle.differences.specs.Sets.{AreFixedBy, TellsBy};
 
 use crate::caring::care_on;
-use crate::pairs::Pair;
 use crate::parting::least_of_pairs;
 use bdd_ops::Diagrams;
 use bdd_store::StoreFault;
 use care_sets::Care;
+use clause_decision::Pair;
 use cyc_base::{Bits, MAX_NODES};
 use dual_rail::Rails;
 use isolation::column_rails;

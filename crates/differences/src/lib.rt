@@ -8,8 +8,6 @@
 mod caring;
 mod comparing;
 mod lesser;
-mod pairs;
 mod parting;
 
 pub use comparing::least_apart;
-pub use pairs::Pair;

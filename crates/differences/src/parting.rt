@@ -9,9 +9,9 @@ ghost use Rattle.dual_rail.specs.Rails.{AreRailsOf};
 ghost use Rattle.differences.specs.Sets.{is_above, differ, some_differ, HasRails, BoundsAbove, BoundsPair, BoundsPairs};
 
 use crate::lesser::lesser;
-use crate::pairs::Pair;
 use bdd_ops::Diagrams;
 use bdd_store::{Node, StoreFault};
+use clause_decision::Pair;
 use dual_rail::Rails;
 use std::alloc::Global;
 use verdict::least_of;

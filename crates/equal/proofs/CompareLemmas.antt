@@ -19,7 +19,8 @@ use Rattle.refusals.specs.Refusals.{refusal}
 use Rattle.refusals.proofs.FirstLemmas.{find-filter, found_wide}
 use Rattle.refusals.proofs.LawLemmas.{accepted_without_refusal}
 use Rattle.refusals.proofs.ShowingLemmas.{care_vector_decides}
-use Rattle.differences.specs.Pairs.{some_is_apart, least_apart, IsPairOf}
+use Rattle.clause_decision.specs.Apart.{some_is_apart, IsPairOf}
+use Rattle.differences.specs.Pairs.{least_apart}
 use Rattle.loops.specs.declared.structure.Blocks.{Blocks}
 use Rattle.loops.specs.declared.structure.Cut.{Cut}
 use Rattle.loops.specs.declared.structure.SweepCounts.{SweepCounts}

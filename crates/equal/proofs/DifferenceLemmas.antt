@@ -26,7 +26,7 @@ use Rattle.refusals.proofs.LawLemmas.{accepted_without_refusal}
 use Rattle.refusals.proofs.ObservedLemmas.{all_observes_gates}
 use Rattle.refusals.proofs.RefusalLemmas.{known-is_x}
 use Rattle.refusals.proofs.ShowingLemmas.{care_vector_decides}
-use Rattle.differences.specs.declared.pairs.Pair.{Pair}
+use Rattle.clause_decision.specs.declared.pairs.Pair.{Pair}
 use Rattle.equal.specs.Differences.{by_name, differs, difference, AreAccepted}
 use Rattle.equal.specs.declared.least.Early.{Early}
 use Rattle.equal.specs.Early.{IsFound, IsKnownEarly}

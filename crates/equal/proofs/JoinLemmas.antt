@@ -23,8 +23,8 @@ use Rattle.refusals.specs.Acceptance.{gate_sigs, AreDetermined}
 use Rattle.refusals.proofs.RefusalLemmas.{column_known, gate_sig_at, length-gate_sigs}
 use Rattle.care_sets.specs.Care.{columns}
 use Rattle.unroll.specs.Marks.{mark}
-use Rattle.differences.specs.declared.pairs.Pair.{Pair}
-use Rattle.differences.specs.Pairs.{are_apart, is_apart_at, some_is_apart}
+use Rattle.clause_decision.specs.declared.pairs.Pair.{Pair}
+use Rattle.clause_decision.specs.Apart.{are_apart, is_apart_at, some_is_apart}
 use Rattle.equal.specs.Matching.{name_of, init_eq, latch_named, has_latch, is_output}
 use Rattle.equal.specs.Differences.{number_or_0, columns_by_name, by_name, signal_named, source_named, pair_of, output_pairs, latch_pairs, are_different, differs_at, differs}
 use Rattle.equal.specs.Joined.{moved, moved_gate_by, moved_gates, moved_pair_by, joined, joined_pairs}

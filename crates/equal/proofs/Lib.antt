@@ -6,6 +6,7 @@ pub mod JoinLemmas
 pub mod TellingLemmas
 pub mod DifferenceLemmas
 pub mod CompareLemmas
+pub mod AlikeLemmas
 pub mod ValidLemmas
 pub mod BoundLemmas
 pub mod BareLemmas

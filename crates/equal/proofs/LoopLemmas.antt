@@ -10,7 +10,7 @@ use Rattle.std.proofs.lemmas.Option.{get_or_from_slice_get, slice_get-get_or}
 use Rattle.cyc_base.specs.declared.sig.Sig.{Sig}
 use Rattle.netlist.specs.declared.parts.Parts.{Parts}
 use Rattle.netlist.specs.Netlists.{signal, sig_eq, signal_names}
-use Rattle.differences.specs.declared.pairs.Pair.{Pair}
+use Rattle.clause_decision.specs.declared.pairs.Pair.{Pair}
 use Rattle.equal.specs.Matching.{name_of, is_output, output_names}
 use Rattle.equal.specs.Differences.{pair_of, signal_named}
 use Rattle.equal.proofs.NameLemmas.{any_nowhere, find_next, find_here}

@@ -17,8 +17,8 @@ use Rattle.netlist.proofs.FixpointLemmas.{steps_below_fix}
 use Rattle.loops.proofs.Reading.{wire_of_gate, get_or-step, get_or-fix}
 use Rattle.care_sets.specs.Care.{columns}
 use Rattle.refusals.specs.Refusals.{is_x}
-use Rattle.differences.specs.declared.pairs.Pair.{Pair}
-use Rattle.differences.specs.Pairs.{are_apart, is_apart_at, some_is_apart}
+use Rattle.clause_decision.specs.declared.pairs.Pair.{Pair}
+use Rattle.clause_decision.specs.Apart.{are_apart, is_apart_at, some_is_apart}
 use Rattle.equal.specs.Joined.{moved_gates, joined, never_cover, link_cover, both_cover, no_pair, link_gate, telling_gate, telling_gates}
 use Rattle.equal.proofs.JoinLemmas.{length-moved, length-joined}
 

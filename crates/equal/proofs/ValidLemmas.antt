@@ -18,8 +18,8 @@ use Rattle.netlist.specs.Netlists.{count, signal, sig_eq, gate_at, no_gate, sign
 use Rattle.unroll.specs.Marks.{longest_run, longest_run_of, longest_run_in, clock_names, mark, copy_name}
 use Rattle.unroll.proofs.MarkLemmas.{longest-append}
 use Rattle.unroll.proofs.NameLemmas.{not_equal, copy_is_long, copy_names_tell, copy_name_fits, all_short, distinct_append, short_from_long, short_is_none}
-use Rattle.differences.specs.declared.pairs.Pair.{Pair}
-use Rattle.differences.specs.Pairs.{IsPairOf}
+use Rattle.clause_decision.specs.declared.pairs.Pair.{Pair}
+use Rattle.clause_decision.specs.Apart.{IsPairOf}
 use Rattle.equal.specs.Matching.{unmatched}
 use Rattle.equal.specs.Differences.{columns_by_name}
 use Rattle.equal.specs.Joined.{moved, moved_gate_by, moved_gates, joined, joined_pairs, no_pair, link_gate, telling_gate, telling_gates, difference_netlist}

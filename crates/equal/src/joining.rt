@@ -1,17 +1,18 @@
 //! The joined netlist of two.
 
-ghost use Rattle.std.specs.Prelude.{◌≡◌, ◌+◌, ◌-◌, ◌++◌, ◌<◌, ◌≤◌, [], ◌∷◌, length, map, All, IfOk, OnOk, IfSome};
+ghost use Rattle.std.specs.Prelude.{◌≡◌, ◌+◌, ◌-◌, ◌++◌, ◌<◌, ◌≤◌, [], ◌∷◌, None, length, map, All, IfOk, OnOk, IfSome};
 ghost use Rattle.std.specs.List.{range_with_len};
 ghost use Rattle.netlist.specs.Netlists.{count, gate_at, IsNetlist};
 ghost use Rattle.care_sets.specs.Care.{columns as column_count};
 ghost use Rattle.unroll.specs.Marks.{mark as mark_of};
 ghost use Rattle.equal.specs.Differences.{columns_by_name};
 ghost use Rattle.equal.specs.Joined.{moved_by, moved_gate_by, moved_gates, joined};
+ghost use Rattle.equal.specs.Matching.{unmatched};
 
 use cyc_base::{Items, Name, Sig};
 use netlist::{Clock, Gate, Latch, Netlist, Parts, PartsFault};
 use std::alloc::{AllocError, Global};
-use unroll::copy_name;
+use unroll::{copy_name, mark};
 
 /// A signal of the second netlist, whose columns are these of the first one, and whose first gate has this number.
 pub(crate) fn moved(columns: &[u32], first: u32, signal: Sig) -> Sig
@@ -187,11 +188,7 @@ fn parts_without_gates(alloc: Global, a: &Netlist) -> Result<Parts, AllocError>
 }
 
 /// The parts of the joined netlist, which has these gates.
-pub(crate) fn joined_parts(
-    alloc: Global,
-    a: &Netlist,
-    gates: Vec<Gate>,
-) -> Result<Parts, AllocError>
+fn joined_parts(alloc: Global, a: &Netlist, gates: Vec<Gate>) -> Result<Parts, AllocError>
     ensures { IfOk result (λ parts. parts ≡ record { name = a.now.name; inputs = a.now.inputs; clock = a.now.clock; latches = a.now.latches; gates = gates.items; outputs = [] }) }
 {
     let mut parts = parts_without_gates(alloc, a)?;
@@ -200,7 +197,7 @@ pub(crate) fn joined_parts(
 }
 
 /// The parts of these netlists are refused for want of memory alone.
-pub(crate) fn want_of_memory(_fault: PartsFault) -> AllocError
+fn want_of_memory(_fault: PartsFault) -> AllocError
     requires { _fault ≡ PartsFault.Memory }
 {
     AllocError
@@ -226,4 +223,39 @@ pub(crate) fn copy_netlist(alloc: Global, net: &Netlist) -> Result<Netlist, Allo
         Ok(copy) => Ok(copy),
         Err(fault) => Err(want_of_memory(fault)),
     }
+}
+
+/// The netlist of the first one's columns and these gates.
+pub(crate) fn netlist_of(
+    alloc: Global,
+    a: &Netlist,
+    gates: Vec<Gate>,
+) -> Result<Netlist, AllocError>
+    requires { IsNetlist record { name = a.now.name; inputs = a.now.inputs; clock = a.now.clock; latches = a.now.latches; gates = gates.items; outputs = [] } }
+    ensures { IfOk result (λ net. net ≡ record { name = a.now.name; inputs = a.now.inputs; clock = a.now.clock; latches = a.now.latches; gates = gates.items; outputs = [] }) }
+{
+    let parts = joined_parts(alloc, a, gates)?;
+    match Netlist::new(alloc, parts) {
+        Ok(net) => Ok(net),
+        Err(fault) => Err(want_of_memory(fault)),
+    }
+}
+
+/// The joined netlist.
+pub(crate) fn joined_netlist(
+    alloc: Global,
+    a: &Netlist,
+    b: &Netlist,
+    columns: &[u32],
+) -> Result<Netlist, AllocError>
+    requires matched { unmatched a.now b.now ≡ None }
+    requires columns { columns.now ≡ columns_by_name a.now b.now }
+    requires fits { count a.now + length b.now.gates ≤ 4294967295 }
+    ensures { IfOk result (λ net. net ≡ joined a.now b.now []) }
+{
+    let _ = a.gates();
+    let _ = b.gates();
+    let mark = mark(alloc, a)?;
+    let gates = joined_gates(alloc, a, b, columns, &mark)?;
+    netlist_of(alloc, a, gates)
 }

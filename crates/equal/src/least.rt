@@ -13,7 +13,8 @@ ghost use Rattle.loops.specs.declared.structure.Cut.{Cut as TheCut};
 ghost use Rattle.care_sets.specs.Care.{CareSet};
 ghost use Rattle.verdict.specs.Verdicts.{IsVerdict};
 ghost use Rattle.verdict.specs.Causes.{IsOutOfNodes};
-ghost use Rattle.differences.specs.Pairs.{IsPairOf, least_apart as least_apart_of};
+ghost use Rattle.clause_decision.specs.Apart.{IsPairOf};
+ghost use Rattle.differences.specs.Pairs.{least_apart as least_apart_of};
 ghost use Rattle.differences.specs.Comparisons.{IsBelowEnoughFor};
 ghost use Rattle.care_sets.specs.Binding.{IsCareOf};
 ghost use Rattle.equal.specs.Differences.{columns_by_name, difference, output_pairs as output_pairs_of, latch_pairs as latch_pairs_of, AreAccepted};
@@ -21,14 +22,16 @@ ghost use Rattle.equal.specs.Early.{IsFound, IsKnownEarly};
 ghost use Rattle.equal.specs.Joined.{moved_gates, moved_pair_by, telling_gates, joined, joined_pairs as joined_pairs_of, difference_netlist as difference_netlist_of};
 ghost use Rattle.equal.specs.Matching.{unmatched};
 
+use crate::alike::are_alike;
 use crate::fault::{EqualFault, fault_of};
-use crate::joining::{joined_gates, joined_parts, moved, want_of_memory};
+use crate::joining::{joined_gates, joined_netlist, moved, netlist_of};
 use crate::pairs::{find_columns, latch_pairs, output_pairs};
 use crate::telling::add_telling;
 use bdd_ops::Diagrams;
 use care_sets::Care;
+use clause_decision::Pair;
 use cyc_base::{Bits, MAX_NODES};
-use differences::{Pair, least_apart};
+use differences::least_apart;
 use fixpoint::order;
 use loops::{find_blocks, find_cut};
 use netlist::{Gate, Netlist};
@@ -103,37 +106,6 @@ fn joined_pairs(
     let _ = a.gates();
     let _ = b.gates();
     moved_pairs(alloc, columns, a.count(), &own)
-}
-
-/// The netlist of the first one's columns and these gates.
-fn netlist_of(alloc: Global, a: &Netlist, gates: Vec<Gate>) -> Result<Netlist, AllocError>
-    requires { IsNetlist record { name = a.now.name; inputs = a.now.inputs; clock = a.now.clock; latches = a.now.latches; gates = gates.items; outputs = [] } }
-    ensures { IfOk result (λ net. net ≡ record { name = a.now.name; inputs = a.now.inputs; clock = a.now.clock; latches = a.now.latches; gates = gates.items; outputs = [] }) }
-{
-    let parts = joined_parts(alloc, a, gates)?;
-    match Netlist::new(alloc, parts) {
-        Ok(net) => Ok(net),
-        Err(fault) => Err(want_of_memory(fault)),
-    }
-}
-
-/// The joined netlist.
-fn joined_netlist(
-    alloc: Global,
-    a: &Netlist,
-    b: &Netlist,
-    columns: &[u32],
-) -> Result<Netlist, AllocError>
-    requires matched { unmatched a.now b.now ≡ None }
-    requires columns { columns.now ≡ columns_by_name a.now b.now }
-    requires fits { count a.now + length b.now.gates ≤ 4294967295 }
-    ensures { IfOk result (λ net. net ≡ joined a.now b.now []) }
-{
-    let _ = a.gates();
-    let _ = b.gates();
-    let mark = mark(alloc, a)?;
-    let gates = joined_gates(alloc, a, b, columns, &mark)?;
-    netlist_of(alloc, a, gates)
 }
 
 /// The gates of both netlists, and those that tell whether they differ.
@@ -253,6 +225,9 @@ fn early_difference(
 {
     let _ = a.gates();
     let _ = b.gates();
+    if are_alike(alloc, a, b, columns, pairs, care)? {
+        return Ok(Early::Found(None));
+    }
     let net = difference_netlist(alloc, a, b, columns, pairs)?;
     refusal_within(alloc, &net, care, limit)
 }

@@ -1,14 +1,16 @@
 //! Whether two netlists agree, signal for signal of the same name: both are accepted on their care set, and on each care
 //! vector their outputs and what their latches load are equal.
 //!
-//! It stands on `verdict`, which decides both netlists, and also a netlist of both that tells of a vector whether they
-//! differ, and on `differences`, which solves both at once. The layer above uses that `compare` answers as the definition
-//! of a comparison says, with the least vector of a difference.
+//! It stands on `verdict`, which decides both netlists, tells which wires of both are never apart, and decides a netlist of
+//! both that tells of a vector whether they differ, and on `differences`, which solves both at once. The layer above uses
+//! that `compare` answers as the definition of a comparison says, with the least vector of a difference.
 #![tactic(auto)]
 
+mod alike;
 mod answer;
 mod comparing;
 mod fault;
+mod hints;
 mod joining;
 mod least;
 mod matching;

@@ -4,8 +4,8 @@ ghost use Rattle.std.specs.Prelude.{◌≡◌, IfOk};
 ghost use Rattle.equal.specs.Differences.{column_named, columns_by_name, signal_named, source_named, output_pairs as output_pairs_of, latch_pairs as latch_pairs_of};
 
 use crate::matching::latch_of;
+use clause_decision::Pair;
 use cyc_base::{Name, Sig};
-use differences::Pair;
 use netlist::Netlist;
 use std::alloc::{AllocError, Global};
 

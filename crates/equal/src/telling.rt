@@ -7,9 +7,9 @@ ghost use Rattle.netlist.specs.Netlists.{count};
 ghost use Rattle.unroll.specs.Marks.{mark as mark_of};
 ghost use Rattle.equal.specs.Joined.{row as row_of, never_cover, link_cover as link_cover_of, both_cover as both_cover_of, never_gate as never_gate_of, link_gate as link_gate_of, telling_gate as telling_gate_of, telling_gates};
 
+use clause_decision::Pair;
 use cover_logic::{Cover, Lit, Row};
 use cyc_base::{Items, Name, Sig};
-use differences::Pair;
 use netlist::{Gate, Netlist};
 use std::alloc::{AllocError, Global};
 use unroll::copy_name;

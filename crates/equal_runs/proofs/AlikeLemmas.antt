@@ -31,7 +31,7 @@ use Rattle.schedules.specs.Runs.{Tick, Played, gates_at, outputs_at, loaded_at, 
 use Rattle.schedules.proofs.RunLemmas.{Fits, last_above, fits_next, run_fits}
 use Rattle.accepted_runs.specs.Laws.{FollowsFix}
 use Rattle.accepted_runs.proofs.CareLemmas.{care_is_kept, runs_follow_fix, follows_fix}
-use Rattle.differences.specs.declared.pairs.Pair.{Pair}
+use Rattle.clause_decision.specs.declared.pairs.Pair.{Pair}
 use Rattle.equal.specs.declared.answer.Answer.{Answer}
 use Rattle.equal.specs.declared.answer.Answer.TheVariants.{Equal, Unmatched, First, Second, Output, Latch as LatchAt}
 use Rattle.equal.specs.Matching.{name_of, latch_name, latch_named, output_names, unmatched}

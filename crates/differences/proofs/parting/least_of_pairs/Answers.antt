@@ -10,7 +10,7 @@ use Rattle.fixpoint.specs.Sweeping.{rails_at}
 use Rattle.fixpoint.proofs.WireLemmas.{rails_at-proper}
 use Rattle.refusals.proofs.FirstLemmas.{nothing_passes}
 use Rattle.verdict.proofs.SetLemmas.{find-alike}
-use Rattle.differences.specs.declared.pairs.Pair.{Pair}
+use Rattle.clause_decision.specs.declared.pairs.Pair.{Pair}
 use Rattle.differences.specs.Sets.{differ, pair_differs, some_differ, BoundsPairs}
 use Rattle.differences.proofs.PartingLemmas.{differ-kept, first-same, pair-kept}
 use Rattle.differences.proofs.parting.least_of_pairs.Goals as goal

@@ -7,8 +7,9 @@ use Rattle.netlist.specs.declared.parts.Parts.{Parts}
 use Rattle.bdd_ops.specs.Least.{IsLayout}
 use Rattle.care_sets.specs.Binding.{IsCareOf}
 use Rattle.care_sets.specs.Care.{columns}
-use Rattle.differences.specs.declared.pairs.Pair.{Pair}
-use Rattle.differences.specs.Pairs.{IsPairOf, least_apart}
+use Rattle.clause_decision.specs.declared.pairs.Pair.{Pair}
+use Rattle.clause_decision.specs.Apart.{IsPairOf}
+use Rattle.differences.specs.Pairs.{least_apart}
 use Rattle.equal.specs.Joined.{joined}
 use Rattle.equal.proofs.CompareLemmas.{care_joined, pairs_joined, least_joined}
 use Rattle.equal.proofs.least.late_difference.Goals as goal

@@ -5,7 +5,7 @@ use Rattle.netlist.specs.declared.parts.Gate.{Gate}
 use Rattle.netlist.specs.Netlists.{IsNetlist}
 use Rattle.equal.specs.Joined.{moved_gates, with_gates}
 use Rattle.equal.proofs.ValidLemmas.{joined_valid}
-use Rattle.equal.proofs.least.joined_netlist.Goals as goal
+use Rattle.equal.proofs.joining.joined_netlist.Goals as goal
 
 pub netlist_of-requires : goal.netlist_of-requires
 netlist_of-requires c =

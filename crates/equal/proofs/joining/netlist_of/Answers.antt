@@ -1,7 +1,7 @@
 use Rattle.std.proofs.Common.{◌≡◌, inl, inr, None, Some, ap, sym, ◌∙◌}
 use Rattle.netlist.specs.Faults.{first_fault}
 use Rattle.netlist.proofs.Validity.{no_fault_of_netlist}
-use Rattle.equal.proofs.least.netlist_of.Goals as goal
+use Rattle.equal.proofs.joining.netlist_of.Goals as goal
 
 pub want_of_memory-requires : goal.want_of_memory-requires
 want_of_memory-requires c =

@@ -1,8 +1,0 @@
-use cyc_base::Sig;
-
-/// Two wires of one netlist.
-#[derive(Clone, Copy, Debug, PartialEq, Eq)]
-pub struct Pair {
-    pub here: Sig,
-    pub there: Sig,
-}

@@ -1,0 +1,33 @@
+use Rattle.std.proofs.Common.{List, All, [], subst, sym}
+use Rattle.std.proofs.lemmas.Result.{IfOk-weaker}
+use Rattle.netlist.specs.declared.parts.Parts.{Parts}
+use Rattle.care_sets.specs.Binding.{IsCareOf}
+use Rattle.clause_decision.specs.declared.pairs.Pair.{Pair}
+use Rattle.clause_decision.specs.Apart.{AreNeverApart, IsPairOf}
+use Rattle.equal.specs.Joined.{joined}
+use Rattle.equal.proofs.AlikeLemmas.{never_differ}
+use Rattle.equal.proofs.CompareLemmas.{care_joined, pairs_joined}
+use Rattle.equal.proofs.alike.are_alike.Goals as goal
+
+pub never_apart-requires : goal.never_apart-requires
+never_apart-requires c =
+    let a = c.args.a.now in
+    let b = c.args.b.now in
+    record {
+      care = subst (λ (net : Parts). IsCareOf net c.args.care.now) (sym c.in_ok-net.ensures) (care_joined a b [] c.args.care.now c.requires.care);
+      hints = subst (λ (net : Parts). All (IsPairOf net) c.deref.result.now) (sym c.in_ok-net.ensures)
+          (subst (λ (hints : List Pair). All (IsPairOf (joined c.args.a.now c.args.b.now [])) hints) (sym c.deref.ensures.value) c.in_ok-hints.ensures);
+      pairs = subst (λ (net : Parts). All (IsPairOf net) c.args.pairs.now) (sym c.in_ok-net.ensures)
+          (subst (λ (pairs : List Pair). All (IsPairOf (joined c.args.a.now c.args.b.now [])) pairs) (sym c.requires.pairs) (pairs_joined a b c.gates.ensures.valid c.gates-2.ensures.valid c.requires.matched []));
+    }
+
+pub returns : goal.returns
+returns c =
+    let a = c.args.a.now in
+    let b = c.args.b.now in
+    IfOk-weaker c.never_apart.result _ _
+    (λ never says is.
+    never_differ a b c.args.care.now c.gates.ensures.valid c.gates-2.ensures.valid c.requires.matched c.requires.accepted
+    (subst (λ (pairs : List Pair). AreNeverApart (joined c.args.a.now c.args.b.now []) c.args.care.now pairs) c.requires.pairs
+    (subst (λ (net : Parts). AreNeverApart net c.args.care.now c.args.pairs.now) c.in_ok-net.ensures (says is))))
+    c.never_apart.ensures

@@ -1,0 +1,76 @@
+//! Whether two netlists that are accepted agree, found with the help of their inner wires (Kuehlmann and Krohm 1997).
+
+ghost use Rattle.std.specs.Prelude.{◌≡◌, ◌+◌, ◌≤◌, None, true, length, All, IfOk};
+ghost use Rattle.netlist.specs.Netlists.{count};
+ghost use Rattle.care_sets.specs.Binding.{IsCareOf};
+ghost use Rattle.clause_decision.specs.Apart.{AreNeverApart, IsPairOf};
+ghost use Rattle.equal.specs.Differences.{columns_by_name, difference, AreAccepted};
+ghost use Rattle.equal.specs.Joined.{joined_pairs as joined_pairs_of};
+ghost use Rattle.equal.specs.Matching.{unmatched};
+
+use crate::hints::named_hints;
+use crate::joining::joined_netlist;
+use care_sets::Care;
+use clause_decision::Pair;
+use loops::find_blocks;
+use netlist::Netlist;
+use std::alloc::{AllocError, Global};
+use verdict::are_never_apart;
+
+/// How many conflicts each inner pair may meet.
+const FEW_CONFLICTS: u64 = 100;
+
+/// How many each pair of outputs, or of what latches load, may meet.
+const MANY_CONFLICTS: u64 = 2_000;
+
+/// Whether the wires of none of these pairs are ever apart.
+fn never_apart(
+    alloc: Global,
+    net: &Netlist,
+    care: &Care,
+    hints: &[Pair],
+    pairs: &[Pair],
+) -> Result<bool, AllocError>
+    requires care { IsCareOf net.now care.now }
+    requires hints { All (IsPairOf net.now) hints.now }
+    requires pairs { All (IsPairOf net.now) pairs.now }
+    ensures { IfOk result (λ never. never ≡ true → AreNeverApart net.now care.now pairs.now) }
+{
+    let _ = net.gates();
+    let blocks = find_blocks(alloc, net)?;
+    are_never_apart(
+        alloc,
+        net,
+        &blocks,
+        care,
+        hints,
+        pairs,
+        FEW_CONFLICTS,
+        MANY_CONFLICTS,
+    )
+}
+
+/// Whether two accepted netlists differ on no care vector. Gates of one name are asked for first, one by one, and what the
+/// solver learns of them is there for the outputs and latches; false says nothing.
+pub(crate) fn are_alike(
+    alloc: Global,
+    a: &Netlist,
+    b: &Netlist,
+    columns: &[u32],
+    pairs: &[Pair],
+    care: &Care,
+) -> Result<bool, AllocError>
+    requires matched { unmatched a.now b.now ≡ None }
+    requires columns { columns.now ≡ columns_by_name a.now b.now }
+    requires pairs { pairs.now ≡ joined_pairs_of a.now b.now }
+    requires fits { count a.now + length b.now.gates ≤ 4294967295 }
+    requires care { IsCareOf a.now care.now }
+    requires accepted { AreAccepted a.now b.now care.now }
+    ensures { IfOk result (λ alike. alike ≡ true → difference a.now b.now care.now ≡ None) }
+{
+    let _ = a.gates();
+    let _ = b.gates();
+    let hints = named_hints(alloc, a, b)?;
+    let net = joined_netlist(alloc, a, b, columns)?;
+    never_apart(alloc, &net, care, &hints, pairs)
+}
