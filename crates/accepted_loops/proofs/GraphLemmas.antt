@@ -1,5 +1,5 @@
 -- The graph of loops.
-use Rattle.std.proofs.Common.{◌≡◌, ℕ, List, ◌++◌, ap, ap₂, ◌∙◌, append_assoc}
+use Rattle.std.proofs.Common.{◌≡◌, ℕ, List, ◌++◌, ap, ◌∙◌, append_assoc}
 use Rattle.care_sets.specs.Care.{CareSet}
 use Rattle.dot_text.specs.Dot.{labelled_graph}
 use Rattle.dot_text.specs.LoopGraphs.{labelled_cluster}
@@ -18,7 +18,7 @@ use Rattle.unroll.specs.Unrolled.{sweeps_of}
 use Rattle.verdict.specs.Verdicts.{AreSweepsOnCare}
 use Rattle.accepted_loops.specs.Columns.{columns_read}
 use Rattle.accepted_loops.specs.Graphs.{told_cluster, told_graph}
-use Rattle.accepted_loops.specs.Lines.{columns_line, sweeps_line, told_lines}
+use Rattle.accepted_loops.specs.Lines.{columns_line, sweeps_line}
 use Rattle.accepted_loops.proofs.LineLemmas.{begun-passes, numbered-alike}
 
 -- three texts, one after another
@@ -29,11 +29,6 @@ three_told old one two new front middle back first second third =
     ∙ ap (λ (text : List ℕ). text ++ back) (second ∙ ap (λ (text : List ℕ). text ++ middle) first)
     ∙ append_assoc (old ++ front) middle back
     ∙ append_assoc old front (middle ++ back)
-
--- a cluster with this label and these gates
-pub cluster_is : (net : Parts) (sweeps : ℕ → ℕ) (number gate : ℕ) (label gates : List ℕ) → label ≡ told_lines net sweeps number gate → gates ≡ loop_of net gate
-    → labelled_cluster net (loops_of net) number label gates ≡ told_cluster net sweeps number gate
-cluster_is net sweeps number gate label gates lines are = ap₂ (λ (text ns : List ℕ). labelled_cluster net (loops_of net) number text ns) lines are
 
 -- the sweeps that are needed
 pub drawn_on_care : (net : Parts) (label : List ℕ) (blocks : Blocks) (cut : Cut) (care : CareSet) (counts : SweepCounts) → AreBlocksOf net blocks → IsCutOf net cut

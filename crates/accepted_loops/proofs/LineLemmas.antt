@@ -1,22 +1,26 @@
 -- The lines of loops, one after another.
 use Rattle.std.proofs.Common.{◌≡◌, ◌<◌, ℕ, zero, suc, ◌+◌, Bool, true, false, cond, List, [], ◌∷◌, ◌++◌, length, filter, refl, sym, ap, ap₂, ◌∙◌, arith, append_assoc, true≢false}
 use Rattle.std.proofs.lemmas.Bool.{eqb-true}
-use Rattle.std.specs.Prelude.{codes}
 use Rattle.std.specs.List.{range_with_len}
 use Rattle.netlist.specs.declared.parts.Parts.{Parts}
 use Rattle.loops.specs.declared.structure.Blocks.{Blocks}
 use Rattle.loops.specs.declared.structure.Cut.{Cut}
 use Rattle.loops.specs.declared.structure.SweepCounts.{SweepCounts}
 use Rattle.loops.specs.Blocks.{AreBlocksOf}
-use Rattle.loops.specs.Cuts.{IsCutOf, is_cut}
+use Rattle.loops.specs.Cuts.{IsCutOf}
 use Rattle.loops.specs.Found.{loops_of}
 use Rattle.loops.specs.Listed.{gate_numbers, loop_of, begins_with}
 use Rattle.loops.specs.Sweeps.{first_gate}
-use Rattle.loops.proofs.ListedLemmas.{cut_wires_told}
 use Rattle.care_sets.specs.Care.{CareSet}
 use Rattle.isolation.specs.Cones.{is_marked}
-use Rattle.report.specs.LoopTexts.{loop_line, loop_lines, loop_at, numbered_loops}
-use Rattle.report.proofs.LoopTextLemmas.{begun_before, texts_before, texts_more}
+use Rattle.std.specs.Iterator.{Yields, YieldsFirstBy}
+use Rattle.std.specs.Prelude.{Some}
+use Rattle.looped.specs.Left.{loop_seen, loops_left}
+use Rattle.looped.specs.Listed.{listed_loops}
+use Rattle.looped.specs.declared.loop_list.ListedLoop.{ListedLoop}
+use Rattle.looped.specs.declared.loop_list.LoopList.{LoopList}
+use Rattle.report.specs.LoopTexts.{each_loop, loop_lines, numbered_loops}
+use Rattle.report.proofs.LoopTextLemmas.{one_more, told_first, whole_told}
 use Rattle.rewriting.specs.Rewriting.{sweeps_needed}
 use Rattle.rewriting.proofs.RewrittenLemmas.{counts_are_needed}
 use Rattle.unroll.specs.Unrolled.{sweeps_of}
@@ -33,26 +37,25 @@ kept_alike p q a (suc n) bound is agree =
 marked_are_read : (net : Parts) (gate : ℕ) (read : List Bool) → AreColumnsRead net gate read → marked_columns net read ≡ columns_read net gate
 marked_are_read net gate read are = kept_alike (is_marked read) (is_read net gate) 0 (first_gate net) (first_gate net) (omega arith) are.each
 
--- the lines of a loop with these gates, as they are put
-pub lines_are : (net : Parts) (cut : Cut) (sweeps : ℕ → ℕ) (number gate count : ℕ) (gates : List ℕ) (read : List Bool) → IsCutOf net cut
-    → gates ≡ loop_of net gate → count ≡ sweeps gate → AreColumnsRead net gate read
-    → (loop_line net number (codes " gates") gates ++ loop_line net number (codes " cut") (filter (is_cut cut.wires) gates))
-    ++ (sweeps_line number count ++ columns_line net number (marked_columns net read)) ≡ told_lines net sweeps number gate
-lines_are net cut sweeps number gate count gates read is loop counted are =
-    ap₂ (λ (front back : List ℕ). front ++ back)
-    (ap (λ (gs : List ℕ). loop_line net number (codes " gates") gs ++ loop_line net number (codes " cut") (filter (is_cut cut.wires) gs)) loop
-    ∙ ap (λ (wires : List ℕ). loop_line net number (codes " gates") (loop_of net gate) ++ loop_line net number (codes " cut") wires)
-    (sym (cut_wires_told net cut gate (loop_of net gate) is refl)))
-    (ap₂ (λ (m : ℕ) (columns : List ℕ). sweeps_line number m ++ columns_line net number columns) counted (marked_are_read net gate read are))
+-- the lines of a loop as they are put
+pub lines_told : (net : Parts) (sweeps : ℕ → ℕ) (number gate count : ℕ) (read : List Bool) → count ≡ sweeps gate → AreColumnsRead net gate read
+    → loop_lines net number gate ++ (sweeps_line number count ++ columns_line net number (marked_columns net read)) ≡ told_lines net sweeps number gate
+lines_told net sweeps number gate count read counted are =
+    ap₂ (λ (m : ℕ) (columns : List ℕ). loop_lines net number gate ++ (sweeps_line number m ++ columns_line net number columns)) counted (marked_are_read net gate read are)
 
--- one more gate
-pub told_more : (text : ℕ → ℕ → List ℕ) (net : Parts) (gate loops : ℕ) (old mid new : List ℕ) → loops ≡ length (begun_before net gate)
-    → mid ≡ old ++ texts_before text net gate → new ≡ mid ++ loop_at text net (loops + 1) gate → new ≡ old ++ texts_before text net (gate + 1)
-told_more text net gate loops old mid new counted before after =
-    after
-    ∙ ap (λ (told : List ℕ). told ++ loop_at text net (loops + 1) gate) before
-    ∙ append_assoc old (texts_before text net gate) (loop_at text net (loops + 1) gate)
-    ∙ ap (λ (told : List ℕ). old ++ told) (sym (texts_more text net gate loops counted))
+module _ (text : ℕ → ℕ → List ℕ) (net : Parts) (s t u : LoopList) (came : List ListedLoop) (all : loops_left s ≡ listed_loops net) (yielded : Yields (YieldsFirstBy loop_seen loops_left) s came t) where
+  -- the text of one more loop
+  pub one_more_told : (x : ListedLoop) (old mid new : List ℕ) → YieldsFirstBy loop_seen loops_left t (Some x) u → mid ≡ old ++ told_first text net (length came)
+      → new ≡ mid ++ text x.number x.first → new ≡ old ++ told_first text net (length (came ++ x ∷ []))
+  one_more_told x old mid new next before after =
+      after
+      ∙ ap (λ (told : List ℕ). told ++ text x.number x.first) before
+      ∙ append_assoc old (told_first text net (length came)) (text x.number x.first)
+      ∙ ap (λ (told : List ℕ). old ++ told) (sym (one_more text net s t u came all yielded x next))
+
+  -- the texts of all
+  pub all_told : (old new : List ℕ) → loops_left t ≡ [] → new ≡ old ++ told_first text net (length came) → new ≡ old ++ each_loop text net
+  all_told old new none told = told ∙ ap (λ (told : List ℕ). old ++ told) (whole_told text net s t u came all yielded none)
 
 -- ---- the sweeps that are needed
 

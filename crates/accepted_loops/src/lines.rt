@@ -1,17 +1,18 @@
 //! The lines of loops.
 
-ghost use Rattle.std.specs.Prelude.{◌≡◌, ◌<◌, ◌+◌, ◌++◌, ℕ, All, IfOk, OnOk, true, [], codes, cond, filter, if◌then◌else◌, length};
+ghost use Rattle.std.specs.Prelude.{◌≡◌, ◌<◌, ◌++◌, OnOk, [], if◌then◌else◌, length};
 ghost use Rattle.std.specs.List.{flat_map};
 ghost use Rattle.care_sets.specs.Care.{CareSet};
 ghost use Rattle.cyc_io.specs.Taken.{IsAppended, sink_call};
 ghost use Rattle.cyc_io.specs.Text.{text_bytes};
 ghost use Rattle.isolation.specs.Cones.{is_marked};
 ghost use Rattle.loops.specs.Blocks.{AreBlocksOf};
-ghost use Rattle.loops.specs.Cuts.{IsCutOf, is_cut};
-ghost use Rattle.loops.specs.Listed.{begins_with, loop_of};
+ghost use Rattle.loops.specs.Cuts.{IsCutOf};
 ghost use Rattle.loops.specs.Sweeps.{first_gate};
+ghost use Rattle.looped.specs.Left.{loop_seen};
+ghost use Rattle.looped.specs.Listed.{IsLoopOf};
 ghost use Rattle.netlist.specs.Netlists.{signal};
-ghost use Rattle.report.specs.LoopTexts.{loop_at, loop_line};
+ghost use Rattle.report.specs.LoopTexts.{loop_lines};
 ghost use Rattle.report.specs.Verdicts.{signal_name};
 ghost use Rattle.rewriting.specs.Rewriting.{sweeps_needed};
 ghost use Rattle.unroll.specs.Unrolled.{sweeps_of};
@@ -22,7 +23,8 @@ ghost use Rattle.accepted_loops.specs.Lines.{column_name as column_text, columns
 use crate::columns::columns_read;
 use cyc_base::{Name, Sig};
 use cyc_io::{Failed, Sink, TextSink, write_whole};
-use loops::{Blocks, Cut, SweepCounts, loop_from};
+use looped::{ListedLoop, LoopedNetlist};
+use loops::{Blocks, Cut, SweepCounts};
 use netlist::Netlist;
 use report::{put_loop, put_number, put_two};
 use std::alloc::{AllocError, Global};
@@ -94,144 +96,82 @@ fn put_sweeps_line<K: Sink>(sink: &mut K, number: u32, sweeps: u32) -> Result<()
     write_whole(sink, b"\n")
 }
 
-// The lines of a loop with these gates, which needs so many sweeps and speaks of the marked columns.
+// The lines of a loop that needs so many sweeps and speaks of the marked columns.
 fn put_told<K: Sink>(
     sink: &mut K,
-    net: &Netlist,
-    cut: &[bool],
-    number: u32,
-    gates: &[u32],
+    looped: &LoopedNetlist<'_>,
+    listed: ListedLoop<'_>,
     sweeps: u32,
     read: &[bool],
 ) -> Result<(), Failed>
-    requires gates { All (λ gate. gate < length net.now.gates) gates.now }
-    requires cut { length cut.now ≡ length net.now.gates }
-    requires read { length read.now ≡ first_gate net.now }
-    ensures { IsAppended ((loop_line net.now number (codes " gates") gates.now ++ loop_line net.now number (codes " cut") (filter (is_cut cut.now) gates.now))
-        ++ (sweeps_line number sweeps ++ columns_line net.now number (marked_columns net.now read.now))) (sink_call K.put K.faults sink.old sink.new) result }
+    requires listed { IsLoopOf looped.now.net (loop_seen listed) }
+    requires read { length read.now ≡ first_gate looped.now.net }
+    ensures { IsAppended (loop_lines looped.now.net listed.entry.number listed.entry.first
+        ++ (sweeps_line listed.entry.number sweeps ++ columns_line looped.now.net listed.entry.number (marked_columns looped.now.net read.now))) (sink_call K.put K.faults sink.old sink.new) result }
 {
-    put_loop(sink, net, cut, number, gates)?;
-    put_sweeps_line(sink, number, sweeps)?;
-    put_columns_line(sink, net, number, read)
+    put_loop(sink, looped, listed)?;
+    put_sweeps_line(sink, listed.number, sweeps)?;
+    put_columns_line(sink, looped.net(), listed.number, read)
 }
 
 // How many sweeps the loop of a gate needs.
-fn sweeps_at(net: &Netlist, blocks: &Blocks, sweeps: &SweepCounts, gate: u32) -> u32
-    requires blocks { AreBlocksOf net.now blocks.now }
-    requires sweeps { length sweeps.now.per_block ≡ length blocks.now.list }
-    requires gate { gate < length net.now.gates }
-    ensures { result ≡ sweeps_of blocks.now sweeps.now gate }
+fn sweeps_at(looped: &LoopedNetlist<'_>, sweeps: &SweepCounts, gate: u32) -> u32
+    requires sweeps { length sweeps.now.per_block ≡ length looped.now.blocks.list }
+    requires gate { gate < length looped.now.net.gates }
+    ensures { result ≡ sweeps_of looped.now.blocks sweeps.now gate }
 {
-    let home = blocks.home.items()[gate as usize];
+    let home = looped.blocks().home.items()[gate as usize];
     sweeps.per_block.items()[home as usize]
 }
 
-// The lines of the loop that begins at this gate, which speaks of the marked columns.
+// The lines of a loop that speaks of the marked columns.
 fn put_loop_told<K: Sink>(
     sink: &mut K,
-    net: &Netlist,
-    blocks: &Blocks,
-    cut: &Cut,
+    looped: &LoopedNetlist<'_>,
     sweeps: &SweepCounts,
-    gates: &[u32],
-    number: u32,
-    gate: u32,
+    listed: ListedLoop<'_>,
     read: &[bool],
 ) -> Result<(), Failed>
-    requires blocks { AreBlocksOf net.now blocks.now }
-    requires cut { IsCutOf net.now cut.now }
-    requires sweeps { length sweeps.now.per_block ≡ length blocks.now.list }
-    requires gate { gate < length net.now.gates }
-    requires gates { gates.now ≡ loop_of net.now gate }
-    requires read { AreColumnsRead net.now gate read.now }
-    ensures { IsAppended (told_lines net.now (sweeps_of blocks.now sweeps.now) number gate) (sink_call K.put K.faults sink.old sink.new) result }
+    requires sweeps { length sweeps.now.per_block ≡ length looped.now.blocks.list }
+    requires listed { IsLoopOf looped.now.net (loop_seen listed) }
+    requires read { AreColumnsRead looped.now.net listed.first read.now }
+    ensures { IsAppended (told_lines looped.now.net (sweeps_of looped.now.blocks sweeps.now) listed.entry.number listed.entry.first) (sink_call K.put K.faults sink.old sink.new) result }
 {
-    let count = sweeps_at(net, blocks, sweeps, gate);
-    put_told(sink, net, cut.wires.items(), number, gates, count, read)
+    let count = sweeps_at(looped, sweeps, listed.first);
+    put_told(sink, looped, listed, count, read)
 }
 
-// The lines of the loop that begins at this gate.
+// The lines of a loop.
 pub(crate) fn tell_loop(
     alloc: Global,
-    net: &Netlist,
-    blocks: &Blocks,
-    cut: &Cut,
+    looped: &LoopedNetlist<'_>,
     sweeps: &SweepCounts,
-    gates: &[u32],
-    number: u32,
-    gate: u32,
+    listed: ListedLoop<'_>,
     sink: &mut TextSink,
 ) -> Result<(), AllocError>
-    requires blocks { AreBlocksOf net.now blocks.now }
-    requires cut { IsCutOf net.now cut.now }
-    requires sweeps { length sweeps.now.per_block ≡ length blocks.now.list }
-    requires gate { gate < length net.now.gates }
-    requires gates { gates.now ≡ loop_of net.now gate }
-    ensures { OnOk result (text_bytes sink.new ≡ text_bytes sink.old ++ told_lines net.now (sweeps_of blocks.now sweeps.now) number gate) }
+    requires sweeps { length sweeps.now.per_block ≡ length looped.now.blocks.list }
+    requires listed { IsLoopOf looped.now.net (loop_seen listed) }
+    ensures { OnOk result (text_bytes sink.new ≡ text_bytes sink.old ++ told_lines looped.now.net (sweeps_of looped.now.blocks sweeps.now) listed.entry.number listed.entry.first) }
 {
-    let read = columns_read(alloc, net, blocks, gate)?;
-    if put_loop_told(sink, net, blocks, cut, sweeps, gates, number, gate, &read).is_err() {
+    let read = columns_read(alloc, looped.net(), looped.blocks(), listed.first)?;
+    if put_loop_told(sink, looped, sweeps, listed, &read).is_err() {
         return Err(AllocError);
     }
     Ok(())
 }
 
-// The same, where one begins there, behind this number of loops; and how many there are then.
-fn tell_loop_at(
-    alloc: Global,
-    net: &Netlist,
-    blocks: &Blocks,
-    cut: &Cut,
-    sweeps: &SweepCounts,
-    loops: u32,
-    gate: u32,
-    sink: &mut TextSink,
-) -> Result<u32, AllocError>
-    requires blocks { AreBlocksOf net.now blocks.now }
-    requires cut { IsCutOf net.now cut.now }
-    requires sweeps { length sweeps.now.per_block ≡ length blocks.now.list }
-    requires gate { gate < length net.now.gates }
-    requires loops { loops < 4294967295 }
-    ensures count { IfOk result (λ count. count ≡ loops + cond (begins_with (loop_of net.now gate) gate) 1 0) }
-    ensures text { OnOk result (text_bytes sink.new ≡ text_bytes sink.old ++ loop_at (told_lines net.now (sweeps_of blocks.now sweeps.now)) net.now (loops + 1) gate) }
-{
-    match loop_from(net, blocks, gate) {
-        Some(block) => {
-            let gates = block.gates.items();
-            tell_loop(
-                alloc,
-                net,
-                blocks,
-                cut,
-                sweeps,
-                gates,
-                loops + 1,
-                gate,
-                sink,
-            )?;
-            Ok(loops + 1)
-        }
-        None => Ok(loops),
-    }
-}
-
 // The lines of all loops.
 fn tell_each_loop(
     alloc: Global,
-    net: &Netlist,
-    blocks: &Blocks,
-    cut: &Cut,
+    looped: &LoopedNetlist<'_>,
     sweeps: &SweepCounts,
     sink: &mut TextSink,
 ) -> Result<(), AllocError>
-    requires blocks { AreBlocksOf net.now blocks.now }
-    requires cut { IsCutOf net.now cut.now }
-    requires sweeps { length sweeps.now.per_block ≡ length blocks.now.list }
-    ensures { OnOk result (text_bytes sink.new ≡ text_bytes sink.old ++ told_loops net.now (sweeps_of blocks.now sweeps.now)) }
+    requires { length sweeps.now.per_block ≡ length looped.now.blocks.list }
+    ensures { OnOk result (text_bytes sink.new ≡ text_bytes sink.old ++ told_loops looped.now.net (sweeps_of looped.now.blocks sweeps.now)) }
 {
-    let mut loops = 0;
-    for gate in 0..net.gates() {
-        loops = tell_loop_at(alloc, net, blocks, cut, sweeps, loops, gate, sink)?;
+    for listed in looped.in_order() {
+        tell_loop(alloc, looped, sweeps, listed, sink)?;
     }
     Ok(())
 }
@@ -260,5 +200,5 @@ pub fn tell_loops(
     ensures on_care { OnOk result ((care : CareSet) → AreSweepsOnCare net.now blocks.now cut.now care sweeps.now →
         text_bytes sink.new ≡ text_bytes sink.old ++ told_loops net.now (sweeps_needed net.now care)) }
 {
-    tell_each_loop(alloc, net, blocks, cut, sweeps, sink)
+    tell_each_loop(alloc, &LoopedNetlist::new(net, blocks, cut), sweeps, sink)
 }

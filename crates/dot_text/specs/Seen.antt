@@ -1,33 +1,32 @@
 -- How clauses see what is drawn.
-use Rattle.std.specs.Prelude.{◌≡◌, ◌≤◌, ◌<◌, ◌||◌, ℕ, Bool, List, length}
+use Rattle.std.specs.Prelude.{◌≡◌, ◌≤◌, ◌<◌, ◌||◌, ℕ, Bool, List, All, length}
 use Rattle.isolation.specs.Cones.{is_marked}
-use Rattle.loops.specs.Blocks.{AreBlocksOf}
-use Rattle.loops.specs.Cuts.{in_one_loop, IsCutOf, loops_by}
+use Rattle.loops.specs.Found.{loops_of}
 use Rattle.netlist.specs.declared.parts.Parts.{Parts}
 use Rattle.netlist.specs.Netlists.{count, IsNetlist}
-use Rattle.dot_text.specs.ExplanationGraphs.{is_one_of, Picture}
+use Rattle.dot_text.specs.ExplanationGraphs.{drawn_gates, is_one_of, Picture}
 use Rattle.dot_text.specs.declared.explanation_graph.Drawing.{Drawing}
 
 abbrev pub picture_seen : Drawing → Picture
 picture_seen d = record {
-  net = d.net.now;
-  loops = loops_by d.blocks.now d.cut.now;
+  net = d.looped.now.net;
+  loops = loops_of d.looped.now.net;
   values = d.values.now;
-  drawn = λ n. in_one_loop d.blocks.now d.first n || is_marked d.way.now n;
+  drawn = λ n. (loops_of d.looped.now.net).same d.first n || is_marked d.way.now n;
   cycle = is_marked d.cycle.now;
   needs = d.needs.now;
 }
 
--- its blocks and cut are the netlist's, and all else has the netlist's widths
+-- its gates are those that are drawn, and all has the netlist's widths
 pub record IsDrawing (d : Drawing) : Type 0 where
-  pub valid : IsNetlist d.net.now
-  pub blocks : AreBlocksOf d.net.now d.blocks.now
-  pub cut : IsCutOf d.net.now d.cut.now
-  pub values : length d.values.now ≡ count d.net.now
-  pub first : d.first < length d.net.now.gates
-  pub way : length d.way.now ≡ length d.net.now.gates
-  pub cycle : length d.cycle.now ≡ length d.net.now.gates
-  pub needs : length d.needs.now ≤ count d.net.now
+  pub valid : IsNetlist d.looped.now.net
+  pub values : length d.values.now ≡ count d.looped.now.net
+  pub gates : d.gates.now ≡ drawn_gates (picture_seen d)
+  pub inside : All (λ n. n < length d.looped.now.net.gates) d.gates.now
+  pub first : d.first < length d.looped.now.net.gates
+  pub way : length d.way.now ≡ length d.looped.now.net.gates
+  pub cycle : length d.cycle.now ≡ length d.looped.now.net.gates
+  pub needs : length d.needs.now ≤ count d.looped.now.net
 
 -- just these gates are marked
 pub record AreMarksOf (net : Parts) (gates : List ℕ) (marks : List Bool) : Type 0 where

@@ -1,6 +1,6 @@
 //! Why a gate is undetermined.
 
-ghost use Rattle.std.specs.Prelude.{◌≡◌, ◌≤◌, ◌<◌, ◌+◌, ◌++◌, ◌&&◌, ℕ, false, [], if◌then◌else◌, All, Contains, IfOk, OnOk, length, slice_index_or};
+ghost use Rattle.std.specs.Prelude.{◌≡◌, ◌≤◌, ◌<◌, ◌+◌, ◌++◌, ◌&&◌, ◌||◌, ℕ, false, All, Contains, IfOk, OnOk, filter, length, slice_index_or};
 ghost use Rattle.std.specs.List.{flat_map, range_with_len};
 ghost use Rattle.cyc_base.specs.Values.{bits};
 ghost use Rattle.cyc_base.specs.declared.trit.Trit.TheVariants.{X};
@@ -8,13 +8,15 @@ ghost use Rattle.cyc_io.specs.Taken.{IsAppended, sink_call};
 ghost use Rattle.cyc_io.specs.Text.{text_bytes};
 ghost use Rattle.isolation.specs.Cones.{AddMarks, is_marked};
 ghost use Rattle.loops.specs.Blocks.{AreBlocksOf};
-ghost use Rattle.loops.specs.Cuts.{IsCutOf, in_one_loop, is_cut};
+ghost use Rattle.loops.specs.Cuts.{IsCutOf};
+ghost use Rattle.loops.specs.Found.{loops_of};
+ghost use Rattle.loops.specs.Listed.{gate_numbers};
 ghost use Rattle.netlist.specs.Fixpoint.{fix, wire as value_of};
 ghost use Rattle.netlist.specs.Netlists.{IsNetlist, IsSignal, count, gate_sig, signal};
 ghost use Rattle.report.specs.Explanations.{IsExplanationOf};
 ghost use Rattle.report.specs.Verdicts.{signal_name};
 ghost use Rattle.dot_text.specs.Dot.{labelled_graph};
-ghost use Rattle.dot_text.specs.ExplanationGraphs.{drawn_gates, explanation_graph, gate_node, gate_opens as gate_opens_of, gate_wire, needed_box, needed_node, needed_wire, picture, pin_wire, pin_wires, style as style_of, unknown_style as unknown_style_of};
+ghost use Rattle.dot_text.specs.ExplanationGraphs.{explanation_graph, gate_node, gate_opens as gate_opens_of, gate_wire, needed_box, needed_node, needed_wire, picture, pin_wire, pin_wires, style as style_of, unknown_style as unknown_style_of};
 ghost use Rattle.dot_text.specs.LoopGraphs.{wire_style as known_style_of};
 ghost use Rattle.dot_text.specs.Seen.{AreMarksOf, IsDrawing, picture_seen};
 
@@ -22,6 +24,7 @@ use crate::node::{open_graph, put_node, put_wire};
 use cyc_base::{Name, Sig, Trit};
 use cyc_io::{Failed, Sink, TextSink, write_whole};
 use explanations::Explanation;
+use looped::LoopedNetlist;
 use loops::{Blocks, Cut};
 use netlist::Netlist;
 use std::alloc::{AllocError, Global};
@@ -30,11 +33,11 @@ use ternary_run::settle;
 // What is drawn of a netlist.
 #[derive(Clone, Copy, Drop)]
 pub(crate) struct Drawing<'a> {
-    net: &'a Netlist,
-    blocks: &'a Blocks,
-    cut: &'a Cut,
+    looped: &'a LoopedNetlist<'a>,
     // The values of the signals.
     values: &'a [Trit],
+    // The gates that are drawn.
+    gates: &'a [u32],
     // A gate of the loop that is drawn.
     first: u32,
     // The gates beside it that are drawn, and those of the cycle, by a mark for each gate.
@@ -79,61 +82,37 @@ fn style(value: Trit, bold: bool, cut: bool) -> &'static [u8]
     }
 }
 
-// Whether two gates are in one loop.
-fn are_in_one_loop(net: &Netlist, blocks: &Blocks, gate: u32, other: u32) -> bool
-    requires blocks { AreBlocksOf net.now blocks.now }
-    requires gate { gate < length net.now.gates }
-    requires other { other < length net.now.gates }
-    ensures { result ≡ in_one_loop blocks.now gate other }
-{
-    let home = blocks.home.items()[gate as usize];
-    blocks.list.items()[home as usize].looped && home == blocks.home.items()[other as usize]
-}
-
 fn is_drawn(drawing: &Drawing<'_>, gate: u32) -> bool
     requires drawing { IsDrawing drawing.now }
-    requires gate { gate < length drawing.now.net.now.gates }
+    requires gate { gate < length drawing.now.looped.now.net.gates }
     ensures { result ≡ (picture_seen drawing.now).drawn gate }
 {
-    are_in_one_loop(drawing.net, drawing.blocks, drawing.first, gate) || drawing.way[gate as usize]
+    drawing.looped.are_in_one_loop(drawing.first, gate) || drawing.way[gate as usize]
 }
 
 // The node of a gate.
 fn put_gate<K: Sink>(sink: &mut K, drawing: &Drawing<'_>, gate: u32) -> Result<(), Failed>
     requires drawing { IsDrawing drawing.now }
-    requires gate { gate < length drawing.now.net.now.gates }
+    requires gate { gate < length drawing.now.looped.now.net.gates }
     ensures { IsAppended (gate_node (picture_seen drawing.now) gate) (sink_call K.put K.faults sink.old sink.new) result }
 {
-    let signal = drawing.net.gate_sig(gate);
+    let signal = drawing.looped.net().gate_sig(gate);
     put_node(
         sink,
         signal,
         gate_opens(drawing.values[signal.0 as usize]),
-        drawing.net.gate(gate).name.bytes(),
+        drawing.looped.net().gate(gate).name.bytes(),
         b"\"];\n",
     )
-}
-
-#[tactic(auto, using(cyc_io::proofs::TakenLemmas::appended_none))]
-fn put_gate_at<K: Sink>(sink: &mut K, drawing: &Drawing<'_>, gate: u32) -> Result<(), Failed>
-    requires drawing { IsDrawing drawing.now }
-    requires gate { gate < length drawing.now.net.now.gates }
-    ensures { IsAppended (if (picture_seen drawing.now).drawn gate then gate_node (picture_seen drawing.now) gate else []) (sink_call K.put K.faults sink.old sink.new) result }
-{
-    if is_drawn(drawing, gate) {
-        put_gate(sink, drawing, gate)
-    } else {
-        Ok(())
-    }
 }
 
 // The nodes of the gates.
 fn put_gates<K: Sink>(sink: &mut K, drawing: &Drawing<'_>) -> Result<(), Failed>
     requires drawing { IsDrawing drawing.now }
-    ensures { IsAppended (flat_map (gate_node (picture_seen drawing.now)) (drawn_gates (picture_seen drawing.now))) (sink_call K.put K.faults sink.old sink.new) result }
+    ensures { IsAppended (flat_map (gate_node (picture_seen drawing.now)) drawing.now.gates.now) (sink_call K.put K.faults sink.old sink.new) result }
 {
-    for gate in 0..drawing.net.gates() {
-        put_gate_at(sink, drawing, gate)?;
+    for gate in drawing.gates {
+        put_gate(sink, drawing, *gate)?;
     }
     Ok(())
 }
@@ -141,16 +120,15 @@ fn put_gates<K: Sink>(sink: &mut K, drawing: &Drawing<'_>) -> Result<(), Failed>
 // How the wire from one gate to another is drawn.
 fn style_between(drawing: &Drawing<'_>, from: u32, to: u32) -> &'static [u8]
     requires drawing { IsDrawing drawing.now }
-    requires from { from < length drawing.now.net.now.gates }
-    requires to { to < length drawing.now.net.now.gates }
-    ensures { result.now ≡ style_of (value_of drawing.now.values.now (gate_sig drawing.now.net.now from))
+    requires from { from < length drawing.now.looped.now.net.gates }
+    requires to { to < length drawing.now.looped.now.net.gates }
+    ensures { result.now ≡ style_of (value_of drawing.now.values.now (gate_sig drawing.now.looped.now.net from))
         (is_marked drawing.now.cycle.now from && is_marked drawing.now.cycle.now to)
-        (in_one_loop drawing.now.blocks.now to from && is_cut drawing.now.cut.now.wires from) }
+        ((loops_of drawing.now.looped.now.net).same to from && (loops_of drawing.now.looped.now.net).cut from) }
 {
-    let value = drawing.values[drawing.net.gate_sig(from).0 as usize];
+    let value = drawing.values[drawing.looped.net().gate_sig(from).0 as usize];
     let bold = drawing.cycle[from as usize] && drawing.cycle[to as usize];
-    let cut = are_in_one_loop(drawing.net, drawing.blocks, to, from)
-        && drawing.cut.wires.items()[from as usize];
+    let cut = drawing.looped.are_in_one_loop(to, from) && drawing.looped.is_cut(from);
     style(value, bold, cut)
 }
 
@@ -163,12 +141,12 @@ fn put_gate_wire<K: Sink>(
     source: u32,
 ) -> Result<(), Failed>
     requires drawing { IsDrawing drawing.now }
-    requires gate { gate < length drawing.now.net.now.gates }
-    requires source { source < length drawing.now.net.now.gates }
+    requires gate { gate < length drawing.now.looped.now.net.gates }
+    requires source { source < length drawing.now.looped.now.net.gates }
     ensures { IsAppended (gate_wire (picture_seen drawing.now) gate source) (sink_call K.put K.faults sink.old sink.new) result }
 {
     if is_drawn(drawing, source) {
-        let net = drawing.net;
+        let net = drawing.looped.net();
         put_wire(
             sink,
             net.gate_sig(source),
@@ -208,16 +186,16 @@ fn put_needed_wire<K: Sink>(
 // The wire that a pin of a gate reads.
 fn put_pin<K: Sink>(sink: &mut K, drawing: &Drawing<'_>, gate: u32, pin: Sig) -> Result<(), Failed>
     requires drawing { IsDrawing drawing.now }
-    requires gate { gate < length drawing.now.net.now.gates }
-    requires pin { IsSignal drawing.now.net.now pin }
+    requires gate { gate < length drawing.now.looped.now.net.gates }
+    requires pin { IsSignal drawing.now.looped.now.net pin }
     ensures { IsAppended (pin_wire (picture_seen drawing.now) gate pin) (sink_call K.put K.faults sink.old sink.new) result }
 {
-    let first = drawing.net.inputs() + drawing.net.latches();
+    let first = drawing.looped.net().inputs() + drawing.looped.net().latches();
     if pin.0 >= first {
         put_gate_wire(sink, drawing, gate, pin.0 - first)
     } else {
         let value = need(drawing.needs, pin.0);
-        put_needed_wire(sink, pin, drawing.net, gate, value)
+        put_needed_wire(sink, pin, drawing.looped.net(), gate, value)
     }
 }
 
@@ -228,8 +206,8 @@ fn put_pins<K: Sink>(
     pins: &[Sig],
 ) -> Result<(), Failed>
     requires drawing { IsDrawing drawing.now }
-    requires gate { gate < length drawing.now.net.now.gates }
-    requires pins { All (IsSignal drawing.now.net.now) pins.now }
+    requires gate { gate < length drawing.now.looped.now.net.gates }
+    requires pins { All (IsSignal drawing.now.looped.now.net) pins.now }
     ensures { IsAppended (flat_map (pin_wire (picture_seen drawing.now) gate) pins.now) (sink_call K.put K.faults sink.old sink.new) result }
 {
     for pin in pins {
@@ -240,32 +218,24 @@ fn put_pins<K: Sink>(
 
 fn put_wires_of<K: Sink>(sink: &mut K, drawing: &Drawing<'_>, gate: u32) -> Result<(), Failed>
     requires drawing { IsDrawing drawing.now }
-    requires gate { gate < length drawing.now.net.now.gates }
+    requires gate { gate < length drawing.now.looped.now.net.gates }
     ensures { IsAppended (pin_wires (picture_seen drawing.now) gate) (sink_call K.put K.faults sink.old sink.new) result }
 {
-    put_pins(sink, drawing, gate, drawing.net.gate(gate).pins.items())
-}
-
-#[tactic(auto, using(cyc_io::proofs::TakenLemmas::appended_none))]
-fn put_wires_at<K: Sink>(sink: &mut K, drawing: &Drawing<'_>, gate: u32) -> Result<(), Failed>
-    requires drawing { IsDrawing drawing.now }
-    requires gate { gate < length drawing.now.net.now.gates }
-    ensures { IsAppended (if (picture_seen drawing.now).drawn gate then pin_wires (picture_seen drawing.now) gate else []) (sink_call K.put K.faults sink.old sink.new) result }
-{
-    if is_drawn(drawing, gate) {
-        put_wires_of(sink, drawing, gate)
-    } else {
-        Ok(())
-    }
+    put_pins(
+        sink,
+        drawing,
+        gate,
+        drawing.looped.net().gate(gate).pins.items(),
+    )
 }
 
 // The wires that the gates read.
 fn put_wires<K: Sink>(sink: &mut K, drawing: &Drawing<'_>) -> Result<(), Failed>
     requires drawing { IsDrawing drawing.now }
-    ensures { IsAppended (flat_map (pin_wires (picture_seen drawing.now)) (drawn_gates (picture_seen drawing.now))) (sink_call K.put K.faults sink.old sink.new) result }
+    ensures { IsAppended (flat_map (pin_wires (picture_seen drawing.now)) drawing.now.gates.now) (sink_call K.put K.faults sink.old sink.new) result }
 {
-    for gate in 0..drawing.net.gates() {
-        put_wires_at(sink, drawing, gate)?;
+    for gate in drawing.gates {
+        put_wires_of(sink, drawing, *gate)?;
     }
     Ok(())
 }
@@ -298,7 +268,7 @@ fn put_need<K: Sink>(sink: &mut K, drawing: &Drawing<'_>, column: u32) -> Result
     put_box(
         sink,
         Sig(column),
-        column_name(drawing.net, column),
+        column_name(drawing.looped.net(), column),
         need(drawing.needs, column),
     )
 }
@@ -389,11 +359,26 @@ fn tell_labelled(label: &[u8], drawing: &Drawing<'_>, sink: &mut TextSink) -> Re
     Ok(())
 }
 
+// The gates of the loop of this gate, and those that are marked.
+fn drawn_gates(
+    alloc: Global,
+    looped: &LoopedNetlist<'_>,
+    first: u32,
+    way: &[bool],
+) -> Result<Vec<u32>, AllocError>
+    requires first { first < length looped.now.net.gates }
+    requires way { length way.now ≡ length looped.now.net.gates }
+    ensures { IfOk result (λ gates. gates.items ≡ filter (λ n. (loops_of looped.now.net).same first n || is_marked way.now n) (gate_numbers looped.now.net)) }
+{
+    (0..looped.net().gates())
+        .filter(|gate| looped.are_in_one_loop(first, *gate) || way[*gate as usize])
+        .collect(alloc)
+}
+
 // The graph where the signals have these values, and where the gates of the way and of the cycle are marked.
 fn tell_drawing(
-    net: &Netlist,
-    blocks: &Blocks,
-    cut: &Cut,
+    alloc: Global,
+    looped: &LoopedNetlist<'_>,
     why: &Explanation,
     values: &[Trit],
     way: &[bool],
@@ -401,22 +386,21 @@ fn tell_drawing(
     label: &[u8],
     sink: &mut TextSink,
 ) -> Result<(), AllocError>
-    requires valid { IsNetlist net.now }
-    requires blocks { AreBlocksOf net.now blocks.now }
-    requires cut { IsCutOf net.now cut.now }
-    requires why { IsExplanationOf net.now why.now }
+    requires valid { IsNetlist looped.now.net }
+    requires why { IsExplanationOf looped.now.net why.now }
     requires some { 0 < length why.now.cycle }
-    requires values { length values.now ≡ count net.now }
-    requires way { AreMarksOf net.now why.now.way way.now }
-    requires cycle { AreMarksOf net.now why.now.cycle cycle.now }
-    ensures { OnOk result (text_bytes sink.new ≡ text_bytes sink.old ++ explanation_graph net.now label.now values.now why.now) }
+    requires values { length values.now ≡ count looped.now.net }
+    requires way { AreMarksOf looped.now.net why.now.way way.now }
+    requires cycle { AreMarksOf looped.now.net why.now.cycle cycle.now }
+    ensures { OnOk result (text_bytes sink.new ≡ text_bytes sink.old ++ explanation_graph looped.now.net label.now values.now why.now) }
 {
+    let first = why.cycle.items()[0];
+    let gates = drawn_gates(alloc, looped, first, way)?;
     let drawing = Drawing {
-        net,
-        blocks,
-        cut,
+        looped,
         values,
-        first: why.cycle.items()[0],
+        gates: &gates,
+        first,
         way,
         cycle,
         needs: why.needs.items(),
@@ -455,5 +439,6 @@ pub fn tell_explanation_graph(
     let values = values_at(alloc, net, vector)?;
     let way = marks_of(alloc, net, why.way.items())?;
     let cycle = marks_of(alloc, net, why.cycle.items())?;
-    tell_drawing(net, blocks, cut, why, &values, &way, &cycle, label, sink)
+    let looped = LoopedNetlist::new(net, blocks, cut);
+    tell_drawing(alloc, &looped, why, &values, &way, &cycle, label, sink)
 }

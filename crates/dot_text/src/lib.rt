@@ -1,6 +1,6 @@
 //! Loops, and why a gate is undetermined, as graphs in the DOT language of Graphviz.
 //!
-//! It stands on `report`, for the order of loops, on `isolation`, for what blocks and cut wires tell of loops, and on
+//! It stands on `looped`, for what is told of loops, on `report`, for their order, on `isolation`, for marks of gates, and on
 //! `explanations` and `ternary_run`, for what an explanation has and which gates are unknown. The layer above uses that each
 //! call appends the text of its definition.
 #![tactic(auto)]

@@ -1,17 +1,24 @@
 -- The lines of loops, one after another.
-use Rattle.std.proofs.Common.{◌≡◌, ℕ, zero, suc, ◌+◌, ◌-◌, ◌<◌, Bool, true, false, cond, List, [], ◌∷◌, ◌++◌, length, filter, codes, refl, sym, ap, ◌∙◌, arith, append-nil, append_assoc}
-use Rattle.std.specs.Prelude.{if◌then◌else◌, Ok, Err, IsErr}
+use Rattle.std.proofs.Common.{◌≡◌, ℕ, ◌+◌, Bool, true, false, cond, List, [], ◌∷◌, ◌++◌, length, take, filter, get_or, codes, refl, sym, ap, ◌∙◌, arith, append-nil}
+use Rattle.std.proofs.lemmas.List.{length-append, take_all, take_more}
+use Rattle.std.proofs.lemmas.List.Concat.{flat_map-append}
+use Rattle.std.specs.Iterator.{Yields, YieldsFirstBy}
+use Rattle.std.specs.List.{flat_map}
+use Rattle.std.specs.Prelude.{if◌then◌else◌, Some, Ok, Err, IsErr}
 use Rattle.std.specs.declared.option.Option.{Option}
 use Rattle.std.specs.declared.result.Result.{Result}
-use Rattle.std.specs.List.{flat_map, range_with_len}
-use Rattle.cyc_io.specs.Taken.{IsAppended}
-use Rattle.cyc_io.proofs.TakenLemmas.{over, appended_as, appended_cut, appended_equal, appended_then}
+use Rattle.cyc_io.specs.Taken.{SinkCall, IsAppended}
+use Rattle.cyc_io.proofs.ItemLemmas.{appended_item, appended_in_item, appended_items}
+use Rattle.cyc_io.proofs.TakenLemmas.{over, appended_equal}
 use Rattle.netlist.specs.declared.parts.Parts.{Parts}
-use Rattle.loops.specs.declared.structure.Cut.{Cut}
-use Rattle.loops.specs.Cuts.{IsCutOf, is_cut}
-use Rattle.loops.specs.Listed.{loop_of, begins_with}
-use Rattle.loops.proofs.ListedLemmas.{cut_wires_told, kept_more}
-use Rattle.report.specs.LoopTexts.{loop_line, loop_lines, loop_at, numbered_loops, each_loop}
+use Rattle.loops.specs.Found.{loops_of}
+use Rattle.loops.specs.Listed.{first_gates}
+use Rattle.looped.proofs.ListLemmas.{all_came, comes_at}
+use Rattle.looped.specs.Left.{loop_seen, loops_left}
+use Rattle.looped.specs.Listed.{Listed, IsLoopOf, listed_loops, numbered}
+use Rattle.looped.specs.declared.loop_list.ListedLoop.{ListedLoop}
+use Rattle.looped.specs.declared.loop_list.LoopList.{LoopList}
+use Rattle.report.specs.LoopTexts.{loop_line, loop_lines, numbered_loops, each_loop}
 
 -- the texts of the items that pass a test
 pub kept_texts : {X : Type 0} (p : X → Bool) (f : X → List ℕ) (xs : List X) → flat_map f (filter p xs) ≡ flat_map (λ x. if p x then f x else []) xs
@@ -23,80 +30,71 @@ kept_texts p f (x ∷ xs) = by_test (p x) (kept_texts p f xs)
     by_test true rest = ap (λ text. f x ++ text) rest
     by_test false rest = rest
 
--- the lines of a loop whose gates are these
-pub loop_is : (net : Parts) (cut : Cut) (number gate : ℕ) (gates : List ℕ) → IsCutOf net cut → begins_with (loop_of net gate) gate ≡ true
-    → gates ≡ loop_of net gate
-    → loop_at (loop_lines net) net number gate ≡ loop_line net number (codes " gates") gates ++ loop_line net number (codes " cut") (filter (is_cut cut.wires) gates)
-loop_is net cut number gate gates is begun loop =
-    ap (λ (t : Bool). if t then loop_lines net number gate else []) begun
-    ∙ ap (λ wires. loop_line net number (codes " gates") (loop_of net gate) ++ loop_line net number (codes " cut") wires)
-    (cut_wires_told net cut gate (loop_of net gate) is refl)
-    ∙ ap (λ gs. loop_line net number (codes " gates") gs ++ loop_line net number (codes " cut") (filter (is_cut cut.wires) gs)) (sym loop)
+-- the lines of a loop
+pub lines_are : (net : Parts) (l : Listed) → IsLoopOf net l
+    → loop_lines net l.number l.first ≡ loop_line net l.number (codes " gates") l.gates ++ loop_line net l.number (codes " cut") (filter (loops_of net).cut l.gates)
+lines_are net l is = ap (λ (gates : List ℕ). loop_line net l.number (codes " gates") gates ++ loop_line net l.number (codes " cut") (filter (loops_of net).cut gates)) (sym is.gates)
 
--- where none begins there is no text
-pub no_loop : (text : ℕ → ℕ → List ℕ) (net : Parts) (number gate : ℕ) → begins_with (loop_of net gate) gate ≡ false → loop_at text net number gate ≡ []
-no_loop text net number gate none = ap (λ (t : Bool). if t then text number gate else []) none
+-- ---- loops one after another
 
--- the loops that begin before this gate
-abbrev pub begun_before : Parts → ℕ → List ℕ
-begun_before net gate = filter (λ n. begins_with (loop_of net n) n) (range_with_len 0 gate)
+-- what is told of a loop
+abbrev pub told_of : (ℕ → ℕ → List ℕ) → Listed → List ℕ
+told_of text l = text l.number l.first
 
--- their texts
-abbrev pub texts_before : (ℕ → ℕ → List ℕ) → Parts → ℕ → List ℕ
-texts_before text net gate = numbered_loops text 1 (begun_before net gate)
-
--- the text of one more loop
-numbered_more : (text : ℕ → ℕ → List ℕ) (k : ℕ) (ns : List ℕ) (n : ℕ) → numbered_loops text k (ns ++ n ∷ []) ≡ numbered_loops text k ns ++ text (k + length ns) n
-numbered_more text k [] n = append-nil (text k n) ∙ ap (λ j. text j n) (let e : k ≡ k + 0 = omega arith in e)
-numbered_more text k (m ∷ ns) n =
-    ap (λ rest. text k m ++ rest) (numbered_more text (k + 1) ns n ∙ ap (λ j. numbered_loops text (k + 1) ns ++ text j n) (let e : k + 1 + length ns ≡ k + length (m ∷ ns) = omega arith in e))
-    ∙ sym (append_assoc (text k m) (numbered_loops text (k + 1) ns) (text (k + length (m ∷ ns)) n))
-
--- the texts up to one more gate
-pub texts_more : (text : ℕ → ℕ → List ℕ) (net : Parts) (gate loops : ℕ) → loops ≡ length (begun_before net gate)
-    → texts_before text net (gate + 1) ≡ texts_before text net gate ++ loop_at text net (loops + 1) gate
-texts_more text net gate loops counted =
-    ap (numbered_loops text 1) (kept_more (λ n. begins_with (loop_of net n) n) gate)
-    ∙ by_test (begins_with (loop_of net gate) gate)
-    ∙ ap (λ k. texts_before text net gate ++ loop_at text net (k + 1) gate) (sym counted)
+-- the texts of all loops are those of the list
+pub each_is : (text : ℕ → ℕ → List ℕ) (net : Parts) → flat_map (told_of text) (listed_loops net) ≡ each_loop text net
+each_is text net = from 1 (first_gates net)
   where
-    before : List ℕ
-    before = begun_before net gate
+    from : (k : ℕ) (gates : List ℕ) → flat_map (told_of text) (numbered net k gates) ≡ numbered_loops text k gates
+    from k [] = refl
+    from k (gate ∷ gates) = ap (λ rest. text k gate ++ rest) (from (k + 1) gates)
 
-    by_test : (t : Bool) → numbered_loops text 1 (before ++ cond t (gate ∷ []) []) ≡ numbered_loops text 1 before ++ (if t then text (length before + 1) gate else [])
-    by_test true = numbered_more text 1 before gate ∙ ap (λ k. numbered_loops text 1 before ++ text k gate) (let e : 1 + length before ≡ length before + 1 = omega arith in e)
-    by_test false = ap (numbered_loops text 1) (append-nil before) ∙ sym (append-nil (numbered_loops text 1 before))
+-- the texts of the loops that came
+abbrev pub told_first : (ℕ → ℕ → List ℕ) → Parts → ℕ → List ℕ
+told_first text net n = flat_map (told_of text) (take n (listed_loops net))
 
--- the texts before a gate are the front of those before a later one
-texts_behind : (text : ℕ → ℕ → List ℕ) (net : Parts) (i k : ℕ) → (rest : List ℕ) × (texts_before text net (i + k) ≡ texts_before text net i ++ rest)
-texts_behind text net i zero = ([], ap (texts_before text net) (let e : i + 0 ≡ i = omega arith in e) ∙ sym (append-nil (texts_before text net i)))
-texts_behind text net i (suc k) =
-    let (rest, is) = texts_behind text net i k in
-    let next = loop_at text net (length (begun_before net (i + k)) + 1) (i + k) in (
-      rest ++ next,
-      ap (texts_before text net) (let e : i + suc k ≡ i + k + 1 = omega arith in e)
-          ∙ texts_more text net (i + k) (length (begun_before net (i + k))) refl
-          ∙ ap (λ told. told ++ next) is
-          ∙ append_assoc (texts_before text net i) rest next,
-    )
+module _ (text : ℕ → ℕ → List ℕ) (net : Parts) (s t u : LoopList) (came : List ListedLoop) (all : loops_left s ≡ listed_loops net) (yielded : Yields (YieldsFirstBy loop_seen loops_left) s came t) where
+  -- one more loop
+  pub one_more : (x : ListedLoop) → YieldsFirstBy loop_seen loops_left t (Some x) u
+      → told_first text net (length (came ++ x ∷ [])) ≡ told_first text net (length came) ++ text x.number x.first
+  one_more x next =
+      let at = comes_at net s t u came x all yielded next in
+      let wide = length-append came (x ∷ []) in
+      let grown : length (came ++ x ∷ []) ≡ length came + 1 = omega (arith, wide) in
+      ap (told_first text net) grown
+      ∙ ap (flat_map (told_of text)) (take_more (listed_loops net) (length came) (loop_seen x) at.inside)
+      ∙ flat_map-append (told_of text) (take (length came) (listed_loops net)) (get_or (listed_loops net) (length came) (loop_seen x) ∷ [])
+      ∙ ap (λ (l : Listed). told_first text net (length came) ++ (told_of text l ++ [])) (sym at.is)
+      ∙ ap (λ (rest : List ℕ). told_first text net (length came) ++ rest) (append-nil (text x.number x.first))
 
-module _ {T E : Type 0} (text : ℕ → ℕ → List ℕ) (net : Parts) (gate loops count : ℕ) (a b c : Option (List ℕ)) (i j k : ℕ) (counted : loops ≡ length (begun_before net gate)) where
-  pub loops_more : (t : T) → IsAppended {T = T} {E = E} (texts_before text net gate) (over a b i j) (Ok t)
-      → IsAppended {T = ℕ} {E = E} (loop_at text net (loops + 1) gate) (over b c j k) (Ok count)
-      → IsAppended {T = T} {E = E} (texts_before text net (gate + 1)) (over a c i k) (Ok t)
-  loops_more t first second =
-      appended_equal _ _ _ _ (texts_more text net gate loops counted) (appended_as _ count t (appended_then _ _ _ _ _ _ _ _ _ _ first second))
+  -- all loops
+  pub whole_told : loops_left t ≡ [] → told_first text net (length came) ≡ each_loop text net
+  whole_told none = ap (flat_map (told_of text)) (take_all (length came) (listed_loops net) (all_came net s t came all yielded none)) ∙ each_is text net
 
-  -- a loop that is cut off
-  pub loops_cut : (t : T) (e : E) (r : Result T E) → gate < length net.gates → IsAppended {T = T} {E = E} (texts_before text net gate) (over a b i j) (Ok t)
-      → IsAppended {T = ℕ} {E = E} (loop_at text net (loops + 1) gate) (over b c j k) (Err e) → IsErr r
+  -- the text of one more
+  pub told_more : {T U E : Type 0} (x : ListedLoop) (a b c : Option (List ℕ)) (i j k : ℕ) (done : T) (put : U) → YieldsFirstBy loop_seen loops_left t (Some x) u
+      → IsAppended {T = T} {E = E} (told_first text net (length came)) (over a b i j) (Ok done)
+      → IsAppended {T = U} {E = E} (text x.number x.first) (over b c j k) (Ok put)
+      → IsAppended {T = T} {E = E} (told_first text net (length (came ++ x ∷ []))) (over a c i k) (Ok done)
+  told_more x a b c i j k done put next first second =
+      let at = comes_at net s t u came x all yielded next in
+      let wide = length-append came (x ∷ []) in
+      let grown : length (came ++ x ∷ []) ≡ length came + 1 = omega (arith, wide) in
+      appended_equal _ _ _ _ (ap (told_first text net) grown)
+      (appended_item (told_of text) (listed_loops net) (length came) (loop_seen x) a b c i j k done put at.inside at.is first second)
+
+  -- a text that is cut off
+  pub told_cut : {T U E : Type 0} (x : ListedLoop) (a b c : Option (List ℕ)) (i j k : ℕ) (done : T) (e : E) (r : Result T E) → YieldsFirstBy loop_seen loops_left t (Some x) u
+      → IsAppended {T = T} {E = E} (told_first text net (length came)) (over a b i j) (Ok done)
+      → IsAppended {T = U} {E = E} (text x.number x.first) (over b c j k) (Err e) → IsErr r
       → IsAppended (each_loop text net) (over a c i k) r
-  loops_cut t e r inside first second err =
-      let (rest, is) = texts_behind text net (gate + 1) (length net.gates - (gate + 1)) in
-      let whole : texts_before text net (length net.gates) ≡ texts_before text net gate ++ (loop_at text net (loops + 1) gate ++ rest) =
-      ap (texts_before text net) (let e : length net.gates ≡ gate + 1 + (length net.gates - (gate + 1)) = omega (arith, inside) in e)
-      ∙ is
-      ∙ ap (λ told. told ++ rest) (texts_more text net gate loops counted)
-      ∙ append_assoc (texts_before text net gate) (loop_at text net (loops + 1) gate) rest
-      in
-      appended_equal _ _ _ _ whole (appended_then _ _ _ _ _ _ _ _ _ _ first (appended_cut _ _ _ e r second err))
+  told_cut x a b c i j k done e r next first second err =
+      let at = comes_at net s t u came x all yielded next in
+      appended_equal _ _ _ _ (sym (each_is text net))
+      (appended_in_item (told_of text) (listed_loops net) (length came) (loop_seen x) a b c i j k done e r at.inside at.is first second err)
+
+  -- the texts of all
+  pub told_all : {T E : Type 0} (sink : SinkCall) (done : T) → loops_left t ≡ [] → IsAppended {T = T} {E = E} (told_first text net (length came)) sink (Ok done)
+      → IsAppended {T = T} {E = E} (each_loop text net) sink (Ok done)
+  told_all sink done none told =
+      appended_equal _ _ _ _ (sym (each_is text net)) (appended_items (told_of text) (listed_loops net) (length came) sink done (all_came net s t came all yielded none) told)

@@ -1,23 +1,29 @@
-use Rattle.std.proofs.Common.{◌+◌, ◌≤◌, cond, sym, ap, ◌∙◌, arith}
-use Rattle.loops.specs.Listed.{loop_of, begins_with}
-use Rattle.loops.proofs.ListedLemmas.{at_most_one, counted_more}
+use Rattle.std.proofs.Common.{ap, sym, ◌∙◌, append-nil}
+use Rattle.looped.proofs.ListLemmas.{comes_at}
+use Rattle.looped.specs.Left.{loops_left}
 use Rattle.unroll.specs.Unrolled.{sweeps_of}
 use Rattle.accepted_loops.specs.Graphs.{told_cluster}
-use Rattle.accepted_loops.proofs.LineLemmas.{told_more}
+use Rattle.accepted_loops.proofs.LineLemmas.{all_told, one_more_told}
 use Rattle.accepted_loops.proofs.graph.tell_clusters.Goals as goal
 
-pub loop-gate-preserved : goal.loop-gate-preserved
-loop-gate-preserved c =
-    let begun = cond (begins_with (loop_of c.args.net.now c.loop-gate.gate) c.loop-gate.gate) 1 0 in
-    let one : begun ≤ 1 = at_most_one (begins_with (loop_of c.args.net.now c.loop-gate.gate) c.loop-gate.gate) in
-    let count = c.in_ok-loops.ensures.count in
-    let few = c.loop-gate.invariant.few in
-    record {
-      counted =
-          count
-          ∙ ap (λ k. k + begun) c.loop-gate.invariant.counted
-          ∙ sym (counted_more (λ n. begins_with (loop_of c.args.net.now n) n) c.loop-gate.gate);
-      few = omega (arith, count, one, few);
-      told = told_more (told_cluster c.args.net.now (sweeps_of c.args.blocks.now c.args.sweeps.now)) c.args.net.now c.loop-gate.gate c.loop-gate.loops _ _ _
-          c.loop-gate.invariant.counted c.loop-gate.invariant.told c.in_ok-loops.ensures.text;
-    }
+pub loop-listed-init : goal.loop-listed-init
+loop-listed-init c = (tt, sym (append-nil _))
+
+pub tell_cluster-requires-clause-listed : goal.tell_cluster-requires-clause-listed
+tell_cluster-requires-clause-listed c =
+    (comes_at c.args.looped.now.net c.into_iter-listed-iterator.result c.loop-listed.listed-iterator c.next.new.self c.loop-listed.yielded c.in-Some.listed
+    (ap loops_left c.into_iter-listed-iterator.ensures.into_iter_gives ∙ c.in_order-listed-items.ensures) c.loop-listed.yielded_by c.in-Some.ensures.steps).loop
+
+pub loop-listed-preserved : goal.loop-listed-preserved
+loop-listed-preserved c = (
+  tt,
+  one_more_told (told_cluster c.args.looped.now.net (sweeps_of c.args.looped.now.blocks c.args.sweeps.now)) c.args.looped.now.net c.into_iter-listed-iterator.result
+      c.loop-listed.listed-iterator c.next.new.self c.loop-listed.yielded (ap loops_left c.into_iter-listed-iterator.ensures.into_iter_gives ∙ c.in_order-listed-items.ensures)
+      c.loop-listed.yielded_by c.in-Some.listed _ _ _ c.in-Some.ensures.steps c.loop-listed.invariant.1 c.in_ok-tell_cluster.ensures,
+)
+
+pub returns : goal.returns
+returns c =
+    all_told (told_cluster c.args.looped.now.net (sweeps_of c.args.looped.now.blocks c.args.sweeps.now)) c.args.looped.now.net c.into_iter-listed-iterator.result
+    c.loop-listed.listed-iterator c.next.new.self c.loop-listed.yielded (ap loops_left c.into_iter-listed-iterator.ensures.into_iter_gives ∙ c.in_order-listed-items.ensures)
+    c.loop-listed.yielded_by _ _ c.in-None.ensures.steps.0 c.loop-listed.invariant.1

@@ -1,4 +1,8 @@
-use Rattle.cyc_io.proofs.TakenLemmas.{appended_then, appended_cut}
+use Rattle.std.proofs.Common.{ap, sym}
+use Rattle.cyc_io.proofs.TakenLemmas.{appended_then, appended_cut, appended_equal}
+use Rattle.netlist.specs.declared.parts.Parts.{Parts}
+use Rattle.accepted_loops.specs.Columns.{marked_columns}
+use Rattle.accepted_loops.specs.Lines.{columns_line}
 use Rattle.accepted_loops.proofs.lines.put_told.Goals as goal
 
 pub returns-in_err-put_loop : goal.returns-in_err-put_loop
@@ -8,4 +12,7 @@ pub returns-in_err-put_sweeps_line : goal.returns-in_err-put_sweeps_line
 returns-in_err-put_sweeps_line g c = appended_then _ _ _ _ _ _ _ _ _ _ c.in_ok-put_loop.ensures (appended_cut _ _ _ _ _ c.in_err-put_sweeps_line.ensures c.from_residual-in_err-put_sweeps_line.ensures.0)
 
 pub returns : goal.returns
-returns g c = appended_then _ _ _ _ _ _ _ _ _ _ c.in_ok-put_loop.ensures (appended_then _ _ _ _ _ _ _ _ _ _ c.in_ok-put_sweeps_line.ensures c.put_columns_line.ensures)
+returns g c =
+    appended_then _ _ _ _ _ _ _ _ _ _ c.in_ok-put_loop.ensures
+    (appended_then _ _ _ _ _ _ _ _ _ _ c.in_ok-put_sweeps_line.ensures
+    (appended_equal _ _ _ _ (ap (λ (net : Parts). columns_line net c.args.listed.number (marked_columns net c.args.read.now)) (sym c.net.ensures.net)) c.put_columns_line.ensures))

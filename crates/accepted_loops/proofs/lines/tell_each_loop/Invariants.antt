@@ -1,14 +1,11 @@
-use Rattle.std.proofs.Common.{◌≡◌, ◌≤◌, ◌++◌, length}
+use Rattle.std.proofs.Common.{◌≡◌, ◌++◌, length}
 use Rattle.cyc_io.specs.Text.{text_bytes}
 use Rattle.unroll.specs.Unrolled.{sweeps_of}
-use Rattle.report.proofs.LoopTextLemmas.{begun_before, texts_before}
+use Rattle.report.proofs.LoopTextLemmas.{told_first}
 use Rattle.accepted_loops.specs.Lines.{told_lines}
 use Rattle.accepted_loops.proofs.lines.tell_each_loop.Given as goal
 
--- the loops that begin before this gate, and their lines
-abbrev pub invariant-loop-gate : goal.invariant-loop-gate
-invariant-loop-gate l = record {
-  counted : l.loops ≡ length (begun_before l.net l.gate);
-  few : l.loops ≤ l.gate;
-  told : text_bytes l.sink ≡ text_bytes l.fn.sink ++ texts_before (told_lines l.net (sweeps_of l.blocks l.sweeps)) l.net l.gate;
-}
+abbrev pub invariant-loop-listed : goal.invariant-loop-listed
+invariant-loop-listed l =
+    (goal.iterator-loop-listed).can_next l.listed-iterator
+    × (text_bytes l.sink ≡ text_bytes l.fn.sink ++ told_first (told_lines l.looped.net (sweeps_of l.looped.blocks l.sweeps)) l.looped.net (length l.yielded))

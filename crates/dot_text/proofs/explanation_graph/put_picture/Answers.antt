@@ -1,11 +1,22 @@
-use Rattle.cyc_io.proofs.TakenLemmas.{appended_then, appended_cut}
+use Rattle.std.proofs.Common.{ap, sym}
+use Rattle.std.specs.List.{flat_map}
+use Rattle.cyc_io.proofs.TakenLemmas.{appended_cut, appended_equal, appended_then}
+use Rattle.dot_text.specs.ExplanationGraphs.{gate_node, pin_wires}
+use Rattle.dot_text.specs.Seen.{picture_seen}
 use Rattle.dot_text.proofs.explanation_graph.put_picture.Goals as goal
 
 pub returns-in_err-put_needs : goal.returns-in_err-put_needs
 returns-in_err-put_needs g c = appended_cut _ _ _ _ _ c.in_err-put_needs.ensures c.from_residual.ensures.0
 
 pub returns-in_err-put_gates : goal.returns-in_err-put_gates
-returns-in_err-put_gates g c = appended_then _ _ _ _ _ _ _ _ _ _ c.in_ok-put_needs.ensures (appended_cut _ _ _ _ _ c.in_err-put_gates.ensures c.from_residual-in_err-put_gates.ensures.0)
+returns-in_err-put_gates g c =
+    appended_then _ _ _ _ _ _ _ _ _ _ c.in_ok-put_needs.ensures
+    (appended_cut _ _ _ _ _ (appended_equal _ _ _ _ (ap (flat_map (gate_node (picture_seen c.args.drawing.now))) (sym c.requires.drawing.gates)) c.in_err-put_gates.ensures)
+    c.from_residual-in_err-put_gates.ensures.0)
 
 pub returns : goal.returns
-returns g c = appended_then _ _ _ _ _ _ _ _ _ _ c.in_ok-put_needs.ensures (appended_then _ _ _ _ _ _ _ _ _ _ c.in_ok-put_gates.ensures c.put_wires.ensures)
+returns g c =
+    appended_then _ _ _ _ _ _ _ _ _ _ c.in_ok-put_needs.ensures
+    (appended_then _ _ _ _ _ _ _ _ _ _
+    (appended_equal _ _ _ _ (ap (flat_map (gate_node (picture_seen c.args.drawing.now))) (sym c.requires.drawing.gates)) c.in_ok-put_gates.ensures)
+    (appended_equal _ _ _ _ (ap (flat_map (pin_wires (picture_seen c.args.drawing.now))) (sym c.requires.drawing.gates)) c.put_wires.ensures))

@@ -1,31 +1,35 @@
-use Rattle.std.proofs.Common.{◌+◌, ◌≤◌, cond, refl, sym, ap, ◌∙◌, arith}
+use Rattle.std.proofs.Common.{ap, ◌∙◌}
 use Rattle.cyc_io.proofs.TakenLemmas.{appended_none}
-use Rattle.loops.specs.Listed.{loop_of, begins_with}
-use Rattle.loops.proofs.ListedLemmas.{at_most_one, counted_more}
-use Rattle.loops.specs.Cuts.{loops_by}
+use Rattle.looped.proofs.ListLemmas.{comes_at}
+use Rattle.looped.specs.Left.{loops_left}
+use Rattle.loops.specs.Found.{loops_of}
 use Rattle.dot_text.specs.LoopGraphs.{loop_graph}
-use Rattle.report.proofs.LoopTextLemmas.{loops_more, loops_cut}
+use Rattle.report.proofs.LoopTextLemmas.{told_all, told_cut, told_more}
 use Rattle.dot_text.proofs.loop_graph.put_clusters.Goals as goal
 
-pub loop-gate-init : goal.loop-gate-init
-loop-gate-init g c = record { counted = refl; few = omega arith; text = appended_none _ _ _ }
+pub loop-listed-init : goal.loop-listed-init
+loop-listed-init g c = (tt, appended_none _ _ _)
 
-pub loop-gate-preserved : goal.loop-gate-preserved
-loop-gate-preserved g c =
-    let begun = cond (begins_with (loop_of c.args.net.now c.loop-gate.gate) c.loop-gate.gate) 1 0 in
-    let one : begun ≤ 1 = at_most_one (begins_with (loop_of c.args.net.now c.loop-gate.gate) c.loop-gate.gate) in
-    let count = c.in_ok-loops.ensures.count in
-    let few = c.loop-gate.invariant.few in
-    record {
-      counted =
-          count
-          ∙ ap (λ k. k + begun) c.loop-gate.invariant.counted
-          ∙ sym (counted_more (λ n. begins_with (loop_of c.args.net.now n) n) c.loop-gate.gate);
-      few = omega (arith, count, one, few);
-      text = loops_more (loop_graph c.args.net.now (loops_by c.args.blocks.now c.args.cut.now)) c.args.net.now c.loop-gate.gate c.loop-gate.loops _ _ _ _ _ _ _ c.loop-gate.invariant.counted _ c.loop-gate.invariant.text c.in_ok-loops.ensures.text;
-    }
+pub put_cluster-requires : goal.put_cluster-requires
+put_cluster-requires g c =
+    (comes_at c.args.looped.now.net c.into_iter-listed-iterator.result c.loop-listed.listed-iterator c.next.new.self c.loop-listed.yielded c.in-Some.listed
+    (ap loops_left c.into_iter-listed-iterator.ensures.into_iter_gives ∙ c.in_order-listed-items.ensures) c.loop-listed.yielded_by c.in-Some.ensures.steps).loop
 
-pub returns-in_err-loops : goal.returns-in_err-loops
-returns-in_err-loops g c =
-    loops_cut (loop_graph c.args.net.now (loops_by c.args.blocks.now c.args.cut.now)) c.args.net.now c.loop-gate.gate c.loop-gate.loops 0 _ _ _ _ _ _ c.loop-gate.invariant.counted _ _ _ (omega arith)
-    c.loop-gate.invariant.text c.in_err-loops.ensures.text c.from_residual.ensures.0
+pub loop-listed-preserved : goal.loop-listed-preserved
+loop-listed-preserved g c = (
+  tt,
+  told_more (loop_graph c.args.looped.now.net (loops_of c.args.looped.now.net)) c.args.looped.now.net c.into_iter-listed-iterator.result c.loop-listed.listed-iterator c.next.new.self c.loop-listed.yielded
+      (ap loops_left c.into_iter-listed-iterator.ensures.into_iter_gives ∙ c.in_order-listed-items.ensures) c.loop-listed.yielded_by
+      c.in-Some.listed _ _ _ _ _ _ _ _ c.in-Some.ensures.steps c.loop-listed.invariant.1 c.in_ok-put_cluster.ensures,
+)
+
+pub returns-in_err-put_cluster : goal.returns-in_err-put_cluster
+returns-in_err-put_cluster g c =
+    told_cut (loop_graph c.args.looped.now.net (loops_of c.args.looped.now.net)) c.args.looped.now.net c.into_iter-listed-iterator.result c.loop-listed.listed-iterator c.next.new.self c.loop-listed.yielded
+    (ap loops_left c.into_iter-listed-iterator.ensures.into_iter_gives ∙ c.in_order-listed-items.ensures) c.loop-listed.yielded_by
+    c.in-Some.listed _ _ _ _ _ _ _ _ _ c.in-Some.ensures.steps c.loop-listed.invariant.1 c.in_err-put_cluster.ensures c.from_residual.ensures.0
+
+pub returns : goal.returns
+returns g c =
+    told_all (loop_graph c.args.looped.now.net (loops_of c.args.looped.now.net)) c.args.looped.now.net c.into_iter-listed-iterator.result c.loop-listed.listed-iterator c.next.new.self c.loop-listed.yielded
+    (ap loops_left c.into_iter-listed-iterator.ensures.into_iter_gives ∙ c.in_order-listed-items.ensures) c.loop-listed.yielded_by _ _ c.in-None.ensures.steps.0 c.loop-listed.invariant.1

@@ -1,5 +1,5 @@
 use Rattle.std.proofs.Common.{arith}
-use Rattle.loops.specs.Cuts.{loops_by}
+use Rattle.loops.specs.Found.{loops_of}
 use Rattle.dot_text.specs.LoopGraphs.{loop_wire}
 use Rattle.cyc_io.proofs.TakenLemmas.{appended_none}
 use Rattle.cyc_io.proofs.ItemLemmas.{appended_copied, appended_in_copied, appended_items}
@@ -9,10 +9,10 @@ pub loop-pin-init : goal.loop-pin-init
 loop-pin-init g c = appended_none _ _ _
 
 pub loop-pin-preserved : goal.loop-pin-preserved
-loop-pin-preserved g c = appended_copied (loop_wire c.args.net.now (loops_by c.args.blocks.now c.args.cut.now) c.args.gate) c.args.pins.now c.loop-pin.pin-index _ _ _ _ _ _ _ _ _ (omega arith) c.loop-pin.invariant c.in_ok-put_pin.ensures
+loop-pin-preserved g c = appended_copied (loop_wire c.args.looped.now.net (loops_of c.args.looped.now.net) c.args.gate) c.args.pins.now c.loop-pin.pin-index _ _ _ _ _ _ _ _ _ (omega arith) c.loop-pin.invariant c.in_ok-put_pin.ensures
 
 pub returns-in_err-put_pin : goal.returns-in_err-put_pin
-returns-in_err-put_pin g c = appended_in_copied (loop_wire c.args.net.now (loops_by c.args.blocks.now c.args.cut.now) c.args.gate) c.args.pins.now c.loop-pin.pin-index _ _ _ _ _ _ _ _ _ _ (omega arith) c.loop-pin.invariant c.in_err-put_pin.ensures c.from_residual.ensures.0
+returns-in_err-put_pin g c = appended_in_copied (loop_wire c.args.looped.now.net (loops_of c.args.looped.now.net) c.args.gate) c.args.pins.now c.loop-pin.pin-index _ _ _ _ _ _ _ _ _ _ (omega arith) c.loop-pin.invariant c.in_err-put_pin.ensures c.from_residual.ensures.0
 
 pub returns : goal.returns
-returns g c = appended_items (loop_wire c.args.net.now (loops_by c.args.blocks.now c.args.cut.now) c.args.gate) c.args.pins.now c.loop-pin.pin-index _ _ (omega arith) c.loop-pin.invariant
+returns g c = appended_items (loop_wire c.args.looped.now.net (loops_of c.args.looped.now.net) c.args.gate) c.args.pins.now c.loop-pin.pin-index _ _ (omega arith) c.loop-pin.invariant

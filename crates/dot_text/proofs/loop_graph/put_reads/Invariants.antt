@@ -1,9 +1,9 @@
 use Rattle.std.proofs.Common.{take}
 use Rattle.std.specs.List.{flat_map}
-use Rattle.loops.specs.Cuts.{loops_by}
+use Rattle.loops.specs.Found.{loops_of}
 use Rattle.dot_text.specs.LoopGraphs.{loop_wire}
 use Rattle.cyc_io.specs.Taken.{IsAppendedWhole, sink_call}
 use Rattle.dot_text.proofs.loop_graph.put_reads.Given as goal
 
 abbrev pub invariant-loop-pin : goal.invariant-loop-pin
-invariant-loop-pin g l = IsAppendedWhole (flat_map (loop_wire l.net (loops_by l.blocks l.cut) l.gate) (take l.pin-index l.pins)) (sink_call g.K.Sink.put g.K.Sink.faults l.fn.sink l.sink)
+invariant-loop-pin g l = IsAppendedWhole (flat_map (loop_wire l.looped.net (loops_of l.looped.net) l.gate) (take l.pin-index l.pins)) (sink_call g.K.Sink.put g.K.Sink.faults l.fn.sink l.sink)

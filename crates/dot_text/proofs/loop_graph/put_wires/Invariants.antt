@@ -1,9 +1,9 @@
 use Rattle.std.proofs.Common.{take}
 use Rattle.std.specs.List.{flat_map}
-use Rattle.loops.specs.Cuts.{loops_by}
+use Rattle.loops.specs.Found.{loops_of}
 use Rattle.dot_text.specs.LoopGraphs.{loop_wires}
 use Rattle.cyc_io.specs.Taken.{IsAppendedWhole, sink_call}
 use Rattle.dot_text.proofs.loop_graph.put_wires.Given as goal
 
 abbrev pub invariant-loop-gate : goal.invariant-loop-gate
-invariant-loop-gate g l = IsAppendedWhole (flat_map (loop_wires l.net (loops_by l.blocks l.cut)) (take l.gate-index l.gates)) (sink_call g.K.Sink.put g.K.Sink.faults l.fn.sink l.sink)
+invariant-loop-gate g l = IsAppendedWhole (flat_map (loop_wires l.looped.net (loops_of l.looped.net)) (take l.gate-index l.gates)) (sink_call g.K.Sink.put g.K.Sink.faults l.fn.sink l.sink)

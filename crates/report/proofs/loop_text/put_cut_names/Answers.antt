@@ -1,7 +1,7 @@
 use Rattle.std.proofs.Common.{arith}
 use Rattle.std.proofs.Common.{[]}
 use Rattle.std.specs.Prelude.{if◌then◌else◌}
-use Rattle.loops.specs.Cuts.{is_cut}
+use Rattle.loops.specs.Found.{loops_of}
 use Rattle.report.specs.LoopTexts.{gate_name}
 use Rattle.report.proofs.LoopTextLemmas.{kept_texts}
 use Rattle.cyc_io.proofs.TakenLemmas.{appended_none, appended_equal}
@@ -12,10 +12,10 @@ pub loop-gate-init : goal.loop-gate-init
 loop-gate-init g c = appended_none _ _ _
 
 pub loop-gate-preserved : goal.loop-gate-preserved
-loop-gate-preserved g c = appended_copied (λ gate. if is_cut c.args.cut.now gate then gate_name c.args.net.now gate else []) c.args.gates.now c.loop-gate.gate-index _ _ _ _ _ _ _ _ _ (omega arith) c.loop-gate.invariant c.in_ok-put_cut_name.ensures
+loop-gate-preserved g c = appended_copied (λ gate. if (loops_of c.args.looped.now.net).cut gate then gate_name c.args.looped.now.net gate else []) c.args.gates.now c.loop-gate.gate-index _ _ _ _ _ _ _ _ _ (omega arith) c.loop-gate.invariant c.in_ok-put_cut_name.ensures
 
 pub returns-in_err-put_cut_name : goal.returns-in_err-put_cut_name
-returns-in_err-put_cut_name g c = appended_equal _ _ _ _ (kept_texts (is_cut c.args.cut.now) (gate_name c.args.net.now) c.args.gates.now) (appended_in_copied (λ gate. if is_cut c.args.cut.now gate then gate_name c.args.net.now gate else []) c.args.gates.now c.loop-gate.gate-index _ _ _ _ _ _ _ _ _ _ (omega arith) c.loop-gate.invariant c.in_err-put_cut_name.ensures c.from_residual.ensures.0)
+returns-in_err-put_cut_name g c = appended_equal _ _ _ _ (kept_texts (loops_of c.args.looped.now.net).cut (gate_name c.args.looped.now.net) c.args.gates.now) (appended_in_copied (λ gate. if (loops_of c.args.looped.now.net).cut gate then gate_name c.args.looped.now.net gate else []) c.args.gates.now c.loop-gate.gate-index _ _ _ _ _ _ _ _ _ _ (omega arith) c.loop-gate.invariant c.in_err-put_cut_name.ensures c.from_residual.ensures.0)
 
 pub returns : goal.returns
-returns g c = appended_equal _ _ _ _ (kept_texts (is_cut c.args.cut.now) (gate_name c.args.net.now) c.args.gates.now) (appended_items (λ gate. if is_cut c.args.cut.now gate then gate_name c.args.net.now gate else []) c.args.gates.now c.loop-gate.gate-index _ _ (omega arith) c.loop-gate.invariant)
+returns g c = appended_equal _ _ _ _ (kept_texts (loops_of c.args.looped.now.net).cut (gate_name c.args.looped.now.net) c.args.gates.now) (appended_items (λ gate. if (loops_of c.args.looped.now.net).cut gate then gate_name c.args.looped.now.net gate else []) c.args.gates.now c.loop-gate.gate-index _ _ (omega arith) c.loop-gate.invariant)

@@ -2,10 +2,10 @@ use Rattle.std.proofs.Common.{take}
 use Rattle.std.specs.List.{flat_map}
 use Rattle.std.proofs.Common.{[]}
 use Rattle.std.specs.Prelude.{if◌then◌else◌}
-use Rattle.loops.specs.Cuts.{is_cut}
+use Rattle.loops.specs.Found.{loops_of}
 use Rattle.report.specs.LoopTexts.{gate_name}
 use Rattle.cyc_io.specs.Taken.{IsAppendedWhole, sink_call}
 use Rattle.report.proofs.loop_text.put_cut_names.Given as goal
 
 abbrev pub invariant-loop-gate : goal.invariant-loop-gate
-invariant-loop-gate g l = IsAppendedWhole (flat_map (λ gate. if is_cut l.cut gate then gate_name l.net gate else []) (take l.gate-index l.gates)) (sink_call g.K.Sink.put g.K.Sink.faults l.fn.sink l.sink)
+invariant-loop-gate g l = IsAppendedWhole (flat_map (λ gate. if (loops_of l.looped.net).cut gate then gate_name l.looped.net gate else []) (take l.gate-index l.gates)) (sink_call g.K.Sink.put g.K.Sink.faults l.fn.sink l.sink)

@@ -1,0 +1,2 @@
+pub mod LoopedLemmas
+pub mod ListLemmas

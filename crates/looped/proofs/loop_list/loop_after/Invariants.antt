@@ -1,0 +1,10 @@
+use Rattle.std.proofs.Common.{◌≡◌, ◌≤◌}
+use Rattle.looped.specs.Listed.{first_gates_from}
+use Rattle.looped.proofs.loop_list.loop_after.Given as goal
+
+-- no loop begins between
+abbrev pub invariant-loop-gate : goal.invariant-loop-gate
+invariant-loop-gate l = record {
+  same : first_gates_from l.net l.fn.from ≡ first_gates_from l.net l.gate;
+  later : l.fn.from ≤ l.gate;
+}

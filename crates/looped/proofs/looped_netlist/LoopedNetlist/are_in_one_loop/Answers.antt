@@ -1,0 +1,11 @@
+use Rattle.std.proofs.Common.{ap, ◌∙◌}
+use Rattle.loops.specs.Found.{loops_of}
+use Rattle.looped.specs.Looped.{Looped}
+use Rattle.looped.proofs.LoopedLemmas.{one_loop_is_told}
+use Rattle.looped.proofs.looped_netlist.LoopedNetlist.are_in_one_loop.Goals as goal
+
+pub returns : goal.returns
+returns c =
+    c.share_loop.ensures
+    ∙ one_loop_is_told _ c.self.invariant c.args.gate c.args.other
+    ∙ ap (λ (l : Looped). (loops_of l.net).same c.args.gate c.args.other) c.self.view_is

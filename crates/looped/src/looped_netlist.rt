@@ -1,0 +1,94 @@
+//! A netlist with its blocks and its cut wires.
+
+ghost use Rattle.std.specs.Prelude.{◌≡◌, ◌<◌, length};
+ghost use Rattle.loops.specs.Blocks.{AreBlocksOf};
+ghost use Rattle.loops.specs.Cuts.{IsCutOf, in_one_loop};
+ghost use Rattle.loops.specs.Found.{loops_of};
+ghost use Rattle.looped.specs.Looped.{IsLooped};
+
+use loops::{Blocks, Cut};
+use netlist::Netlist;
+use std::marker::Model;
+
+/// A netlist with its own blocks and its own cut wires.
+#[derive(Drop)]
+pub struct LoopedNetlist<'a> {
+    net: &'a Netlist,
+    blocks: &'a Blocks,
+    cut: &'a Cut,
+}
+
+impl<'a> Model for LoopedNetlist<'a> {
+    ghost use Rattle.looped.specs.Looped.{Looped, IsLooped};
+
+    ghost Value = { Looped };
+
+    ghost view = { λ l. record { net = l.net.now; blocks = l.blocks.now; cut = l.cut.now } };
+
+    ghost invariant = { λ l. IsLooped (record { net = l.net.now; blocks = l.blocks.now; cut = l.cut.now }) };
+}
+
+impl<'a> LoopedNetlist<'a> {
+    /// A netlist with these blocks and cut wires.
+    ///
+    /// The condition is that they are the netlist's.
+    pub fn new(net: &'a Netlist, blocks: &'a Blocks, cut: &'a Cut) -> LoopedNetlist<'a>
+        requires blocks { AreBlocksOf net.now blocks.now }
+        requires cut { IsCutOf net.now cut.now }
+        ensures { result ≡ record { net = net.now; blocks = blocks.now; cut = cut.now } }
+    {
+        LoopedNetlist { net, blocks, cut }
+    }
+
+    /// The netlist.
+    pub fn net(&self) -> &'a Netlist
+        ensures net { result.now ≡ self.now.net }
+        ensures looped { IsLooped self.now }
+    {
+        self.net
+    }
+
+    /// Its blocks.
+    pub fn blocks(&self) -> &'a Blocks
+        ensures blocks { result.now ≡ self.now.blocks }
+        ensures looped { IsLooped self.now }
+    {
+        self.blocks
+    }
+
+    /// Its cut wires.
+    pub fn cut(&self) -> &'a Cut
+        ensures cut { result.now ≡ self.now.cut }
+        ensures looped { IsLooped self.now }
+    {
+        self.cut
+    }
+
+    /// Whether a gate is a cut wire.
+    pub fn is_cut(&self, gate: u32) -> bool
+        requires { gate < length self.now.net.gates }
+        ensures { result ≡ (loops_of self.now.net).cut gate }
+    {
+        self.cut.wires.items()[gate as usize]
+    }
+
+    /// Whether two gates are in one loop.
+    pub fn are_in_one_loop(&self, gate: u32, other: u32) -> bool
+        requires gate { gate < length self.now.net.gates }
+        requires other { other < length self.now.net.gates }
+        ensures { result ≡ (loops_of self.now.net).same gate other }
+    {
+        share_loop(self.net, self.blocks, gate, other)
+    }
+}
+
+// Whether two gates are in one block, and this is a loop.
+fn share_loop(net: &Netlist, blocks: &Blocks, gate: u32, other: u32) -> bool
+    requires blocks { AreBlocksOf net.now blocks.now }
+    requires gate { gate < length net.now.gates }
+    requires other { other < length net.now.gates }
+    ensures { result ≡ in_one_loop blocks.now gate other }
+{
+    let home = blocks.home.items()[gate as usize];
+    blocks.list.items()[home as usize].looped && home == blocks.home.items()[other as usize]
+}
