@@ -1,5 +1,4 @@
 mod CodeLemmas
 mod DumpLemmas
-mod KindLemmas
 mod LineLemmas
 mod PieceLemmas

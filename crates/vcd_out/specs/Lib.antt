@@ -1,4 +1,3 @@
 pub mod Codes
 pub mod Dumps
-pub mod Kinds
 pub mod Reading

@@ -6,9 +6,7 @@
 
 mod code;
 mod dump;
-mod kinds;
 pub mod laws;
 
 pub use code::put_code;
 pub use dump::VcdOut;
-pub use kinds::one_of_each_kind;
