@@ -19,7 +19,7 @@ pub fn is(word: &[u8], other: &[u8]) -> bool
 pub fn name_of(alloc: Global, bytes: &[u8]) -> Result<Name, AllocError>
     ensures { IfOk result (λ name. name ≡ bytes.now) }
 {
-    Ok(Name::new(bytes.to_vec(alloc)?))
+    Name::copied_from(alloc, bytes)
 }
 
 #[tactic(auto, using(crate::proofs::WordLemmas::slice_none))]

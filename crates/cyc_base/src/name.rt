@@ -7,7 +7,7 @@ ghost use Rattle.std.specs.Hash as fed;
 ghost use Rattle.std.specs.Str.{bytes_eq};
 ghost use Rattle.cyc_base.specs.Names.{IsBlifName};
 
-use std::alloc::AllocError;
+use std::alloc::{AllocError, Global};
 use std::hash::{Hash, Hasher};
 use std::marker::Model;
 
@@ -79,6 +79,18 @@ impl Name {
             Held::Allocated(bytes)
         };
         Name { held }
+    }
+
+    /// The same, with an allocation only where the bytes are too many to be held in place.
+    pub fn copied_from(alloc: Global, bytes: &[u8]) -> Result<Name, AllocError>
+        ensures { IfOk result (λ name. name ≡ bytes.now) }
+    {
+        let held = if bytes.len() <= MAX_IN_PLACE {
+            Held::InPlace(Short::of(bytes))
+        } else {
+            Held::Allocated(bytes.to_vec(alloc)?)
+        };
+        Ok(Name { held })
     }
 
     pub fn bytes(&self) -> &[u8]

@@ -41,7 +41,7 @@ fn ring_netlist(alloc: Global, text: &[u8]) -> Result<Netlist, Stop>
     ensures columns { IfOk result (λ net. columns net ≤ 1000000000) }
     ensures bad { IfErr result (λ stop. IsStoppedBy ring_file (netlist_meant text.now) (stop_outcome stop)) }
 {
-    let file = Name::new(b"ring.blif".to_vec(alloc)?);
+    let file = Name::copied_from(alloc, b"ring.blif")?;
     match netlist_of(alloc, text) {
         Ok(net) => Ok(net),
         Err(error) => Err(stop_at(alloc, &file, error)),
@@ -53,7 +53,7 @@ fn ring_care(alloc: Global, net: &Netlist, text: &[u8]) -> Result<Care, Stop>
     ensures fits { IfOk result (IsCareOf net.now) }
     ensures bad { IfErr result (λ stop. IsStoppedBy ring_care_file (care_meant net.now text.now) (stop_outcome stop)) }
 {
-    let file = Name::new(b"ring.care".to_vec(alloc)?);
+    let file = Name::copied_from(alloc, b"ring.care")?;
     match care_of(alloc, net, text) {
         Ok(care) => Ok(care),
         Err(error) => Err(stop_at(alloc, &file, error)),

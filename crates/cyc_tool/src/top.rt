@@ -374,7 +374,7 @@ fn find_outcome<S: Shelf>(
     ensures same { S.files shelf.new ≡ S.files shelf.old }
     ensures kept { KeepsNodes (command_of words.now) d.old d.new }
 {
-    let standard_input = Name::new(STANDARD_INPUT.to_vec(alloc)?);
+    let standard_input = Name::copied_from(alloc, STANDARD_INPUT)?;
     do_words(alloc, words, &standard_input, shelf, d, probes)
 }
 

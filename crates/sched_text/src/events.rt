@@ -60,7 +60,7 @@ fn read_gate(alloc: Global, net: &Netlist, lines: &Piece, i: usize) -> Result<u3
     ensures { let line = line_at lines.now i in
         Reads result (gate_fault net.now line.number (arguments line.words)) (gate_of net.now (arguments line.words)) }
 {
-    let name = Name::new(lines.word(i, 1).to_vec(alloc)?);
+    let name = Name::copied_from(alloc, lines.word(i, 1))?;
     match find_gate(net, &name) {
         Some(gate) => Ok(gate),
         None => Err(SchedFault::UnknownGate {
