@@ -17,7 +17,7 @@ ghost use Rattle.clause_decision.specs.Sweepings.{AreCopies, AreCutPlaces, IsSwe
 
 use crate::changing::ask_changes;
 use crate::scope::Scope;
-use crate::simulating::sweeps_at;
+use crate::simulating::sweeps_up_to;
 use crate::sweeping::{Swept, ask_open, cut_places, sweep_on, unswept};
 use care_sets::Care;
 use clause_queries::Reply;
@@ -114,7 +114,7 @@ fn needed_by(
     match reply {
         Reply::Model(model) => {
             let vector = swept.cone.vector_in(alloc, net, &model)?;
-            let number = sweeps_at(alloc, net, blocks, cut, block, most, &vector)?;
+            let number = sweeps_up_to(alloc, net, blocks, cut, block, most, &vector)?;
             Ok(Needed::AtLeast(number))
         }
         Reply::NoModel => Ok(Needed::These),
@@ -206,7 +206,7 @@ fn first_needed(
     if !is_care_vector(alloc, net, care, &zeros)? {
         return Ok(first_of(sign));
     }
-    sweeps_at(alloc, net, blocks, cut, block, most, &zeros)
+    sweeps_up_to(alloc, net, blocks, cut, block, most, &zeros)
 }
 
 /// How many sweeps a loop needs on care, of which these are the places of the cut wires. As many as cut wires are enough.

@@ -30,4 +30,5 @@ pub use initial::least_outside;
 pub use leaving::least_leaving;
 pub use pairs::Pair;
 pub use scope::Scope;
+pub use simulating::sweeps_at;
 pub use unknown::{each_unknown, first_unknown, least_unknown};

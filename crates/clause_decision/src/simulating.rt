@@ -13,6 +13,7 @@ ghost use Rattle.loops.specs.Sweeps.{value_in};
 ghost use Rattle.care_sets.specs.Care.{columns};
 ghost use Rattle.clause_decision.specs.Simulations.{seen_of, HasChanged, IsCountAt};
 
+use crate::sweeping::cut_places;
 use cyc_base::{Sig, Trit};
 use loops::{Blocks, Cut, order_of_block};
 use netlist::Netlist;
@@ -177,7 +178,7 @@ fn has_changed(gates: &[u32], wires: &[bool], before: &[Trit], after: &[Trit]) -
 }
 
 /// How many sweeps the loop at this place needs at a vector. So many as it has cut wires are enough.
-pub(crate) fn sweeps_at(
+pub(crate) fn sweeps_up_to(
     alloc: Global,
     net: &Netlist,
     blocks: &Blocks,
@@ -207,4 +208,29 @@ pub(crate) fn sweeps_at(
         before = after;
     }
     Ok(most)
+}
+
+/// How many sweeps the loop at this place of the blocks needs at a vector, by ternary simulation.
+///
+/// The condition is that all parts are the netlist's, that the block is a loop, and that the vector has a value for each
+/// input and latch.
+pub fn sweeps_at(
+    alloc: Global,
+    net: &Netlist,
+    blocks: &Blocks,
+    cut: &Cut,
+    block: u32,
+    vector: &[bool],
+) -> Result<u32, AllocError>
+    requires blocks { AreBlocksOf net.now blocks.now }
+    requires cut { IsCutOf net.now cut.now }
+    requires block { block < length blocks.now.list }
+    requires looped { (block_at blocks.now block).looped ≡ true }
+    requires vector { length vector.now ≡ columns net.now }
+    ensures { IfOk result (IsCountAt net.now (loops_by blocks.now cut.now) vector.now (block_at blocks.now block).gates) }
+{
+    let _ = net.gates();
+    let gates = blocks.list.items()[block as usize].gates.items();
+    let places = cut_places(alloc, gates, cut.wires.items())?;
+    sweeps_up_to(alloc, net, blocks, cut, block, places.len() as u32, vector)
 }

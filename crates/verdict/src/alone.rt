@@ -2,25 +2,56 @@
 
 ghost use Rattle.std.specs.Prelude.{◌≡◌, ◌<◌, ◌≤◌, true, not, length, map, All, IfOk};
 ghost use Rattle.loops.specs.Blocks.{AreBlocksOf, block_at};
+ghost use Rattle.loops.specs.Cuts.{IsCutOf};
 ghost use Rattle.isolation.specs.Settled.{SettleInSweeps};
 ghost use Rattle.isolation.specs.Cones.{is_marked};
 ghost use Rattle.verdict.specs.Determination.{SettleInOneSweep};
 
+use clause_decision::sweeps_at;
 use cyc_base::MAX_NODES;
 use isolation::settles_alone;
-use loops::Blocks;
+use loops::{Blocks, Cut};
 use netlist::Netlist;
 use std::alloc::{AllocError, Global};
 
-/// Whether the block at this place is settled by itself in one sweep, or is no loop.
+/// How many times as large as a loop its netlist may be for the whole to be simulated for that loop's sake.
+const MOST_TIMES: usize = 256;
+
+/// Whether the loop at this place needs more than one sweep at the vector of zeros. That isn't asked of a loop that is a
+/// small part of its netlist: its diagrams take less time than a simulation of the whole.
+fn needs_more_at_zeros(
+    alloc: Global,
+    net: &Netlist,
+    blocks: &Blocks,
+    cut: &Cut,
+    block: u32,
+) -> Result<bool, AllocError>
+    requires blocks { AreBlocksOf net.now blocks.now }
+    requires cut { IsCutOf net.now cut.now }
+    requires block { block < length blocks.now.list }
+    requires looped { (block_at blocks.now block).looped ≡ true }
+{
+    let gates = blocks.list.items()[block as usize].gates.items();
+    if gates.len() < net.gates() as usize / MOST_TIMES {
+        return Ok(false);
+    }
+    let zeros = vec![in alloc; false; (net.inputs() + net.latches()) as usize]?;
+    let sweeps = sweeps_at(alloc, net, blocks, cut, block, &zeros)?;
+    Ok(sweeps > 1)
+}
+
+/// Whether the block at this place is settled by itself in one sweep, or is no loop. Diagrams would make each sweep of a
+/// loop that needs many, so one vector is tried before.
 fn is_settled(
     alloc: Global,
     net: &Netlist,
     blocks: &Blocks,
+    cut: &Cut,
     place: usize,
     budget: u32,
 ) -> Result<bool, AllocError>
     requires blocks { AreBlocksOf net.now blocks.now }
+    requires cut { IsCutOf net.now cut.now }
     requires place { place < length blocks.now.list }
     requires budget { budget ≤ MAX_NODES }
     ensures { IfOk result (λ settled. settled ≡ true → (block_at blocks.now place).looped ≡ true → SettleInSweeps net.now (block_at blocks.now place).gates 1) }
@@ -31,6 +62,9 @@ fn is_settled(
     let Ok(number) = u32::try_from(place) else {
         return Ok(false);
     };
+    if needs_more_at_zeros(alloc, net, blocks, cut, number)? {
+        return Ok(false);
+    }
     match settles_alone(alloc, net, blocks, number, budget)? {
         Some(sweeps) => Ok(sweeps == 1),
         None => Ok(false),
@@ -42,9 +76,11 @@ pub(crate) fn settled_loops(
     alloc: Global,
     net: &Netlist,
     blocks: &Blocks,
+    cut: &Cut,
     budget: u32,
 ) -> Result<Vec<bool>, AllocError>
     requires blocks { AreBlocksOf net.now blocks.now }
+    requires cut { IsCutOf net.now cut.now }
     requires budget { budget ≤ MAX_NODES }
     ensures width { IfOk result (λ settled. length settled.items ≡ length blocks.now.list) }
     ensures settled { IfOk result (λ settled. SettleInOneSweep net.now blocks.now settled.items) }
@@ -52,7 +88,7 @@ pub(crate) fn settled_loops(
     let number = blocks.list.items().len();
     let mut settled = Vec::with_capacity(alloc, number)?;
     for place in 0..number {
-        settled.push(is_settled(alloc, net, blocks, place, budget)?)?;
+        settled.push(is_settled(alloc, net, blocks, cut, place, budget)?)?;
     }
     Ok(settled)
 }

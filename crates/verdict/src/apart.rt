@@ -12,7 +12,7 @@ use crate::scopes::known_gates;
 use care_sets::Care;
 use clause_decision::{Pair, Scope};
 use cyc_base::Items;
-use loops::Blocks;
+use loops::{Blocks, find_cut};
 use netlist::Netlist;
 use std::alloc::{AllocError, Global};
 
@@ -31,7 +31,8 @@ fn whole_scope(alloc: Global, net: &Netlist, blocks: &Blocks) -> Result<Scope, A
     ensures scope { IfOk result (IsScopeOf net.now) }
     ensures all { IfOk result (λ scope. (n : ℕ) → n < length net.now.gates → is_marked scope.gates n ≡ true) }
 {
-    let settled = settled_loops(alloc, net, blocks, LOOP_NODES)?;
+    let cut = find_cut(alloc, net, blocks)?;
+    let settled = settled_loops(alloc, net, blocks, &cut, LOOP_NODES)?;
     let known = Items::of(known_gates(alloc, net, blocks, &settled)?);
     let gates = Items::of(all_gates(alloc, net)?);
     Ok(Scope { gates, known })

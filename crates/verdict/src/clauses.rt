@@ -326,7 +326,7 @@ fn judge_gates(
     requires begins { MayGoOn net.now care.now }
     ensures { IfOk result (λ found. IfSome found (IsVerdict net.now blocks.now cut.now care.now observe)) }
 {
-    let settled = settled_loops(alloc, net, blocks, LOOP_NODES)?;
+    let settled = settled_loops(alloc, net, blocks, cut, LOOP_NODES)?;
     match stand(alloc, net, blocks, cut, care, observe, &settled, conflicts)? {
         Standing::Determined { sweeps, loose } => step_verdict(
             alloc, net, blocks, care, observe, &settled, sweeps, loose, conflicts,

@@ -31,7 +31,7 @@ returns c =
     let both = and_parts (is_in_invariant care (state_of net v)) (is_allowed care v) is in
     let counts : IsCareVector net care v = record { width = wide; state = both.0; allowed = both.1 } in
     let same : c.deref-2.result.now ≡ c.deref.result.now = c.deref-2.ensures.value ∙ sym c.deref.ensures.value in
-    IfOk-weaker c.sweeps_at.result _ _ (λ number count.
+    IfOk-weaker c.sweeps_up_to.result _ _ (λ number count.
     vector-needed net c.args.blocks.now c.args.cut.now c.requires.blocks c.requires.cut c.args.block c.requires.block c.requires.looped care c.args.sign c.requires.serves v counts number
     (subst (λ (w : List Bool). IsCountAt net loops w gates number) same count))
-    c.sweeps_at.ensures
+    c.sweeps_up_to.ensures

@@ -4,7 +4,7 @@ use Rattle.cyc_base.specs.Values.{bits}
 use Rattle.loops.specs.Blocks.{block_at}
 use Rattle.loops.specs.Cuts.{loops_by}
 use Rattle.loops.specs.Sweeps.{CutsAreFixed, sweeps, value_in}
-use Rattle.clause_decision.proofs.simulating.sweeps_at.Given as goal
+use Rattle.clause_decision.proofs.simulating.sweeps_up_to.Given as goal
 
 abbrev pub invariant-loop-sweeps : goal.invariant-loop-sweeps
 invariant-loop-sweeps l = record {
