@@ -7,7 +7,7 @@
 //! cofactor decides. So only pins that rows ask both values of are split. A cofactor is rows of its own, over the
 //! pins that are still unknown.
 
-ghost use Rattle.std.specs.Prelude.{◌≡◌, ◌≢◌, ◌≤◌, [], true, false, slice_get, slice_set, IfOk, IfSome, IfNone, Some, All};
+ghost use Rattle.std.specs.Prelude.{◌≡◌, ◌≢◌, ◌+◌, ◌<◌, ◌≤◌, [], true, false, if◌then◌else◌, length, slice_get, slice_set, IfOk, IfSome, IfNone, Some, All};
 ghost use Rattle.cyc_base.specs.declared.trit.Trit.TheVariants.{X};
 ghost use Rattle.cyc_base.specs.Values.{bit};
 ghost use Rattle.cover_logic.specs.Covers.{value_of_rows};
@@ -103,7 +103,7 @@ fn harder_value(rows: &[Row], pins: &[Trit], pin: usize) -> Option<bool>
 }
 
 /// Gives each unknown pin its harder value, where it has one.
-fn reduce(rows: &[Row], pins: &mut [Trit])
+fn give_harder_values(rows: &[Row], pins: &mut [Trit])
     ensures same { is_tautology rows.now pins.new ≡ is_tautology rows.now pins.old }
     ensures fewer { unknown_count pins.new ≤ unknown_count pins.old }
 {
@@ -114,6 +114,65 @@ fn reduce(rows: &[Row], pins: &mut [Trit])
             }
         }
     }
+}
+
+/// The first unknown pin that a row asks a value of.
+fn first_asked(lits: &[Lit], pins: &[Trit]) -> Option<usize>
+    ensures { IfSome result (λ pin. slice_get pins.now pin ≡ Some X) }
+{
+    lits.iter()
+        .zip(pins)
+        .position(|(lit, pin)| *lit != Lit::Any && *pin == Trit::X)
+}
+
+/// Where this row asks a value of one unknown pin alone, gives the pin the other value: at the asked one the
+/// row matches whatever the other pins are. Says whether it did.
+fn propagate(rows: &[Row], row: usize, pins: &mut [Trit]) -> bool
+    requires { row < length rows.now }
+    ensures same { is_tautology rows.now pins.new ≡ is_tautology rows.now pins.old }
+    ensures fewer { unknown_count pins.new + (if result then 1 else 0) ≤ unknown_count pins.old }
+{
+    let lits = rows[row].lits.items();
+    let Some(pin) = first_asked(lits, pins) else {
+        return false;
+    };
+    let asked = row_asks(lits, pin, true);
+    pins[pin] = Trit::of(asked);
+    let decides = row_surely_matches(lits, pins);
+    pins[pin] = if decides { Trit::of(!asked) } else { Trit::X };
+    decides
+}
+
+/// Propagates by each row once, forwards and then backwards. Says whether a pin got a value.
+fn propagate_once(rows: &[Row], pins: &mut [Trit]) -> bool
+    ensures same { is_tautology rows.now pins.new ≡ is_tautology rows.now pins.old }
+    ensures fewer { unknown_count pins.new + (if result then 1 else 0) ≤ unknown_count pins.old }
+{
+    let mut changed = false;
+    for row in 0..rows.len() {
+        changed |= propagate(rows, row, pins);
+    }
+    for row in (0..rows.len()).rev() {
+        changed |= propagate(rows, row, pins);
+    }
+    changed
+}
+
+/// Propagates by the rows for as long as a pin gets a value.
+fn propagate_all(rows: &[Row], pins: &mut [Trit])
+    ensures same { is_tautology rows.now pins.new ≡ is_tautology rows.now pins.old }
+    ensures fewer { unknown_count pins.new ≤ unknown_count pins.old }
+{
+    while propagate_once(rows, pins) {}
+}
+
+/// Gives unknown pins values that the question rests on.
+fn reduce(rows: &[Row], pins: &mut [Trit])
+    ensures same { is_tautology rows.now pins.new ≡ is_tautology rows.now pins.old }
+    ensures fewer { unknown_count pins.new ≤ unknown_count pins.old }
+{
+    propagate_all(rows, pins);
+    give_harder_values(rows, pins);
 }
 
 /// How many literals of a row count: each one more halves its weight, down to 1.
