@@ -1,11 +1,12 @@
 //! The exact ternary extension of a cover, by the unate recursive paradigm (Brayton, Hachtel, McMullen and
-//! Sangiovanni-Vincentelli, 1984).
+//! Sangiovanni-Vincentelli, 1984) with unit propagation (Davis, Logemann and Loveland, 1962).
 //!
 //! That no row matches is read off the rows, since each row that no known pin contradicts matches at some
 //! completion. That some row matches at every completion, a tautology, is asked of the cofactors at an
-//! unknown pin. Where the rows ask for one value alone at that pin, the other one is harder, and its
-//! cofactor decides. So only pins that rows ask both values of are split. A cofactor is rows of its own, over the
-//! pins that are still unknown.
+//! unknown pin. One of them decides where the rows ask for one value alone at that pin, since the other value is
+//! harder, and where a row asks for that pin alone, since it matches at the asked value whatever the others are.
+//! After each split, pins get the values that decide so, until no row gives one. A cofactor is rows of its own,
+//! over the pins that are still unknown.
 
 ghost use Rattle.std.specs.Prelude.{◌≡◌, ◌≢◌, ◌+◌, ◌<◌, ◌≤◌, [], true, false, if◌then◌else◌, length, slice_get, slice_set, IfOk, IfSome, IfNone, Some, All};
 ghost use Rattle.cyc_base.specs.declared.trit.Trit.TheVariants.{X};
@@ -125,8 +126,8 @@ fn first_asked(lits: &[Lit], pins: &[Trit]) -> Option<usize>
         .position(|(lit, pin)| *lit != Lit::Any && *pin == Trit::X)
 }
 
-/// Where this row asks a value of one unknown pin alone, gives the pin the other value: at the asked one the
-/// row matches whatever the other pins are. Says whether it did.
+/// Gives an unknown pin the other value than this row asks, if the row asks for it alone: at the asked value the
+/// row matches whatever the other pins are, so the other one decides. Says whether it did.
 fn propagate(rows: &[Row], row: usize, pins: &mut [Trit]) -> bool
     requires { row < length rows.now }
     ensures same { is_tautology rows.now pins.new ≡ is_tautology rows.now pins.old }
@@ -143,7 +144,8 @@ fn propagate(rows: &[Row], row: usize, pins: &mut [Trit]) -> bool
     decides
 }
 
-/// Propagates by each row once, forwards and then backwards. Says whether a pin got a value.
+/// Propagates by each row, forwards and then backwards, so that a chain takes one call whichever way it is
+/// listed. Says whether a pin got a value.
 fn propagate_once(rows: &[Row], pins: &mut [Trit]) -> bool
     ensures same { is_tautology rows.now pins.new ≡ is_tautology rows.now pins.old }
     ensures fewer { unknown_count pins.new + (if result then 1 else 0) ≤ unknown_count pins.old }
@@ -158,7 +160,7 @@ fn propagate_once(rows: &[Row], pins: &mut [Trit]) -> bool
     changed
 }
 
-/// Propagates by the rows for as long as a pin gets a value.
+/// Propagates by the rows until no pin gets a value.
 fn propagate_all(rows: &[Row], pins: &mut [Trit])
     ensures same { is_tautology rows.now pins.new ≡ is_tautology rows.now pins.old }
     ensures fewer { unknown_count pins.new ≤ unknown_count pins.old }
@@ -166,7 +168,7 @@ fn propagate_all(rows: &[Row], pins: &mut [Trit])
     while propagate_once(rows, pins) {}
 }
 
-/// Gives unknown pins values that the question rests on.
+/// Gives unknown pins the values at which the cofactor decides: those that rows give, and then harder ones.
 fn reduce(rows: &[Row], pins: &mut [Trit])
     ensures same { is_tautology rows.now pins.new ≡ is_tautology rows.now pins.old }
     ensures fewer { unknown_count pins.new ≤ unknown_count pins.old }
@@ -312,7 +314,7 @@ fn open_are_tautology(alloc: Global, rows: &[Row], pins: &[Trit]) -> Result<bool
     rows_are_tautology(alloc, &open, &unknown)
 }
 
-/// The same where this unknown pin has this value, and after it all pins that have a harder one.
+/// The same where this unknown pin has this value, and after it all pins whose values follow.
 #[cycle(tautology)]
 fn cofactor_is_tautology(
     alloc: Global,
