@@ -7,6 +7,8 @@
 //! harder, and where a row asks for that pin alone, since it matches at the asked value whatever the others are.
 //! After each split, pins get the values that decide so, until no row gives one. A cofactor is rows of its own,
 //! over the pins that are still unknown.
+//!
+//! The recursion goes as deep as there are splits, so what a level calls is kept out of its frame on the stack.
 
 ghost use Rattle.std.specs.Prelude.{◌≡◌, ◌≢◌, ◌+◌, ◌<◌, ◌≤◌, [], true, false, if◌then◌else◌, length, slice_get, slice_set, IfOk, IfSome, IfNone, Some, All};
 ghost use Rattle.cyc_base.specs.declared.trit.Trit.TheVariants.{X};
@@ -169,6 +171,7 @@ fn propagate_all(rows: &[Row], pins: &mut [Trit])
 }
 
 /// Gives unknown pins the values at which the cofactor decides: those that rows give, and then harder ones.
+#[inline(never)]
 fn reduce(rows: &[Row], pins: &mut [Trit])
     ensures same { is_tautology rows.now pins.new ≡ is_tautology rows.now pins.old }
     ensures fewer { unknown_count pins.new ≤ unknown_count pins.old }
@@ -213,6 +216,7 @@ fn heaviest(weights: &[usize], pins: &[Trit], first: usize) -> usize
 }
 
 /// The unknown pin with the heaviest rows that ask a value of it, or `None` where no pin is unknown.
+#[inline(never)]
 fn splitting_pin(alloc: Global, rows: &[Row], pins: &[Trit]) -> Result<Option<usize>, AllocError>
     ensures unknown { IfOk result (λ found. IfSome found (λ pin. slice_get pins.now pin ≡ Some X)) }
     ensures none { IfOk result (λ found. IfNone found (All (λ pin. pin ≢ X) pins.now)) }
@@ -283,6 +287,7 @@ fn open_row(alloc: Global, row: &Row, pins: &[Trit]) -> Result<Row, AllocError>
 }
 
 /// The rows that may match, and of each what it asks of the unknown pins.
+#[inline(never)]
 fn open_rows(alloc: Global, rows: &[Row], pins: &[Trit]) -> Result<Vec<Row>, AllocError>
     ensures { IfOk result (λ left. left.items ≡ open_rows rows.now pins.now) }
 {
@@ -295,22 +300,20 @@ fn open_rows(alloc: Global, rows: &[Row], pins: &[Trit]) -> Result<Vec<Row>, All
     Ok(left)
 }
 
-fn unknown_pins(alloc: Global, pins: &[Trit]) -> Result<Vec<Trit>, AllocError>
-    ensures { IfOk result (λ left. left.items ≡ open_pins pins.now) }
+fn unknown_pins(mut pins: Vec<Trit>) -> Vec<Trit>
+    ensures { result.items ≡ open_pins pins.items }
 {
-    pins.iter()
-        .copied()
-        .filter(|pin| *pin == Trit::X)
-        .collect(alloc)
+    pins.retain(|pin| *pin == Trit::X);
+    pins
 }
 
 /// The same, asked of the unknown pins alone.
 #[cycle(tautology)]
-fn open_are_tautology(alloc: Global, rows: &[Row], pins: &[Trit]) -> Result<bool, AllocError>
-    ensures { IfOk result (λ all. all ≡ is_tautology rows.now pins.now) }
+fn open_are_tautology(alloc: Global, rows: &[Row], pins: Vec<Trit>) -> Result<bool, AllocError>
+    ensures { IfOk result (λ all. all ≡ is_tautology rows.now pins.items) }
 {
-    let open = open_rows(alloc, rows, pins)?;
-    let unknown = unknown_pins(alloc, pins)?;
+    let open = open_rows(alloc, rows, &pins)?;
+    let unknown = unknown_pins(pins);
     rows_are_tautology(alloc, &open, &unknown)
 }
 
@@ -333,7 +336,7 @@ fn cofactor_is_tautology(
         return Ok(true);
     }
     reduce(rows, pins);
-    open_are_tautology(alloc, rows, pins)
+    open_are_tautology(alloc, rows, copied)
 }
 
 /// The exact extension of the function of rows in a plane. A plane without rows is an on-plane.
