@@ -1,8 +1,10 @@
 -- Where some row matches at each completion, by the unate recursive paradigm.
-use Rattle.std.proofs.Common.{◌≡◌, ◌≢◌, ℕ, zero, suc, Bool, true, false, not, ◌&&◌, List, [], ◌∷◌, set, get_or, All, refl, ap, sym, ◌∙◌, subst, inl, inr, true≢false, ◌<◌, ◌≤◌, length, arith}
+use Rattle.std.proofs.Common.{◌≡◌, ◌≢◌, ℕ, zero, suc, Bool, true, false, not, ◌&&◌, List, [], ◌∷◌, set, get_or, All, refl, ap, sym, ◌∙◌, subst, inl, inr, true≢false, ◌<◌, ◌≤◌, ◌+◌, length, slice_get, Some, arith}
 use Rattle.std.proofs.lemmas.Bool.{and_parts, and_from, or_cases, or_parts, or_left, or_right, false_from_ne_true, not-false}
 use Rattle.std.proofs.lemmas.List.Elements.{All-head, All-tail}
-use Rattle.std.proofs.lemmas.List.{get_or_default}
+use Rattle.std.proofs.lemmas.List.{get_or_default, set-set, set-get_or}
+use Rattle.std.proofs.lemmas.List.Folds.{list_any_at}
+use Rattle.std.proofs.lemmas.Option.{get_or_from_slice_get}
 use Rattle.std.specs.List.{list_any}
 use Rattle.cyc_base.specs.declared.trit.Trit.{Trit}
 use Rattle.cyc_base.specs.declared.trit.Trit.TheVariants.{Zero, One, X}
@@ -246,6 +248,14 @@ one_cofactor rows trits pin true x n =
     (λ e. sym (both_cofactors rows trits pin x) ∙ and_from (is_tautology rows (set trits pin Zero)) (is_tautology rows (set trits pin One)) (harder rows trits pin true x n e) e)
     (cofactor rows trits pin true x)
 
+-- where one cofactor is a tautology, the other one decides
+pub other_decides : (rows : List Row) (trits : List Trit) (pin : ℕ) (b : Bool) → get_or trits pin X ≡ X → is_tautology rows (set trits pin (bit b)) ≡ true → is_tautology rows (set trits pin (bit (not b))) ≡ is_tautology rows trits
+other_decides rows trits pin false x h = first_holds rows trits pin x h
+other_decides rows trits pin true x h =
+    same_bool (is_tautology rows (set trits pin Zero)) (is_tautology rows trits)
+    (λ e. sym (both_cofactors rows trits pin x) ∙ and_from (is_tautology rows (set trits pin Zero)) (is_tautology rows (set trits pin One)) e h)
+    (cofactor rows trits pin false x)
+
 -- ---- a step makes one unknown pin fewer
 
 pub unknown_count-set : (trits : List Trit) (pin : ℕ) (b : Bool) → get_or trits pin Zero ≡ X → unknown_count trits ≡ suc (unknown_count (set trits pin (bit b)))
@@ -266,6 +276,24 @@ reduced rows before now after pin b t d l x n e k h =
     let same = ap (is_tautology rows) is_set ∙ one_cofactor rows now pin b (get_or_default now pin X d l ∙ x) n ∙ h.0 in
     let least : unknown_count now ≤ unknown_count before = h.1 in
     (same, subst (λ ts. unknown_count ts ≤ unknown_count before) (sym is_set) (omega arith))
+
+-- a row that surely matches where an unknown pin has one value gives the pin the other one
+pub propagated : (rows : List Row) (row : ℕ) (d : Row) (lits : List Lit) (trits : List Trit) (pin : ℕ) (b : Bool) (tried left : Trit) → row < length rows → lits ≡ (get_or rows row d).lits → slice_get trits pin ≡ Some X → tried ≡ bit b → left ≡ bit (not b) → must_match lits (set trits pin tried) ≡ true → (is_tautology rows (set (set trits pin tried) pin left) ≡ is_tautology rows trits) × (unknown_count (set (set trits pin tried) pin left) + 1 ≤ unknown_count trits)
+propagated rows row d lits trits pin b tried left l is x t k m =
+    let again : set (set trits pin tried) pin left ≡ set trits pin (bit (not b)) = set-set trits pin tried left ∙ ap (set trits pin) k in
+    let matched : must_match (get_or rows row d).lits (set trits pin (bit b)) ≡ true = subst (λ ls. must_match ls (set trits pin (bit b)) ≡ true) is (subst (λ v. must_match lits (set trits pin v) ≡ true) t m) in
+    let certain = sure rows (set trits pin (bit b)) (list_any_at (λ r. must_match r.lits (set trits pin (bit b))) rows row d l matched) in
+    let fewer : unknown_count trits ≡ suc (unknown_count (set trits pin (bit (not b)))) = unknown_count-set trits pin (not b) (get_or_from_slice_get trits pin X Zero x) in (
+      ap (is_tautology rows) again ∙ other_decides rows trits pin b (get_or_from_slice_get trits pin X X x) certain,
+      subst (λ ts. unknown_count ts + 1 ≤ unknown_count trits) (sym again) (omega arith),
+    )
+
+-- and else the pin is left as it was
+pub set_back : (trits : List Trit) (pin : ℕ) (tried left : Trit) → slice_get trits pin ≡ Some X → left ≡ X → set (set trits pin tried) pin left ≡ trits
+set_back trits pin tried left x k =
+    set-set trits pin tried left
+    ∙ ap (set trits pin) (k ∙ sym (get_or_from_slice_get trits pin X X x))
+    ∙ set-get_or trits pin X
 
 -- ---- the extension, by what was found of the rows
 

@@ -124,9 +124,10 @@ impl Cover {
     /// The exact ternary extension, for as many values as pins: b where the value is b at every completion, by
     /// which each X is replaced by 0 or by 1, pin by pin; and else X (Malik 1994).
     ///
-    /// Each step reads the rows once or a few times. A step splits one pin that is X and of which the rows ask
-    /// both values. So the worst case doubles with each such pin. Where no pin is of that kind, as in AND, OR
-    /// and majority, nothing is split, and where a row or none decides, no memory is taken.
+    /// A step splits one pin that is X and of which the rows ask both values. So the worst case doubles with each
+    /// such pin. It then reads the rows a few times, and again for as long as a row that asks for one X alone
+    /// settles it. Where no pin is to be split, as in AND, OR and majority, nothing is, and where a row or none
+    /// decides, no memory is taken.
     pub fn extend(&self, alloc: Global, trits: &[Trit]) -> Result<Trit, AllocError>
         requires { length trits.now ≡ self.now.pins }
         ensures { IfOk result (λ trit. trit ≡ ext self.now trits.now) }

@@ -1,13 +1,16 @@
 //! The exact ternary extension of a cover, by the unate recursive paradigm (Brayton, Hachtel, McMullen and
-//! Sangiovanni-Vincentelli, 1984).
+//! Sangiovanni-Vincentelli, 1984) with unit propagation (Davis, Logemann and Loveland, 1962).
 //!
 //! That no row matches is read off the rows, since each row that no known pin contradicts matches at some
 //! completion. That some row matches at every completion, a tautology, is asked of the cofactors at an
-//! unknown pin. Where the rows ask for one value alone at that pin, the other one is harder, and its
-//! cofactor decides. So only pins that rows ask both values of are split. A cofactor is rows of its own, over the
-//! pins that are still unknown.
+//! unknown pin. One of them decides where the rows ask for one value alone at that pin, since the other value is
+//! harder, and where a row asks for that pin alone, since it matches at the asked value whatever the others are.
+//! After each split, pins get the values that decide so, until no row gives one. A cofactor is rows of its own,
+//! over the pins that are still unknown.
+//!
+//! The recursion goes as deep as there are splits, so what a level calls is kept out of its frame on the stack.
 
-ghost use Rattle.std.specs.Prelude.{◌≡◌, ◌≢◌, ◌≤◌, [], true, false, slice_get, slice_set, IfOk, IfSome, IfNone, Some, All};
+ghost use Rattle.std.specs.Prelude.{◌≡◌, ◌≢◌, ◌+◌, ◌<◌, ◌≤◌, [], true, false, if◌then◌else◌, length, slice_get, slice_set, IfOk, IfSome, IfNone, Some, All};
 ghost use Rattle.cyc_base.specs.declared.trit.Trit.TheVariants.{X};
 ghost use Rattle.cyc_base.specs.Values.{bit};
 ghost use Rattle.cover_logic.specs.Covers.{value_of_rows};
@@ -103,7 +106,7 @@ fn harder_value(rows: &[Row], pins: &[Trit], pin: usize) -> Option<bool>
 }
 
 /// Gives each unknown pin its harder value, where it has one.
-fn reduce(rows: &[Row], pins: &mut [Trit])
+fn give_harder_values(rows: &[Row], pins: &mut [Trit])
     ensures same { is_tautology rows.now pins.new ≡ is_tautology rows.now pins.old }
     ensures fewer { unknown_count pins.new ≤ unknown_count pins.old }
 {
@@ -114,6 +117,67 @@ fn reduce(rows: &[Row], pins: &mut [Trit])
             }
         }
     }
+}
+
+/// The first unknown pin that a row asks a value of.
+fn first_asked(lits: &[Lit], pins: &[Trit]) -> Option<usize>
+    ensures { IfSome result (λ pin. slice_get pins.now pin ≡ Some X) }
+{
+    lits.iter()
+        .zip(pins)
+        .position(|(lit, pin)| *lit != Lit::Any && *pin == Trit::X)
+}
+
+/// Gives an unknown pin the other value than this row asks, if the row asks for it alone: at the asked value the
+/// row matches whatever the other pins are, so the other one decides. Says whether it did.
+fn propagate(rows: &[Row], row: usize, pins: &mut [Trit]) -> bool
+    requires { row < length rows.now }
+    ensures same { is_tautology rows.now pins.new ≡ is_tautology rows.now pins.old }
+    ensures fewer { unknown_count pins.new + (if result then 1 else 0) ≤ unknown_count pins.old }
+{
+    let lits = rows[row].lits.items();
+    let Some(pin) = first_asked(lits, pins) else {
+        return false;
+    };
+    let asked = row_asks(lits, pin, true);
+    pins[pin] = Trit::of(asked);
+    let decides = row_surely_matches(lits, pins);
+    pins[pin] = if decides { Trit::of(!asked) } else { Trit::X };
+    decides
+}
+
+/// Propagates by each row, forwards and then backwards, so that a chain takes one call whichever way it is
+/// listed. Says whether a pin got a value.
+fn propagate_once(rows: &[Row], pins: &mut [Trit]) -> bool
+    ensures same { is_tautology rows.now pins.new ≡ is_tautology rows.now pins.old }
+    ensures fewer { unknown_count pins.new + (if result then 1 else 0) ≤ unknown_count pins.old }
+{
+    let mut changed = false;
+    for row in 0..rows.len() {
+        changed |= propagate(rows, row, pins);
+    }
+    for row in (0..rows.len()).rev() {
+        changed |= propagate(rows, row, pins);
+    }
+    changed
+}
+
+/// Propagates by the rows until no pin gets a value.
+fn propagate_all(rows: &[Row], pins: &mut [Trit])
+    ensures same { is_tautology rows.now pins.new ≡ is_tautology rows.now pins.old }
+    ensures fewer { unknown_count pins.new ≤ unknown_count pins.old }
+{
+    while propagate_once(rows, pins) {}
+}
+
+/// Gives unknown pins the values at which the cofactor decides: those that rows give, and then harder ones.
+#[inline(never)]
+fn reduce(rows: &[Row], pins: &mut [Trit])
+    ensures same { is_tautology rows.now pins.new ≡ is_tautology rows.now pins.old }
+    ensures fewer { unknown_count pins.new ≤ unknown_count pins.old }
+{
+    propagate_all(rows, pins);
+    give_harder_values(rows, pins);
 }
 
 /// How many literals of a row count: each one more halves its weight, down to 1.
@@ -152,6 +216,7 @@ fn heaviest(weights: &[usize], pins: &[Trit], first: usize) -> usize
 }
 
 /// The unknown pin with the heaviest rows that ask a value of it, or `None` where no pin is unknown.
+#[inline(never)]
 fn splitting_pin(alloc: Global, rows: &[Row], pins: &[Trit]) -> Result<Option<usize>, AllocError>
     ensures unknown { IfOk result (λ found. IfSome found (λ pin. slice_get pins.now pin ≡ Some X)) }
     ensures none { IfOk result (λ found. IfNone found (All (λ pin. pin ≢ X) pins.now)) }
@@ -222,6 +287,7 @@ fn open_row(alloc: Global, row: &Row, pins: &[Trit]) -> Result<Row, AllocError>
 }
 
 /// The rows that may match, and of each what it asks of the unknown pins.
+#[inline(never)]
 fn open_rows(alloc: Global, rows: &[Row], pins: &[Trit]) -> Result<Vec<Row>, AllocError>
     ensures { IfOk result (λ left. left.items ≡ open_rows rows.now pins.now) }
 {
@@ -234,26 +300,24 @@ fn open_rows(alloc: Global, rows: &[Row], pins: &[Trit]) -> Result<Vec<Row>, All
     Ok(left)
 }
 
-fn unknown_pins(alloc: Global, pins: &[Trit]) -> Result<Vec<Trit>, AllocError>
-    ensures { IfOk result (λ left. left.items ≡ open_pins pins.now) }
+fn unknown_pins(mut pins: Vec<Trit>) -> Vec<Trit>
+    ensures { result.items ≡ open_pins pins.items }
 {
-    pins.iter()
-        .copied()
-        .filter(|pin| *pin == Trit::X)
-        .collect(alloc)
+    pins.retain(|pin| *pin == Trit::X);
+    pins
 }
 
 /// The same, asked of the unknown pins alone.
 #[cycle(tautology)]
-fn open_are_tautology(alloc: Global, rows: &[Row], pins: &[Trit]) -> Result<bool, AllocError>
-    ensures { IfOk result (λ all. all ≡ is_tautology rows.now pins.now) }
+fn open_are_tautology(alloc: Global, rows: &[Row], pins: Vec<Trit>) -> Result<bool, AllocError>
+    ensures { IfOk result (λ all. all ≡ is_tautology rows.now pins.items) }
 {
-    let open = open_rows(alloc, rows, pins)?;
-    let unknown = unknown_pins(alloc, pins)?;
+    let open = open_rows(alloc, rows, &pins)?;
+    let unknown = unknown_pins(pins);
     rows_are_tautology(alloc, &open, &unknown)
 }
 
-/// The same where this unknown pin has this value, and after it all pins that have a harder one.
+/// The same where this unknown pin has this value, and after it all pins whose values follow.
 #[cycle(tautology)]
 fn cofactor_is_tautology(
     alloc: Global,
@@ -272,7 +336,7 @@ fn cofactor_is_tautology(
         return Ok(true);
     }
     reduce(rows, pins);
-    open_are_tautology(alloc, rows, pins)
+    open_are_tautology(alloc, rows, copied)
 }
 
 /// The exact extension of the function of rows in a plane. A plane without rows is an on-plane.

@@ -1,5 +1,7 @@
-use Rattle.std.proofs.Common.{◌≡◌, ◌≤◌, true, suc, set, ap, sym, ◌∙◌, subst, true≢false, arith, IfOk}
+use Rattle.std.proofs.Common.{◌≡◌, ◌≤◌, true, suc, set, ap, sym, ◌∙◌, subst, true≢false, arith, IfOk, length, rules}
+use Rattle.std.proofs.lemmas.List.{places, with_items_is}
 use Rattle.std.proofs.lemmas.Option.{get_or_from_slice_get}
+use Rattle.std.specs.Vec.{with_items}
 use Rattle.cyc_base.specs.declared.trit.Trit.TheVariants.{X, Zero}
 use Rattle.cyc_base.specs.Values.{bit}
 use Rattle.cover_logic.specs.Partial.{some_row_must_match, is_tautology, unknown_count, open_pins, open_rows}
@@ -14,6 +16,8 @@ cofactor_is_tautology-open_are_tautology-requires t c =
     rw c.of.ensures (unknown_count-set c.args.pins.now c.args.pin c.args.value (get_or_from_slice_get c.args.pins.now c.args.pin X Zero c.requires)) in
     let least : unknown_count c.reduce.new.pins ≤ unknown_count (set c.args.pins.now c.args.pin c.of.result) =
     rw (← c.in_ok-copied.ensures, ← c.as_mut_slice-pins.ensures.value) c.reduce.ensures.fewer in
+    let size : length c.reduce.new.pins ≡ c.in_ok-copied.copied.len = search (rules, places) in
+    let given : unknown_count (with_items c.in_ok-copied.copied c.reduce.new.pins).items ≡ unknown_count c.reduce.new.pins = ap unknown_count (with_items_is c.in_ok-copied.copied c.reduce.new.pins size) in
     (omega arith, tt)
 
 pub rows_are_tautology-returns-then-any_row_surely_matches :
@@ -67,22 +71,23 @@ cofactor_is_tautology-returns-then-any_row_surely_matches t c =
 pub open_are_tautology-rows_are_tautology-requires :
     goal.open_are_tautology-rows_are_tautology-requires
 open_are_tautology-rows_are_tautology-requires t c =
-    let value = c.deref-2.ensures.value in
-    let kept = c.in_ok-unknown.ensures in
-    let pins : c.deref-2.result.now ≡ open_pins c.args.pins.now = cc in
-    let same : unknown_count c.deref-2.result.now ≡ unknown_count c.args.pins.now = ap unknown_count pins ∙ same_unknown_count c.args.pins.now in
+    let value = c.deref-3.ensures.value in
+    let kept = c.unknown_pins-unknown.ensures in
+    let pins : c.deref-3.result.now ≡ open_pins c.args.pins.items = cc in
+    let same : unknown_count c.deref-3.result.now ≡ unknown_count c.args.pins.items = ap unknown_count pins ∙ same_unknown_count c.args.pins.items in
     (omega arith, tt)
 
 pub open_are_tautology-returns : goal.open_are_tautology-returns
 open_are_tautology-returns t c =
     let value = c.deref.ensures.value in
     let value-2 = c.deref-2.ensures.value in
+    let value-3 = c.deref-3.ensures.value in
     let kept = c.in_ok-open.ensures in
-    let kept-2 = c.in_ok-unknown.ensures in
-    let rows : c.deref.result.now ≡ open_rows c.args.rows.now c.args.pins.now = cc in
-    let pins : c.deref-2.result.now ≡ open_pins c.args.pins.now = cc in
-    let same : is_tautology c.deref.result.now c.deref-2.result.now ≡ is_tautology c.args.rows.now c.args.pins.now =
-    ap (λ r. is_tautology r c.deref-2.result.now) rows
-    ∙ ap (is_tautology (open_rows c.args.rows.now c.args.pins.now)) pins
-    ∙ same_open c.args.rows.now c.args.pins.now in
+    let kept-2 = c.unknown_pins-unknown.ensures in
+    let rows : c.deref-2.result.now ≡ open_rows c.args.rows.now c.args.pins.items = cc in
+    let pins : c.deref-3.result.now ≡ open_pins c.args.pins.items = cc in
+    let same : is_tautology c.deref-2.result.now c.deref-3.result.now ≡ is_tautology c.args.rows.now c.args.pins.items =
+    ap (λ r. is_tautology r c.deref-3.result.now) rows
+    ∙ ap (is_tautology (open_rows c.args.rows.now c.args.pins.items)) pins
+    ∙ same_open c.args.rows.now c.args.pins.items in
     subst (λ b. IfOk c.rows_are_tautology.result (λ all. all ≡ b)) same c.rows_are_tautology.ensures

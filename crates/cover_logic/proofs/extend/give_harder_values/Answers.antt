@@ -1,8 +1,8 @@
 use Rattle.std.proofs.Common.{arith, rules}
 use Rattle.cyc_base.specs.declared.trit.Trit.TheVariants.{X}
 use Rattle.cover_logic.proofs.TautologyLemmas.{reduced}
-use Rattle.cover_logic.proofs.extend.reduce.Goals as goal
-use Rattle.cover_logic.proofs.extend.reduce.Goals.{then-eq+in-Some, then-eq+in_default, else-eq}
+use Rattle.cover_logic.proofs.extend.give_harder_values.Goals as goal
+use Rattle.cover_logic.proofs.extend.give_harder_values.Goals.{then-eq+in-Some, then-eq+in_default, else-eq}
 
 pub loop-pin-preserved : goal.loop-pin-preserved
 loop-pin-preserved c =
