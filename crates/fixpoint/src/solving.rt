@@ -91,7 +91,8 @@ fn solve_and_keep(
 }
 
 /// Solves the block at a place and keeps it. Where it finds the store full, it takes out what no root reaches, also of
-/// what this try had made, and tries once more.
+/// what this try had made, and tries once more. `left` is how many nodes there were after the last time: where none
+/// was made since, the second try would be the first one again.
 fn solve_with_retry(
     alloc: Global,
     d: &mut Diagrams,
@@ -103,6 +104,7 @@ fn solve_with_retry(
     before: &mut [Rails],
     rails: &mut [Rails],
     places: &mut [Option<KeptRails>],
+    left: u32,
 ) -> Result<Option<LoopSteps>, StoreFault>
     requires blocks { AreBlocksOf net.now blocks.now }
     requires cut { IsCutOf net.now cut.now }
@@ -114,10 +116,11 @@ fn solve_with_retry(
     ensures adds { AddsWithin result d.old d.new (HasLargeCover net.now) (IsWide d.old.vars (IsWorking net.now (loops_by blocks.now cut.now) (values_under d.old given.now)))
         (4 * ((length net.now.gates + 1) * block_cost net.now blocks.now place)) }
 {
+    let may_gain = d.store().count() > left;
     match solve_and_keep(
         alloc, d, net, blocks, cut, given, place, before, rails, places,
     ) {
-        Err(StoreFault::Full) => {
+        Err(StoreFault::Full) if may_gain => {
             sweep_store(alloc, d, given, places, before, rails)?;
             solve_and_keep(
                 alloc, d, net, blocks, cut, given, place, before, rails, places,
@@ -160,11 +163,12 @@ fn solve_blocks(
         (4 * ((length net.now.gates + 1) * effort net.now)) }
 {
     d.store().laws();
+    sweep_store(alloc, d, given, places, before, rails)?;
     let mut left = d.store().count();
     let mut loops = Vec::new(alloc);
     for place in 0..blocks.list.items().len() {
         let found = solve_with_retry(
-            alloc, d, net, blocks, cut, given, place, before, rails, places,
+            alloc, d, net, blocks, cut, given, place, before, rails, places, left,
         )?;
         left = sweep_if_due(alloc, d, given, places, before, rails, left)?;
         add_loop(&mut loops, found)?;
@@ -254,9 +258,9 @@ fn solve_gates(
 /// cut wires (Malik 1994). All of them are kept, and so are the steps of each loop; the given roots are those of the
 /// inputs and latches. Each root of before keeps its function, after a refusal too.
 ///
-/// Between blocks it may take out what no root reaches, also where a block finds the store full, which is then tried
-/// once more. In the end it does so always: the store then holds just the entries that are reached from its roots. So
-/// nodes of before that no root had mean nothing after the call.
+/// Before the first block and in the end it takes out what no root reaches, so that the store then holds just the
+/// entries that are reached from its roots. Between blocks it may do so too, also where a block finds the store full,
+/// which is then tried once more. So nodes of before that no root had mean nothing after the call.
 ///
 /// For each w that is wide for the working list, it adds at most `10 * w * (gates + 2) * effort` nodes, where the
 /// effort is the sum of the covers' sizes and of one for each gate. `Full` comes only where a gate's cover has a

@@ -1,7 +1,6 @@
 use Rattle.std.proofs.Common.{◌≡◌, ◌+◌, ◌*◌, ◌++◌, length, get_or, subst, sym, ap, arith}
 use Rattle.std.specs.List.{All}
 use Rattle.std.specs.Option.{option_to_list}
-use Rattle.bdd_store.specs.Soundness.{IsLawful}
 use Rattle.bdd_store.specs.Growth.{AddsWithin}
 use Rattle.bdd_store.proofs.GrowthLemmas.{adds_then, adds_more, adds_moved, adds_refused, adds_answered, adds_swept}
 use Rattle.dual_rail.specs.WorkingLists.{IsWide}
@@ -12,8 +11,8 @@ use Rattle.fixpoint.specs.Sweeping.{IsKeptAt}
 use Rattle.fixpoint.specs.Working.{IsWorking, HasLargeCover, below_cost}
 use Rattle.fixpoint.proofs.BlockLemmas.{HasLoopsBelow, loops-start, loops-end}
 use Rattle.fixpoint.proofs.BoundLemmas.{wide-same, below-next, below-all}
-use Rattle.fixpoint.proofs.KeptLemmas.{RootsStay-refl, RootsStay-chain, values-stay, adds_lacking, nothing_added}
-use Rattle.fixpoint.proofs.KeepingLemmas.{places-kept, steps-stay, found-loops, found-steps, found-stays}
+use Rattle.fixpoint.proofs.KeptLemmas.{RootsStay-chain, values-stay, adds_lacking, nothing_added}
+use Rattle.fixpoint.proofs.KeepingLemmas.{places-kept, solved-anew, steps-stay, found-loops, found-steps, found-stays}
 use Rattle.fixpoint.proofs.solving.solve_blocks.Goals as goal
 use Rattle.fixpoint.proofs.solving.solve_blocks.Goals.{After-solve_with_retry}
 
@@ -29,13 +28,15 @@ step c =
     c.solve_with_retry.ensures.adds))
 
 pub loop-place-init : goal.loop-place-init
-loop-place-init c = record {
-  roots = RootsStay-refl c.args.d.now (subst IsLawful c.store.ensures c.laws.ensures);
-  adds = nothing_added;
-  solved = c.requires.solved;
-  loops = subst (HasLoopsBelow c.args.blocks.now 0) (sym c.new-loops.ensures.items) (loops-start c.args.blocks.now);
-  steps = subst (All (AreKeptSteps c.args.net.now c.args.blocks.now c.args.cut.now c.args.d.now (values_under c.args.d.now c.args.given.now))) (sym c.new-loops.ensures.items) (λ k none less. absurd (omega (arith, less)));
-}
+loop-place-init c =
+    let read = c.in_ok-sweep_store.ensures in
+    record {
+      roots = c.sweep_store.ensures.roots;
+      adds = adds_swept c.sweep_store.ensures.fewer nothing_added;
+      solved = solved-anew c.args.net.now c.args.blocks.now c.args.cut.now c.sweep_store.ensures.roots c.args.given.now 0 c.args.before.now c.args.rails.now c.args.places.now c.requires.solved c.sweep_store.new.before c.sweep_store.new.rails read.before read.rails;
+      loops = subst (HasLoopsBelow c.args.blocks.now 0) (sym c.new-loops.ensures.items) (loops-start c.args.blocks.now);
+      steps = subst (All (AreKeptSteps c.args.net.now c.args.blocks.now c.args.cut.now c.sweep_store.new.d (values_under c.sweep_store.new.d c.args.given.now))) (sym c.new-loops.ensures.items) (λ k none less. absurd (omega (arith, less)));
+    }
 
 pub solve_with_retry-requires-clause-place : goal.solve_with_retry-requires-clause-place
 solve_with_retry-requires-clause-place c = omega (arith, c.loop-place-test.true, ap length c.items-place-end.ensures)
@@ -76,7 +77,7 @@ returns-in_err-found-clause-roots c = RootsStay-chain c.loop-place.invariant.roo
 
 pub returns-in_err-found-clause-adds : goal.returns-in_err-found-clause-adds
 returns-in_err-found-clause-adds c =
-    adds_more (below-all c.args.net.now c.args.blocks.now (c.loop-place.place + 1)) (adds_refused c.in_err-found.was c.from_residual.ensures.1 (step ((goal.at.returns-in_err-found-clause-adds c).After-solve_with_retry)))
+    adds_more (below-all c.args.net.now c.args.blocks.now (c.loop-place.place + 1)) (adds_refused c.in_err-found.was c.from_residual-in_err-found.ensures.1 (step ((goal.at.returns-in_err-found-clause-adds c).After-solve_with_retry)))
 
 pub returns-in_err-left-clause-roots : goal.returns-in_err-left-clause-roots
 returns-in_err-left-clause-roots c = RootsStay-chain c.loop-place.invariant.roots (RootsStay-chain c.solve_with_retry.ensures.roots c.sweep_if_due.ensures.roots)

@@ -48,7 +48,10 @@ returns-in_ok-sweep_store-in-Err-Full-clause-adds c =
     c.solve_and_keep-in-Err-Full.ensures.adds))
 
 pub returns-in_default-clause-adds : goal.returns-in_default-clause-adds
-returns-in_default-clause-adds c = adds_more (omega arith) c.in_default.ensures.adds
+returns-in_default-clause-adds c = adds_more (omega arith) c.in-Err-Full.ensures.adds
 
 pub returns-in_default-2-clause-adds : goal.returns-in_default-2-clause-adds
-returns-in_default-2-clause-adds c = adds_more (omega arith) c.solve_and_keep.ensures.adds
+returns-in_default-2-clause-adds c = adds_more (omega arith) c.in_default.ensures.adds
+
+pub returns-in_default-3-clause-adds : goal.returns-in_default-3-clause-adds
+returns-in_default-3-clause-adds c = adds_more (omega arith) c.solve_and_keep.ensures.adds
