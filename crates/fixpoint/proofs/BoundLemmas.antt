@@ -129,12 +129,12 @@ wide-same net loops v u s t vars same {w} wide =
     subst (λ (x : ℕ). IsWide x (IsWorking net loops v) w) (sym vars) (IsWide-fewer (IsWorking net loops u) (IsWorking net loops v) w (working-same net loops v u same) wide)
 
 -- one block more, and all of them
-pub below-next : (net : Parts) (blocks : Blocks) (b : ℕ) → 2 * ((length net.gates + 1) * below_cost net blocks b) + 2 * ((length net.gates + 1) * block_cost net blocks b) ≤ 2 * ((length net.gates + 1) * below_cost net blocks (b + 1))
+pub below-next : (net : Parts) (blocks : Blocks) (b : ℕ) → 4 * ((length net.gates + 1) * below_cost net blocks b) + 4 * ((length net.gates + 1) * block_cost net blocks b) ≤ 4 * ((length net.gates + 1) * below_cost net blocks (b + 1))
 below-next net blocks b =
     let next = total-next (home_of blocks) (cost net) b (length net.gates) in
-    subst (λ (x : ℕ). 2 * ((length net.gates + 1) * below_cost net blocks b) + 2 * ((length net.gates + 1) * block_cost net blocks b) ≤ 2 * ((length net.gates + 1) * x)) next (omega arith)
+    subst (λ (x : ℕ). 4 * ((length net.gates + 1) * below_cost net blocks b) + 4 * ((length net.gates + 1) * block_cost net blocks b) ≤ 4 * ((length net.gates + 1) * x)) next (omega arith)
 
-pub below-all : (net : Parts) (blocks : Blocks) (b : ℕ) → 2 * ((length net.gates + 1) * below_cost net blocks b) ≤ 2 * ((length net.gates + 1) * effort net)
+pub below-all : (net : Parts) (blocks : Blocks) (b : ℕ) → 4 * ((length net.gates + 1) * below_cost net blocks b) ≤ 4 * ((length net.gates + 1) * effort net)
 below-all net blocks b =
     let most : below_cost net blocks b ≤ effort net = total-all (λ (gate : Gate). size gate.cover + 1) net.gates no_gate (λ n. ltb (home_of blocks n) b) in
     let a = mul-le-mul_left {m = below_cost net blocks b} {n = effort net} (length net.gates + 1) most in

@@ -16,9 +16,14 @@ use std::alloc::{AllocError, Global};
 /// The fewest nodes at which idle ones are taken out while blocks are still to be solved.
 const LEAST_SWEPT: u32 = 4_096;
 
-/// Whether idle nodes are to be taken out: there may be as many of them as the last time left others.
-fn is_due(count: u32, left: u32) -> bool {
-    count >= LEAST_SWEPT && count / 2 >= left
+/// Whether idle nodes are to be taken out: there may be as many of them as the last time left others, or the store has
+/// come to seven eighths of its limit with an eighth of the limit made since. A sweep costs as much as there are nodes,
+/// so all that are due together cost at most some eight times as much as making the nodes.
+fn is_due(count: u32, left: u32, limit: u32) -> bool {
+    let eighth = limit / 8;
+    let has_doubled = count >= LEAST_SWEPT && count / 2 >= left;
+    let is_nearly_full = count >= limit - eighth && count.saturating_sub(left) >= eighth;
+    has_doubled || is_nearly_full
 }
 
 /// The rails at a place, or those of X.
@@ -48,7 +53,7 @@ fn rails_at_places(
 }
 
 /// Takes out what no root reaches, and reads all wires anew.
-fn sweep_store(
+pub(crate) fn sweep_store(
     alloc: Global,
     d: &mut Diagrams,
     given: &[KeptRails],
@@ -97,7 +102,7 @@ pub(crate) fn sweep_if_due(
     ensures fewer { length d.new.entries ≤ length d.old.entries }
 {
     d.store().laws();
-    if !is_due(d.store().count(), left) {
+    if !is_due(d.store().count(), left, d.store().limit()) {
         return Ok(left);
     }
     sweep_store(alloc, d, given, places, before, rails)?;

@@ -13,7 +13,7 @@ ghost use Rattle.dual_rail.specs.WorkingLists.{IsWide};
 ghost use Rattle.fixpoint.specs.Working.{IsWorking, HasLargeCover, effort, block_cost};
 ghost use Rattle.fixpoint.specs.Sweeping.{unknown as unknown_rails, vectors, IsFoundAt, IsSolvedBelow, AreFresh, IsKeptAt, AreKeptBelow, IsSolvedTo};
 
-use crate::clearing::sweep_if_due;
+use crate::clearing::{sweep_if_due, sweep_store};
 use crate::keeping::{empty_places, keep_block, signal_rails};
 use crate::kept::{KeptRails, rails_of};
 use crate::solved::{LoopSteps, Solved, SweptLoop};
@@ -78,6 +78,7 @@ fn solve_and_keep(
     requires solved { IsSolvedTo net.now blocks.now cut.now d.old given.now place before.old rails.old places.old }
     ensures solved { OnOk result (IsSolvedTo net.now blocks.now cut.now d.new given.now (place + 1) before.new rails.new places.new) }
     ensures steps { IfOk result (IsKeptAt net.now blocks.now cut.now d.new (values_under d.new given.now) place) }
+    ensures places { result ≡ Err StoreFault.Full → places.new ≡ places.old }
     ensures roots { RootsStay d.old d.new }
     ensures adds { AddsWithin result d.old d.new (HasLargeCover net.now) (IsWide d.old.vars (IsWorking net.now (loops_by blocks.now cut.now) (values_under d.old given.now)))
         (2 * ((length net.now.gates + 1) * block_cost net.now blocks.now place)) }
@@ -87,6 +88,46 @@ fn solve_and_keep(
     let found = solve_block(alloc, d, net, blocks, cut, gates[0], before, rails)?;
     let first = net.inputs() as usize + net.latches() as usize;
     Ok(keep_block(alloc, d, gates, first, rails, places, found)?)
+}
+
+/// Solves the block at a place and keeps it. Where it finds the store full, it takes out what no root reaches, also of
+/// what this try had made, and tries once more. `left` is how many nodes there were after the last time: where none
+/// was made since, the second try would be the first one again.
+fn solve_with_retry(
+    alloc: Global,
+    d: &mut Diagrams,
+    net: &Netlist,
+    blocks: &Blocks,
+    cut: &Cut,
+    given: &[KeptRails],
+    place: usize,
+    before: &mut [Rails],
+    rails: &mut [Rails],
+    places: &mut [Option<KeptRails>],
+    left: u32,
+) -> Result<Option<LoopSteps>, StoreFault>
+    requires blocks { AreBlocksOf net.now blocks.now }
+    requires cut { IsCutOf net.now cut.now }
+    requires place { place < length blocks.now.list }
+    requires solved { IsSolvedTo net.now blocks.now cut.now d.old given.now place before.old rails.old places.old }
+    ensures solved { OnOk result (IsSolvedTo net.now blocks.now cut.now d.new given.now (place + 1) before.new rails.new places.new) }
+    ensures steps { IfOk result (IsKeptAt net.now blocks.now cut.now d.new (values_under d.new given.now) place) }
+    ensures roots { RootsStay d.old d.new }
+    ensures adds { AddsWithin result d.old d.new (HasLargeCover net.now) (IsWide d.old.vars (IsWorking net.now (loops_by blocks.now cut.now) (values_under d.old given.now)))
+        (4 * ((length net.now.gates + 1) * block_cost net.now blocks.now place)) }
+{
+    let may_gain = d.store().count() > left;
+    match solve_and_keep(
+        alloc, d, net, blocks, cut, given, place, before, rails, places,
+    ) {
+        Err(StoreFault::Full) if may_gain => {
+            sweep_store(alloc, d, given, places, before, rails)?;
+            solve_and_keep(
+                alloc, d, net, blocks, cut, given, place, before, rails, places,
+            )
+        }
+        result => result,
+    }
 }
 
 /// Adds what was found of a block.
@@ -119,14 +160,15 @@ fn solve_blocks(
     ensures steps { IfOk result (λ loops. All (AreKeptSteps net.now blocks.now cut.now d.new (values_under d.new given.now)) loops.items) }
     ensures roots { RootsStay d.old d.new }
     ensures adds { AddsWithin result d.old d.new (HasLargeCover net.now) (IsWide d.old.vars (IsWorking net.now (loops_by blocks.now cut.now) (values_under d.old given.now)))
-        (2 * ((length net.now.gates + 1) * effort net.now)) }
+        (4 * ((length net.now.gates + 1) * effort net.now)) }
 {
     d.store().laws();
+    sweep_store(alloc, d, given, places, before, rails)?;
     let mut left = d.store().count();
     let mut loops = Vec::new(alloc);
     for place in 0..blocks.list.items().len() {
-        let found = solve_and_keep(
-            alloc, d, net, blocks, cut, given, place, before, rails, places,
+        let found = solve_with_retry(
+            alloc, d, net, blocks, cut, given, place, before, rails, places, left,
         )?;
         left = sweep_if_due(alloc, d, given, places, before, rails, left)?;
         add_loop(&mut loops, found)?;
@@ -216,8 +258,9 @@ fn solve_gates(
 /// cut wires (Malik 1994). All of them are kept, and so are the steps of each loop; the given roots are those of the
 /// inputs and latches. Each root of before keeps its function, after a refusal too.
 ///
-/// Between blocks it may take out what no root reaches, and in the end it does: the store then holds just the entries
-/// that are reached from its roots. So nodes of before that no root had mean nothing after the call.
+/// Before the first block and in the end it takes out what no root reaches, so that the store then holds just the
+/// entries that are reached from its roots. Between blocks it may do so too, also where a block finds the store full,
+/// which is then tried once more. So nodes of before that no root had mean nothing after the call.
 ///
 /// For each w that is wide for the working list, it adds at most `10 * w * (gates + 2) * effort` nodes, where the
 /// effort is the sum of the covers' sizes and of one for each gate. `Full` comes only where a gate's cover has a

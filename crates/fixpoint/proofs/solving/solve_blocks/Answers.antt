@@ -1,7 +1,6 @@
 use Rattle.std.proofs.Common.{◌≡◌, ◌+◌, ◌*◌, ◌++◌, length, get_or, subst, sym, ap, arith}
 use Rattle.std.specs.List.{All}
 use Rattle.std.specs.Option.{option_to_list}
-use Rattle.bdd_store.specs.Soundness.{IsLawful}
 use Rattle.bdd_store.specs.Growth.{AddsWithin}
 use Rattle.bdd_store.proofs.GrowthLemmas.{adds_then, adds_more, adds_moved, adds_refused, adds_answered, adds_swept}
 use Rattle.dual_rail.specs.WorkingLists.{IsWide}
@@ -12,33 +11,35 @@ use Rattle.fixpoint.specs.Sweeping.{IsKeptAt}
 use Rattle.fixpoint.specs.Working.{IsWorking, HasLargeCover, below_cost}
 use Rattle.fixpoint.proofs.BlockLemmas.{HasLoopsBelow, loops-start, loops-end}
 use Rattle.fixpoint.proofs.BoundLemmas.{wide-same, below-next, below-all}
-use Rattle.fixpoint.proofs.KeptLemmas.{RootsStay-refl, RootsStay-chain, values-stay, adds_lacking, nothing_added}
-use Rattle.fixpoint.proofs.KeepingLemmas.{places-kept, steps-stay, found-loops, found-steps, found-stays}
+use Rattle.fixpoint.proofs.KeptLemmas.{RootsStay-chain, values-stay, adds_lacking, nothing_added}
+use Rattle.fixpoint.proofs.KeepingLemmas.{places-kept, solved-anew, steps-stay, found-loops, found-steps, found-stays}
 use Rattle.fixpoint.proofs.solving.solve_blocks.Goals as goal
-use Rattle.fixpoint.proofs.solving.solve_blocks.Goals.{After-solve_and_keep}
+use Rattle.fixpoint.proofs.solving.solve_blocks.Goals.{After-solve_with_retry}
 
 -- one block more
-step : (c : After-solve_and_keep) → AddsWithin c.solve_and_keep.result c.args.d.now c.solve_and_keep.new.d (HasLargeCover c.args.net.now) (IsWide c.args.d.now.vars (IsWorking c.args.net.now (loops_by c.args.blocks.now c.args.cut.now) (values_under c.args.d.now c.args.given.now)))
-    (2 * ((length c.args.net.now.gates + 1) * below_cost c.args.net.now c.args.blocks.now (c.loop-place.place + 1)))
+step : (c : After-solve_with_retry) → AddsWithin c.solve_with_retry.result c.args.d.now c.solve_with_retry.new.d (HasLargeCover c.args.net.now) (IsWide c.args.d.now.vars (IsWorking c.args.net.now (loops_by c.args.blocks.now c.args.cut.now) (values_under c.args.d.now c.args.given.now)))
+    (4 * ((length c.args.net.now.gates + 1) * below_cost c.args.net.now c.args.blocks.now (c.loop-place.place + 1)))
 step c =
     let inv = c.loop-place.invariant in
     let keys = c.requires.solved.given_are.keys in
     adds_more (below-next c.args.net.now c.args.blocks.now c.loop-place.place)
     (adds_then inv.roots.limit inv.adds
     (adds_moved (λ w wide. wide-same c.args.net.now (loops_by c.args.blocks.now c.args.cut.now) (values_under c.loop-place.d c.args.given.now) (values_under c.args.d.now c.args.given.now) c.args.d.now c.loop-place.d inv.roots.vars (values-stay inv.roots c.args.given.now keys) wide)
-    c.solve_and_keep.ensures.adds))
+    c.solve_with_retry.ensures.adds))
 
 pub loop-place-init : goal.loop-place-init
-loop-place-init c = record {
-  roots = RootsStay-refl c.args.d.now (subst IsLawful c.store.ensures c.laws.ensures);
-  adds = nothing_added;
-  solved = c.requires.solved;
-  loops = subst (HasLoopsBelow c.args.blocks.now 0) (sym c.new-loops.ensures.items) (loops-start c.args.blocks.now);
-  steps = subst (All (AreKeptSteps c.args.net.now c.args.blocks.now c.args.cut.now c.args.d.now (values_under c.args.d.now c.args.given.now))) (sym c.new-loops.ensures.items) (λ k none less. absurd (omega (arith, less)));
-}
+loop-place-init c =
+    let read = c.in_ok-sweep_store.ensures in
+    record {
+      roots = c.sweep_store.ensures.roots;
+      adds = adds_swept c.sweep_store.ensures.fewer nothing_added;
+      solved = solved-anew c.args.net.now c.args.blocks.now c.args.cut.now c.sweep_store.ensures.roots c.args.given.now 0 c.args.before.now c.args.rails.now c.args.places.now c.requires.solved c.sweep_store.new.before c.sweep_store.new.rails read.before read.rails;
+      loops = subst (HasLoopsBelow c.args.blocks.now 0) (sym c.new-loops.ensures.items) (loops-start c.args.blocks.now);
+      steps = subst (All (AreKeptSteps c.args.net.now c.args.blocks.now c.args.cut.now c.sweep_store.new.d (values_under c.sweep_store.new.d c.args.given.now))) (sym c.new-loops.ensures.items) (λ k none less. absurd (omega (arith, less)));
+    }
 
-pub solve_and_keep-requires-clause-place : goal.solve_and_keep-requires-clause-place
-solve_and_keep-requires-clause-place c = omega (arith, c.loop-place-test.true, ap length c.items-place-end.ensures)
+pub solve_with_retry-requires-clause-place : goal.solve_with_retry-requires-clause-place
+solve_with_retry-requires-clause-place c = omega (arith, c.loop-place-test.true, ap length c.items-place-end.ensures)
 
 pub sweep_if_due-requires-clause-given : goal.sweep_if_due-requires-clause-given
 sweep_if_due-requires-clause-given c = c.in_ok-found.ensures.solved.given_are.keys
@@ -54,16 +55,16 @@ loop-place-preserved c =
     let b = c.loop-place.place in
     let given = c.args.given.now in
     let inv = c.loop-place.invariant in
-    let one : RootsStay c.loop-place.d c.solve_and_keep.new.d = c.solve_and_keep.ensures.roots in
-    let two : RootsStay c.solve_and_keep.new.d c.sweep_if_due.new.d = c.sweep_if_due.ensures.roots in
+    let one : RootsStay c.loop-place.d c.solve_with_retry.new.d = c.solve_with_retry.ensures.roots in
+    let two : RootsStay c.solve_with_retry.new.d c.sweep_if_due.new.d = c.sweep_if_due.ensures.roots in
     let done = c.in_ok-found.ensures.solved in
     let found : IsKeptAt net blocks cut c.sweep_if_due.new.d (values_under c.sweep_if_due.new.d given) b c.in_ok-found.found =
-    found-stays net blocks cut c.solve_and_keep.new.d c.sweep_if_due.new.d (values_under c.solve_and_keep.new.d given) (values_under c.sweep_if_due.new.d given) b c.in_ok-found.found two (λ bits. sym (values-stay two given done.given_are.keys bits)) c.in_ok-found.ensures.steps in
+    found-stays net blocks cut c.solve_with_retry.new.d c.sweep_if_due.new.d (values_under c.solve_with_retry.new.d given) (values_under c.sweep_if_due.new.d given) b c.in_ok-found.found two (λ bits. sym (values-stay two given done.given_are.keys bits)) c.in_ok-found.ensures.steps in
     let whole : RootsStay c.loop-place.d c.sweep_if_due.new.d = RootsStay-chain one two in
     let items : c.add_loop.new.loops.items ≡ c.loop-place.loops.items ++ option_to_list c.in_ok-found.found = c.in_ok-add_loop.ensures in
     record {
       roots = RootsStay-chain inv.roots whole;
-      adds = adds_swept c.sweep_if_due.ensures.fewer (step ((goal.at.loop-place-preserved c).After-solve_and_keep));
+      adds = adds_swept c.sweep_if_due.ensures.fewer (step ((goal.at.loop-place-preserved c).After-solve_with_retry));
       solved = c.in_ok-left.ensures.solved net blocks cut (b + 1) done;
       loops = subst (HasLoopsBelow blocks (b + 1)) (sym items) (found-loops net blocks cut c.sweep_if_due.new.d (values_under c.sweep_if_due.new.d given) b c.loop-place.loops.items c.in_ok-found.found found inv.loops);
       steps = subst (All (AreKeptSteps net blocks cut c.sweep_if_due.new.d (values_under c.sweep_if_due.new.d given))) (sym items)
@@ -72,25 +73,25 @@ loop-place-preserved c =
     }
 
 pub returns-in_err-found-clause-roots : goal.returns-in_err-found-clause-roots
-returns-in_err-found-clause-roots c = RootsStay-chain c.loop-place.invariant.roots c.solve_and_keep.ensures.roots
+returns-in_err-found-clause-roots c = RootsStay-chain c.loop-place.invariant.roots c.solve_with_retry.ensures.roots
 
 pub returns-in_err-found-clause-adds : goal.returns-in_err-found-clause-adds
 returns-in_err-found-clause-adds c =
-    adds_more (below-all c.args.net.now c.args.blocks.now (c.loop-place.place + 1)) (adds_refused c.in_err-found.was c.from_residual.ensures.1 (step ((goal.at.returns-in_err-found-clause-adds c).After-solve_and_keep)))
+    adds_more (below-all c.args.net.now c.args.blocks.now (c.loop-place.place + 1)) (adds_refused c.in_err-found.was c.from_residual-in_err-found.ensures.1 (step ((goal.at.returns-in_err-found-clause-adds c).After-solve_with_retry)))
 
 pub returns-in_err-left-clause-roots : goal.returns-in_err-left-clause-roots
-returns-in_err-left-clause-roots c = RootsStay-chain c.loop-place.invariant.roots (RootsStay-chain c.solve_and_keep.ensures.roots c.sweep_if_due.ensures.roots)
+returns-in_err-left-clause-roots c = RootsStay-chain c.loop-place.invariant.roots (RootsStay-chain c.solve_with_retry.ensures.roots c.sweep_if_due.ensures.roots)
 
 pub returns-in_err-left-clause-adds : goal.returns-in_err-left-clause-adds
 returns-in_err-left-clause-adds c =
-    adds_more (below-all c.args.net.now c.args.blocks.now (c.loop-place.place + 1)) (adds_lacking c.from_residual-in_err-left.ensures.1 c.sweep_if_due.ensures.fewer (step ((goal.at.returns-in_err-left-clause-adds c).After-solve_and_keep)))
+    adds_more (below-all c.args.net.now c.args.blocks.now (c.loop-place.place + 1)) (adds_lacking c.from_residual-in_err-left.ensures.1 c.sweep_if_due.ensures.fewer (step ((goal.at.returns-in_err-left-clause-adds c).After-solve_with_retry)))
 
 pub returns-in_err-add_loop-clause-roots : goal.returns-in_err-add_loop-clause-roots
-returns-in_err-add_loop-clause-roots c = RootsStay-chain c.loop-place.invariant.roots (RootsStay-chain c.solve_and_keep.ensures.roots c.sweep_if_due.ensures.roots)
+returns-in_err-add_loop-clause-roots c = RootsStay-chain c.loop-place.invariant.roots (RootsStay-chain c.solve_with_retry.ensures.roots c.sweep_if_due.ensures.roots)
 
 pub returns-in_err-add_loop-clause-adds : goal.returns-in_err-add_loop-clause-adds
 returns-in_err-add_loop-clause-adds c =
-    adds_more (below-all c.args.net.now c.args.blocks.now (c.loop-place.place + 1)) (adds_lacking c.from_residual-in_err-add_loop.ensures.1 c.sweep_if_due.ensures.fewer (step ((goal.at.returns-in_err-add_loop-clause-adds c).After-solve_and_keep)))
+    adds_more (below-all c.args.net.now c.args.blocks.now (c.loop-place.place + 1)) (adds_lacking c.from_residual-in_err-add_loop.ensures.1 c.sweep_if_due.ensures.fewer (step ((goal.at.returns-in_err-add_loop-clause-adds c).After-solve_with_retry)))
 
 pub returns-clause-adds : goal.returns-clause-adds
 returns-clause-adds c = adds_more (below-all c.args.net.now c.args.blocks.now c.loop-place.place) (adds_answered c.loop-place.invariant.adds)
