@@ -212,7 +212,7 @@ fn room_behind_item(
     }
 }
 
-/// The room behind the items of a body and what comes below them. It goes one call deeper for each open instance.
+/// The room behind the items of a body and what comes below them. Its calls lie as deep as instances do.
 #[cycle(room)]
 fn room_behind(
     alloc: Global,
