@@ -1,6 +1,5 @@
 -- Tables of formals: what they have, and where a pair or an input is at fault.
-use Rattle.std.proofs.Common.{◌≡◌, ℕ, ◌+◌, ◌<◌, nat_le, Bool, true, false, not, ◌||◌, List, [], ◌∷◌, ◌++◌, length, get_or, take, drop, refl, sym, ap, ◌∙◌, arith, cond, if◌then◌else◌, Some, None, Ok, Err, is_some, option_map}
-use Rattle.std.proofs.lemmas.Grind.{common_steps}
+use Rattle.std.proofs.Common.{◌≡◌, ℕ, ◌+◌, ◌<◌, Bool, true, false, not, List, [], ◌∷◌, ◌++◌, length, get_or, take, drop, refl, sym, ap, ◌∙◌, cond, if◌then◌else◌, Some, None, Ok, Err, is_some, option_map}
 use Rattle.std.specs.List.{list_any}
 use Rattle.std.specs.Str.{bytes_eq}
 use Rattle.std.specs.declared.option.Option.{Option}
@@ -8,10 +7,8 @@ use Rattle.std.specs.Option.{option_or}
 use Rattle.blif_read.specs.declared.models.BlifModel.{BlifModel}
 use Rattle.flatten.specs.declared.fault.FlatFault.{FlatFault}
 use Rattle.flatten.specs.declared.fault.FlatFault.TheVariants.{UnknownFormal, FormalTwice, OpenInput}
-use Rattle.flatten.specs.declared.walk.Level.{Level}
 use Rattle.flatten.specs.Paths.{actual_of}
-use Rattle.flatten.specs.Instances.{is_among, model_at, find_model, formals, formal_fault, pair_fault, first_open, pairs_fault, entry}
-use Rattle.flatten.specs.Levels.{chosen_on}
+use Rattle.flatten.specs.Instances.{is_among, model_at, formals, formal_fault, pair_fault, first_open, pairs_fault, entry}
 use Rattle.flatten.specs.Linking.{each_once}
 use Rattle.flatten.specs.Laws.{resolved, bound}
 use Rattle.flatten.proofs.Names.{dropped, taken, item_at_default}
@@ -77,21 +74,22 @@ pub pair_fault_once : (names : List (List ℕ)) (before pairs : List (List ℕ �
 pair_fault_once names before [] = refl
 pair_fault_once names before (p ∷ pairs) = rw (among_once names p.0, pair_fault_once names (before ++ p ∷ []) pairs) refl
 
--- levels by the name of their model
-pub open_level : (models : List BlifModel) (name : List ℕ) (levels : List Level) (i : ℕ) (x : Level) (model : BlifModel) → i < length levels → x ≡ get_or levels i x → x.model < length models → model ≡ get_or models x.model model → bytes_eq model.name name ≡ true → list_any (λ l. bytes_eq (model_at models l.model).name name) (drop i levels) ≡ true
-open_level models name levels i x model l e w g h =
-    let m : model_at models x.model ≡ model = item_at_default models x.model model _ w g in
-    rw (dropped levels i x l e, m, h) refl
+-- what is open, by the name of its model
+pub open_at : {X : Type 0} (place : X → ℕ) (models : List BlifModel) (name : List ℕ) (xs : List X) (i : ℕ) (x : X) (model : BlifModel) → i < length xs → x ≡ get_or xs i x → place x < length models → model ≡ get_or models (place x) model → bytes_eq model.name name ≡ true → list_any (λ y. bytes_eq (model_at models (place y)).name name) (drop i xs) ≡ true
+open_at place models name xs i x model l e w g h =
+    let m : model_at models (place x) ≡ model = item_at_default models (place x) model _ w g in
+    rw (dropped xs i x l e, m, h) refl
 
-pub other_level : (models : List BlifModel) (name : List ℕ) (levels : List Level) (i : ℕ) (x : Level) (model : BlifModel) → i < length levels → x ≡ get_or levels i x → x.model < length models → model ≡ get_or models x.model model → bytes_eq model.name name ≡ false → list_any (λ l. bytes_eq (model_at models l.model).name name) (drop i levels) ≡ list_any (λ l. bytes_eq (model_at models l.model).name name) (drop (i + 1) levels)
-other_level models name levels i x model l e w g h =
-    let m : model_at models x.model ≡ model = item_at_default models x.model model _ w g in
-    rw (dropped levels i x l e, m, h) refl
+pub other_at : {X : Type 0} (place : X → ℕ) (models : List BlifModel) (name : List ℕ) (xs : List X) (i : ℕ) (x : X) (model : BlifModel) → i < length xs → x ≡ get_or xs i x → place x < length models → model ≡ get_or models (place x) model → bytes_eq model.name name ≡ false → list_any (λ y. bytes_eq (model_at models (place y)).name name) (drop i xs) ≡ list_any (λ y. bytes_eq (model_at models (place y)).name name) (drop (i + 1) xs)
+other_at place models name xs i x model l e w g h =
+    let m : model_at models (place x) ≡ model = item_at_default models (place x) model _ w g in
+    rw (dropped xs i x l e, m, h) refl
+
+-- a test that was made tells whether the model is open
+pub by_test : (name : List ℕ) (test opened deep : Bool) (f : ℕ → Option FlatFault) (x : Option ℕ) → test ≡ opened → entry name opened deep f x ≡ entry name test deep f x
+by_test name test opened deep f x e = ap (λ b. entry name b deep f x) (sym e)
 
 -- an instance whose model was chosen, before and behind the look at its pairs
-pub entry_ok : (name : List ℕ) (a b : Bool) (f : ℕ → Option FlatFault) (x : Option ℕ) (i : ℕ) → x ≡ Some i → a ≡ false → b ≡ false → f i ≡ None → entry name a b f x ≡ Ok i
-entry_ok name a b f x i e h k l = rw (e, h, k, l) refl
-
 pub entry_refused : (name : List ℕ) (a b : Bool) (f : ℕ → Option FlatFault) (x : Option ℕ) (fault : FlatFault) → entry name a b (λ i. None) x ≡ Err fault → entry name a b f x ≡ Err fault
 entry_refused name a b f None fault e = e
 entry_refused name true b f (Some j) fault e = e
@@ -115,15 +113,6 @@ entry_fit name a b f x i e h = rw (entry_chosen name a b f x i e, h) refl
 pub none_there : (o : Option (List ℕ)) → is_some o ≡ false → o ≡ None
 none_there None h = refl
 none_there (Some x) h = absurd (cc)
-
--- a model that was found and is neither open nor too deep
-pub chooses : (depth : ℕ) (models : List BlifModel) (below : List Level) (level : Level) (name : List ℕ) (i : ℕ) → find_model models name ≡ Some i → bytes_eq (model_at models level.model).name name ≡ false → list_any (λ l. bytes_eq (model_at models l.model).name name) below ≡ false → length below < depth → chosen_on depth models below level name ≡ Ok i
-chooses depth models below level name i found here there deep =
-    let closed : (bytes_eq (model_at models level.model).name name || list_any (λ l. bytes_eq (model_at models l.model).name name) below) ≡ false = rw (here, there) refl in
-    entry_ok name _ (nat_le depth (length below)) (λ j. None) (find_model models name) i found closed (shallow depth (length below) deep) refl
-  where
-    shallow : (d n : ℕ) → n < d → nat_le d n ≡ false
-    shallow d n h = grind (arith, common_steps)
 
 -- the first fault of the pairs, and then the first open input or clock
 pub pairs_fault_at : (model : BlifModel) (keys : List (List ℕ)) (pairs : List (List ℕ × List ℕ)) (fault : FlatFault) → keys ≡ each_once (formals model) → pair_fault keys [] pairs ≡ Some fault → pairs_fault model pairs ≡ Some fault

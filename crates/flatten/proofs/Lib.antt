@@ -9,6 +9,7 @@ pub mod Telling
 pub mod Waiting
 pub mod Stepping
 pub mod OwnLines
+pub mod Counting
 pub mod Gathering
 pub mod Added
 pub mod Placing

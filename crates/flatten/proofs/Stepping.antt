@@ -100,7 +100,7 @@ last_case : (x : Option FlatFault) (j i : ℕ) → ◌≡◌ {A = Result ℕ Fla
 last_case (Some fault) j i e = absurd (cc)
 last_case None j i e = cc
 
-entry_found : (name : List ℕ) (a b : Bool) (f : ℕ → Option FlatFault) (x : Option ℕ) (i : ℕ) → entry name a b f x ≡ Ok i → x ≡ Some i
+pub entry_found : (name : List ℕ) (a b : Bool) (f : ℕ → Option FlatFault) (x : Option ℕ) (i : ℕ) → entry name a b f x ≡ Ok i → x ≡ Some i
 entry_found name a b f None i e = absurd (cc)
 entry_found name true b f (Some j) i e = absurd (cc)
 entry_found name false true f (Some j) i e = absurd (cc)

@@ -55,34 +55,34 @@ latch_is models m level path l at =
 
 -- what the walk comes to at its first item
 module _ (depth : ℕ) (models : List BlifModel) (top m : List ℕ) where
-  events_nil : (room : ℕ) (path : List Instance) (n : ℕ) → events room depth models top m path n [] ≡ []
+  pub events_nil : (room : ℕ) (path : List Instance) (n : ℕ) → events room depth models top m path n [] ≡ []
   events_nil zero path n = refl
   events_nil (suc room) path n = refl
 
-  events_gate : (room : ℕ) (path : List Instance) (n : ℕ) (g : GateLine) (items : List Item) → events room depth models top m path n (Gate g ∷ items) ≡ gate (gate_at m path g) ∷ events room depth models top m path n items
+  pub events_gate : (room : ℕ) (path : List Instance) (n : ℕ) (g : GateLine) (items : List Item) → events room depth models top m path n (Gate g ∷ items) ≡ gate (gate_at m path g) ∷ events room depth models top m path n items
   events_gate zero path n g items = refl
   events_gate (suc room) path n g items = refl
 
-  events_latch : (room : ℕ) (path : List Instance) (n : ℕ) (l : LatchLine) (items : List Item) → events room depth models top m path n (Latch l ∷ items) ≡ latch (latch_at m path l) ∷ events room depth models top m path n items
+  pub events_latch : (room : ℕ) (path : List Instance) (n : ℕ) (l : LatchLine) (items : List Item) → events room depth models top m path n (Latch l ∷ items) ≡ latch (latch_at m path l) ∷ events room depth models top m path n items
   events_latch zero path n l items = refl
   events_latch (suc room) path n l items = refl
 
-  events_fault : (room : ℕ) (path : List Instance) (n : ℕ) (p : PartLine) (items : List Item) (fault : FlatFault) → entered depth models top path p ≡ Err fault → events room depth models top m path n (Part p ∷ items) ≡ fails fault ∷ events room depth models top m path (suc n) items
+  pub events_fault : (room : ℕ) (path : List Instance) (n : ℕ) (p : PartLine) (items : List Item) (fault : FlatFault) → entered depth models top path p ≡ Err fault → events room depth models top m path n (Part p ∷ items) ≡ fails fault ∷ events room depth models top m path (suc n) items
   events_fault zero path n p items fault e = rw e refl
   events_fault (suc room) path n p items fault e = rw e refl
 
-  events_open : (room : ℕ) (path : List Instance) (n : ℕ) (p : PartLine) (items : List Item) (i : ℕ) → entered depth models top path p ≡ Ok i → events (suc room) depth models top m path n (Part p ∷ items) ≡ opens ∷ (events room depth models top m (record { number = n; part = p } ∷ path) 1 (model_at models i).body ++ events (suc room) depth models top m path (suc n) items)
+  pub events_open : (room : ℕ) (path : List Instance) (n : ℕ) (p : PartLine) (items : List Item) (i : ℕ) → entered depth models top path p ≡ Ok i → events (suc room) depth models top m path n (Part p ∷ items) ≡ opens ∷ (events room depth models top m (record { number = n; part = p } ∷ path) 1 (model_at models i).body ++ events (suc room) depth models top m path (suc n) items)
   events_open room path n p items i e = rw e refl
 
 -- an instance is entered only where that isn't too deep
-not_deep : (name : List ℕ) (a b : Bool) (f : ℕ → Option FlatFault) (x : Option ℕ) (i : ℕ) → entry name a b f x ≡ Ok i → b ≡ false
+pub not_deep : (name : List ℕ) (a b : Bool) (f : ℕ → Option FlatFault) (x : Option ℕ) (i : ℕ) → entry name a b f x ≡ Ok i → b ≡ false
 not_deep name a false f x i e = refl
 not_deep name true true f None i e = cc
 not_deep name false true f None i e = cc
 not_deep name true true f (Some j) i e = cc
 not_deep name false true f (Some j) i e = cc
 
-shallow : (a b : ℕ) → nat_le a b ≡ false → b < a
+pub shallow : (a b : ℕ) → nat_le a b ≡ false → b < a
 shallow a b h = grind (arith, common_steps)
 
 cons_eq : {A : Type 0} (a b : A) (xs ys : List A) → a ≡ b → xs ≡ ys → a ∷ xs ≡ b ∷ ys

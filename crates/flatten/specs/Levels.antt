@@ -1,5 +1,5 @@
 -- The walk on a list: the instances that are open, and what is still to come.
-use Rattle.std.specs.Prelude.{◌*◌, ◌^◌, ◌≡◌, ◌≢◌, ℕ, suc, ◌+◌, ◌-◌, ◌<◌, ◌≤◌, ◌⊎◌, ◌||◌, nat_le, List, [], ◌∷◌, ◌++◌, length, map, drop, reverse, None, Ok, Err, option_map}
+use Rattle.std.specs.Prelude.{◌*◌, ◌^◌, ◌≡◌, ◌≢◌, ℕ, suc, ◌+◌, ◌-◌, ◌<◌, ◌≤◌, ◌⊎◌, ◌||◌, nat_le, Bool, List, [], ◌∷◌, ◌++◌, length, map, drop, reverse, None, Ok, Err, option_map}
 use Rattle.std.specs.List.{list_any}
 use Rattle.std.specs.Str.{bytes_eq}
 use Rattle.std.specs.Fmt.{decimal}
@@ -53,12 +53,9 @@ entered_on depth models below level part =
     (bytes_eq (model_at models level.model).name part.model || list_any (λ l. bytes_eq (model_at models l.model).name part.model) below)
     (nat_le depth (length below)) (λ i. pairs_fault (model_at models i) part.pairs) (find_model models part.model)
 
--- the same before the pairs of the instance are looked at
-abbrev pub chosen_on : ℕ → List BlifModel → List Level → Level → List ℕ → Result ℕ FlatFault
-chosen_on depth models below level name =
-    entry name
-    (bytes_eq (model_at models level.model).name name || list_any (λ l. bytes_eq (model_at models l.model).name name) below)
-    (nat_le depth (length below)) (λ i. None) (find_model models name)
+-- the same before the pairs of an instance are looked at
+abbrev pub chosen : List BlifModel → List ℕ → Bool → Bool → Result ℕ FlatFault
+chosen models name opened deep = entry name opened deep (λ i. None) (find_model models name)
 
 -- a level behind its next gate or latch, and behind its next instance
 abbrev pub passed_line : Level → Level

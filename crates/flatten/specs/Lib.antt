@@ -9,3 +9,4 @@ pub mod Laws
 pub mod Levels
 pub mod Printable
 pub mod Alone
+pub mod Counting

@@ -1,4 +1,4 @@
-ghost use Rattle.std.specs.Prelude.{◌≡◌, ◌<◌, ◌⊎◌, ◌++◌, ◌∷◌, [], length, option_map, not, is_some, false, map, All, None, Some, Ok, Err, IfOk, IfErr, IfSome, OnOk, option_copied};
+ghost use Rattle.std.specs.Prelude.{◌≡◌, ◌<◌, ◌⊎◌, ◌++◌, ◌||◌, ◌∷◌, [], length, option_map, not, is_some, false, map, All, None, Some, Ok, Err, IfOk, IfErr, IfSome, OnOk, option_copied};
 ghost use Rattle.std.specs.List.{find, list_any};
 ghost use Rattle.std.specs.Str.{bytes_eq};
 ghost use Rattle.flatten.specs.declared.fault.FlatFault.TheVariants.{OpenInput};
@@ -6,7 +6,7 @@ ghost use Rattle.flatten.specs.Paths.{actual_of};
 ghost use Rattle.flatten.specs.Instances.{model_at, formals as formals_by, formal_fault, pair_fault, first_open as first_open_by, pairs_fault};
 ghost use Rattle.flatten.specs.Linking.{each_once};
 ghost use Rattle.flatten.specs.Laws.{resolved, bound};
-ghost use Rattle.flatten.specs.Levels.{IsLibraryOf, chosen_on, entered_on};
+ghost use Rattle.flatten.specs.Levels.{IsLibraryOf, chosen, entered_on};
 
 use crate::fault::FlatFault;
 use crate::library::{Library, find};
@@ -119,7 +119,7 @@ fn check_open(table: &IndexMap<Name, Name>, model: &BlifModel) -> Result<(), Fla
 }
 
 /// The table of an instance that binds each input and each clock of its model.
-fn full_table(
+pub(crate) fn full_table(
     alloc: Global,
     scope: &Scope,
     formals: &IndexSet<Name>,
@@ -150,30 +150,37 @@ fn is_open(models: &[BlifModel], levels: &[Level], name: &Name) -> bool
     false
 }
 
-/// The place of the model of this name, which is to be neither open nor too deep.
-fn choose(
-    models: &[BlifModel],
-    library: &Library,
-    depth: usize,
-    below: &[Level],
-    level: &Level,
-    name: &Name,
-) -> Result<usize, FlatFault>
-    requires library { IsLibraryOf models.now library.now }
+/// Whether the model of this name is that of the level or of one below it.
+fn stands_in(models: &[BlifModel], below: &[Level], level: &Level, name: &Name) -> bool
     requires within { All (λ l. l.model < length models.now) below.now }
     requires here { level.now.model < length models.now }
-    ensures model { IfOk result (λ i. chosen_on depth models.now below.now level.now name.now ≡ Ok i) }
+    ensures { result ≡ (bytes_eq (model_at models.now level.now.model).name name.now
+        || list_any (λ l. bytes_eq (model_at models.now l.model).name name.now) below.now) }
+{
+    models[level.model].name == *name || is_open(models, below, name)
+}
+
+/// The place of the model of this name, which is to be neither open nor too deep.
+pub(crate) fn choose(
+    models: &[BlifModel],
+    library: &Library,
+    name: &Name,
+    opened: bool,
+    deep: bool,
+) -> Result<usize, FlatFault>
+    requires { IsLibraryOf models.now library.now }
+    ensures model { IfOk result (λ i. chosen models.now name.now opened deep ≡ Ok i) }
     ensures within { IfOk result (λ i. i < length models.now) }
     ensures fault { IfErr result (λ fault. (fault ≡ FlatFault.Memory)
-        ⊎ (chosen_on depth models.now below.now level.now name.now ≡ Err fault)) }
+        ⊎ (chosen models.now name.now opened deep ≡ Err fault)) }
 {
     let Some(model) = find(models, library, name) else {
         return Err(FlatFault::UnknownModel { name: name.copy()? });
     };
-    if models[level.model].name == *name || is_open(models, below, name) {
+    if opened {
         return Err(FlatFault::Recursive { name: name.copy()? });
     }
-    if depth <= below.len() {
+    if deep {
         return Err(FlatFault::TooDeep { name: name.copy()? });
     }
     Ok(model)
@@ -199,7 +206,9 @@ pub(crate) fn enter(
     ensures fault { IfErr result (λ fault. (fault ≡ FlatFault.Memory)
         ⊎ (entered_on depth models.now below.now level.now part.now ≡ Err fault)) }
 {
-    let model = choose(models, library, depth, below, level, &part.model)?;
+    let name = &part.model;
+    let opened = stands_in(models, below, level, name);
+    let model = choose(models, library, name, opened, depth <= below.len())?;
     let formals = library.formals.as_slice();
     let pairs = part.pairs.items();
     let table = full_table(alloc, &level.scope, &formals[model], &models[model], pairs)?;

@@ -8,6 +8,7 @@ ghost use Rattle.flatten.specs.Instances.{find_model, model_at};
 ghost use Rattle.flatten.specs.Levels.{IsLibraryOf};
 
 use crate::alone::{has_parts, parts_alone};
+use crate::count::check_walk;
 use crate::fault::FlatFault;
 use crate::library::{Library, find, library_of};
 use crate::link::link;
@@ -56,6 +57,7 @@ fn flat_parts(
     ensures fault { IfErr result
         (λ fault. (fault ≡ FlatFault.Memory) ⊎ (flat_at depth limit models.now place ≡ Err fault)) }
 {
+    check_walk(alloc, models, library, place, depth, limit)?;
     let mark = mark(alloc, models)?;
     let lines = flat_lines(alloc, models, library, &mark, place, depth, limit)?;
     Ok(link(alloc, &models[place], lines)?)
@@ -106,8 +108,8 @@ fn flatten_within(
 /// The flat netlist of a model of the file, with all instances below it: its gates and latches in depth-first
 /// order of the text. A wire of an instance has the numbers of the instances on the way to it before its name.
 ///
-/// The first fault is answered, in the order of `FlatFault`. It is linear in the size of the flat netlist, and
-/// keeps the instances that are open in a list.
+/// The first fault is answered, in the order of `FlatFault`, those of the walk before any line is made. It is
+/// linear in the size of the flat netlist.
 pub fn flatten(alloc: Global, models: &Models, top: &Name) -> Result<Netlist, FlatFault>
     requires { CanBeFlattened models.now.list }
     ensures netlist { IfOk result (λ net. flat models.now.list top.now ≡ Ok net) }

@@ -6,6 +6,7 @@
 
 mod alone;
 mod bind;
+mod count;
 mod fault;
 mod hierarchy;
 pub mod laws;

@@ -1,4 +1,4 @@
-ghost use Rattle.std.specs.Prelude.{◌≡◌, ◌++◌, IfOk, map};
+ghost use Rattle.std.specs.Prelude.{◌≡◌, ◌++◌, [], IfOk, map};
 ghost use Rattle.std.specs.Fmt.{decimal};
 ghost use Rattle.flatten.specs.Laws.{resolved};
 ghost use Rattle.flatten.specs.Levels.{gate_by, latch_by, clock_by};
@@ -22,6 +22,17 @@ impl Drop for Scope {
             prefix: _,
             table: _,
         } = self;
+    }
+}
+
+/// How the names of the top's body are resolved.
+pub(crate) fn top_scope(alloc: Global) -> Scope
+    ensures prefix { result.prefix ≡ [] }
+    ensures table { result.table.entries ≡ [] }
+{
+    Scope {
+        prefix: Name::new(Vec::new(alloc)),
+        table: IndexMap::new(alloc),
     }
 }
 

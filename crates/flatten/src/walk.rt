@@ -9,10 +9,9 @@ ghost use Rattle.flatten.specs.Levels.{IsLibraryOf, entered_on, IsInner, AddsGat
 use crate::bind::enter;
 use crate::fault::FlatFault;
 use crate::library::Library;
-use crate::scope::{Scope, flat_gate, flat_latch, inner_prefix};
+use crate::scope::{Scope, flat_gate, flat_latch, inner_prefix, top_scope};
 use blif_read::{BlifModel, GateLine, Item, LatchLine, PartLine};
 use cyc_base::Name;
-use indexmap::IndexMap;
 use std::alloc::{AllocError, Global};
 
 /// The top or an open instance: its model, the next item of the body, how many instances of the body were
@@ -283,10 +282,7 @@ fn begun(alloc: Global, model: usize, room: u32) -> Result<Walk, AllocError>
         model,
         next: 0,
         parts: 0,
-        scope: Scope {
-            prefix: Name::new(Vec::new(alloc)),
-            table: IndexMap::new(alloc),
-        },
+        scope: top_scope(alloc),
     })?;
     Ok(Walk {
         levels,

@@ -1,11 +1,11 @@
-use Rattle.std.proofs.Common.{inl, inr, ⊎_elim, ap, get_or, sym, ◌∙◌}
+use Rattle.std.proofs.Common.{inl, inr, ⊎_elim, ap, get_or, nat_le, length, sym, ◌∙◌}
 use Rattle.std.proofs.lemmas.List.{get_or_default}
 use Rattle.std.proofs.lemmas.Result.{err_from_is_err_and}
 use Rattle.blif_read.specs.declared.models.BlifModel.{BlifModel}
-use Rattle.flatten.specs.Instances.{no_model, model_at, formals, pairs_fault}
+use Rattle.flatten.specs.Instances.{no_model, model_at, find_model, formals, pairs_fault}
 use Rattle.flatten.specs.Linking.{each_once}
 use Rattle.flatten.proofs.Libraries.{formals_at}
-use Rattle.flatten.proofs.Binding.{entry_refused, entry_faulty, entry_fit}
+use Rattle.flatten.proofs.Binding.{by_test, entry_refused, entry_faulty, entry_fit}
 use Rattle.flatten.proofs.bind.enter.Goals as goal
 
 pub full_table-requires : goal.full_table-requires
@@ -22,7 +22,7 @@ returns-in_err-model-clause-fault c =
     rw (q.1, q.2)
     (⊎_elim
     (λ m. inl m)
-    (λ e. inr (entry_refused c.args.part.now.model _ _ (λ j. pairs_fault (model_at c.args.models.now j) c.args.part.now.pairs) _ c.in_err-model.field-0.0 e))
+    (λ e. inr (by_test c.args.part.now.model _ _ (nat_le c.args.depth (length c.args.below.now)) (λ j. pairs_fault (model_at c.args.models.now j) c.args.part.now.pairs) (find_model c.args.models.now c.args.part.now.model) c.stands_in-opened.ensures ∙ entry_refused c.args.part.now.model _ _ (λ j. pairs_fault (model_at c.args.models.now j) c.args.part.now.pairs) _ c.in_err-model.field-0.0 e))
     c.in_err-model.ensures.fault)
 
 pub returns-in_err-table-clause-fault : goal.returns-in_err-table-clause-fault
@@ -34,7 +34,7 @@ returns-in_err-table-clause-fault c =
     rw (q.1, q.2)
     (⊎_elim
     (λ m. inl m)
-    (λ e. inr (entry_faulty c.args.part.now.model _ _ (λ j. pairs_fault (model_at models j) c.args.part.now.pairs) _ i c.in_err-table.field-0.0 c.in_ok-model.ensures.model (ap (λ (m : BlifModel). pairs_fault m c.args.part.now.pairs) same ∙ ap (λ ps. pairs_fault c.index-models-model.result ps) (sym c.items-pairs.ensures) ∙ e)))
+    (λ e. inr (by_test c.args.part.now.model _ _ (nat_le c.args.depth (length c.args.below.now)) (λ j. pairs_fault (model_at models j) c.args.part.now.pairs) (find_model models c.args.part.now.model) c.stands_in-opened.ensures ∙ entry_faulty c.args.part.now.model _ _ (λ j. pairs_fault (model_at models j) c.args.part.now.pairs) _ i c.in_err-table.field-0.0 c.in_ok-model.ensures.model (ap (λ (m : BlifModel). pairs_fault m c.args.part.now.pairs) same ∙ ap (λ ps. pairs_fault c.index-models-model.result ps) (sym c.items-pairs.ensures) ∙ e)))
     c.in_err-table.ensures.fault)
 
 pub returns-clause-model : goal.returns-clause-model
@@ -42,4 +42,5 @@ returns-clause-model c =
     let models = c.args.models.now in
     let i = c.in_ok-model.model in
     let same = get_or_default models i no_model c.index-models-model.result c.in_ok-model.ensures.within ∙ sym c.index-models-model.is in
-    entry_fit c.args.part.now.model _ _ (λ j. pairs_fault (model_at models j) c.args.part.now.pairs) _ i c.in_ok-model.ensures.model (ap (λ (m : BlifModel). pairs_fault m c.args.part.now.pairs) same ∙ ap (λ ps. pairs_fault c.index-models-model.result ps) (sym c.items-pairs.ensures) ∙ c.in_ok-table.ensures.fits)
+    by_test c.args.part.now.model _ _ (nat_le c.args.depth (length c.args.below.now)) (λ j. pairs_fault (model_at models j) c.args.part.now.pairs) (find_model models c.args.part.now.model) c.stands_in-opened.ensures
+    ∙ entry_fit c.args.part.now.model _ _ (λ j. pairs_fault (model_at models j) c.args.part.now.pairs) _ i c.in_ok-model.ensures.model (ap (λ (m : BlifModel). pairs_fault m c.args.part.now.pairs) same ∙ ap (λ ps. pairs_fault c.index-models-model.result ps) (sym c.items-pairs.ensures) ∙ c.in_ok-table.ensures.fits)

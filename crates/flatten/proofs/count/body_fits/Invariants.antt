@@ -1,0 +1,6 @@
+use Rattle.std.proofs.Common.{take, All}
+use Rattle.flatten.specs.Counting.{Fits}
+use Rattle.flatten.proofs.count.body_fits.Given as goal
+
+abbrev pub invariant-loop-item : goal.invariant-loop-item
+invariant-loop-item l = All (Fits l.models) (take l.item-index l.body)

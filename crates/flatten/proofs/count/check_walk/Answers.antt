@@ -1,0 +1,18 @@
+use Rattle.std.proofs.Common.{inl, inr, ⊎_elim, ap, sym, ◌∙◌, ◌++◌, ◌∷◌, []}
+use Rattle.std.proofs.lemmas.List.{get_or_default}
+use Rattle.std.proofs.lemmas.Result.{err_from_is_err_and}
+use Rattle.blif_read.specs.declared.models.BlifModel.{BlifModel}
+use Rattle.flatten.specs.Instances.{no_model}
+use Rattle.flatten.proofs.Counting.{fault_of_walk}
+use Rattle.flatten.proofs.count.check_walk.Goals as goal
+
+pub returns-in_err-_left : goal.returns-in_err-_left
+returns-in_err-_left c =
+    let q = err_from_is_err_and c.from_residual-in_err-_left.result c.from_residual-in_err-_left.ensures.1 in
+    let trail = c.in_ok-push.ensures.items ∙ ap (λ ts. ts ++ (c.args.top ∷ [])) c.new-trail.ensures.items in
+    let body = c.items-body.ensures ∙ ap (λ (m : BlifModel). m.body) (sym (get_or_default c.args.models.now c.args.top no_model c.index-models-top.result c.requires.top)) in
+    rw (q.1, q.2)
+    (⊎_elim
+    (λ m. inl m)
+    (λ h. inr (fault_of_walk c.args.depth c.args.limit c.args.models.now c.args.top c.push.new.self.items c.items-body.result.now c.in_err-_left.field-0.0 trail body h))
+    c.in_err-_left.ensures.fault)

@@ -1,0 +1,9 @@
+use Rattle.std.proofs.Common.{◌≡◌, drop}
+use Rattle.std.specs.List.{list_any}
+use Rattle.std.specs.Str.{bytes_eq}
+use Rattle.flatten.specs.Instances.{model_at}
+use Rattle.flatten.proofs.count.stands_among.Given as goal
+
+abbrev pub invariant-loop-place : goal.invariant-loop-place
+invariant-loop-place l =
+    list_any (λ x. bytes_eq (model_at l.models x).name l.name) (drop l.place-index l.trail) ≡ list_any (λ x. bytes_eq (model_at l.models x).name l.name) l.trail
