@@ -39,6 +39,9 @@ pub(crate) fn top_scope(alloc: Global) -> Scope
 fn joined(alloc: Global, first: &Name, second: &Name) -> Result<Name, AllocError>
     ensures { IfOk result (λ name. name ≡ first.now ++ second.now) }
 {
+    if first.bytes().is_empty() {
+        return second.copy();
+    }
     let mut bytes = first.bytes().to_vec(alloc)?;
     bytes.extend_from_slice(second.bytes())?;
     Ok(Name::new(bytes))
