@@ -6,8 +6,9 @@ use Rattle.loops.specs.declared.structure.Blocks.{Blocks}
 use Rattle.loops.specs.declared.structure.Cut.{Cut}
 use Rattle.loops.specs.declared.structure.SweepCounts.{SweepCounts}
 use Rattle.loops.specs.Blocks.{AreBlocksOf}
-use Rattle.loops.specs.Cuts.{loops_by}
-use Rattle.loops.proofs.Told.{told_parts}
+use Rattle.loops.specs.Cuts.{AreLoopsOf, loops_by}
+use Rattle.loops.proofs.Told.{blocks_tell_loops, told_parts}
+use Rattle.looped.specs.Looped.{Looped, IsLooped}
 use Rattle.unroll.specs.Laws.{EnoughByBlocks}
 use Rattle.unroll.specs.Unrolled.{sweeps_of, IsOfLoops}
 
@@ -21,3 +22,10 @@ enough_by_blocks net blocks cut counts are v width fixed = record {
   width = width;
   fixed = λ a e. let t = told_parts net blocks are a a e in fixed a t.first t.looped;
 }
+
+-- so it is of a netlist with its blocks and its cut wires
+pub looped_loops : (l : Looped) → IsLooped l → AreLoopsOf l.net (loops_by l.blocks l.cut)
+looped_loops l is = blocks_tell_loops l.net l.blocks l.cut is.blocks is.cut
+
+pub looped_sweeps : (l : Looped) → IsLooped l → (counts : SweepCounts) → IsOfLoops (loops_by l.blocks l.cut) (sweeps_of l.blocks counts)
+looped_sweeps l is counts = sweeps_are_of_loops l.net l.blocks l.cut counts is.blocks

@@ -51,8 +51,7 @@ module _ (net : Parts) (loops : Loops) (m : ℕ → ℕ) (are : AreLoopsOf net l
         copies_last.each h (same_within net loops are n h p.1) ∙ ap (λ j. copy_signal net loops m j h) many)
         (ap (λ j. moved net j s) up)
 
-    pub kept_same : (gates : List ℕ) → map (kept_gate_by net loops by last) gates ≡ map (kept_gate net loops m) gates
-    kept_same gates =
-        map_same (kept_gate_by net loops by last) (kept_gate net loops m) gates
-        (λ n. ap (λ pins. let g : Gate = record { name = (gate_at net n).name; pins = pins; cover = (gate_at net n).cover } in g)
-        (map_same (kept_pin_by net loops by last n) (kept_pin net loops m n) (gate_at net n).pins (pin_same n)))
+    pub kept_same : (n : ℕ) → kept_gate_by net loops by last n ≡ kept_gate net loops m n
+    kept_same n =
+        ap (λ pins. let g : Gate = record { name = (gate_at net n).name; pins = pins; cover = (gate_at net n).cover } in g)
+        (map_same (kept_pin_by net loops by last n) (kept_pin net loops m n) (gate_at net n).pins (pin_same n))

@@ -1,7 +1,25 @@
 -- What the source of a pin says of the pin.
-use Rattle.std.proofs.Common.{◌≡◌, ℕ, Bool, true, false, ◌&&◌, if◌then◌else◌, Some, None, refl}
+use Rattle.std.proofs.Common.{◌≡◌, ◌≤◌, ℕ, Bool, true, false, ◌&&◌, if◌then◌else◌, Some, None, refl, sym, ap, ap₂, ◌∙◌}
+use Rattle.std.proofs.lemmas.Bool.{le-leb}
+use Rattle.std.specs.Bool.{then_some}
 use Rattle.std.specs.declared.option.Option.{Option}
 use Rattle.cyc_base.specs.declared.sig.Sig.{Sig}
+use Rattle.netlist.specs.declared.parts.Parts.{Parts}
+use Rattle.loops.specs.Cuts.{Loops}
+use Rattle.loops.specs.Sweeps.{first_gate, gate_of, in_loop_of}
+
+some_where : (b : Bool) (x : ℕ) → then_some b x ≡ (if b then Some x else None)
+some_where true x = refl
+some_where false x = refl
+
+-- the gate that drives a pin, where a test tells whether it is in the loop
+pub source_is : (net : Parts) (loops : Loops) (n source : ℕ) (s : Sig) (b : Bool) → first_gate net ≤ s.0 → source ≡ gate_of net s → loops.same n source ≡ b
+    → then_some b source ≡ (if in_loop_of net loops n s then Some (gate_of net s) else None)
+source_is net loops n source s b past is told =
+    some_where b source
+    ∙ ap₂ (λ (x : Bool) (g : ℕ). if x then Some g else None)
+    (sym (ap₂ (λ (x y : Bool). x && y) (le-leb (first_gate net) s.0 past) (ap (loops.same n) (sym is) ∙ told)))
+    is
 
 -- what a choice gave
 pub some_if : (b : Bool) (g x : ℕ) → Some x ≡ (if b then Some g else None) → (b ≡ true) × (g ≡ x)

@@ -1,4 +1,5 @@
 pub mod Marks
 pub mod Unrolled
 pub mod Tables
+pub mod Plans
 pub mod Laws

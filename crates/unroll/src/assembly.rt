@@ -1,22 +1,21 @@
 //! The parts of the unrolled netlist.
 
-ghost use Rattle.std.specs.Prelude.{◌≡◌, ◌<◌, ◌≤◌, ◌+◌, ◌++◌, [], length, map, IfOk, OnOk};
+ghost use Rattle.std.specs.Prelude.{◌≡◌, ◌≤◌, ◌+◌, ◌++◌, [], length, map, IfOk, OnOk};
 ghost use Rattle.std.specs.List.{range_with_len};
-ghost use Rattle.netlist.specs.Netlists.{count, IsNetlist};
-ghost use Rattle.loops.specs.declared.structure.Cut.{Cut as TheCut};
-ghost use Rattle.loops.specs.Blocks.{AreBlocksOf};
-ghost use Rattle.loops.specs.Cuts.{IsCutOf, loops_by};
-ghost use Rattle.unroll.specs.Marks.{mark as mark_of};
-ghost use Rattle.unroll.specs.Unrolled.{sweeps_of, shift, copies, constants as constants_of, copy_gate, kept_gate as kept_gate_of, kept_latch as kept_latch_by, moved as moved_by, unrolled};
-ghost use Rattle.unroll.specs.Tables.{kept_gate_by, AreLastCopies};
+ghost use Rattle.netlist.specs.Netlists.{count};
+ghost use Rattle.loops.specs.Cuts.{loops_by};
+ghost use Rattle.unroll.specs.Plans.{loops_in, net_of, sweeps_in};
+ghost use Rattle.unroll.specs.Unrolled.{sweeps_of, shift, constants as constants_of, kept_gate as kept_gate_of, kept_latch as kept_latch_by, moved as moved_by, unrolled};
+ghost use Rattle.unroll.specs.Tables.{AreLastCopies};
 
 use crate::copies::add_copies;
-use crate::gates::{Plan, kept_gate, zero_gate};
+use crate::gates::{kept_gate, zero_gate};
 use crate::names::mark;
 use crate::pins::moved;
-use crate::sizes::has_loop;
+use crate::plan::Plan;
 use cyc_base::{Items, Name, Sig};
-use loops::{Blocks, Cut, SweepCounts};
+use looped::LoopedNetlist;
+use loops::SweepCounts;
 use netlist::{Clock, Gate, Latch, Netlist, Parts};
 use std::alloc::{AllocError, Global};
 
@@ -81,19 +80,12 @@ fn kept_outputs(alloc: Global, net: &Netlist, by: u32) -> Result<Vec<Sig>, Alloc
 }
 
 /// The constant 0, where there is a loop.
-fn constants(
-    alloc: Global,
-    net: &Netlist,
-    blocks: &Blocks,
-    mark: &Name,
-) -> Result<Vec<Gate>, AllocError>
-    requires blocks { AreBlocksOf net.now blocks.now }
-    requires mark { mark.now ≡ mark_of net.now }
-    ensures { (cut : TheCut) → IfOk result (λ gates. gates.items ≡ constants_of net.now (loops_by blocks.now cut)) }
+fn constants(alloc: Global, plan: &Plan<'_>) -> Result<Vec<Gate>, AllocError>
+    ensures { IfOk result (λ gates. gates.items ≡ constants_of (net_of plan.now) (loops_in plan.now)) }
 {
     let mut gates = Vec::new(alloc);
-    if has_loop(net, blocks) {
-        gates.push(zero_gate(alloc, mark)?)?;
+    if plan.has_loop() {
+        gates.push(zero_gate(alloc, &plan.mark)?)?;
     }
     Ok(gates)
 }
@@ -101,46 +93,26 @@ fn constants(
 /// Adds the gates themselves, whose cut wires are read from the last copies.
 fn add_kept(
     alloc: Global,
-    net: &Netlist,
-    blocks: &Blocks,
-    cut: &Cut,
-    by: u32,
+    plan: &Plan<'_>,
     last: &[u32],
     gates: &mut Vec<Gate>,
 ) -> Result<(), AllocError>
-    requires blocks { AreBlocksOf net.now blocks.now }
-    requires cut { IsCutOf net.now cut.now }
-    requires by { count net.now + by ≤ 4294967295 }
-    requires last { length last.now ≡ length net.now.gates }
-    ensures { OnOk result (gates.new.items ≡ gates.old.items ++ map (kept_gate_by net.now (loops_by blocks.now cut.now) by last.now) (range_with_len 0 (length net.now.gates))) }
+    requires { AreLastCopies (net_of plan.now) (loops_in plan.now) (sweeps_in plan.now) last.now }
+    ensures { OnOk result (gates.new.items ≡ gates.old.items ++ map (kept_gate_of (net_of plan.now) (loops_in plan.now) (sweeps_in plan.now)) (range_with_len 0 (length (net_of plan.now).gates))) }
 {
-    for gate in 0..net.gates() {
-        gates.push(kept_gate(alloc, net, blocks, cut, by, last, gate)?)?;
+    for gate in 0..plan.looped.net().gates() {
+        gates.push(kept_gate(alloc, plan, last, gate)?)?;
     }
     Ok(())
 }
 
 /// The gates: the constant, the copies, and the netlist's own.
-fn unrolled_gates(
-    alloc: Global,
-    net: &Netlist,
-    blocks: &Blocks,
-    cut: &Cut,
-    sweeps: &SweepCounts,
-    by: u32,
-) -> Result<Vec<Gate>, AllocError>
-    requires blocks { AreBlocksOf net.now blocks.now }
-    requires cut { IsCutOf net.now cut.now }
-    requires sweeps { length sweeps.now.per_block ≡ length blocks.now.list }
-    requires by { by ≡ shift net.now (loops_by blocks.now cut.now) (sweeps_of blocks.now sweeps.now) }
-    requires fits { count net.now + by ≤ 4294967295 }
-    ensures { IfOk result (λ gates. gates.items ≡ (unrolled net.now (loops_by blocks.now cut.now) (sweeps_of blocks.now sweeps.now)).gates) }
+fn unrolled_gates(alloc: Global, plan: &Plan<'_>) -> Result<Vec<Gate>, AllocError>
+    ensures { IfOk result (λ gates. gates.items ≡ (unrolled (net_of plan.now) (loops_in plan.now) (sweeps_in plan.now)).gates) }
 {
-    let mark = mark(alloc, net)?;
-    let mut gates = constants(alloc, net, blocks, &mark)?;
-    let plan = Plan { mark, by };
-    let last = add_copies(alloc, net, blocks, cut, sweeps, &plan, &mut gates)?;
-    add_kept(alloc, net, blocks, cut, by, &last, &mut gates)?;
+    let mut gates = constants(alloc, plan)?;
+    let last = add_copies(alloc, plan, &mut gates)?;
+    add_kept(alloc, plan, &last, &mut gates)?;
     Ok(gates)
 }
 
@@ -172,23 +144,33 @@ fn parts_without_gates(alloc: Global, net: &Netlist, by: u32) -> Result<Parts, A
     Ok(parts)
 }
 
+/// The parts of the unrolled netlist, by a plan.
+fn planned_parts(alloc: Global, plan: &Plan<'_>) -> Result<Parts, AllocError>
+    ensures { IfOk result (λ parts. parts ≡ unrolled (net_of plan.now) (loops_in plan.now) (sweeps_in plan.now)) }
+{
+    let mut parts = parts_without_gates(alloc, plan.looped.net(), plan.by)?;
+    parts.gates = Items::of(unrolled_gates(alloc, plan)?);
+    Ok(parts)
+}
+
 /// The parts of the unrolled netlist, where so many gates stand before the netlist's own.
 pub(crate) fn unrolled_parts(
     alloc: Global,
-    net: &Netlist,
-    blocks: &Blocks,
-    cut: &Cut,
+    looped: &LoopedNetlist<'_>,
     sweeps: &SweepCounts,
     by: u32,
 ) -> Result<Parts, AllocError>
-    requires blocks { AreBlocksOf net.now blocks.now }
-    requires cut { IsCutOf net.now cut.now }
-    requires sweeps { length sweeps.now.per_block ≡ length blocks.now.list }
-    requires by { by ≡ shift net.now (loops_by blocks.now cut.now) (sweeps_of blocks.now sweeps.now) }
-    requires fits { count net.now + by ≤ 4294967295 }
-    ensures { IfOk result (λ parts. parts ≡ unrolled net.now (loops_by blocks.now cut.now) (sweeps_of blocks.now sweeps.now)) }
+    requires sweeps { length sweeps.now.per_block ≡ length looped.now.blocks.list }
+    requires by { by ≡ shift looped.now.net (loops_by looped.now.blocks looped.now.cut) (sweeps_of looped.now.blocks sweeps.now) }
+    requires fits { count looped.now.net + by ≤ 4294967295 }
+    ensures { IfOk result (λ parts. parts ≡ unrolled looped.now.net (loops_by looped.now.blocks looped.now.cut) (sweeps_of looped.now.blocks sweeps.now)) }
 {
-    let mut parts = parts_without_gates(alloc, net, by)?;
-    parts.gates = Items::of(unrolled_gates(alloc, net, blocks, cut, sweeps, by)?);
-    Ok(parts)
+    let mark = mark(alloc, looped.net())?;
+    let plan = Plan {
+        looped,
+        sweeps,
+        mark,
+        by,
+    };
+    planned_parts(alloc, &plan)
 }

@@ -2,18 +2,14 @@
 
 ghost use Rattle.std.specs.Prelude.{◌≡◌, ◌<◌, ◌≤◌, ◌+◌, ◌++◌, ℕ, suc, nat_lt, length, map, filter, replicate, All, IfOk, OnOk};
 ghost use Rattle.std.specs.List.{range_with_len};
-ghost use Rattle.netlist.specs.Netlists.{count};
-ghost use Rattle.loops.specs.Blocks.{AreBlocksOf};
-ghost use Rattle.loops.specs.Cuts.{IsCutOf, in_one_loop, loops_by};
 ghost use Rattle.loops.specs.Sweeps.{first_gate as first_gate_of};
-ghost use Rattle.unroll.specs.Marks.{mark as mark_of};
-ghost use Rattle.unroll.specs.Unrolled.{sweeps_of, copies_of as copies_of_gate, copies, constants, shift, copy_gate as copy_gate_of};
+ghost use Rattle.unroll.specs.Plans.{loops_in, net_of, sweeps_in};
+ghost use Rattle.unroll.specs.Unrolled.{copies_of, copies, constants, copy_gate as copy_gate_of};
 ghost use Rattle.unroll.specs.Tables.{copy_gate_by, entered, AreLastCopies};
 
-use crate::gates::{Plan, copy_gate};
+use crate::gates::copy_gate;
 use crate::pins::{Tables, first_gate};
-use crate::sizes::{copies_of, most_copies};
-use loops::{Blocks, Cut, SweepCounts};
+use crate::plan::Plan;
 use netlist::{Gate, Netlist};
 use std::alloc::{AllocError, Global};
 
@@ -28,20 +24,16 @@ fn all_gates(alloc: Global, gates: u32) -> Result<Vec<u32>, AllocError>
 /// Those of these gates that have more copies than this.
 fn with_more_copies(
     alloc: Global,
-    net: &Netlist,
-    blocks: &Blocks,
-    sweeps: &SweepCounts,
+    plan: &Plan<'_>,
     gates: &[u32],
     number: u32,
 ) -> Result<Vec<u32>, AllocError>
-    requires blocks { AreBlocksOf net.now blocks.now }
-    requires sweeps { length sweeps.now.per_block ≡ length blocks.now.list }
-    requires gates { All (λ n. n < length net.now.gates) gates.now }
-    ensures { IfOk result (λ more. more.items ≡ filter (λ n. nat_lt number (copies_of_gate (in_one_loop blocks.now) (sweeps_of blocks.now sweeps.now) n)) gates.now) }
+    requires { All (λ n. n < length (net_of plan.now).gates) gates.now }
+    ensures { IfOk result (λ more. more.items ≡ filter (λ n. nat_lt number (copies_of (loops_in plan.now).same (sweeps_in plan.now) n)) gates.now) }
 {
     let mut more = Vec::new(alloc);
     for gate in gates {
-        if copies_of(net, blocks, sweeps, *gate) > number {
+        if plan.copies_of(*gate) > number {
             more.push(*gate)?;
         }
     }
@@ -66,25 +58,19 @@ fn enter(table: &mut [u32], gates: &[u32], first: u32)
 /// Adds a copy of each of these gates.
 fn add_gates(
     alloc: Global,
-    net: &Netlist,
-    blocks: &Blocks,
-    cut: &Cut,
-    plan: &Plan,
+    plan: &Plan<'_>,
     tables: &Tables,
     number: u32,
     active: &[u32],
     gates: &mut Vec<Gate>,
 ) -> Result<(), AllocError>
-    requires blocks { AreBlocksOf net.now blocks.now }
-    requires cut { IsCutOf net.now cut.now }
-    requires by { count net.now + plan.now.by ≤ 4294967295 }
-    requires earlier { length tables.now.earlier.items ≡ length net.now.gates }
-    requires current { length tables.now.current.items ≡ length net.now.gates }
-    requires active { All (λ n. n < length net.now.gates) active.now }
-    ensures { OnOk result (gates.new.items ≡ gates.old.items ++ map (copy_gate_by net.now (loops_by blocks.now cut.now) plan.now.mark plan.now.by tables.now.earlier.items tables.now.current.items number) active.now) }
+    requires earlier { length tables.now.earlier.items ≡ length (net_of plan.now).gates }
+    requires current { length tables.now.current.items ≡ length (net_of plan.now).gates }
+    requires active { All (λ n. n < length (net_of plan.now).gates) active.now }
+    ensures { OnOk result (gates.new.items ≡ gates.old.items ++ map (copy_gate_by (net_of plan.now) (loops_in plan.now) plan.now.mark plan.now.by tables.now.earlier.items tables.now.current.items number) active.now) }
 {
     for gate in active {
-        gates.push(copy_gate(alloc, net, blocks, cut, plan, tables, number, *gate)?)?;
+        gates.push(copy_gate(alloc, plan, tables, number, *gate)?)?;
     }
     Ok(())
 }
@@ -92,47 +78,34 @@ fn add_gates(
 /// Adds the copies of this number, which are of these gates, and enters them.
 fn add_round(
     alloc: Global,
-    net: &Netlist,
-    blocks: &Blocks,
-    cut: &Cut,
-    plan: &Plan,
+    plan: &Plan<'_>,
     tables: &mut Tables,
     number: u32,
     active: &[u32],
     gates: &mut Vec<Gate>,
 ) -> Result<(), AllocError>
-    requires blocks { AreBlocksOf net.now blocks.now }
-    requires cut { IsCutOf net.now cut.now }
-    requires by { count net.now + plan.now.by ≤ 4294967295 }
-    requires earlier { length tables.old.earlier.items ≡ length net.now.gates }
-    requires current { length tables.old.current.items ≡ length net.now.gates }
-    requires active { All (λ n. n < length net.now.gates) active.now }
-    requires fits { first_gate_of net.now + length gates.old.items + length active.now ≤ 4294967295 }
-    ensures earlier { OnOk result (tables.new.earlier.items ≡ entered tables.old.earlier.items active.now (first_gate_of net.now + length gates.old.items)) }
-    ensures current { OnOk result (tables.new.current.items ≡ entered tables.old.current.items active.now (first_gate_of net.now + length gates.old.items)) }
-    ensures gates { OnOk result (gates.new.items ≡ gates.old.items ++ map (copy_gate_by net.now (loops_by blocks.now cut.now) plan.now.mark plan.now.by tables.old.earlier.items (entered tables.old.current.items active.now (first_gate_of net.now + length gates.old.items)) number) active.now) }
-    ensures widths { OnOk result ((length tables.new.earlier.items ≡ length net.now.gates) × (length tables.new.current.items ≡ length net.now.gates)) }
+    requires earlier { length tables.old.earlier.items ≡ length (net_of plan.now).gates }
+    requires current { length tables.old.current.items ≡ length (net_of plan.now).gates }
+    requires active { All (λ n. n < length (net_of plan.now).gates) active.now }
+    requires fits { first_gate_of (net_of plan.now) + length gates.old.items + length active.now ≤ 4294967295 }
+    ensures earlier { OnOk result (tables.new.earlier.items ≡ entered tables.old.earlier.items active.now (first_gate_of (net_of plan.now) + length gates.old.items)) }
+    ensures current { OnOk result (tables.new.current.items ≡ entered tables.old.current.items active.now (first_gate_of (net_of plan.now) + length gates.old.items)) }
+    ensures gates { OnOk result (gates.new.items ≡ gates.old.items ++ map (copy_gate_by (net_of plan.now) (loops_in plan.now) plan.now.mark plan.now.by tables.old.earlier.items (entered tables.old.current.items active.now (first_gate_of (net_of plan.now) + length gates.old.items)) number) active.now) }
+    ensures widths { OnOk result ((length tables.new.earlier.items ≡ length (net_of plan.now).gates) × (length tables.new.current.items ≡ length (net_of plan.now).gates)) }
 {
-    let first = first_gate(net) + gates.len() as u32;
+    let first = first_gate(plan.looped.net()) + gates.len() as u32;
     enter(&mut tables.current, active, first);
-    add_gates(alloc, net, blocks, cut, plan, tables, number, active, gates)?;
+    add_gates(alloc, plan, tables, number, active, gates)?;
     enter(&mut tables.earlier, active, first);
     Ok(())
 }
 
 /// The gates that have a copy.
-fn copied_gates(
-    alloc: Global,
-    net: &Netlist,
-    blocks: &Blocks,
-    sweeps: &SweepCounts,
-) -> Result<Vec<u32>, AllocError>
-    requires blocks { AreBlocksOf net.now blocks.now }
-    requires sweeps { length sweeps.now.per_block ≡ length blocks.now.list }
-    ensures { IfOk result (λ gates. gates.items ≡ filter (λ n. nat_lt 0 (copies_of_gate (in_one_loop blocks.now) (sweeps_of blocks.now sweeps.now) n)) (range_with_len 0 (length net.now.gates))) }
+fn copied_gates(alloc: Global, plan: &Plan<'_>) -> Result<Vec<u32>, AllocError>
+    ensures { IfOk result (λ gates. gates.items ≡ filter (λ n. nat_lt 0 (copies_of (loops_in plan.now).same (sweeps_in plan.now) n)) (range_with_len 0 (length (net_of plan.now).gates))) }
 {
-    let all = all_gates(alloc, net.gates())?;
-    with_more_copies(alloc, net, blocks, sweeps, &all, 0)
+    let all = all_gates(alloc, plan.looped.net().gates())?;
+    with_more_copies(alloc, plan, &all, 0)
 }
 
 /// Tables in which each gate has the signal of the constant.
@@ -152,41 +125,21 @@ fn first_tables(alloc: Global, net: &Netlist) -> Result<Tables, AllocError>
 /// copy of the number before.
 fn add_rounds(
     alloc: Global,
-    net: &Netlist,
-    blocks: &Blocks,
-    cut: &Cut,
-    sweeps: &SweepCounts,
-    plan: &Plan,
+    plan: &Plan<'_>,
     tables: &mut Tables,
     gates: &mut Vec<Gate>,
 ) -> Result<(), AllocError>
-    requires blocks { AreBlocksOf net.now blocks.now }
-    requires cut { IsCutOf net.now cut.now }
-    requires sweeps { length sweeps.now.per_block ≡ length blocks.now.list }
-    requires mark { plan.now.mark ≡ mark_of net.now }
-    requires by { plan.now.by ≡ shift net.now (loops_by blocks.now cut.now) (sweeps_of blocks.now sweeps.now) }
-    requires fits { count net.now + plan.now.by ≤ 4294967295 }
-    requires gates { gates.old.items ≡ constants net.now (loops_by blocks.now cut.now) }
-    requires earlier { tables.old.earlier.items ≡ replicate (length net.now.gates) (first_gate_of net.now) }
-    requires current { tables.old.current.items ≡ replicate (length net.now.gates) (first_gate_of net.now) }
-    ensures gates { OnOk result (gates.new.items ≡ constants net.now (loops_by blocks.now cut.now)
-        ++ map (copy_gate_of net.now (loops_by blocks.now cut.now) (sweeps_of blocks.now sweeps.now)) (copies net.now (loops_by blocks.now cut.now) (sweeps_of blocks.now sweeps.now))) }
-    ensures last { OnOk result (AreLastCopies net.now (loops_by blocks.now cut.now) (sweeps_of blocks.now sweeps.now) tables.new.earlier.items) }
+    requires gates { gates.old.items ≡ constants (net_of plan.now) (loops_in plan.now) }
+    requires earlier { tables.old.earlier.items ≡ replicate (length (net_of plan.now).gates) (first_gate_of (net_of plan.now)) }
+    requires current { tables.old.current.items ≡ replicate (length (net_of plan.now).gates) (first_gate_of (net_of plan.now)) }
+    ensures gates { OnOk result (gates.new.items ≡ constants (net_of plan.now) (loops_in plan.now)
+        ++ map (copy_gate_of (net_of plan.now) (loops_in plan.now) (sweeps_in plan.now)) (copies (net_of plan.now) (loops_in plan.now) (sweeps_in plan.now))) }
+    ensures last { OnOk result (AreLastCopies (net_of plan.now) (loops_in plan.now) (sweeps_in plan.now) tables.new.earlier.items) }
 {
-    let mut active = copied_gates(alloc, net, blocks, sweeps)?;
-    for number in 0..most_copies(net, blocks, sweeps) {
-        add_round(
-            alloc,
-            net,
-            blocks,
-            cut,
-            plan,
-            tables,
-            number + 1,
-            &active,
-            gates,
-        )?;
-        active = with_more_copies(alloc, net, blocks, sweeps, &active, number + 1)?;
+    let mut active = copied_gates(alloc, plan)?;
+    for number in 0..plan.most_copies() {
+        add_round(alloc, plan, tables, number + 1, &active, gates)?;
+        active = with_more_copies(alloc, plan, &active, number + 1)?;
     }
     Ok(())
 }
@@ -195,25 +148,15 @@ fn add_rounds(
 /// constant where it has none.
 pub(crate) fn add_copies(
     alloc: Global,
-    net: &Netlist,
-    blocks: &Blocks,
-    cut: &Cut,
-    sweeps: &SweepCounts,
-    plan: &Plan,
+    plan: &Plan<'_>,
     gates: &mut Vec<Gate>,
 ) -> Result<Vec<u32>, AllocError>
-    requires blocks { AreBlocksOf net.now blocks.now }
-    requires cut { IsCutOf net.now cut.now }
-    requires sweeps { length sweeps.now.per_block ≡ length blocks.now.list }
-    requires mark { plan.now.mark ≡ mark_of net.now }
-    requires by { plan.now.by ≡ shift net.now (loops_by blocks.now cut.now) (sweeps_of blocks.now sweeps.now) }
-    requires fits { count net.now + plan.now.by ≤ 4294967295 }
-    requires gates { gates.old.items ≡ constants net.now (loops_by blocks.now cut.now) }
-    ensures gates { OnOk result (gates.new.items ≡ constants net.now (loops_by blocks.now cut.now)
-        ++ map (copy_gate_of net.now (loops_by blocks.now cut.now) (sweeps_of blocks.now sweeps.now)) (copies net.now (loops_by blocks.now cut.now) (sweeps_of blocks.now sweeps.now))) }
-    ensures last { IfOk result (λ last. AreLastCopies net.now (loops_by blocks.now cut.now) (sweeps_of blocks.now sweeps.now) last.items) }
+    requires { gates.old.items ≡ constants (net_of plan.now) (loops_in plan.now) }
+    ensures gates { OnOk result (gates.new.items ≡ constants (net_of plan.now) (loops_in plan.now)
+        ++ map (copy_gate_of (net_of plan.now) (loops_in plan.now) (sweeps_in plan.now)) (copies (net_of plan.now) (loops_in plan.now) (sweeps_in plan.now))) }
+    ensures last { IfOk result (λ last. AreLastCopies (net_of plan.now) (loops_in plan.now) (sweeps_in plan.now) last.items) }
 {
-    let mut tables = first_tables(alloc, net)?;
-    add_rounds(alloc, net, blocks, cut, sweeps, plan, &mut tables, gates)?;
+    let mut tables = first_tables(alloc, plan.looped.net())?;
+    add_rounds(alloc, plan, &mut tables, gates)?;
     Ok(tables.earlier)
 }

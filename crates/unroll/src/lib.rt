@@ -1,9 +1,9 @@
 //! The rewritten netlist: for each sweep that a loop needs a copy of the loop's gates, and the gates themselves
 //! with their cut wires read from the last copy (Malik 1994; Edwards 2003).
 //!
-//! It stands on `loops`, for blocks, cut wires and the laws of sweeps. The layer above uses that `unroll` gives
-//! the unrolled netlist, that it has no loop, and that its fixpoint tells at least what the netlist's does
-//! (`laws`).
+//! It stands on `looped` and `loops`, for blocks, cut wires and the laws of sweeps. The layer above uses that
+//! `unroll` gives the unrolled netlist, that it has no loop, and that its fixpoint tells at least what the
+//! netlist's does (`laws`).
 #![tactic(auto)]
 
 mod assembly;
@@ -13,6 +13,7 @@ mod gates;
 pub mod laws;
 mod names;
 mod pins;
+mod plan;
 mod sizes;
 mod unrolling;
 

@@ -5,7 +5,7 @@ ghost use Rattle.std.specs.List.{range_with_len, sum_by};
 ghost use Rattle.netlist.specs.Netlists.{IsNetlist};
 ghost use Rattle.loops.specs.Blocks.{AreBlocksOf};
 ghost use Rattle.loops.specs.Cuts.{in_one_loop};
-ghost use Rattle.unroll.specs.Unrolled.{sweeps_of, copies_of as copies_of_gate, most, has_loop as has_some_loop, unrolled_size as size_of};
+ghost use Rattle.unroll.specs.Unrolled.{sweeps_of, copies_of as copies_of_gate, has_loop as has_some_loop, unrolled_size as size_of};
 
 use loops::{Blocks, SweepCounts};
 use netlist::Netlist;
@@ -33,20 +33,6 @@ pub(crate) fn copies_of(net: &Netlist, blocks: &Blocks, sweeps: &SweepCounts, ga
     } else {
         0
     }
-}
-
-/// The most copies that a gate has.
-#[tactic(auto, using(crate::proofs::MarkLemmas::max_is, crate::proofs::SizeLemmas::most_next))]
-pub(crate) fn most_copies(net: &Netlist, blocks: &Blocks, sweeps: &SweepCounts) -> u32
-    requires blocks { AreBlocksOf net.now blocks.now }
-    requires sweeps { length sweeps.now.per_block ≡ length blocks.now.list }
-    ensures { result ≡ most (in_one_loop blocks.now) (sweeps_of blocks.now sweeps.now) (length net.now.gates) }
-{
-    let mut most = 0;
-    for gate in 0..net.gates() {
-        most = most.max(copies_of(net, blocks, sweeps, gate));
-    }
-    most
 }
 
 #[tactic(auto, using(crate::proofs::SizeLemmas::sum_next))]

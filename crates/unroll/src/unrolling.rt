@@ -13,6 +13,7 @@ use crate::assembly::unrolled_parts;
 use crate::fault::UnrollFault;
 use crate::sizes::unrolled_size;
 use cyc_base::MAX_REWRITTEN_ITEMS;
+use looped::LoopedNetlist;
 use loops::{Blocks, Cut, SweepCounts};
 use netlist::{Netlist, PartsFault};
 use std::alloc::Global;
@@ -77,7 +78,8 @@ pub fn unroll(
     ensures tells { IfOk result (λ other. (v : List Trit) → AreEnough net.now (loops_by blocks.now cut.now) (sweeps_of blocks.now sweeps.now) v → TellsAsMuchAt net.now other v) }
 {
     let by = shift_of(net, blocks, sweeps)?;
-    let parts = unrolled_parts(alloc, net, blocks, cut, sweeps, by)?;
+    let looped = LoopedNetlist::new(net, blocks, cut);
+    let parts = unrolled_parts(alloc, &looped, sweeps, by)?;
     match Netlist::new(alloc, parts) {
         Ok(other) => Ok(other),
         Err(fault) => Err(want_of_memory(fault)),

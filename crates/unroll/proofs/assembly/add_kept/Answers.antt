@@ -1,17 +1,23 @@
 use Rattle.std.proofs.Common.{◌++◌, ◌∷◌, [], map, ap, ap₂, sym, ◌∙◌}
 use Rattle.std.proofs.lemmas.List.{append_assoc, map-append}
 use Rattle.std.specs.List.{range_with_len}
-use Rattle.loops.specs.Cuts.{loops_by}
-use Rattle.unroll.specs.Tables.{kept_gate_by}
+use Rattle.unroll.specs.Plans.{loops_in, net_of, sweeps_in}
+use Rattle.unroll.specs.Unrolled.{kept_gate}
+use Rattle.unroll.proofs.Counts.{looped_loops, looped_sweeps}
+use Rattle.unroll.proofs.Kept.{kept_same}
 use Rattle.unroll.proofs.SizeLemmas.{range_next}
 use Rattle.unroll.proofs.assembly.add_kept.Goals as goal
 
 pub loop-gate-preserved : goal.loop-gate-preserved
 loop-gate-preserved c =
+    let plan = c.args.plan.now in
+    let looped = plan.looped.now in
+    let is = c.net.ensures.looped in
     let n = c.loop-gate.gate in
-    let f = kept_gate_by c.args.net.now (loops_by c.args.blocks.now c.args.cut.now) c.args.by c.args.last.now in
+    let kept = kept_gate (net_of plan) (loops_in plan) (sweeps_in plan) in
     let old = c.args.gates.now.items in
+    let same = kept_same (net_of plan) (loops_in plan) (sweeps_in plan) (looped_loops looped is) (looped_sweeps looped is plan.sweeps.now) plan.by c.args.last.now plan.shifted c.requires n in
     c.in_ok-push.ensures.items
-    ∙ ap₂ (λ xs x. xs ++ x ∷ []) c.loop-gate.invariant c.in_ok-kept_gate.ensures
-    ∙ append_assoc old (map f (range_with_len 0 n)) (f n ∷ [])
-    ∙ ap (λ xs. old ++ xs) (sym (ap (map f) (range_next n) ∙ map-append f (range_with_len 0 n) (n ∷ [])))
+    ∙ ap₂ (λ gates gate. gates ++ gate ∷ []) c.loop-gate.invariant (c.in_ok-kept_gate.ensures ∙ same)
+    ∙ append_assoc old (map kept (range_with_len 0 n)) (kept n ∷ [])
+    ∙ ap (λ gates. old ++ gates) (sym (ap (map kept) (range_next n) ∙ map-append kept (range_with_len 0 n) (n ∷ [])))

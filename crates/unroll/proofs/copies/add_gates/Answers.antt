@@ -1,6 +1,6 @@
 use Rattle.std.proofs.Common.{◌<◌, ◌++◌, ◌∷◌, [], length, get_or, map, take, ap, ap₂, sym, ◌∙◌, arith}
 use Rattle.std.proofs.lemmas.List.{append_assoc, map_more}
-use Rattle.loops.specs.Cuts.{loops_by}
+use Rattle.unroll.specs.Plans.{loops_in, net_of}
 use Rattle.unroll.specs.Tables.{copy_gate_by}
 use Rattle.unroll.proofs.copies.add_gates.Goals as goal
 
@@ -9,7 +9,7 @@ loop-gate-preserved c =
     let active = c.args.active.now in
     let plan = c.args.plan.now in
     let tables = c.args.tables.now in
-    let copy = copy_gate_by c.args.net.now (loops_by c.args.blocks.now c.args.cut.now) plan.mark plan.by tables.earlier.items tables.current.items c.args.number in
+    let copy = copy_gate_by (net_of plan) (loops_in plan) plan.mark plan.by tables.earlier.items tables.current.items c.args.number in
     let old = c.args.gates.now.items in
     let i = c.loop-gate.gate-index in
     let inside : i < length active = omega arith in

@@ -1,5 +1,5 @@
 use Rattle.std.proofs.Common.{◌≡◌, ◌++◌, map, take}
-use Rattle.loops.specs.Cuts.{loops_by}
+use Rattle.unroll.specs.Plans.{loops_in, net_of}
 use Rattle.unroll.specs.Tables.{copy_gate_by}
 use Rattle.unroll.proofs.copies.add_gates.Given as goal
 
@@ -7,4 +7,4 @@ abbrev pub invariant-loop-gate : goal.invariant-loop-gate
 invariant-loop-gate l =
     l.gates.items
     ≡ l.initial.gates.items
-    ++ map (copy_gate_by l.net (loops_by l.blocks l.cut) l.plan.mark l.plan.by l.tables.earlier.items l.tables.current.items l.number) (take l.gate-index l.active)
+    ++ map (copy_gate_by (net_of l.plan) (loops_in l.plan) l.plan.mark l.plan.by l.tables.earlier.items l.tables.current.items l.number) (take l.gate-index l.active)

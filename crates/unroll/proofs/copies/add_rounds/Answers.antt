@@ -1,19 +1,18 @@
 use Rattle.std.proofs.Common.{◌≡◌, ◌<◌, ◌≤◌, ◌++◌, ℕ, suc, List, length, map, All, ap, sym, ◌∙◌, subst, arith}
 use Rattle.std.proofs.lemmas.List.{length-replicate}
-use Rattle.loops.specs.Cuts.{loops_by}
 use Rattle.loops.specs.Sweeps.{first_gate}
-use Rattle.loops.proofs.Told.{blocks_tell_loops}
-use Rattle.unroll.specs.Unrolled.{sweeps_of, most, constants, copies_upto, copy_gate}
+use Rattle.unroll.specs.Plans.{loops_in, net_of, sweeps_in}
+use Rattle.unroll.specs.Unrolled.{most, constants, copies_upto, copy_gate}
 use Rattle.unroll.proofs.Places.{copied_within}
 use Rattle.unroll.proofs.Rounds.{none_made, none_entered, all_entered, round_fits, made_next}
-use Rattle.unroll.proofs.Counts.{sweeps_are_of_loops}
+use Rattle.unroll.proofs.Counts.{looped_loops, looped_sweeps}
 use Rattle.unroll.proofs.copies.add_rounds.Goals as goal
 
 pub loop-number-init : goal.loop-number-init
 loop-number-init c =
-    let net = c.args.net.now in
-    let loops = loops_by c.args.blocks.now c.args.cut.now in
-    let m = sweeps_of c.args.blocks.now c.args.sweeps.now in
+    let net = net_of c.args.plan.now in
+    let loops = loops_in c.args.plan.now in
+    let m = sweeps_in c.args.plan.now in
     record {
       next = c.in_ok-active.ensures;
       made = none_made net loops m c.args.gates.now.items c.requires.gates;
@@ -29,71 +28,70 @@ add_round-requires-clause-current c = c.loop-number.invariant.width
 
 pub add_round-requires-clause-active : goal.add_round-requires-clause-active
 add_round-requires-clause-active c =
-    let net = c.args.net.now in
-    let loops = loops_by c.args.blocks.now c.args.cut.now in
-    let m = sweeps_of c.args.blocks.now c.args.sweeps.now in
+    let net = net_of c.args.plan.now in
+    let loops = loops_in c.args.plan.now in
+    let m = sweeps_in c.args.plan.now in
     subst (λ (ys : List ℕ). All (λ k. k < length net.gates) ys) (sym (c.deref.ensures.value ∙ c.loop-number.invariant.next))
     (copied_within net loops m (suc c.loop-number.number))
 
 pub add_round-requires-clause-fits : goal.add_round-requires-clause-fits
 add_round-requires-clause-fits c =
-    let net = c.args.net.now in
-    let loops = loops_by c.args.blocks.now c.args.cut.now in
-    let m = sweeps_of c.args.blocks.now c.args.sweeps.now in
+    let net = net_of c.args.plan.now in
+    let loops = loops_in c.args.plan.now in
+    let m = sweeps_in c.args.plan.now in
     let test = c.loop-number-test.true in
-    let top = c.most_copies-number-end.ensures in
+    let top = c.most_copies-number-end.ensures.most in
     round_fits net loops m c.loop-number.number c.args.plan.now.by c.loop-number.gates.items c.deref.result.now
     (let up : suc c.loop-number.number ≤ most loops.same m (length net.gates) = omega arith in up)
-    c.requires.by c.requires.fits c.loop-number.invariant.made
+    c.args.plan.now.shifted c.args.plan.now.fits c.loop-number.invariant.made
     (c.deref.ensures.value ∙ c.loop-number.invariant.next)
 
-pub with_more_copies-requires-clause-gates : goal.with_more_copies-requires-clause-gates
-with_more_copies-requires-clause-gates c =
-    let net = c.args.net.now in
-    let loops = loops_by c.args.blocks.now c.args.cut.now in
-    let m = sweeps_of c.args.blocks.now c.args.sweeps.now in
+pub with_more_copies-requires : goal.with_more_copies-requires
+with_more_copies-requires c =
+    let net = net_of c.args.plan.now in
+    let loops = loops_in c.args.plan.now in
+    let m = sweeps_in c.args.plan.now in
     subst (λ (ys : List ℕ). All (λ k. k < length net.gates) ys) (sym (c.deref-in-loop-number.ensures.value ∙ c.loop-number.invariant.next))
     (copied_within net loops m (suc c.loop-number.number))
 
 pub loop-number-preserved : goal.loop-number-preserved
 loop-number-preserved c =
-    let net = c.args.net.now in
-    let blocks = c.args.blocks.now in
-    let loops = loops_by blocks c.args.cut.now in
-    let m = sweeps_of blocks c.args.sweeps.now in
+    let net = net_of c.args.plan.now in
+    let loops = loops_in c.args.plan.now in
+    let m = sweeps_in c.args.plan.now in
     let k = c.loop-number.number in
     let inv = c.loop-number.invariant in
     let test = c.loop-number-test.true in
-    let top_is = c.most_copies-number-end.ensures in
+    let top_is = c.most_copies-number-end.ensures.most in
     let top : suc k ≤ most loops.same m (length net.gates) = omega arith in
-    let are = blocks_tell_loops net blocks c.args.cut.now c.requires.blocks c.requires.cut in
-    let of_loops = sweeps_are_of_loops net blocks c.args.cut.now c.args.sweeps.now c.requires.blocks in
+    let are = looped_loops _ c.most_copies-number-end.ensures.looped in
+    let of_loops = looped_sweeps _ c.most_copies-number-end.ensures.looped c.args.plan.now.sweeps.now in
     made_next net loops m are of_loops k c.args.plan.now.by c.args.plan.now.mark
     c.loop-number.active.items c.deref.result.now c.deref-in-loop-number.result.now c.in_ok-active-2.active.items
     c.loop-number.gates.items c.add_round.new.gates.items
     c.loop-number.tables.earlier.items c.add_round.new.tables.earlier.items c.loop-number.tables.current.items c.add_round.new.tables.current.items
-    top c.requires.mark c.requires.by inv c.deref.ensures.value c.deref-in-loop-number.ensures.value
+    top c.args.plan.now.marked c.args.plan.now.shifted inv c.deref.ensures.value c.deref-in-loop-number.ensures.value
     c.in_ok-add_round.ensures.gates c.in_ok-add_round.ensures.earlier c.in_ok-add_round.ensures.widths.1 c.in_ok-active-2.ensures
 
 pub returns-clause-gates : goal.returns-clause-gates
 returns-clause-gates c =
-    let net = c.args.net.now in
-    let loops = loops_by c.args.blocks.now c.args.cut.now in
-    let m = sweeps_of c.args.blocks.now c.args.sweeps.now in
+    let net = net_of c.args.plan.now in
+    let loops = loops_in c.args.plan.now in
+    let m = sweeps_in c.args.plan.now in
     let test = c.loop-number-test.false in
     let end = c.loop-number.auto.number-end in
-    let top = c.most_copies-number-end.ensures in
+    let top = c.most_copies-number-end.ensures.most in
     let all : c.loop-number.number ≡ most loops.same m (length net.gates) = omega arith in
     c.loop-number.invariant.made ∙ ap (λ k. constants net loops ++ map (copy_gate net loops m) (copies_upto net loops m k)) all
 
 pub returns-clause-last : goal.returns-clause-last
 returns-clause-last c =
-    let net = c.args.net.now in
-    let loops = loops_by c.args.blocks.now c.args.cut.now in
-    let m = sweeps_of c.args.blocks.now c.args.sweeps.now in
+    let net = net_of c.args.plan.now in
+    let loops = loops_in c.args.plan.now in
+    let m = sweeps_in c.args.plan.now in
     let test = c.loop-number-test.false in
     let end = c.loop-number.auto.number-end in
-    let top = c.most_copies-number-end.ensures in
+    let top = c.most_copies-number-end.ensures.most in
     all_entered net loops m c.loop-number.number c.loop-number.tables.earlier.items
     (let e : c.loop-number.number ≡ most loops.same m (length net.gates) = omega arith in e)
     c.loop-number.invariant.before

@@ -3,8 +3,8 @@ use Rattle.std.proofs.Common.{◌≡◌, ◌+◌, ◌<◌, ◌++◌, ◌∷◌, 
 use Rattle.std.proofs.lemmas.Bool.{lt-ltb, le-ltb}
 use Rattle.std.proofs.lemmas.List.{append-nil}
 use Rattle.std.proofs.lemmas.List.Elements.{filter_more}
-use Rattle.loops.specs.Cuts.{in_one_loop}
-use Rattle.unroll.specs.Unrolled.{sweeps_of, copies_of}
+use Rattle.unroll.specs.Plans.{loops_in, sweeps_in}
+use Rattle.unroll.specs.Unrolled.{copies_of}
 use Rattle.unroll.proofs.copies.with_more_copies.Goals as goal
 use Rattle.unroll.proofs.copies.with_more_copies.Goals.{then-copies_of-number+in_ok-push, else-copies_of-number}
 
@@ -22,7 +22,7 @@ loop-gate-preserved c =
     let gates = c.args.gates.now in
     let i = c.loop-gate.gate-index in
     let number = c.args.number in
-    let has = copies_of (in_one_loop c.args.blocks.now) (sweeps_of c.args.blocks.now c.args.sweeps.now) in
+    let has = copies_of (loops_in c.args.plan.now).same (sweeps_in c.args.plan.now) in
     let more : ℕ → Bool = λ n. nat_lt number (has n) in
     let inside : i < length gates = omega arith in
     elim c.if-copies_of-number.branch [

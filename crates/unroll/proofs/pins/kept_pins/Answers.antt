@@ -1,13 +1,13 @@
 use Rattle.std.proofs.Common.{◌<◌, ◌++◌, ◌∷◌, [], length, ap₂, sym, ◌∙◌, arith}
 use Rattle.std.proofs.lemmas.List.{map_more}
-use Rattle.loops.specs.Cuts.{loops_by}
+use Rattle.unroll.specs.Plans.{loops_in, net_of}
 use Rattle.unroll.specs.Tables.{kept_pin_by}
 use Rattle.unroll.proofs.pins.kept_pins.Goals as goal
 
 pub loop-pin-preserved : goal.loop-pin-preserved
 loop-pin-preserved c =
     let own = c.items-own.result.now in
-    let read = kept_pin_by c.args.net.now (loops_by c.args.blocks.now c.args.cut.now) c.args.by c.args.last.now c.args.gate in
+    let read = kept_pin_by (net_of c.args.plan.now) (loops_in c.args.plan.now) c.args.plan.now.by c.args.last.now c.args.gate in
     let inside : c.loop-pin.pin-index < length own = omega arith in
     c.in_ok-push.ensures.items
     ∙ ap₂ (λ pins pin. pins ++ pin ∷ []) c.loop-pin.invariant c.kept_pin.ensures

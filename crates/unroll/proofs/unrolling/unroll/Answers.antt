@@ -3,10 +3,12 @@ use Rattle.netlist.specs.declared.parts.Parts.{Parts}
 use Rattle.netlist.specs.Walks.{IsLoopFree}
 use Rattle.netlist.specs.Faults.{first_fault}
 use Rattle.netlist.proofs.Validity.{no_fault_of_netlist}
+use Rattle.loops.specs.declared.structure.SweepCounts.{SweepCounts}
 use Rattle.loops.specs.Cuts.{Loops, AreLoopsOf, loops_by}
 use Rattle.loops.proofs.Told.{blocks_tell_loops}
+use Rattle.looped.specs.Looped.{Looped}
 use Rattle.unroll.specs.Laws.{KeepsInterface, TellsAsMuchAt}
-use Rattle.unroll.specs.Unrolled.{sweeps_of, unrolled, IsOfLoops}
+use Rattle.unroll.specs.Unrolled.{shift, sweeps_of, unrolled, IsOfLoops}
 use Rattle.unroll.proofs.Counts.{sweeps_are_of_loops}
 use Rattle.unroll.proofs.Measures.{size_is_shift}
 use Rattle.unroll.proofs.Opened.{unrolled_is_loop_free}
@@ -14,11 +16,18 @@ use Rattle.unroll.proofs.Telling.{unrolled_keeps_interface, unrolled_tells_as_mu
 use Rattle.unroll.proofs.Valid.{unrolled_is_netlist}
 use Rattle.unroll.proofs.unrolling.unroll.Goals as goal
 
+abbrev shift_by : SweepCounts → Looped → ℕ
+shift_by sweeps l = shift l.net (loops_by l.blocks l.cut) (sweeps_of l.blocks sweeps)
+
+abbrev unrolled_by : SweepCounts → Looped → Parts
+unrolled_by sweeps l = unrolled l.net (loops_by l.blocks l.cut) (sweeps_of l.blocks sweeps)
+
 pub unrolled_parts-requires-clause-by : goal.unrolled_parts-requires-clause-by
 unrolled_parts-requires-clause-by c =
     let by = c.in_ok-by.ensures.by in
     let size = size_is_shift c.args.net.now (loops_by c.args.blocks.now c.args.cut.now) (sweeps_of c.args.blocks.now c.args.sweeps.now) in
-    omega arith
+    let shifted : c.in_ok-by.by ≡ shift c.args.net.now (loops_by c.args.blocks.now c.args.cut.now) (sweeps_of c.args.blocks.now c.args.sweeps.now) = omega arith in
+    shifted ∙ sym (ap (shift_by c.args.sweeps.now) c.new-looped.ensures)
 
 pub want_of_memory-requires : goal.want_of_memory-requires
 want_of_memory-requires c =
@@ -28,7 +37,7 @@ want_of_memory-requires c =
     let m = sweeps_of blocks c.args.sweeps.now in
     let are = blocks_tell_loops net blocks c.args.cut.now c.requires.blocks c.requires.cut in
     let of_loops = sweeps_are_of_loops net blocks c.args.cut.now c.args.sweeps.now c.requires.blocks in
-    let parts : c.in_ok-parts.parts ≡ unrolled net loops m = c.in_ok-parts.ensures in
+    let parts : c.in_ok-parts.parts ≡ unrolled net loops m = c.in_ok-parts.ensures ∙ ap (unrolled_by c.args.sweeps.now) c.new-looped.ensures in
     let valid = unrolled_is_netlist net loops m c.shift_of.ensures.valid are of_loops c.in_ok-by.ensures.small c.requires.inputs in
     let none = no_fault_of_netlist (unrolled net loops m) valid in
     elim c.in-Err.ensures.fault [
@@ -50,8 +59,14 @@ module _ (c : goal.In-Ok) where
   of_loops : IsOfLoops loops m
   of_loops = sweeps_are_of_loops c.args.net.now c.args.blocks.now c.args.cut.now c.args.sweeps.now c.requires.blocks
 
+  answer_is : c.in-Ok.other ≡ unrolled c.args.net.now loops m
+  answer_is = c.in-Ok.ensures.parts ∙ c.in_ok-parts.ensures ∙ ap (unrolled_by c.args.sweeps.now) c.new-looped.ensures
+
   by_answer : (P : Parts → Type 0) → P (unrolled c.args.net.now loops m) → P c.in-Ok.other
-  by_answer P h = subst P (sym (c.in-Ok.ensures.parts ∙ c.in_ok-parts.ensures)) h
+  by_answer P h = subst P (sym answer_is) h
+
+pub returns-in-Ok-clause-unrolled : goal.returns-in-Ok-clause-unrolled
+returns-in-Ok-clause-unrolled c = answer_is c
 
 pub returns-in-Ok-clause-loop_free : goal.returns-in-Ok-clause-loop_free
 returns-in-Ok-clause-loop_free c =

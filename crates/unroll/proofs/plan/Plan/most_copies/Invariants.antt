@@ -1,0 +1,7 @@
+use Rattle.std.proofs.Common.{◌≡◌}
+use Rattle.unroll.specs.Plans.{loops_in, sweeps_in}
+use Rattle.unroll.specs.Unrolled.{most}
+use Rattle.unroll.proofs.plan.Plan.most_copies.Given as goal
+
+abbrev pub invariant-loop-gate : goal.invariant-loop-gate
+invariant-loop-gate l = l.most ≡ most (loops_in l.self).same (sweeps_in l.self) l.gate
