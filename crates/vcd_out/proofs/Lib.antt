@@ -1,3 +1,4 @@
+pub mod BoxLemmas
 mod CodeLemmas
 mod DumpLemmas
 mod LineLemmas

@@ -1,3 +1,4 @@
 pub mod Codes
 pub mod Dumps
+pub mod Kinds
 pub mod Reading
