@@ -229,8 +229,8 @@ pub fn sweeps_at(
     requires vector { length vector.now ≡ columns net.now }
     ensures { IfOk result (IsCountAt net.now (loops_by blocks.now cut.now) vector.now (block_at blocks.now block).gates) }
 {
-    let _ = net.gates();
     let gates = blocks.list.items()[block as usize].gates.items();
     let places = cut_places(alloc, gates, cut.wires.items())?;
+    let _ = net.gates();
     sweeps_up_to(alloc, net, blocks, cut, block, places.len() as u32, vector)
 }
