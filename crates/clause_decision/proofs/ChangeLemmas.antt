@@ -30,12 +30,13 @@ use Rattle.clause_queries.specs.Queries.{problem, HasNoModelUnder}
 use Rattle.clause_queries.proofs.ClauseLemmas.{models-same}
 use Rattle.clause_decision.specs.Changes.{change_literals, AreFedKnown, HasChange, ChangesAfter, StandAfter, TellsChange, TellsChangeAfter}
 use Rattle.clause_decision.specs.Cones.{column_rails, vector_in, ReadsFix, IsCone}
+use Rattle.clause_decision.specs.LoopsAt.{AreCutPlaces, LoopAt, IsLoopAt, gates_in, loops_in}
 use Rattle.clause_decision.specs.Scopes.{is_marked, AreClosed}
 use Rattle.clause_decision.specs.Countings.{AreTooFewAt, TellsTooFew}
-use Rattle.clause_decision.specs.Sweepings.{AreCutPlaces}
 use Rattle.clause_decision.proofs.FormulaLemmas.{ones-read}
 use Rattle.clause_decision.proofs.SignalLemmas.{known-below, column_rails-length, gate-read, three}
-use Rattle.clause_decision.proofs.SweepingLemmas.{are-loops, cut-of, fed-read, of-loop, outside-of-fix}
+use Rattle.clause_decision.proofs.LoopLemmas.{are-loops, cut-of, of-loop}
+use Rattle.clause_decision.proofs.SweepingLemmas.{fed-read, outside-of-fix}
 use Rattle.clause_decision.proofs.UnknownLemmas.{unknown-value}
 
 -- ---- what a question about a change tells
@@ -129,61 +130,61 @@ module _ (net : Parts) (care : CareSet) (marks : List Bool) (loops : Loops) (gat
 
 -- ---- whether sweeps are enough
 
-module _ (net : Parts) (blocks : Blocks) (cut : Cut) (are : AreBlocksOf net blocks) (cut_is : IsCutOf net cut) (b : ℕ) (less : b < length blocks.list) (looped : (block_at blocks b).looped ≡ true) where
+module _ (l : LoopAt) (is_loop : IsLoopAt l) where
   -- what is outside of the loop is no gate of the block
-  pub outside-apart : (n g : ℕ) → Contains (block_at blocks b).gates n → (loops_by blocks cut).same n g ≡ false → ¬ Contains (block_at blocks b).gates g
-  outside-apart n g inside same among = true≢false (sym ((of-loop net blocks cut are cut_is b less looped n inside).1 g among) ∙ same)
+  pub outside-apart : (n g : ℕ) → Contains (gates_in l) n → (loops_in l).same n g ≡ false → ¬ Contains (gates_in l) g
+  outside-apart n g inside same among = true≢false (sym ((of-loop l is_loop n inside).1 g among) ∙ same)
 
   -- where a cut wire changes, more sweeps are needed
-  change-too-few : (care : CareSet) (k : ℕ) (v : List Bool) → ChangesAfter net (loops_by blocks cut) care (block_at blocks b).gates k v → AreTooFewAt net (loops_by blocks cut) care (block_at blocks b).gates k v
+  change-too-few : (care : CareSet) (k : ℕ) (v : List Bool) → ChangesAfter l.net (loops_in l) care (gates_in l) k v → AreTooFewAt l.net (loops_in l) care (gates_in l) k v
   change-too-few care k v found = record {
     counts = found.counts;
     open_cuts = λ a inside fixed.
-        let loops : Loops = loops_by blocks cut in
-        let same = (of-loop net blocks cut are cut_is b less looped a inside).1 found.wire found.inside in
-        let next : CutsAreFixed net loops (bits v) a (suc k) = (fixed_cuts_give_fix net loops (are-loops net blocks cut are cut_is b less looped) (bits v) (length-map v bit ∙ found.counts.width) a k fixed).0 in
-        let now_is = cut_values_agree net loops (are-loops net blocks cut are cut_is b less looped) a (sweeps net loops (bits v) k) (fix_gates net (bits v)) fixed found.wire same found.is_cut in
-        let next_is = cut_values_agree net loops (are-loops net blocks cut are cut_is b less looped) a (sweeps net loops (bits v) (suc k)) (fix_gates net (bits v)) next found.wire same found.is_cut in
+        let loops : Loops = loops_in l in
+        let same = (of-loop l is_loop a inside).1 found.wire found.inside in
+        let next : CutsAreFixed l.net loops (bits v) a (suc k) = (fixed_cuts_give_fix l.net loops (are-loops l is_loop) (bits v) (length-map v bit ∙ found.counts.width) a k fixed).0 in
+        let now_is = cut_values_agree l.net loops (are-loops l is_loop) a (sweeps l.net loops (bits v) k) (fix_gates l.net (bits v)) fixed found.wire same found.is_cut in
+        let next_is = cut_values_agree l.net loops (are-loops l is_loop) a (sweeps l.net loops (bits v) (suc k)) (fix_gates l.net (bits v)) next found.wire same found.is_cut in
         let e : suc k ≡ k + 1 = omega arith in
-        found.known (ap (λ (j : ℕ). value_in (sweeps net loops (bits v) j) found.wire) (sym e) ∙ next_is ∙ sym now_is ∙ found.unknown);
+        found.known (ap (λ (j : ℕ). value_in (sweeps l.net loops (bits v) j) found.wire) (sym e) ∙ next_is ∙ sym now_is ∙ found.unknown);
   }
 
   -- where none does, the loop stands at the fixpoint
-  module _ (care : CareSet) (k : ℕ) (stand : StandAfter net (loops_by blocks cut) care (block_at blocks b).gates k) (a : ℕ) (inside : Contains (block_at blocks b).gates a) (v : List Bool) (counts : IsCareVector net care v) where
-    still-at : (n : ℕ) → (loops_by blocks cut).same a n ≡ true → (loops_by blocks cut).cut n ≡ true → value_in (sweeps net (loops_by blocks cut) (bits v) (suc k)) n ≡ value_in (sweeps net (loops_by blocks cut) (bits v) k) n
-    still-at n same is_cut = by (value_in (sweeps net (loops_by blocks cut) (bits v) k) n) refl
+  module _ (care : CareSet) (k : ℕ) (stand : StandAfter l.net (loops_in l) care (gates_in l) k) (a : ℕ) (inside : Contains (gates_in l) a) (v : List Bool) (counts : IsCareVector l.net care v) where
+    still-at : (n : ℕ) → (loops_in l).same a n ≡ true → (loops_in l).cut n ≡ true → value_in (sweeps l.net (loops_in l) (bits v) (suc k)) n ≡ value_in (sweeps l.net (loops_in l) (bits v) k) n
+    still-at n same is_cut = by (value_in (sweeps l.net (loops_in l) (bits v) k) n) refl
       where
         e : k + 1 ≡ suc k
         e = omega arith
 
-        below : Below (value_in (sweeps net (loops_by blocks cut) (bits v) k) n) (value_in (sweeps net (loops_by blocks cut) (bits v) (suc k)) n)
-        below = EachBelow-at (sweeps net (loops_by blocks cut) (bits v) k) (sweeps net (loops_by blocks cut) (bits v) (suc k)) n (sweeps_rise net (loops_by blocks cut) (bits v) k)
+        below : Below (value_in (sweeps l.net (loops_in l) (bits v) k) n) (value_in (sweeps l.net (loops_in l) (bits v) (suc k)) n)
+        below = EachBelow-at (sweeps l.net (loops_in l) (bits v) k) (sweeps l.net (loops_in l) (bits v) (suc k)) n (sweeps_rise l.net (loops_in l) (bits v) k)
 
-        known : value_in (sweeps net (loops_by blocks cut) (bits v) k) n ≢ X → value_in (sweeps net (loops_by blocks cut) (bits v) (suc k)) n ≡ value_in (sweeps net (loops_by blocks cut) (bits v) k) n
-        known isnt = known-below (value_in (sweeps net (loops_by blocks cut) (bits v) k) n) (value_in (sweeps net (loops_by blocks cut) (bits v) (suc k)) n) below isnt
+        known : value_in (sweeps l.net (loops_in l) (bits v) k) n ≢ X → value_in (sweeps l.net (loops_in l) (bits v) (suc k)) n ≡ value_in (sweeps l.net (loops_in l) (bits v) k) n
+        known isnt = known-below (value_in (sweeps l.net (loops_in l) (bits v) k) n) (value_in (sweeps l.net (loops_in l) (bits v) (suc k)) n) below isnt
 
-        by : (t : Trit) → value_in (sweeps net (loops_by blocks cut) (bits v) k) n ≡ t → value_in (sweeps net (loops_by blocks cut) (bits v) (suc k)) n ≡ value_in (sweeps net (loops_by blocks cut) (bits v) k) n
+        by : (t : Trit) → value_in (sweeps l.net (loops_in l) (bits v) k) n ≡ t → value_in (sweeps l.net (loops_in l) (bits v) (suc k)) n ≡ value_in (sweeps l.net (loops_in l) (bits v) k) n
         by X is =
-            ap (λ (j : ℕ). value_in (sweeps net (loops_by blocks cut) (bits v) j) n) (sym e)
-            ∙ stand v counts n ((of-loop net blocks cut are cut_is b less looped a inside).0 n same) is_cut is ∙ sym is
+            ap (λ (j : ℕ). value_in (sweeps l.net (loops_in l) (bits v) j) n) (sym e)
+            ∙ stand v counts n ((of-loop l is_loop a inside).0 n same) is_cut is ∙ sym is
         by Zero is = known (λ x. let c : Zero ≡ X = sym is ∙ x in cc)
         by One is = known (λ x. let c : One ≡ X = sym is ∙ x in cc)
 
-    still : cuts net (loops_by blocks cut) (bits v) a (suc k) ≡ cuts net (loops_by blocks cut) (bits v) a k
+    still : cuts l.net (loops_in l) (bits v) a (suc k) ≡ cuts l.net (loops_in l) (bits v) a k
     still =
-        map_agree (value_in (sweeps net (loops_by blocks cut) (bits v) (suc k))) (value_in (sweeps net (loops_by blocks cut) (bits v) k)) (cuts_of net (loops_by blocks cut) a)
-        (λ j d low. still-at (get_or (cuts_of net (loops_by blocks cut) a) j d) (cut-of net (loops_by blocks cut) a j d low).0 (cut-of net (loops_by blocks cut) a j d low).1)
+        map_agree (value_in (sweeps l.net (loops_in l) (bits v) (suc k))) (value_in (sweeps l.net (loops_in l) (bits v) k)) (cuts_of l.net (loops_in l) a)
+        (λ j d low. still-at (get_or (cuts_of l.net (loops_in l) a) j d) (cut-of l.net (loops_in l) a j d low).0 (cut-of l.net (loops_in l) a j d low).1)
 
-    stand-fixed : CutsAreFixed net (loops_by blocks cut) (bits v) a k
+    stand-fixed : CutsAreFixed l.net (loops_in l) (bits v) a k
     stand-fixed =
-        map_agree (value_in (sweeps net (loops_by blocks cut) (bits v) k)) (value_in (fix_gates net (bits v))) (cuts_of net (loops_by blocks cut) a)
+        map_agree (value_in (sweeps l.net (loops_in l) (bits v) k)) (value_in (fix_gates l.net (bits v))) (cuts_of l.net (loops_in l) a)
         (λ j d low.
-        sym (still-at (get_or (cuts_of net (loops_by blocks cut) a) j d) (cut-of net (loops_by blocks cut) a j d low).0 (cut-of net (loops_by blocks cut) a j d low).1)
-        ∙ still_is_fix net (loops_by blocks cut) (are-loops net blocks cut are cut_is b less looped) (bits v) (length-map v bit ∙ counts.width) a k still
-        (get_or (cuts_of net (loops_by blocks cut) a) j d) (cut-of net (loops_by blocks cut) a j d low).0)
+        sym (still-at (get_or (cuts_of l.net (loops_in l) a) j d) (cut-of l.net (loops_in l) a j d low).0 (cut-of l.net (loops_in l) a j d low).1)
+        ∙ still_is_fix l.net (loops_in l) (are-loops l is_loop) (bits v) (length-map v bit ∙ counts.width) a k still
+        (get_or (cuts_of l.net (loops_in l) a) j d) (cut-of l.net (loops_in l) a j d low).0)
 
-  pub change-tells : (care : CareSet) (rails : List Rails) (k : ℕ) (reply : Reply) → TellsChangeAfter net (loops_by blocks cut) care (block_at blocks b).gates rails k reply →
-      TellsTooFew net (loops_by blocks cut) care (block_at blocks b).gates rails k reply
-  change-tells care rails k (replies.Model m) h = change-too-few care k (vector_in net rails m.items) h
+  pub change-tells : (care : CareSet) (rails : List Rails) (k : ℕ) (reply : Reply) → TellsChangeAfter l.net (loops_in l) care (gates_in l) rails k reply →
+      TellsTooFew l.net (loops_in l) care (gates_in l) rails k reply
+  change-tells care rails k (replies.Model m) h = change-too-few care k (vector_in l.net rails m.items) h
   change-tells care rails k replies.NoModel h = λ a inside v counts. stand-fixed care k h a inside v counts
   change-tells care rails k replies.Unknown h = tt

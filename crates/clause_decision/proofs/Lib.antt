@@ -3,6 +3,7 @@ pub mod ChangeLemmas
 pub mod ConeLemmas
 pub mod FormulaLemmas
 pub mod LeavingLemmas
+pub mod LoopLemmas
 pub mod ModelLemmas
 pub mod SignalLemmas
 pub mod SimulationLemmas

@@ -45,39 +45,15 @@ use Rattle.clause_decision.specs.declared.counting.Sign.TheVariants as signs
 use Rattle.clause_decision.specs.declared.sweeping.Swept.{Swept}
 use Rattle.clause_decision.specs.Cones.{column_rails, vector_in, ReadsFix, IsCone}
 use Rattle.clause_decision.specs.Countings.{first_number, AreEnough, AreTooFewAt, NeedAtLeast, Serves, TellsTooFew}
+use Rattle.clause_decision.specs.LoopsAt.{AreCutPlaces, LoopAt, IsLoopAt, gates_in, loops_in}
 use Rattle.clause_decision.specs.Scopes.{is_marked, AreClosed, AreKnownOnCare}
 use Rattle.clause_decision.specs.Simulations.{IsCountAt}
 use Rattle.clause_decision.specs.Sweeping.{IsLeastCount}
-use Rattle.clause_decision.specs.Sweepings.{open_literals, AreCutPlacesBelow, AreCutPlaces, AreKnownAfter, IsOpenAt, IsSwept, SaysOpen, TellsOpen}
+use Rattle.clause_decision.specs.Sweepings.{open_literals, AreKnownAfter, IsOpenAt, IsSwept, SaysOpen, TellsOpen}
 use Rattle.clause_decision.proofs.FormulaLemmas.{ones-read}
+use Rattle.clause_decision.proofs.LoopLemmas.{are-loops, cut-of, cuts-enough, gate-fits, of-loop}
 use Rattle.clause_decision.proofs.SignalLemmas.{known-below, negation-within, column_rails-length, signal-at, gate-read, three}
 use Rattle.clause_decision.proofs.UnknownLemmas.{unknown-value}
-
--- ---- the places of cut wires
-
-pub places-cut : (cut : ℕ → Bool) (gates : List ℕ) (k : ℕ) (places : List ℕ) → k < length gates → cut (get_or gates k 0) ≡ true → AreCutPlacesBelow cut gates k places → AreCutPlacesBelow cut gates (k + 1) (places ++ k ∷ [])
-places-cut cut gates k places less is h = record {
-  within = All-push (λ i. i < k + 1) places k (All-weaker (λ i. i < k) (λ i. i < k + 1) (λ i l. omega (arith, l)) places h.within) (omega arith);
-  are = All-push (λ i. cut (get_or gates i 0) ≡ true) places k h.are is;
-  each = λ i low cut_i. elim (cases_lt i k) [
-    | inl l ↦ Contains-append_left places (k ∷ []) i (h.each i l cut_i)
-    | inr high ↦ (let e : k ≡ i = omega (arith, low, high) in subst (Contains (places ++ k ∷ [])) e (Contains-push places k))
-  ];
-  number = length_push places k ∙ ap (λ n. n + 1) h.number
-      ∙ sym (ap length (filter_more cut gates k 0 less ∙ ap (λ b. filter cut (take k gates) ++ cond b (get_or gates k 0 ∷ []) []) is) ∙ length_push (filter cut (take k gates)) (get_or gates k 0));
-}
-
-pub places-uncut : (cut : ℕ → Bool) (gates : List ℕ) (k : ℕ) (places : List ℕ) → k < length gates → cut (get_or gates k 0) ≡ false → AreCutPlacesBelow cut gates k places → AreCutPlacesBelow cut gates (k + 1) places
-places-uncut cut gates k places less isnt h = record {
-  within = All-weaker (λ i. i < k) (λ i. i < k + 1) (λ i l. omega (arith, l)) places h.within;
-  are = h.are;
-  each = λ i low cut_i. elim (cases_lt i k) [
-    | inl l ↦ h.each i l cut_i
-    | inr high ↦ (let e : k ≡ i = omega (arith, low, high) in absurd (true≢false (sym cut_i ∙ ap (λ j. cut (get_or gates j 0)) (sym e) ∙ isnt)))
-  ];
-  number = h.number
-      ∙ sym (ap length (filter_more cut gates k 0 less ∙ ap (λ b. filter cut (take k gates) ++ cond b (get_or gates k 0 ∷ []) []) isnt ∙ append-nil (filter cut (take k gates))));
-}
 
 -- ---- a literal for the cut wires that are unknown
 
@@ -298,27 +274,6 @@ module _ (net : Parts) (care : CareSet) (marks : List Bool) (loops : Loops) (gat
 
 -- ---- how many sweeps are needed
 
--- tests that agree on a list keep the same of it
-kept-agree : (p q : ℕ → Bool) (xs : List ℕ) → All (λ n. p n ≡ q n) xs → filter p xs ≡ filter q xs
-kept-agree p q [] h = refl
-kept-agree p q (x ∷ xs) h = ap₂ (λ (b : Bool) (ys : List ℕ). cond b (x ∷ ys) ys) (h 0 x (omega arith)) (kept-agree p q xs (λ k d less. h (suc k) d (omega (arith, less))))
-
-kept-both : (p q : ℕ → Bool) (xs : List ℕ) → filter (λ n. p n && q n) xs ≡ filter q (filter p xs)
-kept-both p q [] = refl
-kept-both p q (x ∷ xs) = ap (λ (ys : List ℕ). cond (p x && q x) (x ∷ ys) ys) (kept-both p q xs) ∙ by (p x)
-  where
-    by : (b : Bool) → cond (b && q x) (x ∷ filter q (filter p xs)) (filter q (filter p xs)) ≡ filter q (cond b (x ∷ filter p xs) (filter p xs))
-    by true = refl
-    by false = refl
-
-kept-fewer : (p : ℕ → Bool) (xs : List ℕ) → length (filter p xs) ≤ length xs
-kept-fewer p [] = omega arith
-kept-fewer p (x ∷ xs) = by (p x) (kept-fewer p xs)
-  where
-    by : (b : Bool) → length (filter p xs) ≤ length xs → length (cond b (x ∷ filter p xs) (filter p xs)) ≤ suc (length xs)
-    by true h = omega (arith, h)
-    by false h = omega (arith, h)
-
 -- where a loop is at the fixpoint, it is after more sweeps
 fixed-later : (net : Parts) (loops : Loops) → AreLoopsOf net loops → (v : List Trit) → length v ≡ first_gate net → (a m k n : ℕ) → n ≡ k + m → CutsAreFixed net loops v a m → CutsAreFixed net loops v a n
 fixed-later net loops are v wide a m zero n e fixed = let same : m ≡ n = omega (arith, e) in subst (λ (j : ℕ). CutsAreFixed net loops v a j) same fixed
@@ -326,153 +281,98 @@ fixed-later net loops are v wide a m (suc k) n e fixed =
     let next : suc (k + m) ≡ n = omega (arith, e) in
     subst (λ (j : ℕ). CutsAreFixed net loops v a j) next (fixed_cuts_give_fix net loops are v wide a (k + m) (fixed-later net loops are v wide a m k (k + m) refl fixed)).0
 
--- what is listed as a cut wire of a loop is one
-pub cut-of : (net : Parts) (loops : Loops) (a j d : ℕ) → j < length (cuts_of net loops a) → (loops.same a (get_or (cuts_of net loops a) j d) ≡ true) × (loops.cut (get_or (cuts_of net loops a) j d) ≡ true)
-cut-of net loops a j d low =
-    let n : ℕ = get_or (cuts_of net loops a) j d in
-    let kept = Contains-filter_from (λ g. loops.same a g && loops.cut g) (range_with_len 0 (length net.gates)) n (Contains-get_or (cuts_of net loops a) j d low) in
-    and_parts (loops.same a n) (loops.cut n) kept.0
+-- where k sweeps are enough, and no fewer are, these are needed
+pub these-needed : (net : Parts) (loops : Loops) (care : CareSet) (gates : List ℕ) (k : ℕ) → AreEnough net loops care gates k → NeedAtLeast net loops care gates k →
+    (a : ℕ) → Contains gates a → IsLeastCount net loops care a k
+these-needed net loops care gates k enough more a inside = record { enough = enough a inside; least = λ j low. more a j inside low }
 
-module _ (net : Parts) (blocks : Blocks) (cut : Cut) (are : AreBlocksOf net blocks) (cut_is : IsCutOf net cut) (b : ℕ) (less : b < length blocks.list) (looped : (block_at blocks b).looped ≡ true) where
-  pub are-loops : AreLoopsOf net (loops_by blocks cut)
-  are-loops = blocks_tell_loops net blocks cut are cut_is
-
-  -- the gates of the block are those of the loop of each of them
-  pub of-loop : (a : ℕ) → Contains (block_at blocks b).gates a → AreGatesOfLoop (loops_by blocks cut) a (block_at blocks b).gates
-  of-loop a inside =
-      let at = gate_home net blocks are b a less inside in
-      subst (λ (h : ℕ). AreGatesOfLoop (loops_by blocks cut) a (block_at blocks h).gates) at.1
-      (blocks_have_loops net blocks cut are a at.0 (subst (λ (h : ℕ). (block_at blocks h).looped ≡ true) (sym at.1) looped))
-
+module _ (l : LoopAt) (is_loop : IsLoopAt l) where
   -- cut wires that are known stand at the fixpoint
-  fixed-where-known : (care : CareSet) (k : ℕ) → AreKnownAfter net (loops_by blocks cut) care (block_at blocks b).gates k → (a : ℕ) → Contains (block_at blocks b).gates a →
-      (v : List Bool) → IsCareVector net care v → CutsAreFixed net (loops_by blocks cut) (bits v) a k
+  fixed-where-known : (care : CareSet) (k : ℕ) → AreKnownAfter l.net (loops_in l) care (gates_in l) k → (a : ℕ) → Contains (gates_in l) a →
+      (v : List Bool) → IsCareVector l.net care v → CutsAreFixed l.net (loops_in l) (bits v) a k
   fixed-where-known care k known a inside v counts =
-      map_agree (value_in (sweeps net (loops_by blocks cut) (bits v) k)) (value_in (fix_gates net (bits v))) (cuts_of net (loops_by blocks cut) a)
+      map_agree (value_in (sweeps l.net (loops_in l) (bits v) k)) (value_in (fix_gates l.net (bits v))) (cuts_of l.net (loops_in l) a)
       (λ j d low.
-      let n : ℕ = get_or (cuts_of net (loops_by blocks cut) a) j d in
-      let kept = Contains-filter_from (λ g. (loops_by blocks cut).same a g && (loops_by blocks cut).cut g) (range_with_len 0 (length net.gates)) n (Contains-get_or (cuts_of net (loops_by blocks cut) a) j d low) in
-      let both = and_parts ((loops_by blocks cut).same a n) ((loops_by blocks cut).cut n) kept.0 in
-      sym (known-below (value_in (sweeps net (loops_by blocks cut) (bits v) k) n) (value_in (fix_gates net (bits v)) n)
-      (EachBelow-at (sweeps net (loops_by blocks cut) (bits v) k) (fix_gates net (bits v)) n (sweeps_stay_below_fix net (loops_by blocks cut) (bits v) (length-map v bit ∙ counts.width) k))
-      (known v counts n ((of-loop a inside).0 n both.0) both.1)))
+      let n : ℕ = get_or (cuts_of l.net (loops_in l) a) j d in
+      let kept = Contains-filter_from (λ g. (loops_in l).same a g && (loops_in l).cut g) (range_with_len 0 (length l.net.gates)) n (Contains-get_or (cuts_of l.net (loops_in l) a) j d low) in
+      let both = and_parts ((loops_in l).same a n) ((loops_in l).cut n) kept.0 in
+      sym (known-below (value_in (sweeps l.net (loops_in l) (bits v) k) n) (value_in (fix_gates l.net (bits v)) n)
+      (EachBelow-at (sweeps l.net (loops_in l) (bits v) k) (fix_gates l.net (bits v)) n (sweeps_stay_below_fix l.net (loops_in l) (bits v) (length-map v bit ∙ counts.width) k))
+      (known v counts n ((of-loop l is_loop a inside).0 n both.0) both.1)))
 
   -- where one is unknown, they don't
-  open-unfixed : (care : CareSet) → AreKnownOnCare net care → (k : ℕ) (v : List Bool) → IsOpenAt net (loops_by blocks cut) care (block_at blocks b).gates k v → (a : ℕ) → Contains (block_at blocks b).gates a →
-      ¬ CutsAreFixed net (loops_by blocks cut) (bits v) a k
+  open-unfixed : (care : CareSet) → AreKnownOnCare l.net care → (k : ℕ) (v : List Bool) → IsOpenAt l.net (loops_in l) care (gates_in l) k v → (a : ℕ) → Contains (gates_in l) a →
+      ¬ CutsAreFixed l.net (loops_in l) (bits v) a k
   open-unfixed care known k v found a inside fixed =
-      known v found.counts found.wire (gate_home net blocks are b found.wire less found.inside).0
-      (sym (cut_values_agree net (loops_by blocks cut) are-loops a (sweeps net (loops_by blocks cut) (bits v) k) (fix_gates net (bits v)) fixed found.wire ((of-loop a inside).1 found.wire found.inside) found.is_cut)
+      known v found.counts found.wire (gate-fits l is_loop found.wire found.inside)
+      (sym (cut_values_agree l.net (loops_in l) (are-loops l is_loop) a (sweeps l.net (loops_in l) (bits v) k) (fix_gates l.net (bits v)) fixed found.wire ((of-loop l is_loop a inside).1 found.wire found.inside) found.is_cut)
       ∙ found.unknown)
 
   -- before the first sweep each cut wire is unknown
-  open-first : (care : CareSet) (some : SomeCareVector net care) → IsOpenAt net (loops_by blocks cut) care (block_at blocks b).gates 0 some.vector
+  open-first : (care : CareSet) (some : SomeCareVector l.net care) → IsOpenAt l.net (loops_in l) care (gates_in l) 0 some.vector
   open-first care some =
-      let a : ℕ = get_or (block_at blocks b).gates 0 0 in
-      let inside : Contains (block_at blocks b).gates a = Contains-get_or (block_at blocks b).gates 0 0 (are.filled b less) in
-      let at = gate_home net blocks are b a less inside in
-      let has = has-cut net (loops_by blocks cut) are-loops a ((are.looped a at.0).0 (subst (λ (h : ℕ). (block_at blocks h).looped ≡ true) (sym at.1) looped)) in
-      let wire_inside : Contains (block_at blocks b).gates has.wire = (of-loop a inside).0 has.wire has.same in
+      let a : ℕ = get_or (gates_in l) 0 0 in
+      let inside : Contains (gates_in l) a = Contains-get_or (gates_in l) 0 0 (is_loop.blocks.filled l.number is_loop.number) in
+      let at = gate_home l.net l.blocks is_loop.blocks l.number a is_loop.number inside in
+      let has = has-cut l.net (loops_in l) (are-loops l is_loop) a ((is_loop.blocks.looped a at.0).0 (subst (λ (h : ℕ). (block_at l.blocks h).looped ≡ true) (sym at.1) is_loop.looped)) in
+      let wire_inside : Contains (gates_in l) has.wire = (of-loop l is_loop a inside).0 has.wire has.same in
       record {
         counts = some.counts;
         wire = has.wire;
         inside = wire_inside;
         is_cut = has.cut;
-        unknown = get_or-replicate (length net.gates) has.wire X X (gate_home net blocks are b has.wire less wire_inside).0;
+        unknown = get_or-replicate (length l.net.gates) has.wire X X (gate-fits l is_loop has.wire wire_inside);
       }
 
   -- so one sweep is needed
-  one-needed : (care : CareSet) → SomeCareVector net care → AreKnownOnCare net care → NeedAtLeast net (loops_by blocks cut) care (block_at blocks b).gates 1
+  one-needed : (care : CareSet) → SomeCareVector l.net care → AreKnownOnCare l.net care → NeedAtLeast l.net (loops_in l) care (gates_in l) 1
   one-needed care some known a j inside low =
       let none : 0 ≡ j = omega (arith, low) in
       record {
         vector = some.vector;
         counts = some.counts;
-        open_cuts = subst (λ (k : ℕ). ¬ CutsAreFixed net (loops_by blocks cut) (bits some.vector) a k) none (open-unfixed care known 0 some.vector (open-first care some) a inside);
+        open_cuts = subst (λ (k : ℕ). ¬ CutsAreFixed l.net (loops_in l) (bits some.vector) a k) none (open-unfixed care known 0 some.vector (open-first care some) a inside);
       }
 
-  open-too-few : (care : CareSet) → AreKnownOnCare net care → (k : ℕ) (v : List Bool) → IsOpenAt net (loops_by blocks cut) care (block_at blocks b).gates k v →
-      AreTooFewAt net (loops_by blocks cut) care (block_at blocks b).gates k v
+  open-too-few : (care : CareSet) → AreKnownOnCare l.net care → (k : ℕ) (v : List Bool) → IsOpenAt l.net (loops_in l) care (gates_in l) k v →
+      AreTooFewAt l.net (loops_in l) care (gates_in l) k v
   open-too-few care known k v found = record { counts = found.counts; open_cuts = λ a inside. open-unfixed care known k v found a inside }
 
-  pub open-tells : (care : CareSet) → AreKnownOnCare net care → (rails : List Rails) (k : ℕ) (reply : Reply) → TellsOpen net (loops_by blocks cut) care (block_at blocks b).gates rails k reply →
-      TellsTooFew net (loops_by blocks cut) care (block_at blocks b).gates rails k reply
-  open-tells care known rails k (replies.Model m) h = open-too-few care known k (vector_in net rails m.items) h
+  pub open-tells : (care : CareSet) → AreKnownOnCare l.net care → (rails : List Rails) (k : ℕ) (reply : Reply) → TellsOpen l.net (loops_in l) care (gates_in l) rails k reply →
+      TellsTooFew l.net (loops_in l) care (gates_in l) rails k reply
+  open-tells care known rails k (replies.Model m) h = open-too-few care known k (vector_in l.net rails m.items) h
   open-tells care known rails k replies.NoModel h = λ a inside v counts. fixed-where-known care k h a inside v counts
   open-tells care known rails k replies.Unknown h = tt
 
   -- a vector at which k sweeps are too few needs more, and care at least as many as it
-  pub more-needed : (care : CareSet) (k : ℕ) (v : List Bool) → AreTooFewAt net (loops_by blocks cut) care (block_at blocks b).gates k v → (m : ℕ) →
-      IsCountAt net (loops_by blocks cut) v (block_at blocks b).gates m → (k < m) × NeedAtLeast net (loops_by blocks cut) care (block_at blocks b).gates m
+  pub more-needed : (care : CareSet) (k : ℕ) (v : List Bool) → AreTooFewAt l.net (loops_in l) care (gates_in l) k v → (m : ℕ) →
+      IsCountAt l.net (loops_in l) v (gates_in l) m → (k < m) × NeedAtLeast l.net (loops_in l) care (gates_in l) m
   more-needed care k v few m count = (
     elim (cases_lt k m) [
       | inl low ↦ low
       | inr high ↦
-          (let a : ℕ = get_or (block_at blocks b).gates 0 0 in
-          let inside : Contains (block_at blocks b).gates a = Contains-get_or (block_at blocks b).gates 0 0 (are.filled b less) in
+          (let a : ℕ = get_or (gates_in l) 0 0 in
+          let inside : Contains (gates_in l) a = Contains-get_or (gates_in l) 0 0 (is_loop.blocks.filled l.number is_loop.number) in
           absurd (few.open_cuts a inside
-          (fixed-later net (loops_by blocks cut) are-loops (bits v) (length-map v bit ∙ few.counts.width) a m (k - m) k (omega (arith, high)) (count.enough a inside))))
+          (fixed-later l.net (loops_in l) (are-loops l is_loop) (bits v) (length-map v bit ∙ few.counts.width) a m (k - m) k (omega (arith, high)) (count.enough a inside))))
     ],
     λ a j inside low. record { vector = v; counts = few.counts; open_cuts = count.least a j inside low },
   )
 
   -- what a sign gives before the first question: at a care vector, and without one
-  pub vector-needed : (care : CareSet) (sign : Sign) → Serves sign net care (block_at blocks b).gates → (v : List Bool) → IsCareVector net care v → (m : ℕ) →
-      IsCountAt net (loops_by blocks cut) v (block_at blocks b).gates m → (first_number sign ≤ m) × NeedAtLeast net (loops_by blocks cut) care (block_at blocks b).gates m
+  pub vector-needed : (care : CareSet) (sign : Sign) → Serves sign l.net care (gates_in l) → (v : List Bool) → IsCareVector l.net care v → (m : ℕ) →
+      IsCountAt l.net (loops_in l) v (gates_in l) m → (first_number sign ≤ m) × NeedAtLeast l.net (loops_in l) care (gates_in l) m
   vector-needed care signs.Open serves v counts m count =
       let more = more-needed care 0 v (open-too-few care serves.1 0 v (open-first care (record { vector = v; counts = counts }))) m count in
       (let low = more.0 in omega (arith, low), more.1)
   vector-needed care signs.Changing serves v counts m count = (omega arith, λ a j inside low. record { vector = v; counts = counts; open_cuts = count.least a j inside low })
 
-  pub first-needed : (care : CareSet) (sign : Sign) → Serves sign net care (block_at blocks b).gates → NeedAtLeast net (loops_by blocks cut) care (block_at blocks b).gates (first_number sign)
+  pub first-needed : (care : CareSet) (sign : Sign) → Serves sign l.net care (gates_in l) → NeedAtLeast l.net (loops_in l) care (gates_in l) (first_number sign)
   first-needed care signs.Open serves = one-needed care serves.0 serves.1
   first-needed care signs.Changing serves = λ a j inside low. absurd (omega (arith, low))
 
-  -- where they are enough, and no fewer are, these are needed
-  pub these-needed : (care : CareSet) (k : ℕ) → AreEnough net (loops_by blocks cut) care (block_at blocks b).gates k → NeedAtLeast net (loops_by blocks cut) care (block_at blocks b).gates k →
-      (a : ℕ) → Contains (block_at blocks b).gates a → IsLeastCount net (loops_by blocks cut) care a k
-  these-needed care k enough more a inside = record { enough = enough a inside; least = λ j low. more a j inside low }
-
-  -- which gates are in it
-  pub same-home : (a : ℕ) → Contains (block_at blocks b).gates a → (n : ℕ) → n < length net.gates → (loops_by blocks cut).same a n ≡ (home_of blocks n == b)
-  same-home a inside n low =
-      same_truth ((loops_by blocks cut).same a n) (home_of blocks n == b)
-      (λ s. eq-eqb (home_of blocks n) b (gate_home net blocks are b n less ((of-loop a inside).0 n s)).1)
-      (λ e. (of-loop a inside).1 n
-      (subst (λ (ns : List ℕ). Contains ns n) (sym (are.gates b less))
-      (Contains-filter (λ g. home_of blocks g == b) (range_with_len 0 (length blocks.home)) n e (Contains-range (length blocks.home) n (let h = are.homes in omega (arith, low, h))))))
-
-  -- the cut wires of the loop
-  pub cuts-number : (a : ℕ) → Contains (block_at blocks b).gates a → length (cuts_of net (loops_by blocks cut) a) ≡ length (filter (is_cut cut.wires) (block_at blocks b).gates)
-  cuts-number a inside =
-      ap length
-      (kept-both ((loops_by blocks cut).same a) (is_cut cut.wires) (range_with_len 0 (length net.gates))
-      ∙ ap (filter (is_cut cut.wires))
-      (kept-agree ((loops_by blocks cut).same a) (λ n. home_of blocks n == b) (range_with_len 0 (length net.gates))
-      (λ j d low. same-home a inside (get_or (range_with_len 0 (length net.gates)) j d) (Contains-range_from (length net.gates) (get_or (range_with_len 0 (length net.gates)) j d) (Contains-get_or (range_with_len 0 (length net.gates)) j d low)))
-      ∙ ap (λ (n : ℕ). filter (λ g. home_of blocks g == b) (range_with_len 0 n)) (sym are.homes)
-      ∙ sym (are.gates b less)))
-
-  pub places-number : (places : List ℕ) → AreCutPlaces (is_cut cut.wires) (block_at blocks b).gates places → length places ≡ length (filter (is_cut cut.wires) (block_at blocks b).gates)
-  places-number places wires = wires.number ∙ ap (λ (gs : List ℕ). length (filter (is_cut cut.wires) gs)) (take_all (length (block_at blocks b).gates) (block_at blocks b).gates (omega arith))
-
-  -- as many sweeps as cut wires are enough
-  pub few-needed : (care : CareSet) (places : List ℕ) → AreCutPlaces (is_cut cut.wires) (block_at blocks b).gates places → (k : ℕ) → k ≡ length places →
-      NeedAtLeast net (loops_by blocks cut) care (block_at blocks b).gates k → (a : ℕ) → Contains (block_at blocks b).gates a → IsLeastCount net (loops_by blocks cut) care a k
-  few-needed care places wires k is more a inside = record {
-    enough = λ v counts.
-        subst (λ (n : ℕ). CutsAreFixed net (loops_by blocks cut) (bits v) a n) (cuts-number a inside ∙ sym (places-number places wires) ∙ sym is)
-        (few_sweeps_are_enough net (loops_by blocks cut) are-loops a (bits v) (length-map v bit ∙ counts.width));
+  pub few-needed : (care : CareSet) (k : ℕ) → k ≡ length l.cuts → NeedAtLeast l.net (loops_in l) care (gates_in l) k → (a : ℕ) → Contains (gates_in l) a → IsLeastCount l.net (loops_in l) care a k
+  few-needed care k is more a inside = record {
+    enough = λ v counts. subst (λ (n : ℕ). CutsAreFixed l.net (loops_in l) (bits v) a n) (sym is) (cuts-enough l is_loop v counts.width a inside);
     least = λ j low. more a j inside low;
   }
-
-  pub places-fit : (places : List ℕ) → IsNetlist net → AreCutPlaces (is_cut cut.wires) (block_at blocks b).gates places → length places ≤ 4294967295
-  places-fit places proper wires =
-      let first = places-number places wires in
-      let second = kept-fewer (is_cut cut.wires) (block_at blocks b).gates in
-      let third = ap length (are.gates b less) in
-      let fourth = kept-fewer (λ n. home_of blocks n == b) (range_with_len 0 (length blocks.home)) in
-      let fifth = length-range_with_len 0 (length blocks.home) in
-      let sixth = are.homes in
-      let seventh = proper.fits in
-      omega (arith, first, second, third, fourth, fifth, sixth, seventh)

@@ -4,6 +4,7 @@ pub mod Cones
 pub mod Countings
 pub mod Formulas
 pub mod Loads
+pub mod LoopsAt
 pub mod NextStates
 pub mod Pairs
 pub mod Questions

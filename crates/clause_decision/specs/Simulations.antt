@@ -5,18 +5,17 @@ use Rattle.cyc_base.specs.declared.trit.Trit.{Trit}
 use Rattle.cyc_base.specs.Values.{bits}
 use Rattle.netlist.specs.declared.parts.Parts.{Parts}
 use Rattle.netlist.specs.Fixpoint.{wire}
-use Rattle.loops.specs.declared.structure.Blocks.{Blocks}
-use Rattle.loops.specs.declared.structure.Cut.{Cut}
 use Rattle.loops.specs.Blocks.{home_of}
 use Rattle.loops.specs.Cuts.{Loops, is_cut}
 use Rattle.loops.specs.Sweeps.{CutsAreFixed, first_gate, gate_of, value_in}
+use Rattle.clause_decision.specs.LoopsAt.{LoopAt}
 
--- What a gate of the block at place b sees of a signal: a cut wire of the block as it was before the sweep, another gate of
--- it as it is, and all else as it is outside.
-abbrev pub seen_of : Parts → Blocks → Cut → ℕ → (outside before after : List Trit) → Sig → Trit
-seen_of net blocks cut b outside before after pin =
-    if nat_le (first_gate net) pin.0 && home_of blocks (gate_of net pin) == b
-    then (if is_cut cut.wires (gate_of net pin) then value_in before (gate_of net pin) else value_in after (gate_of net pin))
+-- What a gate of the loop sees of a signal: a cut wire of the loop as it was before the sweep, another gate of it as it is,
+-- and all else as it is outside.
+abbrev pub seen_of : LoopAt → (outside before after : List Trit) → Sig → Trit
+seen_of l outside before after pin =
+    if nat_le (first_gate l.net) pin.0 && home_of l.blocks (gate_of l.net pin) == l.number
+    then (if is_cut l.cut.wires (gate_of l.net pin) then value_in before (gate_of l.net pin) else value_in after (gate_of l.net pin))
     else wire outside pin
 
 -- a cut wire among these gates that differs in two states

@@ -53,17 +53,6 @@ pub record IsSweptOn (net : Parts) (care : CareSet) (marks : List Bool) (loops :
   pub reads_before : (m : List Bool) (v : List Trit) → IsModel m s.cone.formula → ReadsOutside net loops gates s.cone.rails.items m v →
       ReadsPlaces gates before m (sweeps net loops v k)
 
--- the places of the cut wires among the first k of these gates
-pub record AreCutPlacesBelow (cut : ℕ → Bool) (gates : List ℕ) (k : ℕ) (places : List ℕ) : Type 0 where
-  pub within : All (λ i. i < k) places
-  pub are : All (λ i. cut (slice_index gates i) ≡ true) places
-  pub each : (i : ℕ) → i < k → cut (slice_index gates i) ≡ true → Contains places i
-  pub number : length places ≡ length (filter cut (take k gates))
-
--- and among all of them
-abbrev pub AreCutPlaces : (ℕ → Bool) → List ℕ → List ℕ → Type 0
-AreCutPlaces cut gates places = AreCutPlacesBelow cut gates (length gates) places
-
 -- the literals that say that the copies at these places are unknown
 abbrev pub open_literals : List Rails → List ℕ → List ℕ
 open_literals copies places = map (λ i. negation (rails_at copies i).known) places

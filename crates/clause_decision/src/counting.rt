@@ -1,26 +1,29 @@
 //! How many sweeps a loop needs on care. A care vector is a witness: it needs as many as ternary simulation tells, first
 //! that of zeros. After so many sweeps, clauses tell whether another vector needs more, which is the next witness.
 
-ghost use Rattle.std.specs.Prelude.{◌≡◌, ◌<◌, ◌≤◌, ◌+◌, ℕ, List, true, length, filter, Contains, IfOk, IfSome};
-ghost use Rattle.netlist.specs.Netlists.{count, IsNetlist};
+ghost use Rattle.std.specs.Prelude.{◌≡◌, ◌<◌, ◌≤◌, ◌+◌, ℕ, List, true, length, Contains, IfOk, IfSome};
+ghost use Rattle.netlist.specs.Netlists.{count};
 ghost use Rattle.loops.specs.Blocks.{AreBlocksOf, block_at};
-ghost use Rattle.loops.specs.Cuts.{IsCutOf, is_cut, loops_by};
+ghost use Rattle.loops.specs.Cuts.{IsCutOf, loops_by};
 ghost use Rattle.care_sets.specs.Binding.{IsCareOf};
 ghost use Rattle.care_sets.specs.Care.{columns, is_care_vector as is_care_vector_of, CareSet};
 ghost use Rattle.refusals.specs.Acceptance.{SomeCareVector};
 ghost use Rattle.clause_decision.specs.declared.scope.Scope.{Scope as TheScope};
 ghost use Rattle.clause_decision.specs.Changes.{AreFedKnown};
 ghost use Rattle.clause_decision.specs.Countings.{first_number, IsAskedAfter, IsCountedTo, NeedAtLeast, Serves, TellsNeeded, TellsTooFew};
+ghost use Rattle.clause_decision.specs.LoopsAt.{gates_in, loops_in};
 ghost use Rattle.clause_decision.specs.Scopes.{AreInScope, AreKnownOnCare, IsScopeOf};
 ghost use Rattle.clause_decision.specs.Sweeping.{IsLeastCount};
-ghost use Rattle.clause_decision.specs.Sweepings.{AreCopies, AreCutPlaces, IsSweepable, IsSwept, IsSweptOn};
+ghost use Rattle.clause_decision.specs.Sweepings.{AreCopies, IsSweepable, IsSwept, IsSweptOn};
 
 use crate::changing::ask_changes;
+use crate::looped_block::LoopedBlock;
 use crate::scope::Scope;
-use crate::simulating::sweeps_up_to;
-use crate::sweeping::{Swept, ask_open, cut_places, sweep_on, unswept};
+use crate::simulating::count_at;
+use crate::sweeping::{Swept, ask_open, sweep_on, unswept};
 use care_sets::Care;
 use clause_queries::Reply;
+use looped::LoopedNetlist;
 use loops::{Blocks, Cut};
 use netlist::Netlist;
 use std::alloc::{AllocError, Global};
@@ -33,6 +36,13 @@ pub(crate) enum Sign {
     Open,
     /// A cut wire that is unknown after them, and known after one more. No gate that feeds the loop is unknown on care.
     Changing,
+}
+
+/// What is asked for after each sweep, and after how many conflicts a search gives up.
+#[derive(Clone, Copy)]
+pub(crate) struct Search {
+    pub sign: Sign,
+    pub conflicts: u64,
 }
 
 /// What is known, after some sweeps, of how many a loop needs on care.
@@ -60,32 +70,23 @@ fn first_of(sign: Sign) -> u32
 fn ask_after(
     alloc: Global,
     swept: &mut Swept,
-    net: &Netlist,
-    blocks: &Blocks,
-    cut: &Cut,
-    block: u32,
+    block: &LoopedBlock<'_>,
     before: &[Rails],
-    places: &[usize],
-    sign: Sign,
-    conflicts: u64,
+    search: Search,
 ) -> Result<Reply, ClausesFault>
-    requires swept { IsSweepable net.now (block_at blocks.now block).gates swept.old }
-    requires before { AreCopies (block_at blocks.now block).gates swept.old before.now }
-    requires blocks { AreBlocksOf net.now blocks.now }
-    requires cut { IsCutOf net.now cut.now }
-    requires block { block < length blocks.now.list }
-    requires looped { (block_at blocks.now block).looped ≡ true }
-    requires places { AreCutPlaces (is_cut cut.now.wires) (block_at blocks.now block).gates places.now }
-    requires some { 0 < length places.now }
+    requires swept { IsSweepable block.now.net (gates_in block.now) swept.old }
+    requires before { AreCopies (gates_in block.now) swept.old before.now }
+    requires some { 0 < length block.now.cuts }
     ensures rails { swept.new.cone.rails ≡ swept.old.cone.rails }
-    ensures asked { (care : CareSet) (scope : TheScope) (k : ℕ) → IsNetlist net.now → IsScopeOf net.now scope → AreInScope net.now scope (block_at blocks.now block).gates →
-        Serves sign net.now care (block_at blocks.now block).gates →
-        IsSweptOn net.now care scope.gates (loops_by blocks.now cut.now) (block_at blocks.now block).gates before.now swept.old k →
-        IfOk result (IsAskedAfter net.now care scope.gates (loops_by blocks.now cut.now) (block_at blocks.now block).gates swept.new (k + 1) (k + first_number sign)) }
+    ensures asked { (care : CareSet) (scope : TheScope) (k : ℕ) → IsScopeOf block.now.net scope → AreInScope block.now.net scope (gates_in block.now) →
+        Serves search.sign block.now.net care (gates_in block.now) →
+        IsSweptOn block.now.net care scope.gates (loops_in block.now) (gates_in block.now) before.now swept.old k →
+        IfOk result (IsAskedAfter block.now.net care scope.gates (loops_in block.now) (gates_in block.now) swept.new (k + 1) (k + first_number search.sign)) }
 {
-    match sign {
-        Sign::Open => ask_open(alloc, swept, places, conflicts),
-        Sign::Changing => Ok(ask_changes(alloc, swept, before, places, conflicts)?),
+    let places = block.cuts();
+    match search.sign {
+        Sign::Open => ask_open(alloc, swept, places, search.conflicts),
+        Sign::Changing => Ok(ask_changes(alloc, swept, before, places, search.conflicts)?),
     }
 }
 
@@ -94,28 +95,18 @@ fn ask_after(
 fn needed_by(
     alloc: Global,
     swept: &Swept,
-    net: &Netlist,
-    blocks: &Blocks,
-    cut: &Cut,
-    block: u32,
-    most: u32,
+    block: &LoopedBlock<'_>,
     reply: Reply,
 ) -> Result<Needed, AllocError>
-    requires rails { length swept.now.cone.rails.items ≡ count net.now }
-    requires blocks { AreBlocksOf net.now blocks.now }
-    requires cut { IsCutOf net.now cut.now }
-    requires block { block < length blocks.now.list }
-    requires looped { (block_at blocks.now block).looped ≡ true }
-    requires most { most ≡ length (filter (is_cut cut.now.wires) (block_at blocks.now block).gates) }
-    ensures { (care : CareSet) (k : ℕ) → TellsTooFew net.now (loops_by blocks.now cut.now) care (block_at blocks.now block).gates swept.now.cone.rails.items k reply →
-        NeedAtLeast net.now (loops_by blocks.now cut.now) care (block_at blocks.now block).gates k →
-        IfOk result (TellsNeeded net.now (loops_by blocks.now cut.now) care (block_at blocks.now block).gates k) }
+    requires { length swept.now.cone.rails.items ≡ count block.now.net }
+    ensures { (care : CareSet) (k : ℕ) → TellsTooFew block.now.net (loops_in block.now) care (gates_in block.now) swept.now.cone.rails.items k reply →
+        NeedAtLeast block.now.net (loops_in block.now) care (gates_in block.now) k →
+        IfOk result (TellsNeeded block.now.net (loops_in block.now) care (gates_in block.now) k) }
 {
     match reply {
         Reply::Model(model) => {
-            let vector = swept.cone.vector_in(alloc, net, &model)?;
-            let number = sweeps_up_to(alloc, net, blocks, cut, block, most, &vector)?;
-            Ok(Needed::AtLeast(number))
+            let vector = swept.cone.vector_in(alloc, block.net(), &model)?;
+            Ok(Needed::AtLeast(count_at(alloc, block, &vector)?))
         }
         Reply::NoModel => Ok(Needed::These),
         Reply::Unknown => Ok(Needed::Unknown),
@@ -127,40 +118,26 @@ fn needed_by(
 fn next_needed(
     alloc: Global,
     swept: &mut Swept,
-    net: &Netlist,
-    blocks: &Blocks,
-    cut: &Cut,
-    block: u32,
-    places: &[usize],
-    sign: Sign,
+    block: &LoopedBlock<'_>,
+    search: Search,
     sweeps: u32,
     needed: u32,
-    conflicts: u64,
 ) -> Result<Needed, ClausesFault>
-    requires swept { IsSweepable net.now (block_at blocks.now block).gates swept.old }
-    requires blocks { AreBlocksOf net.now blocks.now }
-    requires cut { IsCutOf net.now cut.now }
-    requires block { block < length blocks.now.list }
-    requires looped { (block_at blocks.now block).looped ≡ true }
-    requires places { AreCutPlaces (is_cut cut.now.wires) (block_at blocks.now block).gates places.now }
-    requires some { 0 < length places.now }
+    requires swept { IsSweepable block.now.net (gates_in block.now) swept.old }
+    requires some { 0 < length block.now.cuts }
     requires needed { sweeps ≤ needed }
-    ensures { (care : CareSet) (scope : TheScope) (k : ℕ) → IsNetlist net.now → IsScopeOf net.now scope → AreInScope net.now scope (block_at blocks.now block).gates →
-        Serves sign net.now care (block_at blocks.now block).gates →
-        IsSwept net.now care scope.gates (loops_by blocks.now cut.now) (block_at blocks.now block).gates swept.old k → k + first_number sign ≡ sweeps →
-        NeedAtLeast net.now (loops_by blocks.now cut.now) care (block_at blocks.now block).gates needed →
-        IfOk result (IsCountedTo net.now care scope.gates (loops_by blocks.now cut.now) (block_at blocks.now block).gates swept.new (k + 1) sweeps) }
+    ensures { (care : CareSet) (scope : TheScope) (k : ℕ) → IsScopeOf block.now.net scope → AreInScope block.now.net scope (gates_in block.now) →
+        Serves search.sign block.now.net care (gates_in block.now) →
+        IsSwept block.now.net care scope.gates (loops_in block.now) (gates_in block.now) swept.old k → k + first_number search.sign ≡ sweeps →
+        NeedAtLeast block.now.net (loops_in block.now) care (gates_in block.now) needed →
+        IfOk result (IsCountedTo block.now.net care scope.gates (loops_in block.now) (gates_in block.now) swept.new (k + 1) sweeps) }
 {
-    let _ = net.gates();
-    let before = sweep_on(alloc, swept, net, blocks, cut, block)?;
+    let before = sweep_on(alloc, swept, block)?;
     if sweeps < needed {
         return Ok(Needed::AtLeast(needed));
     }
-    let reply = ask_after(
-        alloc, swept, net, blocks, cut, block, &before, places, sign, conflicts,
-    )?;
-    let most = places.len() as u32;
-    Ok(needed_by(alloc, swept, net, blocks, cut, block, most, reply)?)
+    let reply = ask_after(alloc, swept, block, &before, search)?;
+    Ok(needed_by(alloc, swept, block, reply)?)
 }
 
 /// Whether a vector is one of care.
@@ -185,67 +162,45 @@ fn is_care_vector(
 /// How many sweeps are needed at least: those at the vector of zeros, if it is one of care.
 fn first_needed(
     alloc: Global,
-    net: &Netlist,
-    blocks: &Blocks,
-    cut: &Cut,
+    block: &LoopedBlock<'_>,
     care: &Care,
-    block: u32,
-    most: u32,
     sign: Sign,
 ) -> Result<u32, AllocError>
-    requires blocks { AreBlocksOf net.now blocks.now }
-    requires cut { IsCutOf net.now cut.now }
-    requires care { IsCareOf net.now care.now }
-    requires block { block < length blocks.now.list }
-    requires looped { (block_at blocks.now block).looped ≡ true }
-    requires most { most ≡ length (filter (is_cut cut.now.wires) (block_at blocks.now block).gates) }
-    requires serves { Serves sign net.now care.now (block_at blocks.now block).gates }
-    ensures { IfOk result (λ number. (first_number sign ≤ number) × NeedAtLeast net.now (loops_by blocks.now cut.now) care.now (block_at blocks.now block).gates number) }
+    requires care { IsCareOf block.now.net care.now }
+    requires serves { Serves sign block.now.net care.now (gates_in block.now) }
+    ensures { IfOk result (λ number. (first_number sign ≤ number) × NeedAtLeast block.now.net (loops_in block.now) care.now (gates_in block.now) number) }
 {
+    let net = block.net();
     let zeros = vec![in alloc; false; (net.inputs() + net.latches()) as usize]?;
     if !is_care_vector(alloc, net, care, &zeros)? {
         return Ok(first_of(sign));
     }
-    sweeps_up_to(alloc, net, blocks, cut, block, most, &zeros)
+    count_at(alloc, block, &zeros)
 }
 
-/// How many sweeps a loop needs on care, of which these are the places of the cut wires. As many as cut wires are enough.
+/// How many sweeps a loop needs on care. As many as it has cut wires are enough.
 fn count_sweeps(
     alloc: Global,
-    net: &Netlist,
-    blocks: &Blocks,
-    cut: &Cut,
+    block: &LoopedBlock<'_>,
     care: &Care,
     scope: &Scope,
-    block: u32,
-    places: &[usize],
-    sign: Sign,
-    conflicts: u64,
+    search: Search,
 ) -> Result<Option<u32>, ClausesFault>
-    requires blocks { AreBlocksOf net.now blocks.now }
-    requires cut { IsCutOf net.now cut.now }
-    requires care { IsCareOf net.now care.now }
-    requires scope { IsScopeOf net.now scope.now }
-    requires block { block < length blocks.now.list }
-    requires looped { (block_at blocks.now block).looped ≡ true }
-    requires within { AreInScope net.now scope.now (block_at blocks.now block).gates }
-    requires serves { Serves sign net.now care.now (block_at blocks.now block).gates }
-    requires places { AreCutPlaces (is_cut cut.now.wires) (block_at blocks.now block).gates places.now }
-    ensures { IfOk result (λ found. IfSome found (λ sweeps. (gate : ℕ) → Contains (block_at blocks.now block).gates gate →
-        IsLeastCount net.now (loops_by blocks.now cut.now) care.now gate sweeps)) }
+    requires care { IsCareOf block.now.net care.now }
+    requires scope { IsScopeOf block.now.net scope.now }
+    requires within { AreInScope block.now.net scope.now (gates_in block.now) }
+    requires serves { Serves search.sign block.now.net care.now (gates_in block.now) }
+    ensures { IfOk result (λ found. IfSome found (λ sweeps. (gate : ℕ) → Contains (gates_in block.now) gate →
+        IsLeastCount block.now.net (loops_in block.now) care.now gate sweeps)) }
 {
-    let _ = net.gates();
-    let most = places.len() as u32;
-    let mut needed = first_needed(alloc, net, blocks, cut, care, block, most, sign)?;
+    let most = block.cut_count();
+    let mut needed = first_needed(alloc, block, care, search.sign)?;
     if needed >= most {
         return Ok(Some(most));
     }
-    let gates = blocks.list.items()[block as usize].gates.items();
-    let mut swept = unswept(alloc, net, care, scope, gates)?;
-    for sweeps in first_of(sign)..most {
-        match next_needed(
-            alloc, &mut swept, net, blocks, cut, block, places, sign, sweeps, needed, conflicts,
-        )? {
+    let mut swept = unswept(alloc, block.net(), care, scope, block.gates())?;
+    for sweeps in first_of(search.sign)..most {
+        match next_needed(alloc, &mut swept, block, search, sweeps, needed)? {
             Needed::These => return Ok(Some(sweeps)),
             Needed::AtLeast(number) => needed = number,
             Needed::Unknown => return Ok(None),
@@ -257,34 +212,31 @@ fn count_sweeps(
     Ok(Some(most))
 }
 
-/// How many sweeps the loop at this place of the blocks needs on care, or that its clauses are too many.
+/// How many sweeps the loop at this place of the blocks needs on care, or none where the solver gives up or its clauses
+/// are too many.
 fn sweeps_of_loop(
     alloc: Global,
-    net: &Netlist,
-    blocks: &Blocks,
-    cut: &Cut,
+    looped: &LoopedNetlist<'_>,
     care: &Care,
     scope: &Scope,
     block: u32,
-    sign: Sign,
-    conflicts: u64,
-) -> Result<Option<u32>, ClausesFault>
-    requires blocks { AreBlocksOf net.now blocks.now }
-    requires cut { IsCutOf net.now cut.now }
-    requires care { IsCareOf net.now care.now }
-    requires scope { IsScopeOf net.now scope.now }
-    requires block { block < length blocks.now.list }
-    requires looped { (block_at blocks.now block).looped ≡ true }
-    requires within { AreInScope net.now scope.now (block_at blocks.now block).gates }
-    requires serves { Serves sign net.now care.now (block_at blocks.now block).gates }
-    ensures { IfOk result (λ found. IfSome found (λ sweeps. (gate : ℕ) → Contains (block_at blocks.now block).gates gate →
-        IsLeastCount net.now (loops_by blocks.now cut.now) care.now gate sweeps)) }
+    search: Search,
+) -> Result<Option<u32>, AllocError>
+    requires care { IsCareOf looped.now.net care.now }
+    requires scope { IsScopeOf looped.now.net scope.now }
+    requires block { block < length looped.now.blocks.list }
+    requires looped { (block_at looped.now.blocks block).looped ≡ true }
+    requires within { AreInScope looped.now.net scope.now (block_at looped.now.blocks block).gates }
+    requires serves { Serves search.sign looped.now.net care.now (block_at looped.now.blocks block).gates }
+    ensures { IfOk result (λ found. IfSome found (λ sweeps. (gate : ℕ) → Contains (block_at looped.now.blocks block).gates gate →
+        IsLeastCount looped.now.net (loops_by looped.now.blocks looped.now.cut) care.now gate sweeps)) }
 {
-    let gates = blocks.list.items()[block as usize].gates.items();
-    let places = cut_places(alloc, gates, cut.wires.items())?;
-    count_sweeps(
-        alloc, net, blocks, cut, care, scope, block, &places, sign, conflicts,
-    )
+    let block = LoopedBlock::of(alloc, looped, block)?;
+    match count_sweeps(alloc, &block, care, scope, search) {
+        Ok(found) => Ok(found),
+        Err(ClausesFault::TooMany) => Ok(None),
+        Err(ClausesFault::Memory) => Err(AllocError),
+    }
 }
 
 /// How many sweeps the loop at this place of the blocks needs on care, or none where the solver gives up after so many
@@ -314,21 +266,12 @@ pub fn sweeps_needed(
     ensures { IfOk result (λ found. IfSome found (λ sweeps. (gate : ℕ) → Contains (block_at blocks.now block).gates gate →
         IsLeastCount net.now (loops_by blocks.now cut.now) care.now gate sweeps)) }
 {
-    match sweeps_of_loop(
-        alloc,
-        net,
-        blocks,
-        cut,
-        care,
-        scope,
-        block,
-        Sign::Open,
+    let looped = LoopedNetlist::new(net, blocks, cut);
+    let search = Search {
+        sign: Sign::Open,
         conflicts,
-    ) {
-        Ok(found) => Ok(found),
-        Err(ClausesFault::TooMany) => Ok(None),
-        Err(ClausesFault::Memory) => Err(AllocError),
-    }
+    };
+    sweeps_of_loop(alloc, &looped, care, scope, block, search)
 }
 
 /// How many sweeps the loop at this place of the blocks needs on care, or none where the solver gives up after so many
@@ -357,19 +300,10 @@ pub fn sweeps_fed_known(
     ensures { IfOk result (λ found. IfSome found (λ sweeps. (gate : ℕ) → Contains (block_at blocks.now block).gates gate →
         IsLeastCount net.now (loops_by blocks.now cut.now) care.now gate sweeps)) }
 {
-    match sweeps_of_loop(
-        alloc,
-        net,
-        blocks,
-        cut,
-        care,
-        scope,
-        block,
-        Sign::Changing,
+    let looped = LoopedNetlist::new(net, blocks, cut);
+    let search = Search {
+        sign: Sign::Changing,
         conflicts,
-    ) {
-        Ok(found) => Ok(found),
-        Err(ClausesFault::TooMany) => Ok(None),
-        Err(ClausesFault::Memory) => Err(AllocError),
-    }
+    };
+    sweeps_of_loop(alloc, &looped, care, scope, block, search)
 }

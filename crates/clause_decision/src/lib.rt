@@ -14,6 +14,7 @@ mod cones;
 mod counting;
 mod initial;
 mod leaving;
+mod looped_block;
 mod models;
 mod pairs;
 mod question;

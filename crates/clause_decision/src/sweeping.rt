@@ -1,25 +1,25 @@
 //! A loop after some sweeps, as clauses, and whether a cut wire is unknown after them on care.
 
-ghost use Rattle.std.specs.Prelude.{◌≡◌, ◌<◌, ◌*◌, ◌∷◌, [], ℕ, List, true, length, All, IfOk, OnOk};
+ghost use Rattle.std.specs.Prelude.{◌≡◌, ◌<◌, ◌*◌, ◌∷◌, [], ℕ, List, length, All, IfOk, OnOk};
 ghost use Rattle.netlist.specs.declared.parts.Parts.{Parts};
 ghost use Rattle.netlist.specs.Netlists.{IsNetlist};
-ghost use Rattle.loops.specs.Blocks.{AreBlocksOf, block_at};
-ghost use Rattle.loops.specs.Cuts.{IsCutOf, Loops, is_cut, loops_by};
+ghost use Rattle.loops.specs.Cuts.{Loops};
 ghost use Rattle.care_sets.specs.Binding.{IsCareOf};
 ghost use Rattle.care_sets.specs.Care.{CareSet};
 ghost use Rattle.ternary_clauses.specs.Formulas.{IsFormula};
 ghost use Rattle.ternary_clauses.specs.Rails.{AreWithin};
 ghost use Rattle.clause_queries.specs.Queries.{problem, IsReply};
 ghost use Rattle.clause_decision.specs.declared.scope.Scope.{Scope as TheScope};
+ghost use Rattle.clause_decision.specs.LoopsAt.{gates_in, loops_in, AreCutPlaces};
 ghost use Rattle.clause_decision.specs.Scopes.{AreInScope, AreKnownOnCare, IsScopeOf};
-ghost use Rattle.clause_decision.specs.Sweepings.{open_literals, AreCopies, AreCutPlaces, IsAsked, IsOnCare, IsSweepable, IsSwept, IsSweptOn, SaysOpen};
+ghost use Rattle.clause_decision.specs.Sweepings.{open_literals, AreCopies, IsAsked, IsOnCare, IsSweepable, IsSwept, IsSweptOn, SaysOpen};
 
 use crate::cones::{Cone, cone_of};
+use crate::looped_block::LoopedBlock;
 use crate::question::query_of;
 use crate::scope::Scope;
 use care_sets::Care;
 use clause_queries::Reply;
-use loops::{Blocks, Cut};
 use netlist::Netlist;
 use std::alloc::{AllocError, Global};
 use std::mem;
@@ -36,24 +36,6 @@ impl Drop for Swept {
     fn drop(self) {
         let Swept { cone: _, copies: _ } = self;
     }
-}
-
-/// The places of the cut wires among these gates.
-pub(crate) fn cut_places(
-    alloc: Global,
-    gates: &[u32],
-    wires: &[bool],
-) -> Result<Vec<usize>, AllocError>
-    requires { All (λ n. n < length wires.now) gates.now }
-    ensures { IfOk result (λ places. AreCutPlaces (is_cut wires.now) gates.now places.items) }
-{
-    let mut places = Vec::new(alloc);
-    for place in 0..gates.len() {
-        if wires[gates[place] as usize] {
-            places.push(place)?;
-        }
-    }
-    Ok(places)
 }
 
 /// The literal that says that a copy is unknown.
@@ -114,29 +96,22 @@ pub(crate) fn unswept(
 pub(crate) fn sweep_on(
     alloc: Global,
     swept: &mut Swept,
-    net: &Netlist,
-    blocks: &Blocks,
-    cut: &Cut,
-    block: u32,
+    block: &LoopedBlock<'_>,
 ) -> Result<Vec<Rails>, ClausesFault>
-    requires swept { IsSweepable net.now (block_at blocks.now block).gates swept.old }
-    requires blocks { AreBlocksOf net.now blocks.now }
-    requires cut { IsCutOf net.now cut.now }
-    requires block { block < length blocks.now.list }
-    requires looped { (block_at blocks.now block).looped ≡ true }
-    ensures sweepable { OnOk result (IsSweepable net.now (block_at blocks.now block).gates swept.new) }
-    ensures before { IfOk result (λ before. AreCopies (block_at blocks.now block).gates swept.new before.items) }
-    ensures swept { (care : CareSet) (scope : TheScope) (k : ℕ) → IsNetlist net.now → IsScopeOf net.now scope → AreInScope net.now scope (block_at blocks.now block).gates →
-        IsSwept net.now care scope.gates (loops_by blocks.now cut.now) (block_at blocks.now block).gates swept.old k →
-        IfOk result (λ before. IsSweptOn net.now care scope.gates (loops_by blocks.now cut.now) (block_at blocks.now block).gates before.items swept.new k) }
+    requires { IsSweepable block.now.net (gates_in block.now) swept.old }
+    ensures sweepable { OnOk result (IsSweepable block.now.net (gates_in block.now) swept.new) }
+    ensures before { IfOk result (λ before. AreCopies (gates_in block.now) swept.new before.items) }
+    ensures swept { (care : CareSet) (scope : TheScope) (k : ℕ) → IsScopeOf block.now.net scope → AreInScope block.now.net scope (gates_in block.now) →
+        IsSwept block.now.net care scope.gates (loops_in block.now) (gates_in block.now) swept.old k →
+        IfOk result (λ before. IsSweptOn block.now.net care scope.gates (loops_in block.now) (gates_in block.now) before.items swept.new k) }
 {
     let after = add_sweep(
         alloc,
         &mut swept.cone.formula,
-        net,
-        blocks,
-        cut,
-        block,
+        block.net(),
+        block.blocks(),
+        block.cut(),
+        block.number(),
         &swept.cone.rails,
         &swept.copies,
     )?;

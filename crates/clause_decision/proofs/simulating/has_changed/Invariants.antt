@@ -5,4 +5,4 @@ use Rattle.loops.specs.Sweeps.{value_in}
 use Rattle.clause_decision.proofs.simulating.has_changed.Given as goal
 
 abbrev pub invariant-loop-gate : goal.invariant-loop-gate
-invariant-loop-gate l = (n : ℕ) → Contains (take l.gate-index l.gates) n → is_cut l.wires n ≡ true → value_in l.before n ≡ value_in l.after n
+invariant-loop-gate l = (n : ℕ) → Contains (take l.gate-index l.gate-items) n → is_cut l.block.cut.wires n ≡ true → value_in l.before n ≡ value_in l.after n

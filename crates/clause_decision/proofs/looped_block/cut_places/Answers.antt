@@ -1,9 +1,9 @@
 use Rattle.std.proofs.Common.{◌∙◌, ◌+◌, sym, ap, subst}
 use Rattle.loops.specs.Cuts.{is_cut}
-use Rattle.clause_decision.specs.Sweepings.{AreCutPlacesBelow}
-use Rattle.clause_decision.proofs.SweepingLemmas.{places-cut, places-uncut}
-use Rattle.clause_decision.proofs.sweeping.cut_places.Goals.{then-wires-gates+in_ok-push, else-wires-gates}
-use Rattle.clause_decision.proofs.sweeping.cut_places.Goals as goal
+use Rattle.clause_decision.specs.LoopsAt.{AreCutPlacesBelow}
+use Rattle.clause_decision.proofs.LoopLemmas.{places-cut, places-uncut}
+use Rattle.clause_decision.proofs.looped_block.cut_places.Goals.{then-wires-gates+in_ok-push, else-wires-gates}
+use Rattle.clause_decision.proofs.looped_block.cut_places.Goals as goal
 
 pub loop-place-preserved : goal.loop-place-preserved
 loop-place-preserved c = elim c.if-wires-gates.branch [
