@@ -2,7 +2,7 @@
 // what the next ones show. What each call tells on out, and then on err, and its status stand below its words.
 #![tactic(auto)]
 
-ghost use Rattle.std.specs.Prelude.{◌≡◌, [], All, OnOk};
+ghost use Rattle.std.specs.Prelude.{◌≡◌, [], All};
 
 use bdd_ops::Diagrams;
 use cyc_base::Name;
@@ -12,7 +12,7 @@ use probes::{Glitches, LastRound, Probe, Trace};
 use std::alloc::{AllocError, Global};
 use std::io;
 use std::io::Write;
-use vcd_out::VcdOut;
+use vcd_out::{VcdOut, one_of_each_kind};
 
 // The words of a line.
 fn words_of(alloc: Global, line: &str) -> Result<Vec<Name>, AllocError> {
@@ -21,16 +21,6 @@ fn words_of(alloc: Global, line: &str) -> Result<Vec<Name>, AllocError> {
         words.push(Name::new(word.as_bytes().to_vec(alloc)?))?;
     }
     Ok(words)
-}
-
-// Adds a probe that has heard nothing.
-fn add_probe(probes: &mut Vec<Box<dyn Probe>>, probe: Box<dyn Probe>) -> Result<(), AllocError>
-    requires silent { All (λ probe. heard probe ≡ []) probes.old.items }
-    requires new { heard probe ≡ [] }
-    ensures { OnOk result (All (λ probe. heard probe ≡ []) probes.new.items) }
-{
-    probes.push(probe)?;
-    Ok(())
 }
 
 // The status of a call with these words and probes, and what it told on err.
@@ -51,11 +41,11 @@ fn status_with(
 // The same with a probe of each kind.
 fn status_of(rt: &HostRuntime, words: &[Name], err: &mut TextSink) -> Result<u8, AllocError> {
     let alloc = rt.alloc();
-    let mut probes: Vec<Box<dyn Probe>> = Vec::new(alloc);
-    add_probe(&mut probes, Box::new(alloc, Trace::new(alloc))?)?;
-    add_probe(&mut probes, Box::new(alloc, Glitches::new(alloc))?)?;
-    add_probe(&mut probes, Box::new(alloc, LastRound::new(alloc))?)?;
-    add_probe(&mut probes, Box::new(alloc, VcdOut::new(alloc))?)?;
+    let trace = Box::new(alloc, Trace::new(alloc))?;
+    let glitches = Box::new(alloc, Glitches::new(alloc))?;
+    let last = Box::new(alloc, LastRound::new(alloc))?;
+    let dump = Box::new(alloc, VcdOut::new(alloc))?;
+    let probes = one_of_each_kind(alloc, trace, glitches, last, dump)?;
     status_with(rt, words, err, probes)
 }
 
