@@ -1,18 +1,20 @@
 //! Whether two netlists that are accepted agree, found with the help of their inner wires (Kuehlmann and Krohm 1997).
 
-ghost use Rattle.std.specs.Prelude.{◌≡◌, ◌+◌, ◌≤◌, None, true, length, All, IfOk};
+ghost use Rattle.std.specs.Prelude.{◌≡◌, ◌+◌, ◌≤◌, [], None, true, length, All, IfOk};
 ghost use Rattle.netlist.specs.Netlists.{count};
+ghost use Rattle.loops.specs.Blocks.{AreBlocksOf};
 ghost use Rattle.care_sets.specs.Binding.{IsCareOf};
 ghost use Rattle.clause_decision.specs.Apart.{AreNeverApart, IsPairOf};
 ghost use Rattle.equal.specs.Differences.{columns_by_name, difference, AreAccepted};
-ghost use Rattle.equal.specs.Joined.{joined_pairs as joined_pairs_of};
+ghost use Rattle.equal.specs.Joined.{joined, joined_pairs as joined_pairs_of};
 ghost use Rattle.equal.specs.Matching.{unmatched};
 
-use crate::hints::named_hints;
+use crate::hints::alike_hints;
 use crate::joining::joined_netlist;
+use crate::prints::fingerprints;
 use care_sets::Care;
 use clause_decision::Pair;
-use loops::find_blocks;
+use loops::{Blocks, find_blocks};
 use netlist::Netlist;
 use std::alloc::{AllocError, Global};
 use verdict::are_never_apart;
@@ -27,21 +29,21 @@ const MANY_CONFLICTS: u64 = 2_000;
 fn never_apart(
     alloc: Global,
     net: &Netlist,
+    blocks: &Blocks,
     care: &Care,
     hints: &[Pair],
     pairs: &[Pair],
 ) -> Result<bool, AllocError>
+    requires blocks { AreBlocksOf net.now blocks.now }
     requires care { IsCareOf net.now care.now }
     requires hints { All (IsPairOf net.now) hints.now }
     requires pairs { All (IsPairOf net.now) pairs.now }
     ensures { IfOk result (λ never. never ≡ true → AreNeverApart net.now care.now pairs.now) }
 {
-    let _ = net.gates();
-    let blocks = find_blocks(alloc, net)?;
     are_never_apart(
         alloc,
         net,
-        &blocks,
+        blocks,
         care,
         hints,
         pairs,
@@ -50,8 +52,46 @@ fn never_apart(
     )
 }
 
-/// Whether two accepted netlists differ on no care vector. Gates of one name are asked for first, one by one, and what the
-/// solver learns of them is there for the outputs and latches; false says nothing.
+/// Inner wires of the joined netlist that simulation doesn't tell apart.
+fn find_hints(
+    alloc: Global,
+    a: &Netlist,
+    b: &Netlist,
+    net: &Netlist,
+    blocks: &Blocks,
+    care: &Care,
+) -> Result<Vec<Pair>, AllocError>
+    requires joined { net.now ≡ joined a.now b.now [] }
+    requires blocks { AreBlocksOf net.now blocks.now }
+    requires fits { count a.now + length b.now.gates ≤ 4294967295 }
+    ensures { IfOk result (λ hints. All (IsPairOf net.now) hints.items) }
+{
+    let prints = fingerprints(alloc, net, blocks, care)?;
+    alike_hints(alloc, a, b, &prints)
+}
+
+/// Whether the wires of none of these pairs of the joined netlist are ever apart.
+fn never_apart_joined(
+    alloc: Global,
+    a: &Netlist,
+    b: &Netlist,
+    net: &Netlist,
+    care: &Care,
+    pairs: &[Pair],
+) -> Result<bool, AllocError>
+    requires joined { net.now ≡ joined a.now b.now [] }
+    requires fits { count a.now + length b.now.gates ≤ 4294967295 }
+    requires care { IsCareOf net.now care.now }
+    requires pairs { All (IsPairOf net.now) pairs.now }
+    ensures { IfOk result (λ never. never ≡ true → AreNeverApart net.now care.now pairs.now) }
+{
+    let blocks = find_blocks(alloc, net)?;
+    let hints = find_hints(alloc, a, b, net, &blocks, care)?;
+    never_apart(alloc, net, &blocks, care, &hints, pairs)
+}
+
+/// Whether two accepted netlists differ on no care vector. Wires that simulation doesn't tell apart are asked for first, one
+/// by one, and what the solver learns of them is there for the outputs and latches; false says nothing.
 pub(crate) fn are_alike(
     alloc: Global,
     a: &Netlist,
@@ -70,7 +110,6 @@ pub(crate) fn are_alike(
 {
     let _ = a.gates();
     let _ = b.gates();
-    let hints = named_hints(alloc, a, b)?;
     let net = joined_netlist(alloc, a, b, columns)?;
-    never_apart(alloc, &net, care, &hints, pairs)
+    never_apart_joined(alloc, a, b, &net, care, pairs)
 }

@@ -16,8 +16,10 @@ mod least;
 mod matching;
 mod pairs;
 mod placing;
+mod prints;
 mod rebinding;
 mod telling;
+mod words;
 
 pub use answer::Answer;
 pub use comparing::{compare, compare_by_name};

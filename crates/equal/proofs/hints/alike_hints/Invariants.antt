@@ -1,7 +1,7 @@
 use Rattle.std.proofs.Common.{All, []}
 use Rattle.clause_decision.specs.Apart.{IsPairOf}
 use Rattle.equal.specs.Joined.{joined}
-use Rattle.equal.proofs.hints.named_hints.Given as goal
+use Rattle.equal.proofs.hints.alike_hints.Given as goal
 
 abbrev pub invariant-loop-number : goal.invariant-loop-number
 invariant-loop-number l = All (IsPairOf (joined l.a l.b [])) l.hints.items

@@ -1,0 +1,186 @@
+//! Fingerprints of wires, by simulation: wires that are equal have equal ones, and most of those that aren't have not.
+
+ghost use Rattle.std.specs.Prelude.{◌≡◌, ◌<◌, ◌≤◌, ◌+◌, length, All, IfOk};
+ghost use Rattle.netlist.specs.Netlists.{count};
+ghost use Rattle.loops.specs.Blocks.{AreBlocksOf};
+
+use crate::words::{Word, gate_word, word_at};
+use care_sets::Care;
+use loops::{Blocks, find_blocks};
+use netlist::Netlist;
+use std::alloc::{AllocError, Global};
+
+/// How many words of 64 vectors are tried.
+const WORDS: u32 = 8;
+
+/// Where the sequence of numbers begins.
+const SEED: u64 = 88_172_645_463_325_252;
+
+/// The next of a sequence of numbers that look random (Marsaglia 2003).
+fn next_number(number: u64) -> u64 {
+    let mut next = number ^ (number << 13);
+    next ^= next >> 7;
+    next ^ (next << 17)
+}
+
+/// Vectors that look random, and all gates unknown.
+fn first_words(alloc: Global, net: &Netlist, number: &mut u64) -> Result<Vec<Word>, AllocError> {
+    let mut words = Vec::with_capacity(alloc, net.count() as usize)?;
+    for _ in 0..net.inputs() + net.latches() {
+        *number = next_number(*number);
+        words.push(Word::known(*number))?;
+    }
+    words.resize(net.count() as usize, Word::UNKNOWN)?;
+    Ok(words)
+}
+
+/// Computes a gate, and tells whether that changed it.
+fn compute(net: &Netlist, gate: u32, words: &mut [Word]) -> bool
+    requires { gate < length net.now.gates }
+{
+    let new = gate_word(net.gate(gate), words);
+    match words.get_mut(net.gate_sig(gate).0 as usize) {
+        Some(word) => {
+            let changed = *word != new;
+            *word = new;
+            changed
+        }
+        None => false,
+    }
+}
+
+/// Computes these gates, and tells whether that changed one.
+fn sweep(net: &Netlist, gates: &[u32], words: &mut [Word]) -> bool
+    requires { All (λ gate. gate < length net.now.gates) gates.now }
+{
+    let mut changed = false;
+    for gate in gates {
+        if compute(net, *gate, words) {
+            changed = true;
+        }
+    }
+    changed
+}
+
+/// Computes the gates of a block until nothing changes: each sweep but the last makes one more known.
+fn settle_block(net: &Netlist, gates: &[u32], words: &mut [Word])
+    requires { All (λ gate. gate < length net.now.gates) gates.now }
+{
+    for _ in 0..gates.len() {
+        if !sweep(net, gates, words) {
+            return;
+        }
+    }
+}
+
+/// Computes all gates, block by block.
+fn settle(net: &Netlist, blocks: &Blocks, words: &mut [Word])
+    requires { AreBlocksOf net.now blocks.now }
+{
+    let list = blocks.list.items();
+    for place in 0..list.len() {
+        settle_block(net, list[place].gates.items(), words);
+    }
+}
+
+/// The words of these columns.
+fn words_of_columns(
+    alloc: Global,
+    words: &[Word],
+    columns: &[u32],
+) -> Result<Vec<Word>, AllocError> {
+    let mut read = Vec::with_capacity(alloc, columns.len())?;
+    for column in columns {
+        read.push(word_at(words, *column as usize))?;
+    }
+    Ok(read)
+}
+
+/// At which vectors the output of a care model is 1, where its inputs have these words.
+fn allowed_by(alloc: Global, model: &Netlist, given: Vec<Word>) -> Result<u64, AllocError> {
+    let blocks = find_blocks(alloc, model)?;
+    let mut words = given;
+    words.resize(model.count() as usize, Word::UNKNOWN)?;
+    settle(model, &blocks, &mut words);
+    match model.outputs().first() {
+        Some(output) => Ok(word_at(&words, output.0 as usize).ones),
+        None => Ok(u64::MAX),
+    }
+}
+
+/// At which vectors a care model that reads these columns holds: at all where there is none.
+fn allowed(
+    alloc: Global,
+    model: Option<&Netlist>,
+    columns: &[u32],
+    words: &[Word],
+) -> Result<u64, AllocError> {
+    match model {
+        Some(model) => allowed_by(alloc, model, words_of_columns(alloc, words, columns)?),
+        None => Ok(u64::MAX),
+    }
+}
+
+/// Which vectors are on care. Where none is, all are taken: they tell some wires apart still.
+fn on_care(alloc: Global, care: &Care, words: &[Word]) -> Result<u64, AllocError> {
+    let assumed = allowed(alloc, care.assume(), care.assume_columns(), words)?;
+    let inside = allowed(alloc, care.invariant(), care.invariant_columns(), words)?;
+    let vectors = assumed & inside;
+    if vectors == 0 {
+        return Ok(u64::MAX);
+    }
+    Ok(vectors)
+}
+
+/// A fingerprint with one more number: times an odd number, and then its upper half in its lower one too.
+fn mixed(print: u64, number: u64) -> u64 {
+    let mixed = (print ^ number).wrapping_mul(0x9e37_79b9_7f4a_7c15);
+    mixed ^ (mixed >> 32)
+}
+
+/// Mixes a word at these vectors into each fingerprint.
+fn mix(words: &[Word], vectors: u64, prints: &mut [u64])
+    ensures { length prints.new ≡ length prints.old }
+{
+    for (print, word) in prints.iter_mut().zip(words) {
+        let Word { ones, zeros } = word.within(vectors);
+        *print = mixed(mixed(*print, ones), zeros);
+    }
+}
+
+/// Mixes the values at 64 vectors, of those on care, into the fingerprints.
+fn mix_vectors(
+    alloc: Global,
+    net: &Netlist,
+    blocks: &Blocks,
+    care: &Care,
+    number: &mut u64,
+    prints: &mut [u64],
+) -> Result<(), AllocError>
+    requires { AreBlocksOf net.now blocks.now }
+    ensures { length prints.new ≡ length prints.old }
+{
+    let mut words = first_words(alloc, net, number)?;
+    settle(net, blocks, &mut words);
+    let vectors = on_care(alloc, care, &words)?;
+    mix(&words, vectors, prints);
+    Ok(())
+}
+
+/// A fingerprint for each wire, from its values at some vectors of the care set.
+pub(crate) fn fingerprints(
+    alloc: Global,
+    net: &Netlist,
+    blocks: &Blocks,
+    care: &Care,
+) -> Result<Vec<u64>, AllocError>
+    requires { AreBlocksOf net.now blocks.now }
+    ensures { IfOk result (λ prints. length prints.items ≡ count net.now) }
+{
+    let mut prints = vec![in alloc; 0u64; net.count() as usize]?;
+    let mut number = SEED;
+    for _ in 0..WORDS {
+        mix_vectors(alloc, net, blocks, care, &mut number, &mut prints)?;
+    }
+    Ok(prints)
+}
