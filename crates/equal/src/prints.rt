@@ -62,11 +62,15 @@ fn sweep(net: &Netlist, gates: &[u32], words: &mut [Word]) -> bool
     changed
 }
 
-/// Computes the gates of a block until nothing changes: each sweep but the last makes one more known.
+/// The most sweeps over one block.
+const MOST_SWEEPS: usize = 64;
+
+/// Computes the gates of a block until nothing changes. Those of a loop that wants very many sweeps stay unknown, which may
+/// cost a hint.
 fn settle_block(net: &Netlist, gates: &[u32], words: &mut [Word])
     requires { All (λ gate. gate < length net.now.gates) gates.now }
 {
-    for _ in 0..gates.len() {
+    for _ in 0..gates.len().min(MOST_SWEEPS) {
         if !sweep(net, gates, words) {
             return;
         }
