@@ -9,3 +9,4 @@ pub mod ReadLemmas
 pub mod SoundLemmas
 pub mod FlattenLemmas
 pub mod LookBackLemmas
+pub mod PartLinesLemmas

@@ -12,3 +12,4 @@ pub mod Progress
 pub mod Readers
 pub mod TextFaults
 pub mod Laws
+pub mod Parts

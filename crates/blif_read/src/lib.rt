@@ -14,6 +14,7 @@ pub mod laws;
 mod models;
 mod open_gate;
 mod open_model;
+mod parts;
 mod place;
 mod reader;
 mod rows;

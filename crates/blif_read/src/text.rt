@@ -1,6 +1,4 @@
 ghost use Rattle.std.specs.Prelude.{◌≡◌, ◌≢◌, ◌≤◌, true, MatchResult, IfOk, Ok, Err, length};
-ghost use Rattle.blif_text.specs.Texts.{lines};
-ghost use Rattle.blif_text.specs.Faults.{Refuses};
 ghost use Rattle.blif_read.specs.Reads.{if_any, reads_lines, reads};
 ghost use Rattle.blif_read.specs.Answers.{Answers};
 ghost use Rattle.blif_read.specs.Flattening.{CanBeFlattened};
@@ -8,12 +6,13 @@ ghost use Rattle.blif_read.specs.declared.fault.BlifFault.TheVariants.{Memory};
 
 use crate::fault::BlifFault;
 use crate::models::{BlifModel, Models};
+use crate::parts::read_parts;
 use crate::reader::Reader;
-use blif_text::{Lines, TextFault};
+use blif_text::Lines;
 use cyc_base::Items;
 use std::alloc::Global;
 
-fn if_any(models: Vec<BlifModel>) -> Result<Items<BlifModel>, BlifFault>
+pub(crate) fn if_any(models: Vec<BlifModel>) -> Result<Items<BlifModel>, BlifFault>
     ensures { result ≡ if_any models.items }
 {
     if models.is_empty() {
@@ -34,6 +33,26 @@ fn read_lines(alloc: Global, lines: &Lines) -> Result<Items<BlifModel>, BlifFaul
     if_any(models)
 }
 
+// The models of a text whose lines all stand in memory, or its first fault.
+fn read_whole(alloc: Global, bytes: &[u8]) -> Result<Items<BlifModel>, BlifFault>
+    ensures { Answers result (reads bytes.now) }
+{
+    let lines = Lines::of(alloc, bytes, true)?;
+    read_lines(alloc, &lines)
+}
+
+// The models of a text, or its first fault. A text with a fault is read again as a whole, since a bad byte behind
+// the fault comes first.
+fn models_of(alloc: Global, bytes: &[u8]) -> Result<Items<BlifModel>, BlifFault>
+    ensures { Answers result (reads bytes.now) }
+{
+    match read_parts(alloc, bytes) {
+        Ok(models) => Ok(models),
+        Err(BlifFault::Memory) => Err(BlifFault::Memory),
+        Err(_) => read_whole(alloc, bytes),
+    }
+}
+
 /// The models of a BLIF text, in the order of the text (the Berkeley BLIF manual, in this project's
 /// profile).
 ///
@@ -49,28 +68,16 @@ pub fn read(alloc: Global, bytes: &[u8]) -> Result<Models, BlifFault>
         (λ fault. fault ≢ Memory → reads bytes.now ≡ Err fault) }
     ensures flat { length bytes.now ≤ 4000000000 → IfOk result (λ models. CanBeFlattened models.list) }
 {
-    let lines = Lines::of(alloc, bytes, true)?;
-    let list = read_lines(alloc, &lines)?;
+    let list = models_of(alloc, bytes)?;
     Ok(Models { list })
 }
 
-// The lines of a text, which is dropped.
-fn own_lines(alloc: Global, bytes: Vec<u8>) -> Result<Lines, TextFault>
-    ensures { MatchResult result
-        (λ found. lines bytes.items true ≡ Ok found)
-        (λ fault. Refuses fault (lines bytes.items true)) }
-{
-    Lines::of(alloc, &bytes, true)
-}
-
-/// As `read`, of a text that nothing else needs: it is dropped once its lines stand.
+/// As `read`, of a text that nothing else needs: it is dropped once it is read.
 pub fn read_owned(alloc: Global, bytes: Vec<u8>) -> Result<Models, BlifFault>
     ensures models { MatchResult result
         (λ models. reads bytes.items ≡ Ok models.list)
         (λ fault. fault ≢ Memory → reads bytes.items ≡ Err fault) }
     ensures flat { length bytes.items ≤ 4000000000 → IfOk result (λ models. CanBeFlattened models.list) }
 {
-    let lines = own_lines(alloc, bytes)?;
-    let list = read_lines(alloc, &lines)?;
-    Ok(Models { list })
+    read(alloc, &bytes)
 }

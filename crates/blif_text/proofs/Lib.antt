@@ -7,3 +7,4 @@ pub mod LineBufferLemmas
 pub mod MarksLemmas
 pub mod LoopLemmas
 pub mod LineFacts
+pub mod PartLemmas

@@ -300,15 +300,18 @@ reads_start text joins =
       no_blank = tt;
     }
 
-step_meaning : (joins : Bool) (s : State) (b : ℕ) (rest : List ℕ) → NoBlank s.run → meaning joins s (b ∷ rest) ≡ after joins s rest (step joins s b)
+pub step_meaning : (joins : Bool) (s : State) (b : ℕ) (rest : List ℕ) → NoBlank s.run → meaning joins s (b ∷ rest) ≡ after joins s rest (step joins s b)
 step_meaning joins s b rest none =
     meaning_choice joins s b rest (is_lf b) s.comment (b == 35) (is_blank b) (is_printed b) none
     (record { at_lf = refl; at_comment = refl; at_hash = refl; at_blank = refl; at_printed = refl })
 
+pub none_step : (joins : Bool) (s next : State) (b : ℕ) → NoBlank s.run → step joins s b ≡ Some next → NoBlank next.run
+none_step joins s next b none is = subst NoBlankIn is (none_choice joins s b (is_lf b) s.comment (b == 35) (is_blank b) (is_printed b) none refl)
+
 pub reads_step : (text : List ℕ) (joins : Bool) (s next : State) (b : ℕ) (rest : List ℕ) → Reads text joins s (b ∷ rest) → step joins s b ≡ Some next → Reads text joins next rest
 reads_step text joins s next b rest reads is = record {
   whole = ap (after joins s rest) (sym is) ∙ sym (step_meaning joins s b rest reads.no_blank) ∙ reads.whole;
-  no_blank = subst NoBlankIn is (none_choice joins s b (is_lf b) s.comment (b == 35) (is_blank b) (is_printed b) reads.no_blank refl);
+  no_blank = none_step joins s next b reads.no_blank is;
 }
 
 pub reads_bad : (text : List ℕ) (joins : Bool) (s : State) (b : ℕ) (rest : List ℕ) → Reads text joins s (b ∷ rest) → step joins s b ≡ None → lines text joins ≡ Err s.number
@@ -318,5 +321,8 @@ reads_bad text joins s b rest reads is =
 nothing_left : (joins : Bool) (s : State) → meaning joins s [] ≡ answer joins s [] []
 nothing_left joins s = ap (λ line. answer joins s line []) (line_left_nothing s.comment)
 
+pub meaning_end : (joins : Bool) (s : State) → NoBlank s.run → meaning joins s [] ≡ Ok (finish joins s)
+meaning_end joins s none = nothing_left joins s ∙ answer_end joins s none
+
 pub reads_end : (text : List ℕ) (joins : Bool) (s : State) → Reads text joins s [] → lines text joins ≡ Ok (finish joins s)
-reads_end text joins s reads = sym reads.whole ∙ nothing_left joins s ∙ answer_end joins s reads.no_blank
+reads_end text joins s reads = sym reads.whole ∙ meaning_end joins s reads.no_blank

@@ -6,3 +6,4 @@ pub mod Marks
 pub mod Faults
 pub mod Readers
 pub mod Lines
+pub mod Parts

@@ -1,5 +1,5 @@
 // Lines, kept as their words and the marks where they end.
-ghost use Rattle.std.specs.Prelude.{◌≡◌, ◌<◌, ◌≤◌, ◌^◌, ◌&&◌, ◌==◌, ◌++◌, ◌∷◌, [], OnOk, OnErr, if◌then◌else◌, length, slice_index_or};
+ghost use Rattle.std.specs.Prelude.{◌≡◌, ◌<◌, ◌≤◌, ◌^◌, ◌&&◌, ◌==◌, ◌++◌, ◌∷◌, [], IsTrue, OnOk, OnErr, if◌then◌else◌, length, slice_index_or};
 ghost use Rattle.blif_text.specs.Texts.{without_last, ends_in_backslash};
 ghost use Rattle.blif_text.specs.Lines.{line_at};
 ghost use Rattle.blif_text.specs.Reading.{word_if_filled, line_if_filled};
@@ -97,6 +97,15 @@ impl LineBuffer {
             self.marks.push(Mark { number, end })?;
         }
         Ok(())
+    }
+
+    // Whether there is nothing behind the lines.
+    #[tactic(auto, using(crate::proofs::LineBufferLemmas::words_none_left, crate::proofs::LineBufferLemmas::run_none_left))]
+    pub fn is_whole(&self) -> bool
+        ensures words { IsTrue result → self.now.words ≡ [] }
+        ensures run { IsTrue result → self.now.run ≡ [] }
+    {
+        self.words.run().is_empty() && self.words.len() <= self.marks.last_end()
     }
 
     #[tactic(auto, using(crate::proofs::LineBufferLemmas::length_done))]

@@ -25,6 +25,12 @@ impl Model for Lines {
 }
 
 impl Lines {
+    pub(crate) fn from_buffer(buffer: LineBuffer) -> Lines
+        ensures { result ≡ buffer.done }
+    {
+        Lines { buffer }
+    }
+
     /// The lines of a text. With `joins` a line that ends in `\` is joined to the next.
     ///
     /// `BadByte` comes exactly where the text has a bad byte, with the first line that has one.
@@ -89,7 +95,7 @@ fn begins_with_lf(rest: &[u8]) -> bool
 }
 
 // Whether the byte at a place is a CR directly before an LF.
-fn is_dropped(bytes: &[u8], i: usize, b: u8) -> bool
+pub(crate) fn is_dropped(bytes: &[u8], i: usize, b: u8) -> bool
     requires { i < length bytes.now }
     ensures { result ≡ ((b == 13) && begins_with 10 (drop (i + 1) bytes.now)) }
 {

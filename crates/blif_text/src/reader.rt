@@ -1,13 +1,18 @@
 // A reader that goes through a text from byte to byte.
-ghost use Rattle.std.specs.Prelude.{◌≡◌, ◌<◌, ◌≤◌, ◌+◌, ◌^◌, OnOk, IfOk, MatchResult, Some, false};
+ghost use Rattle.std.specs.Prelude.{◌≡◌, ◌<◌, ◌≤◌, ◌+◌, ◌^◌, OnOk, IfOk, MatchOption, MatchResult, Some, false};
 ghost use Rattle.blif_text.specs.Texts.{is_blank, is_printed, without_last};
 ghost use Rattle.blif_text.specs.Reading.{start, put, end_word, begin_comment, join_line, close_line, line_break, step, finish, State};
 ghost use Rattle.blif_text.specs.Faults.{RefusesStep};
+ghost use Rattle.blif_text.specs.Parts.{with_part};
 ghost use Rattle.blif_text.specs.Readers.{state_of};
 
 use crate::fault::TextFault;
 use crate::line_buffer::LineBuffer;
 use std::alloc::{AllocError, Global};
+use std::mem;
+
+// A part has at least so many lines, where the text goes on.
+const PART_LINES: usize = 1_024;
 
 // What was read so far. The words and bytes at the buffer's end are those of the current logical line.
 #[derive(Drop)]
@@ -99,6 +104,16 @@ impl Reader {
             return Ok(());
         }
         Err(TextFault::BadByte { line: self.number })
+    }
+
+    // The lines that are ended, handed over, where they are many and nothing is behind them.
+    pub fn part(&mut self, alloc: Global) -> Option<LineBuffer>
+        ensures { MatchOption result (self.new ≡ self.old) (λ part. state_of self.old ≡ with_part part.done (state_of self.new)) }
+    {
+        if self.buffer.len() < PART_LINES || !self.buffer.is_whole() {
+            return None;
+        }
+        Some(mem::replace(&mut self.buffer, LineBuffer::new(alloc)))
     }
 
     // Ends the text: its last line, and with a join an empty line behind it.

@@ -1,0 +1,6 @@
+use Rattle.blif_read.specs.Readers.{progress_of}
+use Rattle.blif_read.proofs.PartLinesLemmas.{PartsAt}
+use Rattle.blif_read.proofs.parts.read_parts.Given as goal
+
+abbrev pub invariant-loop-i : goal.invariant-loop-i
+invariant-loop-i l = PartsAt l.bytes (progress_of l.reader) l.parts l.i

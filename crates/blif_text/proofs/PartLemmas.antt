@@ -1,0 +1,97 @@
+-- The lines of a text of which some are handed out while it is read.
+use Rattle.std.proofs.Common.{◌≡◌, ℕ, ◌+◌, ◌<◌, ◌≤◌, List, ◌∷◌, ◌++◌, length, drop, map, drop_of_length-le, get_or, true, false, refl, sym, ap, subst, ◌∙◌, arith, append_assoc}
+use Rattle.std.specs.Prelude.{Bool, ◌==◌, ◌&&◌, if◌then◌else◌, filter, Some, None, Ok, Err}
+use Rattle.std.specs.declared.option.Option.{Option}
+use Rattle.std.specs.declared.result.Result.{Result}
+use Rattle.blif_text.specs.Texts.{Line, lines, without_cr, begins_with, pieces, is_lf, before_hash, bad_byte, unless_bad, has_words, in_words, joined}
+use Rattle.blif_text.specs.Reading.{State, start, step, finish}
+use Rattle.blif_text.specs.Parts.{state_behind, with_part}
+use Rattle.blif_text.proofs.Pieces.{first_of, others_of, NoBlank}
+use Rattle.blif_text.proofs.ReadingLemmas.{meaning, behind, under, line_left, after, reads_start, step_meaning, none_step, meaning_end}
+use Rattle.blif_text.proofs.LoopLemmas.{rest_here, number_step}
+
+-- lines behind those of a part, where there are lines
+abbrev pub behind_part : List Line → Result (List Line) ℕ → Result (List Line) ℕ
+behind_part part (Ok rest) = Ok (part ++ rest)
+behind_part part (Err n) = Err n
+
+-- the lines of a text that aren't handed out, where its reader stands at a place; or the first bad line
+abbrev pub left : Bool → List ℕ → State → ℕ → Result (List Line) ℕ
+left joins text s i = meaning joins s (without_cr (drop i text))
+
+-- what a reader keeps
+pub record Stands (s : State) (i : ℕ) : Type 0 where
+  pub no_blank : NoBlank s.run
+  pub number : s.number ≤ i + 1
+
+pub stands_start : (s : State) → s ≡ start → Stands s 0
+stands_start s is =
+    let P : State → Type 0 = λ now. Stands now 0 in
+    subst P (sym is) (record { no_blank = tt; number = omega arith })
+
+pub left_start : (text : List ℕ) (joins : Bool) (s : State) → s ≡ start → left joins text s 0 ≡ lines text joins
+left_start text joins s is = ap (λ now. left joins text now 0) is ∙ (reads_start text joins).whole
+
+-- A byte is read.
+
+next_by : (text : List ℕ) (joins : Bool) (s next : State) (i : ℕ) (t : Bool) → Stands s i → i < length text → ((get_or text i 0 == 13) && begins_with 10 (drop (i + 1) text)) ≡ t
+    → (if t then Some s else step joins s (get_or text i 0)) ≡ Some next → (left joins text next (i + 1) ≡ left joins text s i) × Stands next (i + 1)
+next_by text joins s next i true at inside dropped is =
+    let e : s ≡ next = cc in
+    let P : State → Type 0 = λ now. (left joins text now (i + 1) ≡ left joins text s i) × Stands now (i + 1) in
+    let low = at.number in
+    subst P e (
+      ap (meaning joins s) (sym (rest_here text i (get_or text i 0) true inside refl dropped)),
+      record { no_blank = at.no_blank; number = omega (arith, low) },
+    )
+next_by text joins s next i false at inside kept is =
+    let b = get_or text i 0 in
+    let rest = without_cr (drop (i + 1) text) in
+    let grown = number_step joins s next b is in
+    let low = at.number in (
+      ap (after joins s rest) (sym is)
+          ∙ sym (step_meaning joins s b rest at.no_blank)
+          ∙ ap (meaning joins s) (sym (rest_here text i b false inside refl kept)),
+      record { no_blank = none_step joins s next b at.no_blank is; number = omega (arith, grown, low) },
+    )
+
+pub left_next : (text : List ℕ) (joins : Bool) (s next : State) (i : ℕ) → Stands s i → i < length text → state_behind joins text i s ≡ Some next
+    → left joins text next (i + 1) ≡ left joins text s i
+left_next text joins s next i at inside is =
+    (next_by text joins s next i ((get_or text i 0 == 13) && begins_with 10 (drop (i + 1) text)) at inside refl is).0
+
+pub stands_next : (text : List ℕ) (joins : Bool) (s next : State) (i : ℕ) → Stands s i → i < length text → state_behind joins text i s ≡ Some next → Stands next (i + 1)
+stands_next text joins s next i at inside is =
+    (next_by text joins s next i ((get_or text i 0 == 13) && begins_with 10 (drop (i + 1) text)) at inside refl is).1
+
+-- A part is handed out.
+
+unless_front : (bad : Option ℕ) (part found more : List Line) → more ≡ part ++ found → unless_bad bad more ≡ behind_part part (unless_bad bad found)
+unless_front None part found more is = ap (λ all. Ok all) is
+unless_front (Some n) part found more is = refl
+
+behind_front : (joins : Bool) (part : List Line) (s : State) (line : List ℕ) (rest : List (List ℕ)) → behind joins (with_part part s) line rest ≡ part ++ behind joins s line rest
+behind_front joins part s line rest =
+    append_assoc part s.done (filter has_words (under s.first s.words (map in_words (joined joins s.number ((s.run ++ line) ∷ rest)))))
+
+part_left : (text : List ℕ) (joins : Bool) (part : List Line) (s : State) (i : ℕ) → left joins text (with_part part s) i ≡ behind_part part (left joins text s i)
+part_left text joins part s i =
+    let ps = pieces is_lf (without_cr (drop i text)) in
+    let line = line_left s.comment (first_of ps) in
+    let rest = map before_hash (others_of ps) in
+    unless_front (bad_byte s.number (line ∷ rest)) part (behind joins s line rest) (behind joins (with_part part s) line rest) (behind_front joins part s line rest)
+
+pub left_part : (text : List ℕ) (joins : Bool) (part : List Line) (s next : State) (i : ℕ) → s ≡ with_part part next → left joins text s i ≡ behind_part part (left joins text next i)
+left_part text joins part s next i is = ap (λ now. left joins text now i) is ∙ part_left text joins part next i
+
+pub stands_part : (part : List Line) (s next : State) (i : ℕ) → s ≡ with_part part next → Stands s i → Stands next i
+stands_part part s next i is at =
+    let P : State → Type 0 = λ now. Stands now i in
+    let before : Stands (with_part part next) i = subst P is at in
+    record { no_blank = before.no_blank; number = before.number }
+
+-- The text ends.
+
+pub left_end : (text : List ℕ) (joins : Bool) (s : State) (i : ℕ) → Stands s i → length text ≤ i → left joins text s i ≡ Ok (finish joins s)
+left_end text joins s i at over =
+    ap (λ rest. meaning joins s (without_cr rest)) (drop_of_length-le text over) ∙ meaning_end joins s at.no_blank
