@@ -1,5 +1,5 @@
 // A gate whose rows may go on.
-ghost use Rattle.std.specs.Prelude.{◌≡◌, ◌≤◌, [], All, OnOk, Some, length, unwrap_or, true, None};
+ghost use Rattle.std.specs.Prelude.{◌≡◌, ◌≤◌, ◌++◌, ◌∷◌, [], All, OnOk, OnErr, Some, length, unwrap_or, true, None};
 ghost use Rattle.blif_read.specs.Running.{IsOpenGate, new_gate, add_row, gate_line};
 
 use crate::models::GateLine;
@@ -54,7 +54,7 @@ impl OpenGate {
         requires { length row.lits ≡ length self.old.pins }
         ensures { OnOk result (self.new ≡ add_row row plane self.old) }
     {
-        self.rows.push(row)?;
+        add_to(&mut self.rows, row)?;
         self.first = Some(self.first.unwrap_or(plane));
         Ok(())
     }
@@ -88,6 +88,18 @@ impl OpenGate {
             cover,
         }
     }
+}
+
+// Adds a row. There is room for two at first, since most covers have one row or two.
+fn add_to(rows: &mut Vec<Row>, row: Row) -> Result<(), AllocError>
+    ensures added { OnOk result (rows.new.items ≡ rows.old.items ++ row ∷ []) }
+    ensures kept { OnErr result (rows.new.items ≡ rows.old.items) }
+{
+    if rows.is_empty() {
+        rows.reserve_exact(2)?;
+    }
+    rows.push(row)?;
+    Ok(())
 }
 
 // The cover of rows that fit.

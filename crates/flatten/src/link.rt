@@ -74,6 +74,23 @@ fn declared_inputs(alloc: Global, top: &BlifModel) -> Result<IndexSet<Name>, Fla
     Ok(inputs)
 }
 
+/// The same, with room for the names of so many lines, so that the table needn't grow with them.
+fn inputs_with_room(
+    alloc: Global,
+    top: &BlifModel,
+    lines: usize,
+) -> Result<IndexSet<Name>, FlatFault>
+    ensures all { IfOk result (λ set. set.keys ≡ top.now.inputs) }
+    ensures inputs { OnOk result (first_twice top.now.inputs ≡ None) }
+    ensures once { OnOk result (declared_twice top.now ≡ None) }
+    ensures fault { IfErr result
+        (λ fault. (fault ≡ FlatFault.Memory) ⊎ (declared_twice top.now ≡ Some fault)) }
+{
+    let mut inputs = declared_inputs(alloc, top)?;
+    inputs.reserve(lines)?;
+    Ok(inputs)
+}
+
 /// Adds the clocks of the top that aren't inputs to the inputs, and answers how many they are.
 fn add_clocks(set: &mut IndexSet<Name>, top: &BlifModel) -> Result<usize, AllocError>
     requires { set.old.keys ≡ top.now.inputs }
@@ -381,7 +398,7 @@ fn drivers_of(alloc: Global, top: &BlifModel, lines: &FlatBody) -> Result<Driver
     ensures fault { IfErr result (λ fault. (fault ≡ FlatFault.Memory)
         ⊎ (option_or (declared_twice top.now) (driven_twice top.now (lines_of lines.now)) ≡ Some fault)) }
 {
-    let mut names = declared_inputs(alloc, top)?;
+    let mut names = inputs_with_room(alloc, top, lines.latches.len() + lines.gates.len())?;
     let clocks = add_drivers(&mut names, top, lines)?;
     Ok(Drivers {
         names,
