@@ -13,6 +13,7 @@ mod MarkLemmas
 mod NextLemmas
 pub mod PartLemmas
 mod ScopeLemmas
+mod SearchLemmas
 pub mod SetLemmas
 mod SizeLemmas
 pub mod SolutionLemmas

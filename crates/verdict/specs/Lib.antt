@@ -7,7 +7,9 @@ pub mod Laws
 pub mod Loose
 pub mod Next
 pub mod Observed
+pub mod Questions
 pub mod Scopes
+pub mod Searches
 pub mod Sets
 pub mod Solving
 pub mod Standing

@@ -1,8 +1,7 @@
 //! Loops that are settled by themselves, so that no diagrams of the whole are wanted.
 
 ghost use Rattle.std.specs.Prelude.{◌≡◌, ◌<◌, ◌≤◌, true, not, length, map, All, IfOk};
-ghost use Rattle.loops.specs.Blocks.{AreBlocksOf, block_at};
-ghost use Rattle.loops.specs.Cuts.{IsCutOf};
+ghost use Rattle.loops.specs.Blocks.{block_at};
 ghost use Rattle.isolation.specs.Settled.{SettleInSweeps};
 ghost use Rattle.isolation.specs.Cones.{is_marked};
 ghost use Rattle.verdict.specs.Determination.{SettleInOneSweep};
@@ -10,8 +9,8 @@ ghost use Rattle.verdict.specs.Determination.{SettleInOneSweep};
 use clause_decision::sweeps_at;
 use cyc_base::MAX_NODES;
 use isolation::settles_alone;
-use loops::{Blocks, Cut};
-use netlist::Netlist;
+use looped::LoopedNetlist;
+use loops::Blocks;
 use std::alloc::{AllocError, Global};
 
 /// How many times as large as a loop its netlist may be for the whole to be simulated for that loop's sake.
@@ -21,22 +20,20 @@ const MOST_TIMES: usize = 256;
 /// small part of its netlist: its diagrams take less time than a simulation of the whole.
 fn needs_more_at_zeros(
     alloc: Global,
-    net: &Netlist,
-    blocks: &Blocks,
-    cut: &Cut,
+    looped: &LoopedNetlist<'_>,
     block: u32,
 ) -> Result<bool, AllocError>
-    requires blocks { AreBlocksOf net.now blocks.now }
-    requires cut { IsCutOf net.now cut.now }
-    requires block { block < length blocks.now.list }
-    requires looped { (block_at blocks.now block).looped ≡ true }
+    requires block { block < length looped.now.blocks.list }
+    requires looped { (block_at looped.now.blocks block).looped ≡ true }
 {
+    let net = looped.net();
+    let blocks = looped.blocks();
     let gates = blocks.list.items()[block as usize].gates.items();
     if gates.len() < net.gates() as usize / MOST_TIMES {
         return Ok(false);
     }
     let zeros = vec![in alloc; false; (net.inputs() + net.latches()) as usize]?;
-    let sweeps = sweeps_at(alloc, net, blocks, cut, block, &zeros)?;
+    let sweeps = sweeps_at(alloc, net, blocks, looped.cut(), block, &zeros)?;
     Ok(sweeps > 1)
 }
 
@@ -44,28 +41,25 @@ fn needs_more_at_zeros(
 /// loop that needs many, so one vector is tried before.
 fn is_settled(
     alloc: Global,
-    net: &Netlist,
-    blocks: &Blocks,
-    cut: &Cut,
+    looped: &LoopedNetlist<'_>,
     place: usize,
     budget: u32,
 ) -> Result<bool, AllocError>
-    requires blocks { AreBlocksOf net.now blocks.now }
-    requires cut { IsCutOf net.now cut.now }
-    requires place { place < length blocks.now.list }
+    requires place { place < length looped.now.blocks.list }
     requires budget { budget ≤ MAX_NODES }
-    ensures { IfOk result (λ settled. settled ≡ true → (block_at blocks.now place).looped ≡ true → SettleInSweeps net.now (block_at blocks.now place).gates 1) }
+    ensures { IfOk result (λ settled. settled ≡ true → (block_at looped.now.blocks place).looped ≡ true → SettleInSweeps looped.now.net (block_at looped.now.blocks place).gates 1) }
 {
+    let blocks = looped.blocks();
     if !blocks.list.items()[place].looped {
         return Ok(true);
     }
     let Ok(number) = u32::try_from(place) else {
         return Ok(false);
     };
-    if needs_more_at_zeros(alloc, net, blocks, cut, number)? {
+    if needs_more_at_zeros(alloc, looped, number)? {
         return Ok(false);
     }
-    match settles_alone(alloc, net, blocks, number, budget)? {
+    match settles_alone(alloc, looped.net(), blocks, number, budget)? {
         Some(sweeps) => Ok(sweeps == 1),
         None => Ok(false),
     }
@@ -74,21 +68,17 @@ fn is_settled(
 /// Marks the blocks that are settled by themselves in one sweep, and those that are no loops.
 pub(crate) fn settled_loops(
     alloc: Global,
-    net: &Netlist,
-    blocks: &Blocks,
-    cut: &Cut,
+    looped: &LoopedNetlist<'_>,
     budget: u32,
 ) -> Result<Vec<bool>, AllocError>
-    requires blocks { AreBlocksOf net.now blocks.now }
-    requires cut { IsCutOf net.now cut.now }
-    requires budget { budget ≤ MAX_NODES }
-    ensures width { IfOk result (λ settled. length settled.items ≡ length blocks.now.list) }
-    ensures settled { IfOk result (λ settled. SettleInOneSweep net.now blocks.now settled.items) }
+    requires { budget ≤ MAX_NODES }
+    ensures width { IfOk result (λ settled. length settled.items ≡ length looped.now.blocks.list) }
+    ensures settled { IfOk result (λ settled. SettleInOneSweep looped.now.net looped.now.blocks settled.items) }
 {
-    let number = blocks.list.items().len();
+    let number = looped.blocks().list.items().len();
     let mut settled = Vec::with_capacity(alloc, number)?;
     for place in 0..number {
-        settled.push(is_settled(alloc, net, blocks, cut, place, budget)?)?;
+        settled.push(is_settled(alloc, looped, place, budget)?)?;
     }
     Ok(settled)
 }

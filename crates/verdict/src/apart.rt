@@ -12,6 +12,7 @@ use crate::scopes::known_gates;
 use care_sets::Care;
 use clause_decision::{Pair, Scope};
 use cyc_base::Items;
+use looped::LoopedNetlist;
 use loops::{Blocks, find_cut};
 use netlist::Netlist;
 use std::alloc::{AllocError, Global};
@@ -32,7 +33,8 @@ fn whole_scope(alloc: Global, net: &Netlist, blocks: &Blocks) -> Result<Scope, A
     ensures all { IfOk result (λ scope. (n : ℕ) → n < length net.now.gates → is_marked scope.gates n ≡ true) }
 {
     let cut = find_cut(alloc, net, blocks)?;
-    let settled = settled_loops(alloc, net, blocks, &cut, LOOP_NODES)?;
+    let looped = LoopedNetlist::new(net, blocks, &cut);
+    let settled = settled_loops(alloc, &looped, LOOP_NODES)?;
     let known = Items::of(known_gates(alloc, net, blocks, &settled)?);
     let gates = Items::of(all_gates(alloc, net)?);
     Ok(Scope { gates, known })

@@ -1,22 +1,19 @@
 //! The sweeps of loops where gates are unknown on care that nothing observes.
 
 ghost use Rattle.std.specs.Prelude.{◌≡◌, ◌<◌, ◌≤◌, true, length, All, IfOk, IfSome};
-ghost use Rattle.loops.specs.Blocks.{AreBlocksOf, block_at};
-ghost use Rattle.loops.specs.Cuts.{IsCutOf};
-ghost use Rattle.care_sets.specs.Binding.{IsCareOf};
+ghost use Rattle.loops.specs.Blocks.{block_at};
 ghost use Rattle.care_sets.specs.Care.{CareSet};
 ghost use Rattle.refusals.specs.Acceptance.{SomeCareVector};
 ghost use Rattle.clause_decision.specs.Changes.{AreFedKnown};
-ghost use Rattle.verdict.specs.Determination.{SettleInOneSweep};
 ghost use Rattle.verdict.specs.Loose.{AreLoopCounts, AreUnknownMarks, AreWithout, IsLoopCount};
 ghost use Rattle.verdict.specs.Verdicts.{AreSweepsOnCare};
 
 use crate::behind::{are_reached, gates_at};
 use crate::scopes::scope_of;
-use care_sets::Care;
+use crate::search::Search;
 use clause_decision::sweeps_fed_known;
 use cyc_base::Items;
-use loops::{Blocks, Cut, SweepCounts};
+use loops::SweepCounts;
 use netlist::Netlist;
 use std::alloc::{AllocError, Global};
 
@@ -56,30 +53,21 @@ fn is_fed_known(
 }
 
 /// The sweeps of a loop that is fed known values on care.
-fn ask_sweeps(
-    alloc: Global,
-    net: &Netlist,
-    blocks: &Blocks,
-    cut: &Cut,
-    care: &Care,
-    settled: &[bool],
-    place: usize,
-    conflicts: u64,
-) -> Result<Option<u32>, AllocError>
-    requires blocks { AreBlocksOf net.now blocks.now }
-    requires cut { IsCutOf net.now cut.now }
-    requires care { IsCareOf net.now care.now }
-    requires width { length settled.now ≡ length blocks.now.list }
-    requires settled { SettleInOneSweep net.now blocks.now settled.now }
-    requires place { place < length blocks.now.list }
-    requires looped { (block_at blocks.now place).looped ≡ true }
-    requires fed { AreFedKnown net.now care.now (block_at blocks.now place).gates }
-    ensures { IfOk result (λ found. IfSome found (IsLoopCount net.now blocks.now cut.now care.now place)) }
+fn ask_sweeps(alloc: Global, search: &Search<'_>, place: usize) -> Result<Option<u32>, AllocError>
+    requires place { place < length search.now.blocks.list }
+    requires looped { (block_at search.now.blocks place).looped ≡ true }
+    requires fed { AreFedKnown search.now.net search.now.care (block_at search.now.blocks place).gates }
+    ensures { IfOk result (λ found. IfSome found (IsLoopCount search.now.net search.now.blocks search.now.cut search.now.care place)) }
 {
     let Ok(block) = u32::try_from(place) else {
         return Ok(None);
     };
-    let scope = scope_of(alloc, net, blocks, settled, gates_at(net, blocks, place))?;
+    let net = search.net();
+    let blocks = search.blocks();
+    let cut = search.cut();
+    let care = search.care();
+    let conflicts = search.conflicts();
+    let scope = scope_of(alloc, search, gates_at(net, blocks, place))?;
     sweeps_fed_known(alloc, net, blocks, cut, care, &scope, block, conflicts)
 }
 
@@ -87,92 +75,59 @@ fn ask_sweeps(
 /// where it is fed known values.
 fn loop_count(
     alloc: Global,
-    net: &Netlist,
-    blocks: &Blocks,
-    cut: &Cut,
-    care: &Care,
-    settled: &[bool],
+    search: &Search<'_>,
     unknown: &[bool],
     place: usize,
-    conflicts: u64,
 ) -> Result<Option<u32>, AllocError>
-    requires blocks { AreBlocksOf net.now blocks.now }
-    requires cut { IsCutOf net.now cut.now }
-    requires care { IsCareOf net.now care.now }
-    requires width { length settled.now ≡ length blocks.now.list }
-    requires settled { SettleInOneSweep net.now blocks.now settled.now }
-    requires some { SomeCareVector net.now care.now }
-    requires unknown { AreUnknownMarks net.now care.now unknown.now }
-    requires place { place < length blocks.now.list }
-    requires looped { (block_at blocks.now place).looped ≡ true }
-    ensures { IfOk result (λ found. IfSome found (IsLoopCount net.now blocks.now cut.now care.now place)) }
+    requires some { SomeCareVector search.now.net search.now.care }
+    requires unknown { AreUnknownMarks search.now.net search.now.care unknown.now }
+    requires place { place < length search.now.blocks.list }
+    requires looped { (block_at search.now.blocks place).looped ≡ true }
+    ensures { IfOk result (λ found. IfSome found (IsLoopCount search.now.net search.now.blocks search.now.cut search.now.care place)) }
 {
-    let gates = gates_at(net, blocks, place);
+    let net = search.net();
+    let settled = search.settled();
+    let gates = gates_at(net, search.blocks(), place);
     if settled[place] && !are_reached(net, gates, unknown) {
         return Ok(Some(1));
     }
     if !is_fed_known(alloc, net, gates, unknown)? {
         return Ok(None);
     }
-    ask_sweeps(alloc, net, blocks, cut, care, settled, place, conflicts)
+    ask_sweeps(alloc, search, place)
 }
 
 /// The sweeps of the block at this place.
 fn count_at(
     alloc: Global,
-    net: &Netlist,
-    blocks: &Blocks,
-    cut: &Cut,
-    care: &Care,
-    settled: &[bool],
+    search: &Search<'_>,
     unknown: &[bool],
     place: usize,
-    conflicts: u64,
 ) -> Result<Option<u32>, AllocError>
-    requires blocks { AreBlocksOf net.now blocks.now }
-    requires cut { IsCutOf net.now cut.now }
-    requires care { IsCareOf net.now care.now }
-    requires width { length settled.now ≡ length blocks.now.list }
-    requires settled { SettleInOneSweep net.now blocks.now settled.now }
-    requires some { SomeCareVector net.now care.now }
-    requires unknown { AreUnknownMarks net.now care.now unknown.now }
-    requires place { place < length blocks.now.list }
-    ensures { IfOk result (λ found. IfSome found (IsLoopCount net.now blocks.now cut.now care.now place)) }
+    requires some { SomeCareVector search.now.net search.now.care }
+    requires unknown { AreUnknownMarks search.now.net search.now.care unknown.now }
+    requires place { place < length search.now.blocks.list }
+    ensures { IfOk result (λ found. IfSome found (IsLoopCount search.now.net search.now.blocks search.now.cut search.now.care place)) }
 {
-    if !blocks.list.items()[place].looped {
+    if !search.blocks().list.items()[place].looped {
         return Ok(Some(0));
     }
-    loop_count(
-        alloc, net, blocks, cut, care, settled, unknown, place, conflicts,
-    )
+    loop_count(alloc, search, unknown, place)
 }
 
 /// The sweeps of each block on care, where these gates are unknown at some care vector; or none where that isn't found.
 fn counts_beside(
     alloc: Global,
-    net: &Netlist,
-    blocks: &Blocks,
-    cut: &Cut,
-    care: &Care,
-    settled: &[bool],
+    search: &Search<'_>,
     unknown: &[bool],
-    conflicts: u64,
 ) -> Result<Option<Vec<u32>>, AllocError>
-    requires blocks { AreBlocksOf net.now blocks.now }
-    requires cut { IsCutOf net.now cut.now }
-    requires care { IsCareOf net.now care.now }
-    requires width { length settled.now ≡ length blocks.now.list }
-    requires settled { SettleInOneSweep net.now blocks.now settled.now }
-    requires some { SomeCareVector net.now care.now }
-    requires unknown { AreUnknownMarks net.now care.now unknown.now }
-    ensures { IfOk result (λ found. IfSome found (λ counts. AreLoopCounts net.now blocks.now cut.now care.now (length settled.now) counts.items)) }
+    requires some { SomeCareVector search.now.net search.now.care }
+    requires unknown { AreUnknownMarks search.now.net search.now.care unknown.now }
+    ensures { IfOk result (λ found. IfSome found (λ counts. AreLoopCounts search.now.net search.now.blocks search.now.cut search.now.care (length search.now.settled) counts.items)) }
 {
     let mut counts = Vec::new(alloc);
-    for place in 0..settled.len() {
-        let Some(count) = count_at(
-            alloc, net, blocks, cut, care, settled, unknown, place, conflicts,
-        )?
-        else {
+    for place in 0..search.settled().len() {
+        let Some(count) = count_at(alloc, search, unknown, place)? else {
             return Ok(None);
         };
         counts.push(count)?;
@@ -183,25 +138,15 @@ fn counts_beside(
 /// The sweeps of all loops on care, where these gates are unknown at some care vector; or none where that isn't found.
 pub(crate) fn sweeps_beside(
     alloc: Global,
-    net: &Netlist,
-    blocks: &Blocks,
-    cut: &Cut,
-    care: &Care,
-    settled: &[bool],
+    search: &Search<'_>,
     unknown: &[bool],
-    conflicts: u64,
 ) -> Result<Option<SweepCounts>, AllocError>
-    requires blocks { AreBlocksOf net.now blocks.now }
-    requires cut { IsCutOf net.now cut.now }
-    requires care { IsCareOf net.now care.now }
-    requires width { length settled.now ≡ length blocks.now.list }
-    requires settled { SettleInOneSweep net.now blocks.now settled.now }
-    requires some { SomeCareVector net.now care.now }
-    requires unknown { AreUnknownMarks net.now care.now unknown.now }
-    ensures { IfOk result (λ found. IfSome found (AreSweepsOnCare net.now blocks.now cut.now care.now)) }
+    requires some { SomeCareVector search.now.net search.now.care }
+    requires unknown { AreUnknownMarks search.now.net search.now.care unknown.now }
+    ensures { IfOk result (λ found. IfSome found (AreSweepsOnCare search.now.net search.now.blocks search.now.cut search.now.care)) }
 {
-    let Some(counts) = counts_beside(alloc, net, blocks, cut, care, settled, unknown, conflicts)?
-    else {
+    let _ = search.net();
+    let Some(counts) = counts_beside(alloc, search, unknown)? else {
         return Ok(None);
     };
     Ok(Some(SweepCounts {

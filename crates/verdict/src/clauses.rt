@@ -2,22 +2,21 @@
 //! next states.
 
 ghost use Rattle.std.specs.Prelude.{◌≡◌, ◌<◌, Some, None, length, IfOk, IfSome};
-ghost use Rattle.loops.specs.declared.structure.Cut.{Cut as CutSpec};
-ghost use Rattle.loops.specs.Blocks.{AreBlocksOf};
-ghost use Rattle.loops.specs.Cuts.{IsCutOf};
 ghost use Rattle.care_sets.specs.Binding.{IsCareOf};
 ghost use Rattle.refusals.specs.Refusals.{empty_refusal, initial_refusal};
 ghost use Rattle.clause_decision.specs.Tests.{TellsFirstUnknown};
-ghost use Rattle.verdict.specs.Determination.{AreDeterminedOnCare, IsOpen, SettleInOneSweep};
-ghost use Rattle.verdict.specs.Loose.{AreUnknownMarks, IsLooseNumber};
+ghost use Rattle.verdict.specs.Determination.{AreDeterminedOnCare, IsOpen};
+ghost use Rattle.verdict.specs.Loose.{AreUnknownMarks};
 ghost use Rattle.verdict.specs.Scopes.{AreOpenGates, IsBeginning, MayGoOn};
-ghost use Rattle.verdict.specs.Standing.{StandsAs};
-ghost use Rattle.verdict.specs.Verdicts.{AreSweepsOnCare, IsVerdict};
+ghost use Rattle.verdict.specs.Standing.{AreStanding, StandsAs};
+ghost use Rattle.verdict.specs.Verdicts.{IsVerdict};
 
 use crate::alone::{open_gates, settled_loops};
 use crate::beside::sweeps_beside;
 use crate::counts::{counts_of, open_counts};
+use crate::question::Question;
 use crate::scopes::marked_places;
+use crate::search::Search;
 use crate::steps::{Step, step_of};
 use crate::suspects::{first_of, unknown_refusal};
 use crate::unknown::{loose_number, unknown_gates};
@@ -25,7 +24,7 @@ use crate::verdict::Verdict;
 use care_sets::Care;
 use clause_decision::{First, Found, is_possible, least_outside};
 use cyc_base::Bits;
-use loops::{Blocks, Cut, SweepCounts};
+use loops::SweepCounts;
 use netlist::Netlist;
 use refusals::{Observe, Refusal};
 use std::alloc::{AllocError, Global};
@@ -88,57 +87,34 @@ pub enum Standing {
 }
 
 /// How the gates stand where those of loops that aren't settled are all known on care: the loops' sweeps are counted.
-fn count(
-    alloc: Global,
-    net: &Netlist,
-    blocks: &Blocks,
-    cut: &Cut,
-    care: &Care,
-    settled: &[bool],
-    conflicts: u64,
-) -> Result<Standing, AllocError>
-    requires blocks { AreBlocksOf net.now blocks.now }
-    requires cut { IsCutOf net.now cut.now }
-    requires care { IsCareOf net.now care.now }
-    requires width { length settled.now ≡ length blocks.now.list }
-    requires settled { SettleInOneSweep net.now blocks.now settled.now }
-    requires some { empty_refusal net.now care.now ≡ None }
-    requires known { AreDeterminedOnCare net.now care.now (IsOpen net.now blocks.now settled.now) }
-    ensures { (what : Observe) → IfOk result (StandsAs net.now blocks.now cut.now care.now what) }
+fn count(alloc: Global, search: &Search<'_>) -> Result<Standing, AllocError>
+    requires some { empty_refusal search.now.net search.now.care ≡ None }
+    requires known { AreDeterminedOnCare search.now.net search.now.care (IsOpen search.now.net search.now.blocks search.now.settled) }
+    ensures { (what : Observe) → IfOk result (StandsAs search.now.net search.now.blocks search.now.cut search.now.care what) }
 {
-    let _ = net.gates();
-    let Some(others) = open_counts(alloc, net, blocks, cut, care, settled, conflicts)? else {
+    let _ = search.net();
+    let Some(others) = open_counts(alloc, search)? else {
         return Ok(Standing::Undecided);
     };
-    let sweeps = counts_of(alloc, blocks, settled, &others)?;
+    let sweeps = counts_of(alloc, search.blocks(), search.settled(), &others)?;
     Ok(Standing::Determined { sweeps, loose: 0 })
 }
 
 /// How the gates stand where these are unknown at some care vector.
 fn stand_with(
     alloc: Global,
-    net: &Netlist,
-    blocks: &Blocks,
-    cut: &Cut,
-    care: &Care,
+    search: &Search<'_>,
     observe: Observe,
-    settled: &[bool],
     unknown: &[bool],
-    conflicts: u64,
 ) -> Result<Standing, AllocError>
-    requires blocks { AreBlocksOf net.now blocks.now }
-    requires cut { IsCutOf net.now cut.now }
-    requires care { IsCareOf net.now care.now }
-    requires width { length settled.now ≡ length blocks.now.list }
-    requires settled { SettleInOneSweep net.now blocks.now settled.now }
-    requires some { empty_refusal net.now care.now ≡ None }
-    requires unknown { AreUnknownMarks net.now care.now unknown.now }
-    ensures { IfOk result (StandsAs net.now blocks.now cut.now care.now observe) }
+    requires some { empty_refusal search.now.net search.now.care ≡ None }
+    requires unknown { AreUnknownMarks search.now.net search.now.care unknown.now }
+    ensures { IfOk result (StandsAs search.now.net search.now.blocks search.now.cut search.now.care observe) }
 {
-    let Some(loose) = loose_number(alloc, net, care, observe, unknown)? else {
+    let Some(loose) = loose_number(alloc, search.net(), search.care(), observe, unknown)? else {
         return Ok(Standing::Undecided);
     };
-    match sweeps_beside(alloc, net, blocks, cut, care, settled, unknown, conflicts)? {
+    match sweeps_beside(alloc, search, unknown)? {
         Some(sweeps) => Ok(Standing::Determined { sweeps, loose }),
         None => Ok(Standing::Undecided),
     }
@@ -147,26 +123,14 @@ fn stand_with(
 /// How the gates stand where one is unknown on care, and no observed one was found to be.
 fn stand_beside(
     alloc: Global,
-    net: &Netlist,
-    blocks: &Blocks,
-    cut: &Cut,
-    care: &Care,
+    search: &Search<'_>,
     observe: Observe,
-    settled: &[bool],
-    conflicts: u64,
 ) -> Result<Standing, AllocError>
-    requires blocks { AreBlocksOf net.now blocks.now }
-    requires cut { IsCutOf net.now cut.now }
-    requires care { IsCareOf net.now care.now }
-    requires width { length settled.now ≡ length blocks.now.list }
-    requires settled { SettleInOneSweep net.now blocks.now settled.now }
-    requires some { empty_refusal net.now care.now ≡ None }
-    ensures { IfOk result (StandsAs net.now blocks.now cut.now care.now observe) }
+    requires { empty_refusal search.now.net search.now.care ≡ None }
+    ensures { IfOk result (StandsAs search.now.net search.now.blocks search.now.cut search.now.care observe) }
 {
-    match unknown_gates(alloc, net, blocks, care, settled, conflicts)? {
-        Some(unknown) => stand_with(
-            alloc, net, blocks, cut, care, observe, settled, &unknown, conflicts,
-        ),
+    match unknown_gates(alloc, search)? {
+        Some(unknown) => stand_with(alloc, search, observe, &unknown),
         None => Ok(Standing::Undecided),
     }
 }
@@ -174,187 +138,126 @@ fn stand_beside(
 /// The refusal of an observed gate where one is unknown on care, and else how the gates stand if it is found.
 fn stand_unknown(
     alloc: Global,
-    net: &Netlist,
-    blocks: &Blocks,
-    cut: &Cut,
-    care: &Care,
+    search: &Search<'_>,
     observe: Observe,
-    settled: &[bool],
     unknown: u32,
-    conflicts: u64,
 ) -> Result<Standing, AllocError>
-    requires blocks { AreBlocksOf net.now blocks.now }
-    requires cut { IsCutOf net.now cut.now }
-    requires care { IsCareOf net.now care.now }
-    requires width { length settled.now ≡ length blocks.now.list }
-    requires settled { SettleInOneSweep net.now blocks.now settled.now }
-    requires some { empty_refusal net.now care.now ≡ None }
-    requires unknown { unknown < length net.now.gates }
-    ensures { IfOk result (StandsAs net.now blocks.now cut.now care.now observe) }
+    requires some { empty_refusal search.now.net search.now.care ≡ None }
+    requires unknown { unknown < length search.now.net.gates }
+    ensures { IfOk result (StandsAs search.now.net search.now.blocks search.now.cut search.now.care observe) }
 {
-    if let Some(refusal) = unknown_refusal(
-        alloc, net, blocks, care, settled, observe, unknown, conflicts,
-    )? {
+    if let Some(refusal) = unknown_refusal(alloc, search, observe, unknown)? {
         return Ok(Standing::Refused(refusal));
     }
     match observe {
         Observe::All => Ok(Standing::Undecided),
-        Observe::Outputs => {
-            stand_beside(alloc, net, blocks, cut, care, observe, settled, conflicts)
-        }
+        Observe::Outputs => stand_beside(alloc, search, observe),
     }
 }
 
 /// How the gates stand where the first gate that is unknown in these loops was looked for.
 fn stand_at(
     alloc: Global,
-    net: &Netlist,
-    blocks: &Blocks,
-    cut: &Cut,
-    care: &Care,
+    search: &Search<'_>,
     observe: Observe,
-    settled: &[bool],
     gates: &[u32],
     first: First,
-    conflicts: u64,
 ) -> Result<Standing, AllocError>
-    requires blocks { AreBlocksOf net.now blocks.now }
-    requires cut { IsCutOf net.now cut.now }
-    requires care { IsCareOf net.now care.now }
-    requires width { length settled.now ≡ length blocks.now.list }
-    requires settled { SettleInOneSweep net.now blocks.now settled.now }
-    requires some { empty_refusal net.now care.now ≡ None }
-    requires gates { AreOpenGates net.now blocks.now settled.now gates.now }
-    requires first { TellsFirstUnknown net.now care.now gates.now first }
-    ensures { IfOk result (StandsAs net.now blocks.now cut.now care.now observe) }
+    requires some { empty_refusal search.now.net search.now.care ≡ None }
+    requires gates { AreOpenGates search.now.net search.now.blocks search.now.settled gates.now }
+    requires first { TellsFirstUnknown search.now.net search.now.care gates.now first }
+    ensures { IfOk result (StandsAs search.now.net search.now.blocks search.now.cut search.now.care observe) }
 {
     match first {
-        First::At(place) => {
-            let gate = gates[place];
-            stand_unknown(
-                alloc, net, blocks, cut, care, observe, settled, gate, conflicts,
-            )
-        }
-        First::Nowhere => count(alloc, net, blocks, cut, care, settled, conflicts),
+        First::At(place) => stand_unknown(alloc, search, observe, gates[place]),
+        First::Nowhere => count(alloc, search),
         First::Unknown => Ok(Standing::Undecided),
     }
 }
 
 /// The gates of loops that aren't settled.
-fn gates_open(
-    alloc: Global,
-    net: &Netlist,
-    blocks: &Blocks,
-    settled: &[bool],
-) -> Result<Vec<u32>, AllocError>
-    requires blocks { AreBlocksOf net.now blocks.now }
-    requires width { length settled.now ≡ length blocks.now.list }
-    ensures { IfOk result (λ gates. AreOpenGates net.now blocks.now settled.now gates.items) }
+fn gates_open(alloc: Global, search: &Search<'_>) -> Result<Vec<u32>, AllocError>
+    ensures { IfOk result (λ gates. AreOpenGates search.now.net search.now.blocks search.now.settled gates.items) }
 {
-    let _ = net.gates();
-    let marks = open_gates(alloc, blocks, settled)?;
+    let marks = open_gates(alloc, search.blocks(), search.settled())?;
     marked_places(alloc, &marks)
 }
 
 /// How the gates stand: those of loops that aren't settled by themselves are asked for.
-fn stand(
-    alloc: Global,
-    net: &Netlist,
-    blocks: &Blocks,
-    cut: &Cut,
-    care: &Care,
-    observe: Observe,
-    settled: &[bool],
-    conflicts: u64,
-) -> Result<Standing, AllocError>
-    requires blocks { AreBlocksOf net.now blocks.now }
-    requires cut { IsCutOf net.now cut.now }
-    requires care { IsCareOf net.now care.now }
-    requires width { length settled.now ≡ length blocks.now.list }
-    requires settled { SettleInOneSweep net.now blocks.now settled.now }
-    requires some { empty_refusal net.now care.now ≡ None }
-    ensures { IfOk result (StandsAs net.now blocks.now cut.now care.now observe) }
+fn stand(alloc: Global, search: &Search<'_>, observe: Observe) -> Result<Standing, AllocError>
+    requires { empty_refusal search.now.net search.now.care ≡ None }
+    ensures { IfOk result (StandsAs search.now.net search.now.blocks search.now.cut search.now.care observe) }
 {
-    let gates = gates_open(alloc, net, blocks, settled)?;
-    let first = first_of(alloc, net, blocks, care, settled, &gates, conflicts)?;
-    stand_at(
-        alloc, net, blocks, cut, care, observe, settled, &gates, first, conflicts,
-    )
+    let gates = gates_open(alloc, search)?;
+    let first = first_of(alloc, search, &gates)?;
+    stand_at(alloc, search, observe, &gates, first)
 }
 
 /// The verdict where no observed gate is unknown on care, so that the invariant's step decides.
 fn step_verdict(
     alloc: Global,
-    net: &Netlist,
-    blocks: &Blocks,
-    care: &Care,
+    search: &Search<'_>,
     observe: Observe,
-    settled: &[bool],
     sweeps: SweepCounts,
     loose: u32,
-    conflicts: u64,
 ) -> Result<Option<Verdict>, AllocError>
-    requires blocks { AreBlocksOf net.now blocks.now }
-    requires care { IsCareOf net.now care.now }
-    requires width { length settled.now ≡ length blocks.now.list }
-    requires settled { SettleInOneSweep net.now blocks.now settled.now }
-    requires begins { MayGoOn net.now care.now }
-    requires loose { IsLooseNumber net.now care.now observe loose }
-    ensures { (cut : CutSpec) → AreSweepsOnCare net.now blocks.now cut care.now sweeps → IfOk result (λ found. IfSome found (IsVerdict net.now blocks.now cut care.now observe)) }
+    requires begins { MayGoOn search.now.net search.now.care }
+    requires stands { AreStanding search.now.net search.now.blocks search.now.cut search.now.care observe sweeps loose }
+    ensures { IfOk result (λ found. IfSome found (IsVerdict search.now.net search.now.blocks search.now.cut search.now.care observe)) }
 {
-    let _ = net.gates();
-    match step_of(alloc, net, blocks, care, settled, conflicts)? {
+    let _ = search.net();
+    match step_of(alloc, search)? {
         Step::Stays => Ok(Some(Verdict::Accepted { sweeps, loose })),
         Step::Leaves(refusal) => Ok(Some(Verdict::Refused(refusal))),
         Step::Undecided => Ok(None),
     }
 }
 
-/// The verdict where neither the initial states nor the care set refuse the netlist.
-fn judge_gates(
+/// The verdict where neither the initial states nor the care set refuse the netlist, by searches.
+fn judge_by(
     alloc: Global,
-    net: &Netlist,
-    blocks: &Blocks,
-    cut: &Cut,
-    care: &Care,
+    search: &Search<'_>,
     observe: Observe,
-    conflicts: u64,
 ) -> Result<Option<Verdict>, AllocError>
-    requires blocks { AreBlocksOf net.now blocks.now }
-    requires cut { IsCutOf net.now cut.now }
-    requires care { IsCareOf net.now care.now }
-    requires begins { MayGoOn net.now care.now }
-    ensures { IfOk result (λ found. IfSome found (IsVerdict net.now blocks.now cut.now care.now observe)) }
+    requires { MayGoOn search.now.net search.now.care }
+    ensures { IfOk result (λ found. IfSome found (IsVerdict search.now.net search.now.blocks search.now.cut search.now.care observe)) }
 {
-    let settled = settled_loops(alloc, net, blocks, cut, LOOP_NODES)?;
-    match stand(alloc, net, blocks, cut, care, observe, &settled, conflicts)? {
-        Standing::Determined { sweeps, loose } => step_verdict(
-            alloc, net, blocks, care, observe, &settled, sweeps, loose, conflicts,
-        ),
+    match stand(alloc, search, observe)? {
+        Standing::Determined { sweeps, loose } => {
+            step_verdict(alloc, search, observe, sweeps, loose)
+        }
         Standing::Refused(refusal) => Ok(Some(Verdict::Refused(refusal))),
         Standing::Undecided => Ok(None),
     }
+}
+
+/// The verdict where neither the initial states nor the care set refuse the netlist.
+fn judge_gates(
+    alloc: Global,
+    question: &Question<'_>,
+    conflicts: u64,
+) -> Result<Option<Verdict>, AllocError>
+    requires { MayGoOn question.now.net question.now.care }
+    ensures { IfOk result (λ found. IfSome found (IsVerdict question.now.net question.now.blocks question.now.cut question.now.care question.now.what)) }
+{
+    let looped = question.looped();
+    let settled = settled_loops(alloc, looped, LOOP_NODES)?;
+    let search = Search::new(looped, question.care(), &settled, conflicts);
+    judge_by(alloc, &search, question.observe())
 }
 
 /// The verdict by clauses, or none where the solver gave up in a search after so many conflicts, or where unknown gates that
 /// aren't observed feed a loop.
 pub(crate) fn verdict_by_clauses(
     alloc: Global,
-    net: &Netlist,
-    blocks: &Blocks,
-    cut: &Cut,
-    care: &Care,
-    observe: Observe,
+    question: &Question<'_>,
     conflicts: u64,
 ) -> Result<Option<Verdict>, AllocError>
-    requires blocks { AreBlocksOf net.now blocks.now }
-    requires cut { IsCutOf net.now cut.now }
-    requires care { IsCareOf net.now care.now }
-    ensures { IfOk result (λ found. IfSome found (IsVerdict net.now blocks.now cut.now care.now observe)) }
+    ensures { IfOk result (λ found. IfSome found (IsVerdict question.now.net question.now.blocks question.now.cut question.now.care question.now.what)) }
 {
-    match begin(alloc, net, care, conflicts)? {
+    match begin(alloc, question.net(), question.care(), conflicts)? {
         Beginning::Refused(refusal) => Ok(Some(Verdict::Refused(refusal))),
-        Beginning::Care => judge_gates(alloc, net, blocks, cut, care, observe, conflicts),
+        Beginning::Care => judge_gates(alloc, question, conflicts),
         Beginning::Undecided => Ok(None),
     }
 }

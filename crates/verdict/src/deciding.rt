@@ -18,6 +18,7 @@ use crate::clauses::verdict_by_clauses;
 use crate::fault::DecideFault;
 use crate::fitting::{fit_all, limit_of};
 use crate::gates::Gates;
+use crate::question::Question;
 use crate::refusing::{gates_on, leaves};
 use crate::solving::{Fixpoint, solve_beside};
 use crate::verdict::Verdict;
@@ -29,6 +30,7 @@ use dual_rail::Rails;
 use fixpoint::laws::solutions;
 use fixpoint::{order, sweeps};
 use isolation::column_rails;
+use looped::LoopedNetlist;
 use loops::{Blocks, Cut};
 use netlist::Netlist;
 use refusals::Observe;
@@ -176,18 +178,16 @@ fn judge(
 fn judge_from_columns(
     alloc: Global,
     d: &mut Diagrams,
-    net: &Netlist,
-    blocks: &Blocks,
-    cut: &Cut,
-    care: &Care,
-    observe: Observe,
+    question: &Question<'_>,
 ) -> Result<Verdict, StoreFault>
-    requires blocks { AreBlocksOf net.now blocks.now }
-    requires cut { IsCutOf net.now cut.now }
-    requires care { IsCareOf net.now care.now }
-    requires vars { d.old.vars ≡ columns net.now }
-    ensures { IfOk result (IsVerdict net.now blocks.now cut.now care.now observe) }
+    requires { d.old.vars ≡ columns question.now.net }
+    ensures { IfOk result (IsVerdict question.now.net question.now.blocks question.now.cut question.now.care question.now.what) }
 {
+    let net = question.net();
+    let blocks = question.blocks();
+    let cut = question.cut();
+    let care = question.care();
+    let observe = question.observe();
     let order = order(alloc, net)?;
     let rails = column_rails(alloc, d, &order)?;
     judge(alloc, d, net, blocks, cut, care, &order, observe, &rails)
@@ -196,21 +196,15 @@ fn judge_from_columns(
 /// The verdict by diagrams of their own, of at most so many nodes, or none where these don't do.
 fn verdict_by_diagrams(
     alloc: Global,
-    net: &Netlist,
-    blocks: &Blocks,
-    cut: &Cut,
-    care: &Care,
-    observe: Observe,
+    question: &Question<'_>,
     limit: u32,
 ) -> Result<Option<Verdict>, AllocError>
-    requires blocks { AreBlocksOf net.now blocks.now }
-    requires cut { IsCutOf net.now cut.now }
-    requires care { IsCareOf net.now care.now }
-    requires limit { limit ≤ MAX_NODES }
-    ensures { IfOk result (λ found. IfSome found (IsVerdict net.now blocks.now cut.now care.now observe)) }
+    requires { limit ≤ MAX_NODES }
+    ensures { IfOk result (λ found. IfSome found (IsVerdict question.now.net question.now.blocks question.now.cut question.now.care question.now.what)) }
 {
+    let net = question.net();
     let mut d = Diagrams::new(alloc, net.inputs() + net.latches(), limit)?;
-    match judge_from_columns(alloc, &mut d, net, blocks, cut, care, observe) {
+    match judge_from_columns(alloc, &mut d, question) {
         Ok(verdict) => Ok(Some(verdict)),
         Err(StoreFault::Full) => Ok(None),
         Err(StoreFault::Memory) => Err(AllocError),
@@ -222,35 +216,20 @@ fn verdict_by_diagrams(
 /// clauses; a multiplier in a loop is the other way round.
 fn early_verdict(
     alloc: Global,
-    net: &Netlist,
-    blocks: &Blocks,
-    cut: &Cut,
-    care: &Care,
-    observe: Observe,
+    question: &Question<'_>,
     limit: u32,
 ) -> Result<Option<Verdict>, AllocError>
-    requires blocks { AreBlocksOf net.now blocks.now }
-    requires cut { IsCutOf net.now cut.now }
-    requires care { IsCareOf net.now care.now }
-    requires limit { limit ≤ MAX_NODES }
-    ensures { IfOk result (λ found. IfSome found (IsVerdict net.now blocks.now cut.now care.now observe)) }
+    requires { limit ≤ MAX_NODES }
+    ensures { IfOk result (λ found. IfSome found (IsVerdict question.now.net question.now.blocks question.now.cut question.now.care question.now.what)) }
 {
-    if let Some(verdict) = verdict_by_clauses(
-        alloc,
-        net,
-        blocks,
-        cut,
-        care,
-        observe,
-        FEW_CONFLICTS,
-    )? {
+    if let Some(verdict) = verdict_by_clauses(alloc, question, FEW_CONFLICTS)? {
         return Ok(Some(verdict));
     }
     let few = limit.min(FEW_NODES);
-    if let Some(verdict) = verdict_by_diagrams(alloc, net, blocks, cut, care, observe, few)? {
+    if let Some(verdict) = verdict_by_diagrams(alloc, question, few)? {
         return Ok(Some(verdict));
     }
-    verdict_by_clauses(alloc, net, blocks, cut, care, observe, MANY_CONFLICTS)
+    verdict_by_clauses(alloc, question, MANY_CONFLICTS)
 }
 
 /// The verdict, on diagrams that have a variable for each column and no nodes. Where the columns don't fit, or a cover
@@ -258,24 +237,22 @@ fn early_verdict(
 fn decide_on(
     alloc: Global,
     d: &mut Diagrams,
-    net: &Netlist,
-    blocks: &Blocks,
-    cut: &Cut,
-    care: &Care,
-    observe: Observe,
+    question: &Question<'_>,
 ) -> Result<Verdict, StoreFault>
-    requires blocks { AreBlocksOf net.now blocks.now }
-    requires cut { IsCutOf net.now cut.now }
-    requires care { IsCareOf net.now care.now }
-    requires vars { d.old.vars ≡ columns net.now }
-    ensures verdict { IfOk result (IsVerdict net.now blocks.now cut.now care.now observe) }
-    ensures full { result ≡ Err StoreFault.Full → IsFullFor d.old d.new net.now care.now }
+    requires { d.old.vars ≡ columns question.now.net }
+    ensures verdict { IfOk result (IsVerdict question.now.net question.now.blocks question.now.cut question.now.care question.now.what) }
+    ensures full { result ≡ Err StoreFault.Full → IsFullFor d.old d.new question.now.net question.now.care }
 {
+    let net = question.net();
+    let blocks = question.blocks();
+    let cut = question.cut();
+    let care = question.care();
+    let observe = question.observe();
     let order = order(alloc, net)?;
     let rails = column_rails(alloc, d, &order)?;
     let limit = limit_of(d);
     fit_all(alloc, net, care, limit)?;
-    match early_verdict(alloc, net, blocks, cut, care, observe, limit)? {
+    match early_verdict(alloc, question, limit)? {
         Some(verdict) => Ok(verdict),
         None => judge(alloc, d, net, blocks, cut, care, &order, observe, &rails),
     }
@@ -320,7 +297,9 @@ pub fn decide(
     if d.start(net.inputs() + net.latches(), limit).is_err() {
         return Err(DecideFault::Memory);
     }
-    match decide_on(alloc, d, net, blocks, cut, care, observe) {
+    let looped = LoopedNetlist::new(net, blocks, cut);
+    let question = Question::new(&looped, care, observe);
+    match decide_on(alloc, d, &question) {
         Ok(verdict) => Ok(verdict),
         Err(StoreFault::Full) => Err(DecideFault::NodeLimit { nodes: limit }),
         Err(StoreFault::Memory) => Err(DecideFault::Memory),

@@ -11,6 +11,7 @@ ghost use Rattle.verdict.specs.Scopes.{AreDrivers};
 
 use crate::alone::open_gates;
 use crate::behind::{mark_all, mark_downstream};
+use crate::search::Search;
 use care_sets::Care;
 use clause_decision::Scope;
 use cyc_base::{Items, Sig};
@@ -93,20 +94,17 @@ fn upstream_of(
 /// The scope of a question about these gates.
 pub(crate) fn scope_of(
     alloc: Global,
-    net: &Netlist,
-    blocks: &Blocks,
-    settled: &[bool],
+    search: &Search<'_>,
     gates: &[u32],
 ) -> Result<Scope, AllocError>
-    requires blocks { AreBlocksOf net.now blocks.now }
-    requires width { length settled.now ≡ length blocks.now.list }
-    requires settled { SettleInOneSweep net.now blocks.now settled.now }
-    requires gates { All (λ n. n < length net.now.gates) gates.now }
-    ensures scope { IfOk result (IsScopeOf net.now) }
-    ensures within { IfOk result (λ scope. AreInScope net.now scope gates.now) }
+    requires { All (λ n. n < length search.now.net.gates) gates.now }
+    ensures scope { IfOk result (IsScopeOf search.now.net) }
+    ensures within { IfOk result (λ scope. AreInScope search.now.net scope gates.now) }
 {
+    let net = search.net();
+    let blocks = search.blocks();
     let upstream = Items::of(upstream_of(alloc, net, blocks, gates)?);
-    let known = Items::of(known_gates(alloc, net, blocks, settled)?);
+    let known = Items::of(known_gates(alloc, net, blocks, search.settled())?);
     Ok(Scope {
         gates: upstream,
         known,

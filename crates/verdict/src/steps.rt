@@ -2,21 +2,18 @@
 
 ghost use Rattle.std.specs.Prelude.{◌≡◌, ◌<◌, length, map, IfOk};
 ghost use Rattle.cyc_base.specs.Values.{bits};
-ghost use Rattle.loops.specs.Blocks.{AreBlocksOf};
-ghost use Rattle.care_sets.specs.Binding.{IsCareOf};
 ghost use Rattle.care_sets.specs.Care.{columns as columns_of, is_one as is_one_of};
 ghost use Rattle.clause_decision.specs.Loads.{LoadsAreKnown};
 ghost use Rattle.clause_queries.specs.Vectors.{IsFirstOf};
 ghost use Rattle.clause_decision.specs.Tests.{is_leaving};
 ghost use Rattle.refusals.specs.Refusals.{next_state};
-ghost use Rattle.verdict.specs.Determination.{SettleInOneSweep};
 ghost use Rattle.verdict.specs.Steps.{IsLeavingAt, IsStep};
 
 use crate::scopes::{drivers_read, scope_of};
+use crate::search::Search;
 use care_sets::Care;
 use clause_decision::{Found, least_leaving};
 use cyc_base::{Bits, Trit};
-use loops::Blocks;
 use netlist::Netlist;
 use refusals::Refusal;
 use std::alloc::{AllocError, Global};
@@ -93,45 +90,25 @@ fn step_to(alloc: Global, net: &Netlist, care: &Care, found: Found) -> Result<St
 }
 
 /// Whether a next state leaves an invariant, asked of the clauses of what the latches load that it reads.
-fn ask_step(
-    alloc: Global,
-    net: &Netlist,
-    blocks: &Blocks,
-    care: &Care,
-    settled: &[bool],
-    conflicts: u64,
-) -> Result<Step, AllocError>
-    requires blocks { AreBlocksOf net.now blocks.now }
-    requires care { IsCareOf net.now care.now }
-    requires width { length settled.now ≡ length blocks.now.list }
-    requires settled { SettleInOneSweep net.now blocks.now settled.now }
-    requires known { LoadsAreKnown net.now care.now }
-    ensures { IfOk result (IsStep net.now care.now) }
+fn ask_step(alloc: Global, search: &Search<'_>) -> Result<Step, AllocError>
+    requires { LoadsAreKnown search.now.net search.now.care }
+    ensures { IfOk result (IsStep search.now.net search.now.care) }
 {
+    let net = search.net();
+    let care = search.care();
     let drivers = drivers_read(alloc, net, care)?;
-    let scope = scope_of(alloc, net, blocks, settled, &drivers)?;
-    let found = least_leaving(alloc, net, care, &scope, conflicts)?;
+    let scope = scope_of(alloc, search, &drivers)?;
+    let found = least_leaving(alloc, net, care, &scope, search.conflicts())?;
     step_to(alloc, net, care, found)
 }
 
 /// Whether a care vector's next state isn't in the invariant, where on care all that latches load is known.
-pub(crate) fn step_of(
-    alloc: Global,
-    net: &Netlist,
-    blocks: &Blocks,
-    care: &Care,
-    settled: &[bool],
-    conflicts: u64,
-) -> Result<Step, AllocError>
-    requires blocks { AreBlocksOf net.now blocks.now }
-    requires care { IsCareOf net.now care.now }
-    requires width { length settled.now ≡ length blocks.now.list }
-    requires settled { SettleInOneSweep net.now blocks.now settled.now }
-    requires known { LoadsAreKnown net.now care.now }
-    ensures { IfOk result (IsStep net.now care.now) }
+pub(crate) fn step_of(alloc: Global, search: &Search<'_>) -> Result<Step, AllocError>
+    requires { LoadsAreKnown search.now.net search.now.care }
+    ensures { IfOk result (IsStep search.now.net search.now.care) }
 {
-    match care.invariant() {
-        Some(_) => ask_step(alloc, net, blocks, care, settled, conflicts),
+    match search.care().invariant() {
+        Some(_) => ask_step(alloc, search),
         None => Ok(Step::Stays),
     }
 }

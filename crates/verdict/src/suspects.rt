@@ -1,22 +1,18 @@
 //! The refusal of the first observed gate that is unknown on care.
 
 ghost use Rattle.std.specs.Prelude.{◌≡◌, ◌<◌, ◌≤◌, ◌&&◌, ℕ, Some, true, false, length, All, Contains, IfOk, IfSome};
-ghost use Rattle.loops.specs.Blocks.{AreBlocksOf};
-ghost use Rattle.care_sets.specs.Binding.{IsCareOf};
 ghost use Rattle.isolation.specs.Cones.{is_marked, ListsMarked};
 ghost use Rattle.refusals.specs.Refusals.{undetermined_refusal};
 ghost use Rattle.clause_decision.specs.Tests.{TellsFirstUnknown};
-ghost use Rattle.verdict.specs.Determination.{SettleInOneSweep};
 ghost use Rattle.verdict.specs.Unknown.{AreAsked, AreSuspects, IsFirstToRefuse};
 
 use crate::alone::open_gates;
 use crate::behind::mark_downstream;
 use crate::observing::observed_gates;
 use crate::scopes::{marked_places, scope_of};
-use care_sets::Care;
+use crate::search::Search;
 use clause_decision::{First, Found, first_unknown, least_unknown};
 use cyc_base::Bits;
-use loops::Blocks;
 use netlist::Netlist;
 use refusals::{Observe, Refusal};
 use std::alloc::{AllocError, Global};
@@ -66,20 +62,13 @@ fn keep_asked(asked: &[bool], marks: &mut [bool])
 }
 
 /// Marks of the gates asked for that may be unknown: those in loops at places that aren't settled, and behind them.
-fn suspects(
-    alloc: Global,
-    net: &Netlist,
-    blocks: &Blocks,
-    settled: &[bool],
-    asked: &[bool],
-) -> Result<Vec<bool>, AllocError>
-    requires blocks { AreBlocksOf net.now blocks.now }
-    requires settled { length settled.now ≡ length blocks.now.list }
-    requires asked { length asked.now ≡ length net.now.gates }
-    ensures { IfOk result (λ marks. AreSuspects net.now blocks.now settled.now asked.now marks.items) }
+fn suspects(alloc: Global, search: &Search<'_>, asked: &[bool]) -> Result<Vec<bool>, AllocError>
+    requires { length asked.now ≡ length search.now.net.gates }
+    ensures { IfOk result (λ marks. AreSuspects search.now.net search.now.blocks search.now.settled asked.now marks.items) }
 {
-    let mut marks = open_gates(alloc, blocks, settled)?;
-    mark_downstream(net, blocks, &mut marks);
+    let blocks = search.blocks();
+    let mut marks = open_gates(alloc, blocks, search.settled())?;
+    mark_downstream(search.net(), blocks, &mut marks);
     keep_asked(asked, &mut marks);
     Ok(marks)
 }
@@ -87,46 +76,30 @@ fn suspects(
 /// The place of the first of these gates that is unknown at some care vector.
 pub(crate) fn first_of(
     alloc: Global,
-    net: &Netlist,
-    blocks: &Blocks,
-    care: &Care,
-    settled: &[bool],
+    search: &Search<'_>,
     gates: &[u32],
-    conflicts: u64,
 ) -> Result<First, AllocError>
-    requires blocks { AreBlocksOf net.now blocks.now }
-    requires care { IsCareOf net.now care.now }
-    requires width { length settled.now ≡ length blocks.now.list }
-    requires settled { SettleInOneSweep net.now blocks.now settled.now }
-    requires gates { All (λ n. n < length net.now.gates) gates.now }
-    ensures { IfOk result (TellsFirstUnknown net.now care.now gates.now) }
+    requires { All (λ n. n < length search.now.net.gates) gates.now }
+    ensures { IfOk result (TellsFirstUnknown search.now.net search.now.care gates.now) }
 {
     if gates.is_empty() {
         return Ok(First::Nowhere);
     }
-    let scope = scope_of(alloc, net, blocks, settled, gates)?;
-    first_unknown(alloc, net, care, &scope, gates, conflicts)
+    let net = search.net();
+    let care = search.care();
+    let scope = scope_of(alloc, search, gates)?;
+    first_unknown(alloc, net, care, &scope, gates, search.conflicts())
 }
 
 /// The refusal of a gate, where it is the first that refuses the netlist.
-fn refusal_of(
-    alloc: Global,
-    net: &Netlist,
-    blocks: &Blocks,
-    care: &Care,
-    settled: &[bool],
-    gate: u32,
-    conflicts: u64,
-) -> Result<Option<Refusal>, AllocError>
-    requires blocks { AreBlocksOf net.now blocks.now }
-    requires care { IsCareOf net.now care.now }
-    requires width { length settled.now ≡ length blocks.now.list }
-    requires settled { SettleInOneSweep net.now blocks.now settled.now }
-    requires gate { gate < length net.now.gates }
-    ensures { (what : Observe) → IsFirstToRefuse net.now care.now what gate → IfOk result (λ found. IfSome found (λ refusal. undetermined_refusal net.now care.now what ≡ Some refusal)) }
+fn refusal_of(alloc: Global, search: &Search<'_>, gate: u32) -> Result<Option<Refusal>, AllocError>
+    requires { gate < length search.now.net.gates }
+    ensures { (what : Observe) → IsFirstToRefuse search.now.net search.now.care what gate → IfOk result (λ found. IfSome found (λ refusal. undetermined_refusal search.now.net search.now.care what ≡ Some refusal)) }
 {
-    let scope = scope_of(alloc, net, blocks, settled, &[gate])?;
-    match least_unknown(alloc, net, care, &scope, gate, conflicts)? {
+    let net = search.net();
+    let care = search.care();
+    let scope = scope_of(alloc, search, &[gate])?;
+    match least_unknown(alloc, net, care, &scope, gate, search.conflicts())? {
         Found::Least(vector) => Ok(Some(Refusal::Undetermined {
             vector: Bits::of(vector),
             wire: net.gate_sig(gate),
@@ -139,25 +112,17 @@ fn refusal_of(
 /// The refusal of the first of these gates that is unknown.
 fn first_refusal(
     alloc: Global,
-    net: &Netlist,
-    blocks: &Blocks,
-    care: &Care,
-    settled: &[bool],
+    search: &Search<'_>,
     asked: &[bool],
-    conflicts: u64,
 ) -> Result<Option<Refusal>, AllocError>
-    requires blocks { AreBlocksOf net.now blocks.now }
-    requires care { IsCareOf net.now care.now }
-    requires width { length settled.now ≡ length blocks.now.list }
-    requires settled { SettleInOneSweep net.now blocks.now settled.now }
-    requires asked { length asked.now ≡ length net.now.gates }
-    ensures { (what : Observe) → AreAsked net.now what asked.now → IfOk result (λ found. IfSome found (λ refusal. undetermined_refusal net.now care.now what ≡ Some refusal)) }
+    requires { length asked.now ≡ length search.now.net.gates }
+    ensures { (what : Observe) → AreAsked search.now.net what asked.now → IfOk result (λ found. IfSome found (λ refusal. undetermined_refusal search.now.net search.now.care what ≡ Some refusal)) }
 {
-    let _ = net.gates();
-    let marks = suspects(alloc, net, blocks, settled, asked)?;
+    let _ = search.net();
+    let marks = suspects(alloc, search, asked)?;
     let gates = marked_places(alloc, &marks)?;
-    match first_of(alloc, net, blocks, care, settled, &gates, conflicts)? {
-        First::At(place) => refusal_of(alloc, net, blocks, care, settled, gates[place], conflicts),
+    match first_of(alloc, search, &gates)? {
+        First::At(place) => refusal_of(alloc, search, gates[place]),
         First::Nowhere => Ok(None),
         First::Unknown => Ok(None),
     }
@@ -168,21 +133,13 @@ fn first_refusal(
 /// what it should if that gate is unknown on care.
 pub(crate) fn unknown_refusal(
     alloc: Global,
-    net: &Netlist,
-    blocks: &Blocks,
-    care: &Care,
-    settled: &[bool],
+    search: &Search<'_>,
     observe: Observe,
     unknown: u32,
-    conflicts: u64,
 ) -> Result<Option<Refusal>, AllocError>
-    requires blocks { AreBlocksOf net.now blocks.now }
-    requires care { IsCareOf net.now care.now }
-    requires width { length settled.now ≡ length blocks.now.list }
-    requires settled { SettleInOneSweep net.now blocks.now settled.now }
-    requires unknown { unknown < length net.now.gates }
-    ensures { IfOk result (λ found. IfSome found (λ refusal. undetermined_refusal net.now care.now observe ≡ Some refusal)) }
+    requires { unknown < length search.now.net.gates }
+    ensures { IfOk result (λ found. IfSome found (λ refusal. undetermined_refusal search.now.net search.now.care observe ≡ Some refusal)) }
 {
-    let asked = asked_gates(alloc, net, observe, unknown)?;
-    first_refusal(alloc, net, blocks, care, settled, &asked, conflicts)
+    let asked = asked_gates(alloc, search.net(), observe, unknown)?;
+    first_refusal(alloc, search, &asked)
 }

@@ -1,13 +1,10 @@
 //! Which gates are unknown on care, where clauses say so, and how many where no observed one is.
 
 ghost use Rattle.std.specs.Prelude.{◌≡◌, ◌<◌, None, length, All, IfOk, IfSome};
-ghost use Rattle.loops.specs.Blocks.{AreBlocksOf};
-ghost use Rattle.care_sets.specs.Binding.{IsCareOf};
 ghost use Rattle.care_sets.specs.Care.{CareSet};
 ghost use Rattle.refusals.specs.Acceptance.{observed as observed_signals};
 ghost use Rattle.refusals.specs.Refusals.{undetermined_refusal};
 ghost use Rattle.clause_decision.specs.Tests.{TellEachUnknown};
-ghost use Rattle.verdict.specs.Determination.{SettleInOneSweep};
 ghost use Rattle.verdict.specs.Loose.{AreAllSuspects, AreSpread, AreUnknownMarks, IsLooseNumber};
 ghost use Rattle.verdict.specs.Observed.{AreMarksOf};
 
@@ -15,9 +12,9 @@ use crate::alone::open_gates;
 use crate::behind::mark_downstream;
 use crate::observing::observed_gates;
 use crate::scopes::{marked_places, scope_of};
+use crate::search::Search;
 use care_sets::Care;
 use clause_decision::each_unknown;
-use loops::Blocks;
 use netlist::Netlist;
 use refusals::Observe;
 use std::alloc::{AllocError, Global};
@@ -45,59 +42,39 @@ fn spread(
 /// For each of these gates whether it is unknown on care, or none where the solver gave up.
 fn ask_gates(
     alloc: Global,
-    net: &Netlist,
-    blocks: &Blocks,
-    care: &Care,
-    settled: &[bool],
+    search: &Search<'_>,
     gates: &[u32],
-    conflicts: u64,
 ) -> Result<Option<Vec<bool>>, AllocError>
-    requires blocks { AreBlocksOf net.now blocks.now }
-    requires care { IsCareOf net.now care.now }
-    requires width { length settled.now ≡ length blocks.now.list }
-    requires settled { SettleInOneSweep net.now blocks.now settled.now }
-    requires gates { All (λ n. n < length net.now.gates) gates.now }
-    ensures { IfOk result (λ told. IfSome told (λ found. TellEachUnknown net.now care.now gates.now found.items)) }
+    requires { All (λ n. n < length search.now.net.gates) gates.now }
+    ensures { IfOk result (λ told. IfSome told (λ found. TellEachUnknown search.now.net search.now.care gates.now found.items)) }
 {
-    let scope = scope_of(alloc, net, blocks, settled, gates)?;
-    each_unknown(alloc, net, care, &scope, gates, conflicts)
+    let net = search.net();
+    let care = search.care();
+    let scope = scope_of(alloc, search, gates)?;
+    each_unknown(alloc, net, care, &scope, gates, search.conflicts())
 }
 
 /// The gates in loops that aren't settled, and behind them.
-fn all_suspects(
-    alloc: Global,
-    net: &Netlist,
-    blocks: &Blocks,
-    settled: &[bool],
-) -> Result<Vec<bool>, AllocError>
-    requires blocks { AreBlocksOf net.now blocks.now }
-    requires settled { length settled.now ≡ length blocks.now.list }
-    ensures { IfOk result (λ marks. AreAllSuspects net.now blocks.now settled.now marks.items) }
+fn all_suspects(alloc: Global, search: &Search<'_>) -> Result<Vec<bool>, AllocError>
+    ensures { IfOk result (λ marks. AreAllSuspects search.now.net search.now.blocks search.now.settled marks.items) }
 {
-    let mut marks = open_gates(alloc, blocks, settled)?;
-    mark_downstream(net, blocks, &mut marks);
+    let blocks = search.blocks();
+    let mut marks = open_gates(alloc, blocks, search.settled())?;
+    mark_downstream(search.net(), blocks, &mut marks);
     Ok(marks)
 }
 
 /// Marks of the gates that are unknown at some care vector, or none where the solver gave up.
 pub(crate) fn unknown_gates(
     alloc: Global,
-    net: &Netlist,
-    blocks: &Blocks,
-    care: &Care,
-    settled: &[bool],
-    conflicts: u64,
+    search: &Search<'_>,
 ) -> Result<Option<Vec<bool>>, AllocError>
-    requires blocks { AreBlocksOf net.now blocks.now }
-    requires care { IsCareOf net.now care.now }
-    requires width { length settled.now ≡ length blocks.now.list }
-    requires settled { SettleInOneSweep net.now blocks.now settled.now }
-    ensures { IfOk result (λ found. IfSome found (λ marks. AreUnknownMarks net.now care.now marks.items)) }
+    ensures { IfOk result (λ found. IfSome found (λ marks. AreUnknownMarks search.now.net search.now.care marks.items)) }
 {
-    let _ = net.gates();
-    let marks = all_suspects(alloc, net, blocks, settled)?;
+    let _ = search.net();
+    let marks = all_suspects(alloc, search)?;
     let gates = marked_places(alloc, &marks)?;
-    let Some(found) = ask_gates(alloc, net, blocks, care, settled, &gates, conflicts)? else {
+    let Some(found) = ask_gates(alloc, search, &gates)? else {
         return Ok(None);
     };
     Ok(Some(spread(alloc, marks.len(), &gates, &found)?))

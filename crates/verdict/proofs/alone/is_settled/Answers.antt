@@ -1,13 +1,18 @@
 use Rattle.std.proofs.Common.{subst}
 use Rattle.std.proofs.lemmas.Bool.{eqb-true}
+use Rattle.netlist.specs.declared.parts.Parts.{Parts}
+use Rattle.loops.specs.declared.structure.Blocks.{Blocks}
 use Rattle.loops.specs.Blocks.{block_at}
 use Rattle.isolation.specs.Settled.{SettleInSweeps}
 use Rattle.verdict.proofs.alone.is_settled.Goals as goal
 
 pub returns-in-Some : goal.returns-in-Some
 returns-in-Some c one looped =
-    let net = c.args.net.now in
-    let blocks = c.args.blocks.now in
-    let settled : SettleInSweeps net (block_at blocks c.in-Ok.number).gates c.in-Some.sweeps = rw c.in-Some.is at c.in_ok-sweeps.ensures.settled in
-    subst (SettleInSweeps net (block_at blocks c.args.place).gates) (eqb-true c.in-Some.sweeps 1 one)
-    (subst (λ b. SettleInSweeps net (block_at blocks b).gates c.in-Some.sweeps) c.in-Ok.ensures.1 settled)
+    let l = c.args.looped.now in
+    let sweeps = c.in-Some.sweeps in
+    let settled : SettleInSweeps c.net.result.now (block_at c.blocks-blocks.result.now c.in-Ok.number).gates sweeps = rw c.in-Some.is at c.in_ok-sweeps.ensures.settled in
+    let here : SettleInSweeps l.net (block_at l.blocks c.in-Ok.number).gates sweeps =
+    subst (λ (net : Parts). SettleInSweeps net (block_at l.blocks c.in-Ok.number).gates sweeps) c.net.ensures.net
+    (subst (λ (blocks : Blocks). SettleInSweeps c.net.result.now (block_at blocks c.in-Ok.number).gates sweeps) c.blocks-blocks.ensures.blocks settled) in
+    subst (SettleInSweeps l.net (block_at l.blocks c.args.place).gates) (eqb-true sweeps 1 one)
+    (subst (λ b. SettleInSweeps l.net (block_at l.blocks b).gates sweeps) c.in-Ok.ensures.1 here)

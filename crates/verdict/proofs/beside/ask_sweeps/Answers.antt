@@ -1,4 +1,4 @@
-use Rattle.std.proofs.Common.{◌≡◌, ℕ, Contains, subst, arith}
+use Rattle.std.proofs.Common.{◌≡◌, ℕ, Contains, subst, sym, arith}
 use Rattle.std.proofs.lemmas.Option.{IfSome_then}
 use Rattle.std.proofs.lemmas.Result.{IfOk-weaker}
 use Rattle.loops.specs.Blocks.{block_at}
@@ -6,22 +6,25 @@ use Rattle.loops.specs.Cuts.{loops_by}
 use Rattle.clause_decision.specs.Changes.{AreFedKnown}
 use Rattle.clause_decision.specs.Sweeping.{IsLeastCount}
 use Rattle.verdict.proofs.LooseLemmas.{least-loop}
+use Rattle.verdict.proofs.SearchLemmas.{told-of}
 use Rattle.verdict.proofs.beside.ask_sweeps.Goals as goal
 
 pub sweeps_fed_known-requires-clause-fed : goal.sweeps_fed_known-requires-clause-fed
 sweeps_fed_known-requires-clause-fed c =
+    let s = c.args.search.now in
     let same : c.args.place ≡ c.in-Ok.block = let e = c.in-Ok.ensures in omega (arith, e) in
-    subst (λ (b : ℕ). AreFedKnown c.args.net.now c.args.care.now (block_at c.args.blocks.now b).gates) same c.requires.fed
+    told-of (λ net blocks cut care. AreFedKnown net care (block_at blocks c.in-Ok.block).gates)
+    (sym c.net-net.ensures.net) (sym c.blocks-blocks.ensures.blocks) (sym c.cut-cut.ensures.cut) (sym c.care-care.ensures.care)
+    (subst (λ (b : ℕ). AreFedKnown s.net s.care (block_at s.blocks b).gates) same c.requires.fed)
 
 pub returns : goal.returns
 returns c =
-    let net = c.args.net.now in
-    let blocks = c.args.blocks.now in
-    let cut = c.args.cut.now in
-    let care = c.args.care.now in
+    let s = c.args.search.now in
     let same : c.in-Ok.block ≡ c.args.place = let e = c.in-Ok.ensures in omega (arith, e) in
     IfOk-weaker c.sweeps_fed_known.result _ _ (λ found is.
     IfSome_then found is (λ sweeps least.
-    least-loop net blocks cut care c.args.place sweeps c.requires.looped
-    (subst (λ (b : ℕ). (gate : ℕ) → Contains (block_at blocks b).gates gate → IsLeastCount net (loops_by blocks cut) care gate sweeps) same least)))
+    least-loop s.net s.blocks s.cut s.care c.args.place sweeps c.requires.looped
+    (told-of (λ net blocks cut care. (gate : ℕ) → Contains (block_at blocks c.args.place).gates gate → IsLeastCount net (loops_by blocks cut) care gate sweeps)
+    c.net-net.ensures.net c.blocks-blocks.ensures.blocks c.cut-cut.ensures.cut c.care-care.ensures.care
+    (subst (λ (b : ℕ). (gate : ℕ) → Contains (block_at c.blocks-blocks.result.now b).gates gate → IsLeastCount c.net-net.result.now (loops_by c.blocks-blocks.result.now c.cut-cut.result.now) c.care-care.result.now gate sweeps) same least))))
     c.sweeps_fed_known.ensures

@@ -6,11 +6,11 @@ use Rattle.verdict.proofs.beside.sweeps_beside.Goals as goal
 
 pub returns : goal.returns
 returns c =
-    let net = c.args.net.now in
-    let blocks = c.args.blocks.now in
-    let cut = c.args.cut.now in
-    let care = c.args.care.now in
-    let n = length c.args.settled.now in
-    loop-counts-all net blocks c.requires.blocks cut care n (record { per_block = c.of.result }) c.requires.width
+    let net = c.args.search.now.net in
+    let blocks = c.args.search.now.blocks in
+    let cut = c.args.search.now.cut in
+    let care = c.args.search.now.care in
+    let n = length c.args.search.now.settled in
+    loop-counts-all net blocks c.net.ensures.is.blocks cut care n (record { per_block = c.of.result }) c.net.ensures.is.width
     (subst (AreLoopCounts net blocks cut care n) (sym c.of.ensures)
     (subst (λ o. IfSome o (λ counts. AreLoopCounts net blocks cut care n counts.items)) c.in-Some.is c.in_ok-counts.ensures))

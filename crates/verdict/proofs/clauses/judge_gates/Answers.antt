@@ -1,21 +1,27 @@
 use Rattle.std.proofs.Common.{subst, sym}
+use Rattle.std.specs.Prelude.{IfOk, IfSome}
+use Rattle.looped.specs.Looped.{Looped}
+use Rattle.care_sets.specs.Care.{CareSet}
+use Rattle.refusals.specs.declared.observe.Observe.{Observe}
 use Rattle.verdict.specs.Determination.{SettleInOneSweep}
-use Rattle.verdict.specs.Standing.{AreStanding, StandsAs}
+use Rattle.verdict.specs.Scopes.{MayGoOn}
+use Rattle.verdict.specs.Searches.{Searched}
+use Rattle.verdict.specs.Verdicts.{IsVerdict}
 use Rattle.verdict.proofs.clauses.judge_gates.Goals as goal
-use Rattle.verdict.proofs.clauses.judge_gates.Goals.{In-Determined}
 
-pub stand-requires-clause-settled : goal.stand-requires-clause-settled
-stand-requires-clause-settled c = subst (SettleInOneSweep c.args.net.now c.args.blocks.now) (sym c.deref.ensures.value) c.in_ok-settled.ensures.settled
+pub new-search-requires-clause-settled : goal.new-search-requires-clause-settled
+new-search-requires-clause-settled c = subst (SettleInOneSweep c.looped-looped.result.now.net c.looped-looped.result.now.blocks) (sym c.deref.ensures.value) c.in_ok-settled.ensures.settled
 
-pub step_verdict-requires-clause-settled : goal.step_verdict-requires-clause-settled
-step_verdict-requires-clause-settled c = subst (SettleInOneSweep c.args.net.now c.args.blocks.now) (sym c.deref-in-Determined.ensures.value) c.in_ok-settled.ensures.settled
+pub judge_by-requires : goal.judge_by-requires
+judge_by-requires c =
+    let q = c.args.question.now in
+    subst (λ (s : Searched). MayGoOn s.net s.care) (sym c.new-search.ensures)
+    (subst (λ (l : Looped). MayGoOn l.net c.care.result.now) (sym c.looped-looped.ensures.looped) (subst (λ (care : CareSet). MayGoOn q.net care) (sym c.care.ensures.care) c.requires))
 
--- how the gates stand
-stands : (c : In-Determined) → AreStanding c.args.net.now c.args.blocks.now c.args.cut.now c.args.care.now c.args.observe c.in-Determined.sweeps c.in-Determined.loose
-stands c = subst (StandsAs c.args.net.now c.args.blocks.now c.args.cut.now c.args.care.now c.args.observe) c.in-Determined.is c.in_ok-sweeps.ensures
-
-pub step_verdict-requires-clause-loose : goal.step_verdict-requires-clause-loose
-step_verdict-requires-clause-loose c = (stands ((goal.at.step_verdict-requires-clause-loose c).In-Determined)).number
-
-pub returns-in-Determined : goal.returns-in-Determined
-returns-in-Determined c = c.step_verdict.ensures c.args.cut.now (stands ((goal.at.returns-in-Determined c).In-Determined)).sweeps
+pub returns : goal.returns
+returns c =
+    let q = c.args.question.now in
+    subst (λ (what : Observe). IfOk c.judge_by.result (λ found. IfSome found (IsVerdict q.net q.blocks q.cut q.care what))) c.observe.ensures
+    (subst (λ (care : CareSet). IfOk c.judge_by.result (λ found. IfSome found (IsVerdict q.net q.blocks q.cut care c.observe.result))) c.care.ensures.care
+    (subst (λ (l : Looped). IfOk c.judge_by.result (λ found. IfSome found (IsVerdict l.net l.blocks l.cut c.care.result.now c.observe.result))) c.looped-looped.ensures.looped
+    (subst (λ (s : Searched). IfOk c.judge_by.result (λ found. IfSome found (IsVerdict s.net s.blocks s.cut s.care c.observe.result))) c.new-search.ensures c.judge_by.ensures)))

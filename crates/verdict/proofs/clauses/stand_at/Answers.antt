@@ -5,8 +5,8 @@ use Rattle.verdict.proofs.clauses.stand_at.Goals as goal
 
 pub count-requires-clause-known : goal.count-requires-clause-known
 count-requires-clause-known c =
-    open-known c.args.net.now c.args.blocks.now c.args.care.now c.args.settled.now c.args.gates.now c.requires.gates
-    (subst (TellsFirstUnknown c.args.net.now c.args.care.now c.args.gates.now) c.in-Nowhere.is c.requires.first)
+    open-known c.args.search.now.net c.args.search.now.blocks c.args.search.now.care c.args.search.now.settled c.args.gates.now c.requires.gates
+    (subst (TellsFirstUnknown c.args.search.now.net c.args.search.now.care c.args.gates.now) c.in-Nowhere.is c.requires.first)
 
 pub returns-in-Nowhere : goal.returns-in-Nowhere
 returns-in-Nowhere c = c.count.ensures c.args.observe

@@ -4,15 +4,17 @@ use Rattle.verdict.specs.Steps.{IsStep}
 use Rattle.verdict.proofs.LooseLemmas.{leaving-refuses, standing-accepts}
 use Rattle.verdict.proofs.clauses.step_verdict.Goals as goal
 
-pub step_of-requires-clause-known : goal.step_of-requires-clause-known
-step_of-requires-clause-known c v counts = sources_determined c.args.net.now c.args.care.now c.args.observe v c.gates.ensures.valid c.requires.loose.none counts
+pub step_of-requires : goal.step_of-requires
+step_of-requires c v counts = sources_determined c.args.search.now.net c.args.search.now.care c.args.observe v c.net.ensures.is.net c.requires.stands.number.none counts
 
 pub returns-in-Stays : goal.returns-in-Stays
-returns-in-Stays c cut sweeps =
-    standing-accepts c.args.net.now c.args.blocks.now cut c.args.care.now c.args.observe c.args.sweeps c.args.loose c.gates.ensures.valid c.requires.begins c.requires.loose sweeps
-    (subst (IsStep c.args.net.now c.args.care.now) c.in-Stays.is c.in_ok-step_of.ensures)
+returns-in-Stays c =
+    let search = c.args.search.now in
+    standing-accepts search.net search.blocks search.cut search.care c.args.observe c.args.sweeps c.args.loose c.net.ensures.is.net c.requires.begins c.requires.stands.number c.requires.stands.sweeps
+    (subst (IsStep search.net search.care) c.in-Stays.is c.in_ok-step_of.ensures)
 
 pub returns-in-Leaves : goal.returns-in-Leaves
-returns-in-Leaves c cut sweeps =
-    leaving-refuses c.args.net.now c.args.care.now c.args.observe c.args.loose c.in-Leaves.refusal c.requires.begins c.requires.loose
-    (subst (IsStep c.args.net.now c.args.care.now) c.in-Leaves.is c.in_ok-step_of.ensures)
+returns-in-Leaves c =
+    let search = c.args.search.now in
+    leaving-refuses search.net search.care c.args.observe c.args.loose c.in-Leaves.refusal c.requires.begins c.requires.stands.number
+    (subst (IsStep search.net search.care) c.in-Leaves.is c.in_ok-step_of.ensures)

@@ -5,4 +5,6 @@ use Rattle.verdict.proofs.steps.ask_step.Goals as goal
 
 pub least_leaving-requires-clause-loads : goal.least_leaving-requires-clause-loads
 least_leaving-requires-clause-loads c =
-    drivers-within c.args.net.now c.args.care.now c.in_ok-scope.scope c.deref.result.now (subst (AreDrivers c.args.net.now c.args.care.now) (sym c.deref.ensures.value) c.in_ok-drivers.ensures.drivers) c.in_ok-scope.ensures.within
+    let net = c.net-net.result.now in
+    let care = c.care-care.result.now in
+    drivers-within net care c.in_ok-scope.scope c.deref.result.now (subst (AreDrivers net care) (sym c.deref.ensures.value) c.in_ok-drivers.ensures.drivers) c.in_ok-scope.ensures.within

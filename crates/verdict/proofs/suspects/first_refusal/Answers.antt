@@ -9,20 +9,20 @@ use Rattle.verdict.proofs.suspects.first_refusal.Goals as goal
 use Rattle.verdict.proofs.suspects.first_refusal.Goals.{After-deref-2, After-index}
 
 -- the marked gates are listed
-listed : (c : After-deref-2) → ListsMarked c.in_ok-marks.marks.items (length c.args.net.now.gates) c.deref-2.result.now
+listed : (c : After-deref-2) → ListsMarked c.in_ok-marks.marks.items (length c.args.search.now.net.gates) c.deref-2.result.now
 listed c =
     let value = c.deref.ensures.value in
     let wide = ap (λ (ms : List Bool). length ms) value ∙ c.in_ok-marks.ensures.width in
-    subst (ListsMarked c.in_ok-marks.marks.items (length c.args.net.now.gates)) (sym c.deref-2.ensures.value)
+    subst (ListsMarked c.in_ok-marks.marks.items (length c.args.search.now.net.gates)) (sym c.deref-2.ensures.value)
     (subst (λ (n : ℕ). ListsMarked c.in_ok-marks.marks.items n c.in_ok-gates.gates.items) wide
     (subst (λ (ms : List Bool). ListsMarked ms (length c.deref.result.now) c.in_ok-gates.gates.items) value c.in_ok-gates.ensures))
 
-pub first_of-requires-clause-gates : goal.first_of-requires-clause-gates
-first_of-requires-clause-gates c = listed-within c.in_ok-marks.marks.items (length c.args.net.now.gates) c.deref-2.result.now (listed c)
+pub first_of-requires : goal.first_of-requires
+first_of-requires c = listed-within c.in_ok-marks.marks.items (length c.args.search.now.net.gates) c.deref-2.result.now (listed c)
 
 -- the first that is unknown
-first : (c : After-index) → IsFirstUnknown c.args.net.now c.args.care.now c.deref-2.result.now c.in-At.place
-first c = subst (TellsFirstUnknown c.args.net.now c.args.care.now c.deref-2.result.now) c.in-At.is c.in_ok-place.ensures
+first : (c : After-index) → IsFirstUnknown c.args.search.now.net c.args.search.now.care c.deref-2.result.now c.in-At.place
+first c = subst (TellsFirstUnknown c.args.search.now.net c.args.search.now.care c.deref-2.result.now) c.in-At.is c.in_ok-place.ensures
 
 gate-is : (c : After-index) → gate_in c.deref-2.result.now c.in-At.place ≡ c.index.result.now
 gate-is c =
@@ -32,18 +32,18 @@ gate-is c =
     ∙ get_or_default c.in_ok-gates.gates.items c.in-At.place 0 c.index.result.now (let v = ap (λ (gs : List ℕ). length gs) value in omega (arith, less, v))
     ∙ sym c.index.ensures
 
-pub refusal_of-requires-clause-gate : goal.refusal_of-requires-clause-gate
-refusal_of-requires-clause-gate g =
-    let at = goal.at.refusal_of-requires-clause-gate g in
+pub refusal_of-requires : goal.refusal_of-requires
+refusal_of-requires g =
+    let at = goal.at.refusal_of-requires g in
     let c : After-index = at.After-index in
     let less : g.in-At.place < length g.deref-2.result.now = (first c).within in
-    subst (λ (n : ℕ). n < length g.args.net.now.gates) (gate-is c) (listed-within g.in_ok-marks.marks.items (length g.args.net.now.gates) g.deref-2.result.now (listed at.After-deref-2) g.in-At.place 0 less)
+    subst (λ (n : ℕ). n < length g.args.search.now.net.gates) (gate-is c) (listed-within g.in_ok-marks.marks.items (length g.args.search.now.net.gates) g.deref-2.result.now (listed at.After-deref-2) g.in-At.place 0 less)
 
 pub returns-in-At : goal.returns-in-At
 returns-in-At g what asks =
     let c : After-index = (goal.at.returns-in-At g).After-index in
-    let net = g.args.net.now in
+    let net = g.args.search.now.net in
     g.refusal_of.ensures what
-    (subst (IsFirstToRefuse net g.args.care.now what) (gate-is c)
-    (first-refuses net g.gates.ensures.valid g.args.blocks.now g.requires.blocks g.args.settled.now g.args.asked.now g.in_ok-marks.marks.items g.requires.settled g.in_ok-marks.ensures
-    g.args.care.now what asks g.deref-2.result.now (listed (goal.at.returns-in-At g).After-deref-2) g.in-At.place (first c)))
+    (subst (IsFirstToRefuse net g.args.search.now.care what) (gate-is c)
+    (first-refuses net g.net.ensures.is.net g.args.search.now.blocks g.net.ensures.is.blocks g.args.search.now.settled g.args.asked.now g.in_ok-marks.marks.items g.net.ensures.is.settled g.in_ok-marks.ensures
+    g.args.search.now.care what asks g.deref-2.result.now (listed (goal.at.returns-in-At g).After-deref-2) g.in-At.place (first c)))

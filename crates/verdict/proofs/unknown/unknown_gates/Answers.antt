@@ -8,18 +8,18 @@ use Rattle.verdict.proofs.LooseLemmas.{listed-suspects, unknown-marked}
 use Rattle.verdict.proofs.SuspectLemmas.{listed-within}
 use Rattle.verdict.proofs.unknown.unknown_gates.Goals as goal
 
-pub ask_gates-requires-clause-gates : goal.ask_gates-requires-clause-gates
-ask_gates-requires-clause-gates c =
-    let net = c.args.net.now in
+pub ask_gates-requires : goal.ask_gates-requires
+ask_gates-requires c =
+    let net = c.args.search.now.net in
     let listed : ListsMarked c.in_ok-marks.marks.items (length net.gates) c.in_ok-gates.gates.items =
-    listed-suspects net c.args.blocks.now c.args.settled.now c.in_ok-marks.marks.items c.deref.result.now c.in_ok-gates.gates.items c.in_ok-marks.ensures c.deref.ensures.value c.in_ok-gates.ensures in
+    listed-suspects net c.args.search.now.blocks c.args.search.now.settled c.in_ok-marks.marks.items c.deref.result.now c.in_ok-gates.gates.items c.in_ok-marks.ensures c.deref.ensures.value c.in_ok-gates.ensures in
     subst (All (λ n. n < length net.gates)) (sym c.deref-2.ensures.value) (listed-within c.in_ok-marks.marks.items (length net.gates) c.in_ok-gates.gates.items listed)
 
 pub spread-requires-clause-places : goal.spread-requires-clause-places
 spread-requires-clause-places c =
-    let net = c.args.net.now in
+    let net = c.args.search.now.net in
     let listed : ListsMarked c.in_ok-marks.marks.items (length net.gates) c.in_ok-gates.gates.items =
-    listed-suspects net c.args.blocks.now c.args.settled.now c.in_ok-marks.marks.items c.deref.result.now c.in_ok-gates.gates.items c.in_ok-marks.ensures c.deref.ensures.value c.in_ok-gates.ensures in
+    listed-suspects net c.args.search.now.blocks c.args.search.now.settled c.in_ok-marks.marks.items c.deref.result.now c.in_ok-gates.gates.items c.in_ok-marks.ensures c.deref.ensures.value c.in_ok-gates.ensures in
     let within : All (λ n. n < length net.gates) c.deref-3.result.now =
     subst (All (λ n. n < length net.gates)) (sym c.deref-3.ensures.value) (listed-within c.in_ok-marks.marks.items (length net.gates) c.in_ok-gates.gates.items listed) in
     let wide : c.len.result ≡ length net.gates = let e = c.len.ensures in let ok = c.in_ok-marks.marks.ok.0 in let w = c.in_ok-marks.ensures.width in omega (arith, e, ok, w) in
@@ -27,13 +27,13 @@ spread-requires-clause-places c =
 
 pub returns : goal.returns
 returns c =
-    let net = c.args.net.now in
-    let care = c.args.care.now in
+    let net = c.args.search.now.net in
+    let care = c.args.search.now.care in
     let marks : List Bool = c.in_ok-spread.field-0.items in
     let gates : List ℕ = c.in_ok-gates.gates.items in
     let found : List Bool = c.in-Some.found.items in
     let listed : ListsMarked c.in_ok-marks.marks.items (length net.gates) gates =
-    listed-suspects net c.args.blocks.now c.args.settled.now c.in_ok-marks.marks.items c.deref.result.now gates c.in_ok-marks.ensures c.deref.ensures.value c.in_ok-gates.ensures in
+    listed-suspects net c.args.search.now.blocks c.args.search.now.settled c.in_ok-marks.marks.items c.deref.result.now gates c.in_ok-marks.ensures c.deref.ensures.value c.in_ok-gates.ensures in
     let told : TellEachUnknown net care gates found =
     subst (λ (gs : List ℕ). TellEachUnknown net care gs found) c.deref-2.ensures.value
     (subst (λ o. IfSome o (λ values. TellEachUnknown net care c.deref-2.result.now values.items)) c.in-Some.is c.in_ok-found.ensures) in
@@ -42,4 +42,4 @@ returns c =
     subst (λ (n : ℕ). AreSpread n gates found (length gates) marks) wide
     (subst (λ (values : List Bool). AreSpread c.len.result gates values (length gates) marks) c.deref-4.ensures.value
     (subst (λ (gs : List ℕ). AreSpread c.len.result gs c.deref-4.result.now (length gs) marks) c.deref-3.ensures.value c.in_ok-spread.ensures)) in
-    unknown-marked net c.gates.ensures.valid c.args.blocks.now c.requires.blocks c.args.settled.now c.requires.settled care c.in_ok-marks.marks.items gates found marks c.in_ok-marks.ensures listed told spread
+    unknown-marked net c.net.ensures.is.net c.args.search.now.blocks c.net.ensures.is.blocks c.args.search.now.settled c.net.ensures.is.settled care c.in_ok-marks.marks.items gates found marks c.in_ok-marks.ensures listed told spread

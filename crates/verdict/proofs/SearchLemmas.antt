@@ -1,0 +1,19 @@
+-- What is told of the parts that a search hands out is told of what it is about.
+use Rattle.std.proofs.Common.{◌≡◌, Bool, List, subst}
+use Rattle.netlist.specs.declared.parts.Parts.{Parts}
+use Rattle.loops.specs.declared.structure.Blocks.{Blocks}
+use Rattle.loops.specs.declared.structure.Cut.{Cut}
+use Rattle.care_sets.specs.Care.{CareSet}
+
+-- of a netlist on a care set
+pub told-on : (P : Parts → CareSet → Type 0) {m n : Parts} {d e : CareSet} → m ≡ n → d ≡ e → P m d → P n e
+told-on P {m} {n} {d} {e} net care is = subst (λ (p : Parts). P p e) net (subst (P m) care is)
+
+-- of its loops too
+pub told-of : (P : Parts → Blocks → Cut → CareSet → Type 0) {m n : Parts} {a b : Blocks} {j k : Cut} {d e : CareSet} → m ≡ n → a ≡ b → j ≡ k → d ≡ e → P m a j d → P n b k e
+told-of P {m} {n} {a} {b} {j} {k} {d} {e} net blocks cut care is =
+    told-on (λ (p : Parts) (c : CareSet). P p b k c) net care (subst (λ (x : Blocks). P m x k d) blocks (subst (λ (x : Cut). P m a x d) cut is))
+
+-- of the loops that are settled
+pub told-where : (P : Parts → Blocks → List Bool → Type 0) {m n : Parts} {a b : Blocks} {x y : List Bool} → m ≡ n → a ≡ b → x ≡ y → P m a x → P n b y
+told-where P {m} {n} {a} {b} {x} {y} net blocks settled is = subst (λ (p : Parts). P p b y) net (subst (λ (q : Blocks). P m q y) blocks (subst (P m a) settled is))

@@ -1,0 +1,31 @@
+-- What is decided: whether a netlist is accepted on a care set where these of its signals are observed.
+use Rattle.netlist.specs.declared.parts.Parts.{Parts}
+use Rattle.netlist.specs.Netlists.{IsNetlist}
+use Rattle.loops.specs.declared.structure.Blocks.{Blocks}
+use Rattle.loops.specs.declared.structure.Cut.{Cut}
+use Rattle.loops.specs.Blocks.{AreBlocksOf}
+use Rattle.loops.specs.Cuts.{IsCutOf}
+use Rattle.looped.specs.Looped.{Looped}
+use Rattle.care_sets.specs.Binding.{IsCareOf}
+use Rattle.care_sets.specs.Care.{CareSet}
+use Rattle.refusals.specs.declared.observe.Observe.{Observe}
+
+pub record Asked : Type 0 where
+  pub net : Parts
+  pub blocks : Blocks
+  pub cut : Cut
+  pub care : CareSet
+  pub what : Observe
+
+abbrev pub asked : Looped → CareSet → Observe → Asked
+asked l care what = record { net = l.net; blocks = l.blocks; cut = l.cut; care = care; what = what }
+
+abbrev pub looped_in : Asked → Looped
+looped_in q = record { net = q.net; blocks = q.blocks; cut = q.cut }
+
+-- all parts are the netlist's
+pub record IsAsked (q : Asked) : Type 0 where
+  pub net : IsNetlist q.net
+  pub blocks : AreBlocksOf q.net q.blocks
+  pub cut : IsCutOf q.net q.cut
+  pub care : IsCareOf q.net q.care
