@@ -21,22 +21,28 @@ use Rattle.ternary_clauses.specs.Apart.{SaysApart}
 use Rattle.ternary_clauses.specs.Encoding.{IsWanted, gate_rails}
 use Rattle.ternary_clauses.specs.Formulas.{says, IsModel, IsFormula, HasModelFrom, Grows}
 use Rattle.ternary_clauses.specs.Nodes.{agreed}
-use Rattle.ternary_clauses.specs.Rails.{is_known, no_rails, rails_at, value_read, Reads, AreWithin, AreRailsOf}
+use Rattle.ternary_clauses.specs.Rails.{is_known, no_rails, rails_at, exchanged, value_read, Reads, AreWithin, AreRailsOf}
 use Rattle.ternary_clauses.proofs.GrowthLemmas.{Grows-refl, Grows-chain, model-here, model-after, rails-kept}
 use Rattle.ternary_clauses.proofs.NodeLemmas.{value-is}
+use Rattle.ternary_clauses.proofs.PickLemmas.{opposite, Reads-opposite}
 use Rattle.ternary_clauses.proofs.ReadingLemmas.{ReadsAll-at}
 use Rattle.clause_queries.specs.Each.{AreNever, IsAnyPossible}
 use Rattle.clause_queries.specs.Queries.{Problem, problem, HasNoModelUnder}
 use Rattle.clause_queries.proofs.ClauseLemmas.{models-same}
 use Rattle.clause_decision.specs.declared.apart.Asked.{Asked}
+use Rattle.clause_decision.specs.declared.pairs.Hint.{Hint}
 use Rattle.clause_decision.specs.declared.pairs.Pair.{Pair}
 use Rattle.clause_decision.specs.declared.scope.Scope.{Scope}
 use Rattle.clause_decision.specs.Apart.{are_apart, is_apart_at, AreNeverApart, IsPairOf, IsWireIn, IsPairIn, ArePairsIn}
 use Rattle.clause_decision.specs.Cones.{column_rails, vector_in, ReadsAbove, ReadsFix, IsCone}
-use Rattle.clause_decision.specs.Pairs.{HasRails, SaysPair, SayPairs, TellPairs, AreRefuted}
+use Rattle.clause_decision.specs.Pairs.{HasRails, SaysPair, AddsLiteral, AddLiterals, SayPairs, TellPairs, AreRefuted}
 use Rattle.clause_decision.proofs.ConeLemmas.{cone-kept}
 use Rattle.clause_decision.proofs.SignalLemmas.{column_rails-length, signal-at, three}
 use Rattle.clause_decision.proofs.UnknownLemmas.{vector-read}
+
+-- what is read past the end of a list of hints
+abbrev pub no_hint : Hint
+no_hint = record { pair = record { here = record { 0 = 0 }; there = record { 0 = 0 } }; opposite = false }
 
 -- what is read past the end of a list of pairs
 abbrev pub no_pair : Pair
@@ -79,6 +85,9 @@ module _ (net : Parts) (care : CareSet) (scope : Scope) (f : Formula) (rails : L
     there = wire-rails pair.there is.there within.there;
   }
 
+  pub hints-have_rails : (hints : List Hint) → All (λ hint. IsPairOf net hint.pair) hints → All (λ hint. IsPairIn net scope hint.pair) hints → All (λ hint. HasRails f rails hint.pair) hints
+  hints-have_rails hints are within = λ k d less. pair-rails (get_or hints k d).pair (are k d less) (within k d less)
+
   pub pairs-have_rails : (pairs : List Pair) → All (IsPairOf net) pairs → ArePairsIn net scope pairs → All (HasRails f rails) pairs
   pairs-have_rails pairs are within = λ k d less. pair-rails (get_or pairs k d) (are k d less) (within k d less)
 
@@ -112,11 +121,39 @@ pairs-step old mid new rails pairs literals pair l was step = record {
       model-after new m one.more (step.complete (m ++ one.more) one.width one.model);
 }
 
+pub exchanged_rails : (f : Formula) (r : Rails) → AreRailsOf f r → AreRailsOf f (exchanged r)
+exchanged_rails f r are = record {
+  within = record { one = are.within.zero; zero = are.within.one; known = are.within.known };
+  reads = λ m h.
+      let opposite_read = Reads-opposite m r (value_read m r) (are.reads m h) in
+      subst (Reads m (exchanged r)) (value-is m (exchanged r) (opposite (value_read m r)) opposite_read) opposite_read;
+}
+
+pub apart_adds : (old new : Formula) (here there : Rails) (l : ℕ) → SaysApart old new here there l → AddsLiteral old new l
+apart_adds old new here there l step = record { grows = step.grows; within = step.within; complete = step.complete }
+
+pub literals-none : (f : Formula) → IsFormula f → AddLiterals f f []
+literals-none f formula = record {
+  grows = Grows-refl f formula;
+  within = All-nil (λ l. l < 2 * f.variables);
+  complete = λ m len h. model-here f m len h;
+}
+
+pub literals-step : (old mid new : Formula) (literals : List ℕ) (l : ℕ) → AddLiterals old mid literals → AddsLiteral mid new l → AddLiterals old new (literals ++ l ∷ [])
+literals-step old mid new literals l was step = record {
+  grows = Grows-chain was.grows step.grows;
+  within = All-push (λ k. k < 2 * new.variables) literals l
+      (All-weaker (λ k. k < 2 * mid.variables) (λ k. k < 2 * new.variables) (λ k less. let x = step.grows.more in omega (arith, less, x)) literals was.within) step.within;
+  complete = λ m len h.
+      let one : HasModelFrom mid m = was.complete m len h in
+      model-after new m one.more (step.complete (m ++ one.more) one.width one.model);
+}
+
 -- hints, and then pairs
-pub pairs-told : (net : Parts) (care : CareSet) (marks : List Bool) (old mid : Formula) (hints pairs : List Pair) (asked : Asked) →
-    IsCone net care marks old asked.cone.rails.items asked.cone.inside asked.cone.allowed → SayPairs old mid asked.cone.rails.items hints asked.hints.items → SayPairs mid asked.cone.formula asked.cone.rails.items pairs asked.pairs.items →
+pub pairs-told : (net : Parts) (care : CareSet) (marks : List Bool) (old mid : Formula) (pairs : List Pair) (asked : Asked) →
+    IsCone net care marks old asked.cone.rails.items asked.cone.inside asked.cone.allowed → AddLiterals old mid asked.hints.items → SayPairs mid asked.cone.formula asked.cone.rails.items pairs asked.pairs.items →
     TellPairs net care marks pairs asked
-pairs-told net care marks old mid hints pairs asked cone first last =
+pairs-told net care marks old mid pairs asked cone first last =
     let f = asked.cone.formula in
     let kept : IsCone net care marks f asked.cone.rails.items asked.cone.inside asked.cone.allowed =
     cone-kept net care marks mid f asked.cone.rails.items asked.cone.inside asked.cone.allowed

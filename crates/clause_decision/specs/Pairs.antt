@@ -1,5 +1,5 @@
 -- Pairs of wires, as clauses.
-use Rattle.std.specs.Prelude.{◌≡◌, ◌<◌, ℕ, Bool, not, List, [], ◌∷◌, length, All}
+use Rattle.std.specs.Prelude.{◌≡◌, ◌<◌, ◌*◌, ℕ, Bool, not, List, [], ◌∷◌, length, All}
 use Rattle.std.specs.List.{AllZip}
 use Rattle.cyc_base.specs.declared.trit.Trit.{Trit}
 use Rattle.netlist.specs.declared.parts.Parts.{Parts}
@@ -32,6 +32,18 @@ pub record SayPairs (old new : Formula) (rails : List Rails) (pairs : List Pair)
   pub grows : Grows old new
   pub within : IsWithin new.variables literals
   pub says_each : (m : List Bool) → IsModel m new → AllZip (SaysPair m rails) pairs literals
+  pub complete : (m : List Bool) → length m ≡ old.variables → IsModel m old → HasModelFrom new m
+
+-- The new formula says nothing of the old one's variables that the old one doesn't, and this is a literal of it.
+pub record AddsLiteral (old new : Formula) (l : ℕ) : Type 0 where
+  pub grows : Grows old new
+  pub within : l < 2 * new.variables
+  pub complete : (m : List Bool) → length m ≡ old.variables → IsModel m old → HasModelFrom new m
+
+-- and so for these
+pub record AddLiterals (old new : Formula) (literals : List ℕ) : Type 0 where
+  pub grows : Grows old new
+  pub within : IsWithin new.variables literals
   pub complete : (m : List Bool) → length m ≡ old.variables → IsModel m old → HasModelFrom new m
 
 -- these literals can be asked for: they are of the formula's variables

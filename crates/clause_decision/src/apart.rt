@@ -4,15 +4,15 @@ ghost use Rattle.std.specs.Prelude.{◌≡◌, ◌∷◌, [], ◌++◌, ◌↔�
 ghost use Rattle.care_sets.specs.Binding.{IsCareOf};
 ghost use Rattle.ternary_clauses.specs.Apart.{SaysApart};
 ghost use Rattle.ternary_clauses.specs.Formulas.{IsFormula};
-ghost use Rattle.ternary_clauses.specs.Rails.{rails_at};
+ghost use Rattle.ternary_clauses.specs.Rails.{exchanged as exchanged_of, rails_at};
 ghost use Rattle.clause_queries.specs.Clauses.{IsWithin};
 ghost use Rattle.clause_queries.specs.Queries.{HasNoModelUnder};
-ghost use Rattle.clause_decision.specs.Apart.{IsPairOf, ArePairsIn, AreNeverApart};
-ghost use Rattle.clause_decision.specs.Pairs.{HasRails, SayPairs, AreAskable, TellPairs, AreRefuted};
+ghost use Rattle.clause_decision.specs.Apart.{IsPairOf, IsPairIn, ArePairsIn, AreNeverApart};
+ghost use Rattle.clause_decision.specs.Pairs.{HasRails, AddsLiteral, AddLiterals, SayPairs, AreAskable, TellPairs, AreRefuted};
 ghost use Rattle.clause_decision.specs.Scopes.{IsScopeOf};
 
 use crate::cones::{Cone, cone_of};
-use crate::pairs::Pair;
+use crate::pairs::{Hint, Pair};
 use crate::question::query_of;
 use crate::scope::Scope;
 use care_sets::Care;
@@ -70,25 +70,70 @@ fn add_pairs(
     Ok(literals)
 }
 
+/// The rails of the complement.
+fn exchanged(rails: Rails) -> Rails
+    ensures { result ≡ exchanged_of rails }
+{
+    Rails {
+        one: rails.zero,
+        zero: rails.one,
+        known: rails.known,
+    }
+}
+
+/// Adds a literal that is true unless the wires of a hint are known and as it has them.
+#[tactic(auto, using(crate::proofs::ApartLemmas::exchanged_rails, crate::proofs::ApartLemmas::apart_adds))]
+fn add_hint(formula: &mut Formula, rails: &[Rails], hint: Hint) -> Result<u32, ClausesFault>
+    requires formula { IsFormula formula.old }
+    requires rails { HasRails formula.old rails.now hint.pair }
+    ensures { IfOk result (AddsLiteral formula.old formula.new) }
+{
+    let here = rails[hint.pair.here.0 as usize];
+    let there = rails[hint.pair.there.0 as usize];
+    if hint.opposite {
+        add_apart(formula, here, exchanged(there))
+    } else {
+        add_apart(formula, here, there)
+    }
+}
+
+/// Adds such a literal for each of these hints.
+fn add_hints(
+    alloc: Global,
+    formula: &mut Formula,
+    rails: &[Rails],
+    hints: &[Hint],
+) -> Result<Vec<u32>, ClausesFault>
+    requires formula { IsFormula formula.old }
+    requires rails { All (λ hint. HasRails formula.old rails.now hint.pair) hints.now }
+    ensures { IfOk result (λ literals. AddLiterals formula.old formula.new literals.items) }
+{
+    let mut literals = Vec::new(alloc);
+    for hint in hints {
+        literals.push(add_hint(formula, rails, *hint)?)?;
+    }
+    Ok(literals)
+}
+
 /// The clauses of a cone, with a literal for each hint and each pair.
 fn asked_of(
     alloc: Global,
     net: &Netlist,
     care: &Care,
     scope: &Scope,
-    hints: &[Pair],
+    hints: &[Hint],
     pairs: &[Pair],
 ) -> Result<Asked, ClausesFault>
     requires care { IsCareOf net.now care.now }
     requires scope { IsScopeOf net.now scope.now }
-    requires hints { All (IsPairOf net.now) hints.now }
-    requires hints_within { ArePairsIn net.now scope.now hints.now }
+    requires hints { All (λ hint. IsPairOf net.now hint.pair) hints.now }
+    requires hints_within { All (λ hint. IsPairIn net.now scope.now hint.pair) hints.now }
     requires pairs { All (IsPairOf net.now) pairs.now }
     requires pairs_within { ArePairsIn net.now scope.now pairs.now }
     ensures { IfOk result (TellPairs net.now care.now scope.now.gates pairs.now) }
 {
     let mut cone = cone_of(alloc, net, care, scope)?;
-    let hints = add_pairs(alloc, &mut cone.formula, &cone.rails, hints)?;
+    let hints = add_hints(alloc, &mut cone.formula, &cone.rails, hints)?;
     let pairs = add_pairs(alloc, &mut cone.formula, &cone.rails, pairs)?;
     Ok(Asked { cone, hints, pairs })
 }
@@ -158,15 +203,15 @@ pub fn are_never_apart(
     net: &Netlist,
     care: &Care,
     scope: &Scope,
-    hints: &[Pair],
+    hints: &[Hint],
     pairs: &[Pair],
     few: u64,
     conflicts: u64,
 ) -> Result<bool, AllocError>
     requires care { IsCareOf net.now care.now }
     requires scope { IsScopeOf net.now scope.now }
-    requires hints { All (IsPairOf net.now) hints.now }
-    requires hints_within { ArePairsIn net.now scope.now hints.now }
+    requires hints { All (λ hint. IsPairOf net.now hint.pair) hints.now }
+    requires hints_within { All (λ hint. IsPairIn net.now scope.now hint.pair) hints.now }
     requires pairs { All (IsPairOf net.now) pairs.now }
     requires pairs_within { ArePairsIn net.now scope.now pairs.now }
     ensures { IfOk result (λ never. never ≡ true → AreNeverApart net.now care.now pairs.now) }

@@ -29,7 +29,7 @@ pub use clause_queries::{First, Found};
 pub use counting::{sweeps_fed_known, sweeps_needed};
 pub use initial::least_outside;
 pub use leaving::least_leaving;
-pub use pairs::Pair;
+pub use pairs::{Hint, Pair};
 pub use scope::Scope;
 pub use simulating::sweeps_at;
 pub use unknown::{each_unknown, first_unknown, least_unknown};

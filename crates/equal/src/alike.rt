@@ -13,7 +13,7 @@ use crate::hints::alike_hints;
 use crate::joining::joined_netlist;
 use crate::prints::fingerprints;
 use care_sets::Care;
-use clause_decision::Pair;
+use clause_decision::{Hint, Pair};
 use loops::{Blocks, find_blocks};
 use netlist::Netlist;
 use std::alloc::{AllocError, Global};
@@ -31,12 +31,12 @@ fn never_apart(
     net: &Netlist,
     blocks: &Blocks,
     care: &Care,
-    hints: &[Pair],
+    hints: &[Hint],
     pairs: &[Pair],
 ) -> Result<bool, AllocError>
     requires blocks { AreBlocksOf net.now blocks.now }
     requires care { IsCareOf net.now care.now }
-    requires hints { All (IsPairOf net.now) hints.now }
+    requires hints { All (λ hint. IsPairOf net.now hint.pair) hints.now }
     requires pairs { All (IsPairOf net.now) pairs.now }
     ensures { IfOk result (λ never. never ≡ true → AreNeverApart net.now care.now pairs.now) }
 {
@@ -52,7 +52,7 @@ fn never_apart(
     )
 }
 
-/// Inner wires of the joined netlist that simulation doesn't tell apart.
+/// Inner wires of the joined netlist that simulation tells neither apart nor from each other's complement.
 fn find_hints(
     alloc: Global,
     a: &Netlist,
@@ -60,11 +60,11 @@ fn find_hints(
     net: &Netlist,
     blocks: &Blocks,
     care: &Care,
-) -> Result<Vec<Pair>, AllocError>
+) -> Result<Vec<Hint>, AllocError>
     requires joined { net.now ≡ joined a.now b.now [] }
     requires blocks { AreBlocksOf net.now blocks.now }
     requires fits { count a.now + length b.now.gates ≤ 4294967295 }
-    ensures { IfOk result (λ hints. All (IsPairOf net.now) hints.items) }
+    ensures { IfOk result (λ hints. All (λ hint. IsPairOf net.now hint.pair) hints.items) }
 {
     let prints = fingerprints(alloc, net, blocks, care)?;
     alike_hints(alloc, a, b, &prints)

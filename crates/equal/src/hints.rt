@@ -1,4 +1,4 @@
-//! Pairs of inner wires of two netlists that may well be equal.
+//! Pairs of inner wires of two netlists that may well be equal, or each the other's complement.
 
 ghost use Rattle.std.specs.Prelude.{◌≡◌, ◌+◌, ◌<◌, ◌≤◌, [], length, All, IfOk, IfSome, OnOk, ℕ};
 ghost use Rattle.indexmap.specs.IndexMap.{values};
@@ -6,21 +6,26 @@ ghost use Rattle.netlist.specs.Netlists.{count};
 ghost use Rattle.clause_decision.specs.Apart.{IsPairOf};
 ghost use Rattle.equal.specs.Joined.{joined};
 
-use clause_decision::Pair;
+use crate::prints::Print;
+use clause_decision::{Hint, Pair};
 use cyc_base::Sig;
 use indexmap::IndexMap;
 use netlist::Netlist;
 use std::alloc::{AllocError, Global};
 
 /// For each fingerprint the first of these many wires that has it.
-fn first_wires(alloc: Global, prints: &[u64], count: u32) -> Result<IndexMap<u64, u32>, AllocError>
+fn first_wires(
+    alloc: Global,
+    prints: &[Print],
+    count: u32,
+) -> Result<IndexMap<u64, u32>, AllocError>
     requires { count ≤ length prints.now }
     ensures { IfOk result (λ firsts. All (λ wire. wire < count) (values firsts)) }
 {
     let mut firsts = IndexMap::new(alloc);
     for behind in 0..count {
         let wire = count - 1 - behind;
-        firsts.insert(prints[wire as usize], wire)?;
+        firsts.insert(prints[wire as usize].own, wire)?;
     }
     Ok(firsts)
 }
@@ -32,40 +37,74 @@ fn first_with(firsts: &IndexMap<u64, u32>, print: u64) -> Option<u32>
     firsts.get(&print).copied()
 }
 
-/// The first netlist's wire of the name of a gate of the second, if they have one fingerprint.
+/// A wire of the first netlist that a gate of the second may well equal, or else, where it is opposite, complement.
+#[derive(Clone, Copy, Debug, PartialEq, Eq)]
+struct Alike {
+    wire: Sig,
+    opposite: bool,
+}
+
+/// Whether wires with these fingerprints may be opposite, and not equal, if they may be one of both.
+fn are_opposite(here: Print, there: Print) -> Option<bool> {
+    if here.own == there.own {
+        return Some(false);
+    }
+    if here.own == there.opposite {
+        return Some(true);
+    }
+    None
+}
+
+/// The first netlist's wire of the name of a gate of the second, if their fingerprints fit.
 #[tactic(auto, using(crate::proofs::AlikeLemmas::named_within))]
-fn named_alike(a: &Netlist, b: &Netlist, number: u32, prints: &[u64]) -> Option<Sig>
+fn named_alike(a: &Netlist, b: &Netlist, number: u32, prints: &[Print]) -> Option<Alike>
     requires number { number < length b.now.gates }
     requires prints { length prints.now ≡ count a.now + length b.now.gates }
     requires fits { count a.now + length b.now.gates ≤ 4294967295 }
-    ensures { IfSome result (λ here. here.0 < count a.now) }
+    ensures { IfSome result (λ alike. alike.wire.0 < count a.now) }
 {
-    let here = a.find(&b.gate(number).name)?;
-    if prints[here.0 as usize] == prints[(a.count() + number) as usize] {
-        Some(here)
-    } else {
-        None
+    let wire = a.find(&b.gate(number).name)?;
+    let opposite = are_opposite(
+        prints[wire.0 as usize],
+        prints[(a.count() + number) as usize],
+    )?;
+    Some(Alike { wire, opposite })
+}
+
+/// The first wire whose fingerprints fit these.
+fn first_alike(firsts: &IndexMap<u64, u32>, print: Print) -> Option<Alike>
+    ensures { (count : ℕ) → All (λ wire. wire < count) (values firsts.now) → IfSome result (λ alike. alike.wire.0 < count) }
+{
+    match first_with(firsts, print.own) {
+        Some(wire) => Some(Alike {
+            wire: Sig(wire),
+            opposite: false,
+        }),
+        None => Some(Alike {
+            wire: Sig(first_with(firsts, print.opposite)?),
+            opposite: true,
+        }),
     }
 }
 
-/// A wire of the first netlist that a gate of the second may well equal. Where there are more, that of its name is the
-/// easiest to prove.
-fn alike_wire(
+/// A wire of the first netlist whose fingerprints fit those of a gate of the second. Where there are more, that of its name
+/// is the easiest to prove.
+fn find_alike(
     a: &Netlist,
     b: &Netlist,
     number: u32,
-    prints: &[u64],
+    prints: &[Print],
     firsts: &IndexMap<u64, u32>,
-) -> Option<Sig>
+) -> Option<Alike>
     requires number { number < length b.now.gates }
     requires prints { length prints.now ≡ count a.now + length b.now.gates }
     requires fits { count a.now + length b.now.gates ≤ 4294967295 }
     requires firsts { All (λ wire. wire < count a.now) (values firsts.now) }
-    ensures { IfSome result (λ here. here.0 < count a.now) }
+    ensures { IfSome result (λ alike. alike.wire.0 < count a.now) }
 {
     match named_alike(a, b, number, prints) {
-        Some(here) => Some(here),
-        None => Some(Sig(first_with(firsts, prints[(a.count() + number) as usize])?)),
+        Some(alike) => Some(alike),
+        None => first_alike(firsts, prints[(a.count() + number) as usize]),
     }
 }
 
@@ -74,38 +113,45 @@ fn add_alike(
     a: &Netlist,
     b: &Netlist,
     number: u32,
-    prints: &[u64],
+    prints: &[Print],
     firsts: &IndexMap<u64, u32>,
-    hints: &mut Vec<Pair>,
+    hints: &mut Vec<Hint>,
 ) -> Result<(), AllocError>
     requires number { number < length b.now.gates }
     requires prints { length prints.now ≡ count a.now + length b.now.gates }
     requires fits { count a.now + length b.now.gates ≤ 4294967295 }
     requires firsts { All (λ wire. wire < count a.now) (values firsts.now) }
-    requires hints { All (IsPairOf (joined a.now b.now [])) hints.old.items }
-    ensures { OnOk result (All (IsPairOf (joined a.now b.now [])) hints.new.items) }
+    requires hints { All (λ hint. IsPairOf (joined a.now b.now []) hint.pair) hints.old.items }
+    ensures { OnOk result (All (λ hint. IsPairOf (joined a.now b.now []) hint.pair) hints.new.items) }
 {
     let there = Sig(a.count() + number);
-    match alike_wire(a, b, number, prints, firsts) {
-        Some(here) => {
-            hints.push(Pair { here, there })?;
+    match find_alike(a, b, number, prints, firsts) {
+        Some(alike) => {
+            let pair = Pair {
+                here: alike.wire,
+                there,
+            };
+            hints.push(Hint {
+                pair,
+                opposite: alike.opposite,
+            })?;
             Ok(())
         }
         None => Ok(()),
     }
 }
 
-/// The gates of the second netlist, in flat order, each beside a wire of the first that has its fingerprint: pairs of the
+/// The gates of the second netlist, in flat order, each beside a wire of the first whose fingerprints fit: pairs of the
 /// joined netlist, whose wires' fingerprints these are.
 pub(crate) fn alike_hints(
     alloc: Global,
     a: &Netlist,
     b: &Netlist,
-    prints: &[u64],
-) -> Result<Vec<Pair>, AllocError>
+    prints: &[Print],
+) -> Result<Vec<Hint>, AllocError>
     requires prints { length prints.now ≡ count a.now + length b.now.gates }
     requires fits { count a.now + length b.now.gates ≤ 4294967295 }
-    ensures { IfOk result (λ hints. All (IsPairOf (joined a.now b.now [])) hints.items) }
+    ensures { IfOk result (λ hints. All (λ hint. IsPairOf (joined a.now b.now []) hint.pair) hints.items) }
 {
     let firsts = first_wires(alloc, prints, a.count())?;
     let mut hints = Vec::new(alloc);

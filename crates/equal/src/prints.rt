@@ -136,19 +136,40 @@ fn on_care(alloc: Global, care: &Care, words: &[Word]) -> Result<u64, AllocError
     Ok(vectors)
 }
 
-/// A fingerprint with one more number: times an odd number, and then its upper half in its lower one too.
+/// The fingerprints of a wire and of its complement.
+#[derive(Clone, Copy, Debug, PartialEq, Eq)]
+pub(crate) struct Print {
+    pub own: u64,
+    pub opposite: u64,
+}
+
+/// A number with one more in it: times an odd number, and then its upper half in its lower one too.
 fn mixed(print: u64, number: u64) -> u64 {
     let mixed = (print ^ number).wrapping_mul(0x9e37_79b9_7f4a_7c15);
     mixed ^ (mixed >> 32)
 }
 
-/// Mixes a word at these vectors into each fingerprint.
-fn mix(words: &[Word], vectors: u64, prints: &mut [u64])
+impl Print {
+    const START: Print = Print {
+        own: 0,
+        opposite: 0,
+    };
+
+    /// The fingerprints with a word more.
+    fn with(self, word: Word) -> Print {
+        Print {
+            own: mixed(mixed(self.own, word.ones), word.zeros),
+            opposite: mixed(mixed(self.opposite, word.zeros), word.ones),
+        }
+    }
+}
+
+/// Mixes a word at these vectors into the fingerprints of each wire.
+fn mix(words: &[Word], vectors: u64, prints: &mut [Print])
     ensures { length prints.new ≡ length prints.old }
 {
     for (print, word) in prints.iter_mut().zip(words) {
-        let Word { ones, zeros } = word.within(vectors);
-        *print = mixed(mixed(*print, ones), zeros);
+        *print = print.with(word.within(vectors));
     }
 }
 
@@ -159,7 +180,7 @@ fn mix_vectors(
     blocks: &Blocks,
     care: &Care,
     number: &mut u64,
-    prints: &mut [u64],
+    prints: &mut [Print],
 ) -> Result<(), AllocError>
     requires { AreBlocksOf net.now blocks.now }
     ensures { length prints.new ≡ length prints.old }
@@ -171,17 +192,17 @@ fn mix_vectors(
     Ok(())
 }
 
-/// A fingerprint for each wire, from its values at some vectors of the care set.
+/// The fingerprints of each wire, from its values at some vectors of the care set.
 pub(crate) fn fingerprints(
     alloc: Global,
     net: &Netlist,
     blocks: &Blocks,
     care: &Care,
-) -> Result<Vec<u64>, AllocError>
+) -> Result<Vec<Print>, AllocError>
     requires { AreBlocksOf net.now blocks.now }
     ensures { IfOk result (λ prints. length prints.items ≡ count net.now) }
 {
-    let mut prints = vec![in alloc; 0u64; net.count() as usize]?;
+    let mut prints = vec![in alloc; Print::START; net.count() as usize]?;
     let mut number = SEED;
     for _ in 0..WORDS {
         mix_vectors(alloc, net, blocks, care, &mut number, &mut prints)?;

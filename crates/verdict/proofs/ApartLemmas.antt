@@ -2,9 +2,10 @@
 use Rattle.std.proofs.Common.{◌≡◌, ℕ, ◌<◌, Bool, true, List, length, get_or, All, arith}
 use Rattle.netlist.specs.declared.parts.Parts.{Parts}
 use Rattle.loops.specs.Sweeps.{gate_of}
+use Rattle.clause_decision.specs.declared.pairs.Hint.{Hint}
 use Rattle.clause_decision.specs.declared.pairs.Pair.{Pair}
 use Rattle.clause_decision.specs.declared.scope.Scope.{Scope}
-use Rattle.clause_decision.specs.Apart.{ArePairsIn, IsPairOf}
+use Rattle.clause_decision.specs.Apart.{ArePairsIn, IsPairIn, IsPairOf}
 use Rattle.clause_decision.specs.Scopes.{is_marked, AreClosed}
 
 abbrev pub AreAllMarked : Parts → List Bool → Type 0
@@ -13,12 +14,17 @@ AreAllMarked net marks = (n : ℕ) → n < length net.gates → is_marked marks 
 pub all_close : (net : Parts) (marks : List Bool) → AreAllMarked net marks → AreClosed net marks
 all_close net marks all m n feeds marked = all m feeds.source
 
-pub pairs_within : (net : Parts) (scope : Scope) (pairs : List Pair) → AreAllMarked net scope.gates → All (IsPairOf net) pairs → ArePairsIn net scope pairs
-pairs_within net scope pairs all are k d less =
-    let pair = are k d less in
-    let here = pair.here in
-    let there = pair.there in
+pub pair_within : (net : Parts) (scope : Scope) (pair : Pair) → AreAllMarked net scope.gates → IsPairOf net pair → IsPairIn net scope pair
+pair_within net scope pair all is =
+    let here = is.here in
+    let there = is.there in
     record {
-      here = λ late. all (gate_of net (get_or pairs k d).here) (omega (arith, here, late));
-      there = λ late. all (gate_of net (get_or pairs k d).there) (omega (arith, there, late));
+      here = λ late. all (gate_of net pair.here) (omega (arith, here, late));
+      there = λ late. all (gate_of net pair.there) (omega (arith, there, late));
     }
+
+pub pairs_within : (net : Parts) (scope : Scope) (pairs : List Pair) → AreAllMarked net scope.gates → All (IsPairOf net) pairs → ArePairsIn net scope pairs
+pairs_within net scope pairs all are k d less = pair_within net scope (get_or pairs k d) all (are k d less)
+
+pub hints_within : (net : Parts) (scope : Scope) (hints : List Hint) → AreAllMarked net scope.gates → All (λ hint. IsPairOf net hint.pair) hints → All (λ hint. IsPairIn net scope hint.pair) hints
+hints_within net scope hints all are k d less = pair_within net scope (get_or hints k d).pair all (are k d less)

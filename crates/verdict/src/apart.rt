@@ -10,7 +10,7 @@ use crate::alone::settled_loops;
 use crate::clauses::LOOP_NODES;
 use crate::scopes::known_gates;
 use care_sets::Care;
-use clause_decision::{Pair, Scope};
+use clause_decision::{Hint, Pair, Scope};
 use cyc_base::Items;
 use looped::LoopedNetlist;
 use loops::{Blocks, find_cut};
@@ -48,20 +48,20 @@ fn whole_scope(alloc: Global, net: &Netlist, blocks: &Blocks) -> Result<Scope, A
 /// and the pairs again. Hints do most where each stands behind those whose wires feed its own; nothing is said of them.
 ///
 /// The condition is that the blocks and the care set are the netlist's, and that the wires of each pair and each hint are.
-#[tactic(auto, using(crate::proofs::ApartLemmas::pairs_within))]
+#[tactic(auto, using(crate::proofs::ApartLemmas::pairs_within, crate::proofs::ApartLemmas::hints_within))]
 pub fn are_never_apart(
     alloc: Global,
     net: &Netlist,
     blocks: &Blocks,
     care: &Care,
-    hints: &[Pair],
+    hints: &[Hint],
     pairs: &[Pair],
     few: u64,
     conflicts: u64,
 ) -> Result<bool, AllocError>
     requires blocks { AreBlocksOf net.now blocks.now }
     requires care { IsCareOf net.now care.now }
-    requires hints { All (IsPairOf net.now) hints.now }
+    requires hints { All (λ hint. IsPairOf net.now hint.pair) hints.now }
     requires pairs { All (IsPairOf net.now) pairs.now }
     ensures { IfOk result (λ never. never ≡ true → AreNeverApart net.now care.now pairs.now) }
 {

@@ -2,10 +2,11 @@ use Rattle.std.proofs.Common.{◌+◌, ◌<◌, ℕ, All, [], subst, sym}
 use Rattle.std.specs.declared.option.Option.{Option}
 use Rattle.std.specs.Prelude.{IfSome}
 use Rattle.std.proofs.lemmas.List.Elements.{All-push}
-use Rattle.cyc_base.specs.declared.sig.Sig.{Sig}
+use Rattle.clause_decision.specs.declared.pairs.Hint.{Hint}
 use Rattle.clause_decision.specs.Apart.{IsPairOf}
 use Rattle.netlist.specs.Netlists.{count, signal}
 use Rattle.equal.specs.Differences.{pair_of}
+use Rattle.equal.specs.declared.hints.Alike.{Alike}
 use Rattle.equal.specs.Joined.{joined}
 use Rattle.equal.proofs.AlikeLemmas.{alike_pair}
 use Rattle.equal.proofs.hints.add_alike.Goals as goal
@@ -14,9 +15,9 @@ pub returns-in_ok-push-in-Some : goal.returns-in_ok-push-in-Some
 returns-in_ok-push-in-Some c =
     let a = c.args.a.now in
     let b = c.args.b.now in
-    subst (All (IsPairOf (joined c.args.a.now c.args.b.now []))) (sym c.in_ok-push-in-Some.ensures.items)
-    (All-push (IsPairOf (joined c.args.a.now c.args.b.now [])) c.args.hints.now.items _ c.requires.hints
-    (subst (λ (m : ℕ). IsPairOf (joined c.args.a.now c.args.b.now []) (pair_of c.in-Some.here (signal (m + c.args.number)))) (sym c.count.ensures.count)
-    (alike_pair a b c.in-Some.here c.args.number
-    (subst (λ (o : Option Sig). IfSome o (λ (here : Sig). here.0 < count c.args.a.now)) c.in-Some.is c.alike_wire.ensures)
+    subst (All (λ (hint : Hint). IsPairOf (joined c.args.a.now c.args.b.now []) hint.pair)) (sym c.in_ok-push-in-Some.ensures.items)
+    (All-push (λ (hint : Hint). IsPairOf (joined c.args.a.now c.args.b.now []) hint.pair) c.args.hints.now.items _ c.requires.hints
+    (subst (λ (m : ℕ). IsPairOf (joined c.args.a.now c.args.b.now []) (pair_of c.in-Some.alike.wire (signal (m + c.args.number)))) (sym c.count.ensures.count)
+    (alike_pair a b c.in-Some.alike.wire c.args.number
+    (subst (λ (o : Option Alike). IfSome o (λ (alike : Alike). alike.wire.0 < count c.args.a.now)) c.in-Some.is c.find_alike.ensures)
     c.requires.number)))

@@ -4,4 +4,4 @@ use Rattle.equal.specs.Joined.{joined}
 use Rattle.equal.proofs.hints.alike_hints.Given as goal
 
 abbrev pub invariant-loop-number : goal.invariant-loop-number
-invariant-loop-number l = All (IsPairOf (joined l.a l.b [])) l.hints.items
+invariant-loop-number l = All (λ hint. IsPairOf (joined l.a l.b []) hint.pair) l.hints.items

@@ -1,0 +1,5 @@
+use Rattle.clause_decision.specs.Pairs.{AddLiterals}
+use Rattle.clause_decision.proofs.apart.add_hints.Given as goal
+
+abbrev pub invariant-loop-hint : goal.invariant-loop-hint
+invariant-loop-hint l = AddLiterals l.fn.formula l.formula l.literals.items
