@@ -1,4 +1,5 @@
 pub mod Covers
 pub mod Extensions
+pub mod Held
 pub mod Laws
 pub mod Partial

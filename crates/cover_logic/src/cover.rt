@@ -1,11 +1,12 @@
-ghost use Rattle.std.specs.Prelude.{◌≡◌, not, length, IfOk};
+ghost use Rattle.std.specs.Prelude.{◌≡◌, ◌↔◌, true, not, length, IfOk};
 ghost use Rattle.std.specs.List.{position_from};
 ghost use Rattle.std.specs.Result.{result_err};
 ghost use Rattle.cover_logic.specs.Covers.{cover_of, first_fault, has_width, IsCover, value};
 ghost use Rattle.cover_logic.specs.Extensions.{ext};
 
 use crate::extend::extension_of_rows;
-use crate::row::{Row, copy_rows};
+use crate::held::Held;
+use crate::row::{Row, are_equal};
 use crate::value::value_of_rows;
 use cyc_base::{MAX_PINS, Trit};
 use std::alloc::{AllocError, Global};
@@ -20,7 +21,7 @@ use thiserror::Error;
 pub struct Cover {
     pins: usize,
     plane: bool,
-    rows: Vec<Row>,
+    rows: Held,
 }
 
 impl Drop for Cover {
@@ -35,12 +36,13 @@ impl Drop for Cover {
 
 impl Model for Cover {
     ghost use Rattle.cover_logic.specs.Covers.{Cover as Rows, IsCover};
+    ghost use Rattle.cover_logic.specs.Held.{rows_of};
 
     ghost Value = { Rows };
 
-    ghost view = { λ cover. record { pins = cover.pins; plane = cover.plane; rows = cover.rows.items } };
+    ghost view = { λ cover. record { pins = cover.pins; plane = cover.plane; rows = rows_of cover.rows } };
 
-    ghost invariant = { λ cover. IsCover (record { pins = cover.pins; plane = cover.plane; rows = cover.rows.items }) };
+    ghost invariant = { λ cover. IsCover (record { pins = cover.pins; plane = cover.plane; rows = rows_of cover.rows }) };
 }
 
 /// Why parts make no cover.
@@ -74,7 +76,11 @@ impl Cover {
             return Err(CoverFault::Width { row });
         }
         let plane = plane || rows.is_empty();
-        Ok(Cover { pins, plane, rows })
+        Ok(Cover {
+            pins,
+            plane,
+            rows: Held::Own(rows),
+        })
     }
 
     /// How many pins it has.
@@ -98,19 +104,37 @@ impl Cover {
         ensures rows { result.now ≡ self.now.rows }
         ensures proper { IsCover self.now }
     {
-        &self.rows
+        self.rows.items()
     }
 
-    /// An equal cover.
+    /// An equal cover. Where the rows are held in common, it holds them too, and takes no memory for them.
     pub fn copy(&self) -> Result<Cover, AllocError>
         ensures { IfOk result (λ cover. cover ≡ self.now) }
     {
-        let rows = copy_rows(*self.rows.allocator(), &self.rows)?;
         Ok(Cover {
             pins: self.pins,
             plane: self.plane,
-            rows,
+            rows: self.rows.copy()?,
         })
+    }
+
+    /// The same cover, whose copies hold its rows in common with it.
+    pub fn shared(self, alloc: Global) -> Result<Cover, AllocError>
+        ensures { IfOk result (λ cover. cover ≡ self) }
+    {
+        let Cover { pins, plane, rows } = self;
+        Ok(Cover {
+            pins,
+            plane,
+            rows: rows.in_common(alloc)?,
+        })
+    }
+
+    /// Whether two covers have the same pins, plane and rows.
+    pub fn is_same(&self, other: &Cover) -> bool
+        ensures { (result ≡ true) ↔ (self.now ≡ other.now) }
+    {
+        self.pins == other.pins && self.plane == other.plane && are_equal(self.rows(), other.rows())
     }
 
     /// The value where the pins have these values, one for each pin.
@@ -118,7 +142,7 @@ impl Cover {
         requires { length bits.now ≡ self.now.pins }
         ensures { result ≡ value self.now bits.now }
     {
-        value_of_rows(self.plane, &self.rows, bits)
+        value_of_rows(self.plane, self.rows(), bits)
     }
 
     /// The exact ternary extension, for as many values as pins: b where the value is b at every completion, by
@@ -132,6 +156,6 @@ impl Cover {
         requires { length trits.now ≡ self.now.pins }
         ensures { IfOk result (λ trit. trit ≡ ext self.now trits.now) }
     {
-        extension_of_rows(alloc, self.plane, &self.rows, trits)
+        extension_of_rows(alloc, self.plane, self.rows(), trits)
     }
 }

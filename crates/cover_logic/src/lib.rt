@@ -6,6 +6,7 @@
 
 mod cover;
 mod extend;
+mod held;
 pub mod laws;
 mod row;
 mod value;

@@ -1,4 +1,4 @@
-ghost use Rattle.std.specs.Prelude.{◌≡◌, IfOk};
+ghost use Rattle.std.specs.Prelude.{◌≡◌, ◌↔◌, true, IfOk};
 
 use cyc_base::Items;
 use std::alloc::{AllocError, Global};
@@ -26,6 +26,27 @@ impl Row {
             lits: Items::of(lits),
         })
     }
+
+    fn is_same(&self, other: &Row) -> bool
+        ensures { (result ≡ true) ↔ (self.now ≡ other.now) }
+    {
+        self.lits.items() == other.lits.items()
+    }
+}
+
+/// Whether these rows are the same, one by one.
+pub(crate) fn are_equal(rows: &[Row], others: &[Row]) -> bool
+    ensures { (result ≡ true) ↔ (rows.now ≡ others.now) }
+{
+    if rows.len() != others.len() {
+        return false;
+    }
+    for (row, other) in rows.iter().zip(others) {
+        if !row.is_same(other) {
+            return false;
+        }
+    }
+    true
 }
 
 /// Equal rows.
