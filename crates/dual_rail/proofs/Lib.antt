@@ -1,4 +1,5 @@
 mod ClassLemmas
+mod EndLemmas
 mod ExpansionLemmas
 mod LiveLemmas
 mod MemoLemmas

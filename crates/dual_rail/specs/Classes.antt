@@ -1,5 +1,5 @@
 -- Classes of rows that agree from a pin on.
-use Rattle.std.specs.Prelude.{◌≡◌, ◌<◌, ◌-◌, ℕ, List, [], length, Some, None}
+use Rattle.std.specs.Prelude.{◌≡◌, ◌<◌, ◌-◌, ℕ, nat_le, Bool, List, [], length, map, Some, None}
 use Rattle.std.specs.declared.option.Option.{Option}
 use Rattle.std.specs.List.{slice_index_or}
 use Rattle.cover_logic.specs.declared.row.Lit.{Lit}
@@ -7,7 +7,7 @@ use Rattle.cover_logic.specs.declared.row.Lit.TheVariants.{Zero, One, Any}
 use Rattle.cover_logic.specs.declared.row.Row.{Row}
 use Rattle.dual_rail.specs.declared.classes.Firsts.{Firsts}
 use Rattle.dual_rail.specs.declared.classes.Classes.{Classes}
-use Rattle.dual_rail.specs.Expansion.{literal, suffix}
+use Rattle.dual_rail.specs.Expansion.{literal, suffix, end_of}
 
 abbrev pub number : List ℕ → ℕ → ℕ
 number numbers row = slice_index_or numbers row row
@@ -30,7 +30,15 @@ class_of classes pin = number (classes_at classes pin)
 abbrev pub AreClassesOf : List Row → Classes → Type 0
 AreClassesOf rows classes = (pin : ℕ) → pin < length classes.at_pins.items → AreClasses rows pin (classes_at classes pin)
 
--- the same from the end, behind so many pins, back
+-- where each row ends
+abbrev pub AreEndsOf : List Row → Classes → Type 0
+AreEndsOf rows classes = classes.ends ≡ map (λ row. end_of row.lits) rows
+
+-- whether a pin stands behind the end of a row
+abbrev pub is_behind_end : Classes → ℕ → ℕ → Bool
+is_behind_end classes pin row = nat_le (slice_index_or classes.ends row 0) pin
+
+-- the classes from the end, behind so many pins, back
 abbrev pub AreClassesBack : List Row → ℕ → List (List ℕ) → Type 0
 AreClassesBack rows pins classes = (back : ℕ) → back < length classes → AreClasses rows (pins - back) (slice_index_or classes back [])
 

@@ -1,5 +1,5 @@
 -- Shannon's expansion of rows: what is left to be matched where the first pins are known.
-use Rattle.std.specs.Prelude.{◌≡◌, ◌≤◌, ◌+◌, ◌==◌, ◌&&◌, ℕ, Bool, true, false, not, List, [], length, drop, slice_get, if◌then◌else◌}
+use Rattle.std.specs.Prelude.{◌≡◌, ◌≤◌, ◌+◌, ◌==◌, ◌&&◌, ◌∷◌, ℕ, zero, suc, Bool, true, false, not, List, [], length, drop, slice_get, if◌then◌else◌}
 use Rattle.std.specs.List.{list_any, list_all, filter, slice_index_or, zip}
 use Rattle.std.specs.Option.{option_map_or}
 use Rattle.bdd_store.specs.declared.node.Node.{Node}
@@ -28,6 +28,16 @@ suffix rows pin row = drop pin (lits_of rows row)
 -- whether it asks nothing of this pin and of those after it
 abbrev pub is_settled : List Row → ℕ → ℕ → Bool
 is_settled rows pin row = list_all is_any (suffix rows pin row)
+
+-- where literals end, by whether the first one asks nothing and where the others end
+abbrev pub end_behind : Bool → ℕ → ℕ
+end_behind true zero = 0
+end_behind any end = suc end
+
+-- how many first literals there are up to the last one that asks something
+abbrev pub end_of : List Lit → ℕ
+end_of [] = 0
+end_of (lit ∷ lits) = end_behind (is_any lit) (end_of lits)
 
 -- whether it matches at this pin and at those after it
 abbrev pub matches_from : List Row → ℕ → List Bool → ℕ → Bool

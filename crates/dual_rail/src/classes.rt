@@ -1,9 +1,10 @@
 //! Rows that agree from a pin on, as one: the states of an automaton that reads a row from its last pin back.
-ghost use Rattle.std.specs.Prelude.{◌≡◌, ◌<◌, ◌≤◌, ◌+◌, List, ◌⊎◌, ℕ, length, All, Some, None, IfOk, OnOk};
+ghost use Rattle.std.specs.Prelude.{◌≡◌, ◌<◌, ◌≤◌, ◌+◌, List, ◌⊎◌, ℕ, length, map, All, Some, None, IfOk, OnOk};
 ghost use Rattle.cover_logic.specs.declared.row.Lit.{Lit as Literal};
-ghost use Rattle.dual_rail.specs.Classes.{first_of, first_in, none, AreClasses, AreNumbered, AreClassesOf, AreClassesBack, class_of};
+ghost use Rattle.dual_rail.specs.Expansion.{end_of};
+ghost use Rattle.dual_rail.specs.Classes.{first_of, first_in, none, AreClasses, AreNumbered, AreClassesOf, AreClassesBack, AreEndsOf, class_of, is_behind_end};
 
-use crate::rows::literal;
+use crate::rows::{end_of, literal};
 use cover_logic::{Lit, Row};
 use cyc_base::Items;
 use std::alloc::{AllocError, Global};
@@ -105,10 +106,11 @@ fn classes_before(
 }
 
 /// For each pin, and behind the last one, the class of each row: rows that agree from there on have one number,
-/// which is that of the first of them.
+/// which is that of the first of them. And for each row where it ends.
 #[derive(Debug, Drop)]
 pub struct Classes {
     pub at_pins: Vec<Items<usize>>,
+    pub ends: Items<usize>,
 }
 
 // The classes of all pins, from behind the last pin to the first one.
@@ -127,6 +129,15 @@ fn from_last(alloc: Global, rows: &[Row], pins: usize) -> Result<Vec<Items<usize
     Ok(classes)
 }
 
+// Where each row ends.
+fn ends_of(alloc: Global, rows: &[Row]) -> Result<Vec<usize>, AllocError>
+    ensures { IfOk result (λ ends. ends.items ≡ map (λ row. end_of row.lits) rows.now) }
+{
+    rows.iter()
+        .map(|row| end_of(row.lits.items()))
+        .collect(alloc)
+}
+
 impl Classes {
     /// The classes of rows of so many literals.
     pub(crate) fn of(alloc: Global, rows: &[Row], pins: usize) -> Result<Classes, AllocError>
@@ -134,10 +145,12 @@ impl Classes {
         requires pins { pins ≤ 1024 }
         ensures pins { IfOk result (λ classes. length classes.at_pins.items ≡ pins + 1) }
         ensures classes { IfOk result (AreClassesOf rows.now) }
+        ensures ends { IfOk result (AreEndsOf rows.now) }
     {
         let mut at_pins = from_last(alloc, rows, pins)?;
         at_pins.reverse();
-        Ok(Classes { at_pins })
+        let ends = Items::of(ends_of(alloc, rows)?);
+        Ok(Classes { at_pins, ends })
     }
 
     /// The number of a row's class from a pin on.
@@ -148,5 +161,12 @@ impl Classes {
             Some(numbers) => numbers.items().get(row).copied().unwrap_or(row),
             None => row,
         }
+    }
+
+    /// Whether a row asks nothing of this pin and of those after it.
+    pub(crate) fn is_settled(&self, row: usize, pin: usize) -> bool
+        ensures { result ≡ is_behind_end self.now pin row }
+    {
+        self.ends.items().get(row).copied().unwrap_or(0) <= pin
     }
 }

@@ -3,34 +3,34 @@ ghost use Rattle.std.specs.Prelude.{◌≡◌, ◌<◌, ◌≤◌, ◌+◌, ℕ,
 ghost use Rattle.std.specs.List.{list_any, range_with_len};
 ghost use Rattle.bdd_store.specs.Arena.{den, top_of, IsNodeOf};
 ghost use Rattle.bdd_store.specs.Growth.{KeepsNodes, NewAreParts, IsRefusedPart};
-ghost use Rattle.dual_rail.specs.Expansion.{is_settled, remainder, narrowed, IsExpansion, AreBranches};
-ghost use Rattle.dual_rail.specs.Classes.{AreClassesOf};
+ghost use Rattle.dual_rail.specs.Expansion.{remainder, narrowed, IsExpansion, AreBranches};
+ghost use Rattle.dual_rail.specs.Classes.{AreClassesOf, AreEndsOf, is_behind_end};
+ghost use Rattle.cover_logic.specs.declared.row.Row.{Row as TheRow};
 ghost use Rattle.cover_logic.specs.Covers.{value};
 ghost use Rattle.dual_rail.specs.Memo.{IsMemo};
 
 use crate::classes::Classes;
 use crate::live::Live;
-use crate::rows::is_settled;
 use bdd_store::{Node, Store, StoreFault};
 use cover_logic::{Cover, Row};
 use std::alloc::Global;
 use std::collections::HashMap;
 
-fn any_settled(rows: &[Row], live: &[usize], pin: usize) -> bool
-    ensures { result ≡ list_any (is_settled rows.now pin) live.now }
+fn any_settled(classes: &Classes, live: &[usize], pin: usize) -> bool
+    ensures { result ≡ list_any (is_behind_end classes.now pin) live.now }
 {
-    live.iter().any(|row| is_settled(rows, *row, pin))
+    live.iter().any(|row| classes.is_settled(*row, pin))
 }
 
 // The value, where the pins before this one decide it.
-fn decided(rows: &[Row], plane: bool, pin: usize, live: &[usize]) -> Option<bool>
-    ensures found { IfSome result (λ b. (bits : List Bool) → remainder rows.now plane pin live.now bits ≡ b) }
-    ensures none { (pins : ℕ) → All (λ row. length row.lits ≡ pins) rows.now → IfNone result (pin < pins) }
+fn decided(classes: &Classes, plane: bool, pin: usize, live: &[usize]) -> Option<bool>
+    ensures found { (rows : List TheRow) → AreEndsOf rows classes.now → IfSome result (λ b. (bits : List Bool) → remainder rows plane pin live.now bits ≡ b) }
+    ensures none { (rows : List TheRow) (pins : ℕ) → AreEndsOf rows classes.now → All (λ row. length row.lits ≡ pins) rows → IfNone result (pin < pins) }
 {
     if live.is_empty() {
         return Some(!plane);
     }
-    if any_settled(rows, live, pin) {
+    if any_settled(classes, live, pin) {
         return Some(plane);
     }
     None
@@ -78,6 +78,7 @@ fn branch(
     requires width { All (λ row. length row.lits ≡ store.old.vars) rows.now }
     requires pins { store.old.vars ≤ 1024 }
     requires classes { AreClassesOf rows.now classes.now }
+    requires ends { AreEndsOf rows.now classes.now }
     requires at { live.now.pin < store.old.vars }
     requires memo { IsMemo rows.now plane store.old memo.old }
 
@@ -106,6 +107,7 @@ fn expand(
     requires width { All (λ row. length row.lits ≡ store.old.vars) rows.now }
     requires pins { store.old.vars ≤ 1024 }
     requires classes { AreClassesOf rows.now classes.now }
+    requires ends { AreEndsOf rows.now classes.now }
     requires at { live.pin ≤ store.old.vars }
     requires memo { IsMemo rows.now plane store.old memo.old }
 
@@ -115,7 +117,7 @@ fn expand(
     ensures parts { NewAreParts store.old store.new (remainder rows.now plane live.pin live.rows.items) }
     ensures full { result ≡ Err StoreFault.Full → IsRefusedPart store.new (remainder rows.now plane live.pin live.rows.items) }
 {
-    if let Some(b) = decided(rows, plane, live.pin, &live.rows) {
+    if let Some(b) = decided(classes, plane, live.pin, &live.rows) {
         return Ok(Node::of(b));
     }
     if let Some(n) = memo.get(&live).copied() {

@@ -1,7 +1,7 @@
 //! What rows ask of a pin and of those after it.
-ghost use Rattle.std.specs.Prelude.{◌≡◌};
+ghost use Rattle.std.specs.Prelude.{◌≡◌, not};
 ghost use Rattle.std.specs.List.{list_all, zip};
-ghost use Rattle.dual_rail.specs.Expansion.{lits_of, literal, is_any, is_settled, suffix, is_within, is_contained};
+ghost use Rattle.dual_rail.specs.Expansion.{lits_of, literal, is_any, end_of, suffix, is_within, is_contained};
 ghost use Rattle.cover_logic.specs.Covers.{allows};
 
 use cover_logic::{Lit, Row};
@@ -43,17 +43,23 @@ fn suffix(rows: &[Row], row: usize, pin: usize) -> &[Lit]
     if pin < lits.len() { &lits[pin..] } else { &[] }
 }
 
-fn ask_nothing(lits: &[Lit]) -> bool
-    ensures { result ≡ list_all is_any lits.now }
+fn asks(lit: Lit) -> bool
+    ensures { result ≡ not (is_any lit) }
 {
-    lits.iter().all(|lit| matches!(*lit, Lit::Any))
+    !matches!(lit, Lit::Any)
 }
 
-// Whether a row asks nothing of this pin and of those after it.
-pub(crate) fn is_settled(rows: &[Row], row: usize, pin: usize) -> bool
-    ensures { result ≡ is_settled rows.now pin row }
+// How many first pins there are up to the last one of which these literals ask something.
+pub(crate) fn end_of(lits: &[Lit]) -> usize
+    ensures { result ≡ end_of lits.now }
 {
-    ask_nothing(suffix(rows, row, pin))
+    let mut end = 0;
+    for pin in 0..lits.len() {
+        if asks(lits[pin]) {
+            end = pin + 1;
+        }
+    }
+    end
 }
 
 // Whether each value that a literal allows is allowed by the other one.

@@ -21,21 +21,21 @@ expand-returns-in-Some-copied-clause-node t c = IsMemo-found c.args.rows.now c.a
 
 pub expand-branch-rows-requires : goal.expand-branch-rows-requires
 expand-branch-rows-requires t c =
-    let less : c.args.live.pin < c.args.store.now.vars = rw c.in_default.is at (c.decided.ensures.none c.args.store.now.vars c.requires.width) in
-    (omega (arith, c.decreases), (c.requires.width, (c.requires.pins, (c.requires.classes, (less, c.requires.memo)))))
+    let less : c.args.live.pin < c.args.store.now.vars = rw c.in_default.is at (c.decided.ensures.none c.args.rows.now c.args.store.now.vars c.requires.ends c.requires.width) in
+    (omega (arith, c.decreases), (c.requires.width, (c.requires.pins, (c.requires.classes, (c.requires.ends, (less, c.requires.memo))))))
 
 pub expand-branch-rows-requires-2 : goal.expand-branch-rows-requires-2
 expand-branch-rows-requires-2 t c =
-    let less : c.args.live.pin < c.args.store.now.vars = rw c.in_default.is at (c.decided.ensures.none c.args.store.now.vars c.requires.width) in
+    let less : c.args.live.pin < c.args.store.now.vars = rw c.in_default.is at (c.decided.ensures.none c.args.rows.now c.args.store.now.vars c.requires.ends c.requires.width) in
     let vars = c.branch-rows.ensures.keeps.vars in
-    (omega (arith, c.decreases, vars), ((λ k d at. c.requires.width k d at ∙ sym c.branch-rows.ensures.keeps.vars), (omega (arith, vars, c.requires.pins), (c.requires.classes, (omega (arith, vars), c.in_ok-low.ensures.memo)))))
+    (omega (arith, c.decreases, vars), ((λ k d at. c.requires.width k d at ∙ sym c.branch-rows.ensures.keeps.vars), (omega (arith, vars, c.requires.pins), (c.requires.classes, (c.requires.ends, (omega (arith, vars), c.in_ok-low.ensures.memo))))))
 
 pub expand-returns-in_err-high-clause-parts : goal.expand-returns-in_err-high-clause-parts
 expand-returns-in_err-high-clause-parts t c = NewAreParts-chain c.branch-rows.ensures.keeps c.branch-rows-2.ensures.keeps c.branch-rows.ensures.parts c.branch-rows-2.ensures.parts
 
 pub expand-join-requires-clause-pin : goal.expand-join-requires-clause-pin
 expand-join-requires-clause-pin t c =
-    let less : c.args.live.pin < c.args.store.now.vars = rw c.in_default.is at (c.decided.ensures.none c.args.store.now.vars c.requires.width) in
+    let less : c.args.live.pin < c.args.store.now.vars = rw c.in_default.is at (c.decided.ensures.none c.args.rows.now c.args.store.now.vars c.requires.ends c.requires.width) in
     omega (arith, less, c.branch-rows.ensures.keeps.vars, c.branch-rows-2.ensures.keeps.vars)
 
 pub expand-returns-clause-parts : goal.expand-returns-clause-parts
