@@ -9,6 +9,9 @@ use cyc_base::{Items, Name};
 use std::alloc::{AllocError, Global};
 use std::marker::Model;
 
+// So many rows may have more room than they need.
+const FEW_ROWS: usize = 4;
+
 pub struct OpenGate {
     pins: Items<Name>,
     output: Name,
@@ -82,7 +85,10 @@ impl OpenGate {
             first,
             mut rows,
         } = self;
-        rows.shrink_to_fit();
+        // A few rows keep their room, since most such covers are let go for an equal one.
+        if rows.len() > FEW_ROWS {
+            rows.shrink_to_fit();
+        }
         let cover = whole_cover(pins.items().len(), first, rows);
         Ok(GateLine {
             pins,
