@@ -17,6 +17,7 @@ mod open_model;
 mod parts;
 mod place;
 mod reader;
+mod recent_covers;
 mod rows;
 mod statement;
 mod subckts;

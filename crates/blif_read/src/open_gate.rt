@@ -1,12 +1,16 @@
 // A gate whose rows may go on.
-ghost use Rattle.std.specs.Prelude.{◌≡◌, ◌≤◌, ◌++◌, ◌∷◌, [], All, OnOk, OnErr, Some, length, unwrap_or, true, None};
+ghost use Rattle.std.specs.Prelude.{◌≡◌, ◌≤◌, ◌++◌, ◌∷◌, [], All, IfOk, OnOk, OnErr, Some, length, unwrap_or, true, None};
 ghost use Rattle.blif_read.specs.Running.{IsOpenGate, new_gate, add_row, gate_line};
 
 use crate::models::GateLine;
+use crate::recent_covers::RecentCovers;
 use cover_logic::{Cover, Row};
 use cyc_base::{Items, Name};
 use std::alloc::{AllocError, Global};
 use std::marker::Model;
+
+// So many rows may have more room than they need.
+const FEW_ROWS: usize = 4;
 
 pub struct OpenGate {
     pins: Items<Name>,
@@ -71,8 +75,9 @@ impl OpenGate {
         self.first
     }
 
-    pub fn into_line(self) -> GateLine
-        ensures { result ≡ gate_line self }
+    // The gate, where no more rows follow. Its cover holds its rows in common with an equal one of these.
+    pub fn into_line(self, alloc: Global, covers: &mut RecentCovers) -> Result<GateLine, AllocError>
+        ensures { IfOk result (λ line. line ≡ gate_line self) }
     {
         let OpenGate {
             pins,
@@ -80,13 +85,16 @@ impl OpenGate {
             first,
             mut rows,
         } = self;
-        rows.shrink_to_fit();
+        // A few rows keep their room, since most such covers are let go for an equal one.
+        if rows.len() > FEW_ROWS {
+            rows.shrink_to_fit();
+        }
         let cover = whole_cover(pins.items().len(), first, rows);
-        GateLine {
+        Ok(GateLine {
             pins,
             output,
-            cover,
-        }
+            cover: covers.share(alloc, cover)?,
+        })
     }
 }
 

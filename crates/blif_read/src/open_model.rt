@@ -6,6 +6,7 @@ ghost use Rattle.blif_read.specs.Progress.{seen, without_gate};
 use crate::models::{BlifModel, Item};
 use crate::open_gate::OpenGate;
 use crate::place::Place;
+use crate::recent_covers::RecentCovers;
 use crate::statement::Statement;
 use cover_logic::Row;
 use cyc_base::{Items, Name};
@@ -19,6 +20,7 @@ pub struct OpenModel {
     clocks: Vec<Name>,
     body: Vec<Item>,
     gate: Option<OpenGate>,
+    covers: RecentCovers,
 }
 
 impl Drop for OpenModel {
@@ -30,6 +32,7 @@ impl Drop for OpenModel {
             clocks: _,
             body: _,
             gate: _,
+            covers: _,
         } = self;
     }
 }
@@ -45,6 +48,7 @@ impl OpenModel {
             clocks: Vec::new(alloc),
             body: Vec::new(alloc),
             gate: None,
+            covers: RecentCovers::new(alloc),
         }
     }
 
@@ -71,7 +75,9 @@ impl OpenModel {
         ensures { OnOk result (seen self.new ≡ without_gate (seen self.old)) }
     {
         if let Some(gate) = self.gate.take() {
-            self.body.push(Item::Gate(gate.into_line()))?;
+            let alloc = *self.body.allocator();
+            let line = gate.into_line(alloc, &mut self.covers)?;
+            self.body.push(Item::Gate(line))?;
         }
         Ok(())
     }
@@ -163,6 +169,7 @@ impl OpenModel {
             clocks,
             body,
             gate: _,
+            covers: _,
         } = self;
         Ok(BlifModel {
             name,

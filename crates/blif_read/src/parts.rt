@@ -30,6 +30,10 @@ pub fn read_parts(alloc: Global, bytes: &[u8]) -> Result<Items<BlifModel>, BlifF
     let mut parts = LineParts::new(alloc);
     for i in 0..bytes.len() {
         parts.take(true, bytes, i)?;
+        // A part ends where a line does.
+        if bytes[i] != b'\n' {
+            continue;
+        }
         if let Some(part) = parts.part(alloc) {
             take_part(alloc, &part, &mut reader)?;
         }

@@ -64,26 +64,34 @@ fn differs(first: Option<bool>, plane: bool) -> bool
     }
 }
 
-fn check_row_of(pins: usize, first: Option<bool>, lines: &Lines, i: usize) -> Result<(), BlifFault>
-    requires { i < length lines.now }
+fn check_row_of(
+    pins: usize,
+    first: Option<bool>,
+    plane: bool,
+    lines: &Lines,
+    i: usize,
+) -> Result<(), BlifFault>
+    requires line { i < length lines.now }
+    requires plane { plane ≡ is_on (line_at lines.now i) }
     ensures { result_err result ≡ row_fault_in pins first (line_at lines.now i) }
 {
     let line = lines.number(i);
     if !is_row_of(pins, lines, i) {
         return Err(BlifFault::BadRow { line });
     }
-    if differs(first, is_on(lines, i)) {
+    if differs(first, plane) {
         return Err(BlifFault::MixedRows { line });
     }
     Ok(())
 }
 
-fn check_row(place: Place, lines: &Lines, i: usize) -> Result<(), BlifFault>
-    requires { i < length lines.now }
+fn check_row(place: Place, plane: bool, lines: &Lines, i: usize) -> Result<(), BlifFault>
+    requires line { i < length lines.now }
+    requires plane { plane ≡ is_on (line_at lines.now i) }
     ensures { result_err result ≡ row_fault place.pins place.first (line_at lines.now i) }
 {
     match place.pins {
-        Some(pins) => check_row_of(pins, place.first, lines, i),
+        Some(pins) => check_row_of(pins, place.first, plane, lines, i),
         None => Err(BlifFault::StrayRow {
             line: lines.number(i),
         }),
@@ -130,10 +138,11 @@ pub fn read_row(
     ensures { let line = line_at lines.now i in
         Reads result (row_fault place.pins place.first line) (Statement.Row (record { lits = lits_of line.words }) (is_on line)) }
 {
-    check_row(place, lines, i)?;
+    let plane = is_on(lines, i);
+    check_row(place, plane, lines, i)?;
     let lits = lits_of(alloc, lines, i)?;
     Ok(Statement::Row {
         row: Row { lits },
-        plane: is_on(lines, i),
+        plane,
     })
 }

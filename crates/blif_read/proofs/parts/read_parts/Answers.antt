@@ -9,6 +9,10 @@ use Rattle.blif_read.proofs.parts.read_parts.Goals.{in-Some+in_ok-take_part, in_
 pub loop-i-init : goal.loop-i-init
 loop-i-init c = at_start c.args.bytes.now (progress_of c.new-reader.result) c.new-parts.result c.new-reader.ensures c.new-parts.ensures
 
+pub loop-i-preserved-then-bytes-i-ne10 : goal.loop-i-preserved-then-bytes-i-ne10
+loop-i-preserved-then-bytes-i-ne10 c =
+    at_byte c.args.bytes.now (progress_of c.loop-i.reader) c.loop-i.parts c.take.new.self c.loop-i.i c.loop-i.invariant (omega arith) c.in_ok-take.ensures
+
 pub loop-i-preserved : goal.loop-i-preserved
 loop-i-preserved c =
     let read = at_byte c.args.bytes.now (progress_of c.loop-i.reader) c.loop-i.parts c.take.new.self c.loop-i.i c.loop-i.invariant (omega arith) c.in_ok-take.ensures in
