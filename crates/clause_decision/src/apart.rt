@@ -24,6 +24,9 @@ use ternary_clauses::{ClausesFault, Formula, Rails, add_apart};
 /// How many hints the solver may give up on: no more are asked for then.
 const FAILURES: usize = 1_000;
 
+/// How many times as many conflicts are allowed where the first ones were too few.
+const MORE: u64 = 20;
+
 /// A cone, with a literal for each hint and for each pair.
 struct Asked {
     cone: Cone,
@@ -145,8 +148,30 @@ fn are_marked(marks: &[bool]) -> bool
     marks.iter().all(|mark| *mark)
 }
 
-/// Whether each of the last literals is refuted with the care literals: with few conflicts each, and then with more, where
-/// what the solver learns of the first ones helps. A model of one of the last ends it.
+/// Whether each of the last literals is refuted with the care literals, after the first ones were asked for with few
+/// conflicts each. What the solver learns of them helps.
+fn are_refuted_after(
+    alloc: Global,
+    query: &mut Query,
+    care: &[u32],
+    first: &[u32],
+    last: &[u32],
+    few: u64,
+    conflicts: u64,
+) -> Result<bool, AllocError>
+    requires care { IsWithin query.old.variables care.now }
+    requires first { IsWithin query.old.variables first.now }
+    requires last { IsWithin query.old.variables last.now }
+    ensures unchanged { query.new ≡ query.old }
+    ensures refuted { IfOk result (λ refuted. refuted ≡ true → All (λ l. HasNoModelUnder query.old (care.now ++ l ∷ [])) last.now) }
+{
+    let _ = query.never_each(alloc, first, care, few, FAILURES)?;
+    let never = query.never_each(alloc, last, care, conflicts, 1)?;
+    Ok(are_marked(&never))
+}
+
+/// Whether each of the last literals is refuted with the care literals: at once with few conflicts each, or behind the first
+/// ones, with more and then with many. A model of one of the last, found at once, ends it.
 fn ask_pairs(
     alloc: Global,
     query: &mut Query,
@@ -164,9 +189,12 @@ fn ask_pairs(
     if let Some(possible) = query.is_any_possible(alloc, last, care, few)? {
         return Ok(!possible);
     }
-    let _ = query.never_each(alloc, first, care, few, FAILURES)?;
-    let never = query.never_each(alloc, last, care, conflicts, 1)?;
-    Ok(are_marked(&never))
+    if are_refuted_after(alloc, query, care, first, last, few, conflicts)? {
+        return Ok(true);
+    }
+    let few = few.saturating_mul(MORE);
+    let conflicts = conflicts.saturating_mul(MORE);
+    are_refuted_after(alloc, query, care, first, last, few, conflicts)
 }
 
 /// Whether each pair's literal is refuted.
@@ -192,9 +220,9 @@ fn ask_all(alloc: Global, asked: &Asked, few: u64, conflicts: u64) -> Result<boo
 /// Whether at no care vector one wire of one of these pairs is 0 and its other wire 1. False says nothing of them.
 ///
 /// Each pair is asked for with few conflicts. Where no model has them apart, and the solver gave up on some, the hints are
-/// asked for one by one, with few conflicts each, and then the pairs with more. What the solver learns of each pair is
-/// there for the next, so hints do most where each stands behind those that feed its wires, from the inputs on (Kuehlmann
-/// and Krohm 1997).
+/// asked for one by one, with few conflicts each, and then the pairs with more; and where that is too few, both once again
+/// with twenty times as many. What the solver learns of each pair is there for the next, so hints do most where each stands
+/// behind those that feed its wires, from the inputs on (Kuehlmann and Krohm 1997).
 ///
 /// The condition is that the care set and the scope are the netlist's, and that each wire is an input, a latch or a gate in
 /// the scope.
