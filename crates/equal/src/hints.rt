@@ -10,6 +10,7 @@ use crate::prints::Print;
 use clause_decision::{Hint, Pair};
 use cyc_base::Sig;
 use indexmap::IndexMap;
+use loops::find_blocks;
 use netlist::Netlist;
 use std::alloc::{AllocError, Global};
 
@@ -141,8 +142,31 @@ fn add_alike(
     }
 }
 
-/// The gates of the second netlist, in flat order, each beside a wire of the first whose fingerprints fit: pairs of the
-/// joined netlist, whose wires' fingerprints these are.
+/// Adds these gates of the second netlist, each beside such a wire.
+fn add_all_alike(
+    a: &Netlist,
+    b: &Netlist,
+    gates: &[u32],
+    prints: &[Print],
+    firsts: &IndexMap<u64, u32>,
+    hints: &mut Vec<Hint>,
+) -> Result<(), AllocError>
+    requires gates { All (λ gate. gate < length b.now.gates) gates.now }
+    requires prints { length prints.now ≡ count a.now + length b.now.gates }
+    requires fits { count a.now + length b.now.gates ≤ 4294967295 }
+    requires firsts { All (λ wire. wire < count a.now) (values firsts.now) }
+    requires hints { All (λ hint. IsPairOf (joined a.now b.now []) hint.pair) hints.old.items }
+    ensures { OnOk result (All (λ hint. IsPairOf (joined a.now b.now []) hint.pair) hints.new.items) }
+{
+    for gate in gates {
+        add_alike(a, b, *gate, prints, firsts, hints)?;
+    }
+    Ok(())
+}
+
+/// The gates of the second netlist, each beside a wire of the first whose fingerprints fit: pairs of the joined netlist,
+/// whose wires' fingerprints these are. A gate stands behind those that it reads, but for those of its own loop, since what
+/// is known of them makes its own pair easy.
 pub(crate) fn alike_hints(
     alloc: Global,
     a: &Netlist,
@@ -154,9 +178,12 @@ pub(crate) fn alike_hints(
     ensures { IfOk result (λ hints. All (λ hint. IsPairOf (joined a.now b.now []) hint.pair) hints.items) }
 {
     let firsts = first_wires(alloc, prints, a.count())?;
+    let blocks = find_blocks(alloc, b)?;
+    let list = blocks.list.items();
     let mut hints = Vec::new(alloc);
-    for number in 0..b.gates() {
-        add_alike(a, b, number, prints, &firsts, &mut hints)?;
+    for place in 0..list.len() {
+        let gates = list[place].gates.items();
+        add_all_alike(a, b, gates, prints, &firsts, &mut hints)?;
     }
     Ok(hints)
 }

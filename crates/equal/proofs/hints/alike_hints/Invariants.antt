@@ -3,5 +3,5 @@ use Rattle.clause_decision.specs.Apart.{IsPairOf}
 use Rattle.equal.specs.Joined.{joined}
 use Rattle.equal.proofs.hints.alike_hints.Given as goal
 
-abbrev pub invariant-loop-number : goal.invariant-loop-number
-invariant-loop-number l = All (λ hint. IsPairOf (joined l.a l.b []) hint.pair) l.hints.items
+abbrev pub invariant-loop-place : goal.invariant-loop-place
+invariant-loop-place l = All (λ hint. IsPairOf (joined l.a l.b []) hint.pair) l.hints.items
