@@ -3,11 +3,7 @@ use Rattle.std.proofs.Common.{◌≡◌, ℕ, ◌+◌, ◌<◌, Bool, true, fals
 use Rattle.std.proofs.lemmas.List.{append-nil, map-append}
 use Rattle.std.proofs.lemmas.List.Folds.{list_any-append, find-append}
 use Rattle.std.proofs.lemmas.Map.Keys.{IsDistinct-cons, IsDistinct-push}
-use Rattle.std.proofs.lemmas.Grind.{flat_map-append}
 use Rattle.std.specs.Cmp.Lexicographic.{nat_list_eq_equiv}
-use Rattle.std.specs.Iterator.{Yields}
-use Rattle.std.specs.Vec.Iter.{into_iter_items, into_iter_steps}
-use Rattle.std.specs.declared.vec.IntoIter.{IntoIter}
 use Rattle.std.specs.List.{IsDistinct, AllByRecursion, find, flat_map}
 use Rattle.std.specs.Option.{option_or, option_map_or}
 use Rattle.std.specs.Str.{bytes_eq}
@@ -171,19 +167,11 @@ some_or o p x e = ap (λ t. option_or t p) e
 pub none_or_is : {X : Type 0} (o p : Option X) → o ≡ None → option_or o p ≡ p
 none_or_is o p e = ap (λ t. option_or t p) e
 
--- no gate before this one reads such a wire
-pub find_behind : (p : List ℕ → Bool) (before : List GateLine) (g : GateLine) (rest : List GateLine) → find p (flat_map (λ x. x.pins) before) ≡ None → find p (flat_map (λ x. x.pins) (before ++ g ∷ rest)) ≡ option_or (find p g.pins) (find p (flat_map (λ x. x.pins) rest))
-find_behind p before g rest e =
+-- in the pins of a gate and of those behind it
+pub find_next : (p : List ℕ → Bool) (g : GateLine) (rest gates : List GateLine) → gates ≡ g ∷ rest → find p (flat_map (λ x. x.pins) gates) ≡ option_or (find p g.pins) (find p (flat_map (λ x. x.pins) rest))
+find_next p g rest gates is =
     let pins : GateLine → List (List ℕ) = λ x. x.pins in
-    ap (λ names. find p names) (flat_map-append pins before (g ∷ rest))
-    ∙ find-append p (flat_map pins before) (g.pins ++ flat_map pins rest)
-    ∙ none_or_is _ _ e
-    ∙ find-append p g.pins (flat_map pins rest)
-
--- what the iterator of a vector has given is a front of its items
-pub taken_front : {X A : Type 0} (s : IntoIter X A) (xs : List X) (t : IntoIter X A) → Yields into_iter_steps s xs t → into_iter_items s ≡ xs ++ into_iter_items t
-taken_front s [] t y = ap into_iter_items y
-taken_front s (x ∷ xs) t y = y.1.0 ∙ ap (λ ys. x ∷ ys) (taken_front y.0 xs t y.2)
+    ap (λ gs. find p (flat_map pins gs)) is ∙ find-append p g.pins (flat_map pins rest)
 
 -- controls by the first one
 other_is : (top : BlifModel) (f c : Clock) → is_other_control (is_clock_of top f.name) f c ≡ not (is_fitting top f c)

@@ -1,5 +1,5 @@
 -- Where no instance stands in a model, the walk comes to the lines of its body.
-use Rattle.std.proofs.Common.{◌≡◌, inl, inr, ℕ, zero, suc, ◌+◌, ◌<◌, ◌≤◌, nat_le, Bool, true, false, if◌then◌else◌, List, [], ◌∷◌, ◌++◌, length, map, refl, sym, ap, ◌∙◌, arith, All, Some, None, Ok, Err, option_map}
+use Rattle.std.proofs.Common.{◌≡◌, inl, inr, ℕ, zero, suc, ◌+◌, ◌<◌, ◌≤◌, nat_le, Bool, true, false, if◌then◌else◌, List, [], ◌∷◌, length, map, refl, sym, ap, ◌∙◌, arith, All, Some, None, Ok, Err, option_map}
 use Rattle.std.proofs.lemmas.Bool.{cases_lt}
 use Rattle.std.proofs.lemmas.List.Elements.{All-nil, All-cons, All-head, All-tail}
 use Rattle.std.specs.List.{list_any}
@@ -21,19 +21,7 @@ use Rattle.flatten.specs.Printable.{IsPrintedGate, IsPrintedLatch, ArePrintedLin
 use Rattle.flatten.specs.Walk.{Event, FlatLines, events, events_by, decided, then_gate, then_latch}
 use Rattle.flatten.specs.Wires.{mark_of}
 
--- the lines of two bodies, one behind the other
-pub gates_behind : (xs ys : List Item) → own_gates (xs ++ ys) ≡ own_gates xs ++ own_gates ys
-gates_behind [] ys = refl
-gates_behind (Gate g ∷ xs) ys = ap (λ gates. g ∷ gates) (gates_behind xs ys)
-gates_behind (Latch l ∷ xs) ys = gates_behind xs ys
-gates_behind (Part p ∷ xs) ys = gates_behind xs ys
-
-pub latches_behind : (xs ys : List Item) → own_latches (xs ++ ys) ≡ own_latches xs ++ own_latches ys
-latches_behind [] ys = refl
-latches_behind (Gate g ∷ xs) ys = latches_behind xs ys
-latches_behind (Latch l ∷ xs) ys = ap (λ latches. l ∷ latches) (latches_behind xs ys)
-latches_behind (Part p ∷ xs) ys = latches_behind xs ys
-
+-- a body has no more lines than items
 pub few_own_lines : (items : List Item) → length (own_latches items) + length (own_gates items) ≤ length items
 few_own_lines [] = omega arith
 few_own_lines (Gate g ∷ items) = let h = few_own_lines items in omega (arith, h)

@@ -7,6 +7,7 @@ ghost use Rattle.flatten.specs.Levels.{lines_of};
 
 use crate::fault::FlatFault;
 use crate::link::link;
+use crate::remaining::Remaining;
 use crate::walk::FlatBody;
 use blif_read::{BlifModel, Item};
 use cyc_base::Items;
@@ -48,7 +49,8 @@ fn add_lines(lines: &mut FlatBody, body: Vec<Item>) -> Result<(), AllocError>
     requires latches { lines.old.latches.items ≡ [] }
     ensures { OnOk result (lines_of lines.new ≡ own_lines_by body.items) }
 {
-    for item in body {
+    let mut remaining = Remaining::of(body);
+    while let Some(item) = remaining.next() {
         add_line(lines, item)?;
     }
     Ok(())

@@ -13,6 +13,7 @@ pub mod laws;
 mod library;
 mod link;
 mod mark;
+mod remaining;
 mod scope;
 mod walk;
 

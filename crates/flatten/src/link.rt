@@ -8,6 +8,7 @@ ghost use Rattle.flatten.specs.Levels.{lines_of};
 
 use crate::fault::FlatFault;
 use crate::library::{add_all, add_copy};
+use crate::remaining::Remaining;
 use crate::walk::FlatBody;
 use blif_read::{BlifModel, GateLine, LatchLine};
 use cyc_base::{Items, Name, Sig};
@@ -343,7 +344,8 @@ fn flat_gates(
         ⊎ (option_map FlatFault.ClockRead (find (is_unread drivers.now) (flat_map (λ g. g.pins) gates.items)) ≡ Some fault)) }
 {
     let mut flat = Vec::with_capacity(alloc, gates.len())?;
-    for gate in gates {
+    let mut remaining = Remaining::of(gates);
+    while let Some(gate) = remaining.next() {
         flat.push(flat_gate(alloc, drivers, gate)?)?;
     }
     Ok(flat)

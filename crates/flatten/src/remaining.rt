@@ -1,0 +1,44 @@
+//! Lists that are handed over item by item.
+
+ghost use Rattle.std.specs.Prelude.{◌≡◌, ◌∷◌, [], MatchOption};
+
+use std::marker::Model;
+
+/// So many items are handed over before their memory is given back.
+const GIVEN_BACK: usize = 4_096;
+
+/// What remains of a list whose items are handed over in their order. The memory of those is given back on the
+/// way, so that the list and what is made of it needn't stand whole side by side.
+#[derive(Drop)]
+pub(crate) struct Remaining<T: Drop> {
+    /// The items, with the next one at the end.
+    left: Vec<T>,
+}
+
+impl<T: Drop> Model for Remaining<T> {
+    ghost use Rattle.std.specs.Prelude.{List, reverse};
+
+    ghost Value = { List T };
+
+    ghost view = { λ remaining. reverse remaining.left.items };
+}
+
+impl<T: Drop> Remaining<T> {
+    pub(crate) fn of(items: Vec<T>) -> Remaining<T>
+        ensures { result ≡ items.items }
+    {
+        let mut left = items;
+        left.reverse();
+        Remaining { left }
+    }
+
+    /// Hands the next item over.
+    pub(crate) fn next(&mut self) -> Option<T>
+        ensures { MatchOption result (self.old ≡ []) (λ item. self.old ≡ item ∷ self.new) }
+    {
+        if self.left.len() % GIVEN_BACK == 0 {
+            self.left.shrink_to_fit();
+        }
+        self.left.pop()
+    }
+}
