@@ -1,10 +1,12 @@
 pub mod ApartLemmas
 pub mod ChangeLemmas
 pub mod ConeLemmas
+pub mod EventLemmas
 pub mod FormulaLemmas
 pub mod LeavingLemmas
 pub mod LoopLemmas
 pub mod ModelLemmas
+pub mod ReaderLemmas
 pub mod SignalLemmas
 pub mod SimulationLemmas
 pub mod StartLemmas

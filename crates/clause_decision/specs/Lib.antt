@@ -2,12 +2,14 @@ pub mod Apart
 pub mod Changes
 pub mod Cones
 pub mod Countings
+pub mod Events
 pub mod Formulas
 pub mod Loads
 pub mod LoopsAt
 pub mod NextStates
 pub mod Pairs
 pub mod Questions
+pub mod Readers
 pub mod Scopes
 pub mod Simulations
 pub mod Starts

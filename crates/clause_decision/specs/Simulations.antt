@@ -1,5 +1,5 @@
 -- A loop at one vector, sweep by sweep.
-use Rattle.std.specs.Prelude.{◌≡◌, ◌≢◌, ◌<◌, ◌==◌, ◌&&◌, ℕ, nat_le, Bool, true, if◌then◌else◌, List, Contains}
+use Rattle.std.specs.Prelude.{◌<◌, ◌==◌, ◌&&◌, ℕ, nat_le, Bool, if◌then◌else◌, List, Contains}
 use Rattle.cyc_base.specs.declared.sig.Sig.{Sig}
 use Rattle.cyc_base.specs.declared.trit.Trit.{Trit}
 use Rattle.cyc_base.specs.Values.{bits}
@@ -17,13 +17,6 @@ seen_of l outside before after pin =
     if nat_le (first_gate l.net) pin.0 && home_of l.blocks (gate_of l.net pin) == l.number
     then (if is_cut l.cut.wires (gate_of l.net pin) then value_in before (gate_of l.net pin) else value_in after (gate_of l.net pin))
     else wire outside pin
-
--- a cut wire among these gates that differs in two states
-pub record HasChanged (cut : ℕ → Bool) (gates : List ℕ) (before after : List Trit) : Type 0 where
-  pub wire : ℕ
-  pub inside : Contains gates wire
-  pub is_cut : cut wire ≡ true
-  pub differs : value_in before wire ≢ value_in after wire
 
 -- so many sweeps of the loop of these gates are enough at the vector, and no fewer are
 pub record IsCountAt (net : Parts) (loops : Loops) (v : List Bool) (gates : List ℕ) (m : ℕ) : Type 0 where

@@ -18,6 +18,7 @@ mod looped_block;
 mod models;
 mod pairs;
 mod question;
+mod readers;
 mod scope;
 mod simulating;
 mod sweeping;

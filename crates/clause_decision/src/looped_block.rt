@@ -1,10 +1,13 @@
 //! A block of a netlist that is a loop, with the places of its cut wires.
 
-ghost use Rattle.std.specs.Prelude.{◌≡◌, ◌<◌, ◌==◌, true, length, All, IfOk};
+ghost use Rattle.std.specs.Prelude.{◌≡◌, ◌<◌, ◌==◌, true, length, All, IfOk, IfSome};
+ghost use Rattle.netlist.specs.Netlists.{IsSignal};
 ghost use Rattle.loops.specs.Blocks.{block_at, home_of};
 ghost use Rattle.loops.specs.Cuts.{is_cut};
 ghost use Rattle.clause_decision.specs.LoopsAt.{gates_in, loop_at, AreCutPlaces, IsLoopAt};
+ghost use Rattle.clause_decision.specs.Readers.{source_of};
 
+use cyc_base::Sig;
 use looped::LoopedNetlist;
 use loops::{Blocks, Cut};
 use netlist::Netlist;
@@ -135,6 +138,23 @@ impl<'a> LoopedBlock<'a> {
         ensures { result ≡ (home_of self.now.blocks gate == self.now.number) }
     {
         self.looped.blocks().home.items()[gate as usize] == self.number
+    }
+
+    /// The gate of the loop that drives a signal.
+    pub(crate) fn source(&self, signal: Sig) -> Option<u32>
+        requires { IsSignal self.now.net signal }
+        ensures source { result ≡ source_of self.now signal }
+        ensures fits { IfSome result (λ gate. gate < length self.now.net.gates) }
+    {
+        let first = self.net().inputs() + self.net().latches();
+        if signal.0 < first {
+            return None;
+        }
+        let gate = signal.0 - first;
+        if !self.contains(gate) {
+            return None;
+        }
+        Some(gate)
     }
 
     /// Whether a gate is a cut wire.

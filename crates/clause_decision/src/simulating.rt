@@ -1,23 +1,23 @@
 //! How many sweeps a loop needs at one vector, by ternary simulation.
 
-ghost use Rattle.std.specs.Prelude.{◌≡◌, ◌↔◌, ◌<◌, ℕ, List, true, false, length, map, All, Contains, IfOk};
+ghost use Rattle.std.specs.Prelude.{◌≡◌, ◌<◌, List, true, length, map, All, IfOk};
 ghost use Rattle.cyc_base.specs.declared.trit.Trit.{Trit};
 ghost use Rattle.cyc_base.specs.Values.{bits};
-ghost use Rattle.cover_logic.specs.Extensions.{ext};
 ghost use Rattle.netlist.specs.Fixpoint.{fix};
-ghost use Rattle.netlist.specs.Netlists.{count, gate_at, IsSignal};
+ghost use Rattle.netlist.specs.Netlists.{count, IsSignal};
 ghost use Rattle.loops.specs.Blocks.{AreBlocksOf, block_at};
-ghost use Rattle.loops.specs.Cuts.{IsCutOf, is_cut, loops_by};
-ghost use Rattle.loops.specs.Orders.{IsOrderOf, sweep_in};
-ghost use Rattle.loops.specs.Sweeps.{value_in};
+ghost use Rattle.loops.specs.Cuts.{IsCutOf, loops_by};
 ghost use Rattle.care_sets.specs.Care.{columns};
-ghost use Rattle.clause_decision.specs.LoopsAt.{gates_in, loops_in, IsLoopAt};
-ghost use Rattle.clause_decision.specs.Simulations.{seen_of, HasChanged, IsCountAt};
+ghost use Rattle.clause_decision.specs.Events.{cover_value, IsNewValue, IsReady, IsSwept};
+ghost use Rattle.clause_decision.specs.LoopsAt.{gates_in, loops_in, LoopAt, IsLoopAt};
+ghost use Rattle.clause_decision.specs.Readers.{AreReaders};
+ghost use Rattle.clause_decision.specs.Simulations.{seen_of, IsCountAt};
 
 use crate::looped_block::LoopedBlock;
+use crate::readers::{Readers, readers_in};
 use cyc_base::{Sig, Trit};
 use looped::LoopedNetlist;
-use loops::{Blocks, Cut, order_of_block};
+use loops::{Blocks, Cut};
 use netlist::Netlist;
 use std::alloc::{AllocError, Global};
 use ternary_run::settle;
@@ -100,79 +100,89 @@ fn gate_value(
     requires outside { length outside.now ≡ count block.now.net }
     requires before { length before.now ≡ length block.now.net.gates }
     requires after { length after.now ≡ length block.now.net.gates }
-    ensures value { IfOk result (λ value. value ≡ ext (gate_at block.now.net gate).cover (map (seen_of block.now outside.now before.now after.now) (gate_at block.now.net gate).pins)) }
-    ensures is { IsLoopAt block.now }
+    ensures { IfOk result (λ value. value ≡ cover_value block.now outside.now before.now after.now gate) }
 {
     let read = block.net().gate(gate);
     let pins = seen_pins(alloc, block, outside, before, after, read.pins.items())?;
     read.cover.extend(alloc, &pins)
 }
 
-/// The state after a sweep of a loop, which sets its gates in this order.
+/// The value of a gate, where it was unknown until now and no longer is.
+fn new_value(
+    alloc: Global,
+    block: &LoopedBlock<'_>,
+    outside: &[Trit],
+    before: &[Trit],
+    after: &[Trit],
+    gate: u32,
+) -> Result<Option<Trit>, AllocError>
+    requires gate { gate < length block.now.net.gates }
+    requires outside { length outside.now ≡ count block.now.net }
+    requires before { length before.now ≡ length block.now.net.gates }
+    requires after { length after.now ≡ length block.now.net.gates }
+    ensures { IfOk result (IsNewValue block.now outside.now before.now after.now gate) }
+{
+    if after[gate as usize] != Trit::X {
+        return Ok(None);
+    }
+    match gate_value(alloc, block, outside, before, after, gate)? {
+        Trit::X => Ok(None),
+        value => Ok(Some(value)),
+    }
+}
+
+/// Sets the gates that wait, and those that then read something new, and answers which cut wires have changed.
+///
+/// A gate becomes known at most once in all sweeps of a loop, and only then do its readers wait. So all sweeps together
+/// compute each gate at most once more than it has pins in the loop.
 fn sweep(
     alloc: Global,
     block: &LoopedBlock<'_>,
-    order: &[u32],
+    readers: &[Readers],
     outside: &[Trit],
     before: &[Trit],
-) -> Result<Vec<Trit>, AllocError>
-    requires order { (n : ℕ) → Contains order.now n → Contains (gates_in block.now) n }
-    requires gates { All (λ n. n < length block.now.net.gates) order.now }
+    after: &mut [Trit],
+    mut waiting: Vec<u32>,
+) -> Result<Vec<u32>, AllocError>
+    requires block { IsLoopAt block.now }
+    requires readers { AreReaders block.now (gates_in block.now) readers.now }
     requires outside { length outside.now ≡ count block.now.net }
-    requires before { length before.now ≡ length block.now.net.gates }
-    ensures width { IfOk result (λ after. length after.items ≡ length block.now.net.gates) }
-    ensures swept { (v : List Trit) → outside.now ≡ fix block.now.net v → IfOk result (λ after. after.items ≡ sweep_in block.now.net (loops_in block.now) v before.now order.now before.now) }
+    requires ready { IsReady block.now outside.now before.now after.old waiting.items }
+    ensures { IfOk result (λ changed. IsSwept block.now outside.now before.now after.new changed.items) }
 {
-    let mut after = before.to_vec(alloc)?;
-    for gate in order {
-        let value = gate_value(alloc, block, outside, before, &after, *gate)?;
-        after[*gate as usize] = value;
-    }
-    Ok(after)
-}
-
-fn value_at(state: &[Trit], gate: u32) -> Trit
-    requires { gate < length state.now }
-    ensures { result ≡ value_in state.now gate }
-{
-    state[gate as usize]
-}
-
-/// Whether a gate has one value in two states.
-fn is_same(before: &[Trit], after: &[Trit], gate: u32) -> bool
-    requires before { gate < length before.now }
-    requires after { gate < length after.now }
-    ensures { (result ≡ true) ↔ (value_in before.now gate ≡ value_in after.now gate) }
-{
-    value_at(before, gate) == value_at(after, gate)
-}
-
-/// Whether a cut wire of a loop differs in two states.
-fn has_changed(block: &LoopedBlock<'_>, before: &[Trit], after: &[Trit]) -> bool
-    requires before { length before.now ≡ length block.now.net.gates }
-    requires after { length after.now ≡ length block.now.net.gates }
-    ensures changed { result ≡ true → HasChanged (is_cut block.now.cut.wires) (gates_in block.now) before.now after.now }
-    ensures same { result ≡ false → (n : ℕ) → Contains (gates_in block.now) n → is_cut block.now.cut.wires n ≡ true → value_in before.now n ≡ value_in after.now n }
-{
-    for gate in block.gates() {
-        if block.is_cut(*gate) && !is_same(before, after, *gate) {
-            return true;
+    let mut changed = Vec::new(alloc);
+    while let Some(gate) = waiting.pop() {
+        if let Some(value) = new_value(alloc, block, outside, before, after, gate)? {
+            after[gate as usize] = value;
+            if block.is_cut(gate) {
+                changed.push(gate)?;
+            } else {
+                waiting.extend_from_slice(readers[gate as usize].gates())?;
+            }
         }
     }
-    false
+    Ok(changed)
 }
 
-/// An order for the gates of a loop in a sweep.
-fn order_of(alloc: Global, block: &LoopedBlock<'_>) -> Result<Vec<u32>, AllocError>
-    ensures { IfOk result (λ order. IsOrderOf block.now.net (is_cut block.now.cut.wires) (gates_in block.now) order.items) }
+/// Lets gates see the cut wires that have changed, and answers which of them then wait.
+fn show(
+    alloc: Global,
+    readers: &[Readers],
+    changed: &[u32],
+    before: &mut [Trit],
+    after: &[Trit],
+) -> Result<Vec<u32>, AllocError>
+    requires readers { All (λ n. n < length readers.now) changed.now }
+    requires before { All (λ n. n < length before.old) changed.now }
+    requires after { All (λ n. n < length after.now) changed.now }
+    ensures { (l : LoopAt) (outside : List Trit) → AreReaders l (gates_in l) readers.now → IsSwept l outside before.old after.now changed.now → IfOk result (λ waiting. IsReady l outside before.new after.now waiting.items) }
 {
-    order_of_block(
-        alloc,
-        block.net(),
-        block.blocks(),
-        block.cut(),
-        block.number(),
-    )
+    let mut waiting = Vec::new(alloc);
+    for wire in changed {
+        before[*wire as usize] = after[*wire as usize];
+        waiting.extend_from_slice(readers[*wire as usize].gates())?;
+    }
+    Ok(waiting)
 }
 
 /// How many sweeps a loop needs at a vector. So many as it has cut wires are enough.
@@ -186,14 +196,18 @@ pub(crate) fn count_at(
 {
     let most = block.cut_count();
     let outside = values_at(alloc, block.net(), vector)?;
-    let order = order_of(alloc, block)?;
+    let readers = readers_in(alloc, block)?;
     let mut before = vec![in alloc; Trit::X; block.net().gates() as usize]?;
+    let mut after = vec![in alloc; Trit::X; block.net().gates() as usize]?;
+    let mut waiting = block.gates().to_vec(alloc)?;
     for sweeps in 0..most {
-        let after = sweep(alloc, block, &order, &outside, &before)?;
-        if !has_changed(block, &before, &after) {
+        let changed = sweep(
+            alloc, block, &readers, &outside, &before, &mut after, waiting,
+        )?;
+        if changed.is_empty() {
             return Ok(sweeps);
         }
-        before = after;
+        waiting = show(alloc, &readers, &changed, &mut before, &after)?;
     }
     Ok(most)
 }

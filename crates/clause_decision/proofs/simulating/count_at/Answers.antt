@@ -1,20 +1,160 @@
-use Rattle.std.proofs.Common.{◌≡◌, ◌∙◌, ◌+◌, inl, inr, ℕ, List, Bool, length, sym, ap, ap₂, subst, arith, length-append}
+use Rattle.std.proofs.Common.{rules, ◌≡◌, ◌∙◌, ◌+◌, ◌<◌, inl, inr, ℕ, Bool, List, length, get_or, replicate, sym, ap, ap₂, subst, arith, length-append}
 use Rattle.std.specs.List.{Contains}
+use Rattle.std.specs.Vec.{with_items}
 use Rattle.std.proofs.lemmas.Bool.{cases_lt}
-use Rattle.std.proofs.lemmas.List.{length-map}
+use Rattle.std.proofs.lemmas.Bool.Decides.{nat_tests}
+use Rattle.std.proofs.lemmas.List.{length-map, with_items_is}
+use Rattle.std.proofs.lemmas.List.Elements.{Contains-get_or}
 use Rattle.cyc_base.specs.declared.trit.Trit.{Trit}
+use Rattle.cyc_base.specs.declared.trit.Trit.TheVariants.{X}
 use Rattle.cyc_base.specs.Values.{bit, bits}
 use Rattle.netlist.specs.declared.parts.Parts.{Parts}
 use Rattle.netlist.specs.Fixpoint.{fix, fix_gates}
 use Rattle.loops.specs.Cuts.{is_cut}
-use Rattle.loops.specs.Orders.{sweep_in}
-use Rattle.loops.specs.Sweeps.{CutsAreFixed}
+use Rattle.loops.specs.Sweeps.{CutsAreFixed, value_in}
 use Rattle.loops.proofs.Sweeps.{length-fix}
+use Rattle.clause_decision.specs.Events.{IsReady, IsSwept}
 use Rattle.clause_decision.specs.LoopsAt.{LoopAt, gates_in, loops_in}
-use Rattle.clause_decision.specs.Simulations.{HasChanged}
-use Rattle.clause_decision.proofs.SimulationLemmas.{changed-lists, changed-needs, order-fits, same-lists, still-fixed, sweep-same, swept-next}
-use Rattle.clause_decision.proofs.LoopLemmas.{cuts-enough}
+use Rattle.clause_decision.specs.Readers.{AreReaders}
+use Rattle.clause_decision.proofs.EventLemmas.{ready-first}
+use Rattle.clause_decision.proofs.LoopLemmas.{cuts-enough, gate-fits}
+use Rattle.clause_decision.proofs.SimulationLemmas.{changed-needs, still-fixed, swept-next, unknown-first}
 use Rattle.clause_decision.proofs.simulating.count_at.Goals as goal
+
+pub loop-sweeps-init : goal.loop-sweeps-init
+loop-sweeps-init c =
+    let l : LoopAt = c.args.block.now in
+    let before : c.in_ok-before.before.items ≡ replicate (length l.net.gates) X =
+    c.in_ok-before.ensures.items_if_clones_equal (search rules) ∙ ap (λ (n : ℕ). replicate n X) (c.gates.ensures.gates ∙ ap (λ (net : Parts). length net.gates) c.net-2.ensures.net) in
+    let after : c.in_ok-after.after.items ≡ replicate (length l.net.gates) X =
+    c.in_ok-after.ensures.items_if_clones_equal (search rules) ∙ ap (λ (n : ℕ). replicate n X) (c.gates-2.ensures.gates ∙ ap (λ (net : Parts). length net.gates) c.net-3.ensures.net) in
+    record {
+      ready = ready-first l c.in_ok-outside.outside.items c.in_ok-before.before.items c.in_ok-after.after.items c.in_ok-waiting.waiting.items before after
+          (c.in_ok-waiting.ensures.items_if_clones_equal (search rules) ∙ c.gates-3.ensures.gates);
+      at = λ n there cut. unknown-first l.net (loops_in l) (bits c.args.vector.now) c.in_ok-before.before.items before n;
+      more = λ a j inside low. absurd (omega (arith, low));
+    }
+
+pub sweep-requires-clause-block : goal.sweep-requires-clause-block
+sweep-requires-clause-block c = c.cut_count-most.ensures.is
+
+pub sweep-requires-clause-readers : goal.sweep-requires-clause-readers
+sweep-requires-clause-readers c = subst (λ (rows : List (List ℕ)). AreReaders c.args.block.now (gates_in c.args.block.now) rows) (sym c.deref.ensures.value) c.in_ok-readers.ensures
+
+pub sweep-requires-clause-outside : goal.sweep-requires-clause-outside
+sweep-requires-clause-outside c =
+    let l : LoopAt = c.args.block.now in
+    let v : List Trit = bits c.args.vector.now in
+    ap length (c.deref-in-loop-sweeps.ensures.value ∙ c.in_ok-outside.ensures ∙ ap (λ (net : Parts). fix net v) c.net.ensures.net)
+    ∙ length-append v (fix_gates l.net v)
+    ∙ ap₂ (λ (a b : ℕ). a + b) (length-map c.args.vector.now bit ∙ c.requires) (length-fix l.net (loops_in l) v)
+
+pub sweep-requires-clause-ready : goal.sweep-requires-clause-ready
+sweep-requires-clause-ready c =
+    let l : LoopAt = c.args.block.now in
+    let waiting : List ℕ = c.loop-sweeps.waiting.items in
+    subst (λ (s : List Trit). IsReady l s c.deref-in-loop-sweeps-2.result.now c.deref_mut.result.now waiting) (sym c.deref-in-loop-sweeps.ensures.value)
+    (subst (λ (s : List Trit). IsReady l c.in_ok-outside.outside.items s c.deref_mut.result.now waiting) (sym c.deref-in-loop-sweeps-2.ensures.value)
+    (subst (λ (s : List Trit). IsReady l c.in_ok-outside.outside.items c.loop-sweeps.before.items s waiting) (sym c.deref_mut.ensures.value) c.loop-sweeps.invariant.ready))
+
+pub returns-then-is_empty : goal.returns-then-is_empty
+returns-then-is_empty c =
+    let l : LoopAt = c.args.block.now in
+    let is = c.cut_count-most.ensures.is in
+    let v : List Bool = c.args.vector.now in
+    let k : ℕ = c.loop-sweeps.sweeps in
+    let outside : List Trit = c.in_ok-outside.outside.items in
+    let before : List Trit = c.loop-sweeps.before.items in
+    let after : List Trit = c.sweep.new.after in
+    let changed : List ℕ = c.in_ok-changed.changed.items in
+    let inv = c.loop-sweeps.invariant in
+    let swept : IsSwept l outside before after changed =
+    subst (λ (s : List Trit). IsSwept l s before after changed) c.deref-in-loop-sweeps.ensures.value
+    (subst (λ (s : List Trit). IsSwept l c.deref-in-loop-sweeps.result.now s after changed) c.deref-in-loop-sweeps-2.ensures.value c.in_ok-changed.ensures) in
+    let none : length changed ≡ 0 = (let empty = c.if-is_empty.ensures in let own = c.in_ok-changed.changed.ok.0 in grind (arith, nat_tests)) in
+    let next = swept-next l is (bits v) outside before after k (c.in_ok-outside.ensures ∙ ap (λ (net : Parts). fix net (bits v)) c.net.ensures.net) swept.sweeping inv.at in
+    record {
+      enough = still-fixed l is v (length-map v bit ∙ c.requires) before after k inv.at next
+          (λ n there cut. elim (swept.unseen.each n there cut) [ inl alike ↦ alike | inr listed ↦ absurd (omega (arith, listed.1, none)) ]);
+      least = inv.more;
+    }
+
+pub show-requires-clause-readers : goal.show-requires-clause-readers
+show-requires-clause-readers c k d low =
+    let l : LoopAt = c.args.block.now in
+    let n : ℕ = get_or c.deref-in-loop-sweeps-4.result.now k d in
+    let listed : Contains c.in_ok-changed.changed.items n = subst (λ (ns : List ℕ). Contains ns n) c.deref-in-loop-sweeps-4.ensures.value (Contains-get_or c.deref-in-loop-sweeps-4.result.now k d low) in
+    let fits = gate-fits l c.cut_count-most.ensures.is n (c.in_ok-changed.ensures.unseen.inside n listed) in
+    let size = ap length c.deref-in-loop-sweeps-3.ensures.value in
+    omega (arith, fits, size, c.in_ok-readers.ensures.size)
+
+pub show-requires-clause-before : goal.show-requires-clause-before
+show-requires-clause-before c k d low =
+    let l : LoopAt = c.args.block.now in
+    let n : ℕ = get_or c.deref-in-loop-sweeps-4.result.now k d in
+    let listed : Contains c.in_ok-changed.changed.items n = subst (λ (ns : List ℕ). Contains ns n) c.deref-in-loop-sweeps-4.ensures.value (Contains-get_or c.deref-in-loop-sweeps-4.result.now k d low) in
+    let fits = gate-fits l c.cut_count-most.ensures.is n (c.in_ok-changed.ensures.unseen.inside n listed) in
+    let size = ap length c.deref_mut-in-loop-sweeps.ensures.value in
+    omega (arith, fits, size, c.loop-sweeps.invariant.ready.sweeping.width_before)
+
+pub show-requires-clause-after : goal.show-requires-clause-after
+show-requires-clause-after c k d low =
+    let l : LoopAt = c.args.block.now in
+    let n : ℕ = get_or c.deref-in-loop-sweeps-4.result.now k d in
+    let listed : Contains c.in_ok-changed.changed.items n = subst (λ (ns : List ℕ). Contains ns n) c.deref-in-loop-sweeps-4.ensures.value (Contains-get_or c.deref-in-loop-sweeps-4.result.now k d low) in
+    let fits = gate-fits l c.cut_count-most.ensures.is n (c.in_ok-changed.ensures.unseen.inside n listed) in
+    let width = c.in_ok-changed.ensures.sweeping.width_after in
+    let owned : length c.sweep.new.after ≡ c.loop-sweeps.after.len = omega (arith, width, c.loop-sweeps.invariant.ready.sweeping.width_after, c.loop-sweeps.after.ok.0) in
+    let size = ap length (c.deref-in-loop-sweeps-5.ensures.value ∙ with_items_is c.loop-sweeps.after c.sweep.new.after owned) in
+    omega (arith, fits, size, width)
+
+pub loop-sweeps-preserved : goal.loop-sweeps-preserved
+loop-sweeps-preserved c =
+    let l : LoopAt = c.args.block.now in
+    let is = c.cut_count-most.ensures.is in
+    let v : List Bool = c.args.vector.now in
+    let k : ℕ = c.loop-sweeps.sweeps in
+    let outside : List Trit = c.in_ok-outside.outside.items in
+    let before : List Trit = c.loop-sweeps.before.items in
+    let after : List Trit = c.sweep.new.after in
+    let shown : List Trit = c.show.new.before in
+    let changed : List ℕ = c.in_ok-changed.changed.items in
+    let waiting : List ℕ = c.in_ok-waiting-2.waiting.items in
+    let inv = c.loop-sweeps.invariant in
+    let swept : IsSwept l outside before after changed =
+    subst (λ (s : List Trit). IsSwept l s before after changed) c.deref-in-loop-sweeps.ensures.value
+    (subst (λ (s : List Trit). IsSwept l c.deref-in-loop-sweeps.result.now s after changed) c.deref-in-loop-sweeps-2.ensures.value c.in_ok-changed.ensures) in
+    let owned : length after ≡ c.loop-sweeps.after.len = omega (arith, swept.sweeping.width_after, inv.ready.sweeping.width_after, c.loop-sweeps.after.ok.0) in
+    let after_is = with_items_is c.loop-sweeps.after after owned in
+    let read : c.deref-in-loop-sweeps-5.result.now ≡ after = c.deref-in-loop-sweeps-5.ensures.value ∙ after_is in
+    let readers : AreReaders l (gates_in l) c.deref-in-loop-sweeps-3.result.now = subst (λ (rows : List (List ℕ)). AreReaders l (gates_in l) rows) (sym c.deref-in-loop-sweeps-3.ensures.value) c.in_ok-readers.ensures in
+    let given : IsSwept l outside c.deref_mut-in-loop-sweeps.result.now c.deref-in-loop-sweeps-5.result.now c.deref-in-loop-sweeps-4.result.now =
+    subst (λ (s : List Trit). IsSwept l outside s c.deref-in-loop-sweeps-5.result.now c.deref-in-loop-sweeps-4.result.now) (sym c.deref_mut-in-loop-sweeps.ensures.value)
+    (subst (λ (s : List Trit). IsSwept l outside before s c.deref-in-loop-sweeps-4.result.now) (sym read)
+    (subst (λ (ns : List ℕ). IsSwept l outside before after ns) (sym c.deref-in-loop-sweeps-4.ensures.value) swept)) in
+    let ready : IsReady l outside shown after waiting = subst (λ (s : List Trit). IsReady l outside shown s waiting) read (c.in_ok-waiting-2.ensures l outside readers given) in
+    let owned_before : length shown ≡ c.loop-sweeps.before.len = omega (arith, ready.sweeping.width_before, inv.ready.sweeping.width_before, c.loop-sweeps.before.ok.0) in
+    let before_is = with_items_is c.loop-sweeps.before shown owned_before in
+    let some : 0 < length changed = (let full = c.if-is_empty.ensures in let own = c.in_ok-changed.changed.ok.0 in grind (arith, nat_tests)) in
+    let wire : ℕ = get_or changed 0 0 in
+    let listed : Contains changed wire = Contains-get_or changed 0 0 some in
+    let next = swept-next l is (bits v) outside before after k (c.in_ok-outside.ensures ∙ ap (λ (net : Parts). fix net (bits v)) c.net.ensures.net) swept.sweeping inv.at in
+    record {
+      ready =
+          subst (λ (s : List Trit). IsReady l outside s (with_items c.loop-sweeps.after after).items waiting) (sym before_is)
+          (subst (λ (s : List Trit). IsReady l outside shown s waiting) (sym after_is) ready);
+      at = λ n there cut.
+          ap (λ (s : List Trit). value_in s n) before_is
+          ∙ elim (ready.unseen.each n there cut) [ inl alike ↦ alike | inr none ↦ absurd (omega (arith, none.1)) ]
+          ∙ next n there;
+      more = λ a j inside low. elim (cases_lt j k) [
+        | inl early ↦ inv.more a j inside early
+        | inr high ↦
+            (let here : k ≡ j = omega (arith, low, high) in
+            subst (λ (i : ℕ). ¬ CutsAreFixed l.net (loops_in l) (bits v) a i) here
+            (changed-needs l is v (length-map v bit ∙ c.requires) before after k inv.at next wire (swept.unseen.inside wire listed) (swept.unseen.are wire listed) (swept.differs wire listed) a inside))
+      ];
+    }
 
 pub returns : goal.returns
 returns c =
@@ -25,63 +165,4 @@ returns c =
     record {
       enough = λ a inside. subst (λ (n : ℕ). CutsAreFixed l.net (loops_in l) (bits v) a n) (sym count) (cuts-enough l c.cut_count-most.ensures.is v c.requires a inside);
       least = λ a j inside low. c.loop-sweeps.invariant.more a j inside (omega (arith, low, past));
-    }
-
-pub sweep-requires-clause-gates : goal.sweep-requires-clause-gates
-sweep-requires-clause-gates c =
-    rw c.deref.ensures.value (order-fits c.args.block.now c.cut_count-most.ensures.is c.in_ok-order.order.items c.in_ok-order.ensures.only)
-
-pub sweep-requires-clause-outside : goal.sweep-requires-clause-outside
-sweep-requires-clause-outside c =
-    let l : LoopAt = c.args.block.now in
-    let v : List Trit = bits c.args.vector.now in
-    ap length (c.deref-in-loop-sweeps.ensures.value ∙ c.in_ok-outside.ensures ∙ ap (λ (net : Parts). fix net v) c.net.ensures.net)
-    ∙ length-append v (fix_gates l.net v)
-    ∙ ap₂ (λ (a b : ℕ). a + b) (length-map c.args.vector.now bit ∙ c.requires) (length-fix l.net (loops_in l) v)
-
-pub returns-then-not-has_changed : goal.returns-then-not-has_changed
-returns-then-not-has_changed c =
-    let l : LoopAt = c.args.block.now in
-    let is = c.cut_count-most.ensures.is in
-    let v : List Bool = c.args.vector.now in
-    let k : ℕ = c.loop-sweeps.sweeps in
-    let before : List Trit = c.loop-sweeps.before.items in
-    let after : List Trit = c.in_ok-after.after.items in
-    let inv = c.loop-sweeps.invariant in
-    let outside : c.deref-in-loop-sweeps.result.now ≡ fix l.net (bits v) = c.deref-in-loop-sweeps.ensures.value ∙ c.in_ok-outside.ensures ∙ ap (λ (net : Parts). fix net (bits v)) c.net.ensures.net in
-    let swept : after ≡ sweep_in l.net (loops_in l) (bits v) before c.in_ok-order.order.items before =
-    sweep-same l.net (loops_in l) (bits v) c.deref-in-loop-sweeps-2.result.now before c.deref.result.now c.in_ok-order.order.items after c.deref-in-loop-sweeps-2.ensures.value c.deref.ensures.value (c.in_ok-after.ensures.swept (bits v) outside) in
-    let next = swept-next l is (bits v) before after c.in_ok-order.order.items k c.in_ok-order.ensures inv.width swept inv.at in
-    record {
-      enough = still-fixed l is v (length-map v bit ∙ c.requires) before after k inv.at next
-          (same-lists (is_cut l.cut.wires) (gates_in l) c.deref-in-loop-sweeps-3.result.now before c.deref-in-loop-sweeps-4.result.now after c.deref-in-loop-sweeps-3.ensures.value c.deref-in-loop-sweeps-4.ensures.value
-          (c.has_changed.ensures.same c.if-not-has_changed.true));
-      least = inv.more;
-    }
-
-pub loop-sweeps-preserved : goal.loop-sweeps-preserved
-loop-sweeps-preserved c =
-    let l : LoopAt = c.args.block.now in
-    let is = c.cut_count-most.ensures.is in
-    let v : List Bool = c.args.vector.now in
-    let k : ℕ = c.loop-sweeps.sweeps in
-    let before : List Trit = c.loop-sweeps.before.items in
-    let after : List Trit = c.in_ok-after.after.items in
-    let inv = c.loop-sweeps.invariant in
-    let outside : c.deref-in-loop-sweeps.result.now ≡ fix l.net (bits v) = c.deref-in-loop-sweeps.ensures.value ∙ c.in_ok-outside.ensures ∙ ap (λ (net : Parts). fix net (bits v)) c.net.ensures.net in
-    let swept : after ≡ sweep_in l.net (loops_in l) (bits v) before c.in_ok-order.order.items before =
-    sweep-same l.net (loops_in l) (bits v) c.deref-in-loop-sweeps-2.result.now before c.deref.result.now c.in_ok-order.order.items after c.deref-in-loop-sweeps-2.ensures.value c.deref.ensures.value (c.in_ok-after.ensures.swept (bits v) outside) in
-    let next = swept-next l is (bits v) before after c.in_ok-order.order.items k c.in_ok-order.ensures inv.width swept inv.at in
-    let changed : HasChanged (is_cut l.cut.wires) (gates_in l) before after =
-    changed-lists (is_cut l.cut.wires) (gates_in l) c.deref-in-loop-sweeps-3.result.now before c.deref-in-loop-sweeps-4.result.now after c.deref-in-loop-sweeps-3.ensures.value c.deref-in-loop-sweeps-4.ensures.value
-    (c.has_changed.ensures.changed c.if-not-has_changed.false) in
-    record {
-      width = c.in_ok-after.ensures.width;
-      at = next;
-      more = λ a j inside low. elim (cases_lt j k) [
-        | inl early ↦ inv.more a j inside early
-        | inr high ↦
-            (let here : k ≡ j = omega (arith, low, high) in
-            subst (λ (i : ℕ). ¬ CutsAreFixed l.net (loops_in l) (bits v) a i) here (changed-needs l is v (length-map v bit ∙ c.requires) before after k inv.at next changed a inside))
-      ];
     }

@@ -1,13 +1,16 @@
-use Rattle.std.proofs.Common.{◌≡◌, List, length, drop}
-use Rattle.cyc_base.specs.declared.trit.Trit.{Trit}
-use Rattle.netlist.specs.Fixpoint.{fix}
-use Rattle.loops.specs.Orders.{sweep_in}
-use Rattle.clause_decision.specs.LoopsAt.{loops_in}
+use Rattle.std.proofs.Common.{◌≢◌, ℕ}
+use Rattle.std.specs.List.{Contains}
+use Rattle.loops.specs.Sweeps.{value_in}
+use Rattle.clause_decision.specs.Events.{AreUnseen, IsSweeping}
+use Rattle.clause_decision.proofs.EventLemmas.{total, work_left}
 use Rattle.clause_decision.proofs.simulating.sweep.Given as goal
 
 abbrev pub invariant-loop-gate : goal.invariant-loop-gate
 invariant-loop-gate l = record {
-  width : length l.after.items ≡ length l.block.net.gates;
-  swept : (v : List Trit) → l.outside ≡ fix l.block.net v →
-      sweep_in l.block.net (loops_in l.block) v l.before (drop l.gate-index l.order) l.after.items ≡ sweep_in l.block.net (loops_in l.block) v l.before l.order l.before;
+  sweeping : IsSweeping l.block l.outside l.before l.after l.waiting.items;
+  unseen : AreUnseen l.block l.before l.after l.changed.items;
+  differs : (n : ℕ) → Contains l.changed.items n → value_in l.before n ≢ value_in l.after n;
 }
+
+abbrev pub decreases-loop-gate : goal.decreases-loop-gate
+decreases-loop-gate l = work_left (total l.readers) l.after l.waiting.items

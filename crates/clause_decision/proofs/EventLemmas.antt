@@ -1,0 +1,449 @@
+-- Setting the gates of a loop that read something new.
+use Rattle.std.proofs.Common.{◌≡◌, ◌≢◌, ◌⊎◌, inl, inr, ℕ, zero, suc, ◌+◌, ◌-◌, ◌*◌, ◌<◌, ◌≤◌, ◌==◌, Bool, true, false, ◌&&◌, leb, if◌then◌else◌, List, [], ◌∷◌, ◌++◌, length, drop, map, get_or, set, replicate, Option, Some, None, refl, sym, ap, ap₂, subst, ◌∙◌, arith, Contains, append-nil, true≢false}
+use Rattle.std.specs.List.{All}
+use Rattle.std.proofs.Math.Nat.{mul-le-mul_right}
+use Rattle.std.proofs.lemmas.Bool.{and_parts, cases_eq, leb-true}
+use Rattle.std.proofs.lemmas.List.{drop_more, get_or-set_same, get_or-set_other, length-append, length-replicate, length-set}
+use Rattle.std.proofs.lemmas.List.Elements.{Contains-append_cases, Contains-append_left, Contains-append_right, Contains-get_or, Contains-push, Contains-push_cases}
+use Rattle.cyc_base.specs.declared.sig.Sig.{Sig}
+use Rattle.cyc_base.specs.declared.trit.Trit.{Trit}
+use Rattle.cyc_base.specs.declared.trit.Trit.TheVariants.{Zero, One, X}
+use Rattle.cyc_base.specs.Values.{Below, EachBelow}
+use Rattle.cyc_base.proofs.OrderLemmas.{Below-refl, Below-trans}
+use Rattle.cover_logic.specs.Extensions.{ext}
+use Rattle.netlist.specs.Netlists.{count, gate_at, gate_sig}
+use Rattle.netlist.specs.Fixpoint.{wire}
+use Rattle.netlist.proofs.FixpointLemmas.{known_count, known_count-le, same_or_more}
+use Rattle.loops.specs.Blocks.{home_of}
+use Rattle.loops.specs.Cuts.{is_cut}
+use Rattle.loops.specs.Searching.{InRow}
+use Rattle.loops.specs.Sweeps.{first_gate, gate_of, value_in}
+use Rattle.loops.proofs.Reading.{map_agree}
+use Rattle.loops.proofs.Sweeps.{ext_below}
+use Rattle.clause_decision.specs.Events.{cover_value, IsDetermined, IsNewValue, IsSweeping, AreUnseen, IsSwept, IsReady}
+use Rattle.clause_decision.specs.LoopsAt.{LoopAt, IsLoopAt, gates_in}
+use Rattle.clause_decision.specs.Readers.{AreReaders}
+use Rattle.clause_decision.specs.Simulations.{seen_of}
+use Rattle.clause_decision.proofs.LoopLemmas.{gate-fits}
+
+-- ---- lists and values
+
+Contains-none : {A : Type 0} (x : A) → ¬ Contains [] x
+Contains-none x c = omega (arith, c.1)
+
+Contains-first : {A : Type 0} (x y : A) (xs : List A) → Contains (x ∷ xs) y → (x ≡ y) ⊎ Contains xs y
+Contains-first x y xs (zero, low, is) = inl is
+Contains-first x y xs (suc k, low, is) = inr (k, omega (arith, low), is)
+
+-- signals that differ from one signal alone in what is seen of it are seen alike, where it isn't among them
+reads-or-same : (pins : List Sig) (f h : Sig → Trit) (s : Sig) → ((p : Sig) → p.0 ≢ s.0 → f p ≡ h p) → Contains pins s ⊎ (map f pins ≡ map h pins)
+reads-or-same [] f h s same = inr refl
+reads-or-same (p ∷ pins) f h s same =
+    elim (cases_eq p.0 s.0) [
+      | inl e ↦ (let is : p ≡ s = ap (λ (n : ℕ). let sig : Sig = record { 0 = n } in sig) e in inl (zero, omega arith, is))
+      | inr differs ↦ elim (reads-or-same pins f h s same) [
+        | inl there ↦ inl (suc there.0, omega (arith, there.1), there.2)
+        | inr alike ↦ inr (ap₂ (λ (y : Trit) (ys : List Trit). y ∷ ys) (same p differs) alike)
+      ]
+    ]
+
+if-same : (b : Bool) (x y z : Trit) → (b ≡ true → x ≡ y) → (if b then x else z) ≡ (if b then y else z)
+if-same true x y z h = h refl
+if-same false x y z h = refl
+
+if-below : (b : Bool) (x y z : Trit) → (b ≡ true → Below x y) → Below (if b then x else z) (if b then y else z)
+if-below true x y z h = h refl
+if-below false x y z h = Below-refl z
+
+-- a known value below another is that value
+same-or-unknown : (x y : Trit) → Below x y → (x ≡ X → y ≡ X) → x ≡ y
+same-or-unknown X y below unknown = sym (unknown refl)
+same-or-unknown Zero y below unknown = sym below
+same-or-unknown One y below unknown = sym below
+
+below-unknown : (x y : Trit) → Below x y → y ≡ X → x ≡ X
+below-unknown X y below is = refl
+below-unknown Zero y below is = sym below ∙ is
+below-unknown One y below is = sym below ∙ is
+
+-- a value that becomes known rises
+set-rises : (s : List Trit) (g : ℕ) (x : Trit) → g < length s → Below (value_in s g) x → (n : ℕ) → Below (value_in s n) (value_in (set s g x) n)
+set-rises s g x low below n =
+    elim (cases_eq n g) [
+      | inl same ↦ subst (λ (m : ℕ). Below (value_in s m) (value_in (set s g x) m)) (sym same) (subst (λ (t : Trit). Below (value_in s g) t) (sym (get_or-set_same s g x X low)) below)
+      | inr other ↦ subst (λ (t : Trit). Below (value_in s n) t) (sym (get_or-set_other s g n x X other)) (Below-refl (value_in s n))
+    ]
+
+-- ---- what a change lets gates see
+
+-- what gates of the loop see of one of its gates
+abbrev shown : LoopAt → (before after : List Trit) → ℕ → Trit
+shown l before after n = if is_cut l.cut.wires n then value_in before n else value_in after n
+
+-- whether a signal is driven in the loop
+abbrev is_inside : LoopAt → Sig → Bool
+is_inside l s = leb (first_gate l.net) s.0 && home_of l.blocks (gate_of l.net s) == l.number
+
+-- two states, of which the second differs in what is seen of one gate alone, and this has risen
+record HasRisen (l : LoopAt) (before after before' after' : List Trit) (g : ℕ) : Type 0 where
+  pub others : (n : ℕ) → n ≢ g → shown l before after n ≡ shown l before' after' n
+  pub rises : (n : ℕ) → Below (shown l before after n) (shown l before' after' n)
+
+module _ (l : LoopAt) (outside : List Trit) where
+  module _ (before after before' after' : List Trit) (g : ℕ) (risen : HasRisen l before after before' after' g) where
+    cover-rises : (n : ℕ) → Below (cover_value l outside before after n) (cover_value l outside before' after' n)
+    cover-rises n =
+        ext_below l.net n (seen_of l outside before after) (seen_of l outside before' after')
+        (λ pin.
+        if-below (is_inside l pin) (shown l before after (gate_of l.net pin)) (shown l before' after' (gate_of l.net pin)) (wire outside pin)
+        (λ is. risen.rises (gate_of l.net pin)))
+
+    reads-or-still : (n : ℕ) → Contains (gate_at l.net n).pins (gate_sig l.net g) ⊎ (cover_value l outside before after n ≡ cover_value l outside before' after' n)
+    reads-or-still n =
+        elim (reads-or-same (gate_at l.net n).pins (seen_of l outside before after) (seen_of l outside before' after') (gate_sig l.net g)
+        (λ pin differs.
+        if-same (is_inside l pin) (shown l before after (gate_of l.net pin)) (shown l before' after' (gate_of l.net pin)) (wire outside pin)
+        (λ is. risen.others (gate_of l.net pin)
+        (λ same.
+        let low = leb-true (first_gate l.net) pin.0 (and_parts (leb (first_gate l.net) pin.0) (home_of l.blocks (gate_of l.net pin) == l.number) is).0 in
+        differs (omega (arith, low, same)))))) [
+          | inl reads ↦ inl reads
+          | inr alike ↦ inr (ap (ext (gate_at l.net n).cover) alike)
+        ]
+
+    readers-or-still : (readers : List (List ℕ)) → AreReaders l (gates_in l) readers → Contains (gates_in l) g → (n : ℕ) → Contains (gates_in l) n →
+        Contains (get_or readers g []) n ⊎ (cover_value l outside before after n ≡ cover_value l outside before' after' n)
+    readers-or-still readers are inside n there = elim (reads-or-still n) [ inl reads ↦ inl (are.each g n inside there reads) | inr still ↦ inr still ]
+
+  -- ---- a gate is set
+
+  -- it is seen in the sweep
+  uncut-risen : (before after : List Trit) (g : ℕ) (value : Trit) → g < length after → is_cut l.cut.wires g ≡ false → Below (value_in after g) value → HasRisen l before after before (set after g value) g
+  uncut-risen before after g value low uncut below = record {
+    others = λ n other. ap (λ (t : Trit). if is_cut l.cut.wires n then value_in before n else t) (sym (get_or-set_other after g n value X other));
+    rises = λ n. both (is_cut l.cut.wires n) (value_in before n) (value_in after n) (value_in (set after g value) n) (set-rises after g value low below n);
+  }
+    where
+      both : (b : Bool) (x y z : Trit) → Below y z → Below (if b then x else y) (if b then x else z)
+      both true x y z h = Below-refl x
+      both false x y z h = h
+
+  -- or, as a cut wire, isn't
+  cut-still : (before after : List Trit) (g : ℕ) (value : Trit) → is_cut l.cut.wires g ≡ true → (n : ℕ) → cover_value l outside before after n ≡ cover_value l outside before (set after g value) n
+  cut-still before after g value cut n =
+      ap (ext (gate_at l.net n).cover)
+      (map_agree (seen_of l outside before after) (seen_of l outside before (set after g value)) (gate_at l.net n).pins
+      (λ k d low.
+      let pin : Sig = get_or (gate_at l.net n).pins k d in
+      if-same (is_inside l pin) (shown l before after (gate_of l.net pin)) (shown l before (set after g value) (gate_of l.net pin)) (wire outside pin) (λ is. same (gate_of l.net pin))))
+    where
+      at : (m : ℕ) (b : Bool) → is_cut l.cut.wires m ≡ b → (if b then value_in before m else value_in after m) ≡ (if b then value_in before m else value_in (set after g value) m)
+      at m true is = refl
+      at m false is = sym (get_or-set_other after g m value X (λ e. true≢false (sym cut ∙ ap (is_cut l.cut.wires) (sym e) ∙ is)))
+
+      same : (m : ℕ) → shown l before after m ≡ shown l before (set after g value) m
+      same m = at m (is_cut l.cut.wires m) refl
+
+  module _ (before after : List Trit) (rest : List ℕ) (g : ℕ) (h : IsSweeping l outside before after (rest ++ g ∷ [])) where
+    pub waiting-inside : Contains (gates_in l) g
+    waiting-inside = h.inside g (Contains-push rest g)
+
+    -- a gate that waits has its cover's value already
+    pub gate-kept : IsNewValue l outside before after g None → IsSweeping l outside before after rest
+    gate-kept none = record {
+      width_before = h.width_before;
+      width_after = h.width_after;
+      inside = λ n there. h.inside n (Contains-append_left rest (g ∷ []) n there);
+      below = h.below;
+      still = λ n there. elim (h.still n there) [
+        | inr is ↦ inr is
+        | inl waits ↦ elim (Contains-push_cases rest g n waits) [
+          | inl early ↦ inl early
+          | inr same ↦
+              inr (subst (λ (m : ℕ). value_in after m ≡ cover_value l outside before after m) same
+              (same-or-unknown (value_in after g) (cover_value l outside before after g) (h.below g waiting-inside) none))
+        ]
+      ];
+    }
+
+    module _ (value : Trit) (is : IsDetermined l outside before after g value) (low : g < length after) where
+      gate-set : (more : List ℕ) → ((n : ℕ) → Contains more n → Contains (gates_in l) n) →
+          ((n : ℕ) → Below (cover_value l outside before after n) (cover_value l outside before (set after g value) n)) →
+          ((n : ℕ) → Contains (gates_in l) n → Contains more n ⊎ (cover_value l outside before after n ≡ cover_value l outside before (set after g value) n)) →
+          IsSweeping l outside before (set after g value) (rest ++ more)
+      gate-set more inside rises alike = record {
+        width_before = h.width_before;
+        width_after = length-set after g value ∙ h.width_after;
+        inside = λ n there. elim (Contains-append_cases rest more n there) [
+          | inl early ↦ h.inside n (Contains-append_left rest (g ∷ []) n early)
+          | inr new ↦ inside n new
+        ];
+        below = λ n there. elim (cases_eq n g) [
+          | inl same ↦
+              subst (λ (m : ℕ). Below (value_in (set after g value) m) (cover_value l outside before (set after g value) m)) (sym same)
+              (subst (λ (t : Trit). Below t (cover_value l outside before (set after g value) g)) (sym now) (rises g))
+          | inr other ↦
+              subst (λ (t : Trit). Below t (cover_value l outside before (set after g value) n)) (sym (get_or-set_other after g n value X other))
+              (Below-trans (value_in after n) (cover_value l outside before after n) (cover_value l outside before (set after g value) n) (h.below n there) (rises n))
+        ];
+        still = λ n there. elim (alike n there) [
+          | inl new ↦ inl (Contains-append_right rest more n new)
+          | inr same_cover ↦ elim (cases_eq n g) [
+            | inl same ↦
+                inr (subst (λ (m : ℕ). value_in (set after g value) m ≡ cover_value l outside before (set after g value) m) (sym same)
+                (now ∙ ap (cover_value l outside before after) (sym same) ∙ same_cover ∙ ap (cover_value l outside before (set after g value)) same))
+            | inr other ↦ elim (h.still n there) [
+              | inr was ↦ inr (get_or-set_other after g n value X other ∙ was ∙ same_cover)
+              | inl waits ↦ elim (Contains-push_cases rest g n waits) [
+                | inl early ↦ inl (Contains-append_left rest more n early)
+                | inr same ↦ absurd (other (sym same))
+              ]
+            ]
+          ]
+        ];
+      }
+        where
+          now : value_in (set after g value) g ≡ cover_value l outside before after g
+          now = get_or-set_same after g value X low ∙ is.is
+
+      below-value : Below (value_in after g) value
+      below-value = subst (λ (t : Trit). Below t value) (sym is.unknown) tt
+
+      pub uncut-set : (readers : List (List ℕ)) → AreReaders l (gates_in l) readers → is_cut l.cut.wires g ≡ false → IsSweeping l outside before (set after g value) (rest ++ get_or readers g [])
+      uncut-set readers are uncut =
+          let risen : HasRisen l before after before (set after g value) g = uncut-risen before after g value low uncut below-value in
+          gate-set (get_or readers g []) (λ n row. are.only g n row)
+          (cover-rises before after before (set after g value) g risen)
+          (readers-or-still before after before (set after g value) g risen readers are waiting-inside)
+
+      pub cut-set : is_cut l.cut.wires g ≡ true → IsSweeping l outside before (set after g value) rest
+      cut-set cut =
+          subst (λ (ns : List ℕ). IsSweeping l outside before (set after g value) ns) (append-nil rest)
+          (gate-set [] (λ n none. absurd (Contains-none n none))
+          (λ n. subst (λ (t : Trit). Below (cover_value l outside before after n) t) (cut-still before after g value cut n) (Below-refl (cover_value l outside before after n)))
+          (λ n there. inr (cut-still before after g value cut n)))
+
+  -- ---- a cut wire is shown
+
+  cut-risen : (before after : List Trit) (g : ℕ) → g < length before → is_cut l.cut.wires g ≡ true → Below (value_in before g) (value_in after g) → HasRisen l before after (set before g (value_in after g)) after g
+  cut-risen before after g low cut below = record {
+    others = λ n other. ap (λ (t : Trit). if is_cut l.cut.wires n then t else value_in after n) (sym (get_or-set_other before g n (value_in after g) X other));
+    rises = λ n. both (is_cut l.cut.wires n) (value_in before n) (value_in (set before g (value_in after g)) n) (value_in after n) (set-rises before g (value_in after g) low below n);
+  }
+    where
+      both : (b : Bool) (x y z : Trit) → Below x y → Below (if b then x else z) (if b then y else z)
+      both true x y z h = h
+      both false x y z h = Below-refl z
+
+  pub wire-shown : (before after : List Trit) (waiting : List ℕ) (g : ℕ) (readers : List (List ℕ)) → AreReaders l (gates_in l) readers → Contains (gates_in l) g → is_cut l.cut.wires g ≡ true →
+      Below (value_in before g) (value_in after g) → g < length before → IsSweeping l outside before after waiting → IsSweeping l outside (set before g (value_in after g)) after (waiting ++ get_or readers g [])
+  wire-shown before after waiting g readers are inside cut below low h =
+      let risen : HasRisen l before after (set before g (value_in after g)) after g = cut-risen before after g low cut below in
+      record {
+        width_before = length-set before g (value_in after g) ∙ h.width_before;
+        width_after = h.width_after;
+        inside = λ n there. elim (Contains-append_cases waiting (get_or readers g []) n there) [
+          | inl early ↦ h.inside n early
+          | inr new ↦ are.only g n new
+        ];
+        below = λ n there.
+            Below-trans (value_in after n) (cover_value l outside before after n) (cover_value l outside (set before g (value_in after g)) after n) (h.below n there)
+            (cover-rises before after (set before g (value_in after g)) after g risen n);
+        still = λ n there. elim (readers-or-still before after (set before g (value_in after g)) after g risen readers are inside n there) [
+          | inl new ↦ inl (Contains-append_right waiting (get_or readers g []) n new)
+          | inr same_cover ↦ elim (h.still n there) [
+            | inl waits ↦ inl (Contains-append_left waiting (get_or readers g []) n waits)
+            | inr was ↦ inr (was ∙ same_cover)
+          ]
+        ];
+      }
+
+-- ---- the cut wires that gates don't see as they are
+
+module _ (l : LoopAt) where
+  -- a gate that is no cut wire is set
+  pub uncut-unseen : (before after : List Trit) (g : ℕ) (value : Trit) (wires : List ℕ) → is_cut l.cut.wires g ≡ false → AreUnseen l before after wires → AreUnseen l before (set after g value) wires
+  uncut-unseen before after g value wires uncut h = record {
+    inside = h.inside;
+    are = h.are;
+    below = λ n there cut. subst (λ (t : Trit). Below (value_in before n) t) (sym (same n cut)) (h.below n there cut);
+    each = λ n there cut. elim (h.each n there cut) [ inl alike ↦ inl (alike ∙ sym (same n cut)) | inr listed ↦ inr listed ];
+  }
+    where
+      same : (n : ℕ) → is_cut l.cut.wires n ≡ true → value_in (set after g value) n ≡ value_in after n
+      same n cut = get_or-set_other after g n value X (λ e. true≢false (sym cut ∙ ap (is_cut l.cut.wires) e ∙ uncut))
+
+  -- a cut wire is set
+  pub cut-unseen : (before after : List Trit) (g : ℕ) (value : Trit) (wires : List ℕ) → Contains (gates_in l) g → is_cut l.cut.wires g ≡ true → value_in after g ≡ X → g < length after →
+      AreUnseen l before after wires → AreUnseen l before (set after g value) (wires ++ g ∷ [])
+  cut-unseen before after g value wires inside cut unknown low h = record {
+    inside = λ n there. elim (Contains-push_cases wires g n there) [
+      | inl early ↦ h.inside n early
+      | inr same ↦ subst (λ (m : ℕ). Contains (gates_in l) m) same inside
+    ];
+    are = λ n there. elim (Contains-push_cases wires g n there) [
+      | inl early ↦ h.are n early
+      | inr same ↦ subst (λ (m : ℕ). is_cut l.cut.wires m ≡ true) same cut
+    ];
+    below = λ n there is. Below-trans (value_in before n) (value_in after n) (value_in (set after g value) n) (h.below n there is)
+        (set-rises after g value low (subst (λ (t : Trit). Below t value) (sym unknown) tt) n);
+    each = λ n there is. elim (cases_eq n g) [
+      | inl same ↦ inr (subst (λ (m : ℕ). Contains (wires ++ g ∷ []) m) (sym same) (Contains-push wires g))
+      | inr other ↦ elim (h.each n there is) [
+        | inl alike ↦ inl (alike ∙ sym (get_or-set_other after g n value X other))
+        | inr listed ↦ inr (Contains-append_left wires (g ∷ []) n listed)
+      ]
+    ];
+  }
+
+  -- those that have changed differ in the two states
+  pub uncut-differs : (before after : List Trit) (g : ℕ) (value : Trit) (wires : List ℕ) → is_cut l.cut.wires g ≡ false → AreUnseen l before after wires →
+      ((n : ℕ) → Contains wires n → value_in before n ≢ value_in after n) → (n : ℕ) → Contains wires n → value_in before n ≢ value_in (set after g value) n
+  uncut-differs before after g value wires uncut h differs n there same =
+      differs n there (same ∙ get_or-set_other after g n value X (λ e. true≢false (sym (h.are n there) ∙ ap (is_cut l.cut.wires) e ∙ uncut)))
+
+  pub cut-differs : (before after : List Trit) (g : ℕ) (value : Trit) (wires : List ℕ) → Contains (gates_in l) g → is_cut l.cut.wires g ≡ true → value_in after g ≡ X → value ≢ X → g < length after → AreUnseen l before after wires →
+      ((n : ℕ) → Contains wires n → value_in before n ≢ value_in after n) → (n : ℕ) → Contains (wires ++ g ∷ []) n → value_in before n ≢ value_in (set after g value) n
+  cut-differs before after g value wires inside cut unknown known low h differs n there same =
+      elim (cases_eq n g) [
+        | inl is ↦
+            known
+            (sym (get_or-set_same after g value X low) ∙ sym (ap (value_in (set after g value)) is) ∙ sym same ∙ ap (value_in before) is
+            ∙ below-unknown (value_in before g) (value_in after g) (h.below g inside cut) unknown)
+        | inr other ↦ elim (Contains-push_cases wires g n there) [
+          | inl early ↦ differs n early (same ∙ get_or-set_other after g n value X other)
+          | inr is ↦ other (sym is)
+        ]
+      ]
+
+  -- one of them is shown
+  pub wire-seen : (before after : List Trit) (g : ℕ) (wires : List ℕ) → g < length before → AreUnseen l before after (g ∷ wires) → AreUnseen l (set before g (value_in after g)) after wires
+  wire-seen before after g wires low h = record {
+    inside = λ n there. h.inside n (suc there.0, omega (arith, there.1), there.2);
+    are = λ n there. h.are n (suc there.0, omega (arith, there.1), there.2);
+    below = λ n there is. elim (cases_eq n g) [
+      | inl same ↦ subst (λ (t : Trit). Below t (value_in after n)) (sym (now n same)) (Below-refl (value_in after n))
+      | inr other ↦ subst (λ (t : Trit). Below t (value_in after n)) (sym (get_or-set_other before g n (value_in after g) X other)) (h.below n there is)
+    ];
+    each = λ n there is. elim (cases_eq n g) [
+      | inl same ↦ inl (now n same)
+      | inr other ↦ elim (h.each n there is) [
+        | inl alike ↦ inl (get_or-set_other before g n (value_in after g) X other ∙ alike)
+        | inr listed ↦ elim (Contains-first g n wires listed) [
+          | inl same ↦ absurd (other (sym same))
+          | inr later ↦ inr later
+        ]
+      ]
+    ];
+  }
+    where
+      now : (n : ℕ) → n ≡ g → value_in (set before g (value_in after g)) n ≡ value_in after n
+      now n same = ap (value_in (set before g (value_in after g))) same ∙ get_or-set_same before g (value_in after g) X low ∙ ap (value_in after) (sym same)
+
+-- the next of the cut wires that have changed is shown
+pub shown-next : (l : LoopAt) (outside before after : List Trit) (waiting more changed : List ℕ) (i : ℕ) (value : Trit) (readers : List (List ℕ)) → AreReaders l (gates_in l) readers → i < length changed →
+    get_or changed i 0 < length before → value ≡ value_in after (get_or changed i 0) → more ≡ waiting ++ get_or readers (get_or changed i 0) [] →
+    IsSweeping l outside before after waiting → AreUnseen l before after (drop i changed) →
+    IsSweeping l outside (set before (get_or changed i 0) value) after more × AreUnseen l (set before (get_or changed i 0) value) after (drop (i + 1) changed)
+shown-next l outside before after waiting more changed i value readers are next low value_is more_is sweeping unseen =
+    let wire : ℕ = get_or changed i 0 in
+    let rest : AreUnseen l before after (wire ∷ drop (i + 1) changed) = subst (λ (ns : List ℕ). AreUnseen l before after ns) (drop_more changed i 0 next) unseen in
+    let first : Contains (wire ∷ drop (i + 1) changed) wire = (zero, omega arith, refl) in
+    let inside : Contains (gates_in l) wire = rest.inside wire first in
+    let cut = rest.are wire first in (
+      subst (λ (t : Trit). IsSweeping l outside (set before wire t) after more) (sym value_is)
+          (subst (λ (ns : List ℕ). IsSweeping l outside (set before wire (value_in after wire)) after ns) (sym more_is)
+          (wire-shown l outside before after waiting wire readers are inside cut (rest.below wire inside cut) low sweeping)),
+      subst (λ (t : Trit). AreUnseen l (set before wire t) after (drop (i + 1) changed)) (sym value_is) (wire-seen l before after wire (drop (i + 1) changed) low rest),
+    )
+
+-- ---- the first sweep
+
+pub ready-first : (l : LoopAt) (outside before after : List Trit) (waiting : List ℕ) → before ≡ replicate (length l.net.gates) X → after ≡ replicate (length l.net.gates) X → waiting ≡ gates_in l → IsReady l outside before after waiting
+ready-first l outside before after waiting before_is after_is waiting_is = record {
+  sweeping = record {
+    width_before = ap length before_is ∙ length-replicate (length l.net.gates) X;
+    width_after = ap length after_is ∙ length-replicate (length l.net.gates) X;
+    inside = λ n there. subst (λ (ns : List ℕ). Contains ns n) waiting_is there;
+    below = λ n there. subst (λ (t : Trit). Below t (cover_value l outside before after n)) (sym (unknown after after_is n)) tt;
+    still = λ n there. inl (subst (λ (ns : List ℕ). Contains ns n) (sym waiting_is) there);
+  };
+  unseen = record {
+    inside = λ n none. absurd (Contains-none n none);
+    are = λ n none. absurd (Contains-none n none);
+    below = λ n there is. subst (λ (t : Trit). Below t (value_in after n)) (sym (unknown before before_is n)) tt;
+    each = λ n there is. inl (unknown before before_is n ∙ sym (unknown after after_is n));
+  };
+}
+  where
+    all-unknown : (k n : ℕ) → value_in (replicate k X) n ≡ X
+    all-unknown zero n = refl
+    all-unknown (suc k) zero = refl
+    all-unknown (suc k) (suc n) = all-unknown k n
+
+    unknown : (s : List Trit) → s ≡ replicate (length l.net.gates) X → (n : ℕ) → value_in s n ≡ X
+    unknown s is n = ap (λ (t : List Trit). value_in t n) is ∙ all-unknown (length l.net.gates) n
+
+-- ---- a sweep ends
+
+-- the length of all rows
+pub total : List (List ℕ) → ℕ
+total [] = 0
+total (row ∷ rows) = length row + total rows
+
+row-fits : (rows : List (List ℕ)) (n : ℕ) → length (get_or rows n []) ≤ total rows
+unfolding total
+row-fits [] n = omega arith
+row-fits (row ∷ rows) zero = omega arith
+row-fits (row ∷ rows) (suc n) = omega (arith, row-fits rows n)
+
+EachBelow-from : (xs ys : List Trit) → length xs ≡ length ys → ((n : ℕ) → Below (value_in xs n) (value_in ys n)) → EachBelow xs ys
+EachBelow-from [] [] e h = tt
+EachBelow-from [] (y ∷ ys) e h = absurd (omega (arith, e))
+EachBelow-from (x ∷ xs) [] e h = absurd (omega (arith, e))
+EachBelow-from (x ∷ xs) (y ∷ ys) e h = (h zero, EachBelow-from xs ys (omega (arith, e)) (λ n. h (suc n)))
+
+-- a state in which an unknown value becomes known has more that are known
+more-known : (values : List Trit) (g : ℕ) (value : Trit) → g < length values → value_in values g ≡ X → value ≢ X → known_count values < known_count (set values g value)
+more-known values g value low unknown known =
+    elim (same_or_more values (set values g value)
+    (EachBelow-from values (set values g value) (sym (length-set values g value)) (set-rises values g value low (subst (λ (t : Trit). Below t value) (sym unknown) tt)))) [
+      | inl same ↦ absurd (known (sym (get_or-set_same values g value X low) ∙ ap (λ (s : List Trit). value_in s g) (sym same) ∙ unknown))
+      | inr more ↦ more
+    ]
+
+-- the values that are still unknown and the gates that wait, so weighed that it falls when a gate is set
+pub work_left : ℕ → List Trit → List ℕ → ℕ
+work_left most values waiting = (length values - known_count values) * suc most + length waiting
+
+falls : (a b most before after : ℕ) → a < b → after ≤ before + most → a * suc most + after < b * suc most + suc before
+falls a b most before after less few = let weighed : suc a * suc most ≤ b * suc most = mul-le-mul_right (suc most) less in omega (arith, weighed, few)
+
+pub work_left-set : (readers : List (List ℕ)) (values : List Trit) (g : ℕ) (rest more : List ℕ) (value : Trit) → g < length values → value_in values g ≡ X → value ≢ X → length more ≤ total readers →
+    work_left (total readers) (set values g value) (rest ++ more) < work_left (total readers) values (rest ++ g ∷ [])
+unfolding work_left
+work_left-set readers values g rest more value low unknown known few =
+    let grown = more-known values g value low unknown known in
+    let size = length-set values g value in
+    let most = known_count-le (set values g value) in
+    let first = length-append rest more in
+    let second : length (rest ++ g ∷ []) ≡ suc (length rest) = omega (arith, length-append rest (g ∷ [])) in
+    let less =
+    falls (length (set values g value) - known_count (set values g value)) (length values - known_count values)
+    (total readers) (length rest) (length (rest ++ more))
+    (omega (arith, grown, size, most)) (omega (arith, first, few)) in
+    subst (λ (n : ℕ). (length (set values g value) - known_count (set values g value)) * suc (total readers) + length (rest ++ more) < (length values - known_count values) * suc (total readers) + n) (sym second) less
+
+pub work_left-uncut : (readers : List (List ℕ)) (values : List Trit) (g : ℕ) (rest : List ℕ) (value : Trit) → g < length values → value_in values g ≡ X → value ≢ X →
+    work_left (total readers) (set values g value) (rest ++ get_or readers g []) < work_left (total readers) values (rest ++ g ∷ [])
+work_left-uncut readers values g rest value low unknown known = work_left-set readers values g rest (get_or readers g []) value low unknown known (row-fits readers g)
+
+pub work_left-cut : (readers : List (List ℕ)) (values : List Trit) (g : ℕ) (rest : List ℕ) (value : Trit) → g < length values → value_in values g ≡ X → value ≢ X →
+    work_left (total readers) (set values g value) rest < work_left (total readers) values (rest ++ g ∷ [])
+work_left-cut readers values g rest value low unknown known =
+    subst (λ (ns : List ℕ). work_left (total readers) (set values g value) ns < work_left (total readers) values (rest ++ g ∷ [])) (append-nil rest)
+    (work_left-set readers values g rest [] value low unknown known (omega arith))
+
+pub work_left-kept : (most : ℕ) (values : List Trit) (g : ℕ) (rest : List ℕ) → work_left most values rest < work_left most values (rest ++ g ∷ [])
+unfolding work_left
+work_left-kept most values g rest = omega (arith, length-append rest (g ∷ []))

@@ -1,0 +1,24 @@
+use Rattle.std.proofs.Common.{◌≡◌, ◌∙◌, ◌+◌, ◌∷◌, [], ◌++◌, ℕ, List, length, take, get_or, sym, subst, arith}
+use Rattle.std.proofs.lemmas.List.{with_items_is}
+use Rattle.netlist.specs.Netlists.{gate_at}
+use Rattle.clause_decision.specs.LoopsAt.{LoopAt, gates_in}
+use Rattle.clause_decision.specs.Readers.{HasGainedReader, AreReaders}
+use Rattle.clause_decision.proofs.LoopLemmas.{gates-fit}
+use Rattle.clause_decision.proofs.ReaderLemmas.{readers-more, taken-next}
+use Rattle.clause_decision.proofs.readers.readers_in.Goals as goal
+
+pub add_reader-requires-clause-gate : goal.add_reader-requires-clause-gate
+add_reader-requires-clause-gate c = gates-fit c.args.block.now c.gates-gate-items.ensures.is c.gates-gate-items.result.now c.gates-gate-items.ensures.gates c.loop-gate.gate-index 0 c.loop-gate-test.true
+
+pub loop-gate-preserved : goal.loop-gate-preserved
+loop-gate-preserved c =
+    let l : LoopAt = c.args.block.now in
+    let i : ℕ = c.loop-gate.gate-index in
+    let n : ℕ = get_or c.gates-gate-items.result.now i 0 in
+    let old : List (List ℕ) = c.loop-gate.readers.items in
+    let new : List (List ℕ) = c.add_reader.new.readers in
+    let gained : HasGainedReader l n (gate_at l.net n).pins old new = subst (λ (rows : List (List ℕ)). HasGainedReader l n (gate_at l.net n).pins rows new) c.deref_mut.ensures.value c.in_ok-add_reader.ensures in
+    let size : length new ≡ c.loop-gate.readers.len = omega (arith, gained.size, c.loop-gate.readers.ok.0) in
+    subst (λ (rows : List (List ℕ)). AreReaders l (take (i + 1) (gates_in l)) rows) (sym (with_items_is c.loop-gate.readers new size))
+    (subst (λ (gates : List ℕ). AreReaders l gates new) (taken-next c.gates-gate-items.result.now (gates_in l) i 0 c.gates-gate-items.ensures.gates c.loop-gate-test.true)
+    (readers-more l (take i (gates_in l)) n old new gained c.loop-gate.invariant))

@@ -1,0 +1,13 @@
+use Rattle.std.proofs.Common.{◌≡◌, List, length, drop}
+use Rattle.cyc_base.specs.declared.trit.Trit.{Trit}
+use Rattle.clause_decision.specs.Events.{AreUnseen, IsSweeping, IsSwept}
+use Rattle.clause_decision.specs.LoopsAt.{LoopAt, gates_in}
+use Rattle.clause_decision.specs.Readers.{AreReaders}
+use Rattle.clause_decision.proofs.simulating.show.Given as goal
+
+abbrev pub invariant-loop-wire : goal.invariant-loop-wire
+invariant-loop-wire g = record {
+  size : length g.before ≡ length g.initial.before;
+  sweeping : (l : LoopAt) (outside : List Trit) → AreReaders l (gates_in l) g.readers → IsSwept l outside g.initial.before g.after g.changed → IsSweeping l outside g.before g.after g.waiting.items;
+  unseen : (l : LoopAt) (outside : List Trit) → AreReaders l (gates_in l) g.readers → IsSwept l outside g.initial.before g.after g.changed → AreUnseen l g.before g.after (drop g.wire-index g.changed);
+}
