@@ -1,7 +1,8 @@
 #!/usr/bin/env bash
-# Each accepted example under `cyc equal`: beside what `cyc flat` and `cyc rewrite` write of it and what abc makes of the
-# rewritten one, which are equal to it, and beside a version of it with one gate changed, which isn't. Each answer stands
-# beside abc's on the rewritten netlists, which know no care set: `dsec` where there are latches, else `cec`.
+# Each accepted example under `cyc equal`: beside what `cyc flat` and `cyc rewrite` write of it and what abc and, where it
+# is installed, Yosys make of the rewritten one, which are equal to it, and beside a version of it with one gate changed,
+# which isn't. Each answer stands beside abc's on the rewritten netlists, which know no care set: `dsec` where there are
+# latches, else `cec`.
 #
 #   recipes/equal.sh [FILE.blif..]     (needs berkeley-abc)
 #
@@ -65,11 +66,16 @@ whole() {
     "$cyc" flat "$file" >"$dir/flat.blif"
     "$cyc" rewrite "$dir/flat.blif" "$@" >"$dir/flat.open.blif"
     berkeley-abc -q "read_blif $dir/open.blif; strash; balance; rewrite; refactor; balance; rewrite; balance; write_blif $dir/abc.blif" >/dev/null
+    berkeley-abc -q "read_blif $dir/open.blif; strash; dch; if -K 4; write_blif $dir/mapped.blif" >/dev/null
+    rm -f "$dir/yosys.blif"
+    ! command -v yosys >/dev/null || yosys -q -p "read_blif $dir/open.blif; opt; techmap; opt; write_blif $dir/yosys.blif" >/dev/null
     change "$dir/flat.blif" >"$dir/changed.blif"
     "$cyc" rewrite "$dir/changed.blif" "$@" >"$dir/changed.open.blif" 2>/dev/null || : >"$dir/changed.open.blif"
     pair "what flat writes" equal "$dir/flat.blif" "$dir/flat.open.blif" "$@"
     pair "what rewrite writes" equal "$dir/open.blif" "$dir/open.blif" "$@"
     pair "what abc makes of that" equal "$dir/abc.blif" "$dir/abc.blif" "$@"
+    pair "what abc maps it to" equal "$dir/mapped.blif" "$dir/mapped.blif" "$@"
+    [ ! -f "$dir/yosys.blif" ] || pair "what Yosys makes of that" equal "$dir/yosys.blif" "$dir/yosys.blif" "$@"
     pair "one gate changed" other "$dir/changed.blif" "$dir/changed.open.blif" "$@"
 }
 
