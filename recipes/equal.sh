@@ -68,7 +68,8 @@ whole() {
     berkeley-abc -q "read_blif $dir/open.blif; strash; balance; rewrite; refactor; balance; rewrite; balance; write_blif $dir/abc.blif" >/dev/null
     berkeley-abc -q "read_blif $dir/open.blif; strash; dch; if -K 4; write_blif $dir/mapped.blif" >/dev/null
     rm -f "$dir/yosys.blif"
-    ! command -v yosys >/dev/null || yosys -q -p "read_blif $dir/open.blif; opt; techmap; opt; write_blif $dir/yosys.blif" >/dev/null
+    # Yosys reads no cover of over 12 pins.
+    ! command -v yosys >/dev/null || yosys -q -p "read_blif $dir/open.blif; opt; techmap; opt; write_blif $dir/yosys.blif" >/dev/null 2>&1 || true
     change "$dir/flat.blif" >"$dir/changed.blif"
     "$cyc" rewrite "$dir/changed.blif" "$@" >"$dir/changed.open.blif" 2>/dev/null || : >"$dir/changed.open.blif"
     pair "what flat writes" equal "$dir/flat.blif" "$dir/flat.open.blif" "$@"
