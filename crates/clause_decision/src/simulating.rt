@@ -14,10 +14,10 @@ ghost use Rattle.clause_decision.specs.Readers.{AreReaders};
 ghost use Rattle.clause_decision.specs.Simulations.{seen_of, IsCountAt};
 
 use crate::looped_block::LoopedBlock;
-use crate::readers::{Readers, readers_in};
+use crate::readers::readers_in;
 use cyc_base::{Sig, Trit};
 use looped::LoopedNetlist;
-use loops::{Blocks, Cut};
+use loops::{Blocks, Cut, GateList};
 use netlist::Netlist;
 use std::alloc::{AllocError, Global};
 use ternary_run::settle;
@@ -138,7 +138,7 @@ fn new_value(
 fn sweep(
     alloc: Global,
     block: &LoopedBlock<'_>,
-    readers: &[Readers],
+    readers: &[GateList],
     outside: &[Trit],
     before: &[Trit],
     after: &mut [Trit],
@@ -167,7 +167,7 @@ fn sweep(
 /// Lets gates see the cut wires that have changed, and answers which of them then wait.
 fn show(
     alloc: Global,
-    readers: &[Readers],
+    readers: &[GateList],
     changed: &[u32],
     before: &mut [Trit],
     after: &[Trit],

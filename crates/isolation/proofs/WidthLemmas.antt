@@ -78,7 +78,7 @@ made-wide net {w} wide = record {
 }
 
 -- a function that a gate works with, of other vectors
-part-at : (net : Parts) (loops : Loops) (v : Vectors) (g : List Bool → Bool) → IsGatePart net loops v g → (f : List Bool → List Bool) → IsGatePart net loops (λ x. v (f x)) (λ x. g (f x))
+pub part-at : (net : Parts) (loops : Loops) (v : Vectors) (g : List Bool → Bool) → IsGatePart net loops v g → (f : List Bool → List Bool) → IsGatePart net loops (λ x. v (f x)) (λ x. g (f x))
 part-at net loops v g part f = record {
   gate = part.gate;
   within = part.within;

@@ -1,77 +1,24 @@
 //! The blocks of a netlist.
 
-ghost use Rattle.std.specs.Prelude.{◌≡◌, ◌<◌, ◌++◌, [], ◌∷◌, length, map, replicate, slice_index_or, IfOk, OnOk};
+ghost use Rattle.std.specs.Prelude.{◌≡◌, ◌<◌, length, map, IfOk};
 ghost use Rattle.std.specs.List.{All, range_with_len};
 ghost use Rattle.loops.specs.Blocks.{AreBlocksOf};
 ghost use Rattle.loops.specs.Members.{members as members_of, is_loop as is_loop_of, block_of};
 
+use crate::gate_list::{GateList, empty_lists};
 use crate::structure::{Block, Blocks};
 use components::{Components, Graph};
 use cyc_base::Items;
 use netlist::Netlist;
 use std::alloc::{AllocError, Global};
-use std::marker::Model;
-
-/// A list of gates, to which more are added.
-#[derive(Drop)]
-pub(crate) struct Members {
-    gates: Vec<u32>,
-}
-
-impl Model for Members {
-    ghost use Rattle.std.specs.Prelude.{List, ℕ};
-
-    ghost Value = { List ℕ };
-
-    ghost view = { λ members. members.gates.items };
-}
-
-impl Members {
-    pub(crate) fn new(alloc: Global) -> Members
-        ensures { result ≡ [] }
-    {
-        Members {
-            gates: Vec::new(alloc),
-        }
-    }
-
-    pub(crate) fn push(&mut self, gate: u32) -> Result<(), AllocError>
-        ensures { OnOk result (self.new ≡ self.old ++ gate ∷ []) }
-    {
-        self.gates.push(gate)?;
-        Ok(())
-    }
-
-    pub(crate) fn gates(&self) -> &[u32]
-        ensures { result.now ≡ self.now }
-    {
-        &self.gates
-    }
-
-    fn into_items(self) -> Items<u32>
-        ensures { result ≡ self }
-    {
-        Items::of(self.gates)
-    }
-}
-
-pub(crate) fn no_members(alloc: Global, count: u32) -> Result<Vec<Members>, AllocError>
-    ensures { IfOk result (λ lists. lists.items ≡ replicate count []) }
-{
-    let mut lists = Vec::with_capacity(alloc, count as usize)?;
-    for _ in 0..count {
-        lists.push(Members::new(alloc))?;
-    }
-    Ok(lists)
-}
 
 /// The gates of each number, by the numbers of the gates.
-fn grouped(alloc: Global, homes: &[u32], count: u32) -> Result<Vec<Members>, AllocError>
+fn grouped(alloc: Global, homes: &[u32], count: u32) -> Result<Vec<GateList>, AllocError>
     requires within { All (λ number. number < count) homes.now }
     requires size { length homes.now < 4294967296 }
     ensures { IfOk result (λ lists. lists.items ≡ map (members_of homes.now) (range_with_len 0 count)) }
 {
-    let mut lists = no_members(alloc, count)?;
+    let mut lists = empty_lists(alloc, count)?;
     for (gate, home) in homes.iter().enumerate() {
         lists[*home as usize].push(gate as u32)?;
     }
@@ -90,7 +37,7 @@ fn is_loop(graph: &Graph, gates: &[u32]) -> bool
     }
 }
 
-fn blocks_of(alloc: Global, graph: &Graph, lists: Vec<Members>) -> Result<Vec<Block>, AllocError>
+fn blocks_of(alloc: Global, graph: &Graph, lists: Vec<GateList>) -> Result<Vec<Block>, AllocError>
     requires { All (All (λ gate. gate < length graph.now)) lists.items }
     ensures { IfOk result (λ blocks. blocks.items ≡ map (block_of graph.now) lists.items) }
 {

@@ -16,7 +16,7 @@ ghost use Rattle.loops.specs.Links.{IsLoopPin};
 ghost use Rattle.loops.specs.Searching.{Connects, InRow, IsFree, IsReady, level_at};
 ghost use Rattle.loops.specs.Walks.{AnyGate};
 
-use crate::blocks::{Members, no_members};
+use crate::gate_list::{GateList, empty_lists};
 use crate::kept::{add_reader, add_source, reads_itself, sources_before};
 use crate::landmarks::Landmarks;
 use crate::levels::{MIDDLE, highest, lower, lowest, place, raise};
@@ -40,8 +40,8 @@ enum Outcome {
 /// Two searches go in step, one along readers up to a level and one along sources down to a level, until they
 /// meet or one has found all.
 fn search(
-    readers: &[Members],
-    sources: &[Members],
+    readers: &[GateList],
+    sources: &[GateList],
     levels: &[u64],
     high: u64,
     low: u64,
@@ -80,8 +80,8 @@ fn search(
 /// Moves levels so that the gates which the goal reads are below those that read it, or answers that a walk leads
 /// from one of these to one of those.
 fn close(
-    readers: &[Members],
-    sources: &[Members],
+    readers: &[GateList],
+    sources: &[GateList],
     levels: &mut [u64],
     goal: u32,
     forth: &mut Search,
@@ -132,8 +132,8 @@ fn enter(
     blocks: &Blocks,
     cut: &[bool],
     gate: u32,
-    readers: &mut [Members],
-    sources: &mut [Members],
+    readers: &mut [GateList],
+    sources: &mut [GateList],
     levels: &mut [u64],
     forth: &mut Search,
     back: &mut Search,
@@ -184,8 +184,8 @@ pub fn find_cut(alloc: Global, net: &Netlist, blocks: &Blocks) -> Result<Cut, Al
 {
     let gates = net.gates();
     let mut cut = vec![in alloc; false; gates as usize]?;
-    let mut readers = no_members(alloc, gates)?;
-    let mut sources = no_members(alloc, gates)?;
+    let mut readers = empty_lists(alloc, gates)?;
+    let mut sources = empty_lists(alloc, gates)?;
     let mut levels = vec![in alloc; MIDDLE; gates as usize]?;
     let mut forth = Search::new(alloc, gates)?;
     let mut back = Search::new(alloc, gates)?;

@@ -9,7 +9,7 @@ ghost use Rattle.loops.specs.Keeping.{AreSourcesBelow, HaveGained, HaveGainedPin
 ghost use Rattle.loops.specs.Links.{IsLoopPin};
 ghost use Rattle.loops.specs.Searching.{IsFree};
 
-use crate::blocks::Members;
+use crate::gate_list::GateList;
 use crate::links::loop_source;
 use crate::structure::Blocks;
 use netlist::Netlist;
@@ -44,13 +44,13 @@ pub(crate) fn sources_before(
     blocks: &Blocks,
     cut: &[bool],
     gate: u32,
-) -> Result<Members, AllocError>
+) -> Result<GateList, AllocError>
     requires blocks { AreBlocksOf net.now blocks.now }
     requires gate { gate < length net.now.gates }
     requires cut { gate < length cut.now }
     ensures { IfOk result (AreSourcesBelow net.now blocks.now cut.now gate (length (gate_at net.now gate).pins)) }
 {
-    let mut row = Members::new(alloc);
+    let mut row = GateList::new(alloc);
     for pin in net.gate(gate).pins.items() {
         if let Some(source) = loop_source(net, blocks, gate, *pin) {
             if is_free(cut, gate, source) {
@@ -63,7 +63,7 @@ pub(crate) fn sources_before(
 
 /// Enters a gate as a reader of those that it reads in its loop.
 pub(crate) fn add_reader(
-    readers: &mut [Members],
+    readers: &mut [GateList],
     net: &Netlist,
     blocks: &Blocks,
     gate: u32,
@@ -83,7 +83,7 @@ pub(crate) fn add_reader(
 
 /// Enters a gate as a source of those that read it.
 pub(crate) fn add_source(
-    sources: &mut [Members],
+    sources: &mut [GateList],
     readers: &[u32],
     gate: u32,
 ) -> Result<(), AllocError>

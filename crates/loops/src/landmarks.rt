@@ -7,7 +7,7 @@ ghost use Rattle.std.specs.List.{All};
 ghost use Rattle.loops.specs.Landmarks.{AreLandmarks, IsLandmark, Passes, ReadsBack};
 ghost use Rattle.loops.specs.Searching.{Meets, row_at};
 
-use crate::blocks::Members;
+use crate::gate_list::GateList;
 use crate::search::{Search, meets};
 use std::alloc::{AllocError, Global};
 
@@ -57,8 +57,8 @@ impl Drop for Landmarks {
 /// A landmark at a gate.
 fn landmark_at(
     alloc: Global,
-    readers: &[Members],
-    sources: &[Members],
+    readers: &[GateList],
+    sources: &[GateList],
     levels: &[u64],
     gates: u32,
     gate: u32,
@@ -97,8 +97,8 @@ fn leads_past(landmark: &Landmark, ahead: &[u32], behind: &[u32]) -> bool
 /// The landmark leads to a gate that was entered, if it leads to one that this gate reads.
 fn go_ahead(
     landmark: &mut Landmark,
-    readers: &[Members],
-    sources: &[Members],
+    readers: &[GateList],
+    sources: &[GateList],
     levels: &[u64],
     gate: u32,
 ) -> Result<(), AllocError>
@@ -124,8 +124,8 @@ fn go_ahead(
 /// A gate that was entered leads to the landmark, if one does that reads it.
 fn go_back(
     landmark: &mut Landmark,
-    readers: &[Members],
-    sources: &[Members],
+    readers: &[GateList],
+    sources: &[GateList],
     levels: &[u64],
     gate: u32,
 ) -> Result<(), AllocError>
@@ -153,8 +153,8 @@ fn go_back(
 /// The landmarks go on from a gate that was entered.
 fn go_on(
     landmarks: &mut [Landmark],
-    readers: &[Members],
-    sources: &[Members],
+    readers: &[GateList],
+    sources: &[GateList],
     levels: &[u64],
     gate: u32,
 ) -> Result<(), AllocError>
@@ -177,7 +177,7 @@ fn go_on(
 /// Whether a walk is known to lead from one row past a landmark to the other.
 fn leads_past_any(
     landmarks: &[Landmark],
-    readers: &[Members],
+    readers: &[GateList],
     ahead: &[u32],
     behind: &[u32],
 ) -> bool
@@ -207,7 +207,7 @@ impl Landmarks {
     }
 
     /// Whether a walk is known to lead from what reads a gate past a landmark to what the gate reads.
-    pub fn is_closed(&self, readers: &[Members], sources: &[Members], gate: u32) -> bool
+    pub fn is_closed(&self, readers: &[GateList], sources: &[GateList], gate: u32) -> bool
         requires gate { gate < length readers.now }
         requires sources_size { length sources.now ≡ length readers.now }
         requires readers { All (All (λ other. other < length readers.now)) readers.now }
@@ -226,8 +226,8 @@ impl Landmarks {
     /// Goes on from a gate that was entered.
     pub fn extend(
         &mut self,
-        readers: &[Members],
-        sources: &[Members],
+        readers: &[GateList],
+        sources: &[GateList],
         levels: &[u64],
         gate: u32,
     ) -> Result<(), AllocError>
@@ -261,8 +261,8 @@ impl Landmarks {
     pub fn learn(
         &mut self,
         alloc: Global,
-        readers: &[Members],
-        sources: &[Members],
+        readers: &[GateList],
+        sources: &[GateList],
         levels: &[u64],
         gates: u32,
         back: &Search,

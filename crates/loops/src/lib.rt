@@ -7,6 +7,7 @@
 
 mod blocks;
 mod cuts;
+mod gate_list;
 mod kept;
 mod landmarks;
 pub mod laws;
@@ -19,6 +20,7 @@ mod structure;
 
 pub use blocks::find_blocks;
 pub use cuts::find_cut;
+pub use gate_list::{GateList, empty_lists};
 pub use listing::{count_loops, loop_from};
 pub use orders::order_of_block;
 pub use structure::{Block, Blocks, Cut, SweepCounts};

@@ -4,7 +4,7 @@ ghost use Rattle.std.specs.Prelude.{◌≡◌, ◌<◌, ◌+◌, ◌^◌, ◌↔
 ghost use Rattle.std.specs.List.{All};
 ghost use Rattle.loops.specs.Searching.{Admits, Follows, HasAdvanced, HasSpread, IsMarked, IsNew, IsReady, IsSearching, Meets, row_at};
 
-use crate::blocks::Members;
+use crate::gate_list::GateList;
 use std::alloc::{AllocError, Global};
 
 /// Which levels a search enters.
@@ -108,7 +108,7 @@ impl Search {
     /// Begins the search from this gate with all gates of its row.
     pub fn start(
         &mut self,
-        rows: &[Members],
+        rows: &[GateList],
         levels: &[u64],
         limit: Limit,
         goal: u32,
@@ -139,7 +139,7 @@ impl Search {
     /// marked, and `false` where all gates that were found have been passed.
     pub fn advance(
         &mut self,
-        rows: &[Members],
+        rows: &[GateList],
         levels: &[u64],
         limit: Limit,
         goal: u32,
@@ -167,7 +167,7 @@ impl Search {
     /// Goes on from a gate, past all that the goal has marked: it marks the gate and all to which that leads.
     pub fn spread(
         &mut self,
-        rows: &[Members],
+        rows: &[GateList],
         levels: &[u64],
         goal: u32,
         gate: u32,

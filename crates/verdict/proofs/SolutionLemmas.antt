@@ -1,5 +1,5 @@
 -- The functions that the fixpoint and the comparison of its sweeps work with are made of those of the decision.
-use Rattle.std.proofs.Common.{◌≡◌, inl, inr, ℕ, zero, suc, ◌+◌, ◌<◌, ◌≤◌, Bool, true, false, ◌&&◌, List, [], length, filter, get_or, refl, sym, ap, ap₂, ◌∙◌, subst, arith, Contains}
+use Rattle.std.proofs.Common.{◌≡◌, inl, inr, ℕ, zero, suc, ◌+◌, ◌<◌, ◌≤◌, Bool, true, false, ◌&&◌, List, [], length, filter, get_or, refl, sym, ap, ◌∙◌, subst, arith, Contains}
 use Rattle.std.proofs.Math.Path.{fun_ext}
 use Rattle.std.proofs.lemmas.Bool.{and_parts}
 use Rattle.std.proofs.lemmas.List.{get_or-map, get_or_default, get_or-replicate, length-map}
@@ -25,8 +25,7 @@ use Rattle.loops.specs.Sweeps.{value_in, sweeps, cuts, cuts_of}
 use Rattle.loops.proofs.Existence.{loops_exist}
 use Rattle.loops.proofs.Reading.{Contains-filter_from}
 use Rattle.loops.proofs.Sweeps.{same-sym, same-trans, same_within}
-use Rattle.loops.proofs.Told.{blocks_tell_loops}
-use Rattle.loops.proofs.Walks.{loops_are_unique, same_truth}
+use Rattle.loops.proofs.Walks.{same_truth}
 use Rattle.fixpoint.specs.declared.solved.SweptLoop.{SweptLoop}
 use Rattle.fixpoint.specs.declared.solved.Solved.{Solved}
 use Rattle.fixpoint.specs.Solved.{AreStepsOf, AreKeptSteps, Vectors, step_at, loop_under}
@@ -39,32 +38,11 @@ use Rattle.verdict.specs.Enough.{IsLaid, IsColumn, SaysCare, IsOfNetlist}
 use Rattle.verdict.specs.Sets.{Tells}
 use Rattle.fixpoint.specs.Orders.{laid}
 use Rattle.verdict.specs.Solving.{AreColumnVectors}
+use Rattle.isolation.proofs.SettlingLemmas.{loops-are}
+use Rattle.isolation.proofs.WidthLemmas.{part-at}
 use Rattle.verdict.proofs.DecisionLemmas.{IsMade, made-listed, made-told, made-wide}
 
--- ---- the loops that blocks and a cut tell are those of the netlist
-
-pub loops-are : (net : Parts) (blocks : Blocks) (cut : Cut) → AreBlocksOf net blocks → IsCutOf net cut → loops_by blocks cut ≡ loops_of net
-loops-are net blocks cut are cut_is =
-    let one = loops_are_unique net (loops_by blocks cut) (loops_of net) (blocks_tell_loops net blocks cut are cut_is) (loops_exist net) in
-    ap₂ (λ (same : ℕ → ℕ → Bool) (c : ℕ → Bool). let l : Loops = record { same = same; cut = c } in l) (fun_ext (λ a. fun_ext (λ b. one.0 a b))) (fun_ext one.1)
-
 -- ---- the working list on columns
-
--- a function that a gate works with, of other vectors
-pub part-at : (net : Parts) (loops : Loops) (v : Vectors) (g : List Bool → Bool) → IsGatePart net loops v g → (f : List Bool → List Bool) → IsGatePart net loops (λ x. v (f x)) (λ x. g (f x))
-part-at net loops v g part f = record {
-  gate = part.gate;
-  within = part.within;
-  first = part.first;
-  short = part.short;
-  bit = part.bit;
-  read = λ x. part.read (f x);
-  reads = elim part.reads [
-    | inl r ↦ inl (record { looped = r.looped; sweep = r.sweep; few = r.few; is = λ x. r.is (f x) })
-    | inr r ↦ inr (record { plain = r.plain; is = λ x. r.is (f x) })
-  ];
-  same = λ x. part.same (f x);
-}
 
 module _ (net : Parts) (care : CareSet) (a : Arena) (vars : a.vars ≡ columns net) (points : Vectors) (points_are : AreColumnVectors net points) where
   working-made : (g : List Bool → Bool) → IsWorking net (loops_of net) points g → IsMade net care g

@@ -45,7 +45,8 @@ fn whole_scope(alloc: Global, net: &Netlist, blocks: &Blocks) -> Result<Scope, A
 /// variable for each gate.
 ///
 /// The pairs are asked for in few conflicts each, and then, where that is too few, the hints, one by one in their order,
-/// and the pairs again. Hints do most where each stands behind those whose wires feed its own; nothing is said of them.
+/// and the pairs with more; and where one is still open, both once again with twenty times as many. Hints do most where each
+/// stands behind those whose wires feed its own; nothing is said of them.
 ///
 /// The condition is that the blocks and the care set are the netlist's, and that the wires of each pair and each hint are.
 #[tactic(auto, using(crate::proofs::ApartLemmas::pairs_within, crate::proofs::ApartLemmas::hints_within))]

@@ -11,7 +11,8 @@ use Rattle.verdict.specs.Solving.{AreColumnVectors}
 use Rattle.verdict.specs.Verdicts.{IsSolvedWhole}
 use Rattle.verdict.proofs.CountLemmas.{column-vectors}
 use Rattle.verdict.proofs.PartLemmas.{Tells-same}
-use Rattle.verdict.proofs.SolutionLemmas.{loops-are, working-wide}
+use Rattle.isolation.proofs.SettlingLemmas.{loops-are}
+use Rattle.verdict.proofs.SolutionLemmas.{working-wide}
 use Rattle.verdict.proofs.VerdictLemmas.{fixed-is}
 use Rattle.verdict.proofs.deciding.judge_whole.Goals as goal
 use Rattle.verdict.proofs.deciding.judge_whole.Goals.{After-solve_beside, In_ok-found}

@@ -1,6 +1,6 @@
 use Rattle.std.proofs.Common.{◌≡◌, ◌∙◌, ◌++◌, ◌∷◌, [], ◌+◌, ap, replicate, ℕ, List, arith}
 use Rattle.std.proofs.lemmas.List.{replicate_more}
-use Rattle.loops.proofs.blocks.no_members.Goals as goal
+use Rattle.loops.proofs.gate_list.empty_lists.Goals as goal
 
 one_more : (n : ℕ) (lists more : List (List ℕ)) (added : List ℕ) → lists ≡ replicate n [] → added ≡ [] → more ≡ lists ++ added ∷ [] → more ≡ replicate (n + 1) []
 one_more n lists more added are none is = is ∙ rw (are, none) (replicate_more n [])

@@ -1,5 +1,5 @@
 use Rattle.std.proofs.Common.{◌≡◌, replicate, []}
-use Rattle.simulation.proofs.readers.no_readers.Given as goal
+use Rattle.loops.proofs.gate_list.empty_lists.Given as goal
 
 abbrev pub invariant-loop : goal.invariant-loop
 invariant-loop l = l.lists.items ≡ replicate l.counter []
