@@ -19,7 +19,7 @@ use Rattle.netlist.specs.declared.parts.Parts.{Parts}
 use Rattle.loops.specs.declared.structure.Blocks.{Blocks}
 use Rattle.loops.specs.declared.structure.Cut.{Cut}
 use Rattle.loops.specs.Blocks.{AreBlocksOf, block_at}
-use Rattle.loops.specs.Cuts.{AreLoopsOf, IsCutOf, Loops, loops_by}
+use Rattle.loops.specs.Cuts.{AreLoopsOf, IsCutOf, Loops}
 use Rattle.loops.specs.Found.{loops_of}
 use Rattle.loops.specs.Sweeps.{value_in, sweeps, cuts, cuts_of}
 use Rattle.loops.proofs.Existence.{loops_exist}
@@ -30,7 +30,7 @@ use Rattle.fixpoint.specs.declared.solved.SweptLoop.{SweptLoop}
 use Rattle.fixpoint.specs.declared.solved.Solved.{Solved}
 use Rattle.fixpoint.specs.Solved.{AreStepsOf, AreKeptSteps, Vectors, step_at, loop_under}
 use Rattle.fixpoint.specs.Counts.{IsStepNode, IsComparedIn}
-use Rattle.fixpoint.specs.Working.{IsGatePart, IsWorking}
+use Rattle.fixpoint.specs.Working.{IsWorking}
 use Rattle.fixpoint.proofs.CutLemmas.{one-of, zero-of}
 use Rattle.fixpoint.proofs.WorkLemmas.{sweeps_are_working, gate_parts_agree}
 use Rattle.care_sets.specs.Care.{CareSet, columns, is_care_vector}
