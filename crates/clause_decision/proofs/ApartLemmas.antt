@@ -1,41 +1,23 @@
 -- Pairs of wires in a cone's models, and at care vectors.
 use Rattle.std.proofs.Common.{◌≡◌, inl, inr, ℕ, suc, ◌<◌, ◌+◌, ◌*◌, Bool, true, false, not, List, [], ◌∷◌, ◌++◌, get_or, Some, refl, sym, ap, subst, ◌∙◌, arith, true≢false}
 use Rattle.std.specs.List.{All, AllZip}
-use Rattle.std.proofs.lemmas.Bool.{cases_lt}
-use Rattle.std.proofs.lemmas.List.{get_or_default, get_or-take}
-use Rattle.std.proofs.lemmas.List.Elements.{All-nil, All-cons, All-get_or, All-push, All-weaker}
+use Rattle.clause_decision.proofs.Common.{cases_lt, get_or_default, get_or-take, All-nil, All-cons, All-get_or, All-push, All-weaker, Sig, Trit, Zero, One, X, bits, Parts, wire, fix, count, first_gate, gate_of, value_in, CareSet, columns, is_allowed, is_in_invariant, state_of, IsCareVector, Formula, Rails, IsWanted, gate_rails, says, IsModel, HasModelFrom, Grows, is_known, no_rails, rails_at, Reads, AreWithin, ReadsAll-at, Problem, problem, HasNoModelUnder, models-same, column_rails, vector_in, ReadsAbove, ReadsFix, IsCone, AddLiterals, SayPairs}
 use Rattle.std.proofs.lemmas.List.Folds.{list_any_none}
 use Rattle.std.proofs.lemmas.Slice.Zip.{all_zipped_more}
-use Rattle.cyc_base.specs.declared.sig.Sig.{Sig}
-use Rattle.cyc_base.specs.declared.trit.Trit.{Trit}
-use Rattle.cyc_base.specs.declared.trit.Trit.TheVariants.{Zero, One, X}
-use Rattle.cyc_base.specs.Values.{bits}
-use Rattle.netlist.specs.declared.parts.Parts.{Parts}
-use Rattle.netlist.specs.Fixpoint.{wire, fix}
-use Rattle.netlist.specs.Netlists.{count}
-use Rattle.loops.specs.Sweeps.{first_gate, gate_of, value_in}
-use Rattle.care_sets.specs.Care.{CareSet, columns, is_allowed, is_in_invariant, state_of, IsCareVector}
-use Rattle.ternary_clauses.specs.declared.formula.Formula.{Formula}
-use Rattle.ternary_clauses.specs.declared.formula.Rails.{Rails}
 use Rattle.ternary_clauses.specs.Apart.{SaysApart}
-use Rattle.ternary_clauses.specs.Encoding.{IsWanted, gate_rails}
-use Rattle.ternary_clauses.specs.Formulas.{says, IsModel, IsFormula, HasModelFrom, Grows}
+use Rattle.ternary_clauses.specs.Formulas.{IsFormula}
 use Rattle.ternary_clauses.specs.Nodes.{agreed}
-use Rattle.ternary_clauses.specs.Rails.{is_known, no_rails, rails_at, exchanged, value_read, Reads, AreWithin, AreRailsOf}
+use Rattle.ternary_clauses.specs.Rails.{exchanged, value_read, AreRailsOf}
 use Rattle.ternary_clauses.proofs.GrowthLemmas.{Grows-refl, Grows-chain, model-here, model-after, rails-kept}
 use Rattle.ternary_clauses.proofs.NodeLemmas.{value-is}
 use Rattle.ternary_clauses.proofs.PickLemmas.{opposite, Reads-opposite}
-use Rattle.ternary_clauses.proofs.ReadingLemmas.{ReadsAll-at}
 use Rattle.clause_queries.specs.Each.{AreNever, IsAnyPossible}
-use Rattle.clause_queries.specs.Queries.{Problem, problem, HasNoModelUnder}
-use Rattle.clause_queries.proofs.ClauseLemmas.{models-same}
 use Rattle.clause_decision.specs.declared.apart.Asked.{Asked}
 use Rattle.clause_decision.specs.declared.pairs.Hint.{Hint}
 use Rattle.clause_decision.specs.declared.pairs.Pair.{Pair}
 use Rattle.clause_decision.specs.declared.scope.Scope.{Scope}
 use Rattle.clause_decision.specs.Apart.{are_apart, is_apart_at, AreNeverApart, IsPairOf, IsWireIn, IsPairIn, ArePairsIn}
-use Rattle.clause_decision.specs.Cones.{column_rails, vector_in, ReadsAbove, ReadsFix, IsCone}
-use Rattle.clause_decision.specs.Pairs.{HasRails, SaysPair, AddsLiteral, AddLiterals, SayPairs, TellPairs, AreRefuted}
+use Rattle.clause_decision.specs.Pairs.{HasRails, SaysPair, AddsLiteral, TellPairs, AreRefuted}
 use Rattle.clause_decision.proofs.ConeLemmas.{cone-kept}
 use Rattle.clause_decision.proofs.SignalLemmas.{column_rails-length, signal-at, three}
 use Rattle.clause_decision.proofs.UnknownLemmas.{vector-read}

@@ -1,38 +1,15 @@
 -- Cut wires that a sweep changes on care: where none does, the sweeps are enough.
 use Rattle.std.proofs.Common.{◌≡◌, ◌≢◌, ℕ, suc, ◌<◌, ◌+◌, Bool, true, false, not, List, [], ◌∷◌, length, get_or, Contains, refl, sym, ap, ◌∙◌, arith, true≢false}
 use Rattle.std.specs.List.{All}
-use Rattle.std.proofs.lemmas.List.{length-map, get_or_default}
-use Rattle.std.proofs.lemmas.List.Elements.{All-cons, All-contains, Contains-get_or}
-use Rattle.cyc_base.specs.declared.trit.Trit.{Trit}
-use Rattle.cyc_base.specs.declared.trit.Trit.TheVariants.{Zero, One, X}
-use Rattle.cyc_base.specs.Values.{bit, bits, Below}
+use Rattle.clause_decision.proofs.Common.{length-map, get_or_default, All-cons, Contains-get_or, Trit, Zero, One, X, bit, bits, Below, Parts, IsNetlist, fix_gates, Blocks, Cut, AreBlocksOf, block_at, IsCutOf, Loops, loops_by, CutsAreFixed, cuts_of, sweeps, value_in, map_agree, cut_values_agree, fixed_cuts_give_fix, CareSet, state_of, is_allowed, is_in_invariant, IsCareVector, Formula, Rails, says, negation, IsModel, Reads, rails_at, is_known, ReadsPlaces, says-negation, problem, HasNoModelUnder, models-same, change_literals, AreFedKnown, column_rails, vector_in, ReadsFix, IsCone, AreCutPlaces, LoopAt, IsLoopAt, gates_in, loops_in, is_marked, AreClosed, AreTooFewAt, TellsTooFew}
+use Rattle.std.proofs.lemmas.List.Elements.{All-contains}
 use Rattle.cyc_base.proofs.OrderLemmas.{EachBelow-at}
-use Rattle.netlist.specs.declared.parts.Parts.{Parts}
-use Rattle.netlist.specs.Netlists.{IsNetlist}
-use Rattle.netlist.specs.Fixpoint.{fix_gates}
-use Rattle.loops.specs.declared.structure.Blocks.{Blocks}
-use Rattle.loops.specs.declared.structure.Cut.{Cut}
-use Rattle.loops.specs.Blocks.{AreBlocksOf, block_at}
-use Rattle.loops.specs.Cuts.{IsCutOf, Loops, loops_by}
-use Rattle.loops.specs.Sweeps.{CutsAreFixed, cuts, cuts_of, sweeps, value_in}
-use Rattle.loops.proofs.Reading.{map_agree}
-use Rattle.loops.proofs.Sweeps.{cut_values_agree, fixed_cuts_give_fix, still_is_fix, sweeps_rise}
-use Rattle.care_sets.specs.Care.{CareSet, state_of, is_allowed, is_in_invariant, IsCareVector}
-use Rattle.ternary_clauses.specs.declared.formula.Formula.{Formula}
-use Rattle.ternary_clauses.specs.declared.formula.Rails.{Rails}
-use Rattle.ternary_clauses.specs.Formulas.{says, negation, IsModel}
-use Rattle.ternary_clauses.specs.Rails.{Reads, rails_at, is_known}
-use Rattle.ternary_clauses.specs.Sweeps.{ReadsOutside, ReadsPlaces}
-use Rattle.ternary_clauses.proofs.ClauseLemmas.{says-negation}
+use Rattle.loops.specs.Sweeps.{cuts}
+use Rattle.loops.proofs.Sweeps.{still_is_fix, sweeps_rise}
+use Rattle.ternary_clauses.specs.Sweeps.{ReadsOutside}
 use Rattle.clause_queries.specs.declared.query.Reply.{Reply}
 use Rattle.clause_queries.specs.declared.query.Reply.TheVariants as replies
-use Rattle.clause_queries.specs.Queries.{problem, HasNoModelUnder}
-use Rattle.clause_queries.proofs.ClauseLemmas.{models-same}
-use Rattle.clause_decision.specs.Changes.{change_literals, AreFedKnown, HasChange, ChangesAfter, StandAfter, TellsChange, TellsChangeAfter}
-use Rattle.clause_decision.specs.Cones.{column_rails, vector_in, ReadsFix, IsCone}
-use Rattle.clause_decision.specs.LoopsAt.{AreCutPlaces, LoopAt, IsLoopAt, gates_in, loops_in}
-use Rattle.clause_decision.specs.Scopes.{is_marked, AreClosed}
-use Rattle.clause_decision.specs.Countings.{AreTooFewAt, TellsTooFew}
+use Rattle.clause_decision.specs.Changes.{HasChange, ChangesAfter, StandAfter, TellsChange, TellsChangeAfter}
 use Rattle.clause_decision.proofs.FormulaLemmas.{ones-read}
 use Rattle.clause_decision.proofs.SignalLemmas.{known-below, column_rails-length, gate-read, three}
 use Rattle.clause_decision.proofs.LoopLemmas.{are-loops, cut-of, of-loop}

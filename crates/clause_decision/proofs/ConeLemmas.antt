@@ -2,26 +2,16 @@
 use Rattle.std.proofs.Common.{◌≡◌, ℕ, ◌<◌, ◌≤◌, ◌+◌, Bool, true, List, ◌++◌, length, map, take, get_or, sym, ap, subst, ◌∙◌, arith}
 use Rattle.std.specs.Prelude.{Contains}
 use Rattle.std.specs.List.{All}
-use Rattle.std.proofs.lemmas.List.{length-map, length-take-le, ext_get_or, get_or-take}
-use Rattle.std.proofs.lemmas.List.Elements.{All-get_or, All-from_get_or, All-take, Contains-get_or}
-use Rattle.cyc_base.specs.declared.sig.Sig.{Sig}
-use Rattle.cyc_base.specs.Values.{bit, bits}
+use Rattle.clause_decision.proofs.Common.{length-map, length-take-le, get_or-take, All-get_or, All-take, Contains-get_or, Sig, bit, bits, Parts, fix_gates, count, gate_sig, gate_at, no_gate, signal, IsNetlist, first_gate, gate_of, value_in, CareSet, columns, is_allowed, is_in_invariant, state_of, Formula, Rails, IsClosed, SaysNetlist, gate_rails, says, IsModel, HasModelFrom, Grows, ReadsAll, AreWithin, no_rails, ReadsAll-more, All-within-more, column_rails, vector_in, ReadsAbove, ReadsFix, IsCone, is_marked, AreClosed}
+use Rattle.std.proofs.lemmas.List.{ext_get_or}
+use Rattle.std.proofs.lemmas.List.Elements.{All-from_get_or}
 use Rattle.netlist.specs.declared.parts.Gate.{Gate}
-use Rattle.netlist.specs.declared.parts.Parts.{Parts}
-use Rattle.netlist.specs.Fixpoint.{fix_gates}
-use Rattle.netlist.specs.Netlists.{count, gate_sig, gate_at, no_gate, signal, IsSignal, IsNetlist}
-use Rattle.loops.specs.Sweeps.{first_gate, gate_of, value_in}
-use Rattle.care_sets.specs.Care.{CareSet, columns, is_allowed, is_in_invariant, state_of}
-use Rattle.ternary_clauses.specs.declared.formula.Formula.{Formula}
-use Rattle.ternary_clauses.specs.declared.formula.Rails.{Rails}
-use Rattle.ternary_clauses.specs.Encoding.{IsClosed, ReadsStill, HasState, SaysNetlist, gate_rails, AreNeverUnknown as AreNeverUnknownAmong}
-use Rattle.ternary_clauses.specs.Formulas.{says, IsModel, HasModelFrom, Grows}
-use Rattle.ternary_clauses.specs.Rails.{ReadsAll, AreWithin, no_rails}
+use Rattle.netlist.specs.Netlists.{IsSignal}
+use Rattle.ternary_clauses.specs.Encoding.{ReadsStill, HasState, AreNeverUnknown as AreNeverUnknownAmong}
 use Rattle.ternary_clauses.proofs.LawLemmas.{still_is_above_fix}
-use Rattle.ternary_clauses.proofs.ReadingLemmas.{Reads-more, ReadsAll-more, All-within-more}
-use Rattle.clause_decision.specs.Cones.{column_rails, vector_in, ReadsAbove, ReadsFix, IsCone}
+use Rattle.ternary_clauses.proofs.ReadingLemmas.{Reads-more}
 use Rattle.clause_decision.specs.Formulas.{HasVector, IsCareFormula}
-use Rattle.clause_decision.specs.Scopes.{is_marked, AreClosed, AreNeverUnknown}
+use Rattle.clause_decision.specs.Scopes.{AreNeverUnknown}
 
 -- each pin of a marked gate is a column, or a gate that feeds it
 pub closed-by_pins : (net : Parts) (marks : List Bool) → IsNetlist net → AreClosed net marks → IsClosed net marks

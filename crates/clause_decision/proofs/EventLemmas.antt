@@ -2,27 +2,17 @@
 use Rattle.std.proofs.Common.{◌≡◌, ◌≢◌, ◌⊎◌, inl, inr, ℕ, zero, suc, ◌+◌, ◌-◌, ◌*◌, ◌<◌, ◌≤◌, ◌==◌, Bool, true, false, ◌&&◌, leb, if◌then◌else◌, List, [], ◌∷◌, ◌++◌, length, drop, map, get_or, set, replicate, Option, Some, None, refl, sym, ap, ap₂, subst, ◌∙◌, arith, Contains, append-nil, true≢false}
 use Rattle.std.specs.List.{All}
 use Rattle.std.proofs.Math.Nat.{mul-le-mul_right}
-use Rattle.std.proofs.lemmas.Bool.{and_parts, cases_eq, leb-true}
-use Rattle.std.proofs.lemmas.List.{drop_more, get_or-set_same, get_or-set_other, length-append, length-replicate, length-set}
-use Rattle.std.proofs.lemmas.List.Elements.{Contains-append_cases, Contains-append_left, Contains-append_right, Contains-get_or, Contains-push, Contains-push_cases}
-use Rattle.cyc_base.specs.declared.sig.Sig.{Sig}
-use Rattle.cyc_base.specs.declared.trit.Trit.{Trit}
-use Rattle.cyc_base.specs.declared.trit.Trit.TheVariants.{Zero, One, X}
-use Rattle.cyc_base.specs.Values.{Below, EachBelow}
+use Rattle.clause_decision.proofs.Common.{and_parts, length-set, Contains-append_left, Contains-get_or, Contains-push, Contains-push_cases, Sig, Trit, Zero, One, X, Below, count, gate_at, gate_sig, wire, home_of, is_cut, first_gate, gate_of, value_in, map_agree, IsSweeping, AreUnseen, IsReady, LoopAt, IsLoopAt, gates_in, AreReaders}
+use Rattle.std.proofs.lemmas.Bool.{cases_eq, leb-true}
+use Rattle.std.proofs.lemmas.List.{drop_more, get_or-set_same, get_or-set_other, length-append, length-replicate}
+use Rattle.std.proofs.lemmas.List.Elements.{Contains-append_cases, Contains-append_right}
+use Rattle.cyc_base.specs.Values.{EachBelow}
 use Rattle.cyc_base.proofs.OrderLemmas.{Below-refl, Below-trans}
 use Rattle.cover_logic.specs.Extensions.{ext}
-use Rattle.netlist.specs.Netlists.{count, gate_at, gate_sig}
-use Rattle.netlist.specs.Fixpoint.{wire}
 use Rattle.netlist.proofs.FixpointLemmas.{known_count, known_count-le, same_or_more}
-use Rattle.loops.specs.Blocks.{home_of}
-use Rattle.loops.specs.Cuts.{is_cut}
 use Rattle.loops.specs.Searching.{InRow}
-use Rattle.loops.specs.Sweeps.{first_gate, gate_of, value_in}
-use Rattle.loops.proofs.Reading.{map_agree}
 use Rattle.loops.proofs.Sweeps.{ext_below}
-use Rattle.clause_decision.specs.Events.{cover_value, IsDetermined, IsNewValue, IsSweeping, AreUnseen, IsSwept, IsReady}
-use Rattle.clause_decision.specs.LoopsAt.{LoopAt, IsLoopAt, gates_in}
-use Rattle.clause_decision.specs.Readers.{AreReaders}
+use Rattle.clause_decision.specs.Events.{cover_value, IsDetermined, IsNewValue, IsSwept}
 use Rattle.clause_decision.specs.Simulations.{seen_of}
 use Rattle.clause_decision.proofs.LoopLemmas.{gate-fits}
 

@@ -1,24 +1,10 @@
 -- Formulas over columns, and literals that tell tests of their vectors.
 use Rattle.std.proofs.Common.{◌≡◌, ℕ, zero, suc, ◌*◌, ◌<◌, Bool, true, false, ◌&&◌, List, [], ◌∷◌, ◌++◌, length, map, drop, refl, sym, ap, ap₂, ◌∙◌, subst, arith}
-use Rattle.std.specs.List.{All, list_all}
-use Rattle.std.proofs.lemmas.Bool.{and_parts}
-use Rattle.std.proofs.lemmas.List.{length-map}
-use Rattle.std.proofs.lemmas.List.Elements.{All-map}
-use Rattle.cyc_base.specs.declared.trit.Trit.{Trit}
-use Rattle.cyc_base.specs.Values.{bit, bits}
-use Rattle.netlist.specs.declared.parts.Parts.{Parts}
-use Rattle.care_sets.specs.Care.{CareSet, columns, state_of, is_allowed, is_in_invariant, is_care_vector}
-use Rattle.ternary_clauses.specs.declared.formula.Formula.{Formula}
-use Rattle.ternary_clauses.specs.declared.formula.Rails.{Rails}
-use Rattle.ternary_clauses.specs.Columns.{SaysColumns}
-use Rattle.ternary_clauses.specs.Formulas.{says, holds, IsModel, IsFormula, HasModelFrom, Grows}
-use Rattle.ternary_clauses.specs.Rails.{ReadsAll, AreWithin, is_one}
+use Rattle.clause_decision.proofs.Common.{list_all, and_parts, length-map, All-map, Trit, bit, bits, Parts, CareSet, columns, state_of, is_allowed, is_in_invariant, is_care_vector, Formula, Rails, SaysColumns, says, IsModel, HasModelFrom, Grows, ReadsAll, AreWithin, is_one, All-within-more, ReadsAll-more, problem, Asks, models-same, SaysTest, IsOver}
+use Rattle.std.specs.List.{All}
+use Rattle.ternary_clauses.specs.Formulas.{holds, IsFormula}
 use Rattle.ternary_clauses.proofs.GrowthLemmas.{Grows-refl, model-here}
-use Rattle.ternary_clauses.proofs.ReadingLemmas.{All-within-more, ReadsAll-more}
-use Rattle.clause_queries.specs.Queries.{problem}
-use Rattle.clause_queries.specs.Vectors.{Asks}
-use Rattle.clause_queries.proofs.ClauseLemmas.{models-same}
-use Rattle.clause_decision.specs.Formulas.{SaysTest, IsOver, IsCareFormula}
+use Rattle.clause_decision.specs.Formulas.{IsCareFormula}
 
 -- ---- readings of lists
 

@@ -1,39 +1,20 @@
 -- The invariant of the next state, as a literal of a cone.
 use Rattle.std.proofs.Common.{◌≡◌, ℕ, ◌<◌, ◌+◌, ◌-◌, ◌*◌, Bool, true, false, not, ◌&&◌, List, [], ◌∷◌, ◌++◌, length, map, get_or, Option, Some, None, IfSome, refl, sym, ap, ap₂, subst, ◌∙◌, arith}
 use Rattle.std.specs.List.{All}
-use Rattle.std.specs.Option.{option_map, option_map_or}
-use Rattle.std.proofs.lemmas.Bool.{and_parts}
-use Rattle.std.proofs.lemmas.List.{length-map, get_or-map}
+use Rattle.clause_decision.proofs.Common.{option_map_or, and_parts, length-map, get_or-map, All-take, All-map, All-get_or, Contains-get_or, Trit, X, bit, bits, Sig, Latch, Parts, IsNetlist, count, gate_sig, signal, wire, fix, first_gate, gate_of, CareModel, CareSet, columns, holds_at, state_of, is_allowed, is_in_invariant, is_care_vector, IsCareVector, Formula, Rails, says, negation, IsModel, HasModelFrom, Reads, ReadsAll, AreWithin, no_rails, rails_at, says-negation, ReadsAll-more, All-within-more, IsWithin, problem, Asks, models-same, column_rails, vector_in, ReadsAbove, ReadsFix, IsCone, SaysTest, ReadsWithin}
+use Rattle.std.specs.Option.{option_map}
 use Rattle.std.specs.Prelude.{Contains}
-use Rattle.std.proofs.lemmas.List.Elements.{All-take, All-map, All-get_or, Contains-get_or}
 use Rattle.std.proofs.lemmas.Option.{same_Some}
-use Rattle.cyc_base.specs.declared.trit.Trit.{Trit}
-use Rattle.cyc_base.specs.declared.trit.Trit.TheVariants.{X}
-use Rattle.cyc_base.specs.Values.{bit, bits}
-use Rattle.cyc_base.specs.declared.sig.Sig.{Sig}
-use Rattle.netlist.specs.declared.parts.Latch.{Latch}
-use Rattle.netlist.specs.declared.parts.Parts.{Parts}
-use Rattle.netlist.specs.Netlists.{IsNetlist, count, gate_sig, signal}
-use Rattle.netlist.specs.Fixpoint.{wire, fix, next}
-use Rattle.loops.specs.Sweeps.{first_gate, gate_of}
-use Rattle.care_sets.specs.declared.model.CareModel.{CareModel}
+use Rattle.netlist.specs.Fixpoint.{next}
 use Rattle.care_sets.specs.Binding.{IsCareOf}
-use Rattle.care_sets.specs.Care.{CareSet, columns, is_one, inputs_at, holds_at, state_of, is_allowed, is_in_invariant, is_care_vector, IsCareVector}
+use Rattle.care_sets.specs.Care.{is_one, inputs_at}
 use Rattle.refusals.specs.Refusals.{next_state, leaves}
 use Rattle.refusals.proofs.RefusalLemmas.{known_bit_is}
-use Rattle.ternary_clauses.specs.declared.formula.Formula.{Formula}
-use Rattle.ternary_clauses.specs.declared.formula.Rails.{Rails}
-use Rattle.ternary_clauses.specs.Formulas.{says, negation, IsModel, HasModelFrom}
-use Rattle.ternary_clauses.specs.Rails.{Reads, ReadsAll, AreWithin, no_rails, rails_at}
-use Rattle.ternary_clauses.proofs.ClauseLemmas.{says-negation}
-use Rattle.ternary_clauses.proofs.ReadingLemmas.{ReadsAll-from, ReadsAll-more, All-within-more}
-use Rattle.clause_queries.specs.Clauses.{IsWithin}
-use Rattle.clause_queries.specs.Queries.{problem, is_model, IsModelUnder}
-use Rattle.clause_queries.specs.Vectors.{Asks, HasVector}
-use Rattle.clause_queries.proofs.ClauseLemmas.{models-same}
+use Rattle.ternary_clauses.proofs.ReadingLemmas.{ReadsAll-from}
+use Rattle.clause_queries.specs.Queries.{is_model, IsModelUnder}
+use Rattle.clause_queries.specs.Vectors.{HasVector}
 use Rattle.clause_decision.specs.declared.scope.Scope.{Scope}
-use Rattle.clause_decision.specs.Cones.{column_rails, vector_in, ReadsAbove, ReadsFix, IsCone}
-use Rattle.clause_decision.specs.Formulas.{SaysTest, accepts, ReadsWithin}
+use Rattle.clause_decision.specs.Formulas.{accepts}
 use Rattle.clause_decision.specs.Loads.{HasLoads, LoadsAreKnown}
 use Rattle.clause_decision.specs.NextStates.{no_latch, latch_of, load_rails, loads_rails, AreLatchColumns}
 use Rattle.clause_decision.specs.declared.question.Question.{Question}

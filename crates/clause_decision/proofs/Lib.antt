@@ -1,3 +1,4 @@
+pub mod Common
 pub mod ApartLemmas
 pub mod ChangeLemmas
 pub mod ConeLemmas

@@ -1,22 +1,16 @@
 -- A loop at its place among the blocks, and its cut wires.
 use Rattle.std.proofs.Common.{◌≡◌, inl, inr, ℕ, ◌<◌, ◌≤◌, ◌+◌, ◌==◌, Bool, true, false, ◌&&◌, cond, List, [], ◌∷◌, ◌++◌, length, filter, take, get_or, Contains, suc, sym, ap, ap₂, subst, refl, ◌∙◌, arith, true≢false, append-nil}
 use Rattle.std.specs.List.{All, range_with_len}
-use Rattle.std.proofs.lemmas.Bool.{cases_lt, and_parts, eq-eqb}
-use Rattle.std.proofs.lemmas.List.{length-map, length_push, take_all}
+use Rattle.clause_decision.proofs.Common.{cases_lt, and_parts, eq-eqb, length-map, take_all, All-push, All-weaker, Contains-get_or, Contains-append_left, Contains-push, bit, bits, Parts, block_at, home_of, Loops, is_cut, CutsAreFixed, cuts_of, gate_home, columns, AreCutPlaces, AreCutPlacesBelow, LoopAt, IsLoopAt, gates_in, loops_in}
+use Rattle.std.proofs.lemmas.List.{length_push}
 use Rattle.std.proofs.lemmas.List.FromFn.{length-range_with_len}
-use Rattle.std.proofs.lemmas.List.Elements.{All-push, All-weaker, Contains-get_or, Contains-append_left, Contains-push, filter_more}
-use Rattle.cyc_base.specs.Values.{bit, bits}
-use Rattle.netlist.specs.declared.parts.Parts.{Parts}
-use Rattle.loops.specs.Blocks.{block_at, home_of}
-use Rattle.loops.specs.Cuts.{AreLoopsOf, Loops, is_cut}
+use Rattle.std.proofs.lemmas.List.Elements.{filter_more}
+use Rattle.loops.specs.Cuts.{AreLoopsOf}
 use Rattle.loops.specs.Orders.{AreGatesOfLoop}
-use Rattle.loops.specs.Sweeps.{CutsAreFixed, cuts_of}
 use Rattle.loops.proofs.Reading.{Contains-filter, Contains-filter_from, Contains-range, Contains-range_from}
 use Rattle.loops.proofs.Sweeps.{few_sweeps_are_enough}
-use Rattle.loops.proofs.Told.{blocks_have_loops, blocks_tell_loops, gate_home}
+use Rattle.loops.proofs.Told.{blocks_have_loops, blocks_tell_loops}
 use Rattle.loops.proofs.Walks.{same_truth}
-use Rattle.care_sets.specs.Care.{columns}
-use Rattle.clause_decision.specs.LoopsAt.{AreCutPlaces, AreCutPlacesBelow, LoopAt, IsLoopAt, gates_in, loops_in}
 
 -- ---- the places of cut wires
 

@@ -2,34 +2,21 @@
 use Rattle.std.proofs.Common.{◌≡◌, inl, inr, ℕ, zero, suc, ◌+◌, ◌-◌, ◌<◌, Bool, true, false, List, [], ◌∷◌, length, map, get_or, Option, Some, None, IfSome, refl, sym, ap, ap₂, ◌∙◌, subst, arith}
 use Rattle.std.specs.Prelude.{replicate}
 use Rattle.std.specs.List.{All}
-use Rattle.std.specs.Option.{option_map, option_map_or}
-use Rattle.std.proofs.lemmas.Bool.{cases_lt}
-use Rattle.std.proofs.lemmas.List.{get_or-map, get_or-replicate, length-map, get_or_append_left}
-use Rattle.std.proofs.lemmas.List.Elements.{All-map, All-get_or}
+use Rattle.clause_decision.proofs.Common.{option_map_or, cases_lt, get_or-map, length-map, All-map, All-get_or, Sig, Trit, Zero, One, X, bit, bits, Parts, IsNetlist, count, gate_at, no_gate, wire, fix, fix_gates, first_gate, gate_of, value_in, CareModel, CareSet, columns, holds_at, Formula, Rails, IsWanted, IsClosed, SaysNetlist, says, IsModel, Reads, ReadsAll, AreWithin, rails_at, no_rails, ReadsAll-at, SaysTest, ReadsWithin}
+use Rattle.std.specs.Option.{option_map}
+use Rattle.std.proofs.lemmas.List.{get_or-replicate, get_or_append_left}
 use Rattle.std.proofs.lemmas.Option.{same_Some}
-use Rattle.cyc_base.specs.declared.sig.Sig.{Sig}
-use Rattle.cyc_base.specs.declared.trit.Trit.{Trit}
-use Rattle.cyc_base.specs.declared.trit.Trit.TheVariants.{Zero, One, X}
-use Rattle.cyc_base.specs.Values.{bit, bits}
-use Rattle.netlist.specs.declared.parts.Parts.{Parts}
-use Rattle.netlist.specs.Netlists.{IsNetlist, count, gate_at, no_gate}
-use Rattle.netlist.specs.Fixpoint.{wire, fix, fix_gates}
 use Rattle.netlist.specs.Walks.{IsLoopFree}
-use Rattle.loops.specs.Sweeps.{first_gate, gate_of, value_in}
 use Rattle.loops.proofs.Determined.{loop_free_is_determined}
 use Rattle.loops.proofs.Reading.{wire_of_gate}
-use Rattle.care_sets.specs.declared.model.CareModel.{CareModel}
 use Rattle.care_sets.specs.Binding.{IsCareOf, IsBoundTo}
-use Rattle.care_sets.specs.Care.{CareSet, columns, is_one, inputs_at, holds_at, HasValues}
+use Rattle.care_sets.specs.Care.{is_one, inputs_at, HasValues}
 use Rattle.care_sets.proofs.CareLemmas.{vectors_serve_assume, states_serve_invariant}
-use Rattle.ternary_clauses.specs.declared.formula.Formula.{Formula}
-use Rattle.ternary_clauses.specs.declared.formula.Rails.{Rails}
-use Rattle.ternary_clauses.specs.Encoding.{IsWanted, IsClosed, AreNeverUnknown, SaysNetlist}
-use Rattle.ternary_clauses.specs.Formulas.{says, IsModel}
-use Rattle.ternary_clauses.specs.Rails.{Reads, ReadsAll, AreWithin, rails_at, no_rails, is_one as is_one_rail}
+use Rattle.ternary_clauses.specs.Encoding.{AreNeverUnknown}
+use Rattle.ternary_clauses.specs.Rails.{is_one as is_one_rail}
 use Rattle.ternary_clauses.proofs.LawLemmas.{still_is_fix_without_loops}
-use Rattle.ternary_clauses.proofs.ReadingLemmas.{ReadsAll-at, ReadsAll-from, ReadsAll-length}
-use Rattle.clause_decision.specs.Formulas.{SaysTest, accepts, ReadsWithin}
+use Rattle.ternary_clauses.proofs.ReadingLemmas.{ReadsAll-from, ReadsAll-length}
+use Rattle.clause_decision.specs.Formulas.{accepts}
 
 -- ---- all gates are wanted
 

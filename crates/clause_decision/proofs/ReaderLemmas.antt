@@ -1,17 +1,11 @@
 -- The gates of a loop that read each of its gates.
 use Rattle.std.proofs.Common.{◌≡◌, ◌⊎◌, inl, inr, ℕ, zero, suc, ◌+◌, ◌-◌, ◌<◌, ◌≤◌, ◌==◌, Bool, true, false, ◌&&◌, leb, if◌then◌else◌, List, [], ◌∷◌, ◌++◌, length, get_or, set, take, replicate, Option, Some, None, refl, sym, ap, subst, ◌∙◌, arith, Contains}
-use Rattle.std.proofs.lemmas.Bool.{and_from, cases_eq, eq-eqb, le-leb}
-use Rattle.std.proofs.lemmas.List.{get_or-set_same, length-replicate, length-set, take_more}
-use Rattle.std.proofs.lemmas.List.Elements.{Contains-append_left, Contains-push, Contains-push_cases}
-use Rattle.cyc_base.specs.declared.sig.Sig.{Sig}
-use Rattle.netlist.specs.Netlists.{gate_at, gate_sig}
-use Rattle.loops.specs.Blocks.{home_of}
+use Rattle.clause_decision.proofs.Common.{eq-eqb, length-set, take_more, Contains-append_left, Contains-push, Contains-push_cases, Sig, gate_at, gate_sig, home_of, first_gate, gate_of, gate_home, LoopAt, IsLoopAt, gates_in, HasGainedReader, AreReaders}
+use Rattle.std.proofs.lemmas.Bool.{and_from, cases_eq, le-leb}
+use Rattle.std.proofs.lemmas.List.{get_or-set_same, length-replicate}
 use Rattle.loops.specs.Searching.{InRow}
-use Rattle.loops.specs.Sweeps.{first_gate, gate_of}
 use Rattle.loops.proofs.KeptLemmas.{pushed_keeps, pushed_new, pushed_only}
-use Rattle.loops.proofs.Told.{gate_home}
-use Rattle.clause_decision.specs.LoopsAt.{LoopAt, IsLoopAt, gates_in}
-use Rattle.clause_decision.specs.Readers.{source_of, HasGainedReader, AreReaders}
+use Rattle.clause_decision.specs.Readers.{source_of}
 
 Contains-nothing : {A : Type 0} (x : A) → ¬ Contains [] x
 Contains-nothing x c = omega (arith, c.1)

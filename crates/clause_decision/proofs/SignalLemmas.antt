@@ -1,29 +1,12 @@
 -- What signals stand for in a cone, where they are known at the fixpoint.
 use Rattle.std.proofs.Common.{◌≡◌, ◌≢◌, inl, inr, ℕ, zero, suc, ◌==◌, if◌then◌else◌, ◌<◌, ◌≤◌, ◌+◌, ◌-◌, ◌*◌, Bool, true, List, [], ◌∷◌, length, map, get_or, refl, sym, ap, subst, ◌∙◌, arith}
 use Rattle.std.specs.List.{All}
-use Rattle.std.proofs.lemmas.Bool.{cases_lt}
-use Rattle.std.proofs.lemmas.List.{length-map, length-take-le, get_or-take, get_or_append_left}
-use Rattle.std.proofs.lemmas.List.Elements.{All-map, All-take, All-get_or}
-use Rattle.cyc_base.specs.declared.sig.Sig.{Sig}
-use Rattle.cyc_base.specs.declared.trit.Trit.{Trit}
-use Rattle.cyc_base.specs.declared.trit.Trit.TheVariants.{Zero, One, X}
-use Rattle.cyc_base.specs.Values.{bit, bits, Below}
+use Rattle.clause_decision.proofs.Common.{cases_lt, length-map, length-take-le, get_or-take, All-map, All-take, All-get_or, Sig, Trit, Zero, One, X, bit, bits, Below, Parts, count, wire, fix, fix_gates, first_gate, gate_of, value_in, columns, Rails, IsWanted, gate_rails, negation, Reads, ReadsAll, AreWithin, no_rails, rails_at, ReadsAll-at, IsWithin, column_rails, ReadsAbove, is_marked}
+use Rattle.std.proofs.lemmas.List.{get_or_append_left}
 use Rattle.cyc_base.proofs.OrderLemmas.{Below-refl}
-use Rattle.netlist.specs.declared.parts.Parts.{Parts}
-use Rattle.netlist.specs.Netlists.{count}
-use Rattle.netlist.specs.Fixpoint.{wire, fix, fix_gates}
-use Rattle.loops.specs.Sweeps.{first_gate, gate_of, value_in}
 use Rattle.loops.proofs.Reading.{wire_of_gate}
-use Rattle.care_sets.specs.Care.{columns}
-use Rattle.ternary_clauses.specs.declared.formula.Rails.{Rails}
-use Rattle.ternary_clauses.specs.Encoding.{IsWanted, ReadsGates, gate_rails}
-use Rattle.ternary_clauses.specs.Formulas.{negation}
-use Rattle.ternary_clauses.specs.Rails.{Reads, ReadsAll, AreWithin, no_rails, rails_at}
+use Rattle.ternary_clauses.specs.Encoding.{ReadsGates}
 use Rattle.ternary_clauses.proofs.ClauseLemmas.{parity}
-use Rattle.ternary_clauses.proofs.ReadingLemmas.{ReadsAll-at}
-use Rattle.clause_queries.specs.Clauses.{IsWithin}
-use Rattle.clause_decision.specs.Cones.{column_rails, ReadsAbove}
-use Rattle.clause_decision.specs.Scopes.{is_marked}
 
 pub known-below : (x y : Trit) → Below x y → x ≢ X → y ≡ x
 known-below Zero y h e = h

@@ -1,22 +1,17 @@
 -- What inits ask of a state.
 use Rattle.std.proofs.Common.{◌≡◌, inl, inr, ℕ, zero, suc, ◌+◌, ◌-◌, ◌*◌, ◌==◌, if◌then◌else◌, ◌<◌, Bool, true, false, not, ◌&&◌, List, [], ◌∷◌, ◌++◌, length, take, get_or, refl, sym, ap, ap₂, ◌∙◌, subst, arith}
 use Rattle.std.specs.Prelude.{zip}
-use Rattle.std.specs.List.{All, list_all}
+use Rattle.clause_decision.proofs.Common.{list_all, All-nil, bit, bits, Latch, Parts, CareSet, is_in_invariant, Rails, says, negation, Reads, ReadsAll, AreWithin, is_one, says-negation, asked_starts}
+use Rattle.std.specs.List.{All}
 use Rattle.std.proofs.lemmas.List.{append_assoc, append-nil}
-use Rattle.std.proofs.lemmas.List.Elements.{All-append, All-nil}
+use Rattle.std.proofs.lemmas.List.Elements.{All-append}
 use Rattle.std.proofs.lemmas.List.Folds.{list_all-append}
-use Rattle.cyc_base.specs.Values.{bit, bits}
 use Rattle.netlist.specs.declared.parts.Init.{Init}
 use Rattle.netlist.specs.declared.parts.Init.TheVariants.{Zero, One, Either}
-use Rattle.netlist.specs.declared.parts.Latch.{Latch}
-use Rattle.netlist.specs.declared.parts.Parts.{Parts}
-use Rattle.care_sets.specs.Care.{CareSet, is_in_invariant}
 use Rattle.refusals.specs.Refusals.{is_initial, may_start}
-use Rattle.ternary_clauses.specs.declared.formula.Rails.{Rails}
-use Rattle.ternary_clauses.specs.Formulas.{says, negation}
-use Rattle.ternary_clauses.specs.Rails.{Reads, ReadsAll, AreWithin, is_one, is_zero}
-use Rattle.ternary_clauses.proofs.ClauseLemmas.{parity, says-negation}
-use Rattle.clause_decision.specs.Starts.{asked_of, asked_starts}
+use Rattle.ternary_clauses.specs.Rails.{is_zero}
+use Rattle.ternary_clauses.proofs.ClauseLemmas.{parity}
+use Rattle.clause_decision.specs.Starts.{asked_of}
 use Rattle.clause_decision.specs.Tests.{is_outside}
 
 -- ---- latch by latch

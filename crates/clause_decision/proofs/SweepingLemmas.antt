@@ -1,55 +1,33 @@
 -- Sweeps of a loop on top of a cone, and how many are needed.
 use Rattle.std.proofs.Common.{◌≡◌, inl, inr, ℕ, zero, suc, ◌<◌, ◌≤◌, ◌+◌, ◌-◌, ◌*◌, ◌==◌, Bool, true, false, not, ◌&&◌, ◌||◌, cond, List, [], ◌∷◌, ◌++◌, length, map, filter, take, get_or, leb, Contains, refl, sym, ap, ap₂, subst, ◌∙◌, arith, true≢false, append-nil}
 use Rattle.std.specs.List.{All, list_any, range_with_len}
-use Rattle.std.proofs.lemmas.Bool.{cases_lt, and_parts, and_from, eq-eqb, le-leb}
-use Rattle.std.proofs.lemmas.List.{length-map, get_or-replicate, get_or_default, length_push, take_all}
+use Rattle.clause_decision.proofs.Common.{cases_lt, and_parts, eq-eqb, length-map, get_or_default, take_all, All-push, All-weaker, All-map, All-get_or, All-take, Contains-get_or, Contains-append_left, Contains-push, Sig, Trit, X, bit, bits, Parts, IsNetlist, count, gate_at, no_gate, signal, fix_gates, Blocks, Cut, AreBlocksOf, block_at, home_of, IsCutOf, Loops, loops_by, is_cut, CutsAreFixed, cuts_of, first_gate, gate_of, sweeps, value_in, map_agree, cut_values_agree, fixed_cuts_give_fix, gate_home, CareSet, columns, state_of, is_allowed, is_in_invariant, IsCareVector, Formula, Rails, IsWanted, gate_rails, says, negation, IsModel, HasModelFrom, Grows, Reads, ReadsAll, AreWithin, no_rails, rails_at, is_known, SaysAny, ReadsPlaces, says-negation, ReadsAll-more, All-within-more, problem, HasNoModelUnder, models-same, column_rails, vector_in, ReadsFix, IsCone, first_number, AreTooFewAt, NeedAtLeast, TellsTooFew, AreCutPlaces, LoopAt, IsLoopAt, gates_in, loops_in, is_marked, AreClosed, IsCountAt, IsLeastCount, IsSwept}
+use Rattle.std.proofs.lemmas.Bool.{and_from, le-leb}
+use Rattle.std.proofs.lemmas.List.{get_or-replicate, length_push}
 use Rattle.std.proofs.lemmas.List.FromFn.{length-range_with_len}
-use Rattle.std.proofs.lemmas.List.Elements.{All-push, All-weaker, All-map, All-get_or, All-take, All-contains, Contains-get_or, Contains-append_left, Contains-push, filter_more}
-use Rattle.cyc_base.specs.declared.sig.Sig.{Sig}
-use Rattle.cyc_base.specs.declared.trit.Trit.{Trit}
-use Rattle.cyc_base.specs.declared.trit.Trit.TheVariants.{X}
-use Rattle.cyc_base.specs.Values.{bit, bits}
+use Rattle.std.proofs.lemmas.List.Elements.{All-contains, filter_more}
 use Rattle.cyc_base.proofs.OrderLemmas.{EachBelow-at}
-use Rattle.netlist.specs.declared.parts.Parts.{Parts}
-use Rattle.netlist.specs.Netlists.{IsNetlist, count, gate_at, no_gate, signal}
-use Rattle.netlist.specs.Fixpoint.{fix_gates}
 use Rattle.netlist.specs.Walks.{Feeds}
-use Rattle.loops.specs.declared.structure.Blocks.{Blocks}
-use Rattle.loops.specs.declared.structure.Cut.{Cut}
-use Rattle.loops.specs.Blocks.{AreBlocksOf, block_at, home_of}
-use Rattle.loops.specs.Cuts.{AreLoopsOf, IsCutOf, Loops, loops_by, is_cut}
+use Rattle.loops.specs.Cuts.{AreLoopsOf}
 use Rattle.loops.specs.Orders.{AreGatesOfLoop}
-use Rattle.loops.specs.Sweeps.{CutsAreFixed, cuts_of, first_gate, gate_of, in_loop_of, sweeps, value_in}
+use Rattle.loops.specs.Sweeps.{in_loop_of}
 use Rattle.loops.proofs.LoopCuts.{has-cut}
-use Rattle.loops.proofs.Reading.{Contains-filter, Contains-filter_from, Contains-range, Contains-range_from, map_agree}
-use Rattle.loops.proofs.Sweeps.{cut_values_agree, few_sweeps_are_enough, fixed_cuts_give_fix, sweeps_stay_below_fix}
-use Rattle.loops.proofs.Told.{blocks_have_loops, blocks_tell_loops, gate_home}
+use Rattle.loops.proofs.Reading.{Contains-filter, Contains-filter_from, Contains-range, Contains-range_from}
+use Rattle.loops.proofs.Sweeps.{few_sweeps_are_enough, sweeps_stay_below_fix}
+use Rattle.loops.proofs.Told.{blocks_have_loops, blocks_tell_loops}
 use Rattle.loops.proofs.Walks.{same_truth}
-use Rattle.care_sets.specs.Care.{CareSet, columns, state_of, is_allowed, is_in_invariant, IsCareVector}
 use Rattle.refusals.specs.Acceptance.{SomeCareVector}
-use Rattle.ternary_clauses.specs.declared.formula.Formula.{Formula}
-use Rattle.ternary_clauses.specs.declared.formula.Rails.{Rails}
-use Rattle.ternary_clauses.specs.Encoding.{IsWanted, gate_rails}
-use Rattle.ternary_clauses.specs.Formulas.{says, negation, IsModel, HasModelFrom, Grows}
-use Rattle.ternary_clauses.specs.Rails.{Reads, ReadsAll, AreWithin, no_rails, rails_at, is_known}
-use Rattle.ternary_clauses.specs.Sums.{SaysAny}
-use Rattle.ternary_clauses.specs.Sweeps.{ReadsOutside, ReadsPlaces, SaysSweep}
-use Rattle.ternary_clauses.proofs.ClauseLemmas.{says-negation}
-use Rattle.ternary_clauses.proofs.ReadingLemmas.{Reads-more, ReadsAll-more, All-within-more}
+use Rattle.ternary_clauses.specs.Sweeps.{ReadsOutside, SaysSweep}
+use Rattle.ternary_clauses.proofs.ReadingLemmas.{Reads-more}
 use Rattle.clause_queries.specs.declared.query.Reply.{Reply}
 use Rattle.clause_queries.specs.declared.query.Reply.TheVariants as replies
-use Rattle.clause_queries.specs.Queries.{problem, HasNoModelUnder, IsModelUnder, IsReply}
-use Rattle.clause_queries.proofs.ClauseLemmas.{models-same}
+use Rattle.clause_queries.specs.Queries.{IsModelUnder, IsReply}
 use Rattle.clause_decision.specs.declared.counting.Sign.{Sign}
 use Rattle.clause_decision.specs.declared.counting.Sign.TheVariants as signs
 use Rattle.clause_decision.specs.declared.sweeping.Swept.{Swept}
-use Rattle.clause_decision.specs.Cones.{column_rails, vector_in, ReadsFix, IsCone}
-use Rattle.clause_decision.specs.Countings.{first_number, AreEnough, AreTooFewAt, NeedAtLeast, Serves, TellsTooFew}
-use Rattle.clause_decision.specs.LoopsAt.{AreCutPlaces, LoopAt, IsLoopAt, gates_in, loops_in}
-use Rattle.clause_decision.specs.Scopes.{is_marked, AreClosed, AreKnownOnCare}
-use Rattle.clause_decision.specs.Simulations.{IsCountAt}
-use Rattle.clause_decision.specs.Sweeping.{IsLeastCount}
-use Rattle.clause_decision.specs.Sweepings.{open_literals, AreKnownAfter, IsOpenAt, IsSwept, SaysOpen, TellsOpen}
+use Rattle.clause_decision.specs.Countings.{AreEnough, Serves}
+use Rattle.clause_decision.specs.Scopes.{AreKnownOnCare}
+use Rattle.clause_decision.specs.Sweepings.{open_literals, AreKnownAfter, IsOpenAt, SaysOpen, TellsOpen}
 use Rattle.clause_decision.proofs.FormulaLemmas.{ones-read}
 use Rattle.clause_decision.proofs.LoopLemmas.{are-loops, cut-of, cuts-enough, gate-fits, of-loop}
 use Rattle.clause_decision.proofs.SignalLemmas.{known-below, negation-within, column_rails-length, signal-at, gate-read, three}

@@ -2,43 +2,22 @@
 use Rattle.std.proofs.Common.{◌≡◌, inl, inr, ℕ, zero, suc, ◌<◌, ◌+◌, ◌*◌, Bool, true, false, not, ◌&&◌, ◌||◌, List, [], ◌∷◌, length, map, take, get_or, Option, Some, None, refl, sym, ap, ap₂, subst, ◌∙◌, arith, true≢false}
 use Rattle.std.specs.Prelude.{find, is_some}
 use Rattle.std.specs.List.{All, list_any}
-use Rattle.std.proofs.lemmas.Bool.{cases_lt}
-use Rattle.std.proofs.lemmas.List.{length-map, length-take-le, get_or-map}
-use Rattle.std.proofs.lemmas.List.Elements.{All-nil, All-cons, All-get_or, All-map, All-weaker, All-take}
+use Rattle.clause_decision.proofs.Common.{cases_lt, length-map, length-take-le, get_or-map, All-nil, All-cons, All-get_or, All-map, All-weaker, All-take, Trit, Zero, One, X, bit, bits, Below, Parts, wire, fix, fix_gates, count, gate_sig, first_gate, value_in, CareSet, columns, is_allowed, is_in_invariant, is_care_vector, state_of, Formula, Rails, IsWanted, gate_rails, says, negation, IsModel, ReadsAll, AreWithin, is_known, is_one, no_rails, SaysAny, says-negation, IsWithin, problem, HasNoModelUnder, Asks, models-same, column_rails, vector_in, ReadsAbove, ReadsFix, IsCone, is_marked, unknown_literals}
 use Rattle.std.proofs.lemmas.Simd.{map-map}
-use Rattle.cyc_base.specs.declared.trit.Trit.{Trit}
-use Rattle.cyc_base.specs.declared.trit.Trit.TheVariants.{Zero, One, X}
-use Rattle.cyc_base.specs.Values.{bit, bits, Below}
 use Rattle.cyc_base.specs.Vectors.{vectors}
-use Rattle.netlist.specs.declared.parts.Parts.{Parts}
-use Rattle.netlist.specs.Fixpoint.{wire, fix, fix_gates}
-use Rattle.netlist.specs.Netlists.{count, gate_sig}
-use Rattle.loops.specs.Sweeps.{first_gate, value_in}
-use Rattle.care_sets.specs.Care.{CareSet, columns, is_allowed, is_in_invariant, is_care_vector, state_of}
 use Rattle.refusals.specs.Refusals.{is_x, is_undetermined}
 use Rattle.refusals.proofs.FirstLemmas.{none_passes, nothing_passes}
 use Rattle.refusals.proofs.RefusalLemmas.{both, is_x_decides, gate_wire}
-use Rattle.ternary_clauses.specs.declared.formula.Formula.{Formula}
-use Rattle.ternary_clauses.specs.declared.formula.Rails.{Rails}
-use Rattle.ternary_clauses.specs.Encoding.{IsWanted, gate_rails}
-use Rattle.ternary_clauses.specs.Formulas.{says, negation, IsModel}
-use Rattle.ternary_clauses.specs.Rails.{ReadsAll, AreWithin, is_known, is_one, no_rails}
-use Rattle.ternary_clauses.specs.Sums.{SaysAny}
-use Rattle.ternary_clauses.proofs.ClauseLemmas.{says-negation}
 use Rattle.clause_decision.proofs.SignalLemmas.{negation-within, three}
-use Rattle.clause_queries.specs.Clauses.{IsWithin}
 use Rattle.clause_queries.specs.Each.{CanBe, CannotBe, TellEach}
-use Rattle.clause_queries.specs.Queries.{problem, HasModelUnder, HasNoModelUnder, AreRising, IsFirst, IsFirstAt}
-use Rattle.clause_queries.specs.Vectors.{HasVector, Asks}
+use Rattle.clause_queries.specs.Queries.{HasModelUnder, AreRising, IsFirst, IsFirstAt}
+use Rattle.clause_queries.specs.Vectors.{HasVector}
 use Rattle.clause_queries.specs.declared.first.First.{First}
 use Rattle.clause_queries.specs.declared.first.First.TheVariants as firsts
-use Rattle.clause_queries.proofs.ClauseLemmas.{models-same}
 use Rattle.clause_decision.specs.declared.question.Question.{Question}
-use Rattle.clause_decision.specs.Cones.{column_rails, vector_in, ReadsAbove, ReadsFix, IsCone}
 use Rattle.clause_decision.specs.Questions.{IsQuestionOf}
-use Rattle.clause_decision.specs.Scopes.{is_marked}
 use Rattle.clause_decision.specs.Tests.{is_unknown_at, is_unknown, IsFirstUnknown, TellsFirstUnknown, TellEachUnknown}
-use Rattle.clause_decision.specs.Unknowns.{unknown_literals, TellUnknowns}
+use Rattle.clause_decision.specs.Unknowns.{TellUnknowns}
 use Rattle.clause_decision.proofs.ConeLemmas.{cone-kept}
 
 -- ---- the first so many of a list

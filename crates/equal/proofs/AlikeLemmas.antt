@@ -1,16 +1,9 @@
 -- Where the wires of no pair of the joined netlist are ever apart, the two netlists don't differ.
 use Rattle.std.proofs.Common.{◌≡◌, ℕ, ◌+◌, ◌<◌, refl, None, Some, List, [], ◌∷◌, All, Bool, true, false, if◌then◌else◌, length, map, slice_get, sym, ◌∙◌, arith}
 use Rattle.std.proofs.lemmas.List.Elements.{All-nil, All-cons, All-head, All-tail}
-use Rattle.std.proofs.lemmas.Option.{slice_get_within}
-use Rattle.cyc_base.specs.declared.sig.Sig.{Sig}
+use Rattle.equal.proofs.Common.{slice_get_within, Sig, Parts, count, signal, signal_names, IsNetlist, CareSet, IsPairOf, difference, differs, pair_of, AreAccepted, joined, joined_pairs, unmatched}
 use Rattle.indexmap.specs.IndexMap.{insert_entry}
-use Rattle.netlist.specs.declared.parts.Parts.{Parts}
-use Rattle.netlist.specs.Netlists.{count, signal, signal_names, IsNetlist}
-use Rattle.care_sets.specs.Care.{CareSet}
-use Rattle.clause_decision.specs.Apart.{AreNeverApart, IsPairOf}
-use Rattle.equal.specs.Differences.{difference, differs, pair_of, AreAccepted}
-use Rattle.equal.specs.Joined.{joined, joined_pairs}
-use Rattle.equal.specs.Matching.{unmatched}
+use Rattle.clause_decision.specs.Apart.{AreNeverApart}
 use Rattle.equal.proofs.DifferenceLemmas.{agree_on_care, known_a}
 use Rattle.equal.proofs.JoinLemmas.{apart_same, length-joined}
 use Rattle.equal.proofs.MatchLemmas.{matched}

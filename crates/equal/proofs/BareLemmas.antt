@@ -1,25 +1,15 @@
 -- A netlist whose latches are taken as inputs has the same loops, sweeps and fixpoint.
 use Rattle.std.proofs.Common.{◌≡◌, inl, inr, ℕ, zero, suc, ◌+◌, ◌-◌, nat_lt, Bool, true, not, ◌&&◌, ◌||◌, if◌then◌else◌, List, [], length, map, None, refl, sym, ap, ap₂, subst, ◌∙◌, arith}
 use Rattle.std.specs.Prelude.{nat_le, All}
-use Rattle.std.specs.List.{list_any, range_with_len, IsDistinct}
-use Rattle.std.specs.Str.{bytes_eq}
+use Rattle.equal.proofs.Common.{list_any, range_with_len, IsDistinct, bytes_eq, append_assoc, length-append, length-map, Sig, Trit, ext, Gate, Latch, Parts, signal, signal_names, gate_at, gate_sig, sig_eq, IsNetlist, wires, wire, steps, fix, loops_of, first_gate, IsGatePart, column_names}
 use Rattle.std.proofs.Math.Path.{fun_ext}
-use Rattle.std.proofs.lemmas.List.{append_assoc, length-append, length-map}
-use Rattle.cyc_base.specs.declared.sig.Sig.{Sig}
-use Rattle.cyc_base.specs.declared.trit.Trit.{Trit}
 use Rattle.cyc_base.specs.Names.{IsBlifName}
-use Rattle.cover_logic.specs.Extensions.{ext}
-use Rattle.netlist.specs.declared.parts.Gate.{Gate}
-use Rattle.netlist.specs.declared.parts.Latch.{Latch}
-use Rattle.netlist.specs.declared.parts.Parts.{Parts}
-use Rattle.netlist.specs.Netlists.{signal, signal_names, gate_at, gate_sig, sig_eq, IsNetlist}
-use Rattle.netlist.specs.Fixpoint.{wires, wire, step, steps, fix}
+use Rattle.netlist.specs.Fixpoint.{step}
 use Rattle.loops.specs.Cuts.{Loops}
-use Rattle.loops.specs.Found.{feeds, reaches, same_of, cut_below, loops_of}
-use Rattle.loops.specs.Sweeps.{first_gate, value_in, pin_in, gate_in, sweep_step, sweep_steps, sweep, sweeps}
+use Rattle.loops.specs.Found.{feeds, reaches, same_of, cut_below}
+use Rattle.loops.specs.Sweeps.{value_in, pin_in, gate_in, sweep_step, sweep_steps, sweep, sweeps}
 use Rattle.fixpoint.specs.Solved.{Vectors}
-use Rattle.fixpoint.specs.Working.{read_in_sweep, IsGatePart}
-use Rattle.care_sets.specs.Care.{column_names}
+use Rattle.fixpoint.specs.Working.{read_in_sweep}
 
 -- the latches are inputs, and nothing is an output
 abbrev pub bare : Parts → Parts

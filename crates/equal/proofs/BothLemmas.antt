@@ -1,34 +1,16 @@
 -- What the comparison of two netlists works with is what their decisions work with.
 use Rattle.std.proofs.Common.{◌≡◌, inl, inr, ℕ, zero, suc, ◌+◌, ◌-◌, ◌<◌, ◌≤◌, Bool, false, List, [], ◌∷◌, length, map, get_or, refl, sym, ap, subst, ◌∙◌, arith}
 use Rattle.std.specs.Prelude.{Contains}
-use Rattle.std.specs.List.{range_with_len}
-use Rattle.std.proofs.lemmas.Bool.{cases_lt}
-use Rattle.std.proofs.lemmas.List.{get_or-map, get_or_append_left, get_or-append-add, get_or_default, length-map, map-id}
-use Rattle.std.proofs.lemmas.List.FromFn.{length-range_with_len, get_or-range_with_len, length-map-range_with_len, get_or-map-range_with_len}
-use Rattle.std.proofs.lemmas.Simd.{map-map}
-use Rattle.cyc_base.specs.declared.sig.Sig.{Sig}
-use Rattle.cyc_base.specs.declared.trit.Trit.TheVariants.{X}
-use Rattle.cyc_base.specs.Values.{bit, bits}
+use Rattle.equal.proofs.Common.{range_with_len, cases_lt, get_or-map, get_or_append_left, get_or-append-add, get_or_default, length-map, length-range_with_len, get_or-range_with_len, length-map-range_with_len, get_or-map-range_with_len, map-map, Sig, X, bit, bits, Gate, Parts, signal, count, gate_at, gate_sig, no_gate, IsNetlist, wire, fix, fix_gates, loops_of, first_gate, map_agree, order, IsGatePart, CareSet, columns, column_names, columns_by_name, by_name, moved, joined}
+use Rattle.std.proofs.lemmas.List.{map-id}
 use Rattle.dual_rail.proofs.WidthLemmas.{IsWide-fewer}
-use Rattle.netlist.specs.declared.parts.Gate.{Gate}
-use Rattle.netlist.specs.declared.parts.Parts.{Parts}
-use Rattle.netlist.specs.Netlists.{signal, count, gate_at, gate_sig, no_gate, IsNetlist}
-use Rattle.netlist.specs.Fixpoint.{wire, fix, fix_gates}
 use Rattle.netlist.specs.Walks.{Feeds}
-use Rattle.loops.specs.Found.{loops_of}
-use Rattle.loops.specs.Sweeps.{first_gate}
-use Rattle.loops.proofs.Reading.{map_agree}
 use Rattle.isolation.specs.Excerpts.{origins, origin, gate_in, inputs_in, IsExcerpt}
 use Rattle.isolation.specs.Laws.{column_signals}
 use Rattle.isolation.proofs.ConeLemmas.{columns_give_vectors}
-use Rattle.fixpoint.specs.Orders.{order}
-use Rattle.fixpoint.specs.Working.{IsGatePart}
-use Rattle.care_sets.specs.Care.{CareSet, columns, column_names}
 use Rattle.verdict.specs.Enough as decisions
 use Rattle.differences.specs.Comparisons.{IsOfComparison, IsLaidBy, IsColumn, SaysCare, IsOfNetlist, IsOfAssumption, IsOfInvariant}
 use Rattle.equal.specs.Both.{IsOfBoth, IsLaidForBoth, OfFirst, OfSecond, BothAreWide}
-use Rattle.equal.specs.Differences.{columns_by_name, by_name}
-use Rattle.equal.specs.Joined.{moved, joined}
 use Rattle.equal.proofs.BareLemmas.{bare, first-bare, valid-bare, part-bare}
 use Rattle.equal.proofs.JoinLemmas.{first_gate as gate_of_first, second_gate as gate_of_second, length-joined, moved_low, moved_high}
 use Rattle.equal.proofs.MatchLemmas.{Match, matched, table_within, length-table, bits_at}

@@ -1,30 +1,19 @@
 -- The bounds of a comparison, from those of its parts.
 use Rattle.std.proofs.Common.{◌≡◌, ◌⊎◌, inl, inr, ℕ, ◌+◌, ◌-◌, ◌*◌, ◌<◌, ◌≤◌, List, [], ◌∷◌, ◌++◌, length, map, Option, Some, None, refl, sym, ap, ap₂, subst, ◌∙◌, arith}
-use Rattle.std.specs.Prelude.{IsSomeAnd, Result, Err}
-use Rattle.std.specs.List.{sum_by, range_with_len}
-use Rattle.std.proofs.lemmas.Bool.{cases_lt}
-use Rattle.std.proofs.lemmas.List.{length-append, length-map, append-nil}
+use Rattle.equal.proofs.Common.{Result, Err, range_with_len, cases_lt, length-append, length-map, Gate, Latch, Parts, count, gate_at, no_gate, IsNetlist, order, CareSet, columns, CareModel, mark, name_of, unmatched, columns_by_name, pair_of, signal_named, source_named, output_pairs, latch_pairs, model_of, HaveOneSource, moved_gate_by, moved_gates, moved_pair_by, joined, joined_pairs}
+use Rattle.std.specs.Prelude.{IsSomeAnd}
+use Rattle.std.specs.List.{sum_by}
+use Rattle.std.proofs.lemmas.List.{append-nil}
 use Rattle.std.proofs.lemmas.List.FromFn.{fill_by_all}
 use Rattle.std.proofs.lemmas.List.Sums.{sum_by-append, sum_by-cons}
 use Rattle.std.proofs.lemmas.Nat.{mul-le}
 use Rattle.bdd_store.specs.Arena.{Arena}
-use Rattle.netlist.specs.declared.parts.Gate.{Gate}
-use Rattle.netlist.specs.declared.parts.Latch.{Latch}
-use Rattle.netlist.specs.declared.parts.Parts.{Parts}
-use Rattle.netlist.specs.Netlists.{count, gate_at, no_gate, IsNetlist}
 use Rattle.dual_rail.specs.Local.{size}
-use Rattle.fixpoint.specs.Orders.{order}
 use Rattle.fixpoint.specs.Working.{effort, HasLargeCover}
-use Rattle.care_sets.specs.Care.{CareSet, columns}
-use Rattle.care_sets.specs.declared.model.CareModel.{CareModel}
 use Rattle.verdict.specs.Causes.{HasModelOver, HasCoverOver, IsOutOfNodes}
 use Rattle.verdict.specs.Enough.{in_all, enough, IsBelowEnough}
 use Rattle.differences.specs.Comparisons.{IsBelowEnoughFor}
-use Rattle.unroll.specs.Marks.{mark}
 use Rattle.equal.specs.Bounds.{in_both, IsBelowEnoughForBoth, IsOutOfNodesForBoth}
-use Rattle.equal.specs.Matching.{name_of, unmatched}
-use Rattle.equal.specs.Differences.{columns_by_name, pair_of, signal_named, source_named, output_pairs, latch_pairs, model_of, HaveOneSource}
-use Rattle.equal.specs.Joined.{moved_gate_by, moved_gates, moved_pair_by, joined, joined_pairs}
 use Rattle.equal.proofs.BothLemmas.{both_are_wide}
 use Rattle.equal.proofs.JoinLemmas.{first_gate, second_gate, length-joined}
 

@@ -1,17 +1,9 @@
 -- The steps of a comparison.
 use Rattle.std.proofs.Common.{◌≡◌, ℕ, ◌+◌, ◌-◌, ◌≤◌, Bool, ◌&&◌, List, [], ◌∷◌, ◌++◌, length, All, Option, Some, None, IfSome, refl, sym, ap, ap₂, subst, ◌∙◌, arith}
-use Rattle.std.specs.Prelude.{option_map, Result, IfOk, Ok, Err}
-use Rattle.std.proofs.lemmas.List.Elements.{All-map}
-use Rattle.cyc_base.specs.declared.sig.Sig.{Sig}
+use Rattle.equal.proofs.Common.{option_map, Result, IfOk, Err, All-map, Sig, option_map_or, Gate, Parts, count, IsNetlist, IsBoundTo, IsCareOf, CareModel, CareSet, columns, is_care_vector, some_is_apart, IsPairOf, IsKnownEarly, unmatched, Answer, columns_by_name, by_name, output_pairs, latch_pairs, differs, difference, HaveOneSource, AreAccepted, moved_pair_by, joined, joined_pairs}
+use Rattle.std.specs.Prelude.{Ok}
 use Rattle.cyc_base.specs.Vectors.{vectors}
-use Rattle.std.specs.Option.{option_map_or}
 use Rattle.netlist.specs.Faults.{first_there}
-use Rattle.netlist.specs.declared.parts.Gate.{Gate}
-use Rattle.netlist.specs.declared.parts.Parts.{Parts}
-use Rattle.netlist.specs.Netlists.{count, IsNetlist}
-use Rattle.care_sets.specs.Binding.{IsBoundTo, IsCareOf}
-use Rattle.care_sets.specs.declared.model.CareModel.{CareModel}
-use Rattle.care_sets.specs.Care.{CareSet, columns, is_care_vector}
 use Rattle.refusals.specs.declared.observe.Observe.TheVariants as observe
 use Rattle.refusals.specs.declared.refusal.Refusal.{Refusal}
 use Rattle.refusals.specs.Acceptance.{Accepts}
@@ -19,7 +11,6 @@ use Rattle.refusals.specs.Refusals.{refusal}
 use Rattle.refusals.proofs.FirstLemmas.{find-filter, found_wide}
 use Rattle.refusals.proofs.LawLemmas.{accepted_without_refusal}
 use Rattle.refusals.proofs.ShowingLemmas.{care_vector_decides}
-use Rattle.clause_decision.specs.Apart.{some_is_apart, IsPairOf}
 use Rattle.differences.specs.Pairs.{least_apart}
 use Rattle.loops.specs.declared.structure.Blocks.{Blocks}
 use Rattle.loops.specs.declared.structure.Cut.{Cut}
@@ -30,12 +21,9 @@ use Rattle.verdict.specs.Verdicts.{IsAcceptance, IsVerdict}
 use Rattle.refusals.specs.declared.refusal.Refusal.TheVariants.{Undetermined}
 use Rattle.equal.specs.declared.least.Early.{Early}
 use Rattle.equal.specs.declared.least.Early.TheVariants.{Found}
-use Rattle.equal.specs.Early.{IsFound, IsKnownEarly}
-use Rattle.equal.specs.Matching.{unmatched}
-use Rattle.equal.specs.declared.answer.Answer.{Answer}
+use Rattle.equal.specs.Early.{IsFound}
 use Rattle.equal.specs.declared.answer.Answer.TheVariants.{Equal, Unmatched, First, Second}
-use Rattle.equal.specs.Differences.{columns_by_name, by_name, output_pairs, latch_pairs, differs, difference, at_difference, comparison_of_accepted, comparison, HaveOneSource, AreAccepted}
-use Rattle.equal.specs.Joined.{moved_pair_by, joined, joined_pairs}
+use Rattle.equal.specs.Differences.{at_difference, comparison_of_accepted, comparison}
 use Rattle.equal.proofs.MatchLemmas.{matched, length-by_name, length-table, care_by_name}
 use Rattle.equal.proofs.JoinLemmas.{pairs_for, apart_same, moved_within, length-joined}
 use Rattle.equal.proofs.DifferenceLemmas.{agree_on_care, known_a}

@@ -1,21 +1,13 @@
 -- The netlist that tells whether two netlists differ is refused just where they do, with the least vector of that.
 use Rattle.std.proofs.Common.{◌≡◌, ◌≢◌, inl, inr, ℕ, zero, suc, ◌+◌, ◌-◌, ◌<◌, Bool, true, false, not, ◌&&◌, cond, List, [], ◌∷◌, length, map, get_or, Option, Some, None, refl, sym, ap, ap₂, subst, ◌∙◌, arith}
-use Rattle.std.specs.Prelude.{find, is_none, Result, IfOk, Ok, Err}
-use Rattle.std.specs.List.{list_any, range_with_len}
-use Rattle.std.specs.Option.{option_or, option_map, option_and_then}
-use Rattle.std.proofs.lemmas.Bool.{cases_lt}
+use Rattle.equal.proofs.Common.{find, Result, IfOk, Err, list_any, range_with_len, option_or, cases_lt, length-map-range_with_len, get_or-map-range_with_len, Sig, X, bits, Latch, Parts, gate_sig, IsNetlist, wire, fix, map_agree, CareSet, columns, is_care_vector, Pair, by_name, differs, difference, AreAccepted, IsKnownEarly, joined_pairs}
+use Rattle.std.specs.Prelude.{is_none, Ok}
+use Rattle.std.specs.Option.{option_map, option_and_then}
 use Rattle.std.proofs.lemmas.List.Folds.{find-append}
-use Rattle.std.proofs.lemmas.List.FromFn.{map-range_with_len_more, length-map-range_with_len, get_or-map-range_with_len}
-use Rattle.cyc_base.specs.declared.sig.Sig.{Sig}
-use Rattle.cyc_base.specs.declared.trit.Trit.TheVariants.{X}
-use Rattle.cyc_base.specs.Values.{bits}
+use Rattle.std.proofs.lemmas.List.FromFn.{map-range_with_len_more}
 use Rattle.cyc_base.specs.Vectors.{vectors}
-use Rattle.netlist.specs.declared.parts.Latch.{Latch}
-use Rattle.netlist.specs.declared.parts.Parts.{Parts}
-use Rattle.netlist.specs.Netlists.{gate_sig, IsNetlist}
-use Rattle.netlist.specs.Fixpoint.{wire, fix, next}
-use Rattle.loops.proofs.Reading.{map_agree}
-use Rattle.care_sets.specs.Care.{CareSet, columns, is_one, is_in_invariant, is_care_vector, IsCareVector}
+use Rattle.netlist.specs.Fixpoint.{next}
+use Rattle.care_sets.specs.Care.{is_one, is_in_invariant, IsCareVector}
 use Rattle.refusals.specs.declared.observe.Observe.TheVariants as observe
 use Rattle.refusals.specs.declared.refusal.Refusal.{Refusal}
 use Rattle.refusals.specs.declared.refusal.Refusal.TheVariants.{Undetermined, Leaves}
@@ -26,11 +18,9 @@ use Rattle.refusals.proofs.LawLemmas.{accepted_without_refusal}
 use Rattle.refusals.proofs.ObservedLemmas.{all_observes_gates}
 use Rattle.refusals.proofs.RefusalLemmas.{known-is_x}
 use Rattle.refusals.proofs.ShowingLemmas.{care_vector_decides}
-use Rattle.clause_decision.specs.declared.pairs.Pair.{Pair}
-use Rattle.equal.specs.Differences.{by_name, differs, difference, AreAccepted}
 use Rattle.equal.specs.declared.least.Early.{Early}
-use Rattle.equal.specs.Early.{IsFound, IsKnownEarly}
-use Rattle.equal.specs.Joined.{joined_pairs, difference_netlist}
+use Rattle.equal.specs.Early.{IsFound}
+use Rattle.equal.specs.Joined.{difference_netlist}
 use Rattle.equal.proofs.NameLemmas.{find_nowhere}
 use Rattle.equal.proofs.MatchLemmas.{Match}
 use Rattle.equal.proofs.JoinLemmas.{fix_first, apart_same, pair_known, gate_known}

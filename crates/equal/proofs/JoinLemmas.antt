@@ -1,33 +1,17 @@
 -- Both netlists stand in the joined one, each with the fixpoint that it has alone.
 use Rattle.std.proofs.Common.{◌≡◌, ◌≢◌, inl, inr, ℕ, ◌+◌, ◌-◌, ◌<◌, ◌≤◌, Bool, true, false, if◌then◌else◌, List, [], ◌∷◌, ◌++◌, length, get_or, slice_get, position, All, Option, Some, None, refl, sym, ap, ap₂, subst, ◌∙◌, arith}
-use Rattle.std.specs.List.{list_any, position_or_len}
-use Rattle.std.specs.Option.{option_map_or}
-use Rattle.std.specs.Str.{bytes_eq}
-use Rattle.std.proofs.lemmas.Bool.{cases_lt, lt-ltb, le-ltb}
-use Rattle.std.proofs.lemmas.List.{length-append, length-map, map-id, get_or-map, get_or_append_left, get_or-append-add}
-use Rattle.std.proofs.lemmas.List.Elements.{All-append, All-map}
+use Rattle.equal.proofs.Common.{list_any, option_map_or, bytes_eq, cases_lt, length-append, length-map, get_or-map, get_or_append_left, get_or-append-add, All-map, length-map-range_with_len, get_or-map-range_with_len, position-Some, slice_get_within, get_or_from_slice_get, Sig, Trit, X, bit, bits, Gate, Latch, Parts, count, signal, gate_at, no_gate, gate_sig, signal_names, IsSignal, IsNetlist, wire, fix, columns, mark, Pair, some_is_apart, name_of, latch_named, has_latch, is_output, number_or_0, columns_by_name, by_name, signal_named, source_named, pair_of, output_pairs, latch_pairs, differs, moved, moved_gate_by, moved_gates, moved_pair_by, joined, joined_pairs}
+use Rattle.std.specs.List.{position_or_len}
+use Rattle.std.proofs.lemmas.Bool.{lt-ltb, le-ltb}
+use Rattle.std.proofs.lemmas.List.{map-id}
+use Rattle.std.proofs.lemmas.List.Elements.{All-append}
 use Rattle.std.proofs.lemmas.List.Folds.{find_at}
-use Rattle.std.proofs.lemmas.List.FromFn.{length-map-range_with_len, get_or-map-range_with_len}
-use Rattle.std.proofs.lemmas.List.Quantifiers.{position-Some}
-use Rattle.std.proofs.lemmas.Option.{slice_get_within, get_or_from_slice_get}
-use Rattle.cyc_base.specs.declared.sig.Sig.{Sig}
-use Rattle.cyc_base.specs.declared.trit.Trit.{Trit}
-use Rattle.cyc_base.specs.declared.trit.Trit.TheVariants.{Zero, One, X}
-use Rattle.cyc_base.specs.Values.{bit, bits}
-use Rattle.netlist.specs.declared.parts.Gate.{Gate}
-use Rattle.netlist.specs.declared.parts.Latch.{Latch}
-use Rattle.netlist.specs.declared.parts.Parts.{Parts}
-use Rattle.netlist.specs.Netlists.{count, signal, gate_at, no_gate, gate_sig, signal_names, IsSignal, IsNetlist}
-use Rattle.netlist.specs.Fixpoint.{wire, fix}
+use Rattle.cyc_base.specs.declared.trit.Trit.TheVariants.{Zero, One}
 use Rattle.refusals.specs.Acceptance.{gate_sigs, AreDetermined}
 use Rattle.refusals.proofs.RefusalLemmas.{column_known, gate_sig_at, length-gate_sigs}
-use Rattle.care_sets.specs.Care.{columns}
-use Rattle.unroll.specs.Marks.{mark}
-use Rattle.clause_decision.specs.declared.pairs.Pair.{Pair}
-use Rattle.clause_decision.specs.Apart.{are_apart, is_apart_at, some_is_apart}
-use Rattle.equal.specs.Matching.{name_of, init_eq, latch_named, has_latch, is_output}
-use Rattle.equal.specs.Differences.{number_or_0, columns_by_name, by_name, signal_named, source_named, pair_of, output_pairs, latch_pairs, are_different, differs_at, differs}
-use Rattle.equal.specs.Joined.{moved, moved_gate_by, moved_gates, moved_pair_by, joined, joined_pairs}
+use Rattle.clause_decision.specs.Apart.{are_apart, is_apart_at}
+use Rattle.equal.specs.Matching.{init_eq}
+use Rattle.equal.specs.Differences.{are_different, differs_at}
 use Rattle.equal.proofs.NameLemmas.{any_mapped, any_agree, length-names}
 use Rattle.equal.proofs.PartLemmas.{IsPartOf, fix_at}
 use Rattle.equal.proofs.MatchLemmas.{Match, table_within, length-table, length-by_name, by_name_at, bits_at}

@@ -1,18 +1,12 @@
 -- Steps of loops over outputs.
 use Rattle.std.proofs.Common.{◌≡◌, ◌≢◌, inl, inr, ℕ, ◌+◌, ◌<◌, true, false, not, if◌then◌else◌, List, [], ◌∷◌, ◌++◌, length, map, take, get_or, slice_get, Some, None, sym, ap, ap₂, subst, ◌∙◌, arith}
-use Rattle.std.specs.Prelude.{find}
+use Rattle.equal.proofs.Common.{find, list_any, IsDistinct, map-append, get_or_default, get_or-map, length-map, get_or_from_slice_get, Sig, Parts, signal, sig_eq, signal_names, Pair, name_of, is_output, output_names, pair_of, signal_named}
 use Rattle.std.specs.Bool.{Decides}
-use Rattle.std.specs.List.{list_any, AllPairs, IsDistinct}
+use Rattle.std.specs.List.{AllPairs}
 use Rattle.std.proofs.lemmas.Bool.{cases_Bool, eqb-true, eq-eqb}
-use Rattle.std.proofs.lemmas.List.{take_more, map-append, length-take-le, get_or-take, get_or_default, get_or-map, length-map}
+use Rattle.std.proofs.lemmas.List.{take_more, length-take-le, get_or-take}
 use Rattle.std.proofs.lemmas.Map.Made.{AllPairs-from_IsDistinct}
-use Rattle.std.proofs.lemmas.Option.{get_or_from_slice_get, slice_get-get_or}
-use Rattle.cyc_base.specs.declared.sig.Sig.{Sig}
-use Rattle.netlist.specs.declared.parts.Parts.{Parts}
-use Rattle.netlist.specs.Netlists.{signal, sig_eq, signal_names}
-use Rattle.clause_decision.specs.declared.pairs.Pair.{Pair}
-use Rattle.equal.specs.Matching.{name_of, is_output, output_names}
-use Rattle.equal.specs.Differences.{pair_of, signal_named}
+use Rattle.std.proofs.lemmas.Option.{slice_get-get_or}
 use Rattle.equal.proofs.NameLemmas.{any_nowhere, find_next, find_here}
 
 -- one more pair

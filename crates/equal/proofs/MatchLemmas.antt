@@ -1,29 +1,14 @@
 -- What it means that all names match, and vectors by name.
 use Rattle.std.proofs.Common.{◌≡◌, inl, inr, ℕ, zero, suc, ◌+◌, ◌-◌, ◌<◌, ◌≤◌, Bool, true, false, not, ◌&&◌, ◌||◌, cond, List, [], ◌∷◌, ◌++◌, length, map, take, drop, get_or, slice_get, Option, Some, None, IfSome, refl, sym, ap, ap₂, subst, ◌∙◌, arith, true≢false}
-use Rattle.std.specs.Prelude.{find, option_map}
-use Rattle.std.specs.List.{list_any}
-use Rattle.std.specs.Option.{option_or, option_map_or}
-use Rattle.std.specs.Str.{bytes_eq}
-use Rattle.std.proofs.lemmas.Bool.{cases_lt}
-use Rattle.std.proofs.lemmas.List.{append_assoc, map-append, length-append, length-map, get_or-map, get_or-drop, get_or_append_left, get_or-append-add}
-use Rattle.std.proofs.lemmas.List.Folds.{list_any-append}
-use Rattle.std.proofs.lemmas.List.Quantifiers.{position-Some}
-use Rattle.std.proofs.lemmas.Option.{get_or_from_slice_get}
+use Rattle.equal.proofs.Common.{find, option_map, list_any, option_or, option_map_or, bytes_eq, cases_lt, append_assoc, map-append, length-append, length-map, get_or-map, get_or_append_left, get_or-append-add, list_any-append, position-Some, get_or_from_slice_get, Sig, X, bit, bits, Latch, Parts, signal_names, IsBoundTo, IsCareOf, CareSet, columns, column_names, is_care_vector, CareModel, name_of, is_input, is_latch, has_latch, is_output, output_names, unmatched, number_or_0, column_named, columns_by_name, by_name, model_of, HaveOneSource}
+use Rattle.std.proofs.lemmas.List.{get_or-drop}
 use Rattle.std.proofs.lemmas.Slice.Eq.{bytes_eq-Decides}
-use Rattle.cyc_base.specs.declared.sig.Sig.{Sig}
-use Rattle.cyc_base.specs.declared.trit.Trit.TheVariants.{X}
-use Rattle.cyc_base.specs.Values.{bit, bits}
-use Rattle.netlist.specs.declared.parts.Latch.{Latch}
-use Rattle.netlist.specs.declared.parts.Parts.{Parts}
-use Rattle.netlist.specs.Netlists.{signal_names}
 use Rattle.netlist.specs.Fixpoint.{outs}
 use Rattle.netlist.proofs.Decisions.{none_found}
-use Rattle.care_sets.specs.Binding.{column_of, IsBoundTo, IsCareOf}
-use Rattle.care_sets.specs.Care.{CareSet, columns, column_names, inputs_at, is_one, holds_at, is_care_vector}
-use Rattle.care_sets.specs.declared.model.CareModel.{CareModel}
+use Rattle.care_sets.specs.Binding.{column_of}
+use Rattle.care_sets.specs.Care.{inputs_at, is_one, holds_at}
 use Rattle.unroll.proofs.Kept.{taken_first}
-use Rattle.equal.specs.Matching.{name_of, is_input, is_latch, has_latch, is_output, output_names, latch_name, unmatched}
-use Rattle.equal.specs.Differences.{number_or_0, column_named, columns_by_name, by_name, model_of, HaveOneSource}
+use Rattle.equal.specs.Matching.{latch_name}
 use Rattle.equal.proofs.NameLemmas.{nowhere_find, any_nowhere}
 
 -- ---- all names match

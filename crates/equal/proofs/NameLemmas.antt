@@ -1,25 +1,15 @@
 -- What a name finds in a netlist.
 use Rattle.std.proofs.Common.{◌≡◌, ◌≢◌, ◌⊎◌, inl, inr, ℕ, zero, suc, ◌+◌, ◌-◌, ◌<◌, ◌≤◌, Bool, true, false, ◌||◌, cond, List, [], ◌∷◌, ◌++◌, length, map, get_or, take, slice_get, position, Some, None, refl, sym, ap, ap₂, ◌∙◌, arith}
-use Rattle.std.specs.Prelude.{find}
-use Rattle.std.specs.List.{list_any, position_or_len, AllPairs, IsDistinct}
-use Rattle.std.specs.Option.{option_or}
-use Rattle.std.specs.Str.{bytes_eq}
-use Rattle.std.proofs.lemmas.Bool.{cases_lt, cases_eq, cases_Bool, lt-ltb, or_parts, eqb-true, eq-eqb}
-use Rattle.std.proofs.lemmas.List.{length-append, length-map, get_or_append_left, get_or-append-add, get_or-map, take_more, take_all}
+use Rattle.equal.proofs.Common.{find, list_any, IsDistinct, option_or, bytes_eq, cases_lt, length-append, length-map, get_or_append_left, get_or-append-add, get_or-map, list_any-append, get_or_from_slice_get, slice_get_within, Sig, Latch, Gate, Parts, signal, count, sig_eq, signal_names, driven_names, IsSignal, IsNetlist, name_of, latch_named, is_input, is_output, number_or_0, column_named, signal_named}
+use Rattle.std.specs.List.{position_or_len, AllPairs}
+use Rattle.std.proofs.lemmas.Bool.{cases_eq, cases_Bool, lt-ltb, or_parts, eqb-true, eq-eqb}
+use Rattle.std.proofs.lemmas.List.{take_more, take_all}
 use Rattle.std.proofs.lemmas.List.Sums.{position_or_len_is}
-use Rattle.std.proofs.lemmas.List.Folds.{list_any_at, list_any-append, find-append}
+use Rattle.std.proofs.lemmas.List.Folds.{list_any_at, find-append}
 use Rattle.std.proofs.lemmas.Map.Made.{AllPairs-from_IsDistinct}
-use Rattle.std.proofs.lemmas.Option.{get_or_from_slice_get, slice_get_within}
 use Rattle.std.proofs.lemmas.Slice.Eq.{bytes_eq-Decides}
-use Rattle.cyc_base.specs.declared.sig.Sig.{Sig}
-use Rattle.netlist.specs.declared.parts.Latch.{Latch}
-use Rattle.netlist.specs.declared.parts.Gate.{Gate}
-use Rattle.netlist.specs.declared.parts.Parts.{Parts}
-use Rattle.netlist.specs.Netlists.{signal, count, sig_eq, signal_names, driven_names, IsSignal, IsNetlist}
 use Rattle.netlist.proofs.Decisions.{found_none}
 use Rattle.care_sets.proofs.BindingLemmas as binding
-use Rattle.equal.specs.Matching.{name_of, latch_named, is_input, is_output}
-use Rattle.equal.specs.Differences.{number_or_0, column_named, signal_named}
 
 -- ---- searches of lists
 

@@ -1,21 +1,12 @@
 -- Care models that are bound to one netlist have no fault for another whose names match, and are bound to it by name.
 use Rattle.std.proofs.Common.{◌≡◌, ◌⊎◌, inl, inr, ℕ, zero, suc, ◌<◌, ◌≤◌, true, false, cond, List, [], ◌∷◌, length, map, get_or, Option, Some, None, IfSome, refl, sym, ap, ap₂, subst, ◌∙◌, arith, true≢false}
-use Rattle.std.specs.Prelude.{IsSomeAnd, ◌||◌, find, is_none, is_some, nat_lt, option_map}
-use Rattle.std.specs.Option.{option_map_or}
-use Rattle.std.specs.Str.{bytes_eq}
-use Rattle.std.proofs.lemmas.Bool.{cases_lt}
-use Rattle.std.proofs.lemmas.List.{get_or_append_left, get_or_default}
-use Rattle.std.proofs.lemmas.List.Quantifiers.{position-Some}
-use Rattle.netlist.specs.declared.parts.Latch.{Latch}
-use Rattle.netlist.specs.declared.parts.Parts.{Parts}
+use Rattle.equal.proofs.Common.{find, option_map, option_map_or, bytes_eq, cases_lt, get_or_append_left, get_or_default, position-Some, Latch, Parts, IsBoundTo, IsCareOf, CareSet, column_names, CareModel, has_latch, is_input, is_latch, latch_named, unmatched, column_named, number_or_0, model_of, HaveOneSource}
+use Rattle.std.specs.Prelude.{IsSomeAnd, ◌||◌, is_none, is_some, nat_lt}
 use Rattle.care_sets.proofs.FaultLemmas as faults
-use Rattle.care_sets.specs.Binding.{column_of, is_unknown_name, is_before, fault_but_loops, BindsAny, BindsBoth, Binds, HasNoFault, IsBoundTo, IsCare, IsCareModel, IsCareOf, IsFaultOf, IsFirstFault}
-use Rattle.care_sets.specs.Care.{CareSet, column_names}
+use Rattle.care_sets.specs.Binding.{column_of, is_unknown_name, is_before, fault_but_loops, BindsAny, BindsBoth, Binds, HasNoFault, IsCare, IsCareModel, IsFaultOf, IsFirstFault}
 use Rattle.care_sets.specs.declared.fault.CareFault.{CareFault}
 use Rattle.care_sets.specs.declared.fault.CareFault.TheVariants.{Memory}
-use Rattle.care_sets.specs.declared.model.CareModel.{CareModel}
-use Rattle.equal.specs.Matching.{has_latch, init_eq, is_input, is_latch, latch_name, latch_named, unmatched}
-use Rattle.equal.specs.Differences.{column_named, number_or_0, model_of, HaveOneSource}
+use Rattle.equal.specs.Matching.{init_eq, latch_name}
 use Rattle.equal.specs.Rebound.{bound_to, rebound, BindsEach}
 use Rattle.equal.proofs.MatchLemmas.{Match, matched, HasColumn, column_among, column_inside, column_is}
 use Rattle.equal.proofs.NameLemmas.{any_nowhere}

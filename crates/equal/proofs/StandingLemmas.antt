@@ -2,33 +2,21 @@
 -- functions that they have alone.
 use Rattle.std.proofs.Common.{◌≡◌, inl, inr, ℕ, zero, suc, ◌+◌, ◌-◌, ◌<◌, ◌≤◌, Bool, true, false, ◌&&◌, cond, if◌then◌else◌, List, [], ◌∷◌, ◌++◌, length, map, drop, filter, get_or, refl, sym, ap, ap₂, subst, ◌∙◌, arith}
 use Rattle.std.specs.Prelude.{Contains}
-use Rattle.std.specs.List.{range_with_len}
-use Rattle.std.proofs.lemmas.Bool.{cases_lt, le-leb, lt-leb}
-use Rattle.std.proofs.lemmas.List.{get_or-map, get_or_append_left, get_or-append_right, get_or-append-add, get_or_default, length-map}
-use Rattle.std.proofs.lemmas.List.FromFn.{length-range_with_len, get_or-range_with_len}
-use Rattle.std.proofs.lemmas.Simd.{map-map}
-use Rattle.cyc_base.specs.declared.sig.Sig.{Sig}
-use Rattle.cyc_base.specs.declared.trit.Trit.{Trit}
-use Rattle.cyc_base.specs.declared.trit.Trit.TheVariants.{X}
-use Rattle.cyc_base.specs.Values.{bit, bits}
+use Rattle.equal.proofs.Common.{range_with_len, cases_lt, get_or-map, get_or_append_left, get_or-append_right, get_or-append-add, get_or_default, length-map, length-range_with_len, get_or-range_with_len, map-map, Sig, Trit, X, bit, bits, Parts, signal, gate_at, gate_sig, no_gate, IsNetlist, wire, fix, fix_gates, loops_of, first_gate, map_agree, IsGatePart}
+use Rattle.std.proofs.lemmas.Bool.{le-leb, lt-leb}
 use Rattle.cover_logic.specs.declared.cover.Cover.{Cover}
 use Rattle.cover_logic.specs.Covers.{value}
 use Rattle.cover_logic.specs.Extensions.{exact}
 use Rattle.dual_rail.specs.WorkingLists.{is_bit}
-use Rattle.netlist.specs.declared.parts.Parts.{Parts}
-use Rattle.netlist.specs.Netlists.{signal, gate_at, gate_sig, no_gate, IsNetlist}
-use Rattle.netlist.specs.Fixpoint.{wire, fix, fix_gates}
 use Rattle.netlist.specs.Walks.{Feeds, Walk}
 use Rattle.loops.specs.Walks.{SameLoop}
 use Rattle.loops.specs.Cuts.{Loops}
-use Rattle.loops.specs.Found.{loops_of}
-use Rattle.loops.specs.Sweeps.{first_gate, gate_of, value_in, pin_in, sweeps, cuts_of}
+use Rattle.loops.specs.Sweeps.{gate_of, value_in, pin_in, sweeps, cuts_of}
 use Rattle.loops.proofs.Existence.{loops_exist}
-use Rattle.loops.proofs.Reading.{map_agree}
 use Rattle.isolation.specs.Excerpts.{origins, origin, gate_in, inputs_in, IsExcerpt, AreWhole}
 use Rattle.isolation.specs.Laws.{Keeps}
 use Rattle.isolation.proofs.ConeLemmas.{excerpts_keep}
-use Rattle.fixpoint.specs.Working.{read_in_sweep, read_at_fix, IsGatePart}
+use Rattle.fixpoint.specs.Working.{read_in_sweep, read_at_fix}
 
 -- ---- filters of numbers
 

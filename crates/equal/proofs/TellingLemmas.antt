@@ -1,25 +1,16 @@
 -- The gates that tell whether some pair differs.
 use Rattle.std.proofs.Common.{◌≡◌, ◌≢◌, ℕ, zero, suc, ◌+◌, ◌-◌, ◌<◌, ◌≤◌, Bool, true, false, ◌||◌, List, [], ◌∷◌, ◌++◌, length, map, take, get_or, refl, sym, ap, ap₂, subst, ◌∙◌, arith}
-use Rattle.std.specs.List.{list_any, range_with_len}
-use Rattle.std.proofs.lemmas.List.{length-append, length-map, get_or_append_left, get_or-append-add, get_or-append_right, get_or_at, get_or-replicate, take_all}
-use Rattle.std.proofs.lemmas.List.FromFn.{length-map-range_with_len, get_or-map-range_with_len}
-use Rattle.cyc_base.specs.declared.sig.Sig.{Sig}
-use Rattle.cyc_base.specs.declared.trit.Trit.{Trit}
-use Rattle.cyc_base.specs.declared.trit.Trit.TheVariants.{Zero, One, X}
-use Rattle.cyc_base.specs.Values.{bit, bits, Below}
+use Rattle.equal.proofs.Common.{list_any, range_with_len, length-append, length-map, get_or_append_left, get_or-append-add, get_or-append_right, length-map-range_with_len, get_or-map-range_with_len, Sig, Trit, X, bit, bits, ext, Gate, Parts, count, signal, gate_at, no_gate, gate_sig, wires, wire, steps, fix, fix_gates, columns, Pair, some_is_apart, moved_gates, joined, link_gate, telling_gates}
+use Rattle.std.proofs.lemmas.List.{get_or_at, get_or-replicate, take_all}
+use Rattle.cyc_base.specs.declared.trit.Trit.TheVariants.{Zero, One}
+use Rattle.cyc_base.specs.Values.{Below}
 use Rattle.cyc_base.proofs.OrderLemmas.{EachBelow-at}
-use Rattle.cover_logic.specs.Extensions.{ext}
-use Rattle.netlist.specs.declared.parts.Gate.{Gate}
-use Rattle.netlist.specs.declared.parts.Parts.{Parts}
-use Rattle.netlist.specs.Netlists.{count, signal, gate_at, no_gate, gate_sig}
-use Rattle.netlist.specs.Fixpoint.{wires, wire, gate_value, steps, fix, fix_gates}
+use Rattle.netlist.specs.Fixpoint.{gate_value}
 use Rattle.netlist.proofs.FixpointLemmas.{steps_below_fix}
 use Rattle.loops.proofs.Reading.{wire_of_gate, get_or-step, get_or-fix}
-use Rattle.care_sets.specs.Care.{columns}
 use Rattle.refusals.specs.Refusals.{is_x}
-use Rattle.clause_decision.specs.declared.pairs.Pair.{Pair}
-use Rattle.clause_decision.specs.Apart.{are_apart, is_apart_at, some_is_apart}
-use Rattle.equal.specs.Joined.{moved_gates, joined, never_cover, link_cover, both_cover, no_pair, link_gate, telling_gate, telling_gates}
+use Rattle.clause_decision.specs.Apart.{are_apart, is_apart_at}
+use Rattle.equal.specs.Joined.{never_cover, link_cover, both_cover, no_pair, telling_gate}
 use Rattle.equal.proofs.JoinLemmas.{length-moved, length-joined}
 
 -- ---- the covers

@@ -1,28 +1,16 @@
 -- The joined netlist is a netlist.
 use Rattle.std.proofs.Common.{◌≡◌, ◌⊎◌, inl, inr, ℕ, zero, suc, ◌+◌, ◌-◌, ◌<◌, ◌≤◌, false, List, [], ◌∷◌, ◌++◌, length, map, get_or, All, Option, Some, None, IfSome, refl, sym, ap, subst, ◌∙◌, arith}
-use Rattle.std.specs.List.{AllByRecursion, IsDistinct, list_any, range_with_len}
-use Rattle.std.specs.Option.{option_map_or}
-use Rattle.std.specs.Str.{bytes_eq}
-use Rattle.std.proofs.lemmas.Bool.{cases_lt, or_parts, or_from}
-use Rattle.std.proofs.lemmas.List.{append_assoc, map-append, length-append, length-map, get_or-map, get_or_append_left, get_or-append_right}
-use Rattle.std.proofs.lemmas.List.Elements.{All-append, All-map}
-use Rattle.std.proofs.lemmas.List.Folds.{list_any-append}
-use Rattle.std.proofs.lemmas.List.FromFn.{length-range_with_len, get_or-range_with_len, length-map-range_with_len, get_or-map-range_with_len}
+use Rattle.equal.proofs.Common.{IsDistinct, list_any, range_with_len, option_map_or, bytes_eq, cases_lt, append_assoc, map-append, length-append, length-map, get_or-map, get_or_append_left, get_or-append_right, All-map, list_any-append, length-range_with_len, get_or-range_with_len, length-map-range_with_len, get_or-map-range_with_len, Sig, Gate, Latch, Parts, count, signal, sig_eq, gate_at, no_gate, signal_names, driven_names, IsSignal, IsNetlist, mark, Pair, IsPairOf, unmatched, columns_by_name, moved, moved_gate_by, moved_gates, joined, joined_pairs, link_gate, telling_gates}
+use Rattle.std.specs.List.{AllByRecursion}
+use Rattle.std.proofs.lemmas.Bool.{or_parts, or_from}
+use Rattle.std.proofs.lemmas.List.Elements.{All-append}
 use Rattle.cyc_base.specs.Names.{IsBlifName}
-use Rattle.cyc_base.specs.declared.sig.Sig.{Sig}
 use Rattle.netlist.specs.declared.parts.Clock.{Clock}
-use Rattle.netlist.specs.declared.parts.Gate.{Gate}
-use Rattle.netlist.specs.declared.parts.Latch.{Latch}
-use Rattle.netlist.specs.declared.parts.Parts.{Parts}
-use Rattle.netlist.specs.Netlists.{count, signal, sig_eq, gate_at, no_gate, signal_names, driven_names, is_driven, IsSignal, IsClockName, IsNetlist}
-use Rattle.unroll.specs.Marks.{longest_run, longest_run_of, longest_run_in, clock_names, mark, copy_name}
+use Rattle.netlist.specs.Netlists.{is_driven, IsClockName}
+use Rattle.unroll.specs.Marks.{longest_run, longest_run_of, longest_run_in, clock_names, copy_name}
 use Rattle.unroll.proofs.MarkLemmas.{longest-append}
 use Rattle.unroll.proofs.NameLemmas.{not_equal, copy_is_long, copy_names_tell, copy_name_fits, all_short, distinct_append, short_from_long, short_is_none}
-use Rattle.clause_decision.specs.declared.pairs.Pair.{Pair}
-use Rattle.clause_decision.specs.Apart.{IsPairOf}
-use Rattle.equal.specs.Matching.{unmatched}
-use Rattle.equal.specs.Differences.{columns_by_name}
-use Rattle.equal.specs.Joined.{moved, moved_gate_by, moved_gates, joined, joined_pairs, no_pair, link_gate, telling_gate, telling_gates, difference_netlist}
+use Rattle.equal.specs.Joined.{no_pair, telling_gate, difference_netlist}
 use Rattle.equal.proofs.NameLemmas.{any_mapped}
 use Rattle.equal.proofs.MatchLemmas.{matched}
 use Rattle.equal.proofs.JoinLemmas.{length-moved, length-joined, moved_within}

@@ -1,38 +1,12 @@
 -- Block by block to the fixpoint of a netlist.
 use Rattle.std.proofs.Common.{◌≡◌, ◌≢◌, inl, inr, ◌⊎◌, ℕ, ◌+◌, ◌<◌, ◌≤◌, leb, Bool, true, false, ◌&&◌, if◌then◌else◌, List, [], ◌∷◌, ◌++◌, length, map, take, replicate, get_or, refl, sym, ap, ap₂, ◌∙◌, subst, arith, Contains, true≢false}
-use Rattle.std.proofs.lemmas.Bool.{cases_lt, cases_eq, leb-true, leb-false}
-use Rattle.std.proofs.lemmas.List.{get_or_append_left, get_or_default, get_or_push, length_push, length-append, length-replicate, get_or-replicate, get_or-take, get_or-map, length-map, length-take, take-set-le}
-use Rattle.std.proofs.lemmas.List.Elements.{All-get_or, All-push, All-append, All-replicate, Contains-append_left, Contains-push}
-use Rattle.std.specs.List.{All}
-use Rattle.bdd_store.specs.Arena.{Arena}
-use Rattle.bdd_store.specs.Growth.{KeepsNodes}
-use Rattle.cover_logic.specs.Extensions.{ext}
-use Rattle.cyc_base.specs.declared.sig.Sig.{Sig}
-use Rattle.cyc_base.specs.declared.trit.Trit.{Trit}
-use Rattle.cyc_base.specs.declared.trit.Trit.TheVariants.{X}
-use Rattle.dual_rail.specs.declared.rail.Rails.{Rails}
-use Rattle.dual_rail.specs.Rails.{AreRailsOf, value_of, values_of}
-use Rattle.dual_rail.proofs.SurelyLemmas.{value_of-kept}
-use Rattle.netlist.specs.declared.parts.Gate.{Gate}
-use Rattle.netlist.specs.declared.parts.Parts.{Parts}
-use Rattle.netlist.specs.Netlists.{IsNetlist, IsSignal, count, gate_at, no_gate}
-use Rattle.netlist.specs.Fixpoint.{wire, fix, fix_gates}
-use Rattle.netlist.specs.Walks.{Feeds}
-use Rattle.loops.specs.declared.structure.Block.{Block}
-use Rattle.loops.specs.declared.structure.Blocks.{Blocks}
-use Rattle.loops.specs.declared.structure.Cut.{Cut}
-use Rattle.loops.specs.Blocks.{AreBlocksOf, block_at, home_of, no_block}
-use Rattle.loops.specs.Cuts.{IsCutOf, is_cut, loops_by}
-use Rattle.loops.specs.Sweeps.{first_gate, gate_of, value_in, cuts as cuts_after, cut_values}
+use Rattle.fixpoint.proofs.Common.{cases_lt, cases_eq, get_or_append_left, get_or_default, get_or_push, length_push, length-append, length-replicate, get_or-replicate, get_or-take, get_or-map, length-map, length-take, All-get_or, All-push, All-append, All, Arena, KeepsNodes, ext, Sig, Trit, X, Rails, AreRailsOf, value_of, values_of, value_of-kept, Gate, Parts, IsNetlist, IsSignal, count, gate_at, no_gate, wire, fix, fix_gates, Feeds, Block, Blocks, Cut, AreBlocksOf, block_at, home_of, no_block, IsCutOf, is_cut, loops_by, first_gate, gate_of, value_in, map_agree, wire_of_gate, get_or-fix, feeds_at, gate_home, LoopSteps, SweptLoop, Vectors, IsLoopAt, AreStepsOf, HasEachLoopOnce, step_at, last_step, unknown, rails_at, rails_read, vectors, IsGateSet, IsSolvedBelow, AreFresh}
+use Rattle.std.proofs.lemmas.Bool.{leb-true, leb-false}
+use Rattle.std.proofs.lemmas.List.{take-set-le}
+use Rattle.std.proofs.lemmas.List.Elements.{All-replicate, Contains-append_left, Contains-push}
+use Rattle.loops.specs.Sweeps.{cuts as cuts_after, cut_values}
 use Rattle.loops.specs.Walks.{AnyGate, Leads}
-use Rattle.loops.proofs.Reading.{map_agree, wire_of_gate, get_or-fix}
-use Rattle.loops.proofs.Unique.{feeds_at}
 use Rattle.loops.proofs.Walks.{leads-step, leads-trans, leads-any}
-use Rattle.loops.proofs.Told.{gate_home}
-use Rattle.fixpoint.specs.declared.solved.LoopSteps.{LoopSteps}
-use Rattle.fixpoint.specs.declared.solved.SweptLoop.{SweptLoop}
-use Rattle.fixpoint.specs.Solved.{Vectors, IsLoopAt, AreStepsOf, HasEachLoopOnce, step_at, last_step}
-use Rattle.fixpoint.specs.Sweeping.{unknown, rails_at, rails_read, vectors, IsGateSet, IsSolvedBelow, AreFresh}
 use Rattle.fixpoint.proofs.WireLemmas.{rails_at-proper, unknown-rails, AreWires-set, set-same, set-other, values-fixed}
 
 -- ---- the same vectors

@@ -1,34 +1,12 @@
 -- The bounds of sweeps, of loops, and of all blocks.
 use Rattle.std.proofs.Common.{◌≡◌, ◌==◌, inl, inr, ℕ, ◌+◌, ◌*◌, ◌<◌, ◌≤◌, ltb, Bool, false, List, ◌++◌, length, map, filter, take, get_or, refl, sym, ap, ap₂, ◌∙◌, subst, arith, Contains, true≢false}
-use Rattle.std.proofs.lemmas.Bool.{eq-eqb, cases_Bool}
-use Rattle.std.proofs.lemmas.List.{get_or_default, length-map}
+use Rattle.fixpoint.proofs.Common.{eq-eqb, cases_Bool, get_or_default, length-map, length-range_with_len, mul-le-mul_left, range_with_len, Arena, KeepsNodes, value, Trit, Rails, IsWide, BoundsEach, IsExtended, is_bit, size, value_of, values_of, Gate, Parts, IsNetlist, gate_at, no_gate, Blocks, Cut, AreBlocksOf, block_at, home_of, IsCutOf, is_cut, in_one_loop, loops_by, IsOrderOf, first_gate, cuts_of, value_in, told_parts, gate_home, Vectors, IsLoopAt, rails_read, AreSwept, IsSolvedBelow, IsSweepable, vectors, OthersStay, after_sweeps, IsWorking, cost, order_cost, block_cost, below_cost, effort, total, read_at_fix}
 use Rattle.std.proofs.lemmas.List.Sums.{length-filter, count_by-le-length}
-use Rattle.std.proofs.lemmas.List.FromFn.{length-range_with_len}
-use Rattle.std.proofs.Math.Nat.{mul-le-mul_left, mul-le-mul_right}
+use Rattle.std.proofs.Math.Nat.{mul-le-mul_right}
 use Rattle.std.proofs.Math.Seq.{take-append_seam}
-use Rattle.std.specs.List.{range_with_len}
-use Rattle.bdd_store.specs.Arena.{Arena}
-use Rattle.bdd_store.specs.Growth.{KeepsNodes}
-use Rattle.cover_logic.specs.Covers.{value}
-use Rattle.cyc_base.specs.declared.trit.Trit.{Trit}
-use Rattle.dual_rail.specs.declared.rail.Rails.{Rails}
-use Rattle.dual_rail.specs.WorkingLists.{IsWide, BoundsEach, IsExtended, is_bit}
-use Rattle.dual_rail.specs.Local.{size}
-use Rattle.dual_rail.specs.Rails.{value_of, values_of}
 use Rattle.dual_rail.proofs.WidthLemmas.{IsWide-fewer}
-use Rattle.netlist.specs.declared.parts.Gate.{Gate}
-use Rattle.netlist.specs.declared.parts.Parts.{Parts}
-use Rattle.netlist.specs.Netlists.{IsNetlist, gate_at, no_gate}
-use Rattle.loops.specs.declared.structure.Blocks.{Blocks}
-use Rattle.loops.specs.declared.structure.Cut.{Cut}
-use Rattle.loops.specs.Blocks.{AreBlocksOf, block_at, home_of}
-use Rattle.loops.specs.Cuts.{IsCutOf, Loops, is_cut, in_one_loop, loops_by}
-use Rattle.loops.specs.Orders.{IsOrderOf}
-use Rattle.loops.specs.Sweeps.{first_gate, cuts_of, value_in}
-use Rattle.loops.proofs.Told.{told_parts, gate_home}
-use Rattle.fixpoint.specs.Solved.{Vectors, IsLoopAt}
-use Rattle.fixpoint.specs.Sweeping.{rails_read, AreSwept, IsSolvedBelow, IsSweepable, vectors, OthersStay, after_sweeps}
-use Rattle.fixpoint.specs.Working.{IsWorking, cost, order_cost, block_cost, below_cost, effort, total, read_in_sweep, read_at_fix}
+use Rattle.loops.specs.Cuts.{Loops}
+use Rattle.fixpoint.specs.Working.{read_in_sweep}
 use Rattle.fixpoint.proofs.CutLemmas.{one-block, cuts-are}
 use Rattle.fixpoint.proofs.SweepLemmas.{reads-all}
 use Rattle.fixpoint.proofs.WorkLemmas.{bounds-lift, parts-bounded}

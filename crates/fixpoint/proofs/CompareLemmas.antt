@@ -1,23 +1,11 @@
 -- Counting the nodes that a comparison of steps adds.
 use Rattle.std.proofs.Common.{◌≡◌, inl, inr, ◌⊎◌, ℕ, zero, suc, ◌+◌, ◌*◌, ◌<◌, ◌≤◌, Bool, ◌&&◌, List, [], ◌∷◌, length, take, get_or, refl, sym, ap, ap₂, ◌∙◌, subst, arith, Contains}
-use Rattle.std.proofs.lemmas.List.{get_or_default}
-use Rattle.std.proofs.lemmas.List.Elements.{All-contains}
-use Rattle.std.proofs.Math.Nat.{mul-le-mul_left}
-use Rattle.std.proofs.lemmas.List.Sums.{sum_by-take-le, sum_by_more}
-use Rattle.std.specs.List.{All, sum_by}
-use Rattle.bdd_store.specs.declared.node.Node.{Node}
-use Rattle.bdd_store.specs.Arena.{Arena, den, IsNodeOf}
-use Rattle.bdd_store.specs.Growth.{KeepsNodes}
+use Rattle.fixpoint.proofs.Common.{get_or_default, All-contains, mul-le-mul_left, sum_by-take-le, sum_by_more, All, sum_by, Node, Arena, den, IsNodeOf, KeepsNodes, Rails, IsWide, LoopSteps, step_at, steps_under, unknown, rails_at, AreNodes, IsCompared, IsComparedIn}
 use Rattle.bdd_store.specs.Subfunctions.{nodes}
 use Rattle.bdd_store.proofs.SubfunctionLemmas.{nodes-alike}
 use Rattle.bdd_ops.specs.Operations.{xor, conjunction, exclusive_or}
-use Rattle.dual_rail.specs.declared.rail.Rails.{Rails}
-use Rattle.dual_rail.specs.WorkingLists.{IsWide}
 use Rattle.dual_rail.proofs.WidthLemmas.{IsWide-fewer}
-use Rattle.fixpoint.specs.declared.solved.LoopSteps.{LoopSteps}
-use Rattle.fixpoint.specs.Solved.{step_at, steps_under}
-use Rattle.fixpoint.specs.Sweeping.{unknown, rails_at}
-use Rattle.fixpoint.specs.Counts.{AreNodes, IsStepNode, IsCompared, IsComparedIn, difference}
+use Rattle.fixpoint.specs.Counts.{IsStepNode, difference}
 
 -- ---- lists of fewer functions
 

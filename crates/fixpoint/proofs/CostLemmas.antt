@@ -1,13 +1,9 @@
 -- Adding up what gates cost.
 use Rattle.std.proofs.Common.{◌≡◌, ◌==◌, inl, inr, ◌⊎◌, ℕ, zero, suc, ◌+◌, ◌<◌, ◌≤◌, ltb, Bool, true, false, not, ◌&&◌, if◌then◌else◌, List, [], ◌∷◌, length, take, get_or, refl, sym, ap, ap₂, ◌∙◌, subst, arith, Contains, true≢false}
-use Rattle.std.proofs.lemmas.Bool.{cases_eq, cases_Bool, eqb-true, eq-eqb, ltb-true, lt-ltb, and_from}
-use Rattle.std.proofs.lemmas.List.Elements.{All-from_recursion, All-contains}
-use Rattle.std.proofs.lemmas.List.Sums.{sum_by-cons, sum_by_more}
-use Rattle.std.proofs.lemmas.List.{take_all}
-use Rattle.std.specs.List.{sum_by}
-use Rattle.netlist.specs.declared.parts.Parts.{Parts}
-use Rattle.loops.specs.Orders.{ReadsUncut, IsInOrder}
-use Rattle.fixpoint.specs.Working.{total}
+use Rattle.fixpoint.proofs.Common.{cases_eq, cases_Bool, eqb-true, eq-eqb, All-contains, sum_by_more, take_all, sum_by, Parts, ReadsUncut, IsInOrder, total}
+use Rattle.std.proofs.lemmas.Bool.{ltb-true, lt-ltb, and_from}
+use Rattle.std.proofs.lemmas.List.Elements.{All-from_recursion}
+use Rattle.std.proofs.lemmas.List.Sums.{sum_by-cons}
 
 pub total-agree : (p q : ℕ → Bool) (f : ℕ → ℕ) (n : ℕ) → ((m : ℕ) → m < n → p m ≡ q m) → total p f n ≡ total q f n
 total-agree p q f zero same = refl

@@ -1,22 +1,12 @@
 -- Comparing steps at the vectors of a care set.
 use Rattle.std.proofs.Common.{◌≡◌, ◌==◌, inl, inr, ◌⊎◌, ℕ, ◌+◌, ◌-◌, ◌<◌, ◌≤◌, Bool, true, false, ◌&&◌, List, [], length, map, set, get_or, replicate, refl, sym, ap, ap₂, ◌∙◌, subst, arith, true≢false}
-use Rattle.std.proofs.lemmas.Bool.{eqb-true, eq-eqb, cases_lt}
-use Rattle.std.proofs.lemmas.List.{length-replicate, get_or-replicate, get_or_past, get_or_read, get_or-set_same, get_or-set_other, length-set, length-map}
-use Rattle.std.proofs.lemmas.List.Elements.{All-map}
-use Rattle.std.specs.List.{All, slice_index_or}
-use Rattle.bdd_store.specs.declared.node.Node.{Node}
-use Rattle.bdd_store.specs.Arena.{Arena, constant, den, IsNodeOf}
-use Rattle.bdd_store.specs.Soundness.{IsLawful}
-use Rattle.bdd_store.specs.Growth.{KeepsNodes}
+use Rattle.fixpoint.proofs.Common.{eqb-true, eq-eqb, cases_lt, length-replicate, get_or-replicate, length-map, All-map, All, Node, Arena, den, IsNodeOf, IsLawful, KeepsNodes, Rails, Blocks, block_at, LoopSteps, IsLoopAt, HasEachLoopOnce, step_at, last_step, steps_under, rails_under, AreKept, AreNodes, SameRailsOn, AgreeOn, IsLeastStep, AreCountable}
+use Rattle.std.proofs.lemmas.List.{get_or_past, get_or_read, get_or-set_same, get_or-set_other, length-set}
+use Rattle.std.specs.List.{slice_index_or}
+use Rattle.bdd_store.specs.Arena.{constant}
 use Rattle.bdd_ops.specs.Operations.{xor, conjunction, exclusive_or}
-use Rattle.dual_rail.specs.declared.rail.Rails.{Rails}
-use Rattle.loops.specs.declared.structure.Blocks.{Blocks}
 use Rattle.loops.specs.declared.structure.SweepCounts.{SweepCounts}
-use Rattle.loops.specs.Blocks.{block_at}
-use Rattle.fixpoint.specs.declared.solved.LoopSteps.{LoopSteps}
-use Rattle.fixpoint.specs.Solved.{IsLoopAt, HasEachLoopOnce, step_at, last_step, steps_under}
-use Rattle.fixpoint.specs.Kept.{rails_under, AreKept}
-use Rattle.fixpoint.specs.Counts.{AreNodes, SameOn, SameRailsOn, AgreeOn, IsLeastStep, AreCountable, AreCountsOf}
+use Rattle.fixpoint.specs.Counts.{SameOn, AreCountsOf}
 use Rattle.fixpoint.proofs.KeptLemmas.{under-node, AreKept-same, lists_under-same}
 
 xor_same : (x y : Bool) → xor x y ≡ false → x ≡ y

@@ -1,31 +1,12 @@
 -- The cut wires of one loop, and that they stand still once they stand at the fixpoint.
 use Rattle.std.proofs.Common.{◌≡◌, ◌==◌, inl, inr, ℕ, zero, suc, ◌+◌, ◌-◌, ◌<◌, ◌≤◌, Bool, true, false, ◌&&◌, List, [], ◌∷◌, length, filter, take, set, get_or, refl, sym, ap, ap₂, ◌∙◌, subst, arith, Contains, true≢false}
-use Rattle.std.proofs.lemmas.Bool.{cases_eq, eqb-true, eq-eqb}
-use Rattle.std.proofs.lemmas.List.{get_or-set_same, get_or-set_other, get_or_default}
-use Rattle.std.proofs.lemmas.List.Elements.{All-set}
-use Rattle.std.specs.List.{All, range_with_len}
-use Rattle.bdd_store.specs.declared.node.Node.{Node}
-use Rattle.bdd_store.specs.Arena.{Arena, den}
-use Rattle.bdd_store.specs.Soundness.{IsLawful}
-use Rattle.cyc_base.specs.declared.trit.Trit.{Trit}
-use Rattle.dual_rail.specs.declared.rail.Rails.{Rails}
-use Rattle.dual_rail.specs.Rails.{AreRailsOf, trit_of, value_of}
-use Rattle.dual_rail.specs.WorkingLists.{is_bit}
-use Rattle.netlist.specs.declared.parts.Parts.{Parts}
-use Rattle.netlist.specs.Fixpoint.{fix_gates}
-use Rattle.loops.specs.declared.structure.Blocks.{Blocks}
-use Rattle.loops.specs.declared.structure.Cut.{Cut}
-use Rattle.loops.specs.Blocks.{AreBlocksOf, block_at, home_of, no_block}
-use Rattle.loops.specs.declared.structure.Block.{Block}
-use Rattle.loops.specs.Orders.{IsOrderOf}
-use Rattle.loops.specs.Cuts.{IsCutOf, is_cut, in_one_loop, loops_by}
-use Rattle.loops.specs.Sweeps.{first_gate, value_in, cuts_of, sweeps, CutsAreFixed}
+use Rattle.fixpoint.proofs.Common.{cases_eq, eqb-true, eq-eqb, get_or_default, All-set, All, range_with_len, Node, Arena, den, IsLawful, Trit, Rails, AreRailsOf, trit_of, value_of, is_bit, Parts, fix_gates, Blocks, Cut, AreBlocksOf, block_at, home_of, no_block, Block, IsOrderOf, IsCutOf, is_cut, in_one_loop, loops_by, first_gate, value_in, cuts_of, sweeps, few_sweeps_are_enough, told_parts, gate_home, home_gate, blocks_tell_loops, IsLoopAt, unknown, rails_at}
+use Rattle.std.proofs.lemmas.List.{get_or-set_same, get_or-set_other}
+use Rattle.loops.specs.Sweeps.{CutsAreFixed}
 use Rattle.loops.proofs.Reading.{Contains-filter, Contains-filter_from, Contains-range_from}
-use Rattle.loops.proofs.Sweeps.{cut_values_agree, few_sweeps_are_enough, fixed_cuts_give_fix}
-use Rattle.loops.proofs.Told.{told_parts, gate_home, home_gate, blocks_tell_loops, blocks_have_loops}
+use Rattle.loops.proofs.Sweeps.{cut_values_agree, fixed_cuts_give_fix}
+use Rattle.loops.proofs.Told.{blocks_have_loops}
 use Rattle.loops.proofs.Walks.{same_truth}
-use Rattle.fixpoint.specs.Solved.{IsLoopAt}
-use Rattle.fixpoint.specs.Sweeping.{unknown, rails_at}
 use Rattle.fixpoint.proofs.WireLemmas.{rails_at-proper}
 use Rattle.fixpoint.proofs.SweepLemmas.{next-or-before, next-is-taken, before-is-taken}
 

@@ -1,15 +1,10 @@
 -- What an order of gates costs: at most the effort of its netlist.
 use Rattle.std.proofs.Common.{◌≡◌, ℕ, suc, ◌+◌, ◌<◌, ◌≤◌, true, List, [], ◌∷◌, length, take, get_or, refl, ◌∙◌, subst, arith, Contains, true≢false}
-use Rattle.std.proofs.lemmas.List.{get_or_default}
+use Rattle.fixpoint.proofs.Common.{get_or_default, sum_by-take-le, size, Parts, no_gate, ReadsUncut, IsInOrder, cost, order_cost, effort}
 use Rattle.std.proofs.lemmas.List.Elements.{recursion_from_All}
-use Rattle.std.proofs.lemmas.List.Sums.{sum_by-take-le, sum_by_more_le}
+use Rattle.std.proofs.lemmas.List.Sums.{sum_by_more_le}
 use Rattle.std.specs.List.{slice_index}
-use Rattle.dual_rail.specs.Local.{size}
-use Rattle.netlist.specs.declared.parts.Parts.{Parts}
-use Rattle.netlist.specs.Netlists.{no_gate}
 use Rattle.netlist.specs.Orders.{IsGateOrder}
-use Rattle.loops.specs.Orders.{ReadsUncut, IsInOrder}
-use Rattle.fixpoint.specs.Working.{cost, order_cost, effort}
 use Rattle.fixpoint.proofs.CostLemmas.{order-total, total-all}
 
 -- with all wires cut, an order that has no gate twice follows itself

@@ -1,31 +1,11 @@
 -- Blocks that are solved one after another, with what is kept of them.
 use Rattle.std.proofs.Common.{◌≡◌, inl, inr, ℕ, zero, suc, ◌+◌, ◌-◌, ◌<◌, Bool, true, false, List, [], ◌∷◌, ◌++◌, length, map, take, replicate, get_or, set, refl, sym, ap, ap₂, ◌∙◌, subst, arith, Contains, Option, Some, None, IfSome, true≢false}
-use Rattle.std.specs.Option.{option_to_list, option_map}
-use Rattle.std.specs.List.{All, flat_map}
-use Rattle.std.proofs.lemmas.Bool.{cases_lt, cases_eq}
-use Rattle.std.proofs.lemmas.List.{get_or_append_left, get_or-append-add, get_or_default, get_or-set_same, get_or-set_other, length-append, length-replicate, get_or-replicate, get_or-take, get_or-map, length-map, length-take, ext_get_or}
+use Rattle.fixpoint.proofs.Common.{option_to_list, All, flat_map, cases_lt, cases_eq, get_or_append_left, get_or_default, length-append, length-replicate, get_or-replicate, get_or-take, get_or-map, length-map, length-take, ext_get_or, All-append, All-map, All-push, Arena, Trit, X, Rails, AreRailsOf, value_of, values_of, Parts, fix, fix_gates, Blocks, Cut, AreBlocksOf, block_at, home_of, first_gate, value_in, map_agree, gate_home, home_gate, KeptRails, LoopSteps, Solved, SweptLoop, rails_under, values_under, AreKept, HoldsRails, GainsRoots, RootsStay, Vectors, IsLoopAt, AreStepsOf, AreKeptSteps, HasEachLoopOnce, IsSolution, step_at, last_step, steps_under, loop_under, unknown, rails_at, vectors, IsSolvedBelow, AreFresh, place_of, AreKeptBelow, IsSolvedTo}
+use Rattle.std.specs.Option.{option_map}
+use Rattle.std.proofs.lemmas.List.{get_or-append-add, get_or-set_same, get_or-set_other}
 use Rattle.std.proofs.lemmas.List.Concat.{flat_map-cons}
-use Rattle.std.proofs.lemmas.List.Elements.{All-append, All-map, All-push}
-use Rattle.bdd_store.specs.Arena.{Arena}
-use Rattle.cyc_base.specs.declared.trit.Trit.{Trit}
-use Rattle.cyc_base.specs.declared.trit.Trit.TheVariants.{X}
-use Rattle.dual_rail.specs.declared.rail.Rails.{Rails}
-use Rattle.dual_rail.specs.Rails.{AreRailsOf, value_of, values_of}
-use Rattle.netlist.specs.declared.parts.Parts.{Parts}
-use Rattle.netlist.specs.Fixpoint.{fix, fix_gates}
-use Rattle.loops.specs.declared.structure.Blocks.{Blocks}
-use Rattle.loops.specs.declared.structure.Cut.{Cut}
-use Rattle.loops.specs.Blocks.{AreBlocksOf, block_at, home_of}
-use Rattle.loops.specs.Sweeps.{first_gate, value_in}
-use Rattle.loops.proofs.Reading.{map_agree}
-use Rattle.loops.proofs.Told.{gate_home, home_gate}
-use Rattle.fixpoint.specs.declared.kept.KeptRails.{KeptRails}
-use Rattle.fixpoint.specs.declared.solved.LoopSteps.{LoopSteps}
-use Rattle.fixpoint.specs.declared.solved.Solved.{Solved}
-use Rattle.fixpoint.specs.declared.solved.SweptLoop.{SweptLoop}
-use Rattle.fixpoint.specs.Kept.{rails_under, values_under, AreKept, HoldsRails, GainsRoots, RootsStay}
-use Rattle.fixpoint.specs.Solved.{Vectors, IsLoopAt, AreGiven, AreStepsOf, AreKeptSteps, HasEachLoopOnce, IsSolution, step_at, last_step, steps_under, loop_under}
-use Rattle.fixpoint.specs.Sweeping.{unknown, rails_at, vectors, IsSolvedBelow, AreFresh, IsFoundAt, IsKeptAt, place_of, rails_in, HasValues, AreKeptBelow, IsSolvedTo}
+use Rattle.fixpoint.specs.Solved.{AreGiven}
+use Rattle.fixpoint.specs.Sweeping.{IsFoundAt, IsKeptAt, rails_in, HasValues}
 use Rattle.fixpoint.proofs.BlockLemmas.{solved-same, steps-same, solved-start, fresh-start, HasLoopsBelow, loops-push, loops-skip}
 use Rattle.fixpoint.proofs.BoundLemmas.{given-vectors}
 use Rattle.fixpoint.proofs.KeptLemmas.{All-mapped, value_of-gained, AreRailsOf-gained, All-rails-gained, All-kept-stay, AreKept-stay, AreKept-gained, rails_under-gained, value-stays, rails-stay, values-stay, All-rails-stay, RootsStay-chain}

@@ -1,24 +1,14 @@
 -- Rails under roots stay what they were while roots come to them and stores are swept.
 use Rattle.std.proofs.Common.{◌≡◌, ℕ, ◌+◌, ◌<◌, ◌≤◌, Bool, false, ◌&&◌, List, [], ◌∷◌, ◌++◌, length, map, take, get_or, refl, sym, ap, ap₂, ◌∙◌, subst, arith, Option, Some, None, IsSome, Result, Ok, IsErrAnd, true≢false}
 use Rattle.std.specs.Option.{unwrap_or}
-use Rattle.std.specs.List.{All}
-use Rattle.std.proofs.lemmas.List.{get_or-map, length-map, map_push, take_more}
-use Rattle.std.proofs.lemmas.List.Elements.{All-map, All-push}
-use Rattle.bdd_store.specs.declared.fault.StoreFault.{StoreFault}
+use Rattle.fixpoint.proofs.Common.{All, get_or-map, length-map, take_more, All-map, All-push, StoreFault, Node, Arena, den, IsNodeOf, KeepsNodes, AddsWithin, NoOtherCause, IsLawful, Trit, Rails, AreRailsOf, trit_of, value_of, map_agree, KeptRails, rails_under, values_under, AreKept, GainsRoots, RootsStay}
+use Rattle.std.proofs.lemmas.List.{map_push}
 use Rattle.bdd_store.specs.declared.fault.StoreFault.TheVariants.{Full, Memory}
-use Rattle.bdd_store.specs.declared.node.Node.{Node}
 use Rattle.bdd_store.specs.declared.node.Entry.{Entry}
 use Rattle.bdd_store.specs.declared.root.Root.{Root}
-use Rattle.bdd_store.specs.Arena.{Arena, root_at, constant, den, node_value, IsNodeOf}
-use Rattle.bdd_store.specs.Growth.{KeepsNodes, AddsWithin, NoOtherCause}
-use Rattle.bdd_store.specs.Soundness.{IsLawful}
+use Rattle.bdd_store.specs.Arena.{root_at, constant, node_value}
 use Rattle.bdd_store.specs.Sweeping.{KeepsRoots}
-use Rattle.cyc_base.specs.declared.trit.Trit.{Trit}
-use Rattle.dual_rail.specs.declared.rail.Rails.{Rails}
-use Rattle.dual_rail.specs.Rails.{AreRailsOf, trit_of, value_of}
-use Rattle.loops.proofs.Reading.{map_agree}
-use Rattle.fixpoint.specs.declared.kept.KeptRails.{KeptRails}
-use Rattle.fixpoint.specs.Kept.{node_under, rails_under, values_under, AreKept, GainsRoots, IsRootStill, RootsStay}
+use Rattle.fixpoint.specs.Kept.{node_under, IsRootStill}
 use Rattle.fixpoint.proofs.WireLemmas.{map-map}
 
 -- what holds of the images of a list

@@ -1,12 +1,13 @@
 -- Vectors by column and by variable: each is one of the other, where the columns are a layout.
 use Rattle.std.proofs.Common.{◌≡◌, ◌≢◌, inl, inr, ℕ, zero, suc, ◌+◌, ◌<◌, ◌≤◌, eqb, Bool, true, false, ◌||◌, List, [], ◌∷◌, ◌++◌, length, take, get_or, set, replicate, refl, sym, ap, ap₂, ◌∙◌, arith, length-set, get_or-set_same, get_or-set_other, true≢false}
 use Rattle.std.specs.List.{AllByRecursion, Contains, IsDistinct, list_any}
-use Rattle.std.proofs.lemmas.Bool.{cases_Bool, eqb-true, ne_eqb, or_cases}
-use Rattle.std.proofs.lemmas.List.{ext_get_or, get_or-map, get_or_default, length-map, length-replicate, take_more, take_more_set, take_all}
+use Rattle.fixpoint.proofs.Common.{cases_Bool, eqb-true, ext_get_or, get_or-map, get_or_default, length-map, length-replicate, take_more, take_all, IsLayout}
+use Rattle.std.proofs.lemmas.Bool.{ne_eqb, or_cases}
+use Rattle.std.proofs.lemmas.List.{take_more_set}
 use Rattle.std.proofs.lemmas.Map.Keys.{IsDistinct-from_apart}
 use Rattle.std.proofs.lemmas.Map.Steps.{length-le_from_distinct_below}
 use Rattle.std.proofs.lemmas.Map.Views.{Contains-from_any}
-use Rattle.bdd_ops.specs.Least.{IsLayout, by_variable}
+use Rattle.bdd_ops.specs.Least.{by_variable}
 
 pub length-by_variable : (columns : List ℕ) (v : List Bool) → length (by_variable columns v) ≡ length columns
 length-by_variable columns v = length-map columns (λ c. get_or v c false)

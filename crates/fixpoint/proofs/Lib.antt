@@ -1,3 +1,4 @@
+pub mod Common
 mod CountLemmas
 mod CompareLemmas
 pub mod WireLemmas

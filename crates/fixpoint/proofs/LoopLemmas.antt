@@ -1,32 +1,10 @@
 -- Sweep by sweep to the fixpoint of a loop.
 use Rattle.std.proofs.Common.{◌≡◌, inl, inr, ℕ, suc, ◌+◌, ◌-◌, ◌<◌, ◌≤◌, Bool, true, false, Result, Ok, Err, is_ok, is_err, if◌then◌else◌, List, [], ◌∷◌, ◌++◌, length, map, filter, take, get_or, refl, sym, ap, ◌∙◌, subst, arith, Contains, true≢false}
-use Rattle.std.proofs.lemmas.Bool.{cases_lt, cases_eq}
-use Rattle.std.proofs.lemmas.List.{get_or_append_left, get_or_push, length_push, get_or_default, get_or-take, get_or-replicate, length-take, ext_get_or}
-use Rattle.std.proofs.lemmas.List.Elements.{All-push, All-map}
-use Rattle.std.specs.List.{All}
-use Rattle.bdd_store.specs.Arena.{Arena}
-use Rattle.bdd_store.specs.Growth.{KeepsNodes}
-use Rattle.bdd_store.specs.Soundness.{IsLawful}
-use Rattle.cyc_base.specs.declared.trit.Trit.{Trit}
-use Rattle.cyc_base.specs.declared.trit.Trit.TheVariants.{X}
-use Rattle.dual_rail.specs.declared.rail.Rails.{Rails}
-use Rattle.dual_rail.specs.Rails.{AreRailsOf, value_of, values_of}
-use Rattle.dual_rail.proofs.SurelyLemmas.{value_of-kept, values_of-kept, All-rails-kept}
-use Rattle.netlist.specs.declared.parts.Parts.{Parts}
-use Rattle.netlist.specs.Fixpoint.{fix_gates}
-use Rattle.loops.specs.declared.structure.Blocks.{Blocks}
-use Rattle.loops.specs.declared.structure.Cut.{Cut}
-use Rattle.loops.specs.Blocks.{AreBlocksOf, block_at, home_of}
-use Rattle.loops.specs.Cuts.{IsCutOf, is_cut, loops_by}
-use Rattle.loops.specs.Orders.{IsOrderOf}
-use Rattle.loops.specs.Sweeps.{first_gate, value_in, cuts_of, cuts as cuts_after, sweeps}
-use Rattle.loops.proofs.Reading.{map_agree}
+use Rattle.fixpoint.proofs.Common.{cases_lt, cases_eq, get_or_append_left, get_or_push, length_push, get_or_default, get_or-take, get_or-replicate, length-take, ext_get_or, All-push, All-map, All, Arena, KeepsNodes, IsLawful, Trit, X, Rails, AreRailsOf, value_of, values_of, value_of-kept, All-rails-kept, Parts, fix_gates, Blocks, Cut, AreBlocksOf, block_at, home_of, IsCutOf, is_cut, loops_by, IsOrderOf, first_gate, value_in, cuts_of, sweeps, map_agree, gate_home, home_gate, blocks_tell_loops, SweptLoop, Vectors, IsLoopAt, AreStepsOf, step_at, unknown, rails_at, AreWires, IsSolvedBelow, AreFresh, AreSwept, OthersStay, after_sweeps, IsUnderway, IsAtRest}
+use Rattle.dual_rail.proofs.SurelyLemmas.{values_of-kept}
+use Rattle.loops.specs.Sweeps.{cuts as cuts_after}
 use Rattle.loops.proofs.Sweeps.{still_is_fix}
-use Rattle.loops.proofs.Told.{gate_home, home_gate, blocks_tell_loops}
-use Rattle.fixpoint.specs.declared.solved.SweptLoop.{SweptLoop}
-use Rattle.fixpoint.specs.Solved.{Vectors, IsLoopAt, AreStepsOf, step_at}
-use Rattle.fixpoint.specs.Sweeping.{unknown, rails_at, AreWires, IsSolvedBelow, AreFresh, CutsAre, AreSwept, OthersStay, after_sweeps}
-use Rattle.fixpoint.specs.Underway.{IsUnderway, IsAtRest}
+use Rattle.fixpoint.specs.Sweeping.{CutsAre}
 use Rattle.fixpoint.proofs.WireLemmas.{rails_at-proper, map-map, unknown-value}
 use Rattle.fixpoint.proofs.CutLemmas.{cuts-are, in-cuts, from-cuts, fixed-at, one-block, rails-canonical}
 

@@ -1,30 +1,8 @@
 -- The numbers that are counted on a solution are those of the sweeps that loops need.
 use Rattle.std.proofs.Common.{◌≡◌, inl, inr, ℕ, ◌-◌, ◌<◌, ◌≤◌, Bool, true, false, List, [], length, map, get_or, sym, ap, ap₂, ◌∙◌, subst, arith, Contains}
-use Rattle.std.proofs.lemmas.Bool.{cases_lt}
-use Rattle.std.proofs.lemmas.List.{get_or-map, length-map, ext_get_or}
-use Rattle.std.specs.List.{All}
-use Rattle.bdd_store.specs.declared.node.Node.{Node}
-use Rattle.bdd_store.specs.Arena.{Arena, den}
-use Rattle.cyc_base.specs.declared.trit.Trit.{Trit}
-use Rattle.cyc_base.specs.declared.trit.Trit.TheVariants.{X}
-use Rattle.dual_rail.specs.declared.rail.Rails.{Rails}
-use Rattle.dual_rail.specs.Rails.{AreRailsOf, trit_of, value_of, values_of}
-use Rattle.dual_rail.specs.WorkingLists.{is_bit}
-use Rattle.netlist.specs.declared.parts.Parts.{Parts}
-use Rattle.loops.specs.declared.structure.Blocks.{Blocks}
-use Rattle.loops.specs.declared.structure.Cut.{Cut}
+use Rattle.fixpoint.proofs.Common.{cases_lt, get_or-map, length-map, ext_get_or, All, Node, Arena, den, Trit, X, Rails, AreRailsOf, trit_of, value_of, values_of, is_bit, Parts, Blocks, Cut, AreBlocksOf, block_at, home_of, IsCutOf, loops_by, first_gate, cuts_of, few_sweeps_are_enough, home_gate, blocks_tell_loops, LoopSteps, Solved, SweptLoop, Vectors, IsLoopAt, AreStepsOf, IsSolution, step_at, last_step, steps_under, loop_under, unknown, AgreeOn, IsLeastStep}
 use Rattle.loops.specs.declared.structure.SweepCounts.{SweepCounts}
-use Rattle.loops.specs.Blocks.{AreBlocksOf, block_at, home_of}
-use Rattle.loops.specs.Cuts.{IsCutOf, loops_by}
-use Rattle.loops.specs.Sweeps.{first_gate, cuts_of}
-use Rattle.loops.proofs.Sweeps.{few_sweeps_are_enough}
-use Rattle.loops.proofs.Told.{home_gate, blocks_tell_loops}
-use Rattle.fixpoint.specs.declared.solved.LoopSteps.{LoopSteps}
-use Rattle.fixpoint.specs.declared.solved.Solved.{Solved}
-use Rattle.fixpoint.specs.declared.solved.SweptLoop.{SweptLoop}
-use Rattle.fixpoint.specs.Solved.{Vectors, IsLoopAt, AreStepsOf, IsSolution, step_at, last_step, steps_under, loop_under}
-use Rattle.fixpoint.specs.Sweeping.{unknown}
-use Rattle.fixpoint.specs.Counts.{AgreeOn, IsLeastStep, AreCountsOf, IsLeastSweeps, CountSweeps, count_at}
+use Rattle.fixpoint.specs.Counts.{AreCountsOf, IsLeastSweeps, CountSweeps, count_at}
 use Rattle.fixpoint.proofs.CutLemmas.{one-of, zero-of}
 
 -- steps of one width that agree on care have the same values there, and the other way round

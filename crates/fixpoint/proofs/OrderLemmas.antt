@@ -1,23 +1,19 @@
 -- Columns taken one after another, and that they are a layout in the end.
 use Rattle.std.proofs.Common.{◌≡◌, ◌≢◌, inl, inr, ℕ, zero, suc, ◌+◌, ◌<◌, ◌≤◌, eqb, Bool, true, false, not, ◌||◌, cond, List, [], ◌∷◌, ◌++◌, length, map, filter, take, get_or, set, replicate, refl, sym, ap, subst, ◌∙◌, arith, append_assoc, length-set, get_or-set_same, get_or-set_other, true≢false}
 use Rattle.std.specs.Prelude.{nat_lt, slice_get, Some}
-use Rattle.std.specs.List.{All, IsDistinct, AllByRecursion, list_any, range_with_len}
-use Rattle.std.proofs.lemmas.Bool.{cases_lt, cases_eq, eqb-true, eq-eqb, lt-ltb, le-ltb, ltb-true, ne_eqb, or_cases}
-use Rattle.std.proofs.lemmas.List.{append-nil, get_or-replicate, length-replicate, map-append, take_more}
-use Rattle.std.proofs.lemmas.List.Elements.{filter-append, All-append, All-cons, All-filter}
+use Rattle.fixpoint.proofs.Common.{All, range_with_len, cases_lt, cases_eq, eqb-true, eq-eqb, append-nil, get_or-replicate, length-replicate, take_more, All-append, length-range_with_len, IsLayout, Sig, Gate, Parts, first_gate, first_signals, columns_read, AreTaken}
+use Rattle.std.specs.List.{IsDistinct, AllByRecursion, list_any}
+use Rattle.std.proofs.lemmas.Bool.{lt-ltb, le-ltb, ltb-true, ne_eqb, or_cases}
+use Rattle.std.proofs.lemmas.List.{map-append}
+use Rattle.std.proofs.lemmas.List.Elements.{filter-append, All-cons, All-filter}
 use Rattle.std.proofs.lemmas.List.Folds.{list_any-append, list_any_at}
 use Rattle.std.proofs.lemmas.Grind.{flat_map-append}
-use Rattle.std.proofs.lemmas.List.FromFn.{length-range_with_len, get_or-range_with_len}
+use Rattle.std.proofs.lemmas.List.FromFn.{get_or-range_with_len}
 use Rattle.std.proofs.lemmas.Option.{get_or_from_slice_get, slice_get_within}
 use Rattle.std.proofs.lemmas.Map.Keys.{apart_from_distinct}
 use Rattle.std.proofs.lemmas.Map.Steps.{length-le_from_distinct_below, le-length_from_below}
 use Rattle.std.proofs.lemmas.Map.Views.{any-filter_same}
-use Rattle.bdd_ops.specs.Least.{IsLayout}
-use Rattle.cyc_base.specs.declared.sig.Sig.{Sig}
-use Rattle.netlist.specs.declared.parts.Gate.{Gate}
-use Rattle.netlist.specs.declared.parts.Parts.{Parts}
-use Rattle.loops.specs.Sweeps.{first_gate}
-use Rattle.fixpoint.specs.Orders.{each_once, first_signals, columns_read, order, AreTaken}
+use Rattle.fixpoint.specs.Orders.{each_once, order}
 
 -- ---- each number once
 

@@ -1,14 +1,8 @@
 -- What a loop is swept by: the diagrams of its gates' covers, gate by gate.
 use Rattle.std.proofs.Common.{◌≡◌, inl, inr, ℕ, ◌<◌, List, [], ◌∷◌, ◌++◌, length, get_or, refl, sym, ap, ◌∙◌, subst, arith}
-use Rattle.std.proofs.lemmas.Bool.{cases_lt}
-use Rattle.std.proofs.lemmas.List.{get_or_append_left, get_or_push, length_push, get_or_default}
-use Rattle.std.specs.List.{All}
-use Rattle.dual_rail.specs.Local.{IsDiagramOf}
-use Rattle.netlist.specs.declared.parts.Parts.{Parts}
-use Rattle.netlist.specs.Netlists.{gate_at}
-use Rattle.fixpoint.specs.declared.locals.SharedDiagram.{SharedDiagram}
+use Rattle.fixpoint.proofs.Common.{cases_lt, get_or_append_left, get_or_push, length_push, get_or_default, All, IsDiagramOf, Parts, gate_at, SharedDiagram, AreLocalsOf}
 use Rattle.fixpoint.specs.declared.locals.Locals.{Locals}
-use Rattle.fixpoint.specs.Plans.{HasDiagram, AreShared, AreLocalsOf}
+use Rattle.fixpoint.specs.Plans.{HasDiagram, AreShared}
 
 -- the latest diagram, and those before it
 pub diagram-new : (net : Parts) (shared : List SharedDiagram) (one : SharedDiagram) (n : ℕ) → IsDiagramOf one.diagram (gate_at net n).cover → HasDiagram net (shared ++ one ∷ []) n (length shared)

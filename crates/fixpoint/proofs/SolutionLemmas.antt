@@ -1,27 +1,11 @@
 -- The loops of a solution can be counted, and a solution stays one while nodes are kept.
 use Rattle.std.proofs.Common.{◌≡◌, ◌==◌, inl, inr, ◌⊎◌, ℕ, zero, suc, ◌+◌, ◌<◌, ◌≤◌, Bool, true, false, ◌||◌, cond, List, [], ◌∷◌, length, map, filter, take, get_or, refl, sym, ap, ◌∙◌, subst, arith, Contains, true≢false}
-use Rattle.std.proofs.lemmas.Bool.{cases_Bool, eqb-true}
-use Rattle.std.proofs.lemmas.List.{get_or_default, get_or-map, take_all, length-map}
-use Rattle.std.proofs.lemmas.List.FromFn.{length-range_with_len, get_or-range_with_len}
-use Rattle.std.proofs.lemmas.List.Sums.{sum_by-cons, sum_by_more, length-filter, count_by-le-length}
-use Rattle.std.specs.List.{All, sum_by, count_by, range_with_len}
-use Rattle.bdd_store.specs.declared.node.Node.{Node}
-use Rattle.bdd_store.specs.Arena.{Arena}
-use Rattle.dual_rail.specs.declared.rail.Rails.{Rails}
-use Rattle.netlist.specs.declared.parts.Parts.{Parts}
-use Rattle.netlist.specs.Netlists.{IsNetlist}
-use Rattle.loops.specs.declared.structure.Blocks.{Blocks}
-use Rattle.loops.specs.declared.structure.Cut.{Cut}
-use Rattle.loops.specs.Blocks.{AreBlocksOf, block_at, home_of}
-use Rattle.loops.specs.Cuts.{IsCutOf, is_cut, loops_by}
-use Rattle.loops.specs.Sweeps.{cuts_of}
-use Rattle.fixpoint.specs.declared.solved.LoopSteps.{LoopSteps}
-use Rattle.fixpoint.specs.declared.solved.Solved.{Solved}
-use Rattle.fixpoint.specs.Kept.{rails_under}
-use Rattle.fixpoint.specs.Solved.{Vectors, AreStepsOf, AreKeptSteps, IsSolution, steps_under, loop_under}
-use Rattle.fixpoint.specs.Counts.{AreCountable, AreLoopsToCount}
+use Rattle.fixpoint.proofs.Common.{cases_Bool, eqb-true, get_or_default, get_or-map, take_all, length-map, length-range_with_len, sum_by_more, All, sum_by, range_with_len, Node, Arena, Rails, Parts, IsNetlist, Blocks, Cut, AreBlocksOf, block_at, home_of, IsCutOf, is_cut, loops_by, cuts_of, LoopSteps, Solved, rails_under, Vectors, AreStepsOf, AreKeptSteps, IsSolution, steps_under, loop_under, AreCountable, total}
+use Rattle.std.proofs.lemmas.List.FromFn.{get_or-range_with_len}
+use Rattle.std.proofs.lemmas.List.Sums.{sum_by-cons, length-filter, count_by-le-length}
+use Rattle.std.specs.List.{count_by}
+use Rattle.fixpoint.specs.Counts.{AreLoopsToCount}
 use Rattle.fixpoint.specs.Laws.{SolutionsCount, SolutionsStay}
-use Rattle.fixpoint.specs.Working.{total}
 use Rattle.fixpoint.proofs.KeptLemmas.{All-kept-stay, All-rails-stay, values-stay}
 use Rattle.fixpoint.proofs.KeepingLemmas.{steps-stay}
 use Rattle.fixpoint.proofs.BoundLemmas.{cuts-few}

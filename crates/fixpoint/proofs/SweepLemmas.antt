@@ -1,34 +1,15 @@
 -- A sweep of one loop on rails is the sweep at each vector.
 use Rattle.std.proofs.Common.{◌≡◌, ◌≢◌, inl, inr, ◌⊎◌, ℕ, zero, suc, ◌+◌, ◌<◌, ◌≤◌, leb, add-one, Bool, true, false, ◌&&◌, if◌then◌else◌, List, [], ◌∷◌, length, map, take, get_or, refl, sym, ap, ◌∙◌, subst, arith, Contains}
-use Rattle.std.proofs.lemmas.Bool.{cases_eq, cases_Bool, leb-true, leb-false}
-use Rattle.std.proofs.lemmas.List.{get_or-set_other, get_or_append_left, get_or_default, take_all}
-use Rattle.std.proofs.lemmas.List.Elements.{All-from_recursion, All-contains, All-get_or}
-use Rattle.std.specs.List.{All}
-use Rattle.bdd_store.specs.Arena.{Arena}
-use Rattle.bdd_store.specs.Growth.{KeepsNodes}
-use Rattle.cover_logic.specs.Extensions.{ext}
-use Rattle.cyc_base.specs.declared.sig.Sig.{Sig}
-use Rattle.cyc_base.specs.declared.trit.Trit.TheVariants.{X}
-use Rattle.dual_rail.specs.declared.rail.Rails.{Rails}
-use Rattle.dual_rail.specs.Rails.{value_of}
-use Rattle.dual_rail.proofs.SurelyLemmas.{value_of-kept}
-use Rattle.netlist.specs.declared.parts.Gate.{Gate}
-use Rattle.netlist.specs.declared.parts.Parts.{Parts}
-use Rattle.netlist.specs.Netlists.{IsNetlist, IsSignal, count, gate_at, no_gate}
-use Rattle.netlist.specs.Fixpoint.{wire, fix, fix_gates}
-use Rattle.netlist.specs.Walks.{Feeds}
-use Rattle.loops.specs.declared.structure.Blocks.{Blocks}
-use Rattle.loops.specs.declared.structure.Cut.{Cut}
-use Rattle.loops.specs.Blocks.{block_at, home_of}
-use Rattle.loops.specs.Cuts.{AreLoopsOf, IsCutOf, is_cut, in_one_loop, loops_by}
-use Rattle.loops.specs.Orders.{ReadsUncut, IsInOrder}
-use Rattle.loops.specs.Sweeps.{first_gate, gate_of, value_in, sweep, pin_in}
-use Rattle.loops.proofs.Reading.{map_agree, wire_of_gate}
+use Rattle.fixpoint.proofs.Common.{cases_eq, cases_Bool, get_or_append_left, get_or_default, take_all, All-contains, All-get_or, All, Arena, KeepsNodes, ext, Sig, X, Rails, value_of, value_of-kept, Gate, Parts, IsNetlist, IsSignal, count, gate_at, no_gate, wire, fix, fix_gates, Feeds, Blocks, Cut, block_at, home_of, IsCutOf, is_cut, in_one_loop, loops_by, ReadsUncut, IsInOrder, first_gate, gate_of, value_in, map_agree, wire_of_gate, feeds_at, told_parts, gate_home, home_gate, blocks_tell_loops, Vectors, unknown, rails_at, rails_read, AreWires, IsGateSet, AreSwept, IsSweepable, OthersStay}
+use Rattle.std.proofs.lemmas.Bool.{leb-true, leb-false}
+use Rattle.std.proofs.lemmas.List.{get_or-set_other}
+use Rattle.std.proofs.lemmas.List.Elements.{All-from_recursion}
+use Rattle.loops.specs.Cuts.{AreLoopsOf}
+use Rattle.loops.specs.Sweeps.{sweep, pin_in}
 use Rattle.loops.proofs.Sweeps.{sweep_each}
-use Rattle.loops.proofs.Unique.{feeds_at, uncut-irreflexive}
-use Rattle.loops.proofs.Told.{told_parts, gate_home, home_gate, blocks_tell_loops, blocks_have_loops}
-use Rattle.fixpoint.specs.Solved.{Vectors}
-use Rattle.fixpoint.specs.Sweeping.{unknown, rails_at, rails_read, AreWires, IsGateSet, States, AreSwept, IsSweepable, OthersStay}
+use Rattle.loops.proofs.Unique.{uncut-irreflexive}
+use Rattle.loops.proofs.Told.{blocks_have_loops}
+use Rattle.fixpoint.specs.Sweeping.{States}
 use Rattle.fixpoint.proofs.WireLemmas.{rails_at-proper, set-same, set-other}
 
 -- ---- orders

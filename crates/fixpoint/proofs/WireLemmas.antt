@@ -1,27 +1,11 @@
 -- Rails of wires, and of what a gate reads.
 use Rattle.std.proofs.Common.{◌≡◌, ◌≢◌, inl, inr, ℕ, ◌+◌, ◌-◌, ◌<◌, leb, Bool, true, false, ◌&&◌, if◌then◌else◌, List, [], ◌∷◌, length, map, refl, sym, ap, ◌∙◌, subst, arith}
-use Rattle.std.proofs.lemmas.Bool.{cases_lt}
-use Rattle.std.proofs.lemmas.List.{get_or_past, get_or-set_same, get_or-set_other, length-set, get_or-map, get_or_append_left, length-append, ext_get_or}
-use Rattle.std.proofs.lemmas.List.Elements.{All-map, All-set}
-use Rattle.std.specs.List.{All, slice_index_or, slice_set}
-use Rattle.bdd_store.specs.Arena.{Arena, den_within}
-use Rattle.bdd_store.specs.Growth.{KeepsNodes}
-use Rattle.cyc_base.specs.declared.sig.Sig.{Sig}
-use Rattle.cyc_base.specs.declared.trit.Trit.{Trit}
-use Rattle.cyc_base.specs.declared.trit.Trit.TheVariants.{X}
-use Rattle.dual_rail.specs.declared.rail.Rails.{Rails}
-use Rattle.dual_rail.specs.Rails.{AreRailsOf, value_of, values_of}
-use Rattle.dual_rail.proofs.SurelyLemmas.{All-rails-kept, value_of-kept, length-values}
-use Rattle.netlist.specs.declared.parts.Parts.{Parts}
-use Rattle.netlist.specs.Fixpoint.{fix, fix_gates}
-use Rattle.netlist.specs.Netlists.{count}
+use Rattle.fixpoint.proofs.Common.{cases_lt, get_or-map, get_or_append_left, length-append, ext_get_or, All-map, All-set, All, Arena, KeepsNodes, Sig, Trit, X, Rails, AreRailsOf, value_of, values_of, All-rails-kept, value_of-kept, Parts, fix, fix_gates, count, Cut, is_cut, first_gate, gate_of, value_in, wire_of_gate, Vectors, unknown, rails_at, rails_read, AreWires, IsGateSet}
+use Rattle.std.proofs.lemmas.List.{get_or_past, get_or-set_same, get_or-set_other, length-set}
+use Rattle.std.specs.List.{slice_index_or, slice_set}
+use Rattle.bdd_store.specs.Arena.{den_within}
+use Rattle.dual_rail.proofs.SurelyLemmas.{length-values}
 use Rattle.netlist.proofs.FixpointLemmas.{length-steps}
-use Rattle.loops.specs.declared.structure.Cut.{Cut}
-use Rattle.loops.specs.Cuts.{is_cut}
-use Rattle.loops.specs.Sweeps.{first_gate, gate_of, value_in}
-use Rattle.loops.proofs.Reading.{wire_of_gate}
-use Rattle.fixpoint.specs.Solved.{Vectors}
-use Rattle.fixpoint.specs.Sweeping.{unknown, rails_at, rails_read, AreWires, IsGateSet}
 
 -- the rails of X are proper
 pub unknown-rails : (a : Arena) → AreRailsOf a unknown

@@ -1,29 +1,16 @@
 -- The working list of a netlist: the functions of each lift are of it, and so are the rails of solved signals.
 use Rattle.std.proofs.Common.{◌≡◌, inl, inr, ◌⊎◌, ℕ, suc, ◌-◌, ◌<◌, ◌≤◌, Bool, true, List, [], ◌++◌, length, drop, refl, sym, ap, ◌∙◌, arith}
-use Rattle.std.proofs.lemmas.Bool.{cases_lt, cases_Bool}
-use Rattle.std.proofs.lemmas.List.{length-map, get_or_append_left, length-append, length-drop}
-use Rattle.bdd_store.specs.Arena.{Arena}
-use Rattle.cover_logic.specs.Covers.{value}
-use Rattle.cover_logic.specs.Extensions.{ext, exact}
-use Rattle.cyc_base.specs.declared.trit.Trit.{Trit}
-use Rattle.cyc_base.specs.declared.trit.Trit.TheVariants.{X}
-use Rattle.dual_rail.specs.declared.rail.Rails.{Rails}
+use Rattle.fixpoint.proofs.Common.{cases_lt, cases_Bool, length-map, get_or_append_left, length-append, Arena, value, ext, Trit, X, Rails, value_of, values_of, IsWide, BoundsEach, IsExtended, is_bit, Parts, gate_at, fix, fix_gates, first_gate, value_in, sweeps, cuts_of, wire_of_gate, get_or-fix, few_sweeps_are_enough, Vectors, read_at_fix, IsGatePart, IsWorking}
+use Rattle.std.proofs.lemmas.List.{length-drop}
+use Rattle.cover_logic.specs.Extensions.{exact}
 use Rattle.dual_rail.specs.Local.{Local, function}
-use Rattle.dual_rail.specs.Rails.{value_of, values_of}
-use Rattle.dual_rail.specs.WorkingLists.{IsWide, BoundsEach, IsExtended, is_bit}
 use Rattle.dual_rail.proofs.SurelyLemmas.{exact-alike}
 use Rattle.dual_rail.proofs.WidthLemmas.{wide-one}
-use Rattle.netlist.specs.declared.parts.Parts.{Parts}
-use Rattle.netlist.specs.Netlists.{gate_at}
-use Rattle.netlist.specs.Fixpoint.{fix, fix_gates}
 use Rattle.loops.specs.Cuts.{AreLoopsOf, Loops}
-use Rattle.loops.specs.Sweeps.{first_gate, value_in, sweeps, cuts_of}
-use Rattle.loops.proofs.Reading.{wire_of_gate, get_or-fix}
-use Rattle.loops.proofs.Sweeps.{sweep_each, few_sweeps_are_enough, fixed_cuts_give_fix}
+use Rattle.loops.proofs.Sweeps.{sweep_each, fixed_cuts_give_fix}
 use Rattle.loops.proofs.Walks.{begins_at}
 use Rattle.fixpoint.specs.Laws.{FixIsWorking, SweepsAreWorking, GatePartsAgree}
-use Rattle.fixpoint.specs.Solved.{Vectors}
-use Rattle.fixpoint.specs.Working.{read_in_sweep, read_at_fix, IsReadInSweep, IsReadAtFix, IsGatePart, IsWorking, HasAlike}
+use Rattle.fixpoint.specs.Working.{read_in_sweep, IsReadInSweep, IsReadAtFix, HasAlike}
 
 -- ---- the list of a lift by the cover, and by its diagram
 

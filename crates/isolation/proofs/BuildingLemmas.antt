@@ -1,27 +1,18 @@
 -- A small netlist while it is made.
 use Rattle.std.proofs.Common.{◌≡◌, inl, inr, ℕ, ◌+◌, ◌-◌, ◌<◌, ◌≤◌, Bool, true, false, List, [], ◌∷◌, ◌++◌, length, map, take, get_or, if◌then◌else◌, eqb, Option, Some, None, Result, Ok, Err, IfOk, IsSome, refl, sym, ap, ap₂, ◌∙◌, subst, arith, Contains, true≢false, zero, suc}
-use Rattle.std.proofs.lemmas.Bool.{cases_lt, eqb-true, eq-eqb}
-use Rattle.std.proofs.lemmas.List.{get_or-map, get_or_default, get_or_append_left, get_or-append_right, get_or_push, length_push, length-map, length-append, map-append, take_more, take_all}
+use Rattle.isolation.proofs.Common.{cases_lt, eqb-true, eq-eqb, get_or-map, get_or_default, get_or_append_left, get_or-append_right, length-map, length-append, map-append, All, list_any, IfSome, Sig, Gate, Parts, IsNetlist, count, signal, no_gate, gate_at, gate_sig, Blocks, AreBlocksOf, block_at, home_of, first_gate, gate_home, home_gate, origins, origin, gate_in, IsExcerpt, AreClosed, AreCopies, AreNumbersOf, IsLoopNetlist}
+use Rattle.std.proofs.lemmas.List.{get_or_push, length_push, take_more, take_all}
 use Rattle.std.proofs.lemmas.List.Elements.{Contains-append_left, Contains-push, Contains-push_cases, All-push}
-use Rattle.std.specs.List.{All, list_any, position}
-use Rattle.std.specs.Prelude.{IfSome}
+use Rattle.std.specs.List.{position}
 use Rattle.std.specs.Ordering.{nat_cmp}
 use Rattle.std.specs.List.Sorted.{IsBinarySearchResult}
 use Rattle.std.proofs.lemmas.List.Sorted.{searched}
 use Rattle.std.proofs.lemmas.List.Quantifiers.{position-Some}
 use Rattle.std.proofs.lemmas.Map.Views.{Contains-from_any}
-use Rattle.cyc_base.specs.declared.sig.Sig.{Sig}
-use Rattle.netlist.specs.declared.parts.Gate.{Gate}
-use Rattle.netlist.specs.declared.parts.Parts.{Parts}
-use Rattle.netlist.specs.Netlists.{IsNetlist, count, signal, no_gate, gate_at, gate_sig}
 use Rattle.netlist.proofs.Decisions.{none_found}
-use Rattle.loops.specs.declared.structure.Blocks.{Blocks}
-use Rattle.loops.specs.Blocks.{AreBlocksOf, block_at, home_of}
 use Rattle.loops.specs.Placing.{Rise}
-use Rattle.loops.specs.Sweeps.{first_gate}
-use Rattle.loops.proofs.Told.{gate_home, home_gate}
-use Rattle.isolation.specs.Excerpts.{origins, origin, gate_in, IsRead, AreOnce, IsExcerpt}
-use Rattle.isolation.specs.Building.{IsOutside, AreOutside, AreWires, IsAmong, AddWires, AreClosed, AreCopies, AreWiresOf, AreNumbersOf, IsCopyOf, IsPlaceOf, IsLoopNetlist}
+use Rattle.isolation.specs.Excerpts.{IsRead, AreOnce}
+use Rattle.isolation.specs.Building.{IsOutside, AreOutside, AreWires, IsAmong, AddWires, AreWiresOf, IsCopyOf, IsPlaceOf}
 
 -- a gate of a block, by its signal
 pub inside_block : (net : Parts) (blocks : Blocks) → AreBlocksOf net blocks → (place : ℕ) (s : Sig) → place < length blocks.list → Contains (map (gate_sig net) (block_at blocks place).gates) s →

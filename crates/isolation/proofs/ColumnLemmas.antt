@@ -1,19 +1,11 @@
 -- The rails of columns, one variable after another.
 use Rattle.std.proofs.Common.{◌≡◌, ◌≢◌, inl, inr, ℕ, ◌+◌, ◌<◌, ◌≤◌, Bool, false, List, length, get_or, set, replicate, sym, ap, subst, ◌∙◌, arith, length-set, get_or-set_same, get_or-set_other}
-use Rattle.std.proofs.lemmas.Bool.{cases_lt}
-use Rattle.std.proofs.lemmas.List.{ext_get_or, get_or-map, length-map, length-replicate}
+use Rattle.isolation.proofs.Common.{cases_lt, ext_get_or, get_or-map, length-map, All, Arena, KeepsNodes, X, bit, bits, Rails, AreRailsOf, value_of, values_of, rails_at, unknown}
+use Rattle.std.proofs.lemmas.List.{length-replicate}
 use Rattle.std.proofs.lemmas.List.Elements.{All-replicate, All-set}
-use Rattle.std.specs.List.{All}
-use Rattle.bdd_store.specs.Arena.{Arena}
-use Rattle.bdd_store.specs.Growth.{KeepsNodes}
 use Rattle.bdd_ops.specs.Least.{IsLayout, by_variable}
 use Rattle.bdd_ops.specs.Operations.{bit_at}
-use Rattle.cyc_base.specs.declared.trit.Trit.TheVariants.{X}
-use Rattle.cyc_base.specs.Values.{bit, bits}
-use Rattle.dual_rail.specs.declared.rail.Rails.{Rails}
-use Rattle.dual_rail.specs.Rails.{AreRailsOf, value_of, values_of}
 use Rattle.dual_rail.proofs.SurelyLemmas.{value_of-kept, values_of-kept, All-rails-kept}
-use Rattle.fixpoint.specs.Sweeping.{rails_at, unknown}
 use Rattle.fixpoint.proofs.LayoutLemmas.{by_variable-read, variable_of}
 use Rattle.fixpoint.proofs.WireLemmas.{rails_at-proper, unknown-rails}
 use Rattle.isolation.specs.Columns.{AreFirstColumns, AreColumns}

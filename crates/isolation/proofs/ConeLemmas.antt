@@ -1,18 +1,10 @@
 -- Excerpts whose inputs are the columns, and lists of marked gates.
 use Rattle.std.proofs.Common.{◌≡◌, inl, inr, ℕ, ◌+◌, ◌<◌, Bool, true, false, List, [], ◌∷◌, ◌++◌, length, sym, ap, ◌∙◌, subst, arith, Contains, true≢false}
-use Rattle.std.proofs.lemmas.Bool.{cases_lt}
-use Rattle.std.proofs.lemmas.List.{get_or-map, get_or_default, get_or_append_left, get_or_push, length_push, length-map, ext_get_or}
+use Rattle.isolation.proofs.Common.{cases_lt, get_or-map, get_or_default, get_or_append_left, length-map, ext_get_or, range_with_len, Trit, X, bit, bits, signal, wire, fix, fix_gates, first_gate, value_in, gate_in, inputs_in}
+use Rattle.std.proofs.lemmas.List.{get_or_push, length_push}
 use Rattle.std.proofs.lemmas.List.Elements.{Contains-append_left, Contains-push, Contains-push_cases}
 use Rattle.std.proofs.lemmas.List.FromFn.{length-range_with_len, get_or-range_with_len}
-use Rattle.std.specs.List.{range_with_len}
-use Rattle.cyc_base.specs.declared.trit.Trit.{Trit}
-use Rattle.cyc_base.specs.declared.trit.Trit.TheVariants.{X}
-use Rattle.cyc_base.specs.Values.{bit, bits}
-use Rattle.netlist.specs.Netlists.{signal}
-use Rattle.netlist.specs.Fixpoint.{wire, fix, fix_gates}
-use Rattle.loops.specs.Sweeps.{first_gate, value_in}
 use Rattle.isolation.specs.Cones.{is_marked, ListsMarked}
-use Rattle.isolation.specs.Excerpts.{gate_in, inputs_in}
 use Rattle.isolation.specs.Laws.{column_signals, ExcerptsKeep, ColumnsGiveVectors, UnsettledExcerptDecides}
 use Rattle.isolation.proofs.KeptLemmas.{fix-kept}
 use Rattle.isolation.proofs.LoopLemmas.{loop-same, cut-same, sweeps-same, fixed-up, fixed-down}

@@ -1,30 +1,13 @@
 -- How many sweeps a loop needs that is settled by itself.
 use Rattle.std.proofs.Common.{◌≡◌, ◌≢◌, inl, inr, ℕ, zero, suc, ◌<◌, ◌≤◌, ◌+◌, Bool, true, List, length, replicate, get_or, sym, ap, ◌∙◌, subst, arith, Contains}
-use Rattle.std.proofs.lemmas.Bool.{cases_lt}
-use Rattle.std.proofs.lemmas.List.{get_or-map, get_or_default, get_or_append_left, get_or-replicate, length-map}
+use Rattle.isolation.proofs.Common.{cases_lt, get_or-map, get_or_default, get_or_append_left, get_or-replicate, length-map, Sig, Trit, X, bit, bits, Parts, IsNetlist, count, gate_at, signal, no_gate, wire, fix, fix_gates, Feeds, Blocks, AreBlocksOf, block_at, home_of, Loops, AreLoopsOf, loops_of, first_gate, gate_of, CutsAreFixed, loops_exist, wire_of_gate, same_within, gate_home, home_gate, gate_in, inputs_in}
 use Rattle.std.proofs.lemmas.List.Elements.{Contains-get_or}
-use Rattle.cyc_base.specs.declared.sig.Sig.{Sig}
-use Rattle.cyc_base.specs.declared.trit.Trit.{Trit}
-use Rattle.cyc_base.specs.declared.trit.Trit.TheVariants.{X}
-use Rattle.cyc_base.specs.Values.{bit, bits}
-use Rattle.netlist.specs.declared.parts.Parts.{Parts}
-use Rattle.netlist.specs.Netlists.{IsNetlist, count, gate_at, signal, no_gate}
-use Rattle.netlist.specs.Fixpoint.{wire, fix, fix_gates}
-use Rattle.netlist.specs.Walks.{Feeds}
-use Rattle.loops.specs.declared.structure.Blocks.{Blocks}
-use Rattle.loops.specs.Blocks.{AreBlocksOf, block_at, home_of}
-use Rattle.loops.specs.Cuts.{Loops, AreLoopsOf}
-use Rattle.loops.specs.Found.{loops_of}
-use Rattle.loops.specs.Sweeps.{first_gate, gate_of, CutsAreFixed}
 use Rattle.loops.specs.Walks.{SameLoop}
-use Rattle.loops.proofs.Existence.{loops_exist}
 use Rattle.loops.proofs.LoopCuts.{has-cut}
 use Rattle.loops.proofs.OrderLemmas.{block_rises, block_within}
-use Rattle.loops.proofs.Reading.{wire_of_gate}
-use Rattle.loops.proofs.Sweeps.{cut_values_agree, same_within}
-use Rattle.loops.proofs.Told.{gate_home, home_gate}
+use Rattle.loops.proofs.Sweeps.{cut_values_agree}
 use Rattle.loops.proofs.Walks.{begins_at}
-use Rattle.isolation.specs.Excerpts.{gate_in, inputs_in, AreRead, AreWhole}
+use Rattle.isolation.specs.Excerpts.{AreRead, AreWhole}
 use Rattle.isolation.specs.Settled.{SettleInSweeps}
 use Rattle.isolation.specs.Laws.{AreDeterminedAt, SettledLoopsSweep, OneSweepIsExact}
 use Rattle.isolation.proofs.ExcerptLemmas.{known_list, first-small}

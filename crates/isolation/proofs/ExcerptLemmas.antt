@@ -1,21 +1,12 @@
 -- What the small netlist of some gates has to do with the whole.
 use Rattle.std.proofs.Common.{◌≡◌, ◌≢◌, ℕ, zero, suc, ◌<◌, Bool, true, false, List, [], ◌∷◌, ◌++◌, length, map, get_or, refl, sym, ap, ap₂, ◌∙◌, subst, arith}
-use Rattle.std.proofs.lemmas.List.{get_or-map, length-map, length-append, map-append, ext_get_or}
-use Rattle.std.proofs.lemmas.Simd.{map-map}
-use Rattle.cyc_base.specs.declared.sig.Sig.{Sig}
-use Rattle.cyc_base.specs.declared.trit.Trit.{Trit}
-use Rattle.cyc_base.specs.declared.trit.Trit.TheVariants.{Zero, One, X}
-use Rattle.cyc_base.specs.Values.{Below, EachBelow, bit, bits}
+use Rattle.isolation.proofs.Common.{get_or-map, length-map, length-append, map-append, ext_get_or, map-map, Sig, Trit, X, bit, bits, ext, Cover, Parts, IsNetlist, count, signal, no_gate, gate_at, gate_sig, wire, fix, fix_gates, first_gate, value_in, wire_of_gate, get_or-fix, origins, origin, gate_in, inputs_in, IsExcerpt}
+use Rattle.cyc_base.specs.declared.trit.Trit.TheVariants.{Zero, One}
+use Rattle.cyc_base.specs.Values.{Below, EachBelow}
 use Rattle.cyc_base.proofs.OrderLemmas.{EachBelow-at}
-use Rattle.cover_logic.specs.Extensions.{ext}
-use Rattle.cover_logic.specs.declared.cover.Cover.{Cover}
-use Rattle.netlist.specs.declared.parts.Parts.{Parts}
-use Rattle.netlist.specs.Netlists.{IsNetlist, count, signal, no_gate, gate_at, gate_sig}
-use Rattle.netlist.specs.Fixpoint.{wire, step, fix, fix_gates}
+use Rattle.netlist.specs.Fixpoint.{step}
 use Rattle.netlist.proofs.FixpointLemmas.{fix_is_least, length-step}
-use Rattle.loops.specs.Sweeps.{first_gate, value_in}
-use Rattle.loops.proofs.Reading.{map_agree, wire_of_gate, get_or-step, get_or-fix}
-use Rattle.isolation.specs.Excerpts.{origins, origin, gate_in, inputs_in, IsExcerpt}
+use Rattle.loops.proofs.Reading.{map_agree, get_or-step}
 use Rattle.isolation.specs.Settled.{IsDetermined}
 
 -- values that are all known are a list of bits

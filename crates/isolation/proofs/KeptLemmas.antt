@@ -1,23 +1,12 @@
 -- The fixpoint of an excerpt is the whole's.
 use Rattle.std.proofs.Common.{◌≡◌, inl, inr, ℕ, zero, suc, ◌-◌, ◌<◌, List, [], ◌∷◌, length, map, get_or, refl, sym, ap, ap₂, ◌∙◌, subst, arith}
-use Rattle.std.proofs.lemmas.Bool.{cases_lt}
-use Rattle.std.proofs.lemmas.List.{get_or-map, get_or_append_left, get_or-append_right, get_or-replicate, length-map, length-append}
-use Rattle.std.proofs.lemmas.Simd.{map-map}
-use Rattle.cyc_base.specs.declared.sig.Sig.{Sig}
-use Rattle.cyc_base.specs.declared.trit.Trit.{Trit}
-use Rattle.cyc_base.specs.declared.trit.Trit.TheVariants.{X}
+use Rattle.isolation.proofs.Common.{cases_lt, get_or-map, get_or_append_left, get_or-append_right, get_or-replicate, length-map, length-append, map-map, Sig, Trit, X, ext, Cover, Parts, IsNetlist, signal, gate_at, gate_sig, wire, fix, fix_gates, first_gate, value_in, wire_of_gate, get_or-fix, origins, origin, gate_in, inputs_in, IsExcerpt}
 use Rattle.cyc_base.specs.Values.{Below, EachBelow}
 use Rattle.cyc_base.proofs.OrderLemmas.{Below-antisym, EachBelow-at, EachBelow-append, EachBelow-refl}
-use Rattle.cover_logic.specs.Extensions.{ext}
-use Rattle.cover_logic.specs.declared.cover.Cover.{Cover}
 use Rattle.cover_logic.proofs.ExtensionLemmas.{ext_is_monotone}
-use Rattle.netlist.specs.declared.parts.Parts.{Parts}
-use Rattle.netlist.specs.Netlists.{IsNetlist, signal, gate_at, gate_sig}
-use Rattle.netlist.specs.Fixpoint.{wires, wire, steps, fix, fix_gates}
+use Rattle.netlist.specs.Fixpoint.{wires, steps}
 use Rattle.netlist.proofs.FixpointLemmas.{steps_below_fix}
-use Rattle.loops.specs.Sweeps.{first_gate, value_in}
-use Rattle.loops.proofs.Reading.{wire_of_gate, get_or-step, get_or-fix}
-use Rattle.isolation.specs.Excerpts.{origins, origin, gate_in, inputs_in, IsExcerpt}
+use Rattle.loops.proofs.Reading.{get_or-step}
 use Rattle.isolation.proofs.ExcerptLemmas.{gates_in, pin-within, fix_below}
 
 below-members : (f g : Sig → Trit) (xs : List Sig) → ((k : ℕ) (d : Sig) → k < length xs → Below (f (get_or xs k d)) (g (get_or xs k d))) → EachBelow (map f xs) (map g xs)

@@ -1,26 +1,17 @@
 -- The loops of an excerpt, their cut wires and their sweeps are those of the whole.
 use Rattle.std.proofs.Common.{◌≡◌, inl, inr, ℕ, zero, suc, ◌+◌, ◌-◌, ◌<◌, leb, Bool, true, false, ◌&&◌, if◌then◌else◌, List, [], ◌∷◌, length, map, get_or, refl, sym, ap, ap₂, ◌∙◌, subst, arith}
-use Rattle.std.proofs.lemmas.Bool.{cases_lt, cases_eq, and_parts, leb-true, le-leb, lt-leb}
-use Rattle.std.proofs.lemmas.List.{get_or-map, get_or_default, get_or_append_left, get_or-append_right, get_or-replicate, length-map, length-append}
-use Rattle.std.proofs.lemmas.Simd.{map-map}
-use Rattle.std.specs.List.{AllByRecursion, range_with_len}
-use Rattle.cyc_base.specs.declared.sig.Sig.{Sig}
-use Rattle.cyc_base.specs.declared.trit.Trit.{Trit}
-use Rattle.cyc_base.specs.declared.trit.Trit.TheVariants.{X}
-use Rattle.cover_logic.specs.Extensions.{ext}
-use Rattle.cover_logic.specs.declared.cover.Cover.{Cover}
-use Rattle.netlist.specs.declared.parts.Parts.{Parts}
-use Rattle.netlist.specs.Netlists.{IsNetlist, signal, gate_at, gate_sig}
-use Rattle.netlist.specs.Fixpoint.{wire, fix, fix_gates}
-use Rattle.netlist.specs.Walks.{Feeds, Walk}
-use Rattle.loops.specs.Cuts.{Loops, AreLoopsOf, MayPass}
-use Rattle.loops.specs.Sweeps.{first_gate, gate_of, in_loop_of, value_in, pin_in, IsSweep, sweep, sweeps, cuts_of, CutsAreFixed}
+use Rattle.isolation.proofs.Common.{cases_lt, cases_eq, and_parts, get_or-map, get_or_default, get_or_append_left, get_or-append_right, get_or-replicate, length-map, length-append, map-map, range_with_len, Sig, Trit, X, ext, Cover, Parts, IsNetlist, signal, gate_at, gate_sig, wire, fix, fix_gates, Feeds, Loops, AreLoopsOf, first_gate, gate_of, value_in, sweeps, CutsAreFixed, same_within, leads-trans, origins, origin, inputs_in, IsExcerpt}
+use Rattle.std.proofs.lemmas.Bool.{leb-true, le-leb, lt-leb}
+use Rattle.std.specs.List.{AllByRecursion}
+use Rattle.netlist.specs.Walks.{Walk}
+use Rattle.loops.specs.Cuts.{MayPass}
+use Rattle.loops.specs.Sweeps.{in_loop_of, pin_in, IsSweep, sweep, cuts_of}
 use Rattle.loops.specs.Walks.{AnyGate, Leads, SameLoop}
 use Rattle.loops.proofs.Reading.{map_agree, Contains-filter_from}
-use Rattle.loops.proofs.Sweeps.{sweep_each, cut_values_agree, same_within}
+use Rattle.loops.proofs.Sweeps.{sweep_each, cut_values_agree}
 use Rattle.loops.proofs.Unique.{sweep_is_the_one}
-use Rattle.loops.proofs.Walks.{leads-trans, leads-any, on_walk, same_truth}
-use Rattle.isolation.specs.Excerpts.{origins, origin, inputs_in, IsExcerpt, AreWhole}
+use Rattle.loops.proofs.Walks.{leads-any, on_walk, same_truth}
+use Rattle.isolation.specs.Excerpts.{AreWhole}
 use Rattle.isolation.proofs.ExcerptLemmas.{first-small, pin-within, gate_wire}
 use Rattle.isolation.proofs.KeptLemmas.{fix-kept}
 

@@ -1,21 +1,10 @@
 -- Marks while gates are marked from the last block to the first.
 use Rattle.std.proofs.Common.{◌≡◌, inl, inr, ◌⊎◌, ℕ, zero, suc, ◌+◌, ◌-◌, ◌<◌, ◌≤◌, Bool, true, false, List, [], ◌∷◌, length, get_or, refl, sym, ap, ◌∙◌, subst, arith, Contains, true≢false}
 use Rattle.std.proofs.Math.ListN.{set}
-use Rattle.std.proofs.lemmas.Bool.{cases_lt, cases_eq}
-use Rattle.std.proofs.lemmas.List.{get_or_default, get_or-set_same, get_or-set_other, length-set}
-use Rattle.std.specs.List.{list_any}
-use Rattle.cyc_base.specs.declared.sig.Sig.{Sig}
-use Rattle.netlist.specs.declared.parts.Parts.{Parts}
-use Rattle.netlist.specs.Netlists.{IsNetlist, no_gate, gate_at, gate_sig}
-use Rattle.netlist.specs.Walks.{Feeds}
-use Rattle.loops.specs.declared.structure.Blocks.{Blocks}
-use Rattle.loops.specs.Blocks.{AreBlocksOf, block_at, home_of}
-use Rattle.loops.specs.Sweeps.{first_gate}
-use Rattle.loops.proofs.Told.{gate_home, home_gate}
+use Rattle.isolation.proofs.Common.{cases_lt, cases_eq, get_or_default, list_any, Sig, Parts, IsNetlist, no_gate, gate_at, gate_sig, Feeds, Blocks, AreBlocksOf, block_at, home_of, first_gate, gate_home, home_gate, gate_in, IsUpstream, AddMarks, IsNearOne, AreMarkedFrom}
+use Rattle.std.proofs.lemmas.List.{get_or-set_same, get_or-set_other, length-set}
 use Rattle.loops.proofs.Walks.{leads-step}
-use Rattle.isolation.specs.Excerpts.{gate_in}
-use Rattle.isolation.specs.Laws.{IsUpstream}
-use Rattle.isolation.specs.Cones.{is_marked, AreUpstreamMarks, AddMarks, IsOnPin, IsNear, IsNearOne, HasMark, IsWithMark, AreMarkedFrom}
+use Rattle.isolation.specs.Cones.{is_marked, AreUpstreamMarks, IsOnPin, IsNear, HasMark, IsWithMark}
 use Rattle.isolation.proofs.UpstreamLemmas.{upstream-trans, same-up, upstream-closed}
 
 -- nothing is marked for want of a gate of the kind

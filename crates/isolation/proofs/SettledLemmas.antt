@@ -1,25 +1,11 @@
 -- Loops that are settled by themselves, in the whole netlist.
 use Rattle.std.proofs.Common.{◌≡◌, ◌≢◌, inl, inr, ℕ, zero, suc, ◌<◌, Bool, true, false, List, length, map, get_or, refl, sym, ap, ◌∙◌, subst, arith, Contains, true≢false}
-use Rattle.std.proofs.lemmas.Bool.{cases_lt, cases_eq, cases_Bool}
-use Rattle.std.proofs.lemmas.List.{get_or-map, get_or_default, get_or_append_left, length-map}
-use Rattle.cyc_base.specs.declared.sig.Sig.{Sig}
-use Rattle.cyc_base.specs.declared.trit.Trit.TheVariants.{X}
-use Rattle.cyc_base.specs.Values.{bit, bits}
-use Rattle.cover_logic.specs.Extensions.{ext}
+use Rattle.isolation.proofs.Common.{cases_lt, cases_eq, cases_Bool, get_or-map, get_or_default, get_or_append_left, length-map, Sig, X, bit, bits, ext, Parts, IsNetlist, count, signal, no_gate, gate_at, gate_sig, wire, fix, fix_gates, Feeds, Blocks, AreBlocksOf, block_at, home_of, first_gate, gate_of, value_in, wire_of_gate, get_or-fix, leads-trans, gate_home, home_gate, gate_in, IsUpstream}
 use Rattle.cover_logic.specs.Covers.{value}
 use Rattle.cover_logic.proofs.ExtensionLemmas.{ext_at_bits}
-use Rattle.netlist.specs.declared.parts.Parts.{Parts}
-use Rattle.netlist.specs.Netlists.{IsNetlist, count, signal, no_gate, gate_at, gate_sig}
-use Rattle.netlist.specs.Fixpoint.{wire, fix, fix_gates}
-use Rattle.netlist.specs.Walks.{Feeds}
-use Rattle.loops.specs.declared.structure.Blocks.{Blocks}
-use Rattle.loops.specs.Blocks.{AreBlocksOf, block_at, home_of}
-use Rattle.loops.specs.Sweeps.{first_gate, gate_of, value_in}
-use Rattle.loops.proofs.Reading.{wire_of_gate, get_or-fix}
-use Rattle.loops.proofs.Walks.{leads-step, leads-trans}
-use Rattle.loops.proofs.Told.{gate_home, home_gate}
-use Rattle.isolation.specs.Excerpts.{gate_in, IsRead}
-use Rattle.isolation.specs.Laws.{IsLooped, IsUpstream, SettledWhere, SettledLoopsDetermine, UnsettledLoopsDecide}
+use Rattle.loops.proofs.Walks.{leads-step}
+use Rattle.isolation.specs.Excerpts.{IsRead}
+use Rattle.isolation.specs.Laws.{IsLooped, SettledWhere, SettledLoopsDetermine, UnsettledLoopsDecide}
 use Rattle.isolation.proofs.UpstreamLemmas.{upstream-trans, same-up}
 use Rattle.isolation.proofs.ExcerptLemmas.{known_list, bit-known, gates_known}
 

@@ -1,40 +1,21 @@
 -- What the solution of a small netlist on rails shows.
 use Rattle.std.proofs.Common.{◌≡◌, inl, inr, ℕ, zero, suc, ◌+◌, ◌-◌, ◌<◌, ◌≤◌, Bool, true, false, ◌&&◌, List, [], ◌∷◌, length, map, filter, get_or, Option, Some, None, Result, Ok, Err, IfOk, refl, sym, ap, ap₂, ◌∙◌, subst, arith, true≢false}
 use Rattle.std.proofs.Math.Path.{fun_ext}
-use Rattle.std.proofs.lemmas.Bool.{cases_Bool, and_parts}
-use Rattle.std.proofs.lemmas.List.{get_or-map, get_or-append_right, length-map, length-append}
-use Rattle.std.specs.Prelude.{IfSome}
-use Rattle.std.specs.List.{All, range_with_len}
-use Rattle.bdd_store.specs.declared.node.Node.{Node}
-use Rattle.bdd_store.specs.Arena.{Arena, den}
+use Rattle.isolation.proofs.Common.{cases_Bool, and_parts, get_or-map, get_or-append_right, length-map, length-append, IfSome, All, range_with_len, Node, Arena, den, Trit, X, bit, bits, Rails, value_of, values_of, Parts, IsNetlist, fix, fix_gates, Blocks, AreBlocksOf, block_at, home_of, Loops, AreLoopsOf, loops_of, first_gate, value_in, sweeps, CutsAreFixed, loops_exist, rails_under, Vectors, IsLoopNetlist, AreKnown, IsSolvedNetlist}
 use Rattle.bdd_ops.specs.Least.{by_variable}
-use Rattle.cyc_base.specs.declared.trit.Trit.{Trit}
-use Rattle.cyc_base.specs.declared.trit.Trit.TheVariants.{X}
-use Rattle.cyc_base.specs.Values.{bit, bits}
-use Rattle.dual_rail.specs.declared.rail.Rails.{Rails}
-use Rattle.dual_rail.specs.Rails.{value_of, values_of}
-use Rattle.netlist.specs.declared.parts.Parts.{Parts}
-use Rattle.netlist.specs.Netlists.{IsNetlist}
-use Rattle.netlist.specs.Fixpoint.{fix, fix_gates}
-use Rattle.loops.specs.declared.structure.Blocks.{Blocks}
 use Rattle.loops.specs.declared.structure.Cut.{Cut}
-use Rattle.loops.specs.Blocks.{AreBlocksOf, block_at, home_of}
-use Rattle.loops.specs.Cuts.{IsCutOf, Loops, AreLoopsOf, loops_by, in_one_loop, is_cut}
-use Rattle.loops.specs.Found.{loops_of}
-use Rattle.loops.specs.Sweeps.{first_gate, value_in, sweeps, CutsAreFixed}
-use Rattle.loops.proofs.Existence.{loops_exist}
+use Rattle.loops.specs.Cuts.{IsCutOf, loops_by, in_one_loop, is_cut}
 use Rattle.loops.proofs.Sweeps.{length-fix, fixed_cuts_give_fix}
 use Rattle.loops.proofs.Told.{blocks_tell_loops, told_parts}
 use Rattle.loops.proofs.Walks.{loops_are_unique}
 use Rattle.fixpoint.specs.declared.solved.Solved.{Solved}
 use Rattle.loops.specs.declared.structure.SweepCounts.{SweepCounts}
-use Rattle.fixpoint.specs.Kept.{rails_under, RootsStay}
+use Rattle.fixpoint.specs.Kept.{RootsStay}
 use Rattle.fixpoint.specs.Laws.{SolutionsStay}
-use Rattle.fixpoint.specs.Solved.{Vectors, IsSolution}
+use Rattle.fixpoint.specs.Solved.{IsSolution}
 use Rattle.fixpoint.specs.Counts.{CountSweeps, count_at}
 use Rattle.isolation.specs.Settled.{IsDetermined, SettleInSweeps}
-use Rattle.isolation.specs.Building.{IsLoopNetlist}
-use Rattle.isolation.specs.Settling.{AreKnown, IsSettledIn, IsSolvedNetlist}
+use Rattle.isolation.specs.Settling.{IsSettledIn}
 
 -- the loops that blocks and a cut tell are those of the netlist
 pub loops-are : (net : Parts) (blocks : Blocks) (cut : Cut) → AreBlocksOf net blocks → IsCutOf net cut → loops_by blocks cut ≡ loops_of net

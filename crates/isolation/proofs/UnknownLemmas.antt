@@ -1,33 +1,15 @@
 -- Rails that aren't known at all vectors, and the gates that they stand for.
 use Rattle.std.proofs.Common.{◌≡◌, ◌≢◌, inl, inr, ◌⊎◌, ℕ, zero, suc, ◌+◌, ◌-◌, ◌<◌, Bool, true, false, ◌||◌, ◌==◌, List, [], ◌∷◌, length, get_or, Option, Some, None, Result, Ok, Err, IfOk, refl, sym, ap, ◌∙◌, arith, true≢false}
-use Rattle.std.proofs.lemmas.Bool.{cases_lt, eq-eqb}
-use Rattle.std.proofs.lemmas.List.{get_or-map, get_or_default, get_or_append_left, get_or-append_right, length-map}
-use Rattle.std.specs.List.{All}
+use Rattle.isolation.proofs.Common.{cases_lt, eq-eqb, get_or-map, get_or_default, get_or_append_left, get_or-append_right, length-map, All, Node, Arena, den, KeepsNodes, IsLawful, Trit, X, bit, bits, Rails, AreRailsOf, value_of, values_of, Parts, fix, fix_gates, IsNetlist, Blocks, AreBlocksOf, block_at, first_gate, value_in, order, Vectors, rails_at, unknown, IsLoopNetlist, HasUnknownRails}
 use Rattle.std.specs.Prelude.{IfNone}
-use Rattle.bdd_store.specs.declared.node.Node.{Node}
-use Rattle.bdd_store.specs.Arena.{Arena, constant, den, IsNodeOf}
-use Rattle.bdd_store.specs.Growth.{KeepsNodes}
-use Rattle.bdd_store.specs.Soundness.{IsLawful}
+use Rattle.bdd_store.specs.Arena.{constant, IsNodeOf}
 use Rattle.bdd_ops.specs.Operations.{disjunction}
-use Rattle.cyc_base.specs.declared.trit.Trit.{Trit}
-use Rattle.cyc_base.specs.declared.trit.Trit.TheVariants.{X}
-use Rattle.cyc_base.specs.Values.{bit, bits}
-use Rattle.dual_rail.specs.declared.rail.Rails.{Rails}
-use Rattle.dual_rail.specs.Rails.{AreRailsOf, trit_of, value_of, values_of}
+use Rattle.dual_rail.specs.Rails.{trit_of}
 use Rattle.dual_rail.proofs.SurelyLemmas.{value_of-kept}
-use Rattle.netlist.specs.declared.parts.Parts.{Parts}
-use Rattle.netlist.specs.Fixpoint.{fix, fix_gates}
-use Rattle.netlist.specs.Netlists.{IsNetlist}
-use Rattle.loops.specs.declared.structure.Blocks.{Blocks}
-use Rattle.loops.specs.Blocks.{AreBlocksOf, block_at}
-use Rattle.loops.specs.Sweeps.{first_gate, value_in}
-use Rattle.fixpoint.specs.Orders.{laid, order}
-use Rattle.fixpoint.specs.Solved.{Vectors}
-use Rattle.fixpoint.specs.Sweeping.{rails_at, unknown}
+use Rattle.fixpoint.specs.Orders.{laid}
 use Rattle.fixpoint.proofs.LayoutLemmas.{by_column, length-by_column, variables-back}
 use Rattle.fixpoint.proofs.OrderLemmas.{order-is}
-use Rattle.isolation.specs.Building.{IsLoopNetlist}
-use Rattle.isolation.specs.Settling.{AreColumnVectors, HasUnknownRails, HasUnknownVector}
+use Rattle.isolation.specs.Settling.{AreColumnVectors, HasUnknownVector}
 use Rattle.isolation.specs.Unsettled.{AreUnsettled, HasUnknown, IsBelowEnough}
 use Rattle.isolation.proofs.WidthLemmas.{rails-size}
 

@@ -1,12 +1,8 @@
 -- Which gates lie upstream of others.
 use Rattle.std.proofs.Common.{◌≡◌, inl, inr, ℕ, ◌<◌, List, [], ◌∷◌, length, sym, subst}
-use Rattle.netlist.specs.declared.parts.Parts.{Parts}
-use Rattle.netlist.specs.Walks.{Feeds, Walk}
-use Rattle.loops.specs.declared.structure.Blocks.{Blocks}
-use Rattle.loops.specs.Blocks.{AreBlocksOf, home_of}
+use Rattle.isolation.proofs.Common.{Parts, Feeds, Blocks, AreBlocksOf, home_of, leads-trans, IsUpstream}
+use Rattle.netlist.specs.Walks.{Walk}
 use Rattle.loops.specs.Walks.{AnyGate, Leads}
-use Rattle.loops.proofs.Walks.{leads-trans}
-use Rattle.isolation.specs.Laws.{IsUpstream}
 
 pub upstream-trans : (net : Parts) (a b c : ℕ) → IsUpstream net a b → IsUpstream net b c → IsUpstream net a c
 upstream-trans net a b c (inl e) q = subst (λ (n : ℕ). IsUpstream net n c) (sym e) q

@@ -1,28 +1,25 @@
 -- The parts of an excerpt make a netlist.
 use Rattle.std.proofs.Common.{◌≡◌, ◌≢◌, inl, inr, ◌⊎◌, ℕ, ◌+◌, ◌-◌, ◌<◌, ◌≤◌, true, false, List, [], ◌∷◌, ◌++◌, length, map, get_or, eqb, Some, None, refl, sym, ap, ap₂, ◌∙◌, subst, arith, Contains, take, slice_get}
-use Rattle.std.proofs.lemmas.Bool.{cases_lt, eqb-true, ne_eqb}
+use Rattle.isolation.proofs.Common.{cases_lt, eqb-true, ext_get_or, get_or-map, get_or_default, get_or_append_left, get_or-append_right, length-map, length-append, map-append, All, list_any, Sig, Gate, Parts, IsNetlist, count, gate_at, gate_sig, no_gate, signal, first_gate, origins, origin, gate_in, IsExcerpt, AreClosed, AreCopies, name_at}
+use Rattle.std.proofs.lemmas.Bool.{ne_eqb}
 use Rattle.std.proofs.lemmas.Cmp.{nat_list_eq_equiv}
-use Rattle.std.proofs.lemmas.List.{ext_get_or, get_or-map, get_or_default, get_or_append_left, get_or-append_right, length-map, length-append, map-append, take_more}
+use Rattle.std.proofs.lemmas.List.{take_more}
 use Rattle.std.proofs.lemmas.Option.{get_or_from_slice_get}
 use Rattle.std.proofs.lemmas.Map.Keys.{apart_from_distinct, IsDistinct-from_apart}
 use Rattle.std.proofs.lemmas.Map.Steps.{length-le_from_distinct_below}
 use Rattle.std.proofs.lemmas.Map.Views.{Contains-from_any}
-use Rattle.std.specs.List.{All, IsDistinct, list_any}
+use Rattle.std.specs.List.{IsDistinct}
 use Rattle.std.specs.Str.{bytes_eq}
 use Rattle.cyc_base.specs.Names.{IsBlifName}
-use Rattle.cyc_base.specs.declared.sig.Sig.{Sig}
-use Rattle.netlist.specs.declared.parts.Gate.{Gate}
 use Rattle.netlist.specs.declared.parts.Latch.{Latch}
-use Rattle.netlist.specs.declared.parts.Parts.{Parts}
 use Rattle.netlist.specs.declared.parts.PartsFault.{PartsFault}
 use Rattle.netlist.specs.declared.parts.PartsFault.TheVariants.{Memory}
 use Rattle.netlist.specs.Faults.{first_fault}
 use Rattle.netlist.proofs.Validity.{no_fault_of_netlist}
-use Rattle.netlist.specs.Netlists.{IsNetlist, IsSignal, count, driven_names, gate_at, gate_sig, no_gate, sig_eq, signal, signal_names}
+use Rattle.netlist.specs.Netlists.{IsSignal, driven_names, sig_eq, signal_names}
 use Rattle.loops.specs.Placing.{Rise}
-use Rattle.loops.specs.Sweeps.{first_gate}
-use Rattle.isolation.specs.Excerpts.{origins, origin, gate_in, AreOnce, IsExcerpt}
-use Rattle.isolation.specs.Building.{AreApart, AreClosed, AreCopies, AreNumerable, IsNamedBy, name_at}
+use Rattle.isolation.specs.Excerpts.{AreOnce}
+use Rattle.isolation.specs.Building.{AreApart, AreNumerable, IsNamedBy}
 
 none-twice : IsDistinct sig_eq []
 unfolding IsDistinct

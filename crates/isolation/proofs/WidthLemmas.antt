@@ -2,59 +2,42 @@
 use Rattle.std.proofs.Common.{◌≡◌, inl, inr, ℕ, zero, suc, ◌+◌, ◌*◌, ◌<◌, ◌≤◌, Bool, true, false, ◌&&◌, ◌||◌, List, [], ◌∷◌, length, map, filter, get_or, Result, Err, refl, sym, ap, ap₂, ◌∙◌, subst, arith, Contains}
 use Rattle.std.proofs.Math.Path.{fun_ext}
 use Rattle.std.proofs.Math.Nat.{mul-le-mul_left, mul-le-mul_right}
-use Rattle.std.proofs.lemmas.Bool.{cases_Bool, and_parts}
-use Rattle.std.proofs.lemmas.List.{get_or-map, get_or_default, get_or-replicate, length-map, length-append}
+use Rattle.isolation.proofs.Common.{cases_Bool, and_parts, get_or-map, get_or_default, get_or-replicate, length-map, length-append, All, range_with_len, Node, Arena, den, AddsWithin, GrowsWithin, KeepsNodes, NoOtherCause, within_more, within_moved, Trit, X, bits, Rails, AreRailsOf, value_of, values_of, IsWide, Gate, Parts, fix, fix_gates, IsNetlist, count, gate_at, no_gate, Blocks, AreBlocksOf, block_at, AreLoopsOf, Loops, loops_of, first_gate, value_in, sweeps, loops_exist, same_within, rails_under, order, Vectors, rails_at, unknown, BoundsKnown, IsSolvedNetlist, IsLaid}
 use Rattle.std.proofs.lemmas.List.Elements.{All-contains}
 use Rattle.std.proofs.lemmas.List.Sums.{sum_by-cons, get_or-le-sum_by}
-use Rattle.std.specs.List.{All, range_with_len, sum_by}
-use Rattle.bdd_store.specs.declared.node.Node.{Node}
-use Rattle.bdd_store.specs.Arena.{Arena, den, empty}
+use Rattle.std.specs.List.{sum_by}
+use Rattle.bdd_store.specs.Arena.{empty}
 use Rattle.bdd_store.specs.declared.fault.StoreFault.{StoreFault}
 use Rattle.bdd_store.specs.declared.fault.StoreFault.TheVariants.{Full}
-use Rattle.bdd_store.specs.Growth.{AddsWithin, GrowsWithin, KeepsNodes, NoOtherCause}
-use Rattle.bdd_store.proofs.GrowthLemmas.{adds_then, adds_moved, within_more, within_moved}
+use Rattle.bdd_store.proofs.GrowthLemmas.{adds_then, adds_moved}
 use Rattle.bdd_store.specs.Subfunctions.{nodes}
 use Rattle.bdd_store.proofs.SubfunctionLemmas.{nodes-alike}
 use Rattle.bdd_ops.specs.Operations.{disjunction}
 use Rattle.cover_logic.specs.Covers.{value}
 use Rattle.cover_logic.specs.Extensions.{exact}
-use Rattle.cyc_base.specs.declared.trit.Trit.{Trit}
-use Rattle.cyc_base.specs.declared.trit.Trit.TheVariants.{X}
-use Rattle.cyc_base.specs.Values.{bits}
-use Rattle.dual_rail.specs.declared.rail.Rails.{Rails}
 use Rattle.dual_rail.specs.Local.{size}
-use Rattle.dual_rail.specs.Rails.{AreRailsOf, value_of, values_of}
-use Rattle.dual_rail.specs.WorkingLists.{IsWide, is_bit}
+use Rattle.dual_rail.specs.WorkingLists.{is_bit}
 use Rattle.dual_rail.proofs.WidthLemmas.{IsWide-fewer}
-use Rattle.netlist.specs.declared.parts.Gate.{Gate}
-use Rattle.netlist.specs.declared.parts.Parts.{Parts}
-use Rattle.netlist.specs.Fixpoint.{fix, fix_gates}
-use Rattle.netlist.specs.Netlists.{IsNetlist, count, gate_at, no_gate}
-use Rattle.loops.specs.declared.structure.Blocks.{Blocks}
 use Rattle.loops.specs.declared.structure.Cut.{Cut}
-use Rattle.loops.specs.Blocks.{AreBlocksOf, block_at}
-use Rattle.loops.specs.Cuts.{AreLoopsOf, IsCutOf, Loops, loops_by}
-use Rattle.loops.specs.Found.{loops_of}
-use Rattle.loops.specs.Sweeps.{first_gate, value_in, sweeps, cuts, cuts_of}
-use Rattle.loops.proofs.Existence.{loops_exist}
+use Rattle.loops.specs.Cuts.{IsCutOf, loops_by}
+use Rattle.loops.specs.Sweeps.{cuts, cuts_of}
 use Rattle.loops.proofs.Reading.{Contains-filter_from}
-use Rattle.loops.proofs.Sweeps.{length-fix, same-sym, same-trans, same_within}
+use Rattle.loops.proofs.Sweeps.{length-fix, same-sym, same-trans}
 use Rattle.loops.proofs.Walks.{same_truth}
 use Rattle.fixpoint.specs.declared.solved.SweptLoop.{SweptLoop}
 use Rattle.fixpoint.specs.declared.solved.Solved.{Solved}
 use Rattle.fixpoint.specs.Counts.{IsStepNode, IsComparedIn}
 use Rattle.fixpoint.specs.declared.kept.KeptRails.{KeptRails}
-use Rattle.fixpoint.specs.Kept.{rails_under, values_under}
-use Rattle.fixpoint.specs.Orders.{laid, order}
-use Rattle.fixpoint.specs.Solved.{AreStepsOf, AreKeptSteps, IsSolution, Vectors, step_at, loop_under}
-use Rattle.fixpoint.specs.Sweeping.{rails_at, unknown}
+use Rattle.fixpoint.specs.Kept.{values_under}
+use Rattle.fixpoint.specs.Orders.{laid}
+use Rattle.fixpoint.specs.Solved.{AreStepsOf, AreKeptSteps, IsSolution, step_at, loop_under}
 use Rattle.fixpoint.specs.Working.{HasLargeCover, IsGatePart, IsWorking, effort, read_at_fix, read_in_sweep}
 use Rattle.fixpoint.proofs.CutLemmas.{one-of, zero-of}
 use Rattle.fixpoint.proofs.WireLemmas.{rails_at-proper}
 use Rattle.fixpoint.proofs.WorkLemmas.{fix_is_working, sweeps_are_working, gate_parts_agree}
 use Rattle.isolation.specs.Columns.{AreColumns}
-use Rattle.isolation.specs.Settling.{AreColumnVectors, BoundsKnown, IsSolvedNetlist, settling_cost}
-use Rattle.isolation.specs.Unsettled.{IsBelowEnough, IsLaid, enough}
+use Rattle.isolation.specs.Settling.{AreColumnVectors, settling_cost}
+use Rattle.isolation.specs.Unsettled.{IsBelowEnough, enough}
 use Rattle.isolation.proofs.SettlingLemmas.{loops-are}
 
 -- ---- functions that are made of one of the list

@@ -1,13 +1,8 @@
 -- A literal that says whether two values aren't known and equal.
 use Rattle.std.proofs.Common.{◌≡◌, ℕ, ◌<◌, ◌+◌, ◌*◌, Bool, true, false, not, ◌&&◌, ◌||◌, List, [], ◌∷◌, ◌++◌, length, refl, sym, ap, subst, ◌∙◌, arith, length-append}
-use Rattle.cyc_base.specs.declared.trit.Trit.{Trit}
-use Rattle.cyc_base.specs.declared.trit.Trit.TheVariants.{Zero, One, X}
-use Rattle.ternary_clauses.specs.declared.formula.Formula.{Formula}
-use Rattle.ternary_clauses.specs.declared.formula.Rails.{Rails}
+use Rattle.ternary_clauses.proofs.Common.{Trit, Zero, One, X, Formula, Rails, negation, says, holds, IsModel, IsWhole, IsFormula, HasModelFrom, is_one, is_zero, is_known, Reads, AreWithin, AreRailsOf, value_read}
 use Rattle.ternary_clauses.specs.Apart.{SaysApart}
-use Rattle.ternary_clauses.specs.Formulas.{negation, says, holds, IsModel, IsWhole, IsFormula, HasModelFrom}
 use Rattle.ternary_clauses.specs.Nodes.{agreed, apart_clauses}
-use Rattle.ternary_clauses.specs.Rails.{is_one, is_zero, is_known, Reads, AreWithin, AreRailsOf, value_read}
 use Rattle.ternary_clauses.proofs.ClauseLemmas.{says-even, get_or-after, whole-append, whole-2}
 use Rattle.ternary_clauses.proofs.GrowthLemmas.{added-both, added-model, added-grows, model-kept}
 use Rattle.ternary_clauses.proofs.MoreLemmas.{negation-more}

@@ -1,16 +1,7 @@
 -- Column after column is added.
 use Rattle.std.proofs.Common.{◌≡◌, ℕ, zero, suc, ◌+◌, ◌*◌, Bool, false, List, [], ◌∷◌, ◌++◌, length, get_or, refl, sym, ap, subst, ◌∙◌, arith, append_assoc, length-append}
-use Rattle.std.proofs.lemmas.List.{length_push}
-use Rattle.std.proofs.lemmas.List.Elements.{All-nil, All-push}
-use Rattle.std.specs.List.{All}
-use Rattle.cyc_base.specs.declared.trit.Trit.{Trit}
-use Rattle.cyc_base.specs.Values.{bit, bits}
-use Rattle.ternary_clauses.specs.declared.formula.Formula.{Formula}
-use Rattle.ternary_clauses.specs.declared.formula.Rails.{Rails}
-use Rattle.ternary_clauses.specs.Formulas.{says, holds, IsModel, IsFormula, HasModelFrom}
-use Rattle.ternary_clauses.specs.Rails.{Reads, ReadsAll, AreWithin}
-use Rattle.ternary_clauses.specs.Nodes.{column_rails}
-use Rattle.ternary_clauses.specs.Columns.{vector_read, HasVector, SaysColumns}
+use Rattle.ternary_clauses.proofs.Common.{length_push, All-nil, All-push, All, Trit, bit, bits, Formula, Rails, says, holds, IsModel, IsFormula, HasModelFrom, Reads, ReadsAll, AreWithin, column_rails, SaysColumns}
+use Rattle.ternary_clauses.specs.Columns.{vector_read, HasVector}
 use Rattle.ternary_clauses.proofs.ClauseLemmas.{says-even, get_or-after}
 use Rattle.ternary_clauses.proofs.ReadingLemmas.{ReadsAll-more, All-within-more}
 use Rattle.ternary_clauses.proofs.BooleanLemmas.{Reads-column}

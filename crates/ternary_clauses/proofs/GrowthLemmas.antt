@@ -1,12 +1,6 @@
 -- Formulas that say more.
 use Rattle.std.proofs.Common.{◌≡◌, ℕ, ◌≤◌, Bool, true, ◌&&◌, List, [], ◌∷◌, ◌++◌, length, refl, sym, ap, ap₂, subst, ◌∙◌, arith, append_assoc}
-use Rattle.std.proofs.lemmas.Bool.{and_parts, and_from}
-use Rattle.std.specs.List.{All}
-use Rattle.ternary_clauses.specs.declared.formula.Formula.{Formula}
-use Rattle.ternary_clauses.specs.declared.formula.Rails.{Rails}
-use Rattle.ternary_clauses.specs.Formulas.{holds, IsModel, IsWhole, IsFormula, HasModelFrom, Grows}
-use Rattle.ternary_clauses.specs.Rails.{AreWithin, AreRailsOf}
-use Rattle.ternary_clauses.specs.Lifts.{IsLift, Extends}
+use Rattle.ternary_clauses.proofs.Common.{and_parts, and_from, All, Formula, Rails, holds, IsModel, IsWhole, IsFormula, HasModelFrom, Grows, AreWithin, AreRailsOf, IsLift, Extends}
 use Rattle.ternary_clauses.proofs.ClauseLemmas.{whole-append, whole-none}
 use Rattle.ternary_clauses.proofs.ReadingLemmas.{within-more, ReadsAll-more}
 

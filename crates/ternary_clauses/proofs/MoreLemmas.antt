@@ -1,9 +1,7 @@
 -- Values of further variables change no clause of a node.
 use Rattle.std.proofs.Common.{◌≡◌, ℕ, ◌<◌, ◌*◌, Bool, not, ◌&&◌, ◌||◌, List, ◌++◌, length, sym, ap, ◌∙◌}
-use Rattle.ternary_clauses.specs.declared.formula.Rails.{Rails}
-use Rattle.ternary_clauses.specs.Formulas.{negation, says, holds}
-use Rattle.ternary_clauses.specs.Rails.{AreWithin}
-use Rattle.ternary_clauses.specs.Nodes.{wire_clauses, rail_clauses, known_clauses, same_clauses, pick_clauses, node_clauses, equal_clauses}
+use Rattle.ternary_clauses.proofs.Common.{Rails, negation, says, holds, AreWithin, wire_clauses, rail_clauses, same_clauses, pick_clauses, node_clauses, equal_clauses}
+use Rattle.ternary_clauses.specs.Nodes.{known_clauses}
 use Rattle.ternary_clauses.proofs.ClauseLemmas.{says-negation, says-more}
 use Rattle.ternary_clauses.proofs.NodeCases.{rail_test, wire_test, known_test}
 use Rattle.ternary_clauses.proofs.NodeLemmas.{pick-parts, node-parts, equal-parts}

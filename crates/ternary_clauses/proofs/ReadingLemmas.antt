@@ -1,12 +1,7 @@
 -- What rails and lists of them are read as.
 use Rattle.std.proofs.Common.{◌≡◌, ℕ, zero, suc, ◌<◌, ◌≤◌, ◌+◌, ◌*◌, Bool, false, List, [], ◌∷◌, ◌++◌, length, get_or, refl, ap, ◌∙◌, arith}
-use Rattle.std.proofs.lemmas.List.Elements.{All-get_or, All-from_get_or}
-use Rattle.std.specs.List.{All}
-use Rattle.cyc_base.specs.declared.trit.Trit.{Trit}
-use Rattle.cyc_base.specs.declared.trit.Trit.TheVariants.{X}
-use Rattle.ternary_clauses.specs.declared.formula.Rails.{Rails}
-use Rattle.ternary_clauses.specs.Rails.{is_one, is_zero, is_known, Reads, ReadsAll, AreWithin, no_rails}
-use Rattle.ternary_clauses.specs.Nodes.{new_rails}
+use Rattle.ternary_clauses.proofs.Common.{All-get_or, All, Trit, X, Rails, is_one, is_zero, is_known, Reads, ReadsAll, AreWithin, no_rails, new_rails}
+use Rattle.std.proofs.lemmas.List.Elements.{All-from_get_or}
 use Rattle.ternary_clauses.proofs.ClauseLemmas.{says-more, says-even, get_or-after}
 
 -- ---- readings at further variables

@@ -1,14 +1,10 @@
 -- Literals that sum up others.
 use Rattle.std.proofs.Common.{◌≡◌, ◌⊎◌, inl, inr, ℕ, ◌<◌, ◌≤◌, ◌+◌, ◌*◌, Bool, true, false, not, ◌&&◌, ◌||◌, List, [], ◌∷◌, ◌++◌, length, take, get_or, refl, sym, ap, ◌∙◌, arith, length-append}
-use Rattle.std.proofs.lemmas.Bool.{cases_lt, and_parts, and_from}
-use Rattle.std.proofs.lemmas.List.{length_push, get_or_append_left, take-append-le}
-use Rattle.std.proofs.lemmas.List.Elements.{All-nil, All-push, All-weaker}
+use Rattle.ternary_clauses.proofs.Common.{cases_lt, and_parts, and_from, length_push, get_or_append_left, All-nil, All-push, All-weaker, list_any, Formula, says, negation, holds, IsModel, IsFormula, HasModelFrom, SaysAny}
+use Rattle.std.proofs.lemmas.List.{take-append-le}
 use Rattle.std.proofs.lemmas.List.Folds.{list_any-append}
 use Rattle.std.proofs.Math.Seq.{take-length}
-use Rattle.std.specs.List.{list_any}
-use Rattle.ternary_clauses.specs.declared.formula.Formula.{Formula}
-use Rattle.ternary_clauses.specs.Formulas.{says, negation, holds, IsModel, IsFormula, HasModelFrom}
-use Rattle.ternary_clauses.specs.Sums.{SaysOr, SaysAny}
+use Rattle.ternary_clauses.specs.Sums.{SaysOr}
 use Rattle.ternary_clauses.proofs.ClauseLemmas.{says-negation, says-more, says-even, get_or-after}
 use Rattle.ternary_clauses.proofs.GrowthLemmas.{Grows-refl, Grows-chain, model-here, model-after, model-kept}
 

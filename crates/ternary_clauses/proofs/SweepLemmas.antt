@@ -1,33 +1,25 @@
 -- The copies of a loop's gates after a sweep.
 use Rattle.std.proofs.Common.{◌≡◌, ◌⊎◌, inl, inr, ℕ, zero, suc, ◌<◌, ◌≤◌, ◌+◌, ◌==◌, leb, Bool, true, false, not, if◌then◌else◌, List, [], ◌∷◌, ◌++◌, length, map, take, get_or, Contains, refl, sym, ap, subst, ◌∙◌, arith, append_assoc, length-append}
-use Rattle.std.proofs.lemmas.Bool.{cases_lt, and_parts, and_from, leb-true, le-leb, eq-eqb, eqb-true}
-use Rattle.std.proofs.lemmas.List.{length-map, length_push, get_or_append_left, get_or_past, get_or_default, take_more}
+use Rattle.ternary_clauses.proofs.Common.{cases_lt, and_parts, and_from, length-map, length_push, get_or_append_left, All-nil, All-push, All-head, All-tail, All-get_or, All-weaker, All, AllZip, Sig, Trit, X, Gate, Parts, no_gate, gate_at, wire, is_cut, first_gate, gate_of, value_in, Formula, Rails, says, IsModel, IsFormula, HasModelFrom, Grows, Reads, ReadsAll, AreWithin, AreRailsOf, value_read, no_rails, new_rails, wire_clauses, AreCopies, IsSeen}
+use Rattle.std.proofs.lemmas.Bool.{leb-true, le-leb, eq-eqb, eqb-true}
+use Rattle.std.proofs.lemmas.List.{get_or_past, get_or_default, take_more}
 use Rattle.std.proofs.lemmas.List.FromFn.{get_or-map-range_with_len}
-use Rattle.std.proofs.lemmas.List.Elements.{All-nil, All-push, All-head, All-tail, All-get_or, All-weaker, Contains-get_or}
-use Rattle.std.specs.List.{All, AllZip, range_with_len}
-use Rattle.cyc_base.specs.declared.sig.Sig.{Sig}
-use Rattle.cyc_base.specs.declared.trit.Trit.{Trit}
-use Rattle.cyc_base.specs.declared.trit.Trit.TheVariants.{X}
-use Rattle.netlist.specs.declared.parts.Gate.{Gate}
-use Rattle.netlist.specs.declared.parts.Parts.{Parts}
-use Rattle.netlist.specs.Netlists.{no_gate, gate_at, IsNetlist}
-use Rattle.netlist.specs.Fixpoint.{wire, fix}
+use Rattle.std.proofs.lemmas.List.Elements.{Contains-get_or}
+use Rattle.std.specs.List.{range_with_len}
+use Rattle.netlist.specs.Netlists.{IsNetlist}
+use Rattle.netlist.specs.Fixpoint.{fix}
 use Rattle.loops.specs.declared.structure.Blocks.{Blocks}
 use Rattle.loops.specs.declared.structure.Cut.{Cut}
 use Rattle.loops.specs.Blocks.{AreBlocksOf, block_at, home_of}
-use Rattle.loops.specs.Cuts.{IsCutOf, is_cut, in_one_loop, loops_by}
+use Rattle.loops.specs.Cuts.{IsCutOf, in_one_loop, loops_by}
 use Rattle.loops.specs.Placing.{Rise}
-use Rattle.loops.specs.Sweeps.{first_gate, gate_of, in_loop_of, value_in, pin_in, gate_in, sweep}
+use Rattle.loops.specs.Sweeps.{in_loop_of, pin_in, gate_in, sweep}
 use Rattle.loops.proofs.OrderedSweeps.{sweep_of_one_loop}
 use Rattle.loops.proofs.OrderLemmas.{block_rises, block_within}
 use Rattle.loops.proofs.Sweeps.{sweep_each}
 use Rattle.loops.proofs.Told.{blocks_tell_loops, blocks_have_loops, gate_home}
-use Rattle.ternary_clauses.specs.declared.formula.Formula.{Formula}
-use Rattle.ternary_clauses.specs.declared.formula.Rails.{Rails}
-use Rattle.ternary_clauses.specs.Formulas.{says, IsModel, IsFormula, HasModelFrom, Grows}
-use Rattle.ternary_clauses.specs.Rails.{Reads, ReadsAll, AreWithin, AreRailsOf, value_read, no_rails, rails_at, unknown_rails}
-use Rattle.ternary_clauses.specs.Nodes.{new_rails, wire_clauses}
-use Rattle.ternary_clauses.specs.Sweeps.{ReadsPlaces, ReadsOutside, SaysSweep, HasCopies, AreCopies, IsSeen, ReadsSeen, value_seen, BindsCopy, AreCopied}
+use Rattle.ternary_clauses.specs.Rails.{rails_at, unknown_rails}
+use Rattle.ternary_clauses.specs.Sweeps.{ReadsPlaces, ReadsOutside, SaysSweep, HasCopies, ReadsSeen, value_seen, BindsCopy, AreCopied}
 use Rattle.ternary_clauses.proofs.ClauseLemmas.{get_or-after}
 use Rattle.ternary_clauses.proofs.NodeLemmas.{whole-wire, wire-read, wire-holds, Reads-unique}
 use Rattle.ternary_clauses.proofs.MoreLemmas.{wire-more}

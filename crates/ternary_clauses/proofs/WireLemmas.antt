@@ -1,21 +1,8 @@
 -- Rails for gate after gate.
 use Rattle.std.proofs.Common.{◌≡◌, ◌≢◌, ◌⊎◌, inl, inr, ℕ, ◌<◌, ◌≤◌, ◌+◌, Bool, true, false, List, [], ◌∷◌, ◌++◌, length, get_or, refl, sym, ap, subst, ◌∙◌, arith, append_assoc, length-append, true≢false}
-use Rattle.std.proofs.lemmas.Bool.{cases_lt}
-use Rattle.std.proofs.lemmas.List.{length_push, get_or_append_left}
-use Rattle.std.proofs.lemmas.List.Elements.{All-push}
-use Rattle.std.specs.List.{All}
-use Rattle.cyc_base.specs.declared.trit.Trit.{Trit}
-use Rattle.cyc_base.specs.declared.trit.Trit.TheVariants.{Zero, One, X}
-use Rattle.cyc_base.specs.Values.{bit}
-use Rattle.netlist.specs.declared.parts.Parts.{Parts}
-use Rattle.loops.specs.Sweeps.{first_gate, value_in}
-use Rattle.ternary_clauses.specs.declared.formula.Formula.{Formula}
-use Rattle.ternary_clauses.specs.declared.formula.Rails.{Rails}
-use Rattle.ternary_clauses.specs.Formulas.{holds, IsModel, IsFormula, HasModelFrom, Grows}
-use Rattle.ternary_clauses.specs.Rails.{is_one, Reads, AreWithin, AreRailsOf, no_rails}
-use Rattle.ternary_clauses.specs.Nodes.{new_rails, column_rails, wire_clauses}
-use Rattle.ternary_clauses.specs.Encoding.{is_marked, IsWanted, gate_rails}
-use Rattle.ternary_clauses.specs.Wires.{HasFirst, AreWires}
+use Rattle.ternary_clauses.proofs.Common.{cases_lt, length_push, get_or_append_left, All-push, All, Trit, Zero, One, X, bit, Parts, first_gate, value_in, Formula, Rails, holds, IsModel, IsFormula, HasModelFrom, Grows, is_one, Reads, AreWithin, AreRailsOf, no_rails, new_rails, column_rails, wire_clauses, is_marked, IsWanted, AreWires}
+use Rattle.ternary_clauses.specs.Encoding.{gate_rails}
+use Rattle.ternary_clauses.specs.Wires.{HasFirst}
 use Rattle.ternary_clauses.proofs.ClauseLemmas.{get_or-after}
 use Rattle.ternary_clauses.proofs.NodeLemmas.{whole-wire, wire-read, wire-holds, value-is}
 use Rattle.ternary_clauses.proofs.MoreLemmas.{wire-more}

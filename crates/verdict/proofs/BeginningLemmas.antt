@@ -1,17 +1,10 @@
 -- What is decided without the gates: initial states and the care set.
 use Rattle.std.proofs.Common.{◌≡◌, Bool, true, false, not, List, length, Option, Some, None, refl, sym, ap, ◌∙◌}
-use Rattle.std.specs.Prelude.{find, is_none, is_some, if◌then◌else◌}
-use Rattle.std.specs.Option.{option_map}
-use Rattle.cyc_base.specs.Vectors.{vectors}
-use Rattle.netlist.specs.declared.parts.Parts.{Parts}
-use Rattle.care_sets.specs.Care.{CareSet, columns, is_in_invariant, is_care_vector}
-use Rattle.refusals.specs.declared.observe.Observe.{Observe}
-use Rattle.refusals.specs.declared.refusal.Refusal.{Refusal}
-use Rattle.refusals.specs.declared.refusal.Refusal.TheVariants.{Initial, EmptyCare}
-use Rattle.refusals.specs.Refusals.{is_initial, care_vectors, is_empty, initial_refusal, refusal}
-use Rattle.refusals.proofs.FirstLemmas.{find-filter, empty-filter}
+use Rattle.verdict.proofs.Common.{find, is_none, is_some, option_map, vectors, Parts, CareSet, columns, is_in_invariant, is_care_vector, Observe, Refusal, Initial, EmptyCare, care_vectors, initial_refusal, refusal, empty-filter, MayGoOn}
+use Rattle.std.specs.Prelude.{if◌then◌else◌}
+use Rattle.refusals.specs.Refusals.{is_initial, is_empty}
+use Rattle.refusals.proofs.FirstLemmas.{find-filter}
 use Rattle.clause_decision.specs.Tests.{is_outside}
-use Rattle.verdict.specs.Scopes.{MayGoOn}
 use Rattle.verdict.proofs.VerdictLemmas.{refused-initial, refused-empty}
 
 -- the refusal is that of the first permitted state outside the invariant

@@ -1,17 +1,11 @@
 -- Marks while gates behind others are marked, from the first block to the last.
 use Rattle.std.proofs.Common.{◌≡◌, ◌⊎◌, inl, inr, ℕ, ◌+◌, ◌<◌, ◌≤◌, Bool, true, List, [], ◌∷◌, length, get_or, sym, ◌∙◌, subst, arith, Contains}
-use Rattle.std.proofs.lemmas.Bool.{cases_lt}
-use Rattle.cyc_base.specs.declared.sig.Sig.{Sig}
-use Rattle.netlist.specs.declared.parts.Parts.{Parts}
-use Rattle.netlist.specs.Walks.{Feeds, Walk}
-use Rattle.loops.specs.declared.structure.Blocks.{Blocks}
-use Rattle.loops.specs.Blocks.{AreBlocksOf, block_at, home_of}
-use Rattle.loops.proofs.Told.{gate_home, home_gate}
+use Rattle.verdict.proofs.Common.{cases_lt, Sig, Parts, Feeds, Blocks, AreBlocksOf, block_at, home_of, gate_home, home_gate, AddMarks, is_marked, AreDownstreamMarks}
+use Rattle.netlist.specs.Walks.{Walk}
 use Rattle.loops.proofs.Walks.{leads-step}
-use Rattle.isolation.specs.Cones.{AddMarks, is_marked}
 use Rattle.isolation.specs.Laws.{IsUpstream}
 use Rattle.isolation.proofs.UpstreamLemmas.{same-up, upstream-trans}
-use Rattle.verdict.specs.Behind.{LeadsFromMark, AreDownstreamMarks, HasMarkedDriver, ReadsMark, IsReached, AreMarkedBefore}
+use Rattle.verdict.specs.Behind.{LeadsFromMark, HasMarkedDriver, ReadsMark, IsReached, AreMarkedBefore}
 
 -- ---- what holds of the gates and pins that were passed
 

@@ -1,31 +1,15 @@
 -- Care models on rails.
 use Rattle.std.proofs.Common.{◌≡◌, ℕ, ◌-◌, ◌<◌, Bool, true, false, List, [], length, map, get_or, Option, Some, None, refl, sym, ap, ap₂, ◌∙◌, subst, arith}
 use Rattle.std.specs.Prelude.{IfSome}
-use Rattle.std.specs.Option.{option_map, option_map_or}
-use Rattle.std.proofs.lemmas.List.{get_or-map, length-map}
+use Rattle.verdict.proofs.Common.{option_map, option_map_or, get_or-map, length-map, Arena, den, Sig, Trit, X, bit, bits, Rails, AreRailsOf, trit_of, value_of, values_of, BoundsEach, Parts, wire, fix, IsNetlist, count, map_agree, CareModel, is_one, holds_at, rails_at, rails_at-proper, read_by, IsOfModel, model_of, ReadsWithin}
 use Rattle.std.proofs.Math.Path.{fun_ext}
 use Rattle.std.proofs.lemmas.List.Elements.{All-map}
 use Rattle.std.proofs.lemmas.Option.{same_Some}
 use Rattle.std.specs.List.{All, slice_index_or}
-use Rattle.bdd_store.specs.Arena.{Arena, den}
-use Rattle.cyc_base.specs.declared.sig.Sig.{Sig}
-use Rattle.cyc_base.specs.declared.trit.Trit.{Trit}
-use Rattle.cyc_base.specs.declared.trit.Trit.TheVariants.{X}
-use Rattle.cyc_base.specs.Values.{bit, bits}
-use Rattle.dual_rail.specs.declared.rail.Rails.{Rails}
-use Rattle.dual_rail.specs.Rails.{AreRailsOf, trit_of, value_of, values_of}
-use Rattle.dual_rail.specs.WorkingLists.{BoundsEach}
-use Rattle.netlist.specs.declared.parts.Parts.{Parts}
-use Rattle.netlist.specs.Fixpoint.{wire, fix}
-use Rattle.netlist.specs.Netlists.{IsNetlist, count}
-use Rattle.loops.proofs.Reading.{map_agree}
-use Rattle.care_sets.specs.declared.model.CareModel.{CareModel}
-use Rattle.care_sets.specs.Care.{is_one, inputs_at, holds_at}
-use Rattle.fixpoint.specs.Sweeping.{unknown, rails_at}
+use Rattle.care_sets.specs.Care.{inputs_at}
+use Rattle.fixpoint.specs.Sweeping.{unknown}
 use Rattle.fixpoint.specs.Working.{no_loops, IsGatePart}
-use Rattle.fixpoint.proofs.WireLemmas.{rails_at-proper, map-map}
-use Rattle.verdict.specs.Enough.{read_by, IsOfModel}
-use Rattle.verdict.specs.Sets.{model_of, ReadsWithin}
+use Rattle.fixpoint.proofs.WireLemmas.{map-map}
 
 -- the first rail says where a value is 1
 pub one_rail : (a : Arena) (r : Rails) (v : List Bool) → den a r.one v ≡ is_one (value_of a r v)

@@ -1,17 +1,10 @@
 -- Why a decision finds the diagrams full.
 use Rattle.std.proofs.Common.{◌≡◌, inl, inr, ◌≤◌, ℕ, Err, Result, length, subst, ◌∙◌, arith}
-use Rattle.bdd_store.specs.declared.fault.StoreFault.{StoreFault}
+use Rattle.verdict.proofs.Common.{StoreFault, Arena, AddsWithin, adds_more, IsWide, Parts, CareSet, columns, decision_cost, IsLaid, IsFullFor}
 use Rattle.bdd_store.specs.declared.fault.StoreFault.TheVariants.{Full}
-use Rattle.bdd_store.specs.Arena.{Arena}
-use Rattle.bdd_store.specs.Growth.{AddsWithin}
-use Rattle.bdd_store.proofs.GrowthLemmas.{adds_more}
-use Rattle.dual_rail.specs.WorkingLists.{IsWide}
 use Rattle.dual_rail.proofs.WidthLemmas.{IsWide-some}
-use Rattle.netlist.specs.declared.parts.Parts.{Parts}
-use Rattle.care_sets.specs.Care.{CareSet, columns}
 use Rattle.verdict.specs.Causes.{HasCoverOver, IsStoreFor, IsOutOfNodes}
-use Rattle.verdict.specs.Costs.{decision_cost}
-use Rattle.verdict.specs.Enough.{IsLaid, IsFullFor, IsBelowEnough}
+use Rattle.verdict.specs.Enough.{IsBelowEnough}
 use Rattle.verdict.proofs.EnoughLemmas.{costs-enough, over-net, over-model}
 
 -- after so many functions of the decision

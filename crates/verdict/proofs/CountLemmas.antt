@@ -1,34 +1,14 @@
 -- Numbers of sweeps on the vectors of a care set.
 use Rattle.std.proofs.Common.{◌≡◌, ◌==◌, ℕ, zero, suc, ◌<◌, ◌≤◌, Bool, true, false, not, ◌&&◌, if◌then◌else◌, List, [], ◌∷◌, length, map, get_or, slice_get, Option, Some, None, refl, sym, ap, ap₂, ◌∙◌, subst, arith}
-use Rattle.std.specs.List.{list_all}
-use Rattle.std.specs.Option.{option_map_or}
-use Rattle.std.proofs.lemmas.Bool.{and_parts, and_from, eqb-true, eq-eqb}
-use Rattle.std.proofs.lemmas.List.{length-map}
-use Rattle.bdd_store.specs.declared.node.Node.{Node}
+use Rattle.verdict.proofs.Common.{list_all, option_map_or, and_parts, and_from, eqb-true, length-map, Node, Arena, den, IsLayout, Trit, X, bit, bits, Rails, trit_of, value_of, values_of, Parts, Loops, IsCountOfSweeps, map_agree, CareSet, columns, is_one, is_care_vector, is_x, Tells, AreColumnVectors, AreColumns, order, laid, by_column, length-by_column, variables-back, order-is, Vectors, are_care_values}
+use Rattle.std.proofs.lemmas.Bool.{eq-eqb}
 use Rattle.bdd_store.specs.declared.node.Entry.{Entry}
-use Rattle.bdd_store.specs.Arena.{Arena, index, is_marked, flipped, chosen, den, den_within}
+use Rattle.bdd_store.specs.Arena.{index, is_marked, flipped, chosen, den_within}
 use Rattle.bdd_store.specs.Soundness.{IsSound}
-use Rattle.bdd_ops.specs.Least.{IsLayout}
-use Rattle.cyc_base.specs.declared.trit.Trit.{Trit}
-use Rattle.cyc_base.specs.declared.trit.Trit.TheVariants.{Zero, One, X}
-use Rattle.cyc_base.specs.Values.{bit, bits}
-use Rattle.dual_rail.specs.declared.rail.Rails.{Rails}
-use Rattle.dual_rail.specs.Rails.{trit_of, value_of, values_of}
-use Rattle.netlist.specs.declared.parts.Parts.{Parts}
-use Rattle.loops.specs.Cuts.{Loops}
-use Rattle.loops.specs.Sweeps.{CutsAreFixed, IsCountOfSweeps}
-use Rattle.loops.proofs.Reading.{map_agree}
-use Rattle.care_sets.specs.Care.{CareSet, columns, is_one, is_care_vector}
-use Rattle.refusals.specs.Refusals.{is_x}
+use Rattle.cyc_base.specs.declared.trit.Trit.TheVariants.{Zero, One}
+use Rattle.loops.specs.Sweeps.{CutsAreFixed}
 use Rattle.refusals.proofs.RefusalLemmas.{bits_back, length-bits}
-use Rattle.verdict.specs.Sets.{Tells}
-use Rattle.verdict.specs.Solving.{AreColumnVectors, fit}
-use Rattle.isolation.specs.Columns.{AreColumns}
-use Rattle.fixpoint.specs.Orders.{order, laid}
-use Rattle.fixpoint.proofs.LayoutLemmas.{by_column, length-by_column, variables-back}
-use Rattle.fixpoint.proofs.OrderLemmas.{order-is}
-use Rattle.fixpoint.specs.Solved.{Vectors}
-use Rattle.verdict.specs.Verdicts.{are_care_values}
+use Rattle.verdict.specs.Solving.{fit}
 
 -- ---- lists of any length
 

@@ -1,38 +1,13 @@
 -- Functions that are made of those of a decision.
 use Rattle.std.proofs.Common.{◌≡◌, inl, inr, ℕ, ◌<◌, ◌≤◌, Bool, true, false, not, ◌&&◌, List, length, refl, sym, ap, ap₂, subst, ◌∙◌, arith}
-use Rattle.std.proofs.lemmas.List.{get_or-map}
-use Rattle.bdd_store.specs.declared.node.Node.{Node}
-use Rattle.bdd_store.specs.Arena.{Arena, den}
-use Rattle.bdd_store.specs.Growth.{KeepsNodes}
-use Rattle.bdd_store.specs.Subfunctions.{nodes}
-use Rattle.bdd_store.proofs.SubfunctionLemmas.{nodes-alike}
+use Rattle.verdict.proofs.Common.{get_or-map, Node, Arena, den, KeepsNodes, nodes, nodes-alike, Trit, X, bit, bits, Rails, AreRailsOf, value_of, IsWide, is_bit, Parts, fix, count, value_in, order, laid, rails_at, IsWorking, one-of, zero-of, by_column, length-by_column, variables-back, order-is, rails_at-proper, CareSet, columns, is_care_vector, is_x, IsLaid, SaysCare, BoundsSignals, Tells, AreFixed, BoundsStarts, starts, has_state_inside, difference}
 use Rattle.bdd_ops.specs.Operations.{bit_at}
-use Rattle.cyc_base.specs.declared.trit.Trit.{Trit}
-use Rattle.cyc_base.specs.declared.trit.Trit.TheVariants.{X}
-use Rattle.cyc_base.specs.Values.{bit, bits}
-use Rattle.dual_rail.specs.declared.rail.Rails.{Rails}
-use Rattle.dual_rail.specs.Rails.{AreRailsOf, value_of}
-use Rattle.dual_rail.specs.WorkingLists.{IsWide, is_bit}
-use Rattle.netlist.specs.declared.parts.Parts.{Parts}
-use Rattle.netlist.specs.Fixpoint.{fix}
-use Rattle.netlist.specs.Netlists.{count}
 use Rattle.loops.specs.Found.{loops_of}
-use Rattle.loops.specs.Sweeps.{value_in}
 use Rattle.loops.proofs.Existence.{loops_exist}
-use Rattle.fixpoint.specs.Orders.{order, laid}
-use Rattle.fixpoint.specs.Sweeping.{rails_at}
-use Rattle.fixpoint.specs.Working.{IsWorking}
-use Rattle.fixpoint.proofs.CutLemmas.{one-of, zero-of}
-use Rattle.fixpoint.proofs.LayoutLemmas.{by_column, length-by_column, columns-back, variables-back}
-use Rattle.fixpoint.proofs.OrderLemmas.{order-is}
-use Rattle.fixpoint.proofs.WireLemmas.{rails_at-proper}
+use Rattle.fixpoint.proofs.LayoutLemmas.{columns-back}
 use Rattle.fixpoint.proofs.WorkLemmas.{fix_is_working, gate_parts_agree}
-use Rattle.care_sets.specs.Care.{CareSet, columns, is_care_vector}
-use Rattle.refusals.specs.Refusals.{is_x}
 use Rattle.refusals.proofs.RefusalLemmas.{length-bits}
-use Rattle.verdict.specs.Enough.{IsOfDecision, IsLaid, IsColumn, SaysStart, SaysInside, SaysCare, IsOfNetlist}
-use Rattle.verdict.specs.Next.{BoundsSignals}
-use Rattle.verdict.specs.Sets.{Tells, AreFixed, BoundsStarts, starts, has_state_inside, difference}
+use Rattle.verdict.specs.Enough.{IsOfDecision, IsColumn, SaysStart, SaysInside, IsOfNetlist}
 use Rattle.verdict.proofs.CareLemmas.{value_at-place}
 use Rattle.verdict.specs.Solving.{fit}
 use Rattle.verdict.proofs.CountLemmas.{length-fit, fit-whole}

@@ -1,48 +1,21 @@
 -- Netlists whose gates are all determined on care.
 use Rattle.std.proofs.Common.{◌≡◌, ◌≢◌, inl, inr, ℕ, ◌+◌, ◌<◌, Bool, true, false, not, ◌&&◌, ◌==◌, if◌then◌else◌, List, [], ◌∷◌, ◌++◌, length, map, get_or, Option, Some, None, refl, sym, ap, ap₂, ◌∙◌, subst, arith, true≢false, Contains}
-use Rattle.std.specs.Prelude.{find, is_none, is_some}
-use Rattle.std.specs.List.{list_all}
-use Rattle.std.specs.Option.{option_map_or, option_map, option_or}
-use Rattle.std.proofs.lemmas.Bool.{and_parts, eqb-true, cases_lt}
-use Rattle.std.proofs.lemmas.List.{get_or_append_left, get_or_push, length_push, get_or-map, get_or_default, get_or_past, length-map}
-use Rattle.cyc_base.specs.declared.sig.Sig.{Sig}
-use Rattle.cyc_base.specs.declared.trit.Trit.{Trit}
-use Rattle.cyc_base.specs.declared.trit.Trit.TheVariants.{X}
-use Rattle.cyc_base.specs.Values.{bit, bits}
-use Rattle.cyc_base.specs.Vectors.{vectors}
-use Rattle.netlist.specs.declared.parts.Parts.{Parts}
-use Rattle.netlist.specs.Netlists.{IsNetlist, gate_sig}
-use Rattle.netlist.specs.Fixpoint.{fix_gates}
-use Rattle.netlist.specs.Walks.{Feeds}
-use Rattle.loops.specs.declared.structure.Blocks.{Blocks}
-use Rattle.loops.specs.declared.structure.Cut.{Cut}
+use Rattle.verdict.proofs.Common.{find, is_none, is_some, list_all, option_map_or, option_map, option_or, and_parts, eqb-true, cases_lt, get_or_append_left, length_push, get_or-map, get_or_default, get_or_past, length-map, Sig, Trit, X, bit, bits, vectors, Parts, IsNetlist, gate_sig, fix_gates, Feeds, Blocks, Cut, AreBlocksOf, block_at, home_of, IsCutOf, Loops, loops_by, value_in, IsCountOfSweeps, gate_home, home_gate, unsettled_loops_decide, is_marked, CareSet, columns, is_one, is_care_vector, holds_at, IsCareVector, CareModel, Refusal, EmptyCare, Leaves, Observe, gate_sigs, observed, is_x, is_undetermined, care_vectors, next_state, leaves, undetermined_refusal, empty-filter, found_wide, nothing_passes, gate_wire, length-fix_gates, care_vector_decides, care_vector_is, AreCountsBelow, SettleInOneSweep, IsLeastCount, AreCountsAt, AreMarksOf, are_care_values, AreLoose}
+use Rattle.std.proofs.lemmas.List.{get_or_push}
 use Rattle.loops.specs.declared.structure.SweepCounts.{SweepCounts}
-use Rattle.loops.specs.Blocks.{AreBlocksOf, block_at, home_of}
-use Rattle.loops.specs.Cuts.{IsCutOf, Loops, loops_by}
-use Rattle.loops.specs.Sweeps.{value_in, CutsAreFixed, IsCountOfSweeps}
-use Rattle.loops.proofs.Told.{blocks_tell_loops, gate_home, home_gate}
+use Rattle.loops.specs.Sweeps.{CutsAreFixed}
+use Rattle.loops.proofs.Told.{blocks_tell_loops}
 use Rattle.isolation.specs.Laws.{IsLooped, SettledWhere, AreDeterminedAt}
 use Rattle.isolation.specs.Settled.{SettleInSweeps}
 use Rattle.isolation.proofs.CountLemmas.{one_sweep_is_exact}
-use Rattle.isolation.proofs.SettledLemmas.{unsettled_loops_decide}
-use Rattle.isolation.specs.Cones.{is_marked}
-use Rattle.care_sets.specs.Care.{CareSet, columns, is_one, is_care_vector, holds_at, IsCareVector}
-use Rattle.care_sets.specs.declared.model.CareModel.{CareModel}
-use Rattle.refusals.specs.declared.refusal.Refusal.{Refusal}
-use Rattle.refusals.specs.declared.refusal.Refusal.TheVariants.{EmptyCare, Leaves}
-use Rattle.refusals.specs.declared.observe.Observe.{Observe}
-use Rattle.refusals.specs.Acceptance.{SomeCareVector, gate_sigs, observed}
-use Rattle.refusals.specs.Refusals.{is_empty, is_x, is_among, is_undetermined, care_vectors, next_state, leaves, empty_refusal, undetermined_refusal}
-use Rattle.refusals.proofs.FirstLemmas.{empty-filter, found_passes, found_wide, nothing_passes}
-use Rattle.refusals.proofs.RefusalLemmas.{bit_known, fails_after, find_none-all, gate_sig_at, gate_wire, known-is_x, length-fix_gates, length-gate_sigs}
-use Rattle.refusals.proofs.ShowingLemmas.{care_vector_decides, care_vector_is}
-use Rattle.verdict.specs.Determination.{count_of, number_of, AreCountsBelow, AreDecided, AreDeterminedOnCare, IsDetermination, IsGate, IsOpen, SettleInOneSweep}
-use Rattle.clause_decision.specs.Sweeping.{IsLeastCount}
-use Rattle.verdict.specs.Scopes.{AreCountsAt, IsCountAt}
+use Rattle.refusals.specs.Acceptance.{SomeCareVector}
+use Rattle.refusals.specs.Refusals.{is_empty, is_among, empty_refusal}
+use Rattle.refusals.proofs.FirstLemmas.{found_passes}
+use Rattle.refusals.proofs.RefusalLemmas.{bit_known, fails_after, find_none-all, gate_sig_at, known-is_x, length-gate_sigs}
+use Rattle.verdict.specs.Determination.{count_of, number_of, AreDecided, AreDeterminedOnCare, IsDetermination, IsGate, IsOpen}
+use Rattle.verdict.specs.Scopes.{IsCountAt}
 use Rattle.verdict.specs.Laws.{DeterminationsAccept, NothingLeaves}
-use Rattle.verdict.specs.Observed.{AreMarksOf}
 use Rattle.verdict.specs.Standing.{AreStanding}
-use Rattle.verdict.specs.Verdicts.{are_care_values, AreLoose}
 use Rattle.verdict.proofs.CountLemmas.{known-bits, care-values}
 use Rattle.verdict.proofs.PartLemmas.{IsKnownOnCare, loose-none, undetermined-none}
 use Rattle.verdict.proofs.VerdictLemmas.{accepts-is, refused-later}

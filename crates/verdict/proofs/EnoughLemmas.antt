@@ -1,21 +1,13 @@
 -- What a decision costs, added up, and covers over the limit.
 use Rattle.std.proofs.Common.{inl, inr, ℕ, ◌+◌, ◌*◌, ◌<◌, ◌≤◌, List, [], ◌∷◌, Option, Some, None, length, arith}
-use Rattle.std.specs.Prelude.{IsSomeAnd}
+use Rattle.verdict.proofs.Common.{IsSomeAnd, option_map_or, IsWide, Parts, HasLargeCover, effort, CareModel, CareSet, columns, HasModelOver, assume_effort, invariant_effort, decision_cost, IsLaid}
 use Rattle.std.specs.List.{sum_by}
-use Rattle.std.specs.Option.{option_map_or}
 use Rattle.std.proofs.lemmas.List.Sums.{sum_by-cons, get_or-le-sum_by}
 use Rattle.std.proofs.Math.Nat.{mul-le-mul_left, mul-le-mul_right}
 use Rattle.dual_rail.specs.Local.{size}
-use Rattle.dual_rail.specs.WorkingLists.{IsWide}
 use Rattle.netlist.specs.declared.parts.Gate.{Gate}
-use Rattle.netlist.specs.declared.parts.Parts.{Parts}
 use Rattle.netlist.specs.Netlists.{no_gate}
-use Rattle.fixpoint.specs.Working.{HasLargeCover, effort}
-use Rattle.care_sets.specs.declared.model.CareModel.{CareModel}
-use Rattle.care_sets.specs.Care.{CareSet, columns}
-use Rattle.verdict.specs.Causes.{HasModelOver}
-use Rattle.verdict.specs.Costs.{assume_effort, invariant_effort, decision_cost}
-use Rattle.verdict.specs.Enough.{IsLaid, enough}
+use Rattle.verdict.specs.Enough.{enough}
 
 -- ---- the sum
 

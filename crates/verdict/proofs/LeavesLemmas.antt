@@ -1,38 +1,18 @@
 -- The invariant on the next state, as a function of the decision.
 use Rattle.std.proofs.Common.{◌≡◌, inl, inr, ℕ, ◌-◌, ◌≤◌, Bool, true, false, not, ◌&&◌, if◌then◌else◌, List, [], ◌∷◌, length, map, get_or, Option, Some, None, refl, sym, ap, ◌∙◌, arith}
 use Rattle.std.specs.Prelude.{replicate}
-use Rattle.std.specs.Option.{option_map_or}
-use Rattle.std.proofs.lemmas.Bool.{cases_lt}
-use Rattle.std.proofs.lemmas.List.{get_or-map, get_or_past, get_or_append_left, length-map}
-use Rattle.bdd_store.specs.declared.node.Node.{Node}
-use Rattle.bdd_store.specs.Arena.{Arena, den}
-use Rattle.bdd_store.specs.Subfunctions.{nodes}
-use Rattle.cyc_base.specs.declared.sig.Sig.{Sig}
-use Rattle.cyc_base.specs.declared.trit.Trit.{Trit}
-use Rattle.cyc_base.specs.declared.trit.Trit.TheVariants.{Zero, One, X}
-use Rattle.cyc_base.specs.Values.{bit, bits}
-use Rattle.dual_rail.specs.WorkingLists.{IsWide, is_bit}
+use Rattle.verdict.proofs.Common.{option_map_or, cases_lt, get_or-map, get_or_past, get_or_append_left, length-map, Node, Arena, den, nodes, Sig, Trit, X, bit, bits, IsWide, is_bit, Latch, Parts, wire, fix, fix_gates, next, IsNetlist, value_in, map_agree, laid, CareModel, IsCareOf, CareSet, columns, is_one, holds_at, is_in_invariant, is_care_vector, next_state, length-fix_gates, care_vector_decides, read_by, IsOfModel, IsLaid, SaysCare, next_within, Tells, difference}
+use Rattle.cyc_base.specs.declared.trit.Trit.TheVariants.{Zero, One}
 use Rattle.netlist.specs.declared.parts.Init.TheVariants as inits
-use Rattle.netlist.specs.declared.parts.Latch.{Latch}
-use Rattle.netlist.specs.declared.parts.Parts.{Parts}
-use Rattle.netlist.specs.Fixpoint.{wire, fix, fix_gates, next, outs}
-use Rattle.netlist.specs.Netlists.{IsNetlist}
-use Rattle.loops.specs.Sweeps.{value_in}
-use Rattle.loops.proofs.Reading.{get_or-fix, map_agree, wire_of_gate}
-use Rattle.fixpoint.specs.Orders.{laid}
+use Rattle.netlist.specs.Fixpoint.{outs}
+use Rattle.loops.proofs.Reading.{get_or-fix, wire_of_gate}
 use Rattle.fixpoint.specs.Working.{read_at_fix}
 use Rattle.fixpoint.proofs.WireLemmas.{map-map}
-use Rattle.care_sets.specs.declared.model.CareModel.{CareModel}
-use Rattle.care_sets.specs.Binding.{IsCareOf}
-use Rattle.care_sets.specs.Care.{CareSet, columns, is_one, inputs_at, holds_at, is_in_invariant, is_care_vector, HasValues}
+use Rattle.care_sets.specs.Care.{inputs_at, HasValues}
 use Rattle.care_sets.proofs.CareLemmas.{states_serve_invariant}
-use Rattle.refusals.specs.Refusals.{next_state}
-use Rattle.refusals.proofs.RefusalLemmas.{next_state_is, length-fix_gates, length-next_state}
-use Rattle.refusals.proofs.ShowingLemmas.{care_vector_decides}
-use Rattle.verdict.specs.Enough.{read_by, IsOfModel, IsLaid, SaysCare, IsOfNext}
+use Rattle.refusals.proofs.RefusalLemmas.{next_state_is, length-next_state}
+use Rattle.verdict.specs.Enough.{IsOfNext}
 use Rattle.clause_decision.specs.Loads.{LoadsAreKnown}
-use Rattle.verdict.specs.Next.{next_within}
-use Rattle.verdict.specs.Sets.{Tells, difference}
 use Rattle.verdict.proofs.CareLemmas.{model_is}
 use Rattle.verdict.proofs.DecisionLemmas.{IsMadeOf, vector_of, length-vector_of, laid-vector_of, made-laid, made-listed, made-told, made-two, made-signal}
 use Rattle.verdict.proofs.WorkLemmas.{there_and}

@@ -1,3 +1,4 @@
+pub mod Common
 mod ApartLemmas
 mod BeginningLemmas
 mod BehindLemmas

@@ -1,42 +1,15 @@
 -- Gates that are unknown on care where no observed one is, and the sweeps of loops beside them.
 use Rattle.std.proofs.Common.{◌≡◌, ◌≢◌, inl, inr, ℕ, ◌+◌, ◌<◌, Bool, true, false, not, ◌↔◌, List, [], ◌∷◌, ◌++◌, length, Option, Some, None, refl, sym, ap, ap₂, ◌∙◌, subst, arith, Contains, true≢false}
-use Rattle.std.specs.Prelude.{find, is_none, is_some}
-use Rattle.std.specs.Option.{option_or}
-use Rattle.std.proofs.lemmas.Bool.{and_from, cases_lt}
-use Rattle.std.proofs.lemmas.List.{get_or_append_left, get_or_default, get_or_past, get_or_push, length_push}
-use Rattle.cyc_base.specs.declared.trit.Trit.TheVariants.{X}
-use Rattle.cyc_base.specs.Values.{bits}
-use Rattle.cyc_base.specs.Vectors.{vectors}
-use Rattle.netlist.specs.declared.parts.Parts.{Parts}
-use Rattle.netlist.specs.Netlists.{IsNetlist, gate_sig}
-use Rattle.netlist.specs.Fixpoint.{fix_gates}
-use Rattle.netlist.specs.Walks.{Feeds}
-use Rattle.loops.specs.declared.structure.Blocks.{Blocks}
-use Rattle.loops.specs.declared.structure.Cut.{Cut}
+use Rattle.verdict.proofs.Common.{find, is_none, is_some, option_or, and_from, cases_lt, get_or_append_left, get_or_default, get_or_past, length_push, X, bits, vectors, Parts, IsNetlist, gate_sig, fix_gates, Feeds, Blocks, Cut, AreBlocksOf, block_at, home_of, IsCutOf, loops_by, value_in, IsCountOfSweeps, gate_home, home_gate, is_marked, ListsMarked, unsettled_loops_decide, CareSet, columns, is_care_vector, IsCareVector, Observe, Refusal, is_undetermined, is_x, leaves_refusal, refusal, none_passes, gate_wire, care_vector_is, AreFedKnown, IsLeastCount, is_unknown_at, SettleInOneSweep, AreLoopCounts, AreSpread, AreUnknownMarks, MayGoOn, are_care_values}
+use Rattle.std.proofs.lemmas.List.{get_or_push}
 use Rattle.loops.specs.declared.structure.SweepCounts.{SweepCounts}
-use Rattle.loops.specs.Blocks.{AreBlocksOf, block_at, home_of}
-use Rattle.loops.specs.Cuts.{IsCutOf, loops_by}
-use Rattle.loops.specs.Sweeps.{value_in, IsCountOfSweeps}
-use Rattle.loops.proofs.Told.{blocks_tell_loops, gate_home, home_gate}
-use Rattle.isolation.specs.Cones.{is_marked, ListsMarked}
+use Rattle.loops.proofs.Told.{blocks_tell_loops}
 use Rattle.isolation.proofs.CountLemmas.{one_sweep_is_exact}
-use Rattle.isolation.proofs.SettledLemmas.{unsettled_loops_decide}
-use Rattle.care_sets.specs.Care.{CareSet, columns, is_care_vector, IsCareVector}
-use Rattle.refusals.specs.declared.observe.Observe.{Observe}
-use Rattle.refusals.specs.declared.refusal.Refusal.{Refusal}
 use Rattle.refusals.specs.Acceptance.{SomeCareVector}
-use Rattle.refusals.specs.Refusals.{is_undetermined, is_x, leaves_refusal, refusal}
-use Rattle.refusals.proofs.FirstLemmas.{none_passes}
-use Rattle.refusals.proofs.RefusalLemmas.{gate_wire}
-use Rattle.refusals.proofs.ShowingLemmas.{care_vector_is}
-use Rattle.clause_decision.specs.Changes.{AreFedKnown}
-use Rattle.clause_decision.specs.Sweeping.{IsLeastCount}
-use Rattle.clause_decision.specs.Tests.{is_unknown, is_unknown_at, TellEachUnknown}
+use Rattle.clause_decision.specs.Tests.{is_unknown, TellEachUnknown}
 use Rattle.verdict.specs.Behind.{AreReached}
-use Rattle.verdict.specs.Determination.{SettleInOneSweep}
-use Rattle.verdict.specs.Loose.{AreAllSuspects, AreLoopCounts, AreSpread, AreUnknownMarks, AreWithout, IsLooseNumber, IsLoopCount}
-use Rattle.verdict.specs.Scopes.{MayGoOn}
-use Rattle.verdict.specs.Verdicts.{are_care_values, AreSweepsOnCare, IsAcceptance}
+use Rattle.verdict.specs.Loose.{AreAllSuspects, AreWithout, IsLooseNumber, IsLoopCount}
+use Rattle.verdict.specs.Verdicts.{AreSweepsOnCare, IsAcceptance}
 use Rattle.verdict.proofs.CountLemmas.{care-values}
 use Rattle.verdict.proofs.DeterminationLemmas.{determined-around, known-here, least-count}
 use Rattle.verdict.proofs.PartLemmas.{IsKnownOnCare}

@@ -1,12 +1,8 @@
 -- Marks of gates, signal by signal.
 use Rattle.std.proofs.Common.{◌≡◌, ℕ, ◌+◌, ◌<◌, ◌≤◌, Bool, true, false, List, [], ◌∷◌, ◌++◌, length, map, take, get_or, replicate, sym, ap, ◌∙◌, subst, arith}
-use Rattle.std.proofs.lemmas.List.{append_assoc, append-nil, take_more, take_all, get_or-map, get_or-replicate, length-map, length-replicate}
-use Rattle.cyc_base.specs.declared.sig.Sig.{Sig}
-use Rattle.netlist.specs.declared.parts.Latch.{Latch}
-use Rattle.netlist.specs.declared.parts.Parts.{Parts}
-use Rattle.refusals.specs.Acceptance.{gate_sigs}
+use Rattle.verdict.proofs.Common.{take_all, get_or-map, get_or-replicate, length-map, Sig, Latch, Parts, gate_sigs, AreMarksOf}
+use Rattle.std.proofs.lemmas.List.{append_assoc, append-nil, take_more, length-replicate}
 use Rattle.refusals.proofs.ObservedLemmas.{gate_among}
-use Rattle.verdict.specs.Observed.{AreMarksOf}
 
 pub marks-start : (net : Parts) (before xs : List Sig) (marks : List Bool) → AreMarksOf net before marks → AreMarksOf net (before ++ take 0 xs) marks
 marks-start net before xs marks is = subst (λ ys. AreMarksOf net ys marks) (sym (append-nil before)) is

@@ -1,34 +1,11 @@
 -- The rails of what the latches load, one after another.
 use Rattle.std.proofs.Common.{◌≡◌, ℕ, zero, suc, ◌+◌, ◌<◌, ◌≤◌, Bool, true, false, ◌&&◌, if◌then◌else◌, List, [], ◌∷◌, ◌++◌, length, map, get_or, take, replicate, slice_get, Some, refl, sym, ap, ap₂, ◌∙◌, subst, arith}
-use Rattle.std.proofs.lemmas.List.{map-append, take-map, take_all, take_more, length_push, get_or-map, length-map, length-replicate, get_or-replicate}
+use Rattle.verdict.proofs.Common.{take_all, length_push, get_or-map, length-map, get_or-replicate, get_or_from_slice_get, Node, Arena, den, IsNodeOf, KeepsNodes, nodes, nodes-alike, conjunction, Trit, X, bits, Rails, AreRailsOf, trit_of, value_of, values_of, is_bit, Latch, Parts, wire, fix, next, IsNetlist, count, laid, rails_at, one-of, zero-of, rails_at-proper, is_one, next_state, next_within, BoundsSignals, BoundsBoth, AreFixed}
+use Rattle.std.proofs.lemmas.List.{map-append, take-map, take_more, length-replicate}
 use Rattle.std.proofs.lemmas.List.Elements.{All-append}
-use Rattle.std.proofs.lemmas.Option.{get_or_from_slice_get, slice_get_within}
+use Rattle.std.proofs.lemmas.Option.{slice_get_within}
 use Rattle.std.specs.List.{All}
-use Rattle.bdd_store.specs.declared.node.Node.{Node}
-use Rattle.bdd_store.specs.Arena.{Arena, den, IsNodeOf}
-use Rattle.bdd_store.specs.Growth.{KeepsNodes}
-use Rattle.bdd_store.specs.Subfunctions.{nodes}
-use Rattle.bdd_store.proofs.SubfunctionLemmas.{nodes-alike}
-use Rattle.bdd_ops.specs.Operations.{conjunction}
-use Rattle.cyc_base.specs.declared.trit.Trit.{Trit}
-use Rattle.cyc_base.specs.declared.trit.Trit.TheVariants.{X}
-use Rattle.cyc_base.specs.Values.{bits}
-use Rattle.dual_rail.specs.declared.rail.Rails.{Rails}
-use Rattle.dual_rail.specs.Rails.{AreRailsOf, trit_of, value_of, values_of}
-use Rattle.dual_rail.specs.WorkingLists.{is_bit}
 use Rattle.dual_rail.proofs.SurelyLemmas.{All-rails-kept, value_of-kept, values_of-kept}
-use Rattle.netlist.specs.declared.parts.Latch.{Latch}
-use Rattle.netlist.specs.declared.parts.Parts.{Parts}
-use Rattle.netlist.specs.Fixpoint.{wire, fix, next}
-use Rattle.netlist.specs.Netlists.{IsNetlist, count}
-use Rattle.fixpoint.specs.Orders.{laid}
-use Rattle.fixpoint.specs.Sweeping.{rails_at}
-use Rattle.fixpoint.proofs.CutLemmas.{one-of, zero-of}
-use Rattle.fixpoint.proofs.WireLemmas.{rails_at-proper}
-use Rattle.care_sets.specs.Care.{is_one}
-use Rattle.refusals.specs.Refusals.{next_state}
-use Rattle.verdict.specs.Next.{next_within, BoundsSignals}
-use Rattle.verdict.specs.Sets.{BoundsBoth, AreFixed}
 use Rattle.verdict.proofs.CareLemmas.{one_rail, value_at-place}
 
 -- ---- rails on a set

@@ -1,49 +1,20 @@
 -- What the least vectors of sets say of the parts of acceptance.
 use Rattle.std.proofs.Common.{◌≡◌, ◌≢◌, inl, inr, ℕ, zero, suc, ◌+◌, ◌<◌, ◌≤◌, Bool, true, false, not, ◌&&◌, cond, List, [], ◌∷◌, length, map, take, drop, get_or, Option, Some, None, refl, sym, ap, ap₂, ◌∙◌, subst, arith}
-use Rattle.std.specs.Prelude.{find, filter, is_none, IfSome}
+use Rattle.verdict.proofs.Common.{find, is_none, option_or, option_map, cases_lt, length-drop, take_all, Node, Arena, den, IsNodeOf, KeepsNodes, nodes, nodes-alike, Sig, Trit, X, bits, Rails, trit_of, value_of, values_of, Parts, gate_sig, next, fix_gates, IsLayout, by_variable, laid, order, rails_at, order-is, rails_at-proper, CareModel, IsCareOf, CareSet, columns, state_of, is_in_invariant, is_care_vector, IsCareVector, Initial, Undetermined, Leaves, Observe, gate_sigs, observed, is_x, is_undetermined, care_vectors, next_state, leaves, initial_refusal, undetermined_refusal, leaves_refusal, vectors, nothing_passes, care_vector_decides, length-fix_gates, gate_wire, AreMarksOf, Tells, AreFixed, starts, has_state_inside, difference, ReadsWithin, AreLoose}
+use Rattle.std.specs.Prelude.{filter, IfSome}
 use Rattle.std.specs.List.{All}
-use Rattle.std.specs.Option.{option_or, option_map, option_and_then}
-use Rattle.std.proofs.lemmas.Bool.{cases_lt}
-use Rattle.std.proofs.lemmas.List.{length-drop, take_all}
+use Rattle.std.specs.Option.{option_and_then}
 use Rattle.std.proofs.lemmas.List.Filters.{length-filter_more}
 use Rattle.std.proofs.lemmas.List.Folds.{find-append}
-use Rattle.bdd_store.specs.declared.node.Node.{Node}
-use Rattle.bdd_store.specs.Arena.{Arena, den, IsNodeOf}
-use Rattle.bdd_store.specs.Growth.{KeepsNodes}
-use Rattle.bdd_store.specs.Subfunctions.{nodes}
-use Rattle.bdd_store.proofs.SubfunctionLemmas.{nodes-alike}
-use Rattle.cyc_base.specs.declared.sig.Sig.{Sig}
-use Rattle.cyc_base.specs.declared.trit.Trit.{Trit}
-use Rattle.cyc_base.specs.declared.trit.Trit.TheVariants.{X}
-use Rattle.cyc_base.specs.Values.{bits}
-use Rattle.dual_rail.specs.declared.rail.Rails.{Rails}
-use Rattle.dual_rail.specs.Rails.{trit_of, value_of, values_of}
 use Rattle.dual_rail.proofs.SurelyLemmas.{value_of-kept, values_of-kept, All-rails-kept}
-use Rattle.netlist.specs.declared.parts.Parts.{Parts}
-use Rattle.netlist.specs.Netlists.{gate_sig}
-use Rattle.netlist.specs.Fixpoint.{next, fix_gates}
-use Rattle.bdd_ops.specs.Least.{IsLayout, by_variable}
-use Rattle.fixpoint.specs.Orders.{laid, order}
-use Rattle.fixpoint.specs.Sweeping.{rails_at}
-use Rattle.fixpoint.proofs.OrderLemmas.{order-is}
-use Rattle.fixpoint.proofs.WireLemmas.{rails_at-proper}
-use Rattle.care_sets.specs.declared.model.CareModel.{CareModel}
-use Rattle.care_sets.specs.Binding.{IsCareOf, IsBoundTo}
-use Rattle.care_sets.specs.Care.{CareSet, columns, state_of, is_in_invariant, is_care_vector, IsCareVector, HasValues}
+use Rattle.care_sets.specs.Binding.{IsBoundTo}
+use Rattle.care_sets.specs.Care.{HasValues}
 use Rattle.care_sets.proofs.CareLemmas.{vectors_serve_assume, states_serve_invariant}
-use Rattle.refusals.specs.declared.refusal.Refusal.TheVariants.{Initial, Undetermined, Leaves}
-use Rattle.refusals.specs.declared.observe.Observe.{Observe}
-use Rattle.refusals.specs.Acceptance.{gate_sigs, observed}
-use Rattle.refusals.specs.Refusals.{is_initial, is_x, is_undetermined, is_among, observed_gates, care_vectors, next_state, leaves, initial_refusal, undetermined_refusal, leaves_refusal}
-use Rattle.cyc_base.specs.Vectors.{vectors}
-use Rattle.refusals.proofs.FirstLemmas.{find-map, find-filter, any-find, nothing_passes}
-use Rattle.refusals.proofs.ShowingLemmas.{care_vector_decides}
-use Rattle.refusals.proofs.RefusalLemmas.{length-gate_sigs, length-fix_gates, gate_sig_at, gate_wire, known-is_x, fails_after, find_none-all, no_first, next_state_is}
+use Rattle.refusals.specs.Refusals.{is_initial, is_among, observed_gates}
+use Rattle.refusals.proofs.FirstLemmas.{find-map, find-filter, any-find}
+use Rattle.refusals.proofs.RefusalLemmas.{length-gate_sigs, gate_sig_at, known-is_x, fails_after, find_none-all, no_first, next_state_is}
 use Rattle.refusals.proofs.LawLemmas.{care_test, observed_test, is_loose}
 use Rattle.clause_decision.specs.Loads.{LoadsAreKnown}
-use Rattle.verdict.specs.Observed.{AreMarksOf}
-use Rattle.verdict.specs.Sets.{Tells, AreFixed, starts, has_state_inside, difference, ReadsWithin}
-use Rattle.verdict.specs.Verdicts.{AreLoose}
 use Rattle.verdict.proofs.CareLemmas.{value_at-place}
 use Rattle.verdict.proofs.SetLemmas.{find-alike}
 

@@ -1,29 +1,15 @@
 -- Which gates the clauses of a question speak of.
 use Rattle.std.proofs.Common.{◌≡◌, inl, inr, ℕ, ◌+◌, ◌-◌, ◌<◌, Bool, true, false, not, List, [], ◌∷◌, ◌++◌, length, map, get_or, slice_get, Option, Some, None, IfSome, subst, refl, sym, ap, ◌∙◌, arith, true≢false, Contains}
 use Rattle.std.specs.List.{All}
-use Rattle.std.specs.Option.{option_map_or}
-use Rattle.std.proofs.lemmas.Bool.{cases_lt}
+use Rattle.verdict.proofs.Common.{option_map_or, cases_lt, get_or_from_slice_get, Sig, get_or-map, get_or_default, Parts, Latch, gate_sig, IsNetlist, Blocks, AreBlocksOf, is_marked, AddMarks, unsettled_loops_decide, CareModel, CareSet, AreDownstreamMarks, SettleInOneSweep, AreDriversBefore}
 use Rattle.std.proofs.lemmas.List.Elements.{All-push, Contains-append_left, Contains-append_right}
-use Rattle.std.proofs.lemmas.Option.{get_or_from_slice_get}
-use Rattle.cyc_base.specs.declared.sig.Sig.{Sig}
-use Rattle.std.proofs.lemmas.List.{get_or-map, get_or_default}
-use Rattle.netlist.specs.declared.parts.Parts.{Parts}
-use Rattle.netlist.specs.declared.parts.Latch.{Latch}
-use Rattle.netlist.specs.Netlists.{gate_sig, IsNetlist}
-use Rattle.loops.specs.declared.structure.Blocks.{Blocks}
-use Rattle.loops.specs.Blocks.{AreBlocksOf}
 use Rattle.loops.proofs.Walks.{leads-step}
-use Rattle.isolation.specs.Cones.{is_marked, AddMarks, AreUpstreamMarks}
-use Rattle.isolation.proofs.SettledLemmas.{unsettled_loops_decide}
+use Rattle.isolation.specs.Cones.{AreUpstreamMarks}
 use Rattle.isolation.proofs.UpstreamLemmas.{upstream-trans}
-use Rattle.care_sets.specs.declared.model.CareModel.{CareModel}
-use Rattle.care_sets.specs.Care.{CareSet}
 use Rattle.clause_decision.specs.declared.scope.Scope.{Scope}
 use Rattle.clause_decision.specs.Loads.{HasLoads}
 use Rattle.clause_decision.specs.Scopes.{AreClosed, AreInScope, AreNeverUnknown}
-use Rattle.verdict.specs.Behind.{AreDownstreamMarks}
-use Rattle.verdict.specs.Determination.{SettleInOneSweep}
-use Rattle.verdict.specs.Scopes.{AreDrivers, AreDriversBefore}
+use Rattle.verdict.specs.Scopes.{AreDrivers}
 
 not-false : (b : Bool) → not b ≡ true → b ≡ false
 not-false true e = absurd (true≢false (sym e))

@@ -1,9 +1,6 @@
 -- What is told of the parts that a search hands out is told of what it is about.
 use Rattle.std.proofs.Common.{◌≡◌, Bool, List, subst}
-use Rattle.netlist.specs.declared.parts.Parts.{Parts}
-use Rattle.loops.specs.declared.structure.Blocks.{Blocks}
-use Rattle.loops.specs.declared.structure.Cut.{Cut}
-use Rattle.care_sets.specs.Care.{CareSet}
+use Rattle.verdict.proofs.Common.{Parts, Blocks, Cut, CareSet}
 
 -- of a netlist on a care set
 pub told-on : (P : Parts → CareSet → Type 0) {m n : Parts} {d e : CareSet} → m ≡ n → d ≡ e → P m d → P n e

@@ -1,20 +1,14 @@
 -- The least vector of a set.
 use Rattle.std.proofs.Common.{◌≡◌, ◌==◌, ℕ, zero, suc, ◌<◌, Bool, true, false, not, ◌&&◌, if◌then◌else◌, cond, List, [], ◌∷◌, length, map, Option, Some, None, refl, sym, ap, ap₂, subst, ◌∙◌, arith, true≢false}
 use Rattle.std.specs.List.{All}
-use Rattle.std.specs.Prelude.{find, is_none}
-use Rattle.std.proofs.lemmas.List.{get_or_default}
-use Rattle.std.specs.Option.{option_or, option_map}
-use Rattle.std.proofs.lemmas.Bool.{eqb-true, eq-eqb}
+use Rattle.verdict.proofs.Common.{find, is_none, get_or_default, option_or, option_map, eqb-true, Node, Arena, den, IsNodeOf, IsLawful, IsLayout, by_variable, vectors, by_column, length-by_column, variables-back, difference, none_passes, nothing_passes, found_wide}
+use Rattle.std.proofs.lemmas.Bool.{eq-eqb}
 use Rattle.std.proofs.lemmas.List.Folds.{find-append}
-use Rattle.bdd_store.specs.declared.node.Node.{Node}
-use Rattle.bdd_store.specs.Arena.{Arena, constant, den, den_within, IsNodeOf}
-use Rattle.bdd_store.specs.Soundness.{IsLawful}
-use Rattle.bdd_ops.specs.Least.{IsLayout, IsLeast, by_variable}
+use Rattle.bdd_store.specs.Arena.{constant, den_within}
+use Rattle.bdd_ops.specs.Least.{IsLeast}
 use Rattle.bdd_ops.specs.Operations.{if_then_else}
-use Rattle.cyc_base.specs.Vectors.{vectors, AtMost}
-use Rattle.fixpoint.proofs.LayoutLemmas.{by_column, length-by_column, variables-back}
-use Rattle.verdict.specs.Sets.{difference}
-use Rattle.refusals.proofs.FirstLemmas.{find-map, found_passes, none_passes, nothing_passes, found_wide, found_least}
+use Rattle.cyc_base.specs.Vectors.{AtMost}
+use Rattle.refusals.proofs.FirstLemmas.{find-map, found_passes, found_least}
 
 -- two vectors of one width that are each at most the other
 same_vectors : (v w : List Bool) → length v ≡ length w → AtMost v w → AtMost w v → v ≡ w

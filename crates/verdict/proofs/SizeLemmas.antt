@@ -2,7 +2,8 @@
 use Rattle.std.proofs.Common.{◌≡◌, ℕ, ◌≤◌, Bool, true, false, cond, ◌||◌, List, [], ◌∷◌, refl, ap, ◌∙◌}
 use Rattle.std.proofs.lemmas.Map.Made.{is_member-Decides}
 use Rattle.std.specs.Set.{is_member, unique_keys}
-use Rattle.bdd_store.specs.Subfunctions.{fixed, table, nodes, IsPart}
+use Rattle.verdict.proofs.Common.{nodes}
+use Rattle.bdd_store.specs.Subfunctions.{fixed, table, IsPart}
 use Rattle.bdd_store.proofs.PigeonholeLemmas.{table_eq, table_decides, counted, counted-part}
 use Rattle.bdd_store.proofs.SubfunctionLemmas.{IsPart-chain}
 use Rattle.dual_rail.proofs.SizeLemmas.{nodes-at_most}

@@ -1,43 +1,24 @@
 -- The functions that the fixpoint and the comparison of its sweeps work with are made of those of the decision.
 use Rattle.std.proofs.Common.{◌≡◌, inl, inr, ℕ, zero, suc, ◌+◌, ◌<◌, ◌≤◌, Bool, true, false, ◌&&◌, List, [], length, filter, get_or, refl, sym, ap, ◌∙◌, subst, arith, Contains}
 use Rattle.std.proofs.Math.Path.{fun_ext}
-use Rattle.std.proofs.lemmas.Bool.{and_parts}
-use Rattle.std.proofs.lemmas.List.{get_or-map, get_or_default, get_or-replicate, length-map}
+use Rattle.verdict.proofs.Common.{and_parts, get_or-map, get_or_default, get_or-replicate, length-map, Node, Arena, den, Trit, X, bit, bits, Rails, AreRailsOf, value_of, values_of, IsWide, is_bit, Parts, Blocks, Cut, AreBlocksOf, block_at, IsCutOf, Loops, value_in, Vectors, IsWorking, one-of, zero-of, CareSet, columns, is_care_vector, IsLaid, SaysCare, Tells, laid, AreColumnVectors}
 use Rattle.std.proofs.lemmas.List.Elements.{All-contains}
 use Rattle.std.specs.List.{All, range_with_len}
-use Rattle.bdd_store.specs.declared.node.Node.{Node}
-use Rattle.bdd_store.specs.Arena.{Arena, den}
 use Rattle.bdd_ops.specs.Operations.{bit_at}
-use Rattle.cyc_base.specs.declared.trit.Trit.{Trit}
-use Rattle.cyc_base.specs.declared.trit.Trit.TheVariants.{X}
-use Rattle.cyc_base.specs.Values.{bit, bits}
-use Rattle.dual_rail.specs.declared.rail.Rails.{Rails}
-use Rattle.dual_rail.specs.Rails.{AreRailsOf, value_of, values_of}
-use Rattle.dual_rail.specs.WorkingLists.{IsWide, is_bit}
 use Rattle.dual_rail.proofs.WidthLemmas.{IsWide-fewer}
-use Rattle.netlist.specs.declared.parts.Parts.{Parts}
-use Rattle.loops.specs.declared.structure.Blocks.{Blocks}
-use Rattle.loops.specs.declared.structure.Cut.{Cut}
-use Rattle.loops.specs.Blocks.{AreBlocksOf, block_at}
-use Rattle.loops.specs.Cuts.{AreLoopsOf, IsCutOf, Loops}
+use Rattle.loops.specs.Cuts.{AreLoopsOf}
 use Rattle.loops.specs.Found.{loops_of}
-use Rattle.loops.specs.Sweeps.{value_in, sweeps, cuts, cuts_of}
+use Rattle.loops.specs.Sweeps.{sweeps, cuts, cuts_of}
 use Rattle.loops.proofs.Existence.{loops_exist}
 use Rattle.loops.proofs.Reading.{Contains-filter_from}
 use Rattle.loops.proofs.Sweeps.{same-sym, same-trans, same_within}
 use Rattle.loops.proofs.Walks.{same_truth}
 use Rattle.fixpoint.specs.declared.solved.SweptLoop.{SweptLoop}
 use Rattle.fixpoint.specs.declared.solved.Solved.{Solved}
-use Rattle.fixpoint.specs.Solved.{AreStepsOf, AreKeptSteps, Vectors, step_at, loop_under}
+use Rattle.fixpoint.specs.Solved.{AreStepsOf, AreKeptSteps, step_at, loop_under}
 use Rattle.fixpoint.specs.Counts.{IsStepNode, IsComparedIn}
-use Rattle.fixpoint.specs.Working.{IsWorking}
-use Rattle.fixpoint.proofs.CutLemmas.{one-of, zero-of}
 use Rattle.fixpoint.proofs.WorkLemmas.{sweeps_are_working, gate_parts_agree}
-use Rattle.care_sets.specs.Care.{CareSet, columns, is_care_vector}
-use Rattle.verdict.specs.Enough.{IsLaid, IsColumn, SaysCare, IsOfNetlist}
-use Rattle.verdict.specs.Sets.{Tells}
-use Rattle.fixpoint.specs.Orders.{laid}
-use Rattle.verdict.specs.Solving.{AreColumnVectors}
+use Rattle.verdict.specs.Enough.{IsColumn, IsOfNetlist}
 use Rattle.isolation.proofs.SettlingLemmas.{loops-are}
 use Rattle.isolation.proofs.WidthLemmas.{part-at}
 use Rattle.verdict.proofs.DecisionLemmas.{IsMade, made-listed, made-told, made-wide}

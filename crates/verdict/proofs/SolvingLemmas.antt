@@ -1,20 +1,13 @@
 -- Rails and a set that are kept while a netlist is solved.
 use Rattle.std.proofs.Common.{◌≡◌, inl, inr, ℕ, List, Bool, true, length, map, sym, ap, ◌∙◌, subst, arith, Option, Some, None, Result}
 use Rattle.std.specs.List.{All}
-use Rattle.std.proofs.lemmas.List.{length-map}
-use Rattle.bdd_store.specs.declared.fault.StoreFault.{StoreFault}
-use Rattle.bdd_store.specs.declared.node.Node.{Node}
+use Rattle.verdict.proofs.Common.{length-map, StoreFault, Node, Arena, den, AddsWithin, Trit, Rails, AreRailsOf, trit_of, values_of, Parts, rails_under, Vectors}
 use Rattle.bdd_store.specs.declared.node.Entry.{Entry}
-use Rattle.bdd_store.specs.Arena.{Arena, root_at, constant, den, node_value}
-use Rattle.bdd_store.specs.Growth.{AddsWithin}
-use Rattle.cyc_base.specs.declared.trit.Trit.{Trit}
-use Rattle.dual_rail.specs.declared.rail.Rails.{Rails}
-use Rattle.dual_rail.specs.Rails.{AreRailsOf, trit_of, values_of}
-use Rattle.netlist.specs.declared.parts.Parts.{Parts}
+use Rattle.bdd_store.specs.Arena.{root_at, constant, node_value}
 use Rattle.loops.specs.Sweeps.{first_gate}
 use Rattle.fixpoint.specs.declared.kept.KeptRails.{KeptRails}
-use Rattle.fixpoint.specs.Kept.{rails_under, values_under, AreKept, GainsRoots, RootsStay}
-use Rattle.fixpoint.specs.Solved.{Vectors, AreGiven}
+use Rattle.fixpoint.specs.Kept.{values_under, AreKept, GainsRoots, RootsStay}
+use Rattle.fixpoint.specs.Solved.{AreGiven}
 use Rattle.fixpoint.proofs.KeptLemmas.{All-rails-gained}
 
 -- ---- before a netlist is solved

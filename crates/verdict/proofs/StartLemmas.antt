@@ -1,36 +1,16 @@
 -- The states that the inits permit, latch by latch.
 use Rattle.std.proofs.Common.{◌≡◌, inl, inr, ℕ, nat_lt, zero, suc, ◌+◌, ◌-◌, ◌<◌, ◌≤◌, Bool, true, false, not, ◌&&◌, if◌then◌else◌, List, [], ◌∷◌, ◌++◌, length, map, take, drop, get_or, slice_get, Option, Some, None, refl, sym, ap, ap₂, ◌∙◌, arith, true≢false}
-use Rattle.std.specs.List.{list_all}
-use Rattle.std.specs.Option.{option_map_or}
-use Rattle.std.proofs.lemmas.Bool.{and_from, and_parts, cases_lt, le-ltb, lt-ltb}
-use Rattle.std.proofs.lemmas.List.{drop_more, drop_all, get_or-map, get_or-drop, length-drop, length-map, length-take-le}
+use Rattle.verdict.proofs.Common.{list_all, option_map_or, and_from, and_parts, cases_lt, get_or-map, length-drop, length-map, Node, Arena, den, IsNodeOf, KeepsNodes, nodes, nodes-alike, by_variable, conjunction, Trit, X, bit, Rails, AreRailsOf, trit_of, value_of, values_of, Latch, Parts, rails_at, columns, state_of, AreColumns, laid, order, order-is, BoundsStarts, Tells, starts}
+use Rattle.std.proofs.lemmas.Bool.{le-ltb, lt-ltb}
+use Rattle.std.proofs.lemmas.List.{drop_more, drop_all, get_or-drop, length-take-le}
 use Rattle.std.proofs.lemmas.Option.{slice_get-get_or}
-use Rattle.bdd_store.specs.declared.node.Node.{Node}
-use Rattle.bdd_store.specs.Arena.{Arena, den, IsNodeOf}
-use Rattle.bdd_store.specs.Growth.{KeepsNodes}
-use Rattle.bdd_store.specs.Subfunctions.{nodes, IsPart}
-use Rattle.bdd_store.proofs.SubfunctionLemmas.{nodes-alike}
-use Rattle.bdd_ops.specs.Least.{by_variable}
-use Rattle.bdd_ops.specs.Operations.{conjunction}
-use Rattle.cyc_base.specs.declared.trit.Trit.{Trit}
-use Rattle.cyc_base.specs.declared.trit.Trit.TheVariants.{X}
-use Rattle.cyc_base.specs.Values.{bit}
-use Rattle.dual_rail.specs.declared.rail.Rails.{Rails}
-use Rattle.dual_rail.specs.Rails.{AreRailsOf, trit_of, value_of, values_of}
+use Rattle.bdd_store.specs.Subfunctions.{IsPart}
 use Rattle.netlist.specs.declared.parts.Init.{Init}
 use Rattle.netlist.specs.declared.parts.Init.TheVariants as inits
-use Rattle.netlist.specs.declared.parts.Latch.{Latch}
-use Rattle.netlist.specs.declared.parts.Parts.{Parts}
-use Rattle.fixpoint.specs.Sweeping.{rails_at}
-use Rattle.care_sets.specs.Care.{columns, state_of}
 use Rattle.refusals.specs.Refusals.{may_start}
 use Rattle.refusals.proofs.ShowingLemmas.{all_may_start}
-use Rattle.isolation.specs.Columns.{AreColumns}
-use Rattle.fixpoint.specs.Orders.{laid, order}
 use Rattle.fixpoint.proofs.LayoutLemmas.{by_variable-read, length-by_variable, variable_of}
-use Rattle.fixpoint.proofs.OrderLemmas.{order-is}
 use Rattle.loops.proofs.Walks.{same_truth}
-use Rattle.verdict.specs.Sets.{BoundsStarts, Tells, starts}
 use Rattle.verdict.proofs.CareLemmas.{value_at-place}
 use Rattle.verdict.proofs.DecisionLemmas.{vector_of, length-vector_of, laid-vector_of}
 use Rattle.verdict.proofs.SizeLemmas.{nodes-part}

@@ -1,18 +1,10 @@
 -- Next states: what latches load, and when one leaves the invariant.
 use Rattle.std.proofs.Common.{◌≡◌, ℕ, ◌-◌, ◌<◌, ◌≤◌, Bool, List, [], length, Option, Some, None, IfSome, refl, sym, ap, ◌∙◌, subst, arith}
-use Rattle.std.specs.Prelude.{find}
+use Rattle.verdict.proofs.Common.{find, option_map, option_map_or, vectors, Parts, CareModel, IsCareOf, CareSet, columns, Leaves, leaves, leaves_refusal, next_state, ReadsWithin}
 use Rattle.std.specs.List.{All}
-use Rattle.std.specs.Option.{option_map, option_map_or}
-use Rattle.cyc_base.specs.Vectors.{vectors}
-use Rattle.netlist.specs.declared.parts.Parts.{Parts}
-use Rattle.care_sets.specs.declared.model.CareModel.{CareModel}
-use Rattle.care_sets.specs.Binding.{IsCareOf, IsBoundTo}
-use Rattle.care_sets.specs.Care.{CareSet, columns}
-use Rattle.refusals.specs.declared.refusal.Refusal.TheVariants.{Leaves}
-use Rattle.refusals.specs.Refusals.{leaves, leaves_refusal, next_state}
+use Rattle.care_sets.specs.Binding.{IsBoundTo}
 use Rattle.refusals.proofs.LawLemmas.{care_test}
 use Rattle.clause_decision.specs.Tests.{is_leaving}
-use Rattle.verdict.specs.Sets.{ReadsWithin}
 use Rattle.verdict.proofs.PartLemmas.{invariant-reads}
 
 -- the refusal is that of the first vector that leaves

@@ -1,31 +1,13 @@
 -- The refusal of the first observed gate that is unknown on care.
 use Rattle.std.proofs.Common.{◌≡◌, inl, inr, ℕ, ◌<◌, ◌≤◌, Bool, true, false, not, ◌&&◌, List, length, map, get_or, Option, Some, None, refl, sym, ap, ap₂, ◌∙◌, subst, arith, Contains, true≢false}
-use Rattle.std.specs.Prelude.{find, is_some}
+use Rattle.verdict.proofs.Common.{find, is_some, and_parts, and_from, cases_lt, get_or-map, get_or_default, get_or_past, length-map, vectors, Parts, IsNetlist, gate_sig, Blocks, AreBlocksOf, is_marked, ListsMarked, unsettled_loops_decide, CareSet, columns, is_care_vector, Observe, Undetermined, observed, is_undetermined, is_x, undetermined_refusal, none_passes, gate_wire, care_vector_is, is_unknown_at, AreDownstreamMarks, SettleInOneSweep, AreMarksOf, AreAsked}
 use Rattle.std.specs.List.{All}
-use Rattle.std.proofs.lemmas.Bool.{and_parts, and_from, cases_lt, cases_eq}
-use Rattle.std.proofs.lemmas.List.{get_or-map, get_or_default, get_or_past, length-map}
-use Rattle.cyc_base.specs.Vectors.{vectors}
-use Rattle.netlist.specs.declared.parts.Parts.{Parts}
-use Rattle.netlist.specs.Netlists.{IsNetlist, gate_sig}
-use Rattle.loops.specs.declared.structure.Blocks.{Blocks}
-use Rattle.loops.specs.Blocks.{AreBlocksOf}
-use Rattle.isolation.specs.Cones.{is_marked, ListsMarked}
+use Rattle.std.proofs.lemmas.Bool.{cases_eq}
 use Rattle.isolation.specs.Excerpts.{gate_in}
-use Rattle.isolation.proofs.SettledLemmas.{unsettled_loops_decide}
-use Rattle.care_sets.specs.Care.{CareSet, columns, is_care_vector}
-use Rattle.refusals.specs.declared.observe.Observe.{Observe}
-use Rattle.refusals.specs.declared.refusal.Refusal.TheVariants.{Undetermined}
-use Rattle.refusals.specs.Acceptance.{observed}
-use Rattle.refusals.specs.Refusals.{is_undetermined, is_x, undetermined_refusal}
-use Rattle.refusals.proofs.FirstLemmas.{none_passes}
-use Rattle.refusals.proofs.RefusalLemmas.{gate_wire}
-use Rattle.refusals.proofs.ShowingLemmas.{care_vector_is}
-use Rattle.clause_decision.specs.Tests.{is_unknown, is_unknown_at, IsFirstUnknown}
-use Rattle.verdict.specs.Behind.{AreDownstreamMarks}
-use Rattle.verdict.specs.Determination.{AreDeterminedOnCare, IsOpen, SettleInOneSweep}
+use Rattle.clause_decision.specs.Tests.{is_unknown, IsFirstUnknown}
+use Rattle.verdict.specs.Determination.{AreDeterminedOnCare, IsOpen}
 use Rattle.verdict.specs.Scopes.{AreOpenGates}
-use Rattle.verdict.specs.Observed.{AreMarksOf}
-use Rattle.verdict.specs.Unknown.{AreAsked, AreSuspects, IsFirstToRefuse}
+use Rattle.verdict.specs.Unknown.{AreSuspects, IsFirstToRefuse}
 use Rattle.verdict.proofs.DeterminationLemmas.{known-here, marks_of, marks-are}
 use Rattle.verdict.proofs.PartLemmas.{undetermined-found}
 

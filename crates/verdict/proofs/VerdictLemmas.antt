@@ -1,37 +1,14 @@
 -- How the parts make the verdict.
 use Rattle.std.proofs.Common.{◌≡◌, ◌+◌, Bool, ◌&&◌, List, [], length, map, drop, Option, Some, None, refl, sym, ap, ap₂, ◌∙◌}
-use Rattle.std.specs.Prelude.{find, is_none, if◌then◌else◌}
-use Rattle.std.specs.Option.{option_or}
+use Rattle.verdict.proofs.Common.{find, is_none, option_or, Node, Arena, den, IsNodeOf, KeepsNodes, bit, bits, Rails, value_of, values_of, Parts, IsNetlist, fix, fix_gates, Blocks, Cut, rails_under, Vectors, IsSolution, AreColumnVectors, CareSet, columns, state_of, is_care_vector, Refusal, EmptyCare, Observe, initial_refusal, undetermined_refusal, leaves_refusal, refusal, vectors, empty-filter, length-fix_gates, Tells, AreFixed, has_state_inside, AreColumns, order, laid}
+use Rattle.std.specs.Prelude.{if◌then◌else◌}
 use Rattle.std.proofs.lemmas.List.{length-append, drop-map}
-use Rattle.bdd_store.specs.declared.node.Node.{Node}
-use Rattle.bdd_store.specs.Arena.{Arena, den, IsNodeOf}
-use Rattle.bdd_store.specs.Growth.{KeepsNodes}
-use Rattle.cyc_base.specs.Values.{bit, bits}
-use Rattle.dual_rail.specs.declared.rail.Rails.{Rails}
-use Rattle.dual_rail.specs.Rails.{value_of, values_of}
 use Rattle.dual_rail.proofs.SurelyLemmas.{length-values}
-use Rattle.netlist.specs.declared.parts.Parts.{Parts}
-use Rattle.netlist.specs.Netlists.{IsNetlist}
-use Rattle.netlist.specs.Fixpoint.{fix, fix_gates}
-use Rattle.loops.specs.declared.structure.Blocks.{Blocks}
-use Rattle.loops.specs.declared.structure.Cut.{Cut}
 use Rattle.fixpoint.specs.declared.solved.Solved.{Solved}
-use Rattle.fixpoint.specs.Kept.{rails_under}
-use Rattle.fixpoint.specs.Solved.{Vectors, IsSolution}
-use Rattle.verdict.specs.Solving.{AreColumnVectors}
-use Rattle.care_sets.specs.Care.{CareSet, columns, state_of, is_allowed, is_care_vector}
-use Rattle.refusals.specs.declared.refusal.Refusal.{Refusal}
-use Rattle.refusals.specs.declared.refusal.Refusal.TheVariants.{EmptyCare}
-use Rattle.refusals.specs.declared.observe.Observe.{Observe}
+use Rattle.care_sets.specs.Care.{is_allowed}
 use Rattle.refusals.specs.Acceptance.{Accepts}
-use Rattle.refusals.specs.Refusals.{initial_refusal, empty_refusal, undetermined_refusal, leaves_refusal, refusal}
-use Rattle.cyc_base.specs.Vectors.{vectors}
-use Rattle.refusals.proofs.FirstLemmas.{empty-filter}
+use Rattle.refusals.specs.Refusals.{empty_refusal}
 use Rattle.refusals.proofs.LawLemmas.{accepted_without_refusal}
-use Rattle.refusals.proofs.RefusalLemmas.{length-fix_gates}
-use Rattle.verdict.specs.Sets.{Tells, AreFixed, has_state_inside}
-use Rattle.isolation.specs.Columns.{AreColumns}
-use Rattle.fixpoint.specs.Orders.{order, laid}
 use Rattle.verdict.specs.Verdicts.{later_refusal}
 use Rattle.verdict.proofs.PartLemmas.{told-first}
 

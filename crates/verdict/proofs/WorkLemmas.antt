@@ -1,25 +1,12 @@
 -- What the steps of a decision work with: functions that are made of those of the decision.
 use Rattle.std.proofs.Common.{◌≡◌, inl, inr, ℕ, Bool, true, false, if◌then◌else◌, List, ◌++◌, length, drop, replicate, Option, Some, None, refl, sym, ap, ◌∙◌, subst, true≢false}
-use Rattle.std.specs.Prelude.{IfSome, IsSomeAnd}
-use Rattle.bdd_store.specs.declared.node.Node.{Node}
-use Rattle.bdd_store.specs.Arena.{Arena, den}
+use Rattle.verdict.proofs.Common.{IsSomeAnd, Node, Arena, den, Trit, X, bits, IsWide, BoundsEach, is_bit, Parts, next, laid, Vectors, CareModel, CareSet, columns, state_of, is_care_vector, read_by, IsOfModel, IsLaid, SaysCare, next_within, Tells}
+use Rattle.std.specs.Prelude.{IfSome}
 use Rattle.cover_logic.specs.Covers.{value}
 use Rattle.cover_logic.specs.Extensions.{exact}
-use Rattle.cyc_base.specs.declared.trit.Trit.{Trit}
-use Rattle.cyc_base.specs.declared.trit.Trit.TheVariants.{X}
-use Rattle.cyc_base.specs.Values.{bits}
-use Rattle.dual_rail.specs.WorkingLists.{IsWide, BoundsEach, is_bit}
-use Rattle.netlist.specs.declared.parts.Parts.{Parts}
-use Rattle.netlist.specs.Fixpoint.{next}
 use Rattle.netlist.specs.Netlists.{gate_at}
-use Rattle.fixpoint.specs.Orders.{laid}
-use Rattle.fixpoint.specs.Solved.{Vectors}
 use Rattle.fixpoint.specs.Working.{read_at_fix}
-use Rattle.care_sets.specs.declared.model.CareModel.{CareModel}
-use Rattle.care_sets.specs.Care.{CareSet, columns, state_of, is_care_vector}
-use Rattle.verdict.specs.Enough.{read_by, IsOfModel, IsOfDecision, IsLaid, SaysCare, IsOfAssumption, IsOfInvariant, IsOfNext}
-use Rattle.verdict.specs.Next.{next_within}
-use Rattle.verdict.specs.Sets.{Tells}
+use Rattle.verdict.specs.Enough.{IsOfDecision, IsOfAssumption, IsOfInvariant, IsOfNext}
 use Rattle.verdict.proofs.DecisionLemmas.{vector_of, length-vector_of, laid-vector_of, made-laid, made-listed, made-one, made-two, made-told}
 
 -- ---- a function that a model works with, on other values of the columns

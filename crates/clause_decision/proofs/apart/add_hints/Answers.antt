@@ -1,5 +1,5 @@
 use Rattle.std.proofs.Common.{ℕ, List, get_or, sym, subst}
-use Rattle.clause_decision.specs.Pairs.{AddLiterals}
+use Rattle.clause_decision.proofs.Common.{AddLiterals}
 use Rattle.clause_decision.proofs.ApartLemmas.{no_hint, literals-none, literals-step, rails-still}
 use Rattle.clause_decision.proofs.apart.add_hints.Goals as goal
 

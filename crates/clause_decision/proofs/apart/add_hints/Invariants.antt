@@ -1,4 +1,4 @@
-use Rattle.clause_decision.specs.Pairs.{AddLiterals}
+use Rattle.clause_decision.proofs.Common.{AddLiterals}
 use Rattle.clause_decision.proofs.apart.add_hints.Given as goal
 
 abbrev pub invariant-loop-hint : goal.invariant-loop-hint

@@ -1,7 +1,6 @@
 use Rattle.std.proofs.Common.{◌+◌, ◌∷◌, [], ◌++◌, ℕ, List, take, get_or, sym, subst}
-use Rattle.std.proofs.lemmas.List.{take_all, take_more}
+use Rattle.clause_decision.proofs.Common.{take_all, take_more, SayPairs}
 use Rattle.clause_decision.specs.declared.pairs.Pair.{Pair}
-use Rattle.clause_decision.specs.Pairs.{SayPairs}
 use Rattle.clause_decision.proofs.ApartLemmas.{no_pair, pairs-none, pairs-step, rails-still}
 use Rattle.clause_decision.proofs.apart.add_pairs.Goals as goal
 

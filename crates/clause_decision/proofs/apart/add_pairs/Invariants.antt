@@ -1,5 +1,5 @@
 use Rattle.std.proofs.Common.{take}
-use Rattle.clause_decision.specs.Pairs.{SayPairs}
+use Rattle.clause_decision.proofs.Common.{SayPairs}
 use Rattle.clause_decision.proofs.apart.add_pairs.Given as goal
 
 abbrev pub invariant-loop-pair : goal.invariant-loop-pair

@@ -1,4 +1,4 @@
-use Rattle.std.proofs.lemmas.Result.{IfOk-weaker}
+use Rattle.clause_decision.proofs.Common.{IfOk-weaker}
 use Rattle.clause_decision.proofs.ApartLemmas.{never-apart}
 use Rattle.clause_decision.proofs.apart.are_never_apart.Goals as goal
 

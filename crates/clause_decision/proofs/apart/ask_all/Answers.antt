@@ -1,8 +1,7 @@
 use Rattle.std.proofs.Common.{◌≡◌, ◌∷◌, [], List, ℕ, Option, subst}
 use Rattle.std.specs.List.{All}
 use Rattle.std.specs.Prelude.{IfSome}
-use Rattle.std.proofs.lemmas.Result.{IfOk-weaker}
-use Rattle.clause_queries.specs.Queries.{Problem, problem, HasNoModelUnder}
+use Rattle.clause_decision.proofs.Common.{IfOk-weaker, Problem, problem, HasNoModelUnder}
 use Rattle.clause_decision.proofs.apart.ask_all.Goals as goal
 
 pub returns : goal.returns

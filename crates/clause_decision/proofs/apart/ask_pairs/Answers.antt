@@ -1,8 +1,7 @@
 use Rattle.std.proofs.Common.{◌≡◌, ◌∙◌, ◌++◌, ◌∷◌, [], true, subst}
 use Rattle.std.specs.List.{All}
-use Rattle.std.specs.Prelude.{IfOk}
+use Rattle.clause_decision.proofs.Common.{IfOk, HasNoModelUnder}
 use Rattle.clause_queries.specs.Each.{IsAnyPossible}
-use Rattle.clause_queries.specs.Queries.{HasNoModelUnder}
 use Rattle.clause_decision.proofs.ApartLemmas.{any-refuted}
 use Rattle.clause_decision.proofs.apart.ask_pairs.Goals as goal
 

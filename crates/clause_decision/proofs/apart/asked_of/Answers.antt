@@ -1,8 +1,8 @@
 use Rattle.std.proofs.Common.{List, get_or, sym, subst}
 use Rattle.std.specs.List.{All}
-use Rattle.ternary_clauses.specs.declared.formula.Rails.{Rails}
+use Rattle.clause_decision.proofs.Common.{Rails, SayPairs}
 use Rattle.clause_decision.specs.declared.pairs.Hint.{Hint}
-use Rattle.clause_decision.specs.Pairs.{HasRails, SayPairs}
+use Rattle.clause_decision.specs.Pairs.{HasRails}
 use Rattle.clause_decision.proofs.ApartLemmas.{hints-have_rails, pairs-have_rails, pairs-told, rails-still}
 use Rattle.clause_decision.proofs.apart.asked_of.Goals as goal
 

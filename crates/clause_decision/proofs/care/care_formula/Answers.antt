@@ -1,8 +1,5 @@
 use Rattle.std.proofs.Common.{◌+◌, ℕ, List, subst, sym, ap₂}
-use Rattle.ternary_clauses.specs.declared.formula.Rails.{Rails}
-use Rattle.ternary_clauses.specs.Columns.{SaysColumns}
-use Rattle.care_sets.specs.Care.{columns}
-use Rattle.clause_decision.specs.Formulas.{IsOver}
+use Rattle.clause_decision.proofs.Common.{Rails, SaysColumns, columns, IsOver}
 use Rattle.clause_decision.proofs.FormulaLemmas.{over-columns}
 use Rattle.clause_decision.proofs.care.care_formula.Goals as goal
 

@@ -1,11 +1,6 @@
 use Rattle.std.proofs.Common.{◌≡◌, ◌∙◌, ℕ, ◌*◌, ◌<◌, List, length, map, subst, sym, ap}
 use Rattle.std.specs.List.{All}
-use Rattle.std.proofs.lemmas.List.{length-map}
-use Rattle.ternary_clauses.specs.declared.formula.Formula.{Formula}
-use Rattle.ternary_clauses.specs.declared.formula.Rails.{Rails}
-use Rattle.clause_queries.specs.Queries.{problem}
-use Rattle.clause_queries.specs.Vectors.{Asks}
-use Rattle.care_sets.specs.Care.{is_care_vector}
+use Rattle.clause_decision.proofs.Common.{length-map, Formula, Rails, problem, Asks, is_care_vector}
 use Rattle.clause_decision.proofs.FormulaLemmas.{care-asks, ones-within, two-within}
 use Rattle.clause_decision.proofs.care.care_question.Goals as goal
 

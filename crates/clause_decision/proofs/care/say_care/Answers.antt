@@ -1,9 +1,7 @@
 use Rattle.std.proofs.Common.{◌≡◌, ◌∙◌, ◌-◌, ℕ, length, take, drop, List, subst, sym, ap, arith}
-use Rattle.std.proofs.lemmas.List.{length-drop, take_all}
+use Rattle.clause_decision.proofs.Common.{take_all, Rails, is_in_invariant, ReadsWithin, SaysTest}
+use Rattle.std.proofs.lemmas.List.{length-drop}
 use Rattle.std.specs.Prelude.{IfSome}
-use Rattle.ternary_clauses.specs.declared.formula.Rails.{Rails}
-use Rattle.care_sets.specs.Care.{is_in_invariant}
-use Rattle.clause_decision.specs.Formulas.{ReadsWithin, SaysTest}
 use Rattle.clause_decision.proofs.FormulaLemmas.{care-formula}
 use Rattle.clause_decision.proofs.ModelLemmas.{assume-reads, invariant-reads}
 use Rattle.clause_decision.proofs.care.say_care.Goals as goal

@@ -1,9 +1,7 @@
 use Rattle.std.proofs.Common.{◌∙◌, get_or, subst, sym, take}
 use Rattle.std.specs.List.{All}
-use Rattle.std.proofs.lemmas.List.{take_all, take_more}
-use Rattle.std.proofs.lemmas.List.Elements.{All-push}
-use Rattle.clause_queries.specs.Queries.{problem, HasNoModelUnder, IsReply}
-use Rattle.clause_decision.specs.Changes.{change_literals}
+use Rattle.clause_decision.proofs.Common.{take_all, take_more, All-push, problem, HasNoModelUnder, change_literals}
+use Rattle.clause_queries.specs.Queries.{IsReply}
 use Rattle.clause_decision.proofs.changing.ask_changes.Goals as goal
 
 pub loop-place-preserved : goal.loop-place-preserved

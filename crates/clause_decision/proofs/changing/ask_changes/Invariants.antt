@@ -1,7 +1,6 @@
 use Rattle.std.proofs.Common.{◌≡◌, take}
 use Rattle.std.specs.List.{All}
-use Rattle.clause_queries.specs.Queries.{problem, HasNoModelUnder}
-use Rattle.clause_decision.specs.Changes.{change_literals}
+use Rattle.clause_decision.proofs.Common.{problem, HasNoModelUnder, change_literals}
 use Rattle.clause_decision.proofs.changing.ask_changes.Given as goal
 
 abbrev pub invariant-loop-place : goal.invariant-loop-place

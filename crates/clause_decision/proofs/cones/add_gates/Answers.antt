@@ -1,7 +1,5 @@
 use Rattle.std.proofs.Common.{List, Bool, sym, subst}
-use Rattle.std.proofs.lemmas.Result.{IfOk-weaker}
-use Rattle.ternary_clauses.specs.Encoding.{IsClosed, SaysNetlist}
-use Rattle.ternary_clauses.specs.declared.formula.Rails.{Rails}
+use Rattle.clause_decision.proofs.Common.{IfOk-weaker, IsClosed, SaysNetlist, Rails}
 use Rattle.clause_decision.proofs.ConeLemmas.{closed-by_pins, cone-of}
 use Rattle.clause_decision.proofs.cones.add_gates.Goals as goal
 

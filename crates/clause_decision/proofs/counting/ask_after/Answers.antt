@@ -1,15 +1,12 @@
 use Rattle.std.proofs.Common.{◌≡◌, ◌∙◌, ◌+◌, ℕ, subst, sym, ap, arith}
-use Rattle.std.proofs.lemmas.Result.{IfOk-weaker}
-use Rattle.loops.specs.Cuts.{is_cut}
+use Rattle.clause_decision.proofs.Common.{IfOk-weaker, is_cut, problem, AreFedKnown, first_number, TellsTooFew, AreCutPlaces, LoopAt, gates_in, loops_in}
 use Rattle.refusals.specs.Acceptance.{SomeCareVector}
-use Rattle.clause_queries.specs.Queries.{problem}
 use Rattle.clause_decision.specs.declared.counting.Sign.{Sign}
-use Rattle.clause_decision.specs.Changes.{AreFedKnown, TellsChange}
-use Rattle.clause_decision.specs.Countings.{first_number, Serves, TellsTooFew}
+use Rattle.clause_decision.specs.Changes.{TellsChange}
+use Rattle.clause_decision.specs.Countings.{Serves}
 use Rattle.clause_decision.specs.Scopes.{AreKnownOnCare}
 use Rattle.clause_decision.specs.Sweepings.{IsAsked}
 use Rattle.clause_decision.proofs.ChangeLemmas.{change-tells, outside-apart, tells-change}
-use Rattle.clause_decision.specs.LoopsAt.{AreCutPlaces, LoopAt, gates_in, loops_in}
 use Rattle.clause_decision.proofs.SweepingLemmas.{open-tells}
 use Rattle.clause_decision.proofs.counting.ask_after.Goals as goal
 

@@ -1,8 +1,6 @@
 use Rattle.std.proofs.Common.{◌≡◌, ◌<◌, ◌+◌, ◌-◌, ℕ, List, subst, arith}
-use Rattle.netlist.specs.declared.parts.Parts.{Parts}
-use Rattle.clause_decision.specs.Countings.{first_number, IsCountedTo, NeedAtLeast, TellsNeeded}
-use Rattle.clause_decision.specs.Sweepings.{IsSwept}
-use Rattle.clause_decision.specs.LoopsAt.{LoopAt, gates_in, loops_in}
+use Rattle.clause_decision.proofs.Common.{Parts, first_number, NeedAtLeast, IsSwept, LoopAt, gates_in, loops_in}
+use Rattle.clause_decision.specs.Countings.{IsCountedTo, TellsNeeded}
 use Rattle.clause_decision.proofs.SweepingLemmas.{few-needed}
 use Rattle.clause_decision.proofs.counting.count_sweeps.Goals as goal
 

@@ -1,7 +1,5 @@
 use Rattle.std.proofs.Common.{◌≤◌, ◌-◌}
-use Rattle.clause_decision.specs.Countings.{first_number, NeedAtLeast}
-use Rattle.clause_decision.specs.LoopsAt.{gates_in, loops_in}
-use Rattle.clause_decision.specs.Sweepings.{IsSwept}
+use Rattle.clause_decision.proofs.Common.{first_number, NeedAtLeast, gates_in, loops_in, IsSwept}
 use Rattle.clause_decision.proofs.counting.count_sweeps.Given as goal
 
 abbrev pub invariant-loop-sweeps : goal.invariant-loop-sweeps

@@ -1,11 +1,5 @@
 use Rattle.std.proofs.Common.{rules, ◌≡◌, ◌∙◌, ◌≤◌, ℕ, List, Bool, true, length, ap, subst, sym, arith}
-use Rattle.std.proofs.lemmas.Bool.{and_parts}
-use Rattle.std.proofs.lemmas.Result.{IfOk-weaker}
-use Rattle.netlist.specs.declared.parts.Parts.{Parts}
-use Rattle.care_sets.specs.Care.{columns, is_allowed, is_care_vector, is_in_invariant, state_of, IsCareVector}
-use Rattle.clause_decision.specs.Countings.{first_number, NeedAtLeast}
-use Rattle.clause_decision.specs.Simulations.{IsCountAt}
-use Rattle.clause_decision.specs.LoopsAt.{LoopAt, gates_in, loops_in}
+use Rattle.clause_decision.proofs.Common.{and_parts, IfOk-weaker, Parts, columns, is_allowed, is_care_vector, is_in_invariant, state_of, IsCareVector, first_number, NeedAtLeast, IsCountAt, LoopAt, gates_in, loops_in}
 use Rattle.clause_decision.proofs.SweepingLemmas.{first-needed, vector-needed}
 use Rattle.clause_decision.proofs.counting.first_needed.Goals as goal
 

@@ -1,9 +1,6 @@
 use Rattle.std.proofs.Common.{◌≡◌, ◌∙◌, List, Bool, subst, ap₂}
-use Rattle.netlist.specs.declared.parts.Parts.{Parts}
-use Rattle.clause_decision.specs.Cones.{vector_in}
-use Rattle.clause_decision.specs.Countings.{AreEnough, AreTooFewAt, TellsTooFew}
-use Rattle.clause_decision.specs.Simulations.{IsCountAt}
-use Rattle.clause_decision.specs.LoopsAt.{LoopAt, gates_in, loops_in}
+use Rattle.clause_decision.proofs.Common.{Parts, vector_in, AreTooFewAt, TellsTooFew, IsCountAt, LoopAt, gates_in, loops_in}
+use Rattle.clause_decision.specs.Countings.{AreEnough}
 use Rattle.clause_decision.proofs.SweepingLemmas.{more-needed, these-needed}
 use Rattle.clause_decision.proofs.counting.needed_by.Goals as goal
 

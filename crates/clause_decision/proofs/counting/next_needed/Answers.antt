@@ -1,8 +1,7 @@
 use Rattle.std.proofs.Common.{◌≡◌, ◌+◌, ℕ, List, subst, sym, arith}
-use Rattle.ternary_clauses.specs.declared.formula.Rails.{Rails}
-use Rattle.clause_decision.specs.Countings.{first_number, IsAskedAfter, NeedAtLeast, TellsTooFew}
+use Rattle.clause_decision.proofs.Common.{Rails, first_number, NeedAtLeast, TellsTooFew, LoopAt, gates_in, loops_in}
+use Rattle.clause_decision.specs.Countings.{IsAskedAfter}
 use Rattle.clause_decision.specs.Sweepings.{IsSweptOn}
-use Rattle.clause_decision.specs.LoopsAt.{LoopAt, gates_in, loops_in}
 use Rattle.clause_decision.proofs.counting.next_needed.Goals as goal
 
 pub returns-then-sweeps-needed : goal.returns-then-sweeps-needed

@@ -1,10 +1,6 @@
 use Rattle.std.proofs.Common.{ℕ, subst, sym}
-use Rattle.std.specs.Prelude.{Contains, IfOk, IfSome}
-use Rattle.loops.specs.Blocks.{block_at}
-use Rattle.loops.specs.Cuts.{loops_by}
-use Rattle.looped.specs.Looped.{Looped}
-use Rattle.clause_decision.specs.Changes.{AreFedKnown}
-use Rattle.clause_decision.specs.Sweeping.{IsLeastCount}
+use Rattle.clause_decision.proofs.Common.{IfOk, block_at, loops_by, Looped, AreFedKnown, IsLeastCount}
+use Rattle.std.specs.Prelude.{Contains, IfSome}
 use Rattle.clause_decision.proofs.counting.sweeps_fed_known.Goals as goal
 
 pub sweeps_of_loop-requires-clause-serves : goal.sweeps_of_loop-requires-clause-serves

@@ -1,9 +1,6 @@
 use Rattle.std.proofs.Common.{ℕ, subst}
-use Rattle.std.specs.Prelude.{Contains, IfOk, IfSome}
-use Rattle.loops.specs.Blocks.{block_at}
-use Rattle.loops.specs.Cuts.{loops_by}
-use Rattle.looped.specs.Looped.{Looped}
-use Rattle.clause_decision.specs.Sweeping.{IsLeastCount}
+use Rattle.clause_decision.proofs.Common.{IfOk, block_at, loops_by, Looped, IsLeastCount}
+use Rattle.std.specs.Prelude.{Contains, IfSome}
 use Rattle.clause_decision.proofs.counting.sweeps_needed.Goals as goal
 
 pub returns : goal.returns

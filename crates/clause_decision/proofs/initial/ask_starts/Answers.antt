@@ -1,9 +1,8 @@
 use Rattle.std.proofs.Common.{◌∙◌, ◌++◌, ◌<◌, ℕ, List, length, take, get_or, sym, ap, ap₂, arith}
-use Rattle.std.proofs.lemmas.List.{append_assoc, get_or_default}
+use Rattle.clause_decision.proofs.Common.{get_or_default, Latch, Rails, asked_starts}
+use Rattle.std.proofs.lemmas.List.{append_assoc}
 use Rattle.std.proofs.lemmas.Option.{get_or_from_slice_get, slice_get_within}
-use Rattle.netlist.specs.declared.parts.Latch.{Latch}
-use Rattle.ternary_clauses.specs.declared.formula.Rails.{Rails}
-use Rattle.clause_decision.specs.Starts.{asked_of, asked_starts}
+use Rattle.clause_decision.specs.Starts.{asked_of}
 use Rattle.clause_decision.proofs.StartLemmas.{asked-more}
 use Rattle.clause_decision.proofs.initial.ask_starts.Goals as goal
 

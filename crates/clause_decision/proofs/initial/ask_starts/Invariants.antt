@@ -1,5 +1,5 @@
 use Rattle.std.proofs.Common.{◌≡◌, ◌++◌, take}
-use Rattle.clause_decision.specs.Starts.{asked_starts}
+use Rattle.clause_decision.proofs.Common.{asked_starts}
 use Rattle.clause_decision.proofs.initial.ask_starts.Given as goal
 
 abbrev pub invariant-loop-latch : goal.invariant-loop-latch

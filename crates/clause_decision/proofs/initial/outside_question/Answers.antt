@@ -1,13 +1,8 @@
 use Rattle.std.proofs.Common.{◌≡◌, ◌∙◌, ◌∷◌, ℕ, ◌*◌, ◌<◌, List, length, map, subst, sym, ap}
 use Rattle.std.specs.Prelude.{IfSome}
-use Rattle.std.specs.List.{All, list_all}
-use Rattle.std.proofs.lemmas.List.{length-map}
-use Rattle.care_sets.specs.Care.{is_in_invariant}
-use Rattle.ternary_clauses.specs.Columns.{SaysColumns}
-use Rattle.ternary_clauses.specs.declared.formula.Rails.{Rails}
-use Rattle.ternary_clauses.specs.Formulas.{negation, says as says_lit}
-use Rattle.clause_decision.specs.Formulas.{IsOver, ReadsWithin, SaysTest}
-use Rattle.clause_decision.specs.Starts.{asked_starts}
+use Rattle.clause_decision.proofs.Common.{list_all, length-map, is_in_invariant, SaysColumns, Rails, negation, IsOver, ReadsWithin, SaysTest, asked_starts}
+use Rattle.std.specs.List.{All}
+use Rattle.ternary_clauses.specs.Formulas.{says as says_lit}
 use Rattle.clause_decision.specs.Tests.{is_outside}
 use Rattle.clause_decision.proofs.FormulaLemmas.{asks-over, ones-within, over-columns, over-grows}
 use Rattle.clause_decision.proofs.ModelLemmas.{invariant-reads}

@@ -1,5 +1,5 @@
 use Rattle.std.proofs.Common.{rules}
-use Rattle.care_sets.specs.Care.{columns}
+use Rattle.clause_decision.proofs.Common.{columns}
 use Rattle.refusals.proofs.FirstLemmas.{nothing_passes}
 use Rattle.clause_decision.specs.Tests.{is_leaving}
 use Rattle.clause_decision.proofs.LeavingLemmas.{none-leaves}

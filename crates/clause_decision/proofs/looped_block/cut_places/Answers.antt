@@ -1,6 +1,5 @@
 use Rattle.std.proofs.Common.{◌∙◌, ◌+◌, sym, ap, subst}
-use Rattle.loops.specs.Cuts.{is_cut}
-use Rattle.clause_decision.specs.LoopsAt.{AreCutPlacesBelow}
+use Rattle.clause_decision.proofs.Common.{is_cut, AreCutPlacesBelow}
 use Rattle.clause_decision.proofs.LoopLemmas.{places-cut, places-uncut}
 use Rattle.clause_decision.proofs.looped_block.cut_places.Goals.{then-wires-gates+in_ok-push, else-wires-gates}
 use Rattle.clause_decision.proofs.looped_block.cut_places.Goals as goal

@@ -1,5 +1,4 @@
-use Rattle.loops.specs.Cuts.{is_cut}
-use Rattle.clause_decision.specs.LoopsAt.{AreCutPlacesBelow}
+use Rattle.clause_decision.proofs.Common.{is_cut, AreCutPlacesBelow}
 use Rattle.clause_decision.proofs.looped_block.cut_places.Given as goal
 
 abbrev pub invariant-loop-place : goal.invariant-loop-place

@@ -1,10 +1,6 @@
 use Rattle.std.proofs.Common.{◌≡◌, ◌∙◌, Bool, Some, List, length, true, sym, ap, subst}
-use Rattle.std.specs.Option.{option_map_or}
-use Rattle.std.proofs.lemmas.Result.{IfOk-weaker}
+use Rattle.clause_decision.proofs.Common.{option_map_or, IfOk-weaker, holds_at, is_in_invariant, CareModel, ReadsWithin, SaysTest}
 use Rattle.std.proofs.Math.Path.{fun_ext}
-use Rattle.care_sets.specs.Care.{holds_at, is_in_invariant}
-use Rattle.care_sets.specs.declared.model.CareModel.{CareModel}
-use Rattle.clause_decision.specs.Formulas.{ReadsWithin, SaysTest}
 use Rattle.clause_decision.proofs.ModelLemmas.{model-says, there, of-there, rails-within}
 use Rattle.clause_decision.proofs.models.add_invariant.Goals as goal
 use Rattle.clause_decision.proofs.models.add_invariant.Goals.{After-deref}

@@ -1,11 +1,6 @@
 use Rattle.std.proofs.Common.{◌≡◌, ◌∙◌, ◌<◌, ◌+◌, [], ◌∷◌, ◌++◌, ℕ, List, length, take, get_or, set, ap, sym, subst, arith}
-use Rattle.std.proofs.lemmas.List.{get_or_default}
-use Rattle.cyc_base.specs.declared.sig.Sig.{Sig}
+use Rattle.clause_decision.proofs.Common.{get_or_default, Sig, Parts, gate_at, LoopAt, HasGainedReader}
 use Rattle.netlist.specs.declared.parts.Gate.{Gate}
-use Rattle.netlist.specs.declared.parts.Parts.{Parts}
-use Rattle.netlist.specs.Netlists.{gate_at}
-use Rattle.clause_decision.specs.LoopsAt.{LoopAt}
-use Rattle.clause_decision.specs.Readers.{HasGainedReader}
 use Rattle.clause_decision.proofs.ReaderLemmas.{gained-nothing, gained-pin, taken-next}
 use Rattle.clause_decision.proofs.readers.add_reader.Goals as goal
 use Rattle.clause_decision.proofs.readers.add_reader.Goals.{in-Some+in_ok-push, in_default}

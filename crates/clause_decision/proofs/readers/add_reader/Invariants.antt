@@ -1,6 +1,5 @@
 use Rattle.std.proofs.Common.{take}
-use Rattle.netlist.specs.Netlists.{gate_at}
-use Rattle.clause_decision.specs.Readers.{HasGainedReader}
+use Rattle.clause_decision.proofs.Common.{gate_at, HasGainedReader}
 use Rattle.clause_decision.proofs.readers.add_reader.Given as goal
 
 abbrev pub invariant-loop-pin : goal.invariant-loop-pin

@@ -1,8 +1,6 @@
 use Rattle.std.proofs.Common.{◌≡◌, ◌∙◌, ◌+◌, ◌∷◌, [], ◌++◌, ℕ, List, length, take, get_or, sym, subst, arith}
 use Rattle.std.proofs.lemmas.List.{with_items_is}
-use Rattle.netlist.specs.Netlists.{gate_at}
-use Rattle.clause_decision.specs.LoopsAt.{LoopAt, gates_in}
-use Rattle.clause_decision.specs.Readers.{HasGainedReader, AreReaders}
+use Rattle.clause_decision.proofs.Common.{gate_at, LoopAt, gates_in, HasGainedReader, AreReaders}
 use Rattle.clause_decision.proofs.LoopLemmas.{gates-fit}
 use Rattle.clause_decision.proofs.ReaderLemmas.{readers-more, taken-next}
 use Rattle.clause_decision.proofs.readers.readers_in.Goals as goal

@@ -1,6 +1,5 @@
 use Rattle.std.proofs.Common.{take}
-use Rattle.clause_decision.specs.LoopsAt.{gates_in}
-use Rattle.clause_decision.specs.Readers.{AreReaders}
+use Rattle.clause_decision.proofs.Common.{gates_in, AreReaders}
 use Rattle.clause_decision.proofs.readers.readers_in.Given as goal
 
 abbrev pub invariant-loop-gate : goal.invariant-loop-gate

@@ -1,21 +1,11 @@
 use Rattle.std.proofs.Common.{rules, ◌≡◌, ◌∙◌, ◌+◌, ◌<◌, inl, inr, ℕ, Bool, List, length, get_or, replicate, sym, ap, ap₂, subst, arith, length-append}
 use Rattle.std.specs.List.{Contains}
 use Rattle.std.specs.Vec.{with_items}
-use Rattle.std.proofs.lemmas.Bool.{cases_lt}
+use Rattle.clause_decision.proofs.Common.{cases_lt, length-map, Contains-get_or, Trit, X, bit, bits, Parts, fix, fix_gates, is_cut, CutsAreFixed, value_in, IsReady, LoopAt, gates_in, loops_in, AreReaders}
 use Rattle.std.proofs.lemmas.Bool.Decides.{nat_tests}
-use Rattle.std.proofs.lemmas.List.{length-map, with_items_is}
-use Rattle.std.proofs.lemmas.List.Elements.{Contains-get_or}
-use Rattle.cyc_base.specs.declared.trit.Trit.{Trit}
-use Rattle.cyc_base.specs.declared.trit.Trit.TheVariants.{X}
-use Rattle.cyc_base.specs.Values.{bit, bits}
-use Rattle.netlist.specs.declared.parts.Parts.{Parts}
-use Rattle.netlist.specs.Fixpoint.{fix, fix_gates}
-use Rattle.loops.specs.Cuts.{is_cut}
-use Rattle.loops.specs.Sweeps.{CutsAreFixed, value_in}
+use Rattle.std.proofs.lemmas.List.{with_items_is}
 use Rattle.loops.proofs.Sweeps.{length-fix}
-use Rattle.clause_decision.specs.Events.{IsReady, IsSwept}
-use Rattle.clause_decision.specs.LoopsAt.{LoopAt, gates_in, loops_in}
-use Rattle.clause_decision.specs.Readers.{AreReaders}
+use Rattle.clause_decision.specs.Events.{IsSwept}
 use Rattle.clause_decision.proofs.EventLemmas.{ready-first}
 use Rattle.clause_decision.proofs.LoopLemmas.{cuts-enough, gate-fits}
 use Rattle.clause_decision.proofs.SimulationLemmas.{changed-needs, still-fixed, swept-next, unknown-first}

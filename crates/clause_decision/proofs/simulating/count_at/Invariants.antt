@@ -1,10 +1,6 @@
 use Rattle.std.proofs.Common.{◌≡◌, ◌<◌, ℕ, true}
 use Rattle.std.specs.List.{Contains}
-use Rattle.cyc_base.specs.Values.{bits}
-use Rattle.loops.specs.Cuts.{is_cut}
-use Rattle.loops.specs.Sweeps.{CutsAreFixed, sweeps, value_in}
-use Rattle.clause_decision.specs.Events.{IsReady}
-use Rattle.clause_decision.specs.LoopsAt.{gates_in, loops_in}
+use Rattle.clause_decision.proofs.Common.{bits, is_cut, CutsAreFixed, sweeps, value_in, IsReady, gates_in, loops_in}
 use Rattle.clause_decision.proofs.simulating.count_at.Given as goal
 
 abbrev pub invariant-loop-sweeps : goal.invariant-loop-sweeps

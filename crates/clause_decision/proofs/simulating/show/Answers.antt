@@ -1,8 +1,6 @@
 use Rattle.std.proofs.Common.{◌≡◌, ◌∙◌, ◌<◌, ◌++◌, [], ℕ, List, length, drop, get_or, ap, subst, arith}
-use Rattle.std.proofs.lemmas.List.{drop_all, get_or_default, length-set}
-use Rattle.cyc_base.specs.declared.trit.Trit.{Trit}
-use Rattle.cyc_base.specs.declared.trit.Trit.TheVariants.{Zero, X}
-use Rattle.clause_decision.specs.Events.{AreUnseen}
+use Rattle.clause_decision.proofs.Common.{get_or_default, length-set, Trit, Zero, X, AreUnseen}
+use Rattle.std.proofs.lemmas.List.{drop_all}
 use Rattle.clause_decision.proofs.EventLemmas.{shown-next}
 use Rattle.clause_decision.proofs.simulating.show.Goals as goal
 

@@ -1,8 +1,6 @@
 use Rattle.std.proofs.Common.{◌≡◌, List, length, drop}
-use Rattle.cyc_base.specs.declared.trit.Trit.{Trit}
-use Rattle.clause_decision.specs.Events.{AreUnseen, IsSweeping, IsSwept}
-use Rattle.clause_decision.specs.LoopsAt.{LoopAt, gates_in}
-use Rattle.clause_decision.specs.Readers.{AreReaders}
+use Rattle.clause_decision.proofs.Common.{Trit, AreUnseen, IsSweeping, LoopAt, gates_in, AreReaders}
+use Rattle.clause_decision.specs.Events.{IsSwept}
 use Rattle.clause_decision.proofs.simulating.show.Given as goal
 
 abbrev pub invariant-loop-wire : goal.invariant-loop-wire

@@ -1,10 +1,7 @@
 use Rattle.std.proofs.Common.{◌≡◌, ◌∙◌, ◌<◌, ◌++◌, ◌∷◌, [], true, false, ℕ, List, length, get_or, set, sym, ap, subst, arith}
-use Rattle.std.proofs.lemmas.List.{get_or_default}
+use Rattle.clause_decision.proofs.Common.{get_or_default, Trit, is_cut, AreUnseen, IsSweeping, LoopAt, gates_in}
 use Rattle.std.specs.List.{Contains}
-use Rattle.cyc_base.specs.declared.trit.Trit.{Trit}
-use Rattle.loops.specs.Cuts.{is_cut}
-use Rattle.clause_decision.specs.Events.{AreUnseen, IsDetermined, IsNewValue, IsSweeping}
-use Rattle.clause_decision.specs.LoopsAt.{LoopAt, gates_in}
+use Rattle.clause_decision.specs.Events.{IsDetermined, IsNewValue}
 use Rattle.clause_decision.proofs.EventLemmas.{cut-differs, cut-set, cut-unseen, gate-kept, total, uncut-differs, uncut-set, uncut-unseen, waiting-inside, work_left, work_left-cut, work_left-kept, work_left-uncut}
 use Rattle.clause_decision.proofs.LoopLemmas.{gate-fits}
 use Rattle.clause_decision.proofs.simulating.sweep.Goals as goal

@@ -1,7 +1,6 @@
 use Rattle.std.proofs.Common.{◌≢◌, ℕ}
 use Rattle.std.specs.List.{Contains}
-use Rattle.loops.specs.Sweeps.{value_in}
-use Rattle.clause_decision.specs.Events.{AreUnseen, IsSweeping}
+use Rattle.clause_decision.proofs.Common.{value_in, AreUnseen, IsSweeping}
 use Rattle.clause_decision.proofs.EventLemmas.{total, work_left}
 use Rattle.clause_decision.proofs.simulating.sweep.Given as goal
 

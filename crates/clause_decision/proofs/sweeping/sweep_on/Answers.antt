@@ -1,9 +1,7 @@
 use Rattle.std.proofs.Common.{rules, ◌≡◌, ◌∙◌, ◌+◌, length, ap, subst, sym}
 use Rattle.std.specs.List.{All}
-use Rattle.loops.specs.Sweeps.{sweeps}
-use Rattle.ternary_clauses.specs.Rails.{AreWithin}
-use Rattle.ternary_clauses.specs.Sweeps.{ReadsPlaces, SaysSweep}
-use Rattle.clause_decision.specs.LoopsAt.{gates_in, loops_in}
+use Rattle.clause_decision.proofs.Common.{sweeps, AreWithin, ReadsPlaces, gates_in, loops_in}
+use Rattle.ternary_clauses.specs.Sweeps.{SaysSweep}
 use Rattle.clause_decision.proofs.SweepingLemmas.{sweep-cone, sweep-reads}
 use Rattle.clause_decision.proofs.sweeping.sweep_on.Goals as goal
 

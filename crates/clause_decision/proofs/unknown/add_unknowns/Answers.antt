@@ -1,7 +1,6 @@
 use Rattle.std.proofs.Common.{◌≡◌, ℕ, ◌*◌, ◌<◌, List, sym, ap, subst, ◌∙◌}
 use Rattle.std.specs.List.{All}
-use Rattle.ternary_clauses.specs.Sums.{SaysAny}
-use Rattle.clause_decision.specs.Unknowns.{unknown_literals}
+use Rattle.clause_decision.proofs.Common.{SaysAny, unknown_literals}
 use Rattle.clause_decision.proofs.UnknownLemmas.{unknown_literals-within, unknowns-told}
 use Rattle.clause_decision.proofs.unknown.add_unknowns.Goals as goal
 

@@ -1,12 +1,8 @@
 use Rattle.std.proofs.Common.{◌≡◌, ◌∙◌, ◌∷◌, [], List, Option, ap, subst, sym}
 use Rattle.std.specs.Prelude.{IfSome}
 use Rattle.std.proofs.lemmas.Option.{IfSome_then}
-use Rattle.std.proofs.lemmas.Result.{IfOk-weaker}
-use Rattle.ternary_clauses.specs.declared.formula.Rails.{Rails}
-use Rattle.clause_queries.specs.Clauses.{IsWithin}
+use Rattle.clause_decision.proofs.Common.{IfOk-weaker, Rails, IsWithin, Problem, problem, unknown_literals}
 use Rattle.clause_queries.specs.Each.{TellEach}
-use Rattle.clause_queries.specs.Queries.{Problem, problem}
-use Rattle.clause_decision.specs.Unknowns.{unknown_literals}
 use Rattle.clause_decision.proofs.UnknownLemmas.{each-told, unknown_literals-within}
 use Rattle.clause_decision.proofs.unknown.ask_each.Goals as goal
 

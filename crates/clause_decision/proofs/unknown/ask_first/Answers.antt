@@ -1,7 +1,7 @@
 use Rattle.std.proofs.Common.{◌≡◌, ℕ, List, [], ◌∷◌, Option, subst}
 use Rattle.std.specs.Prelude.{IfSome}
-use Rattle.std.proofs.lemmas.Result.{IfOk-weaker}
-use Rattle.clause_queries.specs.Queries.{Problem, problem, IsFirst}
+use Rattle.clause_decision.proofs.Common.{IfOk-weaker, Problem, problem}
+use Rattle.clause_queries.specs.Queries.{IsFirst}
 use Rattle.clause_decision.proofs.UnknownLemmas.{first-unknown}
 use Rattle.clause_decision.proofs.unknown.ask_first.Goals as goal
 

@@ -1,4 +1,4 @@
-use Rattle.care_sets.specs.Care.{columns}
+use Rattle.clause_decision.proofs.Common.{columns}
 use Rattle.clause_decision.specs.Tests.{is_unknown_at}
 use Rattle.clause_decision.proofs.unknown.least_unknown.Goals as goal
 

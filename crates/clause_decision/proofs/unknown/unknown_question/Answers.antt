@@ -1,8 +1,5 @@
 use Rattle.std.proofs.Common.{◌≡◌, ℕ, ◌+◌, List, [], ◌∷◌, map, take, ap, ap₂, ◌∙◌}
-use Rattle.care_sets.specs.Care.{columns}
-use Rattle.ternary_clauses.specs.declared.formula.Rails.{Rails}
-use Rattle.ternary_clauses.specs.Encoding.{gate_rails}
-use Rattle.ternary_clauses.specs.Formulas.{negation}
+use Rattle.clause_decision.proofs.Common.{columns, Rails, gate_rails, negation}
 use Rattle.clause_decision.proofs.UnknownLemmas.{unknown-question}
 use Rattle.clause_decision.proofs.unknown.unknown_question.Goals as goal
 

@@ -1,10 +1,7 @@
 use Rattle.std.proofs.Common.{List, All, [], subst, sym}
 use Rattle.std.proofs.lemmas.Result.{IfOk-weaker}
-use Rattle.netlist.specs.declared.parts.Parts.{Parts}
-use Rattle.care_sets.specs.Binding.{IsCareOf}
-use Rattle.clause_decision.specs.declared.pairs.Pair.{Pair}
-use Rattle.clause_decision.specs.Apart.{AreNeverApart, IsPairOf}
-use Rattle.equal.specs.Joined.{joined}
+use Rattle.equal.proofs.Common.{Parts, IsCareOf, Pair, IsPairOf, joined}
+use Rattle.clause_decision.specs.Apart.{AreNeverApart}
 use Rattle.equal.proofs.AlikeLemmas.{never_differ}
 use Rattle.equal.proofs.CompareLemmas.{care_joined, pairs_joined}
 use Rattle.equal.proofs.alike.are_alike.Goals as goal

@@ -1,5 +1,5 @@
 use Rattle.std.proofs.Common.{◌∙◌, ap, length}
-use Rattle.netlist.specs.Netlists.{count}
+use Rattle.equal.proofs.Common.{count}
 use Rattle.equal.proofs.AlikeLemmas.{count_joined}
 use Rattle.equal.proofs.alike.find_hints.Goals as goal
 

@@ -1,6 +1,5 @@
 use Rattle.std.proofs.Common.{◌≡◌, sym, subst, ◌∙◌}
-use Rattle.std.specs.Prelude.{IfOk}
-use Rattle.equal.specs.declared.answer.Answer.{Answer}
+use Rattle.equal.proofs.Common.{IfOk, Answer}
 use Rattle.equal.proofs.CompareLemmas.{difference_wide, told_at, told_nowhere}
 use Rattle.equal.proofs.comparing.compare_accepted.Goals as goal
 

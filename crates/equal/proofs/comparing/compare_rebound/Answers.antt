@@ -1,6 +1,5 @@
 use Rattle.std.proofs.Common.{◌≡◌, subst}
-use Rattle.std.specs.Prelude.{IfOk}
-use Rattle.care_sets.specs.Care.{CareSet}
+use Rattle.equal.proofs.Common.{IfOk, CareSet}
 use Rattle.equal.specs.Differences.{comparison}
 use Rattle.equal.specs.Bounds.{IsBelowEnoughForBoth}
 use Rattle.equal.proofs.ReboundLemmas.{rebound_source}

@@ -1,6 +1,5 @@
 use Rattle.std.proofs.Common.{◌≡◌, sym, subst, ◌∙◌}
-use Rattle.std.specs.Prelude.{IfOk}
-use Rattle.equal.specs.declared.answer.Answer.{Answer}
+use Rattle.equal.proofs.Common.{IfOk, Answer}
 use Rattle.equal.proofs.BoundLemmas.{below_second, below_both, out_second, out_both, same_fault}
 use Rattle.equal.proofs.CompareLemmas.{both_accepted, told_second, told_last}
 use Rattle.equal.proofs.comparing.compare_second.Goals as goal

@@ -1,6 +1,5 @@
 use Rattle.std.proofs.Common.{All, []}
-use Rattle.clause_decision.specs.Apart.{IsPairOf}
-use Rattle.equal.specs.Joined.{joined}
+use Rattle.equal.proofs.Common.{IsPairOf, joined}
 use Rattle.equal.proofs.hints.alike_hints.Given as goal
 
 abbrev pub invariant-loop-place : goal.invariant-loop-place

@@ -1,8 +1,6 @@
 use Rattle.std.proofs.Common.{◌++◌, ◌∷◌, [], map, ap, ap₂, sym, ◌∙◌}
-use Rattle.std.proofs.lemmas.List.{append_assoc, map-append}
-use Rattle.std.specs.List.{range_with_len}
+use Rattle.equal.proofs.Common.{append_assoc, map-append, range_with_len, moved_gate_by}
 use Rattle.unroll.proofs.SizeLemmas.{range_next}
-use Rattle.equal.specs.Joined.{moved_gate_by}
 use Rattle.equal.proofs.joining.add_moved.Goals as goal
 
 pub loop-number-preserved : goal.loop-number-preserved

@@ -1,6 +1,5 @@
 use Rattle.std.proofs.Common.{◌≡◌, ◌++◌, map}
-use Rattle.std.specs.List.{range_with_len}
-use Rattle.equal.specs.Joined.{moved_gate_by}
+use Rattle.equal.proofs.Common.{range_with_len, moved_gate_by}
 use Rattle.equal.proofs.joining.add_moved.Given as goal
 
 abbrev pub invariant-loop-number : goal.invariant-loop-number

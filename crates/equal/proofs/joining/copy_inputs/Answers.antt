@@ -1,5 +1,5 @@
 use Rattle.std.proofs.Common.{◌<◌, ◌++◌, ◌∷◌, [], length, ap₂, sym, ◌∙◌, arith}
-use Rattle.netlist.specs.Netlists.{driven_names}
+use Rattle.equal.proofs.Common.{driven_names}
 use Rattle.unroll.proofs.Kept.{taken_first}
 use Rattle.equal.proofs.joining.copy_inputs.Goals as goal
 

@@ -1,9 +1,7 @@
 use Rattle.std.proofs.Common.{◌≡◌, ◌++◌, List, [], ap, subst, sym, ◌∙◌}
-use Rattle.std.specs.Prelude.{IfOk}
+use Rattle.equal.proofs.Common.{IfOk, Gate, IsNetlist, moved_gates}
 use Rattle.std.proofs.lemmas.List.{append-nil}
-use Rattle.netlist.specs.declared.parts.Gate.{Gate}
-use Rattle.netlist.specs.Netlists.{IsNetlist}
-use Rattle.equal.specs.Joined.{moved_gates, with_gates}
+use Rattle.equal.specs.Joined.{with_gates}
 use Rattle.equal.proofs.ValidLemmas.{joined_valid}
 use Rattle.equal.proofs.joining.joined_netlist.Goals as goal
 

@@ -1,5 +1,5 @@
 use Rattle.std.proofs.Common.{◌<◌, ◌++◌, ◌∷◌, [], length, ap₂, sym, ◌∙◌, arith}
-use Rattle.std.proofs.lemmas.List.{map_more}
+use Rattle.equal.proofs.Common.{map_more}
 use Rattle.equal.specs.Joined.{moved_by}
 use Rattle.equal.proofs.joining.moved_pins.Goals as goal
 

@@ -1,6 +1,5 @@
 use Rattle.std.proofs.Common.{◌++◌, ap₂, ◌∙◌}
-use Rattle.std.proofs.lemmas.List.{append_assoc}
-use Rattle.equal.specs.Joined.{moved_gates, telling_gates}
+use Rattle.equal.proofs.Common.{append_assoc, moved_gates, telling_gates}
 use Rattle.equal.proofs.least.difference_gates.Goals as goal
 
 pub returns : goal.returns

@@ -1,10 +1,8 @@
 use Rattle.std.proofs.Common.{◌≡◌, ◌++◌, List, length, ap, subst, sym, ◌∙◌}
-use Rattle.std.specs.Prelude.{IfOk, suc}
+use Rattle.equal.proofs.Common.{IfOk, Gate, count, IsNetlist, Pair, moved_gates, telling_gates, joined_pairs}
+use Rattle.std.specs.Prelude.{suc}
 use Rattle.std.proofs.Common.{◌+◌, ◌≤◌}
-use Rattle.netlist.specs.declared.parts.Gate.{Gate}
-use Rattle.netlist.specs.Netlists.{count, IsNetlist}
-use Rattle.clause_decision.specs.declared.pairs.Pair.{Pair}
-use Rattle.equal.specs.Joined.{moved_gates, telling_gates, joined_pairs, with_gates}
+use Rattle.equal.specs.Joined.{with_gates}
 use Rattle.equal.proofs.ValidLemmas.{difference_valid}
 use Rattle.equal.proofs.least.difference_netlist.Goals as goal
 

@@ -1,9 +1,5 @@
 use Rattle.std.proofs.Common.{subst, sym}
-use Rattle.std.specs.Prelude.{IfOk}
-use Rattle.netlist.specs.declared.parts.Parts.{Parts}
-use Rattle.care_sets.specs.Binding.{IsCareOf}
-use Rattle.equal.specs.Early.{IsKnownEarly}
-use Rattle.equal.specs.Joined.{joined_pairs, telling_gates}
+use Rattle.equal.proofs.Common.{IfOk, Parts, IsCareOf, IsKnownEarly, joined_pairs, telling_gates}
 use Rattle.equal.proofs.CompareLemmas.{care_joined}
 use Rattle.equal.proofs.DifferenceLemmas.{early_found}
 use Rattle.equal.proofs.MatchLemmas.{matched}

@@ -1,6 +1,5 @@
 use Rattle.std.proofs.Common.{◌+◌, ◌-◌, ◌≤◌, ◌++◌, List, length, All, subst, sym, ◌∙◌}
-use Rattle.clause_decision.specs.declared.pairs.Pair.{Pair}
-use Rattle.equal.specs.Differences.{output_pairs, latch_pairs}
+use Rattle.equal.proofs.Common.{Pair, output_pairs, latch_pairs}
 use Rattle.equal.proofs.CompareLemmas.{pairs_fit}
 use Rattle.equal.proofs.least.joined_pairs.Goals as goal
 

@@ -1,16 +1,9 @@
 use Rattle.std.proofs.Common.{◌≡◌, Bool, Option, List, ℕ, All, [], subst, sym, ap₂, ◌∙◌}
-use Rattle.std.specs.Prelude.{IfOk}
-use Rattle.fixpoint.specs.Orders.{order}
+use Rattle.equal.proofs.Common.{IfOk, order, Parts, IsCareOf, columns, Pair, IsPairOf, joined}
 use Rattle.verdict.specs.Causes.{IsOutOfNodes}
 use Rattle.differences.specs.Comparisons.{IsBelowEnoughFor}
-use Rattle.netlist.specs.declared.parts.Parts.{Parts}
 use Rattle.bdd_ops.specs.Least.{IsLayout}
-use Rattle.care_sets.specs.Binding.{IsCareOf}
-use Rattle.care_sets.specs.Care.{columns}
-use Rattle.clause_decision.specs.declared.pairs.Pair.{Pair}
-use Rattle.clause_decision.specs.Apart.{IsPairOf}
 use Rattle.differences.specs.Pairs.{least_apart}
-use Rattle.equal.specs.Joined.{joined}
 use Rattle.equal.proofs.CompareLemmas.{care_joined, pairs_joined, least_joined}
 use Rattle.equal.proofs.least.late_difference.Goals as goal
 

@@ -1,6 +1,5 @@
 use Rattle.std.proofs.Common.{◌<◌, ◌++◌, ◌∷◌, [], length, ap₂, sym, ◌∙◌, arith}
-use Rattle.std.proofs.lemmas.List.{map_more}
-use Rattle.equal.specs.Joined.{moved_pair_by}
+use Rattle.equal.proofs.Common.{map_more, moved_pair_by}
 use Rattle.equal.proofs.least.moved_pairs.Goals as goal
 
 pub loop-pair-preserved : goal.loop-pair-preserved

@@ -1,5 +1,5 @@
 use Rattle.std.proofs.Common.{◌≡◌, map, take}
-use Rattle.equal.specs.Joined.{moved_pair_by}
+use Rattle.equal.proofs.Common.{moved_pair_by}
 use Rattle.equal.proofs.least.moved_pairs.Given as goal
 
 abbrev pub invariant-loop-pair : goal.invariant-loop-pair

@@ -1,6 +1,5 @@
 use Rattle.std.proofs.Common.{not, ap, sym, ◌∙◌}
-use Rattle.netlist.specs.declared.parts.Latch.{Latch}
-use Rattle.equal.specs.Matching.{is_latch}
+use Rattle.equal.proofs.Common.{Latch, is_latch}
 use Rattle.equal.proofs.NameLemmas.{find_next, find_here}
 use Rattle.equal.proofs.matching.first_new_latch.Goals as goal
 

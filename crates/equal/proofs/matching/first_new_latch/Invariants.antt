@@ -1,6 +1,5 @@
 use Rattle.std.proofs.Common.{◌≡◌, not, take, None}
-use Rattle.std.specs.Prelude.{find}
-use Rattle.equal.specs.Matching.{is_latch}
+use Rattle.equal.proofs.Common.{find, is_latch}
 use Rattle.equal.proofs.matching.first_new_latch.Given as goal
 
 abbrev pub invariant-loop-number : goal.invariant-loop-number

@@ -1,6 +1,5 @@
 use Rattle.std.proofs.Common.{not, ap, sym, ◌∙◌}
-use Rattle.netlist.specs.declared.parts.Latch.{Latch}
-use Rattle.equal.specs.Matching.{has_latch}
+use Rattle.equal.proofs.Common.{Latch, has_latch}
 use Rattle.equal.proofs.NameLemmas.{find_next, find_here}
 use Rattle.equal.proofs.matching.first_other_latch.Goals as goal
 

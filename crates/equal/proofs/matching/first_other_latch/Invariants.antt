@@ -1,6 +1,5 @@
 use Rattle.std.proofs.Common.{◌≡◌, not, take, None}
-use Rattle.std.specs.Prelude.{find}
-use Rattle.equal.specs.Matching.{has_latch}
+use Rattle.equal.proofs.Common.{find, has_latch}
 use Rattle.equal.proofs.matching.first_other_latch.Given as goal
 
 abbrev pub invariant-loop-number : goal.invariant-loop-number

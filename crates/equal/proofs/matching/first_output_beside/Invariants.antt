@@ -1,6 +1,5 @@
 use Rattle.std.proofs.Common.{◌≡◌, not, take, None}
-use Rattle.std.specs.Prelude.{find}
-use Rattle.equal.specs.Matching.{is_output, output_names}
+use Rattle.equal.proofs.Common.{find, is_output, output_names}
 use Rattle.equal.proofs.matching.first_output_beside.Given as goal
 
 abbrev pub invariant-loop-output : goal.invariant-loop-output

@@ -1,6 +1,5 @@
 use Rattle.std.proofs.Common.{ap, ◌∙◌}
-use Rattle.std.specs.List.{list_any}
-use Rattle.netlist.specs.Netlists.{sig_eq}
+use Rattle.equal.proofs.Common.{list_any, sig_eq}
 use Rattle.equal.proofs.NameLemmas.{output_found}
 use Rattle.equal.proofs.matching.is_output.Goals as goal
 

@@ -1,7 +1,5 @@
 use Rattle.std.proofs.Common.{◌<◌, List, length, refl, subst, sym, arith}
-use Rattle.std.specs.List.{IsDistinct}
-use Rattle.cyc_base.specs.declared.sig.Sig.{Sig}
-use Rattle.netlist.specs.Netlists.{sig_eq}
+use Rattle.equal.proofs.Common.{IsDistinct, Sig, sig_eq}
 use Rattle.equal.proofs.LoopLemmas.{outputs_more}
 use Rattle.equal.proofs.matching.output_set.Goals as goal
 

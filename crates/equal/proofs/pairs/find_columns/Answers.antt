@@ -1,6 +1,5 @@
 use Rattle.std.proofs.Common.{◌<◌, ◌++◌, ◌∷◌, [], ap₂, sym, ◌∙◌, arith}
-use Rattle.care_sets.specs.Care.{columns}
-use Rattle.equal.specs.Differences.{column_named}
+use Rattle.equal.proofs.Common.{columns, column_named}
 use Rattle.equal.proofs.MatchLemmas.{column_taken}
 use Rattle.equal.proofs.pairs.find_columns.Goals as goal
 

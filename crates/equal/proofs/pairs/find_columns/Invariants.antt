@@ -1,6 +1,5 @@
 use Rattle.std.proofs.Common.{◌≡◌, map, take}
-use Rattle.care_sets.specs.Care.{column_names}
-use Rattle.equal.specs.Differences.{column_named}
+use Rattle.equal.proofs.Common.{column_names, column_named}
 use Rattle.equal.proofs.pairs.find_columns.Given as goal
 
 abbrev pub invariant-loop-number : goal.invariant-loop-number

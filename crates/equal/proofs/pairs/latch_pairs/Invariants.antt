@@ -1,6 +1,5 @@
 use Rattle.std.proofs.Common.{◌≡◌, map, take}
-use Rattle.netlist.specs.declared.parts.Latch.{Latch}
-use Rattle.equal.specs.Differences.{pair_of, source_named}
+use Rattle.equal.proofs.Common.{Latch, pair_of, source_named}
 use Rattle.equal.proofs.pairs.latch_pairs.Given as goal
 
 abbrev pub invariant-loop-number : goal.invariant-loop-number

@@ -1,6 +1,5 @@
 use Rattle.std.proofs.Common.{◌≡◌, map, take}
-use Rattle.equal.specs.Matching.{name_of}
-use Rattle.equal.specs.Differences.{pair_of, signal_named}
+use Rattle.equal.proofs.Common.{name_of, pair_of, signal_named}
 use Rattle.equal.proofs.pairs.output_pairs.Given as goal
 
 abbrev pub invariant-loop-output : goal.invariant-loop-output

@@ -1,5 +1,5 @@
 use Rattle.std.proofs.Common.{◌<◌, ◌++◌, ◌∷◌, [], false, length, get_or, ap₂, sym, ◌∙◌, arith}
-use Rattle.std.proofs.lemmas.List.{map_more}
+use Rattle.equal.proofs.Common.{map_more}
 use Rattle.equal.proofs.placing.values_of_columns.Goals as goal
 
 pub loop-column-preserved : goal.loop-column-preserved

@@ -1,8 +1,6 @@
 use Rattle.std.proofs.Common.{◌++◌, ◌∷◌, [], map, ap, ap₂, sym, ◌∙◌}
-use Rattle.std.proofs.lemmas.List.{append_assoc, map-append}
-use Rattle.std.specs.List.{range_with_len}
+use Rattle.equal.proofs.Common.{append_assoc, map-append, range_with_len, link_gate}
 use Rattle.unroll.proofs.SizeLemmas.{range_next}
-use Rattle.equal.specs.Joined.{link_gate}
 use Rattle.equal.proofs.telling.add_links.Goals as goal
 
 pub loop-place-preserved : goal.loop-place-preserved

@@ -1,6 +1,5 @@
 use Rattle.std.proofs.Common.{◌≡◌, ◌++◌, map}
-use Rattle.std.specs.List.{range_with_len}
-use Rattle.equal.specs.Joined.{link_gate}
+use Rattle.equal.proofs.Common.{range_with_len, link_gate}
 use Rattle.equal.proofs.telling.add_links.Given as goal
 
 abbrev pub invariant-loop-place : goal.invariant-loop-place

@@ -1,6 +1,5 @@
 use Rattle.std.proofs.Common.{◌∙◌, ◌++◌, List, sym, ap₂, subst}
-use Rattle.bdd_store.specs.Soundness.{IsLawful}
-use Rattle.dual_rail.specs.declared.rail.Rails.{Rails}
+use Rattle.fixpoint.proofs.Common.{IsLawful, Rails}
 use Rattle.fixpoint.proofs.KeptLemmas.{RootsStay-swept}
 use Rattle.fixpoint.proofs.clearing.sweep_store.Goals as goal
 

@@ -1,11 +1,5 @@
 use Rattle.std.proofs.Common.{[], ◌∷◌, ◌+◌, ◌*◌, sym, ◌∙◌, subst, get_or, true≢false, arith}
-use Rattle.std.proofs.lemmas.List.{get_or_default}
-use Rattle.bdd_store.specs.Growth.{GrowsWithin, NoOtherCause}
-use Rattle.bdd_store.proofs.GrowthLemmas.{within_then, within_moved, within_more, within_refused, within_answered}
-use Rattle.dual_rail.specs.declared.rail.Rails.{Rails}
-use Rattle.fixpoint.specs.Counts.{SameRailsOn, IsCompared}
-use Rattle.fixpoint.specs.Sweeping.{rails_at, unknown}
-use Rattle.dual_rail.specs.WorkingLists.{IsWide}
+use Rattle.fixpoint.proofs.Common.{get_or_default, GrowsWithin, NoOtherCause, within_then, within_moved, within_more, within_refused, within_answered, Rails, SameRailsOn, IsCompared, rails_at, unknown, IsWide}
 use Rattle.fixpoint.proofs.CompareLemmas.{place-wide}
 use Rattle.fixpoint.proofs.CountLemmas.{SameRailsOn-back, SameRailsOn-forth, more_agree}
 use Rattle.fixpoint.proofs.counting.agree_on.Goals as goal

@@ -1,8 +1,5 @@
 use Rattle.std.proofs.Common.{◌*◌, ◌<◌, ◌≤◌, ℕ, [], ◌∷◌, slice_index_or}
-use Rattle.bdd_store.proofs.GrowthLemmas.{HasGrown}
-use Rattle.dual_rail.specs.WorkingLists.{IsWide}
-use Rattle.dual_rail.specs.declared.rail.Rails.{Rails}
-use Rattle.fixpoint.specs.Counts.{SameRailsOn, IsCompared}
+use Rattle.fixpoint.proofs.Common.{HasGrown, IsWide, Rails, SameRailsOn, IsCompared}
 use Rattle.fixpoint.proofs.counting.agree_on.Given as goal
 
 abbrev pub invariant-loop-place : goal.invariant-loop-place

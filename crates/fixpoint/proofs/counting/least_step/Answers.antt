@@ -1,11 +1,6 @@
 use Rattle.std.proofs.Common.{ℕ, ap, ◌+◌, ◌*◌, ◌≤◌, ◌≡◌, ◌-◌, ◌∙◌, sym, [], length, arith, true≢false}
 use Rattle.std.proofs.lemmas.List.{get_or_read}
-use Rattle.bdd_store.specs.Growth.{GrowsWithin, NoOtherCause}
-use Rattle.bdd_store.proofs.GrowthLemmas.{within_then, within_moved, within_more, within_refused, within_answered}
-use Rattle.fixpoint.specs.Solved.{step_at}
-use Rattle.fixpoint.specs.Counts.{IsLeastStep, IsCompared}
-use Rattle.std.proofs.Math.Nat.{mul-le-mul_left}
-use Rattle.dual_rail.specs.WorkingLists.{IsWide}
+use Rattle.fixpoint.proofs.Common.{GrowsWithin, NoOtherCause, within_then, within_moved, within_more, within_refused, within_answered, step_at, IsLeastStep, IsCompared, mul-le-mul_left, IsWide}
 use Rattle.fixpoint.proofs.CompareLemmas.{steps-wide}
 use Rattle.fixpoint.proofs.CountLemmas.{least_here, none_more, least_last}
 use Rattle.fixpoint.proofs.counting.least_step.Goals as goal

@@ -1,8 +1,5 @@
 use Rattle.std.proofs.Common.{◌*◌, ◌<◌, ◌≤◌, ℕ}
-use Rattle.bdd_store.proofs.GrowthLemmas.{HasGrown}
-use Rattle.dual_rail.specs.WorkingLists.{IsWide}
-use Rattle.fixpoint.specs.Solved.{step_at, last_step}
-use Rattle.fixpoint.specs.Counts.{AgreeOn, IsCompared}
+use Rattle.fixpoint.proofs.Common.{HasGrown, IsWide, step_at, last_step, AgreeOn, IsCompared}
 use Rattle.fixpoint.proofs.counting.least_step.Given as goal
 
 abbrev pub invariant-loop-number : goal.invariant-loop-number

@@ -1,14 +1,5 @@
 use Rattle.std.proofs.Common.{◌≡◌, ◌∙◌, ◌*◌, ℕ, ap, ap₂, sym, subst, List, map, length, arith}
-use Rattle.std.proofs.lemmas.List.{length-map}
-use Rattle.std.specs.List.{All}
-use Rattle.bdd_store.specs.Soundness.{IsLawful}
-use Rattle.bdd_store.specs.Growth.{GrowsWithin, NoOtherCause}
-use Rattle.bdd_store.proofs.GrowthLemmas.{within_moved, within_more, within_refused, within_answered}
-use Rattle.dual_rail.specs.declared.rail.Rails.{Rails}
-use Rattle.dual_rail.specs.WorkingLists.{IsWide}
-use Rattle.fixpoint.specs.Kept.{rails_under}
-use Rattle.fixpoint.specs.Solved.{steps_under}
-use Rattle.fixpoint.specs.Counts.{AreNodes, IsCompared, IsLeastStep}
+use Rattle.fixpoint.proofs.Common.{length-map, All, IsLawful, GrowsWithin, NoOtherCause, within_moved, within_more, within_refused, within_answered, Rails, IsWide, rails_under, steps_under, AreNodes, IsCompared, IsLeastStep}
 use Rattle.fixpoint.proofs.CountLemmas.{loop-nodes, loop-widths}
 use Rattle.fixpoint.proofs.counting.least_sweeps.Goals as goal
 use Rattle.fixpoint.proofs.counting.least_sweeps.Goals.{After-least_step}

@@ -1,9 +1,8 @@
 use Rattle.std.proofs.Common.{sym, ◌∙◌, subst, arith}
-use Rattle.bdd_store.specs.Growth.{GrowsWithin, NoOtherCause}
-use Rattle.bdd_store.proofs.GrowthLemmas.{within_one, within_then, within_more, within_refused, within_answered}
+use Rattle.fixpoint.proofs.Common.{GrowsWithin, NoOtherCause, within_then, within_more, within_refused, within_answered, IsLawful}
+use Rattle.bdd_store.proofs.GrowthLemmas.{within_one}
 use Rattle.fixpoint.specs.Counts.{BoundsDifference}
 use Rattle.fixpoint.proofs.CompareLemmas.{difference-is}
-use Rattle.bdd_store.specs.Soundness.{IsLawful}
 use Rattle.fixpoint.proofs.CountLemmas.{node_from, node_to, same_from, same_to}
 use Rattle.fixpoint.proofs.counting.same_on.Goals as goal
 use Rattle.fixpoint.proofs.counting.same_on.Goals.{After-and}

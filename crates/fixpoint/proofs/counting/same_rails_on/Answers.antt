@@ -1,8 +1,5 @@
 use Rattle.std.proofs.Common.{[], ◌∷◌, arith}
-use Rattle.bdd_store.specs.Growth.{GrowsWithin, NoOtherCause}
-use Rattle.bdd_store.proofs.GrowthLemmas.{within_then, within_moved, within_more, within_refused, within_answered}
-use Rattle.dual_rail.specs.WorkingLists.{IsWide}
-use Rattle.fixpoint.specs.Counts.{IsCompared}
+use Rattle.fixpoint.proofs.Common.{GrowsWithin, NoOtherCause, within_then, within_moved, within_more, within_refused, within_answered, IsWide, IsCompared}
 use Rattle.fixpoint.proofs.CompareLemmas.{ones-either, ones-difference, zeros-either, zeros-difference}
 use Rattle.fixpoint.proofs.counting.same_rails_on.Goals as goal
 use Rattle.fixpoint.proofs.counting.same_rails_on.Goals.{After-same_on, After-same_on-2}

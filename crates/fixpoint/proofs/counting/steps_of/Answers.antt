@@ -1,8 +1,6 @@
 use Rattle.std.proofs.Common.{◌≡◌, ◌∙◌, ◌++◌, ◌∷◌, [], List, map, take, get_or, sym, ap, ap₂, subst}
-use Rattle.std.proofs.lemmas.List.{get_or_default, map_push, take_more}
-use Rattle.std.specs.List.{All}
-use Rattle.dual_rail.specs.declared.rail.Rails.{Rails}
-use Rattle.fixpoint.specs.Kept.{rails_under, AreKept}
+use Rattle.fixpoint.proofs.Common.{get_or_default, take_more, All, Rails, rails_under, AreKept}
+use Rattle.std.proofs.lemmas.List.{map_push}
 use Rattle.fixpoint.proofs.counting.steps_of.Goals as goal
 
 pub rails_of-requires : goal.rails_of-requires

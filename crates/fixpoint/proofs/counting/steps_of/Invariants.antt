@@ -1,5 +1,5 @@
 use Rattle.std.proofs.Common.{◌≡◌, map, take}
-use Rattle.fixpoint.specs.Kept.{rails_under}
+use Rattle.fixpoint.proofs.Common.{rails_under}
 use Rattle.fixpoint.proofs.counting.steps_of.Given as goal
 
 abbrev pub invariant-loop-step : goal.invariant-loop-step

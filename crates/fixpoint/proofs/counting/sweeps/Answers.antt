@@ -1,13 +1,5 @@
 use Rattle.std.proofs.Common.{ℕ, ◌+◌, ◌*◌, ◌≤◌, take, ◌≡◌, ◌<◌, ◌∙◌, sym, List, length, subst, ap, get_or, arith}
-use Rattle.std.specs.List.{sum_by}
-use Rattle.bdd_store.specs.Growth.{GrowsWithin, NoOtherCause}
-use Rattle.bdd_store.specs.Soundness.{IsLawful}
-use Rattle.bdd_store.proofs.GrowthLemmas.{within_then, within_moved, within_more, within_refused, within_answered}
-use Rattle.dual_rail.specs.declared.rail.Rails.{Rails}
-use Rattle.dual_rail.specs.WorkingLists.{IsWide}
-use Rattle.fixpoint.specs.declared.solved.LoopSteps.{LoopSteps}
-use Rattle.fixpoint.specs.Counts.{AreCountable, IsLeastStep, IsCompared, IsComparedIn}
-use Rattle.fixpoint.specs.Solved.{steps_under}
+use Rattle.fixpoint.proofs.Common.{sum_by, GrowsWithin, NoOtherCause, IsLawful, within_then, within_moved, within_more, within_refused, within_answered, Rails, IsWide, LoopSteps, AreCountable, IsLeastStep, IsCompared, IsComparedIn, steps_under}
 use Rattle.fixpoint.proofs.CompareLemmas.{loop-wide, count-more, count-within, loops-more, loops-within}
 use Rattle.fixpoint.proofs.MinimumLemmas.{counts-are-sweeps}
 use Rattle.fixpoint.proofs.CountLemmas.{IsCounting, counting-end, counting-step, loop-nodes, same-steps, countable-kept, least-kept}

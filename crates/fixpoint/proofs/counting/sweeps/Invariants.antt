@@ -1,9 +1,5 @@
 use Rattle.std.proofs.Common.{◌*◌, ◌+◌, length, take}
-use Rattle.std.specs.List.{sum_by}
-use Rattle.bdd_store.proofs.GrowthLemmas.{HasGrown}
-use Rattle.dual_rail.specs.WorkingLists.{IsWide}
-use Rattle.fixpoint.specs.declared.solved.LoopSteps.{LoopSteps}
-use Rattle.fixpoint.specs.Counts.{IsComparedIn}
+use Rattle.fixpoint.proofs.Common.{sum_by, HasGrown, IsWide, LoopSteps, IsComparedIn}
 use Rattle.fixpoint.proofs.CountLemmas.{IsCounting}
 use Rattle.fixpoint.proofs.counting.sweeps.Given as goal
 

@@ -1,7 +1,7 @@
 use Rattle.std.proofs.Common.{◌≡◌, ◌∙◌, ◌++◌, ◌∷◌, [], ℕ, List, None, replicate, ap, arith}
 use Rattle.std.specs.Prelude.{Option}
 use Rattle.std.proofs.lemmas.List.{replicate_more}
-use Rattle.fixpoint.specs.declared.kept.KeptRails.{KeptRails}
+use Rattle.fixpoint.proofs.Common.{KeptRails}
 use Rattle.fixpoint.proofs.keeping.empty_places.Goals as goal
 
 pub loop-init : goal.loop-init

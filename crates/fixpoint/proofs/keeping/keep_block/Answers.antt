@@ -1,8 +1,6 @@
 use Rattle.std.proofs.Common.{List, get_or, subst}
 use Rattle.std.specs.Prelude.{Option, IfSome}
-use Rattle.std.specs.List.{All}
-use Rattle.dual_rail.specs.Rails.{AreRailsOf}
-use Rattle.fixpoint.specs.declared.solved.SweptLoop.{SweptLoop}
+use Rattle.fixpoint.proofs.Common.{All, AreRailsOf, SweptLoop}
 use Rattle.fixpoint.proofs.KeptLemmas.{GainsRoots-chain, All-rails-gained}
 use Rattle.fixpoint.proofs.keeping.keep_block.Goals as goal
 

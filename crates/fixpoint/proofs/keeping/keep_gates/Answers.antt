@@ -1,7 +1,6 @@
 use Rattle.std.proofs.Common.{◌+◌, ℕ, List, get_or, refl, sym, subst, arith}
-use Rattle.std.proofs.lemmas.List.{take_all}
+use Rattle.fixpoint.proofs.Common.{take_all, unknown}
 use Rattle.std.specs.List.{Contains}
-use Rattle.fixpoint.specs.Sweeping.{unknown}
 use Rattle.fixpoint.proofs.KeptLemmas.{GainsRoots-refl, GainsRoots-chain, AreRailsOf-gained}
 use Rattle.fixpoint.proofs.KeepingLemmas.{held-more, others-more}
 use Rattle.fixpoint.proofs.keeping.keep_gates.Goals as goal

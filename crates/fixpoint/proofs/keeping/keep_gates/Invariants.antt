@@ -1,7 +1,6 @@
 use Rattle.std.proofs.Common.{◌≡◌, ◌+◌, ℕ, take}
 use Rattle.std.specs.List.{Contains}
-use Rattle.fixpoint.specs.Kept.{HoldsRails, GainsRoots}
-use Rattle.fixpoint.specs.Sweeping.{rails_at, place_of}
+use Rattle.fixpoint.proofs.Common.{HoldsRails, GainsRoots, rails_at, place_of}
 use Rattle.fixpoint.proofs.keeping.keep_gates.Given as goal
 
 abbrev pub invariant-loop-gate : goal.invariant-loop-gate

@@ -1,9 +1,5 @@
 use Rattle.std.proofs.Common.{◌≡◌, ◌++◌, ◌∷◌, [], List, map, get_or, ap, sym, ◌∙◌, subst, arith}
-use Rattle.std.proofs.lemmas.List.{get_or_default, take_all}
-use Rattle.std.specs.List.{All}
-use Rattle.dual_rail.specs.Rails.{AreRailsOf}
-use Rattle.fixpoint.specs.declared.kept.KeptRails.{KeptRails}
-use Rattle.fixpoint.specs.Kept.{rails_under, AreKept}
+use Rattle.fixpoint.proofs.Common.{get_or_default, take_all, All, AreRailsOf, KeptRails, rails_under, AreKept}
 use Rattle.fixpoint.proofs.KeptLemmas.{GainsRoots-refl, GainsRoots-chain, All-rails-gained, lists-more, lists-under-more}
 use Rattle.fixpoint.proofs.keeping.keep_steps.Goals as goal
 

@@ -1,6 +1,5 @@
 use Rattle.std.proofs.Common.{◌≡◌, map, take}
-use Rattle.std.specs.List.{All}
-use Rattle.fixpoint.specs.Kept.{rails_under, AreKept, GainsRoots}
+use Rattle.fixpoint.proofs.Common.{All, rails_under, AreKept, GainsRoots}
 use Rattle.fixpoint.proofs.keeping.keep_steps.Given as goal
 
 abbrev pub invariant-loop-step : goal.invariant-loop-step

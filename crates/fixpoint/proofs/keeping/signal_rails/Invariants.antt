@@ -1,6 +1,5 @@
 use Rattle.std.proofs.Common.{◌≡◌, ◌++◌}
-use Rattle.std.specs.List.{flat_map}
-use Rattle.std.specs.Option.{option_to_list}
+use Rattle.fixpoint.proofs.Common.{flat_map, option_to_list}
 use Rattle.fixpoint.proofs.keeping.signal_rails.Given as goal
 
 abbrev pub invariant-loop-place : goal.invariant-loop-place

@@ -1,8 +1,5 @@
 use Rattle.std.proofs.Common.{◌≡◌, ◌++◌, ◌∷◌, [], get_or, map, ap, sym, ◌∙◌, subst, arith}
-use Rattle.std.proofs.lemmas.List.{take_all}
-use Rattle.std.specs.List.{All}
-use Rattle.fixpoint.specs.Kept.{rails_under, AreKept}
-use Rattle.fixpoint.specs.Sweeping.{unknown}
+use Rattle.fixpoint.proofs.Common.{take_all, All, rails_under, AreKept, unknown}
 use Rattle.fixpoint.proofs.KeptLemmas.{GainsRoots-refl, GainsRoots-chain, AreRailsOf-gained, kept-more, under-more}
 use Rattle.fixpoint.proofs.kept.keep_rails.Goals as goal
 

@@ -1,6 +1,5 @@
 use Rattle.std.proofs.Common.{◌≡◌, map, take}
-use Rattle.std.specs.List.{All}
-use Rattle.fixpoint.specs.Kept.{rails_under, AreKept, GainsRoots}
+use Rattle.fixpoint.proofs.Common.{All, rails_under, AreKept, GainsRoots}
 use Rattle.fixpoint.proofs.kept.keep_rails.Given as goal
 
 abbrev pub invariant-loop-one : goal.invariant-loop-one

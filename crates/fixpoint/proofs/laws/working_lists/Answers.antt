@@ -1,5 +1,5 @@
 use Rattle.dual_rail.proofs.WidthLemmas.{IsWide-some}
-use Rattle.fixpoint.specs.Working.{IsWorking}
+use Rattle.fixpoint.proofs.Common.{IsWorking}
 use Rattle.fixpoint.proofs.laws.working_lists.Goals as goal
 
 pub returns : goal.returns

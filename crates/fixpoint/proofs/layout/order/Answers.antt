@@ -1,10 +1,7 @@
 use Rattle.std.proofs.Common.{◌≡◌, ◌∙◌, ◌+◌, ◌++◌, [], ℕ, Bool, List, false, length, drop, take, replicate, sym, ap, ap₂, subst, arith}
-use Rattle.std.specs.List.{range_with_len}
-use Rattle.std.proofs.lemmas.List.{append-nil, length-replicate, take_all, take_at}
-use Rattle.bdd_ops.specs.Least.{IsLayout}
-use Rattle.cyc_base.specs.declared.sig.Sig.{Sig}
-use Rattle.loops.specs.Sweeps.{first_gate}
-use Rattle.fixpoint.specs.Orders.{columns_read, first_signals, order, AreTaken}
+use Rattle.fixpoint.proofs.Common.{range_with_len, append-nil, length-replicate, take_all, IsLayout, Sig, first_gate, columns_read, first_signals, AreTaken}
+use Rattle.std.proofs.lemmas.List.{take_at}
+use Rattle.fixpoint.specs.Orders.{order}
 use Rattle.fixpoint.proofs.OrderLemmas.{columns-more, gate-more, order-is, taken-none}
 use Rattle.fixpoint.proofs.layout.order.Goals as goal
 

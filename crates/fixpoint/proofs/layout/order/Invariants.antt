@@ -1,7 +1,5 @@
 use Rattle.std.proofs.Common.{◌≡◌, ◌++◌, length, take}
-use Rattle.std.specs.List.{range_with_len}
-use Rattle.loops.specs.Sweeps.{first_gate}
-use Rattle.fixpoint.specs.Orders.{columns_read, AreTaken}
+use Rattle.fixpoint.proofs.Common.{range_with_len, first_gate, columns_read, AreTaken}
 use Rattle.fixpoint.proofs.layout.order.Given as goal
 
 abbrev pub invariant-loop-gate : goal.invariant-loop-gate

@@ -1,5 +1,5 @@
 use Rattle.std.proofs.Common.{◌++◌, ◌∷◌, [], true, sym, subst, set}
-use Rattle.fixpoint.specs.Orders.{AreTaken}
+use Rattle.fixpoint.proofs.Common.{AreTaken}
 use Rattle.fixpoint.proofs.OrderLemmas.{taken-new, taken-old}
 use Rattle.fixpoint.proofs.layout.take_column.Goals as goal
 

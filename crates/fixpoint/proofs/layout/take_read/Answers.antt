@@ -1,7 +1,5 @@
 use Rattle.std.proofs.Common.{◌≡◌, ◌∙◌, ◌+◌, ◌<◌, ◌≤◌, ◌++◌, ℕ, Bool, List, length, get_or, take, refl, sym, ap, subst, arith}
-use Rattle.std.proofs.lemmas.List.{append-nil, take_all}
-use Rattle.cyc_base.specs.declared.sig.Sig.{Sig}
-use Rattle.fixpoint.specs.Orders.{first_signals, AreTaken}
+use Rattle.fixpoint.proofs.Common.{append-nil, take_all, Sig, first_signals, AreTaken}
 use Rattle.fixpoint.proofs.OrderLemmas.{read-column, read-other}
 use Rattle.fixpoint.proofs.layout.take_read.Goals as goal
 use Rattle.fixpoint.proofs.layout.take_read.Goals.{then-pin-marks+in_ok-take_column, else-pin-marks}

@@ -1,5 +1,5 @@
 use Rattle.std.proofs.Common.{◌≡◌, ◌++◌, ℕ, List, length, take}
-use Rattle.fixpoint.specs.Orders.{first_signals, AreTaken}
+use Rattle.fixpoint.proofs.Common.{first_signals, AreTaken}
 use Rattle.fixpoint.proofs.layout.take_read.Given as goal
 
 abbrev pub invariant-loop-pin : goal.invariant-loop-pin

@@ -1,12 +1,6 @@
 use Rattle.std.proofs.Common.{◌≡◌, ◌∙◌, ℕ, List, set, sym, ap, subst, arith, map}
-use Rattle.bdd_store.proofs.GrowthLemmas.{within_moved, within_refused, within_answered}
-use Rattle.cover_logic.specs.Covers.{value}
-use Rattle.cover_logic.specs.Extensions.{ext}
-use Rattle.dual_rail.specs.declared.rail.Rails.{Rails}
-use Rattle.dual_rail.specs.WorkingLists.{BoundsEach, IsExtended}
-use Rattle.netlist.specs.declared.parts.Gate.{Gate}
-use Rattle.netlist.specs.Netlists.{gate_at}
-use Rattle.fixpoint.specs.Lifting.{rails_of_pin, BoundsGate}
+use Rattle.fixpoint.proofs.Common.{within_moved, within_refused, within_answered, value, ext, Rails, BoundsEach, IsExtended, Gate, gate_at, BoundsGate}
+use Rattle.fixpoint.specs.Lifting.{rails_of_pin}
 use Rattle.fixpoint.proofs.WireLemmas.{rails_at-proper, pins-proper, pins-values}
 use Rattle.fixpoint.proofs.lifting.lift_gate.Goals as goal
 use Rattle.fixpoint.proofs.lifting.lift_gate.Goals.{After-gate_rails}

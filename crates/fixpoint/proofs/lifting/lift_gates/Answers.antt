@@ -1,10 +1,5 @@
 use Rattle.std.proofs.Common.{◌≡◌, ◌++◌, ◌∙◌, List, length, replicate, take, drop, sym, ap, subst}
-use Rattle.std.specs.List.{All}
-use Rattle.bdd_store.proofs.GrowthLemmas.{within_refused, within_answered}
-use Rattle.dual_rail.specs.declared.rail.Rails.{Rails}
-use Rattle.dual_rail.specs.Rails.{AreRailsOf, values_of}
-use Rattle.fixpoint.specs.Lifting.{AreLifted}
-use Rattle.fixpoint.specs.Sweeping.{unknown}
+use Rattle.fixpoint.proofs.Common.{All, within_refused, within_answered, Rails, AreRailsOf, values_of, AreLifted, unknown}
 use Rattle.fixpoint.proofs.LiftLemmas.{rails-start, lifted-start, written}
 use Rattle.fixpoint.proofs.lifting.lift_gates.Goals as goal
 use Rattle.fixpoint.proofs.lifting.lift_gates.Goals.{After-lift_in_order}

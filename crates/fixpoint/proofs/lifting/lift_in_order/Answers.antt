@@ -1,13 +1,6 @@
 use Rattle.std.proofs.Common.{◌≡◌, ◌+◌, ◌*◌, ℕ, get_or, take, refl, sym, subst, length, arith}
-use Rattle.std.proofs.lemmas.List.Sums.{sum_by_more}
-use Rattle.bdd_store.specs.Growth.{GrowsWithin}
-use Rattle.bdd_store.proofs.GrowthLemmas.{KeepsNodes-chain, within_then, within_moved, within_more, within_refused, within_answered}
-use Rattle.dual_rail.specs.Local.{size}
-use Rattle.dual_rail.specs.WorkingLists.{BoundsEach}
-use Rattle.netlist.specs.Netlists.{gate_at}
-use Rattle.fixpoint.specs.Lifting.{AreLifted, BoundsGate}
-use Rattle.fixpoint.specs.Solved.{Vectors}
-use Rattle.fixpoint.specs.Working.{no_loops, IsGatePart, HasLargeCover, cost, order_cost}
+use Rattle.fixpoint.proofs.Common.{sum_by_more, GrowsWithin, within_then, within_moved, within_more, within_refused, within_answered, size, BoundsEach, gate_at, AreLifted, BoundsGate, Vectors, no_loops, IsGatePart, HasLargeCover, cost, order_cost}
+use Rattle.bdd_store.proofs.GrowthLemmas.{KeepsNodes-chain}
 use Rattle.fixpoint.proofs.EffortLemmas.{part-effort, next-effort}
 use Rattle.fixpoint.proofs.LiftLemmas.{rails-set, gate-bounded, lifted-more, lifted-end}
 use Rattle.fixpoint.proofs.lifting.lift_in_order.Goals as goal

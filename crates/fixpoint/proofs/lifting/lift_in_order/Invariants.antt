@@ -1,10 +1,6 @@
 use Rattle.std.proofs.Common.{◌*◌, take}
-use Rattle.bdd_store.specs.Growth.{KeepsNodes}
-use Rattle.bdd_store.proofs.GrowthLemmas.{HasGrown}
-use Rattle.dual_rail.specs.WorkingLists.{BoundsEach}
-use Rattle.fixpoint.specs.Lifting.{AreSignalRails, AreLifted}
-use Rattle.fixpoint.specs.Solved.{Vectors}
-use Rattle.fixpoint.specs.Working.{no_loops, IsGatePart, order_cost}
+use Rattle.fixpoint.proofs.Common.{KeepsNodes, HasGrown, BoundsEach, AreLifted, Vectors, no_loops, IsGatePart, order_cost}
+use Rattle.fixpoint.specs.Lifting.{AreSignalRails}
 use Rattle.fixpoint.proofs.lifting.lift_in_order.Given as goal
 
 abbrev pub invariant-loop-gate : goal.invariant-loop-gate

@@ -1,6 +1,5 @@
 use Rattle.std.proofs.Common.{◌≡◌, length, sym, subst, arith, ◌++◌, ◌∷◌, [], List}
-use Rattle.std.proofs.lemmas.List.Elements.{All-push}
-use Rattle.fixpoint.specs.declared.locals.SharedDiagram.{SharedDiagram}
+use Rattle.fixpoint.proofs.Common.{All-push, SharedDiagram}
 use Rattle.fixpoint.specs.Plans.{HasDiagram, IsShared, AreShared}
 use Rattle.fixpoint.proofs.PlanLemmas.{diagram-new, diagram-stays}
 use Rattle.fixpoint.proofs.locals.add_shared.Goals as goal

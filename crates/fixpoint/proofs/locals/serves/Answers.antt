@@ -1,10 +1,6 @@
 use Rattle.std.proofs.Common.{◌≡◌, ◌∙◌, ◌<◌, length, get_or, sym, ap, subst, arith}
-use Rattle.std.proofs.lemmas.List.{get_or_default}
+use Rattle.fixpoint.proofs.Common.{get_or_default, IsDiagramOf, Gate, gate_at, SharedDiagram}
 use Rattle.cover_logic.specs.Covers.{Cover}
-use Rattle.dual_rail.specs.Local.{IsDiagramOf}
-use Rattle.netlist.specs.declared.parts.Gate.{Gate}
-use Rattle.netlist.specs.Netlists.{gate_at}
-use Rattle.fixpoint.specs.declared.locals.SharedDiagram.{SharedDiagram}
 use Rattle.fixpoint.proofs.locals.serves.Goals as goal
 
 pub returns : goal.returns

@@ -1,16 +1,7 @@
 use Rattle.std.proofs.Common.{◌≡◌, ◌∙◌, ◌+◌, ◌*◌, ◌++◌, List, length, sym, ap, subst}
-use Rattle.std.specs.List.{All, flat_map}
-use Rattle.std.specs.Option.{option_to_list}
+use Rattle.fixpoint.proofs.Common.{All, flat_map, option_to_list, IsWide, loops_by, AddsWithin, adds_refused, adds_swept, KeptRails, values_under, AreKeptSteps, AreKeptBelow, IsWorking, HasLargeCover, effort}
 use Rattle.std.proofs.Common.{Option}
-use Rattle.dual_rail.specs.WorkingLists.{IsWide}
-use Rattle.loops.specs.Cuts.{loops_by}
-use Rattle.bdd_store.specs.Growth.{AddsWithin}
-use Rattle.bdd_store.proofs.GrowthLemmas.{adds_refused, adds_swept}
-use Rattle.fixpoint.specs.declared.kept.KeptRails.{KeptRails}
-use Rattle.fixpoint.specs.Kept.{values_under}
-use Rattle.fixpoint.specs.Solved.{AreGiven, AreKeptSteps}
-use Rattle.fixpoint.specs.Sweeping.{AreKeptBelow}
-use Rattle.fixpoint.specs.Working.{IsWorking, HasLargeCover, effort}
+use Rattle.fixpoint.specs.Solved.{AreGiven}
 use Rattle.fixpoint.proofs.KeptLemmas.{RootsStay-chain, adds_lacking}
 use Rattle.fixpoint.proofs.KeepingLemmas.{solution-is}
 use Rattle.fixpoint.proofs.LiftLemmas.{written}

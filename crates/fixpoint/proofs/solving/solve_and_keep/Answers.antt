@@ -1,17 +1,6 @@
 use Rattle.std.proofs.Common.{◌≡◌, ◌+◌, ◌*◌, ℕ, List, length, get_or, refl, subst, sym, ap, ◌∙◌, arith, Contains}
-use Rattle.bdd_store.specs.Soundness.{IsLawful}
-use Rattle.bdd_store.specs.Growth.{AddsWithin}
-use Rattle.bdd_store.proofs.GrowthLemmas.{adds_moved, adds_refused, adds_swept}
-use Rattle.dual_rail.specs.WorkingLists.{IsWide}
-use Rattle.loops.specs.declared.structure.Block.{Block}
-use Rattle.loops.specs.Blocks.{block_at, home_of, no_block}
-use Rattle.loops.specs.Cuts.{loops_by}
-use Rattle.loops.proofs.Told.{gate_home}
-use Rattle.std.proofs.lemmas.List.{get_or_default}
-use Rattle.loops.specs.Sweeps.{first_gate}
-use Rattle.fixpoint.specs.Kept.{values_under, HoldsRails, RootsStay}
-use Rattle.fixpoint.specs.Sweeping.{rails_at, vectors, IsSolvedBelow, IsFoundAt, place_of}
-use Rattle.fixpoint.specs.Working.{IsWorking, HasLargeCover, block_cost}
+use Rattle.fixpoint.proofs.Common.{IsLawful, AddsWithin, adds_moved, adds_refused, adds_swept, IsWide, Block, block_at, home_of, no_block, loops_by, gate_home, get_or_default, first_gate, values_under, HoldsRails, RootsStay, rails_at, vectors, IsSolvedBelow, place_of, IsWorking, HasLargeCover, block_cost}
+use Rattle.fixpoint.specs.Sweeping.{IsFoundAt}
 use Rattle.fixpoint.proofs.BlockLemmas.{solved-same, first-of-block}
 use Rattle.fixpoint.proofs.BoundLemmas.{wide-same}
 use Rattle.fixpoint.proofs.KeptLemmas.{RootsStay-kept, RootsStay-gained, adds_lacking}

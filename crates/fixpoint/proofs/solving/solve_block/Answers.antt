@@ -1,16 +1,6 @@
 use Rattle.std.proofs.Common.{◌+◌, ◌*◌, length, ◌≡◌, ◌∙◌, ℕ, List, false, sym, ap, ap₂, subst, get_or, arith}
-use Rattle.std.proofs.lemmas.List.{get_or_default}
-use Rattle.bdd_store.specs.Growth.{GrowsWithin}
-use Rattle.dual_rail.specs.Local.{size}
-use Rattle.netlist.specs.Netlists.{gate_at}
-use Rattle.dual_rail.specs.WorkingLists.{IsWide}
-use Rattle.loops.specs.Cuts.{loops_by}
-use Rattle.fixpoint.specs.Working.{IsWorking, HasLargeCover, block_cost}
-use Rattle.bdd_store.proofs.GrowthLemmas.{within_moved, within_more, within_refused, within_answered}
+use Rattle.fixpoint.proofs.Common.{get_or_default, GrowsWithin, size, gate_at, IsWide, loops_by, IsWorking, HasLargeCover, block_cost, within_moved, within_more, within_refused, within_answered, Block, block_at, home_of, no_block, vectors, IsSolvedBelow, AreFresh}
 use Rattle.fixpoint.proofs.BoundLemmas.{plain-bounds, plain-cost, gate-few}
-use Rattle.loops.specs.declared.structure.Block.{Block}
-use Rattle.loops.specs.Blocks.{block_at, home_of, no_block}
-use Rattle.fixpoint.specs.Sweeping.{vectors, IsSolvedBelow, AreFresh}
 use Rattle.fixpoint.proofs.BlockLemmas.{plain-solved}
 use Rattle.fixpoint.proofs.solving.solve_block.Goals as goal
 use Rattle.fixpoint.proofs.solving.solve_block.Goals.{After-set_gate}

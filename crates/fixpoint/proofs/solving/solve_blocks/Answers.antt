@@ -1,14 +1,7 @@
 use Rattle.std.proofs.Common.{◌≡◌, ◌+◌, ◌*◌, ◌++◌, length, get_or, subst, sym, ap, arith}
-use Rattle.std.specs.List.{All}
-use Rattle.std.specs.Option.{option_to_list}
-use Rattle.bdd_store.specs.Growth.{AddsWithin}
-use Rattle.bdd_store.proofs.GrowthLemmas.{adds_then, adds_more, adds_moved, adds_refused, adds_answered, adds_swept}
-use Rattle.dual_rail.specs.WorkingLists.{IsWide}
-use Rattle.loops.specs.Cuts.{loops_by}
-use Rattle.fixpoint.specs.Kept.{values_under, RootsStay}
-use Rattle.fixpoint.specs.Solved.{AreKeptSteps}
+use Rattle.fixpoint.proofs.Common.{All, option_to_list, AddsWithin, adds_more, adds_moved, adds_refused, adds_swept, IsWide, loops_by, values_under, RootsStay, AreKeptSteps, IsWorking, HasLargeCover, below_cost}
+use Rattle.bdd_store.proofs.GrowthLemmas.{adds_then, adds_answered}
 use Rattle.fixpoint.specs.Sweeping.{IsKeptAt}
-use Rattle.fixpoint.specs.Working.{IsWorking, HasLargeCover, below_cost}
 use Rattle.fixpoint.proofs.BlockLemmas.{HasLoopsBelow, loops-start, loops-end}
 use Rattle.fixpoint.proofs.BoundLemmas.{wide-same, below-next, below-all}
 use Rattle.fixpoint.proofs.KeptLemmas.{RootsStay-chain, values-stay, adds_lacking, nothing_added}

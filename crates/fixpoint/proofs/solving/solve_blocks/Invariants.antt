@@ -1,11 +1,5 @@
 use Rattle.std.proofs.Common.{◌+◌, ◌*◌, length}
-use Rattle.std.specs.List.{All}
-use Rattle.dual_rail.specs.WorkingLists.{IsWide}
-use Rattle.loops.specs.Cuts.{loops_by}
-use Rattle.fixpoint.specs.Kept.{values_under, RootsStay}
-use Rattle.fixpoint.specs.Solved.{AreKeptSteps}
-use Rattle.fixpoint.specs.Sweeping.{IsSolvedTo}
-use Rattle.fixpoint.specs.Working.{IsWorking, below_cost}
+use Rattle.fixpoint.proofs.Common.{All, IsWide, loops_by, values_under, RootsStay, AreKeptSteps, IsSolvedTo, IsWorking, below_cost}
 use Rattle.fixpoint.proofs.BlockLemmas.{HasLoopsBelow}
 use Rattle.fixpoint.proofs.KeptLemmas.{HasAdded}
 use Rattle.fixpoint.proofs.solving.solve_blocks.Given as goal

@@ -1,8 +1,6 @@
 use Rattle.std.proofs.Common.{◌≡◌, ◌∙◌, ◌++◌, List, length, replicate, map, sym, ap, arith}
-use Rattle.bdd_store.proofs.GrowthLemmas.{adds_more, adds_refused, adds_answered}
-use Rattle.dual_rail.specs.declared.rail.Rails.{Rails}
-use Rattle.fixpoint.specs.Kept.{rails_under}
-use Rattle.fixpoint.specs.Sweeping.{unknown}
+use Rattle.fixpoint.proofs.Common.{adds_more, adds_refused, Rails, rails_under, unknown}
+use Rattle.bdd_store.proofs.GrowthLemmas.{adds_answered}
 use Rattle.fixpoint.proofs.KeepingLemmas.{solved-from-given}
 use Rattle.fixpoint.proofs.solving.solve_gates.Goals as goal
 

@@ -1,11 +1,7 @@
 use Rattle.std.proofs.Common.{◌≡◌, ◌+◌, ◌*◌, List, length, map, sym, ap, subst, arith, Option, Err}
-use Rattle.bdd_store.proofs.GrowthLemmas.{adds_then, adds_more, adds_moved, adds_swept}
-use Rattle.dual_rail.specs.WorkingLists.{IsWide}
-use Rattle.loops.specs.Cuts.{loops_by}
-use Rattle.fixpoint.specs.declared.kept.KeptRails.{KeptRails}
-use Rattle.fixpoint.specs.Kept.{values_under, RootsStay}
-use Rattle.fixpoint.specs.Sweeping.{rails_in, IsSolvedTo, AreKeptBelow}
-use Rattle.fixpoint.specs.Working.{IsWorking, block_cost}
+use Rattle.fixpoint.proofs.Common.{adds_more, adds_moved, adds_swept, IsWide, loops_by, KeptRails, values_under, RootsStay, IsSolvedTo, AreKeptBelow, IsWorking, block_cost}
+use Rattle.bdd_store.proofs.GrowthLemmas.{adds_then}
+use Rattle.fixpoint.specs.Sweeping.{rails_in}
 use Rattle.fixpoint.proofs.BoundLemmas.{wide-same}
 use Rattle.fixpoint.proofs.KeptLemmas.{RootsStay-chain, All-kept-stay, values-stay, HasAdded}
 use Rattle.fixpoint.proofs.KeepingLemmas.{kept-stay, places-kept, solved-anew}

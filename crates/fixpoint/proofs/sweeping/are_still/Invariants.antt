@@ -1,6 +1,6 @@
 use Rattle.std.proofs.Common.{◌≡◌, ◌+◌, ℕ, take}
 use Rattle.std.specs.List.{Contains}
-use Rattle.fixpoint.specs.Sweeping.{rails_at}
+use Rattle.fixpoint.proofs.Common.{rails_at}
 use Rattle.fixpoint.proofs.sweeping.are_still.Given as goal
 
 abbrev pub invariant-loop-gate : goal.invariant-loop-gate

@@ -1,5 +1,5 @@
 use Rattle.std.proofs.Common.{ℕ, List, subst, sym, arith}
-use Rattle.std.proofs.lemmas.List.{take_all}
+use Rattle.fixpoint.proofs.Common.{take_all}
 use Rattle.std.specs.List.{Contains}
 use Rattle.fixpoint.proofs.CutLemmas.{kept-step, others-kept-step, proper-step}
 use Rattle.fixpoint.proofs.sweeping.keep_cuts.Goals as goal

@@ -1,8 +1,6 @@
 use Rattle.std.proofs.Common.{◌≡◌, ◌+◌, ℕ, take}
-use Rattle.std.specs.List.{All, Contains}
-use Rattle.bdd_store.specs.Arena.{Arena}
-use Rattle.dual_rail.specs.Rails.{AreRailsOf}
-use Rattle.fixpoint.specs.Sweeping.{rails_at}
+use Rattle.fixpoint.proofs.Common.{All, Arena, AreRailsOf, rails_at}
+use Rattle.std.specs.List.{Contains}
 use Rattle.fixpoint.proofs.sweeping.keep_cuts.Given as goal
 
 abbrev pub invariant-loop-gate : goal.invariant-loop-gate

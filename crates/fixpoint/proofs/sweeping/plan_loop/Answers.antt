@@ -1,8 +1,5 @@
 use Rattle.std.proofs.Common.{◌≡◌, ◌∙◌, ℕ, List, filter, sym, ap, subst, arith}
-use Rattle.loops.specs.Blocks.{block_at}
-use Rattle.loops.specs.Cuts.{is_cut}
-use Rattle.loops.specs.Orders.{IsOrderOf}
-use Rattle.fixpoint.specs.Plans.{AreLocalsOf}
+use Rattle.fixpoint.proofs.Common.{block_at, is_cut, IsOrderOf, AreLocalsOf}
 use Rattle.fixpoint.proofs.CutLemmas.{block-gates, gates-within, cuts-within, order-within}
 use Rattle.fixpoint.proofs.sweeping.plan_loop.Goals as goal
 use Rattle.fixpoint.proofs.sweeping.plan_loop.Goals.{After-cuts_among}

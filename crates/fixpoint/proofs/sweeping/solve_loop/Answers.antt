@@ -1,16 +1,7 @@
 use Rattle.std.proofs.Common.{◌*◌, ◌≤◌, ◌≡◌, ◌∙◌, ◌+◌, Err, Bool, false, ℕ, List, length, refl, subst, sym, ap, arith}
-use Rattle.bdd_store.specs.declared.fault.StoreFault.{StoreFault}
-use Rattle.bdd_store.specs.Arena.{Arena}
-use Rattle.bdd_store.specs.Growth.{GrowsWithin, NoOtherCause}
-use Rattle.bdd_store.proofs.GrowthLemmas.{nothing_grown, within_then, within_moved, within_more, within_only, within_nothing, within_refused, within_answered}
-use Rattle.dual_rail.specs.WorkingLists.{IsWide}
-use Rattle.dual_rail.specs.declared.rail.Rails.{Rails}
-use Rattle.loops.specs.Cuts.{loops_by}
-use Rattle.loops.specs.Sweeps.{first_gate}
-use Rattle.fixpoint.specs.Solved.{Vectors, AreStepsOf}
-use Rattle.fixpoint.specs.Sweeping.{vectors}
-use Rattle.fixpoint.specs.Underway.{IsUnderway, IsAtRest, IsSweptOnce}
-use Rattle.fixpoint.specs.Working.{IsWorking, HasLargeCover, order_cost, block_cost}
+use Rattle.fixpoint.proofs.Common.{StoreFault, Arena, GrowsWithin, NoOtherCause, within_then, within_moved, within_more, within_only, within_nothing, within_refused, within_answered, IsWide, Rails, loops_by, first_gate, Vectors, AreStepsOf, vectors, IsUnderway, IsAtRest, IsWorking, HasLargeCover, order_cost, block_cost}
+use Rattle.bdd_store.proofs.GrowthLemmas.{nothing_grown}
+use Rattle.fixpoint.specs.Underway.{IsSweptOnce}
 use Rattle.fixpoint.proofs.BoundLemmas.{cuts-few, order-few, loop-cost}
 use Rattle.fixpoint.proofs.LoopLemmas.{underway-start, same-given}
 use Rattle.fixpoint.proofs.sweeping.solve_loop.Goals as goal

@@ -1,10 +1,5 @@
 use Rattle.std.proofs.Common.{◌*◌, ◌-◌, length}
-use Rattle.bdd_store.proofs.GrowthLemmas.{HasGrown}
-use Rattle.dual_rail.specs.WorkingLists.{IsWide}
-use Rattle.loops.specs.Cuts.{loops_by}
-use Rattle.fixpoint.specs.Working.{IsWorking, order_cost}
-use Rattle.fixpoint.specs.Sweeping.{vectors, OthersStay}
-use Rattle.fixpoint.specs.Underway.{IsUnderway}
+use Rattle.fixpoint.proofs.Common.{HasGrown, IsWide, loops_by, IsWorking, order_cost, vectors, OthersStay, IsUnderway}
 use Rattle.fixpoint.proofs.sweeping.solve_loop.Given as goal
 
 abbrev pub invariant-loop-steps : goal.invariant-loop-steps

@@ -1,17 +1,6 @@
 use Rattle.std.proofs.Common.{◌+◌, ◌*◌, ◌≤◌, take, arith, ℕ, List, length, filter, get_or, subst, refl}
-use Rattle.std.proofs.lemmas.List.{take_all}
-use Rattle.std.proofs.lemmas.List.Sums.{sum_by_more, sum_by-take-le}
-use Rattle.bdd_store.specs.Growth.{GrowsWithin, NoOtherCause}
-use Rattle.bdd_store.proofs.GrowthLemmas.{KeepsNodes-chain, within_then, within_moved, within_more, within_refused, within_answered}
-use Rattle.dual_rail.specs.Local.{size}
-use Rattle.dual_rail.specs.WorkingLists.{IsWide}
-use Rattle.netlist.specs.Netlists.{gate_at}
-use Rattle.loops.specs.declared.structure.Blocks.{Blocks}
-use Rattle.loops.specs.Blocks.{block_at}
-use Rattle.loops.specs.Cuts.{is_cut, loops_by}
-use Rattle.fixpoint.specs.Solved.{Vectors}
-use Rattle.fixpoint.specs.Sweeping.{IsSweepable, OthersStay, after_sweeps}
-use Rattle.fixpoint.specs.Working.{IsWorking, cost, order_cost}
+use Rattle.fixpoint.proofs.Common.{take_all, sum_by_more, sum_by-take-le, GrowsWithin, NoOtherCause, within_then, within_moved, within_more, within_refused, within_answered, size, IsWide, gate_at, Blocks, block_at, is_cut, loops_by, Vectors, IsSweepable, OthersStay, after_sweeps, IsWorking, cost, order_cost}
+use Rattle.bdd_store.proofs.GrowthLemmas.{KeepsNodes-chain}
 use Rattle.fixpoint.proofs.BoundLemmas.{sweep-bounds}
 use Rattle.fixpoint.proofs.WireLemmas.{AreWires-set}
 use Rattle.fixpoint.proofs.SweepLemmas.{sweeping-step, sweeping-end, others-step}

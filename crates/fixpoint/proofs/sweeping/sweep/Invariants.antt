@@ -1,13 +1,5 @@
 use Rattle.std.proofs.Common.{◌*◌, ◌≤◌, ℕ, length, filter, take}
-use Rattle.bdd_store.specs.Growth.{KeepsNodes}
-use Rattle.bdd_store.proofs.GrowthLemmas.{HasGrown}
-use Rattle.dual_rail.specs.WorkingLists.{IsWide}
-use Rattle.loops.specs.declared.structure.Blocks.{Blocks}
-use Rattle.loops.specs.Blocks.{block_at}
-use Rattle.loops.specs.Cuts.{is_cut, loops_by}
-use Rattle.fixpoint.specs.Solved.{Vectors}
-use Rattle.fixpoint.specs.Working.{IsWorking, order_cost}
-use Rattle.fixpoint.specs.Sweeping.{AreWires, IsSweepable, OthersStay, after_sweeps}
+use Rattle.fixpoint.proofs.Common.{KeepsNodes, HasGrown, IsWide, Blocks, block_at, is_cut, loops_by, Vectors, IsWorking, order_cost, AreWires, IsSweepable, OthersStay, after_sweeps}
 use Rattle.fixpoint.proofs.SweepLemmas.{IsSweeping}
 use Rattle.fixpoint.proofs.sweeping.sweep.Given as goal
 

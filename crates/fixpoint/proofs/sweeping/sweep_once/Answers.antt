@@ -1,20 +1,6 @@
 use Rattle.std.proofs.Common.{◌*◌, ◌≤◌, ◌≡◌, ◌∙◌, ◌+◌, ℕ, List, [], ◌∷◌, ◌++◌, length, map, filter, refl, subst, sym, ap, arith, true≢false, Contains}
-use Rattle.std.proofs.lemmas.List.{length_push}
-use Rattle.bdd_store.specs.Growth.{GrowsWithin, NoOtherCause}
-use Rattle.bdd_store.specs.Soundness.{IsLawful}
-use Rattle.bdd_store.proofs.GrowthLemmas.{within_refused, within_answered}
-use Rattle.dual_rail.specs.WorkingLists.{IsWide}
-use Rattle.dual_rail.specs.declared.rail.Rails.{Rails}
-use Rattle.loops.specs.declared.structure.Blocks.{Blocks}
-use Rattle.loops.specs.Blocks.{block_at, home_of}
-use Rattle.loops.specs.Cuts.{is_cut, loops_by}
-use Rattle.loops.specs.Orders.{IsOrderOf}
-use Rattle.loops.specs.Sweeps.{first_gate}
-use Rattle.fixpoint.specs.Plans.{AreLocalsOf, IsPlanOf}
-use Rattle.fixpoint.specs.Solved.{Vectors}
-use Rattle.fixpoint.specs.Sweeping.{rails_at, AreWires, IsSweepable, AreSwept, OthersStay, after_sweeps}
-use Rattle.fixpoint.specs.Underway.{IsUnderway, IsAtRest}
-use Rattle.fixpoint.specs.Working.{IsWorking, order_cost}
+use Rattle.fixpoint.proofs.Common.{length_push, GrowsWithin, NoOtherCause, IsLawful, within_refused, within_answered, IsWide, Rails, Blocks, block_at, home_of, is_cut, loops_by, IsOrderOf, first_gate, AreLocalsOf, Vectors, rails_at, AreWires, IsSweepable, AreSwept, OthersStay, after_sweeps, IsUnderway, IsAtRest, IsWorking, order_cost}
+use Rattle.fixpoint.specs.Plans.{IsPlanOf}
 use Rattle.fixpoint.proofs.LoopLemmas.{at-rest, few-next, underway-next}
 use Rattle.fixpoint.proofs.PlanLemmas.{each-within}
 use Rattle.fixpoint.proofs.sweeping.sweep_once.Goals as goal

@@ -1,9 +1,6 @@
 use Rattle.std.proofs.Common.{ℕ, ◌∙◌, arith}
-use Rattle.bdd_store.proofs.GrowthLemmas.{within_moved, within_more}
-use Rattle.cover_logic.specs.Covers.{value}
+use Rattle.fixpoint.proofs.Common.{within_moved, within_more, value, BoundsEach, IsExtended, gate_at, no_gate}
 use Rattle.dual_rail.specs.Local.{function}
-use Rattle.dual_rail.specs.WorkingLists.{BoundsEach, IsExtended}
-use Rattle.netlist.specs.Netlists.{gate_at, no_gate}
 use Rattle.fixpoint.proofs.WorkLemmas.{bounds-diagram}
 use Rattle.fixpoint.proofs.wires.lift_cover.Goals as goal
 

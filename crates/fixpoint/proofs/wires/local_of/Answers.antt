@@ -1,8 +1,6 @@
 use Rattle.std.proofs.Common.{◌≡◌, ◌<◌, ap, subst, arith}
 use Rattle.std.specs.Result.{IfOk}
-use Rattle.dual_rail.specs.Local.{IsDiagramOf, size}
-use Rattle.netlist.specs.declared.parts.Gate.{Gate}
-use Rattle.netlist.specs.Netlists.{gate_at}
+use Rattle.fixpoint.proofs.Common.{IsDiagramOf, size, Gate, gate_at}
 use Rattle.fixpoint.proofs.wires.local_of.Goals as goal
 
 pub returns-clause-diagram : goal.returns-clause-diagram

@@ -1,13 +1,5 @@
 use Rattle.std.proofs.Common.{◌≡◌, ◌∙◌, ℕ, sym, List, set, subst, ap, arith, map}
-use Rattle.bdd_store.proofs.GrowthLemmas.{within_moved, within_refused, within_answered}
-use Rattle.cover_logic.specs.Covers.{value}
-use Rattle.cover_logic.specs.Extensions.{ext}
-use Rattle.cyc_base.specs.declared.sig.Sig.{Sig}
-use Rattle.dual_rail.specs.declared.rail.Rails.{Rails}
-use Rattle.dual_rail.specs.WorkingLists.{BoundsEach, IsExtended}
-use Rattle.netlist.specs.declared.parts.Gate.{Gate}
-use Rattle.netlist.specs.Netlists.{gate_at}
-use Rattle.fixpoint.specs.Sweeping.{rails_read}
+use Rattle.fixpoint.proofs.Common.{within_moved, within_refused, within_answered, value, ext, Sig, Rails, BoundsEach, IsExtended, Gate, gate_at, rails_read}
 use Rattle.fixpoint.proofs.WireLemmas.{rails_read-proper, pins-proper, pins-values}
 use Rattle.fixpoint.proofs.wires.set_by_diagram.Goals as goal
 use Rattle.fixpoint.proofs.wires.set_by_diagram.Goals.{After-lift_cover}

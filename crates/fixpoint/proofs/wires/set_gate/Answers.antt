@@ -1,8 +1,5 @@
 use Rattle.std.proofs.Common.{◌≡◌, Err, sym, ap, subst, ◌∙◌}
-use Rattle.bdd_store.specs.declared.fault.StoreFault.{StoreFault}
-use Rattle.bdd_store.specs.Arena.{Arena}
-use Rattle.bdd_store.proofs.GrowthLemmas.{within_only, within_nothing}
-use Rattle.fixpoint.specs.Working.{HasLargeCover}
+use Rattle.fixpoint.proofs.Common.{StoreFault, Arena, within_only, within_nothing, HasLargeCover}
 use Rattle.fixpoint.proofs.wires.set_gate.Goals as goal
 
 pub returns-clause-grows : goal.returns-clause-grows

@@ -1,5 +1,5 @@
 use Rattle.std.proofs.Common.{◌+◌, ◌*◌, ◌<◌, ap, subst, sym, arith}
-use Rattle.bdd_store.specs.Arena.{Arena}
+use Rattle.isolation.proofs.Common.{Arena}
 use Rattle.bdd_store.specs.Growth.{Grows}
 use Rattle.bdd_store.proofs.GrowthLemmas.{grows_then, grows_more, grows_refused, grows_answered}
 use Rattle.bdd_ops.specs.Least.{IsLayout}

@@ -1,5 +1,5 @@
 use Rattle.std.proofs.Common.{◌≡◌, ◌+◌, arith}
-use Rattle.loops.specs.Sweeps.{first_gate}
+use Rattle.isolation.proofs.Common.{first_gate}
 use Rattle.isolation.proofs.MarkLemmas.{driver-none, driver-marked}
 use Rattle.isolation.proofs.cones.mark_driver.Goals as goal
 

@@ -1,5 +1,5 @@
 use Rattle.std.proofs.Common.{ℕ, length, subst, arith, ◌≡◌}
-use Rattle.isolation.specs.Cones.{AddMarks, IsNearOne}
+use Rattle.isolation.proofs.Common.{AddMarks, IsNearOne}
 use Rattle.isolation.proofs.MarkLemmas.{add-none, near-none, near-more}
 use Rattle.isolation.proofs.cones.mark_gates.Goals as goal
 

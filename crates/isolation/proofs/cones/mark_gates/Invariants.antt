@@ -1,4 +1,4 @@
-use Rattle.isolation.specs.Cones.{AddMarks, IsNearOne}
+use Rattle.isolation.proofs.Common.{AddMarks, IsNearOne}
 use Rattle.isolation.proofs.cones.mark_gates.Given as goal
 
 abbrev pub invariant-loop-gate : goal.invariant-loop-gate

@@ -1,5 +1,5 @@
 use Rattle.std.proofs.Common.{◌∙◌, ap}
-use Rattle.netlist.specs.declared.parts.Gate.{Gate}
+use Rattle.isolation.proofs.Common.{Gate}
 use Rattle.isolation.proofs.MarkLemmas.{pin-more, pins-marked}
 use Rattle.isolation.proofs.cones.mark_sources.Goals as goal
 

@@ -1,4 +1,5 @@
-use Rattle.isolation.specs.Cones.{AddMarks, IsOnPin}
+use Rattle.isolation.proofs.Common.{AddMarks}
+use Rattle.isolation.specs.Cones.{IsOnPin}
 use Rattle.isolation.proofs.cones.mark_sources.Given as goal
 
 abbrev pub invariant-loop-pin : goal.invariant-loop-pin

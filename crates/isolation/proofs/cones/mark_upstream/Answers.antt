@@ -1,5 +1,5 @@
 use Rattle.std.proofs.Common.{◌≡◌, ◌-◌, ℕ, ap, length, subst, arith}
-use Rattle.isolation.specs.Cones.{AreMarkedFrom}
+use Rattle.isolation.proofs.Common.{AreMarkedFrom}
 use Rattle.isolation.proofs.MarkLemmas.{marked-first, marked-back, marked-all}
 use Rattle.isolation.proofs.cones.mark_upstream.Goals as goal
 

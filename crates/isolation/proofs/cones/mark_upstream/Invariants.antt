@@ -1,5 +1,5 @@
 use Rattle.std.proofs.Common.{◌-◌, length}
-use Rattle.isolation.specs.Cones.{AreMarkedFrom}
+use Rattle.isolation.proofs.Common.{AreMarkedFrom}
 use Rattle.isolation.proofs.cones.mark_upstream.Given as goal
 
 abbrev pub invariant-loop-back : goal.invariant-loop-back

@@ -1,7 +1,5 @@
 use Rattle.std.proofs.Common.{◌∙◌, ap, sym, subst, List}
-use Rattle.std.specs.List.{All}
-use Rattle.cyc_base.specs.declared.sig.Sig.{Sig}
-use Rattle.netlist.specs.declared.parts.Gate.{Gate}
+use Rattle.isolation.proofs.Common.{All, Sig, Gate}
 use Rattle.isolation.specs.Building.{IsAmong}
 use Rattle.isolation.proofs.BuildingLemmas.{not_there}
 use Rattle.isolation.proofs.excerpt.copy_gate.Goals as goal

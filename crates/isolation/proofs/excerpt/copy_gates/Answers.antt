@@ -1,7 +1,6 @@
 use Rattle.std.proofs.Common.{◌≡◌, length, subst, arith}
-use Rattle.netlist.specs.Netlists.{gate_at}
-use Rattle.isolation.specs.Excerpts.{origins}
-use Rattle.isolation.specs.Building.{AreCopies, IsCopyOf}
+use Rattle.isolation.proofs.Common.{gate_at, origins, AreCopies}
+use Rattle.isolation.specs.Building.{IsCopyOf}
 use Rattle.isolation.proofs.BuildingLemmas.{copies_more, copies_none, not_there, read_all}
 use Rattle.isolation.proofs.excerpt.copy_gates.Goals as goal
 

@@ -1,5 +1,4 @@
-use Rattle.isolation.specs.Excerpts.{origins}
-use Rattle.isolation.specs.Building.{AreCopies}
+use Rattle.isolation.proofs.Common.{origins, AreCopies}
 use Rattle.isolation.proofs.excerpt.copy_gates.Given as goal
 
 abbrev pub invariant-loop-gate : goal.invariant-loop-gate

@@ -1,7 +1,6 @@
 use Rattle.std.proofs.Common.{subst}
-use Rattle.std.specs.Prelude.{IfSome}
+use Rattle.isolation.proofs.Common.{IfSome, IsExcerpt}
 use Rattle.isolation.specs.Building.{IsNamedBy}
-use Rattle.isolation.specs.Excerpts.{IsExcerpt}
 use Rattle.isolation.proofs.BuildingLemmas.{not_there}
 use Rattle.isolation.proofs.ValidLemmas.{numerable, excerpt-valid}
 use Rattle.isolation.proofs.excerpt.excerpt.Goals as goal

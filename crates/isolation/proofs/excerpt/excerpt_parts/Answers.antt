@@ -1,7 +1,5 @@
 use Rattle.std.proofs.Common.{◌∙◌, ap, subst, length, map}
-use Rattle.std.specs.Prelude.{IfSome}
-use Rattle.isolation.specs.Building.{AreCopies, name_at}
-use Rattle.isolation.specs.Excerpts.{origins}
+use Rattle.isolation.proofs.Common.{IfSome, AreCopies, name_at, origins}
 use Rattle.isolation.proofs.BuildingLemmas.{not_there}
 use Rattle.isolation.proofs.ValidLemmas.{parts_excerpt, parts_named}
 use Rattle.isolation.proofs.excerpt.excerpt_parts.Goals as goal

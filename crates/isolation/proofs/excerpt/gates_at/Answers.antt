@@ -1,5 +1,5 @@
 use Rattle.std.proofs.Common.{ℕ, ◌<◌, length, subst}
-use Rattle.std.proofs.lemmas.List.{get_or_default}
+use Rattle.isolation.proofs.Common.{get_or_default}
 use Rattle.loops.proofs.OrderLemmas.{block_gates, gates_within}
 use Rattle.isolation.proofs.excerpt.gates_at.Goals as goal
 

@@ -1,7 +1,6 @@
 use Rattle.std.proofs.Common.{◌≡◌, ◌≤◌, ◌∙◌, ◌+◌, ◌-◌, ℕ, List, ap, sym, arith, get_or, true≢false}
-use Rattle.std.proofs.lemmas.Bool.{eq-eqb, eqb-true, leb-true}
-use Rattle.loops.specs.Blocks.{home_of}
-use Rattle.loops.specs.Sweeps.{first_gate}
+use Rattle.isolation.proofs.Common.{eq-eqb, eqb-true, home_of, first_gate}
+use Rattle.std.proofs.lemmas.Bool.{leb-true}
 use Rattle.isolation.proofs.BuildingLemmas.{inside_block, block_inside}
 use Rattle.isolation.proofs.excerpt.is_inside.Goals as goal
 

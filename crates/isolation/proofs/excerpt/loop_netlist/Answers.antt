@@ -1,8 +1,6 @@
 use Rattle.std.proofs.Common.{List, ℕ, Contains, map, refl, subst, sym}
-use Rattle.netlist.specs.Netlists.{gate_sig}
-use Rattle.loops.specs.Blocks.{block_at}
+use Rattle.isolation.proofs.Common.{gate_sig, block_at, AreClosed}
 use Rattle.loops.proofs.OrderLemmas.{block_rises, gates_within}
-use Rattle.isolation.specs.Building.{AreClosed}
 use Rattle.isolation.proofs.BuildingLemmas.{outside_within, loop_found}
 use Rattle.isolation.proofs.excerpt.loop_netlist.Goals as goal
 

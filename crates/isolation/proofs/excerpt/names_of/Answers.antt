@@ -1,6 +1,6 @@
 use Rattle.std.proofs.Common.{◌∙◌, ap, map}
 use Rattle.std.proofs.lemmas.List.{take_all}
-use Rattle.isolation.specs.Building.{name_at}
+use Rattle.isolation.proofs.Common.{name_at}
 use Rattle.isolation.proofs.ValidLemmas.{names_more}
 use Rattle.isolation.proofs.excerpt.names_of.Goals as goal
 

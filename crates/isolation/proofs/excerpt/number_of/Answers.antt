@@ -1,7 +1,5 @@
 use Rattle.std.proofs.Common.{map, arith, sym, subst, true≢false}
-use Rattle.std.proofs.lemmas.List.{length-append, length-map}
-use Rattle.netlist.specs.Netlists.{gate_sig}
-use Rattle.isolation.specs.Excerpts.{origins}
+use Rattle.isolation.proofs.Common.{length-append, length-map, gate_sig, origins}
 use Rattle.isolation.specs.Building.{IsPlaceOf}
 use Rattle.isolation.proofs.excerpt.number_of.Goals as goal
 

@@ -1,6 +1,5 @@
 use Rattle.std.proofs.Common.{sym, subst, arith, take}
-use Rattle.isolation.specs.Excerpts.{origins}
-use Rattle.isolation.specs.Building.{AreNumbersOf}
+use Rattle.isolation.proofs.Common.{origins, AreNumbersOf}
 use Rattle.isolation.proofs.BuildingLemmas.{numbers_none, numbers_more, numbers_all, not_there}
 use Rattle.isolation.proofs.excerpt.numbers_of.Goals as goal
 

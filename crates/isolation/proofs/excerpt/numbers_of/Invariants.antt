@@ -1,6 +1,5 @@
 use Rattle.std.proofs.Common.{take}
-use Rattle.isolation.specs.Excerpts.{origins}
-use Rattle.isolation.specs.Building.{AreNumbersOf}
+use Rattle.isolation.proofs.Common.{origins, AreNumbersOf}
 use Rattle.isolation.proofs.excerpt.numbers_of.Given as goal
 
 abbrev pub invariant-loop-pin : goal.invariant-loop-pin

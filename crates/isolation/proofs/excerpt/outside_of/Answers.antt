@@ -1,6 +1,5 @@
 use Rattle.std.proofs.Common.{◌∙◌, ap, arith}
-use Rattle.netlist.specs.declared.parts.Gate.{Gate}
-use Rattle.loops.specs.Blocks.{block_at}
+use Rattle.isolation.proofs.Common.{Gate, block_at}
 use Rattle.isolation.proofs.BuildingLemmas.{wires_at, wires_all, pin_at}
 use Rattle.isolation.proofs.excerpt.outside_of.Goals as goal
 

@@ -1,5 +1,5 @@
 use Rattle.std.proofs.Common.{◌≡◌, ◌+◌, ℕ, ap, arith, sym, true≢false}
-use Rattle.loops.specs.Sweeps.{first_gate}
+use Rattle.isolation.proofs.Common.{first_gate}
 use Rattle.isolation.proofs.BuildingLemmas.{place_gate, gate_there}
 use Rattle.isolation.proofs.excerpt.place_inside.Goals as goal
 

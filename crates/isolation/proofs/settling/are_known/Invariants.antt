@@ -1,9 +1,6 @@
 use Rattle.std.proofs.Common.{◌≢◌, ◌<◌, ◌≤◌, ℕ, Bool, List, get_or, length}
 use Rattle.bdd_store.proofs.GrowthLemmas.{HasGrown}
-use Rattle.cyc_base.specs.declared.trit.Trit.TheVariants.{X}
-use Rattle.dual_rail.specs.declared.rail.Rails.{Rails}
-use Rattle.dual_rail.specs.Rails.{value_of}
-use Rattle.isolation.specs.Settling.{BoundsKnown}
+use Rattle.isolation.proofs.Common.{X, Rails, value_of, BoundsKnown}
 use Rattle.isolation.proofs.settling.are_known.Given as goal
 
 abbrev pub invariant-loop-one : goal.invariant-loop-one

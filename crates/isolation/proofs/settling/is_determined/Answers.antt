@@ -1,13 +1,7 @@
 use Rattle.std.proofs.Common.{◌∙◌, List, length, map, sym, subst, arith}
-use Rattle.std.specs.List.{All}
-use Rattle.std.proofs.lemmas.List.{length-map}
-use Rattle.bdd_store.specs.Growth.{GrowsWithin, NoOtherCause}
-use Rattle.bdd_store.proofs.GrowthLemmas.{KeepsNodes-refl, within_more, within_refused, within_answered}
-use Rattle.dual_rail.specs.declared.rail.Rails.{Rails}
-use Rattle.dual_rail.specs.Rails.{AreRailsOf}
-use Rattle.fixpoint.specs.Kept.{rails_under}
+use Rattle.isolation.proofs.Common.{All, length-map, GrowsWithin, NoOtherCause, within_more, within_refused, within_answered, Rails, AreRailsOf, rails_under, AreKnown, BoundsKnown, HasUnknownRails}
+use Rattle.bdd_store.proofs.GrowthLemmas.{KeepsNodes-refl}
 use Rattle.fixpoint.proofs.KeptLemmas.{adds_nothing}
-use Rattle.isolation.specs.Settling.{AreKnown, BoundsKnown, HasUnknownRails}
 use Rattle.isolation.proofs.settling.is_determined.Goals as goal
 use Rattle.isolation.proofs.settling.is_determined.Goals.{After-are_known}
 

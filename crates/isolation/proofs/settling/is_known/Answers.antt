@@ -1,5 +1,5 @@
 use Rattle.std.proofs.Common.{subst}
-use Rattle.bdd_store.specs.Soundness.{IsLawful}
+use Rattle.isolation.proofs.Common.{IsLawful}
 use Rattle.bdd_store.proofs.GrowthLemmas.{grows_answered, grows_refused}
 use Rattle.isolation.proofs.UnknownLemmas.{unknown-vector}
 use Rattle.isolation.proofs.settling.is_known.Goals as goal

@@ -1,5 +1,5 @@
 use Rattle.std.proofs.Common.{◌+◌, ◌≤◌, length, ap, arith}
-use Rattle.bdd_store.specs.Growth.{AddsWithin, NoOtherCause}
+use Rattle.isolation.proofs.Common.{AddsWithin, NoOtherCause}
 use Rattle.bdd_store.proofs.GrowthLemmas.{within_each, adds_refused, adds_swept}
 use Rattle.fixpoint.proofs.KeptLemmas.{adds_lacking, adds_nothing}
 use Rattle.isolation.proofs.settling.kept_columns.Goals as goal

@@ -1,12 +1,6 @@
 use Rattle.std.proofs.Common.{◌+◌, ◌*◌, ◌≤◌, ℕ, length, subst}
-use Rattle.std.specs.List.{All}
-use Rattle.bdd_store.specs.Growth.{GrowsWithin, NoOtherCause}
-use Rattle.bdd_store.proofs.GrowthLemmas.{within_moved, within_refused, within_answered}
-use Rattle.dual_rail.specs.WorkingLists.{IsWide}
+use Rattle.isolation.proofs.Common.{All, GrowsWithin, NoOtherCause, within_moved, within_refused, within_answered, IsWide, order, IsSolvedNetlist, IsLaid}
 use Rattle.fixpoint.specs.Counts.{IsComparedIn}
-use Rattle.fixpoint.specs.Orders.{order}
-use Rattle.isolation.specs.Settling.{IsSolvedNetlist}
-use Rattle.isolation.specs.Unsettled.{IsLaid}
 use Rattle.isolation.proofs.SettlingLemmas.{sweeps-are}
 use Rattle.isolation.proofs.WidthLemmas.{compared-wide}
 use Rattle.isolation.proofs.settling.most_sweeps.Goals as goal

@@ -1,10 +1,8 @@
 use Rattle.std.proofs.Common.{◌∙◌, ◌+◌, ◌*◌, ℕ, length, sym, subst, arith}
-use Rattle.bdd_store.specs.Growth.{AddsWithin}
+use Rattle.isolation.proofs.Common.{AddsWithin, IsWide, IsLaid}
 use Rattle.bdd_store.proofs.GrowthLemmas.{adds_then, adds_moved, adds_more, adds_caused, adds_refused}
-use Rattle.dual_rail.specs.WorkingLists.{IsWide}
 use Rattle.fixpoint.specs.Working.{HasLargeCover, effort}
 use Rattle.isolation.specs.Settling.{settling_cost}
-use Rattle.isolation.specs.Unsettled.{IsLaid}
 use Rattle.isolation.proofs.WidthLemmas.{solved-is, solution-adds}
 use Rattle.isolation.proofs.settling.settle_on.Goals as goal
 use Rattle.isolation.proofs.settling.settle_on.Goals.{After-solve}

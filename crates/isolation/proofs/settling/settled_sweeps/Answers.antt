@@ -1,16 +1,10 @@
 use Rattle.std.proofs.Common.{ℕ, List, map, sym, subst, arith}
-use Rattle.std.specs.List.{All}
-use Rattle.bdd_store.specs.Growth.{GrowsWithin, NoOtherCause}
-use Rattle.bdd_store.specs.Soundness.{IsLawful}
-use Rattle.bdd_store.proofs.GrowthLemmas.{within_then, within_moved, within_more, within_refused, within_answered}
-use Rattle.dual_rail.specs.Rails.{AreRailsOf}
-use Rattle.dual_rail.specs.WorkingLists.{IsWide}
+use Rattle.isolation.proofs.Common.{All, GrowsWithin, NoOtherCause, IsLawful, within_moved, within_more, within_refused, within_answered, AreRailsOf, IsWide, rails_under, order, AreKnown, HasUnknownRails, IsSolvedNetlist, IsLaid}
+use Rattle.bdd_store.proofs.GrowthLemmas.{within_then}
 use Rattle.fixpoint.specs.declared.kept.KeptRails.{KeptRails}
-use Rattle.fixpoint.specs.Kept.{rails_under, AreKept}
-use Rattle.fixpoint.specs.Orders.{order}
+use Rattle.fixpoint.specs.Kept.{AreKept}
 use Rattle.fixpoint.proofs.KeptLemmas.{RootsStay-kept}
-use Rattle.isolation.specs.Settling.{AreKnown, HasUnknownRails, IsSolvedNetlist, counting_cost}
-use Rattle.isolation.specs.Unsettled.{IsLaid}
+use Rattle.isolation.specs.Settling.{counting_cost}
 use Rattle.isolation.proofs.SettlingLemmas.{determined-is, solved-later}
 use Rattle.isolation.proofs.UnknownLemmas.{unknown-gate}
 use Rattle.isolation.proofs.WidthLemmas.{asked-grows}

@@ -1,8 +1,5 @@
 use Rattle.std.proofs.Common.{ℕ, List, subst}
-use Rattle.std.specs.Prelude.{IfSome}
-use Rattle.netlist.specs.Netlists.{IsNetlist}
-use Rattle.loops.specs.Blocks.{block_at}
-use Rattle.isolation.specs.Building.{IsLoopNetlist}
+use Rattle.isolation.proofs.Common.{IfSome, IsNetlist, block_at, IsLoopNetlist}
 use Rattle.isolation.proofs.SettlingLemmas.{settles-found}
 use Rattle.isolation.proofs.UnknownLemmas.{loop-some, unsettled-found}
 use Rattle.isolation.proofs.settling.settles_alone.Goals as goal

@@ -1,5 +1,5 @@
 use Rattle.std.proofs.Common.{List, ℕ, ap, ◌++◌, ◌∙◌}
-use Rattle.ternary_clauses.specs.declared.formula.Rails.{Rails}
+use Rattle.ternary_clauses.proofs.Common.{Rails}
 use Rattle.ternary_clauses.specs.Nodes.{apart_clauses}
 use Rattle.ternary_clauses.proofs.ApartLemmas.{apart-says}
 use Rattle.ternary_clauses.proofs.apart.add_apart.Goals as goal

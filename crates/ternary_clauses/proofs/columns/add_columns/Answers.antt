@@ -1,6 +1,5 @@
 use Rattle.std.proofs.Common.{◌≡◌, ◌+◌, List, sym, subst, arith}
-use Rattle.ternary_clauses.specs.declared.formula.Rails.{Rails}
-use Rattle.ternary_clauses.specs.Columns.{SaysColumns}
+use Rattle.ternary_clauses.proofs.Common.{Rails, SaysColumns}
 use Rattle.ternary_clauses.proofs.ColumnLemmas.{columns-none, column-step}
 use Rattle.ternary_clauses.proofs.columns.add_columns.Goals as goal
 

@@ -1,4 +1,4 @@
-use Rattle.ternary_clauses.specs.Columns.{SaysColumns}
+use Rattle.ternary_clauses.proofs.Common.{SaysColumns}
 use Rattle.ternary_clauses.proofs.columns.add_columns.Given as goal
 
 abbrev pub invariant-loop : goal.invariant-loop

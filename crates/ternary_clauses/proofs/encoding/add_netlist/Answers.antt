@@ -1,6 +1,5 @@
 use Rattle.std.proofs.Common.{List, length, subst}
-use Rattle.ternary_clauses.specs.declared.formula.Rails.{Rails}
-use Rattle.ternary_clauses.specs.Wires.{AreWires, AreBound}
+use Rattle.ternary_clauses.proofs.Common.{Rails, AreWires, AreBound}
 use Rattle.ternary_clauses.proofs.BindLemmas.{netlist-says}
 use Rattle.ternary_clauses.proofs.encoding.add_netlist.Goals as goal
 

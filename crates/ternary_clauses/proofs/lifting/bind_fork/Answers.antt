@@ -1,5 +1,5 @@
 use Rattle.std.proofs.Common.{sym, ◌∙◌}
-use Rattle.std.proofs.lemmas.Result.{on_ok_weaker}
+use Rattle.ternary_clauses.proofs.Common.{on_ok_weaker}
 use Rattle.ternary_clauses.proofs.GateLemmas.{rail-binds, pick-binds}
 use Rattle.ternary_clauses.proofs.lifting.bind_fork.Goals as goal
 

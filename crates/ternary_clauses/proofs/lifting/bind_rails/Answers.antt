@@ -1,4 +1,4 @@
-use Rattle.std.proofs.lemmas.Result.{on_ok_weaker}
+use Rattle.ternary_clauses.proofs.Common.{on_ok_weaker}
 use Rattle.ternary_clauses.proofs.GateLemmas.{equal-binds, same-binds}
 use Rattle.ternary_clauses.proofs.lifting.bind_rails.Goals as goal
 

@@ -1,7 +1,6 @@
 use Rattle.std.proofs.Common.{◌≡◌, [], ◌∷◌, ◌++◌, length, sym, ap, subst, ◌∙◌, arith}
-use Rattle.std.proofs.lemmas.List.{length_push}
+use Rattle.ternary_clauses.proofs.Common.{length_push, IsTable}
 use Rattle.bdd_store.proofs.NodeLemmas.{plain}
-use Rattle.ternary_clauses.specs.Lifts.{IsTable}
 use Rattle.ternary_clauses.proofs.LiftLemmas.{base_rails, base-table, step-table}
 use Rattle.ternary_clauses.proofs.GrowthLemmas.{Extends-refl, Extends-chain}
 use Rattle.ternary_clauses.proofs.ReadingLemmas.{All-within-more}

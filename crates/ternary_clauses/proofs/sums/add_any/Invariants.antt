@@ -1,5 +1,5 @@
 use Rattle.std.proofs.Common.{take}
-use Rattle.ternary_clauses.specs.Sums.{SaysAny}
+use Rattle.ternary_clauses.proofs.Common.{SaysAny}
 use Rattle.ternary_clauses.proofs.SumLemmas.{IsLast}
 use Rattle.ternary_clauses.proofs.sums.add_any.Given as goal
 

@@ -1,7 +1,5 @@
 use Rattle.std.proofs.Common.{◌&&◌, ◌∷◌, [], ap, ◌∙◌}
-use Rattle.std.specs.List.{list_any}
-use Rattle.ternary_clauses.specs.declared.formula.Rails.{Rails}
-use Rattle.ternary_clauses.specs.Formulas.{says, holds}
+use Rattle.ternary_clauses.proofs.Common.{list_any, Rails, says, holds}
 use Rattle.ternary_clauses.proofs.SumLemmas.{or-says}
 use Rattle.ternary_clauses.proofs.sums.add_or.Goals as goal
 

@@ -1,6 +1,5 @@
 use Rattle.std.proofs.Common.{◌≡◌, ◌+◌, List, sym, subst, arith}
-use Rattle.ternary_clauses.specs.declared.formula.Rails.{Rails}
-use Rattle.ternary_clauses.specs.Sweeps.{AreCopies}
+use Rattle.ternary_clauses.proofs.Common.{Rails, AreCopies}
 use Rattle.ternary_clauses.proofs.SweepLemmas.{copies-none, copies-step}
 use Rattle.ternary_clauses.proofs.sweeps.add_copies.Goals as goal
 

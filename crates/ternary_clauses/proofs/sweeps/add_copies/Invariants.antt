@@ -1,4 +1,4 @@
-use Rattle.ternary_clauses.specs.Sweeps.{AreCopies}
+use Rattle.ternary_clauses.proofs.Common.{AreCopies}
 use Rattle.ternary_clauses.proofs.sweeps.add_copies.Given as goal
 
 abbrev pub invariant-loop : goal.invariant-loop

@@ -1,5 +1,5 @@
 use Rattle.std.proofs.Common.{◌<◌, length, arith}
-use Rattle.loops.specs.Cuts.{is_cut}
+use Rattle.ternary_clauses.proofs.Common.{is_cut}
 use Rattle.ternary_clauses.proofs.SweepLemmas.{copied-none, copied-step}
 use Rattle.ternary_clauses.proofs.sweeps.bind_copies.Goals as goal
 

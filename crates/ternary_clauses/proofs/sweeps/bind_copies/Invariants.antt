@@ -1,4 +1,4 @@
-use Rattle.loops.specs.Cuts.{is_cut}
+use Rattle.ternary_clauses.proofs.Common.{is_cut}
 use Rattle.ternary_clauses.specs.Sweeps.{AreCopied}
 use Rattle.ternary_clauses.proofs.sweeps.bind_copies.Given as goal
 

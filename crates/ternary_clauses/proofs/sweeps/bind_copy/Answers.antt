@@ -1,14 +1,7 @@
 use Rattle.std.proofs.Common.{◌≡◌, List, length, sym, ap, subst, ◌∙◌}
-use Rattle.std.proofs.lemmas.List.Elements.{All-get_or}
-use Rattle.std.proofs.lemmas.Result.{on_ok_weaker}
-use Rattle.std.specs.List.{All, AllZip, slice_index}
-use Rattle.netlist.specs.declared.parts.Gate.{Gate}
-use Rattle.netlist.specs.Netlists.{no_gate, gate_at}
+use Rattle.ternary_clauses.proofs.Common.{All-get_or, on_ok_weaker, All, AllZip, Gate, no_gate, gate_at, is_cut, Rails, AreWithin, IsSeen}
+use Rattle.std.specs.List.{slice_index}
 use Rattle.dual_rail.specs.Local.{IsDiagramOf}
-use Rattle.loops.specs.Cuts.{is_cut}
-use Rattle.ternary_clauses.specs.declared.formula.Rails.{Rails}
-use Rattle.ternary_clauses.specs.Rails.{AreWithin}
-use Rattle.ternary_clauses.specs.Sweeps.{IsSeen}
 use Rattle.ternary_clauses.proofs.SweepLemmas.{seen-length}
 use Rattle.ternary_clauses.proofs.sweeps.bind_copy.Goals as goal
 

@@ -1,8 +1,5 @@
 use Rattle.std.proofs.Common.{sym, subst}
-use Rattle.std.proofs.lemmas.List.Elements.{All-push}
-use Rattle.std.specs.List.{All}
-use Rattle.loops.specs.Cuts.{is_cut}
-use Rattle.ternary_clauses.specs.Rails.{AreWithin}
+use Rattle.ternary_clauses.proofs.Common.{All-push, All, is_cut, AreWithin}
 use Rattle.ternary_clauses.proofs.SweepLemmas.{seen-step}
 use Rattle.ternary_clauses.proofs.sweeps.seen_pins.Goals as goal
 

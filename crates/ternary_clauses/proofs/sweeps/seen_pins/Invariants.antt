@@ -1,8 +1,5 @@
 use Rattle.std.proofs.Common.{ℕ, take}
-use Rattle.std.specs.List.{All, AllZip}
-use Rattle.loops.specs.Cuts.{is_cut}
-use Rattle.ternary_clauses.specs.Rails.{AreWithin}
-use Rattle.ternary_clauses.specs.Sweeps.{IsSeen}
+use Rattle.ternary_clauses.proofs.Common.{All, AllZip, is_cut, AreWithin, IsSeen}
 use Rattle.ternary_clauses.proofs.sweeps.seen_pins.Given as goal
 
 abbrev pub invariant-loop-pin : goal.invariant-loop-pin

@@ -1,8 +1,5 @@
 use Rattle.std.proofs.Common.{subst}
-use Rattle.std.proofs.lemmas.Bool.{eqb-true}
-use Rattle.netlist.specs.declared.parts.Parts.{Parts}
-use Rattle.loops.specs.declared.structure.Blocks.{Blocks}
-use Rattle.loops.specs.Blocks.{block_at}
+use Rattle.verdict.proofs.Common.{eqb-true, Parts, Blocks, block_at}
 use Rattle.isolation.specs.Settled.{SettleInSweeps}
 use Rattle.verdict.proofs.alone.is_settled.Goals as goal
 

@@ -1,5 +1,5 @@
 use Rattle.std.proofs.Common.{◌+◌, length, sym, ap, subst, arith}
-use Rattle.loops.specs.declared.structure.Blocks.{Blocks}
+use Rattle.verdict.proofs.Common.{Blocks}
 use Rattle.verdict.proofs.DeterminationLemmas.{AreSettledBelow, settled-more}
 use Rattle.verdict.proofs.alone.settled_loops.Goals as goal
 

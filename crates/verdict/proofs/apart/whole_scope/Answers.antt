@@ -1,6 +1,5 @@
 use Rattle.std.proofs.Common.{subst, sym}
-use Rattle.looped.specs.Looped.{Looped}
-use Rattle.verdict.specs.Determination.{SettleInOneSweep}
+use Rattle.verdict.proofs.Common.{Looped, SettleInOneSweep}
 use Rattle.verdict.proofs.apart.whole_scope.Goals as goal
 
 pub known_gates-requires-clause-settled : goal.known_gates-requires-clause-settled

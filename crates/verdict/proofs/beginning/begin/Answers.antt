@@ -1,18 +1,7 @@
 use Rattle.std.proofs.Common.{◌≡◌, ◌∙◌, ◌&&◌, ◌+◌, ◌*◌, ◌≤◌, ℕ, true, false, None, sym, ap, subst, arith}
-use Rattle.bdd_store.specs.Growth.{KeepsNodes}
-use Rattle.bdd_store.specs.Subfunctions.{nodes}
-use Rattle.bdd_store.proofs.GrowthLemmas.{KeepsNodes-chain, within_only, within_one, within_then, within_moved, within_more, within_answered, within_refused}
-use Rattle.dual_rail.specs.WorkingLists.{IsWide}
-use Rattle.care_sets.specs.Care.{columns, is_allowed, is_care_vector}
-use Rattle.refusals.specs.Refusals.{initial_refusal}
-use Rattle.verdict.specs.Costs.{invariant_effort, start_cost}
-use Rattle.verdict.specs.Enough.{IsLaid, GrowsInDecision}
-use Rattle.verdict.specs.Sets.{Tells, has_state_inside, difference}
-use Rattle.isolation.specs.Columns.{AreColumns}
-use Rattle.fixpoint.specs.Orders.{order, laid}
-use Rattle.fixpoint.proofs.OrderLemmas.{order-is}
-use Rattle.bdd_ops.specs.Least.{IsLayout}
-use Rattle.isolation.proofs.ColumnLemmas.{AreColumns-kept}
+use Rattle.verdict.proofs.Common.{KeepsNodes, nodes, within_only, within_one, within_then, within_moved, within_more, within_answered, within_refused, IsWide, columns, is_care_vector, initial_refusal, invariant_effort, start_cost, IsLaid, GrowsInDecision, Tells, has_state_inside, difference, AreColumns, order, laid, order-is, IsLayout, AreColumns-kept}
+use Rattle.bdd_store.proofs.GrowthLemmas.{KeepsNodes-chain}
+use Rattle.care_sets.specs.Care.{is_allowed}
 use Rattle.verdict.proofs.DecisionLemmas.{wide-kept, starts-fit, outside-fits}
 use Rattle.verdict.proofs.PartLemmas.{Tells-kept, assume-reads}
 use Rattle.verdict.proofs.VerdictLemmas.{refused-empty, empty-is}

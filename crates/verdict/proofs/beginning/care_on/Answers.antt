@@ -1,14 +1,6 @@
 use Rattle.std.proofs.Common.{◌∙◌, refl, ◌&&◌, ◌+◌, ◌*◌, ◌≤◌, ℕ, sym, ap₂, arith}
-use Rattle.bdd_store.specs.Growth.{GrowsWithin}
-use Rattle.bdd_store.specs.Subfunctions.{nodes}
-use Rattle.bdd_store.proofs.GrowthLemmas.{within_only, within_one, within_then, within_moved, within_more, within_answered, within_refused}
-use Rattle.bdd_ops.specs.Operations.{conjunction}
-use Rattle.dual_rail.specs.Rails.{values_of}
-use Rattle.verdict.specs.Causes.{HasModelOver}
-use Rattle.verdict.specs.Costs.{assume_effort}
-use Rattle.verdict.specs.Enough.{IsWideFor, SaysCare}
-use Rattle.verdict.specs.Sets.{Tells, has_state_inside}
-use Rattle.fixpoint.specs.Orders.{laid}
+use Rattle.verdict.proofs.Common.{GrowsWithin, nodes, within_only, within_one, within_then, within_moved, within_more, within_answered, within_refused, conjunction, values_of, HasModelOver, assume_effort, SaysCare, Tells, has_state_inside, laid}
+use Rattle.verdict.specs.Enough.{IsWideFor}
 use Rattle.verdict.proofs.DecisionLemmas.{made-listed, made-one, wide-kept}
 use Rattle.verdict.proofs.PartLemmas.{Tells-kept}
 use Rattle.verdict.proofs.WorkLemmas.{assume-bounded}

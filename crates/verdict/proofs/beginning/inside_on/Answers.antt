@@ -1,14 +1,7 @@
 use Rattle.std.proofs.Common.{◌≡◌, ◌∙◌, ◌-◌, ℕ, List, length, take, drop, sym, ap, subst, arith}
 use Rattle.std.specs.Prelude.{IfSome}
-use Rattle.std.proofs.lemmas.List.{take_rest, length-drop}
-use Rattle.bdd_store.proofs.GrowthLemmas.{within_moved, within_answered, within_refused}
-use Rattle.dual_rail.specs.declared.rail.Rails.{Rails}
-use Rattle.dual_rail.specs.Rails.{values_of}
-use Rattle.dual_rail.specs.WorkingLists.{IsWide}
-use Rattle.care_sets.specs.Care.{columns, state_of}
-use Rattle.verdict.specs.Enough.{IsLaid, BoundsModel}
-use Rattle.fixpoint.specs.Orders.{laid}
-use Rattle.verdict.specs.Sets.{ReadsWithin}
+use Rattle.verdict.proofs.Common.{length-drop, within_moved, within_answered, within_refused, Rails, values_of, IsWide, columns, state_of, IsLaid, BoundsModel, laid, ReadsWithin}
+use Rattle.std.proofs.lemmas.List.{take_rest}
 use Rattle.verdict.proofs.PartLemmas.{invariant-reads}
 use Rattle.verdict.proofs.VerdictLemmas.{state-values}
 use Rattle.verdict.proofs.WorkLemmas.{invariant-bounded}

@@ -1,4 +1,4 @@
-use Rattle.isolation.specs.Cones.{AddMarks}
+use Rattle.verdict.proofs.Common.{AddMarks}
 use Rattle.verdict.proofs.BehindLemmas.{IsAmongFirst}
 use Rattle.verdict.proofs.behind.mark_all.Given as goal
 

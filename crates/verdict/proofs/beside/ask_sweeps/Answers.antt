@@ -1,10 +1,6 @@
 use Rattle.std.proofs.Common.{◌≡◌, ℕ, Contains, subst, sym, arith}
 use Rattle.std.proofs.lemmas.Option.{IfSome_then}
-use Rattle.std.proofs.lemmas.Result.{IfOk-weaker}
-use Rattle.loops.specs.Blocks.{block_at}
-use Rattle.loops.specs.Cuts.{loops_by}
-use Rattle.clause_decision.specs.Changes.{AreFedKnown}
-use Rattle.clause_decision.specs.Sweeping.{IsLeastCount}
+use Rattle.verdict.proofs.Common.{IfOk-weaker, block_at, loops_by, AreFedKnown, IsLeastCount}
 use Rattle.verdict.proofs.LooseLemmas.{least-loop}
 use Rattle.verdict.proofs.SearchLemmas.{told-of}
 use Rattle.verdict.proofs.beside.ask_sweeps.Goals as goal

@@ -1,5 +1,5 @@
 use Rattle.std.proofs.Common.{◌≡◌, ℕ, Contains}
-use Rattle.isolation.specs.Cones.{is_marked}
+use Rattle.verdict.proofs.Common.{is_marked}
 use Rattle.verdict.proofs.beside.clear_gates.Given as goal
 
 abbrev pub invariant-loop-gate : goal.invariant-loop-gate

@@ -1,6 +1,7 @@
 use Rattle.std.proofs.Common.{◌+◌, sym, subst}
 use Rattle.std.specs.Prelude.{IfSome}
-use Rattle.verdict.specs.Loose.{AreLoopCounts, IsLoopCount}
+use Rattle.verdict.proofs.Common.{AreLoopCounts}
+use Rattle.verdict.specs.Loose.{IsLoopCount}
 use Rattle.verdict.proofs.LooseLemmas.{loop-counts-more}
 use Rattle.verdict.proofs.beside.counts_beside.Goals as goal
 

@@ -1,4 +1,4 @@
-use Rattle.verdict.specs.Loose.{AreLoopCounts}
+use Rattle.verdict.proofs.Common.{AreLoopCounts}
 use Rattle.verdict.proofs.beside.counts_beside.Given as goal
 
 abbrev pub invariant-loop-place : goal.invariant-loop-place

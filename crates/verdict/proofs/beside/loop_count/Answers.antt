@@ -1,11 +1,6 @@
 use Rattle.std.proofs.Common.{◌≡◌, ◌∙◌, List, ℕ, Bool, true, ap, not, subst, sym, true≢false}
-use Rattle.netlist.specs.declared.parts.Parts.{Parts}
-use Rattle.loops.specs.declared.structure.Blocks.{Blocks}
-use Rattle.loops.specs.Blocks.{block_at}
-use Rattle.isolation.specs.Cones.{is_marked}
-use Rattle.clause_decision.specs.Changes.{AreFedKnown}
+use Rattle.verdict.proofs.Common.{Parts, Blocks, block_at, is_marked, AreFedKnown, AreUnknownMarks}
 use Rattle.verdict.specs.Behind.{AreReached}
-use Rattle.verdict.specs.Loose.{AreUnknownMarks}
 use Rattle.verdict.proofs.LooseLemmas.{one-sweep, says-not}
 use Rattle.verdict.proofs.beside.loop_count.Goals as goal
 

@@ -1,6 +1,6 @@
 use Rattle.std.proofs.Common.{length, subst, sym}
 use Rattle.std.specs.Prelude.{IfSome}
-use Rattle.verdict.specs.Loose.{AreLoopCounts}
+use Rattle.verdict.proofs.Common.{AreLoopCounts}
 use Rattle.verdict.proofs.LooseLemmas.{loop-counts-all}
 use Rattle.verdict.proofs.beside.sweeps_beside.Goals as goal
 

@@ -1,17 +1,8 @@
 use Rattle.std.proofs.Common.{◌≡◌, ◌<◌, ◌∙◌, ℕ, List, length, ap, get_or, arith}
 use Rattle.std.proofs.lemmas.List.{get_or_read}
-use Rattle.bdd_store.specs.Arena.{den}
-use Rattle.bdd_store.proofs.GrowthLemmas.{within_moved, within_answered, within_refused}
-use Rattle.cyc_base.specs.declared.sig.Sig.{Sig}
-use Rattle.dual_rail.specs.declared.rail.Rails.{Rails}
-use Rattle.dual_rail.specs.Rails.{values_of}
-use Rattle.dual_rail.specs.WorkingLists.{BoundsEach}
-use Rattle.netlist.specs.Fixpoint.{fix}
-use Rattle.netlist.specs.Netlists.{count}
-use Rattle.fixpoint.specs.Sweeping.{unknown, rails_at}
+use Rattle.verdict.proofs.Common.{den, within_moved, within_answered, within_refused, Sig, Rails, values_of, BoundsEach, fix, count, rails_at, IsOfModel, model_of}
+use Rattle.fixpoint.specs.Sweeping.{unknown}
 use Rattle.fixpoint.specs.Working.{no_loops, IsGatePart}
-use Rattle.verdict.specs.Enough.{IsOfModel}
-use Rattle.verdict.specs.Sets.{model_of}
 use Rattle.verdict.proofs.CareLemmas.{inputs-proper, inputs-values, inputs-bounded, output-holds}
 use Rattle.verdict.proofs.care.holds_on.Goals as goal
 use Rattle.verdict.proofs.care.holds_on.Goals.{After-lift_gates}

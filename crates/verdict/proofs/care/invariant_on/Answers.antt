@@ -1,16 +1,6 @@
 use Rattle.std.proofs.Common.{◌≡◌, ◌*◌, ◌∙◌, inr, ℕ, sym, ap, subst, Some, true, length, arith}
-use Rattle.std.specs.Prelude.{IsSomeAnd}
-use Rattle.std.specs.Option.{option_map_or}
-use Rattle.bdd_store.specs.Growth.{GrowsWithin}
-use Rattle.bdd_store.proofs.GrowthLemmas.{within_more, within_moved, within_caused, within_answered, within_refused}
-use Rattle.dual_rail.specs.Rails.{values_of}
-use Rattle.dual_rail.specs.WorkingLists.{BoundsEach}
-use Rattle.care_sets.specs.Care.{holds_at}
-use Rattle.fixpoint.specs.Working.{HasLargeCover, effort}
-use Rattle.verdict.specs.Causes.{HasModelOver}
-use Rattle.verdict.specs.Costs.{invariant_effort}
-use Rattle.verdict.specs.Enough.{IsOfModel, BoundsModel}
-use Rattle.verdict.specs.Sets.{model_of}
+use Rattle.verdict.proofs.Common.{IsSomeAnd, option_map_or, GrowsWithin, within_more, within_moved, within_answered, within_refused, values_of, BoundsEach, holds_at, HasLargeCover, effort, HasModelOver, invariant_effort, IsOfModel, BoundsModel, model_of}
+use Rattle.bdd_store.proofs.GrowthLemmas.{within_caused}
 use Rattle.verdict.proofs.CareLemmas.{model_there, model_is}
 use Rattle.verdict.proofs.care.invariant_on.Goals as goal
 use Rattle.verdict.proofs.care.invariant_on.Goals.{After-holds_on}

@@ -1,8 +1,6 @@
 use Rattle.std.proofs.Common.{◌≡◌, Bool, List, length, Some, subst, sym}
-use Rattle.refusals.specs.declared.refusal.Refusal.TheVariants.{Initial}
-use Rattle.refusals.specs.Refusals.{refusal}
+use Rattle.verdict.proofs.Common.{Initial, refusal, IsFirstOf}
 use Rattle.clause_decision.specs.Tests.{is_outside}
-use Rattle.clause_queries.specs.Vectors.{IsFirstOf}
 use Rattle.verdict.proofs.BeginningLemmas.{initial-none, initial-refuses}
 use Rattle.verdict.proofs.clauses.begin.Goals as goal
 

@@ -1,5 +1,5 @@
 use Rattle.std.proofs.Common.{subst, ◌∙◌}
-use Rattle.care_sets.specs.Care.{columns, is_care_vector}
+use Rattle.verdict.proofs.Common.{columns, is_care_vector}
 use Rattle.clause_queries.specs.Vectors.{TellsWhetherAny}
 use Rattle.verdict.proofs.BeginningLemmas.{care-some, care-none}
 use Rattle.verdict.proofs.clauses.begin_with_care.Goals as goal

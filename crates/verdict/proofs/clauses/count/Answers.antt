@@ -1,8 +1,6 @@
 use Rattle.std.proofs.Common.{ℕ, Bool, List, length, subst}
 use Rattle.std.specs.Prelude.{IfSome}
-use Rattle.loops.specs.declared.structure.Blocks.{Blocks}
-use Rattle.verdict.specs.Determination.{AreCountsBelow}
-use Rattle.verdict.specs.Scopes.{AreCountsAt}
+use Rattle.verdict.proofs.Common.{Blocks, AreCountsBelow, AreCountsAt}
 use Rattle.verdict.proofs.DeterminationLemmas.{determination, determination-stands, open-decided, open-determine, some_vector}
 use Rattle.verdict.proofs.clauses.count.Goals as goal
 

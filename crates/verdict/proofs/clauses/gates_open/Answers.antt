@@ -1,7 +1,5 @@
 use Rattle.std.proofs.Common.{◌∙◌, Bool, List, map, not, ap₂}
-use Rattle.std.proofs.lemmas.Result.{IfOk-weaker}
-use Rattle.loops.specs.declared.structure.Blocks.{Blocks}
-use Rattle.isolation.specs.Cones.{is_marked}
+use Rattle.verdict.proofs.Common.{IfOk-weaker, Blocks, is_marked}
 use Rattle.verdict.proofs.SuspectLemmas.{open-gates}
 use Rattle.verdict.proofs.clauses.gates_open.Goals as goal
 

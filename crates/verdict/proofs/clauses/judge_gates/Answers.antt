@@ -1,10 +1,6 @@
 use Rattle.std.proofs.Common.{subst, sym}
 use Rattle.std.specs.Prelude.{IfOk, IfSome}
-use Rattle.looped.specs.Looped.{Looped}
-use Rattle.care_sets.specs.Care.{CareSet}
-use Rattle.refusals.specs.declared.observe.Observe.{Observe}
-use Rattle.verdict.specs.Determination.{SettleInOneSweep}
-use Rattle.verdict.specs.Scopes.{MayGoOn}
+use Rattle.verdict.proofs.Common.{Looped, CareSet, Observe, SettleInOneSweep, MayGoOn}
 use Rattle.verdict.specs.Searches.{Searched}
 use Rattle.verdict.specs.Verdicts.{IsVerdict}
 use Rattle.verdict.proofs.clauses.judge_gates.Goals as goal

@@ -1,5 +1,5 @@
 use Rattle.std.proofs.Common.{◌+◌, sym, subst}
-use Rattle.verdict.specs.Determination.{AreCountsBelow}
+use Rattle.verdict.proofs.Common.{AreCountsBelow}
 use Rattle.verdict.proofs.DeterminationLemmas.{counts-more}
 use Rattle.verdict.proofs.counts.counts_of.Goals as goal
 

@@ -1,4 +1,4 @@
-use Rattle.verdict.specs.Determination.{AreCountsBelow}
+use Rattle.verdict.proofs.Common.{AreCountsBelow}
 use Rattle.verdict.proofs.counts.counts_of.Given as goal
 
 abbrev pub invariant-loop-place : goal.invariant-loop-place

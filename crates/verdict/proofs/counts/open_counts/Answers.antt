@@ -1,6 +1,7 @@
 use Rattle.std.proofs.Common.{◌≡◌, ◌+◌, ℕ, Bool, List, length, ap, sym, subst, arith}
 use Rattle.std.specs.Prelude.{IfSome}
-use Rattle.verdict.specs.Scopes.{AreCountsAt, IsCountAt}
+use Rattle.verdict.proofs.Common.{AreCountsAt}
+use Rattle.verdict.specs.Scopes.{IsCountAt}
 use Rattle.verdict.proofs.DeterminationLemmas.{counts_at-more}
 use Rattle.verdict.proofs.counts.open_counts.Goals as goal
 

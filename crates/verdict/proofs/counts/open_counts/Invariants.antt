@@ -1,4 +1,4 @@
-use Rattle.verdict.specs.Scopes.{AreCountsAt}
+use Rattle.verdict.proofs.Common.{AreCountsAt}
 use Rattle.verdict.proofs.counts.open_counts.Given as goal
 
 abbrev pub invariant-loop-place : goal.invariant-loop-place

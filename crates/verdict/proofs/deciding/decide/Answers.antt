@@ -1,7 +1,5 @@
 use Rattle.std.proofs.Common.{◌≡◌, Err, length, ap, subst, ◌∙◌, rules}
-use Rattle.bdd_store.specs.declared.fault.StoreFault.{StoreFault}
-use Rattle.looped.specs.Looped.{Looped}
-use Rattle.verdict.specs.Enough.{IsFullFor}
+use Rattle.verdict.proofs.Common.{StoreFault, Looped, IsFullFor}
 use Rattle.verdict.specs.Questions.{Asked}
 use Rattle.verdict.proofs.CauseLemmas.{out_of_nodes, below_enough}
 use Rattle.verdict.proofs.deciding.decide.Goals as goal

@@ -1,12 +1,8 @@
 use Rattle.std.proofs.Common.{◌≡◌, ◌∙◌, Err, inl, ◌+◌, ◌≤◌, ℕ, List, ap, sym, subst, arith}
-use Rattle.bdd_store.specs.declared.fault.StoreFault.{StoreFault}
-use Rattle.bdd_store.proofs.GrowthLemmas.{within_only, within_each, adds_then, adds_refused}
-use Rattle.fixpoint.specs.Orders.{order}
-use Rattle.isolation.specs.Columns.{AreColumns}
-use Rattle.care_sets.specs.Care.{columns}
+use Rattle.verdict.proofs.Common.{StoreFault, within_only, adds_then, adds_refused, order, AreColumns, columns, decision_cost, start_cost, AddsInDecision, IsFullFor}
+use Rattle.bdd_store.proofs.GrowthLemmas.{within_each}
 use Rattle.verdict.specs.Causes.{HasCoverOver}
-use Rattle.verdict.specs.Costs.{decision_cost, start_cost, whole_cost}
-use Rattle.verdict.specs.Enough.{AddsInDecision, IsFullFor}
+use Rattle.verdict.specs.Costs.{whole_cost}
 use Rattle.verdict.proofs.CauseLemmas.{full_for}
 use Rattle.verdict.proofs.SearchLemmas.{told-on}
 use Rattle.verdict.proofs.deciding.decide_on.Goals as goal

@@ -1,9 +1,7 @@
 use Rattle.std.proofs.Common.{inr, ◌+◌, ◌≤◌, sym, subst, arith}
-use Rattle.bdd_store.proofs.GrowthLemmas.{adds_then, adds_caused, adds_moved, adds_more, adds_refused, adds_answered}
-use Rattle.dual_rail.specs.WorkingLists.{IsWide}
-use Rattle.isolation.proofs.ColumnLemmas.{AreColumns-kept}
-use Rattle.verdict.specs.Costs.{start_cost, whole_cost}
-use Rattle.verdict.specs.Enough.{AddsInDecision, IsLaid}
+use Rattle.verdict.proofs.Common.{adds_then, adds_moved, adds_more, adds_refused, IsWide, AreColumns-kept, start_cost, AddsInDecision, IsLaid}
+use Rattle.bdd_store.proofs.GrowthLemmas.{adds_caused, adds_answered}
+use Rattle.verdict.specs.Costs.{whole_cost}
 use Rattle.verdict.specs.Verdicts.{IsStart}
 use Rattle.verdict.proofs.deciding.judge.Goals as goal
 use Rattle.verdict.proofs.deciding.judge.Goals.{After-begin}

@@ -1,20 +1,9 @@
 use Rattle.std.proofs.Common.{◌≡◌, ◌∙◌, ◌+◌, ◌*◌, ℕ, None, sym, subst, arith}
-use Rattle.bdd_store.specs.Soundness.{IsLawful}
-use Rattle.bdd_store.proofs.GrowthLemmas.{within_only, within_then, within_moved, within_more, within_refused, within_answered}
-use Rattle.dual_rail.specs.WorkingLists.{IsWide}
-use Rattle.loops.specs.Blocks.{home_of}
-use Rattle.loops.specs.Cuts.{loops_by}
-use Rattle.fixpoint.specs.Solved.{IsSolution}
+use Rattle.verdict.proofs.Common.{IsLawful, within_only, within_then, within_moved, within_more, within_refused, within_answered, IsWide, home_of, loops_by, IsSolution, is_care_vector, refusal, GrowsWithin, HasModelOver, GrowsInDecision, IsLaid, Tells, AreFixed, AreLoose}
 use Rattle.fixpoint.specs.Counts.{CountSweeps, IsComparedIn, count_at}
 use Rattle.fixpoint.proofs.KeptLemmas.{RootsStay-kept}
-use Rattle.care_sets.specs.Care.{is_care_vector}
-use Rattle.refusals.specs.Refusals.{refusal}
-use Rattle.bdd_store.specs.Growth.{GrowsWithin}
-use Rattle.verdict.specs.Causes.{HasModelOver}
 use Rattle.verdict.specs.Costs.{solved_cost}
-use Rattle.verdict.specs.Enough.{GrowsInDecision, IsLaid}
-use Rattle.verdict.specs.Sets.{Tells, AreFixed}
-use Rattle.verdict.specs.Verdicts.{AreLoose, IsSolvedWhole, StandSo, later_refusal}
+use Rattle.verdict.specs.Verdicts.{IsSolvedWhole, StandSo, later_refusal}
 use Rattle.verdict.proofs.CountLemmas.{count-on-care}
 use Rattle.verdict.proofs.DecisionLemmas.{wide-kept}
 use Rattle.verdict.proofs.PartLemmas.{Tells-kept}

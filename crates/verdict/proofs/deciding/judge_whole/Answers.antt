@@ -1,13 +1,6 @@
 use Rattle.std.proofs.Common.{◌∙◌, ◌+◌, ◌*◌, ℕ, inl, inr, length, sym, subst, arith}
-use Rattle.bdd_store.specs.Soundness.{IsLawful}
-use Rattle.bdd_store.proofs.GrowthLemmas.{adds_then, adds_caused, adds_moved, adds_more, adds_refused}
-use Rattle.dual_rail.specs.Rails.{values_of}
-use Rattle.dual_rail.specs.WorkingLists.{IsWide}
-use Rattle.loops.specs.Cuts.{loops_by}
-use Rattle.fixpoint.specs.Working.{HasLargeCover, effort}
-use Rattle.verdict.specs.Enough.{AddsInDecision, IsLaid}
-use Rattle.verdict.specs.Sets.{AreFixed}
-use Rattle.verdict.specs.Solving.{AreColumnVectors}
+use Rattle.verdict.proofs.Common.{IsLawful, adds_then, adds_moved, adds_more, adds_refused, values_of, IsWide, loops_by, HasLargeCover, effort, AddsInDecision, IsLaid, AreFixed, AreColumnVectors}
+use Rattle.bdd_store.proofs.GrowthLemmas.{adds_caused}
 use Rattle.verdict.specs.Verdicts.{IsSolvedWhole}
 use Rattle.verdict.proofs.CountLemmas.{column-vectors}
 use Rattle.verdict.proofs.PartLemmas.{Tells-same}

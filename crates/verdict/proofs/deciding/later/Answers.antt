@@ -1,12 +1,8 @@
 use Rattle.std.proofs.Common.{◌≡◌, ◌∙◌, ◌*◌, Option, Some, None, length, sym, ap, ap₂, subst, arith}
-use Rattle.std.specs.Option.{option_or}
-use Rattle.bdd_store.proofs.GrowthLemmas.{within_only, within_then, within_moved, within_more, within_answered, within_refused}
-use Rattle.refusals.specs.declared.refusal.Refusal.{Refusal}
-use Rattle.refusals.specs.Refusals.{undetermined_refusal, leaves_refusal}
+use Rattle.verdict.proofs.Common.{option_or, within_only, within_then, within_moved, within_more, within_answered, within_refused, Refusal, undetermined_refusal, leaves_refusal, GrowsInDecision, AreLoose}
 use Rattle.refusals.proofs.LawLemmas.{sources_determined}
 use Rattle.verdict.specs.Costs.{later_cost}
-use Rattle.verdict.specs.Enough.{GrowsInDecision}
-use Rattle.verdict.specs.Verdicts.{AreLoose, StandSo}
+use Rattle.verdict.specs.Verdicts.{StandSo}
 use Rattle.verdict.proofs.DecisionLemmas.{wide-kept}
 use Rattle.verdict.proofs.PartLemmas.{AreFixed-kept}
 use Rattle.verdict.proofs.deciding.later.Goals as goal

@@ -1,18 +1,7 @@
 use Rattle.std.proofs.Common.{◌≡◌, ℕ, ◌+◌, ◌-◌, ◌<◌, ◌≤◌, ◌∙◌, Bool, List, length, drop, get_or, sym, ap, ap₂, arith}
 use Rattle.std.specs.Prelude.{slice_get, Some}
-use Rattle.bdd_store.specs.Growth.{GrowsWithin, NoOtherCause}
-use Rattle.bdd_store.specs.Subfunctions.{nodes}
-use Rattle.bdd_store.proofs.GrowthLemmas.{nothing_grown, within_one, within_then, within_more, within_answered, within_refused}
-use Rattle.bdd_ops.specs.Operations.{conjunction}
-use Rattle.dual_rail.specs.declared.rail.Rails.{Rails}
-use Rattle.dual_rail.specs.Rails.{AreRailsOf}
-use Rattle.fixpoint.specs.Orders.{order}
-use Rattle.fixpoint.specs.Sweeping.{rails_at}
-use Rattle.fixpoint.proofs.WireLemmas.{rails_at-proper}
-use Rattle.care_sets.specs.Care.{columns}
-use Rattle.isolation.specs.Columns.{AreColumns}
-use Rattle.verdict.specs.Sets.{BoundsStarts}
-use Rattle.isolation.proofs.ColumnLemmas.{AreColumns-kept}
+use Rattle.verdict.proofs.Common.{GrowsWithin, NoOtherCause, nodes, within_one, within_then, within_more, within_answered, within_refused, conjunction, Rails, AreRailsOf, order, rails_at, rails_at-proper, columns, AreColumns, BoundsStarts, AreColumns-kept}
+use Rattle.bdd_store.proofs.GrowthLemmas.{nothing_grown}
 use Rattle.verdict.proofs.StartLemmas.{all_may_start_at, long-order, order-low, later-none, later-both, later-input, later-more, later-nodes, starts-told}
 use Rattle.verdict.proofs.initial.starts_on.Goals as goal
 use Rattle.verdict.proofs.initial.starts_on.Goals.{After-and}

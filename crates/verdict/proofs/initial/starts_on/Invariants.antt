@@ -1,7 +1,5 @@
 use Rattle.std.proofs.Common.{◌-◌}
-use Rattle.bdd_store.proofs.GrowthLemmas.{HasGrown}
-use Rattle.care_sets.specs.Care.{columns}
-use Rattle.verdict.specs.Sets.{BoundsStarts}
+use Rattle.verdict.proofs.Common.{HasGrown, columns, BoundsStarts}
 use Rattle.verdict.proofs.StartLemmas.{TellsLater}
 use Rattle.verdict.proofs.initial.starts_on.Given as goal
 

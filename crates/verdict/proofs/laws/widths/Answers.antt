@@ -1,7 +1,7 @@
 use Rattle.std.proofs.Common.{ℕ, zero, suc, ◌+◌, ◌≤◌, ◌^◌, arith}
 use Rattle.std.proofs.Math.Nat.{pow-suc}
 use Rattle.dual_rail.proofs.SizeLemmas.{nodes-below_power}
-use Rattle.care_sets.specs.Care.{columns}
+use Rattle.verdict.proofs.Common.{columns}
 use Rattle.verdict.proofs.laws.widths.Goals as goal
 
 more-vectors : (n : ℕ) → n + 1 ≤ 2 ^ n

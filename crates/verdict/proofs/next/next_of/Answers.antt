@@ -1,10 +1,6 @@
 use Rattle.std.proofs.Common.{◌≡◌, ◌∷◌, [], ◌++◌, ◌∙◌, ℕ, List, Bool, length, refl, sym, ap, arith}
-use Rattle.bdd_store.specs.Arena.{Arena, den}
-use Rattle.bdd_ops.specs.Least.{by_variable}
-use Rattle.fixpoint.specs.Orders.{laid}
-use Rattle.fixpoint.specs.Sweeping.{rails_at}
+use Rattle.verdict.proofs.Common.{Arena, den, by_variable, laid, rails_at, columns}
 use Rattle.fixpoint.proofs.LayoutLemmas.{length-by_variable}
-use Rattle.care_sets.specs.Care.{columns}
 use Rattle.verdict.proofs.NextLemmas.{source-within, state-more}
 use Rattle.verdict.proofs.PartLemmas.{order-layout}
 use Rattle.verdict.proofs.SetLemmas.{layout-within}

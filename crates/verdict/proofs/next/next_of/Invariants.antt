@@ -1,5 +1,5 @@
 use Rattle.std.proofs.Common.{◌≡◌, take}
-use Rattle.refusals.specs.Refusals.{next_state}
+use Rattle.verdict.proofs.Common.{next_state}
 use Rattle.verdict.proofs.next.next_of.Given as goal
 
 abbrev pub invariant-loop-number : goal.invariant-loop-number

@@ -1,7 +1,5 @@
 use Rattle.std.proofs.Common.{◌+◌, ◌*◌, refl, sym, subst, arith}
-use Rattle.bdd_store.specs.Growth.{GrowsWithin, NoOtherCause}
-use Rattle.bdd_store.proofs.GrowthLemmas.{within_then, within_moved, within_more, within_answered, within_refused, within_memory}
-use Rattle.verdict.specs.Next.{BoundsSignals}
+use Rattle.verdict.proofs.Common.{GrowsWithin, NoOtherCause, within_then, within_moved, within_more, within_answered, within_refused, within_memory, BoundsSignals}
 use Rattle.verdict.proofs.NextLemmas.{AreFirstNext, next-more, rails-bounded}
 use Rattle.verdict.proofs.next.next_on.Goals as goal
 use Rattle.verdict.proofs.next.next_on.Goals.{After-restricted}

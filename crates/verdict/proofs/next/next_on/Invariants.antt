@@ -1,6 +1,5 @@
 use Rattle.std.proofs.Common.{◌*◌}
-use Rattle.bdd_store.proofs.GrowthLemmas.{HasGrown}
-use Rattle.verdict.specs.Next.{BoundsSignals}
+use Rattle.verdict.proofs.Common.{HasGrown, BoundsSignals}
 use Rattle.verdict.proofs.NextLemmas.{AreFirstNext}
 use Rattle.verdict.proofs.next.next_on.Given as goal
 

@@ -1,8 +1,5 @@
 use Rattle.std.proofs.Common.{arith}
-use Rattle.bdd_store.specs.Growth.{GrowsWithin, NoOtherCause}
-use Rattle.bdd_store.proofs.GrowthLemmas.{within_one, within_then, within_more, within_answered, within_refused}
-use Rattle.bdd_ops.specs.Operations.{conjunction}
-use Rattle.verdict.specs.Sets.{BoundsBoth}
+use Rattle.verdict.proofs.Common.{GrowsWithin, NoOtherCause, within_one, within_then, within_more, within_answered, within_refused, conjunction, BoundsBoth}
 use Rattle.verdict.proofs.NextLemmas.{conjunction-kept}
 use Rattle.verdict.proofs.next.restricted.Goals as goal
 use Rattle.verdict.proofs.next.restricted.Goals.{After-and-2}

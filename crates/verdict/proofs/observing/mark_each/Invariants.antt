@@ -1,6 +1,5 @@
 use Rattle.std.proofs.Common.{◌≡◌, ◌++◌, List, length, take}
-use Rattle.cyc_base.specs.declared.sig.Sig.{Sig}
-use Rattle.verdict.specs.Observed.{AreMarksOf}
+use Rattle.verdict.proofs.Common.{Sig, AreMarksOf}
 use Rattle.verdict.proofs.observing.mark_each.Given as goal
 
 abbrev pub invariant-loop-signal : goal.invariant-loop-signal

@@ -1,8 +1,5 @@
 use Rattle.std.proofs.Common.{◌<◌, ◌++◌, List, length, map, take, sym, ap, arith}
-use Rattle.std.proofs.lemmas.List.{length-map}
-use Rattle.std.proofs.lemmas.Option.{get_or_from_slice_get}
-use Rattle.cyc_base.specs.declared.sig.Sig.{Sig}
-use Rattle.netlist.specs.declared.parts.Latch.{Latch}
+use Rattle.verdict.proofs.Common.{length-map, get_or_from_slice_get, Sig, Latch}
 use Rattle.verdict.proofs.MarkLemmas.{source-more, marks-end}
 use Rattle.verdict.proofs.observing.mark_sources.Goals as goal
 

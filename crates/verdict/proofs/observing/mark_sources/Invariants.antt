@@ -1,7 +1,5 @@
 use Rattle.std.proofs.Common.{◌≡◌, ◌++◌, List, length, map, take}
-use Rattle.cyc_base.specs.declared.sig.Sig.{Sig}
-use Rattle.netlist.specs.declared.parts.Latch.{Latch}
-use Rattle.verdict.specs.Observed.{AreMarksOf}
+use Rattle.verdict.proofs.Common.{Sig, Latch, AreMarksOf}
 use Rattle.verdict.proofs.observing.mark_sources.Given as goal
 
 abbrev pub invariant-loop-number : goal.invariant-loop-number

@@ -1,10 +1,6 @@
 use Rattle.std.proofs.Common.{◌≡◌, ◌∙◌, ℕ, Bool, false, true, List, [], ◌++◌, length, take, drop, replicate, sym, ap, subst, arith}
-use Rattle.std.proofs.lemmas.List.{take_at}
-use Rattle.cyc_base.specs.declared.sig.Sig.{Sig}
-use Rattle.refusals.specs.declared.observe.Observe.{Observe}
+use Rattle.verdict.proofs.Common.{take_at, Sig, Observe, observed, gate_sigs, AreMarksOf}
 use Rattle.refusals.specs.declared.observe.Observe.TheVariants.{Outputs}
-use Rattle.refusals.specs.Acceptance.{observed, gate_sigs}
-use Rattle.verdict.specs.Observed.{AreMarksOf}
 use Rattle.verdict.proofs.MarkLemmas.{all-marked, none-marked}
 use Rattle.verdict.proofs.observing.observed_gates.Goals as goal
 

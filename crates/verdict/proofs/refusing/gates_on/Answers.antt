@@ -1,24 +1,7 @@
 use Rattle.std.proofs.Common.{◌≡◌, ◌∙◌, ◌+◌, ◌*◌, ◌<◌, ◌≤◌, ◌&&◌, ℕ, Vec, Global, Some, Bool, false, List, length, get_or, refl, sym, ap, ap₂, subst, arith, true≢false}
-use Rattle.std.specs.Prelude.{find, is_none}
-use Rattle.std.specs.Option.{option_map}
-use Rattle.std.proofs.lemmas.List.{get_or_default}
-use Rattle.bdd_store.specs.declared.node.Node.{Node}
-use Rattle.bdd_store.specs.Arena.{den}
-use Rattle.bdd_store.specs.Growth.{GrowsWithin, NoOtherCause}
-use Rattle.bdd_store.proofs.GrowthLemmas.{HasGrown, within_then, within_moved, within_more, within_answered, within_refused, within_memory}
-use Rattle.cyc_base.specs.declared.sig.Sig.{Sig}
-use Rattle.dual_rail.specs.declared.rail.Rails.{Rails}
-use Rattle.dual_rail.specs.WorkingLists.{IsWide}
-use Rattle.cyc_base.specs.Vectors.{vectors}
-use Rattle.netlist.specs.Netlists.{count, gate_sig}
-use Rattle.bdd_ops.specs.Least.{IsLayout}
-use Rattle.fixpoint.specs.Orders.{laid, order}
-use Rattle.fixpoint.specs.Sweeping.{rails_at}
-use Rattle.care_sets.specs.Care.{CareSet, columns, is_care_vector}
-use Rattle.refusals.specs.declared.refusal.Refusal.TheVariants.{Undetermined}
-use Rattle.refusals.specs.Refusals.{is_undetermined}
-use Rattle.verdict.specs.Enough.{IsLaid, IsWideOn}
-use Rattle.verdict.specs.Sets.{Tells, BoundsBoth, AreFixed, difference, unknown_in}
+use Rattle.verdict.proofs.Common.{find, is_none, option_map, get_or_default, Node, den, GrowsWithin, NoOtherCause, HasGrown, within_then, within_moved, within_more, within_answered, within_refused, within_memory, Sig, Rails, IsWide, vectors, count, gate_sig, IsLayout, laid, order, rails_at, CareSet, columns, is_care_vector, Undetermined, is_undetermined, IsLaid, Tells, BoundsBoth, AreFixed, difference}
+use Rattle.verdict.specs.Enough.{IsWideOn}
+use Rattle.verdict.specs.Sets.{unknown_in}
 use Rattle.verdict.proofs.DecisionLemmas.{wide-kept, open-fits, unknown-fits}
 use Rattle.verdict.proofs.PartLemmas.{IsKnownOnCare, by-order, none_found, order-layout, unknown-first, undetermined-found, undetermined-none, known-more, loose-more, loose-same, loose-all, AreFixed-kept, Tells-kept}
 use Rattle.verdict.proofs.refusing.gates_on.Goals as goal

@@ -1,8 +1,6 @@
 use Rattle.std.proofs.Common.{◌≡◌, ◌*◌, ◌≤◌}
-use Rattle.bdd_store.proofs.GrowthLemmas.{HasGrown}
-use Rattle.care_sets.specs.Care.{CareSet, is_care_vector}
+use Rattle.verdict.proofs.Common.{HasGrown, CareSet, is_care_vector, Tells}
 use Rattle.verdict.specs.Enough.{IsWideOn}
-use Rattle.verdict.specs.Sets.{Tells}
 use Rattle.verdict.proofs.PartLemmas.{AreKnownBelow, loose_below}
 use Rattle.verdict.proofs.refusing.gates_on.Given as goal
 

@@ -1,7 +1,6 @@
 use Rattle.std.proofs.Common.{◌∙◌, Vec, Global, Some, None, Bool, List, sym, ap, ap₂, drop}
-use Rattle.std.specs.Option.{option_map}
+use Rattle.verdict.proofs.Common.{option_map, Initial}
 use Rattle.bdd_store.proofs.GrowthLemmas.{grows_refused}
-use Rattle.refusals.specs.declared.refusal.Refusal.TheVariants.{Initial}
 use Rattle.verdict.proofs.PartLemmas.{by-order, initial-is, order-layout}
 use Rattle.verdict.proofs.refusing.initial_refusal.Goals as goal
 

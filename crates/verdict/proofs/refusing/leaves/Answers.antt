@@ -1,23 +1,8 @@
 use Rattle.std.proofs.Common.{◌≡◌, ◌∙◌, ℕ, ◌+◌, ◌*◌, ◌≤◌, Vec, Global, Some, None, Bool, true, List, length, refl, sym, ap, ap₂, subst, arith}
 use Rattle.std.specs.Prelude.{IfSome}
-use Rattle.std.specs.Option.{option_map}
-use Rattle.bdd_store.specs.Arena.{den}
-use Rattle.bdd_store.specs.Growth.{KeepsNodes}
-use Rattle.bdd_store.specs.Subfunctions.{nodes}
-use Rattle.bdd_store.proofs.GrowthLemmas.{KeepsNodes-chain, within_only, within_one, within_then, within_moved, within_more, within_answered, within_refused, within_memory}
-use Rattle.cyc_base.specs.Values.{bits}
-use Rattle.dual_rail.specs.declared.rail.Rails.{Rails}
-use Rattle.dual_rail.specs.Rails.{values_of}
-use Rattle.dual_rail.specs.WorkingLists.{IsWide}
-use Rattle.netlist.specs.Fixpoint.{next}
-use Rattle.refusals.specs.declared.refusal.Refusal.TheVariants.{Leaves}
-use Rattle.refusals.specs.Refusals.{next_state}
-use Rattle.refusals.proofs.FirstLemmas.{found_wide}
-use Rattle.bdd_ops.specs.Least.{by_variable}
-use Rattle.fixpoint.specs.Orders.{laid}
-use Rattle.verdict.specs.Costs.{invariant_effort, leaving_cost}
-use Rattle.verdict.specs.Enough.{IsLaid, BoundsModel, GrowsInDecision}
-use Rattle.verdict.specs.Sets.{ReadsWithin, difference}
+use Rattle.verdict.proofs.Common.{option_map, den, KeepsNodes, nodes, within_only, within_one, within_then, within_moved, within_more, within_answered, within_refused, within_memory, bits, Rails, values_of, IsWide, next, Leaves, next_state, found_wide, by_variable, laid, invariant_effort, IsLaid, BoundsModel, GrowsInDecision, ReadsWithin, difference}
+use Rattle.bdd_store.proofs.GrowthLemmas.{KeepsNodes-chain}
+use Rattle.verdict.specs.Costs.{leaving_cost}
 use Rattle.verdict.proofs.DecisionLemmas.{signals-bounded, wide-kept}
 use Rattle.verdict.proofs.LeavesLemmas.{within-set, leaves-fit}
 use Rattle.verdict.proofs.PartLemmas.{by-order, invariant-reads, leaves-is, order-layout, AreFixed-kept, Tells-kept}

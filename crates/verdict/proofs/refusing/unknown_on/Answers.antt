@@ -1,8 +1,6 @@
 use Rattle.std.proofs.Common.{◌&&◌, not, ap₂, ◌∙◌, arith}
-use Rattle.bdd_store.specs.Arena.{den}
-use Rattle.bdd_store.specs.Growth.{GrowsWithin, NoOtherCause}
-use Rattle.bdd_store.proofs.GrowthLemmas.{within_one, within_then, within_more, within_answered, within_refused}
-use Rattle.verdict.specs.Sets.{BoundsBoth, difference, unknown_in}
+use Rattle.verdict.proofs.Common.{den, GrowsWithin, NoOtherCause, within_one, within_then, within_more, within_answered, within_refused, BoundsBoth, difference}
+use Rattle.verdict.specs.Sets.{unknown_in}
 use Rattle.verdict.proofs.PartLemmas.{unknown-nodes, unknown-values}
 use Rattle.verdict.proofs.refusing.unknown_on.Goals as goal
 use Rattle.verdict.proofs.refusing.unknown_on.Goals.{After-minus-2}

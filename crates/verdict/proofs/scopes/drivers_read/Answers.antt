@@ -1,10 +1,8 @@
 use Rattle.std.proofs.Common.{◌≡◌, ◌<◌, ◌∙◌, ◌+◌, ◌-◌, ℕ, List, length, get_or, slice_get, Some, None, subst, sym, ap, arith}
 use Rattle.std.specs.Prelude.{IfSome, IsSome}
-use Rattle.std.proofs.lemmas.Option.{get_or_from_slice_get, slice_get_within}
-use Rattle.netlist.specs.Netlists.{count, gate_sig}
-use Rattle.netlist.specs.declared.parts.Latch.{Latch}
+use Rattle.verdict.proofs.Common.{get_or_from_slice_get, count, gate_sig, Latch, AreDriversBefore}
+use Rattle.std.proofs.lemmas.Option.{slice_get_within}
 use Rattle.std.specs.declared.option.Option.{Option}
-use Rattle.verdict.specs.Scopes.{AreDriversBefore}
 use Rattle.verdict.proofs.ScopeLemmas.{drivers-more, drivers-same, drivers-all}
 use Rattle.verdict.proofs.StepLemmas.{read-columns}
 use Rattle.verdict.proofs.scopes.drivers_read.Goals as goal

@@ -1,4 +1,4 @@
-use Rattle.verdict.specs.Scopes.{AreDriversBefore}
+use Rattle.verdict.proofs.Common.{AreDriversBefore}
 use Rattle.verdict.proofs.scopes.drivers_read.Given as goal
 
 abbrev pub invariant-loop-column : goal.invariant-loop-column

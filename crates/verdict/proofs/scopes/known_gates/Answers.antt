@@ -1,6 +1,5 @@
 use Rattle.std.proofs.Common.{◌≡◌, ◌∙◌, Bool, List, length, map, not, drop, ap, arith}
-use Rattle.std.proofs.lemmas.List.{take_at}
-use Rattle.std.proofs.lemmas.Result.{IfOk-weaker}
+use Rattle.verdict.proofs.Common.{take_at, IfOk-weaker}
 use Rattle.clause_decision.specs.Scopes.{AreNeverUnknown}
 use Rattle.verdict.proofs.ScopeLemmas.{never-behind}
 use Rattle.verdict.proofs.scopes.known_gates.Goals as goal

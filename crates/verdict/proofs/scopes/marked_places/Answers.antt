@@ -1,5 +1,5 @@
 use Rattle.std.proofs.Common.{◌+◌, ◌∙◌, subst, sym, ap}
-use Rattle.isolation.specs.Cones.{ListsMarked}
+use Rattle.verdict.proofs.Common.{ListsMarked}
 use Rattle.isolation.proofs.ConeLemmas.{listed-skip, listed-push}
 use Rattle.verdict.proofs.scopes.marked_places.Goals as goal
 use Rattle.verdict.proofs.scopes.marked_places.Goals.{then-marks-place+in_ok-push, else-marks-place}

@@ -1,4 +1,4 @@
-use Rattle.isolation.specs.Cones.{ListsMarked}
+use Rattle.verdict.proofs.Common.{ListsMarked}
 use Rattle.verdict.proofs.scopes.marked_places.Given as goal
 
 abbrev pub invariant-loop-place : goal.invariant-loop-place

@@ -1,5 +1,5 @@
 use Rattle.std.proofs.Common.{sym}
-use Rattle.verdict.specs.Determination.{SettleInOneSweep}
+use Rattle.verdict.proofs.Common.{SettleInOneSweep}
 use Rattle.verdict.proofs.SearchLemmas.{told-where}
 use Rattle.verdict.proofs.scopes.scope_of.Goals as goal
 

@@ -1,5 +1,5 @@
 use Rattle.std.proofs.Common.{subst}
-use Rattle.bdd_store.specs.Soundness.{IsLawful}
+use Rattle.verdict.proofs.Common.{IsLawful}
 use Rattle.verdict.proofs.SetLemmas.{never_is}
 use Rattle.verdict.proofs.sets.is_never.Goals as goal
 

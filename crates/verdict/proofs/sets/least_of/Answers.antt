@@ -1,6 +1,5 @@
 use Rattle.std.proofs.Common.{◌≡◌, ◌∙◌, sym, ap, length, drop, arith, Some, Ok, List, Bool}
-use Rattle.std.proofs.lemmas.List.{take_at}
-use Rattle.bdd_store.specs.Arena.{Arena}
+use Rattle.verdict.proofs.Common.{take_at, Arena}
 use Rattle.verdict.proofs.SetLemmas.{least-first, never-none}
 use Rattle.verdict.proofs.sets.least_of.Goals as goal
 

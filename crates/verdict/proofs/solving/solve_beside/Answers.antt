@@ -1,13 +1,7 @@
 use Rattle.std.proofs.Common.{◌∙◌, ◌+◌, ◌*◌, ℕ, List, IsSome, length, map, refl, sym, ap, subst, arith}
-use Rattle.bdd_store.specs.Growth.{AddsWithin}
-use Rattle.bdd_store.proofs.GrowthLemmas.{adds_moved, adds_refused, adds_answered}
-use Rattle.dual_rail.specs.WorkingLists.{IsWide}
-use Rattle.dual_rail.specs.Rails.{values_of}
-use Rattle.loops.specs.Cuts.{loops_by}
+use Rattle.verdict.proofs.Common.{AddsWithin, adds_moved, adds_refused, IsWide, values_of, loops_by, rails_under, Vectors, IsSolution, IsWorking, HasLargeCover, effort}
+use Rattle.bdd_store.proofs.GrowthLemmas.{adds_answered}
 use Rattle.fixpoint.specs.declared.kept.KeptRails.{KeptRails}
-use Rattle.fixpoint.specs.Kept.{rails_under}
-use Rattle.fixpoint.specs.Solved.{Vectors, IsSolution}
-use Rattle.fixpoint.specs.Working.{IsWorking, HasLargeCover, effort}
 use Rattle.fixpoint.proofs.KeptLemmas.{adds_lacking}
 use Rattle.verdict.proofs.SolvingLemmas.{given-kept, values-before, adds_before, root-function}
 use Rattle.verdict.proofs.solving.solve_beside.Goals as goal

@@ -1,7 +1,6 @@
 use Rattle.std.proofs.Common.{◌≡◌, ◌∙◌, None, subst, sym, ap}
 use Rattle.std.specs.Option.{option_copied}
-use Rattle.care_sets.specs.Care.{CareSet}
-use Rattle.refusals.specs.Refusals.{leaves_refusal}
+use Rattle.verdict.proofs.Common.{CareSet, leaves_refusal}
 use Rattle.refusals.proofs.RefusalLemmas.{nothing_mapped}
 use Rattle.verdict.proofs.DeterminationLemmas.{nothing_leaves}
 use Rattle.verdict.proofs.steps.step_of.Goals as goal

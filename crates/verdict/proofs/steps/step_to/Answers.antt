@@ -1,9 +1,6 @@
 use Rattle.std.proofs.Common.{subst, sym}
-use Rattle.std.proofs.lemmas.Result.{IfOk-weaker}
-use Rattle.care_sets.specs.Care.{columns}
-use Rattle.refusals.proofs.FirstLemmas.{found_wide}
+use Rattle.verdict.proofs.Common.{IfOk-weaker, columns, found_wide, IsFirstOf}
 use Rattle.clause_decision.specs.Tests.{is_leaving}
-use Rattle.clause_queries.specs.Vectors.{IsFirstOf}
 use Rattle.verdict.specs.Steps.{IsStep}
 use Rattle.verdict.proofs.StepLemmas.{step-stays, step-leaves}
 use Rattle.verdict.proofs.steps.step_to.Goals as goal

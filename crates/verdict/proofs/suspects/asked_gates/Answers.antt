@@ -1,7 +1,5 @@
 use Rattle.std.proofs.Common.{◌≡◌, ◌∙◌, Bool, Global, List, ℕ, Vec, length, take, drop, ◌++◌, ap, arith, subst, sym}
-use Rattle.std.proofs.lemmas.List.{take_at}
-use Rattle.isolation.specs.Cones.{is_marked}
-use Rattle.verdict.specs.Unknown.{AreAsked}
+use Rattle.verdict.proofs.Common.{take_at, is_marked, AreAsked}
 use Rattle.verdict.proofs.SuspectLemmas.{asked-all, asked-first}
 use Rattle.verdict.proofs.suspects.asked_gates.Goals as goal
 use Rattle.verdict.proofs.suspects.asked_gates.Goals.{then-index, else-index}

@@ -1,5 +1,5 @@
 use Rattle.std.proofs.Common.{◌≡◌, ℕ, ◌<◌, ◌≤◌, false}
-use Rattle.isolation.specs.Cones.{is_marked}
+use Rattle.verdict.proofs.Common.{is_marked}
 use Rattle.verdict.proofs.suspects.clear_behind.Given as goal
 
 abbrev pub invariant-loop-place : goal.invariant-loop-place

@@ -1,6 +1,5 @@
 use Rattle.std.proofs.Common.{◌≡◌, ◌<◌, ◌∙◌, ℕ, Bool, List, length, get_or, subst, sym, ap, arith}
-use Rattle.std.proofs.lemmas.List.{get_or_default}
-use Rattle.isolation.specs.Cones.{ListsMarked}
+use Rattle.verdict.proofs.Common.{get_or_default, ListsMarked}
 use Rattle.isolation.specs.Excerpts.{gate_in}
 use Rattle.clause_decision.specs.Tests.{IsFirstUnknown, TellsFirstUnknown}
 use Rattle.verdict.specs.Unknown.{IsFirstToRefuse}

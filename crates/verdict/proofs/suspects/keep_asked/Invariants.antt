@@ -1,5 +1,5 @@
 use Rattle.std.proofs.Common.{◌≡◌, ℕ, ◌<◌, ◌≤◌, ◌&&◌}
-use Rattle.isolation.specs.Cones.{is_marked}
+use Rattle.verdict.proofs.Common.{is_marked}
 use Rattle.verdict.proofs.suspects.keep_asked.Given as goal
 
 abbrev pub invariant-loop-place : goal.invariant-loop-place

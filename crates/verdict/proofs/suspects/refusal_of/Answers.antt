@@ -1,11 +1,5 @@
 use Rattle.std.proofs.Common.{◌∙◌, Bool, List, Some, subst, sym, ap, ap₂, arith}
-use Rattle.cyc_base.specs.declared.sig.Sig.{Sig}
-use Rattle.netlist.specs.declared.parts.Parts.{Parts}
-use Rattle.netlist.specs.Netlists.{gate_sig}
-use Rattle.care_sets.specs.Care.{columns}
-use Rattle.refusals.specs.declared.refusal.Refusal.TheVariants.{Undetermined}
-use Rattle.clause_decision.specs.Tests.{is_unknown_at}
-use Rattle.clause_queries.specs.Vectors.{IsFirstOf}
+use Rattle.verdict.proofs.Common.{Sig, Parts, gate_sig, columns, Undetermined, is_unknown_at, IsFirstOf}
 use Rattle.verdict.proofs.SearchLemmas.{told-on}
 use Rattle.verdict.proofs.SuspectLemmas.{refuses-at}
 use Rattle.verdict.proofs.suspects.refusal_of.Goals as goal

@@ -1,6 +1,5 @@
 use Rattle.std.proofs.Common.{subst, sym}
-use Rattle.netlist.specs.declared.parts.Parts.{Parts}
-use Rattle.verdict.specs.Unknown.{AreAsked}
+use Rattle.verdict.proofs.Common.{Parts, AreAsked}
 use Rattle.verdict.proofs.suspects.unknown_refusal.Goals as goal
 
 pub returns : goal.returns

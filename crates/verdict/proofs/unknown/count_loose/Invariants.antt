@@ -1,9 +1,5 @@
 use Rattle.std.proofs.Common.{◌≡◌, ◌≤◌}
-use Rattle.care_sets.specs.Care.{CareSet}
-use Rattle.refusals.specs.Acceptance.{observed}
-use Rattle.refusals.specs.declared.observe.Observe.{Observe}
-use Rattle.verdict.specs.Loose.{AreUnknownMarks}
-use Rattle.verdict.specs.Observed.{AreMarksOf}
+use Rattle.verdict.proofs.Common.{CareSet, observed, Observe, AreUnknownMarks, AreMarksOf}
 use Rattle.verdict.proofs.PartLemmas.{AreKnownBelow, loose_below}
 use Rattle.verdict.proofs.unknown.count_loose.Given as goal
 

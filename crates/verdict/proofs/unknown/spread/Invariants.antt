@@ -1,4 +1,4 @@
-use Rattle.verdict.specs.Loose.{AreSpread}
+use Rattle.verdict.proofs.Common.{AreSpread}
 use Rattle.verdict.proofs.unknown.spread.Given as goal
 
 abbrev pub invariant-loop-place : goal.invariant-loop-place

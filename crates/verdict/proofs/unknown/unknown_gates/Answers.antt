@@ -1,9 +1,8 @@
 use Rattle.std.proofs.Common.{◌≡◌, ◌<◌, Bool, List, ℕ, length, subst, sym, arith}
 use Rattle.std.specs.Prelude.{IfSome}
 use Rattle.std.specs.List.{All}
-use Rattle.isolation.specs.Cones.{ListsMarked}
+use Rattle.verdict.proofs.Common.{ListsMarked, AreSpread}
 use Rattle.clause_decision.specs.Tests.{TellEachUnknown}
-use Rattle.verdict.specs.Loose.{AreSpread}
 use Rattle.verdict.proofs.LooseLemmas.{listed-suspects, unknown-marked}
 use Rattle.verdict.proofs.SuspectLemmas.{listed-within}
 use Rattle.verdict.proofs.unknown.unknown_gates.Goals as goal

@@ -1,10 +1,7 @@
 use Rattle.std.proofs.Common.{◌≡◌, ◌∙◌, ◌<◌, All, length, ap, arith}
 use Rattle.std.proofs.lemmas.List.Elements.{All-from_get_or}
-use Rattle.loops.specs.declared.structure.Blocks.{Blocks}
-use Rattle.loops.specs.declared.structure.Cut.{Cut}
-use Rattle.loops.specs.Blocks.{block_at}
+use Rattle.clause_decision.proofs.Common.{Blocks, Cut, block_at, Looped}
 use Rattle.loops.proofs.OrderLemmas.{gates_within}
-use Rattle.looped.specs.Looped.{Looped}
 use Rattle.clause_decision.proofs.looped_block.LoopedBlock.of.Goals as goal
 
 pub cut_places-requires : goal.cut_places-requires

@@ -1,6 +1,5 @@
 use Rattle.std.proofs.Common.{ℕ, List, take, sym, subst}
-use Rattle.std.proofs.lemmas.List.{take_all, take_more}
-use Rattle.fixpoint.specs.Plans.{AreLocalsOf}
+use Rattle.fixpoint.proofs.Common.{take_all, take_more, AreLocalsOf}
 use Rattle.fixpoint.proofs.PlanLemmas.{locals-none}
 use Rattle.fixpoint.proofs.locals.Locals.of.Goals as goal
 

@@ -1,5 +1,5 @@
 use Rattle.std.proofs.Common.{take}
-use Rattle.fixpoint.specs.Plans.{AreLocalsOf}
+use Rattle.fixpoint.proofs.Common.{AreLocalsOf}
 use Rattle.fixpoint.proofs.locals.Locals.of.Given as goal
 
 abbrev pub invariant-loop-gate : goal.invariant-loop-gate

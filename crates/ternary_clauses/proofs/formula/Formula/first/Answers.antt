@@ -1,5 +1,5 @@
 use Rattle.std.proofs.Common.{refl, ap}
-use Rattle.ternary_clauses.specs.Formulas.{holds}
+use Rattle.ternary_clauses.proofs.Common.{holds}
 use Rattle.ternary_clauses.proofs.AddLemmas.{first-formula}
 use Rattle.ternary_clauses.proofs.formula.Formula.first.Goals as goal
 
