@@ -7,4 +7,6 @@ pub mod LineBufferLemmas
 pub mod MarksLemmas
 pub mod LoopLemmas
 pub mod LineFacts
+pub mod TextLineLemmas
 pub mod PartLemmas
+pub mod RunLemmas

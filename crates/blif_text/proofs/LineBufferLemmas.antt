@@ -1,9 +1,9 @@
 -- Lines as words with marks.
-use Rattle.std.proofs.Common.{◌≡◌, ◌≢◌, ℕ, suc, zero, ◌+◌, ◌-◌, ◌<◌, ◌≤◌, List, [], ◌∷◌, ◌++◌, take, drop, length, get_or, refl, sym, ap, subst, ◌∙◌, arith, length-append, length-drop, length-take, drop_of_length-le, append-nil, get_or-take, get_or-drop, true}
+use Rattle.std.proofs.Common.{◌≡◌, ◌≢◌, ℕ, suc, zero, ◌+◌, ◌-◌, ◌<◌, ◌≤◌, List, [], ◌∷◌, ◌++◌, take, drop, length, get_or, refl, sym, ap, subst, ◌∙◌, arith, length-append, length-drop, drop_of_length-le, append-nil, true}
 use Rattle.std.proofs.lemmas.List.{drop-append-le}
 use Rattle.std.proofs.lemmas.Grind.{common_steps}
 use Rattle.std.proofs.lemmas.Bool.{ne_eqb}
-use Rattle.std.specs.Prelude.{Bool, if◌then◌else◌}
+use Rattle.std.specs.Prelude.{Bool, slice_range, if◌then◌else◌}
 use Rattle.blif_text.specs.WordBuffers.{last_end}
 use Rattle.blif_text.specs.Texts.{Line, ends_in_backslash}
 use Rattle.blif_text.specs.Reading.{word_if_filled, line_if_filled}
@@ -128,38 +128,16 @@ pub words_none_left : (parts : List (List ℕ)) (marks : List Mark) → AreMarks
 unfolding words_left
 words_none_left parts marks are none = drop_of_length-le parts none
 
-pub number_is : (parts : List (List ℕ)) (marks : List Mark) (i : ℕ) → AreMarks parts marks → i < length marks → (line_at (done_of parts marks) i).number ≡ (mark_at marks i).number
-number_is parts marks i are inside = ap (λ line. line.number) (line_is parts marks i are inside).line
+pub line_low : (parts : List (List ℕ)) (marks : List Mark) (i from : ℕ) → AreMarks parts marks → i < length marks → from ≡ mark_begins marks i → from ≤ (mark_at marks i).end
+line_low parts marks i from are inside is = let at = line_is parts marks i are inside in omega (arith, at.low, is)
 
-pub words_low : (parts : List (List ℕ)) (marks : List Mark) (i from : ℕ) → AreMarks parts marks → i < length marks → from ≡ mark_begins marks i → from ≤ (mark_at marks i).end
-words_low parts marks i from are inside is = let at = line_is parts marks i are inside in omega (arith, at.low, is)
+pub line_high : (parts : List (List ℕ)) (marks : List Mark) (i : ℕ) → AreMarks parts marks → i < length marks → (mark_at marks i).end ≤ length parts
+line_high parts marks i are inside = (line_is parts marks i are inside).high
 
-words_are : (parts : List (List ℕ)) (marks : List Mark) (i from : ℕ) → AreMarks parts marks → i < length marks → from ≡ mark_begins marks i
-    → (line_at (done_of parts marks) i).words ≡ take ((mark_at marks i).end - from) (drop from parts)
-words_are parts marks i from are inside is =
-    ap (λ line. line.words) (line_is parts marks i are inside).line
-    ∙ ap (λ at. take ((mark_at marks i).end - at) (drop at parts)) (sym is)
-
-pub words_count : (parts : List (List ℕ)) (marks : List Mark) (i from : ℕ) → AreMarks parts marks → i < length marks → from ≡ mark_begins marks i
-    → length (line_at (done_of parts marks) i).words ≡ (mark_at marks i).end - from
-words_count parts marks i from are inside is =
-    let at = line_is parts marks i are inside in
-    let low : from ≤ (mark_at marks i).end = words_low parts marks i from are inside is in
-    ap length (words_are parts marks i from are inside is) ∙ simp (length-take, length-drop) (omega (arith, at.high, low))
-
-pub word_within : (parts : List (List ℕ)) (marks : List Mark) (i from k : ℕ) → AreMarks parts marks → i < length marks → from ≡ mark_begins marks i
-    → k < length (line_at (done_of parts marks) i).words → from + k < length parts
-word_within parts marks i from k are inside is here =
-    let count = words_count parts marks i from are inside is in
-    let at = line_is parts marks i are inside in
-    omega (arith, count, at.high, here)
-
-pub word_is : (parts : List (List ℕ)) (marks : List Mark) (i from k : ℕ) → AreMarks parts marks → i < length marks → from ≡ mark_begins marks i
-    → k < length (line_at (done_of parts marks) i).words → get_or (line_at (done_of parts marks) i).words k [] ≡ get_or parts (from + k) []
-word_is parts marks i from k are inside is here =
-    let count = words_count parts marks i from are inside is in
-    let short : k < (mark_at marks i).end - from = omega (arith, count, here) in
-    ap (λ words. get_or words k []) (words_are parts marks i from are inside is) ∙ rw (get_or-take, get_or-drop)
+pub line_between : (parts : List (List ℕ)) (marks : List Mark) (i from : ℕ) → AreMarks parts marks → i < length marks → from ≡ mark_begins marks i
+    → record { number = (mark_at marks i).number; words = slice_range parts from (mark_at marks i).end } ≡ line_at (done_of parts marks) i
+line_between parts marks i from are inside is =
+    ap (λ at. line_of (mark_at marks i) (slice_range parts at (mark_at marks i).end)) is ∙ sym (line_is parts marks i are inside).line
 
 pub done_kept : (parts : List (List ℕ)) (marks : List Mark) (n : ℕ) → AreMarks parts marks → length parts ≤ last_end end_of 0 marks
     → done_of parts marks ≡ done_of parts marks ++ line_if_filled n (words_left parts marks)

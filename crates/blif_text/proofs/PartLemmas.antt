@@ -1,11 +1,11 @@
 -- The lines of a text of which some are handed out while it is read.
-use Rattle.std.proofs.Common.{◌≡◌, ℕ, ◌+◌, ◌<◌, ◌≤◌, List, ◌∷◌, ◌++◌, length, drop, map, drop_of_length-le, get_or, true, false, refl, sym, ap, subst, ◌∙◌, arith, append_assoc}
-use Rattle.std.specs.Prelude.{Bool, ◌==◌, ◌&&◌, if◌then◌else◌, filter, Some, None, Ok, Err}
+use Rattle.std.proofs.Common.{◌≡◌, ℕ, zero, suc, ◌+◌, ◌-◌, ◌<◌, ◌≤◌, List, ◌∷◌, ◌++◌, length, drop, map, drop_of_length-le, get_or, true, false, refl, sym, ap, subst, ◌∙◌, arith, append_assoc}
+use Rattle.std.specs.Prelude.{Bool, ◌==◌, ◌&&◌, if◌then◌else◌, filter, option_and_then, Some, None, Ok, Err}
 use Rattle.std.specs.declared.option.Option.{Option}
 use Rattle.std.specs.declared.result.Result.{Result}
 use Rattle.blif_text.specs.Texts.{Line, lines, without_cr, begins_with, pieces, is_lf, before_hash, bad_byte, unless_bad, has_words, in_words, joined}
 use Rattle.blif_text.specs.Reading.{State, start, step, finish}
-use Rattle.blif_text.specs.Parts.{state_behind, with_part}
+use Rattle.blif_text.specs.Parts.{state_behind, state_over, with_part}
 use Rattle.blif_text.proofs.Pieces.{first_of, others_of, NoBlank}
 use Rattle.blif_text.proofs.ReadingLemmas.{meaning, behind, under, line_left, after, reads_start, step_meaning, none_step, meaning_end}
 use Rattle.blif_text.proofs.LoopLemmas.{rest_here, number_step}
@@ -55,14 +55,43 @@ next_by text joins s next i false at inside kept is =
       record { no_blank = none_step joins s next b at.no_blank is; number = omega (arith, grown, low) },
     )
 
-pub left_next : (text : List ℕ) (joins : Bool) (s next : State) (i : ℕ) → Stands s i → i < length text → state_behind joins text i s ≡ Some next
+left_next : (text : List ℕ) (joins : Bool) (s next : State) (i : ℕ) → Stands s i → i < length text → state_behind joins text i s ≡ Some next
     → left joins text next (i + 1) ≡ left joins text s i
 left_next text joins s next i at inside is =
     (next_by text joins s next i ((get_or text i 0 == 13) && begins_with 10 (drop (i + 1) text)) at inside refl is).0
 
-pub stands_next : (text : List ℕ) (joins : Bool) (s next : State) (i : ℕ) → Stands s i → i < length text → state_behind joins text i s ≡ Some next → Stands next (i + 1)
+stands_next : (text : List ℕ) (joins : Bool) (s next : State) (i : ℕ) → Stands s i → i < length text → state_behind joins text i s ≡ Some next → Stands next (i + 1)
 stands_next text joins s next i at inside is =
     (next_by text joins s next i ((get_or text i 0 == 13) && begins_with 10 (drop (i + 1) text)) at inside refl is).1
+
+-- Bytes are read.
+
+-- the state between the first byte and the others
+between : (f : State → Option State) (first : Option State) (last : State) → option_and_then f first ≡ Some last → (middle : State) × (first ≡ Some middle) × (f middle ≡ Some last)
+between f None last is = absurd (cc is)
+between f (Some middle) last is = (middle, refl, is)
+
+over : (text : List ℕ) (joins : Bool) (s next : State) (i n j : ℕ) → j ≡ i + n → j ≤ length text → Stands s i → state_over joins text i n s ≡ Some next
+    → (left joins text next j ≡ left joins text s i) × Stands next j
+over text joins s next i zero j is within at read =
+    let same : s ≡ next = cc read in
+    let here : i ≡ j = omega (arith, is) in
+    let P : State → Type 0 = λ now. (left joins text now i ≡ left joins text s i) × Stands now i in
+    let Q : ℕ → Type 0 = λ k. (left joins text next k ≡ left joins text s i) × Stands next k in
+    subst Q here (subst P same (refl, at))
+over text joins s next i (suc n) j is within at read =
+    let split = between (state_over joins text (i + 1) n) (state_behind joins text i s) next read in
+    let inside : i < length text = omega (arith, is, within) in
+    let more =
+    over text joins split.0 next (i + 1) n j (omega (arith, is)) within (stands_next text joins s split.0 i at inside split.1) split.2 in
+    (more.0 ∙ left_next text joins s split.0 i at inside split.1, more.1)
+
+pub left_over : (text : List ℕ) (joins : Bool) (s next : State) (i j : ℕ) → Stands s i → i ≤ j → j ≤ length text → state_over joins text i (j - i) s ≡ Some next
+    → left joins text next j ≡ left joins text s i
+left_over text joins s next i j at low within read = (over text joins s next i (j - i) j (omega (arith, low)) within at read).0
+
+pub stands_over : (text : List ℕ) (joins : Bool) (s next : State) (i j : ℕ) → Stands s i → i ≤ j → j ≤ length text → state_over joins text i (j - i) s ≡ Some next → Stands next j
+stands_over text joins s next i j at low within read = (over text joins s next i (j - i) j (omega (arith, low)) within at read).1
 
 -- A part is handed out.
 

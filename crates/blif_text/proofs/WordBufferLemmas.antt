@@ -19,20 +19,20 @@ pub run_none : run_of [] [] ≡ []
 unfolding run_of
 run_none = grind (arith, common_steps)
 
--- A byte more.
+-- Bytes more.
 
-pub are_ends_more : (bytes ends : List ℕ) (b : ℕ) → AreEnds bytes ends → AreEnds (bytes ++ b ∷ []) ends
-are_ends_more bytes ends b are =
+pub are_ends_more : (bytes ends more : List ℕ) → AreEnds bytes ends → AreEnds (bytes ++ more) ends
+are_ends_more bytes ends more are =
     let bound = rises_bound (λ e. e) 0 ends (length bytes) are.rises in
-    record { rises = rises_to (λ e. e) 0 ends (length bytes) (length (bytes ++ b ∷ [])) are.rises (simp length-append (omega (arith, bound.1))) }
+    record { rises = rises_to (λ e. e) 0 ends (length bytes) (length (bytes ++ more)) are.rises (simp length-append (omega (arith, bound.1))) }
 
-pub parts_more : (bytes ends : List ℕ) (b : ℕ) → AreEnds bytes ends → parts_of (bytes ++ b ∷ []) ends ≡ parts_of bytes ends
+pub parts_more : (bytes ends more : List ℕ) → AreEnds bytes ends → parts_of (bytes ++ more) ends ≡ parts_of bytes ends
 unfolding parts_of
-parts_more bytes ends b are = cut_more (λ e. e) (λ e part. part) bytes (b ∷ []) 0 ends are.rises
+parts_more bytes ends more are = cut_more (λ e. e) (λ e part. part) bytes more 0 ends are.rises
 
-pub run_more : (bytes ends : List ℕ) (b : ℕ) → AreEnds bytes ends → run_of (bytes ++ b ∷ []) ends ≡ run_of bytes ends ++ b ∷ []
+pub run_more : (bytes ends more : List ℕ) → AreEnds bytes ends → run_of (bytes ++ more) ends ≡ run_of bytes ends ++ more
 unfolding run_of
-run_more bytes ends b are = drop-append-le (last_end (λ e. e) 0 ends) bytes (b ∷ []) ((rises_bound (λ e. e) 0 ends (length bytes) are.rises).1)
+run_more bytes ends more are = drop-append-le (last_end (λ e. e) 0 ends) bytes more ((rises_bound (λ e. e) 0 ends (length bytes) are.rises).1)
 
 -- A part ended.
 
@@ -55,6 +55,12 @@ unfolding run_of
 run_length bytes ends are =
     let bound = rises_bound (λ e. e) 0 ends (length bytes) are.rises in
     simp length-drop (omega (arith, bound.1))
+
+pub some_behind : (bytes ends : List ℕ) → AreEnds bytes ends → last_end (λ e. e) 0 ends < length bytes → 0 < length (run_of bytes ends)
+some_behind bytes ends are some = let size = run_length bytes ends are in omega (arith, size, some)
+
+pub none_behind : (bytes ends : List ℕ) → AreEnds bytes ends → length bytes ≤ last_end (λ e. e) 0 ends → length (run_of bytes ends) ≡ 0
+none_behind bytes ends are none = let size = run_length bytes ends are in omega (arith, size, none)
 
 without_last_end : (xs : List ℕ) (b : ℕ) → without_last (xs ++ b ∷ []) ≡ xs
 without_last_end [] b = refl
@@ -102,8 +108,8 @@ fewer bytes ends are some =
     let P : List ℕ → Type 0 = λ now. Fewer bytes now ends in
     subst P (sym split.3) (record {
       are = front;
-      parts = sym (parts_more split.0 ends split.1 front) ∙ ap (λ all. parts_of all ends) (sym split.2);
-      run = sym (without_last_end (run_of split.0 ends) split.1) ∙ ap without_last (sym (run_more split.0 ends split.1 front) ∙ ap (λ all. run_of all ends) (sym split.2));
+      parts = sym (parts_more split.0 ends (split.1 ∷ []) front) ∙ ap (λ all. parts_of all ends) (sym split.2);
+      run = sym (without_last_end (run_of split.0 ends) split.1) ∙ ap without_last (sym (run_more split.0 ends (split.1 ∷ []) front) ∙ ap (λ all. run_of all ends) (sym split.2));
     })
 
 -- The part at a place.
@@ -150,13 +156,6 @@ part_high bytes ends k are inside = (part_at bytes ends k are inside).high
 pub part_is : (bytes ends : List ℕ) (k from : ℕ) → AreEnds bytes ends → k < length ends → from ≡ begins_at ends k
     → slice_range bytes from (get_or ends k 0) ≡ get_or (parts_of bytes ends) k []
 part_is bytes ends k from are inside is = ap (λ at. slice_range bytes at (get_or ends k 0)) is ∙ sym (part_at bytes ends k are inside).part
-
-pub last_end_is : (from : ℕ) (ends : List ℕ) → 0 < length ends → get_or ends (length ends - 1) 0 ≡ last_end (λ e. e) from ends
-last_end_is from [] some = absurd (omega arith)
-last_end_is from (x ∷ []) some = refl
-last_end_is from (x ∷ y ∷ ys) some =
-    let e : (suc (length (y ∷ ys)) - 1) ≡ suc (length (y ∷ ys) - 1) = omega arith in
-    rw e (last_end_is x (y ∷ ys) (omega arith))
 
 pub fewer_parts : (bytes now ends : List ℕ) → AreEnds bytes ends → 0 < length (run_of bytes ends) → now ≡ take (length bytes - 1) bytes → parts_of now ends ≡ parts_of bytes ends
 fewer_parts bytes now ends are some is = ap (λ all. parts_of all ends) is ∙ (fewer bytes ends are some).parts

@@ -29,6 +29,9 @@ line_if_filled n words = filter has_words (record { number = n; words = words } 
 abbrev pub put : ℕ → State → State
 put b s = record s { run = s.run ++ b ∷ [] }
 
+abbrev pub put_all : List ℕ → State → State
+put_all bytes s = record s { run = s.run ++ bytes }
+
 abbrev pub end_word : State → State
 end_word s = record s { words = s.words ++ word_if_filled s.run; run = [] }
 

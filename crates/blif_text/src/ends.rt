@@ -9,11 +9,17 @@ use std::marker::Model;
 pub struct Ends {
     short: Vec<u32>,
     long: Vec<usize>,
+    // the last of them, which is asked for at each byte between words
+    last: usize,
 }
 
 impl Drop for Ends {
     fn drop(self) {
-        let Ends { short: _, long: _ } = self;
+        let Ends {
+            short: _,
+            long: _,
+            last: _,
+        } = self;
     }
 }
 
@@ -22,7 +28,12 @@ impl Model for Ends {
 
     ghost Value = { List ℕ };
 
+    ghost use Rattle.std.specs.Prelude.{◌≡◌};
+    ghost use Rattle.blif_text.specs.WordBuffers.{last_end};
+
     ghost view = { λ ends. ends.short.items ++ ends.long.items };
+
+    ghost invariant = { λ ends. ends.last ≡ last_end (λ e. e) 0 (ends.short.items ++ ends.long.items) };
 }
 
 impl Ends {
@@ -32,10 +43,11 @@ impl Ends {
         Ends {
             short: Vec::new(alloc),
             long: Vec::new(alloc),
+            last: 0,
         }
     }
 
-    #[tactic(auto, using(crate::proofs::EndsLemmas::push_short, crate::proofs::EndsLemmas::push_long))]
+    #[tactic(auto, using(crate::proofs::EndsLemmas::push_short, crate::proofs::EndsLemmas::push_long, crate::proofs::CutLemmas::last_end_end))]
     pub fn push(&mut self, end: usize) -> Result<(), AllocError>
         ensures added { OnOk result (self.new ≡ self.old ++ end ∷ []) }
         ensures kept { OnErr result (self.new ≡ self.old) }
@@ -45,6 +57,7 @@ impl Ends {
         } else {
             self.long.push(end)?;
         }
+        self.last = end;
         Ok(())
     }
 
@@ -68,11 +81,9 @@ impl Ends {
     }
 
     // Where the last part ends.
-    #[tactic(auto, using(crate::proofs::WordBufferLemmas::last_end_is))]
     pub fn last(&self) -> usize
         ensures { result ≡ last_end (λ e. e) 0 self.now }
     {
-        let count = self.len();
-        if count == 0 { 0 } else { self.at(count - 1) }
+        self.last
     }
 }

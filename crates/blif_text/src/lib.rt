@@ -13,8 +13,10 @@ mod lines;
 mod marks;
 mod parts;
 mod reader;
+mod text_line;
 mod word_buffer;
 
 pub use fault::TextFault;
 pub use lines::{Lines, end_line};
 pub use parts::LineParts;
+pub use text_line::TextLine;

@@ -5,6 +5,7 @@ ghost use Rattle.blif_text.specs.Lines.{line_at};
 ghost use Rattle.blif_text.specs.Reading.{word_if_filled, line_if_filled};
 
 use crate::marks::{Mark, Marks};
+use crate::text_line::TextLine;
 use crate::word_buffer::WordBuffer;
 use std::alloc::{AllocError, Global};
 use std::marker::Model;
@@ -57,6 +58,15 @@ impl LineBuffer {
         Ok(())
     }
 
+    pub fn extend(&mut self, bytes: &[u8]) -> Result<(), AllocError>
+        ensures done { OnOk result (self.new.done ≡ self.old.done) }
+        ensures words { OnOk result (self.new.words ≡ self.old.words) }
+        ensures run { OnOk result (self.new.run ≡ self.old.run ++ bytes.now) }
+    {
+        self.words.extend(bytes)?;
+        Ok(())
+    }
+
     // Ends the word, where it has bytes.
     #[tactic(auto, using(crate::proofs::LineBufferLemmas::word_filled, crate::proofs::LineBufferLemmas::word_empty, crate::proofs::LineBufferLemmas::are_marks_more, crate::proofs::LineBufferLemmas::done_more, crate::proofs::LineBufferLemmas::words_more))]
     pub fn end_word(&mut self) -> Result<(), AllocError>
@@ -64,7 +74,7 @@ impl LineBuffer {
         ensures words { OnOk result (self.new.words ≡ self.old.words ++ word_if_filled self.old.run) }
         ensures run { OnOk result (self.new.run ≡ []) }
     {
-        if !self.words.run().is_empty() {
+        if self.words.has_run() {
             self.words.end()?;
         }
         Ok(())
@@ -105,7 +115,7 @@ impl LineBuffer {
         ensures words { IsTrue result → self.now.words ≡ [] }
         ensures run { IsTrue result → self.now.run ≡ [] }
     {
-        self.words.run().is_empty() && self.words.len() <= self.marks.last_end()
+        !self.words.has_run() && self.words.len() <= self.marks.last_end()
     }
 
     #[tactic(auto, using(crate::proofs::LineBufferLemmas::length_done))]
@@ -115,30 +125,14 @@ impl LineBuffer {
         self.marks.len()
     }
 
-    #[tactic(auto, using(crate::proofs::LineBufferLemmas::length_done, crate::proofs::LineBufferLemmas::number_is))]
-    pub fn number(&self, i: usize) -> u64
+    #[tactic(auto, using(crate::proofs::LineBufferLemmas::length_done, crate::proofs::LineBufferLemmas::line_low, crate::proofs::LineBufferLemmas::line_high, crate::proofs::LineBufferLemmas::line_between))]
+    pub fn line(&self, i: usize) -> TextLine<'_>
         requires { i < length self.now.done }
-        ensures { result ≡ (line_at self.now.done i).number }
+        ensures { result ≡ line_at self.now.done i }
     {
-        self.marks.at(i).number
-    }
-
-    #[tactic(auto, using(crate::proofs::LineBufferLemmas::length_done, crate::proofs::LineBufferLemmas::words_low, crate::proofs::LineBufferLemmas::words_count))]
-    pub fn words(&self, i: usize) -> usize
-        requires { i < length self.now.done }
-        ensures { result ≡ length (line_at self.now.done i).words }
-    {
-        self.marks.count_of(i)
-    }
-
-    #[tactic(auto, using(crate::proofs::LineBufferLemmas::length_done, crate::proofs::LineBufferLemmas::word_within, crate::proofs::LineBufferLemmas::word_is))]
-    pub fn word(&self, i: usize, k: usize) -> &[u8]
-        requires line { i < length self.now.done }
-        requires word { k < length (line_at self.now.done i).words }
-        ensures { result.now ≡ slice_index_or (line_at self.now.done i).words k [] }
-    {
-        let _count = self.words.len();
-        self.words.part(self.marks.start_of(i) + k)
+        let start = self.marks.start_of(i);
+        let Mark { number, end } = self.marks.at(i);
+        TextLine::new(&self.words, number, start, end)
     }
 }
 

@@ -6,6 +6,7 @@ ghost use Rattle.blif_text.specs.Lines.{line_at};
 use crate::fault::TextFault;
 use crate::line_buffer::LineBuffer;
 use crate::reader::Reader;
+use crate::text_line::TextLine;
 use std::alloc::Global;
 use std::marker::Model;
 
@@ -52,12 +53,20 @@ impl Lines {
         self.buffer.len()
     }
 
+    /// A line, counted from 0.
+    pub fn line(&self, i: usize) -> TextLine<'_>
+        requires { i < length self.now }
+        ensures { result ≡ line_at self.now i }
+    {
+        self.buffer.line(i)
+    }
+
     /// The number of a line's first physical line, counted from 1.
     pub fn number(&self, i: usize) -> u64
         requires { i < length self.now }
         ensures { result ≡ (line_at self.now i).number }
     {
-        self.buffer.number(i)
+        self.line(i).number()
     }
 
     /// How many words a line has.
@@ -65,7 +74,7 @@ impl Lines {
         requires { i < length self.now }
         ensures { result ≡ length (line_at self.now i).words }
     {
-        self.buffer.words(i)
+        self.line(i).words()
     }
 
     /// A word of a line, counted from 0.
@@ -74,7 +83,7 @@ impl Lines {
         requires word { k < length (line_at self.now i).words }
         ensures { result.now ≡ slice_index_or (line_at self.now i).words k [] }
     {
-        self.buffer.word(i, k)
+        self.line(i).word(k)
     }
 }
 

@@ -1,5 +1,5 @@
 // Where lines end, of which those whose numbers fit take four bytes for each number.
-ghost use Rattle.std.specs.Prelude.{◌≡◌, ◌<◌, ◌≤◌, ◌-◌, ◌++◌, ◌∷◌, [], IfSome, OnOk, OnErr, length};
+ghost use Rattle.std.specs.Prelude.{◌≡◌, ◌<◌, ◌++◌, ◌∷◌, [], IfSome, OnOk, OnErr, length};
 ghost use Rattle.blif_text.specs.WordBuffers.{last_end};
 ghost use Rattle.blif_text.specs.LineBuffers.{end_of, mark_begins, mark_at};
 ghost use Rattle.blif_text.specs.Marks.{mark_of};
@@ -129,14 +129,5 @@ impl Marks {
         ensures { result ≡ mark_begins self.now i }
     {
         if i == 0 { 0 } else { self.at(i - 1).end }
-    }
-
-    // How many words a line has.
-    pub fn count_of(&self, i: usize) -> usize
-        requires inside { i < length self.now }
-        requires rises { mark_begins self.now i ≤ (mark_at self.now i).end }
-        ensures { result ≡ (mark_at self.now i).end - mark_begins self.now i }
-    {
-        self.at(i).end - self.start_of(i)
     }
 }

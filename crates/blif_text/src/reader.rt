@@ -1,7 +1,7 @@
 // A reader that goes through a text from byte to byte.
 ghost use Rattle.std.specs.Prelude.{◌≡◌, ◌<◌, ◌≤◌, ◌+◌, ◌^◌, OnOk, IfOk, MatchOption, MatchResult, Some, false};
 ghost use Rattle.blif_text.specs.Texts.{is_blank, is_printed, without_last};
-ghost use Rattle.blif_text.specs.Reading.{start, put, end_word, begin_comment, join_line, close_line, line_break, step, finish, State};
+ghost use Rattle.blif_text.specs.Reading.{start, put, put_all, end_word, begin_comment, join_line, close_line, line_break, step, finish, State};
 ghost use Rattle.blif_text.specs.Faults.{RefusesStep};
 ghost use Rattle.blif_text.specs.Parts.{with_part};
 ghost use Rattle.blif_text.specs.Readers.{state_of};
@@ -78,6 +78,20 @@ impl Reader {
         Ok(())
     }
 
+    pub fn is_in_comment(&self) -> bool
+        ensures { result ≡ self.now.comment }
+    {
+        self.comment
+    }
+
+    // Goes on with the word by these bytes.
+    pub fn take_run(&mut self, run: &[u8]) -> Result<(), AllocError>
+        ensures { OnOk result (state_of self.new ≡ put_all run.now (state_of self.old)) }
+    {
+        self.buffer.extend(run)?;
+        Ok(())
+    }
+
     pub fn take(&mut self, joins: bool, b: u8) -> Result<(), TextFault>
         requires { self.old.number + 1 < 2 ^ 64 }
         ensures { MatchResult result
@@ -135,7 +149,7 @@ fn is_blank(b: u8) -> bool
     b == b' ' || b == b'\t'
 }
 
-fn is_printed(b: u8) -> bool
+pub fn is_printed(b: u8) -> bool
     ensures { result ≡ is_printed b }
 {
     (33..=126).contains(&b)

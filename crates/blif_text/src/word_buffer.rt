@@ -1,5 +1,5 @@
 // Lists of bytes, kept in one buffer.
-ghost use Rattle.std.specs.Prelude.{◌≡◌, ◌<◌, ◌&&◌, ◌==◌, ◌++◌, ◌∷◌, [], OnOk, OnErr, length, slice_index_or, slice_range, ◌≤◌};
+ghost use Rattle.std.specs.Prelude.{◌≡◌, ◌<◌, ◌&&◌, ◌==◌, ◌++◌, ◌∷◌, [], IsTrue, IsFalse, OnOk, OnErr, length, slice_index_or, slice_range, ◌≤◌};
 ghost use Rattle.blif_text.specs.WordBuffers.{Pieces, parts_of, run_of, AreEnds, last_end, begins_at};
 ghost use Rattle.blif_text.specs.Texts.{is_filled, without_last, ends_in_backslash};
 
@@ -48,6 +48,16 @@ impl WordBuffer {
         Ok(())
     }
 
+    // Adds bytes behind the parts.
+    #[tactic(auto, using(crate::proofs::WordBufferLemmas::are_ends_more, crate::proofs::WordBufferLemmas::parts_more, crate::proofs::WordBufferLemmas::run_more))]
+    pub fn extend(&mut self, bytes: &[u8]) -> Result<(), AllocError>
+        ensures parts { self.new.parts ≡ self.old.parts }
+        ensures run { OnOk result (self.new.run ≡ self.old.run ++ bytes.now) }
+    {
+        self.bytes.extend_from_slice(bytes)?;
+        Ok(())
+    }
+
     #[tactic(auto, using(crate::proofs::WordBufferLemmas::are_ends_end, crate::proofs::WordBufferLemmas::parts_end, crate::proofs::WordBufferLemmas::run_end))]
     pub fn end(&mut self) -> Result<(), AllocError>
         ensures parts { OnOk result (self.new.parts ≡ self.old.parts ++ self.old.run ∷ []) }
@@ -67,6 +77,15 @@ impl WordBuffer {
         ensures run { self.new.run ≡ without_last self.old.run }
     {
         let _last = self.bytes.pop();
+    }
+
+    // Whether there are bytes behind the parts.
+    #[tactic(auto, using(crate::proofs::WordBufferLemmas::some_behind, crate::proofs::WordBufferLemmas::none_behind))]
+    pub fn has_run(&self) -> bool
+        ensures some { IsTrue result → 0 < length self.now.run }
+        ensures none { IsFalse result → length self.now.run ≡ 0 }
+    {
+        self.ends.last() < self.bytes.len()
     }
 
     // The bytes behind the parts.
