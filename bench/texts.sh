@@ -1,7 +1,8 @@
 #!/usr/bin/env bash
-# Reads five texts, flattens them and writes them again, by `cyc flat` and, where they are installed, by `yosys` and
+# Reads texts, flattens them and writes them again, by `cyc flat` and, where they are installed, by `yosys` and
 # `berkeley-abc`, and prints seconds (user and system) and peak memory of each, the best of so many runs, and ours as a
-# part of theirs. A program that dies says so: with a stack of the common size abc dies on a chain of a million gates, so
+# part of theirs. Where Yosys is installed it also makes two of the texts, whose names are as it has them: a multiplier and
+# two processors (bench/two_cores.v). A program that dies says so: with a stack of the common size abc dies on a chain of a million gates, so
 # all have as much stack as they want.
 #
 #   bench/texts.sh [--runs N] [GATES]     (needs the package time; 3 runs and 1,000,000 gates without more words)
@@ -47,11 +48,32 @@ multiplier() {
     "$top/bench/families.py" multiplier "$1" "$dir" >/dev/null && mv "$dir/multiplier.blif" "$dir/multiplier_$1.blif"
 }
 
+# The same netlist by names as Yosys has them behind `flatten`, each of over 30 bytes.
+long_names() {
+    awk '/^\.(inputs|outputs|names) / {
+        for (k = 2; k <= NF; k++) $k = "processor.execute.multiplier." $k
+    } { print }' "$1"
+}
+
 multiplier 64
 multiplier 128
+long_names "$dir/multiplier_128.blif" >"$dir/long_names.blif"
 two_pins 1 >"$dir/chain.blif"
 two_pins 999 >"$dir/shallow.blif"
 tree >"$dir/tree.blif"
+texts="multiplier_64 multiplier_128 long_names chain shallow tree"
+
+# A design as gates of one and two pins, without latches that Yosys writes as instances of cells.
+mapped() {
+    yosys -q -p "read_verilog $1; hierarchy -auto-top; proc; flatten; opt -nodffe -nosdff; memory; opt -nodffe -nosdff;
+        techmap; opt -nodffe -nosdff; dffunmap; techmap; simplemap; setundef -undriven -zero; opt -nodffe -nosdff; write_blif $2"
+}
+
+if command -v yosys >/dev/null; then
+    echo "module mapped(input [63:0] a, b, output [127:0] y); assign y = a * b; endmodule" >"$dir/mapped.v"
+    mapped "$dir/mapped.v" "$dir/mapped_multiplier.blif" && texts="$texts mapped_multiplier"
+    mapped "$top/bench/two_cores.v" "$dir/two_cores.blif" && texts="$texts two_cores"
+fi
 
 # A line "NAME SECONDS KILOBYTES" of the best of a command's runs, or that it died.
 measure() {
@@ -66,7 +88,7 @@ measure() {
 }
 
 "$cyc" flat "$top/examples/full_adder.blif" >/dev/null 2>&1 # builds the program where it isn't built
-for text in multiplier_64 multiplier_128 chain shallow tree; do
+for text in $texts; do
     file=$dir/$text.blif
     echo "$text: $(wc -c <"$file") bytes"
     {

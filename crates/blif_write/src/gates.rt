@@ -24,11 +24,18 @@ fn lit_text(lit: Lit) -> &'static [u8]
     }
 }
 
-/// The end of a row: the plane's digit.
-fn plane_end(plane: bool) -> &'static [u8]
+/// A row without literals: the plane's digit.
+fn bare_row(plane: bool) -> &'static [u8]
     ensures { result.now ≡ line_text (plane_word plane ∷ []) }
 {
     if plane { b"1\n" } else { b"0\n" }
+}
+
+/// What follows the literals of a row: a blank and the plane's digit.
+fn row_end(plane: bool) -> &'static [u8]
+    ensures { result.now ≡ 32 ∷ line_text (plane_word plane ∷ []) }
+{
+    if plane { b" 1\n" } else { b" 0\n" }
 }
 
 fn put_lits<K: Sink>(sink: &mut K, lits: &[Lit]) -> Result<(), Failed>
@@ -44,15 +51,14 @@ fn put_lits_and_plane<K: Sink>(sink: &mut K, plane: bool, lits: &[Lit]) -> Resul
     ensures { IsAppended (lits_text lits.now ++ 32 ∷ line_text (plane_word plane ∷ [])) (sink_call K.put K.faults sink.old sink.new) result }
 {
     put_lits(sink, lits)?;
-    write_whole(sink, b" ")?;
-    write_whole(sink, plane_end(plane))
+    write_whole(sink, row_end(plane))
 }
 
 fn put_row<K: Sink>(sink: &mut K, plane: bool, row: &Row) -> Result<(), Failed>
     ensures { IsAppended (line_text (row_line plane row.now)) (sink_call K.put K.faults sink.old sink.new) result }
 {
     match row.lits.items() {
-        [] => write_whole(sink, plane_end(plane)),
+        [] => write_whole(sink, bare_row(plane)),
         lits => put_lits_and_plane(sink, plane, lits),
     }
 }

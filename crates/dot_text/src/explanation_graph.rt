@@ -17,9 +17,9 @@ ghost use Rattle.report.specs.Explanations.{IsExplanationOf};
 ghost use Rattle.report.specs.Verdicts.{signal_name};
 ghost use Rattle.dot_text.specs.Dot.{labelled_graph};
 ghost use Rattle.dot_text.specs.ExplanationGraphs.{explanation_graph, gate_node, gate_opens as gate_opens_of, gate_wire, needed_box, needed_node, needed_wire, picture, pin_wire, pin_wires, style as style_of, unknown_style as unknown_style_of};
-ghost use Rattle.dot_text.specs.LoopGraphs.{wire_style as known_style_of};
 ghost use Rattle.dot_text.specs.Seen.{AreMarksOf, IsDrawing, picture_seen};
 
+use crate::loop_graph::wire_style;
 use crate::node::{open_graph, put_node, put_wire};
 use cyc_base::{Name, Sig, Trit};
 use cyc_io::{Failed, Sink, TextSink, write_whole};
@@ -67,18 +67,12 @@ fn unknown_style(bold: bool, cut: bool) -> &'static [u8]
     }
 }
 
-fn known_style(cut: bool) -> &'static [u8]
-    ensures { result.now ≡ known_style_of cut }
-{
-    if cut { b" [style=dashed];\n" } else { b";\n" }
-}
-
 fn style(value: Trit, bold: bool, cut: bool) -> &'static [u8]
     ensures { result.now ≡ style_of value bold cut }
 {
     match value {
         Trit::X => unknown_style(bold, cut),
-        _ => known_style(cut),
+        _ => wire_style(cut),
     }
 }
 

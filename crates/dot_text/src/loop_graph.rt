@@ -10,7 +10,7 @@ ghost use Rattle.loops.specs.Sweeps.{gate_of, in_loop_of};
 ghost use Rattle.looped.specs.Left.{loop_seen};
 ghost use Rattle.looped.specs.Listed.{IsLoopOf};
 ghost use Rattle.netlist.specs.Netlists.{IsSignal};
-ghost use Rattle.dot_text.specs.LoopGraphs.{cluster_body, clusters, gate_node, labelled_cluster, loop_graph, loop_wire, loop_wires, loops_graph, wire_style};
+ghost use Rattle.dot_text.specs.LoopGraphs.{cluster_body, clusters, gate_node, labelled_cluster, loop_graph, loop_wire, loop_wires, loops_graph, wire_style as wire_style_of};
 
 use crate::node::{put_node, put_quoted, put_wire};
 use cyc_base::Sig;
@@ -62,8 +62,9 @@ fn source_in_loop(looped: &LoopedNetlist<'_>, gate: u32, pin: Sig) -> Option<u32
     }
 }
 
-fn style(cut: bool) -> &'static [u8]
-    ensures { result.now ≡ wire_style cut }
+// The end of the line of a wire in a loop: those of cut wires are dashed.
+pub(crate) fn wire_style(cut: bool) -> &'static [u8]
+    ensures { result.now ≡ wire_style_of cut }
 {
     if cut { b" [style=dashed];\n" } else { b";\n" }
 }
@@ -84,7 +85,7 @@ fn put_pin<K: Sink>(
             sink,
             pin,
             looped.net().gate_sig(gate),
-            style(looped.is_cut(source)),
+            wire_style(looped.is_cut(source)),
         ),
         None => Ok(()),
     }

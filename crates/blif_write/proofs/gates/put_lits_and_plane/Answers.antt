@@ -4,8 +4,5 @@ use Rattle.blif_write.proofs.gates.put_lits_and_plane.Goals as goal
 pub returns-in_err-put_lits : goal.returns-in_err-put_lits
 returns-in_err-put_lits g c = appended_cut _ _ _ _ _ c.in_err-put_lits.ensures c.from_residual.ensures.0
 
-pub returns-in_err-write_whole : goal.returns-in_err-write_whole
-returns-in_err-write_whole g c = appended_then _ _ _ _ _ _ _ _ _ _ c.in_ok-put_lits.ensures (appended_cut _ _ _ _ _ c.in_err-write_whole.ensures c.from_residual-in_err-write_whole.ensures.0)
-
 pub returns : goal.returns
-returns g c = rw (← c.plane_end.ensures) (appended_then _ _ _ _ _ _ _ _ _ _ c.in_ok-put_lits.ensures (appended_then _ _ _ _ _ _ _ _ _ _ c.in_ok-write_whole.ensures c.write_whole-2.ensures))
+returns g c = rw (← c.row_end.ensures) (appended_then _ _ _ _ _ _ _ _ _ _ c.in_ok-put_lits.ensures c.write_whole.ensures)

@@ -15,7 +15,7 @@ returns-in-Some g c =
     (wire_drawn c.args.looped.now.net (loops_of c.args.looped.now.net) c.args.gate c.args.pin c.in-Some.source c.in-Some.ensures.source
     ∙ ap₂ (λ (s : Sig) (style : List ℕ). wire c.args.pin.0 s.0 style)
     (ap (λ (net : Parts). gate_sig net c.args.gate) (sym c.net.ensures.net) ∙ sym c.gate_sig.ensures.sig)
-    (ap wire_style (sym c.is_cut.ensures) ∙ sym c.style.ensures))
+    (ap wire_style (sym c.is_cut.ensures) ∙ sym c.wire_style.ensures))
     c.put_wire.ensures
 
 pub returns-in-None : goal.returns-in-None
