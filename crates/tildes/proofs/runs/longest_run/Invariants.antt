@@ -1,0 +1,10 @@
+use Rattle.std.proofs.Common.{◌≡◌, ◌+◌, ◌≤◌, max, drop}
+use Rattle.tildes.specs.Runs.{leading_run, longest_run}
+use Rattle.tildes.proofs.runs.longest_run.Given as goal
+
+abbrev pub invariant-loop-byte : goal.invariant-loop-byte
+invariant-loop-byte l = record {
+  within : l.run ≤ l.byte-index;
+  longer : l.run ≤ l.longest;
+  rest : max l.longest (max (l.run + leading_run (drop l.byte-index l.byte-items)) (longest_run (drop l.byte-index l.byte-items))) ≡ longest_run l.name;
+}
