@@ -10,13 +10,14 @@ use Rattle.std.proofs.lemmas.List.Folds.{list_any-append}
 use Rattle.std.proofs.lemmas.List.FromFn.{length-range_with_len, get_or-range_with_len, length-map-range_with_len, get_or-map-range_with_len}
 use Rattle.cyc_base.specs.Names.{IsBlifName}
 use Rattle.cyc_base.specs.declared.sig.Sig.{Sig}
+use Rattle.tildes.specs.Runs.{longest_run, longest_run_of}
+use Rattle.tildes.proofs.RunLemmas.{longest-append}
 use Rattle.netlist.specs.declared.parts.Clock.{Clock}
 use Rattle.netlist.specs.declared.parts.Gate.{Gate}
 use Rattle.netlist.specs.declared.parts.Latch.{Latch}
 use Rattle.netlist.specs.declared.parts.Parts.{Parts}
 use Rattle.netlist.specs.Netlists.{count, signal, sig_eq, gate_at, no_gate, signal_names, driven_names, is_driven, IsSignal, IsClockName, IsNetlist}
-use Rattle.unroll.specs.Marks.{longest_run, longest_run_of, longest_run_in, clock_names, mark, copy_name}
-use Rattle.unroll.proofs.MarkLemmas.{longest-append}
+use Rattle.unroll.specs.Marks.{longest_run_in, clock_names, mark, copy_name}
 use Rattle.unroll.proofs.NameLemmas.{not_equal, copy_is_long, copy_names_tell, copy_name_fits, all_short, distinct_append, short_from_long, short_is_none}
 use Rattle.clause_decision.specs.declared.pairs.Pair.{Pair}
 use Rattle.clause_decision.specs.Apart.{IsPairOf}
