@@ -1,4 +1,5 @@
 pub mod Pieces
+pub mod WrittenLines
 pub mod ReadingLemmas
 pub mod CutLemmas
 pub mod EndsLemmas

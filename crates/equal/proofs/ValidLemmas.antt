@@ -5,10 +5,11 @@ use Rattle.std.specs.List.{AllByRecursion}
 use Rattle.std.proofs.lemmas.Bool.{or_parts, or_from}
 use Rattle.std.proofs.lemmas.List.Elements.{All-append}
 use Rattle.cyc_base.specs.Names.{IsBlifName}
+use Rattle.tildes.specs.Runs.{longest_run, longest_run_of}
+use Rattle.tildes.proofs.RunLemmas.{longest-append}
 use Rattle.netlist.specs.declared.parts.Clock.{Clock}
 use Rattle.netlist.specs.Netlists.{is_driven, IsClockName}
-use Rattle.unroll.specs.Marks.{longest_run, longest_run_of, longest_run_in, clock_names, copy_name}
-use Rattle.unroll.proofs.MarkLemmas.{longest-append}
+use Rattle.unroll.specs.Marks.{longest_run_in, clock_names, copy_name}
 use Rattle.unroll.proofs.NameLemmas.{not_equal, copy_is_long, copy_names_tell, copy_name_fits, all_short, distinct_append, short_from_long, short_is_none}
 use Rattle.equal.specs.Joined.{no_pair, telling_gate, difference_netlist}
 use Rattle.equal.proofs.NameLemmas.{any_mapped}

@@ -1,17 +1,20 @@
 -- The names of copies and of the constant are new, differ among each other, and may stand in a BLIF text.
-use Rattle.std.proofs.Common.{◌≡◌, ◌≢◌, inl, inr, ℕ, zero, suc, ◌^◌, ◌<◌, ◌≤◌, false, List, [], ◌∷◌, ◌++◌, length, get_or, refl, ap, arith, All}
+use Rattle.std.proofs.Common.{◌≡◌, ◌≢◌, inl, inr, ℕ, zero, suc, ◌^◌, ◌<◌, ◌≤◌, false, List, [], ◌∷◌, ◌++◌, refl, ap, arith}
 use Rattle.std.proofs.lemmas.Bool.{cases_Bool}
-use Rattle.std.proofs.lemmas.Fmt.{decimal_injective, decimal_is_IsNumeral}
-use Rattle.std.proofs.lemmas.List.Elements.{All-nil, All-cons, All-append}
+use Rattle.std.proofs.lemmas.Fmt.{decimal_injective}
+use Rattle.std.proofs.lemmas.List.Elements.{All-cons, All-append}
 use Rattle.std.proofs.lemmas.Slice.Eq.{bytes_eq-Decides}
-use Rattle.std.proofs.lemmas.Str.Parse.{digit_at}
 use Rattle.std.specs.Fmt.{decimal}
 use Rattle.std.specs.List.{AllByRecursion, IsDistinct, list_any}
 use Rattle.std.specs.Str.{bytes_eq}
 use Rattle.cyc_base.specs.Names.{IsBlifByte, IsBlifName}
+use Rattle.tildes.specs.Runs.{leading_run, longest_run, longest_run_of, tildes}
+use Rattle.tildes.proofs.RunLemmas.{leading_longest, longest_behind}
+use Rattle.tildes.proofs.MarkLemmas.{run_longest, without_tildes}
+use Rattle.tildes.proofs.DigitLemmas.{split_at_tilde, decimal_no_tilde}
+use Rattle.tildes.proofs.BlifLemmas.{tildes_fit, decimal_fits}
 use Rattle.loops.proofs.Walks.{all_append, all_weaker}
-use Rattle.unroll.specs.Marks.{leading_run, longest_run, longest_run_of, tildes, zero_name, copy_name}
-use Rattle.unroll.proofs.MarkLemmas.{leading_longest}
+use Rattle.unroll.specs.Marks.{zero_name, copy_name}
 
 -- names that differ
 pub not_equal : (x y : List ℕ) → x ≢ y → bytes_eq x y ≡ false
@@ -22,21 +25,6 @@ not_equal x y ne =
     ]
 
 -- runs of `~`
-longest_behind : (a b : List ℕ) → longest_run b ≤ longest_run (a ++ b)
-longest_behind [] b = omega arith
-longest_behind (x ∷ a) b = let h = longest_behind a b in omega arith
-
-leading_tildes : (n : ℕ) (b : List ℕ) → n ≤ leading_run (tildes n ++ b)
-leading_tildes zero b = omega arith
-leading_tildes (suc n) b = let h = leading_tildes n b in omega arith
-
-run_longest : (a b : List ℕ) (n : ℕ) → n ≤ longest_run (a ++ (tildes n ++ b))
-run_longest a b n =
-    let h = longest_behind a (tildes n ++ b) in
-    let i = leading_longest (tildes n ++ b) in
-    let j = leading_tildes n b in
-    omega arith
-
 pub copy_is_long : (n k : ℕ) (name : List ℕ) → n ≤ longest_run (copy_name (tildes n) k name)
 copy_is_long n k name = run_longest (99 ∷ decimal k) name n
 
@@ -63,33 +51,7 @@ pub all_short : (names : List (List ℕ)) (most : ℕ) → longest_run_of names 
 all_short [] most l = tt
 all_short (name ∷ names) most l = (omega arith, all_short names most (omega arith))
 
--- digits, the mark and the rest are read back from a copy's name
-abbrev NoTilde : List ℕ → Type 0
-NoTilde [] = Unit {0}
-NoTilde (x ∷ rest) = (x ≢ 126) × NoTilde rest
-
-split_at_tilde : (d e r s : List ℕ) → NoTilde d → NoTilde e → d ++ (126 ∷ r) ≡ e ++ (126 ∷ s) → (d ≡ e) × (r ≡ s)
-split_at_tilde [] [] r s hd he q = (refl, cc)
-split_at_tilde [] (y ∷ e) r s hd he q = let h : y ≡ 126 = cc in absurd (he.0 h)
-split_at_tilde (x ∷ d) [] r s hd he q = let h : x ≡ 126 = cc in absurd (hd.0 h)
-split_at_tilde (x ∷ d) (y ∷ e) r s hd he q =
-    let h : x ≡ y = cc in
-    let t : d ++ (126 ∷ r) ≡ e ++ (126 ∷ s) = cc in
-    let i = split_at_tilde d e r s hd.1 he.1 t in
-    (let j : d ≡ e = i.0 in cc, i.1)
-
-without_tildes : (n : ℕ) (r s : List ℕ) → tildes n ++ r ≡ tildes n ++ s → r ≡ s
-without_tildes zero r s q = q
-without_tildes (suc n) r s q = let t : tildes n ++ r ≡ tildes n ++ s = cc in without_tildes n r s t
-
-no_tilde : (d : List ℕ) → ((k : ℕ) → k < length d → get_or d k 0 ≤ 57) → NoTilde d
-no_tilde [] h = tt
-no_tilde (x ∷ d) h =
-    (λ e. let i : x ≤ 57 = h 0 (omega arith) in absurd (omega arith), no_tilde d (λ k l. h (suc k) (omega arith)))
-
-decimal_no_tilde : (k : ℕ) → k < 2 ^ 64 → NoTilde (decimal k)
-decimal_no_tilde k h = no_tilde (decimal k) (λ i l. (digit_at (decimal k) i ((decimal_is_IsNumeral k h).0.1) l).1)
-
+-- the number and the name are read back from a copy's name
 pub copy_names_tell : (n j k : ℕ) (v w : List ℕ) → j < 2 ^ 64 → k < 2 ^ 64 → copy_name (tildes (suc n)) j v ≡ copy_name (tildes (suc n)) k w → (j ≡ k) × (v ≡ w)
 copy_names_tell n j k v w hj hk e =
     let t : decimal j ++ (126 ∷ (tildes n ++ v)) ≡ decimal k ++ (126 ∷ (tildes n ++ w)) = cc in
@@ -103,19 +65,6 @@ pub zero_is_no_copy : (n k : ℕ) (name : List ℕ) → bytes_eq (zero_name (til
 zero_is_no_copy n k name = not_equal (zero_name (tildes n)) (copy_name (tildes n) k name) (λ e. (let h = first_byte 122 99 (tildes n) (decimal k ++ (tildes n ++ name)) e in absurd (omega arith)))
 
 -- BLIF names
-tildes_fit : (n : ℕ) → All IsBlifByte (tildes n)
-tildes_fit zero = All-nil IsBlifByte
-tildes_fit (suc n) = All-cons IsBlifByte 126 (tildes n) (omega arith, omega arith, λ e. absurd (omega arith)) (tildes_fit n)
-
-digits_fit : (d : List ℕ) → ((k : ℕ) → k < length d → (48 ≤ get_or d k 0) × (get_or d k 0 ≤ 57)) → All IsBlifByte d
-digits_fit [] h = All-nil IsBlifByte
-digits_fit (x ∷ d) h =
-    let a = h 0 (omega arith) in
-    All-cons IsBlifByte x d (omega (arith, a.0), omega (arith, a.1), λ e. absurd (omega (arith, a.0, e))) (digits_fit d (λ k l. h (suc k) (omega arith)))
-
-decimal_fits : (n : ℕ) → n < 2 ^ 64 → All IsBlifByte (decimal n)
-decimal_fits n h = digits_fit (decimal n) (λ k l. digit_at (decimal n) k ((decimal_is_IsNumeral n h).0.1) l)
-
 pub zero_name_fits : (n : ℕ) → IsBlifName (zero_name (tildes n))
 zero_name_fits n = (λ e. cc, All-cons IsBlifByte 122 (tildes n) (omega arith, omega arith, λ e. absurd (omega arith)) (tildes_fit n))
 

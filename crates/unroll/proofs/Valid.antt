@@ -13,6 +13,8 @@ use Rattle.std.specs.Str.{bytes_eq}
 use Rattle.std.specs.declared.option.Option.{Option}
 use Rattle.cyc_base.specs.Names.{IsBlifName}
 use Rattle.cyc_base.specs.declared.sig.Sig.{Sig}
+use Rattle.tildes.specs.Runs.{longest_run, longest_run_of}
+use Rattle.tildes.proofs.RunLemmas.{longest-append}
 use Rattle.netlist.specs.declared.parts.Clock.{Clock}
 use Rattle.netlist.specs.declared.parts.Gate.{Gate}
 use Rattle.netlist.specs.declared.parts.Latch.{Latch}
@@ -23,9 +25,8 @@ use Rattle.loops.specs.Sweeps.{first_gate, gate_of, in_loop_of}
 use Rattle.loops.proofs.Reading.{in_loop_from}
 use Rattle.loops.proofs.Sweeps.{same_within}
 use Rattle.loops.proofs.Walks.{all_append, all_weaker}
-use Rattle.unroll.specs.Marks.{longest_run, longest_run_of, longest_run_in, clock_names, mark, zero_name, copy_name}
+use Rattle.unroll.specs.Marks.{longest_run_in, clock_names, mark, zero_name, copy_name}
 use Rattle.unroll.specs.Unrolled.{Copy, copy_of, copies_of, copied, copies_upto, copies, most, has_loop, zero_gate, constants, shift, moved, old_signal, copy_signal, copy_pin, kept_pin, copy_gate, kept_gate, kept_latch, unrolled, unrolled_size, IsOfLoops}
-use Rattle.unroll.proofs.MarkLemmas.{longest-append}
 use Rattle.unroll.proofs.NameLemmas.{not_equal, copy_is_long, zero_is_long, all_short, copy_names_tell, zero_is_no_copy, zero_name_fits, copy_name_fits, Apart, distinct_append, distinct_first, distinct_second, distinct_apart, apart_append, short_from_long, long_from_short, short_is_none, all_of_first, all_of_second}
 use Rattle.unroll.proofs.Places.{copied_within, copied_has, copy_placed, upto_apart}
 use Rattle.unroll.proofs.Places as places

@@ -1,28 +1,11 @@
 -- The names of what an unrolled netlist has beside the netlist's own gates. Each has the mark, a run of `~` that stands
 -- in no name of the netlist.
-use Rattle.std.specs.Prelude.{◌==◌, ◌++◌, ℕ, zero, suc, max, List, [], ◌∷◌, if◌then◌else◌, codes}
+use Rattle.std.specs.Prelude.{◌++◌, ℕ, suc, List, [], ◌∷◌, codes}
 use Rattle.std.specs.Option.{option_map_or}
 use Rattle.std.specs.Fmt.{decimal}
+use Rattle.tildes.specs.Runs.{longest_run_of, tildes}
 use Rattle.netlist.specs.declared.parts.Parts.{Parts}
 use Rattle.netlist.specs.Netlists.{signal_names}
-
--- how many `~` a name begins with
-abbrev pub leading_run : List ℕ → ℕ
-leading_run [] = 0
-leading_run (b ∷ rest) = if b == 126 then suc (leading_run rest) else 0
-
--- the longest run of `~` in a name, and in any of these names
-abbrev pub longest_run : List ℕ → ℕ
-longest_run [] = 0
-longest_run (b ∷ rest) = max (leading_run (b ∷ rest)) (longest_run rest)
-
-abbrev pub longest_run_of : List (List ℕ) → ℕ
-longest_run_of [] = 0
-longest_run_of (name ∷ names) = max (longest_run name) (longest_run_of names)
-
-abbrev pub tildes : ℕ → List ℕ
-tildes zero = []
-tildes (suc n) = 126 ∷ tildes n
 
 -- the clock's name, if there is a clock
 abbrev pub clock_names : Parts → List (List ℕ)

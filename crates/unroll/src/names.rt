@@ -1,29 +1,17 @@
 //! The names of the constant and of copies.
 
-ghost use Rattle.std.specs.Prelude.{◌≡◌, ◌<◌, length, take, IfOk};
+ghost use Rattle.std.specs.Prelude.{◌≡◌, IfOk};
 ghost use Rattle.netlist.specs.Netlists.{signal_names};
-ghost use Rattle.unroll.specs.Marks.{longest_run as longest_run_by, longest_run_of, longest_run_in as longest_run_by_net, mark as mark_of, zero_name as zero_name_by, copy_name as copy_name_by};
+ghost use Rattle.tildes.specs.Runs.{longest_run_of};
+ghost use Rattle.unroll.specs.Marks.{longest_run_in as longest_run_by_net, mark as mark_of, zero_name as zero_name_by, copy_name as copy_name_by};
 
 use cyc_base::{Name, Sig};
 use netlist::Netlist;
 use std::alloc::{AllocError, Global};
-
-/// The longest run of `~` in a name.
-#[tactic(auto, using(crate::proofs::MarkLemmas::max_is))]
-fn longest_run(name: &Name) -> usize
-    ensures { result ≡ longest_run_by name.now }
-{
-    let mut longest = 0;
-    let mut run = 0;
-    for byte in name.bytes() {
-        run = if *byte == b'~' { run + 1 } else { 0 };
-        longest = longest.max(run);
-    }
-    longest
-}
+use tildes::{longest_run, mark_longer_than};
 
 /// The longest run of `~` in the name of a signal.
-#[tactic(auto, using(crate::proofs::MarkLemmas::max_is))]
+#[tactic(auto, using(tildes::proofs::RunLemmas::max_is))]
 fn longest_run_in_signals(net: &Netlist) -> usize
     ensures { result ≡ longest_run_of (signal_names net.now) }
 {
@@ -35,7 +23,7 @@ fn longest_run_in_signals(net: &Netlist) -> usize
 }
 
 /// The longest run of `~` in the name of a signal or of the clock.
-#[tactic(auto, using(crate::proofs::MarkLemmas::max_is))]
+#[tactic(auto, using(tildes::proofs::RunLemmas::max_is))]
 fn longest_run_in(net: &Netlist) -> usize
     ensures { result ≡ longest_run_by_net net.now }
 {
@@ -50,10 +38,7 @@ fn longest_run_in(net: &Netlist) -> usize
 pub fn mark(alloc: Global, net: &Netlist) -> Result<Name, AllocError>
     ensures { IfOk result (λ mark. mark ≡ mark_of net.now) }
 {
-    let longest = longest_run_in(net);
-    let mut bytes = vec![in alloc; b'~'; longest]?;
-    bytes.push(b'~')?;
-    Ok(Name::new(bytes))
+    mark_longer_than(alloc, longest_run_in(net))
 }
 
 /// The name of the constant 0.

@@ -50,7 +50,7 @@ impl<'a> Plan<'a> {
     }
 
     /// The most copies that a gate has.
-    #[tactic(auto, using(crate::proofs::MarkLemmas::max_is, crate::proofs::SizeLemmas::most_next))]
+    #[tactic(auto, using(tildes::proofs::RunLemmas::max_is, crate::proofs::SizeLemmas::most_next))]
     pub(crate) fn most_copies(&self) -> u32
         ensures most { result ≡ most (loops_in self.now).same (sweeps_in self.now) (length (net_of self.now).gates) }
         ensures looped { IsLooped self.now.looped.now }

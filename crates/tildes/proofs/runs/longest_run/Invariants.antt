@@ -1,6 +1,6 @@
 use Rattle.std.proofs.Common.{◌≡◌, ◌+◌, ◌≤◌, max, drop}
-use Rattle.unroll.specs.Marks.{leading_run, longest_run}
-use Rattle.unroll.proofs.names.longest_run.Given as goal
+use Rattle.tildes.specs.Runs.{leading_run, longest_run}
+use Rattle.tildes.proofs.runs.longest_run.Given as goal
 
 abbrev pub invariant-loop-byte : goal.invariant-loop-byte
 invariant-loop-byte l = record {

@@ -1,0 +1,4 @@
+pub mod RunLemmas
+pub mod MarkLemmas
+pub mod DigitLemmas
+pub mod BlifLemmas
