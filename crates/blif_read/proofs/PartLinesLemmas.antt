@@ -1,12 +1,12 @@
 -- The models of a text whose lines are read part by part.
-use Rattle.std.proofs.Common.{◌≡◌, ◌≤◌, ◌<◌, ℕ, suc, ◌+◌, List, [], ◌∷◌, length, drop, map, true, Some, None, Ok, Err, refl, sym, ap, subst, ◌∙◌, arith, drop_of_length-le, append-nil}
+use Rattle.std.proofs.Common.{◌≡◌, ◌≤◌, ◌<◌, ℕ, suc, ◌+◌, ◌-◌, List, [], ◌∷◌, length, drop, map, true, Some, None, Ok, Err, refl, sym, ap, subst, ◌∙◌, arith, drop_of_length-le, append-nil}
 use Rattle.std.specs.Prelude.{Result, IfOk}
 use Rattle.std.proofs.Math.Seq.{drop-cons}
 use Rattle.blif_text.specs.Texts.{Line, lines}
 use Rattle.blif_text.specs.Lines.{line_at}
 use Rattle.blif_text.specs.Reading.{State, start as text_start, finish}
-use Rattle.blif_text.specs.Parts.{state_behind, with_part}
-use Rattle.blif_text.proofs.PartLemmas.{behind_part, left, Stands, stands_start, left_start, left_next, stands_next, left_part, stands_part, left_end}
+use Rattle.blif_text.specs.Parts.{state_over, with_part}
+use Rattle.blif_text.proofs.PartLemmas.{behind_part, left, Stands, stands_start, left_start, left_over, stands_over, left_part, stands_part, left_end}
 use Rattle.blif_read.specs.declared.fault.BlifFault.{BlifFault}
 use Rattle.blif_read.specs.declared.fault.BlifFault.TheVariants.{BadByte}
 use Rattle.blif_read.specs.declared.models.BlifModel.{BlifModel}
@@ -105,6 +105,7 @@ remains_none text p at = sym at.answers ∙ ap if_any (whole_end p)
 pub record PartsAt (text : List ℕ) (p : Progress) (s : State) (i : ℕ) : Type 0 where
   pub stands : Stands s i
   pub number : s.number ≤ i + 1
+  pub within : i ≤ length text
   pub remains : Remains text p (left true text s i)
 
 pub at_start : (text : List ℕ) (p : Progress) (s : State) → p ≡ start → s ≡ text_start → PartsAt text p s 0
@@ -113,6 +114,7 @@ at_start text p s p_is s_is =
     record {
       stands = stands_start s s_is;
       number = (stands_start s s_is).number;
+      within = omega arith;
       remains = subst P (sym p_is) (record {
         earlier = [];
         agrees = record { place = refl; names = λ name. refl };
@@ -120,13 +122,16 @@ at_start text p s p_is s_is =
       });
     }
 
-pub at_byte : (text : List ℕ) (p : Progress) (s next : State) (i : ℕ) → PartsAt text p s i → i < length text → state_behind true text i s ≡ Some next → PartsAt text p next (i + 1)
-at_byte text p s next i at inside is =
+pub at_bytes : (text : List ℕ) (p : Progress) (s next : State) (i j : ℕ) → PartsAt text p s i → i ≤ j → j ≤ length text → state_over true text i (j - i) s ≡ Some next
+    → PartsAt text p next j
+at_bytes text p s next i j at low within read =
     let P : Result (List Line) ℕ → Type 0 = λ found. Remains text p found in
+    let stands = stands_over text true s next i j at.stands low within read in
     record {
-      stands = stands_next text true s next i at.stands inside is;
-      number = (stands_next text true s next i at.stands inside is).number;
-      remains = subst P (sym (left_next text true s next i at.stands inside is)) at.remains;
+      stands = stands;
+      number = stands.number;
+      within = within;
+      remains = subst P (sym (left_over text true s next i j at.stands low within read)) at.remains;
     }
 
 pub at_part : (text : List ℕ) (p q : Progress) (s next : State) (part : List Line) (i : ℕ) → PartsAt text p s i → s ≡ with_part part next → LeadTo p part q → PartsAt text q next i
@@ -135,6 +140,7 @@ at_part text p q s next part i at is leads =
     record {
       stands = stands_part part s next i is at.stands;
       number = (stands_part part s next i is at.stands).number;
+      within = at.within;
       remains = remains_lines text p q part (left true text next i) (subst P (left_part text true part s next i is) at.remains) leads;
     }
 

@@ -1,7 +1,6 @@
 // `.names` lines.
 ghost use Rattle.std.specs.Prelude.{◌≡◌, ◌<◌, ◌≤◌, IfOk, None, length};
 ghost use Rattle.std.specs.Result.{result_err};
-ghost use Rattle.blif_text.specs.Lines.{line_at};
 ghost use Rattle.blif_read.specs.Kinds.{arguments};
 ghost use Rattle.blif_read.specs.Faults.{names_fault};
 ghost use Rattle.blif_read.specs.Statements.{pins_of, output_of};
@@ -10,42 +9,39 @@ ghost use Rattle.blif_read.specs.Answers.{Reads};
 use crate::fault::BlifFault;
 use crate::statement::Statement;
 use crate::words::{name_of, names_between};
-use blif_text::Lines;
+use blif_text::TextLine;
 use cyc_base::MAX_PINS;
 use std::alloc::{AllocError, Global};
 
-fn check_names(lines: &Lines, i: usize) -> Result<(), BlifFault>
-    requires { i < length lines.now }
-    ensures { let line = line_at lines.now i in result_err result ≡ names_fault line.number (arguments line) }
+fn check_names(line: &TextLine<'_>) -> Result<(), BlifFault>
+    ensures { result_err result ≡ names_fault line.now.number (arguments line.now) }
 {
-    let line = lines.number(i);
-    let words = lines.words(i);
+    let number = line.number();
+    let words = line.words();
     if words < 2 {
-        return Err(BlifFault::NoOutputName { line });
+        return Err(BlifFault::NoOutputName { line: number });
     }
     if words - 2 > MAX_PINS {
-        return Err(BlifFault::TooManyPins { line });
+        return Err(BlifFault::TooManyPins { line: number });
     }
     Ok(())
 }
 
-fn names_statement(alloc: Global, lines: &Lines, i: usize) -> Result<Statement, AllocError>
-    requires line { i < length lines.now }
-    requires words { 2 ≤ length (line_at lines.now i).words }
-    ensures { let names = arguments (line_at lines.now i) in
+fn names_statement(alloc: Global, line: &TextLine<'_>) -> Result<Statement, AllocError>
+    requires { 2 ≤ length line.now.words }
+    ensures { let names = arguments line.now in
         IfOk result (λ said. said ≡ Statement.Names (pins_of names) (output_of names)) }
 {
-    let last = lines.words(i) - 1;
-    let pins = names_between(alloc, lines, i, 1, last)?;
-    let output = name_of(alloc, lines.word(i, last))?;
+    let last = line.words() - 1;
+    let pins = names_between(alloc, line, 1, last)?;
+    let output = name_of(alloc, line.word(last))?;
     Ok(Statement::Names { pins, output })
 }
 
-pub fn read_names(alloc: Global, lines: &Lines, i: usize) -> Result<Statement, BlifFault>
-    requires { i < length lines.now }
-    ensures { let line = line_at lines.now i in let names = arguments line in
-        Reads result (names_fault line.number names) (Statement.Names (pins_of names) (output_of names)) }
+pub fn read_names(alloc: Global, line: &TextLine<'_>) -> Result<Statement, BlifFault>
+    ensures { let names = arguments line.now in
+        Reads result (names_fault line.now.number names) (Statement.Names (pins_of names) (output_of names)) }
 {
-    check_names(lines, i)?;
-    Ok(names_statement(alloc, lines, i)?)
+    check_names(line)?;
+    Ok(names_statement(alloc, line)?)
 }

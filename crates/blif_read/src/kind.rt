@@ -1,9 +1,8 @@
 ghost use Rattle.std.specs.Prelude.{◌≡◌, ◌<◌, length};
 ghost use Rattle.blif_read.specs.Kinds.{begins_with_dot, is_left_out, is_read_over, directive_of, kind_of, kind};
-ghost use Rattle.blif_text.specs.Lines.{line_at};
 
 use crate::words::is;
-use blif_text::Lines;
+use blif_text::TextLine;
 
 // What a line is by its first word.
 #[derive(Clone, Copy)]
@@ -120,13 +119,12 @@ fn kind_of(word: &[u8]) -> Kind
 }
 
 // The kind of a line.
-pub fn kind_at(lines: &Lines, i: usize) -> Kind
-    requires { i < length lines.now }
-    ensures { result ≡ kind (line_at lines.now i) }
+pub fn kind_at(line: &TextLine<'_>) -> Kind
+    ensures { result ≡ kind line.now }
 {
-    if lines.words(i) == 0 {
+    if line.words() == 0 {
         Kind::Row
     } else {
-        kind_of(lines.word(i, 0))
+        kind_of(line.word(0))
     }
 }

@@ -1,7 +1,6 @@
 // `.latch` lines.
 ghost use Rattle.std.specs.Prelude.{◌≡◌, ◌<◌, ◌≤◌, IfOk, length};
 ghost use Rattle.std.specs.Result.{result_err};
-ghost use Rattle.blif_text.specs.Lines.{line_at};
 ghost use Rattle.blif_read.specs.Kinds.{arguments};
 ghost use Rattle.blif_read.specs.Faults.{is_edge_type, is_level_type, is_init, typed_latch_fault, latch_fault};
 ghost use Rattle.blif_read.specs.Statements.{edge_of, control_of, init_of, latch_control, latch_init, latch_of};
@@ -11,7 +10,7 @@ use crate::fault::BlifFault;
 use crate::models::LatchLine;
 use crate::statement::Statement;
 use crate::words::{is, name_of};
-use blif_text::Lines;
+use blif_text::TextLine;
 use netlist::{Clock, Edge, Init};
 use std::alloc::{AllocError, Global};
 
@@ -47,17 +46,16 @@ fn check_typed(line: u64, trigger: &[u8], init_is_good: bool) -> Result<(), Blif
 }
 
 #[tactic(auto, using(crate::proofs::LatchLemmas::fault_of_six))]
-fn check_latch(lines: &Lines, i: usize) -> Result<(), BlifFault>
-    requires { i < length lines.now }
-    ensures { let line = line_at lines.now i in result_err result ≡ latch_fault line.number (arguments line) }
+fn check_latch(line: &TextLine<'_>) -> Result<(), BlifFault>
+    ensures { result_err result ≡ latch_fault line.now.number (arguments line.now) }
 {
-    let line = lines.number(i);
-    match lines.words(i) {
+    let number = line.number();
+    match line.words() {
         3 => Ok(()),
-        4 if is_init(lines.word(i, 3)) => Ok(()),
-        5 => check_typed(line, lines.word(i, 3), true),
-        6 => check_typed(line, lines.word(i, 3), is_init(lines.word(i, 5))),
-        _ => Err(BlifFault::BadLatch { line }),
+        4 if is_init(line.word(3)) => Ok(()),
+        5 => check_typed(number, line.word(3), true),
+        6 => check_typed(number, line.word(3), is_init(line.word(5))),
+        _ => Err(BlifFault::BadLatch { line: number }),
     }
 }
 
@@ -93,45 +91,40 @@ fn control_of(alloc: Global, edge: Edge, word: &[u8]) -> Result<Option<Clock>, A
     Ok(Some(Clock { edge, name }))
 }
 
-fn latch_control(alloc: Global, lines: &Lines, i: usize) -> Result<Option<Clock>, AllocError>
-    requires { i < length lines.now }
-    ensures { IfOk result (λ control. control ≡ latch_control (arguments (line_at lines.now i))) }
+fn latch_control(alloc: Global, line: &TextLine<'_>) -> Result<Option<Clock>, AllocError>
+    ensures { IfOk result (λ control. control ≡ latch_control (arguments line.now)) }
 {
-    if lines.words(i) < 5 {
+    if line.words() < 5 {
         return Ok(None);
     }
-    Ok(control_of(alloc, edge_of(lines.word(i, 3)), lines.word(i, 4))?)
+    Ok(control_of(alloc, edge_of(line.word(3)), line.word(4))?)
 }
 
-fn latch_init(lines: &Lines, i: usize) -> Init
-    requires { i < length lines.now }
-    ensures { result ≡ latch_init (arguments (line_at lines.now i)) }
+fn latch_init(line: &TextLine<'_>) -> Init
+    ensures { result ≡ latch_init (arguments line.now) }
 {
-    match lines.words(i) {
-        4 => init_of(lines.word(i, 3)),
-        6 => init_of(lines.word(i, 5)),
+    match line.words() {
+        4 => init_of(line.word(3)),
+        6 => init_of(line.word(5)),
         _ => Init::Either,
     }
 }
 
-fn latch_of(alloc: Global, lines: &Lines, i: usize) -> Result<LatchLine, AllocError>
-    requires line { i < length lines.now }
-    requires words { 3 ≤ length (line_at lines.now i).words }
-    ensures { IfOk result (λ latch. latch ≡ latch_of (arguments (line_at lines.now i))) }
+fn latch_of(alloc: Global, line: &TextLine<'_>) -> Result<LatchLine, AllocError>
+    requires { 3 ≤ length line.now.words }
+    ensures { IfOk result (λ latch. latch ≡ latch_of (arguments line.now)) }
 {
     Ok(LatchLine {
-        from: name_of(alloc, lines.word(i, 1))?,
-        output: name_of(alloc, lines.word(i, 2))?,
-        control: latch_control(alloc, lines, i)?,
-        init: latch_init(lines, i),
+        from: name_of(alloc, line.word(1))?,
+        output: name_of(alloc, line.word(2))?,
+        control: latch_control(alloc, line)?,
+        init: latch_init(line),
     })
 }
 
-pub fn read_latch(alloc: Global, lines: &Lines, i: usize) -> Result<Statement, BlifFault>
-    requires { i < length lines.now }
-    ensures { let line = line_at lines.now i in
-        Reads result (latch_fault line.number (arguments line)) (Statement.Latch (latch_of (arguments line))) }
+pub fn read_latch(alloc: Global, line: &TextLine<'_>) -> Result<Statement, BlifFault>
+    ensures { Reads result (latch_fault line.now.number (arguments line.now)) (Statement.Latch (latch_of (arguments line.now))) }
 {
-    check_latch(lines, i)?;
-    Ok(Statement::Latch(latch_of(alloc, lines, i)?))
+    check_latch(line)?;
+    Ok(Statement::Latch(latch_of(alloc, line)?))
 }

@@ -16,7 +16,7 @@ fn take_part(alloc: Global, part: &Lines, reader: &mut Reader) -> Result<(), Bli
     ensures { OnOk result (LeadTo (progress_of reader.old) part.now (progress_of reader.new)) }
 {
     for i in 0..part.len() {
-        reader.take_line(alloc, part, i)?;
+        reader.take_line(alloc, &part.line(i))?;
     }
     Ok(())
 }
@@ -28,10 +28,11 @@ pub fn read_parts(alloc: Global, bytes: &[u8]) -> Result<Items<BlifModel>, BlifF
 {
     let mut reader = Reader::new(alloc);
     let mut parts = LineParts::new(alloc);
-    for i in 0..bytes.len() {
-        parts.take(true, bytes, i)?;
+    let mut i = 0;
+    while i < bytes.len() {
+        i = parts.take_from(true, bytes, i)?;
         // A part ends where a line does.
-        if bytes[i] != b'\n' {
+        if bytes[i - 1] != b'\n' {
             continue;
         }
         if let Some(part) = parts.part(alloc) {

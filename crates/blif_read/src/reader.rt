@@ -3,7 +3,6 @@ ghost use Rattle.std.specs.Prelude.{◌≡◌, ◌≢◌, ◌<◌, ◌++◌, ◌
 ghost use Rattle.std.specs.Result.{result_err};
 ghost use Rattle.std.specs.List.{list_any};
 ghost use Rattle.std.specs.Str.{bytes_eq};
-ghost use Rattle.blif_text.specs.Lines.{line_at};
 ghost use Rattle.blif_read.specs.Kinds.{arguments, kind, model_name};
 ghost use Rattle.blif_read.specs.Faults.{model_fault, fault_inside};
 ghost use Rattle.blif_read.specs.Statements.{statement, statement_of_kind};
@@ -19,7 +18,7 @@ use crate::open_model::OpenModel;
 use crate::place::Place;
 use crate::statement::Statement;
 use crate::words::name_of;
-use blif_text::Lines;
+use blif_text::TextLine;
 use cyc_base::Name;
 use indexmap::IndexSet;
 use std::alloc::{AllocError, Global};
@@ -97,22 +96,20 @@ impl Reader {
     }
 
     // Takes a `.model` line.
-    fn take_model(&mut self, alloc: Global, lines: &Lines, i: usize) -> Result<(), BlifFault>
-        requires { i < length lines.now }
-        ensures { let line = line_at lines.now i in
-            let fault = model_fault line.number (arguments line) (list_any (bytes_eq (model_name line)) self.old.names.keys) in
+    fn take_model(&mut self, alloc: Global, line: &TextLine<'_>) -> Result<(), BlifFault>
+        ensures { let fault = model_fault line.now.number (arguments line.now) (list_any (bytes_eq (model_name line.now)) self.old.names.keys) in
             MatchResult result
-            (λ _. IsRead fault (begin (progress_of self.old) (model_name line)) (progress_of self.new))
+            (λ _. IsRead fault (begin (progress_of self.old) (model_name line.now)) (progress_of self.new))
             (IsFault fault) }
     {
-        let line = lines.number(i);
-        if lines.words(i) != 2 {
-            return Err(BlifFault::BadModel { line });
+        let number = line.number();
+        if line.words() != 2 {
+            return Err(BlifFault::BadModel { line: number });
         }
-        let name = name_of(alloc, lines.word(i, 1))?;
+        let name = name_of(alloc, line.word(1))?;
         let (_, is_new) = self.names.insert_full(name.copy()?)?;
         if !is_new {
-            return Err(BlifFault::ModelTwice { line });
+            return Err(BlifFault::ModelTwice { line: number });
         }
         self.begin_model(alloc, name)?;
         Ok(())
@@ -124,20 +121,17 @@ impl Reader {
         &mut self,
         alloc: Global,
         kind: Kind,
-        lines: &Lines,
-        i: usize,
+        line: &TextLine<'_>,
     ) -> Result<(), BlifFault>
-        requires line { i < length lines.now }
-        requires kind { kind ≢ Kind.Model }
-        ensures { let line = line_at lines.now i in
-            let before = progress_of self.old in
-            let fault = fault_inside kind line (place_in before.in_progress) in
+        requires { kind ≢ Kind.Model }
+        ensures { let before = progress_of self.old in
+            let fault = fault_inside kind line.now (place_in before.in_progress) in
             MatchResult result
-            (λ _. IsRead fault (go_on before (statement_of_kind kind line)) (progress_of self.new))
+            (λ _. IsRead fault (go_on before (statement_of_kind kind line.now)) (progress_of self.new))
             (IsFault fault) }
     {
         let place = self.place();
-        let said = read_inside(alloc, kind, place, lines, i)?;
+        let said = read_inside(alloc, kind, place, line)?;
         self.follow(alloc, said)?;
         Ok(())
     }
@@ -148,44 +142,39 @@ impl Reader {
         &mut self,
         alloc: Global,
         kind: Kind,
-        lines: &Lines,
-        i: usize,
+        line: &TextLine<'_>,
     ) -> Result<(), BlifFault>
-        requires line { i < length lines.now }
-        requires kind { kind ≢ Kind.Model }
-        ensures { let line = line_at lines.now i in
-            let before = progress_of self.old in
-            let fault = if (place_in before.in_progress).in_model then fault_inside kind line (place_in before.in_progress) else Some (BlifFault.OutsideModel line.number) in
+        requires { kind ≢ Kind.Model }
+        ensures { let before = progress_of self.old in
+            let fault = if (place_in before.in_progress).in_model then fault_inside kind line.now (place_in before.in_progress) else Some (BlifFault.OutsideModel line.now.number) in
             MatchResult result
-            (λ _. IsRead fault (follow before (statement_of_kind kind line)) (progress_of self.new))
+            (λ _. IsRead fault (follow before (statement_of_kind kind line.now)) (progress_of self.new))
             (IsFault fault) }
     {
         let place = self.place();
         if !place.in_model {
             return Err(BlifFault::OutsideModel {
-                line: lines.number(i),
+                line: line.number(),
             });
         }
         match kind {
             Kind::End => self.end_model()?,
-            _ => self.take_inside(alloc, kind, lines, i)?,
+            _ => self.take_inside(alloc, kind, line)?,
         }
         Ok(())
     }
 
     // Takes the next line.
     #[tactic(auto, using(crate::proofs::FollowLemmas::fault_of_other))]
-    pub fn take_line(&mut self, alloc: Global, lines: &Lines, i: usize) -> Result<(), BlifFault>
-        requires { i < length lines.now }
-        ensures { let line = line_at lines.now i in
-            let before = progress_of self.old in
+    pub fn take_line(&mut self, alloc: Global, line: &TextLine<'_>) -> Result<(), BlifFault>
+        ensures { let before = progress_of self.old in
             MatchResult result
-            (λ _. IsRead (fault_next before line) (follow before (statement line)) (progress_of self.new))
-            (IsFault (fault_next before line)) }
+            (λ _. IsRead (fault_next before line.now) (follow before (statement line.now)) (progress_of self.new))
+            (IsFault (fault_next before line.now)) }
     {
-        match kind_at(lines, i) {
-            Kind::Model => self.take_model(alloc, lines, i),
-            kind => self.take_other(alloc, kind, lines, i),
+        match kind_at(line) {
+            Kind::Model => self.take_model(alloc, line),
+            kind => self.take_other(alloc, kind, line),
         }
     }
 

@@ -2,7 +2,6 @@
 ghost use Rattle.std.specs.Prelude.{◌≡◌, ◌<◌, ◌&&◌, ◌==◌, IfOk, length, map};
 ghost use Rattle.std.specs.List.{list_all};
 ghost use Rattle.std.specs.Result.{result_err};
-ghost use Rattle.blif_text.specs.Lines.{line_at};
 ghost use Rattle.blif_read.specs.Kinds.{is_on};
 ghost use Rattle.blif_read.specs.Faults.{is_lit, is_plane, is_row_of, differs, row_fault, row_fault_in};
 ghost use Rattle.blif_read.specs.Statements.{lit_of, lits_of};
@@ -12,7 +11,7 @@ use crate::fault::BlifFault;
 use crate::place::Place;
 use crate::statement::Statement;
 use crate::words::is;
-use blif_text::Lines;
+use blif_text::TextLine;
 use cover_logic::{Lit, Row};
 use cyc_base::Items;
 use std::alloc::{AllocError, Global};
@@ -35,24 +34,22 @@ fn are_lits(pins: usize, word: &[u8]) -> bool
     word.len() == pins && all_lits(word)
 }
 
-fn is_row_of(pins: usize, lines: &Lines, i: usize) -> bool
-    requires { i < length lines.now }
-    ensures { result ≡ is_row_of pins (line_at lines.now i).words }
+fn is_row_of(pins: usize, line: &TextLine<'_>) -> bool
+    ensures { result ≡ is_row_of pins line.now.words }
 {
     if pins == 0 {
-        lines.words(i) == 1 && is_plane(lines.word(i, 0))
+        line.words() == 1 && is_plane(line.word(0))
     } else {
-        lines.words(i) == 2 && are_lits(pins, lines.word(i, 0)) && is_plane(lines.word(i, 1))
+        line.words() == 2 && are_lits(pins, line.word(0)) && is_plane(line.word(1))
     }
 }
 
 // Whether the last word of a line is `1`.
-fn is_on(lines: &Lines, i: usize) -> bool
-    requires { i < length lines.now }
-    ensures { result ≡ is_on (line_at lines.now i) }
+fn is_on(line: &TextLine<'_>) -> bool
+    ensures { result ≡ is_on line.now }
 {
-    let words = lines.words(i);
-    words != 0 && is(lines.word(i, words - 1), b"1")
+    let words = line.words();
+    words != 0 && is(line.word(words - 1), b"1")
 }
 
 fn differs(first: Option<bool>, plane: bool) -> bool
@@ -68,32 +65,29 @@ fn check_row_of(
     pins: usize,
     first: Option<bool>,
     plane: bool,
-    lines: &Lines,
-    i: usize,
+    line: &TextLine<'_>,
 ) -> Result<(), BlifFault>
-    requires line { i < length lines.now }
-    requires plane { plane ≡ is_on (line_at lines.now i) }
-    ensures { result_err result ≡ row_fault_in pins first (line_at lines.now i) }
+    requires { plane ≡ is_on line.now }
+    ensures { result_err result ≡ row_fault_in pins first line.now }
 {
-    let line = lines.number(i);
-    if !is_row_of(pins, lines, i) {
-        return Err(BlifFault::BadRow { line });
+    let number = line.number();
+    if !is_row_of(pins, line) {
+        return Err(BlifFault::BadRow { line: number });
     }
     if differs(first, plane) {
-        return Err(BlifFault::MixedRows { line });
+        return Err(BlifFault::MixedRows { line: number });
     }
     Ok(())
 }
 
-fn check_row(place: Place, plane: bool, lines: &Lines, i: usize) -> Result<(), BlifFault>
-    requires line { i < length lines.now }
-    requires plane { plane ≡ is_on (line_at lines.now i) }
-    ensures { result_err result ≡ row_fault place.pins place.first (line_at lines.now i) }
+fn check_row(place: Place, plane: bool, line: &TextLine<'_>) -> Result<(), BlifFault>
+    requires { plane ≡ is_on line.now }
+    ensures { result_err result ≡ row_fault place.pins place.first line.now }
 {
     match place.pins {
-        Some(pins) => check_row_of(pins, place.first, plane, lines, i),
+        Some(pins) => check_row_of(pins, place.first, plane, line),
         None => Err(BlifFault::StrayRow {
-            line: lines.number(i),
+            line: line.number(),
         }),
     }
 }
@@ -118,29 +112,21 @@ fn lits_of_word(alloc: Global, word: &[u8]) -> Result<Items<Lit>, AllocError>
     Ok(Items::of(lits))
 }
 
-fn lits_of(alloc: Global, lines: &Lines, i: usize) -> Result<Items<Lit>, AllocError>
-    requires { i < length lines.now }
-    ensures { IfOk result (λ lits. lits ≡ lits_of (line_at lines.now i).words) }
+fn lits_of(alloc: Global, line: &TextLine<'_>) -> Result<Items<Lit>, AllocError>
+    ensures { IfOk result (λ lits. lits ≡ lits_of line.now.words) }
 {
-    if lines.words(i) < 2 {
+    if line.words() < 2 {
         return Ok(Items::of(Vec::new(alloc)));
     }
-    Ok(lits_of_word(alloc, lines.word(i, 0))?)
+    Ok(lits_of_word(alloc, line.word(0))?)
 }
 
-pub fn read_row(
-    alloc: Global,
-    place: Place,
-    lines: &Lines,
-    i: usize,
-) -> Result<Statement, BlifFault>
-    requires { i < length lines.now }
-    ensures { let line = line_at lines.now i in
-        Reads result (row_fault place.pins place.first line) (Statement.Row (record { lits = lits_of line.words }) (is_on line)) }
+pub fn read_row(alloc: Global, place: Place, line: &TextLine<'_>) -> Result<Statement, BlifFault>
+    ensures { Reads result (row_fault place.pins place.first line.now) (Statement.Row (record { lits = lits_of line.now.words }) (is_on line.now)) }
 {
-    let plane = is_on(lines, i);
-    check_row(place, plane, lines, i)?;
-    let lits = lits_of(alloc, lines, i)?;
+    let plane = is_on(line);
+    check_row(place, plane, line)?;
+    let lits = lits_of(alloc, line)?;
     Ok(Statement::Row {
         row: Row { lits },
         plane,

@@ -2,7 +2,6 @@
 ghost use Rattle.std.specs.Prelude.{◌≡◌, ◌<◌, ◌≤◌, IfOk, length, drop, map};
 ghost use Rattle.std.specs.List.{list_all, position_or_len};
 ghost use Rattle.std.specs.Result.{result_err};
-ghost use Rattle.blif_text.specs.Lines.{line_at};
 ghost use Rattle.blif_read.specs.Kinds.{arguments};
 ghost use Rattle.blif_read.specs.Faults.{is_equals, formal_of, actual_of, is_pair, subckt_fault};
 ghost use Rattle.blif_read.specs.Statements.{pair_of, part_of};
@@ -12,7 +11,7 @@ use crate::fault::BlifFault;
 use crate::models::PartLine;
 use crate::statement::Statement;
 use crate::words::name_of;
-use blif_text::Lines;
+use blif_text::TextLine;
 use cyc_base::{Items, Name};
 use std::alloc::{AllocError, Global};
 
@@ -54,25 +53,23 @@ fn is_pair(word: &[u8]) -> bool
 
 #[tactic(auto, using(crate::proofs::PartLemmas::pairs_more, crate::proofs::PartLemmas::pairs_end))]
 // Whether the words from the third on are pairs.
-fn are_pairs(lines: &Lines, i: usize) -> bool
-    requires { i < length lines.now }
-    ensures { result ≡ list_all is_pair (drop 2 (line_at lines.now i).words) }
+fn are_pairs(line: &TextLine<'_>) -> bool
+    ensures { result ≡ list_all is_pair (drop 2 line.now.words) }
 {
-    for k in 2..lines.words(i) {
-        if !is_pair(lines.word(i, k)) {
+    for k in 2..line.words() {
+        if !is_pair(line.word(k)) {
             return false;
         }
     }
     true
 }
 
-fn check_part(lines: &Lines, i: usize) -> Result<(), BlifFault>
-    requires { i < length lines.now }
-    ensures { let line = line_at lines.now i in result_err result ≡ subckt_fault line.number (arguments line) }
+fn check_part(line: &TextLine<'_>) -> Result<(), BlifFault>
+    ensures { result_err result ≡ subckt_fault line.now.number (arguments line.now) }
 {
-    if lines.words(i) < 2 || !are_pairs(lines, i) {
+    if line.words() < 2 || !are_pairs(line) {
         return Err(BlifFault::BadSubckt {
-            line: lines.number(i),
+            line: line.number(),
         });
     }
     Ok(())
@@ -88,33 +85,29 @@ fn pair_of(alloc: Global, word: &[u8]) -> Result<(Name, Name), AllocError>
 
 #[tactic(auto, using(crate::proofs::PartLemmas::pair_none, crate::proofs::PartLemmas::pair_all))]
 // The pairs, which are the words from the third on.
-fn pairs_of(alloc: Global, lines: &Lines, i: usize) -> Result<Items<(Name, Name)>, AllocError>
-    requires line { i < length lines.now }
-    requires words { 2 ≤ length (line_at lines.now i).words }
-    ensures { IfOk result (λ pairs. pairs ≡ map pair_of (drop 1 (arguments (line_at lines.now i)))) }
+fn pairs_of(alloc: Global, line: &TextLine<'_>) -> Result<Items<(Name, Name)>, AllocError>
+    requires { 2 ≤ length line.now.words }
+    ensures { IfOk result (λ pairs. pairs ≡ map pair_of (drop 1 (arguments line.now))) }
 {
-    let mut pairs = Vec::with_capacity(alloc, lines.words(i) - 2)?;
-    for k in 2..lines.words(i) {
-        pairs.push(pair_of(alloc, lines.word(i, k))?)?;
+    let mut pairs = Vec::with_capacity(alloc, line.words() - 2)?;
+    for k in 2..line.words() {
+        pairs.push(pair_of(alloc, line.word(k))?)?;
     }
     Ok(Items::of(pairs))
 }
 
-fn part_of(alloc: Global, lines: &Lines, i: usize) -> Result<PartLine, AllocError>
-    requires line { i < length lines.now }
-    requires words { 2 ≤ length (line_at lines.now i).words }
-    ensures { IfOk result (λ part. part ≡ part_of (arguments (line_at lines.now i))) }
+fn part_of(alloc: Global, line: &TextLine<'_>) -> Result<PartLine, AllocError>
+    requires { 2 ≤ length line.now.words }
+    ensures { IfOk result (λ part. part ≡ part_of (arguments line.now)) }
 {
-    let model = name_of(alloc, lines.word(i, 1))?;
-    let pairs = pairs_of(alloc, lines, i)?;
+    let model = name_of(alloc, line.word(1))?;
+    let pairs = pairs_of(alloc, line)?;
     Ok(PartLine { model, pairs })
 }
 
-pub fn read_part(alloc: Global, lines: &Lines, i: usize) -> Result<Statement, BlifFault>
-    requires { i < length lines.now }
-    ensures { let line = line_at lines.now i in
-        Reads result (subckt_fault line.number (arguments line)) (Statement.Part (part_of (arguments line))) }
+pub fn read_part(alloc: Global, line: &TextLine<'_>) -> Result<Statement, BlifFault>
+    ensures { Reads result (subckt_fault line.now.number (arguments line.now)) (Statement.Part (part_of (arguments line.now))) }
 {
-    check_part(lines, i)?;
-    Ok(Statement::Part(part_of(alloc, lines, i)?))
+    check_part(line)?;
+    Ok(Statement::Part(part_of(alloc, line)?))
 }

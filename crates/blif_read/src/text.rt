@@ -27,7 +27,7 @@ fn read_lines(alloc: Global, lines: &Lines) -> Result<Items<BlifModel>, BlifFaul
 {
     let mut reader = Reader::new(alloc);
     for i in 0..lines.len() {
-        reader.take_line(alloc, lines, i)?;
+        reader.take_line(alloc, &lines.line(i))?;
     }
     let models = reader.finish()?;
     if_any(models)

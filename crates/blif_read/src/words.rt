@@ -1,10 +1,9 @@
 // Words of a line as names.
 ghost use Rattle.std.specs.Prelude.{◌≡◌, ◌<◌, ◌≤◌, IfOk, length, slice_range};
 ghost use Rattle.std.specs.Str.{bytes_eq};
-ghost use Rattle.blif_text.specs.Lines.{line_at};
 ghost use Rattle.blif_read.specs.Kinds.{arguments, word_at};
 
-use blif_text::Lines;
+use blif_text::TextLine;
 use cyc_base::{Items, Name};
 use std::alloc::{AllocError, Global};
 
@@ -26,32 +25,29 @@ pub fn name_of(alloc: Global, bytes: &[u8]) -> Result<Name, AllocError>
 // The words of a line from one place up to another.
 pub fn names_between(
     alloc: Global,
-    lines: &Lines,
-    i: usize,
+    line: &TextLine<'_>,
     from: usize,
     to: usize,
 ) -> Result<Items<Name>, AllocError>
-    requires line { i < length lines.now }
     requires low { from ≤ to }
-    requires high { to ≤ length (line_at lines.now i).words }
-    ensures { IfOk result (λ names. names ≡ slice_range (line_at lines.now i).words from to) }
+    requires high { to ≤ length line.now.words }
+    ensures { IfOk result (λ names. names ≡ slice_range line.now.words from to) }
 {
     let mut names = Vec::with_capacity(alloc, to - from)?;
     for k in from..to {
-        names.push(name_of(alloc, lines.word(i, k))?)?;
+        names.push(name_of(alloc, line.word(k))?)?;
     }
     Ok(Items::of(names))
 }
 
 #[tactic(auto, using(crate::proofs::WordLemmas::slice_rest))]
 // The words of a line behind the first.
-pub fn argument_names(alloc: Global, lines: &Lines, i: usize) -> Result<Items<Name>, AllocError>
-    requires { i < length lines.now }
-    ensures { IfOk result (λ names. names ≡ arguments (line_at lines.now i)) }
+pub fn argument_names(alloc: Global, line: &TextLine<'_>) -> Result<Items<Name>, AllocError>
+    ensures { IfOk result (λ names. names ≡ arguments line.now) }
 {
-    let words = lines.words(i);
+    let words = line.words();
     if words == 0 {
         return Ok(Items::of(Vec::new(alloc)));
     }
-    Ok(names_between(alloc, lines, i, 1, words)?)
+    Ok(names_between(alloc, line, 1, words)?)
 }

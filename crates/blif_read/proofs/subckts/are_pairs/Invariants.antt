@@ -1,8 +1,7 @@
 use Rattle.std.proofs.Common.{◌≡◌, drop}
 use Rattle.std.specs.List.{list_all}
-use Rattle.blif_text.specs.Lines.{line_at}
 use Rattle.blif_read.specs.Faults.{is_pair}
 use Rattle.blif_read.proofs.subckts.are_pairs.Given as goal
 
 abbrev pub invariant-loop-k : goal.invariant-loop-k
-invariant-loop-k l = list_all is_pair (drop 2 (line_at l.lines l.i).words) ≡ list_all is_pair (drop l.k (line_at l.lines l.i).words)
+invariant-loop-k l = list_all is_pair (drop 2 l.line.words) ≡ list_all is_pair (drop l.k l.line.words)

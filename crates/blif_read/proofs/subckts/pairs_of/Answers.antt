@@ -1,12 +1,11 @@
 use Rattle.std.proofs.Common.{◌<◌, ◌≤◌, ◌++◌, ◌∷◌, [], length, ap, ap₂, sym, ◌∙◌, arith}
-use Rattle.blif_text.specs.Lines.{line_at}
 use Rattle.blif_read.specs.Statements.{pair_of}
 use Rattle.blif_read.proofs.PartLemmas.{pair_next}
 use Rattle.blif_read.proofs.subckts.pairs_of.Goals as goal
 
 pub loop-k-preserved : goal.loop-k-preserved
 loop-k-preserved c =
-    let words = (line_at c.args.lines.now c.args.i).words in
+    let words = c.args.line.now.words in
     let from : 2 ≤ c.loop-k.k = omega arith in
     let inside : c.loop-k.k < length words = omega arith in
     c.in_ok-push.ensures.items

@@ -1,7 +1,6 @@
 use Rattle.std.proofs.Common.{◌≡◌}
 use Rattle.std.specs.Prelude.{slice_range}
-use Rattle.blif_text.specs.Lines.{line_at}
 use Rattle.blif_read.proofs.words.names_between.Given as goal
 
 abbrev pub invariant-loop-k : goal.invariant-loop-k
-invariant-loop-k l = l.names.items ≡ slice_range (line_at l.lines l.i).words l.from l.k
+invariant-loop-k l = l.names.items ≡ slice_range l.line.words l.from l.k
