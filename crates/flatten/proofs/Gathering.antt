@@ -1,24 +1,22 @@
--- Drivers are gathered in their order; the first that comes twice, and the place of each.
+-- Drivers are gathered in their order, and the first that comes twice is found.
 use Rattle.std.proofs.Common.{◌≡◌, ℕ, ◌+◌, ◌<◌, Bool, true, false, not, ◌||◌, ◌&&◌, List, [], ◌∷◌, ◌++◌, length, get_or, take, drop, map, filter, fold, refl, sym, ap, ◌∙◌, cond, if◌then◌else◌, append_assoc, Some, None, option_map, subst}
 use Rattle.std.proofs.lemmas.List.{append-nil, map-append}
-use Rattle.std.proofs.lemmas.List.Folds.{list_any-append, find-append}
+use Rattle.std.proofs.lemmas.List.Folds.{list_any-append}
 use Rattle.std.proofs.lemmas.Map.Keys.{IsDistinct-cons, IsDistinct-push}
 use Rattle.std.specs.Cmp.Lexicographic.{nat_list_eq_equiv}
-use Rattle.std.specs.List.{IsDistinct, AllByRecursion, find, flat_map}
+use Rattle.std.specs.List.{IsDistinct, AllByRecursion, find}
 use Rattle.std.specs.Option.{option_or, option_map_or}
 use Rattle.std.specs.Str.{bytes_eq}
 use Rattle.std.specs.declared.option.Option.{Option}
 use Rattle.indexmap.specs.IndexSet.{insert_key}
 use Rattle.flatten.specs.Instances.{is_among}
-use Rattle.cyc_base.specs.declared.sig.Sig.{Sig}
 use Rattle.netlist.specs.declared.parts.Clock.{Clock}
 use Rattle.blif_read.specs.declared.models.BlifModel.{BlifModel}
-use Rattle.blif_read.specs.declared.models.GateLine.{GateLine}
 use Rattle.blif_read.specs.declared.models.LatchLine.{LatchLine}
 use Rattle.flatten.specs.declared.fault.FlatFault.{FlatFault}
-use Rattle.flatten.specs.declared.fault.FlatFault.TheVariants.{DrivenTwice, Undriven}
+use Rattle.flatten.specs.declared.fault.FlatFault.TheVariants.{DrivenTwice}
 use Rattle.flatten.specs.Walk.{FlatLines}
-use Rattle.flatten.specs.Linking.{own_clocks, twice_after, first_twice, latch_outputs, gate_outputs, drivers, driven_twice, edge_eq, is_clock_of, is_fitting, has_bad_control, is_other_control, has_other_control, gate_with, undriven}
+use Rattle.flatten.specs.Linking.{own_clocks, twice_after, first_twice, latch_outputs, gate_outputs, driven_twice, edge_eq, is_clock_of, is_fitting, has_bad_control, is_other_control, has_other_control}
 use Rattle.flatten.proofs.Names.{bytes_sym, bytes_same, taken, dropped}
 use Rattle.flatten.proofs.Libraries.{among_push, distinct_fresh}
 
@@ -146,32 +144,12 @@ module _ (top : BlifModel) (lines : FlatLines) (inputs_once : first_twice top.in
   none_twice n e =
       twice_of_drivers ∙ ap (λ o. option_map DrivenTwice (option_or o (twice_after ((top.inputs ++ own_clocks top) ++ latch_outputs lines) (gate_outputs lines)))) n ∙ ap (λ o. option_map DrivenTwice o) e
 
--- finding, at the item that a loop stands at
-pub find_here_by : {T : Type 0} (p : List ℕ → Bool) (name : T → List ℕ) (items : List T) (i : ℕ) (x : T) → i < length items → x ≡ get_or items i x → p (name x) ≡ true → find p (map name (drop i items)) ≡ Some (name x)
-find_here_by p name items i x l e h = rw (dropped items i x l e, h) refl
-
-pub find_later_by : {T : Type 0} (p : List ℕ → Bool) (name : T → List ℕ) (items : List T) (i : ℕ) (x : T) → i < length items → x ≡ get_or items i x → p (name x) ≡ false → find p (map name (drop i items)) ≡ find p (map name (drop (i + 1) items))
-find_later_by p name items i x l e h = rw (dropped items i x l e, h) refl
-
-pub find_in_pins : (p : List ℕ → Bool) (gates : List GateLine) (i : ℕ) (x : GateLine) → i < length gates → x ≡ get_or gates i x → find p (flat_map (λ g. g.pins) (drop i gates)) ≡ option_or (find p x.pins) (find p (flat_map (λ g. g.pins) (drop (i + 1) gates)))
-find_in_pins p gates i x l e =
-    ap (λ gs. find p (flat_map (λ (g : GateLine). g.pins) gs)) (dropped gates i x l e) ∙ find-append p x.pins (flat_map (λ (g : GateLine). g.pins) (drop (i + 1) gates))
-
-pub find_reads : (p : List ℕ → Bool) (a b c : List (List ℕ)) → find p (a ++ (b ++ c)) ≡ option_or (find p a) (option_or (find p b) (find p c))
-find_reads p a b c = find-append p a (b ++ c) ∙ ap (λ o. option_or (find p a) o) (find-append p b c)
-
 -- the first of several findings
 pub some_or : {X : Type 0} (o p : Option X) (x : X) → o ≡ Some x → option_or o p ≡ Some x
 some_or o p x e = ap (λ t. option_or t p) e
 
 pub none_or_is : {X : Type 0} (o p : Option X) → o ≡ None → option_or o p ≡ p
 none_or_is o p e = ap (λ t. option_or t p) e
-
--- in the pins of a gate and of those behind it
-pub find_next : (p : List ℕ → Bool) (g : GateLine) (rest gates : List GateLine) → gates ≡ g ∷ rest → find p (flat_map (λ x. x.pins) gates) ≡ option_or (find p g.pins) (find p (flat_map (λ x. x.pins) rest))
-find_next p g rest gates is =
-    let pins : GateLine → List (List ℕ) = λ x. x.pins in
-    ap (λ gs. find p (flat_map pins gs)) is ∙ find-append p g.pins (flat_map pins rest)
 
 -- controls by the first one
 other_is : (top : BlifModel) (f c : Clock) → is_other_control (is_clock_of top f.name) f c ≡ not (is_fitting top f c)
@@ -202,11 +180,3 @@ find_none top (l ∷ latches) = never l.control (find_none top latches)
     never : (o : Option Clock) → find (has_bad_control top None) latches ≡ None → cond (option_map_or (λ control. option_map_or (λ (f : Clock). not (is_fitting top f control)) None false) o false) (Some l) (find (has_bad_control top None) latches) ≡ None
     never None h = h
     never (Some c) h = h
-
--- one more gate
-pub gates_taken : (sig : List ℕ → Sig) (gates : List GateLine) (i : ℕ) (x : GateLine) → i < length gates → x ≡ get_or gates i x → map (gate_with sig) (take (i + 1) gates) ≡ map (gate_with sig) (take i gates) ++ gate_with sig x ∷ []
-gates_taken sig gates i x l e = ap (λ gs. map (gate_with sig) gs) (taken gates i x l e) ∙ map-append (gate_with sig) (take i gates) (x ∷ [])
-
--- the first wire that isn't driven, by the table of drivers
-pub undriven_at : (top : BlifModel) (lines : FlatLines) (keys : List (List ℕ)) (latches : List LatchLine) (gates : List GateLine) → keys ≡ drivers top lines → latches ≡ lines.latches → gates ≡ lines.gates → undriven top lines ≡ option_map Undriven (find (λ name. not (is_among keys name)) (top.outputs ++ (map (λ l. l.from) latches ++ flat_map (λ g. g.pins) gates)))
-undriven_at top lines keys latches gates k l g = rw (k, l, g) refl

@@ -12,6 +12,7 @@ pub mod OwnLines
 pub mod Counting
 pub mod Gathering
 pub mod Added
+pub mod Reading
 pub mod Placing
 pub mod Printable
 pub mod Valid

@@ -15,12 +15,12 @@ use Rattle.blif_read.specs.declared.models.BlifModel.{BlifModel}
 use Rattle.blif_read.specs.declared.models.GateLine.{GateLine}
 use Rattle.blif_read.specs.declared.models.LatchLine.{LatchLine}
 use Rattle.flatten.specs.declared.fault.FlatFault.{FlatFault}
-use Rattle.flatten.specs.declared.fault.FlatFault.TheVariants.{ClockRead}
+use Rattle.flatten.specs.declared.fault.FlatFault.TheVariants.{ClockRead, Undriven}
 use Rattle.flatten.specs.declared.link.Drivers.{Drivers as DriverTable}
 use Rattle.flatten.specs.Instances.{is_among}
 use Rattle.flatten.specs.Walk.{FlatLines}
 use Rattle.flatten.specs.Linking.{own_clocks, latch_outputs, gate_outputs, drivers, reads, signal_list, sig_of, clock_read, declared_twice, driven_twice, undriven, bad_clock, link_fault, latch_with, gate_with, netlist_by, linked}
-use Rattle.flatten.specs.Drivers.{IsDriversOf, HasSignals, sig_of_place, sig_at, sig_or, is_unread}
+use Rattle.flatten.specs.Drivers.{IsDriversOf, HasSignals, sig_of_place, sig_at, sig_or, is_unread, undriven_among, AreRead}
 use Rattle.flatten.proofs.Names.{bytes_same}
 use Rattle.flatten.proofs.Libraries.{among_once}
 
@@ -251,30 +251,44 @@ module _ (top : BlifModel) (lines : FlatLines) (table : DriverTable) (of : IsDri
   none_of_map None g h = refl
   none_of_map (Some x) g h = absurd (cc)
 
-  -- the answer, once drivers, reads and controls are without a fault
-  module _ (once : option_or (declared_twice top) (driven_twice top lines) ≡ None) (fits : option_or (undriven top lines) (bad_clock top lines) ≡ None) where
-    all_driven : find missing (reads top lines) ≡ None
-    all_driven = none_of_map (find missing (reads top lines)) _ (none_or (undriven top lines) (bad_clock top lines) fits).0
+  undriven_is : undriven_among table (reads top lines) ≡ undriven top lines
+  undriven_is = ap (λ (keys : List (List ℕ)). option_map Undriven (find (λ name. not (is_among keys name)) (reads top lines))) of.names
 
-    fault_is : link_fault top lines ≡ option_map ClockRead (find (is_unread table) (reads top lines))
-    fault_is =
-        ap (λ o. option_or o (option_or (option_or (undriven top lines) (bad_clock top lines)) (clock_read top lines))) once
-        ∙ ap (λ o. option_or o (clock_read top lines)) fits
-        ∙ ap (λ o. option_map ClockRead o) (sym (find_unread (reads top lines) all_driven))
+  linked_fault : (o : Option FlatFault) (fault : FlatFault) → o ≡ Some fault → ◌≡◌ {A = Result Parts FlatFault} (elim o [ Some f ↦ Err f | None ↦ Ok (netlist_by (sig_of (signal_list top lines)) top lines) ]) (Err fault)
+  linked_fault (Some f) fault h = cc
+  linked_fault None fault h = absurd (cc)
 
-    pub linked_clock : (fault : FlatFault) → option_map ClockRead (find (is_unread table) (reads top lines)) ≡ Some fault → linked top lines ≡ Err fault
-    linked_clock fault e = linked_by (link_fault top lines) (fault_is ∙ e)
-      where
-        linked_by : (o : Option FlatFault) → o ≡ Some fault → ◌≡◌ {A = Result Parts FlatFault} (elim o [ Some f ↦ Err f | None ↦ Ok (netlist_by (sig_of (signal_list top lines)) top lines) ]) (Err fault)
-        linked_by (Some f) h = cc
-        linked_by None h = absurd (cc)
+  linked_none : (o : Option FlatFault) → o ≡ None → ◌≡◌ {A = Result Parts FlatFault} (elim o [ Some f ↦ Err f | None ↦ Ok (netlist_by (sig_of (signal_list top lines)) top lines) ]) (Ok (netlist_by (sig_of (signal_list top lines)) top lines))
+  linked_none (Some f) h = absurd (cc)
+  linked_none None h = refl
 
-    pub linked_parts : (parts : Parts) → parts ≡ netlist_by (sig_or table) top lines → find (is_unread table) (reads top lines) ≡ None → linked top lines ≡ Ok parts
-    linked_parts parts p r = linked_by (link_fault top lines) (fault_is ∙ ap (λ o. option_map ClockRead o) r) ∙ ap (λ x. Ok x) (sym (p ∙ parts_same all_driven r))
-      where
-        linked_by : (o : Option FlatFault) → o ≡ None → ◌≡◌ {A = Result Parts FlatFault} (elim o [ Some f ↦ Err f | None ↦ Ok (netlist_by (sig_of (signal_list top lines)) top lines) ]) (Ok (netlist_by (sig_of (signal_list top lines)) top lines))
-        linked_by (Some f) h = absurd (cc)
-        linked_by None h = refl
+  -- the answer, once the drivers are without a fault
+  module _ (once : option_or (declared_twice top) (driven_twice top lines) ≡ None) where
+    behind_drivers : (o : Option FlatFault) → undriven_among table (reads top lines) ≡ o → link_fault top lines ≡ option_or (option_or o (bad_clock top lines)) (clock_read top lines)
+    behind_drivers o e =
+        ap (λ d. option_or d (option_or (option_or (undriven top lines) (bad_clock top lines)) (clock_read top lines))) once
+        ∙ ap (λ u. option_or (option_or u (bad_clock top lines)) (clock_read top lines)) (sym undriven_is ∙ e)
+
+    pub linked_undriven : (fault : FlatFault) → undriven_among table (reads top lines) ≡ Some fault → linked top lines ≡ Err fault
+    linked_undriven fault e = linked_fault (link_fault top lines) fault (behind_drivers (Some fault) e)
+
+    -- and once all wires were read
+    module _ (clock : Option (List ℕ)) (read : AreRead table (reads top lines) None clock) where
+      all_driven : find missing (reads top lines) ≡ None
+      all_driven = none_of_map (find missing (reads top lines)) Undriven (sym undriven_is ∙ read.driven)
+
+      fault_is : link_fault top lines ≡ option_or (bad_clock top lines) (option_map ClockRead clock)
+      fault_is =
+          behind_drivers None read.driven
+          ∙ ap (λ o. option_or (bad_clock top lines) (option_map ClockRead o)) (sym (find_unread (reads top lines) all_driven) ∙ sym read.clock)
+
+      pub linked_clock : (fault : FlatFault) → option_or (bad_clock top lines) (option_map ClockRead clock) ≡ Some fault → linked top lines ≡ Err fault
+      linked_clock fault e = linked_fault (link_fault top lines) fault (fault_is ∙ e)
+
+      pub linked_parts : (parts : Parts) → parts ≡ netlist_by (sig_or table) top lines → option_or (bad_clock top lines) (option_map ClockRead clock) ≡ None → linked top lines ≡ Ok parts
+      linked_parts parts is fits =
+          let unread : find (is_unread table) (reads top lines) ≡ None = sym read.clock ∙ none_of_map clock ClockRead (none_or (bad_clock top lines) (option_map ClockRead clock) fits).1 in
+          linked_none (link_fault top lines) (fault_is ∙ fits) ∙ ap (λ x. Ok x) (sym (is ∙ parts_same all_driven unread))
 
 -- the numbers of the signals of a table fit
 pub has_signals : (top : BlifModel) (lines : FlatLines) (table : DriverTable) → IsDriversOf top lines table → length top.inputs ≤ 4000000000 → length lines.latches + length lines.gates ≤ 4000000 → HasSignals table

@@ -49,8 +49,7 @@ fn add_lines(lines: &mut FlatBody, body: Vec<Item>) -> Result<(), AllocError>
     requires latches { lines.old.latches.items ≡ [] }
     ensures { OnOk result (lines_of lines.new ≡ own_lines_by body.items) }
 {
-    let mut remaining = Remaining::of(body);
-    while let Some(item) = remaining.next() {
+    for item in Remaining::of(body) {
         add_line(lines, item)?;
     }
     Ok(())

@@ -1,10 +1,10 @@
-ghost use Rattle.std.specs.Prelude.{◌≡◌, ◌≤◌, ◌+◌, ◌⊎◌, ◌++◌, [], not, length, map, None, Some, Ok, Err, IfOk, IfErr, OnOk, option_copied, option_map};
+ghost use Rattle.std.specs.Prelude.{◌≡◌, ◌<◌, ◌≤◌, ◌+◌, ◌⊎◌, ◌++◌, [], ◌∷◌, length, map, None, Some, Ok, Err, IfOk, IfErr, OnOk, option_copied, option_map};
 ghost use Rattle.std.specs.List.{find, flat_map};
 ghost use Rattle.std.specs.Option.{option_or};
-ghost use Rattle.flatten.specs.Instances.{is_among};
-ghost use Rattle.flatten.specs.Linking.{reads, drivers, own_clocks, twice_after, first_twice, edge_eq, has_control, first_control as first_control_by, is_clock_of, has_bad_control, is_other_control, has_other_control, declared_twice, driven_twice, undriven, bad_clock, latch_with, gate_with, netlist_by, linked};
-ghost use Rattle.flatten.specs.Drivers.{IsDriversOf, HasSignals, sig_at, sig_or, is_unread};
+ghost use Rattle.flatten.specs.Linking.{reads, drivers, own_clocks, twice_after, first_twice, edge_eq, has_control, first_control as first_control_by, is_clock_of, has_bad_control, is_other_control, has_other_control, declared_twice, driven_twice, latch_with, gate_with, netlist_by, linked};
+ghost use Rattle.flatten.specs.Drivers.{IsDriversOf, HasSignals, sig_of_place as sig_of_place_by, sig_or, undriven_among, bad_clock_among, AreRead};
 ghost use Rattle.flatten.specs.Levels.{lines_of};
+ghost use Rattle.flatten.specs.Walk.{FlatLines};
 
 use crate::fault::FlatFault;
 use crate::library::{add_all, add_copy};
@@ -137,55 +137,6 @@ fn add_gates(set: &mut IndexSet<Name>, gates: &[GateLine]) -> Result<(), FlatFau
     Ok(())
 }
 
-fn first_missing<'a>(drivers: &IndexSet<Name>, names: &'a [Name]) -> Option<&'a Name>
-    ensures { option_copied result ≡ find (λ name. not (is_among drivers.now.keys name)) names.now }
-{
-    names.iter().find(|name| !drivers.contains(*name))
-}
-
-fn first_missing_source<'a>(drivers: &IndexSet<Name>, latches: &'a [LatchLine]) -> Option<&'a Name>
-    ensures { option_copied result
-        ≡ find (λ name. not (is_among drivers.now.keys name)) (map (λ l. l.from) latches.now) }
-{
-    for latch in latches {
-        if !drivers.contains(&latch.from) {
-            return Some(&latch.from);
-        }
-    }
-    None
-}
-
-fn first_missing_pin<'a>(drivers: &IndexSet<Name>, gates: &'a [GateLine]) -> Option<&'a Name>
-    ensures { option_copied result
-        ≡ find (λ name. not (is_among drivers.now.keys name)) (flat_map (λ g. g.pins) gates.now) }
-{
-    for gate in gates {
-        if let Some(name) = first_missing(drivers, gate.pins.items()) {
-            return Some(name);
-        }
-    }
-    None
-}
-
-/// The first wire that is read and isn't among the drivers.
-fn first_undriven<'a>(
-    drivers: &IndexSet<Name>,
-    top: &'a BlifModel,
-    latches: &'a [LatchLine],
-    gates: &'a [GateLine],
-) -> Option<&'a Name>
-    ensures { option_copied result ≡ find (λ name. not (is_among drivers.now.keys name))
-        (top.now.outputs ++ (map (λ l. l.from) latches.now ++ flat_map (λ g. g.pins) gates.now)) }
-{
-    if let Some(name) = first_missing(drivers, top.outputs.items()) {
-        return Some(name);
-    }
-    if let Some(name) = first_missing_source(drivers, latches) {
-        return Some(name);
-    }
-    first_missing_pin(drivers, gates)
-}
-
 fn first_controlled(latches: &[LatchLine]) -> Option<&LatchLine>
     ensures { option_copied result ≡ find has_control latches.now }
 {
@@ -252,12 +203,12 @@ fn first_bad_clock<'a>(top: &BlifModel, latches: &'a [LatchLine]) -> Option<&'a 
     }
 }
 
-/// The signal of a driver, or `None` for a clock and for any other name.
-fn sig_of(drivers: &Drivers, name: &Name) -> Option<Sig>
-    requires { HasSignals drivers.now }
-    ensures { result ≡ sig_at drivers.now name.now }
+/// The signal of the driver at this place of the table, or `None` for a clock.
+fn sig_of_place(drivers: &Drivers, place: usize) -> Option<Sig>
+    requires signals { HasSignals drivers.now }
+    requires place { place < length drivers.now.names.keys }
+    ensures { result ≡ sig_of_place_by drivers.now.inputs drivers.now.clocks place }
 {
-    let place = drivers.names.get_index_of(name)?;
     if place < drivers.inputs {
         Some(Sig(place as u32))
     } else if place - drivers.inputs < drivers.clocks {
@@ -267,30 +218,53 @@ fn sig_of(drivers: &Drivers, name: &Name) -> Option<Sig>
     }
 }
 
-/// The signal of a driver that is read.
-fn read(drivers: &Drivers, name: &Name) -> Result<Sig, FlatFault>
-    requires { HasSignals drivers.now }
-    ensures sig { IfOk result (λ sig. sig_at drivers.now name.now ≡ Some sig) }
-    ensures fault { IfErr result (λ fault. (fault ≡ FlatFault.Memory)
-        ⊎ ((fault ≡ FlatFault.ClockRead name.now) × (sig_at drivers.now name.now ≡ None))) }
+/// Notes a clock that is read, unless one was noted before.
+fn note(clock: &mut Option<Name>, name: &Name) -> Result<(), AllocError>
+    ensures { OnOk result (clock.new ≡ option_or clock.old (Some name.now)) }
 {
-    match sig_of(drivers, name) {
+    if clock.is_none() {
+        *clock = Some(name.copy()?);
+    }
+    Ok(())
+}
+
+/// The signal of a wire that is read. A clock is no signal: the first one is noted, since a bad control is told before
+/// it, and the place of its signal is taken by 0.
+fn read(drivers: &Drivers, name: &Name, clock: &mut Option<Name>) -> Result<Sig, FlatFault>
+    requires { HasSignals drivers.now }
+    ensures sig { IfOk result (λ sig. sig ≡ sig_or drivers.now name.now) }
+    ensures read { OnOk result (AreRead drivers.now (name.now ∷ []) clock.old clock.new) }
+    ensures fault { IfErr result (λ fault. (fault ≡ FlatFault.Memory)
+        ⊎ (undriven_among drivers.now (name.now ∷ []) ≡ Some fault)) }
+{
+    let Some(place) = drivers.names.get_index_of(name) else {
+        return Err(FlatFault::Undriven { name: name.copy()? });
+    };
+    match sig_of_place(drivers, place) {
         Some(sig) => Ok(sig),
-        None => Err(FlatFault::ClockRead { name: name.copy()? }),
+        None => {
+            note(clock, name)?;
+            Ok(Sig(0))
+        }
     }
 }
 
-/// The signals of drivers that are read.
-fn read_all(alloc: Global, drivers: &Drivers, names: &[Name]) -> Result<Vec<Sig>, FlatFault>
+/// The signals of wires that are read, where the first clock is noted.
+fn read_all(
+    alloc: Global,
+    drivers: &Drivers,
+    names: &[Name],
+    clock: &mut Option<Name>,
+) -> Result<Vec<Sig>, FlatFault>
     requires { HasSignals drivers.now }
     ensures sigs { IfOk result (λ sigs. sigs.items ≡ map (sig_or drivers.now) names.now) }
-    ensures read { OnOk result (find (is_unread drivers.now) names.now ≡ None) }
+    ensures read { OnOk result (AreRead drivers.now names.now clock.old clock.new) }
     ensures fault { IfErr result (λ fault. (fault ≡ FlatFault.Memory)
-        ⊎ (option_map FlatFault.ClockRead (find (is_unread drivers.now) names.now) ≡ Some fault)) }
+        ⊎ (undriven_among drivers.now names.now ≡ Some fault)) }
 {
     let mut sigs = Vec::with_capacity(alloc, names.len())?;
     for name in names {
-        sigs.push(read(drivers, name)?)?;
+        sigs.push(read(drivers, name, clock)?)?;
     }
     Ok(sigs)
 }
@@ -299,16 +273,17 @@ fn flat_latches(
     alloc: Global,
     drivers: &Drivers,
     latches: &[LatchLine],
+    clock: &mut Option<Name>,
 ) -> Result<Vec<Latch>, FlatFault>
     requires { HasSignals drivers.now }
     ensures latches { IfOk result (λ flat. flat.items ≡ map (latch_with (sig_or drivers.now)) latches.now) }
-    ensures read { OnOk result (find (is_unread drivers.now) (map (λ l. l.from) latches.now) ≡ None) }
+    ensures read { OnOk result (AreRead drivers.now (map (λ l. l.from) latches.now) clock.old clock.new) }
     ensures fault { IfErr result (λ fault. (fault ≡ FlatFault.Memory)
-        ⊎ (option_map FlatFault.ClockRead (find (is_unread drivers.now) (map (λ l. l.from) latches.now)) ≡ Some fault)) }
+        ⊎ (undriven_among drivers.now (map (λ l. l.from) latches.now) ≡ Some fault)) }
 {
     let mut flat = Vec::with_capacity(alloc, latches.len())?;
     for latch in latches {
-        let from = read(drivers, &latch.from)?;
+        let from = read(drivers, &latch.from, clock)?;
         flat.push(Latch {
             name: latch.output.copy()?,
             from,
@@ -320,14 +295,19 @@ fn flat_latches(
 }
 
 /// The gate of a line, which hands its name and its cover over.
-fn flat_gate(alloc: Global, drivers: &Drivers, gate: GateLine) -> Result<Gate, FlatFault>
+fn flat_gate(
+    alloc: Global,
+    drivers: &Drivers,
+    gate: GateLine,
+    clock: &mut Option<Name>,
+) -> Result<Gate, FlatFault>
     requires { HasSignals drivers.now }
     ensures gate { IfOk result (λ flat. flat ≡ gate_with (sig_or drivers.now) gate) }
-    ensures read { OnOk result (find (is_unread drivers.now) gate.pins ≡ None) }
+    ensures read { OnOk result (AreRead drivers.now gate.pins clock.old clock.new) }
     ensures fault { IfErr result (λ fault. (fault ≡ FlatFault.Memory)
-        ⊎ (option_map FlatFault.ClockRead (find (is_unread drivers.now) gate.pins) ≡ Some fault)) }
+        ⊎ (undriven_among drivers.now gate.pins ≡ Some fault)) }
 {
-    let pins = Items::of(read_all(alloc, drivers, gate.pins.items())?);
+    let pins = Items::of(read_all(alloc, drivers, gate.pins.items(), clock)?);
     let (_, name, cover) = gate.into_parts();
     Ok(Gate { name, pins, cover })
 }
@@ -336,17 +316,17 @@ fn flat_gates(
     alloc: Global,
     drivers: &Drivers,
     gates: Vec<GateLine>,
+    clock: &mut Option<Name>,
 ) -> Result<Vec<Gate>, FlatFault>
     requires { HasSignals drivers.now }
     ensures gates { IfOk result (λ flat. flat.items ≡ map (gate_with (sig_or drivers.now)) gates.items) }
-    ensures read { OnOk result (find (is_unread drivers.now) (flat_map (λ g. g.pins) gates.items) ≡ None) }
+    ensures read { OnOk result (AreRead drivers.now (flat_map (λ g. g.pins) gates.items) clock.old clock.new) }
     ensures fault { IfErr result (λ fault. (fault ≡ FlatFault.Memory)
-        ⊎ (option_map FlatFault.ClockRead (find (is_unread drivers.now) (flat_map (λ g. g.pins) gates.items)) ≡ Some fault)) }
+        ⊎ (undriven_among drivers.now (flat_map (λ g. g.pins) gates.items) ≡ Some fault)) }
 {
     let mut flat = Vec::with_capacity(alloc, gates.len())?;
-    let mut remaining = Remaining::of(gates);
-    while let Some(gate) = remaining.next() {
-        flat.push(flat_gate(alloc, drivers, gate)?)?;
+    for gate in Remaining::of(gates) {
+        flat.push(flat_gate(alloc, drivers, gate, clock)?)?;
     }
     Ok(flat)
 }
@@ -409,31 +389,13 @@ fn drivers_of(alloc: Global, top: &BlifModel, lines: &FlatBody) -> Result<Driver
     })
 }
 
-/// That each wire that is read is driven, and that the controls are one clock of the top.
-fn check_lines(drivers: &Drivers, top: &BlifModel, lines: &FlatBody) -> Result<(), FlatFault>
-    requires { IsDriversOf top.now (lines_of lines.now) drivers.now }
-    ensures fits { OnOk result (option_or (undriven top.now (lines_of lines.now)) (bad_clock top.now (lines_of lines.now)) ≡ None) }
-    ensures fault { IfErr result (λ fault. (fault ≡ FlatFault.Memory)
-        ⊎ (option_or (undriven top.now (lines_of lines.now)) (bad_clock top.now (lines_of lines.now)) ≡ Some fault)) }
-{
-    if let Some(name) = first_undriven(&drivers.names, top, &lines.latches, &lines.gates) {
-        return Err(FlatFault::Undriven { name: name.copy()? });
-    }
-    if let Some(latch) = first_bad_clock(top, &lines.latches) {
-        return Err(FlatFault::BadClock {
-            name: latch.output.copy()?,
-        });
-    }
-    Ok(())
-}
-
 /// Parts with the top's name, inputs and clock, and nothing else yet.
-fn bare_parts(alloc: Global, top: &BlifModel, lines: &FlatBody) -> Result<Parts, AllocError>
-    ensures { IfOk result (λ parts. parts ≡ record { name = top.now.name; inputs = top.now.inputs; clock = first_control_by lines.now.latches.items; latches = []; gates = []; outputs = [] }) }
+fn bare_parts(alloc: Global, top: &BlifModel, latches: &[LatchLine]) -> Result<Parts, AllocError>
+    ensures { IfOk result (λ parts. parts ≡ record { name = top.now.name; inputs = top.now.inputs; clock = first_control_by latches.now; latches = []; gates = []; outputs = [] }) }
 {
     let name = top.name.copy()?;
     let inputs = Items::of(copy_names(alloc, top.inputs.items())?);
-    let clock = copy_control(&lines.latches)?;
+    let clock = copy_control(latches)?;
     Ok(Parts {
         name,
         inputs,
@@ -444,24 +406,47 @@ fn bare_parts(alloc: Global, top: &BlifModel, lines: &FlatBody) -> Result<Parts,
     })
 }
 
-/// The parts of the netlist: its signals are the inputs, the latches and the gates.
+/// The parts of the netlist: its signals are the inputs, the latches and the gates. Each wire that is read is looked
+/// up once, in the order of the reads, and the first clock among them is noted.
 fn parts_of(
     alloc: Global,
     drivers: &Drivers,
     top: &BlifModel,
-    lines: FlatBody,
+    latches: &[LatchLine],
+    gates: Vec<GateLine>,
+    clock: &mut Option<Name>,
 ) -> Result<Parts, FlatFault>
     requires { HasSignals drivers.now }
-    ensures parts { IfOk result (λ parts. parts ≡ netlist_by (sig_or drivers.now) top.now (lines_of lines)) }
-    ensures read { OnOk result (find (is_unread drivers.now) (reads top.now (lines_of lines)) ≡ None) }
-    ensures fault { IfErr result (λ fault. (fault ≡ FlatFault.Memory)
-        ⊎ (option_map FlatFault.ClockRead (find (is_unread drivers.now) (reads top.now (lines_of lines))) ≡ Some fault)) }
+    ensures parts { let lines : FlatLines = record { latches = latches.now; gates = gates.items } in
+        IfOk result (λ parts. parts ≡ netlist_by (sig_or drivers.now) top.now lines) }
+    ensures read { let lines : FlatLines = record { latches = latches.now; gates = gates.items } in
+        OnOk result (AreRead drivers.now (reads top.now lines) clock.old clock.new) }
+    ensures fault { let lines : FlatLines = record { latches = latches.now; gates = gates.items } in
+        IfErr result (λ fault. (fault ≡ FlatFault.Memory)
+        ⊎ (undriven_among drivers.now (reads top.now lines) ≡ Some fault)) }
 {
-    let mut parts = bare_parts(alloc, top, &lines)?;
-    parts.outputs = Items::of(read_all(alloc, drivers, top.outputs.items())?);
-    parts.latches = Items::of(flat_latches(alloc, drivers, &lines.latches)?);
-    parts.gates = Items::of(flat_gates(alloc, drivers, lines.into_gates())?);
+    let mut parts = bare_parts(alloc, top, latches)?;
+    parts.outputs = Items::of(read_all(alloc, drivers, top.outputs.items(), clock)?);
+    parts.latches = Items::of(flat_latches(alloc, drivers, latches, clock)?);
+    parts.gates = Items::of(flat_gates(alloc, drivers, gates, clock)?);
     Ok(parts)
+}
+
+/// That the controls are one clock of the top, and that no clock was read.
+fn check_clocks(top: &BlifModel, latches: &[LatchLine], read: Option<Name>) -> Result<(), FlatFault>
+    ensures fits { OnOk result (option_or (bad_clock_among top.now latches.now) (option_map FlatFault.ClockRead read) ≡ None) }
+    ensures fault { IfErr result (λ fault. (fault ≡ FlatFault.Memory)
+        ⊎ (option_or (bad_clock_among top.now latches.now) (option_map FlatFault.ClockRead read) ≡ Some fault)) }
+{
+    if let Some(latch) = first_bad_clock(top, latches) {
+        return Err(FlatFault::BadClock {
+            name: latch.output.copy()?,
+        });
+    }
+    match read {
+        Some(name) => Err(FlatFault::ClockRead { name }),
+        None => Ok(()),
+    }
 }
 
 /// The parts of the netlist of these lines, or their first fault.
@@ -473,6 +458,9 @@ pub(crate) fn link(alloc: Global, top: &BlifModel, lines: FlatBody) -> Result<Pa
         (λ fault. (fault ≡ FlatFault.Memory) ⊎ (linked top.now (lines_of lines) ≡ Err fault)) }
 {
     let drivers = drivers_of(alloc, top, &lines)?;
-    check_lines(&drivers, top, &lines)?;
-    Ok(parts_of(alloc, &drivers, top, lines)?)
+    let (latches, gates) = lines.into_lines();
+    let mut clock = None;
+    let parts = parts_of(alloc, &drivers, top, &latches, gates, &mut clock)?;
+    check_clocks(top, &latches, clock)?;
+    Ok(parts)
 }

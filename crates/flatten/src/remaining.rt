@@ -1,6 +1,6 @@
 //! Lists that are handed over item by item.
 
-ghost use Rattle.std.specs.Prelude.{◌≡◌, ◌∷◌, [], MatchOption};
+ghost use Rattle.std.specs.Prelude.{◌≡◌};
 
 use std::marker::Model;
 
@@ -31,11 +31,18 @@ impl<T: Drop> Remaining<T> {
         left.reverse();
         Remaining { left }
     }
+}
 
-    /// Hands the next item over.
-    pub(crate) fn next(&mut self) -> Option<T>
-        ensures { MatchOption result (self.old ≡ []) (λ item. self.old ≡ item ∷ self.new) }
-    {
+impl<T: Drop> Iterator for Remaining<T> {
+    ghost use Rattle.std.specs.Iterator.{YieldsFirst, item_count};
+
+    type Item = T;
+
+    ghost next_gives = { YieldsFirst (λ left. left) };
+
+    ghost remaining = { item_count (λ left. left) };
+
+    fn next(&mut self) -> Option<T> {
         if self.left.len() % GIVEN_BACK == 0 {
             self.left.shrink_to_fit();
         }

@@ -251,11 +251,12 @@ impl Drop for FlatBody {
 }
 
 impl FlatBody {
-    pub(crate) fn into_gates(self) -> Vec<GateLine>
-        ensures { result ≡ self.gates }
+    /// The latches and the gates, handed over.
+    pub(crate) fn into_lines(self) -> (Vec<LatchLine>, Vec<GateLine>)
+        ensures { result ≡ (self.latches, self.gates) }
     {
-        let FlatBody { latches: _, gates } = self;
-        gates
+        let FlatBody { latches, gates } = self;
+        (latches, gates)
     }
 }
 

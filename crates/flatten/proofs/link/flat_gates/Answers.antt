@@ -1,24 +1,25 @@
-use Rattle.std.proofs.Common.{◌++◌, [], ◌∷◌, inl, inr, ⊎_elim, map, sym, ap, ◌∙◌, append_assoc, option_map}
+use Rattle.std.proofs.Common.{◌++◌, [], ◌∷◌, inl, inr, ⊎_elim, ℕ, List, map, subst, sym, ap, ◌∙◌, append_assoc}
 use Rattle.std.proofs.lemmas.Result.{err_from_is_err_and}
-use Rattle.std.specs.List.{find}
-use Rattle.flatten.specs.declared.fault.FlatFault.TheVariants.{ClockRead}
+use Rattle.std.specs.List.{flat_map}
+use Rattle.blif_read.specs.declared.models.GateLine.{GateLine}
 use Rattle.flatten.specs.Linking.{gate_with}
-use Rattle.flatten.specs.Drivers.{sig_or, is_unread}
-use Rattle.flatten.proofs.Gathering.{find_next, none_or_is, some_first}
+use Rattle.flatten.specs.Drivers.{sig_or}
+use Rattle.flatten.proofs.Reading.{IsLeft, fewer_left, fault_left, none_left}
 use Rattle.flatten.proofs.link.flat_gates.Goals as goal
+
+abbrev pins : List GateLine → List (List ℕ)
+pins gates = flat_map (λ g. g.pins) gates
 
 pub returns-in_err-flat_gate-clause-fault : goal.returns-in_err-flat_gate-clause-fault
 returns-in_err-flat_gate-clause-fault c =
-    let p = is_unread c.args.drivers.now in
-    let gate = c.in-Some.gate in
     let q = err_from_is_err_and c.from_residual-in_err-flat_gate.result c.from_residual-in_err-flat_gate.ensures.1 in
     rw (q.1, q.2)
     (⊎_elim
     (λ m. inl m)
     (λ h.
     inr
-    (ap (λ o. option_map ClockRead o) (sym c.loop-gate.invariant.read ∙ find_next p gate c.next.new.self c.loop-gate.remaining c.in-Some.ensures)
-    ∙ some_first ClockRead (find p gate.pins) _ c.in_err-flat_gate.field-0.0 h))
+    (fault_left c.args.drivers.now (pins c.args.gates.items) (pins c.loop-gate.gate-iterator) c.in-Some.gate.pins (pins c.next.new.self)
+    c.args.clock.now c.loop-gate.clock c.in_err-flat_gate.field-0.0 (ap pins c.in-Some.ensures.steps) c.loop-gate.invariant.left h))
     c.in_err-flat_gate.ensures.fault)
 
 pub loop-gate-preserved : goal.loop-gate-preserved
@@ -31,7 +32,15 @@ loop-gate-preserved c =
       flat =
           ap (λ gates. gates ++ map (gate_with (sig_or d)) rest) (c.in_ok-push.ensures.items ∙ ap (λ g. before ++ g ∷ []) c.in_ok-flat_gate.ensures.gate)
           ∙ append_assoc before (gate_with (sig_or d) gate ∷ []) (map (gate_with (sig_or d)) rest)
-          ∙ ap (λ gates. before ++ map (gate_with (sig_or d)) gates) (sym c.in-Some.ensures)
+          ∙ ap (λ gates. before ++ map (gate_with (sig_or d)) gates) (sym c.in-Some.ensures.steps)
           ∙ c.loop-gate.invariant.flat;
-      read = sym (find_next (is_unread d) gate rest c.loop-gate.remaining c.in-Some.ensures ∙ none_or_is _ _ c.in_ok-flat_gate.ensures.read) ∙ c.loop-gate.invariant.read;
+      left =
+          fewer_left d (pins c.args.gates.items) (pins c.loop-gate.gate-iterator) gate.pins (pins rest)
+          c.args.clock.now c.loop-gate.clock c.flat_gate.new.clock (ap pins c.in-Some.ensures.steps) c.loop-gate.invariant.left c.in_ok-flat_gate.ensures.read;
     }
+
+pub returns-clause-read : goal.returns-clause-read
+returns-clause-read c =
+    let d = c.args.drivers.now in
+    none_left d (pins c.args.gates.items) c.args.clock.now c.loop-gate.clock
+    (subst (λ (gates : List GateLine). IsLeft d (pins c.args.gates.items) (pins gates) c.args.clock.now c.loop-gate.clock) c.in-None.ensures.steps.0 c.loop-gate.invariant.left)

@@ -1,56 +1,60 @@
-use Rattle.std.proofs.Common.{◌≡◌, inl, inr, ⊎_elim, map, sym, ap, ◌∙◌, None, option_map}
+use Rattle.std.proofs.Common.{◌≡◌, ◌++◌, subst, inl, inr, ⊎_elim, ℕ, List, map, sym, ap, ◌∙◌, None}
 use Rattle.std.proofs.lemmas.Result.{err_from_is_err_and}
-use Rattle.std.specs.List.{find, flat_map}
+use Rattle.std.specs.List.{flat_map}
 use Rattle.blif_read.specs.declared.models.GateLine.{GateLine}
 use Rattle.blif_read.specs.declared.models.LatchLine.{LatchLine}
-use Rattle.flatten.specs.declared.fault.FlatFault.TheVariants.{ClockRead}
-use Rattle.flatten.specs.Drivers.{is_unread}
-use Rattle.flatten.proofs.Gathering.{find_reads, some_first, none_or_is}
+use Rattle.flatten.specs.Drivers.{undriven_among, AreRead}
+use Rattle.flatten.proofs.Reading.{undriven_front, undriven_behind, read_both}
 use Rattle.flatten.proofs.link.parts_of.Goals as goal
+
+abbrev sources : List LatchLine → List (List ℕ)
+sources latches = map (λ l. l.from) latches
+
+abbrev pins : List GateLine → List (List ℕ)
+pins gates = flat_map (λ g. g.pins) gates
 
 pub returns-in_err-read_all-clause-fault : goal.returns-in_err-read_all-clause-fault
 returns-in_err-read_all-clause-fault c =
-    let p = is_unread c.args.drivers.now in
-    let e = find_reads p c.args.top.now.outputs (map (λ (l : LatchLine). l.from) c.args.lines.latches.items) (flat_map (λ (g : GateLine). g.pins) c.args.lines.gates.items) in
+    let d = c.args.drivers.now in
     let q = err_from_is_err_and c.from_residual-in_err-read_all.result c.from_residual-in_err-read_all.ensures.1 in
     rw (q.1, q.2)
     (⊎_elim
     (λ m. inl m)
-    (λ h. inr (ap (λ o. option_map ClockRead o) e ∙ some_first ClockRead (find p c.args.top.now.outputs) _ c.in_err-read_all.field-0.0 (ap (λ ns. option_map ClockRead (find p ns)) (sym c.items.ensures) ∙ h)))
+    (λ h. inr (undriven_front d c.args.top.now.outputs (sources c.args.latches.now ++ pins c.args.gates.items) c.in_err-read_all.field-0.0 (ap (undriven_among d) (sym c.items.ensures) ∙ h)))
     c.in_err-read_all.ensures.fault)
 
 pub returns-in_err-flat_latches-clause-fault : goal.returns-in_err-flat_latches-clause-fault
 returns-in_err-flat_latches-clause-fault c =
-    let p = is_unread c.args.drivers.now in
-    let e = find_reads p c.args.top.now.outputs (map (λ (l : LatchLine). l.from) c.args.lines.latches.items) (flat_map (λ (g : GateLine). g.pins) c.args.lines.gates.items) in
-    let n : find p c.args.top.now.outputs ≡ None = ap (λ ns. find p ns) (sym c.items.ensures) ∙ c.in_ok-read_all.ensures.read in
+    let d = c.args.drivers.now in
+    let outputs : undriven_among d c.args.top.now.outputs ≡ None = ap (undriven_among d) (sym c.items.ensures) ∙ c.in_ok-read_all.ensures.read.driven in
     let q = err_from_is_err_and c.from_residual-in_err-flat_latches.result c.from_residual-in_err-flat_latches.ensures.1 in
     rw (q.1, q.2)
     (⊎_elim
     (λ m. inl m)
     (λ h.
     inr
-    (ap (λ o. option_map ClockRead o) (e ∙ none_or_is _ _ n)
-    ∙ some_first ClockRead (find p (map (λ (l : LatchLine). l.from) c.args.lines.latches.items)) _ c.in_err-flat_latches.field-0.0 (ap (λ ls. option_map ClockRead (find p (map (λ (l : LatchLine). l.from) ls))) (sym c.deref.ensures.value) ∙ h)))
+    (undriven_behind d c.args.top.now.outputs (sources c.args.latches.now ++ pins c.args.gates.items) outputs
+    ∙ undriven_front d (sources c.args.latches.now) (pins c.args.gates.items) c.in_err-flat_latches.field-0.0 h))
     c.in_err-flat_latches.ensures.fault)
 
 pub returns-in_err-flat_gates-clause-fault : goal.returns-in_err-flat_gates-clause-fault
 returns-in_err-flat_gates-clause-fault c =
-    let p = is_unread c.args.drivers.now in
-    let e = find_reads p c.args.top.now.outputs (map (λ (l : LatchLine). l.from) c.args.lines.latches.items) (flat_map (λ (g : GateLine). g.pins) c.args.lines.gates.items) in
-    let n : find p c.args.top.now.outputs ≡ None = ap (λ ns. find p ns) (sym c.items.ensures) ∙ c.in_ok-read_all.ensures.read in
-    let m : find p (map (λ (l : LatchLine). l.from) c.args.lines.latches.items) ≡ None = ap (λ ls. find p (map (λ (l : LatchLine). l.from) ls)) (sym c.deref.ensures.value) ∙ c.in_ok-flat_latches.ensures.read in
+    let d = c.args.drivers.now in
+    let outputs : undriven_among d c.args.top.now.outputs ≡ None = ap (undriven_among d) (sym c.items.ensures) ∙ c.in_ok-read_all.ensures.read.driven in
     let q = err_from_is_err_and c.from_residual-in_err-flat_gates.result c.from_residual-in_err-flat_gates.ensures.1 in
     rw (q.1, q.2)
     (⊎_elim
-    (λ x. inl x)
-    (λ h. inr (ap (λ o. option_map ClockRead o) (e ∙ none_or_is _ _ n ∙ none_or_is _ _ m) ∙ ap (λ gs. option_map ClockRead (find p (flat_map (λ (g : GateLine). g.pins) gs.items))) (sym c.into_gates.ensures) ∙ h))
+    (λ m. inl m)
+    (λ h.
+    inr
+    (undriven_behind d c.args.top.now.outputs (sources c.args.latches.now ++ pins c.args.gates.items) outputs
+    ∙ undriven_behind d (sources c.args.latches.now) (pins c.args.gates.items) c.in_ok-flat_latches.ensures.read.driven
+    ∙ h))
     c.in_err-flat_gates.ensures.fault)
 
 pub returns-clause-read : goal.returns-clause-read
 returns-clause-read c =
-    let p = is_unread c.args.drivers.now in
-    let e = find_reads p c.args.top.now.outputs (map (λ (l : LatchLine). l.from) c.args.lines.latches.items) (flat_map (λ (g : GateLine). g.pins) c.args.lines.gates.items) in
-    let n : find p c.args.top.now.outputs ≡ None = ap (λ ns. find p ns) (sym c.items.ensures) ∙ c.in_ok-read_all.ensures.read in
-    let m : find p (map (λ (l : LatchLine). l.from) c.args.lines.latches.items) ≡ None = ap (λ ls. find p (map (λ (l : LatchLine). l.from) ls)) (sym c.deref.ensures.value) ∙ c.in_ok-flat_latches.ensures.read in
-    e ∙ none_or_is _ _ n ∙ none_or_is _ _ m ∙ ap (λ gs. find p (flat_map (λ (g : GateLine). g.pins) gs.items)) (sym c.into_gates.ensures) ∙ c.in_ok-flat_gates.ensures.read
+    let d = c.args.drivers.now in
+    let outputs = subst (λ (ns : List (List ℕ)). AreRead d ns c.args.clock.now c.read_all.new.clock) c.items.ensures c.in_ok-read_all.ensures.read in
+    let behind = read_both d (sources c.args.latches.now) (pins c.args.gates.items) c.read_all.new.clock c.flat_latches.new.clock c.flat_gates.new.clock c.in_ok-flat_latches.ensures.read c.in_ok-flat_gates.ensures.read in
+    read_both d c.args.top.now.outputs (sources c.args.latches.now ++ pins c.args.gates.items) c.args.clock.now c.read_all.new.clock c.flat_gates.new.clock outputs behind

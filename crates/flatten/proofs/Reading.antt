@@ -1,0 +1,70 @@
+-- Wires are read one after another: what was found in some of them, and in those that are left.
+use Rattle.std.proofs.Common.{◌≡◌, ℕ, Bool, not, List, [], ◌++◌, refl, sym, ap, ◌∙◌, Some, None, option_map}
+use Rattle.std.proofs.lemmas.List.Folds.{find-append}
+use Rattle.std.specs.List.{find}
+use Rattle.std.specs.Option.{option_or}
+use Rattle.std.specs.declared.option.Option.{Option}
+use Rattle.flatten.specs.declared.fault.FlatFault.{FlatFault}
+use Rattle.flatten.specs.declared.fault.FlatFault.TheVariants.{Undriven}
+use Rattle.flatten.specs.declared.link.Drivers.{Drivers as DriverTable}
+use Rattle.flatten.specs.Instances.{is_among}
+use Rattle.flatten.specs.Drivers.{undriven_among, is_unread, AreRead}
+use Rattle.flatten.proofs.Gathering.{some_or, none_or_is}
+
+or_none : {X : Type 0} (o : Option X) → option_or o None ≡ o
+or_none None = refl
+or_none (Some x) = refl
+
+or_both : {X : Type 0} (o p q : Option X) → option_or (option_or o p) q ≡ option_or o (option_or p q)
+or_both None p q = refl
+or_both (Some x) p q = refl
+
+map_or : {X Y : Type 0} (f : X → Y) (o p : Option X) → option_map f (option_or o p) ≡ option_or (option_map f o) (option_map f p)
+map_or f None p = refl
+map_or f (Some x) p = refl
+
+-- of all these names, those that are left come to what all come to
+pub record IsLeft (table : DriverTable) (all left : List (List ℕ)) (before now : Option (List ℕ)) : Type 0 where
+  pub driven : undriven_among table left ≡ undriven_among table all
+  pub clock : option_or now (find (is_unread table) left) ≡ option_or before (find (is_unread table) all)
+
+module _ (table : DriverTable) where
+  undriven-append : (xs ys : List (List ℕ)) → undriven_among table (xs ++ ys) ≡ option_or (undriven_among table xs) (undriven_among table ys)
+  undriven-append xs ys =
+      let missing : List ℕ → Bool = λ name. not (is_among table.names.keys name) in
+      ap (λ o. option_map Undriven o) (find-append missing xs ys) ∙ map_or Undriven (find missing xs) (find missing ys)
+
+  -- in two parts
+  pub undriven_front : (xs ys : List (List ℕ)) (fault : FlatFault) → undriven_among table xs ≡ Some fault → undriven_among table (xs ++ ys) ≡ Some fault
+  undriven_front xs ys fault e = undriven-append xs ys ∙ some_or (undriven_among table xs) (undriven_among table ys) fault e
+
+  pub undriven_behind : (xs ys : List (List ℕ)) → undriven_among table xs ≡ None → undriven_among table (xs ++ ys) ≡ undriven_among table ys
+  undriven_behind xs ys e = undriven-append xs ys ∙ none_or_is (undriven_among table xs) (undriven_among table ys) e
+
+  clock_behind : (xs ys : List (List ℕ)) (m n : Option (List ℕ)) → n ≡ option_or m (find (is_unread table) xs) → option_or n (find (is_unread table) ys) ≡ option_or m (find (is_unread table) (xs ++ ys))
+  clock_behind xs ys m n e =
+      ap (λ o. option_or o (find (is_unread table) ys)) e
+      ∙ or_both m (find (is_unread table) xs) (find (is_unread table) ys)
+      ∙ ap (λ o. option_or m o) (sym (find-append (is_unread table) xs ys))
+
+  pub read_both : (xs ys : List (List ℕ)) (before m after : Option (List ℕ)) → AreRead table xs before m → AreRead table ys m after → AreRead table (xs ++ ys) before after
+  read_both xs ys before m after front behind = record {
+    driven = undriven_behind xs ys front.driven ∙ behind.driven;
+    clock = behind.clock ∙ clock_behind xs ys before m front.clock;
+  }
+
+  -- in a loop: at first, behind some more, at the first fault, and in the end
+  pub all_left : (all : List (List ℕ)) (before : Option (List ℕ)) → IsLeft table all all before before
+  all_left all before = record { driven = refl; clock = refl }
+
+  pub fewer_left : (all here xs left : List (List ℕ)) (before m n : Option (List ℕ)) → here ≡ xs ++ left → IsLeft table all here before m → AreRead table xs m n → IsLeft table all left before n
+  fewer_left all here xs left before m n is old read = record {
+    driven = sym (undriven_behind xs left read.driven) ∙ ap (undriven_among table) (sym is) ∙ old.driven;
+    clock = clock_behind xs left m n read.clock ∙ ap (λ ns. option_or m (find (is_unread table) ns)) (sym is) ∙ old.clock;
+  }
+
+  pub fault_left : (all here xs left : List (List ℕ)) (before m : Option (List ℕ)) (fault : FlatFault) → here ≡ xs ++ left → IsLeft table all here before m → undriven_among table xs ≡ Some fault → undriven_among table all ≡ Some fault
+  fault_left all here xs left before m fault is old e = sym old.driven ∙ ap (undriven_among table) is ∙ undriven_front xs left fault e
+
+  pub none_left : (all : List (List ℕ)) (before after : Option (List ℕ)) → IsLeft table all [] before after → AreRead table all before after
+  none_left all before after old = record { driven = sym old.driven; clock = sym (or_none after) ∙ old.clock }
