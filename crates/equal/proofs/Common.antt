@@ -32,7 +32,8 @@ pub use Rattle.std.proofs.lemmas.List.FromFn.{get_or-map-range_with_len, get_or-
 pub use Rattle.std.proofs.lemmas.List.Quantifiers.{position-Some}
 pub use Rattle.std.proofs.lemmas.Option.{get_or_from_slice_get, slice_get_within}
 pub use Rattle.std.proofs.lemmas.Simd.{map-map}
-pub use Rattle.std.specs.List.{IsDistinct, list_any, range_with_len}
+pub use Rattle.std.specs.List.{list_any, range_with_len}
+unfoldable pub use Rattle.std.specs.List.{IsDistinct}
 pub use Rattle.std.specs.Option.{option_map_or, option_or}
 pub use Rattle.std.specs.Prelude.{Err, IfOk, Result, find, option_map}
 pub use Rattle.std.specs.Str.{bytes_eq}

@@ -6,7 +6,7 @@ pub use Rattle.bdd_store.proofs.SubfunctionLemmas.{nodes-alike}
 pub use Rattle.bdd_store.specs.Arena.{Arena, IsNodeOf, den}
 pub use Rattle.bdd_store.specs.Growth.{AddsWithin, GrowsWithin, KeepsNodes, NoOtherCause}
 pub use Rattle.bdd_store.specs.Soundness.{IsLawful}
-pub use Rattle.bdd_store.specs.Subfunctions.{nodes}
+unfoldable pub use Rattle.bdd_store.specs.Subfunctions.{nodes}
 pub use Rattle.bdd_store.specs.declared.fault.StoreFault.{StoreFault}
 pub use Rattle.bdd_store.specs.declared.node.Node.{Node}
 pub use Rattle.care_sets.specs.Binding.{IsCareOf}

@@ -17,13 +17,29 @@ use Rattle.fixpoint.specs.declared.solved.SweptLoop.{SweptLoop}
 use Rattle.fixpoint.specs.declared.solved.Solved.{Solved}
 use Rattle.fixpoint.specs.Solved.{AreStepsOf, AreKeptSteps, step_at, loop_under}
 use Rattle.fixpoint.specs.Counts.{IsStepNode, IsComparedIn}
+use Rattle.fixpoint.specs.Working.{IsGatePart}
 use Rattle.fixpoint.proofs.WorkLemmas.{sweeps_are_working, gate_parts_agree}
 use Rattle.verdict.specs.Enough.{IsColumn, IsOfNetlist}
 use Rattle.isolation.proofs.SettlingLemmas.{loops-are}
-use Rattle.isolation.proofs.WidthLemmas.{part-at}
 use Rattle.verdict.proofs.DecisionLemmas.{IsMade, made-listed, made-told, made-wide}
 
 -- ---- the working list on columns
+
+-- a function that a gate works with, of other vectors
+part-at : (net : Parts) (loops : Loops) (v : Vectors) (g : List Bool → Bool) → IsGatePart net loops v g → (f : List Bool → List Bool) → IsGatePart net loops (λ x. v (f x)) (λ x. g (f x))
+part-at net loops v g part f = record {
+  gate = part.gate;
+  within = part.within;
+  first = part.first;
+  short = part.short;
+  bit = part.bit;
+  read = λ x. part.read (f x);
+  reads = elim part.reads [
+    | inl r ↦ inl (record { looped = r.looped; sweep = r.sweep; few = r.few; is = λ x. r.is (f x) })
+    | inr r ↦ inr (record { plain = r.plain; is = λ x. r.is (f x) })
+  ];
+  same = λ x. part.same (f x);
+}
 
 module _ (net : Parts) (care : CareSet) (a : Arena) (vars : a.vars ≡ columns net) (points : Vectors) (points_are : AreColumnVectors net points) where
   working-made : (g : List Bool → Bool) → IsWorking net (loops_of net) points g → IsMade net care g
