@@ -1,27 +1,14 @@
--- The longest run of `~` of a list of names is found piece by piece.
-use Rattle.std.proofs.Common.{◌≡◌, ℕ, ◌+◌, ◌<◌, ◌≤◌, max, List, [], ◌∷◌, ◌++◌, length, get_or, take, drop, refl, sym, ap, ◌∙◌, arith, add-one, zero, suc, false, nat_eq, replicate, if◌then◌else◌}
-use Rattle.std.proofs.Math.Seq.{drop-cons}
-use Rattle.std.proofs.lemmas.Grind.{common_steps, flat_map-append}
+-- The longest run of `~` in the names of a file is found piece by piece.
+use Rattle.std.proofs.Common.{◌≡◌, ℕ, ◌+◌, ◌<◌, max, List, [], ◌∷◌, ◌++◌, length, get_or, take, ap, ◌∙◌, arith}
+use Rattle.std.proofs.lemmas.Grind.{flat_map-append}
 use Rattle.std.proofs.lemmas.List.{append-nil}
 use Rattle.std.specs.List.{flat_map}
-use Rattle.std.specs.Ordering.{ord_max, nat_cmp}
 use Rattle.blif_read.specs.declared.models.BlifModel.{BlifModel}
 use Rattle.blif_read.specs.declared.models.Item.{Item}
-use Rattle.flatten.specs.Wires.{leading_run, longest_run, longest_run_of, item_names, model_names, pair_names, tildes}
+use Rattle.tildes.specs.Runs.{longest_run, longest_run_of}
+use Rattle.tildes.proofs.RunLemmas.{longest-append}
+use Rattle.flatten.specs.Wires.{item_names, model_names, pair_names}
 use Rattle.flatten.proofs.Names.{taken}
-
--- `max` of the code
-pub max_is : (a b : ℕ) → ord_max nat_cmp a b ≡ max a b
-max_is a b = grind (arith, common_steps)
-
-pub longest-append : (xs ys : List (List ℕ)) → longest_run_of (xs ++ ys) ≡ max (longest_run_of xs) (longest_run_of ys)
-longest-append [] ys = omega arith
-longest-append (x ∷ xs) ys = let h = longest-append xs ys in omega arith
-
-pub longest_taken : (names : List (List ℕ)) (i : ℕ) (name : List ℕ) → i < length names → name ≡ get_or names i name → longest_run_of (take (i + 1) names) ≡ max (longest_run_of (take i names)) (longest_run name)
-longest_taken names i name l e =
-    let h = ap longest_run_of (taken names i name l e) ∙ longest-append (take i names) (name ∷ []) in
-    omega arith
 
 more : {A : Type 0} (f : A → List (List ℕ)) (xs : List A) (x : A) → longest_run_of (flat_map f (xs ++ x ∷ [])) ≡ max (longest_run_of (flat_map f xs)) (longest_run_of (f x))
 more f xs x =
@@ -46,37 +33,3 @@ longest_model a b c d =
     let i = longest-append b (c ++ d) in
     let j = longest-append c d in
     omega arith
-
-pub leading_longest : (a : List ℕ) → leading_run a ≤ longest_run a
-leading_longest [] = omega arith
-leading_longest (x ∷ a) = omega arith
-
--- one more byte of a name, where `run` counts the `~` that end just before it
-pub run_goes_on : (xs : List ℕ) (i longest run total : ℕ) → i < length xs → get_or xs i 0 ≡ 126 → max longest (max (run + leading_run (drop i xs)) (longest_run (drop i xs))) ≡ total → max (max longest (run + 1)) (max ((run + 1) + leading_run (drop (i + 1) xs)) (longest_run (drop (i + 1) xs))) ≡ total
-run_goes_on xs i longest run total l h e =
-    let d : drop i xs ≡ 126 ∷ drop (i + 1) xs = rw add-one (drop-cons xs i 0 l ∙ ap (λ y. y ∷ drop (suc i) xs) h) in
-    let f : max longest (max (run + leading_run (126 ∷ drop (i + 1) xs)) (longest_run (126 ∷ drop (i + 1) xs))) ≡ total = ap (λ ys. max longest (max (run + leading_run ys) (longest_run ys))) (sym d) ∙ e in
-    let g = leading_longest (drop (i + 1) xs) in
-    omega arith
-
-other_byte : (b : ℕ) (rest : List ℕ) → nat_eq b 126 ≡ false → (leading_run (b ∷ rest) ≡ 0) × (longest_run (b ∷ rest) ≡ longest_run rest)
-other_byte b rest h =
-    let e : leading_run (b ∷ rest) ≡ 0 = ap (λ t. if t then suc (leading_run rest) else 0) h in
-    (e, let f : longest_run (b ∷ rest) ≡ max (leading_run (b ∷ rest)) (longest_run rest) = refl in omega arith)
-
-pub run_ends : (xs : List ℕ) (i longest run total : ℕ) → i < length xs → (get_or xs i 0 ≡ 126 → ⊥) → run ≤ longest → max longest (max (run + leading_run (drop i xs)) (longest_run (drop i xs))) ≡ total → max (max longest 0) (max (0 + leading_run (drop (i + 1) xs)) (longest_run (drop (i + 1) xs))) ≡ total
-run_ends xs i longest run total l h m e =
-    let d : drop i xs ≡ get_or xs i 0 ∷ drop (i + 1) xs = rw add-one (drop-cons xs i 0 l) in
-    let t : nat_eq (get_or xs i 0) 126 ≡ false = grind (arith, common_steps) in
-    let o = other_byte (get_or xs i 0) (drop (i + 1) xs) t in
-    let f : max longest (max (run + leading_run (get_or xs i 0 ∷ drop (i + 1) xs)) (longest_run (get_or xs i 0 ∷ drop (i + 1) xs))) ≡ total = ap (λ ys. max longest (max (run + leading_run ys) (longest_run ys))) (sym d) ∙ e in
-    let g = leading_longest (drop (i + 1) xs) in
-    omega (arith, o.0, o.1, f)
-
-pub tildes_push : (n : ℕ) → tildes n ++ 126 ∷ [] ≡ 126 ∷ tildes n
-tildes_push zero = refl
-tildes_push (suc n) = ap (λ ts. 126 ∷ ts) (tildes_push n)
-
-pub tildes_all : (n : ℕ) → replicate n 126 ≡ tildes n
-tildes_all zero = refl
-tildes_all (suc n) = ap (λ ts. 126 ∷ ts) (tildes_all n)

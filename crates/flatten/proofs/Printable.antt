@@ -1,13 +1,13 @@
 -- What the walk prints may stand in a BLIF text, and each gate has as many pins as its cover.
-use Rattle.std.proofs.Common.{◌≡◌, ℕ, zero, suc, ◌+◌, ◌<◌, ◌≤◌, ◌^◌, Bool, true, false, List, [], ◌∷◌, ◌++◌, length, drop, sym, ◌∙◌, subst, arith, cond, get_or, All, Some, None}
+use Rattle.std.proofs.Common.{◌≡◌, ℕ, zero, suc, ◌+◌, ◌<◌, Bool, true, false, List, [], ◌∷◌, ◌++◌, length, drop, sym, ◌∙◌, subst, arith, cond, All, Some, None}
 use Rattle.std.proofs.lemmas.List.{length-map}
 use Rattle.std.proofs.lemmas.List.Elements.{All-nil, All-cons, All-head, All-tail, All-append, All-push}
-use Rattle.std.proofs.lemmas.Fmt.{decimal_is_IsNumeral}
-use Rattle.std.proofs.lemmas.Str.Parse.{digit_at}
 use Rattle.std.specs.Fmt.{decimal}
 use Rattle.std.specs.Str.{bytes_eq}
 use Rattle.std.specs.declared.option.Option.{Option}
 use Rattle.cyc_base.specs.Names.{IsBlifByte, IsBlifName}
+use Rattle.tildes.specs.Runs.{tildes}
+use Rattle.tildes.proofs.BlifLemmas.{tildes_fit, decimal_fits}
 use Rattle.blif_read.specs.Flattening.{IsSoundItem, IsSoundModel, CanBeFlattened}
 use Rattle.blif_read.specs.declared.models.BlifModel.{BlifModel}
 use Rattle.blif_read.specs.declared.models.GateLine.{GateLine}
@@ -17,25 +17,11 @@ use Rattle.blif_read.specs.declared.models.Item.{Item}
 use Rattle.blif_read.specs.declared.models.Item.TheVariants.{Gate, Latch, Part}
 use Rattle.flatten.specs.declared.walk.Level.{Level}
 use Rattle.flatten.specs.declared.walk.Walk.{Walk}
-use Rattle.flatten.specs.Wires.{tildes}
 use Rattle.flatten.specs.Paths.{actual_of}
 use Rattle.flatten.specs.Instances.{model_at}
 use Rattle.flatten.specs.Laws.{resolved, bound}
 use Rattle.flatten.specs.Levels.{gate_by, latch_by, passed_line, passed_part, PassesGate, PassesLatch, PassesPart, IsBegun}
 use Rattle.flatten.specs.Printable.{IsPrintedGate, IsPrintedLatch, IsPrintedPair, IsPrintedLevel, IsPrinted}
-
-tildes_fit : (n : ℕ) → All IsBlifByte (tildes n)
-tildes_fit zero = All-nil IsBlifByte
-tildes_fit (suc n) = All-cons IsBlifByte 126 (tildes n) (omega arith, omega arith, λ e. absurd (omega arith)) (tildes_fit n)
-
-from_digits : (d : List ℕ) → ((k : ℕ) → k < length d → (48 ≤ get_or d k 0) × (get_or d k 0 ≤ 57)) → All IsBlifByte d
-from_digits [] h = All-nil IsBlifByte
-from_digits (x ∷ d) h =
-    let a = h 0 (omega arith) in
-    All-cons IsBlifByte x d (omega (arith, a.0), omega (arith, a.1), λ e. absurd (omega (arith, a.0, e))) (from_digits d (λ k l. h (suc k) (omega arith)))
-
-decimal_fits : (n : ℕ) → n < 2 ^ 64 → All IsBlifByte (decimal n)
-decimal_fits n h = from_digits (decimal n) (λ k l. digit_at (decimal n) k ((decimal_is_IsNumeral n h).0.1) l)
 
 append_name : (prefix name : List ℕ) → All IsBlifByte prefix → IsBlifName name → IsBlifName (prefix ++ name)
 append_name [] name p n = n

@@ -1,13 +1,13 @@
 -- What is true of all that the walk prints.
 use Rattle.std.specs.Prelude.{◌≡◌, ℕ, List, length, All}
 use Rattle.cyc_base.specs.Names.{IsBlifByte, IsBlifName}
+use Rattle.tildes.specs.Runs.{tildes}
 use Rattle.blif_read.specs.Flattening.{CanBeFlattened}
 use Rattle.blif_read.specs.declared.models.BlifModel.{BlifModel}
 use Rattle.blif_read.specs.declared.models.GateLine.{GateLine}
 use Rattle.blif_read.specs.declared.models.LatchLine.{LatchLine}
 use Rattle.flatten.specs.declared.walk.Level.{Level}
 use Rattle.flatten.specs.declared.walk.Walk.{Walk}
-use Rattle.flatten.specs.Wires.{tildes}
 use Rattle.flatten.specs.Walk.{FlatLines}
 
 -- a gate with a BLIF name and as many pins as its cover

@@ -1,8 +1,9 @@
 -- Wires of a hierarchy, and the names that they have in the flat netlist.
-use Rattle.std.specs.Prelude.{◌==◌, ℕ, zero, suc, max, List, [], ◌∷◌, ◌++◌, if◌then◌else◌, Some, None}
+use Rattle.std.specs.Prelude.{ℕ, suc, List, [], ◌∷◌, ◌++◌, Some, None}
 use Rattle.std.specs.declared.option.Option.{Option}
 use Rattle.std.specs.List.{flat_map}
 use Rattle.std.specs.Fmt.{decimal}
+use Rattle.tildes.specs.Runs.{longest_run_of, tildes}
 use Rattle.netlist.specs.declared.parts.Clock.{Clock}
 use Rattle.blif_read.specs.declared.models.BlifModel.{BlifModel}
 use Rattle.blif_read.specs.declared.models.Item.{Item}
@@ -12,24 +13,6 @@ use Rattle.blif_read.specs.declared.models.Item.TheVariants.{Gate, Latch, Part}
 pub record Wire : Type 0 where
   pub path : List ℕ
   pub name : List ℕ
-
--- how many `~` a text begins with
-abbrev pub leading_run : List ℕ → ℕ
-leading_run [] = 0
-leading_run (c ∷ rest) = if c == 126 then suc (leading_run rest) else 0
-
--- the longest run of `~` in a text, and in any of these texts
-abbrev pub longest_run : List ℕ → ℕ
-longest_run [] = 0
-longest_run (c ∷ rest) = max (leading_run (c ∷ rest)) (longest_run rest)
-
-abbrev pub longest_run_of : List (List ℕ) → ℕ
-longest_run_of [] = 0
-longest_run_of (name ∷ names) = max (longest_run name) (longest_run_of names)
-
-abbrev pub tildes : ℕ → List ℕ
-tildes zero = []
-tildes (suc n) = 126 ∷ tildes n
 
 -- a run of `~` longer by one than the longest in any of these names
 abbrev pub mark : List (List ℕ) → List ℕ

@@ -1,25 +1,13 @@
-ghost use Rattle.std.specs.Prelude.{◌≡◌, max, IfOk};
-ghost use Rattle.flatten.specs.Wires.{longest_run as longest_run_by, longest_run_of, pair_names, item_names, model_names, wire_names, mark_of};
+ghost use Rattle.std.specs.Prelude.{◌≡◌, IfOk};
+ghost use Rattle.tildes.specs.Runs.{longest_run_of};
+ghost use Rattle.flatten.specs.Wires.{pair_names, item_names, model_names, mark_of};
 
 use blif_read::{BlifModel, Item, LatchLine};
 use cyc_base::Name;
 use std::alloc::{AllocError, Global};
+use tildes::{longest_run, mark_longer_than};
 
-/// The longest run of `~` in a name.
-#[tactic(auto, using(crate::proofs::Marks::max_is))]
-fn longest_run(name: &Name) -> usize
-    ensures { result ≡ longest_run_by name.now }
-{
-    let mut longest = 0;
-    let mut run = 0;
-    for byte in name.bytes() {
-        run = if *byte == b'~' { run + 1 } else { 0 };
-        longest = longest.max(run);
-    }
-    longest
-}
-
-#[tactic(auto, using(crate::proofs::Marks::max_is, crate::proofs::Marks::longest_taken))]
+#[tactic(auto, using(tildes::proofs::RunLemmas::max_is, tildes::proofs::RunLemmas::longest_more))]
 fn longest_in(names: &[Name]) -> usize
     ensures { result ≡ longest_run_of names.now }
 {
@@ -30,7 +18,7 @@ fn longest_in(names: &[Name]) -> usize
     longest
 }
 
-#[tactic(auto, using(crate::proofs::Marks::max_is, crate::proofs::Marks::longest_pairs))]
+#[tactic(auto, using(tildes::proofs::RunLemmas::max_is, crate::proofs::Marks::longest_pairs))]
 fn longest_in_pairs(pairs: &[(Name, Name)]) -> usize
     ensures { result ≡ longest_run_of (pair_names pairs.now) }
 {
@@ -41,7 +29,7 @@ fn longest_in_pairs(pairs: &[(Name, Name)]) -> usize
     longest
 }
 
-#[tactic(auto, using(crate::proofs::Marks::max_is))]
+#[tactic(auto, using(tildes::proofs::RunLemmas::max_is))]
 fn longest_in_latch(latch: &LatchLine) -> usize
     ensures { result ≡ longest_run_of (item_names (Item.Latch latch.now)) }
 {
@@ -52,7 +40,7 @@ fn longest_in_latch(latch: &LatchLine) -> usize
     }
 }
 
-#[tactic(auto, using(crate::proofs::Marks::max_is))]
+#[tactic(auto, using(tildes::proofs::RunLemmas::max_is))]
 fn longest_in_item(item: &Item) -> usize
     ensures { result ≡ longest_run_of (item_names item.now) }
 {
@@ -63,7 +51,7 @@ fn longest_in_item(item: &Item) -> usize
     }
 }
 
-#[tactic(auto, using(crate::proofs::Marks::max_is, crate::proofs::Marks::longest_items, crate::proofs::Marks::longest_model))]
+#[tactic(auto, using(tildes::proofs::RunLemmas::max_is, crate::proofs::Marks::longest_items, crate::proofs::Marks::longest_model))]
 fn longest_in_model(model: &BlifModel) -> usize
     ensures { result ≡ longest_run_of (model_names model.now) }
 {
@@ -77,7 +65,7 @@ fn longest_in_model(model: &BlifModel) -> usize
 }
 
 /// The mark of a file: a run of `~` longer by one than the longest in any name of a wire.
-#[tactic(auto, using(crate::proofs::Marks::max_is, crate::proofs::Marks::longest_models))]
+#[tactic(auto, using(tildes::proofs::RunLemmas::max_is, crate::proofs::Marks::longest_models))]
 pub(crate) fn mark(alloc: Global, models: &[BlifModel]) -> Result<Name, AllocError>
     ensures { IfOk result (λ mark. mark ≡ mark_of models.now) }
 {
@@ -85,7 +73,5 @@ pub(crate) fn mark(alloc: Global, models: &[BlifModel]) -> Result<Name, AllocErr
     for model in models {
         longest = longest.max(longest_in_model(model));
     }
-    let mut bytes = vec![in alloc; b'~'; longest]?;
-    bytes.push(b'~')?;
-    Ok(Name::new(bytes))
+    mark_longer_than(alloc, longest)
 }

@@ -1,7 +1,8 @@
 use Rattle.std.proofs.Common.{◌<◌, ◌+◌, length, take, arith}
 use Rattle.std.specs.List.{flat_map}
+use Rattle.tildes.proofs.RunLemmas.{max_is}
 use Rattle.flatten.specs.Wires.{item_names}
-use Rattle.flatten.proofs.Marks.{max_is, longest_items, longest_model}
+use Rattle.flatten.proofs.Marks.{longest_items, longest_model}
 use Rattle.flatten.proofs.mark.longest_in_model.Goals as goal
 
 pub loop-item-preserved : goal.loop-item-preserved

@@ -1,5 +1,6 @@
 use Rattle.std.proofs.Common.{◌<◌, length, ◌∙◌, arith}
-use Rattle.flatten.proofs.Marks.{max_is, longest_pairs}
+use Rattle.tildes.proofs.RunLemmas.{max_is}
+use Rattle.flatten.proofs.Marks.{longest_pairs}
 use Rattle.flatten.proofs.mark.longest_in_pairs.Goals as goal
 
 pub loop-formal-preserved : goal.loop-formal-preserved

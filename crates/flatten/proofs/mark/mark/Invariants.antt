@@ -1,5 +1,6 @@
 use Rattle.std.proofs.Common.{◌≡◌, take}
-use Rattle.flatten.specs.Wires.{longest_run_of, wire_names}
+use Rattle.tildes.specs.Runs.{longest_run_of}
+use Rattle.flatten.specs.Wires.{wire_names}
 use Rattle.flatten.proofs.mark.mark.Given as goal
 
 abbrev pub invariant-loop-model : goal.invariant-loop-model
