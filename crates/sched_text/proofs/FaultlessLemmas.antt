@@ -18,6 +18,7 @@ use Rattle.delay_core.specs.declared.plan.PlannedEvent.{PlannedEvent}
 use Rattle.delay_core.specs.declared.plan.RoundPlan.{RoundPlan}
 use Rattle.delay_core.specs.declared.plan.Schedule.{Schedule}
 use Rattle.blif_text.specs.Texts.{Line}
+use Rattle.blif_text.proofs.WrittenLines.{numbered}
 use Rattle.sched_text.specs.declared.fault.SchedFault.{SchedFault}
 use Rattle.sched_text.specs.declared.fault.SchedFault.TheVariants.{BadLine, WrongWidth, BadStart, UnknownGate, TickCount}
 use Rattle.sched_text.specs.declared.kind.Kind.{Kind}
@@ -28,7 +29,6 @@ use Rattle.sched_text.specs.LineFaults.{arguments, are_bits, bit_of, bits_of, is
 use Rattle.sched_text.specs.Putting.{IsSmall, HasSmallAges, AreSmall, TicksAreSmall}
 use Rattle.sched_text.specs.Written.{bit_byte, bits_words, past_line, start_word, event_line, round_lines, tick_lines, lines_of}
 use Rattle.sched_text.proofs.GateLemmas.{gate_of_name}
-use Rattle.sched_text.proofs.WrittenLines.{numbered}
 use Rattle.sched_text.proofs.WrittenNumbers.{number_decimal}
 
 -- ---- bits

@@ -4,6 +4,7 @@ use Rattle.std.specs.Prelude.{codes, decimal, All}
 use Rattle.std.specs.List.{flat_map}
 use Rattle.std.proofs.lemmas.List.Elements.{All-head, All-tail, All-nil, All-cons, All-append}
 use Rattle.cyc_base.specs.Names.{IsBlifByte, IsBlifName}
+use Rattle.blif_text.proofs.WrittenLines.{IsLine}
 use Rattle.netlist.specs.declared.parts.Parts.{Parts}
 use Rattle.netlist.specs.Netlists.{gate_at, IsNetlist}
 use Rattle.netlist.specs.Faults.{is_blif_name}
@@ -16,7 +17,6 @@ use Rattle.sched_text.specs.Putting.{IsSmall, HasSmallAges, AreSmall, TicksAreSm
 use Rattle.sched_text.specs.ReadingBack.{HasSmallNumbers}
 use Rattle.sched_text.specs.Written.{bit_byte, bits_words, past_line, start_word, event_line, round_lines, tick_lines, head_lines, lines_of}
 use Rattle.sched_text.proofs.GateLemmas.{gate_named}
-use Rattle.sched_text.proofs.WrittenLines.{IsLine}
 use Rattle.sched_text.proofs.WrittenNumbers.{decimal_named}
 
 cons_filled : {X : Type 0} (x : X) (xs : List X) → (x ∷ xs) ≢ []

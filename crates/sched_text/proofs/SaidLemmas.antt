@@ -11,6 +11,7 @@ use Rattle.delay_core.specs.declared.plan.PlannedEvent.{PlannedEvent}
 use Rattle.delay_core.specs.declared.plan.RoundPlan.{RoundPlan}
 use Rattle.delay_core.specs.declared.plan.Schedule.{Schedule}
 use Rattle.blif_text.specs.Texts.{end_number}
+use Rattle.blif_text.proofs.WrittenLines.{IsLine, numbered}
 use Rattle.sched_text.specs.declared.statement.Statement.{Statement}
 use Rattle.sched_text.specs.declared.statement.Statement.TheVariants.{Format, Window, Past, Latches, State, Gates, Tick, Round, Event}
 use Rattle.sched_text.specs.Faults.{unless, of_lines}
@@ -23,7 +24,7 @@ use Rattle.sched_text.specs.Schedules.{last_there, window_told, past_told, start
 use Rattle.sched_text.specs.Statements.{planned, statement}
 use Rattle.sched_text.specs.Written.{bits_words, past_line, start_word, event_line, round_lines, tick_lines, lines_of, written}
 use Rattle.sched_text.proofs.GateLemmas.{gate_of_name}
-use Rattle.sched_text.proofs.WrittenLines.{IsLine, numbered, written_lines, written_end}
+use Rattle.sched_text.proofs.WrittenLines.{written_lines, written_end}
 use Rattle.sched_text.proofs.WrittenNumbers.{number_decimal}
 use Rattle.sched_text.proofs.FaultlessLemmas.{bits_back, no_fault}
 use Rattle.sched_text.proofs.NamedLemmas.{lines_named}
