@@ -19,6 +19,7 @@ use Rattle.netlist.specs.declared.parts.Gate.{Gate}
 use Rattle.netlist.specs.declared.parts.Latch.{Latch as LatchOf}
 use Rattle.netlist.specs.declared.parts.Parts.{Parts}
 use Rattle.blif_text.specs.Texts.{Line}
+use Rattle.blif_text.proofs.WrittenLines.{numbered}
 use Rattle.blif_read.specs.declared.kind.Kind.TheVariants.{Row}
 use Rattle.blif_read.specs.declared.fault.BlifFault.{BlifFault}
 use Rattle.blif_read.specs.declared.fault.BlifFault.TheVariants.{TooManyPins}
@@ -26,7 +27,6 @@ use Rattle.blif_read.specs.Kinds.{kind, arguments, pin_count, is_on, kind_of, mo
 use Rattle.blif_read.specs.Places.{is_model, is_end, is_row, is_names, in_model, cover_line, first_row, this_unless, place_behind, is_model_name}
 use Rattle.blif_read.specs.Faults.{names_fault, latch_fault, typed_latch_fault, is_init, is_lit, is_plane, is_row_of, same_plane, differs, row_fault, fault_at, fault, or_else, first_fault}
 use Rattle.blif_write.specs.Written.{name_of, clock_lines, control_words, edge_word, init_word, latch_line, latch_lines, lit_byte, plane_word, lits_words, row_line, gate_lines, all_gate_lines, lines_of}
-use Rattle.blif_write.proofs.ReadLines.{numbered}
 
 abbrev pub line : ℕ → List (List ℕ) → Line
 line n words = record { number = n; words = words }

@@ -7,6 +7,7 @@ use Rattle.std.specs.declared.option.Option.{Option}
 use Rattle.std.proofs.lemmas.List.Elements.{All-head, All-tail, All-nil, All-cons, All-append, All-get_or}
 use Rattle.cyc_base.specs.Names.{IsBlifByte, IsBlifName}
 use Rattle.cyc_base.specs.declared.sig.Sig.{Sig}
+use Rattle.blif_text.proofs.WrittenLines.{IsLine}
 use Rattle.cover_logic.specs.declared.row.Lit.{Lit}
 use Rattle.cover_logic.specs.declared.row.Lit.TheVariants.{Zero, One, Any}
 use Rattle.cover_logic.specs.declared.row.Row.{Row}
@@ -22,7 +23,6 @@ use Rattle.netlist.specs.Netlists.{signal_names, driven_names, IsSignal, IsNetli
 use Rattle.netlist.specs.Faults.{is_blif_name}
 use Rattle.netlist.proofs.Decisions.{is_blif_name_decides}
 use Rattle.blif_write.specs.Written.{name_of, clock_lines, head_lines, edge_word, init_word, control_words, latch_line, latch_lines, lit_byte, plane_word, lits_words, row_line, gate_lines, all_gate_lines, lines_of}
-use Rattle.blif_write.proofs.ReadLines.{IsLine}
 use Rattle.blif_write.proofs.Linked.{name_count}
 
 cons_filled : {X : Type 0} (x : X) (xs : List X) → (x ∷ xs) ≢ []

@@ -5,6 +5,7 @@ use Rattle.std.specs.declared.option.Option.{Option}
 use Rattle.netlist.specs.declared.parts.Clock.{Clock}
 use Rattle.netlist.specs.declared.parts.Parts.{Parts}
 use Rattle.netlist.specs.Netlists.{IsNetlist, IsClockName}
+use Rattle.blif_text.proofs.WrittenLines.{numbered}
 use Rattle.blif_read.specs.Models.{models}
 use Rattle.blif_read.specs.Statements.{statement}
 use Rattle.blif_read.specs.Reads.{reads, reads_lines, unless_fault, if_any}
@@ -12,7 +13,7 @@ use Rattle.flatten.specs.Flat.{flat_within, flat_from, linked_lines}
 use Rattle.flatten.proofs.Names.{bytes_same}
 use Rattle.blif_write.specs.Written.{lines_of, written}
 use Rattle.blif_write.specs.Laws.{HasCovers, WrittenReadsBack}
-use Rattle.blif_write.proofs.ReadLines.{numbered, written_lines}
+use Rattle.blif_write.proofs.ReadLines.{written_lines}
 use Rattle.blif_write.proofs.Faultless.{IsWhole, no_fault}
 use Rattle.blif_write.proofs.Said.{IsNamed, model_of_text, models_are}
 use Rattle.blif_write.proofs.Flattened.{model_found, lines_flat}

@@ -18,6 +18,7 @@ use Rattle.netlist.specs.declared.parts.Gate as gates
 use Rattle.netlist.specs.declared.parts.Latch as latches
 use Rattle.netlist.specs.declared.parts.Parts.{Parts}
 use Rattle.blif_text.specs.Texts.{Line}
+use Rattle.blif_text.proofs.WrittenLines.{numbered}
 use Rattle.blif_read.specs.declared.kind.Kind as kinds
 use Rattle.blif_read.specs.declared.kind.Kind.TheVariants as of
 use Rattle.blif_read.specs.declared.models.BlifModel.{BlifModel}
@@ -31,7 +32,6 @@ use Rattle.blif_read.specs.Kinds.{kind, is_on, pin_count}
 use Rattle.blif_read.specs.Statements.{lit_of, lits_of, latch_of, control_of, pins_of, output_of, statement, statement_of_kind}
 use Rattle.blif_read.specs.Models.{members, inputs_in, outputs_in, clocks_in, rows_of, plane_of, gate_of, body_of, model_of, models}
 use Rattle.blif_write.specs.Written.{name_of, clock_lines, control_words, edge_word, init_word, latch_line, latch_lines, lit_byte, plane_word, lits_words, row_line, gate_lines, all_gate_lines, lines_of}
-use Rattle.blif_write.proofs.ReadLines.{numbered}
 use Rattle.blif_write.proofs.Faultless.{line, IsWhole, counted, row_on, row_kind}
 
 -- The model of a written netlist.
