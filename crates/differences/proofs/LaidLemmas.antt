@@ -24,7 +24,7 @@ use Rattle.loops.specs.Sweeps.{value_in}
 use Rattle.loops.proofs.Existence.{loops_exist}
 use Rattle.fixpoint.specs.Solved.{Vectors}
 use Rattle.fixpoint.specs.Sweeping.{rails_at}
-use Rattle.fixpoint.specs.Working.{IsWorking}
+use Rattle.fixpoint.specs.Working.{IsGatePart, IsWorking}
 use Rattle.fixpoint.proofs.CutLemmas.{one-of, zero-of}
 use Rattle.fixpoint.proofs.LayoutLemmas.{by_column, length-by_column, columns-back, variables-back}
 use Rattle.fixpoint.proofs.WireLemmas.{rails_at-proper}
@@ -36,7 +36,6 @@ use Rattle.verdict.specs.Enough.{IsOfModel}
 use Rattle.verdict.specs.Solving.{fit}
 use Rattle.verdict.proofs.CareLemmas.{value_at-place}
 use Rattle.verdict.proofs.CountLemmas.{length-fit, fit-whole}
-use Rattle.verdict.proofs.SolutionLemmas.{part-at}
 use Rattle.verdict.proofs.WorkLemmas.{says, says-own, says-of, there_each, there_and}
 use Rattle.differences.specs.Comparisons.{IsOfComparison, IsLaidBy, IsColumn, SaysCare, IsOfNetlist, IsOfAssumption, IsOfInvariant}
 use Rattle.differences.specs.Sets.{TellsBy, AreFixedBy, BoundsAbove, is_above}
@@ -54,6 +53,22 @@ IsMade order net care g = IsMadeOf net care (λ v. g (by_variable order v))
 
 pub made-listed : {net : Parts} {care : CareSet} {f h : List Bool → Bool} → IsOfComparison net care f → ((v : List Bool) → length v ≡ columns net → h v ≡ f v) → IsMadeOf net care h
 made-listed {f = f} is same = record { of = f; listed = is; by = λ x. x; same = same }
+
+-- a function that a gate works with, of other vectors
+part-at : (net : Parts) (loops : Loops) (v : Vectors) (g : List Bool → Bool) → IsGatePart net loops v g → (f : List Bool → List Bool) → IsGatePart net loops (λ x. v (f x)) (λ x. g (f x))
+part-at net loops v g part f = record {
+  gate = part.gate;
+  within = part.within;
+  first = part.first;
+  short = part.short;
+  bit = part.bit;
+  read = λ x. part.read (f x);
+  reads = elim part.reads [
+    | inl r ↦ inl (record { looped = r.looped; sweep = r.sweep; few = r.few; is = λ x. r.is (f x) })
+    | inr r ↦ inr (record { plain = r.plain; is = λ x. r.is (f x) })
+  ];
+  same = λ x. part.same (f x);
+}
 
 -- ---- signals at the fixpoint
 
