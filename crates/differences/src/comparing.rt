@@ -16,6 +16,7 @@ ghost use Rattle.differences.specs.Pairs.{least_apart as least_apart_of};
 ghost use Rattle.differences.specs.Sets.{AreFixedBy, TellsBy};
 
 use crate::caring::care_on;
+use crate::comparison::Comparison;
 use crate::parting::least_of_pairs;
 use bdd_ops::Diagrams;
 use bdd_store::StoreFault;
@@ -24,6 +25,7 @@ use clause_decision::Pair;
 use cyc_base::{Bits, MAX_NODES};
 use dual_rail::Rails;
 use isolation::column_rails;
+use looped::LoopedNetlist;
 use loops::{Blocks, Cut};
 use netlist::Netlist;
 use std::alloc::Global;
@@ -34,75 +36,62 @@ use verdict::{DecideFault, Fixpoint, solve_beside};
 fn compare_solved(
     alloc: Global,
     d: &mut Diagrams,
-    net: &Netlist,
-    care: &Care,
-    order: &[u32],
-    pairs: &[Pair],
+    comparison: &Comparison<'_>,
     found: &Fixpoint,
 ) -> Result<Option<Vec<bool>>, StoreFault>
-    requires vars { d.old.vars ≡ columns net.now }
-    requires order { IsLayout (columns net.now) order.now }
-    requires pairs { All (IsPairOf net.now) pairs.now }
-    requires fixed { AreFixedBy order.now net.now d.old found.now.rails }
-    requires set { TellsBy order.now d.old found.now.set (is_care_vector net.now care.now) }
-    ensures found { IfOk result (λ vector. option_map (λ v. v.items) vector ≡ least_apart_of net.now care.now pairs.now) }
-    ensures grows { GrowsWithin result d.old d.new NoOtherCause (IsWide (columns net.now) (IsLaidBy order.now net.now care.now)) (pairs_cost pairs.now) }
+    requires vars { d.old.vars ≡ columns comparison.now.looped.now.net }
+    requires fixed { AreFixedBy comparison.now.order.now comparison.now.looped.now.net d.old found.now.rails }
+    requires set { TellsBy comparison.now.order.now d.old found.now.set (is_care_vector comparison.now.looped.now.net comparison.now.care.now) }
+    ensures found { IfOk result (λ vector. option_map (λ v. v.items) vector ≡ least_apart_of comparison.now.looped.now.net comparison.now.care.now comparison.now.pairs.now) }
+    ensures grows { GrowsWithin result d.old d.new NoOtherCause (IsWide (columns comparison.now.looped.now.net) (IsLaidBy comparison.now.order.now comparison.now.looped.now.net comparison.now.care.now)) (pairs_cost comparison.now.pairs.now) }
 {
-    least_of_pairs(alloc, d, order, found.set, found.rails.items(), pairs)
+    least_of_pairs(
+        alloc,
+        d,
+        comparison.order,
+        found.set,
+        found.rails.items(),
+        comparison.pairs,
+    )
 }
 
 /// The same, where the netlist is solved here on these rails of its columns.
 fn compare_columns(
     alloc: Global,
     d: &mut Diagrams,
-    net: &Netlist,
-    blocks: &Blocks,
-    cut: &Cut,
-    care: &Care,
-    order: &[u32],
-    pairs: &[Pair],
+    comparison: &Comparison<'_>,
     rails: &[Rails],
 ) -> Result<Option<Vec<bool>>, StoreFault>
-    requires blocks { AreBlocksOf net.now blocks.now }
-    requires cut { IsCutOf net.now cut.now }
-    requires care { IsCareOf net.now care.now }
-    requires vars { d.old.vars ≡ columns net.now }
-    requires order { IsLayout (columns net.now) order.now }
-    requires pairs { All (IsPairOf net.now) pairs.now }
-    requires columns { AreColumns d.old order.now rails.now }
-    ensures found { IfOk result (λ vector. option_map (λ v. v.items) vector ≡ least_apart_of net.now care.now pairs.now) }
+    requires care { IsCareOf comparison.now.looped.now.net comparison.now.care.now }
+    requires vars { d.old.vars ≡ columns comparison.now.looped.now.net }
+    requires columns { AreColumns d.old comparison.now.order.now rails.now }
+    ensures found { IfOk result (λ vector. option_map (λ v. v.items) vector ≡ least_apart_of comparison.now.looped.now.net comparison.now.care.now comparison.now.pairs.now) }
     ensures vars { d.new.vars ≡ d.old.vars }
     ensures limit { d.new.limit ≡ d.old.limit }
-    ensures adds { AddsInComparison result d.old d.new order.now net.now care.now (whole_cost net.now care.now pairs.now) }
+    ensures adds { AddsInComparison result d.old d.new comparison.now.order.now comparison.now.looped.now.net comparison.now.care.now (whole_cost comparison.now.looped.now.net comparison.now.care.now comparison.now.pairs.now) }
 {
-    let set = care_on(alloc, d, net, care, rails)?;
+    let net = comparison.looped.net();
+    let blocks = comparison.looped.blocks();
+    let cut = comparison.looped.cut();
+    let set = care_on(alloc, d, net, comparison.care, rails)?;
     d.store().laws();
     let found = solve_beside(alloc, d, net, blocks, cut, rails, set)?;
-    compare_solved(alloc, d, net, care, order, pairs, &found)
+    compare_solved(alloc, d, comparison, &found)
 }
 
 /// The same on diagrams that have a variable for each column and no nodes.
 fn compare_on(
     alloc: Global,
     d: &mut Diagrams,
-    net: &Netlist,
-    blocks: &Blocks,
-    cut: &Cut,
-    care: &Care,
-    order: &[u32],
-    pairs: &[Pair],
+    comparison: &Comparison<'_>,
 ) -> Result<Option<Vec<bool>>, StoreFault>
-    requires blocks { AreBlocksOf net.now blocks.now }
-    requires cut { IsCutOf net.now cut.now }
-    requires care { IsCareOf net.now care.now }
-    requires vars { d.old.vars ≡ columns net.now }
-    requires order { IsLayout (columns net.now) order.now }
-    requires pairs { All (IsPairOf net.now) pairs.now }
-    ensures found { IfOk result (λ vector. option_map (λ v. v.items) vector ≡ least_apart_of net.now care.now pairs.now) }
-    ensures full { result ≡ Err StoreFault.Full → IsFullFor d.old d.new order.now net.now care.now pairs.now }
+    requires care { IsCareOf comparison.now.looped.now.net comparison.now.care.now }
+    requires vars { d.old.vars ≡ columns comparison.now.looped.now.net }
+    ensures found { IfOk result (λ vector. option_map (λ v. v.items) vector ≡ least_apart_of comparison.now.looped.now.net comparison.now.care.now comparison.now.pairs.now) }
+    ensures full { result ≡ Err StoreFault.Full → IsFullFor d.old d.new comparison.now.order.now comparison.now.looped.now.net comparison.now.care.now comparison.now.pairs.now }
 {
-    let rails = column_rails(alloc, d, order)?;
-    compare_columns(alloc, d, net, blocks, cut, care, order, pairs, &rails)
+    let rails = column_rails(alloc, d, comparison.order)?;
+    compare_columns(alloc, d, comparison, &rails)
 }
 
 /// The least care vector on which the wires of some pair have different values in the fixpoint, one of them 1 and the
@@ -142,7 +131,14 @@ pub fn least_apart(
     if d.start(net.inputs() + net.latches(), limit).is_err() {
         return Err(DecideFault::Memory);
     }
-    match compare_on(alloc, d, net, blocks, cut, care, order, pairs) {
+    let looped = LoopedNetlist::new(net, blocks, cut);
+    let comparison = Comparison {
+        looped: &looped,
+        care,
+        order,
+        pairs,
+    };
+    match compare_on(alloc, d, &comparison) {
         Ok(Some(vector)) => Ok(Some(Bits::of(vector))),
         Ok(None) => Ok(None),
         Err(StoreFault::Full) => Err(DecideFault::NodeLimit { nodes: limit }),

@@ -7,6 +7,7 @@
 
 mod caring;
 mod comparing;
+mod comparison;
 mod lesser;
 mod parting;
 

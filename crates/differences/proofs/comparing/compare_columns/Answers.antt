@@ -1,4 +1,4 @@
-use Rattle.std.proofs.Common.{◌≡◌, ◌∙◌, inl, inr, Bool, List, length, sym, subst, arith}
+use Rattle.std.proofs.Common.{◌≡◌, ◌∙◌, inl, inr, Bool, List, length, sym, ap, subst, arith}
 use Rattle.bdd_store.proofs.GrowthLemmas.{adds_then, adds_caused, adds_moved, adds_more, adds_refused, within_only}
 use Rattle.bdd_ops.specs.Least.{by_variable}
 use Rattle.cyc_base.specs.Values.{bits}
@@ -18,29 +18,29 @@ use Rattle.differences.proofs.comparing.compare_columns.Goals as goal
 use Rattle.differences.proofs.comparing.compare_columns.Goals.{After-care_on, After-solve_beside, In_ok-found}
 
 pub care_on-requires-clause-width : goal.care_on-requires-clause-width
-care_on-requires-clause-width c = c.requires.columns.width ∙ c.requires.vars
+care_on-requires-clause-width c = c.requires.columns.width ∙ c.requires.vars ∙ ap columns (sym c.net-net.ensures.net)
 
 pub care_on-requires-clause-rails : goal.care_on-requires-clause-rails
 care_on-requires-clause-rails c = c.requires.columns.proper
 
 pub solve_beside-requires-clause-width : goal.solve_beside-requires-clause-width
-solve_beside-requires-clause-width c = c.requires.columns.width ∙ c.requires.vars
+solve_beside-requires-clause-width c = c.requires.columns.width ∙ c.requires.vars ∙ ap columns (sym c.net-net.ensures.net)
 
 pub solve_beside-requires-clause-rails : goal.solve_beside-requires-clause-rails
 solve_beside-requires-clause-rails c = All-rails-kept c.care_on.ensures.grows.keeps c.args.rails.now c.requires.columns.proper
 
 -- ---- the rails of the columns, and the vectors that they stand for
 
-columns-kept : (c : After-solve_beside) → AreColumns c.care_on.new.d c.args.order.now c.args.rails.now
+columns-kept : (c : After-solve_beside) → AreColumns c.care_on.new.d c.args.comparison.now.order.now c.args.rails.now
 columns-kept c = AreColumns-kept c.care_on.ensures.grows.keeps c.requires.columns
 
-care-vars : (c : After-care_on) → c.care_on.new.d.vars ≡ columns c.args.net.now
+care-vars : (c : After-care_on) → c.care_on.new.d.vars ≡ columns c.args.comparison.now.looped.now.net
 care-vars c = c.care_on.ensures.grows.keeps.vars ∙ c.requires.vars
 
-points-are : (c : After-solve_beside) → c.care_on.new.d.vars ≡ columns c.args.net.now → (v : List Bool) → length v ≡ columns c.args.net.now → values_of c.care_on.new.d c.args.rails.now (by_variable c.args.order.now v) ≡ bits v
+points-are : (c : After-solve_beside) → c.care_on.new.d.vars ≡ columns c.args.comparison.now.looped.now.net → (v : List Bool) → length v ≡ columns c.args.comparison.now.looped.now.net → values_of c.care_on.new.d c.args.rails.now (by_variable c.args.comparison.now.order.now v) ≡ bits v
 points-are c vars v long = (columns-kept c).values v (long ∙ sym vars)
 
-solved-vars : (c : After-solve_beside) → c.care_on.new.d.vars ≡ columns c.args.net.now → c.solve_beside.new.d.vars ≡ columns c.args.net.now
+solved-vars : (c : After-solve_beside) → c.care_on.new.d.vars ≡ columns c.args.comparison.now.looped.now.net → c.solve_beside.new.d.vars ≡ columns c.args.comparison.now.looped.now.net
 solved-vars c vars = c.solve_beside.ensures.vars ∙ vars
 
 pub compare_solved-requires-clause-vars : goal.compare_solved-requires-clause-vars
@@ -51,43 +51,46 @@ compare_solved-requires-clause-vars g =
 pub compare_solved-requires-clause-fixed : goal.compare_solved-requires-clause-fixed
 compare_solved-requires-clause-fixed g =
     let at = goal.at.compare_solved-requires-clause-fixed g in
-    let net = g.args.net.now in
+    let net = g.args.comparison.now.looped.now.net in
     let vars = care-vars at.After-care_on in
-    let found = g.in_ok-found.ensures.fixpoint in
-    subst (AreFixedBy g.args.order.now net g.solve_beside.new.d) (sym found.rails_are)
-    (fixed-is g.args.order.now net g.args.blocks.now g.args.cut.now g.solve_beside.new.d (values_of g.care_on.new.d g.args.rails.now) g.in_ok-found.found.solved (solved-vars at.After-solve_beside vars) (points-are at.After-solve_beside vars) found.solution)
+    let found = rw (g.net-net.ensures.net, g.blocks-blocks.ensures.blocks, g.cut-cut.ensures.cut) at g.in_ok-found.ensures.fixpoint in
+    subst (AreFixedBy g.args.comparison.now.order.now net g.solve_beside.new.d) (sym found.rails_are)
+    (fixed-is g.args.comparison.now.order.now net g.args.comparison.now.looped.now.blocks g.args.comparison.now.looped.now.cut g.solve_beside.new.d (values_of g.care_on.new.d g.args.rails.now) g.in_ok-found.found.solved (solved-vars at.After-solve_beside vars) (points-are at.After-solve_beside vars) found.solution)
 
 pub compare_solved-requires-clause-set : goal.compare_solved-requires-clause-set
 compare_solved-requires-clause-set g =
     let found = g.in_ok-found.ensures.fixpoint in
-    let told : TellsBy g.args.order.now g.care_on.new.d g.in_ok-set.set (is_care_vector g.args.net.now g.args.care.now) = record {
+    let counts = rw g.net-net.ensures.net at g.in_ok-set.ensures.counts in
+    let told : TellsBy g.args.comparison.now.order.now g.care_on.new.d g.in_ok-set.set (is_care_vector g.args.comparison.now.looped.now.net g.args.comparison.now.care.now) = record {
       node = g.in_ok-set.ensures.node;
-      value = λ v wide. g.in_ok-set.ensures.counts v (by_variable g.args.order.now v) (g.requires.columns.values v (wide ∙ g.care_on.ensures.grows.keeps.vars));
+      value = λ v wide. counts v (by_variable g.args.comparison.now.order.now v) (g.requires.columns.values v (wide ∙ g.care_on.ensures.grows.keeps.vars));
     } in
     TellsBy-same g.solve_beside.ensures.vars found.node found.function told
 
 -- ---- what it does to the diagrams
 
-care-adds : (c : After-care_on) → AddsInComparison c.care_on.result c.args.d.now c.care_on.new.d c.args.order.now c.args.net.now c.args.care.now (care_cost c.args.care.now)
+care-adds : (c : After-care_on) → AddsInComparison c.care_on.result c.args.d.now c.care_on.new.d c.args.comparison.now.order.now c.args.comparison.now.looped.now.net c.args.comparison.now.care.now (care_cost c.args.comparison.now.care.now)
 care-adds c =
+    let grows = rw c.net-net.ensures.net at c.care_on.ensures.grows in
     adds_caused (λ over. inr over)
     (adds_moved (λ w wide. record {
-      order = c.args.order.now;
-      layout = c.requires.order;
+      order = c.args.comparison.now.order.now;
+      layout = c.args.comparison.now.laid;
       vars = c.requires.vars;
       are_columns = c.requires.columns;
       wide = wide;
-    }) c.care_on.ensures.grows.adds)
+    }) grows.adds)
 
 -- the working list of the fixpoint
-solving-adds : (c : After-solve_beside) → c.care_on.new.d.vars ≡ columns c.args.net.now → AddsInComparison c.solve_beside.result c.care_on.new.d c.solve_beside.new.d c.args.order.now c.args.net.now c.args.care.now (solving_cost c.args.net.now)
+solving-adds : (c : After-solve_beside) → c.care_on.new.d.vars ≡ columns c.args.comparison.now.looped.now.net → AddsInComparison c.solve_beside.result c.care_on.new.d c.solve_beside.new.d c.args.comparison.now.order.now c.args.comparison.now.looped.now.net c.args.comparison.now.care.now (solving_cost c.args.comparison.now.looped.now.net)
 solving-adds c vars =
-    let net = c.args.net.now in
-    let care = c.args.care.now in
+    let net = c.args.comparison.now.looped.now.net in
+    let care = c.args.comparison.now.care.now in
+    let adds = rw (c.net-net.ensures.net, c.blocks-blocks.ensures.blocks, c.cut-cut.ensures.cut) at c.solve_beside.ensures.adds in
     adds_caused {cause = HasLargeCover net} (λ over. inl over)
     (adds_moved (λ w wide.
-    working-wide c.args.order.now net care c.requires.order wide c.care_on.new.d.vars vars (values_of c.care_on.new.d c.args.rails.now) (points-are c vars) (loops_by c.args.blocks.now c.args.cut.now)
-    (loops-are net c.args.blocks.now c.args.cut.now c.requires.blocks c.requires.cut)) c.solve_beside.ensures.adds)
+    working-wide c.args.comparison.now.order.now net care c.args.comparison.now.laid wide c.care_on.new.d.vars vars (values_of c.care_on.new.d c.args.rails.now) (points-are c vars) (loops_by c.args.comparison.now.looped.now.blocks c.args.comparison.now.looped.now.cut)
+    (loops-are net c.args.comparison.now.looped.now.blocks c.args.comparison.now.looped.now.cut c.net-net.ensures.looped.blocks c.net-net.ensures.looped.cut)) adds)
 
 pub returns-in_err-set-clause-adds : goal.returns-in_err-set-clause-adds
 returns-in_err-set-clause-adds g = adds_more (omega arith) (adds_refused g.in_err-set.was g.from_residual.ensures.1 (care-adds (goal.at.returns-in_err-set-clause-adds g).After-care_on))

@@ -8,12 +8,12 @@ use Rattle.differences.proofs.comparing.compare_on.Goals as goal
 use Rattle.differences.proofs.comparing.compare_on.Goals.{After-column_rails}
 
 pub column_rails-requires : goal.column_rails-requires
-column_rails-requires c = subst (λ n. IsLayout n c.args.order.now) (sym c.requires.vars) c.requires.order
+column_rails-requires c = subst (λ n. IsLayout n c.args.comparison.now.order.now) (sym c.requires.vars) c.args.comparison.now.laid
 
 pub compare_columns-requires-clause-columns : goal.compare_columns-requires-clause-columns
-compare_columns-requires-clause-columns c = subst (AreColumns c.column_rails.new.d c.args.order.now) (sym c.deref.ensures.value) c.in_ok-rails.ensures.rails
+compare_columns-requires-clause-columns c = subst (AreColumns c.column_rails.new.d c.args.comparison.now.order.now) (sym c.deref.ensures.value) c.in_ok-rails.ensures.rails
 
-after-columns : (c : After-column_rails) → AddsInComparison c.column_rails.result c.args.d.now c.column_rails.new.d c.args.order.now c.args.net.now c.args.care.now 2
+after-columns : (c : After-column_rails) → AddsInComparison c.column_rails.result c.args.d.now c.column_rails.new.d c.args.comparison.now.order.now c.args.comparison.now.looped.now.net c.args.comparison.now.care.now 2
 after-columns c =
     let vars = c.requires.vars in
     (within_only (within_each (λ w wide. omega (arith, wide.variables, vars)) c.column_rails.ensures.grows)).adds
@@ -28,6 +28,6 @@ pub returns-clause-full : goal.returns-clause-full
 returns-clause-full g =
     let c : After-column_rails = (goal.at.returns-clause-full g).After-column_rails in
     let keeps = c.column_rails.ensures.grows.keeps in
-    let cost : 2 + whole_cost g.args.net.now g.args.care.now g.args.pairs.now ≤ comparison_cost g.args.net.now g.args.care.now g.args.pairs.now = omega arith in
+    let cost : 2 + whole_cost g.args.comparison.now.looped.now.net g.args.comparison.now.care.now g.args.comparison.now.pairs.now ≤ comparison_cost g.args.comparison.now.looped.now.net g.args.comparison.now.care.now g.args.comparison.now.pairs.now = omega arith in
     full_for (record { variables = g.compare_columns.ensures.vars ∙ keeps.vars ∙ g.requires.vars; most = g.compare_columns.ensures.limit ∙ keeps.limit }) cost
     (adds_then keeps.limit (after-columns c) g.compare_columns.ensures.adds)
