@@ -1,5 +1,5 @@
 // Decisions of netlists on their care sets.
-ghost use Rattle.std.specs.Prelude.{◌≡◌, ◌≤◌, ℕ, IfOk, length};
+ghost use Rattle.std.specs.Prelude.{◌≡◌, ◌≤◌, ℕ, IfErr, IfOk, OnOk, length};
 ghost use Rattle.aig_core.specs.Answers.{FitsNetlist};
 ghost use Rattle.aig_core.specs.Building.{columns};
 ghost use Rattle.bdd_store.specs.Arena.{Arena};
@@ -7,8 +7,6 @@ ghost use Rattle.care_sets.specs.Binding.{IsCareOf};
 ghost use Rattle.care_sets.specs.Care.{CareSet};
 ghost use Rattle.commands.specs.Seen.{cells_seen};
 ghost use Rattle.cyc_base.specs.declared.limits.TheConstants.{MAX_NODES as most_nodes};
-ghost use Rattle.loops.specs.Blocks.{AreBlocksOf};
-ghost use Rattle.loops.specs.Cuts.{IsCutOf};
 ghost use Rattle.netlist.specs.Netlists.{IsNetlist};
 ghost use Rattle.netlist.specs.Walks.{IsLoopFree};
 ghost use Rattle.netlist.specs.declared.parts.Parts.{Parts};
@@ -17,6 +15,8 @@ ghost use Rattle.refusals.specs.Refusals.{IsRefusalOf};
 ghost use Rattle.refusals.specs.declared.observe.Observe.{Observe as Observed};
 ghost use Rattle.report.specs.Verdicts.{accepted_text, ring_line};
 ghost use Rattle.rewriting.specs.Rewriting.{rewritten as rewritten_netlist, rewritten_size as rewritten_size_of, IsRewriting};
+ghost use Rattle.unroll.specs.Laws.{KeepsInterface};
+ghost use Rattle.unroll.specs.Unrolled.{IsUnrollFault};
 ghost use Rattle.verdict.specs.Verdicts.{AreSweepsOnCare, IsAcceptance, IsVerdict};
 ghost use Rattle.cyc_tool.specs.Answer.{told as done};
 ghost use Rattle.cyc_tool.specs.Calls.{IsAccepted, IsDecided};
@@ -29,15 +29,16 @@ use crate::outcome::Outcome;
 use crate::status;
 use crate::storms::tell_storm;
 use crate::texts::{
-    accepted_line, on_err, on_out, tell_aiger, tell_declined, tell_limit, tell_netlist,
-    tell_refused, tell_too_large,
+    accepted_line, number_of_loops, on_err, on_out, tell_aiger, tell_declined, tell_limit,
+    tell_netlist, tell_refused, tell_too_large,
 };
 use bdd_ops::Diagrams;
 use care_sets::Care;
 use commands::{Cells, Form, Rounds};
 use cyc_io::TextSink;
 use fixpoint::SweepCounts;
-use loops::{Blocks, Cut, count_loops, find_blocks, find_cut};
+use looped::LoopedNetlist;
+use loops::{find_blocks, find_cut};
 use netlist::Netlist;
 use refusals::{Observe, Refusal};
 use report::put_ring;
@@ -66,6 +67,16 @@ pub(crate) enum Purpose {
     Storm(Rounds),
 }
 
+// What is asked of a decision.
+#[derive(Clone, Copy, Drop)]
+pub(crate) struct Task {
+    // How many nodes it may take.
+    pub limit: u32,
+    // Which wires are observed.
+    pub observe: Observe,
+    pub purpose: Purpose,
+}
+
 // A number that is told only where the outputs alone are observed.
 fn loose_told(observe: Observe, loose: u32) -> Option<u32>
     ensures { result ≡ where_outputs observe loose }
@@ -78,35 +89,23 @@ fn loose_told(observe: Observe, loose: u32) -> Option<u32>
 
 fn tell_accepted(
     alloc: Global,
-    net: &Netlist,
-    blocks: &Blocks,
+    looped: &LoopedNetlist<'_>,
     loose: Option<u32>,
 ) -> Result<Outcome, AllocError>
-    requires { AreBlocksOf net.now blocks.now }
-    ensures { IfOk result (λ told. outcome_of told ≡ done (Prints (accepted_text net.now (count_of_loops net.now) loose))) }
+    ensures { IfOk result (λ told. outcome_of told ≡ done (Prints (accepted_text looped.now.net (count_of_loops looped.now.net) loose))) }
 {
-    Ok(on_out(
-        alloc,
-        status::DONE,
-        accepted_line(alloc, net, blocks, loose)?,
-    ))
+    Ok(on_out(alloc, status::DONE, accepted_line(alloc, looped, loose)?))
 }
 
 // An accepted netlist has no storm.
 fn tell_calm(
     alloc: Global,
-    net: &Netlist,
-    blocks: &Blocks,
+    looped: &LoopedNetlist<'_>,
     loose: Option<u32>,
 ) -> Result<Outcome, AllocError>
-    requires { AreBlocksOf net.now blocks.now }
-    ensures { IfOk result (λ told. outcome_of told ≡ done (Declines (accepted_text net.now (count_of_loops net.now) loose))) }
+    ensures { IfOk result (λ told. outcome_of told ≡ done (Declines (accepted_text looped.now.net (count_of_loops looped.now.net) loose))) }
 {
-    Ok(on_err(
-        alloc,
-        status::REFUSED,
-        accepted_line(alloc, net, blocks, loose)?,
-    ))
+    Ok(on_err(alloc, status::REFUSED, accepted_line(alloc, looped, loose)?))
 }
 
 // That the rewritten netlist is too large.
@@ -132,23 +131,42 @@ fn tell_rewriting(
     }
 }
 
+// A netlist with its loops unrolled by so many sweeps.
+fn without_loops(
+    alloc: Global,
+    looped: &LoopedNetlist<'_>,
+    sweeps: &SweepCounts,
+) -> Result<Netlist, UnrollFault>
+    requires sweeps { length sweeps.now.per_block ≡ length looped.now.blocks.list }
+    requires columns { columns looped.now.net ≤ 1000000000 }
+    ensures rewriting { IfOk result (λ other. (care : CareSet) (observe : Observed) → Accepts looped.now.net care observe →
+        AreSweepsOnCare looped.now.net looped.now.blocks looped.now.cut care sweeps.now → IsRewriting looped.now.net care other) }
+    ensures small { OnOk result ((care : CareSet) → AreSweepsOnCare looped.now.net looped.now.blocks looped.now.cut care sweeps.now →
+        rewritten_size_of looped.now.net care ≤ 4000000) }
+    ensures fault { IfErr result (λ fault. (care : CareSet) → AreSweepsOnCare looped.now.net looped.now.blocks looped.now.cut care sweeps.now →
+        IsUnrollFault (rewritten_size_of looped.now.net care) fault) }
+    ensures loop_free { IfOk result IsLoopFree }
+    ensures interface { IfOk result (KeepsInterface looped.now.net) }
+{
+    let net = looped.net();
+    let blocks = looped.blocks();
+    let cut = looped.cut();
+    rewrite(alloc, net, blocks, cut, sweeps)
+}
+
 // Rewrites an accepted netlist, and tells what comes of it.
 fn tell_rewritten(
     alloc: Global,
-    net: &Netlist,
-    blocks: &Blocks,
-    cut: &Cut,
+    looped: &LoopedNetlist<'_>,
     sweeps: &SweepCounts,
 ) -> Result<Outcome, AllocError>
-    requires blocks { AreBlocksOf net.now blocks.now }
-    requires cut { IsCutOf net.now cut.now }
-    requires sweeps { length sweeps.now.per_block ≡ length blocks.now.list }
-    requires columns { columns net.now ≤ 1000000000 }
-    ensures { IfOk result (λ told. (care : CareSet) (observe : Observed) (limit : ℕ) → Accepts net.now care observe →
-        AreSweepsOnCare net.now blocks.now cut.now care sweeps.now →
-        IsAccepted record { net = net.now; care = care; limit = limit; observe = observe } Rewrites (outcome_of told)) }
+    requires sweeps { length sweeps.now.per_block ≡ length looped.now.blocks.list }
+    requires columns { columns looped.now.net ≤ 1000000000 }
+    ensures { IfOk result (λ told. (care : CareSet) (observe : Observed) (limit : ℕ) → Accepts looped.now.net care observe →
+        AreSweepsOnCare looped.now.net looped.now.blocks looped.now.cut care sweeps.now →
+        IsAccepted record { net = looped.now.net; care = care; limit = limit; observe = observe } Rewrites (outcome_of told)) }
 {
-    let rewriting = rewrite(alloc, net, blocks, cut, sweeps);
+    let rewriting = without_loops(alloc, looped, sweeps);
     tell_rewriting(alloc, &rewriting)
 }
 
@@ -192,21 +210,17 @@ fn tell_graph_of(alloc: Global, other: &Netlist) -> Result<Outcome, AllocError>
 // Rewrites an accepted netlist, and tells what comes of its graph.
 fn tell_graphed(
     alloc: Global,
-    net: &Netlist,
-    blocks: &Blocks,
-    cut: &Cut,
+    looped: &LoopedNetlist<'_>,
     sweeps: &SweepCounts,
 ) -> Result<Outcome, AllocError>
-    requires valid { IsNetlist net.now }
-    requires blocks { AreBlocksOf net.now blocks.now }
-    requires cut { IsCutOf net.now cut.now }
-    requires sweeps { length sweeps.now.per_block ≡ length blocks.now.list }
-    requires columns { columns net.now ≤ 1000000000 }
-    ensures { IfOk result (λ told. (care : CareSet) (observe : Observed) (limit : ℕ) → Accepts net.now care observe →
-        AreSweepsOnCare net.now blocks.now cut.now care sweeps.now →
-        IsAccepted record { net = net.now; care = care; limit = limit; observe = observe } WritesGraph (outcome_of told)) }
+    requires valid { IsNetlist looped.now.net }
+    requires sweeps { length sweeps.now.per_block ≡ length looped.now.blocks.list }
+    requires columns { columns looped.now.net ≤ 1000000000 }
+    ensures { IfOk result (λ told. (care : CareSet) (observe : Observed) (limit : ℕ) → Accepts looped.now.net care observe →
+        AreSweepsOnCare looped.now.net looped.now.blocks looped.now.cut care sweeps.now →
+        IsAccepted record { net = looped.now.net; care = care; limit = limit; observe = observe } WritesGraph (outcome_of told)) }
 {
-    let rewriting = rewrite(alloc, net, blocks, cut, sweeps);
+    let rewriting = without_loops(alloc, looped, sweeps);
     match &rewriting {
         Ok(other) => tell_graph_of(alloc, other),
         Err(fault) => tell_outgrown(alloc, fault),
@@ -216,21 +230,21 @@ fn tell_graphed(
 // How many gates the rewritten netlist of an accepted one has. It is made, unless it is too large.
 fn count_rewritten(
     alloc: Global,
-    net: &Netlist,
-    blocks: &Blocks,
-    cut: &Cut,
+    looped: &LoopedNetlist<'_>,
     sweeps: &SweepCounts,
 ) -> Result<u64, AllocError>
-    requires blocks { AreBlocksOf net.now blocks.now }
-    requires cut { IsCutOf net.now cut.now }
-    requires sweeps { length sweeps.now.per_block ≡ length blocks.now.list }
-    requires columns { columns net.now ≤ 1000000000 }
-    ensures { IfOk result (λ gates. (care : CareSet) (observe : Observed) → Accepts net.now care observe →
-        AreSweepsOnCare net.now blocks.now cut.now care sweeps.now → gates ≡ length (rewritten_netlist net.now care).gates) }
+    requires sweeps { length sweeps.now.per_block ≡ length looped.now.blocks.list }
+    requires columns { columns looped.now.net ≤ 1000000000 }
+    ensures { IfOk result (λ gates. (care : CareSet) (observe : Observed) → Accepts looped.now.net care observe →
+        AreSweepsOnCare looped.now.net looped.now.blocks looped.now.cut care sweeps.now → gates ≡ length (rewritten_netlist looped.now.net care).gates) }
 {
-    match rewrite(alloc, net, blocks, cut, sweeps) {
+    match without_loops(alloc, looped, sweeps) {
         Ok(other) => Ok(u64::from(other.gates())),
-        Err(UnrollFault::TooLarge { size: _ }) => Ok(rewritten_gates(net, blocks, sweeps)),
+        Err(UnrollFault::TooLarge { size: _ }) => {
+            let net = looped.net();
+            let blocks = looped.blocks();
+            Ok(rewritten_gates(net, blocks, sweeps))
+        }
         Err(UnrollFault::Memory) => Err(AllocError),
     }
 }
@@ -238,18 +252,16 @@ fn count_rewritten(
 fn tell_ring(
     alloc: Global,
     cells: Cells,
-    net: &Netlist,
-    blocks: &Blocks,
+    looped: &LoopedNetlist<'_>,
     rewritten: u64,
 ) -> Result<Outcome, AllocError>
-    requires { AreBlocksOf net.now blocks.now }
-    ensures { IfOk result (λ told. outcome_of told ≡ done (Prints (ring_line (cells_seen cells) net.now (count_of_loops net.now) rewritten))) }
+    ensures { IfOk result (λ told. outcome_of told ≡ done (Prints (ring_line (cells_seen cells) looped.now.net (count_of_loops looped.now.net) rewritten))) }
 {
     let mut sink = TextSink::new(alloc);
     match put_ring(
         cells.number,
-        net,
-        count_loops(net, blocks),
+        looped.net(),
+        number_of_loops(looped),
         rewritten,
         &mut sink,
     ) {
@@ -261,58 +273,50 @@ fn tell_ring(
 // What is told of an accepted netlist.
 fn tell_acceptance(
     alloc: Global,
-    net: &Netlist,
-    blocks: &Blocks,
-    cut: &Cut,
-    observe: Observe,
-    purpose: Purpose,
+    looped: &LoopedNetlist<'_>,
+    task: Task,
     sweeps: &SweepCounts,
     loose: u32,
 ) -> Result<Outcome, AllocError>
-    requires valid { IsNetlist net.now }
-    requires blocks { AreBlocksOf net.now blocks.now }
-    requires cut { IsCutOf net.now cut.now }
-    requires sweeps { length sweeps.now.per_block ≡ length blocks.now.list }
-    requires columns { columns net.now ≤ 1000000000 }
-    ensures { IfOk result (λ told. (care : CareSet) → IsAcceptance net.now blocks.now cut.now care observe sweeps.now loose → (limit : ℕ) →
-        IsAccepted record { net = net.now; care = care; limit = limit; observe = observe } (purpose_seen purpose) (outcome_of told)) }
+    requires valid { IsNetlist looped.now.net }
+    requires sweeps { length sweeps.now.per_block ≡ length looped.now.blocks.list }
+    requires columns { columns looped.now.net ≤ 1000000000 }
+    ensures { IfOk result (λ told. (care : CareSet) → IsAcceptance looped.now.net looped.now.blocks looped.now.cut care task.observe sweeps.now loose → (limit : ℕ) →
+        IsAccepted record { net = looped.now.net; care = care; limit = limit; observe = task.observe } (purpose_seen task.purpose) (outcome_of told)) }
 {
-    match purpose {
-        Purpose::Judge => tell_accepted(alloc, net, blocks, loose_told(observe, loose)),
-        Purpose::Rewrite => tell_rewritten(alloc, net, blocks, cut, sweeps),
-        Purpose::Aiger => tell_graphed(alloc, net, blocks, cut, sweeps),
+    match task.purpose {
+        Purpose::Judge => tell_accepted(alloc, looped, loose_told(task.observe, loose)),
+        Purpose::Rewrite => tell_rewritten(alloc, looped, sweeps),
+        Purpose::Aiger => tell_graphed(alloc, looped, sweeps),
         Purpose::Explain(form) => {
-            let number = loose_told(observe, loose);
-            tell_loops_explained(alloc, net, blocks, cut, sweeps, number, form)
+            let number = loose_told(task.observe, loose);
+            tell_loops_explained(alloc, looped, sweeps, number, form)
         }
         Purpose::Demonstrate(cells) => {
-            let rewritten = count_rewritten(alloc, net, blocks, cut, sweeps)?;
-            tell_ring(alloc, cells, net, blocks, rewritten)
+            let rewritten = count_rewritten(alloc, looped, sweeps)?;
+            tell_ring(alloc, cells, looped, rewritten)
         }
-        Purpose::Storm(_) => tell_calm(alloc, net, blocks, loose_told(observe, loose)),
+        Purpose::Storm(_) => tell_calm(alloc, looped, loose_told(task.observe, loose)),
     }
 }
 
 // What is told of a refused one.
 fn tell_refusal(
     alloc: Global,
-    net: &Netlist,
-    blocks: &Blocks,
-    cut: &Cut,
+    looped: &LoopedNetlist<'_>,
     purpose: Purpose,
     refusal: &Refusal,
 ) -> Result<Outcome, AllocError>
-    requires valid { IsNetlist net.now }
-    requires blocks { AreBlocksOf net.now blocks.now }
-    requires cut { IsCutOf net.now cut.now }
-    requires fits { IsRefusalOf net.now refusal.now }
-    requires shown { IsShown net.now refusal.now }
-    ensures { IfOk result (λ told. IsRefusalTold net.now (purpose_seen purpose) refusal.now (outcome_of told)) }
+    requires valid { IsNetlist looped.now.net }
+    requires fits { IsRefusalOf looped.now.net refusal.now }
+    requires shown { IsShown looped.now.net refusal.now }
+    ensures { IfOk result (λ told. IsRefusalTold looped.now.net (purpose_seen purpose) refusal.now (outcome_of told)) }
 {
+    let net = looped.net();
     match purpose {
         Purpose::Judge | Purpose::Demonstrate(_) => tell_refused(alloc, net, refusal),
         Purpose::Rewrite | Purpose::Aiger => tell_declined(alloc, net, refusal),
-        Purpose::Explain(form) => tell_explained(alloc, net, blocks, cut, refusal, form),
+        Purpose::Explain(form) => tell_explained(alloc, looped, refusal, form),
         Purpose::Storm(rounds) => tell_storm(alloc, net, refusal, rounds),
     }
 }
@@ -320,26 +324,19 @@ fn tell_refusal(
 // What is told of a verdict.
 fn tell_verdict(
     alloc: Global,
-    net: &Netlist,
-    blocks: &Blocks,
-    cut: &Cut,
-    observe: Observe,
-    purpose: Purpose,
+    looped: &LoopedNetlist<'_>,
+    task: Task,
     verdict: &Verdict,
 ) -> Result<Outcome, AllocError>
-    requires valid { IsNetlist net.now }
-    requires columns { columns net.now ≤ 1000000000 }
-    requires blocks { AreBlocksOf net.now blocks.now }
-    requires cut { IsCutOf net.now cut.now }
-    requires fits { IsTellable net.now blocks.now verdict.now }
-    ensures { IfOk result (λ told. (care : CareSet) → IsVerdict net.now blocks.now cut.now care observe verdict.now → (limit : ℕ) (nodes : Arena) →
-        IsDecided record { net = net.now; care = care; limit = limit; observe = observe } (purpose_seen purpose) nodes (outcome_of told)) }
+    requires valid { IsNetlist looped.now.net }
+    requires columns { columns looped.now.net ≤ 1000000000 }
+    requires fits { IsTellable looped.now.net looped.now.blocks verdict.now }
+    ensures { IfOk result (λ told. (care : CareSet) → IsVerdict looped.now.net looped.now.blocks looped.now.cut care task.observe verdict.now → (limit : ℕ) (nodes : Arena) →
+        IsDecided record { net = looped.now.net; care = care; limit = limit; observe = task.observe } (purpose_seen task.purpose) nodes (outcome_of told)) }
 {
     match verdict {
-        Verdict::Accepted { sweeps, loose } => {
-            tell_acceptance(alloc, net, blocks, cut, observe, purpose, sweeps, *loose)
-        }
-        Verdict::Refused(refusal) => tell_refusal(alloc, net, blocks, cut, purpose, refusal),
+        Verdict::Accepted { sweeps, loose } => tell_acceptance(alloc, looped, task, sweeps, *loose),
+        Verdict::Refused(refusal) => tell_refusal(alloc, looped, task.purpose, refusal),
     }
 }
 
@@ -353,29 +350,27 @@ fn tell_limited(alloc: Global, fault: &DecideFault) -> Result<Outcome, AllocErro
     }
 }
 
-// Decides a netlist on its care set within so many nodes, where these wires are observed, and tells of it what is
-// wanted.
+// Decides a netlist on its care set, and tells of it what is wanted.
 pub(crate) fn decide_netlist(
     alloc: Global,
     net: &Netlist,
     care: &Care,
-    limit: u32,
-    observe: Observe,
-    purpose: Purpose,
+    task: Task,
     d: &mut Diagrams,
 ) -> Result<Outcome, AllocError>
     requires valid { IsNetlist net.now }
     requires columns { columns net.now ≤ 1000000000 }
     requires care { IsCareOf net.now care.now }
-    requires limit { limit ≤ most_nodes }
-    ensures { IfOk result (λ told. IsDecided record { net = net.now; care = care.now; limit = limit; observe = observe }
-        (purpose_seen purpose) d.new (outcome_of told)) }
+    requires limit { task.limit ≤ most_nodes }
+    ensures { IfOk result (λ told. IsDecided record { net = net.now; care = care.now; limit = task.limit; observe = task.observe }
+        (purpose_seen task.purpose) d.new (outcome_of told)) }
 {
     let blocks = find_blocks(alloc, net)?;
     let cut = find_cut(alloc, net, &blocks)?;
-    let decision = decide(alloc, d, net, &blocks, &cut, care, limit, observe);
+    let looped = LoopedNetlist::new(net, &blocks, &cut);
+    let decision = decide(alloc, d, net, &blocks, &cut, care, task.limit, task.observe);
     match &decision {
-        Ok(verdict) => tell_verdict(alloc, net, &blocks, &cut, observe, purpose, verdict),
+        Ok(verdict) => tell_verdict(alloc, &looped, task, verdict),
         Err(fault) => tell_limited(alloc, fault),
     }
 }

@@ -1,31 +1,32 @@
 // Why a refused wire is undetermined, and what is told of the loops of an accepted netlist.
-ghost use Rattle.std.specs.Prelude.{◌≡◌, ◌<◌, ◌+◌, ◌++◌, [], length, IfOk};
+ghost use Rattle.std.specs.Prelude.{◌≡◌, ◌≢◌, ◌<◌, ◌++◌, [], length, IfOk, IfSome, IfNone, OnOk};
 ghost use Rattle.care_sets.specs.Care.{CareSet};
 ghost use Rattle.commands.specs.declared.form.Form.TheVariants.{Dot, Lines};
 ghost use Rattle.cyc_base.specs.declared.trit.Trit.TheVariants.{X};
 ghost use Rattle.cyc_base.specs.Values.{bits};
+ghost use Rattle.cyc_io.specs.Text.{text_bytes};
 ghost use Rattle.accepted_loops.specs.Graphs.{told_graph};
+ghost use Rattle.accepted_loops.specs.Lines.{told_loops};
 ghost use Rattle.dot_text.specs.Dot.{labelled_graph};
 ghost use Rattle.dot_text.specs.ExplanationGraphs.{explanation_graph};
+ghost use Rattle.explanations.specs.Explained.{Explains};
 ghost use Rattle.rewriting.specs.Rewriting.{sweeps_needed};
-ghost use Rattle.loops.specs.Blocks.{AreBlocksOf};
-ghost use Rattle.loops.specs.Cuts.{IsCutOf};
+ghost use Rattle.loops.specs.Sweeps.{gate_of};
 ghost use Rattle.netlist.specs.Fixpoint.{fix, wire as wire_of};
 ghost use Rattle.netlist.specs.Netlists.{IsNetlist};
 ghost use Rattle.refusals.specs.Refusals.{IsAt, IsRefusalOf};
 ghost use Rattle.refusals.specs.declared.refusal.Refusal.TheVariants.{Undetermined};
 ghost use Rattle.report.specs.Explanations.{IsExplanationOf};
-ghost use Rattle.report.specs.Verdicts.{accepted_text, refusal_text};
 ghost use Rattle.verdict.specs.Verdicts.{AreSweepsOnCare};
 ghost use Rattle.cyc_tool.specs.Answer.{told as done};
 ghost use Rattle.cyc_tool.specs.Calls.{IsWireExplained};
-ghost use Rattle.cyc_tool.specs.Endings.{count_of_loops, loops_explained, refusal_shown, wire_explained};
+ghost use Rattle.cyc_tool.specs.Endings.{loops_explained, refusal_shown, wire_explained};
 ghost use Rattle.cyc_tool.specs.Plans.{Prints, Refuses};
 ghost use Rattle.cyc_tool.specs.Seen.{IsRefusalExplained, outcome_of};
 
 use crate::outcome::Outcome;
 use crate::status;
-use crate::texts::{accepted_line, on_out, refusal_of, tell_refused};
+use crate::texts::{accepted_line, on_out, put_accepted_line, refusal_of, tell_refused};
 use accepted_loops::{tell_loops, tell_loops_graph};
 use commands::Form;
 use cyc_base::Sig;
@@ -33,29 +34,35 @@ use cyc_io::TextSink;
 use dot_text::{put_label_graph, tell_explanation_graph};
 use explanations::{Explanation, explain};
 use fixpoint::SweepCounts;
-use loops::{Blocks, Cut, count_loops};
+use looped::LoopedNetlist;
 use netlist::Netlist;
 use refusals::Refusal;
-use report::{put_accepted, put_explained};
+use report::put_explained;
 use std::alloc::{AllocError, Global};
+
+// A wire that is refused at a vector.
+#[derive(Drop)]
+struct RefusedWire<'a> {
+    looped: &'a LoopedNetlist<'a>,
+    refusal: &'a Refusal,
+    vector: &'a [bool],
+    wire: Sig,
+    ghost is: { refusal.now ≡ Undetermined vector.now wire },
+    ghost at: { IsAt looped.now.net vector.now wire },
+}
 
 // A refusal, and behind it the lines of an explanation.
 fn tell_explanation(
     alloc: Global,
-    net: &Netlist,
-    refusal: &Refusal,
+    refused: &RefusedWire<'_>,
     why: &Explanation,
-    vector: &[bool],
-    wire: Sig,
 ) -> Result<Outcome, AllocError>
-    requires valid { IsNetlist net.now }
-    requires refusal { IsRefusalOf net.now refusal.now }
-    requires is { refusal.now ≡ Undetermined vector.now wire }
-    requires why { IsExplanationOf net.now why.now }
-    ensures { IfOk result (λ told. outcome_of told ≡ done (Refuses (wire_explained Lines net.now vector.now wire why.now))) }
+    requires valid { IsNetlist refused.now.looped.now.net }
+    requires why { IsExplanationOf refused.now.looped.now.net why.now }
+    ensures { IfOk result (λ told. outcome_of told ≡ done (Refuses (wire_explained Lines refused.now.looped.now.net refused.now.vector.now refused.now.wire why.now))) }
 {
     let mut sink = TextSink::new(alloc);
-    match put_explained(net, refusal, why, &mut sink) {
+    match put_explained(refused.looped.net(), refused.refusal, why, &mut sink) {
         Ok(()) => Ok(on_out(alloc, status::REFUSED, sink.into_vec())),
         Err(_) => Err(AllocError),
     }
@@ -64,76 +71,63 @@ fn tell_explanation(
 // The graph of an explanation, with this text as its label.
 fn tell_labelled(
     alloc: Global,
-    net: &Netlist,
-    blocks: &Blocks,
-    cut: &Cut,
-    vector: &[bool],
+    refused: &RefusedWire<'_>,
     why: &Explanation,
     label: &[u8],
 ) -> Result<Outcome, AllocError>
-    requires valid { IsNetlist net.now }
-    requires blocks { AreBlocksOf net.now blocks.now }
-    requires cut { IsCutOf net.now cut.now }
-    requires width { length vector.now ≡ length net.now.inputs + length net.now.latches }
-    requires why { IsExplanationOf net.now why.now }
+    requires valid { IsNetlist refused.now.looped.now.net }
+    requires why { IsExplanationOf refused.now.looped.now.net why.now }
     requires some { 0 < length why.now.cycle }
-    ensures { IfOk result (λ told. outcome_of told ≡ done (Refuses (explanation_graph net.now label.now (fix net.now (bits vector.now)) why.now))) }
+    ensures { IfOk result (λ told. outcome_of told ≡ done (Refuses (explanation_graph refused.now.looped.now.net label.now
+        (fix refused.now.looped.now.net (bits refused.now.vector.now)) why.now))) }
 {
+    let net = refused.looped.net();
+    let blocks = refused.looped.blocks();
+    let cut = refused.looped.cut();
     let mut sink = TextSink::new(alloc);
-    tell_explanation_graph(alloc, net, blocks, cut, vector, why, label, &mut sink)?;
+    tell_explanation_graph(
+        alloc,
+        net,
+        blocks,
+        cut,
+        refused.vector,
+        why,
+        label,
+        &mut sink,
+    )?;
     Ok(on_out(alloc, status::REFUSED, sink.into_vec()))
 }
 
-// The same with a refusal as its label.
+// The same with the refusal as its label.
 fn draw_explanation(
     alloc: Global,
-    net: &Netlist,
-    blocks: &Blocks,
-    cut: &Cut,
-    refusal: &Refusal,
+    refused: &RefusedWire<'_>,
     why: &Explanation,
-    vector: &[bool],
-    wire: Sig,
 ) -> Result<Outcome, AllocError>
-    requires valid { IsNetlist net.now }
-    requires blocks { AreBlocksOf net.now blocks.now }
-    requires cut { IsCutOf net.now cut.now }
-    requires refusal { IsRefusalOf net.now refusal.now }
-    requires is { refusal.now ≡ Undetermined vector.now wire }
-    requires width { length vector.now ≡ length net.now.inputs + length net.now.latches }
-    requires why { IsExplanationOf net.now why.now }
+    requires valid { IsNetlist refused.now.looped.now.net }
+    requires why { IsExplanationOf refused.now.looped.now.net why.now }
     requires some { 0 < length why.now.cycle }
-    ensures { IfOk result (λ told. outcome_of told ≡ done (Refuses (wire_explained Dot net.now vector.now wire why.now))) }
+    ensures { IfOk result (λ told. outcome_of told ≡ done (Refuses (wire_explained Dot refused.now.looped.now.net refused.now.vector.now refused.now.wire why.now))) }
 {
-    let label = refusal_of(alloc, net, refusal)?;
-    tell_labelled(alloc, net, blocks, cut, vector, why, &label)
+    let label = refusal_of(alloc, refused.looped.net(), refused.refusal)?;
+    tell_labelled(alloc, refused, why, &label)
 }
 
-// A wire that is refused at this vector, with why.
+// A refused wire, with why.
 fn tell_why(
     alloc: Global,
-    net: &Netlist,
-    blocks: &Blocks,
-    cut: &Cut,
-    refusal: &Refusal,
+    refused: &RefusedWire<'_>,
     why: &Explanation,
-    vector: &[bool],
-    wire: Sig,
     form: Form,
 ) -> Result<Outcome, AllocError>
-    requires valid { IsNetlist net.now }
-    requires blocks { AreBlocksOf net.now blocks.now }
-    requires cut { IsCutOf net.now cut.now }
-    requires refusal { IsRefusalOf net.now refusal.now }
-    requires is { refusal.now ≡ Undetermined vector.now wire }
-    requires width { length vector.now ≡ length net.now.inputs + length net.now.latches }
-    requires why { IsExplanationOf net.now why.now }
+    requires valid { IsNetlist refused.now.looped.now.net }
+    requires why { IsExplanationOf refused.now.looped.now.net why.now }
     requires some { 0 < length why.now.cycle }
-    ensures { IfOk result (λ told. outcome_of told ≡ done (Refuses (wire_explained form net.now vector.now wire why.now))) }
+    ensures { IfOk result (λ told. outcome_of told ≡ done (Refuses (wire_explained form refused.now.looped.now.net refused.now.vector.now refused.now.wire why.now))) }
 {
     match form {
-        Form::Lines => tell_explanation(alloc, net, refusal, why, vector, wire),
-        Form::Dot => draw_explanation(alloc, net, blocks, cut, refusal, why, vector, wire),
+        Form::Lines => tell_explanation(alloc, refused, why),
+        Form::Dot => draw_explanation(alloc, refused, why),
     }
 }
 
@@ -172,102 +166,107 @@ fn tell_alone(
     }
 }
 
-// A wire that is refused at this vector, with why. A wire that is determined there would have no explanation.
-fn tell_wire(
+// Why a refused wire is undetermined. One that is determined would have no explanation.
+fn explanation_of(
     alloc: Global,
-    net: &Netlist,
-    blocks: &Blocks,
-    cut: &Cut,
-    vector: &[bool],
-    wire: Sig,
-    refusal: &Refusal,
-    form: Form,
-) -> Result<Outcome, AllocError>
-    requires valid { IsNetlist net.now }
-    requires blocks { AreBlocksOf net.now blocks.now }
-    requires cut { IsCutOf net.now cut.now }
-    requires at { IsAt net.now vector.now wire }
-    requires refusal { refusal.now ≡ Undetermined vector.now wire }
-    ensures { IfOk result (λ told. wire_of (fix net.now (bits vector.now)) wire ≡ X → IsWireExplained form net.now vector.now wire (outcome_of told)) }
+    refused: &RefusedWire<'_>,
+) -> Result<Option<Explanation>, AllocError>
+    ensures found { IfOk result (λ found. IfSome found (Explains refused.now.looped.now.net refused.now.vector.now (gate_of refused.now.looped.now.net refused.now.wire))) }
+    ensures none { IfOk result (λ found. IfNone found (wire_of (fix refused.now.looped.now.net (bits refused.now.vector.now)) refused.now.wire ≢ X)) }
 {
-    let gate = wire.0 - (net.inputs() + net.latches());
-    let found = explain(alloc, net, vector, gate)?;
+    let net = refused.looped.net();
+    let gate = refused.wire.0 - (net.inputs() + net.latches());
+    explain(alloc, net, refused.vector, gate)
+}
+
+// A refused wire, with why it is undetermined, as lines or as a graph.
+fn tell_wire(alloc: Global, refused: &RefusedWire<'_>, form: Form) -> Result<Outcome, AllocError>
+    requires { IsNetlist refused.now.looped.now.net }
+    ensures { IfOk result (λ told. wire_of (fix refused.now.looped.now.net (bits refused.now.vector.now)) refused.now.wire ≡ X →
+        IsWireExplained form refused.now.looped.now.net refused.now.vector.now refused.now.wire (outcome_of told)) }
+{
+    let found = explanation_of(alloc, refused)?;
     match &found {
-        Some(why) => tell_why(alloc, net, blocks, cut, refusal, why, vector, wire, form),
-        None => tell_alone(alloc, net, refusal, form),
+        Some(why) => tell_why(alloc, refused, why, form),
+        None => tell_alone(alloc, refused.looped.net(), refused.refusal, form),
     }
 }
 
 // A refusal, with why a wire is undetermined, as lines or as a graph.
 pub(crate) fn tell_explained(
     alloc: Global,
-    net: &Netlist,
-    blocks: &Blocks,
-    cut: &Cut,
+    looped: &LoopedNetlist<'_>,
     refusal: &Refusal,
     form: Form,
 ) -> Result<Outcome, AllocError>
-    requires valid { IsNetlist net.now }
-    requires blocks { AreBlocksOf net.now blocks.now }
-    requires cut { IsCutOf net.now cut.now }
-    requires fits { IsRefusalOf net.now refusal.now }
-    ensures { IfOk result (λ told. IsRefusalExplained form net.now refusal.now (outcome_of told)) }
+    requires valid { IsNetlist looped.now.net }
+    requires fits { IsRefusalOf looped.now.net refusal.now }
+    ensures { IfOk result (λ told. IsRefusalExplained form looped.now.net refusal.now (outcome_of told)) }
 {
     match refusal {
         Refusal::Undetermined { vector, wire } => {
-            tell_wire(
-                alloc,
-                net,
-                blocks,
-                cut,
-                vector.items(),
-                *wire,
+            let refused = RefusedWire {
+                looped,
                 refusal,
-                form,
-            )
+                vector: vector.items(),
+                wire: *wire,
+            };
+            tell_wire(alloc, &refused, form)
         }
-        _ => tell_alone(alloc, net, refusal, form),
+        _ => tell_alone(alloc, looped.net(), refusal, form),
     }
+}
+
+// Appends the lines of the loops, with the sweeps that they need.
+fn append_loops(
+    alloc: Global,
+    looped: &LoopedNetlist<'_>,
+    sweeps: &SweepCounts,
+    sink: &mut TextSink,
+) -> Result<(), AllocError>
+    requires { length sweeps.now.per_block ≡ length looped.now.blocks.list }
+    ensures { OnOk result ((care : CareSet) → AreSweepsOnCare looped.now.net looped.now.blocks looped.now.cut care sweeps.now →
+        text_bytes sink.new ≡ text_bytes sink.old ++ told_loops looped.now.net (sweeps_needed looped.now.net care)) }
+{
+    let net = looped.net();
+    let blocks = looped.blocks();
+    let cut = looped.cut();
+    tell_loops(alloc, net, blocks, cut, sweeps, sink)
 }
 
 // The line of an accepted netlist, and behind it those of its loops.
 fn list_loops(
     alloc: Global,
-    net: &Netlist,
-    blocks: &Blocks,
-    cut: &Cut,
+    looped: &LoopedNetlist<'_>,
     sweeps: &SweepCounts,
     loose: Option<u32>,
 ) -> Result<Outcome, AllocError>
-    requires blocks { AreBlocksOf net.now blocks.now }
-    requires cut { IsCutOf net.now cut.now }
-    requires sweeps { length sweeps.now.per_block ≡ length blocks.now.list }
-    ensures { IfOk result (λ told. (care : CareSet) → AreSweepsOnCare net.now blocks.now cut.now care sweeps.now →
-        outcome_of told ≡ done (Prints (loops_explained Lines net.now care loose))) }
+    requires { length sweeps.now.per_block ≡ length looped.now.blocks.list }
+    ensures { IfOk result (λ told. (care : CareSet) → AreSweepsOnCare looped.now.net looped.now.blocks looped.now.cut care sweeps.now →
+        outcome_of told ≡ done (Prints (loops_explained Lines looped.now.net care loose))) }
 {
     let mut sink = TextSink::new(alloc);
-    if put_accepted(net, count_loops(net, blocks), loose, &mut sink).is_err() {
+    if put_accepted_line(looped, loose, &mut sink).is_err() {
         return Err(AllocError);
     }
-    tell_loops(alloc, net, blocks, cut, sweeps, &mut sink)?;
+    append_loops(alloc, looped, sweeps, &mut sink)?;
     Ok(on_out(alloc, status::DONE, sink.into_vec()))
 }
 
 // The graph of the loops, with this text as its label.
 fn draw_labelled(
     alloc: Global,
-    net: &Netlist,
-    blocks: &Blocks,
-    cut: &Cut,
+    looped: &LoopedNetlist<'_>,
     sweeps: &SweepCounts,
     label: &[u8],
 ) -> Result<Outcome, AllocError>
-    requires blocks { AreBlocksOf net.now blocks.now }
-    requires cut { IsCutOf net.now cut.now }
-    requires sweeps { length sweeps.now.per_block ≡ length blocks.now.list }
-    ensures { IfOk result (λ told. (care : CareSet) → AreSweepsOnCare net.now blocks.now cut.now care sweeps.now →
-        outcome_of told ≡ done (Prints (told_graph net.now label.now (sweeps_needed net.now care)))) }
+    requires { length sweeps.now.per_block ≡ length looped.now.blocks.list }
+    ensures { IfOk result (λ told. (care : CareSet) → AreSweepsOnCare looped.now.net looped.now.blocks looped.now.cut care sweeps.now →
+        outcome_of told ≡ done (Prints (told_graph looped.now.net label.now (sweeps_needed looped.now.net care)))) }
 {
+    let net = looped.net();
+    let blocks = looped.blocks();
+    let cut = looped.cut();
     let mut sink = TextSink::new(alloc);
     tell_loops_graph(alloc, net, blocks, cut, sweeps, label, &mut sink)?;
     Ok(on_out(alloc, status::DONE, sink.into_vec()))
@@ -276,40 +275,32 @@ fn draw_labelled(
 // The same with the line of an accepted netlist as its label.
 fn draw_loops(
     alloc: Global,
-    net: &Netlist,
-    blocks: &Blocks,
-    cut: &Cut,
+    looped: &LoopedNetlist<'_>,
     sweeps: &SweepCounts,
     loose: Option<u32>,
 ) -> Result<Outcome, AllocError>
-    requires blocks { AreBlocksOf net.now blocks.now }
-    requires cut { IsCutOf net.now cut.now }
-    requires sweeps { length sweeps.now.per_block ≡ length blocks.now.list }
-    ensures { IfOk result (λ told. (care : CareSet) → AreSweepsOnCare net.now blocks.now cut.now care sweeps.now →
-        outcome_of told ≡ done (Prints (loops_explained Dot net.now care loose))) }
+    requires { length sweeps.now.per_block ≡ length looped.now.blocks.list }
+    ensures { IfOk result (λ told. (care : CareSet) → AreSweepsOnCare looped.now.net looped.now.blocks looped.now.cut care sweeps.now →
+        outcome_of told ≡ done (Prints (loops_explained Dot looped.now.net care loose))) }
 {
-    let label = accepted_line(alloc, net, blocks, loose)?;
-    draw_labelled(alloc, net, blocks, cut, sweeps, &label)
+    let label = accepted_line(alloc, looped, loose)?;
+    draw_labelled(alloc, looped, sweeps, &label)
 }
 
 // What is told of an accepted netlist and of its loops, as lines or as a graph.
 pub(crate) fn tell_loops_explained(
     alloc: Global,
-    net: &Netlist,
-    blocks: &Blocks,
-    cut: &Cut,
+    looped: &LoopedNetlist<'_>,
     sweeps: &SweepCounts,
     loose: Option<u32>,
     form: Form,
 ) -> Result<Outcome, AllocError>
-    requires blocks { AreBlocksOf net.now blocks.now }
-    requires cut { IsCutOf net.now cut.now }
-    requires sweeps { length sweeps.now.per_block ≡ length blocks.now.list }
-    ensures { IfOk result (λ told. (care : CareSet) → AreSweepsOnCare net.now blocks.now cut.now care sweeps.now →
-        outcome_of told ≡ done (Prints (loops_explained form net.now care loose))) }
+    requires { length sweeps.now.per_block ≡ length looped.now.blocks.list }
+    ensures { IfOk result (λ told. (care : CareSet) → AreSweepsOnCare looped.now.net looped.now.blocks looped.now.cut care sweeps.now →
+        outcome_of told ≡ done (Prints (loops_explained form looped.now.net care loose))) }
 {
     match form {
-        Form::Lines => list_loops(alloc, net, blocks, cut, sweeps, loose),
-        Form::Dot => draw_loops(alloc, net, blocks, cut, sweeps, loose),
+        Form::Lines => list_loops(alloc, looped, sweeps, loose),
+        Form::Dot => draw_loops(alloc, looped, sweeps, loose),
     }
 }

@@ -12,7 +12,7 @@ ghost use Rattle.cyc_tool.specs.Plans.{ring_care_file, ring_deciding, ring_decid
 ghost use Rattle.cyc_tool.specs.Reading.{FollowsStill, IsStoppedBy};
 ghost use Rattle.cyc_tool.specs.Seen.{end_of, stop_outcome};
 
-use crate::decision::{Purpose, decide_netlist};
+use crate::decision::{Purpose, Task, decide_netlist};
 use crate::outcome::{Outcome, Stop, or_stop};
 use crate::reading::stop_at;
 use bdd_ops::Diagrams;
@@ -74,15 +74,12 @@ fn decide_ring_on(
     ensures { FollowsStill (ring_deciding_on (cells_seen cells) net.now) d.new (end_of result) }
 {
     let care = ring_care(alloc, net, care)?;
-    or_stop(decide_netlist(
-        alloc,
-        net,
-        &care,
-        DEFAULT_NODES,
-        Observe::All,
-        Purpose::Demonstrate(cells),
-        d,
-    ))
+    let task = Task {
+        limit: DEFAULT_NODES,
+        observe: Observe::All,
+        purpose: Purpose::Demonstrate(cells),
+    };
+    or_stop(decide_netlist(alloc, net, &care, task, d))
 }
 
 fn decide_ring(

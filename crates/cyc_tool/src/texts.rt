@@ -14,7 +14,6 @@ ghost use Rattle.aig_core.specs.Answers.{FitsNetlist};
 ghost use Rattle.aiger_write.specs.Text.{aiger_text};
 ghost use Rattle.blif_write.specs.Written.{written};
 ghost use Rattle.loops.specs.Blocks.{AreBlocksOf};
-ghost use Rattle.loops.specs.Cuts.{IsCutOf};
 ghost use Rattle.refusals.specs.Refusals.{IsRefusalOf};
 ghost use Rattle.report.specs.Help.{help_text, topic_text, version_text};
 ghost use Rattle.report.specs.Verdicts.{accepted_text, refusal_text};
@@ -32,7 +31,8 @@ use cyc_base::{Name, Trits};
 use cyc_io::{Failed, TextSink};
 use delay_core::TickEnd;
 use dot_text::put_loops_graph;
-use loops::{Blocks, Cut, count_loops, find_blocks, find_cut};
+use looped::LoopedNetlist;
+use loops::{Blocks, count_loops, find_blocks, find_cut};
 use netlist::Netlist;
 use probes::Kind;
 use refusals::Refusal;
@@ -149,18 +149,34 @@ pub(crate) fn tell_too_large(alloc: Global, size: u64) -> Result<Outcome, AllocE
     }
 }
 
+// How many loops a netlist has.
+pub(crate) fn number_of_loops(looped: &LoopedNetlist<'_>) -> u32
+    ensures { result ≡ count_of_loops looped.now.net }
+{
+    count_loops(looped.net(), looped.blocks())
+}
+
+// Appends the line of an accepted netlist.
+pub(crate) fn put_accepted_line(
+    looped: &LoopedNetlist<'_>,
+    loose: Option<u32>,
+    sink: &mut TextSink,
+) -> Result<(), Failed>
+    ensures { OnOk result (text_bytes sink.new ≡ text_bytes sink.old ++ accepted_text looped.now.net (count_of_loops looped.now.net) loose) }
+{
+    put_accepted(looped.net(), number_of_loops(looped), loose, sink)
+}
+
 // The line of an accepted netlist.
 pub(crate) fn accepted_line(
     alloc: Global,
-    net: &Netlist,
-    blocks: &Blocks,
+    looped: &LoopedNetlist<'_>,
     loose: Option<u32>,
 ) -> Result<Vec<u8>, AllocError>
-    requires { AreBlocksOf net.now blocks.now }
-    ensures { IfOk result (λ text. text.items ≡ accepted_text net.now (count_of_loops net.now) loose) }
+    ensures { IfOk result (λ text. text.items ≡ accepted_text looped.now.net (count_of_loops looped.now.net) loose) }
 {
     let mut sink = TextSink::new(alloc);
-    match put_accepted(net, count_loops(net, blocks), loose, &mut sink) {
+    match put_accepted_line(looped, loose, &mut sink) {
         Ok(()) => Ok(sink.into_vec()),
         Err(_) => Err(AllocError),
     }
@@ -229,43 +245,34 @@ pub(crate) fn tell_aiger(alloc: Global, net: &Netlist, graph: &Built) -> Result<
     }
 }
 
-// The loops of a netlist by its blocks and its cut wires, in this form.
-fn put_shown(
-    net: &Netlist,
-    blocks: &Blocks,
-    cut: &Cut,
-    form: Form,
-    sink: &mut TextSink,
-) -> Result<(), Failed>
-    requires blocks { AreBlocksOf net.now blocks.now }
-    requires cut { IsCutOf net.now cut.now }
-    ensures { OnOk result (text_bytes sink.new ≡ text_bytes sink.old ++ loops_shown form net.now) }
+// Appends the loops of a netlist in this form.
+fn put_shown(looped: &LoopedNetlist<'_>, form: Form, sink: &mut TextSink) -> Result<(), Failed>
+    ensures { OnOk result (text_bytes sink.new ≡ text_bytes sink.old ++ loops_shown form looped.now.net) }
 {
+    let net = looped.net();
+    let blocks = looped.blocks();
+    let cut = looped.cut();
     match form {
         Form::Lines => put_loops(net, blocks, cut, sink),
         Form::Dot => put_loops_graph(net, blocks, cut, sink),
     }
 }
 
-fn cut_loops_shown(
+fn looped_shown(
     alloc: Global,
-    net: &Netlist,
-    blocks: &Blocks,
-    cut: &Cut,
+    looped: &LoopedNetlist<'_>,
     form: Form,
 ) -> Result<Vec<u8>, AllocError>
-    requires blocks { AreBlocksOf net.now blocks.now }
-    requires cut { IsCutOf net.now cut.now }
-    ensures { IfOk result (λ text. text.items ≡ loops_shown form net.now) }
+    ensures { IfOk result (λ text. text.items ≡ loops_shown form looped.now.net) }
 {
     let mut sink = TextSink::new(alloc);
-    match put_shown(net, blocks, cut, form, &mut sink) {
+    match put_shown(looped, form, &mut sink) {
         Ok(()) => Ok(sink.into_vec()),
         Err(_) => Err(AllocError),
     }
 }
 
-// The same by its blocks alone.
+// The same of a netlist with these blocks.
 fn block_loops_shown(
     alloc: Global,
     net: &Netlist,
@@ -276,7 +283,7 @@ fn block_loops_shown(
     ensures { IfOk result (λ text. text.items ≡ loops_shown form net.now) }
 {
     let cut = find_cut(alloc, net, blocks)?;
-    cut_loops_shown(alloc, net, blocks, &cut, form)
+    looped_shown(alloc, &LoopedNetlist::new(net, blocks, &cut), form)
 }
 
 fn loops_shown_in(alloc: Global, net: &Netlist, form: Form) -> Result<Vec<u8>, AllocError>

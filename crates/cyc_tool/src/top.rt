@@ -18,7 +18,7 @@ ghost use Rattle.cyc_tool.specs.Requests.{Shows, request, shown_by};
 ghost use Rattle.cyc_tool.specs.Seen.{end_of, outcome_of, purpose_seen};
 
 use crate::compared::compare_files;
-use crate::decision::{Purpose, decide_netlist};
+use crate::decision::{Purpose, Task, decide_netlist};
 use crate::outcome::{Outcome, Stop, or_stop};
 use crate::plays::{known, played, probed};
 use crate::reading::{read_care, read_netlist, read_schedule_file, read_vector_file, stop_at};
@@ -57,7 +57,12 @@ fn decide_on_care(
 {
     let limit = options.nodes.unwrap_or(DEFAULT_NODES);
     let observe = options.observe.unwrap_or(Observe::All);
-    Ok(decide_netlist(alloc, net, care, limit, observe, purpose, d)?)
+    let task = Task {
+        limit,
+        observe,
+        purpose,
+    };
+    Ok(decide_netlist(alloc, net, care, task, d)?)
 }
 
 // The same on the care set of its care file.

@@ -2,10 +2,17 @@ use Rattle.std.proofs.Common.{inl, inr}
 use Rattle.cyc_tool.proofs.decision.tell_refusal.Goals as goal
 
 pub returns-in-Judge : goal.returns-in-Judge
-returns-in-Judge c = elim c.in-Judge.is [ inl is ↦ rw is c.tell_refused.ensures | inr is ↦ rw is.1 c.tell_refused.ensures ]
+returns-in-Judge c =
+    let told = rw c.net-net.ensures.net at c.tell_refused.ensures in
+    elim c.in-Judge.is [ inl is ↦ rw is told | inr is ↦ rw is.1 told ]
 
 pub returns-in-Rewrite : goal.returns-in-Rewrite
-returns-in-Rewrite c = elim c.in-Rewrite.is [ inl is ↦ rw is c.tell_declined.ensures | inr is ↦ rw is c.tell_declined.ensures ]
+returns-in-Rewrite c =
+    let told = rw c.net-net.ensures.net at c.tell_declined.ensures in
+    elim c.in-Rewrite.is [ inl is ↦ rw is told | inr is ↦ rw is told ]
 
 pub returns-in-Explain : goal.returns-in-Explain
 returns-in-Explain c = rw c.in-Explain.is c.tell_explained.ensures
+
+pub returns-in-Storm : goal.returns-in-Storm
+returns-in-Storm c = rw c.in-Storm.is (rw c.net-net.ensures.net at c.tell_storm.ensures)

@@ -7,14 +7,14 @@ pub returns-in-Accepted : goal.returns-in-Accepted
 returns-in-Accepted c =
     IfOk-weaker c.tell_acceptance.result _ _ (λ told accepted care is limit nodes.
     let acceptance = rw c.in-Accepted.is at is in
-    accepted_decides c.args.net.now care limit c.args.observe (purpose_seen c.args.purpose) nodes (outcome_of told) c.requires.valid acceptance.accepts
+    accepted_decides c.args.looped.now.net care limit c.args.task.observe (purpose_seen c.args.task.purpose) nodes (outcome_of told) c.requires.valid acceptance.accepts
     (accepted care acceptance limit))
     c.tell_acceptance.ensures
 
 pub returns-in-Refused : goal.returns-in-Refused
 returns-in-Refused c =
     IfOk-weaker c.tell_refusal.result _ _ (λ told same care is limit nodes.
-    refused_decides c.args.net.now care limit c.args.observe (purpose_seen c.args.purpose) nodes (outcome_of told) c.in-Refused.refusal c.requires.valid
+    refused_decides c.args.looped.now.net care limit c.args.task.observe (purpose_seen c.args.task.purpose) nodes (outcome_of told) c.in-Refused.refusal c.requires.valid
     (rw c.in-Refused.is at is) same)
     c.tell_refusal.ensures
 

@@ -9,5 +9,5 @@ use Rattle.cyc_tool.proofs.explained.draw_loops.Goals as goal
 pub returns : goal.returns
 returns c =
     IfOk-weaker c.draw_labelled.result _ _ (λ told is care on_care.
-    is care on_care ∙ ap (λ label. done (Prints (told_graph c.args.net.now label (sweeps_needed c.args.net.now care)))) (c.deref.ensures.value ∙ c.in_ok-label.ensures))
+    is care on_care ∙ ap (λ label. done (Prints (told_graph c.args.looped.now.net label (sweeps_needed c.args.looped.now.net care)))) (c.deref.ensures.value ∙ c.in_ok-label.ensures))
     c.draw_labelled.ensures
