@@ -15,10 +15,10 @@ use Rattle.care_sets.specs.Care.{CareSet}
 use Rattle.isolation.specs.Cones.{is_marked}
 use Rattle.std.specs.Iterator.{Yields, YieldsFirstBy}
 use Rattle.std.specs.Prelude.{Some}
-use Rattle.looped.specs.Left.{loop_seen, loops_left}
-use Rattle.looped.specs.Listed.{listed_loops}
-use Rattle.looped.specs.declared.loop_list.ListedLoop.{ListedLoop}
-use Rattle.looped.specs.declared.loop_list.LoopList.{LoopList}
+use Rattle.loops.specs.Left.{loop_seen, loops_left}
+use Rattle.loops.specs.Numbered.{listed_loops}
+use Rattle.loops.specs.declared.loop_list.ListedLoop.{ListedLoop}
+use Rattle.loops.specs.declared.loop_list.LoopList.{LoopList}
 use Rattle.report.specs.LoopTexts.{each_loop, loop_lines, numbered_loops}
 use Rattle.report.proofs.LoopTextLemmas.{one_more, told_first, whole_told}
 use Rattle.rewriting.specs.Rewriting.{sweeps_needed}

@@ -23,7 +23,7 @@ pub use Rattle.cyc_base.specs.Values.{Below, bit, bits}
 pub use Rattle.cyc_base.specs.declared.sig.Sig.{Sig}
 pub use Rattle.cyc_base.specs.declared.trit.Trit.{Trit}
 pub use Rattle.cyc_base.specs.declared.trit.Trit.TheVariants.{One, X, Zero}
-pub use Rattle.looped.specs.Looped.{Looped}
+pub use Rattle.loops.specs.Looped.{Looped}
 pub use Rattle.loops.proofs.Reading.{map_agree}
 pub use Rattle.loops.proofs.Sweeps.{cut_values_agree, fixed_cuts_give_fix}
 pub use Rattle.loops.proofs.Told.{gate_home}

@@ -6,7 +6,7 @@ use Rattle.loops.specs.declared.structure.Blocks.{Blocks}
 use Rattle.loops.specs.declared.structure.Cut.{Cut}
 use Rattle.loops.specs.Blocks.{AreBlocksOf, block_at}
 use Rattle.loops.specs.Cuts.{IsCutOf, Loops, is_cut, loops_by}
-use Rattle.looped.specs.Looped.{Looped}
+use Rattle.loops.specs.Looped.{Looped}
 
 -- the places of the cut wires among the first k of these gates
 pub record AreCutPlacesBelow (cut : ℕ → Bool) (gates : List ℕ) (k : ℕ) (places : List ℕ) : Type 0 where

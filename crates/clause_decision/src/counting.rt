@@ -23,7 +23,7 @@ use crate::simulating::count_at;
 use crate::sweeping::{Swept, ask_open, sweep_on, unswept};
 use care_sets::Care;
 use clause_queries::Reply;
-use looped::LoopedNetlist;
+use loops::LoopedNetlist;
 use loops::{Blocks, Cut};
 use netlist::Netlist;
 use std::alloc::{AllocError, Global};

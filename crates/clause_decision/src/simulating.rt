@@ -16,7 +16,7 @@ ghost use Rattle.clause_decision.specs.Simulations.{seen_of, IsCountAt};
 use crate::looped_block::LoopedBlock;
 use crate::readers::readers_in;
 use cyc_base::{Sig, Trit};
-use looped::LoopedNetlist;
+use loops::LoopedNetlist;
 use loops::{Blocks, Cut, GateList};
 use netlist::Netlist;
 use std::alloc::{AllocError, Global};

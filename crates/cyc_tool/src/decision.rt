@@ -37,7 +37,7 @@ use care_sets::Care;
 use commands::{Cells, Form, Rounds};
 use cyc_io::TextSink;
 use fixpoint::SweepCounts;
-use looped::LoopedNetlist;
+use loops::LoopedNetlist;
 use loops::{find_blocks, find_cut};
 use netlist::Netlist;
 use refusals::{Observe, Refusal};

@@ -34,7 +34,7 @@ use cyc_io::TextSink;
 use dot_text::{put_label_graph, tell_explanation_graph};
 use explanations::{Explanation, explain};
 use fixpoint::SweepCounts;
-use looped::LoopedNetlist;
+use loops::LoopedNetlist;
 use netlist::Netlist;
 use refusals::Refusal;
 use report::put_explained;

@@ -31,7 +31,7 @@ use cyc_base::{Name, Trits};
 use cyc_io::{Failed, TextSink};
 use delay_core::TickEnd;
 use dot_text::put_loops_graph;
-use looped::LoopedNetlist;
+use loops::LoopedNetlist;
 use loops::{Blocks, count_loops, find_blocks, find_cut};
 use netlist::Netlist;
 use probes::Kind;

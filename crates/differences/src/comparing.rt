@@ -25,7 +25,7 @@ use clause_decision::Pair;
 use cyc_base::{Bits, MAX_NODES};
 use dual_rail::Rails;
 use isolation::column_rails;
-use looped::LoopedNetlist;
+use loops::LoopedNetlist;
 use loops::{Blocks, Cut};
 use netlist::Netlist;
 use std::alloc::Global;

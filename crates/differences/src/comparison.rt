@@ -7,7 +7,7 @@ ghost use Rattle.clause_decision.specs.Apart.{IsPairOf};
 
 use care_sets::Care;
 use clause_decision::Pair;
-use looped::LoopedNetlist;
+use loops::LoopedNetlist;
 
 /// Pairs of wires of a netlist that are compared on a care set, by diagrams.
 #[derive(Drop)]

@@ -24,7 +24,7 @@ use crate::node::{open_graph, put_node, put_wire};
 use cyc_base::{Name, Sig, Trit};
 use cyc_io::{Failed, Sink, TextSink, write_whole};
 use explanations::Explanation;
-use looped::LoopedNetlist;
+use loops::LoopedNetlist;
 use loops::{Blocks, Cut};
 use netlist::Netlist;
 use std::alloc::{AllocError, Global};

@@ -7,15 +7,15 @@ ghost use Rattle.loops.specs.Blocks.{AreBlocksOf};
 ghost use Rattle.loops.specs.Cuts.{IsCutOf};
 ghost use Rattle.loops.specs.Found.{loops_of};
 ghost use Rattle.loops.specs.Sweeps.{gate_of, in_loop_of};
-ghost use Rattle.looped.specs.Left.{loop_seen};
-ghost use Rattle.looped.specs.Listed.{IsLoopOf};
+ghost use Rattle.loops.specs.Left.{loop_seen};
+ghost use Rattle.loops.specs.Numbered.{IsLoopOf};
 ghost use Rattle.netlist.specs.Netlists.{IsSignal};
 ghost use Rattle.dot_text.specs.LoopGraphs.{cluster_body, clusters, gate_node, labelled_cluster, loop_graph, loop_wire, loop_wires, loops_graph, wire_style as wire_style_of};
 
 use crate::node::{put_node, put_quoted, put_wire};
 use cyc_base::Sig;
 use cyc_io::{Failed, Sink, write_whole};
-use looped::{ListedLoop, LoopedNetlist};
+use loops::{ListedLoop, LoopedNetlist};
 use loops::{Blocks, Cut};
 use netlist::Netlist;
 use report::put_number;

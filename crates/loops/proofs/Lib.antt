@@ -18,3 +18,5 @@ pub mod CutLemmas
 pub mod ListedLemmas
 pub mod OrderLemmas
 pub mod BlockLemmas
+pub mod LoopedLemmas
+pub mod ListLemmas

@@ -12,3 +12,9 @@ pub mod Searching
 pub mod Landmarks
 pub mod Keeping
 pub mod Listed
+-- a netlist with its blocks and cut wires
+pub mod Looped
+-- its loops in order
+pub mod Numbered
+-- those that are left
+pub mod Left

@@ -13,11 +13,11 @@ use Rattle.cyc_io.proofs.TakenLemmas.{over, appended_equal}
 use Rattle.netlist.specs.declared.parts.Parts.{Parts}
 use Rattle.loops.specs.Found.{loops_of}
 use Rattle.loops.specs.Listed.{first_gates}
-use Rattle.looped.proofs.ListLemmas.{all_came, comes_at}
-use Rattle.looped.specs.Left.{loop_seen, loops_left}
-use Rattle.looped.specs.Listed.{Listed, IsLoopOf, listed_loops, numbered}
-use Rattle.looped.specs.declared.loop_list.ListedLoop.{ListedLoop}
-use Rattle.looped.specs.declared.loop_list.LoopList.{LoopList}
+use Rattle.loops.proofs.ListLemmas.{all_came, comes_at}
+use Rattle.loops.specs.Left.{loop_seen, loops_left}
+use Rattle.loops.specs.Numbered.{Listed, IsLoopOf, listed_loops, numbered}
+use Rattle.loops.specs.declared.loop_list.ListedLoop.{ListedLoop}
+use Rattle.loops.specs.declared.loop_list.LoopList.{LoopList}
 use Rattle.report.specs.LoopTexts.{loop_line, loop_lines, numbered_loops, each_loop}
 
 -- the texts of the items that pass a test

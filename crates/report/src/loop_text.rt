@@ -4,13 +4,13 @@ ghost use Rattle.cyc_io.specs.Taken.{IsAppended, sink_call};
 ghost use Rattle.loops.specs.Blocks.{AreBlocksOf};
 ghost use Rattle.loops.specs.Cuts.{IsCutOf};
 ghost use Rattle.loops.specs.Found.{loops_of};
-ghost use Rattle.looped.specs.Left.{loop_seen};
-ghost use Rattle.looped.specs.Listed.{IsLoopOf};
+ghost use Rattle.loops.specs.Left.{loop_seen};
+ghost use Rattle.loops.specs.Numbered.{IsLoopOf};
 ghost use Rattle.report.specs.LoopTexts.{gate_name, names_text, loop_line, loop_lines, each_loop, loops_text};
 
 use crate::put::{put_number, put_two};
 use cyc_io::{Failed, Sink, write_whole};
-use looped::{ListedLoop, LoopedNetlist};
+use loops::{ListedLoop, LoopedNetlist};
 use loops::{Blocks, Cut, count_loops};
 use netlist::Netlist;
 

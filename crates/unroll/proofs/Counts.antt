@@ -8,7 +8,7 @@ use Rattle.loops.specs.declared.structure.SweepCounts.{SweepCounts}
 use Rattle.loops.specs.Blocks.{AreBlocksOf}
 use Rattle.loops.specs.Cuts.{AreLoopsOf, loops_by}
 use Rattle.loops.proofs.Told.{blocks_tell_loops, told_parts}
-use Rattle.looped.specs.Looped.{Looped, IsLooped}
+use Rattle.loops.specs.Looped.{Looped, IsLooped}
 use Rattle.unroll.specs.Laws.{EnoughByBlocks}
 use Rattle.unroll.specs.Unrolled.{sweeps_of, IsOfLoops}
 

@@ -4,14 +4,14 @@ ghost use Rattle.std.specs.Prelude.{◌≡◌, ◌<◌, ◌≤◌, ◌+◌, Some
 ghost use Rattle.netlist.specs.Netlists.{gate_at, IsNetlist, IsSignal};
 ghost use Rattle.loops.specs.Cuts.{loops_by};
 ghost use Rattle.loops.specs.Sweeps.{first_gate as first_gate_of, gate_of, in_loop_of};
-ghost use Rattle.looped.specs.Looped.{IsLooped};
+ghost use Rattle.loops.specs.Looped.{IsLooped};
 ghost use Rattle.unroll.specs.Plans.{loops_in, net_of};
 ghost use Rattle.unroll.specs.Unrolled.{moved as moved_by};
 ghost use Rattle.unroll.specs.Tables.{at_table, copy_pin_by, kept_pin_by};
 
 use crate::plan::Plan;
 use cyc_base::Sig;
-use looped::LoopedNetlist;
+use loops::LoopedNetlist;
 use netlist::Netlist;
 use std::alloc::{AllocError, Global};
 

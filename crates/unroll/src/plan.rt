@@ -3,13 +3,13 @@
 ghost use Rattle.std.specs.Prelude.{◌≡◌, ◌<◌, ◌≤◌, ◌+◌, length};
 ghost use Rattle.netlist.specs.Netlists.{count};
 ghost use Rattle.loops.specs.Cuts.{loops_by};
-ghost use Rattle.looped.specs.Looped.{IsLooped};
+ghost use Rattle.loops.specs.Looped.{IsLooped};
 ghost use Rattle.unroll.specs.Marks.{mark as mark_of};
 ghost use Rattle.unroll.specs.Unrolled.{copies_of as copies_of_gate, has_loop as has_some_loop, most, shift, sweeps_of};
 
 use crate::sizes::{copies_of, has_loop};
 use cyc_base::Name;
-use looped::LoopedNetlist;
+use loops::LoopedNetlist;
 use loops::SweepCounts;
 
 /// What a netlist is unrolled by.

@@ -37,7 +37,7 @@ pub use Rattle.isolation.proofs.ColumnLemmas.{AreColumns-kept}
 pub use Rattle.isolation.proofs.SettledLemmas.{unsettled_loops_decide}
 pub use Rattle.isolation.specs.Columns.{AreColumns}
 pub use Rattle.isolation.specs.Cones.{AddMarks, ListsMarked, is_marked}
-pub use Rattle.looped.specs.Looped.{Looped}
+pub use Rattle.loops.specs.Looped.{Looped}
 pub use Rattle.loops.proofs.Reading.{map_agree}
 pub use Rattle.loops.proofs.Told.{gate_home, home_gate}
 pub use Rattle.loops.specs.Blocks.{AreBlocksOf, block_at, home_of}

@@ -9,7 +9,7 @@ ghost use Rattle.verdict.specs.Determination.{SettleInOneSweep};
 use clause_decision::sweeps_at;
 use cyc_base::MAX_NODES;
 use isolation::settles_alone;
-use looped::LoopedNetlist;
+use loops::LoopedNetlist;
 use loops::Blocks;
 use std::alloc::{AllocError, Global};
 

@@ -30,7 +30,7 @@ use dual_rail::Rails;
 use fixpoint::laws::solutions;
 use fixpoint::{order, sweeps};
 use isolation::column_rails;
-use looped::LoopedNetlist;
+use loops::LoopedNetlist;
 use loops::{Blocks, Cut};
 use netlist::Netlist;
 use refusals::Observe;

@@ -5,7 +5,7 @@ ghost use Rattle.care_sets.specs.Binding.{IsCareOf};
 ghost use Rattle.verdict.specs.Questions.{IsAsked};
 
 use care_sets::Care;
-use looped::LoopedNetlist;
+use loops::LoopedNetlist;
 use loops::{Blocks, Cut};
 use netlist::Netlist;
 use refusals::Observe;

@@ -1,6 +1,6 @@
 use Rattle.std.proofs.Common.{ap, sym, ◌∙◌, append-nil}
-use Rattle.looped.proofs.ListLemmas.{comes_at}
-use Rattle.looped.specs.Left.{loops_left}
+use Rattle.loops.proofs.ListLemmas.{comes_at}
+use Rattle.loops.specs.Left.{loops_left}
 use Rattle.unroll.specs.Unrolled.{sweeps_of}
 use Rattle.accepted_loops.specs.Graphs.{told_cluster}
 use Rattle.accepted_loops.proofs.LineLemmas.{all_told, one_more_told}

@@ -1,7 +1,7 @@
 use Rattle.std.proofs.Common.{◌++◌, ◌∙◌, ap}
 use Rattle.std.proofs.lemmas.Result.{IfOk-weaker}
 use Rattle.cyc_io.specs.Text.{text_bytes}
-use Rattle.looped.specs.Looped.{Looped}
+use Rattle.loops.specs.Looped.{Looped}
 use Rattle.unroll.specs.Unrolled.{sweeps_of}
 use Rattle.accepted_loops.specs.Lines.{told_loops}
 use Rattle.accepted_loops.proofs.LineLemmas.{told_on_care}

@@ -1,6 +1,6 @@
 use Rattle.std.proofs.Common.{◌≡◌, ◌∙◌, Err, length, ap, subst, rules}
 use Rattle.bdd_store.specs.declared.fault.StoreFault.{StoreFault}
-use Rattle.looped.specs.Looped.{Looped}
+use Rattle.loops.specs.Looped.{Looped}
 use Rattle.differences.specs.Comparisons.{IsFullFor}
 use Rattle.differences.proofs.EnoughLemmas.{out_of_nodes, below_enough}
 use Rattle.differences.proofs.comparing.least_apart.Goals as goal

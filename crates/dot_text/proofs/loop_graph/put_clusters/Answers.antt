@@ -1,7 +1,7 @@
 use Rattle.std.proofs.Common.{ap, ◌∙◌}
 use Rattle.cyc_io.proofs.TakenLemmas.{appended_none}
-use Rattle.looped.proofs.ListLemmas.{comes_at}
-use Rattle.looped.specs.Left.{loops_left}
+use Rattle.loops.proofs.ListLemmas.{comes_at}
+use Rattle.loops.specs.Left.{loops_left}
 use Rattle.loops.specs.Found.{loops_of}
 use Rattle.dot_text.specs.LoopGraphs.{loop_graph}
 use Rattle.report.proofs.LoopTextLemmas.{told_all, told_cut, told_more}

@@ -1,6 +1,6 @@
 use Rattle.std.proofs.Common.{ap, sym}
 use Rattle.cyc_io.proofs.TakenLemmas.{appended_cut, appended_equal, appended_then}
-use Rattle.looped.specs.Looped.{Looped}
+use Rattle.loops.specs.Looped.{Looped}
 use Rattle.loops.specs.Found.{loops_of}
 use Rattle.dot_text.specs.LoopGraphs.{clusters}
 use Rattle.dot_text.proofs.loop_graph.put_loops_graph.Goals as goal

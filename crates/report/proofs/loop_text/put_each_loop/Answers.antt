@@ -1,7 +1,7 @@
 use Rattle.std.proofs.Common.{ap, ◌∙◌}
 use Rattle.cyc_io.proofs.TakenLemmas.{appended_none}
-use Rattle.looped.proofs.ListLemmas.{comes_at}
-use Rattle.looped.specs.Left.{loops_left}
+use Rattle.loops.proofs.ListLemmas.{comes_at}
+use Rattle.loops.specs.Left.{loops_left}
 use Rattle.report.specs.LoopTexts.{loop_lines}
 use Rattle.report.proofs.LoopTextLemmas.{told_all, told_cut, told_more}
 use Rattle.report.proofs.loop_text.put_each_loop.Goals as goal

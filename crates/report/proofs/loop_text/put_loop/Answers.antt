@@ -2,7 +2,7 @@ use Rattle.std.proofs.Common.{sym, ap}
 use Rattle.std.specs.Prelude.{codes}
 use Rattle.cyc_io.proofs.TakenLemmas.{appended_cut, appended_equal, appended_then}
 use Rattle.loops.proofs.ListedLemmas.{loop_gates_inside}
-use Rattle.looped.specs.Left.{loop_seen}
+use Rattle.loops.specs.Left.{loop_seen}
 use Rattle.netlist.specs.declared.parts.Parts.{Parts}
 use Rattle.report.specs.LoopTexts.{loop_line}
 use Rattle.report.proofs.LoopTextLemmas.{lines_are}

@@ -1,6 +1,6 @@
 use Rattle.std.proofs.Common.{sym, ap}
 use Rattle.cyc_io.proofs.TakenLemmas.{appended_then, appended_cut, appended_equal}
-use Rattle.looped.specs.Looped.{Looped}
+use Rattle.loops.specs.Looped.{Looped}
 use Rattle.report.specs.LoopTexts.{each_loop, loop_lines}
 use Rattle.report.proofs.loop_text.put_loops.Goals as goal
 

@@ -1,7 +1,7 @@
 use Rattle.std.proofs.Common.{ap, sym, ◌∙◌}
 use Rattle.netlist.specs.declared.parts.Parts.{Parts}
 use Rattle.loops.specs.Sweeps.{gate_of, in_loop_of}
-use Rattle.looped.proofs.LoopedLemmas.{cut_is_told}
+use Rattle.loops.proofs.LoopedLemmas.{cut_is_told}
 use Rattle.unroll.specs.Plans.{loops_in, net_of}
 use Rattle.unroll.specs.Tables.{at_table}
 use Rattle.unroll.specs.Unrolled.{moved}

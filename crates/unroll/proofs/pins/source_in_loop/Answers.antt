@@ -1,7 +1,7 @@
 use Rattle.std.proofs.Common.{◌≡◌, ap, sym, ◌∙◌, arith}
 use Rattle.loops.specs.Cuts.{loops_by}
 use Rattle.loops.specs.Sweeps.{first_gate}
-use Rattle.looped.proofs.LoopedLemmas.{one_loop_is_told}
+use Rattle.loops.proofs.LoopedLemmas.{one_loop_is_told}
 use Rattle.unroll.proofs.PinLemmas.{source_is}
 use Rattle.unroll.proofs.pins.source_in_loop.Goals as goal
 

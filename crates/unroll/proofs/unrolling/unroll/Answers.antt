@@ -6,7 +6,7 @@ use Rattle.netlist.proofs.Validity.{no_fault_of_netlist}
 use Rattle.loops.specs.declared.structure.SweepCounts.{SweepCounts}
 use Rattle.loops.specs.Cuts.{Loops, AreLoopsOf, loops_by}
 use Rattle.loops.proofs.Told.{blocks_tell_loops}
-use Rattle.looped.specs.Looped.{Looped}
+use Rattle.loops.specs.Looped.{Looped}
 use Rattle.unroll.specs.Laws.{KeepsInterface, TellsAsMuchAt}
 use Rattle.unroll.specs.Unrolled.{shift, sweeps_of, unrolled, IsOfLoops}
 use Rattle.unroll.proofs.Counts.{sweeps_are_of_loops}

@@ -1,6 +1,6 @@
 use Rattle.std.proofs.Common.{◌<◌, ◌≤◌, length, refl, ◌∙◌, arith}
-use Rattle.looped.proofs.ListLemmas.{gate_begins, gate_passes, gates_end}
-use Rattle.looped.proofs.loop_list.loop_after.Goals as goal
+use Rattle.loops.proofs.ListLemmas.{gate_begins, gate_passes, gates_end}
+use Rattle.loops.proofs.loop_list.loop_after.Goals as goal
 
 pub loop-gate-init : goal.loop-gate-init
 loop-gate-init c = record { same = refl; later = omega arith }

@@ -7,10 +7,10 @@ use Rattle.std.specs.Iterator.{Yields, YieldsFirstBy}
 use Rattle.std.specs.List.{AllByRecursion, range_with_len}
 use Rattle.netlist.specs.declared.parts.Parts.{Parts}
 use Rattle.loops.specs.Listed.{begins_with, first_gates, loop_of}
-use Rattle.looped.specs.Left.{loop_seen, loops_left}
-use Rattle.looped.specs.Listed.{Listed, IsLoopOf, IsNextLoop, first_gates_from, listed_loops, numbered}
-use Rattle.looped.specs.declared.loop_list.ListedLoop.{ListedLoop}
-use Rattle.looped.specs.declared.loop_list.LoopList.{LoopList}
+use Rattle.loops.specs.Left.{loop_seen, loops_left}
+use Rattle.loops.specs.Numbered.{Listed, IsLoopOf, IsNextLoop, first_gates_from, listed_loops, numbered}
+use Rattle.loops.specs.declared.loop_list.ListedLoop.{ListedLoop}
+use Rattle.loops.specs.declared.loop_list.LoopList.{LoopList}
 
 -- ---- the gates at which loops begin
 

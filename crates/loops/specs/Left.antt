@@ -1,8 +1,8 @@
 -- What is left of a list of loops.
 use Rattle.std.specs.Prelude.{List, ◌+◌}
-use Rattle.looped.specs.Listed.{Listed, first_gates_from, numbered}
-use Rattle.looped.specs.declared.loop_list.ListedLoop.{ListedLoop}
-use Rattle.looped.specs.declared.loop_list.LoopList.{LoopList}
+use Rattle.loops.specs.Numbered.{Listed, first_gates_from, numbered}
+use Rattle.loops.specs.declared.loop_list.ListedLoop.{ListedLoop}
+use Rattle.loops.specs.declared.loop_list.LoopList.{LoopList}
 
 -- how clauses see a loop
 abbrev pub loop_seen : ListedLoop → Listed

@@ -1,8 +1,8 @@
 use Rattle.std.proofs.Common.{Bool, false, List, ap, ◌∙◌, slice_index_or}
 use Rattle.loops.specs.Found.{loops_of}
-use Rattle.looped.specs.Looped.{Looped}
-use Rattle.looped.proofs.LoopedLemmas.{cut_is_told}
-use Rattle.looped.proofs.looped_netlist.LoopedNetlist.is_cut.Goals as goal
+use Rattle.loops.specs.Looped.{Looped}
+use Rattle.loops.proofs.LoopedLemmas.{cut_is_told}
+use Rattle.loops.proofs.looped_netlist.LoopedNetlist.is_cut.Goals as goal
 
 pub returns : goal.returns
 returns c =

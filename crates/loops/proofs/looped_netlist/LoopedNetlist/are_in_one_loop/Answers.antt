@@ -1,8 +1,8 @@
 use Rattle.std.proofs.Common.{ap, ◌∙◌}
 use Rattle.loops.specs.Found.{loops_of}
-use Rattle.looped.specs.Looped.{Looped}
-use Rattle.looped.proofs.LoopedLemmas.{one_loop_is_told}
-use Rattle.looped.proofs.looped_netlist.LoopedNetlist.are_in_one_loop.Goals as goal
+use Rattle.loops.specs.Looped.{Looped}
+use Rattle.loops.proofs.LoopedLemmas.{one_loop_is_told}
+use Rattle.loops.proofs.looped_netlist.LoopedNetlist.are_in_one_loop.Goals as goal
 
 pub returns : goal.returns
 returns c =

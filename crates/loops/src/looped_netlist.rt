@@ -4,9 +4,9 @@ ghost use Rattle.std.specs.Prelude.{◌≡◌, ◌<◌, length};
 ghost use Rattle.loops.specs.Blocks.{AreBlocksOf};
 ghost use Rattle.loops.specs.Cuts.{IsCutOf, in_one_loop};
 ghost use Rattle.loops.specs.Found.{loops_of};
-ghost use Rattle.looped.specs.Looped.{IsLooped};
+ghost use Rattle.loops.specs.Looped.{IsLooped};
 
-use loops::{Blocks, Cut};
+use crate::structure::{Blocks, Cut};
 use netlist::Netlist;
 use std::marker::Model;
 
@@ -19,7 +19,7 @@ pub struct LoopedNetlist<'a> {
 }
 
 impl<'a> Model for LoopedNetlist<'a> {
-    ghost use Rattle.looped.specs.Looped.{Looped, IsLooped};
+    ghost use Rattle.loops.specs.Looped.{Looped, IsLooped};
 
     ghost Value = { Looped };
 

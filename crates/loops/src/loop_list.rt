@@ -3,10 +3,11 @@
 ghost use Rattle.std.specs.Iterator.{YieldsFirstBy, item_count};
 ghost use Rattle.std.specs.Prelude.{◌≡◌, ◌≤◌, [], MatchOption};
 ghost use Rattle.loops.specs.Blocks.{AreBlocksOf};
-ghost use Rattle.looped.specs.Listed.{first_gates_from, IsNextLoop};
+ghost use Rattle.loops.specs.Numbered.{first_gates_from, IsNextLoop};
 
+use crate::listing::loop_from;
 use crate::looped_netlist::LoopedNetlist;
-use loops::{Blocks, loop_from};
+use crate::structure::Blocks;
 use netlist::Netlist;
 
 /// A loop of a netlist.
@@ -32,8 +33,8 @@ pub struct LoopList<'a> {
 }
 
 impl<'a> LoopedNetlist<'a> {
-    ghost use Rattle.looped.specs.Left.{loops_left};
-    ghost use Rattle.looped.specs.Listed.{listed_loops};
+    ghost use Rattle.loops.specs.Left.{loops_left};
+    ghost use Rattle.loops.specs.Numbered.{listed_loops};
 
     /// Its loops in the order of their first gates.
     pub fn in_order(&'a self) -> LoopList<'a>
@@ -61,7 +62,7 @@ fn loop_after<'a>(net: &Netlist, blocks: &'a Blocks, from: u32) -> Option<(u32, 
 }
 
 impl<'a> Iterator for LoopList<'a> {
-    ghost use Rattle.looped.specs.Left.{loop_seen, loops_left};
+    ghost use Rattle.loops.specs.Left.{loop_seen, loops_left};
 
     type Item = ListedLoop<'a>;
 

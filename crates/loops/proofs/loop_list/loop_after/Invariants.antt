@@ -1,6 +1,6 @@
 use Rattle.std.proofs.Common.{◌≡◌, ◌≤◌}
-use Rattle.looped.specs.Listed.{first_gates_from}
-use Rattle.looped.proofs.loop_list.loop_after.Given as goal
+use Rattle.loops.specs.Numbered.{first_gates_from}
+use Rattle.loops.proofs.loop_list.loop_after.Given as goal
 
 -- no loop begins between
 abbrev pub invariant-loop-gate : goal.invariant-loop-gate

@@ -1,2 +1,0 @@
-pub mod LoopedLemmas
-pub mod ListLemmas
