@@ -1,11 +1,8 @@
 use Rattle.std.proofs.Common.{◌≡◌, ◌+◌, ◌<◌, Bool, List, ℕ, false, length, get_or, ap, sym, ◌∙◌, arith}
-use Rattle.std.proofs.lemmas.List.{take_all, length-map, get_or-map, get_or-take, length-take}
+use Rattle.delay_core.proofs.Common.{take_all, length-map, get_or-map, bits, Parts, count, newest, given_at}
+use Rattle.std.proofs.lemmas.List.{get_or-take, length-take}
 use Rattle.cyc_base.specs.declared.trit.Trit.TheVariants.{X}
-use Rattle.cyc_base.specs.Values.{bit, bits}
-use Rattle.netlist.specs.declared.parts.Parts.{Parts}
-use Rattle.netlist.specs.Netlists.{count}
-use Rattle.schedules.specs.Moments.{newest}
-use Rattle.delay_core.specs.Plans.{given_at}
+use Rattle.cyc_base.specs.Values.{bit}
 use Rattle.delay_core.proofs.ReadingLemmas.{pushed}
 use Rattle.delay_core.proofs.whole.given.Goals as goal
 
