@@ -10,8 +10,7 @@ ghost use Rattle.report.specs.LoopTexts.{gate_name, names_text, loop_line, loop_
 
 use crate::put::{put_number, put_two};
 use cyc_io::{Failed, Sink, write_whole};
-use loops::{ListedLoop, LoopedNetlist};
-use loops::{Blocks, Cut, count_loops};
+use loops::{Blocks, Cut, ListedLoop, LoopedNetlist, count_loops};
 use netlist::Netlist;
 
 fn put_gate_name<K: Sink>(sink: &mut K, net: &Netlist, gate: u32) -> Result<(), Failed>

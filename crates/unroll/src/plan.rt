@@ -9,8 +9,7 @@ ghost use Rattle.unroll.specs.Unrolled.{copies_of as copies_of_gate, has_loop as
 
 use crate::sizes::{copies_of, has_loop};
 use cyc_base::Name;
-use loops::LoopedNetlist;
-use loops::SweepCounts;
+use loops::{LoopedNetlist, SweepCounts};
 
 /// What a netlist is unrolled by.
 pub(crate) struct Plan<'a> {

@@ -13,8 +13,7 @@ use crate::assembly::unrolled_parts;
 use crate::fault::UnrollFault;
 use crate::sizes::unrolled_size;
 use cyc_base::MAX_REWRITTEN_ITEMS;
-use loops::LoopedNetlist;
-use loops::{Blocks, Cut, SweepCounts};
+use loops::{Blocks, Cut, LoopedNetlist, SweepCounts};
 use netlist::{Netlist, PartsFault};
 use std::alloc::Global;
 
