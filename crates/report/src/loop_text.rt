@@ -10,7 +10,7 @@ ghost use Rattle.report.specs.LoopTexts.{gate_name, names_text, loop_line, loop_
 
 use crate::put::{put_number, put_two};
 use cyc_io::{Failed, Sink, write_whole};
-use loops::{Blocks, Cut, ListedLoop, LoopedNetlist, count_loops};
+use loops::{Blocks, Cut, ListedLoop, LoopedNetlist};
 use netlist::Netlist;
 
 fn put_gate_name<K: Sink>(sink: &mut K, net: &Netlist, gate: u32) -> Result<(), Failed>
@@ -127,7 +127,8 @@ pub fn put_loops<K: Sink>(
     requires cut { IsCutOf net.now cut.now }
     ensures { IsAppended (loops_text net.now) (sink_call K.put K.faults sink.old sink.new) result }
 {
-    put_number(sink, b"loops=", count_loops(net, blocks) as u64)?;
+    let looped = LoopedNetlist::new(net, blocks, cut);
+    put_number(sink, b"loops=", looped.count() as u64)?;
     write_whole(sink, b"\n")?;
-    put_each_loop(sink, &LoopedNetlist::new(net, blocks, cut))
+    put_each_loop(sink, &looped)
 }
