@@ -85,6 +85,13 @@ loop_found net gates outside (Ok (Some small)) wires is = loop_is net gates outs
 loop_found net gates outside (Ok None) wires is = tt
 loop_found net gates outside (Err fault) wires is = tt
 
+-- and it has a gate where the loop has one
+pub loop_filled : {E : Type 0} (net : Parts) (gates : List ℕ) (outside : List Sig) (made : Result (Option Parts) E) → 0 < length gates → IfOk made (λ found. IfSome found (IsExcerpt net outside gates)) →
+    IfOk made (λ found. IfSome found (λ small. 0 < length small.gates))
+loop_filled net gates outside (Ok (Some small)) filled is = let size = is.size in omega (arith, size, filled)
+loop_filled net gates outside (Ok None) filled is = tt
+loop_filled net gates outside (Err fault) filled is = tt
+
 -- ---- the wires outside, pin by pin and gate by gate
 
 -- one more wire, that isn't there

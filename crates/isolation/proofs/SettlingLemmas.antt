@@ -5,6 +5,7 @@ use Rattle.isolation.proofs.Common.{cases_Bool, and_parts, get_or-map, get_or-ap
 use Rattle.bdd_ops.specs.Least.{by_variable}
 use Rattle.loops.specs.declared.structure.Cut.{Cut}
 use Rattle.loops.specs.Cuts.{IsCutOf, loops_by, in_one_loop, is_cut}
+use Rattle.loops.specs.Looped.{Looped, IsLooped}
 use Rattle.loops.proofs.Sweeps.{length-fix, fixed_cuts_give_fix}
 use Rattle.loops.proofs.Told.{blocks_tell_loops, told_parts}
 use Rattle.loops.proofs.Walks.{loops_are_unique}
@@ -16,6 +17,13 @@ use Rattle.fixpoint.specs.Solved.{IsSolution}
 use Rattle.fixpoint.specs.Counts.{CountSweeps, count_at}
 use Rattle.isolation.specs.Settled.{IsDetermined, SettleInSweeps}
 use Rattle.isolation.specs.Settling.{IsSettledIn}
+
+-- what a netlist with its loops hands out belongs together too
+pub handed-out : (l : Looped) (net : Parts) (blocks : Blocks) (cut : Cut) → net ≡ l.net → blocks ≡ l.blocks → cut ≡ l.cut → IsLooped l → IsLooped (record { net = net; blocks = blocks; cut = cut })
+handed-out l net blocks cut n b c is = record {
+  blocks = subst (λ (p : Parts). AreBlocksOf p blocks) (sym n) (subst (AreBlocksOf l.net) (sym b) is.blocks);
+  cut = subst (λ (p : Parts). IsCutOf p cut) (sym n) (subst (IsCutOf l.net) (sym c) is.cut);
+}
 
 -- the loops that blocks and a cut tell are those of the netlist
 pub loops-are : (net : Parts) (blocks : Blocks) (cut : Cut) → AreBlocksOf net blocks → IsCutOf net cut → loops_by blocks cut ≡ loops_of net

@@ -1,6 +1,6 @@
 -- Rails that aren't known at all vectors, and the gates that they stand for.
 use Rattle.std.proofs.Common.{◌≡◌, ◌≢◌, inl, inr, ◌⊎◌, ℕ, zero, suc, ◌+◌, ◌-◌, ◌<◌, Bool, true, false, ◌||◌, ◌==◌, List, [], ◌∷◌, length, get_or, Option, Some, None, Result, Ok, Err, IfOk, refl, sym, ap, ◌∙◌, arith, true≢false}
-use Rattle.isolation.proofs.Common.{cases_lt, eq-eqb, get_or-map, get_or_default, get_or_append_left, get_or-append_right, length-map, All, Node, Arena, den, KeepsNodes, IsLawful, Trit, X, bit, bits, Rails, AreRailsOf, value_of, values_of, Parts, fix, fix_gates, IsNetlist, Blocks, AreBlocksOf, block_at, first_gate, value_in, order, Vectors, rails_at, unknown, IsLoopNetlist, HasUnknownRails}
+use Rattle.isolation.proofs.Common.{cases_lt, eq-eqb, get_or-map, get_or_default, get_or_append_left, get_or-append_right, length-map, All, Node, Arena, den, KeepsNodes, IsLawful, Trit, X, bit, bits, Rails, AreRailsOf, value_of, values_of, Parts, fix, fix_gates, IsNetlist, first_gate, value_in, order, Vectors, rails_at, unknown, IsLoopNetlist, HasUnknownRails}
 use Rattle.std.specs.Prelude.{IfNone}
 use Rattle.bdd_store.specs.Arena.{constant, IsNodeOf}
 use Rattle.bdd_ops.specs.Operations.{disjunction}
@@ -125,9 +125,6 @@ unknown-or net budget (Some k) is = tt
 
 pub unsettled-is : (net : Parts) (gates : List ℕ) (small : Parts) (budget : ℕ) → IsNetlist small → IsLoopNetlist net gates small → HasUnknown small ⊎ IsBelowEnough small budget → AreUnsettled net gates budget
 unsettled-is net gates small budget valid is shown = record { outside = is.outside; small = small; valid = valid; is = is.is; read = is.read; once = is.once; shown = shown }
-
-pub loop-some : (net : Parts) (blocks : Blocks) → AreBlocksOf net blocks → (place : ℕ) → place < length blocks.list → (small : Parts) → IsLoopNetlist net (block_at blocks place).gates small → 0 < length small.gates
-loop-some net blocks are place within small is = let size = is.is.size in let filled = are.filled place within in omega (arith, size, filled)
 
 pub unsettled-found : {E : Type 0} (net : Parts) (gates : List ℕ) (small : Parts) (budget : ℕ) (made : Result (Option ℕ) E) → IsNetlist small → IsLoopNetlist net gates small → IfOk made (λ found. IfNone found (HasUnknown small ⊎ IsBelowEnough small budget)) → IfOk made (λ found. IfNone found (AreUnsettled net gates budget))
 unsettled-found net gates small budget (Ok None) valid is shown = unsettled-is net gates small budget valid is shown

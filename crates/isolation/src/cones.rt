@@ -3,12 +3,11 @@
 ghost use Rattle.std.specs.Prelude.{◌≡◌, ◌<◌, length, All};
 ghost use Rattle.netlist.specs.Netlists.{gate_sig, IsSignal};
 ghost use Rattle.netlist.specs.Walks.{Feeds};
-ghost use Rattle.loops.specs.Blocks.{AreBlocksOf};
 ghost use Rattle.isolation.specs.Cones.{AddMarks, AreUpstreamMarks, IsNear, IsNearOne, IsWithMark};
 
 use crate::excerpt::gates_at;
 use cyc_base::Sig;
-use loops::Blocks;
+use loops::LoopedNetlist;
 use netlist::Netlist;
 
 /// Marks the gate that drives a signal, if one does: an input or a latch has none.
@@ -71,14 +70,13 @@ fn mark_block(net: &Netlist, gates: &[u32], marks: &mut [bool])
 /// Marks what lies upstream of the marked gates, with their whole loops: a gate is marked afterwards just where a walk
 /// along pins leads from it to a gate that was marked, or it was marked itself.
 ///
-/// The condition is that the blocks are the netlist's, and that there is a mark for each gate.
-pub fn mark_upstream(net: &Netlist, blocks: &Blocks, marks: &mut [bool])
-    requires blocks { AreBlocksOf net.now blocks.now }
-    requires width { length marks.old ≡ length net.now.gates }
-    ensures { AreUpstreamMarks net.now marks.old marks.new }
+/// The condition is that there is a mark for each gate.
+pub fn mark_upstream(looped: &LoopedNetlist<'_>, marks: &mut [bool])
+    requires { length marks.old ≡ length looped.now.net.gates }
+    ensures { AreUpstreamMarks looped.now.net marks.old marks.new }
 {
-    let count = blocks.list.items().len();
+    let count = looped.blocks().list.items().len();
     for back in 0..count {
-        mark_block(net, gates_at(net, blocks, count - 1 - back), marks);
+        mark_block(looped.net(), gates_at(looped, count - 1 - back), marks);
     }
 }

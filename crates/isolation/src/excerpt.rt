@@ -2,59 +2,57 @@
 
 ghost use Rattle.std.specs.Prelude.{◌≡◌, true, false, [], None, ◌<◌, length, map, All, IfOk, IfSome, OnOk, IsSome, Contains};
 ghost use Rattle.netlist.specs.Netlists.{count, gate_at, gate_sig as sig_of, IsNetlist, IsSignal};
-ghost use Rattle.loops.specs.Blocks.{AreBlocksOf, block_at};
+ghost use Rattle.loops.specs.Blocks.{block_at};
 ghost use Rattle.loops.specs.Placing.{Rise};
 ghost use Rattle.isolation.specs.Excerpts.{origins, IsRead, IsExcerpt};
 ghost use Rattle.isolation.specs.Building.{AddWires, AreApart, AreClosed, AreCopies, AreNumbersOf, AreNumerable, AreWires, AreWiresOf, IsAmong, IsCopyOf, IsLoopNetlist, IsNamedBy, IsPlaceOf, name_at};
 
 use cyc_base::{Items, Name, Sig};
 use indexmap::IndexSet;
-use loops::Blocks;
+use loops::LoopedNetlist;
 use netlist::{Gate, Netlist, Parts, PartsFault};
 use std::alloc::{AllocError, Global};
 
 /// The gates of the block at this place.
-pub(crate) fn gates_at<'a>(net: &Netlist, blocks: &'a Blocks, place: usize) -> &'a [u32]
-    requires blocks { AreBlocksOf net.now blocks.now }
-    requires place { place < length blocks.now.list }
-    ensures is { result.now ≡ (block_at blocks.now place).gates }
-    ensures within { All (λ n. n < length net.now.gates) result.now }
-    ensures valid { IsNetlist net.now }
+///
+/// The condition is that there is one at this place.
+pub fn gates_at<'a>(looped: &LoopedNetlist<'a>, place: usize) -> &'a [u32]
+    requires { place < length looped.now.blocks.list }
+    ensures is { result.now ≡ (block_at looped.now.blocks place).gates }
+    ensures within { All (λ n. n < length looped.now.net.gates) result.now }
+    ensures valid { IsNetlist looped.now.net }
 {
-    let _ = net.gates();
-    let gates = blocks.list.items()[place].gates.items();
-    gates
+    let _ = looped.net().gates();
+    looped.blocks().list.items()[place].gates.items()
 }
 
 /// Whether a signal is a gate of the block at this place.
-fn is_inside(net: &Netlist, blocks: &Blocks, place: u32, signal: Sig) -> bool
-    requires blocks { AreBlocksOf net.now blocks.now }
-    requires place { place < length blocks.now.list }
-    requires signal { IsSignal net.now signal }
-    ensures outside { result ≡ false → ¬ Contains (map (sig_of net.now) (block_at blocks.now place).gates) signal }
-    ensures inside { result ≡ true → Contains (map (sig_of net.now) (block_at blocks.now place).gates) signal }
+fn is_inside(looped: &LoopedNetlist<'_>, place: u32, signal: Sig) -> bool
+    requires place { place < length looped.now.blocks.list }
+    requires signal { IsSignal looped.now.net signal }
+    ensures outside { result ≡ false → ¬ Contains (map (sig_of looped.now.net) (block_at looped.now.blocks place).gates) signal }
+    ensures inside { result ≡ true → Contains (map (sig_of looped.now.net) (block_at looped.now.blocks place).gates) signal }
 {
+    let net = looped.net();
     let first = net.inputs() + net.latches();
-    signal.0 >= first && blocks.home.items()[(signal.0 - first) as usize] == place
+    signal.0 >= first && looped.blocks().home.items()[(signal.0 - first) as usize] == place
 }
 
 /// Adds the wires outside of a block among these, which its gates read.
 fn add_outside(
-    net: &Netlist,
-    blocks: &Blocks,
+    looped: &LoopedNetlist<'_>,
     place: u32,
     pins: &[Sig],
     outside: &mut IndexSet<Sig>,
 ) -> Result<(), AllocError>
-    requires blocks { AreBlocksOf net.now blocks.now }
-    requires place { place < length blocks.now.list }
-    requires signals { All (IsSignal net.now) pins.now }
-    requires read { All (IsRead net.now (block_at blocks.now place).gates) pins.now }
-    requires wires { AreWires net.now (block_at blocks.now place).gates outside.old.keys }
-    ensures { OnOk result (AddWires net.now (block_at blocks.now place).gates pins.now outside.old.keys outside.new.keys) }
+    requires place { place < length looped.now.blocks.list }
+    requires signals { All (IsSignal looped.now.net) pins.now }
+    requires read { All (IsRead looped.now.net (block_at looped.now.blocks place).gates) pins.now }
+    requires wires { AreWires looped.now.net (block_at looped.now.blocks place).gates outside.old.keys }
+    ensures { OnOk result (AddWires looped.now.net (block_at looped.now.blocks place).gates pins.now outside.old.keys outside.new.keys) }
 {
     for pin in pins {
-        if !is_inside(net, blocks, place, *pin) {
+        if !is_inside(looped, place, *pin) {
             outside.insert(*pin)?;
         }
     }
@@ -64,23 +62,16 @@ fn add_outside(
 /// The wires outside of a block that its gates read, each once.
 fn outside_of(
     alloc: Global,
-    net: &Netlist,
-    blocks: &Blocks,
+    looped: &LoopedNetlist<'_>,
     place: u32,
 ) -> Result<IndexSet<Sig>, AllocError>
-    requires blocks { AreBlocksOf net.now blocks.now }
-    requires place { place < length blocks.now.list }
-    ensures { IfOk result (λ outside. AreWiresOf net.now (block_at blocks.now place).gates (length (block_at blocks.now place).gates) outside.keys) }
+    requires { place < length looped.now.blocks.list }
+    ensures { IfOk result (λ outside. AreWiresOf looped.now.net (block_at looped.now.blocks place).gates (length (block_at looped.now.blocks place).gates) outside.keys) }
 {
     let mut outside = IndexSet::new(alloc);
-    for gate in gates_at(net, blocks, place as usize) {
-        add_outside(
-            net,
-            blocks,
-            place,
-            net.gate(*gate).pins.items(),
-            &mut outside,
-        )?;
+    for gate in gates_at(looped, place as usize) {
+        let pins = looped.net().gate(*gate).pins.items();
+        add_outside(looped, place, pins, &mut outside)?;
     }
     Ok(outside)
 }
@@ -309,20 +300,19 @@ fn excerpt(
 /// The block at this place as a netlist of its own, whose inputs are the wires outside that its gates read, each once:
 /// names are those of the netlist. It is always there: the parts of a block make a netlist.
 ///
-/// The condition is that the blocks are the netlist's, and that there is one at this place.
+/// The condition is that there is one at this place.
 pub fn loop_netlist(
     alloc: Global,
-    net: &Netlist,
-    blocks: &Blocks,
+    looped: &LoopedNetlist<'_>,
     place: u32,
 ) -> Result<Option<Netlist>, AllocError>
-    requires blocks { AreBlocksOf net.now blocks.now }
-    requires place { place < length blocks.now.list }
-    ensures small { IfOk result (λ found. IfSome found (IsLoopNetlist net.now (block_at blocks.now place).gates)) }
+    requires { place < length looped.now.blocks.list }
+    ensures small { IfOk result (λ found. IfSome found (IsLoopNetlist looped.now.net (block_at looped.now.blocks place).gates)) }
+    ensures filled { IfOk result (λ found. IfSome found (λ small. 0 < length small.gates)) }
     ensures valid { IfOk result (λ found. IfSome found IsNetlist) }
     ensures some { IfOk result IsSome }
 {
-    let gates = gates_at(net, blocks, place as usize);
-    let outside = outside_of(alloc, net, blocks, place)?;
-    excerpt(alloc, net, gates, &outside)
+    let gates = gates_at(looped, place as usize);
+    let outside = outside_of(alloc, looped, place)?;
+    excerpt(alloc, looped.net(), gates, &outside)
 }

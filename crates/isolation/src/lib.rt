@@ -14,5 +14,5 @@ mod settling;
 
 pub use columns::column_rails;
 pub use cones::{mark_driver, mark_upstream};
-pub use excerpt::loop_netlist;
+pub use excerpt::{gates_at, loop_netlist};
 pub use settling::settles_alone;

@@ -7,8 +7,7 @@ ghost use Rattle.bdd_ops.specs.Operations.{disjunction};
 ghost use Rattle.cyc_base.specs.declared.trit.Trit.TheVariants.{X};
 ghost use Rattle.dual_rail.specs.Rails.{AreRailsOf, value_of};
 ghost use Rattle.dual_rail.specs.WorkingLists.{IsWide};
-ghost use Rattle.loops.specs.Blocks.{AreBlocksOf, block_at};
-ghost use Rattle.loops.specs.Cuts.{IsCutOf};
+ghost use Rattle.loops.specs.Blocks.{block_at};
 ghost use Rattle.loops.specs.Sweeps.{first_gate};
 ghost use Rattle.fixpoint.specs.Kept.{rails_under, AreKept};
 ghost use Rattle.fixpoint.specs.Orders.{order as order_of};
@@ -27,7 +26,7 @@ use cyc_base::MAX_NODES;
 use dual_rail::Rails;
 use fixpoint::laws::solutions;
 use fixpoint::{KeptRails, Solved, keep_rails, order, rails_of, solve, sweeps};
-use loops::{Blocks, Cut, find_blocks, find_cut};
+use loops::{Blocks, LoopedNetlist, find_blocks, find_cut};
 use netlist::Netlist;
 use std::alloc::{AllocError, Global};
 
@@ -143,43 +142,38 @@ fn settled_sweeps(
 fn settle_on(
     alloc: Global,
     d: &mut Diagrams,
-    net: &Netlist,
-    blocks: &Blocks,
-    cut: &Cut,
+    looped: &LoopedNetlist<'_>,
 ) -> Result<Option<u32>, StoreFault>
-    requires blocks { AreBlocksOf net.now blocks.now }
-    requires cut { IsCutOf net.now cut.now }
-    requires vars { d.old.vars ≡ first_gate net.now }
-    requires some { 0 < length net.now.gates }
-    ensures settled { IfOk result (λ found. IfSome found (IsSettledIn net.now)) }
-    ensures unknown { IfOk result (λ found. IfNone found (HasUnknown net.now)) }
+    requires vars { d.old.vars ≡ first_gate looped.now.net }
+    requires some { 0 < length looped.now.net.gates }
+    ensures settled { IfOk result (λ found. IfSome found (IsSettledIn looped.now.net)) }
+    ensures unknown { IfOk result (λ found. IfNone found (HasUnknown looped.now.net)) }
     ensures limit { d.new.limit ≡ d.old.limit }
-    ensures adds { AddsWithin result d.old d.new (HasLargeCover net.now) (IsWide d.old.vars (IsLaid net.now)) (settling_cost net.now) }
+    ensures adds { AddsWithin result d.old d.new (HasLargeCover looped.now.net) (IsWide d.old.vars (IsLaid looped.now.net)) (settling_cost looped.now.net) }
 {
+    let net = looped.net();
+    let blocks = looped.blocks();
     let _ = net.gates();
     let given = kept_columns(alloc, d, net)?;
-    let solved = solve(alloc, d, net, blocks, cut, given)?;
+    let solved = solve(alloc, d, net, blocks, looped.cut(), given)?;
     settled_sweeps(alloc, d, blocks, &solved)
 }
 
 /// How many sweeps are enough, on diagrams of its own that hold at most `budget` nodes.
 fn settle_with(
     alloc: Global,
-    net: &Netlist,
-    blocks: &Blocks,
-    cut: &Cut,
+    looped: &LoopedNetlist<'_>,
     budget: u32,
 ) -> Result<Option<u32>, StoreFault>
-    requires blocks { AreBlocksOf net.now blocks.now }
-    requires cut { IsCutOf net.now cut.now }
-    requires some { 0 < length net.now.gates }
+    requires some { 0 < length looped.now.net.gates }
     requires budget { budget ≤ MAX_NODES }
-    ensures settled { IfOk result (λ found. IfSome found (IsSettledIn net.now)) }
-    ensures unknown { IfOk result (λ found. IfNone found (HasUnknown net.now)) }
-    ensures full { result ≡ Err StoreFault.Full → IsBelowEnough net.now budget }
+    ensures settled { IfOk result (λ found. IfSome found (IsSettledIn looped.now.net)) }
+    ensures unknown { IfOk result (λ found. IfNone found (HasUnknown looped.now.net)) }
+    ensures full { result ≡ Err StoreFault.Full → IsBelowEnough looped.now.net budget }
 {
+    let net = looped.net();
     let mut d = Diagrams::new(alloc, net.inputs() + net.latches(), budget)?;
-    settle_on(alloc, &mut d, net, blocks, cut)
+    settle_on(alloc, &mut d, looped)
 }
 
 /// How many sweeps are enough for the loops of a netlist, whose blocks and cut wires are found here.
@@ -192,7 +186,8 @@ fn settle(alloc: Global, net: &Netlist, budget: u32) -> Result<Option<u32>, Stor
 {
     let blocks = find_blocks(alloc, net)?;
     let cut = find_cut(alloc, net, &blocks)?;
-    settle_with(alloc, net, &blocks, &cut, budget)
+    let looped = LoopedNetlist::new(net, &blocks, &cut);
+    settle_with(alloc, &looped, budget)
 }
 
 /// The same, and no number where the nodes were too few.
@@ -218,22 +213,19 @@ fn settle_within(alloc: Global, net: &Netlist, budget: u32) -> Result<Option<u32
 /// `16 * w * (gates + 2) * (effort + wires + 4)`, whatever w is that bounds the functions which this netlist's solution
 /// works with (`AreUnsettled`). It answers `AllocError` for want of memory alone.
 ///
-/// The condition is that the blocks are the netlist's, that there is one at this place, and that the budget is at
-/// most 50,000,000.
+/// The condition is that there is a block at this place, and that the budget is at most 50,000,000.
 pub fn settles_alone(
     alloc: Global,
-    net: &Netlist,
-    blocks: &Blocks,
+    looped: &LoopedNetlist<'_>,
     place: u32,
     budget: u32,
 ) -> Result<Option<u32>, AllocError>
-    requires blocks { AreBlocksOf net.now blocks.now }
-    requires place { place < length blocks.now.list }
+    requires place { place < length looped.now.blocks.list }
     requires budget { budget ≤ MAX_NODES }
-    ensures settled { IfOk result (λ found. IfSome found (SettleInSweeps net.now (block_at blocks.now place).gates)) }
-    ensures unsettled { IfOk result (λ found. IfNone found (AreUnsettled net.now (block_at blocks.now place).gates budget)) }
+    ensures settled { IfOk result (λ found. IfSome found (SettleInSweeps looped.now.net (block_at looped.now.blocks place).gates)) }
+    ensures unsettled { IfOk result (λ found. IfNone found (AreUnsettled looped.now.net (block_at looped.now.blocks place).gates budget)) }
 {
-    let Some(small) = loop_netlist(alloc, net, blocks, place)? else {
+    let Some(small) = loop_netlist(alloc, looped, place)? else {
         return Ok(None);
     };
     settle_within(alloc, &small, budget)

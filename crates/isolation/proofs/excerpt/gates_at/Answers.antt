@@ -1,10 +1,12 @@
-use Rattle.std.proofs.Common.{ℕ, ◌<◌, length, subst}
-use Rattle.isolation.proofs.Common.{get_or_default}
+use Rattle.std.proofs.Common.{ℕ, ◌≡◌, ◌∙◌, ◌<◌, ap, length, subst}
+use Rattle.isolation.proofs.Common.{Blocks, block_at, get_or_default}
 use Rattle.loops.proofs.OrderLemmas.{block_gates, gates_within}
 use Rattle.isolation.proofs.excerpt.gates_at.Goals as goal
 
 pub returns-clause-within : goal.returns-clause-within
 returns-clause-within c k d l =
-    let within = gates_within c.args.net.now c.args.blocks.now c.requires.blocks c.args.place c.requires.place c.items-gates.result.now
-    (block_gates c.args.blocks.now c.items.result.now _ c.args.place _ c.requires.place c.items.ensures c.items-gates.ensures) k l in
-    subst (λ (n : ℕ). n < length c.args.net.now.gates) (get_or_default c.items-gates.result.now k 0 d l) within
+    let looped = c.args.looped.now in
+    let same : c.items-2.result.now ≡ (block_at looped.blocks c.args.place).gates =
+    block_gates looped.blocks c.items.result.now _ c.args.place _ c.requires (c.items.ensures ∙ ap (λ (blocks : Blocks). blocks.list) c.blocks-2.ensures.blocks) c.items-2.ensures in
+    let within = gates_within looped.net looped.blocks c.blocks-2.ensures.looped.blocks c.args.place c.requires c.items-2.result.now same k l in
+    subst (λ (n : ℕ). n < length looped.net.gates) (get_or_default c.items-2.result.now k 0 d l) within

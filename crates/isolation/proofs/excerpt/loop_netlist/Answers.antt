@@ -1,26 +1,40 @@
-use Rattle.std.proofs.Common.{List, ℕ, Contains, map, refl, subst, sym}
-use Rattle.isolation.proofs.Common.{gate_sig, block_at, AreClosed}
+use Rattle.std.proofs.Common.{◌<◌, List, ℕ, All, Contains, IfOk, map, refl, subst, sym}
+use Rattle.isolation.proofs.Common.{IfSome, Sig, Parts, count, gate_sig, block_at, AreClosed, IsExcerpt}
+use Rattle.isolation.specs.Building.{AreApart}
 use Rattle.loops.proofs.OrderLemmas.{block_rises, gates_within}
-use Rattle.isolation.proofs.BuildingLemmas.{outside_within, loop_found}
+use Rattle.isolation.proofs.BuildingLemmas.{outside_within, loop_found, loop_filled}
 use Rattle.isolation.proofs.excerpt.loop_netlist.Goals as goal
 
 pub excerpt-requires-clause-outside : goal.excerpt-requires-clause-outside
 excerpt-requires-clause-outside c =
-    outside_within c.args.net.now c.gates_at-gates.ensures.valid (block_at c.args.blocks.now c.args.place).gates
-    (gates_within c.args.net.now c.args.blocks.now c.requires.blocks c.args.place c.requires.place (block_at c.args.blocks.now c.args.place).gates refl)
-    c.in_ok-outside.outside.keys c.in_ok-outside.ensures.wires.are
+    let l = c.args.looped.now in
+    subst (λ (net : Parts). All (λ (s : Sig). s.0 < count net) c.in_ok-outside.outside.keys) (sym c.net.ensures.net)
+    (outside_within l.net c.gates_at-gates.ensures.valid (block_at l.blocks c.args.place).gates
+    (gates_within l.net l.blocks c.net.ensures.looped.blocks c.args.place c.requires (block_at l.blocks c.args.place).gates refl)
+    c.in_ok-outside.outside.keys c.in_ok-outside.ensures.wires.are)
 
 pub excerpt-requires-clause-apart : goal.excerpt-requires-clause-apart
-excerpt-requires-clause-apart c s outside gate =
-    (c.in_ok-outside.ensures.wires.are s outside).apart (subst (λ (gs : List ℕ). Contains (map (gate_sig c.args.net.now) gs) s) c.gates_at-gates.ensures.is gate)
+excerpt-requires-clause-apart c =
+    subst (λ (net : Parts). AreApart net c.gates_at-gates.result.now c.in_ok-outside.outside.keys) (sym c.net.ensures.net)
+    (λ s outside gate. (c.in_ok-outside.ensures.wires.are s outside).apart (subst (λ (gs : List ℕ). Contains (map (gate_sig c.args.looped.now.net) gs) s) c.gates_at-gates.ensures.is gate))
 
 pub returns-clause-small : goal.returns-clause-small
 returns-clause-small c =
-    loop_found c.args.net.now (block_at c.args.blocks.now c.args.place).gates c.in_ok-outside.outside.keys c.excerpt.result c.in_ok-outside.ensures.wires
+    let l = c.args.looped.now in
+    loop_found l.net (block_at l.blocks c.args.place).gates c.in_ok-outside.outside.keys c.excerpt.result c.in_ok-outside.ensures.wires
+    (subst (λ (net : Parts). IfOk c.excerpt.result (λ found. IfSome found (IsExcerpt net c.in_ok-outside.outside.keys (block_at l.blocks c.args.place).gates))) c.net.ensures.net
+    (rw c.gates_at-gates.ensures.is at c.excerpt.ensures.small))
+
+pub returns-clause-filled : goal.returns-clause-filled
+returns-clause-filled c =
+    let l = c.args.looped.now in
+    loop_filled c.net.result.now (block_at l.blocks c.args.place).gates c.in_ok-outside.outside.keys c.excerpt.result (c.net.ensures.looped.blocks.filled c.args.place c.requires)
     (rw c.gates_at-gates.ensures.is at c.excerpt.ensures.small)
 
 pub returns-clause-some : goal.returns-clause-some
 returns-clause-some c =
+    let l = c.args.looped.now in
     c.excerpt.ensures.some
-    (subst (λ (gs : List ℕ). AreClosed c.args.net.now gs c.in_ok-outside.outside.keys) (sym c.gates_at-gates.ensures.is)
-    (record { rise = block_rises c.args.net.now c.args.blocks.now c.requires.blocks c.args.place c.requires.place; once = c.in_ok-outside.ensures.wires.once; read = c.in_ok-outside.ensures.all }))
+    (subst (λ (net : Parts). AreClosed net c.gates_at-gates.result.now c.in_ok-outside.outside.keys) (sym c.net.ensures.net)
+    (subst (λ (gs : List ℕ). AreClosed l.net gs c.in_ok-outside.outside.keys) (sym c.gates_at-gates.ensures.is)
+    (record { rise = block_rises l.net l.blocks c.net.ensures.looped.blocks c.args.place c.requires; once = c.in_ok-outside.ensures.wires.once; read = c.in_ok-outside.ensures.all })))
