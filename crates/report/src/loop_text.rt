@@ -119,7 +119,6 @@ pub fn put_loops<K: Sink>(looped: &LoopedNetlist<'_>, sink: &mut K) -> Result<()
     ensures { IsAppended (loops_text looped.now.net) (sink_call K.put K.faults sink.old sink.new) result }
 {
     put_number(sink, b"loops=", looped.count() as u64)?;
-    write_whole(sink, b"
-")?;
+    write_whole(sink, b"\n")?;
     put_each_loop(sink, looped)
 }
