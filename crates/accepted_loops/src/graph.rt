@@ -19,8 +19,7 @@ ghost use Rattle.accepted_loops.specs.Lines.{told_lines};
 use crate::lines::tell_loop;
 use cyc_io::{TextSink, write_whole};
 use dot_text::{open_graph, put_labelled_cluster};
-use loops::{ListedLoop, LoopedNetlist};
-use loops::{Blocks, Cut, SweepCounts};
+use loops::{Blocks, Cut, ListedLoop, LoopedNetlist, SweepCounts};
 use netlist::Netlist;
 use std::alloc::{AllocError, Global};
 

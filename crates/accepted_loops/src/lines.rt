@@ -23,8 +23,7 @@ ghost use Rattle.accepted_loops.specs.Lines.{column_name as column_text, columns
 use crate::columns::columns_read;
 use cyc_base::{Name, Sig};
 use cyc_io::{Failed, Sink, TextSink, write_whole};
-use loops::{ListedLoop, LoopedNetlist};
-use loops::{Blocks, Cut, SweepCounts};
+use loops::{Blocks, Cut, ListedLoop, LoopedNetlist, SweepCounts};
 use netlist::Netlist;
 use report::{put_loop, put_number, put_two};
 use std::alloc::{AllocError, Global};

@@ -60,7 +60,7 @@ fn needed_gates(alloc: Global, net: &Netlist, sources: &[Sig]) -> Result<Vec<u32
     requires { sources.now ≡ map (λ latch. latch.from) net.now.latches }
     ensures { IfOk result (λ needed. needed.items ≡ numbers_from (columns net.now) (needed_signals net.now)) }
 {
-    let first = net.inputs() + net.latches();
+    let first = net.columns();
     let mut needed = Vec::new(alloc);
     add_gate_numbers(first, net.outputs(), &mut needed)?;
     add_gate_numbers(first, sources, &mut needed)?;
@@ -90,11 +90,9 @@ fn signal_edge(net: &Netlist, edges: &[Edge], signal: Sig) -> Edge
     requires columns { columns net.now ≤ 1000000000 }
     ensures { result ≡ signal_edge_of net.now edges.now signal }
 {
-    let columns = net.inputs() + net.latches();
-    if signal.0 < columns {
-        Edge(2 * (1 + signal.0))
-    } else {
-        edges[(signal.0 - columns) as usize]
+    match net.driver(signal) {
+        Some(gate) => edges[gate as usize],
+        None => Edge(2 * (1 + signal.0)),
     }
 }
 

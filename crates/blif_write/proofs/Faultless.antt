@@ -1,32 +1,21 @@
 -- No line of a written netlist has a fault.
 use Rattle.std.proofs.Common.{◌≡◌, ◌&&◌, ℕ, ◌+◌, ◌≤◌, nat_lt, not, Bool, true, false, List, [], ◌∷◌, ◌++◌, length, map, refl, sym, ap, ◌∙◌, subst, append_assoc, arith, eq-eqb, if◌then◌else◌, None, Some, option_map}
-use Rattle.std.specs.Prelude.{codes, bytes_eq, All}
-use Rattle.std.specs.List.{flat_map, list_all, list_any}
-use Rattle.std.specs.declared.option.Option.{Option}
+use Rattle.blif_write.proofs.Common.{All, flat_map, list_any, Option, length-map, All-head, All-tail, IsCover, Lit, Zero, One, Any, Edge, Rise, Fall, Init, Gate, Parts, numbered, name_of, clock_lines, control_words, edge_word, init_word, latch_line, latch_lines, lit_byte, plane_word, lits_words, row_line, gate_lines, all_gate_lines, lines_of}
+use Rattle.std.specs.Prelude.{codes, bytes_eq}
+use Rattle.std.specs.List.{list_all}
 use Rattle.std.proofs.lemmas.Grind.{common_steps}
-use Rattle.std.proofs.lemmas.List.{length-map, length-append}
-use Rattle.std.proofs.lemmas.List.Elements.{All-head, All-tail}
-use Rattle.cover_logic.specs.Covers.{IsCover}
-use Rattle.cover_logic.specs.declared.row.Lit.{Lit}
-use Rattle.cover_logic.specs.declared.row.Lit.TheVariants.{Zero, One, Any}
+use Rattle.std.proofs.lemmas.List.{length-append}
 use Rattle.cover_logic.specs.declared.row.Row.{Row as CoverRow}
 use Rattle.netlist.specs.declared.parts.Clock.{Clock as ClockOf}
-use Rattle.netlist.specs.declared.parts.Edge.{Edge}
-use Rattle.netlist.specs.declared.parts.Edge.TheVariants.{Rise, Fall}
-use Rattle.netlist.specs.declared.parts.Init.{Init}
 use Rattle.netlist.specs.declared.parts.Init.TheVariants as starts
-use Rattle.netlist.specs.declared.parts.Gate.{Gate}
 use Rattle.netlist.specs.declared.parts.Latch.{Latch as LatchOf}
-use Rattle.netlist.specs.declared.parts.Parts.{Parts}
 use Rattle.blif_text.specs.Texts.{Line}
-use Rattle.blif_text.proofs.WrittenLines.{numbered}
 use Rattle.blif_read.specs.declared.kind.Kind.TheVariants.{Row}
 use Rattle.blif_read.specs.declared.fault.BlifFault.{BlifFault}
 use Rattle.blif_read.specs.declared.fault.BlifFault.TheVariants.{TooManyPins}
 use Rattle.blif_read.specs.Kinds.{kind, arguments, pin_count, is_on, kind_of, model_name}
 use Rattle.blif_read.specs.Places.{is_model, is_end, is_row, is_names, in_model, cover_line, first_row, this_unless, place_behind, is_model_name}
 use Rattle.blif_read.specs.Faults.{names_fault, latch_fault, typed_latch_fault, is_init, is_lit, is_plane, is_row_of, same_plane, differs, row_fault, fault_at, fault, or_else, first_fault}
-use Rattle.blif_write.specs.Written.{name_of, clock_lines, control_words, edge_word, init_word, latch_line, latch_lines, lit_byte, plane_word, lits_words, row_line, gate_lines, all_gate_lines, lines_of}
 
 abbrev pub line : ℕ → List (List ℕ) → Line
 line n words = record { number = n; words = words }

@@ -1,15 +1,10 @@
 -- The model of a written netlist flattens to its lines.
 use Rattle.std.proofs.Common.{◌≡◌, ℕ, zero, suc, ◌+◌, ◌≤◌, nat_lt, List, [], ◌∷◌, ◌++◌, length, map, refl, ap, ◌∙◌, arith, if◌then◌else◌, None, Some, option_map, Ok}
-use Rattle.std.specs.declared.option.Option.{Option}
-use Rattle.std.proofs.lemmas.List.{map-id, length-map}
-use Rattle.netlist.specs.declared.parts.Clock.{Clock}
+use Rattle.blif_write.proofs.Common.{Option, length-map, Clock, Parts, BlifModel, GateLine, LatchLine}
+use Rattle.std.proofs.lemmas.List.{map-id}
 use Rattle.netlist.specs.declared.parts.Gate as gates
 use Rattle.netlist.specs.declared.parts.Latch as latches
-use Rattle.netlist.specs.declared.parts.Parts.{Parts}
 use Rattle.blif_read.specs.Find.{has_name}
-use Rattle.blif_read.specs.declared.models.BlifModel.{BlifModel}
-use Rattle.blif_read.specs.declared.models.GateLine.{GateLine}
-use Rattle.blif_read.specs.declared.models.LatchLine.{LatchLine}
 use Rattle.blif_read.specs.declared.models.Item.{Item}
 use Rattle.blif_read.specs.declared.models.Item.TheVariants as item
 use Rattle.flatten.specs.Wires.{mark_of}

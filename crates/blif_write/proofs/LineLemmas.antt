@@ -1,17 +1,11 @@
 -- Lines and the whole text, as they are appended.
 use Rattle.std.proofs.Common.{◌≡◌, ℕ, List, [], ◌∷◌, ◌++◌, true, false, map, refl, sym, ap, ◌∙◌, append_assoc, append-nil, Some, None}
 use Rattle.std.specs.Prelude.{codes, Bool}
-use Rattle.std.specs.List.{flat_map}
-use Rattle.std.specs.declared.option.Option.{Option}
+use Rattle.blif_write.proofs.Common.{flat_map, Option, Sig, Clock, Gate, Latch, Parts, edge_word, line_text, name_of, control_words, init_word, latch_line, row_line, gate_lines, latch_lines, all_gate_lines, behind, gate_text}
 use Rattle.std.proofs.lemmas.List.Concat.{flat_map-append}
 use Rattle.std.proofs.lemmas.List.Folds.{flat_map-map}
-use Rattle.cyc_base.specs.declared.sig.Sig.{Sig}
-use Rattle.netlist.specs.declared.parts.Clock.{Clock}
-use Rattle.netlist.specs.declared.parts.Gate.{Gate}
-use Rattle.netlist.specs.declared.parts.Latch.{Latch}
-use Rattle.netlist.specs.declared.parts.Parts.{Parts}
-use Rattle.blif_write.specs.Written.{edge_word, line_end, line_text, text_of, name_of, control_words, init_word, latch_line, row_line, gate_lines, latch_lines, all_gate_lines, head_lines, written}
-use Rattle.blif_write.specs.Putting.{behind, names_behind, last_behind, last_word, names_rest, gate_text, gates_text, latches_text}
+use Rattle.blif_write.specs.Written.{line_end, text_of, head_lines, written}
+use Rattle.blif_write.specs.Putting.{names_behind, last_behind, last_word, names_rest, gates_text, latches_text}
 
 -- A line is its first word and the rest.
 

@@ -1,33 +1,21 @@
 -- The lines of a written netlist link to the netlist.
 use Rattle.std.proofs.Common.{◌≡◌, ◌&&◌, ◌||◌, ℕ, zero, suc, ◌<◌, not, Bool, true, false, List, [], ◌∷◌, ◌++◌, length, map, get_or, refl, sym, ap, ◌∙◌, subst, arith, eq-eqb, if◌then◌else◌, None, Some, option_map, is_some, Ok, Err, cond}
-use Rattle.std.specs.Prelude.{codes, All, IfSome, filter}
-use Rattle.std.specs.List.{flat_map, list_any, find, position_or_len, IsDistinct, AllByRecursion}
+use Rattle.blif_write.proofs.Common.{All, IfSome, flat_map, list_any, bytes_eq, Option, length-map, All-head, All-tail, Sig, Clock, Edge, Rise, Fall, Gate, Latch, Parts, signal, signal_names, driven_names, IsNetlist, IsClockName, BlifModel, GateLine, LatchLine, name_of}
+use Rattle.std.specs.Prelude.{codes, filter}
+use Rattle.std.specs.List.{find, position_or_len, IsDistinct, AllByRecursion}
 use Rattle.std.specs.Option.{option_or, option_and_then, option_map_or}
-use Rattle.std.specs.Str.{bytes_eq}
-use Rattle.std.specs.declared.option.Option.{Option}
-use Rattle.std.proofs.lemmas.List.{length-map, length-append}
-use Rattle.std.proofs.lemmas.List.Elements.{All-head, All-tail, All-nil, All-cons, All-append}
+use Rattle.std.proofs.lemmas.List.{length-append}
+use Rattle.std.proofs.lemmas.List.Elements.{All-nil, All-cons, All-append}
 use Rattle.std.proofs.lemmas.List.Folds.{list_any-append}
-use Rattle.cyc_base.specs.declared.sig.Sig.{Sig}
-use Rattle.netlist.specs.declared.parts.Clock.{Clock}
-use Rattle.netlist.specs.declared.parts.Edge.{Edge}
-use Rattle.netlist.specs.declared.parts.Edge.TheVariants.{Rise, Fall}
-use Rattle.netlist.specs.declared.parts.Gate.{Gate}
-use Rattle.netlist.specs.declared.parts.Latch.{Latch}
-use Rattle.netlist.specs.declared.parts.Parts.{Parts}
-use Rattle.netlist.specs.Netlists.{signal, count, sig_eq, signal_names, driven_names, IsSignal, IsNetlist, IsClockName}
+use Rattle.netlist.specs.Netlists.{count, sig_eq, IsSignal}
 use Rattle.netlist.specs.Faults.{repeat_after}
 use Rattle.netlist.proofs.Differ.{no_repeat_from_differ}
-use Rattle.blif_read.specs.declared.models.BlifModel.{BlifModel}
-use Rattle.blif_read.specs.declared.models.GateLine.{GateLine}
-use Rattle.blif_read.specs.declared.models.LatchLine.{LatchLine}
 use Rattle.flatten.specs.declared.fault.FlatFault.{FlatFault}
 use Rattle.flatten.specs.declared.fault.FlatFault.TheVariants.{DeclaredTwice, DrivenTwice, Undriven, BadClock, ClockRead}
 use Rattle.flatten.specs.Instances.{is_among}
 use Rattle.flatten.specs.Linking.{twice_after, first_twice, each_once, own_clocks, latch_outputs, gate_outputs, drivers, reads, has_control, first_control, edge_eq, is_fitting, has_bad_control, link_fault, signal_list, sig_of, latch_with, gate_with, netlist_by, linked}
 use Rattle.flatten.proofs.Names.{bytes_same, bytes_refl, bytes_sym}
 use Rattle.flatten.proofs.Placing.{step_yes, step_no}
-use Rattle.blif_write.specs.Written.{name_of}
 use Rattle.blif_write.proofs.NameLemmas.{driven_any, or_right}
 use Rattle.blif_write.proofs.Said.{control_if, clock_names, latch_of_text, gate_of_text, model_of_text}
 use Rattle.blif_write.proofs.Flattened.{lines_of_text}

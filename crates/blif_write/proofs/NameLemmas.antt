@@ -1,21 +1,13 @@
 -- Names of signals, and the last words of lines.
 use Rattle.std.proofs.Common.{◌≡◌, ◌||◌, ◌==◌, ℕ, zero, suc, ◌-◌, ◌<◌, Bool, true, false, List, [], ◌∷◌, length, map, get_or, refl, sym, ap, ◌∙◌, subst, arith, Some}
-use Rattle.std.specs.List.{list_any, slice_get}
-use Rattle.std.specs.Prelude.{IfSome}
-use Rattle.std.specs.declared.option.Option.{Option}
-use Rattle.std.specs.Str.{bytes_eq}
+use Rattle.blif_write.proofs.Common.{list_any, IfSome, Option, bytes_eq, Sig, Clock, Parts, Latch, Gate, signal, signal_names, driven_names, IsNetlist, IsClockName, name_of}
+use Rattle.std.specs.List.{slice_get}
 use Rattle.std.proofs.lemmas.Option.{get_or_from_slice_get}
 use Rattle.std.proofs.lemmas.List.{get_or_append_left, get_or_default, map-id}
 use Rattle.std.proofs.lemmas.List.Folds.{list_any-append}
 use Rattle.std.proofs.lemmas.Slice.Eq.{bytes_eq-Decides}
-use Rattle.cyc_base.specs.declared.sig.Sig.{Sig}
-use Rattle.netlist.specs.declared.parts.Clock.{Clock}
-use Rattle.netlist.specs.declared.parts.Parts.{Parts}
-use Rattle.netlist.specs.declared.parts.Latch.{Latch}
-use Rattle.netlist.specs.declared.parts.Gate.{Gate}
-use Rattle.netlist.specs.Netlists.{signal, signal_names, driven_names, is_driven, IsNetlist, IsClockName}
+use Rattle.netlist.specs.Netlists.{is_driven}
 use Rattle.blif_text.specs.Texts.{ends_in_backslash}
-use Rattle.blif_write.specs.Written.{name_of}
 use Rattle.blif_write.specs.Putting.{last_word}
 
 -- an item that was looked up by its place, as loops name it

@@ -1,28 +1,16 @@
 -- Each line of a written netlist has words, all of which are names.
 use Rattle.std.proofs.Common.{◌≡◌, ◌≢◌, ℕ, if◌then◌else◌, Bool, true, false, List, [], ◌∷◌, ◌++◌, map, refl, arith, None, Some}
-use Rattle.std.specs.Prelude.{codes, All, IfSome}
-use Rattle.std.specs.List.{flat_map, list_any}
-use Rattle.std.specs.Str.{bytes_eq}
-use Rattle.std.specs.declared.option.Option.{Option}
-use Rattle.std.proofs.lemmas.List.Elements.{All-head, All-tail, All-nil, All-cons, All-append, All-get_or}
+use Rattle.blif_write.proofs.Common.{All, IfSome, flat_map, list_any, bytes_eq, Option, All-head, All-tail, Sig, Lit, Zero, One, Any, Clock, Edge, Rise, Fall, Init, Gate, Latch, Parts, signal_names, driven_names, IsNetlist, IsClockName, name_of, clock_lines, edge_word, init_word, control_words, latch_line, latch_lines, lit_byte, plane_word, lits_words, row_line, gate_lines, all_gate_lines, lines_of}
+use Rattle.std.specs.Prelude.{codes}
+use Rattle.std.proofs.lemmas.List.Elements.{All-nil, All-cons, All-append, All-get_or}
 use Rattle.cyc_base.specs.Names.{IsBlifByte, IsBlifName}
-use Rattle.cyc_base.specs.declared.sig.Sig.{Sig}
 use Rattle.blif_text.proofs.WrittenLines.{IsLine}
-use Rattle.cover_logic.specs.declared.row.Lit.{Lit}
-use Rattle.cover_logic.specs.declared.row.Lit.TheVariants.{Zero, One, Any}
 use Rattle.cover_logic.specs.declared.row.Row.{Row}
-use Rattle.netlist.specs.declared.parts.Clock.{Clock}
-use Rattle.netlist.specs.declared.parts.Edge.{Edge}
-use Rattle.netlist.specs.declared.parts.Edge.TheVariants.{Rise, Fall}
-use Rattle.netlist.specs.declared.parts.Init.{Init}
 use Rattle.netlist.specs.declared.parts.Init.TheVariants as starts
-use Rattle.netlist.specs.declared.parts.Gate.{Gate}
-use Rattle.netlist.specs.declared.parts.Latch.{Latch}
-use Rattle.netlist.specs.declared.parts.Parts.{Parts}
-use Rattle.netlist.specs.Netlists.{signal_names, driven_names, IsSignal, IsNetlist, IsClockName}
+use Rattle.netlist.specs.Netlists.{IsSignal}
 use Rattle.netlist.specs.Faults.{is_blif_name}
 use Rattle.netlist.proofs.Decisions.{is_blif_name_decides}
-use Rattle.blif_write.specs.Written.{name_of, clock_lines, head_lines, edge_word, init_word, control_words, latch_line, latch_lines, lit_byte, plane_word, lits_words, row_line, gate_lines, all_gate_lines, lines_of}
+use Rattle.blif_write.specs.Written.{head_lines}
 use Rattle.blif_write.proofs.Linked.{name_count}
 
 cons_filled : {X : Type 0} (x : X) (xs : List X) → (x ∷ xs) ≢ []

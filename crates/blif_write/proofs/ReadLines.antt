@@ -1,13 +1,13 @@
 -- A text of lines of names reads back as these lines.
 use Rattle.std.proofs.Common.{◌≡◌, List, [], ◌∷◌, ◌++◌, ℕ, true, false, refl, sym, ap, ◌∙◌, append_assoc, append-nil}
-use Rattle.std.specs.Prelude.{codes, All, Bool, ◌&&◌, if◌then◌else◌, Ok}
-use Rattle.std.proofs.lemmas.List.Elements.{All-tail}
+use Rattle.blif_write.proofs.Common.{All, All-tail, numbered, line_text}
+use Rattle.std.specs.Prelude.{codes, Bool, ◌&&◌, if◌then◌else◌, Ok}
 use Rattle.cyc_base.specs.Names.{IsBlifName}
 use Rattle.blif_text.specs.Texts.{ends_in_backslash, lines}
 use Rattle.blif_text.proofs.Pieces.{ends_behind}
-use Rattle.blif_text.proofs.WrittenLines.{IsLine, numbered, spaced, line_of}
+use Rattle.blif_text.proofs.WrittenLines.{IsLine, spaced, line_of}
 use Rattle.blif_text.proofs.WrittenLines as texts
-use Rattle.blif_write.specs.Written.{line_end, line_text, text_of}
+use Rattle.blif_write.specs.Written.{line_end, text_of}
 
 abbrev last_of : List (List ℕ) → List ℕ
 last_of [] = []

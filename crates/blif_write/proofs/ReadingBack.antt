@@ -1,17 +1,13 @@
 -- A written netlist reads back.
 use Rattle.std.proofs.Common.{◌≡◌, ◌+◌, ◌≤◌, ℕ, Bool, true, false, [], ◌∷◌, length, map, ap, ◌∙◌, refl, None, Some, Ok}
-use Rattle.std.specs.Prelude.{codes, bytes_eq, All, IfSome}
-use Rattle.std.specs.declared.option.Option.{Option}
-use Rattle.netlist.specs.declared.parts.Clock.{Clock}
-use Rattle.netlist.specs.declared.parts.Parts.{Parts}
-use Rattle.netlist.specs.Netlists.{IsNetlist, IsClockName}
-use Rattle.blif_text.proofs.WrittenLines.{numbered}
+use Rattle.blif_write.proofs.Common.{All, IfSome, Option, Clock, Parts, IsNetlist, IsClockName, numbered, lines_of}
+use Rattle.std.specs.Prelude.{codes, bytes_eq}
 use Rattle.blif_read.specs.Models.{models}
 use Rattle.blif_read.specs.Statements.{statement}
 use Rattle.blif_read.specs.Reads.{reads, reads_lines, unless_fault, if_any}
 use Rattle.flatten.specs.Flat.{flat_within, flat_from, linked_lines}
 use Rattle.flatten.proofs.Names.{bytes_same}
-use Rattle.blif_write.specs.Written.{lines_of, written}
+use Rattle.blif_write.specs.Written.{written}
 use Rattle.blif_write.specs.Laws.{HasCovers, WrittenReadsBack}
 use Rattle.blif_write.proofs.ReadLines.{written_lines}
 use Rattle.blif_write.proofs.Faultless.{IsWhole, no_fault}

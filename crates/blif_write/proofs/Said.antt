@@ -1,29 +1,17 @@
 -- What the lines of a written netlist say: one model.
 use Rattle.std.proofs.Common.{◌≡◌, ℕ, ◌+◌, Bool, true, false, List, [], ◌∷◌, ◌++◌, length, map, take, refl, sym, ap, ◌∙◌, append_assoc, append-nil, if◌then◌else◌, None, Some}
-use Rattle.std.specs.Prelude.{codes, bytes_eq, All}
-use Rattle.std.specs.List.{flat_map, list_any}
-use Rattle.std.specs.declared.option.Option.{Option}
-use Rattle.std.proofs.lemmas.List.{length-map, map-append, take_at, get_or_at}
-use Rattle.std.proofs.lemmas.List.Elements.{All-head, All-tail}
+use Rattle.blif_write.proofs.Common.{All, flat_map, list_any, Option, length-map, All-head, All-tail, Lit, Zero, One, Any, Edge, Rise, Fall, Init, Parts, numbered, BlifModel, GateLine, LatchLine, name_of, clock_lines, control_words, edge_word, init_word, latch_line, latch_lines, lit_byte, plane_word, lits_words, row_line, gate_lines, all_gate_lines, lines_of}
+use Rattle.std.specs.Prelude.{codes, bytes_eq}
+use Rattle.std.proofs.lemmas.List.{map-append, take_at, get_or_at}
 use Rattle.cover_logic.specs.Covers.{Cover}
-use Rattle.cover_logic.specs.declared.row.Lit.{Lit}
-use Rattle.cover_logic.specs.declared.row.Lit.TheVariants.{Zero, One, Any}
 use Rattle.cover_logic.specs.declared.row.Row as rows
 use Rattle.netlist.specs.declared.parts.Clock as clocks
-use Rattle.netlist.specs.declared.parts.Edge.{Edge}
-use Rattle.netlist.specs.declared.parts.Edge.TheVariants.{Rise, Fall}
-use Rattle.netlist.specs.declared.parts.Init.{Init}
 use Rattle.netlist.specs.declared.parts.Init.TheVariants as starts
 use Rattle.netlist.specs.declared.parts.Gate as gates
 use Rattle.netlist.specs.declared.parts.Latch as latches
-use Rattle.netlist.specs.declared.parts.Parts.{Parts}
 use Rattle.blif_text.specs.Texts.{Line}
-use Rattle.blif_text.proofs.WrittenLines.{numbered}
 use Rattle.blif_read.specs.declared.kind.Kind as kinds
 use Rattle.blif_read.specs.declared.kind.Kind.TheVariants as of
-use Rattle.blif_read.specs.declared.models.BlifModel.{BlifModel}
-use Rattle.blif_read.specs.declared.models.GateLine.{GateLine}
-use Rattle.blif_read.specs.declared.models.LatchLine.{LatchLine}
 use Rattle.blif_read.specs.declared.models.Item.{Item}
 use Rattle.blif_read.specs.declared.models.Item.TheVariants as item
 use Rattle.blif_read.specs.declared.statement.Statement.{Statement}
@@ -31,7 +19,6 @@ use Rattle.blif_read.specs.declared.statement.Statement.TheVariants.{Model, Inpu
 use Rattle.blif_read.specs.Kinds.{kind, is_on, pin_count}
 use Rattle.blif_read.specs.Statements.{lit_of, lits_of, latch_of, control_of, pins_of, output_of, statement, statement_of_kind}
 use Rattle.blif_read.specs.Models.{members, inputs_in, outputs_in, clocks_in, rows_of, plane_of, gate_of, body_of, model_of, models}
-use Rattle.blif_write.specs.Written.{name_of, clock_lines, control_words, edge_word, init_word, latch_line, latch_lines, lit_byte, plane_word, lits_words, row_line, gate_lines, all_gate_lines, lines_of}
 use Rattle.blif_write.proofs.Faultless.{line, IsWhole, counted, row_on, row_kind}
 
 -- The model of a written netlist.

@@ -19,7 +19,7 @@ fn column_of(net: &Netlist, name: &Name) -> Option<u32>
     ensures { result ≡ column_of_name net.now name.now }
 {
     let signal = net.find(name)?;
-    if signal.0 < net.inputs() + net.latches() {
+    if signal.0 < net.columns() {
         Some(signal.0)
     } else {
         None

@@ -8,8 +8,7 @@ ghost use Rattle.clause_decision.specs.LoopsAt.{gates_in, loop_at, AreCutPlaces,
 ghost use Rattle.clause_decision.specs.Readers.{source_of};
 
 use cyc_base::Sig;
-use loops::LoopedNetlist;
-use loops::{Blocks, Cut};
+use loops::{Blocks, Cut, LoopedNetlist};
 use netlist::Netlist;
 use std::alloc::{AllocError, Global};
 use std::marker::Model;

@@ -31,8 +31,7 @@ use cyc_base::{Name, Trits};
 use cyc_io::{Failed, TextSink};
 use delay_core::TickEnd;
 use dot_text::put_loops_graph;
-use loops::LoopedNetlist;
-use loops::{Blocks, count_loops, find_blocks, find_cut};
+use loops::{Blocks, LoopedNetlist, find_blocks, find_cut};
 use netlist::Netlist;
 use probes::Kind;
 use refusals::Refusal;
@@ -153,7 +152,7 @@ pub(crate) fn tell_too_large(alloc: Global, size: u64) -> Result<Outcome, AllocE
 pub(crate) fn number_of_loops(looped: &LoopedNetlist<'_>) -> u32
     ensures { result ≡ count_of_loops looped.now.net }
 {
-    count_loops(looped.net(), looped.blocks())
+    looped.count()
 }
 
 // Appends the line of an accepted netlist.

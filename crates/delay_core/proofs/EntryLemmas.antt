@@ -1,9 +1,10 @@
 -- What an entry more changes.
 use Rattle.std.proofs.Common.{◌≡◌, inl, inr, ℕ, zero, suc, ◌+◌, ◌<◌, ◌≤◌, Bool, false, List, [], ◌∷◌, ◌++◌, length, map, drop, ◌-◌, get_or, set, refl, ap, ap₂, sym, ◌∙◌, arith}
-use Rattle.std.proofs.lemmas.List.{append-nil, ext_get_or, get_or-drop, get_or-append_right, length-append, length-drop, length-set, length-map, map-set, set-get_or, get_or-map, get_or_append_left, get_or-set_same, get_or-set_other, get_or_push, length_push}
-use Rattle.std.proofs.lemmas.Bool.{cases_eq, cases_lt, le-leb, lt-leb}
+use Rattle.delay_core.proofs.Common.{ext_get_or, length-set, length-map, get_or-map, get_or-set_other, cases_eq, cases_lt, value_from, WritesMoment}
+use Rattle.std.proofs.lemmas.List.{append-nil, get_or-drop, get_or-append_right, length-append, length-drop, map-set, set-get_or, get_or_append_left, get_or-set_same, get_or_push, length_push}
+use Rattle.std.proofs.lemmas.Bool.{le-leb, lt-leb}
 use Rattle.delay_core.specs.declared.entry.Entry.{Entry}
-use Rattle.delay_core.specs.Entries.{entry_at, value_by, value_from, moment_of, AreLinked, AreDated, IsJump, Writes, WritesMoment}
+use Rattle.delay_core.specs.Entries.{entry_at, value_by, moment_of, AreLinked, AreDated, IsJump, Writes}
 
 abbrev pub none : Entry
 none = record { moment = 0; value = false; older = 0; jump = 0; rank = 0 }

@@ -1,13 +1,12 @@
 -- The events of a round, packed: what is at a place, and one event more.
 use Rattle.std.proofs.Common.{◌≡◌, ◌≢◌, ◌+◌, ◌-◌, ◌<◌, ◌≤◌, ◌==◌, inl, inr, ℕ, zero, suc, Bool, false, List, [], ◌∷◌, ◌++◌, take, drop, length, map, get_or, refl, ap, sym, ◌∙◌, arith, length-append, length-drop}
 use Rattle.std.specs.Prelude.{slice_range, if◌then◌else◌}
-use Rattle.std.specs.List.{range_with_len}
+use Rattle.delay_core.proofs.Common.{range_with_len, cases_lt, get_or_default, ext_get_or, PlannedEvent}
 use Rattle.std.proofs.Math.Seq.{get_or-append_seam, drop-append_seam, take-length}
-use Rattle.std.proofs.lemmas.Bool.{ne_eqb, cases_lt}
-use Rattle.std.proofs.lemmas.List.{get_or_append_left, get_or_default, take-append-le, drop-append-le, ext_get_or}
+use Rattle.std.proofs.lemmas.Bool.{ne_eqb}
+use Rattle.std.proofs.lemmas.List.{get_or_append_left, take-append-le, drop-append-le}
 use Rattle.std.proofs.lemmas.List.FromFn.{length-map-range_with_len, get_or-map-range_with_len, map-range_with_len_more}
 use Rattle.delay_core.specs.declared.events.Head.{Head}
-use Rattle.delay_core.specs.declared.plan.PlannedEvent.{PlannedEvent}
 use Rattle.delay_core.specs.EventLists.{planned_at, head_at, begin_of, packed_event, packed_events, ArePacked}
 
 pub length_packed : (heads : List Head) (ages : List ℕ) → length (packed_events heads ages) ≡ length heads

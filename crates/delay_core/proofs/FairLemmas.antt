@@ -1,25 +1,13 @@
 -- What is played without a fault is fair, and makes the moments of its run.
 use Rattle.std.proofs.Common.{◌≡◌, ◌⊎◌, inl, inr, ℕ, suc, ◌+◌, Bool, true, false, List, [], ◌∷◌, ◌++◌, length, map, reverse, get_or, All, Any, None, Some, Option, refl, ap, ap₂, sym, ◌∙◌, arith, true≢false}
-use Rattle.std.specs.Prelude.{option_map}
-use Rattle.std.specs.Option.{option_or}
-use Rattle.std.proofs.lemmas.Bool.{cases_eq}
-use Rattle.std.proofs.lemmas.List.{length-set, length-map, length-replicate, get_or-set_other}
+use Rattle.delay_core.proofs.Common.{option_map, option_or, cases_eq, length-set, length-map, length-replicate, get_or-set_other, Parts, wires, Event, Moment, History, newest, IsEventOf, Played, gates_at, loaded_at, played, play, EventFault, PlayFault, PlannedEvent, RoundPlan, Schedule, PlayState, first_allowed, event_fault, no_events, after_event, next_tick, planned_fault, after_planned, events_fault, after_plan, round_fault, after_plans, rounds_fault, PlannedTick, ticks_fault, first_opened, tick_of, IsPlayedFairly, rest_of}
 use Rattle.std.proofs.lemmas.List.Elements.{All-nil, All-cons}
-use Rattle.netlist.specs.declared.parts.Parts.{Parts}
-use Rattle.netlist.specs.Fixpoint.{wires}
-use Rattle.schedules.specs.declared.event.Event.{Event}
-use Rattle.schedules.specs.Moments.{Moment, History, Round, newest, after_events, after_rounds}
-use Rattle.schedules.specs.Fairness.{IsEventOf, ReadsFrom, IsFairRound, earliest, AreFairAfter, IsFair}
-use Rattle.schedules.specs.Runs.{Played, gates_at, loaded_at, played, play}
+use Rattle.schedules.specs.Moments.{Round, after_events, after_rounds}
+use Rattle.schedules.specs.Fairness.{ReadsFrom, IsFairRound, earliest, AreFairAfter, IsFair}
 use Rattle.schedules.proofs.RoundLemmas.{length-after_events}
-use Rattle.delay_core.specs.declared.fault.EventFault.{EventFault}
-use Rattle.delay_core.specs.declared.fault.PlayFault.{PlayFault}
 use Rattle.delay_core.specs.declared.fault.PlayFault.TheVariants as refused
-use Rattle.delay_core.specs.declared.plan.PlannedEvent.{PlannedEvent}
-use Rattle.delay_core.specs.declared.plan.RoundPlan.{RoundPlan}
-use Rattle.delay_core.specs.declared.plan.Schedule.{Schedule}
-use Rattle.delay_core.specs.Plays.{PlayState, first_allowed, event_fault, unfair_gate, no_events, after_event, next_tick}
-use Rattle.delay_core.specs.Plans.{planned_fault, after_planned, events_fault, after_plan, unfair_fault, round_fault, after_plans, rounds_fault, PlannedTick, ticks_fault, first_opened, first_fault, round_of, tick_of, IsPlayedFairly, end_at, end_of, rest_of}
+use Rattle.delay_core.specs.Plays.{unfair_gate}
+use Rattle.delay_core.specs.Plans.{unfair_fault, first_fault, round_of, end_at, end_of}
 use Rattle.delay_core.proofs.PlayLemmas.{IsAllowed, is_allowed, never_true, each_had}
 
 abbrev pub events_of : List PlannedEvent → Round

@@ -1,12 +1,9 @@
 -- The history that entries tell.
 use Rattle.std.proofs.Common.{◌≡◌, ℕ, zero, suc, ◌+◌, ◌-◌, ◌<◌, ◌≤◌, Bool, false, List, [], ◌∷◌, ◌++◌, length, drop, get_or, set, refl, ap, ap₂, sym, ◌∙◌, arith, add-one}
-use Rattle.std.specs.List.{range_with_len}
-use Rattle.std.proofs.lemmas.List.{length-map, ext_get_or, get_or-map, get_or_read}
-use Rattle.std.proofs.lemmas.List.FromFn.{length-range_with_len, get_or-range_with_len}
-use Rattle.schedules.specs.Moments.{History, moment_at, newest}
+use Rattle.delay_core.proofs.Common.{range_with_len, length-map, ext_get_or, get_or-map, get_or_read, length-range_with_len, get_or-range_with_len, History, moment_at, newest, value_from, history_of, WritesMoment, Told}
 use Rattle.delay_core.specs.declared.entry.Entry.{Entry}
-use Rattle.delay_core.specs.Entries.{entry_at, value_from, moment_of, history_of, entries_of, AreLinked, AreDated, Writes, WritesMoment}
-use Rattle.delay_core.specs.Timelines.{Told, IsTimeline}
+use Rattle.delay_core.specs.Entries.{entry_at, moment_of, entries_of, AreLinked, AreDated, Writes}
+use Rattle.delay_core.specs.Timelines.{IsTimeline}
 use Rattle.delay_core.proofs.EntryLemmas.{none, value-here, moment-later}
 
 pub length-history : (entries : List Entry) (heads : List ℕ) (n : ℕ) → length (history_of entries heads n) ≡ n

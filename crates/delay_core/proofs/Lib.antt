@@ -1,3 +1,4 @@
+pub mod Common
 mod EndLemmas
 mod EntryLemmas
 mod EventListLemmas

@@ -1,13 +1,8 @@
 -- What is left of a tick once some of its rounds were played.
 use Rattle.std.proofs.Common.{◌≡◌, ℕ, ◌+◌, ◌<◌, ◌≤◌, List, ◌∷◌, length, drop, get_or, None, Some, Option, refl, ap, sym, ◌∙◌}
 use Rattle.std.proofs.lemmas.List.{drop_all, drop_more}
-use Rattle.std.specs.Option.{option_or}
-use Rattle.delay_core.specs.declared.fault.PlayFault.{PlayFault}
-use Rattle.delay_core.specs.declared.plan.PlannedEvent.{PlannedEvent}
-use Rattle.delay_core.specs.declared.plan.RoundPlan.{RoundPlan}
+use Rattle.delay_core.proofs.Common.{option_or, PlayFault, PlannedEvent, RoundPlan, PlayState, after_event, planned_fault, after_planned, events_fault, round_fault, after_plan, rounds_fault, after_plans}
 use Rattle.delay_core.specs.EventLists.{planned_at}
-use Rattle.delay_core.specs.Plays.{PlayState, after_event}
-use Rattle.delay_core.specs.Plans.{planned_fault, after_planned, events_fault, round_fault, after_plan, rounds_fault, after_plans}
 
 -- the first of two faults, where the first is none
 pub second_fault : (first second : Option PlayFault) → first ≡ None → option_or first second ≡ second

@@ -1,18 +1,12 @@
 -- What is known of an event that isn't refused.
 use Rattle.std.proofs.Common.{◌≡◌, inl, inr, ℕ, ◌+◌, ◌≤◌, ◌<◌, ◌==◌, Bool, true, false, not, List, [], ◌∷◌, length, replicate, get_or, All, Some, None, Option, refl, ap, sym, ◌∙◌, arith, nat_lt, eqb-true, true≢false}
-use Rattle.std.proofs.lemmas.Bool.{cases_eq, cases_lt}
-use Rattle.std.proofs.lemmas.List.{length-replicate, get_or-replicate, get_or_past}
-use Rattle.netlist.specs.declared.parts.Parts.{Parts}
-use Rattle.schedules.specs.Moments.{History, newest}
-use Rattle.std.specs.Prelude.{if◌then◌else◌, position, option_map}
+use Rattle.delay_core.proofs.Common.{cases_eq, cases_lt, length-replicate, Parts, History, newest, position, option_map, count, gate_at, Event, IsEventOf, EventFault, PlayState, first_allowed, event_fault, no_events}
+use Rattle.std.proofs.lemmas.List.{get_or-replicate, get_or_past}
+use Rattle.std.specs.Prelude.{if◌then◌else◌}
 use Rattle.std.proofs.lemmas.Bool.{ltb-true, ltb-false}
 use Rattle.netlist.proofs.Decisions.{none_found}
-use Rattle.netlist.specs.Netlists.{count, gate_at}
-use Rattle.schedules.specs.declared.event.Event.{Event}
-use Rattle.schedules.specs.Fairness.{IsEventOf}
-use Rattle.delay_core.specs.declared.fault.EventFault.{EventFault}
 use Rattle.delay_core.specs.declared.fault.EventFault.TheVariants.{NoGate, AgeCount, TooOld}
-use Rattle.delay_core.specs.Plays.{PlayState, first_allowed, is_too_old, event_fault, no_events, IsPlay}
+use Rattle.delay_core.specs.Plays.{is_too_old, IsPlay}
 
 nothing : (o : Option ℕ) → option_map TooOld o ≡ None → o ≡ None
 nothing None e = refl

@@ -1,10 +1,9 @@
 -- What pins see, and where rounds begin.
 use Rattle.std.proofs.Common.{◌≡◌, inl, inr, ℕ, zero, suc, ◌+◌, ◌-◌, ◌<◌, ◌≤◌, false, List, [], ◌∷◌, ◌++◌, length, filter, take, replicate, get_or, refl, ap, ap₂, sym, ◌∙◌, arith, nat_lt}
-use Rattle.std.proofs.lemmas.List.{get_or_default, take_more}
-use Rattle.std.proofs.lemmas.Bool.{cases_lt, lt-ltb, le-ltb}
-use Rattle.cyc_base.specs.declared.sig.Sig.{Sig}
-use Rattle.schedules.specs.Moments.{History, bit_at, moment_at, seen}
-use Rattle.delay_core.specs.Plays.{events_before, starts_of}
+use Rattle.delay_core.proofs.Common.{get_or_default, cases_lt, Sig, History, bit_at, moment_at, seen, starts_of}
+use Rattle.std.proofs.lemmas.List.{take_more}
+use Rattle.std.proofs.lemmas.Bool.{lt-ltb, le-ltb}
+use Rattle.delay_core.specs.Plays.{events_before}
 
 -- a bit for each pin
 pub length-seen : (h : History) (pins : List Sig) (ages : List ℕ) → length ages ≡ length pins → length (seen h pins ages) ≡ length pins

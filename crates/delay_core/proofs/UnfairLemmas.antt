@@ -1,25 +1,13 @@
 -- What is fair is played without a fault.
 use Rattle.std.proofs.Common.{◌≡◌, ◌⊎◌, inl, inr, ℕ, zero, suc, ◌+◌, ◌<◌, ◌==◌, Bool, true, false, not, List, [], ◌∷◌, length, map, reverse, get_or, set, All, Any, None, Option, refl, ap, ◌∙◌, arith, nat_lt}
-use Rattle.std.specs.Prelude.{position, option_map}
-use Rattle.std.specs.Option.{option_or}
-use Rattle.std.proofs.lemmas.Bool.{cases_eq, lt-ltb, le-ltb, eq-eqb}
-use Rattle.std.proofs.lemmas.List.{length-set, length-replicate, get_or-set_same, get_or-set_other, get_or_default}
-use Rattle.std.proofs.lemmas.List.Elements.{All-head, All-tail}
-use Rattle.netlist.specs.declared.parts.Parts.{Parts}
-use Rattle.netlist.specs.Netlists.{gate_at}
+use Rattle.delay_core.proofs.Common.{position, option_map, option_or, cases_eq, length-set, length-replicate, get_or-set_other, get_or_default, All-head, All-tail, Parts, gate_at, Event, newest, IsEventOf, Played, gates_at, loaded_at, played, play, EventFault, PlayFault, PlannedEvent, RoundPlan, Schedule, PlayState, first_allowed, event_fault, no_events, after_event, next_tick, planned_fault, after_planned, events_fault, after_plan, round_fault, after_plans, rounds_fault, PlannedTick, ticks_fault, first_opened, tick_of, IsPlayedFairly, rest_of}
+use Rattle.std.proofs.lemmas.Bool.{lt-ltb, le-ltb, eq-eqb}
+use Rattle.std.proofs.lemmas.List.{get_or-set_same}
 use Rattle.netlist.proofs.Decisions.{found_none}
-use Rattle.schedules.specs.declared.event.Event.{Event}
-use Rattle.schedules.specs.Moments.{newest}
-use Rattle.schedules.specs.Fairness.{IsEventOf, ReadsFrom, IsFairRound, earliest, AreFairAfter, IsFair}
-use Rattle.schedules.specs.Runs.{Played, gates_at, loaded_at, played, play}
-use Rattle.delay_core.specs.declared.fault.EventFault.{EventFault}
-use Rattle.delay_core.specs.declared.fault.PlayFault.{PlayFault}
+use Rattle.schedules.specs.Fairness.{ReadsFrom, IsFairRound, earliest, AreFairAfter, IsFair}
 use Rattle.delay_core.specs.declared.fault.PlayFault.TheVariants as refused
-use Rattle.delay_core.specs.declared.plan.PlannedEvent.{PlannedEvent}
-use Rattle.delay_core.specs.declared.plan.RoundPlan.{RoundPlan}
-use Rattle.delay_core.specs.declared.plan.Schedule.{Schedule}
-use Rattle.delay_core.specs.Plays.{PlayState, first_allowed, is_too_old, event_fault, unfair_gate, no_events, after_event, next_tick}
-use Rattle.delay_core.specs.Plans.{planned_fault, after_planned, events_fault, after_plan, unfair_fault, round_fault, after_plans, rounds_fault, PlannedTick, ticks_fault, first_opened, first_fault, round_of, tick_of, IsPlayedFairly, rest_of}
+use Rattle.delay_core.specs.Plays.{is_too_old, unfair_gate}
+use Rattle.delay_core.specs.Plans.{unfair_fault, first_fault, round_of}
 use Rattle.delay_core.proofs.FairLemmas.{events_of, events_keep, round_keeps, rounds_keep, rounds_history, starts_more, length_more}
 use Rattle.delay_core.proofs.PlayLemmas.{IsAllowed}
 

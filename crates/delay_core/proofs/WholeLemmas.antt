@@ -2,19 +2,12 @@
 use Rattle.std.proofs.Common.{◌≡◌, ℕ, ◌+◌, ◌<◌, ◌≤◌, Bool, List, [], ◌∷◌, ◌++◌, length, map, drop, get_or, None, Some, Option, refl, ap, sym, ◌∙◌, arith}
 use Rattle.std.specs.Prelude.{Ok, Err, IfErr, IsErrAnd}
 use Rattle.std.specs.declared.result.Result.{Result}
-use Rattle.std.specs.List.{zip}
-use Rattle.std.specs.Option.{option_or}
+use Rattle.delay_core.proofs.Common.{zip, option_or, Parts, newest, PlayFault, RoundPlan, Schedule, PlayState, no_events, next_tick, after_plans, rounds_fault, PlannedTick, ticks_fault, first_opened, schedule_fault, tick_of, rest_of}
 use Rattle.std.proofs.lemmas.List.{append_assoc, append-nil, drop_all, drop_more}
 use Rattle.std.proofs.lemmas.Slice.Zip.{length-zip, get_or-zip}
-use Rattle.netlist.specs.declared.parts.Parts.{Parts}
-use Rattle.schedules.specs.Moments.{newest}
 use Rattle.schedules.specs.Runs.{ticks_of}
-use Rattle.delay_core.specs.declared.fault.PlayFault.{PlayFault}
-use Rattle.delay_core.specs.declared.plan.RoundPlan.{RoundPlan}
-use Rattle.delay_core.specs.declared.plan.Schedule.{Schedule}
 use Rattle.delay_core.specs.declared.plan.TickEnd.{TickEnd}
-use Rattle.delay_core.specs.Plays.{PlayState, no_events, next_tick}
-use Rattle.delay_core.specs.Plans.{after_plans, rounds_fault, PlannedTick, ticks_fault, first_opened, schedule_fault, tick_of, run_of, TicksArePlayed, end_at, end_of, rest_of}
+use Rattle.delay_core.specs.Plans.{run_of, TicksArePlayed, end_at, end_of}
 use Rattle.delay_core.proofs.FairLemmas.{rounds_keep, ends_of_rest, ends_of_first}
 use Rattle.delay_core.proofs.PlanLemmas.{second_fault}
 

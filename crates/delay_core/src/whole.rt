@@ -87,8 +87,8 @@ fn given(alloc: Global, net: &Netlist, play: &Play) -> Result<Vec<Trit>, AllocEr
     ensures given { IfOk result (λ values. values.items ≡ bits (given_at net.now (newest play.now.state.history))) }
     ensures width { IfOk result (λ values. length values.items ≡ length net.now.inputs + length net.now.latches) }
 {
-    let mut values = Vec::with_capacity(alloc, (net.inputs() + net.latches()) as usize)?;
-    for number in 0..net.inputs() + net.latches() {
+    let mut values = Vec::with_capacity(alloc, net.columns() as usize)?;
+    for number in 0..net.columns() {
         values.push_reserved(Trit::of(play.value(Sig(number))));
     }
     Ok(values)

@@ -15,8 +15,7 @@ ghost use Rattle.dot_text.specs.LoopGraphs.{cluster_body, clusters, gate_node, l
 use crate::node::{put_node, put_quoted, put_wire};
 use cyc_base::Sig;
 use cyc_io::{Failed, Sink, write_whole};
-use loops::{ListedLoop, LoopedNetlist};
-use loops::{Blocks, Cut};
+use loops::{Blocks, Cut, ListedLoop, LoopedNetlist};
 use netlist::Netlist;
 use report::put_number;
 

@@ -6,7 +6,7 @@ ghost use Rattle.netlist.specs.Netlists.{gate_sig};
 ghost use Rattle.explanations.specs.Explained.{Explains};
 
 use crate::graph::open_graph;
-use crate::needs::{needs, trits_of};
+use crate::needs::needs;
 use cyc_base::{Items, Trits};
 use netlist::Netlist;
 use short_cycles::shortest_cycle;

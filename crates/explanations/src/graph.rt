@@ -43,7 +43,7 @@ fn reads_of(alloc: Global, net: &Netlist, known: &[Trit], gate: u32) -> Result<V
     requires gate { gate < length net.now.gates }
     ensures { IfOk result (λ reads. ReadsOpen net.now known.now gate reads.items) }
 {
-    let first = net.inputs() + net.latches();
+    let first = net.columns();
     if !is_open(first, known, net.gate_sig(gate)) {
         return Ok(Vec::new(alloc));
     }

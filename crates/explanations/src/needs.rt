@@ -13,7 +13,7 @@ use crate::held::{are_marked, shrink};
 use cyc_base::Trit;
 use netlist::Netlist;
 use std::alloc::{AllocError, Global};
-use ternary_run::Fanout;
+use ternary_run::{Fanout, trits_of};
 
 /// Values of some columns, and the greatest set of gates that they hold open.
 #[derive(Debug)]
@@ -54,18 +54,12 @@ fn unknown_gates(alloc: Global, net: &Netlist, known: &[Trit]) -> Result<Vec<boo
     ensures all { IfOk result (λ marks. AreAllUnknown net.now known.now (signal_count net.now) marks.items) }
     ensures valid { IsNetlist net.now }
 {
-    let first = net.inputs() + net.latches();
+    let first = net.columns();
     let mut marks = Vec::new(alloc);
     for signal in 0..net.count() {
         marks.push(first <= signal && is_x(known[signal as usize]))?;
     }
     Ok(marks)
-}
-
-pub(crate) fn trits_of(alloc: Global, vector: &[bool]) -> Result<Vec<Trit>, AllocError>
-    ensures { IfOk result (λ trits. trits.items ≡ bits vector.now) }
-{
-    vector.iter().map(|value| Trit::of(*value)).collect(alloc)
 }
 
 /// All values of the vector, which hold each gate open that is unknown at it.

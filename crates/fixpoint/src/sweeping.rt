@@ -22,7 +22,7 @@ use bdd_ops::Diagrams;
 use bdd_store::StoreFault;
 use cyc_base::{Items, MAX_NODES};
 use dual_rail::Rails;
-use loops::{Blocks, Cut, order_of_block};
+use loops::{Blocks, Cut, LoopedNetlist};
 use netlist::Netlist;
 use std::alloc::{AllocError, Global};
 
@@ -140,7 +140,8 @@ fn plan_loop(
 {
     let gates = blocks.list.items()[place as usize].gates.items();
     let cuts = cuts_among(alloc, cut, gates)?;
-    let order = order_of_block(alloc, net, blocks, cut, place)?;
+    let looped = LoopedNetlist::new(net, blocks, cut);
+    let order = looped.order_of_block(alloc, place)?;
     let locals = Locals::of(alloc, net, &order, limit)?;
     Ok(LoopPlan {
         order: Items::of(order),

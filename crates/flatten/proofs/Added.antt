@@ -1,9 +1,6 @@
 -- A name that is added, and is new.
 use Rattle.std.proofs.Common.{◌≡◌, ℕ, ◌+◌, ◌<◌, Bool, true, false, not, List, [], ◌∷◌, ◌++◌, length, get_or, take, drop, map, if◌then◌else◌, refl, sym, ap, ◌∙◌, true≢false}
-use Rattle.std.specs.Str.{bytes_eq}
-use Rattle.indexmap.specs.IndexSet.{insert_key}
-use Rattle.flatten.specs.Instances.{is_among}
-use Rattle.flatten.specs.Linking.{twice_after}
+use Rattle.flatten.proofs.Common.{bytes_eq, insert_key, is_among, twice_after}
 use Rattle.flatten.proofs.Names.{taken}
 use Rattle.flatten.proofs.Gathering.{twice_later, twice_later_by, names_so_far}
 

@@ -1,16 +1,8 @@
 -- Tables of formals: what they have, and where a pair or an input is at fault.
 use Rattle.std.proofs.Common.{◌≡◌, ℕ, ◌+◌, ◌<◌, Bool, true, false, not, List, [], ◌∷◌, ◌++◌, length, get_or, take, drop, refl, sym, ap, ◌∙◌, cond, if◌then◌else◌, Some, None, Ok, Err, is_some, option_map}
-use Rattle.std.specs.List.{list_any}
-use Rattle.std.specs.Str.{bytes_eq}
-use Rattle.std.specs.declared.option.Option.{Option}
-use Rattle.std.specs.Option.{option_or}
-use Rattle.blif_read.specs.declared.models.BlifModel.{BlifModel}
-use Rattle.flatten.specs.declared.fault.FlatFault.{FlatFault}
+use Rattle.flatten.proofs.Common.{list_any, bytes_eq, Option, option_or, BlifModel, FlatFault, actual_of, is_among, model_at, formals, pairs_fault, entry, each_once, resolved, bound}
 use Rattle.flatten.specs.declared.fault.FlatFault.TheVariants.{UnknownFormal, FormalTwice, OpenInput}
-use Rattle.flatten.specs.Paths.{actual_of}
-use Rattle.flatten.specs.Instances.{is_among, model_at, formals, formal_fault, pair_fault, first_open, pairs_fault, entry}
-use Rattle.flatten.specs.Linking.{each_once}
-use Rattle.flatten.specs.Laws.{resolved, bound}
+use Rattle.flatten.specs.Instances.{formal_fault, pair_fault, first_open}
 use Rattle.flatten.proofs.Names.{dropped, taken, item_at_default}
 use Rattle.flatten.proofs.Libraries.{among_once}
 

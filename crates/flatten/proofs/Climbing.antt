@@ -1,12 +1,9 @@
 -- Tables that are filled on the way down agree with climbing from below.
 use Rattle.std.proofs.Common.{◌≡◌, ℕ, Bool, true, false, List, [], ◌∷◌, ◌++◌, refl, append_assoc, if◌then◌else◌, Some, None}
-use Rattle.std.proofs.lemmas.List.{append-nil}
-use Rattle.std.specs.Fmt.{decimal}
-use Rattle.std.specs.Str.{bytes_eq}
-use Rattle.std.specs.declared.option.Option.{Option}
-use Rattle.flatten.specs.Wires.{Wire, printed_at}
-use Rattle.flatten.specs.Paths.{Instance, numbers, actual_of, climb, name_at}
-use Rattle.flatten.specs.Laws.{prefix_of, resolved, bound, table_of, ResolvedIsClimbed}
+use Rattle.flatten.proofs.Common.{append-nil, decimal, bytes_eq, Option, Wire, Instance, actual_of, climb, name_at, resolved, bound}
+use Rattle.flatten.specs.Wires.{printed_at}
+use Rattle.flatten.specs.Paths.{numbers}
+use Rattle.flatten.specs.Laws.{prefix_of, table_of, ResolvedIsClimbed}
 
 printed_onto : (m path name : List ℕ) → printed_at m path name ≡ printed_at m path [] ++ name
 printed_onto m [] name = refl

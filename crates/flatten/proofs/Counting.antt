@@ -1,24 +1,8 @@
 -- The walk that only counts comes to the first fault of the walk.
 use Rattle.std.proofs.Common.{◌≡◌, inl, inr, ◌⊎◌, ℕ, zero, suc, ◌+◌, ◌-◌, ◌<◌, ◌≤◌, nat_le, nat_lt, Bool, true, false, ◌||◌, List, [], ◌∷◌, ◌++◌, length, length-append, drop, take, get_or, All, refl, ap, sym, subst, ◌∙◌, arith, Ok, Err, IfOk, IfErr, OnOk}
-use Rattle.std.proofs.lemmas.Grind.{common_steps}
+use Rattle.flatten.proofs.Common.{common_steps, All-push, list_any-append, list_any, bytes_eq, Result, BlifModel, GateLine, LatchLine, PartLine, Item, Gate, Latch, Part, FlatFault, TooLarge, mark_of, Instance, gate_at, latch_at, model_at, is_open, entry, entered, pairs_fault, find_model, Event, FlatLines, gate, latch, opens, fails, events, decided, then_gate, then_latch, flat_lines}
 use Rattle.std.proofs.lemmas.List.{drop_all, take_all}
-use Rattle.std.proofs.lemmas.List.Elements.{All-push}
-use Rattle.std.proofs.lemmas.List.Folds.{list_any-append}
-use Rattle.std.specs.List.{list_any}
-use Rattle.std.specs.Str.{bytes_eq}
-use Rattle.std.specs.declared.result.Result.{Result}
-use Rattle.blif_read.specs.declared.models.BlifModel.{BlifModel}
-use Rattle.blif_read.specs.declared.models.GateLine.{GateLine}
-use Rattle.blif_read.specs.declared.models.LatchLine.{LatchLine}
-use Rattle.blif_read.specs.declared.models.PartLine.{PartLine}
-use Rattle.blif_read.specs.declared.models.Item.{Item}
-use Rattle.blif_read.specs.declared.models.Item.TheVariants.{Gate, Latch, Part}
-use Rattle.flatten.specs.declared.fault.FlatFault.{FlatFault}
-use Rattle.flatten.specs.declared.fault.FlatFault.TheVariants.{TooLarge, Memory}
-use Rattle.flatten.specs.Wires.{mark_of}
-use Rattle.flatten.specs.Paths.{Instance, gate_at, latch_at}
-use Rattle.flatten.specs.Instances.{model_at, is_open, entry, entered, pairs_fault, find_model}
-use Rattle.flatten.specs.Walk.{Event, FlatLines, gate, latch, opens, fails, events, decided, then_gate, then_latch, flat_lines}
+use Rattle.flatten.specs.declared.fault.FlatFault.TheVariants.{Memory}
 use Rattle.flatten.specs.Counting.{left_by, AreOpen, entered_below, Leave, LeavesTo, FailsBy}
 use Rattle.flatten.proofs.Names.{dropped, taken}
 use Rattle.flatten.proofs.Stepping.{find_name, entry_found}

@@ -1,28 +1,14 @@
 -- The walk stays within the file: its paths bind names of the file, and all that it prints names one wire.
 use Rattle.std.proofs.Common.{◌≡◌, ℕ, zero, suc, ◌+◌, ◌^◌, ◌<◌, ◌≤◌, List, [], ◌∷◌, ◌++◌, length, length-append, map, refl, sym, ◌∙◌, subst, arith, All, Contains, Some, None, Ok, Err, option_map}
-use Rattle.std.proofs.lemmas.List.Elements.{All-nil, All-cons, All-head, All-tail, All-append, All-weaker, All-contains_itself, Contains-append_left, Contains-append_right}
+use Rattle.flatten.proofs.Common.{All-nil, All-cons, All-head, All-tail, All-append, flat_map, AllByRecursion, Option, Result, Sig, Clock, Parts, BlifModel, GateLine, LatchLine, Item, Gate, Latch, Part, FlatFault, pair_names, item_names, wire_names, mark_of, Instance, climb, name_at, gate_at, clock_at, latch_at, find_model, model_at, entered, Event, gate, latch, opens, fails, events, FlatLines, then_gate, then_latch, decided, flat_lines, linked_lines, link_fault, signal_list, sig_of, latch_with, gate_with, netlist_by}
+use Rattle.std.proofs.lemmas.List.Elements.{All-weaker, All-contains_itself, Contains-append_left, Contains-append_right}
 use Rattle.std.proofs.lemmas.List.{map-id}
-use Rattle.std.specs.List.{flat_map, AllByRecursion}
-use Rattle.std.specs.declared.option.Option.{Option}
-use Rattle.std.specs.declared.result.Result.{Result}
-use Rattle.cyc_base.specs.declared.sig.Sig.{Sig}
-use Rattle.netlist.specs.declared.parts.Clock.{Clock}
 use Rattle.netlist.specs.declared.parts.Gate.{Gate as FlatGate}
 use Rattle.netlist.specs.declared.parts.Latch.{Latch as FlatLatch}
-use Rattle.netlist.specs.declared.parts.Parts.{Parts}
 use Rattle.netlist.specs.Netlists.{signal_names}
-use Rattle.blif_read.specs.declared.models.BlifModel.{BlifModel}
-use Rattle.blif_read.specs.declared.models.GateLine.{GateLine}
-use Rattle.blif_read.specs.declared.models.LatchLine.{LatchLine}
-use Rattle.blif_read.specs.declared.models.Item.{Item}
-use Rattle.blif_read.specs.declared.models.Item.TheVariants.{Gate, Latch, Part}
-use Rattle.flatten.specs.declared.fault.FlatFault.{FlatFault}
-use Rattle.flatten.specs.Wires.{control_names, pair_names, item_names, model_names, wire_names, mark_of}
-use Rattle.flatten.specs.Paths.{Instance, climb, name_at, gate_at, clock_at, latch_at}
-use Rattle.flatten.specs.Instances.{find_model, model_at, entered}
-use Rattle.flatten.specs.Walk.{Event, gate, latch, opens, fails, through, events_by, events, FlatLines, then_gate, then_latch, decided, flat_lines}
-use Rattle.flatten.specs.Flat.{flat_from, linked_lines, max_depth, max_items}
-use Rattle.flatten.specs.Linking.{link_fault, signal_list, sig_of, latch_with, gate_with, netlist_by}
+use Rattle.flatten.specs.Wires.{control_names, model_names}
+use Rattle.flatten.specs.Walk.{through, events_by}
+use Rattle.flatten.specs.Flat.{flat_from, max_depth, max_items}
 use Rattle.flatten.specs.Laws.{BindsAmong, NamesOneWire, LinesNameWires, WalkNamesWires, SignalsNameWires}
 use Rattle.flatten.proofs.Telling.{names_tell}
 

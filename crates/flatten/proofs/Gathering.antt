@@ -1,22 +1,12 @@
 -- Drivers are gathered in their order, and the first that comes twice is found.
 use Rattle.std.proofs.Common.{◌≡◌, ℕ, ◌+◌, ◌<◌, Bool, true, false, not, ◌||◌, ◌&&◌, List, [], ◌∷◌, ◌++◌, length, get_or, take, drop, map, filter, fold, refl, sym, ap, ◌∙◌, cond, if◌then◌else◌, append_assoc, Some, None, option_map, subst}
-use Rattle.std.proofs.lemmas.List.{append-nil, map-append}
-use Rattle.std.proofs.lemmas.List.Folds.{list_any-append}
+use Rattle.flatten.proofs.Common.{append-nil, list_any-append, IsDistinct, AllByRecursion, find, option_or, bytes_eq, Option, insert_key, is_among, Clock, BlifModel, LatchLine, FlatFault, FlatLines, own_clocks, twice_after, first_twice, latch_outputs, gate_outputs, driven_twice, has_bad_control}
+use Rattle.std.proofs.lemmas.List.{map-append}
 use Rattle.std.proofs.lemmas.Map.Keys.{IsDistinct-cons, IsDistinct-push}
 use Rattle.std.specs.Cmp.Lexicographic.{nat_list_eq_equiv}
-use Rattle.std.specs.List.{IsDistinct, AllByRecursion, find}
-use Rattle.std.specs.Option.{option_or, option_map_or}
-use Rattle.std.specs.Str.{bytes_eq}
-use Rattle.std.specs.declared.option.Option.{Option}
-use Rattle.indexmap.specs.IndexSet.{insert_key}
-use Rattle.flatten.specs.Instances.{is_among}
-use Rattle.netlist.specs.declared.parts.Clock.{Clock}
-use Rattle.blif_read.specs.declared.models.BlifModel.{BlifModel}
-use Rattle.blif_read.specs.declared.models.LatchLine.{LatchLine}
-use Rattle.flatten.specs.declared.fault.FlatFault.{FlatFault}
+use Rattle.std.specs.Option.{option_map_or}
 use Rattle.flatten.specs.declared.fault.FlatFault.TheVariants.{DrivenTwice}
-use Rattle.flatten.specs.Walk.{FlatLines}
-use Rattle.flatten.specs.Linking.{own_clocks, twice_after, first_twice, latch_outputs, gate_outputs, driven_twice, edge_eq, is_clock_of, is_fitting, has_bad_control, is_other_control, has_other_control}
+use Rattle.flatten.specs.Linking.{edge_eq, is_clock_of, is_fitting, is_other_control, has_other_control}
 use Rattle.flatten.proofs.Names.{bytes_sym, bytes_same, taken, dropped}
 use Rattle.flatten.proofs.Libraries.{among_push, distinct_fresh}
 

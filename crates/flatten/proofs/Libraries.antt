@@ -1,18 +1,13 @@
 -- Names that are gathered once each, and the tables of models and formals.
 use Rattle.std.proofs.Common.{◌≡◌, ℕ, zero, suc, ◌+◌, ◌<◌, ◌≢◌, slice_index_or, nat_lt, Bool, true, false, ◌||◌, List, [], ◌∷◌, ◌++◌, length, get_or, take, map, fold, refl, sym, ap, ◌∙◌, arith, if◌then◌else◌, append_assoc, Some, None}
-use Rattle.std.proofs.lemmas.List.Folds.{list_any-append}
+use Rattle.flatten.proofs.Common.{list_any-append, append-nil, length-map, IsDistinct, position, position_or_len, AllByRecursion, bytes_eq, insert_key, BlifModel, is_among, formals, find_model, no_model, model_at, each_once, twice_after}
 use Rattle.std.proofs.lemmas.List.Sums.{fold-append}
-use Rattle.std.proofs.lemmas.List.{append-nil, length-map, map-append}
+use Rattle.std.proofs.lemmas.List.{map-append}
 use Rattle.std.proofs.lemmas.Map.Keys.{IsDistinct-head, IsDistinct-tail}
 use Rattle.std.proofs.lemmas.Map.Made.{IsDistinct-from_AllPairs}
 use Rattle.std.proofs.lemmas.Slice.Eq.{bytes_eq-Decides}
-use Rattle.std.specs.List.{IsDistinct, AllPairs, position, position_or_len, AllByRecursion}
-use Rattle.std.specs.Str.{bytes_eq}
-use Rattle.indexmap.specs.IndexSet.{insert_key}
+use Rattle.std.specs.List.{AllPairs}
 use Rattle.blif_read.specs.Find.{has_name}
-use Rattle.blif_read.specs.declared.models.BlifModel.{BlifModel}
-use Rattle.flatten.specs.Instances.{is_among, formals, find_model, no_model, model_at}
-use Rattle.flatten.specs.Linking.{each_once, twice_after}
 use Rattle.flatten.proofs.Names.{bytes_sym, bytes_same, taken}
 
 pub fold_taken : (old names : List (List ℕ)) (i : ℕ) (name : List ℕ) → i < length names → name ≡ get_or names i name → fold (insert_key bytes_eq) old (take (i + 1) names) ≡ insert_key bytes_eq (fold (insert_key bytes_eq) old (take i names)) name

@@ -1,13 +1,10 @@
 -- The longest run of `~` in the names of a file is found piece by piece.
 use Rattle.std.proofs.Common.{◌≡◌, ℕ, ◌+◌, ◌<◌, max, List, [], ◌∷◌, ◌++◌, length, get_or, take, ap, ◌∙◌, arith}
 use Rattle.std.proofs.lemmas.Grind.{flat_map-append}
-use Rattle.std.proofs.lemmas.List.{append-nil}
-use Rattle.std.specs.List.{flat_map}
-use Rattle.blif_read.specs.declared.models.BlifModel.{BlifModel}
-use Rattle.blif_read.specs.declared.models.Item.{Item}
-use Rattle.tildes.specs.Runs.{longest_run, longest_run_of}
+use Rattle.flatten.proofs.Common.{append-nil, flat_map, BlifModel, Item, longest_run_of, item_names, pair_names}
+use Rattle.tildes.specs.Runs.{longest_run}
 use Rattle.tildes.proofs.RunLemmas.{longest-append}
-use Rattle.flatten.specs.Wires.{item_names, model_names, pair_names}
+use Rattle.flatten.specs.Wires.{model_names}
 use Rattle.flatten.proofs.Names.{taken}
 
 more : {A : Type 0} (f : A → List (List ℕ)) (xs : List A) (x : A) → longest_run_of (flat_map f (xs ++ x ∷ [])) ≡ max (longest_run_of (flat_map f xs)) (longest_run_of (f x))

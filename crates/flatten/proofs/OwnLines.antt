@@ -1,25 +1,12 @@
 -- Where no instance stands in a model, the walk comes to the lines of its body.
 use Rattle.std.proofs.Common.{◌≡◌, inl, inr, ℕ, zero, suc, ◌+◌, ◌<◌, ◌≤◌, nat_le, Bool, true, false, if◌then◌else◌, List, [], ◌∷◌, length, map, refl, sym, ap, ◌∙◌, arith, All, Some, None, Ok, Err, option_map}
 use Rattle.std.proofs.lemmas.Bool.{cases_lt}
-use Rattle.std.proofs.lemmas.List.Elements.{All-nil, All-cons, All-head, All-tail}
-use Rattle.std.specs.List.{list_any}
-use Rattle.std.specs.declared.option.Option.{Option}
-use Rattle.netlist.specs.declared.parts.Clock.{Clock}
+use Rattle.flatten.proofs.Common.{All-nil, All-cons, All-head, All-tail, list_any, Option, Clock, BlifModel, GateLine, LatchLine, Item, Gate, Latch, Part, TooLarge, linked_lines, model_at, linked, Instance, name_at, gate_at, clock_at, latch_at, IsPrintedGate, IsPrintedLatch, Event, FlatLines, events, decided, then_gate, then_latch, mark_of}
 use Rattle.blif_read.specs.Flattening.{IsSoundItem}
-use Rattle.blif_read.specs.declared.models.BlifModel.{BlifModel}
-use Rattle.blif_read.specs.declared.models.GateLine.{GateLine}
-use Rattle.blif_read.specs.declared.models.LatchLine.{LatchLine}
-use Rattle.blif_read.specs.declared.models.Item.{Item}
-use Rattle.blif_read.specs.declared.models.Item.TheVariants.{Gate, Latch, Part}
-use Rattle.flatten.specs.declared.fault.FlatFault.TheVariants.{TooLarge}
 use Rattle.flatten.specs.Alone.{is_part, own_gates, own_latches, own_lines, flat_alone}
-use Rattle.flatten.specs.Flat.{linked_lines, flat_at}
-use Rattle.flatten.specs.Instances.{model_at}
-use Rattle.flatten.specs.Linking.{linked}
-use Rattle.flatten.specs.Paths.{Instance, name_at, gate_at, clock_at, latch_at}
-use Rattle.flatten.specs.Printable.{IsPrintedGate, IsPrintedLatch, ArePrintedLines}
-use Rattle.flatten.specs.Walk.{Event, FlatLines, events, events_by, decided, then_gate, then_latch}
-use Rattle.flatten.specs.Wires.{mark_of}
+use Rattle.flatten.specs.Flat.{flat_at}
+use Rattle.flatten.specs.Printable.{ArePrintedLines}
+use Rattle.flatten.specs.Walk.{events_by}
 
 -- a body has no more lines than items
 pub few_own_lines : (items : List Item) → length (own_latches items) + length (own_gates items) ≤ length items

@@ -1,26 +1,13 @@
 -- The signal of a driver, by its place in the table of drivers.
 use Rattle.std.proofs.Common.{◌≡◌, inl, inr, ⊎_elim, ◌⊎◌, ℕ, ◌+◌, ◌-◌, ◌<◌, ◌≤◌, nat_lt, Bool, true, false, not, ◌||◌, List, [], ◌∷◌, ◌++◌, length, length-append, map, filter, refl, sym, ap, ◌∙◌, arith, cond, if◌then◌else◌, Some, None, Ok, Err, is_some, option_map, unwrap_or}
-use Rattle.std.proofs.lemmas.Grind.{common_steps}
-use Rattle.std.proofs.lemmas.List.{length-map}
-use Rattle.std.proofs.lemmas.List.Folds.{list_any-append, find-append}
-use Rattle.std.specs.List.{list_any, find, flat_map, position, position_or_len}
-use Rattle.std.specs.Option.{option_or, option_and_then}
-use Rattle.std.specs.Str.{bytes_eq}
-use Rattle.std.specs.declared.option.Option.{Option}
-use Rattle.std.specs.declared.result.Result.{Result}
-use Rattle.cyc_base.specs.declared.sig.Sig.{Sig}
+use Rattle.flatten.proofs.Common.{common_steps, length-map, list_any-append, list_any, find, flat_map, position, position_or_len, option_or, bytes_eq, Option, Result, Sig, Parts, BlifModel, GateLine, LatchLine, FlatFault, is_among, FlatLines, own_clocks, latch_outputs, gate_outputs, reads, signal_list, sig_of, declared_twice, driven_twice, link_fault, latch_with, gate_with, netlist_by, linked, sig_or, undriven_among, AreRead}
+use Rattle.std.proofs.lemmas.List.Folds.{find-append}
+use Rattle.std.specs.Option.{option_and_then}
 use Rattle.netlist.specs.Netlists.{signal}
-use Rattle.netlist.specs.declared.parts.Parts.{Parts}
-use Rattle.blif_read.specs.declared.models.BlifModel.{BlifModel}
-use Rattle.blif_read.specs.declared.models.GateLine.{GateLine}
-use Rattle.blif_read.specs.declared.models.LatchLine.{LatchLine}
-use Rattle.flatten.specs.declared.fault.FlatFault.{FlatFault}
 use Rattle.flatten.specs.declared.fault.FlatFault.TheVariants.{ClockRead, Undriven}
 use Rattle.flatten.specs.declared.link.Drivers.{Drivers as DriverTable}
-use Rattle.flatten.specs.Instances.{is_among}
-use Rattle.flatten.specs.Walk.{FlatLines}
-use Rattle.flatten.specs.Linking.{own_clocks, latch_outputs, gate_outputs, drivers, reads, signal_list, sig_of, clock_read, declared_twice, driven_twice, undriven, bad_clock, link_fault, latch_with, gate_with, netlist_by, linked}
-use Rattle.flatten.specs.Drivers.{IsDriversOf, HasSignals, sig_of_place, sig_at, sig_or, is_unread, undriven_among, AreRead}
+use Rattle.flatten.specs.Linking.{drivers, clock_read, undriven, bad_clock}
+use Rattle.flatten.specs.Drivers.{IsDriversOf, HasSignals, sig_of_place, sig_at, is_unread}
 use Rattle.flatten.proofs.Names.{bytes_same}
 use Rattle.flatten.proofs.Libraries.{among_once}
 

@@ -1,27 +1,12 @@
 -- What the walk prints may stand in a BLIF text, and each gate has as many pins as its cover.
 use Rattle.std.proofs.Common.{◌≡◌, ℕ, zero, suc, ◌+◌, ◌<◌, Bool, true, false, List, [], ◌∷◌, ◌++◌, length, drop, sym, ◌∙◌, subst, arith, cond, All, Some, None}
-use Rattle.std.proofs.lemmas.List.{length-map}
-use Rattle.std.proofs.lemmas.List.Elements.{All-nil, All-cons, All-head, All-tail, All-append, All-push}
-use Rattle.std.specs.Fmt.{decimal}
-use Rattle.std.specs.Str.{bytes_eq}
-use Rattle.std.specs.declared.option.Option.{Option}
+use Rattle.flatten.proofs.Common.{length-map, All-nil, All-cons, All-head, All-tail, All-append, All-push, decimal, bytes_eq, Option, tildes, BlifModel, GateLine, LatchLine, PartLine, Item, Gate, Latch, Part, Level, actual_of, model_at, resolved, bound, gate_by, latch_by, passed_line, passed_part, PassesPart, IsPrintedGate, IsPrintedLatch}
 use Rattle.cyc_base.specs.Names.{IsBlifByte, IsBlifName}
-use Rattle.tildes.specs.Runs.{tildes}
 use Rattle.tildes.proofs.BlifLemmas.{tildes_fit, decimal_fits}
 use Rattle.blif_read.specs.Flattening.{IsSoundItem, IsSoundModel, CanBeFlattened}
-use Rattle.blif_read.specs.declared.models.BlifModel.{BlifModel}
-use Rattle.blif_read.specs.declared.models.GateLine.{GateLine}
-use Rattle.blif_read.specs.declared.models.LatchLine.{LatchLine}
-use Rattle.blif_read.specs.declared.models.PartLine.{PartLine}
-use Rattle.blif_read.specs.declared.models.Item.{Item}
-use Rattle.blif_read.specs.declared.models.Item.TheVariants.{Gate, Latch, Part}
-use Rattle.flatten.specs.declared.walk.Level.{Level}
 use Rattle.flatten.specs.declared.walk.Walk.{Walk}
-use Rattle.flatten.specs.Paths.{actual_of}
-use Rattle.flatten.specs.Instances.{model_at}
-use Rattle.flatten.specs.Laws.{resolved, bound}
-use Rattle.flatten.specs.Levels.{gate_by, latch_by, passed_line, passed_part, PassesGate, PassesLatch, PassesPart, IsBegun}
-use Rattle.flatten.specs.Printable.{IsPrintedGate, IsPrintedLatch, IsPrintedPair, IsPrintedLevel, IsPrinted}
+use Rattle.flatten.specs.Levels.{PassesGate, PassesLatch, IsBegun}
+use Rattle.flatten.specs.Printable.{IsPrintedPair, IsPrintedLevel, IsPrinted}
 
 append_name : (prefix name : List ℕ) → All IsBlifByte prefix → IsBlifName name → IsBlifName (prefix ++ name)
 append_name [] name p n = n

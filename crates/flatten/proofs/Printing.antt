@@ -1,11 +1,11 @@
 -- Printed names differ: digits, the mark and the rest are read back from them.
 use Rattle.std.proofs.Common.{◌≡◌, ℕ, zero, suc, ◌^◌, ◌<◌, ◌≤◌, List, [], ◌∷◌, ◌++◌, Contains, refl, ap, arith}
 use Rattle.std.proofs.lemmas.Fmt.{decimal_injective}
-use Rattle.std.specs.Fmt.{decimal}
-use Rattle.tildes.specs.Runs.{longest_run, longest_run_of, tildes}
+use Rattle.flatten.proofs.Common.{decimal, longest_run_of, tildes, Wire}
+use Rattle.tildes.specs.Runs.{longest_run}
 use Rattle.tildes.proofs.MarkLemmas.{run_longest, without_tildes}
 use Rattle.tildes.proofs.DigitLemmas.{split_at_tilde, decimal_no_tilde}
-use Rattle.flatten.specs.Wires.{Wire, mark, printed_at, printed}
+use Rattle.flatten.specs.Wires.{mark, printed_at, printed}
 
 one_longest : (names : List (List ℕ)) (v : List ℕ) → Contains names v → longest_run v ≤ longest_run_of names
 one_longest [] v h = absurd (omega (arith, h.1))

@@ -1,14 +1,10 @@
 -- Wires are read one after another: what was found in some of them, and in those that are left.
 use Rattle.std.proofs.Common.{◌≡◌, ℕ, Bool, not, List, [], ◌++◌, refl, sym, ap, ◌∙◌, Some, None, option_map}
 use Rattle.std.proofs.lemmas.List.Folds.{find-append}
-use Rattle.std.specs.List.{find}
-use Rattle.std.specs.Option.{option_or}
-use Rattle.std.specs.declared.option.Option.{Option}
-use Rattle.flatten.specs.declared.fault.FlatFault.{FlatFault}
+use Rattle.flatten.proofs.Common.{find, option_or, Option, FlatFault, is_among, undriven_among, AreRead}
 use Rattle.flatten.specs.declared.fault.FlatFault.TheVariants.{Undriven}
 use Rattle.flatten.specs.declared.link.Drivers.{Drivers as DriverTable}
-use Rattle.flatten.specs.Instances.{is_among}
-use Rattle.flatten.specs.Drivers.{undriven_among, is_unread, AreRead}
+use Rattle.flatten.specs.Drivers.{is_unread}
 use Rattle.flatten.proofs.Gathering.{some_or, none_or_is}
 
 or_none : {X : Type 0} (o : Option X) → option_or o None ≡ o

@@ -1,6 +1,6 @@
 -- What a result says, where it is handed on as it is.
 use Rattle.std.proofs.Common.{OnOk, IfErr, Ok, Err}
-use Rattle.std.specs.declared.result.Result.{Result}
+use Rattle.flatten.proofs.Common.{Result}
 
 pub on_ok : {T E P Q : Type 0} (r : Result T E) → (P → Q) → OnOk r P → OnOk r Q
 on_ok (Ok x) f p = f p

@@ -1,29 +1,13 @@
 -- The walk on a list comes to what the walk by recursion comes to.
 use Rattle.std.proofs.Common.{length-append, ◌*◌, ◌≡◌, inl, inr, ℕ, zero, suc, ◌+◌, ◌-◌, ◌<◌, ◌≤◌, nat_le, nat_lt, Bool, true, false, ◌||◌, List, [], ◌∷◌, ◌++◌, length, drop, reverse, refl, ap, sym, ◌∙◌, subst, arith, append_assoc, if◌then◌else◌, Some, None, Ok, Err, All}
-use Rattle.std.proofs.lemmas.Grind.{common_steps, reverse_onto}
-use Rattle.std.proofs.lemmas.List.Folds.{list_any-append}
+use Rattle.flatten.proofs.Common.{common_steps, list_any-append, append-nil, All-head, All-tail, All-push, list_any, position_or_len, bytes_eq, Option, Result, BlifModel, GateLine, LatchLine, PartLine, Gate, Latch, Part, FlatFault, TooLarge, Level, mark_of, Instance, no_model, model_at, is_open, entry, entered, pairs_fault, find_model, Event, FlatLines, gate, latch, opens, fails, events, decided, then_gate, then_latch, flat_lines, gate_by, latch_by, passed_line, passed_part, PassesPart}
+use Rattle.std.proofs.lemmas.Grind.{reverse_onto}
 use Rattle.std.proofs.lemmas.List.Sums.{passes_at_first}
-use Rattle.std.proofs.lemmas.List.{append-nil, reverse-append, length-reverse, reverse-reverse}
-use Rattle.std.proofs.lemmas.List.Elements.{All-head, All-tail, All-same, All-push}
-use Rattle.std.specs.List.{list_any, position_or_len}
-use Rattle.std.specs.Str.{bytes_eq}
-use Rattle.std.specs.declared.option.Option.{Option}
-use Rattle.std.specs.declared.result.Result.{Result}
+use Rattle.std.proofs.lemmas.List.{reverse-append, length-reverse, reverse-reverse}
+use Rattle.std.proofs.lemmas.List.Elements.{All-same}
 use Rattle.blif_read.specs.Find.{has_name}
-use Rattle.blif_read.specs.declared.models.BlifModel.{BlifModel}
-use Rattle.blif_read.specs.declared.models.GateLine.{GateLine}
-use Rattle.blif_read.specs.declared.models.LatchLine.{LatchLine}
-use Rattle.blif_read.specs.declared.models.PartLine.{PartLine}
-use Rattle.blif_read.specs.declared.models.Item.TheVariants.{Gate, Latch, Part}
-use Rattle.flatten.specs.declared.fault.FlatFault.{FlatFault}
-use Rattle.flatten.specs.declared.fault.FlatFault.TheVariants.{TooLarge}
-use Rattle.flatten.specs.declared.walk.Level.{Level}
 use Rattle.flatten.specs.declared.walk.Walk.{Walk}
-use Rattle.flatten.specs.Wires.{mark_of}
-use Rattle.flatten.specs.Paths.{Instance}
-use Rattle.flatten.specs.Instances.{no_model, model_at, is_open, entry, entered, pairs_fault, find_model}
-use Rattle.flatten.specs.Walk.{Event, FlatLines, gate, latch, opens, fails, events, decided, then_gate, then_latch, flat_lines}
-use Rattle.flatten.specs.Levels.{gate_by, latch_by, entered_on, passed_line, passed_part, Waits, remaining, then_lines, Walking, AddsGate, AddsLatch, PutsBack, PassesGate, PassesLatch, PassesPart, PartFails, WalkingAt, WalkingWith, IsBegun}
+use Rattle.flatten.specs.Levels.{entered_on, Waits, remaining, then_lines, Walking, AddsGate, AddsLatch, PutsBack, PassesGate, PassesLatch, PartFails, WalkingAt, WalkingWith, IsBegun}
 use Rattle.flatten.proofs.Names.{bytes_same}
 use Rattle.flatten.proofs.Waiting.{waits_size, waits_open, waits_within, top_of, gate_step, latch_step, end_step, fault_step, opens_step, open_step}
 

@@ -1,10 +1,7 @@
 -- Climbing stays within the names of the file, so printed names tell wires.
 use Rattle.std.proofs.Common.{ℕ, ◌^◌, ◌<◌, Bool, true, false, List, [], ◌∷◌, ◌++◌, cond, All, Contains, Some, None}
-use Rattle.std.proofs.lemmas.List.Elements.{All-head, All-tail}
-use Rattle.std.specs.Str.{bytes_eq}
-use Rattle.std.specs.declared.option.Option.{Option}
-use Rattle.flatten.specs.Wires.{Wire}
-use Rattle.flatten.specs.Paths.{Instance, numbers, actual_of, climb}
+use Rattle.flatten.proofs.Common.{All-head, All-tail, bytes_eq, Option, Wire, Instance, actual_of, climb}
+use Rattle.flatten.specs.Paths.{numbers}
 use Rattle.flatten.specs.Laws.{BindsAmong, NamesTellWires}
 use Rattle.flatten.proofs.Printing.{AreNumbers, printed_differs}
 

@@ -1,31 +1,15 @@
 -- The parts of a flat netlist meet all conditions of a netlist.
 use Rattle.std.proofs.Common.{◌≡◌, inl, inr, ⊎_elim, ◌⊎◌, append_assoc, codes, nat_eq, ℕ, ◌+◌, ◌≤◌, Bool, true, false, not, ◌||◌, ◌&&◌, List, [], ◌∷◌, ◌++◌, length, length-append, map, refl, sym, ap, ◌∙◌, subst, arith, All, Some, None, Ok, Err, is_some, cond, IfSome, option_map}
-use Rattle.std.proofs.lemmas.Grind.{common_steps}
-use Rattle.std.proofs.lemmas.List.{length-map}
-use Rattle.std.proofs.lemmas.List.Elements.{All-nil, All-cons, All-head, All-tail, All-append}
-use Rattle.std.proofs.lemmas.List.Folds.{list_any-append}
+use Rattle.flatten.proofs.Common.{common_steps, length-map, All-nil, All-cons, All-head, All-tail, All-append, list_any-append, list_any, find, flat_map, position_or_len, IsDistinct, AllByRecursion, option_or, bytes_eq, Option, Result, Sig, Clock, Parts, BlifModel, GateLine, LatchLine, FlatFault, is_among, FlatLines, IsPrintedGate, IsPrintedLatch, own_clocks, latch_outputs, gate_outputs, reads, first_twice, twice_after, signal_list, sig_of, has_bad_control, declared_twice, driven_twice, link_fault, latch_with, gate_with, netlist_by, linked}
 use Rattle.std.proofs.lemmas.Map.Keys.{IsDistinct-cons, IsDistinct-head, IsDistinct-tail}
-use Rattle.std.specs.List.{list_any, find, flat_map, position_or_len, IsDistinct, AllByRecursion}
-use Rattle.std.specs.Option.{option_or, option_and_then, option_map_or}
-use Rattle.std.specs.Str.{bytes_eq}
-use Rattle.std.specs.declared.option.Option.{Option}
-use Rattle.std.specs.declared.result.Result.{Result}
+use Rattle.std.specs.Option.{option_and_then, option_map_or}
 use Rattle.cyc_base.specs.Names.{IsBlifName}
-use Rattle.cyc_base.specs.declared.sig.Sig.{Sig}
-use Rattle.netlist.specs.declared.parts.Clock.{Clock}
 use Rattle.netlist.specs.declared.parts.Gate.{Gate as FlatGate}
 use Rattle.netlist.specs.declared.parts.Latch.{Latch as FlatLatch}
-use Rattle.netlist.specs.declared.parts.Parts.{Parts}
 use Rattle.netlist.specs.Netlists.{count, signal_names, IsSignal, IsClockName, IsNetlist, sig_eq}
 use Rattle.blif_read.specs.Flattening.{IsSoundModel}
-use Rattle.blif_read.specs.declared.models.BlifModel.{BlifModel}
-use Rattle.blif_read.specs.declared.models.GateLine.{GateLine}
-use Rattle.blif_read.specs.declared.models.LatchLine.{LatchLine}
-use Rattle.flatten.specs.declared.fault.FlatFault.{FlatFault}
-use Rattle.flatten.specs.Instances.{is_among}
-use Rattle.flatten.specs.Walk.{FlatLines}
-use Rattle.flatten.specs.Printable.{IsPrintedGate, IsPrintedLatch, ArePrintedLines}
-use Rattle.flatten.specs.Linking.{own_clocks, latch_outputs, gate_outputs, drivers, reads, first_twice, twice_after, signal_list, sig_of, has_control, first_control, is_clock_of, is_fitting, has_bad_control, declared_twice, driven_twice, undriven, bad_clock, clock_read, link_fault, latch_with, gate_with, netlist_by, linked}
+use Rattle.flatten.specs.Printable.{ArePrintedLines}
+use Rattle.flatten.specs.Linking.{drivers, has_control, first_control, is_clock_of, is_fitting, undriven, bad_clock, clock_read}
 use Rattle.flatten.proofs.Names.{bytes_same, bytes_refl}
 use Rattle.flatten.proofs.Libraries.{among_gathered}
 use Rattle.flatten.proofs.Gathering.{fresh_apart, twice-append, own_clocks_gathered}

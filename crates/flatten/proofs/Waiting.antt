@@ -1,26 +1,8 @@
 -- The levels that are open, and what the walk comes to at their next items.
 use Rattle.std.proofs.Common.{◌≡◌, ℕ, zero, suc, ◌+◌, ◌-◌, ◌<◌, nat_le, Bool, true, false, ◌||◌, List, [], ◌∷◌, ◌++◌, length, map, drop, refl, ap, sym, ◌∙◌, subst, arith, append_assoc, Some, None, Ok, Err, add-one, All, option_map}
-use Rattle.std.proofs.lemmas.Grind.{common_steps}
-use Rattle.std.proofs.lemmas.List.{append-nil}
-use Rattle.std.proofs.lemmas.List.Elements.{All-nil, All-cons}
-use Rattle.std.specs.List.{list_any}
-use Rattle.std.specs.Str.{bytes_eq}
-use Rattle.std.specs.Fmt.{decimal}
-use Rattle.std.specs.declared.option.Option.{Option}
-use Rattle.netlist.specs.declared.parts.Clock.{Clock}
-use Rattle.blif_read.specs.declared.models.BlifModel.{BlifModel}
-use Rattle.blif_read.specs.declared.models.GateLine.{GateLine}
-use Rattle.blif_read.specs.declared.models.LatchLine.{LatchLine}
-use Rattle.blif_read.specs.declared.models.PartLine.{PartLine}
-use Rattle.blif_read.specs.declared.models.Item.{Item}
-use Rattle.blif_read.specs.declared.models.Item.TheVariants.{Gate, Latch, Part}
-use Rattle.flatten.specs.declared.fault.FlatFault.{FlatFault}
-use Rattle.flatten.specs.declared.walk.Level.{Level}
-use Rattle.flatten.specs.Paths.{Instance, name_at, gate_at, latch_at, clock_at}
-use Rattle.flatten.specs.Instances.{model_at, is_open, entry, entered, pairs_fault, find_model}
-use Rattle.flatten.specs.Walk.{Event, gate, latch, opens, fails, events}
-use Rattle.flatten.specs.Laws.{prefix_of, resolved, bound, table_of}
-use Rattle.flatten.specs.Levels.{gate_by, latch_by, clock_by, passed_line, passed_part, IsInner, IsAt, remaining, Waits}
+use Rattle.flatten.proofs.Common.{common_steps, append-nil, All-nil, All-cons, list_any, bytes_eq, decimal, Option, Clock, BlifModel, GateLine, LatchLine, PartLine, Item, Gate, Latch, Part, FlatFault, Level, Instance, name_at, gate_at, latch_at, clock_at, model_at, is_open, entry, entered, pairs_fault, find_model, Event, gate, latch, opens, fails, events, resolved, bound, gate_by, latch_by, passed_line, passed_part}
+use Rattle.flatten.specs.Laws.{prefix_of, table_of}
+use Rattle.flatten.specs.Levels.{clock_by, IsInner, IsAt, remaining, Waits}
 use Rattle.flatten.proofs.Climbing.{resolved_is_climbed}
 
 -- the tables give the names that climbing gives

@@ -1,8 +1,7 @@
 -- The functions that a solution and the comparison of its sweeps work with, and what they cost.
-use Rattle.std.proofs.Common.{◌≡◌, inl, inr, ℕ, zero, suc, ◌+◌, ◌*◌, ◌<◌, ◌≤◌, Bool, true, false, ◌&&◌, ◌||◌, List, [], ◌∷◌, length, map, filter, get_or, Result, Err, refl, sym, ap, ap₂, ◌∙◌, subst, arith, Contains}
-use Rattle.std.proofs.Math.Path.{fun_ext}
+use Rattle.std.proofs.Common.{◌≡◌, inl, inr, ℕ, ◌+◌, ◌*◌, ◌<◌, ◌≤◌, Bool, true, false, ◌||◌, List, [], ◌∷◌, length, map, get_or, Result, Err, refl, sym, ap, ap₂, ◌∙◌, subst, arith}
 use Rattle.std.proofs.Math.Nat.{mul-le-mul_left, mul-le-mul_right}
-use Rattle.isolation.proofs.Common.{cases_Bool, and_parts, get_or-map, get_or_default, get_or-replicate, length-map, length-append, All, range_with_len, Node, Arena, den, AddsWithin, GrowsWithin, KeepsNodes, NoOtherCause, within_more, within_moved, Trit, X, bits, Rails, AreRailsOf, value_of, values_of, IsWide, Gate, Parts, fix, fix_gates, IsNetlist, count, gate_at, no_gate, Blocks, AreBlocksOf, block_at, AreLoopsOf, Loops, loops_of, first_gate, value_in, sweeps, loops_exist, same_within, rails_under, order, Vectors, rails_at, unknown, BoundsKnown, IsSolvedNetlist, IsLaid}
+use Rattle.isolation.proofs.Common.{cases_Bool, get_or-map, length-map, length-append, All, Node, Arena, den, AddsWithin, GrowsWithin, KeepsNodes, NoOtherCause, within_more, within_moved, Trit, X, bits, Rails, AreRailsOf, value_of, values_of, IsWide, Gate, Parts, fix, fix_gates, IsNetlist, count, gate_at, no_gate, Blocks, AreBlocksOf, Loops, loops_of, first_gate, value_in, loops_exist, rails_under, order, Vectors, rails_at, unknown, BoundsKnown, IsSolvedNetlist, IsLaid}
 use Rattle.std.proofs.lemmas.List.Elements.{All-contains}
 use Rattle.std.proofs.lemmas.List.Sums.{sum_by-cons, get_or-le-sum_by}
 use Rattle.std.specs.List.{sum_by}
@@ -20,25 +19,23 @@ use Rattle.dual_rail.specs.WorkingLists.{is_bit}
 use Rattle.dual_rail.proofs.WidthLemmas.{IsWide-fewer}
 use Rattle.loops.specs.declared.structure.Cut.{Cut}
 use Rattle.loops.specs.Cuts.{IsCutOf, loops_by}
-use Rattle.loops.specs.Sweeps.{cuts, cuts_of}
-use Rattle.loops.proofs.Reading.{Contains-filter_from}
-use Rattle.loops.proofs.Sweeps.{length-fix, same-sym, same-trans}
-use Rattle.loops.proofs.Walks.{same_truth}
+use Rattle.loops.proofs.Sweeps.{length-fix}
 use Rattle.fixpoint.specs.declared.solved.SweptLoop.{SweptLoop}
 use Rattle.fixpoint.specs.declared.solved.Solved.{Solved}
 use Rattle.fixpoint.specs.Counts.{IsStepNode, IsComparedIn}
 use Rattle.fixpoint.specs.declared.kept.KeptRails.{KeptRails}
 use Rattle.fixpoint.specs.Kept.{values_under}
 use Rattle.fixpoint.specs.Orders.{laid}
-use Rattle.fixpoint.specs.Solved.{AreStepsOf, AreKeptSteps, IsSolution, step_at, loop_under}
-use Rattle.fixpoint.specs.Working.{HasLargeCover, IsGatePart, IsWorking, effort, read_at_fix, read_in_sweep}
+use Rattle.fixpoint.specs.Solved.{AreStepsOf, AreKeptSteps, IsSolution, loop_under}
+use Rattle.fixpoint.specs.Working.{HasLargeCover, IsWorking, effort, read_at_fix, read_in_sweep}
 use Rattle.fixpoint.proofs.CutLemmas.{one-of, zero-of}
 use Rattle.fixpoint.proofs.WireLemmas.{rails_at-proper}
-use Rattle.fixpoint.proofs.WorkLemmas.{fix_is_working, sweeps_are_working, gate_parts_agree}
+use Rattle.fixpoint.proofs.WorkLemmas.{fix_is_working}
 use Rattle.isolation.specs.Columns.{AreColumns}
 use Rattle.isolation.specs.Settling.{AreColumnVectors, settling_cost}
 use Rattle.isolation.specs.Unsettled.{IsBelowEnough, enough}
 use Rattle.isolation.proofs.SettlingLemmas.{loops-are}
+use Rattle.isolation.proofs.WorkingLemmas.{step-is_working, working-is}
 
 -- ---- functions that are made of one of the list
 
@@ -60,32 +57,16 @@ made-wide net {w} wide = record {
       omega (arith, most, same);
 }
 
--- a function that a gate works with, of other vectors
-pub part-at : (net : Parts) (loops : Loops) (v : Vectors) (g : List Bool → Bool) → IsGatePart net loops v g → (f : List Bool → List Bool) → IsGatePart net loops (λ x. v (f x)) (λ x. g (f x))
-part-at net loops v g part f = record {
-  gate = part.gate;
-  within = part.within;
-  first = part.first;
-  short = part.short;
-  bit = part.bit;
-  read = λ x. part.read (f x);
-  reads = elim part.reads [
-    | inl r ↦ inl (record { looped = r.looped; sweep = r.sweep; few = r.few; is = λ x. r.is (f x) })
-    | inr r ↦ inr (record { plain = r.plain; is = λ x. r.is (f x) })
-  ];
-  same = λ x. part.same (f x);
-}
-
 module _ (net : Parts) (points : Vectors) (points_are : AreColumnVectors net points) where
   working-laid : (g : List Bool → Bool) → IsWorking net (loops_of net) points g → IsLaid net g
-  working-laid g (inl rail) = record {
-    of = λ u. is_bit rail.bit (value_in (bits u) rail.signal);
-    is = inl (record { signal = rail.signal; within = rail.within; bit = rail.bit; same = λ u. refl });
-    same = λ u long. rail.same (laid net u) ∙ ap (λ (ts : List Trit). is_bit rail.bit (value_in ts rail.signal)) (points_are u long);
-  }
-  working-laid g (inr part) =
-      let h = gate_parts_agree net (loops_of net) (first_gate net) (λ u. points (laid net u)) bits (λ u long. points_are u long) (λ u. g (laid net u)) (part-at net (loops_of net) points g part (laid net)) in
-      record { of = h.of; is = inr h.is; same = h.alike }
+  working-laid g working = elim (working-is net points (laid net) points_are g working) [
+    | inl c ↦ record {
+      of = λ u. is_bit c.bit (value_in (bits u) c.column);
+      is = inl (record { signal = c.column; within = c.within; bit = c.bit; same = λ u. refl });
+      same = c.same;
+    }
+    | inr part ↦ record { of = part.of; is = inr part.is; same = part.same }
+  ]
 
   pub working-wide : (vars : ℕ) → vars ≡ first_gate net → (loops : Loops) {w : ℕ} → loops ≡ loops_of net → IsWide vars (IsLaid net) w → IsWide vars (IsWorking net loops points) w
   working-wide vars vars_are loops {w} is wide =
@@ -135,9 +116,6 @@ module _ (net : Parts) (points : Vectors) (points_are : AreColumnVectors net poi
 
   -- ---- the steps of loops
 
-  working-made : (g : List Bool → Bool) → IsWorking net (loops_of net) points g → IsMade net g
-  working-made g is = record { of = g; listed = working-laid g is; by = λ x. x; same = λ x long. refl }
-
   module _ (some : 0 < length net.gates) where
     -- there is a function in the list, so that constants are made of it
     record SomeWorking : Type 0 where
@@ -177,102 +155,13 @@ module _ (net : Parts) (points : Vectors) (points_are : AreColumnVectors net poi
     constant-made : (b : Bool) (g : List Bool → Bool) → ((x : List Bool) → g x ≡ b) → IsMade net g
     constant-made b g is = record { of = some-working.of; listed = working-laid some-working.of some-working.is; by = λ x. b; same = λ x long. is x }
 
-    -- the cut wires of a loop are of that loop, and so many for each
-    cut-is : (loops : Loops) → AreLoopsOf net loops → (gate n : ℕ) → Contains (cuts_of net loops gate) n → (loops.same n n ≡ true) × (cuts_of net loops n ≡ cuts_of net loops gate)
-    cut-is loops are gate n has =
-        let there = and_parts (loops.same gate n) (loops.cut n) (Contains-filter_from (λ m. loops.same gate m && loops.cut m) (range_with_len 0 (length net.gates)) n has).0 in
-        let back = same-sym net loops are gate n there.0 in (
-          same-trans net loops are n gate n back there.0,
-          ap (λ (same : ℕ → Bool). filter (λ m. same m && loops.cut m) (range_with_len 0 (length net.gates)))
-              (fun_ext (λ m. same_truth (loops.same n m) (loops.same gate m) (λ e. same-trans net loops are gate n m there.0 e) (λ e. same-trans net loops are n gate m back e))),
-        )
-
-    -- a cut wire after so many sweeps
-    swept-made : (gate n k : ℕ) (b : Bool) → Contains (cuts_of net (loops_of net) gate) n → k ≤ length (cuts_of net (loops_of net) gate) + 1 → IsMade net (λ x. is_bit b (value_in (sweeps net (loops_of net) (points x) k) n))
-    swept-made gate n zero b has few =
-        constant-made (is_bit b X) (λ x. is_bit b (value_in (sweeps net (loops_of net) (points x) zero) n))
-        (λ x.
-        let within = same_within net (loops_of net) (loops_exist net) n n (cut-is (loops_of net) (loops_exist net) gate n has).0 in
-        ap (is_bit b) (get_or-replicate {A = Trit} (length net.gates) n X X within))
-    swept-made gate n (suc k) b has few =
-        let is = cut-is (loops_of net) (loops_exist net) gate n has in
-        let same = ap length is.1 in
-        working-made (λ x. is_bit b (value_in (sweeps net (loops_of net) (points x) (suc k)) n))
-        (sweeps_are_working net (loops_of net) (loops_exist net) points n k is.0 (omega (arith, few, same)) b)
-
     module _ (a : Arena) (blocks : Blocks) (cut : Cut) (are : AreBlocksOf net blocks) (cut_is : IsCutOf net cut) where
       -- a rail of a step
-      module _ (loop : SweptLoop) (steps : AreStepsOf net blocks cut a points loop) (node : Node) (is : IsStepNode loop.steps node) where
-        abbrev gate : ℕ
-        gate = get_or (block_at blocks loop.block).gates 0 0
-
-        gate-there : Contains (block_at blocks loop.block).gates (get_or (block_at blocks loop.block).gates 0 0)
-        gate-there =
-            let filled = are.filled loop.block steps.block.within in
-            (0, filled, get_or_default (block_at blocks loop.block).gates 0 (get_or (block_at blocks loop.block).gates 0 0) 0 filled)
-
-        -- the numbers of the step and of the rail in it
-        abbrev step : ℕ
-        step = is.among.0
-
-        abbrev place : ℕ
-        place = is.within.0
-
-        step-is : step_at loop.steps is.among.0 ≡ is.step
-        step-is = get_or_default loop.steps is.among.0 [] is.step is.among.1 ∙ is.among.2
-
-        values-are : (v : List Bool) → values_of a is.step v ≡ cuts net (loops_of net) (points v) gate step
-        values-are v =
-            ap (λ (rails : List Rails). values_of a rails v) (sym step-is)
-            ∙ steps.each gate step v gate-there is.among.1
-            ∙ ap (λ (l : Loops). cuts net l (points v) gate step) (loops-are net blocks cut are cut_is)
-
-        width : length is.step ≡ length (cuts_of net (loops_of net) gate)
-        width =
-            sym (length-map {B = Trit} is.step (λ r. value_of a r []))
-            ∙ ap length (values-are [])
-            ∙ length-map {B = Trit} (cuts_of net (loops_of net) gate) (value_in (sweeps net (loops_of net) (points []) step))
-
-        abbrev wire : ℕ
-        wire = get_or (cuts_of net (loops_of net) gate) place 0
-
-        wire-there : Contains (cuts_of net (loops_of net) gate) (get_or (cuts_of net (loops_of net) gate) is.within.0 0)
-        wire-there =
-            let inside = is.within.1 in
-            let wide = width in
-            let within : is.within.0 < length (cuts_of net (loops_of net) gate) = omega (arith, inside, wide) in
-            (is.within.0, within, get_or_default (cuts_of net (loops_of net) gate) is.within.0 (get_or (cuts_of net (loops_of net) gate) is.within.0 0) 0 within)
-
-        rail-value : (v : List Bool) → value_of a is.rails v ≡ value_in (sweeps net (loops_of net) (points v) step) wire
-        rail-value v =
-            let inside = is.within.1 in
-            let wide = width in
-            ap (λ (r : Rails). value_of a r v) (sym is.within.2)
-            ∙ sym (get_or-map (λ (r : Rails). value_of a r v) is.step place is.rails X inside)
-            ∙ ap (λ (ts : List Trit). get_or ts place X) (values-are v)
-            ∙ get_or-map (value_in (sweeps net (loops_of net) (points v) step)) (cuts_of net (loops_of net) gate) place 0 X (omega (arith, inside, wide))
-
-        rail-made : (b : Bool) → IsMade net (λ v. is_bit b (value_of a is.rails v))
-        rail-made b =
-            let within = is.among.1 in
-            let few = steps.few in
-            let wires : length loop.cuts ≡ length (cuts_of net (loops_of net) gate) =
-            ap length (steps.wires gate gate-there) ∙ ap (λ (l : Loops). length (cuts_of net l gate)) (loops-are net blocks cut are cut_is) in
-            let m = swept-made gate wire step b wire-there (omega (arith, within, few, wires)) in
-            record { of = m.of; listed = m.listed; by = m.by; same = λ v long. ap (is_bit b) (rail-value v) ∙ m.same v long }
-
-        step-made : IsMade net (den a node)
-        step-made =
-            let all : All (AreRailsOf a) is.step = All-contains (All (AreRailsOf a)) loop.steps is.step steps.rails is.among in
-            let proper : AreRailsOf a is.rails = All-contains (AreRailsOf a) is.step is.rails all is.within in
-            elim is.is [
-              | inl e ↦
-                  let m = rail-made true in
-                  record { of = m.of; listed = m.listed; by = m.by; same = λ v long. ap (λ (n : Node). den a n v) e ∙ sym (one-of (den a is.rails.one v) (den a is.rails.zero v)) ∙ m.same v long }
-              | inr e ↦
-                  let m = rail-made false in
-                  record { of = m.of; listed = m.listed; by = m.by; same = λ v long. ap (λ (n : Node). den a n v) e ∙ sym (zero-of (den a is.rails.one v) (den a is.rails.zero v) (proper.proper v)) ∙ m.same v long }
-            ]
+      step-made : (loop : SweptLoop) → AreStepsOf net blocks cut a points loop → (node : Node) → IsStepNode loop.steps node → IsMade net (den a node)
+      step-made loop steps node is = elim (step-is_working net points a blocks cut are cut_is loop steps node is) [
+        | inl c ↦ constant-made c.value (den a node) c.same
+        | inr w ↦ record { of = w.of; listed = working-laid w.of w.is; by = λ x. x; same = λ x long. w.same x }
+      ]
 
       compared-made : (set : Node) (solved : Solved) → ((v : List Bool) → den a set v ≡ true) → All (AreKeptSteps net blocks cut a points) solved.loops → (g : List Bool → Bool) → IsComparedIn a set solved.loops g → IsMade net g
       compared-made set solved everywhere all g is = elim is.of [

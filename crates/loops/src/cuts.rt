@@ -17,6 +17,7 @@ ghost use Rattle.loops.specs.Searching.{Connects, InRow, IsFree, IsReady, level_
 ghost use Rattle.loops.specs.Walks.{AnyGate};
 
 use crate::gate_list::{GateList, empty_lists};
+use crate::grouped_netlist::GroupedNetlist;
 use crate::kept::{add_reader, add_source, reads_itself, sources_before};
 use crate::landmarks::Landmarks;
 use crate::levels::{MIDDLE, highest, lower, lowest, place, raise};
@@ -128,8 +129,7 @@ fn close(
 /// come before it and are no cut wires.
 fn enter(
     alloc: Global,
-    net: &Netlist,
-    blocks: &Blocks,
+    grouped: &GroupedNetlist<'_>,
     cut: &[bool],
     gate: u32,
     readers: &mut [GateList],
@@ -139,37 +139,36 @@ fn enter(
     back: &mut Search,
     landmarks: &mut Landmarks,
 ) -> Result<bool, AllocError>
-    requires blocks { AreBlocksOf net.now blocks.now }
-    requires gate { gate < length net.now.gates }
+    requires gate { gate < length grouped.now.net.gates }
     requires fits { gate + 1 < 2 ^ 32 }
-    requires cut { length cut.now ≡ length net.now.gates }
-    requires kept { IsKept (IsLoopPin net.now blocks.now) cut.now gate readers.old sources.old levels.old }
+    requires cut { length cut.now ≡ length grouped.now.net.gates }
+    requires kept { IsKept (IsLoopPin grouped.now.net grouped.now.blocks) cut.now gate readers.old sources.old levels.old }
     requires forth { IsReady (length cut.now) gate forth.old.marks.items }
     requires back { IsReady (length cut.now) gate back.old.marks.items }
     requires landmarks { AreLandmarks readers.old (length cut.now) landmarks.old.list.items }
-    ensures leads { IfOk result (λ leads. (leads ≡ true) ↔ Connects (IsLoopPin net.now blocks.now) (IsFree cut.now gate) gate gate) }
-    ensures kept { IfOk result (λ leads. IsKept (IsLoopPin net.now blocks.now) (set cut.now gate leads) (gate + 1) readers.new sources.new levels.new) }
+    ensures leads { IfOk result (λ leads. (leads ≡ true) ↔ Connects (IsLoopPin grouped.now.net grouped.now.blocks) (IsFree cut.now gate) gate gate) }
+    ensures kept { IfOk result (λ leads. IsKept (IsLoopPin grouped.now.net grouped.now.blocks) (set cut.now gate leads) (gate + 1) readers.new sources.new levels.new) }
     ensures forth { OnOk result (IsReady (length cut.now) (gate + 1) forth.new.marks.items) }
     ensures back { OnOk result (IsReady (length cut.now) (gate + 1) back.new.marks.items) }
     ensures landmarks { OnOk result (AreLandmarks readers.new (length cut.now) landmarks.new.list.items) }
 {
-    if reads_itself(net, blocks, gate) {
+    if reads_itself(grouped, gate) {
         return Ok(true);
     }
-    let row = sources_before(alloc, net, blocks, cut, gate)?;
+    let row = sources_before(alloc, grouped, cut, gate)?;
     sources[gate as usize] = row;
     if landmarks.is_closed(readers, sources, gate) {
         return Ok(true);
     }
     if close(readers, sources, levels, gate, forth, back)? {
-        landmarks.learn(alloc, readers, sources, levels, net.gates(), back)?;
+        landmarks.learn(alloc, readers, sources, levels, grouped.net().gates(), back)?;
         return Ok(true);
     }
     let behind = sources[gate as usize].gates();
     let ahead = readers[gate as usize].gates();
     place(levels, behind, ahead, gate);
     add_source(sources, ahead, gate)?;
-    add_reader(readers, net, blocks, gate)?;
+    add_reader(readers, grouped, gate)?;
     landmarks.extend(readers, sources, levels, gate)?;
     Ok(false)
 }
@@ -182,6 +181,7 @@ pub fn find_cut(alloc: Global, net: &Netlist, blocks: &Blocks) -> Result<Cut, Al
     requires { AreBlocksOf net.now blocks.now }
     ensures { IfOk result (IsCutOf net.now) }
 {
+    let grouped = GroupedNetlist::new(net, blocks);
     let gates = net.gates();
     let mut cut = vec![in alloc; false; gates as usize]?;
     let mut readers = empty_lists(alloc, gates)?;
@@ -193,8 +193,7 @@ pub fn find_cut(alloc: Global, net: &Netlist, blocks: &Blocks) -> Result<Cut, Al
     for gate in 0..gates {
         let leads = enter(
             alloc,
-            net,
-            blocks,
+            &grouped,
             &cut,
             gate,
             &mut readers,

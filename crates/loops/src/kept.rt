@@ -4,25 +4,21 @@
 ghost use Rattle.std.specs.Prelude.{◌≡◌, ◌<◌, ◌+◌, ◌↔◌, ◌^◌, ℕ, true, length, IfOk, OnOk, Contains};
 ghost use Rattle.std.specs.List.{All};
 ghost use Rattle.netlist.specs.Netlists.{gate_at};
-ghost use Rattle.loops.specs.Blocks.{AreBlocksOf};
 ghost use Rattle.loops.specs.Keeping.{AreSourcesBelow, HaveGained, HaveGainedPins};
 ghost use Rattle.loops.specs.Links.{IsLoopPin};
 ghost use Rattle.loops.specs.Searching.{IsFree};
 
 use crate::gate_list::GateList;
-use crate::links::loop_source;
-use crate::structure::Blocks;
-use netlist::Netlist;
+use crate::grouped_netlist::GroupedNetlist;
 use std::alloc::{AllocError, Global};
 
 /// Whether a gate of a loop is a pin of itself.
-pub(crate) fn reads_itself(net: &Netlist, blocks: &Blocks, gate: u32) -> bool
-    requires blocks { AreBlocksOf net.now blocks.now }
-    requires gate { gate < length net.now.gates }
-    ensures { (result ≡ true) ↔ IsLoopPin net.now blocks.now gate gate }
+pub(crate) fn reads_itself(grouped: &GroupedNetlist<'_>, gate: u32) -> bool
+    requires gate { gate < length grouped.now.net.gates }
+    ensures { (result ≡ true) ↔ IsLoopPin grouped.now.net grouped.now.blocks gate gate }
 {
-    for pin in net.gate(gate).pins.items() {
-        if loop_source(net, blocks, gate, *pin) == Some(gate) {
+    for pin in grouped.net().gate(gate).pins.items() {
+        if grouped.loop_source(gate, *pin) == Some(gate) {
             return true;
         }
     }
@@ -40,19 +36,17 @@ fn is_free(cut: &[bool], gate: u32, source: u32) -> bool
 /// The gates that this one reads in its loop, which come before it and are no cut wires.
 pub(crate) fn sources_before(
     alloc: Global,
-    net: &Netlist,
-    blocks: &Blocks,
+    grouped: &GroupedNetlist<'_>,
     cut: &[bool],
     gate: u32,
 ) -> Result<GateList, AllocError>
-    requires blocks { AreBlocksOf net.now blocks.now }
-    requires gate { gate < length net.now.gates }
+    requires gate { gate < length grouped.now.net.gates }
     requires cut { gate < length cut.now }
-    ensures { IfOk result (AreSourcesBelow net.now blocks.now cut.now gate (length (gate_at net.now gate).pins)) }
+    ensures { IfOk result (AreSourcesBelow grouped.now.net grouped.now.blocks cut.now gate (length (gate_at grouped.now.net gate).pins)) }
 {
     let mut row = GateList::new(alloc);
-    for pin in net.gate(gate).pins.items() {
-        if let Some(source) = loop_source(net, blocks, gate, *pin) {
+    for pin in grouped.net().gate(gate).pins.items() {
+        if let Some(source) = grouped.loop_source(gate, *pin) {
             if is_free(cut, gate, source) {
                 row.push(source)?;
             }
@@ -64,17 +58,15 @@ pub(crate) fn sources_before(
 /// Enters a gate as a reader of those that it reads in its loop.
 pub(crate) fn add_reader(
     readers: &mut [GateList],
-    net: &Netlist,
-    blocks: &Blocks,
+    grouped: &GroupedNetlist<'_>,
     gate: u32,
 ) -> Result<(), AllocError>
-    requires blocks { AreBlocksOf net.now blocks.now }
-    requires gate { gate < length net.now.gates }
-    requires size { length readers.old ≡ length net.now.gates }
-    ensures { OnOk result (HaveGainedPins net.now blocks.now gate (length (gate_at net.now gate).pins) readers.old readers.new) }
+    requires gate { gate < length grouped.now.net.gates }
+    requires size { length readers.old ≡ length grouped.now.net.gates }
+    ensures { OnOk result (HaveGainedPins grouped.now.net grouped.now.blocks gate (length (gate_at grouped.now.net gate).pins) readers.old readers.new) }
 {
-    for pin in net.gate(gate).pins.items() {
-        if let Some(source) = loop_source(net, blocks, gate, *pin) {
+    for pin in grouped.net().gate(gate).pins.items() {
+        if let Some(source) = grouped.loop_source(gate, *pin) {
             readers[source as usize].push(gate)?;
         }
     }

@@ -2,13 +2,9 @@
 
 ghost use Rattle.std.specs.Iterator.{YieldsFirstBy, item_count};
 ghost use Rattle.std.specs.Prelude.{◌≡◌, ◌≤◌, [], MatchOption};
-ghost use Rattle.loops.specs.Blocks.{AreBlocksOf};
 ghost use Rattle.loops.specs.Numbered.{first_gates_from, IsNextLoop};
 
-use crate::listing::loop_from;
 use crate::looped_netlist::LoopedNetlist;
-use crate::structure::Blocks;
-use netlist::Netlist;
 
 /// A loop of a netlist.
 #[derive(Clone, Copy, Drop)]
@@ -46,19 +42,18 @@ impl<'a> LoopedNetlist<'a> {
             gate: 0,
         }
     }
-}
 
-// The first gate from this one on at which a loop begins, with the gates of the loop.
-fn loop_after<'a>(net: &Netlist, blocks: &'a Blocks, from: u32) -> Option<(u32, &'a [u32])>
-    requires { AreBlocksOf net.now blocks.now }
-    ensures { MatchOption result (first_gates_from net.now from ≡ []) (λ found. IsNextLoop net.now from found.0 found.1.now) }
-{
-    for gate in from..net.gates() {
-        if let Some(block) = loop_from(net, blocks, gate) {
-            return Some((gate, block.gates.items()));
+    // The first gate from this one on at which a loop begins, with the gates of the loop.
+    fn loop_after(&self, from: u32) -> Option<(u32, &'a [u32])>
+        ensures { MatchOption result (first_gates_from self.now.net from ≡ []) (λ found. IsNextLoop self.now.net from found.0 found.1.now) }
+    {
+        for gate in from..self.net().gates() {
+            if let Some(block) = self.loop_from(gate) {
+                return Some((gate, block.gates.items()));
+            }
         }
+        None
     }
-    None
 }
 
 impl<'a> Iterator for LoopList<'a> {
@@ -72,7 +67,7 @@ impl<'a> Iterator for LoopList<'a> {
 
     #[tactic(auto, using(crate::proofs::ListLemmas::none_left, crate::proofs::ListLemmas::next_left))]
     fn next(&mut self) -> Option<ListedLoop<'a>> {
-        let (first, gates) = loop_after(self.looped.net(), self.looped.blocks(), self.gate)?;
+        let (first, gates) = self.looped.loop_after(self.gate)?;
         self.number += 1;
         self.gate = first + 1;
         Some(ListedLoop {

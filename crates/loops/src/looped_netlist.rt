@@ -2,10 +2,11 @@
 
 ghost use Rattle.std.specs.Prelude.{◌≡◌, ◌<◌, length};
 ghost use Rattle.loops.specs.Blocks.{AreBlocksOf};
-ghost use Rattle.loops.specs.Cuts.{IsCutOf, in_one_loop};
+ghost use Rattle.loops.specs.Cuts.{IsCutOf};
 ghost use Rattle.loops.specs.Found.{loops_of};
 ghost use Rattle.loops.specs.Looped.{IsLooped};
 
+use crate::grouped_netlist::GroupedNetlist;
 use crate::structure::{Blocks, Cut};
 use netlist::Netlist;
 use std::marker::Model;
@@ -13,8 +14,7 @@ use std::marker::Model;
 /// A netlist with its own blocks and its own cut wires.
 #[derive(Drop)]
 pub struct LoopedNetlist<'a> {
-    net: &'a Netlist,
-    blocks: &'a Blocks,
+    grouped: GroupedNetlist<'a>,
     cut: &'a Cut,
 }
 
@@ -23,9 +23,9 @@ impl<'a> Model for LoopedNetlist<'a> {
 
     ghost Value = { Looped };
 
-    ghost view = { λ l. record { net = l.net.now; blocks = l.blocks.now; cut = l.cut.now } };
+    ghost view = { λ l. record { net = l.grouped.net; blocks = l.grouped.blocks; cut = l.cut.now } };
 
-    ghost invariant = { λ l. IsLooped (record { net = l.net.now; blocks = l.blocks.now; cut = l.cut.now }) };
+    ghost invariant = { λ l. IsLooped (record { net = l.grouped.net; blocks = l.grouped.blocks; cut = l.cut.now }) };
 }
 
 impl<'a> LoopedNetlist<'a> {
@@ -37,7 +37,18 @@ impl<'a> LoopedNetlist<'a> {
         requires cut { IsCutOf net.now cut.now }
         ensures { result ≡ record { net = net.now; blocks = blocks.now; cut = cut.now } }
     {
-        LoopedNetlist { net, blocks, cut }
+        LoopedNetlist {
+            grouped: GroupedNetlist::new(net, blocks),
+            cut,
+        }
+    }
+
+    /// The netlist with its blocks alone.
+    pub(crate) fn grouped(&self) -> &GroupedNetlist<'a>
+        ensures grouped { result.now ≡ record { net = self.now.net; blocks = self.now.blocks } }
+        ensures looped { IsLooped self.now }
+    {
+        &self.grouped
     }
 
     /// The netlist.
@@ -45,7 +56,7 @@ impl<'a> LoopedNetlist<'a> {
         ensures net { result.now ≡ self.now.net }
         ensures looped { IsLooped self.now }
     {
-        self.net
+        self.grouped.net()
     }
 
     /// Its blocks.
@@ -53,7 +64,7 @@ impl<'a> LoopedNetlist<'a> {
         ensures blocks { result.now ≡ self.now.blocks }
         ensures looped { IsLooped self.now }
     {
-        self.blocks
+        self.grouped.blocks()
     }
 
     /// Its cut wires.
@@ -78,17 +89,6 @@ impl<'a> LoopedNetlist<'a> {
         requires other { other < length self.now.net.gates }
         ensures { result ≡ (loops_of self.now.net).same gate other }
     {
-        share_loop(self.net, self.blocks, gate, other)
+        self.grouped.are_in_one_loop(gate, other)
     }
-}
-
-// Whether two gates are in one block, and this is a loop.
-fn share_loop(net: &Netlist, blocks: &Blocks, gate: u32, other: u32) -> bool
-    requires blocks { AreBlocksOf net.now blocks.now }
-    requires gate { gate < length net.now.gates }
-    requires other { other < length net.now.gates }
-    ensures { result ≡ in_one_loop blocks.now gate other }
-{
-    let home = blocks.home.items()[gate as usize];
-    blocks.list.items()[home as usize].looped && home == blocks.home.items()[other as usize]
 }

@@ -1,7 +1,7 @@
 ghost use Rattle.std.specs.Prelude.{◌≡◌, ◌⊎◌, ◌+◌, ◌<◌, Some, None, false, length, slice_get, option_copied, IfOk, IfErr, IfSome, IfNone, OnOk};
 ghost use Rattle.std.specs.List.{list_any};
 ghost use Rattle.std.specs.Str.{bytes_eq};
-ghost use Rattle.netlist.specs.Netlists.{count, signal_names as signal_names_of, gate_sig as gate_sig_of, gate_at, IsNetlist};
+ghost use Rattle.netlist.specs.Netlists.{count, signal_names as signal_names_of, gate_sig as gate_sig_of, gate_at, IsNetlist, IsSignal};
 ghost use Rattle.netlist.specs.Faults.{first_fault};
 
 use crate::checks::{
@@ -114,12 +114,20 @@ impl Netlist {
         self.parts.gates.items().len() as u32
     }
 
+    /// How many inputs and latches it has. Their signals come first, and its vectors have a value for each of them.
+    pub fn columns(&self) -> u32
+        ensures columns { result ≡ length self.now.inputs + length self.now.latches }
+        ensures valid { IsNetlist self.now }
+    {
+        self.inputs() + self.latches()
+    }
+
     /// How many signals it has.
     pub fn count(&self) -> u32
         ensures count { result ≡ count self.now }
         ensures valid { IsNetlist self.now }
     {
-        self.inputs() + self.latches() + self.gates()
+        self.columns() + self.gates()
     }
 
     /// The signals that are its outputs, all different.
@@ -180,7 +188,17 @@ impl Netlist {
         ensures sig { result ≡ gate_sig_of self.now i }
         ensures valid { IsNetlist self.now }
     {
-        Sig(self.inputs() + self.latches() + i)
+        Sig(self.columns() + i)
+    }
+
+    /// The gate that drives a signal: `None` exactly where it is an input's or a latch's.
+    pub fn driver(&self, s: Sig) -> Option<u32>
+        requires { IsSignal self.now s }
+        ensures driven { IfSome result (λ gate. (gate < length self.now.gates) × (s ≡ gate_sig_of self.now gate)) }
+        ensures given { IfNone result (s.0 < length self.now.inputs + length self.now.latches) }
+        ensures valid { IsNetlist self.now }
+    {
+        s.0.checked_sub(self.columns())
     }
 
     /// The signal that has this name: `None` exactly where no signal has it. The clock is no signal.

@@ -75,7 +75,7 @@ fn count_glitch(tally: &mut Tally, net: &Netlist, s: Sig)
     ensures given { s.0 < length net.now.inputs + length net.now.latches → tally.new ≡ tally.old }
     ensures counted { (gate : ℕ) → s ≡ gate_sig net.now gate → (tally.new.counts.items ≡ slice_set tally.old.counts.items gate (slice_index_or tally.old.counts.items gate 0 + 1)) × (tally.new.total ≡ tally.old.total + 1) }
 {
-    let given = net.inputs() + net.latches();
+    let given = net.columns();
     let _signals = net.count();
     if s.0 < given {
         return;

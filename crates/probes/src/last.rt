@@ -44,7 +44,7 @@ pub(crate) fn find_last_tick(changes: &[Change]) -> u64
 fn is_of_gate(net: &Netlist, s: Sig) -> bool
     ensures { result ≡ is_gate net.now s }
 {
-    s.0 >= net.inputs() + net.latches()
+    s.0 >= net.columns()
 }
 
 /// Enters a change in a table of the last rounds of ticks, the first of which is tick 1.

@@ -12,4 +12,4 @@ mod showing;
 
 pub use observe::Observe;
 pub use refusal::Refusal;
-pub use showing::shows;
+pub use showing::{is_care_vector, shows};

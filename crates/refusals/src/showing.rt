@@ -14,7 +14,7 @@ use care_sets::Care;
 use cyc_base::{Sig, Trit};
 use netlist::{Init, Netlist};
 use std::alloc::{AllocError, Global};
-use ternary_run::{settle, tick};
+use ternary_run::{settle_at, tick, trits_of};
 
 /// Whether a latch may start with this value.
 fn may_start(init: Init, value: bool) -> bool
@@ -38,12 +38,6 @@ fn is_initial(net: &Netlist, state: &[bool]) -> bool
         }
     }
     true
-}
-
-fn trits_of(alloc: Global, vector: &[bool]) -> Result<Vec<Trit>, AllocError>
-    ensures { IfOk result (λ trits. trits.items ≡ bits vector.now) }
-{
-    vector.iter().map(|value| Trit::of(*value)).collect(alloc)
 }
 
 fn is_x(value: Trit) -> bool
@@ -92,8 +86,10 @@ fn are_bits(values: &[Trit], state: &[bool]) -> bool
 }
 
 /// Whether a vector counts.
+///
+/// The condition is that the care set is the netlist's, and that the vector has a value for each input and latch.
 #[tactic(auto, using(care_sets::proofs::CareLemmas::vectors_serve_assume, care_sets::proofs::CareLemmas::states_serve_invariant))]
-fn is_care_vector(
+pub fn is_care_vector(
     alloc: Global,
     net: &Netlist,
     care: &Care,
@@ -121,8 +117,7 @@ fn is_undetermined(
     requires wire { wire.0 < count net.now }
     ensures { IfOk result (λ unknown. unknown ≡ is_undetermined_at net.now wire vector.now) }
 {
-    let given = trits_of(alloc, vector)?;
-    let wires = settle(alloc, net, &given)?;
+    let wires = settle_at(alloc, net, vector)?;
     Ok(is_x(value_of(&wires, wire)))
 }
 

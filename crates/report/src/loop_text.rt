@@ -1,8 +1,6 @@
 // The text of a netlist's loops and their cut wires.
 ghost use Rattle.std.specs.Prelude.{◌<◌, All, length, filter, codes, if◌then◌else◌, [], ◌++◌};
 ghost use Rattle.cyc_io.specs.Taken.{IsAppended, sink_call};
-ghost use Rattle.loops.specs.Blocks.{AreBlocksOf};
-ghost use Rattle.loops.specs.Cuts.{IsCutOf};
 ghost use Rattle.loops.specs.Found.{loops_of};
 ghost use Rattle.loops.specs.Left.{loop_seen};
 ghost use Rattle.loops.specs.Numbered.{IsLoopOf};
@@ -11,7 +9,6 @@ ghost use Rattle.report.specs.LoopTexts.{gate_name, names_text, loop_line, loop_
 use crate::put::{put_number, put_two};
 use cyc_io::{Failed, Sink, write_whole};
 use loops::{ListedLoop, LoopedNetlist};
-use loops::{Blocks, Cut, count_loops};
 use netlist::Netlist;
 
 fn put_gate_name<K: Sink>(sink: &mut K, net: &Netlist, gate: u32) -> Result<(), Failed>
@@ -118,17 +115,10 @@ fn put_each_loop<K: Sink>(sink: &mut K, looped: &LoopedNetlist<'_>) -> Result<()
 
 /// Appends the number of a netlist's loops and, for each loop by its first gate, its gates and its cut wires. It takes
 /// no memory.
-pub fn put_loops<K: Sink>(
-    net: &Netlist,
-    blocks: &Blocks,
-    cut: &Cut,
-    sink: &mut K,
-) -> Result<(), Failed>
-    requires blocks { AreBlocksOf net.now blocks.now }
-    requires cut { IsCutOf net.now cut.now }
-    ensures { IsAppended (loops_text net.now) (sink_call K.put K.faults sink.old sink.new) result }
+pub fn put_loops<K: Sink>(looped: &LoopedNetlist<'_>, sink: &mut K) -> Result<(), Failed>
+    ensures { IsAppended (loops_text looped.now.net) (sink_call K.put K.faults sink.old sink.new) result }
 {
-    put_number(sink, b"loops=", count_loops(net, blocks) as u64)?;
+    put_number(sink, b"loops=", looped.count() as u64)?;
     write_whole(sink, b"\n")?;
-    put_each_loop(sink, &LoopedNetlist::new(net, blocks, cut))
+    put_each_loop(sink, looped)
 }

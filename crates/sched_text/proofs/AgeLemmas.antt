@@ -1,10 +1,8 @@
 -- Ages, word by word.
 use Rattle.std.proofs.Common.{◌≡◌, ◌≤◌, ◌<◌, ℕ, suc, ◌+◌, true, false, ◌&&◌, List, [], ◌∷◌, ◌++◌, length, drop, map, slice_index_or, Some, None, refl, sym, ap, subst, ◌∙◌, arith, drop_of_length-le}
-use Rattle.std.specs.Prelude.{is_some, unwrap_or, Option}
-use Rattle.std.specs.List.{list_all}
-use Rattle.std.proofs.Math.Seq.{drop-cons}
+use Rattle.sched_text.proofs.Common.{is_some, unwrap_or, Option, list_all, drop-cons, number}
 use Rattle.std.proofs.lemmas.List.{append-nil, append_assoc}
-use Rattle.sched_text.specs.Numbers.{number, number_of}
+use Rattle.sched_text.specs.Numbers.{number_of}
 use Rattle.sched_text.specs.LineFaults.{is_age}
 
 -- the ages up to a word, and what is said of the words from there on

@@ -1,33 +1,18 @@
 -- A written schedule has no fault: each line is fine where it stands.
 use Rattle.std.proofs.Common.{◌≡◌, ◌<◌, ◌+◌, ◌==◌, ℕ, suc, Bool, true, false, not, cond, ◌&&◌, nat_lt, List, [], ◌∷◌, ◌++◌, length, map, refl, ap, sym, ◌∙◌, subst, arith, All, Some, None, append_assoc}
-use Rattle.std.specs.Prelude.{codes, decimal, is_some, option_map, if◌then◌else◌}
-use Rattle.std.specs.List.{list_all, flat_map, AllZip}
-use Rattle.std.specs.Option.{option_or}
+use Rattle.sched_text.proofs.Common.{codes, decimal, is_some, option_map, if◌then◌else◌, list_all, flat_map, option_or, ne_eqb, nat_tests, All-head, All-tail, sum_by-cons, Latch, Parts, gate_at, IsNetlist, PlannedEvent, RoundPlan, Schedule, Line, numbered, SchedFault, BadLine, WrongWidth, IsOfGates, AreOfGates, FitsNetlist, is_tick, lacks_lines, arguments, bit_of, bits_of, permits, first_refused, nearest, begins_tick, ticks_begun, is_cut_off, fault_at, fault_at_end, first_fault, IsSmall, HasSmallAges, AreSmall, TicksAreSmall, bit_byte, bits_words, past_line, start_word, event_line, round_lines, tick_lines, lines_of}
+use Rattle.std.specs.List.{AllZip}
 use Rattle.std.specs.declared.option.Option.{Option}
-use Rattle.std.proofs.lemmas.Bool.{ne_eqb, eq-eqb, lt-ltb}
-use Rattle.std.proofs.lemmas.Bool.Decides.{nat_tests}
-use Rattle.std.proofs.lemmas.List.Elements.{All-head, All-tail}
-use Rattle.std.proofs.lemmas.List.Sums.{sum_by-cons}
+use Rattle.std.proofs.lemmas.Bool.{eq-eqb, lt-ltb}
 use Rattle.netlist.specs.declared.parts.Init.{Init}
 use Rattle.netlist.specs.declared.parts.Init.TheVariants.{Zero, One, Either}
-use Rattle.netlist.specs.declared.parts.Latch.{Latch}
-use Rattle.netlist.specs.declared.parts.Parts.{Parts}
-use Rattle.netlist.specs.Netlists.{count, gate_at, IsNetlist}
+use Rattle.netlist.specs.Netlists.{count}
 use Rattle.netlist.specs.Fixpoint.{Permits, IsInitialState}
-use Rattle.delay_core.specs.declared.plan.PlannedEvent.{PlannedEvent}
-use Rattle.delay_core.specs.declared.plan.RoundPlan.{RoundPlan}
-use Rattle.delay_core.specs.declared.plan.Schedule.{Schedule}
-use Rattle.blif_text.specs.Texts.{Line}
-use Rattle.blif_text.proofs.WrittenLines.{numbered}
-use Rattle.sched_text.specs.declared.fault.SchedFault.{SchedFault}
-use Rattle.sched_text.specs.declared.fault.SchedFault.TheVariants.{BadLine, WrongWidth, BadStart, UnknownGate, TickCount}
+use Rattle.sched_text.specs.declared.fault.SchedFault.TheVariants.{BadStart, UnknownGate, TickCount}
 use Rattle.sched_text.specs.declared.kind.Kind.{Kind}
 use Rattle.sched_text.specs.declared.kind.Kind.TheVariants.{FormatTwo, Window, Past, Latches, State, Gates, Tick, Round, Event}
-use Rattle.sched_text.specs.Fitting.{IsOfGates, AreOfGates, FitsNetlist}
-use Rattle.sched_text.specs.Kinds.{kind_of_words, is_tick, may_follow, lacks_lines}
-use Rattle.sched_text.specs.LineFaults.{arguments, are_bits, bit_of, bits_of, is_bit, is_age, has_words_of, width_fault, permits, first_refused, start_fault, fault_of_kind, fault_of_words, nearest, begins_tick, ticks_begun, is_cut_off, fault_at, fault_at_end, first_fault}
-use Rattle.sched_text.specs.Putting.{IsSmall, HasSmallAges, AreSmall, TicksAreSmall}
-use Rattle.sched_text.specs.Written.{bit_byte, bits_words, past_line, start_word, event_line, round_lines, tick_lines, lines_of}
+use Rattle.sched_text.specs.Kinds.{kind_of_words, may_follow}
+use Rattle.sched_text.specs.LineFaults.{are_bits, is_bit, is_age, has_words_of, width_fault, start_fault, fault_of_kind, fault_of_words}
 use Rattle.sched_text.proofs.GateLemmas.{gate_of_name}
 use Rattle.sched_text.proofs.WrittenNumbers.{number_decimal}
 

@@ -1,33 +1,23 @@
 -- A schedule whose lines have no fault fits the netlist and the number of ticks.
 use Rattle.std.proofs.Common.{◌≡◌, ◌≤◌, ◌<◌, ℕ, ◌+◌, Bool, true, false, not, cond, List, [], ◌∷◌, ◌++◌, All, length, map, Some, None, Ok, refl, sym, ap, ap₂, subst, ◌∙◌, arith, eqb-true}
-use Rattle.std.specs.Prelude.{Option, ◌&&◌, ◌==◌, nat_lt, if◌then◌else◌, is_some, unwrap_or, option_map, option_to_list, bytes_eq}
+use Rattle.sched_text.proofs.Common.{Option, if◌then◌else◌, is_some, unwrap_or, option_map, option_or, nat_tests, length-map, All-nil, sum_by-cons, Latch, Parts, PlannedEvent, RoundPlan, Schedule, Line, SchedFault, BadLine, WrongWidth, kind, is_tick, lacks_lines, arguments, bits_of, permits, first_refused, nearest, begins_tick, ticks_begun, is_cut_off, fault_at, fault_at_end, first_fault, statement, schedule, Draft, new_draft, follow, ended, IsOfGates, AreOfGates, FitsNetlist}
+use Rattle.std.specs.Prelude.{◌&&◌, ◌==◌, nat_lt, option_to_list, bytes_eq}
 use Rattle.std.specs.List.{AllZip}
-use Rattle.std.specs.Option.{option_or}
-use Rattle.std.proofs.lemmas.Bool.Decides.{nat_tests}
-use Rattle.std.proofs.lemmas.List.{length-append, length-map}
-use Rattle.std.proofs.lemmas.List.Elements.{All-nil, All-append, All-push}
-use Rattle.std.proofs.lemmas.List.Sums.{sum_by-cons}
+use Rattle.std.proofs.lemmas.List.{length-append}
+use Rattle.std.proofs.lemmas.List.Elements.{All-append, All-push}
 use Rattle.std.proofs.lemmas.List.Quantifiers.{position-Some}
 use Rattle.netlist.specs.declared.parts.Init.{Init}
 use Rattle.netlist.specs.declared.parts.Init.TheVariants.{Zero, One, Either}
-use Rattle.netlist.specs.declared.parts.Latch.{Latch}
-use Rattle.netlist.specs.declared.parts.Parts.{Parts}
 use Rattle.netlist.specs.Netlists.{count}
 use Rattle.netlist.specs.Fixpoint.{Permits, IsInitialState}
-use Rattle.delay_core.specs.declared.plan.PlannedEvent.{PlannedEvent}
-use Rattle.delay_core.specs.declared.plan.RoundPlan.{RoundPlan}
-use Rattle.delay_core.specs.declared.plan.Schedule.{Schedule}
-use Rattle.blif_text.specs.Texts.{Line}
-use Rattle.sched_text.specs.declared.fault.SchedFault.{SchedFault}
-use Rattle.sched_text.specs.declared.fault.SchedFault.TheVariants.{BadLine, WrongWidth, UnknownGate, TickCount}
+use Rattle.sched_text.specs.declared.fault.SchedFault.TheVariants.{UnknownGate, TickCount}
 use Rattle.sched_text.specs.declared.kind.Kind.{Kind}
 use Rattle.sched_text.specs.declared.kind.Kind.TheVariants as kinds
-use Rattle.sched_text.specs.Kinds.{kind, is_tick, is_of_a_tick, is_latches, is_window, is_past_or_start, is_gates, may_begin, may_follow, lacks_lines}
-use Rattle.sched_text.specs.LineFaults.{arguments, are_bits, bits_of, has_words_of, width_fault, permits, first_refused, start_fault, gate_number, gate_fault, tick_fault, fault_of_words, nearest, begins_tick, ticks_begun, is_cut_off, fault_at, fault_at_end, line_fault, first_fault}
-use Rattle.sched_text.specs.Statements.{gate_of, planned, statement, statement_of}
-use Rattle.sched_text.specs.Schedules.{schedule_of, schedule}
-use Rattle.sched_text.specs.Running.{OpenTick, Draft, ended_tick, new_draft, with_event, begin_round, add_event, follow, ended}
-use Rattle.sched_text.specs.Fitting.{IsOfGates, AreOfGates, FitsNetlist}
+use Rattle.sched_text.specs.Kinds.{is_of_a_tick, is_latches, is_window, is_past_or_start, is_gates, may_begin, may_follow}
+use Rattle.sched_text.specs.LineFaults.{are_bits, has_words_of, width_fault, start_fault, gate_number, gate_fault, tick_fault, fault_of_words, line_fault}
+use Rattle.sched_text.specs.Statements.{gate_of, planned, statement_of}
+use Rattle.sched_text.specs.Schedules.{schedule_of}
+use Rattle.sched_text.specs.Running.{OpenTick, ended_tick, with_event, begin_round, add_event}
 use Rattle.sched_text.proofs.ScheduleLemmas.{whole_end, whole_step}
 use Rattle.sched_text.specs.ReadingOn.{whole}
 use Rattle.sched_text.proofs.VectorLemmas.{none_first, none_next, no_fault, as_meant}

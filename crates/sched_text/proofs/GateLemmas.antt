@@ -1,19 +1,18 @@
 -- The gate that has a name.
 use Rattle.std.proofs.Common.{◌≡◌, ◌≢◌, ℕ, ◌+◌, ◌-◌, ◌<◌, ◌≤◌, Bool, true, false, cond, List, [], ◌++◌, length, map, get_or, position, slice_get, Some, None, refl, sym, ap, ◌∙◌, arith, true≢false, inl, inr, ◌⊎◌, subst}
-use Rattle.std.specs.List.{AllPairs, position_or_len, list_any}
+use Rattle.sched_text.proofs.Common.{list_any, cases_lt, length-map, IsBlifName, Parts, gate_at, IsNetlist}
+use Rattle.std.specs.List.{AllPairs, position_or_len}
 use Rattle.std.specs.Str.{bytes_eq}
-use Rattle.std.proofs.lemmas.Bool.{cases_lt, lt-ltb}
-use Rattle.std.proofs.lemmas.List.{length-append, length-map, get_or-append-add, get_or-map, get_or_default, append_assoc}
+use Rattle.std.proofs.lemmas.Bool.{lt-ltb}
+use Rattle.std.proofs.lemmas.List.{length-append, get_or-append-add, get_or-map, get_or_default, append_assoc}
 use Rattle.std.proofs.lemmas.List.Sums.{position_or_len_is}
 use Rattle.std.proofs.lemmas.List.Elements.{All-get_or}
 use Rattle.std.proofs.lemmas.List.Folds.{list_any_at}
 use Rattle.std.proofs.lemmas.Map.Made.{AllPairs-from_IsDistinct}
 use Rattle.std.proofs.lemmas.Option.{get_or_from_slice_get, slice_get_within, slice_get-get_or}
 use Rattle.std.proofs.lemmas.Slice.Eq.{bytes_eq-Decides}
-use Rattle.cyc_base.specs.Names.{IsBlifName}
 use Rattle.netlist.specs.declared.parts.Gate.{Gate}
-use Rattle.netlist.specs.declared.parts.Parts.{Parts}
-use Rattle.netlist.specs.Netlists.{signal_names, gate_at, no_gate, IsNetlist}
+use Rattle.netlist.specs.Netlists.{signal_names, no_gate}
 use Rattle.netlist.proofs.Decisions.{found_none}
 use Rattle.sched_text.specs.LineFaults.{gate_number}
 

@@ -1,3 +1,4 @@
+pub mod Common
 mod AgeLemmas
 mod FaultlessLemmas
 mod FitLemmas

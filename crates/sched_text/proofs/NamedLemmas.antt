@@ -1,21 +1,13 @@
 -- Each line of a written schedule has words, all of which are names.
 use Rattle.std.proofs.Common.{◌≡◌, ◌≢◌, ◌<◌, ℕ, Bool, true, false, List, [], ◌∷◌, ◌++◌, length, map, refl, arith}
-use Rattle.std.specs.Prelude.{codes, decimal, All}
-use Rattle.std.specs.List.{flat_map}
-use Rattle.std.proofs.lemmas.List.Elements.{All-head, All-tail, All-nil, All-cons, All-append}
-use Rattle.cyc_base.specs.Names.{IsBlifByte, IsBlifName}
-use Rattle.blif_text.proofs.WrittenLines.{IsLine}
-use Rattle.netlist.specs.declared.parts.Parts.{Parts}
-use Rattle.netlist.specs.Netlists.{gate_at, IsNetlist}
+use Rattle.sched_text.proofs.Common.{codes, decimal, flat_map, All-head, All-tail, All-nil, All-cons, IsBlifName, IsLine, Parts, gate_at, IsNetlist, PlannedEvent, RoundPlan, Schedule, IsOfGates, AreOfGates, FitsNetlist, IsSmall, HasSmallAges, AreSmall, TicksAreSmall, bit_byte, bits_words, past_line, start_word, event_line, round_lines, tick_lines, lines_of}
+use Rattle.std.specs.Prelude.{All}
+use Rattle.std.proofs.lemmas.List.Elements.{All-append}
+use Rattle.cyc_base.specs.Names.{IsBlifByte}
 use Rattle.netlist.specs.Faults.{is_blif_name}
 use Rattle.netlist.proofs.Decisions.{is_blif_name_decides}
-use Rattle.delay_core.specs.declared.plan.PlannedEvent.{PlannedEvent}
-use Rattle.delay_core.specs.declared.plan.RoundPlan.{RoundPlan}
-use Rattle.delay_core.specs.declared.plan.Schedule.{Schedule}
-use Rattle.sched_text.specs.Fitting.{IsOfGates, AreOfGates, FitsNetlist}
-use Rattle.sched_text.specs.Putting.{IsSmall, HasSmallAges, AreSmall, TicksAreSmall}
 use Rattle.sched_text.specs.ReadingBack.{HasSmallNumbers}
-use Rattle.sched_text.specs.Written.{bit_byte, bits_words, past_line, start_word, event_line, round_lines, tick_lines, head_lines, lines_of}
+use Rattle.sched_text.specs.Written.{head_lines}
 use Rattle.sched_text.proofs.GateLemmas.{gate_named}
 use Rattle.sched_text.proofs.WrittenNumbers.{decimal_named}
 

@@ -1,22 +1,18 @@
 -- The lines of a text are those of its pieces.
 use Rattle.std.proofs.Common.{◌≡◌, ◌≢◌, ◌<◌, ◌≤◌, ℕ, zero, suc, ◌+◌, ◌-◌, inl, inr, ◌⊎◌, Bool, true, false, List, [], ◌∷◌, ◌++◌, length, take, drop, map, get_or, All, Some, None, Ok, Err, refl, sym, ap, ap₂, subst, ◌∙◌, arith, length-append, length-drop, append_assoc, append-nil, eqb-true}
-use Rattle.std.specs.Prelude.{filter, ◌==◌, ◌&&◌, if◌then◌else◌, cond, count_by, position, Option, option_map, Result, IfErr, IsErrAnd}
-use Rattle.std.specs.List.{list_all}
-use Rattle.std.specs.Option.{option_or}
+use Rattle.sched_text.proofs.Common.{if◌then◌else◌, Option, option_map, Result, list_all, option_or, All-nil, All-cons, sum_by-cons, is_lf, Line, lines, line_at, SchedFault, BadLine, bad_line}
+use Rattle.std.specs.Prelude.{filter, ◌==◌, ◌&&◌, cond, count_by, position, IfErr, IsErrAnd}
 use Rattle.std.proofs.lemmas.Bool.{cases_eq}
 use Rattle.std.proofs.lemmas.List.{map-append, get_or-drop, take_more, take-append-drop, drop_all, take_all}
 use Rattle.std.proofs.lemmas.List.Quantifiers.{position-Some}
-use Rattle.std.proofs.lemmas.List.Elements.{filter-append, All-nil, All-cons}
-use Rattle.std.proofs.lemmas.List.Sums.{sum_by-cons, count_by-le-length}
-use Rattle.blif_text.specs.Texts.{pieces, in_front, is_lf, is_allowed, words_of, Joined, Line, joined, in_words, has_words, bad_byte, unless_bad, before_hash, lines, physical, without_cr, begins_with}
-use Rattle.blif_text.specs.Lines.{line_at}
+use Rattle.std.proofs.lemmas.List.Elements.{filter-append}
+use Rattle.std.proofs.lemmas.List.Sums.{count_by-le-length}
+use Rattle.blif_text.specs.Texts.{pieces, in_front, is_allowed, words_of, Joined, joined, in_words, has_words, bad_byte, unless_bad, before_hash, physical, without_cr, begins_with}
 use Rattle.blif_text.specs.Faults.{Refuses}
 use Rattle.blif_text.specs.declared.fault.TextFault.{TextFault}
 use Rattle.blif_text.specs.declared.fault.TextFault.TheVariants.{BadByte}
 use Rattle.blif_text.proofs.Pieces.{pieces_other, pieces_here}
-use Rattle.sched_text.specs.declared.fault.SchedFault.{SchedFault}
-use Rattle.sched_text.specs.declared.fault.SchedFault.TheVariants.{BadLine}
-use Rattle.sched_text.specs.Pieces.{lines_from, bad_line, line_behind, IsCut, IsNext}
+use Rattle.sched_text.specs.Pieces.{lines_from, line_behind, IsCut, IsNext}
 
 -- ---- logical lines, of physical lines that aren't joined
 

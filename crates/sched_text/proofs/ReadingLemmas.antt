@@ -1,25 +1,16 @@
 -- A schedule is read piece by piece.
 use Rattle.std.proofs.Common.{◌≡◌, ◌≢◌, ◌<◌, ◌≤◌, ℕ, suc, ◌+◌, ◌-◌, inl, inr, ◌⊎◌, Bool, true, false, cond, List, [], ◌∷◌, ◌++◌, length, drop, get_or, Some, None, Ok, Err, refl, sym, ap, subst, ◌∙◌, arith, length-append, length-drop, drop_of_length-le}
-use Rattle.std.specs.Prelude.{Option, Result, ◌==◌, ◌&&◌, count_by, option_map}
-use Rattle.std.proofs.Math.Seq.{drop-cons, drop-append_seam}
-use Rattle.std.proofs.lemmas.Bool.{cases_lt, ne_eqb}
+use Rattle.sched_text.proofs.Common.{Option, Result, option_map, drop-cons, cases_lt, ne_eqb, Parts, Schedule, Line, is_lf, end_number, line_at, SchedFault, BadLine, kind, is_tick, lacks_lines, is_cut_off, fault_at, fault_at_end, statement, schedule, Draft, new_draft, follow, ended, bad_line, ReadsPiece, FitsNetlist}
+use Rattle.std.specs.Prelude.{◌==◌, ◌&&◌, count_by}
+use Rattle.std.proofs.Math.Seq.{drop-append_seam}
 use Rattle.std.proofs.lemmas.List.{get_or-drop, get_or_append_left, drop-drop}
-use Rattle.netlist.specs.declared.parts.Parts.{Parts}
-use Rattle.delay_core.specs.declared.plan.Schedule.{Schedule}
-use Rattle.blif_text.specs.Texts.{Line, is_lf, unless_bad, end_number, physical}
-use Rattle.blif_text.specs.Lines.{line_at}
-use Rattle.sched_text.specs.declared.fault.SchedFault.{SchedFault}
-use Rattle.sched_text.specs.declared.fault.SchedFault.TheVariants.{BadLine}
+use Rattle.blif_text.specs.Texts.{unless_bad, physical}
 use Rattle.sched_text.specs.declared.place.Place.{Place}
 use Rattle.sched_text.specs.Faults.{of_lines}
-use Rattle.sched_text.specs.Kinds.{kind, is_tick, lacks_lines}
-use Rattle.sched_text.specs.LineFaults.{place_behind, is_cut_off, fault_at, fault_at_end}
-use Rattle.sched_text.specs.Statements.{statement}
-use Rattle.sched_text.specs.Schedules.{schedule, schedule_read}
-use Rattle.sched_text.specs.Running.{Draft, new_draft, follow, ended}
-use Rattle.sched_text.specs.Pieces.{lines_from, bad_line, IsNext}
-use Rattle.sched_text.specs.ReadingOn.{ReadsAt, IsPieceOf, ReadsPiece, FailsPiece}
-use Rattle.sched_text.specs.Fitting.{FitsNetlist}
+use Rattle.sched_text.specs.LineFaults.{place_behind}
+use Rattle.sched_text.specs.Schedules.{schedule_read}
+use Rattle.sched_text.specs.Pieces.{lines_from, IsNext}
+use Rattle.sched_text.specs.ReadingOn.{ReadsAt, IsPieceOf, FailsPiece}
 use Rattle.sched_text.proofs.FitLemmas.{fits}
 use Rattle.sched_text.proofs.PieceLemmas.{numbered_few, rising, size_of_physical}
 use Rattle.sched_text.proofs.ScheduleLemmas.{at_start, at_next, at_fault, at_end, fault_at_the_end}

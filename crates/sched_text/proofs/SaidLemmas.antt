@@ -1,28 +1,16 @@
 -- What the lines of a written schedule say.
 use Rattle.std.proofs.Common.{◌≡◌, ◌<◌, ◌+◌, ℕ, suc, Bool, true, false, ◌||◌, List, [], ◌∷◌, ◌++◌, length, map, refl, ap, ap₂, sym, ◌∙◌, subst, arith, All, Some, None, append_assoc, append-nil}
-use Rattle.std.specs.Prelude.{codes, decimal, unwrap_or}
-use Rattle.std.specs.List.{flat_map, filter_map, list_any, cons_option}
-use Rattle.std.specs.Option.{option_or}
+use Rattle.sched_text.proofs.Common.{codes, decimal, unwrap_or, flat_map, list_any, option_or, All-nil, All-cons, All-head, All-tail, Parts, IsNetlist, PlannedEvent, RoundPlan, Schedule, end_number, IsLine, numbered, unless, IsOfGates, AreOfGates, arguments, bits_of, IsSmall, HasSmallAges, AreSmall, TicksAreSmall, schedule, statement, bits_words, past_line, start_word, event_line, round_lines, tick_lines, lines_of}
+use Rattle.std.specs.List.{filter_map, cons_option}
 use Rattle.std.specs.declared.option.Option.{Option}
-use Rattle.std.proofs.lemmas.List.Elements.{All-nil, All-cons, All-head, All-tail}
-use Rattle.netlist.specs.declared.parts.Parts.{Parts}
-use Rattle.netlist.specs.Netlists.{IsNetlist}
-use Rattle.delay_core.specs.declared.plan.PlannedEvent.{PlannedEvent}
-use Rattle.delay_core.specs.declared.plan.RoundPlan.{RoundPlan}
-use Rattle.delay_core.specs.declared.plan.Schedule.{Schedule}
-use Rattle.blif_text.specs.Texts.{end_number}
-use Rattle.blif_text.proofs.WrittenLines.{IsLine, numbered}
 use Rattle.sched_text.specs.declared.statement.Statement.{Statement}
 use Rattle.sched_text.specs.declared.statement.Statement.TheVariants.{Format, Window, Past, Latches, State, Gates, Tick, Round, Event}
-use Rattle.sched_text.specs.Faults.{unless, of_lines}
-use Rattle.sched_text.specs.Fitting.{IsOfGates, AreOfGates}
-use Rattle.sched_text.specs.LineFaults.{arguments, bits_of}
+use Rattle.sched_text.specs.Faults.{of_lines}
 use Rattle.sched_text.specs.Numbers.{number_of}
-use Rattle.sched_text.specs.Putting.{IsSmall, HasSmallAges, AreSmall, TicksAreSmall}
 use Rattle.sched_text.specs.ReadingBack.{event_unnumbered, round_unnumbered, unnumbered, WrittenReadsBack}
-use Rattle.sched_text.specs.Schedules.{last_there, window_told, past_told, start_told, gates_told, is_state, events_ahead, rounds_ahead, ticks_ahead, schedule_of, schedule}
-use Rattle.sched_text.specs.Statements.{planned, statement}
-use Rattle.sched_text.specs.Written.{bits_words, past_line, start_word, event_line, round_lines, tick_lines, lines_of, written}
+use Rattle.sched_text.specs.Schedules.{last_there, window_told, past_told, start_told, gates_told, is_state, events_ahead, rounds_ahead, ticks_ahead, schedule_of}
+use Rattle.sched_text.specs.Statements.{planned}
+use Rattle.sched_text.specs.Written.{written}
 use Rattle.sched_text.proofs.GateLemmas.{gate_of_name}
 use Rattle.sched_text.proofs.WrittenLines.{written_lines, written_end}
 use Rattle.sched_text.proofs.WrittenNumbers.{number_decimal}

@@ -1,28 +1,15 @@
 -- The answer that there is once the lines of a schedule that are left are read.
 use Rattle.std.proofs.Common.{◌≡◌, ◌≢◌, ◌≤◌, ◌<◌, ℕ, zero, suc, ◌+◌, ◌-◌, Bool, true, false, cond, List, [], ◌∷◌, ◌++◌, length, drop, map, Some, None, Ok, Err, refl, sym, ap, ap₂, subst, inl, inr, ◌⊎◌, ◌∙◌, arith, drop_of_length-le}
-use Rattle.std.specs.Prelude.{Option, Result, ◌&&◌, ◌||◌, ◌==◌, unwrap_or, option_map, option_to_list}
-use Rattle.std.specs.List.{list_any, filter_map}
-use Rattle.std.specs.Option.{option_or}
-use Rattle.std.proofs.Math.Seq.{drop-cons}
-use Rattle.std.proofs.lemmas.Bool.{cases_lt}
+use Rattle.sched_text.proofs.Common.{Option, Result, unwrap_or, option_map, list_any, option_or, drop-cons, cases_lt, sum_by-cons, Parts, PlannedEvent, RoundPlan, Schedule, Line, line_at, SchedFault, unless, kind, is_tick, lacks_lines, nearest, begins_tick, ticks_begun, is_cut_off, fault_at, fault_at_end, first_fault, statement, schedule, Draft, new_draft, follow, ended}
+use Rattle.std.specs.Prelude.{◌&&◌, ◌||◌, ◌==◌, option_to_list}
+use Rattle.std.specs.List.{filter_map}
 use Rattle.std.proofs.lemmas.List.{append-nil, append_assoc}
-use Rattle.std.proofs.lemmas.List.Sums.{sum_by-cons}
-use Rattle.netlist.specs.declared.parts.Parts.{Parts}
-use Rattle.delay_core.specs.declared.plan.PlannedEvent.{PlannedEvent}
-use Rattle.delay_core.specs.declared.plan.RoundPlan.{RoundPlan}
-use Rattle.delay_core.specs.declared.plan.Schedule.{Schedule}
-use Rattle.blif_text.specs.Texts.{Line}
-use Rattle.blif_text.specs.Lines.{line_at}
-use Rattle.sched_text.specs.declared.fault.SchedFault.{SchedFault}
 use Rattle.sched_text.specs.declared.place.Place.{Place}
 use Rattle.sched_text.specs.declared.statement.Statement.{Statement}
 use Rattle.sched_text.specs.declared.statement.Statement.TheVariants.{Format, Window, Past, Latches, State, Gates, Tick, Round, Event}
-use Rattle.sched_text.specs.Faults.{unless}
-use Rattle.sched_text.specs.Kinds.{kind, is_tick, lacks_lines}
-use Rattle.sched_text.specs.LineFaults.{nearest, begins_tick, ticks_begun, place_behind, is_cut_off, fault_at, fault_at_end, first_fault}
-use Rattle.sched_text.specs.Statements.{statement}
-use Rattle.sched_text.specs.Schedules.{last_there, window_told, past_told, start_told, gates_told, is_state, events_ahead, rounds_ahead, ticks_ahead, schedule}
-use Rattle.sched_text.specs.Running.{OpenTick, Draft, with_event, new_round, ended_tick, new_tick, new_draft, begin_round, add_event, follow, ended}
+use Rattle.sched_text.specs.LineFaults.{place_behind}
+use Rattle.sched_text.specs.Schedules.{last_there, window_told, past_told, start_told, gates_told, is_state, events_ahead, rounds_ahead, ticks_ahead}
+use Rattle.sched_text.specs.Running.{OpenTick, with_event, new_round, ended_tick, new_tick, begin_round, add_event}
 use Rattle.sched_text.specs.ReadingOn.{rounds_from, ticks_from, whole, before, answer, ReadsAt}
 
 same : {w w' : ℕ} {p p' : List (List Bool)} {f f' : Bool} {l l' g g' : List Bool} {t t' : List (List RoundPlan)}

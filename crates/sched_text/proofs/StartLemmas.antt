@@ -1,10 +1,7 @@
 -- What latches start with, latch by latch.
 use Rattle.std.proofs.Common.{◌≡◌, ◌<◌, ℕ, suc, ◌+◌, Bool, true, false, List, ◌∷◌, length, drop, get_or, slice_get, Some, ap, ap₂, ◌∙◌, arith}
-use Rattle.std.specs.Prelude.{if◌then◌else◌}
-use Rattle.std.proofs.Math.Seq.{drop-cons}
+use Rattle.sched_text.proofs.Common.{if◌then◌else◌, drop-cons, Latch, permits, first_refused}
 use Rattle.std.proofs.lemmas.Option.{get_or_from_slice_get}
-use Rattle.netlist.specs.declared.parts.Latch.{Latch}
-use Rattle.sched_text.specs.LineFaults.{permits, first_refused}
 
 -- the values from a latch on
 start_here : (latches : List Latch) (bits : List Bool) (i : ℕ) (latch : Latch) (d : Bool) (t : Bool)

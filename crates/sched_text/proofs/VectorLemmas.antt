@@ -1,19 +1,11 @@
 -- The answer that there is once the lines that are left are read, and what vectors are like.
 use Rattle.std.proofs.Common.{◌≡◌, ◌≢◌, ◌≤◌, ◌<◌, ℕ, suc, ◌+◌, Bool, true, false, List, [], ◌∷◌, ◌++◌, All, length, take, drop, map, get_or, Some, None, Ok, Err, refl, sym, ap, subst, ◌∙◌, arith, drop_of_length-le, eqb-true}
-use Rattle.std.specs.Prelude.{Option, Result, ◌&&◌, ◌||◌, ◌==◌, codes, bytes_eq, if◌then◌else◌}
-use Rattle.std.specs.List.{list_all}
-use Rattle.std.specs.Option.{option_or}
-use Rattle.std.proofs.Math.Seq.{drop-cons}
-use Rattle.std.proofs.lemmas.List.{append-nil, append_assoc, length-map, take_more}
-use Rattle.std.proofs.lemmas.List.Elements.{All-nil, All-cons}
+use Rattle.sched_text.proofs.Common.{Option, Result, codes, if◌then◌else◌, list_all, option_or, drop-cons, length-map, All-nil, All-cons, Line, line_at, SchedFault, unless, BadLine, WrongWidth, value_of}
+use Rattle.std.specs.Prelude.{◌&&◌, ◌||◌, ◌==◌, bytes_eq}
+use Rattle.std.proofs.lemmas.List.{append-nil, append_assoc, take_more}
 use Rattle.cyc_base.specs.declared.trit.Trit.{Trit}
 use Rattle.cyc_base.specs.declared.trit.Trit.TheVariants.{Zero, One, X}
-use Rattle.blif_text.specs.Texts.{Line}
-use Rattle.blif_text.specs.Lines.{line_at}
-use Rattle.sched_text.specs.declared.fault.SchedFault.{SchedFault}
-use Rattle.sched_text.specs.Faults.{unless}
-use Rattle.sched_text.specs.declared.fault.SchedFault.TheVariants.{BadLine, WrongWidth}
-use Rattle.sched_text.specs.Vectors.{is_value, is_dash, value_of, words_fault, vector_fault, vector_of_words, vector_of, first_fault, vectors_of, vectors, HaveWidth, AreKnown}
+use Rattle.sched_text.specs.Vectors.{is_value, is_dash, words_fault, vector_fault, vector_of_words, vector_of, first_fault, vectors_of, vectors, HaveWidth, AreKnown}
 
 -- One more of the values of a word's characters.
 

@@ -1,11 +1,10 @@
 -- A text of lines of names reads back as these lines.
 use Rattle.std.proofs.Common.{◌≡◌, ℕ, ◌+◌, List, [], ◌∷◌, ◌++◌, false, refl, sym, ap, ◌∙◌, append_assoc, append-nil, length}
 use Rattle.std.specs.Prelude.{All, Ok}
-use Rattle.std.specs.List.{flat_map}
-use Rattle.blif_text.specs.Texts.{lines, end_number}
-use Rattle.blif_text.proofs.WrittenLines.{IsLine, numbered, spaced, line_of}
+use Rattle.sched_text.proofs.Common.{flat_map, lines, end_number, IsLine, numbered, behind, line_text}
+use Rattle.blif_text.proofs.WrittenLines.{spaced, line_of}
 use Rattle.blif_text.proofs.WrittenLines as texts
-use Rattle.sched_text.specs.Written.{behind, line_text, text_of}
+use Rattle.sched_text.specs.Written.{text_of}
 
 behind_spaced : (word : List ℕ) (rest : List (List ℕ)) → word ++ flat_map behind rest ≡ spaced (word ∷ rest)
 behind_spaced word [] = append-nil word

@@ -1,16 +1,13 @@
 -- A written number reads back.
 use Rattle.std.proofs.Common.{◌≡◌, ℕ, ◌+◌, ◌-◌, ◌*◌, ◌/◌, ◌%◌, ◌^◌, ◌<◌, ◌≤◌, Bool, true, false, ◌&&◌, ◌==◌, List, [], ◌∷◌, ◌++◌, length, get_or, All, Some, None, refl, ap, ◌∙◌, arith, inl, inr}
-use Rattle.std.specs.Prelude.{if◌then◌else◌, nat_le, decimal}
-use Rattle.std.specs.List.{list_all}
-use Rattle.std.proofs.lemmas.Bool.{ne_eqb, and_parts, cases_lt}
-use Rattle.std.proofs.lemmas.Bool.Decides.{nat_tests}
+use Rattle.sched_text.proofs.Common.{if◌then◌else◌, decimal, list_all, ne_eqb, cases_lt, nat_tests, All-nil, All-cons, IsBlifName, number, IsSmall}
+use Rattle.std.specs.Prelude.{nat_le}
+use Rattle.std.proofs.lemmas.Bool.{and_parts}
 use Rattle.std.proofs.lemmas.List.{get_or_append_left, length-append}
-use Rattle.std.proofs.lemmas.List.Elements.{All-nil, All-cons}
 use Rattle.std.proofs.lemmas.List.Folds.{list_all-append}
 use Rattle.std.proofs.lemmas.Fmt.{decimal_by_steps}
-use Rattle.cyc_base.specs.Names.{IsBlifByte, IsBlifName}
-use Rattle.sched_text.specs.Numbers.{is_digit, with_digits, up_to_most, number}
-use Rattle.sched_text.specs.Putting.{IsSmall}
+use Rattle.cyc_base.specs.Names.{IsBlifByte}
+use Rattle.sched_text.specs.Numbers.{is_digit, with_digits, up_to_most}
 
 -- the digits are those of the number, without leading zeros
 pub record IsWritten (n : ℕ) (ds : List ℕ) : Type 0 where

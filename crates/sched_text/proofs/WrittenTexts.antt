@@ -1,16 +1,10 @@
 -- The lines of a schedule, as they are appended.
 use Rattle.std.proofs.Common.{◌≡◌, ℕ, Bool, List, [], ◌∷◌, ◌++◌, map, refl, ap, ◌∙◌, append-nil}
-use Rattle.std.specs.Prelude.{codes, decimal}
-use Rattle.std.specs.List.{flat_map}
+use Rattle.sched_text.proofs.Common.{codes, decimal, flat_map, Parts, gate_at, PlannedEvent, RoundPlan, Schedule, behind, line_text, bit_byte, bits_words, past_line, start_word, event_line, round_lines, tick_lines, event_text, round_text, tick_text}
 use Rattle.std.proofs.lemmas.List.Concat.{flat_map-append}
 use Rattle.std.proofs.lemmas.List.Folds.{flat_map-map}
-use Rattle.netlist.specs.declared.parts.Parts.{Parts}
-use Rattle.netlist.specs.Netlists.{gate_at}
-use Rattle.delay_core.specs.declared.plan.PlannedEvent.{PlannedEvent}
-use Rattle.delay_core.specs.declared.plan.RoundPlan.{RoundPlan}
-use Rattle.delay_core.specs.declared.plan.Schedule.{Schedule}
-use Rattle.sched_text.specs.Written.{behind, line_text, bit_byte, bits_words, past_line, start_word, event_line, round_lines, tick_lines, head_lines, text_of, written}
-use Rattle.sched_text.specs.Putting.{bits_text, ages_text, past_text, event_text, round_text, tick_text, ticks_text, head_text}
+use Rattle.sched_text.specs.Written.{head_lines, text_of, written}
+use Rattle.sched_text.specs.Putting.{bits_text, ages_text, past_text, ticks_text, head_text}
 
 bytes_are : (bits : List Bool) → map bit_byte bits ≡ bits_text bits
 bytes_are [] = refl

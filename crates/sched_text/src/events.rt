@@ -45,7 +45,7 @@ fn find_gate(net: &Netlist, name: &Name) -> Option<u32>
     ensures { result ≡ gate_number net.now name.now }
 {
     let signal = net.find(name)?;
-    let first = net.inputs() + net.latches();
+    let first = net.columns();
     if signal.0 < first {
         None
     } else {

@@ -1,20 +1,11 @@
 -- Blocks that are settled one after another.
 use Rattle.std.proofs.Common.{◌≡◌, ◌≢◌, inl, inr, ℕ, zero, suc, ◌+◌, ◌<◌, ◌==◌, Bool, true, false, cond, List, length, map, get_or, refl, ap, sym, ◌∙◌, subst, arith, Contains, eq-eqb}
-use Rattle.std.proofs.lemmas.Bool.{cases_lt, cases_eq, eqb-true}
+use Rattle.simulation.proofs.Common.{cases_lt, cases_eq, eqb-true, Sig, Trit, X, Below, Parts, IsNetlist, gate_at, gate_sig, wire, gate_value, fix, fix_gates, Blocks, AreBlocksOf, home_of, first_gate}
 use Rattle.std.proofs.lemmas.List.{get_or-replicate}
 use Rattle.std.proofs.lemmas.List.FromFn.{get_or-map-range_with_len}
 use Rattle.std.specs.List.{range_with_len}
-use Rattle.cyc_base.specs.declared.sig.Sig.{Sig}
-use Rattle.cyc_base.specs.declared.trit.Trit.{Trit}
-use Rattle.cyc_base.specs.declared.trit.Trit.TheVariants.{X}
-use Rattle.cyc_base.specs.Values.{Below}
 use Rattle.cyc_base.proofs.OrderLemmas.{Below-refl, Below-trans, Below-antisym}
-use Rattle.netlist.specs.declared.parts.Parts.{Parts}
-use Rattle.netlist.specs.Netlists.{IsNetlist, gate_at, gate_sig}
-use Rattle.netlist.specs.Fixpoint.{wires, wire, gate_value, steps, fix, fix_gates}
-use Rattle.loops.specs.declared.structure.Blocks.{Blocks}
-use Rattle.loops.specs.Blocks.{AreBlocksOf, home_of}
-use Rattle.loops.specs.Sweeps.{first_gate}
+use Rattle.netlist.specs.Fixpoint.{wires, steps}
 use Rattle.loops.proofs.Reading.{get_or-step}
 use Rattle.simulation.specs.Standing.{IsAtFix, Stands}
 use Rattle.simulation.proofs.PinLemmas.{value_same, value_below, signal_cases, pin_within, wire-input, wire-gate, fix-gate, pin-before}

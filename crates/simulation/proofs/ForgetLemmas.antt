@@ -1,20 +1,11 @@
 -- The gates of a block, all of them made unknown.
 use Rattle.std.proofs.Common.{◌≡◌, inl, inr, ℕ, ◌+◌, ◌<◌, ◌==◌, Bool, true, List, length, get_or, set, ◌∙◌, subst, arith, Contains, eq-eqb}
-use Rattle.std.proofs.lemmas.Bool.{cases_lt, cases_eq, eqb-true}
-use Rattle.std.proofs.lemmas.List.{get_or-set_same, get_or-set_other, get_or_past, length-set}
+use Rattle.simulation.proofs.Common.{cases_lt, cases_eq, eqb-true, get_or-set_same, get_or-set_other, get_or_past, length-set, Trit, X, Parts, gate_sig, wire, Blocks, AreBlocksOf, home_of, AreKept, AreSettled, is_due, IsRising}
 use Rattle.std.specs.List.{range_with_len}
-use Rattle.cyc_base.specs.declared.trit.Trit.{Trit}
-use Rattle.cyc_base.specs.declared.trit.Trit.TheVariants.{X}
-use Rattle.netlist.specs.declared.parts.Parts.{Parts}
-use Rattle.netlist.specs.Netlists.{gate_sig}
-use Rattle.netlist.specs.Fixpoint.{wire}
-use Rattle.loops.specs.declared.structure.Blocks.{Blocks}
-use Rattle.loops.specs.Blocks.{AreBlocksOf, gates_at, home_of}
+use Rattle.loops.specs.Blocks.{gates_at}
 use Rattle.loops.proofs.Reading.{Contains-filter, Contains-filter_from, Contains-range, Contains-range_from}
 use Rattle.simulation.specs.declared.plan.Plan.{Plan}
 use Rattle.simulation.specs.Plans.{IsPlanOf}
-use Rattle.simulation.specs.Standing.{AreKept, AreSettled, is_due}
-use Rattle.simulation.specs.Rising.{IsRising}
 
 module _ (net : Parts) (blocks : Blocks) (are : AreBlocksOf net blocks) (place : ℕ) (gates : List ℕ) (is : gates ≡ gates_at blocks place) where
   pub gate_of_block : (n : ℕ) → Contains gates n → (n < length net.gates) × (home_of blocks n ≡ place)

@@ -1,19 +1,10 @@
 -- A gate outside loops is settled by its cover alone.
 use Rattle.std.proofs.Common.{◌≡◌, ◌≢◌, inl, inr, ℕ, ◌+◌, ◌<◌, ◌≤◌, Bool, true, false, List, length, set, ap, sym, subst, ◌∙◌, arith, Contains, true≢false}
-use Rattle.std.proofs.lemmas.Bool.{cases_lt, cases_eq}
-use Rattle.std.proofs.lemmas.List.{get_or-set_same, get_or-set_other, length-set}
-use Rattle.cyc_base.specs.declared.sig.Sig.{Sig}
-use Rattle.cyc_base.specs.declared.trit.Trit.{Trit}
-use Rattle.cyc_base.specs.declared.trit.Trit.TheVariants.{X}
-use Rattle.netlist.specs.declared.parts.Parts.{Parts}
-use Rattle.netlist.specs.Netlists.{IsNetlist, count, gate_at, gate_sig}
-use Rattle.netlist.specs.Fixpoint.{wire, gate_value, fix, fix_gates}
+use Rattle.simulation.proofs.Common.{cases_lt, cases_eq, get_or-set_same, get_or-set_other, length-set, Sig, Trit, X, Parts, IsNetlist, count, gate_at, gate_sig, wire, gate_value, fix, fix_gates, Blocks, AreBlocksOf, home_of, AreKept, AreSettled, is_due, vector_of}
 use Rattle.netlist.specs.Walks.{Feeds}
-use Rattle.loops.specs.declared.structure.Blocks.{Blocks}
-use Rattle.loops.specs.Blocks.{AreBlocksOf, block_at, home_of}
+use Rattle.loops.specs.Blocks.{block_at}
 use Rattle.loops.proofs.Told.{other_blocks_are_single}
 use Rattle.loops.proofs.Walks.{leads-step}
-use Rattle.simulation.specs.Standing.{AreKept, AreSettled, is_due, vector_of}
 use Rattle.simulation.proofs.PinLemmas.{value_same, signal_cases, pin_within, pin-before, wire-input, fix-gate, length-vector, wire-vector}
 use Rattle.simulation.proofs.BlockLemmas.{AreAtFix, pin_at_fix}
 use Rattle.simulation.proofs.LoadLemmas.{vector-set}

@@ -1,13 +1,8 @@
 -- Members of lists, and lists read from a place on.
 use Rattle.std.proofs.Common.{◌≡◌, ◌⊎◌, inl, inr, ℕ, zero, suc, List, [], ◌∷◌, ◌++◌, map, set, drop, refl, ap, ap₂, arith, Contains}
-use Rattle.std.proofs.lemmas.Bool.{cases_eq}
-use Rattle.std.proofs.lemmas.List.{get_or-set_other}
+use Rattle.simulation.proofs.Common.{cases_eq, get_or-set_other, Sig, Trit, X, wire}
 use Rattle.std.specs.List.{slice_get}
 use Rattle.std.specs.Prelude.{Some}
-use Rattle.cyc_base.specs.declared.sig.Sig.{Sig}
-use Rattle.cyc_base.specs.declared.trit.Trit.{Trit}
-use Rattle.cyc_base.specs.declared.trit.Trit.TheVariants.{X}
-use Rattle.netlist.specs.Fixpoint.{wire}
 
 pub Contains-here : {A : Type 0} (x : A) (xs : List A) → Contains (x ∷ xs) x
 Contains-here x xs = (zero, omega arith, refl)

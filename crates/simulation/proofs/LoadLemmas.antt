@@ -1,18 +1,9 @@
 -- The wires hold the vector that they were given.
 use Rattle.std.proofs.Common.{◌≡◌, ◌≢◌, inl, inr, ℕ, ◌+◌, ◌-◌, ◌<◌, List, ◌++◌, length, get_or, set, refl, sym, ◌∙◌, subst, arith}
-use Rattle.std.proofs.lemmas.Bool.{cases_lt, cases_eq}
-use Rattle.std.proofs.lemmas.List.{get_or-set_same, get_or-set_other, get_or-take, length-append, get_or_append_left, get_or-append_right, ext_get_or, take-set-le}
-use Rattle.cyc_base.specs.declared.sig.Sig.{Sig}
-use Rattle.cyc_base.specs.declared.trit.Trit.{Trit}
-use Rattle.cyc_base.specs.declared.trit.Trit.TheVariants.{X}
-use Rattle.netlist.specs.declared.parts.Parts.{Parts}
-use Rattle.netlist.specs.Netlists.{count, gate_sig, signal}
-use Rattle.netlist.specs.Fixpoint.{wire, fix, fix_gates}
-use Rattle.loops.specs.declared.structure.Blocks.{Blocks}
-use Rattle.loops.specs.Blocks.{AreBlocksOf}
-use Rattle.loops.specs.Sweeps.{first_gate}
+use Rattle.simulation.proofs.Common.{cases_lt, cases_eq, get_or-set_same, get_or-set_other, Sig, Trit, X, Parts, count, gate_sig, wire, fix, fix_gates, Blocks, AreBlocksOf, first_gate, AreSettled, vector_of}
+use Rattle.std.proofs.lemmas.List.{get_or-take, length-append, get_or_append_left, get_or-append_right, ext_get_or, take-set-le}
+use Rattle.netlist.specs.Netlists.{signal}
 use Rattle.netlist.proofs.FixpointLemmas.{length-steps}
-use Rattle.simulation.specs.Standing.{AreSettled, vector_of}
 use Rattle.simulation.proofs.PinLemmas.{signal_cases, length-vector, wire-vector, wire-input}
 
 -- the signals from this number on have the first k of these values, and those before are as they were

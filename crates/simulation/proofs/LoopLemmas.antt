@@ -1,28 +1,19 @@
 -- A loop rises from all unknown to the fixpoint.
 use Rattle.std.proofs.Common.{◌≡◌, ◌≢◌, inl, inr, ℕ, zero, suc, ◌+◌, ◌*◌, ◌<◌, ◌≤◌, ◌==◌, Bool, true, false, cond, List, [], ◌∷◌, ◌++◌, length, filter, get_or, set, refl, ap, sym, ◌∙◌, subst, arith, Contains, eq-eqb}
-use Rattle.std.proofs.lemmas.Bool.{cases_lt, cases_eq, eqb-true}
-use Rattle.std.proofs.lemmas.List.{get_or-set_same, get_or-set_other, length-append}
+use Rattle.simulation.proofs.Common.{cases_lt, cases_eq, eqb-true, get_or-set_same, get_or-set_other, Sig, Trit, X, Below, Parts, gate_at, gate_sig, wire, gate_value, fix, fix_gates, home_of, first_gate, readers_of, AreKept, AreSettled, is_due, vector_of, IsRising, work_left}
+use Rattle.std.proofs.lemmas.List.{length-append}
 use Rattle.std.proofs.lemmas.List.Elements.{Contains-append_left, Contains-append_right}
 use Rattle.std.specs.declared.option.Option.{Option}
 use Rattle.std.specs.Prelude.{Some, None}
-use Rattle.cyc_base.specs.declared.sig.Sig.{Sig}
-use Rattle.cyc_base.specs.declared.trit.Trit.{Trit}
-use Rattle.cyc_base.specs.declared.trit.Trit.TheVariants.{Zero, One, X}
-use Rattle.cyc_base.specs.Values.{Below}
+use Rattle.cyc_base.specs.declared.trit.Trit.TheVariants.{Zero, One}
 use Rattle.cyc_base.proofs.OrderLemmas.{Below-refl}
 use Rattle.cover_logic.specs.Extensions.{ext}
-use Rattle.netlist.specs.declared.parts.Parts.{Parts}
-use Rattle.netlist.specs.Netlists.{gate_at, gate_sig}
-use Rattle.netlist.specs.Fixpoint.{wire, gate_value, fix, fix_gates}
-use Rattle.loops.specs.Blocks.{home_of}
-use Rattle.loops.specs.Sweeps.{first_gate}
 use Rattle.loops.proofs.Reading.{Contains-filter, Contains-filter_from}
 use Rattle.ternary_run.specs.Settling.{Determines, IsNewValue}
 use Rattle.simulation.proofs.ListLemmas.{Contains-cases, Contains-nothing, Contains-there, append_cases, reads_or_same}
 use Rattle.simulation.specs.declared.plan.Plan.{Plan}
-use Rattle.simulation.specs.Plans.{IsPlanOf, readers_of}
-use Rattle.simulation.specs.Standing.{AreKept, AreSettled, is_due, vector_of}
-use Rattle.simulation.specs.Rising.{IsRising, readers_inside, unknown_values, count_reads, work_left}
+use Rattle.simulation.specs.Plans.{IsPlanOf}
+use Rattle.simulation.specs.Rising.{readers_inside, unknown_values, count_reads}
 use Rattle.simulation.proofs.PinLemmas.{value_below, signal_cases, pin_within, pin-before, wire-input, fix-gate, length-vector, wire-vector}
 use Rattle.simulation.proofs.BlockLemmas.{block_settled}
 use Rattle.simulation.proofs.LoadLemmas.{vector-set}

@@ -1,16 +1,9 @@
 -- Where a signal changes, its readers' blocks become due, and all other blocks stand as before.
 use Rattle.std.proofs.Common.{◌≡◌, ◌≢◌, inl, inr, ℕ, ◌+◌, ◌<◌, Bool, true, false, List, length, get_or, set, refl, ap, sym, ◌∙◌, arith, Contains, true≢false}
-use Rattle.std.proofs.lemmas.Bool.{cases_lt, cases_eq, cases_Bool}
-use Rattle.std.proofs.lemmas.List.{get_or-set_same, get_or-set_other, get_or_past, length-set, set-get_or}
-use Rattle.cyc_base.specs.declared.sig.Sig.{Sig}
-use Rattle.cyc_base.specs.declared.trit.Trit.{Trit}
-use Rattle.cyc_base.specs.declared.trit.Trit.TheVariants.{X}
-use Rattle.netlist.specs.declared.parts.Parts.{Parts}
-use Rattle.netlist.specs.Netlists.{gate_sig}
-use Rattle.loops.specs.declared.structure.Blocks.{Blocks}
-use Rattle.loops.specs.Blocks.{home_of}
-use Rattle.simulation.specs.Plans.{readers_of, AreReadersOf}
-use Rattle.simulation.specs.Standing.{AreKept, is_due}
+use Rattle.simulation.proofs.Common.{cases_lt, cases_eq, get_or-set_same, get_or-set_other, get_or_past, length-set, Sig, Trit, X, Parts, gate_sig, Blocks, home_of, readers_of, AreKept, is_due}
+use Rattle.std.proofs.lemmas.Bool.{cases_Bool}
+use Rattle.std.proofs.lemmas.List.{set-get_or}
+use Rattle.simulation.specs.Plans.{AreReadersOf}
 use Rattle.simulation.specs.Marking.{AreMarked, StayDue}
 
 due_here : (due : List Bool) (p : ℕ) → is_due (set due p true) p ≡ true

@@ -1,22 +1,14 @@
 -- What a gate reads: inputs, latches, and gates of its block or of blocks before it.
 use Rattle.std.proofs.Common.{◌≡◌, ◌⊎◌, inl, inr, ℕ, zero, suc, ◌+◌, ◌-◌, ◌<◌, ◌≤◌, List, [], ◌∷◌, length, map, get_or, ap, sym, ◌∙◌, subst, arith, Contains}
-use Rattle.std.proofs.lemmas.Bool.{cases_lt}
-use Rattle.std.proofs.lemmas.List.{get_or_append_left, get_or-append-add, get_or_default, get_or-take, length-take-le}
-use Rattle.cyc_base.specs.declared.sig.Sig.{Sig}
-use Rattle.cyc_base.specs.declared.trit.Trit.{Trit}
-use Rattle.cyc_base.specs.declared.trit.Trit.TheVariants.{X}
-use Rattle.cyc_base.specs.Values.{Below, EachBelow}
+use Rattle.simulation.proofs.Common.{cases_lt, get_or_default, Sig, Trit, X, Below, Parts, IsNetlist, count, gate_at, gate_sig, wire, gate_value, fix, fix_gates, Blocks, AreBlocksOf, home_of, first_gate, vector_of}
+use Rattle.std.proofs.lemmas.List.{get_or_append_left, get_or-append-add, get_or-take, length-take-le}
+use Rattle.cyc_base.specs.Values.{EachBelow}
 use Rattle.cover_logic.specs.Extensions.{ext}
 use Rattle.cover_logic.proofs.ExtensionLemmas.{ext_is_monotone}
 use Rattle.netlist.specs.declared.parts.Gate.{Gate}
-use Rattle.netlist.specs.declared.parts.Parts.{Parts}
-use Rattle.netlist.specs.Netlists.{IsNetlist, count, gate_at, gate_sig, no_gate}
-use Rattle.netlist.specs.Fixpoint.{wires, wire, gate_value, fix, fix_gates}
-use Rattle.loops.specs.declared.structure.Blocks.{Blocks}
-use Rattle.loops.specs.Blocks.{AreBlocksOf, home_of}
-use Rattle.loops.specs.Sweeps.{first_gate}
+use Rattle.netlist.specs.Netlists.{no_gate}
+use Rattle.netlist.specs.Fixpoint.{wires}
 use Rattle.loops.proofs.Reading.{get_or-fix, map_agree}
-use Rattle.simulation.specs.Standing.{vector_of}
 
 pub contains_at : {A : Type 0} (xs : List A) (k : ℕ) (d : A) → k < length xs → Contains xs (get_or xs k d)
 contains_at xs k d l = (k, l, get_or_default xs k (get_or xs k d) d l)

@@ -1,13 +1,9 @@
 -- The readers of signals, gate by gate and pin by pin.
 use Rattle.std.proofs.Common.{◌≡◌, inl, inr, ℕ, ◌+◌, ◌<◌, List, [], ◌∷◌, ◌++◌, length, replicate, get_or, set, refl, sym, ◌∙◌, subst, arith, Contains}
-use Rattle.std.proofs.lemmas.Bool.{cases_lt, cases_eq}
-use Rattle.std.proofs.lemmas.List.{get_or-set_same, get_or-set_other, get_or-replicate, get_or_past, get_or_default, length-set, length-replicate}
+use Rattle.simulation.proofs.Common.{cases_lt, cases_eq, get_or-set_same, get_or-set_other, get_or_past, get_or_default, length-set, Sig, Parts, count, gate_at, readers_of, AreListed}
+use Rattle.std.proofs.lemmas.List.{get_or-replicate, length-replicate}
 use Rattle.std.proofs.lemmas.List.Elements.{Contains-append_left, Contains-append_right}
-use Rattle.cyc_base.specs.declared.sig.Sig.{Sig}
-use Rattle.netlist.specs.declared.parts.Parts.{Parts}
-use Rattle.netlist.specs.Netlists.{count, gate_at}
-use Rattle.simulation.specs.Plans.{AreReadersOf, readers_of}
-use Rattle.simulation.specs.Listing.{AreListed}
+use Rattle.simulation.specs.Plans.{AreReadersOf}
 use Rattle.simulation.proofs.PinLemmas.{contains_at}
 use Rattle.simulation.proofs.ListLemmas.{Contains-here, Contains-cases, Contains-nothing, append_cases}
 

@@ -17,8 +17,10 @@ fn is_of_shaking(net: &Netlist, plan: &StormPlan, s: Sig) -> bool
     requires fits { FitsRound net.now plan.now }
     ensures { result ≡ is_of_shaking net.now plan.now s }
 {
-    let given = net.inputs() + net.latches();
-    s.0 >= given && plan.shaking.items()[(s.0 - given) as usize]
+    match net.driver(s) {
+        Some(gate) => plan.shaking.items()[gate as usize],
+        None => false,
+    }
 }
 
 /// The age with which a pin on a signal sees this value.

@@ -1,6 +1,5 @@
 ghost use Rattle.std.specs.Prelude.{◌≡◌, ◌<◌, ◌+◌, length, map, All, IfOk};
 ghost use Rattle.std.specs.List.{list_any};
-ghost use Rattle.cyc_base.specs.Values.{bits};
 ghost use Rattle.netlist.specs.Netlists.{count};
 ghost use Rattle.netlist.specs.Fixpoint.{wire};
 ghost use Rattle.storm.specs.Building.{AreFixed};
@@ -10,7 +9,7 @@ use crate::least::least_completion;
 use cyc_base::{Bits, Items, Sig, Trit};
 use netlist::Netlist;
 use std::alloc::{AllocError, Global};
-use ternary_run::settle;
+use ternary_run::settle_at;
 
 /// What a storm needs of a vector. Each list has an entry for each gate, in flat order.
 #[derive(Debug)]
@@ -128,13 +127,6 @@ fn any_shakes(shaking: &[bool]) -> bool
     shaking.iter().any(|shakes| *shakes)
 }
 
-/// A vector as ternary values.
-fn trits_of(alloc: Global, v: &[bool]) -> Result<Vec<Trit>, AllocError>
-    ensures { IfOk result (λ list. list.items ≡ bits v.now) }
-{
-    v.iter().map(|b| Trit::of(*b)).collect(alloc)
-}
-
 /// The plan where these are the values of all signals in the fixpoint.
 fn plan_of(alloc: Global, net: &Netlist, values: &[Trit]) -> Result<StormPlan, AllocError>
     requires { AreFixed net.now values.now }
@@ -158,8 +150,7 @@ pub fn plan(alloc: Global, net: &Netlist, v: &[bool]) -> Result<Option<StormPlan
     requires { length v.now ≡ length net.now.inputs + length net.now.latches }
     ensures { IfOk result (λ plan. plan ≡ storm_plan net.now v.now) }
 {
-    let given = trits_of(alloc, v)?;
-    let values = settle(alloc, net, &given)?;
+    let values = settle_at(alloc, net, v)?;
     let plan = plan_of(alloc, net, &values)?;
     if any_shakes(plan.shaking.items()) {
         Ok(Some(plan))

@@ -6,12 +6,13 @@ use Rattle.std.proofs.lemmas.List.{get_or_past, get_or_default, take_more}
 use Rattle.std.proofs.lemmas.List.FromFn.{get_or-map-range_with_len}
 use Rattle.std.proofs.lemmas.List.Elements.{Contains-get_or}
 use Rattle.std.specs.List.{range_with_len}
-use Rattle.netlist.specs.Netlists.{IsNetlist}
 use Rattle.netlist.specs.Fixpoint.{fix}
+use Rattle.netlist.specs.Netlists.{IsNetlist, count}
 use Rattle.loops.specs.declared.structure.Blocks.{Blocks}
 use Rattle.loops.specs.declared.structure.Cut.{Cut}
 use Rattle.loops.specs.Blocks.{AreBlocksOf, block_at, home_of}
 use Rattle.loops.specs.Cuts.{IsCutOf, in_one_loop, loops_by}
+use Rattle.loops.specs.Looped.{Looped, IsLooped}
 use Rattle.loops.specs.Placing.{Rise}
 use Rattle.loops.specs.Sweeps.{in_loop_of, pin_in, gate_in, sweep}
 use Rattle.loops.proofs.OrderedSweeps.{sweep_of_one_loop}
@@ -19,7 +20,7 @@ use Rattle.loops.proofs.OrderLemmas.{block_rises, block_within}
 use Rattle.loops.proofs.Sweeps.{sweep_each}
 use Rattle.loops.proofs.Told.{blocks_tell_loops, blocks_have_loops, gate_home}
 use Rattle.ternary_clauses.specs.Rails.{rails_at, unknown_rails}
-use Rattle.ternary_clauses.specs.Sweeps.{ReadsPlaces, ReadsOutside, SaysSweep, HasCopies, ReadsSeen, value_seen, BindsCopy, AreCopied}
+use Rattle.ternary_clauses.specs.Sweeps.{ReadsPlaces, ReadsOutside, SaysSweep, HasCopies, CopiedLoop, IsCopiedLoop, IsCopyWithin, IsCopyOf, ReadsSeen, value_seen, BindsCopy, AreCopied}
 use Rattle.ternary_clauses.proofs.ClauseLemmas.{get_or-after}
 use Rattle.ternary_clauses.proofs.NodeLemmas.{whole-wire, wire-read, wire-holds, Reads-unique}
 use Rattle.ternary_clauses.proofs.MoreLemmas.{wire-more}
@@ -97,49 +98,49 @@ module _ (start old new : Formula) (copies : List Rails) (k : ℕ) (r : Rails) (
 
 -- ---- what gates see
 
-seen-read : (net : Parts) (gates : List ℕ) (cut : ℕ → Bool) (rails before after : List Rails) (m : List Bool) (see : Sig → Trit) (pins : List Sig) (seen : List Rails) → All (λ pin. (r : Rails) → IsSeen net gates cut rails before after pin r → Reads m r (see pin)) pins → AllZip (IsSeen net gates cut rails before after) pins seen → ReadsAll m seen (map see pins)
-seen-read net gates cut rails before after m see [] [] all zip = tt
-seen-read net gates cut rails before after m see [] (r ∷ seen) all zip = absurd zip
-seen-read net gates cut rails before after m see (pin ∷ pins) [] all zip = absurd zip
-seen-read net gates cut rails before after m see (pin ∷ pins) (r ∷ seen) all zip = (
-  All-head (λ p. (r : Rails) → IsSeen net gates cut rails before after p r → Reads m r (see p)) pin pins all r zip.0,
-  seen-read net gates cut rails before after m see pins seen (All-tail (λ p. (r : Rails) → IsSeen net gates cut rails before after p r → Reads m r (see p)) pin pins all) zip.1,
+seen-read : (c : CopiedLoop) (m : List Bool) (see : Sig → Trit) (pins : List Sig) (seen : List Rails) → All (λ pin. (r : Rails) → IsSeen c pin r → Reads m r (see pin)) pins → AllZip (IsSeen c) pins seen → ReadsAll m seen (map see pins)
+seen-read c m see [] [] all zip = tt
+seen-read c m see [] (r ∷ seen) all zip = absurd zip
+seen-read c m see (pin ∷ pins) [] all zip = absurd zip
+seen-read c m see (pin ∷ pins) (r ∷ seen) all zip = (
+  All-head (λ p. (r : Rails) → IsSeen c p r → Reads m r (see p)) pin pins all r zip.0,
+  seen-read c m see pins seen (All-tail (λ p. (r : Rails) → IsSeen c p r → Reads m r (see p)) pin pins all) zip.1,
 )
 
-pub seen-push : (net : Parts) (gates : List ℕ) (cut : ℕ → Bool) (rails before after : List Rails) (pins : List Sig) (seen : List Rails) (pin : Sig) (r : Rails) → AllZip (IsSeen net gates cut rails before after) pins seen → IsSeen net gates cut rails before after pin r → AllZip (IsSeen net gates cut rails before after) (pins ++ pin ∷ []) (seen ++ r ∷ [])
-seen-push net gates cut rails before after [] [] pin r zip is = (is, tt)
-seen-push net gates cut rails before after [] (s ∷ seen) pin r zip is = absurd zip
-seen-push net gates cut rails before after (p ∷ pins) [] pin r zip is = absurd zip
-seen-push net gates cut rails before after (p ∷ pins) (s ∷ seen) pin r zip is = (zip.0, seen-push net gates cut rails before after pins seen pin r zip.1 is)
+pub seen-push : (c : CopiedLoop) (pins : List Sig) (seen : List Rails) (pin : Sig) (r : Rails) → AllZip (IsSeen c) pins seen → IsSeen c pin r → AllZip (IsSeen c) (pins ++ pin ∷ []) (seen ++ r ∷ [])
+seen-push c [] [] pin r zip is = (is, tt)
+seen-push c [] (s ∷ seen) pin r zip is = absurd zip
+seen-push c (p ∷ pins) [] pin r zip is = absurd zip
+seen-push c (p ∷ pins) (s ∷ seen) pin r zip is = (zip.0, seen-push c pins seen pin r zip.1 is)
 
 -- one pin more
-pub seen-step : (net : Parts) (gates : List ℕ) (cut : ℕ → Bool) (rails before after : List Rails) (pins : List Sig) (i : ℕ) (none : Sig) (seen more : List Rails) (r : Rails) → i < length pins → more ≡ seen ++ r ∷ []
-    → AllZip (IsSeen net gates cut rails before after) (take i pins) seen → IsSeen net gates cut rails before after (get_or pins i none) r → AllZip (IsSeen net gates cut rails before after) (take (i + 1) pins) more
-seen-step net gates cut rails before after pins i none seen more r inside items zip is =
-    subst (λ (ps : List Sig). AllZip (IsSeen net gates cut rails before after) ps more) (sym (take_more pins i none inside))
-    (subst (λ (rs : List Rails). AllZip (IsSeen net gates cut rails before after) (take i pins ++ get_or pins i none ∷ []) rs) (sym items) (seen-push net gates cut rails before after (take i pins) seen (get_or pins i none) r zip is))
+pub seen-step : (c : CopiedLoop) (pins : List Sig) (i : ℕ) (none : Sig) (seen more : List Rails) (r : Rails) → i < length pins → more ≡ seen ++ r ∷ []
+    → AllZip (IsSeen c) (take i pins) seen → IsSeen c (get_or pins i none) r → AllZip (IsSeen c) (take (i + 1) pins) more
+seen-step c pins i none seen more r inside items zip is =
+    subst (λ (ps : List Sig). AllZip (IsSeen c) ps more) (sym (take_more pins i none inside))
+    (subst (λ (rs : List Rails). AllZip (IsSeen c) (take i pins ++ get_or pins i none ∷ []) rs) (sym items) (seen-push c (take i pins) seen (get_or pins i none) r zip is))
 
-pub seen-length : (net : Parts) (gates : List ℕ) (cut : ℕ → Bool) (rails before after : List Rails) (pins : List Sig) (seen : List Rails) → AllZip (IsSeen net gates cut rails before after) pins seen → length seen ≡ length pins
-seen-length net gates cut rails before after [] [] zip = refl
-seen-length net gates cut rails before after [] (r ∷ seen) zip = absurd zip
-seen-length net gates cut rails before after (pin ∷ pins) [] zip = absurd zip
-seen-length net gates cut rails before after (pin ∷ pins) (r ∷ seen) zip = ap suc (seen-length net gates cut rails before after pins seen zip.1)
+pub seen-length : (c : CopiedLoop) (pins : List Sig) (seen : List Rails) → AllZip (IsSeen c) pins seen → length seen ≡ length pins
+seen-length c [] [] zip = refl
+seen-length c [] (r ∷ seen) zip = absurd zip
+seen-length c (pin ∷ pins) [] zip = absurd zip
+seen-length c (pin ∷ pins) (r ∷ seen) zip = ap suc (seen-length c pins seen zip.1)
 
 -- ---- copies that are bound
 
-pub copied-none : (net : Parts) (gates : List ℕ) (cut : ℕ → Bool) (rails before after : List Rails) (f : Formula) → IsFormula f → AreCopied net gates cut rails before after f f 0
-copied-none net gates cut rails before after f formula = record {
+pub copied-none : (c : CopiedLoop) (f : Formula) → IsFormula f → AreCopied c f f 0
+copied-none c f formula = record {
   grows = Grows-refl f formula;
   reads = λ m see h reads i less. absurd (omega (arith, less));
   complete = λ m see len h reads still. model-here f m len h;
 }
 
 -- values of further variables change nothing of what rails are read as
-Seen-more : (net : Parts) (gates : List ℕ) (cut : ℕ → Bool) (rails before after : List Rails) (m more : List Bool) (see : ℕ → Sig → Trit) → ((pin : Sig) (r : Rails) → IsSeen net gates cut rails before after pin r → AreWithin (length m) r) → ReadsSeen net gates cut rails before after m see → ReadsSeen net gates cut rails before after (m ++ more) see
-Seen-more net gates cut rails before after m more see inside reads i less = by (gate_at net (get_or gates i 0)).pins (reads i less)
+Seen-more : (c : CopiedLoop) (m more : List Bool) (see : ℕ → Sig → Trit) → ((pin : Sig) (r : Rails) → IsSeen c pin r → AreWithin (length m) r) → ReadsSeen c m see → ReadsSeen c (m ++ more) see
+Seen-more c m more see inside reads i less = by (gate_at c.net (get_or c.gates i 0)).pins (reads i less)
   where
-    by : (pins : List Sig) → All (λ pin. (r : Rails) → IsSeen net gates cut rails before after pin r → Reads m r (see i pin)) pins → All (λ pin. (r : Rails) → IsSeen net gates cut rails before after pin r → Reads (m ++ more) r (see i pin)) pins
-    by pins all = All-weaker (λ pin. (r : Rails) → IsSeen net gates cut rails before after pin r → Reads m r (see i pin)) (λ pin. (r : Rails) → IsSeen net gates cut rails before after pin r → Reads (m ++ more) r (see i pin)) (λ pin here r is. Reads-more m more r (see i pin) (inside pin r is) (here r is)) pins all
+    by : (pins : List Sig) → All (λ pin. (r : Rails) → IsSeen c pin r → Reads m r (see i pin)) pins → All (λ pin. (r : Rails) → IsSeen c pin r → Reads (m ++ more) r (see i pin)) pins
+    by pins all = All-weaker (λ pin. (r : Rails) → IsSeen c pin r → Reads m r (see i pin)) (λ pin. (r : Rails) → IsSeen c pin r → Reads (m ++ more) r (see i pin)) (λ pin here r is. Reads-more m more r (see i pin) (inside pin r is) (here r is)) pins all
 
 rails-in : (v : ℕ) (xs : List Rails) (i : ℕ) → 0 < v → All (AreWithin v) xs → AreWithin v (get_or xs i no_rails)
 rails-in v xs i some all = elim (cases_lt i (length xs)) [
@@ -147,43 +148,53 @@ rails-in v xs i some all = elim (cases_lt i (length xs)) [
   | inr high ↦ subst (AreWithin v) (sym (get_or_past xs i no_rails high)) (record { one = omega (arith, some); zero = omega (arith, some); known = omega (arith, some) })
 ]
 
-seen-within : (net : Parts) (gates : List ℕ) (cut : ℕ → Bool) (rails before after : List Rails) (v : ℕ) → 0 < v → All (AreWithin v) rails → All (AreWithin v) before → All (AreWithin v) after → (pin : Sig) (r : Rails) → IsSeen net gates cut rails before after pin r → AreWithin v r
-seen-within net gates cut rails before after v some a b c pin r (inl out) = subst (AreWithin v) (sym out.is) (rails-in v rails pin.0 some a)
-seen-within net gates cut rails before after v some a b c pin r (inr one) = subst (AreWithin v) (sym one.is) (by (cut (gate_of net pin)))
+seen-within : (c : CopiedLoop) (v : ℕ) → 0 < v → IsCopyWithin v c → (pin : Sig) (r : Rails) → IsSeen c pin r → AreWithin v r
+seen-within c v some within pin r (inl out) = subst (AreWithin v) (sym out.is) (rails-in v c.rails pin.0 some within.rails)
+seen-within c v some within pin r (inr one) = subst (AreWithin v) (sym one.is) (by (is_cut c.cut (gate_of c.net pin)))
   where
-    by : (x : Bool) → AreWithin v (if x then rails_at before one.place else rails_at after one.place)
-    by true = rails-in v before one.place some b
-    by false = rails-in v after one.place some c
+    by : (x : Bool) → AreWithin v (if x then rails_at c.before one.place else rails_at c.after one.place)
+    by true = rails-in v c.before one.place some within.before
+    by false = rails-in v c.after one.place some within.after
 
-module _ (net : Parts) (proper : IsNetlist net) (gates : List ℕ) (cut : ℕ → Bool) (rails before after : List Rails) (start old new : Formula) (k : ℕ) (inside : k < length gates) (is_gate : get_or gates k 0 < length net.gates)
-    (rails_in : All (AreWithin start.variables) rails) (before_in : All (AreWithin start.variables) before) (after_in : All (AreWithin start.variables) after) (some : 0 < start.variables)
-    (was : AreCopied net gates cut rails before after start old k) (bound : BindsCopy net gates cut rails before after k old new) where
-  pin-width : (see : ℕ → Sig → Trit) → length (map (see k) (gate_at net (get_or gates k 0)).pins) ≡ (gate_at net (get_or gates k 0)).cover.pins
-  pin-width see = length-map (gate_at net (get_or gates k 0)).pins (see k) ∙ All-get_or (λ (g : Gate). length g.pins ≡ g.cover.pins) net.gates (get_or gates k 0) no_gate is_gate proper.pin_counts
+-- rails of a formula are those of one that it grew to
+pub copy-kept : (c : CopiedLoop) (old new : Formula) → Grows old new → IsCopyOf old c → IsCopyOf new c
+copy-kept c old new grows is = record {
+  formula = grows.formula;
+  within = record {
+    rails = All-within-more old.variables new.variables c.rails grows.more is.within.rails;
+    before = All-within-more old.variables new.variables c.before grows.more is.within.before;
+    after = All-within-more old.variables new.variables c.after grows.more is.within.after;
+  };
+  own = λ i inside. rails-kept grows (is.own i inside);
+}
 
-  pins-seen : (m : List Bool) (see : ℕ → Sig → Trit) → ReadsSeen net gates cut rails before after m see → ReadsAll m bound.pins (map (see k) (gate_at net (get_or gates k 0)).pins)
-  pins-seen m see reads = seen-read net gates cut rails before after m (see k) (gate_at net (get_or gates k 0)).pins bound.pins (reads k inside) bound.seen
+module _ (c : CopiedLoop) (valid : IsNetlist c.net) (proper : IsCopiedLoop c) (start old new : Formula) (k : ℕ) (inside : k < length c.gates) (is : IsCopyOf start c) (was : AreCopied c start old k) (bound : BindsCopy c k old new) where
+  pin-width : (see : ℕ → Sig → Trit) → length (map (see k) (gate_at c.net (get_or c.gates k 0)).pins) ≡ (gate_at c.net (get_or c.gates k 0)).cover.pins
+  pin-width see = length-map (gate_at c.net (get_or c.gates k 0)).pins (see k) ∙ All-get_or (λ (g : Gate). length g.pins ≡ g.cover.pins) c.net.gates (get_or c.gates k 0) no_gate (proper.inside k inside) valid.pin_counts
 
-  pub copied-step : AreCopied net gates cut rails before after start new (k + 1)
+  pins-seen : (m : List Bool) (see : ℕ → Sig → Trit) → ReadsSeen c m see → ReadsAll m bound.pins (map (see k) (gate_at c.net (get_or c.gates k 0)).pins)
+  pins-seen m see reads = seen-read c m (see k) (gate_at c.net (get_or c.gates k 0)).pins bound.pins (reads k inside) bound.seen
+
+  pub copied-step : AreCopied c start new (k + 1)
   copied-step = record {
     grows = Grows-chain was.grows bound.says_gate.grows;
     reads = λ m see h reads i below. at m see h reads i below (cases_lt i k);
     complete = λ m see len h reads still.
         let had : HasModelFrom old m = was.complete m see len h reads still in
-        let within : (pin : Sig) (r : Rails) → IsSeen net gates cut rails before after pin r → AreWithin (length m) r = subst (λ l. (pin : Sig) (r : Rails) → IsSeen net gates cut rails before after pin r → AreWithin l r) (sym len) (seen-within net gates cut rails before after start.variables some rails_in before_in after_in) in
-        let own : AreWithin (length m) (rails_at after k) = subst (λ l. AreWithin l (rails_at after k)) (sym len) (rails-in start.variables after k some after_in) in
+        let within : (pin : Sig) (r : Rails) → IsSeen c pin r → AreWithin (length m) r = subst (λ l. (pin : Sig) (r : Rails) → IsSeen c pin r → AreWithin l r) (sym len) (seen-within c start.variables is.formula.some is.within) in
+        let own : AreWithin (length m) (rails_at c.after k) = subst (λ l. AreWithin l (rails_at c.after k)) (sym len) (rails-in start.variables c.after k is.formula.some is.within.after) in
         model-after new m had.more
-        (bound.says_gate.complete (m ++ had.more) (map (see k) (gate_at net (get_or gates k 0)).pins) (pin-width see) had.width had.model
-        (pins-seen (m ++ had.more) see (Seen-more net gates cut rails before after m had.more see within reads))
-        (Reads-more m had.more (rails_at after k) (value_seen net gates see k) own (still k inside)));
+        (bound.says_gate.complete (m ++ had.more) (map (see k) (gate_at c.net (get_or c.gates k 0)).pins) (pin-width see) had.width had.model
+        (pins-seen (m ++ had.more) see (Seen-more c m had.more see within reads))
+        (Reads-more m had.more (rails_at c.after k) (value_seen c see k) own (still k inside)));
   }
     where
-      at : (m : List Bool) (see : ℕ → Sig → Trit) → IsModel m new → ReadsSeen net gates cut rails before after m see → (i : ℕ) → i < k + 1 → (i < k) ⊎ (k ≤ i) → Reads m (rails_at after i) (value_seen net gates see i)
+      at : (m : List Bool) (see : ℕ → Sig → Trit) → IsModel m new → ReadsSeen c m see → (i : ℕ) → i < k + 1 → (i < k) ⊎ (k ≤ i) → Reads m (rails_at c.after i) (value_seen c see i)
       at m see h reads i below (inl low) = was.reads m see (bound.says_gate.grows.sound m h) reads i low
       at m see h reads i below (inr high) =
           let here : k ≡ i = omega (arith, below, high) in
-          subst (λ j. Reads m (rails_at after j) (value_seen net gates see j)) here
-          (bound.says_gate.reads m (map (see k) (gate_at net (get_or gates k 0)).pins) (pin-width see) h (pins-seen m see reads))
+          subst (λ j. Reads m (rails_at c.after j) (value_seen c see j)) here
+          (bound.says_gate.reads m (map (see k) (gate_at c.net (get_or c.gates k 0)).pins) (pin-width see) h (pins-seen m see reads))
 
 -- ---- a whole sweep
 
@@ -213,6 +224,34 @@ copy-at m (g ∷ gates) (r ∷ rs) (suc i) rise size less =
     let other : (g == get_or gates i 0) ≡ false = differ g (get_or gates i 0) above in
     ap (λ b. if b then value_read m r else copy_value m gates rs (get_or gates i 0)) other ∙ copy-at m gates rs i (rise-tail g gates rise) (omega (arith, size)) (omega (arith, less))
 
+abbrev pub copy_of : Parts → (gates : List ℕ) (cut : List Bool) (rails before after : List Rails) → CopiedLoop
+copy_of net gates cut rails before after = record { net = net; gates = gates; cut = cut; rails = rails; before = before; after = after }
+
+-- the copy of the loop at a place of the blocks
+abbrev pub loop_copy : Parts → Blocks → Cut → ℕ → (rails before after : List Rails) → CopiedLoop
+loop_copy net blocks cut block rails before after = copy_of net (block_at blocks block).gates cut.wires rails before after
+
+pub copy-is : (looped : Looped) (block : ℕ) (rails before after : List Rails) (net : Parts) (gates : List ℕ) (cut : List Bool) (copies : List Rails)
+    → net ≡ looped.net → gates ≡ (block_at looped.blocks block).gates → cut ≡ looped.cut.wires → copies ≡ after
+    → copy_of net gates cut rails before copies ≡ loop_copy looped.net looped.blocks looped.cut block rails before after
+copy-is looped block rails before after net gates cut copies same_net same_gates same_cut same_copies =
+    ap (λ (n : Parts). copy_of n gates cut rails before copies) same_net
+    ∙ ap (λ (gs : List ℕ). copy_of looped.net gs cut rails before copies) same_gates
+    ∙ ap (λ (ws : List Bool). copy_of looped.net (block_at looped.blocks block).gates ws rails before copies) same_cut
+    ∙ ap (λ (rs : List Rails). copy_of looped.net (block_at looped.blocks block).gates looped.cut.wires rails before rs) same_copies
+
+pub copy-proper : (looped : Looped) → IsLooped looped → (block : ℕ) → block < length looped.blocks.list → (rails before after : List Rails) → length rails ≡ count looped.net
+    → length before ≡ length (block_at looped.blocks block).gates → length after ≡ length (block_at looped.blocks block).gates
+    → IsCopiedLoop (loop_copy looped.net looped.blocks looped.cut block rails before after)
+copy-proper looped is block bl rails before after rails_size before_size after_size = record {
+  rise = block_rises looped.net looped.blocks is.blocks block bl;
+  inside = block_within looped.net looped.blocks is.blocks block bl;
+  cut = is.cut.width;
+  rails = rails_size;
+  before = before_size;
+  after = after_size;
+}
+
 module _ (net : Parts) (blocks : Blocks) (are : AreBlocksOf net blocks) (cut : Cut) (cut_is : IsCutOf net cut) (block : ℕ) (bl : block < length blocks.list) (looped : (block_at blocks block).looped ≡ true) where
   home-looped : (n : ℕ) → home_of blocks n ≡ block → (block_at blocks (home_of blocks n)).looped ≡ true
   home-looped n home = subst (λ b. (block_at blocks b).looped ≡ true) (sym home) looped
@@ -229,7 +268,7 @@ module _ (net : Parts) (blocks : Blocks) (are : AreBlocksOf net blocks) (cut : C
 
   module _ (rails before after : List Rails) (m : List Bool) (v c s : List Trit) (outside : ReadsOutside net (loops_by blocks cut) (block_at blocks block).gates rails m v)
       (reads_before : ReadsPlaces (block_at blocks block).gates before m c) (reads_after : ReadsPlaces (block_at blocks block).gates after m s) where
-    see-one : (n : ℕ) → Contains (block_at blocks block).gates n → (pin : Sig) (r : Rails) → IsSeen net (block_at blocks block).gates (is_cut cut.wires) rails before after pin r → (in_loop_of net (loops_by blocks cut) n pin ≡ false → Reads m (rails_at rails pin.0) (wire (fix net v) pin)) → Reads m r (pin_in net (loops_by blocks cut) v c s n pin)
+    see-one : (n : ℕ) → Contains (block_at blocks block).gates n → (pin : Sig) (r : Rails) → IsSeen (loop_copy net blocks cut block rails before after) pin r → (in_loop_of net (loops_by blocks cut) n pin ≡ false → Reads m (rails_at rails pin.0) (wire (fix net v) pin)) → Reads m r (pin_in net (loops_by blocks cut) v c s n pin)
     see-one n listed pin r (inl out) at =
         let apart : in_loop_of net (loops_by blocks cut) n pin ≡ false = no-loop (in_loop_of net (loops_by blocks cut) n pin) refl in
         subst (λ (q : Rails). Reads m q (pin_in net (loops_by blocks cut) v c s n pin)) (sym out.is)
@@ -251,16 +290,16 @@ module _ (net : Parts) (blocks : Blocks) (are : AreBlocksOf net blocks) (cut : C
         by true = subst (λ g. Reads m (rails_at before one.place) (value_in c g)) one.here (reads_before one.place one.within)
         by false = subst (λ g. Reads m (rails_at after one.place) (value_in s g)) one.here (reads_after one.place one.within)
 
-    sees : ReadsSeen net (block_at blocks block).gates (is_cut cut.wires) rails before after m (λ i pin. pin_in net (loops_by blocks cut) v c s (get_or (block_at blocks block).gates i 0) pin)
+    sees : ReadsSeen (loop_copy net blocks cut block rails before after) m (λ i pin. pin_in net (loops_by blocks cut) v c s (get_or (block_at blocks block).gates i 0) pin)
     sees i less =
         let n = get_or (block_at blocks block).gates i 0 in
         let listed : Contains (block_at blocks block).gates (get_or (block_at blocks block).gates i 0) = Contains-get_or (block_at blocks block).gates i 0 less in
         All-weaker (λ pin. in_loop_of net (loops_by blocks cut) n pin ≡ false → Reads m (rails_at rails pin.0) (wire (fix net v) pin))
-        (λ pin. (r : Rails) → IsSeen net (block_at blocks block).gates (is_cut cut.wires) rails before after pin r → Reads m r (pin_in net (loops_by blocks cut) v c s n pin))
+        (λ pin. (r : Rails) → IsSeen (loop_copy net blocks cut block rails before after) pin r → Reads m r (pin_in net (loops_by blocks cut) v c s n pin))
         (λ pin at r is. see-one n listed pin r is at) (gate_at net n).pins (outside n listed)
 
   module _ (rails before after : List Rails) (old mid new : Formula) (rails_in : All (AreWithin old.variables) rails) (before_in : All (AreWithin old.variables) before) (some : 0 < old.variables)
-      (copies : AreCopies old mid after (length (block_at blocks block).gates)) (copied : AreCopied net (block_at blocks block).gates (is_cut cut.wires) rails before after mid new (length (block_at blocks block).gates)) where
+      (copies : AreCopies old mid after (length (block_at blocks block).gates)) (copied : AreCopied (loop_copy net blocks cut block rails before after) mid new (length (block_at blocks block).gates)) where
     after-read : (m : List Bool) → IsModel m mid → ReadsPlaces (block_at blocks block).gates after m (map (copy_value m (block_at blocks block).gates after) (range_with_len 0 (length net.gates)))
     after-read m h i less =
         let n = get_or (block_at blocks block).gates i 0 in
@@ -276,7 +315,7 @@ module _ (net : Parts) (blocks : Blocks) (are : AreBlocksOf net blocks) (cut : C
         let listed : Contains (block_at blocks block).gates n = Contains-get_or (block_at blocks block).gates i 0 less in
         let reads : ReadsPlaces (block_at blocks block).gates after m s = after-read m (copied.grows.sound m h) in
         let see : ℕ → Sig → Trit = λ j pin. pin_in net (loops_by blocks cut) v c s (get_or (block_at blocks block).gates j 0) pin in
-        let seen : ReadsSeen net (block_at blocks block).gates (is_cut cut.wires) rails before after m see = sees rails before after m v c s outside reads_before reads in
+        let seen : ReadsSeen (loop_copy net blocks cut block rails before after) m see = sees rails before after m v c s outside reads_before reads in
         let at_place : (j : ℕ) → j < length (block_at blocks block).gates → value_in s (get_or (block_at blocks block).gates j 0) ≡ gate_in net (loops_by blocks cut) v c s (get_or (block_at blocks block).gates j 0) =
         λ j inside. Reads-unique m (rails_at after j) (value_in s (get_or (block_at blocks block).gates j 0)) (gate_in net (loops_by blocks cut) v c s (get_or (block_at blocks block).gates j 0)) (reads j inside) (copied.reads m see h seen j inside) in
         let each : (g : ℕ) → in_one_loop blocks n g ≡ true → value_in s g ≡ gate_in net (loops_by blocks cut) v c s g =
@@ -303,8 +342,8 @@ module _ (net : Parts) (blocks : Blocks) (are : AreBlocksOf net blocks) (cut : C
         let there : ReadsOutside net (loops_by blocks cut) (block_at blocks block).gates rails long v = outside-more m first.more v len outside in
         let early : ReadsPlaces (block_at blocks block).gates before long c = λ i less. Reads-more m first.more (rails_at before i) (value_in c (get_or (block_at blocks block).gates i 0)) (subst (λ l. AreWithin l (rails_at before i)) (sym len) (rails-in old.variables before i some before_in)) (reads_before i less) in
         let see : ℕ → Sig → Trit = λ j pin. pin_in net (loops_by blocks cut) v c s (get_or (block_at blocks block).gates j 0) pin in
-        let seen : ReadsSeen net (block_at blocks block).gates (is_cut cut.wires) rails before after long see = sees rails before after long v c s there early first.reads in
-        let still : (i : ℕ) → i < length (block_at blocks block).gates → Reads long (rails_at after i) (value_seen net (block_at blocks block).gates see i) =
+        let seen : ReadsSeen (loop_copy net blocks cut block rails before after) long see = sees rails before after long v c s there early first.reads in
+        let still : (i : ℕ) → i < length (block_at blocks block).gates → Reads long (rails_at after i) (value_seen (loop_copy net blocks cut block rails before after) see i) =
         λ i less. subst (Reads long (rails_at after i)) (sweep_each net (loops_by blocks cut) v c (get_or (block_at blocks block).gates i 0) (block_within net blocks are block bl i less)) (first.reads i less) in
         model-after new m first.more (copied.complete long see first.width first.model seen still)
 
@@ -318,13 +357,11 @@ module _ (net : Parts) (blocks : Blocks) (are : AreBlocksOf net blocks) (cut : C
     }
 
 -- and of the lists as the code holds them
-pub sweep-made : (net : Parts) (blocks : Blocks) (are : AreBlocksOf net blocks) (cut : Cut) (cut_is : IsCutOf net cut) (block : ℕ) (bl : block < length blocks.list) (looped : (block_at blocks block).looped ≡ true)
-    (rails before after : List Rails) (old mid new : Formula) (gates : List ℕ) (wires : List Bool) (copies : List Rails) → gates ≡ (block_at blocks block).gates → wires ≡ cut.wires → copies ≡ after
+pub sweep-made : (looped : Looped) (is : IsLooped looped) (block : ℕ) (bl : block < length looped.blocks.list) (is_loop : (block_at looped.blocks block).looped ≡ true)
+    (rails before after : List Rails) (old mid new : Formula) (c : CopiedLoop) → c ≡ loop_copy looped.net looped.blocks looped.cut block rails before after
     → All (AreWithin old.variables) rails → All (AreWithin old.variables) before → 0 < old.variables
-    → AreCopies old mid after (length gates) → AreCopied net gates (is_cut wires) rails before copies mid new (length gates) → SaysSweep net (loops_by blocks cut) (block_at blocks block).gates rails before old new after
-sweep-made net blocks are cut cut_is block bl looped rails before after old mid new gates wires copies same same_wires same_copies rails_in before_in some made bound =
-    sweep-says net blocks are cut cut_is block bl looped rails before after old mid new rails_in before_in some
-    (subst (λ (gs : List ℕ). AreCopies old mid after (length gs)) same made)
-    (subst (λ (gs : List ℕ). AreCopied net gs (is_cut cut.wires) rails before after mid new (length gs)) same
-    (subst (λ (ws : List Bool). AreCopied net gates (is_cut ws) rails before after mid new (length gates)) same_wires
-    (subst (λ (rs : List Rails). AreCopied net gates (is_cut wires) rails before rs mid new (length gates)) same_copies bound)))
+    → AreCopies old mid after (length c.gates) → AreCopied c mid new (length c.gates) → SaysSweep looped.net (loops_by looped.blocks looped.cut) (block_at looped.blocks block).gates rails before old new after
+sweep-made looped is block bl is_loop rails before after old mid new c same rails_in before_in some made bound =
+    sweep-says looped.net looped.blocks is.blocks looped.cut is.cut block bl is_loop rails before after old mid new rails_in before_in some
+    (subst (λ (d : CopiedLoop). AreCopies old mid after (length d.gates)) same made)
+    (subst (λ (d : CopiedLoop). AreCopied d mid new (length d.gates)) same bound)

@@ -5,13 +5,14 @@ use Rattle.cyc_base.specs.declared.sig.Sig.{Sig}
 use Rattle.cyc_base.specs.declared.trit.Trit.{Trit}
 use Rattle.cover_logic.specs.Extensions.{ext}
 use Rattle.netlist.specs.declared.parts.Parts.{Parts}
-use Rattle.netlist.specs.Netlists.{gate_at}
+use Rattle.netlist.specs.Netlists.{count, gate_at}
 use Rattle.netlist.specs.Fixpoint.{wire, fix}
-use Rattle.loops.specs.Cuts.{Loops}
+use Rattle.loops.specs.Cuts.{Loops, is_cut}
+use Rattle.loops.specs.Placing.{Rise}
 use Rattle.loops.specs.Sweeps.{first_gate, gate_of, in_loop_of, value_in, sweep}
 use Rattle.ternary_clauses.specs.declared.formula.Formula.{Formula}
 use Rattle.ternary_clauses.specs.declared.formula.Rails.{Rails}
-use Rattle.ternary_clauses.specs.Formulas.{IsModel, HasModelFrom, Grows}
+use Rattle.ternary_clauses.specs.Formulas.{IsFormula, IsModel, HasModelFrom, Grows}
 use Rattle.ternary_clauses.specs.Rails.{Reads, AreWithin, AreRailsOf, rails_at}
 use Rattle.ternary_clauses.specs.Lifts.{SaysGate}
 
@@ -52,42 +53,73 @@ pub record AreCopies (old new : Formula) (copies : List Rails) (k : ℕ) : Type 
   pub own : (i : ℕ) → i < k → AreRailsOf new (rails_at copies i)
   pub complete : (m : List Bool) (values : ℕ → Trit) → length m ≡ old.variables → IsModel m old → HasCopies new copies k m values
 
+-- a loop's gates with the rails of all signals, and their own before a sweep and after it
+pub record CopiedLoop : Type 0 where
+  pub net : Parts
+  pub gates : List ℕ
+  -- marks of the cut wires
+  pub cut : List Bool
+  pub rails : List Rails
+  pub before : List Rails
+  pub after : List Rails
+
+-- the gates are the netlist's, in flat order, and there are rails for each of them and for each signal
+pub record IsCopiedLoop (c : CopiedLoop) : Type 0 where
+  pub rise : Rise c.gates
+  pub inside : (i : ℕ) → i < length c.gates → slice_index c.gates i < length c.net.gates
+  pub cut : length c.cut ≡ length c.net.gates
+  pub rails : length c.rails ≡ count c.net
+  pub before : length c.before ≡ length c.gates
+  pub after : length c.after ≡ length c.gates
+
+-- the rails are literals of the first so many variables
+pub record IsCopyWithin (variables : ℕ) (c : CopiedLoop) : Type 0 where
+  pub rails : All (AreWithin variables) c.rails
+  pub before : All (AreWithin variables) c.before
+  pub after : All (AreWithin variables) c.after
+
+-- they are of the formula, and those after the sweep stand for values in each model
+pub record IsCopyOf (f : Formula) (c : CopiedLoop) : Type 0 where
+  pub formula : IsFormula f
+  pub within : IsCopyWithin f.variables c
+  pub own : (i : ℕ) → i < length c.gates → AreRailsOf f (rails_at c.after i)
+
 -- the rails of a signal that is none of these gates
-pub record IsOutside (net : Parts) (gates : List ℕ) (rails : List Rails) (pin : Sig) (r : Rails) : Type 0 where
-  pub no_gate : first_gate net ≤ pin.0 → ¬ Contains gates (gate_of net pin)
-  pub is : r ≡ rails_at rails pin.0
+pub record IsOutside (c : CopiedLoop) (pin : Sig) (r : Rails) : Type 0 where
+  pub no_gate : first_gate c.net ≤ pin.0 → ¬ Contains c.gates (gate_of c.net pin)
+  pub is : r ≡ rails_at c.rails pin.0
 
 -- the rails of one of these gates: before the sweep if it is a cut wire, and else after it
-pub record IsInside (net : Parts) (gates : List ℕ) (cut : ℕ → Bool) (before after : List Rails) (pin : Sig) (r : Rails) : Type 0 where
-  pub gate : first_gate net ≤ pin.0
+pub record IsInside (c : CopiedLoop) (pin : Sig) (r : Rails) : Type 0 where
+  pub gate : first_gate c.net ≤ pin.0
   pub place : ℕ
-  pub within : place < length gates
-  pub here : slice_index gates place ≡ gate_of net pin
-  pub is : r ≡ (if cut (gate_of net pin) then rails_at before place else rails_at after place)
+  pub within : place < length c.gates
+  pub here : slice_index c.gates place ≡ gate_of c.net pin
+  pub is : r ≡ (if is_cut c.cut (gate_of c.net pin) then rails_at c.before place else rails_at c.after place)
 
 -- what a gate of the loop sees of a signal
-abbrev pub IsSeen : Parts → (gates : List ℕ) (cut : ℕ → Bool) (rails before after : List Rails) → Sig → Rails → Type 0
-IsSeen net gates cut rails before after pin r = IsOutside net gates rails pin r ⊎ IsInside net gates cut before after pin r
+abbrev pub IsSeen : CopiedLoop → Sig → Rails → Type 0
+IsSeen c pin r = IsOutside c pin r ⊎ IsInside c pin r
 
 -- under the assignment what the gates see stands for these values
-abbrev pub ReadsSeen : Parts → (gates : List ℕ) (cut : ℕ → Bool) (rails before after : List Rails) → List Bool → (ℕ → Sig → Trit) → Type 0
-ReadsSeen net gates cut rails before after m see = (i : ℕ) → i < length gates →
-    All (λ pin. (r : Rails) → IsSeen net gates cut rails before after pin r → Reads m r (see i pin)) (gate_at net (slice_index gates i)).pins
+abbrev pub ReadsSeen : CopiedLoop → List Bool → (ℕ → Sig → Trit) → Type 0
+ReadsSeen c m see = (i : ℕ) → i < length c.gates →
+    All (λ pin. (r : Rails) → IsSeen c pin r → Reads m r (see i pin)) (gate_at c.net (slice_index c.gates i)).pins
 
 -- the value of a gate where it sees these values
-abbrev pub value_seen : Parts → (gates : List ℕ) → (ℕ → Sig → Trit) → ℕ → Trit
-value_seen net gates see i = ext (gate_at net (slice_index gates i)).cover (map (see i) (gate_at net (slice_index gates i)).pins)
+abbrev pub value_seen : CopiedLoop → (ℕ → Sig → Trit) → ℕ → Trit
+value_seen c see i = ext (gate_at c.net (slice_index c.gates i)).cover (map (see i) (gate_at c.net (slice_index c.gates i)).pins)
 
 -- the copy of the gate at this place is bound to what the gate sees
-pub record BindsCopy (net : Parts) (gates : List ℕ) (cut : ℕ → Bool) (rails before after : List Rails) (i : ℕ) (old new : Formula) : Type 0 where
+pub record BindsCopy (c : CopiedLoop) (i : ℕ) (old new : Formula) : Type 0 where
   pub pins : List Rails
-  pub seen : AllZip (IsSeen net gates cut rails before after) (gate_at net (slice_index gates i)).pins pins
-  pub says_gate : SaysGate old new pins (rails_at after i) (gate_at net (slice_index gates i)).cover
+  pub seen : AllZip (IsSeen c) (gate_at c.net (slice_index c.gates i)).pins pins
+  pub says_gate : SaysGate old new pins (rails_at c.after i) (gate_at c.net (slice_index c.gates i)).cover
 
 -- the copies of the first k gates are bound
-pub record AreCopied (net : Parts) (gates : List ℕ) (cut : ℕ → Bool) (rails before after : List Rails) (old new : Formula) (k : ℕ) : Type 0 where
+pub record AreCopied (c : CopiedLoop) (old new : Formula) (k : ℕ) : Type 0 where
   pub grows : Grows old new
-  pub reads : (m : List Bool) (see : ℕ → Sig → Trit) → IsModel m new → ReadsSeen net gates cut rails before after m see →
-      (i : ℕ) → i < k → Reads m (rails_at after i) (value_seen net gates see i)
-  pub complete : (m : List Bool) (see : ℕ → Sig → Trit) → length m ≡ old.variables → IsModel m old → ReadsSeen net gates cut rails before after m see →
-      ((i : ℕ) → i < length gates → Reads m (rails_at after i) (value_seen net gates see i)) → HasModelFrom new m
+  pub reads : (m : List Bool) (see : ℕ → Sig → Trit) → IsModel m new → ReadsSeen c m see →
+      (i : ℕ) → i < k → Reads m (rails_at c.after i) (value_seen c see i)
+  pub complete : (m : List Bool) (see : ℕ → Sig → Trit) → length m ≡ old.variables → IsModel m old → ReadsSeen c m see →
+      ((i : ℕ) → i < length c.gates → Reads m (rails_at c.after i) (value_seen c see i)) → HasModelFrom new m

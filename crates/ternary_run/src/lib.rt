@@ -8,7 +8,9 @@
 mod fanout;
 mod settling;
 mod ticks;
+mod vectors;
 
 pub use fanout::{Fanout, Read};
 pub use settling::settle;
 pub use ticks::{TickValues, tick};
+pub use vectors::{settle_at, trits_of};

@@ -1,12 +1,15 @@
 -- What the source of a pin says of the pin.
-use Rattle.std.proofs.Common.{◌≡◌, ◌≤◌, ℕ, Bool, true, false, ◌&&◌, if◌then◌else◌, Some, None, refl, sym, ap, ap₂, ◌∙◌}
+use Rattle.std.proofs.Common.{◌≡◌, ◌≤◌, ℕ, Bool, true, false, ◌&&◌, nat_le, if◌then◌else◌, Some, None, refl, sym, ap, ap₂, ◌∙◌}
 use Rattle.std.proofs.lemmas.Bool.{le-leb}
 use Rattle.std.specs.Bool.{then_some}
 use Rattle.std.specs.declared.option.Option.{Option}
 use Rattle.cyc_base.specs.declared.sig.Sig.{Sig}
 use Rattle.netlist.specs.declared.parts.Parts.{Parts}
-use Rattle.loops.specs.Cuts.{Loops}
+use Rattle.loops.specs.Cuts.{Loops, loops_by}
+use Rattle.loops.specs.Found.{loops_of}
+use Rattle.loops.specs.Looped.{Looped, IsLooped}
 use Rattle.loops.specs.Sweeps.{first_gate, gate_of, in_loop_of}
+use Rattle.loops.proofs.LoopedLemmas.{one_loop_is_told}
 
 some_where : (b : Bool) (x : ℕ) → then_some b x ≡ (if b then Some x else None)
 some_where true x = refl
@@ -20,6 +23,13 @@ source_is net loops n source s b past is told =
     ∙ ap₂ (λ (x : Bool) (g : ℕ). if x then Some g else None)
     (sym (ap₂ (λ (x y : Bool). x && y) (le-leb (first_gate net) s.0 past) (ap (loops.same n) (sym is) ∙ told)))
     is
+
+-- the same by the blocks and the cut wires
+pub source_by_blocks : (l : Looped) → IsLooped l → (n : ℕ) (s : Sig) (source : Option ℕ) → source ≡ (if in_loop_of l.net (loops_of l.net) n s then Some (gate_of l.net s) else None)
+    → source ≡ (if in_loop_of l.net (loops_by l.blocks l.cut) n s then Some (gate_of l.net s) else None)
+source_by_blocks l is n s source told =
+    told
+    ∙ ap (λ (x : Bool). if nat_le (first_gate l.net) s.0 && x then Some (gate_of l.net s) else None) (sym (one_loop_is_told l is n (gate_of l.net s)))
 
 -- what a choice gave
 pub some_if : (b : Bool) (g x : ℕ) → Some x ≡ (if b then Some g else None) → (b ≡ true) × (g ≡ x)

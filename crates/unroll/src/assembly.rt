@@ -14,8 +14,7 @@ use crate::names::mark;
 use crate::pins::moved;
 use crate::plan::Plan;
 use cyc_base::{Items, Name, Sig};
-use loops::LoopedNetlist;
-use loops::SweepCounts;
+use loops::{LoopedNetlist, SweepCounts};
 use netlist::{Clock, Gate, Latch, Netlist, Parts};
 use std::alloc::{AllocError, Global};
 

@@ -1,7 +1,7 @@
 //! The rewritten netlist: for each sweep that a loop needs a copy of the loop's gates, and the gates themselves
 //! with their cut wires read from the last copy (Malik 1994; Edwards 2003).
 //!
-//! It stands on `looped` and `loops`, for blocks, cut wires and the laws of sweeps. The layer above uses that
+//! It stands on `loops`, for a netlist with its blocks and cut wires, and for the laws of sweeps. The layer above uses that
 //! `unroll` gives the unrolled netlist, that it has no loop, and that its fixpoint tells at least what the
 //! netlist's does (`laws`).
 #![tactic(auto)]
@@ -19,5 +19,6 @@ mod unrolling;
 
 pub use fault::UnrollFault;
 pub use names::{copy_name, mark};
+pub use pins::source_in_loop;
 pub use sizes::unrolled_size;
-pub use unrolling::unroll;
+pub use unrolling::{unroll, unroll_looped};

@@ -2,7 +2,7 @@
 
 ghost use Rattle.std.specs.Prelude.{◌≡◌, ◌<◌, ◌≤◌, ◌+◌, Some, None, if◌then◌else◌, length, map, IfSome, IfOk};
 ghost use Rattle.netlist.specs.Netlists.{gate_at, IsNetlist, IsSignal};
-ghost use Rattle.loops.specs.Cuts.{loops_by};
+ghost use Rattle.loops.specs.Found.{loops_of};
 ghost use Rattle.loops.specs.Sweeps.{first_gate as first_gate_of, gate_of, in_loop_of};
 ghost use Rattle.loops.specs.Looped.{IsLooped};
 ghost use Rattle.unroll.specs.Plans.{loops_in, net_of};
@@ -45,10 +45,12 @@ pub(crate) fn moved(net: &Netlist, by: u32, signal: Sig) -> Sig
 }
 
 /// The gate that drives a pin of this gate, where it is in this gate's loop.
-fn source_in_loop(looped: &LoopedNetlist<'_>, gate: u32, pin: Sig) -> Option<u32>
+///
+/// The condition is that the gate and the pin are the netlist's.
+pub fn source_in_loop(looped: &LoopedNetlist<'_>, gate: u32, pin: Sig) -> Option<u32>
     requires gate { gate < length looped.now.net.gates }
     requires pin { IsSignal looped.now.net pin }
-    ensures source { result ≡ (if in_loop_of looped.now.net (loops_by looped.now.blocks looped.now.cut) gate pin then Some (gate_of looped.now.net pin) else None) }
+    ensures source { result ≡ (if in_loop_of looped.now.net (loops_of looped.now.net) gate pin then Some (gate_of looped.now.net pin) else None) }
     ensures within { IfSome result (λ source. source < length looped.now.net.gates) }
     ensures looped { IsLooped looped.now }
 {

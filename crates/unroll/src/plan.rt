@@ -9,8 +9,7 @@ ghost use Rattle.unroll.specs.Unrolled.{copies_of as copies_of_gate, has_loop as
 
 use crate::sizes::{copies_of, has_loop};
 use cyc_base::Name;
-use loops::LoopedNetlist;
-use loops::SweepCounts;
+use loops::{LoopedNetlist, SweepCounts};
 
 /// What a netlist is unrolled by.
 pub(crate) struct Plan<'a> {
@@ -46,7 +45,7 @@ impl<'a> Plan<'a> {
         requires { gate < length (net_of self.now).gates }
         ensures { result ≡ copies_of_gate (loops_in self.now).same (sweeps_in self.now) gate }
     {
-        copies_of(self.looped.net(), self.looped.blocks(), self.sweeps, gate)
+        copies_of(self.looped, self.sweeps, gate)
     }
 
     /// The most copies that a gate has.
@@ -66,6 +65,6 @@ impl<'a> Plan<'a> {
     pub(crate) fn has_loop(&self) -> bool
         ensures { result ≡ has_some_loop (net_of self.now) (loops_in self.now).same }
     {
-        has_loop(self.looped.net(), self.looped.blocks())
+        has_loop(self.looped)
     }
 }

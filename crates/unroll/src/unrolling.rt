@@ -6,6 +6,7 @@ ghost use Rattle.netlist.specs.Netlists.{IsNetlist};
 ghost use Rattle.netlist.specs.Walks.{IsLoopFree};
 ghost use Rattle.loops.specs.Blocks.{AreBlocksOf};
 ghost use Rattle.loops.specs.Cuts.{IsCutOf, in_one_loop, loops_by};
+ghost use Rattle.loops.specs.Looped.{IsLooped};
 ghost use Rattle.unroll.specs.Laws.{AreEnough, KeepsInterface, TellsAsMuchAt};
 ghost use Rattle.unroll.specs.Unrolled.{sweeps_of, unrolled, unrolled_size as size_of, IsUnrollFault};
 
@@ -13,8 +14,7 @@ use crate::assembly::unrolled_parts;
 use crate::fault::UnrollFault;
 use crate::sizes::unrolled_size;
 use cyc_base::MAX_REWRITTEN_ITEMS;
-use loops::LoopedNetlist;
-use loops::{Blocks, Cut, SweepCounts};
+use loops::{Blocks, Cut, LoopedNetlist, SweepCounts};
 use netlist::{Netlist, PartsFault};
 use std::alloc::Global;
 
@@ -27,19 +27,20 @@ fn want_of_memory(_fault: PartsFault) -> UnrollFault
 }
 
 /// How many gates stand before the netlist's own, if the unrolled netlist isn't too large.
-fn shift_of(net: &Netlist, blocks: &Blocks, sweeps: &SweepCounts) -> Result<u32, UnrollFault>
-    requires blocks { AreBlocksOf net.now blocks.now }
-    requires sweeps { length sweeps.now.per_block ≡ length blocks.now.list }
-    ensures by { IfOk result (λ by. length net.now.gates + length net.now.latches + by ≡ size_of net.now (in_one_loop blocks.now) (sweeps_of blocks.now sweeps.now)) }
-    ensures small { OnOk result (size_of net.now (in_one_loop blocks.now) (sweeps_of blocks.now sweeps.now) ≤ 4000000) }
-    ensures fault { IfErr result (λ fault. (fault ≡ UnrollFault.TooLarge (size_of net.now (in_one_loop blocks.now) (sweeps_of blocks.now sweeps.now)))
-        × (4000000 < size_of net.now (in_one_loop blocks.now) (sweeps_of blocks.now sweeps.now))) }
-    ensures valid { IsNetlist net.now }
+fn shift_of(looped: &LoopedNetlist<'_>, sweeps: &SweepCounts) -> Result<u32, UnrollFault>
+    requires { length sweeps.now.per_block ≡ length looped.now.blocks.list }
+    ensures by { IfOk result (λ by. length looped.now.net.gates + length looped.now.net.latches + by ≡ size_of looped.now.net (in_one_loop looped.now.blocks) (sweeps_of looped.now.blocks sweeps.now)) }
+    ensures small { OnOk result (size_of looped.now.net (in_one_loop looped.now.blocks) (sweeps_of looped.now.blocks sweeps.now) ≤ 4000000) }
+    ensures fault { IfErr result (λ fault. (fault ≡ UnrollFault.TooLarge (size_of looped.now.net (in_one_loop looped.now.blocks) (sweeps_of looped.now.blocks sweeps.now)))
+        × (4000000 < size_of looped.now.net (in_one_loop looped.now.blocks) (sweeps_of looped.now.blocks sweeps.now))) }
+    ensures valid { IsNetlist looped.now.net }
+    ensures looped { IsLooped looped.now }
 {
-    let size = unrolled_size(net, blocks, sweeps);
+    let size = unrolled_size(looped, sweeps);
     if size > u64::from(MAX_REWRITTEN_ITEMS) {
         return Err(UnrollFault::TooLarge { size });
     }
+    let net = looped.net();
     Ok(size as u32 - net.gates() - net.latches())
 }
 
@@ -51,13 +52,43 @@ fn shift_of(net: &Netlist, blocks: &Blocks, sweeps: &SweepCounts) -> Result<u32,
 /// itself from the last copy (Malik 1994). Where the sweeps bring the cut wires to the fixpoint, each signal of
 /// the netlist has in the new one a value above its value here.
 ///
-/// The condition is that the blocks and the cut are the netlist's, that there is a number for each block, and
-/// that there are at most 4,000,000,000 inputs. The time is linear in what it makes.
+/// The condition is that there is a number for each block, and that there are at most 4,000,000,000 inputs. The
+/// time is linear in what it makes.
 ///
 /// # Errors
 ///
 /// `TooLarge` exactly where the new netlist has over 4,000,000 gates and latches, with their number; else
 /// `Memory` where memory runs out.
+pub fn unroll_looped(
+    alloc: Global,
+    looped: &LoopedNetlist<'_>,
+    sweeps: &SweepCounts,
+) -> Result<Netlist, UnrollFault>
+    requires sweeps { length sweeps.now.per_block ≡ length looped.now.blocks.list }
+    requires inputs { length looped.now.net.inputs ≤ 4000000000 }
+    ensures unrolled { IfOk result (λ other. other ≡ unrolled looped.now.net (loops_by looped.now.blocks looped.now.cut) (sweeps_of looped.now.blocks sweeps.now)) }
+    ensures small { OnOk result (size_of looped.now.net (in_one_loop looped.now.blocks) (sweeps_of looped.now.blocks sweeps.now) ≤ 4000000) }
+    ensures fault { IfErr result (IsUnrollFault (size_of looped.now.net (in_one_loop looped.now.blocks) (sweeps_of looped.now.blocks sweeps.now))) }
+    ensures valid { IfOk result IsNetlist }
+    ensures loop_free { IfOk result IsLoopFree }
+    ensures interface { IfOk result (KeepsInterface looped.now.net) }
+    ensures tells { IfOk result (λ other. (v : List Trit) → AreEnough looped.now.net (loops_by looped.now.blocks looped.now.cut) (sweeps_of looped.now.blocks sweeps.now) v → TellsAsMuchAt looped.now.net other v) }
+{
+    let by = shift_of(looped, sweeps)?;
+    let parts = unrolled_parts(alloc, looped, sweeps, by)?;
+    match Netlist::new(alloc, parts) {
+        Ok(other) => Ok(other),
+        Err(fault) => Err(want_of_memory(fault)),
+    }
+}
+
+/// `unroll_looped` of a netlist, its blocks and its cut wires.
+///
+/// The condition is also that the blocks and the cut are the netlist's.
+///
+/// # Errors
+///
+/// Those of `unroll_looped`.
 pub fn unroll(
     alloc: Global,
     net: &Netlist,
@@ -77,11 +108,6 @@ pub fn unroll(
     ensures interface { IfOk result (KeepsInterface net.now) }
     ensures tells { IfOk result (λ other. (v : List Trit) → AreEnough net.now (loops_by blocks.now cut.now) (sweeps_of blocks.now sweeps.now) v → TellsAsMuchAt net.now other v) }
 {
-    let by = shift_of(net, blocks, sweeps)?;
     let looped = LoopedNetlist::new(net, blocks, cut);
-    let parts = unrolled_parts(alloc, &looped, sweeps, by)?;
-    match Netlist::new(alloc, parts) {
-        Ok(other) => Ok(other),
-        Err(fault) => Err(want_of_memory(fault)),
-    }
+    unroll_looped(alloc, &looped, sweeps)
 }

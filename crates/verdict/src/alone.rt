@@ -9,8 +9,7 @@ ghost use Rattle.verdict.specs.Determination.{SettleInOneSweep};
 use clause_decision::sweeps_at;
 use cyc_base::MAX_NODES;
 use isolation::settles_alone;
-use loops::LoopedNetlist;
-use loops::Blocks;
+use loops::{Blocks, LoopedNetlist};
 use std::alloc::{AllocError, Global};
 
 /// How many times as large as a loop its netlist may be for the whole to be simulated for that loop's sake.

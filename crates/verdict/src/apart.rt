@@ -12,8 +12,7 @@ use crate::scopes::known_gates;
 use care_sets::Care;
 use clause_decision::{Hint, Pair, Scope};
 use cyc_base::Items;
-use loops::LoopedNetlist;
-use loops::{Blocks, find_cut};
+use loops::{Blocks, LoopedNetlist, find_cut};
 use netlist::Netlist;
 use std::alloc::{AllocError, Global};
 

@@ -5,8 +5,7 @@ ghost use Rattle.care_sets.specs.Binding.{IsCareOf};
 ghost use Rattle.verdict.specs.Questions.{IsAsked};
 
 use care_sets::Care;
-use loops::LoopedNetlist;
-use loops::{Blocks, Cut};
+use loops::{Blocks, Cut, LoopedNetlist};
 use netlist::Netlist;
 use refusals::Observe;
 use std::marker::Model;

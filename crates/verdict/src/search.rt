@@ -6,8 +6,7 @@ ghost use Rattle.verdict.specs.Determination.{SettleInOneSweep};
 ghost use Rattle.verdict.specs.Searches.{IsSearched};
 
 use care_sets::Care;
-use loops::LoopedNetlist;
-use loops::{Blocks, Cut};
+use loops::{Blocks, Cut, LoopedNetlist};
 use netlist::Netlist;
 use std::marker::Model;
 

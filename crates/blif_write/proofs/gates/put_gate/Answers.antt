@@ -1,4 +1,4 @@
-use Rattle.cyc_io.proofs.TakenLemmas.{appended_then, appended_cut}
+use Rattle.blif_write.proofs.Common.{appended_then, appended_cut}
 use Rattle.blif_write.proofs.gates.put_gate.Goals as goal
 
 pub returns-in_err-put_gate_names-clause-text : goal.returns-in_err-put_gate_names-clause-text

@@ -1,7 +1,6 @@
 use Rattle.std.proofs.Common.{codes}
-use Rattle.blif_write.specs.Written.{name_of}
+use Rattle.blif_write.proofs.Common.{name_of, appended_then, appended_cut, appended_equal}
 use Rattle.blif_write.proofs.LineLemmas.{line_ends}
-use Rattle.cyc_io.proofs.TakenLemmas.{appended_then, appended_cut, appended_equal}
 use Rattle.blif_write.proofs.gates.put_gate_names.Goals as goal
 
 pub returns-in_err-write_whole : goal.returns-in_err-write_whole

@@ -1,11 +1,7 @@
 use Rattle.std.proofs.Common.{arith}
 use Rattle.std.proofs.lemmas.List.Elements.{All-more}
-use Rattle.cover_logic.specs.Covers.{IsCover}
-use Rattle.netlist.specs.declared.parts.Gate.{Gate}
-use Rattle.blif_write.specs.Putting.{gate_text}
+use Rattle.blif_write.proofs.Common.{IsCover, Gate, gate_text, appended_none, appended_item, appended_in_item, appended_items}
 use Rattle.blif_write.proofs.NameLemmas.{item_at}
-use Rattle.cyc_io.proofs.TakenLemmas.{appended_none}
-use Rattle.cyc_io.proofs.ItemLemmas.{appended_item, appended_in_item, appended_items}
 use Rattle.blif_write.proofs.gates.put_gates.Goals as goal
 
 pub loop-i-init : goal.loop-i-init

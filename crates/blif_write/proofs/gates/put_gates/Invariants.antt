@@ -1,9 +1,5 @@
 use Rattle.std.proofs.Common.{take}
-use Rattle.std.specs.Prelude.{All}
-use Rattle.std.specs.List.{flat_map}
-use Rattle.cover_logic.specs.Covers.{IsCover}
-use Rattle.blif_write.specs.Putting.{gate_text}
-use Rattle.cyc_io.specs.Taken.{IsAppendedWhole, sink_call}
+use Rattle.blif_write.proofs.Common.{All, flat_map, IsCover, gate_text, IsAppendedWhole, sink_call}
 use Rattle.blif_write.proofs.gates.put_gates.Given as goal
 
 abbrev pub invariant-loop-i : goal.invariant-loop-i

@@ -1,8 +1,7 @@
 use Rattle.std.proofs.Common.{arith}
 use Rattle.std.proofs.Common.{[], ◌∷◌}
-use Rattle.blif_write.specs.Written.{lit_byte}
-use Rattle.cyc_io.proofs.TakenLemmas.{appended_none}
-use Rattle.cyc_io.proofs.ItemLemmas.{appended_copied, appended_in_copied, appended_items}
+use Rattle.blif_write.proofs.Common.{lit_byte, appended_none, appended_items}
+use Rattle.cyc_io.proofs.ItemLemmas.{appended_copied, appended_in_copied}
 use Rattle.blif_write.proofs.gates.put_lits.Goals as goal
 
 pub loop-lit-init : goal.loop-lit-init

@@ -1,6 +1,6 @@
 use Rattle.std.proofs.Common.{take}
 use Rattle.blif_write.specs.Putting.{lits_text}
-use Rattle.cyc_io.specs.Taken.{IsAppendedWhole, sink_call}
+use Rattle.blif_write.proofs.Common.{IsAppendedWhole, sink_call}
 use Rattle.blif_write.proofs.gates.put_lits.Given as goal
 
 abbrev pub invariant-loop-lit : goal.invariant-loop-lit

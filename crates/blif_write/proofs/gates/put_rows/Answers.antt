@@ -1,7 +1,5 @@
 use Rattle.std.proofs.Common.{arith}
-use Rattle.blif_write.specs.Written.{line_text, row_line}
-use Rattle.cyc_io.proofs.TakenLemmas.{appended_none}
-use Rattle.cyc_io.proofs.ItemLemmas.{appended_item, appended_in_item, appended_items}
+use Rattle.blif_write.proofs.Common.{line_text, row_line, appended_none, appended_item, appended_in_item, appended_items}
 use Rattle.blif_write.proofs.gates.put_rows.Goals as goal
 
 pub loop-row-init : goal.loop-row-init

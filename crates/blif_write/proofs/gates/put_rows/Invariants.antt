@@ -1,6 +1,6 @@
 use Rattle.std.proofs.Common.{take}
 use Rattle.blif_write.specs.Putting.{rows_text}
-use Rattle.cyc_io.specs.Taken.{IsAppendedWhole, sink_call}
+use Rattle.blif_write.proofs.Common.{IsAppendedWhole, sink_call}
 use Rattle.blif_write.proofs.gates.put_rows.Given as goal
 
 abbrev pub invariant-loop-row : goal.invariant-loop-row

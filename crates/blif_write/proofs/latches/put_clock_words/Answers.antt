@@ -1,7 +1,5 @@
 use Rattle.std.proofs.Common.{◌++◌, ap, append-nil}
-use Rattle.blif_write.specs.Written.{edge_word}
-use Rattle.blif_write.specs.Putting.{behind}
-use Rattle.cyc_io.proofs.TakenLemmas.{appended_then, appended_cut, appended_equal}
+use Rattle.blif_write.proofs.Common.{edge_word, behind, appended_then, appended_cut, appended_equal}
 use Rattle.blif_write.proofs.latches.put_clock_words.Goals as goal
 
 pub returns-in_err-put_word : goal.returns-in_err-put_word

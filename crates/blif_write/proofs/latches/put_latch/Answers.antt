@@ -1,5 +1,5 @@
 use Rattle.blif_write.proofs.LineLemmas.{latch_is}
-use Rattle.cyc_io.proofs.TakenLemmas.{appended_then, appended_cut, appended_equal}
+use Rattle.blif_write.proofs.Common.{appended_then, appended_cut, appended_equal}
 use Rattle.blif_write.proofs.latches.put_latch.Goals as goal
 
 pub returns-in_err-write_whole : goal.returns-in_err-write_whole

@@ -1,8 +1,6 @@
 use Rattle.std.proofs.Common.{arith}
-use Rattle.blif_write.specs.Written.{line_text, latch_line}
+use Rattle.blif_write.proofs.Common.{line_text, latch_line, appended_none, appended_item, appended_in_item, appended_items}
 use Rattle.blif_write.proofs.NameLemmas.{item_at}
-use Rattle.cyc_io.proofs.TakenLemmas.{appended_none}
-use Rattle.cyc_io.proofs.ItemLemmas.{appended_item, appended_in_item, appended_items}
 use Rattle.blif_write.proofs.latches.put_latches.Goals as goal
 
 pub loop-i-init : goal.loop-i-init

@@ -1,7 +1,5 @@
 use Rattle.std.proofs.Common.{take}
-use Rattle.std.specs.List.{flat_map}
-use Rattle.blif_write.specs.Written.{line_text, latch_line}
-use Rattle.cyc_io.specs.Taken.{IsAppendedWhole, sink_call}
+use Rattle.blif_write.proofs.Common.{flat_map, line_text, latch_line, IsAppendedWhole, sink_call}
 use Rattle.blif_write.proofs.latches.put_latches.Given as goal
 
 abbrev pub invariant-loop-i : goal.invariant-loop-i

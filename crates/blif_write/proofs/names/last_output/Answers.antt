@@ -1,6 +1,6 @@
 use Rattle.std.proofs.Common.{◌<◌, length, sym, ◌∙◌, arith}
 use Rattle.std.specs.Prelude.{codes}
-use Rattle.blif_write.specs.Written.{name_of}
+use Rattle.blif_write.proofs.Common.{name_of}
 use Rattle.blif_write.proofs.NameLemmas.{last_mapped}
 use Rattle.blif_write.proofs.names.last_output.Goals as goal
 

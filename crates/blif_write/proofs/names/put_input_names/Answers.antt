@@ -1,10 +1,6 @@
 use Rattle.std.proofs.Common.{arith}
-use Rattle.netlist.specs.Netlists.{signal}
-use Rattle.blif_write.specs.Written.{name_of}
-use Rattle.blif_write.specs.Putting.{behind}
+use Rattle.blif_write.proofs.Common.{signal, name_of, behind, appended_none, appended_item, appended_in_item, appended_items}
 use Rattle.blif_write.proofs.NameLemmas.{input_item}
-use Rattle.cyc_io.proofs.TakenLemmas.{appended_none}
-use Rattle.cyc_io.proofs.ItemLemmas.{appended_item, appended_in_item, appended_items}
 use Rattle.blif_write.proofs.names.put_input_names.Goals as goal
 
 pub loop-i-init : goal.loop-i-init

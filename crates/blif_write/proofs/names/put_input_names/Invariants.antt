@@ -1,7 +1,5 @@
 use Rattle.std.proofs.Common.{take}
-use Rattle.std.specs.List.{flat_map}
-use Rattle.blif_write.specs.Putting.{behind}
-use Rattle.cyc_io.specs.Taken.{IsAppendedWhole, sink_call}
+use Rattle.blif_write.proofs.Common.{flat_map, behind, IsAppendedWhole, sink_call}
 use Rattle.blif_write.proofs.names.put_input_names.Given as goal
 
 abbrev pub invariant-loop-i : goal.invariant-loop-i

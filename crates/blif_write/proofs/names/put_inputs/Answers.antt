@@ -1,6 +1,6 @@
 use Rattle.std.proofs.Common.{codes}
 use Rattle.blif_write.proofs.LineLemmas.{line_is}
-use Rattle.cyc_io.proofs.TakenLemmas.{appended_then, appended_cut, appended_equal}
+use Rattle.blif_write.proofs.Common.{appended_then, appended_cut, appended_equal}
 use Rattle.blif_write.proofs.names.put_inputs.Goals as goal
 
 pub returns-in_err-write_whole : goal.returns-in_err-write_whole

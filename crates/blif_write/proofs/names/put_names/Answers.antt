@@ -1,8 +1,6 @@
 use Rattle.std.proofs.Common.{arith}
-use Rattle.blif_write.specs.Written.{name_of}
-use Rattle.blif_write.specs.Putting.{behind}
-use Rattle.cyc_io.proofs.TakenLemmas.{appended_none}
-use Rattle.cyc_io.proofs.ItemLemmas.{appended_copied, appended_in_copied, appended_items}
+use Rattle.blif_write.proofs.Common.{name_of, behind, appended_none, appended_items}
+use Rattle.cyc_io.proofs.ItemLemmas.{appended_copied, appended_in_copied}
 use Rattle.blif_write.proofs.names.put_names.Goals as goal
 
 pub loop-sig-init : goal.loop-sig-init

@@ -1,6 +1,6 @@
 use Rattle.std.proofs.Common.{take}
 use Rattle.blif_write.specs.Putting.{names_behind}
-use Rattle.cyc_io.specs.Taken.{IsAppendedWhole, sink_call}
+use Rattle.blif_write.proofs.Common.{IsAppendedWhole, sink_call}
 use Rattle.blif_write.proofs.names.put_names.Given as goal
 
 abbrev pub invariant-loop-sig : goal.invariant-loop-sig

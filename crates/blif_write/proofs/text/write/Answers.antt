@@ -2,7 +2,7 @@ use Rattle.std.specs.Prelude.{OnOk, Ok, Err}
 use Rattle.std.specs.declared.result.Result.{Result}
 use Rattle.blif_write.proofs.LineLemmas.{written_is}
 use Rattle.blif_write.proofs.ReadingBack.{reads_back}
-use Rattle.cyc_io.proofs.TakenLemmas.{appended_then, appended_cut, appended_equal}
+use Rattle.blif_write.proofs.Common.{appended_then, appended_cut, appended_equal}
 use Rattle.blif_write.proofs.text.write.Goals as goal
 
 on_ok : {T E P : Type 0} (r : Result T E) → P → OnOk r P

@@ -1,5 +1,5 @@
 use Rattle.std.proofs.Common.{◌≡◌, ◌<◌, length}
-use Rattle.delay_core.specs.Entries.{value_from}
+use Rattle.delay_core.proofs.Common.{value_from}
 use Rattle.delay_core.proofs.entries.value_at.Given as goal
 
 abbrev pub invariant-loop-i : goal.invariant-loop-i

@@ -1,5 +1,5 @@
 use Rattle.std.proofs.Common.{◌≡◌, length, get_or, ◌∙◌}
-use Rattle.std.proofs.lemmas.List.{get_or_read}
+use Rattle.delay_core.proofs.Common.{get_or_read}
 use Rattle.delay_core.specs.Entries.{IsJump}
 use Rattle.delay_core.proofs.EntryLemmas.{writes}
 use Rattle.delay_core.proofs.entries.write.Goals as goal

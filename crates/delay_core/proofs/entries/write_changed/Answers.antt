@@ -1,7 +1,6 @@
 use Rattle.std.proofs.Common.{◌≡◌, Bool, true, false, not, refl, sym, ◌∙◌, get_or, ap}
-use Rattle.std.proofs.lemmas.List.{get_or_read}
+use Rattle.delay_core.proofs.Common.{get_or_read, value_from}
 use Rattle.std.proofs.Math.Bool.{beq}
-use Rattle.delay_core.specs.Entries.{value_from}
 use Rattle.delay_core.proofs.EntryLemmas.{writes_same}
 use Rattle.delay_core.proofs.entries.write_changed.Goals as goal
 

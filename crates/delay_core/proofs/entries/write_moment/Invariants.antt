@@ -1,5 +1,5 @@
 use Rattle.std.proofs.Common.{◌≡◌, ◌≤◌, ◌+◌}
-use Rattle.std.specs.Prelude.{vec_len, vec_capacity}
+use Rattle.delay_core.proofs.Common.{vec_len, vec_capacity}
 use Rattle.delay_core.proofs.EntryLemmas.{WritesFront}
 use Rattle.delay_core.proofs.entries.write_moment.Given as goal
 

@@ -1,4 +1,4 @@
-use Rattle.std.specs.List.{zip}
+use Rattle.delay_core.proofs.Common.{zip}
 use Rattle.delay_core.proofs.FairLemmas.{schedule_fair}
 use Rattle.delay_core.proofs.UnfairLemmas.{schedule_none}
 use Rattle.delay_core.proofs.laws.faults_are_unfairness.Goals as goal

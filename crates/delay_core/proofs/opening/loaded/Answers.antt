@@ -1,10 +1,7 @@
 use Rattle.std.proofs.Common.{◌≡◌, ◌<◌, Bool, List, false, length, get_or, sym, ap, ◌∙◌, arith}
-use Rattle.std.proofs.lemmas.List.{get_or-map, length-map, take_all}
+use Rattle.delay_core.proofs.Common.{get_or-map, length-map, take_all, count, newest, bit_at, loaded_at}
 use Rattle.std.proofs.lemmas.Option.{get_or_from_slice_get}
-use Rattle.netlist.specs.Netlists.{count}
 use Rattle.netlist.specs.declared.parts.Latch.{Latch}
-use Rattle.schedules.specs.Moments.{newest, bit_at}
-use Rattle.schedules.specs.Runs.{loaded_at}
 use Rattle.delay_core.proofs.ReadingLemmas.{pushed}
 use Rattle.delay_core.proofs.opening.loaded.Goals as goal
 

@@ -1,7 +1,5 @@
 use Rattle.std.proofs.Common.{◌≡◌, ◌≤◌, length, take}
-use Rattle.std.specs.Prelude.{vec_len, vec_capacity}
-use Rattle.schedules.specs.Moments.{newest}
-use Rattle.schedules.specs.Runs.{loaded_at}
+use Rattle.delay_core.proofs.Common.{vec_len, vec_capacity, newest, loaded_at}
 use Rattle.delay_core.proofs.opening.loaded.Given as goal
 
 abbrev pub invariant-loop-number : goal.invariant-loop-number

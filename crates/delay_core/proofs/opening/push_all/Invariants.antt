@@ -1,5 +1,5 @@
 use Rattle.std.proofs.Common.{◌≡◌, ◌++◌, take, reverse, length}
-use Rattle.schedules.specs.Moments.{newest}
+use Rattle.delay_core.proofs.Common.{newest}
 use Rattle.delay_core.proofs.opening.push_all.Given as goal
 
 abbrev pub invariant-loop-moment : goal.invariant-loop-moment

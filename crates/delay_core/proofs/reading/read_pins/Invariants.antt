@@ -1,6 +1,5 @@
 use Rattle.std.proofs.Common.{◌≡◌, take}
-use Rattle.std.specs.Prelude.{vec_capacity}
-use Rattle.schedules.specs.Moments.{seen}
+use Rattle.delay_core.proofs.Common.{vec_capacity, seen}
 use Rattle.delay_core.proofs.reading.read_pins.Given as goal
 
 abbrev pub invariant-loop-i : goal.invariant-loop-i

@@ -1,11 +1,6 @@
 use Rattle.std.proofs.Common.{◌≡◌, ◌<◌, ◌&&◌, ℕ, Bool, length, take, get_or, ap, ap₂, sym, ◌∙◌, arith}
-use Rattle.std.specs.List.{range_with_len}
-use Rattle.std.proofs.lemmas.List.{take_all}
-use Rattle.std.proofs.lemmas.List.FromFn.{length-range_with_len, get_or-range_with_len}
+use Rattle.delay_core.proofs.Common.{range_with_len, take_all, length-range_with_len, get_or-range_with_len, Sig, newest, gate_agrees}
 use Rattle.std.proofs.lemmas.List.Folds.{list_all_at, list_all_more}
-use Rattle.cyc_base.specs.declared.sig.Sig.{Sig}
-use Rattle.schedules.specs.Moments.{newest}
-use Rattle.delay_core.specs.Plans.{gate_agrees}
 use Rattle.delay_core.proofs.EndLemmas.{agreed}
 use Rattle.delay_core.proofs.whole.gates_stand_at.Goals as goal
 

@@ -1,7 +1,6 @@
 use Rattle.std.proofs.Common.{◌≡◌, take, length, true}
-use Rattle.std.specs.List.{list_all, range_with_len}
-use Rattle.schedules.specs.Moments.{newest}
-use Rattle.delay_core.specs.Plans.{gate_agrees}
+use Rattle.delay_core.proofs.Common.{range_with_len, newest, gate_agrees}
+use Rattle.std.specs.List.{list_all}
 use Rattle.delay_core.proofs.whole.gates_stand_at.Given as goal
 
 abbrev pub invariant-loop-number : goal.invariant-loop-number

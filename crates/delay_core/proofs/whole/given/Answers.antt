@@ -1,11 +1,8 @@
 use Rattle.std.proofs.Common.{◌≡◌, ◌+◌, ◌<◌, Bool, List, ℕ, false, length, get_or, ap, sym, ◌∙◌, arith}
-use Rattle.std.proofs.lemmas.List.{take_all, length-map, get_or-map, get_or-take, length-take}
+use Rattle.delay_core.proofs.Common.{take_all, length-map, get_or-map, bits, Parts, count, newest, given_at}
+use Rattle.std.proofs.lemmas.List.{get_or-take, length-take}
 use Rattle.cyc_base.specs.declared.trit.Trit.TheVariants.{X}
-use Rattle.cyc_base.specs.Values.{bit, bits}
-use Rattle.netlist.specs.declared.parts.Parts.{Parts}
-use Rattle.netlist.specs.Netlists.{count}
-use Rattle.schedules.specs.Moments.{newest}
-use Rattle.delay_core.specs.Plans.{given_at}
+use Rattle.cyc_base.specs.Values.{bit}
 use Rattle.delay_core.proofs.ReadingLemmas.{pushed}
 use Rattle.delay_core.proofs.whole.given.Goals as goal
 
@@ -13,7 +10,7 @@ pub loop-number-preserved : goal.loop-number-preserved
 loop-number-preserved c =
     let now : List Bool = newest c.args.play.now.state.history in
     let columns : ℕ = length c.args.net.now.inputs + length c.args.net.now.latches in
-    let here : c.loop-number.number < columns = omega (arith, c.loop-number-test.true, c.inputs-2.ensures.inputs, c.latches-2.ensures.latches) in
+    let here : c.loop-number.number < columns = omega (arith, c.loop-number-test.true, c.columns-2.ensures.columns) in
     let wide : length now ≡ columns + length c.args.net.now.gates =
     rw c.requires at c.value.ensures.width in
     let some : c.loop-number.number < length (given_at c.args.net.now now) = omega (arith, length-take columns now) in
@@ -33,16 +30,16 @@ loop-number-init c =
     record {
       values = c.in_ok-values.ensures.items;
       len = c.in_ok-values.ensures.len;
-      room = omega (arith, c.in_ok-values.ensures.capacity, c.inputs.ensures.inputs, c.latches.ensures.latches);
+      room = omega (arith, c.in_ok-values.ensures.capacity, c.columns.ensures.columns);
     }
 
 pub value-requires : goal.value-requires
 value-requires c =
-    omega (arith, ap (λ (net : Parts). count net) c.requires, c.loop-number-test.true, c.inputs-2.ensures.inputs, c.latches-2.ensures.latches)
+    omega (arith, ap (λ (net : Parts). count net) c.requires, c.loop-number-test.true, c.columns-2.ensures.columns)
 
 pub push_reserved-requires : goal.push_reserved-requires
 push_reserved-requires c =
-    omega (arith, c.loop-number.invariant.len, c.loop-number.invariant.room, c.loop-number-test.true, c.inputs-2.ensures.inputs, c.latches-2.ensures.latches)
+    omega (arith, c.loop-number.invariant.len, c.loop-number.invariant.room, c.loop-number-test.true, c.columns-2.ensures.columns)
 
 pub returns-clause-given : goal.returns-clause-given
 returns-clause-given c =
@@ -50,8 +47,8 @@ returns-clause-given c =
     let columns : ℕ = length c.args.net.now.inputs + length c.args.net.now.latches in
     c.loop-number.invariant.values
     ∙ take_all c.loop-number.number (bits (given_at c.args.net.now now))
-    (omega (arith, length-map (given_at c.args.net.now now) bit, length-take columns now, c.loop-number-test.false, c.inputs-2.ensures.inputs, c.latches-2.ensures.latches))
+    (omega (arith, length-map (given_at c.args.net.now now) bit, length-take columns now, c.loop-number-test.false, c.columns-2.ensures.columns))
 
 pub returns-clause-width : goal.returns-clause-width
 returns-clause-width c =
-    omega (arith, c.loop-number.values.ok, c.loop-number.invariant.len, c.loop-number.auto.number-end, c.loop-number-test.false, c.inputs-2.ensures.inputs, c.latches-2.ensures.latches)
+    omega (arith, c.loop-number.values.ok, c.loop-number.invariant.len, c.loop-number.auto.number-end, c.loop-number-test.false, c.columns-2.ensures.columns)

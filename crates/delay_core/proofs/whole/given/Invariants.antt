@@ -1,8 +1,5 @@
 use Rattle.std.proofs.Common.{◌≡◌, ◌≤◌, ◌+◌, length, take}
-use Rattle.std.specs.Prelude.{vec_len, vec_capacity}
-use Rattle.cyc_base.specs.Values.{bits}
-use Rattle.schedules.specs.Moments.{newest}
-use Rattle.delay_core.specs.Plans.{given_at}
+use Rattle.delay_core.proofs.Common.{vec_len, vec_capacity, bits, newest, given_at}
 use Rattle.delay_core.proofs.whole.given.Given as goal
 
 abbrev pub invariant-loop-number : goal.invariant-loop-number

@@ -1,7 +1,5 @@
 use Rattle.std.proofs.Common.{◌≡◌, ◌<◌, Bool, List, false, length, get_or, ap, sym, ◌∙◌, arith}
-use Rattle.std.proofs.lemmas.List.{get_or-map, length-map, take_all}
-use Rattle.cyc_base.specs.declared.sig.Sig.{Sig}
-use Rattle.schedules.specs.Moments.{newest, bit_at}
+use Rattle.delay_core.proofs.Common.{get_or-map, length-map, take_all, Sig, newest, bit_at}
 use Rattle.schedules.specs.Runs.{outputs_at}
 use Rattle.delay_core.proofs.ReadingLemmas.{pushed}
 use Rattle.delay_core.proofs.whole.outputs.Goals as goal

@@ -1,6 +1,5 @@
 use Rattle.std.proofs.Common.{◌≡◌, ◌≤◌, length, take}
-use Rattle.std.specs.Prelude.{vec_len, vec_capacity}
-use Rattle.schedules.specs.Moments.{newest}
+use Rattle.delay_core.proofs.Common.{vec_len, vec_capacity, newest}
 use Rattle.schedules.specs.Runs.{outputs_at}
 use Rattle.delay_core.proofs.whole.outputs.Given as goal
 

@@ -1,5 +1,5 @@
 use Rattle.std.proofs.Common.{◌≡◌, drop}
-use Rattle.delay_core.specs.Plans.{events_fault, after_planned}
+use Rattle.delay_core.proofs.Common.{events_fault, after_planned}
 use Rattle.delay_core.proofs.whole.play_events.Given as goal
 
 abbrev pub invariant-loop-i : goal.invariant-loop-i

@@ -1,6 +1,5 @@
 use Rattle.std.proofs.Common.{◌≡◌, length, ap, sym, ◌∙◌}
-use Rattle.delay_core.specs.Plays.{PlayState, SeenPlay}
-use Rattle.delay_core.specs.Plans.{first_opened, rounds_fault, after_plans}
+use Rattle.delay_core.proofs.Common.{PlayState, SeenPlay, first_opened, rounds_fault, after_plans}
 use Rattle.delay_core.proofs.whole.play_first.Goals as goal
 
 pub play_tick-requires-clause-first : goal.play_tick-requires-clause-first

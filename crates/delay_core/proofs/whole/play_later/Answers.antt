@@ -1,10 +1,6 @@
 use Rattle.std.proofs.Common.{◌≡◌, ◌⊎◌, ◌∷◌, [], inl, inr, ◌+◌, ℕ, List, Bool, drop, get_or, Some, ◌∙◌, arith}
-use Rattle.std.specs.List.{zip}
-use Rattle.std.proofs.lemmas.List.{get_or_read}
-use Rattle.delay_core.specs.declared.fault.PlayFault.{PlayFault}
+use Rattle.delay_core.proofs.Common.{zip, get_or_read, PlayFault, RoundPlan, PlannedTick, schedule_fault}
 use Rattle.delay_core.specs.declared.fault.PlayFault.TheVariants.{Memory}
-use Rattle.delay_core.specs.declared.plan.RoundPlan.{RoundPlan}
-use Rattle.delay_core.specs.Plans.{PlannedTick, schedule_fault}
 use Rattle.delay_core.proofs.WholeLemmas.{err_is, ticks_left, no_ticks_left, next_faults, next_played, whole_none, whole_ends}
 use Rattle.delay_core.proofs.whole.play_later.Goals as goal
 

@@ -1,5 +1,5 @@
 use Rattle.std.proofs.Common.{length, ap}
-use Rattle.delay_core.specs.Plays.{SeenPlay}
+use Rattle.delay_core.proofs.Common.{SeenPlay}
 use Rattle.delay_core.proofs.whole.play_next.Goals as goal
 
 pub play_tick-requires-clause-first : goal.play_tick-requires-clause-first

@@ -1,5 +1,5 @@
 use Rattle.std.proofs.Common.{◌∙◌, length, ap, arith}
-use Rattle.delay_core.specs.Plays.{PlayState}
+use Rattle.delay_core.proofs.Common.{PlayState}
 use Rattle.delay_core.proofs.FairLemmas.{count_more}
 use Rattle.delay_core.proofs.PlanLemmas.{fault_left, plans_left}
 use Rattle.delay_core.proofs.whole.play_rounds.Goals as goal

@@ -1,6 +1,5 @@
 use Rattle.std.proofs.Common.{◌≡◌, ◌+◌, ◌<◌, drop, length}
-use Rattle.delay_core.specs.Plays.{most_rounds}
-use Rattle.delay_core.specs.Plans.{rounds_fault, after_plans}
+use Rattle.delay_core.proofs.Common.{most_rounds, rounds_fault, after_plans}
 use Rattle.delay_core.proofs.whole.play_rounds.Given as goal
 
 abbrev pub invariant-loop-round : goal.invariant-loop-round

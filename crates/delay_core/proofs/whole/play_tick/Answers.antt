@@ -1,5 +1,5 @@
 use Rattle.std.proofs.Common.{ap, ◌∙◌}
-use Rattle.delay_core.specs.Plays.{PlayState}
+use Rattle.delay_core.proofs.Common.{PlayState}
 use Rattle.delay_core.proofs.FairLemmas.{rounds_net}
 use Rattle.delay_core.proofs.whole.play_tick.Goals as goal
 

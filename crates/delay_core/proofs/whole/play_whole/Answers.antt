@@ -1,6 +1,5 @@
 use Rattle.std.proofs.Common.{map, reverse}
-use Rattle.std.specs.List.{zip}
-use Rattle.delay_core.specs.Plans.{tick_of}
+use Rattle.delay_core.proofs.Common.{zip, tick_of}
 use Rattle.delay_core.proofs.EndLemmas.{ticks_told, ticks_in_time, inputs_fit}
 use Rattle.delay_core.proofs.FairLemmas.{schedule_fair}
 use Rattle.delay_core.proofs.whole.play_whole.Goals as goal

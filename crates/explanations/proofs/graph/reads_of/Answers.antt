@@ -1,4 +1,4 @@
-use Rattle.std.proofs.Common.{◌≡◌, ◌+◌, length, ap, ◌∙◌, subst, arith, ℕ}
+use Rattle.std.proofs.Common.{◌≡◌, ◌+◌, length, ap, ◌∙◌, subst, ℕ}
 use Rattle.std.proofs.lemmas.Result.{IfOk-weaker}
 use Rattle.cyc_base.specs.declared.sig.Sig.{Sig}
 use Rattle.netlist.specs.Netlists.{gate_at, gate_sig}
@@ -10,15 +10,13 @@ pub returns : goal.returns
 returns c =
     let net = c.args.net.now in
     let known = c.args.known.now in
-    let inputs = c.inputs.ensures.inputs in
-    let latches = c.latches.ensures.latches in
-    let first : c.inputs.result + c.latches.result ≡ length net.inputs + length net.latches = omega arith in
+    let first : c.columns.result ≡ length net.inputs + length net.latches = c.columns.ensures.columns in
     let number : c.gate_sig.result.0 ≡ (gate_sig net c.args.gate).0 = ap (λ (s : Sig). s.0) c.gate_sig.ensures.sig in
     let is : IsOpenSignal (length net.inputs + length net.latches) known (gate_sig net c.args.gate).0 =
     subst (λ (n : ℕ). IsOpenSignal n known (gate_sig net c.args.gate).0) first
-    (subst (λ (n : ℕ). IsOpenSignal (c.inputs.result + c.latches.result) known n) number (c.is_open.ensures.0 c.if-not-is_open.false)) in
+    (subst (λ (n : ℕ). IsOpenSignal (c.columns.result) known n) number (c.is_open.ensures.0 c.if-not-is_open.false)) in
     let pins : c.items.result.now ≡ (gate_at net c.args.gate).pins = c.items.ensures ∙ ap (λ gate. gate.pins) c.gate.ensures.at in
     IfOk-weaker c.open_reads.result
-    (λ reads. HasOpenReads (c.inputs.result + c.latches.result) known c.items.result.now (length c.items.result.now) reads.items)
+    (λ reads. HasOpenReads (c.columns.result) known c.items.result.now (length c.items.result.now) reads.items)
     (λ reads. ReadsOpen net known c.args.gate reads.items)
-    (λ reads h. reads_these net known c.args.gate reads.items c.inputs.ensures.valid c.requires.gate is (rw (first, pins) at h)) c.open_reads.ensures
+    (λ reads h. reads_these net known c.args.gate reads.items c.columns.ensures.valid c.requires.gate is (rw (first, pins) at h)) c.open_reads.ensures

@@ -1,9 +1,6 @@
 use Rattle.std.proofs.Common.{◌≡◌, ◌≤◌, ◌+◌, inl, inr, ⊎_elim, length, sym, ap, ◌∙◌, arith}
-use Rattle.std.proofs.lemmas.Result.{err_from_is_err_and}
+use Rattle.flatten.proofs.Common.{err_from_is_err_and, lines_of, linked, FlatLines}
 use Rattle.flatten.specs.Alone.{own_lines}
-use Rattle.flatten.specs.Levels.{lines_of}
-use Rattle.flatten.specs.Linking.{linked}
-use Rattle.flatten.specs.Walk.{FlatLines}
 use Rattle.flatten.proofs.OwnLines.{few_own_lines, own_lines_printed, alone_fits}
 use Rattle.flatten.proofs.Valid.{linked_valid}
 use Rattle.flatten.proofs.alone.parts_alone.Goals as goal

@@ -1,8 +1,7 @@
 use Rattle.std.proofs.Common.{◌≡◌, ◌∷◌, [], ◌++◌}
-use Rattle.std.specs.Str.{bytes_eq}
+use Rattle.flatten.proofs.Common.{bytes_eq, actual_of}
 use Rattle.indexmap.proofs.CallerLemmas.{insert_entry-new}
 use Rattle.indexmap.specs.IndexMap.{insert_entry}
-use Rattle.flatten.specs.Paths.{actual_of}
 use Rattle.flatten.proofs.Binding.{none_there}
 use Rattle.flatten.proofs.bind.bind_formal.Goals as goal
 

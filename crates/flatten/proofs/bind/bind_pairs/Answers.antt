@@ -1,5 +1,5 @@
 use Rattle.std.proofs.Common.{◌<◌, inl, inr, ⊎_elim, length, sym, ◌∙◌, arith}
-use Rattle.std.proofs.lemmas.Result.{err_from_is_err_and}
+use Rattle.flatten.proofs.Common.{err_from_is_err_and}
 use Rattle.flatten.proofs.Binding.{bound_taken, formal_fits, pair_refused, pair_taken}
 use Rattle.flatten.proofs.bind.bind_pairs.Goals as goal
 

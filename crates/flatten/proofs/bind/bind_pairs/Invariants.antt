@@ -1,6 +1,6 @@
 use Rattle.std.proofs.Common.{◌≡◌, [], take, drop}
 use Rattle.flatten.specs.Instances.{pair_fault}
-use Rattle.flatten.specs.Laws.{bound}
+use Rattle.flatten.proofs.Common.{bound}
 use Rattle.flatten.proofs.bind.bind_pairs.Given as goal
 
 abbrev pub invariant-loop-formal : goal.invariant-loop-formal

@@ -1,9 +1,5 @@
 use Rattle.std.proofs.Common.{inl, inr, ⊎_elim, ap, get_or, nat_le, length, sym, ◌∙◌}
-use Rattle.std.proofs.lemmas.List.{get_or_default}
-use Rattle.std.proofs.lemmas.Result.{err_from_is_err_and}
-use Rattle.blif_read.specs.declared.models.BlifModel.{BlifModel}
-use Rattle.flatten.specs.Instances.{no_model, model_at, find_model, formals, pairs_fault}
-use Rattle.flatten.specs.Linking.{each_once}
+use Rattle.flatten.proofs.Common.{get_or_default, err_from_is_err_and, BlifModel, no_model, model_at, find_model, formals, pairs_fault, each_once}
 use Rattle.flatten.proofs.Libraries.{formals_at}
 use Rattle.flatten.proofs.Binding.{by_test, entry_refused, entry_faulty, entry_fit}
 use Rattle.flatten.proofs.bind.enter.Goals as goal

@@ -1,5 +1,5 @@
 use Rattle.std.proofs.Common.{inl, inr, ⊎_elim, ap, ◌++◌, sym, ◌∙◌, option_map}
-use Rattle.std.proofs.lemmas.Result.{err_from_is_err_and}
+use Rattle.flatten.proofs.Common.{err_from_is_err_and}
 use Rattle.flatten.specs.declared.fault.FlatFault.TheVariants.{OpenInput}
 use Rattle.flatten.specs.Instances.{first_open}
 use Rattle.flatten.proofs.Binding.{pairs_fault_at, pairs_fault_open}

@@ -1,7 +1,5 @@
 use Rattle.std.proofs.Common.{◌<◌, length, sym, ap, ◌∙◌, arith}
-use Rattle.std.specs.Str.{bytes_eq}
-use Rattle.flatten.specs.declared.walk.Level.{Level}
-use Rattle.blif_read.specs.declared.models.BlifModel.{BlifModel}
+use Rattle.flatten.proofs.Common.{bytes_eq, Level, BlifModel}
 use Rattle.flatten.proofs.Binding.{open_at, other_at}
 use Rattle.flatten.proofs.bind.is_open.Goals as goal
 

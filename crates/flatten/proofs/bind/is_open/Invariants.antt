@@ -1,7 +1,5 @@
 use Rattle.std.proofs.Common.{◌≡◌, drop}
-use Rattle.std.specs.List.{list_any}
-use Rattle.std.specs.Str.{bytes_eq}
-use Rattle.flatten.specs.Instances.{model_at}
+use Rattle.flatten.proofs.Common.{list_any, bytes_eq, model_at}
 use Rattle.flatten.proofs.bind.is_open.Given as goal
 
 abbrev pub invariant-loop-level : goal.invariant-loop-level

@@ -1,10 +1,5 @@
 use Rattle.std.proofs.Common.{inl, inr, ⊎_elim, ap, sym, subst, ◌∙◌, Ok, Err}
-use Rattle.std.proofs.lemmas.List.{get_or_default}
-use Rattle.std.proofs.lemmas.Result.{err_from_is_err_and}
-use Rattle.blif_read.specs.declared.models.BlifModel.{BlifModel}
-use Rattle.blif_read.specs.declared.models.Item.TheVariants.{Part}
-use Rattle.flatten.specs.declared.fault.FlatFault.{FlatFault}
-use Rattle.flatten.specs.Instances.{no_model}
+use Rattle.flatten.proofs.Common.{get_or_default, err_from_is_err_and, BlifModel, Part, FlatFault, no_model}
 use Rattle.flatten.specs.Counting.{entered_below, FailsBy}
 use Rattle.flatten.proofs.Counting.{inside_is, next_leaves, next_fails, none_left, line_passed, line_fault, part_refused, no_part, part_leaves, part_fails}
 use Rattle.flatten.proofs.count.+room.Goals as goal

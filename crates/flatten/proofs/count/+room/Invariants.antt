@@ -1,6 +1,5 @@
 use Rattle.std.proofs.Common.{◌≡◌, ℕ, ◌+◌, ◌-◌, ◌*◌, length, drop}
-use Rattle.std.specs.declared.result.Result.{Result}
-use Rattle.flatten.specs.declared.fault.FlatFault.{FlatFault}
+use Rattle.flatten.proofs.Common.{Result, FlatFault}
 use Rattle.flatten.specs.Counting.{Leave}
 use Rattle.flatten.proofs.count.+room.Given as goal
 

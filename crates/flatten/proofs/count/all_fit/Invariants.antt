@@ -1,5 +1,5 @@
 use Rattle.std.proofs.Common.{take, All}
-use Rattle.flatten.specs.Counting.{Fits}
+use Rattle.flatten.proofs.Common.{Fits}
 use Rattle.flatten.proofs.count.all_fit.Given as goal
 
 abbrev pub invariant-loop-model : goal.invariant-loop-model

@@ -1,4 +1,4 @@
-use Rattle.flatten.specs.Counting.{Fits}
+use Rattle.flatten.proofs.Common.{Fits}
 use Rattle.flatten.proofs.Counting.{all_more, all_taken}
 use Rattle.flatten.proofs.count.body_fits.Goals as goal
 

@@ -1,8 +1,5 @@
 use Rattle.std.proofs.Common.{ap, get_or, sym, ◌∙◌}
-use Rattle.std.proofs.lemmas.List.{get_or_default}
-use Rattle.blif_read.specs.declared.models.BlifModel.{BlifModel}
-use Rattle.flatten.specs.Instances.{no_model, formals}
-use Rattle.flatten.specs.Linking.{each_once}
+use Rattle.flatten.proofs.Common.{get_or_default, BlifModel, no_model, formals, each_once}
 use Rattle.flatten.proofs.Libraries.{formals_at}
 use Rattle.flatten.proofs.count.check_pairs.Goals as goal
 

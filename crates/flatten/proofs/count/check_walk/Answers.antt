@@ -1,8 +1,5 @@
 use Rattle.std.proofs.Common.{inl, inr, ⊎_elim, ap, sym, ◌∙◌, ◌++◌, ◌∷◌, []}
-use Rattle.std.proofs.lemmas.List.{get_or_default}
-use Rattle.std.proofs.lemmas.Result.{err_from_is_err_and}
-use Rattle.blif_read.specs.declared.models.BlifModel.{BlifModel}
-use Rattle.flatten.specs.Instances.{no_model}
+use Rattle.flatten.proofs.Common.{get_or_default, err_from_is_err_and, BlifModel, no_model}
 use Rattle.flatten.proofs.Counting.{fault_of_walk}
 use Rattle.flatten.proofs.count.check_walk.Goals as goal
 

@@ -1,7 +1,5 @@
 use Rattle.std.proofs.Common.{ℕ, get_or, sym, ap, ◌∙◌}
-use Rattle.std.proofs.lemmas.List.{get_or_default}
-use Rattle.std.specs.Str.{bytes_eq}
-use Rattle.blif_read.specs.declared.models.BlifModel.{BlifModel}
+use Rattle.flatten.proofs.Common.{get_or_default, bytes_eq, BlifModel}
 use Rattle.flatten.proofs.Binding.{open_at, other_at}
 use Rattle.flatten.proofs.count.stands_among.Goals as goal
 

@@ -1,10 +1,5 @@
 use Rattle.std.proofs.Common.{◌≡◌, ◌≤◌, ◌+◌, length, sym, ap, ◌∙◌, arith, Ok}
-use Rattle.std.proofs.lemmas.List.{get_or_default}
-use Rattle.blif_read.specs.declared.models.BlifModel.{BlifModel}
-use Rattle.flatten.specs.Instances.{no_model, model_at}
-use Rattle.flatten.specs.Linking.{linked}
-use Rattle.flatten.specs.Levels.{lines_of}
-use Rattle.flatten.specs.Flat.{linked_lines}
+use Rattle.flatten.proofs.Common.{get_or_default, BlifModel, no_model, model_at, linked, lines_of, linked_lines}
 use Rattle.flatten.proofs.Printable.{sound_model}
 use Rattle.flatten.proofs.Stepping.{few_lines}
 use Rattle.flatten.proofs.Valid.{linked_valid}

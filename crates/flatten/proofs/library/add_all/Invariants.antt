@@ -1,6 +1,5 @@
 use Rattle.std.proofs.Common.{◌≡◌, take, fold}
-use Rattle.std.specs.Str.{bytes_eq}
-use Rattle.indexmap.specs.IndexSet.{insert_key}
+use Rattle.flatten.proofs.Common.{bytes_eq, insert_key}
 use Rattle.flatten.proofs.library.add_all.Given as goal
 
 abbrev pub invariant-loop-name : goal.invariant-loop-name

@@ -1,6 +1,5 @@
 use Rattle.std.proofs.Common.{◌≡◌, [], take, map, fold}
-use Rattle.std.specs.Str.{bytes_eq}
-use Rattle.indexmap.specs.IndexSet.{insert_key}
+use Rattle.flatten.proofs.Common.{bytes_eq, insert_key}
 use Rattle.flatten.proofs.library.add_model_names.Given as goal
 
 abbrev pub invariant-loop-model : goal.invariant-loop-model

@@ -1,6 +1,5 @@
 use Rattle.std.proofs.Common.{◌≡◌, take, map}
-use Rattle.flatten.specs.Instances.{formals}
-use Rattle.flatten.specs.Linking.{each_once}
+use Rattle.flatten.proofs.Common.{formals, each_once}
 use Rattle.flatten.proofs.library.all_formals.Given as goal
 
 abbrev pub invariant-loop-model : goal.invariant-loop-model

@@ -1,6 +1,5 @@
 use Rattle.std.proofs.Common.{ap, ◌∙◌}
-use Rattle.std.specs.List.{position}
-use Rattle.std.specs.Str.{bytes_eq}
+use Rattle.flatten.proofs.Common.{position, bytes_eq}
 use Rattle.flatten.proofs.Libraries.{place_of}
 use Rattle.flatten.proofs.library.find.Goals as goal
 

@@ -1,5 +1,5 @@
 use Rattle.std.proofs.Common.{map, ◌∙◌}
-use Rattle.blif_read.specs.declared.models.BlifModel.{BlifModel}
+use Rattle.flatten.proofs.Common.{BlifModel}
 use Rattle.flatten.proofs.Libraries.{distinct_once}
 use Rattle.flatten.proofs.library.library_of.Goals as goal
 

@@ -1,7 +1,5 @@
 use Rattle.std.proofs.Common.{◌≡◌, ◌++◌, length, length-append, fold, ap, ◌∙◌, arith}
-use Rattle.std.specs.Str.{bytes_eq}
-use Rattle.indexmap.specs.IndexSet.{insert_key}
-use Rattle.flatten.specs.Linking.{own_clocks}
+use Rattle.flatten.proofs.Common.{bytes_eq, insert_key, own_clocks}
 use Rattle.flatten.proofs.Gathering.{own_clocks_gathered}
 use Rattle.flatten.proofs.link.add_clocks.Goals as goal
 

@@ -1,10 +1,6 @@
 use Rattle.std.proofs.Common.{◌≡◌, inl, inr, ⊎_elim, ◌++◌, map, sym, ap, ◌∙◌, None, option_map}
-use Rattle.std.proofs.lemmas.Result.{err_from_is_err_and}
-use Rattle.blif_read.specs.declared.models.GateLine.{GateLine}
-use Rattle.blif_read.specs.declared.models.LatchLine.{LatchLine}
+use Rattle.flatten.proofs.Common.{err_from_is_err_and, GateLine, LatchLine, own_clocks, twice_after, lines_of}
 use Rattle.flatten.specs.declared.fault.FlatFault.TheVariants.{DrivenTwice}
-use Rattle.flatten.specs.Linking.{own_clocks, twice_after}
-use Rattle.flatten.specs.Levels.{lines_of}
 use Rattle.flatten.proofs.Gathering.{latch_twice, gate_twice, none_twice}
 use Rattle.flatten.proofs.link.add_drivers.Goals as goal
 

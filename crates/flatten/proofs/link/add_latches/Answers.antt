@@ -1,5 +1,5 @@
 use Rattle.std.proofs.Common.{◌<◌, length, ◌∙◌, arith}
-use Rattle.blif_read.specs.declared.models.LatchLine.{LatchLine}
+use Rattle.flatten.proofs.Common.{LatchLine}
 use Rattle.flatten.proofs.Added.{added_by}
 use Rattle.flatten.proofs.link.add_latches.Goals as goal
 

@@ -1,5 +1,5 @@
 use Rattle.std.proofs.Common.{◌≡◌, ◌++◌, take, drop, map}
-use Rattle.flatten.specs.Linking.{twice_after}
+use Rattle.flatten.proofs.Common.{twice_after}
 use Rattle.flatten.proofs.link.add_latches.Given as goal
 
 abbrev pub invariant-loop-latch : goal.invariant-loop-latch

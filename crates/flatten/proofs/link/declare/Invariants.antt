@@ -1,5 +1,5 @@
 use Rattle.std.proofs.Common.{◌≡◌, take, drop}
-use Rattle.flatten.specs.Linking.{twice_after, first_twice}
+use Rattle.flatten.proofs.Common.{twice_after, first_twice}
 use Rattle.flatten.proofs.link.declare.Given as goal
 
 abbrev pub invariant-loop-name : goal.invariant-loop-name

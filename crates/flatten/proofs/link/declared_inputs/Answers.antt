@@ -1,8 +1,6 @@
 use Rattle.std.proofs.Common.{inl, inr, ⊎_elim, ap, ◌≡◌, sym, ◌∙◌, None, option_map}
-use Rattle.std.proofs.lemmas.Result.{err_from_is_err_and}
-use Rattle.std.specs.Option.{option_or}
+use Rattle.flatten.proofs.Common.{err_from_is_err_and, option_or, first_twice}
 use Rattle.flatten.specs.declared.fault.FlatFault.TheVariants.{DeclaredTwice}
-use Rattle.flatten.specs.Linking.{first_twice}
 use Rattle.flatten.proofs.Gathering.{some_first}
 use Rattle.flatten.proofs.link.declared_inputs.Goals as goal
 

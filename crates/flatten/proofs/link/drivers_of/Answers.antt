@@ -1,7 +1,5 @@
 use Rattle.std.proofs.Common.{inl, inr, ⊎_elim, ◌∙◌}
-use Rattle.std.proofs.lemmas.Result.{err_from_is_err_and}
-use Rattle.flatten.specs.Linking.{declared_twice, driven_twice}
-use Rattle.flatten.specs.Levels.{lines_of}
+use Rattle.flatten.proofs.Common.{err_from_is_err_and, declared_twice, driven_twice, lines_of}
 use Rattle.flatten.proofs.Gathering.{some_or, none_or_is}
 use Rattle.flatten.proofs.link.drivers_of.Goals as goal
 

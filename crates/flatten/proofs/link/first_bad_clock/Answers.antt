@@ -1,7 +1,7 @@
 use Rattle.std.proofs.Common.{sym, ap, ◌∙◌}
-use Rattle.std.specs.List.{find}
+use Rattle.flatten.proofs.Common.{find, has_bad_control}
 use Rattle.std.specs.Option.{option_copied}
-use Rattle.flatten.specs.Linking.{has_bad_control, has_other_control}
+use Rattle.flatten.specs.Linking.{has_other_control}
 use Rattle.flatten.proofs.Gathering.{find_other, find_none}
 use Rattle.flatten.proofs.link.first_bad_clock.Goals as goal
 

@@ -1,9 +1,5 @@
 use Rattle.std.proofs.Common.{◌++◌, [], ◌∷◌, inl, inr, ⊎_elim, ℕ, List, map, subst, sym, ap, ◌∙◌, append_assoc}
-use Rattle.std.proofs.lemmas.Result.{err_from_is_err_and}
-use Rattle.std.specs.List.{flat_map}
-use Rattle.blif_read.specs.declared.models.GateLine.{GateLine}
-use Rattle.flatten.specs.Linking.{gate_with}
-use Rattle.flatten.specs.Drivers.{sig_or}
+use Rattle.flatten.proofs.Common.{err_from_is_err_and, flat_map, GateLine, gate_with, sig_or}
 use Rattle.flatten.proofs.Reading.{IsLeft, fewer_left, fault_left, none_left}
 use Rattle.flatten.proofs.link.flat_gates.Goals as goal
 

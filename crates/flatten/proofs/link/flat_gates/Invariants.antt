@@ -1,7 +1,5 @@
 use Rattle.std.proofs.Common.{◌≡◌, ◌++◌, map}
-use Rattle.std.specs.List.{flat_map}
-use Rattle.flatten.specs.Linking.{gate_with}
-use Rattle.flatten.specs.Drivers.{sig_or}
+use Rattle.flatten.proofs.Common.{flat_map, gate_with, sig_or}
 use Rattle.flatten.proofs.Reading.{IsLeft}
 use Rattle.flatten.proofs.link.flat_gates.Given as goal
 

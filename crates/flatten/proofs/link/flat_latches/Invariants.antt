@@ -1,6 +1,5 @@
 use Rattle.std.proofs.Common.{◌≡◌, take, drop, map}
-use Rattle.flatten.specs.Linking.{latch_with}
-use Rattle.flatten.specs.Drivers.{sig_or}
+use Rattle.flatten.proofs.Common.{latch_with, sig_or}
 use Rattle.flatten.proofs.Reading.{IsLeft}
 use Rattle.flatten.proofs.link.flat_latches.Given as goal
 

@@ -1,13 +1,7 @@
 use Rattle.std.proofs.Common.{◌≡◌, inl, inr, ⊎_elim, List, None, option_map, subst, sym, ap, ◌∙◌}
-use Rattle.std.proofs.lemmas.Result.{err_from_is_err_and}
-use Rattle.std.specs.Option.{option_or}
-use Rattle.blif_read.specs.declared.models.GateLine.{GateLine}
-use Rattle.blif_read.specs.declared.models.LatchLine.{LatchLine}
+use Rattle.flatten.proofs.Common.{err_from_is_err_and, option_or, GateLine, LatchLine, sig_or, undriven_among, AreRead, lines_of, reads, netlist_by, FlatLines}
 use Rattle.flatten.specs.declared.fault.FlatFault.TheVariants.{ClockRead}
-use Rattle.flatten.specs.Drivers.{sig_or, undriven_among, bad_clock_among, AreRead}
-use Rattle.flatten.specs.Levels.{lines_of}
-use Rattle.flatten.specs.Linking.{reads, netlist_by}
-use Rattle.flatten.specs.Walk.{FlatLines}
+use Rattle.flatten.specs.Drivers.{bad_clock_among}
 use Rattle.flatten.proofs.Placing.{linked_undriven, linked_clock, linked_parts, has_signals}
 use Rattle.flatten.proofs.link.link.Goals as goal
 

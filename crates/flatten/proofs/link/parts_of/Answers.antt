@@ -1,9 +1,5 @@
 use Rattle.std.proofs.Common.{◌≡◌, ◌++◌, subst, inl, inr, ⊎_elim, ℕ, List, map, sym, ap, ◌∙◌, None}
-use Rattle.std.proofs.lemmas.Result.{err_from_is_err_and}
-use Rattle.std.specs.List.{flat_map}
-use Rattle.blif_read.specs.declared.models.GateLine.{GateLine}
-use Rattle.blif_read.specs.declared.models.LatchLine.{LatchLine}
-use Rattle.flatten.specs.Drivers.{undriven_among, AreRead}
+use Rattle.flatten.proofs.Common.{err_from_is_err_and, flat_map, GateLine, LatchLine, undriven_among, AreRead}
 use Rattle.flatten.proofs.Reading.{undriven_front, undriven_behind, read_both}
 use Rattle.flatten.proofs.link.parts_of.Goals as goal
 

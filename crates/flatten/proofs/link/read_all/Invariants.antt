@@ -1,5 +1,5 @@
 use Rattle.std.proofs.Common.{◌≡◌, take, drop, map}
-use Rattle.flatten.specs.Drivers.{sig_or}
+use Rattle.flatten.proofs.Common.{sig_or}
 use Rattle.flatten.proofs.Reading.{IsLeft}
 use Rattle.flatten.proofs.link.read_all.Given as goal
 

@@ -1,5 +1,5 @@
 use Rattle.std.proofs.Common.{◌≡◌, take}
-use Rattle.tildes.specs.Runs.{longest_run_of}
+use Rattle.flatten.proofs.Common.{longest_run_of}
 use Rattle.flatten.proofs.mark.longest_in.Given as goal
 
 abbrev pub invariant-loop-name : goal.invariant-loop-name

@@ -1,7 +1,6 @@
 use Rattle.std.proofs.Common.{◌<◌, ◌+◌, length, take, arith}
-use Rattle.std.specs.List.{flat_map}
+use Rattle.flatten.proofs.Common.{flat_map, item_names}
 use Rattle.tildes.proofs.RunLemmas.{max_is}
-use Rattle.flatten.specs.Wires.{item_names}
 use Rattle.flatten.proofs.Marks.{longest_items, longest_model}
 use Rattle.flatten.proofs.mark.longest_in_model.Goals as goal
 

@@ -1,7 +1,5 @@
 use Rattle.std.proofs.Common.{◌≡◌, ◌++◌, take}
-use Rattle.std.specs.List.{flat_map}
-use Rattle.tildes.specs.Runs.{longest_run_of}
-use Rattle.flatten.specs.Wires.{item_names}
+use Rattle.flatten.proofs.Common.{flat_map, longest_run_of, item_names}
 use Rattle.flatten.proofs.mark.longest_in_model.Given as goal
 
 abbrev pub invariant-loop-item : goal.invariant-loop-item

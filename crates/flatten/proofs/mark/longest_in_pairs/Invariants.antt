@@ -1,6 +1,5 @@
 use Rattle.std.proofs.Common.{◌≡◌, take}
-use Rattle.tildes.specs.Runs.{longest_run_of}
-use Rattle.flatten.specs.Wires.{pair_names}
+use Rattle.flatten.proofs.Common.{longest_run_of, pair_names}
 use Rattle.flatten.proofs.mark.longest_in_pairs.Given as goal
 
 abbrev pub invariant-loop-formal : goal.invariant-loop-formal

@@ -1,8 +1,7 @@
 use Rattle.std.proofs.Common.{suc, ap, ◌∙◌, arith}
 use Rattle.std.proofs.lemmas.List.{take_all}
 use Rattle.std.proofs.lemmas.Result.{IfOk-weaker}
-use Rattle.tildes.specs.Runs.{longest_run_of, tildes}
-use Rattle.flatten.specs.Wires.{wire_names}
+use Rattle.flatten.proofs.Common.{longest_run_of, tildes, wire_names}
 use Rattle.flatten.proofs.mark.mark.Goals as goal
 
 pub returns : goal.returns

@@ -1,6 +1,5 @@
 use Rattle.std.proofs.Common.{◌≡◌, take}
-use Rattle.tildes.specs.Runs.{longest_run_of}
-use Rattle.flatten.specs.Wires.{wire_names}
+use Rattle.flatten.proofs.Common.{longest_run_of, wire_names}
 use Rattle.flatten.proofs.mark.mark.Given as goal
 
 abbrev pub invariant-loop-model : goal.invariant-loop-model

@@ -1,6 +1,6 @@
 use Rattle.std.proofs.Common.{◌<◌, ◌++◌, ◌∷◌, [], length, ap, ap₂, sym, ◌∙◌, arith}
 use Rattle.std.proofs.lemmas.List.{map_more}
-use Rattle.flatten.specs.Laws.{resolved}
+use Rattle.flatten.proofs.Common.{resolved}
 use Rattle.flatten.proofs.scope.resolve_all.Goals as goal
 
 pub loop-name-preserved : goal.loop-name-preserved

@@ -1,5 +1,5 @@
 use Rattle.std.proofs.Common.{◌≡◌, take, map}
-use Rattle.flatten.specs.Laws.{resolved}
+use Rattle.flatten.proofs.Common.{resolved}
 use Rattle.flatten.proofs.scope.resolve_all.Given as goal
 
 abbrev pub invariant-loop-name : goal.invariant-loop-name

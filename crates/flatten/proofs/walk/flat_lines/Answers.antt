@@ -1,9 +1,5 @@
 use Rattle.std.proofs.Common.{suc, inl, inr, ⊎_elim, ap, ◌∙◌, arith, length, length-append, ◌∷◌, []}
-use Rattle.std.proofs.lemmas.Result.{err_from_is_err_and}
-use Rattle.tildes.specs.Runs.{longest_run_of}
-use Rattle.flatten.specs.Instances.{model_at}
-use Rattle.flatten.specs.Walk.{flat_lines}
-use Rattle.flatten.specs.Wires.{wire_names}
+use Rattle.flatten.proofs.Common.{err_from_is_err_and, longest_run_of, model_at, flat_lines, wire_names}
 use Rattle.flatten.proofs.Printable.{printed_begun, popped_printed}
 use Rattle.flatten.proofs.Stepping.{walking_start, popped}
 use Rattle.flatten.proofs.walk.flat_lines.Goals as goal

@@ -1,6 +1,5 @@
 use Rattle.std.proofs.Common.{◌+◌, ◌*◌, length}
-use Rattle.flatten.specs.Instances.{model_at}
-use Rattle.flatten.specs.Walk.{flat_lines}
+use Rattle.flatten.proofs.Common.{model_at, flat_lines}
 use Rattle.flatten.specs.Levels.{WalkingAt}
 use Rattle.flatten.specs.Printable.{IsPrinted}
 use Rattle.flatten.proofs.walk.flat_lines.Given as goal

@@ -1,5 +1,5 @@
 use Rattle.std.proofs.Common.{ℕ, List, inl, inr, ⊎_elim, subst, sym, ap, ◌∙◌, Err}
-use Rattle.flatten.specs.Levels.{PassesPart}
+use Rattle.flatten.proofs.Common.{PassesPart}
 use Rattle.flatten.proofs.Printable.{printed_gate, printed_latch, printed_part}
 use Rattle.flatten.proofs.Results.{on_ok, on_err}
 use Rattle.flatten.proofs.Stepping.{walking_at, walking_pop, walking_gate, walking_latch, walking_part, full_gate, full_latch, failing_part}

@@ -13,7 +13,7 @@ use Rattle.loops.proofs.cuts.enter.Goals as goal
 
 pub returns-then-reads_itself-clause-kept : goal.returns-then-reads_itself-clause-kept
 returns-then-reads_itself-clause-kept c =
-    left_out (IsLoopPin c.args.net.now c.args.blocks.now) c.args.cut.now c.args.gate (omega (arith, c.requires.gate, c.requires.cut)) c.args.readers.now c.args.sources.now c.args.levels.now c.requires.kept
+    left_out (IsLoopPin c.args.grouped.now.net c.args.grouped.now.blocks) c.args.cut.now c.args.gate (omega (arith, c.requires.gate, c.requires.cut)) c.args.readers.now c.args.sources.now c.args.levels.now c.requires.kept
 
 pub close-requires-clause-readers : goal.close-requires-clause-readers
 close-requires-clause-readers c =
@@ -24,22 +24,22 @@ close-requires-clause-readers c =
 
 pub close-requires-clause-sources : goal.close-requires-clause-sources
 close-requires-clause-sources c =
-    let R = IsLoopPin c.args.net.now c.args.blocks.now in
+    let R = IsLoopPin c.args.grouped.now.net c.args.grouped.now.blocks in
     let n = c.args.gate in
     let l : n < length c.args.cut.now = omega (arith, c.requires.gate, c.requires.cut) in
     let laid = row_laid R c.args.cut.now n l c.args.readers.now c.args.sources.now c.args.levels.now c.in_ok-row.row c.requires.kept
-    (own_row c.args.net.now c.args.blocks.now c.args.cut.now n c.in_ok-row.row c.in_ok-row.ensures) in
+    (own_row c.args.grouped.now.net c.args.grouped.now.blocks c.args.cut.now n c.in_ok-row.row c.in_ok-row.ensures) in
     let sources : List (List ℕ) = set c.args.sources.now n c.in_ok-row.row in
     let kept = laid.0 in
     all_within sources (length c.args.levels.now) (λ y x listed. let within = kept.reads_within x y listed in omega (arith, kept.levels_size))
 
 pub returns-then-branch-clause-leads : goal.returns-then-branch-clause-leads
 returns-then-branch-clause-leads c =
-    let R = IsLoopPin c.args.net.now c.args.blocks.now in
+    let R = IsLoopPin c.args.grouped.now.net c.args.grouped.now.blocks in
     let n = c.args.gate in
     let l : n < length c.args.cut.now = omega (arith, c.requires.gate, c.requires.cut) in
     let laid = row_laid R c.args.cut.now n l c.args.readers.now c.args.sources.now c.args.levels.now c.in_ok-row.row c.requires.kept
-    (own_row c.args.net.now c.args.blocks.now c.args.cut.now n c.in_ok-row.row c.in_ok-row.ensures) in
+    (own_row c.args.grouped.now.net c.args.grouped.now.blocks c.args.cut.now n c.in_ok-row.row c.in_ok-row.ensures) in
     let sources : List (List ℕ) = set c.args.sources.now n c.in_ok-row.row in
     let met : HasParted c.args.readers.now sources n c.args.levels.now c.close.new.levels true =
     subst (λ (b : Bool). HasParted c.args.readers.now sources n c.args.levels.now c.close.new.levels b) c.if-branch.true c.in_ok-close.ensures.parted in
@@ -47,11 +47,11 @@ returns-then-branch-clause-leads c =
 
 pub returns-then-branch-clause-kept : goal.returns-then-branch-clause-kept
 returns-then-branch-clause-kept c =
-    let R = IsLoopPin c.args.net.now c.args.blocks.now in
+    let R = IsLoopPin c.args.grouped.now.net c.args.grouped.now.blocks in
     let n = c.args.gate in
     let l : n < length c.args.cut.now = omega (arith, c.requires.gate, c.requires.cut) in
     let laid = row_laid R c.args.cut.now n l c.args.readers.now c.args.sources.now c.args.levels.now c.in_ok-row.row c.requires.kept
-    (own_row c.args.net.now c.args.blocks.now c.args.cut.now n c.in_ok-row.row c.in_ok-row.ensures) in
+    (own_row c.args.grouped.now.net c.args.grouped.now.blocks c.args.cut.now n c.in_ok-row.row c.in_ok-row.ensures) in
     let sources : List (List ℕ) = set c.args.sources.now n c.in_ok-row.row in
     let met : HasParted c.args.readers.now sources n c.args.levels.now c.close.new.levels true =
     subst (λ (b : Bool). HasParted c.args.readers.now sources n c.args.levels.now c.close.new.levels b) c.if-branch.true c.in_ok-close.ensures.parted in
@@ -60,11 +60,11 @@ returns-then-branch-clause-kept c =
 
 pub place-requires-clause-behind : goal.place-requires-clause-behind
 place-requires-clause-behind c =
-    let R = IsLoopPin c.args.net.now c.args.blocks.now in
+    let R = IsLoopPin c.args.grouped.now.net c.args.grouped.now.blocks in
     let n = c.args.gate in
     let l : n < length c.args.cut.now = omega (arith, c.requires.gate, c.requires.cut) in
     let laid = row_laid R c.args.cut.now n l c.args.readers.now c.args.sources.now c.args.levels.now c.in_ok-row.row c.requires.kept
-    (own_row c.args.net.now c.args.blocks.now c.args.cut.now n c.in_ok-row.row c.in_ok-row.ensures) in
+    (own_row c.args.grouped.now.net c.args.grouped.now.blocks c.args.cut.now n c.in_ok-row.row c.in_ok-row.ensures) in
     let sources : List (List ℕ) = set c.args.sources.now n c.in_ok-row.row in
     let levels = c.close.new.levels in
     let apart = parted R c.args.cut.now n l c.args.readers.now sources c.args.levels.now laid.0 laid.1 levels
@@ -78,11 +78,11 @@ place-requires-clause-behind c =
 
 pub place-requires-clause-ahead : goal.place-requires-clause-ahead
 place-requires-clause-ahead c =
-    let R = IsLoopPin c.args.net.now c.args.blocks.now in
+    let R = IsLoopPin c.args.grouped.now.net c.args.grouped.now.blocks in
     let n = c.args.gate in
     let l : n < length c.args.cut.now = omega (arith, c.requires.gate, c.requires.cut) in
     let laid = row_laid R c.args.cut.now n l c.args.readers.now c.args.sources.now c.args.levels.now c.in_ok-row.row c.requires.kept
-    (own_row c.args.net.now c.args.blocks.now c.args.cut.now n c.in_ok-row.row c.in_ok-row.ensures) in
+    (own_row c.args.grouped.now.net c.args.grouped.now.blocks c.args.cut.now n c.in_ok-row.row c.in_ok-row.ensures) in
     let sources : List (List ℕ) = set c.args.sources.now n c.in_ok-row.row in
     let levels = c.close.new.levels in
     let apart = parted R c.args.cut.now n l c.args.readers.now sources c.args.levels.now laid.0 laid.1 levels
@@ -97,11 +97,11 @@ place-requires-clause-ahead c =
 
 pub place-requires-clause-apart : goal.place-requires-clause-apart
 place-requires-clause-apart c =
-    let R = IsLoopPin c.args.net.now c.args.blocks.now in
+    let R = IsLoopPin c.args.grouped.now.net c.args.grouped.now.blocks in
     let n = c.args.gate in
     let l : n < length c.args.cut.now = omega (arith, c.requires.gate, c.requires.cut) in
     let laid = row_laid R c.args.cut.now n l c.args.readers.now c.args.sources.now c.args.levels.now c.in_ok-row.row c.requires.kept
-    (own_row c.args.net.now c.args.blocks.now c.args.cut.now n c.in_ok-row.row c.in_ok-row.ensures) in
+    (own_row c.args.grouped.now.net c.args.grouped.now.blocks c.args.cut.now n c.in_ok-row.row c.in_ok-row.ensures) in
     let sources : List (List ℕ) = set c.args.sources.now n c.in_ok-row.row in
     let levels = c.close.new.levels in
     let apart = parted R c.args.cut.now n l c.args.readers.now sources c.args.levels.now laid.0 laid.1 levels
@@ -114,11 +114,11 @@ place-requires-clause-apart c =
 
 pub add_source-requires : goal.add_source-requires
 add_source-requires c =
-    let R = IsLoopPin c.args.net.now c.args.blocks.now in
+    let R = IsLoopPin c.args.grouped.now.net c.args.grouped.now.blocks in
     let n = c.args.gate in
     let l : n < length c.args.cut.now = omega (arith, c.requires.gate, c.requires.cut) in
     let laid = row_laid R c.args.cut.now n l c.args.readers.now c.args.sources.now c.args.levels.now c.in_ok-row.row c.requires.kept
-    (own_row c.args.net.now c.args.blocks.now c.args.cut.now n c.in_ok-row.row c.in_ok-row.ensures) in
+    (own_row c.args.grouped.now.net c.args.grouped.now.blocks c.args.cut.now n c.in_ok-row.row c.in_ok-row.ensures) in
     let sources : List (List ℕ) = set c.args.sources.now n c.in_ok-row.row in
     let levels = c.close.new.levels in
     let apart = parted R c.args.cut.now n l c.args.readers.now sources c.args.levels.now laid.0 laid.1 levels
@@ -133,11 +133,11 @@ add_source-requires c =
 
 pub returns-clause-leads : goal.returns-clause-leads
 returns-clause-leads c =
-    let R = IsLoopPin c.args.net.now c.args.blocks.now in
+    let R = IsLoopPin c.args.grouped.now.net c.args.grouped.now.blocks in
     let n = c.args.gate in
     let l : n < length c.args.cut.now = omega (arith, c.requires.gate, c.requires.cut) in
     let laid = row_laid R c.args.cut.now n l c.args.readers.now c.args.sources.now c.args.levels.now c.in_ok-row.row c.requires.kept
-    (own_row c.args.net.now c.args.blocks.now c.args.cut.now n c.in_ok-row.row c.in_ok-row.ensures) in
+    (own_row c.args.grouped.now.net c.args.grouped.now.blocks c.args.cut.now n c.in_ok-row.row c.in_ok-row.ensures) in
     let sources : List (List ℕ) = set c.args.sources.now n c.in_ok-row.row in
     let levels = c.close.new.levels in
     let apart = parted R c.args.cut.now n l c.args.readers.now sources c.args.levels.now laid.0 laid.1 levels
@@ -150,11 +150,11 @@ returns-clause-leads c =
 
 pub returns-clause-kept : goal.returns-clause-kept
 returns-clause-kept c =
-    let R = IsLoopPin c.args.net.now c.args.blocks.now in
+    let R = IsLoopPin c.args.grouped.now.net c.args.grouped.now.blocks in
     let n = c.args.gate in
     let l : n < length c.args.cut.now = omega (arith, c.requires.gate, c.requires.cut) in
     let laid = row_laid R c.args.cut.now n l c.args.readers.now c.args.sources.now c.args.levels.now c.in_ok-row.row c.requires.kept
-    (own_row c.args.net.now c.args.blocks.now c.args.cut.now n c.in_ok-row.row c.in_ok-row.ensures) in
+    (own_row c.args.grouped.now.net c.args.grouped.now.blocks c.args.cut.now n c.in_ok-row.row c.in_ok-row.ensures) in
     let sources : List (List ℕ) = set c.args.sources.now n c.in_ok-row.row in
     let levels = c.close.new.levels in
     let apart = parted R c.args.cut.now n l c.args.readers.now sources c.args.levels.now laid.0 laid.1 levels
@@ -169,7 +169,7 @@ returns-clause-kept c =
     subst (λ (xs : List ℕ). HaveGained xs n (length xs) sources c.add_source.new.sources) ahead c.in_ok-add_source.ensures in
     entered R c.args.cut.now n l c.args.readers.now sources c.args.levels.now laid.0 laid.1 levels apart c.place.new.levels c.add_reader.new.readers c.add_source.new.sources
     (λ h. true≢false (sym (c.reads_itself.ensures.1 h) ∙ c.if-reads_itself.false)) placed c.in_ok-add_reader.ensures.size
-    (gained_rows c.args.net.now c.args.blocks.now n c.args.readers.now c.add_reader.new.readers c.in_ok-add_reader.ensures) gained
+    (gained_rows c.args.grouped.now.net c.args.grouped.now.blocks n c.args.readers.now c.add_reader.new.readers c.in_ok-add_reader.ensures) gained
 
 pub is_closed-requires-clause-readers : goal.is_closed-requires-clause-readers
 is_closed-requires-clause-readers c =
@@ -180,43 +180,43 @@ is_closed-requires-clause-readers c =
 
 pub is_closed-requires-clause-sources : goal.is_closed-requires-clause-sources
 is_closed-requires-clause-sources c =
-    let R = IsLoopPin c.args.net.now c.args.blocks.now in
+    let R = IsLoopPin c.args.grouped.now.net c.args.grouped.now.blocks in
     let n = c.args.gate in
     let l : n < length c.args.cut.now = omega (arith, c.requires.gate, c.requires.cut) in
     let laid = row_laid R c.args.cut.now n l c.args.readers.now c.args.sources.now c.args.levels.now c.in_ok-row.row c.requires.kept
-    (own_row c.args.net.now c.args.blocks.now c.args.cut.now n c.in_ok-row.row c.in_ok-row.ensures) in
+    (own_row c.args.grouped.now.net c.args.grouped.now.blocks c.args.cut.now n c.in_ok-row.row c.in_ok-row.ensures) in
     let sources : List (List ℕ) = set c.args.sources.now n c.in_ok-row.row in
     let kept = laid.0 in
     all_within sources (length c.args.readers.now) (λ y x listed. let within = kept.reads_within x y listed in omega (arith, kept.readers_size))
 
 pub returns-then-is_closed-clause-leads : goal.returns-then-is_closed-clause-leads
 returns-then-is_closed-clause-leads c =
-    let R = IsLoopPin c.args.net.now c.args.blocks.now in
+    let R = IsLoopPin c.args.grouped.now.net c.args.grouped.now.blocks in
     let n = c.args.gate in
     let l : n < length c.args.cut.now = omega (arith, c.requires.gate, c.requires.cut) in
     let laid = row_laid R c.args.cut.now n l c.args.readers.now c.args.sources.now c.args.levels.now c.in_ok-row.row c.requires.kept
-    (own_row c.args.net.now c.args.blocks.now c.args.cut.now n c.in_ok-row.row c.in_ok-row.ensures) in
+    (own_row c.args.grouped.now.net c.args.grouped.now.blocks c.args.cut.now n c.in_ok-row.row c.in_ok-row.ensures) in
     let sources : List (List ℕ) = set c.args.sources.now n c.in_ok-row.row in
     let met = passed_meet c.args.readers.now sources n (c.is_closed.ensures c.if-is_closed.true) in
     (λ e. closes R c.args.cut.now n l c.args.readers.now sources c.args.levels.now laid.0 laid.1 met, λ k. refl)
 
 pub returns-then-is_closed-clause-kept : goal.returns-then-is_closed-clause-kept
 returns-then-is_closed-clause-kept c =
-    let R = IsLoopPin c.args.net.now c.args.blocks.now in
+    let R = IsLoopPin c.args.grouped.now.net c.args.grouped.now.blocks in
     let n = c.args.gate in
     let l : n < length c.args.cut.now = omega (arith, c.requires.gate, c.requires.cut) in
     let laid = row_laid R c.args.cut.now n l c.args.readers.now c.args.sources.now c.args.levels.now c.in_ok-row.row c.requires.kept
-    (own_row c.args.net.now c.args.blocks.now c.args.cut.now n c.in_ok-row.row c.in_ok-row.ensures) in
+    (own_row c.args.grouped.now.net c.args.grouped.now.blocks c.args.cut.now n c.in_ok-row.row c.in_ok-row.ensures) in
     let sources : List (List ℕ) = set c.args.sources.now n c.in_ok-row.row in
     left_out R c.args.cut.now n l c.args.readers.now sources c.args.levels.now laid.0
 
 pub learn-requires-clause-readers : goal.learn-requires-clause-readers
 learn-requires-clause-readers c =
-    let R = IsLoopPin c.args.net.now c.args.blocks.now in
+    let R = IsLoopPin c.args.grouped.now.net c.args.grouped.now.blocks in
     let n = c.args.gate in
     let l : n < length c.args.cut.now = omega (arith, c.requires.gate, c.requires.cut) in
     let laid = row_laid R c.args.cut.now n l c.args.readers.now c.args.sources.now c.args.levels.now c.in_ok-row.row c.requires.kept
-    (own_row c.args.net.now c.args.blocks.now c.args.cut.now n c.in_ok-row.row c.in_ok-row.ensures) in
+    (own_row c.args.grouped.now.net c.args.grouped.now.blocks c.args.cut.now n c.in_ok-row.row c.in_ok-row.ensures) in
     let sources : List (List ℕ) = set c.args.sources.now n c.in_ok-row.row in
     let met : HasParted c.args.readers.now sources n c.args.levels.now c.close.new.levels true =
     subst (λ (b : Bool). HasParted c.args.readers.now sources n c.args.levels.now c.close.new.levels b) c.if-branch.true c.in_ok-close.ensures.parted in
@@ -229,11 +229,11 @@ learn-requires-clause-readers c =
 
 pub learn-requires-clause-sources : goal.learn-requires-clause-sources
 learn-requires-clause-sources c =
-    let R = IsLoopPin c.args.net.now c.args.blocks.now in
+    let R = IsLoopPin c.args.grouped.now.net c.args.grouped.now.blocks in
     let n = c.args.gate in
     let l : n < length c.args.cut.now = omega (arith, c.requires.gate, c.requires.cut) in
     let laid = row_laid R c.args.cut.now n l c.args.readers.now c.args.sources.now c.args.levels.now c.in_ok-row.row c.requires.kept
-    (own_row c.args.net.now c.args.blocks.now c.args.cut.now n c.in_ok-row.row c.in_ok-row.ensures) in
+    (own_row c.args.grouped.now.net c.args.grouped.now.blocks c.args.cut.now n c.in_ok-row.row c.in_ok-row.ensures) in
     let sources : List (List ℕ) = set c.args.sources.now n c.in_ok-row.row in
     let met : HasParted c.args.readers.now sources n c.args.levels.now c.close.new.levels true =
     subst (λ (b : Bool). HasParted c.args.readers.now sources n c.args.levels.now c.close.new.levels b) c.if-branch.true c.in_ok-close.ensures.parted in
@@ -243,11 +243,11 @@ learn-requires-clause-sources c =
 
 pub learn-requires-clause-within : goal.learn-requires-clause-within
 learn-requires-clause-within c =
-    let R = IsLoopPin c.args.net.now c.args.blocks.now in
+    let R = IsLoopPin c.args.grouped.now.net c.args.grouped.now.blocks in
     let n = c.args.gate in
     let l : n < length c.args.cut.now = omega (arith, c.requires.gate, c.requires.cut) in
     let laid = row_laid R c.args.cut.now n l c.args.readers.now c.args.sources.now c.args.levels.now c.in_ok-row.row c.requires.kept
-    (own_row c.args.net.now c.args.blocks.now c.args.cut.now n c.in_ok-row.row c.in_ok-row.ensures) in
+    (own_row c.args.grouped.now.net c.args.grouped.now.blocks c.args.cut.now n c.in_ok-row.row c.in_ok-row.ensures) in
     let sources : List (List ℕ) = set c.args.sources.now n c.in_ok-row.row in
     let met : HasParted c.args.readers.now sources n c.args.levels.now c.close.new.levels true =
     subst (λ (b : Bool). HasParted c.args.readers.now sources n c.args.levels.now c.close.new.levels b) c.if-branch.true c.in_ok-close.ensures.parted in
@@ -260,11 +260,11 @@ learn-requires-clause-within c =
 
 pub learn-requires-clause-back : goal.learn-requires-clause-back
 learn-requires-clause-back c =
-    let R = IsLoopPin c.args.net.now c.args.blocks.now in
+    let R = IsLoopPin c.args.grouped.now.net c.args.grouped.now.blocks in
     let n = c.args.gate in
     let l : n < length c.args.cut.now = omega (arith, c.requires.gate, c.requires.cut) in
     let laid = row_laid R c.args.cut.now n l c.args.readers.now c.args.sources.now c.args.levels.now c.in_ok-row.row c.requires.kept
-    (own_row c.args.net.now c.args.blocks.now c.args.cut.now n c.in_ok-row.row c.in_ok-row.ensures) in
+    (own_row c.args.grouped.now.net c.args.grouped.now.blocks c.args.cut.now n c.in_ok-row.row c.in_ok-row.ensures) in
     let sources : List (List ℕ) = set c.args.sources.now n c.in_ok-row.row in
     λ x found.
     reads_back R c.args.cut.now n c.args.readers.now sources c.args.levels.now laid.0 x
@@ -272,11 +272,11 @@ learn-requires-clause-back c =
 
 pub extend-requires-clause-readers : goal.extend-requires-clause-readers
 extend-requires-clause-readers c =
-    let R = IsLoopPin c.args.net.now c.args.blocks.now in
+    let R = IsLoopPin c.args.grouped.now.net c.args.grouped.now.blocks in
     let n = c.args.gate in
     let l : n < length c.args.cut.now = omega (arith, c.requires.gate, c.requires.cut) in
     let laid = row_laid R c.args.cut.now n l c.args.readers.now c.args.sources.now c.args.levels.now c.in_ok-row.row c.requires.kept
-    (own_row c.args.net.now c.args.blocks.now c.args.cut.now n c.in_ok-row.row c.in_ok-row.ensures) in
+    (own_row c.args.grouped.now.net c.args.grouped.now.blocks c.args.cut.now n c.in_ok-row.row c.in_ok-row.ensures) in
     let sources : List (List ℕ) = set c.args.sources.now n c.in_ok-row.row in
     let levels = c.close.new.levels in
     let apart = parted R c.args.cut.now n l c.args.readers.now sources c.args.levels.now laid.0 laid.1 levels
@@ -289,7 +289,7 @@ extend-requires-clause-readers c =
     (subst (λ (xs : List ℕ). IsPlaced c.gates-behind.result.now xs n levels c.place.new.levels) ahead c.place.ensures) in
     let gained : HaveGained (row_at c.args.readers.now n) n (length (row_at c.args.readers.now n)) sources c.add_source.new.sources =
     subst (λ (xs : List ℕ). HaveGained xs n (length xs) sources c.add_source.new.sources) ahead c.in_ok-add_source.ensures in
-    let gains = gained_rows c.args.net.now c.args.blocks.now n c.args.readers.now c.add_reader.new.readers c.in_ok-add_reader.ensures in
+    let gains = gained_rows c.args.grouped.now.net c.args.grouped.now.blocks n c.args.readers.now c.add_reader.new.readers c.in_ok-add_reader.ensures in
     let kept =
     entered R c.args.cut.now n l c.args.readers.now sources c.args.levels.now laid.0 laid.1 levels apart c.place.new.levels c.add_reader.new.readers c.add_source.new.sources
     (λ h. true≢false (sym (c.reads_itself.ensures.1 h) ∙ c.if-reads_itself.false)) placed c.in_ok-add_reader.ensures.size gains gained in
@@ -301,11 +301,11 @@ extend-requires-clause-readers c =
 
 pub extend-requires-clause-sources : goal.extend-requires-clause-sources
 extend-requires-clause-sources c =
-    let R = IsLoopPin c.args.net.now c.args.blocks.now in
+    let R = IsLoopPin c.args.grouped.now.net c.args.grouped.now.blocks in
     let n = c.args.gate in
     let l : n < length c.args.cut.now = omega (arith, c.requires.gate, c.requires.cut) in
     let laid = row_laid R c.args.cut.now n l c.args.readers.now c.args.sources.now c.args.levels.now c.in_ok-row.row c.requires.kept
-    (own_row c.args.net.now c.args.blocks.now c.args.cut.now n c.in_ok-row.row c.in_ok-row.ensures) in
+    (own_row c.args.grouped.now.net c.args.grouped.now.blocks c.args.cut.now n c.in_ok-row.row c.in_ok-row.ensures) in
     let sources : List (List ℕ) = set c.args.sources.now n c.in_ok-row.row in
     let levels = c.close.new.levels in
     let apart = parted R c.args.cut.now n l c.args.readers.now sources c.args.levels.now laid.0 laid.1 levels
@@ -318,7 +318,7 @@ extend-requires-clause-sources c =
     (subst (λ (xs : List ℕ). IsPlaced c.gates-behind.result.now xs n levels c.place.new.levels) ahead c.place.ensures) in
     let gained : HaveGained (row_at c.args.readers.now n) n (length (row_at c.args.readers.now n)) sources c.add_source.new.sources =
     subst (λ (xs : List ℕ). HaveGained xs n (length xs) sources c.add_source.new.sources) ahead c.in_ok-add_source.ensures in
-    let gains = gained_rows c.args.net.now c.args.blocks.now n c.args.readers.now c.add_reader.new.readers c.in_ok-add_reader.ensures in
+    let gains = gained_rows c.args.grouped.now.net c.args.grouped.now.blocks n c.args.readers.now c.add_reader.new.readers c.in_ok-add_reader.ensures in
     let kept =
     entered R c.args.cut.now n l c.args.readers.now sources c.args.levels.now laid.0 laid.1 levels apart c.place.new.levels c.add_reader.new.readers c.add_source.new.sources
     (λ h. true≢false (sym (c.reads_itself.ensures.1 h) ∙ c.if-reads_itself.false)) placed c.in_ok-add_reader.ensures.size gains gained in
@@ -327,11 +327,11 @@ extend-requires-clause-sources c =
 
 pub extend-requires-clause-back : goal.extend-requires-clause-back
 extend-requires-clause-back c =
-    let R = IsLoopPin c.args.net.now c.args.blocks.now in
+    let R = IsLoopPin c.args.grouped.now.net c.args.grouped.now.blocks in
     let n = c.args.gate in
     let l : n < length c.args.cut.now = omega (arith, c.requires.gate, c.requires.cut) in
     let laid = row_laid R c.args.cut.now n l c.args.readers.now c.args.sources.now c.args.levels.now c.in_ok-row.row c.requires.kept
-    (own_row c.args.net.now c.args.blocks.now c.args.cut.now n c.in_ok-row.row c.in_ok-row.ensures) in
+    (own_row c.args.grouped.now.net c.args.grouped.now.blocks c.args.cut.now n c.in_ok-row.row c.in_ok-row.ensures) in
     let sources : List (List ℕ) = set c.args.sources.now n c.in_ok-row.row in
     let levels = c.close.new.levels in
     let apart = parted R c.args.cut.now n l c.args.readers.now sources c.args.levels.now laid.0 laid.1 levels
@@ -344,7 +344,7 @@ extend-requires-clause-back c =
     (subst (λ (xs : List ℕ). IsPlaced c.gates-behind.result.now xs n levels c.place.new.levels) ahead c.place.ensures) in
     let gained : HaveGained (row_at c.args.readers.now n) n (length (row_at c.args.readers.now n)) sources c.add_source.new.sources =
     subst (λ (xs : List ℕ). HaveGained xs n (length xs) sources c.add_source.new.sources) ahead c.in_ok-add_source.ensures in
-    let gains = gained_rows c.args.net.now c.args.blocks.now n c.args.readers.now c.add_reader.new.readers c.in_ok-add_reader.ensures in
+    let gains = gained_rows c.args.grouped.now.net c.args.grouped.now.blocks n c.args.readers.now c.add_reader.new.readers c.in_ok-add_reader.ensures in
     let kept =
     entered R c.args.cut.now n l c.args.readers.now sources c.args.levels.now laid.0 laid.1 levels apart c.place.new.levels c.add_reader.new.readers c.add_source.new.sources
     (λ h. true≢false (sym (c.reads_itself.ensures.1 h) ∙ c.if-reads_itself.false)) placed c.in_ok-add_reader.ensures.size gains gained in
@@ -354,11 +354,11 @@ extend-requires-clause-back c =
 
 pub extend-requires-clause-landmarks : goal.extend-requires-clause-landmarks
 extend-requires-clause-landmarks c =
-    let R = IsLoopPin c.args.net.now c.args.blocks.now in
+    let R = IsLoopPin c.args.grouped.now.net c.args.grouped.now.blocks in
     let n = c.args.gate in
     let l : n < length c.args.cut.now = omega (arith, c.requires.gate, c.requires.cut) in
     let laid = row_laid R c.args.cut.now n l c.args.readers.now c.args.sources.now c.args.levels.now c.in_ok-row.row c.requires.kept
-    (own_row c.args.net.now c.args.blocks.now c.args.cut.now n c.in_ok-row.row c.in_ok-row.ensures) in
+    (own_row c.args.grouped.now.net c.args.grouped.now.blocks c.args.cut.now n c.in_ok-row.row c.in_ok-row.ensures) in
     let sources : List (List ℕ) = set c.args.sources.now n c.in_ok-row.row in
     let levels = c.close.new.levels in
     let apart = parted R c.args.cut.now n l c.args.readers.now sources c.args.levels.now laid.0 laid.1 levels
@@ -371,7 +371,7 @@ extend-requires-clause-landmarks c =
     (subst (λ (xs : List ℕ). IsPlaced c.gates-behind.result.now xs n levels c.place.new.levels) ahead c.place.ensures) in
     let gained : HaveGained (row_at c.args.readers.now n) n (length (row_at c.args.readers.now n)) sources c.add_source.new.sources =
     subst (λ (xs : List ℕ). HaveGained xs n (length xs) sources c.add_source.new.sources) ahead c.in_ok-add_source.ensures in
-    let gains = gained_rows c.args.net.now c.args.blocks.now n c.args.readers.now c.add_reader.new.readers c.in_ok-add_reader.ensures in
+    let gains = gained_rows c.args.grouped.now.net c.args.grouped.now.blocks n c.args.readers.now c.add_reader.new.readers c.in_ok-add_reader.ensures in
     let kept =
     entered R c.args.cut.now n l c.args.readers.now sources c.args.levels.now laid.0 laid.1 levels apart c.place.new.levels c.add_reader.new.readers c.add_source.new.sources
     (λ h. true≢false (sym (c.reads_itself.ensures.1 h) ∙ c.if-reads_itself.false)) placed c.in_ok-add_reader.ensures.size gains gained in

@@ -5,6 +5,7 @@ use Rattle.loops.specs.declared.structure.Cut.{Cut}
 use Rattle.loops.specs.Keeping.{IsKept}
 use Rattle.loops.specs.Landmarks.{AreLandmarks}
 use Rattle.loops.specs.Links.{IsLoopPin}
+use Rattle.loops.specs.Looped.{Grouped}
 use Rattle.loops.specs.Searching.{Connects, IsFree, IsReady}
 use Rattle.loops.proofs.CutLemmas.{AreCutsBelow, no_cuts, nothing_kept, cut_from_below, cut_step}
 use Rattle.loops.proofs.cuts.find_cut.Goals as goal
@@ -33,7 +34,8 @@ loop-gate-preserved c =
     let l : gate < length net.gates = omega (arith, c.gates-gates.ensures.gates) in
     let cut : List Bool = set c.loop-gate.cut.items gate leads in
     let kept : IsKept R cut (gate + 1) c.enter.new.readers c.enter.new.sources c.enter.new.levels =
-    subst (λ (bs : List Bool). IsKept R (set bs gate leads) (gate + 1) c.enter.new.readers c.enter.new.sources c.enter.new.levels) c.deref.ensures.value c.in_ok-leads.ensures.kept in
+    subst (λ (bs : List Bool). IsKept R (set bs gate leads) (gate + 1) c.enter.new.readers c.enter.new.sources c.enter.new.levels) c.deref.ensures.value
+    (subst (λ (g : Grouped). IsKept (IsLoopPin g.net g.blocks) (set c.deref.result.now gate leads) (gate + 1) c.enter.new.readers c.enter.new.sources c.enter.new.levels) c.new-grouped.ensures c.in_ok-leads.ensures.kept) in
     let set_width = length-set c.loop-gate.cut.items gate leads in
     let width : length c.deref.result.now ≡ length net.gates =
     ap (λ (bs : List Bool). length bs) c.deref.ensures.value ∙ i.cut.width in
@@ -42,7 +44,8 @@ loop-gate-preserved c =
     let levels : length c.enter.new.levels ≡ c.loop-gate.levels.len = omega (arith, kept.levels_size, i.kept.levels_size, set_width, c.loop-gate.levels.ok.0) in
     record {
       cut = cut_step net c.args.blocks.now c.requires gate c.loop-gate.cut.items leads l
-          (subst (λ (bs : List Bool). (leads ≡ true) ↔ Connects R (IsFree bs gate) gate gate) c.deref.ensures.value c.in_ok-leads.ensures.leads) i.cut;
+          (subst (λ (bs : List Bool). (leads ≡ true) ↔ Connects R (IsFree bs gate) gate gate) c.deref.ensures.value
+          (subst (λ (g : Grouped). (leads ≡ true) ↔ Connects (IsLoopPin g.net g.blocks) (IsFree c.deref.result.now gate) gate gate) c.new-grouped.ensures c.in_ok-leads.ensures.leads)) i.cut;
       kept =
           subst (λ (xs : List (List ℕ)). IsKept R cut (gate + 1) xs (with_items c.loop-gate.sources c.enter.new.sources).items (with_items c.loop-gate.levels c.enter.new.levels).items) (sym (with_items_is c.loop-gate.readers c.enter.new.readers readers))
           (subst (λ (xs : List (List ℕ)). IsKept R cut (gate + 1) c.enter.new.readers xs (with_items c.loop-gate.levels c.enter.new.levels).items) (sym (with_items_is c.loop-gate.sources c.enter.new.sources sources))

@@ -2,4 +2,4 @@ use Rattle.loops.specs.Keeping.{HaveGainedPins}
 use Rattle.loops.proofs.kept.add_reader.Given as goal
 
 abbrev pub invariant-loop-pin : goal.invariant-loop-pin
-invariant-loop-pin l = HaveGainedPins l.net l.blocks l.gate l.pin-index l.initial.readers l.readers
+invariant-loop-pin l = HaveGainedPins l.grouped.net l.grouped.blocks l.gate l.pin-index l.initial.readers l.readers

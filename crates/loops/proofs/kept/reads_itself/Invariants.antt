@@ -6,4 +6,4 @@ use Rattle.loops.proofs.kept.reads_itself.Given as goal
 
 abbrev pub invariant-loop-pin : goal.invariant-loop-pin
 invariant-loop-pin l = (j : ℕ) (d : Sig) → j < l.pin-index →
-    ¬ IsLoopSource l.net l.blocks l.gate (get_or (gate_at l.net l.gate).pins j d) l.gate
+    ¬ IsLoopSource l.grouped.net l.grouped.blocks l.gate (get_or (gate_at l.grouped.net l.gate).pins j d) l.gate

@@ -2,4 +2,4 @@ use Rattle.loops.specs.Keeping.{AreSourcesBelow}
 use Rattle.loops.proofs.kept.sources_before.Given as goal
 
 abbrev pub invariant-loop-pin : goal.invariant-loop-pin
-invariant-loop-pin l = AreSourcesBelow l.net l.blocks l.cut l.gate l.pin-index l.row
+invariant-loop-pin l = AreSourcesBelow l.grouped.net l.grouped.blocks l.cut l.gate l.pin-index l.row

@@ -2,4 +2,4 @@ use Rattle.loops.specs.Placing.{ArePlacesRead}
 use Rattle.loops.proofs.orders.places_read.Given as goal
 
 abbrev pub invariant-loop-pin : goal.invariant-loop-pin
-invariant-loop-pin l = ArePlacesRead l.net l.blocks l.cut l.gates l.gate l.pin-index l.places.items
+invariant-loop-pin l = ArePlacesRead l.looped.net l.looped.blocks l.looped.cut l.gates l.gate l.pin-index l.places.items

@@ -1,5 +1,5 @@
 use Rattle.std.proofs.Common.{arith}
-use Rattle.sched_text.specs.LineFaults.{bit_of}
+use Rattle.sched_text.proofs.Common.{bit_of}
 use Rattle.sched_text.proofs.VectorLemmas.{map_taken}
 use Rattle.sched_text.proofs.bits.bits_of_word.Goals as goal
 

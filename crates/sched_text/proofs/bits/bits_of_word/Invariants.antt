@@ -1,6 +1,6 @@
 use Rattle.std.proofs.Common.{◌≡◌, ◌≤◌, length, take}
-use Rattle.std.specs.Prelude.{map, vec_len, vec_capacity}
-use Rattle.sched_text.specs.LineFaults.{bit_of}
+use Rattle.sched_text.proofs.Common.{vec_len, vec_capacity, bit_of}
+use Rattle.std.specs.Prelude.{map}
 use Rattle.sched_text.proofs.bits.bits_of_word.Given as goal
 
 abbrev pub invariant-loop-b : goal.invariant-loop-b

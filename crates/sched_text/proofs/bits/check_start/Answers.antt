@@ -1,5 +1,5 @@
 use Rattle.std.proofs.Common.{ap, sym, ◌∙◌, arith}
-use Rattle.std.specs.Prelude.{option_map}
+use Rattle.sched_text.proofs.Common.{option_map}
 use Rattle.sched_text.specs.declared.fault.SchedFault.TheVariants.{BadStart}
 use Rattle.sched_text.proofs.StartLemmas.{start_next, start_fault_here}
 use Rattle.sched_text.proofs.bits.check_start.Goals as goal

@@ -1,5 +1,5 @@
 use Rattle.std.proofs.Common.{◌≡◌, drop}
-use Rattle.sched_text.specs.LineFaults.{first_refused}
+use Rattle.sched_text.proofs.Common.{first_refused}
 use Rattle.sched_text.proofs.bits.check_start.Given as goal
 
 -- the latches so far may start with their values

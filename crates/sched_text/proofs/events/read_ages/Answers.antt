@@ -1,8 +1,5 @@
 use Rattle.std.proofs.Common.{ap, sym, ◌∙◌, arith, Some, None}
-use Rattle.std.specs.Prelude.{if◌then◌else◌}
-use Rattle.blif_text.specs.Lines.{line_at}
-use Rattle.sched_text.specs.declared.fault.SchedFault.TheVariants.{BadLine}
-use Rattle.sched_text.specs.Numbers.{number}
+use Rattle.sched_text.proofs.Common.{if◌then◌else◌, line_at, BadLine, number}
 use Rattle.sched_text.proofs.AgeLemmas.{ages_next, ages_fault, ages_good, ages_end}
 use Rattle.sched_text.proofs.events.read_ages.Goals as goal
 

@@ -1,6 +1,5 @@
 use Rattle.std.proofs.Common.{◌≡◌, ◌≤◌, ◌+◌, length}
-use Rattle.std.specs.Prelude.{vec_len, vec_capacity}
-use Rattle.blif_text.specs.Lines.{line_at}
+use Rattle.sched_text.proofs.Common.{vec_len, vec_capacity, line_at}
 use Rattle.sched_text.proofs.AgeLemmas.{AgesAt}
 use Rattle.sched_text.proofs.events.read_ages.Given as goal
 

@@ -1,6 +1,6 @@
 use Rattle.std.proofs.Common.{◌≡◌, drop, Some, sym, ap, ◌∙◌}
 use Rattle.std.specs.Prelude.{position}
-use Rattle.blif_text.specs.Texts.{is_lf}
+use Rattle.sched_text.proofs.Common.{is_lf}
 use Rattle.sched_text.proofs.PieceLemmas.{cut_at}
 use Rattle.sched_text.proofs.pieces.piece_len.Goals as goal
 

@@ -1,8 +1,6 @@
 use Rattle.std.proofs.Common.{◌≡◌, false, ap, arith, rules}
-use Rattle.std.specs.Prelude.{option_map}
-use Rattle.blif_text.specs.Texts.{lines}
+use Rattle.sched_text.proofs.Common.{option_map, lines, BadLine}
 use Rattle.blif_text.specs.declared.fault.TextFault.TheVariants.{BadByte}
-use Rattle.sched_text.specs.declared.fault.SchedFault.TheVariants.{BadLine}
 use Rattle.sched_text.proofs.PieceLemmas.{found_good, found_lines, found_bad, found_numbers, found_within, refused}
 use Rattle.sched_text.proofs.pieces.piece_of.Goals as goal
 

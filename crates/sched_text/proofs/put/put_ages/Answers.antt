@@ -1,10 +1,5 @@
 use Rattle.std.proofs.Common.{arith}
-use Rattle.std.specs.Prelude.{decimal}
-use Rattle.std.proofs.lemmas.List.Elements.{All-more}
-use Rattle.sched_text.specs.Written.{behind}
-use Rattle.sched_text.specs.Putting.{IsSmall}
-use Rattle.cyc_io.proofs.TakenLemmas.{appended_none}
-use Rattle.cyc_io.proofs.ItemLemmas.{appended_copied, appended_in_copied, appended_items}
+use Rattle.sched_text.proofs.Common.{decimal, All-more, behind, IsSmall, appended_none, appended_copied, appended_in_copied, appended_items}
 use Rattle.sched_text.proofs.put.put_ages.Goals as goal
 
 pub loop-age-init : goal.loop-age-init

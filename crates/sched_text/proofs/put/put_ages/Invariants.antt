@@ -1,9 +1,6 @@
 use Rattle.std.proofs.Common.{take}
-use Rattle.std.specs.Prelude.{All, decimal}
-use Rattle.std.specs.List.{flat_map}
-use Rattle.sched_text.specs.Written.{behind}
-use Rattle.sched_text.specs.Putting.{IsSmall}
-use Rattle.cyc_io.specs.Taken.{IsAppendedWhole, sink_call}
+use Rattle.sched_text.proofs.Common.{decimal, flat_map, behind, IsSmall, IsAppendedWhole, sink_call}
+use Rattle.std.specs.Prelude.{All}
 use Rattle.sched_text.proofs.put.put_ages.Given as goal
 
 abbrev pub invariant-loop-age : goal.invariant-loop-age

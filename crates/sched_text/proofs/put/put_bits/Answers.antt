@@ -1,7 +1,5 @@
 use Rattle.std.proofs.Common.{arith, [], ◌∷◌}
-use Rattle.sched_text.specs.Written.{bit_byte}
-use Rattle.cyc_io.proofs.TakenLemmas.{appended_none}
-use Rattle.cyc_io.proofs.ItemLemmas.{appended_copied, appended_in_copied, appended_items}
+use Rattle.sched_text.proofs.Common.{bit_byte, appended_none, appended_copied, appended_in_copied, appended_items}
 use Rattle.sched_text.proofs.put.put_bits.Goals as goal
 
 pub loop-b-init : goal.loop-b-init

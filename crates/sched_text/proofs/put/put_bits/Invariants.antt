@@ -1,7 +1,5 @@
 use Rattle.std.proofs.Common.{take, ◌∷◌, []}
-use Rattle.std.specs.List.{flat_map}
-use Rattle.sched_text.specs.Written.{bit_byte}
-use Rattle.cyc_io.specs.Taken.{IsAppendedWhole, sink_call}
+use Rattle.sched_text.proofs.Common.{flat_map, bit_byte, IsAppendedWhole, sink_call}
 use Rattle.sched_text.proofs.put.put_bits.Given as goal
 
 abbrev pub invariant-loop-b : goal.invariant-loop-b

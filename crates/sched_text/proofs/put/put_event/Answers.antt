@@ -1,8 +1,6 @@
 use Rattle.std.proofs.Common.{◌≡◌, ◌∙◌, ap}
-use Rattle.delay_core.specs.declared.plan.PlannedEvent.{PlannedEvent}
+use Rattle.sched_text.proofs.Common.{PlannedEvent, gate_at, appended_then, appended_cut, appended_equal}
 use Rattle.delay_core.specs.EventLists.{planned_at}
-use Rattle.netlist.specs.Netlists.{gate_at}
-use Rattle.cyc_io.proofs.TakenLemmas.{appended_then, appended_cut, appended_equal}
 use Rattle.sched_text.proofs.WrittenTexts.{event_is}
 use Rattle.sched_text.proofs.put.put_event.Goals as goal
 

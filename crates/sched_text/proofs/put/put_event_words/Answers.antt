@@ -1,4 +1,4 @@
-use Rattle.cyc_io.proofs.TakenLemmas.{appended_then, appended_cut, appended_equal}
+use Rattle.sched_text.proofs.Common.{appended_then, appended_cut, appended_equal}
 use Rattle.sched_text.proofs.WrittenTexts.{words_are}
 use Rattle.sched_text.proofs.put.put_event_words.Goals as goal
 

@@ -1,11 +1,7 @@
 use Rattle.std.proofs.Common.{◌<◌, ◌≤◌, [], length, subst, arith}
-use Rattle.delay_core.specs.declared.plan.PlannedEvent.{PlannedEvent}
-use Rattle.std.proofs.lemmas.List.Elements.{All-more}
+use Rattle.sched_text.proofs.Common.{PlannedEvent, All-more, event_text, HasSmallAges, appended_none, appended_copied, appended_in_copied, appended_items}
 use Rattle.std.proofs.lemmas.List.{get_or_default}
 use Rattle.delay_core.specs.EventLists.{planned_at}
-use Rattle.sched_text.specs.Putting.{event_text, HasSmallAges}
-use Rattle.cyc_io.proofs.TakenLemmas.{appended_none}
-use Rattle.cyc_io.proofs.ItemLemmas.{appended_copied, appended_in_copied, appended_items}
 use Rattle.sched_text.proofs.put.put_events.Goals as goal
 
 pub put_event-requires-clause-gate : goal.put_event-requires-clause-gate

@@ -1,8 +1,6 @@
 use Rattle.std.proofs.Common.{take}
 use Rattle.std.specs.Prelude.{All}
-use Rattle.std.specs.List.{flat_map}
-use Rattle.sched_text.specs.Putting.{event_text, HasSmallAges}
-use Rattle.cyc_io.specs.Taken.{IsAppendedWhole, sink_call}
+use Rattle.sched_text.proofs.Common.{flat_map, event_text, HasSmallAges, IsAppendedWhole, sink_call}
 use Rattle.sched_text.proofs.put.put_events.Given as goal
 
 abbrev pub invariant-loop-i : goal.invariant-loop-i

@@ -1,7 +1,5 @@
 use Rattle.std.proofs.Common.{arith}
-use Rattle.sched_text.specs.Written.{line_text, past_line}
-use Rattle.cyc_io.proofs.TakenLemmas.{appended_none}
-use Rattle.cyc_io.proofs.ItemLemmas.{appended_item, appended_in_item, appended_items}
+use Rattle.sched_text.proofs.Common.{line_text, past_line, appended_none, appended_item, appended_in_item, appended_items}
 use Rattle.sched_text.proofs.put.put_past.Goals as goal
 
 pub loop-moment-init : goal.loop-moment-init

@@ -1,7 +1,5 @@
 use Rattle.std.proofs.Common.{take}
-use Rattle.std.specs.List.{flat_map}
-use Rattle.sched_text.specs.Written.{line_text, past_line}
-use Rattle.cyc_io.specs.Taken.{IsAppendedWhole, sink_call}
+use Rattle.sched_text.proofs.Common.{flat_map, line_text, past_line, IsAppendedWhole, sink_call}
 use Rattle.sched_text.proofs.put.put_past.Given as goal
 
 abbrev pub invariant-loop-moment : goal.invariant-loop-moment

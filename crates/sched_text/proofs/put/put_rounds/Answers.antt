@@ -1,9 +1,5 @@
 use Rattle.std.proofs.Common.{arith, subst}
-use Rattle.delay_core.specs.declared.plan.RoundPlan.{RoundPlan}
-use Rattle.std.proofs.lemmas.List.Elements.{All-more}
-use Rattle.sched_text.specs.Putting.{round_text, AreSmall}
-use Rattle.cyc_io.proofs.TakenLemmas.{appended_none}
-use Rattle.cyc_io.proofs.ItemLemmas.{appended_item, appended_in_item, appended_items}
+use Rattle.sched_text.proofs.Common.{RoundPlan, All-more, round_text, AreSmall, appended_none, appended_item, appended_in_item, appended_items}
 use Rattle.sched_text.proofs.put.put_rounds.Goals as goal
 
 pub loop-round-init : goal.loop-round-init

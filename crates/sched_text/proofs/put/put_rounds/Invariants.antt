@@ -1,8 +1,6 @@
 use Rattle.std.proofs.Common.{take}
 use Rattle.std.specs.Prelude.{All}
-use Rattle.std.specs.List.{flat_map}
-use Rattle.sched_text.specs.Putting.{round_text, AreSmall}
-use Rattle.cyc_io.specs.Taken.{IsAppendedWhole, sink_call}
+use Rattle.sched_text.proofs.Common.{flat_map, round_text, AreSmall, IsAppendedWhole, sink_call}
 use Rattle.sched_text.proofs.put.put_rounds.Given as goal
 
 abbrev pub invariant-loop-round : goal.invariant-loop-round

@@ -1,10 +1,6 @@
 use Rattle.std.proofs.Common.{arith, subst, List}
-use Rattle.delay_core.specs.declared.plan.RoundPlan.{RoundPlan}
+use Rattle.sched_text.proofs.Common.{RoundPlan, All-more, tick_text, AreSmall, appended_none, appended_item, appended_in_item, appended_items}
 use Rattle.std.specs.Prelude.{All}
-use Rattle.std.proofs.lemmas.List.Elements.{All-more}
-use Rattle.sched_text.specs.Putting.{tick_text, AreSmall}
-use Rattle.cyc_io.proofs.TakenLemmas.{appended_none}
-use Rattle.cyc_io.proofs.ItemLemmas.{appended_item, appended_in_item, appended_items}
 use Rattle.sched_text.proofs.put.put_ticks.Goals as goal
 
 pub loop-tick-init : goal.loop-tick-init

@@ -1,8 +1,6 @@
 use Rattle.std.proofs.Common.{take}
 use Rattle.std.specs.Prelude.{All}
-use Rattle.std.specs.List.{flat_map}
-use Rattle.sched_text.specs.Putting.{tick_text, AreSmall}
-use Rattle.cyc_io.specs.Taken.{IsAppendedWhole, sink_call}
+use Rattle.sched_text.proofs.Common.{flat_map, tick_text, AreSmall, IsAppendedWhole, sink_call}
 use Rattle.sched_text.proofs.put.put_ticks.Given as goal
 
 abbrev pub invariant-loop-tick : goal.invariant-loop-tick

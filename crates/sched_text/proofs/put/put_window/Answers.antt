@@ -1,4 +1,4 @@
-use Rattle.cyc_io.proofs.TakenLemmas.{appended_then, appended_cut, appended_equal}
+use Rattle.sched_text.proofs.Common.{appended_then, appended_cut, appended_equal}
 use Rattle.sched_text.proofs.WrittenTexts.{window_is}
 use Rattle.sched_text.proofs.put.put_window.Goals as goal
 

@@ -1,5 +1,5 @@
 use Rattle.std.proofs.Common.{◌≡◌, ◌≤◌, ◌+◌, length}
-use Rattle.sched_text.specs.Pieces.{bad_line}
+use Rattle.sched_text.proofs.Common.{bad_line}
 use Rattle.sched_text.proofs.text.check_rest.Given as goal
 
 abbrev pub invariant-loop-piece : goal.invariant-loop-piece

@@ -1,4 +1,4 @@
-use Rattle.sched_text.specs.Running.{seen}
+use Rattle.sched_text.proofs.Common.{seen}
 use Rattle.sched_text.proofs.ReadingLemmas.{few, at_later, fails_here}
 use Rattle.sched_text.proofs.text.read_lines.Goals as goal
 

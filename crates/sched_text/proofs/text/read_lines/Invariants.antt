@@ -1,5 +1,5 @@
 use Rattle.std.proofs.Common.{length}
-use Rattle.sched_text.specs.Running.{seen}
+use Rattle.sched_text.proofs.Common.{seen}
 use Rattle.sched_text.proofs.ReadingLemmas.{AtPiece}
 use Rattle.sched_text.proofs.text.read_lines.Given as goal
 

@@ -1,9 +1,7 @@
 use Rattle.std.proofs.Common.{◌≡◌, ◌≢◌, ℕ, subst, ◌<◌, ◌+◌, ◌&&◌, ◌==◌, Bool, true, false, cond, Some, length, arith, ap, ◌≤◌, ◌∙◌}
-use Rattle.blif_text.specs.Lines.{line_at}
-use Rattle.sched_text.specs.Kinds.{is_tick, lacks_lines}
-use Rattle.sched_text.specs.Running.{seen, follow}
+use Rattle.sched_text.proofs.Common.{line_at, is_tick, lacks_lines, seen, follow, ReadsPiece}
 use Rattle.sched_text.specs.declared.fault.SchedFault.TheVariants.{Memory}
-use Rattle.sched_text.specs.ReadingOn.{ReadsPiece, FailsPiece}
+use Rattle.sched_text.specs.ReadingOn.{FailsPiece}
 use Rattle.sched_text.proofs.PieceLemmas.{is_err}
 use Rattle.sched_text.proofs.ReadingLemmas.{nothing_read, piece_next, piece_fault, ends_here}
 use Rattle.sched_text.proofs.text.take_piece.Goals as goal

@@ -1,6 +1,5 @@
 use Rattle.std.proofs.Common.{◌≤◌, ◌+◌}
-use Rattle.sched_text.specs.Running.{seen}
-use Rattle.sched_text.specs.ReadingOn.{ReadsPiece}
+use Rattle.sched_text.proofs.Common.{seen, ReadsPiece}
 use Rattle.sched_text.proofs.text.take_piece.Given as goal
 
 abbrev pub invariant-loop-i : goal.invariant-loop-i

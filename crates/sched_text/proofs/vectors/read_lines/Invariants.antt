@@ -1,5 +1,5 @@
 use Rattle.std.proofs.Common.{◌≡◌, ◌≤◌, length}
-use Rattle.std.specs.Prelude.{vec_len, vec_capacity}
+use Rattle.sched_text.proofs.Common.{vec_len, vec_capacity}
 use Rattle.sched_text.proofs.VectorLemmas.{ReadsAt}
 use Rattle.sched_text.proofs.vectors.read_lines.Given as goal
 

@@ -1,6 +1,6 @@
 use Rattle.std.proofs.Common.{◌++◌, ◌∷◌, [], ap, ◌∙◌, arith}
 use Rattle.std.proofs.lemmas.Grind.{common_steps}
-use Rattle.sched_text.specs.Vectors.{value_of}
+use Rattle.sched_text.proofs.Common.{value_of}
 use Rattle.sched_text.proofs.VectorLemmas.{map_taken}
 use Rattle.sched_text.proofs.vectors.values.Goals as goal
 

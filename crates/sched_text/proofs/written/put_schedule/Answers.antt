@@ -2,7 +2,7 @@ use Rattle.std.proofs.Common.{refl}
 use Rattle.std.specs.Prelude.{OnOk, Ok, Err}
 use Rattle.std.specs.declared.result.Result.{Result}
 use Rattle.sched_text.proofs.SaidLemmas.{reads_back}
-use Rattle.cyc_io.proofs.TakenLemmas.{appended_then, appended_cut, appended_equal}
+use Rattle.sched_text.proofs.Common.{appended_then, appended_cut, appended_equal}
 use Rattle.sched_text.proofs.WrittenTexts.{written_is}
 use Rattle.sched_text.proofs.written.put_schedule.Goals as goal
 

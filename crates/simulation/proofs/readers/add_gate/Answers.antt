@@ -1,8 +1,6 @@
 -- The gate is added to the readers of one pin more.
 use Rattle.std.proofs.Common.{◌<◌, ◌+◌, ℕ, List, length, get_or, set, sym, subst, arith}
-use Rattle.std.proofs.lemmas.List.{get_or_default}
-use Rattle.cyc_base.specs.declared.sig.Sig.{Sig}
-use Rattle.simulation.specs.Listing.{AreListed}
+use Rattle.simulation.proofs.Common.{get_or_default, Sig, AreListed}
 use Rattle.simulation.proofs.ReaderLemmas.{listed_more}
 use Rattle.simulation.proofs.readers.add_gate.Goals as goal
 

@@ -1,4 +1,4 @@
-use Rattle.simulation.specs.Listing.{AreListed}
+use Rattle.simulation.proofs.Common.{AreListed}
 use Rattle.simulation.proofs.readers.add_gate.Given as goal
 
 abbrev pub invariant-loop-pin : goal.invariant-loop-pin

@@ -2,8 +2,7 @@
 use Rattle.std.proofs.Common.{◌≡◌, ◌+◌, ℕ, List, length, sym, ◌∙◌, ap, subst, arith}
 use Rattle.std.proofs.lemmas.List.{with_items_is}
 use Rattle.netlist.specs.declared.parts.Gate.{Gate}
-use Rattle.netlist.specs.Netlists.{gate_at}
-use Rattle.simulation.specs.Listing.{AreListed}
+use Rattle.simulation.proofs.Common.{gate_at, AreListed}
 use Rattle.simulation.proofs.ReaderLemmas.{AreReadersBelow, readers_more, readers_all}
 use Rattle.simulation.proofs.readers.lists_of.Goals as goal
 

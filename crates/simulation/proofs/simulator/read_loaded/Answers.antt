@@ -1,11 +1,9 @@
 -- What this latch loads comes after what those before it load.
 use Rattle.std.proofs.Common.{◌≡◌, ◌<◌, ◌++◌, ◌+◌, [], ◌∷◌, length, drop, map, append_assoc, add-one, sym, ◌∙◌, ap, subst, arith}
-use Rattle.std.proofs.lemmas.List.{get_or_default}
+use Rattle.simulation.proofs.Common.{get_or_default, X, wire}
 use Rattle.std.proofs.lemmas.Option.{get_or_from_slice_get}
-use Rattle.cyc_base.specs.declared.trit.Trit.TheVariants.{X}
 use Rattle.netlist.specs.declared.parts.Latch.{Latch}
 use Rattle.netlist.specs.Netlists.{IsSignal}
-use Rattle.netlist.specs.Fixpoint.{wire}
 use Rattle.simulation.proofs.ListLemmas.{drop-get}
 use Rattle.simulation.proofs.simulator.read_loaded.Goals as goal
 

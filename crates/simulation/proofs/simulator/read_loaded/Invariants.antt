@@ -1,5 +1,6 @@
 use Rattle.std.proofs.Common.{◌≡◌, ◌++◌, map, drop}
-use Rattle.netlist.specs.Fixpoint.{wire, loaded}
+use Rattle.simulation.proofs.Common.{wire}
+use Rattle.netlist.specs.Fixpoint.{loaded}
 use Rattle.simulation.proofs.simulator.read_loaded.Given as goal
 
 -- what is loaded so far, and then what the latches that are left load

@@ -1,5 +1,5 @@
 use Rattle.std.proofs.Common.{get_or, refl}
-use Rattle.std.proofs.lemmas.List.{get_or_default}
+use Rattle.simulation.proofs.Common.{get_or_default}
 use Rattle.simulation.proofs.MarkingLemmas.{marked_none, marked_more}
 use Rattle.simulation.proofs.wires.mark.Goals as goal
 

@@ -1,5 +1,5 @@
 use Rattle.std.proofs.Common.{◌≡◌, take, map}
-use Rattle.netlist.specs.Fixpoint.{wire}
+use Rattle.simulation.proofs.Common.{wire}
 use Rattle.simulation.proofs.wires.read_signals.Given as goal
 
 abbrev pub invariant-loop-signal : goal.invariant-loop-signal

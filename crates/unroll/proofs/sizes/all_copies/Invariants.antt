@@ -6,6 +6,6 @@ use Rattle.unroll.proofs.sizes.all_copies.Given as goal
 
 abbrev pub invariant-loop-gate : goal.invariant-loop-gate
 invariant-loop-gate l = record {
-  all : l.all ≡ sum_by (copies_of (in_one_loop l.blocks) (sweeps_of l.blocks l.sweeps)) (range_with_len 0 l.gate);
+  all : l.all ≡ sum_by (copies_of (in_one_loop l.looped.blocks) (sweeps_of l.looped.blocks l.sweeps)) (range_with_len 0 l.gate);
   bound : l.all ≤ l.gate * 4294967295;
 }

@@ -1,5 +1,5 @@
 use Rattle.std.proofs.Common.{◌≡◌, ◌∷◌, [], ◌++◌, ◌+◌, List, length, ap, ◌∙◌, rules}
-use Rattle.delay_core.specs.declared.plan.PlannedEvent.{PlannedEvent}
+use Rattle.delay_core.proofs.Common.{PlannedEvent}
 use Rattle.delay_core.proofs.EventListLemmas.{one_more, more_packed}
 use Rattle.delay_core.proofs.events.Events.push.Goals as goal
 

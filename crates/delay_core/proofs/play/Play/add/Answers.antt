@@ -1,8 +1,6 @@
 use Rattle.std.proofs.Common.{◌≡◌, ◌∷◌, ◌-◌, ℕ, List, true, set, ap, ap₂, ◌∙◌, arith}
-use Rattle.cyc_base.specs.declared.sig.Sig.{Sig}
-use Rattle.netlist.specs.Netlists.{gate_sig}
-use Rattle.schedules.specs.Moments.{History, newest}
-use Rattle.delay_core.specs.Plays.{SeenPlay, starts_of, after_value}
+use Rattle.delay_core.proofs.Common.{Sig, gate_sig, History, newest, SeenPlay, starts_of}
+use Rattle.delay_core.specs.Plays.{after_value}
 use Rattle.delay_core.proofs.ReadingLemmas.{starts-push}
 use Rattle.delay_core.proofs.play.Play.add.Goals as goal
 

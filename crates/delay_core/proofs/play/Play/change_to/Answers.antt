@@ -1,10 +1,8 @@
 use Rattle.std.proofs.Common.{◌≡◌, ◌-◌, ℕ, suc, Bool, true, false, List, length, Option, Some, refl, ap, ap₂, sym, ◌∙◌, arith}
 use Rattle.std.proofs.Math.Bool.{beq}
-use Rattle.cyc_base.specs.declared.sig.Sig.{Sig}
-use Rattle.netlist.specs.Netlists.{gate_sig}
-use Rattle.schedules.specs.Moments.{History, bit_at, newest}
+use Rattle.delay_core.proofs.Common.{Sig, gate_sig, History, bit_at, newest, starts_of}
 use Rattle.delay_core.specs.declared.change.Change.{Change}
-use Rattle.delay_core.specs.Plays.{differ, starts_of}
+use Rattle.delay_core.specs.Plays.{differ}
 use Rattle.delay_core.proofs.ReadingLemmas.{length-starts}
 use Rattle.delay_core.proofs.play.Play.change_to.Goals as goal
 

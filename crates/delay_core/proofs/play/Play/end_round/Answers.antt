@@ -1,6 +1,6 @@
 use Rattle.std.proofs.Common.{◌≡◌, ◌∷◌, ◌<◌, ◌≤◌, ℕ, suc, List, Bool, not, length, replicate, false, None, ap, ap₂, sym, ◌∙◌, arith}
-use Rattle.std.specs.Prelude.{position}
-use Rattle.delay_core.specs.Plays.{SeenPlay, starts_of, no_events, after_round, most_rounds, IsPlay}
+use Rattle.delay_core.proofs.Common.{position, SeenPlay, starts_of, no_events, most_rounds}
+use Rattle.delay_core.specs.Plays.{after_round, IsPlay}
 use Rattle.delay_core.proofs.PlayLemmas.{round_ends, none_had}
 use Rattle.delay_core.proofs.ReadingLemmas.{length-starts, start-next}
 use Rattle.delay_core.proofs.play.Play.end_round.Goals as goal

@@ -1,12 +1,6 @@
 use Rattle.std.proofs.Common.{◌≡◌, ◌∷◌, [], ◌++◌, ◌+◌, ◌≤◌, ℕ, suc, List, Bool, length, drop, ap, ap₂, sym, ◌∙◌, arith}
-use Rattle.std.proofs.lemmas.List.{length-append, length-drop, length-map}
-use Rattle.netlist.specs.declared.parts.Parts.{Parts}
-use Rattle.netlist.specs.Netlists.{count}
-use Rattle.netlist.specs.Fixpoint.{wires}
-use Rattle.schedules.specs.Moments.{History, newest, bit_at}
-use Rattle.schedules.specs.Runs.{loaded_at, gates_at}
-use Rattle.delay_core.specs.Plays.{SeenPlay, starts_of, next_tick, no_events}
-use Rattle.delay_core.specs.Timelines.{Told}
+use Rattle.delay_core.proofs.Common.{length-map, Parts, count, wires, History, newest, bit_at, loaded_at, gates_at, SeenPlay, starts_of, next_tick, no_events, Told}
+use Rattle.std.proofs.lemmas.List.{length-append, length-drop}
 use Rattle.delay_core.proofs.PlayLemmas.{opens}
 use Rattle.delay_core.proofs.ReadingLemmas.{starts-none}
 use Rattle.delay_core.proofs.play.Play.end_tick.Goals as goal

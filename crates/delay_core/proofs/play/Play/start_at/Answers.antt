@@ -1,9 +1,6 @@
 use Rattle.std.proofs.Common.{◌≡◌, ◌∷◌, [], ◌++◌, ◌+◌, ℕ, suc, List, Bool, length, reverse, false, replicate, ap, ap₂, sym, ◌∙◌, arith}
 use Rattle.std.proofs.lemmas.List.{length-append, length-reverse}
-use Rattle.netlist.specs.Netlists.{count}
-use Rattle.netlist.specs.Fixpoint.{wires}
-use Rattle.schedules.specs.Moments.{History, newest}
-use Rattle.delay_core.specs.Plays.{SeenPlay, no_events, starts_of}
+use Rattle.delay_core.proofs.Common.{count, wires, History, newest, SeenPlay, no_events, starts_of}
 use Rattle.delay_core.proofs.PlayLemmas.{opens}
 use Rattle.delay_core.proofs.ReadingLemmas.{starts-none}
 use Rattle.delay_core.proofs.play.Play.start_at.Goals as goal

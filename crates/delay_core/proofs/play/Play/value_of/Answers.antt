@@ -1,8 +1,6 @@
 use Rattle.std.proofs.Common.{◌≡◌, ◌<◌, ◌≤◌, length, ap, ◌∙◌, arith}
-use Rattle.netlist.specs.Netlists.{gate_at, no_gate}
-use Rattle.schedules.specs.declared.event.Event.{Event}
-use Rattle.schedules.specs.Moments.{seen}
-use Rattle.delay_core.specs.Plays.{SeenPlay, first_allowed}
+use Rattle.delay_core.proofs.Common.{gate_at, Event, seen, SeenPlay, first_allowed}
+use Rattle.netlist.specs.Netlists.{no_gate}
 use Rattle.delay_core.proofs.PlayLemmas.{IsAllowed, is_allowed}
 use Rattle.delay_core.proofs.ReadingLemmas.{start-some, length-seen}
 use Rattle.delay_core.proofs.play.Play.value_of.Goals as goal

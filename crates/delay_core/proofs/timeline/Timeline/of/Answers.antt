@@ -1,7 +1,5 @@
 use Rattle.std.proofs.Common.{◌≡◌, ◌∷◌, [], length, ap, arith}
-use Rattle.schedules.specs.Moments.{History}
-use Rattle.delay_core.specs.Entries.{history_of}
-use Rattle.delay_core.specs.Timelines.{Told}
+use Rattle.delay_core.proofs.Common.{History, history_of, Told}
 use Rattle.delay_core.proofs.HistoryLemmas.{size, first_is, first_history}
 use Rattle.delay_core.proofs.timeline.Timeline.of.Goals as goal
 

@@ -1,7 +1,5 @@
 use Rattle.std.proofs.Common.{◌≡◌, ◌∷◌, ◌++◌, ◌+◌, length, drop, ap, ◌∙◌, arith}
-use Rattle.schedules.specs.Moments.{History, newest}
-use Rattle.delay_core.specs.Entries.{WritesMoment}
-use Rattle.delay_core.specs.Timelines.{Told}
+use Rattle.delay_core.proofs.Common.{History, newest, WritesMoment, Told}
 use Rattle.delay_core.proofs.HistoryLemmas.{told, told-width, history-push}
 use Rattle.delay_core.proofs.timeline.Timeline.push.Goals as goal
 

@@ -1,7 +1,5 @@
 use Rattle.std.proofs.Common.{◌≡◌, ◌∷◌, set, ap, ◌∙◌}
-use Rattle.schedules.specs.Moments.{History, newest}
-use Rattle.delay_core.specs.Entries.{history_of}
-use Rattle.delay_core.specs.Timelines.{Told}
+use Rattle.delay_core.proofs.Common.{History, newest, history_of, Told}
 use Rattle.delay_core.proofs.HistoryLemmas.{history-set}
 use Rattle.delay_core.proofs.timeline.Timeline.set.Goals as goal
 

@@ -1,8 +1,5 @@
 use Rattle.std.proofs.Common.{◌≡◌, ◌<◌, ◌-◌, false, length, get_or, ap, ◌∙◌, arith}
-use Rattle.std.proofs.lemmas.List.{get_or_read}
-use Rattle.schedules.specs.Moments.{moment_at}
-use Rattle.delay_core.specs.Entries.{value_from}
-use Rattle.delay_core.specs.Timelines.{Told}
+use Rattle.delay_core.proofs.Common.{get_or_read, moment_at, value_from, Told}
 use Rattle.delay_core.proofs.HistoryLemmas.{told-age, told-width, value-told}
 use Rattle.delay_core.proofs.timeline.Timeline.value.Goals as goal
 

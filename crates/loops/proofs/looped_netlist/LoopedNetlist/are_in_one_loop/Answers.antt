@@ -6,6 +6,6 @@ use Rattle.loops.proofs.looped_netlist.LoopedNetlist.are_in_one_loop.Goals as go
 
 pub returns : goal.returns
 returns c =
-    c.share_loop.ensures
+    c.are_in_one_loop.ensures
     ∙ one_loop_is_told _ c.self.invariant c.args.gate c.args.other
     ∙ ap (λ (l : Looped). (loops_of l.net).same c.args.gate c.args.other) c.self.view_is

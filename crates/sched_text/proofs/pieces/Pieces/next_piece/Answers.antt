@@ -1,8 +1,6 @@
 use Rattle.std.proofs.Common.{◌+◌, ap}
-use Rattle.std.specs.Prelude.{option_map}
-use Rattle.sched_text.specs.declared.fault.SchedFault.TheVariants.{BadLine}
+use Rattle.sched_text.proofs.Common.{option_map, BadLine, bad_line}
 use Rattle.sched_text.specs.Answers.{IsFault}
-use Rattle.sched_text.specs.Pieces.{bad_line}
 use Rattle.sched_text.proofs.PieceLemmas.{is_err, fault_here, next_here}
 use Rattle.sched_text.proofs.pieces.Pieces.next_piece.Goals as goal
 

@@ -1,12 +1,6 @@
 -- One gate more of the block is unknown.
 use Rattle.std.proofs.Common.{◌≡◌, ◌+◌, ◌<◌, List, length, get_or, set, sym, ap, ◌∙◌, subst, arith}
-use Rattle.std.proofs.lemmas.List.{get_or_default}
-use Rattle.cyc_base.specs.declared.sig.Sig.{Sig}
-use Rattle.cyc_base.specs.declared.trit.Trit.{Trit}
-use Rattle.cyc_base.specs.declared.trit.Trit.TheVariants.{X}
-use Rattle.netlist.specs.Netlists.{gate_sig}
-use Rattle.loops.specs.Blocks.{home_of}
-use Rattle.simulation.specs.Standing.{AreSettled, vector_of}
+use Rattle.simulation.proofs.Common.{get_or_default, Sig, Trit, X, gate_sig, home_of, AreSettled, vector_of}
 use Rattle.simulation.proofs.PinLemmas.{contains_at}
 use Rattle.simulation.proofs.LoadLemmas.{vector-set}
 use Rattle.simulation.proofs.GateLemmas.{settled_set}

@@ -1,8 +1,5 @@
 use Rattle.std.proofs.Common.{◌≡◌, ◌<◌, ℕ, true, get_or}
-use Rattle.cyc_base.specs.declared.trit.Trit.TheVariants.{X}
-use Rattle.netlist.specs.Netlists.{gate_sig}
-use Rattle.netlist.specs.Fixpoint.{wire}
-use Rattle.simulation.specs.Standing.{AreKept, AreSettled, is_due, vector_of}
+use Rattle.simulation.proofs.Common.{X, gate_sig, wire, AreKept, AreSettled, is_due, vector_of}
 use Rattle.simulation.proofs.wires.Wires.forget.Given as goal
 
 abbrev pub invariant-loop-gate : goal.invariant-loop-gate

@@ -1,8 +1,6 @@
 -- One value more is loaded.
 use Rattle.std.proofs.Common.{◌+◌, ◌<◌, List, length, sym, subst, arith}
-use Rattle.std.proofs.lemmas.List.{get_or_default}
-use Rattle.cyc_base.specs.declared.trit.Trit.{Trit}
-use Rattle.cyc_base.specs.declared.trit.Trit.TheVariants.{X}
+use Rattle.simulation.proofs.Common.{get_or_default, Trit, X}
 use Rattle.simulation.proofs.LoadLemmas.{AreLoaded, loaded_more}
 use Rattle.simulation.proofs.wires.Wires.load.Goals as goal
 

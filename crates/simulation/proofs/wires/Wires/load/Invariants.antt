@@ -1,4 +1,4 @@
-use Rattle.simulation.specs.Standing.{AreKept}
+use Rattle.simulation.proofs.Common.{AreKept}
 use Rattle.simulation.proofs.LoadLemmas.{AreLoaded}
 use Rattle.simulation.proofs.wires.Wires.load.Given as goal
 

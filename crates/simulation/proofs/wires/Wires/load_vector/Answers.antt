@@ -1,6 +1,6 @@
 -- The inputs are loaded first, and the latches after them.
 use Rattle.std.proofs.Common.{◌≡◌, ℕ, ◌+◌, ◌<◌, length, get_or, subst}
-use Rattle.cyc_base.specs.declared.trit.Trit.TheVariants.{X}
+use Rattle.simulation.proofs.Common.{X}
 use Rattle.simulation.proofs.LoadLemmas.{vector_loaded}
 use Rattle.simulation.proofs.wires.Wires.load_vector.Goals as goal
 

@@ -1,8 +1,7 @@
 -- All blocks are settled, and so is the vector.
 use Rattle.std.proofs.Common.{◌≡◌, List, length, ap, ◌∙◌, subst, arith}
-use Rattle.netlist.specs.Fixpoint.{fix}
+use Rattle.simulation.proofs.Common.{fix, AreSettled}
 use Rattle.loops.specs.declared.structure.Block.{Block}
-use Rattle.simulation.specs.Standing.{AreSettled}
 use Rattle.simulation.proofs.LoadLemmas.{all_settled}
 use Rattle.simulation.proofs.wires.Wires.settle.Goals as goal
 

@@ -1,5 +1,5 @@
 use Rattle.std.proofs.Common.{◌≡◌}
-use Rattle.simulation.specs.Standing.{AreKept, AreSettled, vector_of}
+use Rattle.simulation.proofs.Common.{AreKept, AreSettled, vector_of}
 use Rattle.simulation.proofs.wires.Wires.settle.Given as goal
 
 abbrev pub invariant-loop-place : goal.invariant-loop-place

@@ -1,10 +1,9 @@
 -- The first gate of a block is one of its gates.
 use Rattle.std.proofs.Common.{◌≡◌, ◌<◌, ℕ, List, length, get_or, ap, ◌∙◌, arith}
 use Rattle.loops.specs.declared.structure.Block.{Block}
-use Rattle.loops.specs.declared.structure.Blocks.{Blocks}
-use Rattle.loops.specs.Blocks.{AreBlocksOf, block_at, gates_at, home_of}
+use Rattle.simulation.proofs.Common.{Blocks, AreBlocksOf, home_of, Parts}
+use Rattle.loops.specs.Blocks.{block_at, gates_at}
 use Rattle.loops.proofs.OrderLemmas.{block_gates}
-use Rattle.netlist.specs.declared.parts.Parts.{Parts}
 use Rattle.simulation.proofs.PinLemmas.{contains_at}
 use Rattle.simulation.proofs.ForgetLemmas.{gate_of_block}
 use Rattle.simulation.proofs.wires.Wires.settle_block.Goals as goal

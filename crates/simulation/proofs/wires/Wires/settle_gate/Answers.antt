@@ -1,9 +1,6 @@
 -- The gate has the value of its cover, where all that it reads is settled.
 use Rattle.std.proofs.Common.{◌≡◌, ◌+◌, List, set, sym, subst, ap, ◌∙◌}
-use Rattle.cyc_base.specs.declared.trit.Trit.{Trit}
-use Rattle.netlist.specs.Netlists.{gate_at, gate_sig}
-use Rattle.netlist.specs.Fixpoint.{gate_value}
-use Rattle.simulation.specs.Standing.{AreSettled, vector_of}
+use Rattle.simulation.proofs.Common.{Trit, gate_at, gate_sig, gate_value, AreSettled, vector_of}
 use Rattle.simulation.proofs.GateLemmas.{cleared, due_at_gate, gate_settled}
 use Rattle.simulation.proofs.LoadLemmas.{vector-set}
 use Rattle.simulation.proofs.wires.Wires.settle_gate.Goals as goal

@@ -1,6 +1,6 @@
 -- No gate waits any longer, so the loop is settled.
 use Rattle.std.proofs.Common.{◌≡◌, ◌<◌, ℕ, List, [], sym, subst, ◌∙◌, arith}
-use Rattle.simulation.specs.Rising.{IsRising, work_left}
+use Rattle.simulation.proofs.Common.{IsRising, work_left}
 use Rattle.simulation.proofs.GateLemmas.{cleared}
 use Rattle.simulation.proofs.LoopLemmas.{nothing_waits, risen}
 use Rattle.simulation.proofs.wires.Wires.settle_loop.Goals as goal

@@ -1,6 +1,5 @@
 use Rattle.std.proofs.Common.{◌≡◌}
-use Rattle.simulation.specs.Standing.{vector_of}
-use Rattle.simulation.specs.Rising.{IsRising, work_left}
+use Rattle.simulation.proofs.Common.{vector_of, IsRising, work_left}
 use Rattle.simulation.proofs.wires.Wires.settle_loop.Given as goal
 
 abbrev pub invariant-loop-gate : goal.invariant-loop-gate

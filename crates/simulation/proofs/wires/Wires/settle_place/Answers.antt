@@ -1,7 +1,7 @@
 -- A block that stands is settled where those before it are.
 use Rattle.std.proofs.Common.{◌≡◌, false, true, sym, ◌∙◌, arith}
 use Rattle.std.proofs.lemmas.List.{get_or_read}
-use Rattle.simulation.specs.Standing.{is_due, vector_of}
+use Rattle.simulation.proofs.Common.{is_due, vector_of}
 use Rattle.simulation.proofs.PinLemmas.{length-vector}
 use Rattle.simulation.proofs.BlockLemmas.{standing_settled}
 use Rattle.simulation.proofs.GateLemmas.{at_fix}

@@ -1,0 +1,41 @@
+use Rattle.std.proofs.Common.{◌≡◌, ◌<◌, List, length, sym, ap, subst, ◌∙◌}
+use Rattle.ternary_clauses.proofs.Common.{All-get_or, on_ok_weaker, All, AllZip, Gate, no_gate, gate_at, Rails, AreWithin, AreRailsOf, IsSeen}
+use Rattle.std.specs.List.{slice_index}
+use Rattle.std.specs.Prelude.{OnOk}
+use Rattle.dual_rail.specs.Local.{IsDiagramOf}
+use Rattle.ternary_clauses.specs.Rails.{rails_at}
+use Rattle.ternary_clauses.specs.Sweeps.{CopiedLoop, BindsCopy}
+use Rattle.ternary_clauses.proofs.SweepLemmas.{seen-length}
+use Rattle.ternary_clauses.proofs.sweeps.LoopCopy.bind.Goals as goal
+
+pub add_gate-requires-clause-pins : goal.add_gate-requires-clause-pins
+add_gate-requires-clause-pins c =
+    let net = c.self.inside.net.now in
+    let place : c.args.place < length c.self.inside.gates.now = subst (λ (l : CopiedLoop). c.args.place < length l.gates) (sym c.self.view_is) c.requires.place in
+    ap length c.deref.ensures.value
+    ∙ seen-length c.args.self.now c.gate-read.result.now.pins c.in_ok-pins.pins.items c.in_ok-pins.ensures.seen
+    ∙ subst (λ (g : Gate). length g.pins ≡ g.cover.pins) (sym c.gate-read.ensures.at) (All-get_or (λ (g : Gate). length g.pins ≡ g.cover.pins) net.gates _ no_gate (c.self.invariant.inside c.args.place place) c.gate-read.ensures.valid.pin_counts)
+    ∙ sym c.in_ok-diagram.ensures.pins
+
+pub add_gate-requires-clause-rails : goal.add_gate-requires-clause-rails
+add_gate-requires-clause-rails c =
+    subst (All (AreWithin c.args.formula.now.variables)) (sym c.deref.ensures.value) (c.in_ok-pins.ensures.within c.args.formula.now.variables c.requires.copy.within)
+
+pub add_gate-requires-clause-out : goal.add_gate-requires-clause-out
+add_gate-requires-clause-out c =
+    subst (λ (l : CopiedLoop). AreRailsOf c.args.formula.now (rails_at l.after c.args.place)) (sym c.self.view_is) (c.requires.copy.own c.args.place c.requires.place)
+
+pub returns-clause-copy : goal.returns-clause-copy
+returns-clause-copy c =
+    let seen : AllZip (IsSeen c.args.self.now) c.gate-read.result.now.pins c.deref.result.now =
+    subst (λ (pins : List Rails). AllZip (IsSeen c.args.self.now) c.gate-read.result.now.pins pins) (sym c.deref.ensures.value) c.in_ok-pins.ensures.seen in
+    let gate : Gate = gate_at c.self.inside.net.now (slice_index c.self.inside.gates.now c.args.place) in
+    subst (λ (l : CopiedLoop). OnOk c.add_gate.result (BindsCopy l c.args.place c.args.formula.now c.add_gate.new.formula)) c.self.view_is
+    (on_ok_weaker c.add_gate.result
+    (λ says. record {
+      pins = c.deref.result.now;
+      seen = subst (λ (l : CopiedLoop). AllZip (IsSeen l) gate.pins c.deref.result.now) (sym c.self.view_is)
+          (subst (λ (g : Gate). AllZip (IsSeen c.args.self.now) g.pins c.deref.result.now) c.gate-read.ensures.at seen);
+      says_gate = says;
+    })
+    (c.add_gate.ensures.says gate.cover (subst (λ (g : Gate). IsDiagramOf c.in_ok-diagram.diagram g.cover) c.gate-read.ensures.at c.in_ok-diagram.ensures)))

@@ -1,0 +1,73 @@
+use Rattle.std.proofs.Common.{◌≡◌, ℕ, inl, inr, None, Some, ap, sym, subst, ◌∙◌, arith}
+use Rattle.netlist.specs.declared.parts.Parts.{Parts}
+use Rattle.netlist.specs.Walks.{IsLoopFree}
+use Rattle.netlist.specs.Faults.{first_fault}
+use Rattle.netlist.proofs.Validity.{no_fault_of_netlist}
+use Rattle.loops.specs.Cuts.{Loops, AreLoopsOf, loops_by}
+use Rattle.unroll.specs.Laws.{KeepsInterface, TellsAsMuchAt}
+use Rattle.unroll.specs.Unrolled.{sweeps_of, unrolled, IsOfLoops}
+use Rattle.unroll.proofs.Counts.{looped_loops, looped_sweeps}
+use Rattle.unroll.proofs.Measures.{size_is_shift}
+use Rattle.unroll.proofs.Opened.{unrolled_is_loop_free}
+use Rattle.unroll.proofs.Telling.{unrolled_keeps_interface, unrolled_tells_as_much}
+use Rattle.unroll.proofs.Valid.{unrolled_is_netlist}
+use Rattle.unroll.proofs.unrolling.unroll_looped.Goals as goal
+
+pub unrolled_parts-requires-clause-by : goal.unrolled_parts-requires-clause-by
+unrolled_parts-requires-clause-by c =
+    let l = c.args.looped.now in
+    let by = c.in_ok-by.ensures.by in
+    let size = size_is_shift l.net (loops_by l.blocks l.cut) (sweeps_of l.blocks c.args.sweeps.now) in
+    omega arith
+
+pub want_of_memory-requires : goal.want_of_memory-requires
+want_of_memory-requires c =
+    let l = c.args.looped.now in
+    let loops = loops_by l.blocks l.cut in
+    let m = sweeps_of l.blocks c.args.sweeps.now in
+    let is = c.shift_of.ensures.looped in
+    let valid = unrolled_is_netlist l.net loops m c.shift_of.ensures.valid (looped_loops l is) (looped_sweeps l is c.args.sweeps.now) c.in_ok-by.ensures.small c.requires.inputs in
+    let none = no_fault_of_netlist (unrolled l.net loops m) valid in
+    elim c.in-Err.ensures.fault [
+      | inl e ↦ e
+      | inr e ↦ (let h : None ≡ Some c.in-Err.fault = sym none ∙ ap first_fault (sym c.in_ok-parts.ensures) ∙ e in cc)
+    ]
+
+-- what holds of the unrolled netlist holds of the answer
+module _ (c : goal.In-Ok) where
+  abbrev net : Parts
+  net = c.args.looped.now.net
+
+  abbrev loops : Loops
+  loops = loops_by c.args.looped.now.blocks c.args.looped.now.cut
+
+  abbrev m : ℕ → ℕ
+  m = sweeps_of c.args.looped.now.blocks c.args.sweeps.now
+
+  are : AreLoopsOf net loops
+  are = looped_loops c.args.looped.now c.shift_of.ensures.looped
+
+  of_loops : IsOfLoops loops m
+  of_loops = looped_sweeps c.args.looped.now c.shift_of.ensures.looped c.args.sweeps.now
+
+  answer_is : c.in-Ok.other ≡ unrolled net loops m
+  answer_is = c.in-Ok.ensures.parts ∙ c.in_ok-parts.ensures
+
+  by_answer : (P : Parts → Type 0) → P (unrolled net loops m) → P c.in-Ok.other
+  by_answer P h = subst P (sym answer_is) h
+
+pub returns-in-Ok-clause-unrolled : goal.returns-in-Ok-clause-unrolled
+returns-in-Ok-clause-unrolled c = answer_is c
+
+pub returns-in-Ok-clause-loop_free : goal.returns-in-Ok-clause-loop_free
+returns-in-Ok-clause-loop_free c =
+    by_answer c IsLoopFree (unrolled_is_loop_free (net c) (loops c) (are c) (m c) (of_loops c))
+
+pub returns-in-Ok-clause-interface : goal.returns-in-Ok-clause-interface
+returns-in-Ok-clause-interface c =
+    by_answer c (KeepsInterface (net c)) (unrolled_keeps_interface (net c) (loops c) (are c) (m c) (of_loops c))
+
+pub returns-in-Ok-clause-tells : goal.returns-in-Ok-clause-tells
+returns-in-Ok-clause-tells c v enough =
+    by_answer c (λ other. TellsAsMuchAt (net c) other v)
+    (unrolled_tells_as_much (net c) (loops c) (are c) (m c) (of_loops c) v enough)
