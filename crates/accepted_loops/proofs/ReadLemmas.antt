@@ -1,8 +1,8 @@
 -- Marks while the columns are found that are read upstream of a gate.
-use Rattle.std.proofs.Common.{◌≡◌, inl, inr, ℕ, ◌+◌, ◌<◌, ◌≤◌, Bool, true, false, ◌&&◌, List, [], ◌∷◌, ◌++◌, length, take, get_or, replicate, refl, sym, ap, ◌∙◌, subst, arith, Contains, true≢false}
+use Rattle.std.proofs.Common.{◌≡◌, inl, inr, ℕ, ◌+◌, ◌<◌, ◌≤◌, Bool, true, false, ◌&&◌, List, [], ◌∷◌, ◌++◌, length, take, get_or, sym, ap, ◌∙◌, subst, arith, Contains, true≢false}
 use Rattle.std.proofs.Math.ListN.{set}
 use Rattle.std.proofs.lemmas.Bool.{cases_lt, and_parts, and_from}
-use Rattle.std.proofs.lemmas.List.{take_more, take_all, get_or-replicate, get_or_past, length-replicate}
+use Rattle.std.proofs.lemmas.List.{take_more, take_all}
 use Rattle.std.proofs.lemmas.List.Elements.{Contains-append_left, Contains-push, Contains-push_cases}
 use Rattle.std.proofs.lemmas.List.Folds.{Any-from_list_any}
 use Rattle.std.proofs.lemmas.List.FromFn.{length-range_with_len, get_or-range_with_len}
@@ -12,9 +12,8 @@ use Rattle.netlist.specs.declared.parts.Parts.{Parts}
 use Rattle.netlist.specs.Netlists.{gate_at, signal}
 use Rattle.loops.specs.Sweeps.{first_gate}
 use Rattle.loops.proofs.Walks.{same_truth}
-use Rattle.isolation.specs.Cones.{is_marked, AddMarks, AreUpstreamMarks}
-use Rattle.isolation.specs.Laws.{IsUpstream}
-use Rattle.isolation.proofs.MarkLemmas.{add-none, add-same, add-both, add-one}
+use Rattle.isolation.specs.Cones.{is_marked, AddMarks, IsConeOf}
+use Rattle.isolation.proofs.MarkLemmas.{add-none, add-same, add-both, add-one, cone_of_one}
 use Rattle.refusals.specs.Refusals.{is_among}
 use Rattle.refusals.proofs.ObservedLemmas.{member, among}
 use Rattle.unroll.proofs.SizeLemmas.{one_in_range}
@@ -23,28 +22,8 @@ use Rattle.accepted_loops.proofs.ReachLemmas.{upstream-test}
 
 -- ---- what lies upstream of a gate
 
-pub unmarked : (width n : ℕ) → is_marked (replicate width false) n ≡ false
-unmarked width n =
-    elim (cases_lt n width) [
-      | inl inside ↦ get_or-replicate width n false false inside
-      | inr past ↦ get_or_past (replicate width false) n false (let e = length-replicate width false in omega (arith, e, past))
-    ]
-
-pub cone_marked : (net : Parts) (gate : ℕ) (marks new : List Bool) → gate < length marks → ((n : ℕ) → is_marked marks n ≡ false)
-    → AreUpstreamMarks net (set marks gate true) new → AreUpstreamOf net gate new
-cone_marked net gate marks new less none are = record {
-  width = are.width;
-  each = λ m l. (
-    λ is. let lead = (are.each m l).0 is in subst (λ (n : ℕ). IsUpstream net m n) (only lead.gate lead.marked) lead.upstream,
-    λ up. (are.each m l).1 (record { gate = gate; marked = one.adds gate refl; upstream = up }),
-  );
-}
-  where
-    one : AddMarks (λ m. m ≡ gate) marks (set marks gate true)
-    one = add-one marks gate less
-
-    only : (n : ℕ) → is_marked (set marks gate true) n ≡ true → n ≡ gate
-    only n is = elim (one.only n is) [ inl before ↦ absurd (true≢false (sym before ∙ none n)) | inr e ↦ e ]
+pub upstream_marked : (net : Parts) (gate : ℕ) (marks : List Bool) → IsConeOf net (gate ∷ []) marks → AreUpstreamOf net gate marks
+upstream_marked net gate marks are = record { width = are.width; each = cone_of_one net gate marks are }
 
 -- ---- the pins of a gate
 

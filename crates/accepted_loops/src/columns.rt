@@ -2,46 +2,15 @@
 
 ghost use Rattle.std.specs.Prelude.{◌≡◌, ◌<◌, ℕ, false, length, IfOk};
 ghost use Rattle.netlist.specs.Netlists.{gate_at};
-ghost use Rattle.loops.specs.Blocks.{AreBlocksOf};
 ghost use Rattle.loops.specs.Sweeps.{first_gate};
 ghost use Rattle.isolation.specs.Cones.{is_marked, AddMarks};
 ghost use Rattle.accepted_loops.specs.Columns.{AreColumnsRead, AreUpstreamOf, IsAmong, IsColumn, IsReadBelow, IsReadBy};
 
 use cyc_base::Sig;
-use isolation::mark_upstream;
-use loops::Blocks;
+use isolation::upstream_of;
+use loops::LoopedNetlist;
 use netlist::Netlist;
 use std::alloc::{AllocError, Global};
-
-// Marks a gate, and what lies upstream of it.
-#[tactic(auto, using(crate::proofs::ReadLemmas::cone_marked))]
-fn mark_cone(net: &Netlist, blocks: &Blocks, gate: u32, marks: &mut [bool])
-    requires blocks { AreBlocksOf net.now blocks.now }
-    requires gate { gate < length net.now.gates }
-    requires width { length marks.old ≡ length net.now.gates }
-    requires none { (n : ℕ) → is_marked marks.old n ≡ false }
-    ensures { AreUpstreamOf net.now gate marks.new }
-{
-    marks[gate as usize] = true;
-    mark_upstream(net, blocks, marks);
-}
-
-// A mark for each gate, which says whether it lies upstream of this one.
-#[tactic(auto, using(crate::proofs::ReadLemmas::unmarked))]
-fn upstream_of(
-    alloc: Global,
-    net: &Netlist,
-    blocks: &Blocks,
-    gate: u32,
-) -> Result<Vec<bool>, AllocError>
-    requires blocks { AreBlocksOf net.now blocks.now }
-    requires gate { gate < length net.now.gates }
-    ensures { IfOk result (λ marks. AreUpstreamOf net.now gate marks.items) }
-{
-    let mut marks = vec![in alloc; false; net.gates() as usize]?;
-    mark_cone(net, blocks, gate, &mut marks);
-    Ok(marks)
-}
 
 // Marks a signal, where it is a column.
 #[tactic(auto, using(crate::proofs::ReadLemmas::column_marked, crate::proofs::ReadLemmas::column_left))]
@@ -100,7 +69,7 @@ fn mark_spoken(net: &Netlist, gate: u32, upstream: &[bool], read: &mut [bool])
 }
 
 // A mark for each column, which says whether the gate speaks of it.
-#[tactic(auto, using(crate::proofs::ReadLemmas::unmarked))]
+#[tactic(auto, using(isolation::proofs::MarkLemmas::unmarked))]
 fn marks_read(
     alloc: Global,
     net: &Netlist,
@@ -116,16 +85,15 @@ fn marks_read(
 }
 
 // The same, in time in proportion to the gates and pins of the netlist.
+#[tactic(auto, using(crate::proofs::ReadLemmas::upstream_marked))]
 pub(crate) fn columns_read(
     alloc: Global,
-    net: &Netlist,
-    blocks: &Blocks,
+    looped: &LoopedNetlist<'_>,
     gate: u32,
 ) -> Result<Vec<bool>, AllocError>
-    requires blocks { AreBlocksOf net.now blocks.now }
-    requires gate { gate < length net.now.gates }
-    ensures { IfOk result (λ read. AreColumnsRead net.now gate read.items) }
+    requires { gate < length looped.now.net.gates }
+    ensures { IfOk result (λ read. AreColumnsRead looped.now.net gate read.items) }
 {
-    let upstream = upstream_of(alloc, net, blocks, gate)?;
-    marks_read(alloc, net, gate, &upstream)
+    let upstream = upstream_of(alloc, looped, &[gate])?;
+    marks_read(alloc, looped.net(), gate, &upstream)
 }

@@ -152,7 +152,7 @@ pub(crate) fn tell_loop(
     requires listed { IsLoopOf looped.now.net (loop_seen listed) }
     ensures { OnOk result (text_bytes sink.new ≡ text_bytes sink.old ++ told_lines looped.now.net (sweeps_of looped.now.blocks sweeps.now) listed.entry.number listed.entry.first) }
 {
-    let read = columns_read(alloc, looped.net(), looped.blocks(), listed.first)?;
+    let read = columns_read(alloc, looped, listed.first)?;
     if put_loop_told(sink, looped, sweeps, listed, &read).is_err() {
         return Err(AllocError);
     }

@@ -1,10 +1,10 @@
 -- Marks while gates are marked from the last block to the first.
-use Rattle.std.proofs.Common.{◌≡◌, inl, inr, ◌⊎◌, ℕ, zero, suc, ◌+◌, ◌-◌, ◌<◌, ◌≤◌, Bool, true, false, List, [], ◌∷◌, length, get_or, refl, sym, ap, ◌∙◌, subst, arith, Contains, true≢false}
+use Rattle.std.proofs.Common.{◌≡◌, inl, inr, ◌⊎◌, ◌↔◌, ℕ, zero, suc, ◌+◌, ◌-◌, ◌<◌, ◌≤◌, Bool, true, false, List, [], ◌∷◌, length, get_or, replicate, refl, sym, ap, ◌∙◌, subst, arith, Contains, true≢false}
 use Rattle.std.proofs.Math.ListN.{set}
 use Rattle.isolation.proofs.Common.{cases_lt, cases_eq, get_or_default, list_any, Sig, Parts, IsNetlist, no_gate, gate_at, gate_sig, Feeds, Blocks, AreBlocksOf, block_at, home_of, first_gate, gate_home, home_gate, gate_in, IsUpstream, AddMarks, IsNearOne, AreMarkedFrom}
-use Rattle.std.proofs.lemmas.List.{get_or-set_same, get_or-set_other, length-set}
+use Rattle.std.proofs.lemmas.List.{get_or-replicate, get_or-set_same, get_or-set_other, get_or_past, length-replicate, length-set}
 use Rattle.loops.proofs.Walks.{leads-step}
-use Rattle.isolation.specs.Cones.{is_marked, AreUpstreamMarks, IsOnPin, IsNear, HasMark, IsWithMark}
+use Rattle.isolation.specs.Cones.{is_marked, AreUpstreamMarks, IsConeOf, IsOnPin, IsNear, HasMark, IsWithMark}
 use Rattle.isolation.proofs.UpstreamLemmas.{upstream-trans, same-up, upstream-closed}
 
 -- nothing is marked for want of a gate of the kind
@@ -222,3 +222,44 @@ module _ (net : Parts) (blocks : Blocks) (are : AreBlocksOf net blocks) (old : L
       λ leads. upstream-closed net (λ n. is_marked marks n ≡ true) (λ a b feeds is. from.closed a b feeds (omega arith) is) m leads.gate leads.upstream (from.keeps leads.gate leads.marked),
     );
   }
+
+-- ---- the gates upstream of some
+
+-- one of the first k of these
+pub record IsAmongFirst (gates : List ℕ) (k m : ℕ) : Type 0 where
+  pub place : ℕ
+  pub early : place < k
+  pub within : place < length gates
+  pub is : get_or gates place m ≡ m
+
+pub unmarked : (width n : ℕ) → is_marked (replicate width false) n ≡ false
+unmarked width n =
+    elim (cases_lt n width) [
+      | inl inside ↦ get_or-replicate width n false false inside
+      | inr past ↦ get_or_past (replicate width false) n false (let e = length-replicate width false in omega (arith, e, past))
+    ]
+
+-- marked from these on, where nothing was
+pub cone_marked : (net : Parts) (gates : List ℕ) (start marks new : List Bool) → ((n : ℕ) → is_marked start n ≡ false) → AddMarks (Contains gates) start marks → AreUpstreamMarks net marks new → IsConeOf net gates new
+cone_marked net gates start marks new none adds are = record {
+  width = are.width;
+  each = λ m less. (
+    λ is. let lead = (are.each m less).0 is in record { gate = lead.gate; among = own lead.gate (adds.only lead.gate lead.marked); upstream = lead.upstream },
+    λ leads. (are.each m less).1 (record { gate = leads.gate; marked = adds.adds leads.gate leads.among; upstream = leads.upstream }),
+  );
+}
+  where
+    own : (n : ℕ) → (is_marked start n ≡ true) ⊎ Contains gates n → Contains gates n
+    own n (inl before) = absurd (true≢false (sym before ∙ none n))
+    own n (inr among) = among
+
+-- one gate's
+pub cone_of_one : (net : Parts) (gate : ℕ) (marks : List Bool) → IsConeOf net (gate ∷ []) marks → (m : ℕ) → m < length net.gates → (is_marked marks m ≡ true) ↔ IsUpstream net m gate
+cone_of_one net gate marks are m less = (
+  λ is. let lead = (are.each m less).0 is in subst (IsUpstream net m) (only lead.gate lead.among) lead.upstream,
+  λ up. (are.each m less).1 (record { gate = gate; among = (0, omega arith, refl); upstream = up }),
+)
+  where
+    only : (n : ℕ) → Contains (gate ∷ []) n → n ≡ gate
+    only n (zero, less, is) = sym is
+    only n (suc k, less, is) = absurd (omega (arith, less))

@@ -22,6 +22,17 @@ pub record AreUpstreamMarks (net : Parts) (old new : List Bool) : Type 0 where
   pub width : length new ≡ length net.gates
   pub each : (m : ℕ) → m < length net.gates → (is_marked new m ≡ true) ↔ LeadsToMark net old m
 
+-- the gate is one of these, or a walk leads from it to one
+pub record LeadsToOne (net : Parts) (gates : List ℕ) (m : ℕ) : Type 0 where
+  pub gate : ℕ
+  pub among : Contains gates gate
+  pub upstream : IsUpstream net m gate
+
+-- just these gates and those upstream of them are marked
+pub record IsConeOf (net : Parts) (gates : List ℕ) (marks : List Bool) : Type 0 where
+  pub width : length marks ≡ length net.gates
+  pub each : (m : ℕ) → m < length net.gates → (is_marked marks m ≡ true) ↔ LeadsToOne net gates m
+
 -- ---- while they are marked
 
 -- the marks are the earlier ones, and those of gates of this kind

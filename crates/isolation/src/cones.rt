@@ -1,14 +1,15 @@
 //! Marks of gates, and of all that lies upstream of them.
 
-ghost use Rattle.std.specs.Prelude.{◌≡◌, ◌<◌, length, All};
+ghost use Rattle.std.specs.Prelude.{◌≡◌, ◌<◌, ℕ, false, length, All, Contains, IfOk};
 ghost use Rattle.netlist.specs.Netlists.{gate_sig, IsSignal};
 ghost use Rattle.netlist.specs.Walks.{Feeds};
-ghost use Rattle.isolation.specs.Cones.{AddMarks, AreUpstreamMarks, IsNear, IsNearOne, IsWithMark};
+ghost use Rattle.isolation.specs.Cones.{is_marked, AddMarks, AreUpstreamMarks, IsConeOf, IsNear, IsNearOne, IsWithMark};
 
 use crate::excerpt::gates_at;
 use cyc_base::Sig;
 use loops::LoopedNetlist;
 use netlist::Netlist;
+use std::alloc::{AllocError, Global};
 
 /// Marks the gate that drives a signal, if one does: an input or a latch has none.
 ///
@@ -71,7 +72,7 @@ fn mark_block(net: &Netlist, gates: &[u32], marks: &mut [bool])
 /// along pins leads from it to a gate that was marked, or it was marked itself.
 ///
 /// The condition is that there is a mark for each gate.
-pub fn mark_upstream(looped: &LoopedNetlist<'_>, marks: &mut [bool])
+fn mark_upstream(looped: &LoopedNetlist<'_>, marks: &mut [bool])
     requires { length marks.old ≡ length looped.now.net.gates }
     ensures { AreUpstreamMarks looped.now.net marks.old marks.new }
 {
@@ -79,4 +80,43 @@ pub fn mark_upstream(looped: &LoopedNetlist<'_>, marks: &mut [bool])
     for back in 0..count {
         mark_block(looped.net(), gates_at(looped, count - 1 - back), marks);
     }
+}
+
+/// Marks these gates.
+pub fn mark_all(gates: &[u32], marks: &mut [bool])
+    requires { All (λ n. n < length marks.old) gates.now }
+    ensures { AddMarks (Contains gates.now) marks.old marks.new }
+{
+    for gate in gates {
+        marks[*gate as usize] = true;
+    }
+}
+
+/// Marks these gates and what lies upstream of them, where nothing is marked yet.
+#[tactic(auto, using(crate::proofs::MarkLemmas::cone_marked))]
+fn mark_cone(looped: &LoopedNetlist<'_>, gates: &[u32], marks: &mut [bool])
+    requires gates { All (λ n. n < length looped.now.net.gates) gates.now }
+    requires width { length marks.old ≡ length looped.now.net.gates }
+    requires none { (n : ℕ) → is_marked marks.old n ≡ false }
+    ensures { IsConeOf looped.now.net gates.now marks.new }
+{
+    mark_all(gates, marks);
+    mark_upstream(looped, marks);
+}
+
+/// A mark for each gate, which says whether it is one of these or lies upstream of one.
+///
+/// The condition is that these are gates of the netlist.
+#[tactic(auto, using(crate::proofs::MarkLemmas::unmarked))]
+pub fn upstream_of(
+    alloc: Global,
+    looped: &LoopedNetlist<'_>,
+    gates: &[u32],
+) -> Result<Vec<bool>, AllocError>
+    requires { All (λ n. n < length looped.now.net.gates) gates.now }
+    ensures { IfOk result (λ marks. IsConeOf looped.now.net gates.now marks.items) }
+{
+    let mut marks = vec![in alloc; false; looped.net().gates() as usize]?;
+    mark_cone(looped, gates, &mut marks);
+    Ok(marks)
 }

@@ -13,6 +13,6 @@ pub mod laws;
 mod settling;
 
 pub use columns::column_rails;
-pub use cones::{mark_driver, mark_upstream};
+pub use cones::{mark_all, mark_driver, upstream_of};
 pub use excerpt::{gates_at, loop_netlist};
 pub use settling::settles_alone;
