@@ -11,7 +11,7 @@ use cyc_base::{Items, Trits};
 use netlist::Netlist;
 use short_cycles::shortest_cycle;
 use std::alloc::{AllocError, Global};
-use ternary_run::settle;
+use ternary_run::settle_at;
 
 /// Why a wire is undetermined at a vector.
 #[derive(Debug)]
@@ -58,8 +58,7 @@ pub fn explain(
     ensures found { IfOk result (λ why. IfSome why (Explains net.now vector.now gate)) }
     ensures none { IfOk result (λ why. IfNone why (wire (fix net.now (bits vector.now)) (gate_sig net.now gate) ≢ X)) }
 {
-    let given = trits_of(alloc, vector)?;
-    let known = settle(alloc, net, &given)?;
+    let known = settle_at(alloc, net, vector)?;
     let graph = open_graph(alloc, net, &known)?;
     let Some(found) = shortest_cycle(alloc, &graph, gate)? else {
         return Ok(None);

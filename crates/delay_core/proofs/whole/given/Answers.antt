@@ -10,7 +10,7 @@ pub loop-number-preserved : goal.loop-number-preserved
 loop-number-preserved c =
     let now : List Bool = newest c.args.play.now.state.history in
     let columns : ℕ = length c.args.net.now.inputs + length c.args.net.now.latches in
-    let here : c.loop-number.number < columns = omega (arith, c.loop-number-test.true, c.columns-2.ensures.columns) in
+    let here : c.loop-number.number < columns = omega (arith, c.loop-number-test.true, c.columns-number-end.ensures.columns) in
     let wide : length now ≡ columns + length c.args.net.now.gates =
     rw c.requires at c.value.ensures.width in
     let some : c.loop-number.number < length (given_at c.args.net.now now) = omega (arith, length-take columns now) in
@@ -35,11 +35,11 @@ loop-number-init c =
 
 pub value-requires : goal.value-requires
 value-requires c =
-    omega (arith, ap (λ (net : Parts). count net) c.requires, c.loop-number-test.true, c.columns-2.ensures.columns)
+    omega (arith, ap (λ (net : Parts). count net) c.requires, c.loop-number-test.true, c.columns-number-end.ensures.columns)
 
 pub push_reserved-requires : goal.push_reserved-requires
 push_reserved-requires c =
-    omega (arith, c.loop-number.invariant.len, c.loop-number.invariant.room, c.loop-number-test.true, c.columns-2.ensures.columns)
+    omega (arith, c.loop-number.invariant.len, c.loop-number.invariant.room, c.loop-number-test.true, c.columns-number-end.ensures.columns)
 
 pub returns-clause-given : goal.returns-clause-given
 returns-clause-given c =
@@ -47,8 +47,8 @@ returns-clause-given c =
     let columns : ℕ = length c.args.net.now.inputs + length c.args.net.now.latches in
     c.loop-number.invariant.values
     ∙ take_all c.loop-number.number (bits (given_at c.args.net.now now))
-    (omega (arith, length-map (given_at c.args.net.now now) bit, length-take columns now, c.loop-number-test.false, c.columns-2.ensures.columns))
+    (omega (arith, length-map (given_at c.args.net.now now) bit, length-take columns now, c.loop-number-test.false, c.columns-number-end.ensures.columns))
 
 pub returns-clause-width : goal.returns-clause-width
 returns-clause-width c =
-    omega (arith, c.loop-number.values.ok, c.loop-number.invariant.len, c.loop-number.auto.number-end, c.loop-number-test.false, c.columns-2.ensures.columns)
+    omega (arith, c.loop-number.values.ok, c.loop-number.invariant.len, c.loop-number.auto.number-end, c.loop-number-test.false, c.columns-number-end.ensures.columns)

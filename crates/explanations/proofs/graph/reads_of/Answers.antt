@@ -10,13 +10,13 @@ pub returns : goal.returns
 returns c =
     let net = c.args.net.now in
     let known = c.args.known.now in
-    let first : c.columns.result ≡ length net.inputs + length net.latches = c.columns.ensures.columns in
+    let first : c.columns-first.result ≡ length net.inputs + length net.latches = c.columns-first.ensures.columns in
     let number : c.gate_sig.result.0 ≡ (gate_sig net c.args.gate).0 = ap (λ (s : Sig). s.0) c.gate_sig.ensures.sig in
     let is : IsOpenSignal (length net.inputs + length net.latches) known (gate_sig net c.args.gate).0 =
     subst (λ (n : ℕ). IsOpenSignal n known (gate_sig net c.args.gate).0) first
-    (subst (λ (n : ℕ). IsOpenSignal (c.columns.result) known n) number (c.is_open.ensures.0 c.if-not-is_open.false)) in
+    (subst (λ (n : ℕ). IsOpenSignal (c.columns-first.result) known n) number (c.is_open.ensures.0 c.if-not-is_open.false)) in
     let pins : c.items.result.now ≡ (gate_at net c.args.gate).pins = c.items.ensures ∙ ap (λ gate. gate.pins) c.gate.ensures.at in
     IfOk-weaker c.open_reads.result
-    (λ reads. HasOpenReads (c.columns.result) known c.items.result.now (length c.items.result.now) reads.items)
+    (λ reads. HasOpenReads (c.columns-first.result) known c.items.result.now (length c.items.result.now) reads.items)
     (λ reads. ReadsOpen net known c.args.gate reads.items)
-    (λ reads h. reads_these net known c.args.gate reads.items c.columns.ensures.valid c.requires.gate is (rw (first, pins) at h)) c.open_reads.ensures
+    (λ reads h. reads_these net known c.args.gate reads.items c.columns-first.ensures.valid c.requires.gate is (rw (first, pins) at h)) c.open_reads.ensures
