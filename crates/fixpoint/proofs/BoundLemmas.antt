@@ -1,6 +1,6 @@
 -- The bounds of sweeps, of loops, and of all blocks.
 use Rattle.std.proofs.Common.{◌≡◌, ◌==◌, inl, inr, ℕ, ◌+◌, ◌*◌, ◌<◌, ◌≤◌, ltb, Bool, false, List, ◌++◌, length, map, filter, take, get_or, refl, sym, ap, ap₂, ◌∙◌, subst, arith, Contains, true≢false}
-use Rattle.fixpoint.proofs.Common.{eq-eqb, cases_Bool, get_or_default, length-map, length-range_with_len, mul-le-mul_left, range_with_len, Arena, KeepsNodes, value, Trit, Rails, IsWide, BoundsEach, IsExtended, is_bit, size, value_of, values_of, Gate, Parts, IsNetlist, gate_at, no_gate, Blocks, Cut, AreBlocksOf, block_at, home_of, IsCutOf, is_cut, in_one_loop, loops_by, IsOrderOf, first_gate, cuts_of, value_in, told_parts, gate_home, Vectors, IsLoopAt, rails_read, AreSwept, IsSolvedBelow, IsSweepable, vectors, OthersStay, after_sweeps, IsWorking, cost, order_cost, block_cost, below_cost, effort, total, read_at_fix}
+use Rattle.fixpoint.proofs.Common.{IsLooped, Looped, eq-eqb, cases_Bool, get_or_default, length-map, length-range_with_len, mul-le-mul_left, range_with_len, Arena, KeepsNodes, value, Trit, Rails, IsWide, BoundsEach, IsExtended, is_bit, size, value_of, values_of, Gate, Parts, IsNetlist, gate_at, no_gate, Blocks, Cut, AreBlocksOf, block_at, home_of, IsCutOf, is_cut, in_one_loop, loops_by, IsOrderOf, first_gate, cuts_of, value_in, told_parts, gate_home, Vectors, IsLoopAt, rails_read, AreSwept, IsSolvedBelow, IsSweepable, vectors, OthersStay, after_sweeps, IsWorking, cost, order_cost, block_cost, below_cost, effort, total, read_at_fix}
 use Rattle.std.proofs.lemmas.List.Sums.{length-filter, count_by-le-length}
 use Rattle.std.proofs.Math.Nat.{mul-le-mul_right}
 use Rattle.std.proofs.Math.Seq.{take-append_seam}
@@ -23,19 +23,19 @@ module _ (net : Parts) (cut : Cut) (d : Arena) (before rails : List Rails) (n : 
   list-values bits = pins-values d (rails_read net cut before rails) (gate_at net n).pins (map (rails_read net cut before rails) (gate_at net n).pins) bits refl
 
 -- a width of the working list serves the lift of each gate of a sweep
-pub sweep-bounds : (net : Parts) → IsNetlist net → (cut : Cut) → IsCutOf net cut → (blocks : Blocks) (b : ℕ) (v : Vectors) (k : ℕ) (order : List ℕ) (s d : Arena) (before old rails : List Rails)
-    → (ready : IsSweepable net blocks cut s v (after_sweeps net blocks cut v k) b order before old) → KeepsNodes s d → (i : ℕ) → i < length order → OthersStay net (take i order) old rails
-    → AreSwept net blocks cut d v (after_sweeps net blocks cut v k) (Contains (take i order)) rails → k ≤ length (filter (is_cut cut.wires) (block_at blocks b).gates)
-    → {w : ℕ} → IsWide s.vars (IsWorking net (loops_by blocks cut) v) w → BoundsEach d.vars (IsExtended d (map (rails_read net cut before rails) (gate_at net (get_or order i 0)).pins) (value (gate_at net (get_or order i 0)).cover)) w
-sweep-bounds net valid cut cut_is blocks b v k order s d before old rails ready keeps i inside others swept few {w} wide =
+pub sweep-bounds : (l : Looped) → IsNetlist l.net → (b : ℕ) (v : Vectors) (k : ℕ) (order : List ℕ) (s d : Arena) (before old rails : List Rails)
+    → (ready : IsSweepable l s v (after_sweeps l v k) b order before old) → KeepsNodes s d → (i : ℕ) → i < length order → OthersStay l.net (take i order) old rails
+    → AreSwept l d v (after_sweeps l v k) (Contains (take i order)) rails → k ≤ length (filter (is_cut l.cut.wires) (block_at l.blocks b).gates)
+    → {w : ℕ} → IsWide s.vars (IsWorking l.net (loops_by l.blocks l.cut) v) w → BoundsEach d.vars (IsExtended d (map (rails_read l.net l.cut before rails) (gate_at l.net (get_or order i 0)).pins) (value (gate_at l.net (get_or order i 0)).cover)) w
+sweep-bounds l valid b v k order s d before old rails ready keeps i inside others swept few {w} wide =
     let n : ℕ = get_or order i 0 in
-    let listed : Contains (block_at blocks b).gates n = ready.follows.only n (i, inside, get_or_default order i n 0 inside) in
-    let at = gate_home net blocks ready.blocks_are b n ready.loop.within listed in
-    let same : length (filter (is_cut cut.wires) (block_at blocks b).gates) ≡ length (cuts_of net (loops_by blocks cut) n) = ap length (cuts-are net blocks ready.blocks_are cut b ready.loop n listed) in
-    let wide2 : IsWide d.vars (IsWorking net (loops_by blocks cut) v) w = subst (λ (x : ℕ). IsWide x (IsWorking net (loops_by blocks cut) v) w) (sym keeps.vars) wide in
-    bounds-lift net (loops_by blocks cut) v d n at.0 (map (rails_read net cut before rails) (gate_at net n).pins) (λ bits. read_in_sweep net (loops_by blocks cut) (v bits) k n) (list-width net cut d before rails n)
-    (λ bits. list-values net cut d before rails n bits ∙ reads-all net valid cut cut_is blocks b v (after_sweeps net blocks cut v k) order s d before old rails ready keeps i inside others swept bits n refl)
-    (inl (record { looped = one-block net blocks ready.blocks_are cut b ready.loop n n at.0 at.1 at.0 at.1; sweep = k; few = omega (arith, few, same); is = λ bits. refl })) (parts-bounded net (loops_by blocks cut) v wide2)
+    let listed : Contains (block_at l.blocks b).gates n = ready.follows.only n (i, inside, get_or_default order i n 0 inside) in
+    let at = gate_home l.net l.blocks ready.are.blocks b n ready.loop.within listed in
+    let same : length (filter (is_cut l.cut.wires) (block_at l.blocks b).gates) ≡ length (cuts_of l.net (loops_by l.blocks l.cut) n) = ap length (cuts-are l.net l.blocks ready.are.blocks l.cut b ready.loop n listed) in
+    let wide2 : IsWide d.vars (IsWorking l.net (loops_by l.blocks l.cut) v) w = subst (λ (x : ℕ). IsWide x (IsWorking l.net (loops_by l.blocks l.cut) v) w) (sym keeps.vars) wide in
+    bounds-lift l.net (loops_by l.blocks l.cut) v d n at.0 (map (rails_read l.net l.cut before rails) (gate_at l.net n).pins) (λ bits. read_in_sweep l.net (loops_by l.blocks l.cut) (v bits) k n) (list-width l.net l.cut d before rails n)
+    (λ bits. list-values l.net l.cut d before rails n bits ∙ reads-all l valid b v (after_sweeps l v k) order s d before old rails ready keeps i inside others swept bits n refl)
+    (inl (record { looped = one-block l.net l.blocks ready.are.blocks l.cut b ready.loop n n at.0 at.1 at.0 at.1; sweep = k; few = omega (arith, few, same); is = λ bits. refl })) (parts-bounded l.net (loops_by l.blocks l.cut) v wide2)
 
 -- a loop has at most as many cut wires as the netlist has gates
 pub cuts-few : (net : Parts) (blocks : Blocks) (cut : Cut) → AreBlocksOf net blocks → (b : ℕ) → IsLoopAt blocks b → length (filter (is_cut cut.wires) (block_at blocks b).gates) ≤ length net.gates
@@ -73,17 +73,17 @@ pub gate-few : (net : Parts) (blocks : Blocks) (n : ℕ) → n < length net.gate
 gate-few net blocks n less = total-at (cost net) (λ m. home_of blocks m == home_of blocks n) n (length net.gates) less (eq-eqb (home_of blocks n) (home_of blocks n) refl)
 
 -- a width of the working list serves the lift of a gate of no loop
-pub plain-bounds : (net : Parts) → IsNetlist net → (blocks : Blocks) → AreBlocksOf net blocks → (cut : Cut) → IsCutOf net cut → (n : ℕ) → n < length net.gates → (block_at blocks (home_of blocks n)).looped ≡ false
-    → (d : Arena) (v : Vectors) (before rails : List Rails) → IsSolvedBelow net blocks cut d v (home_of blocks n) before rails
-    → {w : ℕ} → IsWide d.vars (IsWorking net (loops_by blocks cut) v) w → BoundsEach d.vars (IsExtended d (map (rails_read net cut before rails) (gate_at net n).pins) (value (gate_at net n).cover)) w
-plain-bounds net valid blocks are cut cut_is n less plain d v before rails solved wide =
-    let alone : in_one_loop blocks n n ≡ false = elim (cases_Bool (in_one_loop blocks n n)) [
-      | inl one ↦ absurd (true≢false (sym (told_parts net blocks are n n one).looped ∙ plain))
+pub plain-bounds : (l : Looped) → IsNetlist l.net → IsLooped l → (n : ℕ) → n < length l.net.gates → (block_at l.blocks (home_of l.blocks n)).looped ≡ false
+    → (d : Arena) (v : Vectors) (before rails : List Rails) → IsSolvedBelow l d v (home_of l.blocks n) before rails
+    → {w : ℕ} → IsWide d.vars (IsWorking l.net (loops_by l.blocks l.cut) v) w → BoundsEach d.vars (IsExtended d (map (rails_read l.net l.cut before rails) (gate_at l.net n).pins) (value (gate_at l.net n).cover)) w
+plain-bounds l valid l_is n less plain d v before rails solved wide =
+    let alone : in_one_loop l.blocks n n ≡ false = elim (cases_Bool (in_one_loop l.blocks n n)) [
+      | inl one ↦ absurd (true≢false (sym (told_parts l.net l.blocks l_is.blocks n n one).looped ∙ plain))
       | inr isnt ↦ isnt
     ] in
-    bounds-lift net (loops_by blocks cut) v d n less (map (rails_read net cut before rails) (gate_at net n).pins) (λ bits. read_at_fix net (v bits) n) (list-width net cut d before rails n)
-    (λ bits. list-values net cut d before rails n bits ∙ plain-reads net valid blocks are cut cut_is n less plain d v before rails solved bits)
-    (inr (record { plain = alone; is = λ bits. refl })) (parts-bounded net (loops_by blocks cut) v wide)
+    bounds-lift l.net (loops_by l.blocks l.cut) v d n less (map (rails_read l.net l.cut before rails) (gate_at l.net n).pins) (λ bits. read_at_fix l.net (v bits) n) (list-width l.net l.cut d before rails n)
+    (λ bits. list-values l.net l.cut d before rails n bits ∙ plain-reads l valid l_is n less plain d v before rails solved bits)
+    (inr (record { plain = alone; is = λ bits. refl })) (parts-bounded l.net (loops_by l.blocks l.cut) v wide)
 
 -- the working list goes by the vectors alone
 working-same : (net : Parts) (loops : Loops) (v u : Vectors) → ((bits : List Bool) → v bits ≡ u bits) → (g : List Bool → Bool) → IsWorking net loops v g → IsWorking net loops u g

@@ -36,6 +36,7 @@ pub use Rattle.loops.proofs.Told.{blocks_tell_loops, gate_home, home_gate, told_
 pub use Rattle.loops.proofs.Unique.{feeds_at}
 pub use Rattle.loops.specs.Blocks.{AreBlocksOf, block_at, home_of, no_block}
 pub use Rattle.loops.specs.Cuts.{IsCutOf, in_one_loop, is_cut, loops_by}
+pub use Rattle.loops.specs.Looped.{IsLooped, Looped}
 pub use Rattle.loops.specs.Orders.{IsInOrder, IsOrderOf, ReadsUncut}
 pub use Rattle.loops.specs.Sweeps.{cuts_of, first_gate, gate_of, sweeps, value_in}
 pub use Rattle.loops.specs.declared.structure.Block.{Block}

@@ -1,6 +1,6 @@
 -- Blocks that are solved one after another, with what is kept of them.
 use Rattle.std.proofs.Common.{◌≡◌, inl, inr, ℕ, zero, suc, ◌+◌, ◌-◌, ◌<◌, Bool, true, false, List, [], ◌∷◌, ◌++◌, length, map, take, replicate, get_or, set, refl, sym, ap, ap₂, ◌∙◌, subst, arith, Contains, Option, Some, None, IfSome, true≢false}
-use Rattle.fixpoint.proofs.Common.{option_to_list, All, flat_map, cases_lt, cases_eq, get_or_append_left, get_or_default, length-append, length-replicate, get_or-replicate, get_or-take, get_or-map, length-map, length-take, ext_get_or, All-append, All-map, All-push, Arena, Trit, X, Rails, AreRailsOf, value_of, values_of, Parts, fix, fix_gates, Blocks, Cut, AreBlocksOf, block_at, home_of, first_gate, value_in, map_agree, gate_home, home_gate, KeptRails, LoopSteps, Solved, SweptLoop, rails_under, values_under, AreKept, HoldsRails, GainsRoots, RootsStay, Vectors, IsLoopAt, AreStepsOf, AreKeptSteps, HasEachLoopOnce, IsSolution, step_at, last_step, steps_under, loop_under, unknown, rails_at, vectors, IsSolvedBelow, AreFresh, place_of, AreKeptBelow, IsSolvedTo}
+use Rattle.fixpoint.proofs.Common.{IsLooped, Looped, option_to_list, All, flat_map, cases_lt, cases_eq, get_or_append_left, get_or_default, length-append, length-replicate, get_or-replicate, get_or-take, get_or-map, length-map, length-take, ext_get_or, All-append, All-map, All-push, Arena, Trit, X, Rails, AreRailsOf, value_of, values_of, Parts, fix, fix_gates, Blocks, Cut, AreBlocksOf, block_at, home_of, first_gate, value_in, map_agree, gate_home, home_gate, KeptRails, LoopSteps, Solved, SweptLoop, rails_under, values_under, AreKept, HoldsRails, GainsRoots, RootsStay, Vectors, IsLoopAt, AreStepsOf, AreKeptSteps, HasEachLoopOnce, IsSolution, step_at, last_step, steps_under, loop_under, unknown, rails_at, vectors, IsSolvedBelow, AreFresh, place_of, AreKeptBelow, IsSolvedTo}
 use Rattle.std.specs.Option.{option_map}
 use Rattle.std.proofs.lemmas.List.{get_or-append-add, get_or-set_same, get_or-set_other}
 use Rattle.std.proofs.lemmas.List.Concat.{flat_map-cons}
@@ -18,24 +18,24 @@ append-none (x ∷ xs) = ap (λ ys. x ∷ ys) (append-none xs)
 
 -- ---- what the vectors are
 
-pub vectors-are : {net : Parts} {blocks : Blocks} {cut : Cut} {a : Arena} {v : Vectors} {b : ℕ} {before rails : List Rails} → IsSolvedBelow net blocks cut a v b before rails → (bits : List Bool) → vectors net a rails bits ≡ v bits
-vectors-are {net} {blocks} {cut} {a} {v} {b} {before} {rails} is bits =
-    let n : ℕ = first_gate net in
+pub vectors-are : {l : Looped} {a : Arena} {v : Vectors} {b : ℕ} {before rails : List Rails} → IsSolvedBelow l a v b before rails → (bits : List Bool) → vectors l.net a rails bits ≡ v bits
+vectors-are {l} {a} {v} {b} {before} {rails} is bits =
+    let n : ℕ = first_gate l.net in
     let width = is.wires.width in
     let long = is.vector bits in
-    let len = length-take (first_gate net) rails in
-    let vectors_long : length (vectors net a rails bits) ≡ length (take (first_gate net) rails) = length-map {B = Trit} (take (first_gate net) rails) (λ r. value_of a r bits) in
-    ext_get_or X (vectors net a rails bits) (v bits) (omega (arith, width, long, len, vectors_long))
+    let len = length-take (first_gate l.net) rails in
+    let vectors_long : length (vectors l.net a rails bits) ≡ length (take (first_gate l.net) rails) = length-map {B = Trit} (take (first_gate l.net) rails) (λ r. value_of a r bits) in
+    ext_get_or X (vectors l.net a rails bits) (v bits) (omega (arith, width, long, len, vectors_long))
     (λ s less.
-    let low : s < first_gate net = omega (arith, less, width, len, vectors_long) in
-    get_or-map (λ (r : Rails). value_of a r bits) (take (first_gate net) rails) s unknown X (omega (arith, less, vectors_long))
-    ∙ ap (λ (r : Rails). value_of a r bits) (get_or-take (first_gate net) rails s unknown low)
+    let low : s < first_gate l.net = omega (arith, less, width, len, vectors_long) in
+    get_or-map (λ (r : Rails). value_of a r bits) (take (first_gate l.net) rails) s unknown X (omega (arith, less, vectors_long))
+    ∙ ap (λ (r : Rails). value_of a r bits) (get_or-take (first_gate l.net) rails s unknown low)
     ∙ is.given s bits low)
 
 -- ---- while roots come
 
-solved-gained : {net : Parts} {blocks : Blocks} {cut : Cut} {d e : Arena} {v : Vectors} {b : ℕ} {before rails : List Rails} → GainsRoots d e → IsSolvedBelow net blocks cut d v b before rails → IsSolvedBelow net blocks cut e v b before rails
-solved-gained {net} {blocks} {cut} {d} {e} {v} {b} {before} {rails} g is = record {
+solved-gained : {l : Looped} {d e : Arena} {v : Vectors} {b : ℕ} {before rails : List Rails} → GainsRoots d e → IsSolvedBelow l d v b before rails → IsSolvedBelow l e v b before rails
+solved-gained {l} {d} {e} {v} {b} {before} {rails} g is = record {
   wires = record {
     width = is.wires.width;
     before_width = is.wires.before_width;
@@ -44,7 +44,7 @@ solved-gained {net} {blocks} {cut} {d} {e} {v} {b} {before} {rails} g is = recor
   };
   vector = is.vector;
   given = λ s bits low. value_of-gained g (rails_at rails s) bits ∙ is.given s bits low;
-  gates = λ n bits less low. value_of-gained g (rails_at rails (first_gate net + n)) bits ∙ is.gates n bits less low;
+  gates = λ n bits less low. value_of-gained g (rails_at rails (first_gate l.net + n)) bits ∙ is.gates n bits less low;
   cuts = λ n bits less low cut_wire. value_of-gained g (rails_at before n) bits ∙ is.cuts n bits less low cut_wire;
 }
 
@@ -77,10 +77,10 @@ module _ {d e : Arena} (stay : RootsStay d e) where
     values_are = λ bits. value-stays stay is.kept is.keys bits ∙ is.values_are bits ∙ same bits;
   }
 
-  pub kept-stay : {net : Parts} {blocks : Blocks} {v w : Vectors} {b : ℕ} {places : List (Option KeptRails)} → ((bits : List Bool) → v bits ≡ w bits) → AreKeptBelow net blocks d v b places → AreKeptBelow net blocks e w b places
-  kept-stay {net} same is = record {
+  pub kept-stay : {l : Looped} {v w : Vectors} {b : ℕ} {places : List (Option KeptRails)} → ((bits : List Bool) → v bits ≡ w bits) → AreKeptBelow l d v b places → AreKeptBelow l e w b places
+  kept-stay {l} same is = record {
     width = is.width;
-    solved = λ n less low. values-hold (λ bits. ap (λ (t : List Trit). value_in (fix_gates net t) n) (same bits)) (is.solved n less low);
+    solved = λ n less low. values-hold (λ bits. ap (λ (t : List Trit). value_in (fix_gates l.net t) n) (same bits)) (is.solved n less low);
     later = is.later;
   }
 
@@ -144,91 +144,91 @@ others-more gates old places i made inside others n free =
 
 -- ---- one block more
 
-module _ (net : Parts) (blocks : Blocks) (are : AreBlocksOf net blocks) (cut : Cut) {d e f : Arena} (stay : RootsStay d f) (g : GainsRoots e f) (given : List KeptRails) (b : ℕ) (within : b < length blocks.list) (before rails : List Rails) (places : List (Option KeptRails))
-    (is : IsSolvedTo net blocks cut d given b before rails places) (before2 rails2 : List Rails) (places2 : List (Option KeptRails)) where
-  same-vectors : (bits : List Bool) → vectors net d rails bits ≡ values_under f given bits
+module _ (l : Looped) (l_is : IsLooped l) {d e f : Arena} (stay : RootsStay d f) (g : GainsRoots e f) (given : List KeptRails) (b : ℕ) (within : b < length l.blocks.list) (before rails : List Rails) (places : List (Option KeptRails))
+    (is : IsSolvedTo l d given b before rails places) (before2 rails2 : List Rails) (places2 : List (Option KeptRails)) where
+  same-vectors : (bits : List Bool) → vectors l.net d rails bits ≡ values_under f given bits
   same-vectors bits = vectors-are is.solved bits ∙ sym (values-stay stay given is.given_are.keys bits)
 
-  pub solved-next : (gates : List ℕ) → gates ≡ (block_at blocks b).gates → IsSolvedBelow net blocks cut e (vectors net d rails) (b + 1) before2 rails2 → AreFresh net blocks (b + 1) before2
-      → length places2 ≡ length places → ((n : ℕ) → Contains gates n → HoldsRails f (place_of places2 n) (rails_at rails2 (first_gate net + n))) → ((n : ℕ) → ¬ Contains gates n → place_of places2 n ≡ place_of places n)
-      → IsSolvedTo net blocks cut f given (b + 1) before2 rails2 places2
+  pub solved-next : (gates : List ℕ) → gates ≡ (block_at l.blocks b).gates → IsSolvedBelow l e (vectors l.net d rails) (b + 1) before2 rails2 → AreFresh l (b + 1) before2
+      → length places2 ≡ length places → ((n : ℕ) → Contains gates n → HoldsRails f (place_of places2 n) (rails_at rails2 (first_gate l.net + n))) → ((n : ℕ) → ¬ Contains gates n → place_of places2 n ≡ place_of places n)
+      → IsSolvedTo l f given (b + 1) before2 rails2 places2
   solved-next gates gates_are done fresh width held others = record {
     given_are = given-stay stay is.given_are;
-    solved = solved-same (vectors net d rails) (values_under f given) same-vectors (solved-gained g done);
+    solved = solved-same (vectors l.net d rails) (values_under f given) same-vectors (solved-gained g done);
     fresh = fresh;
     kept = record {
       width = width ∙ is.kept.width;
-      solved = λ n less low. elim (cases_eq (home_of blocks n) b) [
+      solved = λ n less low. elim (cases_eq (home_of l.blocks n) b) [
         | inl here ↦
-            let has = held n (subst (λ (ns : List ℕ). Contains ns n) (ap (λ (p : ℕ). (block_at blocks p).gates) here ∙ sym gates_are) (home_gate net blocks are n less)) in
+            let has = held n (subst (λ (ns : List ℕ). Contains ns n) (ap (λ (p : ℕ). (block_at l.blocks p).gates) here ∙ sym gates_are) (home_gate l.net l.blocks l_is.blocks n less)) in
             record {
               kept = has.kept;
               is = has.is;
               keys = has.keys;
-              proper = subst (AreRailsOf f) (sym has.rails_are) (AreRailsOf-gained g (rails_at rails2 (first_gate net + n)) (rails_at-proper e rails2 done.wires.proper (first_gate net + n)));
+              proper = subst (AreRailsOf f) (sym has.rails_are) (AreRailsOf-gained g (rails_at rails2 (first_gate l.net + n)) (rails_at-proper e rails2 done.wires.proper (first_gate l.net + n)));
               values_are = λ bits.
                   ap (λ (r : Rails). value_of f r bits) has.rails_are
-                  ∙ value_of-gained g (rails_at rails2 (first_gate net + n)) bits
+                  ∙ value_of-gained g (rails_at rails2 (first_gate l.net + n)) bits
                   ∙ done.gates n bits less low
-                  ∙ ap (λ (t : List Trit). value_in (fix_gates net t) n) (same-vectors bits);
+                  ∙ ap (λ (t : List Trit). value_in (fix_gates l.net t) n) (same-vectors bits);
             }
         | inr apart ↦
-            subst (λ (place : Option KeptRails). HasValues f place (λ bits. value_in (fix_gates net (values_under f given bits)) n)) (sym (others n (λ has. apart (at-home n has))))
+            subst (λ (place : Option KeptRails). HasValues f place (λ bits. value_in (fix_gates l.net (values_under f given bits)) n)) (sym (others n (λ has. apart (at-home n has))))
             ((kept-stay stay (λ bits. sym (values-stay stay given is.given_are.keys bits)) is.kept).solved n less (omega (arith, low, apart)))
       ];
       later = λ n less late. others n (λ has. let home = at-home n has in omega (arith, late, home)) ∙ is.kept.later n less (omega (arith, late));
     };
   }
     where
-      at-home : (n : ℕ) → Contains gates n → home_of blocks n ≡ b
-      at-home n has = (gate_home net blocks are b n within (subst (λ (ns : List ℕ). Contains ns n) gates_are has)).1
+      at-home : (n : ℕ) → Contains gates n → home_of l.blocks n ≡ b
+      at-home n has = (gate_home l.net l.blocks l_is.blocks b n within (subst (λ (ns : List ℕ). Contains ns n) gates_are has)).1
 
   -- the steps of its loop are kept
-  pub steps-next : (found : SweptLoop) (loop : LoopSteps) → AreStepsOf net blocks cut e (vectors net d rails) found → All (All (AreKept f)) loop.steps → loop_under f loop ≡ found → AreKeptSteps net blocks cut f (values_under f given) loop
+  pub steps-next : (found : SweptLoop) (loop : LoopSteps) → AreStepsOf l.net l.blocks l.cut e (vectors l.net d rails) found → All (All (AreKept f)) loop.steps → loop_under f loop ≡ found → AreKeptSteps l.net l.blocks l.cut f (values_under f given) loop
   steps-next found loop steps keys same = record {
     keys = keys;
-    steps = subst (AreStepsOf net blocks cut f (values_under f given)) (sym same) (steps-same (vectors net d rails) (values_under f given) same-vectors found (steps-gained g found steps));
+    steps = subst (AreStepsOf l.net l.blocks l.cut f (values_under f given)) (sym same) (steps-same (vectors l.net d rails) (values_under f given) same-vectors found (steps-gained g found steps));
   }
 
   -- what is kept of what was found
-  pub found-next : (found : Option SweptLoop) (loop : Option LoopSteps) → IsFoundAt net blocks cut e (vectors net d rails) b found → IfSome loop (λ x. All (All (AreKept f)) x.steps) → option_map (loop_under f) loop ≡ found → IsKeptAt net blocks cut f (values_under f given) b loop
-  found-next found (Some loop) is keys same = let at = subst (IsFoundAt net blocks cut e (vectors net d rails) b) (sym same) is in (steps-next (loop_under f loop) loop at.0 keys refl, at.1)
-  found-next found None is keys same = subst (IsFoundAt net blocks cut e (vectors net d rails) b) (sym same) is
+  pub found-next : (found : Option SweptLoop) (loop : Option LoopSteps) → IsFoundAt l e (vectors l.net d rails) b found → IfSome loop (λ x. All (All (AreKept f)) x.steps) → option_map (loop_under f) loop ≡ found → IsKeptAt l f (values_under f given) b loop
+  found-next found (Some loop) is keys same = let at = subst (IsFoundAt l e (vectors l.net d rails) b) (sym same) is in (steps-next (loop_under f loop) loop at.0 keys refl, at.1)
+  found-next found None is keys same = subst (IsFoundAt l e (vectors l.net d rails) b) (sym same) is
 
 -- the rails of its steps are proper
-pub found-rails : (net : Parts) (blocks : Blocks) (cut : Cut) (a : Arena) (v : Vectors) (b : ℕ) (found : Option SweptLoop) → IsFoundAt net blocks cut a v b found → IfSome found (λ swept. All (All (AreRailsOf a)) swept.steps)
-found-rails net blocks cut a v b (Some swept) is = is.0.rails
-found-rails net blocks cut a v b None is = tt
+pub found-rails : (l : Looped) (a : Arena) (v : Vectors) (b : ℕ) (found : Option SweptLoop) → IsFoundAt l a v b found → IfSome found (λ swept. All (All (AreRailsOf a)) swept.steps)
+found-rails l a v b (Some swept) is = is.0.rails
+found-rails l a v b None is = tt
 
 -- ---- the loops that were found
 
-pub found-loops : (net : Parts) (blocks : Blocks) (cut : Cut) (a : Arena) (v : Vectors) (b : ℕ) (loops : List LoopSteps) (found : Option LoopSteps) → IsKeptAt net blocks cut a v b found → HasLoopsBelow blocks b loops → HasLoopsBelow blocks (b + 1) (loops ++ option_to_list found)
-found-loops net blocks cut a v b loops (Some loop) is has = loops-push blocks b loops loop (subst (IsLoopAt blocks) is.1 is.0.steps.block) is.1 has
-found-loops net blocks cut a v b loops None is has = subst (HasLoopsBelow blocks (b + 1)) (sym (append-none loops)) (loops-skip blocks b loops is has)
+pub found-loops : (l : Looped) (a : Arena) (v : Vectors) (b : ℕ) (loops : List LoopSteps) (found : Option LoopSteps) → IsKeptAt l a v b found → HasLoopsBelow l.blocks b loops → HasLoopsBelow l.blocks (b + 1) (loops ++ option_to_list found)
+found-loops l a v b loops (Some loop) is has = loops-push l.blocks b loops loop (subst (IsLoopAt l.blocks) is.1 is.0.steps.block) is.1 has
+found-loops l a v b loops None is has = subst (HasLoopsBelow l.blocks (b + 1)) (sym (append-none loops)) (loops-skip l.blocks b loops is has)
 
-pub found-steps : (net : Parts) (blocks : Blocks) (cut : Cut) (a : Arena) (v : Vectors) (b : ℕ) (loops : List LoopSteps) (found : Option LoopSteps) → IsKeptAt net blocks cut a v b found → All (AreKeptSteps net blocks cut a v) loops
-    → All (AreKeptSteps net blocks cut a v) (loops ++ option_to_list found)
-found-steps net blocks cut a v b loops (Some loop) is all = All-push (AreKeptSteps net blocks cut a v) loops loop all is.0
-found-steps net blocks cut a v b loops None is all = subst (All (AreKeptSteps net blocks cut a v)) (sym (append-none loops)) all
+pub found-steps : (l : Looped) (a : Arena) (v : Vectors) (b : ℕ) (loops : List LoopSteps) (found : Option LoopSteps) → IsKeptAt l a v b found → All (AreKeptSteps l.net l.blocks l.cut a v) loops
+    → All (AreKeptSteps l.net l.blocks l.cut a v) (loops ++ option_to_list found)
+found-steps l a v b loops (Some loop) is all = All-push (AreKeptSteps l.net l.blocks l.cut a v) loops loop all is.0
+found-steps l a v b loops None is all = subst (All (AreKeptSteps l.net l.blocks l.cut a v)) (sym (append-none loops)) all
 
-pub found-stays : (net : Parts) (blocks : Blocks) (cut : Cut) (d e : Arena) (v w : Vectors) (b : ℕ) (found : Option LoopSteps) → RootsStay d e → ((bits : List Bool) → v bits ≡ w bits) → IsKeptAt net blocks cut d v b found → IsKeptAt net blocks cut e w b found
-found-stays net blocks cut d e v w b (Some loop) stay same is = (steps-stay stay same loop is.0, is.1)
-found-stays net blocks cut d e v w b None stay same is = is
+pub found-stays : (l : Looped) (d e : Arena) (v w : Vectors) (b : ℕ) (found : Option LoopSteps) → RootsStay d e → ((bits : List Bool) → v bits ≡ w bits) → IsKeptAt l d v b found → IsKeptAt l e w b found
+found-stays l d e v w b (Some loop) stay same is = (steps-stay stay same loop is.0, is.1)
+found-stays l d e v w b None stay same is = is
 
 -- ---- the start
 
-pub solved-from-given : (net : Parts) (blocks : Blocks) (cut : Cut) (a : Arena) (given : List KeptRails) (before rails : List Rails) (places : List (Option KeptRails)) → AreGiven net a given → places ≡ replicate (length net.gates) None → before ≡ replicate (length net.gates) unknown
-    → rails ≡ map (rails_under a) given ++ before → IsSolvedTo net blocks cut a given 0 before rails places
-solved-from-given net blocks cut a given before rails places is places_are before_is rails_is =
-    let width : length (map (rails_under a) given) ≡ first_gate net = length-map {B = Rails} given (rails_under a) ∙ is.width in
+pub solved-from-given : (l : Looped) (a : Arena) (given : List KeptRails) (before rails : List Rails) (places : List (Option KeptRails)) → AreGiven l.net a given → places ≡ replicate (length l.net.gates) None → before ≡ replicate (length l.net.gates) unknown
+    → rails ≡ map (rails_under a) given ++ before → IsSolvedTo l a given 0 before rails places
+solved-from-given l a given before rails places is places_are before_is rails_is =
+    let width : length (map (rails_under a) given) ≡ first_gate l.net = length-map {B = Rails} given (rails_under a) ∙ is.width in
     record {
       given_are = is;
-      solved = solved-same (vectors net a rails) (values_under a given) (given-vectors net a (map (rails_under a) given) before rails width rails_is) (solved-start net blocks cut a (map (rails_under a) given) before rails width is.proper before_is rails_is);
-      fresh = fresh-start net blocks before before_is;
+      solved = solved-same (vectors l.net a rails) (values_under a given) (given-vectors l.net a (map (rails_under a) given) before rails width rails_is) (solved-start l a (map (rails_under a) given) before rails width is.proper before_is rails_is);
+      fresh = fresh-start l before before_is;
       kept = record {
-        width = ap length places_are ∙ length-replicate {A = Option KeptRails} (length net.gates) None;
+        width = ap length places_are ∙ length-replicate {A = Option KeptRails} (length l.net.gates) None;
         solved = λ n less low. absurd (omega (arith, low));
-        later = λ n less late. ap (λ (xs : List (Option KeptRails)). place_of xs n) places_are ∙ get_or-replicate {A = Option KeptRails} (length net.gates) n None None less;
+        later = λ n less late. ap (λ (xs : List (Option KeptRails)). place_of xs n) places_are ∙ get_or-replicate {A = Option KeptRails} (length l.net.gates) n None None less;
       };
     }
 
@@ -238,41 +238,41 @@ no-kept : KeptRails
 no-kept = record { one = record { key = 0 }; zero = record { key = 0 } }
 
 -- what is so of no rails and of rails with values is so of the rails at each place
-at-place : {net : Parts} {blocks : Blocks} {a : Arena} {v : Vectors} {b : ℕ} {places : List (Option KeptRails)} (P : Option KeptRails → Type 0) → AreKeptBelow net blocks a v b places → P None
+at-place : {l : Looped} {a : Arena} {v : Vectors} {b : ℕ} {places : List (Option KeptRails)} (P : Option KeptRails → Type 0) → AreKeptBelow l a v b places → P None
     → ((kept : KeptRails) → AreKept a kept → AreRailsOf a (rails_under a kept) → P (Some kept)) → All P places
-at-place {net} {blocks} {a} {v} {b} {places} P is none some k d less =
-    let inside : k < length net.gates = let width = is.width in omega (arith, less, width) in
-    subst P (sym (get_or_default places k d None less)) (elim (cases_lt (home_of blocks k) b) [
+at-place {l} {a} {v} {b} {places} P is none some k d less =
+    let inside : k < length l.net.gates = let width = is.width in omega (arith, less, width) in
+    subst P (sym (get_or_default places k d None less)) (elim (cases_lt (home_of l.blocks k) b) [
       | inl low ↦ let has = is.solved k inside low in subst P (sym has.is) (some has.kept has.keys has.proper)
       | inr late ↦ subst P (sym (is.later k inside late)) none
     ])
 
-pub places-kept : {net : Parts} {blocks : Blocks} {a : Arena} {v : Vectors} {b : ℕ} {places : List (Option KeptRails)} → AreKeptBelow net blocks a v b places → All (λ place. IfSome place (AreKept a)) places
-places-kept {net} {blocks} {a} is = at-place (λ place. IfSome place (AreKept a)) is tt (λ kept keys proper. keys)
+pub places-kept : {l : Looped} {a : Arena} {v : Vectors} {b : ℕ} {places : List (Option KeptRails)} → AreKeptBelow l a v b places → All (λ place. IfSome place (AreKept a)) places
+places-kept {l} {a} is = at-place (λ place. IfSome place (AreKept a)) is tt (λ kept keys proper. keys)
 
-module _ (net : Parts) (blocks : Blocks) (cut : Cut) {d e : Arena} (stay : RootsStay d e) (given : List KeptRails) (b : ℕ) (before rails : List Rails) (places : List (Option KeptRails)) (is : IsSolvedTo net blocks cut d given b before rails places)
+module _ (l : Looped) {d e : Arena} (stay : RootsStay d e) (given : List KeptRails) (b : ℕ) (before rails : List Rails) (places : List (Option KeptRails)) (is : IsSolvedTo l d given b before rails places)
     (before2 rails2 : List Rails) (before_is : before2 ≡ map (rails_in e) places) (rails_is : rails2 ≡ map (rails_under e) given ++ before2) where
-  given2 : AreGiven net e given
+  given2 : AreGiven l.net e given
   given2 = given-stay stay is.given_are
 
-  kept2 : AreKeptBelow net blocks e (values_under e given) b places
+  kept2 : AreKeptBelow l e (values_under e given) b places
   kept2 = kept-stay stay (λ bits. sym (values-stay stay given is.given_are.keys bits)) is.kept
 
-  given-long : length (map (rails_under e) given) ≡ first_gate net
+  given-long : length (map (rails_under e) given) ≡ first_gate l.net
   given-long = length-map {B = Rails} given (rails_under e) ∙ is.given_are.width
 
-  before-long : length before2 ≡ length net.gates
+  before-long : length before2 ≡ length l.net.gates
   before-long = ap length before_is ∙ length-map {B = Rails} places (rails_in e) ∙ is.kept.width
 
-  before-at : (n : ℕ) → n < length net.gates → rails_at before2 n ≡ rails_in e (place_of places n)
+  before-at : (n : ℕ) → n < length l.net.gates → rails_at before2 n ≡ rails_in e (place_of places n)
   before-at n less = ap (λ (xs : List Rails). rails_at xs n) before_is ∙ get_or-map (rails_in e) places n None unknown (let width = is.kept.width in omega (arith, less, width))
 
-  rails-at-gate : (n : ℕ) → rails_at rails2 (first_gate net + n) ≡ rails_at before2 n
+  rails-at-gate : (n : ℕ) → rails_at rails2 (first_gate l.net + n) ≡ rails_at before2 n
   rails-at-gate n =
       ap₂ (λ (xs : List Rails) (k : ℕ). rails_at xs (k + n)) rails_is (sym given-long)
       ∙ get_or-append-add (map (rails_under e) given) before2 n unknown
 
-  before-value : (n : ℕ) (bits : List Bool) → n < length net.gates → home_of blocks n < b → value_of e (rails_at before2 n) bits ≡ value_in (fix_gates net (values_under e given bits)) n
+  before-value : (n : ℕ) (bits : List Bool) → n < length l.net.gates → home_of l.blocks n < b → value_of e (rails_at before2 n) bits ≡ value_in (fix_gates l.net (values_under e given bits)) n
   before-value n bits less low =
       let has = kept2.solved n less low in
       ap (λ (r : Rails). value_of e r bits) (before-at n less ∙ ap (rails_in e) has.is) ∙ has.values_are bits
@@ -280,7 +280,7 @@ module _ (net : Parts) (blocks : Blocks) (cut : Cut) {d e : Arena} (stay : Roots
   before-proper : All (AreRailsOf e) before2
   before-proper = subst (All (AreRailsOf e)) (sym before_is) (All-map (AreRailsOf e) (rails_in e) places (at-place (λ place. AreRailsOf e (rails_in e place)) kept2 (unknown-rails e) (λ kept keys proper. proper)))
 
-  pub solved-anew : IsSolvedTo net blocks cut e given b before2 rails2 places
+  pub solved-anew : IsSolvedTo l e given b before2 rails2 places
   solved-anew = record {
     given_are = given2;
     solved = record {
@@ -322,22 +322,22 @@ listed (Some kept ∷ places) all =
     at zero none less rest = refl
     at (suc n) none less rest = rest n none (omega (arith, less))
 
-module _ (net : Parts) (blocks : Blocks) (are : AreBlocksOf net blocks) (cut : Cut) {c d e : Arena} (early : RootsStay c d) (stay : RootsStay d e) (given : List KeptRails) (is : AreGiven net c given) (places : List (Option KeptRails))
-    (below : AreKeptBelow net blocks d (values_under d given) (length blocks.list) places) where
+module _ (l : Looped) (l_is : IsLooped l) {c d e : Arena} (early : RootsStay c d) (stay : RootsStay d e) (given : List KeptRails) (is : AreGiven l.net c given) (places : List (Option KeptRails))
+    (below : AreKeptBelow l d (values_under d given) (length l.blocks.list) places) where
   whole : RootsStay c e
   whole = RootsStay-chain early stay
 
   v : Vectors
   v = values_under c given
 
-  kept3 : AreKeptBelow net blocks e (values_under c given) (length blocks.list) places
+  kept3 : AreKeptBelow l e (values_under c given) (length l.blocks.list) places
   kept3 = kept-stay stay (λ bits. values-stay early given is.keys bits) below
 
   gates : List KeptRails
   gates = flat_map option_to_list places
 
-  at-all : (n : ℕ) → n < length net.gates → HasValues e (place_of places n) (λ bits. value_in (fix_gates net (values_under c given bits)) n)
-  at-all n less = kept3.solved n less (are.home n less)
+  at-all : (n : ℕ) → n < length l.net.gates → HasValues e (place_of places n) (λ bits. value_in (fix_gates l.net (values_under c given bits)) n)
+  at-all n less = kept3.solved n less (l_is.blocks.home n less)
 
   list : (length (flat_map option_to_list places) ≡ length places) × ((n : ℕ) (none : KeptRails) → n < length places → place_of places n ≡ Some (get_or (flat_map option_to_list places) n none))
   list = listed places (λ n less. let has = at-all n (let width = below.width in omega (arith, less, width)) in (has.kept, has.is))
@@ -349,30 +349,30 @@ module _ (net : Parts) (blocks : Blocks) (are : AreBlocksOf net blocks) (cut : C
       get None = no-kept
       get (Some z) = z
 
-  gate-is : (n : ℕ) (none : KeptRails) (less : n < length net.gates) → (at-all n less).kept ≡ get_or (flat_map option_to_list places) n none
+  gate-is : (n : ℕ) (none : KeptRails) (less : n < length l.net.gates) → (at-all n less).kept ≡ get_or (flat_map option_to_list places) n none
   gate-is n none less = some-same (sym (at-all n less).is ∙ list.1 n none (let width = below.width in omega (arith, less, width)))
 
-  gates-long : length (flat_map option_to_list places) ≡ length net.gates
+  gates-long : length (flat_map option_to_list places) ≡ length l.net.gates
   gates-long = list.0 ∙ below.width
 
   gate-keys : All (AreKept e) (flat_map option_to_list places)
-  gate-keys n none less = let inside : n < length net.gates = let long = gates-long in omega (arith, less, long) in subst (AreKept e) (gate-is n none inside) (at-all n inside).keys
+  gate-keys n none less = let inside : n < length l.net.gates = let long = gates-long in omega (arith, less, long) in subst (AreKept e) (gate-is n none inside) (at-all n inside).keys
 
   gate-rails : All (λ kept. AreRailsOf e (rails_under e kept)) (flat_map option_to_list places)
-  gate-rails n none less = let inside : n < length net.gates = let long = gates-long in omega (arith, less, long) in subst (λ (kept : KeptRails). AreRailsOf e (rails_under e kept)) (gate-is n none inside) (at-all n inside).proper
+  gate-rails n none less = let inside : n < length l.net.gates = let long = gates-long in omega (arith, less, long) in subst (λ (kept : KeptRails). AreRailsOf e (rails_under e kept)) (gate-is n none inside) (at-all n inside).proper
 
   all : List KeptRails
   all = given ++ flat_map option_to_list places
 
-  all-long : length (given ++ flat_map option_to_list places) ≡ first_gate net + length net.gates
+  all-long : length (given ++ flat_map option_to_list places) ≡ first_gate l.net + length l.net.gates
   all-long = length-append given (flat_map option_to_list places) ∙ ap₂ (λ (x y : ℕ). x + y) is.width gates-long
 
-  at-signal : (s : ℕ) (bits : List Bool) → s < first_gate net + length net.gates → value_of e (rails_at (map (rails_under e) (given ++ flat_map option_to_list places)) s) bits ≡ value_of e (rails_under e (get_or (given ++ flat_map option_to_list places) s no-kept)) bits
+  at-signal : (s : ℕ) (bits : List Bool) → s < first_gate l.net + length l.net.gates → value_of e (rails_at (map (rails_under e) (given ++ flat_map option_to_list places)) s) bits ≡ value_of e (rails_under e (get_or (given ++ flat_map option_to_list places) s no-kept)) bits
   at-signal s bits less = ap (λ (r : Rails). value_of e r bits) (get_or-map (rails_under e) (given ++ flat_map option_to_list places) s no-kept unknown (let long = all-long in omega (arith, less, long)))
 
-  pub all-values : (bits : List Bool) → values_under e (given ++ flat_map option_to_list places) bits ≡ fix net (values_under c given bits)
+  pub all-values : (bits : List Bool) → values_under e (given ++ flat_map option_to_list places) bits ≡ fix l.net (values_under c given bits)
   all-values =
-      values-fixed net e (values_under c given) (map (rails_under e) (given ++ flat_map option_to_list places))
+      values-fixed l.net e (values_under c given) (map (rails_under e) (given ++ flat_map option_to_list places))
       (length-map {B = Rails} (given ++ flat_map option_to_list places) (rails_under e) ∙ all-long)
       (λ bits. length-map {B = Trit} (map (rails_under c) given) (λ r. value_of c r bits) ∙ length-map {B = Rails} given (rails_under c) ∙ is.width)
       (λ s bits low.
@@ -383,13 +383,13 @@ module _ (net : Parts) (blocks : Blocks) (are : AreBlocksOf net blocks) (cut : C
       ∙ ap (λ (r : Rails). value_of c r bits) (sym (get_or-map (rails_under c) given s no-kept unknown inside))
       ∙ sym (get_or-map (λ (r : Rails). value_of c r bits) (map (rails_under c) given) s unknown X (let long = length-map {B = Rails} given (rails_under c) in omega (arith, inside, long))))
       (λ n bits less.
-      at-signal (first_gate net + n) bits (omega (arith, less))
+      at-signal (first_gate l.net + n) bits (omega (arith, less))
       ∙ ap (λ (kept : KeptRails). value_of e (rails_under e kept) bits)
       (ap (λ (k : ℕ). get_or (given ++ flat_map option_to_list places) (k + n) no-kept) (sym is.width) ∙ get_or-append-add given (flat_map option_to_list places) n no-kept ∙ sym (gate-is n no-kept less))
       ∙ (at-all n less).values_are bits)
 
-  pub solution-is : (loops : List LoopSteps) (solved : Solved) → HasEachLoopOnce blocks loops → All (AreKeptSteps net blocks cut d (values_under d given)) loops → solved.rails ≡ given ++ flat_map option_to_list places → solved.loops ≡ loops
-      → IsSolution net blocks cut e (values_under c given) solved
+  pub solution-is : (loops : List LoopSteps) (solved : Solved) → HasEachLoopOnce l.blocks loops → All (AreKeptSteps l.net l.blocks l.cut d (values_under d given)) loops → solved.rails ≡ given ++ flat_map option_to_list places → solved.loops ≡ loops
+      → IsSolution l.net l.blocks l.cut e (values_under c given) solved
   solution-is loops solved once steps rails_are loops_are = record {
     vector = λ bits. length-map {B = Trit} (map (rails_under c) given) (λ r. value_of c r bits) ∙ length-map {B = Rails} given (rails_under c) ∙ is.width;
     keys = subst (All (AreKept e)) (sym rails_are) (All-append (AreKept e) given (flat_map option_to_list places) (All-kept-stay whole given is.keys) gate-keys);
@@ -397,6 +397,6 @@ module _ (net : Parts) (blocks : Blocks) (are : AreBlocksOf net blocks) (cut : C
         (All-map (AreRailsOf e) (rails_under e) (given ++ flat_map option_to_list places)
         (All-append (λ kept. AreRailsOf e (rails_under e kept)) given (flat_map option_to_list places) (All-mapped (AreRailsOf e) (rails_under e) given (All-rails-stay whole given is.keys is.proper)) gate-rails));
     values = λ bits. ap (λ (kept : List KeptRails). values_under e kept bits) rails_are ∙ all-values bits;
-    loops = subst (HasEachLoopOnce blocks) (sym loops_are) once;
-    steps = subst (All (AreKeptSteps net blocks cut e (values_under c given))) (sym loops_are) (λ k none less. steps-stay stay (λ bits. values-stay early given is.keys bits) (get_or loops k none) (steps k none less));
+    loops = subst (HasEachLoopOnce l.blocks) (sym loops_are) once;
+    steps = subst (All (AreKeptSteps l.net l.blocks l.cut e (values_under c given))) (sym loops_are) (λ k none less. steps-stay stay (λ bits. values-stay early given is.keys bits) (get_or loops k none) (steps k none less));
   }

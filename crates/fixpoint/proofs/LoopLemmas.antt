@@ -1,6 +1,6 @@
 -- Sweep by sweep to the fixpoint of a loop.
 use Rattle.std.proofs.Common.{◌≡◌, inl, inr, ℕ, suc, ◌+◌, ◌-◌, ◌<◌, ◌≤◌, Bool, true, false, Result, Ok, Err, is_ok, is_err, if◌then◌else◌, List, [], ◌∷◌, ◌++◌, length, map, filter, take, get_or, refl, sym, ap, ◌∙◌, subst, arith, Contains, true≢false}
-use Rattle.fixpoint.proofs.Common.{cases_lt, cases_eq, get_or_append_left, get_or_push, length_push, get_or_default, get_or-take, get_or-replicate, length-take, ext_get_or, All-push, All-map, All, Arena, KeepsNodes, IsLawful, Trit, X, Rails, AreRailsOf, value_of, values_of, value_of-kept, All-rails-kept, Parts, fix_gates, Blocks, Cut, AreBlocksOf, block_at, home_of, IsCutOf, is_cut, loops_by, IsOrderOf, first_gate, value_in, cuts_of, sweeps, map_agree, gate_home, home_gate, blocks_tell_loops, SweptLoop, Vectors, IsLoopAt, AreStepsOf, step_at, unknown, rails_at, AreWires, IsSolvedBelow, AreFresh, AreSwept, OthersStay, after_sweeps, IsUnderway, IsAtRest}
+use Rattle.fixpoint.proofs.Common.{IsLooped, Looped, cases_lt, cases_eq, get_or_append_left, get_or_push, length_push, get_or_default, get_or-take, get_or-replicate, length-take, ext_get_or, All-push, All-map, All, Arena, KeepsNodes, IsLawful, Trit, X, Rails, AreRailsOf, value_of, values_of, value_of-kept, All-rails-kept, Parts, fix_gates, Blocks, Cut, AreBlocksOf, block_at, home_of, IsCutOf, is_cut, loops_by, IsOrderOf, first_gate, value_in, cuts_of, sweeps, map_agree, gate_home, home_gate, blocks_tell_loops, SweptLoop, Vectors, IsLoopAt, AreStepsOf, step_at, unknown, rails_at, AreWires, IsSolvedBelow, AreFresh, AreSwept, OthersStay, after_sweeps, IsUnderway, IsAtRest}
 use Rattle.dual_rail.proofs.SurelyLemmas.{values_of-kept}
 use Rattle.loops.specs.Sweeps.{cuts as cuts_after}
 use Rattle.loops.proofs.Sweeps.{still_is_fix}
@@ -13,27 +13,27 @@ pub pushed : {T E Y : Type 0} (r : Result Y E) (xs ys zs : List T) → false ≡
 pushed (Ok x) xs ys zs e h = h
 pushed (Err x) xs ys zs e h = absurd (true≢false (sym e))
 
-module _ (net : Parts) (blocks : Blocks) (cut : Cut) (are : AreBlocksOf net blocks) (cut_is : IsCutOf net cut) (b : ℕ) (loop : IsLoopAt blocks b) (v : Vectors)
-    (order : List ℕ) (is_order : IsOrderOf net (is_cut cut.wires) (block_at blocks b).gates order) where
+module _ (l : Looped) (l_is : IsLooped l) (b : ℕ) (loop : IsLoopAt l.blocks b) (v : Vectors)
+    (order : List ℕ) (is_order : IsOrderOf l.net (is_cut l.cut.wires) (block_at l.blocks b).gates order) where
   -- the cut wires' rails as one step
-  pub step-values : (a : Arena) (cuts : List ℕ) (before : List Rails) (k : ℕ) (bits : List Bool) → cuts ≡ filter (is_cut cut.wires) (block_at blocks b).gates
-      → CutsAre net blocks cut a (after_sweeps net blocks cut v k) b before
-      → values_of a (map (rails_at before) cuts) bits ≡ map (value_in (after_sweeps net blocks cut v k bits)) cuts
+  pub step-values : (a : Arena) (cuts : List ℕ) (before : List Rails) (k : ℕ) (bits : List Bool) → cuts ≡ filter (is_cut l.cut.wires) (block_at l.blocks b).gates
+      → CutsAre l a (after_sweeps l v k) b before
+      → values_of a (map (rails_at before) cuts) bits ≡ map (value_in (after_sweeps l v k bits)) cuts
   step-values a cuts before k bits is cuts_are =
       map-map {C = Trit} (λ r. value_of a r bits) (rails_at before) cuts
-      ∙ map_agree (λ n. value_of a (rails_at before n) bits) (value_in (after_sweeps net blocks cut v k bits)) cuts
+      ∙ map_agree (λ n. value_of a (rails_at before n) bits) (value_in (after_sweeps l v k bits)) cuts
       (λ j none less.
       let n : ℕ = get_or cuts j none in
-      let has : Contains (filter (is_cut cut.wires) (block_at blocks b).gates) (get_or cuts j none) = subst (λ (ns : List ℕ). Contains ns (get_or cuts j none)) is (j, less, get_or_default cuts j (get_or cuts j none) none less) in
-      let f = from-cuts net blocks are cut b loop n has in
+      let has : Contains (filter (is_cut l.cut.wires) (block_at l.blocks b).gates) (get_or cuts j none) = subst (λ (ns : List ℕ). Contains ns (get_or cuts j none)) is (j, less, get_or_default cuts j (get_or cuts j none) none less) in
+      let f = from-cuts l.net l.blocks l_is.blocks l.cut b loop n has in
       cuts_are n bits f.0.0 f.0.1 f.1)
 
   -- before the first sweep
-  pub underway-start : (a : Arena) (cuts : List ℕ) (before rails : List Rails) → IsSolvedBelow net blocks cut a v b before rails → AreFresh net blocks b before
-      → IsUnderway net blocks cut a v b cuts [] before rails
+  pub underway-start : (a : Arena) (cuts : List ℕ) (before rails : List Rails) → IsSolvedBelow l a v b before rails → AreFresh l b before
+      → IsUnderway l a v b cuts [] before rails
   underway-start a cuts before rails solved fresh = record {
     solved = solved;
-    cuts_are = λ n bits less home cut_wire. ap (λ (r : Rails). value_of a r bits) (fresh n less (omega (arith, home))) ∙ unknown-value a bits ∙ sym (get_or-replicate {A = Trit} (length net.gates) n X X less);
+    cuts_are = λ n bits less home cut_wire. ap (λ (r : Rails). value_of a r bits) (fresh n less (omega (arith, home))) ∙ unknown-value a bits ∙ sym (get_or-replicate {A = Trit} (length l.net.gates) n X X less);
     fresh = λ n less later. fresh n less (omega (arith, later));
     each = λ j bits less. absurd (omega (arith, less));
     proper = λ j none less. absurd (omega (arith, less));
@@ -41,8 +41,8 @@ module _ (net : Parts) (blocks : Blocks) (cut : Cut) (are : AreBlocksOf net bloc
   }
 
   -- after the sweep, blocks before this one are as they were
-  pub solved-swept : (d e : Arena) (before rails after : List Rails) → KeepsNodes d e → IsSolvedBelow net blocks cut d v b before rails → OthersStay net order rails after → AreWires net e before after
-      → IsSolvedBelow net blocks cut e v b before after
+  pub solved-swept : (d e : Arena) (before rails after : List Rails) → KeepsNodes d e → IsSolvedBelow l d v b before rails → OthersStay l.net order rails after → AreWires l.net e before after
+      → IsSolvedBelow l e v b before after
   solved-swept d e before rails after keeps solved others wires = record {
     wires = wires;
     vector = solved.vector;
@@ -51,12 +51,12 @@ module _ (net : Parts) (blocks : Blocks) (cut : Cut) (are : AreBlocksOf net bloc
         ∙ value_of-kept keeps (rails_at rails s) (rails_at-proper d rails solved.wires.proper s) bits
         ∙ solved.given s bits low;
     gates = λ n bits less low.
-        ap (λ (r : Rails). value_of e r bits) (others (first_gate net + n) (λ m same has.
-        let home = (gate_home net blocks are b m loop.within (is_order.only m has)).1 in
+        ap (λ (r : Rails). value_of e r bits) (others (first_gate l.net + n) (λ m same has.
+        let home = (gate_home l.net l.blocks l_is.blocks b m loop.within (is_order.only m has)).1 in
         let is : m ≡ n = omega (arith, same) in
-        let home2 : home_of blocks n ≡ b = subst (λ (p : ℕ). home_of blocks p ≡ b) is home in
+        let home2 : home_of l.blocks n ≡ b = subst (λ (p : ℕ). home_of l.blocks p ≡ b) is home in
         omega (arith, low, home2)))
-        ∙ value_of-kept keeps (rails_at rails (first_gate net + n)) (rails_at-proper d rails solved.wires.proper (first_gate net + n)) bits
+        ∙ value_of-kept keeps (rails_at rails (first_gate l.net + n)) (rails_at-proper d rails solved.wires.proper (first_gate l.net + n)) bits
         ∙ solved.gates n bits less low;
     cuts = λ n bits less low cut_wire.
         value_of-kept keeps (rails_at before n) (rails_at-proper d before solved.wires.before_proper n) bits
@@ -64,18 +64,18 @@ module _ (net : Parts) (blocks : Blocks) (cut : Cut) (are : AreBlocksOf net bloc
   }
 
   -- one sweep more
-  module _ (d e : Arena) (keeps : KeepsNodes d e) (lawful : IsLawful e) (cuts : List ℕ) (is : cuts ≡ filter (is_cut cut.wires) (block_at blocks b).gates)
-      (steps : List (List Rails)) (before rails after : List Rails) (underway : IsUnderway net blocks cut d v b cuts steps before rails)
-      (others : OthersStay net order rails after) (wires : AreWires net e before after)
-      (swept : AreSwept net blocks cut e v (after_sweeps net blocks cut v (length steps)) (λ n. home_of blocks n ≡ b) after) where
-    listed : (n : ℕ) → Contains cuts n → ((n < length net.gates) × (home_of blocks n ≡ b)) × (is_cut cut.wires n ≡ true)
-    listed n has = from-cuts net blocks are cut b loop n (subst (λ (ns : List ℕ). Contains ns n) is has)
+  module _ (d e : Arena) (keeps : KeepsNodes d e) (lawful : IsLawful e) (cuts : List ℕ) (is : cuts ≡ filter (is_cut l.cut.wires) (block_at l.blocks b).gates)
+      (steps : List (List Rails)) (before rails after : List Rails) (underway : IsUnderway l d v b cuts steps before rails)
+      (others : OthersStay l.net order rails after) (wires : AreWires l.net e before after)
+      (swept : AreSwept l e v (after_sweeps l v (length steps)) (λ n. home_of l.blocks n ≡ b) after) where
+    listed : (n : ℕ) → Contains cuts n → ((n < length l.net.gates) × (home_of l.blocks n ≡ b)) × (is_cut l.cut.wires n ≡ true)
+    listed n has = from-cuts l.net l.blocks l_is.blocks l.cut b loop n (subst (λ (ns : List ℕ). Contains ns n) is has)
 
-    next-value : (n : ℕ) (bits : List Bool) → n < length net.gates → home_of blocks n ≡ b →
-        value_of e (rails_at after (first_gate net + n)) bits ≡ value_in (after_sweeps net blocks cut v (suc (length steps)) bits) n
+    next-value : (n : ℕ) (bits : List Bool) → n < length l.net.gates → home_of l.blocks n ≡ b →
+        value_of e (rails_at after (first_gate l.net + n)) bits ≡ value_in (after_sweeps l v (suc (length steps)) bits) n
     next-value n bits less home = swept n bits less home
 
-    now-value : (n : ℕ) (bits : List Bool) → Contains cuts n → value_of e (rails_at before n) bits ≡ value_in (after_sweeps net blocks cut v (length steps) bits) n
+    now-value : (n : ℕ) (bits : List Bool) → Contains cuts n → value_of e (rails_at before n) bits ≡ value_in (after_sweeps l v (length steps) bits) n
     now-value n bits has =
         let f = listed n has in
         value_of-kept keeps (rails_at before n) (rails_at-proper d before underway.solved.wires.before_proper n) bits ∙ underway.cuts_are n bits f.0.0 f.0.1 f.1
@@ -84,7 +84,7 @@ module _ (net : Parts) (blocks : Blocks) (cut : Cut) (are : AreBlocksOf net bloc
     step-proper = All-map (AreRailsOf d) (rails_at before) cuts (λ j none less. rails_at-proper d before underway.solved.wires.before_proper (get_or cuts j none))
 
     pub each-pushed : (j : ℕ) (bits : List Bool) → j < length (steps ++ map (rails_at before) cuts ∷ []) →
-        values_of e (step_at (steps ++ map (rails_at before) cuts ∷ []) j) bits ≡ map (value_in (after_sweeps net blocks cut v j bits)) cuts
+        values_of e (step_at (steps ++ map (rails_at before) cuts ∷ []) j) bits ≡ map (value_in (after_sweeps l v j bits)) cuts
     each-pushed j bits less = elim (cases_lt j (length steps)) [
       | inl low ↦
           ap (λ (step : List Rails). values_of e step bits) (get_or_append_left steps (map (rails_at before) cuts ∷ []) [] j low)
@@ -95,103 +95,103 @@ module _ (net : Parts) (blocks : Blocks) (cut : Cut) (are : AreBlocksOf net bloc
           ap (λ (step : List Rails). values_of e step bits) (get_or_push steps (map (rails_at before) cuts) [] j here)
           ∙ values_of-kept keeps (map (rails_at before) cuts) step-proper bits
           ∙ step-values d cuts before (length steps) bits is underway.cuts_are
-          ∙ ap (λ (k : ℕ). map (value_in (after_sweeps net blocks cut v k bits)) cuts) here
+          ∙ ap (λ (k : ℕ). map (value_in (after_sweeps l v k bits)) cuts) here
     ]
 
     pub proper-pushed : All (All (AreRailsOf e)) (steps ++ map (rails_at before) cuts ∷ [])
     proper-pushed = All-push (All (AreRailsOf e)) steps (map (rails_at before) cuts) (λ k none less. All-rails-kept keeps (get_or steps k none) (underway.proper k none less)) (All-rails-kept keeps (map (rails_at before) cuts) step-proper)
 
     -- after as many sweeps as there are cut wires, they stand still
-    fixed-still : length cuts ≤ length steps → (n : ℕ) → Contains cuts n → rails_at before n ≡ rails_at after (first_gate net + n)
+    fixed-still : length cuts ≤ length steps → (n : ℕ) → Contains cuts n → rails_at before n ≡ rails_at after (first_gate l.net + n)
     fixed-still enough n has =
         let f = listed n has in
-        let has2 : Contains (filter (is_cut cut.wires) (block_at blocks b).gates) n = subst (λ (ns : List ℕ). Contains ns n) is has in
-        let size : length cuts ≡ length (filter (is_cut cut.wires) (block_at blocks b).gates) = ap length is in
-        rails-canonical e lawful (rails_at before n) (rails_at after (first_gate net + n)) (rails_at-proper e before wires.before_proper n) (rails_at-proper e after wires.proper (first_gate net + n))
+        let has2 : Contains (filter (is_cut l.cut.wires) (block_at l.blocks b).gates) n = subst (λ (ns : List ℕ). Contains ns n) is has in
+        let size : length cuts ≡ length (filter (is_cut l.cut.wires) (block_at l.blocks b).gates) = ap length is in
+        rails-canonical e lawful (rails_at before n) (rails_at after (first_gate l.net + n)) (rails_at-proper e before wires.before_proper n) (rails_at-proper e after wires.proper (first_gate l.net + n))
         (λ bits.
         now-value n bits has
-        ∙ fixed-at net blocks are cut b loop cut_is (v bits) (underway.solved.vector bits) n (length steps) has2 (omega (arith, enough, size))
-        ∙ sym (fixed-at net blocks are cut b loop cut_is (v bits) (underway.solved.vector bits) n (suc (length steps)) has2 (omega (arith, enough, size)))
+        ∙ fixed-at l.net l.blocks l_is.blocks l.cut b loop l_is.cut (v bits) (underway.solved.vector bits) n (length steps) has2 (omega (arith, enough, size))
+        ∙ sym (fixed-at l.net l.blocks l_is.blocks l.cut b loop l_is.cut (v bits) (underway.solved.vector bits) n (suc (length steps)) has2 (omega (arith, enough, size)))
         ∙ sym (next-value n bits f.0.0 f.0.1))
 
-    pub few-next : (¬ ((n : ℕ) → Contains cuts n → rails_at before n ≡ rails_at after (first_gate net + n))) → length steps < length cuts
+    pub few-next : (¬ ((n : ℕ) → Contains cuts n → rails_at before n ≡ rails_at after (first_gate l.net + n))) → length steps < length cuts
     few-next moves = elim (cases_lt (length steps) (length cuts)) [ inl low ↦ low | inr high ↦ absurd (moves (fixed-still high)) ]
 
     -- where the cut wires stand still, the loop stands at the fixpoint
-    module _ (still : (n : ℕ) → Contains cuts n → rails_at before n ≡ rails_at after (first_gate net + n)) where
-      same-cut : (n : ℕ) (bits : List Bool) → Contains cuts n → value_in (after_sweeps net blocks cut v (suc (length steps)) bits) n ≡ value_in (after_sweeps net blocks cut v (length steps) bits) n
+    module _ (still : (n : ℕ) → Contains cuts n → rails_at before n ≡ rails_at after (first_gate l.net + n)) where
+      same-cut : (n : ℕ) (bits : List Bool) → Contains cuts n → value_in (after_sweeps l v (suc (length steps)) bits) n ≡ value_in (after_sweeps l v (length steps) bits) n
       same-cut n bits has =
           let f = listed n has in
           sym (next-value n bits f.0.0 f.0.1) ∙ ap (λ (r : Rails). value_of e r bits) (sym (still n has)) ∙ now-value n bits has
 
-      fix-gate : (n : ℕ) (bits : List Bool) → n < length net.gates → home_of blocks n ≡ b → value_in (after_sweeps net blocks cut v (suc (length steps)) bits) n ≡ value_in (fix_gates net (v bits)) n
+      fix-gate : (n : ℕ) (bits : List Bool) → n < length l.net.gates → home_of l.blocks n ≡ b → value_in (after_sweeps l v (suc (length steps)) bits) n ≡ value_in (fix_gates l.net (v bits)) n
       fix-gate n bits less home =
-          let in_gates : Contains (block_at blocks b).gates n = subst (λ (p : ℕ). Contains (block_at blocks p).gates n) home (home_gate net blocks are n less) in
-          let of_n : cuts ≡ cuts_of net (loops_by blocks cut) n = is ∙ cuts-are net blocks are cut b loop n in_gates in
-          let same : cuts_after net (loops_by blocks cut) (v bits) n (suc (length steps)) ≡ cuts_after net (loops_by blocks cut) (v bits) n (length steps)
-          = map_agree (value_in (sweeps net (loops_by blocks cut) (v bits) (suc (length steps)))) (value_in (sweeps net (loops_by blocks cut) (v bits) (length steps))) (cuts_of net (loops_by blocks cut) n)
+          let in_gates : Contains (block_at l.blocks b).gates n = subst (λ (p : ℕ). Contains (block_at l.blocks p).gates n) home (home_gate l.net l.blocks l_is.blocks n less) in
+          let of_n : cuts ≡ cuts_of l.net (loops_by l.blocks l.cut) n = is ∙ cuts-are l.net l.blocks l_is.blocks l.cut b loop n in_gates in
+          let same : cuts_after l.net (loops_by l.blocks l.cut) (v bits) n (suc (length steps)) ≡ cuts_after l.net (loops_by l.blocks l.cut) (v bits) n (length steps)
+          = map_agree (value_in (sweeps l.net (loops_by l.blocks l.cut) (v bits) (suc (length steps)))) (value_in (sweeps l.net (loops_by l.blocks l.cut) (v bits) (length steps))) (cuts_of l.net (loops_by l.blocks l.cut) n)
           (λ j none inside.
-          same-cut (get_or (cuts_of net (loops_by blocks cut) n) j none) bits
-          (subst (λ (ns : List ℕ). Contains ns (get_or (cuts_of net (loops_by blocks cut) n) j none)) (sym of_n)
-          (j, inside, get_or_default (cuts_of net (loops_by blocks cut) n) j (get_or (cuts_of net (loops_by blocks cut) n) j none) none inside))) in
-          still_is_fix net (loops_by blocks cut) (blocks_tell_loops net blocks cut are cut_is) (v bits) (underway.solved.vector bits) n (length steps) same n (one-block net blocks are cut b loop n n less home less home)
+          same-cut (get_or (cuts_of l.net (loops_by l.blocks l.cut) n) j none) bits
+          (subst (λ (ns : List ℕ). Contains ns (get_or (cuts_of l.net (loops_by l.blocks l.cut) n) j none)) (sym of_n)
+          (j, inside, get_or_default (cuts_of l.net (loops_by l.blocks l.cut) n) j (get_or (cuts_of l.net (loops_by l.blocks l.cut) n) j none) none inside))) in
+          still_is_fix l.net (loops_by l.blocks l.cut) (blocks_tell_loops l.net l.blocks l.cut l_is.blocks l_is.cut) (v bits) (underway.solved.vector bits) n (length steps) same n (one-block l.net l.blocks l_is.blocks l.cut b loop n n less home less home)
 
-      solved-next : IsSolvedBelow net blocks cut e v (b + 1) before after
+      solved-next : IsSolvedBelow l e v (b + 1) before after
       solved-next =
           let before_this = solved-swept d e before rails after keeps underway.solved others wires in
           record {
             wires = wires;
             vector = underway.solved.vector;
             given = before_this.given;
-            gates = λ n bits less low. elim (cases_eq (home_of blocks n) b) [
+            gates = λ n bits less low. elim (cases_eq (home_of l.blocks n) b) [
               | inl own ↦ next-value n bits less own ∙ fix-gate n bits less own
               | inr other ↦ before_this.gates n bits less (omega (arith, low, other))
             ];
-            cuts = λ n bits less low cut_wire. elim (cases_eq (home_of blocks n) b) [
+            cuts = λ n bits less low cut_wire. elim (cases_eq (home_of l.blocks n) b) [
               | inl own ↦
-                  let has : Contains cuts n = subst (λ (ns : List ℕ). Contains ns n) (sym is) (in-cuts net blocks are cut b loop n less own cut_wire) in
+                  let has : Contains cuts n = subst (λ (ns : List ℕ). Contains ns n) (sym is) (in-cuts l.net l.blocks l_is.blocks l.cut b loop n less own cut_wire) in
                   ap (λ (r : Rails). value_of e r bits) (still n has) ∙ next-value n bits less own ∙ fix-gate n bits less own
               | inr other ↦ before_this.cuts n bits less (omega (arith, low, other)) cut_wire
             ];
           }
 
-      steps-are : (found : SweptLoop) → found.block ≡ b → found.cuts ≡ cuts → found.steps ≡ steps ++ map (rails_at before) cuts ∷ [] → AreStepsOf net blocks cut e v found
+      steps-are : (found : SweptLoop) → found.block ≡ b → found.cuts ≡ cuts → found.steps ≡ steps ++ map (rails_at before) cuts ∷ [] → AreStepsOf l.net l.blocks l.cut e v found
       steps-are found block_is cuts_is steps_is =
           let pushes = length_push steps (map (rails_at before) cuts) in
           let long : length found.steps ≡ length steps + 1 = ap length steps_is ∙ pushes in
           let few = underway.few in
-          let wires_are : (gate : ℕ) → Contains (block_at blocks found.block).gates gate → cuts ≡ cuts_of net (loops_by blocks cut) gate =
-          λ gate has. is ∙ cuts-are net blocks are cut b loop gate (subst (λ (p : ℕ). Contains (block_at blocks p).gates gate) block_is has) in
+          let wires_are : (gate : ℕ) → Contains (block_at l.blocks found.block).gates gate → cuts ≡ cuts_of l.net (loops_by l.blocks l.cut) gate =
+          λ gate has. is ∙ cuts-are l.net l.blocks l_is.blocks l.cut b loop gate (subst (λ (p : ℕ). Contains (block_at l.blocks p).gates gate) block_is has) in
           record {
-            block = subst (IsLoopAt blocks) (sym block_is) loop;
+            block = subst (IsLoopAt l.blocks) (sym block_is) loop;
             wires = λ gate has. cuts_is ∙ wires_are gate has;
             rails = subst (All (All (AreRailsOf e))) (sym steps_is) proper-pushed;
             each = λ gate k bits has less.
                 ap (λ (xs : List (List Rails)). values_of e (step_at xs k) bits) steps_is
                 ∙ each-pushed k bits (omega (arith, less, long, pushes))
-                ∙ ap (map (value_in (after_sweeps net blocks cut v k bits))) (wires_are gate has);
+                ∙ ap (map (value_in (after_sweeps l v k bits))) (wires_are gate has);
             last = λ gate bits has.
                 let at : length found.steps - 1 ≡ length steps = omega (arith, long) in
                 ap (λ (k : ℕ). values_of e (step_at found.steps k) bits) at
                 ∙ ap (λ (xs : List (List Rails)). values_of e (step_at xs (length steps)) bits) steps_is
                 ∙ each-pushed (length steps) bits (omega (arith, pushes))
-                ∙ map_agree (value_in (after_sweeps net blocks cut v (length steps) bits)) (value_in (fix_gates net (v bits))) cuts
+                ∙ map_agree (value_in (after_sweeps l v (length steps) bits)) (value_in (fix_gates l.net (v bits))) cuts
                 (λ j none inside.
                 let m : ℕ = get_or cuts j none in
                 let m_in : Contains cuts (get_or cuts j none) = (j, inside, get_or_default cuts j (get_or cuts j none) none inside) in
                 let f = listed (get_or cuts j none) m_in in
                 sym (same-cut (get_or cuts j none) bits m_in) ∙ fix-gate (get_or cuts j none) bits f.0.0 f.0.1)
-                ∙ ap (map (value_in (fix_gates net (v bits)))) (wires_are gate has);
+                ∙ ap (map (value_in (fix_gates l.net (v bits)))) (wires_are gate has);
             some = omega (arith, long);
             few = let size : length found.cuts ≡ length cuts = ap length cuts_is in omega (arith, long, few, size);
           }
 
-      pub at-rest : IsAtRest net blocks cut e v b cuts (steps ++ map (rails_at before) cuts ∷ []) before after
+      pub at-rest : IsAtRest l e v b cuts (steps ++ map (rails_at before) cuts ∷ []) before after
       at-rest = record { solved = solved-next; fresh = underway.fresh; steps_are = steps-are (record { block = b; cuts = cuts; steps = steps ++ map (rails_at before) cuts ∷ [] }) refl refl refl }
 
     -- else the loop goes on, from the cut wires as they are now
-    pub underway-next : (before2 : List Rails) → ((n : ℕ) → Contains cuts n → rails_at before2 n ≡ rails_at after (first_gate net + n)) → ((n : ℕ) → ¬ Contains cuts n → rails_at before2 n ≡ rails_at before n)
-        → AreWires net e before2 after → length steps < length cuts → IsUnderway net blocks cut e v b cuts (steps ++ map (rails_at before) cuts ∷ []) before2 after
+    pub underway-next : (before2 : List Rails) → ((n : ℕ) → Contains cuts n → rails_at before2 n ≡ rails_at after (first_gate l.net + n)) → ((n : ℕ) → ¬ Contains cuts n → rails_at before2 n ≡ rails_at before n)
+        → AreWires l.net e before2 after → length steps < length cuts → IsUnderway l e v b cuts (steps ++ map (rails_at before) cuts ∷ []) before2 after
     underway-next before2 kept free wires2 few =
         let pushes = length_push steps (map (rails_at before) cuts) in
         let next : suc (length steps) ≡ length (steps ++ map (rails_at before) cuts ∷ []) = omega (arith, pushes) in
@@ -206,9 +206,9 @@ module _ (net : Parts) (blocks : Blocks) (cut : Cut) (are : AreBlocksOf net bloc
                 ap (λ (r : Rails). value_of e r bits) (free n (λ has. let f = listed n has in omega (arith, low, f.0.1)))
                 ∙ before_this.cuts n bits less low cut_wire;
           };
-          cuts_are = subst (λ (k : ℕ). CutsAre net blocks cut e (after_sweeps net blocks cut v k) b before2) next
+          cuts_are = subst (λ (k : ℕ). CutsAre l e (after_sweeps l v k) b before2) next
               (λ n bits less home cut_wire.
-              ap (λ (r : Rails). value_of e r bits) (kept n (subst (λ (ns : List ℕ). Contains ns n) (sym is) (in-cuts net blocks are cut b loop n less home cut_wire)))
+              ap (λ (r : Rails). value_of e r bits) (kept n (subst (λ (ns : List ℕ). Contains ns n) (sym is) (in-cuts l.net l.blocks l_is.blocks l.cut b loop n less home cut_wire)))
               ∙ next-value n bits less home);
           fresh = λ n less later. free n (λ has. let f = listed n has in omega (arith, later, f.0.1)) ∙ underway.fresh n less later;
           each = each-pushed;

@@ -3,10 +3,9 @@ use Rattle.std.specs.Prelude.{◌≡◌, ◌<◌, ℕ, List, length, filter, All
 use Rattle.dual_rail.specs.Local.{IsDiagramOf}
 use Rattle.netlist.specs.declared.parts.Parts.{Parts}
 use Rattle.netlist.specs.Netlists.{gate_at}
-use Rattle.loops.specs.declared.structure.Blocks.{Blocks}
-use Rattle.loops.specs.declared.structure.Cut.{Cut}
-use Rattle.loops.specs.Blocks.{AreBlocksOf, block_at}
+use Rattle.loops.specs.Blocks.{block_at}
 use Rattle.loops.specs.Cuts.{is_cut}
+use Rattle.loops.specs.Looped.{Looped, IsLooped}
 use Rattle.loops.specs.Orders.{IsOrderOf}
 use Rattle.fixpoint.specs.declared.locals.SharedDiagram.{SharedDiagram}
 use Rattle.fixpoint.specs.declared.locals.Locals.{Locals}
@@ -39,9 +38,9 @@ pub record IsPlan (net : Parts) (plan : LoopPlan) : Type 0 where
   pub cuts : All (λ n. n < length net.gates) plan.cuts
 
 -- the loop at place b is swept by it
-pub record IsPlanOf (net : Parts) (blocks : Blocks) (cut : Cut) (b : ℕ) (plan : LoopPlan) : Type 0 where
-  pub fits : IsPlan net plan
-  pub blocks_are : AreBlocksOf net blocks
-  pub loop : IsLoopAt blocks b
-  pub order : IsOrderOf net (is_cut cut.wires) (block_at blocks b).gates plan.order
-  pub cuts : plan.cuts ≡ filter (is_cut cut.wires) (block_at blocks b).gates
+pub record IsPlanOf (l : Looped) (b : ℕ) (plan : LoopPlan) : Type 0 where
+  pub fits : IsPlan l.net plan
+  pub are : IsLooped l
+  pub loop : IsLoopAt l.blocks b
+  pub order : IsOrderOf l.net (is_cut l.cut.wires) (block_at l.blocks b).gates plan.order
+  pub cuts : plan.cuts ≡ filter (is_cut l.cut.wires) (block_at l.blocks b).gates

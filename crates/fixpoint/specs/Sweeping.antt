@@ -10,10 +10,10 @@ use Rattle.dual_rail.specs.Rails.{AreRailsOf, value_of, values_of}
 use Rattle.netlist.specs.declared.parts.Parts.{Parts}
 use Rattle.netlist.specs.Fixpoint.{fix_gates}
 use Rattle.netlist.specs.Netlists.{count, gate_at}
-use Rattle.loops.specs.declared.structure.Blocks.{Blocks}
 use Rattle.loops.specs.declared.structure.Cut.{Cut}
-use Rattle.loops.specs.Blocks.{AreBlocksOf, block_at, home_of}
+use Rattle.loops.specs.Blocks.{block_at, home_of}
 use Rattle.loops.specs.Cuts.{is_cut, loops_by}
+use Rattle.loops.specs.Looped.{Looped, IsLooped}
 use Rattle.loops.specs.Orders.{IsOrderOf}
 use Rattle.loops.specs.Sweeps.{first_gate, gate_of, value_in, sweep, sweeps}
 use Rattle.fixpoint.specs.declared.kept.KeptRails.{KeptRails}
@@ -61,55 +61,55 @@ vectors net a rails bits = values_of a (take (first_gate net) rails) bits
 
 -- Inputs and latches have the values of the vector, and the gates of the blocks before place b stand at the fixpoint,
 -- their cut wires before the sweep too.
-pub record IsSolvedBelow (net : Parts) (blocks : Blocks) (cut : Cut) (a : Arena) (v : Vectors) (b : ℕ) (before rails : List Rails) : Type 0 where
-  pub wires : AreWires net a before rails
-  pub vector : (bits : List Bool) → length (v bits) ≡ first_gate net
-  pub given : (s : ℕ) (bits : List Bool) → s < first_gate net → value_of a (rails_at rails s) bits ≡ value_in (v bits) s
-  pub gates : (n : ℕ) (bits : List Bool) → n < length net.gates → home_of blocks n < b →
-      value_of a (rails_at rails (first_gate net + n)) bits ≡ value_in (fix_gates net (v bits)) n
-  pub cuts : (n : ℕ) (bits : List Bool) → n < length net.gates → home_of blocks n < b → is_cut cut.wires n ≡ true →
-      value_of a (rails_at before n) bits ≡ value_in (fix_gates net (v bits)) n
+pub record IsSolvedBelow (l : Looped) (a : Arena) (v : Vectors) (b : ℕ) (before rails : List Rails) : Type 0 where
+  pub wires : AreWires l.net a before rails
+  pub vector : (bits : List Bool) → length (v bits) ≡ first_gate l.net
+  pub given : (s : ℕ) (bits : List Bool) → s < first_gate l.net → value_of a (rails_at rails s) bits ≡ value_in (v bits) s
+  pub gates : (n : ℕ) (bits : List Bool) → n < length l.net.gates → home_of l.blocks n < b →
+      value_of a (rails_at rails (first_gate l.net + n)) bits ≡ value_in (fix_gates l.net (v bits)) n
+  pub cuts : (n : ℕ) (bits : List Bool) → n < length l.net.gates → home_of l.blocks n < b → is_cut l.cut.wires n ≡ true →
+      value_of a (rails_at before n) bits ≡ value_in (fix_gates l.net (v bits)) n
 
 -- the cut wires of later blocks are still X
-abbrev pub AreFresh : Parts → Blocks → ℕ → List Rails → Type 0
-AreFresh net blocks b before = (n : ℕ) → n < length net.gates → b ≤ home_of blocks n → rails_at before n ≡ unknown
+abbrev pub AreFresh : Looped → ℕ → List Rails → Type 0
+AreFresh l b before = (n : ℕ) → n < length l.net.gates → b ≤ home_of l.blocks n → rails_at before n ≡ unknown
 
 -- before the sweep, the cut wires of block b are as in these states
-abbrev pub CutsAre : Parts → Blocks → Cut → Arena → States → ℕ → List Rails → Type 0
-CutsAre net blocks cut a c b before = (n : ℕ) (bits : List Bool) → n < length net.gates → home_of blocks n ≡ b →
-    is_cut cut.wires n ≡ true → value_of a (rails_at before n) bits ≡ value_in (c bits) n
+abbrev pub CutsAre : Looped → Arena → States → ℕ → List Rails → Type 0
+CutsAre l a c b before = (n : ℕ) (bits : List Bool) → n < length l.net.gates → home_of l.blocks n ≡ b →
+    is_cut l.cut.wires n ≡ true → value_of a (rails_at before n) bits ≡ value_in (c bits) n
 
 -- the gates of a kind are set as by the sweep from these states
-abbrev pub AreSwept : Parts → Blocks → Cut → Arena → Vectors → States → (ℕ → Type 0) → List Rails → Type 0
-AreSwept net blocks cut a v c Kind rails = (n : ℕ) (bits : List Bool) → n < length net.gates → Kind n →
-    value_of a (rails_at rails (first_gate net + n)) bits ≡ value_in (sweep net (loops_by blocks cut) (v bits) (c bits)) n
+abbrev pub AreSwept : Looped → Arena → Vectors → States → (ℕ → Type 0) → List Rails → Type 0
+AreSwept l a v c Kind rails = (n : ℕ) (bits : List Bool) → n < length l.net.gates → Kind n →
+    value_of a (rails_at rails (first_gate l.net + n)) bits ≡ value_in (sweep l.net (loops_by l.blocks l.cut) (v bits) (c bits)) n
 
 -- block b is a loop of the netlist, and all that a sweep of it reads is there: the blocks before it are solved, its
 -- cut wires are as in these states, and its gates have an order for sweeps
-pub record IsSweepable (net : Parts) (blocks : Blocks) (cut : Cut) (a : Arena) (v : Vectors) (c : States) (b : ℕ) (order : List ℕ) (before rails : List Rails) : Type 0 where
-  pub blocks_are : AreBlocksOf net blocks
-  pub loop : IsLoopAt blocks b
-  pub follows : IsOrderOf net (is_cut cut.wires) (block_at blocks b).gates order
-  pub solved : IsSolvedBelow net blocks cut a v b before rails
-  pub cuts : CutsAre net blocks cut a c b before
+pub record IsSweepable (l : Looped) (a : Arena) (v : Vectors) (c : States) (b : ℕ) (order : List ℕ) (before rails : List Rails) : Type 0 where
+  pub are : IsLooped l
+  pub loop : IsLoopAt l.blocks b
+  pub follows : IsOrderOf l.net (is_cut l.cut.wires) (block_at l.blocks b).gates order
+  pub solved : IsSolvedBelow l a v b before rails
+  pub cuts : CutsAre l a c b before
 
 -- signals but these gates are as they were
 abbrev pub OthersStay : Parts → List ℕ → List Rails → List Rails → Type 0
 OthersStay net gates old new = (s : ℕ) → ((n : ℕ) → s ≡ first_gate net + n → ¬ Contains gates n) → rails_at new s ≡ rails_at old s
 
 -- the states after k sweeps
-abbrev pub after_sweeps : Parts → Blocks → Cut → Vectors → ℕ → States
-after_sweeps net blocks cut v k bits = sweeps net (loops_by blocks cut) (v bits) k
+abbrev pub after_sweeps : Looped → Vectors → ℕ → States
+after_sweeps l v k bits = sweeps l.net (loops_by l.blocks l.cut) (v bits) k
 
 -- what was found of the block at place b: the steps of a loop, or nothing of another block
-abbrev pub IsFoundAt : Parts → Blocks → Cut → Arena → Vectors → ℕ → Option SweptLoop → Type 0
-IsFoundAt net blocks cut a v b (Some steps) = AreStepsOf net blocks cut a v steps × (steps.block ≡ b)
-IsFoundAt net blocks cut a v b None = ¬ IsLoopAt blocks b
+abbrev pub IsFoundAt : Looped → Arena → Vectors → ℕ → Option SweptLoop → Type 0
+IsFoundAt l a v b (Some steps) = AreStepsOf l.net l.blocks l.cut a v steps × (steps.block ≡ b)
+IsFoundAt l a v b None = ¬ IsLoopAt l.blocks b
 
 -- what is kept of it
-abbrev pub IsKeptAt : Parts → Blocks → Cut → Arena → Vectors → ℕ → Option LoopSteps → Type 0
-IsKeptAt net blocks cut a v b (Some loop) = AreKeptSteps net blocks cut a v loop × (loop.block ≡ b)
-IsKeptAt net blocks cut a v b None = ¬ IsLoopAt blocks b
+abbrev pub IsKeptAt : Looped → Arena → Vectors → ℕ → Option LoopSteps → Type 0
+IsKeptAt l a v b (Some loop) = AreKeptSteps l.net l.blocks l.cut a v loop × (loop.block ≡ b)
+IsKeptAt l a v b None = ¬ IsLoopAt l.blocks b
 
 -- the place of a gate's kept rails
 abbrev pub place_of : List (Option KeptRails) → ℕ → Option KeptRails
@@ -129,14 +129,14 @@ pub record HasValues (a : Arena) (place : Option KeptRails) (values : List Bool 
   pub values_are : (bits : List Bool) → value_of a (rails_under a kept) bits ≡ values bits
 
 -- the gates of the blocks before place b are kept, at the fixpoint, and no others are
-pub record AreKeptBelow (net : Parts) (blocks : Blocks) (a : Arena) (v : Vectors) (b : ℕ) (places : List (Option KeptRails)) : Type 0 where
-  pub width : length places ≡ length net.gates
-  pub solved : (n : ℕ) → n < length net.gates → home_of blocks n < b → HasValues a (place_of places n) (λ bits. value_in (fix_gates net (v bits)) n)
-  pub later : (n : ℕ) → n < length net.gates → b ≤ home_of blocks n → place_of places n ≡ None
+pub record AreKeptBelow (l : Looped) (a : Arena) (v : Vectors) (b : ℕ) (places : List (Option KeptRails)) : Type 0 where
+  pub width : length places ≡ length l.net.gates
+  pub solved : (n : ℕ) → n < length l.net.gates → home_of l.blocks n < b → HasValues a (place_of places n) (λ bits. value_in (fix_gates l.net (v bits)) n)
+  pub later : (n : ℕ) → n < length l.net.gates → b ≤ home_of l.blocks n → place_of places n ≡ None
 
 -- the blocks before place b are solved at the vectors of the given rails, and their gates are kept
-pub record IsSolvedTo (net : Parts) (blocks : Blocks) (cut : Cut) (a : Arena) (given : List KeptRails) (b : ℕ) (before rails : List Rails) (places : List (Option KeptRails)) : Type 0 where
-  pub given_are : AreGiven net a given
-  pub solved : IsSolvedBelow net blocks cut a (values_under a given) b before rails
-  pub fresh : AreFresh net blocks b before
-  pub kept : AreKeptBelow net blocks a (values_under a given) b places
+pub record IsSolvedTo (l : Looped) (a : Arena) (given : List KeptRails) (b : ℕ) (before rails : List Rails) (places : List (Option KeptRails)) : Type 0 where
+  pub given_are : AreGiven l.net a given
+  pub solved : IsSolvedBelow l a (values_under a given) b before rails
+  pub fresh : AreFresh l b before
+  pub kept : AreKeptBelow l a (values_under a given) b places

@@ -1,9 +1,7 @@
 //! Idle nodes are taken out between blocks.
 
 ghost use Rattle.std.specs.Prelude.{◌≡◌, ◌<◌, ◌≤◌, ◌+◌, ◌++◌, ℕ, None, length, map, All, IfOk, OnOk, IfSome};
-ghost use Rattle.netlist.specs.declared.parts.Parts.{Parts};
-ghost use Rattle.loops.specs.declared.structure.Blocks.{Blocks as TheBlocks};
-ghost use Rattle.loops.specs.declared.structure.Cut.{Cut as TheCut};
+ghost use Rattle.loops.specs.Looped.{Looped};
 ghost use Rattle.fixpoint.specs.Kept.{rails_under, AreKept, RootsStay};
 ghost use Rattle.fixpoint.specs.Sweeping.{rails_in, IsSolvedTo};
 
@@ -96,8 +94,8 @@ pub(crate) fn sweep_if_due(
     requires places { All (λ place. IfSome place (AreKept d.old)) places.now }
     requires before { length before.old ≡ length places.now }
     requires rails { length rails.old ≡ length given.now + length places.now }
-    ensures solved { (net : Parts) (blocks : TheBlocks) (cut : TheCut) (b : ℕ) → IsSolvedTo net blocks cut d.old given.now b before.old rails.old places.now →
-        OnOk result (IsSolvedTo net blocks cut d.new given.now b before.new rails.new places.now) }
+    ensures solved { (l : Looped) (b : ℕ) → IsSolvedTo l d.old given.now b before.old rails.old places.now →
+        OnOk result (IsSolvedTo l d.new given.now b before.new rails.new places.now) }
     ensures roots { RootsStay d.old d.new }
     ensures fewer { length d.new.entries ≤ length d.old.entries }
 {

@@ -17,13 +17,13 @@ use crate::clearing::{sweep_if_due, sweep_store};
 use crate::keeping::{empty_places, keep_block, signal_rails};
 use crate::kept::{KeptRails, rails_of};
 use crate::solved::{LoopSteps, Solved, SweptLoop};
-use crate::sweeping::solve_loop;
+use crate::sweeping::{gates_of, solve_loop};
 use crate::wires::{set_gate, unknowns, wires};
 use bdd_ops::Diagrams;
 use bdd_store::StoreFault;
 use cyc_base::Items;
 use dual_rail::Rails;
-use loops::{Blocks, Cut};
+use loops::{Blocks, Cut, LoopedNetlist};
 use netlist::Netlist;
 use std::alloc::{AllocError, Global};
 
@@ -31,31 +31,28 @@ use std::alloc::{AllocError, Global};
 fn solve_block(
     alloc: Global,
     d: &mut Diagrams,
-    net: &Netlist,
-    blocks: &Blocks,
-    cut: &Cut,
+    looped: &LoopedNetlist<'_>,
     gate: u32,
     before: &mut [Rails],
     rails: &mut [Rails],
 ) -> Result<Option<SweptLoop>, StoreFault>
-    requires blocks { AreBlocksOf net.now blocks.now }
-    requires cut { IsCutOf net.now cut.now }
-    requires gate { gate < length net.now.gates }
-    requires solved { IsSolvedBelow net.now blocks.now cut.now d.old (vectors net.now d.old rails.old) (home_of blocks.now gate) before.old rails.old }
-    requires fresh { AreFresh net.now blocks.now (home_of blocks.now gate) before.old }
-    ensures steps { IfOk result (λ found. IsFoundAt net.now blocks.now cut.now d.new (vectors net.now d.old rails.old) (home_of blocks.now gate) found) }
-    ensures solved { OnOk result (IsSolvedBelow net.now blocks.now cut.now d.new (vectors net.now d.old rails.old) (home_of blocks.now gate + 1) before.new rails.new) }
-    ensures fresh { OnOk result (AreFresh net.now blocks.now (home_of blocks.now gate + 1) before.new) }
-    ensures given { OnOk result (take (first_gate net.now) rails.new ≡ take (first_gate net.now) rails.old) }
-    ensures grows { GrowsWithin result d.old d.new (HasLargeCover net.now) (IsWide d.old.vars (IsWorking net.now (loops_by blocks.now cut.now) (vectors net.now d.old rails.old)))
-        (2 * ((length net.now.gates + 1) * block_cost net.now blocks.now (home_of blocks.now gate))) }
+    requires gate { gate < length looped.now.net.gates }
+    requires solved { IsSolvedBelow looped.now d.old (vectors looped.now.net d.old rails.old) (home_of looped.now.blocks gate) before.old rails.old }
+    requires fresh { AreFresh looped.now (home_of looped.now.blocks gate) before.old }
+    ensures steps { IfOk result (λ found. IsFoundAt looped.now d.new (vectors looped.now.net d.old rails.old) (home_of looped.now.blocks gate) found) }
+    ensures solved { OnOk result (IsSolvedBelow looped.now d.new (vectors looped.now.net d.old rails.old) (home_of looped.now.blocks gate + 1) before.new rails.new) }
+    ensures fresh { OnOk result (AreFresh looped.now (home_of looped.now.blocks gate + 1) before.new) }
+    ensures given { OnOk result (take (first_gate looped.now.net) rails.new ≡ take (first_gate looped.now.net) rails.old) }
+    ensures grows { GrowsWithin result d.old d.new (HasLargeCover looped.now.net) (IsWide d.old.vars (IsWorking looped.now.net (loops_by looped.now.blocks looped.now.cut) (vectors looped.now.net d.old rails.old)))
+        (2 * ((length looped.now.net.gates + 1) * block_cost looped.now.net looped.now.blocks (home_of looped.now.blocks gate))) }
 {
+    let blocks = looped.blocks();
     let place = blocks.home.items()[gate as usize];
     if blocks.list.items()[place as usize].looped {
-        let steps = solve_loop(alloc, d, net, blocks, cut, place, before, rails)?;
+        let steps = solve_loop(alloc, d, looped, place, before, rails)?;
         return Ok(Some(steps));
     }
-    set_gate(alloc, d, net, cut, before, rails, gate)?;
+    set_gate(alloc, d, looped, before, rails, gate)?;
     Ok(None)
 }
 
@@ -63,29 +60,26 @@ fn solve_block(
 fn solve_and_keep(
     alloc: Global,
     d: &mut Diagrams,
-    net: &Netlist,
-    blocks: &Blocks,
-    cut: &Cut,
+    looped: &LoopedNetlist<'_>,
     given: &[KeptRails],
     place: usize,
     before: &mut [Rails],
     rails: &mut [Rails],
     places: &mut [Option<KeptRails>],
 ) -> Result<Option<LoopSteps>, StoreFault>
-    requires blocks { AreBlocksOf net.now blocks.now }
-    requires cut { IsCutOf net.now cut.now }
-    requires place { place < length blocks.now.list }
-    requires solved { IsSolvedTo net.now blocks.now cut.now d.old given.now place before.old rails.old places.old }
-    ensures solved { OnOk result (IsSolvedTo net.now blocks.now cut.now d.new given.now (place + 1) before.new rails.new places.new) }
-    ensures steps { IfOk result (IsKeptAt net.now blocks.now cut.now d.new (values_under d.new given.now) place) }
+    requires place { place < length looped.now.blocks.list }
+    requires solved { IsSolvedTo looped.now d.old given.now place before.old rails.old places.old }
+    ensures solved { OnOk result (IsSolvedTo looped.now d.new given.now (place + 1) before.new rails.new places.new) }
+    ensures steps { IfOk result (IsKeptAt looped.now d.new (values_under d.new given.now) place) }
     ensures places { result ≡ Err StoreFault.Full → places.new ≡ places.old }
     ensures roots { RootsStay d.old d.new }
-    ensures adds { AddsWithin result d.old d.new (HasLargeCover net.now) (IsWide d.old.vars (IsWorking net.now (loops_by blocks.now cut.now) (values_under d.old given.now)))
-        (2 * ((length net.now.gates + 1) * block_cost net.now blocks.now place)) }
+    ensures adds { AddsWithin result d.old d.new (HasLargeCover looped.now.net) (IsWide d.old.vars (IsWorking looped.now.net (loops_by looped.now.blocks looped.now.cut) (values_under d.old given.now)))
+        (2 * ((length looped.now.net.gates + 1) * block_cost looped.now.net looped.now.blocks place)) }
 {
     d.store().laws();
-    let gates = blocks.list.items()[place].gates.items();
-    let found = solve_block(alloc, d, net, blocks, cut, gates[0], before, rails)?;
+    let net = looped.net();
+    let gates = gates_of(looped, place);
+    let found = solve_block(alloc, d, looped, gates[0], before, rails)?;
     let first = net.inputs() as usize + net.latches() as usize;
     Ok(keep_block(alloc, d, gates, first, rails, places, found)?)
 }
@@ -96,9 +90,7 @@ fn solve_and_keep(
 fn solve_with_retry(
     alloc: Global,
     d: &mut Diagrams,
-    net: &Netlist,
-    blocks: &Blocks,
-    cut: &Cut,
+    looped: &LoopedNetlist<'_>,
     given: &[KeptRails],
     place: usize,
     before: &mut [Rails],
@@ -106,25 +98,19 @@ fn solve_with_retry(
     places: &mut [Option<KeptRails>],
     left: u32,
 ) -> Result<Option<LoopSteps>, StoreFault>
-    requires blocks { AreBlocksOf net.now blocks.now }
-    requires cut { IsCutOf net.now cut.now }
-    requires place { place < length blocks.now.list }
-    requires solved { IsSolvedTo net.now blocks.now cut.now d.old given.now place before.old rails.old places.old }
-    ensures solved { OnOk result (IsSolvedTo net.now blocks.now cut.now d.new given.now (place + 1) before.new rails.new places.new) }
-    ensures steps { IfOk result (IsKeptAt net.now blocks.now cut.now d.new (values_under d.new given.now) place) }
+    requires place { place < length looped.now.blocks.list }
+    requires solved { IsSolvedTo looped.now d.old given.now place before.old rails.old places.old }
+    ensures solved { OnOk result (IsSolvedTo looped.now d.new given.now (place + 1) before.new rails.new places.new) }
+    ensures steps { IfOk result (IsKeptAt looped.now d.new (values_under d.new given.now) place) }
     ensures roots { RootsStay d.old d.new }
-    ensures adds { AddsWithin result d.old d.new (HasLargeCover net.now) (IsWide d.old.vars (IsWorking net.now (loops_by blocks.now cut.now) (values_under d.old given.now)))
-        (4 * ((length net.now.gates + 1) * block_cost net.now blocks.now place)) }
+    ensures adds { AddsWithin result d.old d.new (HasLargeCover looped.now.net) (IsWide d.old.vars (IsWorking looped.now.net (loops_by looped.now.blocks looped.now.cut) (values_under d.old given.now)))
+        (4 * ((length looped.now.net.gates + 1) * block_cost looped.now.net looped.now.blocks place)) }
 {
     let may_gain = d.store().count() > left;
-    match solve_and_keep(
-        alloc, d, net, blocks, cut, given, place, before, rails, places,
-    ) {
+    match solve_and_keep(alloc, d, looped, given, place, before, rails, places) {
         Err(StoreFault::Full) if may_gain => {
             sweep_store(alloc, d, given, places, before, rails)?;
-            solve_and_keep(
-                alloc, d, net, blocks, cut, given, place, before, rails, places,
-            )
+            solve_and_keep(alloc, d, looped, given, place, before, rails, places)
         }
         result => result,
     }
@@ -144,32 +130,26 @@ fn add_loop(loops: &mut Vec<LoopSteps>, found: Option<LoopSteps>) -> Result<(), 
 fn solve_blocks(
     alloc: Global,
     d: &mut Diagrams,
-    net: &Netlist,
-    blocks: &Blocks,
-    cut: &Cut,
+    looped: &LoopedNetlist<'_>,
     given: &[KeptRails],
     before: &mut [Rails],
     rails: &mut [Rails],
     places: &mut [Option<KeptRails>],
 ) -> Result<Vec<LoopSteps>, StoreFault>
-    requires blocks { AreBlocksOf net.now blocks.now }
-    requires cut { IsCutOf net.now cut.now }
-    requires solved { IsSolvedTo net.now blocks.now cut.now d.old given.now 0 before.old rails.old places.old }
-    ensures solved { OnOk result (IsSolvedTo net.now blocks.now cut.now d.new given.now (length blocks.now.list) before.new rails.new places.new) }
-    ensures loops { IfOk result (λ loops. HasEachLoopOnce blocks.now loops.items) }
-    ensures steps { IfOk result (λ loops. All (AreKeptSteps net.now blocks.now cut.now d.new (values_under d.new given.now)) loops.items) }
+    requires solved { IsSolvedTo looped.now d.old given.now 0 before.old rails.old places.old }
+    ensures solved { OnOk result (IsSolvedTo looped.now d.new given.now (length looped.now.blocks.list) before.new rails.new places.new) }
+    ensures loops { IfOk result (λ loops. HasEachLoopOnce looped.now.blocks loops.items) }
+    ensures steps { IfOk result (λ loops. All (AreKeptSteps looped.now.net looped.now.blocks looped.now.cut d.new (values_under d.new given.now)) loops.items) }
     ensures roots { RootsStay d.old d.new }
-    ensures adds { AddsWithin result d.old d.new (HasLargeCover net.now) (IsWide d.old.vars (IsWorking net.now (loops_by blocks.now cut.now) (values_under d.old given.now)))
-        (4 * ((length net.now.gates + 1) * effort net.now)) }
+    ensures adds { AddsWithin result d.old d.new (HasLargeCover looped.now.net) (IsWide d.old.vars (IsWorking looped.now.net (loops_by looped.now.blocks looped.now.cut) (values_under d.old given.now)))
+        (4 * ((length looped.now.net.gates + 1) * effort looped.now.net)) }
 {
     d.store().laws();
     sweep_store(alloc, d, given, places, before, rails)?;
     let mut left = d.store().count();
     let mut loops = Vec::new(alloc);
-    for place in 0..blocks.list.items().len() {
-        let found = solve_with_retry(
-            alloc, d, net, blocks, cut, given, place, before, rails, places, left,
-        )?;
+    for place in 0..looped.blocks().list.items().len() {
+        let found = solve_with_retry(alloc, d, looped, given, place, before, rails, places, left)?;
         left = sweep_if_due(alloc, d, given, places, before, rails, left)?;
         add_loop(&mut loops, found)?;
     }
@@ -220,37 +200,43 @@ fn hand_out(
 fn solve_gates(
     alloc: Global,
     d: &mut Diagrams,
-    net: &Netlist,
-    blocks: &Blocks,
-    cut: &Cut,
+    looped: &LoopedNetlist<'_>,
     given: &[KeptRails],
     places: &mut [Option<KeptRails>],
 ) -> Result<Vec<LoopSteps>, StoreFault>
-    requires blocks { AreBlocksOf net.now blocks.now }
-    requires cut { IsCutOf net.now cut.now }
-    requires given { AreGiven net.now d.old given.now }
-    requires places { places.old ≡ replicate (length net.now.gates) None }
-    ensures kept { OnOk result (AreKeptBelow net.now blocks.now d.new (values_under d.new given.now) (length blocks.now.list) places.new) }
-    ensures loops { IfOk result (λ loops. HasEachLoopOnce blocks.now loops.items) }
-    ensures steps { IfOk result (λ loops. All (AreKeptSteps net.now blocks.now cut.now d.new (values_under d.new given.now)) loops.items) }
+    requires given { AreGiven looped.now.net d.old given.now }
+    requires places { places.old ≡ replicate (length looped.now.net.gates) None }
+    ensures kept { OnOk result (AreKeptBelow looped.now d.new (values_under d.new given.now) (length looped.now.blocks.list) places.new) }
+    ensures loops { IfOk result (λ loops. HasEachLoopOnce looped.now.blocks loops.items) }
+    ensures steps { IfOk result (λ loops. All (AreKeptSteps looped.now.net looped.now.blocks looped.now.cut d.new (values_under d.new given.now)) loops.items) }
     ensures roots { RootsStay d.old d.new }
-    ensures adds { AddsWithin result d.old d.new (HasLargeCover net.now) (IsWide d.old.vars (IsWorking net.now (loops_by blocks.now cut.now) (values_under d.old given.now)))
-        (10 * (length net.now.gates + 2) * effort net.now) }
+    ensures adds { AddsWithin result d.old d.new (HasLargeCover looped.now.net) (IsWide d.old.vars (IsWorking looped.now.net (loops_by looped.now.blocks looped.now.cut) (values_under d.old given.now)))
+        (10 * (length looped.now.net.gates + 2) * effort looped.now.net) }
 {
     d.store().laws();
-    let (mut before, mut rails) = first_wires(alloc, d, given, net.gates() as usize)?;
-    let loops = solve_blocks(
-        alloc,
-        d,
-        net,
-        blocks,
-        cut,
-        given,
-        &mut before,
-        &mut rails,
-        places,
-    )?;
+    let (mut before, mut rails) = first_wires(alloc, d, given, looped.net().gates() as usize)?;
+    let loops = solve_blocks(alloc, d, looped, given, &mut before, &mut rails, places)?;
     Ok(loops)
+}
+
+/// Solves all blocks, and hands out what was kept.
+fn solve_looped(
+    alloc: Global,
+    d: &mut Diagrams,
+    looped: &LoopedNetlist<'_>,
+    given: Vec<KeptRails>,
+) -> Result<Solved, StoreFault>
+    requires { AreGiven looped.now.net d.old given.items }
+    ensures solution { IfOk result (IsSolution looped.now.net looped.now.blocks looped.now.cut d.new (values_under d.old given.items)) }
+    ensures roots { RootsStay d.old d.new }
+    ensures reached { OnOk result (AllReached d.new) }
+    ensures adds { AddsWithin result d.old d.new (HasLargeCover looped.now.net) (IsWide d.old.vars (IsWorking looped.now.net (loops_by looped.now.blocks looped.now.cut) (values_under d.old given.items)))
+        (10 * (length looped.now.net.gates + 2) * effort looped.now.net) }
+{
+    d.store().laws();
+    let mut places = empty_places(alloc, looped.net().gates() as usize)?;
+    let loops = solve_gates(alloc, d, looped, &given, &mut places)?;
+    Ok(hand_out(d, given, places, loops)?)
 }
 
 /// The rails of the fixpoint, for each signal, where the inputs and then the latches have the given rails: block
@@ -285,8 +271,6 @@ pub fn solve(
     ensures adds { AddsWithin result d.old d.new (HasLargeCover net.now) (IsWide d.old.vars (IsWorking net.now (loops_by blocks.now cut.now) (values_under d.old given.items)))
         (10 * (length net.now.gates + 2) * effort net.now) }
 {
-    d.store().laws();
-    let mut places = empty_places(alloc, net.gates() as usize)?;
-    let loops = solve_gates(alloc, d, net, blocks, cut, &given, &mut places)?;
-    Ok(hand_out(d, given, places, loops)?)
+    let looped = LoopedNetlist::new(net, blocks, cut);
+    solve_looped(alloc, d, &looped, given)
 }

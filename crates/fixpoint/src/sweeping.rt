@@ -4,9 +4,8 @@ ghost use Rattle.std.specs.Prelude.{◌≡◌, ◌<◌, ◌≤◌, ◌+◌, ◌*
 ghost use Rattle.bdd_store.specs.Arena.{Arena};
 ghost use Rattle.bdd_store.specs.Growth.{KeepsNodes, GrowsWithin, NoOtherCause};
 ghost use Rattle.dual_rail.specs.Rails.{AreRailsOf};
-ghost use Rattle.loops.specs.declared.structure.Blocks.{Blocks as TheBlocks};
-ghost use Rattle.loops.specs.Blocks.{AreBlocksOf, block_at, home_of};
-ghost use Rattle.loops.specs.Cuts.{IsCutOf, is_cut, loops_by};
+ghost use Rattle.loops.specs.Blocks.{block_at, home_of};
+ghost use Rattle.loops.specs.Cuts.{is_cut, loops_by};
 ghost use Rattle.loops.specs.Sweeps.{first_gate};
 ghost use Rattle.fixpoint.specs.Solved.{Vectors, IsLoopAt, AreStepsOf};
 ghost use Rattle.dual_rail.specs.WorkingLists.{IsWide};
@@ -22,8 +21,7 @@ use bdd_ops::Diagrams;
 use bdd_store::StoreFault;
 use cyc_base::{Items, MAX_NODES};
 use dual_rail::Rails;
-use loops::{Blocks, Cut, LoopedNetlist};
-use netlist::Netlist;
+use loops::{Cut, LoopedNetlist};
 use std::alloc::{AllocError, Global};
 
 /// What a loop is swept by.
@@ -42,33 +40,41 @@ pub struct LoopPlan {
 fn sweep(
     alloc: Global,
     d: &mut Diagrams,
-    net: &Netlist,
-    cut: &Cut,
+    looped: &LoopedNetlist<'_>,
     order: &[u32],
     locals: &Locals,
     before: &[Rails],
     rails: &mut [Rails],
 ) -> Result<(), StoreFault>
-    requires cut { IsCutOf net.now cut.now }
-    requires order { All (λ n. n < length net.now.gates) order.now }
-    requires locals { AreLocalsOf net.now order.now locals.now }
-    requires wires { AreWires net.now d.old before.now rails.old }
-    ensures swept { (blocks : TheBlocks) (b : ℕ) (v : Vectors) (c : States) →
-        IsSweepable net.now blocks cut.now d.old v c b order.now before.now rails.old →
-        OnOk result (AreSwept net.now blocks cut.now d.new v c (λ n. home_of blocks n ≡ b) rails.new) }
-    ensures others { OnOk result (OthersStay net.now order.now rails.old rails.new) }
-    ensures wires { OnOk result (AreWires net.now d.new before.now rails.new) }
+    requires order { All (λ n. n < length looped.now.net.gates) order.now }
+    requires locals { AreLocalsOf looped.now.net order.now locals.now }
+    requires wires { AreWires looped.now.net d.old before.now rails.old }
+    ensures swept { (b : ℕ) (v : Vectors) (c : States) →
+        IsSweepable looped.now d.old v c b order.now before.now rails.old →
+        OnOk result (AreSwept looped.now d.new v c (λ n. home_of looped.now.blocks n ≡ b) rails.new) }
+    ensures others { OnOk result (OthersStay looped.now.net order.now rails.old rails.new) }
+    ensures wires { OnOk result (AreWires looped.now.net d.new before.now rails.new) }
     ensures keeps { KeepsNodes d.old d.new }
-    ensures grows { (blocks : TheBlocks) (b k : ℕ) (v : Vectors) →
-        IsSweepable net.now blocks cut.now d.old v (after_sweeps net.now blocks cut.now v k) b order.now before.now rails.old →
-        k ≤ length (filter (is_cut cut.now.wires) (block_at blocks b).gates) →
-        GrowsWithin result d.old d.new NoOtherCause (IsWide d.old.vars (IsWorking net.now (loops_by blocks cut.now) v)) (2 * order_cost net.now order.now) }
+    ensures grows { (b k : ℕ) (v : Vectors) →
+        IsSweepable looped.now d.old v (after_sweeps looped.now v k) b order.now before.now rails.old →
+        k ≤ length (filter (is_cut looped.now.cut.wires) (block_at looped.now.blocks b).gates) →
+        GrowsWithin result d.old d.new NoOtherCause (IsWide d.old.vars (IsWorking looped.now.net (loops_by looped.now.blocks looped.now.cut) v)) (2 * order_cost looped.now.net order.now) }
 {
     for place in 0..order.len() {
         let diagram = locals.at(place);
-        set_by_diagram(alloc, d, net, cut, before, rails, order[place], diagram)?;
+        set_by_diagram(alloc, d, looped, before, rails, order[place], diagram)?;
     }
     Ok(())
+}
+
+/// The gates of the block at a place.
+pub(crate) fn gates_of<'a>(looped: &LoopedNetlist<'a>, place: usize) -> &'a [u32]
+    requires { place < length looped.now.blocks.list }
+    ensures gates { result.now ≡ (block_at looped.now.blocks place).gates }
+    ensures some { 0 < length result.now }
+    ensures home { All (λ n. (n < length looped.now.net.gates) × (home_of looped.now.blocks n ≡ place)) result.now }
+{
+    looped.blocks().list.items()[place].gates.items()
 }
 
 /// The cut wires among these gates.
@@ -125,22 +131,18 @@ fn keep_cuts(cuts: &[u32], first: usize, rails: &[Rails], before: &mut [Rails])
 /// limit.
 fn plan_loop(
     alloc: Global,
-    net: &Netlist,
-    blocks: &Blocks,
-    cut: &Cut,
+    looped: &LoopedNetlist<'_>,
     place: u32,
     limit: u32,
 ) -> Result<LoopPlan, StoreFault>
-    requires blocks { AreBlocksOf net.now blocks.now }
-    requires cut { IsCutOf net.now cut.now }
-    requires at { IsLoopAt blocks.now place }
+    requires at { IsLoopAt looped.now.blocks place }
     requires limit { limit ≤ MAX_NODES }
-    ensures plan { IfOk result (IsPlanOf net.now blocks.now cut.now place) }
-    ensures full { result ≡ Err StoreFault.Full → HasLargeCover net.now limit }
+    ensures plan { IfOk result (IsPlanOf looped.now place) }
+    ensures full { result ≡ Err StoreFault.Full → HasLargeCover looped.now.net limit }
 {
-    let gates = blocks.list.items()[place as usize].gates.items();
-    let cuts = cuts_among(alloc, cut, gates)?;
-    let looped = LoopedNetlist::new(net, blocks, cut);
+    let net = looped.net();
+    let cut = looped.cut();
+    let cuts = cuts_among(alloc, cut, gates_of(looped, place as usize))?;
     let order = looped.order_of_block(alloc, place)?;
     let locals = Locals::of(alloc, net, &order, limit)?;
     Ok(LoopPlan {
@@ -155,26 +157,25 @@ fn plan_loop(
 fn sweep_once(
     alloc: Global,
     d: &mut Diagrams,
-    net: &Netlist,
-    cut: &Cut,
+    looped: &LoopedNetlist<'_>,
     plan: &LoopPlan,
     before: &mut [Rails],
     rails: &mut [Rails],
     steps: &mut Vec<Items<Rails>>,
 ) -> Result<bool, StoreFault>
-    requires cut { IsCutOf net.now cut.now }
-    requires plan { IsPlan net.now plan.now }
-    requires wires { AreWires net.now d.old before.old rails.old }
-    ensures wires { OnOk result (AreWires net.now d.new before.new rails.new) }
-    ensures others { OnOk result (OthersStay net.now plan.now.order rails.old rails.new) }
-    ensures swept { (blocks : TheBlocks) (b : ℕ) (v : Vectors) → IsPlanOf net.now blocks cut.now b plan.now →
-        IsUnderway net.now blocks cut.now d.old v b plan.now.cuts steps.old.items before.old rails.old →
-        IfOk result (λ still. IsSweptOnce net.now blocks cut.now d.new v b plan.now.cuts steps.new.items before.new rails.new still) }
+    requires plan { IsPlan looped.now.net plan.now }
+    requires wires { AreWires looped.now.net d.old before.old rails.old }
+    ensures wires { OnOk result (AreWires looped.now.net d.new before.new rails.new) }
+    ensures others { OnOk result (OthersStay looped.now.net plan.now.order rails.old rails.new) }
+    ensures swept { (b : ℕ) (v : Vectors) → IsPlanOf looped.now b plan.now →
+        IsUnderway looped.now d.old v b plan.now.cuts steps.old.items before.old rails.old →
+        IfOk result (λ still. IsSweptOnce looped.now d.new v b plan.now.cuts steps.new.items before.new rails.new still) }
     ensures longer { OnOk result (length steps.new.items ≡ length steps.old.items + 1) }
-    ensures grows { (blocks : TheBlocks) (b : ℕ) (v : Vectors) → IsPlanOf net.now blocks cut.now b plan.now →
-        IsUnderway net.now blocks cut.now d.old v b plan.now.cuts steps.old.items before.old rails.old →
-        GrowsWithin result d.old d.new NoOtherCause (IsWide d.old.vars (IsWorking net.now (loops_by blocks cut.now) v)) (2 * order_cost net.now plan.now.order) }
+    ensures grows { (b : ℕ) (v : Vectors) → IsPlanOf looped.now b plan.now →
+        IsUnderway looped.now d.old v b plan.now.cuts steps.old.items before.old rails.old →
+        GrowsWithin result d.old d.new NoOtherCause (IsWide d.old.vars (IsWorking looped.now.net (loops_by looped.now.blocks looped.now.cut) v)) (2 * order_cost looped.now.net plan.now.order) }
 {
+    let net = looped.net();
     let first = net.inputs() as usize + net.latches() as usize;
     let cuts = plan.cuts.items();
     let step = step_of(alloc, cuts, before)?;
@@ -182,8 +183,7 @@ fn sweep_once(
     sweep(
         alloc,
         d,
-        net,
-        cut,
+        looped,
         plan.order.items(),
         &plan.locals,
         before,
@@ -201,30 +201,26 @@ fn sweep_once(
 pub(crate) fn solve_loop(
     alloc: Global,
     d: &mut Diagrams,
-    net: &Netlist,
-    blocks: &Blocks,
-    cut: &Cut,
+    looped: &LoopedNetlist<'_>,
     place: u32,
     before: &mut [Rails],
     rails: &mut [Rails],
 ) -> Result<SweptLoop, StoreFault>
-    requires blocks { AreBlocksOf net.now blocks.now }
-    requires cut { IsCutOf net.now cut.now }
-    requires at { IsLoopAt blocks.now place }
-    requires solved { IsSolvedBelow net.now blocks.now cut.now d.old (vectors net.now d.old rails.old) place before.old rails.old }
-    requires fresh { AreFresh net.now blocks.now place before.old }
-    ensures steps { IfOk result (AreStepsOf net.now blocks.now cut.now d.new (vectors net.now d.old rails.old)) }
+    requires at { IsLoopAt looped.now.blocks place }
+    requires solved { IsSolvedBelow looped.now d.old (vectors looped.now.net d.old rails.old) place before.old rails.old }
+    requires fresh { AreFresh looped.now place before.old }
+    ensures steps { IfOk result (AreStepsOf looped.now.net looped.now.blocks looped.now.cut d.new (vectors looped.now.net d.old rails.old)) }
     ensures block { IfOk result (λ steps. steps.block ≡ place) }
-    ensures solved { OnOk result (IsSolvedBelow net.now blocks.now cut.now d.new (vectors net.now d.old rails.old) (place + 1) before.new rails.new) }
-    ensures fresh { OnOk result (AreFresh net.now blocks.now (place + 1) before.new) }
-    ensures given { OnOk result (take (first_gate net.now) rails.new ≡ take (first_gate net.now) rails.old) }
-    ensures grows { GrowsWithin result d.old d.new (HasLargeCover net.now) (IsWide d.old.vars (IsWorking net.now (loops_by blocks.now cut.now) (vectors net.now d.old rails.old)))
-        (2 * ((length net.now.gates + 1) * block_cost net.now blocks.now place)) }
+    ensures solved { OnOk result (IsSolvedBelow looped.now d.new (vectors looped.now.net d.old rails.old) (place + 1) before.new rails.new) }
+    ensures fresh { OnOk result (AreFresh looped.now (place + 1) before.new) }
+    ensures given { OnOk result (take (first_gate looped.now.net) rails.new ≡ take (first_gate looped.now.net) rails.old) }
+    ensures grows { GrowsWithin result d.old d.new (HasLargeCover looped.now.net) (IsWide d.old.vars (IsWorking looped.now.net (loops_by looped.now.blocks looped.now.cut) (vectors looped.now.net d.old rails.old)))
+        (2 * ((length looped.now.net.gates + 1) * block_cost looped.now.net looped.now.blocks place)) }
 {
-    let plan = plan_loop(alloc, net, blocks, cut, place, d.store().limit())?;
+    let plan = plan_loop(alloc, looped, place, d.store().limit())?;
     let mut steps = Vec::new(alloc);
     loop {
-        let still = sweep_once(alloc, d, net, cut, &plan, before, rails, &mut steps)?;
+        let still = sweep_once(alloc, d, looped, &plan, before, rails, &mut steps)?;
         if still {
             return Ok(SweptLoop {
                 block: place,

@@ -16,7 +16,7 @@ use bdd_ops::Diagrams;
 use bdd_store::{Node, StoreFault};
 use cyc_base::{MAX_NODES, Sig};
 use dual_rail::{LocalDiagram, Rails, lift, local, sizes};
-use loops::Cut;
+use loops::LoopedNetlist;
 use netlist::Netlist;
 use std::alloc::{AllocError, Global};
 
@@ -51,17 +51,17 @@ pub(crate) fn wires(
 }
 
 /// The rails of a signal as gates read it: a cut wire as it was before the sweep.
-fn rails_read(net: &Netlist, cut: &Cut, before: &[Rails], rails: &[Rails], pin: Sig) -> Rails
-    requires pin { IsSignal net.now pin }
-    requires width { length rails.now ≡ first_gate net.now + length net.now.gates }
-    requires before { length before.now ≡ length net.now.gates }
-    requires cut { length cut.now.wires ≡ length net.now.gates }
-    ensures { result ≡ rails_read_of net.now cut.now before.now rails.now pin }
+fn rails_read(looped: &LoopedNetlist<'_>, before: &[Rails], rails: &[Rails], pin: Sig) -> Rails
+    requires pin { IsSignal looped.now.net pin }
+    requires width { length rails.now ≡ first_gate looped.now.net + length looped.now.net.gates }
+    requires before { length before.now ≡ length looped.now.net.gates }
+    ensures { result ≡ rails_read_of looped.now.net looped.now.cut before.now rails.now pin }
 {
+    let net = looped.net();
     let first = net.inputs() + net.latches();
     if pin.0 >= first {
         let gate = (pin.0 - first) as usize;
-        if cut.wires.items()[gate] {
+        if looped.cut().wires.items()[gate] {
             return before[gate];
         }
     }
@@ -71,20 +71,18 @@ fn rails_read(net: &Netlist, cut: &Cut, before: &[Rails], rails: &[Rails], pin: 
 /// The rails that the pins of a gate read.
 fn pins_read(
     alloc: Global,
-    net: &Netlist,
-    cut: &Cut,
+    looped: &LoopedNetlist<'_>,
     before: &[Rails],
     rails: &[Rails],
     pins: &[Sig],
 ) -> Result<Vec<Rails>, AllocError>
-    requires pins { All (IsSignal net.now) pins.now }
-    requires width { length rails.now ≡ first_gate net.now + length net.now.gates }
-    requires before { length before.now ≡ length net.now.gates }
-    requires cut { length cut.now.wires ≡ length net.now.gates }
-    ensures { IfOk result (λ list. list.items ≡ map (rails_read_of net.now cut.now before.now rails.now) pins.now) }
+    requires pins { All (IsSignal looped.now.net) pins.now }
+    requires width { length rails.now ≡ first_gate looped.now.net + length looped.now.net.gates }
+    requires before { length before.now ≡ length looped.now.net.gates }
+    ensures { IfOk result (λ list. list.items ≡ map (rails_read_of looped.now.net looped.now.cut before.now rails.now) pins.now) }
 {
     pins.iter()
-        .map(|pin| rails_read(net, cut, before, rails, *pin))
+        .map(|pin| rails_read(looped, before, rails, *pin))
         .collect(alloc)
 }
 
@@ -149,24 +147,23 @@ pub(crate) fn gate_rails(
 pub(crate) fn set_by_diagram(
     alloc: Global,
     d: &mut Diagrams,
-    net: &Netlist,
-    cut: &Cut,
+    looped: &LoopedNetlist<'_>,
     before: &[Rails],
     rails: &mut [Rails],
     gate: u32,
     diagram: &LocalDiagram,
 ) -> Result<(), StoreFault>
-    requires gate { gate < length net.now.gates }
-    requires diagram { IsDiagramOf diagram.now (gate_at net.now gate).cover }
-    requires cut { length cut.now.wires ≡ length net.now.gates }
-    requires wires { AreWires net.now d.old before.now rails.old }
-    ensures valid { IsNetlist net.now }
-    ensures set { OnOk result (IsGateSet net.now cut.now d.old d.new before.now rails.old rails.new gate) }
+    requires gate { gate < length looped.now.net.gates }
+    requires diagram { IsDiagramOf diagram.now (gate_at looped.now.net gate).cover }
+    requires wires { AreWires looped.now.net d.old before.now rails.old }
+    ensures valid { IsNetlist looped.now.net }
+    ensures set { OnOk result (IsGateSet looped.now.net looped.now.cut d.old d.new before.now rails.old rails.new gate) }
     ensures grows { GrowsWithin result d.old d.new NoOtherCause
-        (BoundsEach d.old.vars (IsExtended d.old (map (rails_read_of net.now cut.now before.now rails.old) (gate_at net.now gate).pins) (cover_value (gate_at net.now gate).cover)))
-        (2 * size (gate_at net.now gate).cover) }
+        (BoundsEach d.old.vars (IsExtended d.old (map (rails_read_of looped.now.net looped.now.cut before.now rails.old) (gate_at looped.now.net gate).pins) (cover_value (gate_at looped.now.net gate).cover)))
+        (2 * size (gate_at looped.now.net gate).cover) }
 {
-    let Ok(pins) = pins_read(alloc, net, cut, before, rails, net.gate(gate).pins.items()) else {
+    let net = looped.net();
+    let Ok(pins) = pins_read(alloc, looped, before, rails, net.gate(gate).pins.items()) else {
         return Err(StoreFault::Memory);
     };
     let made = lift_cover(alloc, d, net, gate, diagram, &pins)?;
@@ -178,22 +175,21 @@ pub(crate) fn set_by_diagram(
 pub(crate) fn set_gate(
     alloc: Global,
     d: &mut Diagrams,
-    net: &Netlist,
-    cut: &Cut,
+    looped: &LoopedNetlist<'_>,
     before: &[Rails],
     rails: &mut [Rails],
     gate: u32,
 ) -> Result<(), StoreFault>
-    requires gate { gate < length net.now.gates }
-    requires cut { length cut.now.wires ≡ length net.now.gates }
-    requires wires { AreWires net.now d.old before.now rails.old }
-    ensures valid { IsNetlist net.now }
-    ensures set { OnOk result (IsGateSet net.now cut.now d.old d.new before.now rails.old rails.new gate) }
-    ensures grows { GrowsWithin result d.old d.new (HasLargeCover net.now)
-        (BoundsEach d.old.vars (IsExtended d.old (map (rails_read_of net.now cut.now before.now rails.old) (gate_at net.now gate).pins) (cover_value (gate_at net.now gate).cover)))
-        (2 * size (gate_at net.now gate).cover) }
+    requires gate { gate < length looped.now.net.gates }
+    requires wires { AreWires looped.now.net d.old before.now rails.old }
+    ensures valid { IsNetlist looped.now.net }
+    ensures set { OnOk result (IsGateSet looped.now.net looped.now.cut d.old d.new before.now rails.old rails.new gate) }
+    ensures grows { GrowsWithin result d.old d.new (HasLargeCover looped.now.net)
+        (BoundsEach d.old.vars (IsExtended d.old (map (rails_read_of looped.now.net looped.now.cut before.now rails.old) (gate_at looped.now.net gate).pins) (cover_value (gate_at looped.now.net gate).cover)))
+        (2 * size (gate_at looped.now.net gate).cover) }
 {
+    let net = looped.net();
     let _gate = net.gate(gate);
     let diagram = local_of(alloc, net, gate, d.store().limit())?;
-    set_by_diagram(alloc, d, net, cut, before, rails, gate, &diagram)
+    set_by_diagram(alloc, d, looped, before, rails, gate, &diagram)
 }

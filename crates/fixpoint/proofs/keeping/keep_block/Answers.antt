@@ -1,4 +1,4 @@
-use Rattle.std.proofs.Common.{List, get_or, subst}
+use Rattle.std.proofs.Common.{get_or, subst}
 use Rattle.std.specs.Prelude.{Option, IfSome}
 use Rattle.fixpoint.proofs.Common.{All, AreRailsOf, SweptLoop}
 use Rattle.fixpoint.proofs.KeptLemmas.{GainsRoots-chain, All-rails-gained}

@@ -1,7 +1,7 @@
-use Rattle.std.proofs.Common.{◌≡◌, ◌+◌, ◌*◌, ℕ, List, length, get_or, refl, subst, sym, ap, ◌∙◌, arith, Contains}
-use Rattle.fixpoint.proofs.Common.{IsLawful, AddsWithin, adds_moved, adds_refused, adds_swept, IsWide, Block, block_at, home_of, no_block, loops_by, gate_home, get_or_default, first_gate, values_under, HoldsRails, RootsStay, rails_at, vectors, IsSolvedBelow, place_of, IsWorking, HasLargeCover, block_cost}
+use Rattle.std.proofs.Common.{◌≡◌, ◌+◌, ◌*◌, ℕ, length, get_or, refl, subst, sym, ap, arith}
+use Rattle.fixpoint.proofs.Common.{IsLawful, AddsWithin, adds_moved, adds_refused, adds_swept, IsWide, block_at, home_of, loops_by, first_gate, values_under, HoldsRails, RootsStay, rails_at, vectors, IsSolvedBelow, place_of, IsWorking, HasLargeCover, block_cost}
 use Rattle.fixpoint.specs.Sweeping.{IsFoundAt}
-use Rattle.fixpoint.proofs.BlockLemmas.{solved-same, first-of-block}
+use Rattle.fixpoint.proofs.BlockLemmas.{solved-same}
 use Rattle.fixpoint.proofs.BoundLemmas.{wide-same}
 use Rattle.fixpoint.proofs.KeptLemmas.{RootsStay-kept, RootsStay-gained, adds_lacking}
 use Rattle.fixpoint.proofs.KeepingLemmas.{vectors-are, solved-next, found-next, found-rails}
@@ -9,28 +9,27 @@ use Rattle.fixpoint.proofs.solving.solve_and_keep.Goals as goal
 use Rattle.fixpoint.proofs.solving.solve_and_keep.Goals.{After-solve_block}
 
 pub solve_block-requires-clause-gate : goal.solve_block-requires-clause-gate
-solve_block-requires-clause-gate c = (first-of-block c.args.net.now c.args.blocks.now c.requires.blocks c.items.result.now c.args.place c.index-items-place.result c.items-gates.result.now c.items.ensures (omega (arith, c.requires.place, ap length c.items.ensures)) c.index-items-place.is (c.items-gates.ensures ∙ ap (λ (x : Block). x.gates) (sym c.index-items-place.is))).0
+solve_block-requires-clause-gate c = (c.gates_of-gates.ensures.home 0 0 c.gates_of-gates.ensures.some).0
 
 pub solve_block-requires-clause-solved : goal.solve_block-requires-clause-solved
 solve_block-requires-clause-solved c =
     let is = c.requires.solved in
-    subst (λ (b : ℕ). IsSolvedBelow c.args.net.now c.args.blocks.now c.args.cut.now c.args.d.now (vectors c.args.net.now c.args.d.now c.args.rails.now) b c.args.before.now c.args.rails.now) (sym (first-of-block c.args.net.now c.args.blocks.now c.requires.blocks c.items.result.now c.args.place c.index-items-place.result c.items-gates.result.now c.items.ensures (omega (arith, c.requires.place, ap length c.items.ensures)) c.index-items-place.is (c.items-gates.ensures ∙ ap (λ (x : Block). x.gates) (sym c.index-items-place.is))).1)
-    (solved-same (values_under c.args.d.now c.args.given.now) (vectors c.args.net.now c.args.d.now c.args.rails.now) (λ bits. sym (vectors-are is.solved bits)) is.solved)
+    subst (λ (b : ℕ). IsSolvedBelow c.args.looped.now c.args.d.now (vectors c.args.looped.now.net c.args.d.now c.args.rails.now) b c.args.before.now c.args.rails.now) (sym (c.gates_of-gates.ensures.home 0 0 c.gates_of-gates.ensures.some).1)
+    (solved-same (values_under c.args.d.now c.args.given.now) (vectors c.args.looped.now.net c.args.d.now c.args.rails.now) (λ bits. sym (vectors-are is.solved bits)) is.solved)
 
 pub solve_block-requires-clause-fresh : goal.solve_block-requires-clause-fresh
 solve_block-requires-clause-fresh c n less later =
-    let home = (first-of-block c.args.net.now c.args.blocks.now c.requires.blocks c.items.result.now c.args.place c.index-items-place.result c.items-gates.result.now c.items.ensures (omega (arith, c.requires.place, ap length c.items.ensures)) c.index-items-place.is (c.items-gates.ensures ∙ ap (λ (x : Block). x.gates) (sym c.index-items-place.is))).1 in
+    let home = (c.gates_of-gates.ensures.home 0 0 c.gates_of-gates.ensures.some).1 in
     c.requires.solved.fresh n less (omega (arith, later, home))
 
 -- what the block adds
-block-adds : (c : After-solve_block) → AddsWithin c.solve_block.result c.args.d.now c.solve_block.new.d (HasLargeCover c.args.net.now) (IsWide c.args.d.now.vars (IsWorking c.args.net.now (loops_by c.args.blocks.now c.args.cut.now) (values_under c.args.d.now c.args.given.now)))
-    (2 * ((length c.args.net.now.gates + 1) * block_cost c.args.net.now c.args.blocks.now c.args.place))
+block-adds : (c : After-solve_block) → AddsWithin c.solve_block.result c.args.d.now c.solve_block.new.d (HasLargeCover c.args.looped.now.net) (IsWide c.args.d.now.vars (IsWorking c.args.looped.now.net (loops_by c.args.looped.now.blocks c.args.looped.now.cut) (values_under c.args.d.now c.args.given.now)))
+    (2 * ((length c.args.looped.now.net.gates + 1) * block_cost c.args.looped.now.net c.args.looped.now.blocks c.args.place))
 block-adds c =
-    let net = c.args.net.now in
-    let home = (first-of-block c.args.net.now c.args.blocks.now c.requires.blocks c.items.result.now c.args.place c.index-items-place.result c.items-gates.result.now c.items.ensures (omega (arith, c.requires.place, ap length c.items.ensures)) c.index-items-place.is (c.items-gates.ensures ∙ ap (λ (x : Block). x.gates) (sym c.index-items-place.is))).1 in
-    adds_moved (λ w wide. wide-same net (loops_by c.args.blocks.now c.args.cut.now) (vectors c.args.net.now c.args.d.now c.args.rails.now) (values_under c.args.d.now c.args.given.now) c.args.d.now c.args.d.now refl (vectors-are c.requires.solved.solved) wide)
-    (subst (λ (b : ℕ). AddsWithin c.solve_block.result c.args.d.now c.solve_block.new.d (HasLargeCover c.args.net.now) (IsWide c.args.d.now.vars (IsWorking c.args.net.now (loops_by c.args.blocks.now c.args.cut.now) (vectors c.args.net.now c.args.d.now c.args.rails.now)))
-    (2 * ((length c.args.net.now.gates + 1) * block_cost c.args.net.now c.args.blocks.now b))) home c.solve_block.ensures.grows.adds)
+    let home = (c.gates_of-gates.ensures.home 0 0 c.gates_of-gates.ensures.some).1 in
+    adds_moved (λ w wide. wide-same c.args.looped.now.net (loops_by c.args.looped.now.blocks c.args.looped.now.cut) (vectors c.args.looped.now.net c.args.d.now c.args.rails.now) (values_under c.args.d.now c.args.given.now) c.args.d.now c.args.d.now refl (vectors-are c.requires.solved.solved) wide)
+    (subst (λ (b : ℕ). AddsWithin c.solve_block.result c.args.d.now c.solve_block.new.d (HasLargeCover c.args.looped.now.net) (IsWide c.args.d.now.vars (IsWorking c.args.looped.now.net (loops_by c.args.looped.now.blocks c.args.looped.now.cut) (vectors c.args.looped.now.net c.args.d.now c.args.rails.now)))
+    (2 * ((length c.args.looped.now.net.gates + 1) * block_cost c.args.looped.now.net c.args.looped.now.blocks b))) home c.solve_block.ensures.grows.adds)
 
 pub returns-in_err-found-clause-roots : goal.returns-in_err-found-clause-roots
 returns-in_err-found-clause-roots c = RootsStay-kept (subst IsLawful c.store.ensures c.laws.ensures) c.solve_block.ensures.grows.keeps
@@ -39,12 +38,8 @@ pub returns-in_err-found-clause-adds : goal.returns-in_err-found-clause-adds
 returns-in_err-found-clause-adds c = adds_refused c.in_err-found.was c.from_residual.ensures.1 (block-adds ((goal.at.returns-in_err-found-clause-adds c).After-solve_block))
 
 pub keep_block-requires-clause-gates : goal.keep_block-requires-clause-gates
-keep_block-requires-clause-gates c =
-    let gates_are : c.items-gates.result.now ≡ (block_at c.args.blocks.now c.args.place).gates = c.items-gates.ensures ∙ ap (λ (x : Block). x.gates) (ap (λ (xs : List Block). get_or xs c.args.place c.index-items-place.result) c.items.ensures
-    ∙ get_or_default c.args.blocks.now.list c.args.place c.index-items-place.result no_block c.requires.place) in
-    λ k none less.
-    let has : Contains (block_at c.args.blocks.now c.args.place).gates (get_or c.items-gates.result.now k none) = subst (λ (ns : List ℕ). Contains ns (get_or c.items-gates.result.now k none)) gates_are (k, less, get_or_default c.items-gates.result.now k (get_or c.items-gates.result.now k none) none less) in
-    let at = (gate_home c.args.net.now c.args.blocks.now c.requires.blocks c.args.place (get_or c.items-gates.result.now k none) c.requires.place has).0 in
+keep_block-requires-clause-gates c k none less =
+    let at = (c.gates_of-gates.ensures.home k none less).0 in
     let width = c.requires.solved.kept.width in
     omega (arith, at, width)
 
@@ -52,11 +47,11 @@ pub keep_block-requires-clause-width : goal.keep_block-requires-clause-width
 keep_block-requires-clause-width c =
     let width = c.in_ok-found.ensures.solved.wires.width in
     let places = c.requires.solved.kept.width in
-    omega (arith, width, places, c.inputs.ensures.inputs, c.latches.ensures.latches)
+    omega (arith, width, places, c.inputs.ensures.inputs, c.latches.ensures.latches, ap first_gate c.net-net.ensures.net)
 
 pub keep_block-requires-clause-steps : goal.keep_block-requires-clause-steps
 keep_block-requires-clause-steps c =
-    found-rails c.args.net.now c.args.blocks.now c.args.cut.now c.solve_block.new.d (vectors c.args.net.now c.args.d.now c.args.rails.now) (home_of c.args.blocks.now (get_or c.items-gates.result.now 0 0)) c.in_ok-found.found c.in_ok-found.ensures.steps
+    found-rails c.args.looped.now c.solve_block.new.d (vectors c.args.looped.now.net c.args.d.now c.args.rails.now) (home_of c.args.looped.now.blocks (get_or c.gates_of-gates.result.now 0 0)) c.in_ok-found.found c.in_ok-found.ensures.steps
 
 pub returns-in_err-keep_block-clause-roots : goal.returns-in_err-keep_block-clause-roots
 returns-in_err-keep_block-clause-roots c = RootsStay-gained (subst IsLawful c.store.ensures c.laws.ensures) c.solve_block.ensures.grows.keeps c.keep_block.ensures.gains
@@ -73,16 +68,13 @@ returns-clause-adds c = adds_swept (omega (arith, ap length c.keep_block.ensures
 
 pub returns-clause-solved : goal.returns-clause-solved
 returns-clause-solved c =
-    let net = c.args.net.now in
-    let blocks = c.args.blocks.now in
     let stay : RootsStay c.args.d.now c.keep_block.new.d = RootsStay-gained (subst IsLawful c.store.ensures c.laws.ensures) c.solve_block.ensures.grows.keeps c.keep_block.ensures.gains in
-    let first_is : c.inputs.result + c.latches.result ≡ first_gate c.args.net.now = omega (arith, c.inputs.ensures.inputs, c.latches.ensures.latches) in
-    let gates_are : c.items-gates.result.now ≡ (block_at c.args.blocks.now c.args.place).gates = c.items-gates.ensures ∙ ap (λ (x : Block). x.gates) (ap (λ (xs : List Block). get_or xs c.args.place c.index-items-place.result) c.items.ensures
-    ∙ get_or_default c.args.blocks.now.list c.args.place c.index-items-place.result no_block c.requires.place) in
-    let home = (first-of-block c.args.net.now c.args.blocks.now c.requires.blocks c.items.result.now c.args.place c.index-items-place.result c.items-gates.result.now c.items.ensures (omega (arith, c.requires.place, ap length c.items.ensures)) c.index-items-place.is (c.items-gates.ensures ∙ ap (λ (x : Block). x.gates) (sym c.index-items-place.is))).1 in
-    solved-next net blocks c.requires.blocks c.args.cut.now stay c.keep_block.ensures.gains c.args.given.now c.args.place c.requires.place c.args.before.now c.args.rails.now c.args.places.now c.requires.solved c.solve_block.new.before c.solve_block.new.rails c.keep_block.new.places
-    c.items-gates.result.now gates_are
-    (subst (λ (b : ℕ). IsSolvedBelow c.args.net.now c.args.blocks.now c.args.cut.now c.solve_block.new.d (vectors c.args.net.now c.args.d.now c.args.rails.now) (b + 1) c.solve_block.new.before c.solve_block.new.rails) home c.in_ok-found.ensures.solved)
+    let first_is : c.inputs.result + c.latches.result ≡ first_gate c.args.looped.now.net = omega (arith, c.inputs.ensures.inputs, c.latches.ensures.latches, ap first_gate c.net-net.ensures.net) in
+    let gates_are : c.gates_of-gates.result.now ≡ (block_at c.args.looped.now.blocks c.args.place).gates = c.gates_of-gates.ensures.gates in
+    let home = (c.gates_of-gates.ensures.home 0 0 c.gates_of-gates.ensures.some).1 in
+    solved-next c.args.looped.now c.net-net.ensures.looped stay c.keep_block.ensures.gains c.args.given.now c.args.place c.requires.place c.args.before.now c.args.rails.now c.args.places.now c.requires.solved c.solve_block.new.before c.solve_block.new.rails c.keep_block.new.places
+    c.gates_of-gates.result.now gates_are
+    (subst (λ (b : ℕ). IsSolvedBelow c.args.looped.now c.solve_block.new.d (vectors c.args.looped.now.net c.args.d.now c.args.rails.now) (b + 1) c.solve_block.new.before c.solve_block.new.rails) home c.in_ok-found.ensures.solved)
     (λ n less later. c.in_ok-found.ensures.fresh n less (omega (arith, later, home)))
     c.keep_block.auto.places
     (λ n has. subst (λ (m : ℕ). HoldsRails c.keep_block.new.d (place_of c.keep_block.new.places n) (rails_at c.solve_block.new.rails (m + n))) first_is (c.in_ok-keep_block.ensures.kept n has))
@@ -91,8 +83,8 @@ returns-clause-solved c =
 pub returns-clause-steps : goal.returns-clause-steps
 returns-clause-steps c =
     let stay : RootsStay c.args.d.now c.keep_block.new.d = RootsStay-gained (subst IsLawful c.store.ensures c.laws.ensures) c.solve_block.ensures.grows.keeps c.keep_block.ensures.gains in
-    let home = (first-of-block c.args.net.now c.args.blocks.now c.requires.blocks c.items.result.now c.args.place c.index-items-place.result c.items-gates.result.now c.items.ensures (omega (arith, c.requires.place, ap length c.items.ensures)) c.index-items-place.is (c.items-gates.ensures ∙ ap (λ (x : Block). x.gates) (sym c.index-items-place.is))).1 in
-    found-next c.args.net.now c.args.blocks.now c.requires.blocks c.args.cut.now stay c.keep_block.ensures.gains c.args.given.now c.args.place c.requires.place c.args.before.now c.args.rails.now c.args.places.now c.requires.solved c.solve_block.new.before c.solve_block.new.rails c.keep_block.new.places
+    let home = (c.gates_of-gates.ensures.home 0 0 c.gates_of-gates.ensures.some).1 in
+    found-next c.args.looped.now c.net-net.ensures.looped stay c.keep_block.ensures.gains c.args.given.now c.args.place c.requires.place c.args.before.now c.args.rails.now c.args.places.now c.requires.solved c.solve_block.new.before c.solve_block.new.rails c.keep_block.new.places
     c.in_ok-found.found c.in_ok-keep_block.field-0
-    (subst (λ (b : ℕ). IsFoundAt c.args.net.now c.args.blocks.now c.args.cut.now c.solve_block.new.d (vectors c.args.net.now c.args.d.now c.args.rails.now) b c.in_ok-found.found) home c.in_ok-found.ensures.steps)
+    (subst (λ (b : ℕ). IsFoundAt c.args.looped.now c.solve_block.new.d (vectors c.args.looped.now.net c.args.d.now c.args.rails.now) b c.in_ok-found.found) home c.in_ok-found.ensures.steps)
     c.in_ok-keep_block.ensures.keys c.in_ok-keep_block.ensures.steps

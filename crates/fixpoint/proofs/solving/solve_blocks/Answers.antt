@@ -1,5 +1,5 @@
 use Rattle.std.proofs.Common.{◌≡◌, ◌+◌, ◌*◌, ◌++◌, length, get_or, subst, sym, ap, arith}
-use Rattle.fixpoint.proofs.Common.{All, option_to_list, AddsWithin, adds_more, adds_moved, adds_refused, adds_swept, IsWide, loops_by, values_under, RootsStay, AreKeptSteps, IsWorking, HasLargeCover, below_cost}
+use Rattle.fixpoint.proofs.Common.{All, option_to_list, AddsWithin, adds_more, adds_moved, adds_refused, adds_swept, IsWide, loops_by, values_under, RootsStay, AreKeptSteps, Blocks, Looped, IsWorking, HasLargeCover, below_cost}
 use Rattle.bdd_store.proofs.GrowthLemmas.{adds_then, adds_answered}
 use Rattle.fixpoint.specs.Sweeping.{IsKeptAt}
 use Rattle.fixpoint.proofs.BlockLemmas.{HasLoopsBelow, loops-start, loops-end}
@@ -10,14 +10,14 @@ use Rattle.fixpoint.proofs.solving.solve_blocks.Goals as goal
 use Rattle.fixpoint.proofs.solving.solve_blocks.Goals.{After-solve_with_retry}
 
 -- one block more
-step : (c : After-solve_with_retry) → AddsWithin c.solve_with_retry.result c.args.d.now c.solve_with_retry.new.d (HasLargeCover c.args.net.now) (IsWide c.args.d.now.vars (IsWorking c.args.net.now (loops_by c.args.blocks.now c.args.cut.now) (values_under c.args.d.now c.args.given.now)))
-    (4 * ((length c.args.net.now.gates + 1) * below_cost c.args.net.now c.args.blocks.now (c.loop-place.place + 1)))
+step : (c : After-solve_with_retry) → AddsWithin c.solve_with_retry.result c.args.d.now c.solve_with_retry.new.d (HasLargeCover c.args.looped.now.net) (IsWide c.args.d.now.vars (IsWorking c.args.looped.now.net (loops_by c.args.looped.now.blocks c.args.looped.now.cut) (values_under c.args.d.now c.args.given.now)))
+    (4 * ((length c.args.looped.now.net.gates + 1) * below_cost c.args.looped.now.net c.args.looped.now.blocks (c.loop-place.place + 1)))
 step c =
     let inv = c.loop-place.invariant in
     let keys = c.requires.solved.given_are.keys in
-    adds_more (below-next c.args.net.now c.args.blocks.now c.loop-place.place)
+    adds_more (below-next c.args.looped.now.net c.args.looped.now.blocks c.loop-place.place)
     (adds_then inv.roots.limit inv.adds
-    (adds_moved (λ w wide. wide-same c.args.net.now (loops_by c.args.blocks.now c.args.cut.now) (values_under c.loop-place.d c.args.given.now) (values_under c.args.d.now c.args.given.now) c.args.d.now c.loop-place.d inv.roots.vars (values-stay inv.roots c.args.given.now keys) wide)
+    (adds_moved (λ w wide. wide-same c.args.looped.now.net (loops_by c.args.looped.now.blocks c.args.looped.now.cut) (values_under c.loop-place.d c.args.given.now) (values_under c.args.d.now c.args.given.now) c.args.d.now c.loop-place.d inv.roots.vars (values-stay inv.roots c.args.given.now keys) wide)
     c.solve_with_retry.ensures.adds))
 
 pub loop-place-init : goal.loop-place-init
@@ -26,13 +26,13 @@ loop-place-init c =
     record {
       roots = c.sweep_store.ensures.roots;
       adds = adds_swept c.sweep_store.ensures.fewer nothing_added;
-      solved = solved-anew c.args.net.now c.args.blocks.now c.args.cut.now c.sweep_store.ensures.roots c.args.given.now 0 c.args.before.now c.args.rails.now c.args.places.now c.requires.solved c.sweep_store.new.before c.sweep_store.new.rails read.before read.rails;
-      loops = subst (HasLoopsBelow c.args.blocks.now 0) (sym c.new-loops.ensures.items) (loops-start c.args.blocks.now);
-      steps = subst (All (AreKeptSteps c.args.net.now c.args.blocks.now c.args.cut.now c.sweep_store.new.d (values_under c.sweep_store.new.d c.args.given.now))) (sym c.new-loops.ensures.items) (λ k none less. absurd (omega (arith, less)));
+      solved = solved-anew c.args.looped.now c.sweep_store.ensures.roots c.args.given.now 0 c.args.before.now c.args.rails.now c.args.places.now c.requires.solved c.sweep_store.new.before c.sweep_store.new.rails read.before read.rails;
+      loops = subst (HasLoopsBelow c.args.looped.now.blocks 0) (sym c.new-loops.ensures.items) (loops-start c.args.looped.now.blocks);
+      steps = subst (All (AreKeptSteps c.args.looped.now.net c.args.looped.now.blocks c.args.looped.now.cut c.sweep_store.new.d (values_under c.sweep_store.new.d c.args.given.now))) (sym c.new-loops.ensures.items) (λ k none less. absurd (omega (arith, less)));
     }
 
 pub solve_with_retry-requires-clause-place : goal.solve_with_retry-requires-clause-place
-solve_with_retry-requires-clause-place c = omega (arith, c.loop-place-test.true, ap length c.items-place-end.ensures)
+solve_with_retry-requires-clause-place c = omega (arith, c.loop-place-test.true, ap length c.items-place-end.ensures, ap (λ (x : Blocks). length x.list) c.blocks-2.ensures.blocks)
 
 pub sweep_if_due-requires-clause-given : goal.sweep_if_due-requires-clause-given
 sweep_if_due-requires-clause-given c = c.in_ok-found.ensures.solved.given_are.keys
@@ -42,26 +42,24 @@ sweep_if_due-requires-clause-places c = places-kept c.in_ok-found.ensures.solved
 
 pub loop-place-preserved : goal.loop-place-preserved
 loop-place-preserved c =
-    let net = c.args.net.now in
-    let blocks = c.args.blocks.now in
-    let cut = c.args.cut.now in
+    let l : Looped = c.args.looped.now in
     let b = c.loop-place.place in
     let given = c.args.given.now in
     let inv = c.loop-place.invariant in
     let one : RootsStay c.loop-place.d c.solve_with_retry.new.d = c.solve_with_retry.ensures.roots in
     let two : RootsStay c.solve_with_retry.new.d c.sweep_if_due.new.d = c.sweep_if_due.ensures.roots in
     let done = c.in_ok-found.ensures.solved in
-    let found : IsKeptAt net blocks cut c.sweep_if_due.new.d (values_under c.sweep_if_due.new.d given) b c.in_ok-found.found =
-    found-stays net blocks cut c.solve_with_retry.new.d c.sweep_if_due.new.d (values_under c.solve_with_retry.new.d given) (values_under c.sweep_if_due.new.d given) b c.in_ok-found.found two (λ bits. sym (values-stay two given done.given_are.keys bits)) c.in_ok-found.ensures.steps in
+    let found : IsKeptAt l c.sweep_if_due.new.d (values_under c.sweep_if_due.new.d given) b c.in_ok-found.found =
+    found-stays l c.solve_with_retry.new.d c.sweep_if_due.new.d (values_under c.solve_with_retry.new.d given) (values_under c.sweep_if_due.new.d given) b c.in_ok-found.found two (λ bits. sym (values-stay two given done.given_are.keys bits)) c.in_ok-found.ensures.steps in
     let whole : RootsStay c.loop-place.d c.sweep_if_due.new.d = RootsStay-chain one two in
     let items : c.add_loop.new.loops.items ≡ c.loop-place.loops.items ++ option_to_list c.in_ok-found.found = c.in_ok-add_loop.ensures in
     record {
       roots = RootsStay-chain inv.roots whole;
       adds = adds_swept c.sweep_if_due.ensures.fewer (step ((goal.at.loop-place-preserved c).After-solve_with_retry));
-      solved = c.in_ok-left.ensures.solved net blocks cut (b + 1) done;
-      loops = subst (HasLoopsBelow blocks (b + 1)) (sym items) (found-loops net blocks cut c.sweep_if_due.new.d (values_under c.sweep_if_due.new.d given) b c.loop-place.loops.items c.in_ok-found.found found inv.loops);
-      steps = subst (All (AreKeptSteps net blocks cut c.sweep_if_due.new.d (values_under c.sweep_if_due.new.d given))) (sym items)
-          (found-steps net blocks cut c.sweep_if_due.new.d (values_under c.sweep_if_due.new.d given) b c.loop-place.loops.items c.in_ok-found.found found
+      solved = c.in_ok-left.ensures.solved l (b + 1) done;
+      loops = subst (HasLoopsBelow l.blocks (b + 1)) (sym items) (found-loops l c.sweep_if_due.new.d (values_under c.sweep_if_due.new.d given) b c.loop-place.loops.items c.in_ok-found.found found inv.loops);
+      steps = subst (All (AreKeptSteps l.net l.blocks l.cut c.sweep_if_due.new.d (values_under c.sweep_if_due.new.d given))) (sym items)
+          (found-steps l c.sweep_if_due.new.d (values_under c.sweep_if_due.new.d given) b c.loop-place.loops.items c.in_ok-found.found found
           (λ k none less. steps-stay whole (λ bits. sym (values-stay whole given inv.solved.given_are.keys bits)) (get_or c.loop-place.loops.items k none) (inv.steps k none less)));
     }
 
@@ -70,26 +68,26 @@ returns-in_err-found-clause-roots c = RootsStay-chain c.loop-place.invariant.roo
 
 pub returns-in_err-found-clause-adds : goal.returns-in_err-found-clause-adds
 returns-in_err-found-clause-adds c =
-    adds_more (below-all c.args.net.now c.args.blocks.now (c.loop-place.place + 1)) (adds_refused c.in_err-found.was c.from_residual-in_err-found.ensures.1 (step ((goal.at.returns-in_err-found-clause-adds c).After-solve_with_retry)))
+    adds_more (below-all c.args.looped.now.net c.args.looped.now.blocks (c.loop-place.place + 1)) (adds_refused c.in_err-found.was c.from_residual-in_err-found.ensures.1 (step ((goal.at.returns-in_err-found-clause-adds c).After-solve_with_retry)))
 
 pub returns-in_err-left-clause-roots : goal.returns-in_err-left-clause-roots
 returns-in_err-left-clause-roots c = RootsStay-chain c.loop-place.invariant.roots (RootsStay-chain c.solve_with_retry.ensures.roots c.sweep_if_due.ensures.roots)
 
 pub returns-in_err-left-clause-adds : goal.returns-in_err-left-clause-adds
 returns-in_err-left-clause-adds c =
-    adds_more (below-all c.args.net.now c.args.blocks.now (c.loop-place.place + 1)) (adds_lacking c.from_residual-in_err-left.ensures.1 c.sweep_if_due.ensures.fewer (step ((goal.at.returns-in_err-left-clause-adds c).After-solve_with_retry)))
+    adds_more (below-all c.args.looped.now.net c.args.looped.now.blocks (c.loop-place.place + 1)) (adds_lacking c.from_residual-in_err-left.ensures.1 c.sweep_if_due.ensures.fewer (step ((goal.at.returns-in_err-left-clause-adds c).After-solve_with_retry)))
 
 pub returns-in_err-add_loop-clause-roots : goal.returns-in_err-add_loop-clause-roots
 returns-in_err-add_loop-clause-roots c = RootsStay-chain c.loop-place.invariant.roots (RootsStay-chain c.solve_with_retry.ensures.roots c.sweep_if_due.ensures.roots)
 
 pub returns-in_err-add_loop-clause-adds : goal.returns-in_err-add_loop-clause-adds
 returns-in_err-add_loop-clause-adds c =
-    adds_more (below-all c.args.net.now c.args.blocks.now (c.loop-place.place + 1)) (adds_lacking c.from_residual-in_err-add_loop.ensures.1 c.sweep_if_due.ensures.fewer (step ((goal.at.returns-in_err-add_loop-clause-adds c).After-solve_with_retry)))
+    adds_more (below-all c.args.looped.now.net c.args.looped.now.blocks (c.loop-place.place + 1)) (adds_lacking c.from_residual-in_err-add_loop.ensures.1 c.sweep_if_due.ensures.fewer (step ((goal.at.returns-in_err-add_loop-clause-adds c).After-solve_with_retry)))
 
 pub returns-clause-adds : goal.returns-clause-adds
-returns-clause-adds c = adds_more (below-all c.args.net.now c.args.blocks.now c.loop-place.place) (adds_answered c.loop-place.invariant.adds)
+returns-clause-adds c = adds_more (below-all c.args.looped.now.net c.args.looped.now.blocks c.loop-place.place) (adds_answered c.loop-place.invariant.adds)
 
 pub returns-clause-loops : goal.returns-clause-loops
 returns-clause-loops c =
     let past = c.loop-place-test.false in
-    loops-end c.args.blocks.now c.loop-place.place c.loop-place.loops.items (omega (arith, past, ap length c.items-place-end.ensures)) c.loop-place.invariant.loops
+    loops-end c.args.looped.now.blocks c.loop-place.place c.loop-place.loops.items (omega (arith, past, ap length c.items-place-end.ensures, ap (λ (x : Blocks). length x.list) c.blocks-2.ensures.blocks)) c.loop-place.invariant.loops

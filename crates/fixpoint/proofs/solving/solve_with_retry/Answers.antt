@@ -13,9 +13,9 @@ sweep_store-requires-clause-given c = All-kept-stay c.solve_and_keep.ensures.roo
 pub sweep_store-requires-clause-places : goal.sweep_store-requires-clause-places
 sweep_store-requires-clause-places c =
     let stay : RootsStay c.args.d.now c.solve_and_keep.new.d = c.solve_and_keep.ensures.roots in
-    let kept : AreKeptBelow c.args.net.now c.args.blocks.now c.solve_and_keep.new.d (values_under c.solve_and_keep.new.d c.args.given.now) c.args.place c.args.places.now =
+    let kept : AreKeptBelow c.args.looped.now c.solve_and_keep.new.d (values_under c.solve_and_keep.new.d c.args.given.now) c.args.place c.args.places.now =
     kept-stay stay (λ bits. sym (values-stay stay c.args.given.now c.requires.solved.given_are.keys bits)) c.requires.solved.kept in
-    places-kept (subst (AreKeptBelow c.args.net.now c.args.blocks.now c.solve_and_keep.new.d (values_under c.solve_and_keep.new.d c.args.given.now) c.args.place) (sym (c.in-Err-Full.ensures.places (ap Err c.in-Err-Full.field-0-is))) kept)
+    places-kept (subst (AreKeptBelow c.args.looped.now c.solve_and_keep.new.d (values_under c.solve_and_keep.new.d c.args.given.now) c.args.place) (sym (c.in-Err-Full.ensures.places (ap Err c.in-Err-Full.field-0-is))) kept)
 
 pub returns-in_err-sweep_store-in-Err-Full-clause-roots : goal.returns-in_err-sweep_store-in-Err-Full-clause-roots
 returns-in_err-sweep_store-in-Err-Full-clause-roots c = RootsStay-chain c.solve_and_keep.ensures.roots c.sweep_store.ensures.roots
@@ -24,8 +24,8 @@ pub solve_and_keep-requires-in-Err-Full-clause-solved : goal.solve_and_keep-requ
 solve_and_keep-requires-in-Err-Full-clause-solved c =
     let same : c.solve_and_keep.new.places ≡ c.args.places.now = c.in-Err-Full.ensures.places (ap Err c.in-Err-Full.field-0-is) in
     let read = c.in_ok-sweep_store-in-Err-Full.ensures in
-    subst (IsSolvedTo c.args.net.now c.args.blocks.now c.args.cut.now c.sweep_store.new.d c.args.given.now c.args.place c.sweep_store.new.before c.sweep_store.new.rails) (sym same)
-    (solved-anew c.args.net.now c.args.blocks.now c.args.cut.now (RootsStay-chain c.solve_and_keep.ensures.roots c.sweep_store.ensures.roots) c.args.given.now c.args.place c.args.before.now c.args.rails.now c.args.places.now c.requires.solved
+    subst (IsSolvedTo c.args.looped.now c.sweep_store.new.d c.args.given.now c.args.place c.sweep_store.new.before c.sweep_store.new.rails) (sym same)
+    (solved-anew c.args.looped.now (RootsStay-chain c.solve_and_keep.ensures.roots c.sweep_store.ensures.roots) c.args.given.now c.args.place c.args.before.now c.args.rails.now c.args.places.now c.requires.solved
     c.sweep_store.new.before c.sweep_store.new.rails (subst (λ (places : List (Option KeptRails)). c.sweep_store.new.before ≡ map (rails_in c.sweep_store.new.d) places) same read.before) read.rails)
 
 pub returns-in_ok-sweep_store-in-Err-Full-clause-roots : goal.returns-in_ok-sweep_store-in-Err-Full-clause-roots
@@ -35,11 +35,11 @@ returns-in_ok-sweep_store-in-Err-Full-clause-roots c =
 pub returns-in_ok-sweep_store-in-Err-Full-clause-adds : goal.returns-in_ok-sweep_store-in-Err-Full-clause-adds
 returns-in_ok-sweep_store-in-Err-Full-clause-adds c =
     let stay : RootsStay c.args.d.now c.sweep_store.new.d = RootsStay-chain c.solve_and_keep.ensures.roots c.sweep_store.ensures.roots in
-    let first : HasAdded c.args.d.now c.sweep_store.new.d (IsWide c.args.d.now.vars (IsWorking c.args.net.now (loops_by c.args.blocks.now c.args.cut.now) (values_under c.args.d.now c.args.given.now)))
-    (2 * ((length c.args.net.now.gates + 1) * block_cost c.args.net.now c.args.blocks.now c.args.place)) = adds_swept c.sweep_store.ensures.fewer c.solve_and_keep.ensures.adds in
+    let first : HasAdded c.args.d.now c.sweep_store.new.d (IsWide c.args.d.now.vars (IsWorking c.args.looped.now.net (loops_by c.args.looped.now.blocks c.args.looped.now.cut) (values_under c.args.d.now c.args.given.now)))
+    (2 * ((length c.args.looped.now.net.gates + 1) * block_cost c.args.looped.now.net c.args.looped.now.blocks c.args.place)) = adds_swept c.sweep_store.ensures.fewer c.solve_and_keep.ensures.adds in
     adds_more (omega arith)
     (adds_then stay.limit first
-    (adds_moved (λ w wide. wide-same c.args.net.now (loops_by c.args.blocks.now c.args.cut.now) (values_under c.sweep_store.new.d c.args.given.now) (values_under c.args.d.now c.args.given.now) c.args.d.now c.sweep_store.new.d stay.vars
+    (adds_moved (λ w wide. wide-same c.args.looped.now.net (loops_by c.args.looped.now.blocks c.args.looped.now.cut) (values_under c.sweep_store.new.d c.args.given.now) (values_under c.args.d.now c.args.given.now) c.args.d.now c.sweep_store.new.d stay.vars
     (values-stay stay c.args.given.now c.requires.solved.given_are.keys) wide)
     c.solve_and_keep-in-Err-Full.ensures.adds))
 

@@ -1,37 +1,39 @@
-use Rattle.std.proofs.Common.{◌≡◌, ◌∙◌, ℕ, List, filter, sym, ap, subst, arith}
-use Rattle.fixpoint.proofs.Common.{block_at, is_cut, IsOrderOf, AreLocalsOf}
-use Rattle.fixpoint.proofs.CutLemmas.{block-gates, gates-within, cuts-within, order-within}
+use Rattle.std.proofs.Common.{◌≡◌, ◌∙◌, ◌<◌, ℕ, List, length, filter, sym, ap, subst, arith}
+use Rattle.fixpoint.proofs.Common.{All, Cut, Looped, Parts, block_at, is_cut, IsOrderOf, AreLocalsOf}
+use Rattle.fixpoint.proofs.CutLemmas.{cuts-within, order-within}
 use Rattle.fixpoint.proofs.sweeping.plan_loop.Goals as goal
-use Rattle.fixpoint.proofs.sweeping.plan_loop.Goals.{After-cuts_among}
 
--- the gates of the block
-gates-are : (c : After-cuts_among) → c.items-gates.result.now ≡ (block_at c.args.blocks.now c.args.place).gates
-gates-are c = block-gates c.args.blocks.now.list c.items.result.now c.args.place c.index-items-place.result c.items-gates.result.now c.items.ensures c.requires.at.within c.items-gates.ensures
+pub gates_of-requires : goal.gates_of-requires
+gates_of-requires c = c.requires.at.within
 
 pub cuts_among-requires : goal.cuts_among-requires
-cuts_among-requires c =
-    let gates_is : c.items-gates.result.now ≡ (block_at c.args.blocks.now c.args.place).gates = block-gates c.args.blocks.now.list c.items.result.now c.args.place c.index-items-place.result c.items-gates.result.now c.items.ensures c.requires.at.within c.items-gates.ensures in
-    λ k d less. let within = gates-within c.args.net.now c.args.blocks.now c.requires.blocks c.args.place c.requires.at.within c.items-gates.result.now gates_is k d less in omega (arith, within, c.requires.cut.width)
+cuts_among-requires c k d less =
+    let within = (c.gates_of.ensures.home k d less).0 in
+    let width = c.net-net.ensures.looped.cut.width in
+    omega (arith, within, width, ap (λ (w : Cut). length w.wires) c.cut-cut.ensures.cut)
 
 pub of-requires-clause-gates : goal.of-requires-clause-gates
-of-requires-clause-gates c = order-within c.args.net.now c.args.blocks.now c.requires.blocks c.args.cut.now c.args.place c.requires.at c.in_ok-order.order.items c.in_ok-order.ensures c.deref.result.now c.deref.ensures.value
+of-requires-clause-gates c =
+    let l : Looped = c.args.looped.now in
+    let follows : IsOrderOf l.net (is_cut l.cut.wires) (block_at l.blocks c.args.place).gates c.in_ok-order.order.items = c.in_ok-order.ensures in
+    subst (λ (net : Parts). All (λ n. n < length net.gates) c.deref.result.now) (sym c.net-net.ensures.net)
+    (order-within l.net l.blocks c.net-net.ensures.looped.blocks l.cut c.args.place c.requires.at c.in_ok-order.order.items follows c.deref.result.now c.deref.ensures.value)
 
 pub returns-clause-plan : goal.returns-clause-plan
 returns-clause-plan c =
-    let net = c.args.net.now in
-    let blocks = c.args.blocks.now in
-    let cut = c.args.cut.now in
+    let l : Looped = c.args.looped.now in
     let b = c.args.place in
-    let at : After-cuts_among = (goal.at.returns-clause-plan c).After-cuts_among in
-    let cuts_is : c.in_ok-cuts.cuts.items ≡ filter (is_cut c.args.cut.now.wires) (block_at c.args.blocks.now c.args.place).gates = c.in_ok-cuts.ensures ∙ ap (filter (is_cut c.args.cut.now.wires)) (gates-are at) in
+    let l_is = c.net-net.ensures.looped in
+    let follows : IsOrderOf l.net (is_cut l.cut.wires) (block_at l.blocks c.args.place).gates c.in_ok-order.order.items = c.in_ok-order.ensures in
+    let cuts_is : c.in_ok-cuts.cuts.items ≡ filter (is_cut l.cut.wires) (block_at l.blocks c.args.place).gates = rw (c.cut-cut.ensures.cut, c.gates_of.ensures.gates) at c.in_ok-cuts.ensures in
     record {
       fits = record {
-        order = order-within net blocks c.requires.blocks cut b c.requires.at c.in_ok-order.order.items c.in_ok-order.ensures c.of-2.result c.of-2.ensures;
-        locals = subst (λ (ns : List ℕ). AreLocalsOf c.args.net.now ns c.in_ok-locals.locals) (c.deref.ensures.value ∙ sym c.of-2.ensures) c.in_ok-locals.ensures.locals;
-        cuts = cuts-within net blocks c.requires.blocks cut b c.requires.at c.in_ok-cuts.cuts.items cuts_is c.of-3.result c.of-3.ensures;
+        order = order-within l.net l.blocks l_is.blocks l.cut b c.requires.at c.in_ok-order.order.items follows c.of-2.result c.of-2.ensures;
+        locals = subst (λ (ns : List ℕ). AreLocalsOf l.net ns c.in_ok-locals.locals) (c.deref.ensures.value ∙ sym c.of-2.ensures) (rw c.net-net.ensures.net at c.in_ok-locals.ensures.locals);
+        cuts = cuts-within l.net l.blocks l_is.blocks l.cut b c.requires.at c.in_ok-cuts.cuts.items cuts_is c.of-3.result c.of-3.ensures;
       };
-      blocks_are = c.requires.blocks;
+      are = l_is;
       loop = c.requires.at;
-      order = subst (λ (ns : List ℕ). IsOrderOf c.args.net.now (is_cut c.args.cut.now.wires) (block_at c.args.blocks.now c.args.place).gates ns) (sym c.of-2.ensures) c.in_ok-order.ensures;
+      order = subst (λ (ns : List ℕ). IsOrderOf l.net (is_cut l.cut.wires) (block_at l.blocks c.args.place).gates ns) (sym c.of-2.ensures) follows;
       cuts = c.of-3.ensures ∙ cuts_is;
     }

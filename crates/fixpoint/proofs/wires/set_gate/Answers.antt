@@ -9,4 +9,4 @@ pub returns-in_err-diagram-clause-grows : goal.returns-in_err-diagram-clause-gro
 returns-in_err-diagram-clause-grows c = within_nothing (λ is_full.
     let refused = ap {A = StoreFault} Err (sym (rw is_full at c.from_residual.ensures.1)) in
     let limit : c.limit.result ≡ c.args.d.now.limit = c.limit.ensures.limit ∙ ap (λ (a : Arena). a.limit) c.store.ensures in
-    subst (HasLargeCover c.args.net.now) limit (c.in_err-diagram.ensures.full refused))
+    subst (HasLargeCover c.args.looped.now.net) limit (rw c.net-net.ensures.net at (c.in_err-diagram.ensures.full refused)))
