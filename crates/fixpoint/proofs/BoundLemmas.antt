@@ -1,6 +1,6 @@
 -- The bounds of sweeps, of loops, and of all blocks.
 use Rattle.std.proofs.Common.{◌≡◌, ◌==◌, inl, inr, ℕ, ◌+◌, ◌*◌, ◌<◌, ◌≤◌, ltb, Bool, false, List, ◌++◌, length, map, filter, take, get_or, refl, sym, ap, ap₂, ◌∙◌, subst, arith, Contains, true≢false}
-use Rattle.fixpoint.proofs.Common.{IsLooped, Looped, eq-eqb, cases_Bool, get_or_default, length-map, length-range_with_len, mul-le-mul_left, range_with_len, Arena, KeepsNodes, value, Trit, Rails, IsWide, BoundsEach, IsExtended, is_bit, size, value_of, values_of, Gate, Parts, IsNetlist, gate_at, no_gate, Blocks, Cut, AreBlocksOf, block_at, home_of, IsCutOf, is_cut, in_one_loop, loops_by, IsOrderOf, first_gate, cuts_of, value_in, told_parts, gate_home, Vectors, IsLoopAt, rails_read, AreSwept, IsSolvedBelow, IsSweepable, vectors, OthersStay, after_sweeps, IsWorking, cost, order_cost, block_cost, below_cost, effort, total, read_at_fix}
+use Rattle.fixpoint.proofs.Common.{IsLooped, Looped, eq-eqb, cases_Bool, get_or_default, length-map, length-range_with_len, mul-le-mul_left, range_with_len, Arena, KeepsNodes, value, Trit, Rails, IsWide, BoundsEach, IsExtended, is_bit, size, value_of, values_of, Gate, Parts, IsNetlist, gate_at, no_gate, Blocks, Cut, AreBlocksOf, block_at, home_of, is_cut, in_one_loop, loops_by, IsOrderOf, first_gate, cuts_of, value_in, told_parts, gate_home, Vectors, IsLoopAt, rails_read, AreSwept, IsSolvedBelow, IsSweepable, vectors, OthersStay, after_sweeps, IsWorking, cost, order_cost, block_cost, below_cost, effort, total, read_at_fix}
 use Rattle.std.proofs.lemmas.List.Sums.{length-filter, count_by-le-length}
 use Rattle.std.proofs.Math.Nat.{mul-le-mul_right}
 use Rattle.std.proofs.Math.Seq.{take-append_seam}

@@ -1,6 +1,6 @@
 -- A sweep of one loop on rails is the sweep at each vector.
 use Rattle.std.proofs.Common.{◌≡◌, ◌≢◌, inl, inr, ◌⊎◌, ℕ, zero, suc, ◌+◌, ◌<◌, ◌≤◌, leb, add-one, Bool, true, false, ◌&&◌, if◌then◌else◌, List, [], ◌∷◌, length, map, take, get_or, refl, sym, ap, ◌∙◌, subst, arith, Contains}
-use Rattle.fixpoint.proofs.Common.{IsLooped, Looped, cases_eq, cases_Bool, get_or_append_left, get_or_default, take_all, All-contains, All-get_or, All, Arena, KeepsNodes, ext, Sig, X, Rails, value_of, value_of-kept, Gate, Parts, IsNetlist, IsSignal, count, gate_at, no_gate, wire, fix, fix_gates, Feeds, Blocks, Cut, block_at, home_of, IsCutOf, is_cut, in_one_loop, loops_by, ReadsUncut, IsInOrder, first_gate, gate_of, value_in, map_agree, wire_of_gate, feeds_at, told_parts, gate_home, home_gate, blocks_tell_loops, Vectors, unknown, rails_at, rails_read, AreWires, IsGateSet, AreSwept, IsSweepable, OthersStay}
+use Rattle.fixpoint.proofs.Common.{Looped, cases_eq, cases_Bool, get_or_append_left, get_or_default, take_all, All-contains, All-get_or, All, Arena, KeepsNodes, ext, Sig, X, Rails, value_of, value_of-kept, Gate, Parts, IsNetlist, IsSignal, count, gate_at, no_gate, wire, fix, fix_gates, Feeds, Cut, block_at, home_of, is_cut, in_one_loop, loops_by, ReadsUncut, IsInOrder, first_gate, gate_of, value_in, map_agree, wire_of_gate, feeds_at, told_parts, gate_home, home_gate, blocks_tell_loops, Vectors, unknown, rails_at, rails_read, AreWires, IsGateSet, AreSwept, IsSweepable, OthersStay}
 use Rattle.std.proofs.lemmas.Bool.{leb-true, leb-false}
 use Rattle.std.proofs.lemmas.List.{get_or-set_other}
 use Rattle.std.proofs.lemmas.List.Elements.{All-from_recursion}

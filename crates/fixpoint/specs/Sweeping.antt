@@ -17,6 +17,7 @@ use Rattle.loops.specs.Looped.{Looped, IsLooped}
 use Rattle.loops.specs.Orders.{IsOrderOf}
 use Rattle.loops.specs.Sweeps.{first_gate, gate_of, value_in, sweep, sweeps}
 use Rattle.fixpoint.specs.declared.kept.KeptRails.{KeptRails}
+use Rattle.fixpoint.specs.declared.progress.Progress.{Progress}
 use Rattle.fixpoint.specs.declared.solved.LoopSteps.{LoopSteps}
 use Rattle.fixpoint.specs.declared.solved.SweptLoop.{SweptLoop}
 use Rattle.fixpoint.specs.Kept.{rails_under, values_under, AreKept}
@@ -140,3 +141,6 @@ pub record IsSolvedTo (l : Looped) (a : Arena) (given : List KeptRails) (b : ℕ
   pub solved : IsSolvedBelow l a (values_under a given) b before rails
   pub fresh : AreFresh l b before
   pub kept : AreKeptBelow l a (values_under a given) b places
+
+abbrev pub HasSolvedTo : Looped → Arena → List KeptRails → ℕ → Progress → Type 0
+HasSolvedTo l a given b progress = IsSolvedTo l a given b progress.before.items progress.rails.items progress.places.items

@@ -3,9 +3,10 @@
 ghost use Rattle.std.specs.Prelude.{◌≡◌, ◌<◌, ◌≤◌, ◌+◌, ◌++◌, ℕ, None, length, map, All, IfOk, OnOk, IfSome};
 ghost use Rattle.loops.specs.Looped.{Looped};
 ghost use Rattle.fixpoint.specs.Kept.{rails_under, AreKept, RootsStay};
-ghost use Rattle.fixpoint.specs.Sweeping.{rails_in, IsSolvedTo};
+ghost use Rattle.fixpoint.specs.Sweeping.{rails_in, HasSolvedTo};
 
 use crate::kept::{KeptRails, rails_of};
+use crate::progress::Progress;
 use crate::wires::{unknown, wires};
 use bdd_ops::Diagrams;
 use dual_rail::Rails;
@@ -55,54 +56,45 @@ pub(crate) fn sweep_store(
     alloc: Global,
     d: &mut Diagrams,
     given: &[KeptRails],
-    places: &[Option<KeptRails>],
-    before: &mut [Rails],
-    rails: &mut [Rails],
+    progress: &mut Progress,
 ) -> Result<(), AllocError>
     requires given { All (AreKept d.old) given.now }
-    requires places { All (λ place. IfSome place (AreKept d.old)) places.now }
-    requires before { length before.old ≡ length places.now }
-    requires rails { length rails.old ≡ length given.now + length places.now }
-    ensures before { OnOk result (before.new ≡ map (rails_in d.new) places.now) }
-    ensures rails { OnOk result (rails.new ≡ map (rails_under d.new) given.now ++ before.new) }
+    requires places { All (λ place. IfSome place (AreKept d.old)) progress.old.places.items }
+    ensures before { OnOk result (progress.new.before.items ≡ map (rails_in d.new) progress.old.places.items) }
+    ensures rails { OnOk result (progress.new.rails.items ≡ map (rails_under d.new) given.now ++ progress.new.before.items) }
+    ensures places { progress.new.places.items ≡ progress.old.places.items }
     ensures roots { RootsStay d.old d.new }
     ensures fewer { length d.new.entries ≤ length d.old.entries }
 {
     d.store().laws();
     d.sweep()?;
     d.store().laws();
-    let gates = rails_at_places(alloc, d, places)?;
+    let before = rails_at_places(alloc, d, &progress.places)?;
     let columns = rails_of(alloc, d, given)?;
-    let all = wires(alloc, &columns, &gates)?;
-    before.copy_from_slice(&gates);
-    rails.copy_from_slice(&all);
+    let rails = wires(alloc, &columns, &before)?;
+    progress.before = before;
+    progress.rails = rails;
+    progress.left = d.store().count();
     Ok(())
 }
 
-/// Takes out what no root reaches, where that is due. `left` is how many nodes there were after the last time, and
-/// the answer is how many there were after this one.
+/// Takes out what no root reaches, where that is due.
 pub(crate) fn sweep_if_due(
     alloc: Global,
     d: &mut Diagrams,
     given: &[KeptRails],
-    places: &[Option<KeptRails>],
-    before: &mut [Rails],
-    rails: &mut [Rails],
-    left: u32,
-) -> Result<u32, AllocError>
+    progress: &mut Progress,
+) -> Result<(), AllocError>
     requires given { All (AreKept d.old) given.now }
-    requires places { All (λ place. IfSome place (AreKept d.old)) places.now }
-    requires before { length before.old ≡ length places.now }
-    requires rails { length rails.old ≡ length given.now + length places.now }
-    ensures solved { (l : Looped) (b : ℕ) → IsSolvedTo l d.old given.now b before.old rails.old places.now →
-        OnOk result (IsSolvedTo l d.new given.now b before.new rails.new places.now) }
+    requires places { All (λ place. IfSome place (AreKept d.old)) progress.old.places.items }
+    ensures solved { (l : Looped) (b : ℕ) → HasSolvedTo l d.old given.now b progress.old → OnOk result (HasSolvedTo l d.new given.now b progress.new) }
     ensures roots { RootsStay d.old d.new }
     ensures fewer { length d.new.entries ≤ length d.old.entries }
 {
     d.store().laws();
-    if !is_due(d.store().count(), left, d.store().limit()) {
-        return Ok(left);
+    if !is_due(d.store().count(), progress.left, d.store().limit()) {
+        return Ok(());
     }
-    sweep_store(alloc, d, given, places, before, rails)?;
-    Ok(d.store().count())
+    sweep_store(alloc, d, given, progress)?;
+    Ok(())
 }

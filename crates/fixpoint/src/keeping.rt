@@ -8,6 +8,7 @@ ghost use Rattle.fixpoint.specs.Solved.{loop_under};
 ghost use Rattle.fixpoint.specs.Sweeping.{rails_at, place_of};
 
 use crate::kept::{KeptRails, keep_rails};
+use crate::progress::Progress;
 use crate::solved::{LoopSteps, SweptLoop};
 use bdd_ops::Diagrams;
 use cyc_base::Items;
@@ -90,21 +91,23 @@ pub(crate) fn keep_block(
     d: &mut Diagrams,
     gates: &[u32],
     first: usize,
-    rails: &[Rails],
-    places: &mut [Option<KeptRails>],
+    progress: &mut Progress,
     found: Option<SweptLoop>,
 ) -> Result<Option<LoopSteps>, AllocError>
-    requires gates { All (λ n. n < length places.old) gates.now }
-    requires width { length rails.now ≡ first + length places.old }
-    requires proper { All (AreRailsOf d.old) rails.now }
+    requires gates { All (λ n. n < length progress.old.places.items) gates.now }
+    requires width { length progress.old.rails.items ≡ first + length progress.old.places.items }
+    requires proper { All (AreRailsOf d.old) progress.old.rails.items }
     requires steps { IfSome found (λ swept. All (All (AreRailsOf d.old)) swept.steps) }
-    ensures kept { OnOk result ((n : ℕ) → Contains gates.now n → HoldsRails d.new (place_of places.new n) (rails_at rails.now (first + n))) }
-    ensures others { OnOk result ((n : ℕ) → ¬ Contains gates.now n → place_of places.new n ≡ place_of places.old n) }
+    ensures kept { OnOk result ((n : ℕ) → Contains gates.now n → HoldsRails d.new (place_of progress.new.places.items n) (rails_at progress.old.rails.items (first + n))) }
+    ensures others { OnOk result ((n : ℕ) → ¬ Contains gates.now n → place_of progress.new.places.items n ≡ place_of progress.old.places.items n) }
+    ensures before { progress.new.before.items ≡ progress.old.before.items }
+    ensures rails { progress.new.rails.items ≡ progress.old.rails.items }
+    ensures width { length progress.new.places.items ≡ length progress.old.places.items }
     ensures keys { IfOk result (λ loop. IfSome loop (λ steps. All (All (AreKept d.new)) steps.steps)) }
     ensures steps { IfOk result (λ loop. option_map (loop_under d.new) loop ≡ found) }
     ensures gains { GainsRoots d.old d.new }
 {
-    keep_gates(d, gates, first, rails, places)?;
+    keep_gates(d, gates, first, &progress.rails, &mut progress.places)?;
     match found {
         Some(swept) => Ok(Some(keep_loop(alloc, d, swept)?)),
         None => Ok(None),

@@ -15,6 +15,7 @@ pub mod laws;
 mod layout;
 mod lifting;
 mod locals;
+mod progress;
 mod solved;
 mod solving;
 mod sweeping;

@@ -11,14 +11,15 @@ ghost use Rattle.fixpoint.specs.Kept.{rails_under, values_under, AreKept, RootsS
 ghost use Rattle.fixpoint.specs.Solved.{AreGiven, HasEachLoopOnce, AreKeptSteps, IsSolution};
 ghost use Rattle.dual_rail.specs.WorkingLists.{IsWide};
 ghost use Rattle.fixpoint.specs.Working.{IsWorking, HasLargeCover, effort, block_cost};
-ghost use Rattle.fixpoint.specs.Sweeping.{unknown as unknown_rails, vectors, IsFoundAt, IsSolvedBelow, AreFresh, IsKeptAt, AreKeptBelow, IsSolvedTo};
+ghost use Rattle.fixpoint.specs.Sweeping.{unknown as unknown_rails, vectors, IsFoundAt, IsSolvedBelow, AreFresh, IsKeptAt, HasSolvedTo};
 
 use crate::clearing::{sweep_if_due, sweep_store};
-use crate::keeping::{empty_places, keep_block, signal_rails};
-use crate::kept::{KeptRails, rails_of};
+use crate::keeping::{keep_block, signal_rails};
+use crate::kept::KeptRails;
+use crate::progress::Progress;
 use crate::solved::{LoopSteps, Solved, SweptLoop};
 use crate::sweeping::{gates_of, solve_loop};
-use crate::wires::{set_gate, unknowns, wires};
+use crate::wires::set_gate;
 use bdd_ops::Diagrams;
 use bdd_store::StoreFault;
 use cyc_base::Items;
@@ -63,15 +64,13 @@ fn solve_and_keep(
     looped: &LoopedNetlist<'_>,
     given: &[KeptRails],
     place: usize,
-    before: &mut [Rails],
-    rails: &mut [Rails],
-    places: &mut [Option<KeptRails>],
+    progress: &mut Progress,
 ) -> Result<Option<LoopSteps>, StoreFault>
     requires place { place < length looped.now.blocks.list }
-    requires solved { IsSolvedTo looped.now d.old given.now place before.old rails.old places.old }
-    ensures solved { OnOk result (IsSolvedTo looped.now d.new given.now (place + 1) before.new rails.new places.new) }
+    requires solved { HasSolvedTo looped.now d.old given.now place progress.old }
+    ensures solved { OnOk result (HasSolvedTo looped.now d.new given.now (place + 1) progress.new) }
     ensures steps { IfOk result (IsKeptAt looped.now d.new (values_under d.new given.now) place) }
-    ensures places { result ≡ Err StoreFault.Full → places.new ≡ places.old }
+    ensures places { result ≡ Err StoreFault.Full → progress.new.places.items ≡ progress.old.places.items }
     ensures roots { RootsStay d.old d.new }
     ensures adds { AddsWithin result d.old d.new (HasLargeCover looped.now.net) (IsWide d.old.vars (IsWorking looped.now.net (loops_by looped.now.blocks looped.now.cut) (values_under d.old given.now)))
         (2 * ((length looped.now.net.gates + 1) * block_cost looped.now.net looped.now.blocks place)) }
@@ -79,38 +78,42 @@ fn solve_and_keep(
     d.store().laws();
     let net = looped.net();
     let gates = gates_of(looped, place);
-    let found = solve_block(alloc, d, looped, gates[0], before, rails)?;
+    let found = solve_block(
+        alloc,
+        d,
+        looped,
+        gates[0],
+        &mut progress.before,
+        &mut progress.rails,
+    )?;
     let first = net.inputs() as usize + net.latches() as usize;
-    Ok(keep_block(alloc, d, gates, first, rails, places, found)?)
+    Ok(keep_block(alloc, d, gates, first, progress, found)?)
 }
 
 /// Solves the block at a place and keeps it. Where it finds the store full, it takes out what no root reaches, also of
-/// what this try had made, and tries once more. `left` is how many nodes there were after the last time: where none
-/// was made since, the second try would be the first one again.
+/// what this try had made, and tries once more. Where no node was made since the last sweep of the store, the second
+/// try would be the first one again.
 fn solve_with_retry(
     alloc: Global,
     d: &mut Diagrams,
     looped: &LoopedNetlist<'_>,
     given: &[KeptRails],
     place: usize,
-    before: &mut [Rails],
-    rails: &mut [Rails],
-    places: &mut [Option<KeptRails>],
-    left: u32,
+    progress: &mut Progress,
 ) -> Result<Option<LoopSteps>, StoreFault>
     requires place { place < length looped.now.blocks.list }
-    requires solved { IsSolvedTo looped.now d.old given.now place before.old rails.old places.old }
-    ensures solved { OnOk result (IsSolvedTo looped.now d.new given.now (place + 1) before.new rails.new places.new) }
+    requires solved { HasSolvedTo looped.now d.old given.now place progress.old }
+    ensures solved { OnOk result (HasSolvedTo looped.now d.new given.now (place + 1) progress.new) }
     ensures steps { IfOk result (IsKeptAt looped.now d.new (values_under d.new given.now) place) }
     ensures roots { RootsStay d.old d.new }
     ensures adds { AddsWithin result d.old d.new (HasLargeCover looped.now.net) (IsWide d.old.vars (IsWorking looped.now.net (loops_by looped.now.blocks looped.now.cut) (values_under d.old given.now)))
         (4 * ((length looped.now.net.gates + 1) * block_cost looped.now.net looped.now.blocks place)) }
 {
-    let may_gain = d.store().count() > left;
-    match solve_and_keep(alloc, d, looped, given, place, before, rails, places) {
+    let may_gain = d.store().count() > progress.left;
+    match solve_and_keep(alloc, d, looped, given, place, progress) {
         Err(StoreFault::Full) if may_gain => {
-            sweep_store(alloc, d, given, places, before, rails)?;
-            solve_and_keep(alloc, d, looped, given, place, before, rails, places)
+            sweep_store(alloc, d, given, progress)?;
+            solve_and_keep(alloc, d, looped, given, place, progress)
         }
         result => result,
     }
@@ -132,12 +135,10 @@ fn solve_blocks(
     d: &mut Diagrams,
     looped: &LoopedNetlist<'_>,
     given: &[KeptRails],
-    before: &mut [Rails],
-    rails: &mut [Rails],
-    places: &mut [Option<KeptRails>],
+    progress: &mut Progress,
 ) -> Result<Vec<LoopSteps>, StoreFault>
-    requires solved { IsSolvedTo looped.now d.old given.now 0 before.old rails.old places.old }
-    ensures solved { OnOk result (IsSolvedTo looped.now d.new given.now (length looped.now.blocks.list) before.new rails.new places.new) }
+    requires solved { HasSolvedTo looped.now d.old given.now 0 progress.old }
+    ensures solved { OnOk result (HasSolvedTo looped.now d.new given.now (length looped.now.blocks.list) progress.new) }
     ensures loops { IfOk result (λ loops. HasEachLoopOnce looped.now.blocks loops.items) }
     ensures steps { IfOk result (λ loops. All (AreKeptSteps looped.now.net looped.now.blocks looped.now.cut d.new (values_under d.new given.now)) loops.items) }
     ensures roots { RootsStay d.old d.new }
@@ -145,42 +146,24 @@ fn solve_blocks(
         (4 * ((length looped.now.net.gates + 1) * effort looped.now.net)) }
 {
     d.store().laws();
-    sweep_store(alloc, d, given, places, before, rails)?;
-    let mut left = d.store().count();
+    sweep_store(alloc, d, given, progress)?;
     let mut loops = Vec::new(alloc);
     for place in 0..looped.blocks().list.items().len() {
-        let found = solve_with_retry(alloc, d, looped, given, place, before, rails, places, left)?;
-        left = sweep_if_due(alloc, d, given, places, before, rails, left)?;
+        let found = solve_with_retry(alloc, d, looped, given, place, progress)?;
+        sweep_if_due(alloc, d, given, progress)?;
         add_loop(&mut loops, found)?;
     }
     Ok(loops)
-}
-
-/// The wires before the first block: the gates are X, and stand behind the given rails.
-fn first_wires(
-    alloc: Global,
-    d: &Diagrams,
-    given: &[KeptRails],
-    gates: usize,
-) -> Result<(Vec<Rails>, Vec<Rails>), AllocError>
-    requires { All (AreKept d.now) given.now }
-    ensures before { IfOk result (λ both. both.0.items ≡ replicate gates unknown_rails) }
-    ensures rails { IfOk result (λ both. both.1.items ≡ map (rails_under d.now) given.now ++ both.0.items) }
-{
-    let before = unknowns(alloc, gates)?;
-    let columns = rails_of(alloc, d, given)?;
-    let rails = wires(alloc, &columns, &before)?;
-    Ok((before, rails))
 }
 
 /// Takes out what no root reaches, and hands out what was kept.
 fn hand_out(
     d: &mut Diagrams,
     given: Vec<KeptRails>,
-    places: Vec<Option<KeptRails>>,
+    progress: Progress,
     loops: Vec<LoopSteps>,
 ) -> Result<Solved, AllocError>
-    ensures rails { IfOk result (λ solved. solved.rails ≡ given.items ++ flat_map option_to_list places.items) }
+    ensures rails { IfOk result (λ solved. solved.rails ≡ given.items ++ flat_map option_to_list progress.places.items) }
     ensures loops { IfOk result (λ solved. solved.loops ≡ loops.items) }
     ensures roots { RootsStay d.old d.new }
     ensures fewer { length d.new.entries ≤ length d.old.entries }
@@ -189,34 +172,11 @@ fn hand_out(
     d.store().laws();
     d.sweep()?;
     d.store().laws();
-    let rails = signal_rails(given, places)?;
+    let rails = signal_rails(given, progress.places)?;
     Ok(Solved {
         rails: Items::of(rails),
         loops: Items::of(loops),
     })
-}
-
-/// Solves all blocks, from the given rails on.
-fn solve_gates(
-    alloc: Global,
-    d: &mut Diagrams,
-    looped: &LoopedNetlist<'_>,
-    given: &[KeptRails],
-    places: &mut [Option<KeptRails>],
-) -> Result<Vec<LoopSteps>, StoreFault>
-    requires given { AreGiven looped.now.net d.old given.now }
-    requires places { places.old ≡ replicate (length looped.now.net.gates) None }
-    ensures kept { OnOk result (AreKeptBelow looped.now d.new (values_under d.new given.now) (length looped.now.blocks.list) places.new) }
-    ensures loops { IfOk result (λ loops. HasEachLoopOnce looped.now.blocks loops.items) }
-    ensures steps { IfOk result (λ loops. All (AreKeptSteps looped.now.net looped.now.blocks looped.now.cut d.new (values_under d.new given.now)) loops.items) }
-    ensures roots { RootsStay d.old d.new }
-    ensures adds { AddsWithin result d.old d.new (HasLargeCover looped.now.net) (IsWide d.old.vars (IsWorking looped.now.net (loops_by looped.now.blocks looped.now.cut) (values_under d.old given.now)))
-        (10 * (length looped.now.net.gates + 2) * effort looped.now.net) }
-{
-    d.store().laws();
-    let (mut before, mut rails) = first_wires(alloc, d, given, looped.net().gates() as usize)?;
-    let loops = solve_blocks(alloc, d, looped, given, &mut before, &mut rails, places)?;
-    Ok(loops)
 }
 
 /// Solves all blocks, and hands out what was kept.
@@ -234,9 +194,9 @@ fn solve_looped(
         (10 * (length looped.now.net.gates + 2) * effort looped.now.net) }
 {
     d.store().laws();
-    let mut places = empty_places(alloc, looped.net().gates() as usize)?;
-    let loops = solve_gates(alloc, d, looped, &given, &mut places)?;
-    Ok(hand_out(d, given, places, loops)?)
+    let mut progress = Progress::start(alloc, d, &given, looped.net().gates() as usize)?;
+    let loops = solve_blocks(alloc, d, looped, &given, &mut progress)?;
+    Ok(hand_out(d, given, progress, loops)?)
 }
 
 /// The rails of the fixpoint, for each signal, where the inputs and then the latches have the given rails: block

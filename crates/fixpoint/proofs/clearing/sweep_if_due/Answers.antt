@@ -1,7 +1,12 @@
+use Rattle.std.proofs.Common.{List, Option, subst, sym}
+use Rattle.fixpoint.proofs.Common.{IsSolvedTo, KeptRails}
 use Rattle.fixpoint.proofs.KeepingLemmas.{solved-anew}
 use Rattle.fixpoint.proofs.clearing.sweep_if_due.Goals as goal
 
 pub returns-clause-solved : goal.returns-clause-solved
 returns-clause-solved c l b is =
+    let old = c.args.progress.now in
+    let new = c.sweep_store.new.progress in
     let swept = c.in_ok-sweep_store.ensures in
-    solved-anew l swept.roots c.args.given.now b c.args.before.now c.args.rails.now c.args.places.now is c.sweep_store.new.before c.sweep_store.new.rails swept.before swept.rails
+    subst (λ (places : List (Option KeptRails)). IsSolvedTo l c.sweep_store.new.d c.args.given.now b c.sweep_store.new.progress.before.items c.sweep_store.new.progress.rails.items places) (sym swept.places)
+    (solved-anew l swept.roots c.args.given.now b old.before.items old.rails.items old.places.items is new.before.items new.rails.items swept.before swept.rails)

@@ -1,5 +1,5 @@
-use Rattle.std.proofs.Common.{◌≡◌, ◌+◌, ◌*◌, ◌++◌, length, get_or, subst, sym, ap, arith}
-use Rattle.fixpoint.proofs.Common.{All, option_to_list, AddsWithin, adds_more, adds_moved, adds_refused, adds_swept, IsWide, loops_by, values_under, RootsStay, AreKeptSteps, Blocks, Looped, IsWorking, HasLargeCover, below_cost}
+use Rattle.std.proofs.Common.{◌≡◌, ◌+◌, ◌*◌, ◌++◌, List, Option, length, get_or, subst, sym, ap, arith}
+use Rattle.fixpoint.proofs.Common.{All, option_to_list, AddsWithin, adds_more, adds_moved, adds_refused, adds_swept, IsWide, loops_by, values_under, RootsStay, AreKeptSteps, IsSolvedTo, KeptRails, Blocks, Looped, IsWorking, HasLargeCover, below_cost}
 use Rattle.bdd_store.proofs.GrowthLemmas.{adds_then, adds_answered}
 use Rattle.fixpoint.specs.Sweeping.{IsKeptAt}
 use Rattle.fixpoint.proofs.BlockLemmas.{HasLoopsBelow, loops-start, loops-end}
@@ -26,7 +26,8 @@ loop-place-init c =
     record {
       roots = c.sweep_store.ensures.roots;
       adds = adds_swept c.sweep_store.ensures.fewer nothing_added;
-      solved = solved-anew c.args.looped.now c.sweep_store.ensures.roots c.args.given.now 0 c.args.before.now c.args.rails.now c.args.places.now c.requires.solved c.sweep_store.new.before c.sweep_store.new.rails read.before read.rails;
+      solved = subst (λ (places : List (Option KeptRails)). IsSolvedTo c.args.looped.now c.sweep_store.new.d c.args.given.now 0 c.sweep_store.new.progress.before.items c.sweep_store.new.progress.rails.items places) (sym read.places)
+          (solved-anew c.args.looped.now c.sweep_store.ensures.roots c.args.given.now 0 c.args.progress.now.before.items c.args.progress.now.rails.items c.args.progress.now.places.items c.requires.solved c.sweep_store.new.progress.before.items c.sweep_store.new.progress.rails.items read.before read.rails);
       loops = subst (HasLoopsBelow c.args.looped.now.blocks 0) (sym c.new-loops.ensures.items) (loops-start c.args.looped.now.blocks);
       steps = subst (All (AreKeptSteps c.args.looped.now.net c.args.looped.now.blocks c.args.looped.now.cut c.sweep_store.new.d (values_under c.sweep_store.new.d c.args.given.now))) (sym c.new-loops.ensures.items) (λ k none less. absurd (omega (arith, less)));
     }
@@ -56,7 +57,7 @@ loop-place-preserved c =
     record {
       roots = RootsStay-chain inv.roots whole;
       adds = adds_swept c.sweep_if_due.ensures.fewer (step ((goal.at.loop-place-preserved c).After-solve_with_retry));
-      solved = c.in_ok-left.ensures.solved l (b + 1) done;
+      solved = c.in_ok-sweep_if_due.ensures.solved l (b + 1) done;
       loops = subst (HasLoopsBelow l.blocks (b + 1)) (sym items) (found-loops l c.sweep_if_due.new.d (values_under c.sweep_if_due.new.d given) b c.loop-place.loops.items c.in_ok-found.found found inv.loops);
       steps = subst (All (AreKeptSteps l.net l.blocks l.cut c.sweep_if_due.new.d (values_under c.sweep_if_due.new.d given))) (sym items)
           (found-steps l c.sweep_if_due.new.d (values_under c.sweep_if_due.new.d given) b c.loop-place.loops.items c.in_ok-found.found found
@@ -70,12 +71,12 @@ pub returns-in_err-found-clause-adds : goal.returns-in_err-found-clause-adds
 returns-in_err-found-clause-adds c =
     adds_more (below-all c.args.looped.now.net c.args.looped.now.blocks (c.loop-place.place + 1)) (adds_refused c.in_err-found.was c.from_residual-in_err-found.ensures.1 (step ((goal.at.returns-in_err-found-clause-adds c).After-solve_with_retry)))
 
-pub returns-in_err-left-clause-roots : goal.returns-in_err-left-clause-roots
-returns-in_err-left-clause-roots c = RootsStay-chain c.loop-place.invariant.roots (RootsStay-chain c.solve_with_retry.ensures.roots c.sweep_if_due.ensures.roots)
+pub returns-in_err-sweep_if_due-clause-roots : goal.returns-in_err-sweep_if_due-clause-roots
+returns-in_err-sweep_if_due-clause-roots c = RootsStay-chain c.loop-place.invariant.roots (RootsStay-chain c.solve_with_retry.ensures.roots c.sweep_if_due.ensures.roots)
 
-pub returns-in_err-left-clause-adds : goal.returns-in_err-left-clause-adds
-returns-in_err-left-clause-adds c =
-    adds_more (below-all c.args.looped.now.net c.args.looped.now.blocks (c.loop-place.place + 1)) (adds_lacking c.from_residual-in_err-left.ensures.1 c.sweep_if_due.ensures.fewer (step ((goal.at.returns-in_err-left-clause-adds c).After-solve_with_retry)))
+pub returns-in_err-sweep_if_due-clause-adds : goal.returns-in_err-sweep_if_due-clause-adds
+returns-in_err-sweep_if_due-clause-adds c =
+    adds_more (below-all c.args.looped.now.net c.args.looped.now.blocks (c.loop-place.place + 1)) (adds_lacking c.from_residual-in_err-sweep_if_due.ensures.1 c.sweep_if_due.ensures.fewer (step ((goal.at.returns-in_err-sweep_if_due-clause-adds c).After-solve_with_retry)))
 
 pub returns-in_err-add_loop-clause-roots : goal.returns-in_err-add_loop-clause-roots
 returns-in_err-add_loop-clause-roots c = RootsStay-chain c.loop-place.invariant.roots (RootsStay-chain c.solve_with_retry.ensures.roots c.sweep_if_due.ensures.roots)

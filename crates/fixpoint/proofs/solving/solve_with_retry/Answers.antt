@@ -1,4 +1,4 @@
-use Rattle.std.proofs.Common.{◌≡◌, ◌+◌, ◌*◌, List, length, map, sym, ap, subst, arith, Option, Err}
+use Rattle.std.proofs.Common.{◌≡◌, ◌∙◌, ◌+◌, ◌*◌, List, length, map, sym, ap, subst, arith, Option, Err}
 use Rattle.fixpoint.proofs.Common.{adds_more, adds_moved, adds_swept, IsWide, loops_by, KeptRails, values_under, RootsStay, IsSolvedTo, AreKeptBelow, IsWorking, block_cost}
 use Rattle.bdd_store.proofs.GrowthLemmas.{adds_then}
 use Rattle.fixpoint.specs.Sweeping.{rails_in}
@@ -13,7 +13,7 @@ sweep_store-requires-clause-given c = All-kept-stay c.solve_and_keep.ensures.roo
 pub sweep_store-requires-clause-places : goal.sweep_store-requires-clause-places
 sweep_store-requires-clause-places c =
     let stay : RootsStay c.args.d.now c.solve_and_keep.new.d = c.solve_and_keep.ensures.roots in
-    let kept : AreKeptBelow c.args.looped.now c.solve_and_keep.new.d (values_under c.solve_and_keep.new.d c.args.given.now) c.args.place c.args.places.now =
+    let kept : AreKeptBelow c.args.looped.now c.solve_and_keep.new.d (values_under c.solve_and_keep.new.d c.args.given.now) c.args.place c.args.progress.now.places.items =
     kept-stay stay (λ bits. sym (values-stay stay c.args.given.now c.requires.solved.given_are.keys bits)) c.requires.solved.kept in
     places-kept (subst (AreKeptBelow c.args.looped.now c.solve_and_keep.new.d (values_under c.solve_and_keep.new.d c.args.given.now) c.args.place) (sym (c.in-Err-Full.ensures.places (ap Err c.in-Err-Full.field-0-is))) kept)
 
@@ -22,11 +22,11 @@ returns-in_err-sweep_store-in-Err-Full-clause-roots c = RootsStay-chain c.solve_
 
 pub solve_and_keep-requires-in-Err-Full-clause-solved : goal.solve_and_keep-requires-in-Err-Full-clause-solved
 solve_and_keep-requires-in-Err-Full-clause-solved c =
-    let same : c.solve_and_keep.new.places ≡ c.args.places.now = c.in-Err-Full.ensures.places (ap Err c.in-Err-Full.field-0-is) in
+    let same : c.solve_and_keep.new.progress.places.items ≡ c.args.progress.now.places.items = c.in-Err-Full.ensures.places (ap Err c.in-Err-Full.field-0-is) in
     let read = c.in_ok-sweep_store-in-Err-Full.ensures in
-    subst (IsSolvedTo c.args.looped.now c.sweep_store.new.d c.args.given.now c.args.place c.sweep_store.new.before c.sweep_store.new.rails) (sym same)
-    (solved-anew c.args.looped.now (RootsStay-chain c.solve_and_keep.ensures.roots c.sweep_store.ensures.roots) c.args.given.now c.args.place c.args.before.now c.args.rails.now c.args.places.now c.requires.solved
-    c.sweep_store.new.before c.sweep_store.new.rails (subst (λ (places : List (Option KeptRails)). c.sweep_store.new.before ≡ map (rails_in c.sweep_store.new.d) places) same read.before) read.rails)
+    subst (IsSolvedTo c.args.looped.now c.sweep_store.new.d c.args.given.now c.args.place c.sweep_store.new.progress.before.items c.sweep_store.new.progress.rails.items) (sym (c.sweep_store.ensures.places ∙ same))
+    (solved-anew c.args.looped.now (RootsStay-chain c.solve_and_keep.ensures.roots c.sweep_store.ensures.roots) c.args.given.now c.args.place c.args.progress.now.before.items c.args.progress.now.rails.items c.args.progress.now.places.items c.requires.solved
+    c.sweep_store.new.progress.before.items c.sweep_store.new.progress.rails.items (subst (λ (places : List (Option KeptRails)). c.sweep_store.new.progress.before.items ≡ map (rails_in c.sweep_store.new.d) places) same read.before) read.rails)
 
 pub returns-in_ok-sweep_store-in-Err-Full-clause-roots : goal.returns-in_ok-sweep_store-in-Err-Full-clause-roots
 returns-in_ok-sweep_store-in-Err-Full-clause-roots c =
