@@ -1,12 +1,11 @@
 //! Loops that are settled where they stand.
 
 ghost use Rattle.std.specs.Prelude.{◌≤◌};
-ghost use Rattle.loops.specs.Blocks.{AreBlocksOf};
 
+use crate::looped::loops_of;
 use crate::texts::net_of;
 use isolation::settles_alone;
-use loops::{Blocks, find_blocks};
-use netlist::Netlist;
+use loops::LoopedNetlist;
 use std::alloc::{AllocError, Global};
 use std::test::Fail;
 
@@ -20,25 +19,24 @@ const SELF_LOOP: &[u8] = b".model m\n.inputs x\n.outputs a\n.names x a a\n1- 1\n
 /// How many sweeps are enough for a netlist's one loop, within so many nodes.
 fn sweeps_on(
     alloc: Global,
-    net: &Netlist,
-    blocks: &Blocks,
+    looped: &LoopedNetlist<'_>,
     budget: u32,
 ) -> Result<Option<u32>, AllocError>
-    requires blocks { AreBlocksOf net.now blocks.now }
-    requires budget { budget ≤ 1000 }
+    requires { budget ≤ 1000 }
 {
-    if blocks.list.items().len() != 1 {
+    if looped.blocks().list.items().len() != 1 {
         return Ok(None);
     }
-    settles_alone(alloc, net, blocks, 0, budget)
+    settles_alone(alloc, looped, 0, budget)
 }
 
 fn sweeps_of(alloc: Global, text: &[u8], budget: u32) -> Result<Option<u32>, Fail>
     requires { budget ≤ 1000 }
 {
     let net = net_of(alloc, text)?;
-    let blocks = find_blocks(alloc, &net)?;
-    Ok(sweeps_on(alloc, &net, &blocks, budget)?)
+    let (blocks, cut) = loops_of(alloc, &net)?;
+    let looped = LoopedNetlist::new(&net, &blocks, &cut);
+    Ok(sweeps_on(alloc, &looped, budget)?)
 }
 
 #[test]
