@@ -156,10 +156,6 @@ demonstrated net care limit what cells gates end same is = record {
   made = tt;
 }
 
--- what is told of the netlist, the blocks and the cut that are handed out is told of those that are held
-pub told_of_held : (P : Parts → Blocks → Cut → Type 0) {m n : Parts} {a b : Blocks} {j k : Cut} → m ≡ n → a ≡ b → j ≡ k → P m a j → P n b k
-told_of_held P {m} {n} {a} {b} {j} {k} net blocks cut is = subst (λ (x : Parts). P x b k) net (subst (λ (x : Blocks). P m x k) blocks (subst (P m a) cut is))
-
 -- the gates of a netlist that was made by rewriting
 pub gates_counted : (net : Parts) (blocks : Blocks) (cut : Cut) (counts : SweepCounts) (made : Result Parts UnrollFault) (other : Parts) (gates : ℕ)
     → made ≡ Ok other → gates ≡ length other.gates

@@ -1,5 +1,5 @@
 // Decisions of netlists on their care sets.
-ghost use Rattle.std.specs.Prelude.{◌≡◌, ◌≤◌, ℕ, IfErr, IfOk, OnOk, length};
+ghost use Rattle.std.specs.Prelude.{◌≡◌, ◌≤◌, ℕ, IfOk, length};
 ghost use Rattle.aig_core.specs.Answers.{FitsNetlist};
 ghost use Rattle.aig_core.specs.Building.{columns};
 ghost use Rattle.bdd_store.specs.Arena.{Arena};
@@ -15,8 +15,6 @@ ghost use Rattle.refusals.specs.Refusals.{IsRefusalOf};
 ghost use Rattle.refusals.specs.declared.observe.Observe.{Observe as Observed};
 ghost use Rattle.report.specs.Verdicts.{accepted_text, ring_line};
 ghost use Rattle.rewriting.specs.Rewriting.{rewritten as rewritten_netlist, rewritten_size as rewritten_size_of, IsRewriting};
-ghost use Rattle.unroll.specs.Laws.{KeepsInterface};
-ghost use Rattle.unroll.specs.Unrolled.{IsUnrollFault};
 ghost use Rattle.verdict.specs.Verdicts.{AreSweepsOnCare, IsAcceptance, IsVerdict};
 ghost use Rattle.cyc_tool.specs.Answer.{told as done};
 ghost use Rattle.cyc_tool.specs.Calls.{IsAccepted, IsDecided};
@@ -130,29 +128,6 @@ fn tell_rewriting(
     }
 }
 
-// A netlist with its loops unrolled by so many sweeps.
-fn without_loops(
-    alloc: Global,
-    looped: &LoopedNetlist<'_>,
-    sweeps: &SweepCounts,
-) -> Result<Netlist, UnrollFault>
-    requires sweeps { length sweeps.now.per_block ≡ length looped.now.blocks.list }
-    requires columns { columns looped.now.net ≤ 1000000000 }
-    ensures rewriting { IfOk result (λ other. (care : CareSet) (observe : Observed) → Accepts looped.now.net care observe →
-        AreSweepsOnCare looped.now.net looped.now.blocks looped.now.cut care sweeps.now → IsRewriting looped.now.net care other) }
-    ensures small { OnOk result ((care : CareSet) → AreSweepsOnCare looped.now.net looped.now.blocks looped.now.cut care sweeps.now →
-        rewritten_size_of looped.now.net care ≤ 4000000) }
-    ensures fault { IfErr result (λ fault. (care : CareSet) → AreSweepsOnCare looped.now.net looped.now.blocks looped.now.cut care sweeps.now →
-        IsUnrollFault (rewritten_size_of looped.now.net care) fault) }
-    ensures loop_free { IfOk result IsLoopFree }
-    ensures interface { IfOk result (KeepsInterface looped.now.net) }
-{
-    let net = looped.net();
-    let blocks = looped.blocks();
-    let cut = looped.cut();
-    rewrite(alloc, net, blocks, cut, sweeps)
-}
-
 // Rewrites an accepted netlist, and tells what comes of it.
 fn tell_rewritten(
     alloc: Global,
@@ -165,7 +140,7 @@ fn tell_rewritten(
         AreSweepsOnCare looped.now.net looped.now.blocks looped.now.cut care sweeps.now →
         IsAccepted record { net = looped.now.net; care = care; limit = limit; observe = observe } Rewrites (outcome_of told)) }
 {
-    let rewriting = without_loops(alloc, looped, sweeps);
+    let rewriting = rewrite(alloc, looped, sweeps);
     tell_rewriting(alloc, &rewriting)
 }
 
@@ -219,7 +194,7 @@ fn tell_graphed(
         AreSweepsOnCare looped.now.net looped.now.blocks looped.now.cut care sweeps.now →
         IsAccepted record { net = looped.now.net; care = care; limit = limit; observe = observe } WritesGraph (outcome_of told)) }
 {
-    let rewriting = without_loops(alloc, looped, sweeps);
+    let rewriting = rewrite(alloc, looped, sweeps);
     match &rewriting {
         Ok(other) => tell_graph_of(alloc, other),
         Err(fault) => tell_outgrown(alloc, fault),
@@ -237,13 +212,9 @@ fn count_rewritten(
     ensures { IfOk result (λ gates. (care : CareSet) (observe : Observed) → Accepts looped.now.net care observe →
         AreSweepsOnCare looped.now.net looped.now.blocks looped.now.cut care sweeps.now → gates ≡ length (rewritten_netlist looped.now.net care).gates) }
 {
-    match without_loops(alloc, looped, sweeps) {
+    match rewrite(alloc, looped, sweeps) {
         Ok(other) => Ok(u64::from(other.gates())),
-        Err(UnrollFault::TooLarge { size: _ }) => {
-            let net = looped.net();
-            let blocks = looped.blocks();
-            Ok(rewritten_gates(net, blocks, sweeps))
-        }
+        Err(UnrollFault::TooLarge { size: _ }) => Ok(rewritten_gates(looped, sweeps)),
         Err(UnrollFault::Memory) => Err(AllocError),
     }
 }

@@ -1,12 +1,10 @@
 // Why a refused wire is undetermined, and what is told of the loops of an accepted netlist.
-ghost use Rattle.std.specs.Prelude.{◌≡◌, ◌≢◌, ◌<◌, ◌++◌, [], length, IfOk, IfSome, IfNone, OnOk};
+ghost use Rattle.std.specs.Prelude.{◌≡◌, ◌≢◌, ◌<◌, [], length, IfOk, IfSome, IfNone};
 ghost use Rattle.care_sets.specs.Care.{CareSet};
 ghost use Rattle.commands.specs.declared.form.Form.TheVariants.{Dot, Lines};
 ghost use Rattle.cyc_base.specs.declared.trit.Trit.TheVariants.{X};
 ghost use Rattle.cyc_base.specs.Values.{bits};
-ghost use Rattle.cyc_io.specs.Text.{text_bytes};
 ghost use Rattle.accepted_loops.specs.Graphs.{told_graph};
-ghost use Rattle.accepted_loops.specs.Lines.{told_loops};
 ghost use Rattle.dot_text.specs.Dot.{labelled_graph};
 ghost use Rattle.dot_text.specs.ExplanationGraphs.{explanation_graph};
 ghost use Rattle.explanations.specs.Explained.{Explains};
@@ -81,20 +79,8 @@ fn tell_labelled(
     ensures { IfOk result (λ told. outcome_of told ≡ done (Refuses (explanation_graph refused.now.looped.now.net label.now
         (fix refused.now.looped.now.net (bits refused.now.vector.now)) why.now))) }
 {
-    let net = refused.looped.net();
-    let blocks = refused.looped.blocks();
-    let cut = refused.looped.cut();
     let mut sink = TextSink::new(alloc);
-    tell_explanation_graph(
-        alloc,
-        net,
-        blocks,
-        cut,
-        refused.vector,
-        why,
-        label,
-        &mut sink,
-    )?;
+    tell_explanation_graph(alloc, refused.looped, refused.vector, why, label, &mut sink)?;
     Ok(on_out(alloc, status::REFUSED, sink.into_vec()))
 }
 
@@ -217,23 +203,6 @@ pub(crate) fn tell_explained(
     }
 }
 
-// Appends the lines of the loops, with the sweeps that they need.
-fn append_loops(
-    alloc: Global,
-    looped: &LoopedNetlist<'_>,
-    sweeps: &SweepCounts,
-    sink: &mut TextSink,
-) -> Result<(), AllocError>
-    requires { length sweeps.now.per_block ≡ length looped.now.blocks.list }
-    ensures { OnOk result ((care : CareSet) → AreSweepsOnCare looped.now.net looped.now.blocks looped.now.cut care sweeps.now →
-        text_bytes sink.new ≡ text_bytes sink.old ++ told_loops looped.now.net (sweeps_needed looped.now.net care)) }
-{
-    let net = looped.net();
-    let blocks = looped.blocks();
-    let cut = looped.cut();
-    tell_loops(alloc, net, blocks, cut, sweeps, sink)
-}
-
 // The line of an accepted netlist, and behind it those of its loops.
 fn list_loops(
     alloc: Global,
@@ -249,7 +218,7 @@ fn list_loops(
     if put_accepted_line(looped, loose, &mut sink).is_err() {
         return Err(AllocError);
     }
-    append_loops(alloc, looped, sweeps, &mut sink)?;
+    tell_loops(alloc, looped, sweeps, &mut sink)?;
     Ok(on_out(alloc, status::DONE, sink.into_vec()))
 }
 
@@ -264,11 +233,8 @@ fn draw_labelled(
     ensures { IfOk result (λ told. (care : CareSet) → AreSweepsOnCare looped.now.net looped.now.blocks looped.now.cut care sweeps.now →
         outcome_of told ≡ done (Prints (told_graph looped.now.net label.now (sweeps_needed looped.now.net care)))) }
 {
-    let net = looped.net();
-    let blocks = looped.blocks();
-    let cut = looped.cut();
     let mut sink = TextSink::new(alloc);
-    tell_loops_graph(alloc, net, blocks, cut, sweeps, label, &mut sink)?;
+    tell_loops_graph(alloc, looped, sweeps, label, &mut sink)?;
     Ok(on_out(alloc, status::DONE, sink.into_vec()))
 }
 

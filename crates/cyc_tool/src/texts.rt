@@ -13,7 +13,6 @@ ghost use Rattle.cyc_tool.specs.Texts.{has_fault, limit_reached, on_both as both
 ghost use Rattle.aig_core.specs.Answers.{FitsNetlist};
 ghost use Rattle.aiger_write.specs.Text.{aiger_text};
 ghost use Rattle.blif_write.specs.Written.{written};
-ghost use Rattle.loops.specs.Blocks.{AreBlocksOf};
 ghost use Rattle.refusals.specs.Refusals.{IsRefusalOf};
 ghost use Rattle.report.specs.Help.{help_text, topic_text, version_text};
 ghost use Rattle.report.specs.Verdicts.{accepted_text, refusal_text};
@@ -31,7 +30,7 @@ use cyc_base::{Name, Trits};
 use cyc_io::{Failed, TextSink};
 use delay_core::TickEnd;
 use dot_text::put_loops_graph;
-use loops::{Blocks, LoopedNetlist, find_blocks, find_cut};
+use loops::{LoopedNetlist, find_blocks, find_cut};
 use netlist::Netlist;
 use probes::Kind;
 use refusals::Refusal;
@@ -248,12 +247,9 @@ pub(crate) fn tell_aiger(alloc: Global, net: &Netlist, graph: &Built) -> Result<
 fn put_shown(looped: &LoopedNetlist<'_>, form: Form, sink: &mut TextSink) -> Result<(), Failed>
     ensures { OnOk result (text_bytes sink.new ≡ text_bytes sink.old ++ loops_shown form looped.now.net) }
 {
-    let net = looped.net();
-    let blocks = looped.blocks();
-    let cut = looped.cut();
     match form {
-        Form::Lines => put_loops(net, blocks, cut, sink),
-        Form::Dot => put_loops_graph(net, blocks, cut, sink),
+        Form::Lines => put_loops(looped, sink),
+        Form::Dot => put_loops_graph(looped, sink),
     }
 }
 
@@ -271,25 +267,12 @@ fn looped_shown(
     }
 }
 
-// The same of a netlist with these blocks.
-fn block_loops_shown(
-    alloc: Global,
-    net: &Netlist,
-    blocks: &Blocks,
-    form: Form,
-) -> Result<Vec<u8>, AllocError>
-    requires { AreBlocksOf net.now blocks.now }
-    ensures { IfOk result (λ text. text.items ≡ loops_shown form net.now) }
-{
-    let cut = find_cut(alloc, net, blocks)?;
-    looped_shown(alloc, &LoopedNetlist::new(net, blocks, &cut), form)
-}
-
 fn loops_shown_in(alloc: Global, net: &Netlist, form: Form) -> Result<Vec<u8>, AllocError>
     ensures { IfOk result (λ text. text.items ≡ loops_shown form net.now) }
 {
     let blocks = find_blocks(alloc, net)?;
-    block_loops_shown(alloc, net, &blocks, form)
+    let cut = find_cut(alloc, net, &blocks)?;
+    looped_shown(alloc, &LoopedNetlist::new(net, &blocks, &cut), form)
 }
 
 pub(crate) fn tell_loops(alloc: Global, net: &Netlist, form: Form) -> Result<Outcome, AllocError>

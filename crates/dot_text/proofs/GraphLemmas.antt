@@ -22,7 +22,7 @@ use Rattle.loops.specs.Sweeps.{gate_of, in_loop_of}
 use Rattle.unroll.proofs.PinLemmas.{some_if, none_if}
 use Rattle.dot_text.specs.Dot.{wire}
 use Rattle.dot_text.specs.ExplanationGraphs.{Picture, picture_of}
-use Rattle.dot_text.specs.Seen.{AreMarksOf}
+use Rattle.dot_text.specs.Marks.{AreMarksOf}
 use Rattle.dot_text.specs.LoopGraphs.{loop_wire, wire_style}
 
 module _ (net : Parts) (loops : Loops) (gate : ℕ) (pin : Sig) where

@@ -7,7 +7,7 @@ use Rattle.std.proofs.lemmas.List.{take_more, take_all, get_or-replicate, get_or
 use Rattle.std.proofs.lemmas.List.Elements.{Contains-append_left, Contains-push, Contains-push_cases}
 use Rattle.isolation.specs.Cones.{is_marked, AddMarks}
 use Rattle.dot_text.specs.ExplanationGraphs.{is_one_of}
-use Rattle.dot_text.specs.Seen.{AreMarksOf}
+use Rattle.dot_text.specs.Marks.{AreMarksOf}
 use Rattle.loops.proofs.Walks.{same_truth}
 use Rattle.netlist.specs.declared.parts.Parts.{Parts}
 use Rattle.isolation.proofs.MarkLemmas.{add-none, add-both, add-one}

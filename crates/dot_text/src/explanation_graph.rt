@@ -1,50 +1,30 @@
 //! Why a gate is undetermined.
 
-ghost use Rattle.std.specs.Prelude.{◌≡◌, ◌≤◌, ◌<◌, ◌+◌, ◌++◌, ◌&&◌, ◌||◌, ℕ, false, All, Contains, IfOk, OnOk, filter, length, slice_index_or};
+ghost use Rattle.std.specs.Prelude.{◌≡◌, ◌<◌, ◌+◌, ◌++◌, ◌&&◌, All, OnOk, length, slice_index_or};
 ghost use Rattle.std.specs.List.{flat_map, range_with_len};
 ghost use Rattle.cyc_base.specs.Values.{bits};
 ghost use Rattle.cyc_base.specs.declared.trit.Trit.TheVariants.{X};
 ghost use Rattle.cyc_io.specs.Taken.{IsAppended, sink_call};
 ghost use Rattle.cyc_io.specs.Text.{text_bytes};
-ghost use Rattle.isolation.specs.Cones.{AddMarks, is_marked};
-ghost use Rattle.loops.specs.Blocks.{AreBlocksOf};
-ghost use Rattle.loops.specs.Cuts.{IsCutOf};
+ghost use Rattle.isolation.specs.Cones.{is_marked};
 ghost use Rattle.loops.specs.Found.{loops_of};
-ghost use Rattle.loops.specs.Listed.{gate_numbers};
 ghost use Rattle.netlist.specs.Fixpoint.{fix, wire as value_of};
 ghost use Rattle.netlist.specs.Netlists.{IsNetlist, IsSignal, count, gate_sig, signal};
 ghost use Rattle.report.specs.Explanations.{IsExplanationOf};
 ghost use Rattle.report.specs.Verdicts.{signal_name};
 ghost use Rattle.dot_text.specs.Dot.{labelled_graph};
 ghost use Rattle.dot_text.specs.ExplanationGraphs.{explanation_graph, gate_node, gate_opens as gate_opens_of, gate_wire, needed_box, needed_node, needed_wire, picture, pin_wire, pin_wires, style as style_of, unknown_style as unknown_style_of};
-ghost use Rattle.dot_text.specs.Seen.{AreMarksOf, IsDrawing, picture_seen};
+ghost use Rattle.dot_text.specs.Seen.{picture_seen};
 
+use crate::drawing::Drawing;
 use crate::loop_graph::wire_style;
 use crate::node::{open_graph, put_node, put_wire};
 use cyc_base::{Name, Sig, Trit};
 use cyc_io::{Failed, Sink, TextSink, write_whole};
 use explanations::Explanation;
-use loops::{Blocks, Cut, LoopedNetlist};
+use loops::LoopedNetlist;
 use netlist::Netlist;
 use std::alloc::{AllocError, Global};
-use ternary_run::settle;
-
-// What is drawn of a netlist.
-#[derive(Clone, Copy, Drop)]
-pub(crate) struct Drawing<'a> {
-    looped: &'a LoopedNetlist<'a>,
-    // The values of the signals.
-    values: &'a [Trit],
-    // The gates that are drawn.
-    gates: &'a [u32],
-    // A gate of the loop that is drawn.
-    first: u32,
-    // The gates beside it that are drawn, and those of the cycle, by a mark for each gate.
-    way: &'a [bool],
-    cycle: &'a [bool],
-    // The values of columns that are needed.
-    needs: &'a [Trit],
-}
 
 fn gate_opens(value: Trit) -> &'static [u8]
     ensures { result.now ≡ gate_opens_of value }
@@ -75,18 +55,9 @@ fn style(value: Trit, bold: bool, cut: bool) -> &'static [u8]
     }
 }
 
-fn is_drawn(drawing: &Drawing<'_>, gate: u32) -> bool
-    requires drawing { IsDrawing drawing.now }
-    requires gate { gate < length drawing.now.looped.now.net.gates }
-    ensures { result ≡ (picture_seen drawing.now).drawn gate }
-{
-    drawing.looped.are_in_one_loop(drawing.first, gate) || drawing.way[gate as usize]
-}
-
 // The node of a gate.
 fn put_gate<K: Sink>(sink: &mut K, drawing: &Drawing<'_>, gate: u32) -> Result<(), Failed>
-    requires drawing { IsDrawing drawing.now }
-    requires gate { gate < length drawing.now.looped.now.net.gates }
+    requires { gate < length drawing.now.looped.now.net.gates }
     ensures { IsAppended (gate_node (picture_seen drawing.now) gate) (sink_call K.put K.faults sink.old sink.new) result }
 {
     let signal = drawing.looped.net().gate_sig(gate);
@@ -101,10 +72,9 @@ fn put_gate<K: Sink>(sink: &mut K, drawing: &Drawing<'_>, gate: u32) -> Result<(
 
 // The nodes of the gates.
 fn put_gates<K: Sink>(sink: &mut K, drawing: &Drawing<'_>) -> Result<(), Failed>
-    requires drawing { IsDrawing drawing.now }
-    ensures { IsAppended (flat_map (gate_node (picture_seen drawing.now)) drawing.now.gates.now) (sink_call K.put K.faults sink.old sink.new) result }
+    ensures { IsAppended (flat_map (gate_node (picture_seen drawing.now)) drawing.now.gates.items) (sink_call K.put K.faults sink.old sink.new) result }
 {
-    for gate in drawing.gates {
+    for gate in &drawing.gates {
         put_gate(sink, drawing, *gate)?;
     }
     Ok(())
@@ -112,11 +82,10 @@ fn put_gates<K: Sink>(sink: &mut K, drawing: &Drawing<'_>) -> Result<(), Failed>
 
 // How the wire from one gate to another is drawn.
 fn style_between(drawing: &Drawing<'_>, from: u32, to: u32) -> &'static [u8]
-    requires drawing { IsDrawing drawing.now }
     requires from { from < length drawing.now.looped.now.net.gates }
     requires to { to < length drawing.now.looped.now.net.gates }
-    ensures { result.now ≡ style_of (value_of drawing.now.values.now (gate_sig drawing.now.looped.now.net from))
-        (is_marked drawing.now.cycle.now from && is_marked drawing.now.cycle.now to)
+    ensures { result.now ≡ style_of (value_of drawing.now.values.items (gate_sig drawing.now.looped.now.net from))
+        (is_marked drawing.now.cycle.items from && is_marked drawing.now.cycle.items to)
         ((loops_of drawing.now.looped.now.net).same to from && (loops_of drawing.now.looped.now.net).cut from) }
 {
     let value = drawing.values[drawing.looped.net().gate_sig(from).0 as usize];
@@ -133,12 +102,11 @@ fn put_gate_wire<K: Sink>(
     gate: u32,
     source: u32,
 ) -> Result<(), Failed>
-    requires drawing { IsDrawing drawing.now }
     requires gate { gate < length drawing.now.looped.now.net.gates }
     requires source { source < length drawing.now.looped.now.net.gates }
     ensures { IsAppended (gate_wire (picture_seen drawing.now) gate source) (sink_call K.put K.faults sink.old sink.new) result }
 {
-    if is_drawn(drawing, source) {
+    if drawing.shows(source) {
         let net = drawing.looped.net();
         put_wire(
             sink,
@@ -178,7 +146,6 @@ fn put_needed_wire<K: Sink>(
 
 // The wire that a pin of a gate reads.
 fn put_pin<K: Sink>(sink: &mut K, drawing: &Drawing<'_>, gate: u32, pin: Sig) -> Result<(), Failed>
-    requires drawing { IsDrawing drawing.now }
     requires gate { gate < length drawing.now.looped.now.net.gates }
     requires pin { IsSignal drawing.now.looped.now.net pin }
     ensures { IsAppended (pin_wire (picture_seen drawing.now) gate pin) (sink_call K.put K.faults sink.old sink.new) result }
@@ -198,7 +165,6 @@ fn put_pins<K: Sink>(
     gate: u32,
     pins: &[Sig],
 ) -> Result<(), Failed>
-    requires drawing { IsDrawing drawing.now }
     requires gate { gate < length drawing.now.looped.now.net.gates }
     requires pins { All (IsSignal drawing.now.looped.now.net) pins.now }
     ensures { IsAppended (flat_map (pin_wire (picture_seen drawing.now) gate) pins.now) (sink_call K.put K.faults sink.old sink.new) result }
@@ -210,8 +176,7 @@ fn put_pins<K: Sink>(
 }
 
 fn put_wires_of<K: Sink>(sink: &mut K, drawing: &Drawing<'_>, gate: u32) -> Result<(), Failed>
-    requires drawing { IsDrawing drawing.now }
-    requires gate { gate < length drawing.now.looped.now.net.gates }
+    requires { gate < length drawing.now.looped.now.net.gates }
     ensures { IsAppended (pin_wires (picture_seen drawing.now) gate) (sink_call K.put K.faults sink.old sink.new) result }
 {
     put_pins(
@@ -224,10 +189,9 @@ fn put_wires_of<K: Sink>(sink: &mut K, drawing: &Drawing<'_>, gate: u32) -> Resu
 
 // The wires that the gates read.
 fn put_wires<K: Sink>(sink: &mut K, drawing: &Drawing<'_>) -> Result<(), Failed>
-    requires drawing { IsDrawing drawing.now }
-    ensures { IsAppended (flat_map (pin_wires (picture_seen drawing.now)) drawing.now.gates.now) (sink_call K.put K.faults sink.old sink.new) result }
+    ensures { IsAppended (flat_map (pin_wires (picture_seen drawing.now)) drawing.now.gates.items) (sink_call K.put K.faults sink.old sink.new) result }
 {
-    for gate in drawing.gates {
+    for gate in &drawing.gates {
         put_wires_of(sink, drawing, *gate)?;
     }
     Ok(())
@@ -254,8 +218,7 @@ fn column_name(net: &Netlist, column: u32) -> &Name
 }
 
 fn put_need<K: Sink>(sink: &mut K, drawing: &Drawing<'_>, column: u32) -> Result<(), Failed>
-    requires drawing { IsDrawing drawing.now }
-    requires column { column < length drawing.now.needs.now }
+    requires { column < length drawing.now.needs.now }
     ensures { IsAppended (needed_node (picture_seen drawing.now) column) (sink_call K.put K.faults sink.old sink.new) result }
 {
     put_box(
@@ -268,7 +231,6 @@ fn put_need<K: Sink>(sink: &mut K, drawing: &Drawing<'_>, column: u32) -> Result
 
 // The boxes of the values that are needed.
 fn put_needs<K: Sink>(sink: &mut K, drawing: &Drawing<'_>) -> Result<(), Failed>
-    requires drawing { IsDrawing drawing.now }
     ensures { IsAppended (flat_map (needed_node (picture_seen drawing.now)) (range_with_len 0 (length drawing.now.needs.now))) (sink_call K.put K.faults sink.old sink.new) result }
 {
     for column in 0..drawing.needs.len() {
@@ -278,7 +240,6 @@ fn put_needs<K: Sink>(sink: &mut K, drawing: &Drawing<'_>) -> Result<(), Failed>
 }
 
 fn put_picture<K: Sink>(sink: &mut K, drawing: &Drawing<'_>) -> Result<(), Failed>
-    requires drawing { IsDrawing drawing.now }
     ensures { IsAppended (picture (picture_seen drawing.now)) (sink_call K.put K.faults sink.old sink.new) result }
 {
     put_needs(sink, drawing)?;
@@ -287,7 +248,6 @@ fn put_picture<K: Sink>(sink: &mut K, drawing: &Drawing<'_>) -> Result<(), Faile
 }
 
 fn put_drawing<K: Sink>(sink: &mut K, label: &[u8], drawing: &Drawing<'_>) -> Result<(), Failed>
-    requires drawing { IsDrawing drawing.now }
     ensures { IsAppended (labelled_graph label.now (picture (picture_seen drawing.now))) (sink_call K.put K.faults sink.old sink.new) result }
 {
     open_graph(sink, label)?;
@@ -295,55 +255,7 @@ fn put_drawing<K: Sink>(sink: &mut K, label: &[u8], drawing: &Drawing<'_>) -> Re
     write_whole(sink, b"}\n")
 }
 
-// Marks these gates.
-#[tactic(auto, using(crate::proofs::MarkLemmas::none_marked, crate::proofs::MarkLemmas::all_marked))]
-fn mark(gates: &[u32], marks: &mut [bool])
-    requires { All (λ gate. gate < length marks.old) gates.now }
-    ensures { AddMarks (Contains gates.now) marks.old marks.new }
-{
-    for gate in gates {
-        marks[*gate as usize] = true;
-    }
-}
-
-// The same where nothing is marked.
-fn mark_alone(net: &Netlist, gates: &[u32], marks: &mut [bool])
-    requires gates { All (λ gate. gate < length net.now.gates) gates.now }
-    requires width { length marks.old ≡ length net.now.gates }
-    requires none { (n : ℕ) → is_marked marks.old n ≡ false }
-    ensures { AreMarksOf net.now gates.now marks.new }
-{
-    mark(gates, marks);
-}
-
-// A mark for each gate, which says whether it is one of these.
-#[tactic(auto, using(crate::proofs::MarkLemmas::unmarked))]
-fn marks_of(alloc: Global, net: &Netlist, gates: &[u32]) -> Result<Vec<bool>, AllocError>
-    requires { All (λ gate. gate < length net.now.gates) gates.now }
-    ensures { IfOk result (λ marks. AreMarksOf net.now gates.now marks.items) }
-{
-    let mut marks = vec![in alloc; false; net.gates() as usize]?;
-    mark_alone(net, gates, &mut marks);
-    Ok(marks)
-}
-
-fn trits_of(alloc: Global, vector: &[bool]) -> Result<Vec<Trit>, AllocError>
-    ensures { IfOk result (λ trits. trits.items ≡ bits vector.now) }
-{
-    vector.iter().map(|value| Trit::of(*value)).collect(alloc)
-}
-
-// The values of all signals at a vector.
-fn values_at(alloc: Global, net: &Netlist, vector: &[bool]) -> Result<Vec<Trit>, AllocError>
-    requires { length vector.now ≡ length net.now.inputs + length net.now.latches }
-    ensures { IfOk result (λ values. values.items ≡ fix net.now (bits vector.now)) }
-{
-    let given = trits_of(alloc, vector)?;
-    settle(alloc, net, &given)
-}
-
 fn tell_labelled(label: &[u8], drawing: &Drawing<'_>, sink: &mut TextSink) -> Result<(), AllocError>
-    requires { IsDrawing drawing.now }
     ensures { OnOk result (text_bytes sink.new ≡ text_bytes sink.old ++ labelled_graph label.now (picture (picture_seen drawing.now))) }
 {
     if put_drawing(sink, label, drawing).is_err() {
@@ -352,86 +264,30 @@ fn tell_labelled(label: &[u8], drawing: &Drawing<'_>, sink: &mut TextSink) -> Re
     Ok(())
 }
 
-// The gates of the loop of this gate, and those that are marked.
-fn drawn_gates(
-    alloc: Global,
-    looped: &LoopedNetlist<'_>,
-    first: u32,
-    way: &[bool],
-) -> Result<Vec<u32>, AllocError>
-    requires first { first < length looped.now.net.gates }
-    requires way { length way.now ≡ length looped.now.net.gates }
-    ensures { IfOk result (λ gates. gates.items ≡ filter (λ n. (loops_of looped.now.net).same first n || is_marked way.now n) (gate_numbers looped.now.net)) }
-{
-    (0..looped.net().gates())
-        .filter(|gate| looped.are_in_one_loop(first, *gate) || way[*gate as usize])
-        .collect(alloc)
-}
-
-// The graph where the signals have these values, and where the gates of the way and of the cycle are marked.
-fn tell_drawing(
-    alloc: Global,
-    looped: &LoopedNetlist<'_>,
-    why: &Explanation,
-    values: &[Trit],
-    way: &[bool],
-    cycle: &[bool],
-    label: &[u8],
-    sink: &mut TextSink,
-) -> Result<(), AllocError>
-    requires valid { IsNetlist looped.now.net }
-    requires why { IsExplanationOf looped.now.net why.now }
-    requires some { 0 < length why.now.cycle }
-    requires values { length values.now ≡ count looped.now.net }
-    requires way { AreMarksOf looped.now.net why.now.way way.now }
-    requires cycle { AreMarksOf looped.now.net why.now.cycle cycle.now }
-    ensures { OnOk result (text_bytes sink.new ≡ text_bytes sink.old ++ explanation_graph looped.now.net label.now values.now why.now) }
-{
-    let first = why.cycle.items()[0];
-    let gates = drawn_gates(alloc, looped, first, way)?;
-    let drawing = Drawing {
-        looped,
-        values,
-        gates: &gates,
-        first,
-        way,
-        cycle,
-        needs: why.needs.items(),
-    };
-    tell_labelled(label, &drawing, sink)
-}
-
 /// Appends why a gate is undetermined at a vector as a graph with this text as its label: the gates of the loop in which the
 /// cycle lies and those of the way, the wires between them, and the values that are needed as boxes. What is unknown at the
 /// vector is red, wires between gates of the cycle are bold, and cut wires are dashed.
 ///
-/// The condition is that the blocks and the cut are the netlist's, that the explanation speaks of its gates and columns, and
-/// that there is a cycle. It takes time in proportion to the gates and pins.
+/// The condition is that the explanation speaks of the netlist's gates and columns, and that there is a cycle. It takes time
+/// in proportion to the gates and pins.
 ///
 /// # Errors
 ///
 /// `AllocError` for want of memory alone.
 pub fn tell_explanation_graph(
     alloc: Global,
-    net: &Netlist,
-    blocks: &Blocks,
-    cut: &Cut,
+    looped: &LoopedNetlist<'_>,
     vector: &[bool],
     why: &Explanation,
     label: &[u8],
     sink: &mut TextSink,
 ) -> Result<(), AllocError>
-    requires valid { IsNetlist net.now }
-    requires blocks { AreBlocksOf net.now blocks.now }
-    requires cut { IsCutOf net.now cut.now }
-    requires width { length vector.now ≡ length net.now.inputs + length net.now.latches }
-    requires why { IsExplanationOf net.now why.now }
+    requires valid { IsNetlist looped.now.net }
+    requires width { length vector.now ≡ length looped.now.net.inputs + length looped.now.net.latches }
+    requires why { IsExplanationOf looped.now.net why.now }
     requires some { 0 < length why.now.cycle }
-    ensures { OnOk result (text_bytes sink.new ≡ text_bytes sink.old ++ explanation_graph net.now label.now (fix net.now (bits vector.now)) why.now) }
+    ensures { OnOk result (text_bytes sink.new ≡ text_bytes sink.old ++ explanation_graph looped.now.net label.now (fix looped.now.net (bits vector.now)) why.now) }
 {
-    let values = values_at(alloc, net, vector)?;
-    let way = marks_of(alloc, net, why.way.items())?;
-    let cycle = marks_of(alloc, net, why.cycle.items())?;
-    let looped = LoopedNetlist::new(net, blocks, cut);
-    tell_drawing(alloc, &looped, why, &values, &way, &cycle, label, sink)
+    let drawing = Drawing::of(alloc, looped, vector, why)?;
+    tell_labelled(label, &drawing, sink)
 }

@@ -1,12 +1,9 @@
 //! The loops of a netlist.
 
-ghost use Rattle.std.specs.Prelude.{◌≡◌, ◌<◌, ◌++◌, All, IfSome, None, Some, codes, if◌then◌else◌, length};
+ghost use Rattle.std.specs.Prelude.{◌≡◌, ◌<◌, All, length};
 ghost use Rattle.std.specs.List.{flat_map};
 ghost use Rattle.cyc_io.specs.Taken.{IsAppended, sink_call};
-ghost use Rattle.loops.specs.Blocks.{AreBlocksOf};
-ghost use Rattle.loops.specs.Cuts.{IsCutOf};
 ghost use Rattle.loops.specs.Found.{loops_of};
-ghost use Rattle.loops.specs.Sweeps.{gate_of, in_loop_of};
 ghost use Rattle.loops.specs.Left.{loop_seen};
 ghost use Rattle.loops.specs.Numbered.{IsLoopOf};
 ghost use Rattle.netlist.specs.Netlists.{IsSignal};
@@ -15,9 +12,10 @@ ghost use Rattle.dot_text.specs.LoopGraphs.{cluster_body, clusters, gate_node, l
 use crate::node::{put_node, put_quoted, put_wire};
 use cyc_base::Sig;
 use cyc_io::{Failed, Sink, write_whole};
-use loops::{Blocks, Cut, ListedLoop, LoopedNetlist};
+use loops::{ListedLoop, LoopedNetlist};
 use netlist::Netlist;
 use report::put_number;
+use unroll::source_in_loop;
 
 fn put_gate<K: Sink>(sink: &mut K, net: &Netlist, gate: u32) -> Result<(), Failed>
     requires { gate < length net.now.gates }
@@ -40,25 +38,6 @@ fn put_gates<K: Sink>(sink: &mut K, looped: &LoopedNetlist<'_>, gates: &[u32]) -
         put_gate(sink, looped.net(), *gate)?;
     }
     Ok(())
-}
-
-// The gate that drives a pin of this gate, where it is in this gate's loop.
-fn source_in_loop(looped: &LoopedNetlist<'_>, gate: u32, pin: Sig) -> Option<u32>
-    requires gate { gate < length looped.now.net.gates }
-    requires pin { IsSignal looped.now.net pin }
-    ensures source { result ≡ (if in_loop_of looped.now.net (loops_of looped.now.net) gate pin then Some (gate_of looped.now.net pin) else None) }
-    ensures within { IfSome result (λ source. source < length looped.now.net.gates) }
-{
-    let first = looped.net().inputs() + looped.net().latches();
-    if pin.0 < first {
-        return None;
-    }
-    let source = pin.0 - first;
-    if looped.are_in_one_loop(gate, source) {
-        Some(source)
-    } else {
-        None
-    }
 }
 
 // The end of the line of a wire in a loop: those of cut wires are dashed.
@@ -182,19 +161,10 @@ fn put_clusters<K: Sink>(sink: &mut K, looped: &LoopedNetlist<'_>) -> Result<(),
 
 /// Appends the loops of a netlist as a graph, each with its gates and the wires between them, cut wires dashed. It takes no
 /// memory.
-///
-/// The condition is that the blocks and the cut are the netlist's.
-pub fn put_loops_graph<K: Sink>(
-    net: &Netlist,
-    blocks: &Blocks,
-    cut: &Cut,
-    sink: &mut K,
-) -> Result<(), Failed>
-    requires blocks { AreBlocksOf net.now blocks.now }
-    requires cut { IsCutOf net.now cut.now }
-    ensures { IsAppended (loops_graph net.now) (sink_call K.put K.faults sink.old sink.new) result }
+pub fn put_loops_graph<K: Sink>(looped: &LoopedNetlist<'_>, sink: &mut K) -> Result<(), Failed>
+    ensures { IsAppended (loops_graph looped.now.net) (sink_call K.put K.faults sink.old sink.new) result }
 {
     write_whole(sink, b"digraph {\n")?;
-    put_clusters(sink, &LoopedNetlist::new(net, blocks, cut))?;
+    put_clusters(sink, looped)?;
     write_whole(sink, b"}\n")
 }

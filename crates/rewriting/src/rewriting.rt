@@ -4,8 +4,7 @@ ghost use Rattle.std.specs.Prelude.{◌≡◌, ◌≤◌, length, IfOk, IfErr, O
 ghost use Rattle.care_sets.specs.Care.{CareSet};
 ghost use Rattle.netlist.specs.Netlists.{IsNetlist};
 ghost use Rattle.netlist.specs.Walks.{IsLoopFree};
-ghost use Rattle.loops.specs.Blocks.{AreBlocksOf};
-ghost use Rattle.loops.specs.Cuts.{IsCutOf, in_one_loop, loops_by};
+ghost use Rattle.loops.specs.Cuts.{in_one_loop, loops_by};
 ghost use Rattle.refusals.specs.declared.observe.Observe.{Observe};
 ghost use Rattle.refusals.specs.Acceptance.{Accepts};
 ghost use Rattle.unroll.specs.Laws.{KeepsInterface};
@@ -14,10 +13,10 @@ ghost use Rattle.verdict.specs.Verdicts.{AreSweepsOnCare};
 ghost use Rattle.rewriting.specs.Rewriting.{rewritten_size as size_of, IsRewriting};
 
 use crate::covers::have_covers;
-use loops::{Blocks, Cut, SweepCounts};
+use loops::{LoopedNetlist, SweepCounts};
 use netlist::Netlist;
 use std::alloc::Global;
-use unroll::{UnrollFault, unroll};
+use unroll::{UnrollFault, unroll_looped};
 
 /// The rewritten netlist of an accepted one, by the sweeps that its loops need on its care set.
 ///
@@ -25,8 +24,8 @@ use unroll::{UnrollFault, unroll};
 /// the netlist within care and each run of the new one over the same inputs and from the same latches show the same at
 /// each tick, whatever their windows, pasts and fair schedules (Malik 1994). Its text reads back as it.
 ///
-/// The condition is that the blocks and the cut are the netlist's, that there is a number for each block, and that there
-/// are at most 4,000,000,000 inputs. A flattened netlist has no more.
+/// The condition is that there is a number for each block, and that there are at most 4,000,000,000 inputs. A flattened
+/// netlist has no more.
 ///
 /// # Errors
 ///
@@ -34,29 +33,27 @@ use unroll::{UnrollFault, unroll};
 /// where memory runs out.
 pub fn rewrite(
     alloc: Global,
-    net: &Netlist,
-    blocks: &Blocks,
-    cut: &Cut,
+    looped: &LoopedNetlist<'_>,
     sweeps: &SweepCounts,
 ) -> Result<Netlist, UnrollFault>
-    requires blocks { AreBlocksOf net.now blocks.now }
-    requires cut { IsCutOf net.now cut.now }
-    requires sweeps { length sweeps.now.per_block ≡ length blocks.now.list }
-    requires inputs { length net.now.inputs ≤ 4000000000 }
-    ensures rewriting { IfOk result (λ other. (care : CareSet) (what : Observe) → Accepts net.now care what →
-        AreSweepsOnCare net.now blocks.now cut.now care sweeps.now → IsRewriting net.now care other) }
-    ensures small { OnOk result ((care : CareSet) → AreSweepsOnCare net.now blocks.now cut.now care sweeps.now → size_of net.now care ≤ 4000000) }
-    ensures fault { IfErr result (λ fault. (care : CareSet) → AreSweepsOnCare net.now blocks.now cut.now care sweeps.now →
-        IsUnrollFault (size_of net.now care) fault) }
+    requires sweeps { length sweeps.now.per_block ≡ length looped.now.blocks.list }
+    requires inputs { length looped.now.net.inputs ≤ 4000000000 }
+    ensures rewriting { IfOk result (λ other. (care : CareSet) (what : Observe) → Accepts looped.now.net care what →
+        AreSweepsOnCare looped.now.net looped.now.blocks looped.now.cut care sweeps.now → IsRewriting looped.now.net care other) }
+    ensures small { OnOk result ((care : CareSet) → AreSweepsOnCare looped.now.net looped.now.blocks looped.now.cut care sweeps.now →
+        size_of looped.now.net care ≤ 4000000) }
+    ensures fault { IfErr result (λ fault. (care : CareSet) → AreSweepsOnCare looped.now.net looped.now.blocks looped.now.cut care sweeps.now →
+        IsUnrollFault (size_of looped.now.net care) fault) }
     ensures valid { IfOk result IsNetlist }
 
     // Whatever the sweeps are, it is the netlist unrolled by them.
-    ensures unrolled { IfOk result (λ other. other ≡ unrolled net.now (loops_by blocks.now cut.now) (sweeps_of blocks.now sweeps.now)) }
-    ensures fits { OnOk result (unrolled_size net.now (in_one_loop blocks.now) (sweeps_of blocks.now sweeps.now) ≤ 4000000) }
-    ensures outgrown { IfErr result (IsUnrollFault (unrolled_size net.now (in_one_loop blocks.now) (sweeps_of blocks.now sweeps.now))) }
+    ensures unrolled { IfOk result (λ other. other ≡ unrolled looped.now.net (loops_by looped.now.blocks looped.now.cut) (sweeps_of looped.now.blocks sweeps.now)) }
+    ensures fits { OnOk result (unrolled_size looped.now.net (in_one_loop looped.now.blocks) (sweeps_of looped.now.blocks sweeps.now) ≤ 4000000) }
+    ensures outgrown { IfErr result (IsUnrollFault (unrolled_size looped.now.net (in_one_loop looped.now.blocks) (sweeps_of looped.now.blocks sweeps.now))) }
     ensures loop_free { IfOk result IsLoopFree }
-    ensures interface { IfOk result (KeepsInterface net.now) }
+    ensures interface { IfOk result (KeepsInterface looped.now.net) }
 {
+    let net = looped.net();
     have_covers(net);
-    Ok(unroll(alloc, net, blocks, cut, sweeps)?)
+    unroll_looped(alloc, looped, sweeps)
 }

@@ -2,19 +2,18 @@
 
 ghost use Rattle.std.specs.Prelude.{◌≡◌, All, IfOk, length, map};
 ghost use Rattle.netlist.specs.Netlists.{IsNetlist};
-ghost use Rattle.loops.specs.Blocks.{AreBlocksOf};
-ghost use Rattle.loops.specs.Cuts.{IsCutOf};
 ghost use Rattle.dual_rail.specs.Rails.{AreRailsOf};
 ghost use Rattle.fixpoint.specs.Kept.{AreKept, rails_under};
 ghost use Rattle.fixpoint.specs.Solved.{AreGiven};
 
+use crate::looped::loops_of;
 use crate::texts::net_of;
 use bdd_ops::Diagrams;
 use bdd_store::{Node, StoreFault};
 use cyc_base::{Items, Trit};
 use dual_rail::{Rails, var_rails};
 use fixpoint::{KeptRails, keep_rails, rails_of, solve};
-use loops::{Blocks, Cut, find_blocks, find_cut};
+use loops::LoopedNetlist;
 use netlist::Netlist;
 use std::alloc::{AllocError, Global};
 use std::test::Fail;
@@ -143,16 +142,13 @@ fn given_rails(alloc: Global, d: &mut Diagrams) -> Result<Vec<KeptRails>, StoreF
 fn rails_from(
     alloc: Global,
     d: &mut Diagrams,
-    net: &Netlist,
-    blocks: &Blocks,
-    cut: &Cut,
+    looped: &LoopedNetlist<'_>,
     given: Vec<KeptRails>,
 ) -> Result<Items<Rails>, StoreFault>
-    requires blocks { AreBlocksOf net.now blocks.now }
-    requires cut { IsCutOf net.now cut.now }
-    requires given { AreGiven net.now d.old given.items }
+    requires { AreGiven looped.now.net d.old given.items }
 {
-    let solved = solve(alloc, d, net, blocks, cut, given)?;
+    let net = looped.net();
+    let solved = solve(alloc, d, net, looped.blocks(), looped.cut(), given)?;
     Ok(Items::of(rails_of(alloc, d, solved.rails.items())?))
 }
 
@@ -160,40 +156,23 @@ fn rails_from(
 fn rails_by(
     alloc: Global,
     d: &mut Diagrams,
-    net: &Netlist,
-    blocks: &Blocks,
-    cut: &Cut,
+    looped: &LoopedNetlist<'_>,
 ) -> Result<Items<Rails>, StoreFault>
-    requires vars { d.old.vars ≡ 2 }
-    requires blocks { AreBlocksOf net.now blocks.now }
-    requires cut { IsCutOf net.now cut.now }
+    requires { d.old.vars ≡ 2 }
 {
+    let net = looped.net();
     if net.inputs() != 1 || net.latches() != 1 {
         return Ok(Items::of(Vec::new(alloc)));
     }
     let given = given_rails(alloc, d)?;
-    rails_from(alloc, d, net, blocks, cut, given)
-}
-
-/// The same, with cut wires of its own.
-fn rails_over(
-    alloc: Global,
-    d: &mut Diagrams,
-    net: &Netlist,
-    blocks: &Blocks,
-) -> Result<Items<Rails>, StoreFault>
-    requires vars { d.old.vars ≡ 2 }
-    requires blocks { AreBlocksOf net.now blocks.now }
-{
-    let cut = find_cut(alloc, net, blocks)?;
-    rails_by(alloc, d, net, blocks, &cut)
+    rails_from(alloc, d, looped, given)
 }
 
 fn solved_rails(alloc: Global, d: &mut Diagrams, net: &Netlist) -> Result<Items<Rails>, StoreFault>
     requires { d.old.vars ≡ 2 }
 {
-    let blocks = find_blocks(alloc, net)?;
-    rails_over(alloc, d, net, &blocks)
+    let (blocks, cut) = loops_of(alloc, net)?;
+    rails_by(alloc, d, &LoopedNetlist::new(net, &blocks, &cut))
 }
 
 /// Whether they do at each vector.

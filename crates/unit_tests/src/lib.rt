@@ -18,6 +18,8 @@ mod formulas;
 #[cfg(test)]
 mod graphs;
 #[cfg(test)]
+mod looped;
+#[cfg(test)]
 mod netlists;
 #[cfg(test)]
 mod operations;

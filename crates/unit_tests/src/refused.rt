@@ -1,14 +1,13 @@
 //! Refusals against what they show.
 
 ghost use Rattle.care_sets.specs.Binding.{IsCareOf};
-ghost use Rattle.loops.specs.Blocks.{AreBlocksOf};
-ghost use Rattle.loops.specs.Cuts.{IsCutOf};
 ghost use Rattle.netlist.specs.Netlists.{IsNetlist};
 
+use crate::looped::loops_of;
 use crate::texts::{care_by, net_of};
 use bdd_ops::Diagrams;
 use care_sets::Care;
-use loops::{Blocks, Cut, find_blocks, find_cut};
+use loops::LoopedNetlist;
 use netlist::Netlist;
 use refusals::shows;
 use std::alloc::Global;
@@ -41,16 +40,15 @@ fn refused(number: u32) -> (&'static [u8], &'static [u8]) {
 fn is_shown_by(
     alloc: Global,
     d: &mut Diagrams,
-    net: &Netlist,
-    blocks: &Blocks,
-    cut: &Cut,
+    looped: &LoopedNetlist<'_>,
     care: &Care,
 ) -> Result<bool, Fail>
-    requires valid { IsNetlist net.now }
-    requires care { IsCareOf net.now care.now }
-    requires blocks { AreBlocksOf net.now blocks.now }
-    requires cut { IsCutOf net.now cut.now }
+    requires valid { IsNetlist looped.now.net }
+    requires care { IsCareOf looped.now.net care.now }
 {
+    let net = looped.net();
+    let blocks = looped.blocks();
+    let cut = looped.cut();
     match decide(alloc, d, net, blocks, cut, care, 1_000, Observe::All)? {
         Verdict::Accepted { .. } => Ok(false),
         Verdict::Refused(refusal) => Ok(shows(alloc, net, care, &refusal)?),
@@ -58,30 +56,12 @@ fn is_shown_by(
 }
 
 /// Whether it is over diagrams of its own.
-fn is_shown_anew(
-    alloc: Global,
-    net: &Netlist,
-    blocks: &Blocks,
-    cut: &Cut,
-    care: &Care,
-) -> Result<bool, Fail>
-    requires valid { IsNetlist net.now }
-    requires care { IsCareOf net.now care.now }
-    requires blocks { AreBlocksOf net.now blocks.now }
-    requires cut { IsCutOf net.now cut.now }
+fn is_shown_anew(alloc: Global, looped: &LoopedNetlist<'_>, care: &Care) -> Result<bool, Fail>
+    requires valid { IsNetlist looped.now.net }
+    requires care { IsCareOf looped.now.net care.now }
 {
     let mut d = Diagrams::new(alloc, 0, 1)?;
-    is_shown_by(alloc, &mut d, net, blocks, cut, care)
-}
-
-/// Whether it is with cut wires of its own.
-fn is_shown_over(alloc: Global, net: &Netlist, blocks: &Blocks, care: &Care) -> Result<bool, Fail>
-    requires valid { IsNetlist net.now }
-    requires care { IsCareOf net.now care.now }
-    requires blocks { AreBlocksOf net.now blocks.now }
-{
-    let cut = find_cut(alloc, net, blocks)?;
-    is_shown_anew(alloc, net, blocks, &cut, care)
+    is_shown_by(alloc, &mut d, looped, care)
 }
 
 /// Whether a netlist is refused, and its refusal shows what it says.
@@ -89,8 +69,8 @@ fn is_refused_and_shown(alloc: Global, net: &Netlist, care: &Care) -> Result<boo
     requires valid { IsNetlist net.now }
     requires care { IsCareOf net.now care.now }
 {
-    let blocks = find_blocks(alloc, net)?;
-    is_shown_over(alloc, net, &blocks, care)
+    let (blocks, cut) = loops_of(alloc, net)?;
+    is_shown_anew(alloc, &LoopedNetlist::new(net, &blocks, &cut), care)
 }
 
 fn is_shown_on(alloc: Global, net: &Netlist, text: &[u8]) -> Result<bool, Fail>

@@ -2,9 +2,10 @@
 
 ghost use Rattle.std.specs.Prelude.{◌≤◌};
 
+use crate::looped::loops_of;
 use crate::texts::net_of;
 use isolation::settles_alone;
-use loops::{LoopedNetlist, find_blocks, find_cut};
+use loops::LoopedNetlist;
 use std::alloc::{AllocError, Global};
 use std::test::Fail;
 
@@ -33,8 +34,7 @@ fn sweeps_of(alloc: Global, text: &[u8], budget: u32) -> Result<Option<u32>, Fai
     requires { budget ≤ 1000 }
 {
     let net = net_of(alloc, text)?;
-    let blocks = find_blocks(alloc, &net)?;
-    let cut = find_cut(alloc, &net, &blocks)?;
+    let (blocks, cut) = loops_of(alloc, &net)?;
     let looped = LoopedNetlist::new(&net, &blocks, &cut);
     Ok(sweeps_on(alloc, &looped, budget)?)
 }

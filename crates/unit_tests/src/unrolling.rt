@@ -1,11 +1,9 @@
 //! Unrolled netlists that are too large. The texts of others are lines of the crate `cases`.
 
-ghost use Rattle.loops.specs.Blocks.{AreBlocksOf};
-ghost use Rattle.loops.specs.Cuts.{IsCutOf};
-
+use crate::looped::loops_of;
 use crate::texts::net_of;
 use cyc_base::Items;
-use loops::{Blocks, Cut, SweepCounts, find_blocks, find_cut};
+use loops::{LoopedNetlist, SweepCounts};
 use netlist::Netlist;
 use std::alloc::Global;
 use std::test::Fail;
@@ -15,35 +13,22 @@ use unroll::{UnrollFault, unroll};
 const SELF_LOOP: &[u8] = b".model m\n.inputs x\n.outputs a\n.names x a a\n1- 1\n-1 1\n.end\n";
 
 /// Why a netlist isn't unrolled by 4,000,000 sweeps of each loop.
-fn fault_by(
-    alloc: Global,
-    net: &Netlist,
-    blocks: &Blocks,
-    cut: &Cut,
-) -> Result<Option<UnrollFault>, Fail>
-    requires blocks { AreBlocksOf net.now blocks.now }
-    requires cut { IsCutOf net.now cut.now }
-{
+fn fault_by(alloc: Global, looped: &LoopedNetlist<'_>) -> Result<Option<UnrollFault>, Fail> {
+    let net = looped.net();
     if net.inputs() > 1 {
         return Err(Fail::from("many inputs"));
     }
+    let blocks = looped.blocks();
     let per_block = vec![in alloc; 4_000_000; blocks.list.items().len()]?;
     let sweeps = SweepCounts {
         per_block: Items::of(per_block),
     };
-    Ok(unroll(alloc, net, blocks, cut, &sweeps).err())
-}
-
-fn fault_over(alloc: Global, net: &Netlist, blocks: &Blocks) -> Result<Option<UnrollFault>, Fail>
-    requires { AreBlocksOf net.now blocks.now }
-{
-    let cut = find_cut(alloc, net, blocks)?;
-    fault_by(alloc, net, blocks, &cut)
+    Ok(unroll(alloc, net, blocks, looped.cut(), &sweeps).err())
 }
 
 fn fault_of(alloc: Global, net: &Netlist) -> Result<Option<UnrollFault>, Fail> {
-    let blocks = find_blocks(alloc, net)?;
-    fault_over(alloc, net, &blocks)
+    let (blocks, cut) = loops_of(alloc, net)?;
+    fault_by(alloc, &LoopedNetlist::new(net, &blocks, &cut))
 }
 
 fn fault(alloc: Global) -> Result<Option<UnrollFault>, Fail> {

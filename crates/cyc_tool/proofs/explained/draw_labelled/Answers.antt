@@ -9,5 +9,5 @@ returns c = λ care on_care.
     c.on_out.ensures
     ∙ ap (λ text. on_out 0 text)
     (c.into_vec.ensures
-    ∙ (rw (c.net-net.ensures.net, c.blocks-blocks.ensures.blocks, c.cut-cut.ensures.cut) at c.in_ok-tell_loops_graph.ensures.on_care) care on_care
+    ∙ c.in_ok-tell_loops_graph.ensures.on_care care on_care
     ∙ ap (λ text. text ++ told_graph c.args.looped.now.net c.args.label.now (sweeps_needed c.args.looped.now.net care)) c.new-sink.ensures.empty)

@@ -18,5 +18,5 @@ returns c = λ care on_care.
     c.on_out.ensures
     ∙ ap (λ text. on_out 0 text)
     (c.into_vec.ensures
-    ∙ c.in_ok-append_loops.ensures care on_care
+    ∙ c.in_ok-tell_loops.ensures.on_care care on_care
     ∙ ap (λ text. text ++ told_loops net (sweeps_needed net care)) (line ∙ ap (λ text. text ++ accepted_text net (count_of_loops net) c.args.loose) c.new-sink.ensures.empty))

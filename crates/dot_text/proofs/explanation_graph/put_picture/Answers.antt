@@ -11,12 +11,12 @@ returns-in_err-put_needs g c = appended_cut _ _ _ _ _ c.in_err-put_needs.ensures
 pub returns-in_err-put_gates : goal.returns-in_err-put_gates
 returns-in_err-put_gates g c =
     appended_then _ _ _ _ _ _ _ _ _ _ c.in_ok-put_needs.ensures
-    (appended_cut _ _ _ _ _ (appended_equal _ _ _ _ (ap (flat_map (gate_node (picture_seen c.args.drawing.now))) (sym c.requires.drawing.gates)) c.in_err-put_gates.ensures)
+    (appended_cut _ _ _ _ _ (appended_equal _ _ _ _ (ap (flat_map (gate_node (picture_seen c.args.drawing.now))) (sym c.args.drawing.now.drawn)) c.in_err-put_gates.ensures)
     c.from_residual-in_err-put_gates.ensures.0)
 
 pub returns : goal.returns
 returns g c =
     appended_then _ _ _ _ _ _ _ _ _ _ c.in_ok-put_needs.ensures
     (appended_then _ _ _ _ _ _ _ _ _ _
-    (appended_equal _ _ _ _ (ap (flat_map (gate_node (picture_seen c.args.drawing.now))) (sym c.requires.drawing.gates)) c.in_ok-put_gates.ensures)
-    (appended_equal _ _ _ _ (ap (flat_map (pin_wires (picture_seen c.args.drawing.now))) (sym c.requires.drawing.gates)) c.put_wires.ensures))
+    (appended_equal _ _ _ _ (ap (flat_map (gate_node (picture_seen c.args.drawing.now))) (sym c.args.drawing.now.drawn)) c.in_ok-put_gates.ensures)
+    (appended_equal _ _ _ _ (ap (flat_map (pin_wires (picture_seen c.args.drawing.now))) (sym c.args.drawing.now.drawn)) c.put_wires.ensures))

@@ -1,5 +1,6 @@
-use Rattle.std.proofs.Common.{arith}
-use Rattle.cyc_io.proofs.TakenLemmas.{appended_none}
+use Rattle.std.proofs.Common.{ap, sym, arith}
+use Rattle.std.specs.List.{flat_map}
+use Rattle.cyc_io.proofs.TakenLemmas.{appended_equal, appended_none}
 use Rattle.cyc_io.proofs.ItemLemmas.{appended_copied, appended_in_copied, appended_items}
 use Rattle.dot_text.specs.ExplanationGraphs.{pin_wires}
 use Rattle.dot_text.specs.Seen.{picture_seen}
@@ -9,10 +10,14 @@ pub loop-gate-init : goal.loop-gate-init
 loop-gate-init g c = appended_none _ _ _
 
 pub loop-gate-preserved : goal.loop-gate-preserved
-loop-gate-preserved g c = appended_copied (pin_wires (picture_seen c.args.drawing.now)) c.args.drawing.now.gates.now c.loop-gate.gate-index _ _ _ _ _ _ _ _ _ (omega arith) c.loop-gate.invariant c.in_ok-put_wires_of.ensures
+loop-gate-preserved g c = appended_copied (pin_wires (picture_seen c.args.drawing.now)) c.deref-gate-items.result.now c.loop-gate.gate-index _ _ _ _ _ _ _ _ _ (omega arith) c.loop-gate.invariant c.in_ok-put_wires_of.ensures
 
 pub returns-in_err-put_wires_of : goal.returns-in_err-put_wires_of
-returns-in_err-put_wires_of g c = appended_in_copied (pin_wires (picture_seen c.args.drawing.now)) c.args.drawing.now.gates.now c.loop-gate.gate-index _ _ _ _ _ _ _ _ _ _ (omega arith) c.loop-gate.invariant c.in_err-put_wires_of.ensures c.from_residual.ensures.0
+returns-in_err-put_wires_of g c =
+    appended_equal _ _ _ _ (ap (flat_map (pin_wires (picture_seen c.args.drawing.now))) (sym c.deref-gate-items.ensures.value))
+    (appended_in_copied (pin_wires (picture_seen c.args.drawing.now)) c.deref-gate-items.result.now c.loop-gate.gate-index _ _ _ _ _ _ _ _ _ _ (omega arith) c.loop-gate.invariant c.in_err-put_wires_of.ensures c.from_residual.ensures.0)
 
 pub returns : goal.returns
-returns g c = appended_items (pin_wires (picture_seen c.args.drawing.now)) c.args.drawing.now.gates.now c.loop-gate.gate-index _ _ (omega arith) c.loop-gate.invariant
+returns g c =
+    appended_equal _ _ _ _ (ap (flat_map (pin_wires (picture_seen c.args.drawing.now))) (sym c.deref-gate-items.ensures.value))
+    (appended_items (pin_wires (picture_seen c.args.drawing.now)) c.deref-gate-items.result.now c.loop-gate.gate-index _ _ (omega arith) c.loop-gate.invariant)

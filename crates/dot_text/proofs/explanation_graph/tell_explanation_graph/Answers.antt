@@ -1,6 +1,12 @@
-use Rattle.std.proofs.Common.{length, ap, ◌∙◌}
-use Rattle.dot_text.proofs.GraphLemmas.{values_fit}
+use Rattle.std.proofs.Common.{◌++◌, ap, ◌∙◌}
+use Rattle.std.proofs.lemmas.Result.{on_ok_weaker}
+use Rattle.cyc_io.specs.Text.{text_bytes}
+use Rattle.dot_text.specs.Dot.{labelled_graph}
+use Rattle.dot_text.specs.ExplanationGraphs.{Picture, picture}
 use Rattle.dot_text.proofs.explanation_graph.tell_explanation_graph.Goals as goal
 
-pub tell_drawing-requires-clause-values : goal.tell_drawing-requires-clause-values
-tell_drawing-requires-clause-values c = rw c.new-looped.ensures (ap length (c.deref.ensures.value ∙ c.in_ok-values.ensures) ∙ values_fit c.args.net.now c.args.vector.now c.requires.width)
+pub returns : goal.returns
+returns c =
+    on_ok_weaker c.tell_labelled.result
+    (λ told. told ∙ ap (λ (p : Picture). text_bytes c.args.sink.now ++ labelled_graph c.args.label.now (picture p)) c.in_ok-drawing.ensures)
+    c.tell_labelled.ensures

@@ -1,24 +1,39 @@
 use Rattle.std.proofs.Common.{ℕ, ◌≤◌, ◌∙◌, subst}
-use Rattle.std.proofs.lemmas.Result.{err_from_is_err_and}
+use Rattle.std.proofs.lemmas.Result.{IfErr-weaker, on_ok_weaker}
+use Rattle.std.specs.Prelude.{Ok, Err, IfOk, OnOk}
+use Rattle.std.specs.declared.result.Result.{Result}
 use Rattle.unroll.specs.Unrolled.{IsUnrollFault}
 use Rattle.rewriting.proofs.RewrittenLemmas.{is_rewriting, size_is_rewritten, unrolled_is_rewritten}
 use Rattle.rewriting.proofs.rewriting.rewrite.Goals as goal
 
+-- what follows for a value from three facts of it
+by_three : {T E S : Type 0} (P Q R : T → Type 0) → ((x : T) → P x → S → Q x → R x) → (r : Result T E) → IfOk r P → OnOk r S → IfOk r Q → IfOk r R
+by_three P Q R f (Ok x) p s q = f x p s q
+by_three P Q R f (Err e) p s q = tt
+
 pub returns-clause-rewriting : goal.returns-clause-rewriting
-returns-clause-rewriting c care what accepts on_care =
-    let net = c.args.net.now in
-    let is = c.in_ok-unroll.ensures.unrolled ∙ unrolled_is_rewritten net c.args.blocks.now c.args.cut.now care c.args.sweeps.now c.requires.blocks c.requires.cut on_care in
-    let small = subst (λ (size : ℕ). size ≤ 4000000) (size_is_rewritten net c.args.blocks.now c.args.cut.now care c.args.sweeps.now c.requires.blocks c.requires.cut on_care) c.in_ok-unroll.ensures.small in
-    is_rewriting net care what _ c.have_covers.ensures.valid c.have_covers.ensures.covers accepts is c.in_ok-unroll.ensures.valid small
+returns-clause-rewriting c =
+    let l = c.args.looped.now in
+    let is = c.net-net.ensures.looped in
+    by_three _ _ _
+    (λ other unrolled small valid care what accepts on_care.
+    is_rewriting l.net care what other (rw c.net-net.ensures.net at c.have_covers.ensures.valid) (rw c.net-net.ensures.net at c.have_covers.ensures.covers) accepts
+    (unrolled ∙ unrolled_is_rewritten l.net l.blocks l.cut care c.args.sweeps.now is.blocks is.cut on_care) valid
+    (subst (λ (size : ℕ). size ≤ 4000000) (size_is_rewritten l.net l.blocks l.cut care c.args.sweeps.now is.blocks is.cut on_care) small))
+    c.unroll_looped.result c.unroll_looped.ensures.unrolled c.unroll_looped.ensures.small c.unroll_looped.ensures.valid
 
 pub returns-clause-small : goal.returns-clause-small
-returns-clause-small c care on_care =
-    subst (λ (size : ℕ). size ≤ 4000000) (size_is_rewritten c.args.net.now c.args.blocks.now c.args.cut.now care c.args.sweeps.now c.requires.blocks c.requires.cut on_care) c.in_ok-unroll.ensures.small
+returns-clause-small c =
+    let l = c.args.looped.now in
+    let is = c.net-net.ensures.looped in
+    on_ok_weaker c.unroll_looped.result
+    (λ small care on_care. subst (λ (size : ℕ). size ≤ 4000000) (size_is_rewritten l.net l.blocks l.cut care c.args.sweeps.now is.blocks is.cut on_care) small)
+    c.unroll_looped.ensures.small
 
-pub returns-in_err-unroll-clause-fault : goal.returns-in_err-unroll-clause-fault
-returns-in_err-unroll-clause-fault c =
-    let p = err_from_is_err_and c.from_residual.result c.from_residual.ensures.1 in
-    rw (p.1, p.2)
-    (λ care on_care.
-    subst (λ (size : ℕ). IsUnrollFault size c.in_err-unroll.field-0.0)
-    (size_is_rewritten c.args.net.now c.args.blocks.now c.args.cut.now care c.args.sweeps.now c.requires.blocks c.requires.cut on_care) c.in_err-unroll.ensures.fault)
+pub returns-clause-fault : goal.returns-clause-fault
+returns-clause-fault c =
+    let l = c.args.looped.now in
+    let is = c.net-net.ensures.looped in
+    IfErr-weaker c.unroll_looped.result _ _
+    (λ fault told care on_care. subst (λ (size : ℕ). IsUnrollFault size fault) (size_is_rewritten l.net l.blocks l.cut care c.args.sweeps.now is.blocks is.cut on_care) told)
+    c.unroll_looped.ensures.fault

@@ -1,12 +1,14 @@
-use Rattle.std.proofs.Common.{◌∙◌, arith}
+use Rattle.std.proofs.Common.{length, ap, ◌∙◌, arith}
+use Rattle.netlist.specs.declared.parts.Parts.{Parts}
 use Rattle.rewriting.proofs.RewrittenLemmas.{size_is_rewritten, rewritten_has_its_size, rewritten_latches}
 use Rattle.rewriting.proofs.sizes.rewritten_gates.Goals as goal
 
 pub returns-clause-on_care : goal.returns-clause-on_care
-returns-clause-on_care c cut care cut_is on_care =
-    let net = c.args.net.now in
-    let size = c.unrolled_size-size.ensures.size ∙ size_is_rewritten net c.args.blocks.now cut care c.args.sweeps.now c.requires.blocks cut_is on_care in
-    let parts = rewritten_has_its_size net care in
-    let latches = rewritten_latches net care in
-    let own = c.latches.ensures.latches in
+returns-clause-on_care c care on_care =
+    let l = c.args.looped.now in
+    let is = c.unrolled_size-size.ensures.looped in
+    let size = c.unrolled_size-size.ensures.size ∙ size_is_rewritten l.net l.blocks l.cut care c.args.sweeps.now is.blocks is.cut on_care in
+    let parts = rewritten_has_its_size l.net care in
+    let latches = rewritten_latches l.net care in
+    let own = c.latches.ensures.latches ∙ ap (λ (net : Parts). length net.latches) c.net-net.ensures.net in
     omega (arith, size, parts, latches, own)

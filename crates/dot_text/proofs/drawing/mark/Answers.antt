@@ -1,5 +1,5 @@
 use Rattle.dot_text.proofs.MarkLemmas.{one_more_marked}
-use Rattle.dot_text.proofs.explanation_graph.mark.Goals as goal
+use Rattle.dot_text.proofs.drawing.mark.Goals as goal
 
 pub loop-gate-preserved : goal.loop-gate-preserved
 loop-gate-preserved c =
