@@ -16,7 +16,7 @@ use explanations::Explanation;
 use loops::LoopedNetlist;
 use netlist::Netlist;
 use std::alloc::{AllocError, Global};
-use ternary_run::settle;
+use ternary_run::settle_at;
 
 /// What is drawn of an explanation.
 #[derive(Drop)]
@@ -76,21 +76,6 @@ fn marks_of(alloc: Global, net: &Netlist, gates: &[u32]) -> Result<Vec<bool>, Al
     Ok(marks)
 }
 
-fn trits_of(alloc: Global, vector: &[bool]) -> Result<Vec<Trit>, AllocError>
-    ensures { IfOk result (λ trits. trits.items ≡ bits vector.now) }
-{
-    vector.iter().map(|value| Trit::of(*value)).collect(alloc)
-}
-
-// The values of all signals at a vector.
-fn values_at(alloc: Global, net: &Netlist, vector: &[bool]) -> Result<Vec<Trit>, AllocError>
-    requires { length vector.now ≡ length net.now.inputs + length net.now.latches }
-    ensures { IfOk result (λ values. values.items ≡ fix net.now (bits vector.now)) }
-{
-    let given = trits_of(alloc, vector)?;
-    settle(alloc, net, &given)
-}
-
 // The gates of the loop of this gate, and those that are marked.
 fn drawn_gates(
     alloc: Global,
@@ -126,7 +111,7 @@ impl<'a> Drawing<'a> {
         ensures { IfOk result (λ drawing. picture_seen drawing ≡ picture_of looped.now.net (fix looped.now.net (bits vector.now)) why.now) }
     {
         let net = looped.net();
-        let values = values_at(alloc, net, vector)?;
+        let values = settle_at(alloc, net, vector)?;
         let first = why.cycle.items()[0];
         let way = marks_of(alloc, net, why.way.items())?;
         let cycle = marks_of(alloc, net, why.cycle.items())?;
