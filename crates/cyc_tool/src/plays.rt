@@ -20,6 +20,16 @@ use probes::{Kind, Probe, ShownRun, play_shown};
 use report::put_played_tick;
 use std::alloc::{AllocError, Global};
 
+// A netlist with vectors and a schedule for them.
+#[derive(Drop)]
+pub(crate) struct ScheduledRun<'a> {
+    pub net: &'a Netlist,
+    pub vectors: &'a [Bits],
+    pub schedule: &'a Schedule,
+    ghost inputs: { AreInputs net.now vectors.now },
+    ghost fits: { FitsNetlist net.now (length vectors.now) schedule.now },
+}
+
 fn is_one_of(value: Trit) -> bool
     ensures { result ≡ is_one value }
 {
@@ -50,45 +60,34 @@ pub(crate) fn known(alloc: Global, vectors: &[Trits]) -> Result<Vec<Bits>, Alloc
     Ok(bits)
 }
 
-// How the ticks of a schedule end, or the first fault in the order of play.
-pub(crate) fn played(
-    alloc: Global,
-    net: &Netlist,
-    vectors: &[Bits],
-    schedule: &Schedule,
-) -> Result<Vec<TickEnd>, FileError>
-    requires inputs { AreInputs net.now vectors.now }
-    requires fits { FitsNetlist net.now (length vectors.now) schedule.now }
-    ensures good { IfOk result (λ ends. played_meant net.now vectors.now schedule.now ≡ Ok ends.items) }
-    ensures bad { IfErr result (λ error. IsErrorOf (played_meant net.now vectors.now schedule.now) (error_seen error)) }
+// How the ticks of a run end, or the first fault in the order of play.
+pub(crate) fn played(alloc: Global, run: &ScheduledRun<'_>) -> Result<Vec<TickEnd>, FileError>
+    ensures good { IfOk result (λ ends. played_meant run.now.net.now run.now.vectors.now run.now.schedule.now ≡ Ok ends.items) }
+    ensures bad { IfErr result (λ error. IsErrorOf (played_meant run.now.net.now run.now.vectors.now run.now.schedule.now) (error_seen error)) }
 {
-    match play_whole(alloc, net, vectors, schedule) {
+    match play_whole(alloc, run.net, run.vectors, run.schedule) {
         Ok(ends) => Ok(ends),
-        Err(fault) => Err(play_error(alloc, net, fault)),
+        Err(fault) => Err(play_error(alloc, run.net, fault)),
     }
 }
 
 // The same run, told to the probes of a kind, which show it.
 pub(crate) fn probed(
     alloc: Global,
-    net: &Netlist,
-    vectors: &[Bits],
-    schedule: &Schedule,
+    run: &ScheduledRun<'_>,
     probes: &mut [Box<dyn Probe>],
     wanted: Kind,
 ) -> Result<ShownRun, FileError>
-    requires inputs { AreInputs net.now vectors.now }
-    requires fits { FitsNetlist net.now (length vectors.now) schedule.now }
-    requires silent { All (λ probe. heard probe ≡ []) probes.old }
-    ensures good { IfOk result (λ run. played_meant net.now vectors.now schedule.now ≡ Ok run.ends.items) }
-    ensures heard { OnOk result (EachHears kind heard text wanted (changes net.now schedule.now vectors.now) probes.old probes.new) }
-    ensures err { OnErr result (EachHearsPrefix kind heard text wanted (changes net.now schedule.now vectors.now) probes.old probes.new) }
-    ensures shown { IfOk result (λ run. run.text.items ≡ texts_of kind text wanted net.now (changes net.now schedule.now vectors.now) probes.old) }
-    ensures bad { IfErr result (λ error. IsErrorOf (played_meant net.now vectors.now schedule.now) (error_seen error)) }
+    requires { All (λ probe. heard probe ≡ []) probes.old }
+    ensures good { IfOk result (λ shown. played_meant run.now.net.now run.now.vectors.now run.now.schedule.now ≡ Ok shown.ends.items) }
+    ensures heard { OnOk result (EachHears kind heard text wanted (changes run.now.net.now run.now.schedule.now run.now.vectors.now) probes.old probes.new) }
+    ensures err { OnErr result (EachHearsPrefix kind heard text wanted (changes run.now.net.now run.now.schedule.now run.now.vectors.now) probes.old probes.new) }
+    ensures shown { IfOk result (λ shown. shown.text.items ≡ texts_of kind text wanted run.now.net.now (changes run.now.net.now run.now.schedule.now run.now.vectors.now) probes.old) }
+    ensures bad { IfErr result (λ error. IsErrorOf (played_meant run.now.net.now run.now.vectors.now run.now.schedule.now) (error_seen error)) }
 {
-    match play_shown(alloc, net, vectors, schedule, probes, wanted) {
-        Ok(run) => Ok(run),
-        Err(fault) => Err(play_error(alloc, net, fault)),
+    match play_shown(alloc, run.net, run.vectors, run.schedule, probes, wanted) {
+        Ok(shown) => Ok(shown),
+        Err(fault) => Err(play_error(alloc, run.net, fault)),
     }
 }
 

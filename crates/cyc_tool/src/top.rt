@@ -6,7 +6,6 @@ ghost use Rattle.commands.specs.Seen.{command_seen, options_seen};
 ghost use Rattle.commands.specs.Words.{command_of, standard_input as standard_input_name};
 ghost use Rattle.netlist.specs.Netlists.{IsNetlist};
 ghost use Rattle.probes.specs.Changes.{changes};
-ghost use Rattle.sched_text.specs.Fitting.{FitsNetlist};
 ghost use Rattle.sched_text.specs.Vectors.{HaveWidth};
 ghost use Rattle.cyc_tool.specs.Calls.{shelf_call, sink_call, ComesTo, Follows, KeepsNodes, Tells, Runs, WriteFailed};
 ghost use Rattle.cyc_tool.specs.Causes.{GivesAnswer, HasCompared, HasExplained, HasGraph, HasRewritten, HasStormed, IsComplete, IsDoneWith, IsFaulty, IsHelpedBy, IsUnread, IsWithoutCommand, MeetsLimit, NoneFell, Reaches};
@@ -20,7 +19,7 @@ ghost use Rattle.cyc_tool.specs.Seen.{end_of, outcome_of, purpose_seen};
 use crate::compared::compare_files;
 use crate::decision::{Purpose, Task, decide_netlist};
 use crate::outcome::{Outcome, Stop, or_stop};
-use crate::plays::{known, played, probed};
+use crate::plays::{ScheduledRun, known, played, probed};
 use crate::reading::{read_care, read_netlist, read_schedule_file, read_vector_file, stop_at};
 use crate::ring::demo;
 use crate::status;
@@ -33,7 +32,6 @@ use care_sets::Care;
 use commands::{Command, Form, Options, STANDARD_INPUT, command_of_words};
 use cyc_base::{Bits, DEFAULT_NODES, Name, Trits};
 use cyc_io::{Shelf, Sink, write_whole};
-use delay_core::Schedule;
 use netlist::Netlist;
 use probes::{Kind, Probe, ShownRun};
 use refusals::Observe;
@@ -152,19 +150,21 @@ fn sim<S: Shelf>(
     simulate_file(alloc, shelf, &net, vectors)
 }
 
-// Plays a recorded schedule, which is that of this file, and tells no probe.
-fn play_alone(
-    alloc: Global,
-    net: &Netlist,
-    vectors: &[Bits],
-    schedule: &Schedule,
-    recorded: &Name,
-) -> Result<Outcome, Stop>
-    requires inputs { AreInputs net.now vectors.now }
-    requires fits { FitsNetlist net.now (length vectors.now) schedule.now }
-    ensures { (shows : Shows) → FollowsStillAlone (playing shows None recorded.now net.now vectors.now schedule.now) (end_of result) }
+// What `delays` is asked for: the files of a netlist, of vectors and of a schedule, and of which kind the probes are that
+// show the run.
+#[derive(Drop)]
+struct Replay<'a> {
+    netlist: &'a Name,
+    vectors: &'a Name,
+    recorded: &'a Name,
+    probe: Option<Kind>,
+}
+
+// Plays a run by the schedule of this file, and tells no probe.
+fn play_alone(alloc: Global, run: &ScheduledRun<'_>, recorded: &Name) -> Result<Outcome, Stop>
+    ensures { (shows : Shows) → FollowsStillAlone (playing shows None recorded.now run.now.net.now run.now.vectors.now run.now.schedule.now) (end_of result) }
 {
-    match played(alloc, net, vectors, schedule) {
+    match played(alloc, run) {
         Ok(ends) => Ok(tell_delays(alloc, &ends)?),
         Err(error) => Err(stop_at(alloc, recorded, error)),
     }
@@ -173,20 +173,16 @@ fn play_alone(
 // Plays it, tells the probes of a kind, and has them show it.
 fn play_probed(
     alloc: Global,
-    net: &Netlist,
-    vectors: &[Bits],
-    schedule: &Schedule,
+    run: &ScheduledRun<'_>,
     recorded: &Name,
     probes: &mut [Box<dyn Probe>],
     wanted: Kind,
 ) -> Result<Outcome, Stop>
-    requires inputs { AreInputs net.now vectors.now }
-    requires fits { FitsNetlist net.now (length vectors.now) schedule.now }
-    requires silent { All (λ probe. heard probe ≡ []) probes.old }
-    ensures heard { HearRun kind heard text (Some wanted) probes.old probes.new (changes net.now schedule.now vectors.now) }
-    ensures comes { FollowsStillAlone (playing (shown_by kind text probes.old) (Some wanted) recorded.now net.now vectors.now schedule.now) (end_of result) }
+    requires { All (λ probe. heard probe ≡ []) probes.old }
+    ensures heard { HearRun kind heard text (Some wanted) probes.old probes.new (changes run.now.net.now run.now.schedule.now run.now.vectors.now) }
+    ensures comes { FollowsStillAlone (playing (shown_by kind text probes.old) (Some wanted) recorded.now run.now.net.now run.now.vectors.now run.now.schedule.now) (end_of result) }
 {
-    match probed(alloc, net, vectors, schedule, probes, wanted) {
+    match probed(alloc, run, probes, wanted) {
         Ok(ShownRun { ends, text: shown }) => Ok(tell_probed(alloc, wanted, &ends, shown)?),
         Err(error) => Err(stop_at(alloc, recorded, error)),
     }
@@ -194,105 +190,98 @@ fn play_probed(
 
 fn play(
     alloc: Global,
-    net: &Netlist,
-    vectors: &[Bits],
-    schedule: &Schedule,
-    recorded: &Name,
+    run: &ScheduledRun<'_>,
+    replay: &Replay<'_>,
     probes: &mut [Box<dyn Probe>],
-    probe: Option<Kind>,
 ) -> Result<Outcome, Stop>
-    requires inputs { AreInputs net.now vectors.now }
-    requires fits { FitsNetlist net.now (length vectors.now) schedule.now }
-    requires silent { All (λ probe. heard probe ≡ []) probes.old }
-    ensures heard { HearRun kind heard text probe probes.old probes.new (changes net.now schedule.now vectors.now) }
-    ensures comes { FollowsStillAlone (playing (shown_by kind text probes.old) probe recorded.now net.now vectors.now schedule.now) (end_of result) }
+    requires { All (λ probe. heard probe ≡ []) probes.old }
+    ensures heard { HearRun kind heard text replay.now.probe probes.old probes.new (changes run.now.net.now run.now.schedule.now run.now.vectors.now) }
+    ensures comes { FollowsStillAlone (playing (shown_by kind text probes.old) replay.now.probe replay.now.recorded.now run.now.net.now run.now.vectors.now run.now.schedule.now) (end_of result) }
 {
-    match probe {
-        Some(wanted) => play_probed(alloc, net, vectors, schedule, recorded, probes, wanted),
-        None => play_alone(alloc, net, vectors, schedule, recorded),
+    match replay.probe {
+        Some(wanted) => play_probed(alloc, run, replay.recorded, probes, wanted),
+        None => play_alone(alloc, run, replay.recorded),
     }
 }
 
-// Plays the recorded schedule of a file on these vectors.
+// Plays the recorded schedule on these vectors.
 fn play_file<S: Shelf>(
     alloc: Global,
     shelf: &mut S,
     net: &Netlist,
     vectors: &[Bits],
-    recorded: &Name,
+    replay: &Replay<'_>,
     probes: &mut [Box<dyn Probe>],
-    probe: Option<Kind>,
 ) -> Result<Outcome, Stop>
     requires inputs { AreInputs net.now vectors.now }
     requires silent { All (λ probe. heard probe ≡ []) probes.old }
-    ensures comes { FollowsAlone (play_on (shown_by kind text probes.old) probe recorded.now net.now vectors.now) (shelf_call S.files S.faults shelf.old shelf.new) (end_of result) }
-    ensures heard { HearPlay kind heard text probe (λ shows. play_on shows probe recorded.now net.now vectors.now) (shelf_call S.files S.faults shelf.old shelf.new)
+    ensures comes { FollowsAlone (play_on (shown_by kind text probes.old) replay.now.probe replay.now.recorded.now net.now vectors.now) (shelf_call S.files S.faults shelf.old shelf.new) (end_of result) }
+    ensures heard { HearPlay kind heard text replay.now.probe (λ shows. play_on shows replay.now.probe replay.now.recorded.now net.now vectors.now) (shelf_call S.files S.faults shelf.old shelf.new)
         probes.old probes.new }
     ensures same { S.files shelf.new ≡ S.files shelf.old }
 {
-    let schedule = read_schedule_file(alloc, shelf, net, vectors.len(), recorded)?;
-    play(alloc, net, vectors, &schedule, recorded, probes, probe)
+    let schedule = read_schedule_file(alloc, shelf, net, vectors.len(), replay.recorded)?;
+    let run = ScheduledRun {
+        net,
+        vectors,
+        schedule: &schedule,
+    };
+    play(alloc, &run, replay, probes)
 }
 
-// Plays the recorded schedule of a file on vectors that have no unknown values.
+// Plays it on vectors that have no unknown values.
 fn play_found<S: Shelf>(
     alloc: Global,
     shelf: &mut S,
     net: &Netlist,
     found: &[Trits],
-    recorded: &Name,
+    replay: &Replay<'_>,
     probes: &mut [Box<dyn Probe>],
-    probe: Option<Kind>,
 ) -> Result<Outcome, Stop>
     requires width { HaveWidth (length net.now.inputs) found.now }
     requires silent { All (λ probe. heard probe ≡ []) probes.old }
-    ensures comes { FollowsAlone (play_on (shown_by kind text probes.old) probe recorded.now net.now (known_of found.now)) (shelf_call S.files S.faults shelf.old shelf.new) (end_of result) }
-    ensures heard { HearPlay kind heard text probe (λ shows. play_on shows probe recorded.now net.now (known_of found.now)) (shelf_call S.files S.faults shelf.old shelf.new)
+    ensures comes { FollowsAlone (play_on (shown_by kind text probes.old) replay.now.probe replay.now.recorded.now net.now (known_of found.now)) (shelf_call S.files S.faults shelf.old shelf.new) (end_of result) }
+    ensures heard { HearPlay kind heard text replay.now.probe (λ shows. play_on shows replay.now.probe replay.now.recorded.now net.now (known_of found.now)) (shelf_call S.files S.faults shelf.old shelf.new)
         probes.old probes.new }
     ensures same { S.files shelf.new ≡ S.files shelf.old }
 {
     let inputs = known(alloc, found)?;
-    play_file(alloc, shelf, net, &inputs, recorded, probes, probe)
+    play_file(alloc, shelf, net, &inputs, replay, probes)
 }
 
-// Plays a netlist on the vectors of a file by the schedule of another.
-fn replay<S: Shelf>(
+// Plays a netlist on the vectors of their file.
+fn play_netlist<S: Shelf>(
     alloc: Global,
     shelf: &mut S,
     net: &Netlist,
-    vectors: &Name,
-    recorded: &Name,
+    replay: &Replay<'_>,
     probes: &mut [Box<dyn Probe>],
-    probe: Option<Kind>,
 ) -> Result<Outcome, Stop>
     requires { All (λ probe. heard probe ≡ []) probes.old }
-    ensures comes { FollowsAlone (replaying_on (shown_by kind text probes.old) probe recorded.now vectors.now net.now) (shelf_call S.files S.faults shelf.old shelf.new) (end_of result) }
-    ensures heard { HearPlay kind heard text probe (λ shows. replaying_on shows probe recorded.now vectors.now net.now) (shelf_call S.files S.faults shelf.old shelf.new)
+    ensures comes { FollowsAlone (replaying_on (shown_by kind text probes.old) replay.now.probe replay.now.recorded.now replay.now.vectors.now net.now) (shelf_call S.files S.faults shelf.old shelf.new) (end_of result) }
+    ensures heard { HearPlay kind heard text replay.now.probe (λ shows. replaying_on shows replay.now.probe replay.now.recorded.now replay.now.vectors.now net.now) (shelf_call S.files S.faults shelf.old shelf.new)
         probes.old probes.new }
     ensures same { S.files shelf.new ≡ S.files shelf.old }
 {
-    let found = read_vector_file(alloc, shelf, net, false, vectors)?;
-    play_found(alloc, shelf, net, &found, recorded, probes, probe)
+    let found = read_vector_file(alloc, shelf, net, false, replay.vectors)?;
+    play_found(alloc, shelf, net, &found, replay, probes)
 }
 
-// The same of the netlist of a file.
+// Plays the netlist of its file.
 fn delays<S: Shelf>(
     alloc: Global,
     shelf: &mut S,
-    netlist: &Name,
-    vectors: &Name,
-    recorded: &Name,
+    replay: &Replay<'_>,
     probes: &mut [Box<dyn Probe>],
-    probe: Option<Kind>,
 ) -> Result<Outcome, Stop>
     requires { All (λ probe. heard probe ≡ []) probes.old }
-    ensures comes { FollowsAlone (replaying (shown_by kind text probes.old) probe netlist.now vectors.now recorded.now) (shelf_call S.files S.faults shelf.old shelf.new) (end_of result) }
-    ensures heard { HearPlay kind heard text probe (λ shows. replaying shows probe netlist.now vectors.now recorded.now) (shelf_call S.files S.faults shelf.old shelf.new)
+    ensures comes { FollowsAlone (replaying (shown_by kind text probes.old) replay.now.probe replay.now.netlist.now replay.now.vectors.now replay.now.recorded.now) (shelf_call S.files S.faults shelf.old shelf.new) (end_of result) }
+    ensures heard { HearPlay kind heard text replay.now.probe (λ shows. replaying shows replay.now.probe replay.now.netlist.now replay.now.vectors.now replay.now.recorded.now) (shelf_call S.files S.faults shelf.old shelf.new)
         probes.old probes.new }
     ensures same { S.files shelf.new ≡ S.files shelf.old }
 {
-    let net = read_netlist(alloc, shelf, netlist)?;
-    replay(alloc, shelf, &net, vectors, recorded, probes, probe)
+    let net = read_netlist(alloc, shelf, replay.netlist)?;
+    play_netlist(alloc, shelf, &net, replay, probes)
 }
 
 fn carry_out<S: Shelf>(
@@ -330,7 +319,13 @@ fn carry_out<S: Shelf>(
         Command::Loops(netlist, form) => loops(alloc, shelf, netlist, form),
         Command::Sim(netlist, vectors) => sim(alloc, shelf, netlist, vectors),
         Command::Delays(netlist, vectors, recorded, probe) => {
-            delays(alloc, shelf, netlist, vectors, recorded, probes, probe)
+            let replay = Replay {
+                netlist,
+                vectors,
+                recorded,
+                probe,
+            };
+            delays(alloc, shelf, &replay, probes)
         }
         Command::Demo(cells) => demo(alloc, cells, d),
         Command::Storm(netlist, rounds, options) => {
@@ -414,51 +409,18 @@ fn tell_text<O: Sink, E: Sink>(told: &Outcome, out: &mut O, err: &mut E) -> u8
     tell(told.status, &told.out, &told.err, out, err)
 }
 
-fn answer_and_tell<S: Shelf, O: Sink, E: Sink>(
-    alloc: Global,
-    words: &[Name],
-    shelf: &mut S,
-    out: &mut O,
-    err: &mut E,
-    d: &mut Diagrams,
-    probes: &mut [Box<dyn Probe>],
-) -> u8
-    requires { All (λ probe. heard probe ≡ []) probes.old }
-    ensures runs { Runs (request kind text words.now probes.old) (shelf_call S.files S.faults shelf.old shelf.new) d.new
-        (sink_call O.put O.faults out.old out.new) (sink_call E.put E.faults err.old err.new) result }
-    ensures heard { HearCommand kind heard text (command_of words.now) (shelf_call S.files S.faults shelf.old shelf.new)
-        probes.old probes.new }
-    ensures same { S.files shelf.new ≡ S.files shelf.old }
-    ensures kept { KeepsNodes (command_of words.now) d.old d.new }
+// Tells the end of a call.
+fn tell_end<O: Sink, E: Sink>(end: &Result<Outcome, Stop>, out: &mut O, err: &mut E) -> u8
+    ensures told { Tells (end_of end.now) (sink_call O.put O.faults out.old out.new)
+        (sink_call E.put E.faults err.old err.new) result }
     ensures out_later { O.faults out.old ≤ O.faults out.new }
     ensures err_later { E.faults err.old ≤ E.faults err.new }
 {
-    match find_outcome(alloc, words, shelf, d, probes) {
-        Ok(told) => tell_text(&told, out, err),
-        Err(Stop::At(told)) => tell_text(&told, out, err),
+    match end {
+        Ok(told) => tell_text(told, out, err),
+        Err(Stop::At(told)) => tell_text(told, out, err),
         Err(Stop::Memory) => tell(status::NO_MEMORY, b"", NO_MEMORY_TEXT, out, err),
     }
-}
-
-// The same with probes of its own, which are dropped behind it.
-fn answer_with<S: Shelf, O: Sink, E: Sink>(
-    alloc: Global,
-    words: &[Name],
-    shelf: &mut S,
-    out: &mut O,
-    err: &mut E,
-    d: &mut Diagrams,
-    mut probes: Vec<Box<dyn Probe>>,
-) -> u8
-    requires { All (λ probe. heard probe ≡ []) probes.items }
-    ensures runs { Runs (request kind text words.now probes.items) (shelf_call S.files S.faults shelf.old shelf.new) d.new
-        (sink_call O.put O.faults out.old out.new) (sink_call E.put E.faults err.old err.new) result }
-    ensures same { S.files shelf.new ≡ S.files shelf.old }
-    ensures kept { KeepsNodes (command_of words.now) d.old d.new }
-    ensures out_later { O.faults out.old ≤ O.faults out.new }
-    ensures err_later { E.faults err.old ≤ E.faults err.new }
-{
-    answer_and_tell(alloc, words, shelf, out, err, d, &mut probes)
 }
 
 /// Does what the words ask for: reads their files from the shelf in order, and writes to out and to err only when all
@@ -484,7 +446,7 @@ pub fn run<S: Shelf, O: Sink, E: Sink>(
     out: &mut O,
     err: &mut E,
     d: &mut Diagrams,
-    probes: Vec<Box<dyn Probe>>,
+    mut probes: Vec<Box<dyn Probe>>,
 ) -> u8
     requires silent { All (λ probe. heard probe ≡ []) probes.items }
     ensures runs { Runs (request kind text words.now probes.items) (shelf_call S.files S.faults shelf.old shelf.new) d.new
@@ -533,5 +495,6 @@ pub fn run<S: Shelf, O: Sink, E: Sink>(
         (sink_call O.put O.faults out.old out.new) (sink_call E.put E.faults err.old err.new) }
 {
     storms_never_rest();
-    answer_with(alloc, words, shelf, out, err, d, probes)
+    let end = find_outcome(alloc, words, shelf, d, &mut probes);
+    tell_end(&end, out, err)
 }

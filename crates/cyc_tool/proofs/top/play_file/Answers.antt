@@ -5,9 +5,9 @@ use Rattle.cyc_tool.proofs.top.play_file.Goals as goal
 
 pub returns-clause-comes : goal.returns-clause-comes
 returns-clause-comes g c =
-    plays_file _ c.args.probe c.args.recorded.now c.args.net.now c.args.vectors.now c.in_ok-schedule.schedule _ _ _ _ (end_of c.play.result)
+    plays_file _ c.args.replay.now.probe c.args.replay.now.recorded.now c.args.net.now c.args.vectors.now c.in_ok-schedule.schedule _ _ _ _ (end_of c.play.result)
     c.read_schedule_file.ensures.same c.in_ok-schedule.ensures.good c.play.ensures.comes
 
 pub returns-clause-heard : goal.returns-clause-heard
 returns-clause-heard g c =
-    hears_file _ _ _ c.args.probe _ _ c.args.recorded.now c.args.net.now c.args.vectors.now c.in_ok-schedule.schedule _ _ _ c.in_ok-schedule.ensures.good c.play.ensures.heard
+    hears_file _ _ _ c.args.replay.now.probe _ _ c.args.replay.now.recorded.now c.args.net.now c.args.vectors.now c.in_ok-schedule.schedule _ _ _ c.in_ok-schedule.ensures.good c.play.ensures.heard

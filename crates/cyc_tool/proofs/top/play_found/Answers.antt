@@ -11,7 +11,7 @@ use Rattle.cyc_tool.proofs.top.play_found.Goals as goal
 pub returns-in_err-inputs-clause-comes : goal.returns-in_err-inputs-clause-comes
 returns-in_err-inputs-clause-comes g c =
     let q = err_from_is_err_and c.from_residual.result c.from_residual.ensures.1 in
-    rw (q.1, q.2) (found_lacks _ c.args.probe c.args.recorded.now c.args.net.now (known c.args.found.now) _ _)
+    rw (q.1, q.2) (found_lacks _ c.args.replay.now.probe c.args.replay.now.recorded.now c.args.net.now (known c.args.found.now) _ _)
 
 pub play_file-requires-clause-inputs : goal.play_file-requires-clause-inputs
 play_file-requires-clause-inputs g c =
@@ -22,9 +22,9 @@ play_file-requires-clause-inputs g c =
 pub returns-clause-comes : goal.returns-clause-comes
 returns-clause-comes g c =
     let same : c.deref.result.now ≡ known c.args.found.now = c.deref.ensures.value ∙ c.in_ok-inputs.ensures in
-    plays_known _ c.args.probe c.args.recorded.now c.args.net.now c.args.found.now c.deref.result.now _ _ _ (end_of c.play_file.result) same c.play_file.ensures.comes
+    plays_known _ c.args.replay.now.probe c.args.replay.now.recorded.now c.args.net.now c.args.found.now c.deref.result.now _ _ _ (end_of c.play_file.result) same c.play_file.ensures.comes
 
 pub returns-clause-heard : goal.returns-clause-heard
 returns-clause-heard g c =
     let same : c.deref.result.now ≡ known c.args.found.now = c.deref.ensures.value ∙ c.in_ok-inputs.ensures in
-    hears_known _ _ _ c.args.probe _ _ c.args.recorded.now c.args.net.now c.args.found.now c.deref.result.now _ same c.play_file.ensures.heard
+    hears_known _ _ _ c.args.replay.now.probe _ _ c.args.replay.now.recorded.now c.args.net.now c.args.found.now c.deref.result.now _ same c.play_file.ensures.heard

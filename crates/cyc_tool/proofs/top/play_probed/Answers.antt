@@ -8,7 +8,7 @@ use Rattle.cyc_tool.proofs.top.play_probed.Goals as goal
 
 pub returns-in-Err-clause-comes : goal.returns-in-Err-clause-comes
 returns-in-Err-clause-comes g c =
-    still_stopped c.args.recorded.now (played c.args.net.now c.args.vectors.now c.args.schedule.now) _ _
+    still_stopped c.args.recorded.now (played c.args.run.now.net.now c.args.run.now.vectors.now c.args.run.now.schedule.now) _ _
     (record { error = error_seen c.in-Err.error; is = c.in-Err.ensures.bad; stops = c.stop_at.ensures })
 
 pub returns-in_err-tell_probed-in-Ok-clause-heard : goal.returns-in_err-tell_probed-in-Ok-clause-heard
@@ -21,5 +21,5 @@ pub returns-in_ok-tell_probed-in-Ok-clause-comes : goal.returns-in_ok-tell_probe
 returns-in_ok-tell_probed-in-Ok-clause-comes g c =
     run_probed
     (shown_by (λ b. (goal.Probe-dyn g (b.vtable, b.value)).kind b.value) (λ b. (goal.Probe-dyn g (b.vtable, b.value)).text b.value) c.args.probes.now)
-    c.args.wanted c.args.recorded.now c.args.net.now c.args.vectors.now c.args.schedule.now c.in-Ok.field-0.ends.items c.in-Ok.field-0.text.items _
+    c.args.wanted c.args.recorded.now c.args.run.now.net.now c.args.run.now.vectors.now c.args.run.now.schedule.now c.in-Ok.field-0.ends.items c.in-Ok.field-0.text.items _
     c.in-Ok.ensures.good c.in-Ok.ensures.shown (rw c.deref.ensures.value at c.in_ok-tell_probed-in-Ok.ensures)
