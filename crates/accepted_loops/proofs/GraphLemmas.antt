@@ -1,7 +1,6 @@
 -- The graph of loops.
 use Rattle.std.proofs.Common.{◌≡◌, ℕ, List, ◌++◌, ap, ◌∙◌, append_assoc}
 use Rattle.care_sets.specs.Care.{CareSet}
-use Rattle.dot_text.specs.Dot.{labelled_graph}
 use Rattle.dot_text.specs.LoopGraphs.{labelled_cluster}
 use Rattle.loops.specs.declared.structure.Blocks.{Blocks}
 use Rattle.loops.specs.declared.structure.Cut.{Cut}
@@ -17,7 +16,7 @@ use Rattle.rewriting.proofs.RewrittenLemmas.{counts_are_needed}
 use Rattle.unroll.specs.Unrolled.{sweeps_of}
 use Rattle.verdict.specs.Verdicts.{AreSweepsOnCare}
 use Rattle.accepted_loops.specs.Columns.{columns_read}
-use Rattle.accepted_loops.specs.Graphs.{told_cluster, told_graph}
+use Rattle.accepted_loops.specs.Graphs.{told_cluster, told_clusters}
 use Rattle.accepted_loops.specs.Lines.{columns_line, sweeps_line}
 use Rattle.accepted_loops.proofs.LineLemmas.{begun-passes, numbered-alike}
 
@@ -31,12 +30,11 @@ three_told old one two new front middle back first second third =
     ∙ append_assoc old front (middle ++ back)
 
 -- the sweeps that are needed
-pub drawn_on_care : (net : Parts) (label : List ℕ) (blocks : Blocks) (cut : Cut) (care : CareSet) (counts : SweepCounts) → AreBlocksOf net blocks → IsCutOf net cut
-    → AreSweepsOnCare net blocks cut care counts → told_graph net label (sweeps_of blocks counts) ≡ told_graph net label (sweeps_needed net care)
-drawn_on_care net label blocks cut care counts are is on_care =
-    ap (labelled_graph label)
-    (numbered-alike (told_cluster net (sweeps_of blocks counts)) (told_cluster net (sweeps_needed net care)) (λ n. begins_with (loop_of net n) n)
+pub drawn_on_care : (net : Parts) (blocks : Blocks) (cut : Cut) (care : CareSet) (counts : SweepCounts) → AreBlocksOf net blocks → IsCutOf net cut
+    → AreSweepsOnCare net blocks cut care counts → told_clusters net (sweeps_of blocks counts) ≡ told_clusters net (sweeps_needed net care)
+drawn_on_care net blocks cut care counts are is on_care =
+    numbered-alike (told_cluster net (sweeps_of blocks counts)) (told_cluster net (sweeps_needed net care)) (λ n. begins_with (loop_of net n) n)
     (λ k n begun.
     ap (λ (m : ℕ). labelled_cluster net (loops_of net) k (loop_lines net k n ++ (sweeps_line k m ++ columns_line net k (columns_read net n))) (loop_of net n))
     (counts_are_needed net blocks cut care counts are is on_care n (begun-passes ((loops_of net).same n) (gate_numbers net) n begun)))
-    (gate_numbers net) 1)
+    (gate_numbers net) 1

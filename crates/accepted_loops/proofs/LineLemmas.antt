@@ -9,14 +9,14 @@ use Rattle.loops.specs.declared.structure.SweepCounts.{SweepCounts}
 use Rattle.loops.specs.Blocks.{AreBlocksOf}
 use Rattle.loops.specs.Cuts.{IsCutOf}
 use Rattle.loops.specs.Found.{loops_of}
-use Rattle.loops.specs.Listed.{gate_numbers, loop_of, begins_with}
+use Rattle.loops.specs.Listed.{first_gates, gate_numbers, loop_of, begins_with}
 use Rattle.loops.specs.Sweeps.{first_gate}
 use Rattle.care_sets.specs.Care.{CareSet}
 use Rattle.isolation.specs.Cones.{is_marked}
 use Rattle.std.specs.Iterator.{Yields, YieldsFirstBy}
 use Rattle.std.specs.Prelude.{Some}
 use Rattle.loops.specs.Left.{loop_seen, loops_left}
-use Rattle.loops.specs.Numbered.{listed_loops}
+use Rattle.loops.specs.Numbered.{listed_loops, numbered}
 use Rattle.loops.specs.declared.loop_list.ListedLoop.{ListedLoop}
 use Rattle.loops.specs.declared.loop_list.LoopList.{LoopList}
 use Rattle.report.specs.LoopTexts.{each_loop, loop_lines, numbered_loops}
@@ -78,6 +78,14 @@ numbered-alike one two test agree (n ∷ ns) k = by (test n) refl (numbered-alik
         → numbered_loops one k (cond t (n ∷ filter test ns) (filter test ns)) ≡ numbered_loops two k (cond t (n ∷ filter test ns) (filter test ns))
     by true passes rest = ap₂ (λ (text others : List ℕ). text ++ others) (agree k n passes) (rest (k + 1))
     by false fails rest = rest k
+
+-- texts of loops that agree where there is a loop
+pub each_alike : (one two : ℕ → ℕ → List ℕ) (net : Parts) → (0 < length (listed_loops net) → each_loop one net ≡ each_loop two net) → each_loop one net ≡ each_loop two net
+each_alike one two net agree = by (first_gates net) refl
+  where
+    by : (gates : List ℕ) → first_gates net ≡ gates → each_loop one net ≡ each_loop two net
+    by [] none = ap (numbered_loops one 1) none ∙ sym (ap (numbered_loops two 1) none)
+    by (gate ∷ gates) some = agree (let e = ap (λ (gs : List ℕ). length (numbered net 1 gs)) some in omega (arith, e))
 
 pub told_on_care : (net : Parts) (blocks : Blocks) (cut : Cut) (care : CareSet) (counts : SweepCounts) → AreBlocksOf net blocks → IsCutOf net cut
     → AreSweepsOnCare net blocks cut care counts → told_loops net (sweeps_of blocks counts) ≡ told_loops net (sweeps_needed net care)

@@ -5,10 +5,9 @@ ghost use Rattle.care_sets.specs.Care.{CareSet};
 ghost use Rattle.cyc_io.specs.Text.{text_bytes};
 ghost use Rattle.dot_text.specs.Dot.{graph_head};
 ghost use Rattle.dot_text.specs.LoopGraphs.{labelled_cluster};
-ghost use Rattle.loops.specs.Blocks.{AreBlocksOf};
-ghost use Rattle.loops.specs.Cuts.{IsCutOf};
 ghost use Rattle.loops.specs.Found.{loops_of};
 ghost use Rattle.loops.specs.Left.{loop_seen};
+ghost use Rattle.loops.specs.Looped.{IsLooped};
 ghost use Rattle.loops.specs.Numbered.{IsLoopOf};
 ghost use Rattle.rewriting.specs.Rewriting.{sweeps_needed};
 ghost use Rattle.unroll.specs.Unrolled.{sweeps_of};
@@ -19,8 +18,7 @@ ghost use Rattle.accepted_loops.specs.Lines.{told_lines};
 use crate::lines::tell_loop;
 use cyc_io::{TextSink, write_whole};
 use dot_text::{open_graph, put_labelled_cluster};
-use loops::{Blocks, Cut, ListedLoop, LoopedNetlist, SweepCounts};
-use netlist::Netlist;
+use loops::{ListedLoop, LoopedNetlist, SweepCounts};
 use std::alloc::{AllocError, Global};
 
 // The lines of a loop.
@@ -32,7 +30,8 @@ fn lines_of(
 ) -> Result<Vec<u8>, AllocError>
     requires sweeps { length sweeps.now.per_block ≡ length looped.now.blocks.list }
     requires listed { IsLoopOf looped.now.net (loop_seen listed) }
-    ensures { IfOk result (λ text. text.items ≡ told_lines looped.now.net (sweeps_of looped.now.blocks sweeps.now) listed.entry.number listed.entry.first) }
+    ensures told { IfOk result (λ text. text.items ≡ told_lines looped.now.net (sweeps_of looped.now.blocks sweeps.now) listed.entry.number listed.entry.first) }
+    ensures looped { OnOk result (IsLooped looped.now) }
 {
     let mut sink = TextSink::new(alloc);
     tell_loop(alloc, looped, sweeps, listed, &mut sink)?;
@@ -66,7 +65,8 @@ fn tell_cluster(
 ) -> Result<(), AllocError>
     requires sweeps { length sweeps.now.per_block ≡ length looped.now.blocks.list }
     requires listed { IsLoopOf looped.now.net (loop_seen listed) }
-    ensures { OnOk result (text_bytes sink.new ≡ text_bytes sink.old ++ told_cluster looped.now.net (sweeps_of looped.now.blocks sweeps.now) listed.entry.number listed.entry.first) }
+    ensures told { OnOk result (text_bytes sink.new ≡ text_bytes sink.old ++ told_cluster looped.now.net (sweeps_of looped.now.blocks sweeps.now) listed.entry.number listed.entry.first) }
+    ensures looped { OnOk result (IsLooped looped.now) }
 {
     let lines = lines_of(alloc, looped, sweeps, listed)?;
     tell_labelled(looped, listed.number, &lines, listed.gates, sink)
@@ -80,7 +80,9 @@ fn tell_clusters(
     sink: &mut TextSink,
 ) -> Result<(), AllocError>
     requires { length sweeps.now.per_block ≡ length looped.now.blocks.list }
-    ensures { OnOk result (text_bytes sink.new ≡ text_bytes sink.old ++ told_clusters looped.now.net (sweeps_of looped.now.blocks sweeps.now)) }
+    ensures told { OnOk result (text_bytes sink.new ≡ text_bytes sink.old ++ told_clusters looped.now.net (sweeps_of looped.now.blocks sweeps.now)) }
+    ensures on_care { OnOk result ((care : CareSet) → AreSweepsOnCare looped.now.net looped.now.blocks looped.now.cut care sweeps.now →
+        text_bytes sink.new ≡ text_bytes sink.old ++ told_clusters looped.now.net (sweeps_needed looped.now.net care)) }
 {
     for listed in looped.in_order() {
         tell_cluster(alloc, looped, sweeps, listed, sink)?;
@@ -111,29 +113,25 @@ fn tell_end(sink: &mut TextSink) -> Result<(), AllocError>
 /// Appends a graph with this text as its label, which has a cluster for each loop of a netlist, in the order of their first
 /// gates. The label of a cluster has the lines that `tell_loops` tells of its loop.
 ///
-/// The condition is that the blocks and the cut are the netlist's, and that there is a number for each block. It takes
-/// time in proportion to the loops times the gates and pins.
+/// The condition is that there is a number for each block. It takes time in proportion to the loops times the gates and
+/// pins.
 ///
 /// # Errors
 ///
 /// `AllocError` for want of memory alone.
 pub fn tell_loops_graph(
     alloc: Global,
-    net: &Netlist,
-    blocks: &Blocks,
-    cut: &Cut,
+    looped: &LoopedNetlist<'_>,
     sweeps: &SweepCounts,
     label: &[u8],
     sink: &mut TextSink,
 ) -> Result<(), AllocError>
-    requires blocks { AreBlocksOf net.now blocks.now }
-    requires cut { IsCutOf net.now cut.now }
-    requires sweeps { length sweeps.now.per_block ≡ length blocks.now.list }
-    ensures told { OnOk result (text_bytes sink.new ≡ text_bytes sink.old ++ told_graph net.now label.now (sweeps_of blocks.now sweeps.now)) }
-    ensures on_care { OnOk result ((care : CareSet) → AreSweepsOnCare net.now blocks.now cut.now care sweeps.now →
-        text_bytes sink.new ≡ text_bytes sink.old ++ told_graph net.now label.now (sweeps_needed net.now care)) }
+    requires { length sweeps.now.per_block ≡ length looped.now.blocks.list }
+    ensures told { OnOk result (text_bytes sink.new ≡ text_bytes sink.old ++ told_graph looped.now.net label.now (sweeps_of looped.now.blocks sweeps.now)) }
+    ensures on_care { OnOk result ((care : CareSet) → AreSweepsOnCare looped.now.net looped.now.blocks looped.now.cut care sweeps.now →
+        text_bytes sink.new ≡ text_bytes sink.old ++ told_graph looped.now.net label.now (sweeps_needed looped.now.net care)) }
 {
     tell_head(label, sink)?;
-    tell_clusters(alloc, &LoopedNetlist::new(net, blocks, cut), sweeps, sink)?;
+    tell_clusters(alloc, looped, sweeps, sink)?;
     tell_end(sink)
 }

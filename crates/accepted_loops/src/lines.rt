@@ -6,10 +6,9 @@ ghost use Rattle.care_sets.specs.Care.{CareSet};
 ghost use Rattle.cyc_io.specs.Taken.{IsAppended, sink_call};
 ghost use Rattle.cyc_io.specs.Text.{text_bytes};
 ghost use Rattle.isolation.specs.Cones.{is_marked};
-ghost use Rattle.loops.specs.Blocks.{AreBlocksOf};
-ghost use Rattle.loops.specs.Cuts.{IsCutOf};
 ghost use Rattle.loops.specs.Sweeps.{first_gate};
 ghost use Rattle.loops.specs.Left.{loop_seen};
+ghost use Rattle.loops.specs.Looped.{IsLooped};
 ghost use Rattle.loops.specs.Numbered.{IsLoopOf};
 ghost use Rattle.netlist.specs.Netlists.{signal};
 ghost use Rattle.report.specs.LoopTexts.{loop_lines};
@@ -23,7 +22,7 @@ ghost use Rattle.accepted_loops.specs.Lines.{column_name as column_text, columns
 use crate::columns::columns_read;
 use cyc_base::{Name, Sig};
 use cyc_io::{Failed, Sink, TextSink, write_whole};
-use loops::{Blocks, Cut, ListedLoop, LoopedNetlist, SweepCounts};
+use loops::{ListedLoop, LoopedNetlist, SweepCounts};
 use netlist::Netlist;
 use report::{put_loop, put_number, put_two};
 use std::alloc::{AllocError, Global};
@@ -117,7 +116,8 @@ fn put_told<K: Sink>(
 fn sweeps_at(looped: &LoopedNetlist<'_>, sweeps: &SweepCounts, gate: u32) -> u32
     requires sweeps { length sweeps.now.per_block ≡ length looped.now.blocks.list }
     requires gate { gate < length looped.now.net.gates }
-    ensures { result ≡ sweeps_of looped.now.blocks sweeps.now gate }
+    ensures sweeps { result ≡ sweeps_of looped.now.blocks sweeps.now gate }
+    ensures looped { IsLooped looped.now }
 {
     let home = looped.blocks().home.items()[gate as usize];
     sweeps.per_block.items()[home as usize]
@@ -134,7 +134,8 @@ fn put_loop_told<K: Sink>(
     requires sweeps { length sweeps.now.per_block ≡ length looped.now.blocks.list }
     requires listed { IsLoopOf looped.now.net (loop_seen listed) }
     requires read { AreColumnsRead looped.now.net listed.first read.now }
-    ensures { IsAppended (told_lines looped.now.net (sweeps_of looped.now.blocks sweeps.now) listed.entry.number listed.entry.first) (sink_call K.put K.faults sink.old sink.new) result }
+    ensures told { IsAppended (told_lines looped.now.net (sweeps_of looped.now.blocks sweeps.now) listed.entry.number listed.entry.first) (sink_call K.put K.faults sink.old sink.new) result }
+    ensures looped { IsLooped looped.now }
 {
     let count = sweeps_at(looped, sweeps, listed.first);
     put_told(sink, looped, listed, count, read)
@@ -150,7 +151,8 @@ pub(crate) fn tell_loop(
 ) -> Result<(), AllocError>
     requires sweeps { length sweeps.now.per_block ≡ length looped.now.blocks.list }
     requires listed { IsLoopOf looped.now.net (loop_seen listed) }
-    ensures { OnOk result (text_bytes sink.new ≡ text_bytes sink.old ++ told_lines looped.now.net (sweeps_of looped.now.blocks sweeps.now) listed.entry.number listed.entry.first) }
+    ensures told { OnOk result (text_bytes sink.new ≡ text_bytes sink.old ++ told_lines looped.now.net (sweeps_of looped.now.blocks sweeps.now) listed.entry.number listed.entry.first) }
+    ensures looped { OnOk result (IsLooped looped.now) }
 {
     let read = columns_read(alloc, looped, listed.first)?;
     if put_loop_told(sink, looped, sweeps, listed, &read).is_err() {
@@ -159,45 +161,28 @@ pub(crate) fn tell_loop(
     Ok(())
 }
 
-// The lines of all loops.
-fn tell_each_loop(
-    alloc: Global,
-    looped: &LoopedNetlist<'_>,
-    sweeps: &SweepCounts,
-    sink: &mut TextSink,
-) -> Result<(), AllocError>
-    requires { length sweeps.now.per_block ≡ length looped.now.blocks.list }
-    ensures { OnOk result (text_bytes sink.new ≡ text_bytes sink.old ++ told_loops looped.now.net (sweeps_of looped.now.blocks sweeps.now)) }
-{
-    for listed in looped.in_order() {
-        tell_loop(alloc, looped, sweeps, listed, sink)?;
-    }
-    Ok(())
-}
-
 /// Appends the lines of all loops of a netlist, in the order of their first gates: for each those of `loops`, then how many
 /// sweeps it needs, then the columns that are read by a gate of it or by what drives it.
 ///
-/// The condition is that the blocks and the cut are the netlist's, and that there is a number for each block. It takes
-/// time in proportion to the loops times the gates and pins.
+/// The condition is that there is a number for each block. It takes time in proportion to the loops times the gates and
+/// pins.
 ///
 /// # Errors
 ///
 /// `AllocError` for want of memory alone.
 pub fn tell_loops(
     alloc: Global,
-    net: &Netlist,
-    blocks: &Blocks,
-    cut: &Cut,
+    looped: &LoopedNetlist<'_>,
     sweeps: &SweepCounts,
     sink: &mut TextSink,
 ) -> Result<(), AllocError>
-    requires blocks { AreBlocksOf net.now blocks.now }
-    requires cut { IsCutOf net.now cut.now }
-    requires sweeps { length sweeps.now.per_block ≡ length blocks.now.list }
-    ensures told { OnOk result (text_bytes sink.new ≡ text_bytes sink.old ++ told_loops net.now (sweeps_of blocks.now sweeps.now)) }
-    ensures on_care { OnOk result ((care : CareSet) → AreSweepsOnCare net.now blocks.now cut.now care sweeps.now →
-        text_bytes sink.new ≡ text_bytes sink.old ++ told_loops net.now (sweeps_needed net.now care)) }
+    requires { length sweeps.now.per_block ≡ length looped.now.blocks.list }
+    ensures told { OnOk result (text_bytes sink.new ≡ text_bytes sink.old ++ told_loops looped.now.net (sweeps_of looped.now.blocks sweeps.now)) }
+    ensures on_care { OnOk result ((care : CareSet) → AreSweepsOnCare looped.now.net looped.now.blocks looped.now.cut care sweeps.now →
+        text_bytes sink.new ≡ text_bytes sink.old ++ told_loops looped.now.net (sweeps_needed looped.now.net care)) }
 {
-    tell_each_loop(alloc, &LoopedNetlist::new(net, blocks, cut), sweeps, sink)
+    for listed in looped.in_order() {
+        tell_loop(alloc, looped, sweeps, listed, sink)?;
+    }
+    Ok(())
 }

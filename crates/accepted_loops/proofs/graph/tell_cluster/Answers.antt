@@ -1,5 +1,5 @@
 use Rattle.std.proofs.Common.{◌++◌, ◌∙◌, List, ℕ, ap₂}
-use Rattle.std.proofs.lemmas.Result.{IfOk-weaker}
+use Rattle.std.proofs.lemmas.Result.{IfOk-weaker, on_ok_weaker}
 use Rattle.cyc_io.specs.Text.{text_bytes}
 use Rattle.dot_text.specs.LoopGraphs.{labelled_cluster}
 use Rattle.loops.specs.Found.{loops_of}
@@ -9,10 +9,13 @@ use Rattle.accepted_loops.proofs.graph.tell_cluster.Goals as goal
 pub tell_labelled-requires : goal.tell_labelled-requires
 tell_labelled-requires c = rw c.requires.listed.gates (loop_gates_inside c.args.looped.now.net c.args.listed.first)
 
-pub returns : goal.returns
-returns c =
+pub returns-clause-told : goal.returns-clause-told
+returns-clause-told c =
     IfOk-weaker c.tell_labelled.result _ _ (λ done told.
     told
     ∙ ap₂ (λ (text gates : List ℕ). text_bytes c.args.sink.now ++ labelled_cluster c.args.looped.now.net (loops_of c.args.looped.now.net) c.args.listed.number text gates)
-    (c.deref.ensures.value ∙ c.in_ok-lines.ensures) c.requires.listed.gates)
+    (c.deref.ensures.value ∙ c.in_ok-lines.ensures.told) c.requires.listed.gates)
     c.tell_labelled.ensures
+
+pub returns-clause-looped : goal.returns-clause-looped
+returns-clause-looped c = on_ok_weaker c.tell_labelled.result (λ told. c.in_ok-lines.ensures.looped) c.tell_labelled.ensures

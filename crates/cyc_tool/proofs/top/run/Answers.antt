@@ -2,10 +2,14 @@ use Rattle.std.proofs.Common.{refl}
 use Rattle.cyc_tool.proofs.AnswerLemmas.{gives_answer, is_complete}
 use Rattle.cyc_tool.proofs.CauseLemmas.{Eight, One, Zero, compared_cause, done_cause, explained_cause, fault_cause, graphed_cause, help_told, limit_cause, read_cause, rewritten_cause, stormed_cause, usage_cause, usage_told, write_cause}
 use Rattle.cyc_tool.proofs.RunLemmas.{counts_later}
+use Rattle.cyc_tool.specs.Calls.{shelf_call, sink_call, Runs}
+use Rattle.cyc_tool.specs.Requests.{request}
+use Rattle.cyc_tool.specs.Seen.{end_of}
+use Rattle.cyc_tool.proofs.top.run.Given as given
 use Rattle.cyc_tool.proofs.top.run.Goals as goal
 
 -- what was found is told
-runs : (g : given.Over) (c : goal.Returns g)
+runs : (g : given.Over) (c : goal.After-tell_end g)
     → Runs (request (λ b. (goal.Probe-dyn g (b.vtable, b.value)).kind b.value) (λ b. (goal.Probe-dyn g (b.vtable, b.value)).text b.value) c.args.words.now c.args.probes.items)
     (shelf_call g.S.Shelf.files g.S.Shelf.faults c.args.shelf.now c.find_outcome-end.new.shelf) c.find_outcome-end.new.d
     (sink_call g.O.Sink.put g.O.Sink.faults c.args.out.now c.tell_end.new.out) (sink_call g.E.Sink.put g.E.Sink.faults c.args.err.now c.tell_end.new.err) c.tell_end.result
