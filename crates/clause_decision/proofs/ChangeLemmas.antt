@@ -1,7 +1,7 @@
 -- Cut wires that a sweep changes on care: where none does, the sweeps are enough.
 use Rattle.std.proofs.Common.{◌≡◌, ◌≢◌, ℕ, suc, ◌<◌, ◌+◌, Bool, true, false, not, List, [], ◌∷◌, length, get_or, Contains, refl, sym, ap, ◌∙◌, arith, true≢false}
 use Rattle.std.specs.List.{All}
-use Rattle.clause_decision.proofs.Common.{length-map, get_or_default, All-cons, Contains-get_or, Trit, Zero, One, X, bit, bits, Below, Parts, IsNetlist, fix_gates, Blocks, Cut, AreBlocksOf, block_at, IsCutOf, Loops, loops_by, CutsAreFixed, cuts_of, sweeps, value_in, map_agree, cut_values_agree, fixed_cuts_give_fix, CareSet, state_of, is_allowed, is_in_invariant, IsCareVector, Formula, Rails, says, negation, IsModel, Reads, rails_at, is_known, ReadsPlaces, says-negation, problem, HasNoModelUnder, models-same, change_literals, AreFedKnown, column_rails, vector_in, ReadsFix, IsCone, AreCutPlaces, LoopAt, IsLoopAt, gates_in, loops_in, is_marked, AreClosed, AreTooFewAt, TellsTooFew}
+use Rattle.clause_decision.proofs.Common.{length-map, get_or_default, All-cons, Contains-get_or, Trit, Zero, One, X, bit, bits, Below, Parts, IsNetlist, fix_gates, Cut, Loops, CutsAreFixed, cuts_of, sweeps, value_in, map_agree, cut_values_agree, fixed_cuts_give_fix, CareSet, state_of, is_allowed, is_in_invariant, IsCareVector, Formula, Rails, says, negation, IsModel, Reads, rails_at, is_known, ReadsPlaces, says-negation, problem, HasNoModelUnder, models-same, change_literals, AreFedKnown, column_rails, vector_in, ReadsFix, IsCone, AreCutPlaces, LoopAt, IsLoopAt, gates_in, loops_in, is_marked, AreClosed, AreTooFewAt, TellsTooFew}
 use Rattle.std.proofs.lemmas.List.Elements.{All-contains}
 use Rattle.cyc_base.proofs.OrderLemmas.{EachBelow-at}
 use Rattle.loops.specs.Sweeps.{cuts}

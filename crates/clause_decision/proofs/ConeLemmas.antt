@@ -93,10 +93,10 @@ module _ (net : Parts) (care : CareSet) (marks : List Bool) (old new : Formula) 
     complete = reads-fix;
   }
 
--- A cone stays one where more is said of further variables, and each model has values for these.
-pub cone-kept : (net : Parts) (care : CareSet) (marks : List Bool) (f g : Formula) (rails : List Rails) (inside allowed : ℕ) →
-    IsCone net care marks f rails inside allowed → Grows f g → ((m : List Bool) → length m ≡ f.variables → IsModel m f → HasModelFrom g m) → IsCone net care marks g rails inside allowed
-cone-kept net care marks f g rails inside allowed cone grows extends = record {
+-- A cone stays one where more is said of further variables, and the models of fixpoints have values for these.
+pub cone-grows : (net : Parts) (care : CareSet) (marks : List Bool) (f g : Formula) (rails : List Rails) (inside allowed : ℕ) → IsCone net care marks f rails inside allowed → Grows f g →
+    ((v : List Bool) → length v ≡ columns net → (has : ReadsFix net marks f rails v) → HasModelFrom g has.model) → IsCone net care marks g rails inside allowed
+cone-grows net care marks f g rails inside allowed cone grows extends = record {
   formula = grows.formula;
   within = All-within-more f.variables g.variables rails grows.more cone.within;
   size = cone.size;
@@ -106,12 +106,12 @@ cone-kept net care marks f g rails inside allowed cone grows extends = record {
   inside_tells = λ m h. cone.inside_tells m (grows.sound m h);
   allowed_tells = λ m h. cone.allowed_tells m (grows.sound m h);
   above = λ m h. cone.above m (grows.sound m h);
-  complete = λ v wide. kept v (cone.complete v wide);
+  complete = λ v wide. kept v wide (cone.complete v wide);
 }
   where
-    kept : (v : List Bool) → ReadsFix net marks f rails v → ReadsFix net marks g rails v
-    kept v has =
-        let more : HasModelFrom g has.model = extends has.model has.long has.holds in
+    kept : (v : List Bool) → length v ≡ columns net → ReadsFix net marks f rails v → ReadsFix net marks g rails v
+    kept v wide has =
+        let more : HasModelFrom g has.model = extends v wide has in
         let within : All (AreWithin (length has.model)) rails = subst (λ k. All (AreWithin k) rails) (sym has.long) cone.within in
         record {
           model = has.model ++ more.more;
@@ -123,3 +123,9 @@ cone-kept net care marks f g rails inside allowed cone grows extends = record {
               (All-get_or (AreWithin (length has.model)) rails (first_gate net + n) no_rails (let x = is.within in let y = cone.size in omega (arith, x, y)) within)
               (has.fixpoint n is);
         }
+
+-- and where each model has
+pub cone-kept : (net : Parts) (care : CareSet) (marks : List Bool) (f g : Formula) (rails : List Rails) (inside allowed : ℕ) →
+    IsCone net care marks f rails inside allowed → Grows f g → ((m : List Bool) → length m ≡ f.variables → IsModel m f → HasModelFrom g m) → IsCone net care marks g rails inside allowed
+cone-kept net care marks f g rails inside allowed cone grows extends =
+    cone-grows net care marks f g rails inside allowed cone grows (λ v wide has. extends has.model has.long has.holds)

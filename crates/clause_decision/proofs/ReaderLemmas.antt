@@ -1,8 +1,8 @@
 -- The gates of a loop that read each of its gates.
-use Rattle.std.proofs.Common.{◌≡◌, ◌⊎◌, inl, inr, ℕ, zero, suc, ◌+◌, ◌-◌, ◌<◌, ◌≤◌, ◌==◌, Bool, true, false, ◌&&◌, leb, if◌then◌else◌, List, [], ◌∷◌, ◌++◌, length, get_or, set, take, replicate, Option, Some, None, refl, sym, ap, subst, ◌∙◌, arith, Contains}
-use Rattle.clause_decision.proofs.Common.{eq-eqb, length-set, take_more, Contains-append_left, Contains-push, Contains-push_cases, Sig, gate_at, gate_sig, home_of, first_gate, gate_of, gate_home, LoopAt, IsLoopAt, gates_in, HasGainedReader, AreReaders}
-use Rattle.std.proofs.lemmas.Bool.{and_from, cases_eq, le-leb}
-use Rattle.std.proofs.lemmas.List.{get_or-set_same, length-replicate}
+use Rattle.std.proofs.Common.{◌≡◌, inl, inr, ℕ, zero, suc, ◌+◌, ◌-◌, ◌<◌, ◌==◌, Bool, true, leb, if◌then◌else◌, List, [], ◌∷◌, ◌++◌, length, get_or, set, take, replicate, Some, None, refl, sym, ap, subst, ◌∙◌, arith, Contains}
+use Rattle.clause_decision.proofs.Common.{eq-eqb, length-set, take_more, Contains-append_left, Contains-push, Contains-push_cases, Sig, gate_at, gate_sig, home_of, first_gate, gate_home, LoopAt, IsLoopAt, gates_in, HasGainedReader, AreReaders}
+use Rattle.std.proofs.lemmas.Bool.{and_from, le-leb}
+use Rattle.std.proofs.lemmas.List.{length-replicate}
 use Rattle.loops.specs.Searching.{InRow}
 use Rattle.loops.proofs.KeptLemmas.{pushed_keeps, pushed_new, pushed_only}
 use Rattle.clause_decision.specs.Readers.{source_of}

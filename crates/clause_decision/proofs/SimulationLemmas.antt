@@ -1,14 +1,13 @@
 -- A loop at one vector, sweep by sweep.
-use Rattle.std.proofs.Common.{All, ◌≡◌, ◌≢◌, inl, inr, ℕ, suc, ◌<◌, ◌+◌, ◌==◌, Bool, true, false, ◌&&◌, leb, if◌then◌else◌, List, [], length, map, take, drop, replicate, get_or, set, Contains, refl, sym, ap, subst, ◌∙◌, arith}
+use Rattle.std.proofs.Common.{◌≡◌, ◌≢◌, inl, inr, ℕ, suc, ◌<◌, ◌+◌, ◌==◌, Bool, true, false, ◌&&◌, leb, if◌then◌else◌, List, [], length, map, replicate, get_or, Contains, refl, sym, ap, ◌∙◌, arith}
 use Rattle.std.proofs.lemmas.Bool.{leb-true}
-use Rattle.clause_decision.proofs.Common.{take_more, Contains-get_or, Contains-push_cases, Sig, Trit, X, bits, Parts, IsNetlist, count, gate_at, no_gate, wire, fix, fix_gates, Blocks, Cut, AreBlocksOf, block_at, home_of, IsCutOf, Loops, is_cut, loops_by, CutsAreFixed, cuts_of, first_gate, gate_of, sweeps, value_in, map_agree, cut_values_agree, fixed_cuts_give_fix, gate_home, IsSweeping, LoopAt, IsLoopAt, gates_in, loops_in}
-use Rattle.std.proofs.lemmas.List.{drop_more}
+use Rattle.clause_decision.proofs.Common.{Sig, Trit, X, bits, Parts, count, gate_at, no_gate, wire, fix, fix_gates, home_of, Loops, is_cut, CutsAreFixed, cuts_of, first_gate, gate_of, sweeps, value_in, map_agree, cut_values_agree, fixed_cuts_give_fix, IsSweeping, LoopAt, IsLoopAt, gates_in, loops_in}
 use Rattle.cover_logic.specs.Extensions.{ext}
 use Rattle.loops.specs.Cuts.{in_one_loop}
 use Rattle.loops.specs.Sweeps.{cuts, gate_in, in_loop_of, pin_in, sweep}
 use Rattle.loops.proofs.OrderedSweeps.{sweep_of_one_loop}
 use Rattle.loops.proofs.Reading.{choice, in_loop_from}
-use Rattle.loops.proofs.Sweeps.{still_is_fix, sweep_each}
+use Rattle.loops.proofs.Sweeps.{still_is_fix}
 use Rattle.clause_decision.specs.Events.{cover_value}
 use Rattle.clause_decision.specs.Simulations.{seen_of}
 use Rattle.clause_decision.proofs.LoopLemmas.{are-loops, cut-of, gate-fits, of-loop, same-home}

@@ -1,24 +1,19 @@
 -- Sweeps of a loop on top of a cone, and how many are needed.
-use Rattle.std.proofs.Common.{◌≡◌, inl, inr, ℕ, zero, suc, ◌<◌, ◌≤◌, ◌+◌, ◌-◌, ◌*◌, ◌==◌, Bool, true, false, not, ◌&&◌, ◌||◌, cond, List, [], ◌∷◌, ◌++◌, length, map, filter, take, get_or, leb, Contains, refl, sym, ap, ap₂, subst, ◌∙◌, arith, true≢false, append-nil}
+use Rattle.std.proofs.Common.{◌≡◌, inl, inr, ℕ, zero, suc, ◌<◌, ◌≤◌, ◌+◌, ◌-◌, ◌*◌, Bool, true, false, not, ◌&&◌, ◌||◌, List, [], ◌∷◌, length, map, get_or, leb, Contains, refl, sym, ap, subst, ◌∙◌, arith, true≢false}
 use Rattle.std.specs.List.{All, list_any, range_with_len}
-use Rattle.clause_decision.proofs.Common.{cases_lt, and_parts, eq-eqb, length-map, get_or_default, take_all, All-push, All-weaker, All-map, All-get_or, All-take, Contains-get_or, Contains-append_left, Contains-push, Sig, Trit, X, bit, bits, Parts, IsNetlist, count, gate_at, no_gate, signal, fix_gates, Blocks, Cut, AreBlocksOf, block_at, home_of, IsCutOf, Loops, loops_by, is_cut, CutsAreFixed, cuts_of, first_gate, gate_of, sweeps, value_in, map_agree, cut_values_agree, fixed_cuts_give_fix, gate_home, CareSet, columns, state_of, is_allowed, is_in_invariant, IsCareVector, Formula, Rails, IsWanted, gate_rails, says, negation, IsModel, HasModelFrom, Grows, Reads, ReadsAll, AreWithin, no_rails, rails_at, is_known, SaysAny, ReadsPlaces, says-negation, ReadsAll-more, All-within-more, problem, HasNoModelUnder, models-same, column_rails, vector_in, ReadsFix, IsCone, first_number, AreTooFewAt, NeedAtLeast, TellsTooFew, AreCutPlaces, LoopAt, IsLoopAt, gates_in, loops_in, is_marked, AreClosed, IsCountAt, IsLeastCount, IsSwept}
+use Rattle.clause_decision.proofs.Common.{cases_lt, and_parts, length-map, get_or_default, take_all, All-map, All-get_or, Contains-get_or, Sig, Trit, X, bit, bits, Parts, IsNetlist, count, gate_at, no_gate, signal, fix_gates, block_at, Loops, is_cut, CutsAreFixed, cuts_of, first_gate, gate_of, sweeps, value_in, map_agree, cut_values_agree, fixed_cuts_give_fix, gate_home, CareSet, columns, state_of, is_allowed, is_in_invariant, IsCareVector, Formula, Rails, IsWanted, gate_rails, says, negation, IsModel, HasModelFrom, Grows, Reads, ReadsAll, AreWithin, no_rails, rails_at, is_known, SaysAny, ReadsPlaces, says-negation, All-within-more, problem, HasNoModelUnder, models-same, column_rails, vector_in, ReadsFix, IsCone, first_number, AreTooFewAt, NeedAtLeast, TellsTooFew, AreCutPlaces, LoopAt, IsLoopAt, gates_in, loops_in, is_marked, AreClosed, IsCountAt, IsLeastCount, IsSwept}
 use Rattle.std.proofs.lemmas.Bool.{and_from, le-leb}
-use Rattle.std.proofs.lemmas.List.{get_or-replicate, length_push}
-use Rattle.std.proofs.lemmas.List.FromFn.{length-range_with_len}
-use Rattle.std.proofs.lemmas.List.Elements.{All-contains, filter_more}
+use Rattle.std.proofs.lemmas.List.{get_or-replicate}
+use Rattle.std.proofs.lemmas.List.Elements.{All-contains}
 use Rattle.cyc_base.proofs.OrderLemmas.{EachBelow-at}
 use Rattle.netlist.specs.Walks.{Feeds}
 use Rattle.loops.specs.Cuts.{AreLoopsOf}
-use Rattle.loops.specs.Orders.{AreGatesOfLoop}
 use Rattle.loops.specs.Sweeps.{in_loop_of}
 use Rattle.loops.proofs.LoopCuts.{has-cut}
-use Rattle.loops.proofs.Reading.{Contains-filter, Contains-filter_from, Contains-range, Contains-range_from}
-use Rattle.loops.proofs.Sweeps.{few_sweeps_are_enough, sweeps_stay_below_fix}
-use Rattle.loops.proofs.Told.{blocks_have_loops, blocks_tell_loops}
-use Rattle.loops.proofs.Walks.{same_truth}
+use Rattle.loops.proofs.Reading.{Contains-filter_from}
+use Rattle.loops.proofs.Sweeps.{sweeps_stay_below_fix}
 use Rattle.refusals.specs.Acceptance.{SomeCareVector}
 use Rattle.ternary_clauses.specs.Sweeps.{ReadsOutside, SaysSweep}
-use Rattle.ternary_clauses.proofs.ReadingLemmas.{Reads-more}
 use Rattle.clause_queries.specs.declared.query.Reply.{Reply}
 use Rattle.clause_queries.specs.declared.query.Reply.TheVariants as replies
 use Rattle.clause_queries.specs.Queries.{IsModelUnder, IsReply}
@@ -29,7 +24,8 @@ use Rattle.clause_decision.specs.Countings.{AreEnough, Serves}
 use Rattle.clause_decision.specs.Scopes.{AreKnownOnCare}
 use Rattle.clause_decision.specs.Sweepings.{open_literals, AreKnownAfter, IsOpenAt, SaysOpen, TellsOpen}
 use Rattle.clause_decision.proofs.FormulaLemmas.{ones-read}
-use Rattle.clause_decision.proofs.LoopLemmas.{are-loops, cut-of, cuts-enough, gate-fits, of-loop}
+use Rattle.clause_decision.proofs.ConeLemmas.{cone-grows}
+use Rattle.clause_decision.proofs.LoopLemmas.{are-loops, cuts-enough, gate-fits, of-loop}
 use Rattle.clause_decision.proofs.SignalLemmas.{known-below, negation-within, column_rails-length, signal-at, gate-read, three}
 use Rattle.clause_decision.proofs.UnknownLemmas.{unknown-value}
 
@@ -80,38 +76,6 @@ any-from f p (x ∷ xs) (suc k) less e = ap (λ b. p (f x) || b) (any-from f p x
     or-true : (b : Bool) → (b || true) ≡ true
     or-true true = refl
     or-true false = refl
-
--- ---- a cone that grows
-
-pub cone-grows : (net : Parts) (care : CareSet) (marks : List Bool) (f g : Formula) (rails : List Rails) (inside allowed : ℕ) → IsCone net care marks f rails inside allowed → Grows f g →
-    ((v : List Bool) → length v ≡ columns net → (has : ReadsFix net marks f rails v) → HasModelFrom g has.model) → IsCone net care marks g rails inside allowed
-cone-grows net care marks f g rails inside allowed cone grows extends = record {
-  formula = grows.formula;
-  within = All-within-more f.variables g.variables rails grows.more cone.within;
-  size = cone.size;
-  inside_within = (let x = grows.more in let y = cone.inside_within in omega (arith, x, y));
-  allowed_within = (let x = grows.more in let y = cone.allowed_within in omega (arith, x, y));
-  sound = λ m h. cone.sound m (grows.sound m h);
-  inside_tells = λ m h. cone.inside_tells m (grows.sound m h);
-  allowed_tells = λ m h. cone.allowed_tells m (grows.sound m h);
-  above = λ m h. cone.above m (grows.sound m h);
-  complete = λ v wide. kept v wide (cone.complete v wide);
-}
-  where
-    kept : (v : List Bool) → length v ≡ columns net → ReadsFix net marks f rails v → ReadsFix net marks g rails v
-    kept v wide has =
-        let more : HasModelFrom g has.model = extends v wide has in
-        let within : All (AreWithin (length has.model)) rails = subst (λ k. All (AreWithin k) rails) (sym has.long) cone.within in
-        record {
-          model = has.model ++ more.more;
-          long = more.width;
-          holds = more.model;
-          columns = ReadsAll-more has.model more.more (column_rails net rails) (bits v) (All-take (AreWithin (length has.model)) (columns net) rails within) has.columns;
-          fixpoint = λ n is.
-              Reads-more has.model more.more (gate_rails net rails n) (value_in (fix_gates net (bits v)) n)
-              (All-get_or (AreWithin (length has.model)) rails (first_gate net + n) no_rails (let x = is.within in let y = cone.size in omega (arith, x, y)) within)
-              (has.fixpoint n is);
-        }
 
 -- ---- a swept loop whose clauses grow
 

@@ -34,6 +34,10 @@ gates_in l = (block_at l.blocks l.number).gates
 abbrev pub loops_in : LoopAt → Loops
 loops_in l = loops_by l.blocks l.cut
 
+-- the netlist with its loops
+abbrev pub looped_in : LoopAt → Looped
+looped_in l = record { net = l.net; blocks = l.blocks; cut = l.cut }
+
 -- the block at a place of a netlist
 abbrev pub loop_at : Looped → ℕ → List ℕ → LoopAt
 loop_at l number cuts = record { net = l.net; blocks = l.blocks; cut = l.cut; number = number; cuts = cuts }

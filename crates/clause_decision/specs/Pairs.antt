@@ -1,5 +1,5 @@
 -- Pairs of wires, as clauses.
-use Rattle.std.specs.Prelude.{◌≡◌, ◌<◌, ◌*◌, ℕ, Bool, not, List, [], ◌∷◌, length, All}
+use Rattle.std.specs.Prelude.{◌≡◌, ◌<◌, ◌*◌, ℕ, Bool, not, List, [], ◌∷◌, ◌++◌, length, All}
 use Rattle.std.specs.List.{AllZip}
 use Rattle.cyc_base.specs.declared.trit.Trit.{Trit}
 use Rattle.netlist.specs.declared.parts.Parts.{Parts}
@@ -10,7 +10,7 @@ use Rattle.ternary_clauses.specs.Formulas.{says, IsModel, HasModelFrom, Grows}
 use Rattle.ternary_clauses.specs.Nodes.{agreed}
 use Rattle.ternary_clauses.specs.Rails.{is_known, rails_at, Reads, AreRailsOf}
 use Rattle.clause_queries.specs.Clauses.{IsWithin}
-use Rattle.clause_queries.specs.Queries.{problem, HasNoModelUnder}
+use Rattle.clause_queries.specs.Queries.{Problem, problem, HasNoModelUnder}
 use Rattle.clause_decision.specs.declared.apart.Asked.{Asked}
 use Rattle.clause_decision.specs.declared.pairs.Pair.{Pair}
 use Rattle.clause_decision.specs.Cones.{IsCone}
@@ -52,6 +52,16 @@ pub record AreAskable (asked : Asked) : Type 0 where
   pub hints : IsWithin asked.cone.formula.variables asked.hints.items
   pub pairs : IsWithin asked.cone.formula.variables asked.pairs.items
 
+-- literals of care, of hints and of pairs, all of them of the problem's variables
+pub record AreLiteralsOf (p : Problem) (care hints pairs : List ℕ) : Type 0 where
+  pub of_care : IsWithin p.variables care
+  pub of_hints : IsWithin p.variables hints
+  pub of_pairs : IsWithin p.variables pairs
+
+-- none of these is true in a model with all literals of care
+abbrev pub HaveNoModel : Problem → (care : List ℕ) → List ℕ → Type 0
+HaveNoModel p care = All (λ l. HasNoModelUnder p (care ++ l ∷ []))
+
 -- a cone, in whose models the literals say so of these pairs
 pub record TellPairs (net : Parts) (care : CareSet) (marks : List Bool) (pairs : List Pair) (asked : Asked) : Type 0 where
   pub cone : IsCone net care marks asked.cone.formula asked.cone.rails.items asked.cone.inside asked.cone.allowed
@@ -60,4 +70,4 @@ pub record TellPairs (net : Parts) (care : CareSet) (marks : List Bool) (pairs :
 
 -- no literal of a pair is true in a model with both care literals
 abbrev pub AreRefuted : Asked → Type 0
-AreRefuted asked = All (λ l. HasNoModelUnder (problem asked.cone.formula) (asked.cone.inside ∷ asked.cone.allowed ∷ l ∷ [])) asked.pairs.items
+AreRefuted asked = HaveNoModel (problem asked.cone.formula) (asked.cone.inside ∷ asked.cone.allowed ∷ []) asked.pairs.items

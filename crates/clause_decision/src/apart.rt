@@ -1,25 +1,23 @@
 //! Pairs of wires that are never apart on care, with the help of others that are asked first.
 
-ghost use Rattle.std.specs.Prelude.{◌≡◌, ◌∷◌, [], ◌++◌, ◌↔◌, true, IsTrue, All, IfOk};
+ghost use Rattle.std.specs.Prelude.{◌≡◌, ◌↔◌, true, IsTrue, All, IfOk};
 ghost use Rattle.care_sets.specs.Binding.{IsCareOf};
 ghost use Rattle.ternary_clauses.specs.Apart.{SaysApart};
 ghost use Rattle.ternary_clauses.specs.Formulas.{IsFormula};
-ghost use Rattle.ternary_clauses.specs.Rails.{exchanged as exchanged_of, rails_at};
-ghost use Rattle.clause_queries.specs.Clauses.{IsWithin};
-ghost use Rattle.clause_queries.specs.Queries.{HasNoModelUnder};
+ghost use Rattle.ternary_clauses.specs.Rails.{rails_at};
 ghost use Rattle.clause_decision.specs.Apart.{IsPairOf, IsPairIn, ArePairsIn, AreNeverApart};
-ghost use Rattle.clause_decision.specs.Pairs.{HasRails, AddsLiteral, AddLiterals, SayPairs, AreAskable, TellPairs, AreRefuted};
+ghost use Rattle.clause_decision.specs.Pairs.{HasRails, AddsLiteral, AddLiterals, SayPairs, AreAskable, AreLiteralsOf, HaveNoModel, TellPairs, AreRefuted};
 ghost use Rattle.clause_decision.specs.Scopes.{IsScopeOf};
 
 use crate::cones::{Cone, cone_of};
-use crate::pairs::{Hint, Pair};
+use crate::pairs::{Budget, Hint, Pair, PairSearch};
 use crate::question::query_of;
 use crate::scope::Scope;
 use care_sets::Care;
 use clause_queries::Query;
 use netlist::Netlist;
 use std::alloc::{AllocError, Global};
-use ternary_clauses::{ClausesFault, Formula, Rails, add_apart};
+use ternary_clauses::{ClausesFault, Formula, Rails, add_apart, exchanged};
 
 /// How many hints the solver may give up on: no more are asked for then.
 const FAILURES: usize = 1_000;
@@ -73,17 +71,6 @@ fn add_pairs(
     Ok(literals)
 }
 
-/// The rails of the complement.
-fn exchanged(rails: Rails) -> Rails
-    ensures { result ≡ exchanged_of rails }
-{
-    Rails {
-        one: rails.zero,
-        zero: rails.one,
-        known: rails.known,
-    }
-}
-
 /// Adds a literal that is true unless the wires of a hint are known and as it has them.
 #[tactic(auto, using(crate::proofs::ApartLemmas::exchanged_rails, crate::proofs::ApartLemmas::apart_adds))]
 fn add_hint(formula: &mut Formula, rails: &[Rails], hint: Hint) -> Result<u32, ClausesFault>
@@ -124,20 +111,19 @@ fn asked_of(
     net: &Netlist,
     care: &Care,
     scope: &Scope,
-    hints: &[Hint],
-    pairs: &[Pair],
+    search: &PairSearch<'_>,
 ) -> Result<Asked, ClausesFault>
     requires care { IsCareOf net.now care.now }
     requires scope { IsScopeOf net.now scope.now }
-    requires hints { All (λ hint. IsPairOf net.now hint.pair) hints.now }
-    requires hints_within { All (λ hint. IsPairIn net.now scope.now hint.pair) hints.now }
-    requires pairs { All (IsPairOf net.now) pairs.now }
-    requires pairs_within { ArePairsIn net.now scope.now pairs.now }
-    ensures { IfOk result (TellPairs net.now care.now scope.now.gates pairs.now) }
+    requires hints { All (λ hint. IsPairOf net.now hint.pair) search.now.hints.now }
+    requires hints_within { All (λ hint. IsPairIn net.now scope.now hint.pair) search.now.hints.now }
+    requires pairs { All (IsPairOf net.now) search.now.pairs.now }
+    requires pairs_within { ArePairsIn net.now scope.now search.now.pairs.now }
+    ensures { IfOk result (TellPairs net.now care.now scope.now.gates search.now.pairs.now) }
 {
     let mut cone = cone_of(alloc, net, care, scope)?;
-    let hints = add_hints(alloc, &mut cone.formula, &cone.rails, hints)?;
-    let pairs = add_pairs(alloc, &mut cone.formula, &cone.rails, pairs)?;
+    let hints = add_hints(alloc, &mut cone.formula, &cone.rails, search.hints)?;
+    let pairs = add_pairs(alloc, &mut cone.formula, &cone.rails, search.pairs)?;
     Ok(Asked { cone, hints, pairs })
 }
 
@@ -148,73 +134,70 @@ fn are_marked(marks: &[bool]) -> bool
     marks.iter().all(|mark| *mark)
 }
 
-/// Whether each of the last literals is refuted with the care literals, after the first ones were asked for with few
+/// The literals of care, of hints and of pairs.
+#[derive(Drop)]
+struct Literals<'a> {
+    care: &'a [u32],
+    hints: &'a [u32],
+    pairs: &'a [u32],
+}
+
+/// Whether each of the pairs' literals is refuted with those of care, after those of the hints were asked for with few
 /// conflicts each. What the solver learns of them helps.
 fn are_refuted_after(
     alloc: Global,
     query: &mut Query,
-    care: &[u32],
-    first: &[u32],
-    last: &[u32],
-    few: u64,
-    conflicts: u64,
+    literals: &Literals<'_>,
+    budget: Budget,
 ) -> Result<bool, AllocError>
-    requires care { IsWithin query.old.variables care.now }
-    requires first { IsWithin query.old.variables first.now }
-    requires last { IsWithin query.old.variables last.now }
+    requires { AreLiteralsOf query.old literals.now.care.now literals.now.hints.now literals.now.pairs.now }
     ensures unchanged { query.new ≡ query.old }
-    ensures refuted { IfOk result (λ refuted. refuted ≡ true → All (λ l. HasNoModelUnder query.old (care.now ++ l ∷ [])) last.now) }
+    ensures refuted { IfOk result (λ refuted. refuted ≡ true → HaveNoModel query.old literals.now.care.now literals.now.pairs.now) }
 {
-    let _ = query.never_each(alloc, first, care, few, FAILURES)?;
-    let never = query.never_each(alloc, last, care, conflicts, 1)?;
+    let _ = query.never_each(alloc, literals.hints, literals.care, budget.few, FAILURES)?;
+    let never = query.never_each(alloc, literals.pairs, literals.care, budget.many, 1)?;
     Ok(are_marked(&never))
 }
 
-/// Whether each of the last literals is refuted with the care literals: at once with few conflicts each, or behind the first
-/// ones, with more and then with many. A model of one of the last, found at once, ends it.
+/// Whether each of the pairs' literals is refuted with those of care: at once with few conflicts each, or behind the hints,
+/// with more and then with many. A model of one of them, found at once, ends it.
 fn ask_pairs(
     alloc: Global,
     query: &mut Query,
-    care: &[u32],
-    first: &[u32],
-    last: &[u32],
-    few: u64,
-    conflicts: u64,
+    literals: &Literals<'_>,
+    budget: Budget,
 ) -> Result<bool, AllocError>
-    requires care { IsWithin query.old.variables care.now }
-    requires first { IsWithin query.old.variables first.now }
-    requires last { IsWithin query.old.variables last.now }
-    ensures { IfOk result (λ refuted. refuted ≡ true → All (λ l. HasNoModelUnder query.old (care.now ++ l ∷ [])) last.now) }
+    requires { AreLiteralsOf query.old literals.now.care.now literals.now.hints.now literals.now.pairs.now }
+    ensures { IfOk result (λ refuted. refuted ≡ true → HaveNoModel query.old literals.now.care.now literals.now.pairs.now) }
 {
-    if let Some(possible) = query.is_any_possible(alloc, last, care, few)? {
+    if let Some(possible) = query.is_any_possible(
+        alloc,
+        literals.pairs,
+        literals.care,
+        budget.few,
+    )? {
         return Ok(!possible);
     }
-    if are_refuted_after(alloc, query, care, first, last, few, conflicts)? {
+    if are_refuted_after(alloc, query, literals, budget)? {
         return Ok(true);
     }
-    let few = few.saturating_mul(MORE);
-    let conflicts = conflicts.saturating_mul(MORE);
-    are_refuted_after(alloc, query, care, first, last, few, conflicts)
+    are_refuted_after(alloc, query, literals, budget.times(MORE))
 }
 
 /// Whether each pair's literal is refuted.
-fn ask_all(alloc: Global, asked: &Asked, few: u64, conflicts: u64) -> Result<bool, AllocError>
+fn ask_all(alloc: Global, asked: &Asked, budget: Budget) -> Result<bool, AllocError>
     requires askable { AreAskable asked.now }
     ensures { IfOk result (λ refuted. refuted ≡ true → AreRefuted asked.now) }
 {
     let Some(mut query) = query_of(alloc, &asked.cone.formula)? else {
         return Ok(false);
     };
-    let care = [asked.cone.inside, asked.cone.allowed];
-    ask_pairs(
-        alloc,
-        &mut query,
-        &care,
-        &asked.hints,
-        &asked.pairs,
-        few,
-        conflicts,
-    )
+    let literals = Literals {
+        care: &[asked.cone.inside, asked.cone.allowed],
+        hints: &asked.hints,
+        pairs: &asked.pairs,
+    };
+    ask_pairs(alloc, &mut query, &literals, budget)
 }
 
 /// Whether at no care vector one wire of one of these pairs is 0 and its other wire 1. False says nothing of them.
@@ -231,21 +214,18 @@ pub fn are_never_apart(
     net: &Netlist,
     care: &Care,
     scope: &Scope,
-    hints: &[Hint],
-    pairs: &[Pair],
-    few: u64,
-    conflicts: u64,
+    search: &PairSearch<'_>,
 ) -> Result<bool, AllocError>
     requires care { IsCareOf net.now care.now }
     requires scope { IsScopeOf net.now scope.now }
-    requires hints { All (λ hint. IsPairOf net.now hint.pair) hints.now }
-    requires hints_within { All (λ hint. IsPairIn net.now scope.now hint.pair) hints.now }
-    requires pairs { All (IsPairOf net.now) pairs.now }
-    requires pairs_within { ArePairsIn net.now scope.now pairs.now }
-    ensures { IfOk result (λ never. never ≡ true → AreNeverApart net.now care.now pairs.now) }
+    requires hints { All (λ hint. IsPairOf net.now hint.pair) search.now.hints.now }
+    requires hints_within { All (λ hint. IsPairIn net.now scope.now hint.pair) search.now.hints.now }
+    requires pairs { All (IsPairOf net.now) search.now.pairs.now }
+    requires pairs_within { ArePairsIn net.now scope.now search.now.pairs.now }
+    ensures { IfOk result (λ never. never ≡ true → AreNeverApart net.now care.now search.now.pairs.now) }
 {
-    match asked_of(alloc, net, care, scope, hints, pairs) {
-        Ok(asked) => ask_all(alloc, &asked, few, conflicts),
+    match asked_of(alloc, net, care, scope, search) {
+        Ok(asked) => ask_all(alloc, &asked, search.budget),
         Err(ClausesFault::TooMany) => Ok(false),
         Err(ClausesFault::Memory) => Err(AllocError),
     }

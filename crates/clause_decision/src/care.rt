@@ -1,6 +1,6 @@
 //! The care set as clauses, and whether a vector is one of care.
 
-ghost use Rattle.std.specs.Prelude.{◌≡◌, length, map, drop, IfOk};
+ghost use Rattle.std.specs.Prelude.{◌≡◌, map, drop, IfOk};
 ghost use Rattle.care_sets.specs.Binding.{IsCareOf};
 ghost use Rattle.care_sets.specs.Care.{columns as columns_of, is_care_vector};
 ghost use Rattle.clause_queries.specs.Vectors.{TellsWhetherAny};

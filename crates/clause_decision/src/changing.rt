@@ -1,6 +1,6 @@
 //! Whether a sweep changes a cut wire on care.
 
-ghost use Rattle.std.specs.Prelude.{◌≡◌, ◌<◌, ◌*◌, ◌∷◌, [], length, All, IfOk};
+ghost use Rattle.std.specs.Prelude.{◌≡◌, ◌<◌, ◌*◌, length, All, IfOk};
 ghost use Rattle.ternary_clauses.specs.Rails.{AreWithin, rails_at};
 ghost use Rattle.clause_queries.specs.Queries.{problem, IsReply};
 ghost use Rattle.clause_decision.specs.Changes.{change_literals, TellsChange};

@@ -1,10 +1,10 @@
 //! How many sweeps a loop needs on care. A care vector is a witness: it needs as many as ternary simulation tells, first
 //! that of zeros. After so many sweeps, clauses tell whether another vector needs more, which is the next witness.
 
-ghost use Rattle.std.specs.Prelude.{◌≡◌, ◌<◌, ◌≤◌, ◌+◌, ℕ, List, true, length, Contains, IfOk, IfSome};
+ghost use Rattle.std.specs.Prelude.{◌≡◌, ◌<◌, ◌≤◌, ◌+◌, ℕ, true, length, Contains, IfOk, IfSome};
 ghost use Rattle.netlist.specs.Netlists.{count};
-ghost use Rattle.loops.specs.Blocks.{AreBlocksOf, block_at};
-ghost use Rattle.loops.specs.Cuts.{IsCutOf, loops_by};
+ghost use Rattle.loops.specs.Blocks.{block_at};
+ghost use Rattle.loops.specs.Cuts.{loops_by};
 ghost use Rattle.care_sets.specs.Binding.{IsCareOf};
 ghost use Rattle.care_sets.specs.Care.{columns, is_care_vector as is_care_vector_of, CareSet};
 ghost use Rattle.refusals.specs.Acceptance.{SomeCareVector};
@@ -23,7 +23,7 @@ use crate::simulating::count_at;
 use crate::sweeping::{Swept, ask_open, sweep_on, unswept};
 use care_sets::Care;
 use clause_queries::Reply;
-use loops::{Blocks, Cut, LoopedNetlist};
+use loops::LoopedNetlist;
 use netlist::Netlist;
 use std::alloc::{AllocError, Global};
 use ternary_clauses::{ClausesFault, Rails};
@@ -241,68 +241,58 @@ fn sweeps_of_loop(
 /// How many sweeps the loop at this place of the blocks needs on care, or none where the solver gives up after so many
 /// conflicts in one of its searches.
 ///
-/// The condition is that all parts are the netlist's, that the block is a loop whose gates are in the scope, that there
-/// is a care vector, and that no gate is unknown at one.
+/// The condition is that the care set and the scope are the netlist's, that the block is a loop whose gates are in the
+/// scope, that there is a care vector, and that no gate is unknown at one.
 pub fn sweeps_needed(
     alloc: Global,
-    net: &Netlist,
-    blocks: &Blocks,
-    cut: &Cut,
+    looped: &LoopedNetlist<'_>,
     care: &Care,
     scope: &Scope,
     block: u32,
     conflicts: u64,
 ) -> Result<Option<u32>, AllocError>
-    requires blocks { AreBlocksOf net.now blocks.now }
-    requires cut { IsCutOf net.now cut.now }
-    requires care { IsCareOf net.now care.now }
-    requires scope { IsScopeOf net.now scope.now }
-    requires block { block < length blocks.now.list }
-    requires looped { (block_at blocks.now block).looped ≡ true }
-    requires within { AreInScope net.now scope.now (block_at blocks.now block).gates }
-    requires some { SomeCareVector net.now care.now }
-    requires known { AreKnownOnCare net.now care.now }
-    ensures { IfOk result (λ found. IfSome found (λ sweeps. (gate : ℕ) → Contains (block_at blocks.now block).gates gate →
-        IsLeastCount net.now (loops_by blocks.now cut.now) care.now gate sweeps)) }
+    requires care { IsCareOf looped.now.net care.now }
+    requires scope { IsScopeOf looped.now.net scope.now }
+    requires block { block < length looped.now.blocks.list }
+    requires looped { (block_at looped.now.blocks block).looped ≡ true }
+    requires within { AreInScope looped.now.net scope.now (block_at looped.now.blocks block).gates }
+    requires some { SomeCareVector looped.now.net care.now }
+    requires known { AreKnownOnCare looped.now.net care.now }
+    ensures { IfOk result (λ found. IfSome found (λ sweeps. (gate : ℕ) → Contains (block_at looped.now.blocks block).gates gate →
+        IsLeastCount looped.now.net (loops_by looped.now.blocks looped.now.cut) care.now gate sweeps)) }
 {
-    let looped = LoopedNetlist::new(net, blocks, cut);
     let search = Search {
         sign: Sign::Open,
         conflicts,
     };
-    sweeps_of_loop(alloc, &looped, care, scope, block, search)
+    sweeps_of_loop(alloc, looped, care, scope, block, search)
 }
 
 /// How many sweeps the loop at this place of the blocks needs on care, or none where the solver gives up after so many
 /// conflicts in one of its searches. Its gates may be unknown at care vectors.
 ///
-/// The condition is that all parts are the netlist's, that the block is a loop whose gates are in the scope, and that no
-/// gate from outside that feeds the loop is unknown at a care vector.
+/// The condition is that the care set and the scope are the netlist's, that the block is a loop whose gates are in the
+/// scope, and that no gate from outside that feeds the loop is unknown at a care vector.
 pub fn sweeps_fed_known(
     alloc: Global,
-    net: &Netlist,
-    blocks: &Blocks,
-    cut: &Cut,
+    looped: &LoopedNetlist<'_>,
     care: &Care,
     scope: &Scope,
     block: u32,
     conflicts: u64,
 ) -> Result<Option<u32>, AllocError>
-    requires blocks { AreBlocksOf net.now blocks.now }
-    requires cut { IsCutOf net.now cut.now }
-    requires care { IsCareOf net.now care.now }
-    requires scope { IsScopeOf net.now scope.now }
-    requires block { block < length blocks.now.list }
-    requires looped { (block_at blocks.now block).looped ≡ true }
-    requires within { AreInScope net.now scope.now (block_at blocks.now block).gates }
-    requires fed { AreFedKnown net.now care.now (block_at blocks.now block).gates }
-    ensures { IfOk result (λ found. IfSome found (λ sweeps. (gate : ℕ) → Contains (block_at blocks.now block).gates gate →
-        IsLeastCount net.now (loops_by blocks.now cut.now) care.now gate sweeps)) }
+    requires care { IsCareOf looped.now.net care.now }
+    requires scope { IsScopeOf looped.now.net scope.now }
+    requires block { block < length looped.now.blocks.list }
+    requires looped { (block_at looped.now.blocks block).looped ≡ true }
+    requires within { AreInScope looped.now.net scope.now (block_at looped.now.blocks block).gates }
+    requires fed { AreFedKnown looped.now.net care.now (block_at looped.now.blocks block).gates }
+    ensures { IfOk result (λ found. IfSome found (λ sweeps. (gate : ℕ) → Contains (block_at looped.now.blocks block).gates gate →
+        IsLeastCount looped.now.net (loops_by looped.now.blocks looped.now.cut) care.now gate sweeps)) }
 {
-    let looped = LoopedNetlist::new(net, blocks, cut);
     let search = Search {
         sign: Sign::Changing,
         conflicts,
     };
-    sweeps_of_loop(alloc, &looped, care, scope, block, search)
+    sweeps_of_loop(alloc, looped, care, scope, block, search)
 }

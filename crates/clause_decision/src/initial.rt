@@ -1,10 +1,9 @@
 //! Initial states outside the invariant.
 
-ghost use Rattle.std.specs.Prelude.{◌≡◌, ◌∷◌, ◌++◌, [], List, ℕ, length, IfOk, OnOk};
+ghost use Rattle.std.specs.Prelude.{◌≡◌, ◌∷◌, ◌++◌, length, IfOk, OnOk};
 ghost use Rattle.ternary_clauses.specs.Formulas.{negation as negation_of};
 ghost use Rattle.care_sets.specs.Binding.{IsCareOf};
 ghost use Rattle.clause_queries.specs.Vectors.{IsFirstOf};
-ghost use Rattle.clause_decision.specs.Formulas.{IsOver};
 ghost use Rattle.clause_decision.specs.Questions.{IsQuestionOf};
 ghost use Rattle.clause_decision.specs.Starts.{asked_of, asked_starts};
 ghost use Rattle.clause_decision.specs.Tests.{is_outside};

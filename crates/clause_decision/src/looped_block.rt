@@ -4,7 +4,7 @@ ghost use Rattle.std.specs.Prelude.{◌≡◌, ◌<◌, ◌==◌, true, length, 
 ghost use Rattle.netlist.specs.Netlists.{IsSignal};
 ghost use Rattle.loops.specs.Blocks.{block_at, home_of};
 ghost use Rattle.loops.specs.Cuts.{is_cut};
-ghost use Rattle.clause_decision.specs.LoopsAt.{gates_in, loop_at, AreCutPlaces, IsLoopAt};
+ghost use Rattle.clause_decision.specs.LoopsAt.{gates_in, loop_at, looped_in, AreCutPlaces, IsLoopAt};
 ghost use Rattle.clause_decision.specs.Readers.{source_of};
 
 use cyc_base::Sig;
@@ -78,26 +78,20 @@ impl<'a> LoopedBlock<'a> {
         })
     }
 
+    /// The netlist with its loops.
+    pub(crate) fn looped(&self) -> &'a LoopedNetlist<'a>
+        ensures looped { result.now ≡ looped_in self.now }
+        ensures is { IsLoopAt self.now }
+    {
+        self.looped
+    }
+
     /// The netlist.
     pub(crate) fn net(&self) -> &'a Netlist
         ensures net { result.now ≡ self.now.net }
         ensures is { IsLoopAt self.now }
     {
         self.looped.net()
-    }
-
-    /// Its blocks.
-    pub(crate) fn blocks(&self) -> &'a Blocks
-        ensures { result.now ≡ self.now.blocks }
-    {
-        self.looped.blocks()
-    }
-
-    /// Its cut wires.
-    pub(crate) fn cut(&self) -> &'a Cut
-        ensures { result.now ≡ self.now.cut }
-    {
-        self.looped.cut()
     }
 
     /// The place of the block.

@@ -13,3 +13,30 @@ pub struct Hint {
     pub pair: Pair,
     pub opposite: bool,
 }
+
+/// How many conflicts a search may meet.
+#[derive(Clone, Copy, Debug, PartialEq, Eq)]
+pub struct Budget {
+    /// For a hint, and for a pair before the hints were asked for.
+    pub few: u64,
+    /// For a pair behind the hints.
+    pub many: u64,
+}
+
+impl Budget {
+    /// So many times as many, or as many as there can be.
+    pub(crate) fn times(self, factor: u64) -> Budget {
+        Budget {
+            few: self.few.saturating_mul(factor),
+            many: self.many.saturating_mul(factor),
+        }
+    }
+}
+
+/// Pairs that are asked for, with the help of hints.
+#[derive(Clone, Copy, Debug)]
+pub struct PairSearch<'a> {
+    pub hints: &'a [Hint],
+    pub pairs: &'a [Pair],
+    pub budget: Budget,
+}

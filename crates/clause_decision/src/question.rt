@@ -1,6 +1,6 @@
 //! Questions about vectors, as clauses: which of them pass a test.
 
-ghost use Rattle.std.specs.Prelude.{◌≡◌, ℕ, Bool, List, length, IfOk, IfSome};
+ghost use Rattle.std.specs.Prelude.{◌≡◌, ℕ, Bool, List, IfOk, IfSome};
 ghost use Rattle.clause_queries.specs.Queries.{problem};
 ghost use Rattle.clause_queries.specs.Vectors.{IsFirstOf, TellsWhetherAny};
 ghost use Rattle.clause_decision.specs.Questions.{IsAskable, IsQuestionOf};

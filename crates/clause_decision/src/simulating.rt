@@ -5,8 +5,8 @@ ghost use Rattle.cyc_base.specs.declared.trit.Trit.{Trit};
 ghost use Rattle.cyc_base.specs.Values.{bits};
 ghost use Rattle.netlist.specs.Fixpoint.{fix};
 ghost use Rattle.netlist.specs.Netlists.{count, IsSignal};
-ghost use Rattle.loops.specs.Blocks.{AreBlocksOf, block_at};
-ghost use Rattle.loops.specs.Cuts.{IsCutOf, loops_by};
+ghost use Rattle.loops.specs.Blocks.{block_at};
+ghost use Rattle.loops.specs.Cuts.{loops_by};
 ghost use Rattle.care_sets.specs.Care.{columns};
 ghost use Rattle.clause_decision.specs.Events.{cover_value, IsNewValue, IsReady, IsSwept};
 ghost use Rattle.clause_decision.specs.LoopsAt.{gates_in, loops_in, LoopAt, IsLoopAt};
@@ -16,7 +16,7 @@ ghost use Rattle.clause_decision.specs.Simulations.{seen_of, IsCountAt};
 use crate::looped_block::LoopedBlock;
 use crate::readers::readers_in;
 use cyc_base::{Sig, Trit};
-use loops::{Blocks, Cut, GateList, LoopedNetlist};
+use loops::{GateList, LoopedNetlist};
 use netlist::Netlist;
 use std::alloc::{AllocError, Global};
 use ternary_run::settle;
@@ -27,8 +27,8 @@ fn trits_of(alloc: Global, vector: &[bool]) -> Result<Vec<Trit>, AllocError>
     vector.iter().map(|value| Trit::of(*value)).collect(alloc)
 }
 
-/// The values of the signals at a vector.
-fn values_at(alloc: Global, net: &Netlist, vector: &[bool]) -> Result<Vec<Trit>, AllocError>
+/// The values of the signals at a vector, which has a value for each input and latch.
+pub fn values_at(alloc: Global, net: &Netlist, vector: &[bool]) -> Result<Vec<Trit>, AllocError>
     requires { length vector.now ≡ columns net.now }
     ensures { IfOk result (λ values. values.items ≡ fix net.now (bits vector.now)) }
 {
@@ -36,30 +36,34 @@ fn values_at(alloc: Global, net: &Netlist, vector: &[bool]) -> Result<Vec<Trit>,
     settle(alloc, net, &given)
 }
 
+/// A loop at one vector.
+#[derive(Drop)]
+struct Simulation<'a> {
+    block: &'a LoopedBlock<'a>,
+    /// For each gate the gates of the loop that read it.
+    readers: &'a [GateList],
+    /// The values of the signals in the fixpoint.
+    outside: &'a [Trit],
+    ghost width: { length outside.now ≡ count block.now.net },
+}
+
 /// The value that a gate of a loop sees of a signal in a sweep.
-fn seen(
-    block: &LoopedBlock<'_>,
-    outside: &[Trit],
-    before: &[Trit],
-    after: &[Trit],
-    pin: Sig,
-) -> Trit
-    requires pin { IsSignal block.now.net pin }
-    requires outside { length outside.now ≡ count block.now.net }
-    requires before { length before.now ≡ length block.now.net.gates }
-    requires after { length after.now ≡ length block.now.net.gates }
-    ensures { result ≡ seen_of block.now outside.now before.now after.now pin }
+fn seen(simulation: &Simulation<'_>, before: &[Trit], after: &[Trit], pin: Sig) -> Trit
+    requires pin { IsSignal simulation.now.block.now.net pin }
+    requires before { length before.now ≡ length simulation.now.block.now.net.gates }
+    requires after { length after.now ≡ length simulation.now.block.now.net.gates }
+    ensures { result ≡ seen_of simulation.now.block.now simulation.now.outside.now before.now after.now pin }
 {
-    let net = block.net();
+    let net = simulation.block.net();
     let first = net.inputs() + net.latches();
     if pin.0 < first {
-        return outside[pin.0 as usize];
+        return simulation.outside[pin.0 as usize];
     }
     let gate = pin.0 - first;
-    if !block.contains(gate) {
-        return outside[pin.0 as usize];
+    if !simulation.block.contains(gate) {
+        return simulation.outside[pin.0 as usize];
     }
-    if block.is_cut(gate) {
+    if simulation.block.is_cut(gate) {
         before[gate as usize]
     } else {
         after[gate as usize]
@@ -69,62 +73,56 @@ fn seen(
 /// The values that it sees of these signals.
 fn seen_pins(
     alloc: Global,
-    block: &LoopedBlock<'_>,
-    outside: &[Trit],
+    simulation: &Simulation<'_>,
     before: &[Trit],
     after: &[Trit],
     pins: &[Sig],
 ) -> Result<Vec<Trit>, AllocError>
-    requires pins { All (IsSignal block.now.net) pins.now }
-    requires outside { length outside.now ≡ count block.now.net }
-    requires before { length before.now ≡ length block.now.net.gates }
-    requires after { length after.now ≡ length block.now.net.gates }
-    ensures { IfOk result (λ list. list.items ≡ map (seen_of block.now outside.now before.now after.now) pins.now) }
+    requires pins { All (IsSignal simulation.now.block.now.net) pins.now }
+    requires before { length before.now ≡ length simulation.now.block.now.net.gates }
+    requires after { length after.now ≡ length simulation.now.block.now.net.gates }
+    ensures { IfOk result (λ list. list.items ≡ map (seen_of simulation.now.block.now simulation.now.outside.now before.now after.now) pins.now) }
 {
     pins.iter()
-        .map(|pin| seen(block, outside, before, after, *pin))
+        .map(|pin| seen(simulation, before, after, *pin))
         .collect(alloc)
 }
 
 /// The value of a gate's cover on what it sees.
 fn gate_value(
     alloc: Global,
-    block: &LoopedBlock<'_>,
-    outside: &[Trit],
+    simulation: &Simulation<'_>,
     before: &[Trit],
     after: &[Trit],
     gate: u32,
 ) -> Result<Trit, AllocError>
-    requires gate { gate < length block.now.net.gates }
-    requires outside { length outside.now ≡ count block.now.net }
-    requires before { length before.now ≡ length block.now.net.gates }
-    requires after { length after.now ≡ length block.now.net.gates }
-    ensures { IfOk result (λ value. value ≡ cover_value block.now outside.now before.now after.now gate) }
+    requires gate { gate < length simulation.now.block.now.net.gates }
+    requires before { length before.now ≡ length simulation.now.block.now.net.gates }
+    requires after { length after.now ≡ length simulation.now.block.now.net.gates }
+    ensures { IfOk result (λ value. value ≡ cover_value simulation.now.block.now simulation.now.outside.now before.now after.now gate) }
 {
-    let read = block.net().gate(gate);
-    let pins = seen_pins(alloc, block, outside, before, after, read.pins.items())?;
+    let read = simulation.block.net().gate(gate);
+    let pins = seen_pins(alloc, simulation, before, after, read.pins.items())?;
     read.cover.extend(alloc, &pins)
 }
 
 /// The value of a gate, where it was unknown until now and no longer is.
 fn new_value(
     alloc: Global,
-    block: &LoopedBlock<'_>,
-    outside: &[Trit],
+    simulation: &Simulation<'_>,
     before: &[Trit],
     after: &[Trit],
     gate: u32,
 ) -> Result<Option<Trit>, AllocError>
-    requires gate { gate < length block.now.net.gates }
-    requires outside { length outside.now ≡ count block.now.net }
-    requires before { length before.now ≡ length block.now.net.gates }
-    requires after { length after.now ≡ length block.now.net.gates }
-    ensures { IfOk result (IsNewValue block.now outside.now before.now after.now gate) }
+    requires gate { gate < length simulation.now.block.now.net.gates }
+    requires before { length before.now ≡ length simulation.now.block.now.net.gates }
+    requires after { length after.now ≡ length simulation.now.block.now.net.gates }
+    ensures { IfOk result (IsNewValue simulation.now.block.now simulation.now.outside.now before.now after.now gate) }
 {
     if after[gate as usize] != Trit::X {
         return Ok(None);
     }
-    match gate_value(alloc, block, outside, before, after, gate)? {
+    match gate_value(alloc, simulation, before, after, gate)? {
         Trit::X => Ok(None),
         value => Ok(Some(value)),
     }
@@ -136,27 +134,24 @@ fn new_value(
 /// compute each gate at most once more than it has pins in the loop.
 fn sweep(
     alloc: Global,
-    block: &LoopedBlock<'_>,
-    readers: &[GateList],
-    outside: &[Trit],
+    simulation: &Simulation<'_>,
     before: &[Trit],
     after: &mut [Trit],
     mut waiting: Vec<u32>,
 ) -> Result<Vec<u32>, AllocError>
-    requires block { IsLoopAt block.now }
-    requires readers { AreReaders block.now (gates_in block.now) readers.now }
-    requires outside { length outside.now ≡ count block.now.net }
-    requires ready { IsReady block.now outside.now before.now after.old waiting.items }
-    ensures { IfOk result (λ changed. IsSwept block.now outside.now before.now after.new changed.items) }
+    requires block { IsLoopAt simulation.now.block.now }
+    requires readers { AreReaders simulation.now.block.now (gates_in simulation.now.block.now) simulation.now.readers.now }
+    requires ready { IsReady simulation.now.block.now simulation.now.outside.now before.now after.old waiting.items }
+    ensures { IfOk result (λ changed. IsSwept simulation.now.block.now simulation.now.outside.now before.now after.new changed.items) }
 {
     let mut changed = Vec::new(alloc);
     while let Some(gate) = waiting.pop() {
-        if let Some(value) = new_value(alloc, block, outside, before, after, gate)? {
+        if let Some(value) = new_value(alloc, simulation, before, after, gate)? {
             after[gate as usize] = value;
-            if block.is_cut(gate) {
+            if simulation.block.is_cut(gate) {
                 changed.push(gate)?;
             } else {
-                waiting.extend_from_slice(readers[gate as usize].gates())?;
+                waiting.extend_from_slice(simulation.readers[gate as usize].gates())?;
             }
         }
     }
@@ -196,13 +191,16 @@ pub(crate) fn count_at(
     let most = block.cut_count();
     let outside = values_at(alloc, block.net(), vector)?;
     let readers = readers_in(alloc, block)?;
+    let simulation = Simulation {
+        block,
+        readers: &readers,
+        outside: &outside,
+    };
     let mut before = vec![in alloc; Trit::X; block.net().gates() as usize]?;
     let mut after = vec![in alloc; Trit::X; block.net().gates() as usize]?;
     let mut waiting = block.gates().to_vec(alloc)?;
     for sweeps in 0..most {
-        let changed = sweep(
-            alloc, block, &readers, &outside, &before, &mut after, waiting,
-        )?;
+        let changed = sweep(alloc, &simulation, &before, &mut after, waiting)?;
         if changed.is_empty() {
             return Ok(sweeps);
         }
@@ -213,24 +211,18 @@ pub(crate) fn count_at(
 
 /// How many sweeps the loop at this place of the blocks needs at a vector, by ternary simulation.
 ///
-/// The condition is that all parts are the netlist's, that the block is a loop, and that the vector has a value for each
-/// input and latch.
+/// The condition is that the block is a loop, and that the vector has a value for each input and latch.
 pub fn sweeps_at(
     alloc: Global,
-    net: &Netlist,
-    blocks: &Blocks,
-    cut: &Cut,
+    looped: &LoopedNetlist<'_>,
     block: u32,
     vector: &[bool],
 ) -> Result<u32, AllocError>
-    requires blocks { AreBlocksOf net.now blocks.now }
-    requires cut { IsCutOf net.now cut.now }
-    requires block { block < length blocks.now.list }
-    requires looped { (block_at blocks.now block).looped ≡ true }
-    requires vector { length vector.now ≡ columns net.now }
-    ensures { IfOk result (IsCountAt net.now (loops_by blocks.now cut.now) vector.now (block_at blocks.now block).gates) }
+    requires block { block < length looped.now.blocks.list }
+    requires looped { (block_at looped.now.blocks block).looped ≡ true }
+    requires vector { length vector.now ≡ columns looped.now.net }
+    ensures { IfOk result (IsCountAt looped.now.net (loops_by looped.now.blocks looped.now.cut) vector.now (block_at looped.now.blocks block).gates) }
 {
-    let looped = LoopedNetlist::new(net, blocks, cut);
-    let block = LoopedBlock::of(alloc, &looped, block)?;
+    let block = LoopedBlock::of(alloc, looped, block)?;
     count_at(alloc, &block, vector)
 }

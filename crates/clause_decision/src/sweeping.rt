@@ -108,9 +108,7 @@ pub(crate) fn sweep_on(
     let after = add_sweep(
         alloc,
         &mut swept.cone.formula,
-        block.net(),
-        block.blocks(),
-        block.cut(),
+        block.looped(),
         block.number(),
         &swept.cone.rails,
         &swept.copies,

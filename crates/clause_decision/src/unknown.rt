@@ -1,6 +1,6 @@
 //! Gates that are unknown at a care vector.
 
-ghost use Rattle.std.specs.Prelude.{◌≡◌, ◌<◌, ℕ, Bool, List, true, length, All, IfOk, IfSome};
+ghost use Rattle.std.specs.Prelude.{◌≡◌, ◌<◌, ◌∷◌, [], ℕ, Bool, List, true, length, All, IfOk, IfSome};
 ghost use Rattle.care_sets.specs.Binding.{IsCareOf};
 ghost use Rattle.care_sets.specs.Care.{CareSet, columns};
 ghost use Rattle.ternary_clauses.specs.Encoding.{gate_rails};
@@ -8,6 +8,9 @@ ghost use Rattle.ternary_clauses.specs.Formulas.{negation as negation_of, IsForm
 ghost use Rattle.ternary_clauses.specs.Rails.{AreWithin};
 ghost use Rattle.netlist.specs.declared.parts.Parts.{Parts};
 ghost use Rattle.netlist.specs.Netlists.{count};
+ghost use Rattle.clause_queries.specs.Clauses.{IsWithin};
+ghost use Rattle.clause_queries.specs.Each.{TellEach};
+ghost use Rattle.clause_queries.specs.Queries.{problem};
 ghost use Rattle.clause_queries.specs.Vectors.{IsFirstOf};
 ghost use Rattle.clause_decision.specs.Cones.{IsCone};
 ghost use Rattle.clause_decision.specs.Questions.{IsQuestionOf};
@@ -138,26 +141,21 @@ pub fn first_unknown(
     }
 }
 
-/// For each of these gates whether it is unknown at some care vector.
+/// For each of these literals whether it is true in some model at a care vector.
 fn ask_each(
     alloc: Global,
     cone: &Cone,
-    net: &Netlist,
-    care: &Care,
-    scope: &Scope,
-    gates: &[u32],
+    literals: &[u32],
     conflicts: u64,
 ) -> Result<Option<Vec<bool>>, AllocError>
-    requires cone { IsCone net.now care.now scope.now.gates cone.now.formula cone.now.rails.items cone.now.inside cone.now.allowed }
-    requires gates { All (λ n. n < length net.now.gates) gates.now }
-    requires within { AreInScope net.now scope.now gates.now }
-    ensures { IfOk result (λ told. IfSome told (λ found. TellEachUnknown net.now care.now gates.now found.items)) }
+    requires care { IsWithin cone.now.formula.variables (cone.now.inside ∷ cone.now.allowed ∷ []) }
+    requires literals { IsWithin cone.now.formula.variables literals.now }
+    ensures { IfOk result (λ told. IfSome told (λ found. TellEach (problem cone.now.formula) literals.now (cone.now.inside ∷ cone.now.allowed ∷ []) found.items)) }
 {
-    let literals = literals_of(alloc, net, &cone.rails, gates)?;
     let Some(mut query) = query_of(alloc, &cone.formula)? else {
         return Ok(None);
     };
-    query.possible_each(alloc, &literals, &[cone.inside, cone.allowed], conflicts)
+    query.possible_each(alloc, literals, &[cone.inside, cone.allowed], conflicts)
 }
 
 /// For each of these gates whether it is unknown at some care vector, or none where the solver gives up after so many
@@ -178,11 +176,13 @@ pub fn each_unknown(
     requires within { AreInScope net.now scope.now gates.now }
     ensures { IfOk result (λ told. IfSome told (λ found. TellEachUnknown net.now care.now gates.now found.items)) }
 {
-    match cone_of(alloc, net, care, scope) {
-        Ok(cone) => ask_each(alloc, &cone, net, care, scope, gates, conflicts),
-        Err(ClausesFault::TooMany) => Ok(None),
-        Err(ClausesFault::Memory) => Err(AllocError),
-    }
+    let cone = match cone_of(alloc, net, care, scope) {
+        Ok(cone) => cone,
+        Err(ClausesFault::TooMany) => return Ok(None),
+        Err(ClausesFault::Memory) => return Err(AllocError),
+    };
+    let literals = literals_of(alloc, net, &cone.rails, gates)?;
+    ask_each(alloc, &cone, &literals, conflicts)
 }
 
 /// The question at which care vectors a gate is unknown.

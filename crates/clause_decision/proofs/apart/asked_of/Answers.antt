@@ -9,13 +9,13 @@ use Rattle.clause_decision.proofs.apart.asked_of.Goals as goal
 pub add_hints-requires-clause-rails : goal.add_hints-requires-clause-rails
 add_hints-requires-clause-rails c =
     let cone = c.in_ok-cone.cone in
-    subst (λ (rails : List Rails). All (λ (hint : Hint). HasRails cone.formula rails hint.pair) c.args.hints.now) (sym c.deref.ensures.value)
-    (hints-have_rails c.args.net.now c.args.care.now c.args.scope.now cone.formula cone.rails.items cone.inside cone.allowed c.in_ok-cone.ensures c.args.hints.now c.requires.hints c.requires.hints_within)
+    subst (λ (rails : List Rails). All (λ (hint : Hint). HasRails cone.formula rails hint.pair) c.args.search.now.hints.now) (sym c.deref.ensures.value)
+    (hints-have_rails c.args.net.now c.args.care.now c.args.scope.now cone.formula cone.rails.items cone.inside cone.allowed c.in_ok-cone.ensures c.args.search.now.hints.now c.requires.hints c.requires.hints_within)
 
 pub add_pairs-requires-clause-rails : goal.add_pairs-requires-clause-rails
 add_pairs-requires-clause-rails c =
     let cone = c.in_ok-cone.cone in
-    let pairs = c.args.pairs.now in
+    let pairs = c.args.search.now.pairs.now in
     let grown = c.add_hints.new.formula in
     let grows = c.in_ok-hints.ensures.grows in
     subst (λ (rails : List Rails). All (HasRails grown rails) pairs) (sym c.deref-2.ensures.value)
@@ -29,8 +29,8 @@ returns c =
     let mid = c.add_hints.new.formula in
     let new = c.add_pairs.new.formula in
     let pairs = c.in_ok-pairs.pairs in
-    pairs-told c.args.net.now c.args.care.now c.args.scope.now.gates cone.formula mid c.args.pairs.now
+    pairs-told c.args.net.now c.args.care.now c.args.scope.now.gates cone.formula mid c.args.search.now.pairs.now
     (record { cone = record { formula = c.add_pairs.new.formula; rails = c.in_ok-cone.cone.rails; inside = c.in_ok-cone.cone.inside; allowed = c.in_ok-cone.cone.allowed }; hints = c.in_ok-hints.hints; pairs = c.in_ok-pairs.pairs })
     c.in_ok-cone.ensures
     c.in_ok-hints.ensures
-    (subst (λ (rails : List Rails). SayPairs mid new rails c.args.pairs.now pairs.items) c.deref-2.ensures.value c.in_ok-pairs.ensures)
+    (subst (λ (rails : List Rails). SayPairs mid new rails c.args.search.now.pairs.now pairs.items) c.deref-2.ensures.value c.in_ok-pairs.ensures)

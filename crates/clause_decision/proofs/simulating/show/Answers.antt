@@ -1,4 +1,4 @@
-use Rattle.std.proofs.Common.{◌≡◌, ◌∙◌, ◌<◌, ◌++◌, [], ℕ, List, length, drop, get_or, ap, subst, arith}
+use Rattle.std.proofs.Common.{◌≡◌, ◌∙◌, ◌<◌, ◌++◌, [], ℕ, List, length, get_or, ap, subst, arith}
 use Rattle.clause_decision.proofs.Common.{get_or_default, length-set, Trit, Zero, X, AreUnseen}
 use Rattle.std.proofs.lemmas.List.{drop_all}
 use Rattle.clause_decision.proofs.EventLemmas.{shown-next}

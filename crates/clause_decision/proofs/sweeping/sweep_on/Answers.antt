@@ -20,7 +20,7 @@ returns-clause-swept c care scope k scope_is marked swept =
     let after_is : c.replace.new.dest.items ≡ after = ap (λ copies. copies.items) c.replace.ensures.after in
     record {
       swept = record {
-        cone = sweep-cone net scope.gates loops gates c.net.ensures.is.net scope_is.closed scope_is.width marked care old new rails before after c.args.swept.now.cone.inside c.args.swept.now.cone.allowed k swept.cone swept.reads said;
+        cone = sweep-cone net scope.gates loops gates c.looped.ensures.is.net scope_is.closed scope_is.width marked care old new rails before after c.args.swept.now.cone.inside c.args.swept.now.cone.allowed k swept.cone swept.reads said;
         size = ap length after_is ∙ said.size;
         within = subst (All (AreWithin new.variables)) (sym after_is) said.within;
         reads = λ m v is out. subst (λ copies. ReadsPlaces gates copies m (sweeps net loops v (k + 1))) (sym after_is) (sweep-reads net loops gates old new rails before after k swept.reads said m v is out);
