@@ -6,7 +6,7 @@ ghost use Rattle.netlist.specs.Netlists.{count};
 ghost use Rattle.loops.specs.Blocks.{block_at};
 ghost use Rattle.loops.specs.Cuts.{loops_by};
 ghost use Rattle.care_sets.specs.Binding.{IsCareOf};
-ghost use Rattle.care_sets.specs.Care.{columns, is_care_vector as is_care_vector_of, CareSet};
+ghost use Rattle.care_sets.specs.Care.{CareSet};
 ghost use Rattle.refusals.specs.Acceptance.{SomeCareVector};
 ghost use Rattle.clause_decision.specs.declared.scope.Scope.{Scope as TheScope};
 ghost use Rattle.clause_decision.specs.Changes.{AreFedKnown};
@@ -24,7 +24,7 @@ use crate::sweeping::{Swept, ask_open, sweep_on, unswept};
 use care_sets::Care;
 use clause_queries::Reply;
 use loops::LoopedNetlist;
-use netlist::Netlist;
+use refusals::is_care_vector;
 use std::alloc::{AllocError, Global};
 use ternary_clauses::{ClausesFault, Rails};
 
@@ -139,25 +139,6 @@ fn next_needed(
     Ok(needed_by(alloc, swept, block, reply)?)
 }
 
-/// Whether a vector is one of care.
-#[tactic(auto, using(care_sets::proofs::CareLemmas::vectors_serve_assume, care_sets::proofs::CareLemmas::states_serve_invariant))]
-fn is_care_vector(
-    alloc: Global,
-    net: &Netlist,
-    care: &Care,
-    vector: &[bool],
-) -> Result<bool, AllocError>
-    requires care { IsCareOf net.now care.now }
-    requires width { length vector.now ≡ columns net.now }
-    ensures { IfOk result (λ counts. counts ≡ is_care_vector_of net.now care.now vector.now) }
-{
-    let (inputs, latches) = vector.split_at(net.inputs() as usize);
-    if !care.state_in(alloc, latches)? {
-        return Ok(false);
-    }
-    care.allows(alloc, inputs, latches)
-}
-
 /// How many sweeps are needed at least: those at the vector of zeros, if it is one of care.
 fn first_needed(
     alloc: Global,
@@ -170,7 +151,7 @@ fn first_needed(
     ensures { IfOk result (λ number. (first_number sign ≤ number) × NeedAtLeast block.now.net (loops_in block.now) care.now (gates_in block.now) number) }
 {
     let net = block.net();
-    let zeros = vec![in alloc; false; (net.inputs() + net.latches()) as usize]?;
+    let zeros = vec![in alloc; false; net.columns() as usize]?;
     if !is_care_vector(alloc, net, care, &zeros)? {
         return Ok(first_of(sign));
     }

@@ -32,5 +32,5 @@ pub use initial::least_outside;
 pub use leaving::least_leaving;
 pub use pairs::{Budget, Hint, Pair, PairSearch};
 pub use scope::Scope;
-pub use simulating::{sweeps_at, values_at};
+pub use simulating::sweeps_at;
 pub use unknown::{each_unknown, first_unknown, least_unknown};

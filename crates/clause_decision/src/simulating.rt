@@ -2,8 +2,6 @@
 
 ghost use Rattle.std.specs.Prelude.{◌≡◌, ◌<◌, List, true, length, map, All, IfOk};
 ghost use Rattle.cyc_base.specs.declared.trit.Trit.{Trit};
-ghost use Rattle.cyc_base.specs.Values.{bits};
-ghost use Rattle.netlist.specs.Fixpoint.{fix};
 ghost use Rattle.netlist.specs.Netlists.{count, IsSignal};
 ghost use Rattle.loops.specs.Blocks.{block_at};
 ghost use Rattle.loops.specs.Cuts.{loops_by};
@@ -17,24 +15,8 @@ use crate::looped_block::LoopedBlock;
 use crate::readers::readers_in;
 use cyc_base::{Sig, Trit};
 use loops::{GateList, LoopedNetlist};
-use netlist::Netlist;
 use std::alloc::{AllocError, Global};
-use ternary_run::settle;
-
-fn trits_of(alloc: Global, vector: &[bool]) -> Result<Vec<Trit>, AllocError>
-    ensures { IfOk result (λ trits. trits.items ≡ bits vector.now) }
-{
-    vector.iter().map(|value| Trit::of(*value)).collect(alloc)
-}
-
-/// The values of the signals at a vector, which has a value for each input and latch.
-pub fn values_at(alloc: Global, net: &Netlist, vector: &[bool]) -> Result<Vec<Trit>, AllocError>
-    requires { length vector.now ≡ columns net.now }
-    ensures { IfOk result (λ values. values.items ≡ fix net.now (bits vector.now)) }
-{
-    let given = trits_of(alloc, vector)?;
-    settle(alloc, net, &given)
-}
+use ternary_run::settle_at;
 
 /// A loop at one vector.
 #[derive(Drop)]
@@ -189,7 +171,7 @@ pub(crate) fn count_at(
     ensures { IfOk result (IsCountAt block.now.net (loops_in block.now) vector.now (gates_in block.now)) }
 {
     let most = block.cut_count();
-    let outside = values_at(alloc, block.net(), vector)?;
+    let outside = settle_at(alloc, block.net(), vector)?;
     let readers = readers_in(alloc, block)?;
     let simulation = Simulation {
         block,
