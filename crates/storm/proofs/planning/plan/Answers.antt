@@ -10,18 +10,18 @@ use Rattle.storm.proofs.planning.plan.Goals as goal
 pub plan_of-requires : goal.plan_of-requires
 plan_of-requires c =
     let P : List Trit → Type 0 = λ values. AreFixed c.args.net.now values in
-    let is : c.deref-2.result.now ≡ fix c.args.net.now (bits c.args.v.now) =
-    c.deref-2.ensures.value ∙ c.in_ok-values.ensures ∙ ap (fix c.args.net.now) (c.deref.ensures.value ∙ c.in_ok-given.ensures) in
+    let is : c.deref.result.now ≡ fix c.args.net.now (bits c.args.v.now) =
+    c.deref.ensures.value ∙ c.in_ok-values.ensures in
     subst P (sym is) (fix_is_fixed c.args.net.now c.args.v.now c.requires)
 
 pub returns-then-any_shakes : goal.returns-then-any_shakes
 returns-then-any_shakes c =
-    some_plan c.args.net.now c.args.v.now c.in_ok-plan.plan c.deref-2.result.now c.in_ok-plan.ensures
-    (c.deref-2.ensures.value ∙ c.in_ok-values.ensures ∙ ap (fix c.args.net.now) (c.deref.ensures.value ∙ c.in_ok-given.ensures))
+    some_plan c.args.net.now c.args.v.now c.in_ok-plan.plan c.deref.result.now c.in_ok-plan.ensures
+    (c.deref.ensures.value ∙ c.in_ok-values.ensures)
     (ap (list_any (λ shakes. shakes)) (sym c.items.ensures) ∙ sym c.any_shakes.ensures ∙ c.if-any_shakes.true)
 
 pub returns : goal.returns
 returns c =
-    no_plan c.args.net.now c.args.v.now c.in_ok-plan.plan c.deref-2.result.now c.in_ok-plan.ensures
-    (c.deref-2.ensures.value ∙ c.in_ok-values.ensures ∙ ap (fix c.args.net.now) (c.deref.ensures.value ∙ c.in_ok-given.ensures))
+    no_plan c.args.net.now c.args.v.now c.in_ok-plan.plan c.deref.result.now c.in_ok-plan.ensures
+    (c.deref.ensures.value ∙ c.in_ok-values.ensures)
     (ap (list_any (λ shakes. shakes)) (sym c.items.ensures) ∙ sym c.any_shakes.ensures ∙ c.if-any_shakes.false)
