@@ -19,7 +19,7 @@ use netlist::{Clock, Gate, Latch, Netlist, Parts};
 use std::alloc::{AllocError, Global};
 
 /// Copies of the inputs' names.
-fn copy_inputs(alloc: Global, net: &Netlist) -> Result<Vec<Name>, AllocError>
+pub fn copy_inputs(alloc: Global, net: &Netlist) -> Result<Vec<Name>, AllocError>
     ensures { IfOk result (λ names. names.items ≡ net.now.inputs) }
 {
     let mut names = Vec::with_capacity(alloc, net.inputs() as usize)?;
@@ -30,7 +30,7 @@ fn copy_inputs(alloc: Global, net: &Netlist) -> Result<Vec<Name>, AllocError>
 }
 
 /// A copy of the clock.
-fn copy_clock(net: &Netlist) -> Result<Option<Clock>, AllocError>
+pub fn copy_clock(net: &Netlist) -> Result<Option<Clock>, AllocError>
     ensures { IfOk result (λ clock. clock ≡ net.now.clock) }
 {
     match net.clock() {

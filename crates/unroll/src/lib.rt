@@ -17,6 +17,7 @@ mod plan;
 mod sizes;
 mod unrolling;
 
+pub use assembly::{copy_clock, copy_inputs};
 pub use fault::UnrollFault;
 pub use names::{copy_name, mark};
 pub use pins::source_in_loop;
