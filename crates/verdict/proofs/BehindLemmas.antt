@@ -13,13 +13,6 @@ use Rattle.verdict.specs.Behind.{LeadsFromMark, HasMarkedDriver, ReadsMark, IsRe
 abbrev pub NoDriver : Parts → List Bool → List Sig → ℕ → Type 0
 NoDriver net marks pins n = (k : ℕ) (d : Sig) → k < n → ¬ HasMarkedDriver net marks (get_or pins k d)
 
--- one of the first k of these
-pub record IsAmongFirst (gates : List ℕ) (k m : ℕ) : Type 0 where
-  pub place : ℕ
-  pub early : place < k
-  pub within : place < length gates
-  pub is : get_or gates place m ≡ m
-
 -- none of the first gates is marked, nor reads a marked one
 abbrev pub NoneReached : Parts → List ℕ → List Bool → ℕ → Type 0
 NoneReached net gates marks n = (k d : ℕ) → k < n → ((is_marked marks (get_or gates k d) ≡ true) ⊎ ReadsMark net marks (get_or gates k d)) → ⊥

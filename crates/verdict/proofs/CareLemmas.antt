@@ -1,8 +1,9 @@
 -- Care models on rails.
-use Rattle.std.proofs.Common.{◌≡◌, ℕ, ◌-◌, ◌<◌, Bool, true, false, List, [], length, map, get_or, Option, Some, None, refl, sym, ap, ap₂, ◌∙◌, subst, arith}
+use Rattle.std.proofs.Common.{◌≡◌, ℕ, ◌-◌, ◌*◌, ◌<◌, Result, Bool, true, false, List, [], length, map, get_or, Option, Some, None, refl, sym, ap, ap₂, ◌∙◌, subst, arith}
 use Rattle.std.specs.Prelude.{IfSome}
-use Rattle.verdict.proofs.Common.{option_map, option_map_or, get_or-map, length-map, Arena, den, Sig, Trit, X, bit, bits, Rails, AreRailsOf, trit_of, value_of, values_of, BoundsEach, Parts, wire, fix, IsNetlist, count, map_agree, CareModel, is_one, holds_at, rails_at, rails_at-proper, read_by, IsOfModel, model_of, ReadsWithin}
+use Rattle.verdict.proofs.Common.{IsSomeAnd, option_map, option_map_or, get_or-map, length-map, Node, StoreFault, GrowsWithin, within_more, within_moved, Arena, den, Sig, Trit, X, bit, bits, Rails, AreRailsOf, trit_of, value_of, values_of, BoundsEach, Parts, wire, fix, IsNetlist, count, map_agree, HasLargeCover, effort, HasModelOver, CareModel, CareSet, is_one, holds_at, rails_at, rails_at-proper, read_by, IsOfModel, BoundsModel, model_of, ReadsWithin}
 use Rattle.std.proofs.Math.Path.{fun_ext}
+use Rattle.bdd_store.proofs.GrowthLemmas.{within_caused}
 use Rattle.std.proofs.lemmas.List.Elements.{All-map}
 use Rattle.std.proofs.lemmas.Option.{same_Some}
 use Rattle.std.specs.List.{All, slice_index_or}
@@ -87,3 +88,20 @@ model_is o model P is holds = subst (λ (p : Option CareModel). IfSome p P) is h
 pub none_there : (o : Option CareModel) → (let nothing : Option Parts = None in nothing) ≡ option_map (λ model. model.net) o → o ≡ None
 none_there None e = refl
 none_there (Some model) e = cc
+
+-- ---- the model of a care set that is there
+
+-- what it says of values
+pub model_holds : (o : Option CareModel) (model : CareModel) (values : List Bool) → o ≡ Some model → holds_at model values ≡ option_map_or (λ m. holds_at m values) o true
+model_holds o model values there = sym (ap (λ p. option_map_or (λ m. holds_at m values) p true) there)
+
+-- what it costs
+pub model_grows : {r : Result Node StoreFault} {s t : Arena} (care : CareSet) (o : Option CareModel) (model : CareModel) (values : List Bool → List Trit) → o ≡ Some model →
+    (IsSomeAnd o (λ m. HasLargeCover m.net s.limit) → HasModelOver care s.limit) →
+    GrowsWithin r s t (HasLargeCover model.net) (BoundsEach s.vars (IsOfModel model values)) (2 * effort model.net) →
+    GrowsWithin r s t (HasModelOver care) (BoundsModel o s.vars values) (2 * option_map_or (λ m. effort m.net) o 0)
+model_grows {s = s} care o model values there over grows =
+    let size = ap (λ p. option_map_or (λ m. effort m.net) p 0) there in
+    within_more (omega (arith, size))
+    (within_caused (λ large. over (subst (λ p. IsSomeAnd p (λ m. HasLargeCover m.net s.limit)) (sym there) large))
+    (within_moved (λ w bounds. model_is o model (λ m. BoundsEach s.vars (IsOfModel m values) w) there bounds) grows))

@@ -1,16 +1,12 @@
 -- Functions that are made of those of a decision.
-use Rattle.std.proofs.Common.{◌≡◌, inl, inr, ℕ, ◌<◌, ◌≤◌, Bool, true, false, not, ◌&&◌, List, length, refl, sym, ap, ap₂, subst, ◌∙◌, arith}
-use Rattle.verdict.proofs.Common.{get_or-map, Node, Arena, den, KeepsNodes, nodes, nodes-alike, Trit, X, bit, bits, Rails, AreRailsOf, value_of, IsWide, is_bit, Parts, fix, count, value_in, order, laid, rails_at, IsWorking, one-of, zero-of, by_column, length-by_column, variables-back, order-is, rails_at-proper, CareSet, columns, is_care_vector, is_x, IsLaid, SaysCare, BoundsSignals, Tells, AreFixed, BoundsStarts, starts, has_state_inside, difference}
+use Rattle.std.proofs.Common.{◌≡◌, inl, inr, ℕ, ◌<◌, ◌≤◌, Bool, true, false, not, ◌&&◌, ◌⊎◌, List, length, refl, sym, ap, ap₂, subst, ◌∙◌, arith}
+use Rattle.verdict.proofs.Common.{Node, Arena, den, KeepsNodes, nodes, nodes-alike, Trit, bit, bits, Rails, AreRailsOf, value_of, IsWide, is_bit, Parts, fix, count, value_in, order, laid, rails_at, one-of, zero-of, by_column, length-by_column, variables-back, order-is, rails_at-proper, CareSet, columns, is_care_vector, is_x, IsLaid, SaysCare, BoundsSignals, Tells, AreFixed, BoundsStarts, starts, has_state_inside, difference}
 use Rattle.bdd_ops.specs.Operations.{bit_at}
-use Rattle.loops.specs.Found.{loops_of}
-use Rattle.loops.proofs.Existence.{loops_exist}
 use Rattle.fixpoint.proofs.LayoutLemmas.{columns-back}
-use Rattle.fixpoint.proofs.WorkLemmas.{fix_is_working, gate_parts_agree}
-use Rattle.refusals.proofs.RefusalLemmas.{length-bits}
 use Rattle.verdict.specs.Enough.{IsOfDecision, IsColumn, SaysStart, SaysInside, IsOfNetlist}
 use Rattle.verdict.proofs.CareLemmas.{value_at-place}
-use Rattle.verdict.specs.Solving.{fit}
-use Rattle.verdict.proofs.CountLemmas.{length-fit, fit-whole}
+use Rattle.isolation.proofs.WorkingLemmas.{IsOfColumn, IsOfGate, column-bit}
+use Rattle.verdict.proofs.SignalLemmas.{signal-is}
 use Rattle.verdict.proofs.PartLemmas.{unknown-values}
 
 -- at vectors by column of the netlist's width, h is made of one function of the decision
@@ -101,33 +97,14 @@ outside-fits a permitted inside vars permitted_is inside_is wide =
 
 -- ---- signals at the fixpoint
 
+-- a column, and what a gate works with
+pub made-working : {net : Parts} {care : CareSet} {h : List Bool → Bool} → IsOfColumn net h ⊎ IsOfGate net h → IsMadeOf net care h
+made-working (inl c) = record { of = bit_at c.column; listed = IsColumn c.column c.within (λ v. refl); by = λ x. is_bit c.bit (bit x); same = column-bit c }
+made-working (inr g) = made-listed (IsOfNetlist g.is) g.same
+
 module _ (net : Parts) (care : CareSet) where
-  abbrev fitted : List Bool → List Trit
-  fitted v = bits (fit (columns net) v)
-
-  at-width : (v : List Bool) → length v ≡ columns net → bits v ≡ fitted v
-  at-width v long = ap bits (sym (fit-whole (columns net) v long))
-
   pub made-signal : (signal : ℕ) → signal < count net → (b : Bool) → IsMadeOf net care (λ v. is_bit b (value_in (fix net (bits v)) signal))
-  made-signal signal within b =
-      let work : IsWorking net (loops_of net) fitted (λ v. is_bit b (value_in (fix net (fitted v)) signal)) =
-      fix_is_working net (loops_of net) (loops_exist net) fitted (λ v. length-bits (fit (columns net) v) ∙ length-fit (columns net) v) signal within b in
-      elim work [
-        | inl given ↦ record {
-          of = bit_at given.signal;
-          listed = IsColumn given.signal given.within (λ v. refl);
-          by = λ x. is_bit given.bit (bit x);
-          same = λ v long.
-              let low = given.within in
-              ap (λ (u : List Trit). is_bit b (value_in (fix net u) signal)) (at-width v long)
-              ∙ given.same v
-              ∙ ap (λ (u : List Trit). is_bit given.bit (value_in u given.signal)) (sym (at-width v long))
-              ∙ ap (is_bit given.bit) (get_or-map bit v given.signal false X (omega (arith, low, long)));
-        }
-        | inr part ↦
-            let h = gate_parts_agree net (loops_of net) (columns net) fitted bits (λ v long. sym (at-width v long)) (λ v. is_bit b (value_in (fix net (fitted v)) signal)) part in
-            made-listed (IsOfNetlist h.is) (λ v long. ap (λ (u : List Trit). is_bit b (value_in (fix net u) signal)) (at-width v long) ∙ h.alike v long)
-      ]
+  made-signal signal within b = made-working (signal-is net signal within b)
 
   pub signals-bounded : (a : Arena) (set : Node) {w : ℕ} → a.vars ≡ columns net → Tells net a set (is_care_vector net care) → IsWide a.vars (IsLaid net care) w → BoundsSignals net a set w
   signals-bounded a set vars told wide signal b within g is =

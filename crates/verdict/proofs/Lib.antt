@@ -16,8 +16,9 @@ pub mod PartLemmas
 mod ScopeLemmas
 mod SearchLemmas
 pub mod SetLemmas
+pub mod SignalLemmas
 mod SizeLemmas
-pub mod SolutionLemmas
+mod SolutionLemmas
 mod SolvingLemmas
 mod StartLemmas
 mod StepLemmas

@@ -1,14 +1,15 @@
 -- Which gates the clauses of a question speak of.
 use Rattle.std.proofs.Common.{◌≡◌, inl, inr, ℕ, ◌+◌, ◌-◌, ◌<◌, Bool, true, false, not, List, [], ◌∷◌, ◌++◌, length, map, get_or, slice_get, Option, Some, None, IfSome, subst, refl, sym, ap, ◌∙◌, arith, true≢false, Contains}
 use Rattle.std.specs.List.{All}
-use Rattle.verdict.proofs.Common.{option_map_or, cases_lt, get_or_from_slice_get, Sig, get_or-map, get_or_default, Parts, Latch, gate_sig, IsNetlist, Blocks, AreBlocksOf, is_marked, AddMarks, unsettled_loops_decide, CareModel, CareSet, AreDownstreamMarks, SettleInOneSweep, AreDriversBefore}
+use Rattle.verdict.proofs.Common.{option_map_or, cases_lt, get_or_from_slice_get, Sig, get_or-map, get_or_default, Parts, Latch, gate_sig, IsNetlist, Blocks, AreBlocksOf, is_marked, unsettled_loops_decide, CareModel, CareSet, SettleInOneSweep, AreDriversBefore}
 use Rattle.std.proofs.lemmas.List.Elements.{All-push, Contains-append_left, Contains-append_right}
 use Rattle.loops.proofs.Walks.{leads-step}
-use Rattle.isolation.specs.Cones.{AreUpstreamMarks}
+use Rattle.isolation.specs.Cones.{IsConeOf}
 use Rattle.isolation.proofs.UpstreamLemmas.{upstream-trans}
 use Rattle.clause_decision.specs.declared.scope.Scope.{Scope}
 use Rattle.clause_decision.specs.Loads.{HasLoads}
 use Rattle.clause_decision.specs.Scopes.{AreClosed, AreInScope, AreNeverUnknown}
+use Rattle.verdict.specs.Loose.{AreAllSuspects}
 use Rattle.verdict.specs.Scopes.{AreDrivers}
 
 not-false : (b : Bool) → not b ≡ true → b ≡ false
@@ -16,32 +17,25 @@ not-false true e = absurd (true≢false (sym e))
 not-false false e = refl
 
 -- the gates that are not behind a loop that isn't settled are known at each Boolean vector
-pub never-behind : (net : Parts) → IsNetlist net → (blocks : Blocks) → AreBlocksOf net blocks → (settled opened behind known : List Bool) → SettleInOneSweep net blocks settled →
-    opened ≡ map (λ home. not (is_marked settled home)) blocks.home → AreDownstreamMarks net opened behind → known ≡ map not behind → AreNeverUnknown net known
-never-behind net valid blocks are settled opened behind known soon opened_is behind_is known_is v wide n within marked =
+pub never-behind : (net : Parts) → IsNetlist net → (blocks : Blocks) → AreBlocksOf net blocks → (settled suspects known : List Bool) → SettleInOneSweep net blocks settled →
+    AreAllSuspects net blocks settled suspects → known ≡ map not suspects → AreNeverUnknown net known
+never-behind net valid blocks are settled suspects known soon all known_is v wide n within marked =
     unsettled_loops_decide net blocks (is_marked settled) valid are (λ b inside loop mark. (soon b inside loop mark).alone) v wide n within
     (λ m less up loop unsettled. absurd (true≢false (
-    sym ((behind_is.each n within).1 (record {
-      gate = m;
-      marked =
-          ap (λ (ms : List Bool). get_or ms m false) opened_is
-          ∙ get_or-map (λ home. not (is_marked settled home)) blocks.home m 0 false (let w = are.homes in omega (arith, less, w))
-          ∙ ap not unsettled;
-      upstream = up;
-    }))
-    ∙ not-false (is_marked behind n)
-    (sym (ap (λ (ms : List Bool). get_or ms n false) known_is ∙ get_or-map not behind n false false (let w = behind_is.width in omega (arith, within, w))) ∙ marked))))
+    sym (all.each n within (record { gate = m; opened = record { within = less; looped = loop; unsettled = unsettled }; upstream = up }))
+    ∙ not-false (is_marked suspects n)
+    (sym (ap (λ (ms : List Bool). get_or ms n false) known_is ∙ get_or-map not suspects n false false (let w = all.width in omega (arith, within, w))) ∙ marked))))
 
--- what lies upstream of a marked gate is marked
-pub upstream-closes : (net : Parts) (old new : List Bool) → AreUpstreamMarks net old new → AreClosed net new
-upstream-closes net old new are m n feeds marked =
+-- a cone has with each gate those that feed it
+pub cone_closes : (net : Parts) (gates : List ℕ) (marks : List Bool) → IsConeOf net gates marks → AreClosed net marks
+cone_closes net gates marks are m n feeds marked =
     let lead = (are.each n feeds.reader).0 marked in
-    (are.each m feeds.source).1 (record { gate = lead.gate; marked = lead.marked; upstream = upstream-trans net m n lead.gate (inr (leads-step net m n feeds)) lead.upstream })
+    (are.each m feeds.source).1 (record { gate = lead.gate; among = lead.among; upstream = upstream-trans net m n lead.gate (inr (leads-step net m n feeds)) lead.upstream })
 
--- and the gates themselves are
-pub cone-within : (net : Parts) (gates : List ℕ) (start old new : List Bool) → All (λ n. n < length net.gates) gates → AddMarks (Contains gates) start old → AreUpstreamMarks net old new → All (λ n. is_marked new n ≡ true) gates
-cone-within net gates start old new within adds are k d less =
-    (are.each (get_or gates k d) (within k d less)).1 (record { gate = get_or gates k d; marked = adds.adds (get_or gates k d) (k, less, get_or_default gates k _ d less); upstream = inl refl })
+-- and the gates themselves
+pub cone_within : (net : Parts) (gates : List ℕ) (marks : List Bool) → All (λ n. n < length net.gates) gates → IsConeOf net gates marks → All (λ n. is_marked marks n ≡ true) gates
+cone_within net gates marks within are k d less =
+    (are.each (get_or gates k d) (within k d less)).1 (record { gate = get_or gates k d; among = (k, less, get_or_default gates k _ d less); upstream = inl refl })
 
 -- ---- the gates that drive the latches which the invariant reads
 

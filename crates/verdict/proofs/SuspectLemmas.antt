@@ -6,6 +6,7 @@ use Rattle.std.proofs.lemmas.Bool.{cases_eq}
 use Rattle.isolation.specs.Excerpts.{gate_in}
 use Rattle.clause_decision.specs.Tests.{is_unknown, IsFirstUnknown}
 use Rattle.verdict.specs.Determination.{AreDeterminedOnCare, IsOpen}
+use Rattle.verdict.specs.Loose.{AreAllSuspects}
 use Rattle.verdict.specs.Scopes.{AreOpenGates}
 use Rattle.verdict.specs.Unknown.{AreSuspects, IsFirstToRefuse}
 use Rattle.verdict.proofs.DeterminationLemmas.{known-here, marks_of, marks-are}
@@ -49,24 +50,28 @@ asked-first net what last marks first are width kept cleared = record {
 
 -- ---- the gates that may be unknown
 
-pub suspects-are : (net : Parts) (blocks : Blocks) (settled asked open_marks behind marks : List Bool) → length blocks.home ≡ length net.gates → length asked ≡ length net.gates →
-    open_marks ≡ map (λ home. not (is_marked settled home)) blocks.home → AreDownstreamMarks net open_marks behind → length marks ≡ length behind →
-    ((k : ℕ) → is_marked marks k ≡ (is_marked behind k && is_marked asked k)) → AreSuspects net blocks settled asked marks
-suspects-are net blocks settled asked open_marks behind marks homes wide open_are behind_are width each = record {
-  width = width ∙ behind_are.width;
-  each = λ n wanted b.
-      each n
-      ∙ ap₂ (λ x y. x && y)
-      ((behind_are.each n (let l = marked-within asked n wanted in omega (arith, l, wide))).1 (record { gate = b.gate; marked = opened b.gate b.opened; upstream = b.upstream }))
-      wanted;
-  only = λ n marked. (and_parts (is_marked behind n) (is_marked asked n) (sym (each n) ∙ marked)).1;
+-- all of them, marked from the loops on
+pub suspects-are : (net : Parts) (blocks : Blocks) (settled opened behind : List Bool) → length blocks.home ≡ length net.gates → opened ≡ map (λ home. not (is_marked settled home)) blocks.home →
+    AreDownstreamMarks net opened behind → AreAllSuspects net blocks settled behind
+suspects-are net blocks settled opened behind homes opened_is behind_is = record {
+  width = behind_is.width;
+  each = λ n less b. (behind_is.each n less).1 (record { gate = b.gate; marked = open-marked b.gate b.opened; upstream = b.upstream });
 }
   where
-    opened : (n : ℕ) → IsOpen net blocks settled n → is_marked open_marks n ≡ true
-    opened n is =
-        ap (λ (ms : List Bool). get_or ms n false) open_are
+    open-marked : (n : ℕ) → IsOpen net blocks settled n → is_marked opened n ≡ true
+    open-marked n is =
+        ap (λ (ms : List Bool). get_or ms n false) opened_is
         ∙ get_or-map (λ home. not (is_marked settled home)) blocks.home n 0 false (let w = is.within in omega (arith, w, homes))
         ∙ ap not is.unsettled
+
+-- those that are asked for
+pub suspects-asked : (net : Parts) (blocks : Blocks) (settled asked all marks : List Bool) → length asked ≡ length net.gates → AreAllSuspects net blocks settled all → length marks ≡ length all →
+    ((k : ℕ) → is_marked marks k ≡ (is_marked all k && is_marked asked k)) → AreSuspects net blocks settled asked marks
+suspects-asked net blocks settled asked all marks wide all_are width each = record {
+  width = width ∙ all_are.width;
+  each = λ n wanted b. each n ∙ ap₂ (λ x y. x && y) (all_are.each n (let l = marked-within asked n wanted in omega (arith, l, wide)) b) wanted;
+  only = λ n marked. (and_parts (is_marked all n) (is_marked asked n) (sym (each n) ∙ marked)).1;
+}
 
 -- ---- the first of them that is unknown
 

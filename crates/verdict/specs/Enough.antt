@@ -65,12 +65,6 @@ GrowsInDecision result old new net care count = GrowsWithin result old new (HasM
 abbrev pub AddsInDecision : {T : Type 0} → Result T StoreFault → Arena → Arena → Parts → CareSet → ℕ → Type 0
 AddsInDecision result old new net care count = AddsWithin result old new (HasCoverOver net care) (IsWide (columns net) (IsLaid net care)) count
 
--- w is wide for a decision on a care set that has these vectors
-pub record IsWideOn (net : Parts) (a : Arena) (set : Node) (w : ℕ) : Type 0 where
-  pub care : CareSet
-  pub told : Tells net a set (is_care_vector net care)
-  pub wide : IsWide a.vars (IsLaid net care) w
-
 -- w is wide for a decision of a netlist that has this care set, whose columns have these rails, and of whose vectors
 -- these have states in the invariant
 pub record IsWideFor (care : CareSet) (a : Arena) (inside : Node) (rails : List Rails) (w : ℕ) : Type 0 where

@@ -1,4 +1,5 @@
 -- What is decided: whether a netlist is accepted on a care set where these of its signals are observed.
+use Rattle.std.specs.Prelude.{◌≡◌, ℕ, List}
 use Rattle.netlist.specs.declared.parts.Parts.{Parts}
 use Rattle.netlist.specs.Netlists.{IsNetlist}
 use Rattle.loops.specs.declared.structure.Blocks.{Blocks}
@@ -6,6 +7,7 @@ use Rattle.loops.specs.declared.structure.Cut.{Cut}
 use Rattle.loops.specs.Blocks.{AreBlocksOf}
 use Rattle.loops.specs.Cuts.{IsCutOf}
 use Rattle.loops.specs.Looped.{Looped}
+use Rattle.fixpoint.specs.Orders.{order as order_of}
 use Rattle.care_sets.specs.Binding.{IsCareOf}
 use Rattle.care_sets.specs.Care.{CareSet}
 use Rattle.refusals.specs.declared.observe.Observe.{Observe}
@@ -29,3 +31,8 @@ pub record IsAsked (q : Asked) : Type 0 where
   pub blocks : AreBlocksOf q.net q.blocks
   pub cut : IsCutOf q.net q.cut
   pub care : IsCareOf q.net q.care
+
+-- and for diagrams the columns are laid on the variables by the netlist's order
+pub record IsLaidOut (q : Asked) (order : List ℕ) : Type 0 where
+  pub is : IsAsked q
+  pub order_is : order ≡ order_of q.net

@@ -11,10 +11,12 @@ use Rattle.isolation.specs.Cones.{is_marked}
 use Rattle.care_sets.specs.Care.{CareSet}
 use Rattle.refusals.specs.Refusals.{initial_refusal, empty_refusal, refusal}
 use Rattle.refusals.specs.declared.observe.Observe.{Observe}
+use Rattle.clause_decision.specs.Scopes.{AreInScope, IsScopeOf}
 use Rattle.clause_decision.specs.Sweeping.{IsLeastCount}
 use Rattle.verdict.specs.Determination.{IsOpen}
 use Rattle.verdict.specs.declared.clauses.Beginning.{Beginning}
 use Rattle.verdict.specs.declared.clauses.Beginning.TheVariants as beginnings
+use Rattle.verdict.specs.declared.scopes.ScopedLoop.{ScopedLoop}
 
 -- the gates that drive the latches which the invariant reads
 abbrev pub AreDrivers : Parts → CareSet → List ℕ → Type 0
@@ -31,6 +33,12 @@ pub record AreDriversBefore (net : Parts) (columns : List ℕ) (done : ℕ) (gat
 pub record AreOpenGates (net : Parts) (blocks : Blocks) (settled : List Bool) (gates : List ℕ) : Type 0 where
   pub within : All (λ n. n < length net.gates) gates
   pub all : (n : ℕ) → IsOpen net blocks settled n → Contains gates n
+
+-- the block at a place, with a scope that speaks of its gates
+pub record IsScopedAt (net : Parts) (blocks : Blocks) (place : ℕ) (l : ScopedLoop) : Type 0 where
+  pub block : l.block ≡ place
+  pub scope : IsScopeOf net l.scope
+  pub within : AreInScope net l.scope (block_at blocks place).gates
 
 -- the number of sweeps that the loop at a place needs on care, where it isn't settled
 abbrev pub IsCountAt : Parts → Blocks → Cut → CareSet → List Bool → ℕ → ℕ → Type 0

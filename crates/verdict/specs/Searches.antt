@@ -22,6 +22,9 @@ pub record Searched : Type 0 where
 abbrev pub searched : Looped → CareSet → List Bool → Searched
 searched l care settled = record { net = l.net; blocks = l.blocks; cut = l.cut; care = care; settled = settled }
 
+abbrev pub looped_in : Searched → Looped
+looped_in s = record { net = s.net; blocks = s.blocks; cut = s.cut }
+
 -- all parts are the netlist's, and each loop with a mark is settled by itself
 pub record IsSearched (s : Searched) : Type 0 where
   pub net : IsNetlist s.net

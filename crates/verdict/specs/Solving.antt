@@ -6,8 +6,7 @@ use Rattle.cyc_base.specs.Values.{bits}
 use Rattle.dual_rail.specs.declared.rail.Rails.{Rails}
 use Rattle.dual_rail.specs.Rails.{values_of}
 use Rattle.netlist.specs.declared.parts.Parts.{Parts}
-use Rattle.loops.specs.declared.structure.Blocks.{Blocks}
-use Rattle.loops.specs.declared.structure.Cut.{Cut}
+use Rattle.loops.specs.Looped.{Looped}
 use Rattle.fixpoint.specs.Kept.{rails_under}
 use Rattle.fixpoint.specs.Orders.{laid}
 use Rattle.fixpoint.specs.Solved.{Vectors, IsSolution}
@@ -15,8 +14,8 @@ use Rattle.care_sets.specs.Care.{columns}
 use Rattle.verdict.specs.declared.solving.Fixpoint.{Fixpoint}
 
 -- the netlist is solved at the vectors that the given rails stood for, and the set has the function that it had
-pub record IsFixpointOn (net : Parts) (blocks : Blocks) (cut : Cut) (old new : Arena) (given : List Rails) (set : Node) (found : Fixpoint) : Type 0 where
-  pub solution : IsSolution net blocks cut new (values_of old given) found.solved
+pub record IsFixpointOn (l : Looped) (old new : Arena) (given : List Rails) (set : Node) (found : Fixpoint) : Type 0 where
+  pub solution : IsSolution l.net l.blocks l.cut new (values_of old given) found.solved
   pub rails_are : found.rails ≡ map (rails_under new) found.solved.rails
   pub node : IsNodeOf new found.set
   pub function : (bits : List Bool) → den new found.set bits ≡ den old set bits

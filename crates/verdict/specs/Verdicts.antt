@@ -12,7 +12,7 @@ use Rattle.loops.specs.declared.structure.Blocks.{Blocks}
 use Rattle.loops.specs.declared.structure.Cut.{Cut}
 use Rattle.loops.specs.declared.structure.SweepCounts.{SweepCounts}
 use Rattle.loops.specs.Blocks.{block_at, home_of}
-use Rattle.loops.specs.Cuts.{IsCutOf, loops_by}
+use Rattle.loops.specs.Cuts.{loops_by}
 use Rattle.loops.specs.Sweeps.{IsCountOfSweeps}
 use Rattle.fixpoint.specs.Counts.{count_at}
 use Rattle.fixpoint.specs.Solved.{Vectors, IsSolution}
@@ -65,12 +65,9 @@ pub record IsCareStart (net : Parts) (care : CareSet) (a : Arena) (set : Node) :
   pub some : empty_refusal net care ≡ None
 
 -- a netlist that is solved at all vectors of its columns, beside a set of them
-pub record IsSolvedWhole (net : Parts) (blocks : Blocks) (a : Arena) (found : Fixpoint) : Type 0 where
-  pub cut : Cut
-  pub cut_is : IsCutOf net cut
+pub record IsSolvedWhole (net : Parts) (blocks : Blocks) (cut : Cut) (a : Arena) (found : Fixpoint) : Type 0 where
   pub points : Vectors
   pub points_are : AreColumnVectors net points
-  pub valid : IsNetlist net
   pub vars : a.vars ≡ columns net
   pub solution : IsSolution net blocks cut a points found.solved
   pub fixed : AreFixed net a found.rails

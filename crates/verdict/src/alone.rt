@@ -8,7 +8,7 @@ ghost use Rattle.verdict.specs.Determination.{SettleInOneSweep};
 
 use clause_decision::sweeps_at;
 use cyc_base::MAX_NODES;
-use isolation::settles_alone;
+use isolation::{gates_at, settles_alone};
 use loops::{Blocks, LoopedNetlist};
 use std::alloc::{AllocError, Global};
 
@@ -26,13 +26,11 @@ fn needs_more_at_zeros(
     requires looped { (block_at looped.now.blocks block).looped ≡ true }
 {
     let net = looped.net();
-    let blocks = looped.blocks();
-    let gates = blocks.list.items()[block as usize].gates.items();
-    if gates.len() < net.gates() as usize / MOST_TIMES {
+    if gates_at(looped, block as usize).len() < net.gates() as usize / MOST_TIMES {
         return Ok(false);
     }
     let zeros = vec![in alloc; false; (net.inputs() + net.latches()) as usize]?;
-    let sweeps = sweeps_at(alloc, net, blocks, looped.cut(), block, &zeros)?;
+    let sweeps = sweeps_at(alloc, looped, block, &zeros)?;
     Ok(sweeps > 1)
 }
 
@@ -48,8 +46,7 @@ fn is_settled(
     requires budget { budget ≤ MAX_NODES }
     ensures { IfOk result (λ settled. settled ≡ true → (block_at looped.now.blocks place).looped ≡ true → SettleInSweeps looped.now.net (block_at looped.now.blocks place).gates 1) }
 {
-    let blocks = looped.blocks();
-    if !blocks.list.items()[place].looped {
+    if !looped.blocks().list.items()[place].looped {
         return Ok(true);
     }
     let Ok(number) = u32::try_from(place) else {
@@ -58,7 +55,7 @@ fn is_settled(
     if needs_more_at_zeros(alloc, looped, number)? {
         return Ok(false);
     }
-    match settles_alone(alloc, looped.net(), blocks, number, budget)? {
+    match settles_alone(alloc, looped, number, budget)? {
         Some(sweeps) => Ok(sweeps == 1),
         None => Ok(false),
     }

@@ -1,7 +1,6 @@
 //! Pairs of wires that are never apart on care.
 
 ghost use Rattle.std.specs.Prelude.{◌≡◌, ◌<◌, true, ℕ, length, All, IfOk};
-ghost use Rattle.loops.specs.Blocks.{AreBlocksOf};
 ghost use Rattle.care_sets.specs.Binding.{IsCareOf};
 ghost use Rattle.clause_decision.specs.Apart.{AreNeverApart, IsPairOf};
 ghost use Rattle.clause_decision.specs.Scopes.{is_marked, IsScopeOf};
@@ -10,9 +9,9 @@ use crate::alone::settled_loops;
 use crate::clauses::LOOP_NODES;
 use crate::scopes::known_gates;
 use care_sets::Care;
-use clause_decision::{Hint, Pair, Scope};
+use clause_decision::{PairSearch, Scope};
 use cyc_base::Items;
-use loops::{Blocks, LoopedNetlist, find_cut};
+use loops::LoopedNetlist;
 use netlist::Netlist;
 use std::alloc::{AllocError, Global};
 
@@ -26,16 +25,13 @@ fn all_gates(alloc: Global, net: &Netlist) -> Result<Vec<bool>, AllocError>
 
 /// The scope of all gates.
 #[tactic(auto, using(crate::proofs::ApartLemmas::all_close))]
-fn whole_scope(alloc: Global, net: &Netlist, blocks: &Blocks) -> Result<Scope, AllocError>
-    requires { AreBlocksOf net.now blocks.now }
-    ensures scope { IfOk result (IsScopeOf net.now) }
-    ensures all { IfOk result (λ scope. (n : ℕ) → n < length net.now.gates → is_marked scope.gates n ≡ true) }
+fn whole_scope(alloc: Global, looped: &LoopedNetlist<'_>) -> Result<Scope, AllocError>
+    ensures scope { IfOk result (IsScopeOf looped.now.net) }
+    ensures all { IfOk result (λ scope. (n : ℕ) → n < length looped.now.net.gates → is_marked scope.gates n ≡ true) }
 {
-    let cut = find_cut(alloc, net, blocks)?;
-    let looped = LoopedNetlist::new(net, blocks, &cut);
-    let settled = settled_loops(alloc, &looped, LOOP_NODES)?;
-    let known = Items::of(known_gates(alloc, net, blocks, &settled)?);
-    let gates = Items::of(all_gates(alloc, net)?);
+    let settled = settled_loops(alloc, looped, LOOP_NODES)?;
+    let known = Items::of(known_gates(alloc, looped, &settled)?);
+    let gates = Items::of(all_gates(alloc, looped.net())?);
     Ok(Scope { gates, known })
 }
 
@@ -43,28 +39,24 @@ fn whole_scope(alloc: Global, net: &Netlist, blocks: &Blocks) -> Result<Scope, A
 /// nothing: the pairs may be known to be apart, or the solver gave up. Loops that are settled by themselves have one
 /// variable for each gate.
 ///
-/// The pairs are asked for in few conflicts each, and then, where that is too few, the hints, one by one in their order,
-/// and the pairs with more; and where one is still open, both once again with twenty times as many. Hints do most where each
-/// stands behind those whose wires feed its own; nothing is said of them.
+/// The pairs are asked for in `few` conflicts of the budget each, and then, where that is too few, the hints, one by one in
+/// their order, and the pairs with `many`; and where one is still open, both once again with twenty times as many. Hints do
+/// most where each stands behind those whose wires feed its own; nothing is said of them.
 ///
-/// The condition is that the blocks and the care set are the netlist's, and that the wires of each pair and each hint are.
+/// The condition is that the care set is the netlist's, and that the wires of each pair and each hint are.
 #[tactic(auto, using(crate::proofs::ApartLemmas::pairs_within, crate::proofs::ApartLemmas::hints_within))]
 pub fn are_never_apart(
     alloc: Global,
-    net: &Netlist,
-    blocks: &Blocks,
+    looped: &LoopedNetlist<'_>,
     care: &Care,
-    hints: &[Hint],
-    pairs: &[Pair],
-    few: u64,
-    conflicts: u64,
+    search: &PairSearch<'_>,
 ) -> Result<bool, AllocError>
-    requires blocks { AreBlocksOf net.now blocks.now }
-    requires care { IsCareOf net.now care.now }
-    requires hints { All (λ hint. IsPairOf net.now hint.pair) hints.now }
-    requires pairs { All (IsPairOf net.now) pairs.now }
-    ensures { IfOk result (λ never. never ≡ true → AreNeverApart net.now care.now pairs.now) }
+    requires care { IsCareOf looped.now.net care.now }
+    requires hints { All (λ hint. IsPairOf looped.now.net hint.pair) search.now.hints.now }
+    requires pairs { All (IsPairOf looped.now.net) search.now.pairs.now }
+    ensures { IfOk result (λ never. never ≡ true → AreNeverApart looped.now.net care.now search.now.pairs.now) }
 {
-    let scope = whole_scope(alloc, net, blocks)?;
-    clause_decision::are_never_apart(alloc, net, care, &scope, hints, pairs, few, conflicts)
+    let net = looped.net();
+    let scope = whole_scope(alloc, looped)?;
+    clause_decision::are_never_apart(alloc, net, care, &scope, search)
 }

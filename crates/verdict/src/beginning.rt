@@ -18,6 +18,7 @@ ghost use Rattle.verdict.specs.Verdicts.{IsStart};
 
 use crate::care::{assume_on, invariant_on};
 use crate::initial::starts_on;
+use crate::question::Question;
 use crate::refusing::initial_refusal;
 use crate::sets::is_never;
 use bdd_ops::Diagrams;
@@ -79,19 +80,17 @@ pub(crate) fn care_on(
 pub(crate) fn begin(
     alloc: Global,
     d: &mut Diagrams,
-    net: &Netlist,
-    care: &Care,
-    order: &[u32],
+    question: &Question<'_>,
     rails: &[Rails],
 ) -> Result<Start, StoreFault>
-    requires care { IsCareOf net.now care.now }
-    requires vars { d.old.vars ≡ columns net.now }
-    requires order { order.now ≡ order_of net.now }
-    requires columns { AreColumns d.old (order_of net.now) rails.now }
-    ensures valid { IsNetlist net.now }
-    ensures start { IfOk result (IsStart net.now care.now d.new) }
-    ensures grows { GrowsInDecision result d.old d.new net.now care.now (start_cost net.now care.now) }
+    requires vars { d.old.vars ≡ columns question.now.net }
+    requires columns { AreColumns d.old (order_of question.now.net) rails.now }
+    ensures start { IfOk result (IsStart question.now.net question.now.care d.new) }
+    ensures grows { GrowsInDecision result d.old d.new question.now.net question.now.care (start_cost question.now.net question.now.care) }
 {
+    let net = question.net();
+    let care = question.care();
+    let order = question.order();
     let inside = inside_on(alloc, d, net, care, rails)?;
     let permitted = starts_on(d, net, order, rails)?;
     if let Some(refusal) = initial_refusal(alloc, d, net, order, permitted, inside)? {

@@ -1,14 +1,17 @@
 //! Gates behind others: what walks along pins lead to.
 
-ghost use Rattle.std.specs.Prelude.{◌≡◌, ◌↔◌, ◌<◌, true, length, All, Contains};
-ghost use Rattle.netlist.specs.Netlists.{IsNetlist, IsSignal};
-ghost use Rattle.loops.specs.Blocks.{AreBlocksOf, block_at};
+ghost use Rattle.std.specs.Prelude.{◌≡◌, ◌↔◌, ◌<◌, true, length, All, IfOk};
+ghost use Rattle.netlist.specs.Netlists.{IsSignal};
 ghost use Rattle.isolation.specs.Cones.{AddMarks};
 ghost use Rattle.verdict.specs.Behind.{AreDownstreamMarks, AreReached, HasMarkedDriver, IsReached, ReadsMark};
+ghost use Rattle.verdict.specs.Loose.{AreAllSuspects};
 
+use crate::alone::open_gates;
 use cyc_base::Sig;
-use loops::Blocks;
+use isolation::{gates_at, mark_all};
+use loops::LoopedNetlist;
 use netlist::Netlist;
+use std::alloc::{AllocError, Global};
 
 /// Whether a marked gate drives a signal: an input or a latch is no gate.
 fn has_marked_driver(net: &Netlist, signal: Sig, marks: &[bool]) -> bool
@@ -54,16 +57,6 @@ pub(crate) fn are_reached(net: &Netlist, gates: &[u32], marks: &[bool]) -> bool
     false
 }
 
-/// Marks these gates.
-pub(crate) fn mark_all(gates: &[u32], marks: &mut [bool])
-    requires { All (λ n. n < length marks.old) gates.now }
-    ensures { AddMarks (Contains gates.now) marks.old marks.new }
-{
-    for gate in gates {
-        marks[*gate as usize] = true;
-    }
-}
-
 /// Marks a block's gates, where one of them is marked or reads a marked one.
 fn mark_reached(net: &Netlist, gates: &[u32], marks: &mut [bool])
     requires gates { All (λ n. n < length net.now.gates) gates.now }
@@ -75,28 +68,28 @@ fn mark_reached(net: &Netlist, gates: &[u32], marks: &mut [bool])
     }
 }
 
-/// The gates of the block at this place.
-pub(crate) fn gates_at<'a>(net: &Netlist, blocks: &'a Blocks, place: usize) -> &'a [u32]
-    requires blocks { AreBlocksOf net.now blocks.now }
-    requires place { place < length blocks.now.list }
-    ensures is { result.now ≡ (block_at blocks.now place).gates }
-    ensures within { All (λ n. n < length net.now.gates) result.now }
-    ensures valid { IsNetlist net.now }
-{
-    let _ = net.gates();
-    let gates = blocks.list.items()[place].gates.items();
-    gates
-}
-
 /// Marks what lies behind the marked gates, with whole loops: a gate is marked afterwards just where a walk along pins
 /// leads to it from a gate that was marked, or it was marked itself. One pass does, since a block stands after those
 /// that it reads.
-pub(crate) fn mark_downstream(net: &Netlist, blocks: &Blocks, marks: &mut [bool])
-    requires blocks { AreBlocksOf net.now blocks.now }
-    requires width { length marks.old ≡ length net.now.gates }
-    ensures { AreDownstreamMarks net.now marks.old marks.new }
+pub(crate) fn mark_downstream(looped: &LoopedNetlist<'_>, marks: &mut [bool])
+    requires { length marks.old ≡ length looped.now.net.gates }
+    ensures { AreDownstreamMarks looped.now.net marks.old marks.new }
 {
-    for place in 0..blocks.list.items().len() {
-        mark_reached(net, gates_at(net, blocks, place), marks);
+    for place in 0..looped.blocks().list.items().len() {
+        mark_reached(looped.net(), gates_at(looped, place), marks);
     }
+}
+
+/// Marks of the gates in loops that aren't settled, and of those behind them.
+pub(crate) fn suspect_gates(
+    alloc: Global,
+    looped: &LoopedNetlist<'_>,
+    settled: &[bool],
+) -> Result<Vec<bool>, AllocError>
+    requires { length settled.now ≡ length looped.now.blocks.list }
+    ensures { IfOk result (λ marks. AreAllSuspects looped.now.net looped.now.blocks settled.now marks.items) }
+{
+    let mut marks = open_gates(alloc, looped.blocks(), settled)?;
+    mark_downstream(looped, &mut marks);
+    Ok(marks)
 }

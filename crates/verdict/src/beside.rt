@@ -8,11 +8,12 @@ ghost use Rattle.clause_decision.specs.Changes.{AreFedKnown};
 ghost use Rattle.verdict.specs.Loose.{AreLoopCounts, AreUnknownMarks, AreWithout, IsLoopCount};
 ghost use Rattle.verdict.specs.Verdicts.{AreSweepsOnCare};
 
-use crate::behind::{are_reached, gates_at};
-use crate::scopes::scope_of;
+use crate::behind::are_reached;
+use crate::scopes::scoped_loop;
 use crate::search::Search;
 use clause_decision::sweeps_fed_known;
 use cyc_base::Items;
+use isolation::gates_at;
 use loops::SweepCounts;
 use netlist::Netlist;
 use std::alloc::{AllocError, Global};
@@ -59,16 +60,13 @@ fn ask_sweeps(alloc: Global, search: &Search<'_>, place: usize) -> Result<Option
     requires fed { AreFedKnown search.now.net search.now.care (block_at search.now.blocks place).gates }
     ensures { IfOk result (λ found. IfSome found (IsLoopCount search.now.net search.now.blocks search.now.cut search.now.care place)) }
 {
-    let Ok(block) = u32::try_from(place) else {
+    let Some(asked) = scoped_loop(alloc, search, place)? else {
         return Ok(None);
     };
-    let net = search.net();
-    let blocks = search.blocks();
-    let cut = search.cut();
+    let looped = search.looped();
     let care = search.care();
     let conflicts = search.conflicts();
-    let scope = scope_of(alloc, search, gates_at(net, blocks, place))?;
-    sweeps_fed_known(alloc, net, blocks, cut, care, &scope, block, conflicts)
+    sweeps_fed_known(alloc, looped, care, &asked.scope, asked.block, conflicts)
 }
 
 /// The sweeps of a loop: one where it is settled by itself and all around it is known on care, and else what clauses tell
@@ -87,7 +85,7 @@ fn loop_count(
 {
     let net = search.net();
     let settled = search.settled();
-    let gates = gates_at(net, search.blocks(), place);
+    let gates = gates_at(search.looped(), place);
     if settled[place] && !are_reached(net, gates, unknown) {
         return Ok(Some(1));
     }

@@ -8,8 +8,7 @@ ghost use Rattle.clause_decision.specs.Scopes.{AreKnownOnCare};
 ghost use Rattle.verdict.specs.Determination.{count_of, AreCountsBelow};
 ghost use Rattle.verdict.specs.Scopes.{AreCountsAt, IsCountAt};
 
-use crate::behind::gates_at;
-use crate::scopes::scope_of;
+use crate::scopes::scoped_loop;
 use crate::search::Search;
 use clause_decision::sweeps_needed;
 use cyc_base::Items;
@@ -58,16 +57,13 @@ fn ask_sweeps(alloc: Global, search: &Search<'_>, place: usize) -> Result<Option
     requires known { AreKnownOnCare search.now.net search.now.care }
     ensures { IfOk result (λ found. IfSome found (IsCountAt search.now.net search.now.blocks search.now.cut search.now.care search.now.settled place)) }
 {
-    let Ok(block) = u32::try_from(place) else {
+    let Some(asked) = scoped_loop(alloc, search, place)? else {
         return Ok(None);
     };
-    let net = search.net();
-    let blocks = search.blocks();
-    let cut = search.cut();
+    let looped = search.looped();
     let care = search.care();
     let conflicts = search.conflicts();
-    let scope = scope_of(alloc, search, gates_at(net, blocks, place))?;
-    sweeps_needed(alloc, net, blocks, cut, care, &scope, block, conflicts)
+    sweeps_needed(alloc, looped, care, &asked.scope, asked.block, conflicts)
 }
 
 /// The sweeps of the block at this place, where it is a loop that isn't settled.

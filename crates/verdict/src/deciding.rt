@@ -44,31 +44,25 @@ const MANY_CONFLICTS: u64 = 2_000_000;
 const FEW_NODES: u32 = 200_000;
 
 /// The refusal of an undetermined gate that is observed, or else of a state that leaves the invariant, or else how
-/// many gates are unknown on care. `set` are the vectors of care, and the rails of all signals stand for the fixpoint.
+/// many gates are unknown on care. The netlist's fixpoint is found beside the vectors of care.
 fn later(
     alloc: Global,
     d: &mut Diagrams,
-    net: &Netlist,
-    care: &Care,
-    order: &[u32],
-    observe: Observe,
-    rails: &[Rails],
-    set: Node,
+    question: &Question<'_>,
+    found: &Fixpoint,
 ) -> Result<Gates, StoreFault>
-    requires vars { d.old.vars ≡ columns net.now }
-    requires order { order.now ≡ order_of net.now }
-    requires care { IsCareOf net.now care.now }
-    requires fixed { AreFixed net.now d.old rails.now }
-    requires set { Tells net.now d.old set (is_care_vector net.now care.now) }
-    ensures gates { IfOk result (StandSo (later_refusal net.now care.now observe) net.now care.now) }
-    ensures grows { GrowsInDecision result d.old d.new net.now care.now (later_cost net.now care.now) }
+    requires vars { d.old.vars ≡ columns question.now.net }
+    requires fixed { AreFixed question.now.net d.old found.now.rails }
+    requires set { Tells question.now.net d.old found.now.set (is_care_vector question.now.net question.now.care) }
+    ensures gates { IfOk result (StandSo (later_refusal question.now.net question.now.care question.now.what) question.now.net question.now.care) }
+    ensures grows { GrowsInDecision result d.old d.new question.now.net question.now.care (later_cost question.now.net question.now.care) }
 {
-    let gates = gates_on(alloc, d, net, order, observe, rails, set)?;
+    let gates = gates_on(alloc, d, question, found)?;
     let loose = match gates {
         Gates::Determined { loose } => loose,
         Gates::Refused(refusal) => return Ok(Gates::Refused(refusal)),
     };
-    let left = leaves(alloc, d, net, care, order, rails, set)?;
+    let left = leaves(alloc, d, question, found)?;
     match left {
         Some(refusal) => Ok(Gates::Refused(refusal)),
         None => Ok(Gates::Determined { loose }),
@@ -79,25 +73,18 @@ fn later(
 fn judge_solved(
     alloc: Global,
     d: &mut Diagrams,
-    net: &Netlist,
-    blocks: &Blocks,
-    care: &Care,
-    order: &[u32],
-    observe: Observe,
+    question: &Question<'_>,
     found: &Fixpoint,
 ) -> Result<Verdict, StoreFault>
-    requires blocks { AreBlocksOf net.now blocks.now }
-    requires order { order.now ≡ order_of net.now }
-    requires care { IsCareOf net.now care.now }
-    requires solved { IsSolvedWhole net.now blocks.now d.old found.now }
-    requires start { IsCareStart net.now care.now d.old found.now.set }
-    ensures verdict { (is : IsSolvedWhole net.now blocks.now d.old found.now) → IfOk result (IsVerdict net.now blocks.now is.cut care.now observe) }
-    ensures grows { GrowsInDecision result d.old d.new net.now care.now (solved_cost net.now care.now) }
+    requires solved { IsSolvedWhole question.now.net question.now.blocks question.now.cut d.old found.now }
+    requires start { IsCareStart question.now.net question.now.care d.old found.now.set }
+    ensures verdict { IfOk result (IsVerdict question.now.net question.now.blocks question.now.cut question.now.care question.now.what) }
+    ensures grows { GrowsInDecision result d.old d.new question.now.net question.now.care (solved_cost question.now.net question.now.care) }
 {
     solutions();
     d.store().laws();
-    let rails = found.rails.items();
-    let gates = later(alloc, d, net, care, order, observe, rails, found.set)?;
+    let blocks = question.blocks();
+    let gates = later(alloc, d, question, found)?;
     let loose = match gates {
         Gates::Determined { loose } => loose,
         Gates::Refused(refusal) => return Ok(Verdict::Refused(refusal)),
@@ -115,60 +102,40 @@ fn judge_solved(
 fn judge_whole(
     alloc: Global,
     d: &mut Diagrams,
-    net: &Netlist,
-    blocks: &Blocks,
-    cut: &Cut,
-    care: &Care,
-    order: &[u32],
-    observe: Observe,
+    question: &Question<'_>,
     rails: &[Rails],
     set: Node,
 ) -> Result<Verdict, StoreFault>
-    requires blocks { AreBlocksOf net.now blocks.now }
-    requires cut { IsCutOf net.now cut.now }
-    requires care { IsCareOf net.now care.now }
-    requires vars { d.old.vars ≡ columns net.now }
-    requires order { order.now ≡ order_of net.now }
-    requires columns { AreColumns d.old (order_of net.now) rails.now }
-    requires start { IsCareStart net.now care.now d.old set }
-    ensures verdict { IfOk result (IsVerdict net.now blocks.now cut.now care.now observe) }
+    requires vars { d.old.vars ≡ columns question.now.net }
+    requires columns { AreColumns d.old (order_of question.now.net) rails.now }
+    requires start { IsCareStart question.now.net question.now.care d.old set }
+    ensures verdict { IfOk result (IsVerdict question.now.net question.now.blocks question.now.cut question.now.care question.now.what) }
     ensures vars { d.new.vars ≡ d.old.vars }
     ensures limit { d.new.limit ≡ d.old.limit }
-    ensures adds { AddsInDecision result d.old d.new net.now care.now (whole_cost net.now care.now) }
+    ensures adds { AddsInDecision result d.old d.new question.now.net question.now.care (whole_cost question.now.net question.now.care) }
 {
-    let _ = net.gates();
     d.store().laws();
-    let found = solve_beside(alloc, d, net, blocks, cut, rails, set)?;
-    judge_solved(alloc, d, net, blocks, care, order, observe, &found)
+    let looped = question.looped();
+    let found = solve_beside(alloc, d, looped, rails, set)?;
+    judge_solved(alloc, d, question, &found)
 }
 
 /// The verdict by diagrams, which have a variable for each column. These are the rails of the columns.
 fn judge(
     alloc: Global,
     d: &mut Diagrams,
-    net: &Netlist,
-    blocks: &Blocks,
-    cut: &Cut,
-    care: &Care,
-    order: &[u32],
-    observe: Observe,
+    question: &Question<'_>,
     rails: &[Rails],
 ) -> Result<Verdict, StoreFault>
-    requires blocks { AreBlocksOf net.now blocks.now }
-    requires cut { IsCutOf net.now cut.now }
-    requires care { IsCareOf net.now care.now }
-    requires vars { d.old.vars ≡ columns net.now }
-    requires order { order.now ≡ order_of net.now }
-    requires columns { AreColumns d.old (order_of net.now) rails.now }
-    ensures verdict { IfOk result (IsVerdict net.now blocks.now cut.now care.now observe) }
+    requires vars { d.old.vars ≡ columns question.now.net }
+    requires columns { AreColumns d.old (order_of question.now.net) rails.now }
+    ensures verdict { IfOk result (IsVerdict question.now.net question.now.blocks question.now.cut question.now.care question.now.what) }
     ensures vars { d.new.vars ≡ d.old.vars }
     ensures limit { d.new.limit ≡ d.old.limit }
-    ensures adds { AddsInDecision result d.old d.new net.now care.now (start_cost net.now care.now + whole_cost net.now care.now) }
+    ensures adds { AddsInDecision result d.old d.new question.now.net question.now.care (start_cost question.now.net question.now.care + whole_cost question.now.net question.now.care) }
 {
-    match begin(alloc, d, net, care, order, rails)? {
-        Start::Care(set) => {
-            judge_whole(alloc, d, net, blocks, cut, care, order, observe, rails, set)
-        }
+    match begin(alloc, d, question, rails)? {
+        Start::Care(set) => judge_whole(alloc, d, question, rails, set),
         Start::Refused(refusal) => Ok(Verdict::Refused(refusal)),
     }
 }
@@ -182,14 +149,8 @@ fn judge_from_columns(
     requires { d.old.vars ≡ columns question.now.net }
     ensures { IfOk result (IsVerdict question.now.net question.now.blocks question.now.cut question.now.care question.now.what) }
 {
-    let net = question.net();
-    let blocks = question.blocks();
-    let cut = question.cut();
-    let care = question.care();
-    let observe = question.observe();
-    let order = order(alloc, net)?;
-    let rails = column_rails(alloc, d, &order)?;
-    judge(alloc, d, net, blocks, cut, care, &order, observe, &rails)
+    let rails = column_rails(alloc, d, question.order())?;
+    judge(alloc, d, question, &rails)
 }
 
 /// The verdict by diagrams of their own, of at most so many nodes, or none where these don't do.
@@ -242,18 +203,12 @@ fn decide_on(
     ensures verdict { IfOk result (IsVerdict question.now.net question.now.blocks question.now.cut question.now.care question.now.what) }
     ensures full { result ≡ Err StoreFault.Full → IsFullFor d.old d.new question.now.net question.now.care }
 {
-    let net = question.net();
-    let blocks = question.blocks();
-    let cut = question.cut();
-    let care = question.care();
-    let observe = question.observe();
-    let order = order(alloc, net)?;
-    let rails = column_rails(alloc, d, &order)?;
+    let rails = column_rails(alloc, d, question.order())?;
     let limit = limit_of(d);
-    fit_all(alloc, net, care, limit)?;
+    fit_all(alloc, question.net(), question.care(), limit)?;
     match early_verdict(alloc, question, limit)? {
         Some(verdict) => Ok(verdict),
-        None => judge(alloc, d, net, blocks, cut, care, &order, observe, &rails),
+        None => judge(alloc, d, question, &rails),
     }
 }
 
@@ -293,11 +248,14 @@ pub fn decide(
     ensures cause { result ≡ Err (DecideFault.NodeLimit limit) → IsOutOfNodes d.new net.now care.now limit }
     ensures enough { result ≡ Err (DecideFault.NodeLimit limit) → IsBelowEnough net.now care.now limit }
 {
+    let Ok(order) = order(alloc, net) else {
+        return Err(DecideFault::Memory);
+    };
     if d.start(net.inputs() + net.latches(), limit).is_err() {
         return Err(DecideFault::Memory);
     }
     let looped = LoopedNetlist::new(net, blocks, cut);
-    let question = Question::new(&looped, care, observe);
+    let question = Question::new(&looped, care, observe, &order);
     match decide_on(alloc, d, &question) {
         Ok(verdict) => Ok(verdict),
         Err(StoreFault::Full) => Err(DecideFault::NodeLimit { nodes: limit }),

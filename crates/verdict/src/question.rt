@@ -2,10 +2,11 @@
 
 ghost use Rattle.std.specs.Prelude.{◌≡◌};
 ghost use Rattle.care_sets.specs.Binding.{IsCareOf};
+ghost use Rattle.fixpoint.specs.Orders.{order as order_of};
 ghost use Rattle.verdict.specs.Questions.{IsAsked};
 
 use care_sets::Care;
-use loops::{Blocks, Cut, LoopedNetlist};
+use loops::{Blocks, LoopedNetlist};
 use netlist::Netlist;
 use refusals::Observe;
 use std::marker::Model;
@@ -16,16 +17,18 @@ pub(crate) struct Question<'a> {
     looped: &'a LoopedNetlist<'a>,
     care: &'a Care,
     observe: Observe,
+    /// The column of each variable of diagrams, in the order in which gates first read them.
+    order: &'a [u32],
 }
 
 impl<'a> Model for Question<'a> {
-    ghost use Rattle.verdict.specs.Questions.{Asked, IsAsked, asked};
+    ghost use Rattle.verdict.specs.Questions.{Asked, IsLaidOut, asked};
 
     ghost Value = { Asked };
 
     ghost view = { λ q. asked q.looped.now q.care.now q.observe };
 
-    ghost invariant = { λ q. IsAsked (asked q.looped.now q.care.now q.observe) };
+    ghost invariant = { λ q. IsLaidOut (asked q.looped.now q.care.now q.observe) q.order.now };
 }
 
 impl<'a> Question<'a> {
@@ -33,13 +36,15 @@ impl<'a> Question<'a> {
 
     /// The question of this netlist.
     ///
-    /// The condition is that the care set is the netlist's.
+    /// The condition is that the care set and the order are the netlist's.
     pub(crate) fn new(
         looped: &'a LoopedNetlist<'a>,
         care: &'a Care,
         observe: Observe,
+        order: &'a [u32],
     ) -> Question<'a>
-        requires { IsCareOf looped.now.net care.now }
+        requires care { IsCareOf looped.now.net care.now }
+        requires order { order.now ≡ order_of looped.now.net }
         ensures { result ≡ asked looped.now care.now observe }
     {
         let _ = looped.net().gates();
@@ -47,6 +52,7 @@ impl<'a> Question<'a> {
             looped,
             care,
             observe,
+            order,
         }
     }
 
@@ -74,14 +80,6 @@ impl<'a> Question<'a> {
         self.looped.blocks()
     }
 
-    /// Its cut wires.
-    pub(crate) fn cut(&self) -> &'a Cut
-        ensures cut { result.now ≡ self.now.cut }
-        ensures is { IsAsked self.now }
-    {
-        self.looped.cut()
-    }
-
     /// The care set.
     pub(crate) fn care(&self) -> &'a Care
         ensures care { result.now ≡ self.now.care }
@@ -95,5 +93,12 @@ impl<'a> Question<'a> {
         ensures { result ≡ self.now.what }
     {
         self.observe
+    }
+
+    /// The column of each variable of diagrams.
+    pub(crate) fn order(&self) -> &'a [u32]
+        ensures { result.now ≡ order_of self.now.net }
+    {
+        self.order
     }
 }

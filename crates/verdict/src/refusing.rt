@@ -4,13 +4,13 @@ ghost use Rattle.std.specs.Prelude.{◌≡◌, ◌*◌, Bool, List, IfOk, drop, 
 ghost use Rattle.bdd_store.specs.Arena.{den, IsNodeOf};
 ghost use Rattle.bdd_store.specs.Growth.{Grows, GrowsWithin, NoOtherCause};
 ghost use Rattle.bdd_store.specs.Subfunctions.{nodes};
-ghost use Rattle.care_sets.specs.Binding.{IsCareOf};
 ghost use Rattle.care_sets.specs.Care.{CareSet, columns, is_care_vector};
 ghost use Rattle.fixpoint.specs.Orders.{order as order_of};
 ghost use Rattle.netlist.specs.Netlists.{IsNetlist};
 ghost use Rattle.refusals.specs.Refusals.{initial_refusal as initial_refusal_of, undetermined_refusal, leaves_refusal};
 ghost use Rattle.verdict.specs.Costs.{leaving_cost};
-ghost use Rattle.verdict.specs.Enough.{GrowsInDecision, IsWideOn};
+ghost use Rattle.dual_rail.specs.WorkingLists.{IsWide};
+ghost use Rattle.verdict.specs.Enough.{GrowsInDecision, IsLaid};
 ghost use Rattle.clause_decision.specs.Loads.{LoadsAreKnown};
 ghost use Rattle.verdict.specs.Verdicts.{StandSo};
 ghost use Rattle.verdict.specs.Sets.{Tells, BoundsBoth, AreFixed, difference, unknown_in, starts as starts_in, has_state_inside};
@@ -19,14 +19,15 @@ use crate::care::invariant_on;
 use crate::gates::Gates;
 use crate::next::{next_of, next_on};
 use crate::observing::observed_gates;
+use crate::question::Question;
 use crate::sets::{is_never, least_of, minus};
+use crate::solving::Fixpoint;
 use bdd_ops::Diagrams;
 use bdd_store::{Node, StoreFault};
-use care_sets::Care;
 use cyc_base::Bits;
 use dual_rail::Rails;
 use netlist::Netlist;
-use refusals::{Observe, Refusal};
+use refusals::Refusal;
 use std::alloc::{AllocError, Global};
 
 /// The values of the latches, where `first` is the column of the first.
@@ -81,26 +82,24 @@ pub(crate) fn unknown_on(d: &mut Diagrams, set: Node, rails: Rails) -> Result<No
 pub(crate) fn gates_on(
     alloc: Global,
     d: &mut Diagrams,
-    net: &Netlist,
-    order: &[u32],
-    observe: Observe,
-    rails: &[Rails],
-    set: Node,
+    question: &Question<'_>,
+    found: &Fixpoint,
 ) -> Result<Gates, StoreFault>
-    requires vars { d.old.vars ≡ columns net.now }
-    requires order { order.now ≡ order_of net.now }
-    requires fixed { AreFixed net.now d.old rails.now }
-    requires set { IsNodeOf d.old set }
-    ensures gates { (care : CareSet) → Tells net.now d.old set (is_care_vector net.now care) →
-        IfOk result (StandSo (undetermined_refusal net.now care observe) net.now care) }
-    ensures valid { IsNetlist net.now }
-    ensures grows { GrowsWithin result d.old d.new NoOtherCause (IsWideOn net.now d.old set) (2 * length net.now.gates) }
+    requires vars { d.old.vars ≡ columns question.now.net }
+    requires fixed { AreFixed question.now.net d.old found.now.rails }
+    requires set { Tells question.now.net d.old found.now.set (is_care_vector question.now.net question.now.care) }
+    ensures gates { IfOk result (StandSo (undetermined_refusal question.now.net question.now.care question.now.what) question.now.net question.now.care) }
+    ensures valid { IsNetlist question.now.net }
+    ensures grows { GrowsWithin result d.old d.new NoOtherCause (IsWide d.old.vars (IsLaid question.now.net question.now.care)) (2 * length question.now.net.gates) }
 {
-    let observed = observed_gates(alloc, net, observe)?;
+    let net = question.net();
+    let order = question.order();
+    let rails = found.rails.items();
+    let observed = observed_gates(alloc, net, question.observe())?;
     let first = net.inputs() + net.latches();
     let mut loose = 0;
     for gate in 0..net.gates() {
-        let unknown = unknown_on(d, set, rails[(first + gate) as usize])?;
+        let unknown = unknown_on(d, found.set, rails[(first + gate) as usize])?;
         if observed[gate as usize] {
             if let Some(vector) = least_of(alloc, d, order, unknown)? {
                 return Ok(Gates::Refused(Refusal::Undetermined {
@@ -120,24 +119,22 @@ pub(crate) fn gates_on(
 pub(crate) fn leaves(
     alloc: Global,
     d: &mut Diagrams,
-    net: &Netlist,
-    care: &Care,
-    order: &[u32],
-    rails: &[Rails],
-    set: Node,
+    question: &Question<'_>,
+    found: &Fixpoint,
 ) -> Result<Option<Refusal>, StoreFault>
-    requires vars { d.old.vars ≡ columns net.now }
-    requires order { order.now ≡ order_of net.now }
-    requires care { IsCareOf net.now care.now }
-    requires fixed { AreFixed net.now d.old rails.now }
-    requires set { Tells net.now d.old set (is_care_vector net.now care.now) }
-    requires loads { LoadsAreKnown net.now care.now }
-    ensures refusal { IfOk result (λ found. found ≡ leaves_refusal net.now care.now) }
-    ensures grows { GrowsInDecision result d.old d.new net.now care.now (leaving_cost net.now care.now) }
+    requires vars { d.old.vars ≡ columns question.now.net }
+    requires fixed { AreFixed question.now.net d.old found.now.rails }
+    requires set { Tells question.now.net d.old found.now.set (is_care_vector question.now.net question.now.care) }
+    requires loads { LoadsAreKnown question.now.net question.now.care }
+    ensures refusal { IfOk result (λ found. found ≡ leaves_refusal question.now.net question.now.care) }
+    ensures grows { GrowsInDecision result d.old d.new question.now.net question.now.care (leaving_cost question.now.net question.now.care) }
 {
-    let next = next_on(alloc, d, net, rails, set)?;
-    let inside = invariant_on(alloc, d, care, net.inputs(), &next)?;
-    let outside = minus(d, set, inside)?;
+    let net = question.net();
+    let order = question.order();
+    let rails = found.rails.items();
+    let next = next_on(alloc, d, net, rails, found.set)?;
+    let inside = invariant_on(alloc, d, question.care(), net.inputs(), &next)?;
+    let outside = minus(d, found.set, inside)?;
     let Some(vector) = least_of(alloc, d, order, outside)? else {
         return Ok(None);
     };

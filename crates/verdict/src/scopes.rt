@@ -2,21 +2,19 @@
 
 ghost use Rattle.std.specs.Prelude.{◌≡◌, ◌<◌, ◌≤◌, ◌-◌, ◌++◌, true, List, ℕ, not, length, map, All, Contains, IfOk, IfSome, IsSome};
 ghost use Rattle.netlist.specs.Netlists.{gate_sig, IsSignal};
-ghost use Rattle.loops.specs.Blocks.{AreBlocksOf};
 ghost use Rattle.care_sets.specs.Binding.{IsCareOf};
-ghost use Rattle.isolation.specs.Cones.{is_marked, ListsMarked};
-ghost use Rattle.clause_decision.specs.Scopes.{AreClosed, AreInScope, AreNeverUnknown, IsScopeOf};
+ghost use Rattle.isolation.specs.Cones.{ListsMarked};
+ghost use Rattle.clause_decision.specs.Scopes.{AreInScope, AreNeverUnknown, IsScopeOf};
 ghost use Rattle.verdict.specs.Determination.{SettleInOneSweep};
-ghost use Rattle.verdict.specs.Scopes.{AreDrivers};
+ghost use Rattle.verdict.specs.Scopes.{AreDrivers, IsScopedAt};
 
-use crate::alone::open_gates;
-use crate::behind::{mark_all, mark_downstream};
+use crate::behind::suspect_gates;
 use crate::search::Search;
 use care_sets::Care;
 use clause_decision::Scope;
 use cyc_base::{Items, Sig};
-use isolation::mark_upstream;
-use loops::Blocks;
+use isolation::{gates_at, upstream_of};
+use loops::LoopedNetlist;
 use netlist::Netlist;
 use std::alloc::{AllocError, Global};
 
@@ -44,54 +42,21 @@ fn others(alloc: Global, marks: &[bool]) -> Result<Vec<bool>, AllocError>
 /// The gates that are neither in a loop that isn't settled nor behind one: no Boolean vector leaves them unknown.
 pub(crate) fn known_gates(
     alloc: Global,
-    net: &Netlist,
-    blocks: &Blocks,
+    looped: &LoopedNetlist<'_>,
     settled: &[bool],
 ) -> Result<Vec<bool>, AllocError>
-    requires blocks { AreBlocksOf net.now blocks.now }
-    requires width { length settled.now ≡ length blocks.now.list }
-    requires settled { SettleInOneSweep net.now blocks.now settled.now }
-    ensures width { IfOk result (λ known. length known.items ≡ length net.now.gates) }
-    ensures known { IfOk result (λ known. AreNeverUnknown net.now known.items) }
+    requires width { length settled.now ≡ length looped.now.blocks.list }
+    requires settled { SettleInOneSweep looped.now.net looped.now.blocks settled.now }
+    ensures width { IfOk result (λ known. length known.items ≡ length looped.now.net.gates) }
+    ensures known { IfOk result (λ known. AreNeverUnknown looped.now.net known.items) }
 {
-    let _ = net.gates();
-    let mut marks = open_gates(alloc, blocks, settled)?;
-    mark_downstream(net, blocks, &mut marks);
-    others(alloc, &marks)
-}
-
-/// Marks these gates and all upstream of them.
-fn mark_cone(net: &Netlist, blocks: &Blocks, gates: &[u32], marks: &mut [bool])
-    requires blocks { AreBlocksOf net.now blocks.now }
-    requires gates { All (λ n. n < length net.now.gates) gates.now }
-    requires width { length marks.old ≡ length net.now.gates }
-    ensures width { length marks.new ≡ length net.now.gates }
-    ensures closed { AreClosed net.now marks.new }
-    ensures within { All (λ n. is_marked marks.new n ≡ true) gates.now }
-{
-    mark_all(gates, marks);
-    mark_upstream(net, blocks, marks);
-}
-
-/// The gates upstream of these, and these themselves, with their whole loops.
-fn upstream_of(
-    alloc: Global,
-    net: &Netlist,
-    blocks: &Blocks,
-    gates: &[u32],
-) -> Result<Vec<bool>, AllocError>
-    requires blocks { AreBlocksOf net.now blocks.now }
-    requires gates { All (λ n. n < length net.now.gates) gates.now }
-    ensures width { IfOk result (λ marks. length marks.items ≡ length net.now.gates) }
-    ensures closed { IfOk result (λ marks. AreClosed net.now marks.items) }
-    ensures within { IfOk result (λ marks. All (λ n. is_marked marks.items n ≡ true) gates.now) }
-{
-    let mut marks = vec![in alloc; false; net.gates() as usize]?;
-    mark_cone(net, blocks, gates, &mut marks);
-    Ok(marks)
+    let _ = looped.net().gates();
+    let suspects = suspect_gates(alloc, looped, settled)?;
+    others(alloc, &suspects)
 }
 
 /// The scope of a question about these gates.
+#[tactic(auto, using(crate::proofs::ScopeLemmas::cone_within))]
 pub(crate) fn scope_of(
     alloc: Global,
     search: &Search<'_>,
@@ -101,14 +66,42 @@ pub(crate) fn scope_of(
     ensures scope { IfOk result (IsScopeOf search.now.net) }
     ensures within { IfOk result (λ scope. AreInScope search.now.net scope gates.now) }
 {
-    let net = search.net();
-    let blocks = search.blocks();
-    let upstream = Items::of(upstream_of(alloc, net, blocks, gates)?);
-    let known = Items::of(known_gates(alloc, net, blocks, search.settled())?);
+    let looped = search.looped();
+    let upstream = Items::of(upstream_of(alloc, looped, gates)?);
+    let known = Items::of(known_gates(alloc, looped, search.settled())?);
     Ok(Scope {
         gates: upstream,
         known,
     })
+}
+
+/// A loop as a question about it takes it: its block by number, and what the clauses speak of.
+pub struct ScopedLoop {
+    pub block: u32,
+    pub scope: Scope,
+}
+
+impl Drop for ScopedLoop {
+    fn drop(self) {
+        let ScopedLoop { block: _, scope: _ } = self;
+    }
+}
+
+/// The loop at this place, whose gates the clauses speak of and all upstream of them.
+pub(crate) fn scoped_loop(
+    alloc: Global,
+    search: &Search<'_>,
+    place: usize,
+) -> Result<Option<ScopedLoop>, AllocError>
+    requires { place < length search.now.blocks.list }
+    ensures { IfOk result (λ found. IfSome found (IsScopedAt search.now.net search.now.blocks place)) }
+{
+    let Ok(block) = u32::try_from(place) else {
+        return Ok(None);
+    };
+    let gates = gates_at(search.looped(), place);
+    let scope = scope_of(alloc, search, gates)?;
+    Ok(Some(ScopedLoop { block, scope }))
 }
 
 /// The gate that drives a signal, if one does.

@@ -30,7 +30,7 @@ impl<'a> Model for Search<'a> {
 }
 
 impl<'a> Search<'a> {
-    ghost use Rattle.verdict.specs.Searches.{searched};
+    ghost use Rattle.verdict.specs.Searches.{looped_in, searched};
 
     /// A search that gives up after so many conflicts. The marks are those of blocks that are settled by themselves in one
     /// sweep, or are no loops.
@@ -52,6 +52,14 @@ impl<'a> Search<'a> {
             settled,
             conflicts,
         }
+    }
+
+    /// The netlist with its loops.
+    pub(crate) fn looped(&self) -> &'a LoopedNetlist<'a>
+        ensures looped { result.now ≡ looped_in self.now }
+        ensures is { IsSearched self.now }
+    {
+        self.looped
     }
 
     /// The netlist.

@@ -5,8 +5,7 @@ ghost use Rattle.bdd_store.specs.Arena.{root_at, IsNodeOf};
 ghost use Rattle.bdd_store.specs.Growth.{AddsWithin};
 ghost use Rattle.dual_rail.specs.Rails.{AreRailsOf, values_of};
 ghost use Rattle.dual_rail.specs.WorkingLists.{IsWide};
-ghost use Rattle.loops.specs.Blocks.{AreBlocksOf};
-ghost use Rattle.loops.specs.Cuts.{IsCutOf, loops_by};
+ghost use Rattle.loops.specs.Cuts.{loops_by};
 ghost use Rattle.loops.specs.Sweeps.{first_gate};
 ghost use Rattle.fixpoint.specs.Kept.{rails_under, AreKept, GainsRoots};
 ghost use Rattle.fixpoint.specs.Working.{IsWorking, HasLargeCover, effort};
@@ -17,8 +16,7 @@ use bdd_store::{Node, Root, StoreFault};
 use cyc_base::Items;
 use dual_rail::Rails;
 use fixpoint::{KeptRails, Solved, keep_rails, rails_of, solve};
-use loops::{Blocks, Cut};
-use netlist::Netlist;
+use loops::LoopedNetlist;
 use std::alloc::{AllocError, Global};
 
 /// Rails and a set of vectors, kept as roots.
@@ -73,24 +71,23 @@ fn keep_beside(
 pub fn solve_beside(
     alloc: Global,
     d: &mut Diagrams,
-    net: &Netlist,
-    blocks: &Blocks,
-    cut: &Cut,
+    looped: &LoopedNetlist<'_>,
     given: &[Rails],
     set: Node,
 ) -> Result<Fixpoint, StoreFault>
-    requires blocks { AreBlocksOf net.now blocks.now }
-    requires cut { IsCutOf net.now cut.now }
-    requires width { length given.now ≡ first_gate net.now }
+    requires width { length given.now ≡ first_gate looped.now.net }
     requires rails { All (AreRailsOf d.old) given.now }
     requires set { IsNodeOf d.old set }
-    ensures fixpoint { IfOk result (IsFixpointOn net.now blocks.now cut.now d.old d.new given.now set) }
+    ensures fixpoint { IfOk result (IsFixpointOn looped.now d.old d.new given.now set) }
     ensures vars { d.new.vars ≡ d.old.vars }
     ensures limit { d.new.limit ≡ d.old.limit }
-    ensures adds { AddsWithin result d.old d.new (HasLargeCover net.now) (IsWide d.old.vars (IsWorking net.now (loops_by blocks.now cut.now) (values_of d.old given.now))) (10 * (length net.now.gates + 2) * effort net.now) }
+    ensures adds { AddsWithin result d.old d.new (HasLargeCover looped.now.net) (IsWide d.old.vars (IsWorking looped.now.net (loops_by looped.now.blocks looped.now.cut) (values_of d.old given.now))) (10 * (length looped.now.net.gates + 2) * effort looped.now.net) }
 {
     d.store().laws();
     let Beside { rails, set: root } = keep_beside(alloc, d, given, set)?;
+    let net = looped.net();
+    let blocks = looped.blocks();
+    let cut = looped.cut();
     let solved = solve(alloc, d, net, blocks, cut, rails)?;
     let rails = rails_of(alloc, d, solved.rails.items())?;
     Ok(Fixpoint {

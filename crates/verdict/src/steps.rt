@@ -17,7 +17,7 @@ use cyc_base::{Bits, Trit};
 use netlist::Netlist;
 use refusals::Refusal;
 use std::alloc::{AllocError, Global};
-use ternary_run::tick;
+use ternary_run::{tick, trits_of};
 
 /// Whether a next state leaves the invariant.
 #[derive(Drop)]
@@ -28,13 +28,6 @@ pub enum Step {
     Leaves(Refusal),
     /// The solver gave up.
     Undecided,
-}
-
-/// A vector's values as ternary ones.
-fn trits_of(alloc: Global, vector: &[bool]) -> Result<Vec<Trit>, AllocError>
-    ensures { IfOk result (λ trits. trits.items ≡ bits vector.now) }
-{
-    vector.iter().map(|value| Trit::of(*value)).collect(alloc)
 }
 
 /// Whether a value is 1.

@@ -6,8 +6,7 @@ ghost use Rattle.refusals.specs.Refusals.{undetermined_refusal};
 ghost use Rattle.clause_decision.specs.Tests.{TellsFirstUnknown};
 ghost use Rattle.verdict.specs.Unknown.{AreAsked, AreSuspects, IsFirstToRefuse};
 
-use crate::alone::open_gates;
-use crate::behind::mark_downstream;
+use crate::behind::suspect_gates;
 use crate::observing::observed_gates;
 use crate::scopes::{marked_places, scope_of};
 use crate::search::Search;
@@ -66,9 +65,7 @@ fn suspects(alloc: Global, search: &Search<'_>, asked: &[bool]) -> Result<Vec<bo
     requires { length asked.now ≡ length search.now.net.gates }
     ensures { IfOk result (λ marks. AreSuspects search.now.net search.now.blocks search.now.settled asked.now marks.items) }
 {
-    let blocks = search.blocks();
-    let mut marks = open_gates(alloc, blocks, search.settled())?;
-    mark_downstream(search.net(), blocks, &mut marks);
+    let mut marks = suspect_gates(alloc, search.looped(), search.settled())?;
     keep_asked(asked, &mut marks);
     Ok(marks)
 }

@@ -5,11 +5,10 @@ ghost use Rattle.care_sets.specs.Care.{CareSet};
 ghost use Rattle.refusals.specs.Acceptance.{observed as observed_signals};
 ghost use Rattle.refusals.specs.Refusals.{undetermined_refusal};
 ghost use Rattle.clause_decision.specs.Tests.{TellEachUnknown};
-ghost use Rattle.verdict.specs.Loose.{AreAllSuspects, AreSpread, AreUnknownMarks, IsLooseNumber};
+ghost use Rattle.verdict.specs.Loose.{AreSpread, AreUnknownMarks, IsLooseNumber};
 ghost use Rattle.verdict.specs.Observed.{AreMarksOf};
 
-use crate::alone::open_gates;
-use crate::behind::mark_downstream;
+use crate::behind::suspect_gates;
 use crate::observing::observed_gates;
 use crate::scopes::{marked_places, scope_of};
 use crate::search::Search;
@@ -54,16 +53,6 @@ fn ask_gates(
     each_unknown(alloc, net, care, &scope, gates, search.conflicts())
 }
 
-/// The gates in loops that aren't settled, and behind them.
-fn all_suspects(alloc: Global, search: &Search<'_>) -> Result<Vec<bool>, AllocError>
-    ensures { IfOk result (λ marks. AreAllSuspects search.now.net search.now.blocks search.now.settled marks.items) }
-{
-    let blocks = search.blocks();
-    let mut marks = open_gates(alloc, blocks, search.settled())?;
-    mark_downstream(search.net(), blocks, &mut marks);
-    Ok(marks)
-}
-
 /// Marks of the gates that are unknown at some care vector, or none where the solver gave up.
 pub(crate) fn unknown_gates(
     alloc: Global,
@@ -71,8 +60,7 @@ pub(crate) fn unknown_gates(
 ) -> Result<Option<Vec<bool>>, AllocError>
     ensures { IfOk result (λ found. IfSome found (λ marks. AreUnknownMarks search.now.net search.now.care marks.items)) }
 {
-    let _ = search.net();
-    let marks = all_suspects(alloc, search)?;
+    let marks = suspect_gates(alloc, search.looped(), search.settled())?;
     let gates = marked_places(alloc, &marks)?;
     let Some(found) = ask_gates(alloc, search, &gates)? else {
         return Ok(None);

@@ -1,5 +1,5 @@
 use Rattle.std.proofs.Common.{subst}
-use Rattle.verdict.proofs.Common.{eqb-true, Parts, Blocks, block_at}
+use Rattle.verdict.proofs.Common.{eqb-true, block_at}
 use Rattle.isolation.specs.Settled.{SettleInSweeps}
 use Rattle.verdict.proofs.alone.is_settled.Goals as goal
 
@@ -7,9 +7,6 @@ pub returns-in-Some : goal.returns-in-Some
 returns-in-Some c one looped =
     let l = c.args.looped.now in
     let sweeps = c.in-Some.sweeps in
-    let settled : SettleInSweeps c.net.result.now (block_at c.blocks-blocks.result.now c.in-Ok.number).gates sweeps = rw c.in-Some.is at c.in_ok-sweeps.ensures.settled in
-    let here : SettleInSweeps l.net (block_at l.blocks c.in-Ok.number).gates sweeps =
-    subst (λ (net : Parts). SettleInSweeps net (block_at l.blocks c.in-Ok.number).gates sweeps) c.net.ensures.net
-    (subst (λ (blocks : Blocks). SettleInSweeps c.net.result.now (block_at blocks c.in-Ok.number).gates sweeps) c.blocks-blocks.ensures.blocks settled) in
+    let settled : SettleInSweeps l.net (block_at l.blocks c.in-Ok.number).gates sweeps = rw c.in-Some.is at c.in_ok-sweeps.ensures.settled in
     subst (SettleInSweeps l.net (block_at l.blocks c.args.place).gates) (eqb-true sweeps 1 one)
-    (subst (λ b. SettleInSweeps l.net (block_at l.blocks b).gates sweeps) c.in-Ok.ensures.1 here)
+    (subst (λ b. SettleInSweeps l.net (block_at l.blocks b).gates sweeps) c.in-Ok.ensures.1 settled)

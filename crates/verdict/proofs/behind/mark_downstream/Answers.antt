@@ -1,15 +1,20 @@
-use Rattle.std.proofs.Common.{length, ap, arith}
+use Rattle.std.proofs.Common.{◌∙◌, length, ap, subst, arith}
+use Rattle.verdict.proofs.Common.{Parts, Blocks, AddMarks}
+use Rattle.verdict.specs.Behind.{IsReached}
 use Rattle.verdict.proofs.BehindLemmas.{marked-more, marked-all}
 use Rattle.verdict.proofs.behind.mark_downstream.Goals as goal
 
 pub loop-place-preserved : goal.loop-place-preserved
 loop-place-preserved c =
-    let end = ap (λ xs. length xs) c.items-place-end.ensures in
+    let l = c.args.looped.now in
+    let end = ap length c.items-place-end.ensures ∙ ap (λ (blocks : Blocks). length blocks.list) c.blocks-2.ensures.blocks in
     let less = c.loop-place-test.true in
-    marked-more c.args.net.now c.args.blocks.now c.requires.blocks c.args.marks.now c.loop-place.place c.gates_at.result.now c.loop-place.marks c.mark_reached.new.marks (omega (arith, end, less)) c.gates_at.ensures.is c.loop-place.invariant c.mark_reached.ensures
+    marked-more l.net l.blocks c.blocks-2.ensures.looped.blocks c.args.marks.now c.loop-place.place c.gates_at.result.now c.loop-place.marks c.mark_reached.new.marks (omega (arith, end, less)) c.gates_at.ensures.is c.loop-place.invariant
+    (subst (λ (net : Parts). AddMarks (IsReached net c.gates_at.result.now c.loop-place.marks) c.loop-place.marks c.mark_reached.new.marks) c.net.ensures.net c.mark_reached.ensures)
 
 pub returns : goal.returns
 returns c =
-    let end = ap (λ xs. length xs) c.items-place-end.ensures in
+    let l = c.args.looped.now in
+    let end = ap length c.items-place-end.ensures ∙ ap (λ (blocks : Blocks). length blocks.list) c.blocks-2.ensures.blocks in
     let all = c.loop-place-test.false in
-    marked-all c.args.net.now c.args.blocks.now c.requires.blocks c.args.marks.now c.loop-place.place c.loop-place.marks (omega (arith, end, all)) c.loop-place.invariant
+    marked-all l.net l.blocks c.blocks-2.ensures.looped.blocks c.args.marks.now c.loop-place.place c.loop-place.marks (omega (arith, end, all)) c.loop-place.invariant

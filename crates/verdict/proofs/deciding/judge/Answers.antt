@@ -10,20 +10,20 @@ pub judge_whole-requires-clause-columns : goal.judge_whole-requires-clause-colum
 judge_whole-requires-clause-columns c = AreColumns-kept c.begin.ensures.grows.keeps c.requires.columns
 
 pub judge_whole-requires-clause-start : goal.judge_whole-requires-clause-start
-judge_whole-requires-clause-start c = subst (IsStart c.args.net.now c.args.care.now c.begin.new.d) c.in-Care.is c.in_ok-set.ensures.start
+judge_whole-requires-clause-start c = subst (IsStart c.args.question.now.net c.args.question.now.care c.begin.new.d) c.in-Care.is c.in_ok-set.ensures.start
 
 -- what the beginning adds
-beginning : (c : After-begin) → AddsInDecision c.begin.result c.args.d.now c.begin.new.d c.args.net.now c.args.care.now (start_cost c.args.net.now c.args.care.now)
-beginning c = adds_caused (λ over. inr over) (adds_moved (λ w wide. subst (λ n. IsWide n (IsLaid c.args.net.now c.args.care.now) w) (sym c.requires.vars) wide) c.begin.ensures.grows.adds)
+beginning : (c : After-begin) → AddsInDecision c.begin.result c.args.d.now c.begin.new.d c.args.question.now.net c.args.question.now.care (start_cost c.args.question.now.net c.args.question.now.care)
+beginning c = adds_caused (λ over. inr over) (adds_moved (λ w wide. subst (λ n. IsWide n (IsLaid c.args.question.now.net c.args.question.now.care) w) (sym c.requires.vars) wide) c.begin.ensures.grows.adds)
 
 pub returns-in_err-set-clause-adds : goal.returns-in_err-set-clause-adds
 returns-in_err-set-clause-adds g =
-    adds_more (let e : start_cost g.args.net.now g.args.care.now + 0 ≤ start_cost g.args.net.now g.args.care.now + whole_cost g.args.net.now g.args.care.now = omega arith in omega (arith, e))
+    adds_more (let e : start_cost g.args.question.now.net g.args.question.now.care + 0 ≤ start_cost g.args.question.now.net g.args.question.now.care + whole_cost g.args.question.now.net g.args.question.now.care = omega arith in omega (arith, e))
     (adds_refused g.in_err-set.was g.from_residual.ensures.1 (beginning (goal.at.returns-in_err-set-clause-adds g).After-begin))
 
 pub returns-in-Refused-clause-adds : goal.returns-in-Refused-clause-adds
 returns-in-Refused-clause-adds g =
-    adds_more (let e : start_cost g.args.net.now g.args.care.now + 0 ≤ start_cost g.args.net.now g.args.care.now + whole_cost g.args.net.now g.args.care.now = omega arith in omega (arith, e))
+    adds_more (let e : start_cost g.args.question.now.net g.args.question.now.care + 0 ≤ start_cost g.args.question.now.net g.args.question.now.care + whole_cost g.args.question.now.net g.args.question.now.care = omega arith in omega (arith, e))
     (adds_answered (beginning (goal.at.returns-in-Refused-clause-adds g).After-begin))
 
 pub returns-in-Care-clause-adds : goal.returns-in-Care-clause-adds

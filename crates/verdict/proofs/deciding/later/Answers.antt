@@ -12,16 +12,16 @@ pub leaves-requires-clause-fixed : goal.leaves-requires-clause-fixed
 leaves-requires-clause-fixed c = AreFixed-kept c.gates_on.ensures.grows.keeps c.requires.fixed
 
 -- where no observed gate is unknown on care
-gates-stand : (c : In-Determined) → (undetermined_refusal c.args.net.now c.args.care.now c.args.observe ≡ None) × AreLoose c.args.net.now c.args.care.now c.in-Determined.loose
+gates-stand : (c : In-Determined) → (undetermined_refusal c.args.question.now.net c.args.question.now.care c.args.question.now.what ≡ None) × AreLoose c.args.question.now.net c.args.question.now.care c.in-Determined.loose
 gates-stand c =
-    subst (StandSo (undetermined_refusal c.args.net.now c.args.care.now c.args.observe) c.args.net.now c.args.care.now) c.in-Determined.is (c.in_ok-gates.ensures.gates c.args.care.now c.requires.set)
+    subst (StandSo (undetermined_refusal c.args.question.now.net c.args.question.now.care c.args.question.now.what) c.args.question.now.net c.args.question.now.care) c.in-Determined.is c.in_ok-gates.ensures.gates
 
 pub returns-in-Refused-clause-gates : goal.returns-in-Refused-clause-gates
 returns-in-Refused-clause-gates c =
-    let net = c.args.net.now in
-    let care = c.args.care.now in
-    let is : undetermined_refusal net care c.args.observe ≡ Some c.in-Refused.refusal =
-    subst (StandSo (undetermined_refusal net care c.args.observe) net care) c.in-Refused.is (c.in_ok-gates.ensures.gates care c.requires.set) in
+    let net = c.args.question.now.net in
+    let care = c.args.question.now.care in
+    let is : undetermined_refusal net care c.args.question.now.what ≡ Some c.in-Refused.refusal =
+    subst (StandSo (undetermined_refusal net care c.args.question.now.what) net care) c.in-Refused.is c.in_ok-gates.ensures.gates in
     ap (λ o. option_or o (leaves_refusal net care)) is
 
 pub returns-in-Some-clause-gates : goal.returns-in-Some-clause-gates
@@ -37,15 +37,15 @@ returns-in-None-clause-gates g =
 pub leaves-requires-clause-loads : goal.leaves-requires-clause-loads
 leaves-requires-clause-loads g v counts =
     let c : In-Determined = (goal.at.leaves-requires-clause-loads g).In-Determined in
-    sources_determined c.args.net.now c.args.care.now c.args.observe v c.gates_on.ensures.valid (gates-stand c).0 counts
+    sources_determined c.args.question.now.net c.args.question.now.care c.args.question.now.what v c.gates_on.ensures.valid (gates-stand c).0 counts
 
 -- ---- what it does to the diagrams, call by call
 
-after-gates : (c : After-gates_on) → GrowsInDecision c.gates_on.result c.args.d.now c.gates_on.new.d c.args.net.now c.args.care.now (2 * length c.args.net.now.gates)
-after-gates c = within_only (within_moved (λ w wide. record { care = c.args.care.now; told = c.requires.set; wide = wide }) c.gates_on.ensures.grows)
+after-gates : (c : After-gates_on) → GrowsInDecision c.gates_on.result c.args.d.now c.gates_on.new.d c.args.question.now.net c.args.question.now.care (2 * length c.args.question.now.net.gates)
+after-gates c = within_only c.gates_on.ensures.grows
 
-after-leaves : (c : After-leaves) → GrowsInDecision c.gates_on.result c.args.d.now c.gates_on.new.d c.args.net.now c.args.care.now (2 * length c.args.net.now.gates) →
-    GrowsInDecision c.leaves.result c.args.d.now c.leaves.new.d c.args.net.now c.args.care.now (later_cost c.args.net.now c.args.care.now)
+after-leaves : (c : After-leaves) → GrowsInDecision c.gates_on.result c.args.d.now c.gates_on.new.d c.args.question.now.net c.args.question.now.care (2 * length c.args.question.now.net.gates) →
+    GrowsInDecision c.leaves.result c.args.d.now c.leaves.new.d c.args.question.now.net c.args.question.now.care (later_cost c.args.question.now.net c.args.question.now.care)
 after-leaves c before = within_then before (within_moved (λ w wide. wide-kept before.keeps wide) c.leaves.ensures.grows)
 
 pub returns-in_err-gates-clause-grows : goal.returns-in_err-gates-clause-grows
