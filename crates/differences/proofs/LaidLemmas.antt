@@ -1,7 +1,6 @@
 -- Functions that are made of those of a comparison, where the columns are laid on the variables in some order.
-use Rattle.std.proofs.Common.{◌≡◌, inl, inr, ℕ, ◌<◌, ◌≤◌, Bool, true, false, ◌&&◌, List, length, refl, sym, ap, ap₂, subst, ◌∙◌, arith}
+use Rattle.std.proofs.Common.{◌≡◌, inl, inr, ℕ, ◌<◌, ◌≤◌, Bool, true, false, ◌&&◌, ◌⊎◌, List, length, refl, sym, ap, ap₂, subst, ◌∙◌, arith}
 use Rattle.std.specs.Prelude.{IfSome}
-use Rattle.std.proofs.lemmas.List.{get_or-map}
 use Rattle.bdd_store.specs.declared.node.Node.{Node}
 use Rattle.bdd_store.specs.Arena.{Arena, den}
 use Rattle.bdd_store.specs.Subfunctions.{nodes}
@@ -9,7 +8,6 @@ use Rattle.bdd_store.proofs.SubfunctionLemmas.{nodes-alike}
 use Rattle.bdd_ops.specs.Least.{IsLayout, by_variable}
 use Rattle.bdd_ops.specs.Operations.{bit_at, conjunction}
 use Rattle.cyc_base.specs.declared.trit.Trit.{Trit}
-use Rattle.cyc_base.specs.declared.trit.Trit.TheVariants.{X}
 use Rattle.cyc_base.specs.Values.{bit, bits}
 use Rattle.dual_rail.specs.declared.rail.Rails.{Rails}
 use Rattle.dual_rail.specs.Rails.{AreRailsOf, value_of}
@@ -21,21 +19,18 @@ use Rattle.netlist.specs.Netlists.{count}
 use Rattle.loops.specs.Cuts.{Loops}
 use Rattle.loops.specs.Found.{loops_of}
 use Rattle.loops.specs.Sweeps.{value_in}
-use Rattle.loops.proofs.Existence.{loops_exist}
 use Rattle.fixpoint.specs.Solved.{Vectors}
 use Rattle.fixpoint.specs.Sweeping.{rails_at}
-use Rattle.fixpoint.specs.Working.{IsGatePart, IsWorking}
+use Rattle.fixpoint.specs.Working.{IsWorking}
 use Rattle.fixpoint.proofs.CutLemmas.{one-of, zero-of}
 use Rattle.fixpoint.proofs.LayoutLemmas.{by_column, length-by_column, columns-back, variables-back}
 use Rattle.fixpoint.proofs.WireLemmas.{rails_at-proper}
-use Rattle.fixpoint.proofs.WorkLemmas.{fix_is_working, gate_parts_agree}
 use Rattle.care_sets.specs.declared.model.CareModel.{CareModel}
 use Rattle.care_sets.specs.Care.{CareSet, columns, state_of, is_care_vector}
-use Rattle.refusals.proofs.RefusalLemmas.{length-bits}
+use Rattle.isolation.proofs.WorkingLemmas.{IsOfColumn, IsOfGate, column-bit, working-is}
 use Rattle.verdict.specs.Enough.{IsOfModel}
-use Rattle.verdict.specs.Solving.{fit}
 use Rattle.verdict.proofs.CareLemmas.{value_at-place}
-use Rattle.verdict.proofs.CountLemmas.{length-fit, fit-whole}
+use Rattle.verdict.proofs.SignalLemmas.{signal-is}
 use Rattle.verdict.proofs.WorkLemmas.{says, says-own, says-of, there_each, there_and}
 use Rattle.differences.specs.Comparisons.{IsOfComparison, IsLaidBy, IsColumn, SaysCare, IsOfNetlist, IsOfAssumption, IsOfInvariant}
 use Rattle.differences.specs.Sets.{TellsBy, AreFixedBy, BoundsAbove, is_above}
@@ -54,51 +49,15 @@ IsMade order net care g = IsMadeOf net care (λ v. g (by_variable order v))
 pub made-listed : {net : Parts} {care : CareSet} {f h : List Bool → Bool} → IsOfComparison net care f → ((v : List Bool) → length v ≡ columns net → h v ≡ f v) → IsMadeOf net care h
 made-listed {f = f} is same = record { of = f; listed = is; by = λ x. x; same = same }
 
--- a function that a gate works with, of other vectors
-part-at : (net : Parts) (loops : Loops) (v : Vectors) (g : List Bool → Bool) → IsGatePart net loops v g → (f : List Bool → List Bool) → IsGatePart net loops (λ x. v (f x)) (λ x. g (f x))
-part-at net loops v g part f = record {
-  gate = part.gate;
-  within = part.within;
-  first = part.first;
-  short = part.short;
-  bit = part.bit;
-  read = λ x. part.read (f x);
-  reads = elim part.reads [
-    | inl r ↦ inl (record { looped = r.looped; sweep = r.sweep; few = r.few; is = λ x. r.is (f x) })
-    | inr r ↦ inr (record { plain = r.plain; is = λ x. r.is (f x) })
-  ];
-  same = λ x. part.same (f x);
-}
-
 -- ---- signals at the fixpoint
 
-module _ (net : Parts) (care : CareSet) where
-  abbrev fitted : List Bool → List Trit
-  fitted v = bits (fit (columns net) v)
+-- a column, and what a gate works with
+made-working : {net : Parts} {care : CareSet} {h : List Bool → Bool} → IsOfColumn net h ⊎ IsOfGate net h → IsMadeOf net care h
+made-working (inl c) = record { of = bit_at c.column; listed = IsColumn c.column c.within (λ v. refl); by = λ x. is_bit c.bit (bit x); same = column-bit c }
+made-working (inr g) = made-listed (IsOfNetlist g.is) g.same
 
-  at-width : (v : List Bool) → length v ≡ columns net → bits v ≡ fitted v
-  at-width v long = ap bits (sym (fit-whole (columns net) v long))
-
-  made-signal : (signal : ℕ) → signal < count net → (b : Bool) → IsMadeOf net care (λ v. is_bit b (value_in (fix net (bits v)) signal))
-  made-signal signal within b =
-      let work : IsWorking net (loops_of net) fitted (λ v. is_bit b (value_in (fix net (fitted v)) signal)) =
-      fix_is_working net (loops_of net) (loops_exist net) fitted (λ v. length-bits (fit (columns net) v) ∙ length-fit (columns net) v) signal within b in
-      elim work [
-        | inl given ↦ record {
-          of = bit_at given.signal;
-          listed = IsColumn given.signal given.within (λ v. refl);
-          by = λ x. is_bit given.bit (bit x);
-          same = λ v long.
-              let low = given.within in
-              ap (λ (u : List Trit). is_bit b (value_in (fix net u) signal)) (at-width v long)
-              ∙ given.same v
-              ∙ ap (λ (u : List Trit). is_bit given.bit (value_in u given.signal)) (sym (at-width v long))
-              ∙ ap (is_bit given.bit) (get_or-map bit v given.signal false X (omega (arith, low, long)));
-        }
-        | inr part ↦
-            let h = gate_parts_agree net (loops_of net) (columns net) fitted bits (λ v long. sym (at-width v long)) (λ v. is_bit b (value_in (fix net (fitted v)) signal)) part in
-            made-listed (IsOfNetlist h.is) (λ v long. ap (λ (u : List Trit). is_bit b (value_in (fix net u) signal)) (at-width v long) ∙ h.alike v long)
-      ]
+made-signal : (net : Parts) (care : CareSet) (signal : ℕ) → signal < count net → (b : Bool) → IsMadeOf net care (λ v. is_bit b (value_in (fix net (bits v)) signal))
+made-signal net care signal within b = made-working (signal-is net signal within b)
 
 -- ---- the columns are laid in this order
 
@@ -164,19 +123,7 @@ module _ (order : List ℕ) (net : Parts) (care : CareSet) (layout : IsLayout (c
 
     module _ (points : Vectors) (are : (v : List Bool) → length v ≡ columns net → points (by_variable order v) ≡ bits v) where
       working-made : (g : List Bool → Bool) → IsWorking net (loops_of net) points g → IsMade order net care g
-      working-made g (inl rail) = record {
-        of = bit_at rail.signal;
-        listed = IsColumn rail.signal rail.within (λ v. refl);
-        by = λ x. is_bit rail.bit (bit x);
-        same = λ v long.
-            let low = rail.within in
-            rail.same (by_variable order v)
-            ∙ ap (λ (ts : List Trit). is_bit rail.bit (value_in ts rail.signal)) (are v long)
-            ∙ ap (is_bit rail.bit) (get_or-map bit v rail.signal false X (omega (arith, low, long)));
-      }
-      working-made g (inr part) =
-          let h = gate_parts_agree net (loops_of net) (columns net) (λ v. points (by_variable order v)) bits (λ v long. are v long) (λ v. g (by_variable order v)) (part-at net (loops_of net) points g part (by_variable order)) in
-          made-listed (IsOfNetlist h.is) h.alike
+      working-made g is = made-working (working-is net points (by_variable order) are g is)
 
       pub working-wide : (loops : Loops) → loops ≡ loops_of net → IsWide n (IsWorking net loops points) w
       working-wide loops is =

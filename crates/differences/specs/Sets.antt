@@ -14,6 +14,7 @@ use Rattle.netlist.specs.Fixpoint.{fix}
 use Rattle.fixpoint.specs.Sweeping.{rails_at}
 use Rattle.verdict.specs.Sets.{BoundsBoth}
 use Rattle.clause_decision.specs.declared.pairs.Pair.{Pair}
+use Rattle.differences.specs.declared.parting.ComparedRails.{ComparedRails}
 
 -- the node is true at the vectors that pass the test
 pub record TellsBy (order : List ℕ) (a : Arena) (n : Node) (test : List Bool → Bool) : Type 0 where
@@ -27,6 +28,12 @@ pub record AreFixedBy (order : List ℕ) (net : Parts) (a : Arena) (rails : List
   pub values : (v : List Bool) → length v ≡ a.vars → values_of a rails (by_variable order v) ≡ fix net (bits v)
 
 -- ---- where two rails differ
+
+-- the set and both rails are those of diagrams
+pub record AreComparedIn (a : Arena) (compared : ComparedRails) : Type 0 where
+  pub set : IsNodeOf a compared.set
+  pub here : AreRailsOf a compared.here
+  pub there : AreRailsOf a compared.there
 
 -- in the set the first is 1 and the second 0
 abbrev pub is_above : Arena → Node → Rails → Rails → List Bool → Bool

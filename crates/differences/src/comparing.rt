@@ -6,8 +6,6 @@ ghost use Rattle.bdd_ops.specs.Least.{IsLayout};
 ghost use Rattle.dual_rail.specs.WorkingLists.{IsWide};
 ghost use Rattle.care_sets.specs.Binding.{IsCareOf};
 ghost use Rattle.care_sets.specs.Care.{columns, is_care_vector};
-ghost use Rattle.loops.specs.Blocks.{AreBlocksOf};
-ghost use Rattle.loops.specs.Cuts.{IsCutOf};
 ghost use Rattle.isolation.specs.Columns.{AreColumns};
 ghost use Rattle.verdict.specs.Causes.{IsOutOfNodes};
 ghost use Rattle.differences.specs.Comparisons.{AddsInComparison, IsBelowEnoughFor, IsFullFor, IsLaidBy, pairs_cost, whole_cost};
@@ -25,8 +23,7 @@ use clause_decision::Pair;
 use cyc_base::{Bits, MAX_NODES};
 use dual_rail::Rails;
 use isolation::column_rails;
-use loops::{Blocks, Cut, LoopedNetlist};
-use netlist::Netlist;
+use loops::LoopedNetlist;
 use std::alloc::Global;
 use verdict::{DecideFault, Fixpoint, solve_beside};
 
@@ -70,11 +67,9 @@ fn compare_columns(
     ensures adds { AddsInComparison result d.old d.new comparison.now.order.now comparison.now.looped.now.net comparison.now.care.now (whole_cost comparison.now.looped.now.net comparison.now.care.now comparison.now.pairs.now) }
 {
     let net = comparison.looped.net();
-    let blocks = comparison.looped.blocks();
-    let cut = comparison.looped.cut();
     let set = care_on(alloc, d, net, comparison.care, rails)?;
     d.store().laws();
-    let found = solve_beside(alloc, d, net, blocks, cut, rails, set)?;
+    let found = solve_beside(alloc, d, comparison.looped, rails, set)?;
     compare_solved(alloc, d, comparison, &found)
 }
 
@@ -103,36 +98,32 @@ fn compare_on(
 /// laid on the variables in that order: G are the gates of the netlist and of both care models, E is their effort, and V
 /// is the number of columns. Nothing more is said of the diagrams after the call.
 ///
-/// The condition is that blocks, cut and care are the netlist's, that the order has each column once, that the wires of
-/// each pair are the netlist's, and that the limit is at most 50,000,000.
+/// The condition is that the care set is the netlist's, that the order has each column once, that the wires of each pair
+/// are the netlist's, and that the limit is at most 50,000,000.
 pub fn least_apart(
     alloc: Global,
     d: &mut Diagrams,
-    net: &Netlist,
-    blocks: &Blocks,
-    cut: &Cut,
+    looped: &LoopedNetlist<'_>,
     care: &Care,
     order: &[u32],
     pairs: &[Pair],
     limit: u32,
 ) -> Result<Option<Bits>, DecideFault>
-    requires blocks { AreBlocksOf net.now blocks.now }
-    requires cut { IsCutOf net.now cut.now }
-    requires care { IsCareOf net.now care.now }
-    requires order { IsLayout (columns net.now) order.now }
-    requires pairs { All (IsPairOf net.now) pairs.now }
+    requires care { IsCareOf looped.now.net care.now }
+    requires order { IsLayout (columns looped.now.net) order.now }
+    requires pairs { All (IsPairOf looped.now.net) pairs.now }
     requires limit { limit ≤ MAX_NODES }
-    ensures found { IfOk result (λ vector. vector ≡ least_apart_of net.now care.now pairs.now) }
+    ensures found { IfOk result (λ vector. vector ≡ least_apart_of looped.now.net care.now pairs.now) }
     ensures fault { IfErr result (λ fault. (fault ≡ DecideFault.Memory) ⊎ (fault ≡ DecideFault.NodeLimit limit)) }
-    ensures cause { result ≡ Err (DecideFault.NodeLimit limit) → IsOutOfNodes d.new net.now care.now limit }
-    ensures below { result ≡ Err (DecideFault.NodeLimit limit) → IsBelowEnoughFor order.now net.now care.now pairs.now limit }
+    ensures cause { result ≡ Err (DecideFault.NodeLimit limit) → IsOutOfNodes d.new looped.now.net care.now limit }
+    ensures below { result ≡ Err (DecideFault.NodeLimit limit) → IsBelowEnoughFor order.now looped.now.net care.now pairs.now limit }
 {
+    let net = looped.net();
     if d.start(net.inputs() + net.latches(), limit).is_err() {
         return Err(DecideFault::Memory);
     }
-    let looped = LoopedNetlist::new(net, blocks, cut);
     let comparison = Comparison {
-        looped: &looped,
+        looped,
         care,
         order,
         pairs,

@@ -6,7 +6,7 @@ ghost use Rattle.bdd_store.specs.Growth.{GrowsWithin, NoOtherCause};
 ghost use Rattle.bdd_ops.specs.Least.{IsLayout, by_variable};
 ghost use Rattle.cyc_base.specs.Vectors.{vectors};
 ghost use Rattle.dual_rail.specs.Rails.{AreRailsOf};
-ghost use Rattle.differences.specs.Sets.{is_above, differ, some_differ, HasRails, BoundsAbove, BoundsPair, BoundsPairs};
+ghost use Rattle.differences.specs.Sets.{is_above, differ, some_differ, AreComparedIn, HasRails, BoundsAbove, BoundsPair, BoundsPairs};
 
 use crate::lesser::lesser;
 use bdd_ops::Diagrams;
@@ -16,57 +16,60 @@ use dual_rail::Rails;
 use std::alloc::Global;
 use verdict::least_of;
 
-/// The vectors of a set at which the first rails are 1 and the second 0.
-fn above(d: &mut Diagrams, set: Node, here: Rails, there: Rails) -> Result<Node, StoreFault>
-    requires set { IsNodeOf d.old set }
-    requires here { AreRailsOf d.old here }
-    requires there { AreRailsOf d.old there }
-    ensures node { IfOk result (IsNodeOf d.new) }
-    ensures function { IfOk result (λ n. (v : List Bool) → den d.new n v ≡ is_above d.old set here there v) }
-    ensures grows { GrowsWithin result d.old d.new NoOtherCause (BoundsAbove d.old set here there) 2 }
-{
-    let both = d.and(here.one, there.zero)?;
-    Ok(d.and(set, both)?)
+/// Two rails, and the set of vectors at which they are compared.
+#[derive(Clone, Copy, Drop)]
+pub struct ComparedRails {
+    pub set: Node,
+    pub here: Rails,
+    pub there: Rails,
 }
 
-/// The least vector of a set at which the first rails are 1 and the second 0. `order` has the column of each variable.
+/// The vectors of the set at which the first rails are 1 and the second 0.
+fn above(d: &mut Diagrams, compared: ComparedRails) -> Result<Node, StoreFault>
+    requires { AreComparedIn d.old compared }
+    ensures node { IfOk result (IsNodeOf d.new) }
+    ensures function { IfOk result (λ n. (v : List Bool) → den d.new n v ≡ is_above d.old compared.set compared.here compared.there v) }
+    ensures grows { GrowsWithin result d.old d.new NoOtherCause (BoundsAbove d.old compared.set compared.here compared.there) 2 }
+{
+    let both = d.and(compared.here.one, compared.there.zero)?;
+    Ok(d.and(compared.set, both)?)
+}
+
+/// The least vector of the set at which the first rails are 1 and the second 0. `order` has the column of each variable.
 fn least_above(
     alloc: Global,
     d: &mut Diagrams,
     order: &[u32],
-    set: Node,
-    here: Rails,
-    there: Rails,
+    compared: ComparedRails,
 ) -> Result<Option<Vec<bool>>, StoreFault>
     requires layout { IsLayout d.old.vars order.now }
-    requires set { IsNodeOf d.old set }
-    requires here { AreRailsOf d.old here }
-    requires there { AreRailsOf d.old there }
-    ensures least { IfOk result (λ found. option_map (λ v. v.items) found ≡ find (λ v. is_above d.old set here there (by_variable order.now v)) (vectors d.old.vars)) }
-    ensures grows { GrowsWithin result d.old d.new NoOtherCause (BoundsAbove d.old set here there) 2 }
+    requires compared { AreComparedIn d.old compared }
+    ensures least { IfOk result (λ found. option_map (λ v. v.items) found ≡ find (λ v. is_above d.old compared.set compared.here compared.there (by_variable order.now v)) (vectors d.old.vars)) }
+    ensures grows { GrowsWithin result d.old d.new NoOtherCause (BoundsAbove d.old compared.set compared.here compared.there) 2 }
 {
-    let node = above(d, set, here, there)?;
+    let node = above(d, compared)?;
     Ok(least_of(alloc, d, order, node)?)
 }
 
-/// The least vector of a set at which one of two rails is 1 and the other 0.
+/// The least vector of the set at which one of the rails is 1 and the other 0.
 fn least_of_pair(
     alloc: Global,
     d: &mut Diagrams,
     order: &[u32],
-    set: Node,
-    here: Rails,
-    there: Rails,
+    compared: ComparedRails,
 ) -> Result<Option<Vec<bool>>, StoreFault>
     requires layout { IsLayout d.old.vars order.now }
-    requires set { IsNodeOf d.old set }
-    requires here { AreRailsOf d.old here }
-    requires there { AreRailsOf d.old there }
-    ensures least { IfOk result (λ found. option_map (λ v. v.items) found ≡ find (λ v. differ d.old set here there (by_variable order.now v)) (vectors d.old.vars)) }
-    ensures grows { GrowsWithin result d.old d.new NoOtherCause (BoundsPair d.old set here there) 4 }
+    requires compared { AreComparedIn d.old compared }
+    ensures least { IfOk result (λ found. option_map (λ v. v.items) found ≡ find (λ v. differ d.old compared.set compared.here compared.there (by_variable order.now v)) (vectors d.old.vars)) }
+    ensures grows { GrowsWithin result d.old d.new NoOtherCause (BoundsPair d.old compared.set compared.here compared.there) 4 }
 {
-    let above = least_above(alloc, d, order, set, here, there)?;
-    let below = least_above(alloc, d, order, set, there, here)?;
+    let turned = ComparedRails {
+        set: compared.set,
+        here: compared.there,
+        there: compared.here,
+    };
+    let above = least_above(alloc, d, order, compared)?;
+    let below = least_above(alloc, d, order, turned)?;
     Ok(lesser(above, below))
 }
 
@@ -91,9 +94,12 @@ pub(crate) fn least_of_pairs(
 {
     let mut least = None;
     for pair in pairs {
-        let here = rails[pair.here.0 as usize];
-        let there = rails[pair.there.0 as usize];
-        let found = least_of_pair(alloc, d, order, set, here, there)?;
+        let compared = ComparedRails {
+            set,
+            here: rails[pair.here.0 as usize],
+            there: rails[pair.there.0 as usize],
+        };
+        let found = least_of_pair(alloc, d, order, compared)?;
         least = lesser(least, found);
     }
     Ok(least)

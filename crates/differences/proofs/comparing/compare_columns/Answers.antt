@@ -24,7 +24,7 @@ pub care_on-requires-clause-rails : goal.care_on-requires-clause-rails
 care_on-requires-clause-rails c = c.requires.columns.proper
 
 pub solve_beside-requires-clause-width : goal.solve_beside-requires-clause-width
-solve_beside-requires-clause-width c = c.requires.columns.width ∙ c.requires.vars ∙ ap columns (sym c.net-net.ensures.net)
+solve_beside-requires-clause-width c = c.requires.columns.width ∙ c.requires.vars
 
 pub solve_beside-requires-clause-rails : goal.solve_beside-requires-clause-rails
 solve_beside-requires-clause-rails c = All-rails-kept c.care_on.ensures.grows.keeps c.args.rails.now c.requires.columns.proper
@@ -53,7 +53,7 @@ compare_solved-requires-clause-fixed g =
     let at = goal.at.compare_solved-requires-clause-fixed g in
     let net = g.args.comparison.now.looped.now.net in
     let vars = care-vars at.After-care_on in
-    let found = rw (g.net-net.ensures.net, g.blocks-blocks.ensures.blocks, g.cut-cut.ensures.cut) at g.in_ok-found.ensures.fixpoint in
+    let found = g.in_ok-found.ensures.fixpoint in
     subst (AreFixedBy g.args.comparison.now.order.now net g.solve_beside.new.d) (sym found.rails_are)
     (fixed-is g.args.comparison.now.order.now net g.args.comparison.now.looped.now.blocks g.args.comparison.now.looped.now.cut g.solve_beside.new.d (values_of g.care_on.new.d g.args.rails.now) g.in_ok-found.found.solved (solved-vars at.After-solve_beside vars) (points-are at.After-solve_beside vars) found.solution)
 
@@ -86,11 +86,10 @@ solving-adds : (c : After-solve_beside) → c.care_on.new.d.vars ≡ columns c.a
 solving-adds c vars =
     let net = c.args.comparison.now.looped.now.net in
     let care = c.args.comparison.now.care.now in
-    let adds = rw (c.net-net.ensures.net, c.blocks-blocks.ensures.blocks, c.cut-cut.ensures.cut) at c.solve_beside.ensures.adds in
     adds_caused {cause = HasLargeCover net} (λ over. inl over)
     (adds_moved (λ w wide.
     working-wide c.args.comparison.now.order.now net care c.args.comparison.now.laid wide c.care_on.new.d.vars vars (values_of c.care_on.new.d c.args.rails.now) (points-are c vars) (loops_by c.args.comparison.now.looped.now.blocks c.args.comparison.now.looped.now.cut)
-    (loops-are net c.args.comparison.now.looped.now.blocks c.args.comparison.now.looped.now.cut c.net-net.ensures.looped.blocks c.net-net.ensures.looped.cut)) adds)
+    (loops-are net c.args.comparison.now.looped.now.blocks c.args.comparison.now.looped.now.cut c.net-net.ensures.looped.blocks c.net-net.ensures.looped.cut)) c.solve_beside.ensures.adds)
 
 pub returns-in_err-set-clause-adds : goal.returns-in_err-set-clause-adds
 returns-in_err-set-clause-adds g = adds_more (omega arith) (adds_refused g.in_err-set.was g.from_residual.ensures.1 (care-adds (goal.at.returns-in_err-set-clause-adds g).After-care_on))

@@ -1,15 +1,12 @@
-use Rattle.std.proofs.Common.{◌≡◌, ◌∙◌, Err, length, ap, subst, rules}
+use Rattle.std.proofs.Common.{◌≡◌, ◌∙◌, Err, length, ap, rules}
 use Rattle.bdd_store.specs.declared.fault.StoreFault.{StoreFault}
-use Rattle.loops.specs.Looped.{Looped}
 use Rattle.differences.specs.Comparisons.{IsFullFor}
 use Rattle.differences.proofs.EnoughLemmas.{out_of_nodes, below_enough}
 use Rattle.differences.proofs.comparing.least_apart.Goals as goal
 use Rattle.differences.proofs.comparing.least_apart.Goals.{In-Err-Full}
 
-full : (c : In-Err-Full) → IsFullFor c.start.new.self c.compare_on.new.d c.args.order.now c.args.net.now c.args.care.now c.args.pairs.now
-full c =
-    subst (λ (l : Looped). IsFullFor c.start.new.self c.compare_on.new.d c.args.order.now l.net c.args.care.now c.args.pairs.now) c.new-looped.ensures
-    (c.compare_on.ensures.full (c.in-Err-Full.is ∙ ap {A = StoreFault} Err c.in-Err-Full.field-0-is))
+full : (c : In-Err-Full) → IsFullFor c.start.new.self c.compare_on.new.d c.args.order.now c.args.looped.now.net c.args.care.now c.args.pairs.now
+full c = c.compare_on.ensures.full (c.in-Err-Full.is ∙ ap {A = StoreFault} Err c.in-Err-Full.field-0-is)
 
 -- the diagrams were begun anew
 same_limit : (c : In-Err-Full) → c.start.new.self.limit ≡ c.args.limit

@@ -12,7 +12,7 @@ least_of-requires-clause-columns c = subst (λ n. IsLayout n c.args.order.now) (
 pub returns-clause-least : goal.returns-clause-least
 returns-clause-least c =
     c.in_ok-least_of.ensures
-    ∙ first-same c.above.new.d.vars c.args.d.now.vars (λ v. den c.above.new.d c.in_ok-node.node (by_variable c.args.order.now v)) (λ v. is_above c.args.d.now c.args.set c.args.here c.args.there (by_variable c.args.order.now v))
+    ∙ first-same c.above.new.d.vars c.args.d.now.vars (λ v. den c.above.new.d c.in_ok-node.node (by_variable c.args.order.now v)) (λ v. is_above c.args.d.now c.args.compared.set c.args.compared.here c.args.compared.there (by_variable c.args.order.now v))
     c.above.ensures.grows.keeps.vars (λ v. c.in_ok-node.ensures.function (by_variable c.args.order.now v))
 
 pub returns-in_err-node-clause-grows : goal.returns-in_err-node-clause-grows

@@ -11,17 +11,17 @@ use Rattle.differences.proofs.parting.least_of_pair.Goals.{After-least_above-2}
 pub least_above-requires-2-clause-layout : goal.least_above-requires-2-clause-layout
 least_above-requires-2-clause-layout c = subst (λ n. IsLayout n c.args.order.now) (sym c.least_above.ensures.grows.keeps.vars) c.requires.layout
 
-pub least_above-requires-2-clause-here : goal.least_above-requires-2-clause-here
-least_above-requires-2-clause-here c = AreRailsOf-kept c.least_above.ensures.grows.keeps c.args.there c.requires.there
+pub least_above-requires-2-clause-compared : goal.least_above-requires-2-clause-compared
+least_above-requires-2-clause-compared c =
+    let keeps = c.least_above.ensures.grows.keeps in
+    let is = c.requires.compared in
+    record { set = omega (arith, is.set, keeps.more); here = AreRailsOf-kept keeps c.args.compared.there is.there; there = AreRailsOf-kept keeps c.args.compared.here is.here }
 
-pub least_above-requires-2-clause-there : goal.least_above-requires-2-clause-there
-least_above-requires-2-clause-there c = AreRailsOf-kept c.least_above.ensures.grows.keeps c.args.here c.requires.here
-
-first : (c : After-least_above-2) → GrowsWithin c.least_above.result c.args.d.now c.least_above.new.d NoOtherCause (BoundsPair c.args.d.now c.args.set c.args.here c.args.there) 2
+first : (c : After-least_above-2) → GrowsWithin c.least_above.result c.args.d.now c.least_above.new.d NoOtherCause (BoundsPair c.args.d.now c.args.compared.set c.args.compared.here c.args.compared.there) 2
 first c = within_moved (λ w b. b.above) c.least_above.ensures.grows
 
-both : (c : After-least_above-2) → GrowsWithin c.least_above-2.result c.args.d.now c.least_above-2.new.d NoOtherCause (BoundsPair c.args.d.now c.args.set c.args.here c.args.there) 4
-both c = within_then (first c) (within_moved (λ w b. bounds-kept c.least_above.ensures.grows.keeps c.args.set c.requires.set c.args.there c.args.here c.requires.there c.requires.here b.below) c.least_above-2.ensures.grows)
+both : (c : After-least_above-2) → GrowsWithin c.least_above-2.result c.args.d.now c.least_above-2.new.d NoOtherCause (BoundsPair c.args.d.now c.args.compared.set c.args.compared.here c.args.compared.there) 4
+both c = within_then (first c) (within_moved (λ w b. bounds-kept c.least_above.ensures.grows.keeps c.args.compared.set c.requires.compared.set c.args.compared.there c.args.compared.here c.requires.compared.there c.requires.compared.here b.below) c.least_above-2.ensures.grows)
 
 pub returns-in_err-above-clause-grows : goal.returns-in_err-above-clause-grows
 returns-in_err-above-clause-grows c = within_more (omega arith) (within_refused c.in_err-above.was c.from_residual.ensures.1 (within_moved (λ w b. b.above) c.least_above.ensures.grows))
@@ -34,9 +34,9 @@ returns-clause-grows c = within_answered (both (goal.at.returns-clause-grows c).
 
 pub returns-clause-least : goal.returns-clause-least
 returns-clause-least c =
-    c.lesser.ensures c.args.d.now.vars (λ v. is_above c.args.d.now c.args.set c.args.here c.args.there (by_variable c.args.order.now v)) (λ v. is_above c.args.d.now c.args.set c.args.there c.args.here (by_variable c.args.order.now v))
+    c.lesser.ensures c.args.d.now.vars (λ v. is_above c.args.d.now c.args.compared.set c.args.compared.here c.args.compared.there (by_variable c.args.order.now v)) (λ v. is_above c.args.d.now c.args.compared.set c.args.compared.there c.args.compared.here (by_variable c.args.order.now v))
     c.in_ok-above.ensures.least
     (c.in_ok-below.ensures.least
-    ∙ first-same c.least_above.new.d.vars c.args.d.now.vars (λ v. is_above c.least_above.new.d c.args.set c.args.there c.args.here (by_variable c.args.order.now v)) (λ v. is_above c.args.d.now c.args.set c.args.there c.args.here (by_variable c.args.order.now v))
+    ∙ first-same c.least_above.new.d.vars c.args.d.now.vars (λ v. is_above c.least_above.new.d c.args.compared.set c.args.compared.there c.args.compared.here (by_variable c.args.order.now v)) (λ v. is_above c.args.d.now c.args.compared.set c.args.compared.there c.args.compared.here (by_variable c.args.order.now v))
     c.least_above.ensures.grows.keeps.vars
-    (λ v. above-kept c.least_above.ensures.grows.keeps c.args.set c.requires.set c.args.there c.args.here c.requires.there c.requires.here (by_variable c.args.order.now v)))
+    (λ v. above-kept c.least_above.ensures.grows.keeps c.args.compared.set c.requires.compared.set c.args.compared.there c.args.compared.here c.requires.compared.there c.requires.compared.here (by_variable c.args.order.now v)))
