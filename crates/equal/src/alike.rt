@@ -2,7 +2,6 @@
 
 ghost use Rattle.std.specs.Prelude.{◌≡◌, ◌+◌, ◌≤◌, [], None, true, length, All, IfOk};
 ghost use Rattle.netlist.specs.Netlists.{count};
-ghost use Rattle.loops.specs.Blocks.{AreBlocksOf};
 ghost use Rattle.care_sets.specs.Binding.{IsCareOf};
 ghost use Rattle.clause_decision.specs.Apart.{AreNeverApart, IsPairOf};
 ghost use Rattle.equal.specs.Differences.{columns_by_name, difference, AreAccepted};
@@ -13,43 +12,37 @@ use crate::hints::alike_hints;
 use crate::joining::joined_netlist;
 use crate::prints::fingerprints;
 use care_sets::Care;
-use clause_decision::{Hint, Pair};
-use loops::{Blocks, find_blocks};
+use clause_decision::{Budget, Hint, Pair, PairSearch};
+use loops::{LoopedNetlist, find_blocks, find_cut};
 use netlist::Netlist;
 use std::alloc::{AllocError, Global};
 use verdict::are_never_apart;
 
-/// How many conflicts each inner pair may meet.
-const FEW_CONFLICTS: u64 = 100;
-
-/// How many each pair of outputs, or of what latches load, may meet.
-const MANY_CONFLICTS: u64 = 2_000;
+/// How many conflicts each inner pair may meet, and how many each pair of outputs, or of what latches load.
+const BUDGET: Budget = Budget {
+    few: 100,
+    many: 2_000,
+};
 
 /// Whether the wires of none of these pairs are ever apart.
 fn never_apart(
     alloc: Global,
-    net: &Netlist,
-    blocks: &Blocks,
+    looped: &LoopedNetlist<'_>,
     care: &Care,
     hints: &[Hint],
     pairs: &[Pair],
 ) -> Result<bool, AllocError>
-    requires blocks { AreBlocksOf net.now blocks.now }
-    requires care { IsCareOf net.now care.now }
-    requires hints { All (λ hint. IsPairOf net.now hint.pair) hints.now }
-    requires pairs { All (IsPairOf net.now) pairs.now }
-    ensures { IfOk result (λ never. never ≡ true → AreNeverApart net.now care.now pairs.now) }
+    requires care { IsCareOf looped.now.net care.now }
+    requires hints { All (λ hint. IsPairOf looped.now.net hint.pair) hints.now }
+    requires pairs { All (IsPairOf looped.now.net) pairs.now }
+    ensures { IfOk result (λ never. never ≡ true → AreNeverApart looped.now.net care.now pairs.now) }
 {
-    are_never_apart(
-        alloc,
-        net,
-        blocks,
-        care,
+    let search = PairSearch {
         hints,
         pairs,
-        FEW_CONFLICTS,
-        MANY_CONFLICTS,
-    )
+        budget: BUDGET,
+    };
+    are_never_apart(alloc, looped, care, &search)
 }
 
 /// Inner wires of the joined netlist that simulation tells neither apart nor from each other's complement.
@@ -57,16 +50,14 @@ fn find_hints(
     alloc: Global,
     a: &Netlist,
     b: &Netlist,
-    net: &Netlist,
-    blocks: &Blocks,
+    looped: &LoopedNetlist<'_>,
     care: &Care,
 ) -> Result<Vec<Hint>, AllocError>
-    requires joined { net.now ≡ joined a.now b.now [] }
-    requires blocks { AreBlocksOf net.now blocks.now }
+    requires joined { looped.now.net ≡ joined a.now b.now [] }
     requires fits { count a.now + length b.now.gates ≤ 4294967295 }
-    ensures { IfOk result (λ hints. All (λ hint. IsPairOf net.now hint.pair) hints.items) }
+    ensures { IfOk result (λ hints. All (λ hint. IsPairOf looped.now.net hint.pair) hints.items) }
 {
-    let prints = fingerprints(alloc, net, blocks, care)?;
+    let prints = fingerprints(alloc, looped, care)?;
     alike_hints(alloc, a, b, &prints)
 }
 
@@ -86,8 +77,10 @@ fn never_apart_joined(
     ensures { IfOk result (λ never. never ≡ true → AreNeverApart net.now care.now pairs.now) }
 {
     let blocks = find_blocks(alloc, net)?;
-    let hints = find_hints(alloc, a, b, net, &blocks, care)?;
-    never_apart(alloc, net, &blocks, care, &hints, pairs)
+    let cut = find_cut(alloc, net, &blocks)?;
+    let looped = LoopedNetlist::new(net, &blocks, &cut);
+    let hints = find_hints(alloc, a, b, &looped, care)?;
+    never_apart(alloc, &looped, care, &hints, pairs)
 }
 
 /// Whether two accepted netlists differ on no care vector. Wires that simulation doesn't tell apart are asked for first, one

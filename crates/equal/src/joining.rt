@@ -10,9 +10,9 @@ ghost use Rattle.equal.specs.Joined.{moved_by, moved_gate_by, moved_gates, joine
 ghost use Rattle.equal.specs.Matching.{unmatched};
 
 use cyc_base::{Items, Name, Sig};
-use netlist::{Clock, Gate, Latch, Netlist, Parts, PartsFault};
+use netlist::{Gate, Latch, Netlist, Parts, PartsFault};
 use std::alloc::{AllocError, Global};
-use unroll::{copy_name, mark};
+use unroll::{copy_clock, copy_inputs, copy_name, mark};
 
 /// A signal of the second netlist, whose columns are these of the first one, and whose first gate has this number.
 pub(crate) fn moved(columns: &[u32], first: u32, signal: Sig) -> Sig
@@ -121,30 +121,6 @@ pub(crate) fn joined_gates(
     let mut gates = copy_gates(alloc, a)?;
     add_moved(alloc, b, columns, a.count(), mark, &mut gates)?;
     Ok(gates)
-}
-
-/// Copies of the inputs' names.
-fn copy_inputs(alloc: Global, net: &Netlist) -> Result<Vec<Name>, AllocError>
-    ensures { IfOk result (λ names. names.items ≡ net.now.inputs) }
-{
-    let mut names = Vec::with_capacity(alloc, net.inputs() as usize)?;
-    for number in 0..net.inputs() {
-        names.push(net.name_of(Sig(number)).copy()?)?;
-    }
-    Ok(names)
-}
-
-/// A copy of the clock.
-fn copy_clock(net: &Netlist) -> Result<Option<Clock>, AllocError>
-    ensures { IfOk result (λ clock. clock ≡ net.now.clock) }
-{
-    match net.clock() {
-        Some(clock) => Ok(Some(Clock {
-            edge: clock.edge,
-            name: clock.name.copy()?,
-        })),
-        None => Ok(None),
-    }
 }
 
 /// An equal latch.

@@ -33,7 +33,7 @@ use clause_decision::Pair;
 use cyc_base::{Bits, MAX_NODES};
 use differences::least_apart;
 use fixpoint::order;
-use loops::{find_blocks, find_cut};
+use loops::{LoopedNetlist, find_blocks, find_cut};
 use netlist::{Gate, Netlist};
 use refusals::Refusal;
 use std::alloc::{AllocError, Global};
@@ -254,7 +254,8 @@ fn least_on(
     let _ = net.gates();
     let blocks = find_blocks(alloc, net)?;
     let cut = find_cut(alloc, net, &blocks)?;
-    match least_apart(alloc, d, net, &blocks, &cut, care, order, pairs, limit) {
+    let looped = LoopedNetlist::new(net, &blocks, &cut);
+    match least_apart(alloc, d, &looped, care, order, pairs, limit) {
         Ok(found) => Ok(found),
         Err(fault) => Err(fault_of(fault)),
     }

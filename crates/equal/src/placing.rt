@@ -14,7 +14,7 @@ use clause_decision::Pair;
 use cyc_base::{Bits, Sig, Trit};
 use netlist::Netlist;
 use std::alloc::{AllocError, Global};
-use ternary_run::settle;
+use ternary_run::settle_at;
 
 fn are_different(one: Trit, other: Trit) -> bool
     ensures { result ≡ are_other one other }
@@ -44,21 +44,6 @@ fn first_different(here: &[Trit], there: &[Trit], pairs: &[Pair]) -> Option<usiz
     pairs.iter().position(|pair| {
         are_different(value_of(here, pair.here), value_of(there, pair.there))
     })
-}
-
-fn trits_of(alloc: Global, vector: &[bool]) -> Result<Vec<Trit>, AllocError>
-    ensures { IfOk result (λ trits. trits.items ≡ bits vector.now) }
-{
-    vector.iter().map(|value| Trit::of(*value)).collect(alloc)
-}
-
-/// The values of all signals at a vector.
-fn values_at(alloc: Global, net: &Netlist, vector: &[bool]) -> Result<Vec<Trit>, AllocError>
-    requires { length vector.now ≡ columns net.now }
-    ensures { IfOk result (λ values. values.items ≡ fix net.now (bits vector.now)) }
-{
-    let given = trits_of(alloc, vector)?;
-    settle(alloc, net, &given)
 }
 
 /// The value of a column, 0 where there is none.
@@ -110,7 +95,7 @@ fn values_by_name(
     ensures { IfOk result (λ values. values.items ≡ fix b.now (bits (by_name_of a.now b.now vector.now))) }
 {
     let named = by_name(alloc, a, b, vector)?;
-    values_at(alloc, b, &named)
+    settle_at(alloc, b, &named)
 }
 
 /// The first output that differs, where these are the values of all signals.
@@ -182,7 +167,7 @@ fn find_place(alloc: Global, a: &Netlist, b: &Netlist, vector: &[bool]) -> Resul
     requires { length vector.now ≡ columns a.now }
     ensures { IfOk result (λ place. answer_at vector.now place ≡ at_difference_of a.now b.now vector.now) }
 {
-    let here = values_at(alloc, a, vector)?;
+    let here = settle_at(alloc, a, vector)?;
     let there = values_by_name(alloc, a, b, vector)?;
     place_of(alloc, a, b, &here, &there)
 }

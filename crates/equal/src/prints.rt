@@ -2,11 +2,11 @@
 
 ghost use Rattle.std.specs.Prelude.{◌≡◌, ◌<◌, ◌≤◌, ◌+◌, length, All, IfOk};
 ghost use Rattle.netlist.specs.Netlists.{count};
-ghost use Rattle.loops.specs.Blocks.{AreBlocksOf};
 
 use crate::words::{Word, gate_word, word_at};
 use care_sets::Care;
-use loops::{Blocks, find_blocks};
+use isolation::gates_at;
+use loops::{LoopedNetlist, find_blocks, find_cut};
 use netlist::Netlist;
 use std::alloc::{AllocError, Global};
 
@@ -78,12 +78,9 @@ fn settle_block(net: &Netlist, gates: &[u32], words: &mut [Word])
 }
 
 /// Computes all gates, block by block.
-fn settle(net: &Netlist, blocks: &Blocks, words: &mut [Word])
-    requires { AreBlocksOf net.now blocks.now }
-{
-    let list = blocks.list.items();
-    for place in 0..list.len() {
-        settle_block(net, list[place].gates.items(), words);
+fn settle(looped: &LoopedNetlist<'_>, words: &mut [Word]) {
+    for place in 0..looped.blocks().list.items().len() {
+        settle_block(looped.net(), gates_at(looped, place), words);
     }
 }
 
@@ -103,9 +100,11 @@ fn words_of_columns(
 /// At which vectors the output of a care model is 1, where its inputs have these words.
 fn allowed_by(alloc: Global, model: &Netlist, given: Vec<Word>) -> Result<u64, AllocError> {
     let blocks = find_blocks(alloc, model)?;
+    let cut = find_cut(alloc, model, &blocks)?;
+    let looped = LoopedNetlist::new(model, &blocks, &cut);
     let mut words = given;
     words.resize(model.count() as usize, Word::UNKNOWN)?;
-    settle(model, &blocks, &mut words);
+    settle(&looped, &mut words);
     match model.outputs().first() {
         Some(output) => Ok(word_at(&words, output.0 as usize).ones),
         None => Ok(u64::MAX),
@@ -176,17 +175,15 @@ fn mix(words: &[Word], vectors: u64, prints: &mut [Print])
 /// Mixes the values at 64 vectors, of those on care, into the fingerprints.
 fn mix_vectors(
     alloc: Global,
-    net: &Netlist,
-    blocks: &Blocks,
+    looped: &LoopedNetlist<'_>,
     care: &Care,
     number: &mut u64,
     prints: &mut [Print],
 ) -> Result<(), AllocError>
-    requires { AreBlocksOf net.now blocks.now }
     ensures { length prints.new ≡ length prints.old }
 {
-    let mut words = first_words(alloc, net, number)?;
-    settle(net, blocks, &mut words);
+    let mut words = first_words(alloc, looped.net(), number)?;
+    settle(looped, &mut words);
     let vectors = on_care(alloc, care, &words)?;
     mix(&words, vectors, prints);
     Ok(())
@@ -195,17 +192,15 @@ fn mix_vectors(
 /// The fingerprints of each wire, from its values at some vectors of the care set.
 pub(crate) fn fingerprints(
     alloc: Global,
-    net: &Netlist,
-    blocks: &Blocks,
+    looped: &LoopedNetlist<'_>,
     care: &Care,
 ) -> Result<Vec<Print>, AllocError>
-    requires { AreBlocksOf net.now blocks.now }
-    ensures { IfOk result (λ prints. length prints.items ≡ count net.now) }
+    ensures { IfOk result (λ prints. length prints.items ≡ count looped.now.net) }
 {
-    let mut prints = vec![in alloc; Print::START; net.count() as usize]?;
+    let mut prints = vec![in alloc; Print::START; looped.net().count() as usize]?;
     let mut number = SEED;
     for _ in 0..WORDS {
-        mix_vectors(alloc, net, blocks, care, &mut number, &mut prints)?;
+        mix_vectors(alloc, looped, care, &mut number, &mut prints)?;
     }
     Ok(prints)
 }
