@@ -2,17 +2,15 @@
 use Rattle.std.proofs.Common.{arith, ◌≡◌, ◌⊎◌, ℕ, List, [], ◌∷◌, Some, None, refl, sym, ap, subst, ◌∙◌, inl, inr}
 use Rattle.std.specs.Prelude.{IfSome, IsSomeAnd}
 use Rattle.std.specs.Option.{option_map_or}
-use Rattle.std.specs.declared.option.Option.{Option}
-use Rattle.bdd_store.specs.Arena.{Arena}
-use Rattle.cyc_io.specs.Files.{Files, IsFile}
+use Rattle.cyc_tool.proofs.Common.{Option, Arena, Files, ShelfCall, AreGiven, rest_of, EndsAt, ComesTo, IsDecided, IsCompared, Explained, Limit, Found, Unfinished, Runs, Purpose, Judges, Rewrites, WritesGraph, Explains, Demonstrates, Storms, Plan, Reads, Faulty, Ends, Decides, Compares, plan_of, Outcome, no_memory, Command}
+use Rattle.cyc_io.specs.Files.{IsFile}
 use Rattle.cyc_tool.specs.Answer.{outcome_at, answer}
-use Rattle.cyc_tool.specs.Calls.{ShelfCall, SinkCall, ReadFailed, AreGiven, rest_of, EndsAt, ComesTo, IsDecided, IsCompared, IsExplained, Verdict, Explained, Limit, Found, Unfinished, IsTold, Tells, Runs}
+use Rattle.cyc_tool.specs.Calls.{SinkCall, ReadFailed, IsExplained, Verdict, IsTold, Tells}
 use Rattle.cyc_tool.specs.Causes.{Leads, Reaches, MeetsLimit, ExplainsWire, NoneFailed, IsWell, GivesAnswer, IsEnoughFor, HasEnoughNodes, IsComplete}
-use Rattle.cyc_tool.specs.Plans.{Purpose, Judges, Rewrites, WritesGraph, Explains, Demonstrates, Storms, Plan, Reads, Faulty, Ends, Decides, Compares, plan_of}
 use Rattle.cyc_tool.proofs.CauseLemmas.{why_told}
 use Rattle.cyc_tool.specs.Requests.{Request}
-use Rattle.cyc_tool.specs.Texts.{Outcome, usage, read_failed, no_memory}
-use Rattle.commands.specs.Words.{Command, command_of}
+use Rattle.cyc_tool.specs.Texts.{usage, read_failed}
+use Rattle.commands.specs.Words.{command_of}
 
 -- a text that was given is that of the file that is told
 told_file : (shelf : ShelfCall) (files : Files) (name bytes : List ℕ) → shelf.files ≡ Some files → IsFile shelf.files name bytes → files name ≡ Some bytes

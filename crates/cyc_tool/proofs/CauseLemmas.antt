@@ -1,22 +1,16 @@
 -- The cause of each status of a run.
 use Rattle.std.proofs.Common.{◌≡◌, ◌≢◌, ◌≤◌, ◌⊎◌, ℕ, Bool, true, false, List, [], ◌∷◌, Some, None, refl, sym, ap, subst, ◌∙◌, inl, inr, arith}
-use Rattle.std.specs.Prelude.{◌+◌, IsSomeAnd, length, nat_le, if◌then◌else◌}
-use Rattle.std.specs.declared.option.Option.{Option}
+use Rattle.cyc_tool.proofs.Common.{nat_le, if◌then◌else◌, Option, Arena, Parts, IsNetlist, written, Sig, IsRefusalOf, Refusal, Undetermined, told, ShelfCall, AreGiven, EndsAt, rest_of, ComesTo, Follows, IsDecided, IsCompared, Explained, Limit, Found, Unfinished, Runs, Ending, Prints, Outgrows, Purpose, Judges, Rewrites, WritesGraph, Explains, Demonstrates, Storms, Plan, Reads, Faulty, Ends, Decides, Compares, plan_of, Outcome, no_memory, Form, Command}
+use Rattle.std.specs.Prelude.{◌+◌, IsSomeAnd, length}
 use Rattle.std.proofs.lemmas.Option.{none-some}
-use Rattle.bdd_store.specs.Arena.{Arena}
 use Rattle.accepted_runs.proofs.HarmlessLemmas.{accepted_is_harmless}
 use Rattle.cyc_base.specs.declared.limits.TheConstants.{MAX_REWRITTEN_ITEMS}
-use Rattle.netlist.specs.declared.parts.Parts.{Parts}
-use Rattle.netlist.specs.Netlists.{IsNetlist}
 use Rattle.aig_core.specs.declared.building.Built.{Built}
 use Rattle.aiger_write.specs.Text.{aiger_text}
-use Rattle.blif_write.specs.Written.{written}
 use Rattle.rewriting.specs.Graphs.{graph_of, most_ands}
 use Rattle.rewriting.specs.Rewriting.{rewritten, rewritten_size}
-use Rattle.cyc_base.specs.declared.sig.Sig.{Sig}
-use Rattle.refusals.specs.Refusals.{IsRefusalOf, Proves}
-use Rattle.refusals.specs.declared.refusal.Refusal.{Refusal}
-use Rattle.refusals.specs.declared.refusal.Refusal.TheVariants.{Initial, EmptyCare, Undetermined, Leaves as LeavesCare}
+use Rattle.refusals.specs.Refusals.{Proves}
+use Rattle.refusals.specs.declared.refusal.Refusal.TheVariants.{Initial, EmptyCare, Leaves as LeavesCare}
 use Rattle.storm.specs.Storms.{most_events}
 use Rattle.storm.specs.Laws.{StormsNeverRest}
 use Rattle.refusals.proofs.LawLemmas.{accepted_without_refusal, refusal_is_shown}
@@ -26,17 +20,15 @@ use Rattle.equal.specs.Rebound.{found}
 use Rattle.equal_text.specs.Texts.{answer_text}
 use Rattle.equality.specs.Shown.{IsShown}
 use Rattle.equality.specs.Told.{is_equal}
-use Rattle.cyc_tool.specs.Answer.{told, decided, verdict_of}
-use Rattle.cyc_tool.specs.Calls.{ShelfCall, SinkCall, WriteFailed, Takes, AreGiven, EndsAt, rest_of, ComesTo, Follows, IsDecided, IsCompared, IsExplained, IsMade, IsMadeFor, Verdict, Explained, Limit, Found, Unfinished, IsTold, Tells, Runs}
+use Rattle.cyc_tool.specs.Answer.{decided, verdict_of}
+use Rattle.cyc_tool.specs.Calls.{SinkCall, WriteFailed, Takes, IsExplained, IsMade, IsMadeFor, Verdict, IsTold, Tells}
 use Rattle.cyc_tool.specs.Causes.{IsHelped, IsHelpedBy, IsWithoutCommand, Leads, Reaches, IsFaulty, IsUnread, MeetsLimit, IsVerdict, IsDoneWith, HasCompared, HasExplained, HasWhy, HasGraph, HasRewritten, HasStormed}
 use Rattle.cyc_tool.specs.Endings.{aiger_told, comparison_told, ending_of, found_told, storm_or_refusal}
 use Rattle.cyc_tool.specs.Storms.{events_of, events_told, storm_text}
-use Rattle.cyc_tool.specs.Plans.{Ending, Prints, PrintsBeside, Refuses, Declines, Outgrows, Decision, Purpose, Judges, Rewrites, WritesGraph, Explains, Demonstrates, Storms, Plan, Reads, Faulty, Ends, Decides, Compares, plan_of}
+use Rattle.cyc_tool.specs.Plans.{PrintsBeside, Refuses, Declines, Decision}
 use Rattle.cyc_tool.specs.Requests.{Request}
-use Rattle.cyc_tool.specs.Texts.{Outcome, no_memory}
 use Rattle.report.specs.Help.{help_text, topic_text, version_text}
-use Rattle.commands.specs.declared.form.Form.{Form}
-use Rattle.commands.specs.Words.{Command, Check, Rewrite, Aiger, Explain, Equal, Flat, Loops, Sim, Delays, Demo, Storm, Help, HelpOn, Version, command_of}
+use Rattle.commands.specs.Words.{Check, Rewrite, Aiger, Explain, Equal, Flat, Loops, Sim, Delays, Demo, Storm, Help, HelpOn, Version, command_of}
 
 abbrev status_of : Outcome → ℕ
 status_of end = end.status

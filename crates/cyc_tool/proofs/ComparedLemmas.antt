@@ -2,7 +2,7 @@
 use Rattle.std.proofs.Common.{◌≡◌, ◌⊎◌, inl, inr, ℕ, Bool, List, Err, ap, ap₂, subst, ◌∙◌}
 use Rattle.std.specs.Prelude.{IfErr}
 use Rattle.std.specs.declared.result.Result.{Result}
-use Rattle.bdd_store.specs.Arena.{Arena}
+use Rattle.cyc_tool.proofs.Common.{Arena, IsCompared, Found, Unfinished, outcome_of, Outcome}
 use Rattle.equal.specs.declared.fault.EqualFault.{EqualFault}
 use Rattle.equal.specs.declared.fault.EqualFault.TheVariants.{NodeLimit, Memory}
 use Rattle.equal.specs.Rebound.{found, IsLimited}
@@ -10,11 +10,10 @@ use Rattle.equality.specs.Shown.{ShowsItself}
 use Rattle.equality.specs.Told.{IsToldOf}
 use Rattle.equality.specs.declared.telling.Told.{Told}
 use Rattle.cyc_tool.specs.Answer.{told as done}
-use Rattle.cyc_tool.specs.Calls.{IsCompared, Found, Unfinished}
 use Rattle.cyc_tool.specs.Endings.{found_told}
 use Rattle.cyc_tool.specs.Plans.{Comparison}
-use Rattle.cyc_tool.specs.Seen.{IsComparisonLimitOf, outcome_of}
-use Rattle.cyc_tool.specs.Texts.{Outcome, limit_reached}
+use Rattle.cyc_tool.specs.Seen.{IsComparisonLimitOf}
+use Rattle.cyc_tool.specs.Texts.{limit_reached}
 use Rattle.cyc_tool.specs.declared.outcome.Outcome.{Outcome as OutcomeTold}
 
 pub found_compares : (c : Comparison) (nodes : Arena) (told : Told) (end : Outcome) → end ≡ done (found_told told.equal told.text.items)

@@ -1,28 +1,22 @@
 -- What decisions come to.
 use Rattle.std.proofs.Common.{◌≡◌, ◌⊎◌, ◌<◌, ◌≤◌, ℕ, Bool, true, false, length, Some, None, Ok, Err, refl, sym, ap, ap₂, subst, ◌∙◌, inl, inr, arith}
 use Rattle.std.proofs.lemmas.List.{length-map}
-use Rattle.std.specs.Prelude.{◌+◌, nat_le, if◌then◌else◌, IfOk, IfErr, OnOk}
-use Rattle.std.specs.declared.option.Option.{Option}
+use Rattle.cyc_tool.proofs.Common.{nat_le, if◌then◌else◌, IfOk, Option, Arena, Parts, IsNetlist, written, IsRefusalOf, Refusal, Undetermined, Form, told, IsDecided, Explained, Limit, Prints, Outgrows, Purpose, Judges, Rewrites, WritesGraph, Explains, Demonstrates, Storms, outcome_of, Outcome}
+use Rattle.std.specs.Prelude.{◌+◌, IfErr, OnOk}
 use Rattle.std.specs.declared.result.Result.{Result}
-use Rattle.bdd_store.specs.Arena.{Arena}
 use Rattle.cyc_base.specs.declared.limits.TheConstants.{MAX_REWRITTEN_ITEMS}
 use Rattle.netlist.specs.declared.parts.Latch.{Latch}
-use Rattle.netlist.specs.declared.parts.Parts.{Parts}
-use Rattle.netlist.specs.Netlists.{IsNetlist}
 use Rattle.aig_core.specs.declared.building.Built.{Built}
 use Rattle.aig_core.specs.declared.fault.AigFault.{AigFault}
 use Rattle.aig_core.specs.declared.fault.AigFault.TheVariants.{TooLarge as ManyAnds, Memory as NoRoom}
 use Rattle.aig_core.specs.Building.{built, columns}
 use Rattle.aiger_write.specs.Text.{aiger_text}
-use Rattle.blif_write.specs.Written.{written}
 use Rattle.care_sets.specs.Care.{CareSet}
 use Rattle.refusals.specs.Acceptance.{Accepts}
-use Rattle.refusals.specs.Refusals.{IsRefusalOf, refusal}
+use Rattle.refusals.specs.Refusals.{refusal}
 use Rattle.refusals.specs.declared.observe.Observe.{Observe}
-use Rattle.refusals.specs.declared.refusal.Refusal.{Refusal}
-use Rattle.refusals.specs.declared.refusal.Refusal.TheVariants.{Initial, EmptyCare, Undetermined, Leaves as LeavesCare}
+use Rattle.refusals.specs.declared.refusal.Refusal.TheVariants.{Initial, EmptyCare, Leaves as LeavesCare}
 use Rattle.refusals.proofs.LawLemmas.{accepted_without_refusal, refusal_is_shown}
-use Rattle.commands.specs.declared.form.Form.{Form}
 use Rattle.report.specs.Verdicts.{accepted_text, ring_line}
 use Rattle.rewriting.specs.Graphs.{graph_of, most_ands, IsGraphing}
 use Rattle.rewriting.specs.Rewriting.{rewritten, rewritten_size, IsRewriting}
@@ -40,12 +34,12 @@ use Rattle.verdict.specs.declared.fault.DecideFault.{DecideFault}
 use Rattle.verdict.specs.declared.fault.DecideFault.TheVariants.{NodeLimit, Memory as WantsMemory}
 use Rattle.verdict.specs.declared.verdict.Verdict.{Verdict}
 use Rattle.verdict.specs.declared.verdict.Verdict.TheVariants.{Accepted, Refused}
-use Rattle.cyc_tool.specs.Answer.{told, decided, verdict_of}
-use Rattle.cyc_tool.specs.Calls.{IsAccepted, IsDecided, IsMadeFor, IsToldAlone, Explained, Limit, Verdict as ByVerdict}
+use Rattle.cyc_tool.specs.Answer.{decided, verdict_of}
+use Rattle.cyc_tool.specs.Calls.{IsAccepted, IsMadeFor, IsToldAlone, Verdict as ByVerdict}
 use Rattle.cyc_tool.specs.Endings.{accepted_told, aiger_told, count_of_loops, loops_explained, refused_told, where_outputs}
-use Rattle.cyc_tool.specs.Plans.{Decision, Prints, Declines, Outgrows, Purpose, Judges, Rewrites, WritesGraph, Explains, Demonstrates, Storms}
-use Rattle.cyc_tool.specs.Seen.{IsLimitOf, IsOutgrown, IsRefusalTold, IsShown, IsTellable, IsToldOf, IsToldOfGraph, outcome_of}
-use Rattle.cyc_tool.specs.Texts.{Outcome, limit_reached}
+use Rattle.cyc_tool.specs.Plans.{Decision, Declines}
+use Rattle.cyc_tool.specs.Seen.{IsLimitOf, IsOutgrown, IsRefusalTold, IsShown, IsTellable, IsToldOf, IsToldOfGraph}
+use Rattle.cyc_tool.specs.Texts.{limit_reached}
 use Rattle.cyc_tool.specs.declared.outcome.Outcome.{Outcome as Told}
 
 abbrev pub decision_of : Parts → CareSet → ℕ → Observe → Decision

@@ -2,22 +2,17 @@
 use Rattle.std.proofs.Common.{◌≡◌, ◌+◌, ◌-◌, ◌<◌, ℕ, Bool, List, length, ap, arith}
 use Rattle.std.proofs.lemmas.List.{length-map}
 use Rattle.std.proofs.lemmas.List.Elements.{All-weaker}
-use Rattle.cyc_base.specs.declared.sig.Sig.{Sig}
-use Rattle.cyc_base.specs.Values.{bit, bits}
+use Rattle.cyc_tool.proofs.Common.{Sig, bits, Parts, fix, Form, told, Outcome}
+use Rattle.cyc_base.specs.Values.{bit}
 use Rattle.cyc_base.proofs.OrderLemmas.{EachBelow-length}
-use Rattle.netlist.specs.declared.parts.Parts.{Parts}
-use Rattle.netlist.specs.Fixpoint.{fix}
 use Rattle.netlist.specs.Netlists.{signal, gate_sig}
 use Rattle.care_sets.specs.Care.{columns}
-use Rattle.commands.specs.declared.form.Form.{Form}
 use Rattle.explanations.specs.declared.explanation.Explanation.{Explanation}
 use Rattle.explanations.specs.Explained.{Explains, IsUnknown}
 use Rattle.report.specs.Explanations.{IsExplanationOf}
-use Rattle.cyc_tool.specs.Answer.{told}
 use Rattle.cyc_tool.specs.Calls.{IsWireExplained}
 use Rattle.cyc_tool.specs.Endings.{wire_explained}
 use Rattle.cyc_tool.specs.Plans.{Refuses}
-use Rattle.cyc_tool.specs.Texts.{Outcome}
 
 -- an explanation speaks of gates and columns of its netlist
 pub fits_netlist : (net : Parts) (v : List Bool) (gate : ℕ) (why : Explanation) → length v ≡ columns net → Explains net v gate why → IsExplanationOf net why

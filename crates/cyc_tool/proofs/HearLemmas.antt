@@ -1,21 +1,11 @@
 -- What probes hear of a call, whatever they show.
 use Rattle.std.proofs.Common.{◌≡◌, ℕ, Bool, false, List, length, Some, sym, subst, inl, inr}
-use Rattle.std.specs.declared.option.Option.{Option}
-use Rattle.cyc_base.specs.declared.trit.Trit.{Trit}
-use Rattle.cyc_io.specs.Faults.{Counts}
-use Rattle.cyc_io.specs.Files.{Files}
-use Rattle.netlist.specs.declared.parts.Parts.{Parts}
+use Rattle.cyc_tool.proofs.Common.{Option, Trit, Counts, Files, Parts, Schedule, Command, ShelfCall, Plan, with_netlist, with_vectors, known, GoesOn, Shows}
 use Rattle.delay_core.specs.declared.change.Change.{Change}
-use Rattle.delay_core.specs.declared.plan.Schedule.{Schedule}
 use Rattle.probes.specs.Changes.{changes}
 use Rattle.probes.specs.declared.kind.Kind.{Kind}
-use Rattle.commands.specs.Words.{Command}
-use Rattle.cyc_tool.specs.Calls.{ShelfCall}
 use Rattle.cyc_tool.specs.Hearing.{HearCommand, HearPlay, HearRun}
-use Rattle.cyc_tool.specs.Plans.{Plan, play_on, playing, replaying, replaying_on, with_netlist, with_schedule, with_vectors}
-use Rattle.cyc_tool.specs.Plays.{known}
-use Rattle.cyc_tool.specs.Reading.{GoesOn}
-use Rattle.cyc_tool.specs.Requests.{Shows}
+use Rattle.cyc_tool.specs.Plans.{play_on, playing, replaying, replaying_on, with_schedule}
 use Rattle.cyc_tool.proofs.PlanLemmas.{leads_after}
 
 abbrev call : Option Files → Counts → Counts → ShelfCall

@@ -1,21 +1,15 @@
 -- Going along a plan, from one part of a call to the next.
 use Rattle.std.proofs.Common.{arith, ◌≡◌, ◌≢◌, ◌⊎◌, ℕ, ◌≤◌, List, [], ◌∷◌, ◌++◌, Some, None, Ok, Err, refl, sym, ap, subst, ◌∙◌, inl, inr}
-use Rattle.std.specs.Prelude.{IfOk}
+use Rattle.cyc_tool.proofs.Common.{IfOk, Option, Arena, Counts, Files, AreGiven, rest_of, EndsAt, Follows, IsErrorOf, told, Ending, Plan, Reads, Faulty, Ends, Decides, Compares, GoesOn, StopsIn, outcome_of, Outcome, no_memory}
 use Rattle.std.specs.declared.alloc.AllocError.{AllocError}
 use Rattle.std.specs.declared.result.Result.{Result}
 use Rattle.std.specs.List.{AllByRecursion}
-use Rattle.std.specs.declared.option.Option.{Option}
-use Rattle.bdd_store.specs.Arena.{Arena}
-use Rattle.cyc_io.specs.Faults.{Counts}
-use Rattle.cyc_io.specs.Files.{Files}
 use Rattle.cyc_io.proofs.FaultLemmas.{Rose_later}
-use Rattle.cyc_tool.specs.Calls.{AreGiven, rest_of, names_read, EndsAt, Follows}
-use Rattle.contents.specs.Faults.{Fault, IsErrorOf}
-use Rattle.cyc_tool.specs.Answer.{told}
-use Rattle.cyc_tool.specs.Plans.{Ending, Plan, Reads, Faulty, Ends, Decides, Compares, using}
-use Rattle.cyc_tool.specs.Reading.{FollowsAlone, FollowsStillAlone, GoesOn, IsStoppedBy, LeadsTo, StopsAt, StopsIn}
-use Rattle.cyc_tool.specs.Seen.{EndsAs, outcome_of}
-use Rattle.cyc_tool.specs.Texts.{Outcome, no_memory}
+use Rattle.cyc_tool.specs.Calls.{names_read}
+use Rattle.contents.specs.Faults.{Fault}
+use Rattle.cyc_tool.specs.Plans.{using}
+use Rattle.cyc_tool.specs.Reading.{FollowsAlone, FollowsStillAlone, IsStoppedBy, LeadsTo, StopsAt}
+use Rattle.cyc_tool.specs.Seen.{EndsAs}
 use Rattle.cyc_tool.specs.declared.outcome.Outcome.{Outcome as Told}
 
 -- texts that are given one after another

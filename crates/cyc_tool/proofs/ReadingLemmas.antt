@@ -1,20 +1,15 @@
 -- What came of reading one file.
 use Rattle.std.proofs.Common.{◌≡◌, ◌⊎◌, inl, inr, ℕ, ◌<◌, ◌≤◌, List, [], ◌∷◌, length, Some, None, Ok, Err, sym, ap, subst}
-use Rattle.std.specs.Prelude.{IfOk}
-use Rattle.std.specs.declared.option.Option.{Option}
+use Rattle.cyc_tool.proofs.Common.{IfOk, Option, Arena, Parts, IsNetlist, ShelfCall, EndsAt, Follows, IsErrorOf, netlist_of, Plan, Reads, GoesOn, StopsIn, Outcome, no_memory}
 use Rattle.std.specs.declared.result.Result.{Result}
-use Rattle.bdd_store.specs.Arena.{Arena}
 use Rattle.cyc_base.specs.declared.limits.TheConstants.{MAX_FILE_BYTES}
 use Rattle.cyc_io.specs.Faults.{ChangesCountOf}
 use Rattle.cyc_io.specs.Files.{IsFile}
-use Rattle.netlist.specs.declared.parts.Parts.{Parts}
-use Rattle.netlist.specs.Netlists.{IsNetlist}
-use Rattle.cyc_tool.specs.Calls.{ShelfCall, ReadFailed, IsSound, EndsAt, Follows}
-use Rattle.contents.specs.Faults.{Fault, IsErrorOf, too_long}
-use Rattle.contents.specs.NetlistFiles.{netlist_of}
-use Rattle.cyc_tool.specs.Plans.{Role, Netlist, Plan, Reads, using}
-use Rattle.cyc_tool.specs.Reading.{GaveNone, GaveText, GoesOn, Lacks, LeadsTo, StopsAt, StopsIn, TooLong, Unread}
-use Rattle.cyc_tool.specs.Texts.{Outcome, has_fault, read_failed, no_memory}
+use Rattle.cyc_tool.specs.Calls.{ReadFailed, IsSound}
+use Rattle.contents.specs.Faults.{Fault, too_long}
+use Rattle.cyc_tool.specs.Plans.{Role, Netlist, using}
+use Rattle.cyc_tool.specs.Reading.{GaveNone, GaveText, Lacks, LeadsTo, StopsAt, TooLong, Unread}
+use Rattle.cyc_tool.specs.Texts.{has_fault, read_failed}
 
 -- what a netlist file means is sound, whether it is a netlist or a fault
 pub sound_netlist : (bytes : List ℕ) (net : Parts) → netlist_of bytes ≡ Ok net → IsNetlist net → IsSound Netlist bytes

@@ -1,21 +1,11 @@
 -- Going along the plan of a recorded schedule, whatever the probes show.
 use Rattle.std.proofs.Common.{◌≡◌, ℕ, Bool, false, List, length, Some, Ok, refl, subst, ap, ◌∙◌, inl}
-use Rattle.std.specs.declared.option.Option.{Option}
-use Rattle.cyc_base.specs.declared.trit.Trit.{Trit}
-use Rattle.cyc_io.specs.Faults.{Counts}
-use Rattle.cyc_io.specs.Files.{Files}
-use Rattle.delay_core.specs.declared.plan.Schedule.{Schedule}
+use Rattle.cyc_tool.proofs.Common.{Option, Trit, Counts, Files, Schedule, Parts, ShelfCall, told, Plan, Ends, with_netlist, with_vectors, known, played, delays_text, GoesOn, StopsIn, Shows, Outcome, no_memory}
 use Rattle.delay_core.specs.declared.plan.TickEnd.{TickEnd}
 use Rattle.probes.specs.Changes.{changes}
-use Rattle.netlist.specs.declared.parts.Parts.{Parts}
 use Rattle.probes.specs.declared.kind.Kind.{Kind}
-use Rattle.cyc_tool.specs.Calls.{ShelfCall}
-use Rattle.cyc_tool.specs.Answer.{told}
-use Rattle.cyc_tool.specs.Plans.{Plan, Ends, play_on, playing, probed_told, run_told, replaying, replaying_on, with_netlist, with_schedule, with_vectors}
-use Rattle.cyc_tool.specs.Plays.{known, played, delays_text}
-use Rattle.cyc_tool.specs.Reading.{FollowsAlone, FollowsStillAlone, GoesOn, StopsIn}
-use Rattle.cyc_tool.specs.Requests.{Shows}
-use Rattle.cyc_tool.specs.Texts.{Outcome, no_memory}
+use Rattle.cyc_tool.specs.Plans.{play_on, playing, probed_told, run_told, replaying, replaying_on, with_schedule}
+use Rattle.cyc_tool.specs.Reading.{FollowsAlone, FollowsStillAlone}
 use Rattle.cyc_tool.proofs.PlanLemmas.{goes_on_alone, goes_on_still, still_ends, still_lacks, still_used, stops_alone}
 
 abbrev call : Option Files → Counts → Counts → ShelfCall

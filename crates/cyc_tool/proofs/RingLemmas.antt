@@ -1,16 +1,11 @@
 -- The ring arbiter's texts, taken for files.
 use Rattle.std.proofs.Common.{◌≡◌, ◌⊎◌, ℕ, List, Ok, sym, ap, subst, ◌∙◌, inl, inr}
-use Rattle.bdd_store.specs.Arena.{Arena}
+use Rattle.cyc_tool.proofs.Common.{Arena, netlist_of, Parts, IsNetlist, IsDecided, Plan, Decides, Demonstrates, Outcome, no_memory}
 use Rattle.care_sets.specs.Care.{CareSet}
 use Rattle.contents.specs.CareFiles.{care_of}
-use Rattle.contents.specs.NetlistFiles.{netlist_of}
 use Rattle.maker.specs.Ring.{ring_text, care_text}
-use Rattle.netlist.specs.declared.parts.Parts.{Parts}
-use Rattle.netlist.specs.Netlists.{IsNetlist}
-use Rattle.cyc_tool.specs.Calls.{IsDecided}
-use Rattle.cyc_tool.specs.Plans.{Plan, Decides, Demonstrates, ring_care_file, ring_deciding, ring_deciding_on, ring_decision, ring_file}
+use Rattle.cyc_tool.specs.Plans.{ring_care_file, ring_deciding, ring_deciding_on, ring_decision, ring_file}
 use Rattle.cyc_tool.specs.Reading.{FollowsStill, IsStoppedBy}
-use Rattle.cyc_tool.specs.Texts.{Outcome, no_memory}
 use Rattle.cyc_tool.proofs.PlanLemmas.{follows_still, stopped, used}
 
 abbrev decides : ℕ → Parts → CareSet → Plan

@@ -1,14 +1,9 @@
 -- What a call comes to.
 use Rattle.std.proofs.Common.{◌≡◌, ◌⊎◌, ◌≤◌, ℕ, List, Some, None, refl, sym, subst, arith}
-use Rattle.std.specs.declared.option.Option.{Option}
-use Rattle.cyc_io.specs.Faults.{Counts}
-use Rattle.cyc_io.specs.Files.{Files}
-use Rattle.bdd_store.specs.Arena.{Arena}
-use Rattle.commands.specs.Words.{Command, Check, Rewrite, Aiger, Explain, Equal, Flat, Loops, Sim, Delays, Demo, Storm, Help, HelpOn, Version}
-use Rattle.cyc_tool.specs.Calls.{ShelfCall, ComesTo, Follows, KeepsNodes}
-use Rattle.cyc_tool.specs.Plans.{plan_of}
-use Rattle.cyc_tool.specs.Requests.{Shows}
-use Rattle.cyc_tool.specs.Texts.{Outcome, no_memory, usage}
+use Rattle.cyc_tool.proofs.Common.{Option, Counts, Files, Arena, Command, ShelfCall, ComesTo, Follows, plan_of, Shows, Outcome, no_memory}
+use Rattle.commands.specs.Words.{Check, Rewrite, Aiger, Explain, Equal, Flat, Loops, Sim, Delays, Demo, Storm, Help, HelpOn, Version}
+use Rattle.cyc_tool.specs.Calls.{KeepsNodes}
+use Rattle.cyc_tool.specs.Texts.{usage}
 
 -- a call comes to what its command comes to, and words outside the grammar to the usage
 pub comes_to_command : (shows : Shows) (asked : Option Command) (command : Command) (shelf : ShelfCall) (nodes : Arena) (end : Outcome) → asked ≡ Some command

@@ -1,18 +1,11 @@
 -- The storm of a plan is the storm of its vector.
 use Rattle.std.proofs.Common.{◌≡◌, ◌<◌, ◌≤◌, ◌++◌, ◌-◌, ℕ, Bool, true, false, List, Some, None, sym, ap, subst, ◌∙◌, arith}
-use Rattle.std.specs.Prelude.{nat_le, if◌then◌else◌}
+use Rattle.cyc_tool.proofs.Common.{nat_le, if◌then◌else◌, Option, bits, Schedule, Sig, Parts, IsRefusalOf, Refusal, Undetermined, fix, told, Outgrows, Prints, Outcome}
 use Rattle.std.specs.List.{list_any}
-use Rattle.std.specs.declared.option.Option.{Option}
-use Rattle.cyc_base.specs.Values.{bits}
 use Rattle.cyc_base.specs.declared.trit.Trit.TheVariants.{X}
 use Rattle.care_sets.specs.Care.{columns}
-use Rattle.delay_core.specs.declared.plan.Schedule.{Schedule}
-use Rattle.cyc_base.specs.declared.sig.Sig.{Sig}
-use Rattle.netlist.specs.declared.parts.Parts.{Parts}
-use Rattle.refusals.specs.Refusals.{IsAt, IsRefusalOf}
-use Rattle.refusals.specs.declared.refusal.Refusal.{Refusal}
-use Rattle.refusals.specs.declared.refusal.Refusal.TheVariants.{Undetermined}
-use Rattle.netlist.specs.Fixpoint.{wire, fix}
+use Rattle.refusals.specs.Refusals.{IsAt}
+use Rattle.netlist.specs.Fixpoint.{wire}
 use Rattle.netlist.specs.Netlists.{signal, gate_sig}
 use Rattle.sched_text.specs.Written.{written}
 use Rattle.storm.specs.Laws.{IsTooLarge}
@@ -20,12 +13,9 @@ use Rattle.storm.specs.Plans.{if_shaking, plan_at, storm_plan}
 use Rattle.storm.specs.Storms.{most_events, storm_events, storm_of}
 use Rattle.storm.specs.declared.fault.StormFault.TheVariants.{TooLarge}
 use Rattle.storm.specs.declared.planning.StormPlan.{StormPlan}
-use Rattle.cyc_tool.specs.Answer.{told}
 use Rattle.cyc_tool.specs.Endings.{storm_or_refusal, storm_told}
-use Rattle.cyc_tool.specs.Plans.{Outgrows, Prints}
 use Rattle.cyc_tool.specs.Seen.{IsShown}
 use Rattle.cyc_tool.specs.Storms.{events_of, events_told, inputs_line, storm_text, LeavesUnknown}
-use Rattle.cyc_tool.specs.Texts.{Outcome}
 
 plan_is : (net : Parts) (v : List Bool) (plan : StormPlan) → storm_plan net v ≡ Some plan → plan ≡ plan_at net (fix net (bits v))
 plan_is net v plan is = by_shaking (plan_at net (fix net (bits v))) is

@@ -3,10 +3,9 @@ use Rattle.std.proofs.Common.{◌≡◌, ℕ, Bool, List, [], ◌∷◌, drop, l
 use Rattle.std.specs.Prelude.{slice_get, zero, suc, All}
 use Rattle.std.specs.List.{AllByRecursion}
 use Rattle.std.proofs.lemmas.List.Elements.{All-from_recursion, recursion_from_All}
-use Rattle.cyc_base.specs.declared.trit.Trit.{Trit}
+use Rattle.cyc_tool.proofs.Common.{Trit, known}
 use Rattle.care_sets.specs.Care.{is_one}
 use Rattle.sched_text.specs.Vectors.{HaveWidth}
-use Rattle.cyc_tool.specs.Plays.{known}
 
 -- vectors without unknown values have the width that they had
 pub known_width : (n : ℕ) (vectors : List (List Trit)) → HaveWidth n vectors → All (λ (inputs : List Bool). length inputs ≡ n) (known vectors)

@@ -1,7 +1,5 @@
-use Rattle.std.proofs.lemmas.Result.{err_from_is_err_and}
-use Rattle.commands.specs.Seen.{options_seen}
-use Rattle.cyc_tool.specs.Plans.{comparing_with, with_netlist}
-use Rattle.cyc_tool.specs.Seen.{end_of}
+use Rattle.cyc_tool.proofs.Common.{err_from_is_err_and, options_seen, with_netlist, end_of}
+use Rattle.cyc_tool.specs.Plans.{comparing_with}
 use Rattle.cyc_tool.proofs.PlanLemmas.{goes_on}
 use Rattle.cyc_tool.proofs.compared.compare_files.Goals as goal
 

@@ -1,6 +1,5 @@
-use Rattle.std.proofs.lemmas.Result.{IfOk-weaker}
+use Rattle.cyc_tool.proofs.Common.{IfOk-weaker, outcome_of}
 use Rattle.cyc_tool.specs.Plans.{Comparison}
-use Rattle.cyc_tool.specs.Seen.{outcome_of}
 use Rattle.cyc_tool.proofs.ComparedLemmas.{found_compares, limit_compares}
 use Rattle.cyc_tool.proofs.compared.compare_netlists.Goals as goal
 

@@ -1,10 +1,6 @@
 use Rattle.std.proofs.Common.{ℕ, refl, subst, inl, inr}
-use Rattle.std.proofs.lemmas.Result.{err_from_is_err_and}
-use Rattle.commands.specs.Seen.{options_seen}
-use Rattle.cyc_tool.specs.Calls.{IsCompared}
-use Rattle.cyc_tool.specs.Plans.{Compares, comparison}
-use Rattle.cyc_tool.specs.Seen.{outcome_of}
-use Rattle.cyc_tool.specs.Texts.{no_memory}
+use Rattle.cyc_tool.proofs.Common.{err_from_is_err_and, options_seen, IsCompared, Compares, outcome_of, no_memory}
+use Rattle.cyc_tool.specs.Plans.{comparison}
 use Rattle.cyc_tool.proofs.PlanLemmas.{follows_still}
 use Rattle.cyc_tool.proofs.compared.compare_on_care.Goals as goal
 

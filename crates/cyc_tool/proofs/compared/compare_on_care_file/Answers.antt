@@ -1,7 +1,5 @@
-use Rattle.std.proofs.lemmas.Result.{err_from_is_err_and}
-use Rattle.commands.specs.Seen.{options_seen}
-use Rattle.cyc_tool.specs.Plans.{Compares, comparison, with_care}
-use Rattle.cyc_tool.specs.Seen.{end_of}
+use Rattle.cyc_tool.proofs.Common.{err_from_is_err_and, options_seen, Compares, end_of}
+use Rattle.cyc_tool.specs.Plans.{comparison, with_care}
 use Rattle.cyc_tool.proofs.PlanLemmas.{goes_on}
 use Rattle.cyc_tool.proofs.compared.compare_on_care_file.Goals as goal
 

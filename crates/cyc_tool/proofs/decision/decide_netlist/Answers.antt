@@ -1,7 +1,7 @@
 use Rattle.std.proofs.Common.{subst, sym}
-use Rattle.std.proofs.lemmas.Result.{IfOk-weaker}
+use Rattle.cyc_tool.proofs.Common.{IfOk-weaker, purpose_seen}
 use Rattle.loops.specs.Looped.{Looped}
-use Rattle.cyc_tool.specs.Seen.{IsTellable, purpose_seen}
+use Rattle.cyc_tool.specs.Seen.{IsTellable}
 use Rattle.cyc_tool.proofs.DecisionLemmas.{limit_decides, verdict_fits}
 use Rattle.cyc_tool.proofs.decision.decide_netlist.Goals as goal
 

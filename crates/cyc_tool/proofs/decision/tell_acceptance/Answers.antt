@@ -1,6 +1,4 @@
-use Rattle.std.proofs.lemmas.Result.{IfOk-weaker}
-use Rattle.commands.specs.Seen.{cells_seen}
-use Rattle.cyc_tool.specs.Seen.{outcome_of}
+use Rattle.cyc_tool.proofs.Common.{IfOk-weaker, cells_seen, outcome_of}
 use Rattle.cyc_tool.proofs.DecisionLemmas.{calmed, demonstrated, judged, loops_told}
 use Rattle.cyc_tool.proofs.decision.tell_acceptance.Goals as goal
 

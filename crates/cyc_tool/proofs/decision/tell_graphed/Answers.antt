@@ -1,4 +1,4 @@
-use Rattle.std.proofs.lemmas.Result.{IfOk-weaker}
+use Rattle.cyc_tool.proofs.Common.{IfOk-weaker}
 use Rattle.cyc_tool.proofs.DecisionLemmas.{kept_columns, outgrown_graph}
 use Rattle.cyc_tool.proofs.decision.tell_graphed.Goals as goal
 

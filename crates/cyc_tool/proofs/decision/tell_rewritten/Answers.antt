@@ -1,4 +1,4 @@
-use Rattle.std.proofs.lemmas.Result.{IfOk-weaker}
+use Rattle.cyc_tool.proofs.Common.{IfOk-weaker}
 use Rattle.cyc_tool.proofs.DecisionLemmas.{was_rewritten}
 use Rattle.cyc_tool.proofs.decision.tell_rewritten.Goals as goal
 

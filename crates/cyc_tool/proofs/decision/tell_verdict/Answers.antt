@@ -1,5 +1,4 @@
-use Rattle.std.proofs.lemmas.Result.{IfOk-weaker}
-use Rattle.cyc_tool.specs.Seen.{outcome_of, purpose_seen}
+use Rattle.cyc_tool.proofs.Common.{IfOk-weaker, outcome_of, purpose_seen}
 use Rattle.cyc_tool.proofs.DecisionLemmas.{accepted_decides, refused_decides}
 use Rattle.cyc_tool.proofs.decision.tell_verdict.Goals as goal
 

@@ -1,10 +1,8 @@
 use Rattle.std.proofs.Common.{◌≡◌, ◌≢◌, ◌+◌, ◌-◌, ℕ, length, ap, subst, ◌∙◌, arith}
-use Rattle.std.specs.Prelude.{IfNone, IfOk, IfSome}
-use Rattle.cyc_base.specs.declared.sig.Sig.{Sig}
+use Rattle.cyc_tool.proofs.Common.{IfOk, Sig, bits, Parts, fix}
+use Rattle.std.specs.Prelude.{IfNone, IfSome}
 use Rattle.cyc_base.specs.declared.trit.Trit.TheVariants.{X}
-use Rattle.cyc_base.specs.Values.{bits}
-use Rattle.netlist.specs.declared.parts.Parts.{Parts}
-use Rattle.netlist.specs.Fixpoint.{fix, wire}
+use Rattle.netlist.specs.Fixpoint.{wire}
 use Rattle.explanations.specs.Explained.{Explains}
 use Rattle.cyc_tool.proofs.ExplainedLemmas.{number_of_gate}
 use Rattle.cyc_tool.proofs.explained.explanation_of.Goals as goal

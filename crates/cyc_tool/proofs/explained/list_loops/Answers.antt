@@ -1,7 +1,7 @@
 use Rattle.std.proofs.Common.{◌≡◌, ◌++◌, false, true≢false, Result, Ok, Err, is_err, OnOk, sym, ap, ◌∙◌}
 use Rattle.report.specs.Verdicts.{accepted_text}
 use Rattle.accepted_loops.specs.Lines.{told_loops}
-use Rattle.rewriting.specs.Rewriting.{sweeps_needed}
+use Rattle.cyc_tool.proofs.Common.{sweeps_needed}
 use Rattle.cyc_tool.specs.Endings.{count_of_loops}
 use Rattle.cyc_tool.specs.Texts.{on_out}
 use Rattle.cyc_tool.proofs.explained.list_loops.Goals as goal

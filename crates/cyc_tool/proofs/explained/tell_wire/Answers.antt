@@ -1,4 +1,4 @@
-use Rattle.std.proofs.lemmas.Result.{IfOk-weaker}
+use Rattle.cyc_tool.proofs.Common.{IfOk-weaker}
 use Rattle.explanations.specs.Explained.{Explains}
 use Rattle.loops.specs.Sweeps.{gate_of}
 use Rattle.cyc_tool.proofs.ExplainedLemmas.{fits_netlist, was_explained}

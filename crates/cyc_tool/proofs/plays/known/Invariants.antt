@@ -1,5 +1,5 @@
 use Rattle.std.proofs.Common.{◌≡◌, take}
-use Rattle.cyc_tool.specs.Plays.{known}
+use Rattle.cyc_tool.proofs.Common.{known}
 use Rattle.cyc_tool.proofs.plays.known.Given as goal
 
 abbrev pub invariant-loop-vector : goal.invariant-loop-vector

@@ -1,6 +1,7 @@
 use Rattle.std.proofs.Common.{◌≡◌, ◌+◌, ◌++◌, drop}
 use Rattle.cyc_io.specs.Text.{text_bytes}
-use Rattle.cyc_tool.specs.Plays.{delays_text, end_lines}
+use Rattle.cyc_tool.proofs.Common.{delays_text}
+use Rattle.cyc_tool.specs.Plays.{end_lines}
 use Rattle.cyc_tool.proofs.plays.put_ends.Given as goal
 
 -- what is told so far, and then the lines of the ticks that are left

@@ -1,9 +1,6 @@
-use Rattle.std.proofs.lemmas.Result.{err_from_is_err_and}
-use Rattle.contents.specs.NetlistFiles.{netlist_of}
-use Rattle.contents.specs.Seen.{error_seen}
+use Rattle.cyc_tool.proofs.Common.{err_from_is_err_and, netlist_of, error_seen, stop_outcome}
 use Rattle.contents.proofs.NetlistLemmas.{netlist_of_long}
 use Rattle.cyc_tool.specs.Plans.{Netlist}
-use Rattle.cyc_tool.specs.Seen.{stop_outcome}
 use Rattle.cyc_tool.proofs.ReadingLemmas.{error_stops, file_goes_on, none_stops, sound_fault, sound_netlist}
 use Rattle.cyc_tool.proofs.reading.read_netlist.Goals as goal
 

@@ -1,6 +1,4 @@
-use Rattle.std.proofs.lemmas.Result.{err_from_is_err_and}
-use Rattle.commands.specs.Seen.{cells_seen}
-use Rattle.cyc_tool.specs.Seen.{end_of, stop_outcome}
+use Rattle.cyc_tool.proofs.Common.{err_from_is_err_and, cells_seen, end_of, stop_outcome}
 use Rattle.cyc_tool.proofs.RingLemmas.{ring_goes_on, ring_stops}
 use Rattle.cyc_tool.proofs.ring.decide_ring.Goals as goal
 

@@ -1,8 +1,5 @@
-use Rattle.std.proofs.lemmas.Result.{err_from_is_err_and}
-use Rattle.commands.specs.Seen.{cells_seen}
-use Rattle.cyc_tool.specs.Calls.{IsDecided}
-use Rattle.cyc_tool.specs.Plans.{Demonstrates, ring_decision}
-use Rattle.cyc_tool.specs.Seen.{end_of, stop_outcome}
+use Rattle.cyc_tool.proofs.Common.{err_from_is_err_and, cells_seen, IsDecided, Demonstrates, end_of, stop_outcome}
+use Rattle.cyc_tool.specs.Plans.{ring_decision}
 use Rattle.cyc_tool.proofs.PlanLemmas.{ends_or_lacks}
 use Rattle.cyc_tool.proofs.RingLemmas.{ring_care_stops, ring_ends}
 use Rattle.cyc_tool.proofs.ring.decide_ring_on.Goals as goal

@@ -1,5 +1,5 @@
 use Rattle.commands.specs.Seen.{rounds_seen}
-use Rattle.cyc_tool.specs.Seen.{outcome_of}
+use Rattle.cyc_tool.proofs.Common.{outcome_of}
 use Rattle.cyc_tool.proofs.StormLemmas.{leaves_unknown, wire_stormed}
 use Rattle.cyc_tool.proofs.storms.tell_storm.Goals as goal
 

@@ -1,7 +1,6 @@
 use Rattle.std.proofs.Common.{◌≡◌, refl}
 use Rattle.report.specs.Help.{help_text, topic_text, version_text}
-use Rattle.cyc_tool.specs.Answer.{told}
-use Rattle.cyc_tool.specs.Plans.{Ending, Prints}
+use Rattle.cyc_tool.proofs.Common.{told, Ending, Prints}
 use Rattle.cyc_tool.proofs.PlanLemmas.{ends_or_lacks, still_ends}
 use Rattle.cyc_tool.proofs.top.carry_out.Goals as goal
 

@@ -1,11 +1,7 @@
 use Rattle.std.proofs.Common.{ℕ, refl, subst, inl, inr}
-use Rattle.std.proofs.lemmas.Result.{err_from_is_err_and}
-use Rattle.commands.specs.Seen.{options_seen}
+use Rattle.cyc_tool.proofs.Common.{err_from_is_err_and, options_seen, IsDecided, Decides, outcome_of, purpose_seen, no_memory}
 use Rattle.refusals.specs.declared.observe.Observe.{Observe}
-use Rattle.cyc_tool.specs.Calls.{IsDecided}
-use Rattle.cyc_tool.specs.Plans.{Decides, decision}
-use Rattle.cyc_tool.specs.Seen.{outcome_of, purpose_seen}
-use Rattle.cyc_tool.specs.Texts.{no_memory}
+use Rattle.cyc_tool.specs.Plans.{decision}
 use Rattle.cyc_tool.proofs.PlanLemmas.{follows_still}
 use Rattle.cyc_tool.proofs.top.decide_on_care.Goals as goal
 

@@ -1,7 +1,5 @@
-use Rattle.std.proofs.lemmas.Result.{err_from_is_err_and}
-use Rattle.commands.specs.Seen.{options_seen}
-use Rattle.cyc_tool.specs.Plans.{Decides, decision, with_care}
-use Rattle.cyc_tool.specs.Seen.{end_of, purpose_seen}
+use Rattle.cyc_tool.proofs.Common.{err_from_is_err_and, options_seen, Decides, end_of, purpose_seen}
+use Rattle.cyc_tool.specs.Plans.{decision, with_care}
 use Rattle.cyc_tool.proofs.PlanLemmas.{goes_on}
 use Rattle.cyc_tool.proofs.top.decide_on_care_file.Goals as goal
 

@@ -1,4 +1,4 @@
-use Rattle.cyc_tool.specs.Seen.{end_of}
+use Rattle.cyc_tool.proofs.Common.{end_of}
 use Rattle.cyc_tool.proofs.HearLemmas.{netlist_hears}
 use Rattle.cyc_tool.proofs.ReplayLemmas.{netlist_replays}
 use Rattle.cyc_tool.proofs.top.delays.Goals as goal

@@ -1,9 +1,5 @@
 use Rattle.std.proofs.Common.{◌≡◌}
-use Rattle.std.proofs.lemmas.Result.{err_from_is_err_and}
-use Rattle.blif_write.specs.Written.{written}
-use Rattle.cyc_tool.specs.Answer.{told}
-use Rattle.cyc_tool.specs.Plans.{Ends, Prints, with_netlist}
-use Rattle.cyc_tool.specs.Seen.{end_of, stop_outcome}
+use Rattle.cyc_tool.proofs.Common.{err_from_is_err_and, written, told, Ends, Prints, with_netlist, end_of, stop_outcome}
 use Rattle.cyc_tool.proofs.PlanLemmas.{ends_or_lacks, goes_on_still, still_ends, stops_alone}
 use Rattle.cyc_tool.proofs.top.flat.Goals as goal
 

@@ -1,8 +1,6 @@
 use Rattle.std.proofs.Common.{◌≡◌}
-use Rattle.std.proofs.lemmas.Result.{err_from_is_err_and}
-use Rattle.cyc_tool.specs.Answer.{told}
-use Rattle.cyc_tool.specs.Plans.{Ends, Prints, loops_shown, with_netlist}
-use Rattle.cyc_tool.specs.Seen.{end_of, stop_outcome}
+use Rattle.cyc_tool.proofs.Common.{err_from_is_err_and, told, Ends, Prints, with_netlist, end_of, stop_outcome}
+use Rattle.cyc_tool.specs.Plans.{loops_shown}
 use Rattle.cyc_tool.proofs.PlanLemmas.{ends_or_lacks, goes_on_still, still_ends, stops_alone}
 use Rattle.cyc_tool.proofs.top.loops.Goals as goal
 

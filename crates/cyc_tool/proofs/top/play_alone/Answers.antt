@@ -1,6 +1,4 @@
-use Rattle.contents.specs.Seen.{error_seen}
-use Rattle.cyc_tool.specs.Plans.{Ends, Prints}
-use Rattle.cyc_tool.specs.Plays.{delays_text, played}
+use Rattle.cyc_tool.proofs.Common.{error_seen, Ends, Prints, delays_text, played}
 use Rattle.cyc_tool.proofs.PlanLemmas.{still_stopped}
 use Rattle.cyc_tool.proofs.top.play_alone.Goals as goal
 

@@ -1,4 +1,4 @@
-use Rattle.cyc_tool.specs.Seen.{end_of}
+use Rattle.cyc_tool.proofs.Common.{end_of}
 use Rattle.cyc_tool.proofs.HearLemmas.{hears_file}
 use Rattle.cyc_tool.proofs.ReplayLemmas.{plays_file}
 use Rattle.cyc_tool.proofs.top.play_file.Goals as goal

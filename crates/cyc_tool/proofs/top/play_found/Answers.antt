@@ -1,8 +1,6 @@
 use Rattle.std.proofs.Common.{◌≡◌, Bool, List, length, sym, subst, ◌∙◌}
 use Rattle.std.specs.Prelude.{All}
-use Rattle.std.proofs.lemmas.Result.{err_from_is_err_and}
-use Rattle.cyc_tool.specs.Plays.{known}
-use Rattle.cyc_tool.specs.Seen.{end_of}
+use Rattle.cyc_tool.proofs.Common.{err_from_is_err_and, known, end_of}
 use Rattle.cyc_tool.proofs.HearLemmas.{hears_known}
 use Rattle.cyc_tool.proofs.ReplayLemmas.{found_lacks, plays_known}
 use Rattle.cyc_tool.proofs.TickLemmas.{known_width}

@@ -1,5 +1,4 @@
-use Rattle.std.proofs.lemmas.Result.{err_from_is_err_and}
-use Rattle.cyc_tool.specs.Seen.{end_of}
+use Rattle.cyc_tool.proofs.Common.{err_from_is_err_and, end_of}
 use Rattle.cyc_tool.proofs.HearLemmas.{replay_hears}
 use Rattle.cyc_tool.proofs.ReplayLemmas.{replays, vectors_stop}
 use Rattle.cyc_tool.proofs.top.play_netlist.Goals as goal

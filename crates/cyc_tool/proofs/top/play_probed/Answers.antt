@@ -1,6 +1,5 @@
-use Rattle.contents.specs.Seen.{error_seen}
+use Rattle.cyc_tool.proofs.Common.{error_seen, played}
 use Rattle.probes.proofs.HearingLemmas.{each_whole}
-use Rattle.cyc_tool.specs.Plays.{played}
 use Rattle.cyc_tool.specs.Requests.{shown_by}
 use Rattle.cyc_tool.proofs.PlanLemmas.{still_stopped}
 use Rattle.cyc_tool.proofs.ReplayLemmas.{run_probed}

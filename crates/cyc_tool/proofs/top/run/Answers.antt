@@ -2,9 +2,9 @@ use Rattle.std.proofs.Common.{refl}
 use Rattle.cyc_tool.proofs.AnswerLemmas.{gives_answer, is_complete}
 use Rattle.cyc_tool.proofs.CauseLemmas.{Eight, One, Zero, compared_cause, done_cause, explained_cause, fault_cause, graphed_cause, help_told, limit_cause, read_cause, rewritten_cause, stormed_cause, usage_cause, usage_told, write_cause}
 use Rattle.cyc_tool.proofs.RunLemmas.{counts_later}
-use Rattle.cyc_tool.specs.Calls.{shelf_call, sink_call, Runs}
+use Rattle.cyc_tool.proofs.Common.{Runs, end_of}
+use Rattle.cyc_tool.specs.Calls.{shelf_call, sink_call}
 use Rattle.cyc_tool.specs.Requests.{request}
-use Rattle.cyc_tool.specs.Seen.{end_of}
 use Rattle.cyc_tool.proofs.top.run.Given as given
 use Rattle.cyc_tool.proofs.top.run.Goals as goal
 

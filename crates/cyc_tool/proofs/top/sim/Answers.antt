@@ -1,6 +1,5 @@
-use Rattle.std.proofs.lemmas.Result.{err_from_is_err_and}
-use Rattle.cyc_tool.specs.Plans.{simulating_on, with_netlist}
-use Rattle.cyc_tool.specs.Seen.{end_of, stop_outcome}
+use Rattle.cyc_tool.proofs.Common.{err_from_is_err_and, with_netlist, end_of, stop_outcome}
+use Rattle.cyc_tool.specs.Plans.{simulating_on}
 use Rattle.cyc_tool.proofs.PlanLemmas.{goes_on_alone, stops_alone}
 use Rattle.cyc_tool.proofs.top.sim.Goals as goal
 

@@ -1,9 +1,6 @@
 use Rattle.std.proofs.Common.{◌≡◌, true}
-use Rattle.std.proofs.lemmas.Result.{err_from_is_err_and}
-use Rattle.cyc_tool.specs.Answer.{told}
-use Rattle.cyc_tool.specs.Plans.{Ends, Prints, with_vectors}
+use Rattle.cyc_tool.proofs.Common.{err_from_is_err_and, told, Ends, Prints, with_vectors, end_of, stop_outcome}
 use Rattle.cyc_tool.specs.Simulation.{sim_text}
-use Rattle.cyc_tool.specs.Seen.{end_of, stop_outcome}
 use Rattle.cyc_tool.proofs.PlanLemmas.{ends_alone, ends_or_lacks, stops_alone}
 use Rattle.cyc_tool.proofs.top.simulate_file.Goals as goal
 

@@ -1,0 +1,33 @@
+-- The names that most proofs of this crate cite, passed on from one place. Declares nothing.
+pub use Rattle.bdd_store.specs.Arena.{Arena}
+pub use Rattle.blif_write.specs.Written.{written}
+pub use Rattle.commands.specs.Seen.{cells_seen, options_seen}
+pub use Rattle.commands.specs.Words.{Command}
+pub use Rattle.commands.specs.declared.form.Form.{Form}
+pub use Rattle.contents.specs.Faults.{IsErrorOf}
+pub use Rattle.contents.specs.NetlistFiles.{netlist_of}
+pub use Rattle.contents.specs.Seen.{error_seen}
+pub use Rattle.cyc_base.specs.Values.{bits}
+pub use Rattle.cyc_base.specs.declared.sig.Sig.{Sig}
+pub use Rattle.cyc_base.specs.declared.trit.Trit.{Trit}
+pub use Rattle.cyc_io.specs.Faults.{Counts}
+pub use Rattle.cyc_io.specs.Files.{Files}
+pub use Rattle.cyc_tool.specs.Answer.{told}
+pub use Rattle.cyc_tool.specs.Calls.{AreGiven, ComesTo, EndsAt, Explained, Follows, Found, IsCompared, IsDecided, Limit, Runs, ShelfCall, Unfinished, rest_of}
+pub use Rattle.cyc_tool.specs.Plans.{Compares, Decides, Demonstrates, Ending, Ends, Explains, Faulty, Judges, Outgrows, Plan, Prints, Purpose, Reads, Rewrites, Storms, WritesGraph, plan_of, with_netlist, with_vectors}
+pub use Rattle.cyc_tool.specs.Plays.{delays_text, known, played}
+pub use Rattle.cyc_tool.specs.Reading.{GoesOn, StopsIn}
+pub use Rattle.cyc_tool.specs.Requests.{Shows}
+pub use Rattle.cyc_tool.specs.Seen.{end_of, outcome_of, purpose_seen, stop_outcome}
+pub use Rattle.cyc_tool.specs.Texts.{Outcome, no_memory}
+pub use Rattle.delay_core.specs.declared.plan.Schedule.{Schedule}
+pub use Rattle.netlist.specs.Fixpoint.{fix}
+pub use Rattle.netlist.specs.Netlists.{IsNetlist}
+pub use Rattle.netlist.specs.declared.parts.Parts.{Parts}
+pub use Rattle.refusals.specs.Refusals.{IsRefusalOf}
+pub use Rattle.refusals.specs.declared.refusal.Refusal.{Refusal}
+pub use Rattle.refusals.specs.declared.refusal.Refusal.TheVariants.{Undetermined}
+pub use Rattle.rewriting.specs.Rewriting.{sweeps_needed}
+pub use Rattle.std.proofs.lemmas.Result.{IfOk-weaker, err_from_is_err_and}
+pub use Rattle.std.specs.Prelude.{IfOk, if◌then◌else◌, nat_le}
+pub use Rattle.std.specs.declared.option.Option.{Option}
