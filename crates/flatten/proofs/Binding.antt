@@ -3,7 +3,7 @@ use Rattle.std.proofs.Common.{◌≡◌, ℕ, ◌+◌, ◌<◌, Bool, true, fals
 use Rattle.flatten.proofs.Common.{list_any, bytes_eq, Option, option_or, BlifModel, FlatFault, actual_of, is_among, model_at, formals, pairs_fault, entry, each_once, resolved, bound}
 use Rattle.flatten.specs.declared.fault.FlatFault.TheVariants.{UnknownFormal, FormalTwice, OpenInput}
 use Rattle.flatten.specs.Instances.{formal_fault, pair_fault, first_open}
-use Rattle.flatten.proofs.Names.{dropped, taken, item_at_default}
+use Rattle.flatten.proofs.Names.{dropped, taken}
 use Rattle.flatten.proofs.Libraries.{among_once}
 
 some_by : (b : Bool) (x y : List ℕ) (o p : Option (List ℕ)) → is_some o ≡ is_some p → is_some (cond b (Some x) o) ≡ is_some (cond b (Some y) p)
@@ -67,19 +67,19 @@ pair_fault_once names before [] = refl
 pair_fault_once names before (p ∷ pairs) = rw (among_once names p.0, pair_fault_once names (before ++ p ∷ []) pairs) refl
 
 -- what is open, by the name of its model
-pub open_at : {X : Type 0} (place : X → ℕ) (models : List BlifModel) (name : List ℕ) (xs : List X) (i : ℕ) (x : X) (model : BlifModel) → i < length xs → x ≡ get_or xs i x → place x < length models → model ≡ get_or models (place x) model → bytes_eq model.name name ≡ true → list_any (λ y. bytes_eq (model_at models (place y)).name name) (drop i xs) ≡ true
-open_at place models name xs i x model l e w g h =
-    let m : model_at models (place x) ≡ model = item_at_default models (place x) model _ w g in
+pub open_at : {X : Type 0} (place : X → ℕ) (models : List BlifModel) (name : List ℕ) (xs : List X) (i : ℕ) (x : X) (model : BlifModel) → i < length xs → x ≡ get_or xs i x → model ≡ model_at models (place x) → bytes_eq model.name name ≡ true → list_any (λ y. bytes_eq (model_at models (place y)).name name) (drop i xs) ≡ true
+open_at place models name xs i x model l e g h =
+    let m : model_at models (place x) ≡ model = sym g in
     rw (dropped xs i x l e, m, h) refl
 
-pub other_at : {X : Type 0} (place : X → ℕ) (models : List BlifModel) (name : List ℕ) (xs : List X) (i : ℕ) (x : X) (model : BlifModel) → i < length xs → x ≡ get_or xs i x → place x < length models → model ≡ get_or models (place x) model → bytes_eq model.name name ≡ false → list_any (λ y. bytes_eq (model_at models (place y)).name name) (drop i xs) ≡ list_any (λ y. bytes_eq (model_at models (place y)).name name) (drop (i + 1) xs)
-other_at place models name xs i x model l e w g h =
-    let m : model_at models (place x) ≡ model = item_at_default models (place x) model _ w g in
+pub other_at : {X : Type 0} (place : X → ℕ) (models : List BlifModel) (name : List ℕ) (xs : List X) (i : ℕ) (x : X) (model : BlifModel) → i < length xs → x ≡ get_or xs i x → model ≡ model_at models (place x) → bytes_eq model.name name ≡ false → list_any (λ y. bytes_eq (model_at models (place y)).name name) (drop i xs) ≡ list_any (λ y. bytes_eq (model_at models (place y)).name name) (drop (i + 1) xs)
+other_at place models name xs i x model l e g h =
+    let m : model_at models (place x) ≡ model = sym g in
     rw (dropped xs i x l e, m, h) refl
 
--- a test that was made tells whether the model is open
-pub by_test : (name : List ℕ) (test opened deep : Bool) (f : ℕ → Option FlatFault) (x : Option ℕ) → test ≡ opened → entry name opened deep f x ≡ entry name test deep f x
-by_test name test opened deep f x e = ap (λ b. entry name b deep f x) (sym e)
+-- tests that were made tell whether the model is open, and whether it is too deep
+pub by_tests : (name : List ℕ) (open_test opened deep_test deep : Bool) (f : ℕ → Option FlatFault) (x : Option ℕ) → open_test ≡ opened → deep_test ≡ deep → entry name opened deep f x ≡ entry name open_test deep_test f x
+by_tests name open_test opened deep_test deep f x e g = ap (λ b. entry name b deep f x) (sym e) ∙ ap (λ b. entry name open_test b f x) (sym g)
 
 -- an instance whose model was chosen, before and behind the look at its pairs
 pub entry_refused : (name : List ℕ) (a b : Bool) (f : ℕ → Option FlatFault) (x : Option ℕ) (fault : FlatFault) → entry name a b (λ i. None) x ≡ Err fault → entry name a b f x ≡ Err fault

@@ -1,7 +1,7 @@
 -- Equality of names, and one more item of a list.
 use Rattle.std.proofs.Common.{◌≡◌, ℕ, ◌+◌, ◌<◌, suc, Bool, true, false, List, ◌∷◌, [], ◌++◌, length, get_or, take, drop, refl, sym, ap, ◌∙◌, add-one}
 use Rattle.std.proofs.Math.Seq.{drop-cons}
-use Rattle.flatten.proofs.Common.{get_or_default, bytes_eq}
+use Rattle.flatten.proofs.Common.{bytes_eq}
 use Rattle.std.proofs.lemmas.List.{take_more}
 use Rattle.std.proofs.lemmas.Slice.Eq.{bytes_eq-Decides}
 
@@ -28,7 +28,3 @@ dropped xs i x l e = rw add-one (drop-cons xs i x l ∙ ap (λ y. y ∷ drop (su
 
 pub taken : {A : Type 0} (xs : List A) (i : ℕ) (x : A) → i < length xs → x ≡ get_or xs i x → take (i + 1) xs ≡ take i xs ++ x ∷ []
 taken xs i x l e = take_more xs i x l ∙ ap (λ y. take i xs ++ y ∷ []) (sym e)
-
--- an item that was read by its index, at any default
-pub item_at_default : {A : Type 0} (xs : List A) (i : ℕ) (x d : A) → i < length xs → x ≡ get_or xs i x → get_or xs i d ≡ x
-item_at_default xs i x d l e = get_or_default xs i d x l ∙ sym e

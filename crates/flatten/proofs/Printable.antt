@@ -1,6 +1,6 @@
 -- What the walk prints may stand in a BLIF text, and each gate has as many pins as its cover.
 use Rattle.std.proofs.Common.{◌≡◌, ℕ, zero, suc, ◌+◌, ◌<◌, Bool, true, false, List, [], ◌∷◌, ◌++◌, length, drop, sym, ◌∙◌, subst, arith, cond, All, Some, None}
-use Rattle.flatten.proofs.Common.{length-map, All-nil, All-cons, All-head, All-tail, All-append, All-push, decimal, bytes_eq, Option, tildes, BlifModel, GateLine, LatchLine, PartLine, Item, Gate, Latch, Part, Level, actual_of, model_at, resolved, bound, gate_by, latch_by, passed_line, passed_part, PassesPart, IsPrintedGate, IsPrintedLatch}
+use Rattle.flatten.proofs.Common.{length-map, All-nil, All-cons, All-head, All-tail, All-append, All-push, decimal, bytes_eq, Option, longest_run_of, tildes, mark_of, wire_names, BlifModel, GateLine, LatchLine, PartLine, Item, Gate, Latch, Part, Level, actual_of, model_at, resolved, bound, gate_by, latch_by, passed_line, passed_part, PassesPart, IsPrintedGate, IsPrintedLatch}
 use Rattle.cyc_base.specs.Names.{IsBlifByte, IsBlifName}
 use Rattle.tildes.proofs.BlifLemmas.{tildes_fit, decimal_fits}
 use Rattle.blif_read.specs.Flattening.{IsSoundItem, IsSoundModel, CanBeFlattened}
@@ -90,8 +90,9 @@ module _ (models : List BlifModel) (can : CanBeFlattened models) (old new : Walk
         gates = same_all IsPrintedGate old.gates.items new.gates.items h.gates p.gates;
       }
 
-  pub printed_part : (depth n : ℕ) (x : PartLine) (rest : List Item) → drop l.next (model_at models l.model).body ≡ Part x ∷ rest → PassesPart depth models (tildes n) old l x new → IsPrinted new
-  printed_part depth n x rest e h =
+  pub printed_part : (depth : ℕ) (x : PartLine) (rest : List Item) → drop l.next (model_at models l.model).body ≡ Part x ∷ rest → PassesPart depth models (mark_of models) old l x new → IsPrinted new
+  printed_part depth x rest e h =
+      let n = suc (longest_run_of (wire_names models)) in
       let s = item_sound models l (Part x) rest can within e in
       let i = h.enters.inside in
       let prefix : All IsBlifByte h.inner.scope.prefix =

@@ -11,16 +11,16 @@ use Rattle.blif_read.specs.declared.models.LatchLine.{LatchLine}
 use Rattle.blif_read.specs.declared.models.PartLine.{PartLine}
 use Rattle.flatten.specs.declared.fault.FlatFault.{FlatFault}
 use Rattle.flatten.specs.declared.fault.FlatFault.TheVariants.{TooLarge}
-use Rattle.flatten.specs.declared.library.Library.{Library}
 use Rattle.flatten.specs.declared.scope.Scope.{Scope}
 use Rattle.flatten.specs.declared.walk.Level.{Level}
 use Rattle.flatten.specs.declared.walk.FlatBody.{FlatBody}
 use Rattle.flatten.specs.declared.walk.Walk.{Walk}
+use Rattle.flatten.specs.Wires.{mark_of}
 use Rattle.flatten.specs.Paths.{Instance}
-use Rattle.flatten.specs.Instances.{find_model, model_at, formals, entry, pairs_fault}
+use Rattle.flatten.specs.Instances.{find_model, model_at, entry, pairs_fault}
 use Rattle.flatten.specs.Walk.{Event, FlatLines, events, decided}
-use Rattle.flatten.specs.Linking.{each_once}
 use Rattle.flatten.specs.Laws.{prefix_of, resolved, bound, table_of}
+use Rattle.flatten.specs.Hierarchies.{NestedModels}
 
 -- lines by a table and a prefix
 abbrev pub gate_by : List ℕ → List (List ℕ × List ℕ) → GateLine → GateLine
@@ -40,11 +40,6 @@ latch_by prefix table latch = record {
   control = option_map (clock_by prefix table) latch.control;
   init = latch.init;
 }
-
--- the tables in which the walk looks up models and formals
-pub record IsLibraryOf (models : List BlifModel) (library : Library) : Type 0 where
-  pub places : library.places.keys ≡ map (λ model. model.name) models
-  pub formals : map (λ set. set.keys) library.formals.items ≡ map (λ model. each_once (formals model)) models
 
 -- `entered` in an open level, by this level and those below it
 abbrev pub entered_on : ℕ → List BlifModel → List Level → Level → PartLine → Result ℕ FlatFault
@@ -176,20 +171,20 @@ WalkingWith depth models top m answer walk level =
     Walking depth models top m (walk.levels.items ++ (level ∷ [])) walk.latches.items walk.gates.items walk.room answer
 
 -- a walk that was begun somewhere
-abbrev pub Goes : ℕ → List BlifModel → List ℕ → Walk → Level → Type 0
-Goes depth models m walk level =
-    (top : List ℕ) × ((answer : Result FlatLines FlatFault) × WalkingWith depth models top m answer walk level)
+abbrev pub Goes : NestedModels → Walk → Level → Type 0
+Goes h walk level =
+    (top : List ℕ) × ((answer : Result FlatLines FlatFault) × WalkingWith h.depth h.models top (mark_of h.models) answer walk level)
 
 -- a step leads on, and less is left to do
-abbrev pub StepsOn : ℕ → List BlifModel → List ℕ → Walk → Level → Walk → Type 0
-StepsOn depth models m old level new =
-    (top : List ℕ) (answer : Result FlatLines FlatFault) → WalkingWith depth models top m answer old level
-    → WalkingAt depth models top m answer new × (new.room * 2 + length new.levels.items < old.room * 2 + (length old.levels.items + 1))
+abbrev pub StepsOn : NestedModels → Walk → Level → Walk → Type 0
+StepsOn h old level new =
+    (top : List ℕ) (answer : Result FlatLines FlatFault) → WalkingWith h.depth h.models top (mark_of h.models) answer old level
+    → WalkingAt h.depth h.models top (mark_of h.models) answer new × (new.room * 2 + length new.levels.items < old.room * 2 + (length old.levels.items + 1))
 
 -- a step comes to the fault that is the answer
-abbrev pub StepsTo : ℕ → List BlifModel → List ℕ → Walk → Level → FlatFault → Type 0
-StepsTo depth models m old level fault =
-    (top : List ℕ) (answer : Result FlatLines FlatFault) → WalkingWith depth models top m answer old level → answer ≡ Err fault
+abbrev pub StepsTo : NestedModels → Walk → Level → FlatFault → Type 0
+StepsTo h old level fault =
+    (top : List ℕ) (answer : Result FlatLines FlatFault) → WalkingWith h.depth h.models top (mark_of h.models) answer old level → answer ≡ Err fault
 
 -- a walk that stands before the first item of the model at this place
 pub record IsBegun (model room : ℕ) (walk : Walk) : Type 0 where

@@ -6,6 +6,7 @@ pub mod Linking
 pub mod Drivers
 pub mod Flat
 pub mod Laws
+pub mod Hierarchies
 pub mod Levels
 pub mod Printable
 pub mod Alone

@@ -1,7 +1,6 @@
 -- What is true of all that the walk prints.
 use Rattle.std.specs.Prelude.{◌≡◌, ℕ, List, length, All}
 use Rattle.cyc_base.specs.Names.{IsBlifByte, IsBlifName}
-use Rattle.tildes.specs.Runs.{tildes}
 use Rattle.blif_read.specs.Flattening.{CanBeFlattened}
 use Rattle.blif_read.specs.declared.models.BlifModel.{BlifModel}
 use Rattle.blif_read.specs.declared.models.GateLine.{GateLine}
@@ -36,7 +35,6 @@ pub record ArePrintedLines (lines : FlatLines) : Type 0 where
   pub latches : All IsPrintedLatch lines.latches
   pub gates : All IsPrintedGate lines.gates
 
--- a step keeps this, where the mark is a run of `~`
-abbrev pub PrintsOn : List BlifModel → List ℕ → Walk → Level → Walk → Type 0
-PrintsOn models m old level new =
-    (n : ℕ) → m ≡ tildes n → CanBeFlattened models → IsPrintedLevel level → IsPrinted old → IsPrinted new
+-- a step keeps this
+abbrev pub PrintsOn : List BlifModel → Walk → Level → Walk → Type 0
+PrintsOn models old level new = CanBeFlattened models → IsPrintedLevel level → IsPrinted old → IsPrinted new

@@ -3,13 +3,12 @@ ghost use Rattle.std.specs.List.{find, list_any};
 ghost use Rattle.std.specs.Str.{bytes_eq};
 ghost use Rattle.flatten.specs.declared.fault.FlatFault.TheVariants.{OpenInput};
 ghost use Rattle.flatten.specs.Paths.{actual_of};
-ghost use Rattle.flatten.specs.Instances.{model_at, formals as formals_by, formal_fault, pair_fault, first_open as first_open_by, pairs_fault};
-ghost use Rattle.flatten.specs.Linking.{each_once};
+ghost use Rattle.flatten.specs.Instances.{model_at, formal_fault, pair_fault, first_open as first_open_by, pairs_fault};
 ghost use Rattle.flatten.specs.Laws.{resolved, bound};
-ghost use Rattle.flatten.specs.Levels.{IsLibraryOf, chosen, entered_on};
+ghost use Rattle.flatten.specs.Levels.{chosen, entered_on};
 
 use crate::fault::FlatFault;
-use crate::library::{Library, find};
+use crate::hierarchy::Hierarchy;
 use crate::scope::{Scope, resolve};
 use crate::walk::Level;
 use blif_read::{BlifModel, PartLine};
@@ -118,32 +117,32 @@ fn check_open(table: &IndexMap<Name, Name>, model: &BlifModel) -> Result<(), Fla
     }
 }
 
-/// The table of an instance that binds each input and each clock of its model.
+/// The table of an instance of the model at this place that binds each input and each clock of it.
 pub(crate) fn full_table(
     alloc: Global,
+    hierarchy: &Hierarchy<'_>,
     scope: &Scope,
-    formals: &IndexSet<Name>,
-    model: &BlifModel,
+    place: usize,
     pairs: &[(Name, Name)],
 ) -> Result<IndexMap<Name, Name>, FlatFault>
-    requires { formals.now.keys ≡ each_once (formals_by model.now) }
+    requires { place < length hierarchy.now.models }
     ensures table { IfOk result
         (λ table. table.entries ≡ bound scope.now.prefix scope.now.table.entries pairs.now) }
-    ensures fits { OnOk result (pairs_fault model.now pairs.now ≡ None) }
-    ensures fault { IfErr result
-        (λ fault. (fault ≡ FlatFault.Memory) ⊎ (pairs_fault model.now pairs.now ≡ Some fault)) }
+    ensures fits { OnOk result (pairs_fault (model_at hierarchy.now.models place) pairs.now ≡ None) }
+    ensures fault { IfErr result (λ fault. (fault ≡ FlatFault.Memory)
+        ⊎ (pairs_fault (model_at hierarchy.now.models place) pairs.now ≡ Some fault)) }
 {
-    let table = bind(alloc, scope, formals, pairs)?;
-    check_open(&table, model)?;
+    let table = bind(alloc, scope, hierarchy.formals(place), pairs)?;
+    check_open(&table, hierarchy.model(place))?;
     Ok(table)
 }
 
-fn is_open(models: &[BlifModel], levels: &[Level], name: &Name) -> bool
-    requires { All (λ l. l.model < length models.now) levels.now }
-    ensures { result ≡ list_any (λ l. bytes_eq (model_at models.now l.model).name name.now) levels.now }
+fn is_open(hierarchy: &Hierarchy<'_>, levels: &[Level], name: &Name) -> bool
+    requires { All (λ l. l.model < length hierarchy.now.models) levels.now }
+    ensures { result ≡ list_any (λ l. bytes_eq (model_at hierarchy.now.models l.model).name name.now) levels.now }
 {
     for level in levels {
-        if models[level.model].name == *name {
+        if hierarchy.model(level.model).name == *name {
             return true;
         }
     }
@@ -151,30 +150,28 @@ fn is_open(models: &[BlifModel], levels: &[Level], name: &Name) -> bool
 }
 
 /// Whether the model of this name is that of the level or of one below it.
-fn stands_in(models: &[BlifModel], below: &[Level], level: &Level, name: &Name) -> bool
-    requires within { All (λ l. l.model < length models.now) below.now }
-    requires here { level.now.model < length models.now }
-    ensures { result ≡ (bytes_eq (model_at models.now level.now.model).name name.now
-        || list_any (λ l. bytes_eq (model_at models.now l.model).name name.now) below.now) }
+fn stands_in(hierarchy: &Hierarchy<'_>, below: &[Level], level: &Level, name: &Name) -> bool
+    requires within { All (λ l. l.model < length hierarchy.now.models) below.now }
+    requires here { level.now.model < length hierarchy.now.models }
+    ensures { result ≡ (bytes_eq (model_at hierarchy.now.models level.now.model).name name.now
+        || list_any (λ l. bytes_eq (model_at hierarchy.now.models l.model).name name.now) below.now) }
 {
-    models[level.model].name == *name || is_open(models, below, name)
+    hierarchy.model(level.model).name == *name || is_open(hierarchy, below, name)
 }
 
 /// The place of the model of this name, which is to be neither open nor too deep.
 pub(crate) fn choose(
-    models: &[BlifModel],
-    library: &Library,
+    hierarchy: &Hierarchy<'_>,
     name: &Name,
     opened: bool,
     deep: bool,
 ) -> Result<usize, FlatFault>
-    requires { IsLibraryOf models.now library.now }
-    ensures model { IfOk result (λ i. chosen models.now name.now opened deep ≡ Ok i) }
-    ensures within { IfOk result (λ i. i < length models.now) }
+    ensures model { IfOk result (λ i. chosen hierarchy.now.models name.now opened deep ≡ Ok i) }
+    ensures within { IfOk result (λ i. i < length hierarchy.now.models) }
     ensures fault { IfErr result (λ fault. (fault ≡ FlatFault.Memory)
-        ⊎ (chosen models.now name.now opened deep ≡ Err fault)) }
+        ⊎ (chosen hierarchy.now.models name.now opened deep ≡ Err fault)) }
 {
-    let Some(model) = find(models, library, name) else {
+    let Some(model) = hierarchy.find(name) else {
         return Err(FlatFault::UnknownModel { name: name.copy()? });
     };
     if opened {
@@ -190,27 +187,23 @@ pub(crate) fn choose(
 /// are open too.
 pub(crate) fn enter(
     alloc: Global,
-    models: &[BlifModel],
-    library: &Library,
-    depth: usize,
+    hierarchy: &Hierarchy<'_>,
     below: &[Level],
     level: &Level,
     part: &PartLine,
 ) -> Result<(usize, IndexMap<Name, Name>), FlatFault>
-    requires library { IsLibraryOf models.now library.now }
-    requires within { All (λ l. l.model < length models.now) below.now }
-    requires here { level.now.model < length models.now }
-    ensures model { IfOk result (λ inner. entered_on depth models.now below.now level.now part.now ≡ Ok inner.0) }
+    requires within { All (λ l. l.model < length hierarchy.now.models) below.now }
+    requires here { level.now.model < length hierarchy.now.models }
+    ensures model { IfOk result
+        (λ inner. entered_on hierarchy.now.depth hierarchy.now.models below.now level.now part.now ≡ Ok inner.0) }
     ensures table { IfOk result
         (λ inner. inner.1.entries ≡ bound level.now.scope.prefix level.now.scope.table.entries part.now.pairs) }
     ensures fault { IfErr result (λ fault. (fault ≡ FlatFault.Memory)
-        ⊎ (entered_on depth models.now below.now level.now part.now ≡ Err fault)) }
+        ⊎ (entered_on hierarchy.now.depth hierarchy.now.models below.now level.now part.now ≡ Err fault)) }
 {
     let name = &part.model;
-    let opened = stands_in(models, below, level, name);
-    let model = choose(models, library, name, opened, depth <= below.len())?;
-    let formals = library.formals.as_slice();
-    let pairs = part.pairs.items();
-    let table = full_table(alloc, &level.scope, &formals[model], &models[model], pairs)?;
+    let opened = stands_in(hierarchy, below, level, name);
+    let model = choose(hierarchy, name, opened, hierarchy.depth() <= below.len())?;
+    let table = full_table(alloc, hierarchy, &level.scope, model, part.pairs.items())?;
     Ok((model, table))
 }

@@ -8,24 +8,23 @@ ghost use Rattle.std.specs.Str.{bytes_eq};
 ghost use Rattle.blif_read.specs.declared.models.Item.TheVariants.{Part};
 ghost use Rattle.flatten.specs.Instances.{model_at, pairs_fault};
 ghost use Rattle.flatten.specs.Walk.{flat_lines as flat_lines_by};
-ghost use Rattle.flatten.specs.Levels.{IsLibraryOf};
 ghost use Rattle.flatten.specs.Counting.{Fits, AllFit, entered_below, Leave, LeavesTo, FailsBy};
 
 use crate::bind::{choose, full_table};
 use crate::fault::FlatFault;
-use crate::library::{Library, find};
+use crate::hierarchy::Hierarchy;
 use crate::scope::top_scope;
-use blif_read::{BlifModel, Item, PartLine};
+use blif_read::{Item, PartLine};
 use cyc_base::Name;
 use std::alloc::Global;
 
 /// Whether the model of this name is open.
-fn stands_among(models: &[BlifModel], trail: &[usize], name: &Name) -> bool
-    requires { All (λ i. i < length models.now) trail.now }
-    ensures { result ≡ list_any (λ i. bytes_eq (model_at models.now i).name name.now) trail.now }
+fn stands_among(hierarchy: &Hierarchy<'_>, trail: &[usize], name: &Name) -> bool
+    requires { All (λ i. i < length hierarchy.now.models) trail.now }
+    ensures { result ≡ list_any (λ i. bytes_eq (model_at hierarchy.now.models i).name name.now) trail.now }
 {
     for place in trail {
-        if models[*place].name == *name {
+        if hierarchy.model(*place).name == *name {
             return true;
         }
     }
@@ -35,48 +34,37 @@ fn stands_among(models: &[BlifModel], trail: &[usize], name: &Name) -> bool
 /// That the pairs of an instance of this model have no fault.
 fn check_pairs(
     alloc: Global,
-    models: &[BlifModel],
-    library: &Library,
+    hierarchy: &Hierarchy<'_>,
     model: usize,
     pairs: &[(Name, Name)],
 ) -> Result<(), FlatFault>
-    requires library { IsLibraryOf models.now library.now }
-    requires within { model < length models.now }
-    ensures fits { OnOk result (pairs_fault (model_at models.now model) pairs.now ≡ None) }
+    requires within { model < length hierarchy.now.models }
+    ensures fits { OnOk result (pairs_fault (model_at hierarchy.now.models model) pairs.now ≡ None) }
     ensures fault { IfErr result (λ fault. (fault ≡ FlatFault.Memory)
-        ⊎ (pairs_fault (model_at models.now model) pairs.now ≡ Some fault)) }
+        ⊎ (pairs_fault (model_at hierarchy.now.models model) pairs.now ≡ Some fault)) }
 {
-    let formals = library.formals.as_slice();
-    let _table = full_table(
-        alloc,
-        &top_scope(alloc),
-        &formals[model],
-        &models[model],
-        pairs,
-    )?;
+    let _table = full_table(alloc, hierarchy, &top_scope(alloc), model, pairs)?;
     Ok(())
 }
 
 /// Whether the pairs of an instance are found to have no fault.
-fn fits(alloc: Global, models: &[BlifModel], library: &Library, item: &Item) -> bool
-    requires { IsLibraryOf models.now library.now }
-    ensures { result ≡ true → Fits models.now item.now }
+fn fits(alloc: Global, hierarchy: &Hierarchy<'_>, item: &Item) -> bool
+    ensures { result ≡ true → Fits hierarchy.now.models item.now }
 {
     let Item::Part(part) = item else {
         return true;
     };
-    match find(models, library, &part.model) {
-        Some(model) => check_pairs(alloc, models, library, model, part.pairs.items()).is_ok(),
+    match hierarchy.find(&part.model) {
+        Some(model) => check_pairs(alloc, hierarchy, model, part.pairs.items()).is_ok(),
         None => false,
     }
 }
 
-fn body_fits(alloc: Global, models: &[BlifModel], library: &Library, body: &[Item]) -> bool
-    requires { IsLibraryOf models.now library.now }
-    ensures { result ≡ true → All (Fits models.now) body.now }
+fn body_fits(alloc: Global, hierarchy: &Hierarchy<'_>, body: &[Item]) -> bool
+    ensures { result ≡ true → All (Fits hierarchy.now.models) body.now }
 {
     for item in body {
-        if !fits(alloc, models, library, item) {
+        if !fits(alloc, hierarchy, item) {
             return false;
         }
     }
@@ -84,12 +72,11 @@ fn body_fits(alloc: Global, models: &[BlifModel], library: &Library, body: &[Ite
 }
 
 /// Whether the pairs of each instance in the file are found to have no fault. Then they aren't looked at again.
-fn all_fit(alloc: Global, models: &[BlifModel], library: &Library) -> bool
-    requires { IsLibraryOf models.now library.now }
-    ensures { result ≡ true → AllFit models.now }
+fn all_fit(alloc: Global, hierarchy: &Hierarchy<'_>) -> bool
+    ensures { result ≡ true → AllFit hierarchy.now.models }
 {
-    for model in models {
-        if !body_fits(alloc, models, library, model.body.items()) {
+    for model in hierarchy.models() {
+        if !body_fits(alloc, hierarchy, model.body.items()) {
             return false;
         }
     }
@@ -99,47 +86,43 @@ fn all_fit(alloc: Global, models: &[BlifModel], library: &Library) -> bool
 /// That the pairs of an instance of this model have no fault, which may be known.
 fn check_unknown_pairs(
     alloc: Global,
-    models: &[BlifModel],
-    library: &Library,
+    hierarchy: &Hierarchy<'_>,
     known: bool,
     model: usize,
     pairs: &[(Name, Name)],
 ) -> Result<(), FlatFault>
-    requires library { IsLibraryOf models.now library.now }
-    requires within { model < length models.now }
-    requires known { known ≡ true → pairs_fault (model_at models.now model) pairs.now ≡ None }
-    ensures fits { OnOk result (pairs_fault (model_at models.now model) pairs.now ≡ None) }
+    requires within { model < length hierarchy.now.models }
+    requires known { known ≡ true → pairs_fault (model_at hierarchy.now.models model) pairs.now ≡ None }
+    ensures fits { OnOk result (pairs_fault (model_at hierarchy.now.models model) pairs.now ≡ None) }
     ensures fault { IfErr result (λ fault. (fault ≡ FlatFault.Memory)
-        ⊎ (pairs_fault (model_at models.now model) pairs.now ≡ Some fault)) }
+        ⊎ (pairs_fault (model_at hierarchy.now.models model) pairs.now ≡ Some fault)) }
 {
     if known {
         return Ok(());
     }
-    check_pairs(alloc, models, library, model, pairs)
+    check_pairs(alloc, hierarchy, model, pairs)
 }
 
 /// The place of the model of an instance that can be entered. Its pairs are looked at unless all are known to fit.
 fn enter_below(
     alloc: Global,
-    models: &[BlifModel],
-    library: &Library,
-    depth: usize,
+    hierarchy: &Hierarchy<'_>,
     fit: bool,
     trail: &[usize],
     part: &PartLine,
 ) -> Result<usize, FlatFault>
-    requires library { IsLibraryOf models.now library.now }
-    requires fit { fit ≡ true → Fits models.now (Part part.now) }
-    requires within { All (λ i. i < length models.now) trail.now }
-    ensures model { IfOk result (λ i. entered_below depth models.now trail.now part.now ≡ Ok i) }
-    ensures within { IfOk result (λ i. i < length models.now) }
+    requires fit { fit ≡ true → Fits hierarchy.now.models (Part part.now) }
+    requires within { All (λ i. i < length hierarchy.now.models) trail.now }
+    ensures model { IfOk result
+        (λ i. entered_below hierarchy.now.depth hierarchy.now.models trail.now part.now ≡ Ok i) }
+    ensures within { IfOk result (λ i. i < length hierarchy.now.models) }
     ensures fault { IfErr result (λ fault. (fault ≡ FlatFault.Memory)
-        ⊎ (entered_below depth models.now trail.now part.now ≡ Err fault)) }
+        ⊎ (entered_below hierarchy.now.depth hierarchy.now.models trail.now part.now ≡ Err fault)) }
 {
     let name = &part.model;
-    let opened = stands_among(models, trail, name);
-    let model = choose(models, library, name, opened, depth < trail.len())?;
-    check_unknown_pairs(alloc, models, library, fit, model, part.pairs.items())?;
+    let opened = stands_among(hierarchy, trail, name);
+    let model = choose(hierarchy, name, opened, hierarchy.depth() < trail.len())?;
+    check_unknown_pairs(alloc, hierarchy, fit, model, part.pairs.items())?;
     Ok(model)
 }
 
@@ -159,28 +142,26 @@ fn one_less(room: u32) -> Result<u32, FlatFault>
 #[cycle(room)]
 fn room_behind_part(
     alloc: Global,
-    models: &[BlifModel],
-    library: &Library,
-    depth: usize,
+    hierarchy: &Hierarchy<'_>,
     fit: bool,
     trail: &mut Vec<usize>,
     part: &PartLine,
     room: u32,
 ) -> Result<u32, FlatFault>
-    requires library { IsLibraryOf models.now library.now }
-    requires all { fit ≡ true → AllFit models.now }
-    requires fit { fit ≡ true → Fits models.now (Part part.now) }
-    requires within { All (λ i. i < length models.now) trail.old.items }
+    requires all { fit ≡ true → AllFit hierarchy.now.models }
+    requires fit { fit ≡ true → Fits hierarchy.now.models (Part part.now) }
+    requires within { All (λ i. i < length hierarchy.now.models) trail.old.items }
     ensures same { OnOk result (trail.new.items ≡ trail.old.items) }
-    ensures left { IfOk result (λ left. LeavesTo depth models.now trail.old.items (Part part.now) room left) }
+    ensures left { IfOk result
+        (λ left. LeavesTo hierarchy.now.depth hierarchy.now.models trail.old.items (Part part.now) room left) }
     ensures fault { IfErr result (λ fault. (fault ≡ FlatFault.Memory)
-        ⊎ FailsBy depth models.now trail.old.items (Part part.now) room fault) }
+        ⊎ FailsBy hierarchy.now.depth hierarchy.now.models trail.old.items (Part part.now) room fault) }
 {
-    let model = enter_below(alloc, models, library, depth, fit, trail, part)?;
+    let model = enter_below(alloc, hierarchy, fit, trail, part)?;
     let inside = one_less(room)?;
     trail.push(model)?;
-    let body = models[model].body.items();
-    let left = room_behind(alloc, models, library, depth, fit, trail, body, inside)?;
+    let body = hierarchy.model(model).body.items();
+    let left = room_behind(alloc, hierarchy, fit, trail, body, inside)?;
     trail.pop();
     Ok(left)
 }
@@ -189,26 +170,24 @@ fn room_behind_part(
 #[cycle(room)]
 fn room_behind_item(
     alloc: Global,
-    models: &[BlifModel],
-    library: &Library,
-    depth: usize,
+    hierarchy: &Hierarchy<'_>,
     fit: bool,
     trail: &mut Vec<usize>,
     item: &Item,
     room: u32,
 ) -> Result<u32, FlatFault>
-    requires library { IsLibraryOf models.now library.now }
-    requires all { fit ≡ true → AllFit models.now }
-    requires fit { fit ≡ true → Fits models.now item.now }
-    requires within { All (λ i. i < length models.now) trail.old.items }
+    requires all { fit ≡ true → AllFit hierarchy.now.models }
+    requires fit { fit ≡ true → Fits hierarchy.now.models item.now }
+    requires within { All (λ i. i < length hierarchy.now.models) trail.old.items }
     ensures same { OnOk result (trail.new.items ≡ trail.old.items) }
-    ensures left { IfOk result (λ left. LeavesTo depth models.now trail.old.items item.now room left) }
+    ensures left { IfOk result
+        (λ left. LeavesTo hierarchy.now.depth hierarchy.now.models trail.old.items item.now room left) }
     ensures fault { IfErr result (λ fault. (fault ≡ FlatFault.Memory)
-        ⊎ FailsBy depth models.now trail.old.items item.now room fault) }
+        ⊎ FailsBy hierarchy.now.depth hierarchy.now.models trail.old.items item.now room fault) }
 {
     match item {
         Item::Gate(_) | Item::Latch(_) => one_less(room),
-        Item::Part(part) => room_behind_part(alloc, models, library, depth, fit, trail, part, room),
+        Item::Part(part) => room_behind_part(alloc, hierarchy, fit, trail, part, room),
     }
 }
 
@@ -216,26 +195,24 @@ fn room_behind_item(
 #[cycle(room)]
 fn room_behind(
     alloc: Global,
-    models: &[BlifModel],
-    library: &Library,
-    depth: usize,
+    hierarchy: &Hierarchy<'_>,
     fit: bool,
     trail: &mut Vec<usize>,
     body: &[Item],
     room: u32,
 ) -> Result<u32, FlatFault>
-    requires library { IsLibraryOf models.now library.now }
-    requires all { fit ≡ true → AllFit models.now }
-    requires fit { fit ≡ true → All (Fits models.now) body.now }
-    requires within { All (λ i. i < length models.now) trail.old.items }
+    requires all { fit ≡ true → AllFit hierarchy.now.models }
+    requires fit { fit ≡ true → All (Fits hierarchy.now.models) body.now }
+    requires within { All (λ i. i < length hierarchy.now.models) trail.old.items }
     ensures same { OnOk result (trail.new.items ≡ trail.old.items) }
-    ensures left { IfOk result (λ left. Leave depth models.now trail.old.items body.now room (Ok left)) }
+    ensures left { IfOk result
+        (λ left. Leave hierarchy.now.depth hierarchy.now.models trail.old.items body.now room (Ok left)) }
     ensures fault { IfErr result (λ fault. (fault ≡ FlatFault.Memory)
-        ⊎ Leave depth models.now trail.old.items body.now room (Err fault)) }
+        ⊎ Leave hierarchy.now.depth hierarchy.now.models trail.old.items body.now room (Err fault)) }
 {
     let mut left = room;
     for item in body {
-        left = room_behind_item(alloc, models, library, depth, fit, trail, item, left)?;
+        left = room_behind_item(alloc, hierarchy, fit, trail, item, left)?;
     }
     Ok(left)
 }
@@ -243,21 +220,19 @@ fn room_behind(
 /// That the walk below the model at this place has no fault, as `flat_lines` finds it. No line is made.
 pub(crate) fn check_walk(
     alloc: Global,
-    models: &[BlifModel],
-    library: &Library,
+    hierarchy: &Hierarchy<'_>,
     top: usize,
-    depth: usize,
     limit: u32,
 ) -> Result<(), FlatFault>
-    requires library { IsLibraryOf models.now library.now }
-    requires top { top < length models.now }
+    requires top { top < length hierarchy.now.models }
     ensures { IfErr result
-        (λ fault. (fault ≡ FlatFault.Memory) ⊎ (flat_lines_by depth limit models.now top ≡ Err fault)) }
+        (λ fault. (fault ≡ FlatFault.Memory)
+        ⊎ (flat_lines_by hierarchy.now.depth limit hierarchy.now.models top ≡ Err fault)) }
 {
-    let fit = all_fit(alloc, models, library);
+    let fit = all_fit(alloc, hierarchy);
     let mut trail = Vec::new(alloc);
     trail.push(top)?;
-    let body = models[top].body.items();
-    let _left = room_behind(alloc, models, library, depth, fit, &mut trail, body, limit)?;
+    let body = hierarchy.model(top).body.items();
+    let _left = room_behind(alloc, hierarchy, fit, &mut trail, body, limit)?;
     Ok(())
 }

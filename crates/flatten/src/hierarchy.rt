@@ -1,180 +1,108 @@
-ghost use Rattle.std.specs.Prelude.{◌≡◌, ◌<◌, ◌≤◌, ◌⊎◌, false, length, Some, Ok, Err, IfOk, IfErr, IfSome};
-ghost use Rattle.std.specs.List.{list_any};
-ghost use Rattle.netlist.specs.Netlists.{IsNetlist};
+//! The models of a file, with what a walk through them looks up.
+
+ghost use Rattle.std.specs.Prelude.{◌≡◌, ◌<◌, length, IfOk, IfSome};
 ghost use Rattle.blif_read.specs.Flattening.{CanBeFlattened};
-ghost use Rattle.flatten.specs.Alone.{is_part};
-ghost use Rattle.flatten.specs.Flat.{flat, flat_at, flat_within, max_depth, max_items};
-ghost use Rattle.flatten.specs.Instances.{find_model, model_at};
-ghost use Rattle.flatten.specs.Levels.{IsLibraryOf};
+ghost use Rattle.flatten.specs.Hierarchies.{NestedModels};
+ghost use Rattle.flatten.specs.Instances.{find_model, formals as formals_by, model_at};
+ghost use Rattle.flatten.specs.Linking.{each_once};
+ghost use Rattle.flatten.specs.Wires.{mark_of};
 
-use crate::alone::{has_parts, parts_alone};
-use crate::count::check_walk;
-use crate::fault::FlatFault;
-use crate::library::{Library, find, library_of};
-use crate::link::link;
+use crate::library::{Library, library_of};
 use crate::mark::mark;
-use crate::walk::flat_lines;
-use blif_read::{BlifModel, Models};
-use cyc_base::{MAX_DEPTH, MAX_FLAT_ITEMS, Name};
-use netlist::{Netlist, Parts, PartsFault};
-use std::alloc::Global;
+use blif_read::BlifModel;
+use cyc_base::Name;
+use indexmap::IndexSet;
+use std::alloc::{AllocError, Global};
+use std::marker::Model;
 
-/// Parts of a netlist are refused for want of memory alone.
-fn want_of_memory(_fault: PartsFault) -> FlatFault
-    requires { _fault ≡ PartsFault.Memory }
-    ensures { result ≡ FlatFault.Memory }
-{
-    FlatFault::Memory
-}
-
-/// The netlist of parts that have no fault.
-fn netlist_of(alloc: Global, parts: Parts) -> Result<Netlist, FlatFault>
-    requires { IsNetlist parts }
-    ensures netlist { IfOk result (λ net. net ≡ parts) }
-    ensures fault { IfErr result (λ fault. fault ≡ FlatFault.Memory) }
-{
-    match Netlist::new(alloc, parts) {
-        Ok(net) => Ok(net),
-        Err(fault) => Err(want_of_memory(fault)),
-    }
-}
-
-/// The parts of the flat netlist of the model at this place.
-fn flat_parts(
-    alloc: Global,
-    models: &[BlifModel],
-    library: &Library,
-    place: usize,
+/// The models of a file, and how many instances may lie in one another.
+#[derive(Drop)]
+pub(crate) struct Hierarchy<'a> {
+    models: &'a [BlifModel],
+    library: Library,
+    mark: Name,
     depth: usize,
-    limit: u32,
-) -> Result<Parts, FlatFault>
-    requires library { IsLibraryOf models.now library.now }
-    requires sound { CanBeFlattened models.now }
-    requires place { place < length models.now }
-    requires limit { limit ≤ 4000000 }
-    ensures parts { IfOk result (λ parts. flat_at depth limit models.now place ≡ Ok parts) }
-    ensures valid { IfOk result IsNetlist }
-    ensures fault { IfErr result
-        (λ fault. (fault ≡ FlatFault.Memory) ⊎ (flat_at depth limit models.now place ≡ Err fault)) }
-{
-    check_walk(alloc, models, library, place, depth, limit)?;
-    let mark = mark(alloc, models)?;
-    let lines = flat_lines(alloc, models, library, &mark, place, depth, limit)?;
-    Ok(link(alloc, &models[place], lines)?)
 }
 
-/// The parts of the flat netlist of the model of this name.
-fn parts_within(
-    alloc: Global,
-    models: &[BlifModel],
-    top: &Name,
-    depth: usize,
-    limit: u32,
-) -> Result<Parts, FlatFault>
-    requires sound { CanBeFlattened models.now }
-    requires limit { limit ≤ 4000000 }
-    ensures parts { IfOk result (λ parts. flat_within depth limit models.now top.now ≡ Ok parts) }
-    ensures valid { IfOk result IsNetlist }
-    ensures fault { IfErr result
-        (λ fault. (fault ≡ FlatFault.Memory) ⊎ (flat_within depth limit models.now top.now ≡ Err fault)) }
-{
-    let library = library_of(alloc, models)?;
-    match find(models, &library, top) {
-        Some(place) => Ok(flat_parts(alloc, models, &library, place, depth, limit)?),
-        None => Err(FlatFault::UnknownModel { name: top.copy()? }),
+impl<'a> Model for Hierarchy<'a> {
+    ghost use Rattle.flatten.specs.Hierarchies.{NestedModels, IsHierarchyOf};
+
+    ghost Value = { NestedModels };
+
+    ghost view = { λ h. record { models = h.models.now; depth = h.depth } };
+
+    ghost invariant = { λ h. IsHierarchyOf h.models.now h.library h.mark };
+}
+
+impl<'a> Hierarchy<'a> {
+    /// The hierarchy of these models, with at most `depth` instances in one another.
+    pub(crate) fn new(
+        alloc: Global,
+        models: &'a [BlifModel],
+        depth: usize,
+    ) -> Result<Hierarchy<'a>, AllocError>
+        requires { CanBeFlattened models.now }
+        ensures { IfOk result (λ hierarchy. hierarchy ≡ record { models = models.now; depth = depth }) }
+    {
+        let library = library_of(alloc, models)?;
+        let mark = mark(alloc, models)?;
+        Ok(Hierarchy {
+            models,
+            library,
+            mark,
+            depth,
+        })
     }
-}
 
-/// The flat netlist, where at most `depth` instances may lie in one another, and at most `limit` gates,
-/// latches and instances may come.
-fn flatten_within(
-    alloc: Global,
-    models: &[BlifModel],
-    top: &Name,
-    depth: usize,
-    limit: u32,
-) -> Result<Netlist, FlatFault>
-    requires sound { CanBeFlattened models.now }
-    requires limit { limit ≤ 4000000 }
-    ensures netlist { IfOk result (λ net. flat_within depth limit models.now top.now ≡ Ok net) }
-    ensures valid { IfOk result IsNetlist }
-    ensures fault { IfErr result
-        (λ fault. (fault ≡ FlatFault.Memory) ⊎ (flat_within depth limit models.now top.now ≡ Err fault)) }
-{
-    let parts = parts_within(alloc, models, top, depth, limit)?;
-    netlist_of(alloc, parts)
-}
-
-/// The flat netlist of a model of the file, with all instances below it: its gates and latches in depth-first
-/// order of the text. A wire of an instance has the numbers of the instances on the way to it before its name.
-///
-/// The first fault is answered, in the order of `FlatFault`, those of the walk before any line is made. It is
-/// linear in the size of the flat netlist.
-pub fn flatten(alloc: Global, models: &Models, top: &Name) -> Result<Netlist, FlatFault>
-    requires { CanBeFlattened models.now.list }
-    ensures netlist { IfOk result (λ net. flat models.now.list top.now ≡ Ok net) }
-    ensures valid { IfOk result IsNetlist }
-    ensures fault { IfErr result
-        (λ fault. (fault ≡ FlatFault.Memory) ⊎ (flat models.now.list top.now ≡ Err fault)) }
-{
-    flatten_within(
-        alloc,
-        models.list.items(),
-        top,
-        MAX_DEPTH as usize,
-        MAX_FLAT_ITEMS,
-    )
-}
-
-/// The place of the model of this name, where no instance stands in it.
-fn place_alone(models: &Models, top: &Name) -> Option<usize>
-    ensures found { IfSome result (λ i. find_model models.now.list top.now ≡ Some i) }
-    ensures alone { IfSome result (λ i. list_any is_part (model_at models.now.list i).body ≡ false) }
-    ensures within { IfSome result (λ i. i < length models.now.list) }
-{
-    let place = models.find(top)?;
-    if has_parts(models.list.items()[place].body.items()) {
-        return None;
+    /// The models, in the order of the file.
+    pub(crate) fn models(&self) -> &'a [BlifModel]
+        ensures { result.now ≡ self.now.models }
+    {
+        self.models
     }
-    Some(place)
-}
 
-/// The model at this place, where the others are dropped.
-fn take_model(models: Models, place: usize) -> BlifModel
-    requires { place < length models.list }
-    ensures { result ≡ model_at models.list place }
-{
-    models.list.into_vec().swap_remove(place)
-}
+    /// What holds of each hierarchy, as the contract of a call that does nothing: its models can be flattened.
+    pub(crate) fn laws(&self)
+        ensures { CanBeFlattened self.now.models }
+    {
+        let _ = &self.library;
+    }
 
-/// The parts of the flat netlist of the model at this place, in which no instance stands.
-fn take_parts(alloc: Global, models: Models, place: usize) -> Result<Parts, FlatFault>
-    requires sound { CanBeFlattened models.list }
-    requires place { place < length models.list }
-    requires alone { list_any is_part (model_at models.list place).body ≡ false }
-    ensures parts { IfOk result (λ parts. flat_at max_depth max_items models.list place ≡ Ok parts) }
-    ensures valid { IfOk result IsNetlist }
-    ensures fault { IfErr result
-        (λ fault. (fault ≡ FlatFault.Memory) ⊎ (flat_at max_depth max_items models.list place ≡ Err fault)) }
-{
-    let model = take_model(models, place);
-    parts_alone(alloc, model, MAX_FLAT_ITEMS)
-}
+    /// How many instances may lie in one another.
+    pub(crate) fn depth(&self) -> usize
+        ensures { result ≡ self.now.depth }
+    {
+        self.depth
+    }
 
-/// As `flatten`, of models that nothing else needs. Where no instance stands in the top, its lines are handed over, and
-/// not copied.
-pub fn flatten_owned(alloc: Global, models: Models, top: &Name) -> Result<Netlist, FlatFault>
-    requires { CanBeFlattened models.list }
-    ensures netlist { IfOk result (λ net. flat models.list top.now ≡ Ok net) }
-    ensures valid { IfOk result IsNetlist }
-    ensures fault { IfErr result
-        (λ fault. (fault ≡ FlatFault.Memory) ⊎ (flat models.list top.now ≡ Err fault)) }
-{
-    match place_alone(&models, top) {
-        Some(place) => {
-            let parts = take_parts(alloc, models, place)?;
-            netlist_of(alloc, parts)
-        }
-        None => flatten(alloc, &models, top),
+    /// What stands behind the number of an instance in the name of a wire below it.
+    pub(crate) fn mark(&self) -> &Name
+        ensures { result.now ≡ mark_of self.now.models }
+    {
+        &self.mark
+    }
+
+    /// The place of the model of this name.
+    pub(crate) fn find(&self, name: &Name) -> Option<usize>
+        ensures found { result ≡ find_model self.now.models name.now }
+        ensures within { IfSome result (λ i. i < length self.now.models) }
+    {
+        self.library.places.get_index_of(name)
+    }
+
+    /// The model at this place.
+    pub(crate) fn model(&self, place: usize) -> &'a BlifModel
+        requires { place < length self.now.models }
+        ensures { result.now ≡ model_at self.now.models place }
+    {
+        &self.models()[place]
+    }
+
+    /// The formals of the model at this place.
+    pub(crate) fn formals(&self, place: usize) -> &IndexSet<Name>
+        requires { place < length self.now.models }
+        ensures { result.now.keys ≡ each_once (formals_by (model_at self.now.models place)) }
+    {
+        &self.library.formals.as_slice()[place]
     }
 }

@@ -8,6 +8,7 @@ mod alone;
 mod bind;
 mod count;
 mod fault;
+mod flattening;
 mod hierarchy;
 pub mod laws;
 mod library;
@@ -18,4 +19,4 @@ mod scope;
 mod walk;
 
 pub use fault::FlatFault;
-pub use hierarchy::{flatten, flatten_owned};
+pub use flattening::{flatten, flatten_owned};

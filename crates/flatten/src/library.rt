@@ -1,9 +1,9 @@
-ghost use Rattle.std.specs.Prelude.{◌≡◌, [], not, map, fold, IfOk, OnOk, IfSome, length, ◌<◌};
+ghost use Rattle.std.specs.Prelude.{◌≡◌, [], not, map, fold, IfOk, OnOk};
 ghost use Rattle.std.specs.List.{IsDistinct};
 ghost use Rattle.std.specs.Str.{bytes_eq};
-ghost use Rattle.flatten.specs.Instances.{formals, find_model, is_among};
+ghost use Rattle.flatten.specs.Instances.{formals, is_among};
 ghost use Rattle.flatten.specs.Linking.{each_once};
-ghost use Rattle.flatten.specs.Levels.{IsLibraryOf};
+ghost use Rattle.flatten.specs.Hierarchies.{IsLibraryOf};
 ghost use Rattle.indexmap.specs.IndexSet.{insert_key};
 
 use blif_read::BlifModel;
@@ -104,13 +104,4 @@ pub(crate) fn library_of(alloc: Global, models: &[BlifModel]) -> Result<Library,
     let places = places_of(alloc, models)?;
     let formals = all_formals(alloc, models)?;
     Ok(Library { places, formals })
-}
-
-/// The place of the model of this name.
-pub(crate) fn find(models: &[BlifModel], library: &Library, name: &Name) -> Option<usize>
-    requires { IsLibraryOf models.now library.now }
-    ensures found { result ≡ find_model models.now name.now }
-    ensures within { IfSome result (λ i. i < length models.now) }
-{
-    library.places.get_index_of(name)
 }

@@ -2,15 +2,14 @@ ghost use Rattle.std.specs.Prelude.{◌≡◌, ◌<◌, ◌≤◌, ◌⊎◌, �
 ghost use Rattle.flatten.specs.Instances.{model_at};
 ghost use Rattle.flatten.specs.Wires.{mark_of};
 ghost use Rattle.flatten.specs.Walk.{flat_lines as flat_lines_by};
-ghost use Rattle.blif_read.specs.Flattening.{CanBeFlattened};
 ghost use Rattle.flatten.specs.Printable.{PrintsOn, ArePrintedLines};
-ghost use Rattle.flatten.specs.Levels.{IsLibraryOf, entered_on, IsInner, AddsGate, AddsLatch, PutsBack, Opens, PartFails, PassesGate, PassesLatch, PassesPart, Goes, StepsOn, StepsTo, IsBegun, lines_of};
+ghost use Rattle.flatten.specs.Levels.{entered_on, IsInner, AddsGate, AddsLatch, PutsBack, Opens, PartFails, PassesGate, PassesLatch, PassesPart, Goes, StepsOn, StepsTo, IsBegun, lines_of};
 
 use crate::bind::enter;
 use crate::fault::FlatFault;
-use crate::library::Library;
+use crate::hierarchy::Hierarchy;
 use crate::scope::{Scope, flat_gate, flat_latch, inner_prefix, top_scope};
-use blif_read::{BlifModel, GateLine, Item, LatchLine, PartLine};
+use blif_read::{GateLine, Item, LatchLine, PartLine};
 use cyc_base::Name;
 use std::alloc::{AllocError, Global};
 
@@ -54,13 +53,13 @@ impl Drop for Walk {
     }
 }
 
-fn item_at(models: &[BlifModel], model: usize, next: usize) -> Option<&Item>
-    requires { model < length models.now }
-    ensures { let body = (model_at models.now model).body in
+fn item_at<'a>(hierarchy: &Hierarchy<'a>, model: usize, next: usize) -> Option<&'a Item>
+    requires { model < length hierarchy.now.models }
+    ensures { let body = (model_at hierarchy.now.models model).body in
         MatchOption result (drop next body ≡ [])
         (λ item. (drop next body ≡ item.now ∷ drop (suc next) body) × (suc next < 2 ^ 64)) }
 {
-    let body = models[model].body.items();
+    let body = hierarchy.model(model).body.items();
     if next < body.len() {
         Some(&body[next])
     } else {
@@ -137,31 +136,33 @@ fn pass_latch(
 /// The level of an instance that stands in `level`.
 fn inner_level(
     alloc: Global,
-    models: &[BlifModel],
-    library: &Library,
-    mark: &Name,
-    depth: usize,
+    hierarchy: &Hierarchy<'_>,
     walk: &Walk,
     level: &Level,
     part: &PartLine,
 ) -> Result<Level, FlatFault>
-    requires library { IsLibraryOf models.now library.now }
-    requires within { All (λ l. l.model < length models.now) walk.now.levels.items }
-    requires here { level.now.model < length models.now }
+    requires within { All (λ l. l.model < length hierarchy.now.models) walk.now.levels.items }
+    requires here { level.now.model < length hierarchy.now.models }
     requires number { suc level.now.parts < 2 ^ 64 }
     ensures model { IfOk result
-        (λ inner. entered_on depth models.now walk.now.levels.items level.now part.now ≡ Ok inner.model) }
-    ensures inside { IfOk result (IsInner mark.now level.now part.now) }
+        (λ inner. entered_on hierarchy.now.depth hierarchy.now.models walk.now.levels.items level.now part.now ≡ Ok inner.model) }
+    ensures inside { IfOk result (IsInner (mark_of hierarchy.now.models) level.now part.now) }
     ensures some { OnOk result (0 < walk.now.room) }
     ensures fault { IfErr result
-        (λ fault. (fault ≡ FlatFault.Memory) ⊎ PartFails depth models.now walk.now level.now part.now fault) }
+        (λ fault. (fault ≡ FlatFault.Memory)
+        ⊎ PartFails hierarchy.now.depth hierarchy.now.models walk.now level.now part.now fault) }
 {
     let below = walk.levels.as_slice();
-    let (model, table) = enter(alloc, models, library, depth, below, level, part)?;
+    let (model, table) = enter(alloc, hierarchy, below, level, part)?;
     if walk.room == 0 {
         return Err(FlatFault::TooLarge);
     }
-    let prefix = inner_prefix(alloc, &level.scope.prefix, level.parts + 1, mark)?;
+    let prefix = inner_prefix(
+        alloc,
+        &level.scope.prefix,
+        level.parts + 1,
+        hierarchy.mark(),
+    )?;
     Ok(Level {
         model,
         next: 0,
@@ -187,51 +188,43 @@ fn open(walk: &mut Walk, mut level: Level, inner: Level) -> Result<(), AllocErro
 
 fn pass_part(
     alloc: Global,
-    models: &[BlifModel],
-    library: &Library,
-    mark: &Name,
-    depth: usize,
+    hierarchy: &Hierarchy<'_>,
     walk: &mut Walk,
     level: Level,
     part: &PartLine,
 ) -> Result<(), FlatFault>
-    requires library { IsLibraryOf models.now library.now }
-    requires within { All (λ l. l.model < length models.now) walk.old.levels.items }
-    requires here { level.model < length models.now }
+    requires within { All (λ l. l.model < length hierarchy.now.models) walk.old.levels.items }
+    requires here { level.model < length hierarchy.now.models }
     requires counted { level.parts ≤ level.next }
     requires fits { suc level.next < 2 ^ 64 }
-    ensures passed { OnOk result (PassesPart depth models.now mark.now walk.old level part.now walk.new) }
+    ensures passed { OnOk result
+        (PassesPart hierarchy.now.depth hierarchy.now.models (mark_of hierarchy.now.models) walk.old level part.now walk.new) }
     ensures fault { IfErr result
-        (λ fault. (fault ≡ FlatFault.Memory) ⊎ PartFails depth models.now walk.old level part.now fault) }
+        (λ fault. (fault ≡ FlatFault.Memory)
+        ⊎ PartFails hierarchy.now.depth hierarchy.now.models walk.old level part.now fault) }
 {
-    let inner = inner_level(alloc, models, library, mark, depth, walk, &level, part)?;
+    let inner = inner_level(alloc, hierarchy, walk, &level, part)?;
     Ok(open(walk, level, inner)?)
 }
 
 /// One step: past the next item of the innermost level, or out of it where there is none.
 fn step(
     alloc: Global,
-    models: &[BlifModel],
-    library: &Library,
-    mark: &Name,
-    depth: usize,
+    hierarchy: &Hierarchy<'_>,
     walk: &mut Walk,
     level: Level,
 ) -> Result<(), FlatFault>
-    requires library { IsLibraryOf models.now library.now }
-    requires goes { Goes depth models.now mark.now walk.old level }
-    ensures on { OnOk result (StepsOn depth models.now mark.now walk.old level walk.new) }
-    ensures prints { OnOk result (PrintsOn models.now mark.now walk.old level walk.new) }
+    requires goes { Goes hierarchy.now walk.old level }
+    ensures on { OnOk result (StepsOn hierarchy.now walk.old level walk.new) }
+    ensures prints { OnOk result (PrintsOn hierarchy.now.models walk.old level walk.new) }
     ensures fault { IfErr result
-        (λ fault. (fault ≡ FlatFault.Memory) ⊎ StepsTo depth models.now mark.now walk.old level fault) }
+        (λ fault. (fault ≡ FlatFault.Memory) ⊎ StepsTo hierarchy.now walk.old level fault) }
 {
-    match item_at(models, level.model, level.next) {
+    match item_at(hierarchy, level.model, level.next) {
         None => Ok(()),
         Some(Item::Gate(gate)) => pass_gate(alloc, walk, level, gate),
         Some(Item::Latch(latch)) => pass_latch(alloc, walk, level, latch),
-        Some(Item::Part(part)) => {
-            pass_part(alloc, models, library, mark, depth, walk, level, part)
-        }
+        Some(Item::Part(part)) => pass_part(alloc, hierarchy, walk, level, part),
     }
 }
 
@@ -297,25 +290,22 @@ fn begun(alloc: Global, model: usize, room: u32) -> Result<Walk, AllocError>
 /// in one another, and at most `limit` gates, latches and instances may come.
 pub(crate) fn flat_lines(
     alloc: Global,
-    models: &[BlifModel],
-    library: &Library,
-    mark: &Name,
+    hierarchy: &Hierarchy<'_>,
     top: usize,
-    depth: usize,
     limit: u32,
 ) -> Result<FlatBody, FlatFault>
-    requires library { IsLibraryOf models.now library.now }
-    requires mark { mark.now ≡ mark_of models.now }
-    requires sound { CanBeFlattened models.now }
-    requires top { top < length models.now }
-    ensures lines { IfOk result (λ lines. flat_lines_by depth limit models.now top ≡ Ok (lines_of lines)) }
+    requires top { top < length hierarchy.now.models }
+    ensures lines { IfOk result
+        (λ lines. flat_lines_by hierarchy.now.depth limit hierarchy.now.models top ≡ Ok (lines_of lines)) }
     ensures printed { IfOk result (λ lines. ArePrintedLines (lines_of lines)) }
     ensures fault { IfErr result
-        (λ fault. (fault ≡ FlatFault.Memory) ⊎ (flat_lines_by depth limit models.now top ≡ Err fault)) }
+        (λ fault. (fault ≡ FlatFault.Memory)
+        ⊎ (flat_lines_by hierarchy.now.depth limit hierarchy.now.models top ≡ Err fault)) }
 {
+    hierarchy.laws();
     let mut walk = begun(alloc, top, limit)?;
     while let Some(level) = walk.levels.pop() {
-        step(alloc, models, library, mark, depth, &mut walk, level)?;
+        step(alloc, hierarchy, &mut walk, level)?;
     }
     Ok(walk.into_body())
 }

@@ -4,4 +4,4 @@ use Rattle.flatten.proofs.bind.is_open.Given as goal
 
 abbrev pub invariant-loop-level : goal.invariant-loop-level
 invariant-loop-level l =
-    list_any (λ x. bytes_eq (model_at l.models x.model).name l.name) (drop l.level-index l.levels) ≡ list_any (λ x. bytes_eq (model_at l.models x.model).name l.name) l.levels
+    list_any (λ x. bytes_eq (model_at l.hierarchy.models x.model).name l.name) (drop l.level-index l.levels) ≡ list_any (λ x. bytes_eq (model_at l.hierarchy.models x.model).name l.name) l.levels

@@ -3,4 +3,4 @@ use Rattle.flatten.proofs.Common.{Fits}
 use Rattle.flatten.proofs.count.body_fits.Given as goal
 
 abbrev pub invariant-loop-item : goal.invariant-loop-item
-invariant-loop-item l = All (Fits l.models) (take l.item-index l.body)
+invariant-loop-item l = All (Fits l.hierarchy.models) (take l.item-index l.body)

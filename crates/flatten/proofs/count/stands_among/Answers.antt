@@ -1,5 +1,5 @@
-use Rattle.std.proofs.Common.{ℕ, get_or, sym, ap, ◌∙◌}
-use Rattle.flatten.proofs.Common.{get_or_default, bytes_eq, BlifModel}
+use Rattle.std.proofs.Common.{ℕ, get_or, sym, ◌∙◌}
+use Rattle.flatten.proofs.Common.{get_or_default}
 use Rattle.flatten.proofs.Binding.{open_at, other_at}
 use Rattle.flatten.proofs.count.stands_among.Goals as goal
 
@@ -8,7 +8,7 @@ returns-then-eq c =
     let trail = c.args.trail.now in
     let i = c.loop-place.place-index in
     let place = get_or trail i 0 in
-    let e = open_at (λ (x : ℕ). x) c.args.models.now c.args.name.now trail i place c.index-models-place.result c.loop-place-test.true (get_or_default trail i 0 place c.loop-place-test.true) (c.requires i 0 c.loop-place-test.true) c.index-models-place.is (ap (λ (y : BlifModel). bytes_eq y.name c.args.name.now) c.index-models-place.is ∙ sym c.eq.ensures ∙ c.if-eq.true) in
+    let e = open_at (λ (x : ℕ). x) c.args.hierarchy.now.models c.args.name.now trail i place c.model.result.now c.loop-place-test.true (get_or_default trail i 0 place c.loop-place-test.true) c.model.ensures (sym c.eq.ensures ∙ c.if-eq.true) in
     sym e ∙ c.loop-place.invariant
 
 pub loop-place-preserved : goal.loop-place-preserved
@@ -16,5 +16,5 @@ loop-place-preserved c =
     let trail = c.args.trail.now in
     let i = c.loop-place.place-index in
     let place = get_or trail i 0 in
-    let e = other_at (λ (x : ℕ). x) c.args.models.now c.args.name.now trail i place c.index-models-place.result c.loop-place-test.true (get_or_default trail i 0 place c.loop-place-test.true) (c.requires i 0 c.loop-place-test.true) c.index-models-place.is (ap (λ (y : BlifModel). bytes_eq y.name c.args.name.now) c.index-models-place.is ∙ sym c.eq.ensures ∙ c.if-eq.false) in
+    let e = other_at (λ (x : ℕ). x) c.args.hierarchy.now.models c.args.name.now trail i place c.model.result.now c.loop-place-test.true (get_or_default trail i 0 place c.loop-place-test.true) c.model.ensures (sym c.eq.ensures ∙ c.if-eq.false) in
     sym e ∙ c.loop-place.invariant

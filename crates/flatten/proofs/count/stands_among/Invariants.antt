@@ -4,4 +4,4 @@ use Rattle.flatten.proofs.count.stands_among.Given as goal
 
 abbrev pub invariant-loop-place : goal.invariant-loop-place
 invariant-loop-place l =
-    list_any (λ x. bytes_eq (model_at l.models x).name l.name) (drop l.place-index l.trail) ≡ list_any (λ x. bytes_eq (model_at l.models x).name l.name) l.trail
+    list_any (λ x. bytes_eq (model_at l.hierarchy.models x).name l.name) (drop l.place-index l.trail) ≡ list_any (λ x. bytes_eq (model_at l.hierarchy.models x).name l.name) l.trail

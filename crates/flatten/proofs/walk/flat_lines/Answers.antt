@@ -1,26 +1,26 @@
-use Rattle.std.proofs.Common.{suc, inl, inr, ⊎_elim, ap, ◌∙◌, arith, length, length-append, ◌∷◌, []}
-use Rattle.flatten.proofs.Common.{err_from_is_err_and, longest_run_of, model_at, flat_lines, wire_names}
+use Rattle.std.proofs.Common.{inl, inr, ⊎_elim, ap, ◌∙◌, arith, length, length-append, ◌∷◌, []}
+use Rattle.flatten.proofs.Common.{err_from_is_err_and, mark_of, model_at, flat_lines}
 use Rattle.flatten.proofs.Printable.{printed_begun, popped_printed}
 use Rattle.flatten.proofs.Stepping.{walking_start, popped}
 use Rattle.flatten.proofs.walk.flat_lines.Goals as goal
 
 pub loop-level-init : goal.loop-level-init
 loop-level-init c = record {
-  walks = rw c.requires.mark (walking_start c.args.depth c.args.models.now c.args.top c.args.limit _ c.requires.top c.in_ok-walk.ensures);
+  walks = walking_start c.args.hierarchy.now.depth c.args.hierarchy.now.models c.args.top c.args.limit _ c.requires.top c.in_ok-walk.ensures;
   printed = printed_begun c.args.top c.args.limit c.in_ok-walk.walk c.in_ok-walk.ensures;
 }
 
 pub loop-level-preserved : goal.loop-level-preserved
 loop-level-preserved c =
-    let top = (model_at c.args.models.now c.args.top).name in
-    let answer = flat_lines c.args.depth c.args.limit c.args.models.now c.args.top in
+    let top = (model_at c.args.hierarchy.now.models c.args.top).name in
+    let answer = flat_lines c.args.hierarchy.now.depth c.args.limit c.args.hierarchy.now.models c.args.top in
     let old = c.loop-level.walk in
-    let w = popped c.args.depth c.args.models.now top c.args.mark.now answer old.levels.items c.pop.new.self.items c.in-Some.level old.latches.items old.gates.items old.room c.in-Some.ensures.items c.loop-level.invariant.walks in
+    let w = popped c.args.hierarchy.now.depth c.args.hierarchy.now.models top (mark_of c.args.hierarchy.now.models) answer old.levels.items c.pop.new.self.items c.in-Some.level old.latches.items old.gates.items old.room c.in-Some.ensures.items c.loop-level.invariant.walks in
     let p = popped_printed old.levels.items c.pop.new.self.items c.in-Some.level c.in-Some.ensures.items c.loop-level.invariant.printed.levels in
     record {
       walks = (c.in_ok-step.ensures.on top answer w).0;
       printed =
-          c.in_ok-step.ensures.prints (suc (longest_run_of (wire_names c.args.models.now))) c.requires.mark c.requires.sound p.1 (record {
+          c.in_ok-step.ensures.prints c.laws.ensures p.1 (record {
             levels = p.0;
             latches = c.loop-level.invariant.printed.latches;
             gates = c.loop-level.invariant.printed.gates;
@@ -29,19 +29,19 @@ loop-level-preserved c =
 
 pub loop-level-smaller : goal.loop-level-smaller
 loop-level-smaller c =
-    let top = (model_at c.args.models.now c.args.top).name in
-    let answer = flat_lines c.args.depth c.args.limit c.args.models.now c.args.top in
+    let top = (model_at c.args.hierarchy.now.models c.args.top).name in
+    let answer = flat_lines c.args.hierarchy.now.depth c.args.limit c.args.hierarchy.now.models c.args.top in
     let old = c.loop-level.walk in
-    let w = popped c.args.depth c.args.models.now top c.args.mark.now answer old.levels.items c.pop.new.self.items c.in-Some.level old.latches.items old.gates.items old.room c.in-Some.ensures.items c.loop-level.invariant.walks in
+    let w = popped c.args.hierarchy.now.depth c.args.hierarchy.now.models top (mark_of c.args.hierarchy.now.models) answer old.levels.items c.pop.new.self.items c.in-Some.level old.latches.items old.gates.items old.room c.in-Some.ensures.items c.loop-level.invariant.walks in
     let h = (c.in_ok-step.ensures.on top answer w).1 in
     let n = ap length c.in-Some.ensures.items ∙ length-append c.pop.new.self.items (c.in-Some.level ∷ []) in
     omega (arith, h, n)
 
 pub returns-in_err-step-clause-fault : goal.returns-in_err-step-clause-fault
 returns-in_err-step-clause-fault c =
-    let top = (model_at c.args.models.now c.args.top).name in
-    let answer = flat_lines c.args.depth c.args.limit c.args.models.now c.args.top in
+    let top = (model_at c.args.hierarchy.now.models c.args.top).name in
+    let answer = flat_lines c.args.hierarchy.now.depth c.args.limit c.args.hierarchy.now.models c.args.top in
     let old = c.loop-level.walk in
-    let w = popped c.args.depth c.args.models.now top c.args.mark.now answer old.levels.items c.pop.new.self.items c.in-Some.level old.latches.items old.gates.items old.room c.in-Some.ensures.items c.loop-level.invariant.walks in
+    let w = popped c.args.hierarchy.now.depth c.args.hierarchy.now.models top (mark_of c.args.hierarchy.now.models) answer old.levels.items c.pop.new.self.items c.in-Some.level old.latches.items old.gates.items old.room c.in-Some.ensures.items c.loop-level.invariant.walks in
     let p = err_from_is_err_and c.from_residual-in_err-step.result c.from_residual-in_err-step.ensures.1 in
     rw (p.1, p.2) (⊎_elim (λ m. inl m) (λ h. inr (h top answer w)) c.in_err-step.ensures.fault)

@@ -1,5 +1,5 @@
-use Rattle.std.proofs.Common.{ℕ, List, inl, inr, ⊎_elim, subst, sym, ap, ◌∙◌, Err}
-use Rattle.flatten.proofs.Common.{PassesPart}
+use Rattle.std.proofs.Common.{inl, inr, ⊎_elim, sym, ap, ◌∙◌, Err}
+use Rattle.flatten.proofs.Common.{mark_of}
 use Rattle.flatten.proofs.Printable.{printed_gate, printed_latch, printed_part}
 use Rattle.flatten.proofs.Results.{on_ok, on_err}
 use Rattle.flatten.proofs.Stepping.{walking_at, walking_pop, walking_gate, walking_latch, walking_part, full_gate, full_latch, failing_part}
@@ -7,15 +7,15 @@ use Rattle.flatten.proofs.walk.step.Goals as goal
 
 pub pass_part-requires-clause-within : goal.pass_part-requires-clause-within
 pass_part-requires-clause-within c =
-    (walking_at c.args.depth c.args.models.now c.requires.goes.0 c.args.mark.now c.requires.goes.1.0 c.args.walk.now c.args.level c.requires.goes.1.1).2
+    (walking_at c.args.hierarchy.now.depth c.args.hierarchy.now.models c.requires.goes.0 (mark_of c.args.hierarchy.now.models) c.requires.goes.1.0 c.args.walk.now c.args.level c.requires.goes.1.1).2
 
 pub pass_part-requires-clause-here : goal.pass_part-requires-clause-here
 pass_part-requires-clause-here c =
-    (walking_at c.args.depth c.args.models.now c.requires.goes.0 c.args.mark.now c.requires.goes.1.0 c.args.walk.now c.args.level c.requires.goes.1.1).0
+    (walking_at c.args.hierarchy.now.depth c.args.hierarchy.now.models c.requires.goes.0 (mark_of c.args.hierarchy.now.models) c.requires.goes.1.0 c.args.walk.now c.args.level c.requires.goes.1.1).0
 
 pub pass_part-requires-clause-counted : goal.pass_part-requires-clause-counted
 pass_part-requires-clause-counted c =
-    (walking_at c.args.depth c.args.models.now c.requires.goes.0 c.args.mark.now c.requires.goes.1.0 c.args.walk.now c.args.level c.requires.goes.1.1).1
+    (walking_at c.args.hierarchy.now.depth c.args.hierarchy.now.models c.requires.goes.0 (mark_of c.args.hierarchy.now.models) c.requires.goes.1.0 c.args.walk.now c.args.level c.requires.goes.1.1).1
 
 pub pass_part-requires-clause-fits : goal.pass_part-requires-clause-fits
 pass_part-requires-clause-fits c = (rw c.in-Some-Part.field-0-is at c.in-Some-Part.ensures).1
@@ -28,13 +28,13 @@ pass_latch-requires c = (rw c.in-Some-Latch.field-0-is at c.in-Some-Latch.ensure
 
 pub returns-in-None-clause-on : goal.returns-in-None-clause-on
 returns-in-None-clause-on c =
-    λ top answer w. walking_pop c.args.depth c.args.models.now top c.args.mark.now answer c.args.walk.now c.args.level w c.in-None.ensures
+    λ top answer w. walking_pop c.args.hierarchy.now.depth c.args.hierarchy.now.models top (mark_of c.args.hierarchy.now.models) answer c.args.walk.now c.args.level w c.in-None.ensures
 
 pub returns-in-Some-Gate-clause-on : goal.returns-in-Some-Gate-clause-on
 returns-in-Some-Gate-clause-on c =
     let e = rw c.in-Some-Gate.field-0-is at c.in-Some-Gate.ensures in
     on_ok c.pass_gate.result
-    (λ passed top answer w. walking_gate c.args.depth c.args.models.now top c.args.mark.now answer c.args.walk.now c.args.level w c.pass_gate.new.walk c.in-Some-Gate.gate e.0 passed)
+    (λ passed top answer w. walking_gate c.args.hierarchy.now.depth c.args.hierarchy.now.models top (mark_of c.args.hierarchy.now.models) answer c.args.walk.now c.args.level w c.pass_gate.new.walk c.in-Some-Gate.gate e.0 passed)
     c.pass_gate.ensures.passed
 
 pub returns-in-Some-Gate-clause-fault : goal.returns-in-Some-Gate-clause-fault
@@ -44,14 +44,14 @@ returns-in-Some-Gate-clause-fault c =
     (λ fault.
     ⊎_elim
     (λ m. inl m)
-    (λ h. inr (λ top answer w. full_gate c.args.depth c.args.models.now top c.args.mark.now answer c.args.walk.now c.args.level w c.in-Some-Gate.gate e.0 h.0 ∙ ap (λ f. Err f) (sym h.1))))
+    (λ h. inr (λ top answer w. full_gate c.args.hierarchy.now.depth c.args.hierarchy.now.models top (mark_of c.args.hierarchy.now.models) answer c.args.walk.now c.args.level w c.in-Some-Gate.gate e.0 h.0 ∙ ap (λ f. Err f) (sym h.1))))
     c.pass_gate.ensures.fault
 
 pub returns-in-Some-Latch-clause-on : goal.returns-in-Some-Latch-clause-on
 returns-in-Some-Latch-clause-on c =
     let e = rw c.in-Some-Latch.field-0-is at c.in-Some-Latch.ensures in
     on_ok c.pass_latch.result
-    (λ passed top answer w. walking_latch c.args.depth c.args.models.now top c.args.mark.now answer c.args.walk.now c.args.level w c.pass_latch.new.walk c.in-Some-Latch.latch e.0 passed)
+    (λ passed top answer w. walking_latch c.args.hierarchy.now.depth c.args.hierarchy.now.models top (mark_of c.args.hierarchy.now.models) answer c.args.walk.now c.args.level w c.pass_latch.new.walk c.in-Some-Latch.latch e.0 passed)
     c.pass_latch.ensures.passed
 
 pub returns-in-Some-Latch-clause-fault : goal.returns-in-Some-Latch-clause-fault
@@ -61,14 +61,14 @@ returns-in-Some-Latch-clause-fault c =
     (λ fault.
     ⊎_elim
     (λ m. inl m)
-    (λ h. inr (λ top answer w. full_latch c.args.depth c.args.models.now top c.args.mark.now answer c.args.walk.now c.args.level w c.in-Some-Latch.latch e.0 h.0 ∙ ap (λ f. Err f) (sym h.1))))
+    (λ h. inr (λ top answer w. full_latch c.args.hierarchy.now.depth c.args.hierarchy.now.models top (mark_of c.args.hierarchy.now.models) answer c.args.walk.now c.args.level w c.in-Some-Latch.latch e.0 h.0 ∙ ap (λ f. Err f) (sym h.1))))
     c.pass_latch.ensures.fault
 
 pub returns-in-Some-Part-clause-on : goal.returns-in-Some-Part-clause-on
 returns-in-Some-Part-clause-on c =
     let e = rw c.in-Some-Part.field-0-is at c.in-Some-Part.ensures in
     on_ok c.pass_part.result
-    (λ passed top answer w. walking_part c.args.depth c.args.models.now top c.args.mark.now answer c.args.walk.now c.args.level w c.pass_part.new.walk c.in-Some-Part.part e.0 passed)
+    (λ passed top answer w. walking_part c.args.hierarchy.now.depth c.args.hierarchy.now.models top (mark_of c.args.hierarchy.now.models) answer c.args.walk.now c.args.level w c.pass_part.new.walk c.in-Some-Part.part e.0 passed)
     c.pass_part.ensures.passed
 
 pub returns-in-Some-Part-clause-fault : goal.returns-in-Some-Part-clause-fault
@@ -78,34 +78,33 @@ returns-in-Some-Part-clause-fault c =
     (λ fault.
     ⊎_elim
     (λ m. inl m)
-    (λ h. inr (λ top answer w. failing_part c.args.depth c.args.models.now top c.args.mark.now answer c.args.walk.now c.args.level w c.in-Some-Part.part _ e.0 h)))
+    (λ h. inr (λ top answer w. failing_part c.args.hierarchy.now.depth c.args.hierarchy.now.models top (mark_of c.args.hierarchy.now.models) answer c.args.walk.now c.args.level w c.in-Some-Part.part _ e.0 h)))
     c.pass_part.ensures.fault
 
 pub returns-in-None-clause-prints : goal.returns-in-None-clause-prints
-returns-in-None-clause-prints c = λ n e can here p. p
+returns-in-None-clause-prints c = λ can here p. p
 
 pub returns-in-Some-Gate-clause-prints : goal.returns-in-Some-Gate-clause-prints
 returns-in-Some-Gate-clause-prints c =
     let e = rw c.in-Some-Gate.field-0-is at c.in-Some-Gate.ensures in
-    let at = walking_at c.args.depth c.args.models.now c.requires.goes.0 c.args.mark.now c.requires.goes.1.0 c.args.walk.now c.args.level c.requires.goes.1.1 in
+    let at = walking_at c.args.hierarchy.now.depth c.args.hierarchy.now.models c.requires.goes.0 (mark_of c.args.hierarchy.now.models) c.requires.goes.1.0 c.args.walk.now c.args.level c.requires.goes.1.1 in
     on_ok c.pass_gate.result
-    (λ passed n t can here p. printed_gate c.args.models.now can c.args.walk.now c.pass_gate.new.walk c.args.level at.0 here p c.in-Some-Gate.gate _ e.0 passed)
+    (λ passed can here p. printed_gate c.args.hierarchy.now.models can c.args.walk.now c.pass_gate.new.walk c.args.level at.0 here p c.in-Some-Gate.gate _ e.0 passed)
     c.pass_gate.ensures.passed
 
 pub returns-in-Some-Latch-clause-prints : goal.returns-in-Some-Latch-clause-prints
 returns-in-Some-Latch-clause-prints c =
     let e = rw c.in-Some-Latch.field-0-is at c.in-Some-Latch.ensures in
-    let at = walking_at c.args.depth c.args.models.now c.requires.goes.0 c.args.mark.now c.requires.goes.1.0 c.args.walk.now c.args.level c.requires.goes.1.1 in
+    let at = walking_at c.args.hierarchy.now.depth c.args.hierarchy.now.models c.requires.goes.0 (mark_of c.args.hierarchy.now.models) c.requires.goes.1.0 c.args.walk.now c.args.level c.requires.goes.1.1 in
     on_ok c.pass_latch.result
-    (λ passed n t can here p. printed_latch c.args.models.now can c.args.walk.now c.pass_latch.new.walk c.args.level at.0 here p c.in-Some-Latch.latch _ e.0 passed)
+    (λ passed can here p. printed_latch c.args.hierarchy.now.models can c.args.walk.now c.pass_latch.new.walk c.args.level at.0 here p c.in-Some-Latch.latch _ e.0 passed)
     c.pass_latch.ensures.passed
 
 pub returns-in-Some-Part-clause-prints : goal.returns-in-Some-Part-clause-prints
 returns-in-Some-Part-clause-prints c =
     let e = rw c.in-Some-Part.field-0-is at c.in-Some-Part.ensures in
-    let at = walking_at c.args.depth c.args.models.now c.requires.goes.0 c.args.mark.now c.requires.goes.1.0 c.args.walk.now c.args.level c.requires.goes.1.1 in
+    let at = walking_at c.args.hierarchy.now.depth c.args.hierarchy.now.models c.requires.goes.0 (mark_of c.args.hierarchy.now.models) c.requires.goes.1.0 c.args.walk.now c.args.level c.requires.goes.1.1 in
     on_ok c.pass_part.result
-    (λ passed n t can here p.
-    printed_part c.args.models.now can c.args.walk.now c.pass_part.new.walk c.args.level at.0 here p c.args.depth n c.in-Some-Part.part _ e.0
-    (subst (λ (m : List ℕ). PassesPart c.args.depth c.args.models.now m c.args.walk.now c.args.level c.in-Some-Part.part c.pass_part.new.walk) t passed))
+    (λ passed can here p.
+    printed_part c.args.hierarchy.now.models can c.args.walk.now c.pass_part.new.walk c.args.level at.0 here p c.args.hierarchy.now.depth c.in-Some-Part.part _ e.0 passed)
     c.pass_part.ensures.passed

@@ -1,6 +1,6 @@
 use Rattle.std.proofs.Common.{◌≡◌, ⊎_elim, sym, ◌∙◌, Some, None}
 use Rattle.netlist.proofs.Validity.{no_fault_of_netlist}
-use Rattle.flatten.proofs.hierarchy.netlist_of.Goals as goal
+use Rattle.flatten.proofs.flattening.netlist_of.Goals as goal
 
 pub want_of_memory-requires : goal.want_of_memory-requires
 want_of_memory-requires c =

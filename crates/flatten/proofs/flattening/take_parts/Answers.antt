@@ -4,7 +4,7 @@ use Rattle.flatten.specs.declared.fault.FlatFault.TheVariants.{Memory}
 use Rattle.flatten.specs.Alone.{flat_alone}
 use Rattle.flatten.specs.Flat.{flat_at, max_depth, max_items}
 use Rattle.flatten.proofs.OwnLines.{is_flat_alone}
-use Rattle.flatten.proofs.hierarchy.take_parts.Goals as goal
+use Rattle.flatten.proofs.flattening.take_parts.Goals as goal
 
 pub returns-clause-parts : goal.returns-clause-parts
 returns-clause-parts c =
