@@ -27,7 +27,6 @@ pub(crate) struct ScheduledRun<'a> {
     pub vectors: &'a [Bits],
     pub schedule: &'a Schedule,
     ghost inputs: { AreInputs net.now vectors.now },
-    ghost fits: { FitsNetlist net.now (length vectors.now) schedule.now },
 }
 
 fn is_one_of(value: Trit) -> bool
@@ -62,6 +61,7 @@ pub(crate) fn known(alloc: Global, vectors: &[Trits]) -> Result<Vec<Bits>, Alloc
 
 // How the ticks of a run end, or the first fault in the order of play.
 pub(crate) fn played(alloc: Global, run: &ScheduledRun<'_>) -> Result<Vec<TickEnd>, FileError>
+    requires { FitsNetlist run.now.net.now (length run.now.vectors.now) run.now.schedule.now }
     ensures good { IfOk result (λ ends. played_meant run.now.net.now run.now.vectors.now run.now.schedule.now ≡ Ok ends.items) }
     ensures bad { IfErr result (λ error. IsErrorOf (played_meant run.now.net.now run.now.vectors.now run.now.schedule.now) (error_seen error)) }
 {
@@ -78,7 +78,8 @@ pub(crate) fn probed(
     probes: &mut [Box<dyn Probe>],
     wanted: Kind,
 ) -> Result<ShownRun, FileError>
-    requires { All (λ probe. heard probe ≡ []) probes.old }
+    requires fits { FitsNetlist run.now.net.now (length run.now.vectors.now) run.now.schedule.now }
+    requires silent { All (λ probe. heard probe ≡ []) probes.old }
     ensures good { IfOk result (λ shown. played_meant run.now.net.now run.now.vectors.now run.now.schedule.now ≡ Ok shown.ends.items) }
     ensures heard { OnOk result (EachHears kind heard text wanted (changes run.now.net.now run.now.schedule.now run.now.vectors.now) probes.old probes.new) }
     ensures err { OnErr result (EachHearsPrefix kind heard text wanted (changes run.now.net.now run.now.schedule.now run.now.vectors.now) probes.old probes.new) }

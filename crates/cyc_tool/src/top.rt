@@ -6,6 +6,7 @@ ghost use Rattle.commands.specs.Seen.{command_seen, options_seen};
 ghost use Rattle.commands.specs.Words.{command_of, standard_input as standard_input_name};
 ghost use Rattle.netlist.specs.Netlists.{IsNetlist};
 ghost use Rattle.probes.specs.Changes.{changes};
+ghost use Rattle.sched_text.specs.Fitting.{FitsNetlist};
 ghost use Rattle.sched_text.specs.Vectors.{HaveWidth};
 ghost use Rattle.cyc_tool.specs.Calls.{shelf_call, sink_call, ComesTo, Follows, KeepsNodes, Tells, Runs, WriteFailed};
 ghost use Rattle.cyc_tool.specs.Causes.{GivesAnswer, HasCompared, HasExplained, HasGraph, HasRewritten, HasStormed, IsComplete, IsDoneWith, IsFaulty, IsHelpedBy, IsUnread, IsWithoutCommand, MeetsLimit, NoneFell, Reaches};
@@ -162,6 +163,7 @@ struct Replay<'a> {
 
 // Plays a run by the schedule of this file, and tells no probe.
 fn play_alone(alloc: Global, run: &ScheduledRun<'_>, recorded: &Name) -> Result<Outcome, Stop>
+    requires { FitsNetlist run.now.net.now (length run.now.vectors.now) run.now.schedule.now }
     ensures { (shows : Shows) → FollowsStillAlone (playing shows None recorded.now run.now.net.now run.now.vectors.now run.now.schedule.now) (end_of result) }
 {
     match played(alloc, run) {
@@ -178,7 +180,8 @@ fn play_probed(
     probes: &mut [Box<dyn Probe>],
     wanted: Kind,
 ) -> Result<Outcome, Stop>
-    requires { All (λ probe. heard probe ≡ []) probes.old }
+    requires fits { FitsNetlist run.now.net.now (length run.now.vectors.now) run.now.schedule.now }
+    requires silent { All (λ probe. heard probe ≡ []) probes.old }
     ensures heard { HearRun kind heard text (Some wanted) probes.old probes.new (changes run.now.net.now run.now.schedule.now run.now.vectors.now) }
     ensures comes { FollowsStillAlone (playing (shown_by kind text probes.old) (Some wanted) recorded.now run.now.net.now run.now.vectors.now run.now.schedule.now) (end_of result) }
 {
@@ -194,7 +197,8 @@ fn play(
     replay: &Replay<'_>,
     probes: &mut [Box<dyn Probe>],
 ) -> Result<Outcome, Stop>
-    requires { All (λ probe. heard probe ≡ []) probes.old }
+    requires fits { FitsNetlist run.now.net.now (length run.now.vectors.now) run.now.schedule.now }
+    requires silent { All (λ probe. heard probe ≡ []) probes.old }
     ensures heard { HearRun kind heard text replay.now.probe probes.old probes.new (changes run.now.net.now run.now.schedule.now run.now.vectors.now) }
     ensures comes { FollowsStillAlone (playing (shown_by kind text probes.old) replay.now.probe replay.now.recorded.now run.now.net.now run.now.vectors.now run.now.schedule.now) (end_of result) }
 {
