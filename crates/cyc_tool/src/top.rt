@@ -15,7 +15,7 @@ ghost use Rattle.cyc_tool.specs.Plays.{AreInputs, known as known_of};
 ghost use Rattle.cyc_tool.specs.Plans.{Decides, decision, deciding, deciding_on, finding_loops, flattening, plan_of, play_on, playing, replaying, replaying_on, simulating, simulating_on};
 ghost use Rattle.cyc_tool.specs.Reading.{FollowsAlone, FollowsStill, FollowsStillAlone};
 ghost use Rattle.cyc_tool.specs.Requests.{Shows, request, shown_by};
-ghost use Rattle.cyc_tool.specs.Seen.{end_of, outcome_of, purpose_seen};
+ghost use Rattle.cyc_tool.specs.Seen.{end_of, outcome_of, purpose_seen, stop_outcome};
 
 use crate::compared::compare_files;
 use crate::decision::{Purpose, Task, decide_netlist};
@@ -413,6 +413,19 @@ fn tell_text<O: Sink, E: Sink>(told: &Outcome, out: &mut O, err: &mut E) -> u8
     tell(told.status, &told.out, &told.err, out, err)
 }
 
+// Tells why a call stopped.
+fn tell_stop<O: Sink, E: Sink>(stop: &Stop, out: &mut O, err: &mut E) -> u8
+    ensures told { Tells (stop_outcome stop.now) (sink_call O.put O.faults out.old out.new)
+        (sink_call E.put E.faults err.old err.new) result }
+    ensures out_later { O.faults out.old ≤ O.faults out.new }
+    ensures err_later { E.faults err.old ≤ E.faults err.new }
+{
+    match stop {
+        Stop::At(told) => tell_text(told, out, err),
+        Stop::Memory => tell(status::NO_MEMORY, b"", NO_MEMORY_TEXT, out, err),
+    }
+}
+
 // Tells the end of a call.
 fn tell_end<O: Sink, E: Sink>(end: &Result<Outcome, Stop>, out: &mut O, err: &mut E) -> u8
     ensures told { Tells (end_of end.now) (sink_call O.put O.faults out.old out.new)
@@ -422,8 +435,7 @@ fn tell_end<O: Sink, E: Sink>(end: &Result<Outcome, Stop>, out: &mut O, err: &mu
 {
     match end {
         Ok(told) => tell_text(told, out, err),
-        Err(Stop::At(told)) => tell_text(told, out, err),
-        Err(Stop::Memory) => tell(status::NO_MEMORY, b"", NO_MEMORY_TEXT, out, err),
+        Err(stop) => tell_stop(stop, out, err),
     }
 }
 

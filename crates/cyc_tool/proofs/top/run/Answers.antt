@@ -9,11 +9,14 @@ use Rattle.cyc_tool.proofs.top.run.Given as given
 use Rattle.cyc_tool.proofs.top.run.Goals as goal
 
 -- what was found is told
-runs : (g : given.Over) (c : goal.After-tell_end g)
+runs : (g : given.Over) (c : goal.After-drop-probes g)
     → Runs (request (λ b. (goal.Probe-dyn g (b.vtable, b.value)).kind b.value) (λ b. (goal.Probe-dyn g (b.vtable, b.value)).text b.value) c.args.words.now c.args.probes.items)
     (shelf_call g.S.Shelf.files g.S.Shelf.faults c.args.shelf.now c.find_outcome-end.new.shelf) c.find_outcome-end.new.d
     (sink_call g.O.Sink.put g.O.Sink.faults c.args.out.now c.tell_end.new.out) (sink_call g.E.Sink.put g.E.Sink.faults c.args.err.now c.tell_end.new.err) c.tell_end.result
 runs g c = record { end = end_of c.find_outcome-end.result; comes = rw c.deref_mut.ensures.value at c.find_outcome-end.ensures.comes; tells = c.tell_end.ensures.told }
+
+pub returns-clause-runs : goal.returns-clause-runs
+returns-clause-runs g c = runs g c
 
 pub returns-clause-usage : goal.returns-clause-usage
 returns-clause-usage g c = usage_cause _ _ _ _ _ _ (runs g c)
