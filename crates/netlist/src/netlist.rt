@@ -82,6 +82,13 @@ impl Netlist {
         Ok(Netlist { parts, names })
     }
 
+    /// What holds of every netlist, for a caller that reads nothing of it.
+    pub fn laws(&self)
+        ensures valid { IsNetlist self.now }
+    {
+        let _ = &self.parts;
+    }
+
     /// The model's name.
     pub fn name(&self) -> &Name
         ensures name { result.now ≡ self.now.name }

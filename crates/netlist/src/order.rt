@@ -41,7 +41,7 @@ impl Netlist {
         ensures graph { IfOk result (λ graph. graph ≡ gate_graph_of self.now) }
         ensures valid { IsNetlist self.now }
     {
-        graph_of(alloc, self.inputs() + self.latches(), self.gate_list())
+        graph_of(alloc, self.columns(), self.gate_list())
     }
 
     /// All gates, each after the gates that it reads: `None` exactly where the netlist has a loop.
