@@ -97,7 +97,7 @@ fn latch_control(alloc: Global, line: &TextLine<'_>) -> Result<Option<Clock>, Al
     if line.words() < 5 {
         return Ok(None);
     }
-    Ok(control_of(alloc, edge_of(line.word(3)), line.word(4))?)
+    control_of(alloc, edge_of(line.word(3)), line.word(4))
 }
 
 fn latch_init(line: &TextLine<'_>) -> Init

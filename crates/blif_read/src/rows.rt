@@ -118,7 +118,7 @@ fn lits_of(alloc: Global, line: &TextLine<'_>) -> Result<Items<Lit>, AllocError>
     if line.words() < 2 {
         return Ok(Items::of(Vec::new(alloc)));
     }
-    Ok(lits_of_word(alloc, line.word(0))?)
+    lits_of_word(alloc, line.word(0))
 }
 
 pub fn read_row(alloc: Global, place: Place, line: &TextLine<'_>) -> Result<Statement, BlifFault>

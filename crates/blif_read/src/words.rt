@@ -49,5 +49,5 @@ pub fn argument_names(alloc: Global, line: &TextLine<'_>) -> Result<Items<Name>,
     if words == 0 {
         return Ok(Items::of(Vec::new(alloc)));
     }
-    Ok(names_between(alloc, line, 1, words)?)
+    names_between(alloc, line, 1, words)
 }
