@@ -103,7 +103,7 @@ pub fn is_care_vector(
     if !care.state_in(alloc, latches)? {
         return Ok(false);
     }
-    Ok(care.allows(alloc, inputs, latches)?)
+    care.allows(alloc, inputs, latches)
 }
 
 /// Whether a wire is unknown in the fixpoint at a vector.
@@ -200,13 +200,13 @@ pub fn shows(
     ensures { IfOk result (λ shown. IsTrue shown ↔ Proves net.now care.now refusal.now) }
 {
     match refusal {
-        Refusal::Initial { state } => Ok(is_outside(alloc, net, care, state.items())?),
+        Refusal::Initial { state } => is_outside(alloc, net, care, state.items()),
         Refusal::EmptyCare => Ok(false),
         Refusal::Undetermined { vector, wire } => {
-            Ok(is_unknown_at(alloc, net, care, vector.items(), *wire)?)
+            is_unknown_at(alloc, net, care, vector.items(), *wire)
         }
         Refusal::Leaves { vector, next } => {
-            Ok(leaves_to(alloc, net, care, vector.items(), next.items())?)
+            leaves_to(alloc, net, care, vector.items(), next.items())
         }
     }
 }
