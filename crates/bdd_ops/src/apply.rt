@@ -34,6 +34,15 @@ pub enum Question {
     },
 }
 
+/// Operands, the first variable that one of them reads, and the answers to their cofactors at it.
+#[derive(Clone, Copy, Debug)]
+pub struct Answered {
+    pub asked: Operands,
+    pub var: u32,
+    pub low: Node,
+    pub high: Node,
+}
+
 /// What comes next: a question, or the answer to the last one.
 #[derive(Clone, Copy, Debug)]
 pub enum Turn {
@@ -94,64 +103,59 @@ fn ask(
     }
 }
 
-// Whether the node reads this variable first, and has these branches there.
-fn has_branches(store: &Store, n: Node, var: u32, low: Node, high: Node) -> bool
+// Whether the node reads the variable first, and has the answers as its branches there.
+fn has_branches(store: &Store, n: Node, answered: Answered) -> bool
     requires node { IsNodeOf store.now n }
-    requires var { var < store.now.vars }
-    ensures { IsTrue result → HasBranches store.now n var low high }
+    requires var { answered.var < store.now.vars }
+    ensures { IsTrue result → HasBranches store.now n answered.var answered.low answered.high }
 {
-    if store.top(n) != var {
+    if store.top(n) != answered.var {
         return false;
     }
-    store.lo(n) == low && store.hi(n) == high
+    store.lo(n) == answered.low && store.hi(n) == answered.high
 }
 
-// An operand that has these branches, so that no table needs to be asked for it. The second hardly ever has them, and
-// is not looked at.
-fn operand_with(store: &Store, q: Operands, var: u32, low: Node, high: Node) -> Option<Node>
-    requires nodes { AreNodesOf store.now q }
-    requires var { var < store.now.vars }
-    ensures { IfSome result (λ n. HasBranches store.now n var low high) }
+// An operand that has the answers as its branches, so that no table needs to be asked for it. The second hardly ever
+// has them, and is not looked at.
+fn operand_with(store: &Store, answered: Answered) -> Option<Node>
+    requires nodes { AreNodesOf store.now answered.asked }
+    requires var { answered.var < store.now.vars }
+    ensures { IfSome result (λ n. HasBranches store.now n answered.var answered.low answered.high) }
 {
-    if has_branches(store, q.a, var, low, high) {
-        Some(q.a)
-    } else if has_branches(store, q.c, var, low, high) {
-        Some(q.c)
-    } else if has_branches(store, q.d, var, low, high) {
-        Some(q.d)
+    let Operands { a, b: _, c, d } = answered.asked;
+    if has_branches(store, a, answered) {
+        Some(a)
+    } else if has_branches(store, c, answered) {
+        Some(c)
+    } else if has_branches(store, d, answered) {
+        Some(d)
     } else {
         None
     }
 }
 
 // What `make` gives. Where an operand is that node, it is found without the unique table.
-fn join(
-    store: &mut Store,
-    asked: Operands,
-    var: u32,
-    low: Node,
-    high: Node,
-) -> Result<Node, StoreFault>
-    requires nodes { AreNodesOf store.old asked }
-    requires var { var < store.old.vars }
-    requires low { IsNodeOf store.old low }
-    requires high { IsNodeOf store.old high }
-    requires above_low { var < top_of store.old low }
-    requires above_high { var < top_of store.old high }
+fn join(store: &mut Store, answered: Answered) -> Result<Node, StoreFault>
+    requires nodes { AreNodesOf store.old answered.asked }
+    requires var { answered.var < store.old.vars }
+    requires low { IsNodeOf store.old answered.low }
+    requires high { IsNodeOf store.old answered.high }
+    requires above_low { answered.var < top_of store.old answered.low }
+    requires above_high { answered.var < top_of store.old answered.high }
 
     ensures node { IfOk result (IsNodeOf store.new) }
-    ensures function { IfOk result (λ n. (bits : List Bool) → den store.new n bits ≡ choice store.old var low high bits) }
-    ensures top { IfOk result (λ n. var ≤ top_of store.new n) }
+    ensures function { IfOk result (λ n. (bits : List Bool) → den store.new n bits ≡ choice store.old answered.var answered.low answered.high bits) }
+    ensures top { IfOk result (λ n. answered.var ≤ top_of store.new n) }
     ensures answers { store.new.answers ≡ store.old.answers }
     ensures keeps { KeepsNodes store.old store.new }
     ensures new_node { (n : Node) → IsNodeOf store.new n → IsNodeOf store.old n ⊎ ((result ≡ Ok n) ⊎ (result ≡ Ok (complemented n))) }
-    ensures full { result ≡ Err StoreFault.Full → IsRefused store.old var low high }
-    ensures new_function { result ≡ Err StoreFault.Full → IsNewFunction store.old (choice store.old var low high) }
+    ensures full { result ≡ Err StoreFault.Full → IsRefused store.old answered.var answered.low answered.high }
+    ensures new_function { result ≡ Err StoreFault.Full → IsNewFunction store.old (choice store.old answered.var answered.low answered.high) }
     ensures err { OnErr result (store.new ≡ store.old) }
 {
-    match operand_with(store, asked, var, low, high) {
+    match operand_with(store, answered) {
         Some(n) => Ok(n),
-        None => Ok(store.make(var, low, high)?),
+        None => Ok(store.make(answered.var, answered.low, answered.high)?),
     }
 }
 
@@ -160,25 +164,22 @@ fn close(
     store: &mut Store,
     computed: &mut ComputedTable,
     operation: Operation,
-    asked: Operands,
-    var: u32,
-    low: Node,
-    high: Node,
+    answered: Answered,
 ) -> Result<Node, StoreFault>
-    requires answers { AreAnswered operation store.old asked var low high }
+    requires answers { AreAnswered operation store.old answered }
     requires computed { AreComputed store.old computed.old }
 
-    ensures answer { IfOk result (IsAnswer operation store.new asked) }
+    ensures answer { IfOk result (IsAnswer operation store.new answered.asked) }
     ensures computed { AreComputed store.new computed.new }
     ensures answers { store.new.answers ≡ store.old.answers }
     ensures keeps { KeepsNodes store.old store.new }
-    ensures parts { NewAreParts store.old store.new (value operation store.old asked) }
-    ensures full { result ≡ Err StoreFault.Full → IsRefusedPart store.new (value operation store.old asked) }
+    ensures parts { NewAreParts store.old store.new (value operation store.old answered.asked) }
+    ensures full { result ≡ Err StoreFault.Full → IsRefusedPart store.new (value operation store.old answered.asked) }
 {
-    let n = join(store, asked, var, low, high)?;
+    let n = join(store, answered)?;
     computed.insert(Computed {
         operation,
-        operands: asked,
+        operands: answered.asked,
         answer: n,
     });
     Ok(n)
@@ -213,7 +214,13 @@ fn resume(
             Ok(Turn::Ask(high))
         }
         Question::High { asked, var, low } => {
-            let n = close(store, computed, operation, asked.operands, var, low, n)?;
+            let answered = Answered {
+                asked: asked.operands,
+                var,
+                low,
+                high: n,
+            };
+            let n = close(store, computed, operation, answered)?;
             Ok(Turn::Answer(n.complement_if(asked.mark)))
         }
     }
