@@ -1,11 +1,12 @@
 //! What all operations share. Operands are answered from their cofactors, on a stack of the program's own:
 //! a recursion would go as deep as there are variables.
-ghost use Rattle.std.specs.Prelude.{◌≡◌, ◌<◌, ◌≤◌, ◌⊎◌, Bool, List, [], reverse, IsTrue, IfOk, OnOk, OnErr, IfSome, IfErr};
+ghost use Rattle.std.specs.Prelude.{◌≡◌, ◌<◌, ◌≤◌, ◌⊎◌, Bool, List, ◌∷◌, reverse, IsTrue, IfOk, OnErr, IfSome, IfErr};
 ghost use Rattle.bdd_store.specs.Arena.{Arena, complemented, den, choice, top_of, IsNodeOf};
 ghost use Rattle.bdd_store.specs.Growth.{KeepsNodes, NewAreParts, IsRefused, IsNewFunction, IsRefusedPart};
 ghost use Rattle.bdd_ops.specs.Apply.{value, HasBranches, AreNodesOf, SomeBranching, IsAnswer, AreAnswered, AreComputed};
 ghost use Rattle.bdd_ops.specs.Standard.{IsFormOf};
-ghost use Rattle.bdd_ops.specs.Turns.{asked_of, mark_of, WaitsFor, IsAnswered, IsChain, IsTurn, IsTurnOfSome};
+ghost use Rattle.bdd_ops.specs.Steps.{steps_waiting, steps_left};
+ghost use Rattle.bdd_ops.specs.Turns.{asked_of, mark_of, WaitsFor, IsAnswered, IsChain, IsTurn};
 
 use crate::computed::{Computed, ComputedTable};
 use crate::operands::{Operands, Operation, split};
@@ -92,6 +93,7 @@ fn ask(
     requires computed { AreComputed store.now computed.old }
     ensures same { computed.new ≡ computed.old }
     ensures ok { (root : Operands) → IsChain operation store.now root (reverse waiting.old.items) q → IfOk result (IsTurn operation store.now root (reverse waiting.new.items)) }
+    ensures fewer { (root : Operands) → IsChain operation store.now root (reverse waiting.old.items) q → IfOk result (λ next. steps_left store.now.vars (reverse waiting.new.items) next < steps_left store.now.vars (reverse waiting.old.items) (Turn.Ask q)) }
 {
     match known(computed, operation, q) {
         Ok(n) => Ok(Turn::Answer(n)),
@@ -198,7 +200,7 @@ fn resume(
     requires computed { AreComputed store.old computed.old }
 
     ensures ok { (root r : Operands) → IsFormOf operation r (mark_of question) (asked_of question) → IsChain operation store.new root (reverse waiting.old.items) r → IfOk result (IsTurn operation store.new root (reverse waiting.new.items)) }
-    ensures popped { IfOk result (λ turn. (m : Node) → turn ≡ Turn.Answer m → waiting.new.items ≡ waiting.old.items) }
+    ensures fewer { IfOk result (λ next. steps_left store.old.vars (reverse waiting.new.items) next < steps_waiting store.old.vars (question ∷ reverse waiting.old.items)) }
     ensures computed { AreComputed store.new computed.new }
     ensures answers { store.new.answers ≡ store.old.answers }
     ensures keeps { KeepsNodes store.old store.new }
@@ -226,72 +228,6 @@ fn resume(
     }
 }
 
-// Takes an answer to the questions that wait, the last first, until one asks for its other cofactors.
-fn ascend(
-    store: &mut Store,
-    computed: &mut ComputedTable,
-    waiting: &mut Vec<Question>,
-    operation: Operation,
-    n: Node,
-) -> Result<Turn, StoreFault>
-    requires turn { IsTurnOfSome operation store.old (reverse waiting.old.items) (Turn.Answer n) }
-    requires computed { AreComputed store.old computed.old }
-
-    ensures ok { (root : Operands) → AreNodesOf store.old root → IsTurn operation store.old root (reverse waiting.old.items) (Turn.Answer n) → IfOk result (IsTurn operation store.new root (reverse waiting.new.items)) }
-    ensures computed { AreComputed store.new computed.new }
-    ensures answers { store.new.answers ≡ store.old.answers }
-    ensures keeps { KeepsNodes store.old store.new }
-    ensures parts { (root : Operands) → AreNodesOf store.old root → IsTurn operation store.old root (reverse waiting.old.items) (Turn.Answer n) → NewAreParts store.old store.new (value operation store.old root) }
-    ensures full { (root : Operands) → AreNodesOf store.old root → IsTurn operation store.old root (reverse waiting.old.items) (Turn.Answer n) → result ≡ Err StoreFault.Full → IsRefusedPart store.new (value operation store.old root) }
-{
-    let mut answer = n;
-    while let Some(question) = waiting.pop() {
-        store.laws();
-        match resume(store, computed, waiting, operation, question, answer)? {
-            Turn::Answer(next) => answer = next,
-            Turn::Ask(high) => return Ok(Turn::Ask(high)),
-        }
-    }
-    Ok(Turn::Answer(answer))
-}
-
-// A question, or an answer with all that it answers.
-fn step(
-    store: &mut Store,
-    computed: &mut ComputedTable,
-    waiting: &mut Vec<Question>,
-    operation: Operation,
-    turn: Turn,
-) -> Result<Turn, StoreFault>
-    requires turn { IsTurnOfSome operation store.old (reverse waiting.old.items) turn }
-    requires computed { AreComputed store.old computed.old }
-
-    ensures ok { (root : Operands) → AreNodesOf store.old root → IsTurn operation store.old root (reverse waiting.old.items) turn → IfOk result (IsTurn operation store.new root (reverse waiting.new.items)) }
-    ensures computed { AreComputed store.new computed.new }
-    ensures answers { store.new.answers ≡ store.old.answers }
-    ensures keeps { KeepsNodes store.old store.new }
-    ensures parts { (root : Operands) → AreNodesOf store.old root → IsTurn operation store.old root (reverse waiting.old.items) turn → NewAreParts store.old store.new (value operation store.old root) }
-    ensures full { (root : Operands) → AreNodesOf store.old root → IsTurn operation store.old root (reverse waiting.old.items) turn → result ≡ Err StoreFault.Full → IsRefusedPart store.new (value operation store.old root) }
-{
-    match turn {
-        Turn::Ask(q) => match ask(store, computed, waiting, operation, q) {
-            Ok(next) => Ok(next),
-            Err(_) => Err(StoreFault::Memory),
-        },
-        Turn::Answer(n) => ascend(store, computed, waiting, operation, n),
-    }
-}
-
-// The answer that no question waits for.
-fn finished(turn: Turn, waiting: &Vec<Question>) -> Option<Node>
-    ensures { IfSome result (λ n. (turn ≡ Turn.Answer n) × (waiting.now.items ≡ [])) }
-{
-    match turn {
-        Turn::Answer(n) if waiting.is_empty() => Some(n),
-        _ => None,
-    }
-}
-
 // The node of the operation on the root's functions.
 pub(crate) fn apply(
     alloc: Global,
@@ -313,12 +249,16 @@ pub(crate) fn apply(
 {
     let mut waiting: Vec<Question> = Vec::with_capacity(alloc, FIRST_WAITING)?;
     let mut turn = Turn::Ask(root);
-    for _ in 0..u64::MAX {
-        if let Some(n) = finished(turn, &waiting) {
-            return Ok(n);
+    loop {
+        match turn {
+            Turn::Ask(q) => turn = ask(store, computed, &mut waiting, operation, q)?,
+            Turn::Answer(n) => {
+                let Some(question) = waiting.pop() else {
+                    return Ok(n);
+                };
+                store.laws();
+                turn = resume(store, computed, &mut waiting, operation, question, n)?;
+            }
         }
-        turn = step(store, computed, &mut waiting, operation, turn)?;
     }
-    // No machine counts as far.
-    Err(StoreFault::Memory)
 }
