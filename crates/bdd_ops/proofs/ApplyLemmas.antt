@@ -10,6 +10,7 @@ use Rattle.bdd_store.proofs.SubfunctionLemmas.{IsPart-whole, IsPart-alike}
 use Rattle.bdd_store.proofs.GrowthLemmas.{IsNodeOf-kept, NewAreParts-made, NewAreParts-part, IsRefusedPart-made, IsRefusedPart-part}
 use Rattle.bdd_ops.specs.declared.operands.Operation.{Operation}
 use Rattle.bdd_ops.specs.declared.operands.Operands.{Operands}
+use Rattle.bdd_ops.specs.declared.apply.Answered.{Answered}
 use Rattle.bdd_ops.specs.Apply.{combine, value, AreNodesOf, IsBelow, IsAnswer, IsCofactor, AreCofactors, IsSplit, AreAnswered}
 
 -- ---- what a store that keeps its nodes keeps
@@ -94,38 +95,38 @@ module _ (operation : Operation) (s : Arena) (q : Operands) (var : ℕ) (bit : B
 
 -- ---- the made node
 
-module _ (operation : Operation) (s : Arena) (asked : Operands) (var : ℕ) (low high : Node) (answered : AreAnswered operation s asked var low high) where
+module _ (operation : Operation) (s : Arena) (answered : Answered) (are : AreAnswered operation s answered) where
   abbrev made : List Bool → Bool
-  made = choice s var low high
+  made = choice s answered.var answered.low answered.high
 
-  pub low_below : var < top_of s low
-  low_below = below_answer operation s asked var false answered.0 answered.2.low answered.2.within low answered.3
+  pub low_below : answered.var < top_of s answered.low
+  low_below = below_answer operation s answered.asked answered.var false are.0 are.2.low are.2.within answered.low are.3
 
-  pub high_below : var < top_of s high
-  high_below = below_answer operation s asked var true answered.1 answered.2.high answered.2.within high answered.4
+  pub high_below : answered.var < top_of s answered.high
+  high_below = below_answer operation s answered.asked answered.var true are.1 are.2.high are.2.within answered.high are.4
 
   -- Shannon's expansion
-  pub made-value : (bits : List Bool) → made bits ≡ value operation s asked bits
-  made-value bits = by (get_or bits var false) refl
+  pub made-value : (bits : List Bool) → made bits ≡ value operation s answered.asked bits
+  made-value bits = by (get_or bits answered.var false) refl
     where
-      by : (c : Bool) → get_or bits var false ≡ c → (if c then den s high bits else den s low bits) ≡ value operation s asked bits
-      by true e = answered.4.function bits ∙ sym (value-cofactors operation s asked var true answered.1 answered.2.high bits e)
-      by false e = answered.3.function bits ∙ sym (value-cofactors operation s asked var false answered.0 answered.2.low bits e)
+      by : (c : Bool) → get_or bits answered.var false ≡ c → (if c then den s answered.high bits else den s answered.low bits) ≡ value operation s answered.asked bits
+      by true e = are.4.function bits ∙ sym (value-cofactors operation s answered.asked answered.var true are.1 are.2.high bits e)
+      by false e = are.3.function bits ∙ sym (value-cofactors operation s answered.asked answered.var false are.0 are.2.low bits e)
 
-  IsPart-made : IsPart s.vars (value operation s asked) made
-  IsPart-made = IsPart-alike (IsPart-whole s.vars (value operation s asked)) (λ bits len. made-value bits)
+  IsPart-made : IsPart s.vars (value operation s answered.asked) made
+  IsPart-made = IsPart-alike (IsPart-whole s.vars (value operation s answered.asked)) (λ bits len. made-value bits)
 
   module _ (t : Arena) (keeps : KeepsNodes s t) where
     -- the made node answers the operands
-    pub IsAnswer-made : (n : Node) → IsNodeOf t n → ((bits : List Bool) → den t n bits ≡ made bits) → var ≤ top_of t n → IsAnswer operation t asked n
+    pub IsAnswer-made : (n : Node) → IsNodeOf t n → ((bits : List Bool) → den t n bits ≡ made bits) → answered.var ≤ top_of t n → IsAnswer operation t answered.asked n
     IsAnswer-made n node function top = record {
       node = node;
-      function = λ bits. function bits ∙ made-value bits ∙ sym (value-kept operation asked keeps answered.2.nodes bits);
-      top = λ v w b. omega (arith, answered.2.most v (IsBelow-kept keeps answered.2.nodes b), top);
+      function = λ bits. function bits ∙ made-value bits ∙ sym (value-kept operation answered.asked keeps are.2.nodes bits);
+      top = λ v w b. omega (arith, are.2.most v (IsBelow-kept keeps are.2.nodes b), top);
     }
 
-  pub NewAreParts-close : {E : Type 0} (t : Arena) (r : Result Node E) → ((n : Node) → IsNodeOf t n → IsNodeOf s n ⊎ ((r ≡ Ok n) ⊎ (r ≡ Ok (complemented n)))) → IfOk r (λ n. (bits : List Bool) → den t n bits ≡ made bits) → NewAreParts s t (value operation s asked)
+  pub NewAreParts-close : {E : Type 0} (t : Arena) (r : Result Node E) → ((n : Node) → IsNodeOf t n → IsNodeOf s n ⊎ ((r ≡ Ok n) ⊎ (r ≡ Ok (complemented n)))) → IfOk r (λ n. (bits : List Bool) → den t n bits ≡ made bits) → NewAreParts s t (value operation s answered.asked)
   NewAreParts-close t r one function = NewAreParts-part IsPart-made (NewAreParts-made s t made r one function)
 
-  pub IsRefusedPart-close : (t : Arena) → t ≡ s → length s.entries ≡ s.limit → IsNewFunction s made → IsRefusedPart t (value operation s asked)
-  IsRefusedPart-close t e full absent = IsRefusedPart-part (subst (λ (u : Arena). IsPart u.vars (value operation s asked) made) (sym e) IsPart-made) (IsRefusedPart-made s t made e full absent)
+  pub IsRefusedPart-close : (t : Arena) → t ≡ s → length s.entries ≡ s.limit → IsNewFunction s made → IsRefusedPart t (value operation s answered.asked)
+  IsRefusedPart-close t e full absent = IsRefusedPart-part (subst (λ (u : Arena). IsPart u.vars (value operation s answered.asked) made) (sym e) IsPart-made) (IsRefusedPart-made s t made e full absent)

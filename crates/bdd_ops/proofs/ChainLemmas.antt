@@ -89,21 +89,14 @@ behind operation s root items rest w turn n is e t =
     let chain : IsChain operation s root (w ∷ reverse rest) answered.0 = subst (λ ws. IsChain operation s root ws answered.0) (ap reverse e ∙ reverse-push rest w) answered.1 in
     (chain.1, chain.2, chain.3)
 
--- an answer that no question waits for is the root's
-pub answers_root : (operation : Operation) (s : Arena) (root : Operands) (items : List Question) (turn : Turn) (n : Node) → turn ≡ Answer n → items ≡ [] → IsTurn operation s root (reverse items) turn → IsAnswer operation s root n
-answers_root operation s root items turn n is e t =
-    let answered : IsTurn operation s root (reverse items) (Answer n) = subst (IsTurn operation s root (reverse items)) is t in
-    let chain : answered.0 ≡ root = subst (λ ws. IsChain operation s root (reverse ws) answered.0) e answered.1 in
-    subst (λ (q : Operands). IsAnswer operation s q n) chain answered.2
-
 IsPart-root : (operation : Operation) (vars : ℕ) (r s : Arena) (root : Operands) → AreNodesOf r root → KeepsNodes r s → IsPart vars (value operation r root) (value operation s root)
 IsPart-root operation vars r s root nodes k = IsPart-alike (IsPart-whole vars (value operation r root)) (λ bits len. value-kept operation root k nodes bits)
 
 -- what a turn adds, seen from the first one
-pub NewAreParts-turn : (operation : Operation) (r s t : Arena) (root : Operands) → AreNodesOf r root → KeepsNodes r s → KeepsNodes s t → NewAreParts r s (value operation r root) → NewAreParts s t (value operation s root) → NewAreParts r t (value operation r root)
+NewAreParts-turn : (operation : Operation) (r s t : Arena) (root : Operands) → AreNodesOf r root → KeepsNodes r s → KeepsNodes s t → NewAreParts r s (value operation r root) → NewAreParts s t (value operation s root) → NewAreParts r t (value operation r root)
 NewAreParts-turn operation r s t root nodes k l before now = NewAreParts-chain k l before (NewAreParts-part (IsPart-root operation s.vars r s root nodes k) now)
 
-pub IsRefusedPart-turn : (operation : Operation) (r s t : Arena) (root : Operands) → AreNodesOf r root → KeepsNodes r s → IsRefusedPart t (value operation s root) → IsRefusedPart t (value operation r root)
+IsRefusedPart-turn : (operation : Operation) (r s t : Arena) (root : Operands) → AreNodesOf r root → KeepsNodes r s → IsRefusedPart t (value operation s root) → IsRefusedPart t (value operation r root)
 IsRefusedPart-turn operation r s t root nodes k h = IsRefusedPart-part (IsPart-root operation t.vars r s root nodes k) h
 
 -- once the answer at 0 is there, the one at 1 is waited for

@@ -10,3 +10,4 @@ mod ReadLemmas
 mod DecideLemmas
 mod RootLemmas
 mod SlotLemmas
+mod StepLemmas

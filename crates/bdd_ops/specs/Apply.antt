@@ -7,6 +7,7 @@ use Rattle.bdd_ops.specs.declared.operands.Operation.{Operation}
 use Rattle.bdd_ops.specs.declared.operands.Operation.TheVariants.{Ite, Select}
 use Rattle.bdd_ops.specs.declared.operands.Operands.{Operands}
 use Rattle.bdd_ops.specs.declared.operands.Branches.{Branches}
+use Rattle.bdd_ops.specs.declared.apply.Answered.{Answered}
 use Rattle.bdd_ops.specs.declared.computed.Chosen.{Chosen}
 use Rattle.bdd_ops.specs.declared.computed.Computed.{Computed}
 use Rattle.bdd_ops.specs.Operations.{select}
@@ -78,8 +79,8 @@ pub record HasBranches (s : Arena) (n : Node) (var : ℕ) (low high : Node) : Ty
   pub top : var ≤ top_of s n
 
 -- low and high answer the cofactors of the operands at var
-abbrev pub AreAnswered : Operation → Arena → Operands → ℕ → Node → Node → Type 0
-AreAnswered operation s asked var low high = (p : Operands) × (q : Operands) × IsSplit s asked var p q × IsAnswer operation s p low × IsAnswer operation s q high
+abbrev pub AreAnswered : Operation → Arena → Answered → Type 0
+AreAnswered operation s answered = (p : Operands) × (q : Operands) × IsSplit s answered.asked answered.var p q × IsAnswer operation s p answered.low × IsAnswer operation s q answered.high
 
 -- what the computed table has in a slot is the operation's answer
 pub record IsComputed (s : Arena) (c : Computed) : Type 0 where

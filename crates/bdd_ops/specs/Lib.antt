@@ -4,4 +4,5 @@ pub mod Least
 pub mod Operations
 pub mod Possible
 pub mod Standard
+pub mod Steps
 pub mod Turns

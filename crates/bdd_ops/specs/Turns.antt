@@ -8,7 +8,7 @@ use Rattle.bdd_ops.specs.declared.apply.Question.{Question}
 use Rattle.bdd_ops.specs.declared.apply.Question.TheVariants.{Low, High}
 use Rattle.bdd_ops.specs.declared.apply.Turn.{Turn}
 use Rattle.bdd_ops.specs.declared.apply.Turn.TheVariants.{Ask, Answer}
-use Rattle.bdd_ops.specs.Apply.{AreNodesOf, IsAnswer, IsSplit}
+use Rattle.bdd_ops.specs.Apply.{IsAnswer, IsSplit}
 use Rattle.bdd_ops.specs.Standard.{IsFormOf}
 
 -- the operands whose answer is open
@@ -40,6 +40,3 @@ IsChain operation s root (w ∷ ws) q = WaitsFor operation s w q × (r : Operand
 abbrev pub IsTurn : Operation → Arena → Operands → List Question → Turn → Type 0
 IsTurn operation s root ws (Ask q) = IsChain operation s root ws q
 IsTurn operation s root ws (Answer n) = (q : Operands) × IsChain operation s root ws q × IsAnswer operation s q n
-
-abbrev pub IsTurnOfSome : Operation → Arena → List Question → Turn → Type 0
-IsTurnOfSome operation s ws turn = (root : Operands) × AreNodesOf s root × IsTurn operation s root ws turn

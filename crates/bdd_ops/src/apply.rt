@@ -1,11 +1,12 @@
 //! What all operations share. Operands are answered from their cofactors, on a stack of the program's own:
 //! a recursion would go as deep as there are variables.
-ghost use Rattle.std.specs.Prelude.{◌≡◌, ◌<◌, ◌≤◌, ◌⊎◌, Bool, List, [], reverse, IsTrue, IfOk, OnOk, OnErr, IfSome, IfErr};
+ghost use Rattle.std.specs.Prelude.{◌≡◌, ◌<◌, ◌≤◌, ◌⊎◌, Bool, List, ◌∷◌, reverse, IsTrue, IfOk, OnErr, IfSome, IfErr};
 ghost use Rattle.bdd_store.specs.Arena.{Arena, complemented, den, choice, top_of, IsNodeOf};
 ghost use Rattle.bdd_store.specs.Growth.{KeepsNodes, NewAreParts, IsRefused, IsNewFunction, IsRefusedPart};
 ghost use Rattle.bdd_ops.specs.Apply.{value, HasBranches, AreNodesOf, SomeBranching, IsAnswer, AreAnswered, AreComputed};
 ghost use Rattle.bdd_ops.specs.Standard.{IsFormOf};
-ghost use Rattle.bdd_ops.specs.Turns.{asked_of, mark_of, WaitsFor, IsAnswered, IsChain, IsTurn, IsTurnOfSome};
+ghost use Rattle.bdd_ops.specs.Steps.{steps_waiting, steps_left};
+ghost use Rattle.bdd_ops.specs.Turns.{asked_of, mark_of, WaitsFor, IsAnswered, IsChain, IsTurn};
 
 use crate::computed::{Computed, ComputedTable};
 use crate::operands::{Operands, Operation, split};
@@ -32,6 +33,15 @@ pub enum Question {
         var: u32,
         low: Node,
     },
+}
+
+/// Operands, the first variable that one of them reads, and the answers to their cofactors at it.
+#[derive(Clone, Copy, Debug)]
+pub struct Answered {
+    pub asked: Operands,
+    pub var: u32,
+    pub low: Node,
+    pub high: Node,
 }
 
 /// What comes next: a question, or the answer to the last one.
@@ -83,6 +93,7 @@ fn ask(
     requires computed { AreComputed store.now computed.old }
     ensures same { computed.new ≡ computed.old }
     ensures ok { (root : Operands) → IsChain operation store.now root (reverse waiting.old.items) q → IfOk result (IsTurn operation store.now root (reverse waiting.new.items)) }
+    ensures fewer { (root : Operands) → IsChain operation store.now root (reverse waiting.old.items) q → IfOk result (λ next. steps_left store.now.vars (reverse waiting.new.items) next < steps_left store.now.vars (reverse waiting.old.items) (Turn.Ask q)) }
 {
     match known(computed, operation, q) {
         Ok(n) => Ok(Turn::Answer(n)),
@@ -94,64 +105,59 @@ fn ask(
     }
 }
 
-// Whether the node reads this variable first, and has these branches there.
-fn has_branches(store: &Store, n: Node, var: u32, low: Node, high: Node) -> bool
+// Whether the node reads the variable first, and has the answers as its branches there.
+fn has_branches(store: &Store, n: Node, answered: Answered) -> bool
     requires node { IsNodeOf store.now n }
-    requires var { var < store.now.vars }
-    ensures { IsTrue result → HasBranches store.now n var low high }
+    requires var { answered.var < store.now.vars }
+    ensures { IsTrue result → HasBranches store.now n answered.var answered.low answered.high }
 {
-    if store.top(n) != var {
+    if store.top(n) != answered.var {
         return false;
     }
-    store.lo(n) == low && store.hi(n) == high
+    store.lo(n) == answered.low && store.hi(n) == answered.high
 }
 
-// An operand that has these branches, so that no table needs to be asked for it. The second hardly ever has them, and
-// is not looked at.
-fn operand_with(store: &Store, q: Operands, var: u32, low: Node, high: Node) -> Option<Node>
-    requires nodes { AreNodesOf store.now q }
-    requires var { var < store.now.vars }
-    ensures { IfSome result (λ n. HasBranches store.now n var low high) }
+// An operand that has the answers as its branches, so that no table needs to be asked for it. The second hardly ever
+// has them, and is not looked at.
+fn operand_with(store: &Store, answered: Answered) -> Option<Node>
+    requires nodes { AreNodesOf store.now answered.asked }
+    requires var { answered.var < store.now.vars }
+    ensures { IfSome result (λ n. HasBranches store.now n answered.var answered.low answered.high) }
 {
-    if has_branches(store, q.a, var, low, high) {
-        Some(q.a)
-    } else if has_branches(store, q.c, var, low, high) {
-        Some(q.c)
-    } else if has_branches(store, q.d, var, low, high) {
-        Some(q.d)
+    let Operands { a, b: _, c, d } = answered.asked;
+    if has_branches(store, a, answered) {
+        Some(a)
+    } else if has_branches(store, c, answered) {
+        Some(c)
+    } else if has_branches(store, d, answered) {
+        Some(d)
     } else {
         None
     }
 }
 
 // What `make` gives. Where an operand is that node, it is found without the unique table.
-fn join(
-    store: &mut Store,
-    asked: Operands,
-    var: u32,
-    low: Node,
-    high: Node,
-) -> Result<Node, StoreFault>
-    requires nodes { AreNodesOf store.old asked }
-    requires var { var < store.old.vars }
-    requires low { IsNodeOf store.old low }
-    requires high { IsNodeOf store.old high }
-    requires above_low { var < top_of store.old low }
-    requires above_high { var < top_of store.old high }
+fn join(store: &mut Store, answered: Answered) -> Result<Node, StoreFault>
+    requires nodes { AreNodesOf store.old answered.asked }
+    requires var { answered.var < store.old.vars }
+    requires low { IsNodeOf store.old answered.low }
+    requires high { IsNodeOf store.old answered.high }
+    requires above_low { answered.var < top_of store.old answered.low }
+    requires above_high { answered.var < top_of store.old answered.high }
 
     ensures node { IfOk result (IsNodeOf store.new) }
-    ensures function { IfOk result (λ n. (bits : List Bool) → den store.new n bits ≡ choice store.old var low high bits) }
-    ensures top { IfOk result (λ n. var ≤ top_of store.new n) }
+    ensures function { IfOk result (λ n. (bits : List Bool) → den store.new n bits ≡ choice store.old answered.var answered.low answered.high bits) }
+    ensures top { IfOk result (λ n. answered.var ≤ top_of store.new n) }
     ensures answers { store.new.answers ≡ store.old.answers }
     ensures keeps { KeepsNodes store.old store.new }
     ensures new_node { (n : Node) → IsNodeOf store.new n → IsNodeOf store.old n ⊎ ((result ≡ Ok n) ⊎ (result ≡ Ok (complemented n))) }
-    ensures full { result ≡ Err StoreFault.Full → IsRefused store.old var low high }
-    ensures new_function { result ≡ Err StoreFault.Full → IsNewFunction store.old (choice store.old var low high) }
+    ensures full { result ≡ Err StoreFault.Full → IsRefused store.old answered.var answered.low answered.high }
+    ensures new_function { result ≡ Err StoreFault.Full → IsNewFunction store.old (choice store.old answered.var answered.low answered.high) }
     ensures err { OnErr result (store.new ≡ store.old) }
 {
-    match operand_with(store, asked, var, low, high) {
+    match operand_with(store, answered) {
         Some(n) => Ok(n),
-        None => Ok(store.make(var, low, high)?),
+        None => Ok(store.make(answered.var, answered.low, answered.high)?),
     }
 }
 
@@ -160,25 +166,22 @@ fn close(
     store: &mut Store,
     computed: &mut ComputedTable,
     operation: Operation,
-    asked: Operands,
-    var: u32,
-    low: Node,
-    high: Node,
+    answered: Answered,
 ) -> Result<Node, StoreFault>
-    requires answers { AreAnswered operation store.old asked var low high }
+    requires answers { AreAnswered operation store.old answered }
     requires computed { AreComputed store.old computed.old }
 
-    ensures answer { IfOk result (IsAnswer operation store.new asked) }
+    ensures answer { IfOk result (IsAnswer operation store.new answered.asked) }
     ensures computed { AreComputed store.new computed.new }
     ensures answers { store.new.answers ≡ store.old.answers }
     ensures keeps { KeepsNodes store.old store.new }
-    ensures parts { NewAreParts store.old store.new (value operation store.old asked) }
-    ensures full { result ≡ Err StoreFault.Full → IsRefusedPart store.new (value operation store.old asked) }
+    ensures parts { NewAreParts store.old store.new (value operation store.old answered.asked) }
+    ensures full { result ≡ Err StoreFault.Full → IsRefusedPart store.new (value operation store.old answered.asked) }
 {
-    let n = join(store, asked, var, low, high)?;
+    let n = join(store, answered)?;
     computed.insert(Computed {
         operation,
-        operands: asked,
+        operands: answered.asked,
         answer: n,
     });
     Ok(n)
@@ -197,7 +200,7 @@ fn resume(
     requires computed { AreComputed store.old computed.old }
 
     ensures ok { (root r : Operands) → IsFormOf operation r (mark_of question) (asked_of question) → IsChain operation store.new root (reverse waiting.old.items) r → IfOk result (IsTurn operation store.new root (reverse waiting.new.items)) }
-    ensures popped { IfOk result (λ turn. (m : Node) → turn ≡ Turn.Answer m → waiting.new.items ≡ waiting.old.items) }
+    ensures fewer { IfOk result (λ next. steps_left store.old.vars (reverse waiting.new.items) next < steps_waiting store.old.vars (question ∷ reverse waiting.old.items)) }
     ensures computed { AreComputed store.new computed.new }
     ensures answers { store.new.answers ≡ store.old.answers }
     ensures keeps { KeepsNodes store.old store.new }
@@ -213,75 +216,15 @@ fn resume(
             Ok(Turn::Ask(high))
         }
         Question::High { asked, var, low } => {
-            let n = close(store, computed, operation, asked.operands, var, low, n)?;
+            let answered = Answered {
+                asked: asked.operands,
+                var,
+                low,
+                high: n,
+            };
+            let n = close(store, computed, operation, answered)?;
             Ok(Turn::Answer(n.complement_if(asked.mark)))
         }
-    }
-}
-
-// Takes an answer to the questions that wait, the last first, until one asks for its other cofactors.
-fn ascend(
-    store: &mut Store,
-    computed: &mut ComputedTable,
-    waiting: &mut Vec<Question>,
-    operation: Operation,
-    n: Node,
-) -> Result<Turn, StoreFault>
-    requires turn { IsTurnOfSome operation store.old (reverse waiting.old.items) (Turn.Answer n) }
-    requires computed { AreComputed store.old computed.old }
-
-    ensures ok { (root : Operands) → AreNodesOf store.old root → IsTurn operation store.old root (reverse waiting.old.items) (Turn.Answer n) → IfOk result (IsTurn operation store.new root (reverse waiting.new.items)) }
-    ensures computed { AreComputed store.new computed.new }
-    ensures answers { store.new.answers ≡ store.old.answers }
-    ensures keeps { KeepsNodes store.old store.new }
-    ensures parts { (root : Operands) → AreNodesOf store.old root → IsTurn operation store.old root (reverse waiting.old.items) (Turn.Answer n) → NewAreParts store.old store.new (value operation store.old root) }
-    ensures full { (root : Operands) → AreNodesOf store.old root → IsTurn operation store.old root (reverse waiting.old.items) (Turn.Answer n) → result ≡ Err StoreFault.Full → IsRefusedPart store.new (value operation store.old root) }
-{
-    let mut answer = n;
-    while let Some(question) = waiting.pop() {
-        store.laws();
-        match resume(store, computed, waiting, operation, question, answer)? {
-            Turn::Answer(next) => answer = next,
-            Turn::Ask(high) => return Ok(Turn::Ask(high)),
-        }
-    }
-    Ok(Turn::Answer(answer))
-}
-
-// A question, or an answer with all that it answers.
-fn step(
-    store: &mut Store,
-    computed: &mut ComputedTable,
-    waiting: &mut Vec<Question>,
-    operation: Operation,
-    turn: Turn,
-) -> Result<Turn, StoreFault>
-    requires turn { IsTurnOfSome operation store.old (reverse waiting.old.items) turn }
-    requires computed { AreComputed store.old computed.old }
-
-    ensures ok { (root : Operands) → AreNodesOf store.old root → IsTurn operation store.old root (reverse waiting.old.items) turn → IfOk result (IsTurn operation store.new root (reverse waiting.new.items)) }
-    ensures computed { AreComputed store.new computed.new }
-    ensures answers { store.new.answers ≡ store.old.answers }
-    ensures keeps { KeepsNodes store.old store.new }
-    ensures parts { (root : Operands) → AreNodesOf store.old root → IsTurn operation store.old root (reverse waiting.old.items) turn → NewAreParts store.old store.new (value operation store.old root) }
-    ensures full { (root : Operands) → AreNodesOf store.old root → IsTurn operation store.old root (reverse waiting.old.items) turn → result ≡ Err StoreFault.Full → IsRefusedPart store.new (value operation store.old root) }
-{
-    match turn {
-        Turn::Ask(q) => match ask(store, computed, waiting, operation, q) {
-            Ok(next) => Ok(next),
-            Err(_) => Err(StoreFault::Memory),
-        },
-        Turn::Answer(n) => ascend(store, computed, waiting, operation, n),
-    }
-}
-
-// The answer that no question waits for.
-fn finished(turn: Turn, waiting: &Vec<Question>) -> Option<Node>
-    ensures { IfSome result (λ n. (turn ≡ Turn.Answer n) × (waiting.now.items ≡ [])) }
-{
-    match turn {
-        Turn::Answer(n) if waiting.is_empty() => Some(n),
-        _ => None,
     }
 }
 
@@ -306,12 +249,16 @@ pub(crate) fn apply(
 {
     let mut waiting: Vec<Question> = Vec::with_capacity(alloc, FIRST_WAITING)?;
     let mut turn = Turn::Ask(root);
-    for _ in 0..u64::MAX {
-        if let Some(n) = finished(turn, &waiting) {
-            return Ok(n);
+    loop {
+        match turn {
+            Turn::Ask(q) => turn = ask(store, computed, &mut waiting, operation, q)?,
+            Turn::Answer(n) => {
+                let Some(question) = waiting.pop() else {
+                    return Ok(n);
+                };
+                store.laws();
+                turn = resume(store, computed, &mut waiting, operation, question, n)?;
+            }
         }
-        turn = step(store, computed, &mut waiting, operation, turn)?;
     }
-    // No machine counts as far.
-    Err(StoreFault::Memory)
 }

@@ -1,26 +1,35 @@
-use Rattle.std.proofs.Common.{Err, sym, ap, ◌∙◌}
+use Rattle.std.proofs.Common.{Err, reverse, sym, ap, subst, ◌∙◌}
 use Rattle.bdd_store.specs.declared.fault.StoreFault.{StoreFault}
 use Rattle.bdd_store.proofs.GrowthLemmas.{KeepsNodes-chain}
+use Rattle.bdd_ops.specs.Turns.{IsTurn}
 use Rattle.bdd_ops.proofs.ApplyLemmas.{AreNodesOf-kept}
-use Rattle.bdd_ops.proofs.ChainLemmas.{NewAreParts-turn, IsRefusedPart-turn}
+use Rattle.bdd_ops.proofs.ChainLemmas.{IsChain-nodes, asked-turn, behind-kept, NewAreParts-taken, IsRefusedPart-taken}
 use Rattle.bdd_ops.proofs.apply.apply.Goals as goal
 
-pub step-requires-clause-turn : goal.step-requires-clause-turn
-step-requires-clause-turn c = (c.args.root, AreNodesOf-kept c.loop.invariant.keeps c.requires.nodes, c.loop.invariant.turn)
+pub ask-requires-clause-nodes : goal.ask-requires-clause-nodes
+ask-requires-clause-nodes c =
+    let waiting = reverse c.loop-turn.waiting.items in
+    IsChain-nodes c.args.operation c.loop-turn.store c.args.root waiting c.in-Ask.q (AreNodesOf-kept c.loop-turn.invariant.keeps c.requires.nodes) (asked-turn c.args.operation c.loop-turn.store c.args.root waiting c.loop-turn.turn c.in-Ask.q c.in-Ask.is c.loop-turn.invariant.turn)
 
-pub returns-in_err-turn-clause-parts : goal.returns-in_err-turn-clause-parts
-returns-in_err-turn-clause-parts c = NewAreParts-turn c.args.operation c.args.store.now c.loop.store c.step.new.store c.args.root c.requires.nodes c.loop.invariant.keeps c.step.ensures.keeps c.loop.invariant.parts (c.step.ensures.parts c.args.root (AreNodesOf-kept c.loop.invariant.keeps c.requires.nodes) c.loop.invariant.turn)
+pub returns-in_err-turn-in-Answer-clause-parts : goal.returns-in_err-turn-in-Answer-clause-parts
+returns-in_err-turn-in-Answer-clause-parts c =
+    let turn = subst (IsTurn c.args.operation c.loop-turn.store c.args.root (reverse c.loop-turn.waiting.items)) c.in-Answer.is c.loop-turn.invariant.turn in
+    NewAreParts-taken c.args.operation c.loop-turn.store c.resume.new.store c.args.root c.loop-turn.waiting.items c.pop.new.self.items c.in-Some.question c.in-Answer.n c.resume.ensures.keeps c.in-Some.ensures.items turn c.args.store.now c.laws.ensures c.requires.nodes c.loop-turn.invariant.keeps c.loop-turn.invariant.parts c.resume.ensures.parts
 
-pub returns-in_err-turn-clause-full : goal.returns-in_err-turn-clause-full
-returns-in_err-turn-clause-full c is_full =
-    let refused = c.in_err-turn.was ∙ ap {A = StoreFault} Err (sym (rw is_full at c.from_residual-in_err-turn.ensures.1)) in
-    IsRefusedPart-turn c.args.operation c.args.store.now c.loop.store c.step.new.store c.args.root c.requires.nodes c.loop.invariant.keeps (c.step.ensures.full c.args.root (AreNodesOf-kept c.loop.invariant.keeps c.requires.nodes) c.loop.invariant.turn refused)
+pub returns-in_err-turn-in-Answer-clause-full : goal.returns-in_err-turn-in-Answer-clause-full
+returns-in_err-turn-in-Answer-clause-full c is_full =
+    let turn = subst (IsTurn c.args.operation c.loop-turn.store c.args.root (reverse c.loop-turn.waiting.items)) c.in-Answer.is c.loop-turn.invariant.turn in
+    let refused = c.in_err-turn-in-Answer.was ∙ ap {A = StoreFault} Err (sym (rw is_full at c.from_residual-in_err-turn-in-Answer.ensures.1)) in
+    IsRefusedPart-taken c.args.operation c.loop-turn.store c.resume.new.store c.args.root c.loop-turn.waiting.items c.pop.new.self.items c.in-Some.question c.in-Answer.n c.resume.ensures.keeps c.in-Some.ensures.items turn c.args.store.now c.laws.ensures c.requires.nodes c.loop-turn.invariant.keeps (c.resume.ensures.full refused)
 
-pub loop-preserved : goal.loop-preserved
-loop-preserved c = record {
-  keeps = KeepsNodes-chain c.loop.invariant.keeps c.step.ensures.keeps;
-  answers = c.step.ensures.answers ∙ c.loop.invariant.answers;
-  computed = c.step.ensures.computed;
-  parts = NewAreParts-turn c.args.operation c.args.store.now c.loop.store c.step.new.store c.args.root c.requires.nodes c.loop.invariant.keeps c.step.ensures.keeps c.loop.invariant.parts (c.step.ensures.parts c.args.root (AreNodesOf-kept c.loop.invariant.keeps c.requires.nodes) c.loop.invariant.turn);
-  turn = c.in_ok-turn.ensures.ok c.args.root (AreNodesOf-kept c.loop.invariant.keeps c.requires.nodes) c.loop.invariant.turn;
-}
+pub loop-turn-preserved : goal.loop-turn-preserved
+loop-turn-preserved c =
+    let turn = subst (IsTurn c.args.operation c.loop-turn.store c.args.root (reverse c.loop-turn.waiting.items)) c.in-Answer.is c.loop-turn.invariant.turn in
+    let behind = behind-kept c.args.operation c.loop-turn.store c.resume.new.store c.args.root c.loop-turn.waiting.items c.pop.new.self.items c.in-Some.question c.in-Answer.n c.resume.ensures.keeps c.in-Some.ensures.items turn in
+    record {
+      keeps = KeepsNodes-chain c.loop-turn.invariant.keeps c.resume.ensures.keeps;
+      answers = c.resume.ensures.answers ∙ c.loop-turn.invariant.answers;
+      computed = c.resume.ensures.computed;
+      parts = NewAreParts-taken c.args.operation c.loop-turn.store c.resume.new.store c.args.root c.loop-turn.waiting.items c.pop.new.self.items c.in-Some.question c.in-Answer.n c.resume.ensures.keeps c.in-Some.ensures.items turn c.args.store.now c.laws.ensures c.requires.nodes c.loop-turn.invariant.keeps c.loop-turn.invariant.parts c.resume.ensures.parts;
+      turn = c.in_ok-turn-in-Answer.ensures.ok c.args.root behind.0 behind.1 behind.2;
+    }

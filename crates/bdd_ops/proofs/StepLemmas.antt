@@ -1,0 +1,56 @@
+-- Each step leaves fewer of them.
+use Rattle.std.proofs.Common.{◌≡◌, ℕ, zero, suc, ◌+◌, ◌-◌, ◌<◌, ◌≤◌, Bool, List, [], ◌∷◌, ◌++◌, reverse, sym, ap, subst, ◌∙◌, arith}
+use Rattle.bdd_store.specs.Arena.{Arena}
+use Rattle.bdd_ops.specs.declared.operands.Operation.{Operation}
+use Rattle.bdd_ops.specs.declared.operands.Operands.{Operands}
+use Rattle.bdd_ops.specs.declared.apply.Question.{Question}
+use Rattle.bdd_ops.specs.declared.apply.Question.TheVariants.{Low, High}
+use Rattle.bdd_ops.specs.declared.apply.Turn.TheVariants.{Ask}
+use Rattle.bdd_ops.specs.Apply.{IsBelow, AreCofactors}
+use Rattle.bdd_ops.specs.Standard.{IsFormOf}
+use Rattle.bdd_ops.specs.Steps.{var_of, most_steps, last_vars, steps_from, steps_waiting, steps_left}
+use Rattle.bdd_ops.specs.Turns.{WaitsFor, IsChain, asked_of, mark_of}
+use Rattle.bdd_ops.proofs.ChainLemmas.{reverse-push}
+
+most_steps-grow : (m n : ℕ) → m ≤ n → most_steps m ≤ most_steps n
+most_steps-grow zero zero h = omega arith
+most_steps-grow zero (suc n) h = omega arith
+most_steps-grow (suc m) zero h = absurd (omega (arith, h))
+most_steps-grow (suc m) (suc n) h = omega (arith, most_steps-grow m n (omega (arith, h)))
+
+most_steps-twice : (m n : ℕ) → m < n → most_steps m + most_steps m + 3 ≤ most_steps n
+most_steps-twice m n h = most_steps-grow (suc m) n h
+
+-- cofactors read later variables alone
+IsBelow-cofactors : {s : Arena} {q p : Operands} {var : ℕ} {bit : Bool} → AreCofactors s q var bit p → IsBelow s p (suc var)
+IsBelow-cofactors of = record { a = of.a.lower; b = of.b.lower; c = of.c.lower; d = of.d.lower }
+
+module _ (operation : Operation) (s : Arena) where
+  within : (w : Question) (q : Operands) → WaitsFor operation s w q → var_of w < s.vars
+  within (Low asked var high) q h = h.within
+  within (High asked var low) q h = h.1.within
+
+  most : (w : Question) (q : Operands) → WaitsFor operation s w q → (v : ℕ) → IsBelow s (asked_of w) v → v ≤ var_of w
+  most (Low asked var high) q h = h.most
+  most (High asked var low) q h = h.1.most
+
+  IsBelow-waits : (w : Question) (q : Operands) → WaitsFor operation s w q → IsBelow s q (suc (var_of w))
+  IsBelow-waits (Low asked var high) q h = IsBelow-cofactors h.low
+  IsBelow-waits (High asked var low) q h = IsBelow-cofactors h.1.high
+
+  steps_from-most : (w : Question) → steps_from s.vars w ≤ most_steps (s.vars - suc (var_of w)) + 2
+  steps_from-most (Low asked var high) = omega arith
+  steps_from-most (High asked var low) = omega arith
+
+  -- a question is of a variable behind those of the questions that wait
+  last_vars-fewer : (root : Operands) (ws : List Question) (q : Operands) (w : Question) (low : Operands) → IsChain operation s root ws q → IsFormOf operation q (mark_of w) (asked_of w) → WaitsFor operation s w low → s.vars - suc (var_of w) < last_vars s.vars ws
+  last_vars-fewer root [] q w low chain form waits = omega (arith, within w low waits)
+  last_vars-fewer root (u ∷ us) q w low chain form waits =
+      let far = most w low waits (suc (var_of u)) ((form s).below (suc (var_of u)) (within u q chain.0) (IsBelow-waits u q chain.0)) in
+      omega (arith, far, within w low waits)
+
+  pub asked-fewer : (root : Operands) (items more : List Question) (q : Operands) (w : Question) (low : Operands) → more ≡ items ++ w ∷ [] → IsChain operation s root (reverse items) q → IsFormOf operation q (mark_of w) (asked_of w) → WaitsFor operation s w low
+      → steps_left s.vars (reverse more) (Ask low) < steps_left s.vars (reverse items) (Ask q)
+  asked-fewer root items more q w low is chain form waits =
+      subst (λ ws. steps_left s.vars ws (Ask low) < steps_left s.vars (reverse items) (Ask q)) (sym (ap reverse is ∙ reverse-push items w))
+      (omega (arith, steps_from-most w, most_steps-twice (s.vars - suc (var_of w)) (last_vars s.vars (reverse items)) (last_vars-fewer root (reverse items) q w low chain form waits)))
