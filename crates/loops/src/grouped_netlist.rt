@@ -92,11 +92,7 @@ impl<'a> GroupedNetlist<'a> {
         ensures some { IfSome result (IsLoopSource self.now.net self.now.blocks gate pin) }
         ensures none { IfNone result ((a : ℕ) → ¬ IsLoopSource self.now.net self.now.blocks gate pin a) }
     {
-        let first = self.net.inputs() + self.net.latches();
-        if pin.0 < first {
-            return None;
-        }
-        let source = pin.0 - first;
+        let source = self.net.driver(pin)?;
         if !self.are_in_one_loop(source, gate) {
             return None;
         }

@@ -1,8 +1,9 @@
 //! Loops of a netlist: its blocks, which are its strongly connected components, cut wires that open each
 //! loop, and sweeps of a loop from its cut wires (Malik 1994; Shiple, Berry and Touati 1996).
 //!
-//! It stands on `netlist`, for walks and the fixpoint. The layers above use the blocks in order, the cut
-//! wires, an order of a loop's gates, and the laws of sweeps (`laws`).
+//! It stands on `netlist`, for walks and the fixpoint. The layers above hand on a netlist with its blocks and its cut
+//! wires as one value, a `LoopedNetlist`: it tells which gates are in one loop, lists the loops in order (`LoopList`),
+//! and orders the gates of a loop for a sweep. The laws of sweeps are in `laws`.
 #![tactic(auto)]
 
 mod blocks;
