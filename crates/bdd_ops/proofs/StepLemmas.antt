@@ -8,7 +8,7 @@ use Rattle.bdd_ops.specs.declared.apply.Question.TheVariants.{Low, High}
 use Rattle.bdd_ops.specs.declared.apply.Turn.TheVariants.{Ask}
 use Rattle.bdd_ops.specs.Apply.{IsBelow, AreCofactors}
 use Rattle.bdd_ops.specs.Standard.{IsFormOf}
-use Rattle.bdd_ops.specs.Steps.{var_of, most_steps, last_vars, steps_from, steps_waiting, steps_left}
+use Rattle.bdd_ops.specs.Steps.{var_of, most_steps, last_vars, steps_from, steps_left}
 use Rattle.bdd_ops.specs.Turns.{WaitsFor, IsChain, asked_of, mark_of}
 use Rattle.bdd_ops.proofs.ChainLemmas.{reverse-push}
 

@@ -124,7 +124,7 @@ impl Diagrams {
         ensures always { result ≡ Ok (complemented a) }
         ensures unchanged { self.new ≡ self.old }
     {
-        let _ = &self.store;
+        self.store.laws();
         Ok(a.complement())
     }
 

@@ -1,10 +1,10 @@
 //! The least vector in an order of its places that need not be the order of the variables. A node is asked for each
 //! place in turn whether it is true at some vector that has 0 there, after the bits that are decided. A place that the
 //! node's function doesn't read has 0 without being asked for.
-ghost use Rattle.std.specs.Prelude.{◌≡◌, ◌≢◌, ◌↔◌, ◌+◌, ◌<◌, ◌≤◌, ℕ, Bool, true, false, List, Some, IsTrue, IfOk, length, slice_get, slice_index_or};
+ghost use Rattle.std.specs.Prelude.{◌≡◌, ◌≢◌, ◌↔◌, ◌+◌, ◌<◌, ◌≤◌, true, false, Some, IsTrue, IfOk, length, slice_get};
 ghost use Rattle.bdd_store.specs.Arena.{constant, den, index, is_marked, IsNodeOf};
 ghost use Rattle.bdd_ops.specs.Least.{IsLeast, IsLayout, by_variable};
-ghost use Rattle.bdd_ops.specs.Possible.{Takes, MarksRead, flipped_values, either, branch_values, AreFound};
+ghost use Rattle.bdd_ops.specs.Possible.{Takes, MarksRead, flipped_values, either, branch_values};
 
 use bdd_store::{Node, Store};
 use std::alloc::{AllocError, Global};

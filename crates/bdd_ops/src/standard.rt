@@ -1,7 +1,7 @@
 //! Standard forms (Brace, Rudell and Bryant 1990): operands whose answers are one node, or a node and its
 //! complement, are written in one way, and share a slot of the computed table.
-ghost use Rattle.std.specs.Prelude.{◌≡◌, ℕ, ◌≤◌, Bool, List, true, false};
-ghost use Rattle.bdd_store.specs.Arena.{Arena, constant, den, top_of, IsNodeOf};
+ghost use Rattle.std.specs.Prelude.{true, false};
+ghost use Rattle.bdd_store.specs.Arena.{Arena};
 ghost use Rattle.bdd_ops.specs.Apply.{SomeBranching};
 ghost use Rattle.bdd_ops.specs.Standard.{IsKnownAt, StandsFor, IsFormOf};
 

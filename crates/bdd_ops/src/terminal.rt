@@ -1,7 +1,7 @@
 //! The terminal cases of each operation: operands that decide the answer.
 
-ghost use Rattle.std.specs.Prelude.{◌≡◌, ◌⊎◌, IfSome, IfNone, Bool, false};
-ghost use Rattle.bdd_store.specs.Arena.{Arena, constant, IsBranching};
+ghost use Rattle.std.specs.Prelude.{◌⊎◌, IfSome, IfNone, false};
+ghost use Rattle.bdd_store.specs.Arena.{Arena, IsBranching};
 ghost use Rattle.bdd_ops.specs.Apply.{AreNodesOf, SomeBranching, IsAnswer};
 
 use crate::operands::{Operands, Operation};

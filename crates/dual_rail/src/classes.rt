@@ -1,5 +1,5 @@
 //! Rows that agree from a pin on, as one: the states of an automaton that reads a row from its last pin back.
-ghost use Rattle.std.specs.Prelude.{◌≡◌, ◌<◌, ◌≤◌, ◌+◌, List, ◌⊎◌, ℕ, length, map, All, Some, None, IfOk, OnOk};
+ghost use Rattle.std.specs.Prelude.{◌≡◌, ◌<◌, ◌≤◌, ◌+◌, ◌⊎◌, ℕ, length, map, All, Some, None, IfOk, OnOk};
 ghost use Rattle.cover_logic.specs.declared.row.Lit.{Lit as Literal};
 ghost use Rattle.dual_rail.specs.Expansion.{end_of};
 ghost use Rattle.dual_rail.specs.Classes.{first_of, first_in, none, AreClasses, AreNumbered, AreClassesOf, AreClassesBack, AreEndsOf, class_of, is_behind_end};

@@ -64,68 +64,74 @@ fn join(
     Ok(n)
 }
 
-// The node of the remainder at one value of the pin.
-#[cycle(expand)]
-fn branch(
-    rows: &[Row],
+/// Rows of a cover, and their classes.
+#[derive(Drop)]
+struct ClassedRows<'a> {
+    rows: &'a [Row],
     plane: bool,
-    classes: &Classes,
-    store: &mut Store,
-    memo: &mut HashMap<Live, Node>,
-    live: &Live,
-    bit: bool,
-) -> Result<Node, StoreFault>
-    requires width { All (λ row. length row.lits ≡ store.old.vars) rows.now }
-    requires pins { store.old.vars ≤ 1024 }
-    requires classes { AreClassesOf rows.now classes.now }
-    requires ends { AreEndsOf rows.now classes.now }
-    requires at { live.now.pin < store.old.vars }
-    requires memo { IsMemo rows.now plane store.old memo.old }
-
-    ensures node { IfOk result (IsExpansion rows.now plane store.new (live.now.pin + 1) (narrowed rows.now live.now.pin bit live.now.rows.items)) }
-    ensures memo { OnOk result (IsMemo rows.now plane store.new memo.new) }
-    ensures keeps { KeepsNodes store.old store.new }
-    ensures parts { NewAreParts store.old store.new (remainder rows.now plane live.now.pin live.now.rows.items) }
-    ensures full { result ≡ Err StoreFault.Full → IsRefusedPart store.new (remainder rows.now plane live.now.pin live.now.rows.items) }
-{
-    match live.narrowed(rows, classes, bit) {
-        Ok(next) => expand(rows, plane, classes, store, memo, next),
-        Err(_) => Err(StoreFault::Memory),
-    }
+    classes: &'a Classes,
 }
 
-// The node of what these rows leave to be matched from their pin on. It recurses once for each pin.
-#[cycle(expand)]
-fn expand(
-    rows: &[Row],
-    plane: bool,
-    classes: &Classes,
-    store: &mut Store,
-    memo: &mut HashMap<Live, Node>,
-    live: Live,
-) -> Result<Node, StoreFault>
-    requires width { All (λ row. length row.lits ≡ store.old.vars) rows.now }
-    requires pins { store.old.vars ≤ 1024 }
-    requires classes { AreClassesOf rows.now classes.now }
-    requires ends { AreEndsOf rows.now classes.now }
-    requires at { live.pin ≤ store.old.vars }
-    requires memo { IsMemo rows.now plane store.old memo.old }
+impl ClassedRows<'_> {
+    // The node of the remainder at one value of the pin.
+    #[cycle(expand)]
+    fn branch(
+        &self,
+        store: &mut Store,
+        memo: &mut HashMap<Live, Node>,
+        live: &Live,
+        bit: bool,
+    ) -> Result<Node, StoreFault>
+        requires width { All (λ row. length row.lits ≡ store.old.vars) self.now.rows.now }
+        requires pins { store.old.vars ≤ 1024 }
+        requires classes { AreClassesOf self.now.rows.now self.now.classes.now }
+        requires ends { AreEndsOf self.now.rows.now self.now.classes.now }
+        requires at { live.now.pin < store.old.vars }
+        requires memo { IsMemo self.now.rows.now self.now.plane store.old memo.old }
 
-    ensures node { IfOk result (IsExpansion rows.now plane store.new live.pin live.rows.items) }
-    ensures memo { OnOk result (IsMemo rows.now plane store.new memo.new) }
-    ensures keeps { KeepsNodes store.old store.new }
-    ensures parts { NewAreParts store.old store.new (remainder rows.now plane live.pin live.rows.items) }
-    ensures full { result ≡ Err StoreFault.Full → IsRefusedPart store.new (remainder rows.now plane live.pin live.rows.items) }
-{
-    if let Some(b) = decided(classes, plane, live.pin, &live.rows) {
-        return Ok(Node::of(b));
+        ensures node { IfOk result (IsExpansion self.now.rows.now self.now.plane store.new (live.now.pin + 1) (narrowed self.now.rows.now live.now.pin bit live.now.rows.items)) }
+        ensures memo { OnOk result (IsMemo self.now.rows.now self.now.plane store.new memo.new) }
+        ensures keeps { KeepsNodes store.old store.new }
+        ensures parts { NewAreParts store.old store.new (remainder self.now.rows.now self.now.plane live.now.pin live.now.rows.items) }
+        ensures full { result ≡ Err StoreFault.Full → IsRefusedPart store.new (remainder self.now.rows.now self.now.plane live.now.pin live.now.rows.items) }
+    {
+        match live.narrowed(self.rows, self.classes, bit) {
+            Ok(next) => self.expand(store, memo, next),
+            Err(_) => Err(StoreFault::Memory),
+        }
     }
-    if let Some(n) = memo.get(&live).copied() {
-        return Ok(n);
+
+    // The node of what these rows leave to be matched from their pin on. It recurses once for each pin.
+    #[cycle(expand)]
+    fn expand(
+        &self,
+        store: &mut Store,
+        memo: &mut HashMap<Live, Node>,
+        live: Live,
+    ) -> Result<Node, StoreFault>
+        requires width { All (λ row. length row.lits ≡ store.old.vars) self.now.rows.now }
+        requires pins { store.old.vars ≤ 1024 }
+        requires classes { AreClassesOf self.now.rows.now self.now.classes.now }
+        requires ends { AreEndsOf self.now.rows.now self.now.classes.now }
+        requires at { live.pin ≤ store.old.vars }
+        requires memo { IsMemo self.now.rows.now self.now.plane store.old memo.old }
+
+        ensures node { IfOk result (IsExpansion self.now.rows.now self.now.plane store.new live.pin live.rows.items) }
+        ensures memo { OnOk result (IsMemo self.now.rows.now self.now.plane store.new memo.new) }
+        ensures keeps { KeepsNodes store.old store.new }
+        ensures parts { NewAreParts store.old store.new (remainder self.now.rows.now self.now.plane live.pin live.rows.items) }
+        ensures full { result ≡ Err StoreFault.Full → IsRefusedPart store.new (remainder self.now.rows.now self.now.plane live.pin live.rows.items) }
+    {
+        if let Some(b) = decided(self.classes, self.plane, live.pin, &live.rows) {
+            return Ok(Node::of(b));
+        }
+        if let Some(n) = memo.get(&live).copied() {
+            return Ok(n);
+        }
+        let low = self.branch(store, memo, &live, false)?;
+        let high = self.branch(store, memo, &live, true)?;
+        join(store, memo, live, low, high)
     }
-    let low = branch(rows, plane, classes, store, memo, &live, false)?;
-    let high = branch(rows, plane, classes, store, memo, &live, true)?;
-    join(store, memo, live, low, high)
 }
 
 // The node of the value of rows of a store's width.
@@ -150,8 +156,13 @@ fn expand_rows(
     let Ok(live) = Live::at_first(alloc, rows, &classes) else {
         return Err(StoreFault::Memory);
     };
+    let classed = ClassedRows {
+        rows,
+        plane,
+        classes: &classes,
+    };
     let mut memo = HashMap::new(alloc);
-    expand(rows, plane, &classes, store, &mut memo, live)
+    classed.expand(store, &mut memo, live)
 }
 
 /// The node of a cover's function.

@@ -1,5 +1,5 @@
 //! Laws of sizes and of working lists, each the contract of a function that does nothing.
-ghost use Rattle.std.specs.Prelude.{◌≡◌, ℕ, ◌≤◌, Bool, List, length};
+ghost use Rattle.std.specs.Prelude.{◌≡◌, Bool, List, length};
 ghost use Rattle.bdd_store.specs.Arena.{Arena};
 ghost use Rattle.bdd_store.specs.Subfunctions.{prefixes};
 ghost use Rattle.cover_logic.specs.Covers.{Cover};

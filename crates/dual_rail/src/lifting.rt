@@ -1,5 +1,5 @@
 //! The rails of a cover's function, from those of its pins.
-ghost use Rattle.std.specs.Prelude.{◌≡◌, ℕ, ◌*◌, ◌<◌, Bool, false, List, length, All, IfOk};
+ghost use Rattle.std.specs.Prelude.{◌≡◌, ◌*◌, ◌<◌, Bool, false, List, length, All, IfOk};
 ghost use Rattle.bdd_store.specs.Arena.{Arena, index, is_marked, den, IsNodeOf, IsBranching};
 ghost use Rattle.bdd_store.specs.Growth.{GrowsWithin, NoOtherCause, IsPartAt};
 ghost use Rattle.cover_logic.specs.Covers.{Cover};

@@ -1,5 +1,5 @@
 use Rattle.std.proofs.Common.{◌+◌, ◌-◌, ◌*◌}
-use Rattle.dual_rail.proofs.expand.+expand.Given as goal
+use Rattle.dual_rail.proofs.expand.ClassedRows.+expand.Given as goal
 
 abbrev pub decreases-expand : goal.decreases-expand
 decreases-expand l = 2 * (l.store.now.vars - l.live.pin) + 1
