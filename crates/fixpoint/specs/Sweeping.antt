@@ -143,4 +143,4 @@ pub record IsSolvedTo (l : Looped) (a : Arena) (given : List KeptRails) (b : ℕ
   pub kept : AreKeptBelow l a (values_under a given) b places
 
 abbrev pub HasSolvedTo : Looped → Arena → List KeptRails → ℕ → Progress → Type 0
-HasSolvedTo l a given b progress = IsSolvedTo l a given b progress.before.items progress.rails.items progress.places.items
+HasSolvedTo l a given b progress = IsSolvedTo l a given b progress.wires.before.items progress.wires.rails.items progress.places.items

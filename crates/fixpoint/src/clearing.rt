@@ -5,9 +5,9 @@ ghost use Rattle.loops.specs.Looped.{Looped};
 ghost use Rattle.fixpoint.specs.Kept.{rails_under, AreKept, RootsStay};
 ghost use Rattle.fixpoint.specs.Sweeping.{rails_in, HasSolvedTo};
 
-use crate::kept::{KeptRails, rails_of};
+use crate::kept::KeptRails;
 use crate::progress::Progress;
-use crate::wires::{unknown, wires};
+use crate::wires::{Wires, unknown};
 use bdd_ops::Diagrams;
 use dual_rail::Rails;
 use std::alloc::{AllocError, Global};
@@ -60,8 +60,8 @@ pub(crate) fn sweep_store(
 ) -> Result<(), AllocError>
     requires given { All (AreKept d.old) given.now }
     requires places { All (λ place. IfSome place (AreKept d.old)) progress.old.places.items }
-    ensures before { OnOk result (progress.new.before.items ≡ map (rails_in d.new) progress.old.places.items) }
-    ensures rails { OnOk result (progress.new.rails.items ≡ map (rails_under d.new) given.now ++ progress.new.before.items) }
+    ensures before { OnOk result (progress.new.wires.before.items ≡ map (rails_in d.new) progress.old.places.items) }
+    ensures rails { OnOk result (progress.new.wires.rails.items ≡ map (rails_under d.new) given.now ++ progress.new.wires.before.items) }
     ensures places { progress.new.places.items ≡ progress.old.places.items }
     ensures roots { RootsStay d.old d.new }
     ensures fewer { length d.new.entries ≤ length d.old.entries }
@@ -70,10 +70,7 @@ pub(crate) fn sweep_store(
     d.sweep()?;
     d.store().laws();
     let before = rails_at_places(alloc, d, &progress.places)?;
-    let columns = rails_of(alloc, d, given)?;
-    let rails = wires(alloc, &columns, &before)?;
-    progress.before = before;
-    progress.rails = rails;
+    progress.wires = Wires::of(alloc, d, given, before)?;
     progress.left = d.store().count();
     Ok(())
 }

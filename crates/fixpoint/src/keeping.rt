@@ -95,19 +95,19 @@ pub(crate) fn keep_block(
     found: Option<SweptLoop>,
 ) -> Result<Option<LoopSteps>, AllocError>
     requires gates { All (λ n. n < length progress.old.places.items) gates.now }
-    requires width { length progress.old.rails.items ≡ first + length progress.old.places.items }
-    requires proper { All (AreRailsOf d.old) progress.old.rails.items }
+    requires width { length progress.old.wires.rails.items ≡ first + length progress.old.places.items }
+    requires proper { All (AreRailsOf d.old) progress.old.wires.rails.items }
     requires steps { IfSome found (λ swept. All (All (AreRailsOf d.old)) swept.steps) }
-    ensures kept { OnOk result ((n : ℕ) → Contains gates.now n → HoldsRails d.new (place_of progress.new.places.items n) (rails_at progress.old.rails.items (first + n))) }
+    ensures kept { OnOk result ((n : ℕ) → Contains gates.now n → HoldsRails d.new (place_of progress.new.places.items n) (rails_at progress.old.wires.rails.items (first + n))) }
     ensures others { OnOk result ((n : ℕ) → ¬ Contains gates.now n → place_of progress.new.places.items n ≡ place_of progress.old.places.items n) }
-    ensures before { progress.new.before.items ≡ progress.old.before.items }
-    ensures rails { progress.new.rails.items ≡ progress.old.rails.items }
+    ensures before { progress.new.wires.before.items ≡ progress.old.wires.before.items }
+    ensures rails { progress.new.wires.rails.items ≡ progress.old.wires.rails.items }
     ensures width { length progress.new.places.items ≡ length progress.old.places.items }
     ensures keys { IfOk result (λ loop. IfSome loop (λ steps. All (All (AreKept d.new)) steps.steps)) }
     ensures steps { IfOk result (λ loop. option_map (loop_under d.new) loop ≡ found) }
     ensures gains { GainsRoots d.old d.new }
 {
-    keep_gates(d, gates, first, &progress.rails, &mut progress.places)?;
+    keep_gates(d, gates, first, &progress.wires.rails, &mut progress.places)?;
     match found {
         Some(swept) => Ok(Some(keep_loop(alloc, d, swept)?)),
         None => Ok(None),
@@ -115,7 +115,7 @@ pub(crate) fn keep_block(
 }
 
 /// The kept rails of all signals: the given ones, and then those at the places.
-pub(crate) fn signal_rails(
+pub(crate) fn kept_signals(
     given: Vec<KeptRails>,
     places: Vec<Option<KeptRails>>,
 ) -> Result<Vec<KeptRails>, AllocError>

@@ -49,7 +49,7 @@ pub fn order(alloc: Global, net: &Netlist) -> Result<Vec<u32>, AllocError>
     ensures layout { IfOk result (λ columns. IsLayout (first_gate net.now) columns.items) }
     ensures valid { IsNetlist net.now }
 {
-    let number = net.inputs() + net.latches();
+    let number = net.columns();
     let mut marks = vec![in alloc; false; number as usize]?;
     let mut columns = Vec::with_capacity(alloc, number as usize)?;
     for gate in 0..net.gates() {

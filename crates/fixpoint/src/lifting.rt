@@ -14,7 +14,7 @@ ghost use Rattle.fixpoint.specs.Lifting.{rails_of_pin, AreSignalRails, IsLifted,
 ghost use Rattle.fixpoint.specs.Solved.{Vectors};
 ghost use Rattle.fixpoint.specs.Working.{no_loops, IsGatePart, HasLargeCover, effort};
 
-use crate::wires::{gate_rails, unknowns, wires};
+use crate::wires::{gate_rails, signal_rails, unknowns};
 use bdd_ops::Diagrams;
 use bdd_store::StoreFault;
 use cyc_base::Sig;
@@ -48,7 +48,7 @@ fn lift_gate(
         return Err(StoreFault::Memory);
     };
     let made = gate_rails(alloc, d, net, gate, &pins)?;
-    rails[(net.inputs() + net.latches() + gate) as usize] = made;
+    rails[(net.columns() + gate) as usize] = made;
     Ok(())
 }
 
@@ -102,7 +102,7 @@ pub fn lift_gates(
     let Ok(unlifted) = unknowns(alloc, net.gates() as usize) else {
         return Err(StoreFault::Memory);
     };
-    let Ok(mut rails) = wires(alloc, given, &unlifted) else {
+    let Ok(mut rails) = signal_rails(alloc, given, &unlifted) else {
         return Err(StoreFault::Memory);
     };
     lift_in_order(alloc, d, net, &order, &mut rails)?;

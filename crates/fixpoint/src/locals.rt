@@ -132,88 +132,61 @@ fn serves(net: &Netlist, shared: &[SharedDiagram], place: usize, gate: u32) -> b
     are_equal(&net.gate(shared[place].gate).cover, &net.gate(gate).cover)
 }
 
-/// The place of the diagram of an equal cover, where it is the last that has this hash.
-fn find_shared(net: &Netlist, locals: &Locals, gate: u32, hash: u64) -> Option<usize>
-    requires gate { gate < length net.now.gates }
-    requires shared { AreShared net.now locals.now.shared.items }
-    ensures { IfSome result (HasDiagram net.now locals.now.shared.items gate) }
-{
-    let place = locals.latest.get(&hash).copied()?;
-    if serves(net, &locals.shared, place, gate) {
-        return Some(place);
-    }
-    None
-}
-
-/// Makes the diagram of a gate's cover, and gives its place.
-fn add_shared(
-    alloc: Global,
-    net: &Netlist,
-    locals: &mut Locals,
-    gate: u32,
-    hash: u64,
-    limit: u32,
-) -> Result<usize, StoreFault>
-    requires gate { gate < length net.now.gates }
-    requires limit { limit ≤ MAX_NODES }
-    requires shared { AreShared net.now locals.old.shared.items }
-    ensures place { IfOk result (HasDiagram net.now locals.new.shared.items gate) }
-    ensures shared { OnOk result (AreShared net.now locals.new.shared.items) }
-    ensures others { OnOk result ((n place : ℕ) → HasDiagram net.now locals.old.shared.items n place → HasDiagram net.now locals.new.shared.items n place) }
-    ensures places { OnOk result (locals.new.places.items ≡ locals.old.places.items) }
-    ensures full { result ≡ Err StoreFault.Full → HasLargeCover net.now limit }
-{
-    let diagram = local_of(alloc, net, gate, limit)?;
-    let place = locals.shared.len();
-    locals.shared.push(SharedDiagram { gate, diagram })?;
-    locals.latest.insert(hash, place)?;
-    Ok(place)
-}
-
-/// The place of the diagram of a gate's cover: that of an equal cover, or else a new one.
-fn place_of_cover(
-    alloc: Global,
-    net: &Netlist,
-    locals: &mut Locals,
-    gate: u32,
-    limit: u32,
-) -> Result<usize, StoreFault>
-    requires gate { gate < length net.now.gates }
-    requires limit { limit ≤ MAX_NODES }
-    requires shared { AreShared net.now locals.old.shared.items }
-    ensures place { IfOk result (HasDiagram net.now locals.new.shared.items gate) }
-    ensures shared { OnOk result (AreShared net.now locals.new.shared.items) }
-    ensures others { OnOk result ((n place : ℕ) → HasDiagram net.now locals.old.shared.items n place → HasDiagram net.now locals.new.shared.items n place) }
-    ensures places { OnOk result (locals.new.places.items ≡ locals.old.places.items) }
-    ensures full { result ≡ Err StoreFault.Full → HasLargeCover net.now limit }
-{
-    let hash = hash_cover(&net.gate(gate).cover);
-    if let Some(place) = find_shared(net, locals, gate, hash) {
-        return Ok(place);
-    }
-    add_shared(alloc, net, locals, gate, hash, limit)
-}
-
-/// Puts the diagram of a gate's cover last.
-fn add_local(
-    alloc: Global,
-    net: &Netlist,
-    locals: &mut Locals,
-    gate: u32,
-    limit: u32,
-) -> Result<(), StoreFault>
-    requires gate { gate < length net.now.gates }
-    requires limit { limit ≤ MAX_NODES }
-    requires shared { AreShared net.now locals.old.shared.items }
-    ensures locals { (gates : List ℕ) → AreLocalsOf net.now gates locals.old → OnOk result (AreLocalsOf net.now (gates ++ gate ∷ []) locals.new) }
-    ensures full { result ≡ Err StoreFault.Full → HasLargeCover net.now limit }
-{
-    let place = place_of_cover(alloc, net, locals, gate, limit)?;
-    locals.places.push(place)?;
-    Ok(())
-}
-
 impl Locals {
+    /// The place of the diagram of an equal cover, where it is the last that has this hash.
+    fn find_shared(&self, net: &Netlist, gate: u32, hash: u64) -> Option<usize>
+        requires gate { gate < length net.now.gates }
+        requires shared { AreShared net.now self.now.shared.items }
+        ensures { IfSome result (HasDiagram net.now self.now.shared.items gate) }
+    {
+        let place = self.latest.get(&hash).copied()?;
+        if serves(net, &self.shared, place, gate) {
+            return Some(place);
+        }
+        None
+    }
+
+    /// The place of the diagram of a gate's cover: that of an equal cover, or else a new one.
+    fn place_of_cover(
+        &mut self,
+        alloc: Global,
+        net: &Netlist,
+        gate: u32,
+        limit: u32,
+    ) -> Result<usize, StoreFault>
+        requires gate { gate < length net.now.gates }
+        requires limit { limit ≤ MAX_NODES }
+        requires shared { AreShared net.now self.old.shared.items }
+        ensures place { IfOk result (HasDiagram net.now self.new.shared.items gate) }
+        ensures shared { OnOk result (AreShared net.now self.new.shared.items) }
+        ensures others { OnOk result ((n place : ℕ) → HasDiagram net.now self.old.shared.items n place → HasDiagram net.now self.new.shared.items n place) }
+        ensures places { OnOk result (self.new.places.items ≡ self.old.places.items) }
+        ensures full { result ≡ Err StoreFault.Full → HasLargeCover net.now limit }
+    {
+        let hash = hash_cover(&net.gate(gate).cover);
+        if let Some(place) = self.find_shared(net, gate, hash) {
+            return Ok(place);
+        }
+        let diagram = local_of(alloc, net, gate, limit)?;
+        let place = self.shared.len();
+        self.shared.push(SharedDiagram { gate, diagram })?;
+        self.latest.insert(hash, place)?;
+        Ok(place)
+    }
+
+    /// Puts the diagram of a gate's cover last.
+    fn add(&mut self, alloc: Global, net: &Netlist, gate: u32, limit: u32) -> Result<(), StoreFault>
+        requires gate { gate < length net.now.gates }
+        requires limit { limit ≤ MAX_NODES }
+        requires shared { AreShared net.now self.old.shared.items }
+        ensures locals { (gates : List ℕ) → AreLocalsOf net.now gates self.old → OnOk result (AreLocalsOf net.now (gates ++ gate ∷ []) self.new) }
+        ensures full { result ≡ Err StoreFault.Full → HasLargeCover net.now limit }
+    {
+        let place = self.place_of_cover(alloc, net, gate, limit)?;
+        self.places.push(place)?;
+        Ok(())
+    }
+
     /// The diagrams of these gates' covers. `Full` comes only where one of the covers has a size over the limit.
     pub(crate) fn of(
         alloc: Global,
@@ -232,7 +205,7 @@ impl Locals {
             latest: HashMap::new(alloc),
         };
         for gate in gates {
-            add_local(alloc, net, &mut locals, *gate, limit)?;
+            locals.add(alloc, net, *gate, limit)?;
         }
         Ok(locals)
     }

@@ -14,16 +14,15 @@ ghost use Rattle.fixpoint.specs.Working.{IsWorking, HasLargeCover, effort, block
 ghost use Rattle.fixpoint.specs.Sweeping.{unknown as unknown_rails, vectors, IsFoundAt, IsSolvedBelow, AreFresh, IsKeptAt, HasSolvedTo};
 
 use crate::clearing::{sweep_if_due, sweep_store};
-use crate::keeping::{keep_block, signal_rails};
+use crate::keeping::{keep_block, kept_signals};
 use crate::kept::KeptRails;
 use crate::progress::Progress;
 use crate::solved::{LoopSteps, Solved, SweptLoop};
 use crate::sweeping::{gates_of, solve_loop};
-use crate::wires::set_gate;
+use crate::wires::Wires;
 use bdd_ops::Diagrams;
 use bdd_store::StoreFault;
 use cyc_base::Items;
-use dual_rail::Rails;
 use loops::{Blocks, Cut, LoopedNetlist};
 use netlist::Netlist;
 use std::alloc::{AllocError, Global};
@@ -34,26 +33,25 @@ fn solve_block(
     d: &mut Diagrams,
     looped: &LoopedNetlist<'_>,
     gate: u32,
-    before: &mut [Rails],
-    rails: &mut [Rails],
+    wires: &mut Wires,
 ) -> Result<Option<SweptLoop>, StoreFault>
     requires gate { gate < length looped.now.net.gates }
-    requires solved { IsSolvedBelow looped.now d.old (vectors looped.now.net d.old rails.old) (home_of looped.now.blocks gate) before.old rails.old }
-    requires fresh { AreFresh looped.now (home_of looped.now.blocks gate) before.old }
-    ensures steps { IfOk result (λ found. IsFoundAt looped.now d.new (vectors looped.now.net d.old rails.old) (home_of looped.now.blocks gate) found) }
-    ensures solved { OnOk result (IsSolvedBelow looped.now d.new (vectors looped.now.net d.old rails.old) (home_of looped.now.blocks gate + 1) before.new rails.new) }
-    ensures fresh { OnOk result (AreFresh looped.now (home_of looped.now.blocks gate + 1) before.new) }
-    ensures given { OnOk result (take (first_gate looped.now.net) rails.new ≡ take (first_gate looped.now.net) rails.old) }
-    ensures grows { GrowsWithin result d.old d.new (HasLargeCover looped.now.net) (IsWide d.old.vars (IsWorking looped.now.net (loops_by looped.now.blocks looped.now.cut) (vectors looped.now.net d.old rails.old)))
+    requires solved { IsSolvedBelow looped.now d.old (vectors looped.now.net d.old wires.old.rails.items) (home_of looped.now.blocks gate) wires.old.before.items wires.old.rails.items }
+    requires fresh { AreFresh looped.now (home_of looped.now.blocks gate) wires.old.before.items }
+    ensures steps { IfOk result (λ found. IsFoundAt looped.now d.new (vectors looped.now.net d.old wires.old.rails.items) (home_of looped.now.blocks gate) found) }
+    ensures solved { OnOk result (IsSolvedBelow looped.now d.new (vectors looped.now.net d.old wires.old.rails.items) (home_of looped.now.blocks gate + 1) wires.new.before.items wires.new.rails.items) }
+    ensures fresh { OnOk result (AreFresh looped.now (home_of looped.now.blocks gate + 1) wires.new.before.items) }
+    ensures given { OnOk result (take (first_gate looped.now.net) wires.new.rails.items ≡ take (first_gate looped.now.net) wires.old.rails.items) }
+    ensures grows { GrowsWithin result d.old d.new (HasLargeCover looped.now.net) (IsWide d.old.vars (IsWorking looped.now.net (loops_by looped.now.blocks looped.now.cut) (vectors looped.now.net d.old wires.old.rails.items)))
         (2 * ((length looped.now.net.gates + 1) * block_cost looped.now.net looped.now.blocks (home_of looped.now.blocks gate))) }
 {
     let blocks = looped.blocks();
     let place = blocks.home.items()[gate as usize];
     if blocks.list.items()[place as usize].looped {
-        let steps = solve_loop(alloc, d, looped, place, before, rails)?;
+        let steps = solve_loop(alloc, d, looped, place, wires)?;
         return Ok(Some(steps));
     }
-    set_gate(alloc, d, looped, before, rails, gate)?;
+    wires.set_gate(alloc, d, looped, gate)?;
     Ok(None)
 }
 
@@ -76,17 +74,9 @@ fn solve_and_keep(
         (2 * ((length looped.now.net.gates + 1) * block_cost looped.now.net looped.now.blocks place)) }
 {
     d.store().laws();
-    let net = looped.net();
     let gates = gates_of(looped, place);
-    let found = solve_block(
-        alloc,
-        d,
-        looped,
-        gates[0],
-        &mut progress.before,
-        &mut progress.rails,
-    )?;
-    let first = net.inputs() as usize + net.latches() as usize;
+    let found = solve_block(alloc, d, looped, gates[0], &mut progress.wires)?;
+    let first = looped.net().columns() as usize;
     Ok(keep_block(alloc, d, gates, first, progress, found)?)
 }
 
@@ -172,7 +162,7 @@ fn hand_out(
     d.store().laws();
     d.sweep()?;
     d.store().laws();
-    let rails = signal_rails(given, progress.places)?;
+    let rails = kept_signals(given, progress.places)?;
     Ok(Solved {
         rails: Items::of(rails),
         loops: Items::of(loops),

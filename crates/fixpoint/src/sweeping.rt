@@ -16,7 +16,7 @@ ghost use Rattle.fixpoint.specs.Sweeping.{States, after_sweeps, rails_at, vector
 
 use crate::locals::Locals;
 use crate::solved::SweptLoop;
-use crate::wires::set_by_diagram;
+use crate::wires::Wires;
 use bdd_ops::Diagrams;
 use bdd_store::StoreFault;
 use cyc_base::{Items, MAX_NODES};
@@ -33,38 +33,6 @@ pub struct LoopPlan {
     pub(crate) locals: Locals,
     /// Its cut wires, in flat order.
     pub(crate) cuts: Items<u32>,
-}
-
-/// Sets the gates of a loop one after another. Each reads cut wires as they were before the sweep, and other
-/// wires as they are.
-fn sweep(
-    alloc: Global,
-    d: &mut Diagrams,
-    looped: &LoopedNetlist<'_>,
-    order: &[u32],
-    locals: &Locals,
-    before: &[Rails],
-    rails: &mut [Rails],
-) -> Result<(), StoreFault>
-    requires order { All (λ n. n < length looped.now.net.gates) order.now }
-    requires locals { AreLocalsOf looped.now.net order.now locals.now }
-    requires wires { AreWires looped.now.net d.old before.now rails.old }
-    ensures swept { (b : ℕ) (v : Vectors) (c : States) →
-        IsSweepable looped.now d.old v c b order.now before.now rails.old →
-        OnOk result (AreSwept looped.now d.new v c (λ n. home_of looped.now.blocks n ≡ b) rails.new) }
-    ensures others { OnOk result (OthersStay looped.now.net order.now rails.old rails.new) }
-    ensures wires { OnOk result (AreWires looped.now.net d.new before.now rails.new) }
-    ensures keeps { KeepsNodes d.old d.new }
-    ensures grows { (b k : ℕ) (v : Vectors) →
-        IsSweepable looped.now d.old v (after_sweeps looped.now v k) b order.now before.now rails.old →
-        k ≤ length (filter (is_cut looped.now.cut.wires) (block_at looped.now.blocks b).gates) →
-        GrowsWithin result d.old d.new NoOtherCause (IsWide d.old.vars (IsWorking looped.now.net (loops_by looped.now.blocks looped.now.cut) v)) (2 * order_cost looped.now.net order.now) }
-{
-    for place in 0..order.len() {
-        let diagram = locals.at(place);
-        set_by_diagram(alloc, d, looped, before, rails, order[place], diagram)?;
-    }
-    Ok(())
 }
 
 /// The gates of the block at a place.
@@ -88,43 +56,6 @@ fn cuts_among(alloc: Global, cut: &Cut, gates: &[u32]) -> Result<Vec<u32>, Alloc
         .copied()
         .filter(|gate| wires[*gate as usize])
         .collect(alloc)
-}
-
-/// The cut wires as they were before the sweep.
-fn step_of(alloc: Global, cuts: &[u32], before: &[Rails]) -> Result<Vec<Rails>, AllocError>
-    requires { All (λ n. n < length before.now) cuts.now }
-    ensures { IfOk result (λ step. step.items ≡ map (rails_at before.now) cuts.now) }
-{
-    cuts.iter()
-        .map(|gate| before[*gate as usize])
-        .collect(alloc)
-}
-
-/// Whether a sweep left these cut wires as they were: equal functions have equal nodes.
-fn are_still(cuts: &[u32], first: usize, before: &[Rails], rails: &[Rails]) -> bool
-    requires cuts { All (λ n. n < length before.now) cuts.now }
-    requires width { length rails.now ≡ first + length before.now }
-    ensures { (result ≡ true) ↔ ((n : ℕ) → Contains cuts.now n → rails_at before.now n ≡ rails_at rails.now (first + n)) }
-{
-    for gate in cuts {
-        if before[*gate as usize] != rails[first + *gate as usize] {
-            return false;
-        }
-    }
-    true
-}
-
-/// Keeps these cut wires for the next sweep.
-fn keep_cuts(cuts: &[u32], first: usize, rails: &[Rails], before: &mut [Rails])
-    requires cuts { All (λ n. n < length before.old) cuts.now }
-    requires width { length rails.now ≡ first + length before.old }
-    ensures kept { (n : ℕ) → Contains cuts.now n → rails_at before.new n ≡ rails_at rails.now (first + n) }
-    ensures others { (n : ℕ) → ¬ Contains cuts.now n → rails_at before.new n ≡ rails_at before.old n }
-    ensures proper { (a : Arena) → All (AreRailsOf a) rails.now → All (AreRailsOf a) before.old → All (AreRailsOf a) before.new }
-{
-    for gate in cuts {
-        before[*gate as usize] = rails[first + *gate as usize];
-    }
 }
 
 /// The order, the diagrams and the cut wires of a loop. `Full` comes only where the cover of a gate has a size over the
@@ -152,49 +83,112 @@ fn plan_loop(
     })
 }
 
-/// Sweeps a loop once more, and puts its cut wires as they were before among its steps. The answer is whether the sweep
-/// left them so; else they are kept for the next sweep.
-fn sweep_once(
-    alloc: Global,
-    d: &mut Diagrams,
-    looped: &LoopedNetlist<'_>,
-    plan: &LoopPlan,
-    before: &mut [Rails],
-    rails: &mut [Rails],
-    steps: &mut Vec<Items<Rails>>,
-) -> Result<bool, StoreFault>
-    requires plan { IsPlan looped.now.net plan.now }
-    requires wires { AreWires looped.now.net d.old before.old rails.old }
-    ensures wires { OnOk result (AreWires looped.now.net d.new before.new rails.new) }
-    ensures others { OnOk result (OthersStay looped.now.net plan.now.order rails.old rails.new) }
-    ensures swept { (b : ℕ) (v : Vectors) → IsPlanOf looped.now b plan.now →
-        IsUnderway looped.now d.old v b plan.now.cuts steps.old.items before.old rails.old →
-        IfOk result (λ still. IsSweptOnce looped.now d.new v b plan.now.cuts steps.new.items before.new rails.new still) }
-    ensures longer { OnOk result (length steps.new.items ≡ length steps.old.items + 1) }
-    ensures grows { (b : ℕ) (v : Vectors) → IsPlanOf looped.now b plan.now →
-        IsUnderway looped.now d.old v b plan.now.cuts steps.old.items before.old rails.old →
-        GrowsWithin result d.old d.new NoOtherCause (IsWide d.old.vars (IsWorking looped.now.net (loops_by looped.now.blocks looped.now.cut) v)) (2 * order_cost looped.now.net plan.now.order) }
+/// The cut wires as they were before the sweep.
+fn step_of(alloc: Global, cuts: &[u32], before: &[Rails]) -> Result<Vec<Rails>, AllocError>
+    requires { All (λ n. n < length before.now) cuts.now }
+    ensures { IfOk result (λ step. step.items ≡ map (rails_at before.now) cuts.now) }
 {
-    let net = looped.net();
-    let first = net.inputs() as usize + net.latches() as usize;
-    let cuts = plan.cuts.items();
-    let step = step_of(alloc, cuts, before)?;
-    steps.push(Items::of(step))?;
-    sweep(
-        alloc,
-        d,
-        looped,
-        plan.order.items(),
-        &plan.locals,
-        before,
-        rails,
-    )?;
-    d.store().laws();
-    if are_still(cuts, first, before, rails) {
-        return Ok(true);
+    cuts.iter()
+        .map(|gate| before[*gate as usize])
+        .collect(alloc)
+}
+
+impl Wires {
+    /// Sets the gates of a loop one after another. Each reads cut wires as they were before the sweep, and other
+    /// wires as they are.
+    fn sweep(
+        &mut self,
+        alloc: Global,
+        d: &mut Diagrams,
+        looped: &LoopedNetlist<'_>,
+        order: &[u32],
+        locals: &Locals,
+    ) -> Result<(), StoreFault>
+        requires order { All (λ n. n < length looped.now.net.gates) order.now }
+        requires locals { AreLocalsOf looped.now.net order.now locals.now }
+        requires wires { AreWires looped.now.net d.old self.old.before.items self.old.rails.items }
+        ensures swept { (b : ℕ) (v : Vectors) (c : States) →
+            IsSweepable looped.now d.old v c b order.now self.old.before.items self.old.rails.items →
+            OnOk result (AreSwept looped.now d.new v c (λ n. home_of looped.now.blocks n ≡ b) self.new.rails.items) }
+        ensures others { OnOk result (OthersStay looped.now.net order.now self.old.rails.items self.new.rails.items) }
+        ensures wires { OnOk result (AreWires looped.now.net d.new self.new.before.items self.new.rails.items) }
+        ensures before { self.new.before.items ≡ self.old.before.items }
+        ensures keeps { KeepsNodes d.old d.new }
+        ensures grows { (b k : ℕ) (v : Vectors) →
+            IsSweepable looped.now d.old v (after_sweeps looped.now v k) b order.now self.old.before.items self.old.rails.items →
+            k ≤ length (filter (is_cut looped.now.cut.wires) (block_at looped.now.blocks b).gates) →
+            GrowsWithin result d.old d.new NoOtherCause (IsWide d.old.vars (IsWorking looped.now.net (loops_by looped.now.blocks looped.now.cut) v)) (2 * order_cost looped.now.net order.now) }
+    {
+        for place in 0..order.len() {
+            let diagram = locals.at(place);
+            self.set_by_diagram(alloc, d, looped, order[place], diagram)?;
+        }
+        Ok(())
     }
-    keep_cuts(cuts, first, rails, before);
-    Ok(false)
+
+    /// Whether a sweep left these cut wires as they were: equal functions have equal nodes.
+    fn are_still(&self, cuts: &[u32], first: usize) -> bool
+        requires cuts { All (λ n. n < length self.now.before.items) cuts.now }
+        requires width { length self.now.rails.items ≡ first + length self.now.before.items }
+        ensures { (result ≡ true) ↔ ((n : ℕ) → Contains cuts.now n → rails_at self.now.before.items n ≡ rails_at self.now.rails.items (first + n)) }
+    {
+        for gate in cuts {
+            if self.before[*gate as usize] != self.rails[first + *gate as usize] {
+                return false;
+            }
+        }
+        true
+    }
+
+    /// Keeps these cut wires for the next sweep.
+    fn keep_cuts(&mut self, cuts: &[u32], first: usize)
+        requires cuts { All (λ n. n < length self.old.before.items) cuts.now }
+        requires width { length self.old.rails.items ≡ first + length self.old.before.items }
+        ensures kept { (n : ℕ) → Contains cuts.now n → rails_at self.new.before.items n ≡ rails_at self.old.rails.items (first + n) }
+        ensures others { (n : ℕ) → ¬ Contains cuts.now n → rails_at self.new.before.items n ≡ rails_at self.old.before.items n }
+        ensures rails { self.new.rails.items ≡ self.old.rails.items }
+        ensures width { length self.new.before.items ≡ length self.old.before.items }
+        ensures proper { (a : Arena) → All (AreRailsOf a) self.old.rails.items → All (AreRailsOf a) self.old.before.items → All (AreRailsOf a) self.new.before.items }
+    {
+        for gate in cuts {
+            self.before[*gate as usize] = self.rails[first + *gate as usize];
+        }
+    }
+
+    /// Sweeps a loop once more, and puts its cut wires as they were before among its steps. The answer is whether the sweep
+    /// left them so; else they are kept for the next sweep.
+    fn sweep_once(
+        &mut self,
+        alloc: Global,
+        d: &mut Diagrams,
+        looped: &LoopedNetlist<'_>,
+        plan: &LoopPlan,
+        steps: &mut Vec<Items<Rails>>,
+    ) -> Result<bool, StoreFault>
+        requires plan { IsPlan looped.now.net plan.now }
+        requires wires { AreWires looped.now.net d.old self.old.before.items self.old.rails.items }
+        ensures wires { OnOk result (AreWires looped.now.net d.new self.new.before.items self.new.rails.items) }
+        ensures others { OnOk result (OthersStay looped.now.net plan.now.order self.old.rails.items self.new.rails.items) }
+        ensures swept { (b : ℕ) (v : Vectors) → IsPlanOf looped.now b plan.now →
+            IsUnderway looped.now d.old v b plan.now.cuts steps.old.items self.old.before.items self.old.rails.items →
+            IfOk result (λ still. IsSweptOnce looped.now d.new v b plan.now.cuts steps.new.items self.new.before.items self.new.rails.items still) }
+        ensures longer { OnOk result (length steps.new.items ≡ length steps.old.items + 1) }
+        ensures grows { (b : ℕ) (v : Vectors) → IsPlanOf looped.now b plan.now →
+            IsUnderway looped.now d.old v b plan.now.cuts steps.old.items self.old.before.items self.old.rails.items →
+            GrowsWithin result d.old d.new NoOtherCause (IsWide d.old.vars (IsWorking looped.now.net (loops_by looped.now.blocks looped.now.cut) v)) (2 * order_cost looped.now.net plan.now.order) }
+    {
+        let first = looped.net().columns() as usize;
+        let cuts = plan.cuts.items();
+        let step = step_of(alloc, cuts, &self.before)?;
+        steps.push(Items::of(step))?;
+        self.sweep(alloc, d, looped, plan.order.items(), &plan.locals)?;
+        d.store().laws();
+        if self.are_still(cuts, first) {
+            return Ok(true);
+        }
+        self.keep_cuts(cuts, first);
+        Ok(false)
+    }
 }
 
 /// Sweeps a loop until its cut wires stand still.
@@ -203,24 +197,23 @@ pub(crate) fn solve_loop(
     d: &mut Diagrams,
     looped: &LoopedNetlist<'_>,
     place: u32,
-    before: &mut [Rails],
-    rails: &mut [Rails],
+    wires: &mut Wires,
 ) -> Result<SweptLoop, StoreFault>
     requires at { IsLoopAt looped.now.blocks place }
-    requires solved { IsSolvedBelow looped.now d.old (vectors looped.now.net d.old rails.old) place before.old rails.old }
-    requires fresh { AreFresh looped.now place before.old }
-    ensures steps { IfOk result (AreStepsOf looped.now.net looped.now.blocks looped.now.cut d.new (vectors looped.now.net d.old rails.old)) }
+    requires solved { IsSolvedBelow looped.now d.old (vectors looped.now.net d.old wires.old.rails.items) place wires.old.before.items wires.old.rails.items }
+    requires fresh { AreFresh looped.now place wires.old.before.items }
+    ensures steps { IfOk result (AreStepsOf looped.now.net looped.now.blocks looped.now.cut d.new (vectors looped.now.net d.old wires.old.rails.items)) }
     ensures block { IfOk result (λ steps. steps.block ≡ place) }
-    ensures solved { OnOk result (IsSolvedBelow looped.now d.new (vectors looped.now.net d.old rails.old) (place + 1) before.new rails.new) }
-    ensures fresh { OnOk result (AreFresh looped.now (place + 1) before.new) }
-    ensures given { OnOk result (take (first_gate looped.now.net) rails.new ≡ take (first_gate looped.now.net) rails.old) }
-    ensures grows { GrowsWithin result d.old d.new (HasLargeCover looped.now.net) (IsWide d.old.vars (IsWorking looped.now.net (loops_by looped.now.blocks looped.now.cut) (vectors looped.now.net d.old rails.old)))
+    ensures solved { OnOk result (IsSolvedBelow looped.now d.new (vectors looped.now.net d.old wires.old.rails.items) (place + 1) wires.new.before.items wires.new.rails.items) }
+    ensures fresh { OnOk result (AreFresh looped.now (place + 1) wires.new.before.items) }
+    ensures given { OnOk result (take (first_gate looped.now.net) wires.new.rails.items ≡ take (first_gate looped.now.net) wires.old.rails.items) }
+    ensures grows { GrowsWithin result d.old d.new (HasLargeCover looped.now.net) (IsWide d.old.vars (IsWorking looped.now.net (loops_by looped.now.blocks looped.now.cut) (vectors looped.now.net d.old wires.old.rails.items)))
         (2 * ((length looped.now.net.gates + 1) * block_cost looped.now.net looped.now.blocks place)) }
 {
     let plan = plan_loop(alloc, looped, place, d.store().limit())?;
     let mut steps = Vec::new(alloc);
     loop {
-        let still = sweep_once(alloc, d, looped, &plan, before, rails, &mut steps)?;
+        let still = wires.sweep_once(alloc, d, looped, &plan, &mut steps)?;
         if still {
             return Ok(SweptLoop {
                 block: place,

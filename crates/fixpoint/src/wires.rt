@@ -9,9 +9,11 @@ ghost use Rattle.dual_rail.specs.Local.{IsDiagramOf, size};
 ghost use Rattle.dual_rail.specs.WorkingLists.{BoundsEach, IsExtended};
 ghost use Rattle.netlist.specs.Netlists.{IsNetlist, IsSignal, gate_at};
 ghost use Rattle.loops.specs.Sweeps.{first_gate};
-ghost use Rattle.fixpoint.specs.Sweeping.{unknown as unknown_rails, rails_read as rails_read_of, AreWires, IsGateSet};
+ghost use Rattle.fixpoint.specs.Kept.{rails_under, AreKept};
+ghost use Rattle.fixpoint.specs.Sweeping.{unknown as unknown_rails, rails_read, AreWires, IsGateSet};
 ghost use Rattle.fixpoint.specs.Working.{HasLargeCover};
 
+use crate::kept::{KeptRails, rails_of};
 use bdd_ops::Diagrams;
 use bdd_store::{Node, StoreFault};
 use cyc_base::{MAX_NODES, Sig};
@@ -38,7 +40,7 @@ pub(crate) fn unknowns(alloc: Global, gates: usize) -> Result<Vec<Rails>, AllocE
 }
 
 /// The given rails of inputs and latches, and then those of gates.
-pub(crate) fn wires(
+pub(crate) fn signal_rails(
     alloc: Global,
     given: &[Rails],
     gates: &[Rails],
@@ -50,40 +52,13 @@ pub(crate) fn wires(
     Ok(rails)
 }
 
-/// The rails of a signal as gates read it: a cut wire as it was before the sweep.
-fn rails_read(looped: &LoopedNetlist<'_>, before: &[Rails], rails: &[Rails], pin: Sig) -> Rails
-    requires pin { IsSignal looped.now.net pin }
-    requires width { length rails.now ≡ first_gate looped.now.net + length looped.now.net.gates }
-    requires before { length before.now ≡ length looped.now.net.gates }
-    ensures { result ≡ rails_read_of looped.now.net looped.now.cut before.now rails.now pin }
-{
-    let net = looped.net();
-    let first = net.inputs() + net.latches();
-    if pin.0 >= first {
-        let gate = (pin.0 - first) as usize;
-        if looped.cut().wires.items()[gate] {
-            return before[gate];
-        }
-    }
-    rails[pin.0 as usize]
-}
-
-/// The rails that the pins of a gate read.
-fn pins_read(
-    alloc: Global,
-    looped: &LoopedNetlist<'_>,
-    before: &[Rails],
-    rails: &[Rails],
-    pins: &[Sig],
-) -> Result<Vec<Rails>, AllocError>
-    requires pins { All (IsSignal looped.now.net) pins.now }
-    requires width { length rails.now ≡ first_gate looped.now.net + length looped.now.net.gates }
-    requires before { length before.now ≡ length looped.now.net.gates }
-    ensures { IfOk result (λ list. list.items ≡ map (rails_read_of looped.now.net looped.now.cut before.now rails.now) pins.now) }
-{
-    pins.iter()
-        .map(|pin| rails_read(looped, before, rails, *pin))
-        .collect(alloc)
+/// The rails of a netlist's signals while it is solved.
+#[derive(Drop)]
+pub struct Wires {
+    /// Those of its gates as they are read of cut wires: as they were before the sweep.
+    pub(crate) before: Vec<Rails>,
+    /// Those of all its signals.
+    pub(crate) rails: Vec<Rails>,
 }
 
 /// The diagram of a gate's cover. `Full` comes only where the cover has a size over the limit.
@@ -143,53 +118,103 @@ pub(crate) fn gate_rails(
     Ok(rails)
 }
 
-/// Sets a gate to the rails of its cover on what it reads, by the cover's diagram.
-pub(crate) fn set_by_diagram(
-    alloc: Global,
-    d: &mut Diagrams,
-    looped: &LoopedNetlist<'_>,
-    before: &[Rails],
-    rails: &mut [Rails],
-    gate: u32,
-    diagram: &LocalDiagram,
-) -> Result<(), StoreFault>
-    requires gate { gate < length looped.now.net.gates }
-    requires diagram { IsDiagramOf diagram.now (gate_at looped.now.net gate).cover }
-    requires wires { AreWires looped.now.net d.old before.now rails.old }
-    ensures valid { IsNetlist looped.now.net }
-    ensures set { OnOk result (IsGateSet looped.now.net looped.now.cut d.old d.new before.now rails.old rails.new gate) }
-    ensures grows { GrowsWithin result d.old d.new NoOtherCause
-        (BoundsEach d.old.vars (IsExtended d.old (map (rails_read_of looped.now.net looped.now.cut before.now rails.old) (gate_at looped.now.net gate).pins) (cover_value (gate_at looped.now.net gate).cover)))
-        (2 * size (gate_at looped.now.net gate).cover) }
-{
-    let net = looped.net();
-    let Ok(pins) = pins_read(alloc, looped, before, rails, net.gate(gate).pins.items()) else {
-        return Err(StoreFault::Memory);
-    };
-    let made = lift_cover(alloc, d, net, gate, diagram, &pins)?;
-    rails[(net.inputs() + net.latches() + gate) as usize] = made;
-    Ok(())
-}
+impl Wires {
+    /// Inputs and latches have the given rails, and gates those that they have before the sweep.
+    pub(crate) fn of(
+        alloc: Global,
+        d: &Diagrams,
+        given: &[KeptRails],
+        before: Vec<Rails>,
+    ) -> Result<Wires, AllocError>
+        requires { All (AreKept d.now) given.now }
+        ensures before { IfOk result (λ wires. wires.before.items ≡ before.items) }
+        ensures rails { IfOk result (λ wires. wires.rails.items ≡ map (rails_under d.now) given.now ++ wires.before.items) }
+    {
+        let columns = rails_of(alloc, d, given)?;
+        let rails = signal_rails(alloc, &columns, &before)?;
+        Ok(Wires { before, rails })
+    }
 
-/// Sets a gate to the rails of its cover on what it reads.
-pub(crate) fn set_gate(
-    alloc: Global,
-    d: &mut Diagrams,
-    looped: &LoopedNetlist<'_>,
-    before: &[Rails],
-    rails: &mut [Rails],
-    gate: u32,
-) -> Result<(), StoreFault>
-    requires gate { gate < length looped.now.net.gates }
-    requires wires { AreWires looped.now.net d.old before.now rails.old }
-    ensures valid { IsNetlist looped.now.net }
-    ensures set { OnOk result (IsGateSet looped.now.net looped.now.cut d.old d.new before.now rails.old rails.new gate) }
-    ensures grows { GrowsWithin result d.old d.new (HasLargeCover looped.now.net)
-        (BoundsEach d.old.vars (IsExtended d.old (map (rails_read_of looped.now.net looped.now.cut before.now rails.old) (gate_at looped.now.net gate).pins) (cover_value (gate_at looped.now.net gate).cover)))
-        (2 * size (gate_at looped.now.net gate).cover) }
-{
-    let net = looped.net();
-    let _gate = net.gate(gate);
-    let diagram = local_of(alloc, net, gate, d.store().limit())?;
-    set_by_diagram(alloc, d, looped, before, rails, gate, &diagram)
+    /// The rails of a signal as gates read it: a cut wire as it was before the sweep.
+    fn read(&self, looped: &LoopedNetlist<'_>, pin: Sig) -> Rails
+        requires pin { IsSignal looped.now.net pin }
+        requires width { length self.now.rails.items ≡ first_gate looped.now.net + length looped.now.net.gates }
+        requires before { length self.now.before.items ≡ length looped.now.net.gates }
+        ensures { result ≡ rails_read looped.now.net looped.now.cut self.now.before.items self.now.rails.items pin }
+    {
+        if let Some(gate) = looped.net().driver(pin) {
+            if looped.cut().wires.items()[gate as usize] {
+                return self.before[gate as usize];
+            }
+        }
+        self.rails[pin.0 as usize]
+    }
+
+    /// The rails that the pins of a gate read.
+    fn pins_read(
+        &self,
+        alloc: Global,
+        looped: &LoopedNetlist<'_>,
+        pins: &[Sig],
+    ) -> Result<Vec<Rails>, AllocError>
+        requires pins { All (IsSignal looped.now.net) pins.now }
+        requires width { length self.now.rails.items ≡ first_gate looped.now.net + length looped.now.net.gates }
+        requires before { length self.now.before.items ≡ length looped.now.net.gates }
+        ensures { IfOk result (λ list. list.items ≡ map (rails_read looped.now.net looped.now.cut self.now.before.items self.now.rails.items) pins.now) }
+    {
+        pins.iter()
+            .map(|pin| self.read(looped, *pin))
+            .collect(alloc)
+    }
+
+    /// Sets a gate to the rails of its cover on what it reads, by the cover's diagram.
+    pub(crate) fn set_by_diagram(
+        &mut self,
+        alloc: Global,
+        d: &mut Diagrams,
+        looped: &LoopedNetlist<'_>,
+        gate: u32,
+        diagram: &LocalDiagram,
+    ) -> Result<(), StoreFault>
+        requires gate { gate < length looped.now.net.gates }
+        requires diagram { IsDiagramOf diagram.now (gate_at looped.now.net gate).cover }
+        requires wires { AreWires looped.now.net d.old self.old.before.items self.old.rails.items }
+        ensures valid { IsNetlist looped.now.net }
+        ensures before { self.new.before.items ≡ self.old.before.items }
+        ensures set { OnOk result (IsGateSet looped.now.net looped.now.cut d.old d.new self.old.before.items self.old.rails.items self.new.rails.items gate) }
+        ensures grows { GrowsWithin result d.old d.new NoOtherCause
+            (BoundsEach d.old.vars (IsExtended d.old (map (rails_read looped.now.net looped.now.cut self.old.before.items self.old.rails.items) (gate_at looped.now.net gate).pins) (cover_value (gate_at looped.now.net gate).cover)))
+            (2 * size (gate_at looped.now.net gate).cover) }
+    {
+        let net = looped.net();
+        let Ok(pins) = self.pins_read(alloc, looped, net.gate(gate).pins.items()) else {
+            return Err(StoreFault::Memory);
+        };
+        let made = lift_cover(alloc, d, net, gate, diagram, &pins)?;
+        self.rails[(net.columns() + gate) as usize] = made;
+        Ok(())
+    }
+
+    /// Sets a gate to the rails of its cover on what it reads.
+    pub(crate) fn set_gate(
+        &mut self,
+        alloc: Global,
+        d: &mut Diagrams,
+        looped: &LoopedNetlist<'_>,
+        gate: u32,
+    ) -> Result<(), StoreFault>
+        requires gate { gate < length looped.now.net.gates }
+        requires wires { AreWires looped.now.net d.old self.old.before.items self.old.rails.items }
+        ensures valid { IsNetlist looped.now.net }
+        ensures before { self.new.before.items ≡ self.old.before.items }
+        ensures set { OnOk result (IsGateSet looped.now.net looped.now.cut d.old d.new self.old.before.items self.old.rails.items self.new.rails.items gate) }
+        ensures grows { GrowsWithin result d.old d.new (HasLargeCover looped.now.net)
+            (BoundsEach d.old.vars (IsExtended d.old (map (rails_read looped.now.net looped.now.cut self.old.before.items self.old.rails.items) (gate_at looped.now.net gate).pins) (cover_value (gate_at looped.now.net gate).cover)))
+            (2 * size (gate_at looped.now.net gate).cover) }
+    {
+        let net = looped.net();
+        let _gate = net.gate(gate);
+        let diagram = local_of(alloc, net, gate, d.store().limit())?;
+        self.set_by_diagram(alloc, d, looped, gate, &diagram)
+    }
 }

@@ -8,5 +8,5 @@ returns-clause-solved c l b is =
     let old = c.args.progress.now in
     let new = c.sweep_store.new.progress in
     let swept = c.in_ok-sweep_store.ensures in
-    subst (λ (places : List (Option KeptRails)). IsSolvedTo l c.sweep_store.new.d c.args.given.now b c.sweep_store.new.progress.before.items c.sweep_store.new.progress.rails.items places) (sym swept.places)
-    (solved-anew l swept.roots c.args.given.now b old.before.items old.rails.items old.places.items is new.before.items new.rails.items swept.before swept.rails)
+    subst (λ (places : List (Option KeptRails)). IsSolvedTo l c.sweep_store.new.d c.args.given.now b c.sweep_store.new.progress.wires.before.items c.sweep_store.new.progress.wires.rails.items places) (sym swept.places)
+    (solved-anew l swept.roots c.args.given.now b old.wires.before.items old.wires.rails.items old.places.items is new.wires.before.items new.wires.rails.items swept.before swept.rails)

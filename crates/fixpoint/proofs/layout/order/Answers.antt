@@ -28,17 +28,17 @@ pub returns-clause-layout : goal.returns-clause-layout
 returns-clause-layout c =
     let net = c.args.net.now in
     let all : c.loop-column.column ≡ first_gate net =
-    omega (arith, c.loop-column.auto.column-end, c.loop-column-test.false, c.inputs.ensures.inputs, c.latches.ensures.latches) in
+    omega (arith, c.loop-column.auto.column-end, c.loop-column-test.false, c.columns-number.ensures.columns) in
     let taken = subst (λ n. AreTaken (columns_read (first_gate net) net.gates ++ range_with_len 0 n) c.loop-column.marks.items c.loop-column.columns.items) all c.loop-column.invariant.taken in
     let is : c.loop-column.columns.items ≡ order net = taken.taken in
     subst (IsLayout (first_gate net)) (sym is) (order-is net)
 
 pub loop-gate-init : goal.loop-gate-init
 loop-gate-init c =
-    let number : ℕ = c.inputs.result + c.latches.result in
+    let number : ℕ = c.columns-number.result in
     let marks : c.in_ok-marks.marks.items ≡ replicate number false = c.in_ok-marks.ensures.items_if_clones_equal (λ y e. e) in
     record {
-      width = ap length marks ∙ length-replicate number false ∙ omega (arith, c.inputs.ensures.inputs, c.latches.ensures.latches);
+      width = ap length marks ∙ length-replicate number false ∙ omega (arith, c.columns-number.ensures.columns);
       taken = subst (λ (columns : List ℕ). AreTaken [] c.in_ok-marks.marks.items columns) (sym c.in_ok-columns.ensures.items)
           (subst (λ (ms : List Bool). AreTaken [] ms []) (sym marks) (taken-none number));
     }

@@ -22,7 +22,7 @@ bounded c w bounds =
 pub returns-clause-set : goal.returns-clause-set
 returns-clause-set c = record {
   made = c.in_ok-made.made;
-  is = ap (λ n. set c.args.rails.now n c.in_ok-made.made) (omega (arith, c.inputs.ensures.inputs, c.latches.ensures.latches));
+  is = ap (λ n. set c.args.rails.now n c.in_ok-made.made) (omega (arith, c.columns.ensures.columns));
   proper = c.in_ok-made.ensures.rails;
   value = λ bits. c.in_ok-made.ensures.value bits
       ∙ ap (ext (gate_at c.args.net.now c.args.gate).cover)

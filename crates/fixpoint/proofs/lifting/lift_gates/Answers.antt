@@ -8,19 +8,19 @@ use Rattle.fixpoint.proofs.lifting.lift_gates.Goals.{After-lift_in_order}
 start : (c : After-lift_in_order) → AreLifted c.args.net.now c.deref-2.result.now c.args.d.now (λ bits. values_of c.args.d.now c.args.given.now bits) 0 c.deref_mut.result.now
 start c =
     lifted-start c.args.net.now c.deref-2.result.now c.args.d.now c.args.given.now c.deref_mut.result.now c.requires.width c.requires.rails
-    (c.deref_mut.ensures.value ∙ c.in-Ok-wires.ensures
+    (c.deref_mut.ensures.value ∙ c.in-Ok-signal_rails.ensures
     ∙ ap (λ (rails : List Rails). c.args.given.now ++ rails) (c.deref.ensures.value ∙ c.in-Ok.ensures ∙ ap (λ n. replicate n unknown) c.gates.ensures.gates))
 
 -- after them, all rails are given back
-given-back : (c : After-lift_in_order) → take c.in-Ok-wires.rails.len (c.lift_in_order.new.rails ++ drop (length c.lift_in_order.new.rails) c.in-Ok-wires.rails.items) ≡ c.lift_in_order.new.rails
+given-back : (c : After-lift_in_order) → take c.in-Ok-signal_rails.rails.len (c.lift_in_order.new.rails ++ drop (length c.lift_in_order.new.rails) c.in-Ok-signal_rails.rails.items) ≡ c.lift_in_order.new.rails
 given-back c =
-    written c.in-Ok-wires.rails.len c.lift_in_order.new.rails c.in-Ok-wires.rails.items
+    written c.in-Ok-signal_rails.rails.len c.lift_in_order.new.rails c.in-Ok-signal_rails.rails.items
     (sym c.deref_mut.ensures.len ∙ ap length c.deref_mut.ensures.value) (c.lift_in_order.auto.rails ∙ ap length c.deref_mut.ensures.value)
 
 pub lift_in_order-requires-clause-wires : goal.lift_in_order-requires-clause-wires
 lift_in_order-requires-clause-wires c =
     rails-start c.args.net.now c.args.d.now c.args.given.now c.deref_mut.result.now c.requires.width c.requires.rails
-    (c.deref_mut.ensures.value ∙ c.in-Ok-wires.ensures
+    (c.deref_mut.ensures.value ∙ c.in-Ok-signal_rails.ensures
     ∙ ap (λ (rails : List Rails). c.args.given.now ++ rails) (c.deref.ensures.value ∙ c.in-Ok.ensures ∙ ap (λ n. replicate n unknown) c.gates.ensures.gates))
 
 pub returns-clause-rails : goal.returns-clause-rails

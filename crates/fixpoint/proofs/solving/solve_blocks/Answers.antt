@@ -26,8 +26,8 @@ loop-place-init c =
     record {
       roots = c.sweep_store.ensures.roots;
       adds = adds_swept c.sweep_store.ensures.fewer nothing_added;
-      solved = subst (λ (places : List (Option KeptRails)). IsSolvedTo c.args.looped.now c.sweep_store.new.d c.args.given.now 0 c.sweep_store.new.progress.before.items c.sweep_store.new.progress.rails.items places) (sym read.places)
-          (solved-anew c.args.looped.now c.sweep_store.ensures.roots c.args.given.now 0 c.args.progress.now.before.items c.args.progress.now.rails.items c.args.progress.now.places.items c.requires.solved c.sweep_store.new.progress.before.items c.sweep_store.new.progress.rails.items read.before read.rails);
+      solved = subst (λ (places : List (Option KeptRails)). IsSolvedTo c.args.looped.now c.sweep_store.new.d c.args.given.now 0 c.sweep_store.new.progress.wires.before.items c.sweep_store.new.progress.wires.rails.items places) (sym read.places)
+          (solved-anew c.args.looped.now c.sweep_store.ensures.roots c.args.given.now 0 c.args.progress.now.wires.before.items c.args.progress.now.wires.rails.items c.args.progress.now.places.items c.requires.solved c.sweep_store.new.progress.wires.before.items c.sweep_store.new.progress.wires.rails.items read.before read.rails);
       loops = subst (HasLoopsBelow c.args.looped.now.blocks 0) (sym c.new-loops.ensures.items) (loops-start c.args.looped.now.blocks);
       steps = subst (All (AreKeptSteps c.args.looped.now.net c.args.looped.now.blocks c.args.looped.now.cut c.sweep_store.new.d (values_under c.sweep_store.new.d c.args.given.now))) (sym c.new-loops.ensures.items) (λ k none less. absurd (omega (arith, less)));
     }

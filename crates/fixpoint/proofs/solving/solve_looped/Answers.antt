@@ -14,7 +14,7 @@ solve_blocks-requires c =
     let p = c.in_ok-progress.progress in
     record {
       solved = rw c.deref-2.ensures.value
-          (solved-from-given c.args.looped.now c.args.d.now c.args.given.items p.before.items p.rails.items p.places.items c.requires
+          (solved-from-given c.args.looped.now c.args.d.now c.args.given.items p.wires.before.items p.wires.rails.items p.places.items c.requires
           (c.in_ok-progress.ensures.places ∙ ap (λ n. replicate {A = Option KeptRails} n None) gates)
           (c.in_ok-progress.ensures.before ∙ ap (λ n. replicate {A = Rails} n unknown) gates)
           (rw c.deref.ensures.value at c.in_ok-progress.ensures.rails));

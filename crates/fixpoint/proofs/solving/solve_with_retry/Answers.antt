@@ -24,9 +24,9 @@ pub solve_and_keep-requires-in-Err-Full-clause-solved : goal.solve_and_keep-requ
 solve_and_keep-requires-in-Err-Full-clause-solved c =
     let same : c.solve_and_keep.new.progress.places.items ≡ c.args.progress.now.places.items = c.in-Err-Full.ensures.places (ap Err c.in-Err-Full.field-0-is) in
     let read = c.in_ok-sweep_store-in-Err-Full.ensures in
-    subst (IsSolvedTo c.args.looped.now c.sweep_store.new.d c.args.given.now c.args.place c.sweep_store.new.progress.before.items c.sweep_store.new.progress.rails.items) (sym (c.sweep_store.ensures.places ∙ same))
-    (solved-anew c.args.looped.now (RootsStay-chain c.solve_and_keep.ensures.roots c.sweep_store.ensures.roots) c.args.given.now c.args.place c.args.progress.now.before.items c.args.progress.now.rails.items c.args.progress.now.places.items c.requires.solved
-    c.sweep_store.new.progress.before.items c.sweep_store.new.progress.rails.items (subst (λ (places : List (Option KeptRails)). c.sweep_store.new.progress.before.items ≡ map (rails_in c.sweep_store.new.d) places) same read.before) read.rails)
+    subst (IsSolvedTo c.args.looped.now c.sweep_store.new.d c.args.given.now c.args.place c.sweep_store.new.progress.wires.before.items c.sweep_store.new.progress.wires.rails.items) (sym (c.sweep_store.ensures.places ∙ same))
+    (solved-anew c.args.looped.now (RootsStay-chain c.solve_and_keep.ensures.roots c.sweep_store.ensures.roots) c.args.given.now c.args.place c.args.progress.now.wires.before.items c.args.progress.now.wires.rails.items c.args.progress.now.places.items c.requires.solved
+    c.sweep_store.new.progress.wires.before.items c.sweep_store.new.progress.wires.rails.items (subst (λ (places : List (Option KeptRails)). c.sweep_store.new.progress.wires.before.items ≡ map (rails_in c.sweep_store.new.d) places) same read.before) read.rails)
 
 pub returns-in_ok-sweep_store-in-Err-Full-clause-roots : goal.returns-in_ok-sweep_store-in-Err-Full-clause-roots
 returns-in_ok-sweep_store-in-Err-Full-clause-roots c =

@@ -1,6 +1,6 @@
 use Rattle.std.proofs.Common.{◌≡◌, Err, sym, ap, subst, ◌∙◌}
 use Rattle.fixpoint.proofs.Common.{StoreFault, Arena, within_only, within_nothing, HasLargeCover}
-use Rattle.fixpoint.proofs.wires.set_gate.Goals as goal
+use Rattle.fixpoint.proofs.wires.Wires.set_gate.Goals as goal
 
 pub returns-clause-grows : goal.returns-clause-grows
 returns-clause-grows c = within_only c.set_by_diagram.ensures.grows

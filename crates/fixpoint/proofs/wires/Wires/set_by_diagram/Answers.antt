@@ -1,17 +1,17 @@
 use Rattle.std.proofs.Common.{◌≡◌, ◌∙◌, ℕ, sym, List, set, subst, ap, arith, map}
 use Rattle.fixpoint.proofs.Common.{within_moved, within_refused, within_answered, value, ext, Sig, Rails, BoundsEach, IsExtended, Gate, Parts, first_gate, gate_at, rails_read}
 use Rattle.fixpoint.proofs.WireLemmas.{rails_read-proper, pins-proper, pins-values}
-use Rattle.fixpoint.proofs.wires.set_by_diagram.Goals as goal
-use Rattle.fixpoint.proofs.wires.set_by_diagram.Goals.{After-lift_cover}
+use Rattle.fixpoint.proofs.wires.Wires.set_by_diagram.Goals as goal
+use Rattle.fixpoint.proofs.wires.Wires.set_by_diagram.Goals.{After-lift_cover}
 
 pub lift_cover-requires-clause-rails : goal.lift_cover-requires-clause-rails
 lift_cover-requires-clause-rails c =
-    pins-proper c.args.d.now (rails_read c.args.looped.now.net c.args.looped.now.cut c.args.before.now c.args.rails.now) c.items.result.now c.deref.result.now
-    (rails_read-proper c.args.looped.now.net c.args.looped.now.cut c.args.d.now c.args.before.now c.args.rails.now c.requires.wires) (c.deref.ensures.value ∙ c.in-Ok.ensures)
+    pins-proper c.args.d.now (rails_read c.args.looped.now.net c.args.looped.now.cut c.args.self.now.before.items c.args.self.now.rails.items) c.items.result.now c.deref.result.now
+    (rails_read-proper c.args.looped.now.net c.args.looped.now.cut c.args.d.now c.args.self.now.before.items c.args.self.now.rails.items c.requires.wires) (c.deref.ensures.value ∙ c.in-Ok.ensures)
 
 -- the rails that the pins read
 abbrev reads : After-lift_cover → Sig → Rails
-reads c = rails_read c.args.looped.now.net c.args.looped.now.cut c.args.before.now c.args.rails.now
+reads c = rails_read c.args.looped.now.net c.args.looped.now.cut c.args.self.now.before.items c.args.self.now.rails.items
 
 listed : (c : After-lift_cover) → c.deref.result.now ≡ map (reads c) (gate_at c.args.looped.now.net c.args.gate).pins
 listed c = c.deref.ensures.value ∙ c.in-Ok.ensures ∙ ap (map (reads c)) (c.items.ensures ∙ ap (λ (g : Gate). g.pins) (c.gate.ensures.at ∙ ap (λ (n : Parts). gate_at n c.args.gate) c.net-net.ensures.net))
@@ -26,7 +26,7 @@ returns-clause-set c =
     let after : After-lift_cover = (goal.at.returns-clause-set c).After-lift_cover in
     record {
       made = c.in_ok-made.made;
-      is = ap (λ n. set c.args.rails.now n c.in_ok-made.made) (omega (arith, c.inputs.ensures.inputs, c.latches.ensures.latches, ap first_gate c.net-net.ensures.net));
+      is = ap (λ n. set c.args.self.now.rails.items n c.in_ok-made.made) (omega (arith, c.columns.ensures.columns, ap first_gate c.net-net.ensures.net));
       proper = c.in_ok-made.ensures.rails;
       value = λ bits. (rw c.net-net.ensures.net at (c.in_ok-made.ensures.value bits))
           ∙ ap (ext (gate_at c.args.looped.now.net c.args.gate).cover) (pins-values c.args.d.now (reads after) (gate_at c.args.looped.now.net c.args.gate).pins c.deref.result.now bits (listed after));

@@ -1,0 +1,31 @@
+use Rattle.std.proofs.Common.{◌≡◌, ◌+◌, ◌∙◌, ℕ, List, ap, length, get_or, subst, sym, arith}
+use Rattle.std.proofs.lemmas.List.{get_or_read, length-set}
+use Rattle.std.specs.List.{Contains}
+use Rattle.fixpoint.proofs.Common.{Rails, rails_at, take_all, unknown}
+use Rattle.fixpoint.proofs.CutLemmas.{kept-step, others-kept-step, proper-step}
+use Rattle.fixpoint.proofs.wires.Wires.keep_cuts.Goals as goal
+
+pub loop-gate-preserved : goal.loop-gate-preserved
+loop-gate-preserved c =
+    let inv = c.loop-gate.invariant in
+    let cuts = c.args.cuts.now in
+    let rails = c.args.self.now.rails.items in
+    let before = c.loop-gate.self.before.items in
+    let i = c.loop-gate.gate-index in
+    let inside = c.loop-gate-test.true in
+    let gate : ℕ = get_or c.args.cuts.now c.loop-gate.gate-index 0 in
+    let room = c.requires.cuts c.loop-gate.gate-index 0 c.loop-gate-test.true in
+    let read : c.index.result.now ≡ rails_at c.args.self.now.rails.items (c.args.first + get_or c.args.cuts.now c.loop-gate.gate-index 0) =
+    get_or_read c.loop-gate.self.rails.items (c.args.first + get_or c.args.cuts.now c.loop-gate.gate-index 0) c.index.result.now (omega (arith, room, c.requires.width, ap length inv.rails)) c.index.ensures unknown
+    ∙ ap (λ (rs : List Rails). rails_at rs (c.args.first + get_or c.args.cuts.now c.loop-gate.gate-index 0)) inv.rails in
+    record {
+      rails = inv.rails;
+      width = length-set before gate c.index.result.now ∙ inv.width;
+      kept = rw read (kept-step cuts c.args.first rails before i inside (omega (arith, room, inv.width)) inv.kept);
+      others = rw read (others-kept-step cuts c.args.first rails c.args.self.now.before.items before i inside inv.others);
+      proper = λ a all old. rw read (proper-step a cuts c.args.first rails before i all (inv.proper a all old));
+    }
+
+pub returns-clause-kept : goal.returns-clause-kept
+returns-clause-kept c n has =
+    c.loop-gate.invariant.kept n (subst (λ (ns : List ℕ). Contains ns n) (sym (take_all c.loop-gate.gate-index c.args.cuts.now c.loop-gate-test.false)) has)
