@@ -1,5 +1,5 @@
 -- Which of some literals can be true, each by itself.
-use Rattle.std.specs.Prelude.{◌≡◌, ◌<◌, ℕ, Bool, true, false, List, [], ◌∷◌, ◌++◌, length, slice_index, slice_index_or, All, Any, Some, None}
+use Rattle.std.specs.Prelude.{◌≡◌, ◌<◌, ◌+◌, ℕ, Bool, true, false, List, [], ◌∷◌, ◌++◌, length, slice_index, slice_index_or, All, Any, Some, None}
 use Rattle.std.specs.declared.option.Option.{Option}
 use Rattle.clause_queries.specs.Queries.{Problem, HasModelUnder, HasNoModelUnder}
 
@@ -19,6 +19,12 @@ pub record AreToldBelow (p : Problem) (literals assumptions : List ℕ) (k : ℕ
 -- and all of them
 abbrev pub TellEach : Problem → List ℕ → List ℕ → List Bool → Type 0
 TellEach p literals assumptions found = AreToldBelow p literals assumptions (length literals) found
+
+-- What asking for the literal at a place tells: where it isn't possible, it can't be true; and each literal up to there is told
+-- of by the new marks, where those before were by the old ones.
+pub record IsTold (p : Problem) (literals assumptions : List ℕ) (place : ℕ) (old new : List Bool) (possible : Bool) : Type 0 where
+  pub impossible : possible ≡ false → CannotBe p literals assumptions place
+  pub up_to : AreToldBelow p literals assumptions place old → AreToldBelow p literals assumptions (place + 1) new
 
 -- marks of literals that can't
 pub record AreNever (p : Problem) (literals assumptions : List ℕ) (never : List Bool) : Type 0 where

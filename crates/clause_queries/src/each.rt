@@ -1,10 +1,10 @@
 //! Which of some literals can be true, each by itself. A model answers for each literal that is true in it, so few
 //! questions do.
 
-ghost use Rattle.std.specs.Prelude.{◌≡◌, ◌<◌, ◌+◌, ◌||◌, ℕ, true, false, length, slice_index, slice_index_or, IfOk, IfSome};
+ghost use Rattle.std.specs.Prelude.{◌≡◌, ◌<◌, ◌||◌, ℕ, false, length, slice_index, slice_index_or, IfOk, IfSome};
 ghost use Rattle.ternary_clauses.specs.Formulas.{says};
 ghost use Rattle.clause_queries.specs.Clauses.{IsWithin};
-ghost use Rattle.clause_queries.specs.Each.{AreToldBelow, TellEach};
+ghost use Rattle.clause_queries.specs.Each.{IsTold, TellEach};
 
 use crate::query::{Query, Reply};
 use std::alloc::{AllocError, Global};
@@ -23,34 +23,47 @@ pub(crate) fn note(literals: &[u32], model: &[bool], found: &mut [bool])
     }
 }
 
+// What is asked for one literal after another: each with these assumptions, and in so many conflicts.
+#[derive(Clone, Copy)]
+pub(crate) struct Candidates<'a> {
+    pub(crate) literals: &'a [u32],
+    pub(crate) assumptions: &'a [u32],
+    pub(crate) conflicts: u64,
+}
+
 impl Query {
-    // Asks for the literal at a place, where no model so far has it. False where the solver gave up.
-    fn try_place(
+    // Whether the literal at a place can be true, and none where the solver gave up. It is asked for where no model so far
+    // has it, and a model marks each literal that it has.
+    pub(crate) fn is_candidate_possible(
         &mut self,
         alloc: Global,
-        literals: &[u32],
-        assumptions: &[u32],
+        candidates: &Candidates<'_>,
         place: usize,
         found: &mut [bool],
-        conflicts: u64,
-    ) -> Result<bool, AllocError>
-        requires literals { IsWithin self.old.variables literals.now }
-        requires assumptions { IsWithin self.old.variables assumptions.now }
-        requires place { place < length literals.now }
-        requires found { AreToldBelow self.old literals.now assumptions.now place found.old }
+    ) -> Result<Option<bool>, AllocError>
+        requires literals { IsWithin self.old.variables candidates.now.literals.now }
+        requires assumptions { IsWithin self.old.variables candidates.now.assumptions.now }
+        requires place { place < length candidates.now.literals.now }
+        requires width { length found.old ≡ length candidates.now.literals.now }
         ensures unchanged { self.new ≡ self.old }
-        ensures found { IfOk result (λ told. told ≡ true → AreToldBelow self.old literals.now assumptions.now (place + 1) found.new) }
+        ensures width { length found.new ≡ length found.old }
+        ensures told { IfOk result (λ told. IfSome told (IsTold self.old candidates.now.literals.now candidates.now.assumptions.now place found.old found.new)) }
     {
         if found[place] {
-            return Ok(true);
+            return Ok(Some(true));
         }
-        match self.ask_with(alloc, assumptions, literals[place], conflicts)? {
+        match self.ask_with(
+            alloc,
+            candidates.assumptions,
+            candidates.literals[place],
+            candidates.conflicts,
+        )? {
             Reply::Model(model) => {
-                note(literals, &model, found);
-                Ok(true)
+                note(candidates.literals, &model, found);
+                Ok(Some(true))
             }
-            Reply::NoModel => Ok(true),
-            Reply::Unknown => Ok(false),
+            Reply::NoModel => Ok(Some(false)),
+            Reply::Unknown => Ok(None),
         }
     }
 
@@ -68,9 +81,15 @@ impl Query {
         ensures unchanged { self.new ≡ self.old }
         ensures each { IfOk result (λ told. IfSome told (λ found. TellEach self.old literals.now assumptions.now found.items)) }
     {
+        let candidates = Candidates {
+            literals,
+            assumptions,
+            conflicts,
+        };
         let mut found = vec![in alloc; false; literals.len()]?;
         for place in 0..literals.len() {
-            if !self.try_place(alloc, literals, assumptions, place, &mut found, conflicts)? {
+            let told = self.is_candidate_possible(alloc, &candidates, place, &mut found)?;
+            if told.is_none() {
                 return Ok(None);
             }
         }
