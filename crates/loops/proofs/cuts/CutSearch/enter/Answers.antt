@@ -10,10 +10,10 @@ use Rattle.loops.proofs.CutLemmas.{closes, entered, found_free, left_out, parted
 use Rattle.loops.proofs.KeptLemmas.{gained_rows, kept_links, landmarks_as, own_row, ready_as}
 use Rattle.loops.proofs.LandmarkLemmas.{landmark_kept, passed_meet}
 use Rattle.loops.proofs.cuts.CutSearch.enter.Goals as goal
-use Rattle.loops.proofs.cuts.CutSearch.enter.Goals.{In_ok-insert, In_ok-part, In_ok-row}
+use Rattle.loops.proofs.cuts.CutSearch.enter.Goals.{In_ok-insert, In_ok-part, In_ok-row, Then-branch}
 
 -- the row of what the gate reads is laid
-is_laid : (c : In_ok-row) → IsKept (IsLoopPin c.args.grouped.now.net c.args.grouped.now.blocks) c.args.cut.now c.args.gate c.args.self.now.kept.readers.items (set c.args.self.now.kept.sources.items c.args.gate c.in_ok-row.row) c.args.self.now.kept.levels.items × ((x : ℕ) → InRow (set c.args.self.now.kept.sources.items c.args.gate c.in_ok-row.row) c.args.gate x ↔ ((IsLoopPin c.args.grouped.now.net c.args.grouped.now.blocks) x c.args.gate × IsFree c.args.cut.now c.args.gate x))
+is_laid : (c : In_ok-row) → IsKept (IsLoopPin c.args.grouped.now.net c.args.grouped.now.blocks) c.args.cut.now c.args.gate c.args.self.now.kept.readers.items (set c.args.self.now.kept.sources.items c.args.gate c.in_ok-row.row) c.args.self.now.kept.levels.items × ((x : ℕ) → InRow (set c.args.self.now.kept.sources.items c.args.gate c.in_ok-row.row) c.args.gate x ↔ (IsLoopPin c.args.grouped.now.net c.args.grouped.now.blocks x c.args.gate × IsFree c.args.cut.now c.args.gate x))
 is_laid c =
     row_laid (IsLoopPin c.args.grouped.now.net c.args.grouped.now.blocks) c.args.cut.now c.args.gate (omega (arith, c.requires.gate, c.requires.cut)) c.args.self.now.kept.readers.items c.args.self.now.kept.sources.items c.args.self.now.kept.levels.items c.in_ok-row.row c.requires.search.kept
     (own_row c.args.grouped.now.net c.args.grouped.now.blocks c.args.cut.now c.args.gate c.in_ok-row.row c.in_ok-row.ensures)
@@ -34,6 +34,11 @@ gains c =
 -- a search with this goal next is ready for the one after it
 ready_later : (width n : ℕ) (marks : List ℕ) → IsReady width n marks → IsReady width (n + 1) marks
 ready_later width n marks r = record { size = r.size; bound = λ x. (let b = r.bound x in omega arith) }
+
+-- both rows of the gate meet
+is_met : (c : Then-branch) → HasParted c.args.self.now.kept.readers.items (set c.args.self.now.kept.sources.items c.args.gate c.in_ok-row.row) c.args.gate c.args.self.now.kept.levels.items c.part.new.kept.levels.items true
+is_met c =
+    subst (λ (b : Bool). HasParted c.args.self.now.kept.readers.items (set c.args.self.now.kept.sources.items c.args.gate c.in_ok-row.row) c.args.gate c.args.self.now.kept.levels.items c.part.new.kept.levels.items b) c.if-branch.true c.in_ok-part.ensures.parted
 
 -- the gate is entered
 is_entered : (c : In_ok-insert) → IsKept (IsLoopPin c.args.grouped.now.net c.args.grouped.now.blocks) (set c.args.cut.now c.args.gate false) (c.args.gate + 1) c.insert.new.self.readers.items c.insert.new.self.sources.items c.insert.new.self.levels.items
@@ -106,8 +111,7 @@ learn-requires-clause-within c =
     let l : c.args.gate < length c.args.cut.now = omega (arith, c.requires.gate, c.requires.cut) in
     let laid = is_laid (goal.at.learn-requires-clause-within c).In_ok-row in
     let sources : List (List ℕ) = set c.args.self.now.kept.sources.items c.args.gate c.in_ok-row.row in
-    let met : HasParted c.args.self.now.kept.readers.items sources c.args.gate c.args.self.now.kept.levels.items c.part.new.kept.levels.items true =
-    subst (λ (b : Bool). HasParted c.args.self.now.kept.readers.items sources c.args.gate c.args.self.now.kept.levels.items c.part.new.kept.levels.items b) c.if-branch.true c.in_ok-part.ensures.parted in
+    let met = is_met (goal.at.learn-requires-clause-within c).Then-branch in
     let same = ap (λ (xs : List ℕ). length xs) (c.links-then-branch.ensures.levels ∙ met.1) in
     let kept = laid.0 in
     λ x found.
@@ -121,8 +125,7 @@ learn-requires-clause-back c =
     let p = (goal.at.learn-requires-clause-back c).In_ok-part in
     let laid = is_laid (goal.at.learn-requires-clause-back c).In_ok-row in
     let sources : List (List ℕ) = set c.args.self.now.kept.sources.items c.args.gate c.in_ok-row.row in
-    let met : HasParted c.args.self.now.kept.readers.items sources c.args.gate c.args.self.now.kept.levels.items c.part.new.kept.levels.items true =
-    subst (λ (b : Bool). HasParted c.args.self.now.kept.readers.items sources c.args.gate c.args.self.now.kept.levels.items c.part.new.kept.levels.items b) c.if-branch.true c.in_ok-part.ensures.parted in
+    let met = is_met (goal.at.learn-requires-clause-back c).Then-branch in
     let links = c.links-then-branch.result in
     λ x found.
     rows_as c.args.self.now.kept.readers.items sources c.args.self.now.kept.levels.items links.readers.now links.sources.now links.levels.now
@@ -136,8 +139,7 @@ returns-then-branch-clause-leads c =
     let l : c.args.gate < length c.args.cut.now = omega (arith, c.requires.gate, c.requires.cut) in
     let laid = is_laid (goal.at.returns-then-branch-clause-leads c).In_ok-row in
     let sources : List (List ℕ) = set c.args.self.now.kept.sources.items c.args.gate c.in_ok-row.row in
-    let met : HasParted c.args.self.now.kept.readers.items sources c.args.gate c.args.self.now.kept.levels.items c.part.new.kept.levels.items true =
-    subst (λ (b : Bool). HasParted c.args.self.now.kept.readers.items sources c.args.gate c.args.self.now.kept.levels.items c.part.new.kept.levels.items b) c.if-branch.true c.in_ok-part.ensures.parted in
+    let met = is_met (goal.at.returns-then-branch-clause-leads c).Then-branch in
     (λ e. closes (IsLoopPin c.args.grouped.now.net c.args.grouped.now.blocks) c.args.cut.now c.args.gate l c.args.self.now.kept.readers.items sources c.args.self.now.kept.levels.items laid.0 laid.1 met.0, λ k. refl)
 
 pub returns-then-branch-clause-search : goal.returns-then-branch-clause-search
@@ -146,8 +148,7 @@ returns-then-branch-clause-search c =
     let p = (goal.at.returns-then-branch-clause-search c).In_ok-part in
     let laid = is_laid (goal.at.returns-then-branch-clause-search c).In_ok-row in
     let sources : List (List ℕ) = set c.args.self.now.kept.sources.items c.args.gate c.in_ok-row.row in
-    let met : HasParted c.args.self.now.kept.readers.items sources c.args.gate c.args.self.now.kept.levels.items c.part.new.kept.levels.items true =
-    subst (λ (b : Bool). HasParted c.args.self.now.kept.readers.items sources c.args.gate c.args.self.now.kept.levels.items c.part.new.kept.levels.items b) c.if-branch.true c.in_ok-part.ensures.parted in
+    let met = is_met (goal.at.returns-then-branch-clause-search c).Then-branch in
     let links = c.links-then-branch.result in
     let kept = laid.0 in
     let same = ap (λ (xs : List ℕ). length xs) (c.links-then-branch.ensures.levels ∙ met.1) in
