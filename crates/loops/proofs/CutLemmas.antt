@@ -5,16 +5,17 @@ use Rattle.std.proofs.lemmas.List.{get_or-set_same, get_or-set_other, length-set
 use Rattle.std.specs.List.{All, AllByRecursion}
 use Rattle.netlist.specs.declared.parts.Parts.{Parts}
 use Rattle.netlist.specs.Walks.{Feeds, Walk}
+use Rattle.loops.specs.declared.cuts.CutSearch.{CutSearch}
 use Rattle.loops.specs.declared.structure.Blocks.{Blocks}
 use Rattle.loops.specs.declared.structure.Cut.{Cut}
 use Rattle.loops.specs.Blocks.{AreBlocksOf}
 use Rattle.loops.specs.Cuts.{IsCutOf, MayPass, is_cut}
-use Rattle.loops.specs.Keeping.{AreNear, HasParted, HaveGained, IsAhead, IsBehind, IsKept, IsNear, IsPlaced, Meeting}
+use Rattle.loops.specs.Keeping.{AreNear, HasParted, HaveGained, IsAhead, IsBehind, IsCutSearch, IsFresh, IsKept, IsNear, IsPlaced, Meeting}
 use Rattle.loops.specs.Landmarks.{ReadsBack}
 use Rattle.loops.specs.Links.{IsLoopPin}
 use Rattle.loops.specs.Searching.{Connects, InRow, IsFree, Path, level_at, row_at}
 use Rattle.loops.specs.Walks.{AnyGate, Leads, SameLoop}
-use Rattle.loops.proofs.KeptLemmas.{of_within}
+use Rattle.loops.proofs.KeptLemmas.{of_within, ready_as}
 use Rattle.loops.proofs.LandmarkLemmas.{joined, one_step}
 use Rattle.loops.proofs.SearchLemmas.{path-append}
 use Rattle.loops.proofs.Told.{told_from}
@@ -167,6 +168,15 @@ nothing_kept R cut readers sources levels gates width r s v = record {
           | inl l ↦ no_entry (row_at (replicate gates empty) x) y (get_or-replicate gates x empty [] l)
           | inr past ↦ no_entry (row_at (replicate gates empty) x) y (get_or_past (replicate gates empty) x [] (let w = length-replicate gates empty in omega arith))
         ]
+
+-- a fresh search has gone through no gate
+pub fresh_search : (R : ℕ → ℕ → Type 0) (cut : List Bool) (gates : ℕ) (search : CutSearch) → length cut ≡ gates → IsFresh gates search → IsCutSearch R cut 0 search
+fresh_search R cut gates search width f = record {
+  kept = nothing_kept R cut search.kept.readers.items search.kept.sources.items search.kept.levels.items gates width f.readers f.sources f.levels;
+  forth = ready_as gates (length cut) 0 search.searches.forth.marks.items width f.forth;
+  back = ready_as gates (length cut) 0 search.searches.back.marks.items width f.back;
+  landmarks = f.landmarks search.kept.readers.items (length cut);
+}
 
 -- ways back from a kept gate along sources are ways to it along readers
 pub reads_back : (R : ℕ → ℕ → Type 0) (cut : List Bool) (n : ℕ) (readers sources : List (List ℕ)) (levels : List ℕ) → IsKept R cut n readers sources levels → (g : ℕ) → IsFree cut n g → ReadsBack readers sources g
@@ -523,3 +533,11 @@ low_is_near levels goal row low ceiling near within is fits down greatest = reco
   high = omega arith;
   low = (let g = greatest (4294967296 - goal) (omega arith) (λ n c. (let m = near n (of_within row (length levels) within n c) in let l = m.low in omega arith)) in omega arith);
 }
+
+-- the same rows and levels
+module _ (readers sources : List (List ℕ)) (levels : List ℕ) (r s : List (List ℕ)) (v : List ℕ) (er : r ≡ readers) (es : s ≡ sources) (ev : v ≡ levels) where
+  pub rows_as : (P : List (List ℕ) → List (List ℕ) → List ℕ → Type 0) → P readers sources levels → P r s v
+  rows_as P p =
+      subst (λ (x : List (List ℕ)). P x s v) (sym er)
+      (subst (λ (x : List (List ℕ)). P readers x v) (sym es)
+      (subst (λ (x : List ℕ). P readers sources x) (sym ev) p))

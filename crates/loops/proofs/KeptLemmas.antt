@@ -9,9 +9,11 @@ use Rattle.netlist.specs.declared.parts.Parts.{Parts}
 use Rattle.netlist.specs.Netlists.{gate_at, gate_sig}
 use Rattle.loops.specs.declared.structure.Blocks.{Blocks}
 use Rattle.loops.specs.Blocks.{AreBlocksOf}
-use Rattle.loops.specs.Keeping.{AreSourcesBelow, HaveGained, HaveGainedPins}
+use Rattle.loops.specs.declared.landmarks.Landmark.{Landmark}
+use Rattle.loops.specs.Keeping.{AreLinks, AreSourcesBelow, HaveGained, HaveGainedPins, IsKept}
+use Rattle.loops.specs.Landmarks.{AreLandmarks}
 use Rattle.loops.specs.Links.{IsLoopPin, IsLoopSource}
-use Rattle.loops.specs.Searching.{InRow, IsFree, level_at, row_at}
+use Rattle.loops.specs.Searching.{InRow, IsFree, IsReady, level_at, row_at}
 use Rattle.loops.proofs.Told.{told_parts}
 
 -- an element of a list that equals another, whatever is read past the end
@@ -197,3 +199,29 @@ gained_rows net blocks gate old new g x y = (
             subst (λ (z : ℕ). InRow new x z) (sym here.1) (g.each x at.0 (gate_sig net x) at.1 (record { is = at.2; loop = pin.loop }))
       ],
 )
+
+-- the rows of kept gates name gates alone
+pub kept_links : (R : ℕ → ℕ → Type 0) (cut : List Bool) (n : ℕ) (readers sources : List (List ℕ)) (levels : List ℕ) → n ≤ length cut → IsKept R cut n readers sources levels → AreLinks readers sources levels
+kept_links R cut n readers sources levels l k = record {
+  readers_size = k.readers_size ∙ sym k.levels_size;
+  sources_size = k.sources_size ∙ sym k.levels_size;
+  readers_within = all_within readers (length levels) (λ x y listed. (let free = (k.read_by x y).0 listed in let before = free.1.before in let size = k.levels_size in omega arith));
+  sources_within = all_within sources (length levels) (λ y x listed. (let within = k.reads_within x y listed in let size = k.levels_size in omega arith));
+}
+
+-- moved levels leave the links
+pub moved_links : (readers sources : List (List ℕ)) (levels new : List ℕ) → length new ≡ length levels → AreLinks readers sources levels → AreLinks readers sources new
+moved_links readers sources levels new size k = record {
+  readers_size = k.readers_size ∙ sym size;
+  sources_size = k.sources_size ∙ sym size;
+  readers_within = subst (λ (w : ℕ). All (All (λ x. x < w)) readers) (sym size) k.readers_within;
+  sources_within = subst (λ (w : ℕ). All (All (λ x. x < w)) sources) (sym size) k.sources_within;
+}
+
+-- the same rows and the same width
+pub landmarks_as : (old new : List (List ℕ)) (width wide : ℕ) (list : List Landmark) → new ≡ old → wide ≡ width → AreLandmarks old width list → AreLandmarks new wide list
+landmarks_as old new width wide list rows e are =
+    subst (λ (xs : List (List ℕ)). AreLandmarks xs wide list) (sym rows) (subst (λ (w : ℕ). AreLandmarks old w list) (sym e) are)
+
+pub ready_as : (width wide stamp : ℕ) (marks : List ℕ) → wide ≡ width → IsReady width stamp marks → IsReady wide stamp marks
+ready_as width wide stamp marks e ready = subst (λ (w : ℕ). IsReady w stamp marks) (sym e) ready

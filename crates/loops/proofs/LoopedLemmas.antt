@@ -1,6 +1,5 @@
 -- What blocks and a cut tell of the loops of their netlist.
-use Rattle.std.proofs.Common.{◌≡◌, ◌<◌, ℕ, Bool, length, ap, ◌∙◌, sym}
-use Rattle.loops.specs.Blocks.{block_at, home_of}
+use Rattle.std.proofs.Common.{◌≡◌, ℕ}
 use Rattle.loops.specs.Cuts.{in_one_loop, is_cut, loops_by}
 use Rattle.loops.specs.Found.{loops_of}
 use Rattle.loops.proofs.Existence.{loops_exist}

@@ -1,15 +1,18 @@
 -- The gates that are no cut wires, while the cut is found: who reads whom, and their levels.
-use Rattle.std.specs.Prelude.{◌≡◌, ◌⊎◌, ◌<◌, ◌≤◌, ◌+◌, ◌↔◌, ℕ, Bool, true, false, List, length, slice_index_or, set, Contains}
+use Rattle.std.specs.Prelude.{◌≡◌, ◌⊎◌, ◌<◌, ◌≤◌, ◌+◌, ◌↔◌, ℕ, Bool, true, false, List, [], length, replicate, slice_index_or, set, Contains}
+use Rattle.std.specs.List.{All}
 use Rattle.cyc_base.specs.declared.sig.Sig.{Sig}
 use Rattle.netlist.specs.declared.parts.Parts.{Parts}
 use Rattle.netlist.specs.Netlists.{gate_at}
 use Rattle.loops.specs.declared.search.Limit.{Limit}
 use Rattle.loops.specs.declared.search.Limit.TheVariants.{AtMost, AtLeast}
 use Rattle.loops.specs.declared.structure.Blocks.{Blocks}
+use Rattle.loops.specs.declared.cuts.CutSearch.{CutSearch}
 use Rattle.loops.specs.declared.cuts.Outcome.{Outcome}
 use Rattle.loops.specs.declared.cuts.Outcome.TheVariants.{Met, Ahead, Behind}
+use Rattle.loops.specs.Landmarks.{AreLandmarks}
 use Rattle.loops.specs.Links.{IsLoopPin, IsLoopSource}
-use Rattle.loops.specs.Searching.{Admits, Connects, InRow, IsFree, level_at, row_at}
+use Rattle.loops.specs.Searching.{Admits, Connects, InRow, IsFree, IsReady, level_at, row_at}
 use Rattle.loops.specs.Walks.{AnyGate}
 
 -- the first k of these gates are raised to a level at least
@@ -110,6 +113,29 @@ pub record IsKept (R : ℕ → ℕ → Type 0) (cut : List Bool) (n : ℕ) (read
   pub reads_within : (x y : ℕ) → InRow sources y x → x < length cut
   pub rise : (x y : ℕ) → R x y → IsFree cut n x → IsFree cut n y → level_at levels x ≤ level_at levels y
   pub near : AreNear n levels
+
+-- a row and a level for each gate, and rows that name gates alone
+pub record AreLinks (readers sources : List (List ℕ)) (levels : List ℕ) : Type 0 where
+  pub readers_size : length readers ≡ length levels
+  pub sources_size : length sources ≡ length levels
+  pub readers_within : All (All (λ gate. gate < length levels)) readers
+  pub sources_within : All (All (λ gate. gate < length levels)) sources
+
+-- a search for cut wires that has gone through no gate
+pub record IsFresh (gates : ℕ) (search : CutSearch) : Type 0 where
+  pub readers : search.kept.readers.items ≡ replicate gates []
+  pub sources : search.kept.sources.items ≡ replicate gates []
+  pub levels : search.kept.levels.items ≡ replicate gates 4294967296
+  pub forth : IsReady gates 0 search.searches.forth.marks.items
+  pub back : IsReady gates 0 search.searches.back.marks.items
+  pub landmarks : (rows : List (List ℕ)) (width : ℕ) → AreLandmarks rows width search.landmarks.list.items
+
+-- and one that has gone through the gates before n
+pub record IsCutSearch (R : ℕ → ℕ → Type 0) (cut : List Bool) (n : ℕ) (search : CutSearch) : Type 0 where
+  pub kept : IsKept R cut n search.kept.readers.items search.kept.sources.items search.kept.levels.items
+  pub forth : IsReady (length cut) n search.searches.forth.marks.items
+  pub back : IsReady (length cut) n search.searches.back.marks.items
+  pub landmarks : AreLandmarks search.kept.readers.items (length cut) search.landmarks.list.items
 
 -- a gate's level is between those of the gates behind it and of those ahead of it
 pub record IsPlaced (behind ahead : List ℕ) (gate : ℕ) (old new : List ℕ) : Type 0 where

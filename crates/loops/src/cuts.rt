@@ -6,21 +6,19 @@
 //! searches go in step and meet, after Bender, Fineman, Gilbert and Tarjan (2015); what one of them has found moves to
 //! another level, which isn't their rule, so their bound isn't claimed.
 
-ghost use Rattle.std.specs.Prelude.{◌≡◌, ◌<◌, ◌≤◌, ◌+◌, ◌^◌, ◌↔◌, ℕ, true, length, set, IfOk, OnOk, Contains};
-ghost use Rattle.std.specs.List.{All};
+ghost use Rattle.std.specs.Prelude.{◌≡◌, ◌<◌, ◌+◌, ◌^◌, ◌↔◌, ℕ, true, length, set, IfOk, OnOk, Contains};
 ghost use Rattle.loops.specs.Blocks.{AreBlocksOf};
 ghost use Rattle.loops.specs.Cuts.{IsCutOf};
-ghost use Rattle.loops.specs.Keeping.{AreNear, HasOutcome, HasParted, IsKept};
-ghost use Rattle.loops.specs.Landmarks.{AreLandmarks};
+ghost use Rattle.loops.specs.Keeping.{AreLinks, AreNear, HasOutcome, HasParted, IsCutSearch, IsFresh};
 ghost use Rattle.loops.specs.Links.{IsLoopPin};
-ghost use Rattle.loops.specs.Searching.{Connects, InRow, IsFree, IsReady, level_at};
+ghost use Rattle.loops.specs.Searching.{Connects, InRow, IsFree, IsReady};
 ghost use Rattle.loops.specs.Walks.{AnyGate};
 
-use crate::gate_list::{GateList, empty_lists};
 use crate::grouped_netlist::GroupedNetlist;
-use crate::kept::{add_reader, add_source, reads_itself, sources_before};
+use crate::kept::{reads_itself, sources_before};
+use crate::kept_gates::{KeptGates, KeptLinks};
 use crate::landmarks::Landmarks;
-use crate::levels::{MIDDLE, highest, lower, lowest, place, raise};
+use crate::levels::{MIDDLE, highest, lower, lowest, raise};
 use crate::search::{Limit, Search, meets};
 use crate::structure::{Blocks, Cut};
 use cyc_base::Bits;
@@ -38,139 +36,153 @@ enum Outcome {
     Behind,
 }
 
-/// Two searches go in step, one along readers up to a level and one along sources down to a level, until they
-/// meet or one has found all.
-fn search(
-    readers: &[GateList],
-    sources: &[GateList],
-    levels: &[u64],
-    high: u64,
-    low: u64,
-    goal: u32,
-    forth: &mut Search,
-    back: &mut Search,
-) -> Result<Outcome, AllocError>
-    requires fits { goal + 1 < 2 ^ 32 }
-    requires goal { goal < length levels.now }
-    requires readers_size { length readers.now ≡ length levels.now }
-    requires sources_size { length sources.now ≡ length levels.now }
-    requires readers { All (All (λ gate. gate < length levels.now)) readers.now }
-    requires sources { All (All (λ gate. gate < length levels.now)) sources.now }
-    requires forth { IsReady (length levels.now) goal forth.old.marks.items }
-    requires back { IsReady (length levels.now) goal back.old.marks.items }
-    ensures outcome { IfOk result (HasOutcome readers.now sources.now levels.now high low goal forth.new.found.items back.new.found.items) }
-    ensures forth { OnOk result (IsReady (length levels.now) (goal + 1) forth.new.marks.items) }
-    ensures back { OnOk result (IsReady (length levels.now) (goal + 1) back.new.marks.items) }
-    ensures reached { OnOk result ((n : ℕ) → Contains back.new.found.items n → Connects (InRow sources.now) AnyGate goal n) }
-{
-    forth.start(readers, levels, Limit::AtMost(high), goal)?;
-    back.start(sources, levels, Limit::AtLeast(low), goal)?;
-    if meets(sources[goal as usize].gates(), goal, &forth.marks) {
-        return Ok(Outcome::Met);
-    }
-    loop {
-        if let Some(met) = forth.advance(readers, levels, Limit::AtMost(high), goal, &back.marks)? {
-            return Ok(if met { Outcome::Met } else { Outcome::Ahead });
+/// Two searches from a gate that go in step.
+#[derive(Drop)]
+struct SearchPair {
+    /// It goes along readers.
+    forth: Search,
+    /// It goes along sources.
+    back: Search,
+}
+
+impl SearchPair {
+    /// Searches, the one up to a level and the other down to a level, until both meet or one has found all.
+    fn run(
+        &mut self,
+        links: KeptLinks<'_>,
+        high: u64,
+        low: u64,
+        goal: u32,
+    ) -> Result<Outcome, AllocError>
+        requires fits { goal + 1 < 2 ^ 32 }
+        requires goal { goal < length links.levels.now }
+        requires forth { IsReady (length links.levels.now) goal self.old.forth.marks.items }
+        requires back { IsReady (length links.levels.now) goal self.old.back.marks.items }
+        ensures outcome { IfOk result (HasOutcome links.entry.readers.now links.entry.sources.now links.entry.levels.now high low goal self.new.forth.found.items self.new.back.found.items) }
+        ensures forth { OnOk result (IsReady (length links.entry.levels.now) (goal + 1) self.new.forth.marks.items) }
+        ensures back { OnOk result (IsReady (length links.entry.levels.now) (goal + 1) self.new.back.marks.items) }
+        ensures reached { OnOk result ((n : ℕ) → Contains self.new.back.found.items n → Connects (InRow links.entry.sources.now) AnyGate goal n) }
+    {
+        let KeptLinks {
+            readers,
+            sources,
+            levels,
+        } = links;
+        let up = Limit::AtMost(high);
+        let down = Limit::AtLeast(low);
+        self.forth.start(readers, levels, up, goal)?;
+        self.back.start(sources, levels, down, goal)?;
+        if meets(sources[goal as usize].gates(), goal, &self.forth.marks) {
+            return Ok(Outcome::Met);
         }
-        if let Some(met) = back.advance(sources, levels, Limit::AtLeast(low), goal, &forth.marks)? {
-            return Ok(if met { Outcome::Met } else { Outcome::Behind });
+        loop {
+            if let Some(met) = self
+                .forth
+                .advance(readers, levels, up, goal, &self.back.marks)?
+            {
+                return Ok(if met { Outcome::Met } else { Outcome::Ahead });
+            }
+            if let Some(met) = self
+                .back
+                .advance(sources, levels, down, goal, &self.forth.marks)?
+            {
+                return Ok(if met { Outcome::Met } else { Outcome::Behind });
+            }
+        }
+    }
+
+    /// Moves levels so that the gates which the goal reads are below those that read it, or answers that a walk leads
+    /// from one of these to one of those.
+    fn part(&mut self, kept: &mut KeptGates, goal: u32) -> Result<bool, AllocError>
+        requires fits { goal + 1 < 2 ^ 32 }
+        requires goal { goal < length kept.old.levels.items }
+        requires links { AreLinks kept.old.readers.items kept.old.sources.items kept.old.levels.items }
+        requires near { AreNear goal kept.old.levels.items }
+        requires forth { IsReady (length kept.old.levels.items) goal self.old.forth.marks.items }
+        requires back { IsReady (length kept.old.levels.items) goal self.old.back.marks.items }
+        ensures readers { kept.new.readers ≡ kept.old.readers }
+        ensures sources { kept.new.sources ≡ kept.old.sources }
+        ensures parted { IfOk result (HasParted kept.old.readers.items kept.old.sources.items goal kept.old.levels.items kept.new.levels.items) }
+        ensures forth { OnOk result (IsReady (length kept.old.levels.items) (goal + 1) self.new.forth.marks.items) }
+        ensures back { OnOk result (IsReady (length kept.old.levels.items) (goal + 1) self.new.back.marks.items) }
+        ensures reached { OnOk result ((n : ℕ) → Contains self.new.back.found.items n → Connects (InRow kept.old.sources.items) AnyGate goal n) }
+    {
+        let links = kept.links();
+        let behind = links.sources[goal as usize].gates();
+        let ahead = links.readers[goal as usize].gates();
+        let high = highest(links.levels, behind, MIDDLE - u64::from(goal));
+        let low = lowest(links.levels, ahead, MIDDLE + u64::from(goal));
+        match self.run(links, high, low, goal)? {
+            Outcome::Met => Ok(true),
+            Outcome::Ahead => {
+                raise(&mut kept.levels, &self.forth.found, high + 1);
+                Ok(false)
+            }
+            Outcome::Behind => {
+                lower(&mut kept.levels, &self.back.found, low - 1);
+                Ok(false)
+            }
         }
     }
 }
 
-/// Moves levels so that the gates which the goal reads are below those that read it, or answers that a walk leads
-/// from one of these to one of those.
-fn close(
-    readers: &[GateList],
-    sources: &[GateList],
-    levels: &mut [u64],
-    goal: u32,
-    forth: &mut Search,
-    back: &mut Search,
-) -> Result<bool, AllocError>
-    requires fits { goal + 1 < 2 ^ 32 }
-    requires goal { goal < length levels.old }
-    requires readers_size { length readers.now ≡ length levels.old }
-    requires sources_size { length sources.now ≡ length levels.old }
-    requires readers { All (All (λ gate. gate < length levels.old)) readers.now }
-    requires sources { All (All (λ gate. gate < length levels.old)) sources.now }
-    requires near { AreNear goal levels.old }
-    requires forth { IsReady (length levels.old) goal forth.old.marks.items }
-    requires back { IsReady (length levels.old) goal back.old.marks.items }
-    ensures parted { IfOk result (HasParted readers.now sources.now goal levels.old levels.new) }
-    ensures forth { OnOk result (IsReady (length levels.old) (goal + 1) forth.new.marks.items) }
-    ensures back { OnOk result (IsReady (length levels.old) (goal + 1) back.new.marks.items) }
-    ensures reached { OnOk result ((n : ℕ) → Contains back.new.found.items n → Connects (InRow sources.now) AnyGate goal n) }
-{
-    let high = highest(
-        levels,
-        sources[goal as usize].gates(),
-        MIDDLE - u64::from(goal),
-    );
-    let low = lowest(
-        levels,
-        readers[goal as usize].gates(),
-        MIDDLE + u64::from(goal),
-    );
-    match search(readers, sources, levels, high, low, goal, forth, back)? {
-        Outcome::Met => Ok(true),
-        Outcome::Ahead => {
-            raise(levels, &forth.found, high + 1);
-            Ok(false)
-        }
-        Outcome::Behind => {
-            lower(levels, &back.found, low - 1);
-            Ok(false)
-        }
-    }
+/// The gates that were gone through, and what searches keep from one to the next.
+#[derive(Drop)]
+struct CutSearch {
+    kept: KeptGates,
+    searches: SearchPair,
+    landmarks: Landmarks,
 }
 
-/// Enters a gate, or answers that it is a cut wire: a walk leads from it back to it through gates of its loop that
-/// come before it and are no cut wires.
-fn enter(
-    alloc: Global,
-    grouped: &GroupedNetlist<'_>,
-    cut: &[bool],
-    gate: u32,
-    readers: &mut [GateList],
-    sources: &mut [GateList],
-    levels: &mut [u64],
-    forth: &mut Search,
-    back: &mut Search,
-    landmarks: &mut Landmarks,
-) -> Result<bool, AllocError>
-    requires gate { gate < length grouped.now.net.gates }
-    requires fits { gate + 1 < 2 ^ 32 }
-    requires cut { length cut.now ≡ length grouped.now.net.gates }
-    requires kept { IsKept (IsLoopPin grouped.now.net grouped.now.blocks) cut.now gate readers.old sources.old levels.old }
-    requires forth { IsReady (length cut.now) gate forth.old.marks.items }
-    requires back { IsReady (length cut.now) gate back.old.marks.items }
-    requires landmarks { AreLandmarks readers.old (length cut.now) landmarks.old.list.items }
-    ensures leads { IfOk result (λ leads. (leads ≡ true) ↔ Connects (IsLoopPin grouped.now.net grouped.now.blocks) (IsFree cut.now gate) gate gate) }
-    ensures kept { IfOk result (λ leads. IsKept (IsLoopPin grouped.now.net grouped.now.blocks) (set cut.now gate leads) (gate + 1) readers.new sources.new levels.new) }
-    ensures forth { OnOk result (IsReady (length cut.now) (gate + 1) forth.new.marks.items) }
-    ensures back { OnOk result (IsReady (length cut.now) (gate + 1) back.new.marks.items) }
-    ensures landmarks { OnOk result (AreLandmarks readers.new (length cut.now) landmarks.new.list.items) }
-{
-    if reads_itself(grouped, gate) {
-        return Ok(true);
+impl CutSearch {
+    /// No gate was gone through.
+    fn new(alloc: Global, gates: u32) -> Result<CutSearch, AllocError>
+        ensures { IfOk result (IsFresh gates) }
+    {
+        let kept = KeptGates::new(alloc, gates)?;
+        let forth = Search::new(alloc, gates)?;
+        let back = Search::new(alloc, gates)?;
+        Ok(CutSearch {
+            kept,
+            searches: SearchPair { forth, back },
+            landmarks: Landmarks::new(alloc),
+        })
     }
-    let row = sources_before(alloc, grouped, cut, gate)?;
-    sources[gate as usize] = row;
-    if landmarks.is_closed(readers, sources, gate) {
-        return Ok(true);
+
+    /// Enters a gate, or answers that it is a cut wire: a walk leads from it back to it through gates of its loop that
+    /// come before it and are no cut wires.
+    fn enter(
+        &mut self,
+        alloc: Global,
+        grouped: &GroupedNetlist<'_>,
+        cut: &[bool],
+        gate: u32,
+    ) -> Result<bool, AllocError>
+        requires gate { gate < length grouped.now.net.gates }
+        requires fits { gate + 1 < 2 ^ 32 }
+        requires cut { length cut.now ≡ length grouped.now.net.gates }
+        requires search { IsCutSearch (IsLoopPin grouped.now.net grouped.now.blocks) cut.now gate self.old }
+        ensures leads { IfOk result (λ leads. (leads ≡ true) ↔ Connects (IsLoopPin grouped.now.net grouped.now.blocks) (IsFree cut.now gate) gate gate) }
+        ensures search { IfOk result (λ leads. IsCutSearch (IsLoopPin grouped.now.net grouped.now.blocks) (set cut.now gate leads) (gate + 1) self.new) }
+    {
+        if reads_itself(grouped, gate) {
+            return Ok(true);
+        }
+        let row = sources_before(alloc, grouped, cut, gate)?;
+        self.kept.sources[gate as usize] = row;
+        if self.landmarks.is_closed(self.kept.links(), gate) {
+            return Ok(true);
+        }
+        if self.searches.part(&mut self.kept, gate)? {
+            let gates = grouped.net().gates();
+            let back = &self.searches.back;
+            self.landmarks.learn(alloc, self.kept.links(), gates, back)?;
+            return Ok(true);
+        }
+        self.kept.insert(grouped, gate)?;
+        self.landmarks.extend(self.kept.links(), gate)?;
+        Ok(false)
     }
-    if close(readers, sources, levels, gate, forth, back)? {
-        landmarks.learn(alloc, readers, sources, levels, grouped.net().gates(), back)?;
-        return Ok(true);
-    }
-    let behind = sources[gate as usize].gates();
-    let ahead = readers[gate as usize].gates();
-    place(levels, behind, ahead, gate);
-    add_source(sources, ahead, gate)?;
-    add_reader(readers, grouped, gate)?;
-    landmarks.extend(readers, sources, levels, gate)?;
-    Ok(false)
 }
 
 /// The cut wires of a netlist, found in flat order: a gate is one exactly where a walk leads from it
@@ -184,25 +196,9 @@ pub fn find_cut(alloc: Global, net: &Netlist, blocks: &Blocks) -> Result<Cut, Al
     let grouped = GroupedNetlist::new(net, blocks);
     let gates = net.gates();
     let mut cut = vec![in alloc; false; gates as usize]?;
-    let mut readers = empty_lists(alloc, gates)?;
-    let mut sources = empty_lists(alloc, gates)?;
-    let mut levels = vec![in alloc; MIDDLE; gates as usize]?;
-    let mut forth = Search::new(alloc, gates)?;
-    let mut back = Search::new(alloc, gates)?;
-    let mut landmarks = Landmarks::new(alloc);
+    let mut search = CutSearch::new(alloc, gates)?;
     for gate in 0..gates {
-        let leads = enter(
-            alloc,
-            &grouped,
-            &cut,
-            gate,
-            &mut readers,
-            &mut sources,
-            &mut levels,
-            &mut forth,
-            &mut back,
-            &mut landmarks,
-        )?;
+        let leads = search.enter(alloc, &grouped, &cut, gate)?;
         cut[gate as usize] = leads;
     }
     Ok(Cut {

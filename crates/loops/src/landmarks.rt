@@ -7,7 +7,7 @@ ghost use Rattle.std.specs.List.{All};
 ghost use Rattle.loops.specs.Landmarks.{AreLandmarks, IsLandmark, Passes, ReadsBack};
 ghost use Rattle.loops.specs.Searching.{Meets, row_at};
 
-use crate::gate_list::GateList;
+use crate::kept_gates::KeptLinks;
 use crate::search::{Search, meets};
 use std::alloc::{AllocError, Global};
 
@@ -15,7 +15,7 @@ use std::alloc::{AllocError, Global};
 const MOST: usize = 4;
 
 /// A gate, and two searches from it that go on as gates are entered.
-#[derive(Debug)]
+#[derive(Debug, Drop)]
 pub(crate) struct Landmark {
     pub gate: u32,
     /// It has marked gates to which the landmark leads.
@@ -24,18 +24,8 @@ pub(crate) struct Landmark {
     pub behind: Search,
 }
 
-impl Drop for Landmark {
-    fn drop(self) {
-        let Landmark {
-            gate: _,
-            ahead: _,
-            behind: _,
-        } = self;
-    }
-}
-
 /// The landmarks, the oldest of which make place for others.
-#[derive(Debug)]
+#[derive(Debug, Drop)]
 pub(crate) struct Landmarks {
     pub list: Vec<Landmark>,
     /// The place of the next one.
@@ -44,38 +34,22 @@ pub(crate) struct Landmarks {
     pub found: usize,
 }
 
-impl Drop for Landmarks {
-    fn drop(self) {
-        let Landmarks {
-            list: _,
-            next: _,
-            found: _,
-        } = self;
-    }
-}
-
 /// A landmark at a gate.
 fn landmark_at(
     alloc: Global,
-    readers: &[GateList],
-    sources: &[GateList],
-    levels: &[u64],
+    links: KeptLinks<'_>,
     gates: u32,
     gate: u32,
 ) -> Result<Landmark, AllocError>
-    requires gates { gates ≡ length levels.now }
-    requires gate { gate < length levels.now }
-    requires readers_size { length readers.now ≡ length levels.now }
-    requires sources_size { length sources.now ≡ length levels.now }
-    requires readers { All (All (λ other. other < length levels.now)) readers.now }
-    requires sources { All (All (λ other. other < length levels.now)) sources.now }
-    requires back { ReadsBack readers.now sources.now gate }
-    ensures { IfOk result (IsLandmark readers.now (length levels.now)) }
+    requires gates { gates ≡ length links.levels.now }
+    requires gate { gate < length links.levels.now }
+    requires back { ReadsBack links.readers.now links.sources.now gate }
+    ensures { IfOk result (IsLandmark links.entry.readers.now (length links.entry.levels.now)) }
 {
     let mut ahead = Search::new(alloc, gates)?;
-    ahead.spread(readers, levels, gate, gate)?;
+    ahead.spread(links.readers, links.levels, gate, gate)?;
     let mut behind = Search::new(alloc, gates)?;
-    behind.spread(sources, levels, gate, gate)?;
+    behind.spread(links.sources, links.levels, gate, gate)?;
     Ok(Landmark {
         gate,
         ahead,
@@ -95,103 +69,55 @@ fn leads_past(landmark: &Landmark, ahead: &[u32], behind: &[u32]) -> bool
 }
 
 /// The landmark leads to a gate that was entered, if it leads to one that this gate reads.
-fn go_ahead(
-    landmark: &mut Landmark,
-    readers: &[GateList],
-    sources: &[GateList],
-    levels: &[u64],
-    gate: u32,
-) -> Result<(), AllocError>
-    requires gate { gate < length levels.now }
-    requires readers_size { length readers.now ≡ length levels.now }
-    requires sources_size { length sources.now ≡ length levels.now }
-    requires readers { All (All (λ other. other < length levels.now)) readers.now }
-    requires sources { All (All (λ other. other < length levels.now)) sources.now }
-    requires back { ReadsBack readers.now sources.now gate }
-    requires landmark { IsLandmark readers.now (length levels.now) landmark.old }
-    ensures { OnOk result (IsLandmark readers.now (length levels.now) landmark.new) }
+fn go_ahead(landmark: &mut Landmark, links: KeptLinks<'_>, gate: u32) -> Result<(), AllocError>
+    requires gate { gate < length links.levels.now }
+    requires back { ReadsBack links.readers.now links.sources.now gate }
+    requires landmark { IsLandmark links.readers.now (length links.levels.now) landmark.old }
+    ensures { OnOk result (IsLandmark links.entry.readers.now (length links.entry.levels.now) landmark.new) }
 {
     if meets(
-        sources[gate as usize].gates(),
+        links.sources[gate as usize].gates(),
         landmark.gate,
         &landmark.ahead.marks,
     ) {
-        landmark.ahead.spread(readers, levels, landmark.gate, gate)?;
+        landmark
+            .ahead
+            .spread(links.readers, links.levels, landmark.gate, gate)?;
     }
     Ok(())
 }
 
 /// A gate that was entered leads to the landmark, if one does that reads it.
-fn go_back(
-    landmark: &mut Landmark,
-    readers: &[GateList],
-    sources: &[GateList],
-    levels: &[u64],
-    gate: u32,
-) -> Result<(), AllocError>
-    requires gate { gate < length levels.now }
-    requires readers_size { length readers.now ≡ length levels.now }
-    requires sources_size { length sources.now ≡ length levels.now }
-    requires readers { All (All (λ other. other < length levels.now)) readers.now }
-    requires sources { All (All (λ other. other < length levels.now)) sources.now }
-    requires back { ReadsBack readers.now sources.now gate }
-    requires landmark { IsLandmark readers.now (length levels.now) landmark.old }
-    ensures { OnOk result (IsLandmark readers.now (length levels.now) landmark.new) }
+fn go_back(landmark: &mut Landmark, links: KeptLinks<'_>, gate: u32) -> Result<(), AllocError>
+    requires gate { gate < length links.levels.now }
+    requires back { ReadsBack links.readers.now links.sources.now gate }
+    requires landmark { IsLandmark links.readers.now (length links.levels.now) landmark.old }
+    ensures { OnOk result (IsLandmark links.entry.readers.now (length links.entry.levels.now) landmark.new) }
 {
     if meets(
-        readers[gate as usize].gates(),
+        links.readers[gate as usize].gates(),
         landmark.gate,
         &landmark.behind.marks,
     ) {
         landmark
             .behind
-            .spread(sources, levels, landmark.gate, gate)?;
+            .spread(links.sources, links.levels, landmark.gate, gate)?;
     }
     Ok(())
 }
 
 /// The landmarks go on from a gate that was entered.
-fn go_on(
-    landmarks: &mut [Landmark],
-    readers: &[GateList],
-    sources: &[GateList],
-    levels: &[u64],
-    gate: u32,
-) -> Result<(), AllocError>
-    requires gate { gate < length levels.now }
-    requires readers_size { length readers.now ≡ length levels.now }
-    requires sources_size { length sources.now ≡ length levels.now }
-    requires readers { All (All (λ other. other < length levels.now)) readers.now }
-    requires sources { All (All (λ other. other < length levels.now)) sources.now }
-    requires back { ReadsBack readers.now sources.now gate }
-    requires landmarks { AreLandmarks readers.now (length levels.now) landmarks.old }
-    ensures { OnOk result (AreLandmarks readers.now (length levels.now) landmarks.new) }
+fn go_on(landmarks: &mut [Landmark], links: KeptLinks<'_>, gate: u32) -> Result<(), AllocError>
+    requires gate { gate < length links.levels.now }
+    requires back { ReadsBack links.readers.now links.sources.now gate }
+    requires landmarks { AreLandmarks links.readers.now (length links.levels.now) landmarks.old }
+    ensures { OnOk result (AreLandmarks links.entry.readers.now (length links.entry.levels.now) landmarks.new) }
 {
     for landmark in landmarks.iter_mut() {
-        go_ahead(landmark, readers, sources, levels, gate)?;
-        go_back(landmark, readers, sources, levels, gate)?;
+        go_ahead(landmark, links, gate)?;
+        go_back(landmark, links, gate)?;
     }
     Ok(())
-}
-
-/// Whether a walk is known to lead from one row past a landmark to the other.
-fn leads_past_any(
-    landmarks: &[Landmark],
-    readers: &[GateList],
-    ahead: &[u32],
-    behind: &[u32],
-) -> bool
-    requires ahead { All (λ gate. gate < length readers.now) ahead.now }
-    requires behind { All (λ gate. gate < length readers.now) behind.now }
-    requires landmarks { AreLandmarks readers.now (length readers.now) landmarks.now }
-    ensures { result ≡ true → Passes readers.now ahead.now behind.now }
-{
-    for landmark in landmarks {
-        if leads_past(landmark, ahead, behind) {
-            return true;
-        }
-    }
-    false
 }
 
 impl Landmarks {
@@ -207,40 +133,29 @@ impl Landmarks {
     }
 
     /// Whether a walk is known to lead from what reads a gate past a landmark to what the gate reads.
-    pub fn is_closed(&self, readers: &[GateList], sources: &[GateList], gate: u32) -> bool
-        requires gate { gate < length readers.now }
-        requires sources_size { length sources.now ≡ length readers.now }
-        requires readers { All (All (λ other. other < length readers.now)) readers.now }
-        requires sources { All (All (λ other. other < length readers.now)) sources.now }
-        requires landmarks { AreLandmarks readers.now (length readers.now) self.now.list.items }
-        ensures { result ≡ true → Passes readers.now (row_at readers.now gate) (row_at sources.now gate) }
+    pub fn is_closed(&self, links: KeptLinks<'_>, gate: u32) -> bool
+        requires gate { gate < length links.levels.now }
+        requires landmarks { AreLandmarks links.readers.now (length links.levels.now) self.now.list.items }
+        ensures { result ≡ true → Passes links.entry.readers.now (row_at links.entry.readers.now gate) (row_at links.entry.sources.now gate) }
     {
-        leads_past_any(
-            &self.list,
-            readers,
-            readers[gate as usize].gates(),
-            sources[gate as usize].gates(),
-        )
+        let ahead = links.readers[gate as usize].gates();
+        let behind = links.sources[gate as usize].gates();
+        for landmark in &self.list {
+            if leads_past(landmark, ahead, behind) {
+                return true;
+            }
+        }
+        false
     }
 
     /// Goes on from a gate that was entered.
-    pub fn extend(
-        &mut self,
-        readers: &[GateList],
-        sources: &[GateList],
-        levels: &[u64],
-        gate: u32,
-    ) -> Result<(), AllocError>
-        requires gate { gate < length levels.now }
-        requires readers_size { length readers.now ≡ length levels.now }
-        requires sources_size { length sources.now ≡ length levels.now }
-        requires readers { All (All (λ other. other < length levels.now)) readers.now }
-        requires sources { All (All (λ other. other < length levels.now)) sources.now }
-        requires back { ReadsBack readers.now sources.now gate }
-        requires landmarks { AreLandmarks readers.now (length levels.now) self.old.list.items }
-        ensures { OnOk result (AreLandmarks readers.now (length levels.now) self.new.list.items) }
+    pub fn extend(&mut self, links: KeptLinks<'_>, gate: u32) -> Result<(), AllocError>
+        requires gate { gate < length links.levels.now }
+        requires back { ReadsBack links.readers.now links.sources.now gate }
+        requires landmarks { AreLandmarks links.readers.now (length links.levels.now) self.old.list.items }
+        ensures { OnOk result (AreLandmarks links.entry.readers.now (length links.entry.levels.now) self.new.list.items) }
     {
-        go_on(&mut self.list, readers, sources, levels, gate)
+        go_on(&mut self.list, links, gate)
     }
 
     /// Puts a landmark in the next place.
@@ -261,34 +176,21 @@ impl Landmarks {
     pub fn learn(
         &mut self,
         alloc: Global,
-        readers: &[GateList],
-        sources: &[GateList],
-        levels: &[u64],
+        links: KeptLinks<'_>,
         gates: u32,
         back: &Search,
     ) -> Result<(), AllocError>
-        requires gates { gates ≡ length levels.now }
-        requires readers_size { length readers.now ≡ length levels.now }
-        requires sources_size { length sources.now ≡ length levels.now }
-        requires readers { All (All (λ other. other < length levels.now)) readers.now }
-        requires sources { All (All (λ other. other < length levels.now)) sources.now }
-        requires within { (n : ℕ) → Contains back.now.found.items n → n < length levels.now }
-        requires back { (n : ℕ) → Contains back.now.found.items n → ReadsBack readers.now sources.now n }
-        requires landmarks { AreLandmarks readers.now (length levels.now) self.old.list.items }
-        ensures { OnOk result (AreLandmarks readers.now (length levels.now) self.new.list.items) }
+        requires gates { gates ≡ length links.levels.now }
+        requires within { (n : ℕ) → Contains back.now.found.items n → n < length links.levels.now }
+        requires back { (n : ℕ) → Contains back.now.found.items n → ReadsBack links.readers.now links.sources.now n }
+        requires landmarks { AreLandmarks links.readers.now (length links.levels.now) self.old.list.items }
+        ensures { OnOk result (AreLandmarks links.entry.readers.now (length links.entry.levels.now) self.new.list.items) }
     {
         self.found = self.found.saturating_add(back.found.len());
         if self.found < gates as usize || back.passed >= back.found.len() {
             return Ok(());
         }
-        let landmark = landmark_at(
-            alloc,
-            readers,
-            sources,
-            levels,
-            gates,
-            back.found[back.passed],
-        )?;
+        let landmark = landmark_at(alloc, links, gates, back.found[back.passed])?;
         self.found = 0;
         self.put(landmark)
     }

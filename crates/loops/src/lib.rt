@@ -11,6 +11,7 @@ mod cuts;
 mod gate_list;
 mod grouped_netlist;
 mod kept;
+mod kept_gates;
 mod landmarks;
 pub mod laws;
 mod levels;

@@ -15,7 +15,7 @@ pub(crate) enum Limit {
 }
 
 /// What a search has found so far on its way from a gate, the goal.
-#[derive(Debug)]
+#[derive(Debug, Drop)]
 pub(crate) struct Search {
     /// For each gate one more than the goal of the last search that found it, or 0.
     pub marks: Vec<u32>,
@@ -23,16 +23,6 @@ pub(crate) struct Search {
     pub found: Vec<u32>,
     /// How many of these were passed, with all gates to which they lead.
     pub passed: usize,
-}
-
-impl Drop for Search {
-    fn drop(self) {
-        let Search {
-            marks: _,
-            found: _,
-            passed: _,
-        } = self;
-    }
 }
 
 fn admits(limit: Limit, level: u64) -> bool

@@ -3,4 +3,4 @@ use Rattle.loops.specs.Landmarks.{AreLandmarks}
 use Rattle.loops.proofs.landmarks.go_on.Given as goal
 
 abbrev pub invariant-loop-landmark : goal.invariant-loop-landmark
-invariant-loop-landmark l = AreLandmarks l.readers (length l.levels) l.landmarks
+invariant-loop-landmark l = AreLandmarks l.links.readers.now (length l.links.levels.now) l.landmarks

@@ -1,0 +1,123 @@
+-- What one search has found is moved past the levels of the other row.
+use Rattle.std.proofs.Common.{◌≡◌, ◌<◌, ◌+◌, ◌-◌, inl, inr, false, ℕ, List, [], length, ap, arith, subst, sym, ◌∙◌, Contains}
+use Rattle.std.proofs.lemmas.List.{get_or_default, with_items_is}
+use Rattle.std.specs.List.{All}
+use Rattle.std.specs.Vec.{with_items}
+use Rattle.loops.specs.declared.cuts.Outcome.{Outcome}
+use Rattle.loops.specs.declared.search.Limit.TheVariants.{AtMost, AtLeast}
+use Rattle.loops.specs.Keeping.{AreNear, HasEnded, HasOutcome, HasParted, IsLowered, IsNear, IsRaised}
+use Rattle.loops.specs.Searching.{row_at}
+use Rattle.loops.proofs.CutLemmas.{high_is_near, low_is_near, rows_as}
+use Rattle.loops.proofs.KeptLemmas.{row_within, within_of}
+use Rattle.loops.proofs.cuts.SearchPair.part.Goals as goal
+use Rattle.loops.proofs.cuts.SearchPair.part.Goals.{In-Ahead, In-Behind, In_ok-run}
+
+-- the row that the goal reads
+behind_row : (c : In_ok-run) → c.gates-behind.result.now ≡ row_at c.links-links.result.sources.now c.args.goal
+behind_row c =
+    let wide = ap (λ (xs : List ℕ). length xs) c.links-links.ensures.levels in
+    c.gates-behind.ensures ∙ get_or_default c.links-links.result.sources.now c.args.goal c.index-links-goal.result [] (omega (arith, c.requires.goal, wide, c.links-links.result.sources_size))
+
+-- the row of those that read it
+ahead_row : (c : In_ok-run) → c.gates-ahead.result.now ≡ row_at c.links-links.result.readers.now c.args.goal
+ahead_row c =
+    let wide = ap (λ (xs : List ℕ). length xs) c.links-links.ensures.levels in
+    c.gates-ahead.ensures ∙ get_or_default c.links-links.result.readers.now c.args.goal c.index-links-goal-2.result [] (omega (arith, c.requires.goal, wide, c.links-links.result.readers_size))
+
+high_near : (c : In_ok-run) → IsNear c.args.goal c.highest-high.result
+high_near c =
+    let links = c.links-links.result in
+    let wide = ap (λ (xs : List ℕ). length xs) c.links-links.ensures.levels in
+    high_is_near links.levels.now c.args.goal c.gates-behind.result.now c.highest-high.result _ (subst (λ (xs : List ℕ). AreNear c.args.goal xs) (sym c.links-links.ensures.levels) c.requires.near)
+    (row_within links.sources.now (length links.levels.now) c.args.goal c.gates-behind.result.now c.links-links.result.sources_within (omega (arith, c.requires.goal, wide, c.links-links.result.sources_size)) (behind_row c))
+    (omega (arith, c.from.ensures)) (omega (arith, c.requires.fits)) c.highest-high.ensures.floor c.highest-high.ensures.least
+
+low_near : (c : In_ok-run) → IsNear c.args.goal c.lowest-low.result
+low_near c =
+    let links = c.links-links.result in
+    let wide = ap (λ (xs : List ℕ). length xs) c.links-links.ensures.levels in
+    low_is_near links.levels.now c.args.goal c.gates-ahead.result.now c.lowest-low.result _ (subst (λ (xs : List ℕ). AreNear c.args.goal xs) (sym c.links-links.ensures.levels) c.requires.near)
+    (row_within links.readers.now (length links.levels.now) c.args.goal c.gates-ahead.result.now c.links-links.result.readers_within (omega (arith, c.requires.goal, wide, c.links-links.result.readers_size)) (ahead_row c))
+    (omega (arith, c.from-2.ensures)) (omega (arith, c.requires.fits)) c.lowest-low.ensures.ceiling c.lowest-low.ensures.greatest
+
+ended_ahead : (c : In-Ahead) → HasEnded c.links-links.result.readers.now c.links-links.result.levels.now (AtMost c.highest-high.result) c.args.goal (row_at c.links-links.result.sources.now c.args.goal) c.run.new.self.forth.found.items
+ended_ahead c =
+    subst (λ (o : Outcome). HasOutcome c.links-links.result.readers.now c.links-links.result.sources.now c.links-links.result.levels.now c.highest-high.result c.lowest-low.result c.args.goal c.run.new.self.forth.found.items c.run.new.self.back.found.items o) c.in-Ahead.is c.in_ok-run.ensures.outcome
+
+ended_behind : (c : In-Behind) → HasEnded c.links-links.result.sources.now c.links-links.result.levels.now (AtLeast c.lowest-low.result) c.args.goal (row_at c.links-links.result.readers.now c.args.goal) c.run.new.self.back.found.items
+ended_behind c =
+    subst (λ (o : Outcome). HasOutcome c.links-links.result.readers.now c.links-links.result.sources.now c.links-links.result.levels.now c.highest-high.result c.lowest-low.result c.args.goal c.run.new.self.forth.found.items c.run.new.self.back.found.items o) c.in-Behind.is c.in_ok-run.ensures.outcome
+
+pub overflow_add-high : goal.overflow_add-high
+overflow_add-high c = let near = high_near (goal.at.overflow_add-high c).In_ok-run in let most = near.high in omega (arith, c.requires.fits)
+
+pub overflow_sub-low : goal.overflow_sub-low
+overflow_sub-low c = let near = low_near (goal.at.overflow_sub-low c).In_ok-run in let least = near.low in omega (arith, c.requires.fits)
+
+pub raise-requires : goal.raise-requires
+raise-requires c =
+    let ended = ended_ahead (goal.at.raise-requires c).In-Ahead in
+    let same : c.links-links.result.levels.now ≡ c.deref_mut.result.now = c.links-links.ensures.levels ∙ sym c.deref_mut.ensures.value in
+    subst (λ (levels : List ℕ). All (λ x. x < length levels) c.deref.result.now) same
+    (subst (λ (xs : List ℕ). All (λ x. x < length c.links-links.result.levels.now) xs) (sym c.deref.ensures.value) (within_of c.run.new.self.forth.found.items (length c.links-links.result.levels.now) ended.within))
+
+pub lower-requires : goal.lower-requires
+lower-requires c =
+    let ended = ended_behind (goal.at.lower-requires c).In-Behind in
+    let same : c.links-links.result.levels.now ≡ c.deref_mut-in-Behind.result.now = c.links-links.ensures.levels ∙ sym c.deref_mut-in-Behind.ensures.value in
+    subst (λ (levels : List ℕ). All (λ x. x < length levels) c.deref-in-Behind.result.now) same
+    (subst (λ (xs : List ℕ). All (λ x. x < length c.links-links.result.levels.now) xs) (sym c.deref-in-Behind.ensures.value) (within_of c.run.new.self.back.found.items (length c.links-links.result.levels.now) ended.within))
+
+pub returns-in-Ahead-clause-parted : goal.returns-in-Ahead-clause-parted
+returns-in-Ahead-clause-parted c =
+    let p = (goal.at.returns-in-Ahead-clause-parted c).In_ok-run in
+    let links = c.links-links.result in
+    let same : c.deref_mut.result.now ≡ links.levels.now = c.deref_mut.ensures.value ∙ sym c.links-links.ensures.levels in
+    let raised : IsRaised c.run.new.self.forth.found.items (length c.run.new.self.forth.found.items) (c.highest-high.result + 1) links.levels.now c.raise.new.levels =
+    subst (λ (v : List ℕ). IsRaised c.run.new.self.forth.found.items (length c.run.new.self.forth.found.items) (c.highest-high.result + 1) v c.raise.new.levels) same
+    (subst (λ (xs : List ℕ). IsRaised xs (length xs) (c.highest-high.result + 1) c.deref_mut.result.now c.raise.new.levels) c.deref.ensures.value c.raise.ensures) in
+    let size = raised.size in
+    let wide = ap (λ (xs : List ℕ). length xs) c.links-links.ensures.levels in
+    let written : (with_items c.args.kept.now.levels c.raise.new.levels).items ≡ c.raise.new.levels =
+    with_items_is c.args.kept.now.levels c.raise.new.levels (omega (arith, size, wide, c.args.kept.now.levels.ok.0)) in
+    subst (λ (w : List ℕ). HasParted c.args.kept.now.readers.items c.args.kept.now.sources.items c.args.goal c.args.kept.now.levels.items w false) (sym written)
+    (rows_as links.readers.now links.sources.now links.levels.now c.args.kept.now.readers.items c.args.kept.now.sources.items c.args.kept.now.levels.items
+    (sym c.links-links.ensures.readers) (sym c.links-links.ensures.sources) (sym c.links-links.ensures.levels)
+    (λ r s v. HasParted r s c.args.goal v c.raise.new.levels false)
+    (inl (record {
+      high = c.highest-high.result;
+      found = c.run.new.self.forth.found.items;
+      near = high_near p;
+      above = λ q listed. c.highest-high.ensures.above q (subst (λ (xs : List ℕ). Contains xs q) (sym (behind_row p)) listed);
+      ended = ended_ahead (goal.at.returns-in-Ahead-clause-parted c).In-Ahead;
+      raised = raised;
+    })))
+
+pub returns-in-Behind-clause-parted : goal.returns-in-Behind-clause-parted
+returns-in-Behind-clause-parted c =
+    let p = (goal.at.returns-in-Behind-clause-parted c).In_ok-run in
+    let links = c.links-links.result in
+    let same : c.deref_mut-in-Behind.result.now ≡ links.levels.now = c.deref_mut-in-Behind.ensures.value ∙ sym c.links-links.ensures.levels in
+    let lowered : IsLowered c.run.new.self.back.found.items (length c.run.new.self.back.found.items) (c.lowest-low.result - 1) links.levels.now c.lower.new.levels =
+    subst (λ (v : List ℕ). IsLowered c.run.new.self.back.found.items (length c.run.new.self.back.found.items) (c.lowest-low.result - 1) v c.lower.new.levels) same
+    (subst (λ (xs : List ℕ). IsLowered xs (length xs) (c.lowest-low.result - 1) c.deref_mut-in-Behind.result.now c.lower.new.levels) c.deref-in-Behind.ensures.value c.lower.ensures) in
+    let size = lowered.size in
+    let wide = ap (λ (xs : List ℕ). length xs) c.links-links.ensures.levels in
+    let written : (with_items c.args.kept.now.levels c.lower.new.levels).items ≡ c.lower.new.levels =
+    with_items_is c.args.kept.now.levels c.lower.new.levels (omega (arith, size, wide, c.args.kept.now.levels.ok.0)) in
+    let near = low_near p in
+    let least = near.low in
+    subst (λ (w : List ℕ). HasParted c.args.kept.now.readers.items c.args.kept.now.sources.items c.args.goal c.args.kept.now.levels.items w false) (sym written)
+    (rows_as links.readers.now links.sources.now links.levels.now c.args.kept.now.readers.items c.args.kept.now.sources.items c.args.kept.now.levels.items
+    (sym c.links-links.ensures.readers) (sym c.links-links.ensures.sources) (sym c.links-links.ensures.levels)
+    (λ r s v. HasParted r s c.args.goal v c.lower.new.levels false)
+    (inr (record {
+      low = c.lowest-low.result;
+      most = c.lowest-low.result - 1;
+      found = c.run.new.self.back.found.items;
+      near = near;
+      next = omega (arith, c.requires.fits);
+      below = λ s listed. c.lowest-low.ensures.below s (subst (λ (xs : List ℕ). Contains xs s) (sym (ahead_row p)) listed);
+      ended = ended_behind (goal.at.returns-in-Behind-clause-parted c).In-Behind;
+      lowered = lowered;
+    })))

@@ -1,0 +1,55 @@
+-- Two searches in step meet, or one has found all and none of the other's row.
+use Rattle.std.proofs.Common.{◌≡◌, ℕ, List, subst, sym, arith, Contains}
+use Rattle.loops.specs.declared.search.Limit.TheVariants.{AtMost, AtLeast}
+use Rattle.loops.specs.Searching.{GoesOn, IsMarked, Meets, row_at}
+use Rattle.loops.proofs.KeptLemmas.{row_read}
+use Rattle.loops.proofs.SearchLemmas.{ended_by, goes_by, meets_begun, stays_apart}
+use Rattle.loops.proofs.cuts.SearchPair.run.Goals as goal
+
+pub returns-then-meets-clause-outcome : goal.returns-then-meets-clause-outcome
+returns-then-meets-clause-outcome c =
+    let row : c.gates.result.now ≡ row_at c.args.links.sources.now c.args.goal = row_read c.args.links.sources.now c.args.goal c.gates.result.now c.index-sources-goal.result (omega (arith, c.requires.goal, c.args.links.sources_size)) c.index-sources-goal.is c.gates.ensures in
+    meets_begun c.args.links.readers.now c.args.links.sources.now c.args.links.levels.now (AtMost c.args.high) c.args.goal c.start.new.self c.in_ok-start.ensures.searching
+    (subst (λ (r : List ℕ). Meets c.args.goal r c.start.new.self.marks.items) row
+    (subst (λ (ms : List ℕ). Meets c.args.goal c.gates.result.now ms) c.deref.ensures.value (c.meets.ensures.some c.if-meets.true)))
+
+pub loop-met-init : goal.loop-met-init
+loop-met-init c =
+    let row : c.gates.result.now ≡ row_at c.args.links.sources.now c.args.goal = row_read c.args.links.sources.now c.args.goal c.gates.result.now c.index-sources-goal.result (omega (arith, c.requires.goal, c.args.links.sources_size)) c.index-sources-goal.is c.gates.ensures in
+    let forth = c.in_ok-start.ensures.searching in
+    let apart : (x : ℕ) → Contains (row_at c.args.links.sources.now c.args.goal) x → ¬ IsMarked c.args.goal c.start.new.self.marks.items x =
+    λ x r m.
+    c.meets.ensures.none c.if-meets.false x (subst (λ (xs : List ℕ). Contains xs x) (sym row) r)
+    (subst (λ (ms : List ℕ). IsMarked c.args.goal ms x) (sym c.deref.ensures.value) m) in
+    record {
+      forth = forth;
+      back = c.in_ok-start-2.ensures.searching;
+      ahead = λ x found r. (let reached = forth.reached x found in apart x r reached.marked);
+      behind = λ x found r. apart x (c.in_ok-start-2.ensures.first x found) (forth.begins x r);
+    }
+
+pub returns-else-met-clause-outcome : goal.returns-else-met-clause-outcome
+returns-else-met-clause-outcome c =
+    ended_by c.args.links.readers.now c.args.links.levels.now (AtMost c.args.high) c.args.goal (row_at c.args.links.sources.now c.args.goal) c.deref-in-loop-met.result.now c.loop-met.self.forth c.advance.new.self
+    _ c.in-Some.met c.loop-met.invariant.forth c.in-Some.is c.if-met.false c.in_ok-met.ensures c.loop-met.invariant.ahead
+
+pub returns-else-met-2-clause-outcome : goal.returns-else-met-2-clause-outcome
+returns-else-met-2-clause-outcome c =
+    ended_by c.args.links.sources.now c.args.links.levels.now (AtLeast c.args.low) c.args.goal (row_at c.args.links.readers.now c.args.goal) c.deref-in-loop-met-2.result.now c.loop-met.self.back c.advance-in-loop-met.new.self
+    _ c.in-Some-2.met c.loop-met.invariant.back c.in-Some-2.is c.if-met-2.false c.in_ok-met-2.ensures c.loop-met.invariant.behind
+
+pub loop-met-preserved : goal.loop-met-preserved
+loop-met-preserved c =
+    let i = c.loop-met.invariant in
+    let forth : GoesOn c.args.links.readers.now c.args.links.levels.now (AtMost c.args.high) c.args.goal c.loop-met.self.back.marks.items c.loop-met.self.forth c.advance.new.self =
+    subst (λ (ms : List ℕ). GoesOn c.args.links.readers.now c.args.links.levels.now (AtMost c.args.high) c.args.goal ms c.loop-met.self.forth c.advance.new.self) c.deref-in-loop-met.ensures.value
+    (goes_by c.args.links.readers.now c.args.links.levels.now (AtMost c.args.high) c.args.goal c.deref-in-loop-met.result.now c.loop-met.self.forth c.advance.new.self _ c.in_default.is c.in_ok-met.ensures) in
+    let back : GoesOn c.args.links.sources.now c.args.links.levels.now (AtLeast c.args.low) c.args.goal c.advance.new.self.marks.items c.loop-met.self.back c.advance-in-loop-met.new.self =
+    subst (λ (ms : List ℕ). GoesOn c.args.links.sources.now c.args.links.levels.now (AtLeast c.args.low) c.args.goal ms c.loop-met.self.back c.advance-in-loop-met.new.self) c.deref-in-loop-met-2.ensures.value
+    (goes_by c.args.links.sources.now c.args.links.levels.now (AtLeast c.args.low) c.args.goal c.deref-in-loop-met-2.result.now c.loop-met.self.back c.advance-in-loop-met.new.self _ c.in_default-2.is c.in_ok-met-2.ensures) in
+    record {
+      forth = forth.searching;
+      back = back.searching;
+      ahead = stays_apart c.args.links.readers.now c.args.links.sources.now c.args.links.levels.now (AtMost c.args.high) (AtLeast c.args.low) c.args.goal c.loop-met.self.forth c.advance.new.self c.loop-met.self.back i.back i.ahead forth;
+      behind = stays_apart c.args.links.sources.now c.args.links.readers.now c.args.links.levels.now (AtLeast c.args.low) (AtMost c.args.high) c.args.goal c.loop-met.self.back c.advance-in-loop-met.new.self c.advance.new.self forth.searching i.behind back;
+    }
