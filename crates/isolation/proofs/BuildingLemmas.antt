@@ -240,31 +240,32 @@ place_outside net outside gates s place p =
     let len = length-append outside (map (gate_sig net) gates) in
     record { within = omega (arith, l, len); is = get_or_append_left outside (map (gate_sig net) gates) s place p.within ∙ p.is }
 
-pub place_gate : (net : Parts) (outside : List Sig) (gates : List ℕ) (s : Sig) (first place number : ℕ) → first ≡ first_gate net → first ≤ s.0 → IsPlaceOf gates (s.0 - first) place → number ≡ place + length outside → IsPlaceOf (origins net outside gates) s number
-place_gate net outside gates s first place number is above p at =
+pub place_gate : (net : Parts) (outside : List Sig) (gates : List ℕ) (s : Sig) (gate place number : ℕ) → s ≡ gate_sig net gate → IsPlaceOf gates gate place → number ≡ place + length outside → IsPlaceOf (origins net outside gates) s number
+place_gate net outside gates s gate place number is p at =
     let l = p.within in
     let len = length-append outside (map (gate_sig net) gates) in
     let len2 = length-map gates (gate_sig net) in
     let inside : number < length (origins net outside gates) = omega (arith, l, len, len2, at) in
+    let n = ap (λ (q : Sig). q.0) is in
     record {
       within = inside;
       is = get_or_default (origins net outside gates) number s (signal 0) inside
-          ∙ origin_gate net outside gates place number s p.within (omega (arith, is, above)) (get_or_default gates place 0 (s.0 - first) p.within ∙ p.is ∙ ap (λ (n : ℕ). s.0 - n) is) (omega (arith, at));
+          ∙ origin_gate net outside gates place number s p.within (omega (arith, n)) (get_or_default gates place 0 gate p.within ∙ p.is ∙ omega (arith, n)) (omega (arith, at));
     }
 
 pub origin_place : (net : Parts) (outside : List Sig) (gates : List ℕ) (s : Sig) (number : ℕ) → IsPlaceOf (origins net outside gates) s number → origin (origins net outside gates) (signal number) ≡ s
 origin_place net outside gates s number p = get_or_default (origins net outside gates) number (signal 0) s p.within ∙ p.is
 
 -- a gate is where its signal is
-pub gate_there : (net : Parts) (gates : List ℕ) (s : Sig) (first : ℕ) → first ≡ first_gate net → Contains (map (gate_sig net) gates) s → (first ≤ s.0) × Contains gates (s.0 - first)
-gate_there net gates s first is c =
+pub gate_there : (net : Parts) (gates : List ℕ) (s : Sig) → Contains (map (gate_sig net) gates) s → (first_gate net ≤ s.0) × Contains gates (s.0 - first_gate net)
+gate_there net gates s c =
     let l = c.1 in
     let len = length-map gates (gate_sig net) in
     let low : c.0 < length gates = omega (arith, l, len) in
     let at : gate_sig net (get_or gates c.0 0) ≡ s = sym (get_or-map (gate_sig net) gates c.0 0 s low) ∙ c.2 in
     let n = ap (λ (r : Sig). r.0) at in (
-      omega (arith, n, is),
-      (c.0, low, get_or_default gates c.0 (s.0 - first) 0 low ∙ omega (arith, n, is)),
+      omega (arith, n),
+      (c.0, low, get_or_default gates c.0 (s.0 - first_gate net) 0 low ∙ omega (arith, n)),
     )
 
 -- the numbers of more pins

@@ -1,6 +1,7 @@
 -- Marks while gates are marked from the last block to the first.
-use Rattle.std.proofs.Common.{◌≡◌, inl, inr, ◌⊎◌, ◌↔◌, ℕ, zero, suc, ◌+◌, ◌-◌, ◌<◌, ◌≤◌, Bool, true, false, List, [], ◌∷◌, length, get_or, replicate, refl, sym, ap, ◌∙◌, subst, arith, Contains, true≢false}
+use Rattle.std.proofs.Common.{◌≡◌, inl, inr, ◌⊎◌, ◌↔◌, ℕ, zero, suc, ◌+◌, ◌-◌, ◌<◌, ◌≤◌, Bool, true, false, List, [], ◌∷◌, length, get_or, replicate, Option, Some, None, refl, sym, ap, ◌∙◌, subst, arith, Contains, true≢false}
 use Rattle.std.proofs.Math.ListN.{set}
+use Rattle.std.specs.Prelude.{IfNone}
 use Rattle.isolation.proofs.Common.{cases_lt, cases_eq, get_or_default, list_any, Sig, Parts, IsNetlist, no_gate, gate_at, gate_sig, Feeds, Blocks, AreBlocksOf, block_at, home_of, first_gate, gate_home, home_gate, gate_in, IsUpstream, AddMarks, IsNearOne, AreMarkedFrom}
 use Rattle.std.proofs.lemmas.List.{get_or-replicate, get_or-set_same, get_or-set_other, get_or_past, length-replicate, length-set}
 use Rattle.loops.proofs.Walks.{leads-step}
@@ -77,15 +78,16 @@ module _ (net : Parts) (valid : IsNetlist net) (gate : ℕ) (less : gate < lengt
           record { source = omega (arith, b, n); reader = less; pin = (k, here, e) }
 
 -- a signal that no gate drives, and one that a gate does
-pub driver-none : (net : Parts) (s : Sig) (marks : List Bool) (first : ℕ) → first ≡ first_gate net → s.0 < first → AddMarks (λ m. s ≡ gate_sig net m) marks marks
-driver-none net s marks first is low = add-none (λ m. s ≡ gate_sig net m) marks (λ m e. let n = ap (λ (q : Sig). q.0) e in omega (arith, is, n, low))
+pub driver-none : (net : Parts) (s : Sig) (marks : List Bool) (driver : Option ℕ) → ((gate : ℕ) → ¬ (driver ≡ Some gate)) → IfNone driver (s.0 < first_gate net) → AddMarks (λ m. s ≡ gate_sig net m) marks marks
+driver-none net s marks None none low = add-none (λ m. s ≡ gate_sig net m) marks (λ m e. let n = ap (λ (q : Sig). q.0) e in omega (arith, n, low))
+driver-none net s marks (Some gate) none low = absurd (none gate refl)
 
-pub driver-marked : (net : Parts) (s : Sig) (marks : List Bool) (first : ℕ) → first ≡ first_gate net → first ≤ s.0 → s.0 - first < length marks → AddMarks (λ m. s ≡ gate_sig net m) marks (set marks (s.0 - first) true)
-driver-marked net s marks first is high inside =
-    add-same (λ m. m ≡ s.0 - first) (λ m. s ≡ gate_sig net m) marks (set marks (s.0 - first) true)
-    (λ m e. ap (λ (n : ℕ). let r : Sig = record { 0 = n } in r) (omega (arith, is, high, e)))
-    (λ m e. let n = ap (λ (q : Sig). q.0) e in omega (arith, is, n, high))
-    (add-one marks (s.0 - first) inside)
+pub driver-marked : (net : Parts) (s : Sig) (marks : List Bool) (gate : ℕ) → s ≡ gate_sig net gate → gate < length marks → AddMarks (λ m. s ≡ gate_sig net m) marks (set marks gate true)
+driver-marked net s marks gate is inside =
+    add-same (λ m. m ≡ gate) (λ m. s ≡ gate_sig net m) marks (set marks gate true)
+    (λ m e. is ∙ ap (gate_sig net) (sym e))
+    (λ m e. let n = ap (λ (q : Sig). q.0) (sym is ∙ e) in omega (arith, n))
+    (add-one marks gate inside)
 
 -- all pins
 pub pins-marked : (net : Parts) (gate k : ℕ) (pins : List Sig) (old new : List Bool) → pins ≡ (gate_at net gate).pins → length pins ≤ k → AddMarks (IsOnPin net k gate) old new → AddMarks (λ m. Feeds net m gate) old new

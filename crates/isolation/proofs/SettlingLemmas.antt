@@ -86,8 +86,8 @@ module _ (net : Parts) (blocks : Blocks) (cut : Cut) (are : AreBlocksOf net bloc
       ])
 
 -- a netlist that is solved stays so
-abbrev pub solved-later : {s t : Arena} {blocks : Blocks} {solved : Solved} → SolutionsStay → RootsStay s t → IsSolvedNetlist s blocks solved → IsSolvedNetlist t blocks solved
-solved-later {s} {t} {blocks} {solved} stays roots is = record {
+abbrev pub solved-stays : {s t : Arena} {blocks : Blocks} {solved : Solved} → SolutionsStay → RootsStay s t → IsSolvedNetlist s blocks solved → IsSolvedNetlist t blocks solved
+solved-stays {s} {t} {blocks} {solved} stays roots is = record {
   net = is.net;
   cut = is.cut;
   points = is.points;

@@ -19,9 +19,8 @@ pub fn mark_driver(net: &Netlist, signal: Sig, marks: &mut [bool])
     requires width { length marks.old ≡ length net.now.gates }
     ensures { AddMarks (λ m. signal ≡ gate_sig net.now m) marks.old marks.new }
 {
-    let first = net.inputs() + net.latches();
-    if signal.0 >= first {
-        marks[(signal.0 - first) as usize] = true;
+    if let Some(gate) = net.driver(signal) {
+        marks[gate as usize] = true;
     }
 }
 

@@ -22,7 +22,7 @@ pub fn gates_at<'a>(looped: &LoopedNetlist<'a>, place: usize) -> &'a [u32]
     ensures within { All (λ n. n < length looped.now.net.gates) result.now }
     ensures valid { IsNetlist looped.now.net }
 {
-    let _ = looped.net().gates();
+    looped.net().laws();
     looped.blocks().list.items()[place].gates.items()
 }
 
@@ -33,9 +33,10 @@ fn is_inside(looped: &LoopedNetlist<'_>, place: u32, signal: Sig) -> bool
     ensures outside { result ≡ false → ¬ Contains (map (sig_of looped.now.net) (block_at looped.now.blocks place).gates) signal }
     ensures inside { result ≡ true → Contains (map (sig_of looped.now.net) (block_at looped.now.blocks place).gates) signal }
 {
-    let net = looped.net();
-    let first = net.inputs() + net.latches();
-    signal.0 >= first && looped.blocks().home.items()[(signal.0 - first) as usize] == place
+    match looped.net().driver(signal) {
+        Some(gate) => looped.blocks().home.items()[gate as usize] == place,
+        None => false,
+    }
 }
 
 /// Adds the wires outside of a block among these, which its gates read.
@@ -97,19 +98,18 @@ fn place_among(gates: &[u32], gate: u32) -> Option<usize>
 
 /// The place of a gate's signal behind the wires outside.
 fn place_inside(net: &Netlist, gates: &[u32], outside: &IndexSet<Sig>, signal: Sig) -> Option<usize>
+    requires { IsSignal net.now signal }
     ensures place { IfSome result (IsPlaceOf (origins net.now outside.now.keys gates.now) signal) }
     ensures some { Rise gates.now → Contains (map (sig_of net.now) gates.now) signal → IsSome result }
 {
-    let first = net.inputs() + net.latches();
-    if signal.0 < first {
-        return None;
-    }
-    let place = place_among(gates, signal.0 - first)?;
+    let gate = net.driver(signal)?;
+    let place = place_among(gates, gate)?;
     Some(place + outside.len())
 }
 
 /// The place of a signal among the wires outside and then the gates.
 fn place_of(net: &Netlist, gates: &[u32], outside: &IndexSet<Sig>, signal: Sig) -> Option<usize>
+    requires { IsSignal net.now signal }
     ensures place { IfSome result (IsPlaceOf (origins net.now outside.now.keys gates.now) signal) }
     ensures some { Rise gates.now → IsAmong net.now gates.now outside.now.keys signal → IsSome result }
 {
@@ -121,6 +121,7 @@ fn place_of(net: &Netlist, gates: &[u32], outside: &IndexSet<Sig>, signal: Sig) 
 
 /// The number in the small netlist of a signal: a wire outside, or one of the gates.
 fn number_of(net: &Netlist, gates: &[u32], outside: &IndexSet<Sig>, signal: Sig) -> Option<Sig>
+    requires { IsSignal net.now signal }
     ensures number { IfSome result (λ s. IsPlaceOf (origins net.now outside.now.keys gates.now) signal s.0) }
     ensures some { AreNumerable gates.now outside.now.keys → IsAmong net.now gates.now outside.now.keys signal → IsSome result }
 {
@@ -139,6 +140,7 @@ fn numbers_of(
     outside: &IndexSet<Sig>,
     pins: &[Sig],
 ) -> Result<Option<Vec<Sig>>, AllocError>
+    requires { All (IsSignal net.now) pins.now }
     ensures numbers { IfOk result (λ found. IfSome found (λ numbers. AreNumbersOf (origins net.now outside.now.keys gates.now) pins.now numbers.items)) }
     ensures some { AreNumerable gates.now outside.now.keys → All (IsAmong net.now gates.now outside.now.keys) pins.now → IfOk result IsSome }
 {

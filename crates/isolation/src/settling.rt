@@ -153,7 +153,7 @@ fn settle_on(
 {
     let net = looped.net();
     let blocks = looped.blocks();
-    let _ = net.gates();
+    net.laws();
     let given = kept_columns(alloc, d, net)?;
     let solved = solve(alloc, d, net, blocks, looped.cut(), given)?;
     settled_sweeps(alloc, d, blocks, &solved)
@@ -171,8 +171,7 @@ fn settle_with(
     ensures unknown { IfOk result (λ found. IfNone found (HasUnknown looped.now.net)) }
     ensures full { result ≡ Err StoreFault.Full → IsBelowEnough looped.now.net budget }
 {
-    let net = looped.net();
-    let mut d = Diagrams::new(alloc, net.inputs() + net.latches(), budget)?;
+    let mut d = Diagrams::new(alloc, looped.net().columns(), budget)?;
     settle_on(alloc, &mut d, looped)
 }
 

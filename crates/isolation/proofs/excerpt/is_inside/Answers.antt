@@ -1,39 +1,30 @@
-use Rattle.std.proofs.Common.{◌≡◌, ◌≤◌, ◌∙◌, ◌+◌, ◌-◌, ℕ, List, ap, sym, arith, get_or, true≢false}
-use Rattle.isolation.proofs.Common.{eq-eqb, eqb-true, Blocks, home_of, first_gate}
-use Rattle.std.proofs.lemmas.Bool.{leb-true}
+use Rattle.std.proofs.Common.{◌≡◌, ◌≤◌, ◌-◌, ◌∙◌, ℕ, List, ap, sym, arith, get_or, true≢false}
+use Rattle.isolation.proofs.Common.{eq-eqb, eqb-true, Sig, Blocks, home_of, first_gate}
 use Rattle.isolation.proofs.BuildingLemmas.{inside_block, block_inside}
 use Rattle.isolation.proofs.excerpt.is_inside.Goals as goal
 
-pub returns-then-signal-first : goal.returns-then-signal-first
-returns-then-signal-first c =
+pub returns-in-Some : goal.returns-in-Some
+returns-in-Some c =
     let looped = c.args.looped.now in
-    let are = c.blocks-then-signal-first.ensures.looped.blocks in
-    let n = c.inputs.ensures.inputs in
-    let l = c.latches.ensures.latches in
-    let own = ap first_gate c.net-net.ensures.net in
-    let first : c.inputs.result + c.latches.result ≡ first_gate looped.net = omega (arith, n, l, own) in
-    let homes : c.items.result.now ≡ looped.blocks.home = c.items.ensures ∙ ap (λ (blocks : Blocks). blocks.home) c.blocks-then-signal-first.ensures.blocks in
-    let at : get_or c.items.result.now (c.args.signal.0 - (c.inputs.result + c.latches.result)) 0 ≡ home_of looped.blocks (c.args.signal.0 - first_gate looped.net) =
-    ap (λ (xs : List ℕ). get_or xs (c.args.signal.0 - (c.inputs.result + c.latches.result)) 0) homes ∙ ap (home_of looped.blocks) (omega (arith, first)) in
+    let are = c.net.ensures.looped.blocks in
+    let own = ap first_gate c.net.ensures.net in
+    let driven = ap (λ (s : Sig). s.0) c.in-Some.ensures.driven.1 in
+    let gate : c.in-Some.gate ≡ c.args.signal.0 - first_gate looped.net = omega (arith, own, driven) in
+    let above : first_gate looped.net ≤ c.args.signal.0 = omega (arith, own, driven) in
+    let at : get_or c.items.result.now c.in-Some.gate 0 ≡ home_of looped.blocks (c.args.signal.0 - first_gate looped.net) =
+    ap (λ (xs : List ℕ). get_or xs c.in-Some.gate 0) (c.items.ensures ∙ ap (λ (blocks : Blocks). blocks.home) c.blocks-in-Some.ensures.blocks) ∙ ap (home_of looped.blocks) gate in
     record {
-      outside = λ e has.
-          let i = inside_block looped.net looped.blocks are c.args.place c.args.signal c.requires.place has in
-          true≢false (sym (eq-eqb _ _ (at ∙ i.1)) ∙ e);
-      inside = λ e.
-          let above : first_gate looped.net ≤ c.args.signal.0 = omega (arith, first, c.if-signal-first.true) in
-          block_inside looped.net looped.blocks are c.args.place c.args.signal c.requires.signal above (sym at ∙ eqb-true _ _ e);
+      outside = λ e has. true≢false (sym (eq-eqb _ _ (at ∙ (inside_block looped.net looped.blocks are c.args.place c.args.signal c.requires.place has).1)) ∙ e);
+      inside = λ e. block_inside looped.net looped.blocks are c.args.place c.args.signal c.requires.signal above (sym at ∙ eqb-true _ _ e);
     }
 
-pub returns-else-signal-first : goal.returns-else-signal-first
-returns-else-signal-first c = record {
-  outside = λ e has.
-      let looped = c.args.looped.now in
-      let i = inside_block looped.net looped.blocks c.net-net.ensures.looped.blocks c.args.place c.args.signal c.requires.place has in
-      let n = c.inputs.ensures.inputs in
-      let l = c.latches.ensures.latches in
-      let own = ap first_gate c.net-net.ensures.net in
-      let low = c.if-signal-first.false in
-      let high = i.0 in
-      omega (arith, n, l, own, low, high);
-  inside = λ e. (let h = leb-true _ _ e in let low = c.if-signal-first.false in absurd (omega (arith, h, low)));
-}
+pub returns-in-None : goal.returns-in-None
+returns-in-None c =
+    let looped = c.args.looped.now in
+    record {
+      outside = λ e has.
+          let above = (inside_block looped.net looped.blocks c.net.ensures.looped.blocks c.args.place c.args.signal c.requires.place has).0 in
+          let own = ap first_gate c.net.ensures.net in
+          omega (arith, own, above, c.in-None.ensures.given);
+      inside = λ e. absurd (true≢false (sym e));
+    }

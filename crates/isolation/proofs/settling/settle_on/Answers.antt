@@ -23,7 +23,7 @@ abbrev solved : (c : After-solved-2-1) → IsSolvedNetlist c.solve.new.d c.block
 solved c =
     let before : After-solve = (goal.at.After-solved-2-1 c).After-solve in
     let is = are-looped before in
-    solved-is c.net-net.result.now c.blocks-blocks.result.now c.cut.result.now c.kept_columns.new.d c.solve.new.d c.in_ok-given.given.items c.in_ok-solved.solved c.gates.ensures.valid
+    solved-is c.net-net.result.now c.blocks-blocks.result.now c.cut.result.now c.kept_columns.new.d c.solve.new.d c.in_ok-given.given.items c.in_ok-solved.solved c.laws.ensures.valid
     (subst (λ (net : Parts). 0 < length net.gates) (sym c.net-net.ensures.net) c.requires.some) is.blocks is.cut
     (c.kept_columns.ensures.vars ∙ vars-are before) c.in_ok-solved.ensures.roots.vars c.in_ok-given.ensures.columns c.in_ok-solved.ensures.solution
 
