@@ -2,13 +2,13 @@
 
 ghost use Rattle.std.specs.Prelude.{◌≡◌, ◌<◌, ◌≤◌, ◌+◌, ◌++◌, ℕ, suc, nat_lt, length, map, filter, replicate, All, IfOk, OnOk};
 ghost use Rattle.std.specs.List.{range_with_len};
-ghost use Rattle.loops.specs.Sweeps.{first_gate as first_gate_of};
+ghost use Rattle.loops.specs.Sweeps.{first_gate};
 ghost use Rattle.unroll.specs.Plans.{loops_in, net_of, sweeps_in};
 ghost use Rattle.unroll.specs.Unrolled.{copies_of, copies, constants, copy_gate as copy_gate_of};
 ghost use Rattle.unroll.specs.Tables.{copy_gate_by, entered, AreLastCopies};
 
 use crate::gates::copy_gate;
-use crate::pins::{Tables, first_gate};
+use crate::pins::Tables;
 use crate::plan::Plan;
 use netlist::{Gate, Netlist};
 use std::alloc::{AllocError, Global};
@@ -87,13 +87,13 @@ fn add_round(
     requires earlier { length tables.old.earlier.items ≡ length (net_of plan.now).gates }
     requires current { length tables.old.current.items ≡ length (net_of plan.now).gates }
     requires active { All (λ n. n < length (net_of plan.now).gates) active.now }
-    requires fits { first_gate_of (net_of plan.now) + length gates.old.items + length active.now ≤ 4294967295 }
-    ensures earlier { OnOk result (tables.new.earlier.items ≡ entered tables.old.earlier.items active.now (first_gate_of (net_of plan.now) + length gates.old.items)) }
-    ensures current { OnOk result (tables.new.current.items ≡ entered tables.old.current.items active.now (first_gate_of (net_of plan.now) + length gates.old.items)) }
-    ensures gates { OnOk result (gates.new.items ≡ gates.old.items ++ map (copy_gate_by (net_of plan.now) (loops_in plan.now) plan.now.mark plan.now.by tables.old.earlier.items (entered tables.old.current.items active.now (first_gate_of (net_of plan.now) + length gates.old.items)) number) active.now) }
+    requires fits { first_gate (net_of plan.now) + length gates.old.items + length active.now ≤ 4294967295 }
+    ensures earlier { OnOk result (tables.new.earlier.items ≡ entered tables.old.earlier.items active.now (first_gate (net_of plan.now) + length gates.old.items)) }
+    ensures current { OnOk result (tables.new.current.items ≡ entered tables.old.current.items active.now (first_gate (net_of plan.now) + length gates.old.items)) }
+    ensures gates { OnOk result (gates.new.items ≡ gates.old.items ++ map (copy_gate_by (net_of plan.now) (loops_in plan.now) plan.now.mark plan.now.by tables.old.earlier.items (entered tables.old.current.items active.now (first_gate (net_of plan.now) + length gates.old.items)) number) active.now) }
     ensures widths { OnOk result ((length tables.new.earlier.items ≡ length (net_of plan.now).gates) × (length tables.new.current.items ≡ length (net_of plan.now).gates)) }
 {
-    let first = first_gate(plan.looped.net()) + gates.len() as u32;
+    let first = plan.looped.net().columns() + gates.len() as u32;
     enter(&mut tables.current, active, first);
     add_gates(alloc, plan, tables, number, active, gates)?;
     enter(&mut tables.earlier, active, first);
@@ -110,10 +110,10 @@ fn copied_gates(alloc: Global, plan: &Plan<'_>) -> Result<Vec<u32>, AllocError>
 
 /// Tables in which each gate has the signal of the constant.
 fn first_tables(alloc: Global, net: &Netlist) -> Result<Tables, AllocError>
-    ensures earlier { IfOk result (λ tables. tables.earlier.items ≡ replicate (length net.now.gates) (first_gate_of net.now)) }
-    ensures current { IfOk result (λ tables. tables.current.items ≡ replicate (length net.now.gates) (first_gate_of net.now)) }
+    ensures earlier { IfOk result (λ tables. tables.earlier.items ≡ replicate (length net.now.gates) (first_gate net.now)) }
+    ensures current { IfOk result (λ tables. tables.current.items ≡ replicate (length net.now.gates) (first_gate net.now)) }
 {
-    let constant = first_gate(net);
+    let constant = net.columns();
     let width = net.gates() as usize;
     Ok(Tables {
         earlier: vec![in alloc; constant; width]?,
@@ -130,8 +130,8 @@ fn add_rounds(
     gates: &mut Vec<Gate>,
 ) -> Result<(), AllocError>
     requires gates { gates.old.items ≡ constants (net_of plan.now) (loops_in plan.now) }
-    requires earlier { tables.old.earlier.items ≡ replicate (length (net_of plan.now).gates) (first_gate_of (net_of plan.now)) }
-    requires current { tables.old.current.items ≡ replicate (length (net_of plan.now).gates) (first_gate_of (net_of plan.now)) }
+    requires earlier { tables.old.earlier.items ≡ replicate (length (net_of plan.now).gates) (first_gate (net_of plan.now)) }
+    requires current { tables.old.current.items ≡ replicate (length (net_of plan.now).gates) (first_gate (net_of plan.now)) }
     ensures gates { OnOk result (gates.new.items ≡ constants (net_of plan.now) (loops_in plan.now)
         ++ map (copy_gate_of (net_of plan.now) (loops_in plan.now) (sweeps_in plan.now)) (copies (net_of plan.now) (loops_in plan.now) (sweeps_in plan.now))) }
     ensures last { OnOk result (AreLastCopies (net_of plan.now) (loops_in plan.now) (sweeps_in plan.now) tables.new.earlier.items) }

@@ -3,7 +3,7 @@
 ghost use Rattle.std.specs.Prelude.{◌≡◌, ◌<◌, ◌≤◌, ◌+◌, Some, None, if◌then◌else◌, length, map, IfSome, IfOk};
 ghost use Rattle.netlist.specs.Netlists.{gate_at, IsNetlist, IsSignal};
 ghost use Rattle.loops.specs.Found.{loops_of};
-ghost use Rattle.loops.specs.Sweeps.{first_gate as first_gate_of, gate_of, in_loop_of};
+ghost use Rattle.loops.specs.Sweeps.{gate_of, in_loop_of};
 ghost use Rattle.loops.specs.Looped.{IsLooped};
 ghost use Rattle.unroll.specs.Plans.{loops_in, net_of};
 ghost use Rattle.unroll.specs.Unrolled.{moved as moved_by};
@@ -24,23 +24,15 @@ pub(crate) struct Tables {
     pub(crate) current: Vec<u32>,
 }
 
-/// The number of the first gate's signal.
-pub(crate) fn first_gate(net: &Netlist) -> u32
-    ensures first { result ≡ first_gate_of net.now }
-    ensures valid { IsNetlist net.now }
-{
-    net.inputs() + net.latches()
-}
-
 /// A signal of the netlist, where gates are moved up by so many.
 pub(crate) fn moved(net: &Netlist, by: u32, signal: Sig) -> Sig
     requires { signal.0 + by ≤ 4294967295 }
     ensures { result ≡ moved_by net.now by signal }
 {
-    if signal.0 >= first_gate(net) {
-        Sig(signal.0 + by)
-    } else {
+    if signal.0 < net.columns() {
         signal
+    } else {
+        Sig(signal.0 + by)
     }
 }
 
@@ -54,11 +46,7 @@ pub fn source_in_loop(looped: &LoopedNetlist<'_>, gate: u32, pin: Sig) -> Option
     ensures within { IfSome result (λ source. source < length looped.now.net.gates) }
     ensures looped { IsLooped looped.now }
 {
-    let first = first_gate(looped.net());
-    if pin.0 < first {
-        return None;
-    }
-    let source = pin.0 - first;
+    let source = looped.net().driver(pin)?;
     looped.are_in_one_loop(gate, source).then_some(source)
 }
 
