@@ -1,7 +1,7 @@
 -- Setting the gates of a loop that read something new.
 use Rattle.std.proofs.Common.{◌≡◌, ◌≢◌, ◌⊎◌, inl, inr, ℕ, zero, suc, ◌+◌, ◌-◌, ◌*◌, ◌<◌, ◌≤◌, ◌==◌, Bool, true, false, ◌&&◌, leb, if◌then◌else◌, List, [], ◌∷◌, ◌++◌, length, drop, map, get_or, set, replicate, None, refl, sym, ap, ap₂, subst, ◌∙◌, arith, Contains, append-nil, true≢false}
 use Rattle.std.proofs.Math.Nat.{mul-le-mul_right}
-use Rattle.clause_decision.proofs.Common.{and_parts, length-set, Contains-append_left, Contains-push, Contains-push_cases, Sig, Trit, Zero, One, X, Below, gate_at, gate_sig, wire, home_of, is_cut, first_gate, gate_of, value_in, map_agree, IsSweeping, AreUnseen, IsReady, LoopAt, gates_in, AreReaders}
+use Rattle.clause_decision.proofs.Common.{and_parts, length-set, Contains-append_left, Contains-push, Contains-push_cases, Sig, Trit, Zero, One, X, Below, gate_at, gate_sig, wire, home_of, is_cut, first_gate, gate_of, value_in, map_agree, IsSweeping, AreUnseen, IsReady, LoopAt, IsLoopAt, gates_in, AreReaders}
 use Rattle.std.proofs.lemmas.Bool.{cases_eq, leb-true}
 use Rattle.std.proofs.lemmas.List.{drop_more, get_or-set_same, get_or-set_other, length-append, length-replicate}
 use Rattle.std.proofs.lemmas.List.Elements.{Contains-append_cases, Contains-append_right}
@@ -10,6 +10,7 @@ use Rattle.cyc_base.proofs.OrderLemmas.{Below-refl, Below-trans}
 use Rattle.cover_logic.specs.Extensions.{ext}
 use Rattle.netlist.proofs.FixpointLemmas.{known_count, known_count-le, same_or_more}
 use Rattle.loops.proofs.Sweeps.{ext_below}
+use Rattle.clause_decision.proofs.LoopLemmas.{gate-fits}
 use Rattle.clause_decision.specs.Events.{cover_value, IsDetermined, IsNewValue}
 use Rattle.clause_decision.specs.Simulations.{seen_of}
 
@@ -434,3 +435,15 @@ work_left-cut readers values g rest value low unknown known =
 pub work_left-kept : (most : ℕ) (values : List Trit) (g : ℕ) (rest : List ℕ) → work_left most values rest < work_left most values (rest ++ g ∷ [])
 unfolding work_left
 work_left-kept most values g rest = omega (arith, length-append rest (g ∷ []))
+
+-- ---- a gate that was taken from those that wait
+
+module _ (l : LoopAt) (outside before after : List Trit) (waiting rest : List ℕ) (g : ℕ) (taken : waiting ≡ rest ++ g ∷ []) (h : IsSweeping l outside before after waiting) where
+  pub taken-last : IsSweeping l outside before after (rest ++ g ∷ [])
+  taken-last = subst (λ (ns : List ℕ). IsSweeping l outside before after ns) taken h
+
+  taken-inside : Contains (gates_in l) g
+  taken-inside = waiting-inside l outside before after rest g taken-last
+
+  pub taken-fits : IsLoopAt l → g < length l.net.gates
+  taken-fits is = gate-fits l is g taken-inside

@@ -85,7 +85,7 @@ pub(crate) fn care_formula(
     ensures { IfOk result (λ f. IsCareFormula net.now care.now f.formula f.columns.items f.inside f.allowed) }
 {
     let mut formula = Formula::first(alloc)?;
-    let columns = add_columns(alloc, &mut formula, net.inputs() + net.latches())?;
+    let columns = add_columns(alloc, &mut formula, net.columns())?;
     let (inside, allowed) = say_care(alloc, &mut formula, net, care, &columns)?;
     Ok(CareFormula {
         formula,

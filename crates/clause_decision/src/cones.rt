@@ -45,7 +45,7 @@ impl Cone {
         requires { length self.now.rails.items ≡ count net.now }
         ensures { IfOk result (λ vector. vector.items ≡ vector_in_rails net.now self.now.rails.items model.now) }
     {
-        let width = (net.inputs() + net.latches()) as usize;
+        let width = net.columns() as usize;
         self.rails[..width]
             .iter()
             .map(|r| value_of(model, r.one))
@@ -78,7 +78,7 @@ fn add_gates(
     requires said { IsCareFormula net.now care.now said.old.formula said.old.columns.items said.old.inside said.old.allowed }
     ensures { IfOk result (λ rails. IsCone net.now care.now scope.now.gates said.new.formula rails.items said.new.inside said.new.allowed) }
 {
-    let _ = net.gates();
+    net.laws();
     add_netlist(
         alloc,
         &mut said.formula,

@@ -66,7 +66,7 @@ fn leaving_question(
     ensures { IfOk result (IsQuestionOf (columns_of net.now) (is_leaving net.now care.now)) }
 {
     let mut cone = cone_of(alloc, net, care, scope)?;
-    let width = (net.inputs() + net.latches()) as usize;
+    let width = net.columns() as usize;
     let columns = ones(alloc, &cone.rails[..width])?;
     let loads = loads_of(alloc, net, &cone.rails, care.invariant_columns())?;
     let stays = add_model(alloc, &mut cone.formula, invariant, &loads)?;

@@ -68,7 +68,7 @@ impl<'a> LoopedBlock<'a> {
         requires looped { (block_at looped.now.blocks number).looped ≡ true }
         ensures { IfOk result (λ block. block ≡ loop_at looped.now number block.cuts) }
     {
-        let _ = looped.net().gates();
+        looped.net().laws();
         let gates = gates_of(looped.blocks(), number);
         let cuts = cut_places(alloc, gates, looped.cut().wires.items())?;
         Ok(LoopedBlock {
@@ -139,15 +139,10 @@ impl<'a> LoopedBlock<'a> {
         ensures source { result ≡ source_of self.now signal }
         ensures fits { IfSome result (λ gate. gate < length self.now.net.gates) }
     {
-        let first = self.net().inputs() + self.net().latches();
-        if signal.0 < first {
-            return None;
+        match self.net().driver(signal) {
+            Some(gate) if self.contains(gate) => Some(gate),
+            _ => None,
         }
-        let gate = signal.0 - first;
-        if !self.contains(gate) {
-            return None;
-        }
-        Some(gate)
     }
 
     /// Whether a gate is a cut wire.

@@ -36,19 +36,15 @@ fn seen(simulation: &Simulation<'_>, before: &[Trit], after: &[Trit], pin: Sig) 
     requires after { length after.now ≡ length simulation.now.block.now.net.gates }
     ensures { result ≡ seen_of simulation.now.block.now simulation.now.outside.now before.now after.now pin }
 {
-    let net = simulation.block.net();
-    let first = net.inputs() + net.latches();
-    if pin.0 < first {
-        return simulation.outside[pin.0 as usize];
-    }
-    let gate = pin.0 - first;
-    if !simulation.block.contains(gate) {
-        return simulation.outside[pin.0 as usize];
-    }
-    if simulation.block.is_cut(gate) {
-        before[gate as usize]
-    } else {
-        after[gate as usize]
+    match simulation.block.source(pin) {
+        None => simulation.outside[pin.0 as usize],
+        Some(gate) => {
+            if simulation.block.is_cut(gate) {
+                before[gate as usize]
+            } else {
+                after[gate as usize]
+            }
+        }
     }
 }
 

@@ -200,7 +200,7 @@ fn unknown_question(
     ensures { IfOk result (IsQuestionOf (columns net.now) (is_unknown_at net.now care.now gate)) }
 {
     let cone = cone_of(alloc, net, care, scope)?;
-    let width = (net.inputs() + net.latches()) as usize;
+    let width = net.columns() as usize;
     let columns = ones(alloc, &cone.rails[..width])?;
     let unknown = unknown_of(net, &cone.rails, gate);
     let assumed = vec![in alloc; cone.inside, cone.allowed, unknown]?;

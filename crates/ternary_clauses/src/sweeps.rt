@@ -94,11 +94,9 @@ impl<'a> LoopCopy<'a> {
         ensures within { (v : ℕ) → IsCopyWithin v self.now → AreWithin v result }
     {
         let outside = self.rails[pin.0 as usize];
-        let first = self.net.inputs() + self.net.latches();
-        if pin.0 < first {
+        let Some(gate) = self.net.driver(pin) else {
             return outside;
-        }
-        let gate = pin.0 - first;
+        };
         match place_of(self.gates, gate) {
             None => outside,
             Some(place) => {

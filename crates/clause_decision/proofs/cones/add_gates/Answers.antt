@@ -5,7 +5,7 @@ use Rattle.clause_decision.proofs.cones.add_gates.Goals as goal
 
 pub add_netlist-requires-clause-closed : goal.add_netlist-requires-clause-closed
 add_netlist-requires-clause-closed c =
-    subst (IsClosed c.args.net.now) (sym c.items.ensures) (closed-by_pins c.args.net.now c.args.scope.now.gates c.gates.ensures.valid c.requires.scope.closed)
+    subst (IsClosed c.args.net.now) (sym c.items.ensures) (closed-by_pins c.args.net.now c.args.scope.now.gates c.laws.ensures.valid c.requires.scope.closed)
 
 pub returns : goal.returns
 returns c =
@@ -13,7 +13,7 @@ returns c =
     let said = c.args.said.now in
     IfOk-weaker c.add_netlist.result _ _ (λ rails says_it.
     cone-of net c.args.care.now c.args.scope.now.gates said.formula c.add_netlist.new.formula said.columns.items rails.items said.inside said.allowed
-    c.requires.said (closed-by_pins net c.args.scope.now.gates c.gates.ensures.valid c.requires.scope.closed)
+    c.requires.said (closed-by_pins net c.args.scope.now.gates c.laws.ensures.valid c.requires.scope.closed)
     (subst (λ (marks : List Bool). SaysNetlist net marks said.columns.items said.formula c.add_netlist.new.formula rails.items) c.items.ensures
     (subst (λ (given : List Rails). SaysNetlist net c.items.result.now given said.formula c.add_netlist.new.formula rails.items) c.deref.ensures.value says_it)))
     c.add_netlist.ensures

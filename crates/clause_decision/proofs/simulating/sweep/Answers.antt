@@ -2,38 +2,26 @@ use Rattle.std.proofs.Common.{◌≡◌, ◌∙◌, ◌<◌, ◌++◌, ◌∷◌
 use Rattle.clause_decision.proofs.Common.{get_or_default, Trit, is_cut, AreUnseen, IsSweeping, LoopAt, gates_in}
 use Rattle.std.specs.List.{Contains}
 use Rattle.clause_decision.specs.Events.{IsDetermined, IsNewValue}
-use Rattle.clause_decision.proofs.EventLemmas.{cut-differs, cut-set, cut-unseen, gate-kept, total, uncut-differs, uncut-set, uncut-unseen, waiting-inside, work_left, work_left-cut, work_left-kept, work_left-uncut}
+use Rattle.clause_decision.proofs.EventLemmas.{cut-differs, cut-set, cut-unseen, gate-kept, taken-fits, taken-last, total, uncut-differs, uncut-set, uncut-unseen, waiting-inside, work_left, work_left-cut, work_left-kept, work_left-uncut}
 use Rattle.clause_decision.proofs.LoopLemmas.{gate-fits}
 use Rattle.clause_decision.proofs.simulating.sweep.Goals as goal
 
 pub new_value-requires-clause-gate : goal.new_value-requires-clause-gate
 new_value-requires-clause-gate c =
-    let l : LoopAt = c.args.simulation.now.block.now in
-    let sweeping : IsSweeping l c.args.simulation.now.outside.now c.args.before.now c.loop-gate.after (c.pop.new.self.items ++ c.in-Some.gate ∷ []) =
-    subst (λ (ns : List ℕ). IsSweeping l c.args.simulation.now.outside.now c.args.before.now c.loop-gate.after ns) c.in-Some.ensures.items c.loop-gate.invariant.sweeping in
-    gate-fits l c.requires.block c.in-Some.gate (waiting-inside l c.args.simulation.now.outside.now c.args.before.now c.loop-gate.after c.pop.new.self.items c.in-Some.gate sweeping)
+    taken-fits c.args.simulation.now.block.now c.args.simulation.now.outside.now c.args.before.now c.loop-gate.after c.loop-gate.waiting.items c.pop.new.self.items c.in-Some.gate c.in-Some.ensures.items c.loop-gate.invariant.sweeping c.requires.block
 
 pub bounds-after-gate : goal.bounds-after-gate
 bounds-after-gate c =
-    let l : LoopAt = c.args.simulation.now.block.now in
-    let sweeping : IsSweeping l c.args.simulation.now.outside.now c.args.before.now c.loop-gate.after (c.pop.new.self.items ++ c.in-Some.gate ∷ []) =
-    subst (λ (ns : List ℕ). IsSweeping l c.args.simulation.now.outside.now c.args.before.now c.loop-gate.after ns) c.in-Some.ensures.items c.loop-gate.invariant.sweeping in
-    let fits = gate-fits l c.requires.block c.in-Some.gate (waiting-inside l c.args.simulation.now.outside.now c.args.before.now c.loop-gate.after c.pop.new.self.items c.in-Some.gate sweeping) in
-    omega (arith, fits, sweeping.width_after)
+    let fits = taken-fits c.args.simulation.now.block.now c.args.simulation.now.outside.now c.args.before.now c.loop-gate.after c.loop-gate.waiting.items c.pop.new.self.items c.in-Some.gate c.in-Some.ensures.items c.loop-gate.invariant.sweeping c.requires.block in
+    omega (arith, fits, c.loop-gate.invariant.sweeping.width_after)
 
 pub is_cut-requires : goal.is_cut-requires
 is_cut-requires c =
-    let l : LoopAt = c.args.simulation.now.block.now in
-    let sweeping : IsSweeping l c.args.simulation.now.outside.now c.args.before.now c.loop-gate.after (c.pop.new.self.items ++ c.in-Some.gate ∷ []) =
-    subst (λ (ns : List ℕ). IsSweeping l c.args.simulation.now.outside.now c.args.before.now c.loop-gate.after ns) c.in-Some.ensures.items c.loop-gate.invariant.sweeping in
-    gate-fits l c.requires.block c.in-Some.gate (waiting-inside l c.args.simulation.now.outside.now c.args.before.now c.loop-gate.after c.pop.new.self.items c.in-Some.gate sweeping)
+    taken-fits c.args.simulation.now.block.now c.args.simulation.now.outside.now c.args.before.now c.loop-gate.after c.loop-gate.waiting.items c.pop.new.self.items c.in-Some.gate c.in-Some.ensures.items c.loop-gate.invariant.sweeping c.requires.block
 
 pub bounds-simulation-gate : goal.bounds-simulation-gate
 bounds-simulation-gate c =
-    let l : LoopAt = c.args.simulation.now.block.now in
-    let sweeping : IsSweeping l c.args.simulation.now.outside.now c.args.before.now c.loop-gate.after (c.pop.new.self.items ++ c.in-Some.gate ∷ []) =
-    subst (λ (ns : List ℕ). IsSweeping l c.args.simulation.now.outside.now c.args.before.now c.loop-gate.after ns) c.in-Some.ensures.items c.loop-gate.invariant.sweeping in
-    let fits = gate-fits l c.requires.block c.in-Some.gate (waiting-inside l c.args.simulation.now.outside.now c.args.before.now c.loop-gate.after c.pop.new.self.items c.in-Some.gate sweeping) in
+    let fits = taken-fits c.args.simulation.now.block.now c.args.simulation.now.outside.now c.args.before.now c.loop-gate.after c.loop-gate.waiting.items c.pop.new.self.items c.in-Some.gate c.in-Some.ensures.items c.loop-gate.invariant.sweeping c.requires.block in
     omega (arith, fits, c.requires.readers.size)
 
 pub loop-gate-smaller-in-Continue-branch-3 : goal.loop-gate-smaller-in-Continue-branch-3
@@ -43,9 +31,8 @@ loop-gate-smaller-in-Continue-branch-3 c =
     let rest : List ℕ = c.pop.new.self.items in
     let g : ℕ = c.in-Some.gate in
     let value : Trit = c.in-Some-2.value in
-    let sweeping : IsSweeping l c.args.simulation.now.outside.now c.args.before.now after (rest ++ g ∷ []) = subst (λ (ns : List ℕ). IsSweeping l c.args.simulation.now.outside.now c.args.before.now after ns) c.in-Some.ensures.items c.loop-gate.invariant.sweeping in
-    let fits = gate-fits l c.requires.block g (waiting-inside l c.args.simulation.now.outside.now c.args.before.now after rest g sweeping) in
-    let low : g < length after = omega (arith, fits, sweeping.width_after) in
+    let fits = taken-fits l c.args.simulation.now.outside.now c.args.before.now after c.loop-gate.waiting.items rest g c.in-Some.ensures.items c.loop-gate.invariant.sweeping c.requires.block in
+    let low : g < length after = omega (arith, fits, c.loop-gate.invariant.sweeping.width_after) in
     let is : IsDetermined l c.args.simulation.now.outside.now c.args.before.now after g value = subst (IsNewValue l c.args.simulation.now.outside.now c.args.before.now after g) c.in-Some-2.is c.in_ok-value.ensures in
     subst (λ (ns : List ℕ). work_left (total c.args.simulation.now.readers.now) (set after g value) rest < work_left (total c.args.simulation.now.readers.now) after ns) (sym c.in-Some.ensures.items)
     (work_left-cut c.args.simulation.now.readers.now after g rest value low is.unknown is.known)
@@ -59,7 +46,7 @@ loop-gate-preserved-in-Continue-branch-3 c =
     let g : ℕ = c.in-Some.gate in
     let value : Trit = c.in-Some-2.value in
     let wires : List ℕ = c.loop-gate.changed.items in
-    let sweeping : IsSweeping l c.args.simulation.now.outside.now before after (rest ++ g ∷ []) = subst (λ (ns : List ℕ). IsSweeping l c.args.simulation.now.outside.now before after ns) c.in-Some.ensures.items c.loop-gate.invariant.sweeping in
+    let sweeping = taken-last l c.args.simulation.now.outside.now before after c.loop-gate.waiting.items rest g c.in-Some.ensures.items c.loop-gate.invariant.sweeping in
     let inside : Contains (gates_in l) g = waiting-inside l c.args.simulation.now.outside.now before after rest g sweeping in
     let fits = gate-fits l c.requires.block g inside in
     let low : g < length after = omega (arith, fits, sweeping.width_after) in
@@ -78,9 +65,8 @@ loop-gate-smaller-in-Continue-branch-4 c =
     let rest : List ℕ = c.pop.new.self.items in
     let g : ℕ = c.in-Some.gate in
     let value : Trit = c.in-Some-2.value in
-    let sweeping : IsSweeping l c.args.simulation.now.outside.now c.args.before.now after (rest ++ g ∷ []) = subst (λ (ns : List ℕ). IsSweeping l c.args.simulation.now.outside.now c.args.before.now after ns) c.in-Some.ensures.items c.loop-gate.invariant.sweeping in
-    let fits = gate-fits l c.requires.block g (waiting-inside l c.args.simulation.now.outside.now c.args.before.now after rest g sweeping) in
-    let low : g < length after = omega (arith, fits, sweeping.width_after) in
+    let fits = taken-fits l c.args.simulation.now.outside.now c.args.before.now after c.loop-gate.waiting.items rest g c.in-Some.ensures.items c.loop-gate.invariant.sweeping c.requires.block in
+    let low : g < length after = omega (arith, fits, c.loop-gate.invariant.sweeping.width_after) in
     let is : IsDetermined l c.args.simulation.now.outside.now c.args.before.now after g value = subst (IsNewValue l c.args.simulation.now.outside.now c.args.before.now after g) c.in-Some-2.is c.in_ok-value.ensures in
     let listed : g < length c.args.simulation.now.readers.now = omega (arith, fits, c.requires.readers.size) in
     let more : c.extend_from_slice.new.self.items ≡ rest ++ get_or c.args.simulation.now.readers.now g [] =
@@ -98,7 +84,7 @@ loop-gate-preserved-in-Continue-branch-4 c =
     let g : ℕ = c.in-Some.gate in
     let value : Trit = c.in-Some-2.value in
     let wires : List ℕ = c.loop-gate.changed.items in
-    let sweeping : IsSweeping l c.args.simulation.now.outside.now before after (rest ++ g ∷ []) = subst (λ (ns : List ℕ). IsSweeping l c.args.simulation.now.outside.now before after ns) c.in-Some.ensures.items c.loop-gate.invariant.sweeping in
+    let sweeping = taken-last l c.args.simulation.now.outside.now before after c.loop-gate.waiting.items rest g c.in-Some.ensures.items c.loop-gate.invariant.sweeping in
     let fits = gate-fits l c.requires.block g (waiting-inside l c.args.simulation.now.outside.now before after rest g sweeping) in
     let low : g < length after = omega (arith, fits, sweeping.width_after) in
     let is : IsDetermined l c.args.simulation.now.outside.now before after g value = subst (IsNewValue l c.args.simulation.now.outside.now before after g) c.in-Some-2.is c.in_ok-value.ensures in
@@ -125,7 +111,7 @@ loop-gate-preserved c =
     record {
       sweeping =
           gate-kept l c.args.simulation.now.outside.now c.args.before.now c.loop-gate.after c.pop.new.self.items c.in-Some.gate
-          (subst (λ (ns : List ℕ). IsSweeping l c.args.simulation.now.outside.now c.args.before.now c.loop-gate.after ns) c.in-Some.ensures.items c.loop-gate.invariant.sweeping)
+          (taken-last l c.args.simulation.now.outside.now c.args.before.now c.loop-gate.after c.loop-gate.waiting.items c.pop.new.self.items c.in-Some.gate c.in-Some.ensures.items c.loop-gate.invariant.sweeping)
           (subst (IsNewValue l c.args.simulation.now.outside.now c.args.before.now c.loop-gate.after c.in-Some.gate) c.in_default-2.is c.in_ok-value.ensures);
       unseen = c.loop-gate.invariant.unseen;
       differs = c.loop-gate.invariant.differs;
