@@ -1,5 +1,5 @@
 -- The core that a refutation leaves, and what a step shows of one that came before.
-use Rattle.std.proofs.Common.{◌≡◌, ◌<◌, ◌≤◌, ◌∙◌, List, length, get_or, map, Ok, Err, Some, Option, subst, arith}
+use Rattle.std.proofs.Common.{◌≡◌, ℕ, ◌<◌, ◌≤◌, ◌∙◌, List, length, get_or, map, Ok, Err, Some, Option, subst, arith}
 use Rattle.std.specs.Prelude.{Result, IfOk, IfSome}
 use Rattle.std.specs.List.{All, Contains}
 use Rattle.std.proofs.Math.ListN.{get_or-map}
@@ -7,7 +7,7 @@ use Rattle.std.proofs.lemmas.List.{length-map, get_or_default}
 use Rattle.std.proofs.lemmas.List.Elements.{All-map}
 use Rattle.sat.specs.declared.lit.Lit.{Lit}
 use Rattle.sat.specs.Cnf.{negated}
-use Rattle.sat.specs.declared.values.Truth.{Truth}
+use Rattle.sat.specs.declared.engine.Engine.{Engine}
 use Rattle.sat.specs.declared.steps.Verdict.{Verdict}
 use Rattle.sat.specs.declared.steps.Verdict.TheVariants.{Refuted}
 use Rattle.sat.specs.declared.steps.Step.{Step}
@@ -29,18 +29,22 @@ core_of formula assumptions clause refutes = record {
 }
 
 -- what was found is that the assumptions are refuted
-pub refutes_of : (formula : List (List Lit)) (assumptions : List Lit) (values : List Truth) (clause : List Lit) (found : Option Verdict) (verdict : Verdict) →
-    IfSome found (IsVerdict formula assumptions values clause) → found ≡ Some verdict → verdict ≡ Refuted → Refutes formula assumptions clause
-refutes_of formula assumptions values clause found verdict shown is refuted =
-    let here : IsVerdict formula assumptions values clause verdict = subst (λ (o : Option Verdict). IfSome o (IsVerdict formula assumptions values clause)) is shown in
-    subst (λ (v : Verdict). IsVerdict formula assumptions values clause v) refuted here
+pub refutes_of : (formula : List (List Lit)) (assumptions : List Lit) (engine : Engine) (found : Option Verdict) (verdict : Verdict) →
+    IfSome found (IsVerdict formula assumptions engine) → found ≡ Some verdict → verdict ≡ Refuted → Refutes formula assumptions engine.working.lits.items
+refutes_of formula assumptions engine found verdict shown is refuted =
+    let here : IsVerdict formula assumptions engine verdict = subst (λ (o : Option Verdict). IfSome o (IsVerdict formula assumptions engine)) is shown in
+    subst (λ (v : Verdict). IsVerdict formula assumptions engine v) refuted here
 
-module _ (formula database : List (List Lit)) (assumptions : List Lit) (before mid values : List Truth) (clause : List Lit) (fewer : open_count mid ≤ open_count before) where
-  shows_since : (step : Step) → Shows formula database assumptions mid values clause step → Shows formula database assumptions before values clause step
+-- how many variables the search has open
+abbrev pub open_in : Engine → ℕ
+open_in engine = open_count engine.search.trail.values.items
+
+module _ (formula : List (List Lit)) (assumptions : List Lit) (before mid after : Engine) (fewer : open_in mid ≤ open_in before) where
+  shows_since : (step : Step) → Shows formula assumptions mid after step → Shows formula assumptions before after step
   shows_since Decided shown = omega (arith, shown, fewer)
   shows_since Conflict shown = shown
   shows_since (Found verdict) shown = shown
 
-  pub shows_from : {E : Type 0} (result : Result Step E) → IfOk result (Shows formula database assumptions mid values clause) → IfOk result (Shows formula database assumptions before values clause)
+  pub shows_from : {E : Type 0} (result : Result Step E) → IfOk result (Shows formula assumptions mid after) → IfOk result (Shows formula assumptions before after)
   shows_from {E} (Ok step) shown = shows_since step shown
   shows_from {E} (Err e) shown = shown

@@ -1,17 +1,16 @@
-ghost use Rattle.std.specs.Prelude.{IfOk};
+ghost use Rattle.std.specs.Prelude.{◌≡◌, IfOk};
 ghost use Rattle.std.specs.List.{All};
 ghost use Rattle.sat.specs.Cnf.{Entails, Extends};
 ghost use Rattle.sat.specs.Answers.{IsOutcome};
 
 use crate::clauses::Clauses;
+use crate::engine::Engine;
 use crate::lit::Lit;
 use crate::merits::GIVEN;
 use crate::reduction::reduce;
-use crate::search::{Search, back_to, load_clause, reload};
-use crate::steps::{Verdict, to_conflict};
+use crate::search::{back_to, load_clause, reload};
+use crate::steps::Verdict;
 use crate::trail::NONE;
-use crate::working::Working;
-use crate::{search, working};
 use std::alloc::{AllocError, Global};
 use std::mem;
 
@@ -74,81 +73,11 @@ fn raise(pace: &mut Pace) {
     pace.limit = pace.limit.saturating_add(pace.limit / 10);
 }
 
-/// Begins again at level 0 where that is due, maybe with fewer learned clauses.
-fn restart(
-    alloc: Global,
-    database: &mut Clauses,
-    search: &mut Search,
-    pace: &mut Pace,
-) -> Result<(), AllocError>
-    ensures { Extends database.old database.new }
-{
-    raise(pace);
-    let is_full = search.merits.passing > pace.limit;
-    if is_due(pace) || is_full {
-        back_to(search, 0);
-    }
-    if is_full {
-        reduce(alloc, database, search)?;
-    }
-    Ok(())
-}
-
 /// What a call found, and after how many conflicts. Without a verdict it met as many as were allowed.
 #[derive(Clone, Copy)]
 pub(crate) struct Outcome {
     pub(crate) verdict: Option<Verdict>,
     pub(crate) conflicts: u64,
-}
-
-/// Goes on from conflict to conflict, up to a verdict or to so many conflicts.
-fn run(
-    alloc: Global,
-    formula: &Clauses,
-    database: &mut Clauses,
-    search: &mut Search,
-    working: &mut Working,
-    assumptions: &[Lit],
-    conflicts: u64,
-) -> Result<Outcome, AllocError>
-    requires follows { All (Entails formula.now) database.old }
-    ensures follows { All (Entails formula.now) database.new }
-    ensures found { IfOk result (IsOutcome formula.now assumptions.now search.new.trail.values.items working.new.lits.items conflicts) }
-{
-    let mut pace = Pace::new(formula.len() as usize);
-    let mut met = 0;
-    while met < conflicts {
-        let verdict = to_conflict(formula, database, search, working, assumptions)?;
-        if verdict.is_some() {
-            return Ok(Outcome {
-                verdict,
-                conflicts: met,
-            });
-        }
-        met += 1;
-        restart(alloc, database, search, &mut pace)?;
-    }
-    Ok(Outcome {
-        verdict: None,
-        conflicts: met,
-    })
-}
-
-/// Puts the clauses of the formula that the search doesn't know yet into the database.
-fn load(formula: &Clauses, database: &mut Clauses, search: &mut Search) -> Result<(), AllocError>
-    requires { All (Entails formula.now) database.old }
-    ensures { All (Entails formula.now) database.new }
-{
-    for number in search.loaded..formula.len() {
-        if database.len() == NONE {
-            return Err(AllocError);
-        }
-        let clause = formula.clause(number);
-        database.push(clause)?;
-        search.loaded = number + 1;
-        load_clause(search, clause, database.len() - 1, GIVEN)?;
-    }
-    Ok(())
 }
 
 /// How many variables there are up to the last one of these literals.
@@ -157,58 +86,111 @@ fn variables_of(lits: &[Lit]) -> usize {
         .fold(0, |most, lit| most.max(lit.variable() as usize + 1))
 }
 
-/// Adds the variables of which only the assumptions speak.
-fn add_variables(
-    alloc: Global,
-    search: &mut Search,
-    working: &mut Working,
-    assumptions: &[Lit],
-) -> Result<(), AllocError> {
-    let variables = variables_of(assumptions);
-    if variables > search.trail.values.as_slice().len() {
-        search::widen(alloc, search, variables)?;
-        working::widen(working, variables)?;
+impl Engine {
+    /// Begins again at level 0 where that is due, maybe with fewer learned clauses.
+    fn restart(&mut self, alloc: Global, pace: &mut Pace) -> Result<(), AllocError>
+        ensures { Extends self.old.database self.new.database }
+    {
+        raise(pace);
+        let is_full = self.search.merits.passing > pace.limit;
+        if is_due(pace) || is_full {
+            back_to(&mut self.search, 0);
+        }
+        if is_full {
+            reduce(alloc, &mut self.database, &mut self.search)?;
+        }
+        Ok(())
     }
-    Ok(())
-}
 
-/// Makes the search ready for a call. What one that ran out of memory has left is made anew.
-fn begin(alloc: Global, database: &Clauses, search: &mut Search) -> Result<(), AllocError> {
-    if search.is_underway {
-        let merits = mem::replace(&mut search.merits.merits, Vec::new(alloc));
-        return reload(database, search, &merits);
+    /// Goes on from conflict to conflict, up to a verdict or to so many conflicts.
+    fn run(
+        &mut self,
+        alloc: Global,
+        formula: &Clauses,
+        assumptions: &[Lit],
+        conflicts: u64,
+    ) -> Result<Outcome, AllocError>
+        requires follows { All (Entails formula.now) self.old.database }
+        ensures follows { All (Entails formula.now) self.new.database }
+        ensures found { IfOk result (IsOutcome formula.now assumptions.now self.new conflicts) }
+    {
+        let mut pace = Pace::new(formula.len() as usize);
+        let mut met = 0;
+        while met < conflicts {
+            let verdict = self.to_conflict(formula, assumptions)?;
+            if verdict.is_some() {
+                return Ok(Outcome {
+                    verdict,
+                    conflicts: met,
+                });
+            }
+            met += 1;
+            self.restart(alloc, &mut pace)?;
+        }
+        Ok(Outcome {
+            verdict: None,
+            conflicts: met,
+        })
     }
-    search.is_underway = true;
-    back_to(search, 0);
-    Ok(())
-}
 
-/// Looks for a model of the formula in which the assumptions hold.
-pub(crate) fn look(
-    alloc: Global,
-    formula: &Clauses,
-    database: &mut Clauses,
-    search: &mut Search,
-    working: &mut Working,
-    assumptions: &[Lit],
-    conflicts: u64,
-) -> Result<Outcome, AllocError>
-    requires follows { All (Entails formula.now) database.old }
-    ensures follows { All (Entails formula.now) database.new }
-    ensures found { IfOk result (IsOutcome formula.now assumptions.now search.new.trail.values.items working.new.lits.items conflicts) }
-{
-    begin(alloc, database, search)?;
-    add_variables(alloc, search, working, assumptions)?;
-    load(formula, database, search)?;
-    let found = run(
-        alloc,
-        formula,
-        database,
-        search,
-        working,
-        assumptions,
-        conflicts,
-    )?;
-    search.is_underway = false;
-    Ok(found)
+    /// Puts the clauses of the formula that the search doesn't know yet into the database.
+    fn load(&mut self, formula: &Clauses) -> Result<(), AllocError>
+        requires { All (Entails formula.now) self.old.database }
+        ensures { All (Entails formula.now) self.new.database }
+    {
+        for number in self.search.loaded..formula.len() {
+            if self.database.len() == NONE {
+                return Err(AllocError);
+            }
+            let clause = formula.clause(number);
+            self.database.push(clause)?;
+            self.search.loaded = number + 1;
+            load_clause(&mut self.search, clause, self.database.len() - 1, GIVEN)?;
+        }
+        Ok(())
+    }
+
+    /// Adds the variables of which only the assumptions speak.
+    fn add_variables(&mut self, alloc: Global, assumptions: &[Lit]) -> Result<(), AllocError>
+        ensures { self.new.database ≡ self.old.database }
+    {
+        let variables = variables_of(assumptions);
+        if variables > self.search.trail.values.as_slice().len() {
+            self.widen(alloc, variables)?;
+        }
+        Ok(())
+    }
+
+    /// Makes the search ready for a call. What one that ran out of memory has left is made anew.
+    fn begin(&mut self, alloc: Global) -> Result<(), AllocError>
+        ensures { self.new.database ≡ self.old.database }
+    {
+        if self.search.is_underway {
+            let merits = mem::replace(&mut self.search.merits.merits, Vec::new(alloc));
+            return reload(&self.database, &mut self.search, &merits);
+        }
+        self.search.is_underway = true;
+        back_to(&mut self.search, 0);
+        Ok(())
+    }
+
+    /// Looks for a model of the formula in which the assumptions hold.
+    pub(crate) fn look(
+        &mut self,
+        alloc: Global,
+        formula: &Clauses,
+        assumptions: &[Lit],
+        conflicts: u64,
+    ) -> Result<Outcome, AllocError>
+        requires follows { All (Entails formula.now) self.old.database }
+        ensures follows { All (Entails formula.now) self.new.database }
+        ensures found { IfOk result (IsOutcome formula.now assumptions.now self.new conflicts) }
+    {
+        self.begin(alloc)?;
+        self.add_variables(alloc, assumptions)?;
+        self.load(formula)?;
+        let found = self.run(alloc, formula, assumptions, conflicts)?;
+        self.search.is_underway = false;
+        Ok(found)
+    }
 }
