@@ -1,3 +1,6 @@
+//! What looks for a model between the calls of a solver: its functions stand beside what they do, in `steps` and
+//! `rounds`.
+
 ghost use Rattle.std.specs.Prelude.{◌≡◌, []};
 
 use crate::clauses::Clauses;
