@@ -7,10 +7,12 @@ use Rattle.std.proofs.lemmas.List.{length-append, length-map}
 use Rattle.cyc_base.specs.Values.{bit, bits}
 use Rattle.netlist.specs.Fixpoint.{fix, fix_gates}
 use Rattle.loops.proofs.Sweeps.{length-fix}
-use Rattle.std.specs.Prelude.{if◌then◌else◌, slice_index, ◌||◌}
+use Rattle.std.specs.Prelude.{if◌then◌else◌, slice_index, slice_index_or, ◌||◌}
+use Rattle.std.proofs.lemmas.Bool.{le-leb, lt-leb}
 use Rattle.std.proofs.Math.Path.{fun_ext}
 use Rattle.cyc_base.specs.declared.sig.Sig.{Sig}
 use Rattle.cyc_base.specs.declared.trit.Trit.{Trit}
+use Rattle.cyc_base.specs.declared.trit.Trit.TheVariants.{X}
 use Rattle.netlist.specs.declared.parts.Parts.{Parts}
 use Rattle.netlist.specs.Netlists.{count, gate_sig}
 use Rattle.loops.specs.Cuts.{Loops}
@@ -18,10 +20,10 @@ use Rattle.explanations.specs.declared.explanation.Explanation.{Explanation}
 use Rattle.isolation.specs.Cones.{is_marked}
 use Rattle.loops.specs.Found.{loops_of}
 use Rattle.loops.specs.Listed.{gate_numbers}
-use Rattle.loops.specs.Sweeps.{gate_of, in_loop_of}
+use Rattle.loops.specs.Sweeps.{first_gate, gate_of, in_loop_of}
 use Rattle.unroll.proofs.PinLemmas.{some_if, none_if}
 use Rattle.dot_text.specs.Dot.{wire}
-use Rattle.dot_text.specs.ExplanationGraphs.{Picture, picture_of}
+use Rattle.dot_text.specs.ExplanationGraphs.{Picture, gate_wire, needed_wire, picture_of, pin_wire}
 use Rattle.dot_text.specs.Marks.{AreMarksOf}
 use Rattle.dot_text.specs.LoopGraphs.{loop_wire, wire_style}
 
@@ -67,3 +69,16 @@ values_fit net v width =
     let gates = length-fix net (loops_of net) (bits v) in
     let columns = length-map v bit in
     omega (arith, all, gates, columns, width)
+
+-- what a pin of gate n reads is drawn as the wire of the gate that drives it, or of its column
+module _ (p : Picture) (n : ℕ) (pin : Sig) where
+  abbrev drawn_by : Bool → ℕ → List ℕ
+  drawn_by driven gate = if driven then gate_wire p n gate else needed_wire pin.0 p.net n (slice_index_or p.needs pin.0 X)
+
+  pub driven_drawn : (source : ℕ) → pin ≡ gate_sig p.net source → pin_wire p n pin ≡ gate_wire p n source
+  driven_drawn source is =
+      let number : pin.0 ≡ first_gate p.net + source = ap (λ (s : Sig). s.0) is in
+      ap₂ drawn_by (le-leb (first_gate p.net) pin.0 (omega (arith, number))) (omega (arith, number))
+
+  pub column_drawn : pin.0 < first_gate p.net → pin_wire p n pin ≡ needed_wire pin.0 p.net n (slice_index_or p.needs pin.0 X)
+  column_drawn given = ap (λ (driven : Bool). drawn_by driven (gate_of p.net pin)) (lt-leb (first_gate p.net) pin.0 given)

@@ -1,8 +1,8 @@
 //! What is drawn of an explanation.
 
-ghost use Rattle.std.specs.Prelude.{◌≡◌, ◌≤◌, ◌<◌, ◌+◌, ◌||◌, ℕ, false, All, Contains, IfOk, filter, length};
+ghost use Rattle.std.specs.Prelude.{◌≡◌, ◌≤◌, ◌<◌, ◌+◌, ◌||◌, ℕ, false, All, IfOk, filter, length};
 ghost use Rattle.cyc_base.specs.Values.{bits};
-ghost use Rattle.isolation.specs.Cones.{AddMarks, is_marked};
+ghost use Rattle.isolation.specs.Cones.{is_marked};
 ghost use Rattle.loops.specs.Found.{loops_of};
 ghost use Rattle.loops.specs.Listed.{gate_numbers};
 ghost use Rattle.netlist.specs.Fixpoint.{fix};
@@ -13,6 +13,7 @@ ghost use Rattle.dot_text.specs.Marks.{AreMarksOf};
 
 use cyc_base::Trit;
 use explanations::Explanation;
+use isolation::mark_all;
 use loops::LoopedNetlist;
 use netlist::Netlist;
 use std::alloc::{AllocError, Global};
@@ -44,29 +45,18 @@ pub(crate) struct Drawing<'a> {
     ghost few: { length needs.now ≤ count looped.now.net },
 }
 
-// Marks these gates.
-#[tactic(auto, using(crate::proofs::MarkLemmas::none_marked, crate::proofs::MarkLemmas::all_marked))]
-fn mark(gates: &[u32], marks: &mut [bool])
-    requires { All (λ gate. gate < length marks.old) gates.now }
-    ensures { AddMarks (Contains gates.now) marks.old marks.new }
-{
-    for gate in gates {
-        marks[*gate as usize] = true;
-    }
-}
-
-// The same where nothing is marked.
+// Marks these gates, where nothing is marked.
 fn mark_alone(net: &Netlist, gates: &[u32], marks: &mut [bool])
     requires gates { All (λ gate. gate < length net.now.gates) gates.now }
     requires width { length marks.old ≡ length net.now.gates }
     requires none { (n : ℕ) → is_marked marks.old n ≡ false }
     ensures { AreMarksOf net.now gates.now marks.new }
 {
-    mark(gates, marks);
+    mark_all(gates, marks);
 }
 
 // A mark for each gate, which says whether it is one of these.
-#[tactic(auto, using(crate::proofs::MarkLemmas::unmarked))]
+#[tactic(auto, using(isolation::proofs::MarkLemmas::unmarked))]
 fn marks_of(alloc: Global, net: &Netlist, gates: &[u32]) -> Result<Vec<bool>, AllocError>
     requires { All (λ gate. gate < length net.now.gates) gates.now }
     ensures { IfOk result (λ marks. AreMarksOf net.now gates.now marks.items) }

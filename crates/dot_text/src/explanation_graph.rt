@@ -150,12 +150,12 @@ fn put_pin<K: Sink>(sink: &mut K, drawing: &Drawing<'_>, gate: u32, pin: Sig) ->
     requires pin { IsSignal drawing.now.looped.now.net pin }
     ensures { IsAppended (pin_wire (picture_seen drawing.now) gate pin) (sink_call K.put K.faults sink.old sink.new) result }
 {
-    let first = drawing.looped.net().inputs() + drawing.looped.net().latches();
-    if pin.0 >= first {
-        put_gate_wire(sink, drawing, gate, pin.0 - first)
-    } else {
-        let value = need(drawing.needs, pin.0);
-        put_needed_wire(sink, pin, drawing.looped.net(), gate, value)
+    match drawing.looped.net().driver(pin) {
+        Some(source) => put_gate_wire(sink, drawing, gate, source),
+        None => {
+            let value = need(drawing.needs, pin.0);
+            put_needed_wire(sink, pin, drawing.looped.net(), gate, value)
+        }
     }
 }
 
