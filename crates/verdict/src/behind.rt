@@ -19,11 +19,10 @@ fn has_marked_driver(net: &Netlist, signal: Sig, marks: &[bool]) -> bool
     requires width { length marks.now ≡ length net.now.gates }
     ensures { (result ≡ true) ↔ HasMarkedDriver net.now marks.now signal }
 {
-    let first = net.inputs() + net.latches();
-    if signal.0 < first {
-        return false;
+    match net.driver(signal) {
+        Some(gate) => marks[gate as usize],
+        None => false,
     }
-    marks[(signal.0 - first) as usize]
 }
 
 /// Whether a gate reads a marked one.

@@ -143,7 +143,7 @@ pub(crate) fn sweeps_beside(
     requires unknown { AreUnknownMarks search.now.net search.now.care unknown.now }
     ensures { IfOk result (λ found. IfSome found (AreSweepsOnCare search.now.net search.now.blocks search.now.cut search.now.care)) }
 {
-    let _ = search.net();
+    search.laws();
     let Some(counts) = counts_beside(alloc, search, unknown)? else {
         return Ok(None);
     };

@@ -92,7 +92,7 @@ fn count(alloc: Global, search: &Search<'_>) -> Result<Standing, AllocError>
     requires known { AreDeterminedOnCare search.now.net search.now.care (IsOpen search.now.net search.now.blocks search.now.settled) }
     ensures { (what : Observe) → IfOk result (StandsAs search.now.net search.now.blocks search.now.cut search.now.care what) }
 {
-    let _ = search.net();
+    search.laws();
     let Some(others) = open_counts(alloc, search)? else {
         return Ok(Standing::Undecided);
     };
@@ -205,7 +205,7 @@ fn step_verdict(
     requires stands { AreStanding search.now.net search.now.blocks search.now.cut search.now.care observe sweeps loose }
     ensures { IfOk result (λ found. IfSome found (IsVerdict search.now.net search.now.blocks search.now.cut search.now.care observe)) }
 {
-    let _ = search.net();
+    search.laws();
     match step_of(alloc, search)? {
         Step::Stays => Ok(Some(Verdict::Accepted { sweeps, loose })),
         Step::Leaves(refusal) => Ok(Some(Verdict::Refused(refusal))),

@@ -163,7 +163,7 @@ fn verdict_by_diagrams(
     ensures { IfOk result (λ found. IfSome found (IsVerdict question.now.net question.now.blocks question.now.cut question.now.care question.now.what)) }
 {
     let net = question.net();
-    let mut d = Diagrams::new(alloc, net.inputs() + net.latches(), limit)?;
+    let mut d = Diagrams::new(alloc, net.columns(), limit)?;
     match judge_from_columns(alloc, &mut d, question) {
         Ok(verdict) => Ok(Some(verdict)),
         Err(StoreFault::Full) => Ok(None),
@@ -251,7 +251,7 @@ pub fn decide(
     let Ok(order) = order(alloc, net) else {
         return Err(DecideFault::Memory);
     };
-    if d.start(net.inputs() + net.latches(), limit).is_err() {
+    if d.start(net.columns(), limit).is_err() {
         return Err(DecideFault::Memory);
     }
     let looped = LoopedNetlist::new(net, blocks, cut);

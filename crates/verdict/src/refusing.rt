@@ -96,15 +96,15 @@ pub(crate) fn gates_on(
     let order = question.order();
     let rails = found.rails.items();
     let observed = observed_gates(alloc, net, question.observe())?;
-    let first = net.inputs() + net.latches();
     let mut loose = 0;
     for gate in 0..net.gates() {
-        let unknown = unknown_on(d, found.set, rails[(first + gate) as usize])?;
+        let wire = net.gate_sig(gate);
+        let unknown = unknown_on(d, found.set, rails[wire.0 as usize])?;
         if observed[gate as usize] {
             if let Some(vector) = least_of(alloc, d, order, unknown)? {
                 return Ok(Gates::Refused(Refusal::Undetermined {
                     vector: Bits::of(vector),
-                    wire: net.gate_sig(gate),
+                    wire,
                 }));
             }
         } else if !is_never(d, unknown) {

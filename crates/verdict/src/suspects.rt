@@ -115,7 +115,7 @@ fn first_refusal(
     requires { length asked.now ≡ length search.now.net.gates }
     ensures { (what : Observe) → AreAsked search.now.net what asked.now → IfOk result (λ found. IfSome found (λ refusal. undetermined_refusal search.now.net search.now.care what ≡ Some refusal)) }
 {
-    let _ = search.net();
+    search.laws();
     let marks = suspects(alloc, search, asked)?;
     let gates = marked_places(alloc, &marks)?;
     match first_of(alloc, search, &gates)? {

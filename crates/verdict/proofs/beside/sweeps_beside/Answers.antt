@@ -11,6 +11,6 @@ returns c =
     let cut = c.args.search.now.cut in
     let care = c.args.search.now.care in
     let n = length c.args.search.now.settled in
-    loop-counts-all net blocks c.net.ensures.is.blocks cut care n (record { per_block = c.of.result }) c.net.ensures.is.width
+    loop-counts-all net blocks c.laws.ensures.is.blocks cut care n (record { per_block = c.of.result }) c.laws.ensures.is.width
     (subst (AreLoopCounts net blocks cut care n) (sym c.of.ensures)
     (subst (λ o. IfSome o (λ counts. AreLoopCounts net blocks cut care n counts.items)) c.in-Some.is c.in_ok-counts.ensures))

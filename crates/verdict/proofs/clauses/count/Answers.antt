@@ -10,13 +10,13 @@ open_counts-requires-clause-some c = some_vector c.args.search.now.net c.args.se
 pub open_counts-requires-clause-known : goal.open_counts-requires-clause-known
 open_counts-requires-clause-known c =
     let s = c.args.search.now in
-    let is = c.net.ensures.is in
+    let is = c.laws.ensures.is in
     open-determine s.net is.net s.blocks is.blocks s.care s.settled is.settled c.requires.known
 
 pub returns : goal.returns
 returns c what =
     let s = c.args.search.now in
-    let is = c.net.ensures.is in
+    let is = c.laws.ensures.is in
     let others : List ℕ = c.in-Some.others.items in
     let counts = c.in_ok-sweeps.sweeps in
     let below : AreCountsBelow s.blocks s.settled others (length s.blocks.list) counts.per_block =

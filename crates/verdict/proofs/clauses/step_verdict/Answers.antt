@@ -5,12 +5,12 @@ use Rattle.verdict.proofs.LooseLemmas.{leaving-refuses, standing-accepts}
 use Rattle.verdict.proofs.clauses.step_verdict.Goals as goal
 
 pub step_of-requires : goal.step_of-requires
-step_of-requires c v counts = sources_determined c.args.search.now.net c.args.search.now.care c.args.observe v c.net.ensures.is.net c.requires.stands.number.none counts
+step_of-requires c v counts = sources_determined c.args.search.now.net c.args.search.now.care c.args.observe v c.laws.ensures.is.net c.requires.stands.number.none counts
 
 pub returns-in-Stays : goal.returns-in-Stays
 returns-in-Stays c =
     let search = c.args.search.now in
-    standing-accepts search.net search.blocks search.cut search.care c.args.observe c.args.sweeps c.args.loose c.net.ensures.is.net c.requires.begins c.requires.stands.number c.requires.stands.sweeps
+    standing-accepts search.net search.blocks search.cut search.care c.args.observe c.args.sweeps c.args.loose c.laws.ensures.is.net c.requires.begins c.requires.stands.number c.requires.stands.sweeps
     (subst (IsStep search.net search.care) c.in-Stays.is c.in_ok-step_of.ensures)
 
 pub returns-in-Leaves : goal.returns-in-Leaves

@@ -12,15 +12,12 @@ gate-inside : (c : After-unknown_on) → c.loop-gate.gate < length c.args.questi
 gate-inside c = let gates = rw c.net-net.ensures.net at c.gates-gate-end.ensures.gates in omega (arith, c.loop-gate-test.true, gates)
 
 -- the gate's place among the signals
-place-is : (c : After-unknown_on) → (c.inputs.result + c.latches.result) + c.loop-gate.gate ≡ columns c.args.question.now.net + c.loop-gate.gate
-place-is c =
-    let inputs = rw c.net-net.ensures.net at c.inputs.ensures.inputs in
-    let latches = rw c.net-net.ensures.net at c.latches.ensures.latches in
-    omega (arith, inputs, latches)
+place-is : (c : After-unknown_on) → c.gate_sig-wire.result.0 ≡ columns c.args.question.now.net + c.loop-gate.gate
+place-is c = ap (λ (s : Sig). s.0) (rw c.net-net.ensures.net at c.gate_sig-wire.ensures.sig)
 
 -- the vectors on which it isn't 1, and those on which it is unknown
 gate-fits : (c : After-unknown_on) (w : ℕ) → IsWide c.args.d.now.vars (IsLaid c.args.question.now.net c.args.question.now.care) w →
-    let r : Rails = rails_at c.items-rails.result.now ((c.inputs.result + c.latches.result) + c.loop-gate.gate) in
+    let r : Rails = rails_at c.items-rails.result.now c.gate_sig-wire.result.0 in
     BoundsBoth c.loop-gate.d.vars (difference c.loop-gate.d c.args.found.now.set r.one) (unknown_in c.loop-gate.d c.args.found.now.set r) w
 gate-fits c w before =
     let net = c.args.question.now.net in
@@ -31,7 +28,7 @@ gate-fits c w before =
     let keeps = c.loop-gate.invariant.grows.keeps in
     let inside = gate-inside c in
     let is = place-is c in
-    let place = (c.inputs.result + c.latches.result) + c.loop-gate.gate in
+    let place = c.gate_sig-wire.result.0 in
     let within : place < count net = omega (arith, inside, is) in
     let vars : d.vars ≡ columns net = keeps.vars ∙ c.requires.vars in
     let fixed : AreFixed net d rails = AreFixed-kept keeps (subst (AreFixed net c.args.d.now) (sym c.items-rails.ensures) c.requires.fixed) in
@@ -77,7 +74,7 @@ least_of-requires-clause-columns c =
     subst (IsLayout c.unknown_on.new.d.vars) (sym c.order-order.ensures) (gate-layout ((goal.at.least_of-requires-clause-columns c).After-unknown_on))
 
 -- the vectors of care on which this gate is unknown
-gate-unknown : (c : After-unknown_on) → (unknown : Node) → ((v : List Bool) → den c.unknown_on.new.d unknown v ≡ unknown_in c.loop-gate.d c.args.found.now.set (rails_at c.items-rails.result.now ((c.inputs.result + c.latches.result) + c.loop-gate.gate)) v) →
+gate-unknown : (c : After-unknown_on) → (unknown : Node) → ((v : List Bool) → den c.unknown_on.new.d unknown v ≡ unknown_in c.loop-gate.d c.args.found.now.set (rails_at c.items-rails.result.now c.gate_sig-wire.result.0) v) →
     find (λ v. den c.unknown_on.new.d unknown (laid c.args.question.now.net v)) (vectors c.unknown_on.new.d.vars)
     ≡ find (λ v. is_care_vector c.args.question.now.net c.args.question.now.care v && is_undetermined c.args.question.now.net (gate_sig c.args.question.now.net c.loop-gate.gate) v) (vectors (columns c.args.question.now.net))
 gate-unknown c unknown is =
@@ -98,7 +95,7 @@ returns-in-Some-clause-gates c =
     let marks : List Bool = c.in_ok-observed.observed.items in
     let unknown : After-unknown_on = (goal.at.returns-in-Some-clause-gates c).After-unknown_on in
     let marked = rw (c.net-net.ensures.net, c.observe.ensures) at c.in_ok-observed.ensures.marks in
-    let sig = rw c.net-net.ensures.net at c.gate_sig.ensures.sig in
+    let sig = rw c.net-net.ensures.net at c.gate_sig-wire.ensures.sig in
     let inside = gate-inside unknown in
     let width = marked.width in
     undetermined-found net q.care q.what marks marked gate c.in-Some.vector.items inside c.loop-gate.invariant.known

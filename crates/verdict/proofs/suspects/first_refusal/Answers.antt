@@ -44,5 +44,5 @@ returns-in-At g what asks =
     let net = g.args.search.now.net in
     g.refusal_of.ensures what
     (subst (IsFirstToRefuse net g.args.search.now.care what) (gate-is c)
-    (first-refuses net g.net.ensures.is.net g.args.search.now.blocks g.net.ensures.is.blocks g.args.search.now.settled g.args.asked.now g.in_ok-marks.marks.items g.net.ensures.is.settled g.in_ok-marks.ensures
+    (first-refuses net g.laws.ensures.is.net g.args.search.now.blocks g.laws.ensures.is.blocks g.args.search.now.settled g.args.asked.now g.in_ok-marks.marks.items g.laws.ensures.is.settled g.in_ok-marks.ensures
     g.args.search.now.care what asks g.deref-2.result.now (listed (goal.at.returns-in-At g).After-deref-2) g.in-At.place (first c)))
