@@ -1,13 +1,13 @@
-pub mod Common
 mod ApartLemmas
 mod BeginningLemmas
-mod BehindLemmas
 pub mod CareLemmas
 mod CauseLemmas
+pub mod Common
 pub mod CountLemmas
 mod DecisionLemmas
 mod DeterminationLemmas
 mod EnoughLemmas
+mod FanoutLemmas
 mod LeavesLemmas
 mod LooseLemmas
 mod MarkLemmas

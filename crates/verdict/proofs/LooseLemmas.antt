@@ -7,7 +7,7 @@ use Rattle.loops.proofs.Told.{blocks_tell_loops}
 use Rattle.isolation.proofs.CountLemmas.{one_sweep_is_exact}
 use Rattle.refusals.specs.Acceptance.{SomeCareVector}
 use Rattle.clause_decision.specs.Tests.{is_unknown, TellEachUnknown}
-use Rattle.verdict.specs.Behind.{AreReached}
+use Rattle.verdict.specs.Fanout.{AreReached}
 use Rattle.verdict.specs.Loose.{AreAllSuspects, AreWithout, IsLooseNumber, IsLoopCount}
 use Rattle.verdict.specs.Verdicts.{AreSweepsOnCare, IsAcceptance}
 use Rattle.verdict.proofs.CountLemmas.{care-values}

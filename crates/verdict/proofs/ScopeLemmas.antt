@@ -16,10 +16,10 @@ not-false : (b : Bool) → not b ≡ true → b ≡ false
 not-false true e = absurd (true≢false (sym e))
 not-false false e = refl
 
--- the gates that are not behind a loop that isn't settled are known at each Boolean vector
-pub never-behind : (net : Parts) → IsNetlist net → (blocks : Blocks) → AreBlocksOf net blocks → (settled suspects known : List Bool) → SettleInOneSweep net blocks settled →
+-- the gates that are not in the fanout of a loop that isn't settled are known at each Boolean vector
+pub never-fed : (net : Parts) → IsNetlist net → (blocks : Blocks) → AreBlocksOf net blocks → (settled suspects known : List Bool) → SettleInOneSweep net blocks settled →
     AreAllSuspects net blocks settled suspects → known ≡ map not suspects → AreNeverUnknown net known
-never-behind net valid blocks are settled suspects known soon all known_is v wide n within marked =
+never-fed net valid blocks are settled suspects known soon all known_is v wide n within marked =
     unsettled_loops_decide net blocks (is_marked settled) valid are (λ b inside loop mark. (soon b inside loop mark).alone) v wide n within
     (λ m less up loop unsettled. absurd (true≢false (
     sym (all.each n within (record { gate = m; opened = record { within = less; looped = loop; unsettled = unsettled }; upstream = up }))

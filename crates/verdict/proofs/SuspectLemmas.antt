@@ -1,6 +1,6 @@
 -- The refusal of the first observed gate that is unknown on care.
 use Rattle.std.proofs.Common.{◌≡◌, inl, inr, ℕ, ◌<◌, ◌≤◌, Bool, true, false, not, ◌&&◌, List, length, map, get_or, Option, Some, None, refl, sym, ap, ap₂, ◌∙◌, subst, arith, Contains, true≢false}
-use Rattle.verdict.proofs.Common.{find, is_some, and_parts, and_from, cases_lt, get_or-map, get_or_default, get_or_past, length-map, vectors, Parts, IsNetlist, gate_sig, Blocks, AreBlocksOf, is_marked, ListsMarked, unsettled_loops_decide, CareSet, columns, is_care_vector, Observe, Undetermined, observed, is_undetermined, is_x, undetermined_refusal, none_passes, gate_wire, care_vector_is, is_unknown_at, AreDownstreamMarks, SettleInOneSweep, AreMarksOf, AreAsked}
+use Rattle.verdict.proofs.Common.{find, is_some, and_parts, and_from, cases_lt, get_or-map, get_or_default, get_or_past, length-map, vectors, Parts, IsNetlist, gate_sig, Blocks, AreBlocksOf, is_marked, ListsMarked, unsettled_loops_decide, CareSet, columns, is_care_vector, Observe, Undetermined, observed, is_undetermined, is_x, undetermined_refusal, none_passes, gate_wire, care_vector_is, is_unknown_at, AreFanoutMarks, SettleInOneSweep, AreMarksOf, AreAsked}
 use Rattle.std.specs.List.{All}
 use Rattle.std.proofs.lemmas.Bool.{cases_eq}
 use Rattle.isolation.specs.Excerpts.{gate_in}
@@ -51,11 +51,11 @@ asked-first net what last marks first are width kept cleared = record {
 -- ---- the gates that may be unknown
 
 -- all of them, marked from the loops on
-pub suspects-are : (net : Parts) (blocks : Blocks) (settled opened behind : List Bool) → length blocks.home ≡ length net.gates → opened ≡ map (λ home. not (is_marked settled home)) blocks.home →
-    AreDownstreamMarks net opened behind → AreAllSuspects net blocks settled behind
-suspects-are net blocks settled opened behind homes opened_is behind_is = record {
-  width = behind_is.width;
-  each = λ n less b. (behind_is.each n less).1 (record { gate = b.gate; marked = open-marked b.gate b.opened; upstream = b.upstream });
+pub suspects-are : (net : Parts) (blocks : Blocks) (settled opened fanout : List Bool) → length blocks.home ≡ length net.gates → opened ≡ map (λ home. not (is_marked settled home)) blocks.home →
+    AreFanoutMarks net opened fanout → AreAllSuspects net blocks settled fanout
+suspects-are net blocks settled opened fanout homes opened_is fanout_is = record {
+  width = fanout_is.width;
+  each = λ n less b. (fanout_is.each n less).1 (record { gate = b.gate; marked = open-marked b.gate b.opened; upstream = b.upstream });
 }
   where
     open-marked : (n : ℕ) → IsOpen net blocks settled n → is_marked opened n ≡ true

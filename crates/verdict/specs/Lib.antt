@@ -1,8 +1,8 @@
-pub mod Behind
 pub mod Causes
 pub mod Costs
 pub mod Determination
 pub mod Enough
+pub mod Fanout
 pub mod Laws
 pub mod Loose
 pub mod Next

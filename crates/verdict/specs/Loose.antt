@@ -12,13 +12,13 @@ use Rattle.care_sets.specs.Care.{CareSet}
 use Rattle.refusals.specs.Refusals.{undetermined_refusal}
 use Rattle.refusals.specs.declared.observe.Observe.{Observe}
 use Rattle.clause_decision.specs.Tests.{is_unknown}
-use Rattle.verdict.specs.Unknown.{IsBehindOpen}
+use Rattle.verdict.specs.Unknown.{IsFedByOpen}
 use Rattle.verdict.specs.Verdicts.{are_care_values, AreLoose}
 
--- a mark for each gate: those in loops that aren't settled, and behind them, have one
+-- a mark for each gate: those in loops that aren't settled, and in their fanout, have one
 pub record AreAllSuspects (net : Parts) (blocks : Blocks) (settled marks : List Bool) : Type 0 where
   pub width : length marks ≡ length net.gates
-  pub each : (n : ℕ) → n < length net.gates → IsBehindOpen net blocks settled n → is_marked marks n ≡ true
+  pub each : (n : ℕ) → n < length net.gates → IsFedByOpen net blocks settled n → is_marked marks n ≡ true
 
 -- a mark for each gate, which says whether it is unknown at some care vector
 pub record AreUnknownMarks (net : Parts) (care : CareSet) (marks : List Bool) : Type 0 where

@@ -8,7 +8,7 @@ ghost use Rattle.clause_decision.specs.Changes.{AreFedKnown};
 ghost use Rattle.verdict.specs.Loose.{AreLoopCounts, AreUnknownMarks, AreWithout, IsLoopCount};
 ghost use Rattle.verdict.specs.Verdicts.{AreSweepsOnCare};
 
-use crate::behind::are_reached;
+use crate::fanout::are_reached;
 use crate::scopes::scoped_loop;
 use crate::search::Search;
 use clause_decision::sweeps_fed_known;

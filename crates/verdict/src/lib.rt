@@ -10,12 +10,12 @@
 mod alone;
 mod apart;
 mod beginning;
-mod behind;
 mod beside;
 mod care;
 mod clauses;
 mod counts;
 mod deciding;
+mod fanout;
 mod fault;
 mod fitting;
 mod gates;

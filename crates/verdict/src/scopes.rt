@@ -7,7 +7,7 @@ ghost use Rattle.clause_decision.specs.Scopes.{AreInScope, AreNeverUnknown, IsSc
 ghost use Rattle.verdict.specs.Determination.{SettleInOneSweep};
 ghost use Rattle.verdict.specs.Scopes.{AreDrivers, IsScopedAt};
 
-use crate::behind::suspect_gates;
+use crate::fanout::suspect_gates;
 use crate::search::Search;
 use care_sets::Care;
 use clause_decision::Scope;
@@ -38,7 +38,7 @@ fn others(alloc: Global, marks: &[bool]) -> Result<Vec<bool>, AllocError>
     marks.iter().map(|mark| !*mark).collect(alloc)
 }
 
-/// The gates that are neither in a loop that isn't settled nor behind one: no Boolean vector leaves them unknown.
+/// The gates that are neither in a loop that isn't settled nor in the fanout of one: no Boolean vector leaves them unknown.
 pub(crate) fn known_gates(
     alloc: Global,
     looped: &LoopedNetlist<'_>,

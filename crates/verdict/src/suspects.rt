@@ -6,7 +6,7 @@ ghost use Rattle.refusals.specs.Refusals.{undetermined_refusal};
 ghost use Rattle.clause_decision.specs.Tests.{TellsFirstUnknown};
 ghost use Rattle.verdict.specs.Unknown.{AreAsked, AreSuspects, IsFirstToRefuse};
 
-use crate::behind::suspect_gates;
+use crate::fanout::suspect_gates;
 use crate::observing::observed_gates;
 use crate::scopes::{marked_places, scope_of};
 use crate::search::Search;
@@ -16,8 +16,8 @@ use netlist::Netlist;
 use refusals::{Observe, Refusal};
 use std::alloc::{AllocError, Global};
 
-/// Clears the marks behind a place.
-fn clear_behind(last: u32, marks: &mut [bool])
+/// Clears the marks after a place.
+fn clear_after(last: u32, marks: &mut [bool])
     ensures width { length marks.new ≡ length marks.old }
     ensures kept { (k : ℕ) → k ≤ last → is_marked marks.new k ≡ is_marked marks.old k }
     ensures cleared { (k : ℕ) → last < k → is_marked marks.new k ≡ false }
@@ -29,7 +29,7 @@ fn clear_behind(last: u32, marks: &mut [bool])
     }
 }
 
-/// The gates that are asked for: those that are observed, and none behind a gate that is unknown, where that one is
+/// The gates that are asked for: those that are observed, and none after a gate that is unknown, where that one is
 /// observed itself.
 fn asked_gates(
     alloc: Global,
@@ -42,7 +42,7 @@ fn asked_gates(
 {
     let mut asked = observed_gates(alloc, net, observe)?;
     if asked[unknown as usize] {
-        clear_behind(unknown, &mut asked);
+        clear_after(unknown, &mut asked);
     }
     Ok(asked)
 }
@@ -60,7 +60,7 @@ fn keep_asked(asked: &[bool], marks: &mut [bool])
     }
 }
 
-/// Marks of the gates asked for that may be unknown: those in loops at places that aren't settled, and behind them.
+/// Marks of the gates asked for that may be unknown: those in loops at places that aren't settled, and in their fanout.
 fn suspects(alloc: Global, search: &Search<'_>, asked: &[bool]) -> Result<Vec<bool>, AllocError>
     requires { length asked.now ≡ length search.now.net.gates }
     ensures { IfOk result (λ marks. AreSuspects search.now.net search.now.blocks search.now.settled asked.now marks.items) }
@@ -126,7 +126,7 @@ fn first_refusal(
 }
 
 /// The refusal of the first observed gate that is unknown at a vector of care, with the least such vector, if it is
-/// found. Where the gate `unknown` is observed, none behind it is asked for, so the clauses are few; the search finds
+/// found. Where the gate `unknown` is observed, none after it is asked for, so the clauses are few; the search finds
 /// what it should if that gate is unknown on care.
 pub(crate) fn unknown_refusal(
     alloc: Global,

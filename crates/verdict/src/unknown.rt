@@ -8,7 +8,7 @@ ghost use Rattle.clause_decision.specs.Tests.{TellEachUnknown};
 ghost use Rattle.verdict.specs.Loose.{AreSpread, AreUnknownMarks, IsLooseNumber};
 ghost use Rattle.verdict.specs.Observed.{AreMarksOf};
 
-use crate::behind::suspect_gates;
+use crate::fanout::suspect_gates;
 use crate::observing::observed_gates;
 use crate::scopes::{marked_places, scope_of};
 use crate::search::Search;

@@ -1,6 +1,6 @@
 use Rattle.std.proofs.Common.{◌≡◌, ◌∙◌, List, ℕ, Bool, true, ap, not, subst, sym, true≢false}
 use Rattle.verdict.proofs.Common.{Looped, Parts, block_at, is_marked, AreFedKnown, AreUnknownMarks}
-use Rattle.verdict.specs.Behind.{AreReached}
+use Rattle.verdict.specs.Fanout.{AreReached}
 use Rattle.verdict.proofs.LooseLemmas.{one-sweep, says-not}
 use Rattle.verdict.proofs.beside.loop_count.Goals as goal
 

@@ -11,13 +11,13 @@ returns c =
     elim c.if-index.branch [
       | then-index w ↦
           let len : ℕ = c.in_ok-asked.asked.len in
-          let first : List Bool = w.clear_behind.new.marks in
-          let width = w.clear_behind.ensures.width in
+          let first : List Bool = w.clear_after.new.marks in
+          let width = w.clear_after.ensures.width in
           let long = w.deref_mut.ensures.len in
           let value = w.deref_mut.ensures.value in
           let asked : AreAsked net c.args.observe first =
           asked-first net c.args.observe c.args.unknown marks first c.in_ok-asked.ensures.marks (width ∙ ap (λ (ms : List Bool). length ms) value)
-          (λ k low. w.clear_behind.ensures.kept k low ∙ ap (λ (ms : List Bool). is_marked ms k) value) w.clear_behind.ensures.cleared in
+          (λ k low. w.clear_after.ensures.kept k low ∙ ap (λ (ms : List Bool). is_marked ms k) value) w.clear_after.ensures.cleared in
           let back : take len (first ++ drop (length first) marks) ≡ first = take_at first (drop (length first) marks) len (omega (arith, width, long)) in
           subst (AreAsked net c.args.observe) (sym (ap (λ (v : Vec Bool Global). v.items) w.asked-is ∙ back)) asked
       | else-index w ↦

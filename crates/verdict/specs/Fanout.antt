@@ -1,4 +1,4 @@
--- Gates behind others: where walks along pins lead to from marked gates.
+-- The fanout of gates: where walks along pins lead to from marked ones.
 use Rattle.std.specs.Prelude.{◌≡◌, ◌⊎◌, ◌↔◌, ◌<◌, ℕ, Bool, true, List, length, Contains}
 use Rattle.cyc_base.specs.declared.sig.Sig.{Sig}
 use Rattle.netlist.specs.declared.parts.Parts.{Parts}
@@ -15,8 +15,8 @@ pub record LeadsFromMark (net : Parts) (marks : List Bool) (n : ℕ) : Type 0 wh
   pub marked : is_marked marks gate ≡ true
   pub upstream : IsUpstream net gate n
 
--- just the gates behind those that were marked are marked
-pub record AreDownstreamMarks (net : Parts) (old new : List Bool) : Type 0 where
+-- just the gates in the fanout of those that were marked are marked
+pub record AreFanoutMarks (net : Parts) (old new : List Bool) : Type 0 where
   pub width : length new ≡ length net.gates
   pub each : (n : ℕ) → n < length net.gates → (is_marked new n ≡ true) ↔ LeadsFromMark net old n
 

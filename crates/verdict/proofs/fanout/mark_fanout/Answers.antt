@@ -1,8 +1,8 @@
 use Rattle.std.proofs.Common.{◌∙◌, length, ap, subst, arith}
 use Rattle.verdict.proofs.Common.{Parts, Blocks, AddMarks}
-use Rattle.verdict.specs.Behind.{IsReached}
-use Rattle.verdict.proofs.BehindLemmas.{marked-more, marked-all}
-use Rattle.verdict.proofs.behind.mark_downstream.Goals as goal
+use Rattle.verdict.specs.Fanout.{IsReached}
+use Rattle.verdict.proofs.FanoutLemmas.{marked-more, marked-all}
+use Rattle.verdict.proofs.fanout.mark_fanout.Goals as goal
 
 pub loop-place-preserved : goal.loop-place-preserved
 loop-place-preserved c =

@@ -1,9 +1,9 @@
-//! Gates behind others: what walks along pins lead to.
+//! The fanout of gates: what walks along pins lead to from them.
 
 ghost use Rattle.std.specs.Prelude.{◌≡◌, ◌↔◌, ◌<◌, true, length, All, IfOk};
 ghost use Rattle.netlist.specs.Netlists.{IsSignal};
 ghost use Rattle.isolation.specs.Cones.{AddMarks};
-ghost use Rattle.verdict.specs.Behind.{AreDownstreamMarks, AreReached, HasMarkedDriver, IsReached, ReadsMark};
+ghost use Rattle.verdict.specs.Fanout.{AreFanoutMarks, AreReached, HasMarkedDriver, IsReached, ReadsMark};
 ghost use Rattle.verdict.specs.Loose.{AreAllSuspects};
 
 use crate::alone::open_gates;
@@ -67,19 +67,19 @@ fn mark_reached(net: &Netlist, gates: &[u32], marks: &mut [bool])
     }
 }
 
-/// Marks what lies behind the marked gates, with whole loops: a gate is marked afterwards just where a walk along pins
+/// Marks the fanout of the marked gates, with whole loops: a gate is marked afterwards just where a walk along pins
 /// leads to it from a gate that was marked, or it was marked itself. One pass does, since a block stands after those
 /// that it reads.
-pub(crate) fn mark_downstream(looped: &LoopedNetlist<'_>, marks: &mut [bool])
+pub(crate) fn mark_fanout(looped: &LoopedNetlist<'_>, marks: &mut [bool])
     requires { length marks.old ≡ length looped.now.net.gates }
-    ensures { AreDownstreamMarks looped.now.net marks.old marks.new }
+    ensures { AreFanoutMarks looped.now.net marks.old marks.new }
 {
     for place in 0..looped.blocks().list.items().len() {
         mark_reached(looped.net(), gates_at(looped, place), marks);
     }
 }
 
-/// Marks of the gates in loops that aren't settled, and of those behind them.
+/// Marks of the gates in loops that aren't settled, and of those in their fanout.
 pub(crate) fn suspect_gates(
     alloc: Global,
     looped: &LoopedNetlist<'_>,
@@ -89,6 +89,6 @@ pub(crate) fn suspect_gates(
     ensures { IfOk result (λ marks. AreAllSuspects looped.now.net looped.now.blocks settled.now marks.items) }
 {
     let mut marks = open_gates(alloc, looped.blocks(), settled)?;
-    mark_downstream(looped, &mut marks);
+    mark_fanout(looped, &mut marks);
     Ok(marks)
 }
