@@ -1,5 +1,6 @@
 mod ApartLemmas
 mod BeginningLemmas
+mod CandidateLemmas
 pub mod CareLemmas
 mod CauseLemmas
 pub mod Common
@@ -22,6 +23,5 @@ mod SolutionLemmas
 mod SolvingLemmas
 mod StartLemmas
 mod StepLemmas
-mod SuspectLemmas
 mod VerdictLemmas
 pub mod WorkLemmas

@@ -16,7 +16,7 @@ use Rattle.verdict.specs.Unknown.{IsFedByOpen}
 use Rattle.verdict.specs.Verdicts.{are_care_values, AreLoose}
 
 -- a mark for each gate: those in loops that aren't settled, and in their fanout, have one
-pub record AreAllSuspects (net : Parts) (blocks : Blocks) (settled marks : List Bool) : Type 0 where
+pub record AreCandidates (net : Parts) (blocks : Blocks) (settled marks : List Bool) : Type 0 where
   pub width : length marks ≡ length net.gates
   pub each : (n : ℕ) → n < length net.gates → IsFedByOpen net blocks settled n → is_marked marks n ≡ true
 

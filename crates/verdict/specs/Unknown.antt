@@ -26,7 +26,7 @@ pub record IsFedByOpen (net : Parts) (blocks : Blocks) (settled : List Bool) (n 
   pub upstream : IsUpstream net gate n
 
 -- those among the gates asked for are marked, and no others
-pub record AreSuspects (net : Parts) (blocks : Blocks) (settled asked marks : List Bool) : Type 0 where
+pub record AreAskedCandidates (net : Parts) (blocks : Blocks) (settled asked marks : List Bool) : Type 0 where
   pub width : length marks ≡ length net.gates
   pub each : (n : ℕ) → is_marked asked n ≡ true → IsFedByOpen net blocks settled n → is_marked marks n ≡ true
   pub only : (n : ℕ) → is_marked marks n ≡ true → is_marked asked n ≡ true

@@ -18,7 +18,7 @@ use crate::question::Question;
 use crate::scopes::marked_places;
 use crate::search::Search;
 use crate::steps::{Step, step_of};
-use crate::suspects::{first_of, unknown_refusal};
+use crate::undetermined::{first_of, unknown_refusal};
 use crate::unknown::{loose_number, unknown_gates};
 use crate::verdict::Verdict;
 use care_sets::Care;

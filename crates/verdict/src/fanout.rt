@@ -4,7 +4,7 @@ ghost use Rattle.std.specs.Prelude.{◌≡◌, ◌↔◌, ◌<◌, true, length,
 ghost use Rattle.netlist.specs.Netlists.{IsSignal};
 ghost use Rattle.isolation.specs.Cones.{AddMarks};
 ghost use Rattle.verdict.specs.Fanout.{AreFanoutMarks, AreReached, HasMarkedDriver, IsReached, ReadsMark};
-ghost use Rattle.verdict.specs.Loose.{AreAllSuspects};
+ghost use Rattle.verdict.specs.Loose.{AreCandidates};
 
 use crate::alone::open_gates;
 use cyc_base::Sig;
@@ -80,13 +80,13 @@ pub(crate) fn mark_fanout(looped: &LoopedNetlist<'_>, marks: &mut [bool])
 }
 
 /// Marks of the gates in loops that aren't settled, and of those in their fanout.
-pub(crate) fn suspect_gates(
+pub(crate) fn candidate_gates(
     alloc: Global,
     looped: &LoopedNetlist<'_>,
     settled: &[bool],
 ) -> Result<Vec<bool>, AllocError>
     requires { length settled.now ≡ length looped.now.blocks.list }
-    ensures { IfOk result (λ marks. AreAllSuspects looped.now.net looped.now.blocks settled.now marks.items) }
+    ensures { IfOk result (λ marks. AreCandidates looped.now.net looped.now.blocks settled.now marks.items) }
 {
     let mut marks = open_gates(alloc, looped.blocks(), settled)?;
     mark_fanout(looped, &mut marks);

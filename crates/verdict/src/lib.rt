@@ -30,7 +30,7 @@ mod search;
 mod sets;
 mod solving;
 mod steps;
-mod suspects;
+mod undetermined;
 mod unknown;
 mod verdict;
 

@@ -7,7 +7,7 @@ ghost use Rattle.clause_decision.specs.Scopes.{AreInScope, AreNeverUnknown, IsSc
 ghost use Rattle.verdict.specs.Determination.{SettleInOneSweep};
 ghost use Rattle.verdict.specs.Scopes.{AreDrivers, IsScopedAt};
 
-use crate::fanout::suspect_gates;
+use crate::fanout::candidate_gates;
 use crate::search::Search;
 use care_sets::Care;
 use clause_decision::Scope;
@@ -50,8 +50,8 @@ pub(crate) fn known_gates(
     ensures known { IfOk result (λ known. AreNeverUnknown looped.now.net known.items) }
 {
     looped.net().laws();
-    let suspects = suspect_gates(alloc, looped, settled)?;
-    others(alloc, &suspects)
+    let candidates = candidate_gates(alloc, looped, settled)?;
+    others(alloc, &candidates)
 }
 
 /// The scope of a question about these gates.

@@ -8,7 +8,7 @@ ghost use Rattle.clause_decision.specs.Tests.{TellEachUnknown};
 ghost use Rattle.verdict.specs.Loose.{AreSpread, AreUnknownMarks, IsLooseNumber};
 ghost use Rattle.verdict.specs.Observed.{AreMarksOf};
 
-use crate::fanout::suspect_gates;
+use crate::fanout::candidate_gates;
 use crate::observing::observed_gates;
 use crate::scopes::{marked_places, scope_of};
 use crate::search::Search;
@@ -60,7 +60,7 @@ pub(crate) fn unknown_gates(
 ) -> Result<Option<Vec<bool>>, AllocError>
     ensures { IfOk result (λ found. IfSome found (λ marks. AreUnknownMarks search.now.net search.now.care marks.items)) }
 {
-    let marks = suspect_gates(alloc, search.looped(), search.settled())?;
+    let marks = candidate_gates(alloc, search.looped(), search.settled())?;
     let gates = marked_places(alloc, &marks)?;
     let Some(found) = ask_gates(alloc, search, &gates)? else {
         return Ok(None);

@@ -1,6 +1,6 @@
 use Rattle.std.proofs.Common.{subst}
 use Rattle.clause_decision.specs.Tests.{TellsFirstUnknown}
-use Rattle.verdict.proofs.SuspectLemmas.{open-known}
+use Rattle.verdict.proofs.CandidateLemmas.{open-known}
 use Rattle.verdict.proofs.clauses.stand_at.Goals as goal
 
 pub count-requires-clause-known : goal.count-requires-clause-known

@@ -1,6 +1,6 @@
 use Rattle.std.proofs.Common.{◌≡◌, ℕ, ◌<◌, ◌≤◌, false}
 use Rattle.verdict.proofs.Common.{is_marked}
-use Rattle.verdict.proofs.suspects.clear_after.Given as goal
+use Rattle.verdict.proofs.undetermined.clear_after.Given as goal
 
 abbrev pub invariant-loop-place : goal.invariant-loop-place
 invariant-loop-place l = record {

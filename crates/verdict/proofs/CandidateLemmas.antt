@@ -6,9 +6,9 @@ use Rattle.std.proofs.lemmas.Bool.{cases_eq}
 use Rattle.isolation.specs.Excerpts.{gate_in}
 use Rattle.clause_decision.specs.Tests.{is_unknown, IsFirstUnknown}
 use Rattle.verdict.specs.Determination.{AreDeterminedOnCare, IsOpen}
-use Rattle.verdict.specs.Loose.{AreAllSuspects}
+use Rattle.verdict.specs.Loose.{AreCandidates}
 use Rattle.verdict.specs.Scopes.{AreOpenGates}
-use Rattle.verdict.specs.Unknown.{AreSuspects, IsFirstToRefuse}
+use Rattle.verdict.specs.Unknown.{AreAskedCandidates, IsFirstToRefuse}
 use Rattle.verdict.proofs.DeterminationLemmas.{known-here, marks_of, marks-are}
 use Rattle.verdict.proofs.PartLemmas.{undetermined-found}
 
@@ -51,9 +51,9 @@ asked-first net what last marks first are width kept cleared = record {
 -- ---- the gates that may be unknown
 
 -- all of them, marked from the loops on
-pub suspects-are : (net : Parts) (blocks : Blocks) (settled opened fanout : List Bool) → length blocks.home ≡ length net.gates → opened ≡ map (λ home. not (is_marked settled home)) blocks.home →
-    AreFanoutMarks net opened fanout → AreAllSuspects net blocks settled fanout
-suspects-are net blocks settled opened fanout homes opened_is fanout_is = record {
+pub candidates-are : (net : Parts) (blocks : Blocks) (settled opened fanout : List Bool) → length blocks.home ≡ length net.gates → opened ≡ map (λ home. not (is_marked settled home)) blocks.home →
+    AreFanoutMarks net opened fanout → AreCandidates net blocks settled fanout
+candidates-are net blocks settled opened fanout homes opened_is fanout_is = record {
   width = fanout_is.width;
   each = λ n less b. (fanout_is.each n less).1 (record { gate = b.gate; marked = open-marked b.gate b.opened; upstream = b.upstream });
 }
@@ -65,9 +65,9 @@ suspects-are net blocks settled opened fanout homes opened_is fanout_is = record
         ∙ ap not is.unsettled
 
 -- those that are asked for
-pub suspects-asked : (net : Parts) (blocks : Blocks) (settled asked all marks : List Bool) → length asked ≡ length net.gates → AreAllSuspects net blocks settled all → length marks ≡ length all →
-    ((k : ℕ) → is_marked marks k ≡ (is_marked all k && is_marked asked k)) → AreSuspects net blocks settled asked marks
-suspects-asked net blocks settled asked all marks wide all_are width each = record {
+pub candidates-asked : (net : Parts) (blocks : Blocks) (settled asked all marks : List Bool) → length asked ≡ length net.gates → AreCandidates net blocks settled all → length marks ≡ length all →
+    ((k : ℕ) → is_marked marks k ≡ (is_marked all k && is_marked asked k)) → AreAskedCandidates net blocks settled asked marks
+candidates-asked net blocks settled asked all marks wide all_are width each = record {
   width = width ∙ all_are.width;
   each = λ n wanted b. each n ∙ ap₂ (λ x y. x && y) (all_are.each n (let l = marked-within asked n wanted in omega (arith, l, wide)) b) wanted;
   only = λ n marked. (and_parts (is_marked all n) (is_marked asked n) (sym (each n) ∙ marked)).1;
@@ -81,11 +81,11 @@ none-some None is = refl
 none-some (Some v) is = absurd (true≢false is)
 
 -- it refuses the netlist
-pub first-refuses : (net : Parts) → IsNetlist net → (blocks : Blocks) → AreBlocksOf net blocks → (settled asked marks : List Bool) → SettleInOneSweep net blocks settled → AreSuspects net blocks settled asked marks →
+pub first-refuses : (net : Parts) → IsNetlist net → (blocks : Blocks) → AreBlocksOf net blocks → (settled asked marks : List Bool) → SettleInOneSweep net blocks settled → AreAskedCandidates net blocks settled asked marks →
     (care : CareSet) (what : Observe) → AreAsked net what asked → (gates : List ℕ) → ListsMarked marks (length net.gates) gates → (place : ℕ) → IsFirstUnknown net care gates place → IsFirstToRefuse net care what (gate_in gates place)
-first-refuses net valid blocks are settled asked marks soon suspects care what asks gates listed place first = record {
-  seen = asks.seen here (suspects.only here (at here-listed).1);
-  before = λ m less seen. by m less (asks.earlier m here less (suspects.only here (at here-listed).1) seen);
+first-refuses net valid blocks are settled asked marks soon candidates care what asks gates listed place first = record {
+  seen = asks.seen here (candidates.only here (at here-listed).1);
+  before = λ m less seen. by m less (asks.earlier m here less (candidates.only here (at here-listed).1) seen);
 }
   where
     here : ℕ
@@ -119,7 +119,7 @@ first-refuses net valid blocks are settled asked marks soon suspects care what a
         two true marked = known m ((listed.each m).1 (inside, marked)) less
         two false apart = known-here net care m inside (λ v counts.
             unsettled_loops_decide net blocks (is_marked settled) valid are (λ b within loop marked. (soon b within loop marked).alone) v counts.width m inside
-            (λ g low up loop unsettled. absurd (true≢false (sym (suspects.each m wanted (record { gate = g; opened = record { within = low; looped = loop; unsettled = unsettled }; upstream = up })) ∙ apart))))
+            (λ g low up loop unsettled. absurd (true≢false (sym (candidates.each m wanted (record { gate = g; opened = record { within = low; looped = loop; unsettled = unsettled }; upstream = up })) ∙ apart))))
 
 -- with its least vector
 pub refuses-at : (net : Parts) (care : CareSet) (what : Observe) (gate : ℕ) (v : List Bool) → gate < length net.gates → IsFirstToRefuse net care what gate →

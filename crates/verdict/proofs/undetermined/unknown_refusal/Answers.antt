@@ -1,6 +1,6 @@
 use Rattle.std.proofs.Common.{subst, sym}
 use Rattle.verdict.proofs.Common.{Parts, AreAsked}
-use Rattle.verdict.proofs.suspects.unknown_refusal.Goals as goal
+use Rattle.verdict.proofs.undetermined.unknown_refusal.Goals as goal
 
 pub returns : goal.returns
 returns c =

@@ -3,9 +3,9 @@ use Rattle.verdict.proofs.Common.{get_or_default, ListsMarked}
 use Rattle.isolation.specs.Excerpts.{gate_in}
 use Rattle.clause_decision.specs.Tests.{IsFirstUnknown, TellsFirstUnknown}
 use Rattle.verdict.specs.Unknown.{IsFirstToRefuse}
-use Rattle.verdict.proofs.SuspectLemmas.{listed-within, first-refuses}
-use Rattle.verdict.proofs.suspects.first_refusal.Goals as goal
-use Rattle.verdict.proofs.suspects.first_refusal.Goals.{After-deref-2, After-index}
+use Rattle.verdict.proofs.CandidateLemmas.{listed-within, first-refuses}
+use Rattle.verdict.proofs.undetermined.first_refusal.Goals as goal
+use Rattle.verdict.proofs.undetermined.first_refusal.Goals.{After-deref-2, After-index}
 
 -- the marked gates are listed
 listed : (c : After-deref-2) → ListsMarked c.in_ok-marks.marks.items (length c.args.search.now.net.gates) c.deref-2.result.now

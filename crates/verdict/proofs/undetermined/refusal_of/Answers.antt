@@ -1,8 +1,8 @@
 use Rattle.std.proofs.Common.{◌∙◌, Bool, List, Some, subst, sym, ap, ap₂, arith}
 use Rattle.verdict.proofs.Common.{Sig, Parts, gate_sig, columns, Undetermined, is_unknown_at, IsFirstOf}
 use Rattle.verdict.proofs.SearchLemmas.{told-on}
-use Rattle.verdict.proofs.SuspectLemmas.{refuses-at}
-use Rattle.verdict.proofs.suspects.refusal_of.Goals as goal
+use Rattle.verdict.proofs.CandidateLemmas.{refuses-at}
+use Rattle.verdict.proofs.undetermined.refusal_of.Goals as goal
 
 pub least_unknown-requires-clause-within : goal.least_unknown-requires-clause-within
 least_unknown-requires-clause-within c = c.in_ok-scope.ensures.within 0 c.args.gate (omega arith)

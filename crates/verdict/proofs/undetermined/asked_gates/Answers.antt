@@ -1,8 +1,8 @@
 use Rattle.std.proofs.Common.{◌≡◌, ◌∙◌, Bool, Global, List, ℕ, Vec, length, take, drop, ◌++◌, ap, arith, subst, sym}
 use Rattle.verdict.proofs.Common.{take_at, is_marked, AreAsked}
-use Rattle.verdict.proofs.SuspectLemmas.{asked-all, asked-first}
-use Rattle.verdict.proofs.suspects.asked_gates.Goals as goal
-use Rattle.verdict.proofs.suspects.asked_gates.Goals.{then-index, else-index}
+use Rattle.verdict.proofs.CandidateLemmas.{asked-all, asked-first}
+use Rattle.verdict.proofs.undetermined.asked_gates.Goals as goal
+use Rattle.verdict.proofs.undetermined.asked_gates.Goals.{then-index, else-index}
 
 pub returns : goal.returns
 returns c =

@@ -4,9 +4,9 @@ ghost use Rattle.std.specs.Prelude.{◌≡◌, ◌<◌, ◌≤◌, ◌&&◌, ℕ
 ghost use Rattle.isolation.specs.Cones.{is_marked, ListsMarked};
 ghost use Rattle.refusals.specs.Refusals.{undetermined_refusal};
 ghost use Rattle.clause_decision.specs.Tests.{TellsFirstUnknown};
-ghost use Rattle.verdict.specs.Unknown.{AreAsked, AreSuspects, IsFirstToRefuse};
+ghost use Rattle.verdict.specs.Unknown.{AreAsked, AreAskedCandidates, IsFirstToRefuse};
 
-use crate::fanout::suspect_gates;
+use crate::fanout::candidate_gates;
 use crate::observing::observed_gates;
 use crate::scopes::{marked_places, scope_of};
 use crate::search::Search;
@@ -61,11 +61,15 @@ fn keep_asked(asked: &[bool], marks: &mut [bool])
 }
 
 /// Marks of the gates asked for that may be unknown: those in loops at places that aren't settled, and in their fanout.
-fn suspects(alloc: Global, search: &Search<'_>, asked: &[bool]) -> Result<Vec<bool>, AllocError>
+fn asked_candidates(
+    alloc: Global,
+    search: &Search<'_>,
+    asked: &[bool],
+) -> Result<Vec<bool>, AllocError>
     requires { length asked.now ≡ length search.now.net.gates }
-    ensures { IfOk result (λ marks. AreSuspects search.now.net search.now.blocks search.now.settled asked.now marks.items) }
+    ensures { IfOk result (λ marks. AreAskedCandidates search.now.net search.now.blocks search.now.settled asked.now marks.items) }
 {
-    let mut marks = suspect_gates(alloc, search.looped(), search.settled())?;
+    let mut marks = candidate_gates(alloc, search.looped(), search.settled())?;
     keep_asked(asked, &mut marks);
     Ok(marks)
 }
@@ -116,7 +120,7 @@ fn first_refusal(
     ensures { (what : Observe) → AreAsked search.now.net what asked.now → IfOk result (λ found. IfSome found (λ refusal. undetermined_refusal search.now.net search.now.care what ≡ Some refusal)) }
 {
     search.laws();
-    let marks = suspects(alloc, search, asked)?;
+    let marks = asked_candidates(alloc, search, asked)?;
     let gates = marked_places(alloc, &marks)?;
     match first_of(alloc, search, &gates)? {
         First::At(place) => refusal_of(alloc, search, gates[place]),

@@ -1,6 +1,6 @@
 use Rattle.std.proofs.Common.{◌≡◌, ℕ, ◌<◌, ◌≤◌, ◌&&◌}
 use Rattle.verdict.proofs.Common.{is_marked}
-use Rattle.verdict.proofs.suspects.keep_asked.Given as goal
+use Rattle.verdict.proofs.undetermined.keep_asked.Given as goal
 
 abbrev pub invariant-loop-place : goal.invariant-loop-place
 invariant-loop-place l = record {
