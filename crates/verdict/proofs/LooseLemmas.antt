@@ -1,4 +1,4 @@
--- Gates that are unknown on care where no observed one is, and the sweeps of loops beside them.
+-- Gates that are unknown on care where no observed one is, and the sweeps of loops where there are some.
 use Rattle.std.proofs.Common.{◌≡◌, ◌≢◌, inl, inr, ℕ, ◌+◌, ◌<◌, Bool, true, false, not, ◌↔◌, List, [], ◌∷◌, ◌++◌, length, Option, Some, None, refl, sym, ap, ap₂, ◌∙◌, subst, arith, Contains, true≢false}
 use Rattle.verdict.proofs.Common.{find, is_none, is_some, option_or, and_from, cases_lt, get_or_append_left, get_or_default, get_or_past, length_push, X, bits, vectors, Parts, IsNetlist, gate_sig, fix_gates, Feeds, Blocks, Cut, AreBlocksOf, block_at, home_of, IsCutOf, loops_by, value_in, IsCountOfSweeps, gate_home, home_gate, is_marked, ListsMarked, unsettled_loops_decide, CareSet, columns, is_care_vector, IsCareVector, Observe, Refusal, is_undetermined, is_x, leaves_refusal, refusal, none_passes, gate_wire, care_vector_is, AreFedKnown, IsLeastCount, is_unknown_at, SettleInOneSweep, AreLoopCounts, AreSpread, AreUnknownMarks, MayGoOn, are_care_values}
 use Rattle.std.proofs.lemmas.List.{get_or_push}

@@ -1,4 +1,4 @@
--- Gates that are unknown on care where no observed one is, and the sweeps of loops beside them.
+-- Gates that are unknown on care where no observed one is, and the sweeps of loops where there are some.
 use Rattle.std.specs.Prelude.{◌≡◌, ◌<◌, ℕ, Bool, true, false, None, List, length, Contains, slice_index_or}
 use Rattle.netlist.specs.declared.parts.Parts.{Parts}
 use Rattle.loops.specs.declared.structure.Blocks.{Blocks}

@@ -12,8 +12,8 @@ ghost use Rattle.verdict.specs.Standing.{AreStanding, StandsAs};
 ghost use Rattle.verdict.specs.Verdicts.{IsVerdict};
 
 use crate::alone::{open_gates, settled_loops};
-use crate::beside::sweeps_beside;
 use crate::counts::{counts_of, open_counts};
+use crate::loose::sweeps_with_loose;
 use crate::question::Question;
 use crate::scopes::marked_places;
 use crate::search::Search;
@@ -114,7 +114,7 @@ fn stand_with(
     let Some(loose) = loose_number(alloc, search.net(), search.care(), observe, unknown)? else {
         return Ok(Standing::Undecided);
     };
-    match sweeps_beside(alloc, search, unknown)? {
+    match sweeps_with_loose(alloc, search, unknown)? {
         Some(sweeps) => Ok(Standing::Determined { sweeps, loose }),
         None => Ok(Standing::Undecided),
     }

@@ -10,7 +10,6 @@
 mod alone;
 mod apart;
 mod beginning;
-mod beside;
 mod care;
 mod clauses;
 mod counts;
@@ -21,6 +20,7 @@ mod fitting;
 mod gates;
 mod initial;
 pub mod laws;
+mod loose;
 mod next;
 mod observing;
 mod question;

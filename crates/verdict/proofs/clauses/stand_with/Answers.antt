@@ -6,8 +6,8 @@ use Rattle.verdict.proofs.DeterminationLemmas.{some_vector}
 use Rattle.verdict.proofs.SearchLemmas.{told-on}
 use Rattle.verdict.proofs.clauses.stand_with.Goals as goal
 
-pub sweeps_beside-requires-clause-some : goal.sweeps_beside-requires-clause-some
-sweeps_beside-requires-clause-some c = some_vector c.args.search.now.net c.args.search.now.care c.requires.some
+pub sweeps_with_loose-requires-clause-some : goal.sweeps_with_loose-requires-clause-some
+sweeps_with_loose-requires-clause-some c = some_vector c.args.search.now.net c.args.search.now.care c.requires.some
 
 pub returns-in-Some-2 : goal.returns-in-Some-2
 returns-in-Some-2 c =

@@ -3,7 +3,7 @@ use Rattle.std.specs.Prelude.{IfSome}
 use Rattle.verdict.proofs.Common.{AreLoopCounts}
 use Rattle.verdict.specs.Loose.{IsLoopCount}
 use Rattle.verdict.proofs.LooseLemmas.{loop-counts-more}
-use Rattle.verdict.proofs.beside.counts_beside.Goals as goal
+use Rattle.verdict.proofs.loose.counts_with_loose.Goals as goal
 
 pub loop-place-preserved : goal.loop-place-preserved
 loop-place-preserved c =

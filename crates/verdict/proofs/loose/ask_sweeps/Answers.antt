@@ -5,7 +5,7 @@ use Rattle.loops.specs.Looped.{Looped}
 use Rattle.verdict.proofs.Common.{IfOk-weaker, CareSet, block_at, loops_by, AreFedKnown, IsLeastCount}
 use Rattle.verdict.specs.Scopes.{IsScopedAt}
 use Rattle.verdict.proofs.LooseLemmas.{least-loop}
-use Rattle.verdict.proofs.beside.ask_sweeps.Goals as goal
+use Rattle.verdict.proofs.loose.ask_sweeps.Goals as goal
 
 pub sweeps_fed_known-requires-clause-fed : goal.sweeps_fed_known-requires-clause-fed
 sweeps_fed_known-requires-clause-fed c =

@@ -2,7 +2,7 @@ use Rattle.std.proofs.Common.{length, subst, sym}
 use Rattle.std.specs.Prelude.{IfSome}
 use Rattle.verdict.proofs.Common.{AreLoopCounts}
 use Rattle.verdict.proofs.LooseLemmas.{loop-counts-all}
-use Rattle.verdict.proofs.beside.sweeps_beside.Goals as goal
+use Rattle.verdict.proofs.loose.sweeps_with_loose.Goals as goal
 
 pub returns : goal.returns
 returns c =

@@ -1,7 +1,7 @@
 use Rattle.std.proofs.Common.{subst, sym}
 use Rattle.verdict.specs.Loose.{AreWithout}
 use Rattle.verdict.proofs.LooseLemmas.{fed-known, says-not}
-use Rattle.verdict.proofs.beside.is_fed_known.Goals as goal
+use Rattle.verdict.proofs.loose.is_fed_known.Goals as goal
 
 pub returns : goal.returns
 returns c known care are =

@@ -2,7 +2,7 @@ use Rattle.std.proofs.Common.{◌≡◌, ◌∙◌, List, ℕ, Bool, true, ap, n
 use Rattle.verdict.proofs.Common.{Looped, Parts, block_at, is_marked, AreFedKnown, AreUnknownMarks}
 use Rattle.verdict.specs.Fanout.{AreReached}
 use Rattle.verdict.proofs.LooseLemmas.{one-sweep, says-not}
-use Rattle.verdict.proofs.beside.loop_count.Goals as goal
+use Rattle.verdict.proofs.loose.loop_count.Goals as goal
 
 pub returns-then-not-are_reached : goal.returns-then-not-are_reached
 returns-then-not-are_reached c =

@@ -1,4 +1,4 @@
-//! The sweeps of loops where gates are unknown on care that nothing observes.
+//! The sweeps of loops where gates are loose: unknown on care, and not observed.
 
 ghost use Rattle.std.specs.Prelude.{◌≡◌, ◌<◌, ◌≤◌, true, length, All, IfOk, IfSome};
 ghost use Rattle.loops.specs.Blocks.{block_at};
@@ -114,7 +114,7 @@ fn count_at(
 }
 
 /// The sweeps of each block on care, where these gates are unknown at some care vector; or none where that isn't found.
-fn counts_beside(
+fn counts_with_loose(
     alloc: Global,
     search: &Search<'_>,
     unknown: &[bool],
@@ -134,7 +134,7 @@ fn counts_beside(
 }
 
 /// The sweeps of all loops on care, where these gates are unknown at some care vector; or none where that isn't found.
-pub(crate) fn sweeps_beside(
+pub(crate) fn sweeps_with_loose(
     alloc: Global,
     search: &Search<'_>,
     unknown: &[bool],
@@ -144,7 +144,7 @@ pub(crate) fn sweeps_beside(
     ensures { IfOk result (λ found. IfSome found (AreSweepsOnCare search.now.net search.now.blocks search.now.cut search.now.care)) }
 {
     search.laws();
-    let Some(counts) = counts_beside(alloc, search, unknown)? else {
+    let Some(counts) = counts_with_loose(alloc, search, unknown)? else {
         return Ok(None);
     };
     Ok(Some(SweepCounts {
