@@ -9,6 +9,7 @@ mod DecisionLemmas
 mod DeterminationLemmas
 mod EnoughLemmas
 mod FanoutLemmas
+mod InvarianceLemmas
 mod LeavesLemmas
 mod LooseLemmas
 mod MarkLemmas
@@ -22,6 +23,5 @@ mod SizeLemmas
 mod SolutionLemmas
 mod SolvingLemmas
 mod StartLemmas
-mod StepLemmas
 mod VerdictLemmas
 pub mod WorkLemmas

@@ -3,6 +3,7 @@ pub mod Costs
 pub mod Determination
 pub mod Enough
 pub mod Fanout
+pub mod Invariance
 pub mod Laws
 pub mod Loose
 pub mod Next
@@ -13,6 +14,5 @@ pub mod Searches
 pub mod Sets
 pub mod Solving
 pub mod Standing
-pub mod Steps
 pub mod Unknown
 pub mod Verdicts

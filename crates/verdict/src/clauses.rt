@@ -13,11 +13,11 @@ ghost use Rattle.verdict.specs.Verdicts.{IsVerdict};
 
 use crate::alone::{open_gates, settled_loops};
 use crate::counts::{counts_of, open_counts};
+use crate::invariance::{Invariance, invariance_of};
 use crate::loose::sweeps_with_loose;
 use crate::question::Question;
 use crate::scopes::marked_places;
 use crate::search::Search;
-use crate::steps::{Step, step_of};
 use crate::undetermined::{first_of, unknown_refusal};
 use crate::unknown::{loose_number, unknown_gates};
 use crate::verdict::Verdict;
@@ -193,8 +193,8 @@ fn stand(alloc: Global, search: &Search<'_>, observe: Observe) -> Result<Standin
     stand_at(alloc, search, observe, &gates, first)
 }
 
-/// The verdict where no observed gate is unknown on care, so that the invariant's step decides.
-fn step_verdict(
+/// The verdict where no observed gate is unknown on care, so that next states decide.
+fn verdict_by_invariance(
     alloc: Global,
     search: &Search<'_>,
     observe: Observe,
@@ -206,10 +206,10 @@ fn step_verdict(
     ensures { IfOk result (λ found. IfSome found (IsVerdict search.now.net search.now.blocks search.now.cut search.now.care observe)) }
 {
     search.laws();
-    match step_of(alloc, search)? {
-        Step::Stays => Ok(Some(Verdict::Accepted { sweeps, loose })),
-        Step::Leaves(refusal) => Ok(Some(Verdict::Refused(refusal))),
-        Step::Undecided => Ok(None),
+    match invariance_of(alloc, search)? {
+        Invariance::Stays => Ok(Some(Verdict::Accepted { sweeps, loose })),
+        Invariance::Leaves(refusal) => Ok(Some(Verdict::Refused(refusal))),
+        Invariance::Undecided => Ok(None),
     }
 }
 
@@ -224,7 +224,7 @@ fn judge_by(
 {
     match stand(alloc, search, observe)? {
         Standing::Determined { sweeps, loose } => {
-            step_verdict(alloc, search, observe, sweeps, loose)
+            verdict_by_invariance(alloc, search, observe, sweeps, loose)
         }
         Standing::Refused(refusal) => Ok(Some(Verdict::Refused(refusal))),
         Standing::Undecided => Ok(None),

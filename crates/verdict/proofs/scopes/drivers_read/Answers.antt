@@ -3,7 +3,7 @@ use Rattle.std.specs.Prelude.{IfNone, IfSome}
 use Rattle.verdict.proofs.Common.{get_or_from_slice_get, Sig, count, gate_sig, Latch, AreDriversBefore}
 use Rattle.std.proofs.lemmas.Option.{slice_get_within}
 use Rattle.verdict.proofs.ScopeLemmas.{drivers-more, drivers-same, drivers-all}
-use Rattle.verdict.proofs.StepLemmas.{read-columns}
+use Rattle.verdict.proofs.InvarianceLemmas.{read-columns}
 use Rattle.verdict.proofs.scopes.drivers_read.Goals as goal
 use Rattle.verdict.proofs.scopes.drivers_read.Goals.{in-Some+in_ok-push, in_default}
 

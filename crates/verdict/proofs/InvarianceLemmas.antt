@@ -28,8 +28,8 @@ read-columns net care columns_read first bound is start = by care.invariant boun
     )
 
 -- what is found tells the step
-pub step-stays : (net : Parts) (care : CareSet) → find (is_leaving net care) (vectors (columns net)) ≡ None → leaves_refusal net care ≡ None
-step-stays net care none = leaves-first net care ∙ ap (option_map (λ (v : List Bool). Leaves v (next_state net v))) none
+pub invariant-stays : (net : Parts) (care : CareSet) → find (is_leaving net care) (vectors (columns net)) ≡ None → leaves_refusal net care ≡ None
+invariant-stays net care none = leaves-first net care ∙ ap (option_map (λ (v : List Bool). Leaves v (next_state net v))) none
 
-pub step-leaves : (net : Parts) (care : CareSet) (v : List Bool) → find (is_leaving net care) (vectors (columns net)) ≡ Some v → leaves_refusal net care ≡ Some (Leaves v (next_state net v))
-step-leaves net care v found = leaves-first net care ∙ ap (option_map (λ (w : List Bool). Leaves w (next_state net w))) found
+pub invariant-leaves : (net : Parts) (care : CareSet) (v : List Bool) → find (is_leaving net care) (vectors (columns net)) ≡ Some v → leaves_refusal net care ≡ Some (Leaves v (next_state net v))
+invariant-leaves net care v found = leaves-first net care ∙ ap (option_map (λ (w : List Bool). Leaves w (next_state net w))) found

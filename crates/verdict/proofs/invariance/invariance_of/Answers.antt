@@ -3,7 +3,7 @@ use Rattle.std.specs.Option.{option_copied}
 use Rattle.verdict.proofs.Common.{CareSet, leaves_refusal}
 use Rattle.refusals.proofs.RefusalLemmas.{nothing_mapped}
 use Rattle.verdict.proofs.DeterminationLemmas.{nothing_leaves}
-use Rattle.verdict.proofs.steps.step_of.Goals as goal
+use Rattle.verdict.proofs.invariance.invariance_of.Goals as goal
 
 pub returns-in-None : goal.returns-in-None
 returns-in-None c =

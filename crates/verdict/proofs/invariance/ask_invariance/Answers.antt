@@ -1,7 +1,7 @@
 use Rattle.std.proofs.Common.{subst, sym}
 use Rattle.verdict.specs.Scopes.{AreDrivers}
 use Rattle.verdict.proofs.ScopeLemmas.{drivers-within}
-use Rattle.verdict.proofs.steps.ask_step.Goals as goal
+use Rattle.verdict.proofs.invariance.ask_invariance.Goals as goal
 
 pub least_leaving-requires-clause-loads : goal.least_leaving-requires-clause-loads
 least_leaving-requires-clause-loads c =

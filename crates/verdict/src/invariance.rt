@@ -1,4 +1,4 @@
-//! The invariant's step: whether a next state leaves it.
+//! Whether the invariant is one: whether a next state leaves it.
 
 ghost use Rattle.std.specs.Prelude.{◌≡◌, ◌<◌, length, map, IfOk};
 ghost use Rattle.cyc_base.specs.Values.{bits};
@@ -7,7 +7,7 @@ ghost use Rattle.clause_decision.specs.Loads.{LoadsAreKnown};
 ghost use Rattle.clause_queries.specs.Vectors.{IsFirstOf};
 ghost use Rattle.clause_decision.specs.Tests.{is_leaving};
 ghost use Rattle.refusals.specs.Refusals.{next_state};
-ghost use Rattle.verdict.specs.Steps.{IsLeavingAt, IsStep};
+ghost use Rattle.verdict.specs.Invariance.{IsLeavingAt, IsInvariance};
 
 use crate::scopes::{drivers_read, scope_of};
 use crate::search::Search;
@@ -21,7 +21,7 @@ use ternary_run::{tick, trits_of};
 
 /// Whether a next state leaves the invariant.
 #[derive(Drop)]
-pub enum Step {
+pub enum Invariance {
     /// No care vector's next state does.
     Stays,
     /// That of a care vector does: the refusal of the least one.
@@ -59,49 +59,54 @@ fn next_at(alloc: Global, net: &Netlist, vector: &[bool]) -> Result<Vec<bool>, A
 }
 
 /// The refusal of a vector whose next state isn't in the invariant.
-fn leaves_at(alloc: Global, net: &Netlist, vector: Vec<bool>) -> Result<Step, AllocError>
+fn leaves_at(alloc: Global, net: &Netlist, vector: Vec<bool>) -> Result<Invariance, AllocError>
     requires { length vector.items ≡ columns_of net.now }
     ensures { IfOk result (λ step. IsLeavingAt net.now vector.items step) }
 {
     let state = next_at(alloc, net, &vector)?;
-    Ok(Step::Leaves(Refusal::Leaves {
+    Ok(Invariance::Leaves(Refusal::Leaves {
         vector: Bits::of(vector),
         next: Bits::of(state),
     }))
 }
 
-/// The step to the least vector of care whose next state isn't in the invariant, as it was found.
-fn step_to(alloc: Global, net: &Netlist, care: &Care, found: Found) -> Result<Step, AllocError>
+/// What the least vector of care whose next state isn't in the invariant tells, as it was found.
+fn invariance_by(
+    alloc: Global,
+    net: &Netlist,
+    care: &Care,
+    found: Found,
+) -> Result<Invariance, AllocError>
     requires { IsFirstOf (is_leaving net.now care.now) (columns_of net.now) found }
-    ensures { IfOk result (IsStep net.now care.now) }
+    ensures { IfOk result (IsInvariance net.now care.now) }
 {
     match found {
         Found::Least(vector) => leaves_at(alloc, net, vector),
-        Found::NoVector => Ok(Step::Stays),
-        Found::Unknown => Ok(Step::Undecided),
+        Found::NoVector => Ok(Invariance::Stays),
+        Found::Unknown => Ok(Invariance::Undecided),
     }
 }
 
 /// Whether a next state leaves an invariant, asked of the clauses of what the latches load that it reads.
-fn ask_step(alloc: Global, search: &Search<'_>) -> Result<Step, AllocError>
+fn ask_invariance(alloc: Global, search: &Search<'_>) -> Result<Invariance, AllocError>
     requires { LoadsAreKnown search.now.net search.now.care }
-    ensures { IfOk result (IsStep search.now.net search.now.care) }
+    ensures { IfOk result (IsInvariance search.now.net search.now.care) }
 {
     let net = search.net();
     let care = search.care();
     let drivers = drivers_read(alloc, net, care)?;
     let scope = scope_of(alloc, search, &drivers)?;
     let found = least_leaving(alloc, net, care, &scope, search.conflicts())?;
-    step_to(alloc, net, care, found)
+    invariance_by(alloc, net, care, found)
 }
 
 /// Whether a care vector's next state isn't in the invariant, where on care all that latches load is known.
-pub(crate) fn step_of(alloc: Global, search: &Search<'_>) -> Result<Step, AllocError>
+pub(crate) fn invariance_of(alloc: Global, search: &Search<'_>) -> Result<Invariance, AllocError>
     requires { LoadsAreKnown search.now.net search.now.care }
-    ensures { IfOk result (IsStep search.now.net search.now.care) }
+    ensures { IfOk result (IsInvariance search.now.net search.now.care) }
 {
     match search.care().invariant() {
-        Some(_) => ask_step(alloc, search),
-        None => Ok(Step::Stays),
+        Some(_) => ask_invariance(alloc, search),
+        None => Ok(Invariance::Stays),
     }
 }
