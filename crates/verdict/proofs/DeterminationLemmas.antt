@@ -18,7 +18,7 @@ use Rattle.verdict.specs.Laws.{DeterminationsAccept, NothingLeaves}
 use Rattle.verdict.specs.Standing.{AreStanding}
 use Rattle.verdict.proofs.CountLemmas.{known-bits, care-values}
 use Rattle.verdict.proofs.PartLemmas.{IsKnownOnCare, loose-none, undetermined-none}
-use Rattle.verdict.proofs.VerdictLemmas.{accepts-is, refused-later}
+use Rattle.verdict.proofs.VerdictLemmas.{accepts-is, refused-on-care}
 
 -- ---- values of care vectors
 
@@ -226,7 +226,7 @@ determination-loose net care determined =
 
 pub determinations_accept : DeterminationsAccept
 determinations_accept net blocks cut care what counts valid is initial some stays = record {
-  accepts = accepts-is net care what valid (refused-later net care what None initial some (ap₂ option_or (none-undetermined net care what is.determined) stays));
+  accepts = accepts-is net care what valid (refused-on-care net care what None initial some (ap₂ option_or (none-undetermined net care what is.determined) stays));
   sweeps = is.sweeps;
   loose_is = determination-loose net care is.determined;
 }

@@ -14,7 +14,7 @@ use Rattle.verdict.proofs.CountLemmas.{care-values}
 use Rattle.verdict.proofs.DeterminationLemmas.{determined-around, known-here, least-count}
 use Rattle.verdict.proofs.PartLemmas.{IsKnownOnCare}
 use Rattle.verdict.proofs.CandidateLemmas.{none-some}
-use Rattle.verdict.proofs.VerdictLemmas.{accepts-is, refused-later}
+use Rattle.verdict.proofs.VerdictLemmas.{accepts-is, refused-on-care}
 
 -- what a test says that isn't so
 pub says-not : {P : Type 0} (b : Bool) → ((b ≡ true) ↔ P) → not b ≡ true → ¬ P
@@ -146,11 +146,11 @@ loop-counts-all net blocks are cut care n counts all at = record {
 pub standing-accepts : (net : Parts) (blocks : Blocks) (cut : Cut) (care : CareSet) (what : Observe) (counts : SweepCounts) (loose : ℕ) → IsNetlist net → MayGoOn net care → IsLooseNumber net care what loose →
     AreSweepsOnCare net blocks cut care counts → leaves_refusal net care ≡ None → IsAcceptance net blocks cut care what counts loose
 standing-accepts net blocks cut care what counts loose valid begins is sweeps stays = record {
-  accepts = accepts-is net care what valid (refused-later net care what None begins.initial begins.some (ap₂ option_or is.none stays));
+  accepts = accepts-is net care what valid (refused-on-care net care what None begins.initial begins.some (ap₂ option_or is.none stays));
   sweeps = sweeps;
   loose_is = is.number;
 }
 
 -- a next state that leaves the invariant refuses the netlist
 pub leaving-refuses : (net : Parts) (care : CareSet) (what : Observe) (loose : ℕ) (r : Refusal) → MayGoOn net care → IsLooseNumber net care what loose → leaves_refusal net care ≡ Some r → refusal net care what ≡ Some r
-leaving-refuses net care what loose r begins is leaves = refused-later net care what (Some r) begins.initial begins.some (ap₂ option_or is.none leaves)
+leaving-refuses net care what loose r begins is leaves = refused-on-care net care what (Some r) begins.initial begins.some (ap₂ option_or is.none leaves)

@@ -7,19 +7,19 @@ ghost use Rattle.loops.specs.Blocks.{AreBlocksOf};
 ghost use Rattle.loops.specs.Cuts.{IsCutOf};
 ghost use Rattle.fixpoint.specs.Orders.{order as order_of};
 ghost use Rattle.verdict.specs.Causes.{IsOutOfNodes};
-ghost use Rattle.verdict.specs.Costs.{later_cost, solved_cost, start_cost, whole_cost};
+ghost use Rattle.verdict.specs.Costs.{care_cost, solved_cost, start_cost, whole_cost};
 ghost use Rattle.verdict.specs.Enough.{AddsInDecision, GrowsInDecision, IsFullFor, IsBelowEnough};
 ghost use Rattle.verdict.specs.Sets.{AreFixed, Tells};
 ghost use Rattle.isolation.specs.Columns.{AreColumns};
-ghost use Rattle.verdict.specs.Verdicts.{later_refusal, IsCareStart, IsSolvedWhole, IsVerdict, StandSo};
+ghost use Rattle.verdict.specs.Verdicts.{refusal_on_care, IsCareStart, IsSolvedWhole, IsVerdict, IsGateVerdict};
 
 use crate::beginning::{Start, begin};
 use crate::clauses::verdict_by_clauses;
 use crate::fault::DecideFault;
 use crate::fitting::{fit_all, limit_of};
-use crate::gates::Gates;
+use crate::gate_verdict::GateVerdict;
 use crate::question::Question;
-use crate::refusing::{gates_on, leaves};
+use crate::refusing::{leaves, verdict_of_gates};
 use crate::solving::{Fixpoint, solve_beside};
 use crate::verdict::Verdict;
 use bdd_ops::Diagrams;
@@ -45,27 +45,27 @@ const FEW_NODES: u32 = 200_000;
 
 /// The refusal of an undetermined gate that is observed, or else of a state that leaves the invariant, or else how
 /// many gates are unknown on care. The netlist's fixpoint is found beside the vectors of care.
-fn later(
+fn verdict_on_care(
     alloc: Global,
     d: &mut Diagrams,
     question: &Question<'_>,
     found: &Fixpoint,
-) -> Result<Gates, StoreFault>
+) -> Result<GateVerdict, StoreFault>
     requires vars { d.old.vars ≡ columns question.now.net }
     requires fixed { AreFixed question.now.net d.old found.now.rails }
     requires set { Tells question.now.net d.old found.now.set (is_care_vector question.now.net question.now.care) }
-    ensures gates { IfOk result (StandSo (later_refusal question.now.net question.now.care question.now.what) question.now.net question.now.care) }
-    ensures grows { GrowsInDecision result d.old d.new question.now.net question.now.care (later_cost question.now.net question.now.care) }
+    ensures gates { IfOk result (IsGateVerdict (refusal_on_care question.now.net question.now.care question.now.what) question.now.net question.now.care) }
+    ensures grows { GrowsInDecision result d.old d.new question.now.net question.now.care (care_cost question.now.net question.now.care) }
 {
-    let gates = gates_on(alloc, d, question, found)?;
+    let gates = verdict_of_gates(alloc, d, question, found)?;
     let loose = match gates {
-        Gates::Determined { loose } => loose,
-        Gates::Refused(refusal) => return Ok(Gates::Refused(refusal)),
+        GateVerdict::Determined { loose } => loose,
+        GateVerdict::Refused(refusal) => return Ok(GateVerdict::Refused(refusal)),
     };
     let left = leaves(alloc, d, question, found)?;
     match left {
-        Some(refusal) => Ok(Gates::Refused(refusal)),
-        None => Ok(Gates::Determined { loose }),
+        Some(refusal) => Ok(GateVerdict::Refused(refusal)),
+        None => Ok(GateVerdict::Determined { loose }),
     }
 }
 
@@ -84,10 +84,10 @@ fn judge_solved(
     solutions();
     d.store().laws();
     let blocks = question.blocks();
-    let gates = later(alloc, d, question, found)?;
+    let gates = verdict_on_care(alloc, d, question, found)?;
     let loose = match gates {
-        Gates::Determined { loose } => loose,
-        Gates::Refused(refusal) => return Ok(Verdict::Refused(refusal)),
+        GateVerdict::Determined { loose } => loose,
+        GateVerdict::Refused(refusal) => return Ok(Verdict::Refused(refusal)),
     };
     d.store().laws();
     let counts = sweeps(alloc, d, &found.solved, blocks, found.set)?;

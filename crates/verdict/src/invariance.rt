@@ -61,7 +61,7 @@ fn next_at(alloc: Global, net: &Netlist, vector: &[bool]) -> Result<Vec<bool>, A
 /// The refusal of a vector whose next state isn't in the invariant.
 fn leaves_at(alloc: Global, net: &Netlist, vector: Vec<bool>) -> Result<Invariance, AllocError>
     requires { length vector.items ≡ columns_of net.now }
-    ensures { IfOk result (λ step. IsLeavingAt net.now vector.items step) }
+    ensures { IfOk result (λ told. IsLeavingAt net.now vector.items told) }
 {
     let state = next_at(alloc, net, &vector)?;
     Ok(Invariance::Leaves(Refusal::Leaves {

@@ -17,7 +17,7 @@ mod deciding;
 mod fanout;
 mod fault;
 mod fitting;
-mod gates;
+mod gate_verdict;
 mod initial;
 mod invariance;
 pub mod laws;

@@ -1,8 +1,8 @@
 use refusals::Refusal;
 
-/// How the gates of a netlist stand on care.
+/// The verdict of the gates of a netlist on care.
 #[derive(Drop)]
-pub enum Gates {
+pub enum GateVerdict {
     /// Nothing refuses the netlist for them, and so many are unknown on some care vector.
     Determined { loose: u32 },
     Refused(Refusal),

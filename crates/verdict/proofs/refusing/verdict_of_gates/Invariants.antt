@@ -1,7 +1,7 @@
 use Rattle.std.proofs.Common.{◌≡◌, ◌*◌, ◌≤◌}
 use Rattle.verdict.proofs.Common.{HasGrown, IsWide, IsLaid}
 use Rattle.verdict.proofs.PartLemmas.{AreKnownBelow, loose_below}
-use Rattle.verdict.proofs.refusing.gates_on.Given as goal
+use Rattle.verdict.proofs.refusing.verdict_of_gates.Given as goal
 
 abbrev pub invariant-loop-gate : goal.invariant-loop-gate
 invariant-loop-gate l = record {

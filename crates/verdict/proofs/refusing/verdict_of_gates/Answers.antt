@@ -3,8 +3,8 @@ use Rattle.verdict.proofs.Common.{find, is_none, option_map, get_or_default, Nod
 use Rattle.verdict.specs.Sets.{unknown_in}
 use Rattle.verdict.proofs.DecisionLemmas.{wide-kept, open-fits, unknown-fits}
 use Rattle.verdict.proofs.PartLemmas.{IsKnownOnCare, by-order, none_found, order-layout, unknown-first, undetermined-found, undetermined-none, known-more, loose-more, loose-same, loose-all, AreFixed-kept, Tells-kept}
-use Rattle.verdict.proofs.refusing.gates_on.Goals as goal
-use Rattle.verdict.proofs.refusing.gates_on.Goals.{After-unknown_on, then-index+in_ok-vector+in_default, else-index+then-not-is_never, else-index+else-not-is_never}
+use Rattle.verdict.proofs.refusing.verdict_of_gates.Goals as goal
+use Rattle.verdict.proofs.refusing.verdict_of_gates.Goals.{After-unknown_on, then-index+in_ok-vector+in_default, else-index+then-not-is_never, else-index+else-not-is_never}
 
 -- what a gate costs
 
