@@ -143,9 +143,9 @@ loop-counts-all net blocks are cut care n counts all at = record {
 
 -- ---- the verdict
 
-pub standing-accepts : (net : Parts) (blocks : Blocks) (cut : Cut) (care : CareSet) (what : Observe) (counts : SweepCounts) (loose : ℕ) → IsNetlist net → MayGoOn net care → IsLooseNumber net care what loose →
+pub determined-accepts : (net : Parts) (blocks : Blocks) (cut : Cut) (care : CareSet) (what : Observe) (counts : SweepCounts) (loose : ℕ) → IsNetlist net → MayGoOn net care → IsLooseNumber net care what loose →
     AreSweepsOnCare net blocks cut care counts → leaves_refusal net care ≡ None → IsAcceptance net blocks cut care what counts loose
-standing-accepts net blocks cut care what counts loose valid begins is sweeps stays = record {
+determined-accepts net blocks cut care what counts loose valid begins is sweeps stays = record {
   accepts = accepts-is net care what valid (refused-on-care net care what None begins.initial begins.some (ap₂ option_or is.none stays));
   sweeps = sweeps;
   loose_is = is.number;

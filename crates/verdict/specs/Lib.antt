@@ -1,5 +1,6 @@
 pub mod Causes
 pub mod Costs
+pub mod Determinacy
 pub mod Determination
 pub mod Enough
 pub mod Fanout
@@ -13,6 +14,5 @@ pub mod Scopes
 pub mod Searches
 pub mod Sets
 pub mod Solving
-pub mod Standing
 pub mod Unknown
 pub mod Verdicts

@@ -4,7 +4,7 @@ use Rattle.verdict.specs.Loose.{IsLooseNumber}
 use Rattle.verdict.specs.Verdicts.{AreSweepsOnCare}
 use Rattle.verdict.proofs.DeterminationLemmas.{some_vector}
 use Rattle.verdict.proofs.SearchLemmas.{told-on}
-use Rattle.verdict.proofs.clauses.stand_with.Goals as goal
+use Rattle.verdict.proofs.clauses.determinacy_with_loose.Goals as goal
 
 pub sweeps_with_loose-requires-clause-some : goal.sweeps_with_loose-requires-clause-some
 sweeps_with_loose-requires-clause-some c = some_vector c.args.search.now.net c.args.search.now.care c.requires.some
