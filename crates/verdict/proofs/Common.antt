@@ -70,7 +70,7 @@ pub use Rattle.verdict.specs.Causes.{HasModelOver}
 pub use Rattle.verdict.specs.Costs.{assume_effort, decision_cost, invariant_effort, start_cost}
 pub use Rattle.verdict.specs.Determination.{AreCountsBelow, SettleInOneSweep}
 pub use Rattle.verdict.specs.Enough.{AddsInDecision, BoundsModel, GrowsInDecision, IsFullFor, IsLaid, IsOfModel, SaysCare, read_by}
-pub use Rattle.verdict.specs.Loose.{AreLoopCounts, AreSpread, AreUnknownMarks}
+pub use Rattle.verdict.specs.Loose.{AreLoopCounts, AreScattered, AreUnknownMarks}
 pub use Rattle.verdict.specs.Next.{BoundsSignals, next_within}
 pub use Rattle.verdict.specs.Observed.{AreMarksOf}
 pub use Rattle.verdict.specs.Scopes.{AreCountsAt, AreDriversBefore, MayGoOn}

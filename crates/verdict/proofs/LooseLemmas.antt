@@ -1,6 +1,6 @@
 -- Gates that are unknown on care where no observed one is, and the sweeps of loops where there are some.
 use Rattle.std.proofs.Common.{◌≡◌, ◌≢◌, inl, inr, ℕ, ◌+◌, ◌<◌, Bool, true, false, not, ◌↔◌, List, [], ◌∷◌, ◌++◌, length, Option, Some, None, refl, sym, ap, ap₂, ◌∙◌, subst, arith, Contains, true≢false}
-use Rattle.verdict.proofs.Common.{find, is_none, is_some, option_or, and_from, cases_lt, get_or_append_left, get_or_default, get_or_past, length_push, X, bits, vectors, Parts, IsNetlist, gate_sig, fix_gates, Feeds, Blocks, Cut, AreBlocksOf, block_at, home_of, IsCutOf, loops_by, value_in, IsCountOfSweeps, gate_home, home_gate, is_marked, ListsMarked, unsettled_loops_decide, CareSet, columns, is_care_vector, IsCareVector, Observe, Refusal, is_undetermined, is_x, leaves_refusal, refusal, none_passes, gate_wire, care_vector_is, AreFedKnown, IsLeastCount, is_unknown_at, SettleInOneSweep, AreLoopCounts, AreSpread, AreUnknownMarks, MayGoOn, are_care_values}
+use Rattle.verdict.proofs.Common.{find, is_none, is_some, option_or, and_from, cases_lt, get_or_append_left, get_or_default, get_or_past, length_push, X, bits, vectors, Parts, IsNetlist, gate_sig, fix_gates, Feeds, Blocks, Cut, AreBlocksOf, block_at, home_of, IsCutOf, loops_by, value_in, IsCountOfSweeps, gate_home, home_gate, is_marked, ListsMarked, unsettled_loops_decide, CareSet, columns, is_care_vector, IsCareVector, Observe, Refusal, is_undetermined, is_x, leaves_refusal, refusal, none_passes, gate_wire, care_vector_is, AreFedKnown, IsLeastCount, is_unknown_at, SettleInOneSweep, AreLoopCounts, AreScattered, AreUnknownMarks, MayGoOn, are_care_values}
 use Rattle.std.proofs.lemmas.List.{get_or_push}
 use Rattle.loops.specs.declared.structure.SweepCounts.{SweepCounts}
 use Rattle.loops.proofs.Told.{blocks_tell_loops}
@@ -31,7 +31,7 @@ listed-candidates net blocks settled candidates seen gates are same listed =
 
 module _ (net : Parts) (valid : IsNetlist net) (blocks : Blocks) (are : AreBlocksOf net blocks) (settled : List Bool) (soon : SettleInOneSweep net blocks settled) (care : CareSet)
     (candidates : List Bool) (gates : List ℕ) (found marks : List Bool) (candidates_are : AreCandidates net blocks settled candidates) (listed : ListsMarked candidates (length net.gates) gates)
-    (told : TellEachUnknown net care gates found) (spread : AreSpread (length net.gates) gates found (length gates) marks) where
+    (told : TellEachUnknown net care gates found) (spread : AreScattered (length net.gates) gates found (length gates) marks) where
   -- one that isn't marked, and is listed
   listed-known : (n : ℕ) → is_marked marks n ≡ false → (c : Contains gates n) → (b : Bool) → is_marked found c.0 ≡ b → is_unknown net care n ≡ false
   listed-known n isnt c true has =

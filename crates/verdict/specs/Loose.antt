@@ -45,16 +45,16 @@ pub record AreWithout (gates : List ℕ) (others marks : List Bool) : Type 0 whe
   pub width : length marks ≡ length others
   pub kept : (n : ℕ) → ¬ Contains gates n → is_marked marks n ≡ is_marked others n
 
--- ---- values that are spread over the places of a list
+-- ---- values that are scattered over the places of a list
 
 -- one of the first k places is this one, and has the value
-pub record IsSpreadTo (places : List ℕ) (values : List Bool) (k n : ℕ) : Type 0 where
+pub record IsScatteredTo (places : List ℕ) (values : List Bool) (k n : ℕ) : Type 0 where
   pub place : ℕ
   pub early : place < k
   pub is : gate_in places place ≡ n
   pub has : is_marked values place ≡ true
 
-pub record AreSpread (width : ℕ) (places : List ℕ) (values : List Bool) (k : ℕ) (marks : List Bool) : Type 0 where
+pub record AreScattered (width : ℕ) (places : List ℕ) (values : List Bool) (k : ℕ) (marks : List Bool) : Type 0 where
   pub width_is : length marks ≡ width
-  pub from : (n : ℕ) → is_marked marks n ≡ true → IsSpreadTo places values k n
+  pub from : (n : ℕ) → is_marked marks n ≡ true → IsScatteredTo places values k n
   pub to : (i : ℕ) → i < k → is_marked values i ≡ true → is_marked marks (gate_in places i) ≡ true
