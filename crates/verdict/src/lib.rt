@@ -14,6 +14,7 @@ mod care;
 mod clauses;
 mod counts;
 mod deciding;
+mod diagrams;
 mod fanout;
 mod fault;
 mod fitting;

@@ -5,8 +5,8 @@ use Rattle.verdict.specs.Costs.{care_cost}
 use Rattle.verdict.specs.Verdicts.{IsGateVerdict}
 use Rattle.verdict.proofs.DecisionLemmas.{wide-kept}
 use Rattle.verdict.proofs.PartLemmas.{AreFixed-kept}
-use Rattle.verdict.proofs.deciding.verdict_on_care.Goals as goal
-use Rattle.verdict.proofs.deciding.verdict_on_care.Goals.{After-verdict_of_gates, After-leaves, In-Determined}
+use Rattle.verdict.proofs.diagrams.verdict_on_care.Goals as goal
+use Rattle.verdict.proofs.diagrams.verdict_on_care.Goals.{After-verdict_of_gates, After-leaves, In-Determined}
 
 pub leaves-requires-clause-fixed : goal.leaves-requires-clause-fixed
 leaves-requires-clause-fixed c = AreFixed-kept c.verdict_of_gates.ensures.grows.keeps c.requires.fixed

@@ -7,8 +7,8 @@ use Rattle.verdict.proofs.PartLemmas.{Tells-same}
 use Rattle.isolation.proofs.SettlingLemmas.{loops-are}
 use Rattle.verdict.proofs.SolutionLemmas.{working-wide}
 use Rattle.verdict.proofs.VerdictLemmas.{fixed-is}
-use Rattle.verdict.proofs.deciding.judge_whole.Goals as goal
-use Rattle.verdict.proofs.deciding.judge_whole.Goals.{After-solve_beside, In_ok-found}
+use Rattle.verdict.proofs.diagrams.judge_whole.Goals as goal
+use Rattle.verdict.proofs.diagrams.judge_whole.Goals.{After-solve_beside, In_ok-found}
 
 pub solve_beside-requires-clause-width : goal.solve_beside-requires-clause-width
 solve_beside-requires-clause-width c = c.requires.columns.width ∙ c.requires.vars ∙ ap (λ (l : Looped). columns l.net) (sym c.looped-looped.ensures.looped)

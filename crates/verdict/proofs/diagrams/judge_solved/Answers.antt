@@ -9,8 +9,8 @@ use Rattle.verdict.proofs.DecisionLemmas.{wide-kept}
 use Rattle.verdict.proofs.PartLemmas.{Tells-kept}
 use Rattle.verdict.proofs.SolutionLemmas.{compared-wide}
 use Rattle.verdict.proofs.VerdictLemmas.{refused-on-care, accepts-is}
-use Rattle.verdict.proofs.deciding.judge_solved.Goals as goal
-use Rattle.verdict.proofs.deciding.judge_solved.Goals.{After-sweeps, In-Determined}
+use Rattle.verdict.proofs.diagrams.judge_solved.Goals as goal
+use Rattle.verdict.proofs.diagrams.judge_solved.Goals.{After-sweeps, In-Determined}
 
 pub verdict_on_care-requires-clause-fixed : goal.verdict_on_care-requires-clause-fixed
 verdict_on_care-requires-clause-fixed c = c.requires.solved.fixed

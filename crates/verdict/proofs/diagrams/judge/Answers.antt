@@ -3,8 +3,8 @@ use Rattle.verdict.proofs.Common.{adds_then, adds_moved, adds_more, adds_refused
 use Rattle.bdd_store.proofs.GrowthLemmas.{adds_caused, adds_answered}
 use Rattle.verdict.specs.Costs.{whole_cost}
 use Rattle.verdict.specs.Verdicts.{IsStart}
-use Rattle.verdict.proofs.deciding.judge.Goals as goal
-use Rattle.verdict.proofs.deciding.judge.Goals.{After-begin}
+use Rattle.verdict.proofs.diagrams.judge.Goals as goal
+use Rattle.verdict.proofs.diagrams.judge.Goals.{After-begin}
 
 pub judge_whole-requires-clause-columns : goal.judge_whole-requires-clause-columns
 judge_whole-requires-clause-columns c = AreColumns-kept c.begin.ensures.grows.keeps c.requires.columns
