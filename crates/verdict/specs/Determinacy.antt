@@ -10,6 +10,7 @@ use Rattle.refusals.specs.declared.observe.Observe.{Observe}
 use Rattle.verdict.specs.declared.clauses.Determinacy.{Determinacy}
 use Rattle.verdict.specs.declared.clauses.Determinacy.TheVariants as determinacies
 use Rattle.verdict.specs.Loose.{IsLooseNumber}
+use Rattle.verdict.specs.Searches.{Searched}
 use Rattle.verdict.specs.Verdicts.{AreSweepsOnCare}
 
 -- no observed gate is unknown on care, or the first refuses the netlist, or nothing is said
@@ -17,7 +18,7 @@ pub record AreDetermined (net : Parts) (blocks : Blocks) (cut : Cut) (care : Car
   pub number : IsLooseNumber net care what loose
   pub sweeps : AreSweepsOnCare net blocks cut care counts
 
-abbrev pub IsDeterminacy : Parts → Blocks → Cut → CareSet → Observe → Determinacy → Type 0
-IsDeterminacy net blocks cut care what (determinacies.Determined counts loose) = AreDetermined net blocks cut care what counts loose
-IsDeterminacy net blocks cut care what (determinacies.Refused refusal) = undetermined_refusal net care what ≡ Some refusal
-IsDeterminacy net blocks cut care what determinacies.Undecided = Unit {0}
+abbrev pub IsDeterminacy : Searched → Observe → Determinacy → Type 0
+IsDeterminacy s what (determinacies.Determined counts loose) = AreDetermined s.net s.blocks s.cut s.care what counts loose
+IsDeterminacy s what (determinacies.Refused refusal) = undetermined_refusal s.net s.care what ≡ Some refusal
+IsDeterminacy s what determinacies.Undecided = Unit {0}

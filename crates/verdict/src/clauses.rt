@@ -9,7 +9,8 @@ ghost use Rattle.verdict.specs.Determination.{AreDeterminedOnCare, IsOpen};
 ghost use Rattle.verdict.specs.Loose.{AreUnknownMarks};
 ghost use Rattle.verdict.specs.Scopes.{AreOpenGates, IsBeginning, MayGoOn};
 ghost use Rattle.verdict.specs.Determinacy.{AreDetermined, IsDeterminacy};
-ghost use Rattle.verdict.specs.Verdicts.{IsVerdict};
+ghost use Rattle.verdict.specs.Questions.{IsVerdictOf};
+ghost use Rattle.verdict.specs.Searches.{IsVerdictWith};
 
 use crate::alone::{open_gates, settled_loops};
 use crate::counts::{counts_of, open_counts};
@@ -90,7 +91,7 @@ pub enum Determinacy {
 fn determinacy_of_known(alloc: Global, search: &Search<'_>) -> Result<Determinacy, AllocError>
     requires some { empty_refusal search.now.net search.now.care ≡ None }
     requires known { AreDeterminedOnCare search.now.net search.now.care (IsOpen search.now.net search.now.blocks search.now.settled) }
-    ensures { (what : Observe) → IfOk result (IsDeterminacy search.now.net search.now.blocks search.now.cut search.now.care what) }
+    ensures { (what : Observe) → IfOk result (IsDeterminacy search.now what) }
 {
     search.laws();
     let Some(others) = open_counts(alloc, search)? else {
@@ -109,7 +110,7 @@ fn determinacy_with_loose(
 ) -> Result<Determinacy, AllocError>
     requires some { empty_refusal search.now.net search.now.care ≡ None }
     requires unknown { AreUnknownMarks search.now.net search.now.care unknown.now }
-    ensures { IfOk result (IsDeterminacy search.now.net search.now.blocks search.now.cut search.now.care observe) }
+    ensures { IfOk result (IsDeterminacy search.now observe) }
 {
     let Some(loose) = loose_number(alloc, search.net(), search.care(), observe, unknown)? else {
         return Ok(Determinacy::Undecided);
@@ -127,7 +128,7 @@ fn determinacy_of_loose(
     observe: Observe,
 ) -> Result<Determinacy, AllocError>
     requires { empty_refusal search.now.net search.now.care ≡ None }
-    ensures { IfOk result (IsDeterminacy search.now.net search.now.blocks search.now.cut search.now.care observe) }
+    ensures { IfOk result (IsDeterminacy search.now observe) }
 {
     match unknown_gates(alloc, search)? {
         Some(unknown) => determinacy_with_loose(alloc, search, observe, &unknown),
@@ -144,7 +145,7 @@ fn determinacy_of_observed(
 ) -> Result<Determinacy, AllocError>
     requires some { empty_refusal search.now.net search.now.care ≡ None }
     requires unknown { unknown < length search.now.net.gates }
-    ensures { IfOk result (IsDeterminacy search.now.net search.now.blocks search.now.cut search.now.care observe) }
+    ensures { IfOk result (IsDeterminacy search.now observe) }
 {
     if let Some(refusal) = unknown_refusal(alloc, search, observe, unknown)? {
         return Ok(Determinacy::Refused(refusal));
@@ -166,7 +167,7 @@ fn determinacy_at(
     requires some { empty_refusal search.now.net search.now.care ≡ None }
     requires gates { AreOpenGates search.now.net search.now.blocks search.now.settled gates.now }
     requires first { TellsFirstUnknown search.now.net search.now.care gates.now first }
-    ensures { IfOk result (IsDeterminacy search.now.net search.now.blocks search.now.cut search.now.care observe) }
+    ensures { IfOk result (IsDeterminacy search.now observe) }
 {
     match first {
         First::At(place) => determinacy_of_observed(alloc, search, observe, gates[place]),
@@ -190,7 +191,7 @@ fn determinacy_on_care(
     observe: Observe,
 ) -> Result<Determinacy, AllocError>
     requires { empty_refusal search.now.net search.now.care ≡ None }
-    ensures { IfOk result (IsDeterminacy search.now.net search.now.blocks search.now.cut search.now.care observe) }
+    ensures { IfOk result (IsDeterminacy search.now observe) }
 {
     let gates = gates_open(alloc, search)?;
     let first = first_of(alloc, search, &gates)?;
@@ -207,7 +208,7 @@ fn verdict_by_invariance(
 ) -> Result<Option<Verdict>, AllocError>
     requires begins { MayGoOn search.now.net search.now.care }
     requires determined { AreDetermined search.now.net search.now.blocks search.now.cut search.now.care observe sweeps loose }
-    ensures { IfOk result (λ found. IfSome found (IsVerdict search.now.net search.now.blocks search.now.cut search.now.care observe)) }
+    ensures { IfOk result (λ found. IfSome found (IsVerdictWith search.now observe)) }
 {
     search.laws();
     match invariance_of(alloc, search)? {
@@ -224,7 +225,7 @@ fn judge_by(
     observe: Observe,
 ) -> Result<Option<Verdict>, AllocError>
     requires { MayGoOn search.now.net search.now.care }
-    ensures { IfOk result (λ found. IfSome found (IsVerdict search.now.net search.now.blocks search.now.cut search.now.care observe)) }
+    ensures { IfOk result (λ found. IfSome found (IsVerdictWith search.now observe)) }
 {
     match determinacy_on_care(alloc, search, observe)? {
         Determinacy::Determined { sweeps, loose } => {
@@ -242,7 +243,7 @@ fn judge_gates(
     conflicts: u64,
 ) -> Result<Option<Verdict>, AllocError>
     requires { MayGoOn question.now.net question.now.care }
-    ensures { IfOk result (λ found. IfSome found (IsVerdict question.now.net question.now.blocks question.now.cut question.now.care question.now.what)) }
+    ensures { IfOk result (λ found. IfSome found (IsVerdictOf question.now)) }
 {
     let looped = question.looped();
     let settled = settled_loops(alloc, looped, LOOP_NODES)?;
@@ -257,7 +258,7 @@ pub(crate) fn verdict_by_clauses(
     question: &Question<'_>,
     conflicts: u64,
 ) -> Result<Option<Verdict>, AllocError>
-    ensures { IfOk result (λ found. IfSome found (IsVerdict question.now.net question.now.blocks question.now.cut question.now.care question.now.what)) }
+    ensures { IfOk result (λ found. IfSome found (IsVerdictOf question.now)) }
 {
     match begin(alloc, question.net(), question.care(), conflicts)? {
         Beginning::Refused(refusal) => Ok(Some(Verdict::Refused(refusal))),

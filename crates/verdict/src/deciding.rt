@@ -7,6 +7,7 @@ ghost use Rattle.loops.specs.Blocks.{AreBlocksOf};
 ghost use Rattle.loops.specs.Cuts.{IsCutOf};
 ghost use Rattle.verdict.specs.Causes.{IsOutOfNodes};
 ghost use Rattle.verdict.specs.Enough.{IsFullFor, IsBelowEnough};
+ghost use Rattle.verdict.specs.Questions.{IsVerdictOf};
 ghost use Rattle.verdict.specs.Verdicts.{IsVerdict};
 
 use crate::clauses::verdict_by_clauses;
@@ -43,7 +44,7 @@ fn early_verdict(
     limit: u32,
 ) -> Result<Option<Verdict>, AllocError>
     requires { limit ≤ MAX_NODES }
-    ensures { IfOk result (λ found. IfSome found (IsVerdict question.now.net question.now.blocks question.now.cut question.now.care question.now.what)) }
+    ensures { IfOk result (λ found. IfSome found (IsVerdictOf question.now)) }
 {
     if let Some(verdict) = verdict_by_clauses(alloc, question, FEW_CONFLICTS)? {
         return Ok(Some(verdict));
@@ -63,7 +64,7 @@ fn decide_on(
     question: &Question<'_>,
 ) -> Result<Verdict, StoreFault>
     requires { d.old.vars ≡ columns question.now.net }
-    ensures verdict { IfOk result (IsVerdict question.now.net question.now.blocks question.now.cut question.now.care question.now.what) }
+    ensures verdict { IfOk result (IsVerdictOf question.now) }
     ensures full { result ≡ Err StoreFault.Full → IsFullFor d.old d.new question.now.net question.now.care }
 {
     let rails = column_rails(alloc, d, question.order())?;

@@ -7,7 +7,8 @@ ghost use Rattle.verdict.specs.Costs.{care_cost, solved_cost, start_cost, whole_
 ghost use Rattle.verdict.specs.Enough.{AddsInDecision, GrowsInDecision};
 ghost use Rattle.verdict.specs.Sets.{AreFixed, Tells};
 ghost use Rattle.isolation.specs.Columns.{AreColumns};
-ghost use Rattle.verdict.specs.Verdicts.{refusal_on_care, IsCareStart, IsGateVerdict, IsSolvedWhole, IsVerdict};
+ghost use Rattle.verdict.specs.Verdicts.{refusal_on_care, IsCareStart, IsGateVerdict, IsSolvedWhole};
+ghost use Rattle.verdict.specs.Questions.{IsVerdictOf};
 
 use crate::beginning::{Start, begin};
 use crate::gate_verdict::GateVerdict;
@@ -59,7 +60,7 @@ fn judge_solved(
 ) -> Result<Verdict, StoreFault>
     requires solved { IsSolvedWhole question.now.net question.now.blocks question.now.cut d.old found.now }
     requires start { IsCareStart question.now.net question.now.care d.old found.now.set }
-    ensures verdict { IfOk result (IsVerdict question.now.net question.now.blocks question.now.cut question.now.care question.now.what) }
+    ensures verdict { IfOk result (IsVerdictOf question.now) }
     ensures grows { GrowsInDecision result d.old d.new question.now.net question.now.care (solved_cost question.now.net question.now.care) }
 {
     solutions();
@@ -90,7 +91,7 @@ fn judge_whole(
     requires vars { d.old.vars ≡ columns question.now.net }
     requires columns { AreColumns d.old (order_of question.now.net) rails.now }
     requires start { IsCareStart question.now.net question.now.care d.old set }
-    ensures verdict { IfOk result (IsVerdict question.now.net question.now.blocks question.now.cut question.now.care question.now.what) }
+    ensures verdict { IfOk result (IsVerdictOf question.now) }
     ensures vars { d.new.vars ≡ d.old.vars }
     ensures limit { d.new.limit ≡ d.old.limit }
     ensures adds { AddsInDecision result d.old d.new question.now.net question.now.care (whole_cost question.now.net question.now.care) }
@@ -110,7 +111,7 @@ pub(crate) fn judge(
 ) -> Result<Verdict, StoreFault>
     requires vars { d.old.vars ≡ columns question.now.net }
     requires columns { AreColumns d.old (order_of question.now.net) rails.now }
-    ensures verdict { IfOk result (IsVerdict question.now.net question.now.blocks question.now.cut question.now.care question.now.what) }
+    ensures verdict { IfOk result (IsVerdictOf question.now) }
     ensures vars { d.new.vars ≡ d.old.vars }
     ensures limit { d.new.limit ≡ d.old.limit }
     ensures adds { AddsInDecision result d.old d.new question.now.net question.now.care (start_cost question.now.net question.now.care + whole_cost question.now.net question.now.care) }
@@ -128,7 +129,7 @@ fn judge_from_columns(
     question: &Question<'_>,
 ) -> Result<Verdict, StoreFault>
     requires { d.old.vars ≡ columns question.now.net }
-    ensures { IfOk result (IsVerdict question.now.net question.now.blocks question.now.cut question.now.care question.now.what) }
+    ensures { IfOk result (IsVerdictOf question.now) }
 {
     let rails = column_rails(alloc, d, question.order())?;
     judge(alloc, d, question, &rails)
@@ -141,7 +142,7 @@ pub(crate) fn verdict_by_diagrams(
     limit: u32,
 ) -> Result<Option<Verdict>, AllocError>
     requires { limit ≤ MAX_NODES }
-    ensures { IfOk result (λ found. IfSome found (IsVerdict question.now.net question.now.blocks question.now.cut question.now.care question.now.what)) }
+    ensures { IfOk result (λ found. IfSome found (IsVerdictOf question.now)) }
 {
     let net = question.net();
     let mut d = Diagrams::new(alloc, net.columns(), limit)?;
