@@ -7,7 +7,8 @@ use Rattle.std.proofs.lemmas.List.{reverse-append, length-reverse, reverse-rever
 use Rattle.std.proofs.lemmas.List.Elements.{All-same}
 use Rattle.blif_read.specs.Find.{has_name}
 use Rattle.flatten.specs.declared.walk.Walk.{Walk}
-use Rattle.flatten.specs.Levels.{entered_on, Waits, remaining, then_lines, Walking, AddsGate, AddsLatch, PutsBack, PassesGate, PassesLatch, PartFails, WalkingAt, WalkingWith, IsBegun}
+use Rattle.flatten.specs.Hierarchies.{NestedModels}
+use Rattle.flatten.specs.Levels.{entered_on, Waits, remaining, then_lines, Walking, AddsGate, AddsLatch, PutsBack, PassesGate, PassesLatch, PartFails, WalkingAt, WalkingWith, Goes, StepsOn, StepsTo, IsBegun}
 use Rattle.flatten.proofs.Names.{bytes_same}
 use Rattle.flatten.proofs.Waiting.{waits_size, waits_open, waits_within, top_of, gate_step, latch_step, end_step, fault_step, opens_step, open_step}
 
@@ -119,17 +120,17 @@ module _ (depth : ℕ) (models : List BlifModel) (top m : List ℕ) (answer : Re
     waits_at : Waits depth models top m (l ∷ reverse walk.levels.items) w.path w.rest
     waits_at = subst (λ (ls : List Level). Waits depth models top m ls w.path w.rest) (rev_push walk.levels.items l) w.waits
 
-    pub walking_at : (l.model < length models) × (l.parts ≤ l.next) × All (λ x. x.model < length models) walk.levels.items
+    walking_at : (l.model < length models) × (l.parts ≤ l.next) × All (λ x. x.model < length models) walk.levels.items
     walking_at =
         let t = top_of depth models top m l (reverse walk.levels.items) w.path w.rest waits_at in
         (t.at.within, t.at.counted, all_reverse models walk.levels.items (waits_within depth models top m (reverse walk.levels.items) t.up t.later t.back))
 
-    pub walking_pop : drop l.next (model_at models l.model).body ≡ [] → WalkingAt depth models top m answer walk × (walk.room * 2 + length walk.levels.items < walk.room * 2 + (length walk.levels.items + 1))
+    walking_pop : drop l.next (model_at models l.model).body ≡ [] → WalkingAt depth models top m answer walk × (walk.room * 2 + length walk.levels.items < walk.room * 2 + (length walk.levels.items + 1))
     walking_pop e =
         let n = end_step depth models top m l (reverse walk.levels.items) w.path w.rest waits_at e in
         (record { path = n.0; rest = w.rest; waits = n.1; answers = w.answers }, omega arith)
 
-    pub walking_gate : (new : Walk) (g : GateLine) → drop l.next (model_at models l.model).body ≡ Gate g ∷ drop (suc l.next) (model_at models l.model).body → PassesGate walk l g new → WalkingAt depth models top m answer new × (new.room * 2 + length new.levels.items < walk.room * 2 + (length walk.levels.items + 1))
+    walking_gate : (new : Walk) (g : GateLine) → drop l.next (model_at models l.model).body ≡ Gate g ∷ drop (suc l.next) (model_at models l.model).body → PassesGate walk l g new → WalkingAt depth models top m answer new × (new.room * 2 + length new.levels.items < walk.room * 2 + (length walk.levels.items + 1))
     walking_gate new g e h =
         let n = gate_step depth models top m l (reverse walk.levels.items) w.path w.rest g waits_at e in
         let f = gate_by l.scope.prefix l.scope.table.entries g in
@@ -150,7 +151,7 @@ module _ (depth : ℕ) (models : List BlifModel) (top m : List ℕ) (answer : Re
           let k = ap length h.levels ∙ length-append walk.levels.items (passed_line l ∷ []) in omega (arith, k, h.left, h.some),
         )
 
-    pub walking_latch : (new : Walk) (x : LatchLine) → drop l.next (model_at models l.model).body ≡ Latch x ∷ drop (suc l.next) (model_at models l.model).body → PassesLatch walk l x new → WalkingAt depth models top m answer new × (new.room * 2 + length new.levels.items < walk.room * 2 + (length walk.levels.items + 1))
+    walking_latch : (new : Walk) (x : LatchLine) → drop l.next (model_at models l.model).body ≡ Latch x ∷ drop (suc l.next) (model_at models l.model).body → PassesLatch walk l x new → WalkingAt depth models top m answer new × (new.room * 2 + length new.levels.items < walk.room * 2 + (length walk.levels.items + 1))
     walking_latch new x e h =
         let n = latch_step depth models top m l (reverse walk.levels.items) w.path w.rest x waits_at e in
         let f = latch_by l.scope.prefix l.scope.table.entries x in
@@ -171,17 +172,17 @@ module _ (depth : ℕ) (models : List BlifModel) (top m : List ℕ) (answer : Re
           let k = ap length h.levels ∙ length-append walk.levels.items (passed_line l ∷ []) in omega (arith, k, h.left, h.some),
         )
 
-    pub full_gate : (g : GateLine) → drop l.next (model_at models l.model).body ≡ Gate g ∷ drop (suc l.next) (model_at models l.model).body → walk.room ≡ 0 → answer ≡ Err TooLarge
+    full_gate : (g : GateLine) → drop l.next (model_at models l.model).body ≡ Gate g ∷ drop (suc l.next) (model_at models l.model).body → walk.room ≡ 0 → answer ≡ Err TooLarge
     full_gate g e h =
         let n = gate_step depth models top m l (reverse walk.levels.items) w.path w.rest g waits_at e in
         w.answers ∙ ap (λ es. then_lines walk.latches.items walk.gates.items (decided walk.room es)) n.2 ∙ ap (λ r. then_lines walk.latches.items walk.gates.items (decided r (gate (gate_by l.scope.prefix l.scope.table.entries g) ∷ n.0))) h
 
-    pub full_latch : (x : LatchLine) → drop l.next (model_at models l.model).body ≡ Latch x ∷ drop (suc l.next) (model_at models l.model).body → walk.room ≡ 0 → answer ≡ Err TooLarge
+    full_latch : (x : LatchLine) → drop l.next (model_at models l.model).body ≡ Latch x ∷ drop (suc l.next) (model_at models l.model).body → walk.room ≡ 0 → answer ≡ Err TooLarge
     full_latch x e h =
         let n = latch_step depth models top m l (reverse walk.levels.items) w.path w.rest x waits_at e in
         w.answers ∙ ap (λ es. then_lines walk.latches.items walk.gates.items (decided walk.room es)) n.2 ∙ ap (λ r. then_lines walk.latches.items walk.gates.items (decided r (latch (latch_by l.scope.prefix l.scope.table.entries x) ∷ n.0))) h
 
-    pub failing_part : (p : PartLine) (fault : FlatFault) → drop l.next (model_at models l.model).body ≡ Part p ∷ drop (suc l.next) (model_at models l.model).body → PartFails depth models walk l p fault → answer ≡ Err fault
+    failing_part : (p : PartLine) (fault : FlatFault) → drop l.next (model_at models l.model).body ≡ Part p ∷ drop (suc l.next) (model_at models l.model).body → PartFails depth models walk l p fault → answer ≡ Err fault
     failing_part p fault e (inl h) =
         let n = fault_step depth models top m l (reverse walk.levels.items) w.path w.rest p fault waits_at e (sym (entered_same walk.levels.items l w.path w.rest p waits_at) ∙ h) in
         w.answers ∙ ap (λ es. then_lines walk.latches.items walk.gates.items (decided walk.room es)) n.1 ∙ fails_at walk.room fault n.0 walk.latches.items walk.gates.items
@@ -189,7 +190,7 @@ module _ (depth : ℕ) (models : List BlifModel) (top m : List ℕ) (answer : Re
         let n = opens_step depth models top m l (reverse walk.levels.items) w.path w.rest p h.2.0 waits_at e (sym (entered_same walk.levels.items l w.path w.rest p waits_at) ∙ h.2.1) in
         w.answers ∙ ap (λ es. then_lines walk.latches.items walk.gates.items (decided walk.room es)) n.1 ∙ ap (λ r. then_lines walk.latches.items walk.gates.items (decided r (opens ∷ n.0))) h.0 ∙ ap (λ f. Err f) (sym h.1)
 
-    pub walking_part : (new : Walk) (p : PartLine) → drop l.next (model_at models l.model).body ≡ Part p ∷ drop (suc l.next) (model_at models l.model).body → PassesPart depth models m walk l p new → WalkingAt depth models top m answer new × (new.room * 2 + length new.levels.items < walk.room * 2 + (length walk.levels.items + 1))
+    walking_part : (new : Walk) (p : PartLine) → drop l.next (model_at models l.model).body ≡ Part p ∷ drop (suc l.next) (model_at models l.model).body → PassesPart depth models m walk l p new → WalkingAt depth models top m answer new × (new.room * 2 + length new.levels.items < walk.room * 2 + (length walk.levels.items + 1))
     walking_part new p e h =
         let s = walk.levels.items in
         let found = entry_found p.model _ _ (λ i. pairs_fault (model_at models i) p.pairs) (find_model models p.model) h.inner.model h.enters.model in
@@ -210,6 +211,33 @@ module _ (depth : ℕ) (models : List BlifModel) (top m : List ℕ) (answer : Re
           },
           let k = ap length h.enters.levels ∙ length-append (s ++ (passed_part l ∷ [])) (h.inner ∷ []) ∙ ap (λ j. j + 1) (length-append s (passed_part l ∷ [])) in omega (arith, k, h.left, h.some),
         )
+
+-- a step from a level, whatever the walk comes to
+module _ (h : NestedModels) (walk : Walk) (l : Level) where
+  pub goes_at : Goes h walk l → (l.model < length h.models) × (l.parts ≤ l.next) × All (λ x. x.model < length h.models) walk.levels.items
+  goes_at goes = walking_at h.depth h.models goes.0 (mark_of h.models) goes.1.0 walk l goes.1.1
+
+  pub steps_out : drop l.next (model_at h.models l.model).body ≡ [] → StepsOn h walk l walk
+  steps_out e top answer w = walking_pop h.depth h.models top (mark_of h.models) answer walk l w e
+
+  pub steps_gate : (g : GateLine) → drop l.next (model_at h.models l.model).body ≡ Gate g ∷ drop (suc l.next) (model_at h.models l.model).body → (new : Walk) → PassesGate walk l g new → StepsOn h walk l new
+  steps_gate g e new passed top answer w = walking_gate h.depth h.models top (mark_of h.models) answer walk l w new g e passed
+
+  pub steps_latch : (x : LatchLine) → drop l.next (model_at h.models l.model).body ≡ Latch x ∷ drop (suc l.next) (model_at h.models l.model).body → (new : Walk) → PassesLatch walk l x new → StepsOn h walk l new
+  steps_latch x e new passed top answer w = walking_latch h.depth h.models top (mark_of h.models) answer walk l w new x e passed
+
+  pub steps_part : (p : PartLine) → drop l.next (model_at h.models l.model).body ≡ Part p ∷ drop (suc l.next) (model_at h.models l.model).body → (new : Walk) → PassesPart h.depth h.models (mark_of h.models) walk l p new → StepsOn h walk l new
+  steps_part p e new passed top answer w = walking_part h.depth h.models top (mark_of h.models) answer walk l w new p e passed
+
+  -- or to the fault
+  pub full_at_gate : (g : GateLine) → drop l.next (model_at h.models l.model).body ≡ Gate g ∷ drop (suc l.next) (model_at h.models l.model).body → (fault : FlatFault) → (walk.room ≡ 0) × (fault ≡ TooLarge) → StepsTo h walk l fault
+  full_at_gate g e fault full top answer w = full_gate h.depth h.models top (mark_of h.models) answer walk l w g e full.0 ∙ ap (λ f. Err f) (sym full.1)
+
+  pub full_at_latch : (x : LatchLine) → drop l.next (model_at h.models l.model).body ≡ Latch x ∷ drop (suc l.next) (model_at h.models l.model).body → (fault : FlatFault) → (walk.room ≡ 0) × (fault ≡ TooLarge) → StepsTo h walk l fault
+  full_at_latch x e fault full top answer w = full_latch h.depth h.models top (mark_of h.models) answer walk l w x e full.0 ∙ ap (λ f. Err f) (sym full.1)
+
+  pub fails_at_part : (p : PartLine) → drop l.next (model_at h.models l.model).body ≡ Part p ∷ drop (suc l.next) (model_at h.models l.model).body → (fault : FlatFault) → PartFails h.depth h.models walk l p fault → StepsTo h walk l fault
+  fails_at_part p e fault failed top answer w = failing_part h.depth h.models top (mark_of h.models) answer walk l w p fault e failed
 
 -- a line that was added, and its level put back
 pub gate_passed : (old mid new : Walk) (level : Level) (g : GateLine) → AddsGate old level.scope g mid → PutsBack mid level new → PassesGate old level g new

@@ -65,12 +65,12 @@ pub use Rattle.std.proofs.lemmas.Result.{IfOk-weaker}
 pub use Rattle.std.specs.List.{list_all}
 pub use Rattle.std.specs.Option.{option_map, option_map_or, option_or}
 pub use Rattle.std.specs.Prelude.{IsSomeAnd, find, is_none, is_some}
-pub use Rattle.verdict.specs.Behind.{AreDownstreamMarks}
+pub use Rattle.verdict.specs.Fanout.{AreFanoutMarks}
 pub use Rattle.verdict.specs.Causes.{HasModelOver}
 pub use Rattle.verdict.specs.Costs.{assume_effort, decision_cost, invariant_effort, start_cost}
 pub use Rattle.verdict.specs.Determination.{AreCountsBelow, SettleInOneSweep}
 pub use Rattle.verdict.specs.Enough.{AddsInDecision, BoundsModel, GrowsInDecision, IsFullFor, IsLaid, IsOfModel, SaysCare, read_by}
-pub use Rattle.verdict.specs.Loose.{AreLoopCounts, AreSpread, AreUnknownMarks}
+pub use Rattle.verdict.specs.Loose.{AreLoopCounts, AreScattered, AreUnknownMarks}
 pub use Rattle.verdict.specs.Next.{BoundsSignals, next_within}
 pub use Rattle.verdict.specs.Observed.{AreMarksOf}
 pub use Rattle.verdict.specs.Scopes.{AreCountsAt, AreDriversBefore, MayGoOn}

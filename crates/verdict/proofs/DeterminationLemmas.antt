@@ -15,10 +15,10 @@ use Rattle.refusals.proofs.RefusalLemmas.{bit_known, fails_after, find_none-all,
 use Rattle.verdict.specs.Determination.{count_of, number_of, AreDecided, AreDeterminedOnCare, IsDetermination, IsGate, IsOpen}
 use Rattle.verdict.specs.Scopes.{IsCountAt}
 use Rattle.verdict.specs.Laws.{DeterminationsAccept, NothingLeaves}
-use Rattle.verdict.specs.Standing.{AreStanding}
+use Rattle.verdict.specs.Determinacy.{AreDetermined}
 use Rattle.verdict.proofs.CountLemmas.{known-bits, care-values}
 use Rattle.verdict.proofs.PartLemmas.{IsKnownOnCare, loose-none, undetermined-none}
-use Rattle.verdict.proofs.VerdictLemmas.{accepts-is, refused-later}
+use Rattle.verdict.proofs.VerdictLemmas.{accepts-is, refused-on-care}
 
 -- ---- values of care vectors
 
@@ -226,14 +226,14 @@ determination-loose net care determined =
 
 pub determinations_accept : DeterminationsAccept
 determinations_accept net blocks cut care what counts valid is initial some stays = record {
-  accepts = accepts-is net care what valid (refused-later net care what None initial some (ap₂ option_or (none-undetermined net care what is.determined) stays));
+  accepts = accepts-is net care what valid (refused-on-care net care what None initial some (ap₂ option_or (none-undetermined net care what is.determined) stays));
   sweeps = is.sweeps;
   loose_is = determination-loose net care is.determined;
 }
 
--- and how the gates stand then
-pub determination-stands : (net : Parts) (blocks : Blocks) (cut : Cut) (care : CareSet) (what : Observe) (counts : SweepCounts) → IsDetermination net blocks cut care counts → AreStanding net blocks cut care what counts 0
-determination-stands net blocks cut care what counts is = record {
+-- and the gates are determined then
+pub determination-is : (net : Parts) (blocks : Blocks) (cut : Cut) (care : CareSet) (what : Observe) (counts : SweepCounts) → IsDetermination net blocks cut care counts → AreDetermined net blocks cut care what counts 0
+determination-is net blocks cut care what counts is = record {
   number = record { none = none-undetermined net care what is.determined; number = determination-loose net care is.determined };
   sweeps = is.sweeps;
 }

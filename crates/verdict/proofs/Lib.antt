@@ -1,13 +1,15 @@
-pub mod Common
 mod ApartLemmas
 mod BeginningLemmas
-mod BehindLemmas
+mod CandidateLemmas
 pub mod CareLemmas
 mod CauseLemmas
+pub mod Common
 pub mod CountLemmas
 mod DecisionLemmas
 mod DeterminationLemmas
 mod EnoughLemmas
+mod FanoutLemmas
+mod InvarianceLemmas
 mod LeavesLemmas
 mod LooseLemmas
 mod MarkLemmas
@@ -21,7 +23,5 @@ mod SizeLemmas
 mod SolutionLemmas
 mod SolvingLemmas
 mod StartLemmas
-mod StepLemmas
-mod SuspectLemmas
 mod VerdictLemmas
 pub mod WorkLemmas

@@ -1,20 +1,20 @@
--- Gates that are unknown on care where no observed one is, and the sweeps of loops beside them.
+-- Gates that are unknown on care where no observed one is, and the sweeps of loops where there are some.
 use Rattle.std.proofs.Common.{◌≡◌, ◌≢◌, inl, inr, ℕ, ◌+◌, ◌<◌, Bool, true, false, not, ◌↔◌, List, [], ◌∷◌, ◌++◌, length, Option, Some, None, refl, sym, ap, ap₂, ◌∙◌, subst, arith, Contains, true≢false}
-use Rattle.verdict.proofs.Common.{find, is_none, is_some, option_or, and_from, cases_lt, get_or_append_left, get_or_default, get_or_past, length_push, X, bits, vectors, Parts, IsNetlist, gate_sig, fix_gates, Feeds, Blocks, Cut, AreBlocksOf, block_at, home_of, IsCutOf, loops_by, value_in, IsCountOfSweeps, gate_home, home_gate, is_marked, ListsMarked, unsettled_loops_decide, CareSet, columns, is_care_vector, IsCareVector, Observe, Refusal, is_undetermined, is_x, leaves_refusal, refusal, none_passes, gate_wire, care_vector_is, AreFedKnown, IsLeastCount, is_unknown_at, SettleInOneSweep, AreLoopCounts, AreSpread, AreUnknownMarks, MayGoOn, are_care_values}
+use Rattle.verdict.proofs.Common.{find, is_none, is_some, option_or, and_from, cases_lt, get_or_append_left, get_or_default, get_or_past, length_push, X, bits, vectors, Parts, IsNetlist, gate_sig, fix_gates, Feeds, Blocks, Cut, AreBlocksOf, block_at, home_of, IsCutOf, loops_by, value_in, IsCountOfSweeps, gate_home, home_gate, is_marked, ListsMarked, unsettled_loops_decide, CareSet, columns, is_care_vector, IsCareVector, Observe, Refusal, is_undetermined, is_x, leaves_refusal, refusal, none_passes, gate_wire, care_vector_is, AreFedKnown, IsLeastCount, is_unknown_at, SettleInOneSweep, AreLoopCounts, AreScattered, AreUnknownMarks, MayGoOn, are_care_values}
 use Rattle.std.proofs.lemmas.List.{get_or_push}
 use Rattle.loops.specs.declared.structure.SweepCounts.{SweepCounts}
 use Rattle.loops.proofs.Told.{blocks_tell_loops}
 use Rattle.isolation.proofs.CountLemmas.{one_sweep_is_exact}
 use Rattle.refusals.specs.Acceptance.{SomeCareVector}
 use Rattle.clause_decision.specs.Tests.{is_unknown, TellEachUnknown}
-use Rattle.verdict.specs.Behind.{AreReached}
-use Rattle.verdict.specs.Loose.{AreAllSuspects, AreWithout, IsLooseNumber, IsLoopCount}
+use Rattle.verdict.specs.Fanout.{AreReached}
+use Rattle.verdict.specs.Loose.{AreCandidates, AreWithout, IsLooseNumber, IsLoopCount}
 use Rattle.verdict.specs.Verdicts.{AreSweepsOnCare, IsAcceptance}
 use Rattle.verdict.proofs.CountLemmas.{care-values}
 use Rattle.verdict.proofs.DeterminationLemmas.{determined-around, known-here, least-count}
 use Rattle.verdict.proofs.PartLemmas.{IsKnownOnCare}
-use Rattle.verdict.proofs.SuspectLemmas.{none-some}
-use Rattle.verdict.proofs.VerdictLemmas.{accepts-is, refused-later}
+use Rattle.verdict.proofs.CandidateLemmas.{none-some}
+use Rattle.verdict.proofs.VerdictLemmas.{accepts-is, refused-on-care}
 
 -- what a test says that isn't so
 pub says-not : {P : Type 0} (b : Bool) → ((b ≡ true) ↔ P) → not b ≡ true → ¬ P
@@ -23,15 +23,15 @@ says-not false tells isnt p = true≢false (sym (tells.1 p))
 
 -- ---- which gates are unknown on care
 
--- the suspects, listed
-pub listed-suspects : (net : Parts) (blocks : Blocks) (settled suspects seen : List Bool) (gates : List ℕ) → AreAllSuspects net blocks settled suspects → seen ≡ suspects → ListsMarked seen (length seen) gates →
-    ListsMarked suspects (length net.gates) gates
-listed-suspects net blocks settled suspects seen gates are same listed =
-    subst (λ (n : ℕ). ListsMarked suspects n gates) are.width (subst (λ (ms : List Bool). ListsMarked ms (length ms) gates) same listed)
+-- the candidates, listed
+pub listed-candidates : (net : Parts) (blocks : Blocks) (settled candidates seen : List Bool) (gates : List ℕ) → AreCandidates net blocks settled candidates → seen ≡ candidates → ListsMarked seen (length seen) gates →
+    ListsMarked candidates (length net.gates) gates
+listed-candidates net blocks settled candidates seen gates are same listed =
+    subst (λ (n : ℕ). ListsMarked candidates n gates) are.width (subst (λ (ms : List Bool). ListsMarked ms (length ms) gates) same listed)
 
 module _ (net : Parts) (valid : IsNetlist net) (blocks : Blocks) (are : AreBlocksOf net blocks) (settled : List Bool) (soon : SettleInOneSweep net blocks settled) (care : CareSet)
-    (suspects : List Bool) (gates : List ℕ) (found marks : List Bool) (suspects_are : AreAllSuspects net blocks settled suspects) (listed : ListsMarked suspects (length net.gates) gates)
-    (told : TellEachUnknown net care gates found) (spread : AreSpread (length net.gates) gates found (length gates) marks) where
+    (candidates : List Bool) (gates : List ℕ) (found marks : List Bool) (candidates_are : AreCandidates net blocks settled candidates) (listed : ListsMarked candidates (length net.gates) gates)
+    (told : TellEachUnknown net care gates found) (spread : AreScattered (length net.gates) gates found (length gates) marks) where
   -- one that isn't marked, and is listed
   listed-known : (n : ℕ) → is_marked marks n ≡ false → (c : Contains gates n) → (b : Bool) → is_marked found c.0 ≡ b → is_unknown net care n ≡ false
   listed-known n isnt c true has =
@@ -39,22 +39,22 @@ module _ (net : Parts) (valid : IsNetlist net) (blocks : Blocks) (are : AreBlock
   listed-known n isnt c false has = subst (λ (k : ℕ). is_unknown net care k ≡ false) (get_or_default gates c.0 0 n c.1 ∙ c.2) (told.each c.0 c.1 ∙ has)
 
   -- or isn't
-  never-suspected : (n : ℕ) → n < length net.gates → is_marked suspects n ≡ false → is_unknown net care n ≡ false
-  never-suspected n less apart =
+  no-candidate : (n : ℕ) → n < length net.gates → is_marked candidates n ≡ false → is_unknown net care n ≡ false
+  no-candidate n less apart =
       ap (λ (o : Option (List Bool)). is_some o)
       (known-here net care n less (λ v counts.
       unsettled_loops_decide net blocks (is_marked settled) valid are (λ b within loop marked. (soon b within loop marked).alone) v counts.width n less
-      (λ g low up loop unsettled. absurd (true≢false (sym (suspects_are.each n less (record { gate = g; opened = record { within = low; looped = loop; unsettled = unsettled }; upstream = up })) ∙ apart)))))
+      (λ g low up loop unsettled. absurd (true≢false (sym (candidates_are.each n less (record { gate = g; opened = record { within = low; looped = loop; unsettled = unsettled }; upstream = up })) ∙ apart)))))
 
-  unmarked : (n : ℕ) → n < length net.gates → is_marked marks n ≡ false → (b : Bool) → is_marked suspects n ≡ b → is_unknown net care n ≡ false
-  unmarked n less isnt true suspected = let c = (listed.each n).1 (less, suspected) in listed-known n isnt c (is_marked found c.0) refl
-  unmarked n less isnt false apart = never-suspected n less apart
+  unmarked : (n : ℕ) → n < length net.gates → is_marked marks n ≡ false → (b : Bool) → is_marked candidates n ≡ b → is_unknown net care n ≡ false
+  unmarked n less isnt true candidate = let c = (listed.each n).1 (less, candidate) in listed-known n isnt c (is_marked found c.0) refl
+  unmarked n less isnt false apart = no-candidate n less apart
 
   by-mark : (n : ℕ) → n < length net.gates → (b : Bool) → is_marked marks n ≡ b → is_unknown net care n ≡ is_marked marks n
   by-mark n less true is =
       let at = spread.from n is in
       subst (λ (k : ℕ). is_unknown net care k ≡ true) at.is (told.each at.place at.early ∙ at.has) ∙ sym is
-  by-mark n less false is = unmarked n less is (is_marked suspects n) refl ∙ sym is
+  by-mark n less false is = unmarked n less is (is_marked candidates n) refl ∙ sym is
 
   pub unknown-marked : AreUnknownMarks net care marks
   unknown-marked = record { width = spread.width_is; each = λ n less. by-mark n less (is_marked marks n) refl }
@@ -143,14 +143,14 @@ loop-counts-all net blocks are cut care n counts all at = record {
 
 -- ---- the verdict
 
-pub standing-accepts : (net : Parts) (blocks : Blocks) (cut : Cut) (care : CareSet) (what : Observe) (counts : SweepCounts) (loose : ℕ) → IsNetlist net → MayGoOn net care → IsLooseNumber net care what loose →
+pub determined-accepts : (net : Parts) (blocks : Blocks) (cut : Cut) (care : CareSet) (what : Observe) (counts : SweepCounts) (loose : ℕ) → IsNetlist net → MayGoOn net care → IsLooseNumber net care what loose →
     AreSweepsOnCare net blocks cut care counts → leaves_refusal net care ≡ None → IsAcceptance net blocks cut care what counts loose
-standing-accepts net blocks cut care what counts loose valid begins is sweeps stays = record {
-  accepts = accepts-is net care what valid (refused-later net care what None begins.initial begins.some (ap₂ option_or is.none stays));
+determined-accepts net blocks cut care what counts loose valid begins is sweeps stays = record {
+  accepts = accepts-is net care what valid (refused-on-care net care what None begins.initial begins.some (ap₂ option_or is.none stays));
   sweeps = sweeps;
   loose_is = is.number;
 }
 
 -- a next state that leaves the invariant refuses the netlist
 pub leaving-refuses : (net : Parts) (care : CareSet) (what : Observe) (loose : ℕ) (r : Refusal) → MayGoOn net care → IsLooseNumber net care what loose → leaves_refusal net care ≡ Some r → refusal net care what ≡ Some r
-leaving-refuses net care what loose r begins is leaves = refused-later net care what (Some r) begins.initial begins.some (ap₂ option_or is.none leaves)
+leaving-refuses net care what loose r begins is leaves = refused-on-care net care what (Some r) begins.initial begins.some (ap₂ option_or is.none leaves)

@@ -49,17 +49,17 @@ mapped-twice : {A B C : Type 0} (f : B → C) (g : A → B) (o : Option A) → o
 mapped-twice f g None = refl
 mapped-twice f g (Some x) = refl
 
--- a test of the columns behind the first ones finds their part of the least vector
-pub find-behind : (first rest n : ℕ) → n ≡ first + rest → (p : List Bool → Bool) →
+-- a test of the columns after the first ones finds their part of the least vector
+pub find-after : (first rest n : ℕ) → n ≡ first + rest → (p : List Bool → Bool) →
     find p (vectors rest) ≡ option_map (drop first) (find (λ v. p (drop first v)) (vectors n))
-find-behind zero rest n is p = ap (λ w. find p (vectors w)) (sym (let e : n ≡ rest = omega (arith, is) in e)) ∙ sym (mapped-same (find p (vectors n)))
+find-after zero rest n is p = ap (λ w. find p (vectors w)) (sym (let e : n ≡ rest = omega (arith, is) in e)) ∙ sym (mapped-same (find p (vectors n)))
   where
     mapped-same : (o : Option (List Bool)) → option_map (drop 0) o ≡ o
     mapped-same None = refl
     mapped-same (Some v) = refl
-find-behind (suc first) rest zero is p = absurd (omega (arith, is))
-find-behind (suc first) rest (suc n) is p =
-    find-behind first rest n (omega (arith, is)) p
+find-after (suc first) rest zero is p = absurd (omega (arith, is))
+find-after (suc first) rest (suc n) is p =
+    find-after first rest n (omega (arith, is)) p
     ∙ low (find (λ v. p (drop first v)) (vectors n))
     ∙ sym (ap (option_map (drop (suc first))) (
     find-append (λ v. p (drop (suc first) v)) (map (λ v. false ∷ v) (vectors n)) (map (λ v. true ∷ v) (vectors n))
@@ -79,7 +79,7 @@ initial-is net care a e starts_node inside outside found vars keeps starts_is in
     ∙ told-first net e outside (λ v. p (state_of net v)) (columns net) (keeps.vars ∙ vars)
     (λ v wide. outside_is (laid net v) ∙ ap₂ (λ x y. x && not y) (starts_is.value v (wide ∙ sym vars)) (inside_is.value v (wide ∙ sym vars))))
     ∙ mapped-twice Initial (drop (length net.inputs)) (find (λ v. p (state_of net v)) (vectors (columns net)))
-    ∙ ap (option_map Initial) (sym (find-behind (length net.inputs) (length net.latches) (columns net) refl p)
+    ∙ ap (option_map Initial) (sym (find-after (length net.inputs) (length net.latches) (columns net) refl p)
     ∙ sym (find-filter (λ q. not (is_in_invariant care q)) (is_initial net) (vectors (length net.latches))))
 
 -- ---- unknown gates

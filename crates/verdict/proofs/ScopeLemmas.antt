@@ -9,22 +9,22 @@ use Rattle.isolation.proofs.UpstreamLemmas.{upstream-trans}
 use Rattle.clause_decision.specs.declared.scope.Scope.{Scope}
 use Rattle.clause_decision.specs.Loads.{HasLoads}
 use Rattle.clause_decision.specs.Scopes.{AreClosed, AreInScope, AreNeverUnknown}
-use Rattle.verdict.specs.Loose.{AreAllSuspects}
+use Rattle.verdict.specs.Loose.{AreCandidates}
 use Rattle.verdict.specs.Scopes.{AreDrivers}
 
 not-false : (b : Bool) → not b ≡ true → b ≡ false
 not-false true e = absurd (true≢false (sym e))
 not-false false e = refl
 
--- the gates that are not behind a loop that isn't settled are known at each Boolean vector
-pub never-behind : (net : Parts) → IsNetlist net → (blocks : Blocks) → AreBlocksOf net blocks → (settled suspects known : List Bool) → SettleInOneSweep net blocks settled →
-    AreAllSuspects net blocks settled suspects → known ≡ map not suspects → AreNeverUnknown net known
-never-behind net valid blocks are settled suspects known soon all known_is v wide n within marked =
+-- the gates that are not in the fanout of a loop that isn't settled are known at each Boolean vector
+pub never-fed : (net : Parts) → IsNetlist net → (blocks : Blocks) → AreBlocksOf net blocks → (settled candidates known : List Bool) → SettleInOneSweep net blocks settled →
+    AreCandidates net blocks settled candidates → known ≡ map not candidates → AreNeverUnknown net known
+never-fed net valid blocks are settled candidates known soon all known_is v wide n within marked =
     unsettled_loops_decide net blocks (is_marked settled) valid are (λ b inside loop mark. (soon b inside loop mark).alone) v wide n within
     (λ m less up loop unsettled. absurd (true≢false (
     sym (all.each n within (record { gate = m; opened = record { within = less; looped = loop; unsettled = unsettled }; upstream = up }))
-    ∙ not-false (is_marked suspects n)
-    (sym (ap (λ (ms : List Bool). get_or ms n false) known_is ∙ get_or-map not suspects n false false (let w = all.width in omega (arith, within, w))) ∙ marked))))
+    ∙ not-false (is_marked candidates n)
+    (sym (ap (λ (ms : List Bool). get_or ms n false) known_is ∙ get_or-map not candidates n false false (let w = all.width in omega (arith, within, w))) ∙ marked))))
 
 -- a cone has with each gate those that feed it
 pub cone_closes : (net : Parts) (gates : List ℕ) (marks : List Bool) → IsConeOf net gates marks → AreClosed net marks

@@ -9,7 +9,7 @@ use Rattle.care_sets.specs.Care.{is_allowed}
 use Rattle.refusals.specs.Acceptance.{Accepts}
 use Rattle.refusals.specs.Refusals.{empty_refusal}
 use Rattle.refusals.proofs.LawLemmas.{accepted_without_refusal}
-use Rattle.verdict.specs.Verdicts.{later_refusal}
+use Rattle.verdict.specs.Verdicts.{refusal_on_care}
 use Rattle.verdict.proofs.PartLemmas.{told-first}
 
 -- ---- which part decides
@@ -22,16 +22,16 @@ pub refused-empty : (net : Parts) (care : CareSet) (what : Observe) → initial_
 refused-empty net care what initial is =
     ap₂ (λ o p. option_or o (option_or p (option_or (undetermined_refusal net care what) (option_or (leaves_refusal net care) None)))) initial is
 
-later-whole : (u l : Option Refusal) → option_or u (option_or l None) ≡ option_or u l
-later-whole (Some r) l = refl
-later-whole None None = refl
-later-whole None (Some r) = refl
+care-whole : (u l : Option Refusal) → option_or u (option_or l None) ≡ option_or u l
+care-whole (Some r) l = refl
+care-whole None None = refl
+care-whole None (Some r) = refl
 
-pub refused-later : (net : Parts) (care : CareSet) (what : Observe) (found : Option Refusal) → initial_refusal net care ≡ None → empty_refusal net care ≡ None → later_refusal net care what ≡ found →
+pub refused-on-care : (net : Parts) (care : CareSet) (what : Observe) (found : Option Refusal) → initial_refusal net care ≡ None → empty_refusal net care ≡ None → refusal_on_care net care what ≡ found →
     refusal net care what ≡ found
-refused-later net care what found initial empty is =
+refused-on-care net care what found initial empty is =
     ap₂ (λ o p. option_or o (option_or p (option_or (undetermined_refusal net care what) (option_or (leaves_refusal net care) None)))) initial empty
-    ∙ later-whole (undetermined_refusal net care what) (leaves_refusal net care) ∙ is
+    ∙ care-whole (undetermined_refusal net care what) (leaves_refusal net care) ∙ is
 
 pub accepts-is : (net : Parts) (care : CareSet) (what : Observe) → IsNetlist net → refusal net care what ≡ None → Accepts net care what
 accepts-is net care what valid none = (accepted_without_refusal net care what valid).0 none

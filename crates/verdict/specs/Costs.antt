@@ -22,12 +22,12 @@ abbrev pub leaving_cost : Parts → CareSet → ℕ
 leaving_cost net care = 2 * length net.latches + 2 * invariant_effort care + 1
 
 -- the unknown gates, and then these
-abbrev pub later_cost : Parts → CareSet → ℕ
-later_cost net care = 2 * length net.gates + leaving_cost net care
+abbrev pub care_cost : Parts → CareSet → ℕ
+care_cost net care = 2 * length net.gates + leaving_cost net care
 
 -- once the netlist is solved: these, and the sweeps that are counted
 abbrev pub solved_cost : Parts → CareSet → ℕ
-solved_cost net care = later_cost net care + 6 * length net.gates * (length net.gates + 2)
+solved_cost net care = care_cost net care + 6 * length net.gates * (length net.gates + 2)
 
 -- the netlist solved, and then this
 abbrev pub whole_cost : Parts → CareSet → ℕ
@@ -36,4 +36,4 @@ whole_cost net care = 10 * (length net.gates + 2) * effort net + solved_cost net
 -- the whole decision: both rails of each column, whose nodes are fewer than two functions of w nodes have, and then its
 -- parts, with the fixpoint and the sweeps that are counted
 abbrev pub decision_cost : Parts → CareSet → ℕ
-decision_cost net care = 2 + start_cost net care + 10 * (length net.gates + 2) * effort net + later_cost net care + 6 * length net.gates * (length net.gates + 2)
+decision_cost net care = 2 + start_cost net care + 10 * (length net.gates + 2) * effort net + care_cost net care + 6 * length net.gates * (length net.gates + 2)

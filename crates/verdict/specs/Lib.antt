@@ -1,8 +1,10 @@
-pub mod Behind
 pub mod Causes
 pub mod Costs
+pub mod Determinacy
 pub mod Determination
 pub mod Enough
+pub mod Fanout
+pub mod Invariance
 pub mod Laws
 pub mod Loose
 pub mod Next
@@ -12,7 +14,5 @@ pub mod Scopes
 pub mod Searches
 pub mod Sets
 pub mod Solving
-pub mod Standing
-pub mod Steps
 pub mod Unknown
 pub mod Verdicts

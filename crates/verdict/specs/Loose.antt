@@ -1,4 +1,4 @@
--- Gates that are unknown on care where no observed one is, and the sweeps of loops beside them.
+-- Gates that are unknown on care where no observed one is, and the sweeps of loops where there are some.
 use Rattle.std.specs.Prelude.{◌≡◌, ◌<◌, ℕ, Bool, true, false, None, List, length, Contains, slice_index_or}
 use Rattle.netlist.specs.declared.parts.Parts.{Parts}
 use Rattle.loops.specs.declared.structure.Blocks.{Blocks}
@@ -12,13 +12,13 @@ use Rattle.care_sets.specs.Care.{CareSet}
 use Rattle.refusals.specs.Refusals.{undetermined_refusal}
 use Rattle.refusals.specs.declared.observe.Observe.{Observe}
 use Rattle.clause_decision.specs.Tests.{is_unknown}
-use Rattle.verdict.specs.Unknown.{IsBehindOpen}
+use Rattle.verdict.specs.Unknown.{IsFedByOpen}
 use Rattle.verdict.specs.Verdicts.{are_care_values, AreLoose}
 
--- a mark for each gate: those in loops that aren't settled, and behind them, have one
-pub record AreAllSuspects (net : Parts) (blocks : Blocks) (settled marks : List Bool) : Type 0 where
+-- a mark for each gate: those in loops that aren't settled, and in their fanout, have one
+pub record AreCandidates (net : Parts) (blocks : Blocks) (settled marks : List Bool) : Type 0 where
   pub width : length marks ≡ length net.gates
-  pub each : (n : ℕ) → n < length net.gates → IsBehindOpen net blocks settled n → is_marked marks n ≡ true
+  pub each : (n : ℕ) → n < length net.gates → IsFedByOpen net blocks settled n → is_marked marks n ≡ true
 
 -- a mark for each gate, which says whether it is unknown at some care vector
 pub record AreUnknownMarks (net : Parts) (care : CareSet) (marks : List Bool) : Type 0 where
@@ -45,16 +45,16 @@ pub record AreWithout (gates : List ℕ) (others marks : List Bool) : Type 0 whe
   pub width : length marks ≡ length others
   pub kept : (n : ℕ) → ¬ Contains gates n → is_marked marks n ≡ is_marked others n
 
--- ---- values that are spread over the places of a list
+-- ---- values that are scattered over the places of a list
 
 -- one of the first k places is this one, and has the value
-pub record IsSpreadTo (places : List ℕ) (values : List Bool) (k n : ℕ) : Type 0 where
+pub record IsScatteredTo (places : List ℕ) (values : List Bool) (k n : ℕ) : Type 0 where
   pub place : ℕ
   pub early : place < k
   pub is : gate_in places place ≡ n
   pub has : is_marked values place ≡ true
 
-pub record AreSpread (width : ℕ) (places : List ℕ) (values : List Bool) (k : ℕ) (marks : List Bool) : Type 0 where
+pub record AreScattered (width : ℕ) (places : List ℕ) (values : List Bool) (k : ℕ) (marks : List Bool) : Type 0 where
   pub width_is : length marks ≡ width
-  pub from : (n : ℕ) → is_marked marks n ≡ true → IsSpreadTo places values k n
+  pub from : (n : ℕ) → is_marked marks n ≡ true → IsScatteredTo places values k n
   pub to : (i : ℕ) → i < k → is_marked values i ≡ true → is_marked marks (gate_in places i) ≡ true

@@ -11,6 +11,8 @@ use Rattle.fixpoint.specs.Orders.{order as order_of}
 use Rattle.care_sets.specs.Binding.{IsCareOf}
 use Rattle.care_sets.specs.Care.{CareSet}
 use Rattle.refusals.specs.declared.observe.Observe.{Observe}
+use Rattle.verdict.specs.declared.verdict.Verdict.{Verdict}
+use Rattle.verdict.specs.Verdicts.{IsVerdict}
 
 pub record Asked : Type 0 where
   pub net : Parts
@@ -36,3 +38,7 @@ pub record IsAsked (q : Asked) : Type 0 where
 pub record IsLaidOut (q : Asked) (order : List ℕ) : Type 0 where
   pub is : IsAsked q
   pub order_is : order ≡ order_of q.net
+
+-- what it is answered by
+abbrev pub IsVerdictOf : Asked → Verdict → Type 0
+IsVerdictOf q verdict = IsVerdict q.net q.blocks q.cut q.care q.what verdict

@@ -19,16 +19,16 @@ pub record AreAsked (net : Parts) (what : Observe) (asked : List Bool) : Type 0 
   pub seen : (n : ℕ) → is_marked asked n ≡ true → is_among (observed net what) (gate_sig net n) ≡ true
   pub earlier : (m n : ℕ) → m < n → is_marked asked n ≡ true → is_among (observed net what) (gate_sig net m) ≡ true → is_marked asked m ≡ true
 
--- the gate is in a loop at a place without a mark, or behind one
-pub record IsBehindOpen (net : Parts) (blocks : Blocks) (settled : List Bool) (n : ℕ) : Type 0 where
+-- the gate is in a loop at a place without a mark, or in the fanout of one
+pub record IsFedByOpen (net : Parts) (blocks : Blocks) (settled : List Bool) (n : ℕ) : Type 0 where
   pub gate : ℕ
   pub opened : IsOpen net blocks settled gate
   pub upstream : IsUpstream net gate n
 
 -- those among the gates asked for are marked, and no others
-pub record AreSuspects (net : Parts) (blocks : Blocks) (settled asked marks : List Bool) : Type 0 where
+pub record AreAskedCandidates (net : Parts) (blocks : Blocks) (settled asked marks : List Bool) : Type 0 where
   pub width : length marks ≡ length net.gates
-  pub each : (n : ℕ) → is_marked asked n ≡ true → IsBehindOpen net blocks settled n → is_marked marks n ≡ true
+  pub each : (n : ℕ) → is_marked asked n ≡ true → IsFedByOpen net blocks settled n → is_marked marks n ≡ true
   pub only : (n : ℕ) → is_marked marks n ≡ true → is_marked asked n ≡ true
 
 -- an observed gate, before which no observed one is unknown on care

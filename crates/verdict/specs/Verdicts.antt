@@ -7,7 +7,6 @@ use Rattle.bdd_store.specs.declared.node.Node.{Node}
 use Rattle.bdd_store.specs.Arena.{Arena}
 use Rattle.cyc_base.specs.declared.trit.Trit.{Trit}
 use Rattle.netlist.specs.declared.parts.Parts.{Parts}
-use Rattle.netlist.specs.Netlists.{IsNetlist}
 use Rattle.loops.specs.declared.structure.Blocks.{Blocks}
 use Rattle.loops.specs.declared.structure.Cut.{Cut}
 use Rattle.loops.specs.declared.structure.SweepCounts.{SweepCounts}
@@ -21,8 +20,8 @@ use Rattle.refusals.specs.Acceptance.{Accepts}
 use Rattle.refusals.specs.Refusals.{is_x, initial_refusal, empty_refusal, undetermined_refusal, leaves_refusal, refusal, loose_gates}
 use Rattle.refusals.specs.declared.observe.Observe.{Observe}
 use Rattle.refusals.specs.declared.refusal.Refusal.{Refusal}
-use Rattle.verdict.specs.declared.gates.Gates.{Gates}
-use Rattle.verdict.specs.declared.gates.Gates.TheVariants as gates
+use Rattle.verdict.specs.declared.gate_verdict.GateVerdict.{GateVerdict}
+use Rattle.verdict.specs.declared.gate_verdict.GateVerdict.TheVariants as gate_verdicts
 use Rattle.verdict.specs.declared.beginning.Start.{Start}
 use Rattle.verdict.specs.declared.beginning.Start.TheVariants as starts
 use Rattle.verdict.specs.declared.verdict.Verdict.{Verdict}
@@ -78,10 +77,10 @@ IsStart net care a (starts.Care set) = IsCareStart net care a set
 IsStart net care a (starts.Refused r) = (what : Observe) → refusal net care what ≡ Some r
 
 -- what refuses a netlist for its gates: an observed one that is undetermined, or else a state that leaves the invariant
-abbrev pub later_refusal : Parts → CareSet → Observe → Option Refusal
-later_refusal net care what = option_or (undetermined_refusal net care what) (leaves_refusal net care)
+abbrev pub refusal_on_care : Parts → CareSet → Observe → Option Refusal
+refusal_on_care net care what = option_or (undetermined_refusal net care what) (leaves_refusal net care)
 
--- the gates stand so on care, where this is what may refuse the netlist for them
-abbrev pub StandSo : Option Refusal → Parts → CareSet → Gates → Type 0
-StandSo may net care (gates.Determined loose) = (may ≡ None) × AreLoose net care loose
-StandSo may net care (gates.Refused r) = may ≡ Some r
+-- the verdict of the gates on care, where this is what may refuse the netlist for them
+abbrev pub IsGateVerdict : Option Refusal → Parts → CareSet → GateVerdict → Type 0
+IsGateVerdict may net care (gate_verdicts.Determined loose) = (may ≡ None) × AreLoose net care loose
+IsGateVerdict may net care (gate_verdicts.Refused r) = may ≡ Some r

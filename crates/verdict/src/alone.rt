@@ -29,7 +29,7 @@ fn needs_more_at_zeros(
     if gates_at(looped, block as usize).len() < net.gates() as usize / MOST_TIMES {
         return Ok(false);
     }
-    let zeros = vec![in alloc; false; (net.inputs() + net.latches()) as usize]?;
+    let zeros = vec![in alloc; false; net.columns() as usize]?;
     let sweeps = sweeps_at(alloc, looped, block, &zeros)?;
     Ok(sweeps > 1)
 }

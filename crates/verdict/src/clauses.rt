@@ -8,17 +8,18 @@ ghost use Rattle.clause_decision.specs.Tests.{TellsFirstUnknown};
 ghost use Rattle.verdict.specs.Determination.{AreDeterminedOnCare, IsOpen};
 ghost use Rattle.verdict.specs.Loose.{AreUnknownMarks};
 ghost use Rattle.verdict.specs.Scopes.{AreOpenGates, IsBeginning, MayGoOn};
-ghost use Rattle.verdict.specs.Standing.{AreStanding, StandsAs};
-ghost use Rattle.verdict.specs.Verdicts.{IsVerdict};
+ghost use Rattle.verdict.specs.Determinacy.{AreDetermined, IsDeterminacy};
+ghost use Rattle.verdict.specs.Questions.{IsVerdictOf};
+ghost use Rattle.verdict.specs.Searches.{IsVerdictWith};
 
 use crate::alone::{open_gates, settled_loops};
-use crate::beside::sweeps_beside;
 use crate::counts::{counts_of, open_counts};
+use crate::invariance::{Invariance, invariance_of};
+use crate::loose::sweeps_with_loose;
 use crate::question::Question;
 use crate::scopes::marked_places;
 use crate::search::Search;
-use crate::steps::{Step, step_of};
-use crate::suspects::{first_of, unknown_refusal};
+use crate::undetermined::{first_of, unknown_refusal};
 use crate::unknown::{loose_number, unknown_gates};
 use crate::verdict::Verdict;
 use care_sets::Care;
@@ -75,9 +76,9 @@ fn begin(alloc: Global, net: &Netlist, care: &Care, conflicts: u64) -> Result<Be
     }
 }
 
-/// How the gates of a netlist stand on care.
+/// Whether the observed gates of a netlist are determined on care.
 #[derive(Drop)]
-pub enum Standing {
+pub enum Determinacy {
     /// No observed one is unknown at any care vector, and so many others are. The loops need so many sweeps.
     Determined { sweeps: SweepCounts, loose: u32 },
     /// The first observed one that is unknown refuses the netlist.
@@ -86,92 +87,92 @@ pub enum Standing {
     Undecided,
 }
 
-/// How the gates stand where those of loops that aren't settled are all known on care: the loops' sweeps are counted.
-fn count(alloc: Global, search: &Search<'_>) -> Result<Standing, AllocError>
+/// Where the gates of loops that aren't settled are all known on care, all gates are determined: the loops' sweeps are counted.
+fn determinacy_of_known(alloc: Global, search: &Search<'_>) -> Result<Determinacy, AllocError>
     requires some { empty_refusal search.now.net search.now.care ≡ None }
     requires known { AreDeterminedOnCare search.now.net search.now.care (IsOpen search.now.net search.now.blocks search.now.settled) }
-    ensures { (what : Observe) → IfOk result (StandsAs search.now.net search.now.blocks search.now.cut search.now.care what) }
+    ensures { (what : Observe) → IfOk result (IsDeterminacy search.now what) }
 {
-    let _ = search.net();
+    search.laws();
     let Some(others) = open_counts(alloc, search)? else {
-        return Ok(Standing::Undecided);
+        return Ok(Determinacy::Undecided);
     };
     let sweeps = counts_of(alloc, search.blocks(), search.settled(), &others)?;
-    Ok(Standing::Determined { sweeps, loose: 0 })
+    Ok(Determinacy::Determined { sweeps, loose: 0 })
 }
 
-/// How the gates stand where these are unknown at some care vector.
-fn stand_with(
+/// Whether the gates are determined where these are unknown at some care vector.
+fn determinacy_with_loose(
     alloc: Global,
     search: &Search<'_>,
     observe: Observe,
     unknown: &[bool],
-) -> Result<Standing, AllocError>
+) -> Result<Determinacy, AllocError>
     requires some { empty_refusal search.now.net search.now.care ≡ None }
     requires unknown { AreUnknownMarks search.now.net search.now.care unknown.now }
-    ensures { IfOk result (StandsAs search.now.net search.now.blocks search.now.cut search.now.care observe) }
+    ensures { IfOk result (IsDeterminacy search.now observe) }
 {
     let Some(loose) = loose_number(alloc, search.net(), search.care(), observe, unknown)? else {
-        return Ok(Standing::Undecided);
+        return Ok(Determinacy::Undecided);
     };
-    match sweeps_beside(alloc, search, unknown)? {
-        Some(sweeps) => Ok(Standing::Determined { sweeps, loose }),
-        None => Ok(Standing::Undecided),
+    match sweeps_with_loose(alloc, search, unknown)? {
+        Some(sweeps) => Ok(Determinacy::Determined { sweeps, loose }),
+        None => Ok(Determinacy::Undecided),
     }
 }
 
-/// How the gates stand where one is unknown on care, and no observed one was found to be.
-fn stand_beside(
+/// Whether the gates are determined where one is unknown on care, and no observed one was found to be.
+fn determinacy_of_loose(
     alloc: Global,
     search: &Search<'_>,
     observe: Observe,
-) -> Result<Standing, AllocError>
+) -> Result<Determinacy, AllocError>
     requires { empty_refusal search.now.net search.now.care ≡ None }
-    ensures { IfOk result (StandsAs search.now.net search.now.blocks search.now.cut search.now.care observe) }
+    ensures { IfOk result (IsDeterminacy search.now observe) }
 {
     match unknown_gates(alloc, search)? {
-        Some(unknown) => stand_with(alloc, search, observe, &unknown),
-        None => Ok(Standing::Undecided),
+        Some(unknown) => determinacy_with_loose(alloc, search, observe, &unknown),
+        None => Ok(Determinacy::Undecided),
     }
 }
 
-/// The refusal of an observed gate where one is unknown on care, and else how the gates stand if it is found.
-fn stand_unknown(
+/// The refusal of an observed gate where one is unknown on care, and else whether the gates are determined, if it is found.
+fn determinacy_of_observed(
     alloc: Global,
     search: &Search<'_>,
     observe: Observe,
     unknown: u32,
-) -> Result<Standing, AllocError>
+) -> Result<Determinacy, AllocError>
     requires some { empty_refusal search.now.net search.now.care ≡ None }
     requires unknown { unknown < length search.now.net.gates }
-    ensures { IfOk result (StandsAs search.now.net search.now.blocks search.now.cut search.now.care observe) }
+    ensures { IfOk result (IsDeterminacy search.now observe) }
 {
     if let Some(refusal) = unknown_refusal(alloc, search, observe, unknown)? {
-        return Ok(Standing::Refused(refusal));
+        return Ok(Determinacy::Refused(refusal));
     }
     match observe {
-        Observe::All => Ok(Standing::Undecided),
-        Observe::Outputs => stand_beside(alloc, search, observe),
+        Observe::All => Ok(Determinacy::Undecided),
+        Observe::Outputs => determinacy_of_loose(alloc, search, observe),
     }
 }
 
-/// How the gates stand where the first gate that is unknown in these loops was looked for.
-fn stand_at(
+/// Whether the gates are determined where the first gate that is unknown in these loops was looked for.
+fn determinacy_at(
     alloc: Global,
     search: &Search<'_>,
     observe: Observe,
     gates: &[u32],
     first: First,
-) -> Result<Standing, AllocError>
+) -> Result<Determinacy, AllocError>
     requires some { empty_refusal search.now.net search.now.care ≡ None }
     requires gates { AreOpenGates search.now.net search.now.blocks search.now.settled gates.now }
     requires first { TellsFirstUnknown search.now.net search.now.care gates.now first }
-    ensures { IfOk result (StandsAs search.now.net search.now.blocks search.now.cut search.now.care observe) }
+    ensures { IfOk result (IsDeterminacy search.now observe) }
 {
     match first {
-        First::At(place) => stand_unknown(alloc, search, observe, gates[place]),
-        First::Nowhere => count(alloc, search),
-        First::Unknown => Ok(Standing::Undecided),
+        First::At(place) => determinacy_of_observed(alloc, search, observe, gates[place]),
+        First::Nowhere => determinacy_of_known(alloc, search),
+        First::Unknown => Ok(Determinacy::Undecided),
     }
 }
 
@@ -183,18 +184,22 @@ fn gates_open(alloc: Global, search: &Search<'_>) -> Result<Vec<u32>, AllocError
     marked_places(alloc, &marks)
 }
 
-/// How the gates stand: those of loops that aren't settled by themselves are asked for.
-fn stand(alloc: Global, search: &Search<'_>, observe: Observe) -> Result<Standing, AllocError>
+/// Whether the gates are determined: those of loops that aren't settled by themselves are asked for.
+fn determinacy_on_care(
+    alloc: Global,
+    search: &Search<'_>,
+    observe: Observe,
+) -> Result<Determinacy, AllocError>
     requires { empty_refusal search.now.net search.now.care ≡ None }
-    ensures { IfOk result (StandsAs search.now.net search.now.blocks search.now.cut search.now.care observe) }
+    ensures { IfOk result (IsDeterminacy search.now observe) }
 {
     let gates = gates_open(alloc, search)?;
     let first = first_of(alloc, search, &gates)?;
-    stand_at(alloc, search, observe, &gates, first)
+    determinacy_at(alloc, search, observe, &gates, first)
 }
 
-/// The verdict where no observed gate is unknown on care, so that the invariant's step decides.
-fn step_verdict(
+/// The verdict where no observed gate is unknown on care, so that next states decide.
+fn verdict_by_invariance(
     alloc: Global,
     search: &Search<'_>,
     observe: Observe,
@@ -202,14 +207,14 @@ fn step_verdict(
     loose: u32,
 ) -> Result<Option<Verdict>, AllocError>
     requires begins { MayGoOn search.now.net search.now.care }
-    requires stands { AreStanding search.now.net search.now.blocks search.now.cut search.now.care observe sweeps loose }
-    ensures { IfOk result (λ found. IfSome found (IsVerdict search.now.net search.now.blocks search.now.cut search.now.care observe)) }
+    requires determined { AreDetermined search.now.net search.now.blocks search.now.cut search.now.care observe sweeps loose }
+    ensures { IfOk result (λ found. IfSome found (IsVerdictWith search.now observe)) }
 {
-    let _ = search.net();
-    match step_of(alloc, search)? {
-        Step::Stays => Ok(Some(Verdict::Accepted { sweeps, loose })),
-        Step::Leaves(refusal) => Ok(Some(Verdict::Refused(refusal))),
-        Step::Undecided => Ok(None),
+    search.laws();
+    match invariance_of(alloc, search)? {
+        Invariance::Stays => Ok(Some(Verdict::Accepted { sweeps, loose })),
+        Invariance::Leaves(refusal) => Ok(Some(Verdict::Refused(refusal))),
+        Invariance::Undecided => Ok(None),
     }
 }
 
@@ -220,14 +225,14 @@ fn judge_by(
     observe: Observe,
 ) -> Result<Option<Verdict>, AllocError>
     requires { MayGoOn search.now.net search.now.care }
-    ensures { IfOk result (λ found. IfSome found (IsVerdict search.now.net search.now.blocks search.now.cut search.now.care observe)) }
+    ensures { IfOk result (λ found. IfSome found (IsVerdictWith search.now observe)) }
 {
-    match stand(alloc, search, observe)? {
-        Standing::Determined { sweeps, loose } => {
-            step_verdict(alloc, search, observe, sweeps, loose)
+    match determinacy_on_care(alloc, search, observe)? {
+        Determinacy::Determined { sweeps, loose } => {
+            verdict_by_invariance(alloc, search, observe, sweeps, loose)
         }
-        Standing::Refused(refusal) => Ok(Some(Verdict::Refused(refusal))),
-        Standing::Undecided => Ok(None),
+        Determinacy::Refused(refusal) => Ok(Some(Verdict::Refused(refusal))),
+        Determinacy::Undecided => Ok(None),
     }
 }
 
@@ -238,7 +243,7 @@ fn judge_gates(
     conflicts: u64,
 ) -> Result<Option<Verdict>, AllocError>
     requires { MayGoOn question.now.net question.now.care }
-    ensures { IfOk result (λ found. IfSome found (IsVerdict question.now.net question.now.blocks question.now.cut question.now.care question.now.what)) }
+    ensures { IfOk result (λ found. IfSome found (IsVerdictOf question.now)) }
 {
     let looped = question.looped();
     let settled = settled_loops(alloc, looped, LOOP_NODES)?;
@@ -253,7 +258,7 @@ pub(crate) fn verdict_by_clauses(
     question: &Question<'_>,
     conflicts: u64,
 ) -> Result<Option<Verdict>, AllocError>
-    ensures { IfOk result (λ found. IfSome found (IsVerdict question.now.net question.now.blocks question.now.cut question.now.care question.now.what)) }
+    ensures { IfOk result (λ found. IfSome found (IsVerdictOf question.now)) }
 {
     match begin(alloc, question.net(), question.care(), conflicts)? {
         Beginning::Refused(refusal) => Ok(Some(Verdict::Refused(refusal))),

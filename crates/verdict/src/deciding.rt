@@ -1,34 +1,26 @@
-//! The decision.
+//! The decision: by clauses, else by diagrams.
 
-ghost use Rattle.std.specs.Prelude.{◌≡◌, ◌≤◌, ◌⊎◌, ◌+◌, IfOk, IfErr, IfSome};
+ghost use Rattle.std.specs.Prelude.{◌≡◌, ◌≤◌, ◌⊎◌, IfOk, IfErr, IfSome};
 ghost use Rattle.care_sets.specs.Binding.{IsCareOf};
-ghost use Rattle.care_sets.specs.Care.{columns, is_care_vector};
+ghost use Rattle.care_sets.specs.Care.{columns};
 ghost use Rattle.loops.specs.Blocks.{AreBlocksOf};
 ghost use Rattle.loops.specs.Cuts.{IsCutOf};
-ghost use Rattle.fixpoint.specs.Orders.{order as order_of};
 ghost use Rattle.verdict.specs.Causes.{IsOutOfNodes};
-ghost use Rattle.verdict.specs.Costs.{later_cost, solved_cost, start_cost, whole_cost};
-ghost use Rattle.verdict.specs.Enough.{AddsInDecision, GrowsInDecision, IsFullFor, IsBelowEnough};
-ghost use Rattle.verdict.specs.Sets.{AreFixed, Tells};
-ghost use Rattle.isolation.specs.Columns.{AreColumns};
-ghost use Rattle.verdict.specs.Verdicts.{later_refusal, IsCareStart, IsSolvedWhole, IsVerdict, StandSo};
+ghost use Rattle.verdict.specs.Enough.{IsFullFor, IsBelowEnough};
+ghost use Rattle.verdict.specs.Questions.{IsVerdictOf};
+ghost use Rattle.verdict.specs.Verdicts.{IsVerdict};
 
-use crate::beginning::{Start, begin};
 use crate::clauses::verdict_by_clauses;
+use crate::diagrams::{judge, verdict_by_diagrams};
 use crate::fault::DecideFault;
 use crate::fitting::{fit_all, limit_of};
-use crate::gates::Gates;
 use crate::question::Question;
-use crate::refusing::{gates_on, leaves};
-use crate::solving::{Fixpoint, solve_beside};
 use crate::verdict::Verdict;
 use bdd_ops::Diagrams;
-use bdd_store::{Node, StoreFault};
+use bdd_store::StoreFault;
 use care_sets::Care;
 use cyc_base::MAX_NODES;
-use dual_rail::Rails;
-use fixpoint::laws::solutions;
-use fixpoint::{order, sweeps};
+use fixpoint::order;
 use isolation::column_rails;
 use loops::{Blocks, Cut, LoopedNetlist};
 use netlist::Netlist;
@@ -43,134 +35,6 @@ const MANY_CONFLICTS: u64 = 2_000_000;
 /// How many nodes the diagrams may have between these.
 const FEW_NODES: u32 = 200_000;
 
-/// The refusal of an undetermined gate that is observed, or else of a state that leaves the invariant, or else how
-/// many gates are unknown on care. The netlist's fixpoint is found beside the vectors of care.
-fn later(
-    alloc: Global,
-    d: &mut Diagrams,
-    question: &Question<'_>,
-    found: &Fixpoint,
-) -> Result<Gates, StoreFault>
-    requires vars { d.old.vars ≡ columns question.now.net }
-    requires fixed { AreFixed question.now.net d.old found.now.rails }
-    requires set { Tells question.now.net d.old found.now.set (is_care_vector question.now.net question.now.care) }
-    ensures gates { IfOk result (StandSo (later_refusal question.now.net question.now.care question.now.what) question.now.net question.now.care) }
-    ensures grows { GrowsInDecision result d.old d.new question.now.net question.now.care (later_cost question.now.net question.now.care) }
-{
-    let gates = gates_on(alloc, d, question, found)?;
-    let loose = match gates {
-        Gates::Determined { loose } => loose,
-        Gates::Refused(refusal) => return Ok(Gates::Refused(refusal)),
-    };
-    let left = leaves(alloc, d, question, found)?;
-    match left {
-        Some(refusal) => Ok(Gates::Refused(refusal)),
-        None => Ok(Gates::Determined { loose }),
-    }
-}
-
-/// The verdict of a solved netlist, beside which its care vectors are kept.
-fn judge_solved(
-    alloc: Global,
-    d: &mut Diagrams,
-    question: &Question<'_>,
-    found: &Fixpoint,
-) -> Result<Verdict, StoreFault>
-    requires solved { IsSolvedWhole question.now.net question.now.blocks question.now.cut d.old found.now }
-    requires start { IsCareStart question.now.net question.now.care d.old found.now.set }
-    ensures verdict { IfOk result (IsVerdict question.now.net question.now.blocks question.now.cut question.now.care question.now.what) }
-    ensures grows { GrowsInDecision result d.old d.new question.now.net question.now.care (solved_cost question.now.net question.now.care) }
-{
-    solutions();
-    d.store().laws();
-    let blocks = question.blocks();
-    let gates = later(alloc, d, question, found)?;
-    let loose = match gates {
-        Gates::Determined { loose } => loose,
-        Gates::Refused(refusal) => return Ok(Verdict::Refused(refusal)),
-    };
-    d.store().laws();
-    let counts = sweeps(alloc, d, &found.solved, blocks, found.set)?;
-    Ok(Verdict::Accepted {
-        sweeps: counts,
-        loose,
-    })
-}
-
-/// The verdict by all gates of the netlist, which is solved here on these rails of its columns. `set` are the vectors of
-/// care.
-fn judge_whole(
-    alloc: Global,
-    d: &mut Diagrams,
-    question: &Question<'_>,
-    rails: &[Rails],
-    set: Node,
-) -> Result<Verdict, StoreFault>
-    requires vars { d.old.vars ≡ columns question.now.net }
-    requires columns { AreColumns d.old (order_of question.now.net) rails.now }
-    requires start { IsCareStart question.now.net question.now.care d.old set }
-    ensures verdict { IfOk result (IsVerdict question.now.net question.now.blocks question.now.cut question.now.care question.now.what) }
-    ensures vars { d.new.vars ≡ d.old.vars }
-    ensures limit { d.new.limit ≡ d.old.limit }
-    ensures adds { AddsInDecision result d.old d.new question.now.net question.now.care (whole_cost question.now.net question.now.care) }
-{
-    d.store().laws();
-    let looped = question.looped();
-    let found = solve_beside(alloc, d, looped, rails, set)?;
-    judge_solved(alloc, d, question, &found)
-}
-
-/// The verdict by diagrams, which have a variable for each column. These are the rails of the columns.
-fn judge(
-    alloc: Global,
-    d: &mut Diagrams,
-    question: &Question<'_>,
-    rails: &[Rails],
-) -> Result<Verdict, StoreFault>
-    requires vars { d.old.vars ≡ columns question.now.net }
-    requires columns { AreColumns d.old (order_of question.now.net) rails.now }
-    ensures verdict { IfOk result (IsVerdict question.now.net question.now.blocks question.now.cut question.now.care question.now.what) }
-    ensures vars { d.new.vars ≡ d.old.vars }
-    ensures limit { d.new.limit ≡ d.old.limit }
-    ensures adds { AddsInDecision result d.old d.new question.now.net question.now.care (start_cost question.now.net question.now.care + whole_cost question.now.net question.now.care) }
-{
-    match begin(alloc, d, question, rails)? {
-        Start::Care(set) => judge_whole(alloc, d, question, rails, set),
-        Start::Refused(refusal) => Ok(Verdict::Refused(refusal)),
-    }
-}
-
-/// The verdict by diagrams that have a variable for each column and no nodes.
-fn judge_from_columns(
-    alloc: Global,
-    d: &mut Diagrams,
-    question: &Question<'_>,
-) -> Result<Verdict, StoreFault>
-    requires { d.old.vars ≡ columns question.now.net }
-    ensures { IfOk result (IsVerdict question.now.net question.now.blocks question.now.cut question.now.care question.now.what) }
-{
-    let rails = column_rails(alloc, d, question.order())?;
-    judge(alloc, d, question, &rails)
-}
-
-/// The verdict by diagrams of their own, of at most so many nodes, or none where these don't do.
-fn verdict_by_diagrams(
-    alloc: Global,
-    question: &Question<'_>,
-    limit: u32,
-) -> Result<Option<Verdict>, AllocError>
-    requires { limit ≤ MAX_NODES }
-    ensures { IfOk result (λ found. IfSome found (IsVerdict question.now.net question.now.blocks question.now.cut question.now.care question.now.what)) }
-{
-    let net = question.net();
-    let mut d = Diagrams::new(alloc, net.inputs() + net.latches(), limit)?;
-    match judge_from_columns(alloc, &mut d, question) {
-        Ok(verdict) => Ok(Some(verdict)),
-        Err(StoreFault::Full) => Ok(None),
-        Err(StoreFault::Memory) => Err(AllocError),
-    }
-}
-
 /// What is tried before the handed-in diagrams are filled: clauses for a while, diagrams for a while, and clauses for
 /// long. A direction that is chosen by a parity, once as a chain and once as a tree, is quick for diagrams and endless for
 /// clauses; a multiplier in a loop is the other way round.
@@ -180,7 +44,7 @@ fn early_verdict(
     limit: u32,
 ) -> Result<Option<Verdict>, AllocError>
     requires { limit ≤ MAX_NODES }
-    ensures { IfOk result (λ found. IfSome found (IsVerdict question.now.net question.now.blocks question.now.cut question.now.care question.now.what)) }
+    ensures { IfOk result (λ found. IfSome found (IsVerdictOf question.now)) }
 {
     if let Some(verdict) = verdict_by_clauses(alloc, question, FEW_CONFLICTS)? {
         return Ok(Some(verdict));
@@ -200,7 +64,7 @@ fn decide_on(
     question: &Question<'_>,
 ) -> Result<Verdict, StoreFault>
     requires { d.old.vars ≡ columns question.now.net }
-    ensures verdict { IfOk result (IsVerdict question.now.net question.now.blocks question.now.cut question.now.care question.now.what) }
+    ensures verdict { IfOk result (IsVerdictOf question.now) }
     ensures full { result ≡ Err StoreFault.Full → IsFullFor d.old d.new question.now.net question.now.care }
 {
     let rails = column_rails(alloc, d, question.order())?;
@@ -251,7 +115,7 @@ pub fn decide(
     let Ok(order) = order(alloc, net) else {
         return Err(DecideFault::Memory);
     };
-    if d.start(net.inputs() + net.latches(), limit).is_err() {
+    if d.start(net.columns(), limit).is_err() {
         return Err(DecideFault::Memory);
     }
     let looped = LoopedNetlist::new(net, blocks, cut);

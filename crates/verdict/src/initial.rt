@@ -44,7 +44,7 @@ pub(crate) fn starts_on(
 {
     let first = net.inputs();
     let mut set = Node::of(true);
-    for variable in (0..first + net.latches()).rev() {
+    for variable in (0..net.columns()).rev() {
         let column = order[variable as usize];
         if column >= first {
             let latch = may_start_on(net.latch(column - first).init, rails[column as usize]);

@@ -17,9 +17,8 @@ fn mark(net: &Netlist, marks: &mut [bool], signal: Sig)
     ensures width { length marks.new ≡ length net.now.gates }
     ensures marks { (before : List Sig) → AreMarksOf net.now before marks.old → AreMarksOf net.now (before ++ signal ∷ []) marks.new }
 {
-    let first = net.inputs() + net.latches();
-    if signal.0 >= first {
-        marks[(signal.0 - first) as usize] = true;
+    if let Some(gate) = net.driver(signal) {
+        marks[gate as usize] = true;
     }
 }
 

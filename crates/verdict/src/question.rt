@@ -47,7 +47,7 @@ impl<'a> Question<'a> {
         requires order { order.now ≡ order_of looped.now.net }
         ensures { result ≡ asked looped.now care.now observe }
     {
-        let _ = looped.net().gates();
+        looped.net().laws();
         Question {
             looped,
             care,

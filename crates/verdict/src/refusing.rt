@@ -12,11 +12,11 @@ ghost use Rattle.verdict.specs.Costs.{leaving_cost};
 ghost use Rattle.dual_rail.specs.WorkingLists.{IsWide};
 ghost use Rattle.verdict.specs.Enough.{GrowsInDecision, IsLaid};
 ghost use Rattle.clause_decision.specs.Loads.{LoadsAreKnown};
-ghost use Rattle.verdict.specs.Verdicts.{StandSo};
+ghost use Rattle.verdict.specs.Verdicts.{IsGateVerdict};
 ghost use Rattle.verdict.specs.Sets.{Tells, BoundsBoth, AreFixed, difference, unknown_in, starts as starts_in, has_state_inside};
 
 use crate::care::invariant_on;
-use crate::gates::Gates;
+use crate::gate_verdict::GateVerdict;
 use crate::next::{next_of, next_on};
 use crate::observing::observed_gates;
 use crate::question::Question;
@@ -79,16 +79,16 @@ pub(crate) fn unknown_on(d: &mut Diagrams, set: Node, rails: Rails) -> Result<No
 
 /// The first observed gate that is unknown at a vector of care, with the least such vector, as a refusal; or how many
 /// gates are unknown at some, where none of these is observed.
-pub(crate) fn gates_on(
+pub(crate) fn verdict_of_gates(
     alloc: Global,
     d: &mut Diagrams,
     question: &Question<'_>,
     found: &Fixpoint,
-) -> Result<Gates, StoreFault>
+) -> Result<GateVerdict, StoreFault>
     requires vars { d.old.vars ≡ columns question.now.net }
     requires fixed { AreFixed question.now.net d.old found.now.rails }
     requires set { Tells question.now.net d.old found.now.set (is_care_vector question.now.net question.now.care) }
-    ensures gates { IfOk result (StandSo (undetermined_refusal question.now.net question.now.care question.now.what) question.now.net question.now.care) }
+    ensures gates { IfOk result (IsGateVerdict (undetermined_refusal question.now.net question.now.care question.now.what) question.now.net question.now.care) }
     ensures valid { IsNetlist question.now.net }
     ensures grows { GrowsWithin result d.old d.new NoOtherCause (IsWide d.old.vars (IsLaid question.now.net question.now.care)) (2 * length question.now.net.gates) }
 {
@@ -96,22 +96,22 @@ pub(crate) fn gates_on(
     let order = question.order();
     let rails = found.rails.items();
     let observed = observed_gates(alloc, net, question.observe())?;
-    let first = net.inputs() + net.latches();
     let mut loose = 0;
     for gate in 0..net.gates() {
-        let unknown = unknown_on(d, found.set, rails[(first + gate) as usize])?;
+        let wire = net.gate_sig(gate);
+        let unknown = unknown_on(d, found.set, rails[wire.0 as usize])?;
         if observed[gate as usize] {
             if let Some(vector) = least_of(alloc, d, order, unknown)? {
-                return Ok(Gates::Refused(Refusal::Undetermined {
+                return Ok(GateVerdict::Refused(Refusal::Undetermined {
                     vector: Bits::of(vector),
-                    wire: net.gate_sig(gate),
+                    wire,
                 }));
             }
         } else if !is_never(d, unknown) {
             loose += 1;
         }
     }
-    Ok(Gates::Determined { loose })
+    Ok(GateVerdict::Determined { loose })
 }
 
 /// The least vector of care whose next state isn't in the invariant, as a refusal. What the latches load is known on

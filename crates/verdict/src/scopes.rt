@@ -1,18 +1,17 @@
 //! Which gates the clauses of a question speak of.
 
-ghost use Rattle.std.specs.Prelude.{◌≡◌, ◌<◌, ◌≤◌, ◌-◌, ◌++◌, true, List, ℕ, not, length, map, All, Contains, IfOk, IfSome, IsSome};
-ghost use Rattle.netlist.specs.Netlists.{gate_sig, IsSignal};
+ghost use Rattle.std.specs.Prelude.{◌≡◌, ◌<◌, ◌≤◌, not, length, map, All, IfOk, IfSome};
 ghost use Rattle.care_sets.specs.Binding.{IsCareOf};
 ghost use Rattle.isolation.specs.Cones.{ListsMarked};
 ghost use Rattle.clause_decision.specs.Scopes.{AreInScope, AreNeverUnknown, IsScopeOf};
 ghost use Rattle.verdict.specs.Determination.{SettleInOneSweep};
 ghost use Rattle.verdict.specs.Scopes.{AreDrivers, IsScopedAt};
 
-use crate::behind::suspect_gates;
+use crate::fanout::candidate_gates;
 use crate::search::Search;
 use care_sets::Care;
 use clause_decision::Scope;
-use cyc_base::{Items, Sig};
+use cyc_base::Items;
 use isolation::{gates_at, upstream_of};
 use loops::LoopedNetlist;
 use netlist::Netlist;
@@ -39,7 +38,7 @@ fn others(alloc: Global, marks: &[bool]) -> Result<Vec<bool>, AllocError>
     marks.iter().map(|mark| !*mark).collect(alloc)
 }
 
-/// The gates that are neither in a loop that isn't settled nor behind one: no Boolean vector leaves them unknown.
+/// The gates that are neither in a loop that isn't settled nor in the fanout of one: no Boolean vector leaves them unknown.
 pub(crate) fn known_gates(
     alloc: Global,
     looped: &LoopedNetlist<'_>,
@@ -50,9 +49,9 @@ pub(crate) fn known_gates(
     ensures width { IfOk result (λ known. length known.items ≡ length looped.now.net.gates) }
     ensures known { IfOk result (λ known. AreNeverUnknown looped.now.net known.items) }
 {
-    let _ = looped.net().gates();
-    let suspects = suspect_gates(alloc, looped, settled)?;
-    others(alloc, &suspects)
+    looped.net().laws();
+    let candidates = candidate_gates(alloc, looped, settled)?;
+    others(alloc, &candidates)
 }
 
 /// The scope of a question about these gates.
@@ -104,19 +103,6 @@ pub(crate) fn scoped_loop(
     Ok(Some(ScopedLoop { block, scope }))
 }
 
-/// The gate that drives a signal, if one does.
-fn driver(net: &Netlist, signal: Sig) -> Option<u32>
-    requires { IsSignal net.now signal }
-    ensures some { IfSome result (λ n. (n < length net.now.gates) × (signal ≡ gate_sig net.now n)) }
-    ensures none { (n : ℕ) → signal ≡ gate_sig net.now n → IsSome result }
-{
-    let first = net.inputs() + net.latches();
-    if signal.0 < first {
-        return None;
-    }
-    Some(signal.0 - first)
-}
-
 /// The gates that drive the latches which the invariant reads.
 pub(crate) fn drivers_read(
     alloc: Global,
@@ -130,7 +116,7 @@ pub(crate) fn drivers_read(
     let mut gates = Vec::new(alloc);
     for column in care.invariant_columns() {
         let latch = net.latch(*column - net.inputs());
-        if let Some(gate) = driver(net, latch.from) {
+        if let Some(gate) = net.driver(latch.from) {
             gates.push(gate)?;
         }
     }

@@ -45,13 +45,20 @@ impl<'a> Search<'a> {
         requires settled { SettleInOneSweep looped.now.net looped.now.blocks settled.now }
         ensures { result ≡ searched looped.now care.now settled.now }
     {
-        let _ = looped.net().gates();
+        looped.net().laws();
         Search {
             looped,
             care,
             settled,
             conflicts,
         }
+    }
+
+    /// What holds of each search.
+    pub(crate) fn laws(&self)
+        ensures is { IsSearched self.now }
+    {
+        let _ = &self.looped;
     }
 
     /// The netlist with its loops.

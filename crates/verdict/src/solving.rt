@@ -21,7 +21,7 @@ use std::alloc::{AllocError, Global};
 
 /// Rails and a set of vectors, kept as roots.
 #[derive(Drop)]
-pub struct Beside {
+pub struct KeptRoots {
     pub rails: Vec<KeptRails>,
     pub set: Root,
 }
@@ -45,22 +45,22 @@ impl Drop for Fixpoint {
 }
 
 /// Keeps rails and a set.
-fn keep_beside(
+fn keep_roots(
     alloc: Global,
     d: &mut Diagrams,
     rails: &[Rails],
     set: Node,
-) -> Result<Beside, AllocError>
+) -> Result<KeptRoots, AllocError>
     requires rails { All (AreRailsOf d.old) rails.now }
     requires set { IsNodeOf d.old set }
-    ensures keys { IfOk result (λ beside. All (AreKept d.new) beside.rails.items) }
-    ensures rails { IfOk result (λ beside. map (rails_under d.new) beside.rails.items ≡ rails.now) }
-    ensures set { IfOk result (λ beside. root_at d.new beside.set.key ≡ Some set) }
+    ensures keys { IfOk result (λ kept. All (AreKept d.new) kept.rails.items) }
+    ensures rails { IfOk result (λ kept. map (rails_under d.new) kept.rails.items ≡ rails.now) }
+    ensures set { IfOk result (λ kept. root_at d.new kept.set.key ≡ Some set) }
     ensures gains { GainsRoots d.old d.new }
 {
     let root = d.keep(set)?;
     let kept = keep_rails(alloc, d, rails)?;
-    Ok(Beside {
+    Ok(KeptRoots {
         rails: kept,
         set: root,
     })
@@ -84,7 +84,7 @@ pub fn solve_beside(
     ensures adds { AddsWithin result d.old d.new (HasLargeCover looped.now.net) (IsWide d.old.vars (IsWorking looped.now.net (loops_by looped.now.blocks looped.now.cut) (values_of d.old given.now))) (10 * (length looped.now.net.gates + 2) * effort looped.now.net) }
 {
     d.store().laws();
-    let Beside { rails, set: root } = keep_beside(alloc, d, given, set)?;
+    let KeptRoots { rails, set: root } = keep_roots(alloc, d, given, set)?;
     let net = looped.net();
     let blocks = looped.blocks();
     let cut = looped.cut();

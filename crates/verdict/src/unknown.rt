@@ -5,10 +5,10 @@ ghost use Rattle.care_sets.specs.Care.{CareSet};
 ghost use Rattle.refusals.specs.Acceptance.{observed as observed_signals};
 ghost use Rattle.refusals.specs.Refusals.{undetermined_refusal};
 ghost use Rattle.clause_decision.specs.Tests.{TellEachUnknown};
-ghost use Rattle.verdict.specs.Loose.{AreSpread, AreUnknownMarks, IsLooseNumber};
+ghost use Rattle.verdict.specs.Loose.{AreScattered, AreUnknownMarks, IsLooseNumber};
 ghost use Rattle.verdict.specs.Observed.{AreMarksOf};
 
-use crate::behind::suspect_gates;
+use crate::fanout::candidate_gates;
 use crate::observing::observed_gates;
 use crate::scopes::{marked_places, scope_of};
 use crate::search::Search;
@@ -19,7 +19,7 @@ use refusals::Observe;
 use std::alloc::{AllocError, Global};
 
 /// A mark for each of so many places: those of the list whose value is true.
-fn spread(
+fn scatter(
     alloc: Global,
     width: usize,
     places: &[u32],
@@ -27,7 +27,7 @@ fn spread(
 ) -> Result<Vec<bool>, AllocError>
     requires places { All (λ n. n < width) places.now }
     requires values { length values.now ≡ length places.now }
-    ensures { IfOk result (λ marks. AreSpread width places.now values.now (length places.now) marks.items) }
+    ensures { IfOk result (λ marks. AreScattered width places.now values.now (length places.now) marks.items) }
 {
     let mut marks = vec![in alloc; false; width]?;
     for place in 0..places.len() {
@@ -60,12 +60,12 @@ pub(crate) fn unknown_gates(
 ) -> Result<Option<Vec<bool>>, AllocError>
     ensures { IfOk result (λ found. IfSome found (λ marks. AreUnknownMarks search.now.net search.now.care marks.items)) }
 {
-    let marks = suspect_gates(alloc, search.looped(), search.settled())?;
+    let marks = candidate_gates(alloc, search.looped(), search.settled())?;
     let gates = marked_places(alloc, &marks)?;
     let Some(found) = ask_gates(alloc, search, &gates)? else {
         return Ok(None);
     };
-    Ok(Some(spread(alloc, marks.len(), &gates, &found)?))
+    Ok(Some(scatter(alloc, marks.len(), &gates, &found)?))
 }
 
 /// How many gates are marked, or none where an observed one is.

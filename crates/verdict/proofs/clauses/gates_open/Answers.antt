@@ -1,6 +1,6 @@
 use Rattle.std.proofs.Common.{◌∙◌, Bool, List, map, not, ap₂}
 use Rattle.verdict.proofs.Common.{IfOk-weaker, Blocks, is_marked}
-use Rattle.verdict.proofs.SuspectLemmas.{open-gates}
+use Rattle.verdict.proofs.CandidateLemmas.{open-gates}
 use Rattle.verdict.proofs.clauses.gates_open.Goals as goal
 
 pub returns : goal.returns

@@ -1,8 +1,8 @@
 use Rattle.std.proofs.Common.{subst}
-use Rattle.verdict.specs.Standing.{StandsAs}
+use Rattle.verdict.specs.Determinacy.{IsDeterminacy}
 use Rattle.verdict.proofs.clauses.judge_by.Goals as goal
 
-pub step_verdict-requires-clause-stands : goal.step_verdict-requires-clause-stands
-step_verdict-requires-clause-stands c =
+pub verdict_by_invariance-requires-clause-determined : goal.verdict_by_invariance-requires-clause-determined
+verdict_by_invariance-requires-clause-determined c =
     let s = c.args.search.now in
-    subst (StandsAs s.net s.blocks s.cut s.care c.args.observe) c.in-Determined.is c.in_ok-sweeps.ensures
+    subst (IsDeterminacy s c.args.observe) c.in-Determined.is c.in_ok-sweeps.ensures

@@ -7,7 +7,7 @@ use Rattle.verdict.proofs.initial.starts_on.Goals as goal
 use Rattle.verdict.proofs.initial.starts_on.Goals.{After-and}
 
 variable-inside : (c : After-and) → c.loop-variable.variable - 1 < columns c.args.net.now
-variable-inside c = omega (arith, c.loop-variable-test.true, c.loop-variable.auto.variable, c.inputs-first.ensures.inputs, c.latches.ensures.latches)
+variable-inside c = omega (arith, c.loop-variable-test.true, c.loop-variable.auto.variable, c.inputs-first.ensures.inputs, c.columns-variable.ensures.columns)
 
 -- the column of the variable
 column-is : (c : After-and) → get_or c.args.order.now (c.loop-variable.variable - 1) 0 ≡ get_or (order c.args.net.now) (c.loop-variable.variable - 1) 0
@@ -18,27 +18,27 @@ column-is c = ap (λ (xs : List ℕ). get_or xs (c.loop-variable.variable - 1) 0
 pub loop-variable-init : goal.loop-variable-init
 loop-variable-init c = record {
   grows = nothing_grown;
-  later = later-none c.args.net.now c.args.d.now c.of-set.result (c.inputs-first.result + c.latches.result) (c.of-set.ensures.node c.args.d.now) (c.of-set.ensures.value c.args.d.now)
-      (omega (arith, c.inputs-first.ensures.inputs, c.latches.ensures.latches));
+  later = later-none c.args.net.now c.args.d.now c.of-set.result c.columns-variable.result (c.of-set.ensures.node c.args.d.now) (c.of-set.ensures.value c.args.d.now)
+      (omega (arith, c.inputs-first.ensures.inputs, c.columns-variable.ensures.columns));
 }
 
 pub bounds-order-variable : goal.bounds-order-variable
 bounds-order-variable c =
     let long = long-order c.args.net.now in
     let same = ap length c.requires.order in
-    omega (arith, c.loop-variable-test.true, c.loop-variable.auto.variable, c.inputs-first.ensures.inputs, c.latches.ensures.latches, long, same)
+    omega (arith, c.loop-variable-test.true, c.loop-variable.auto.variable, c.inputs-first.ensures.inputs, c.columns-variable.ensures.columns, long, same)
 
 pub latch-requires : goal.latch-requires
 latch-requires c =
     let k : ℕ = c.loop-variable.variable - 1 in
-    let low = order-low c.args.net.now k (omega (arith, c.loop-variable-test.true, c.loop-variable.auto.variable, c.inputs-first.ensures.inputs, c.latches.ensures.latches)) in
+    let low = order-low c.args.net.now k (omega (arith, c.loop-variable-test.true, c.loop-variable.auto.variable, c.inputs-first.ensures.inputs, c.columns-variable.ensures.columns)) in
     let same = ap (λ (xs : List ℕ). get_or xs k 0) c.requires.order in
     omega (arith, low, same, c.if-column-first.true, c.inputs-first.ensures.inputs)
 
 pub bounds-rails-column : goal.bounds-rails-column
 bounds-rails-column c =
     let k : ℕ = c.loop-variable.variable - 1 in
-    let low = order-low c.args.net.now k (omega (arith, c.loop-variable-test.true, c.loop-variable.auto.variable, c.inputs-first.ensures.inputs, c.latches.ensures.latches)) in
+    let low = order-low c.args.net.now k (omega (arith, c.loop-variable-test.true, c.loop-variable.auto.variable, c.inputs-first.ensures.inputs, c.columns-variable.ensures.columns)) in
     let same = ap (λ (xs : List ℕ). get_or xs k 0) c.requires.order in
     let wide = c.requires.columns.width in
     omega (arith, low, same, wide, c.requires.vars)
@@ -70,7 +70,7 @@ fits-one c w fits =
     (c.loop-variable.invariant.grows.keeps.vars ∙ c.requires.vars) (both c) fits
 
 one-more : (c : After-and) → columns c.args.net.now - c.loop-variable.variable + 1 ≤ columns c.args.net.now - (c.loop-variable.variable - 1)
-one-more c = let inside = variable-inside c in omega (arith, c.loop-variable-test.true, c.loop-variable.auto.variable, inside, c.inputs-first.ensures.inputs, c.latches.ensures.latches)
+one-more c = let inside = variable-inside c in omega (arith, c.loop-variable-test.true, c.loop-variable.auto.variable, inside, c.inputs-first.ensures.inputs, c.columns-variable.ensures.columns)
 
 step : (c : After-and) → GrowsWithin c.and.result c.args.d.now c.and.new.self NoOtherCause (BoundsStarts c.args.net.now) (columns c.args.net.now - (c.loop-variable.variable - 1))
 step c = within_more (one-more c) (within_then c.loop-variable.invariant.grows (within_one (fits-one c) c.and.ensures.grows))
@@ -90,7 +90,7 @@ loop-variable-preserved c =
     let net = c.args.net.now in
     let k : ℕ = c.loop-variable.variable - 1 in
     let keeps = c.loop-variable.invariant.grows.keeps in
-    let inside : k < columns net = omega (arith, c.loop-variable-test.true, c.loop-variable.auto.variable, c.inputs-first.ensures.inputs, c.latches.ensures.latches) in
+    let inside : k < columns net = omega (arith, c.loop-variable-test.true, c.loop-variable.auto.variable, c.inputs-first.ensures.inputs, c.columns-variable.ensures.columns) in
     let same = ap (λ (xs : List ℕ). get_or xs k 0) c.requires.order in
     record {
       grows = within_more (omega arith) c.loop-variable.invariant.grows;

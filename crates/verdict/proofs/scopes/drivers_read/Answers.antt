@@ -1,16 +1,11 @@
-use Rattle.std.proofs.Common.{◌≡◌, ◌<◌, ◌∙◌, ◌+◌, ◌-◌, ℕ, List, length, get_or, slice_get, Some, None, subst, sym, ap, arith}
-use Rattle.std.specs.Prelude.{IfSome, IsSome}
-use Rattle.verdict.proofs.Common.{get_or_from_slice_get, count, gate_sig, Latch, AreDriversBefore}
+use Rattle.std.proofs.Common.{◌≡◌, ◌<◌, ◌∙◌, ◌+◌, ◌-◌, ℕ, List, length, get_or, slice_get, Some, subst, sym, ap, arith}
+use Rattle.std.specs.Prelude.{IfNone, IfSome}
+use Rattle.verdict.proofs.Common.{get_or_from_slice_get, Sig, count, gate_sig, Latch, AreDriversBefore}
 use Rattle.std.proofs.lemmas.Option.{slice_get_within}
-use Rattle.std.specs.declared.option.Option.{Option}
 use Rattle.verdict.proofs.ScopeLemmas.{drivers-more, drivers-same, drivers-all}
-use Rattle.verdict.proofs.StepLemmas.{read-columns}
+use Rattle.verdict.proofs.InvarianceLemmas.{read-columns}
 use Rattle.verdict.proofs.scopes.drivers_read.Goals as goal
 use Rattle.verdict.proofs.scopes.drivers_read.Goals.{in-Some+in_ok-push, in_default}
-
-no_some : (o : Option ℕ) → IsSome o → o ≡ None → ⊥
-no_some None some e = cc
-no_some (Some n) some e = cc
 
 pub latch-latch-requires : goal.latch-latch-requires
 latch-latch-requires c =
@@ -32,13 +27,16 @@ loop-column-preserved c =
     subst (λ (n : ℕ). slice_get net.latches (get_or columns c.loop-column.column-index 0 - n) ≡ Some c.latch-latch.result.now) c.inputs.ensures.inputs c.latch-latch.ensures.latch in
     elim c.match-driver.branch [
       | in-Some+in_ok-push w ↦
-          let some = subst (λ o. IfSome o (λ n. (n < length net.gates) × (c.latch-latch.result.now.from ≡ gate_sig net n))) w.in-Some.is c.driver.ensures.some in
+          let some = subst (λ o. IfSome o (λ n. (n < length net.gates) × (c.latch-latch.result.now.from ≡ gate_sig net n))) w.in-Some.is c.driver.ensures.driven in
           subst (AreDriversBefore net columns (c.loop-column.column-index + 1)) (sym (ap (λ v. v.items) w.gates-is ∙ w.in_ok-push.ensures.items))
           (drivers-more net columns c.loop-column.column-index w.in-Some.gate c.loop-column.gates.items c.latch-latch.result.now at c.loop-column-test.true some.0 some.1 c.loop-column.invariant)
       | in_default w ↦
           subst (AreDriversBefore net columns (c.loop-column.column-index + 1)) (sym (ap (λ v. v.items) w.gates-is))
           (drivers-same net columns c.loop-column.column-index c.loop-column.gates.items c.latch-latch.result.now at c.loop-column-test.true
-          (λ n is. no_some c.driver.result (c.driver.ensures.none n is) w.in_default.is) c.loop-column.invariant)
+          (λ n is.
+          let given = subst (λ o. IfNone o (c.latch-latch.result.now.from.0 < length net.inputs + length net.latches)) w.in_default.is c.driver.ensures.given in
+          let at = ap (λ (s : Sig). s.0) is in
+          omega (arith, given, at)) c.loop-column.invariant)
     ]
 
 pub returns-clause-drivers : goal.returns-clause-drivers

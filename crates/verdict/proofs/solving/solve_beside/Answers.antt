@@ -21,7 +21,7 @@ solution-adds c =
     let adds = rw (c.net-net.ensures.net, c.blocks-blocks.ensures.blocks, c.cut-cut.ensures.cut) at c.solve.ensures.adds in
     adds_before kept.gains
     (adds_moved (λ w wide.
-    subst (λ (v : Vectors). IsWide c.keep_beside.new.d.vars (IsWorking c.args.looped.now.net (loops_by c.args.looped.now.blocks c.args.looped.now.cut) v) w) (sym (values-before kept.gains c.args.given.now c.in_ok-rails.field-0.rails.items kept.rails))
+    subst (λ (v : Vectors). IsWide c.keep_roots.new.d.vars (IsWorking c.args.looped.now.net (loops_by c.args.looped.now.blocks c.args.looped.now.cut) v) w) (sym (values-before kept.gains c.args.given.now c.in_ok-rails.field-0.rails.items kept.rails))
     (subst (λ (n : ℕ). IsWide n (IsWorking c.args.looped.now.net (loops_by c.args.looped.now.blocks c.args.looped.now.cut) (values_of c.args.d.now c.args.given.now)) w) (sym kept.gains.vars) wide)) adds)
 
 pub returns-in_err-solved-clause-adds : goal.returns-in_err-solved-clause-adds

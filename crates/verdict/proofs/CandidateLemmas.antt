@@ -1,0 +1,161 @@
+-- The refusal of the first observed gate that is unknown on care.
+use Rattle.std.proofs.Common.{◌≡◌, inl, inr, ℕ, ◌<◌, ◌≤◌, Bool, true, false, not, ◌&&◌, List, length, map, get_or, Option, Some, None, refl, sym, ap, ap₂, ◌∙◌, subst, arith, Contains, true≢false}
+use Rattle.verdict.proofs.Common.{find, is_some, and_parts, and_from, cases_lt, get_or-map, get_or_default, get_or_past, length-map, vectors, Parts, IsNetlist, gate_sig, Blocks, AreBlocksOf, is_marked, ListsMarked, unsettled_loops_decide, CareSet, columns, is_care_vector, Observe, Undetermined, observed, is_undetermined, is_x, undetermined_refusal, none_passes, gate_wire, care_vector_is, is_unknown_at, AreFanoutMarks, SettleInOneSweep, AreMarksOf, AreAsked}
+use Rattle.std.specs.List.{All}
+use Rattle.std.proofs.lemmas.Bool.{cases_eq}
+use Rattle.isolation.specs.Excerpts.{gate_in}
+use Rattle.clause_decision.specs.Tests.{is_unknown, IsFirstUnknown}
+use Rattle.verdict.specs.Determination.{AreDeterminedOnCare, IsOpen}
+use Rattle.verdict.specs.Loose.{AreCandidates}
+use Rattle.verdict.specs.Scopes.{AreOpenGates}
+use Rattle.verdict.specs.Unknown.{AreAskedCandidates, IsFirstToRefuse}
+use Rattle.verdict.proofs.DeterminationLemmas.{known-here, marks_of, marks-are}
+use Rattle.verdict.proofs.PartLemmas.{undetermined-found}
+
+marked-within : (marks : List Bool) (n : ℕ) → is_marked marks n ≡ true → n < length marks
+marked-within marks n marked = elim (cases_lt n (length marks)) [
+  | inl low ↦ low
+  | inr past ↦ absurd (true≢false (sym marked ∙ get_or_past marks n false past))
+]
+
+-- ---- the gates that are asked for
+
+-- all that are observed
+pub asked-all : (net : Parts) (what : Observe) (marks : List Bool) → AreMarksOf net (observed net what) marks → AreAsked net what marks
+asked-all net what marks are = record {
+  width = are.width;
+  seen = λ n marked. sym (are.each n (let l = marked-within marks n marked in let w = are.width in omega (arith, l, w))) ∙ marked;
+  earlier = λ m n less marked seen. are.each m (let l = marked-within marks n marked in let w = are.width in omega (arith, l, w, less)) ∙ seen;
+}
+
+-- and those of them up to a gate
+pub asked-first : (net : Parts) (what : Observe) (last : ℕ) (marks first : List Bool) → AreMarksOf net (observed net what) marks → length first ≡ length marks →
+    ((k : ℕ) → k ≤ last → is_marked first k ≡ is_marked marks k) → ((k : ℕ) → last < k → is_marked first k ≡ false) → AreAsked net what first
+asked-first net what last marks first are width kept cleared = record {
+  width = width ∙ are.width;
+  seen = λ n marked. all.seen n (sym (kept n (early n marked)) ∙ marked);
+  earlier = λ m n less marked seen.
+      let low : n ≤ last = early n marked in
+      kept m (omega (arith, less, low)) ∙ all.earlier m n less (sym (kept n low) ∙ marked) seen;
+}
+  where
+    all : AreAsked net what marks
+    all = asked-all net what marks are
+
+    early : (n : ℕ) → is_marked first n ≡ true → n ≤ last
+    early n marked = elim (cases_lt last n) [
+      | inl late ↦ absurd (true≢false (sym marked ∙ cleared n late))
+      | inr low ↦ low
+    ]
+
+-- ---- the gates that may be unknown
+
+-- all of them, marked from the loops on
+pub candidates-are : (net : Parts) (blocks : Blocks) (settled opened fanout : List Bool) → length blocks.home ≡ length net.gates → opened ≡ map (λ home. not (is_marked settled home)) blocks.home →
+    AreFanoutMarks net opened fanout → AreCandidates net blocks settled fanout
+candidates-are net blocks settled opened fanout homes opened_is fanout_is = record {
+  width = fanout_is.width;
+  each = λ n less b. (fanout_is.each n less).1 (record { gate = b.gate; marked = open-marked b.gate b.opened; upstream = b.upstream });
+}
+  where
+    open-marked : (n : ℕ) → IsOpen net blocks settled n → is_marked opened n ≡ true
+    open-marked n is =
+        ap (λ (ms : List Bool). get_or ms n false) opened_is
+        ∙ get_or-map (λ home. not (is_marked settled home)) blocks.home n 0 false (let w = is.within in omega (arith, w, homes))
+        ∙ ap not is.unsettled
+
+-- those that are asked for
+pub candidates-asked : (net : Parts) (blocks : Blocks) (settled asked all marks : List Bool) → length asked ≡ length net.gates → AreCandidates net blocks settled all → length marks ≡ length all →
+    ((k : ℕ) → is_marked marks k ≡ (is_marked all k && is_marked asked k)) → AreAskedCandidates net blocks settled asked marks
+candidates-asked net blocks settled asked all marks wide all_are width each = record {
+  width = width ∙ all_are.width;
+  each = λ n wanted b. each n ∙ ap₂ (λ x y. x && y) (all_are.each n (let l = marked-within asked n wanted in omega (arith, l, wide)) b) wanted;
+  only = λ n marked. (and_parts (is_marked all n) (is_marked asked n) (sym (each n) ∙ marked)).1;
+}
+
+-- ---- the first of them that is unknown
+
+-- what isn't found is known
+pub none-some : (o : Option (List Bool)) → is_some o ≡ false → o ≡ None
+none-some None is = refl
+none-some (Some v) is = absurd (true≢false is)
+
+-- it refuses the netlist
+pub first-refuses : (net : Parts) → IsNetlist net → (blocks : Blocks) → AreBlocksOf net blocks → (settled asked marks : List Bool) → SettleInOneSweep net blocks settled → AreAskedCandidates net blocks settled asked marks →
+    (care : CareSet) (what : Observe) → AreAsked net what asked → (gates : List ℕ) → ListsMarked marks (length net.gates) gates → (place : ℕ) → IsFirstUnknown net care gates place → IsFirstToRefuse net care what (gate_in gates place)
+first-refuses net valid blocks are settled asked marks soon candidates care what asks gates listed place first = record {
+  seen = asks.seen here (candidates.only here (at here-listed).1);
+  before = λ m less seen. by m less (asks.earlier m here less (candidates.only here (at here-listed).1) seen);
+}
+  where
+    here : ℕ
+    here = gate_in gates place
+
+    here-listed : Contains gates here
+    here-listed = (place, first.within, get_or_default gates place _ _ first.within)
+
+    at : Contains gates here → (here < length net.gates) × (is_marked marks here ≡ true)
+    at c = (listed.each here).0 c
+
+    known : (m : ℕ) → Contains gates m → m < here → find (is_unknown_at net care m) (vectors (columns net)) ≡ None
+    known m c less =
+        let same : gate_in gates c.0 ≡ m = get_or_default gates c.0 0 m c.1 ∙ c.2 in
+        let early : c.0 < place = elim (cases_lt c.0 place) [
+          | inl low ↦ low
+          | inr late ↦ elim (cases_eq c.0 place) [
+            | inl e ↦ absurd (let f = ap (gate_in gates) e in omega (arith, f, same, less))
+            | inr other ↦ absurd (let r = listed.rise place c.0 (omega (arith, late, other)) c.1 in omega (arith, r, same, less))
+          ]
+        ] in
+        subst (λ (n : ℕ). find (is_unknown_at net care n) (vectors (columns net)) ≡ None) same (none-some _ (first.before c.0 early))
+
+    by : (m : ℕ) → m < here → is_marked asked m ≡ true → find (is_unknown_at net care m) (vectors (columns net)) ≡ None
+    by m less wanted = two (is_marked marks m) refl
+      where
+        inside : m < length net.gates
+        inside = let l = (at here-listed).0 in omega (arith, less, l)
+
+        two : (b : Bool) → is_marked marks m ≡ b → find (is_unknown_at net care m) (vectors (columns net)) ≡ None
+        two true marked = known m ((listed.each m).1 (inside, marked)) less
+        two false apart = known-here net care m inside (λ v counts.
+            unsettled_loops_decide net blocks (is_marked settled) valid are (λ b within loop marked. (soon b within loop marked).alone) v counts.width m inside
+            (λ g low up loop unsettled. absurd (true≢false (sym (candidates.each m wanted (record { gate = g; opened = record { within = low; looped = loop; unsettled = unsettled }; upstream = up })) ∙ apart))))
+
+-- with its least vector
+pub refuses-at : (net : Parts) (care : CareSet) (what : Observe) (gate : ℕ) (v : List Bool) → gate < length net.gates → IsFirstToRefuse net care what gate →
+    find (is_unknown_at net care gate) (vectors (columns net)) ≡ Some v → undetermined_refusal net care what ≡ Some (Undetermined v (gate_sig net gate))
+refuses-at net care what gate v within first found =
+    let marks = marks-are net (observed net what) in
+    undetermined-found net care what (marks_of net (observed net what)) marks gate v within
+    (λ k less marked. first.before k less (sym (marks.each k (omega (arith, less, within))) ∙ marked))
+    (marks.each gate within ∙ first.seen) found
+
+-- ---- the gates of loops that aren't settled
+
+pub open-gates : (net : Parts) (blocks : Blocks) (settled marks : List Bool) (gates : List ℕ) → length blocks.home ≡ length net.gates → marks ≡ map (λ home. not (is_marked settled home)) blocks.home →
+    ListsMarked marks (length marks) gates → AreOpenGates net blocks settled gates
+open-gates net blocks settled marks gates homes marks_are listed = record {
+  within = λ k d less. let low = ((listed.each (get_or gates k d)).0 (k, less, get_or_default gates k _ d less)).0 in omega (arith, low, wide);
+  all = λ n is_open. (listed.each n).1 (let w = is_open.within in omega (arith, w, wide), marked n is_open);
+}
+  where
+    wide : length marks ≡ length net.gates
+    wide = ap (λ (ms : List Bool). length ms) marks_are ∙ length-map blocks.home (λ home. not (is_marked settled home)) ∙ homes
+
+    marked : (n : ℕ) → IsOpen net blocks settled n → is_marked marks n ≡ true
+    marked n is_open =
+        ap (λ (ms : List Bool). get_or ms n false) marks_are
+        ∙ get_or-map (λ home. not (is_marked settled home)) blocks.home n 0 false (let w = is_open.within in omega (arith, w, homes))
+        ∙ ap not is_open.unsettled
+
+-- none of them is unknown on care
+pub open-known : (net : Parts) (blocks : Blocks) (care : CareSet) (settled : List Bool) (gates : List ℕ) → AreOpenGates net blocks settled gates →
+    ((j : ℕ) → j < length gates → is_unknown net care (gate_in gates j) ≡ false) → AreDeterminedOnCare net care (IsOpen net blocks settled)
+open-known net blocks care settled gates are none v counts n is_open =
+    let c = are.all n is_open in
+    let same : gate_in gates c.0 ≡ n = get_or_default gates c.0 0 n c.1 ∙ c.2 in
+    let found : find (is_unknown_at net care n) (vectors (columns net)) ≡ None = subst (λ (m : ℕ). find (is_unknown_at net care m) (vectors (columns net)) ≡ None) same (none-some _ (none c.0 c.1)) in
+    λ x. absurd (true≢false (sym (and_from (is_care_vector net care v) (is_undetermined net (gate_sig net n) v) (care_vector_is net care v counts) (ap is_x (gate_wire net v n counts.width ∙ x))) ∙ none_passes (columns net) (is_unknown_at net care n) v found counts.width))
+
+pub listed-within : (marks : List Bool) (n : ℕ) (gates : List ℕ) → ListsMarked marks n gates → All (λ m. m < n) gates
+listed-within marks n gates listed k d less = ((listed.each (get_or gates k d)).0 (k, less, get_or_default gates k _ d less)).0

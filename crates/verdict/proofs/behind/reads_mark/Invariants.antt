@@ -1,5 +1,0 @@
-use Rattle.verdict.proofs.BehindLemmas.{NoDriver}
-use Rattle.verdict.proofs.behind.reads_mark.Given as goal
-
-abbrev pub invariant-loop-pin : goal.invariant-loop-pin
-invariant-loop-pin l = NoDriver l.net l.marks l.pin-items l.pin-index

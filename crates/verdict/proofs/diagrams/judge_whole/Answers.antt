@@ -1,0 +1,79 @@
+use Rattle.std.proofs.Common.{◌∙◌, ◌+◌, ◌*◌, ℕ, inl, inr, length, ap, sym, subst, arith}
+use Rattle.verdict.proofs.Common.{IsLawful, adds_then, adds_moved, adds_more, adds_refused, values_of, IsWide, Looped, loops_by, columns, HasLargeCover, effort, AddsInDecision, IsLaid, AreFixed, AreColumnVectors}
+use Rattle.bdd_store.proofs.GrowthLemmas.{adds_caused}
+use Rattle.verdict.specs.Verdicts.{IsSolvedWhole}
+use Rattle.verdict.proofs.CountLemmas.{column-vectors}
+use Rattle.verdict.proofs.PartLemmas.{Tells-same}
+use Rattle.isolation.proofs.SettlingLemmas.{loops-are}
+use Rattle.verdict.proofs.SolutionLemmas.{working-wide}
+use Rattle.verdict.proofs.VerdictLemmas.{fixed-is}
+use Rattle.verdict.proofs.diagrams.judge_whole.Goals as goal
+use Rattle.verdict.proofs.diagrams.judge_whole.Goals.{After-solve_beside, In_ok-found}
+
+pub solve_beside-requires-clause-width : goal.solve_beside-requires-clause-width
+solve_beside-requires-clause-width c = c.requires.columns.width ∙ c.requires.vars ∙ ap (λ (l : Looped). columns l.net) (sym c.looped-looped.ensures.looped)
+
+pub solve_beside-requires-clause-rails : goal.solve_beside-requires-clause-rails
+solve_beside-requires-clause-rails c = c.requires.columns.proper
+
+pub solve_beside-requires-clause-set : goal.solve_beside-requires-clause-set
+solve_beside-requires-clause-set c = c.requires.start.told.node
+
+-- the vectors that the given rails stand for
+points-are : (c : After-solve_beside) → AreColumnVectors c.args.question.now.net (values_of c.args.d.now c.args.rails.now)
+points-are c =
+    let lawful : IsLawful c.args.d.now = subst IsLawful c.store.ensures c.laws.ensures in
+    column-vectors c.args.question.now.net c.args.d.now c.args.rails.now lawful.sound c.requires.vars c.requires.columns
+
+solved-is : (c : In_ok-found) → AreColumnVectors c.args.question.now.net (values_of c.args.d.now c.args.rails.now) → IsSolvedWhole c.args.question.now.net c.args.question.now.blocks c.args.question.now.cut c.solve_beside.new.d c.in_ok-found.found
+solved-is c points_are =
+    let q = c.args.question.now in
+    let found = rw c.looped-looped.ensures.looped at c.in_ok-found.ensures.fixpoint in
+    let points = values_of c.args.d.now c.args.rails.now in
+    let vars = c.solve_beside.ensures.vars ∙ c.requires.vars in
+    record {
+      points = points;
+      points_are = points_are;
+      vars = vars;
+      solution = found.solution;
+      fixed = subst (AreFixed q.net c.solve_beside.new.d) (sym found.rails_are) (fixed-is q.net q.blocks q.cut c.solve_beside.new.d points c.in_ok-found.found.solved points_are vars found.solution);
+    }
+
+pub judge_solved-requires-clause-solved : goal.judge_solved-requires-clause-solved
+judge_solved-requires-clause-solved g =
+    let at = goal.at.judge_solved-requires-clause-solved g in
+    solved-is at.In_ok-found (points-are at.After-solve_beside)
+
+pub judge_solved-requires-clause-start : goal.judge_solved-requires-clause-start
+judge_solved-requires-clause-start c =
+    let found = c.in_ok-found.ensures.fixpoint in
+    record { told = Tells-same c.solve_beside.ensures.vars found.node found.function c.requires.start.told; initial = c.requires.start.initial; some = c.requires.start.some }
+
+-- ---- what it does to the diagrams
+
+abbrev solving_cost : After-solve_beside → ℕ
+solving_cost c = 10 * (length c.args.question.now.net.gates + 2) * effort c.args.question.now.net
+
+-- the working list of the fixpoint
+solving-adds : (c : After-solve_beside) → AddsInDecision c.solve_beside.result c.args.d.now c.solve_beside.new.d c.args.question.now.net c.args.question.now.care (solving_cost c)
+solving-adds c =
+    let net = c.args.question.now.net in
+    let care = c.args.question.now.care in
+    let is = c.looped-looped.ensures.is in
+    let adds = rw c.looped-looped.ensures.looped at c.solve_beside.ensures.adds in
+    adds_caused {cause = HasLargeCover net} (λ over. inl over)
+    (adds_moved (λ w wide.
+    working-wide net care c.args.d.now c.requires.vars (values_of c.args.d.now c.args.rails.now) (points-are c) (loops_by c.args.question.now.blocks c.args.question.now.cut)
+    (loops-are net c.args.question.now.blocks c.args.question.now.cut is.blocks is.cut) (subst (λ n. IsWide n (IsLaid net care) w) (sym c.requires.vars) wide)) adds)
+
+pub returns-in_err-found-clause-adds : goal.returns-in_err-found-clause-adds
+returns-in_err-found-clause-adds g = adds_more (omega arith) (adds_refused g.in_err-found.was g.from_residual.ensures.1 (solving-adds (goal.at.returns-in_err-found-clause-adds g).After-solve_beside))
+
+pub returns-clause-adds : goal.returns-clause-adds
+returns-clause-adds g =
+    let c : After-solve_beside = (goal.at.returns-clause-adds g).After-solve_beside in
+    let net = g.args.question.now.net in
+    let care = g.args.question.now.care in
+    let vars = g.solve_beside.ensures.vars ∙ g.requires.vars in
+    adds_then g.solve_beside.ensures.limit (solving-adds c)
+    (adds_caused (λ over. inr over) (adds_moved (λ w wide. subst (λ n. IsWide n (IsLaid net care) w) (sym vars) wide) g.judge_solved.ensures.grows.adds))

@@ -1,0 +1,154 @@
+//! The decision by diagrams: all care vectors at once, on the fixpoint of the whole netlist.
+
+ghost use Rattle.std.specs.Prelude.{◌≡◌, ◌≤◌, ◌+◌, IfOk, IfSome};
+ghost use Rattle.care_sets.specs.Care.{columns, is_care_vector};
+ghost use Rattle.fixpoint.specs.Orders.{order as order_of};
+ghost use Rattle.verdict.specs.Costs.{care_cost, solved_cost, start_cost, whole_cost};
+ghost use Rattle.verdict.specs.Enough.{AddsInDecision, GrowsInDecision};
+ghost use Rattle.verdict.specs.Sets.{AreFixed, Tells};
+ghost use Rattle.isolation.specs.Columns.{AreColumns};
+ghost use Rattle.verdict.specs.Verdicts.{refusal_on_care, IsCareStart, IsGateVerdict, IsSolvedWhole};
+ghost use Rattle.verdict.specs.Questions.{IsVerdictOf};
+
+use crate::beginning::{Start, begin};
+use crate::gate_verdict::GateVerdict;
+use crate::question::Question;
+use crate::refusing::{leaves, verdict_of_gates};
+use crate::solving::{Fixpoint, solve_beside};
+use crate::verdict::Verdict;
+use bdd_ops::Diagrams;
+use bdd_store::{Node, StoreFault};
+use cyc_base::MAX_NODES;
+use dual_rail::Rails;
+use fixpoint::laws::solutions;
+use fixpoint::sweeps;
+use isolation::column_rails;
+use std::alloc::{AllocError, Global};
+
+/// The refusal of an undetermined gate that is observed, or else of a state that leaves the invariant, or else how
+/// many gates are unknown on care. The netlist's fixpoint is found beside the vectors of care.
+fn verdict_on_care(
+    alloc: Global,
+    d: &mut Diagrams,
+    question: &Question<'_>,
+    found: &Fixpoint,
+) -> Result<GateVerdict, StoreFault>
+    requires vars { d.old.vars ≡ columns question.now.net }
+    requires fixed { AreFixed question.now.net d.old found.now.rails }
+    requires set { Tells question.now.net d.old found.now.set (is_care_vector question.now.net question.now.care) }
+    ensures gates { IfOk result (IsGateVerdict (refusal_on_care question.now.net question.now.care question.now.what) question.now.net question.now.care) }
+    ensures grows { GrowsInDecision result d.old d.new question.now.net question.now.care (care_cost question.now.net question.now.care) }
+{
+    let gates = verdict_of_gates(alloc, d, question, found)?;
+    let loose = match gates {
+        GateVerdict::Determined { loose } => loose,
+        GateVerdict::Refused(refusal) => return Ok(GateVerdict::Refused(refusal)),
+    };
+    let left = leaves(alloc, d, question, found)?;
+    match left {
+        Some(refusal) => Ok(GateVerdict::Refused(refusal)),
+        None => Ok(GateVerdict::Determined { loose }),
+    }
+}
+
+/// The verdict of a solved netlist, beside which its care vectors are kept.
+fn judge_solved(
+    alloc: Global,
+    d: &mut Diagrams,
+    question: &Question<'_>,
+    found: &Fixpoint,
+) -> Result<Verdict, StoreFault>
+    requires solved { IsSolvedWhole question.now.net question.now.blocks question.now.cut d.old found.now }
+    requires start { IsCareStart question.now.net question.now.care d.old found.now.set }
+    ensures verdict { IfOk result (IsVerdictOf question.now) }
+    ensures grows { GrowsInDecision result d.old d.new question.now.net question.now.care (solved_cost question.now.net question.now.care) }
+{
+    solutions();
+    d.store().laws();
+    let blocks = question.blocks();
+    let gates = verdict_on_care(alloc, d, question, found)?;
+    let loose = match gates {
+        GateVerdict::Determined { loose } => loose,
+        GateVerdict::Refused(refusal) => return Ok(Verdict::Refused(refusal)),
+    };
+    d.store().laws();
+    let counts = sweeps(alloc, d, &found.solved, blocks, found.set)?;
+    Ok(Verdict::Accepted {
+        sweeps: counts,
+        loose,
+    })
+}
+
+/// The verdict by all gates of the netlist, which is solved here on these rails of its columns. `set` are the vectors of
+/// care.
+fn judge_whole(
+    alloc: Global,
+    d: &mut Diagrams,
+    question: &Question<'_>,
+    rails: &[Rails],
+    set: Node,
+) -> Result<Verdict, StoreFault>
+    requires vars { d.old.vars ≡ columns question.now.net }
+    requires columns { AreColumns d.old (order_of question.now.net) rails.now }
+    requires start { IsCareStart question.now.net question.now.care d.old set }
+    ensures verdict { IfOk result (IsVerdictOf question.now) }
+    ensures vars { d.new.vars ≡ d.old.vars }
+    ensures limit { d.new.limit ≡ d.old.limit }
+    ensures adds { AddsInDecision result d.old d.new question.now.net question.now.care (whole_cost question.now.net question.now.care) }
+{
+    d.store().laws();
+    let looped = question.looped();
+    let found = solve_beside(alloc, d, looped, rails, set)?;
+    judge_solved(alloc, d, question, &found)
+}
+
+/// The verdict by diagrams, which have a variable for each column. These are the rails of the columns.
+pub(crate) fn judge(
+    alloc: Global,
+    d: &mut Diagrams,
+    question: &Question<'_>,
+    rails: &[Rails],
+) -> Result<Verdict, StoreFault>
+    requires vars { d.old.vars ≡ columns question.now.net }
+    requires columns { AreColumns d.old (order_of question.now.net) rails.now }
+    ensures verdict { IfOk result (IsVerdictOf question.now) }
+    ensures vars { d.new.vars ≡ d.old.vars }
+    ensures limit { d.new.limit ≡ d.old.limit }
+    ensures adds { AddsInDecision result d.old d.new question.now.net question.now.care (start_cost question.now.net question.now.care + whole_cost question.now.net question.now.care) }
+{
+    match begin(alloc, d, question, rails)? {
+        Start::Care(set) => judge_whole(alloc, d, question, rails, set),
+        Start::Refused(refusal) => Ok(Verdict::Refused(refusal)),
+    }
+}
+
+/// The verdict by diagrams that have a variable for each column and no nodes.
+fn judge_from_columns(
+    alloc: Global,
+    d: &mut Diagrams,
+    question: &Question<'_>,
+) -> Result<Verdict, StoreFault>
+    requires { d.old.vars ≡ columns question.now.net }
+    ensures { IfOk result (IsVerdictOf question.now) }
+{
+    let rails = column_rails(alloc, d, question.order())?;
+    judge(alloc, d, question, &rails)
+}
+
+/// The verdict by diagrams of their own, of at most so many nodes, or none where these don't do.
+pub(crate) fn verdict_by_diagrams(
+    alloc: Global,
+    question: &Question<'_>,
+    limit: u32,
+) -> Result<Option<Verdict>, AllocError>
+    requires { limit ≤ MAX_NODES }
+    ensures { IfOk result (λ found. IfSome found (IsVerdictOf question.now)) }
+{
+    let net = question.net();
+    let mut d = Diagrams::new(alloc, net.columns(), limit)?;
+    match judge_from_columns(alloc, &mut d, question) {
+        Ok(verdict) => Ok(Some(verdict)),
+        Err(StoreFault::Full) => Ok(None),
+        Err(StoreFault::Memory) => Err(AllocError),
+    }
+}
