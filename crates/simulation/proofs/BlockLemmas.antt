@@ -7,7 +7,7 @@ use Rattle.std.specs.List.{range_with_len}
 use Rattle.cyc_base.proofs.OrderLemmas.{Below-refl, Below-trans, Below-antisym}
 use Rattle.netlist.specs.Fixpoint.{wires, steps}
 use Rattle.loops.proofs.Reading.{get_or-step}
-use Rattle.simulation.specs.Standing.{IsAtFix, Stands}
+use Rattle.simulation.specs.Stability.{IsAtFix, IsStable}
 use Rattle.simulation.proofs.PinLemmas.{value_same, value_below, signal_cases, pin_within, wire-input, wire-gate, fix-gate, pin-before}
 
 module _ (net : Parts) (is : IsNetlist net) (blocks : Blocks) (are : AreBlocksOf net blocks) where
@@ -120,13 +120,13 @@ module _ (net : Parts) (is : IsNetlist net) (blocks : Blocks) (are : AreBlocksOf
       ∙ ap (λ t. cond t (get_or (fix_gates net v) n X) (get_or (fix_gates net w) n X)) (not_equal (home_of blocks n) place ne)
       ∙ sym (wire-gate net w (fix_gates net w) n ww)
 
-  -- a block that stands is settled, where the blocks before it are
-  module _ (v values : List Trit) (place : ℕ) (width : length v ≡ first_gate net) (at : AreAtFix v values place) (stands : Stands net blocks values place) where
+  -- a stable block is settled, where the blocks before it are
+  module _ (v values : List Trit) (place : ℕ) (width : length v ≡ first_gate net) (at : AreAtFix v values place) (stable : IsStable net blocks values place) where
     w : List Trit
-    w = stands.vector
+    w = stable.vector
 
     mixed : List Trit
-    mixed = wires stands.vector (overlay v stands.vector place)
+    mixed = wires stable.vector (overlay v stable.vector place)
 
     -- in the block itself all pins are as at the fixpoint of v
     mixed-pin : (n : ℕ) (s : Sig) → n < length net.gates → home_of blocks n ≡ place → Contains (gate_at net n).pins s → wire mixed s ≡ wire (fix net v) s
@@ -134,56 +134,56 @@ module _ (net : Parts) (is : IsNetlist net) (blocks : Blocks) (are : AreBlocksOf
     mixed-pin n s l h c =
         elim (signal_cases net s (pin_within net is n s l c)) [
           | inl low ↦
-              wire-input net stands.vector (overlay v stands.vector place) s stands.width low
-              ∙ sym (wire-input net stands.vector (fix_gates net stands.vector) s stands.width low)
-              ∙ sym (stands.pins n s l h c)
+              wire-input net stable.vector (overlay v stable.vector place) s stable.width low
+              ∙ sym (wire-input net stable.vector (fix_gates net stable.vector) s stable.width low)
+              ∙ sym (stable.pins n s l h c)
               ∙ at.inputs s low
               ∙ sym (wire-input net v (fix_gates net v) s width low)
           | inr g ↦
               let before = pin-before net blocks are g.number n s g.within l g.is c in
               elim (cases_eq (home_of blocks g.number) place) [
-                | inl e ↦ rw g.is (overlay-inside v stands.vector place g.number width stands.width g.within e)
+                | inl e ↦ rw g.is (overlay-inside v stable.vector place g.number width stable.width g.within e)
                 | inr ne ↦
-                    let pin : wire values s ≡ wire (fix net stands.vector) s = stands.pins n s l h c in
-                    let here : wire values (gate_sig net g.number) ≡ wire (fix net stands.vector) (gate_sig net g.number) = rw g.is at pin in
+                    let pin : wire values s ≡ wire (fix net stable.vector) s = stable.pins n s l h c in
+                    let here : wire values (gate_sig net g.number) ≡ wire (fix net stable.vector) (gate_sig net g.number) = rw g.is at pin in
                     rw g.is
-                    (overlay-outside v stands.vector place g.number stands.width g.within ne
+                    (overlay-outside v stable.vector place g.number stable.width g.within ne
                     ∙ sym here
                     ∙ at.gates g.number g.within (omega (arith, ne)))
               ]
         ]
 
     -- before it they are as at the fixpoint of the other vector
-    mixed-pin_before : (n : ℕ) (s : Sig) → n < length net.gates → home_of blocks n < place → Contains (gate_at net n).pins s → wire mixed s ≡ wire (fix net stands.vector) s
+    mixed-pin_before : (n : ℕ) (s : Sig) → n < length net.gates → home_of blocks n < place → Contains (gate_at net n).pins s → wire mixed s ≡ wire (fix net stable.vector) s
     unfolding mixed
     mixed-pin_before n s l h c =
         elim (signal_cases net s (pin_within net is n s l c)) [
           | inl low ↦
-              wire-input net stands.vector (overlay v stands.vector place) s stands.width low
-              ∙ sym (wire-input net stands.vector (fix_gates net stands.vector) s stands.width low)
+              wire-input net stable.vector (overlay v stable.vector place) s stable.width low
+              ∙ sym (wire-input net stable.vector (fix_gates net stable.vector) s stable.width low)
           | inr g ↦
               let before = pin-before net blocks are g.number n s g.within l g.is c in
               let ne : home_of blocks g.number ≢ place = λ e. omega arith in
-              rw g.is (overlay-outside v stands.vector place g.number stands.width g.within ne)
+              rw g.is (overlay-outside v stable.vector place g.number stable.width g.within ne)
         ]
 
-    mixed-closed : IsClosed stands.vector mixed (place + 1)
+    mixed-closed : IsClosed stable.vector mixed (place + 1)
     unfolding mixed
     mixed-closed = record {
-      inputs = λ i low. wire-input net stands.vector (overlay v stands.vector place) i stands.width low;
+      inputs = λ i low. wire-input net stable.vector (overlay v stable.vector place) i stable.width low;
       gates = λ n l h.
           elim (cases_eq (home_of blocks n) place) [
             | inl e ↦
                 same_below (gate_value mixed (gate_at net n)) (wire mixed (gate_sig net n))
                 (value_same (gate_at net n) mixed (fix net v) (λ s c. mixed-pin n s l e c)
                 ∙ sym (fix-gate net v n width l)
-                ∙ sym (overlay-inside v stands.vector place n width stands.width l e))
+                ∙ sym (overlay-inside v stable.vector place n width stable.width l e))
             | inr ne ↦
                 let earlier : home_of blocks n < place = omega (arith, ne) in
                 same_below (gate_value mixed (gate_at net n)) (wire mixed (gate_sig net n))
-                (value_same (gate_at net n) mixed (fix net stands.vector) (λ s c. mixed-pin_before n s l earlier c)
-                ∙ sym (fix-gate net stands.vector n stands.width l)
-                ∙ sym (overlay-outside v stands.vector place n stands.width l ne))
+                (value_same (gate_at net n) mixed (fix net stable.vector) (λ s c. mixed-pin_before n s l earlier c)
+                ∙ sym (fix-gate net stable.vector n stable.width l)
+                ∙ sym (overlay-outside v stable.vector place n stable.width l ne))
           ];
     }
 
@@ -191,22 +191,22 @@ module _ (net : Parts) (is : IsNetlist net) (blocks : Blocks) (are : AreBlocksOf
     standing-below : (n : ℕ) → n < length net.gates → home_of blocks n ≡ place → Below (wire values (gate_sig net n)) (wire (fix net v) (gate_sig net n))
     unfolding mixed
     standing-below n l h =
-        let low : Below (wire (fix net stands.vector) (gate_sig net n)) (wire mixed (gate_sig net n)) =
-        fix_below stands.vector mixed (place + 1) stands.width mixed-closed n l (omega arith) in
+        let low : Below (wire (fix net stable.vector) (gate_sig net n)) (wire mixed (gate_sig net n)) =
+        fix_below stable.vector mixed (place + 1) stable.width mixed-closed n l (omega arith) in
         let up : wire mixed (gate_sig net n) ≡ wire (fix net v) (gate_sig net n) =
-        overlay-inside v stands.vector place n width stands.width l h in
-        let here : wire values (gate_sig net n) ≡ wire (fix net stands.vector) (gate_sig net n) = stands.gates n l h in
+        overlay-inside v stable.vector place n width stable.width l h in
+        let here : wire values (gate_sig net n) ≡ wire (fix net stable.vector) (gate_sig net n) = stable.gates n l h in
         subst (λ x. Below x (wire (fix net v) (gate_sig net n))) (sym here)
-        (subst (λ x. Below (wire (fix net stands.vector) (gate_sig net n)) x) up low)
+        (subst (λ x. Below (wire (fix net stable.vector) (gate_sig net n)) x) up low)
 
     -- and each gate of it has the value of its cover
     standing-value : (n : ℕ) → n < length net.gates → home_of blocks n ≡ place → gate_value values (gate_at net n) ≡ wire values (gate_sig net n)
     standing-value n l h =
-        value_same (gate_at net n) values (fix net stands.vector) (λ s c. stands.pins n s l h c)
-        ∙ sym (fix-gate net stands.vector n stands.width l)
-        ∙ sym (stands.gates n l h)
+        value_same (gate_at net n) values (fix net stable.vector) (λ s c. stable.pins n s l h c)
+        ∙ sym (fix-gate net stable.vector n stable.width l)
+        ∙ sym (stable.gates n l h)
 
-    pub standing_settled : AreAtFix v values (place + 1)
-    standing_settled =
+    pub stable_settled : AreAtFix v values (place + 1)
+    stable_settled =
         block_settled v values place width at standing-below
         (λ n l h. same_below (gate_value values (gate_at net n)) (wire values (gate_sig net n)) (standing-value n l h))

@@ -12,6 +12,6 @@ pub use Rattle.netlist.specs.declared.parts.Parts.{Parts}
 pub use Rattle.simulation.specs.Listing.{AreListed}
 pub use Rattle.simulation.specs.Plans.{readers_of}
 pub use Rattle.simulation.specs.Rising.{IsRising, work_left}
-pub use Rattle.simulation.specs.Standing.{AreKept, AreSettled, is_due, vector_of}
+pub use Rattle.simulation.specs.Stability.{AreKept, AreSettled, is_due, vector_of}
 pub use Rattle.std.proofs.lemmas.Bool.{cases_eq, cases_lt, eqb-true}
 pub use Rattle.std.proofs.lemmas.List.{get_or-set_other, get_or-set_same, get_or_default, get_or_past, length-set}

@@ -28,14 +28,14 @@ settled_set net blocks values place g x late settled = record {
 }
 
 module _ (net : Parts) (is : IsNetlist net) (blocks : Blocks) (are : AreBlocksOf net blocks) where
-  -- a block that is settled stands
+  -- a block that is settled is stable
   pub cleared : (values : List Trit) (due : List Bool) (place : ℕ) → AreKept net blocks values due → AreSettled net blocks values (place + 1) → AreKept net blocks values (set due place false)
   cleared values due place kept settled =
       let wide = length-vector net values kept.width in
       record {
         width = kept.width;
         flags = length-set due place false ∙ kept.flags;
-        stand = λ q e.
+        stable = λ q e.
             elim (cases_eq q place) [
               | inl here ↦ record {
                 vector = vector_of net values;
@@ -43,7 +43,7 @@ module _ (net : Parts) (is : IsNetlist net) (blocks : Blocks) (are : AreBlocksOf
                 gates = λ n l h. settled.each n l (omega arith);
                 pins = λ n s l h c. pin_at_fix net is blocks are (vector_of net values) values (place + 1) wide (at_fix net is blocks are values (place + 1) settled) n s l (omega arith) c;
               }
-              | inr other ↦ kept.stand q (sym (get_or-set_other due place q false true other) ∙ e)
+              | inr other ↦ kept.stable q (sym (get_or-set_other due place q false true other) ∙ e)
             ];
       }
 

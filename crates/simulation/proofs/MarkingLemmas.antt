@@ -1,4 +1,4 @@
--- Where a signal changes, its readers' blocks become due, and all other blocks stand as before.
+-- Where a signal changes, its readers' blocks become due, and all other blocks stay stable.
 use Rattle.std.proofs.Common.{◌≡◌, ◌≢◌, inl, inr, ℕ, ◌+◌, ◌<◌, Bool, true, false, List, length, get_or, set, refl, ap, sym, ◌∙◌, arith, Contains, true≢false}
 use Rattle.simulation.proofs.Common.{cases_lt, cases_eq, get_or-set_same, get_or-set_other, get_or_past, length-set, Sig, Trit, X, Parts, gate_sig, Blocks, home_of, readers_of, AreKept, is_due}
 use Rattle.std.proofs.lemmas.Bool.{cases_Bool}
@@ -51,19 +51,19 @@ pub changed : (net : Parts) (blocks : Blocks) (readers : List (List ℕ)) (value
 changed net blocks readers values old new signal value lists kept driver marked = record {
   width = length-set values signal.0 value ∙ kept.width;
   flags = marked.size ∙ kept.flags;
-  stand = λ place e.
+  stable = λ place e.
       let was : is_due old place ≡ false = was_not_due old new place marked.stay e in
-      let stands = kept.stand place was in
+      let stable = kept.stable place was in
       record {
-        vector = stands.vector;
-        width = stands.width;
+        vector = stable.vector;
+        width = stable.width;
         gates = λ n l h.
             let other : (gate_sig net n).0 ≢ signal.0 =
             λ same.
             let is : signal ≡ gate_sig net n = ap (λ (m : ℕ). let s : Sig = record { 0 = m } in s) (sym same) in
             let due : is_due old place ≡ true = rw h at (driver n l is) in
             true≢false (sym due ∙ was) in
-            get_or-set_other values signal.0 (gate_sig net n).0 value X other ∙ stands.gates n l h;
+            get_or-set_other values signal.0 (gate_sig net n).0 value X other ∙ stable.gates n l h;
         pins = λ n s l h c.
             let other : s.0 ≢ signal.0 =
             λ same.
@@ -71,7 +71,7 @@ changed net blocks readers values old new signal value lists kept driver marked 
             let listed : Contains (readers_of readers signal) n = rw is at (lists.each n s l c) in
             let due : is_due new place ≡ true = rw (listed.2, h) at (marked.each listed.0 n listed.1) in
             true≢false (sym due ∙ e) in
-            get_or-set_other values signal.0 s.0 value X other ∙ stands.pins n s l h c;
+            get_or-set_other values signal.0 s.0 value X other ∙ stable.pins n s l h c;
       };
 }
 

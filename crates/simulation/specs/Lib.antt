@@ -1,6 +1,6 @@
 pub mod Plans
 pub mod Listing
-pub mod Standing
+pub mod Stability
 pub mod Marking
 pub mod Rising
 pub mod Simulators

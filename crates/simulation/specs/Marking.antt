@@ -1,6 +1,6 @@
 -- Which blocks become due where a signal changes.
 use Rattle.std.specs.Prelude.{◌≡◌, ◌<◌, ℕ, Bool, true, List, length, slice_index_or}
-use Rattle.simulation.specs.Standing.{is_due}
+use Rattle.simulation.specs.Stability.{is_due}
 
 -- what is due stays due
 abbrev pub StayDue : List Bool → List Bool → Type 0

@@ -10,7 +10,7 @@ use Rattle.netlist.specs.Fixpoint.{wire, fix, gate_value}
 use Rattle.loops.specs.Blocks.{home_of}
 use Rattle.simulation.specs.declared.plan.Plan.{Plan}
 use Rattle.simulation.specs.Plans.{readers_of}
-use Rattle.simulation.specs.Standing.{AreKept, AreSettled, is_due, vector_of}
+use Rattle.simulation.specs.Stability.{AreKept, AreSettled, is_due, vector_of}
 
 -- The gates of the block at this place tell at most what the fixpoint tells. One that is unknown waits, or
 -- its cover gives X too.

@@ -2,7 +2,7 @@
 use Rattle.netlist.specs.declared.parts.Parts.{Parts}
 use Rattle.simulation.specs.declared.simulator.Simulator.{Simulator}
 use Rattle.simulation.specs.Plans.{IsPlanOf}
-use Rattle.simulation.specs.Standing.{AreKept}
+use Rattle.simulation.specs.Stability.{AreKept}
 
 -- a simulator of this netlist, between two vectors
 pub record IsSimulatorOf (net : Parts) (simulator : Simulator) : Type 0 where

@@ -1,12 +1,12 @@
 //! Settling block by block: a gate outside loops by its cover, and a loop from all unknown.
 
-ghost use Rattle.std.specs.Prelude.{◌≡◌, ◌+◌, ◌++◌, ◌<◌, ◌==◌, ℕ, [], ◌∷◌, true, false, length, filter, slice_index_or, All, IfOk, OnOk};
+ghost use Rattle.std.specs.Prelude.{◌≡◌, ◌+◌, ◌++◌, ◌<◌, ◌==◌, ◌∷◌, true, false, length, filter, slice_index_or, All, IfOk, OnOk};
 ghost use Rattle.netlist.specs.Netlists.{count};
 ghost use Rattle.netlist.specs.Fixpoint.{fix};
 ghost use Rattle.ternary_run.specs.Settling.{IsNewValue};
 ghost use Rattle.loops.specs.Blocks.{block_at, home_of, gates_at};
 ghost use Rattle.simulation.specs.Plans.{IsPlanOf};
-ghost use Rattle.simulation.specs.Standing.{AreKept, AreSettled, is_due, vector_of};
+ghost use Rattle.simulation.specs.Stability.{AreKept, AreSettled, is_due, vector_of};
 ghost use Rattle.simulation.specs.Rising.{IsRising, work_left};
 
 use crate::plan::Plan;
@@ -16,29 +16,39 @@ use netlist::Netlist;
 use std::alloc::{AllocError, Global};
 use std::collections::VecDeque;
 
-/// Puts those of these gates that are in the block at this place at the end of the queue.
-fn queue_inside(
-    gates: &[u32],
-    home: &[u32],
+/// The gates of a loop that wait to be computed.
+#[derive(Drop)]
+struct LoopWorklist {
+    /// The place of the loop among the blocks.
     place: usize,
-    queue: &mut VecDeque<u32>,
-) -> Result<(), AllocError>
-    requires { All (λ gate. gate < length home.now) gates.now }
-    ensures { OnOk result (queue.new.items ≡ queue.old.items ++ filter (λ gate. slice_index_or home.now gate 0 == place) gates.now) }
-{
-    for gate in gates {
-        if home[*gate as usize] as usize == place {
-            queue.push_back(*gate)?;
-        }
-    }
-    Ok(())
+    gates: VecDeque<u32>,
 }
 
-fn queue_of(alloc: Global, gates: &[u32]) -> Result<VecDeque<u32>, AllocError>
-    ensures { IfOk result (λ queue. queue.items ≡ gates.now) }
-{
-    let numbers = gates.to_vec(alloc)?;
-    Ok(VecDeque::from_vec(numbers))
+impl LoopWorklist {
+    /// The loop at this place, all of whose gates wait.
+    fn of(alloc: Global, place: usize, gates: &[u32]) -> Result<LoopWorklist, AllocError>
+        ensures { IfOk result (λ worklist. (worklist.place ≡ place) × (worklist.gates.items ≡ gates.now)) }
+    {
+        let numbers = gates.to_vec(alloc)?;
+        Ok(LoopWorklist {
+            place,
+            gates: VecDeque::from_vec(numbers),
+        })
+    }
+
+    /// Puts those of these gates that are in the loop behind those that wait.
+    fn push_inside(&mut self, gates: &[u32], home: &[u32]) -> Result<(), AllocError>
+        requires { All (λ gate. gate < length home.now) gates.now }
+        ensures place { self.new.place ≡ self.old.place }
+        ensures gates { OnOk result (self.new.gates.items ≡ self.old.gates.items ++ filter (λ gate. slice_index_or home.now gate 0 == self.old.place) gates.now) }
+    {
+        for gate in gates {
+            if home[*gate as usize] as usize == self.place {
+                self.gates.push_back(*gate)?;
+            }
+        }
+        Ok(())
+    }
 }
 
 impl Wires {
@@ -106,28 +116,28 @@ impl Wires {
         }
     }
 
-    /// Computes a gate that waits. Where it becomes known, those of the block that read it wait once more.
+    /// Computes a gate that waits. Where it becomes known, those of its loop that read it wait once more.
     fn rise(
         &mut self,
         alloc: Global,
         net: &Netlist,
         plan: &Plan,
-        place: usize,
         gate: u32,
-        waiting: &mut VecDeque<u32>,
+        worklist: &mut LoopWorklist,
     ) -> Result<(), AllocError>
         requires plan { IsPlanOf net.now plan.now }
-        requires rising { IsRising net.now plan.now place self.old.values.items self.old.due.items (gate ∷ waiting.old.items) }
+        requires rising { IsRising net.now plan.now worklist.old.place self.old.values.items self.old.due.items (gate ∷ worklist.old.gates.items) }
         ensures kept { AreKept net.now plan.now.blocks self.new.values.items self.new.due.items }
         ensures vector { vector_of net.now self.new.values.items ≡ vector_of net.now self.old.values.items }
-        ensures rising { OnOk result (IsRising net.now plan.now place self.new.values.items self.new.due.items waiting.new.items) }
-        ensures less { OnOk result (work_left plan.now self.new.values.items waiting.new.items < work_left plan.now self.old.values.items (gate ∷ waiting.old.items)) }
+        ensures place { worklist.new.place ≡ worklist.old.place }
+        ensures rising { OnOk result (IsRising net.now plan.now worklist.old.place self.new.values.items self.new.due.items worklist.new.gates.items) }
+        ensures less { OnOk result (work_left plan.now self.new.values.items worklist.new.gates.items < work_left plan.now self.old.values.items (gate ∷ worklist.old.gates.items)) }
     {
         if let Some(value) = self.new_value(alloc, net, gate)? {
             let signal = net.gate_sig(gate);
             self.change(net, plan, signal, value);
             let readers = plan.readers.successors(signal.0);
-            queue_inside(readers, plan.blocks.home.items(), place, waiting)?;
+            worklist.push_inside(readers, plan.blocks.home.items())?;
         }
         Ok(())
     }
@@ -152,9 +162,9 @@ impl Wires {
         ensures settled { OnOk result (AreSettled net.now plan.now.blocks self.new.values.items (place + 1)) }
     {
         self.forget(net, plan, place, gates);
-        let mut waiting = queue_of(alloc, gates)?;
-        while let Some(gate) = waiting.pop_front() {
-            self.rise(alloc, net, plan, place, gate, &mut waiting)?;
+        let mut worklist = LoopWorklist::of(alloc, place, gates)?;
+        while let Some(gate) = worklist.gates.pop_front() {
+            self.rise(alloc, net, plan, gate, &mut worklist)?;
         }
         self.due[place] = false;
         Ok(())
@@ -186,7 +196,7 @@ impl Wires {
         }
     }
 
-    /// The same, where nothing is done for a block that stands.
+    /// The same, where nothing is done for a block that is stable.
     fn settle_place(
         &mut self,
         alloc: Global,
@@ -209,7 +219,7 @@ impl Wires {
         }
     }
 
-    /// Settles all blocks in their order, and leaves those as they are that stand.
+    /// Settles all blocks in their order, and leaves those as they are that are stable.
     pub fn settle(&mut self, alloc: Global, net: &Netlist, plan: &Plan) -> Result<(), AllocError>
         requires plan { IsPlanOf net.now plan.now }
         requires kept { AreKept net.now plan.now.blocks self.old.values.items self.old.due.items }

@@ -7,7 +7,7 @@ ghost use Rattle.netlist.specs.Fixpoint.{wire, gate_value as value_of_gate};
 ghost use Rattle.loops.specs.Blocks.{home_of};
 ghost use Rattle.loops.specs.Sweeps.{first_gate};
 ghost use Rattle.simulation.specs.Plans.{IsPlanOf};
-ghost use Rattle.simulation.specs.Standing.{AreKept, is_due, vector_of};
+ghost use Rattle.simulation.specs.Stability.{AreKept, is_due, vector_of};
 ghost use Rattle.simulation.specs.Marking.{AreMarked, StayDue};
 
 use crate::plan::Plan;

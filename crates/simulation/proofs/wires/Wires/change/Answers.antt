@@ -1,4 +1,4 @@
--- The blocks of the signal's readers are due, and the others stand as before.
+-- The blocks of the signal's readers are due, and the others stay stable.
 use Rattle.std.proofs.Common.{◌≡◌, List, Bool, length, set, sym, subst, arith}
 use Rattle.std.proofs.lemmas.List.{with_items_is}
 use Rattle.simulation.proofs.Common.{readers_of, AreKept}

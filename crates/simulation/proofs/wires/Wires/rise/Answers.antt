@@ -11,48 +11,48 @@ new_value-requires-clause-gate c = c.requires.rising.gates c.args.gate (0, omega
 
 pub gate_sig-signal-requires : goal.gate_sig-signal-requires
 gate_sig-signal-requires c =
-    waiting_gate c.args.net.now c.args.plan.now c.args.place c.args.self.now.values.items c.args.self.now.due.items c.args.gate c.args.waiting.now.items c.requires.rising
+    waiting_gate c.args.net.now c.args.plan.now c.args.worklist.now.place c.args.self.now.values.items c.args.self.now.due.items c.args.gate c.args.worklist.now.gates.items c.requires.rising
 
 pub change-requires-clause-signal : goal.change-requires-clause-signal
 change-requires-clause-signal c =
-    let within = waiting_gate c.args.net.now c.args.plan.now c.args.place c.args.self.now.values.items c.args.self.now.due.items c.args.gate c.args.waiting.now.items c.requires.rising in
+    let within = waiting_gate c.args.net.now c.args.plan.now c.args.worklist.now.place c.args.self.now.values.items c.args.self.now.due.items c.args.gate c.args.worklist.now.gates.items c.requires.rising in
     let is : c.gate_sig-signal.result.0 ≡ (gate_sig c.args.net.now c.args.gate).0 = ap (λ (s : Sig). s.0) c.gate_sig-signal.ensures.sig in
     omega arith
 
 pub successors-readers-requires : goal.successors-readers-requires
 successors-readers-requires c =
-    let within = waiting_gate c.args.net.now c.args.plan.now c.args.place c.args.self.now.values.items c.args.self.now.due.items c.args.gate c.args.waiting.now.items c.requires.rising in
+    let within = waiting_gate c.args.net.now c.args.plan.now c.args.worklist.now.place c.args.self.now.values.items c.args.self.now.due.items c.args.gate c.args.worklist.now.gates.items c.requires.rising in
     let is : c.gate_sig-signal.result.0 ≡ (gate_sig c.args.net.now c.args.gate).0 = ap (λ (s : Sig). s.0) c.gate_sig-signal.ensures.sig in
     let size = c.requires.plan.readers.signals in
     omega arith
 
-pub returns-in_ok-queue_inside-clause-rising : goal.returns-in_ok-queue_inside-clause-rising
-returns-in_ok-queue_inside-clause-rising c =
+pub returns-in_ok-push_inside-clause-rising : goal.returns-in_ok-push_inside-clause-rising
+returns-in_ok-push_inside-clause-rising c =
     let net = c.args.net.now in
     let plan = c.args.plan.now in
-    let place = c.args.place in
+    let place = c.args.worklist.now.place in
     let values = c.args.self.now.values.items in
     let after : c.change.new.self.values.items ≡ set values c.gate_sig-signal.result.0 c.in-Some.value = rw c.in_ok-value.ensures.values at c.change.ensures.values in
     let due : is_due c.new_value.new.self.due.items place ≡ true = rw c.in_ok-value.ensures.due c.requires.rising.unsettled in
-    gate_determined_at net plan place values c.change.new.self.values.items c.args.self.now.due.items c.change.new.self.due.items c.args.gate c.args.waiting.now.items c.queue_inside.new.queue.items
+    gate_determined_at net plan place values c.change.new.self.values.items c.args.self.now.due.items c.change.new.self.due.items c.args.gate c.args.worklist.now.gates.items c.push_inside.new.self.gates.items
     c.in_ok-value.field-0 c.in-Some.value c.gate_sig-signal.result c.successors-readers.result.now c.items.result.now c.requires.plan c.requires.rising c.in_ok-value.ensures.value
-    c.in-Some.is c.gate_sig-signal.ensures.sig after c.successors-readers.ensures c.items.ensures c.in_ok-queue_inside.ensures c.change.ensures.kept (c.change.ensures.due place due)
+    c.in-Some.is c.gate_sig-signal.ensures.sig after c.successors-readers.ensures c.items.ensures c.in_ok-push_inside.ensures.gates c.change.ensures.kept (c.change.ensures.due place due)
 
-pub returns-in_ok-queue_inside-clause-less : goal.returns-in_ok-queue_inside-clause-less
-returns-in_ok-queue_inside-clause-less c =
+pub returns-in_ok-push_inside-clause-less : goal.returns-in_ok-push_inside-clause-less
+returns-in_ok-push_inside-clause-less c =
     let net = c.args.net.now in
     let plan = c.args.plan.now in
     let values = c.args.self.now.values.items in
     let after : c.change.new.self.values.items ≡ set values c.gate_sig-signal.result.0 c.in-Some.value = rw c.in_ok-value.ensures.values at c.change.ensures.values in
-    determined_falls_at net plan c.args.place values c.change.new.self.values.items c.args.self.now.due.items c.args.gate c.args.waiting.now.items c.queue_inside.new.queue.items
+    determined_falls_at net plan c.args.worklist.now.place values c.change.new.self.values.items c.args.self.now.due.items c.args.gate c.args.worklist.now.gates.items c.push_inside.new.self.gates.items
     c.in_ok-value.field-0 c.in-Some.value c.gate_sig-signal.result c.successors-readers.result.now c.items.result.now c.requires.rising c.in_ok-value.ensures.value
-    c.in-Some.is c.gate_sig-signal.ensures.sig after c.successors-readers.ensures c.items.ensures c.in_ok-queue_inside.ensures
+    c.in-Some.is c.gate_sig-signal.ensures.sig after c.successors-readers.ensures c.items.ensures c.in_ok-push_inside.ensures.gates
 
 pub returns-in_default-clause-rising : goal.returns-in_default-clause-rising
 returns-in_default-clause-rising c =
     let net = c.args.net.now in
     rw (c.in_ok-value.ensures.values, c.in_ok-value.ensures.due)
-    (gate_unchanged net c.args.plan.now c.args.place c.args.self.now.values.items c.args.self.now.due.items c.args.gate c.args.waiting.now.items c.requires.rising
+    (gate_unchanged net c.args.plan.now c.args.worklist.now.place c.args.self.now.values.items c.args.self.now.due.items c.args.gate c.args.worklist.now.gates.items c.requires.rising
     (rw c.in_default.is at c.in_ok-value.ensures.value))
 
 pub change-requires-clause-kept : goal.change-requires-clause-kept
@@ -61,24 +61,24 @@ change-requires-clause-kept c = rw (c.in_ok-value.ensures.values, c.in_ok-value.
 pub change-requires-clause-due : goal.change-requires-clause-due
 change-requires-clause-due c = λ n within from_n.
     rw c.in_ok-value.ensures.due
-    (due_at_gate c.args.net.now c.args.plan.now.blocks c.args.self.now.due.items c.args.place c.args.gate n c.gate_sig-signal.result
+    (due_at_gate c.args.net.now c.args.plan.now.blocks c.args.self.now.due.items c.args.worklist.now.place c.args.gate n c.gate_sig-signal.result
     c.requires.rising.unsettled (c.requires.rising.inside c.args.gate (0, omega arith, refl)) c.gate_sig-signal.ensures.sig from_n)
 
-pub returns-in_ok-queue_inside-clause-kept : goal.returns-in_ok-queue_inside-clause-kept
-returns-in_ok-queue_inside-clause-kept c = c.change.ensures.kept
+pub returns-in_ok-push_inside-clause-kept : goal.returns-in_ok-push_inside-clause-kept
+returns-in_ok-push_inside-clause-kept c = c.change.ensures.kept
 
-pub returns-in_ok-queue_inside-clause-vector : goal.returns-in_ok-queue_inside-clause-vector
-returns-in_ok-queue_inside-clause-vector c =
+pub returns-in_ok-push_inside-clause-vector : goal.returns-in_ok-push_inside-clause-vector
+returns-in_ok-push_inside-clause-vector c =
     let values = c.args.self.now.values.items in
     let after : c.change.new.self.values.items ≡ set values c.gate_sig-signal.result.0 c.in-Some.value = rw c.in_ok-value.ensures.values at c.change.ensures.values in
     ap (vector_of c.args.net.now) (after ∙ ap (λ (s : Sig). set values s.0 c.in-Some.value) c.gate_sig-signal.ensures.sig)
     ∙ vector-set c.args.net.now values c.args.gate c.in-Some.value
 
-pub returns-in_err-queue_inside-clause-kept : goal.returns-in_err-queue_inside-clause-kept
-returns-in_err-queue_inside-clause-kept c = c.change.ensures.kept
+pub returns-in_err-push_inside-clause-kept : goal.returns-in_err-push_inside-clause-kept
+returns-in_err-push_inside-clause-kept c = c.change.ensures.kept
 
-pub returns-in_err-queue_inside-clause-vector : goal.returns-in_err-queue_inside-clause-vector
-returns-in_err-queue_inside-clause-vector c =
+pub returns-in_err-push_inside-clause-vector : goal.returns-in_err-push_inside-clause-vector
+returns-in_err-push_inside-clause-vector c =
     let values = c.args.self.now.values.items in
     let after : c.change.new.self.values.items ≡ set values c.gate_sig-signal.result.0 c.in-Some.value = rw c.in_ok-value.ensures.values at c.change.ensures.values in
     ap (vector_of c.args.net.now) (after ∙ ap (λ (s : Sig). set values s.0 c.in-Some.value) c.gate_sig-signal.ensures.sig)
@@ -91,7 +91,7 @@ pub returns-in_default-clause-vector : goal.returns-in_default-clause-vector
 returns-in_default-clause-vector c = rw c.in_ok-value.ensures.values refl
 
 pub returns-in_default-clause-less : goal.returns-in_default-clause-less
-returns-in_default-clause-less c = rw c.in_ok-value.ensures.values (unchanged_falls c.args.plan.now c.args.self.now.values.items c.args.gate c.args.waiting.now.items)
+returns-in_default-clause-less c = rw c.in_ok-value.ensures.values (unchanged_falls c.args.plan.now c.args.self.now.values.items c.args.gate c.args.worklist.now.gates.items)
 
 pub returns-in_err-value-clause-kept : goal.returns-in_err-value-clause-kept
 returns-in_err-value-clause-kept c = rw (c.new_value.ensures.values, c.new_value.ensures.due) c.requires.rising.kept

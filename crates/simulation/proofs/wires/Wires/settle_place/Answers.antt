@@ -1,9 +1,9 @@
--- A block that stands is settled where those before it are.
+-- A stable block is settled where those before it are.
 use Rattle.std.proofs.Common.{◌≡◌, false, true, sym, ◌∙◌, arith}
 use Rattle.std.proofs.lemmas.List.{get_or_read}
 use Rattle.simulation.proofs.Common.{is_due, vector_of}
 use Rattle.simulation.proofs.PinLemmas.{length-vector}
-use Rattle.simulation.proofs.BlockLemmas.{standing_settled}
+use Rattle.simulation.proofs.BlockLemmas.{stable_settled}
 use Rattle.simulation.proofs.GateLemmas.{at_fix}
 use Rattle.simulation.proofs.wires.Wires.settle_place.Goals as goal
 
@@ -15,8 +15,8 @@ returns-else-index-clause-settled c =
     let values = c.args.self.now.values.items in
     let due = c.args.self.now.due.items in
     let flags = c.requires.kept.flags in
-    let stands : is_due due place ≡ false = sym (get_or_read due place c.index.result.now (omega arith) c.index.ensures true) ∙ c.if-index.false in
+    let stable : is_due due place ≡ false = sym (get_or_read due place c.index.result.now (omega arith) c.index.ensures true) ∙ c.if-index.false in
     let done =
-    standing_settled net c.requires.plan.netlist blocks c.requires.plan.blocks (vector_of net values) values place (length-vector net values c.requires.kept.width)
-    (at_fix net c.requires.plan.netlist blocks c.requires.plan.blocks values place c.requires.settled) (c.requires.kept.stand place stands) in
+    stable_settled net c.requires.plan.netlist blocks c.requires.plan.blocks (vector_of net values) values place (length-vector net values c.requires.kept.width)
+    (at_fix net c.requires.plan.netlist blocks c.requires.plan.blocks values place c.requires.settled) (c.requires.kept.stable place stable) in
     record { each = done.gates }

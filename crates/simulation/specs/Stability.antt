@@ -1,4 +1,4 @@
--- Blocks that stand at a fixpoint, though the vector has changed since they were settled.
+-- Blocks that are stable, at the fixpoint of some vector, though the vector may have changed since they were settled.
 use Rattle.std.specs.Prelude.{◌≡◌, ◌<◌, ℕ, Bool, true, false, List, length, slice_index_or, Contains, take}
 use Rattle.cyc_base.specs.declared.sig.Sig.{Sig}
 use Rattle.cyc_base.specs.declared.trit.Trit.{Trit}
@@ -18,7 +18,7 @@ abbrev pub IsAtFix : Parts → List Trit → List Trit → ℕ → Type 0
 IsAtFix net vector values n = wire values (gate_sig net n) ≡ wire (fix net vector) (gate_sig net n)
 
 -- the gates of the block at this place, and all that they read, have the values of the fixpoint of some vector
-pub record Stands (net : Parts) (blocks : Blocks) (values : List Trit) (place : ℕ) : Type 0 where
+pub record IsStable (net : Parts) (blocks : Blocks) (values : List Trit) (place : ℕ) : Type 0 where
   pub vector : List Trit
   pub width : length vector ≡ first_gate net
   pub gates : (n : ℕ) → n < length net.gates → home_of blocks n ≡ place → IsAtFix net vector values n
@@ -28,11 +28,11 @@ pub record Stands (net : Parts) (blocks : Blocks) (values : List Trit) (place : 
 abbrev pub is_due : List Bool → ℕ → Bool
 is_due due place = slice_index_or due place true
 
--- each signal has a value, and each block that is not due stands
+-- each signal has a value, and each block that is not due is stable
 pub record AreKept (net : Parts) (blocks : Blocks) (values : List Trit) (due : List Bool) : Type 0 where
   pub width : length values ≡ count net
   pub flags : length due ≡ length blocks.list
-  pub stand : (place : ℕ) → is_due due place ≡ false → Stands net blocks values place
+  pub stable : (place : ℕ) → is_due due place ≡ false → IsStable net blocks values place
 
 -- the gates of all blocks before this place have the values of the fixpoint of the vector that the wires hold
 pub record AreSettled (net : Parts) (blocks : Blocks) (values : List Trit) (place : ℕ) : Type 0 where
