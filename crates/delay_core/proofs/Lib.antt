@@ -8,4 +8,4 @@ mod PlanLemmas
 mod PlayLemmas
 mod ReadingLemmas
 mod UnfairLemmas
-mod WholeLemmas
+pub mod WholeLemmas

@@ -1,21 +1,22 @@
 -- Tick by tick, a schedule is played whole.
-use Rattle.std.proofs.Common.{◌≡◌, ℕ, ◌+◌, ◌<◌, ◌≤◌, Bool, List, [], ◌∷◌, ◌++◌, length, map, drop, get_or, None, Some, Option, refl, ap, sym, ◌∙◌, arith}
-use Rattle.std.specs.Prelude.{Ok, Err, IfErr, IsErrAnd}
+use Rattle.std.proofs.Common.{◌≡◌, ℕ, ◌+◌, ◌<◌, ◌≤◌, Bool, List, [], ◌∷◌, ◌++◌, length, map, drop, None, Some, Option, refl, ap, sym, ◌∙◌, arith}
+use Rattle.std.specs.Prelude.{Ok, Err, IfErr, OnOk, IsErrAnd}
 use Rattle.std.specs.declared.result.Result.{Result}
 use Rattle.delay_core.proofs.Common.{zip, option_or, Parts, newest, PlayFault, RoundPlan, Schedule, PlayState, no_events, next_tick, after_plans, rounds_fault, PlannedTick, ticks_fault, first_opened, schedule_fault, tick_of, rest_of}
 use Rattle.std.proofs.lemmas.List.{append_assoc, append-nil, drop_all, drop_more}
 use Rattle.std.proofs.lemmas.Slice.Zip.{length-zip, get_or-zip}
 use Rattle.schedules.specs.Runs.{ticks_of}
 use Rattle.delay_core.specs.declared.plan.TickEnd.{TickEnd}
+use Rattle.delay_core.specs.ScheduledRuns.{Scheduled, IsScheduled, inputs_at, rounds_at, planned}
 use Rattle.delay_core.specs.Plans.{run_of, TicksArePlayed, end_at, end_of}
 use Rattle.delay_core.proofs.FairLemmas.{rounds_keep, ends_of_rest, ends_of_first}
 use Rattle.delay_core.proofs.PlanLemmas.{second_fault}
 
--- the ticks from one on, each with its inputs and its rounds
-pub ticks_left : (vectors : List (List Bool)) (plans : List (List RoundPlan)) (i : ℕ) → length plans ≡ length vectors → i < length vectors → drop i (zip vectors plans) ≡ (get_or vectors i [], get_or plans i []) ∷ drop (i + 1) (zip vectors plans)
-ticks_left vectors plans i e l =
-    drop_more (zip vectors plans) i ([], []) (omega (arith, length-zip vectors plans))
-    ∙ ap (λ (t : PlannedTick). t ∷ drop (i + 1) (zip vectors plans)) (get_or-zip vectors plans i ([], []) l (omega arith))
+-- the ticks from one on
+pub planned_left : (run : Scheduled) → IsScheduled run → (i : ℕ) → i < length run.vectors → drop i (planned run) ≡ (inputs_at run i, rounds_at run i) ∷ drop (i + 1) (planned run)
+planned_left run fits i l =
+    drop_more (planned run) i ([], []) (omega (arith, fits.ticks, length-zip run.vectors run.schedule.ticks))
+    ∙ ap (λ (t : PlannedTick). t ∷ drop (i + 1) (planned run)) (get_or-zip run.vectors run.schedule.ticks i ([], []) l (omega (arith, fits.ticks)))
 
 pub no_ticks_left : (vectors : List (List Bool)) (plans : List (List RoundPlan)) (i : ℕ) → length vectors ≤ i → drop i (zip vectors plans) ≡ []
 no_ticks_left vectors plans i l = drop_all i (zip vectors plans) (omega (arith, length-zip vectors plans))
@@ -24,6 +25,11 @@ no_ticks_left vectors plans i l = drop_all i (zip vectors plans) (omega (arith, 
 pub err_is : {A : Type 0} (r : Result A PlayFault) (f : PlayFault) (P : PlayFault → Type 0) → IsErrAnd r (λ e. e ≡ f) → P f → IfErr r P
 err_is (Ok a) f P is p = absurd is
 err_is (Err e) f P is p = rw is p
+
+-- three facts of a call that succeeded give another
+pub all_on_ok : {A E P Q R S : Type 0} (r : Result A E) → (P → Q → R → S) → OnOk r P → OnOk r Q → OnOk r R → OnOk r S
+all_on_ok (Ok a) f p q r = f p q r
+all_on_ok (Err e) f p q r = tt
 
 first_of : (f : PlayFault) (first second : Option PlayFault) → first ≡ Some f → option_or first second ≡ Some f
 first_of f first second e = rw e refl

@@ -4,3 +4,4 @@ pub mod Laws
 pub mod Plans
 pub mod Plays
 pub mod Timelines
+pub mod ScheduledRuns

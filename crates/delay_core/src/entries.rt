@@ -1,6 +1,6 @@
 //! How the values of signals are kept over moments: an entry for each change, linked to the signal's entries before it.
 
-ghost use Rattle.std.specs.Prelude.{◌≡◌, ◌+◌, ◌-◌, ◌<◌, ◌≤◌, ◌^◌, ℕ, length, slice_index_or, vec_len, vec_capacity, IfOk, OnOk, OnErr};
+ghost use Rattle.std.specs.Prelude.{◌≡◌, ◌+◌, ◌-◌, ◌<◌, ◌≤◌, ◌^◌, length, vec_len, vec_capacity, IfOk};
 ghost use Rattle.std.specs.List.{range_with_len};
 ghost use Rattle.delay_core.specs.Entries.{entries_of, entry_at, value_from, AreLinked, AreDated, IsJump, Writes, WritesMoment};
 

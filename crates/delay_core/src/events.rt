@@ -1,6 +1,6 @@
 //! The events of a round, packed.
 
-ghost use Rattle.std.specs.Prelude.{◌≡◌, ◌+◌, ◌<◌, ◌≤◌, ◌++◌, ◌∷◌, [], length, IfOk, OnOk, OnErr};
+ghost use Rattle.std.specs.Prelude.{◌≡◌, ◌+◌, ◌<◌, ◌++◌, ◌∷◌, [], length, IfOk, OnOk, OnErr};
 ghost use Rattle.delay_core.specs.EventLists.{begin_of as begin_of_ages, planned_at};
 
 use std::alloc::{AllocError, Global};

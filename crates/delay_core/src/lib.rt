@@ -15,6 +15,7 @@ mod opening;
 mod plan;
 mod play;
 mod reading;
+mod scheduled_run;
 mod timeline;
 mod whole;
 
@@ -23,5 +24,6 @@ pub use events::Events;
 pub use fault::{EventFault, PlayFault, Unfair};
 pub use plan::{PlannedEvent, RoundPlan, Schedule, TickEnd, TickPlan};
 pub use play::Play;
+pub use scheduled_run::ScheduledRun;
 pub use schedules::Event;
 pub use whole::play_whole;

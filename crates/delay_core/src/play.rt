@@ -1,8 +1,8 @@
-ghost use Rattle.std.specs.Prelude.{◌≡◌, ◌≢◌, ◌+◌, ◌-◌, ◌<◌, ◌≤◌, ◌⊎◌, ◌++◌, length, min, max, reverse, All, List, Bool, Some, None, [], ◌&&◌, IfErr, IfOk, OnOk, OnErr, IsOk};
+ghost use Rattle.std.specs.Prelude.{◌≡◌, ◌+◌, ◌-◌, ◌<◌, ◌≤◌, ◌⊎◌, ◌++◌, length, min, max, reverse, All, List, Bool, Some, None, [], ◌&&◌, IfErr, IfOk, OnOk, OnErr, IsOk};
 ghost use Rattle.std.specs.Result.{result_err};
 ghost use Rattle.netlist.specs.Netlists.{count};
 ghost use Rattle.schedules.specs.Moments.{bit_at, newest, event_value};
-ghost use Rattle.delay_core.specs.Plays.{PlayState, SeenPlay, event_fault, first_allowed, is_too_old, after_value, after_event, change_to, change_by, events_of_round, unfair_gate, no_events, most_rounds, after_round, starting, next_tick, opening_change, is_given, differ, moment_of_number};
+ghost use Rattle.delay_core.specs.Plays.{SeenPlay, event_fault, first_allowed, after_value, after_event, change_to, change_by, events_of_round, unfair_gate, no_events, most_rounds, after_round, starting, next_tick, opening_change, is_given, differ, moment_of_number};
 
 use crate::change::Change;
 use crate::fault::{EventFault, Unfair};
@@ -61,7 +61,7 @@ impl<'a> Drop for Play<'a> {
 
 impl<'a> Model for Play<'a> {
     ghost use Rattle.std.specs.Prelude.{◌≡◌, ◌+◌, ◌≤◌, vec_len, vec_capacity};
-    ghost use Rattle.delay_core.specs.Plays.{PlayState, SeenPlay, starts_of, IsPlay};
+    ghost use Rattle.delay_core.specs.Plays.{SeenPlay, starts_of, IsPlay};
 
     ghost Value = { SeenPlay };
 
@@ -266,7 +266,7 @@ impl<'a> Play<'a> {
         requires later { 1 < self.now.state.tick }
         ensures { result ≡ (is_given self.now.state.net s && differ (bit_at (moment_of_number self.now.state.history (self.now.state.opening - 1)) s) value) }
     {
-        if s.0 >= self.net.inputs() + self.net.latches() {
+        if self.net.driver(s).is_some() {
             return false;
         }
         let age = self.timeline.moments() - (self.opening - 1);

@@ -1,6 +1,6 @@
 //! What the pins of an event see.
 
-ghost use Rattle.std.specs.Prelude.{◌≡◌, ◌+◌, ◌<◌, ◌≤◌, ℕ, length, All, IfSome, IfNone, nat_lt, not, position, vec_len, vec_capacity};
+ghost use Rattle.std.specs.Prelude.{◌≡◌, ◌+◌, ◌<◌, ◌≤◌, length, All, IfSome, nat_lt, not, position, vec_capacity};
 ghost use Rattle.std.specs.List.Sorted.{IsNonDecreasing};
 ghost use Rattle.schedules.specs.Moments.{newest, seen};
 ghost use Rattle.schedules.specs.Fairness.{earliest};

@@ -33,7 +33,7 @@ impl Drop for Timeline {
 
 impl Model for Timeline {
     ghost use Rattle.std.specs.Prelude.{◌+◌, ◌≤◌, ◌<◌, ◌^◌, vec_len, vec_capacity};
-    ghost use Rattle.delay_core.specs.Entries.{history_of, AreLinked, AreDated};
+    ghost use Rattle.delay_core.specs.Entries.{history_of};
     ghost use Rattle.delay_core.specs.Timelines.{Told, IsTimeline};
 
     ghost Value = { Told };

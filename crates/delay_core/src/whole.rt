@@ -1,6 +1,6 @@
 //! Recorded schedules, played whole.
 
-ghost use Rattle.std.specs.Prelude.{◌≡◌, ◌⊎◌, ◌++◌, ◌∷◌, [], ◌+◌, ◌<◌, ◌≤◌, List, Bool, length, map, All, Some, None, IfErr, IfOk, OnOk};
+ghost use Rattle.std.specs.Prelude.{◌≡◌, ◌⊎◌, ◌++◌, ◌∷◌, [], ◌+◌, ◌<◌, List, Bool, length, map, All, Some, None, IfErr, IfOk, OnOk};
 ghost use Rattle.cyc_base.specs.declared.trit.Trit.{Trit};
 ghost use Rattle.cyc_base.specs.Values.{bits};
 ghost use Rattle.netlist.specs.Netlists.{count};
@@ -9,13 +9,14 @@ ghost use Rattle.schedules.specs.Moments.{newest};
 ghost use Rattle.schedules.specs.Runs.{outputs_at, ticks_of};
 ghost use Rattle.simulation.specs.Simulators.{IsSimulatorOf};
 ghost use Rattle.delay_core.specs.EventLists.{planned_at};
-ghost use Rattle.delay_core.specs.Plays.{PlayState, most_rounds, after_event, no_events, next_tick};
-ghost use Rattle.delay_core.specs.Plans.{planned_fault, events_fault, after_planned, round_fault, after_plan, rounds_fault, after_plans, first_opened, schedule_fault, run_of, IsPlayedFairly, TicksArePlayed, given_at, agrees as agree, stands_at_fix, end_at, end_of, SettledIsTold, SettlesInTime};
+ghost use Rattle.delay_core.specs.Plays.{most_rounds, after_event};
+ghost use Rattle.delay_core.specs.Plans.{planned_fault, events_fault, after_planned, round_fault, after_plan, rounds_fault, after_plans, schedule_fault, run_of, IsPlayedFairly, TicksArePlayed, given_at, agrees as agree, stands_at_fix, end_at, end_of, SettledIsTold, SettlesInTime};
 
 use crate::events::Events;
 use crate::fault::{EventFault, PlayFault};
 use crate::plan::{RoundPlan, Schedule, TickEnd};
 use crate::play::Play;
+use crate::scheduled_run::ScheduledRun;
 use cyc_base::{Bits, Sig, Trit};
 use netlist::Netlist;
 use simulation::Simulator;
@@ -201,141 +202,77 @@ fn play_tick(
 /// Starts a play and plays its first tick.
 fn play_first<'a>(
     alloc: Global,
-    net: &'a Netlist,
+    run: &ScheduledRun<'a>,
     simulator: &mut Simulator,
-    schedule: &Schedule,
-    inputs: &[bool],
-    plan: &[RoundPlan],
     ends: &mut Vec<TickEnd>,
 ) -> Result<Play<'a>, PlayFault>
-    requires past { All (λ (moment : List Bool). length moment ≡ count net.now) schedule.now.past }
-    requires latches { length schedule.now.latches ≡ length net.now.latches }
-    requires gates { length schedule.now.gates ≡ length net.now.gates }
-    requires inputs { length inputs.now ≡ length net.now.inputs }
-    requires simulator { IsSimulatorOf net.now simulator.old }
-    ensures simulator { IsSimulatorOf net.now simulator.new }
-    ensures fault { IfErr result (λ fault. (fault ≡ PlayFault.Memory) ⊎ (rounds_fault (first_opened net.now schedule.now inputs.now) plan.now ≡ Some fault)) }
-    ensures none { OnOk result (rounds_fault (first_opened net.now schedule.now inputs.now) plan.now ≡ None) }
-    ensures played { IfOk result (λ play. play.state ≡ after_plans (first_opened net.now schedule.now inputs.now) plan.now) }
-    ensures end { IfOk result (λ play. ends.new.items ≡ ends.old.items ++ end_at net.now (newest play.state.history) (length plan.now) ∷ []) }
+    requires some { 0 < length run.now.vectors }
+    requires simulator { IsSimulatorOf run.now.net simulator.old }
+    requires none { ends.old.items ≡ [] }
+    ensures simulator { IsSimulatorOf run.now.net simulator.new }
+    ensures fault { IfErr result (λ fault. (fault ≡ PlayFault.Memory) ⊎ (schedule_fault run.now.net run.now.schedule run.now.vectors ≡ Some fault)) }
+    ensures played { IfOk result (λ play. TicksArePlayed run.now.net run.now.schedule run.now.vectors play.state ends.new.items 1) }
 {
-    let mut play = Play::start_at(
-        alloc,
-        net,
-        schedule.window,
-        schedule.past.items(),
-        inputs,
-        schedule.latches.items(),
-        schedule.gates.items(),
-    )?;
-    play_tick(alloc, net, simulator, &mut play, plan, ends)?;
+    let mut play = run.start(alloc)?;
+    let rounds = run.rounds(0);
+    play_tick(alloc, run.net(), simulator, &mut play, rounds, ends)?;
     Ok(play)
 }
 
 /// Opens the next tick and plays it.
 fn play_next(
     alloc: Global,
-    net: &Netlist,
+    run: &ScheduledRun<'_>,
+    tick: usize,
     simulator: &mut Simulator,
     play: &mut Play,
-    inputs: &[bool],
-    plan: &[RoundPlan],
     ends: &mut Vec<TickEnd>,
 ) -> Result<(), PlayFault>
-    requires net { play.old.state.net ≡ net.now }
-    requires begun { play.old.state.done ≡ no_events net.now }
-    requires inputs { length inputs.now ≡ length net.now.inputs }
-    requires simulator { IsSimulatorOf net.now simulator.old }
-    ensures simulator { IsSimulatorOf net.now simulator.new }
-    ensures fault { IfErr result (λ fault. (fault ≡ PlayFault.Memory) ⊎ (rounds_fault (next_tick play.old.state inputs.now) plan.now ≡ Some fault)) }
-    ensures none { OnOk result (rounds_fault (next_tick play.old.state inputs.now) plan.now ≡ None) }
-    ensures played { OnOk result (play.new.state ≡ after_plans (next_tick play.old.state inputs.now) plan.now) }
-    ensures end { OnOk result (ends.new.items ≡ ends.old.items ++ end_at net.now (newest play.new.state.history) (length plan.now) ∷ []) }
+    requires tick { tick < length run.now.vectors }
+    requires simulator { IsSimulatorOf run.now.net simulator.old }
+    requires before { TicksArePlayed run.now.net run.now.schedule run.now.vectors play.old.state ends.old.items tick }
+    ensures simulator { IsSimulatorOf run.now.net simulator.new }
+    ensures fault { IfErr result (λ fault. (fault ≡ PlayFault.Memory) ⊎ (schedule_fault run.now.net run.now.schedule run.now.vectors ≡ Some fault)) }
+    ensures played { OnOk result (TicksArePlayed run.now.net run.now.schedule run.now.vectors play.new.state ends.new.items (tick + 1)) }
 {
-    play.end_tick(inputs)?;
-    play_tick(alloc, net, simulator, play, plan, ends)
+    run.open(play, tick)?;
+    let rounds = run.rounds(tick);
+    play_tick(alloc, run.net(), simulator, play, rounds, ends)
 }
 
-/// Plays the ticks behind the first, after it.
+/// Plays the ticks behind the first.
 fn play_later(
     alloc: Global,
-    net: &Netlist,
+    run: &ScheduledRun<'_>,
     simulator: &mut Simulator,
-    vectors: &[Bits],
-    schedule: &Schedule,
     play: &mut Play,
     ends: &mut Vec<TickEnd>,
 ) -> Result<(), PlayFault>
-    requires inputs { All (λ (inputs : List Bool). length inputs ≡ length net.now.inputs) vectors.now }
-    requires ticks { length schedule.now.ticks ≡ length vectors.now }
-    requires simulator { IsSimulatorOf net.now simulator.old }
-    requires first { TicksArePlayed net.now schedule.now vectors.now play.old.state ends.old.items 1 }
-    ensures simulator { IsSimulatorOf net.now simulator.new }
-    ensures fault { IfErr result (λ fault. (fault ≡ PlayFault.Memory) ⊎ (schedule_fault net.now schedule.now vectors.now ≡ Some fault)) }
-    ensures whole { OnOk result (schedule_fault net.now schedule.now vectors.now ≡ None) }
-    ensures ends { OnOk result (ends.new.items ≡ map (end_of net.now) (ticks_of net.now (run_of schedule.now vectors.now))) }
+    requires simulator { IsSimulatorOf run.now.net simulator.old }
+    requires first { TicksArePlayed run.now.net run.now.schedule run.now.vectors play.old.state ends.old.items 1 }
+    ensures fault { IfErr result (λ fault. (fault ≡ PlayFault.Memory) ⊎ (schedule_fault run.now.net run.now.schedule run.now.vectors ≡ Some fault)) }
+    ensures whole { OnOk result (schedule_fault run.now.net run.now.schedule run.now.vectors ≡ None) }
+    ensures ends { OnOk result (ends.new.items ≡ map (end_of run.now.net) (ticks_of run.now.net (run_of run.now.schedule run.now.vectors))) }
 {
-    let plans = schedule.ticks.items();
-    for i in 1..vectors.len() {
-        let inputs = vectors[i].items();
-        let plan = plans[i].items();
-        play_next(alloc, net, simulator, play, inputs, plan, ends)?;
+    for tick in 1..run.ticks() {
+        play_next(alloc, run, tick, simulator, play, ends)?;
     }
     Ok(())
 }
 
-/// Plays all ticks, of which there is at least one.
-fn play_ticks(
-    alloc: Global,
-    net: &Netlist,
-    simulator: &mut Simulator,
-    vectors: &[Bits],
-    schedule: &Schedule,
-    ends: &mut Vec<TickEnd>,
-) -> Result<(), PlayFault>
-    requires past { All (λ (moment : List Bool). length moment ≡ count net.now) schedule.now.past }
-    requires latches { length schedule.now.latches ≡ length net.now.latches }
-    requires gates { length schedule.now.gates ≡ length net.now.gates }
-    requires inputs { All (λ (inputs : List Bool). length inputs ≡ length net.now.inputs) vectors.now }
-    requires ticks { length schedule.now.ticks ≡ length vectors.now }
-    requires some { 0 < length vectors.now }
-    requires simulator { IsSimulatorOf net.now simulator.old }
-    requires none { ends.old.items ≡ [] }
-    ensures simulator { IsSimulatorOf net.now simulator.new }
-    ensures fault { IfErr result (λ fault. (fault ≡ PlayFault.Memory) ⊎ (schedule_fault net.now schedule.now vectors.now ≡ Some fault)) }
-    ensures whole { OnOk result (schedule_fault net.now schedule.now vectors.now ≡ None) }
-    ensures ends { OnOk result (ends.new.items ≡ map (end_of net.now) (ticks_of net.now (run_of schedule.now vectors.now))) }
-{
-    let plans = schedule.ticks.items();
-    let first = vectors[0].items();
-    let plan = plans[0].items();
-    let mut play = play_first(alloc, net, simulator, schedule, first, plan, ends)?;
-    play_later(alloc, net, simulator, vectors, schedule, &mut play, ends)
-}
-
 /// Plays all ticks, and tells how each ended.
-fn play_all(
-    alloc: Global,
-    net: &Netlist,
-    vectors: &[Bits],
-    schedule: &Schedule,
-    ends: &mut Vec<TickEnd>,
-) -> Result<(), PlayFault>
-    requires past { All (λ (moment : List Bool). length moment ≡ count net.now) schedule.now.past }
-    requires latches { length schedule.now.latches ≡ length net.now.latches }
-    requires gates { length schedule.now.gates ≡ length net.now.gates }
-    requires inputs { All (λ (inputs : List Bool). length inputs ≡ length net.now.inputs) vectors.now }
-    requires ticks { length schedule.now.ticks ≡ length vectors.now }
-    requires none { ends.old.items ≡ [] }
-    ensures fault { IfErr result (λ fault. (fault ≡ PlayFault.Memory) ⊎ (schedule_fault net.now schedule.now vectors.now ≡ Some fault)) }
-    ensures whole { OnOk result (schedule_fault net.now schedule.now vectors.now ≡ None) }
-    ensures ends { OnOk result (ends.new.items ≡ map (end_of net.now) (ticks_of net.now (run_of schedule.now vectors.now))) }
+fn play_all(alloc: Global, run: &ScheduledRun<'_>, ends: &mut Vec<TickEnd>) -> Result<(), PlayFault>
+    requires { ends.old.items ≡ [] }
+    ensures fault { IfErr result (λ fault. (fault ≡ PlayFault.Memory) ⊎ (schedule_fault run.now.net run.now.schedule run.now.vectors ≡ Some fault)) }
+    ensures whole { OnOk result (schedule_fault run.now.net run.now.schedule run.now.vectors ≡ None) }
+    ensures ends { OnOk result (ends.new.items ≡ map (end_of run.now.net) (ticks_of run.now.net (run_of run.now.schedule run.now.vectors))) }
 {
-    if vectors.is_empty() {
+    if run.ticks() == 0 {
         return Ok(());
     }
-    let mut simulator = Simulator::of(alloc, net)?;
-    play_ticks(alloc, net, &mut simulator, vectors, schedule, ends)
+    let mut simulator = Simulator::of(alloc, run.net())?;
+    let mut play = play_first(alloc, run, &mut simulator, ends)?;
+    play_later(alloc, run, &mut simulator, &mut play, ends)
 }
 
 /// Plays a recorded schedule whole, one tick for each vector of inputs, and tells how each tick ended; or answers its
@@ -360,6 +297,7 @@ pub fn play_whole(
 {
     let _window = schedule.window;
     let mut ends = Vec::new(alloc);
-    play_all(alloc, net, vectors, schedule, &mut ends)?;
+    let run = ScheduledRun::new(net, vectors, schedule);
+    play_all(alloc, &run, &mut ends)?;
     Ok(ends)
 }

@@ -7,7 +7,6 @@ ghost use Rattle.storm.specs.Plans.{each_gate};
 ghost use Rattle.storm.specs.declared.planning.StormPlan.{StormPlan as Plan};
 ghost use Rattle.storm.specs.Storms.{shakes, shaking_count, low_turn, high_turn, turn_events, storm_round, zeros_back, storm_rounds};
 
-use crate::event::push_event;
 use crate::planning::StormPlan;
 use cyc_base::{Bits, Items};
 use delay_core::{Events, RoundPlan, TickPlan};
@@ -22,80 +21,72 @@ fn values_at(list: &[Bits], gate: u32) -> &[bool]
     list[gate as usize].items()
 }
 
-/// The first half of a round: each gate is computed once, the shaking ones on their low values.
-fn low_events(
-    alloc: Global,
-    net: &Netlist,
-    plan: &StormPlan,
-    back: u32,
-) -> Result<Events, AllocError>
-    requires fits { FitsRound net.now plan.now }
-    requires back { back ≤ 4000000 }
-    ensures { IfOk result (λ events. events ≡ turn_events net.now plan.now back 0 (each_gate net.now (low_turn plan.now))) }
-{
-    let mut events = Events::new(alloc);
-    for gate in 0..net.gates() {
-        let values = values_at(plan.low.items(), gate);
-        push_event(alloc, net, plan, back, &mut events, gate, values)?;
-    }
-    Ok(events)
+/// A round of a plan's storm, which finds the shaking gates at 0 so many moments before its first one.
+#[derive(Drop)]
+pub(crate) struct StormRound<'a> {
+    pub(crate) net: &'a Netlist,
+    pub(crate) plan: &'a StormPlan,
+    pub(crate) back: u32,
 }
 
-/// Adds the event of a gate on its high values, if it shakes.
-fn push_high_event(
-    alloc: Global,
-    net: &Netlist,
-    plan: &StormPlan,
-    back: u32,
-    events: &mut Events,
-    gate: u32,
-) -> Result<(), AllocError>
-    requires gate { gate < length net.now.gates }
-    requires fits { FitsRound net.now plan.now }
-    requires small { length events.old + back ≤ 4294967295 }
-    ensures { OnOk result (events.new ≡ events.old ++ turn_events net.now plan.now back (length events.old) (map (high_turn plan.now) (filter (shakes plan.now) (gate ∷ [])))) }
-{
-    if plan.shaking.items()[gate as usize] {
-        let values = values_at(plan.high.items(), gate);
-        push_event(alloc, net, plan, back, events, gate, values)?;
+impl<'a> StormRound<'a> {
+    /// The first half of the round: each gate is computed once, the shaking ones on their low values.
+    fn low_events(&self, alloc: Global) -> Result<Events, AllocError>
+        requires fits { FitsRound self.now.net.now self.now.plan.now }
+        requires back { self.now.back ≤ 4000000 }
+        ensures { IfOk result (λ events. events ≡ turn_events self.now.net.now self.now.plan.now self.now.back 0 (each_gate self.now.net.now (low_turn self.now.plan.now))) }
+    {
+        let mut events = Events::new(alloc);
+        for gate in 0..self.net.gates() {
+            let values = values_at(self.plan.low.items(), gate);
+            self.push_event(alloc, &mut events, gate, values)?;
+        }
+        Ok(events)
     }
-    Ok(())
-}
 
-/// Adds the second half of a round: each shaking gate is computed once more, on its high values.
-fn push_high_events(
-    alloc: Global,
-    net: &Netlist,
-    plan: &StormPlan,
-    back: u32,
-    events: &mut Events,
-) -> Result<(), AllocError>
-    requires fits { FitsRound net.now plan.now }
-    requires back { back ≤ 4000000 }
-    requires first { length events.old ≡ length net.now.gates }
-    ensures { OnOk result (events.new ≡ events.old ++ turn_events net.now plan.now back (length events.old) (map (high_turn plan.now) (filter (shakes plan.now) (range_with_len 0 (length net.now.gates))))) }
-{
-    for gate in 0..net.gates() {
-        push_high_event(alloc, net, plan, back, events, gate)?;
+    /// Adds the event of a gate on its high values, if it shakes.
+    fn push_high_event(
+        &self,
+        alloc: Global,
+        events: &mut Events,
+        gate: u32,
+    ) -> Result<(), AllocError>
+        requires gate { gate < length self.now.net.now.gates }
+        requires fits { FitsRound self.now.net.now self.now.plan.now }
+        requires small { length events.old + self.now.back ≤ 4294967295 }
+        ensures { OnOk result (events.new ≡ events.old ++ turn_events self.now.net.now self.now.plan.now self.now.back (length events.old) (map (high_turn self.now.plan.now) (filter (shakes self.now.plan.now) (gate ∷ [])))) }
+    {
+        if self.plan.shaking.items()[gate as usize] {
+            let values = values_at(self.plan.high.items(), gate);
+            self.push_event(alloc, events, gate, values)?;
+        }
+        Ok(())
     }
-    Ok(())
-}
 
-/// A round that finds the shaking gates at 0 so many moments before its first one.
-fn round_of(
-    alloc: Global,
-    net: &Netlist,
-    plan: &StormPlan,
-    back: u32,
-) -> Result<RoundPlan, AllocError>
-    requires fits { FitsRound net.now plan.now }
-    requires back { back ≤ 4000000 }
-    ensures { IfOk result (λ round. round ≡ storm_round net.now plan.now back) }
-{
-    let mut events = low_events(alloc, net, plan, back)?;
-    push_high_events(alloc, net, plan, back, &mut events)?;
-    events.shrink();
-    Ok(RoundPlan { line: 0, events })
+    /// Adds the second half of the round: each shaking gate is computed once more, on its high values.
+    fn push_high_events(&self, alloc: Global, events: &mut Events) -> Result<(), AllocError>
+        requires fits { FitsRound self.now.net.now self.now.plan.now }
+        requires back { self.now.back ≤ 4000000 }
+        requires first { length events.old ≡ length self.now.net.now.gates }
+        ensures { OnOk result (events.new ≡ events.old ++ turn_events self.now.net.now self.now.plan.now self.now.back (length events.old) (map (high_turn self.now.plan.now) (filter (shakes self.now.plan.now) (range_with_len 0 (length self.now.net.now.gates))))) }
+    {
+        for gate in 0..self.net.gates() {
+            self.push_high_event(alloc, events, gate)?;
+        }
+        Ok(())
+    }
+
+    /// The round as it is planned: both halves.
+    fn round_plan(&self, alloc: Global) -> Result<RoundPlan, AllocError>
+        requires fits { FitsRound self.now.net.now self.now.plan.now }
+        requires back { self.now.back ≤ 4000000 }
+        ensures { IfOk result (λ round. round ≡ storm_round self.now.net.now self.now.plan.now self.now.back) }
+    {
+        let mut events = self.low_events(alloc)?;
+        self.push_high_events(alloc, &mut events)?;
+        events.shrink();
+        Ok(RoundPlan { line: 0, events })
+    }
 }
 
 /// How many moments before its first one a round finds the shaking gates at 0.
@@ -119,7 +110,9 @@ pub(crate) fn rounds_of(
 {
     let mut list = Vec::with_capacity(alloc, rounds as usize)?;
     for round in 0..rounds {
-        list.push_reserved(round_of(alloc, net, plan, zeros_back(round, shaking))?);
+        let back = zeros_back(round, shaking);
+        let round = StormRound { net, plan, back };
+        list.push_reserved(round.round_plan(alloc)?);
     }
     Ok(Items::of(list))
 }

@@ -6,7 +6,8 @@ use Rattle.delay_core.proofs.whole.play_whole.Goals as goal
 
 pub returns-clause-fair : goal.returns-clause-fair
 returns-clause-fair c =
-    schedule_fair c.args.net.now c.args.schedule.now (zip c.args.vectors.now c.args.schedule.now.ticks) c.in_ok-play_all.ensures.whole
+    schedule_fair c.args.net.now c.args.schedule.now (zip c.args.vectors.now c.args.schedule.now.ticks)
+    (rw c.new-run.ensures at c.in_ok-play_all.ensures.whole)
 
 pub returns-clause-settled : goal.returns-clause-settled
 returns-clause-settled c =
