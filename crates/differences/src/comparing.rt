@@ -1,15 +1,13 @@
 //! The least care vector on which the wires of some pair differ.
 
-ghost use Rattle.std.specs.Prelude.{◌≡◌, ◌≤◌, ◌⊎◌, IfOk, IfErr, All, option_map};
+ghost use Rattle.std.specs.Prelude.{◌≡◌, ◌≤◌, ◌⊎◌, IfOk, IfErr, option_map};
 ghost use Rattle.bdd_store.specs.Growth.{GrowsWithin, NoOtherCause};
-ghost use Rattle.bdd_ops.specs.Least.{IsLayout};
 ghost use Rattle.dual_rail.specs.WorkingLists.{IsWide};
 ghost use Rattle.care_sets.specs.Binding.{IsCareOf};
 ghost use Rattle.care_sets.specs.Care.{columns, is_care_vector};
 ghost use Rattle.isolation.specs.Columns.{AreColumns};
 ghost use Rattle.verdict.specs.Causes.{IsOutOfNodes};
 ghost use Rattle.differences.specs.Comparisons.{AddsInComparison, IsBelowEnoughFor, IsFullFor, IsLaidBy, pairs_cost, whole_cost};
-ghost use Rattle.clause_decision.specs.Apart.{IsPairOf};
 ghost use Rattle.differences.specs.Pairs.{least_apart as least_apart_of};
 ghost use Rattle.differences.specs.Sets.{AreFixedBy, TellsBy};
 
@@ -18,12 +16,9 @@ use crate::comparison::Comparison;
 use crate::parting::least_of_pairs;
 use bdd_ops::Diagrams;
 use bdd_store::StoreFault;
-use care_sets::Care;
-use clause_decision::Pair;
 use cyc_base::{Bits, MAX_NODES};
 use dual_rail::Rails;
 use isolation::column_rails;
-use loops::LoopedNetlist;
 use std::alloc::Global;
 use verdict::{DecideFault, Fixpoint, solve_beside};
 
@@ -98,37 +93,24 @@ fn compare_on(
 /// laid on the variables in that order: G are the gates of the netlist and of both care models, E is their effort, and V
 /// is the number of columns. Nothing more is said of the diagrams after the call.
 ///
-/// The condition is that the care set is the netlist's, that the order has each column once, that the wires of each pair
-/// are the netlist's, and that the limit is at most 50,000,000.
+/// The condition is that the care set is the netlist's, and that the limit is at most 50,000,000.
 pub fn least_apart(
     alloc: Global,
     d: &mut Diagrams,
-    looped: &LoopedNetlist<'_>,
-    care: &Care,
-    order: &[u32],
-    pairs: &[Pair],
+    comparison: &Comparison<'_>,
     limit: u32,
 ) -> Result<Option<Bits>, DecideFault>
-    requires care { IsCareOf looped.now.net care.now }
-    requires order { IsLayout (columns looped.now.net) order.now }
-    requires pairs { All (IsPairOf looped.now.net) pairs.now }
+    requires care { IsCareOf comparison.now.looped.now.net comparison.now.care.now }
     requires limit { limit ≤ MAX_NODES }
-    ensures found { IfOk result (λ vector. vector ≡ least_apart_of looped.now.net care.now pairs.now) }
+    ensures found { IfOk result (λ vector. vector ≡ least_apart_of comparison.now.looped.now.net comparison.now.care.now comparison.now.pairs.now) }
     ensures fault { IfErr result (λ fault. (fault ≡ DecideFault.Memory) ⊎ (fault ≡ DecideFault.NodeLimit limit)) }
-    ensures cause { result ≡ Err (DecideFault.NodeLimit limit) → IsOutOfNodes d.new looped.now.net care.now limit }
-    ensures below { result ≡ Err (DecideFault.NodeLimit limit) → IsBelowEnoughFor order.now looped.now.net care.now pairs.now limit }
+    ensures cause { result ≡ Err (DecideFault.NodeLimit limit) → IsOutOfNodes d.new comparison.now.looped.now.net comparison.now.care.now limit }
+    ensures below { result ≡ Err (DecideFault.NodeLimit limit) → IsBelowEnoughFor comparison.now.order.now comparison.now.looped.now.net comparison.now.care.now comparison.now.pairs.now limit }
 {
-    let net = looped.net();
-    if d.start(net.inputs() + net.latches(), limit).is_err() {
+    if d.start(comparison.looped.net().columns(), limit).is_err() {
         return Err(DecideFault::Memory);
     }
-    let comparison = Comparison {
-        looped,
-        care,
-        order,
-        pairs,
-    };
-    match compare_on(alloc, d, &comparison) {
+    match compare_on(alloc, d, comparison) {
         Ok(Some(vector)) => Ok(Some(Bits::of(vector))),
         Ok(None) => Ok(None),
         Err(StoreFault::Full) => Err(DecideFault::NodeLimit { nodes: limit }),

@@ -12,3 +12,4 @@ mod lesser;
 mod parting;
 
 pub use comparing::least_apart;
+pub use comparison::Comparison;

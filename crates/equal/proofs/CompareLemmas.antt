@@ -1,5 +1,5 @@
 -- The steps of a comparison.
-use Rattle.std.proofs.Common.{◌≡◌, ℕ, ◌+◌, ◌-◌, ◌≤◌, Bool, ◌&&◌, List, [], ◌∷◌, ◌++◌, length, All, Option, Some, None, IfSome, refl, sym, ap, ap₂, subst, ◌∙◌, arith}
+use Rattle.std.proofs.Common.{◌≡◌, ◌⊎◌, ℕ, ◌+◌, ◌-◌, ◌≤◌, Bool, ◌&&◌, List, [], ◌∷◌, ◌++◌, length, All, Option, Some, None, IfSome, refl, sym, ap, ap₂, subst, ◌∙◌, arith}
 use Rattle.equal.proofs.Common.{option_map, Result, IfOk, Err, All-map, Sig, option_map_or, Gate, Parts, count, IsNetlist, IsBoundTo, IsCareOf, CareModel, CareSet, columns, is_care_vector, some_is_apart, IsPairOf, IsKnownEarly, unmatched, Answer, columns_by_name, by_name, output_pairs, latch_pairs, differs, difference, HaveOneSource, AreAccepted, moved_pair_by, joined, joined_pairs}
 use Rattle.std.specs.Prelude.{Ok}
 use Rattle.cyc_base.specs.Vectors.{vectors}
@@ -23,6 +23,11 @@ use Rattle.equal.specs.declared.least.Early.{Early}
 use Rattle.equal.specs.declared.least.Early.TheVariants.{Found}
 use Rattle.equal.specs.Early.{IsFound}
 use Rattle.equal.specs.declared.answer.Answer.TheVariants.{Equal, Unmatched, First, Second}
+use Rattle.bdd_store.specs.Arena.{Arena}
+use Rattle.equal.specs.declared.fault.EqualFault.{EqualFault}
+use Rattle.equal.specs.declared.fault.EqualFault.TheVariants.{Memory, NodeLimit}
+use Rattle.equal.specs.Bounds.{IsBelowEnoughForBoth, IsOutOfNodesForBoth}
+use Rattle.equal.specs.Compared.{Matched, Compares}
 use Rattle.equal.specs.Differences.{at_difference, comparison_of_accepted, comparison}
 use Rattle.equal.proofs.MatchLemmas.{matched, length-by_name, length-table, care_by_name}
 use Rattle.equal.proofs.JoinLemmas.{pairs_for, apart_same, moved_within, length-joined}
@@ -108,6 +113,15 @@ module _ (a : Parts) (care_a : CareSet) (b : Parts) (care_b : CareSet) where
     told_last first second =
         ap₂ (λ n x. told n x None (comparison_of_accepted a b care_a)) (sym none) first
         ∙ ap (λ y. told (unmatched a b) (refusal a care_a observe.All) y (comparison_of_accepted a b care_a)) second
+
+-- the answer is found, or the comparison is given up
+pub answered : (m told : Matched) (d : Arena) (answer : Answer) → m ≡ told → answer ≡ comparison m.a m.care_a m.b m.care_b → Compares told d (Ok answer)
+answered m told d answer same is = subst (λ (m : Matched). Compares m d (Ok answer)) same (record { answer = is; fault = tt; cause = λ e. cc; below = λ e. cc })
+
+pub given_up : (m told : Matched) (d : Arena) (fault : EqualFault) → m ≡ told → (fault ≡ Memory) ⊎ (fault ≡ NodeLimit m.limit) →
+    (◌≡◌ {A = Result Answer EqualFault} (Err fault) (Err (NodeLimit m.limit)) → IsOutOfNodesForBoth d m.a m.care_a m.b m.limit) →
+    (◌≡◌ {A = Result Answer EqualFault} (Err fault) (Err (NodeLimit m.limit)) → IsBelowEnoughForBoth m.a m.care_a m.b m.care_b m.limit) → Compares told d (Err fault)
+given_up m told d fault same is cause below = subst (λ (m : Matched). Compares m d (Err fault)) same (record { answer = tt; fault = is; cause = cause; below = below })
 
 -- at a vector, or nowhere
 pub told_at : (a b : Parts) (care : CareSet) (v : List Bool) → Some v ≡ difference a b care → at_difference a b v ≡ comparison_of_accepted a b care

@@ -4,12 +4,11 @@ ghost use Rattle.std.specs.Prelude.{◌≡◌, ◌+◌, ◌≤◌, [], None, tru
 ghost use Rattle.netlist.specs.Netlists.{count};
 ghost use Rattle.care_sets.specs.Binding.{IsCareOf};
 ghost use Rattle.clause_decision.specs.Apart.{AreNeverApart, IsPairOf};
-ghost use Rattle.equal.specs.Differences.{columns_by_name, difference, AreAccepted};
-ghost use Rattle.equal.specs.Joined.{joined, joined_pairs as joined_pairs_of};
-ghost use Rattle.equal.specs.Matching.{unmatched};
+ghost use Rattle.equal.specs.Differences.{difference};
+ghost use Rattle.equal.specs.Joined.{joined};
 
+use crate::accepted::AcceptedNetlists;
 use crate::hints::alike_hints;
-use crate::joining::joined_netlist;
 use crate::prints::fingerprints;
 use care_sets::Care;
 use clause_decision::{Budget, Hint, Pair, PairSearch};
@@ -83,26 +82,13 @@ fn never_apart_joined(
     never_apart(alloc, &looped, care, &hints, pairs)
 }
 
-/// Whether two accepted netlists differ on no care vector. Wires that simulation doesn't tell apart are asked for first, one
-/// by one, and what the solver learns of them is there for the outputs and latches; false says nothing.
-pub(crate) fn are_alike(
-    alloc: Global,
-    a: &Netlist,
-    b: &Netlist,
-    columns: &[u32],
-    pairs: &[Pair],
-    care: &Care,
-) -> Result<bool, AllocError>
-    requires matched { unmatched a.now b.now ≡ None }
-    requires columns { columns.now ≡ columns_by_name a.now b.now }
-    requires pairs { pairs.now ≡ joined_pairs_of a.now b.now }
-    requires fits { count a.now + length b.now.gates ≤ 4294967295 }
-    requires care { IsCareOf a.now care.now }
-    requires accepted { AreAccepted a.now b.now care.now }
-    ensures { IfOk result (λ alike. alike ≡ true → difference a.now b.now care.now ≡ None) }
-{
-    let _ = a.gates();
-    let _ = b.gates();
-    let net = joined_netlist(alloc, a, b, columns)?;
-    never_apart_joined(alloc, a, b, &net, care, pairs)
+impl<'a> AcceptedNetlists<'a> {
+    /// Whether they differ on no care vector. Wires that simulation doesn't tell apart are asked for first, one by one, and
+    /// what the solver learns of them is there for the outputs and latches; false says nothing.
+    pub(crate) fn are_alike(&self, alloc: Global) -> Result<bool, AllocError>
+        ensures { IfOk result (λ alike. alike ≡ true → difference self.now.a self.now.b self.now.care ≡ None) }
+    {
+        let net = self.joined_netlist(alloc)?;
+        never_apart_joined(alloc, self.a, self.b, &net, self.care, self.pairs)
+    }
 }

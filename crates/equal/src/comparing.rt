@@ -8,6 +8,7 @@ ghost use Rattle.verdict.specs.Causes.{IsOutOfNodes};
 ghost use Rattle.verdict.specs.Enough.{IsBelowEnough};
 ghost use Rattle.differences.specs.Comparisons.{IsBelowEnoughFor};
 ghost use Rattle.equal.specs.Bounds.{IsBelowEnoughForBoth, IsOutOfNodesForBoth};
+ghost use Rattle.equal.specs.Compared.{matched_netlists, Compares};
 ghost use Rattle.equal.specs.Differences.{comparison, comparison_of_accepted, AreAccepted, HaveOneSource};
 ghost use Rattle.equal.specs.Joined.{joined, joined_pairs};
 ghost use Rattle.equal.specs.Matching.{unmatched};
@@ -26,6 +27,7 @@ use loops::{find_blocks, find_cut};
 use netlist::Netlist;
 use refusals::Refusal;
 use std::alloc::Global;
+use std::marker::Model;
 use verdict::{Observe, Verdict, decide};
 
 /// What refuses a netlist on its care set.
@@ -44,7 +46,7 @@ fn refusal_of(
     ensures cause { result ≡ Err (EqualFault.NodeLimit limit) → IsOutOfNodes d.new net.now care.now limit }
     ensures below { result ≡ Err (EqualFault.NodeLimit limit) → IsBelowEnough net.now care.now limit }
 {
-    let _ = net.gates();
+    net.laws();
     let blocks = find_blocks(alloc, net)?;
     let cut = find_cut(alloc, net, &blocks)?;
     match decide(alloc, d, net, &blocks, &cut, care, limit, Observe::All) {
@@ -78,60 +80,76 @@ fn compare_accepted(
     }
 }
 
-/// The comparison of two netlists of which the first is accepted.
-fn compare_second(
-    alloc: Global,
-    d: &mut Diagrams,
-    a: &Netlist,
-    b: &Netlist,
-    care_a: &Care,
-    care_b: &Care,
+/// Two netlists whose names match, each with its care set, and how many nodes the diagrams may have.
+#[derive(Drop)]
+struct MatchedNetlists<'a> {
+    a: &'a Netlist,
+    b: &'a Netlist,
+    care_a: &'a Care,
+    care_b: &'a Care,
     limit: u32,
-) -> Result<Answer, EqualFault>
-    requires matched { unmatched a.now b.now ≡ None }
-    requires first { IsCareOf a.now care_a.now }
-    requires second { IsCareOf b.now care_b.now }
-    requires source { HaveOneSource care_a.now care_b.now }
-    requires accepted { None ≡ refusal_by a.now care_a.now Observe.All }
-    requires limit { limit ≤ MAX_NODES }
-    ensures answer { IfOk result (λ answer. answer ≡ comparison a.now care_a.now b.now care_b.now) }
-    ensures fault { IfErr result (λ fault. (fault ≡ EqualFault.Memory) ⊎ (fault ≡ EqualFault.NodeLimit limit)) }
-    ensures cause { result ≡ Err (EqualFault.NodeLimit limit) → IsOutOfNodesForBoth d.new a.now care_a.now b.now limit }
-    ensures below { result ≡ Err (EqualFault.NodeLimit limit) → IsBelowEnoughForBoth a.now care_a.now b.now care_b.now limit }
-{
-    let _ = b.gates();
-    let _ = a.gates();
-    match refusal_of(alloc, d, b, care_b, limit) {
-        Ok(Some(refusal)) => Ok(Answer::Second(refusal)),
-        Ok(None) => compare_accepted(alloc, d, a, b, care_a, limit),
-        Err(fault) => Err(fault),
-    }
 }
 
-/// The comparison of two netlists whose names match.
-fn compare_matched(
-    alloc: Global,
-    d: &mut Diagrams,
-    a: &Netlist,
-    b: &Netlist,
-    care_a: &Care,
-    care_b: &Care,
-    limit: u32,
-) -> Result<Answer, EqualFault>
-    requires matched { unmatched a.now b.now ≡ None }
-    requires first { IsCareOf a.now care_a.now }
-    requires second { IsCareOf b.now care_b.now }
-    requires source { HaveOneSource care_a.now care_b.now }
-    requires limit { limit ≤ MAX_NODES }
-    ensures answer { IfOk result (λ answer. answer ≡ comparison a.now care_a.now b.now care_b.now) }
-    ensures fault { IfErr result (λ fault. (fault ≡ EqualFault.Memory) ⊎ (fault ≡ EqualFault.NodeLimit limit)) }
-    ensures cause { result ≡ Err (EqualFault.NodeLimit limit) → IsOutOfNodesForBoth d.new a.now care_a.now b.now limit }
-    ensures below { result ≡ Err (EqualFault.NodeLimit limit) → IsBelowEnoughForBoth a.now care_a.now b.now care_b.now limit }
-{
-    match refusal_of(alloc, d, a, care_a, limit) {
-        Ok(Some(refusal)) => Ok(Answer::First(refusal)),
-        Ok(None) => compare_second(alloc, d, a, b, care_a, care_b, limit),
-        Err(fault) => Err(fault),
+impl<'a> Model for MatchedNetlists<'a> {
+    ghost use Rattle.equal.specs.Compared.{Matched, AreMatched, matched_netlists};
+
+    ghost Value = { Matched };
+
+    ghost view = { λ m. matched_netlists m.a.now m.b.now m.care_a.now m.care_b.now m.limit };
+
+    ghost invariant = { λ m. AreMatched (matched_netlists m.a.now m.b.now m.care_a.now m.care_b.now m.limit) };
+}
+
+impl<'a> MatchedNetlists<'a> {
+    /// These two netlists.
+    ///
+    /// The condition is that each care set is its netlist's, and that both are bound from the same models.
+    fn new(
+        a: &'a Netlist,
+        b: &'a Netlist,
+        care_a: &'a Care,
+        care_b: &'a Care,
+        limit: u32,
+    ) -> MatchedNetlists<'a>
+        requires matched { unmatched a.now b.now ≡ None }
+        requires first { IsCareOf a.now care_a.now }
+        requires second { IsCareOf b.now care_b.now }
+        requires source { HaveOneSource care_a.now care_b.now }
+        requires limit { limit ≤ MAX_NODES }
+        ensures { result ≡ matched_netlists a.now b.now care_a.now care_b.now limit }
+    {
+        a.laws();
+        b.laws();
+        MatchedNetlists {
+            a,
+            b,
+            care_a,
+            care_b,
+            limit,
+        }
+    }
+
+    /// Their comparison, where the first is accepted.
+    fn compare_second(&self, alloc: Global, d: &mut Diagrams) -> Result<Answer, EqualFault>
+        requires { None ≡ refusal_by self.now.a self.now.care_a Observe.All }
+        ensures { Compares self.now d.new result }
+    {
+        match refusal_of(alloc, d, self.b, self.care_b, self.limit) {
+            Ok(Some(refusal)) => Ok(Answer::Second(refusal)),
+            Ok(None) => compare_accepted(alloc, d, self.a, self.b, self.care_a, self.limit),
+            Err(fault) => Err(fault),
+        }
+    }
+
+    /// Their comparison.
+    fn compare(&self, alloc: Global, d: &mut Diagrams) -> Result<Answer, EqualFault>
+        ensures { Compares self.now d.new result }
+    {
+        match refusal_of(alloc, d, self.a, self.care_a, self.limit) {
+            Ok(Some(refusal)) => Ok(Answer::First(refusal)),
+            Ok(None) => self.compare_second(alloc, d),
+            Err(fault) => Err(fault),
+        }
     }
 }
 
@@ -172,7 +190,10 @@ pub fn compare(
 {
     match first_unmatched(alloc, a, b)? {
         Some(name) => Ok(Answer::Unmatched { name }),
-        None => compare_matched(alloc, d, a, b, care_a, care_b, limit),
+        None => {
+            let matched = MatchedNetlists::new(a, b, care_a, care_b, limit);
+            matched.compare(alloc, d)
+        }
     }
 }
 
@@ -194,7 +215,8 @@ fn compare_rebound(
     ensures below { result ≡ Err (EqualFault.NodeLimit limit) → IsBelowEnoughForBoth a.now care.now b.now (rebound b.now care.now) limit }
 {
     let other = rebind(alloc, a, b, care)?;
-    compare_matched(alloc, d, a, b, care, &other, limit)
+    let matched = MatchedNetlists::new(a, b, care, &other, limit);
+    matched.compare(alloc, d)
 }
 
 /// The same as `compare`, where the care set of the second netlist is that of the first: its models, bound to the second

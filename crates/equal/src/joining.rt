@@ -1,14 +1,14 @@
 //! The joined netlist of two.
 
-ghost use Rattle.std.specs.Prelude.{◌≡◌, ◌+◌, ◌-◌, ◌++◌, ◌<◌, ◌≤◌, [], ◌∷◌, None, length, map, All, IfOk, OnOk, IfSome};
+ghost use Rattle.std.specs.Prelude.{◌≡◌, ◌+◌, ◌-◌, ◌++◌, ◌<◌, ◌≤◌, [], length, map, All, IfOk, OnOk};
 ghost use Rattle.std.specs.List.{range_with_len};
-ghost use Rattle.netlist.specs.Netlists.{count, gate_at, IsNetlist};
+ghost use Rattle.netlist.specs.Netlists.{count, IsNetlist};
 ghost use Rattle.care_sets.specs.Care.{columns as column_count};
 ghost use Rattle.unroll.specs.Marks.{mark as mark_of};
 ghost use Rattle.equal.specs.Differences.{columns_by_name};
 ghost use Rattle.equal.specs.Joined.{moved_by, moved_gate_by, moved_gates, joined};
-ghost use Rattle.equal.specs.Matching.{unmatched};
 
+use crate::accepted::AcceptedNetlists;
 use cyc_base::{Items, Name, Sig};
 use netlist::{Gate, Latch, Netlist, Parts, PartsFault};
 use std::alloc::{AllocError, Global};
@@ -193,7 +193,7 @@ fn copy_parts(alloc: Global, net: &Netlist) -> Result<Parts, AllocError>
 pub(crate) fn copy_netlist(alloc: Global, net: &Netlist) -> Result<Netlist, AllocError>
     ensures { IfOk result (λ copy. copy ≡ net.now) }
 {
-    let _ = net.gates();
+    net.laws();
     let parts = copy_parts(alloc, net)?;
     match Netlist::new(alloc, parts) {
         Ok(copy) => Ok(copy),
@@ -217,21 +217,13 @@ pub(crate) fn netlist_of(
     }
 }
 
-/// The joined netlist.
-pub(crate) fn joined_netlist(
-    alloc: Global,
-    a: &Netlist,
-    b: &Netlist,
-    columns: &[u32],
-) -> Result<Netlist, AllocError>
-    requires matched { unmatched a.now b.now ≡ None }
-    requires columns { columns.now ≡ columns_by_name a.now b.now }
-    requires fits { count a.now + length b.now.gates ≤ 4294967295 }
-    ensures { IfOk result (λ net. net ≡ joined a.now b.now []) }
-{
-    let _ = a.gates();
-    let _ = b.gates();
-    let mark = mark(alloc, a)?;
-    let gates = joined_gates(alloc, a, b, columns, &mark)?;
-    netlist_of(alloc, a, gates)
+impl<'a> AcceptedNetlists<'a> {
+    /// The joined netlist.
+    pub(crate) fn joined_netlist(&self, alloc: Global) -> Result<Netlist, AllocError>
+        ensures { IfOk result (λ net. net ≡ joined self.now.a self.now.b []) }
+    {
+        let mark = mark(alloc, self.a)?;
+        let gates = joined_gates(alloc, self.a, self.b, self.columns, &mark)?;
+        netlist_of(alloc, self.a, gates)
+    }
 }

@@ -1,37 +1,35 @@
 //! The least care vector on which two netlists differ that are accepted.
 
-ghost use Rattle.std.specs.Prelude.{◌≡◌, ◌≤◌, ◌+◌, ◌-◌, ◌⊎◌, ◌++◌, [], Some, None, Option, Bool, List, suc, true, length, map, option_map, All, IfOk, IfErr};
+ghost use Rattle.std.specs.Prelude.{◌≡◌, ◌≤◌, ◌+◌, ◌-◌, ◌⊎◌, ◌++◌, [], Some, None, Option, Bool, List, suc, length, map, option_map, All, IfOk, IfErr};
 ghost use Rattle.cyc_base.specs.declared.sig.Sig.{Sig as Signal};
 ghost use Rattle.refusals.specs.declared.refusal.Refusal.TheVariants.{Undetermined};
 ghost use Rattle.netlist.specs.Netlists.{count, IsNetlist};
-ghost use Rattle.bdd_ops.specs.Least.{IsLayout};
 ghost use Rattle.fixpoint.specs.Orders.{order as order_of};
-ghost use Rattle.care_sets.specs.Care.{columns as column_count};
 ghost use Rattle.netlist.specs.declared.parts.Parts.{Parts as TheParts};
 ghost use Rattle.loops.specs.declared.structure.Blocks.{Blocks as TheBlocks};
 ghost use Rattle.loops.specs.declared.structure.Cut.{Cut as TheCut};
 ghost use Rattle.care_sets.specs.Care.{CareSet};
 ghost use Rattle.verdict.specs.Verdicts.{IsVerdict};
 ghost use Rattle.verdict.specs.Causes.{IsOutOfNodes};
-ghost use Rattle.clause_decision.specs.Apart.{IsPairOf};
 ghost use Rattle.differences.specs.Pairs.{least_apart as least_apart_of};
 ghost use Rattle.differences.specs.Comparisons.{IsBelowEnoughFor};
 ghost use Rattle.care_sets.specs.Binding.{IsCareOf};
+ghost use Rattle.equal.specs.Compared.{FindsLeast};
 ghost use Rattle.equal.specs.Differences.{columns_by_name, difference, output_pairs as output_pairs_of, latch_pairs as latch_pairs_of, AreAccepted};
 ghost use Rattle.equal.specs.Early.{IsFound, IsKnownEarly};
 ghost use Rattle.equal.specs.Joined.{moved_gates, moved_pair_by, telling_gates, joined, joined_pairs as joined_pairs_of, difference_netlist as difference_netlist_of};
 ghost use Rattle.equal.specs.Matching.{unmatched};
 
-use crate::alike::are_alike;
+use crate::accepted::{AcceptedNetlists, fits};
 use crate::fault::{EqualFault, fault_of};
-use crate::joining::{joined_gates, joined_netlist, moved, netlist_of};
+use crate::joining::{joined_gates, moved, netlist_of};
 use crate::pairs::{find_columns, latch_pairs, output_pairs};
 use crate::telling::add_telling;
 use bdd_ops::Diagrams;
 use care_sets::Care;
 use clause_decision::Pair;
 use cyc_base::{Bits, MAX_NODES};
-use differences::least_apart;
+use differences::{Comparison, least_apart};
 use fixpoint::order;
 use loops::{LoopedNetlist, find_blocks, find_cut};
 use netlist::{Gate, Netlist};
@@ -103,8 +101,8 @@ fn joined_pairs(
     ensures { IfOk result (λ pairs. pairs.items ≡ joined_pairs_of a.now b.now) }
 {
     let own = own_pairs(alloc, a, b)?;
-    let _ = a.gates();
-    let _ = b.gates();
+    a.laws();
+    b.laws();
     moved_pairs(alloc, columns, a.count(), &own)
 }
 
@@ -124,26 +122,6 @@ fn difference_gates(
     let mut gates = joined_gates(alloc, a, b, columns, &mark)?;
     add_telling(alloc, a, &mark, b.gates(), pairs, &mut gates)?;
     Ok(gates)
-}
-
-/// The netlist that tells whether they differ.
-fn difference_netlist(
-    alloc: Global,
-    a: &Netlist,
-    b: &Netlist,
-    columns: &[u32],
-    pairs: &[Pair],
-) -> Result<Netlist, AllocError>
-    requires matched { unmatched a.now b.now ≡ None }
-    requires columns { columns.now ≡ columns_by_name a.now b.now }
-    requires pairs { pairs.now ≡ joined_pairs_of a.now b.now }
-    requires fits { count a.now + suc (length b.now.gates + length pairs.now) ≤ 4294967294 }
-    ensures { IfOk result (λ net. net ≡ difference_netlist_of a.now b.now) }
-{
-    let _ = a.gates();
-    let _ = b.gates();
-    let gates = difference_gates(alloc, a, b, columns, pairs)?;
-    netlist_of(alloc, a, gates)
 }
 
 /// The vector of a refusal for an unknown gate.
@@ -181,7 +159,7 @@ fn refusal_within(
     requires limit { limit ≤ MAX_NODES }
     ensures { IfOk result (IsKnownEarly net.now care.now) }
 {
-    let _ = net.gates();
+    net.laws();
     let mut d = Diagrams::new(alloc, 0, 1)?;
     let blocks = find_blocks(alloc, net)?;
     let cut = find_cut(alloc, net, &blocks)?;
@@ -193,133 +171,101 @@ fn refusal_within(
     }
 }
 
-/// Whether there are numbers for all signals of the netlist that tells.
-fn fits(a: &Netlist, b: &Netlist, pairs: usize) -> bool
-    ensures { result ≡ true → count a.now + suc (length b.now.gates + pairs) ≤ 4294967294 }
-{
-    if pairs >= 4_294_967_294 {
-        return false;
-    }
-    let signals = u64::from(a.count()) + u64::from(b.gates());
-    signals + (pairs as u64) < 4_294_967_294
-}
-
-/// The least vector on which they differ, if the netlist that tells is decided within a budget.
-fn early_difference(
-    alloc: Global,
-    a: &Netlist,
-    b: &Netlist,
-    columns: &[u32],
-    pairs: &[Pair],
-    care: &Care,
-    limit: u32,
-) -> Result<Early, AllocError>
-    requires matched { unmatched a.now b.now ≡ None }
-    requires columns { columns.now ≡ columns_by_name a.now b.now }
-    requires pairs { pairs.now ≡ joined_pairs_of a.now b.now }
-    requires fits { count a.now + suc (length b.now.gates + length pairs.now) ≤ 4294967294 }
-    requires care { IsCareOf a.now care.now }
-    requires accepted { AreAccepted a.now b.now care.now }
-    requires limit { limit ≤ MAX_NODES }
-    ensures { IfOk result (IsFound (difference a.now b.now care.now)) }
-{
-    let _ = a.gates();
-    let _ = b.gates();
-    if are_alike(alloc, a, b, columns, pairs, care)? {
-        return Ok(Early::Found(None));
-    }
-    let net = difference_netlist(alloc, a, b, columns, pairs)?;
-    refusal_within(alloc, &net, care, limit)
-}
-
-/// The least vector on which the wires of some pair of the joined netlist differ, by the diagrams.
+/// The least care vector on which the wires of some pair differ, by the diagrams.
 fn least_on(
     alloc: Global,
     d: &mut Diagrams,
-    net: &Netlist,
-    care: &Care,
-    order: &[u32],
-    pairs: &[Pair],
+    comparison: &Comparison<'_>,
     limit: u32,
 ) -> Result<Option<Bits>, EqualFault>
-    requires care { IsCareOf net.now care.now }
-    requires order { IsLayout (column_count net.now) order.now }
-    requires pairs { All (IsPairOf net.now) pairs.now }
+    requires care { IsCareOf comparison.now.looped.now.net comparison.now.care.now }
     requires limit { limit ≤ MAX_NODES }
-    ensures found { IfOk result (λ found. found ≡ least_apart_of net.now care.now pairs.now) }
+    ensures found { IfOk result (λ found. found ≡ least_apart_of comparison.now.looped.now.net comparison.now.care.now comparison.now.pairs.now) }
     ensures fault { IfErr result (λ fault. (fault ≡ EqualFault.Memory) ⊎ (fault ≡ EqualFault.NodeLimit limit)) }
-    ensures cause { result ≡ Err (EqualFault.NodeLimit limit) → IsOutOfNodes d.new net.now care.now limit }
-    ensures below { result ≡ Err (EqualFault.NodeLimit limit) → IsBelowEnoughFor order.now net.now care.now pairs.now limit }
+    ensures cause { result ≡ Err (EqualFault.NodeLimit limit) → IsOutOfNodes d.new comparison.now.looped.now.net comparison.now.care.now limit }
+    ensures below { result ≡ Err (EqualFault.NodeLimit limit) → IsBelowEnoughFor comparison.now.order.now comparison.now.looped.now.net comparison.now.care.now comparison.now.pairs.now limit }
 {
-    let _ = net.gates();
-    let blocks = find_blocks(alloc, net)?;
-    let cut = find_cut(alloc, net, &blocks)?;
-    let looped = LoopedNetlist::new(net, &blocks, &cut);
-    match least_apart(alloc, d, &looped, care, order, pairs, limit) {
+    match least_apart(alloc, d, comparison, limit) {
         Ok(found) => Ok(found),
         Err(fault) => Err(fault_of(fault)),
     }
 }
 
-/// The least vector on which they differ, by the diagrams.
-fn late_difference(
-    alloc: Global,
-    d: &mut Diagrams,
-    a: &Netlist,
-    b: &Netlist,
-    columns: &[u32],
-    pairs: &[Pair],
-    care: &Care,
-    limit: u32,
-) -> Result<Option<Bits>, EqualFault>
-    requires matched { unmatched a.now b.now ≡ None }
-    requires columns { columns.now ≡ columns_by_name a.now b.now }
-    requires pairs { pairs.now ≡ joined_pairs_of a.now b.now }
-    requires fits { count a.now + length b.now.gates ≤ 4294967295 }
-    requires care { IsCareOf a.now care.now }
-    requires accepted { AreAccepted a.now b.now care.now }
-    requires limit { limit ≤ MAX_NODES }
-    ensures found { IfOk result (λ found. found ≡ difference a.now b.now care.now) }
-    ensures fault { IfErr result (λ fault. (fault ≡ EqualFault.Memory) ⊎ (fault ≡ EqualFault.NodeLimit limit)) }
-    ensures cause { result ≡ Err (EqualFault.NodeLimit limit) → IsOutOfNodes d.new (joined a.now b.now []) care.now limit }
-    ensures below { result ≡ Err (EqualFault.NodeLimit limit) → IsBelowEnoughFor (order_of a.now) (joined a.now b.now []) care.now (joined_pairs_of a.now b.now) limit }
-{
-    let _ = a.gates();
-    let _ = b.gates();
-    let net = joined_netlist(alloc, a, b, columns)?;
-    let order = order(alloc, a)?;
-    least_on(alloc, d, &net, care, &order, pairs, limit)
-}
-
-/// The same, within a budget or else by the diagrams.
-fn difference_of_pairs(
-    alloc: Global,
-    d: &mut Diagrams,
-    a: &Netlist,
-    b: &Netlist,
-    columns: &[u32],
-    pairs: &[Pair],
-    care: &Care,
-    limit: u32,
-) -> Result<Option<Bits>, EqualFault>
-    requires matched { unmatched a.now b.now ≡ None }
-    requires columns { columns.now ≡ columns_by_name a.now b.now }
-    requires pairs { pairs.now ≡ joined_pairs_of a.now b.now }
-    requires care { IsCareOf a.now care.now }
-    requires accepted { AreAccepted a.now b.now care.now }
-    requires limit { limit ≤ MAX_NODES }
-    ensures found { IfOk result (λ found. found ≡ difference a.now b.now care.now) }
-    ensures fault { IfErr result (λ fault. (fault ≡ EqualFault.Memory) ⊎ (fault ≡ EqualFault.NodeLimit limit)) }
-    ensures cause { result ≡ Err (EqualFault.NodeLimit limit) → IsOutOfNodes d.new (joined a.now b.now []) care.now limit }
-    ensures below { result ≡ Err (EqualFault.NodeLimit limit) → IsBelowEnoughFor (order_of a.now) (joined a.now b.now []) care.now (joined_pairs_of a.now b.now) limit }
-{
-    if !fits(a, b, pairs.len()) {
-        return Err(EqualFault::Memory);
+impl<'a> AcceptedNetlists<'a> {
+    /// The netlist that tells whether they differ.
+    fn difference_netlist(&self, alloc: Global) -> Result<Netlist, AllocError>
+        ensures { IfOk result (λ net. net ≡ difference_netlist_of self.now.a self.now.b) }
+    {
+        let gates = difference_gates(alloc, self.a, self.b, self.columns, self.pairs)?;
+        netlist_of(alloc, self.a, gates)
     }
-    let few = limit.min(FEW_NODES);
-    match early_difference(alloc, a, b, columns, pairs, care, few)? {
-        Early::Found(found) => Ok(found),
-        Early::Nothing => late_difference(alloc, d, a, b, columns, pairs, care, limit),
+
+    /// The least vector on which they differ, if the netlist that tells is decided within a budget.
+    fn early_difference(&self, alloc: Global, limit: u32) -> Result<Early, AllocError>
+        requires { limit ≤ MAX_NODES }
+        ensures { IfOk result (IsFound (difference self.now.a self.now.b self.now.care)) }
+    {
+        if self.are_alike(alloc)? {
+            return Ok(Early::Found(None));
+        }
+        let net = self.difference_netlist(alloc)?;
+        refusal_within(alloc, &net, self.care, limit)
+    }
+
+    /// The least vector on which they differ, by the diagrams of the joined netlist.
+    fn difference_on(
+        &self,
+        alloc: Global,
+        d: &mut Diagrams,
+        looped: &LoopedNetlist<'_>,
+        limit: u32,
+    ) -> Result<Option<Bits>, EqualFault>
+        requires joined { looped.now.net ≡ joined self.now.a self.now.b [] }
+        requires limit { limit ≤ MAX_NODES }
+        ensures { FindsLeast self.now limit d.new result }
+    {
+        let order = order(alloc, self.a)?;
+        let comparison = Comparison {
+            looped,
+            care: self.care,
+            order: &order,
+            pairs: self.pairs,
+        };
+        least_on(alloc, d, &comparison, limit)
+    }
+
+    /// The same, where the joined netlist is made here.
+    fn late_difference(
+        &self,
+        alloc: Global,
+        d: &mut Diagrams,
+        limit: u32,
+    ) -> Result<Option<Bits>, EqualFault>
+        requires { limit ≤ MAX_NODES }
+        ensures { FindsLeast self.now limit d.new result }
+    {
+        let net = self.joined_netlist(alloc)?;
+        let blocks = find_blocks(alloc, &net)?;
+        let cut = find_cut(alloc, &net, &blocks)?;
+        let looped = LoopedNetlist::new(&net, &blocks, &cut);
+        self.difference_on(alloc, d, &looped, limit)
+    }
+
+    /// The same, within a budget or else by the diagrams.
+    fn difference(
+        &self,
+        alloc: Global,
+        d: &mut Diagrams,
+        limit: u32,
+    ) -> Result<Option<Bits>, EqualFault>
+        requires { limit ≤ MAX_NODES }
+        ensures { FindsLeast self.now limit d.new result }
+    {
+        let few = limit.min(FEW_NODES);
+        match self.early_difference(alloc, few)? {
+            Early::Found(found) => Ok(found),
+            Early::Nothing => self.late_difference(alloc, d, limit),
+        }
     }
 }
 
@@ -347,5 +293,8 @@ pub(crate) fn least_difference(
     }
     let columns = find_columns(alloc, a, b)?;
     let pairs = joined_pairs(alloc, a, b, &columns)?;
-    difference_of_pairs(alloc, d, a, b, &columns, &pairs, care, limit)
+    match AcceptedNetlists::new(a, b, care, &columns, &pairs) {
+        Some(accepted) => accepted.difference(alloc, d, limit),
+        None => Err(EqualFault::Memory),
+    }
 }

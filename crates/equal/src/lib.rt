@@ -6,6 +6,7 @@
 //! that `compare` answers as the definition of a comparison says, with the least vector of a difference.
 #![tactic(auto)]
 
+mod accepted;
 mod alike;
 mod answer;
 mod comparing;

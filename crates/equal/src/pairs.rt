@@ -16,7 +16,7 @@ fn column_in(net: &Netlist, name: &Name) -> u32
 {
     match net.find(name) {
         Some(signal) => {
-            if signal.0 < net.inputs() + net.latches() {
+            if signal.0 < net.columns() {
                 signal.0
             } else {
                 0
@@ -31,7 +31,7 @@ pub(crate) fn find_columns(alloc: Global, a: &Netlist, b: &Netlist) -> Result<Ve
     ensures { IfOk result (λ columns. columns.items ≡ columns_by_name a.now b.now) }
 {
     let mut columns = Vec::new(alloc);
-    for number in 0..b.inputs() + b.latches() {
+    for number in 0..b.columns() {
         columns.push(column_in(a, b.name_of(Sig(number))))?;
     }
     Ok(columns)

@@ -1,6 +1,6 @@
 //! Where two netlists differ at a vector.
 
-ghost use Rattle.std.specs.Prelude.{◌≡◌, false, Bool, List, length, map, position, All, IfOk, slice_index_or, IfErr};
+ghost use Rattle.std.specs.Prelude.{◌≡◌, false, Bool, List, length, map, position, IfOk, slice_index_or, IfErr};
 ghost use Rattle.cyc_base.specs.Values.{bits};
 ghost use Rattle.netlist.specs.Fixpoint.{wire, fix};
 ghost use Rattle.care_sets.specs.Care.{columns};

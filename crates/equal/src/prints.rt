@@ -1,14 +1,15 @@
 //! Fingerprints of wires, by simulation: wires that are equal have equal ones, and most of those that aren't have not.
 
-ghost use Rattle.std.specs.Prelude.{◌≡◌, ◌<◌, ◌≤◌, ◌+◌, length, All, IfOk};
+ghost use Rattle.std.specs.Prelude.{◌≡◌, ◌<◌, length, All, IfOk};
 ghost use Rattle.netlist.specs.Netlists.{count};
 
 use crate::words::{Word, gate_word, word_at};
 use care_sets::Care;
 use isolation::gates_at;
-use loops::{LoopedNetlist, find_blocks, find_cut};
+use loops::{Blocks, Cut, LoopedNetlist, find_blocks, find_cut};
 use netlist::Netlist;
 use std::alloc::{AllocError, Global};
+use std::marker::Model;
 
 /// How many words of 64 vectors are tried.
 const WORDS: u32 = 8;
@@ -26,7 +27,7 @@ fn next_number(number: u64) -> u64 {
 /// Vectors that look random, and all gates unknown.
 fn first_words(alloc: Global, net: &Netlist, number: &mut u64) -> Result<Vec<Word>, AllocError> {
     let mut words = Vec::with_capacity(alloc, net.count() as usize)?;
-    for _ in 0..net.inputs() + net.latches() {
+    for _ in 0..net.columns() {
         *number = next_number(*number);
         words.push(Word::known(*number))?;
     }
@@ -97,42 +98,103 @@ fn words_of_columns(
     Ok(read)
 }
 
-/// At which vectors the output of a care model is 1, where its inputs have these words.
-fn allowed_by(alloc: Global, model: &Netlist, given: Vec<Word>) -> Result<u64, AllocError> {
-    let blocks = find_blocks(alloc, model)?;
-    let cut = find_cut(alloc, model, &blocks)?;
-    let looped = LoopedNetlist::new(model, &blocks, &cut);
-    let mut words = given;
-    words.resize(model.count() as usize, Word::UNKNOWN)?;
-    settle(&looped, &mut words);
-    match model.outputs().first() {
-        Some(output) => Ok(word_at(&words, output.0 as usize).ones),
-        None => Ok(u64::MAX),
+/// A care model, as it is simulated.
+#[derive(Drop)]
+struct SimulatedModel<'a> {
+    net: &'a Netlist,
+    /// The columns that its inputs read.
+    columns: &'a [u32],
+    blocks: Blocks,
+    cut: Cut,
+}
+
+impl<'a> Model for SimulatedModel<'a> {
+    ghost use Rattle.loops.specs.Looped.{Looped, IsLooped};
+
+    ghost Value = { Looped };
+
+    ghost view = { λ m. record { net = m.net.now; blocks = m.blocks; cut = m.cut } };
+
+    ghost invariant = { λ m. IsLooped (record { net = m.net.now; blocks = m.blocks; cut = m.cut }) };
+}
+
+impl<'a> SimulatedModel<'a> {
+    /// The model that reads these columns.
+    fn new(
+        alloc: Global,
+        net: &'a Netlist,
+        columns: &'a [u32],
+    ) -> Result<SimulatedModel<'a>, AllocError> {
+        let blocks = find_blocks(alloc, net)?;
+        let cut = find_cut(alloc, net, &blocks)?;
+        Ok(SimulatedModel {
+            net,
+            columns,
+            blocks,
+            cut,
+        })
+    }
+
+    /// At which vectors its output is 1, where the columns have these words.
+    fn allowed(&self, alloc: Global, words: &[Word]) -> Result<u64, AllocError> {
+        let looped = LoopedNetlist::new(self.net, &self.blocks, &self.cut);
+        let mut own = words_of_columns(alloc, words, self.columns)?;
+        own.resize(self.net.count() as usize, Word::UNKNOWN)?;
+        settle(&looped, &mut own);
+        match self.net.outputs().first() {
+            Some(output) => Ok(word_at(&own, output.0 as usize).ones),
+            None => Ok(u64::MAX),
+        }
     }
 }
 
-/// At which vectors a care model that reads these columns holds: at all where there is none.
+/// The model, if there is one.
+fn simulated<'a>(
+    alloc: Global,
+    model: Option<&'a Netlist>,
+    columns: &'a [u32],
+) -> Result<Option<SimulatedModel<'a>>, AllocError> {
+    match model {
+        Some(model) => Ok(Some(SimulatedModel::new(alloc, model, columns)?)),
+        None => Ok(None),
+    }
+}
+
+/// At which vectors a care model holds: at all where there is none.
 fn allowed(
     alloc: Global,
-    model: Option<&Netlist>,
-    columns: &[u32],
+    model: &Option<SimulatedModel<'_>>,
     words: &[Word],
 ) -> Result<u64, AllocError> {
     match model {
-        Some(model) => allowed_by(alloc, model, words_of_columns(alloc, words, columns)?),
+        Some(model) => model.allowed(alloc, words),
         None => Ok(u64::MAX),
     }
 }
 
-/// Which vectors are on care. Where none is, all are taken: they tell some wires apart still.
-fn on_care(alloc: Global, care: &Care, words: &[Word]) -> Result<u64, AllocError> {
-    let assumed = allowed(alloc, care.assume(), care.assume_columns(), words)?;
-    let inside = allowed(alloc, care.invariant(), care.invariant_columns(), words)?;
-    let vectors = assumed & inside;
-    if vectors == 0 {
-        return Ok(u64::MAX);
+/// A care set, as it is simulated.
+#[derive(Drop)]
+struct SimulatedCare<'a> {
+    assume: Option<SimulatedModel<'a>>,
+    invariant: Option<SimulatedModel<'a>>,
+}
+
+impl<'a> SimulatedCare<'a> {
+    fn new(alloc: Global, care: &'a Care) -> Result<SimulatedCare<'a>, AllocError> {
+        let assume = simulated(alloc, care.assume(), care.assume_columns())?;
+        let invariant = simulated(alloc, care.invariant(), care.invariant_columns())?;
+        Ok(SimulatedCare { assume, invariant })
     }
-    Ok(vectors)
+
+    /// Which vectors are on care. Where none is, all are taken: they tell some wires apart still.
+    fn allowed(&self, alloc: Global, words: &[Word]) -> Result<u64, AllocError> {
+        let vectors = allowed(alloc, &self.assume, words)?
+            & allowed(alloc, &self.invariant, words)?;
+        if vectors == 0 {
+            return Ok(u64::MAX);
+        }
+        Ok(vectors)
+    }
 }
 
 /// The fingerprints of a wire and of its complement.
@@ -176,7 +238,7 @@ fn mix(words: &[Word], vectors: u64, prints: &mut [Print])
 fn mix_vectors(
     alloc: Global,
     looped: &LoopedNetlist<'_>,
-    care: &Care,
+    care: &SimulatedCare<'_>,
     number: &mut u64,
     prints: &mut [Print],
 ) -> Result<(), AllocError>
@@ -184,9 +246,25 @@ fn mix_vectors(
 {
     let mut words = first_words(alloc, looped.net(), number)?;
     settle(looped, &mut words);
-    let vectors = on_care(alloc, care, &words)?;
+    let vectors = care.allowed(alloc, &words)?;
     mix(&words, vectors, prints);
     Ok(())
+}
+
+/// The fingerprints of each wire, from its values at some vectors on care.
+fn fingerprints_on(
+    alloc: Global,
+    looped: &LoopedNetlist<'_>,
+    care: &SimulatedCare<'_>,
+) -> Result<Vec<Print>, AllocError>
+    ensures { IfOk result (λ prints. length prints.items ≡ count looped.now.net) }
+{
+    let mut prints = vec![in alloc; Print::START; looped.net().count() as usize]?;
+    let mut number = SEED;
+    for _ in 0..WORDS {
+        mix_vectors(alloc, looped, care, &mut number, &mut prints)?;
+    }
+    Ok(prints)
 }
 
 /// The fingerprints of each wire, from its values at some vectors of the care set.
@@ -197,10 +275,6 @@ pub(crate) fn fingerprints(
 ) -> Result<Vec<Print>, AllocError>
     ensures { IfOk result (λ prints. length prints.items ≡ count looped.now.net) }
 {
-    let mut prints = vec![in alloc; Print::START; looped.net().count() as usize]?;
-    let mut number = SEED;
-    for _ in 0..WORDS {
-        mix_vectors(alloc, looped, care, &mut number, &mut prints)?;
-    }
-    Ok(prints)
+    let models = SimulatedCare::new(alloc, care)?;
+    fingerprints_on(alloc, looped, &models)
 }

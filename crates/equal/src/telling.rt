@@ -1,8 +1,7 @@
 //! Gates that tell whether some pair of wires differs.
 
-ghost use Rattle.std.specs.Prelude.{◌≡◌, ◌+◌, ◌++◌, ◌<◌, ◌≤◌, ◌∷◌, [], true, ℕ, suc, length, map, IfOk, OnOk};
+ghost use Rattle.std.specs.Prelude.{◌≡◌, ◌+◌, ◌++◌, ◌<◌, ◌≤◌, ◌∷◌, [], true, suc, length, map, IfOk, OnOk};
 ghost use Rattle.std.specs.List.{range_with_len};
-ghost use Rattle.cover_logic.specs.declared.row.Row.{Row as RowOf};
 ghost use Rattle.netlist.specs.Netlists.{count};
 ghost use Rattle.unroll.specs.Marks.{mark as mark_of};
 ghost use Rattle.equal.specs.Joined.{row as row_of, never_cover, link_cover as link_cover_of, both_cover as both_cover_of, never_gate as never_gate_of, link_gate as link_gate_of, telling_gate as telling_gate_of, telling_gates};

@@ -88,8 +88,8 @@ pub fn tell_equality(
 {
     equal_netlists_run_alike();
     answers_fit();
-    let _ = a.gates();
-    let _ = b.gates();
+    a.laws();
+    b.laws();
     let _ = care.assume();
     let answer = compare_by_name(alloc, d, a, b, care, limit)?;
     Ok(tell_answer(alloc, a, b, &answer)?)

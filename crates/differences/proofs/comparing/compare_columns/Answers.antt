@@ -15,7 +15,7 @@ use Rattle.differences.specs.Sets.{AreFixedBy, TellsBy}
 use Rattle.differences.proofs.ComparingLemmas.{fixed-is, TellsBy-same}
 use Rattle.differences.proofs.LaidLemmas.{working-wide}
 use Rattle.differences.proofs.comparing.compare_columns.Goals as goal
-use Rattle.differences.proofs.comparing.compare_columns.Goals.{After-care_on, After-solve_beside, In_ok-found}
+use Rattle.differences.proofs.comparing.compare_columns.Goals.{After-care_on, After-solve_beside}
 
 pub care_on-requires-clause-width : goal.care_on-requires-clause-width
 care_on-requires-clause-width c = c.requires.columns.width ∙ c.requires.vars ∙ ap columns (sym c.net-net.ensures.net)

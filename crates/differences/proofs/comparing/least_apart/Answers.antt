@@ -5,7 +5,7 @@ use Rattle.differences.proofs.EnoughLemmas.{out_of_nodes, below_enough}
 use Rattle.differences.proofs.comparing.least_apart.Goals as goal
 use Rattle.differences.proofs.comparing.least_apart.Goals.{In-Err-Full}
 
-full : (c : In-Err-Full) → IsFullFor c.start.new.self c.compare_on.new.d c.args.order.now c.args.looped.now.net c.args.care.now c.args.pairs.now
+full : (c : In-Err-Full) → IsFullFor c.start.new.self c.compare_on.new.d c.args.comparison.now.order.now c.args.comparison.now.looped.now.net c.args.comparison.now.care.now c.args.comparison.now.pairs.now
 full c = c.compare_on.ensures.full (c.in-Err-Full.is ∙ ap {A = StoreFault} Err c.in-Err-Full.field-0-is)
 
 -- the diagrams were begun anew

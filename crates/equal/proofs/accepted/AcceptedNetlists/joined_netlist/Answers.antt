@@ -1,0 +1,24 @@
+use Rattle.std.proofs.Common.{◌≡◌, ◌≤◌, ◌+◌, ◌++◌, List, [], length, ap, subst, sym, ◌∙◌, arith}
+use Rattle.equal.proofs.Common.{IfOk, Gate, IsNetlist, count, joined, moved_gates}
+use Rattle.std.proofs.lemmas.List.{append-nil}
+use Rattle.equal.specs.Compared.{Accepted}
+use Rattle.equal.specs.Joined.{with_gates}
+use Rattle.equal.proofs.ValidLemmas.{joined_valid}
+use Rattle.equal.proofs.accepted.AcceptedNetlists.joined_netlist.Goals as goal
+
+pub netlist_of-requires : goal.netlist_of-requires
+netlist_of-requires c =
+    let a = c.self.inside.a.now in
+    let b = c.self.inside.b.now in
+    let is = c.self.invariant in
+    let same : a.gates ++ (moved_gates a b ++ []) ≡ c.in_ok-gates.gates.items = ap (λ gates. a.gates ++ gates) (append-nil (moved_gates a b)) ∙ sym c.in_ok-gates.ensures in
+    let fits : count a + length b.gates ≤ 4294967295 = omega (arith, is.fits) in
+    subst (λ (gates : List Gate). IsNetlist (with_gates c.self.inside.a.now gates)) same (joined_valid a b is.valid_a is.valid_b is.names fits)
+
+pub returns : goal.returns
+returns c =
+    let a = c.self.inside.a.now in
+    let b = c.self.inside.b.now in
+    let same : c.in_ok-gates.gates.items ≡ a.gates ++ (moved_gates a b ++ []) = c.in_ok-gates.ensures ∙ ap (λ gates. a.gates ++ gates) (sym (append-nil (moved_gates a b))) in
+    subst (λ (m : Accepted). IfOk c.netlist_of.result (λ net. net ≡ joined m.a m.b [])) c.self.view_is
+    (subst (λ (gates : List Gate). IfOk c.netlist_of.result (λ net. net ≡ with_gates c.self.inside.a.now gates)) same c.netlist_of.ensures)
