@@ -33,7 +33,7 @@ fn add_wires(
     ensures size { IfOk result (λ rails. length rails.items ≡ count net.now) }
     ensures within { IfOk result (λ rails. All (AreWithin formula.new.variables) rails.items) }
 {
-    let columns = add_columns(alloc, formula, net.inputs() + net.latches())?;
+    let columns = add_columns(alloc, formula, net.columns())?;
     let wanted = vec![in alloc; true; net.gates() as usize]?;
     let never = vec![in alloc; false; net.gates() as usize]?;
     add_netlist(alloc, formula, net, &columns, &wanted, &never)

@@ -85,7 +85,7 @@ fn is_explained_by(
     if net.inputs() > 8 || net.latches() > 8 || gate >= net.gates() {
         return Err(Fail::from("another netlist"));
     }
-    if vector.len() != (net.inputs() + net.latches()) as usize {
+    if vector.len() != net.columns() as usize {
         return Err(Fail::from("another width"));
     }
     match explain(alloc, net, vector, gate)? {
