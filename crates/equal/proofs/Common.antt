@@ -11,7 +11,7 @@ pub use Rattle.cyc_base.specs.declared.trit.Trit.{Trit}
 pub use Rattle.cyc_base.specs.declared.trit.Trit.TheVariants.{X}
 pub use Rattle.equal.specs.Differences.{AreAccepted, HaveOneSource, by_name, column_named, columns_by_name, difference, differs, latch_pairs, model_of, number_or_0, output_pairs, pair_of, signal_named, source_named}
 pub use Rattle.equal.specs.Early.{IsKnownEarly}
-pub use Rattle.equal.specs.Joined.{joined, joined_pairs, link_gate, moved, moved_gate_by, moved_gates, moved_pair_by, telling_gates}
+pub use Rattle.equal.specs.Joined.{joined, joined_pairs, link_gate, moved, moved_gate_by, moved_gates, moved_pair_by, miter_gates}
 pub use Rattle.equal.specs.Matching.{has_latch, is_input, is_latch, is_output, latch_named, name_of, output_names, unmatched}
 pub use Rattle.equal.specs.declared.answer.Answer.{Answer}
 pub use Rattle.fixpoint.specs.Orders.{order}

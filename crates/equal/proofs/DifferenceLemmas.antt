@@ -1,4 +1,4 @@
--- The netlist that tells whether two netlists differ is refused just where they do, with the least vector of that.
+-- The miter of two netlists is refused just where they differ, with the least vector of that.
 use Rattle.std.proofs.Common.{◌≡◌, ◌≢◌, inl, inr, ℕ, zero, suc, ◌+◌, ◌-◌, ◌<◌, Bool, true, false, not, ◌&&◌, cond, List, [], ◌∷◌, length, map, get_or, Option, Some, None, refl, sym, ap, ap₂, subst, ◌∙◌, arith}
 use Rattle.equal.proofs.Common.{find, Result, IfOk, Err, list_any, range_with_len, option_or, cases_lt, length-map-range_with_len, get_or-map-range_with_len, Sig, X, bits, Latch, Parts, gate_sig, IsNetlist, wire, fix, map_agree, CareSet, columns, is_care_vector, Pair, by_name, differs, difference, AreAccepted, IsKnownEarly, joined_pairs}
 use Rattle.std.specs.Prelude.{is_none, Ok}
@@ -20,11 +20,11 @@ use Rattle.refusals.proofs.RefusalLemmas.{known-is_x}
 use Rattle.refusals.proofs.ShowingLemmas.{care_vector_decides}
 use Rattle.equal.specs.declared.least.Early.{Early}
 use Rattle.equal.specs.Early.{IsFound}
-use Rattle.equal.specs.Joined.{difference_netlist}
+use Rattle.equal.specs.Joined.{miter}
 use Rattle.equal.proofs.NameLemmas.{find_nowhere}
 use Rattle.equal.proofs.MatchLemmas.{Match}
 use Rattle.equal.proofs.JoinLemmas.{fix_first, apart_same, pair_known, gate_known}
-use Rattle.equal.proofs.TellingLemmas.{told, place, length-net, link_known, teller_is}
+use Rattle.equal.proofs.MiterLemmas.{told, place, length-net, link_known, teller_is}
 
 -- ---- tests that agree on all vectors that count
 
@@ -93,7 +93,7 @@ module _ (a b : Parts) (care_a : CareSet) (valid_a : IsNetlist a) (valid_b : IsN
   pairs = joined_pairs a b
 
   abbrev net : Parts
-  net = difference_netlist a b
+  net = miter a b
 
   abbrev last : ℕ
   last = place a b pairs (suc (length pairs))

@@ -4,7 +4,7 @@ pub mod PartLemmas
 pub mod MatchLemmas
 pub mod LoopLemmas
 pub mod JoinLemmas
-pub mod TellingLemmas
+pub mod MiterLemmas
 pub mod DifferenceLemmas
 pub mod CompareLemmas
 pub mod AlikeLemmas

@@ -1,6 +1,6 @@
 -- The joined netlist is a netlist.
 use Rattle.std.proofs.Common.{◌≡◌, ◌⊎◌, inl, inr, ℕ, zero, suc, ◌+◌, ◌-◌, ◌<◌, ◌≤◌, false, List, [], ◌∷◌, ◌++◌, length, map, get_or, All, Option, Some, None, IfSome, refl, sym, ap, subst, ◌∙◌, arith}
-use Rattle.equal.proofs.Common.{IsDistinct, list_any, range_with_len, option_map_or, bytes_eq, cases_lt, append_assoc, map-append, length-append, length-map, get_or-map, get_or_append_left, get_or-append_right, All-map, list_any-append, length-range_with_len, get_or-range_with_len, length-map-range_with_len, get_or-map-range_with_len, Sig, Gate, Latch, Parts, count, signal, sig_eq, gate_at, no_gate, signal_names, driven_names, IsSignal, IsNetlist, mark, Pair, IsPairOf, unmatched, columns_by_name, moved, moved_gate_by, moved_gates, joined, joined_pairs, link_gate, telling_gates}
+use Rattle.equal.proofs.Common.{IsDistinct, list_any, range_with_len, option_map_or, bytes_eq, cases_lt, append_assoc, map-append, length-append, length-map, get_or-map, get_or_append_left, get_or-append_right, All-map, list_any-append, length-range_with_len, get_or-range_with_len, length-map-range_with_len, get_or-map-range_with_len, Sig, Gate, Latch, Parts, count, signal, sig_eq, gate_at, no_gate, signal_names, driven_names, IsSignal, IsNetlist, mark, Pair, IsPairOf, unmatched, columns_by_name, moved, moved_gate_by, moved_gates, joined, joined_pairs, link_gate, miter_gates}
 use Rattle.std.specs.List.{AllByRecursion}
 use Rattle.std.proofs.lemmas.Bool.{or_parts, or_from}
 use Rattle.std.proofs.lemmas.List.Elements.{All-append}
@@ -11,11 +11,11 @@ use Rattle.netlist.specs.declared.parts.Clock.{Clock}
 use Rattle.netlist.specs.Netlists.{is_driven, IsClockName}
 use Rattle.unroll.specs.Marks.{longest_run_in, clock_names, copy_name}
 use Rattle.unroll.proofs.NameLemmas.{not_equal, copy_is_long, copy_names_tell, copy_name_fits, all_short, distinct_append, short_from_long, short_is_none}
-use Rattle.equal.specs.Joined.{no_pair, telling_gate, difference_netlist}
+use Rattle.equal.specs.Joined.{no_pair, last_gate, miter}
 use Rattle.equal.proofs.NameLemmas.{any_mapped}
 use Rattle.equal.proofs.MatchLemmas.{matched}
 use Rattle.equal.proofs.JoinLemmas.{length-moved, length-joined, moved_within}
-use Rattle.equal.proofs.TellingLemmas.{length-told}
+use Rattle.equal.proofs.MiterLemmas.{length-told}
 use Rattle.equal.proofs.CompareLemmas.{pairs_joined}
 
 to_recursion : {A : Type 0} (P : A → Type 0) (xs : List A) → All P xs → AllByRecursion P xs
@@ -122,9 +122,9 @@ moved_numbered a b valid_b i l =
         (valid_b.names k [] (omega arith))
 
 -- those of the gates that tell
-telling_numbered : (a : Parts) (k : ℕ) (pairs : List Pair) → IsNetlist a → AreNumbered a k (names_of (telling_gates a k pairs))
-telling_numbered a k pairs valid_a zero l = record { own = a.name; fits = valid_a.name; is = ap (λ n. copy_name (mark a) n a.name) (let e : k ≡ k + zero = omega arith in e) }
-telling_numbered a k pairs valid_a (suc i) l =
+miter_numbered : (a : Parts) (k : ℕ) (pairs : List Pair) → IsNetlist a → AreNumbered a k (names_of (miter_gates a k pairs))
+miter_numbered a k pairs valid_a zero l = record { own = a.name; fits = valid_a.name; is = ap (λ n. copy_name (mark a) n a.name) (let e : k ≡ k + zero = omega arith in e) }
+miter_numbered a k pairs valid_a (suc i) l =
     subst (λ n. IsCopyName a n (get_or (names_of rest) i [])) (let e : suc k + i ≡ k + suc i = omega arith in e)
     (record { own = a.name; fits = valid_a.name; is = by (cases_lt i (length pairs)) })
   where
@@ -132,7 +132,7 @@ telling_numbered a k pairs valid_a (suc i) l =
     links = map (link_gate a k pairs) (range_with_len 0 (length pairs))
 
     rest : List Gate
-    rest = links ++ telling_gate a k (length pairs) ∷ []
+    rest = links ++ last_gate a k (length pairs) ∷ []
 
     length-links : length links ≡ length pairs
     length-links = length-map-range_with_len (link_gate a k pairs) 0 (length pairs)
@@ -140,21 +140,21 @@ telling_numbered a k pairs valid_a (suc i) l =
     by : (i < length pairs) ⊎ (length pairs ≤ i) → get_or (names_of rest) i [] ≡ copy_name (mark a) (suc k + i) a.name
     by (inl low) =
         let e = length-links in
-        let f = length-append links (telling_gate a k (length pairs) ∷ []) in
+        let f = length-append links (last_gate a k (length pairs) ∷ []) in
         get_or-map (λ (gate : Gate). gate.name) rest i no_gate [] (omega arith)
         ∙ ap (λ (gate : Gate). gate.name)
-        (get_or_append_left links (telling_gate a k (length pairs) ∷ []) no_gate i (omega arith)
+        (get_or_append_left links (last_gate a k (length pairs) ∷ []) no_gate i (omega arith)
         ∙ get_or-map-range_with_len (link_gate a k pairs) 0 (length pairs) i i no_gate low (omega arith))
         ∙ ap (λ n. copy_name (mark a) n a.name) (let g : suc (k + i) ≡ suc k + i = omega arith in g)
     by (inr high) =
         let e = length-links in
-        let f = length-append links (telling_gate a k (length pairs) ∷ []) in
+        let f = length-append links (last_gate a k (length pairs) ∷ []) in
         let m = length-map rest (λ (gate : Gate). gate.name) in
         let same : i ≡ length pairs = omega arith in
         get_or-map (λ (gate : Gate). gate.name) rest i no_gate [] (omega arith)
         ∙ ap (λ (gate : Gate). gate.name)
-        (get_or-append_right links (telling_gate a k (length pairs) ∷ []) (length pairs) i no_gate length-links high
-        ∙ ap (λ j. get_or (telling_gate a k (length pairs) ∷ []) j no_gate) (let g : i - length pairs ≡ 0 = omega arith in g))
+        (get_or-append_right links (last_gate a k (length pairs) ∷ []) (length pairs) i no_gate length-links high
+        ∙ ap (λ j. get_or (last_gate a k (length pairs) ∷ []) j no_gate) (let g : i - length pairs ≡ 0 = omega arith in g))
         ∙ ap (λ n. copy_name (mark a) n a.name) (let g : suc (k + length pairs) ≡ suc k + i = omega arith in g)
 
 -- ---- a gate that reads signals, as many as its cover has pins
@@ -265,61 +265,61 @@ module _ (a b : Parts) (valid_a : IsNetlist a) (valid_b : IsNetlist b) (none : u
     clock = clock_kept a.clock (let whole = longest-append (signal_names a) (clock_names a) in omega arith) valid_a.clock;
   }
 
--- ---- the gates that tell
+-- ---- the gates of the miter
 
 module _ (a b : Parts) (pairs : List Pair) where
   abbrev first : ℕ
   first = length b.gates
 
-  abbrev telling : List Gate
-  telling = telling_gates a first pairs
+  abbrev own_gates : List Gate
+  own_gates = miter_gates a first pairs
 
-  count_telling : count (joined a b telling) ≡ count a + (first + suc (suc (length pairs)))
-  count_telling = let e = length-joined a b telling in let f = length-told a b pairs in omega arith
+  count_miter : count (joined a b own_gates) ≡ count a + (first + suc (suc (length pairs)))
+  count_miter = let e = length-joined a b own_gates in let f = length-told a b pairs in omega arith
 
-  link_sound : All (IsPairOf (joined a b telling)) pairs → (i : ℕ) → i < length pairs → IsSound (joined a b telling) (link_gate a first pairs i)
+  link_sound : All (IsPairOf (joined a b own_gates)) pairs → (i : ℕ) → i < length pairs → IsSound (joined a b own_gates) (link_gate a first pairs i)
   link_sound are i l =
-      let e = count_telling in
+      let e = count_miter in
       let pair = are i no_pair l in
-      let here : IsSignal (joined a b telling) (get_or pairs i no_pair).here = pair.here in
-      let there : IsSignal (joined a b telling) (get_or pairs i no_pair).there = pair.there in
+      let here : IsSignal (joined a b own_gates) (get_or pairs i no_pair).here = pair.here in
+      let there : IsSignal (joined a b own_gates) (get_or pairs i no_pair).there = pair.there in
       record { pins = three (signal (count a + (first + i))) (get_or pairs i no_pair).here (get_or pairs i no_pair).there (omega arith) here there; counted = refl }
     where
-      three : (x y z : Sig) → IsSignal (joined a b telling) x → IsSignal (joined a b telling) y → IsSignal (joined a b telling) z → All (IsSignal (joined a b telling)) (x ∷ y ∷ z ∷ [])
+      three : (x y z : Sig) → IsSignal (joined a b own_gates) x → IsSignal (joined a b own_gates) y → IsSignal (joined a b own_gates) z → All (IsSignal (joined a b own_gates)) (x ∷ y ∷ z ∷ [])
       three x y z h i j zero d l = h
       three x y z h i j (suc zero) d l = i
       three x y z h i j (suc (suc zero)) d l = j
       three x y z h i j (suc (suc (suc k))) d l = absurd (omega arith)
 
-  telling_sound : All (IsPairOf (joined a b telling)) pairs → All (IsSound (joined a b telling)) telling
-  telling_sound are zero d l = record { pins = λ i e m. absurd (omega arith); counted = refl }
-  telling_sound are (suc k) d l =
-      All-append (IsSound (joined a b telling)) (map (link_gate a first pairs) (range_with_len 0 (length pairs))) (telling_gate a first (length pairs) ∷ [])
-      (All-map (IsSound (joined a b telling)) (link_gate a first pairs) (range_with_len 0 (length pairs))
+  miter_sound : All (IsPairOf (joined a b own_gates)) pairs → All (IsSound (joined a b own_gates)) own_gates
+  miter_sound are zero d l = record { pins = λ i e m. absurd (omega arith); counted = refl }
+  miter_sound are (suc k) d l =
+      All-append (IsSound (joined a b own_gates)) (map (link_gate a first pairs) (range_with_len 0 (length pairs))) (last_gate a first (length pairs) ∷ [])
+      (All-map (IsSound (joined a b own_gates)) (link_gate a first pairs) (range_with_len 0 (length pairs))
       (λ i e m.
       let len = length-range_with_len 0 (length pairs) in
       let at = get_or-range_with_len 0 (length pairs) i e (omega arith) in
       link_sound are (get_or (range_with_len 0 (length pairs)) i e) (omega arith)))
       last k d (omega arith)
     where
-      last : All (IsSound (joined a b telling)) (telling_gate a first (length pairs) ∷ [])
+      last : All (IsSound (joined a b own_gates)) (last_gate a first (length pairs) ∷ [])
       last zero d l = record { pins = two; counted = refl }
         where
-          two : All (IsSignal (joined a b telling)) (signal (count a + (first + length pairs)) ∷ signal (count a + suc (first + length pairs)) ∷ [])
-          two zero d l = let e = count_telling in omega arith
-          two (suc zero) d l = let e = count_telling in omega arith
+          two : All (IsSignal (joined a b own_gates)) (signal (count a + (first + length pairs)) ∷ signal (count a + suc (first + length pairs)) ∷ [])
+          two zero d l = let e = count_miter in omega arith
+          two (suc zero) d l = let e = count_miter in omega arith
           two (suc (suc k)) d l = absurd (omega arith)
       last (suc k) d l = absurd (omega arith)
 
--- the joined netlist alone, and the one that tells
+-- the joined netlist alone, and the miter
 pub joined_valid : (a b : Parts) → IsNetlist a → IsNetlist b → unmatched a b ≡ None → count a + length b.gates ≤ 4294967295 → IsNetlist (joined a b [])
 joined_valid a b valid_a valid_b none fits =
     joined_is_netlist a b valid_a valid_b none [] (omega arith) (λ i l. absurd (omega arith)) (λ k d l. absurd (omega arith))
 
-pub difference_valid : (a b : Parts) → IsNetlist a → IsNetlist b → unmatched a b ≡ None → count a + suc (length b.gates + length (joined_pairs a b)) ≤ 4294967294 → IsNetlist (difference_netlist a b)
-difference_valid a b valid_a valid_b none fits =
-    let told = telling_gates a (length b.gates) (joined_pairs a b) in
+pub miter_valid : (a b : Parts) → IsNetlist a → IsNetlist b → unmatched a b ≡ None → count a + suc (length b.gates + length (joined_pairs a b)) ≤ 4294967294 → IsNetlist (miter a b)
+miter_valid a b valid_a valid_b none fits =
+    let told = miter_gates a (length b.gates) (joined_pairs a b) in
     let e = length-told a b (joined_pairs a b) in
-    joined_is_netlist a b valid_a valid_b none (telling_gates a (length b.gates) (joined_pairs a b)) (omega arith)
-    (telling_numbered a (length b.gates) (joined_pairs a b) valid_a)
-    (telling_sound a b (joined_pairs a b) (pairs_joined a b valid_a valid_b none (telling_gates a (length b.gates) (joined_pairs a b))))
+    joined_is_netlist a b valid_a valid_b none (miter_gates a (length b.gates) (joined_pairs a b)) (omega arith)
+    (miter_numbered a (length b.gates) (joined_pairs a b) valid_a)
+    (miter_sound a b (joined_pairs a b) (pairs_joined a b valid_a valid_b none (miter_gates a (length b.gates) (joined_pairs a b))))

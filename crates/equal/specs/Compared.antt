@@ -55,8 +55,7 @@ pub record Accepted : Type 0 where
 abbrev pub accepted_netlists : Parts → Parts → CareSet → Accepted
 accepted_netlists a b care = record { a = a; b = b; care = care }
 
--- Their names match, the columns and the pairs are theirs, and there are numbers for all signals of the netlist that tells
--- whether they differ.
+-- Their names match, the columns and the pairs are theirs, and there are numbers for all signals of their miter.
 pub record AreJoinedBy (columns : List ℕ) (pairs : List Pair) (m : Accepted) : Type 0 where
   pub valid_a : IsNetlist m.a
   pub valid_b : IsNetlist m.b

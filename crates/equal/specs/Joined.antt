@@ -85,16 +85,16 @@ link_gate a k pairs i = record {
 }
 
 -- the last gate, behind this many links
-abbrev pub telling_gate : Parts → ℕ → ℕ → Gate
-telling_gate a k links = record {
+abbrev pub last_gate : Parts → ℕ → ℕ → Gate
+last_gate a k links = record {
   name = more_name a (suc (k + links));
   pins = signal (count a + (k + links)) ∷ signal (count a + suc (k + links)) ∷ [];
   cover = both_cover;
 }
 
-abbrev pub telling_gates : Parts → ℕ → List Pair → List Gate
-telling_gates a k pairs = never_gate a k ∷ (map (link_gate a k pairs) (range_with_len 0 (length pairs)) ++ telling_gate a k (length pairs) ∷ [])
+abbrev pub miter_gates : Parts → ℕ → List Pair → List Gate
+miter_gates a k pairs = never_gate a k ∷ (map (link_gate a k pairs) (range_with_len 0 (length pairs)) ++ last_gate a k (length pairs) ∷ [])
 
--- the netlist that tells of a vector whether the two netlists differ
-abbrev pub difference_netlist : Parts → Parts → Parts
-difference_netlist a b = joined a b (telling_gates a (length b.gates) (joined_pairs a b))
+-- the miter: the netlist that tells of a vector whether the two netlists differ
+abbrev pub miter : Parts → Parts → Parts
+miter a b = joined a b (miter_gates a (length b.gates) (joined_pairs a b))

@@ -36,7 +36,7 @@ impl<'a> Model for AcceptedNetlists<'a> {
     ghost invariant = { λ m. AreJoinedBy m.columns.now m.pairs.now (accepted_netlists m.a.now m.b.now m.care.now) };
 }
 
-/// Whether there are numbers for all signals of the netlist that tells by so many pairs whether two netlists differ.
+/// Whether there are numbers for all signals of the miter of two netlists that has so many pairs.
 pub(crate) fn fits(a: &Netlist, b: &Netlist, pairs: usize) -> bool
     ensures { result ≡ true → count a.now + suc (length b.now.gates + pairs) ≤ 4294967294 }
 {

@@ -24,8 +24,8 @@ fn first_wires(
     ensures { IfOk result (λ firsts. All (λ wire. wire < count) (values firsts)) }
 {
     let mut firsts = IndexMap::new(alloc);
-    for behind in 0..count {
-        let wire = count - 1 - behind;
+    for from_last in 0..count {
+        let wire = count - 1 - from_last;
         firsts.insert(prints[wire as usize].own, wire)?;
     }
     Ok(firsts)

@@ -17,14 +17,14 @@ ghost use Rattle.care_sets.specs.Binding.{IsCareOf};
 ghost use Rattle.equal.specs.Compared.{FindsLeast};
 ghost use Rattle.equal.specs.Differences.{columns_by_name, difference, output_pairs as output_pairs_of, latch_pairs as latch_pairs_of, AreAccepted};
 ghost use Rattle.equal.specs.Early.{IsFound, IsKnownEarly};
-ghost use Rattle.equal.specs.Joined.{moved_gates, moved_pair_by, telling_gates, joined, joined_pairs as joined_pairs_of, difference_netlist as difference_netlist_of};
+ghost use Rattle.equal.specs.Joined.{moved_gates, moved_pair_by, miter_gates, joined, joined_pairs as joined_pairs_of, miter as miter_of};
 ghost use Rattle.equal.specs.Matching.{unmatched};
 
 use crate::accepted::{AcceptedNetlists, fits};
 use crate::fault::{EqualFault, fault_of};
 use crate::joining::{joined_gates, moved, netlist_of};
+use crate::miter::add_miter_gates;
 use crate::pairs::{find_columns, latch_pairs, output_pairs};
-use crate::telling::add_telling;
 use bdd_ops::Diagrams;
 use care_sets::Care;
 use clause_decision::Pair;
@@ -107,7 +107,7 @@ fn joined_pairs(
 }
 
 /// The gates of both netlists, and those that tell whether they differ.
-fn difference_gates(
+fn gates_of_miter(
     alloc: Global,
     a: &Netlist,
     b: &Netlist,
@@ -116,11 +116,11 @@ fn difference_gates(
 ) -> Result<Vec<Gate>, AllocError>
     requires columns { columns.now ≡ columns_by_name a.now b.now }
     requires fits { count a.now + suc (length b.now.gates + length pairs.now) ≤ 4294967294 }
-    ensures { IfOk result (λ gates. gates.items ≡ a.now.gates ++ (moved_gates a.now b.now ++ telling_gates a.now (length b.now.gates) pairs.now)) }
+    ensures { IfOk result (λ gates. gates.items ≡ a.now.gates ++ (moved_gates a.now b.now ++ miter_gates a.now (length b.now.gates) pairs.now)) }
 {
     let mark = mark(alloc, a)?;
     let mut gates = joined_gates(alloc, a, b, columns, &mark)?;
-    add_telling(alloc, a, &mark, b.gates(), pairs, &mut gates)?;
+    add_miter_gates(alloc, a, &mark, b.gates(), pairs, &mut gates)?;
     Ok(gates)
 }
 
@@ -147,7 +147,7 @@ fn early_of(alloc: Global, verdict: &Verdict) -> Result<Early, AllocError>
     }
 }
 
-/// What refuses the netlist that tells, on diagrams of its own: a vector on which its last gate is unknown, if anything
+/// What refuses the miter, on diagrams of its own: a vector on which its last gate is unknown, if anything
 /// does.
 fn refusal_within(
     alloc: Global,
@@ -192,15 +192,15 @@ fn least_on(
 }
 
 impl<'a> AcceptedNetlists<'a> {
-    /// The netlist that tells whether they differ.
-    fn difference_netlist(&self, alloc: Global) -> Result<Netlist, AllocError>
-        ensures { IfOk result (λ net. net ≡ difference_netlist_of self.now.a self.now.b) }
+    /// The netlist that tells whether they differ, their miter (Brand 1993).
+    fn miter(&self, alloc: Global) -> Result<Netlist, AllocError>
+        ensures { IfOk result (λ net. net ≡ miter_of self.now.a self.now.b) }
     {
-        let gates = difference_gates(alloc, self.a, self.b, self.columns, self.pairs)?;
+        let gates = gates_of_miter(alloc, self.a, self.b, self.columns, self.pairs)?;
         netlist_of(alloc, self.a, gates)
     }
 
-    /// The least vector on which they differ, if the netlist that tells is decided within a budget.
+    /// The least vector on which they differ, if the miter is decided within a budget.
     fn early_difference(&self, alloc: Global, limit: u32) -> Result<Early, AllocError>
         requires { limit ≤ MAX_NODES }
         ensures { IfOk result (IsFound (difference self.now.a self.now.b self.now.care)) }
@@ -208,7 +208,7 @@ impl<'a> AcceptedNetlists<'a> {
         if self.are_alike(alloc)? {
             return Ok(Early::Found(None));
         }
-        let net = self.difference_netlist(alloc)?;
+        let net = self.miter(alloc)?;
         refusal_within(alloc, &net, self.care, limit)
     }
 
@@ -269,8 +269,8 @@ impl<'a> AcceptedNetlists<'a> {
     }
 }
 
-/// The least care vector on which two accepted netlists differ. A netlist that tells of each vector whether they do is
-/// decided within a budget; where that doesn't do, the diagrams solve both netlists at once.
+/// The least care vector on which two accepted netlists differ. Their miter, which tells of each vector whether they
+/// do, is decided within a budget; where that doesn't do, the diagrams solve both netlists at once.
 pub(crate) fn least_difference(
     alloc: Global,
     d: &mut Diagrams,

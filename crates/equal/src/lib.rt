@@ -1,8 +1,8 @@
 //! Whether two netlists agree, signal for signal of the same name: both are accepted on their care set, and on each care
 //! vector their outputs and what their latches load are equal.
 //!
-//! It stands on `verdict`, which decides both netlists, tells which wires of both are never apart, and decides a netlist of
-//! both that tells of a vector whether they differ, and on `differences`, which solves both at once. The layer above uses
+//! It stands on `verdict`, which decides both netlists, tells which wires of both are never apart, and decides their
+//! miter, which tells of a vector whether they differ, and on `differences`, which solves both at once. The layer above uses
 //! that `compare` answers as the definition of a comparison says, with the least vector of a difference.
 #![tactic(auto)]
 
@@ -15,11 +15,11 @@ mod hints;
 mod joining;
 mod least;
 mod matching;
+mod miter;
 mod pairs;
 mod placing;
 mod prints;
 mod rebinding;
-mod telling;
 mod words;
 
 pub use answer::Answer;

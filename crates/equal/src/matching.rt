@@ -131,7 +131,7 @@ fn first_new_latch<'a>(net: &'a Netlist, other: &Netlist) -> Option<&'a Latch>
 }
 
 /// The name of the first output that is none of the other netlist, whose outputs are these.
-fn first_output_beside<'a>(
+fn first_output_missing<'a>(
     net: &'a Netlist,
     other: &Netlist,
     outputs: &IndexSet<Sig>,
@@ -158,7 +158,7 @@ fn first_other_output<'a>(
     ensures { IfOk result (λ found. option_copied found ≡ find (λ name. not (is_output_of other.now name)) (output_names net.now)) }
 {
     let outputs = output_set(alloc, other)?;
-    Ok(first_output_beside(net, other, &outputs))
+    Ok(first_output_missing(net, other, &outputs))
 }
 
 /// The name of the first column that one of the netlists has alone.

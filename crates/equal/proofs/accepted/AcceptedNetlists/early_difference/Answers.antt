@@ -1,8 +1,8 @@
 use Rattle.std.proofs.Common.{◌≡◌, length, ap, subst, sym, ◌∙◌}
-use Rattle.equal.proofs.Common.{IfOk, Parts, IsCareOf, IsKnownEarly, difference, joined_pairs, telling_gates}
+use Rattle.equal.proofs.Common.{IfOk, Parts, IsCareOf, IsKnownEarly, difference, joined_pairs, miter_gates}
 use Rattle.equal.specs.Compared.{Accepted}
 use Rattle.equal.specs.Early.{IsFound}
-use Rattle.equal.specs.Joined.{difference_netlist}
+use Rattle.equal.specs.Joined.{miter}
 use Rattle.equal.proofs.CompareLemmas.{care_joined}
 use Rattle.equal.proofs.DifferenceLemmas.{early_found}
 use Rattle.equal.proofs.MatchLemmas.{matched}
@@ -13,8 +13,8 @@ refusal_within-requires-clause-care c =
     let m = c.self.inside in
     let a = m.a.now in
     let b = m.b.now in
-    let same : c.in_ok-net.net ≡ difference_netlist a b = c.in_ok-net.ensures ∙ ap (λ (x : Accepted). difference_netlist x.a x.b) (sym c.self.view_is) in
-    subst (λ (net : Parts). IsCareOf net c.self.inside.care.now) (sym same) (care_joined a b (telling_gates a (length b.gates) (joined_pairs a b)) m.care.now c.self.invariant.care_is)
+    let same : c.in_ok-net.net ≡ miter a b = c.in_ok-net.ensures ∙ ap (λ (x : Accepted). miter x.a x.b) (sym c.self.view_is) in
+    subst (λ (net : Parts). IsCareOf net c.self.inside.care.now) (sym same) (care_joined a b (miter_gates a (length b.gates) (joined_pairs a b)) m.care.now c.self.invariant.care_is)
 
 pub returns : goal.returns
 returns c =
@@ -22,7 +22,7 @@ returns c =
     let is = c.self.invariant in
     let a = m.a.now in
     let b = m.b.now in
-    let same : c.in_ok-net.net ≡ difference_netlist a b = c.in_ok-net.ensures ∙ ap (λ (x : Accepted). difference_netlist x.a x.b) (sym c.self.view_is) in
+    let same : c.in_ok-net.net ≡ miter a b = c.in_ok-net.ensures ∙ ap (λ (x : Accepted). miter x.a x.b) (sym c.self.view_is) in
     subst (λ (x : Accepted). IfOk c.refusal_within.result (IsFound (difference x.a x.b x.care))) c.self.view_is
     (early_found a b m.care.now is.valid_a is.valid_b (matched a b is.names) is.are_accepted c.refusal_within.result
     (subst (λ (net : Parts). IfOk c.refusal_within.result (IsKnownEarly net c.self.inside.care.now)) same c.refusal_within.ensures))

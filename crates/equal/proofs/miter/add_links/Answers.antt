@@ -1,7 +1,7 @@
 use Rattle.std.proofs.Common.{◌++◌, ◌∷◌, [], map, ap, ap₂, sym, ◌∙◌}
 use Rattle.equal.proofs.Common.{append_assoc, map-append, range_with_len, link_gate}
 use Rattle.unroll.proofs.SizeLemmas.{range_next}
-use Rattle.equal.proofs.telling.add_links.Goals as goal
+use Rattle.equal.proofs.miter.add_links.Goals as goal
 
 pub loop-place-preserved : goal.loop-place-preserved
 loop-place-preserved c =

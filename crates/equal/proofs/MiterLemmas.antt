@@ -1,6 +1,6 @@
 -- The gates that tell whether some pair differs.
 use Rattle.std.proofs.Common.{◌≡◌, ◌≢◌, ℕ, zero, suc, ◌+◌, ◌-◌, ◌<◌, ◌≤◌, Bool, true, false, ◌||◌, List, [], ◌∷◌, ◌++◌, length, map, take, get_or, refl, sym, ap, ap₂, subst, ◌∙◌, arith}
-use Rattle.equal.proofs.Common.{list_any, range_with_len, length-append, length-map, get_or_append_left, get_or-append-add, get_or-append_right, length-map-range_with_len, get_or-map-range_with_len, Sig, Trit, X, bit, bits, ext, Gate, Parts, count, signal, gate_at, no_gate, gate_sig, wires, wire, steps, fix, fix_gates, columns, Pair, some_is_apart, moved_gates, joined, link_gate, telling_gates}
+use Rattle.equal.proofs.Common.{list_any, range_with_len, length-append, length-map, get_or_append_left, get_or-append-add, get_or-append_right, length-map-range_with_len, get_or-map-range_with_len, Sig, Trit, X, bit, bits, ext, Gate, Parts, count, signal, gate_at, no_gate, gate_sig, wires, wire, steps, fix, fix_gates, columns, Pair, some_is_apart, moved_gates, joined, link_gate, miter_gates}
 use Rattle.std.proofs.lemmas.List.{get_or_at, get_or-replicate, take_all}
 use Rattle.cyc_base.specs.declared.trit.Trit.TheVariants.{Zero, One}
 use Rattle.cyc_base.specs.Values.{Below}
@@ -10,7 +10,7 @@ use Rattle.netlist.proofs.FixpointLemmas.{steps_below_fix}
 use Rattle.loops.proofs.Reading.{wire_of_gate, get_or-step, get_or-fix}
 use Rattle.refusals.specs.Refusals.{is_x}
 use Rattle.clause_decision.specs.Apart.{are_apart, is_apart_at}
-use Rattle.equal.specs.Joined.{never_cover, link_cover, both_cover, no_pair, telling_gate}
+use Rattle.equal.specs.Joined.{never_cover, link_cover, both_cover, no_pair, last_gate}
 use Rattle.equal.proofs.JoinLemmas.{length-moved, length-joined}
 
 -- ---- the covers
@@ -63,7 +63,7 @@ module _ (a b : Parts) (pairs : List Pair) where
   first = length b.gates
 
   abbrev pub told : List Gate
-  told = telling_gates a first pairs
+  told = miter_gates a first pairs
 
   abbrev pub net : Parts
   net = joined a b told
@@ -80,7 +80,7 @@ module _ (a b : Parts) (pairs : List Pair) where
 
   pub length-told : length told ≡ suc (suc (length pairs))
   length-told =
-      let x = length-append links (telling_gate a first (length pairs) ∷ []) in
+      let x = length-append links (last_gate a first (length pairs) ∷ []) in
       let y = length-map-range_with_len (link_gate a first pairs) 0 (length pairs) in
       omega arith
 
@@ -97,13 +97,13 @@ module _ (a b : Parts) (pairs : List Pair) where
   link_at i l =
       let y = length-map-range_with_len (link_gate a first pairs) 0 (length pairs) in
       gate_is (suc i)
-      ∙ get_or_append_left links (telling_gate a first (length pairs) ∷ []) no_gate i (omega arith)
+      ∙ get_or_append_left links (last_gate a first (length pairs) ∷ []) no_gate i (omega arith)
       ∙ get_or-map-range_with_len (link_gate a first pairs) 0 (length pairs) i i no_gate l (omega arith)
 
-  teller_at : gate_at net (place (suc (length pairs))) ≡ telling_gate a first (length pairs)
+  teller_at : gate_at net (place (suc (length pairs))) ≡ last_gate a first (length pairs)
   teller_at =
       gate_is (suc (length pairs))
-      ∙ get_or_at links (telling_gate a first (length pairs)) [] no_gate (length pairs) (length-map-range_with_len (link_gate a first pairs) 0 (length pairs))
+      ∙ get_or_at links (last_gate a first (length pairs)) [] no_gate (length pairs) (length-map-range_with_len (link_gate a first pairs) 0 (length pairs))
 
   module _ (v : List Bool) (wide : length v ≡ columns a) where
     abbrev w : List Trit

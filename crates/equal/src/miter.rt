@@ -4,7 +4,7 @@ ghost use Rattle.std.specs.Prelude.{◌≡◌, ◌+◌, ◌++◌, ◌<◌, ◌�
 ghost use Rattle.std.specs.List.{range_with_len};
 ghost use Rattle.netlist.specs.Netlists.{count};
 ghost use Rattle.unroll.specs.Marks.{mark as mark_of};
-ghost use Rattle.equal.specs.Joined.{row as row_of, never_cover, link_cover as link_cover_of, both_cover as both_cover_of, never_gate as never_gate_of, link_gate as link_gate_of, telling_gate as telling_gate_of, telling_gates};
+ghost use Rattle.equal.specs.Joined.{row as row_of, never_cover, link_cover as link_cover_of, both_cover as both_cover_of, never_gate as never_gate_of, link_gate as link_gate_of, last_gate as last_gate_of, miter_gates};
 
 use clause_decision::Pair;
 use cover_logic::{Cover, Lit, Row};
@@ -129,7 +129,7 @@ fn link_gate(
 }
 
 /// The pins of the last gate.
-fn telling_pins(alloc: Global, last: u32) -> Result<Vec<Sig>, AllocError>
+fn last_pins(alloc: Global, last: u32) -> Result<Vec<Sig>, AllocError>
     requires { suc last ≤ 4294967295 }
     ensures { IfOk result (λ pins. pins.items ≡ record { 0 = last } ∷ record { 0 = suc last } ∷ []) }
 {
@@ -140,7 +140,7 @@ fn telling_pins(alloc: Global, last: u32) -> Result<Vec<Sig>, AllocError>
 }
 
 /// The last gate, which reads the last link and itself.
-fn telling_gate(
+fn last_gate(
     alloc: Global,
     a: &Netlist,
     mark: &Name,
@@ -149,11 +149,11 @@ fn telling_gate(
 ) -> Result<Gate, AllocError>
     requires mark { mark.now ≡ mark_of a.now }
     requires fits { count a.now + suc (number + links) ≤ 4294967295 }
-    ensures { IfOk result (λ gate. gate ≡ telling_gate_of a.now number links) }
+    ensures { IfOk result (λ gate. gate ≡ last_gate_of a.now number links) }
 {
     let last = number + links;
     let name = copy_name(alloc, mark, last + 1, a.name())?;
-    let pins = Items::of(telling_pins(alloc, a.count() + last)?);
+    let pins = Items::of(last_pins(alloc, a.count() + last)?);
     let cover = both_cover(alloc)?;
     Ok(Gate { name, pins, cover })
 }
@@ -178,7 +178,7 @@ fn add_links(
 }
 
 /// Adds the gates that tell whether some pair differs: the first, those of the pairs, and the last.
-pub(crate) fn add_telling(
+pub(crate) fn add_miter_gates(
     alloc: Global,
     a: &Netlist,
     mark: &Name,
@@ -188,10 +188,10 @@ pub(crate) fn add_telling(
 ) -> Result<(), AllocError>
     requires mark { mark.now ≡ mark_of a.now }
     requires fits { count a.now + suc (number + length pairs.now) ≤ 4294967295 }
-    ensures { OnOk result (gates.new.items ≡ gates.old.items ++ telling_gates a.now number pairs.now) }
+    ensures { OnOk result (gates.new.items ≡ gates.old.items ++ miter_gates a.now number pairs.now) }
 {
     gates.push(never_gate(alloc, a, mark, number)?)?;
     add_links(alloc, a, mark, number, pairs, gates)?;
-    gates.push(telling_gate(alloc, a, mark, number, pairs.len() as u32)?)?;
+    gates.push(last_gate(alloc, a, mark, number, pairs.len() as u32)?)?;
     Ok(())
 }

@@ -1,6 +1,6 @@
 use Rattle.std.proofs.Common.{◌<◌, length, refl, sym, ◌∙◌, arith}
 use Rattle.equal.proofs.LoopLemmas.{output_next, output_here}
-use Rattle.equal.proofs.matching.first_output_beside.Goals as goal
+use Rattle.equal.proofs.matching.first_output_missing.Goals as goal
 
 pub loop-output-preserved : goal.loop-output-preserved
 loop-output-preserved c =
