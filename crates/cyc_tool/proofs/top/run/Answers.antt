@@ -40,16 +40,16 @@ pub returns-clause-limited : goal.returns-clause-limited
 returns-clause-limited g c = limit_cause _ _ _ _ _ _ (runs g c)
 
 pub returns-clause-done : goal.returns-clause-done
-returns-clause-done g c = done_cause _ _ _ _ _ _ 0 (runs g c) (Zero refl)
+returns-clause-done g c = done_cause _ _ _ _ _ _ (runs g c) 0 (Zero refl)
 
 pub returns-clause-refused : goal.returns-clause-refused
-returns-clause-refused g c = done_cause _ _ _ _ _ _ 1 (runs g c) (One refl)
+returns-clause-refused g c = done_cause _ _ _ _ _ _ (runs g c) 1 (One refl)
 
 pub returns-clause-outgrown : goal.returns-clause-outgrown
-returns-clause-outgrown g c = done_cause _ _ _ _ _ _ 8 (runs g c) (Eight refl)
+returns-clause-outgrown g c = done_cause _ _ _ _ _ _ (runs g c) 8 (Eight refl)
 
 pub returns-clause-stormed : goal.returns-clause-stormed
-returns-clause-stormed g c = stormed_cause c.storms_never_rest.ensures _ _ _ _ _ _ (runs g c)
+returns-clause-stormed g c = stormed_cause _ _ _ _ _ _ (runs g c) c.storms_never_rest.ensures
 
 pub returns-clause-rewritten : goal.returns-clause-rewritten
 returns-clause-rewritten g c = rewritten_cause _ _ _ _ _ _ (runs g c)
