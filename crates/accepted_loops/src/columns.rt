@@ -79,7 +79,7 @@ fn marks_read(
     requires { AreUpstreamOf net.now gate upstream.now }
     ensures { IfOk result (λ read. AreColumnsRead net.now gate read.items) }
 {
-    let mut read = vec![in alloc; false; (net.inputs() + net.latches()) as usize]?;
+    let mut read = vec![in alloc; false; net.columns() as usize]?;
     mark_spoken(net, gate, upstream, &mut read);
     Ok(read)
 }

@@ -65,7 +65,7 @@ fn put_columns<K: Sink>(sink: &mut K, net: &Netlist, read: &[bool]) -> Result<()
     requires { length read.now ≡ first_gate net.now }
     ensures { IsAppended (flat_map (column_text net.now) (marked_columns net.now read.now)) (sink_call K.put K.faults sink.old sink.new) result }
 {
-    for column in 0..net.inputs() + net.latches() {
+    for column in 0..net.columns() {
         put_column(sink, net, read, column)?;
     }
     Ok(())

@@ -162,53 +162,51 @@ shows_done shelf nodes rest status low (Done cause is) = cause
 shows_done shelf nodes rest status low (Full cause is) = absurd (no_other status 6 low is (omega arith) (omega arith))
 
 -- the cause of each status
-pub fault_cause : (request : Request) (shelf : ShelfCall) (nodes : Arena) (out err : SinkCall) (status : ℕ) → Runs request shelf nodes out err status
-    → status ≡ 3 → Reaches IsFaulty request shelf
-fault_cause request shelf nodes out err status runs at =
-    reached IsFaulty request shelf nodes out err status (λ rest. shows_fault shelf nodes rest status at)
-    (λ e. omega (arith, at, e)) (λ e. omega (arith, at, e)) (λ e. omega (arith, at, e)) (run_by request shelf nodes out err status runs)
+module _ (request : Request) (shelf : ShelfCall) (nodes : Arena) (out err : SinkCall) (status : ℕ) (runs : Runs request shelf nodes out err status) where
+  -- a status that words, want of memory and failed writes don't have
+  by_plan : (P : Plan → Type 0) → ((rest : Plan) → Shown shelf nodes rest status → P rest) → status ≢ 2 → status ≢ 5 → status ≢ 7 → Reaches P request shelf
+  by_plan P shows no_usage no_write no_lack =
+      reached P request shelf nodes out err status shows no_usage no_write no_lack (run_by request shelf nodes out err status runs)
 
-pub read_cause : (request : Request) (shelf : ShelfCall) (nodes : Arena) (out err : SinkCall) (status : ℕ) → Runs request shelf nodes out err status
-    → status ≡ 4 → Reaches (IsUnread shelf) request shelf
-read_cause request shelf nodes out err status runs at =
-    reached (IsUnread shelf) request shelf nodes out err status (λ rest. shows_unread shelf nodes rest status at)
-    (λ e. omega (arith, at, e)) (λ e. omega (arith, at, e)) (λ e. omega (arith, at, e)) (run_by request shelf nodes out err status runs)
+  pub fault_cause : status ≡ 3 → Reaches IsFaulty request shelf
+  fault_cause at =
+      by_plan IsFaulty (λ rest. shows_fault shelf nodes rest status at) (λ e. omega (arith, at, e)) (λ e. omega (arith, at, e)) (λ e. omega (arith, at, e))
 
-pub limit_cause : (request : Request) (shelf : ShelfCall) (nodes : Arena) (out err : SinkCall) (status : ℕ) → Runs request shelf nodes out err status
-    → status ≡ 6 → Reaches (MeetsLimit nodes) request shelf
-limit_cause request shelf nodes out err status runs at =
-    reached (MeetsLimit nodes) request shelf nodes out err status (λ rest. shows_limit shelf nodes rest status at)
-    (λ e. omega (arith, at, e)) (λ e. omega (arith, at, e)) (λ e. omega (arith, at, e)) (run_by request shelf nodes out err status runs)
+  pub read_cause : status ≡ 4 → Reaches (IsUnread shelf) request shelf
+  read_cause at =
+      by_plan (IsUnread shelf) (λ rest. shows_unread shelf nodes rest status at) (λ e. omega (arith, at, e)) (λ e. omega (arith, at, e)) (λ e. omega (arith, at, e))
 
-pub done_cause : (request : Request) (shelf : ShelfCall) (nodes : Arena) (out err : SinkCall) (status known : ℕ) → Runs request shelf nodes out err status
-    → IsEndStatus known → status ≡ known → Reaches (IsDoneWith known) request shelf
-done_cause request shelf nodes out err status known runs low at =
-    let P : ℕ → Type 0 = λ n. Reaches (IsDoneWith n) request shelf in
-    let here : IsEndStatus status = subst IsEndStatus (sym at) low in
-    subst P at (reached (IsDoneWith status) request shelf nodes out err status (λ rest. shows_done shelf nodes rest status here)
-    (λ is. no_other status 2 here is (omega arith) (omega arith)) (λ is. no_other status 5 here is (omega arith) (omega arith))
-    (λ is. no_other status 7 here is (omega arith) (omega arith)) (run_by request shelf nodes out err status runs))
+  pub limit_cause : status ≡ 6 → Reaches (MeetsLimit nodes) request shelf
+  limit_cause at =
+      by_plan (MeetsLimit nodes) (λ rest. shows_limit shelf nodes rest status at) (λ e. omega (arith, at, e)) (λ e. omega (arith, at, e)) (λ e. omega (arith, at, e))
 
-pub write_cause : (request : Request) (shelf : ShelfCall) (nodes : Arena) (out err : SinkCall) (status : ℕ) → Runs request shelf nodes out err status
-    → status ≡ 5 → WriteFailed out ⊎ WriteFailed err
-write_cause request shelf nodes out err status runs at = by_telling runs.tells
-  where
-    not_five : Cause request shelf nodes out err runs.end.status → runs.end.status ≡ 5 → WriteFailed out ⊎ WriteFailed err
-    not_five (OfWords is (inl two)) e = absurd (omega (arith, two, e))
-    not_five (OfWords is (inr seven)) e = absurd (omega (arith, seven, e))
-    not_five (OfMemory command is seven) e = absurd (omega (arith, seven, e))
-    not_five (OfWrite failed five) e = failed
-    not_five (OfPlan command is leads) e = absurd (by_shown leads.holds)
-      where
-        by_shown : Shown shelf nodes (rest_of leads.given (plan_of request.shows command)) runs.end.status → ⊥
-        by_shown (Unread cause four) = omega (arith, four, e)
-        by_shown (Fault cause three) = omega (arith, three, e)
-        by_shown (Done cause low) = no_other _ 5 low e (omega arith) (omega arith)
-        by_shown (Full cause six) = omega (arith, six, e)
+  pub done_cause : (known : ℕ) → IsEndStatus known → status ≡ known → Reaches (IsDoneWith known) request shelf
+  done_cause known low at =
+      let P : ℕ → Type 0 = λ n. Reaches (IsDoneWith n) request shelf in
+      let here : IsEndStatus status = subst IsEndStatus (sym at) low in
+      subst P at (by_plan (IsDoneWith status) (λ rest. shows_done shelf nodes rest status here)
+      (λ is. no_other status 2 here is (omega arith) (omega arith)) (λ is. no_other status 5 here is (omega arith) (omega arith))
+      (λ is. no_other status 7 here is (omega arith) (omega arith)))
 
-    by_telling : Tells runs.end out err status → WriteFailed out ⊎ WriteFailed err
-    by_telling (inl whole) = not_five (comes_by request shelf nodes out err runs.end runs.comes) (sym whole.is ∙ at)
-    by_telling (inr cut) = cut.cause
+  pub write_cause : status ≡ 5 → WriteFailed out ⊎ WriteFailed err
+  write_cause at = by_telling runs.tells
+    where
+      not_five : Cause request shelf nodes out err runs.end.status → runs.end.status ≡ 5 → WriteFailed out ⊎ WriteFailed err
+      not_five (OfWords is (inl two)) e = absurd (omega (arith, two, e))
+      not_five (OfWords is (inr seven)) e = absurd (omega (arith, seven, e))
+      not_five (OfMemory command is seven) e = absurd (omega (arith, seven, e))
+      not_five (OfWrite failed five) e = failed
+      not_five (OfPlan command is leads) e = absurd (by_shown leads.holds)
+        where
+          by_shown : Shown shelf nodes (rest_of leads.given (plan_of request.shows command)) runs.end.status → ⊥
+          by_shown (Unread cause four) = omega (arith, four, e)
+          by_shown (Fault cause three) = omega (arith, three, e)
+          by_shown (Done cause low) = no_other _ 5 low e (omega arith) (omega arith)
+          by_shown (Full cause six) = omega (arith, six, e)
+
+      by_telling : Tells runs.end out err status → WriteFailed out ⊎ WriteFailed err
+      by_telling (inl whole) = not_five (comes_by request shelf nodes out err runs.end runs.comes) (sym whole.is ∙ at)
+      by_telling (inr cut) = cut.cause
 
 -- words outside the grammar, and words in it
 pub usage_cause : (request : Request) (shelf : ShelfCall) (nodes : Arena) (out err : SinkCall) (status : ℕ) → Runs request shelf nodes out err status
@@ -437,53 +435,6 @@ has_compared shelf nodes out end (Compares c) done took ends = by_comparison end
     by_comparison (Found same shown) = by_answer (found c.first c.second c.care) same shown.shown
     by_comparison (Unfinished limited same) = absurd (let six = ap status_of same in omega (arith, done, six))
 
--- what a call with status 0 put on out
-leads_done : (P : Plan → Type 0) (request : Request) (shelf : ShelfCall) (nodes : Arena) (out err : SinkCall) (status : ℕ)
-    → ((end : Outcome) (rest : Plan) → end.status ≡ 0 → Takes out end.out → EndsAt shelf nodes end rest → P rest)
-    → Runs request shelf nodes out err status → status ≡ 0 → Reaches P request shelf
-leads_done P request shelf nodes out err status shows runs at = by_telling runs.tells
-  where
-    leading : Option Command → Type 0
-    leading asked = IsSomeAnd asked (λ command. Leads P shelf (plan_of request.shows command))
-
-    by_end : (command : Command) → runs.end.status ≡ 0 → Takes out runs.end.out → Follows (plan_of request.shows command) shelf nodes runs.end
-        → Leads P shelf (plan_of request.shows command)
-    by_end command done took follows = elim follows.ends [
-      | inl ends ↦ record {
-        given = follows.given;
-        gave = follows.gave;
-        holds = shows runs.end (rest_of follows.given (plan_of request.shows command)) done took ends;
-      }
-      | inr same ↦ absurd (let seven = ap status_of same in omega (arith, done, seven))
-    ]
-
-    by_command : (asked : Option Command) → runs.end.status ≡ 0 → Takes out runs.end.out → ComesTo request.shows asked shelf nodes runs.end → leading asked
-    by_command None done took comes = absurd (elim comes.ends [
-      | inl same ↦ (let two = ap status_of same in omega (arith, done, two))
-      | inr same ↦ (let seven = ap status_of same in omega (arith, done, seven))
-    ])
-    by_command (Some command) done took follows = by_end command done took follows
-
-    by_telling : Tells runs.end out err status → Reaches P request shelf
-    by_telling (inl whole) = by_command (command_of request.words) (sym whole.is ∙ at) whole.out_text runs.comes
-    by_telling (inr cut) = absurd (let five = cut.is in omega (arith, at, five))
-
-pub rewritten_cause : (request : Request) (shelf : ShelfCall) (nodes : Arena) (out err : SinkCall) (status : ℕ) → Runs request shelf nodes out err status
-    → status ≡ 0 → Reaches (HasRewritten out) request shelf
-rewritten_cause request shelf nodes out err status = leads_done (HasRewritten out) request shelf nodes out err status (has_rewritten shelf nodes out)
-
-pub graphed_cause : (request : Request) (shelf : ShelfCall) (nodes : Arena) (out err : SinkCall) (status : ℕ) → Runs request shelf nodes out err status
-    → status ≡ 0 → Reaches (HasGraph out) request shelf
-graphed_cause request shelf nodes out err status = leads_done (HasGraph out) request shelf nodes out err status (has_graph shelf nodes out)
-
-pub compared_cause : (request : Request) (shelf : ShelfCall) (nodes : Arena) (out err : SinkCall) (status : ℕ) → Runs request shelf nodes out err status
-    → status ≡ 0 → Reaches (HasCompared out) request shelf
-compared_cause request shelf nodes out err status = leads_done (HasCompared out) request shelf nodes out err status (has_compared shelf nodes out)
-
-pub stormed_cause : StormsNeverRest → (request : Request) (shelf : ShelfCall) (nodes : Arena) (out err : SinkCall) (status : ℕ) → Runs request shelf nodes out err status
-    → status ≡ 0 → Reaches (HasStormed out) request shelf
-stormed_cause law request shelf nodes out err status = leads_done (HasStormed out) request shelf nodes out err status (has_stormed law shelf nodes out)
-
 -- ---- an explanation
 
 same_some : {A : Type 0} {a b : A} → Some a ≡ Some b → a ≡ b
@@ -501,18 +452,18 @@ why_told form decision out err end took other explained = record {
 }
 
 -- what was put on out and on err to explain
-has_explained : (shelf : ShelfCall) (nodes : Arena) (out err : SinkCall) (end : Outcome) (rest : Plan) → Takes out end.out → Takes err end.err
-    → end.status ≡ 1 → EndsAt shelf nodes end rest → HasExplained out err rest
-has_explained shelf nodes out err end (Reads role name next) took other one ends = tt
-has_explained shelf nodes out err end (Faulty name fault) took other one ends = tt
-has_explained shelf nodes out err end (Ends ending) took other one ends = tt
-has_explained shelf nodes out err end (Compares c) took other one ends = tt
-has_explained shelf nodes out err end (Decides decision Judges) took other one ends = tt
-has_explained shelf nodes out err end (Decides decision Rewrites) took other one ends = tt
-has_explained shelf nodes out err end (Decides decision WritesGraph) took other one ends = tt
-has_explained shelf nodes out err end (Decides decision (Demonstrates cells)) took other one ends = tt
-has_explained shelf nodes out err end (Decides decision (Storms rounds)) took other one ends = tt
-has_explained shelf nodes out err end (Decides decision (Explains form)) took other one ends = by_decision ends.1
+has_explained : (shelf : ShelfCall) (nodes : Arena) (out err : SinkCall) (end : Outcome) (rest : Plan) → end.status ≡ 1 → Takes out end.out
+    → Takes err end.err → EndsAt shelf nodes end rest → HasExplained out err rest
+has_explained shelf nodes out err end (Reads role name next) one took other ends = tt
+has_explained shelf nodes out err end (Faulty name fault) one took other ends = tt
+has_explained shelf nodes out err end (Ends ending) one took other ends = tt
+has_explained shelf nodes out err end (Compares c) one took other ends = tt
+has_explained shelf nodes out err end (Decides decision Judges) one took other ends = tt
+has_explained shelf nodes out err end (Decides decision Rewrites) one took other ends = tt
+has_explained shelf nodes out err end (Decides decision WritesGraph) one took other ends = tt
+has_explained shelf nodes out err end (Decides decision (Demonstrates cells)) one took other ends = tt
+has_explained shelf nodes out err end (Decides decision (Storms rounds)) one took other ends = tt
+has_explained shelf nodes out err end (Decides decision (Explains form)) one took other ends = by_decision ends.1
   where
     by_decision : IsDecided decision (Explains form) nodes end → HasExplained out err (Decides decision (Explains form))
     by_decision (Verdict same made) = λ vector wire refused. absurd (subst (IsMadeFor decision (Explains form)) refused made)
@@ -526,29 +477,48 @@ has_explained shelf nodes out err end (Decides decision (Explains form)) took ot
         (subst (λ (v : List Bool). HasWhy other_form decision v explained.wire out err) same_vector (why_told other_form decision out err end took other explained)))
     by_decision (Limit limited same) = absurd (let six = ap status_of same in omega (arith, one, six))
 
-pub explained_cause : (request : Request) (shelf : ShelfCall) (nodes : Arena) (out err : SinkCall) (status : ℕ) → Runs request shelf nodes out err status
-    → status ≡ 1 → Reaches (HasExplained out err) request shelf
-explained_cause request shelf nodes out err status runs at = by_telling runs.tells
-  where
-    by_end : (command : Command) → IsTold runs.end out err status → Follows (plan_of request.shows command) shelf nodes runs.end
-        → Leads (HasExplained out err) shelf (plan_of request.shows command)
-    by_end command whole follows = elim follows.ends [
-      | inl ends ↦ record {
-        given = follows.given;
-        gave = follows.gave;
-        holds = has_explained shelf nodes out err runs.end (rest_of follows.given (plan_of request.shows command)) whole.out_text whole.err_text (sym whole.is ∙ at) ends;
-      }
-      | inr same ↦ absurd (let seven = ap status_of same in let is = whole.is in omega (arith, at, is, seven))
-    ]
+-- what a call that was told whole put on out and on err
+module _ (request : Request) (shelf : ShelfCall) (nodes : Arena) (out err : SinkCall) (status : ℕ) (runs : Runs request shelf nodes out err status)
+    (P : Plan → Type 0) (known : ℕ) (low : known ≤ 1)
+    (shows : (end : Outcome) (rest : Plan) → end.status ≡ known → Takes out end.out → Takes err end.err → EndsAt shelf nodes end rest → P rest) where
+  by_end : (command : Command) → runs.end.status ≡ known → IsTold runs.end out err status → Follows (plan_of request.shows command) shelf nodes runs.end
+      → Leads P shelf (plan_of request.shows command)
+  by_end command at whole follows = elim follows.ends [
+    | inl ends ↦ record {
+      given = follows.given;
+      gave = follows.gave;
+      holds = shows runs.end (rest_of follows.given (plan_of request.shows command)) at whole.out_text whole.err_text ends;
+    }
+    | inr same ↦ absurd (let seven = ap status_of same in omega (arith, low, at, seven))
+  ]
 
-    by_command : (asked : Option Command) → IsTold runs.end out err status → ComesTo request.shows asked shelf nodes runs.end
-        → IsSomeAnd asked (λ command. Leads (HasExplained out err) shelf (plan_of request.shows command))
-    by_command None whole comes = absurd (elim comes.ends [
-      | inl same ↦ (let two = ap status_of same in let is = whole.is in omega (arith, at, is, two))
-      | inr same ↦ (let seven = ap status_of same in let is = whole.is in omega (arith, at, is, seven))
-    ])
-    by_command (Some command) whole follows = by_end command whole follows
+  by_command : (asked : Option Command) → runs.end.status ≡ known → IsTold runs.end out err status → ComesTo request.shows asked shelf nodes runs.end
+      → IsSomeAnd asked (λ command. Leads P shelf (plan_of request.shows command))
+  by_command None at whole comes = absurd (elim comes.ends [
+    | inl same ↦ (let two = ap status_of same in omega (arith, low, at, two))
+    | inr same ↦ (let seven = ap status_of same in omega (arith, low, at, seven))
+  ])
+  by_command (Some command) at whole follows = by_end command at whole follows
 
-    by_telling : Tells runs.end out err status → Reaches (HasExplained out err) request shelf
-    by_telling (inl whole) = by_command (command_of request.words) whole runs.comes
-    by_telling (inr cut) = absurd (let five = cut.is in omega (arith, at, five))
+  leads_told : status ≡ known → Reaches P request shelf
+  leads_told at = by_telling runs.tells
+    where
+      by_telling : Tells runs.end out err status → Reaches P request shelf
+      by_telling (inl whole) = by_command (command_of request.words) (sym whole.is ∙ at) whole runs.comes
+      by_telling (inr cut) = absurd (let five = cut.is in omega (arith, low, at, five))
+
+module _ (request : Request) (shelf : ShelfCall) (nodes : Arena) (out err : SinkCall) (status : ℕ) (runs : Runs request shelf nodes out err status) where
+  pub rewritten_cause : status ≡ 0 → Reaches (HasRewritten out) request shelf
+  rewritten_cause = leads_told request shelf nodes out err status runs (HasRewritten out) 0 (omega arith) (λ end rest done took other. has_rewritten shelf nodes out end rest done took)
+
+  pub graphed_cause : status ≡ 0 → Reaches (HasGraph out) request shelf
+  graphed_cause = leads_told request shelf nodes out err status runs (HasGraph out) 0 (omega arith) (λ end rest done took other. has_graph shelf nodes out end rest done took)
+
+  pub compared_cause : status ≡ 0 → Reaches (HasCompared out) request shelf
+  compared_cause = leads_told request shelf nodes out err status runs (HasCompared out) 0 (omega arith) (λ end rest done took other. has_compared shelf nodes out end rest done took)
+
+  pub stormed_cause : StormsNeverRest → status ≡ 0 → Reaches (HasStormed out) request shelf
+  stormed_cause law = leads_told request shelf nodes out err status runs (HasStormed out) 0 (omega arith) (λ end rest done took other. has_stormed law shelf nodes out end rest done took)
+
+  pub explained_cause : status ≡ 1 → Reaches (HasExplained out err) request shelf
+  explained_cause = leads_told request shelf nodes out err status runs (HasExplained out err) 1 (omega arith) (has_explained shelf nodes out err)

@@ -134,10 +134,10 @@ loops_told form net care limit what loose given end same is loose_is = record {
   made = tt;
 }
 
-pub calmed : (net : Parts) (care : CareSet) (limit : ℕ) (what : Observe) (loose rounds : ℕ) (given : Option ℕ) (end : Outcome)
+pub without_storm : (net : Parts) (care : CareSet) (limit : ℕ) (what : Observe) (loose rounds : ℕ) (given : Option ℕ) (end : Outcome)
     → end ≡ told (Declines (accepted_text net (count_of_loops net) given)) → given ≡ where_outputs what loose → AreLoose net care loose
     → IsAccepted (decision_of net care limit what) (Storms rounds) end
-calmed net care limit what loose rounds given end same is loose_is = record {
+without_storm net care limit what loose rounds given end same is loose_is = record {
   is = same ∙ ap (λ number. told (Declines (accepted_text net (count_of_loops net) number))) (is ∙ ap (where_outputs what) loose_is);
   made = tt;
 }

@@ -1,10 +1,10 @@
 -- What probes hear of a call, whatever they show.
-use Rattle.std.proofs.Common.{◌≡◌, ℕ, Bool, false, List, length, Some, sym, subst, inl, inr}
-use Rattle.cyc_tool.proofs.Common.{Option, Trit, Counts, Files, Parts, Schedule, Command, ShelfCall, Plan, with_netlist, with_vectors, known, GoesOn, Shows}
+use Rattle.std.proofs.Common.{◌≡◌, ℕ, Bool, false, List, length, subst, inl, inr}
+use Rattle.cyc_tool.proofs.Common.{Option, Trit, Counts, Files, Parts, Schedule, ShelfCall, Plan, with_netlist, with_vectors, known, GoesOn, Shows}
 use Rattle.delay_core.specs.declared.change.Change.{Change}
 use Rattle.probes.specs.Changes.{changes}
 use Rattle.probes.specs.declared.kind.Kind.{Kind}
-use Rattle.cyc_tool.specs.Hearing.{HearCommand, HearPlay, HearRun}
+use Rattle.cyc_tool.specs.Hearing.{HearPlay, HearRun}
 use Rattle.cyc_tool.specs.Plans.{play_on, playing, replaying, replaying_on, with_schedule}
 use Rattle.cyc_tool.proofs.PlanLemmas.{leads_after}
 
@@ -26,7 +26,7 @@ module _ {P : Type 0} (kind : P → Kind) (heard : P → List Change) (text : P 
     told = told;
   })
 
-  pub hears_known : (recorded : List ℕ) (net : Parts) (found : List (List Trit)) (inputs : List (List Bool)) (shelf : ShelfCall) → inputs ≡ known found
+  hears_known : (recorded : List ℕ) (net : Parts) (found : List (List Trit)) (inputs : List (List Bool)) (shelf : ShelfCall) → inputs ≡ known found
       → HearPlay kind heard text probe (λ shows. play_on shows probe recorded net inputs) shelf old new
       → HearPlay kind heard text probe (λ shows. play_on shows probe recorded net (known found)) shelf old new
   hears_known recorded net found inputs shelf is hears =
@@ -49,24 +49,24 @@ module _ {P : Type 0} (kind : P → Kind) (heard : P → List Change) (text : P 
     told = run.told;
   })
 
-  pub replay_hears : (recorded vectors : List ℕ) (net : Parts) (found : List (List Trit)) (files later : Option Files) (a b c : Counts) → later ≡ files
+  replay_hears : (recorded vectors : List ℕ) (net : Parts) (found : List (List Trit)) (files later : Option Files) (a b c : Counts) → later ≡ files
       → GoesOn (with_vectors vectors net false) found (call files a b)
       → HearPlay kind heard text probe (λ shows. play_on shows probe recorded net (known found)) (call later b c) old new
       → HearPlay kind heard text probe (λ shows. replaying_on shows probe recorded vectors net) (call files a c) old new
   replay_hears recorded vectors net found files later a b c same goes hears =
       hears_on (with_vectors vectors net false) found (λ shows xs. play_on shows probe recorded net (known xs)) files later a b c same goes hears
 
-  pub netlist_hears : (recorded file vectors : List ℕ) (net : Parts) (files later : Option Files) (a b c : Counts) → later ≡ files
+  netlist_hears : (recorded file vectors : List ℕ) (net : Parts) (files later : Option Files) (a b c : Counts) → later ≡ files
       → GoesOn (with_netlist file) net (call files a b)
       → HearPlay kind heard text probe (λ shows. replaying_on shows probe recorded vectors net) (call later b c) old new
       → HearPlay kind heard text probe (λ shows. replaying shows probe file vectors recorded) (call files a c) old new
   netlist_hears recorded file vectors net files later a b c same goes hears =
       hears_on (with_netlist file) net (λ shows n. replaying_on shows probe recorded vectors n) files later a b c same goes hears
 
--- what the command of the words hears, they do
-pub hears_command : {P : Type 0} (kind : P → Kind) (heard : P → List Change) (text : P → List Change → Parts → List ℕ) (old new : List P) (asked : Option Command)
-    (command : Command) (shelf : ShelfCall) → asked ≡ Some command → HearCommand kind heard text (Some command) shelf old new
-    → HearCommand kind heard text asked shelf old new
-hears_command kind heard text old new asked command shelf is hears =
-    let Q : Option Command → Type 0 = λ c. HearCommand kind heard text c shelf old new in
-    subst Q (sym is) hears
+  pub files_hear : (recorded file vectors : List ℕ) (net : Parts) (found : List (List Trit)) (inputs : List (List Bool)) (files second third : Option Files) (a b c d : Counts)
+      → second ≡ files → third ≡ second → GoesOn (with_netlist file) net (call files a b) → GoesOn (with_vectors vectors net false) found (call second b c)
+      → inputs ≡ known found → HearPlay kind heard text probe (λ shows. play_on shows probe recorded net inputs) (call third c d) old new
+      → HearPlay kind heard text probe (λ shows. replaying shows probe file vectors recorded) (call files a d) old new
+  files_hear recorded file vectors net found inputs files second third a b c d same still netlist goes is hears =
+      netlist_hears recorded file vectors net files second a b d same netlist
+      (replay_hears recorded vectors net found second third b c d still goes (hears_known recorded net found inputs (call third c d) is hears))

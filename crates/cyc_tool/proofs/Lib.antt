@@ -3,6 +3,7 @@ pub mod AnswerLemmas
 pub mod CauseLemmas
 pub mod DecisionLemmas
 pub mod PlanLemmas
+mod OptionLemmas
 pub mod ReadingLemmas
 pub mod ReplayLemmas
 pub mod RingLemmas

@@ -23,7 +23,7 @@ module _ (shows : Shows) (probe : Option Kind) (recorded : List ℕ) where
   behind_vectors net found = play_on shows probe recorded net (known found)
 
   -- vectors without unknown values, and want of memory in their place
-  pub plays_known : (net : Parts) (found : List (List Trit)) (inputs : List (List Bool)) (files : Option Files) (a b : Counts) (end : Outcome) → inputs ≡ known found
+  plays_known : (net : Parts) (found : List (List Trit)) (inputs : List (List Bool)) (files : Option Files) (a b : Counts) (end : Outcome) → inputs ≡ known found
       → FollowsAlone (play_on shows probe recorded net inputs) (call files a b) end → FollowsAlone (play_on shows probe recorded net (known found)) (call files a b) end
   plays_known net found inputs files a b end is follows =
       let P : List (List Bool) → Type 0 = λ v. FollowsAlone (play_on shows probe recorded net v) (call files a b) end in subst P is follows
@@ -35,7 +35,7 @@ module _ (shows : Shows) (probe : Option Kind) (recorded : List ℕ) where
   }
 
   -- the vectors of a netlist, and what comes behind them
-  pub replays : (vectors : List ℕ) (net : Parts) (found : List (List Trit)) (files later : Option Files) (a b c : Counts) (end : Outcome)
+  replays : (vectors : List ℕ) (net : Parts) (found : List (List Trit)) (files later : Option Files) (a b c : Counts) (end : Outcome)
       → later ≡ files → GoesOn (with_vectors vectors net false) found (call files a b)
       → FollowsAlone (play_on shows probe recorded net (known found)) (call later b c) end
       → FollowsAlone (replaying_on shows probe recorded vectors net) (call files a c) end
@@ -54,6 +54,15 @@ module _ (shows : Shows) (probe : Option Kind) (recorded : List ℕ) where
       → FollowsAlone (replaying shows probe file vectors recorded) (call files a c) end
   netlist_replays file vectors net files later a b c end same goes follows =
       goes_on_alone (with_netlist file) net (replaying_on shows probe recorded vectors) files later a b c end same goes follows
+
+  -- both files, and vectors without unknown values
+  pub files_replay : (file vectors : List ℕ) (net : Parts) (found : List (List Trit)) (inputs : List (List Bool)) (files second third : Option Files) (a b c d : Counts)
+      (end : Outcome) → second ≡ files → third ≡ second → GoesOn (with_netlist file) net (call files a b) → GoesOn (with_vectors vectors net false) found (call second b c)
+      → inputs ≡ known found → FollowsAlone (play_on shows probe recorded net inputs) (call third c d) end
+      → FollowsAlone (replaying shows probe file vectors recorded) (call files a d) end
+  files_replay file vectors net found inputs files second third a b c d end same still netlist goes is follows =
+      netlist_replays file vectors net files second a b d end same netlist
+      (replays vectors net found second third b c d end still goes (plays_known net found inputs third c d end is follows))
 
 -- what is told of a run and of what probes of a kind show
 pub run_probed : (shows : Shows) (wanted : Kind) (recorded : List ℕ) (net : Parts) (vectors : List (List Bool)) (schedule : Schedule) (ends : List TickEnd) (shown : List ℕ) (end : Outcome)

@@ -36,10 +36,6 @@ keeps_still (Some Help) nodes = refl
 keeps_still (Some (HelpOn topic)) nodes = refl
 keeps_still (Some Version) nodes = refl
 
-pub keeps_by_command : (asked : Option Command) (command : Command) (before now : Arena) → asked ≡ Some command → KeepsNodes (Some command) before now
-    → KeepsNodes asked before now
-keeps_by_command asked command before now is keeps = let P : Option Command → Type 0 = λ c. KeepsNodes c before now in subst P (sym is) keeps
-
 -- the counts on both sides of a run
 pub counts_later : (shows : Shows) (asked : Option Command) (shelf : ShelfCall) (nodes : Arena) (end : Outcome) → ComesTo shows asked shelf nodes end
     → (name : List ℕ) → shelf.before name ≤ shelf.now name

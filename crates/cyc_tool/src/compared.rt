@@ -6,11 +6,10 @@ ghost use Rattle.cyc_base.specs.declared.limits.TheConstants.{MAX_NODES as most_
 ghost use Rattle.cyc_tool.specs.Calls.{shelf_call, Follows, IsCompared};
 ghost use Rattle.cyc_tool.specs.Answer.{told as done};
 ghost use Rattle.cyc_tool.specs.Endings.{found_told};
-ghost use Rattle.cyc_tool.specs.Plans.{Compares, comparing, comparing_on, comparing_with, comparison};
-ghost use Rattle.cyc_tool.specs.Reading.{FollowsStill};
+ghost use Rattle.cyc_tool.specs.Plans.{comparing};
 ghost use Rattle.cyc_tool.specs.Seen.{IsComparisonLimitOf, end_of, outcome_of};
 
-use crate::outcome::{Outcome, Stop};
+use crate::outcome::{Outcome, Stop, or_stop};
 use crate::reading::{read_care, read_netlist};
 use crate::status;
 use crate::texts::{on_out, tell_limit};
@@ -47,7 +46,7 @@ fn tell_unfinished(alloc: Global, fault: EqualFault) -> Result<Outcome, AllocErr
 }
 
 // Compares two netlists on a care set of the first within so many nodes, and tells what is found.
-fn compare_netlists(
+fn tell_comparison(
     alloc: Global,
     first: &Netlist,
     second: &Netlist,
@@ -65,57 +64,7 @@ fn compare_netlists(
     }
 }
 
-// The same within as many nodes as the options allow.
-fn compare_on_care(
-    alloc: Global,
-    first: &Netlist,
-    second: &Netlist,
-    care: &Care,
-    options: Options,
-    d: &mut Diagrams,
-) -> Result<Outcome, Stop>
-    requires { IsCareOf first.now care.now }
-    ensures { FollowsStill (Compares (comparison first.now second.now care.now (options_seen options.entry))) d.new (end_of result) }
-{
-    let limit = options.nodes.unwrap_or(DEFAULT_NODES);
-    Ok(compare_netlists(alloc, first, second, care, limit, d)?)
-}
-
-// The same on the care set of its care file.
-fn compare_on_care_file<S: Shelf>(
-    alloc: Global,
-    shelf: &mut S,
-    first: &Netlist,
-    second: &Netlist,
-    options: Options,
-    d: &mut Diagrams,
-) -> Result<Outcome, Stop>
-    ensures comes { Follows (comparing_on (options_seen options.entry) first.now second.now)
-        (shelf_call S.files S.faults shelf.old shelf.new) d.new (end_of result) }
-    ensures same { S.files shelf.new ≡ S.files shelf.old }
-{
-    let care = read_care(alloc, shelf, first, options.care)?;
-    compare_on_care(alloc, first, second, &care, options, d)
-}
-
-// The same with the netlist of a second file.
-fn compare_with_file<S: Shelf>(
-    alloc: Global,
-    shelf: &mut S,
-    first: &Netlist,
-    second: &Name,
-    options: Options,
-    d: &mut Diagrams,
-) -> Result<Outcome, Stop>
-    ensures comes { Follows (comparing_with second.now (options_seen options.entry) first.now)
-        (shelf_call S.files S.faults shelf.old shelf.new) d.new (end_of result) }
-    ensures same { S.files shelf.new ≡ S.files shelf.old }
-{
-    let other = read_netlist(alloc, shelf, second)?;
-    compare_on_care_file(alloc, shelf, first, &other, options, d)
-}
-
-// The same of the netlists of two files.
+// Compares the netlists of two files on a care set of the first.
 pub(crate) fn compare_files<S: Shelf>(
     alloc: Global,
     shelf: &mut S,
@@ -129,5 +78,8 @@ pub(crate) fn compare_files<S: Shelf>(
     ensures same { S.files shelf.new ≡ S.files shelf.old }
 {
     let first = read_netlist(alloc, shelf, netlist)?;
-    compare_with_file(alloc, shelf, &first, second, options, d)
+    let other = read_netlist(alloc, shelf, second)?;
+    let care = read_care(alloc, shelf, &first, options.care)?;
+    let limit = options.nodes.unwrap_or(DEFAULT_NODES);
+    or_stop(tell_comparison(alloc, &first, &other, &care, limit, d))
 }

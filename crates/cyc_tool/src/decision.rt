@@ -95,7 +95,7 @@ fn tell_accepted(
 }
 
 // An accepted netlist has no storm.
-fn tell_calm(
+fn tell_no_storm(
     alloc: Global,
     looped: &LoopedNetlist<'_>,
     loose: Option<u32>,
@@ -266,7 +266,7 @@ fn tell_acceptance(
             let rewritten = count_rewritten(alloc, looped, sweeps)?;
             tell_ring(alloc, cells, looped, rewritten)
         }
-        Purpose::Storm(_) => tell_calm(alloc, looped, loose_told(task.observe, loose)),
+        Purpose::Storm(_) => tell_no_storm(alloc, looped, loose_told(task.observe, loose)),
     }
 }
 
@@ -321,7 +321,7 @@ fn tell_limited(alloc: Global, fault: &DecideFault) -> Result<Outcome, AllocErro
 }
 
 // Decides a netlist on its care set, and tells of it what is wanted.
-pub(crate) fn decide_netlist(
+pub(crate) fn tell_decision(
     alloc: Global,
     net: &Netlist,
     care: &Care,

@@ -161,7 +161,7 @@ fn explanation_of(
     ensures none { IfOk result (λ found. IfNone found (wire_of (fix refused.now.looped.now.net (bits refused.now.vector.now)) refused.now.wire ≢ X)) }
 {
     let net = refused.looped.net();
-    let gate = refused.wire.0 - (net.inputs() + net.latches());
+    let gate = refused.wire.0 - net.columns();
     explain(alloc, net, refused.vector, gate)
 }
 

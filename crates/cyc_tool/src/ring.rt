@@ -12,7 +12,7 @@ ghost use Rattle.cyc_tool.specs.Plans.{ring_care_file, ring_deciding, ring_decid
 ghost use Rattle.cyc_tool.specs.Reading.{FollowsStill, IsStoppedBy};
 ghost use Rattle.cyc_tool.specs.Seen.{end_of, stop_outcome};
 
-use crate::decision::{Purpose, Task, decide_netlist};
+use crate::decision::{Purpose, Task, tell_decision};
 use crate::outcome::{Outcome, Stop, or_stop};
 use crate::reading::stop_at;
 use bdd_ops::Diagrams;
@@ -79,7 +79,7 @@ fn decide_ring_on(
         observe: Observe::All,
         purpose: Purpose::Demonstrate(cells),
     };
-    or_stop(decide_netlist(alloc, net, &care, task, d))
+    or_stop(tell_decision(alloc, net, &care, task, d))
 }
 
 fn decide_ring(

@@ -2,7 +2,6 @@
 ghost use Rattle.std.specs.Prelude.{◌≡◌, ◌+◌, ◌++◌, ◌<◌, IfOk, OnOk, All, List, length};
 ghost use Rattle.cyc_base.specs.declared.trit.Trit.{Trit as TritValue};
 ghost use Rattle.cyc_io.specs.Text.{text_bytes};
-ghost use Rattle.netlist.specs.Fixpoint.{next, outs};
 ghost use Rattle.report.specs.Ticks.{tick_text};
 ghost use Rattle.simulation.specs.Simulators.{IsSimulatorOf};
 ghost use Rattle.cyc_tool.specs.Simulation.{sim_text, start_value, start_values, tick_lines};
@@ -35,29 +34,13 @@ fn start(alloc: Global, net: &Netlist) -> Result<Vec<Trit>, AllocError>
     Ok(values)
 }
 
-// Appends the line of a tick with these inputs and latches, which then have what they load.
-fn put_next(
-    alloc: Global,
-    net: &Netlist,
-    simulator: &mut Simulator,
-    tick: u64,
-    inputs: &[Trit],
-    latches: &mut Vec<Trit>,
-    outputs: &mut Vec<Trit>,
-    sink: &mut TextSink,
-) -> Result<(), AllocError>
-    requires simulator { IsSimulatorOf net.now simulator.old }
-    requires inputs { length inputs.now ≡ length net.now.inputs }
-    requires latches { length latches.old.items ≡ length net.now.latches }
-    ensures simulator { IsSimulatorOf net.now simulator.new }
-    ensures next { OnOk result (latches.new.items ≡ next net.now (inputs.now ++ latches.old.items)) }
-    ensures told { OnOk result (text_bytes sink.new ≡ text_bytes sink.old ++ tick_text tick (outs net.now (inputs.now ++ latches.old.items))) }
+fn put_line(tick: u64, outputs: &[Trit], sink: &mut TextSink) -> Result<(), AllocError>
+    ensures { OnOk result (text_bytes sink.new ≡ text_bytes sink.old ++ tick_text tick outputs.now) }
 {
-    simulator.tick_into(alloc, net, inputs, latches, outputs)?;
-    if put_tick(tick, outputs, sink).is_err() {
-        return Err(AllocError);
+    match put_tick(tick, outputs, sink) {
+        Ok(()) => Ok(()),
+        Err(_) => Err(AllocError),
     }
-    Ok(())
 }
 
 // Appends the lines of the ticks of these vectors, where the latches have these values at first.
@@ -76,17 +59,8 @@ fn put_all(
 {
     let mut outputs = Vec::new(alloc);
     for i in 0..vectors.len() {
-        let inputs = vectors[i].items();
-        put_next(
-            alloc,
-            net,
-            simulator,
-            i as u64 + 1,
-            inputs,
-            latches,
-            &mut outputs,
-            sink,
-        )?;
+        simulator.tick_into(alloc, net, vectors[i].items(), latches, &mut outputs)?;
+        put_line(i as u64 + 1, &outputs, sink)?;
     }
     Ok(())
 }

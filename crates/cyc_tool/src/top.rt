@@ -18,7 +18,7 @@ ghost use Rattle.cyc_tool.specs.Requests.{Shows, request, shown_by};
 ghost use Rattle.cyc_tool.specs.Seen.{end_of, outcome_of, purpose_seen, stop_outcome};
 
 use crate::compared::compare_files;
-use crate::decision::{Purpose, Task, decide_netlist};
+use crate::decision::{Purpose, Task, tell_decision};
 use crate::outcome::{Outcome, Stop, or_stop};
 use crate::plays::{ScheduledRun, known, played, probed};
 use crate::reading::{read_care, read_netlist, read_schedule_file, read_vector_file, stop_at};
@@ -29,9 +29,8 @@ use crate::texts::{
     tell_usage, tell_version,
 };
 use bdd_ops::Diagrams;
-use care_sets::Care;
 use commands::{Command, Form, Options, STANDARD_INPUT, command_of_words};
-use cyc_base::{Bits, DEFAULT_NODES, Name, Trits};
+use cyc_base::{Bits, DEFAULT_NODES, Name};
 use cyc_io::{Shelf, Sink, write_whole};
 use netlist::Netlist;
 use probes::{Kind, Probe, ShownRun};
@@ -40,50 +39,7 @@ use report::NO_MEMORY_TEXT;
 use std::alloc::Global;
 use storm::laws::storms_never_rest;
 
-// Decides a netlist on its care set, and tells of it what is wanted.
-fn decide_on_care(
-    alloc: Global,
-    net: &Netlist,
-    care: &Care,
-    options: Options,
-    purpose: Purpose,
-    d: &mut Diagrams,
-) -> Result<Outcome, Stop>
-    requires valid { IsNetlist net.now }
-    requires columns { columns net.now ≤ 1000000000 }
-    requires care { IsCareOf net.now care.now }
-    ensures { FollowsStill (Decides (decision net.now care.now (options_seen options.entry)) (purpose_seen purpose)) d.new (end_of result) }
-{
-    let limit = options.nodes.unwrap_or(DEFAULT_NODES);
-    let observe = options.observe.unwrap_or(Observe::All);
-    let task = Task {
-        limit,
-        observe,
-        purpose,
-    };
-    Ok(decide_netlist(alloc, net, care, task, d)?)
-}
-
-// The same on the care set of its care file.
-fn decide_on_care_file<S: Shelf>(
-    alloc: Global,
-    shelf: &mut S,
-    net: &Netlist,
-    options: Options,
-    purpose: Purpose,
-    d: &mut Diagrams,
-) -> Result<Outcome, Stop>
-    requires valid { IsNetlist net.now }
-    requires columns { columns net.now ≤ 1000000000 }
-    ensures comes { Follows (deciding_on net.now (options_seen options.entry) (purpose_seen purpose))
-        (shelf_call S.files S.faults shelf.old shelf.new) d.new (end_of result) }
-    ensures same { S.files shelf.new ≡ S.files shelf.old }
-{
-    let care = read_care(alloc, shelf, net, options.care)?;
-    decide_on_care(alloc, net, &care, options, purpose, d)
-}
-
-// The same of the netlist of a file.
+// Decides the netlist of a file on its care set, and tells of it what is wanted.
 fn decide_file<S: Shelf>(
     alloc: Global,
     shelf: &mut S,
@@ -97,7 +53,15 @@ fn decide_file<S: Shelf>(
     ensures same { S.files shelf.new ≡ S.files shelf.old }
 {
     let net = read_netlist(alloc, shelf, netlist)?;
-    decide_on_care_file(alloc, shelf, &net, options, purpose, d)
+    let care = read_care(alloc, shelf, &net, options.care)?;
+    let limit = options.nodes.unwrap_or(DEFAULT_NODES);
+    let observe = options.observe.unwrap_or(Observe::All);
+    let task = Task {
+        limit,
+        observe,
+        purpose,
+    };
+    or_stop(tell_decision(alloc, &net, &care, task, d))
 }
 
 // Writes the flat netlist of a file.
@@ -123,21 +87,7 @@ fn loops<S: Shelf>(
     or_stop(tell_loops(alloc, &net, form))
 }
 
-// Simulates a netlist on the vectors of a file.
-fn simulate_file<S: Shelf>(
-    alloc: Global,
-    shelf: &mut S,
-    net: &Netlist,
-    vectors: &Name,
-) -> Result<Outcome, Stop>
-    ensures comes { FollowsAlone (simulating_on vectors.now net.now) (shelf_call S.files S.faults shelf.old shelf.new) (end_of result) }
-    ensures same { S.files shelf.new ≡ S.files shelf.old }
-{
-    let found = read_vector_file(alloc, shelf, net, true, vectors)?;
-    or_stop(tell_sim(alloc, net, &found))
-}
-
-// The same of the netlist of a file.
+// Simulates the netlist of a file on the vectors of a second one.
 fn sim<S: Shelf>(
     alloc: Global,
     shelf: &mut S,
@@ -148,7 +98,8 @@ fn sim<S: Shelf>(
     ensures same { S.files shelf.new ≡ S.files shelf.old }
 {
     let net = read_netlist(alloc, shelf, netlist)?;
-    simulate_file(alloc, shelf, &net, vectors)
+    let found = read_vector_file(alloc, shelf, &net, true, vectors)?;
+    or_stop(tell_sim(alloc, &net, &found))
 }
 
 // What `delays` is asked for: the files of a netlist, of vectors and of a schedule, and of which kind the probes are that
@@ -233,45 +184,7 @@ fn play_file<S: Shelf>(
     play(alloc, &run, replay, probes)
 }
 
-// Plays it on vectors that have no unknown values.
-fn play_found<S: Shelf>(
-    alloc: Global,
-    shelf: &mut S,
-    net: &Netlist,
-    found: &[Trits],
-    replay: &Replay<'_>,
-    probes: &mut [Box<dyn Probe>],
-) -> Result<Outcome, Stop>
-    requires width { HaveWidth (length net.now.inputs) found.now }
-    requires silent { All (λ probe. heard probe ≡ []) probes.old }
-    ensures comes { FollowsAlone (play_on (shown_by kind text probes.old) replay.now.probe replay.now.recorded.now net.now (known_of found.now)) (shelf_call S.files S.faults shelf.old shelf.new) (end_of result) }
-    ensures heard { HearPlay kind heard text replay.now.probe (λ shows. play_on shows replay.now.probe replay.now.recorded.now net.now (known_of found.now)) (shelf_call S.files S.faults shelf.old shelf.new)
-        probes.old probes.new }
-    ensures same { S.files shelf.new ≡ S.files shelf.old }
-{
-    let inputs = known(alloc, found)?;
-    play_file(alloc, shelf, net, &inputs, replay, probes)
-}
-
-// Plays a netlist on the vectors of their file.
-fn play_netlist<S: Shelf>(
-    alloc: Global,
-    shelf: &mut S,
-    net: &Netlist,
-    replay: &Replay<'_>,
-    probes: &mut [Box<dyn Probe>],
-) -> Result<Outcome, Stop>
-    requires { All (λ probe. heard probe ≡ []) probes.old }
-    ensures comes { FollowsAlone (replaying_on (shown_by kind text probes.old) replay.now.probe replay.now.recorded.now replay.now.vectors.now net.now) (shelf_call S.files S.faults shelf.old shelf.new) (end_of result) }
-    ensures heard { HearPlay kind heard text replay.now.probe (λ shows. replaying_on shows replay.now.probe replay.now.recorded.now replay.now.vectors.now net.now) (shelf_call S.files S.faults shelf.old shelf.new)
-        probes.old probes.new }
-    ensures same { S.files shelf.new ≡ S.files shelf.old }
-{
-    let found = read_vector_file(alloc, shelf, net, false, replay.vectors)?;
-    play_found(alloc, shelf, net, &found, replay, probes)
-}
-
-// Plays the netlist of its file.
+// Plays the netlist of a file on the vectors of a second one, by the schedule of a third.
 fn delays<S: Shelf>(
     alloc: Global,
     shelf: &mut S,
@@ -285,24 +198,30 @@ fn delays<S: Shelf>(
     ensures same { S.files shelf.new ≡ S.files shelf.old }
 {
     let net = read_netlist(alloc, shelf, replay.netlist)?;
-    play_netlist(alloc, shelf, &net, replay, probes)
+    let found = read_vector_file(alloc, shelf, &net, false, replay.vectors)?;
+    let inputs = known(alloc, &found)?;
+    play_file(alloc, shelf, &net, &inputs, replay, probes)
 }
 
+// Does what the words ask for.
 fn carry_out<S: Shelf>(
     alloc: Global,
+    words: &[Name],
     shelf: &mut S,
-    command: Command,
     d: &mut Diagrams,
     probes: &mut [Box<dyn Probe>],
 ) -> Result<Outcome, Stop>
     requires { All (λ probe. heard probe ≡ []) probes.old }
-    ensures comes { Follows (plan_of (shown_by kind text probes.old) (command_seen command.entry))
-        (shelf_call S.files S.faults shelf.old shelf.new) d.new (end_of result) }
-    ensures heard { HearCommand kind heard text (Some (command_seen command.entry)) (shelf_call S.files S.faults shelf.old shelf.new)
+    ensures comes { ComesTo (shown_by kind text probes.old) (command_of words.now) (shelf_call S.files S.faults shelf.old shelf.new) d.new (end_of result) }
+    ensures heard { HearCommand kind heard text (command_of words.now) (shelf_call S.files S.faults shelf.old shelf.new)
         probes.old probes.new }
     ensures same { S.files shelf.new ≡ S.files shelf.old }
-    ensures kept { KeepsNodes (Some (command_seen command.entry)) d.old d.new }
+    ensures kept { KeepsNodes (command_of words.now) d.old d.new }
 {
+    let standard_input = Name::copied_from(alloc, STANDARD_INPUT)?;
+    let Some(command) = command_of_words(words, &standard_input) else {
+        return or_stop(tell_usage(alloc));
+    };
     match command {
         Command::Check(netlist, options) => {
             decide_file(alloc, shelf, netlist, options, Purpose::Judge, d)
@@ -339,47 +258,6 @@ fn carry_out<S: Shelf>(
         Command::HelpOn(topic) => or_stop(tell_topic(alloc, topic)),
         Command::Version => or_stop(tell_version(alloc)),
     }
-}
-
-// Does what the words ask for, where this is the name of standard input.
-fn do_words<S: Shelf>(
-    alloc: Global,
-    words: &[Name],
-    standard_input: &Name,
-    shelf: &mut S,
-    d: &mut Diagrams,
-    probes: &mut [Box<dyn Probe>],
-) -> Result<Outcome, Stop>
-    requires input { standard_input.now ≡ standard_input_name }
-    requires silent { All (λ probe. heard probe ≡ []) probes.old }
-    ensures comes { ComesTo (shown_by kind text probes.old) (command_of words.now) (shelf_call S.files S.faults shelf.old shelf.new) d.new (end_of result) }
-    ensures heard { HearCommand kind heard text (command_of words.now) (shelf_call S.files S.faults shelf.old shelf.new)
-        probes.old probes.new }
-    ensures same { S.files shelf.new ≡ S.files shelf.old }
-    ensures kept { KeepsNodes (command_of words.now) d.old d.new }
-{
-    match command_of_words(words, standard_input) {
-        Some(command) => carry_out(alloc, shelf, command, d, probes),
-        None => Ok(tell_usage(alloc)?),
-    }
-}
-
-fn find_outcome<S: Shelf>(
-    alloc: Global,
-    words: &[Name],
-    shelf: &mut S,
-    d: &mut Diagrams,
-    probes: &mut [Box<dyn Probe>],
-) -> Result<Outcome, Stop>
-    requires { All (λ probe. heard probe ≡ []) probes.old }
-    ensures comes { ComesTo (shown_by kind text probes.old) (command_of words.now) (shelf_call S.files S.faults shelf.old shelf.new) d.new (end_of result) }
-    ensures heard { HearCommand kind heard text (command_of words.now) (shelf_call S.files S.faults shelf.old shelf.new)
-        probes.old probes.new }
-    ensures same { S.files shelf.new ≡ S.files shelf.old }
-    ensures kept { KeepsNodes (command_of words.now) d.old d.new }
-{
-    let standard_input = Name::copied_from(alloc, STANDARD_INPUT)?;
-    do_words(alloc, words, &standard_input, shelf, d, probes)
 }
 
 #[tactic(auto, using(crate::proofs::TellLemmas::whole_prefix))]
@@ -511,6 +389,6 @@ pub fn run<S: Shelf, O: Sink, E: Sink>(
         (sink_call O.put O.faults out.old out.new) (sink_call E.put E.faults err.old err.new) }
 {
     storms_never_rest();
-    let end = find_outcome(alloc, words, shelf, d, &mut probes);
+    let end = carry_out(alloc, words, shelf, d, &mut probes);
     tell_end(&end, out, err)
 }

@@ -1,5 +1,5 @@
 use Rattle.cyc_tool.proofs.Common.{IfOk-weaker, cells_seen, outcome_of}
-use Rattle.cyc_tool.proofs.DecisionLemmas.{calmed, demonstrated, judged, loops_told}
+use Rattle.cyc_tool.proofs.DecisionLemmas.{without_storm, demonstrated, judged, loops_told}
 use Rattle.cyc_tool.proofs.decision.tell_acceptance.Goals as goal
 
 pub returns-in-Judge : goal.returns-in-Judge
@@ -37,6 +37,6 @@ returns-in_ok-rewritten-in-Demonstrate c =
 
 pub returns-in-Storm : goal.returns-in-Storm
 returns-in-Storm c =
-    IfOk-weaker c.tell_calm.result _ _ (λ told is care acceptance limit.
-    rw c.in-Storm.is (calmed c.args.looped.now.net care limit c.args.task.observe c.args.loose _ _ (outcome_of told) is c.loose_told-in-Storm.ensures acceptance.loose_is))
-    c.tell_calm.ensures
+    IfOk-weaker c.tell_no_storm.result _ _ (λ told is care acceptance limit.
+    rw c.in-Storm.is (without_storm c.args.looped.now.net care limit c.args.task.observe c.args.loose _ _ (outcome_of told) is c.loose_told-in-Storm.ensures acceptance.loose_is))
+    c.tell_no_storm.ensures

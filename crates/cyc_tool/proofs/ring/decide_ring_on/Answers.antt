@@ -12,8 +12,8 @@ returns-in_err-care c =
 
 pub returns : goal.returns
 returns c =
-    ring_ends (cells_seen c.args.cells) c.args.care.now c.args.net.now c.in_ok-care.care c.decide_netlist.new.d
+    ring_ends (cells_seen c.args.cells) c.args.care.now c.args.net.now c.in_ok-care.care c.tell_decision.new.d
     (end_of c.or_stop.result) c.requires.care c.in_ok-care.ensures.good c.requires.valid
-    (ends_or_lacks c.decide_netlist.result
-    (IsDecided (ring_decision c.args.net.now c.in_ok-care.care) (Demonstrates (cells_seen c.args.cells)) c.decide_netlist.new.d)
-    _ c.or_stop.ensures c.decide_netlist.ensures)
+    (ends_or_lacks c.tell_decision.result
+    (IsDecided (ring_decision c.args.net.now c.in_ok-care.care) (Demonstrates (cells_seen c.args.cells)) c.tell_decision.new.d)
+    _ c.or_stop.ensures c.tell_decision.ensures)

@@ -11,9 +11,9 @@ use Rattle.cyc_tool.proofs.top.run.Goals as goal
 -- what was found is told
 runs : (g : given.Over) (c : goal.After-drop-probes g)
     → Runs (request (λ b. (goal.Probe-dyn g (b.vtable, b.value)).kind b.value) (λ b. (goal.Probe-dyn g (b.vtable, b.value)).text b.value) c.args.words.now c.args.probes.items)
-    (shelf_call g.S.Shelf.files g.S.Shelf.faults c.args.shelf.now c.find_outcome-end.new.shelf) c.find_outcome-end.new.d
+    (shelf_call g.S.Shelf.files g.S.Shelf.faults c.args.shelf.now c.carry_out-end.new.shelf) c.carry_out-end.new.d
     (sink_call g.O.Sink.put g.O.Sink.faults c.args.out.now c.tell_end.new.out) (sink_call g.E.Sink.put g.E.Sink.faults c.args.err.now c.tell_end.new.err) c.tell_end.result
-runs g c = record { end = end_of c.find_outcome-end.result; comes = rw c.deref_mut.ensures.value at c.find_outcome-end.ensures.comes; tells = c.tell_end.ensures.told }
+runs g c = record { end = end_of c.carry_out-end.result; comes = rw c.deref_mut.ensures.value at c.carry_out-end.ensures.comes; tells = c.tell_end.ensures.told }
 
 pub returns-clause-runs : goal.returns-clause-runs
 returns-clause-runs g c = runs g c
@@ -40,16 +40,16 @@ pub returns-clause-limited : goal.returns-clause-limited
 returns-clause-limited g c = limit_cause _ _ _ _ _ _ (runs g c)
 
 pub returns-clause-done : goal.returns-clause-done
-returns-clause-done g c = done_cause _ _ _ _ _ _ 0 (runs g c) (Zero refl)
+returns-clause-done g c = done_cause _ _ _ _ _ _ (runs g c) 0 (Zero refl)
 
 pub returns-clause-refused : goal.returns-clause-refused
-returns-clause-refused g c = done_cause _ _ _ _ _ _ 1 (runs g c) (One refl)
+returns-clause-refused g c = done_cause _ _ _ _ _ _ (runs g c) 1 (One refl)
 
 pub returns-clause-outgrown : goal.returns-clause-outgrown
-returns-clause-outgrown g c = done_cause _ _ _ _ _ _ 8 (runs g c) (Eight refl)
+returns-clause-outgrown g c = done_cause _ _ _ _ _ _ (runs g c) 8 (Eight refl)
 
 pub returns-clause-stormed : goal.returns-clause-stormed
-returns-clause-stormed g c = stormed_cause c.storms_never_rest.ensures _ _ _ _ _ _ (runs g c)
+returns-clause-stormed g c = stormed_cause _ _ _ _ _ _ (runs g c) c.storms_never_rest.ensures
 
 pub returns-clause-rewritten : goal.returns-clause-rewritten
 returns-clause-rewritten g c = rewritten_cause _ _ _ _ _ _ (runs g c)

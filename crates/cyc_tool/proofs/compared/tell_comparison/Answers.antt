@@ -1,7 +1,7 @@
 use Rattle.cyc_tool.proofs.Common.{IfOk-weaker, outcome_of}
 use Rattle.cyc_tool.specs.Plans.{Comparison}
 use Rattle.cyc_tool.proofs.ComparedLemmas.{found_compares, limit_compares}
-use Rattle.cyc_tool.proofs.compared.compare_netlists.Goals as goal
+use Rattle.cyc_tool.proofs.compared.tell_comparison.Goals as goal
 
 pub returns-in-Ok : goal.returns-in-Ok
 returns-in-Ok c =

@@ -3,7 +3,7 @@ use Rattle.cyc_tool.proofs.Common.{IfOk-weaker, purpose_seen}
 use Rattle.loops.specs.Looped.{Looped}
 use Rattle.cyc_tool.specs.Seen.{IsTellable}
 use Rattle.cyc_tool.proofs.DecisionLemmas.{limit_decides, verdict_fits}
-use Rattle.cyc_tool.proofs.decision.decide_netlist.Goals as goal
+use Rattle.cyc_tool.proofs.decision.tell_decision.Goals as goal
 
 pub tell_verdict-requires-clause-fits : goal.tell_verdict-requires-clause-fits
 tell_verdict-requires-clause-fits c =
