@@ -1,7 +1,7 @@
 -- A schedule is read piece by piece.
-use Rattle.std.proofs.Common.{◌≡◌, ◌≢◌, ◌<◌, ◌≤◌, ℕ, suc, ◌+◌, ◌-◌, inl, inr, ◌⊎◌, Bool, true, false, cond, List, [], ◌∷◌, ◌++◌, length, drop, get_or, Some, None, Ok, Err, refl, sym, ap, subst, ◌∙◌, arith, length-append, length-drop, drop_of_length-le}
-use Rattle.sched_text.proofs.Common.{Option, Result, option_map, drop-cons, cases_lt, ne_eqb, Parts, Schedule, Line, is_lf, end_number, line_at, SchedFault, BadLine, kind, is_tick, lacks_lines, is_cut_off, fault_at, fault_at_end, statement, schedule, Draft, new_draft, follow, ended, bad_line, ReadsPiece, FitsNetlist}
-use Rattle.std.specs.Prelude.{◌==◌, ◌&&◌, count_by}
+use Rattle.std.proofs.Common.{◌≡◌, ◌≢◌, ◌<◌, ◌≤◌, ℕ, ◌+◌, inl, inr, ◌⊎◌, Bool, cond, List, [], ◌++◌, length, drop, Some, None, Ok, Err, refl, sym, ap, subst, ◌∙◌, arith, length-append, length-drop, drop_of_length-le}
+use Rattle.sched_text.proofs.Common.{Option, Result, option_map, drop-cons, cases_lt, ne_eqb, Parts, Schedule, Line, end_number, line_at, SchedFault, BadLine, kind, is_tick, lacks_lines, is_cut_off, fault_at, fault_at_end, statement, schedule, Draft, new_draft, follow, ended, bad_line, ReadsPiece, FitsNetlist}
+use Rattle.std.specs.Prelude.{◌==◌, ◌&&◌}
 use Rattle.std.proofs.Math.Seq.{drop-append_seam}
 use Rattle.std.proofs.lemmas.List.{get_or-drop, get_or_append_left, drop-drop}
 use Rattle.blif_text.specs.Texts.{unless_bad, physical}

@@ -1,7 +1,7 @@
 -- The answer that there is once the lines of a schedule that are left are read.
-use Rattle.std.proofs.Common.{◌≡◌, ◌≢◌, ◌≤◌, ◌<◌, ℕ, zero, suc, ◌+◌, ◌-◌, Bool, true, false, cond, List, [], ◌∷◌, ◌++◌, length, drop, map, Some, None, Ok, Err, refl, sym, ap, ap₂, subst, inl, inr, ◌⊎◌, ◌∙◌, arith, drop_of_length-le}
-use Rattle.sched_text.proofs.Common.{Option, Result, unwrap_or, option_map, list_any, option_or, drop-cons, cases_lt, sum_by-cons, Parts, PlannedEvent, RoundPlan, Schedule, Line, line_at, SchedFault, unless, kind, is_tick, lacks_lines, nearest, begins_tick, ticks_begun, is_cut_off, fault_at, fault_at_end, first_fault, statement, schedule, Draft, new_draft, follow, ended}
-use Rattle.std.specs.Prelude.{◌&&◌, ◌||◌, ◌==◌, option_to_list}
+use Rattle.std.proofs.Common.{◌≡◌, ◌≤◌, ◌<◌, ℕ, suc, ◌+◌, Bool, true, false, cond, List, [], ◌∷◌, ◌++◌, length, drop, map, Some, None, Ok, Err, refl, sym, ap, ap₂, subst, ◌∙◌, arith, drop_of_length-le}
+use Rattle.sched_text.proofs.Common.{Option, unwrap_or, option_map, list_any, option_or, drop-cons, sum_by-cons, Parts, PlannedEvent, RoundPlan, Schedule, Line, line_at, SchedFault, unless, kind, is_tick, nearest, begins_tick, ticks_begun, is_cut_off, fault_at, fault_at_end, first_fault, statement, schedule, Draft, new_draft, follow, ended}
+use Rattle.std.specs.Prelude.{◌||◌, option_to_list}
 use Rattle.std.specs.List.{filter_map}
 use Rattle.std.proofs.lemmas.List.{append-nil, append_assoc}
 use Rattle.sched_text.specs.declared.place.Place.{Place}

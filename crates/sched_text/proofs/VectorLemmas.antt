@@ -1,23 +1,11 @@
 -- The answer that there is once the lines that are left are read, and what vectors are like.
-use Rattle.std.proofs.Common.{◌≡◌, ◌≢◌, ◌≤◌, ◌<◌, ℕ, suc, ◌+◌, Bool, true, false, List, [], ◌∷◌, ◌++◌, All, length, take, drop, map, get_or, Some, None, Ok, Err, refl, sym, ap, subst, ◌∙◌, arith, drop_of_length-le, eqb-true}
+use Rattle.std.proofs.Common.{◌≡◌, ◌≢◌, ◌≤◌, ◌<◌, ℕ, suc, ◌+◌, Bool, true, false, List, [], ◌∷◌, ◌++◌, All, length, drop, map, Some, None, Ok, Err, refl, sym, ap, subst, ◌∙◌, arith, drop_of_length-le, eqb-true}
 use Rattle.sched_text.proofs.Common.{Option, Result, codes, if◌then◌else◌, list_all, option_or, drop-cons, length-map, All-nil, All-cons, Line, line_at, SchedFault, unless, BadLine, WrongWidth, value_of}
 use Rattle.std.specs.Prelude.{◌&&◌, ◌||◌, ◌==◌, bytes_eq}
-use Rattle.std.proofs.lemmas.List.{append-nil, append_assoc, take_more}
+use Rattle.std.proofs.lemmas.List.{append-nil, append_assoc}
 use Rattle.cyc_base.specs.declared.trit.Trit.{Trit}
 use Rattle.cyc_base.specs.declared.trit.Trit.TheVariants.{Zero, One, X}
 use Rattle.sched_text.specs.Vectors.{is_value, is_dash, words_fault, vector_fault, vector_of_words, vector_of, first_fault, vectors_of, vectors, HaveWidth, AreKnown}
-
--- One more of the values of a word's characters.
-
-map-last : {X : Type 0} (f : ℕ → X) (xs : List ℕ) (y : ℕ) → map f (xs ++ y ∷ []) ≡ map f xs ++ f y ∷ []
-map-last f [] y = refl
-map-last f (x ∷ xs) y = ap (λ ys. f x ∷ ys) (map-last f xs y)
-
-pub map_taken : {X : Type 0} (f : ℕ → X) (xs : List ℕ) (i d : ℕ) (before after : List X) → i < length xs → after ≡ before ++ f (get_or xs i d) ∷ [] → before ≡ map f (take i xs) → after ≡ map f (take (i + 1) xs)
-map_taken f xs i d before after inside now was =
-    now
-    ∙ ap (λ ys. ys ++ f (get_or xs i d) ∷ []) was
-    ∙ sym (ap (map f) (take_more xs i d inside) ∙ map-last f (take i xs) (get_or xs i d))
 
 -- Reading on.
 

@@ -1,12 +1,12 @@
 -- A text of lines of names reads back as these lines.
 use Rattle.std.proofs.Common.{◌≡◌, ℕ, ◌+◌, List, [], ◌∷◌, ◌++◌, false, refl, sym, ap, ◌∙◌, append_assoc, append-nil, length}
 use Rattle.std.specs.Prelude.{All, Ok}
-use Rattle.sched_text.proofs.Common.{flat_map, lines, end_number, IsLine, numbered, behind, line_text}
+use Rattle.sched_text.proofs.Common.{flat_map, lines, end_number, IsLine, numbered, after_blank, line_text}
 use Rattle.blif_text.proofs.WrittenLines.{spaced, line_of}
 use Rattle.blif_text.proofs.WrittenLines as texts
 use Rattle.sched_text.specs.Written.{text_of}
 
-behind_spaced : (word : List ℕ) (rest : List (List ℕ)) → word ++ flat_map behind rest ≡ spaced (word ∷ rest)
+behind_spaced : (word : List ℕ) (rest : List (List ℕ)) → word ++ flat_map after_blank rest ≡ spaced (word ∷ rest)
 behind_spaced word [] = append-nil word
 behind_spaced word (next ∷ rest) = ap (λ text. word ++ 32 ∷ text) (behind_spaced next rest)
 
@@ -14,7 +14,7 @@ behind_spaced word (next ∷ rest) = ap (λ text. word ++ 32 ∷ text) (behind_s
 line_is : (words : List (List ℕ)) → line_text words ≡ line_of (λ ws. false) words ++ 10 ∷ []
 line_is [] = refl
 line_is (word ∷ rest) =
-    sym (append_assoc word (flat_map behind rest) (10 ∷ []))
+    sym (append_assoc word (flat_map after_blank rest) (10 ∷ []))
     ∙ ap (λ text. text ++ 10 ∷ []) (behind_spaced word rest ∙ sym (append-nil (spaced (word ∷ rest))))
 
 pub written_lines : (written : List (List (List ℕ))) → All IsLine written → lines (text_of written) false ≡ Ok (numbered 1 written)

@@ -5,13 +5,13 @@ use Rattle.netlist.specs.declared.parts.Parts.{Parts}
 use Rattle.delay_core.specs.declared.plan.PlannedEvent.{PlannedEvent}
 use Rattle.delay_core.specs.declared.plan.RoundPlan.{RoundPlan}
 use Rattle.delay_core.specs.declared.plan.Schedule.{Schedule}
-use Rattle.sched_text.specs.Written.{behind, line_text, bit_byte, bits_words, past_line, start_word, event_line}
+use Rattle.sched_text.specs.Written.{after_blank, line_text, bit_byte, bits_words, past_line, start_word, event_line}
 
 abbrev pub bits_text : List Bool → List ℕ
 bits_text bits = flat_map (λ b. bit_byte b ∷ []) bits
 
 abbrev pub ages_text : List ℕ → List ℕ
-ages_text ages = flat_map (λ age. behind (decimal age)) ages
+ages_text ages = flat_map (λ age. after_blank (decimal age)) ages
 
 abbrev pub past_text : List (List Bool) → List ℕ
 past_text past = flat_map (λ moment. line_text (past_line moment)) past

@@ -9,13 +9,13 @@ use Rattle.delay_core.specs.declared.plan.Schedule.{Schedule}
 
 -- Lines of words.
 
-abbrev pub behind : List ℕ → List ℕ
-behind word = 32 ∷ word
+abbrev pub after_blank : List ℕ → List ℕ
+after_blank word = 32 ∷ word
 
 -- the words of a line with one blank between, and LF
 abbrev pub line_text : List (List ℕ) → List ℕ
 line_text [] = codes "\n"
-line_text (word ∷ rest) = word ++ (flat_map behind rest ++ codes "\n")
+line_text (word ∷ rest) = word ++ (flat_map after_blank rest ++ codes "\n")
 
 -- The lines of a schedule, as words.
 

@@ -5,7 +5,7 @@ ghost use Rattle.std.specs.Result.{result_err};
 ghost use Rattle.blif_text.specs.Lines.{line_at};
 ghost use Rattle.sched_text.specs.declared.kind.Kind.TheVariants as kinds;
 ghost use Rattle.sched_text.specs.Answers.{Reads};
-ghost use Rattle.sched_text.specs.LineFaults.{arguments, is_bit as is_bit_byte, are_bits, bit_of, bits_of, width_fault, permits as permits_start, first_refused, start_fault, fault_of_words};
+ghost use Rattle.sched_text.specs.LineFaults.{arguments, is_bit as is_bit_byte, are_bits, bit_of, bits_of, width_fault, permits as permits_start, start_fault, fault_of_words};
 ghost use Rattle.sched_text.specs.Statements.{statement_of};
 
 use crate::fault::SchedFault;
@@ -21,14 +21,10 @@ fn all_bits(word: &[u8]) -> bool
     word.iter().all(|b| *b == b'0' || *b == b'1')
 }
 
-fn bits_of_word(alloc: Global, word: &[u8]) -> Result<Bits, AllocError>
-    ensures { IfOk result (λ bits. bits ≡ map bit_of word.now) }
+fn bits_of_word(alloc: Global, word: &[u8]) -> Result<Vec<bool>, AllocError>
+    ensures { IfOk result (λ bits. bits.items ≡ map bit_of word.now) }
 {
-    let mut bits = Vec::with_capacity(alloc, word.len())?;
-    for b in word {
-        bits.push_reserved(*b == b'1');
-    }
-    Ok(Bits::of(bits))
+    word.iter().map(|b| *b == b'1').collect(alloc)
 }
 
 // The bits behind the first word of a line. No second word is no bits.
@@ -48,7 +44,7 @@ fn read_bits(alloc: Global, lines: &Piece, i: usize) -> Result<Bits, SchedFault>
     if !all_bits(word) {
         return Err(SchedFault::BadLine { line });
     }
-    Ok(bits_of_word(alloc, word)?)
+    Ok(Bits::of(bits_of_word(alloc, word)?))
 }
 
 fn check_width(line: u64, width: usize, bits: &Bits) -> Result<(), SchedFault>

@@ -1,5 +1,5 @@
 // What the lines so far say of a schedule.
-ghost use Rattle.std.specs.Prelude.{◌≡◌, ◌++◌, ◌∷◌, [], IfOk, OnOk, Some};
+ghost use Rattle.std.specs.Prelude.{◌≡◌, IfOk, OnOk, Some};
 ghost use Rattle.sched_text.specs.Running.{seen_round, seen_tick, seen, new_round, new_tick, new_draft, add_event, without_round, begin_round, ended_tick, without_tick, follow, ended};
 
 use crate::statement::Statement;

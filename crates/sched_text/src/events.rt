@@ -1,5 +1,5 @@
 // Lines of events.
-ghost use Rattle.std.specs.Prelude.{◌≡◌, ◌≤◌, ◌<◌, length, drop, map, slice_index_or, [], IfSome, Some, None, if◌then◌else◌};
+ghost use Rattle.std.specs.Prelude.{◌≡◌, ◌≤◌, ◌<◌, length, drop, map, Some, None, if◌then◌else◌};
 ghost use Rattle.std.specs.List.{list_all};
 ghost use Rattle.blif_text.specs.Lines.{line_at};
 ghost use Rattle.sched_text.specs.declared.kind.Kind.TheVariants as kinds;

@@ -1,6 +1,5 @@
 // What a line of a schedule is.
 ghost use Rattle.std.specs.Prelude.{◌≡◌, ◌<◌, length};
-ghost use Rattle.std.specs.Str.{bytes_eq};
 ghost use Rattle.blif_text.specs.Lines.{line_at};
 ghost use Rattle.sched_text.specs.Kinds.{format_of, kind_of_head, kind_of, kind, may_follow, lacks_lines};
 

@@ -1,5 +1,5 @@
 // Decimal numbers.
-ghost use Rattle.std.specs.Prelude.{◌≡◌, ◌≤◌, ◌+◌, ◌-◌, ◌*◌, ◌&&◌, nat_le, true, false, MatchOption, IfSome};
+ghost use Rattle.std.specs.Prelude.{◌≡◌, ◌+◌, ◌-◌, ◌*◌, ◌&&◌, nat_le, true, false, MatchOption};
 ghost use Rattle.sched_text.specs.Numbers.{is_digit, up_to_most, number};
 
 // A number with one more digit, where this is one and the number isn't too great.

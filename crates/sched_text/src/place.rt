@@ -26,7 +26,7 @@ impl Place {
     }
 
     // That of the line behind one of this kind.
-    pub fn behind(self, kind: Kind) -> Place
+    pub fn after(self, kind: Kind) -> Place
         requires { self.begun < 18446744073709551615 }
         ensures before { result.before ≡ Some kind }
         ensures begun { result.begun ≡ cond (is_tick kind) 1 0 + self.begun }

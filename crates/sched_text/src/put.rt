@@ -1,11 +1,10 @@
 // The lines of a schedule.
-ghost use Rattle.std.specs.Prelude.{◌≡◌, ◌≤◌, ◌<◌, ◌++◌, ◌∷◌, [], All, codes, decimal, length, OnOk};
+ghost use Rattle.std.specs.Prelude.{◌≡◌, ◌<◌, ◌++◌, ◌∷◌, [], All, codes, decimal, length, OnOk};
 ghost use Rattle.std.specs.List.{flat_map};
 ghost use Rattle.cyc_io.specs.Taken.{IsAppended, sink_call};
 ghost use Rattle.delay_core.specs.EventLists.{planned_at};
-ghost use Rattle.netlist.specs.Netlists.{IsNetlist, gate_at};
 ghost use Rattle.sched_text.specs.Fitting.{IsOfGates, AreOfGates};
-ghost use Rattle.sched_text.specs.Written.{behind, line_text, bit_byte, bits_words, start_word, event_line};
+ghost use Rattle.sched_text.specs.Written.{after_blank, line_text, bit_byte, bits_words, start_word};
 ghost use Rattle.sched_text.specs.Putting.{bits_text, ages_text, past_text, event_text, events_text, round_text, rounds_text, tick_text, ticks_text, head_text, IsSmall, HasSmallAges, AreSmall, TicksAreSmall};
 
 use cyc_base::Bits;
@@ -39,7 +38,7 @@ fn put_some_bits<K: Sink>(sink: &mut K, bits: &[bool]) -> Result<(), Failed>
 // Appends bits behind a blank, where there are any.
 #[tactic(auto, using(cyc_io::proofs::TakenLemmas::appended_none))]
 fn put_bits_word<K: Sink>(sink: &mut K, bits: &[bool]) -> Result<(), Failed>
-    ensures { IsAppended (flat_map behind (bits_words bits.now)) (sink_call K.put K.faults sink.old sink.new) result }
+    ensures { IsAppended (flat_map after_blank (bits_words bits.now)) (sink_call K.put K.faults sink.old sink.new) result }
 {
     match bits {
         [] => Ok(()),
@@ -111,7 +110,7 @@ fn put_ages<K: Sink>(sink: &mut K, ages: &[u32]) -> Result<(), Failed>
 
 // Appends the words of an event's line behind the first.
 fn put_event_words<K: Sink>(sink: &mut K, name: &[u8], ages: &[u32]) -> Result<(), Failed>
-    ensures text { IsAppended (behind name.now ++ ages_text ages.now) (sink_call K.put K.faults sink.old sink.new) result }
+    ensures text { IsAppended (after_blank name.now ++ ages_text ages.now) (sink_call K.put K.faults sink.old sink.new) result }
     ensures small { OnOk result (All IsSmall ages.now) }
 {
     write_whole(sink, b" ")?;

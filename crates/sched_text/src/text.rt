@@ -1,10 +1,8 @@
 // Schedule files.
-ghost use Rattle.std.specs.Prelude.{◌≡◌, ◌≢◌, ◌+◌, ◌<◌, ◌≤◌, ◌^◌, ◌==◌, ◌&&◌, MatchResult, IfOk, IfErr, OnOk, Ok, Err, Some, None, length, option_map};
-ghost use Rattle.blif_text.specs.Lines.{line_at};
+ghost use Rattle.std.specs.Prelude.{◌≡◌, ◌≢◌, ◌+◌, ◌<◌, ◌≤◌, ◌^◌, MatchResult, IfOk, IfErr, OnOk, Ok, Err, None, length, option_map};
 ghost use Rattle.sched_text.specs.declared.fault.SchedFault.TheVariants.{BadLine, Memory};
 ghost use Rattle.sched_text.specs.Answers.{Answers, IsFault};
 ghost use Rattle.sched_text.specs.Fitting.{FitsNetlist};
-ghost use Rattle.sched_text.specs.Kinds.{lacks_lines as lacks_lines_behind};
 ghost use Rattle.sched_text.specs.Pieces.{bad_line};
 ghost use Rattle.sched_text.specs.ReadingOn.{ReadsPiece, FailsPiece};
 ghost use Rattle.sched_text.specs.Running.{seen, new_draft, ended};
@@ -12,8 +10,8 @@ ghost use Rattle.sched_text.specs.Schedules.{schedule_read};
 
 use crate::draft::Draft;
 use crate::fault::SchedFault;
-use crate::kind::{Kind, kind_at, lacks_lines};
-use crate::line::read_line;
+use crate::kind::kind_at;
+use crate::line::LineReader;
 use crate::pieces::{Piece, Pieces};
 use crate::place::Place;
 use blif_text::end_line;
@@ -21,37 +19,28 @@ use delay_core::Schedule;
 use netlist::Netlist;
 use std::alloc::Global;
 
-// Whether the text ends in a line of this kind, and a line is missing behind it.
-fn is_cut_off(end: u64, kind: Kind, lines: &Piece, i: usize) -> bool
-    requires { i < length lines.now }
-    ensures { result ≡ (((line_at lines.now i).number == end) && lacks_lines_behind (Some kind)) }
-{
-    lines.number(i) == end && lacks_lines(Some(kind))
-}
-
-// Reads the lines of a piece, and gives the place behind them.
-fn take_piece(
-    alloc: Global,
-    net: &Netlist,
-    ticks: usize,
-    end: u64,
-    lines: &Piece,
-    place: Place,
-    draft: &mut Draft,
-) -> Result<Place, SchedFault>
-    requires few { place.begun + length lines.now ≤ end }
-    ensures read { IfOk result (λ next. ReadsPiece net.now ticks end lines.now place (seen draft.old) next (seen draft.new) (length lines.now)) }
-    ensures fault { IfErr result (λ fault. fault ≢ Memory → FailsPiece net.now ticks end lines.now place (seen draft.old) fault) }
-{
-    let mut next = place;
-    for i in 0..lines.len() {
-        let kind = kind_at(lines, i);
-        let cut_off = is_cut_off(end, kind, lines, i);
-        let said = read_line(alloc, net, ticks, next, kind, cut_off, lines, i)?;
-        draft.take(alloc, said)?;
-        next = next.behind(kind);
+impl<'a> LineReader<'a> {
+    // Reads the lines of a piece, and gives the place behind them.
+    fn take_piece(
+        &self,
+        alloc: Global,
+        lines: &Piece,
+        place: Place,
+        draft: &mut Draft,
+    ) -> Result<Place, SchedFault>
+        requires few { place.begun + length lines.now ≤ self.now.end }
+        ensures read { IfOk result (λ next. ReadsPiece self.now.net.now self.now.ticks self.now.end lines.now place (seen draft.old) next (seen draft.new) (length lines.now)) }
+        ensures fault { IfErr result (λ fault. fault ≢ Memory → FailsPiece self.now.net.now self.now.ticks self.now.end lines.now place (seen draft.old) fault) }
+    {
+        let mut next = place;
+        for i in 0..lines.len() {
+            let kind = kind_at(lines, i);
+            let said = self.read_line(alloc, next, kind, lines, i)?;
+            draft.take(alloc, said)?;
+            next = next.after(kind);
+        }
+        Ok(next)
     }
-    Ok(next)
 }
 
 // The first bad byte of what is left comes before all other faults.
@@ -77,10 +66,11 @@ fn read_lines(
     ensures fault { IfErr result (λ fault. fault ≢ Memory → schedule_read bytes.now net.now ticks ≡ Err fault) }
 {
     let end = end_line(bytes);
+    let reader = LineReader { net, ticks, end };
     let mut pieces = Pieces::of(bytes);
     let mut place = Place::first();
     while let Some(lines) = pieces.next_piece(alloc)? {
-        match take_piece(alloc, net, ticks, end, &lines, place, draft) {
+        match reader.take_piece(alloc, &lines, place, draft) {
             Ok(next) => place = next,
             Err(fault) => {
                 check_rest(alloc, &mut pieces)?;

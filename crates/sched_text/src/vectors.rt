@@ -1,10 +1,10 @@
 // Vector files.
-ghost use Rattle.std.specs.Prelude.{◌≡◌, ◌≢◌, ◌<◌, ◌&&◌, ◌==◌, false, [], length, map, MatchResult, IfOk, Ok, Err};
+ghost use Rattle.std.specs.Prelude.{◌≡◌, ◌≢◌, ◌<◌, ◌&&◌, ◌==◌, false, length, map, MatchResult, IfOk, Ok, Err};
 ghost use Rattle.std.specs.List.{list_all};
 ghost use Rattle.std.specs.Result.{result_err};
 ghost use Rattle.blif_text.specs.Lines.{line_at};
 ghost use Rattle.sched_text.specs.declared.fault.SchedFault.TheVariants.{Memory};
-ghost use Rattle.sched_text.specs.Answers.{Answers, Reads};
+ghost use Rattle.sched_text.specs.Answers.{Reads};
 ghost use Rattle.sched_text.specs.Vectors.{is_value as is_value_byte, is_dash as stands_for_none, word_fault, value_of as value_of_byte, values_of as values_of_word, vector_fault, vector_of, vectors, vectors_read, HaveWidth, AreKnown};
 
 use crate::fault::SchedFault;
@@ -56,14 +56,10 @@ fn value_of(b: u8) -> Trit
     }
 }
 
-fn values(alloc: Global, word: &[u8]) -> Result<Trits, AllocError>
-    ensures { IfOk result (λ values. values ≡ map value_of_byte word.now) }
+fn values(alloc: Global, word: &[u8]) -> Result<Vec<Trit>, AllocError>
+    ensures { IfOk result (λ values. values.items ≡ map value_of_byte word.now) }
 {
-    let mut values = Vec::with_capacity(alloc, word.len())?;
-    for b in word {
-        values.push_reserved(value_of(*b));
-    }
-    Ok(Trits::of(values))
+    word.iter().map(|b| value_of(*b)).collect(alloc)
 }
 
 fn values_of(alloc: Global, word: &[u8], width: usize) -> Result<Trits, AllocError>
@@ -72,7 +68,7 @@ fn values_of(alloc: Global, word: &[u8], width: usize) -> Result<Trits, AllocErr
     if is_dash(word, width) {
         return Ok(Trits::of(Vec::new(alloc)));
     }
-    Ok(values(alloc, word)?)
+    Ok(Trits::of(values(alloc, word)?))
 }
 
 // The vector of a line.

@@ -1,5 +1,4 @@
-use Rattle.std.proofs.Common.{◌≡◌, ◌∙◌, ap}
-use Rattle.sched_text.proofs.Common.{PlannedEvent, gate_at, appended_then, appended_cut, appended_equal}
+use Rattle.sched_text.proofs.Common.{appended_then, appended_cut, appended_equal}
 use Rattle.delay_core.specs.EventLists.{planned_at}
 use Rattle.sched_text.proofs.WrittenTexts.{event_is}
 use Rattle.sched_text.proofs.put.put_event.Goals as goal

@@ -1,4 +1,4 @@
-use Rattle.std.proofs.Common.{◌+◌, ap}
+use Rattle.std.proofs.Common.{◌+◌}
 use Rattle.sched_text.proofs.Common.{option_map, BadLine, bad_line}
 use Rattle.sched_text.specs.Answers.{IsFault}
 use Rattle.sched_text.proofs.PieceLemmas.{is_err, fault_here, next_here}
