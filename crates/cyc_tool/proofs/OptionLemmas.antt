@@ -1,6 +1,6 @@
 -- A decision and a comparison by the options of a command, which end the call.
 use Rattle.std.proofs.Common.{◌≡◌, ◌⊎◌, ℕ, inl, inr, subst}
-use Rattle.cyc_tool.proofs.Common.{IfOk, Option, Arena, Parts, IsNetlist, EndsAt, IsCompared, IsDecided, Compares, Decides, Purpose, outcome_of, Outcome, no_memory}
+use Rattle.cyc_tool.proofs.Common.{IfOk, Arena, Parts, IsNetlist, IsCompared, IsDecided, Compares, Decides, Purpose, outcome_of, Outcome, no_memory}
 use Rattle.std.specs.Prelude.{unwrap_or}
 use Rattle.std.specs.declared.alloc.AllocError.{AllocError}
 use Rattle.std.specs.declared.result.Result.{Result}

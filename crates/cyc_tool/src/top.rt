@@ -1,19 +1,15 @@
 // The top call.
 ghost use Rattle.std.specs.Prelude.{◌≡◌, ◌⊎◌, ◌≤◌, [], All, None, Some, length};
-ghost use Rattle.aig_core.specs.Building.{columns};
-ghost use Rattle.care_sets.specs.Binding.{IsCareOf};
-ghost use Rattle.commands.specs.Seen.{command_seen, options_seen};
-ghost use Rattle.commands.specs.Words.{command_of, standard_input as standard_input_name};
-ghost use Rattle.netlist.specs.Netlists.{IsNetlist};
+ghost use Rattle.commands.specs.Seen.{options_seen};
+ghost use Rattle.commands.specs.Words.{command_of};
 ghost use Rattle.probes.specs.Changes.{changes};
 ghost use Rattle.sched_text.specs.Fitting.{FitsNetlist};
-ghost use Rattle.sched_text.specs.Vectors.{HaveWidth};
 ghost use Rattle.cyc_tool.specs.Calls.{shelf_call, sink_call, ComesTo, Follows, KeepsNodes, Tells, Runs, WriteFailed};
 ghost use Rattle.cyc_tool.specs.Causes.{GivesAnswer, HasCompared, HasExplained, HasGraph, HasRewritten, HasStormed, IsComplete, IsDoneWith, IsFaulty, IsHelpedBy, IsUnread, IsWithoutCommand, MeetsLimit, NoneFell, Reaches};
 ghost use Rattle.cyc_tool.specs.Hearing.{HearCommand, HearPlay, HearRun};
-ghost use Rattle.cyc_tool.specs.Plays.{AreInputs, known as known_of};
-ghost use Rattle.cyc_tool.specs.Plans.{Decides, decision, deciding, deciding_on, finding_loops, flattening, plan_of, play_on, playing, replaying, replaying_on, simulating, simulating_on};
-ghost use Rattle.cyc_tool.specs.Reading.{FollowsAlone, FollowsStill, FollowsStillAlone};
+ghost use Rattle.cyc_tool.specs.Plays.{AreInputs};
+ghost use Rattle.cyc_tool.specs.Plans.{deciding, finding_loops, flattening, play_on, playing, replaying, simulating};
+ghost use Rattle.cyc_tool.specs.Reading.{FollowsAlone, FollowsStillAlone};
 ghost use Rattle.cyc_tool.specs.Requests.{Shows, request, shown_by};
 ghost use Rattle.cyc_tool.specs.Seen.{end_of, outcome_of, purpose_seen, stop_outcome};
 
