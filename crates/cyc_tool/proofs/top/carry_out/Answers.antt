@@ -10,9 +10,6 @@ pub returns-in_default-clause-comes : goal.returns-in_default-clause-comes
 returns-in_default-clause-comes g c =
     comes_to_usage _ _ _ _ _ _ c.in_default.ensures (ends_or_lacks c.tell_usage.result (λ end. end ≡ usage) _ c.or_stop.ensures c.tell_usage.ensures)
 
-pub returns-in_default-clause-heard : goal.returns-in_default-clause-heard
-returns-in_default-clause-heard g c = rw c.in_default.ensures refl
-
 pub returns-in_default-clause-kept : goal.returns-in_default-clause-kept
 returns-in_default-clause-kept g c = keeps_still _ _
 
@@ -66,42 +63,6 @@ returns-clause-comes g c =
     let ending : Ending = Prints version_text in
     let ends = still_ends ending _ (ends_or_lacks c.tell_version.result (λ end. end ≡ told ending) _ c.or_stop-in-Version.ensures c.tell_version.ensures) in
     comes_to_command _ _ _ _ _ _ (rw c.in-Version.is at c.in-Some.ensures) ((ends.follows c.args.d.now).follows _ _)
-
-pub returns-in-Check-clause-heard : goal.returns-in-Check-clause-heard
-returns-in-Check-clause-heard g c = rw (rw c.in-Check.is at c.in-Some.ensures) refl
-
-pub returns-in-Rewrite-clause-heard : goal.returns-in-Rewrite-clause-heard
-returns-in-Rewrite-clause-heard g c = rw (rw c.in-Rewrite.is at c.in-Some.ensures) refl
-
-pub returns-in-Aiger-clause-heard : goal.returns-in-Aiger-clause-heard
-returns-in-Aiger-clause-heard g c = rw (rw c.in-Aiger.is at c.in-Some.ensures) refl
-
-pub returns-in-Explain-clause-heard : goal.returns-in-Explain-clause-heard
-returns-in-Explain-clause-heard g c = rw (rw c.in-Explain.is at c.in-Some.ensures) refl
-
-pub returns-in-Equal-clause-heard : goal.returns-in-Equal-clause-heard
-returns-in-Equal-clause-heard g c = rw (rw c.in-Equal.is at c.in-Some.ensures) refl
-
-pub returns-in-Flat-clause-heard : goal.returns-in-Flat-clause-heard
-returns-in-Flat-clause-heard g c = rw (rw c.in-Flat.is at c.in-Some.ensures) refl
-
-pub returns-in-Loops-clause-heard : goal.returns-in-Loops-clause-heard
-returns-in-Loops-clause-heard g c = rw (rw c.in-Loops.is at c.in-Some.ensures) refl
-
-pub returns-in-Sim-clause-heard : goal.returns-in-Sim-clause-heard
-returns-in-Sim-clause-heard g c = rw (rw c.in-Sim.is at c.in-Some.ensures) refl
-
-pub returns-in-Demo-clause-heard : goal.returns-in-Demo-clause-heard
-returns-in-Demo-clause-heard g c = rw (rw c.in-Demo.is at c.in-Some.ensures) refl
-
-pub returns-in-Storm-clause-heard : goal.returns-in-Storm-clause-heard
-returns-in-Storm-clause-heard g c = rw (rw c.in-Storm.is at c.in-Some.ensures) refl
-
-pub returns-in-Help-clause-heard : goal.returns-in-Help-clause-heard
-returns-in-Help-clause-heard g c = rw (rw c.in-Help.is at c.in-Some.ensures) refl
-
-pub returns-in-HelpOn-clause-heard : goal.returns-in-HelpOn-clause-heard
-returns-in-HelpOn-clause-heard g c = rw (rw c.in-HelpOn.is at c.in-Some.ensures) refl
 
 pub returns-in-Delays-clause-heard : goal.returns-in-Delays-clause-heard
 returns-in-Delays-clause-heard g c = rw (rw c.in-Delays.is at c.in-Some.ensures) c.delays.ensures.heard
