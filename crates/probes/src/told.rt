@@ -1,6 +1,6 @@
 //! The run of a recorded schedule, told to probes.
 
-ghost use Rattle.std.specs.Prelude.{◌≡◌, ◌⊎◌, ◌++◌, ◌∷◌, [], ◌+◌, ◌<◌, ◌≤◌, List, Bool, length, map, zip, drop, All, Some, None, IfErr, IfOk, OnOk, OnErr};
+ghost use Rattle.std.specs.Prelude.{◌≡◌, ◌⊎◌, ◌++◌, ◌∷◌, [], ◌+◌, ◌<◌, ◌≤◌, List, Bool, length, map, drop, All, Some, None, IfErr, IfOk, OnOk, OnErr};
 ghost use Rattle.std.specs.List.{cons_option};
 ghost use Rattle.netlist.specs.Netlists.{count};
 ghost use Rattle.netlist.specs.declared.parts.Parts.{Parts as parts_type};
@@ -9,6 +9,7 @@ ghost use Rattle.delay_core.specs.declared.change.Change.{Change as change_type}
 ghost use Rattle.delay_core.specs.EventLists.{planned_at};
 ghost use Rattle.delay_core.specs.Plays.{PlayState, most_rounds, after_event, no_events, next_tick, change_by};
 ghost use Rattle.delay_core.specs.Plans.{planned_fault, events_fault, after_planned, round_fault, after_plan, rounds_fault, after_plans, ticks_fault, first_opened, schedule_fault, run_of, IsPlayedFairly, end_of, SettledIsTold, SettlesInTime};
+ghost use Rattle.delay_core.specs.ScheduledRuns.{inputs_at, rounds_at, planned};
 ghost use Rattle.probes.specs.Changes.{openings, event_changes, round_changes, tick_changes, later_changes, changes};
 ghost use Rattle.probes.specs.Hearing.{EachHears, EachHearsPrefix};
 
@@ -17,7 +18,8 @@ use crate::probe::Probe;
 use crate::tell::tell;
 use cyc_base::{Bits, Sig};
 use delay_core::{
-    Change, EventFault, Events, Play, PlayFault, RoundPlan, Schedule, TickEnd, play_whole,
+    Change, EventFault, Events, Play, PlayFault, RoundPlan, Schedule, ScheduledRun, TickEnd,
+    play_whole,
 };
 use netlist::Netlist;
 use std::alloc::{AllocError, Global};
@@ -154,78 +156,58 @@ fn tell_tick(
 /// Starts a play and plays its first tick, which has no fault.
 fn tell_first<'a>(
     alloc: Global,
-    net: &'a Netlist,
-    schedule: &Schedule,
-    inputs: &[bool],
-    rounds: &[RoundPlan],
+    run: &ScheduledRun<'a>,
     probes: &mut [Box<dyn Probe>],
     wanted: Kind,
 ) -> Result<Play<'a>, AllocError>
-    requires past { All (λ (moment : List Bool). length moment ≡ count net.now) schedule.now.past }
-    requires latches { length schedule.now.latches ≡ length net.now.latches }
-    requires gates { length schedule.now.gates ≡ length net.now.gates }
-    requires inputs { length inputs.now ≡ length net.now.inputs }
-    requires none { rounds_fault (first_opened net.now schedule.now inputs.now) rounds.now ≡ None }
-    ensures played { IfOk result (λ play. play.state ≡ after_plans (first_opened net.now schedule.now inputs.now) rounds.now) }
-    ensures heard { OnOk result (EachHears kind heard text wanted (tick_changes (first_opened net.now schedule.now inputs.now) rounds.now) probes.old probes.new) }
-    ensures err { OnErr result (EachHearsPrefix kind heard text wanted (tick_changes (first_opened net.now schedule.now inputs.now) rounds.now) probes.old probes.new) }
+    requires some { 0 < length run.now.vectors }
+    requires none { rounds_fault (first_opened run.now.net run.now.schedule (inputs_at run.now 0)) (rounds_at run.now 0) ≡ None }
+    ensures played { IfOk result (λ play. play.state ≡ after_plans (first_opened run.now.net run.now.schedule (inputs_at run.now 0)) (rounds_at run.now 0)) }
+    ensures heard { OnOk result (EachHears kind heard text wanted (tick_changes (first_opened run.now.net run.now.schedule (inputs_at run.now 0)) (rounds_at run.now 0)) probes.old probes.new) }
+    ensures err { OnErr result (EachHearsPrefix kind heard text wanted (tick_changes (first_opened run.now.net run.now.schedule (inputs_at run.now 0)) (rounds_at run.now 0)) probes.old probes.new) }
 {
-    let mut play = Play::start_at(
-        alloc,
-        net,
-        schedule.window,
-        schedule.past.items(),
-        inputs,
-        schedule.latches.items(),
-        schedule.gates.items(),
-    )?;
-    tell_tick(net, &mut play, rounds, probes, wanted)?;
+    let mut play = run.start(alloc)?;
+    let rounds = run.rounds(0);
+    tell_tick(run.net(), &mut play, rounds, probes, wanted)?;
     Ok(play)
 }
 
 /// Opens the next tick, which has no fault, and plays it.
 fn tell_next(
-    net: &Netlist,
+    run: &ScheduledRun<'_>,
+    tick: usize,
     play: &mut Play,
-    inputs: &[bool],
-    rounds: &[RoundPlan],
     probes: &mut [Box<dyn Probe>],
     wanted: Kind,
 ) -> Result<(), AllocError>
-    requires net { play.old.state.net ≡ net.now }
-    requires begun { play.old.state.done ≡ no_events net.now }
-    requires inputs { length inputs.now ≡ length net.now.inputs }
-    requires none { rounds_fault (next_tick play.old.state inputs.now) rounds.now ≡ None }
-    ensures played { OnOk result (play.new.state ≡ after_plans (next_tick play.old.state inputs.now) rounds.now) }
-    ensures heard { OnOk result (EachHears kind heard text wanted (tick_changes (next_tick play.old.state inputs.now) rounds.now) probes.old probes.new) }
-    ensures err { OnErr result (EachHearsPrefix kind heard text wanted (tick_changes (next_tick play.old.state inputs.now) rounds.now) probes.old probes.new) }
+    requires tick { tick < length run.now.vectors }
+    requires net { play.old.state.net ≡ run.now.net }
+    requires begun { play.old.state.done ≡ no_events run.now.net }
+    requires none { rounds_fault (next_tick play.old.state (inputs_at run.now tick)) (rounds_at run.now tick) ≡ None }
+    ensures played { OnOk result (play.new.state ≡ after_plans (next_tick play.old.state (inputs_at run.now tick)) (rounds_at run.now tick)) }
+    ensures heard { OnOk result (EachHears kind heard text wanted (tick_changes (next_tick play.old.state (inputs_at run.now tick)) (rounds_at run.now tick)) probes.old probes.new) }
+    ensures err { OnErr result (EachHearsPrefix kind heard text wanted (tick_changes (next_tick play.old.state (inputs_at run.now tick)) (rounds_at run.now tick)) probes.old probes.new) }
 {
-    play.end_tick(inputs)?;
-    tell_tick(net, play, rounds, probes, wanted)
+    run.open(play, tick)?;
+    let rounds = run.rounds(tick);
+    tell_tick(run.net(), play, rounds, probes, wanted)
 }
 
-/// Plays the ticks behind the first, which have no fault, after it, and tells their changes.
+/// Plays the ticks behind the first, which have no fault, and tells their changes.
 fn tell_later(
-    net: &Netlist,
+    run: &ScheduledRun<'_>,
     play: &mut Play,
-    vectors: &[Bits],
-    schedule: &Schedule,
     probes: &mut [Box<dyn Probe>],
     wanted: Kind,
 ) -> Result<(), AllocError>
-    requires net { play.old.state.net ≡ net.now }
-    requires begun { play.old.state.done ≡ no_events net.now }
-    requires inputs { All (λ (inputs : List Bool). length inputs ≡ length net.now.inputs) vectors.now }
-    requires ticks { length schedule.now.ticks ≡ length vectors.now }
-    requires none { ticks_fault play.old.state (drop 1 (zip vectors.now schedule.now.ticks)) ≡ None }
-    ensures heard { OnOk result (EachHears kind heard text wanted (later_changes play.old.state (drop 1 (zip vectors.now schedule.now.ticks))) probes.old probes.new) }
-    ensures err { OnErr result (EachHearsPrefix kind heard text wanted (later_changes play.old.state (drop 1 (zip vectors.now schedule.now.ticks))) probes.old probes.new) }
+    requires net { play.old.state.net ≡ run.now.net }
+    requires begun { play.old.state.done ≡ no_events run.now.net }
+    requires none { ticks_fault play.old.state (drop 1 (planned run.now)) ≡ None }
+    ensures heard { OnOk result (EachHears kind heard text wanted (later_changes play.old.state (drop 1 (planned run.now))) probes.old probes.new) }
+    ensures err { OnErr result (EachHearsPrefix kind heard text wanted (later_changes play.old.state (drop 1 (planned run.now))) probes.old probes.new) }
 {
-    let plans = schedule.ticks.items();
-    for i in 1..vectors.len() {
-        let inputs = vectors[i].items();
-        let rounds = plans[i].items();
-        tell_next(net, play, inputs, rounds, probes, wanted)?;
+    for tick in 1..run.ticks() {
+        tell_next(run, tick, play, probes, wanted)?;
     }
     Ok(())
 }
@@ -233,29 +215,19 @@ fn tell_later(
 /// Plays a schedule without a fault whole, and tells its changes.
 fn tell_run(
     alloc: Global,
-    net: &Netlist,
-    vectors: &[Bits],
-    schedule: &Schedule,
+    run: &ScheduledRun<'_>,
     probes: &mut [Box<dyn Probe>],
     wanted: Kind,
 ) -> Result<(), AllocError>
-    requires past { All (λ (moment : List Bool). length moment ≡ count net.now) schedule.now.past }
-    requires latches { length schedule.now.latches ≡ length net.now.latches }
-    requires gates { length schedule.now.gates ≡ length net.now.gates }
-    requires inputs { All (λ (inputs : List Bool). length inputs ≡ length net.now.inputs) vectors.now }
-    requires ticks { length schedule.now.ticks ≡ length vectors.now }
-    requires none { schedule_fault net.now schedule.now vectors.now ≡ None }
-    ensures heard { OnOk result (EachHears kind heard text wanted (changes net.now schedule.now vectors.now) probes.old probes.new) }
-    ensures err { OnErr result (EachHearsPrefix kind heard text wanted (changes net.now schedule.now vectors.now) probes.old probes.new) }
+    requires { schedule_fault run.now.net run.now.schedule run.now.vectors ≡ None }
+    ensures heard { OnOk result (EachHears kind heard text wanted (changes run.now.net run.now.schedule run.now.vectors) probes.old probes.new) }
+    ensures err { OnErr result (EachHearsPrefix kind heard text wanted (changes run.now.net run.now.schedule run.now.vectors) probes.old probes.new) }
 {
-    if vectors.is_empty() {
+    if run.ticks() == 0 {
         return Ok(());
     }
-    let plans = schedule.ticks.items();
-    let first = vectors[0].items();
-    let rounds = plans[0].items();
-    let mut play = tell_first(alloc, net, schedule, first, rounds, probes, wanted)?;
-    tell_later(net, &mut play, vectors, schedule, probes, wanted)
+    let mut play = tell_first(alloc, run, probes, wanted)?;
+    tell_later(run, &mut play, probes, wanted)
 }
 
 /// Plays a recorded schedule whole as `play_whole` does, and tells each probe of the wanted kind the changes of its run:
@@ -288,6 +260,7 @@ pub fn play_told(
     ensures silent { IfErr result (λ fault. (fault ≡ PlayFault.Memory) ⊎ EachHears kind heard text wanted [] probes.old probes.new) }
 {
     let ends = play_whole(alloc, net, vectors, schedule)?;
-    tell_run(alloc, net, vectors, schedule, probes, wanted)?;
+    let run = ScheduledRun::new(net, vectors, schedule);
+    tell_run(alloc, &run, probes, wanted)?;
     Ok(ends)
 }

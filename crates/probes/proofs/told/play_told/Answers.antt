@@ -12,3 +12,9 @@ returns-clause-signals g c = changes_known c.args.net.now c.args.schedule.now c.
 
 pub returns-in_err-ends-clause-silent : goal.returns-in_err-ends-clause-silent
 returns-in_err-ends-clause-silent g c = each_err c.from_residual.result _ (λ fault. inr (each_none _ _ _ _ c.args.probes.now))
+
+pub returns-in_err-tell_run-clause-err : goal.returns-in_err-tell_run-clause-err
+returns-in_err-tell_run-clause-err g c = on_err c.from_residual-in_err-tell_run.result (rw c.new-run.ensures at c.in_err-tell_run.ensures.err)
+
+pub returns-clause-heard : goal.returns-clause-heard
+returns-clause-heard g c = rw c.new-run.ensures at c.in_ok-tell_run.ensures.heard
