@@ -22,7 +22,7 @@ use std::alloc::{AllocError, Global};
 
 // A netlist with vectors and a schedule for them.
 #[derive(Drop)]
-pub(crate) struct ScheduledRun<'a> {
+pub(crate) struct RecordedRun<'a> {
     pub net: &'a Netlist,
     pub vectors: &'a [Bits],
     pub schedule: &'a Schedule,
@@ -60,7 +60,7 @@ pub(crate) fn known(alloc: Global, vectors: &[Trits]) -> Result<Vec<Bits>, Alloc
 }
 
 // How the ticks of a run end, or the first fault in the order of play.
-pub(crate) fn played(alloc: Global, run: &ScheduledRun<'_>) -> Result<Vec<TickEnd>, FileError>
+pub(crate) fn played(alloc: Global, run: &RecordedRun<'_>) -> Result<Vec<TickEnd>, FileError>
     requires { FitsNetlist run.now.net.now (length run.now.vectors.now) run.now.schedule.now }
     ensures good { IfOk result (λ ends. played_meant run.now.net.now run.now.vectors.now run.now.schedule.now ≡ Ok ends.items) }
     ensures bad { IfErr result (λ error. IsErrorOf (played_meant run.now.net.now run.now.vectors.now run.now.schedule.now) (error_seen error)) }
@@ -74,7 +74,7 @@ pub(crate) fn played(alloc: Global, run: &ScheduledRun<'_>) -> Result<Vec<TickEn
 // The same run, told to the probes of a kind, which show it.
 pub(crate) fn probed(
     alloc: Global,
-    run: &ScheduledRun<'_>,
+    run: &RecordedRun<'_>,
     probes: &mut [Box<dyn Probe>],
     wanted: Kind,
 ) -> Result<ShownRun, FileError>

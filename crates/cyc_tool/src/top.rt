@@ -16,7 +16,7 @@ ghost use Rattle.cyc_tool.specs.Seen.{end_of, outcome_of, purpose_seen, stop_out
 use crate::compared::compare_files;
 use crate::decision::{Purpose, Task, tell_decision};
 use crate::outcome::{Outcome, Stop, or_stop};
-use crate::plays::{ScheduledRun, known, played, probed};
+use crate::plays::{RecordedRun, known, played, probed};
 use crate::reading::{read_care, read_netlist, read_schedule_file, read_vector_file, stop_at};
 use crate::ring::demo;
 use crate::status;
@@ -109,7 +109,7 @@ struct Replay<'a> {
 }
 
 // Plays a run by the schedule of this file, and tells no probe.
-fn play_alone(alloc: Global, run: &ScheduledRun<'_>, recorded: &Name) -> Result<Outcome, Stop>
+fn play_alone(alloc: Global, run: &RecordedRun<'_>, recorded: &Name) -> Result<Outcome, Stop>
     requires { FitsNetlist run.now.net.now (length run.now.vectors.now) run.now.schedule.now }
     ensures { (shows : Shows) → FollowsStillAlone (playing shows None recorded.now run.now.net.now run.now.vectors.now run.now.schedule.now) (end_of result) }
 {
@@ -122,7 +122,7 @@ fn play_alone(alloc: Global, run: &ScheduledRun<'_>, recorded: &Name) -> Result<
 // Plays it, tells the probes of a kind, and has them show it.
 fn play_probed(
     alloc: Global,
-    run: &ScheduledRun<'_>,
+    run: &RecordedRun<'_>,
     recorded: &Name,
     probes: &mut [Box<dyn Probe>],
     wanted: Kind,
@@ -140,7 +140,7 @@ fn play_probed(
 
 fn play(
     alloc: Global,
-    run: &ScheduledRun<'_>,
+    run: &RecordedRun<'_>,
     replay: &Replay<'_>,
     probes: &mut [Box<dyn Probe>],
 ) -> Result<Outcome, Stop>
@@ -172,7 +172,7 @@ fn play_file<S: Shelf>(
     ensures same { S.files shelf.new ≡ S.files shelf.old }
 {
     let schedule = read_schedule_file(alloc, shelf, net, vectors.len(), replay.recorded)?;
-    let run = ScheduledRun {
+    let run = RecordedRun {
         net,
         vectors,
         schedule: &schedule,
