@@ -33,10 +33,10 @@ use Rattle.contents.specs.NetlistFiles.{flat_result}
 
 -- a file that isn't too long has the care set of its text
 pub care_of_short : (net : Parts) (bytes : List ℕ) → length bytes ≤ MAX_FILE_BYTES → care_of net bytes ≡ care_models net (reads bytes)
-care_of_short net bytes short = ap (λ (t : Bool). if t then care_models net (reads bytes) else Err too_long) (let e : nat_le (length bytes) MAX_FILE_BYTES ≡ true = grind (arith, short) in e)
+care_of_short net bytes short = ap (λ (t : Bool). if t then care_models net (reads bytes) else Err (Some too_long)) (let e : nat_le (length bytes) MAX_FILE_BYTES ≡ true = grind (arith, short) in e)
 
-pub care_of_long : (net : Parts) (bytes : List ℕ) → MAX_FILE_BYTES < length bytes → care_of net bytes ≡ Err too_long
-care_of_long net bytes long = ap (λ (t : Bool). if t then care_models net (reads bytes) else Err too_long) (let e : nat_le (length bytes) MAX_FILE_BYTES ≡ false = grind (arith, long) in e)
+pub care_of_long : (net : Parts) (bytes : List ℕ) → MAX_FILE_BYTES < length bytes → care_of net bytes ≡ Err (Some too_long)
+care_of_long net bytes long = ap (λ (t : Bool). if t then care_models net (reads bytes) else Err (Some too_long)) (let e : nat_le (length bytes) MAX_FILE_BYTES ≡ false = grind (arith, long) in e)
 
 -- the test for loops tells of a walk that leads back
 loop_told : (net : Parts) → HasLoop net → has_loop net ≡ true

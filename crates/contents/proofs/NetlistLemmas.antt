@@ -18,10 +18,10 @@ use Rattle.contents.specs.NetlistFiles.{flat_result, models_result, netlist_of, 
 
 -- a file that isn't too long has the netlist of its text
 pub netlist_of_short : (bytes : List ℕ) → length bytes ≤ MAX_FILE_BYTES → netlist_of bytes ≡ models_result (reads bytes)
-netlist_of_short bytes short = ap (λ (t : Bool). if t then models_result (reads bytes) else Err too_long) (let e : nat_le (length bytes) MAX_FILE_BYTES ≡ true = grind (arith, short) in e)
+netlist_of_short bytes short = ap (λ (t : Bool). if t then models_result (reads bytes) else Err (Some too_long)) (let e : nat_le (length bytes) MAX_FILE_BYTES ≡ true = grind (arith, short) in e)
 
-pub netlist_of_long : (bytes : List ℕ) → MAX_FILE_BYTES < length bytes → netlist_of bytes ≡ Err too_long
-netlist_of_long bytes long = ap (λ (t : Bool). if t then models_result (reads bytes) else Err too_long) (let e : nat_le (length bytes) MAX_FILE_BYTES ≡ false = grind (arith, long) in e)
+pub netlist_of_long : (bytes : List ℕ) → MAX_FILE_BYTES < length bytes → netlist_of bytes ≡ Err (Some too_long)
+netlist_of_long bytes long = ap (λ (t : Bool). if t then models_result (reads bytes) else Err (Some too_long)) (let e : nat_le (length bytes) MAX_FILE_BYTES ≡ false = grind (arith, long) in e)
 
 -- Models that were read are some, so the first one is there.
 pub top_at : (models : List BlifModel) (d : BlifModel) → 0 < length models → (get_or models 0 d).name ≡ top_of models

@@ -46,37 +46,37 @@ models_fault net a i = first_there (
 abbrev pub bound_model : Parts → ℕ → Parts → CareModel
 bound_model net first model = record { net = model; first = first; columns = map (λ name. unwrap_or (column_of net name) 0) model.inputs }
 
-abbrev pub unless_fault : Option CareFault → CareSet → Result CareSet Fault
+abbrev pub unless_fault : Option CareFault → CareSet → Result CareSet (Option Fault)
 unless_fault None care = Ok care
 unless_fault (Some fault) care = Err (care_fault fault)
 
 -- the care set of two models, or their first fault
-abbrev pub bound : Parts → Option Parts → Option Parts → Result CareSet Fault
+abbrev pub bound : Parts → Option Parts → Option Parts → Result CareSet (Option Fault)
 bound net a i =
     unless_fault (models_fault net a i) (record { assume = option_map (bound_model net 0) a; invariant = option_map (bound_model net (length net.inputs)) i })
 
 -- the flat netlist of the model of this name, where the file has one
-abbrev pub some_part : Result Parts Fault → Result (Option Parts) Fault
+abbrev pub some_part : Result Parts (Option Fault) → Result (Option Parts) (Option Fault)
 some_part (Ok net) = Ok (Some net)
 some_part (Err fault) = Err fault
 
-abbrev pub part_of : List BlifModel → List ℕ → Result (Option Parts) Fault
+abbrev pub part_of : List BlifModel → List ℕ → Result (Option Parts) (Option Fault)
 part_of models name =
     if is_none (position (has_name name) models) then Ok None else some_part (flat_result (flat models name))
 
-abbrev pub with_invariant : Parts → Option Parts → Result (Option Parts) Fault → Result CareSet Fault
+abbrev pub with_invariant : Parts → Option Parts → Result (Option Parts) (Option Fault) → Result CareSet (Option Fault)
 with_invariant net a (Ok i) = bound net a i
 with_invariant net a (Err fault) = Err fault
 
-abbrev pub with_assume : Parts → List BlifModel → Result (Option Parts) Fault → Result CareSet Fault
+abbrev pub with_assume : Parts → List BlifModel → Result (Option Parts) (Option Fault) → Result CareSet (Option Fault)
 with_assume net models (Ok a) = with_invariant net a (part_of models (codes "invariant"))
 with_assume net models (Err fault) = Err fault
 
 -- the assumption is flattened first
-abbrev pub care_models : Parts → Result (List BlifModel) BlifFault → Result CareSet Fault
+abbrev pub care_models : Parts → Result (List BlifModel) BlifFault → Result CareSet (Option Fault)
 care_models net (Ok models) = with_assume net models (part_of models (codes "assume"))
 care_models net (Err fault) = Err (blif_fault fault)
 
 -- the care set of a file's bytes for a netlist, or the file's first fault
-abbrev pub care_of : Parts → List ℕ → Result CareSet Fault
-care_of net bytes = if nat_le (length bytes) MAX_FILE_BYTES then care_models net (reads bytes) else Err too_long
+abbrev pub care_of : Parts → List ℕ → Result CareSet (Option Fault)
+care_of net bytes = if nat_le (length bytes) MAX_FILE_BYTES then care_models net (reads bytes) else Err (Some too_long)

@@ -1,10 +1,10 @@
 // The codes of faults, and which fault an error of the readers is.
 ghost use Rattle.std.specs.Prelude.{◌≡◌, ◌⊎◌, IfOk, Some, None};
 ghost use Rattle.netlist.specs.Netlists.{gate_at};
-ghost use Rattle.report.specs.Texts.{IsCode, tail_text};
-ghost use Rattle.contents.specs.Faults.{of_file as whole, at_line, of_name, of_name_at, of_number_at, too_long as long};
-ghost use Rattle.contents.specs.ScheduleFiles.{event_fault, latch_name as name_of_latch, play_fault};
-ghost use Rattle.contents.specs.Seen.{care_error, error_seen, sched_error as sched_seen, tail_seen, text_error, walk_error};
+ghost use Rattle.report.specs.Texts.{tail_text};
+ghost use Rattle.contents.specs.Faults.{at_line, blif_fault, care_fault, flat_fault, of_file as whole, of_name, of_name_at, of_number_at, too_long as long};
+ghost use Rattle.contents.specs.ScheduleFiles.{event_fault, latch_name as name_of_latch, play_fault, sched_fault};
+ghost use Rattle.contents.specs.Seen.{error_seen, tail_seen};
 ghost use Rattle.delay_core.specs.declared.fault.EventFault.TheVariants as event_faults;
 ghost use Rattle.delay_core.specs.declared.fault.PlayFault.TheVariants as play_faults;
 
@@ -15,7 +15,7 @@ use cyc_base::Name;
 use delay_core::{EventFault, PlayFault};
 use flatten::FlatFault;
 use netlist::Netlist;
-use report::Tail;
+use report::{FaultCode, Tail};
 use sched_text::SchedFault;
 use std::alloc::{AllocError, Global};
 
@@ -40,8 +40,7 @@ impl From<AllocError> for FileError {
     }
 }
 
-fn of_file(code: u8) -> FileError
-    requires { IsCode code }
+fn of_file(code: FaultCode) -> FileError
     ensures { error_seen result ≡ Some (whole code) }
 {
     FileError::Has(Fault {
@@ -51,8 +50,7 @@ fn of_file(code: u8) -> FileError
     })
 }
 
-fn of_line(code: u8, line: u64) -> FileError
-    requires { IsCode code }
+fn of_line(code: FaultCode, line: u64) -> FileError
     ensures { error_seen result ≡ Some (at_line code line) }
 {
     FileError::Has(Fault {
@@ -62,8 +60,7 @@ fn of_line(code: u8, line: u64) -> FileError
     })
 }
 
-fn naming(code: u8, name: Name) -> FileError
-    requires { IsCode code }
+fn naming(code: FaultCode, name: Name) -> FileError
     ensures { error_seen result ≡ Some (of_name code name) }
 {
     FileError::Has(Fault {
@@ -73,8 +70,7 @@ fn naming(code: u8, name: Name) -> FileError
     })
 }
 
-fn naming_line(code: u8, line: u64, name: Name) -> FileError
-    requires { IsCode code }
+fn naming_line(code: FaultCode, line: u64, name: Name) -> FileError
     ensures { error_seen result ≡ Some (of_name_at code line name) }
 {
     FileError::Has(Fault {
@@ -84,8 +80,7 @@ fn naming_line(code: u8, line: u64, name: Name) -> FileError
     })
 }
 
-fn numbering_line(code: u8, line: u64, number: u64) -> FileError
-    requires { IsCode code }
+fn numbering_line(code: FaultCode, line: u64, number: u64) -> FileError
     ensures { error_seen result ≡ Some (of_number_at code line number) }
 {
     FileError::Has(Fault {
@@ -99,67 +94,67 @@ fn numbering_line(code: u8, line: u64, number: u64) -> FileError
 pub fn too_long() -> FileError
     ensures { error_seen result ≡ Some long }
 {
-    of_file(1)
+    of_file(FaultCode::FileTooLong)
 }
 
 impl From<BlifFault> for FileError {
-    ghost from_gives = { λ fault e. error_seen e ≡ text_error fault };
+    ghost from_gives = { λ fault e. error_seen e ≡ blif_fault fault };
 
     fn from(fault: BlifFault) -> Self {
         match fault {
-            BlifFault::BadByte { line } => of_line(2, line),
-            BlifFault::OutsideModel { line } => of_line(3, line),
-            BlifFault::BadModel { line } => of_line(4, line),
-            BlifFault::ModelTwice { line } => of_line(5, line),
-            BlifFault::LeftOut { line } => of_line(6, line),
-            BlifFault::UnknownDirective { line } => of_line(7, line),
-            BlifFault::StrayRow { line } => of_line(8, line),
-            BlifFault::BadRow { line } => of_line(9, line),
-            BlifFault::MixedRows { line } => of_line(10, line),
-            BlifFault::NoOutputName { line } => of_line(11, line),
-            BlifFault::TooManyPins { line } => of_line(12, line),
-            BlifFault::BadLatch { line } => of_line(13, line),
-            BlifFault::LevelLatch { line } => of_line(14, line),
-            BlifFault::BadSubckt { line } => of_line(15, line),
-            BlifFault::NoModel => of_file(16),
+            BlifFault::BadByte { line } => of_line(FaultCode::BadByte, line),
+            BlifFault::OutsideModel { line } => of_line(FaultCode::LineOutsideModel, line),
+            BlifFault::BadModel { line } => of_line(FaultCode::BadModelLine, line),
+            BlifFault::ModelTwice { line } => of_line(FaultCode::ModelTwice, line),
+            BlifFault::LeftOut { line } => of_line(FaultCode::DirectiveLeftOut, line),
+            BlifFault::UnknownDirective { line } => of_line(FaultCode::UnknownDirective, line),
+            BlifFault::StrayRow { line } => of_line(FaultCode::StrayRow, line),
+            BlifFault::BadRow { line } => of_line(FaultCode::BadRow, line),
+            BlifFault::MixedRows { line } => of_line(FaultCode::MixedRows, line),
+            BlifFault::NoOutputName { line } => of_line(FaultCode::NoOutputName, line),
+            BlifFault::TooManyPins { line } => of_line(FaultCode::TooManyPins, line),
+            BlifFault::BadLatch { line } => of_line(FaultCode::BadLatchLine, line),
+            BlifFault::LevelLatch { line } => of_line(FaultCode::LevelLatch, line),
+            BlifFault::BadSubckt { line } => of_line(FaultCode::BadSubcircuitLine, line),
+            BlifFault::NoModel => of_file(FaultCode::NoModel),
             BlifFault::Memory => FileError::Memory,
         }
     }
 }
 
 impl From<FlatFault> for FileError {
-    ghost from_gives = { λ fault e. error_seen e ≡ walk_error fault };
+    ghost from_gives = { λ fault e. error_seen e ≡ flat_fault fault };
 
     fn from(fault: FlatFault) -> Self {
         match fault {
-            FlatFault::UnknownModel { name } => naming(21, name),
-            FlatFault::Recursive { name } => naming(22, name),
-            FlatFault::UnknownFormal { name } => naming(23, name),
-            FlatFault::FormalTwice { name } => naming(24, name),
-            FlatFault::OpenInput { name } => naming(25, name),
-            FlatFault::TooLarge => of_file(26),
-            FlatFault::TooDeep { name } => naming(27, name),
-            FlatFault::DeclaredTwice { name } => naming(28, name),
-            FlatFault::DrivenTwice { name } => naming(29, name),
-            FlatFault::Undriven { name } => naming(30, name),
-            FlatFault::BadClock { name } => naming(31, name),
-            FlatFault::ClockRead { name } => naming(32, name),
+            FlatFault::UnknownModel { name } => naming(FaultCode::UnknownModel, name),
+            FlatFault::Recursive { name } => naming(FaultCode::RecursiveModel, name),
+            FlatFault::UnknownFormal { name } => naming(FaultCode::UnknownFormal, name),
+            FlatFault::FormalTwice { name } => naming(FaultCode::FormalTwice, name),
+            FlatFault::OpenInput { name } => naming(FaultCode::OpenInput, name),
+            FlatFault::TooLarge => of_file(FaultCode::NetlistTooLarge),
+            FlatFault::TooDeep { name } => naming(FaultCode::TooDeep, name),
+            FlatFault::DeclaredTwice { name } => naming(FaultCode::DeclaredTwice, name),
+            FlatFault::DrivenTwice { name } => naming(FaultCode::DrivenTwice, name),
+            FlatFault::Undriven { name } => naming(FaultCode::NotDriven, name),
+            FlatFault::BadClock { name } => naming(FaultCode::BadClock, name),
+            FlatFault::ClockRead { name } => naming(FaultCode::ClockRead, name),
             FlatFault::Memory => FileError::Memory,
         }
     }
 }
 
 impl From<CareFault> for FileError {
-    ghost from_gives = { λ fault e. error_seen e ≡ care_error fault };
+    ghost from_gives = { λ fault e. error_seen e ≡ care_fault fault };
 
     fn from(fault: CareFault) -> Self {
         match fault {
-            CareFault::NoModels => of_file(41),
-            CareFault::HasLatch { model } => naming(42, model),
-            CareFault::NotOneOutput { model } => naming(43, model),
-            CareFault::UnknownName { name } => naming(44, name),
-            CareFault::NotLatch { name } => naming(45, name),
-            CareFault::Loop { model } => naming(46, model),
+            CareFault::NoModels => of_file(FaultCode::NoCareModel),
+            CareFault::HasLatch { model } => naming(FaultCode::CareModelHasLatch, model),
+            CareFault::NotOneOutput { model } => naming(FaultCode::CareModelNeedsOneOutput, model),
+            CareFault::UnknownName { name } => naming(FaultCode::UnknownCareName, name),
+            CareFault::NotLatch { name } => naming(FaultCode::NotALatch, name),
+            CareFault::Loop { model } => naming(FaultCode::CareModelHasLoop, model),
             CareFault::Memory => FileError::Memory,
         }
     }
@@ -178,17 +173,17 @@ fn latch_name(alloc: Global, net: &Netlist, number: u32) -> Result<Name, AllocEr
 
 // The error of vectors or of a schedule for a netlist.
 pub(crate) fn sched_error(alloc: Global, net: &Netlist, fault: SchedFault) -> FileError
-    ensures { (error_seen result ≡ None) ⊎ (error_seen result ≡ sched_seen net.now fault) }
+    ensures { (error_seen result ≡ None) ⊎ (error_seen result ≡ sched_fault net.now fault) }
 {
     match fault {
-        SchedFault::BadLine { line } => of_line(51, line),
-        SchedFault::WrongWidth { line } => of_line(52, line),
-        SchedFault::UnknownGate { line, name } => naming_line(53, line, name),
+        SchedFault::BadLine { line } => of_line(FaultCode::BadLine, line),
+        SchedFault::WrongWidth { line } => of_line(FaultCode::WrongWidth, line),
+        SchedFault::UnknownGate { line, name } => naming_line(FaultCode::UnknownGate, line, name),
         SchedFault::BadStart { line, latch } => match latch_name(alloc, net, latch) {
-            Ok(name) => naming_line(54, line, name),
+            Ok(name) => naming_line(FaultCode::StartValueNotPermitted, line, name),
             Err(_) => FileError::Memory,
         },
-        SchedFault::TickCount { line } => of_line(55, line),
+        SchedFault::TickCount { line } => of_line(FaultCode::WrongNumberOfTicks, line),
         SchedFault::Memory => FileError::Memory,
     }
 }
@@ -205,24 +200,24 @@ fn gate_name(alloc: Global, net: &Netlist, number: u32) -> Result<Name, AllocErr
 }
 
 fn event_error(line: u64, fault: EventFault) -> FileError
-    ensures { (error_seen result ≡ None) ⊎ (error_seen result ≡ Some (event_fault line fault)) }
+    ensures { (error_seen result ≡ None) ⊎ (error_seen result ≡ event_fault line fault) }
 {
     match fault {
-        EventFault::NoGate => of_line(53, line),
-        EventFault::AgeCount => of_line(56, line),
-        EventFault::TooOld { pin } => numbering_line(57, line, u64::from(pin)),
+        EventFault::NoGate => of_line(FaultCode::UnknownGate, line),
+        EventFault::AgeCount => of_line(FaultCode::WrongNumberOfAges, line),
+        EventFault::TooOld { pin } => numbering_line(FaultCode::AgeTooOld, line, u64::from(pin)),
         EventFault::Memory => FileError::Memory,
     }
 }
 
 /// The error of a schedule file whose play has this fault: the fault, or want of memory.
 pub fn play_error(alloc: Global, net: &Netlist, fault: PlayFault) -> FileError
-    ensures { (error_seen result ≡ None) ⊎ (error_seen result ≡ Some (play_fault net.now fault)) }
+    ensures { (error_seen result ≡ None) ⊎ (error_seen result ≡ play_fault net.now fault) }
 {
     match fault {
         PlayFault::Event { line, fault } => event_error(line, fault),
         PlayFault::Unfair { line, gate } => match gate_name(alloc, net, gate) {
-            Ok(name) => naming_line(58, line, name),
+            Ok(name) => naming_line(FaultCode::GateWithoutEvent, line, name),
             Err(_) => FileError::Memory,
         },
         PlayFault::Memory => FileError::Memory,

@@ -1,6 +1,5 @@
-ghost use Rattle.report.specs.Texts.{IsCode};
-
 use cyc_base::Name;
+use report::FaultCode;
 
 /// What stands behind the words of a fault.
 #[derive(Drop)]
@@ -13,10 +12,9 @@ pub enum FaultTail {
 /// A fault of a file: its code, its line where it has one, and what stands behind its words.
 #[derive(Drop)]
 pub struct Fault {
-    pub code: u8,
+    pub code: FaultCode,
     pub line: Option<u64>,
     pub tail: FaultTail,
-    ghost is_code: { IsCode code },
 }
 
 /// Why the bytes of a file have no meaning.

@@ -7,6 +7,7 @@
 
 mod explain_text;
 mod fault;
+mod fault_code;
 mod help;
 mod loop_text;
 mod message;
@@ -15,7 +16,8 @@ mod tick;
 mod verdict;
 
 pub use explain_text::put_explained;
-pub use fault::{Tail, put_fault};
+pub use fault::{Tail, put_fault, put_file_fault};
+pub use fault_code::FaultCode;
 pub use help::{put_help, put_topic, put_version};
 pub use loop_text::{put_loop, put_loops};
 pub use message::{

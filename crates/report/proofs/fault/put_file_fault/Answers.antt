@@ -1,5 +1,5 @@
 use Rattle.cyc_io.proofs.TakenLemmas.{appended_then, appended_cut}
-use Rattle.report.proofs.fault.put_fault.Goals as goal
+use Rattle.report.proofs.fault.put_file_fault.Goals as goal
 
 pub returns-in_err-put_place : goal.returns-in_err-put_place
 returns-in_err-put_place g c = appended_cut _ _ _ _ _ c.in_err-put_place.ensures c.from_residual.ensures.0
