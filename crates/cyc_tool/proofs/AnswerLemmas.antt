@@ -2,7 +2,7 @@
 use Rattle.std.proofs.Common.{arith, ◌≡◌, ◌⊎◌, ℕ, List, [], ◌∷◌, Some, None, refl, sym, ap, subst, ◌∙◌, inl, inr}
 use Rattle.std.specs.Prelude.{IfSome, IsSomeAnd}
 use Rattle.std.specs.Option.{option_map_or}
-use Rattle.cyc_tool.proofs.Common.{Option, Arena, Files, ShelfCall, AreGiven, rest_of, EndsAt, ComesTo, IsDecided, IsCompared, Explained, Limit, Found, Unfinished, Runs, Purpose, Judges, Rewrites, WritesGraph, Explains, Demonstrates, Storms, Plan, Reads, Faulty, Ends, Decides, Compares, plan_of, Outcome, no_memory, Command}
+use Rattle.cyc_tool.proofs.Common.{Option, Arena, Files, ShelfCall, AreGiven, rest_of, EndsAt, ComesTo, IsDecided, IsCompared, Explained, Limit, Found, Unfinished, Runs, Purpose, Judges, Rewrites, WritesGraph, Explains, Demonstrates, Storms, Plan, Reads, Faulty, WantsMemory, Ends, Decides, Compares, plan_of, Outcome, no_memory, Command}
 use Rattle.cyc_io.specs.Files.{IsFile}
 use Rattle.cyc_tool.specs.Answer.{outcome_at, answer}
 use Rattle.cyc_tool.specs.Calls.{SinkCall, ReadFailed, IsExplained, Verdict, IsTold, Tells}
@@ -25,6 +25,7 @@ none_failed_later shelf files (bytes ∷ given) (Reads role name next) is gave w
     let here : (ReadFailed shelf name → ⊥) × NoneFailed shelf files (next bytes) = subst P (told_file shelf files name bytes is gave.0) well in
     none_failed_later shelf files given (next bytes) is gave.2 here.1
 none_failed_later shelf files (bytes ∷ given) (Faulty name fault) is gave well = absurd gave
+none_failed_later shelf files (bytes ∷ given) WantsMemory is gave well = absurd gave
 none_failed_later shelf files (bytes ∷ given) (Ends ending) is gave well = absurd gave
 none_failed_later shelf files (bytes ∷ given) (Decides decision purpose) is gave well = absurd gave
 none_failed_later shelf files (bytes ∷ given) (Compares c) is gave well = absurd gave
@@ -36,6 +37,7 @@ same_outcome shelf files (bytes ∷ given) (Reads role name next) is gave =
     same_outcome shelf files given (next bytes) is gave.2
     ∙ sym (ap (λ (file : Option (List ℕ)). option_map_or (λ text. outcome_at files (next text)) file (read_failed name)) (told_file shelf files name bytes is gave.0))
 same_outcome shelf files (bytes ∷ given) (Faulty name fault) is gave = absurd gave
+same_outcome shelf files (bytes ∷ given) WantsMemory is gave = absurd gave
 same_outcome shelf files (bytes ∷ given) (Ends ending) is gave = absurd gave
 same_outcome shelf files (bytes ∷ given) (Decides decision purpose) is gave = absurd gave
 same_outcome shelf files (bytes ∷ given) (Compares c) is gave = absurd gave
@@ -61,6 +63,7 @@ ends_told shelf files nodes end (Reads role name next) well ends = by_file (file
         IsAnswer (ends.1 ∙ sym (ap (λ (f : Option (List ℕ)). option_map_or (λ text. outcome_at files (next text)) f (read_failed name)) is))
     by_file (Some bytes) is fails = absurd (fails.0 ends.0)
 ends_told shelf files nodes end (Faulty name fault) well ends = IsAnswer ends
+ends_told shelf files nodes end WantsMemory well ends = absurd ends
 ends_told shelf files nodes end (Ends ending) well ends = IsAnswer ends
 ends_told shelf files nodes end (Decides decision purpose) well ends = by_decision ends.1
   where
@@ -133,6 +136,7 @@ explains_wire out err end status (Decides decision (Storms rounds)) whole explai
 explains_wire out err end status (Compares c) whole explained = absurd explained
 explains_wire out err end status (Reads role name next) whole explained = absurd explained
 explains_wire out err end status (Faulty name fault) whole explained = absurd explained
+explains_wire out err end status WantsMemory whole explained = absurd explained
 explains_wire out err end status (Ends ending) whole explained = absurd explained
 
 wire_explained : (request : Request) (shelf : ShelfCall) (out err : SinkCall) (end : Outcome) (status : ℕ) → IsTold end out err status
@@ -171,6 +175,7 @@ gives_answer request shelf nodes out err status runs = at_files shelf.files refl
 not_met : (nodes : Arena) (rest : Plan) → IsEnoughFor rest → MeetsLimit nodes rest → ⊥
 not_met nodes (Reads role name next) is met = met
 not_met nodes (Faulty name fault) is met = met
+not_met nodes WantsMemory is met = met
 not_met nodes (Ends ending) is met = met
 not_met nodes (Decides decision purpose) is met =
     let below = met.below.below is.width is.wide in

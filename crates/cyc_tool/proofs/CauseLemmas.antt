@@ -1,6 +1,6 @@
 -- The cause of each status of a run.
 use Rattle.std.proofs.Common.{◌≡◌, ◌≢◌, ◌≤◌, ◌⊎◌, ℕ, Bool, true, false, List, [], ◌∷◌, Some, None, refl, sym, ap, subst, ◌∙◌, inl, inr, arith}
-use Rattle.cyc_tool.proofs.Common.{nat_le, if◌then◌else◌, Option, Arena, Parts, IsNetlist, written, Sig, IsRefusalOf, Refusal, Undetermined, told, ShelfCall, AreGiven, EndsAt, rest_of, ComesTo, Follows, IsDecided, IsCompared, Explained, Limit, Found, Unfinished, Runs, Ending, Prints, Outgrows, Purpose, Judges, Rewrites, WritesGraph, Explains, Demonstrates, Storms, Plan, Reads, Faulty, Ends, Decides, Compares, plan_of, Outcome, no_memory, Form, Command}
+use Rattle.cyc_tool.proofs.Common.{nat_le, if◌then◌else◌, Option, Arena, Parts, IsNetlist, written, Sig, IsRefusalOf, Refusal, Undetermined, told, ShelfCall, AreGiven, EndsAt, rest_of, ComesTo, Follows, IsDecided, IsCompared, Explained, Limit, Found, Unfinished, Runs, Ending, Prints, Outgrows, Purpose, Judges, Rewrites, WritesGraph, Explains, Demonstrates, Storms, Plan, Reads, Faulty, WantsMemory, Ends, Decides, Compares, plan_of, Outcome, no_memory, Form, Command}
 use Rattle.std.specs.Prelude.{◌+◌, IsSomeAnd, length}
 use Rattle.std.proofs.lemmas.Option.{none-some}
 use Rattle.accepted_runs.proofs.HarmlessLemmas.{accepted_is_harmless}
@@ -69,6 +69,7 @@ verdict_is decision (Some refused) valid is =
 shown_at : (shelf : ShelfCall) (nodes : Arena) (end : Outcome) (rest : Plan) → EndsAt shelf nodes end rest → Shown shelf nodes rest end.status
 shown_at shelf nodes end (Reads role name next) ends = Unread ends.0 (ap status_of ends.1)
 shown_at shelf nodes end (Faulty name fault) ends = Fault tt (ap status_of ends)
+shown_at shelf nodes end WantsMemory ends = absurd ends
 shown_at shelf nodes end (Ends ending) ends = Done (ap status_of ends) (ending_status ending end.status (ap status_of ends))
 shown_at shelf nodes end (Decides decision purpose) ends = by_decision ends.1
   where
@@ -285,6 +286,7 @@ has_rewritten : (shelf : ShelfCall) (nodes : Arena) (out : SinkCall) (end : Outc
     → EndsAt shelf nodes end rest → HasRewritten out rest
 has_rewritten shelf nodes out end (Reads role name next) done took ends = tt
 has_rewritten shelf nodes out end (Faulty name fault) done took ends = tt
+has_rewritten shelf nodes out end WantsMemory done took ends = tt
 has_rewritten shelf nodes out end (Ends ending) done took ends = tt
 has_rewritten shelf nodes out end (Compares c) done took ends = tt
 has_rewritten shelf nodes out end (Decides decision Judges) done took ends = tt
@@ -321,6 +323,7 @@ has_graph : (shelf : ShelfCall) (nodes : Arena) (out : SinkCall) (end : Outcome)
     → EndsAt shelf nodes end rest → HasGraph out rest
 has_graph shelf nodes out end (Reads role name next) done took ends = tt
 has_graph shelf nodes out end (Faulty name fault) done took ends = tt
+has_graph shelf nodes out end WantsMemory done took ends = tt
 has_graph shelf nodes out end (Ends ending) done took ends = tt
 has_graph shelf nodes out end (Compares c) done took ends = tt
 has_graph shelf nodes out end (Decides decision Judges) done took ends = tt
@@ -369,6 +372,7 @@ has_stormed : StormsNeverRest → (shelf : ShelfCall) (nodes : Arena) (out : Sin
     → EndsAt shelf nodes end rest → HasStormed out rest
 has_stormed law shelf nodes out end (Reads role name next) done took ends = tt
 has_stormed law shelf nodes out end (Faulty name fault) done took ends = tt
+has_stormed law shelf nodes out end WantsMemory done took ends = tt
 has_stormed law shelf nodes out end (Ends ending) done took ends = tt
 has_stormed law shelf nodes out end (Compares c) done took ends = tt
 has_stormed law shelf nodes out end (Decides decision Judges) done took ends = tt
@@ -418,6 +422,7 @@ has_compared : (shelf : ShelfCall) (nodes : Arena) (out : SinkCall) (end : Outco
     → EndsAt shelf nodes end rest → HasCompared out rest
 has_compared shelf nodes out end (Reads role name next) done took ends = tt
 has_compared shelf nodes out end (Faulty name fault) done took ends = tt
+has_compared shelf nodes out end WantsMemory done took ends = tt
 has_compared shelf nodes out end (Ends ending) done took ends = tt
 has_compared shelf nodes out end (Decides decision purpose) done took ends = tt
 has_compared shelf nodes out end (Compares c) done took ends = by_comparison ends
@@ -456,6 +461,7 @@ has_explained : (shelf : ShelfCall) (nodes : Arena) (out err : SinkCall) (end : 
     → Takes err end.err → EndsAt shelf nodes end rest → HasExplained out err rest
 has_explained shelf nodes out err end (Reads role name next) one took other ends = tt
 has_explained shelf nodes out err end (Faulty name fault) one took other ends = tt
+has_explained shelf nodes out err end WantsMemory one took other ends = tt
 has_explained shelf nodes out err end (Ends ending) one took other ends = tt
 has_explained shelf nodes out err end (Compares c) one took other ends = tt
 has_explained shelf nodes out err end (Decides decision Judges) one took other ends = tt

@@ -1,6 +1,6 @@
 -- Going along a plan, from one part of a call to the next.
 use Rattle.std.proofs.Common.{arith, ◌≡◌, ◌≢◌, ◌⊎◌, ℕ, ◌≤◌, List, [], ◌∷◌, ◌++◌, Some, None, Ok, Err, refl, sym, ap, subst, ◌∙◌, inl, inr}
-use Rattle.cyc_tool.proofs.Common.{IfOk, Option, Arena, Counts, Files, AreGiven, rest_of, EndsAt, Follows, IsErrorOf, told, Ending, Plan, Reads, Faulty, Ends, Decides, Compares, GoesOn, StopsIn, outcome_of, Outcome, no_memory}
+use Rattle.cyc_tool.proofs.Common.{IfOk, Option, Arena, Counts, Files, AreGiven, rest_of, EndsAt, Follows, IsErrorOf, told, Ending, Plan, Reads, Faulty, WantsMemory, Ends, Decides, Compares, GoesOn, StopsIn, outcome_of, Outcome, no_memory}
 use Rattle.std.specs.declared.alloc.AllocError.{AllocError}
 use Rattle.std.specs.declared.result.Result.{Result}
 use Rattle.std.specs.List.{AllByRecursion}
@@ -18,6 +18,7 @@ gave_more : (files : Option Files) (given more : List (List ℕ)) (plan : Plan) 
 gave_more files [] more plan gave later = later
 gave_more files (bytes ∷ given) more (Reads role name next) gave later = (gave.0, gave.1, gave_more files given more (next bytes) gave.2 later)
 gave_more files (bytes ∷ given) more (Faulty name fault) gave later = absurd gave
+gave_more files (bytes ∷ given) more WantsMemory gave later = absurd gave
 gave_more files (bytes ∷ given) more (Ends ending) gave later = absurd gave
 gave_more files (bytes ∷ given) more (Decides decision purpose) gave later = absurd gave
 gave_more files (bytes ∷ given) more (Compares c) gave later = absurd gave
@@ -27,6 +28,7 @@ rest_more : (files : Option Files) (given more : List (List ℕ)) (plan : Plan) 
 rest_more files [] more plan gave = refl
 rest_more files (bytes ∷ given) more (Reads role name next) gave = rest_more files given more (next bytes) gave.2
 rest_more files (bytes ∷ given) more (Faulty name fault) gave = absurd gave
+rest_more files (bytes ∷ given) more WantsMemory gave = absurd gave
 rest_more files (bytes ∷ given) more (Ends ending) gave = absurd gave
 rest_more files (bytes ∷ given) more (Decides decision purpose) gave = absurd gave
 rest_more files (bytes ∷ given) more (Compares c) gave = absurd gave
@@ -37,11 +39,13 @@ names_first : (Q : List ℕ → Type 0) (given more : List (List ℕ)) (plan : P
 names_first Q [] [] plan all = all
 names_first Q [] (bytes ∷ more) (Reads role name next) all = (all.0, tt)
 names_first Q [] (bytes ∷ more) (Faulty name fault) all = tt
+names_first Q [] (bytes ∷ more) WantsMemory all = tt
 names_first Q [] (bytes ∷ more) (Ends ending) all = tt
 names_first Q [] (bytes ∷ more) (Decides decision purpose) all = tt
 names_first Q [] (bytes ∷ more) (Compares c) all = tt
 names_first Q (bytes ∷ given) more (Reads role name next) all = (all.0, names_first Q given more (next bytes) all.1)
 names_first Q (bytes ∷ given) more (Faulty name fault) all = tt
+names_first Q (bytes ∷ given) more WantsMemory all = tt
 names_first Q (bytes ∷ given) more (Ends ending) all = tt
 names_first Q (bytes ∷ given) more (Decides decision purpose) all = tt
 names_first Q (bytes ∷ given) more (Compares c) all = tt
@@ -51,6 +55,7 @@ names_later : (Q : List ℕ → Type 0) (files : Option Files) (given more : Lis
 names_later Q files [] more plan gave all = all
 names_later Q files (bytes ∷ given) more (Reads role name next) gave all = names_later Q files given more (next bytes) gave.2 all.1
 names_later Q files (bytes ∷ given) more (Faulty name fault) gave all = absurd gave
+names_later Q files (bytes ∷ given) more WantsMemory gave all = absurd gave
 names_later Q files (bytes ∷ given) more (Ends ending) gave all = absurd gave
 names_later Q files (bytes ∷ given) more (Decides decision purpose) gave all = absurd gave
 names_later Q files (bytes ∷ given) more (Compares c) gave all = absurd gave
@@ -60,6 +65,7 @@ ends_before : (files : Option Files) (a b c : Counts) (nodes : Arena) (end : Out
     → EndsAt (record { files = files; before = b; now = c }) nodes end rest → EndsAt (record { files = files; before = a; now = c }) nodes end rest
 ends_before files a b c nodes end (Reads role name next) later ends = (Rose_later (a name) (b name) (c name) (later name) ends.0, ends.1)
 ends_before files a b c nodes end (Faulty name fault) later ends = ends
+ends_before files a b c nodes end WantsMemory later ends = ends
 ends_before files a b c nodes end (Ends ending) later ends = ends
 ends_before files a b c nodes end (Decides decision purpose) later ends = ends
 ends_before files a b c nodes end (Compares comparison) later ends = ends
@@ -162,7 +168,7 @@ pub stops_alone : {T : Type 0} (plan : (T → Plan) → Plan) (next : T → Plan
 stops_alone plan next files a b end stops = record { follows = stops.follows next }
 
 -- A text means what is used of it.
-pub used : {T : Type 0} (name : List ℕ) (meaning : Result T Fault) (value : T) (next : T → Plan) (files : Option Files) (a b : Counts) (nodes : Arena) (end : Outcome)
+pub used : {T : Type 0} (name : List ℕ) (meaning : Result T (Option Fault)) (value : T) (next : T → Plan) (files : Option Files) (a b : Counts) (nodes : Arena) (end : Outcome)
     → meaning ≡ Ok value → Follows (next value) (record { files = files; before = a; now = b }) nodes end
     → Follows (using name meaning next) (record { files = files; before = a; now = b }) nodes end
 used name meaning value next files a b nodes end is follows =
@@ -170,7 +176,7 @@ used name meaning value next files a b nodes end is follows =
     subst P (sym (ap (λ r. using name r next) is)) follows
 
 -- Or its fault ends the call.
-pub stopped : {T : Type 0} (name : List ℕ) (meaning : Result T Fault) (next : T → Plan) (files : Option Files) (counts : Counts) (nodes : Arena) (end : Outcome)
+pub stopped : {T : Type 0} (name : List ℕ) (meaning : Result T (Option Fault)) (next : T → Plan) (files : Option Files) (counts : Counts) (nodes : Arena) (end : Outcome)
     → IsStoppedBy name meaning end → Follows (using name meaning next) (record { files = files; before = counts; now = counts }) nodes end
 stopped {T} name meaning next files counts nodes end stop = by_error stop.error stop.is stop.stops
   where
@@ -189,7 +195,7 @@ still_ends ending end ends = record {
   follows = λ nodes. record { follows = λ files counts. follows_still files counts nodes end (Ends ending) ends };
 }
 
-pub still_used : {T : Type 0} (name : List ℕ) (meaning : Result T Fault) (value : T) (next : T → Plan) (end : Outcome)
+pub still_used : {T : Type 0} (name : List ℕ) (meaning : Result T (Option Fault)) (value : T) (next : T → Plan) (end : Outcome)
     → meaning ≡ Ok value → FollowsStillAlone (next value) end → FollowsStillAlone (using name meaning next) end
 still_used name meaning value next end is follows = record {
   follows = λ nodes. record {
@@ -197,7 +203,7 @@ still_used name meaning value next end is follows = record {
   };
 }
 
-pub still_stopped : {T : Type 0} (name : List ℕ) (meaning : Result T Fault) (next : T → Plan) (end : Outcome)
+pub still_stopped : {T : Type 0} (name : List ℕ) (meaning : Result T (Option Fault)) (next : T → Plan) (end : Outcome)
     → IsStoppedBy name meaning end → FollowsStillAlone (using name meaning next) end
 still_stopped name meaning next end stop = record {
   follows = λ nodes. record { follows = λ files counts. stopped name meaning next files counts nodes end stop };

@@ -13,13 +13,13 @@ use Rattle.cyc_tool.specs.Texts.{has_fault, read_failed}
 
 -- what a netlist file means is sound, whether it is a netlist or a fault
 pub sound_netlist : (bytes : List ℕ) (net : Parts) → netlist_of bytes ≡ Ok net → IsNetlist net → IsSound Netlist bytes
-sound_netlist bytes net is valid = let P : Result Parts Fault → Type 0 = λ r. IfOk r IsNetlist in subst P (sym is) valid
+sound_netlist bytes net is valid = let P : Result Parts (Option Fault) → Type 0 = λ r. IfOk r IsNetlist in subst P (sym is) valid
 
-pub sound_fault : (bytes : List ℕ) (fault : Fault) → netlist_of bytes ≡ Err fault → IsSound Netlist bytes
-sound_fault bytes fault is = let P : Result Parts Fault → Type 0 = λ r. IfOk r IsNetlist in subst P (sym is) tt
+pub sound_fault : (bytes : List ℕ) (fault : Fault) → netlist_of bytes ≡ Err (Some fault) → IsSound Netlist bytes
+sound_fault bytes fault is = let P : Result Parts (Option Fault) → Type 0 = λ r. IfOk r IsNetlist in subst P (sym is) tt
 
 -- a file whose bytes mean something leads on
-leads_file : {T : Type 0} (role : Role) (meaning : List ℕ → Result T Fault) (name bytes : List ℕ) (shelf : ShelfCall) (value : T) (next : T → Plan)
+leads_file : {T : Type 0} (role : Role) (meaning : List ℕ → Result T (Option Fault)) (name bytes : List ℕ) (shelf : ShelfCall) (value : T) (next : T → Plan)
     → IsSound role bytes → GaveText shelf name bytes → ChangesCountOf name shelf.before shelf.now → meaning bytes ≡ Ok value
     → LeadsTo (Reads role name (λ text. using name (meaning text) next)) (next value) shelf
 leads_file role meaning name bytes shelf value next sound gave counts is = record {
@@ -41,8 +41,8 @@ follows_unread role name next shelf nodes end counts ends = record {
 }
 
 -- and a fault of its bytes behind them
-follows_fault : {T : Type 0} (role : Role) (meaning : List ℕ → Result T Fault) (name bytes : List ℕ) (shelf : ShelfCall) (nodes : Arena) (fault : Fault) (end : Outcome) (next : T → Plan)
-    → IsSound role bytes → IsFile shelf.files name bytes → ChangesCountOf name shelf.before shelf.now → meaning bytes ≡ Err fault → end ≡ has_fault name fault
+follows_fault : {T : Type 0} (role : Role) (meaning : List ℕ → Result T (Option Fault)) (name bytes : List ℕ) (shelf : ShelfCall) (nodes : Arena) (fault : Fault) (end : Outcome) (next : T → Plan)
+    → IsSound role bytes → IsFile shelf.files name bytes → ChangesCountOf name shelf.before shelf.now → meaning bytes ≡ Err (Some fault) → end ≡ has_fault name fault
     → Follows (Reads role name (λ text. using name (meaning text) next)) shelf nodes end
 follows_fault role meaning name bytes shelf nodes fault end next sound gave counts is told = record {
   given = bytes ∷ [];
@@ -52,8 +52,8 @@ follows_fault role meaning name bytes shelf nodes fault end next sound gave coun
 }
 
 -- both, at an error of the code
-follows_error : {T : Type 0} (role : Role) (meaning : List ℕ → Result T Fault) (name bytes : List ℕ) (shelf : ShelfCall) (nodes : Arena) (error : Option Fault) (end : Outcome) (next : T → Plan)
-    → ((fault : Fault) → meaning bytes ≡ Err fault → IsSound role bytes)
+follows_error : {T : Type 0} (role : Role) (meaning : List ℕ → Result T (Option Fault)) (name bytes : List ℕ) (shelf : ShelfCall) (nodes : Arena) (error : Option Fault) (end : Outcome) (next : T → Plan)
+    → ((fault : Fault) → meaning bytes ≡ Err (Some fault) → IsSound role bytes)
     → GaveText shelf name bytes → ChangesCountOf name shelf.before shelf.now → IsErrorOf (meaning bytes) error → StopsAt name error end
     → Follows (Reads role name (λ text. using name (meaning text) next)) shelf nodes end
 follows_error role meaning name bytes shelf nodes None end next sound gave counts is told =
@@ -64,9 +64,9 @@ follows_error role meaning name bytes shelf nodes (Some fault) end next sound ga
     follows_unread role name (λ text. using name (meaning text) next) shelf nodes end counts (inr told)
 
 -- a file of which no text was given
-follows_none : {T : Type 0} (role : Role) (meaning : List ℕ → Result T Fault) (name : List ℕ) (shelf : ShelfCall) (nodes : Arena) (end : Outcome) (next : T → Plan)
-    → ((bytes : List ℕ) (fault : Fault) → meaning bytes ≡ Err fault → IsSound role bytes)
-    → ((bytes : List ℕ) → MAX_FILE_BYTES < length bytes → meaning bytes ≡ Err too_long)
+follows_none : {T : Type 0} (role : Role) (meaning : List ℕ → Result T (Option Fault)) (name : List ℕ) (shelf : ShelfCall) (nodes : Arena) (end : Outcome) (next : T → Plan)
+    → ((bytes : List ℕ) (fault : Fault) → meaning bytes ≡ Err (Some fault) → IsSound role bytes)
+    → ((bytes : List ℕ) → MAX_FILE_BYTES < length bytes → meaning bytes ≡ Err (Some too_long))
     → GaveNone shelf name end → ChangesCountOf name shelf.before shelf.now
     → Follows (Reads role name (λ text. using name (meaning text) next)) shelf nodes end
 follows_none role meaning name shelf nodes end next sound long (Unread rose told) counts =
@@ -77,22 +77,22 @@ follows_none role meaning name shelf nodes end next sound long (Lacks told) coun
     follows_unread role name (λ text. using name (meaning text) next) shelf nodes end counts (inr told)
 
 -- So it is with each plan that uses the file.
-pub file_goes_on : {T : Type 0} (role : Role) (meaning : List ℕ → Result T Fault) (name bytes : List ℕ) (shelf : ShelfCall) (value : T)
+pub file_goes_on : {T : Type 0} (role : Role) (meaning : List ℕ → Result T (Option Fault)) (name bytes : List ℕ) (shelf : ShelfCall) (value : T)
     → IsSound role bytes → GaveText shelf name bytes → ChangesCountOf name shelf.before shelf.now → meaning bytes ≡ Ok value
     → GoesOn (λ next. Reads role name (λ text. using name (meaning text) next)) value shelf
 file_goes_on role meaning name bytes shelf value sound gave counts is =
     record { leads = λ next. leads_file role meaning name bytes shelf value next sound gave counts is }
 
-pub error_stops : {T : Type 0} (role : Role) (meaning : List ℕ → Result T Fault) (name bytes : List ℕ) (shelf : ShelfCall) (error : Option Fault) (end : Outcome)
-    → ((fault : Fault) → meaning bytes ≡ Err fault → IsSound role bytes)
+pub error_stops : {T : Type 0} (role : Role) (meaning : List ℕ → Result T (Option Fault)) (name bytes : List ℕ) (shelf : ShelfCall) (error : Option Fault) (end : Outcome)
+    → ((fault : Fault) → meaning bytes ≡ Err (Some fault) → IsSound role bytes)
     → GaveText shelf name bytes → ChangesCountOf name shelf.before shelf.now → IsErrorOf (meaning bytes) error → StopsAt name error end
     → StopsIn (λ next. Reads role name (λ text. using name (meaning text) next)) shelf end
 error_stops role meaning name bytes shelf error end sound gave counts is stops =
     record { follows = λ next nodes. follows_error role meaning name bytes shelf nodes error end next sound gave counts is stops }
 
-pub none_stops : {T : Type 0} (role : Role) (meaning : List ℕ → Result T Fault) (name : List ℕ) (shelf : ShelfCall) (end : Outcome)
-    → ((bytes : List ℕ) (fault : Fault) → meaning bytes ≡ Err fault → IsSound role bytes)
-    → ((bytes : List ℕ) → MAX_FILE_BYTES < length bytes → meaning bytes ≡ Err too_long)
+pub none_stops : {T : Type 0} (role : Role) (meaning : List ℕ → Result T (Option Fault)) (name : List ℕ) (shelf : ShelfCall) (end : Outcome)
+    → ((bytes : List ℕ) (fault : Fault) → meaning bytes ≡ Err (Some fault) → IsSound role bytes)
+    → ((bytes : List ℕ) → MAX_FILE_BYTES < length bytes → meaning bytes ≡ Err (Some too_long))
     → GaveNone shelf name end → ChangesCountOf name shelf.before shelf.now
     → StopsIn (λ next. Reads role name (λ text. using name (meaning text) next)) shelf end
 none_stops role meaning name shelf end sound long none counts =

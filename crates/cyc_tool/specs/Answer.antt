@@ -7,9 +7,9 @@ use Rattle.refusals.specs.declared.refusal.Refusal.{Refusal}
 use Rattle.report.specs.Messages.{too_large_text}
 use Rattle.commands.specs.Words.{command_of}
 use Rattle.cyc_tool.specs.Endings.{ending_of, comparison_told}
-use Rattle.cyc_tool.specs.Plans.{Ending, Prints, PrintsBeside, Refuses, Declines, Outgrows, Decision, Purpose, Comparison, Plan, Reads, Faulty, Ends, Decides, Compares, plan_of}
+use Rattle.cyc_tool.specs.Plans.{Ending, Prints, PrintsBeside, Refuses, Declines, Outgrows, Decision, Purpose, Comparison, Plan, Reads, Faulty, WantsMemory, Ends, Decides, Compares, plan_of}
 use Rattle.cyc_tool.specs.Requests.{Request}
-use Rattle.cyc_tool.specs.Texts.{Outcome, on_out, on_both, on_err, usage, has_fault, read_failed}
+use Rattle.cyc_tool.specs.Texts.{Outcome, on_out, on_both, on_err, usage, has_fault, no_memory, read_failed}
 
 -- the outcome of an ending
 abbrev pub told : Ending → Outcome
@@ -35,6 +35,7 @@ compared c = told (comparison_told c)
 abbrev pub outcome_at : Files → Plan → Outcome
 outcome_at files (Reads role name next) = option_map_or (λ bytes. outcome_at files (next bytes)) (files name) (read_failed name)
 outcome_at files (Faulty name fault) = has_fault name fault
+outcome_at files WantsMemory = no_memory
 outcome_at files (Ends ending) = told ending
 outcome_at files (Decides decision purpose) = decided decision purpose (verdict_of decision)
 outcome_at files (Compares c) = compared c

@@ -27,7 +27,7 @@ use Rattle.rewriting.specs.Graphs.{graph_of, most_ands, IsGraphing}
 use Rattle.rewriting.specs.Rewriting.{rewritten, rewritten_size, IsRewriting}
 use Rattle.cyc_tool.specs.Answer.{told, decided, verdict_of, compared}
 use Rattle.cyc_tool.specs.Endings.{accepted_told, wire_explained}
-use Rattle.cyc_tool.specs.Plans.{Role, Netlist, Care, Vectors, Recorded, Refuses, Decision, Purpose, Judges, Rewrites, WritesGraph, Explains, Demonstrates, Storms, Comparison, Plan, Reads, Faulty, Ends, Decides, Compares, plan_of}
+use Rattle.cyc_tool.specs.Plans.{Role, Netlist, Care, Vectors, Recorded, Refuses, Decision, Purpose, Judges, Rewrites, WritesGraph, Explains, Demonstrates, Storms, Comparison, Plan, Reads, Faulty, WantsMemory, Ends, Decides, Compares, plan_of}
 use Rattle.cyc_tool.specs.Requests.{Request, Shows}
 use Rattle.cyc_tool.specs.Texts.{Outcome, usage, has_fault, read_failed, limit_reached, no_memory}
 
@@ -71,6 +71,7 @@ abbrev pub AreGiven : Option Files → List (List ℕ) → Plan → Type 0
 AreGiven files [] plan = Unit {0}
 AreGiven files (bytes ∷ given) (Reads role name next) = IsFile files name bytes × IsSound role bytes × AreGiven files given (next bytes)
 AreGiven files (bytes ∷ given) (Faulty name fault) = ⊥
+AreGiven files (bytes ∷ given) WantsMemory = ⊥
 AreGiven files (bytes ∷ given) (Ends ending) = ⊥
 AreGiven files (bytes ∷ given) (Decides decision purpose) = ⊥
 AreGiven files (bytes ∷ given) (Compares c) = ⊥
@@ -152,6 +153,7 @@ pub data IsCompared (c : Comparison) (nodes : Arena) (end : Outcome) : Type 0 wh
 abbrev pub EndsAt : ShelfCall → Arena → Outcome → Plan → Type 0
 EndsAt shelf nodes end (Reads role name next) = ReadFailed shelf name × (end ≡ read_failed name)
 EndsAt shelf nodes end (Faulty name fault) = end ≡ has_fault name fault
+EndsAt shelf nodes end WantsMemory = ⊥
 EndsAt shelf nodes end (Ends ending) = end ≡ told ending
 EndsAt shelf nodes end (Decides decision purpose) = IsNetlist decision.net × IsDecided decision purpose nodes end
 EndsAt shelf nodes end (Compares c) = IsCompared c nodes end

@@ -84,6 +84,8 @@ pub data Plan : Type 0 where
   Reads : Role → List ℕ → (List ℕ → Plan) → Plan
   -- the call ends at this fault of the file of this name
   Faulty : List ℕ → Fault → Plan
+  -- the call ends for want of memory
+  WantsMemory : Plan
   -- the call ends with this
   Ends : Ending → Plan
   -- a decision is made, and its verdict says what the call ends with
@@ -92,9 +94,10 @@ pub data Plan : Type 0 where
   Compares : Comparison → Plan
 
 -- A text is used for what it means, or its first fault ends the call as one of the file of this name.
-abbrev pub using : {T : Type 0} → List ℕ → Result T Fault → (T → Plan) → Plan
+abbrev pub using : {T : Type 0} → List ℕ → Result T (Option Fault) → (T → Plan) → Plan
 using name (Ok x) next = next x
-using name (Err fault) next = Faulty name fault
+using name (Err (Some fault)) next = Faulty name fault
+using name (Err None) next = WantsMemory
 
 abbrev pub with_netlist : List ℕ → (Parts → Plan) → Plan
 with_netlist name next = Reads Netlist name (λ bytes. using name (netlist_of bytes) next)

@@ -1,6 +1,7 @@
 -- What `delays` prints: how each tick of a recorded schedule ends.
 use Rattle.std.specs.Prelude.{◌≡◌, ℕ, ◌+◌, Bool, List, [], ◌∷◌, ◌++◌, length, map, All, Ok, Err}
 use Rattle.std.specs.Option.{option_map_or}
+use Rattle.std.specs.declared.option.Option.{Option}
 use Rattle.std.specs.declared.result.Result.{Result}
 use Rattle.cyc_base.specs.declared.trit.Trit.{Trit}
 use Rattle.netlist.specs.declared.parts.Parts.{Parts}
@@ -26,7 +27,7 @@ abbrev pub tick_ends : Parts → List (List Bool) → Schedule → List TickEnd
 tick_ends net vectors schedule = map (end_of net) (ticks_of net (run_of schedule vectors))
 
 -- the same, or the first fault in the order of play
-abbrev pub played : Parts → List (List Bool) → Schedule → Result (List TickEnd) Fault
+abbrev pub played : Parts → List (List Bool) → Schedule → Result (List TickEnd) (Option Fault)
 played net vectors schedule =
     option_map_or (λ fault. Err (play_fault net fault)) (schedule_fault net schedule vectors) (Ok (tick_ends net vectors schedule))
 

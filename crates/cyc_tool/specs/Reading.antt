@@ -56,7 +56,7 @@ pub record FollowsStillAlone (plan : Plan) (end : Outcome) : Type 0 where
   pub follows : (nodes : Arena) → FollowsStill plan nodes end
 
 -- A text that is taken for the file of this name ends the call at its fault, unless memory runs out.
-pub record IsStoppedBy {T : Type 0} (name : List ℕ) (meaning : Result T Fault) (end : Outcome) : Type 0 where
+pub record IsStoppedBy {T : Type 0} (name : List ℕ) (meaning : Result T (Option Fault)) (end : Outcome) : Type 0 where
   pub error : Option Fault
   pub is : IsErrorOf meaning error
   pub stops : StopsAt name error end

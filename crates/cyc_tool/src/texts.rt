@@ -35,7 +35,7 @@ use netlist::Netlist;
 use probes::Kind;
 use refusals::Refusal;
 use report::{
-    USAGE_TEXT, put_accepted, put_fault, put_help, put_limit, put_loops, put_read_failed,
+    USAGE_TEXT, put_accepted, put_file_fault, put_help, put_limit, put_loops, put_read_failed,
     put_refusal, put_too_large, put_topic, put_version,
 };
 use rewriting::Built;
@@ -111,7 +111,7 @@ pub(crate) fn tell_fault(alloc: Global, file: &Name, fault: &Fault) -> Result<Ou
     ensures { IfOk result (λ told. outcome_of told ≡ has_fault file.now (fault_seen fault.now)) }
 {
     let mut sink = TextSink::new(alloc);
-    match put_fault(file, fault.code, fault.line, fault.tail.told(), &mut sink) {
+    match put_file_fault(file, fault.code, fault.line, fault.tail.told(), &mut sink) {
         Ok(()) => Ok(on_err(alloc, status::FAULT, sink.into_vec())),
         Err(_) => Err(AllocError),
     }
