@@ -50,7 +50,7 @@ and_line g i and = numbers_line ((edge_to (first_and g + i)).0 ∷ and.greater.0
 
 -- the name of an input, a latch or an output, by its place
 abbrev pub symbol_line : List ℕ → ℕ → List ℕ → List ℕ
-symbol_line kind place name = kind ++ (decimal place ++ (codes " " ++ (name ++ codes "\n")))
+symbol_line kind place name = (kind ++ decimal place) ++ (codes " " ++ (name ++ codes "\n"))
 
 abbrev pub name_of : Parts → Sig → List ℕ
 name_of net s = slice_index_or (signal_names net) s.0 []

@@ -1,6 +1,6 @@
 //! The lines of the graph.
 
-ghost use Rattle.std.specs.Prelude.{◌≡◌, ◌+◌, ◌∷◌};
+ghost use Rattle.std.specs.Prelude.{◌+◌, ◌∷◌};
 ghost use Rattle.std.specs.List.{flat_map, range_with_len};
 ghost use Rattle.cyc_io.specs.Taken.{IsAppended, sink_call};
 ghost use Rattle.aig_core.specs.Answers.{FitsNetlist};

@@ -1,22 +1,18 @@
 //! The names of inputs, latches and outputs.
 
-ghost use Rattle.std.specs.Prelude.{◌≡◌, map, codes};
+ghost use Rattle.std.specs.Prelude.{map, codes};
 ghost use Rattle.cyc_io.specs.Taken.{IsAppended, sink_call};
 ghost use Rattle.aiger_write.specs.Text.{symbol_line, symbols_text, name_of, names_text};
 
-use crate::lines::put_number;
 use cyc_base::Sig;
-use cyc_io::{Failed, Sink, write_whole};
+use cyc_io::{Failed, Sink, put_numbered, put_three};
 use netlist::Netlist;
 
 fn put_symbol<K: Sink>(sink: &mut K, kind: &[u8], place: u32, name: &[u8]) -> Result<(), Failed>
     ensures { IsAppended (symbol_line kind.now place name.now) (sink_call K.put K.faults sink.old sink.new) result }
 {
-    write_whole(sink, kind)?;
-    put_number(sink, place)?;
-    write_whole(sink, b" ")?;
-    write_whole(sink, name)?;
-    write_whole(sink, b"\n")
+    put_numbered(sink, kind, place)?;
+    put_three(sink, b" ", name, b"\n")
 }
 
 fn put_input_names<K: Sink>(sink: &mut K, net: &Netlist) -> Result<(), Failed>

@@ -8,10 +8,10 @@ pub loop-number-init : goal.loop-number-init
 loop-number-init g c = appended_none _ _ _
 
 pub loop-number-preserved : goal.loop-number-preserved
-loop-number-preserved g c = appended_copied (λ number. codes " " ++ decimal number) c.args.numbers.now c.loop-number.number-index _ _ _ _ _ _ _ _ _ (omega arith) c.loop-number.invariant c.in_ok-put_next_number.ensures
+loop-number-preserved g c = appended_copied (λ number. codes " " ++ decimal number) c.args.numbers.now c.loop-number.number-index _ _ _ _ _ _ _ _ _ (omega arith) c.loop-number.invariant c.in_ok-put_numbered.ensures
 
-pub returns-in_err-put_next_number : goal.returns-in_err-put_next_number
-returns-in_err-put_next_number g c = appended_in_copied (λ number. codes " " ++ decimal number) c.args.numbers.now c.loop-number.number-index _ _ _ _ _ _ _ _ _ _ (omega arith) c.loop-number.invariant c.in_err-put_next_number.ensures c.from_residual.ensures.0
+pub returns-in_err-put_numbered : goal.returns-in_err-put_numbered
+returns-in_err-put_numbered g c = appended_in_copied (λ number. codes " " ++ decimal number) c.args.numbers.now c.loop-number.number-index _ _ _ _ _ _ _ _ _ _ (omega arith) c.loop-number.invariant c.in_err-put_numbered.ensures c.from_residual.ensures.0
 
 pub returns : goal.returns
 returns g c = appended_items (λ number. codes " " ++ decimal number) c.args.numbers.now c.loop-number.number-index _ _ (omega arith) c.loop-number.invariant
