@@ -24,13 +24,14 @@ use Rattle.equal.specs.Differences.{number_or_0, output_pairs, latch_pairs, diff
 use Rattle.equal.specs.Rebound.{rebound, found}
 use Rattle.equal.proofs.NameLemmas.{any_nowhere}
 use Rattle.equal.proofs.ReboundLemmas.{rebound_is_care, rebound_source}
-use Rattle.equal_runs.specs.Runs.{EqualRunAlike, RunAlike}
+use Rattle.equality.specs.Runs.{RunAlike}
+use Rattle.equality.proofs.AlikeLemmas.{equal_run_alike}
 use Rattle.equality.specs.Shown.{IsShown, ShowsItself}
 
-module _ (law : EqualRunAlike) (a b : Parts) (care : CareSet) (valid_a : IsNetlist a) (valid_b : IsNetlist b) (is_care : IsCareOf a care) (valid_care : IsCare care) where
+module _ (a b : Parts) (care : CareSet) (valid_a : IsNetlist a) (valid_b : IsNetlist b) (is_care : IsCareOf a care) (valid_care : IsCare care) where
   alike : unmatched a b ≡ None → found a b care ≡ Equal → RunAlike a b care
   alike none equal =
-      law a b care (rebound b care) valid_a valid_b is_care (rebound_is_care a b care none is_care valid_care) (rebound_source b care (rebound b care) refl) equal
+      equal_run_alike a b care (rebound b care) valid_a valid_b is_care (rebound_is_care a b care none is_care valid_care) (rebound_source b care (rebound b care) refl) equal
 
   -- a vector on which they differ
   care_vector : (v : List Bool) → difference a b care ≡ Some v → IsCareVector a care v

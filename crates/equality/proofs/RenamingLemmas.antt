@@ -13,7 +13,7 @@ use Rattle.cyc_base.specs.Values.{bit, bits}
 use Rattle.netlist.proofs.Decisions.{none_found}
 use Rattle.equal.specs.Differences.{number_or_0}
 use Rattle.equal.proofs.NameLemmas.{any_nowhere, nowhere_any}
-use Rattle.equal_runs.specs.Runs.{renamed}
+use Rattle.equality.specs.Runs.{renamed}
 
 -- ---- a place of a name
 

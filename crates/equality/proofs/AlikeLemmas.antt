@@ -38,8 +38,8 @@ use Rattle.equal.specs.Matching.{name_of, latch_name, latch_named, output_names,
 use Rattle.equal.specs.Differences.{number_or_0, column_named, by_name, signal_named, source_named, pair_of, output_pairs, latch_pairs, are_different, differs_at, differs, difference, at_difference, comparison, comparison_of_accepted, HaveOneSource}
 use Rattle.equal.proofs.MatchLemmas.{Match, matched, care_by_name}
 use Rattle.equal.proofs.NameLemmas.{nowhere_any, input_behind, latch_at, latch_found, signal_found, length-names}
-use Rattle.equal_runs.specs.Runs.{renamed, latch_names, EqualRunAlike}
-use Rattle.equal_runs.proofs.RenamingLemmas.{IsPlaceOf, place_of, place_first, place_behind, renamed_is, same_bits, bit_read}
+use Rattle.equality.specs.Runs.{renamed, latch_names, EqualRunAlike}
+use Rattle.equality.proofs.RenamingLemmas.{IsPlaceOf, place_of, place_first, place_behind, renamed_is, same_bits, bit_read}
 
 -- ---- what is found where two netlists agree
 
