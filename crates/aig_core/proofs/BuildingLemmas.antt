@@ -12,6 +12,7 @@ use Rattle.cyc_base.specs.declared.sig.Sig.{Sig}
 use Rattle.cyc_base.specs.declared.trit.Trit.{Trit}
 use Rattle.cyc_base.specs.declared.trit.Trit.TheVariants.{X}
 use Rattle.cyc_base.specs.Values.{bit, bits}
+use Rattle.cyc_base.proofs.OrderLemmas.{bits-at}
 use Rattle.cover_logic.specs.Covers.{value}
 use Rattle.cover_logic.specs.Extensions.{ext}
 use Rattle.cover_logic.proofs.ExtensionLemmas.{ext_at_bits}
@@ -86,9 +87,6 @@ signal_edge_is net g edges s has signal = elim (cases_lt s.0 (columns net)) [
 pub signal_edges_are : (net : Parts) (g : Graph) (edges : List Edge) (signals : List Sig) → HasEdges net g edges → All (IsSignal net) signals → All (IsEdge g) (map (signal_edge net edges) signals)
 signal_edges_are net g edges signals has all =
     All-map (IsEdge g) (signal_edge net edges) signals (λ k d l. signal_edge_is net g edges (get_or signals k d) has (all k d l))
-
-bits-at : (v : List Bool) (i : ℕ) → i < length v → get_or (bits v) i X ≡ bit (get_or v i false)
-bits-at v i l = get_or-map bit v i false X l
 
 wire-column : (net : Parts) (v : List Bool) (s : Sig) → length v ≡ columns net → s.0 < columns net → wire (fix net (bits v)) s ≡ bit (get_or v s.0 false)
 wire-column net v s width l =

@@ -58,9 +58,6 @@ successors_lower graph ranks d n l low k x m =
     let falls = ranks.falls n (get_or (successors graph n) k x) l (Contains-get_or (successors graph n) k x m) in
     (ranks.nodes n l k x m, omega arith)
 
-pub All-imp : {A : Type 0} (P Q : A → Type 0) (xs : List A) → ((x : A) → P x → Q x) → All P xs → All Q xs
-All-imp {A} P Q xs f h k d l = f (get_or xs k d) (h k d l)
-
 module _ (graph : List (List ℕ)) (ranks : HasRanks graph) where
   pub placed-depth : (d e n : ℕ) (before : List ℕ) → Lower graph ranks d n → Lower graph ranks e n → placed graph d before n ≡ placed graph e before n
   unfolding placed

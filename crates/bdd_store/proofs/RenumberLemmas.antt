@@ -8,6 +8,7 @@ use Rattle.std.proofs.lemmas.Option.{slice_get-get_or, slice_get_within, same_So
 use Rattle.indexmap.specs.IndexSet.{insert_key}
 use Rattle.indexmap.proofs.CallerLemmas.{Contains-list_any}
 use Rattle.cyc_base.specs.declared.limits.TheConstants.{MAX_NODES}
+use Rattle.cyc_base.proofs.ListLemmas.{range-suc}
 use Rattle.bdd_store.specs.declared.node.Node.{Node}
 use Rattle.bdd_store.specs.declared.node.Entry.{Entry}
 use Rattle.bdd_store.specs.Arena.{index, is_marked, flipped, value_at, node_value, top_at, chosen}
@@ -27,12 +28,6 @@ insert-new es e absent = by (list_any (entry_eq e) es) refl
     by false h = refl
 
 -- ---- how many are kept
-
-range-suc : (a n : ℕ) → range_with_len a (suc n) ≡ range_with_len a n ++ (a + n) ∷ []
-range-suc a zero = ap (λ (x : ℕ). x ∷ []) (omega arith)
-range-suc a (suc n) =
-    let same : a + 1 + n ≡ a + suc n = omega arith in
-    ap (λ (rest : List ℕ). a ∷ rest) (range-suc (a + 1) n ∙ ap (λ (x : ℕ). range_with_len (a + 1) n ++ x ∷ []) same)
 
 -- the entries among the first n that are kept
 abbrev pub kept : List Bool → ℕ → List ℕ

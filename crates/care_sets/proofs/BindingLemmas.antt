@@ -13,6 +13,7 @@ use Rattle.std.proofs.lemmas.Iterator.Adapters.{position_from-zero}
 use Rattle.std.proofs.lemmas.Map.Made.{AllPairs-from_IsDistinct}
 use Rattle.std.proofs.lemmas.Option.{get_or_from_slice_get, slice_get_within, slice_get-get_or, slice_get_past}
 use Rattle.std.proofs.lemmas.Slice.Eq.{bytes_eq-Decides}
+use Rattle.cyc_base.proofs.NameLemmas.{bytes_eq-other, bytes_eq-same}
 use Rattle.netlist.specs.declared.parts.Parts.{Parts}
 use Rattle.netlist.specs.Netlists.{signal_names, driven_names, IsNetlist}
 use Rattle.netlist.proofs.Decisions.{found_none, none_found}
@@ -31,16 +32,6 @@ names_split net = sym (append_assoc net.inputs (map (λ latch. latch.name) net.l
 length-column_names : (net : Parts) → length (column_names net) ≡ columns net
 length-column_names net = omega (arith, length-append net.inputs (map (λ latch. latch.name) net.latches), length-map net.latches (λ latch. latch.name))
 
-differ-false : (a b : List ℕ) → a ≢ b → bytes_eq a b ≡ false
-differ-false a b other = by (bytes_eq a b) refl
-  where
-    by : (t : Bool) → bytes_eq a b ≡ t → bytes_eq a b ≡ false
-    by true e = absurd (other ((bytes_eq-Decides a b).0 e))
-    by false e = e
-
-same-true : (a b : List ℕ) → a ≡ b → bytes_eq a b ≡ true
-same-true a b e = (bytes_eq-Decides a b).1 e
-
 -- a name differs from that of each other signal
 others_differ : (net : Parts) (name : List ℕ) (s k : ℕ) → IsNetlist net → slice_get (signal_names net) s ≡ Some name →
     k < length (signal_names net) → k ≢ s → bytes_eq name (get_or (signal_names net) k []) ≡ false
@@ -48,7 +39,7 @@ others_differ net name s k h found inside other =
     let apart : AllPairs (λ x y. x ≢ y) (signal_names net) = AllPairs-from_IsDistinct bytes_eq-Decides (signal_names net) h.names_differ in
     let is : get_or (signal_names net) s [] ≡ name = get_or_from_slice_get (signal_names net) s name [] found in
     let within : s < length (signal_names net) = slice_get_within (signal_names net) s name found in
-    differ-false name (get_or (signal_names net) k []) (λ e.
+    bytes_eq-other name (get_or (signal_names net) k []) (λ e.
     by_order (apart s k []) (apart k s []) is within e (cases_lt k s))
   where
     by_order : (s < k → k < length (signal_names net) → get_or (signal_names net) s [] ≢ get_or (signal_names net) k [])
@@ -78,7 +69,7 @@ column_found net name s h found inside =
     place_of (bytes_eq name) (column_names net) s
     (position_or_len_is (bytes_eq name) (column_names net) s [] (omega (arith, length-column_names net))
     (λ k lt. ap (bytes_eq name) (sym (name_of_column net k (omega arith))) ∙ others_differ net name s k h found (omega (arith, length-names net)) (omega arith))
-    (λ _. same-true name (get_or (column_names net) s []) (sym is ∙ name_of_column net s inside)))
+    (λ _. bytes_eq-same name (get_or (column_names net) s []) (sym is ∙ name_of_column net s inside)))
     (omega (arith, length-column_names net))
 
 none_of_column : (net : Parts) (name : List ℕ) → ((k : ℕ) → k < columns net → bytes_eq name (get_or (signal_names net) k []) ≡ false) → None ≡ column_of net name

@@ -6,7 +6,8 @@ use Rattle.std.proofs.lemmas.Bool.{cases_eq, leb-true}
 use Rattle.std.proofs.lemmas.List.{drop_more, get_or-set_same, get_or-set_other, length-append, length-replicate}
 use Rattle.std.proofs.lemmas.List.Elements.{Contains-append_cases, Contains-append_right}
 use Rattle.cyc_base.specs.Values.{EachBelow}
-use Rattle.cyc_base.proofs.OrderLemmas.{Below-refl, Below-trans}
+use Rattle.cyc_base.proofs.OrderLemmas.{Below-refl, Below-trans, Below-unknown}
+use Rattle.cyc_base.proofs.ListLemmas.{Contains-nothing}
 use Rattle.cover_logic.specs.Extensions.{ext}
 use Rattle.netlist.proofs.FixpointLemmas.{known_count, known_count-le, same_or_more}
 use Rattle.loops.proofs.Sweeps.{ext_below}
@@ -15,9 +16,6 @@ use Rattle.clause_decision.specs.Events.{cover_value, IsDetermined, IsNewValue}
 use Rattle.clause_decision.specs.Simulations.{seen_of}
 
 -- ---- lists and values
-
-Contains-none : {A : Type 0} (x : A) → ¬ Contains [] x
-Contains-none x c = omega (arith, c.1)
 
 Contains-first : {A : Type 0} (x y : A) (xs : List A) → Contains (x ∷ xs) y → (x ≡ y) ⊎ Contains xs y
 Contains-first x y xs (zero, low, is) = inl is
@@ -48,11 +46,6 @@ same-or-unknown : (x y : Trit) → Below x y → (x ≡ X → y ≡ X) → x ≡
 same-or-unknown X y below unknown = sym (unknown refl)
 same-or-unknown Zero y below unknown = sym below
 same-or-unknown One y below unknown = sym below
-
-below-unknown : (x y : Trit) → Below x y → y ≡ X → x ≡ X
-below-unknown X y below is = refl
-below-unknown Zero y below is = sym below ∙ is
-below-unknown One y below is = sym below ∙ is
 
 -- a value that becomes known rises
 set-rises : (s : List Trit) (g : ℕ) (x : Trit) → g < length s → Below (value_in s g) x → (n : ℕ) → Below (value_in s n) (value_in (set s g x) n)
@@ -207,7 +200,7 @@ module _ (l : LoopAt) (outside : List Trit) where
       pub cut-set : is_cut l.cut.wires g ≡ true → IsSweeping l outside before (set after g value) rest
       cut-set cut =
           subst (λ (ns : List ℕ). IsSweeping l outside before (set after g value) ns) (append-nil rest)
-          (gate-set [] (λ n none. absurd (Contains-none n none))
+          (gate-set [] (λ n none. absurd (Contains-nothing n none))
           (λ n. subst (λ (t : Trit). Below (cover_value l outside before after n) t) (cut-still before after g value cut n) (Below-refl (cover_value l outside before after n)))
           (λ n there. inr (cut-still before after g value cut n)))
 
@@ -297,7 +290,7 @@ module _ (l : LoopAt) where
         | inl is ↦
             known
             (sym (get_or-set_same after g value X low) ∙ sym (ap (value_in (set after g value)) is) ∙ sym same ∙ ap (value_in before) is
-            ∙ below-unknown (value_in before g) (value_in after g) (h.below g inside cut) unknown)
+            ∙ Below-unknown (value_in before g) (value_in after g) (h.below g inside cut) unknown)
         | inr other ↦ elim (Contains-push_cases wires g n there) [
           | inl early ↦ differs n early (same ∙ get_or-set_other after g n value X other)
           | inr is ↦ other (sym is)
@@ -357,8 +350,8 @@ ready-first l outside before after waiting before_is after_is waiting_is = recor
     still = λ n there. inl (subst (λ (ns : List ℕ). Contains ns n) (sym waiting_is) there);
   };
   unseen = record {
-    inside = λ n none. absurd (Contains-none n none);
-    are = λ n none. absurd (Contains-none n none);
+    inside = λ n none. absurd (Contains-nothing n none);
+    are = λ n none. absurd (Contains-nothing n none);
     below = λ n there is. subst (λ (t : Trit). Below t (value_in after n)) (sym (unknown before before_is n)) tt;
     each = λ n there is. inl (unknown before before_is n ∙ sym (unknown after after_is n));
   };

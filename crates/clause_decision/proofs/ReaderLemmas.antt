@@ -3,12 +3,10 @@ use Rattle.std.proofs.Common.{◌≡◌, inl, inr, ℕ, zero, suc, ◌+◌, ◌-
 use Rattle.clause_decision.proofs.Common.{eq-eqb, length-set, take_more, Contains-append_left, Contains-push, Contains-push_cases, Sig, gate_at, gate_sig, home_of, first_gate, gate_home, LoopAt, IsLoopAt, gates_in, HasGainedReader, AreReaders}
 use Rattle.std.proofs.lemmas.Bool.{and_from, le-leb}
 use Rattle.std.proofs.lemmas.List.{length-replicate}
+use Rattle.cyc_base.proofs.ListLemmas.{Contains-nothing}
 use Rattle.loops.specs.Searching.{InRow}
 use Rattle.loops.proofs.KeptLemmas.{pushed_keeps, pushed_new, pushed_only}
 use Rattle.clause_decision.specs.Readers.{source_of}
-
-Contains-nothing : {A : Type 0} (x : A) → ¬ Contains [] x
-Contains-nothing x c = omega (arith, c.1)
 
 no-row : (count g n : ℕ) → ¬ InRow (replicate count []) g n
 no-row zero g n c = Contains-nothing n c

@@ -4,9 +4,9 @@ use Rattle.std.specs.List.{list_all, list_any, All}
 use Rattle.std.proofs.lemmas.List.Folds.{list_any-append}
 use Rattle.std.proofs.lemmas.List.{map-append}
 use Rattle.std.proofs.lemmas.List.Elements.{All-nil, All-map, All-weaker, All-same, All-push, All-contains, Contains-append_right}
+use Rattle.cyc_base.proofs.TruthLemmas.{and_with_true}
 use Rattle.ternary_clauses.specs.declared.formula.Formula.{Formula}
 use Rattle.ternary_clauses.specs.Formulas.{says, holds_from, holds as holds_all}
-use Rattle.ternary_clauses.proofs.ClauseLemmas.{and-true}
 use Rattle.sat.specs.declared.lit.Lit.{Lit}
 use Rattle.clause_queries.specs.Clauses.{clauses_from, clauses_of, IsWithin, AreTaken}
 use Rattle.clause_queries.specs.Loaded.{lit, loaded, AreOf, AreLoaded}
@@ -25,7 +25,7 @@ clauses-first size rest = clauses_from-take size [] rest
 
 -- each clause of a list holds where the list does
 holds_from-clauses : (m : List Bool) (left : ℕ) (begun rest : List ℕ) → holds_from m left (list_any (says m) begun) rest ≡ list_all (list_any (says m)) (clauses_from left begun rest)
-holds_from-clauses m left begun [] = and-true (list_any (says m) begun)
+holds_from-clauses m left begun [] = and_with_true (list_any (says m) begun)
 holds_from-clauses m zero begun (n ∷ rest) = ap (λ b. list_any (says m) begun && b) (holds_from-clauses m n [] rest)
 holds_from-clauses m (suc left) begun (l ∷ rest) =
     ap (λ b. holds_from m left b rest) (sym (list_any-append (says m) begun (l ∷ []) ∙ ap (λ b. list_any (says m) begun || b) (or-false (says m l))))

@@ -4,13 +4,13 @@ use Rattle.std.specs.List.{list_any, filter}
 use Rattle.cyc_base.specs.declared.trit.Trit.{Trit}
 use Rattle.cyc_base.specs.declared.trit.Trit.TheVariants.{Zero, One, X}
 use Rattle.cyc_base.specs.Values.{bit, Below, Completes}
+use Rattle.cyc_base.proofs.TruthLemmas.{same_truth}
 use Rattle.cover_logic.specs.declared.row.Lit.{Lit}
 use Rattle.cover_logic.specs.declared.row.Lit.TheVariants as lit
 use Rattle.cover_logic.specs.declared.row.Row.{Row}
 use Rattle.cover_logic.specs.Covers.{allows, matches, some_row_matches}
 use Rattle.cover_logic.specs.Partial.{may_allow, may_match, is_tautology, unknown_count, open_pins, open_lits, open_row, open_rows}
 use Rattle.cover_logic.proofs.ExtensionLemmas.{passes_above, passes_listed}
-use Rattle.cover_logic.proofs.TautologyLemmas.{same_bool}
 
 -- ---- the unknown pins of a completion, and the completion of those
 
@@ -123,7 +123,7 @@ some-open rows trits bs c =
 -- so they are a tautology where all rows are one
 pub same_open : (rows : List Row) (trits : List Trit) → is_tautology (open_rows rows trits) (open_pins trits) ≡ is_tautology rows trits
 same_open rows trits =
-    same_bool (is_tautology (open_rows rows trits) (open_pins trits)) (is_tautology rows trits)
+    same_truth (is_tautology (open_rows rows trits) (open_pins trits)) (is_tautology rows trits)
     (λ e.
     passes_listed (some_row_matches rows) trits
     (λ bs c. some-open rows trits bs c ∙ passes_above (some_row_matches (open_rows rows trits)) (open_pins trits) e (open_bits trits bs) (open-completes trits bs c)))

@@ -9,6 +9,7 @@ use Rattle.bdd_ops.specs.Least.{IsLayout, by_variable}
 use Rattle.cyc_base.specs.declared.trit.Trit.{Trit}
 use Rattle.cyc_base.specs.Values.{bits}
 use Rattle.cyc_base.specs.Vectors.{vectors}
+use Rattle.cyc_base.proofs.VectorLemmas.{find-alike}
 use Rattle.dual_rail.specs.declared.rail.Rails.{Rails}
 use Rattle.dual_rail.specs.Rails.{AreRailsOf, trit_of, value_of}
 use Rattle.dual_rail.specs.WorkingLists.{IsWide}
@@ -27,7 +28,6 @@ use Rattle.care_sets.specs.Care.{CareSet, columns, is_care_vector}
 use Rattle.refusals.proofs.LawLemmas.{care_test}
 use Rattle.refusals.proofs.RefusalLemmas.{length-fix_gates}
 use Rattle.verdict.proofs.CareLemmas.{value_at-place}
-use Rattle.verdict.proofs.SetLemmas.{find-alike}
 use Rattle.clause_decision.specs.declared.pairs.Pair.{Pair}
 use Rattle.differences.specs.Comparisons.{IsLaidBy}
 use Rattle.clause_decision.specs.Apart.{are_apart, is_apart_at, some_is_apart, IsPairOf}

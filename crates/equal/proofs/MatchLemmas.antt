@@ -1,8 +1,10 @@
 -- What it means that all names match, and vectors by name.
-use Rattle.std.proofs.Common.{◌≡◌, inl, inr, ℕ, zero, suc, ◌+◌, ◌-◌, ◌<◌, ◌≤◌, Bool, true, false, not, ◌&&◌, ◌||◌, cond, List, [], ◌∷◌, ◌++◌, length, map, take, drop, get_or, slice_get, Option, Some, None, IfSome, refl, sym, ap, ap₂, subst, ◌∙◌, arith, true≢false}
-use Rattle.equal.proofs.Common.{find, option_map, list_any, option_or, option_map_or, bytes_eq, cases_lt, append_assoc, map-append, length-append, length-map, get_or-map, get_or_append_left, get_or-append-add, list_any-append, position-Some, get_or_from_slice_get, Sig, X, bit, bits, Latch, Parts, signal_names, IsBoundTo, IsCareOf, CareSet, columns, column_names, is_care_vector, CareModel, name_of, is_input, is_latch, has_latch, is_output, output_names, unmatched, number_or_0, column_named, columns_by_name, by_name, model_of, HaveOneSource}
+use Rattle.std.proofs.Common.{◌≡◌, inl, inr, ℕ, zero, suc, ◌+◌, ◌-◌, ◌<◌, ◌≤◌, Bool, true, false, not, ◌&&◌, cond, List, [], ◌∷◌, ◌++◌, length, map, take, drop, get_or, slice_get, Option, Some, None, IfSome, refl, sym, ap, ap₂, subst, ◌∙◌, arith, true≢false}
+use Rattle.equal.proofs.Common.{find, list_any, option_map_or, bytes_eq, cases_lt, append_assoc, map-append, length-append, length-map, get_or-map, get_or_append_left, get_or-append-add, list_any-append, position-Some, get_or_from_slice_get, Sig, X, bits, Latch, Parts, signal_names, IsBoundTo, IsCareOf, CareSet, columns, column_names, is_care_vector, CareModel, name_of, is_input, is_latch, has_latch, is_output, output_names, unmatched, number_or_0, column_named, columns_by_name, by_name, model_of, HaveOneSource}
 use Rattle.std.proofs.lemmas.List.{get_or-drop}
-use Rattle.std.proofs.lemmas.Slice.Eq.{bytes_eq-Decides}
+use Rattle.std.proofs.lemmas.Bool.{not-false, or_left, or_right}
+use Rattle.cyc_base.proofs.ListLemmas.{option_or-neither, option_map-nothing}
+use Rattle.cyc_base.proofs.NameLemmas.{bytes_eq-true}
 use Rattle.netlist.specs.Fixpoint.{outs}
 use Rattle.netlist.proofs.Decisions.{none_found}
 use Rattle.care_sets.specs.Binding.{column_of}
@@ -13,20 +15,8 @@ use Rattle.equal.proofs.NameLemmas.{nowhere_find, any_nowhere}
 
 -- ---- all names match
 
-none_first : {A : Type 0} (x y : Option A) → option_or x y ≡ None → (x ≡ None) × (y ≡ None)
-none_first None y e = (refl, e)
-none_first (Some a) y e = cc
-
-none_mapped : {A B : Type 0} (f : A → B) (x : Option A) → option_map f x ≡ None → x ≡ None
-none_mapped f None e = refl
-none_mapped f (Some a) e = cc
-
-not_not : (b : Bool) → not b ≡ false → b ≡ true
-not_not true e = refl
-not_not false e = cc
-
 passes : {A : Type 0} (p : A → Bool) (xs : List A) → find (λ x. not (p x)) xs ≡ None → (k : ℕ) (d : A) → k < length xs → p (get_or xs k d) ≡ true
-passes p xs none k d l = not_not (p (get_or xs k d)) (nowhere_find (λ x. not (p x)) xs none k d l)
+passes p xs none k d l = not-false (p (get_or xs k d)) (nowhere_find (λ x. not (p x)) xs none k d l)
 
 -- the names of both netlists match
 pub record Match (a b : Parts) : Type 0 where
@@ -39,25 +29,22 @@ pub record Match (a b : Parts) : Type 0 where
 
 pub matched : (a b : Parts) → unmatched a b ≡ None → Match a b
 matched a b none =
-    let one = none_first _ _ none in
-    let two = none_first _ _ one.1 in
-    let three = none_first _ _ two.1 in
-    let four = none_first _ _ three.1 in
-    let five = none_first _ _ four.1 in
-    let six = none_first _ _ five.1 in
+    let one = option_or-neither _ _ none in
+    let two = option_or-neither _ _ one.1 in
+    let three = option_or-neither _ _ two.1 in
+    let four = option_or-neither _ _ three.1 in
+    let five = option_or-neither _ _ four.1 in
+    let six = option_or-neither _ _ five.1 in
     record {
       inputs_ab = passes (is_input b) a.inputs one.0;
       inputs_ba = passes (is_input a) b.inputs two.0;
-      latches_ab = passes (has_latch b) a.latches (none_mapped latch_name _ three.0);
-      latches_ba = passes (λ latch. is_latch a latch.name) b.latches (none_mapped latch_name _ four.0);
+      latches_ab = passes (has_latch b) a.latches (option_map-nothing latch_name _ three.0);
+      latches_ba = passes (λ latch. is_latch a latch.name) b.latches (option_map-nothing latch_name _ four.0);
       outputs_ab = passes (is_output b) (output_names a) five.0;
       outputs_ba = passes (is_output a) (output_names b) six.0;
     }
 
 -- ---- columns by name
-
-same_name : (x y : List ℕ) → bytes_eq x y ≡ true → x ≡ y
-same_name x y e = (bytes_eq-Decides x y).0 e
 
 -- a column that is there
 pub record HasColumn (net : Parts) (name : List ℕ) : Type 0 where
@@ -73,7 +60,7 @@ pub column_inside : (net : Parts) (name : List ℕ) (c : ℕ) → column_of net 
 column_inside net name c is = let p = position-Some (bytes_eq name) (column_names net) c [] is in subst (λ n. c < n) (length-columns net) p.0
 
 pub column_is : (net : Parts) (name : List ℕ) (c : ℕ) → column_of net name ≡ Some c → get_or (column_names net) c [] ≡ name
-column_is net name c is = let p = position-Some (bytes_eq name) (column_names net) c [] is in sym (same_name name (get_or (column_names net) c []) p.1)
+column_is net name c is = let p = position-Some (bytes_eq name) (column_names net) c [] is in sym (bytes_eq-true name (get_or (column_names net) c []) p.1)
 
 pub has_column : (net : Parts) (name : List ℕ) (c : ℕ) → column_of net name ≡ Some c → HasColumn net name
 has_column net name c is = record {
@@ -90,14 +77,6 @@ column_there net name any = by (column_of net name) refl
     by (Some c) e = has_column net name c e
     by None e =
         absurd (true≢false (sym any ∙ any_nowhere (bytes_eq name) (column_names net) (none_found (bytes_eq name) (column_names net) e)))
-
-or_left : (x y : Bool) → x ≡ true → (x || y) ≡ true
-or_left true y e = refl
-or_left false y e = cc
-
-or_right : (x y : Bool) → y ≡ true → (x || y) ≡ true
-or_right true y e = refl
-or_right false y e = e
 
 -- a latch that is there has a column
 latch_any : (name : List ℕ) (latches : List Latch) → option_map_or (λ (latch : Latch). true) (find (λ latch. bytes_eq name latch.name) latches) false ≡ true → list_any (bytes_eq name) (map latch_name latches) ≡ true
@@ -165,9 +144,6 @@ length-by_name a b v = length-map (columns_by_name a b) (λ column. get_or v col
 -- the value of a column by name
 pub by_name_at : (a b : Parts) (v : List Bool) (c : ℕ) → c < columns b → get_or (by_name a b v) c false ≡ get_or v (get_or (columns_by_name a b) c 0) false
 by_name_at a b v c l = get_or-map (λ column. get_or v column false) (columns_by_name a b) c 0 false (subst (λ n. c < n) (sym (length-table a b)) l)
-
-pub bits_at : (v : List Bool) (k : ℕ) → k < length v → get_or (bits v) k X ≡ bit (get_or v k false)
-bits_at v k l = get_or-map bit v k false X l
 
 -- ---- care sets of one source
 

@@ -2,12 +2,14 @@
 use Rattle.std.proofs.Common.{◌≡◌, ◌≢◌, ◌⊎◌, inl, inr, ℕ, zero, suc, ◌+◌, ◌-◌, ◌<◌, ◌≤◌, Bool, true, false, ◌||◌, cond, List, [], ◌∷◌, ◌++◌, length, map, get_or, take, slice_get, position, Some, None, refl, sym, ap, ap₂, ◌∙◌, arith}
 use Rattle.equal.proofs.Common.{find, list_any, IsDistinct, option_or, bytes_eq, cases_lt, length-append, length-map, get_or_append_left, get_or-append-add, get_or-map, list_any-append, get_or_from_slice_get, slice_get_within, Sig, Latch, Gate, Parts, signal, count, sig_eq, signal_names, driven_names, IsSignal, IsNetlist, name_of, latch_named, is_input, is_output, number_or_0, column_named, signal_named}
 use Rattle.std.specs.List.{position_or_len, AllPairs}
-use Rattle.std.proofs.lemmas.Bool.{cases_eq, cases_Bool, lt-ltb, or_parts, eqb-true, eq-eqb}
+use Rattle.std.proofs.lemmas.Bool.{cases_eq, lt-ltb, or_parts, eqb-true, eq-eqb}
 use Rattle.std.proofs.lemmas.List.{take_more, take_all}
 use Rattle.std.proofs.lemmas.List.Sums.{position_or_len_is}
 use Rattle.std.proofs.lemmas.List.Folds.{list_any_at, find-append}
 use Rattle.std.proofs.lemmas.Map.Made.{AllPairs-from_IsDistinct}
 use Rattle.std.proofs.lemmas.Slice.Eq.{bytes_eq-Decides}
+use Rattle.cyc_base.proofs.ListLemmas.{list_any-map}
+use Rattle.cyc_base.proofs.NameLemmas.{bytes_eq-other, bytes_eq-same}
 use Rattle.netlist.proofs.Decisions.{found_none}
 use Rattle.care_sets.proofs.BindingLemmas as binding
 
@@ -45,10 +47,6 @@ nowhere_find {A = A} p (x ∷ xs) none k d l = by (nowhere_find p xs) (p x) refl
     by rest false is e zero d l = is
     by rest false is e (suc k) d l = rest e k d (omega arith)
 
-pub any_mapped : {A B : Type 0} (p : B → Bool) (f : A → B) (xs : List A) → list_any p (map f xs) ≡ list_any (λ x. p (f x)) xs
-any_mapped p f [] = refl
-any_mapped p f (x ∷ xs) = ap (λ t. p (f x) || t) (any_mapped p f xs)
-
 pub any_agree : {A : Type 0} (p q : A → Bool) (xs : List A) → ((k : ℕ) (d : A) → k < length xs → p (get_or xs k d) ≡ q (get_or xs k d)) → list_any p xs ≡ list_any q xs
 any_agree p q [] h = refl
 any_agree p q (x ∷ xs) h = ap₂ (λ s t. s || t) (h zero x (omega arith)) (any_agree p q xs (λ k d l. h (suc k) d (omega arith)))
@@ -78,19 +76,13 @@ find_end p xs n none l = ap (find p) (sym (take_all n xs l)) ∙ none
 
 -- ---- names
 
-differ : (a b : List ℕ) → a ≢ b → bytes_eq a b ≡ false
-differ a b other = elim (cases_Bool (bytes_eq a b)) [ inl e ↦ absurd (other ((bytes_eq-Decides a b).0 e)) | inr e ↦ e ]
-
-pub equal : (a b : List ℕ) → a ≡ b → bytes_eq a b ≡ true
-equal a b e = (bytes_eq-Decides a b).1 e
-
 -- a name that stands at one place stands at no other
 pub elsewhere : (names : List (List ℕ)) (name : List ℕ) (s k : ℕ) → IsDistinct bytes_eq names → slice_get names s ≡ Some name → k < length names → k ≢ s → bytes_eq name (get_or names k []) ≡ false
 elsewhere names name s k distinct found inside other =
     let apart : AllPairs (λ x y. x ≢ y) names = AllPairs-from_IsDistinct bytes_eq-Decides names distinct in
     let is : get_or names s [] ≡ name = get_or_from_slice_get names s name [] found in
     let within : s < length names = slice_get_within names s name found in
-    differ name (get_or names k []) (λ e. by apart is within e (cases_lt k s))
+    bytes_eq-other name (get_or names k []) (λ e. by apart is within e (cases_lt k s))
   where
     by : AllPairs (λ x y. x ≢ y) names → get_or names s [] ≡ name → s < length names → name ≡ get_or names k [] → (k < s) ⊎ (s ≤ k) → ⊥
     by apart is within e (inl lt) = apart k s [] lt within (sym e ∙ sym is)
@@ -128,7 +120,7 @@ module _ (net : Parts) (name : List ℕ) where
 
 pub input_found : (net : Parts) (name : List ℕ) (s : ℕ) → IsNetlist net → slice_get (signal_names net) s ≡ Some name → s < length net.inputs → is_input net name ≡ true
 input_found net name s valid found inside =
-    list_any_at (bytes_eq name) net.inputs s [] inside (equal name (get_or net.inputs s []) (sym (found_is net name s found) ∙ input_at net s inside))
+    list_any_at (bytes_eq name) net.inputs s [] inside (bytes_eq-same name (get_or net.inputs s []) (sym (found_is net name s found) ∙ input_at net s inside))
 
 pub input_behind : (net : Parts) (name : List ℕ) (s : ℕ) → IsNetlist net → slice_get (signal_names net) s ≡ Some name → length net.inputs ≤ s → is_input net name ≡ false
 input_behind net name s valid found behind =
@@ -155,7 +147,7 @@ latch_found net name s latch valid found behind is =
     (λ k d l.
     let n = length-names net in
     ap (bytes_eq name) (sym (latch_at net k d (omega arith))) ∙ elsewhere (signal_names net) name s (length net.inputs + k) valid.names_differ found (omega arith) (omega arith))
-    (equal name latch.name (sym (found_is net name s found) ∙ ap (λ k. get_or (signal_names net) k []) (sym e) ∙ latch_at net i latch within ∙ ap (λ (l : Latch). l.name) (get_or_from_slice_get net.latches i latch latch is)))
+    (bytes_eq-same name latch.name (sym (found_is net name s found) ∙ ap (λ k. get_or (signal_names net) k []) (sym e) ∙ latch_at net i latch within ∙ ap (λ (l : Latch). l.name) (get_or_from_slice_get net.latches i latch latch is)))
 
 latch_elsewhere : (net : Parts) (name : List ℕ) (s : ℕ) → IsNetlist net → slice_get (signal_names net) s ≡ Some name → (s < length net.inputs) ⊎ (length net.inputs + length net.latches ≤ s) → latch_named net name ≡ None
 latch_elsewhere net name s valid found outside =
@@ -184,13 +176,13 @@ pub output_found : (net : Parts) (name : List ℕ) (s : ℕ) → IsNetlist net �
 output_found net name s valid found =
     any_agree (sig_eq (signal s)) (λ t. bytes_eq name (name_of net t)) net.outputs (λ k d l.
     same (get_or net.outputs k d) (valid.outputs k d l))
-    ∙ sym (any_mapped (bytes_eq name) (name_of net) net.outputs)
+    ∙ sym (list_any-map (bytes_eq name) (name_of net) net.outputs)
   where
     same : (t : Sig) → IsSignal net t → sig_eq (signal s) t ≡ bytes_eq name (name_of net t)
     same t inside =
         let n = length-names net in
         elim (cases_eq s t.0) [
-          | inl e ↦ eq-eqb s t.0 e ∙ sym (equal name (name_of net t) (sym (found_is net name s found) ∙ ap (λ k. get_or (signal_names net) k []) e))
+          | inl e ↦ eq-eqb s t.0 e ∙ sym (bytes_eq-same name (name_of net t) (sym (found_is net name s found) ∙ ap (λ k. get_or (signal_names net) k []) e))
           | inr ne ↦ other (sig_eq (signal s) t) refl ne ∙ sym (elsewhere (signal_names net) name s t.0 valid.names_differ found (omega arith) (λ e. ne (sym e)))
         ]
       where
@@ -200,7 +192,7 @@ output_found net name s valid found =
 
 pub output_absent : (net : Parts) (name : List ℕ) → IsNetlist net → list_any (bytes_eq name) (signal_names net) ≡ false → is_output net name ≡ false
 output_absent net name valid absent =
-    any_mapped (bytes_eq name) (name_of net) net.outputs
+    list_any-map (bytes_eq name) (name_of net) net.outputs
     ∙ any_nowhere (λ t. bytes_eq name (name_of net t)) net.outputs (λ k d l.
     let n = length-names net in
     let inside = valid.outputs k d l in
@@ -223,7 +215,7 @@ signal_place net name s valid found =
     let is : position_or_len (bytes_eq name) (signal_names net) ≡ s =
     position_or_len_is (bytes_eq name) (signal_names net) s [] (omega arith)
     (λ k lt. elsewhere (signal_names net) name s k valid.names_differ found (omega arith) (omega arith))
-    (λ _. equal name (get_or (signal_names net) s []) (sym (found_is net name s found))) in
+    (λ _. bytes_eq-same name (get_or (signal_names net) s []) (sym (found_is net name s found))) in
     let below : position_or_len (bytes_eq name) (signal_names net) < length (signal_names net) = omega arith in
     sym (ap (λ t. cond t (Some (position_or_len (bytes_eq name) (signal_names net))) None) (lt-ltb _ _ below) ∙ ap (λ n. Some n) is)
 

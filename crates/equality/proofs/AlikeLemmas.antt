@@ -12,6 +12,7 @@ use Rattle.cyc_base.specs.declared.sig.Sig.{Sig}
 use Rattle.cyc_base.specs.declared.trit.Trit.{Trit}
 use Rattle.cyc_base.specs.declared.trit.Trit.TheVariants.{Zero, One, X}
 use Rattle.cyc_base.specs.Values.{bits}
+use Rattle.cyc_base.proofs.OrderLemmas.{same_bit}
 use Rattle.netlist.specs.declared.parts.Latch.{Latch}
 use Rattle.netlist.specs.declared.parts.Parts.{Parts}
 use Rattle.netlist.specs.Netlists.{count, signal, signal_names, IsNetlist}
@@ -39,7 +40,7 @@ use Rattle.equal.specs.Differences.{number_or_0, column_named, by_name, signal_n
 use Rattle.equal.proofs.MatchLemmas.{Match, matched, care_by_name}
 use Rattle.equal.proofs.NameLemmas.{nowhere_any, input_behind, latch_at, latch_found, signal_found, length-names}
 use Rattle.equality.specs.Runs.{renamed, latch_names, EqualRunAlike}
-use Rattle.equality.proofs.RenamingLemmas.{IsPlaceOf, place_of, place_first, place_behind, renamed_is, same_bits, bit_read}
+use Rattle.equality.proofs.RenamingLemmas.{IsPlaceOf, place_of, place_first, place_behind, renamed_is, bit_read}
 
 -- ---- what is found where two netlists agree
 
@@ -227,7 +228,7 @@ module _ (a b : Parts) (valid_a : IsNetlist a) (valid_b : IsNetlist b) (match_ :
           let within : place < length a.outputs = let w = at.1.within in omega (arith, w, na) in
           let r : Sig = get_or a.outputs place none in
           let r_named : name_of a r ≡ name = sym (get_or-map (name_of a) a.outputs place none [] within) ∙ at.1.named in
-          same_bits _ _
+          same_bit _ _
           (bit_read (bit_at (newest twin.ended)) (wire (fix b (bits (by_name a b v)))) b.outputs twin_shown k none less
           ∙ ap (wire (fix b (bits (by_name a b v)))) (s_named ∙ ap (signal_named b) (sym name_is ∙ sym r_named))
           ∙ sym (output_same place none within)
@@ -260,7 +261,7 @@ module _ (a b : Parts) (valid_a : IsNetlist a) (valid_b : IsNetlist b) (match_ :
               (ap (slice_get b.latches) back ∙ slice_get-get_or b.latches k none less) in
               let source : source_named b (get_or a.latches place none).name ≡ latch.from =
               ap (source_named b) own ∙ ap (λ o. option_map_or (λ (l : Latch). l.from) o (signal 0)) found in
-              same_bits _ _
+              same_bit _ _
               (bit_read (λ (l : Latch). bit_at (newest twin.ended) l.from) (λ (l : Latch). wire (fix b (bits (by_name a b v))) l.from) b.latches twin_loaded k none less
               ∙ ap (wire (fix b (bits (by_name a b v)))) (sym source)
               ∙ sym (latch_same place none within)

@@ -80,12 +80,6 @@ renamed_is from to xs ys long each =
 
 -- ---- bits of ternary values
 
-pub same_bits : (x y : Bool) → bit x ≡ bit y → x ≡ y
-same_bits true true e = refl
-same_bits true false e = cc
-same_bits false true e = cc
-same_bits false false e = refl
-
 -- a value of a list that stands for ternary ones
 pub bit_read : {T : Type 0} (f : T → Bool) (g : T → Trit) (xs : List T) → bits (map f xs) ≡ map g xs → (k : ℕ) (d : T) → k < length xs → bit (get_or (map f xs) k false) ≡ g (get_or xs k d)
 bit_read f g xs same k d less =

@@ -1,13 +1,13 @@
 -- Sets that are held open stay unknown, whatever more is known, and each has its place in the greatest.
-use Rattle.std.proofs.Common.{◌≡◌, ◌⊎◌, inl, inr, ℕ, zero, suc, ◌+◌, ◌-◌, ◌<◌, ◌≤◌, Bool, true, false, List, [], ◌∷◌, length, map, get_or, set, refl, ap, sym, ◌∙◌, subst, arith, true≢false}
+use Rattle.std.proofs.Common.{◌≡◌, inl, inr, ℕ, zero, suc, ◌+◌, ◌-◌, ◌<◌, ◌≤◌, Bool, true, false, List, [], ◌∷◌, length, map, get_or, set, refl, ap, sym, ◌∙◌, subst, arith, true≢false}
 use Rattle.std.specs.List.{AllZip}
-use Rattle.std.proofs.lemmas.Bool.{cases_eq, cases_lt}
+use Rattle.std.proofs.lemmas.Bool.{cases_eq, cases_lt, cases_Bool}
 use Rattle.std.proofs.lemmas.List.{get_or-map, get_or_append_left, get_or-append_right, get_or-set_other, length-set, length-append}
 use Rattle.cyc_base.specs.declared.sig.Sig.{Sig}
 use Rattle.cyc_base.specs.declared.trit.Trit.{Trit}
 use Rattle.cyc_base.specs.declared.trit.Trit.TheVariants.{Zero, One, X}
 use Rattle.cyc_base.specs.Values.{Below, EachBelow}
-use Rattle.cyc_base.proofs.OrderLemmas.{Below-refl, EachBelow-refl, EachBelow-at, EachBelow-append, EachBelow-length}
+use Rattle.cyc_base.proofs.OrderLemmas.{Below-refl, EachBelow-refl, EachBelow-at, EachBelow-append, EachBelow-length, EachBelow-from_at}
 use Rattle.netlist.specs.declared.parts.Parts.{Parts}
 use Rattle.netlist.specs.Fixpoint.{wires, wire, gate_value, step, fix_gates, fix}
 use Rattle.netlist.specs.Netlists.{count, gate_at, gate_sig, no_gate}
@@ -78,21 +78,10 @@ cleared-at marks n k [] = sym (hidden-x (is_marked marks (n + k)))
 cleared-at marks n zero (x ∷ xs) = ap (λ i. hidden (is_marked marks i) x) (omega arith)
 cleared-at marks n (suc k) (x ∷ xs) = cleared-at marks (suc n) k xs ∙ ap (λ i. hidden (is_marked marks i) (get_or xs k X)) (omega arith)
 
-EachBelow-from_at : (xs ys : List Trit) → length xs ≡ length ys → ((n : ℕ) → n < length xs → Below (get_or xs n X) (get_or ys n X)) → EachBelow xs ys
-EachBelow-from_at [] [] e h = tt
-EachBelow-from_at [] (y ∷ ys) e h = absurd (omega arith)
-EachBelow-from_at (x ∷ xs) [] e h = absurd (omega arith)
-EachBelow-from_at (x ∷ xs) (y ∷ ys) e h =
-    (h zero (omega arith), EachBelow-from_at xs ys (omega arith) (λ n l. h (suc n) (omega arith)))
-
 pub below_x : (a : Trit) → Below a X → a ≡ X
 below_x X h = refl
 below_x Zero h = sym h
 below_x One h = sym h
-
-true_or_false : (b : Bool) → (b ≡ true) ⊎ (b ≡ false)
-true_or_false true = inl refl
-true_or_false false = inr refl
 
 first : Parts → ℕ
 first net = length net.inputs + length net.latches
@@ -133,7 +122,7 @@ module _ (net : Parts) (given more : List Trit) (marks : List Bool) (h : IsHeldO
   -- a column is never marked
   column_unmarked : (n : ℕ) → n < length more → is_marked marks n ≡ false
   column_unmarked n l =
-      elim (true_or_false (is_marked marks n)) [
+      elim (cases_Bool (is_marked marks n)) [
         | inl e ↦ (let behind = (h.unknown n e).0.behind in absurd (omega arith))
         | inr e ↦ e
       ]

@@ -7,7 +7,7 @@ use Rattle.std.proofs.lemmas.Bool.{and_parts, and_from, or_cases, or_parts, or_l
 use Rattle.cyc_base.specs.declared.trit.Trit.{Trit}
 use Rattle.cyc_base.specs.declared.trit.Trit.TheVariants.{Zero, One, X}
 use Rattle.cyc_base.specs.Values.{bit, Below, EachBelow, Completes}
-use Rattle.cyc_base.proofs.OrderLemmas.{Below-refl, Below-bit, Below-at, EachBelow-refl, same_bit}
+use Rattle.cyc_base.proofs.OrderLemmas.{Below-refl, Below-bit, Below-at, EachBelow-refl, same_bit, unknown_or_bit}
 use Rattle.cover_logic.specs.declared.row.Lit.{Lit}
 use Rattle.cover_logic.specs.declared.row.Row.{Row}
 use Rattle.cover_logic.specs.Covers.{Cover, value, allows, matches, some_row_matches, value_of_rows}
@@ -216,14 +216,9 @@ free_count-set (Open ∷ pins) (suc pin) b e = free_count-set pins pin b e
 
 -- ---- both values
 
-open_or_bit : (t : Trit) → (t ≡ X) ⊎ ((b : Bool) × (t ≡ bit b))
-open_or_bit X = inl refl
-open_or_bit Zero = inr (false, refl)
-open_or_bit One = inr (true, refl)
-
 pub stays_open_without : (cover : Cover) (pins : List Pin) → ¬ CanBe cover pins true → ¬ CanBe cover pins false → StaysOpen cover pins
 stays_open_without cover pins one zero' = λ values may.
-    elim (open_or_bit (ext cover values)) [
+    elim (unknown_or_bit (ext cover values)) [
       | inl e ↦ e
       | inr b ↦ absurd (none b.0 values may b.1)
     ]

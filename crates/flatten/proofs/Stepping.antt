@@ -5,11 +5,12 @@ use Rattle.std.proofs.lemmas.Grind.{reverse_onto}
 use Rattle.std.proofs.lemmas.List.Sums.{passes_at_first}
 use Rattle.std.proofs.lemmas.List.{reverse-append, length-reverse, reverse-reverse}
 use Rattle.std.proofs.lemmas.List.Elements.{All-same}
+use Rattle.cyc_base.proofs.TruthLemmas.{or_comm, or-false}
+use Rattle.cyc_base.proofs.NameLemmas.{bytes_eq-true}
 use Rattle.blif_read.specs.Find.{has_name}
 use Rattle.flatten.specs.declared.walk.Walk.{Walk}
 use Rattle.flatten.specs.Hierarchies.{NestedModels}
 use Rattle.flatten.specs.Levels.{entered_on, Waits, remaining, then_lines, Walking, AddsGate, AddsLatch, PutsBack, PassesGate, PassesLatch, PartFails, WalkingAt, WalkingWith, Goes, StepsOn, StepsTo, IsBegun}
-use Rattle.flatten.proofs.Names.{bytes_same}
 use Rattle.flatten.proofs.Waiting.{waits_size, waits_open, waits_within, top_of, gate_step, latch_step, end_step, fault_step, opens_step, open_step}
 
 -- counting
@@ -44,16 +45,6 @@ fails_at (suc room) fault rest latches gates = refl
 rev_push : (s : List Level) (l : Level) → reverse (s ++ (l ∷ [])) ≡ l ∷ reverse s
 rev_push s l = reverse-append s (l ∷ [])
 
-or_swap : (a b : Bool) → (a || b) ≡ (b || a)
-or_swap true true = refl
-or_swap true false = refl
-or_swap false true = refl
-or_swap false false = refl
-
-or_false : (b : Bool) → (b || false) ≡ b
-or_false true = refl
-or_false false = refl
-
 or_eq : (a b c d : Bool) → a ≡ b → c ≡ d → (a || c) ≡ (b || d)
 or_eq a b c d e f = cc
 
@@ -62,8 +53,8 @@ any_reverse p [] = refl
 any_reverse p (x ∷ xs) =
     ap (λ ys. list_any p ys) (reverse_onto xs x [])
     ∙ list_any-append p (reverse xs) (x ∷ [])
-    ∙ or_eq _ _ _ _ (any_reverse p xs) (or_false (p x))
-    ∙ or_swap (list_any p xs) (p x)
+    ∙ or_eq _ _ _ _ (any_reverse p xs) (or-false (p x))
+    ∙ or_comm (list_any p xs) (p x)
 
 cond_some : (b : Bool) (k i : ℕ) → ◌≡◌ {A = Option ℕ} (if b then Some k else None) (Some i) → (b ≡ true) × (k ≡ i)
 cond_some true k i e = (refl, cc)
@@ -79,7 +70,7 @@ find_name models name i e =
     let h = cond_some (nat_lt k (length models)) k i e in
     let l = below_at k (length models) h.0 in
     let t = passes_at_first (has_name name) models no_model l in
-    (omega (arith, h.1), ap (λ j. (model_at models j).name) (sym h.1) ∙ bytes_same (model_at models k).name name t)
+    (omega (arith, h.1), ap (λ j. (model_at models j).name) (sym h.1) ∙ bytes_eq-true (model_at models k).name name t)
 
 last_case : (x : Option FlatFault) (j i : ℕ) → ◌≡◌ {A = Result ℕ FlatFault} (elim x [ Some fault ↦ Err fault | None ↦ Ok j ]) (Ok i) → j ≡ i
 last_case (Some fault) j i e = absurd (cc)

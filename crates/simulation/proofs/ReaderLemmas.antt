@@ -3,9 +3,10 @@ use Rattle.std.proofs.Common.{◌≡◌, inl, inr, ℕ, ◌+◌, ◌<◌, List, 
 use Rattle.simulation.proofs.Common.{cases_lt, cases_eq, get_or-set_same, get_or-set_other, get_or_past, get_or_default, length-set, Sig, Parts, count, gate_at, readers_of, AreListed}
 use Rattle.std.proofs.lemmas.List.{get_or-replicate, length-replicate}
 use Rattle.std.proofs.lemmas.List.Elements.{Contains-append_left, Contains-append_right}
+use Rattle.cyc_base.proofs.ListLemmas.{Contains-here, Contains-cases, Contains-nothing}
 use Rattle.simulation.specs.Plans.{AreReadersOf}
 use Rattle.simulation.proofs.PinLemmas.{contains_at}
-use Rattle.simulation.proofs.ListLemmas.{Contains-here, Contains-cases, Contains-nothing, append_cases}
+use Rattle.simulation.proofs.ListLemmas.{append_cases}
 
 pub listed_none : (gate : ℕ) (pins : List Sig) (lists : List (List ℕ)) → AreListed gate pins 0 lists lists
 listed_none gate pins lists = record {

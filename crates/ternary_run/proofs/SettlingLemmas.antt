@@ -12,7 +12,8 @@ use Rattle.cyc_base.specs.declared.sig.Sig.{Sig}
 use Rattle.cyc_base.specs.declared.trit.Trit.{Trit}
 use Rattle.cyc_base.specs.declared.trit.Trit.TheVariants.{Zero, One, X}
 use Rattle.cyc_base.specs.Values.{Below, EachBelow}
-use Rattle.cyc_base.proofs.OrderLemmas.{Below-refl, EachBelow-refl, EachBelow-at, EachBelow-antisym, EachBelow-length}
+use Rattle.cyc_base.proofs.OrderLemmas.{Below-refl, EachBelow-refl, EachBelow-at, EachBelow-antisym, EachBelow-length, EachBelow-from_at}
+use Rattle.cyc_base.proofs.ListLemmas.{Contains-cases, Contains-nothing, Contains-range}
 use Rattle.cover_logic.specs.Extensions.{ext}
 use Rattle.netlist.specs.declared.parts.Parts.{Parts}
 use Rattle.netlist.specs.Netlists.{count, gate_at, gate_sig, no_gate}
@@ -21,7 +22,6 @@ use Rattle.netlist.proofs.FixpointLemmas.{length-step, length-steps, step_is_mon
 use Rattle.ternary_run.specs.declared.fanout.Read.{Read}
 use Rattle.ternary_run.specs.Reading.{readers_of, IsFanoutOf}
 use Rattle.ternary_run.specs.Settling.{all_unknown, Determines, IsNewValue}
-use Rattle.ternary_run.proofs.Lists.{Contains-cases, Contains-nothing, EachBelow-from_at}
 use Rattle.ternary_run.proofs.ReadingLemmas.{readers_of-contain, readers_of-below, readers_of-length, reads_or_same}
 
 -- where settling stands: the gates are below the fixpoint, and one that is unknown waits in the queue or has no other value
@@ -36,9 +36,6 @@ pub record IsSettling (net : Parts) (v values : List Trit) (queue : List ℕ) : 
 abbrev pub HasWidth : Parts → List Trit → Type 0
 HasWidth net v = length v ≡ length net.inputs + length net.latches
 
-contains_range : (n g : ℕ) → g < n → Contains (range_with_len 0 n) g
-contains_range n g l = (g, omega (arith, length-range_with_len 0 n), get_or-range_with_len 0 n g g l ∙ omega arith)
-
 length-fix_gates : (net : Parts) (v : List Trit) → length (fix_gates net v) ≡ length net.gates
 length-fix_gates net v = length-steps net v (length net.gates)
 
@@ -48,7 +45,7 @@ settling_starts net v = record {
   split = refl;
   below = unknown_below_state (length net.gates) (fix_gates net v) (length-fix_gates net v);
   queued = λ k d l. omega (arith, get_or-range_with_len 0 (length net.gates) k d (omega (arith, length-range_with_len 0 (length net.gates))), length-range_with_len 0 (length net.gates));
-  still = λ g l e. inl (contains_range (length net.gates) g l);
+  still = λ g l e. inl (Contains-range (length net.gates) g l);
 }
 
 pub length-state : (net : Parts) (v values : List Trit) (queue : List ℕ) (h : IsSettling net v values queue) → length h.state ≡ length net.gates
@@ -229,10 +226,6 @@ pub waiting_gate : (net : Parts) (v values : List Trit) (g : ℕ) (queue rest : 
 waiting_gate net v values g queue rest e h =
     let stands : IsSettling net v values (g ∷ rest) = rw e at h in
     All-head (λ k. k < length net.gates) g rest stands.queued
-
-pub nothing_left : (queue : List ℕ) → length queue ≡ 0 → queue ≡ []
-nothing_left [] e = refl
-nothing_left (g ∷ queue) e = absurd (omega arith)
 
 -- the fixpoint has a value for each signal
 pub length-fix : (net : Parts) (v : List Trit) → HasWidth net v → length (fix net v) ≡ count net

@@ -5,6 +5,7 @@ use Rattle.std.proofs.lemmas.Bool.{cases_lt, cases_Bool, and_from, lt-ltb, le-lt
 use Rattle.std.proofs.lemmas.List.{get_or-map, get_or_append_left, length-map}
 use Rattle.std.specs.List.{AllByRecursion}
 use Rattle.cyc_base.specs.declared.sig.Sig.{Sig}
+use Rattle.cyc_base.proofs.ListLemmas.{all_weaker}
 use Rattle.netlist.specs.declared.parts.Gate.{Gate}
 use Rattle.netlist.specs.declared.parts.Parts.{Parts}
 use Rattle.netlist.specs.Netlists.{signal, gate_at, gate_sig}
@@ -15,7 +16,7 @@ use Rattle.loops.specs.Walks.{SameLoop}
 use Rattle.loops.proofs.Reading.{in_loop_from}
 use Rattle.loops.proofs.Sweeps.{same-sym, same-trans, same_within}
 use Rattle.loops.proofs.Unique.{feeds_at}
-use Rattle.loops.proofs.Walks.{all_weaker, on_closed_walk, leads-any, cuts_leave_no_loop}
+use Rattle.loops.proofs.Walks.{on_closed_walk, leads-any, cuts_leave_no_loop}
 use Rattle.unroll.specs.Laws.{UnrolledIsLoopFree}
 use Rattle.unroll.specs.Unrolled.{Copy, copy_of, copies_of, copies, most, place, has_loop, constants, shift, copy_signal, old_signal, copy_pin, kept_pin, copy_gate, kept_gate, kept_latch, unrolled, IsOfLoops}
 use Rattle.unroll.proofs.Kept.{many_of, self_of}

@@ -4,6 +4,7 @@ use Rattle.std.proofs.lemmas.Bool.{cases_lt, leb-true, le-leb}
 use Rattle.std.proofs.lemmas.List.{append-nil, get_or-replicate, get_or_default, length-append, length-map, length-replicate, map-append, append_assoc}
 use Rattle.std.specs.List.{AllByRecursion, range_with_len}
 use Rattle.cyc_base.specs.declared.sig.Sig.{Sig}
+use Rattle.cyc_base.proofs.ListLemmas.{map-map}
 use Rattle.netlist.specs.declared.parts.Gate.{Gate}
 use Rattle.netlist.specs.declared.parts.Parts.{Parts}
 use Rattle.netlist.specs.Netlists.{signal, count, gate_at}
@@ -50,10 +51,6 @@ map_same f g (x ∷ xs) h = ap₂ (λ y ys. y ∷ ys) (h x) (map_same f g xs h)
 pub map_where : {A B : Type 0} (f g : A → B) (xs : List A) → ((i : ℕ) (d : A) → i < length xs → f (get_or xs i d) ≡ g (get_or xs i d)) → map f xs ≡ map g xs
 map_where f g [] h = refl
 map_where f g (x ∷ xs) h = ap₂ (λ y ys. y ∷ ys) (h zero x (omega arith)) (map_where f g xs (λ i d l. h (suc i) d (omega arith)))
-
-pub map-map : {A B C : Type 0} (f : B → C) (g : A → B) (xs : List A) → map f (map g xs) ≡ map (λ x. f (g x)) xs
-map-map f g [] = refl
-map-map f g (x ∷ xs) = ap (λ ys. f (g x) ∷ ys) (map-map f g xs)
 
 -- a choice among three signals in two ways
 pub choice_same : (b d : Bool) (x y z x' y' z' : Sig) → (b ≡ true → x ≡ x') → (b ≡ true → y ≡ y') → z ≡ z' → (if b then (if d then x else y) else z) ≡ (if b then (if d then x' else y') else z')

@@ -7,10 +7,10 @@ use Rattle.bdd_store.proofs.GrowthLemmas.{within_caused}
 use Rattle.std.proofs.lemmas.List.Elements.{All-map}
 use Rattle.std.proofs.lemmas.Option.{same_Some}
 use Rattle.std.specs.List.{All, slice_index_or}
+use Rattle.cyc_base.proofs.ListLemmas.{map-map}
 use Rattle.care_sets.specs.Care.{inputs_at}
 use Rattle.fixpoint.specs.Sweeping.{unknown}
 use Rattle.fixpoint.specs.Working.{no_loops, IsGatePart}
-use Rattle.fixpoint.proofs.WireLemmas.{map-map}
 
 -- the first rail says where a value is 1
 pub one_rail : (a : Arena) (r : Rails) (v : List Bool) → den a r.one v ≡ is_one (value_of a r v)

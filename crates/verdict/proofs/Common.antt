@@ -50,7 +50,7 @@ pub use Rattle.netlist.specs.Netlists.{IsNetlist, count, gate_sig}
 pub use Rattle.netlist.specs.Walks.{Feeds}
 pub use Rattle.netlist.specs.declared.parts.Latch.{Latch}
 pub use Rattle.netlist.specs.declared.parts.Parts.{Parts}
-pub use Rattle.refusals.proofs.FirstLemmas.{empty-filter, found_wide, none_passes, nothing_passes}
+pub use Rattle.refusals.proofs.FirstLemmas.{empty-filter, found_wide, none_passes}
 pub use Rattle.refusals.proofs.RefusalLemmas.{gate_wire, length-fix_gates}
 pub use Rattle.refusals.proofs.ShowingLemmas.{care_vector_decides, care_vector_is}
 pub use Rattle.refusals.specs.Acceptance.{gate_sigs, observed}
@@ -78,3 +78,4 @@ pub use Rattle.verdict.specs.Sets.{AreFixed, BoundsBoth, BoundsStarts, ReadsWith
 pub use Rattle.verdict.specs.Solving.{AreColumnVectors}
 pub use Rattle.verdict.specs.Unknown.{AreAsked}
 pub use Rattle.verdict.specs.Verdicts.{AreLoose, are_care_values}
+pub use Rattle.cyc_base.proofs.VectorLemmas.{find-none}
