@@ -1,18 +1,18 @@
 -- The lines of a written netlist link to the netlist.
 use Rattle.std.proofs.Common.{◌≡◌, ◌&&◌, ◌||◌, ℕ, zero, suc, ◌<◌, not, Bool, true, false, List, [], ◌∷◌, ◌++◌, length, map, get_or, refl, sym, ap, ◌∙◌, subst, arith, eq-eqb, if◌then◌else◌, None, Some, option_map, is_some, Ok, Err, cond}
-use Rattle.blif_write.proofs.Common.{All, IfSome, flat_map, list_any, bytes_eq, Option, length-map, All-head, All-tail, Sig, Clock, Edge, Rise, Fall, Gate, Latch, Parts, signal, signal_names, driven_names, IsNetlist, IsClockName, BlifModel, GateLine, LatchLine, name_of}
+use Rattle.blif_write.proofs.Common.{All, IfSome, flat_map, list_any, bytes_eq, Option, All-head, All-tail, Sig, Clock, Edge, Rise, Fall, Gate, Latch, Parts, signal, signal_names, driven_names, IsNetlist, IsClockName, BlifModel, GateLine, LatchLine, name_of}
 use Rattle.std.specs.Prelude.{codes, filter}
 use Rattle.std.specs.List.{find, position_or_len, IsDistinct, AllByRecursion}
 use Rattle.std.specs.Option.{option_or, option_and_then, option_map_or}
-use Rattle.std.proofs.lemmas.List.{length-append}
 use Rattle.std.proofs.lemmas.List.Elements.{All-nil, All-cons, All-append}
 use Rattle.std.proofs.lemmas.List.Folds.{list_any-append}
 use Rattle.std.proofs.lemmas.Bool.{or_right, or_parts}
 use Rattle.cyc_base.proofs.ListLemmas.{map-map}
 use Rattle.cyc_base.proofs.NameLemmas.{bytes_eq-true}
-use Rattle.netlist.specs.Netlists.{count, sig_eq, IsSignal}
+use Rattle.netlist.specs.Netlists.{sig_eq, IsSignal}
 use Rattle.netlist.specs.Faults.{repeat_after}
 use Rattle.netlist.proofs.Differ.{no_repeat_from_differ}
+use Rattle.netlist.proofs.NameLemmas.{length-signal_names}
 use Rattle.flatten.specs.declared.fault.FlatFault.{FlatFault}
 use Rattle.flatten.specs.declared.fault.FlatFault.TheVariants.{DeclaredTwice, DrivenTwice, Undriven, BadClock, ClockRead}
 use Rattle.flatten.specs.Instances.{is_among}
@@ -103,18 +103,8 @@ driven_are net =
 signals_are : (net : Parts) → signal_list (model_of_text net) (lines_of_text net) ≡ signal_names net
 signals_are net = ap (λ names. net.inputs ++ names) (driven_are net)
 
-pub name_count : (net : Parts) → length (signal_names net) ≡ count net
-name_count net =
-    omega (
-      arith,
-      length-append net.inputs (driven_names net),
-      length-append (map (λ (latch : Latch). latch.name) net.latches) (map (λ (gate : Gate). gate.name) net.gates),
-      length-map net.latches (λ (latch : Latch). latch.name),
-      length-map net.gates (λ (gate : Gate). gate.name),
-    )
-
 sig_same : (net : Parts) → IsNetlist net → (s : Sig) → IsSignal net s → sig_of (signal_names net) (name_of net s) ≡ s
-sig_same net valid s is = ap signal (place_of (signal_names net) s.0 valid.names_differ (omega (arith, is, name_count net)))
+sig_same net valid s is = ap signal (place_of (signal_names net) s.0 valid.names_differ (omega (arith, is, length-signal_names net)))
 
 sigs_same : (net : Parts) → IsNetlist net → (sigs : List Sig) → All (IsSignal net) sigs → map (sig_of (signal_names net)) (map (name_of net) sigs) ≡ sigs
 sigs_same net valid sigs each =
@@ -177,7 +167,7 @@ abbrev IsRead : Parts → List ℕ → Type 0
 IsRead net name = is_among (signal_names net) name ≡ true
 
 read_signal : (net : Parts) (s : Sig) → IsSignal net s → IsRead net (name_of net s)
-read_signal net s is = among_at (signal_names net) s.0 (omega (arith, is, name_count net))
+read_signal net s is = among_at (signal_names net) s.0 (omega (arith, is, length-signal_names net))
 
 All-mapped : {X Y : Type 0} (P : X → Type 0) (Q : Y → Type 0) (f : X → Y) → ((x : X) → P x → Q (f x)) → (xs : List X) → All P xs → All Q (map f xs)
 All-mapped P Q f gives [] each = All-nil Q

@@ -29,7 +29,7 @@ gate_names net = map (λ gate. gate.name) net.gates
 names_split : (net : Parts) → signal_names net ≡ column_names net ++ gate_names net
 names_split net = sym (append_assoc net.inputs (map (λ latch. latch.name) net.latches) (gate_names net))
 
-length-column_names : (net : Parts) → length (column_names net) ≡ columns net
+pub length-column_names : (net : Parts) → length (column_names net) ≡ columns net
 length-column_names net = omega (arith, length-append net.inputs (map (λ latch. latch.name) net.latches), length-map net.latches (λ latch. latch.name))
 
 -- a name differs from that of each other signal
@@ -203,7 +203,7 @@ no_early_name net first names columns h e =
     ∙ slice_get_past names (length names) (omega arith)
 
 -- each column that a name has is one of the netlist
-column_within : (net : Parts) (name : List ℕ) (column : ℕ) → column_of net name ≡ Some column → column < columns net
+pub column_within : (net : Parts) (name : List ℕ) (column : ℕ) → column_of net name ≡ Some column → column < columns net
 column_within net name column e =
     let at = position-Some (bytes_eq name) (column_names net) column [] e in
     omega (arith, at.0, length-column_names net)

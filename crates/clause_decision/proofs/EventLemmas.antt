@@ -1,10 +1,10 @@
 -- Setting the gates of a loop that read something new.
 use Rattle.std.proofs.Common.{◌≡◌, ◌≢◌, ◌⊎◌, inl, inr, ℕ, zero, suc, ◌+◌, ◌-◌, ◌*◌, ◌<◌, ◌≤◌, ◌==◌, Bool, true, false, ◌&&◌, leb, if◌then◌else◌, List, [], ◌∷◌, ◌++◌, length, drop, map, get_or, set, replicate, None, refl, sym, ap, ap₂, subst, ◌∙◌, arith, Contains, append-nil, true≢false}
-use Rattle.std.proofs.Math.Nat.{mul-le-mul_right}
 use Rattle.clause_decision.proofs.Common.{and_parts, length-set, Contains-append_left, Contains-push, Contains-push_cases, Sig, Trit, Zero, One, X, Below, gate_at, gate_sig, wire, home_of, is_cut, first_gate, gate_of, value_in, map_agree, IsSweeping, AreUnseen, IsReady, LoopAt, IsLoopAt, gates_in, AreReaders}
 use Rattle.std.proofs.lemmas.Bool.{cases_eq, leb-true}
 use Rattle.std.proofs.lemmas.List.{drop_more, get_or-set_same, get_or-set_other, length-append, length-replicate}
 use Rattle.std.proofs.lemmas.List.Elements.{Contains-append_cases, Contains-append_right}
+use Rattle.ternary_run.proofs.SettlingLemmas.{falls}
 use Rattle.cyc_base.specs.Values.{EachBelow}
 use Rattle.cyc_base.proofs.OrderLemmas.{Below-refl, Below-trans, Below-unknown}
 use Rattle.cyc_base.proofs.ListLemmas.{Contains-nothing}
@@ -396,9 +396,6 @@ more-known values g value low unknown known =
 -- the values that are still unknown and the gates that wait, so weighed that it falls when a gate is set
 pub work_left : ℕ → List Trit → List ℕ → ℕ
 work_left most values waiting = (length values - known_count values) * suc most + length waiting
-
-falls : (a b most before after : ℕ) → a < b → after ≤ before + most → a * suc most + after < b * suc most + suc before
-falls a b most before after less few = let weighed : suc a * suc most ≤ b * suc most = mul-le-mul_right (suc most) less in omega (arith, weighed, few)
 
 pub work_left-set : (readers : List (List ℕ)) (values : List Trit) (g : ℕ) (rest more : List ℕ) (value : Trit) → g < length values → value_in values g ≡ X → value ≢ X → length more ≤ total readers →
     work_left (total readers) (set values g value) (rest ++ more) < work_left (total readers) values (rest ++ g ∷ [])

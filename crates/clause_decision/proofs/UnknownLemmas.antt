@@ -2,7 +2,7 @@
 use Rattle.std.proofs.Common.{◌≡◌, inl, inr, ℕ, zero, suc, ◌<◌, ◌+◌, ◌*◌, Bool, true, false, not, ◌&&◌, ◌||◌, List, [], ◌∷◌, length, map, take, get_or, Option, Some, None, refl, sym, ap, ap₂, subst, ◌∙◌, arith, true≢false}
 use Rattle.std.specs.Prelude.{find, is_some}
 use Rattle.std.specs.List.{All, list_any}
-use Rattle.clause_decision.proofs.Common.{cases_lt, length-map, length-take-le, get_or-map, All-nil, All-cons, All-get_or, All-map, All-weaker, All-take, Trit, Zero, One, X, bit, bits, Parts, wire, fix, fix_gates, count, gate_sig, first_gate, value_in, CareSet, columns, is_allowed, is_in_invariant, is_care_vector, state_of, Formula, Rails, IsWanted, gate_rails, says, negation, IsModel, ReadsAll, AreWithin, is_known, is_one, no_rails, SaysAny, says-negation, IsWithin, problem, HasNoModelUnder, Asks, models-same, column_rails, vector_in, ReadsAbove, ReadsFix, IsCone, is_marked, unknown_literals}
+use Rattle.clause_decision.proofs.Common.{cases_lt, length-map, length-take-le, get_or-map, All-nil, All-cons, All-get_or, All-map, All-weaker, All-take, Trit, Zero, One, X, bits, Parts, wire, fix, fix_gates, count, gate_sig, first_gate, value_in, CareSet, columns, is_allowed, is_in_invariant, is_care_vector, state_of, Formula, Rails, IsWanted, gate_rails, says, negation, IsModel, ReadsAll, AreWithin, is_known, no_rails, SaysAny, says-negation, IsWithin, problem, HasNoModelUnder, Asks, models-same, column_rails, vector_in, ReadsAbove, ReadsFix, IsCone, is_marked, unknown_literals}
 use Rattle.std.proofs.lemmas.Simd.{map-map}
 use Rattle.std.proofs.lemmas.Bool.{or_right, and_parts}
 use Rattle.cyc_base.specs.Vectors.{vectors}
@@ -10,7 +10,8 @@ use Rattle.cyc_base.proofs.OrderLemmas.{Below-unknown}
 use Rattle.cyc_base.proofs.VectorLemmas.{find-none}
 use Rattle.refusals.specs.Refusals.{is_x, is_undetermined}
 use Rattle.refusals.proofs.FirstLemmas.{none_passes}
-use Rattle.refusals.proofs.RefusalLemmas.{is_x_decides, gate_wire}
+use Rattle.refusals.proofs.RefusalLemmas.{gate_wire, one_of_bit}
+use Rattle.refusals.proofs.ShowingLemmas.{is_x_decides}
 use Rattle.clause_decision.proofs.SignalLemmas.{negation-within, three}
 use Rattle.clause_queries.specs.Each.{CanBe, CannotBe, TellEach}
 use Rattle.clause_queries.specs.Queries.{HasModelUnder, AreRising, IsFirst, IsFirstAt}
@@ -58,15 +59,11 @@ unknown-value X e = refl
 unknown-value Zero e = absurd (true≢false (sym e))
 unknown-value One e = absurd (true≢false (sym e))
 
-one-of_bit : (b : Bool) → is_one (bit b) ≡ b
-one-of_bit true = refl
-one-of_bit false = refl
-
 pub vector-read : (m : List Bool) (rs : List Rails) (v : List Bool) → ReadsAll m rs (bits v) → map (λ r. says m r.one) rs ≡ v
 vector-read m [] [] h = refl
 vector-read m [] (b ∷ v) h = absurd h
 vector-read m (r ∷ rs) [] h = absurd h
-vector-read m (r ∷ rs) (b ∷ v) h = ap₂ (λ x xs. x ∷ xs) (h.0.one ∙ one-of_bit b) (vector-read m rs v h.1)
+vector-read m (r ∷ rs) (b ∷ v) h = ap₂ (λ x xs. x ∷ xs) (h.0.one ∙ one_of_bit b) (vector-read m rs v h.1)
 
 -- ---- a gate that is unknown at some care vector
 

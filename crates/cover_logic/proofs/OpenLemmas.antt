@@ -4,7 +4,7 @@ use Rattle.std.specs.List.{list_any, filter}
 use Rattle.cyc_base.specs.declared.trit.Trit.{Trit}
 use Rattle.cyc_base.specs.declared.trit.Trit.TheVariants.{Zero, One, X}
 use Rattle.cyc_base.specs.Values.{bit, Below, Completes}
-use Rattle.cyc_base.proofs.TruthLemmas.{same_truth}
+use Rattle.cyc_base.proofs.TruthLemmas.{same_truth, and_assoc}
 use Rattle.cover_logic.specs.declared.row.Lit.{Lit}
 use Rattle.cover_logic.specs.declared.row.Lit.TheVariants as lit
 use Rattle.cover_logic.specs.declared.row.Row.{Row}
@@ -62,10 +62,6 @@ and_swap true b c = refl
 and_swap false true c = refl
 and_swap false false c = refl
 
-and_and : (a b c : Bool) → (a && (b && c)) ≡ ((a && b) && c)
-and_and true b c = refl
-and_and false b c = refl
-
 known_zero : (l : Lit) (b : Bool) → Below Zero (bit b) → allows l b ≡ may_allow l Zero
 known_zero lit.Zero false c = refl
 known_zero lit.One false c = refl
@@ -94,11 +90,11 @@ matches-open (l ∷ lits) (X ∷ trits) [] c = absurd c
 matches-open (l ∷ lits) (Zero ∷ trits) (b ∷ bs) c =
     ap (λ a. a && matches lits bs) (known_zero l b c.0)
     ∙ ap (λ m. may_allow l Zero && m) (matches-open lits trits bs c.1)
-    ∙ and_and (may_allow l Zero) (may_match lits trits) (matches (open_lits lits trits) (open_bits trits bs))
+    ∙ sym (and_assoc (may_allow l Zero) (may_match lits trits) (matches (open_lits lits trits) (open_bits trits bs)))
 matches-open (l ∷ lits) (One ∷ trits) (b ∷ bs) c =
     ap (λ a. a && matches lits bs) (known_one l b c.0)
     ∙ ap (λ m. may_allow l One && m) (matches-open lits trits bs c.1)
-    ∙ and_and (may_allow l One) (may_match lits trits) (matches (open_lits lits trits) (open_bits trits bs))
+    ∙ sym (and_assoc (may_allow l One) (may_match lits trits) (matches (open_lits lits trits) (open_bits trits bs)))
 matches-open (l ∷ lits) (X ∷ trits) (b ∷ bs) c =
     ap (λ m. allows l b && m) (matches-open lits trits bs c.1)
     ∙ and_swap (allows l b) (may_match lits trits) (matches (open_lits lits trits) (open_bits trits bs))

@@ -112,11 +112,11 @@ may_completion (l ∷ lits) (t ∷ trits) h =
     (freed l t ∷ rest.0, (freed-above l t, rest.1), and_from (allows l (freed l t)) (matches lits rest.0) (freed-allowed l t p.0) rest.2)
 
 -- a row that does not ask for b at a pin, and matches where the pin is b, matches at the other value too
-allows_other : (l : Lit) (b : Bool) → not (allows l (not b)) ≡ false → allows l (not b) ≡ true
+pub allows_other : (l : Lit) (b : Bool) → not (allows l (not b)) ≡ false → allows l (not b) ≡ true
 allows_other l true h = not-false (allows l false) h
 allows_other l false h = not-false (allows l true) h
 
-matches_other : (lits : List Lit) (bs : List Bool) (pin : ℕ) (b : Bool) → asks lits pin b ≡ false → matches lits (set bs pin b) ≡ true → matches lits (set bs pin (not b)) ≡ true
+pub matches_other : (lits : List Lit) (bs : List Bool) (pin : ℕ) (b : Bool) → asks lits pin b ≡ false → matches lits (set bs pin b) ≡ true → matches lits (set bs pin (not b)) ≡ true
 matches_other [] bs pin b n h = refl
 matches_other (l ∷ lits) [] pin b n h = refl
 matches_other (l ∷ lits) (d ∷ bs) zero b n h =
@@ -174,7 +174,7 @@ decided rows trits n h =
 
 -- ---- the cofactors at an unknown pin
 
-completes-reset : (trits : List Trit) (bs : List Bool) (pin : ℕ) (d b : Bool) → Completes (set trits pin (bit d)) bs → Completes (set trits pin (bit b)) (set bs pin b)
+pub completes-reset : (trits : List Trit) (bs : List Bool) (pin : ℕ) (d b : Bool) → Completes (set trits pin (bit d)) bs → Completes (set trits pin (bit b)) (set bs pin b)
 completes-reset [] [] pin d b c = tt
 completes-reset [] (e ∷ bs) pin d b c = absurd c
 completes-reset (t ∷ trits) [] zero d b c = absurd c
@@ -182,7 +182,7 @@ completes-reset (t ∷ trits) [] (suc pin) d b c = absurd c
 completes-reset (t ∷ trits) (e ∷ bs) zero d b c = (Below-refl (bit b), c.1)
 completes-reset (t ∷ trits) (e ∷ bs) (suc pin) d b c = (c.0, completes-reset trits bs pin d b c.1)
 
-set-completes : (trits : List Trit) (bs : List Bool) (pin : ℕ) (d : Bool) → Completes (set trits pin (bit d)) bs → set bs pin d ≡ bs
+pub set-completes : (trits : List Trit) (bs : List Bool) (pin : ℕ) (d : Bool) → Completes (set trits pin (bit d)) bs → set bs pin d ≡ bs
 set-completes [] [] pin d c = refl
 set-completes [] (e ∷ bs) pin d c = absurd c
 set-completes (t ∷ trits) [] zero d c = absurd c
@@ -305,12 +305,12 @@ in_plane-one_one false false false e = refl
 in_plane-one_one false true false e = cc
 in_plane-one_one false false true e = cc
 
-in_plane-true : (plane : Bool) → in_plane plane true ≡ plane
+pub in_plane-true : (plane : Bool) → in_plane plane true ≡ plane
 unfolding in_plane
 in_plane-true true = refl
 in_plane-true false = refl
 
-in_plane-false : (plane : Bool) → in_plane plane false ≡ not plane
+pub in_plane-false : (plane : Bool) → in_plane plane false ≡ not plane
 unfolding in_plane
 in_plane-false true = refl
 in_plane-false false = refl

@@ -17,6 +17,7 @@ use Rattle.dual_rail.proofs.SurelyLemmas.{length-values}
 use Rattle.netlist.specs.declared.parts.Parts.{Parts}
 use Rattle.netlist.specs.Fixpoint.{wire, fix, fix_gates}
 use Rattle.netlist.specs.Netlists.{count}
+use Rattle.netlist.proofs.FixpointLemmas.{length-fix_gates}
 use Rattle.loops.specs.declared.structure.Blocks.{Blocks}
 use Rattle.loops.specs.declared.structure.Cut.{Cut}
 use Rattle.fixpoint.specs.declared.solved.Solved.{Solved}
@@ -26,7 +27,6 @@ use Rattle.fixpoint.specs.Sweeping.{rails_at}
 use Rattle.fixpoint.proofs.WireLemmas.{rails_at-proper}
 use Rattle.care_sets.specs.Care.{CareSet, columns, is_care_vector}
 use Rattle.refusals.proofs.LawLemmas.{care_test}
-use Rattle.refusals.proofs.RefusalLemmas.{length-fix_gates}
 use Rattle.verdict.proofs.CareLemmas.{value_at-place}
 use Rattle.clause_decision.specs.declared.pairs.Pair.{Pair}
 use Rattle.differences.specs.Comparisons.{IsLaidBy}

@@ -1,5 +1,5 @@
 -- Shannon's expansion of rows.
-use Rattle.std.proofs.Common.{◌≡◌, ℕ, zero, suc, ◌+◌, ◌<◌, ◌≤◌, Bool, true, false, not, cond, ◌&&◌, ◌||◌, ◌⊎◌, inl, inr, List, [], ◌∷◌, ◌++◌, length, drop, replicate, get_or, Result, Ok, IfOk, if◌then◌else◌, refl, sym, ap, subst, ◌∙◌, arith, add-one, append_assoc, length-append, length-drop, true≢false}
+use Rattle.std.proofs.Common.{◌≡◌, ℕ, zero, suc, ◌+◌, ◌<◌, ◌≤◌, Bool, true, false, cond, ◌&&◌, ◌||◌, ◌⊎◌, inl, inr, List, [], ◌∷◌, ◌++◌, length, drop, replicate, get_or, Result, Ok, IfOk, if◌then◌else◌, refl, sym, ap, subst, ◌∙◌, arith, add-one, append_assoc, length-append, length-drop, true≢false}
 use Rattle.std.proofs.lemmas.List.FromFn.{map-range_with_len_more}
 use Rattle.std.proofs.lemmas.List.{map-id, get_or_at, drop_at, length-replicate, length_push}
 use Rattle.std.proofs.lemmas.List.Elements.{All-get_or}
@@ -14,6 +14,7 @@ use Rattle.cover_logic.specs.declared.row.Lit.{Lit}
 use Rattle.cover_logic.specs.declared.row.Lit.TheVariants.{Zero, One, Any}
 use Rattle.cover_logic.specs.declared.row.Row.{Row}
 use Rattle.cover_logic.specs.Covers.{allows, matches, some_row_matches, value_of_rows}
+use Rattle.cover_logic.proofs.TautologyLemmas.{in_plane-true}
 use Rattle.dual_rail.specs.Expansion.{lits_of, literal, is_any, is_settled, matches_from, in_plane, remainder, narrowed, IsExpansion, AreBranches}
 
 -- ---- lists
@@ -71,14 +72,6 @@ drop-nil (l ∷ lits) zero h = omega arith
 drop-nil (l ∷ lits) (suc pin) h = let less = drop-nil lits pin h in omega (arith, less)
 
 -- ---- where the rows decide
-
-in_plane-true : (plane : Bool) → in_plane plane true ≡ plane
-in_plane-true true = refl
-in_plane-true false = refl
-
-pub in_plane-false : (plane : Bool) → in_plane plane false ≡ not plane
-in_plane-false true = refl
-in_plane-false false = refl
 
 -- a row that asks nothing more matches
 pub remainder-settled : (rows : List Row) (plane : Bool) (pin : ℕ) (live : List ℕ) → list_any (is_settled rows pin) live ≡ true → (bits : List Bool) → remainder rows plane pin live bits ≡ plane

@@ -6,6 +6,7 @@ use Rattle.std.proofs.lemmas.Bool.{lt-ltb, le-ltb}
 use Rattle.std.proofs.lemmas.List.{map-id}
 use Rattle.std.proofs.lemmas.List.Elements.{All-append}
 use Rattle.std.proofs.lemmas.List.Folds.{find_at}
+use Rattle.netlist.proofs.NameLemmas.{length-signal_names}
 use Rattle.cyc_base.specs.declared.trit.Trit.TheVariants.{Zero, One}
 use Rattle.cyc_base.proofs.ListLemmas.{list_any-map}
 use Rattle.cyc_base.proofs.OrderLemmas.{bits-at}
@@ -14,7 +15,7 @@ use Rattle.refusals.proofs.RefusalLemmas.{column_known, gate_sig_at, length-gate
 use Rattle.clause_decision.specs.Apart.{are_apart, is_apart_at}
 use Rattle.equal.specs.Matching.{init_eq}
 use Rattle.equal.specs.Differences.{are_different, differs_at}
-use Rattle.equal.proofs.NameLemmas.{any_agree, length-names}
+use Rattle.equal.proofs.NameLemmas.{any_agree}
 use Rattle.equal.proofs.PartLemmas.{IsPartOf, fix_at}
 use Rattle.equal.proofs.MatchLemmas.{Match, table_within, length-table, length-by_name, by_name_at}
 
@@ -116,7 +117,7 @@ named_signal net name some = by (position (bytes_eq name) (signal_names net)) re
   where
     by : (o : Option ℕ) → position (bytes_eq name) (signal_names net) ≡ o → number_or_0 o < count net
     by None e = some
-    by (Some i) e = let p = position-Some (bytes_eq name) (signal_names net) i [] e in let l = p.0 in let n = length-names net in omega arith
+    by (Some i) e = let p = position-Some (bytes_eq name) (signal_names net) i [] e in let l = p.0 in let n = length-signal_names net in omega arith
 
 has_output : (net : Parts) (name : List ℕ) → IsNetlist net → is_output net name ≡ true → 0 < count net
 has_output net name valid e = by net.outputs refl (sym (list_any-map (bytes_eq name) (name_of net) net.outputs) ∙ e)

@@ -1,14 +1,16 @@
 -- What it means that all names match, and vectors by name.
 use Rattle.std.proofs.Common.{◌≡◌, inl, inr, ℕ, zero, suc, ◌+◌, ◌-◌, ◌<◌, ◌≤◌, Bool, true, false, not, ◌&&◌, cond, List, [], ◌∷◌, ◌++◌, length, map, take, drop, get_or, slice_get, Option, Some, None, IfSome, refl, sym, ap, ap₂, subst, ◌∙◌, arith, true≢false}
-use Rattle.equal.proofs.Common.{find, list_any, option_map_or, bytes_eq, cases_lt, append_assoc, map-append, length-append, length-map, get_or-map, get_or_append_left, get_or-append-add, list_any-append, position-Some, get_or_from_slice_get, Sig, X, bits, Latch, Parts, signal_names, IsBoundTo, IsCareOf, CareSet, columns, column_names, is_care_vector, CareModel, name_of, is_input, is_latch, has_latch, is_output, output_names, unmatched, number_or_0, column_named, columns_by_name, by_name, model_of, HaveOneSource}
+use Rattle.equal.proofs.Common.{find, list_any, option_map_or, bytes_eq, cases_lt, append_assoc, map-append, length-map, get_or-map, get_or_append_left, get_or-append-add, list_any-append, position-Some, get_or_from_slice_get, Sig, X, bits, Latch, Parts, signal_names, IsBoundTo, IsCareOf, CareSet, columns, column_names, is_care_vector, CareModel, name_of, is_input, is_latch, has_latch, is_output, output_names, unmatched, number_or_0, column_named, columns_by_name, by_name, model_of, HaveOneSource}
 use Rattle.std.proofs.lemmas.List.{get_or-drop}
 use Rattle.std.proofs.lemmas.Bool.{not-false, or_left, or_right}
+use Rattle.std.proofs.lemmas.Option.{same_Some}
 use Rattle.cyc_base.proofs.ListLemmas.{option_or-neither, option_map-nothing}
 use Rattle.cyc_base.proofs.NameLemmas.{bytes_eq-true}
 use Rattle.netlist.specs.Fixpoint.{outs}
 use Rattle.netlist.proofs.Decisions.{none_found}
 use Rattle.care_sets.specs.Binding.{column_of}
 use Rattle.care_sets.specs.Care.{inputs_at, is_one, holds_at}
+use Rattle.care_sets.proofs.BindingLemmas.{length-column_names, column_within}
 use Rattle.unroll.proofs.Kept.{taken_first}
 use Rattle.equal.specs.Matching.{latch_name}
 use Rattle.equal.proofs.NameLemmas.{nowhere_find, any_nowhere}
@@ -53,12 +55,6 @@ pub record HasColumn (net : Parts) (name : List ℕ) : Type 0 where
   pub inside : column < columns net
   pub named : get_or (column_names net) column [] ≡ name
 
-pub length-columns : (net : Parts) → length (column_names net) ≡ columns net
-length-columns net = omega (arith, length-append net.inputs (map latch_name net.latches), length-map net.latches latch_name)
-
-pub column_inside : (net : Parts) (name : List ℕ) (c : ℕ) → column_of net name ≡ Some c → c < columns net
-column_inside net name c is = let p = position-Some (bytes_eq name) (column_names net) c [] is in subst (λ n. c < n) (length-columns net) p.0
-
 pub column_is : (net : Parts) (name : List ℕ) (c : ℕ) → column_of net name ≡ Some c → get_or (column_names net) c [] ≡ name
 column_is net name c is = let p = position-Some (bytes_eq name) (column_names net) c [] is in sym (bytes_eq-true name (get_or (column_names net) c []) p.1)
 
@@ -66,7 +62,7 @@ pub has_column : (net : Parts) (name : List ℕ) (c : ℕ) → column_of net nam
 has_column net name c is = record {
   column = c;
   is = is;
-  inside = column_inside net name c is;
+  inside = column_within net name c is;
   named = column_is net name c is;
 }
 
@@ -79,7 +75,7 @@ column_there net name any = by (column_of net name) refl
         absurd (true≢false (sym any ∙ any_nowhere (bytes_eq name) (column_names net) (none_found (bytes_eq name) (column_names net) e)))
 
 -- a latch that is there has a column
-latch_any : (name : List ℕ) (latches : List Latch) → option_map_or (λ (latch : Latch). true) (find (λ latch. bytes_eq name latch.name) latches) false ≡ true → list_any (bytes_eq name) (map latch_name latches) ≡ true
+pub latch_any : (name : List ℕ) (latches : List Latch) → option_map_or (λ (latch : Latch). true) (find (λ latch. bytes_eq name latch.name) latches) false ≡ true → list_any (bytes_eq name) (map latch_name latches) ≡ true
 latch_any name [] e = e
 latch_any name (l ∷ ls) e = by (latch_any name ls) (bytes_eq name l.name) refl e
   where
@@ -127,7 +123,7 @@ module _ (a b : Parts) (match_ : Match a b) where
 
   -- so the table of columns has a column for each
   pub table_at : (c : ℕ) → c < columns b → get_or (columns_by_name a b) c 0 ≡ column_named a (get_or (column_names b) c [])
-  table_at c l = get_or-map (column_named a) (column_names b) c [] 0 (subst (λ n. c < n) (sym (length-columns b)) l)
+  table_at c l = get_or-map (column_named a) (column_names b) c [] 0 (subst (λ n. c < n) (sym (length-column_names b)) l)
 
   pub table_within : (c : ℕ) → c < columns b → get_or (columns_by_name a b) c 0 < columns a
   table_within c l =
@@ -136,7 +132,7 @@ module _ (a b : Parts) (match_ : Match a b) where
       subst (λ n. n < columns a) (sym (table_at c l ∙ ap number_or_0 h.is)) inside
 
 pub length-table : (a b : Parts) → length (columns_by_name a b) ≡ columns b
-length-table a b = length-map (column_names b) (column_named a) ∙ length-columns b
+length-table a b = length-map (column_names b) (column_named a) ∙ length-column_names b
 
 pub length-by_name : (a b : Parts) (v : List Bool) → length (by_name a b v) ≡ columns b
 length-by_name a b v = length-map (columns_by_name a b) (λ column. get_or v column false) ∙ length-table a b
@@ -150,11 +146,11 @@ by_name_at a b v c l = get_or-map (λ column. get_or v column false) (columns_by
 -- a column that a model reads, in both netlists
 value_named : (a b : Parts) (v : List Bool) (name : List ℕ) (c e : ℕ) → column_of a name ≡ Some c → column_of b name ≡ Some e → get_or (by_name a b v) e false ≡ get_or v c false
 value_named a b v name c e in_a in_b =
-    let inside = column_inside b name e in_b in
+    let inside = column_within b name e in_b in
     let named = column_is b name e in_b in
     by_name_at a b v e inside
     ∙ ap (λ k. get_or v k false)
-    (get_or-map (column_named a) (column_names b) e [] 0 (subst (λ n. e < n) (sym (length-columns b)) inside)
+    (get_or-map (column_named a) (column_names b) e [] 0 (subst (λ n. e < n) (sym (length-column_names b)) inside)
     ∙ ap (column_named a) named ∙ ap number_or_0 in_a)
 
 -- a column of a state, counted from the first latch
@@ -191,15 +187,12 @@ holds_same a b v first_a first_b m n bound_m bound_n same =
     ∙ ap (λ f. map (λ c. get_or (drop first_b (by_name a b v)) (c - f) false) n.columns) (sym bound_n.start) in
     ap₂ (λ (net : Parts) (values : List Bool). is_one (get_or (outs net (bits values)) 0 X)) same inputs
 
-some_same : {A : Type 0} (x y : A) → Some x ≡ Some y → x ≡ y
-some_same x y e = cc
-
 part_same : (a b : Parts) (v : List Bool) (first_a first_b : ℕ) (m n : Option CareModel) → IfSome m (IsBoundTo a first_a) → IfSome n (IsBoundTo b first_b) → model_of m ≡ model_of n →
     option_map_or (λ model. holds_at model (drop first_a v)) m true ≡ option_map_or (λ model. holds_at model (drop first_b (by_name a b v))) n true
 part_same a b v first_a first_b None None bound_m bound_n e = refl
 part_same a b v first_a first_b None (Some n) bound_m bound_n e = cc
 part_same a b v first_a first_b (Some m) None bound_m bound_n e = cc
-part_same a b v first_a first_b (Some m) (Some n) bound_m bound_n e = holds_same a b v first_a first_b m n bound_m bound_n (some_same m.net n.net e)
+part_same a b v first_a first_b (Some m) (Some n) bound_m bound_n e = holds_same a b v first_a first_b m n bound_m bound_n (same_Some m.net n.net e)
 
 pub care_by_name : (a b : Parts) (care_a care_b : CareSet) (v : List Bool) → IsCareOf a care_a → IsCareOf b care_b → HaveOneSource care_a care_b → is_care_vector b care_b (by_name a b v) ≡ is_care_vector a care_a v
 care_by_name a b care_a care_b v is_a is_b one =
@@ -213,7 +206,7 @@ length_by_name_is a b v named is = ap length is ∙ length-by_name a b v
 -- the name of a column, by its number
 pub column_taken : {T : Type 0} (net : Parts) (f : List ℕ → T) (i : ℕ) (name : List ℕ) → i < columns net → slice_get (signal_names net) i ≡ Some name → map f (take (i + 1) (column_names net)) ≡ map f (take i (column_names net)) ++ f name ∷ []
 column_taken net f i name l is =
-    let e = length-columns net in
+    let e = length-column_names net in
     let split : signal_names net ≡ column_names net ++ map (λ gate. gate.name) net.gates = sym (append_assoc net.inputs (map latch_name net.latches) (map (λ gate. gate.name) net.gates)) in
     ap (map f)
     (taken_first (column_names net) (map (λ gate. gate.name) net.gates) i name (omega arith) (ap (λ names. slice_get names i) (sym split) ∙ is))

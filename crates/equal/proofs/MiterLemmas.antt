@@ -6,8 +6,8 @@ use Rattle.cyc_base.specs.declared.trit.Trit.TheVariants.{Zero, One}
 use Rattle.cyc_base.specs.Values.{Below}
 use Rattle.cyc_base.proofs.OrderLemmas.{EachBelow-at, bit-known}
 use Rattle.netlist.specs.Fixpoint.{gate_value}
-use Rattle.netlist.proofs.FixpointLemmas.{steps_below_fix}
-use Rattle.loops.proofs.Reading.{wire_of_gate, get_or-step, get_or-fix}
+use Rattle.netlist.proofs.FixpointLemmas.{steps_below_fix, get_or-step, get_or-fix}
+use Rattle.loops.proofs.Reading.{wire_of_gate}
 use Rattle.refusals.specs.Refusals.{is_x}
 use Rattle.clause_decision.specs.Apart.{are_apart, is_apart_at}
 use Rattle.equal.specs.Joined.{never_cover, link_cover, both_cover, no_pair, last_gate}

@@ -1,6 +1,6 @@
 -- What a name finds in a netlist.
 use Rattle.std.proofs.Common.{◌≡◌, ◌≢◌, ◌⊎◌, inl, inr, ℕ, zero, suc, ◌+◌, ◌-◌, ◌<◌, ◌≤◌, Bool, true, false, ◌||◌, cond, List, [], ◌∷◌, ◌++◌, length, map, get_or, take, slice_get, position, Some, None, refl, sym, ap, ap₂, ◌∙◌, arith}
-use Rattle.equal.proofs.Common.{find, list_any, IsDistinct, option_or, bytes_eq, cases_lt, length-append, length-map, get_or_append_left, get_or-append-add, get_or-map, list_any-append, get_or_from_slice_get, slice_get_within, Sig, Latch, Gate, Parts, signal, count, sig_eq, signal_names, driven_names, IsSignal, IsNetlist, name_of, latch_named, is_input, is_output, number_or_0, column_named, signal_named}
+use Rattle.equal.proofs.Common.{find, list_any, IsDistinct, option_or, bytes_eq, cases_lt, length-map, get_or_append_left, get_or-append-add, get_or-map, list_any-append, get_or_from_slice_get, slice_get_within, Sig, Latch, Gate, Parts, signal, sig_eq, signal_names, driven_names, IsSignal, IsNetlist, name_of, latch_named, is_input, is_output, number_or_0, column_named, signal_named}
 use Rattle.std.specs.List.{position_or_len, AllPairs}
 use Rattle.std.proofs.lemmas.Bool.{cases_eq, lt-ltb, or_parts, eqb-true, eq-eqb}
 use Rattle.std.proofs.lemmas.List.{take_more, take_all}
@@ -11,6 +11,7 @@ use Rattle.std.proofs.lemmas.Slice.Eq.{bytes_eq-Decides}
 use Rattle.cyc_base.proofs.ListLemmas.{list_any-map}
 use Rattle.cyc_base.proofs.NameLemmas.{bytes_eq-other, bytes_eq-same}
 use Rattle.netlist.proofs.Decisions.{found_none}
+use Rattle.netlist.proofs.NameLemmas.{length-signal_names}
 use Rattle.care_sets.proofs.BindingLemmas as binding
 
 -- ---- searches of lists
@@ -99,14 +100,6 @@ latch_at net k d l =
     ∙ get_or_append_left (map (λ (latch : Latch). latch.name) net.latches) (map (λ (gate : Gate). gate.name) net.gates) [] k (omega arith)
     ∙ get_or-map (λ (latch : Latch). latch.name) net.latches k d [] l
 
-pub length-names : (net : Parts) → length (signal_names net) ≡ count net
-length-names net =
-    let a = length-append net.inputs (driven_names net) in
-    let b = length-append (map (λ (latch : Latch). latch.name) net.latches) (map (λ (gate : Gate). gate.name) net.gates) in
-    let c = length-map net.latches (λ (latch : Latch). latch.name) in
-    let d = length-map net.gates (λ (gate : Gate). gate.name) in
-    omega arith
-
 module _ (net : Parts) (name : List ℕ) where
   abbrev Absent : Type 0
   Absent = list_any (bytes_eq name) (signal_names net) ≡ false
@@ -125,7 +118,7 @@ input_found net name s valid found inside =
 pub input_behind : (net : Parts) (name : List ℕ) (s : ℕ) → IsNetlist net → slice_get (signal_names net) s ≡ Some name → length net.inputs ≤ s → is_input net name ≡ false
 input_behind net name s valid found behind =
     any_nowhere (bytes_eq name) net.inputs (λ k d l.
-    let n = length-names net in
+    let n = length-signal_names net in
     ap (bytes_eq name) (get_or_d net.inputs k d [] l ∙ sym (input_at net k l)) ∙ elsewhere (signal_names net) name s k valid.names_differ found (omega arith) (omega arith))
   where
     get_or_d : {A : Type 0} (xs : List A) (k : ℕ) (d e : A) → k < length xs → get_or xs k d ≡ get_or xs k e
@@ -145,14 +138,14 @@ latch_found net name s latch valid found behind is =
     let within : i < length net.latches = slice_get_within net.latches i latch is in
     find_is (λ (l : Latch). bytes_eq name l.name) net.latches i latch is
     (λ k d l.
-    let n = length-names net in
+    let n = length-signal_names net in
     ap (bytes_eq name) (sym (latch_at net k d (omega arith))) ∙ elsewhere (signal_names net) name s (length net.inputs + k) valid.names_differ found (omega arith) (omega arith))
     (bytes_eq-same name latch.name (sym (found_is net name s found) ∙ ap (λ k. get_or (signal_names net) k []) (sym e) ∙ latch_at net i latch within ∙ ap (λ (l : Latch). l.name) (get_or_from_slice_get net.latches i latch latch is)))
 
 latch_elsewhere : (net : Parts) (name : List ℕ) (s : ℕ) → IsNetlist net → slice_get (signal_names net) s ≡ Some name → (s < length net.inputs) ⊎ (length net.inputs + length net.latches ≤ s) → latch_named net name ≡ None
 latch_elsewhere net name s valid found outside =
     find_nowhere (λ (l : Latch). bytes_eq name l.name) net.latches (λ k d l.
-    let n = length-names net in
+    let n = length-signal_names net in
     ap (bytes_eq name) (sym (latch_at net k d l)) ∙ elsewhere (signal_names net) name s (length net.inputs + k) valid.names_differ found (omega arith) (by outside k l))
   where
     by : (s < length net.inputs) ⊎ (length net.inputs + length net.latches ≤ s) → (k : ℕ) → k < length net.latches → length net.inputs + k ≢ s
@@ -168,7 +161,7 @@ latch_behind net name s valid found low l = latch_elsewhere net name s valid fou
 pub latch_absent : (net : Parts) (name : List ℕ) → list_any (bytes_eq name) (signal_names net) ≡ false → latch_named net name ≡ None
 latch_absent net name absent =
     find_nowhere (λ (l : Latch). bytes_eq name l.name) net.latches (λ k d l.
-    let n = length-names net in
+    let n = length-signal_names net in
     ap (bytes_eq name) (sym (latch_at net k d l)) ∙ nowhere_any (bytes_eq name) (signal_names net) absent (length net.inputs + k) [] (omega arith))
 
 -- an output by its name
@@ -180,7 +173,7 @@ output_found net name s valid found =
   where
     same : (t : Sig) → IsSignal net t → sig_eq (signal s) t ≡ bytes_eq name (name_of net t)
     same t inside =
-        let n = length-names net in
+        let n = length-signal_names net in
         elim (cases_eq s t.0) [
           | inl e ↦ eq-eqb s t.0 e ∙ sym (bytes_eq-same name (name_of net t) (sym (found_is net name s found) ∙ ap (λ k. get_or (signal_names net) k []) e))
           | inr ne ↦ other (sig_eq (signal s) t) refl ne ∙ sym (elsewhere (signal_names net) name s t.0 valid.names_differ found (omega arith) (λ e. ne (sym e)))
@@ -194,7 +187,7 @@ pub output_absent : (net : Parts) (name : List ℕ) → IsNetlist net → list_a
 output_absent net name valid absent =
     list_any-map (bytes_eq name) (name_of net) net.outputs
     ∙ any_nowhere (λ t. bytes_eq name (name_of net t)) net.outputs (λ k d l.
-    let n = length-names net in
+    let n = length-signal_names net in
     let inside = valid.outputs k d l in
     nowhere_any (bytes_eq name) (signal_names net) absent (get_or net.outputs k d).0 [] (omega arith))
 

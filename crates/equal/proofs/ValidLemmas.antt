@@ -19,10 +19,6 @@ use Rattle.equal.proofs.JoinLemmas.{length-moved, length-joined, moved_within}
 use Rattle.equal.proofs.MiterLemmas.{length-told}
 use Rattle.equal.proofs.CompareLemmas.{pairs_joined}
 
-to_recursion : {A : Type 0} (P : A → Type 0) (xs : List A) → All P xs → AllByRecursion P xs
-to_recursion P [] h = tt
-to_recursion P (x ∷ xs) h = (h 0 x (omega arith), to_recursion P xs (λ k d l. h (suc k) d (omega arith)))
-
 gate_name : Gate → List ℕ
 gate_name gate = gate.name
 

@@ -1,6 +1,6 @@
 -- Tick by tick, two netlists that agree show the same by name.
-use Rattle.std.proofs.Common.{◌≡◌, ◌≢◌, ℕ, ◌+◌, ◌-◌, ◌<◌, ◌≤◌, Bool, true, false, ◌&&◌, cond, List, [], ◌∷◌, ◌++◌, length, map, get_or, slice_get, position, All, Option, Some, None, refl, sym, ap, ap₂, ◌∙◌, arith, true≢false}
-use Rattle.std.specs.Prelude.{find, option_map}
+use Rattle.std.proofs.Common.{◌≡◌, ◌≢◌, ℕ, ◌+◌, ◌-◌, ◌<◌, ◌≤◌, Bool, false, ◌&&◌, List, [], ◌∷◌, ◌++◌, length, map, get_or, slice_get, position, All, Option, Some, None, refl, sym, ap, ap₂, ◌∙◌, arith, true≢false}
+use Rattle.std.specs.Prelude.{option_map}
 use Rattle.std.specs.List.{list_any}
 use Rattle.std.specs.Option.{option_or, option_map_or}
 use Rattle.std.specs.Str.{bytes_eq}
@@ -17,6 +17,7 @@ use Rattle.netlist.specs.declared.parts.Latch.{Latch}
 use Rattle.netlist.specs.declared.parts.Parts.{Parts}
 use Rattle.netlist.specs.Netlists.{count, signal, signal_names, IsNetlist}
 use Rattle.netlist.specs.Fixpoint.{wire, fix, outs, next}
+use Rattle.netlist.proofs.NameLemmas.{length-signal_names}
 use Rattle.loops.proofs.Reading.{map_agree}
 use Rattle.care_sets.specs.Binding.{IsCareOf}
 use Rattle.care_sets.specs.Care.{CareSet, columns, is_care_vector, IsCareVector}
@@ -32,13 +33,14 @@ use Rattle.schedules.specs.Runs.{Tick, Played, gates_at, outputs_at, loaded_at, 
 use Rattle.schedules.proofs.RunLemmas.{Fits, last_above, fits_next, run_fits}
 use Rattle.accepted_runs.specs.Laws.{FollowsFix}
 use Rattle.accepted_runs.proofs.CareLemmas.{care_is_kept, runs_follow_fix, follows_fix}
+use Rattle.accepted_runs.proofs.SameLemmas.{same_head, same_tail}
 use Rattle.clause_decision.specs.declared.pairs.Pair.{Pair}
 use Rattle.equal.specs.declared.answer.Answer.{Answer}
 use Rattle.equal.specs.declared.answer.Answer.TheVariants.{Equal, Unmatched, First, Second, Output, Latch as LatchAt}
 use Rattle.equal.specs.Matching.{name_of, latch_name, latch_named, output_names, unmatched}
 use Rattle.equal.specs.Differences.{number_or_0, column_named, by_name, signal_named, source_named, pair_of, output_pairs, latch_pairs, are_different, differs_at, differs, difference, at_difference, comparison, comparison_of_accepted, HaveOneSource}
-use Rattle.equal.proofs.MatchLemmas.{Match, matched, care_by_name}
-use Rattle.equal.proofs.NameLemmas.{nowhere_any, input_behind, latch_at, latch_found, signal_found, length-names}
+use Rattle.equal.proofs.MatchLemmas.{Match, matched, care_by_name, latch_any}
+use Rattle.equal.proofs.NameLemmas.{nowhere_any, input_behind, latch_at, latch_found, signal_found}
 use Rattle.equality.specs.Runs.{renamed, latch_names, EqualRunAlike}
 use Rattle.equality.proofs.RenamingLemmas.{IsPlaceOf, place_of, place_first, place_behind, renamed_is, bit_read}
 
@@ -101,18 +103,10 @@ not_different X X e = refl
 
 -- ---- names
 
-latch_any : (name : List ℕ) (latches : List Latch) → option_map_or (λ (latch : Latch). true) (find (λ latch. bytes_eq name latch.name) latches) false ≡ true → list_any (bytes_eq name) (map latch_name latches) ≡ true
-latch_any name [] e = e
-latch_any name (l ∷ ls) e = by (latch_any name ls) (bytes_eq name l.name) refl e
-  where
-    by : (option_map_or (λ (latch : Latch). true) (find (λ latch. bytes_eq name latch.name) ls) false ≡ true → list_any (bytes_eq name) (map latch_name ls) ≡ true) → (t : Bool) → bytes_eq name l.name ≡ t → option_map_or (λ (latch : Latch). true) (cond t (Some l) (find (λ latch. bytes_eq name latch.name) ls)) false ≡ true → list_any (bytes_eq name) (map latch_name (l ∷ ls)) ≡ true
-    by rest true is h = rw is refl
-    by rest false is h = rw is (rest h)
-
 -- a signal's name at its place
 name_there : (net : Parts) (s : ℕ) → s < count net → slice_get (signal_names net) s ≡ Some (get_or (signal_names net) s [])
 name_there net s inside =
-    let n = length-names net in
+    let n = length-signal_names net in
     slice_get-get_or (signal_names net) s [] (omega (arith, inside, n))
 
 module _ (a b : Parts) (valid_a : IsNetlist a) (valid_b : IsNetlist b) (match_ : Match a b) where
@@ -280,12 +274,6 @@ module _ (a b : Parts) (valid_a : IsNetlist a) (valid_b : IsNetlist b) (match_ :
           }
 
 -- ---- all ticks
-
-same_head : {A : Type 0} (x y : A) (xs ys : List A) → x ∷ xs ≡ y ∷ ys → x ≡ y
-same_head x y xs ys e = cc
-
-same_tail : {A : Type 0} (x y : A) (xs ys : List A) → x ∷ xs ≡ y ∷ ys → xs ≡ ys
-same_tail x y xs ys e = cc
 
 module _ (a b : Parts) (care_a care_b : CareSet) (valid_a : IsNetlist a) (valid_b : IsNetlist b) (is_a : IsCareOf a care_a) (is_b : IsCareOf b care_b) (one : HaveOneSource care_a care_b) (agree : Agree a care_a b care_b) where
   -- on a care vector nothing differs

@@ -2,7 +2,7 @@
 use Rattle.std.proofs.Common.{◌≡◌, inl, inr, ℕ, zero, suc, ◌+◌, ◌-◌, ◌<◌, ◌≤◌, Bool, true, false, List, [], ◌∷◌, length, map, get_or, set, refl, ap, sym, ◌∙◌, subst, arith, true≢false}
 use Rattle.std.specs.List.{AllZip}
 use Rattle.std.proofs.lemmas.Bool.{cases_eq, cases_lt, cases_Bool}
-use Rattle.std.proofs.lemmas.List.{get_or-map, get_or_append_left, get_or-append_right, get_or-set_other, length-set, length-append}
+use Rattle.std.proofs.lemmas.List.{get_or_append_left, get_or-append_right, get_or-set_other, length-set}
 use Rattle.cyc_base.specs.declared.sig.Sig.{Sig}
 use Rattle.cyc_base.specs.declared.trit.Trit.{Trit}
 use Rattle.cyc_base.specs.declared.trit.Trit.TheVariants.{Zero, One, X}
@@ -10,8 +10,8 @@ use Rattle.cyc_base.specs.Values.{Below, EachBelow}
 use Rattle.cyc_base.proofs.OrderLemmas.{Below-refl, EachBelow-refl, EachBelow-at, EachBelow-append, EachBelow-length, EachBelow-from_at}
 use Rattle.netlist.specs.declared.parts.Parts.{Parts}
 use Rattle.netlist.specs.Fixpoint.{wires, wire, gate_value, step, fix_gates, fix}
-use Rattle.netlist.specs.Netlists.{count, gate_at, gate_sig, no_gate}
-use Rattle.netlist.proofs.FixpointLemmas.{gate_value_is_monotone, length-step, length-steps, fix_is_fixpoint, fix_is_below_closed, fix_is_monotone}
+use Rattle.netlist.specs.Netlists.{count, gate_at, gate_sig}
+use Rattle.netlist.proofs.FixpointLemmas.{gate_value_is_monotone, length-step, fix_is_fixpoint, fix_is_below_closed, fix_is_monotone, length-fix_gates, get_or-step}
 use Rattle.explanations.specs.declared.pins.Pin.{Pin}
 use Rattle.explanations.specs.Pins.{MayBe}
 use Rattle.explanations.specs.Held.{is_marked, Within, seen, pin_at, IsHeld, AreUnknownGates, IsHeldOpen, IsGreatestWithin, HoldsOpen, mark_count, HasTried, AnyOut, IsTrying, IsShrinking}
@@ -86,22 +86,13 @@ below_x One h = sym h
 first : Parts → ℕ
 first net = length net.inputs + length net.latches
 
-length-fix_gates : (net : Parts) (v : List Trit) → length (fix_gates net v) ≡ length net.gates
-length-fix_gates net v = length-steps net v (length net.gates)
-
-pub length-fix : (net : Parts) (v : List Trit) → length v ≡ length net.inputs + length net.latches → length (fix net v) ≡ count net
-length-fix net v w = (let joined = length-append v (fix_gates net v) in let gates = length-fix_gates net v in omega arith)
-
-step_at_gate : (net : Parts) (v s : List Trit) (g : ℕ) → g < length net.gates → get_or (step net v s) g X ≡ gate_value (wires v s) (gate_at net g)
-step_at_gate net v s g l = get_or-map (gate_value (wires v s)) net.gates g no_gate X l
-
 -- the value of a gate in the fixpoint is that of its cover
 pub fix_at_gate : (net : Parts) (v : List Trit) (g : ℕ) → length v ≡ length net.inputs + length net.latches → g < length net.gates → get_or (fix net v) (length net.inputs + length net.latches + g) X ≡ gate_value (fix net v) (gate_at net g)
 fix_at_gate net v g w l =
     get_or-append_right v (fix_gates net v) (length v) (length net.inputs + length net.latches + g) X refl (omega arith)
     ∙ ap (λ i. get_or (fix_gates net v) i X) (omega arith)
     ∙ ap (λ s. get_or s g X) (sym (fix_is_fixpoint net v))
-    ∙ step_at_gate net v (fix_gates net v) g l
+    ∙ get_or-step net v (fix_gates net v) g l
 
 module _ (net : Parts) (given more : List Trit) (marks : List Bool) (h : IsHeldOpen net (fix net given) marks)
     (width : length more ≡ length net.inputs + length net.latches) (above : EachBelow given more) where
@@ -164,7 +155,7 @@ module _ (net : Parts) (given more : List Trit) (marks : List Bool) (h : IsHeldO
   step_below g l true e = subst (λ (v : Trit). Below v X) (sym (marked_is_x g l e)) tt
   step_below g l false e =
       subst (λ (v : Trit). Below (gate_value (wires more state) (gate_at net g)) v)
-      (sym (step_at_gate net more (fix_gates net more) g l) ∙ ap (λ s. get_or s g X) (fix_is_fixpoint net more))
+      (sym (get_or-step net more (fix_gates net more) g l) ∙ ap (λ s. get_or s g X) (fix_is_fixpoint net more))
       (gate_value_is_monotone (gate_at net g) (wires more state) (fix net more) (EachBelow-append more more state (fix_gates net more) (EachBelow-refl more) state_below))
 
   state_closed : EachBelow (step net more state) state
@@ -172,7 +163,7 @@ module _ (net : Parts) (given more : List Trit) (marks : List Bool) (h : IsHeldO
       EachBelow-from_at (step net more state) state (length-step net more state ∙ sym length-state)
       (λ g l.
       let inside : g < length net.gates = (let s = length-step net more state in omega arith) in
-      subst (λ (v : Trit). Below v (get_or state g X)) (sym (step_at_gate net more state g inside))
+      subst (λ (v : Trit). Below v (get_or state g X)) (sym (get_or-step net more state g inside))
       (subst (λ (v : Trit). Below (gate_value (wires more state) (gate_at net g)) v) (sym (state-at g))
       (step_below g inside (is_marked marks (gate_sig net g).0) refl)))
 

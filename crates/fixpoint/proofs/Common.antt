@@ -30,7 +30,7 @@ pub use Rattle.fixpoint.specs.declared.locals.SharedDiagram.{SharedDiagram}
 pub use Rattle.fixpoint.specs.declared.solved.LoopSteps.{LoopSteps}
 pub use Rattle.fixpoint.specs.declared.solved.Solved.{Solved}
 pub use Rattle.fixpoint.specs.declared.solved.SweptLoop.{SweptLoop}
-pub use Rattle.loops.proofs.Reading.{get_or-fix, map_agree, wire_of_gate}
+pub use Rattle.loops.proofs.Reading.{map_agree, wire_of_gate}
 pub use Rattle.loops.proofs.Sweeps.{few_sweeps_are_enough}
 pub use Rattle.loops.proofs.Told.{blocks_tell_loops, gate_home, home_gate, told_parts}
 pub use Rattle.loops.proofs.Unique.{feeds_at}
@@ -55,3 +55,4 @@ pub use Rattle.std.proofs.lemmas.List.FromFn.{length-range_with_len}
 pub use Rattle.std.proofs.lemmas.List.Sums.{sum_by-take-le, sum_by_more}
 pub use Rattle.std.specs.List.{All, flat_map, range_with_len, sum_by}
 pub use Rattle.std.specs.Option.{option_to_list}
+pub use Rattle.netlist.proofs.FixpointLemmas.{get_or-fix}

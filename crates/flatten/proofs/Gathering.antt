@@ -98,10 +98,6 @@ distinct_gathered : (old names : List (List ℕ)) → IsDistinct bytes_eq old �
 distinct_gathered old [] d = d
 distinct_gathered old (x ∷ names) d = distinct_gathered (insert_key bytes_eq old x) names (distinct_inserted old x d)
 
-none_old : (names : List (List ℕ)) → AllByRecursion (λ y. is_among [] y ≡ false) names
-none_old [] = tt
-none_old (x ∷ names) = (refl, none_old names)
-
 -- the inputs and the own clocks differ where the inputs do
 clocks_once : (top : BlifModel) → first_twice top.inputs ≡ None → first_twice (top.inputs ++ own_clocks top) ≡ None
 clocks_once top h =

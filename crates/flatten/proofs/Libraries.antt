@@ -62,12 +62,12 @@ distinct_fresh old (x ∷ names) new apart =
     still [] a b = tt
     still (y ∷ ys) a b = (among_push old x y ∙ ap (λ c. c || bytes_eq y x) a.0 ∙ bytes_sym y x ∙ b.0, still ys a.1 b.1)
 
-none_among : (names : List (List ℕ)) → AllByRecursion (λ y. is_among [] y ≡ false) names
-none_among [] = tt
-none_among (x ∷ names) = (refl, none_among names)
+pub none_old : (names : List (List ℕ)) → AllByRecursion (λ y. is_among [] y ≡ false) names
+none_old [] = tt
+none_old (x ∷ names) = (refl, none_old names)
 
 pub distinct_once : (names : List (List ℕ)) → IsDistinct bytes_eq names → each_once names ≡ names
-distinct_once names apart = fresh_gathered [] names (distinct_fresh [] names (none_among names) apart)
+distinct_once names apart = fresh_gathered [] names (distinct_fresh [] names (none_old names) apart)
 
 -- a model is found by the table of names
 pub place_of : (models : List BlifModel) (name : List ℕ) → position (bytes_eq name) (map (λ model. model.name) models) ≡ find_model models name

@@ -5,8 +5,9 @@ use Rattle.std.proofs.lemmas.List.{length-replicate}
 use Rattle.std.proofs.lemmas.List.Elements.{All-replicate, All-set}
 use Rattle.bdd_ops.specs.Least.{IsLayout, by_variable}
 use Rattle.bdd_ops.specs.Operations.{bit_at}
+use Rattle.bdd_ops.proofs.PossibleLemmas.{by_variable-read}
 use Rattle.dual_rail.proofs.SurelyLemmas.{value_of-kept, values_of-kept, All-rails-kept}
-use Rattle.fixpoint.proofs.LayoutLemmas.{by_variable-read, variable_of}
+use Rattle.fixpoint.proofs.LayoutLemmas.{variable_of}
 use Rattle.fixpoint.proofs.WireLemmas.{rails_at-proper, unknown-rails}
 use Rattle.isolation.specs.Columns.{AreFirstColumns, AreColumns}
 

@@ -24,7 +24,7 @@ pub use Rattle.isolation.specs.Laws.{IsUpstream}
 pub use Rattle.isolation.specs.Settling.{AreKnown, BoundsKnown, HasUnknownRails, IsSolvedNetlist}
 pub use Rattle.isolation.specs.Unsettled.{IsLaid}
 pub use Rattle.loops.proofs.Existence.{loops_exist}
-pub use Rattle.loops.proofs.Reading.{get_or-fix, wire_of_gate}
+pub use Rattle.loops.proofs.Reading.{wire_of_gate}
 pub use Rattle.loops.proofs.Sweeps.{same_within}
 pub use Rattle.loops.proofs.Told.{gate_home, home_gate}
 pub use Rattle.loops.proofs.Walks.{leads-trans}
@@ -43,3 +43,4 @@ pub use Rattle.std.proofs.lemmas.List.{ext_get_or, get_or-append_right, get_or-m
 pub use Rattle.std.proofs.lemmas.Simd.{map-map}
 pub use Rattle.std.specs.List.{All, list_any, range_with_len}
 pub use Rattle.std.specs.Prelude.{IfSome}
+pub use Rattle.netlist.proofs.FixpointLemmas.{get_or-fix}

@@ -1,12 +1,11 @@
 -- The fixpoint of an excerpt is the whole's.
 use Rattle.std.proofs.Common.{◌≡◌, inl, inr, ℕ, zero, suc, ◌-◌, ◌<◌, List, length, map, get_or, refl, sym, ap, ap₂, ◌∙◌, subst, arith}
-use Rattle.isolation.proofs.Common.{cases_lt, get_or-map, get_or_append_left, get_or-append_right, get_or-replicate, length-map, length-append, map-map, Sig, Trit, X, ext, Cover, Parts, IsNetlist, signal, gate_at, gate_sig, wire, fix, fix_gates, first_gate, value_in, wire_of_gate, get_or-fix, origins, origin, gate_in, inputs_in, IsExcerpt}
+use Rattle.isolation.proofs.Common.{cases_lt, get_or-map, get_or_append_left, get_or-append_right, get_or-replicate, length-map, length-append, map-map, Sig, Trit, X, ext, Cover, Parts, IsNetlist, signal, gate_at, gate_sig, wire, fix, fix_gates, first_gate, value_in, wire_of_gate, origins, origin, gate_in, inputs_in, IsExcerpt}
 use Rattle.cyc_base.specs.Values.{Below}
 use Rattle.cyc_base.proofs.OrderLemmas.{Below-antisym, EachBelow-at, EachBelow-append, EachBelow-refl, EachBelow-map_at}
 use Rattle.cover_logic.proofs.ExtensionLemmas.{ext_is_monotone}
 use Rattle.netlist.specs.Fixpoint.{wires, steps}
-use Rattle.netlist.proofs.FixpointLemmas.{steps_below_fix}
-use Rattle.loops.proofs.Reading.{get_or-step}
+use Rattle.netlist.proofs.FixpointLemmas.{steps_below_fix, get_or-step, get_or-fix}
 use Rattle.isolation.proofs.ExcerptLemmas.{gates_in, pin-within, fix_below}
 
 module _ (net : Parts) (outside : List Sig) (gates : List ℕ) (small : Parts) (valid : IsNetlist small) (is : IsExcerpt net outside gates small) (inside : (i : ℕ) → i < length gates → gate_in gates i < length net.gates) (v : List Trit) (width : length v ≡ first_gate net) where

@@ -13,13 +13,14 @@ use Rattle.netlist.specs.declared.parts.Parts.{Parts}
 use Rattle.netlist.specs.Netlists.{IsNetlist, no_gate, gate_at}
 use Rattle.netlist.specs.Fixpoint.{wire, fix, fix_gates}
 use Rattle.netlist.specs.Walks.{IsLoopFree}
+use Rattle.netlist.proofs.FixpointLemmas.{get_or-fix}
 use Rattle.cover_logic.proofs.ExtensionLemmas.{ext_at_bits}
 use Rattle.loops.specs.Walks.{Leads, AnyGate}
 use Rattle.loops.specs.Sweeps.{first_gate, gate_of}
 use Rattle.loops.specs.Laws.{LoopFreeIsDetermined}
 use Rattle.loops.proofs.Walks.{leads-trans, leads-step, begins_at}
 use Rattle.loops.proofs.Ancestors.{by_ancestors}
-use Rattle.loops.proofs.Reading.{wire_of_gate, get_or-fix}
+use Rattle.loops.proofs.Reading.{wire_of_gate}
 use Rattle.loops.proofs.Unique.{feeds_at}
 
 -- a value that is 0 or 1

@@ -17,7 +17,7 @@ use Rattle.loops.proofs.Told.{told_from, told_to}
 use Rattle.loops.proofs.Walks.{loops_are_unique}
 
 -- numbers of a range that are kept by two tests which agree below a bound
-kept_below : (p q : ℕ → Bool) (a n bound : ℕ) → a + n ≡ bound → ((k : ℕ) → k < bound → p k ≡ q k)
+pub kept_below : (p q : ℕ → Bool) (a n bound : ℕ) → a + n ≡ bound → ((k : ℕ) → k < bound → p k ≡ q k)
     → filter p (range_with_len a n) ≡ filter q (range_with_len a n)
 kept_below p q a zero bound is agree = refl
 kept_below p q a (suc n) bound is agree =

@@ -118,7 +118,7 @@ abbrev Ascend : List ℕ → Type 0
 Ascend [] = Unit {0}
 Ascend (x ∷ xs) = AllByRecursion (λ y. x < y) xs × Ascend xs
 
-range_above : (a b n : ℕ) → a < b → AllByRecursion (λ y. a < y) (range_with_len b n)
+pub range_above : (a b n : ℕ) → a < b → AllByRecursion (λ y. a < y) (range_with_len b n)
 range_above a b zero l = tt
 range_above a b (suc n) l = (l, range_above a (b + 1) n (omega arith))
 

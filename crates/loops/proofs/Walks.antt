@@ -200,7 +200,3 @@ loops_are_unique net one two first second = (
       (λ e. (first.same a b).1 ((second.same a b).0 e)),
   λ n. cuts_same_below net one two first second (suc n) n (omega arith),
 )
-
-pub ends_at : (net : Parts) (a b : ℕ) (via : List ℕ) → Walk net a via b → b < length net.gates
-ends_at net a b [] h = h.reader
-ends_at net a b (x ∷ via) h = ends_at net x b via h.1

@@ -22,9 +22,9 @@ use Rattle.cyc_base.specs.Vectors.{vectors, AtMost}
 use Rattle.cyc_base.proofs.ListLemmas.{option_or-None, option_or-neither, option_map-nothing}
 use Rattle.cyc_base.proofs.VectorLemmas.{find-none}
 use Rattle.refusals.proofs.FirstLemmas.{find-filter, empty-filter, any-find, found_passes, none_passes, found_wide, found_least}
-use Rattle.refusals.proofs.ShowingLemmas.{is_initial_decides, initial_state_is, length-initial_state, care_vector_decides, care_vector_is}
+use Rattle.refusals.proofs.ShowingLemmas.{is_initial_decides, initial_state_is, length-initial_state, care_vector_decides, care_vector_is, is_x_decides}
 use Rattle.refusals.proofs.ObservedLemmas.{member, among, observed_within, source_among}
-use Rattle.refusals.proofs.RefusalLemmas.{second_fails, fails_after, is_x_decides, known-is_x, is_x-known, column_known, SourcesAreKnown, next_state_is, bits_back, length-next_state, first_at, none_first, no_first, all-find_none, length-gate_sigs, gate_sig_at, FoundGate, found_gate, RefusedAt, AtInitial, AtEmpty, AtUndetermined, AtLeaves, refused_at}
+use Rattle.refusals.proofs.RefusalLemmas.{second_fails, fails_after, known-is_x, is_x-known, column_known, SourcesAreKnown, next_state_is, bits_back, length-next_state, first_at, none_first, no_first, all-find_none, length-gate_sigs, gate_sig_at, FoundGate, found_gate, RefusedAt, AtInitial, AtEmpty, AtUndetermined, AtLeaves, refused_at}
 
 -- a test of the care vectors, as one of all vectors
 pub care_test : (net : Parts) (care : CareSet) (p : List Bool → Bool) → find p (care_vectors net care) ≡ find (λ v. is_care_vector net care v && p v) (vectors (columns net))

@@ -19,7 +19,7 @@ use Rattle.netlist.specs.declared.parts.Latch.{Latch}
 use Rattle.netlist.specs.declared.parts.Parts.{Parts}
 use Rattle.netlist.specs.Netlists.{count, signal, gate_sig, IsNetlist}
 use Rattle.netlist.specs.Fixpoint.{wire, fix, fix_gates, next}
-use Rattle.netlist.proofs.FixpointLemmas.{length-steps}
+use Rattle.netlist.proofs.FixpointLemmas.{length-fix_gates}
 use Rattle.care_sets.specs.Care.{CareSet, columns, is_one, is_in_invariant}
 use Rattle.refusals.specs.declared.refusal.Refusal.{Refusal}
 use Rattle.refusals.specs.declared.refusal.Refusal.TheVariants.{Initial, EmptyCare, Undetermined, Leaves}
@@ -39,9 +39,6 @@ fails_after false b h = refl
 
 -- Wires.
 
-pub length-fix_gates : (net : Parts) (v : List Trit) → length (fix_gates net v) ≡ length net.gates
-length-fix_gates net v = length-steps net v (length net.gates)
-
 pub length-bits : (v : List Bool) → length (bits v) ≡ length v
 length-bits v = length-map v bit
 
@@ -49,11 +46,6 @@ pub gate_wire : (net : Parts) (v : List Bool) (k : ℕ) → length v ≡ columns
 gate_wire net v k wide =
     let long : length net.inputs + length net.latches ≡ length (bits v) = omega (arith, length-bits v) in
     ap (λ n. get_or (fix net (bits v)) (n + k) X) long ∙ get_or-append-add (bits v) (fix_gates net (bits v)) k X
-
-pub is_x_decides : (t : Trit) → is_x t ≡ true → t ≡ X
-is_x_decides X e = refl
-is_x_decides Zero e = cc
-is_x_decides One e = cc
 
 pub known-is_x : (t : Trit) → t ≢ X → is_x t ≡ false
 known-is_x X h = absurd (h refl)

@@ -129,7 +129,7 @@ care_vector_decides net care v wide e =
 pub care_vector_is : (net : Parts) (care : CareSet) (v : List Bool) → IsCareVector net care v → is_care_vector net care v ≡ true
 care_vector_is net care v h = ap₂ (λ s t. s && t) h.state h.allowed
 
-is_x_decides : (t : Trit) → is_x t ≡ true → t ≡ X
+pub is_x_decides : (t : Trit) → is_x t ≡ true → t ≡ X
 is_x_decides X e = refl
 is_x_decides Zero e = cc
 is_x_decides One e = cc

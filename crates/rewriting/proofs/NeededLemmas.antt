@@ -1,5 +1,5 @@
 -- The sweeps that loops need on a care set.
-use Rattle.std.proofs.Common.{◌≡◌, ◌==◌, inl, inr, ℕ, ◌≤◌, Bool, true, false, not, ◌&&◌, List, [], ◌∷◌, length, map, None, Some, refl, sym, ap, ap₂, ◌∙◌, subst, arith, true≢false, zero-add}
+use Rattle.std.proofs.Common.{◌≡◌, ◌==◌, inl, inr, ℕ, ◌≤◌, Bool, true, not, ◌&&◌, List, [], ◌∷◌, length, map, None, Some, refl, sym, ap, ap₂, ◌∙◌, subst, arith, true≢false, zero-add}
 use Rattle.std.specs.Prelude.{find}
 use Rattle.std.proofs.lemmas.Bool.{and_parts, and_from, cases_Bool, cases_lt, eqb-true, eq-eqb, not-false}
 use Rattle.std.proofs.lemmas.List.{length-map}
@@ -23,6 +23,7 @@ use Rattle.refusals.proofs.LawLemmas.{care_test}
 use Rattle.refusals.proofs.RefusalLemmas.{bits_back, length-bits, fails_after, second_fails}
 use Rattle.refusals.proofs.ShowingLemmas.{care_vector_decides, care_vector_is}
 use Rattle.verdict.specs.Verdicts.{are_care_values}
+use Rattle.verdict.proofs.CountLemmas.{bits-known}
 use Rattle.rewriting.specs.Rewriting.{trit_eq, cut_wires, are_fixed, is_enough, sweeps_needed}
 use Rattle.rewriting.specs.Laws.{NeededIsLeast}
 
@@ -95,11 +96,6 @@ known-bits [] e = refl
 known-bits (Zero ∷ ts) e = ap (λ (rest : List Trit). Zero ∷ rest) (known-bits ts e)
 known-bits (One ∷ ts) e = ap (λ (rest : List Trit). One ∷ rest) (known-bits ts e)
 known-bits (X ∷ ts) e = cc
-
-bits-known : (v : List Bool) → list_all (λ value. not (is_x value)) (bits v) ≡ true
-bits-known [] = refl
-bits-known (true ∷ v) = bits-known v
-bits-known (false ∷ v) = bits-known v
 
 pub care-values : (net : Parts) (care : CareSet) (v : List Bool) → IsCareVector net care v → are_care_values net care (bits v) ≡ true
 care-values net care v counts =

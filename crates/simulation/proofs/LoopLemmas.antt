@@ -11,7 +11,9 @@ use Rattle.cyc_base.proofs.ListLemmas.{Contains-filter, filter-no_longer, Contai
 use Rattle.cover_logic.specs.Extensions.{ext}
 use Rattle.loops.proofs.Reading.{Contains-filter_from}
 use Rattle.ternary_run.specs.Settling.{Determines, IsNewValue}
-use Rattle.simulation.proofs.ListLemmas.{append_cases, reads_or_same}
+use Rattle.ternary_run.proofs.SettlingLemmas.{known_or_still}
+use Rattle.ternary_run.proofs.ReadingLemmas.{reads_or_same}
+use Rattle.simulation.proofs.ListLemmas.{append_cases}
 use Rattle.simulation.specs.declared.plan.Plan.{Plan}
 use Rattle.simulation.specs.Plans.{IsPlanOf}
 use Rattle.simulation.specs.Rising.{readers_inside, unknown_values, count_reads}
@@ -143,11 +145,6 @@ gate_determined net plan place values due new g waiting value is h d kept unsett
                 ]
           ];
     }
-
-known_or_still : (s f t : Trit) → Below s f → Below t f → (s ≡ X → t ≡ X) → Below t s
-known_or_still X f t h k still = rw (still refl) tt
-known_or_still Zero f t h k still = rw h at k
-known_or_still One f t h k still = rw h at k
 
 -- where no gate waits, the block is settled
 pub risen : (net : Parts) (plan : Plan) (place : ℕ) (values : List Trit) (due : List Bool) → IsPlanOf net plan → IsRising net plan place values due [] → AreSettled net plan.blocks values (place + 1)

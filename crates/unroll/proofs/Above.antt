@@ -15,12 +15,12 @@ use Rattle.netlist.specs.declared.parts.Parts.{Parts}
 use Rattle.netlist.specs.Netlists.{signal, gate_at}
 use Rattle.netlist.specs.Fixpoint.{wires, wire, gate_value, steps, fix, fix_gates}
 use Rattle.netlist.specs.Walks.{Feeds}
-use Rattle.netlist.proofs.FixpointLemmas.{steps_below_fix}
+use Rattle.netlist.proofs.FixpointLemmas.{steps_below_fix, get_or-step}
 use Rattle.loops.specs.Cuts.{Loops, AreLoopsOf}
 use Rattle.loops.specs.Sweeps.{first_gate, gate_of, in_loop_of, pin_in, gate_in, sweep_steps, sweeps, CutsAreFixed}
 use Rattle.loops.specs.Walks.{Leads, AnyGate}
 use Rattle.loops.proofs.Ancestors.{by_ancestors}
-use Rattle.loops.proofs.Reading.{choice, wire_of_gate, in_loop_from, get_or-step}
+use Rattle.loops.proofs.Reading.{choice, wire_of_gate, in_loop_from}
 use Rattle.loops.proofs.Sweeps.{same-sym, same-trans, same_within, cut_values_agree, length-fix}
 use Rattle.loops.proofs.Unique.{feeds_at}
 use Rattle.loops.proofs.Walks.{leads-trans, leads-step, begins_within}

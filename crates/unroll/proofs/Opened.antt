@@ -41,23 +41,23 @@ from_place f xs y c =
     record { at = c.0; within = inside; is = λ d. sym (get_or-map f xs c.0 d y inside) ∙ c.2 }
 
 -- a choice of signals, where the tests are known
-pick_first : (b d : Bool) (x y z : Sig) → b ≡ true → d ≡ true → (if b then (if d then x else y) else z) ≡ x
+pub pick_first : (b d : Bool) (x y z : Sig) → b ≡ true → d ≡ true → (if b then (if d then x else y) else z) ≡ x
 pick_first b d x y z e f = rw (e, f) refl
 
-pick_second : (b d : Bool) (x y z : Sig) → b ≡ true → d ≡ false → (if b then (if d then x else y) else z) ≡ y
+pub pick_second : (b d : Bool) (x y z : Sig) → b ≡ true → d ≡ false → (if b then (if d then x else y) else z) ≡ y
 pick_second b d x y z e f = rw (e, f) refl
 
-pick_third : (b d : Bool) (x y z : Sig) → b ≡ false → (if b then (if d then x else y) else z) ≡ z
+pub pick_third : (b d : Bool) (x y z : Sig) → b ≡ false → (if b then (if d then x else y) else z) ≡ z
 pick_third b d x y z e = rw e refl
 
-pick_cut : (b d : Bool) (x y : Sig) → b ≡ true → d ≡ true → (if b && d then x else y) ≡ x
+pub pick_cut : (b d : Bool) (x y : Sig) → b ≡ true → d ≡ true → (if b && d then x else y) ≡ x
 pick_cut b d x y e f = rw (e, f) refl
 
-pick_free : (b d : Bool) (x y : Sig) → d ≡ false → (if b && d then x else y) ≡ y
+pub pick_free : (b d : Bool) (x y : Sig) → d ≡ false → (if b && d then x else y) ≡ y
 pick_free true d x y f = rw f refl
 pick_free false d x y f = refl
 
-pick_out : (b d : Bool) (x y : Sig) → b ≡ false → (if b && d then x else y) ≡ y
+pub pick_out : (b d : Bool) (x y : Sig) → b ≡ false → (if b && d then x else y) ≡ y
 pick_out b d x y e = rw e refl
 
 all_unmap : (P : ℕ → Type 0) (f : ℕ → ℕ) (xs : List ℕ) → AllByRecursion P (map f xs) → AllByRecursion (λ n. P (f n)) xs

@@ -8,6 +8,7 @@ use Rattle.std.specs.List.{AllByRecursion, range_with_len}
 use Rattle.cyc_base.proofs.ListLemmas.{Contains-map, Contains-filter, Contains-range, all_weaker, all_append, all_filter}
 use Rattle.netlist.specs.declared.parts.Parts.{Parts}
 use Rattle.loops.specs.Cuts.{Loops}
+use Rattle.loops.proofs.OrderLemmas.{range_above}
 use Rattle.unroll.specs.Unrolled.{Copy, copy_of, copies_of, copied, copies_upto, most, copies, place}
 
 -- what two numbers of copies and their gates tell of the copies
@@ -66,10 +67,6 @@ place_at (x ∷ xs) (suc p) d h l =
 abbrev pub Increasing : List ℕ → Type 0
 Increasing [] = Unit {0}
 Increasing (x ∷ xs) = AllByRecursion (λ y. x < y) xs × Increasing xs
-
-range_above : (a b n : ℕ) → a < b → AllByRecursion (λ y. a < y) (range_with_len b n)
-range_above a b zero l = tt
-range_above a b (suc n) l = (l, range_above a (b + 1) n (omega arith))
 
 pub range_increasing : (a n : ℕ) → Increasing (range_with_len a n)
 range_increasing a zero = tt

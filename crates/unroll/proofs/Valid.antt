@@ -36,7 +36,7 @@ use Rattle.unroll.proofs.Kept.{many_of, self_of}
 use Rattle.unroll.proofs.Measures.{size_is_shift, count_unrolled}
 
 -- facts of all items, by their places and by recursion
-to_recursion : {A : Type 0} (P : A → Type 0) (xs : List A) → All P xs → AllByRecursion P xs
+pub to_recursion : {A : Type 0} (P : A → Type 0) (xs : List A) → All P xs → AllByRecursion P xs
 to_recursion P [] h = tt
 to_recursion P (x ∷ xs) h = (h 0 x (omega arith), to_recursion P xs (λ k d l. h (suc k) d (omega arith)))
 

@@ -85,10 +85,6 @@ model_there (Some model) net columns first width there are reads =
 pub model_is : (o : Option CareModel) (model : CareModel) (P : CareModel → Type 0) → o ≡ Some model → IfSome o P → P model
 model_is o model P is holds = subst (λ (p : Option CareModel). IfSome p P) is holds
 
-pub none_there : (o : Option CareModel) → (let nothing : Option Parts = None in nothing) ≡ option_map (λ model. model.net) o → o ≡ None
-none_there None e = refl
-none_there (Some model) e = cc
-
 -- ---- the model of a care set that is there
 
 -- what it says of values

@@ -51,7 +51,7 @@ pub use Rattle.netlist.specs.Walks.{Feeds}
 pub use Rattle.netlist.specs.declared.parts.Latch.{Latch}
 pub use Rattle.netlist.specs.declared.parts.Parts.{Parts}
 pub use Rattle.refusals.proofs.FirstLemmas.{empty-filter, found_wide, none_passes}
-pub use Rattle.refusals.proofs.RefusalLemmas.{gate_wire, length-fix_gates}
+pub use Rattle.refusals.proofs.RefusalLemmas.{gate_wire}
 pub use Rattle.refusals.proofs.ShowingLemmas.{care_vector_decides, care_vector_is}
 pub use Rattle.refusals.specs.Acceptance.{gate_sigs, observed}
 pub use Rattle.refusals.specs.Refusals.{care_vectors, initial_refusal, is_undetermined, is_x, leaves, leaves_refusal, next_state, refusal, undetermined_refusal}
@@ -79,3 +79,4 @@ pub use Rattle.verdict.specs.Solving.{AreColumnVectors}
 pub use Rattle.verdict.specs.Unknown.{AreAsked}
 pub use Rattle.verdict.specs.Verdicts.{AreLoose, are_care_values}
 pub use Rattle.cyc_base.proofs.VectorLemmas.{find-none}
+pub use Rattle.netlist.proofs.FixpointLemmas.{length-fix_gates}

@@ -1,7 +1,8 @@
 -- Netlists whose gates are all determined on care.
 use Rattle.std.proofs.Common.{◌≡◌, ◌≢◌, inl, inr, ℕ, ◌+◌, ◌<◌, Bool, true, false, not, ◌&&◌, ◌==◌, if◌then◌else◌, List, [], ◌∷◌, ◌++◌, length, map, get_or, Option, Some, None, refl, sym, ap, ap₂, ◌∙◌, subst, arith, true≢false, Contains}
-use Rattle.verdict.proofs.Common.{find, is_none, is_some, list_all, option_map_or, option_map, option_or, and_parts, eqb-true, cases_lt, get_or_append_left, length_push, get_or-map, get_or_default, get_or_past, length-map, Sig, Trit, X, bit, bits, vectors, Parts, IsNetlist, gate_sig, fix_gates, Feeds, Blocks, Cut, AreBlocksOf, block_at, home_of, IsCutOf, Loops, loops_by, value_in, IsCountOfSweeps, gate_home, home_gate, unsettled_loops_decide, is_marked, CareSet, columns, is_one, is_care_vector, holds_at, IsCareVector, CareModel, Refusal, EmptyCare, Leaves, Observe, gate_sigs, observed, is_x, is_undetermined, care_vectors, next_state, leaves, undetermined_refusal, empty-filter, found_wide, gate_wire, length-fix_gates, care_vector_decides, care_vector_is, AreCountsBelow, SettleInOneSweep, IsLeastCount, AreCountsAt, AreMarksOf, are_care_values, AreLoose}
+use Rattle.verdict.proofs.Common.{find, is_none, is_some, list_all, option_map_or, option_map, option_or, and_parts, eqb-true, cases_lt, get_or_append_left, length_push, get_or-map, get_or_default, get_or_past, length-map, Sig, Trit, X, bit, bits, vectors, Parts, IsNetlist, gate_sig, fix_gates, Feeds, Blocks, Cut, AreBlocksOf, block_at, home_of, IsCutOf, Loops, loops_by, value_in, IsCountOfSweeps, gate_home, home_gate, unsettled_loops_decide, is_marked, CareSet, columns, is_one, is_care_vector, holds_at, IsCareVector, CareModel, Refusal, EmptyCare, Leaves, Observe, gate_sigs, observed, is_x, is_undetermined, care_vectors, next_state, leaves, undetermined_refusal, empty-filter, found_wide, gate_wire, care_vector_decides, care_vector_is, AreCountsBelow, SettleInOneSweep, IsLeastCount, AreCountsAt, AreMarksOf, are_care_values, AreLoose}
 use Rattle.std.proofs.lemmas.List.{get_or_push}
+use Rattle.netlist.proofs.FixpointLemmas.{length-fix_gates}
 use Rattle.cyc_base.proofs.VectorLemmas.{find-none}
 use Rattle.cyc_base.proofs.OrderLemmas.{bit-known}
 use Rattle.loops.specs.declared.structure.SweepCounts.{SweepCounts}

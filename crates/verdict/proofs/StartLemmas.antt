@@ -4,13 +4,14 @@ use Rattle.verdict.proofs.Common.{list_all, option_map_or, and_from, and_parts, 
 use Rattle.std.proofs.lemmas.Bool.{le-ltb, lt-ltb}
 use Rattle.std.proofs.lemmas.List.{drop_more, drop_all, get_or-drop, length-take-le}
 use Rattle.std.proofs.lemmas.Option.{slice_get-get_or}
+use Rattle.bdd_ops.proofs.PossibleLemmas.{by_variable-read}
 use Rattle.cyc_base.proofs.TruthLemmas.{same_truth}
 use Rattle.bdd_store.specs.Subfunctions.{IsPart}
 use Rattle.netlist.specs.declared.parts.Init.{Init}
 use Rattle.netlist.specs.declared.parts.Init.TheVariants as inits
 use Rattle.refusals.specs.Refusals.{may_start}
 use Rattle.refusals.proofs.ShowingLemmas.{all_may_start}
-use Rattle.fixpoint.proofs.LayoutLemmas.{by_variable-read, length-by_variable, variable_of}
+use Rattle.fixpoint.proofs.LayoutLemmas.{length-by_variable, variable_of}
 use Rattle.verdict.proofs.CareLemmas.{value_at-place}
 use Rattle.verdict.proofs.DecisionLemmas.{vector_of, length-vector_of, laid-vector_of}
 use Rattle.verdict.proofs.SizeLemmas.{nodes-part}

@@ -1,8 +1,9 @@
 -- How the parts make the verdict.
 use Rattle.std.proofs.Common.{◌≡◌, ◌+◌, Bool, ◌&&◌, List, [], length, map, drop, Option, Some, None, refl, sym, ap, ap₂, ◌∙◌}
-use Rattle.verdict.proofs.Common.{find, is_none, option_or, Node, Arena, den, IsNodeOf, KeepsNodes, bit, bits, Rails, value_of, values_of, Parts, IsNetlist, fix, fix_gates, Blocks, Cut, rails_under, Vectors, IsSolution, AreColumnVectors, CareSet, columns, state_of, is_care_vector, Refusal, EmptyCare, Observe, initial_refusal, undetermined_refusal, leaves_refusal, refusal, vectors, empty-filter, length-fix_gates, Tells, AreFixed, has_state_inside, AreColumns, order, laid}
+use Rattle.verdict.proofs.Common.{find, is_none, option_or, Node, Arena, den, IsNodeOf, KeepsNodes, bit, bits, Rails, value_of, values_of, Parts, IsNetlist, fix, fix_gates, Blocks, Cut, rails_under, Vectors, IsSolution, AreColumnVectors, CareSet, columns, state_of, is_care_vector, Refusal, EmptyCare, Observe, initial_refusal, undetermined_refusal, leaves_refusal, refusal, vectors, empty-filter, Tells, AreFixed, has_state_inside, AreColumns, order, laid}
 use Rattle.std.specs.Prelude.{if◌then◌else◌}
 use Rattle.std.proofs.lemmas.List.{length-append, drop-map}
+use Rattle.netlist.proofs.FixpointLemmas.{length-fix_gates}
 use Rattle.dual_rail.proofs.SurelyLemmas.{length-values}
 use Rattle.fixpoint.specs.declared.solved.Solved.{Solved}
 use Rattle.care_sets.specs.Care.{is_allowed}
