@@ -6,3 +6,4 @@ pub mod Taken
 pub mod MemoryFiles
 pub mod Memory
 pub mod Text
+pub mod Bits

@@ -9,6 +9,7 @@ mod counts;
 mod host;
 mod memory_shelf;
 mod memory_sink;
+mod put;
 mod shelf;
 mod sink;
 mod text;
@@ -16,6 +17,9 @@ mod text;
 pub use host::{HostShelf, HostSink};
 pub use memory_shelf::MemoryShelf;
 pub use memory_sink::MemorySink;
+pub use put::{
+    bit_text, put_bits, put_number, put_number_between, put_numbered, put_three, put_two,
+};
 pub use shelf::{ReadFault, Shelf, ShelfFault, read_whole};
 pub use sink::{Failed, Sink, write_whole};
 pub use text::TextSink;
