@@ -43,9 +43,6 @@ Extends-trans {a} {b} {c} e f = record {
   keeps = λ x v h k. f.keeps x v (IsEdge-kept x e h) (IsVector-kept v e k) ∙ e.keeps x v h k;
 }
 
-pub Extends-grows : {a b : Graph} → Extends a b → length a.ands ≤ length b.ands
-Extends-grows {a} {b} e = omega (arith, ap (λ (g : Graph). length g.ands) e.is, length-append a.ands e.more)
-
 -- ---- the number of ANDs
 
 pub entered-grows : (ands : List And) (x : And) → length ands ≤ length (entered ands x)

@@ -39,9 +39,6 @@ KeepsNodes-chain k l = record {
 
 -- ---- new nodes
 
-pub NewAreParts-none : {s : Arena} {f : List Bool → Bool} → NewAreParts s s f
-NewAreParts-none = record { each = λ n in_n. inl in_n }
-
 -- what is so of a node and its complement is so of a part at it
 pub IsPartAt-into : {vars wars : ℕ} {f g : List Bool → Bool} (s t : Arena) (n : Node) → ((m : Node) → index m ≡ index n → IsPart vars f (den s m) → IsPart wars g (den t m)) → IsPartAt vars f s n → IsPartAt wars g t n
 IsPartAt-into s t n into (inl part) = inl (into n refl part)

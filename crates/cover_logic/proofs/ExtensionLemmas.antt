@@ -104,20 +104,6 @@ exact_above f trits x h =
     Below-from x (exact f trits)
     (λ b e. exact_from f trits b (λ bs c. same_bit (f bs) b (Below-at x (bit (f bs)) b (h bs c) e)))
 
-same_trit : (x y : Trit) → ((b : Bool) → x ≡ bit b → y ≡ bit b) → ((b : Bool) → y ≡ bit b → x ≡ bit b) → x ≡ y
-same_trit X X f g = refl
-same_trit X Zero f g = g false refl
-same_trit X One f g = g true refl
-same_trit Zero y f g = sym (f false refl)
-same_trit One y f g = sym (f true refl)
-
--- functions with equal values have one extension
-pub exact_same : (f g : List Bool → Bool) (trits : List Trit) → ((bs : List Bool) → f bs ≡ g bs) → exact f trits ≡ exact g trits
-exact_same f g trits same =
-    same_trit (exact f trits) (exact g trits)
-    (λ b e. exact_from g trits b (λ bs c. sym (same bs) ∙ exact_says f trits b e bs c))
-    (λ b e. exact_from f trits b (λ bs c. same bs ∙ exact_says g trits b e bs c))
-
 -- ---- the cofactors at an unknown place
 
 -- a completion has some value at each place, and completes the list that has it too

@@ -28,9 +28,6 @@ length-zeros zero = refl
 length-zeros (suc n) = ap suc (length-zeros n)
 
 module _ (a b : Parts) (valid_a : IsNetlist a) (valid_b : IsNetlist b) (match_ : Match a b) where
-  abbrev big : Parts
-  big = joined a b []
-
   length-big : length (joined a b []).gates ≡ length a.gates + length b.gates
   length-big = length-joined a b [] ∙ omega arith
 
@@ -38,9 +35,6 @@ module _ (a b : Parts) (valid_a : IsNetlist a) (valid_b : IsNetlist b) (match_ :
   names-long net = let n = first-bare net in omega (arith, n)
 
   -- ---- the first one's gates
-
-  abbrev own : List Sig
-  own = column_signals big
 
   own-long : length (column_signals (joined a b [])) ≡ columns a
   own-long = length-map-range_with_len signal 0 (columns a)
@@ -125,9 +119,6 @@ module _ (a b : Parts) (valid_a : IsNetlist a) (valid_b : IsNetlist b) (match_ :
       let n = other-long in
       let l : k < columns b = omega (arith, less, n) in
       subst (λ (s : Sig). s.0 < first_gate (joined a b [])) (sym (other-at k d l)) (table_within a b match_ k l)
-
-  abbrev behind : List ℕ
-  behind = range_with_len (length a.gates) (length b.gates)
 
   second-at : (i : ℕ) → i < length (range_with_len (length a.gates) (length b.gates)) → (gate_in (range_with_len (length a.gates) (length b.gates)) i ≡ length a.gates + i) × (i < length b.gates)
   second-at i less =

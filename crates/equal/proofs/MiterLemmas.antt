@@ -10,13 +10,10 @@ use Rattle.netlist.proofs.FixpointLemmas.{steps_below_fix, get_or-step, get_or-f
 use Rattle.loops.proofs.Reading.{wire_of_gate}
 use Rattle.refusals.specs.Refusals.{is_x}
 use Rattle.clause_decision.specs.Apart.{are_apart, is_apart_at}
-use Rattle.equal.specs.Joined.{never_cover, link_cover, both_cover, no_pair, last_gate}
+use Rattle.equal.specs.Joined.{link_cover, both_cover, no_pair, last_gate}
 use Rattle.equal.proofs.JoinLemmas.{length-moved, length-joined}
 
 -- ---- the covers
-
-never_is : ext never_cover [] ≡ Zero
-never_is = refl
 
 link_is : (p : Bool) (x y : Trit) → x ≢ X → y ≢ X → ext link_cover (bit p ∷ x ∷ y ∷ []) ≡ bit (p || are_apart x y)
 link_is p X y h k = absurd (h refl)

@@ -3,7 +3,7 @@ use Rattle.std.proofs.Common.{◌≡◌, ◌≢◌, ◌⊎◌, inl, inr, ℕ, ze
 use Rattle.equal.proofs.Common.{find, list_any, IsDistinct, option_or, bytes_eq, cases_lt, length-map, get_or_append_left, get_or-append-add, get_or-map, list_any-append, get_or_from_slice_get, slice_get_within, Sig, Latch, Gate, Parts, signal, sig_eq, signal_names, driven_names, IsSignal, IsNetlist, name_of, latch_named, is_input, is_output, number_or_0, column_named, signal_named}
 use Rattle.std.specs.List.{position_or_len, AllPairs}
 use Rattle.std.proofs.lemmas.Bool.{cases_eq, lt-ltb, or_parts, eqb-true, eq-eqb}
-use Rattle.std.proofs.lemmas.List.{take_more, take_all}
+use Rattle.std.proofs.lemmas.List.{take_more}
 use Rattle.std.proofs.lemmas.List.Sums.{position_or_len_is}
 use Rattle.std.proofs.lemmas.List.Folds.{list_any_at, find-append}
 use Rattle.std.proofs.lemmas.Map.Made.{AllPairs-from_IsDistinct}
@@ -52,10 +52,6 @@ pub any_agree : {A : Type 0} (p q : A → Bool) (xs : List A) → ((k : ℕ) (d 
 any_agree p q [] h = refl
 any_agree p q (x ∷ xs) h = ap₂ (λ s t. s || t) (h zero x (omega arith)) (any_agree p q xs (λ k d l. h (suc k) d (omega arith)))
 
--- a loop that looks for the first that passes
-pub find_start : {A : Type 0} (p : A → Bool) (xs : List A) → find p (take 0 xs) ≡ None
-find_start p xs = refl
-
 pub find_next : {A : Type 0} (p : A → Bool) (xs : List A) (i : ℕ) (x : A) → find p (take i xs) ≡ None → slice_get xs i ≡ Some x → p x ≡ false → find p (take (i + 1) xs) ≡ None
 find_next p xs i x none is fails =
     ap (find p) (take_more xs i x (slice_get_within xs i x is) ∙ ap (λ y. take i xs ++ y ∷ []) (get_or_from_slice_get xs i x x is))
@@ -71,9 +67,6 @@ find_here p (y ∷ xs) (suc i) x none is passes = by (λ e. find_here p xs i x e
     by : (find p (take i xs) ≡ None → find p xs ≡ Some x) → (t : Bool) → p y ≡ t → cond t (Some y) (find p (take i xs)) ≡ None → find p (y ∷ xs) ≡ Some x
     by rest true here e = cc
     by rest false here e = rw here (rest e)
-
-pub find_end : {A : Type 0} (p : A → Bool) (xs : List A) (n : ℕ) → find p (take n xs) ≡ None → length xs ≤ n → find p xs ≡ None
-find_end p xs n none l = ap (find p) (sym (take_all n xs l)) ∙ none
 
 -- ---- names
 
@@ -101,9 +94,6 @@ latch_at net k d l =
     ∙ get_or-map (λ (latch : Latch). latch.name) net.latches k d [] l
 
 module _ (net : Parts) (name : List ℕ) where
-  abbrev Absent : Type 0
-  Absent = list_any (bytes_eq name) (signal_names net) ≡ false
-
   module _ (s : ℕ) where
     abbrev Found : Type 0
     Found = slice_get (signal_names net) s ≡ Some name

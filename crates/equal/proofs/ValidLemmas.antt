@@ -19,9 +19,6 @@ use Rattle.equal.proofs.JoinLemmas.{length-moved, length-joined, moved_within}
 use Rattle.equal.proofs.MiterLemmas.{length-told}
 use Rattle.equal.proofs.CompareLemmas.{pairs_joined}
 
-gate_name : Gate → List ℕ
-gate_name gate = gate.name
-
 abbrev names_of : List Gate → List (List ℕ)
 names_of gates = map (λ gate. gate.name) gates
 

@@ -52,10 +52,6 @@ pub record Agree (a : Parts) (care_a : CareSet) (b : Parts) (care_b : CareSet) :
   pub second : Accepts b care_b observe.All
   pub nothing : difference a b care_a ≡ None
 
-not_first : (found : Option Answer) (rest : Answer) → option_map_or (λ (answer : Answer). answer) found rest ≡ Equal → (found ≡ None → ⊥) → (answer : Answer) × ((found ≡ Some answer) × (answer ≡ Equal))
-not_first None rest e some = absurd (some refl)
-not_first (Some answer) rest e some = (answer, (refl, e))
-
 no_name : (o : Option (List ℕ)) (rest : Option Answer) (last : Answer) → option_map_or (λ (answer : Answer). answer) (option_or (option_map Unmatched o) rest) last ≡ Equal → o ≡ None
 no_name None rest last e = refl
 no_name (Some name) rest last e = cc

@@ -14,7 +14,7 @@ use Rattle.netlist.specs.Netlists.{count, gate_at, gate_sig}
 use Rattle.netlist.proofs.FixpointLemmas.{gate_value_is_monotone, length-step, fix_is_fixpoint, fix_is_below_closed, fix_is_monotone, length-fix_gates, get_or-step}
 use Rattle.explanations.specs.declared.pins.Pin.{Pin}
 use Rattle.explanations.specs.Pins.{MayBe}
-use Rattle.explanations.specs.Held.{is_marked, Within, seen, pin_at, IsHeld, AreUnknownGates, IsHeldOpen, IsGreatestWithin, HoldsOpen, mark_count, HasTried, AnyOut, IsTrying, IsShrinking}
+use Rattle.explanations.specs.Held.{is_marked, Within, seen, pin_at, IsHeld, AreUnknownGates, IsHeldOpen, HoldsOpen, mark_count, HasTried, AnyOut, IsTrying}
 
 -- ---- what a gate may see
 
@@ -214,15 +214,6 @@ mark_count-set (false ∷ marks) zero e = absurd (true≢false (sym e))
 mark_count-set (true ∷ marks) (suc s) e = ap suc (mark_count-set marks s e)
 mark_count-set (false ∷ marks) (suc s) e = mark_count-set marks s e
 
-pub trying_first : (net : Parts) (known : List Trit) (marks : List Bool) → IsTrying net known 0 marks marks false
-trying_first net known marks = record {
-  size = refl;
-  fewer = λ n e. e;
-  kept = λ others held within. within;
-  count = omega arith;
-  any = (refl, λ g l. absurd (omega arith));
-}
-
 module _ (net : Parts) (known : List Trit) (g : ℕ) (old : List Bool) (inside : g < length net.gates) (unknown : AreUnknownGates net known old) where
   -- what one step keeps, whether it takes a gate out or not
   record Kept (now new : List Bool) : Type 0 where
@@ -282,28 +273,3 @@ module _ (net : Parts) (known : List Trit) (g : ℕ) (old : List Bool) (inside :
         count = (let a = k.count in let b = h.count in omega arith);
         any = any_next now new out h tried;
       }
-
--- where none is taken out, what is left is held open, and greatest
-pub tried_all : (net : Parts) (known : List Trit) (all old new : List Bool) → AreUnknownGates net known all → length old ≡ length all → Within old all →
-    ((others : List Bool) → IsHeldOpen net known others → Within others all → Within others old) →
-    IsTrying net known (length net.gates) old new false → IsGreatestWithin net known all new
-tried_all net known all old new unknown size within kept h = record {
-  size = h.size ∙ size;
-  held = record {
-    unknown = λ n e. unknown n (within n (h.fewer n e));
-    held = λ g l e.
-        subst (λ (m : List Bool). IsHeld net known m g) (sym h.any.0)
-        (h.any.1 g l (ap (λ m. is_marked m (gate_sig net g).0) (sym h.any.0) ∙ e));
-  };
-  greatest = λ others held w. h.kept others held (kept others held w);
-}
-
-pub shrinking_on : (net : Parts) (known : List Trit) (all old new : List Bool) → IsShrinking net known all old → IsTrying net known (length net.gates) old new true → IsShrinking net known all new
-shrinking_on net known all old new s h = record {
-  size = h.size ∙ s.size;
-  fewer = λ n e. s.fewer n (h.fewer n e);
-  kept = λ others held within. h.kept others held (s.kept others held within);
-}
-
-pub shrunk : (net : Parts) (known : List Trit) (all old new : List Bool) → AreUnknownGates net known all → IsShrinking net known all old → IsTrying net known (length net.gates) old new false → IsGreatestWithin net known all new
-shrunk net known all old new unknown s h = tried_all net known all old new unknown s.size s.fewer s.kept h

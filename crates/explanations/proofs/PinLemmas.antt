@@ -1,5 +1,5 @@
 -- Choosing values of free pins, one by one.
-use Rattle.std.proofs.Common.{◌≡◌, ◌⊎◌, inl, inr, ℕ, zero, suc, ◌<◌, Bool, true, false, not, List, [], ◌∷◌, length, map, get_or, set, refl, ap, sym, ◌∙◌, subst, arith, true≢false, ◌↔◌, ◌&&◌}
+use Rattle.std.proofs.Common.{◌≡◌, ◌⊎◌, inl, inr, ℕ, zero, suc, Bool, true, false, not, List, [], ◌∷◌, map, get_or, set, refl, ap, sym, ◌∙◌, subst, arith, true≢false, ◌↔◌, ◌&&◌}
 use Rattle.std.specs.List.{list_any, AllZip, All}
 use Rattle.std.specs.Prelude.{IfOk, Ok, Err}
 use Rattle.std.specs.declared.result.Result.{Result}
@@ -206,16 +206,6 @@ pub free_there : (pins : List Pin) (pin : ℕ) → get_or pins pin Open ≡ Free
 free_there [] pin e = refl
 free_there (p ∷ pins) zero e = e
 free_there (p ∷ pins) (suc pin) e = free_there pins pin e
-
-pub free_within : (pins : List Pin) (pin : ℕ) → get_or pins pin Open ≡ Free → pin < length pins
-free_within [] pin e = let no' : Open ≡ Free = e in cc
-free_within (p ∷ pins) zero e = omega arith
-free_within (p ∷ pins) (suc pin) e = (let l = free_within pins pin e in omega arith)
-
-pub is_free_is : (pin : Pin) → is_free pin ≡ true → pin ≡ Free
-is_free_is Free e = refl
-is_free_is (Known b) e = absurd (true≢false (sym e))
-is_free_is Open e = absurd (true≢false (sym e))
 
 pub by_better : (cover : Cover) (pins : List Pin) (pin : ℕ) (b wanted can : Bool) → get_or pins pin Open ≡ Free → IsBetter cover pin wanted b →
     (can ≡ true) ↔ CanBe cover (set pins pin (Known b)) wanted → (can ≡ true) ↔ CanBe cover pins wanted

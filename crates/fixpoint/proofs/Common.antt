@@ -55,4 +55,3 @@ pub use Rattle.std.proofs.lemmas.List.FromFn.{length-range_with_len}
 pub use Rattle.std.proofs.lemmas.List.Sums.{sum_by-take-le, sum_by_more}
 pub use Rattle.std.specs.List.{All, flat_map, range_with_len, sum_by}
 pub use Rattle.std.specs.Option.{option_to_list}
-pub use Rattle.netlist.proofs.FixpointLemmas.{get_or-fix}

@@ -107,9 +107,6 @@ module _ {s t : Arena} (g : GainsRoots s t) (lists : List (List Rails)) (kept : 
 
 -- ---- roots that stay
 
-pub RootsStay-refl : (a : Arena) → IsLawful a → RootsStay a a
-RootsStay-refl a laws = record { vars = refl; limit = refl; each = λ key n is. record { node = n; root = is; is_node = laws.roots key n is; function = λ bits. refl } }
-
 pub RootsStay-chain : {s t u : Arena} → RootsStay s t → RootsStay t u → RootsStay s u
 RootsStay-chain r q = record {
   vars = q.vars ∙ r.vars;

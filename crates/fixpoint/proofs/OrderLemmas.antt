@@ -129,9 +129,6 @@ taken-old from marks columns c within old are = record {
 
 -- ---- columns that are read
 
-pub read-none : (n : ℕ) (pins : List Sig) → first_signals n (take 0 pins) ≡ []
-read-none n pins = refl
-
 -- a pin more
 read-more : (n : ℕ) (pins : List Sig) (i : ℕ) (d : Sig) → i < length pins → first_signals n (take (i + 1) pins) ≡ first_signals n (take i pins) ++ cond (nat_lt (get_or pins i d).0 n) ((get_or pins i d).0 ∷ []) []
 read-more n pins i d inside =

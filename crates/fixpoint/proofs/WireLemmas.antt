@@ -37,15 +37,6 @@ pins-proper a read pins list proper is = subst (All (AreRailsOf a)) (sym is) (Al
 pub pins-values : (a : Arena) (read : Sig → Rails) (pins : List Sig) (list : List Rails) (bits : List Bool) → list ≡ map read pins → values_of a list bits ≡ map (λ pin. value_of a (read pin) bits) pins
 pins-values a read pins list bits is = ap (λ (l : List Rails). values_of a l bits) is ∙ map-map {C = Trit} (λ r. value_of a r bits) read pins
 
--- the wires stay proper when nodes are kept, and when a gate is set
-pub AreWires-kept : {net : Parts} {s t : Arena} {before rails : List Rails} → KeepsNodes s t → AreWires net s before rails → AreWires net t before rails
-AreWires-kept {net} {s} {t} {before} {rails} k is = record {
-  width = is.width;
-  before_width = is.before_width;
-  proper = All-rails-kept k rails is.proper;
-  before_proper = All-rails-kept k before is.before_proper;
-}
-
 pub AreWires-set : {net : Parts} {cut : Cut} {s t : Arena} {before rails after : List Rails} (gate : ℕ) → KeepsNodes s t → AreWires net s before rails → IsGateSet net cut s t before rails after gate → AreWires net t before after
 AreWires-set {net} {cut} {s} {t} {before} {rails} {after} gate k is done = record {
   width = ap length done.is ∙ length-set rails (first_gate net + gate) done.made ∙ is.width;

@@ -21,10 +21,6 @@ IsDistinct-nil : IsDistinct bytes_eq []
 unfolding IsDistinct
 IsDistinct-nil = tt
 
--- the first name that comes twice, at the name that a loop stands at
-pub twice_here : (old names : List (List ℕ)) (i : ℕ) (x : List ℕ) → i < length names → x ≡ get_or names i x → is_among old x ≡ true → twice_after old (drop i names) ≡ Some x
-twice_here old names i x l e h = rw (drop-item names i x l e, h) refl
-
 pub twice_later : (old names : List (List ℕ)) (i : ℕ) (x : List ℕ) → i < length names → x ≡ get_or names i x → is_among old x ≡ false → twice_after old (drop i names) ≡ twice_after (old ++ x ∷ []) (drop (i + 1) names)
 twice_later old names i x l e h = rw (drop-item names i x l e, h) refl
 
@@ -38,10 +34,6 @@ twice-append old [] ys = ap (λ o. twice_after o ys) (sym (append-nil old))
 twice-append old (x ∷ xs) ys =
     cond_or (is_among old x) x (twice_after (old ++ x ∷ []) xs) (twice_after (old ++ x ∷ []) (xs ++ ys)) (twice_after (old ++ (x ∷ xs)) ys)
     (twice-append (old ++ x ∷ []) xs ys ∙ ap (λ o. option_or (twice_after (old ++ x ∷ []) xs) (twice_after o ys)) (append_assoc old (x ∷ []) xs))
-
--- the same, where the names are those of other items
-pub twice_here_by : {T : Type 0} (name : T → List ℕ) (old : List (List ℕ)) (items : List T) (i : ℕ) (x : T) → i < length items → x ≡ get_or items i x → is_among old (name x) ≡ true → twice_after old (map name (drop i items)) ≡ Some (name x)
-twice_here_by name old items i x l e h = rw (drop-item items i x l e, h) refl
 
 pub twice_later_by : {T : Type 0} (name : T → List ℕ) (old : List (List ℕ)) (items : List T) (i : ℕ) (x : T) → i < length items → x ≡ get_or items i x → is_among old (name x) ≡ false → twice_after old (map name (drop i items)) ≡ twice_after (old ++ name x ∷ []) (map name (drop (i + 1) items))
 twice_later_by name old items i x l e h = rw (drop-item items i x l e, h) refl

@@ -20,14 +20,6 @@ module _ {X : Type 0} (p : X → Bool) where
   pub step_yes : (x : X) (xs : List X) → p x ≡ true → position_or_len p (x ∷ xs) ≡ 0
   step_yes x xs e = ap (λ b. cond (not b) (1 + position_or_len p xs) 0) e
 
-  pub place_none : (xs : List X) → list_any p xs ≡ false → position_or_len p xs ≡ length xs
-  place_none [] h = refl
-  place_none (x ∷ xs) h = by (p x) refl (λ k. place_none xs k)
-    where
-      by : (b : Bool) → p x ≡ b → (list_any p xs ≡ false → position_or_len p xs ≡ length xs) → position_or_len p (x ∷ xs) ≡ length (x ∷ xs)
-      by true e rest = absurd (let k : true ≡ false = sym (ap (λ b. b || list_any p xs) e) ∙ h in cc)
-      by false e rest = let k : list_any p xs ≡ false = sym (ap (λ b. b || list_any p xs) e) ∙ h in omega (arith, step_no x xs e, rest k)
-
   pub place_some : (xs : List X) → list_any p xs ≡ true → position_or_len p xs < length xs
   place_some [] h = absurd (cc)
   place_some (x ∷ xs) h = by (p x) refl (λ k. place_some xs k)

@@ -1,6 +1,6 @@
 -- The walk on a list comes to what the walk by recursion comes to.
 use Rattle.std.proofs.Common.{length-append, ◌*◌, ◌≡◌, inl, inr, ℕ, zero, suc, ◌+◌, ◌-◌, ◌<◌, ◌≤◌, nat_le, nat_lt, Bool, true, false, ◌||◌, List, [], ◌∷◌, ◌++◌, length, drop, reverse, refl, ap, sym, ◌∙◌, subst, arith, append_assoc, if◌then◌else◌, Some, None, Ok, Err, All}
-use Rattle.flatten.proofs.Common.{common_steps, list_any-append, append-nil, All-head, All-tail, All-push, list_any, position_or_len, bytes_eq, Option, Result, BlifModel, GateLine, LatchLine, PartLine, Gate, Latch, Part, FlatFault, TooLarge, Level, mark_of, Instance, no_model, model_at, is_open, entry, entered, pairs_fault, find_model, Event, FlatLines, gate, latch, opens, fails, events, decided, then_gate, then_latch, flat_lines, gate_by, latch_by, passed_line, passed_part, PassesPart}
+use Rattle.flatten.proofs.Common.{common_steps, list_any-append, All-head, All-tail, All-push, list_any, position_or_len, bytes_eq, Option, Result, BlifModel, GateLine, LatchLine, PartLine, Gate, Latch, Part, FlatFault, TooLarge, Level, mark_of, Instance, no_model, model_at, is_open, entry, entered, pairs_fault, find_model, Event, FlatLines, gate, latch, opens, fails, events, decided, then_gate, then_latch, flat_lines, gate_by, latch_by, passed_line, passed_part, PassesPart}
 use Rattle.std.proofs.lemmas.Grind.{reverse_onto}
 use Rattle.std.proofs.lemmas.List.Sums.{passes_at_first}
 use Rattle.std.proofs.lemmas.List.{reverse-append, length-reverse, reverse-reverse}
@@ -100,12 +100,6 @@ module _ (depth : ℕ) (models : List BlifModel) (top m : List ℕ) (answer : Re
       let n = sym (length-reverse s) ∙ waits_size depth models top m l (reverse s) path rest w in
       ap (λ b. entry p.model b (nat_le depth (length s)) (λ i. pairs_fault (model_at models i) p.pairs) (find_model models p.model)) a
       ∙ ap (λ k. entry p.model (is_open top path p.model) (nat_le depth k) (λ i. pairs_fault (model_at models i) p.pairs) (find_model models p.model)) n
-
-  pub walking_end : (latches : List LatchLine) (gates : List GateLine) (room : ℕ) → Walking depth models top m [] latches gates room answer → answer ≡ Ok (record { latches = latches; gates = gates })
-  walking_end latches gates room w =
-      let e = append-nil latches in
-      let f = append-nil gates in
-      w.answers ∙ ap (λ es. then_lines latches gates (decided room es)) w.waits ∙ (let g : then_lines latches gates (decided room []) ≡ Ok (record { latches = latches; gates = gates }) = cc in g)
 
   module _ (walk : Walk) (l : Level) (w : WalkingWith depth models top m answer walk l) where
     waits_at : Waits depth models top m (l ∷ reverse walk.levels.items) w.path w.rest

@@ -43,4 +43,3 @@ pub use Rattle.std.proofs.lemmas.List.{ext_get_or, get_or-append_right, get_or-m
 pub use Rattle.std.proofs.lemmas.Simd.{map-map}
 pub use Rattle.std.specs.List.{All, list_any, range_with_len}
 pub use Rattle.std.specs.Prelude.{IfSome}
-pub use Rattle.netlist.proofs.FixpointLemmas.{get_or-fix}

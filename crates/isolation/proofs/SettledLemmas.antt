@@ -33,9 +33,6 @@ module _ (net : Parts) (valid : IsNetlist net) (blocks : Blocks) (are : AreBlock
         (sym (wire_of_gate (bits v) (fix_gates net (bits v)) (first_gate net) s.0 wide high) ∙ x)
   ]
 
-  gate_of-sig : (g : ℕ) (s : Sig) → s ≡ gate_sig net g → gate_of net s ≡ g
-  gate_of-sig g s e = let n = ap (λ (r : Sig). r.0) e in omega (arith, n)
-
   feeds-from : (n g : ℕ) (s : Sig) → n < length net.gates → g < length net.gates → s ≡ gate_sig net g → Contains (gate_at net n).pins s → Feeds net g n
   feeds-from n g s nl gl e c = record { source = gl; reader = nl; pin = subst (Contains (gate_at net n).pins) e c }
 

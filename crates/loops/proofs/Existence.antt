@@ -64,9 +64,6 @@ last_part net P k a b (x ∷ via) h all =
     ]
 
 module _ (net : Parts) (test : ℕ → Bool) where
-  abbrev Passes : ℕ → ℕ → Type 0
-  Passes k g = (g < k) × (test g ≡ true)
-
   reaches_from : (k a b : ℕ) (via : List ℕ) → Walk net a via b → AllByRecursion (λ g. (g < k) × (test g ≡ true)) via → reaches net test k a b ≡ true
   reaches_from zero a b [] walk all = (feeds_iff net a b).1 walk
   reaches_from zero a b (x ∷ via) walk all = absurd (let l = all.0.0 in omega arith)

@@ -1,5 +1,5 @@
 -- How many names a netlist's signals have, and when two signals are one.
-use Rattle.std.proofs.Common.{◌≡◌, ℕ, List, map, length, true, ap, arith, length-append}
+use Rattle.std.proofs.Common.{◌≡◌, ℕ, map, length, true, ap, arith, length-append}
 use Rattle.std.proofs.lemmas.Bool.{eqb-true}
 use Rattle.std.proofs.lemmas.List.{length-map}
 use Rattle.cyc_base.specs.declared.sig.Sig.{Sig}

@@ -17,7 +17,7 @@ use Rattle.cyc_base.proofs.OrderLemmas.{bit-known}
 use Rattle.cyc_base.proofs.ListLemmas.{option_or-cases}
 use Rattle.netlist.specs.declared.parts.Latch.{Latch}
 use Rattle.netlist.specs.declared.parts.Parts.{Parts}
-use Rattle.netlist.specs.Netlists.{count, signal, gate_sig, IsNetlist}
+use Rattle.netlist.specs.Netlists.{count, signal, gate_sig}
 use Rattle.netlist.specs.Fixpoint.{wire, fix, fix_gates, next}
 use Rattle.netlist.proofs.FixpointLemmas.{length-fix_gates}
 use Rattle.care_sets.specs.Care.{CareSet, columns, is_one, is_in_invariant}
@@ -96,10 +96,6 @@ each_known values (l ∷ latches) h =
 -- what the latches load is known
 abbrev pub SourcesAreKnown : Parts → List Bool → Type 0
 SourcesAreKnown net v = All (λ (l : Latch). wire (fix net (bits v)) l.from ≢ X) net.latches
-
--- it is where no gate is unknown
-pub sources_known : (net : Parts) (v : List Bool) → IsNetlist net → length v ≡ columns net → All (λ value. value ≢ X) (fix_gates net (bits v)) → SourcesAreKnown net v
-sources_known net v valid wide known k d inside = wire_known net v (get_or net.latches k d).from wide known (valid.sources k d inside)
 
 -- so the next state is known
 pub next_state_is : (net : Parts) (v : List Bool) → SourcesAreKnown net v → next net (bits v) ≡ bits (next_state net v)

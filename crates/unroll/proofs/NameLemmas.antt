@@ -103,9 +103,6 @@ pub apart_append : (xs ys zs : List (List ℕ)) → Apart xs ys → Apart xs zs 
 apart_append [] ys zs h k = tt
 apart_append (x ∷ xs) ys zs h k = (all_append (λ y. bytes_eq x y ≡ false) ys zs h.0 k.0, apart_append xs ys zs h.1 k.1)
 
-pub apart_both : (xs ys zs : List (List ℕ)) → Apart xs zs → Apart ys zs → Apart (xs ++ ys) zs
-apart_both xs ys zs h k = all_append (λ x. AllByRecursion (λ y. bytes_eq x y ≡ false) zs) xs ys h k
-
 -- short names are apart from long ones
 one_short : (most : ℕ) (x : List ℕ) (ys : List (List ℕ)) → longest_run x ≤ most → AllByRecursion (λ y. most < longest_run y) ys → AllByRecursion (λ y. bytes_eq x y ≡ false) ys
 one_short most x ys l h =

@@ -78,5 +78,3 @@ pub use Rattle.verdict.specs.Sets.{AreFixed, BoundsBoth, BoundsStarts, ReadsWith
 pub use Rattle.verdict.specs.Solving.{AreColumnVectors}
 pub use Rattle.verdict.specs.Unknown.{AreAsked}
 pub use Rattle.verdict.specs.Verdicts.{AreLoose, are_care_values}
-pub use Rattle.cyc_base.proofs.VectorLemmas.{find-none}
-pub use Rattle.netlist.proofs.FixpointLemmas.{length-fix_gates}
