@@ -1,52 +1,26 @@
 -- The columns that a care model's inputs name.
-use Rattle.std.proofs.Common.{◌≡◌, ◌≢◌, ℕ, ◌+◌, ◌<◌, ◌≤◌, nat_lt, Bool, true, false, cond, List, [], ◌∷◌, ◌++◌, length, map, get_or, position, slice_get, take, drop, Option, Some, None, refl, sym, ap, ap₂, subst, ◌∙◌, arith, true≢false, inl, inr, ◌⊎◌}
-use Rattle.std.specs.List.{All, AllPairs, position_or_len, position_from, list_any}
+use Rattle.std.proofs.Common.{◌≡◌, ℕ, ◌+◌, ◌<◌, ◌≤◌, nat_lt, true, false, cond, List, [], ◌∷◌, ◌++◌, length, map, get_or, slice_get, take, drop, Option, Some, None, refl, sym, ap, ap₂, subst, ◌∙◌, arith, inl, inr, ◌⊎◌}
+use Rattle.std.specs.List.{All, position_from, list_any}
 use Rattle.std.specs.Prelude.{find, option_map, is_none}
 use Rattle.std.specs.Option.{option_or, option_map_or}
 use Rattle.std.specs.Str.{bytes_eq}
-use Rattle.std.proofs.lemmas.Bool.{cases_lt, lt-ltb, ltb-false}
-use Rattle.std.proofs.lemmas.List.{length-append, length-map, get_or_append_left, get_or_default, append_assoc, take_more, take_all, take-append-drop, drop_more, map_push, get_or-map}
+use Rattle.std.proofs.lemmas.Bool.{ltb-false}
+use Rattle.std.proofs.lemmas.List.{length-map, get_or_append_left, get_or_default, take_more, take_all, take-append-drop, drop_more, map_push, get_or-map}
 use Rattle.std.proofs.lemmas.List.Sums.{position_or_len_is}
-use Rattle.std.proofs.lemmas.List.Folds.{list_any_at, find-append, find_at}
+use Rattle.std.proofs.lemmas.List.Folds.{find-append, find_at}
 use Rattle.std.proofs.lemmas.List.Quantifiers.{position-Some}
 use Rattle.std.proofs.lemmas.Iterator.Adapters.{position_from-zero}
-use Rattle.std.proofs.lemmas.Map.Made.{AllPairs-from_IsDistinct}
 use Rattle.std.proofs.lemmas.Option.{get_or_from_slice_get, slice_get_within, slice_get-get_or, slice_get_past}
 use Rattle.std.proofs.lemmas.Slice.Eq.{bytes_eq-Decides}
-use Rattle.cyc_base.proofs.NameLemmas.{bytes_eq-other, bytes_eq-same}
+use Rattle.cyc_base.proofs.NameLemmas.{bytes_eq-same}
 use Rattle.netlist.specs.declared.parts.Parts.{Parts}
 use Rattle.netlist.specs.Netlists.{signal_names, driven_names, IsNetlist}
 use Rattle.netlist.proofs.Decisions.{found_none, none_found}
 use Rattle.care_sets.specs.Care.{columns, column_names}
 use Rattle.care_sets.specs.Binding.{column_of, AreColumnsOf, IsUnknownName, is_unknown_name, is_before}
+use Rattle.care_sets.proofs.NameLemmas.{gate_names, names_split, length-column_names, length-names, others_differ, absent_at, place_of}
 use Rattle.care_sets.specs.declared.fault.CareFault.{CareFault}
 use Rattle.care_sets.specs.declared.fault.CareFault.TheVariants.{UnknownName, Memory}
-
--- the names of the signals that are no columns
-abbrev gate_names : Parts → List (List ℕ)
-gate_names net = map (λ gate. gate.name) net.gates
-
-names_split : (net : Parts) → signal_names net ≡ column_names net ++ gate_names net
-names_split net = sym (append_assoc net.inputs (map (λ latch. latch.name) net.latches) (gate_names net))
-
-pub length-column_names : (net : Parts) → length (column_names net) ≡ columns net
-length-column_names net = omega (arith, length-append net.inputs (map (λ latch. latch.name) net.latches), length-map net.latches (λ latch. latch.name))
-
--- a name differs from that of each other signal
-others_differ : (net : Parts) (name : List ℕ) (s k : ℕ) → IsNetlist net → slice_get (signal_names net) s ≡ Some name →
-    k < length (signal_names net) → k ≢ s → bytes_eq name (get_or (signal_names net) k []) ≡ false
-others_differ net name s k h found inside other =
-    let apart : AllPairs (λ x y. x ≢ y) (signal_names net) = AllPairs-from_IsDistinct bytes_eq-Decides (signal_names net) h.names_differ in
-    let is : get_or (signal_names net) s [] ≡ name = get_or_from_slice_get (signal_names net) s name [] found in
-    let within : s < length (signal_names net) = slice_get_within (signal_names net) s name found in
-    bytes_eq-other name (get_or (signal_names net) k []) (λ e.
-    by_order (apart s k []) (apart k s []) is within e (cases_lt k s))
-  where
-    by_order : (s < k → k < length (signal_names net) → get_or (signal_names net) s [] ≢ get_or (signal_names net) k [])
-        → (k < s → s < length (signal_names net) → get_or (signal_names net) k [] ≢ get_or (signal_names net) s [])
-        → get_or (signal_names net) s [] ≡ name → s < length (signal_names net) → name ≡ get_or (signal_names net) k [] → (k < s) ⊎ (s ≤ k) → ⊥
-    by_order after before is within e (inl lt) = before lt within (sym e ∙ sym is)
-    by_order after before is within e (inr le) = after (omega arith) inside (is ∙ e)
 
 -- the names of the columns come first
 name_of_column : (net : Parts) (k : ℕ) → k < columns net → get_or (signal_names net) k [] ≡ get_or (column_names net) k []
@@ -54,21 +28,13 @@ name_of_column net k inside =
     ap (λ (l : List (List ℕ)). get_or l k []) (names_split net)
     ∙ get_or_append_left (column_names net) (gate_names net) [] k (omega (arith, length-column_names net))
 
-length-names : (net : Parts) → length (signal_names net) ≡ columns net + length (gate_names net)
-length-names net = omega (arith, ap length (names_split net), length-append (column_names net) (gate_names net), length-column_names net)
-
-place_of : {X : Type 0} (p : X → Bool) (xs : List X) (i : ℕ) → position_or_len p xs ≡ i → i < length xs → Some i ≡ position p xs
-place_of p xs i e inside =
-    let below : position_or_len p xs < length xs = omega arith in
-    sym (ap (λ t. cond t (Some (position_or_len p xs)) None) (lt-ltb _ _ below) ∙ ap (λ n. Some n) e)
-
 pub column_found : (net : Parts) (name : List ℕ) (s : ℕ) → IsNetlist net → slice_get (signal_names net) s ≡ Some name → s < length net.inputs + length net.latches →
     Some s ≡ column_of net name
 column_found net name s h found inside =
     let is : get_or (signal_names net) s [] ≡ name = get_or_from_slice_get (signal_names net) s name [] found in
     place_of (bytes_eq name) (column_names net) s
     (position_or_len_is (bytes_eq name) (column_names net) s [] (omega (arith, length-column_names net))
-    (λ k lt. ap (bytes_eq name) (sym (name_of_column net k (omega arith))) ∙ others_differ net name s k h found (omega (arith, length-names net)) (omega arith))
+    (λ k lt. ap (bytes_eq name) (sym (name_of_column net k (omega arith))) ∙ others_differ (signal_names net) name s k h.names_differ found (omega (arith, length-names net)) (omega arith))
     (λ _. bytes_eq-same name (get_or (column_names net) s []) (sym is ∙ name_of_column net s inside)))
     (omega (arith, length-column_names net))
 
@@ -81,18 +47,11 @@ none_of_column net name differ =
 pub column_behind : (net : Parts) (name : List ℕ) (s : ℕ) → IsNetlist net → slice_get (signal_names net) s ≡ Some name → length net.inputs + length net.latches ≤ s →
     None ≡ column_of net name
 column_behind net name s h found behind =
-    none_of_column net name (λ k lt. others_differ net name s k h found (omega (arith, length-names net)) (omega arith))
+    none_of_column net name (λ k lt. others_differ (signal_names net) name s k h.names_differ found (omega (arith, length-names net)) (omega arith))
 
 pub column_absent : (net : Parts) (name : List ℕ) → list_any (bytes_eq name) (signal_names net) ≡ false → None ≡ column_of net name
 column_absent net name absent =
-    none_of_column net name (λ k lt. none_at (bytes_eq name) (signal_names net) k absent (omega (arith, length-names net)))
-  where
-    none_at : (p : List ℕ → Bool) (xs : List (List ℕ)) (k : ℕ) → list_any p xs ≡ false → k < length xs → p (get_or xs k []) ≡ false
-    none_at p xs k none inside = by (p (get_or xs k [])) refl
-      where
-        by : (t : Bool) → p (get_or xs k []) ≡ t → p (get_or xs k []) ≡ false
-        by true e = absurd (true≢false (sym (list_any_at p xs k [] inside e) ∙ none))
-        by false e = e
+    none_of_column net name (λ k lt. absent_at (signal_names net) name k absent (omega (arith, length-names net)))
 
 pub input_name : (model : Parts) (i : ℕ) (name : List ℕ) → i < length model.inputs → slice_get (signal_names model) i ≡ Some name →
     slice_get model.inputs i ≡ Some name

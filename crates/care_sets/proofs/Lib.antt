@@ -2,3 +2,4 @@ pub mod BindingLemmas
 pub mod CareLemmas
 pub mod FaultLemmas
 pub mod ModelLemmas
+pub mod NameLemmas

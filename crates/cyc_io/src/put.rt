@@ -1,10 +1,10 @@
 // Texts of several parts, and numbers and bits as texts.
-ghost use Rattle.std.specs.Prelude.{◌≡◌, ◌++◌, decimal};
+ghost use Rattle.std.specs.Prelude.{◌≡◌, ◌++◌};
 ghost use Rattle.cyc_io.specs.Bits.{bit_text, bits_text};
 ghost use Rattle.cyc_io.specs.Taken.{IsAppended, sink_call};
 
 use crate::{Failed, Sink, write_whole};
-use itoa::Buffer;
+use itoa::{Buffer, Integer};
 
 /// Appends one text and then another. It takes no memory, as none of these does.
 pub fn put_two<K: Sink>(sink: &mut K, front: &[u8], back: &[u8]) -> Result<(), Failed>
@@ -29,27 +29,31 @@ pub fn put_three<K: Sink>(
 }
 
 /// Appends a number in decimal digits.
-pub fn put_number<K: Sink>(sink: &mut K, number: u64) -> Result<(), Failed>
-    ensures { IsAppended (decimal number) (sink_call K.put K.faults sink.old sink.new) result }
+pub fn put_number<K: Sink, I: Integer>(sink: &mut K, number: I) -> Result<(), Failed>
+    ensures { IsAppended (I.text number) (sink_call K.put K.faults sink.old sink.new) result }
 {
     write_whole(sink, Buffer::new().format(number).as_bytes())
 }
 
 /// Appends words and a number behind them.
-pub fn put_numbered<K: Sink>(sink: &mut K, words: &[u8], number: u64) -> Result<(), Failed>
-    ensures { IsAppended (words.now ++ decimal number) (sink_call K.put K.faults sink.old sink.new) result }
+pub fn put_numbered<K: Sink, I: Integer>(
+    sink: &mut K,
+    words: &[u8],
+    number: I,
+) -> Result<(), Failed>
+    ensures { IsAppended (words.now ++ I.text number) (sink_call K.put K.faults sink.old sink.new) result }
 {
     put_two(sink, words, Buffer::new().format(number).as_bytes())
 }
 
 /// Appends a number between words.
-pub fn put_number_between<K: Sink>(
+pub fn put_number_between<K: Sink, I: Integer>(
     sink: &mut K,
     front: &[u8],
-    number: u64,
+    number: I,
     back: &[u8],
 ) -> Result<(), Failed>
-    ensures { IsAppended (front.now ++ (decimal number ++ back.now)) (sink_call K.put K.faults sink.old sink.new) result }
+    ensures { IsAppended (front.now ++ (I.text number ++ back.now)) (sink_call K.put K.faults sink.old sink.new) result }
 {
     put_three(sink, front, Buffer::new().format(number).as_bytes(), back)
 }

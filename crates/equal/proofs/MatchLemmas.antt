@@ -10,7 +10,8 @@ use Rattle.netlist.specs.Fixpoint.{outs}
 use Rattle.netlist.proofs.Decisions.{none_found}
 use Rattle.care_sets.specs.Binding.{column_of}
 use Rattle.care_sets.specs.Care.{inputs_at, is_one, holds_at}
-use Rattle.care_sets.proofs.BindingLemmas.{length-column_names, column_within}
+use Rattle.care_sets.proofs.BindingLemmas.{column_within}
+use Rattle.care_sets.proofs.NameLemmas.{length-column_names}
 use Rattle.unroll.proofs.Kept.{taken_first}
 use Rattle.equal.specs.Matching.{latch_name}
 use Rattle.equal.proofs.NameLemmas.{nowhere_find, any_nowhere}

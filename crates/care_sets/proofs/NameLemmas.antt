@@ -1,0 +1,50 @@
+-- The names of signals: those of the columns, and then those of the gates.
+use Rattle.std.proofs.Common.{◌≡◌, ◌≢◌, ℕ, ◌+◌, ◌<◌, ◌≤◌, Bool, false, cond, List, [], ◌++◌, length, map, get_or, position, slice_get, Some, None, sym, ap, ◌∙◌, arith, true≢false, inl, inr, ◌⊎◌}
+use Rattle.std.specs.List.{AllPairs, IsDistinct, position_or_len, list_any}
+use Rattle.std.specs.Str.{bytes_eq}
+use Rattle.std.proofs.lemmas.Bool.{cases_lt, lt-ltb, false_from_ne_true}
+use Rattle.std.proofs.lemmas.List.{length-append, length-map, append_assoc}
+use Rattle.std.proofs.lemmas.List.Folds.{list_any_at}
+use Rattle.std.proofs.lemmas.Map.Made.{AllPairs-from_IsDistinct}
+use Rattle.std.proofs.lemmas.Option.{get_or_from_slice_get, slice_get_within}
+use Rattle.std.proofs.lemmas.Slice.Eq.{bytes_eq-Decides}
+use Rattle.netlist.specs.declared.parts.Parts.{Parts}
+use Rattle.netlist.specs.Netlists.{signal_names}
+use Rattle.care_sets.specs.Care.{columns, column_names}
+
+abbrev pub gate_names : Parts → List (List ℕ)
+gate_names net = map (λ gate. gate.name) net.gates
+
+pub names_split : (net : Parts) → signal_names net ≡ column_names net ++ gate_names net
+names_split net = sym (append_assoc net.inputs (map (λ latch. latch.name) net.latches) (gate_names net))
+
+pub length-column_names : (net : Parts) → length (column_names net) ≡ columns net
+length-column_names net = omega (arith, length-append net.inputs (map (λ latch. latch.name) net.latches), length-map net.latches (λ latch. latch.name))
+
+pub length-names : (net : Parts) → length (signal_names net) ≡ columns net + length (gate_names net)
+length-names net = omega (arith, ap length (names_split net), length-append (column_names net) (gate_names net), length-column_names net)
+
+-- a name that stands at one place stands at no other
+pub others_differ : (names : List (List ℕ)) (name : List ℕ) (s k : ℕ) → IsDistinct bytes_eq names → slice_get names s ≡ Some name
+    → k < length names → k ≢ s → bytes_eq name (get_or names k []) ≡ false
+others_differ names name s k distinct found inside other =
+    let apart : AllPairs (λ x y. x ≢ y) names = AllPairs-from_IsDistinct bytes_eq-Decides names distinct in
+    let is : get_or names s [] ≡ name = get_or_from_slice_get names s name [] found in
+    let within : s < length names = slice_get_within names s name found in
+    false_from_ne_true (bytes_eq name (get_or names k []))
+    (λ e. by_order apart is within ((bytes_eq-Decides name (get_or names k [])).0 e) (cases_lt k s))
+  where
+    by_order : AllPairs (λ x y. x ≢ y) names → get_or names s [] ≡ name → s < length names → name ≡ get_or names k [] → (k < s) ⊎ (s ≤ k) → ⊥
+    by_order apart is within e (inl lt) = apart k s [] lt within (sym e ∙ sym is)
+    by_order apart is within e (inr le) = apart s k [] (omega arith) inside (is ∙ e)
+
+-- a name that stands nowhere
+pub absent_at : (names : List (List ℕ)) (name : List ℕ) (k : ℕ) → list_any (bytes_eq name) names ≡ false → k < length names
+    → bytes_eq name (get_or names k []) ≡ false
+absent_at names name k absent inside =
+    false_from_ne_true (bytes_eq name (get_or names k [])) (λ e. true≢false (sym (list_any_at (bytes_eq name) names k [] inside e) ∙ absent))
+
+pub place_of : {X : Type 0} (p : X → Bool) (xs : List X) (i : ℕ) → position_or_len p xs ≡ i → i < length xs → Some i ≡ position p xs
+place_of p xs i e inside =
+    let below : position_or_len p xs < length xs = omega arith in
+    sym (ap (λ t. cond t (Some (position_or_len p xs)) None) (lt-ltb _ _ below) ∙ ap (λ n. Some n) e)
