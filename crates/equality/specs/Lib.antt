@@ -1,5 +1,8 @@
-pub mod Answers
+-- The chapter: what the contracts of public functions say.
 pub mod Texts
+pub mod Told
 pub mod Runs
 pub mod Shown
-pub mod Told
+
+-- The code's own: what its parts say to each other.
+pub mod Answers
