@@ -6,6 +6,5 @@ pub mod Covers
 pub mod Depth
 pub mod Building
 pub mod Answers
-
 -- The code's own: what its parts say to each other.
 pub mod Tasks

@@ -1,7 +1,6 @@
 -- The chapter: what the contracts of public functions say.
 pub mod Least
 pub mod Operations
-
 -- The code's own: what its parts say to each other.
 pub mod Apply
 pub mod Standard

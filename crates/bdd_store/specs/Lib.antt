@@ -4,6 +4,5 @@ pub mod Soundness
 pub mod Subfunctions
 pub mod Growth
 pub mod Sweeping
-
 -- The code's own: what its parts say to each other.
 pub mod Renumbering

@@ -8,7 +8,6 @@ pub mod Reads
 pub mod Flattening
 pub mod Find
 pub mod Laws
-
 -- The code's own: what its parts say to each other.
 pub mod Answers
 pub mod Running

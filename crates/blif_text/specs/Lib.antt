@@ -4,7 +4,6 @@ pub mod Reading
 pub mod Faults
 pub mod Lines
 pub mod Parts
-
 -- The code's own: what its parts say to each other.
 pub mod WordBuffers
 pub mod LineBuffers

@@ -14,11 +14,6 @@ two-sources : (n g : ℕ) → Some n ≡ Some g → n ≡ g
 two-sources n g e = cc
 
 module _ (l : LoopAt) where
-  -- before the first gate is entered
-  }
-
-  }
-
   module _ (is_loop : IsLoopAt l) where
     -- the signal of a gate of the loop is driven by that gate
     source-is : (g : ℕ) → Contains (gates_in l) g → source_of l (gate_sig l.net g) ≡ Some g

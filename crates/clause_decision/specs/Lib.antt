@@ -8,7 +8,6 @@ pub mod Loads
 pub mod Simulations
 pub mod Sweeping
 pub mod Tests
-
 -- The code's own: what its parts say to each other.
 pub mod Events
 pub mod Formulas

@@ -5,7 +5,6 @@ pub mod Vectors
 pub mod Laws
 pub mod Each
 pub mod Loaded
-
 -- The code's own: what its parts say to each other.
 pub mod Bisection
 pub mod Descent

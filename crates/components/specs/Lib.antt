@@ -2,6 +2,5 @@
 pub mod Graphs
 pub mod Orders
 pub mod Pieces
-
 -- The code's own: what its parts say to each other.
 pub mod Search

@@ -3,6 +3,5 @@ pub mod Covers
 pub mod Extensions
 pub mod Laws
 pub mod Partial
-
 -- The code's own: what its parts say to each other.
 pub mod Held

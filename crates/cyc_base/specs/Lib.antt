@@ -3,6 +3,5 @@ pub mod Names
 pub mod Values
 pub mod Order
 pub mod Vectors
-
 -- The code's own: what its parts say to each other.
 pub mod Held

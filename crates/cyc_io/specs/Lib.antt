@@ -7,6 +7,5 @@ pub mod Taken
 pub mod MemoryFiles
 pub mod Memory
 pub mod Text
-
 -- The code's own: what its parts say to each other.
 pub mod ReadFaults

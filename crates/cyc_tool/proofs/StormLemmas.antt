@@ -1,20 +1,14 @@
 -- The storm of a plan is the storm of its vector.
 use Rattle.std.proofs.Common.{◌≡◌, ◌-◌, ℕ, Bool, List, Some, sym, ap, ◌∙◌, arith}
 use Rattle.cyc_tool.proofs.Common.{bits, Sig, Parts, IsRefusalOf, Refusal, Undetermined, fix, told, Outcome}
-use Rattle.std.specs.List.{list_any}
 use Rattle.cyc_base.specs.declared.trit.Trit.TheVariants.{X}
 use Rattle.care_sets.specs.Care.{columns}
 use Rattle.refusals.specs.Refusals.{IsAt}
 use Rattle.netlist.specs.Fixpoint.{wire}
 use Rattle.netlist.specs.Netlists.{signal, gate_sig}
-use Rattle.storm.specs.Plans.{if_shaking}
-use Rattle.storm.specs.declared.planning.StormPlan.{StormPlan}
 use Rattle.cyc_tool.specs.Endings.{storm_or_refusal, storm_told}
 use Rattle.cyc_tool.specs.Seen.{IsShown}
 use Rattle.cyc_tool.specs.Storms.{LeavesUnknown}
-
-    by_shaking : (planned : StormPlan) → if_shaking planned ≡ Some plan → plan ≡ planned
-    by_shaking planned e = by planned (list_any (λ shakes. shakes) planned.shaking) e
 
 -- a refused wire is a gate that its vector leaves unknown
 pub leaves_unknown : (net : Parts) (v given : List Bool) (refused_wire : Sig) (refused : Refusal) → refused ≡ Undetermined v refused_wire → given ≡ v

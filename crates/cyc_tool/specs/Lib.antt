@@ -9,7 +9,6 @@ pub mod Endings
 pub mod Answer
 pub mod Calls
 pub mod Causes
-
 -- The code's own: what its parts say to each other.
 pub mod Reading
 pub mod Hearing

@@ -2,7 +2,6 @@
 pub mod Dot
 pub mod LoopGraphs
 pub mod ExplanationGraphs
-
 -- The code's own: what its parts say to each other.
 pub mod Seen
 pub mod Marks

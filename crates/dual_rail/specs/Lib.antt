@@ -2,7 +2,6 @@
 pub mod Rails
 pub mod Local
 pub mod WorkingLists
-
 -- The code's own: what its parts say to each other.
 pub mod Expansion
 pub mod Classes

@@ -3,6 +3,5 @@ pub mod Texts
 pub mod Told
 pub mod Runs
 pub mod Shown
-
 -- The code's own: what its parts say to each other.
 pub mod Answers

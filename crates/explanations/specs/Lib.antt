@@ -3,6 +3,5 @@ pub mod Pins
 pub mod Held
 pub mod Explained
 pub mod Laws
-
 -- The code's own: what its parts say to each other.
 pub mod Graph

@@ -6,7 +6,6 @@ pub mod Counts
 pub mod Working
 pub mod Laws
 pub mod Sweeping
-
 -- The code's own: what its parts say to each other.
 pub mod Underway
 pub mod Plans

@@ -6,7 +6,6 @@ pub mod Walk
 pub mod Linking
 pub mod Flat
 pub mod Laws
-
 -- The code's own: what its parts say to each other.
 pub mod Alone
 pub mod Counting

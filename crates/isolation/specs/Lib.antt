@@ -6,6 +6,5 @@ pub mod Laws
 pub mod Cones
 pub mod Columns
 pub mod Building
-
 -- The code's own: what its parts say to each other.
 pub mod Settling

@@ -13,7 +13,6 @@ pub mod Searching
 pub mod Listed
 pub mod Numbered
 pub mod Left
-
 -- The code's own: what its parts say to each other.
 pub mod Members
 pub mod Landmarks

@@ -15,7 +15,7 @@ length-signal_names net =
       length-append net.inputs (driven_names net),
       length-append (map (λ (latch : Latch). latch.name) net.latches) (map (λ (gate : Gate). gate.name) net.gates),
       length-map net.latches (λ (latch : Latch). latch.name),
-      length-map net.gates (λ (gate : Gate). gate.name)
+      length-map net.gates (λ (gate : Gate). gate.name),
     )
 
 pub sig_eq-true : (s t : Sig) → sig_eq s t ≡ true → s ≡ t

@@ -5,6 +5,5 @@ pub mod Fixpoint
 pub mod Walks
 pub mod Orders
 pub mod Laws
-
 -- The code's own: what its parts say to each other.
 pub mod Naming

@@ -3,6 +3,5 @@ pub mod Least
 pub mod Plans
 pub mod Storms
 pub mod Laws
-
 -- The code's own: what its parts say to each other.
 pub mod Building

@@ -2,7 +2,6 @@
 pub mod Marks
 pub mod Unrolled
 pub mod Laws
-
 -- The code's own: what its parts say to each other.
 pub mod Tables
 pub mod Plans

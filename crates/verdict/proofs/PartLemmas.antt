@@ -239,7 +239,7 @@ loose-none net care known = loose-all net care (length net.gates) 0 (omega arith
             (λ w wide. fails_after (is_care_vector net care w) (is_undetermined net (gate_sig net n) w)
             (λ counts. ap is_x (gate_wire net w n wide) ∙ known-is_x (get_or (fix_gates net (bits w)) n X) (known w (care_vector_decides net care w wide counts) n X (omega (arith, length-fix_gates net (bits w), inside)))))
 
--- ---- next states
+    -- ---- next states
 
     wide : (n : ℕ) → length (vector n) ≡ n
     wide zero = refl

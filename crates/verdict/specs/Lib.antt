@@ -7,7 +7,6 @@ pub mod Solving
 pub mod Verdicts
 pub mod Determination
 pub mod Laws
-
 -- The code's own: what its parts say to each other.
 pub mod Fanout
 pub mod Invariance
