@@ -1,8 +1,7 @@
 -- Formulas over columns, and literals that tell tests of their vectors.
 use Rattle.std.proofs.Common.{◌≡◌, ℕ, zero, suc, ◌*◌, ◌<◌, Bool, true, false, ◌&&◌, List, [], ◌∷◌, ◌++◌, length, map, drop, refl, sym, ap, ap₂, ◌∙◌, subst, arith}
-use Rattle.clause_decision.proofs.Common.{list_all, and_parts, length-map, All-map, Trit, bits, Parts, CareSet, columns, state_of, is_allowed, is_in_invariant, is_care_vector, Formula, Rails, SaysColumns, says, IsModel, HasModelFrom, Grows, ReadsAll, AreWithin, All-within-more, ReadsAll-more, problem, Asks, models-same, SaysTest, IsOver}
+use Rattle.clause_decision.proofs.Common.{list_all, and_parts, length-map, All-map, Trit, bits, Parts, CareSet, columns, state_of, is_allowed, is_in_invariant, is_care_vector, Formula, Rails, SaysColumns, says, IsModel, HasModelFrom, Grows, ReadsAll, AreWithin, All-within-more, ReadsAll-more, problem, Asks, models-same, SaysTest, IsOver, bit, is_one}
 use Rattle.std.specs.List.{All}
-use Rattle.refusals.proofs.RefusalLemmas.{one_of_bit}
 use Rattle.ternary_clauses.specs.Formulas.{holds}
 use Rattle.clause_decision.specs.Formulas.{IsCareFormula}
 
@@ -23,11 +22,16 @@ bits-drop (suc n) (b ∷ v) = bits-drop n v
 pub state-read : (m : List Bool) (n : ℕ) (rs : List Rails) (v : List Bool) → ReadsAll m rs (bits v) → ReadsAll m (drop n rs) (bits (drop n v))
 state-read m n rs v h = subst (ReadsAll m (drop n rs)) (bits-drop n v) (ReadsAll-drop m n rs (bits v) h)
 
+-- the literals of the columns read the vector
+one-bit : (b : Bool) → is_one (bit b) ≡ b
+one-bit true = refl
+one-bit false = refl
+
 pub ones-read : (m : List Bool) (rs : List Rails) (v : List Bool) → ReadsAll m rs (bits v) → map (says m) (map (λ r. r.one) rs) ≡ v
 ones-read m [] [] h = refl
 ones-read m [] (b ∷ v) h = absurd h
 ones-read m (r ∷ rs) [] h = absurd h
-ones-read m (r ∷ rs) (b ∷ v) h = ap₂ (λ (x : Bool) (xs : List Bool). x ∷ xs) (h.0.one ∙ one_of_bit b) (ones-read m rs v h.1)
+ones-read m (r ∷ rs) (b ∷ v) h = ap₂ (λ (x : Bool) (xs : List Bool). x ∷ xs) (h.0.one ∙ one-bit b) (ones-read m rs v h.1)
 
 -- ---- formulas over columns
 

@@ -8,9 +8,10 @@ use Rattle.std.proofs.lemmas.Bool.{or_right, and_parts}
 use Rattle.cyc_base.specs.Vectors.{vectors}
 use Rattle.cyc_base.proofs.OrderLemmas.{Below-unknown}
 use Rattle.cyc_base.proofs.VectorLemmas.{find-none}
+use Rattle.cyc_base.proofs.ListLemmas.{map-map}
 use Rattle.refusals.specs.Refusals.{is_x, is_undetermined}
 use Rattle.refusals.proofs.FirstLemmas.{none_passes}
-use Rattle.refusals.proofs.RefusalLemmas.{gate_wire, one_of_bit}
+use Rattle.refusals.proofs.RefusalLemmas.{gate_wire}
 use Rattle.refusals.proofs.ShowingLemmas.{is_x_decides}
 use Rattle.clause_decision.proofs.SignalLemmas.{negation-within, three}
 use Rattle.clause_queries.specs.Each.{CanBe, CannotBe, TellEach}
@@ -23,6 +24,7 @@ use Rattle.clause_decision.specs.Questions.{IsQuestionOf}
 use Rattle.clause_decision.specs.Tests.{is_unknown_at, is_unknown, IsFirstUnknown, TellsFirstUnknown, TellEachUnknown}
 use Rattle.clause_decision.specs.Unknowns.{TellUnknowns}
 use Rattle.clause_decision.proofs.ConeLemmas.{cone-kept}
+use Rattle.clause_decision.proofs.FormulaLemmas.{ones-read}
 
 -- ---- the first so many of a list
 
@@ -60,10 +62,7 @@ unknown-value Zero e = absurd (true≢false (sym e))
 unknown-value One e = absurd (true≢false (sym e))
 
 pub vector-read : (m : List Bool) (rs : List Rails) (v : List Bool) → ReadsAll m rs (bits v) → map (λ r. says m r.one) rs ≡ v
-vector-read m [] [] h = refl
-vector-read m [] (b ∷ v) h = absurd h
-vector-read m (r ∷ rs) [] h = absurd h
-vector-read m (r ∷ rs) (b ∷ v) h = ap₂ (λ x xs. x ∷ xs) (h.0.one ∙ one_of_bit b) (vector-read m rs v h.1)
+vector-read m rs v h = sym (map-map (says m) (λ r. r.one) rs) ∙ ones-read m rs v h
 
 -- ---- a gate that is unknown at some care vector
 

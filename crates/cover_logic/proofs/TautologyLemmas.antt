@@ -305,12 +305,12 @@ in_plane-one_one false false false e = refl
 in_plane-one_one false true false e = cc
 in_plane-one_one false false true e = cc
 
-pub in_plane-true : (plane : Bool) → in_plane plane true ≡ plane
+in_plane-true : (plane : Bool) → in_plane plane true ≡ plane
 unfolding in_plane
 in_plane-true true = refl
 in_plane-true false = refl
 
-pub in_plane-false : (plane : Bool) → in_plane plane false ≡ not plane
+in_plane-false : (plane : Bool) → in_plane plane false ≡ not plane
 unfolding in_plane
 in_plane-false true = refl
 in_plane-false false = refl

@@ -1,5 +1,5 @@
 -- The storm of a plan is the storm of its vector.
-use Rattle.std.proofs.Common.{◌≡◌, ◌-◌, ℕ, Bool, List, Some, sym, ap, ◌∙◌, arith}
+use Rattle.std.proofs.Common.{◌≡◌, ◌-◌, ℕ, Bool, List, sym, ap, ◌∙◌, arith}
 use Rattle.cyc_tool.proofs.Common.{bits, Sig, Parts, IsRefusalOf, Refusal, Undetermined, fix, told, Outcome}
 use Rattle.cyc_base.specs.declared.trit.Trit.TheVariants.{X}
 use Rattle.care_sets.specs.Care.{columns}

@@ -14,7 +14,6 @@ use Rattle.cover_logic.specs.declared.row.Lit.{Lit}
 use Rattle.cover_logic.specs.declared.row.Lit.TheVariants.{Zero, One, Any}
 use Rattle.cover_logic.specs.declared.row.Row.{Row}
 use Rattle.cover_logic.specs.Covers.{allows, matches, some_row_matches, value_of_rows}
-use Rattle.cover_logic.proofs.TautologyLemmas.{in_plane-true}
 use Rattle.dual_rail.specs.Expansion.{lits_of, literal, is_any, is_settled, matches_from, in_plane, remainder, narrowed, IsExpansion, AreBranches}
 
 -- ---- lists
@@ -72,6 +71,14 @@ drop-nil (l ∷ lits) zero h = omega arith
 drop-nil (l ∷ lits) (suc pin) h = let less = drop-nil lits pin h in omega (arith, less)
 
 -- ---- where the rows decide
+
+in_plane-true : (plane : Bool) → in_plane plane true ≡ plane
+in_plane-true true = refl
+in_plane-true false = refl
+
+pub in_plane-false : (plane : Bool) → in_plane plane false ≡ not plane
+in_plane-false true = refl
+in_plane-false false = refl
 
 -- a row that asks nothing more matches
 pub remainder-settled : (rows : List Row) (plane : Bool) (pin : ℕ) (live : List ℕ) → list_any (is_settled rows pin) live ≡ true → (bits : List Bool) → remainder rows plane pin live bits ≡ plane

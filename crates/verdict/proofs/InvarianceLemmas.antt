@@ -5,7 +5,7 @@ use Rattle.std.specs.List.{All}
 use Rattle.care_sets.specs.Binding.{IsBoundTo}
 use Rattle.refusals.proofs.LawLemmas.{care_test}
 use Rattle.clause_decision.specs.Tests.{is_leaving}
-use Rattle.clause_decision.proofs.ModelLemmas.{invariant-reads}
+use Rattle.verdict.proofs.PartLemmas.{invariant-reads}
 
 -- the refusal is that of the first vector that leaves
 pub leaves-first : (net : Parts) (care : CareSet) → leaves_refusal net care ≡ option_map (λ v. Leaves v (next_state net v)) (find (is_leaving net care) (vectors (columns net)))

@@ -1,7 +1,7 @@
 use Rattle.std.proofs.Common.{◌≡◌, ◌∙◌, ◌+◌, ◌-◌, ◌*◌, ◌≤◌, ◌&&◌, ℕ, Bool, List, length, take, drop, refl, sym, ap, ap₂, subst, arith}
 use Rattle.std.specs.Prelude.{IfSome}
 use Rattle.std.proofs.lemmas.List.{take_rest, length-drop}
-use Rattle.clause_decision.proofs.ModelLemmas.{invariant-reads, assume-reads}
+use Rattle.verdict.proofs.PartLemmas.{invariant-reads, assume-reads}
 use Rattle.bdd_store.specs.Growth.{GrowsWithin, KeepsNodes}
 use Rattle.bdd_store.specs.Subfunctions.{nodes}
 use Rattle.bdd_store.proofs.GrowthLemmas.{KeepsNodes-chain, within_only, within_one, within_moved, within_then, within_more, within_answered, within_refused}

@@ -2,7 +2,7 @@ use Rattle.std.proofs.Common.{◌≡◌, ◌∙◌, ◌-◌, ℕ, List, length, 
 use Rattle.std.specs.Prelude.{IfSome}
 use Rattle.verdict.proofs.Common.{length-drop, within_moved, within_answered, within_refused, Rails, values_of, IsWide, columns, state_of, IsLaid, BoundsModel, laid, ReadsWithin}
 use Rattle.std.proofs.lemmas.List.{take_rest}
-use Rattle.clause_decision.proofs.ModelLemmas.{invariant-reads}
+use Rattle.verdict.proofs.PartLemmas.{invariant-reads}
 use Rattle.verdict.proofs.VerdictLemmas.{state-values}
 use Rattle.verdict.proofs.WorkLemmas.{invariant-bounded}
 use Rattle.verdict.proofs.beginning.inside_on.Goals as goal
