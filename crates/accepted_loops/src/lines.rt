@@ -21,10 +21,10 @@ ghost use Rattle.accepted_loops.specs.Lines.{column_name as column_text, columns
 
 use crate::columns::columns_read;
 use cyc_base::{Name, Sig};
-use cyc_io::{Failed, Sink, TextSink, write_whole};
+use cyc_io::{Failed, Sink, TextSink, put_numbered, put_two, write_whole};
 use loops::{ListedLoop, LoopedNetlist, SweepCounts};
 use netlist::Netlist;
-use report::{put_loop, put_number, put_two};
+use report::put_loop;
 use std::alloc::{AllocError, Global};
 
 fn column_name(net: &Netlist, column: u32) -> &Name
@@ -80,7 +80,7 @@ fn put_columns_line<K: Sink>(
     requires { length read.now ≡ first_gate net.now }
     ensures { IsAppended (columns_line net.now number (marked_columns net.now read.now)) (sink_call K.put K.faults sink.old sink.new) result }
 {
-    put_number(sink, b"loop ", number as u64)?;
+    put_numbered(sink, b"loop ", number)?;
     write_whole(sink, b" columns")?;
     put_columns(sink, net, read)?;
     write_whole(sink, b"\n")
@@ -89,8 +89,8 @@ fn put_columns_line<K: Sink>(
 fn put_sweeps_line<K: Sink>(sink: &mut K, number: u32, sweeps: u32) -> Result<(), Failed>
     ensures { IsAppended (sweeps_line number sweeps) (sink_call K.put K.faults sink.old sink.new) result }
 {
-    put_number(sink, b"loop ", number as u64)?;
-    put_number(sink, b" sweeps ", sweeps as u64)?;
+    put_numbered(sink, b"loop ", number)?;
+    put_numbered(sink, b" sweeps ", sweeps)?;
     write_whole(sink, b"\n")
 }
 

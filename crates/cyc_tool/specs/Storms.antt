@@ -1,19 +1,18 @@
 -- What `storm` prints of a vector: its inputs, as a comment, and its storm as a schedule file.
 use Rattle.std.specs.Prelude.{◌≡◌, ◌<◌, ℕ, Bool, List, [], ◌∷◌, ◌++◌, ◌^◌, ◌-◌, length, take, min, codes}
-use Rattle.std.specs.List.{flat_map}
 use Rattle.cyc_base.specs.declared.trit.Trit.TheVariants.{X}
 use Rattle.cyc_base.specs.Values.{bits}
+use Rattle.cyc_io.specs.Bits.{bits_text}
 use Rattle.netlist.specs.declared.parts.Parts.{Parts}
 use Rattle.netlist.specs.Fixpoint.{wire, fix}
 use Rattle.netlist.specs.Netlists.{gate_sig}
-use Rattle.report.specs.Ticks.{bit_text}
 use Rattle.sched_text.specs.Written.{written}
 use Rattle.storm.specs.Plans.{plan_at}
 use Rattle.storm.specs.Storms.{storm_events, storm_of}
 
 abbrev pub bits_or_dash : List Bool → List ℕ
 bits_or_dash [] = codes "-"
-bits_or_dash (b ∷ v) = flat_map bit_text (b ∷ v)
+bits_or_dash (b ∷ v) = bits_text (b ∷ v)
 
 -- the inputs of a vector
 abbrev pub inputs_line : Parts → List Bool → List ℕ

@@ -2,9 +2,9 @@
 ghost use Rattle.std.specs.Prelude.{◌≡◌, ◌+◌, ◌++◌, Some, IfOk, OnOk, length};
 ghost use Rattle.std.specs.List.{flat_map};
 ghost use Rattle.commands.specs.Seen.{rounds_seen};
+ghost use Rattle.cyc_io.specs.Bits.{bit_text};
 ghost use Rattle.cyc_io.specs.Text.{text_bytes};
 ghost use Rattle.refusals.specs.Refusals.{IsRefusalOf};
-ghost use Rattle.report.specs.Ticks.{bit_text};
 ghost use Rattle.sched_text.specs.Written.{written};
 ghost use Rattle.storm.specs.Laws.{FitsOneTick};
 ghost use Rattle.storm.specs.Plans.{storm_plan};

@@ -11,10 +11,9 @@ ghost use Rattle.dot_text.specs.LoopGraphs.{cluster_body, clusters, gate_node, l
 
 use crate::node::{put_node, put_quoted, put_wire};
 use cyc_base::Sig;
-use cyc_io::{Failed, Sink, write_whole};
+use cyc_io::{Failed, Sink, put_numbered, write_whole};
 use loops::{ListedLoop, LoopedNetlist};
 use netlist::Netlist;
-use report::put_number;
 use unroll::source_in_loop;
 
 fn put_gate<K: Sink>(sink: &mut K, net: &Netlist, gate: u32) -> Result<(), Failed>
@@ -127,7 +126,7 @@ pub fn put_labelled_cluster<K: Sink>(
     requires { All (λ gate. gate < length looped.now.net.gates) gates.now }
     ensures { IsAppended (labelled_cluster looped.now.net (loops_of looped.now.net) number label.now gates.now) (sink_call K.put K.faults sink.old sink.new) result }
 {
-    put_number(sink, b"subgraph cluster_", number as u64)?;
+    put_numbered(sink, b"subgraph cluster_", number)?;
     write_whole(sink, b" {\n  label=\"")?;
     put_quoted(sink, label)?;
     write_whole(sink, b"\";\n")?;
@@ -143,8 +142,8 @@ fn put_cluster<K: Sink>(
     requires { IsLoopOf looped.now.net (loop_seen listed) }
     ensures { IsAppended (loop_graph looped.now.net (loops_of looped.now.net) listed.entry.number listed.entry.first) (sink_call K.put K.faults sink.old sink.new) result }
 {
-    put_number(sink, b"subgraph cluster_", listed.number as u64)?;
-    put_number(sink, b" {\n  label=\"loop ", listed.number as u64)?;
+    put_numbered(sink, b"subgraph cluster_", listed.number)?;
+    put_numbered(sink, b" {\n  label=\"loop ", listed.number)?;
     write_whole(sink, b"\";\n")?;
     put_body(sink, looped, listed.gates)
 }

@@ -1,13 +1,11 @@
 //! Nodes and wires.
 
-ghost use Rattle.std.specs.Prelude.{◌≡◌, ◌++◌, [], codes, decimal};
-ghost use Rattle.std.specs.List.{flat_map};
+ghost use Rattle.std.specs.Prelude.{[]};
 ghost use Rattle.cyc_io.specs.Taken.{IsAppended, sink_call};
 ghost use Rattle.dot_text.specs.Dot.{graph_head, labelled_graph, node, quoted as quoted_text, quoted_byte, wire};
 
 use cyc_base::Sig;
-use cyc_io::{Failed, Sink, write_whole};
-use report::put_number;
+use cyc_io::{Failed, Sink, put_numbered, write_whole};
 
 // A byte between quotes.
 fn put_byte<K: Sink>(sink: &mut K, byte: u8) -> Result<(), Failed>
@@ -45,7 +43,7 @@ pub(crate) fn put_node<K: Sink>(
 ) -> Result<(), Failed>
     ensures { IsAppended (node signal.0 opens.now name.now closes.now) (sink_call K.put K.faults sink.old sink.new) result }
 {
-    put_number(sink, b"  s", signal.0 as u64)?;
+    put_numbered(sink, b"  s", signal.0)?;
     write_whole(sink, opens)?;
     put_quoted(sink, name)?;
     write_whole(sink, closes)
@@ -59,8 +57,8 @@ pub(crate) fn put_wire<K: Sink>(
 ) -> Result<(), Failed>
     ensures { IsAppended (wire from.0 to.0 style.now) (sink_call K.put K.faults sink.old sink.new) result }
 {
-    put_number(sink, b"  s", from.0 as u64)?;
-    put_number(sink, b" -> s", to.0 as u64)?;
+    put_numbered(sink, b"  s", from.0)?;
+    put_numbered(sink, b" -> s", to.0)?;
     write_whole(sink, style)
 }
 

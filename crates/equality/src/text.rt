@@ -8,11 +8,11 @@ ghost use Rattle.equality.specs.Answers.{IsAnswerOf};
 ghost use Rattle.equality.specs.Texts.{answer_text};
 
 use cyc_base::Name;
-use cyc_io::{Failed, Sink, write_whole};
+use cyc_io::{Failed, Sink, put_three, put_two, write_whole};
 use equal::Answer;
 use netlist::Netlist;
 use refusals::Refusal;
-use report::{put_refusal, put_three, put_two, put_vector};
+use report::{put_refusal, put_vector};
 
 // The refusal of the first netlist or the second.
 fn put_refused<K: Sink>(

@@ -1,5 +1,5 @@
 -- The text of why a gate is undetermined.
-use Rattle.std.specs.Prelude.{◌≤◌, ◌<◌, ℕ, List, [], ◌∷◌, ◌++◌, length, slice_index_or, codes, All}
+use Rattle.std.specs.Prelude.{◌≤◌, ◌<◌, ℕ, true, false, List, [], ◌∷◌, ◌++◌, length, slice_index_or, codes, All}
 use Rattle.std.specs.List.{flat_map, range_with_len}
 use Rattle.cyc_base.specs.declared.trit.Trit.{Trit}
 use Rattle.cyc_base.specs.declared.trit.Trit.TheVariants.{Zero, One, X}
@@ -7,7 +7,7 @@ use Rattle.netlist.specs.declared.parts.Parts.{Parts}
 use Rattle.netlist.specs.Netlists.{signal, count}
 use Rattle.explanations.specs.declared.explanation.Explanation.{Explanation}
 use Rattle.report.specs.LoopTexts.{names_text}
-use Rattle.report.specs.Verdicts.{signal_name}
+use Rattle.report.specs.Verdicts.{column_text, signal_name}
 
 -- gates behind a word
 abbrev pub gates_line : List ℕ → Parts → List ℕ → List ℕ
@@ -20,8 +20,8 @@ way_line net (gate ∷ way) = gates_line (codes "reaches") net (gate ∷ way)
 
 -- ` NAME=B` of a value that is needed, and nothing of another
 abbrev pub needed_text : List ℕ → Trit → List ℕ
-needed_text name Zero = codes " " ++ (name ++ codes "=0")
-needed_text name One = codes " " ++ (name ++ codes "=1")
+needed_text name Zero = column_text (name, false)
+needed_text name One = column_text (name, true)
 needed_text name X = []
 
 abbrev pub needed_column : Parts → List Trit → ℕ → List ℕ

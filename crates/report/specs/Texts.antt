@@ -161,10 +161,10 @@ IsCode number = fault_of number ≢ None
 abbrev pub number_text : ℕ → List ℕ
 number_text number = 58 ∷ 32 ∷ 69 ∷ (48 + number / 10) ∷ (48 + number % 10) ∷ 32 ∷ []
 
--- the file, with the line where there is one
-abbrev pub place_text : List ℕ → Option ℕ → List ℕ
-place_text file None = file
-place_text file (Some line) = file ++ (codes ":" ++ decimal line)
+-- the line, where there is one
+abbrev pub line_text : Option ℕ → List ℕ
+line_text None = []
+line_text (Some line) = codes ":" ++ decimal line
 
 -- what stands behind the words, with the end of the line
 abbrev pub no_tail : List ℕ
@@ -182,4 +182,4 @@ tail_text (Name name) = name_tail name.now
 tail_text (Number n) = number_tail n
 
 abbrev pub fault_text : List ℕ → FaultCode → Option ℕ → List ℕ → List ℕ
-fault_text file fault line tail = place_text file line ++ (number_text (number_of fault) ++ words_of fault ++ tail)
+fault_text file fault line tail = file ++ (line_text line ++ (number_text (number_of fault) ++ words_of fault ++ tail))

@@ -3,15 +3,12 @@ use Rattle.std.specs.Prelude.{ℕ, Bool, true, false, List, ◌++◌, codes, dec
 use Rattle.std.specs.List.{flat_map}
 use Rattle.cyc_base.specs.declared.trit.Trit.{Trit}
 use Rattle.cyc_base.specs.declared.trit.Trit.TheVariants.{Zero, One, X}
+use Rattle.cyc_io.specs.Bits.{bits_text}
 
 abbrev pub trit_text : Trit → List ℕ
 trit_text Zero = codes "0"
 trit_text One = codes "1"
 trit_text X = codes "x"
-
-abbrev pub bit_text : Bool → List ℕ
-bit_text false = codes "0"
-bit_text true = codes "1"
 
 -- a tick of a ternary simulation, with the values of its outputs
 abbrev pub tick_text : ℕ → List Trit → List ℕ
@@ -25,4 +22,4 @@ settled_text true = codes " settled=yes outputs="
 abbrev pub played_text : ℕ → ℕ → Bool → List Bool → List ℕ
 played_text tick rounds settled outputs =
     (codes "tick " ++ decimal tick)
-    ++ ((codes " rounds=" ++ decimal rounds) ++ (settled_text settled ++ (flat_map bit_text outputs ++ codes "\n")))
+    ++ ((codes " rounds=" ++ decimal rounds) ++ (settled_text settled ++ (bits_text outputs ++ codes "\n")))

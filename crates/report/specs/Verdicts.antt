@@ -1,20 +1,17 @@
 -- The texts of verdicts. Each is one line.
-use Rattle.std.specs.Prelude.{ℕ, Bool, true, false, List, [], ◌∷◌, ◌++◌, length, zip, drop, slice_index_or, codes, decimal, Some, None}
+use Rattle.std.specs.Prelude.{ℕ, Bool, List, [], ◌∷◌, ◌++◌, length, zip, drop, slice_index_or, codes, decimal, Some, None}
 use Rattle.std.specs.declared.option.Option.{Option}
 use Rattle.std.specs.List.{flat_map}
 use Rattle.cyc_base.specs.declared.sig.Sig.{Sig}
+use Rattle.cyc_io.specs.Bits.{bit_text}
 use Rattle.netlist.specs.declared.parts.Parts.{Parts}
 use Rattle.netlist.specs.Netlists.{signal_names}
 use Rattle.refusals.specs.declared.refusal.Refusal.{Refusal}
 use Rattle.refusals.specs.declared.refusal.Refusal.TheVariants.{Initial, EmptyCare, Undetermined, Leaves}
 
 -- ` NAME=B`
-abbrev pub value_text : Bool → List ℕ
-value_text false = codes "=0"
-value_text true = codes "=1"
-
 abbrev pub column_text : List ℕ × Bool → List ℕ
-column_text column = codes " " ++ (column.0 ++ value_text column.1)
+column_text column = codes " " ++ (column.0 ++ (codes "=" ++ bit_text column.1))
 
 -- that of each of these values, which are those of the signals from `first` on
 abbrev pub columns_text : Parts → ℕ → List Bool → List ℕ

@@ -1,16 +1,14 @@
 // The text of why a gate is undetermined.
-ghost use Rattle.std.specs.Prelude.{◌≡◌, ◌≤◌, ◌<◌, ◌++◌, All, codes, length, slice_index_or};
+ghost use Rattle.std.specs.Prelude.{◌≡◌, ◌≤◌, ◌<◌, ◌++◌, All, length, slice_index_or};
 ghost use Rattle.cyc_io.specs.Taken.{IsAppended, sink_call};
 ghost use Rattle.cyc_base.specs.declared.trit.Trit.TheVariants.{X};
 ghost use Rattle.netlist.specs.Netlists.{count, IsNetlist};
 ghost use Rattle.refusals.specs.Refusals.{IsRefusalOf};
-ghost use Rattle.report.specs.LoopTexts.{names_text};
 ghost use Rattle.report.specs.Verdicts.{refusal_text};
 ghost use Rattle.report.specs.Explanations.{gates_line, way_line, needed_text, needed_column, needed_columns, needs_line, explanation_text, IsExplanationOf};
 
 use crate::loop_text::put_gate_names;
-use crate::put::put_three;
-use crate::verdict::put_refusal;
+use crate::verdict::{put_column, put_refusal};
 use cyc_base::{Name, Sig, Trit};
 use cyc_io::{Failed, Sink, write_whole};
 use explanations::Explanation;
@@ -43,8 +41,8 @@ fn put_needed<K: Sink>(sink: &mut K, name: &Name, value: Trit) -> Result<(), Fai
     ensures { IsAppended (needed_text name.now value) (sink_call K.put K.faults sink.old sink.new) result }
 {
     match value {
-        Trit::Zero => put_three(sink, b" ", name.bytes(), b"=0"),
-        Trit::One => put_three(sink, b" ", name.bytes(), b"=1"),
+        Trit::Zero => put_column(sink, name, false),
+        Trit::One => put_column(sink, name, true),
         Trit::X => Ok(()),
     }
 }

@@ -1,12 +1,10 @@
 ghost use Rattle.std.specs.Prelude.{◌++◌, IfSome};
 ghost use Rattle.cyc_io.specs.Taken.{IsAppended, sink_call};
-ghost use Rattle.report.specs.Texts.{fault_of, fault_text, number_of, number_text, place_text, tail_text, words_of, IsCode};
+ghost use Rattle.report.specs.Texts.{fault_of, fault_text, number_of, number_text, line_text, tail_text, words_of, IsCode};
 
 use crate::fault_code::FaultCode;
-use crate::put::{put_three, put_two};
 use cyc_base::Name;
-use cyc_io::{Failed, Sink, write_whole};
-use itoa::Buffer;
+use cyc_io::{Failed, Sink, put_number_between, put_numbered, put_three, put_two, write_whole};
 
 /// What stands behind the words of a fault.
 #[derive(Clone, Copy)]
@@ -16,18 +14,14 @@ pub enum Tail<'a> {
     Number(u64),
 }
 
-// The place of a fault: the file, and the line where there is one.
-fn put_place<K: Sink>(sink: &mut K, file: &Name, line: Option<u64>) -> Result<(), Failed>
-    ensures { IsAppended (place_text file.now line) (sink_call K.put K.faults sink.old sink.new) result }
+// The line, where there is one.
+#[tactic(auto, using(cyc_io::proofs::TakenLemmas::appended_none))]
+fn put_line<K: Sink>(sink: &mut K, line: Option<u64>) -> Result<(), Failed>
+    ensures { IsAppended (line_text line) (sink_call K.put K.faults sink.old sink.new) result }
 {
     match line {
-        Some(line) => put_three(
-            sink,
-            file.bytes(),
-            b":",
-            Buffer::new().format(line).as_bytes(),
-        ),
-        None => write_whole(sink, file.bytes()),
+        Some(line) => put_numbered(sink, b":", line),
+        None => Ok(()),
     }
 }
 
@@ -52,7 +46,7 @@ fn put_tail<K: Sink>(sink: &mut K, tail: Tail) -> Result<(), Failed>
     match tail {
         Tail::Nothing => write_whole(sink, b"\n"),
         Tail::Name(name) => put_three(sink, b" ", name.bytes(), b"\n"),
-        Tail::Number(n) => put_three(sink, b" ", Buffer::new().format(n).as_bytes(), b"\n"),
+        Tail::Number(n) => put_number_between(sink, b" ", n, b"\n"),
     }
 }
 
@@ -67,7 +61,8 @@ pub fn put_file_fault<K: Sink>(
 ) -> Result<(), Failed>
     ensures { IsAppended (fault_text file.now fault line (tail_text tail.entry)) (sink_call K.put K.faults sink.old sink.new) result }
 {
-    put_place(sink, file, line)?;
+    write_whole(sink, file.bytes())?;
+    put_line(sink, line)?;
     put_code(sink, fault)?;
     put_tail(sink, tail)
 }

@@ -4,9 +4,8 @@ ghost use Rattle.std.specs.List.{flat_map};
 ghost use Rattle.cyc_io.specs.Taken.{IsAppended, sink_call};
 ghost use Rattle.report.specs.Help.{help_head, help_tail, help_text, purpose_of, topic_text, topics as all_topics, version_text, words_of};
 
-use crate::put::{put_three, put_two};
 use commands::Topic;
-use cyc_io::{Failed, Sink, write_whole};
+use cyc_io::{Failed, Sink, put_three, put_two, write_whole};
 
 // The program's version, and the kit that it is proved with.
 const VERSION_TEXT: &[u8] = b"cyc 1.0.0\nproved with rattle-kit-13f logic dac8208d650f15bf\n";

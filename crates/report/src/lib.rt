@@ -11,7 +11,6 @@ mod fault_code;
 mod help;
 mod loop_text;
 mod message;
-mod put;
 mod tick;
 mod verdict;
 
@@ -23,6 +22,5 @@ pub use loop_text::{put_loop, put_loops};
 pub use message::{
     NO_MEMORY_TEXT, USAGE_TEXT, put_limit, put_no_memory, put_read_failed, put_too_large, put_usage,
 };
-pub use put::{put_number, put_three, put_two};
 pub use tick::{put_played_tick, put_tick};
 pub use verdict::{put_accepted, put_refusal, put_ring, put_vector};

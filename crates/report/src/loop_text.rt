@@ -1,13 +1,12 @@
 // The text of a netlist's loops and their cut wires.
-ghost use Rattle.std.specs.Prelude.{◌<◌, All, length, filter, codes, if◌then◌else◌, [], ◌++◌};
+ghost use Rattle.std.specs.Prelude.{◌<◌, All, length, filter, codes, if◌then◌else◌, []};
 ghost use Rattle.cyc_io.specs.Taken.{IsAppended, sink_call};
 ghost use Rattle.loops.specs.Found.{loops_of};
 ghost use Rattle.loops.specs.Left.{loop_seen};
 ghost use Rattle.loops.specs.Numbered.{IsLoopOf};
 ghost use Rattle.report.specs.LoopTexts.{gate_name, names_text, loop_line, loop_lines, each_loop, loops_text};
 
-use crate::put::{put_number, put_two};
-use cyc_io::{Failed, Sink, write_whole};
+use cyc_io::{Failed, Sink, put_numbered, put_two, write_whole};
 use loops::{ListedLoop, LoopedNetlist};
 use netlist::Netlist;
 
@@ -69,7 +68,7 @@ fn put_gates_line<K: Sink>(
     requires { All (λ gate. gate < length net.now.gates) gates.now }
     ensures { IsAppended (loop_line net.now number (codes " gates") gates.now) (sink_call K.put K.faults sink.old sink.new) result }
 {
-    put_number(sink, b"loop ", number as u64)?;
+    put_numbered(sink, b"loop ", number)?;
     write_whole(sink, b" gates")?;
     put_gate_names(sink, net, gates)?;
     write_whole(sink, b"\n")
@@ -84,7 +83,7 @@ fn put_cut_line<K: Sink>(
     requires { All (λ gate. gate < length looped.now.net.gates) gates.now }
     ensures { IsAppended (loop_line looped.now.net number (codes " cut") (filter (loops_of looped.now.net).cut gates.now)) (sink_call K.put K.faults sink.old sink.new) result }
 {
-    put_number(sink, b"loop ", number as u64)?;
+    put_numbered(sink, b"loop ", number)?;
     write_whole(sink, b" cut")?;
     put_cut_names(sink, looped, gates)?;
     write_whole(sink, b"\n")
@@ -118,7 +117,7 @@ fn put_each_loop<K: Sink>(sink: &mut K, looped: &LoopedNetlist<'_>) -> Result<()
 pub fn put_loops<K: Sink>(looped: &LoopedNetlist<'_>, sink: &mut K) -> Result<(), Failed>
     ensures { IsAppended (loops_text looped.now.net) (sink_call K.put K.faults sink.old sink.new) result }
 {
-    put_number(sink, b"loops=", looped.count() as u64)?;
+    put_numbered(sink, b"loops=", looped.count())?;
     write_whole(sink, b"\n")?;
     put_each_loop(sink, looped)
 }

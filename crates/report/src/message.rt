@@ -2,10 +2,8 @@
 ghost use Rattle.cyc_io.specs.Taken.{IsAppended, sink_call};
 ghost use Rattle.report.specs.Messages.{usage_text, read_failed_text, limit_text, too_large_text, no_memory_text};
 
-use crate::put::{put_three, put_two};
 use cyc_base::Name;
-use cyc_io::{Failed, Sink, write_whole};
-use itoa::Buffer;
+use cyc_io::{Failed, Sink, put_number_between, put_two, write_whole};
 
 /// What words outside the grammar are told.
 pub const USAGE_TEXT: &[u8] = b"usage: cyc COMMAND FILES OPTIONS\n";
@@ -31,24 +29,14 @@ pub fn put_read_failed<K: Sink>(file: &Name, sink: &mut K) -> Result<(), Failed>
 pub fn put_limit<K: Sink>(limit: u32, sink: &mut K) -> Result<(), Failed>
     ensures { IsAppended (limit_text limit) (sink_call K.put K.faults sink.old sink.new) result }
 {
-    put_three(
-        sink,
-        b"node limit ",
-        Buffer::new().format(limit).as_bytes(),
-        b" reached\n",
-    )
+    put_number_between(sink, b"node limit ", limit, b" reached\n")
 }
 
 /// Appends what is told of a rewritten netlist that is too large. It takes no memory.
 pub fn put_too_large<K: Sink>(size: u64, sink: &mut K) -> Result<(), Failed>
     ensures { IsAppended (too_large_text size) (sink_call K.put K.faults sink.old sink.new) result }
 {
-    put_three(
-        sink,
-        b"too large ",
-        Buffer::new().format(size).as_bytes(),
-        b"\n",
-    )
+    put_number_between(sink, b"too large ", size, b"\n")
 }
 
 /// Appends what want of memory is told. It takes none.

@@ -2,11 +2,10 @@
 ghost use Rattle.std.specs.Prelude.{◌≡◌};
 ghost use Rattle.std.specs.List.{flat_map};
 ghost use Rattle.cyc_io.specs.Taken.{IsAppended, sink_call};
-ghost use Rattle.report.specs.Ticks.{trit_text, bit_text, tick_text, settled_text, played_text};
+ghost use Rattle.report.specs.Ticks.{trit_text, tick_text, settled_text, played_text};
 
-use crate::put::put_number;
 use cyc_base::Trit;
-use cyc_io::{Failed, Sink, write_whole};
+use cyc_io::{Failed, Sink, put_bits, put_numbered, write_whole};
 
 fn trit(t: Trit) -> &'static [u8]
     ensures { result.now ≡ trit_text t }
@@ -18,12 +17,6 @@ fn trit(t: Trit) -> &'static [u8]
     }
 }
 
-fn bit(b: bool) -> &'static [u8]
-    ensures { result.now ≡ bit_text b }
-{
-    if b { b"1" } else { b"0" }
-}
-
 fn put_trits<K: Sink>(sink: &mut K, trits: &[Trit]) -> Result<(), Failed>
     ensures { IsAppended (flat_map trit_text trits.now) (sink_call K.put K.faults sink.old sink.new) result }
 {
@@ -33,20 +26,11 @@ fn put_trits<K: Sink>(sink: &mut K, trits: &[Trit]) -> Result<(), Failed>
     Ok(())
 }
 
-fn put_bits<K: Sink>(sink: &mut K, bits: &[bool]) -> Result<(), Failed>
-    ensures { IsAppended (flat_map bit_text bits.now) (sink_call K.put K.faults sink.old sink.new) result }
-{
-    for b in bits {
-        write_whole(sink, bit(*b))?;
-    }
-    Ok(())
-}
-
 /// Appends the line of a tick of a ternary simulation, with the values of its outputs. It takes no memory.
 pub fn put_tick<K: Sink>(tick: u64, outputs: &[Trit], sink: &mut K) -> Result<(), Failed>
     ensures { IsAppended (tick_text tick outputs.now) (sink_call K.put K.faults sink.old sink.new) result }
 {
-    put_number(sink, b"tick ", tick)?;
+    put_numbered(sink, b"tick ", tick)?;
     write_whole(sink, b" outputs=")?;
     put_trits(sink, outputs)?;
     write_whole(sink, b"\n")
@@ -73,8 +57,8 @@ pub fn put_played_tick<K: Sink>(
 ) -> Result<(), Failed>
     ensures { IsAppended (played_text tick rounds settled outputs.now) (sink_call K.put K.faults sink.old sink.new) result }
 {
-    put_number(sink, b"tick ", tick)?;
-    put_number(sink, b" rounds=", rounds)?;
+    put_numbered(sink, b"tick ", tick)?;
+    put_numbered(sink, b" rounds=", rounds)?;
     write_whole(sink, settled_words(settled))?;
     put_bits(sink, outputs)?;
     write_whole(sink, b"\n")

@@ -1,25 +1,24 @@
 // The texts of verdicts.
 ghost use Rattle.std.specs.Prelude.{◌≡◌, ◌≤◌, ◌<◌, ◌+◌, ◌++◌, [], codes, length, Some};
+ghost use Rattle.cyc_io.specs.Bits.{bit_text};
 ghost use Rattle.cyc_io.specs.Taken.{IsAppended, sink_call};
 ghost use Rattle.netlist.specs.Netlists.{count, IsNetlist};
 ghost use Rattle.refusals.specs.Refusals.{IsStepTo, IsRefusalOf};
 ghost use Rattle.refusals.specs.declared.refusal.Refusal.TheVariants.{Leaves};
-ghost use Rattle.report.specs.Verdicts.{value_text, column_text, columns_text, last_columns, vector_text, refusal_text, open_text, accepted_text, rewritten_text, ring_line};
+ghost use Rattle.report.specs.Verdicts.{column_text, columns_text, last_columns, vector_text, refusal_text, open_text, accepted_text, rewritten_text, ring_line};
 
-use crate::put::{put_number, put_three, put_two};
 use cyc_base::{Name, Sig};
-use cyc_io::{Failed, Sink, write_whole};
-use itoa::Buffer;
+use cyc_io::{Failed, Sink, put_number_between, put_numbered, put_three, put_two, write_whole};
 use netlist::Netlist;
 use refusals::Refusal;
 
 fn value(b: bool) -> &'static [u8]
-    ensures { result.now ≡ value_text b }
+    ensures { result.now ≡ codes "=" ++ bit_text b }
 {
     if b { b"=1" } else { b"=0" }
 }
 
-fn put_column<K: Sink>(sink: &mut K, name: &Name, b: bool) -> Result<(), Failed>
+pub(crate) fn put_column<K: Sink>(sink: &mut K, name: &Name, b: bool) -> Result<(), Failed>
     ensures { IsAppended (column_text (name.now, b)) (sink_call K.put K.faults sink.old sink.new) result }
 {
     put_three(sink, b" ", name.bytes(), value(b))
@@ -138,12 +137,7 @@ fn put_open<K: Sink>(sink: &mut K, loose: Option<u32>) -> Result<(), Failed>
     ensures { IsAppended (open_text loose) (sink_call K.put K.faults sink.old sink.new) result }
 {
     match loose {
-        Some(loose) => put_three(
-            sink,
-            b" open=",
-            Buffer::new().format(loose).as_bytes(),
-            b"\n",
-        ),
+        Some(loose) => put_number_between(sink, b" open=", loose, b"\n"),
         None => write_whole(sink, b"\n"),
     }
 }
@@ -158,27 +152,16 @@ pub fn put_accepted<K: Sink>(
 ) -> Result<(), Failed>
     ensures { IsAppended (accepted_text net.now loops loose) (sink_call K.put K.faults sink.old sink.new) result }
 {
-    put_number(sink, b"accepted gates=", net.gates() as u64)?;
-    put_number(sink, b" loops=", loops as u64)?;
-    put_number(sink, b" latches=", net.latches() as u64)?;
+    put_numbered(sink, b"accepted gates=", net.gates())?;
+    put_numbered(sink, b" loops=", loops)?;
+    put_numbered(sink, b" latches=", net.latches())?;
     put_open(sink, loose)
-}
-
-fn rewritten_words() -> &'static [u8]
-    ensures { result.now ≡ codes " accepted rewritten=" }
-{
-    b" accepted rewritten="
 }
 
 fn put_rewritten<K: Sink>(sink: &mut K, gates: u64) -> Result<(), Failed>
     ensures { IsAppended (rewritten_text gates) (sink_call K.put K.faults sink.old sink.new) result }
 {
-    put_three(
-        sink,
-        rewritten_words(),
-        Buffer::new().format(gates).as_bytes(),
-        b"\n",
-    )
+    put_number_between(sink, b" accepted rewritten=", gates, b"\n")
 }
 
 /// Appends the line of a ring arbiter of so many cells that is accepted, with this number of loops, and of gates of the
@@ -192,8 +175,8 @@ pub fn put_ring<K: Sink>(
 ) -> Result<(), Failed>
     ensures { IsAppended (ring_line cells net.now loop_count rewritten) (sink_call K.put K.faults sink.old sink.new) result }
 {
-    put_number(sink, b"ring ", cells as u64)?;
-    put_number(sink, b" gates=", net.gates() as u64)?;
-    put_number(sink, b" loops=", loop_count as u64)?;
+    put_numbered(sink, b"ring ", cells)?;
+    put_numbered(sink, b" gates=", net.gates())?;
+    put_numbered(sink, b" loops=", loop_count)?;
     put_rewritten(sink, rewritten)
 }

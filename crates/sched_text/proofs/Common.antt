@@ -24,7 +24,7 @@ pub use Rattle.sched_text.specs.Running.{Draft, ended, follow, new_draft, seen}
 pub use Rattle.sched_text.specs.Schedules.{schedule}
 pub use Rattle.sched_text.specs.Statements.{statement}
 pub use Rattle.sched_text.specs.Vectors.{value_of}
-pub use Rattle.sched_text.specs.Written.{after_blank, bit_byte, bits_words, event_line, line_text, lines_of, past_line, round_lines, start_word, tick_lines}
+pub use Rattle.sched_text.specs.Written.{after_blank, bits_words, event_line, line_text, lines_of, past_line, round_lines, start_word, tick_lines}
 pub use Rattle.sched_text.specs.declared.fault.SchedFault.{SchedFault}
 pub use Rattle.sched_text.specs.declared.fault.SchedFault.TheVariants.{BadLine, WrongWidth}
 pub use Rattle.std.proofs.Math.Seq.{drop-cons}

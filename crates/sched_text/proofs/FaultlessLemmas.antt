@@ -1,7 +1,8 @@
 -- A written schedule has no fault: each line is fine where it stands.
 use Rattle.std.proofs.Common.{◌≡◌, ◌<◌, ◌+◌, ◌==◌, ℕ, suc, Bool, true, false, not, cond, ◌&&◌, nat_lt, List, [], ◌∷◌, ◌++◌, length, map, refl, ap, sym, ◌∙◌, subst, arith, All, Some, None, append_assoc}
-use Rattle.sched_text.proofs.Common.{codes, decimal, is_some, option_map, if◌then◌else◌, list_all, flat_map, option_or, ne_eqb, nat_tests, All-head, All-tail, sum_by-cons, Latch, Parts, gate_at, IsNetlist, PlannedEvent, RoundPlan, Schedule, Line, numbered, SchedFault, BadLine, WrongWidth, IsOfGates, AreOfGates, FitsNetlist, is_tick, lacks_lines, arguments, bit_of, bits_of, permits, first_refused, nearest, begins_tick, ticks_begun, is_cut_off, fault_at, fault_at_end, first_fault, IsSmall, HasSmallAges, AreSmall, TicksAreSmall, bit_byte, bits_words, past_line, start_word, event_line, round_lines, tick_lines, lines_of}
+use Rattle.sched_text.proofs.Common.{codes, decimal, is_some, option_map, if◌then◌else◌, list_all, flat_map, option_or, ne_eqb, nat_tests, All-head, All-tail, sum_by-cons, Latch, Parts, gate_at, IsNetlist, PlannedEvent, RoundPlan, Schedule, Line, numbered, SchedFault, BadLine, WrongWidth, IsOfGates, AreOfGates, FitsNetlist, is_tick, lacks_lines, arguments, bit_of, bits_of, permits, first_refused, nearest, begins_tick, ticks_begun, is_cut_off, fault_at, fault_at_end, first_fault, IsSmall, HasSmallAges, AreSmall, TicksAreSmall, bits_words, past_line, start_word, event_line, round_lines, tick_lines, lines_of}
 use Rattle.std.specs.List.{AllZip}
+use Rattle.cyc_io.specs.Bits.{bits_text}
 use Rattle.std.specs.declared.option.Option.{Option}
 use Rattle.std.proofs.lemmas.Bool.{eq-eqb, lt-ltb}
 use Rattle.netlist.specs.declared.parts.Init.{Init}
@@ -18,25 +19,19 @@ use Rattle.sched_text.proofs.WrittenNumbers.{number_decimal}
 
 -- ---- bits
 
-byte_is_bit : (b : Bool) → is_bit (bit_byte b) ≡ true
-byte_is_bit true = refl
-byte_is_bit false = refl
-
-bytes_are_bits : (bits : List Bool) → list_all is_bit (map bit_byte bits) ≡ true
+bytes_are_bits : (bits : List Bool) → list_all is_bit (bits_text bits) ≡ true
 bytes_are_bits [] = refl
-bytes_are_bits (b ∷ bits) = ap (λ t. t && list_all is_bit (map bit_byte bits)) (byte_is_bit b) ∙ bytes_are_bits bits
+bytes_are_bits (true ∷ bits) = bytes_are_bits bits
+bytes_are_bits (false ∷ bits) = bytes_are_bits bits
 
 pub words_are_bits : (bits : List Bool) → are_bits (bits_words bits) ≡ true
 words_are_bits [] = refl
 words_are_bits (b ∷ bits) = bytes_are_bits (b ∷ bits)
 
-bit_back : (b : Bool) → bit_of (bit_byte b) ≡ b
-bit_back true = refl
-bit_back false = refl
-
-bytes_back : (bits : List Bool) → map bit_of (map bit_byte bits) ≡ bits
+bytes_back : (bits : List Bool) → map bit_of (bits_text bits) ≡ bits
 bytes_back [] = refl
-bytes_back (b ∷ bits) = ap (λ c. c ∷ map bit_of (map bit_byte bits)) (bit_back b) ∙ ap (λ l. b ∷ l) (bytes_back bits)
+bytes_back (true ∷ bits) = ap (λ l. true ∷ l) (bytes_back bits)
+bytes_back (false ∷ bits) = ap (λ l. false ∷ l) (bytes_back bits)
 
 pub bits_back : (bits : List Bool) → bits_of (bits_words bits) ≡ bits
 bits_back [] = refl

@@ -3,6 +3,7 @@ use Rattle.std.proofs.Common.{◌≡◌, ◌≤◌, ◌<◌, ℕ, ◌+◌, Bool,
 use Rattle.sched_text.proofs.Common.{Option, if◌then◌else◌, is_some, unwrap_or, option_map, option_or, nat_tests, length-map, All-nil, sum_by-cons, Latch, Parts, PlannedEvent, RoundPlan, Schedule, Line, SchedFault, BadLine, WrongWidth, kind, is_tick, lacks_lines, arguments, bits_of, permits, first_refused, nearest, begins_tick, ticks_begun, is_cut_off, fault_at, fault_at_end, first_fault, statement, schedule, Draft, new_draft, follow, ended, IsOfGates, AreOfGates, FitsNetlist}
 use Rattle.std.specs.Prelude.{◌&&◌, ◌==◌, nat_lt, option_to_list, bytes_eq}
 use Rattle.std.specs.List.{AllZip}
+use Rattle.std.proofs.lemmas.Bool.{and_parts}
 use Rattle.std.proofs.lemmas.List.{length-append}
 use Rattle.std.proofs.lemmas.List.Elements.{All-append, All-push}
 use Rattle.std.proofs.lemmas.List.Quantifiers.{position-Some}
@@ -159,10 +160,6 @@ start_in_head (Some kinds.Event) whole = refl
 start_in_head (Some kinds.Unknown) whole = absurd (cc whole)
 
 -- ---- what a line without a fault says
-
-first_of_and : (a b : Bool) → (a && b) ≡ true → a ≡ true
-first_of_and true b is = refl
-first_of_and false b is = is
 
 may_here : (t : Bool) (f : Option SchedFault) (n : ℕ) → (if t then f else Some (BadLine n)) ≡ None → t ≡ true
 may_here true f n none = refl
@@ -390,8 +387,8 @@ fits_on net ticks end earlier (line ∷ rest) draft at none =
     let words = arguments line.words in
     let begun = ticks_begun earlier in
     let here : fault_at net ticks (nearest earlier) begun cut line ≡ None = none_first (line_fault net ticks end earlier line rest) (first_fault net ticks end (line ∷ earlier) rest) none in
-    let may = first_of_and (may_follow (nearest earlier) k) (not cut)
-    (may_here (may_follow (nearest earlier) k && not cut) (fault_of_words net ticks k line.number begun words) line.number here) in
+    let may = (and_parts (may_follow (nearest earlier) k) (not cut)
+    (may_here (may_follow (nearest earlier) k && not cut) (fault_of_words net ticks k line.number begun words) line.number here)).0 in
     let good = none_here (may_follow (nearest earlier) k && not cut) (fault_of_words net ticks k line.number begun words) line.number here in
     let P : ℕ → Type 0 = λ m. FitsSoFar net ticks (Some k) m (follow draft (statement net line)) in
     let next = subst P (sym (sum_by-cons (λ l. cond (begins_tick l) 1 0) line earlier)) (fits_next net ticks (nearest earlier) begun draft k line.number words at may good) in

@@ -1,9 +1,10 @@
 -- Each line of a written schedule has words, all of which are names.
 use Rattle.std.proofs.Common.{◌≡◌, ◌≢◌, ◌<◌, ℕ, Bool, true, false, List, [], ◌∷◌, ◌++◌, length, map, refl, arith}
-use Rattle.sched_text.proofs.Common.{codes, decimal, flat_map, All-head, All-tail, All-nil, All-cons, IsBlifName, IsLine, Parts, gate_at, IsNetlist, PlannedEvent, RoundPlan, Schedule, IsOfGates, AreOfGates, FitsNetlist, IsSmall, HasSmallAges, AreSmall, TicksAreSmall, bit_byte, bits_words, past_line, start_word, event_line, round_lines, tick_lines, lines_of}
+use Rattle.sched_text.proofs.Common.{codes, decimal, flat_map, All-head, All-tail, All-nil, All-cons, IsBlifName, IsLine, Parts, gate_at, IsNetlist, PlannedEvent, RoundPlan, Schedule, IsOfGates, AreOfGates, FitsNetlist, IsSmall, HasSmallAges, AreSmall, TicksAreSmall, bits_words, past_line, start_word, event_line, round_lines, tick_lines, lines_of}
 use Rattle.std.specs.Prelude.{All}
 use Rattle.std.proofs.lemmas.List.Elements.{All-append}
 use Rattle.cyc_base.specs.Names.{IsBlifByte}
+use Rattle.cyc_io.specs.Bits.{bits_text}
 use Rattle.netlist.specs.Faults.{is_blif_name}
 use Rattle.netlist.proofs.Decisions.{is_blif_name_decides}
 use Rattle.sched_text.specs.ReadingBack.{HasSmallNumbers}
@@ -20,17 +21,18 @@ constant word e = (is_blif_name_decides word).0 e
 line_named : (first : List ℕ) (words : List (List ℕ)) → is_blif_name first ≡ true → All IsBlifName words → IsLine (first ∷ words)
 line_named first words is each = record { filled = cons_filled first words; names = All-cons IsBlifName first words (constant first is) each }
 
-byte_named : (b : Bool) → IsBlifByte (bit_byte b)
-byte_named true = (omega arith, omega arith, λ e. omega (arith, e))
-byte_named false = (omega arith, omega arith, λ e. omega (arith, e))
-
-bytes_named : (bits : List Bool) → All IsBlifByte (map bit_byte bits)
+bytes_named : (bits : List Bool) → All IsBlifByte (bits_text bits)
 bytes_named [] = All-nil IsBlifByte
-bytes_named (b ∷ bits) = All-cons IsBlifByte (bit_byte b) (map bit_byte bits) (byte_named b) (bytes_named bits)
+bytes_named (true ∷ bits) = All-cons IsBlifByte 49 (bits_text bits) (omega arith, omega arith, λ e. omega (arith, e)) (bytes_named bits)
+bytes_named (false ∷ bits) = All-cons IsBlifByte 48 (bits_text bits) (omega arith, omega arith, λ e. omega (arith, e)) (bytes_named bits)
+
+bits_filled : (b : Bool) (bits : List Bool) → bits_text (b ∷ bits) ≢ []
+bits_filled true bits e = cc
+bits_filled false bits e = cc
 
 bits_named : (bits : List Bool) → All IsBlifName (bits_words bits)
 bits_named [] = All-nil IsBlifName
-bits_named (b ∷ bits) = All-cons IsBlifName (map bit_byte (b ∷ bits)) [] (cons_filled (bit_byte b) (map bit_byte bits), bytes_named (b ∷ bits)) (All-nil IsBlifName)
+bits_named (b ∷ bits) = All-cons IsBlifName (bits_text (b ∷ bits)) [] (bits_filled b bits, bytes_named (b ∷ bits)) (All-nil IsBlifName)
 
 past_named : (past : List (List Bool)) → All IsLine (map past_line past)
 past_named [] = All-nil IsLine

@@ -1,7 +1,8 @@
 -- The lines of a text are those of its pieces.
 use Rattle.std.proofs.Common.{◌≡◌, ◌<◌, ◌≤◌, ℕ, zero, suc, ◌+◌, ◌-◌, inl, inr, Bool, true, false, List, [], ◌∷◌, ◌++◌, length, take, drop, map, get_or, All, Some, None, Ok, Err, refl, sym, ap, ap₂, subst, ◌∙◌, arith, length-append, append_assoc, append-nil, eqb-true}
-use Rattle.sched_text.proofs.Common.{if◌then◌else◌, Option, option_map, Result, list_all, option_or, All-nil, All-cons, sum_by-cons, is_lf, Line, lines, line_at, SchedFault, BadLine, bad_line}
+use Rattle.sched_text.proofs.Common.{if◌then◌else◌, Option, option_map, Result, list_all, option_or, length-map, All-nil, All-cons, sum_by-cons, is_lf, Line, lines, line_at, SchedFault, BadLine, bad_line}
 use Rattle.std.specs.Prelude.{filter, ◌==◌, ◌&&◌, cond, count_by, position, IfErr, IsErrAnd}
+use Rattle.std.proofs.lemmas.Bool.{and_parts}
 use Rattle.std.proofs.lemmas.List.{map-append, get_or-drop, take_more, take-append-drop, drop_all, take_all}
 use Rattle.std.proofs.lemmas.List.Quantifiers.{position-Some}
 use Rattle.std.proofs.lemmas.List.Elements.{filter-append}
@@ -12,6 +13,7 @@ use Rattle.blif_text.specs.declared.fault.TextFault.{TextFault}
 use Rattle.blif_text.specs.declared.fault.TextFault.TheVariants.{BadByte}
 use Rattle.blif_text.proofs.Pieces.{pieces_other, pieces_here}
 use Rattle.sched_text.specs.Pieces.{lines_from, line_behind, IsCut, IsNext}
+use Rattle.sched_text.proofs.VectorLemmas.{none_first}
 
 -- ---- logical lines, of physical lines that aren't joined
 
@@ -143,10 +145,6 @@ count_front x xs t is = sum_by-cons (λ b. cond (is_lf b) 1 0) x xs ∙ ap (λ u
 cr_is_no_lf : (x : ℕ) → (x == 13) ≡ true → is_lf x ≡ false
 cr_is_no_lf x is = ap (λ n. n == 10) (eqb-true x 13 is)
 
-and_first : (a b : Bool) → (a && b) ≡ true → a ≡ true
-and_first true b is = refl
-and_first false b is = is
-
 -- each LF ends a physical line
 pub size_of_pieces : (text : List ℕ) → length (pieces is_lf (without_cr text)) ≡ count_by is_lf text + 1
 size_of_pieces [] = refl
@@ -161,15 +159,11 @@ size_of_pieces (x ∷ xs) = by (size_of_pieces xs) ((x == 13) && begins_with 10 
         ap length (pieces_other is_lf x (without_cr xs) is) ∙ size_in_front x (pieces is_lf (without_cr xs)) (count_by is_lf xs) rest ∙ omega (arith, e)
 
     by : length (pieces is_lf (without_cr xs)) ≡ count_by is_lf xs + 1 → (t : Bool) → ((x == 13) && begins_with 10 xs) ≡ t → length (pieces is_lf (if t then without_cr xs else x ∷ without_cr xs)) ≡ count_by is_lf (x ∷ xs) + 1
-    by rest true is = let e = count_front x xs false (cr_is_no_lf x (and_first (x == 13) (begins_with 10 xs) is)) in rest ∙ omega (arith, e)
+    by rest true is = let e = count_front x xs false (cr_is_no_lf x (and_parts (x == 13) (begins_with 10 xs) is).0) in rest ∙ omega (arith, e)
     by rest false is = kept rest (is_lf x) refl
 
 pub size_of_physical : (text : List ℕ) → length (physical text) ≡ count_by is_lf text + 1
-size_of_physical text = length-map_lines (pieces is_lf (without_cr text)) ∙ size_of_pieces text
-  where
-    length-map_lines : (ps : List (List ℕ)) → length (map before_hash ps) ≡ length ps
-    length-map_lines [] = refl
-    length-map_lines (p ∷ ps) = ap suc (length-map_lines ps)
+size_of_physical text = length-map (pieces is_lf (without_cr text)) before_hash ∙ size_of_pieces text
 
 -- A text that goes on behind an LF: the pieces up to it, of which there is one at least.
 record Ended (text : List ℕ) : Type 0 where
@@ -212,7 +206,7 @@ ended_by x xs later true is = record {
   first = later.first;
   more = later.more;
   cut = λ rest. ap (pieces is_lf) (cleaned x xs true is rest) ∙ later.cut rest;
-  count = count_front x xs false (cr_is_no_lf x (and_first (x == 13) (lf_next xs) is)) ∙ (let e = later.count in let done : 0 + count_by is_lf xs ≡ length later.more = omega (arith, e) in done);
+  count = count_front x xs false (cr_is_no_lf x (and_parts (x == 13) (lf_next xs) is).0) ∙ (let e = later.count in let done : 0 + count_by is_lf xs ≡ length later.more = omega (arith, e) in done);
 }
 ended_by x xs later false is = ended_kept x xs later is (is_lf x) refl
 
@@ -222,13 +216,9 @@ ended (x ∷ xs) = ended_by x xs (ended xs) ((x == 13) && lf_next xs) refl
 
 -- ---- the next piece
 
-none_or : (a b : Option ℕ) → option_or a b ≡ None → a ≡ None
-none_or None b none = refl
-none_or (Some x) b none = absurd (cc none)
-
-some_or : (a : Option ℕ) (m : ℕ) → option_or a None ≡ Some m → a ≡ Some m
-some_or None m is = absurd (cc is)
-some_or (Some x) m is = is
+pub or_nothing : {X : Type 0} (o : Option X) → option_or o None ≡ o
+or_nothing None = refl
+or_nothing (Some x) = refl
 
 or_some : (a b : Option ℕ) (m : ℕ) → a ≡ Some m → option_or a b ≡ Some m
 or_some a b m is = rw is refl
@@ -250,12 +240,12 @@ module _ (before : ℕ) (text : List ℕ) where
 
     piece_bad : bad_line (before + 1) (a ++ 10 ∷ []) ≡ None → bad_byte (before + 1) front ≡ None
     piece_bad none =
-        none_or (bad_byte (before + 1) front) None (sym (ap (bad_byte (before + 1)) (whole []) ∙ bad_append (before + 1) front ([] ∷ [])) ∙ none)
+        none_first (bad_byte (before + 1) front) None (sym (ap (bad_byte (before + 1)) (whole []) ∙ bad_append (before + 1) front ([] ∷ [])) ∙ none)
 
     bad_ended : (m : ℕ) → bad_line (before + 1) (a ++ 10 ∷ []) ≡ Some m → bad_line (before + 1) (a ++ 10 ∷ left) ≡ Some m
     bad_ended m is =
         let here : bad_byte (before + 1) front ≡ Some m =
-        some_or (bad_byte (before + 1) front) m (sym (ap (bad_byte (before + 1)) (whole []) ∙ bad_append (before + 1) front ([] ∷ [])) ∙ is) in
+        sym (or_nothing (bad_byte (before + 1) front)) ∙ sym (ap (bad_byte (before + 1)) (whole []) ∙ bad_append (before + 1) front ([] ∷ [])) ∙ is in
         ap (bad_byte (before + 1)) (whole left)
         ∙ bad_append (before + 1) front (physical left)
         ∙ or_some (bad_byte (before + 1) front) (bad_byte (before + 1 + length front) (physical left)) m here

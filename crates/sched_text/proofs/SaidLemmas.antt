@@ -16,6 +16,7 @@ use Rattle.sched_text.proofs.WrittenLines.{written_lines, written_end}
 use Rattle.sched_text.proofs.WrittenNumbers.{number_decimal}
 use Rattle.sched_text.proofs.FaultlessLemmas.{bits_back, no_fault}
 use Rattle.sched_text.proofs.NamedLemmas.{lines_named}
+use Rattle.sched_text.proofs.PieceLemmas.{or_nothing}
 
 -- a statement tells nothing of the head
 record TellsNothing (said : Statement) : Type 0 where
@@ -170,10 +171,6 @@ module _ (net : Parts) where
 
 -- what is told of the head by lists of which a part tells nothing
 
-or_nothing : {X : Type 0} (o : Option X) → option_or o None ≡ o
-or_nothing None = refl
-or_nothing (Some x) = refl
-
 last_none : {X : Type 0} (told : Statement → Option X) (said : List Statement) → All (λ s. told s ≡ None) said → last_there told said ≡ None
 last_none told [] none = refl
 last_none told (s ∷ said) none =
@@ -193,9 +190,6 @@ any_none : (p : Statement → Bool) (said : List Statement) → All (λ s. p s �
 any_none p [] none = refl
 any_none p (s ∷ said) none =
     ap (λ t. t || list_any p said) (All-head (λ s. p s ≡ false) s said none) ∙ any_none p said (All-tail (λ s. p s ≡ false) s said none)
-
-weaker : {A : Type 0} (P Q : A → Type 0) (xs : List A) → ((x : A) → P x → Q x) → All P xs → All Q xs
-weaker P Q xs h all = λ k d l. h _ (all k d l)
 
 past_keeps : (past : List (List Bool)) (rest : List Statement) → filter_map past_told (map Past past ++ rest) ≡ past ++ filter_map past_told rest
 past_keeps [] rest = refl

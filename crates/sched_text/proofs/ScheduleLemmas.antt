@@ -1,9 +1,11 @@
 -- The answer that there is once the lines of a schedule that are left are read.
 use Rattle.std.proofs.Common.{◌≡◌, ◌≤◌, ◌<◌, ℕ, suc, ◌+◌, Bool, true, false, cond, List, [], ◌∷◌, ◌++◌, length, drop, map, Some, None, Ok, Err, refl, sym, ap, ap₂, subst, ◌∙◌, arith, drop_of_length-le}
-use Rattle.sched_text.proofs.Common.{Option, unwrap_or, option_map, list_any, option_or, drop-cons, sum_by-cons, Parts, PlannedEvent, RoundPlan, Schedule, Line, line_at, SchedFault, unless, kind, is_tick, nearest, begins_tick, ticks_begun, is_cut_off, fault_at, fault_at_end, first_fault, statement, schedule, Draft, new_draft, follow, ended}
+use Rattle.sched_text.proofs.Common.{Option, unwrap_or, option_map, list_any, option_or, sum_by-cons, Parts, PlannedEvent, RoundPlan, Schedule, Line, line_at, SchedFault, unless, kind, is_tick, nearest, begins_tick, ticks_begun, is_cut_off, fault_at, fault_at_end, first_fault, statement, schedule, Draft, new_draft, follow, ended}
 use Rattle.std.specs.Prelude.{◌||◌, option_to_list}
 use Rattle.std.specs.List.{filter_map}
+use Rattle.std.proofs.Math.Bool.{or-false}
 use Rattle.std.proofs.lemmas.List.{append-nil, append_assoc}
+use Rattle.sched_text.proofs.VectorLemmas.{lines_here}
 use Rattle.sched_text.specs.declared.place.Place.{Place}
 use Rattle.sched_text.specs.declared.statement.Statement.{Statement}
 use Rattle.sched_text.specs.declared.statement.Statement.TheVariants.{Format, Window, Past, Latches, State, Gates, Tick, Round, Event}
@@ -27,10 +29,6 @@ same {w} {w'} {p} {p'} {f} {f'} {l} {l'} {g} {g'} {t} {t'} ew ep ef el eg et =
 no_events_more : (round : RoundPlan) → record { line = round.line; events = round.events ++ [] } ≡ round
 no_events_more round = ap (λ es. record { line = round.line; events = es }) (append-nil round.events)
 
-or_false : (b : Bool) → (b || false) ≡ b
-or_false true = refl
-or_false false = refl
-
 or_true : (b c : Bool) → (b || (true || c)) ≡ true
 or_true true c = refl
 or_true false c = refl
@@ -46,7 +44,7 @@ ticks_end ticks None = refl
 ticks_end ticks (Some tick) = ap (λ (rounds : List RoundPlan). ticks ++ rounds ∷ []) (rounds_end tick.rounds tick.round)
 
 pub whole_end : (draft : Draft) → whole draft [] ≡ ended draft
-whole_end draft = same refl (append-nil draft.past) (or_false draft.free) refl refl (ticks_end draft.ticks draft.tick)
+whole_end draft = same refl (append-nil draft.past) (or-false draft.free) refl refl (ticks_end draft.ticks draft.tick)
 
 -- what the next line says
 
@@ -145,9 +143,6 @@ pub at_start : (net : Parts) (ticks end : ℕ) (lines : List Line) (draft : Draf
 at_start net ticks end lines draft is =
     let P : Draft → Type 0 = λ now. ReadsAt net ticks end lines (place_behind []) now 0 in
     subst P (sym is) (record { nearest = refl; begun = refl; few = omega arith; answers = refl })
-
-lines_here : (lines : List Line) (i : ℕ) → i < length lines → drop i lines ≡ line_at lines i ∷ drop (suc i) lines
-lines_here lines i inside = drop-cons lines i (record { number = 0; words = [] }) inside
 
 -- the fault of the line here, as its place tells
 fault_is : (net : Parts) (ticks : ℕ) (place : Place) (earlier : List Line) (cut_off cut : Bool) (line : Line)

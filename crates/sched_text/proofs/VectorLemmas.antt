@@ -1,7 +1,8 @@
 -- The answer that there is once the lines that are left are read, and what vectors are like.
 use Rattle.std.proofs.Common.{◌≡◌, ◌≢◌, ◌≤◌, ◌<◌, ℕ, suc, ◌+◌, Bool, true, false, List, [], ◌∷◌, ◌++◌, All, length, drop, map, Some, None, Ok, Err, refl, sym, ap, subst, ◌∙◌, arith, drop_of_length-le, eqb-true}
 use Rattle.sched_text.proofs.Common.{Option, Result, codes, if◌then◌else◌, list_all, option_or, drop-cons, length-map, All-nil, All-cons, Line, line_at, SchedFault, unless, BadLine, WrongWidth, value_of}
-use Rattle.std.specs.Prelude.{◌&&◌, ◌||◌, ◌==◌, bytes_eq}
+use Rattle.std.specs.Prelude.{◌||◌, ◌==◌, bytes_eq}
+use Rattle.std.proofs.lemmas.Bool.{and_parts}
 use Rattle.std.proofs.lemmas.List.{append-nil, append_assoc}
 use Rattle.cyc_base.specs.declared.trit.Trit.{Trit}
 use Rattle.cyc_base.specs.declared.trit.Trit.TheVariants.{Zero, One, X}
@@ -15,7 +16,7 @@ answer width unknowns done rest = unless (first_fault width unknowns rest) (done
 pub record ReadsAt (width : ℕ) (unknowns : Bool) (lines : List Line) (done : List (List Trit)) (i : ℕ) : Type 0 where
   pub answers : answer width unknowns done (drop i lines) ≡ vectors width unknowns lines
 
-lines_here : (lines : List Line) (i : ℕ) → i < length lines → drop i lines ≡ line_at lines i ∷ drop (suc i) lines
+pub lines_here : (lines : List Line) (i : ℕ) → i < length lines → drop i lines ≡ line_at lines i ∷ drop (suc i) lines
 lines_here lines i inside = drop-cons lines i (record { number = 0; words = [] }) inside
 
 fault_here : (width : ℕ) (unknowns : Bool) (lines : List Line) (done : List (List Trit)) (i : ℕ) (found : Option SchedFault)
@@ -57,19 +58,11 @@ at_end width unknowns lines done i at over =
 
 -- What vectors without a fault are like.
 
-first_of_and : (a b : Bool) → (a && b) ≡ true → a ≡ true
-first_of_and true b is = refl
-first_of_and false b is = is
-
-second_of_and : (a b : Bool) → (a && b) ≡ true → b ≡ true
-second_of_and true b is = is
-second_of_and false b is = absurd (cc is)
-
-pub none_first : (f g : Option SchedFault) → option_or f g ≡ None → f ≡ None
+pub none_first : {X : Type 0} (f g : Option X) → option_or f g ≡ None → f ≡ None
 none_first None g none = refl
 none_first (Some f) g none = absurd (cc none)
 
-pub none_next : (f g : Option SchedFault) → option_or f g ≡ None → g ≡ None
+pub none_next : {X : Type 0} (f g : Option X) → option_or f g ≡ None → g ≡ None
 none_next None g none = none
 none_next (Some f) g none = absurd (cc none)
 
@@ -102,7 +95,7 @@ width_of_word : (width : ℕ) (n : ℕ) (word : List ℕ) (dash good fits : Bool
     → is_dash width word ≡ dash → (length word == width) ≡ fits
     → (if dash then None else (if good then (if fits then None else Some (WrongWidth n)) else Some (BadLine n))) ≡ None
     → length (if dash then [] else map value_of word) ≡ width
-width_of_word width n word true good fits d e none = sym (eqb-true width 0 (first_of_and (width == 0) (bytes_eq word (codes "-")) d))
+width_of_word width n word true good fits d e none = sym (eqb-true width 0 (and_parts (width == 0) (bytes_eq word (codes "-")) d).0)
 width_of_word width n word false false fits d e none = absurd (cc none)
 width_of_word width n word false true false d e none = absurd (cc none)
 width_of_word width n word false true true d e none = length-map word value_of ∙ eqb-true (length word) width e
@@ -125,9 +118,8 @@ known_value false false is same = absurd (cc is)
 known_values : (word : List ℕ) → list_all (is_value false) word ≡ true → All (λ value. value ≢ X) (map value_of word)
 known_values [] is = All-nil (λ value. value ≢ X)
 known_values (b ∷ rest) is =
-    All-cons (λ value. value ≢ X) (value_of b) (map value_of rest)
-    (known_value (b == 48) (b == 49) (first_of_and (is_value false b) (list_all (is_value false) rest) is))
-    (known_values rest (second_of_and (is_value false b) (list_all (is_value false) rest) is))
+    let both = and_parts (is_value false b) (list_all (is_value false) rest) is in
+    All-cons (λ value. value ≢ X) (value_of b) (map value_of rest) (known_value (b == 48) (b == 49) both.0) (known_values rest both.1)
 
 known_word : (width n : ℕ) (word : List ℕ) (dash good fits : Bool)
     → list_all (is_value false) word ≡ good

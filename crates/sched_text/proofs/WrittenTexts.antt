@@ -1,29 +1,20 @@
 -- The lines of a schedule, as they are appended.
-use Rattle.std.proofs.Common.{◌≡◌, ℕ, Bool, List, [], ◌∷◌, ◌++◌, map, refl, ap, ◌∙◌, append-nil}
-use Rattle.sched_text.proofs.Common.{codes, decimal, flat_map, Parts, gate_at, PlannedEvent, RoundPlan, Schedule, after_blank, line_text, bit_byte, bits_words, past_line, start_word, event_line, round_lines, tick_lines, event_text, round_text, tick_text}
+use Rattle.std.proofs.Common.{◌≡◌, ℕ, List, [], ◌∷◌, ◌++◌, map, refl, ap, ◌∙◌, append_assoc, append-nil}
+use Rattle.sched_text.proofs.Common.{codes, decimal, flat_map, Parts, gate_at, PlannedEvent, RoundPlan, Schedule, after_blank, line_text, bits_words, past_line, start_word, event_line, round_lines, tick_lines, event_text, round_text, tick_text}
 use Rattle.std.proofs.lemmas.List.Concat.{flat_map-append}
 use Rattle.std.proofs.lemmas.List.Folds.{flat_map-map}
 use Rattle.sched_text.specs.Written.{head_lines, text_of, written}
-use Rattle.sched_text.specs.Putting.{bits_text, ages_text, past_text, ticks_text, head_text}
+use Rattle.sched_text.specs.Putting.{ages_text, past_text, ticks_text, head_text}
 
-bytes_are : (bits : List Bool) → map bit_byte bits ≡ bits_text bits
-bytes_are [] = refl
-bytes_are (b ∷ bits) = ap (λ l. bit_byte b ∷ l) (bytes_are bits)
+pub window_is : (window : ℕ) → line_text (codes "window" ∷ decimal window ∷ []) ≡ codes "window " ++ (decimal window ++ codes "\n")
+window_is window = ap (λ l. codes "window " ++ (l ++ codes "\n")) (append-nil (decimal window))
 
--- bits behind a blank
-pub bits_are : (b : Bool) (bits : List Bool) → flat_map after_blank (bits_words (b ∷ bits)) ≡ 32 ∷ bits_text (b ∷ bits)
-bits_are b bits = ap (λ l. 32 ∷ l) (append-nil (map bit_byte (b ∷ bits)) ∙ bytes_are (b ∷ bits))
-
-pub window_is : (window : ℕ) → line_text (codes "window" ∷ decimal window ∷ []) ≡ codes "window" ++ ((32 ∷ decimal window) ++ codes "\n")
-window_is window = ap (λ l. codes "window" ++ (l ++ codes "\n")) (append-nil (32 ∷ decimal window))
-
--- the words of an event's line behind the first
-pub words_are : (name : List ℕ) (ages : List ℕ) → after_blank name ++ ages_text ages ≡ codes " " ++ (name ++ ages_text ages)
-words_are name ages = refl
-
-pub event_is : (net : Parts) (planned : PlannedEvent) → event_text net planned ≡ codes "e" ++ ((after_blank (gate_at net planned.event.gate).name ++ ages_text planned.event.ages) ++ codes "\n")
+pub event_is : (net : Parts) (planned : PlannedEvent)
+    → event_text net planned ≡ (codes "e " ++ (gate_at net planned.event.gate).name) ++ (ages_text planned.event.ages ++ codes "\n")
 event_is net planned =
-    ap (λ l. codes "e" ++ ((after_blank (gate_at net planned.event.gate).name ++ l) ++ codes "\n")) (flat_map-map after_blank decimal planned.event.ages)
+    let name : List ℕ = (gate_at net planned.event.gate).name in
+    ap (λ l. codes "e " ++ ((name ++ l) ++ codes "\n")) (flat_map-map after_blank decimal planned.event.ages)
+    ∙ ap (λ l. codes "e " ++ l) (append_assoc name (ages_text planned.event.ages) (codes "\n"))
 
 -- ---- the whole text
 

@@ -5,10 +5,7 @@ use Rattle.netlist.specs.declared.parts.Parts.{Parts}
 use Rattle.delay_core.specs.declared.plan.PlannedEvent.{PlannedEvent}
 use Rattle.delay_core.specs.declared.plan.RoundPlan.{RoundPlan}
 use Rattle.delay_core.specs.declared.plan.Schedule.{Schedule}
-use Rattle.sched_text.specs.Written.{after_blank, line_text, bit_byte, bits_words, past_line, start_word, event_line}
-
-abbrev pub bits_text : List Bool → List ℕ
-bits_text bits = flat_map (λ b. bit_byte b ∷ []) bits
+use Rattle.sched_text.specs.Written.{after_blank, line_text, bits_words, past_line, start_word, event_line}
 
 abbrev pub ages_text : List ℕ → List ℕ
 ages_text ages = flat_map (λ age. after_blank (decimal age)) ages

@@ -1,6 +1,7 @@
 -- The text of a schedule in format 2: its lines, and what each line is made of.
 use Rattle.std.specs.Prelude.{ℕ, Bool, true, false, List, [], ◌∷◌, ◌++◌, map, codes, decimal}
 use Rattle.std.specs.List.{flat_map}
+use Rattle.cyc_io.specs.Bits.{bits_text}
 use Rattle.netlist.specs.declared.parts.Parts.{Parts}
 use Rattle.netlist.specs.Netlists.{gate_at}
 use Rattle.delay_core.specs.declared.plan.PlannedEvent.{PlannedEvent}
@@ -19,14 +20,10 @@ line_text (word ∷ rest) = word ++ (flat_map after_blank rest ++ codes "\n")
 
 -- The lines of a schedule, as words.
 
-abbrev pub bit_byte : Bool → ℕ
-bit_byte false = 48
-bit_byte true = 49
-
 -- bits are one word, which isn't there where there are none
 abbrev pub bits_words : List Bool → List (List ℕ)
 bits_words [] = []
-bits_words (b ∷ bits) = map bit_byte (b ∷ bits) ∷ []
+bits_words (b ∷ bits) = bits_text (b ∷ bits) ∷ []
 
 abbrev pub past_line : List Bool → List (List ℕ)
 past_line moment = codes "past" ∷ bits_words moment

@@ -1,32 +1,17 @@
 // The lines of a schedule.
-ghost use Rattle.std.specs.Prelude.{◌≡◌, ◌<◌, ◌++◌, ◌∷◌, [], All, codes, decimal, length, OnOk};
+ghost use Rattle.std.specs.Prelude.{◌≡◌, ◌<◌, ◌∷◌, [], All, codes, decimal, length, OnOk};
 ghost use Rattle.std.specs.List.{flat_map};
+ghost use Rattle.cyc_io.specs.Bits.{bits_text};
 ghost use Rattle.cyc_io.specs.Taken.{IsAppended, sink_call};
 ghost use Rattle.delay_core.specs.EventLists.{planned_at};
 ghost use Rattle.sched_text.specs.Fitting.{IsOfGates, AreOfGates};
-ghost use Rattle.sched_text.specs.Written.{after_blank, line_text, bit_byte, bits_words, start_word};
-ghost use Rattle.sched_text.specs.Putting.{bits_text, ages_text, past_text, event_text, events_text, round_text, rounds_text, tick_text, ticks_text, head_text, IsSmall, HasSmallAges, AreSmall, TicksAreSmall};
+ghost use Rattle.sched_text.specs.Written.{after_blank, line_text, bits_words, start_word};
+ghost use Rattle.sched_text.specs.Putting.{ages_text, past_text, event_text, events_text, round_text, rounds_text, tick_text, ticks_text, head_text, IsSmall, HasSmallAges, AreSmall, TicksAreSmall};
 
 use cyc_base::Bits;
-use cyc_io::{Failed, Sink, write_whole};
+use cyc_io::{Failed, Sink, put_bits, put_number_between, put_numbered, put_two, write_whole};
 use delay_core::{Events, RoundPlan, Schedule, TickPlan};
-use itoa::Buffer;
 use netlist::Netlist;
-
-fn bit_text(b: bool) -> &'static [u8]
-    ensures { result.now ≡ bit_byte b ∷ [] }
-{
-    if b { b"1" } else { b"0" }
-}
-
-fn put_bits<K: Sink>(sink: &mut K, bits: &[bool]) -> Result<(), Failed>
-    ensures { IsAppended (bits_text bits.now) (sink_call K.put K.faults sink.old sink.new) result }
-{
-    for b in bits {
-        write_whole(sink, bit_text(*b))?;
-    }
-    Ok(())
-}
 
 fn put_some_bits<K: Sink>(sink: &mut K, bits: &[bool]) -> Result<(), Failed>
     ensures { IsAppended (32 ∷ bits_text bits.now) (sink_call K.put K.faults sink.old sink.new) result }
@@ -54,20 +39,10 @@ fn put_bits_line<K: Sink>(sink: &mut K, word: &[u8], bits: &[bool]) -> Result<()
     write_whole(sink, b"\n")
 }
 
-// Appends a number behind a blank.
-fn put_number<K: Sink>(sink: &mut K, number: u32) -> Result<(), Failed>
-    ensures { IsAppended (32 ∷ decimal number) (sink_call K.put K.faults sink.old sink.new) result }
-{
-    write_whole(sink, b" ")?;
-    write_whole(sink, Buffer::new().format(number).as_bytes())
-}
-
 fn put_window<K: Sink>(sink: &mut K, window: u32) -> Result<(), Failed>
     ensures { IsAppended (line_text (codes "window" ∷ decimal window ∷ [])) (sink_call K.put K.faults sink.old sink.new) result }
 {
-    write_whole(sink, b"window")?;
-    put_number(sink, window)?;
-    write_whole(sink, b"\n")
+    put_number_between(sink, b"window ", window, b"\n")
 }
 
 fn put_past<K: Sink>(sink: &mut K, past: &[Bits]) -> Result<(), Failed>
@@ -103,19 +78,9 @@ fn put_ages<K: Sink>(sink: &mut K, ages: &[u32]) -> Result<(), Failed>
     ensures small { OnOk result (All IsSmall ages.now) }
 {
     for age in ages {
-        put_number(sink, *age)?;
+        put_numbered(sink, b" ", *age)?;
     }
     Ok(())
-}
-
-// Appends the words of an event's line behind the first.
-fn put_event_words<K: Sink>(sink: &mut K, name: &[u8], ages: &[u32]) -> Result<(), Failed>
-    ensures text { IsAppended (after_blank name.now ++ ages_text ages.now) (sink_call K.put K.faults sink.old sink.new) result }
-    ensures small { OnOk result (All IsSmall ages.now) }
-{
-    write_whole(sink, b" ")?;
-    write_whole(sink, name)?;
-    put_ages(sink, ages)
 }
 
 fn put_event<K: Sink>(sink: &mut K, net: &Netlist, events: &Events, i: usize) -> Result<(), Failed>
@@ -125,8 +90,8 @@ fn put_event<K: Sink>(sink: &mut K, net: &Netlist, events: &Events, i: usize) ->
     ensures small { OnOk result (HasSmallAges (planned_at events.now i)) }
 {
     let gate = net.gate(events.gate(i));
-    write_whole(sink, b"e")?;
-    put_event_words(sink, gate.name.bytes(), events.ages(i))?;
+    put_two(sink, b"e ", gate.name.bytes())?;
+    put_ages(sink, events.ages(i))?;
     write_whole(sink, b"\n")
 }
 

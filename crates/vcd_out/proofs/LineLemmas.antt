@@ -11,7 +11,8 @@ use Rattle.cyc_base.specs.declared.sig.Sig.{Sig}
 use Rattle.delay_core.specs.declared.change.Change.{Change}
 use Rattle.probes.specs.Values.{value_after}
 use Rattle.vcd_out.specs.Codes.{code_upto, code}
-use Rattle.vcd_out.specs.Dumps.{bit_text, value_line, time_line, timed_lines, is_first}
+use Rattle.cyc_io.specs.Bits.{bit_text}
+use Rattle.vcd_out.specs.Dumps.{value_line, time_line, timed_lines, is_first}
 use Rattle.vcd_out.specs.Reading.{lines_from, Shown, read_value, read_line}
 use Rattle.vcd_out.proofs.CodeLemmas as codes_of
 

@@ -1,6 +1,7 @@
 -- The dump of changes of a netlist. One unit of time stands for one moment.
-use Rattle.std.specs.Prelude.{ℕ, ◌==◌, Bool, true, false, not, if◌then◌else◌, List, [], ◌∷◌, ◌++◌, filter, codes, decimal}
+use Rattle.std.specs.Prelude.{ℕ, ◌==◌, Bool, not, if◌then◌else◌, List, [], ◌∷◌, ◌++◌, filter, codes, decimal}
 use Rattle.std.specs.List.{flat_map, range_with_len}
+use Rattle.cyc_io.specs.Bits.{bit_text}
 use Rattle.netlist.specs.declared.parts.Parts.{Parts}
 use Rattle.netlist.specs.Netlists.{count, signal}
 use Rattle.delay_core.specs.declared.change.Change.{Change}
@@ -19,10 +20,6 @@ head_text net =
     ++ (net.name
     ++ (codes " $end\n"
     ++ (flat_map (variable_line net) (range_with_len 0 (count net)) ++ codes "$upscope $end\n$enddefinitions $end\n#0\n$dumpvars\n")))
-
-abbrev pub bit_text : Bool → List ℕ
-bit_text false = codes "0"
-bit_text true = codes "1"
 
 -- a value and the code of its signal
 abbrev pub value_line : Change → List ℕ

@@ -1,14 +1,15 @@
 //! The text of a dump.
 
-ghost use Rattle.std.specs.Prelude.{◌≡◌, ◌<◌, ◌++◌, [], All, IfOk, OnOk};
+ghost use Rattle.std.specs.Prelude.{◌≡◌, ◌<◌, ◌++◌, [], IfOk, OnOk};
 ghost use Rattle.std.specs.List.{flat_map, range_with_len};
 ghost use Rattle.netlist.specs.Netlists.{count};
 ghost use Rattle.delay_core.specs.declared.change.Change.{Change as change_type};
 ghost use Rattle.probes.specs.declared.kind.Kind.TheVariants as kinds;
-ghost use Rattle.vcd_out.specs.Dumps.{variable_line, head_text, bit_text, value_line, time_line, timed_lines, first_changes, later_changes, vcd_text};
+ghost use Rattle.vcd_out.specs.Dumps.{variable_line, head_text, value_line, time_line, timed_lines, first_changes, later_changes, vcd_text};
 
 use crate::code::put_code;
 use cyc_base::Sig;
+use cyc_io::bit_text;
 use delay_core::Change;
 use netlist::Netlist;
 use probes::pieces::{put, put_name, put_number};
@@ -68,21 +69,11 @@ fn put_head(text: &mut Vec<u8>, net: &Netlist) -> Result<(), AllocError>
     )
 }
 
-/// Appends a bit.
-fn put_bit(text: &mut Vec<u8>, value: bool) -> Result<(), AllocError>
-    ensures { OnOk result (text.new.items ≡ text.old.items ++ bit_text value) }
-{
-    match value {
-        false => put(text, b"0"),
-        true => put(text, b"1"),
-    }
-}
-
 /// Appends the value of a change.
 fn put_value(text: &mut Vec<u8>, change: &Change) -> Result<(), AllocError>
     ensures { OnOk result (text.new.items ≡ text.old.items ++ value_line change.now) }
 {
-    put_bit(text, change.value)?;
+    put(text, bit_text(change.value))?;
     put_code(text, change.sig.0)?;
     put(text, b"\n")
 }

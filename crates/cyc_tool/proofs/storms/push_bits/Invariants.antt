@@ -1,6 +1,6 @@
 use Rattle.std.proofs.Common.{◌≡◌, ◌++◌, take}
 use Rattle.std.specs.List.{flat_map}
-use Rattle.report.specs.Ticks.{bit_text}
+use Rattle.cyc_io.specs.Bits.{bit_text}
 use Rattle.cyc_tool.proofs.storms.push_bits.Given as goal
 
 abbrev pub invariant-loop-bit : goal.invariant-loop-bit

@@ -1,8 +1,0 @@
-use Rattle.sched_text.proofs.Common.{appended_then, appended_cut}
-use Rattle.sched_text.proofs.put.put_number.Goals as goal
-
-pub returns-in_err-write_whole : goal.returns-in_err-write_whole
-returns-in_err-write_whole g c = appended_cut _ _ _ _ _ c.in_err-write_whole.ensures c.from_residual.ensures.0
-
-pub returns : goal.returns
-returns g c = rw (← c.format.ensures.text, ← c.as_bytes.ensures.value) (appended_then _ _ _ _ _ _ _ _ _ _ c.in_ok-write_whole.ensures c.write_whole-2.ensures)
