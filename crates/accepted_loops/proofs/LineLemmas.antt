@@ -1,7 +1,6 @@
 -- The lines of loops, one after another.
-use Rattle.std.proofs.Common.{◌≡◌, ◌<◌, ℕ, zero, suc, ◌+◌, Bool, true, false, cond, List, [], ◌∷◌, ◌++◌, length, filter, refl, sym, ap, ap₂, ◌∙◌, arith, append_assoc, true≢false}
+use Rattle.std.proofs.Common.{◌≡◌, ◌<◌, ℕ, ◌+◌, Bool, true, false, cond, List, [], ◌∷◌, ◌++◌, length, filter, refl, sym, ap, ap₂, ◌∙◌, arith, append_assoc, true≢false}
 use Rattle.std.proofs.lemmas.Bool.{eqb-true}
-use Rattle.std.specs.List.{range_with_len}
 use Rattle.netlist.specs.declared.parts.Parts.{Parts}
 use Rattle.loops.specs.declared.structure.Blocks.{Blocks}
 use Rattle.loops.specs.declared.structure.Cut.{Cut}
@@ -19,6 +18,7 @@ use Rattle.loops.specs.Left.{loop_seen, loops_left}
 use Rattle.loops.specs.Numbered.{listed_loops, numbered}
 use Rattle.loops.specs.declared.loop_list.ListedLoop.{ListedLoop}
 use Rattle.loops.specs.declared.loop_list.LoopList.{LoopList}
+use Rattle.loops.proofs.ListedLemmas.{kept_below}
 use Rattle.report.specs.LoopTexts.{each_loop, loop_lines, numbered_loops}
 use Rattle.report.proofs.LoopTextLemmas.{one_more, told_first, whole_told}
 use Rattle.rewriting.specs.Rewriting.{sweeps_needed}
@@ -28,14 +28,8 @@ use Rattle.verdict.specs.Verdicts.{AreSweepsOnCare}
 use Rattle.accepted_loops.specs.Columns.{columns_read, is_read, marked_columns, AreColumnsRead}
 use Rattle.accepted_loops.specs.Lines.{sweeps_line, columns_line, told_lines, told_loops}
 
--- numbers of a range that are kept by two tests which agree on it
-kept_alike : (p q : ℕ → Bool) (a n bound : ℕ) → a + n ≡ bound → ((k : ℕ) → k < bound → p k ≡ q k) → filter p (range_with_len a n) ≡ filter q (range_with_len a n)
-kept_alike p q a zero bound is agree = refl
-kept_alike p q a (suc n) bound is agree =
-    ap₂ (λ (t : Bool) (ns : List ℕ). cond t (a ∷ ns) ns) (agree a (omega (arith, is))) (kept_alike p q (a + 1) n bound (omega (arith, is)) agree)
-
 marked_are_read : (net : Parts) (gate : ℕ) (read : List Bool) → AreColumnsRead net gate read → marked_columns net read ≡ columns_read net gate
-marked_are_read net gate read are = kept_alike (is_marked read) (is_read net gate) 0 (first_gate net) (first_gate net) (omega arith) are.each
+marked_are_read net gate read are = kept_below (is_marked read) (is_read net gate) 0 (first_gate net) (first_gate net) (omega arith) are.each
 
 -- the lines of a loop as they are put
 pub lines_told : (net : Parts) (sweeps : ℕ → ℕ) (number gate count : ℕ) (read : List Bool) → count ≡ sweeps gate → AreColumnsRead net gate read

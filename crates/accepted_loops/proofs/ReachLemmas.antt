@@ -2,12 +2,13 @@
 use Rattle.std.proofs.Common.{◌≡◌, ◌⊎◌, ◌↔◌, inl, inr, ℕ, zero, suc, ◌<◌, ltb, true, ◌&&◌, ◌==◌, List, [], ◌∷◌, length, subst, arith}
 use Rattle.std.proofs.lemmas.Bool.{cases_eq, and_parts, and_from, or_cases, or_left, or_right, ltb-true, lt-ltb, eqb-true, eq-eqb}
 use Rattle.std.specs.List.{AllByRecursion, list_any}
+use Rattle.cyc_base.proofs.ListLemmas.{all_weaker}
 use Rattle.netlist.specs.declared.parts.Parts.{Parts}
 use Rattle.netlist.specs.Netlists.{gate_at, gate_sig, sig_eq}
 use Rattle.netlist.specs.Walks.{Feeds, Walk}
 use Rattle.loops.specs.Walks.{Leads, AnyGate}
 use Rattle.loops.specs.Found.{feeds, reaches}
-use Rattle.loops.proofs.Walks.{all_weaker, leads-step, leads-trans, split, walk_within_of}
+use Rattle.loops.proofs.Walks.{leads-step, leads-trans, split, walk_within_of}
 use Rattle.isolation.specs.Laws.{IsUpstream}
 use Rattle.refusals.proofs.ObservedLemmas.{member, among}
 use Rattle.accepted_loops.specs.Columns.{is_upstream}

@@ -8,10 +8,10 @@ use Rattle.std.proofs.lemmas.List.Folds.{Any-from_list_any}
 use Rattle.std.proofs.lemmas.List.FromFn.{length-range_with_len, get_or-range_with_len}
 use Rattle.std.specs.List.{range_with_len}
 use Rattle.cyc_base.specs.declared.sig.Sig.{Sig}
+use Rattle.cyc_base.proofs.TruthLemmas.{same_truth}
 use Rattle.netlist.specs.declared.parts.Parts.{Parts}
 use Rattle.netlist.specs.Netlists.{gate_at, signal}
 use Rattle.loops.specs.Sweeps.{first_gate}
-use Rattle.loops.proofs.Walks.{same_truth}
 use Rattle.isolation.specs.Cones.{is_marked, AddMarks, IsConeOf}
 use Rattle.isolation.proofs.MarkLemmas.{add-none, add-same, add-both, add-one, cone_of_one}
 use Rattle.refusals.specs.Refusals.{is_among}

@@ -1,6 +1,4 @@
--- the columns that a gate speaks of
+-- The chapter: what the contracts of public functions say.
 pub mod Columns
--- the lines of loops
 pub mod Lines
--- the graph of loops
 pub mod Graphs

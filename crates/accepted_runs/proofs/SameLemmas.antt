@@ -12,10 +12,10 @@ use Rattle.accepted_runs.specs.Laws.{FollowsFix, TellsAsMuch, SameByFixpoints}
 use Rattle.schedules.proofs.RunLemmas.{Fits, outputs_above, loaded_above, fits_next, run_fits}
 use Rattle.accepted_runs.proofs.CareLemmas.{care_is_kept, runs_follow_fix}
 
-same_head : {A : Type 0} (x y : A) (xs ys : List A) → x ∷ xs ≡ y ∷ ys → x ≡ y
+pub same_head : {A : Type 0} (x y : A) (xs ys : List A) → x ∷ xs ≡ y ∷ ys → x ≡ y
 same_head x y xs ys e = cc
 
-same_tail : {A : Type 0} (x y : A) (xs ys : List A) → x ∷ xs ≡ y ∷ ys → xs ≡ ys
+pub same_tail : {A : Type 0} (x y : A) (xs ys : List A) → x ∷ xs ≡ y ∷ ys → xs ≡ ys
 same_tail x y xs ys e = cc
 
 module _ (net other : Parts) (care : CareSet) (tells : TellsAsMuch net other care) where

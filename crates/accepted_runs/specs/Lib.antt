@@ -1,3 +1,4 @@
-pub mod Harmless
-pub mod Laws
+-- The chapter: what the contracts of public functions say.
 pub mod Machines
+pub mod Laws
+pub mod Harmless

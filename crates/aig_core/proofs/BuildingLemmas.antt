@@ -3,15 +3,15 @@ use Rattle.std.proofs.Common.{◌≡◌, inl, inr, ℕ, ◌+◌, ◌-◌, ◌<�
 use Rattle.std.specs.Prelude.{nat_eq, nat_le}
 use Rattle.std.specs.List.{list_any}
 use Rattle.std.proofs.lemmas.Bool.{cases_lt, cases_eq, lt-ltb, le-ltb, le-leb, ne_eqb, false≢true}
-use Rattle.std.proofs.lemmas.List.{append-nil, append_assoc, length-map, length-append, length-replicate, length-set, get_or-map, get_or_append_left, get_or-append_right, get_or-set_same, get_or-set_other, take-append-drop, map-append, get_or-append-add}
+use Rattle.std.proofs.lemmas.List.{append-nil, append_assoc, length-map, length-append, length-replicate, length-set, get_or_append_left, get_or-append_right, get_or-set_same, get_or-set_other, take-append-drop, map-append, get_or-append-add}
 use Rattle.std.proofs.lemmas.List.Sums.{fold-append, fold_more}
 use Rattle.std.proofs.lemmas.List.Folds.{list_any-append}
 use Rattle.std.proofs.lemmas.List.Elements.{All-nil, All-cons, All-head, All-tail, All-map, All-append, All-get_or, All-set, All-replicate, filter-append}
 use Rattle.std.proofs.lemmas.Option.{none-some}
 use Rattle.cyc_base.specs.declared.sig.Sig.{Sig}
-use Rattle.cyc_base.specs.declared.trit.Trit.{Trit}
 use Rattle.cyc_base.specs.declared.trit.Trit.TheVariants.{X}
 use Rattle.cyc_base.specs.Values.{bit, bits}
+use Rattle.cyc_base.proofs.OrderLemmas.{bits-at}
 use Rattle.cover_logic.specs.Covers.{value}
 use Rattle.cover_logic.specs.Extensions.{ext}
 use Rattle.cover_logic.proofs.ExtensionLemmas.{ext_at_bits}
@@ -19,8 +19,8 @@ use Rattle.netlist.specs.declared.parts.Latch.{Latch}
 use Rattle.netlist.specs.declared.parts.Parts.{Parts}
 use Rattle.netlist.specs.Netlists.{gate_at, no_gate, IsSignal, IsNetlist}
 use Rattle.netlist.specs.Orders.{numbers_from, gate_graph, IsGateOrder}
-use Rattle.netlist.specs.Fixpoint.{wire, wires, gate_value, fix_gates, fix}
-use Rattle.netlist.proofs.FixpointLemmas.{fix_is_fixpoint}
+use Rattle.netlist.specs.Fixpoint.{wire, fix_gates, fix}
+use Rattle.netlist.proofs.FixpointLemmas.{get_or-fix}
 use Rattle.netlist.proofs.GraphLemmas.{length-gate_graph}
 use Rattle.aig_core.specs.declared.edge.Edge.{Edge}
 use Rattle.aig_core.specs.declared.edge.And.{And}
@@ -87,9 +87,6 @@ pub signal_edges_are : (net : Parts) (g : Graph) (edges : List Edge) (signals : 
 signal_edges_are net g edges signals has all =
     All-map (IsEdge g) (signal_edge net edges) signals (λ k d l. signal_edge_is net g edges (get_or signals k d) has (all k d l))
 
-bits-at : (v : List Bool) (i : ℕ) → i < length v → get_or (bits v) i X ≡ bit (get_or v i false)
-bits-at v i l = get_or-map bit v i false X l
-
 wire-column : (net : Parts) (v : List Bool) (s : Sig) → length v ≡ columns net → s.0 < columns net → wire (fix net (bits v)) s ≡ bit (get_or v s.0 false)
 wire-column net v s width l =
     let len = length-map v bit in
@@ -148,10 +145,6 @@ signals_values net gates b v (s ∷ rest) are all among width =
 
 -- ---- one more gate
 
-fix-at : (net : Parts) (w : List Trit) (n : ℕ) → n < length net.gates → get_or (fix_gates net w) n X ≡ gate_value (fix net w) (gate_at net n)
-fix-at net w n l =
-    ap (λ s. get_or s n X) (sym (fix_is_fixpoint net w)) ∙ get_or-map (gate_value (wires w (fix_gates net w))) net.gates n no_gate X l
-
 pub HasEdges-gate : (net : Parts) (b : Building) (n : ℕ) → IsSound b.graph → IsNetlist net → HasEdges net b.graph b.edges → n < length net.gates
     → IsMade b.graph (gate_made net b n) (λ v. value (gate_at net n).cover (map (λ e. den b.graph e v) (map (signal_edge net b.edges) (gate_at net n).pins)))
 HasEdges-gate net b n sound valid has l =
@@ -179,7 +172,7 @@ gate_built net gates b n valid are l among =
             ∙ ap bit (is.value_is v (omega (arith, are.has.inputs, are.has.latches)))
             ∙ sym (ext_at_bits (gate_at net n).cover (map (λ x. den b.graph x v) (map (signal_edge net b.edges) (gate_at net n).pins)))
             ∙ ap (ext (gate_at net n).cover) (signals_values net gates b v (gate_at net n).pins are (valid.pins n no_gate l) among width)
-            ∙ sym (fix-at net (bits v) n l))
+            ∙ sym (get_or-fix net (bits v) n l))
         | inr ne ↦
             let before : list_any (nat_eq m) gates ≡ true =
             sym (list_any-append (nat_eq m) gates (n ∷ []) ∙ ap (λ t. list_any (nat_eq m) gates || (t || false)) (ne_eqb m n ne) ∙ or_false (list_any (nat_eq m) gates)) ∙ there in

@@ -7,6 +7,7 @@ use Rattle.std.proofs.lemmas.List.{append-nil, length_push, get_or_push, get_or_
 use Rattle.std.proofs.lemmas.Option.{slice_get-get_or, slice_get_within, get_or_from_slice_get}
 use Rattle.std.proofs.lemmas.List.Sums.{passes_at_first, position_or_len_is}
 use Rattle.std.proofs.lemmas.List.Folds.{list_any_at}
+use Rattle.cyc_base.proofs.TruthLemmas.{and_comm, and_with_true}
 use Rattle.aig_core.specs.declared.edge.Edge.{Edge}
 use Rattle.aig_core.specs.declared.edge.And.{And}
 use Rattle.aig_core.specs.Graphs.{Graph, with_ands, first_and, variables, edge, complement, IsEdge, den}
@@ -38,19 +39,9 @@ pub record IsSimple (a b e : Edge) : Type 0 where
   pub edge_of : (g : Graph) → IsEdge g a → IsEdge g b → IsEdge g e
   pub value : (g : Graph) (v : List Bool) → den g e v ≡ (den g a v && den g b v)
 
-and_comm : (b c : Bool) → (b && c) ≡ (c && b)
-and_comm true true = refl
-and_comm true false = refl
-and_comm false true = refl
-and_comm false false = refl
-
 and_false : (b : Bool) → false ≡ (b && false)
 and_false true = refl
 and_false false = refl
-
-and_true : (b : Bool) → b ≡ (b && true)
-and_true true = refl
-and_true false = refl
 
 and_same : (b : Bool) → b ≡ (b && b)
 and_same true = refl
@@ -96,7 +87,7 @@ module _ (a b : Edge) where
   one_right : b.0 ≡ 1 → IsSimple a b a
   one_right h = record {
     edge_of = λ g k _. k;
-    value = λ g v. and_true (den g a v) ∙ ap (λ x. den g a v && x) (sym (den-one g b v h));
+    value = λ g v. and_with_true (den g a v) ∙ ap (λ x. den g a v && x) (sym (den-one g b v h));
   }
 
   equals : a.0 ≡ b.0 → IsSimple a b a

@@ -8,6 +8,7 @@ use Rattle.std.proofs.lemmas.List.{append_assoc, append-nil, length_push, take-a
 use Rattle.std.proofs.lemmas.List.Sums.{fold-append, fold_more}
 use Rattle.std.proofs.lemmas.Slice.Zip.{length-zip, get_or-zip}
 use Rattle.std.proofs.lemmas.List.Elements.{All-head, All-tail, All-cons, All-weaker}
+use Rattle.cyc_base.proofs.TruthLemmas.{and_with_true, and_assoc, or_assoc, or_with_false}
 use Rattle.cover_logic.specs.Covers.{Cover, allows, matches, some_row_matches, value_of_rows, value}
 use Rattle.cover_logic.specs.declared.row.Lit.{Lit}
 use Rattle.cover_logic.specs.declared.row.Lit.TheVariants.{Zero, One, Any}
@@ -41,9 +42,6 @@ Extends-trans {a} {b} {c} e f = record {
   is = f.is ∙ ap (λ g. with_ands g (g.ands ++ f.more)) e.is ∙ ap (with_ands a) (append_assoc a.ands e.more f.more);
   keeps = λ x v h k. f.keeps x v (IsEdge-kept x e h) (IsVector-kept v e k) ∙ e.keeps x v h k;
 }
-
-pub Extends-grows : {a b : Graph} → Extends a b → length a.ands ≤ length b.ands
-Extends-grows {a} {b} e = omega (arith, ap (λ (g : Graph). length g.ands) e.is, length-append a.ands e.more)
 
 -- ---- the number of ANDs
 
@@ -143,18 +141,6 @@ constant_is g false sound = record {
   value_is = λ v k. den-constant g v;
 }
 
-and_with_true : (b : Bool) → b ≡ (b && true)
-and_with_true true = refl
-and_with_true false = refl
-
-pub and_assoc : (a b c : Bool) → ((a && b) && c) ≡ (a && (b && c))
-and_assoc true b c = refl
-and_assoc false b c = refl
-
-or_assoc : (a b c : Bool) → ((a || b) || c) ≡ (a || (b || c))
-or_assoc true b c = refl
-or_assoc false b c = refl
-
 pub de_morgan : (a b : Bool) → not (not a && not b) ≡ (a || b)
 de_morgan true b = refl
 de_morgan false true = refl
@@ -233,10 +219,6 @@ with_row_is {g} {made} {f} pins row is in_g =
     ∙ de_morgan (den made.graph made.edge v) (matches row.lits (map (λ e. den made.graph e v) pins))) in
     made_then (λ v. f v || matches row.lits (map (λ e. den g e v) pins)) is from_made
     (λ v k. ap₂ (λ a bs. a || matches row.lits bs) (is.value_is v k) (kept_values v pins is.extends k in_g))
-
-or_with_false : (b : Bool) → b ≡ (b || false)
-or_with_false true = refl
-or_with_false false = refl
 
 rows_are : (g : Graph) (pins : List Edge) (rows : List Row) (made : Made) (f : List Bool → Bool) → IsMade g made f → All (IsEdge g) pins → IsMade g (fold (with_row pins) made rows) (λ v. f v || some_row_matches rows (map (λ e. den g e v) pins))
 rows_are g pins [] made f is in_g =

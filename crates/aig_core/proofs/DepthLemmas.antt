@@ -58,9 +58,6 @@ successors_lower graph ranks d n l low k x m =
     let falls = ranks.falls n (get_or (successors graph n) k x) l (Contains-get_or (successors graph n) k x m) in
     (ranks.nodes n l k x m, omega arith)
 
-pub All-imp : {A : Type 0} (P Q : A → Type 0) (xs : List A) → ((x : A) → P x → Q x) → All P xs → All Q xs
-All-imp {A} P Q xs f h k d l = f (get_or xs k d) (h k d l)
-
 module _ (graph : List (List ℕ)) (ranks : HasRanks graph) where
   pub placed-depth : (d e n : ℕ) (before : List ℕ) → Lower graph ranks d n → Lower graph ranks e n → placed graph d before n ≡ placed graph e before n
   unfolding placed
@@ -170,14 +167,6 @@ visits_within count tasks nodes h k =
     All-append (λ (t : Task). node_of t < count) tasks (map visit (reverse nodes)) h
     (All-map (λ (t : Task). node_of t < count) visit (reverse nodes) (reversed_within count nodes k))
 
--- a node is placed
-pub place_advances : (graph : List (List ℕ)) (before : List ℕ) (tasks : List Task) (n : ℕ) → AreWithin (length graph) tasks → Advances graph before (before ++ n ∷ []) (tasks ++ Place n ∷ []) tasks
-place_advances graph before tasks n within = record {
-  end = sym (finished_push graph before tasks (Place n));
-  less = omega (arith, tasks_push graph tasks (Place n));
-  within = within;
-}
-
 -- a node that is visited again
 pub pass_advances : (graph : List (List ℕ)) (before : List ℕ) (tasks : List Task) (n : ℕ) → AreWithin (length graph) tasks → list_any (nat_eq n) before ≡ true → Advances graph before before (tasks ++ Visit n ∷ []) tasks
 pass_advances graph before tasks n within there = record {
@@ -203,9 +192,6 @@ open_advances graph ranks before tasks n within l new = record {
 }
 
 -- ---- marks
-
-pub no_marks : (marks : List Bool) → ((k : ℕ) → k < length marks → get_or marks k false ≡ false) → HasMarks [] marks
-no_marks marks h n l = h n l
 
 pub marked_more : (nodes : List ℕ) (marks : List Bool) (n : ℕ) → n < length marks → HasMarks nodes marks → HasMarks (nodes ++ n ∷ []) (set marks n true)
 marked_more nodes marks n l has k m =

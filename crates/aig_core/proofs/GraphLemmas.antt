@@ -1,18 +1,15 @@
 -- The denotation of edges: by cases on the variable, and kept where ANDs are added.
-use Rattle.std.proofs.Common.{◌≡◌, ◌⊎◌, inl, inr, ℕ, suc, ◌+◌, ◌*◌, ◌/◌, ◌%◌, ◌<◌, ◌==◌, ◌&&◌, Bool, true, false, not, if◌then◌else◌, List, [], ◌∷◌, ◌++◌, length, get_or, take, drop, fold, slice_get, Some, refl, sym, ap, ap₂, ◌∙◌, arith}
-use Rattle.std.proofs.lemmas.Bool.{cases_lt}
+use Rattle.std.proofs.Common.{◌≡◌, inl, inr, ℕ, suc, ◌+◌, ◌*◌, ◌/◌, ◌%◌, ◌<◌, ◌==◌, ◌&&◌, Bool, true, false, not, if◌then◌else◌, List, [], ◌∷◌, ◌++◌, length, get_or, take, drop, fold, slice_get, Some, refl, sym, ap, ap₂, ◌∙◌, arith}
 use Rattle.std.proofs.lemmas.List.{get_or_append_left, get_or_at, length_push, length-take-le, take-append-drop, drop_more}
 use Rattle.std.proofs.lemmas.List.Sums.{fold-append}
 use Rattle.std.proofs.lemmas.Option.{slice_get_within, get_or_from_slice_get}
+use Rattle.cyc_base.proofs.ListLemmas.{parity}
 use Rattle.aig_core.specs.declared.edge.Edge.{Edge}
 use Rattle.aig_core.specs.declared.edge.And.{And}
 use Rattle.aig_core.specs.Graphs.{Graph, with_ands, first_and, edge_to, variable, is_complement, complement, IsEdge, edge_value, with_value, values, den}
 use Rattle.aig_core.specs.Soundness.{IsSoundAnd, IsVector, Extends}
 
 -- ---- complements
-
-parity : (n : ℕ) → (n % 2 ≡ 0) ⊎ (n % 2 ≡ 1)
-parity n = elim (cases_lt (n % 2) 1) [ inl low ↦ inl (omega arith) | inr high ↦ inr (omega arith) ]
 
 pub variable-complement : (e : Edge) → variable (complement e) ≡ variable e
 variable-complement e = elim (parity e.0) [ inl a ↦ omega (arith, a) | inr a ↦ omega (arith, a) ]

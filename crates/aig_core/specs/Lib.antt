@@ -1,8 +1,10 @@
+-- The chapter: what the contracts of public functions say.
 pub mod Graphs
 pub mod Soundness
 pub mod Conjunctions
 pub mod Covers
 pub mod Depth
-pub mod Tasks
 pub mod Building
 pub mod Answers
+-- The code's own: what its parts say to each other.
+pub mod Tasks

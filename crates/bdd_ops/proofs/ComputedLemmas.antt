@@ -1,7 +1,7 @@
 -- The computed table: what it holds stays right as the table grows, and as the store does.
-use Rattle.std.proofs.Common.{◌≡◌, ◌⊎◌, inl, inr, Bool, false, List, ◌++◌, map, All, Contains, sym, ap, subst, ◌∙◌}
-use Rattle.std.proofs.lemmas.List.{length-map, get_or-map}
+use Rattle.std.proofs.Common.{◌≡◌, ◌⊎◌, inl, inr, Bool, false, List, ◌++◌, map, All, Contains, sym, subst}
 use Rattle.std.proofs.lemmas.List.Elements.{All-append, All-map, All-weaker, All-contains, All-contains_itself, Contains-append_left, Contains-append_right}
+use Rattle.cyc_base.proofs.ListLemmas.{Contains-map}
 use Rattle.bdd_store.specs.declared.node.Node.{Node}
 use Rattle.bdd_store.specs.Arena.{Arena, constant, complemented_if}
 use Rattle.bdd_store.specs.Growth.{KeepsNodes}
@@ -20,10 +20,6 @@ IsComputed-kept c k h = record { nodes = AreNodesOf-kept k h.nodes; answer = IsA
 
 pub AreComputed-kept : (s t : Arena) (table : List Computed) → KeepsNodes s t → AreComputed s table → AreComputed t table
 AreComputed-kept s t table k h = All-weaker (IsComputed s) (IsComputed t) (λ c is. IsComputed-kept c k is) table h
-
--- its parts: choices, and others after them
-Contains-map : {X Y : Type 0} (f : X → Y) (xs : List X) (x : X) → Contains xs x → Contains (map f xs) (f x)
-Contains-map f xs x (k, within, e) = (k, rw (length-map xs f) within, get_or-map f xs k x (f x) within ∙ ap f e)
 
 -- an operation that three operands say all of
 abbrev pub chosen_of : Computed → Chosen

@@ -1,7 +1,7 @@
 -- The bits by column, decided in turn: at each place 0 where that leaves the function true somewhere.
-use Rattle.std.proofs.Common.{◌≡◌, ◌≢◌, ℕ, zero, suc, ◌+◌, ◌<◌, ◌≤◌, Bool, true, false, List, [], ◌∷◌, ◌++◌, length, take, get_or, set, replicate, refl, sym, ap, subst, ◌∙◌, inl, inr, arith, length-set, get_or-set_same}
+use Rattle.std.proofs.Common.{◌≡◌, ◌≢◌, ℕ, zero, suc, ◌+◌, ◌<◌, Bool, true, false, List, [], ◌∷◌, ◌++◌, length, take, get_or, set, replicate, refl, sym, ap, subst, ◌∙◌, inl, inr, arith, length-set, get_or-set_same}
 use Rattle.std.proofs.lemmas.Bool.{cases_eq, cases_lt}
-use Rattle.std.proofs.lemmas.List.{length-replicate, length-take-le, take-set, take_more, take_more_set, take_all, get_or_at}
+use Rattle.std.proofs.lemmas.List.{length-replicate, length-take-le, take-set, take_more, take_more_set, get_or_at}
 use Rattle.std.proofs.Math.Seq.{take-append_seam}
 use Rattle.cyc_base.specs.Vectors.{AtMost}
 use Rattle.bdd_store.specs.declared.node.Node.{Node}
@@ -10,7 +10,7 @@ use Rattle.bdd_store.specs.Soundness.{IsLawful}
 use Rattle.bdd_store.proofs.ValueLemmas.{no_entry}
 use Rattle.bdd_store.proofs.BranchLemmas.{IsBranch, entry, exact_lo, exact_hi}
 use Rattle.bdd_ops.specs.Apply.{IsCofactor}
-use Rattle.bdd_ops.specs.Least.{IsLeast, IsLayout, by_variable}
+use Rattle.bdd_ops.specs.Least.{IsLayout, by_variable}
 use Rattle.bdd_ops.specs.Possible.{Takes, IsUnread}
 use Rattle.bdd_ops.proofs.LeastLemmas.{AtMost-extend, number_one, high_alive}
 use Rattle.bdd_ops.proofs.PossibleLemmas.{Takes-branch}
@@ -18,9 +18,6 @@ use Rattle.bdd_ops.proofs.PossibleLemmas.{Takes-branch}
 -- ---- each function but the constant false is true somewhere
 
 module _ (s : Arena) (lawful : IsLawful s) (columns : List ℕ) (are : IsLayout s.vars columns) where
-  of_node : Node → List Bool → Bool
-  of_node n w = den s n (by_variable columns w)
-
   IsCofactor-branch : (n m : Node) (b : Bool) → IsBranch s.vars s.entries n b m → IsCofactor s n (top_of s n) b m
   IsCofactor-branch n m b branch = record { node = branch.node; lower = branch.lower; function = branch.function }
 
@@ -124,14 +121,3 @@ module _ (f : List Bool → Bool) (count : ℕ) (out : List Bool) (c : ℕ) (lon
               (ap (take c) e ∙ ap (λ k. take k (take c out ++ false ∷ rest)) (sym length-first) ∙ take-append_seam (take c out) (false ∷ rest))
               (ap (λ v. get_or v c false) e ∙ get_or_at (take c out) false rest false c length-first))));
         }
-
--- at the end all bits are decided
-pub AreDecided-all : (f : List Bool → Bool) (count : ℕ) (out : List Bool) (c : ℕ) → length out ≡ count → length out ≤ c → AreDecided f count out c → IsLeast f out
-AreDecided-all f count out c long all were =
-    let whole : take c out ≡ out = take_all c out all in
-    let one = were.possible in
-    let same : one.vector ≡ out = sym (take_all (length (take c out)) one.vector (omega (arith, one.long, ap length whole))) ∙ one.begins ∙ whole in
-    record {
-      true_there = ap f (sym same) ∙ one.value_there;
-      before_all = λ w w_long there. subst (λ (v : List Bool). AtMost v w) whole (were.before w (w_long ∙ long) there);
-    }

@@ -1,11 +1,11 @@
 mod ApplyLemmas
-mod ChainLemmas
+pub mod ChainLemmas
 mod ComputedLemmas
 mod LeastLemmas
 mod OperationLemmas
 mod StandardLemmas
 mod ChoiceLemmas
-mod PossibleLemmas
+pub mod PossibleLemmas
 mod ReadLemmas
 mod DecideLemmas
 mod RootLemmas

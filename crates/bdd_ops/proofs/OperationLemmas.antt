@@ -1,8 +1,8 @@
 -- Conjunction, disjunction and exclusive or as choices.
-use Rattle.std.proofs.Common.{◌≡◌, Bool, true, false, not, ◌&&◌, ◌||◌, List, if◌then◌else◌, refl, ◌∙◌}
+use Rattle.std.proofs.Common.{◌≡◌, Bool, true, false, ◌&&◌, ◌||◌, List, if◌then◌else◌, refl, ◌∙◌}
 use Rattle.bdd_store.specs.declared.node.Node.{Node}
 use Rattle.bdd_store.specs.Arena.{Arena, den}
-use Rattle.bdd_ops.specs.Operations.{conjunction, disjunction, exclusive_or, if_then_else}
+use Rattle.bdd_ops.specs.Operations.{conjunction, disjunction, if_then_else}
 
 and_values : (x y : Bool) → (if x then y else false) ≡ (x && y)
 and_values true y = refl
@@ -17,6 +17,3 @@ conjunction_is s a b never is bits = (λ j. if den s a bits then den s b bits el
 
 pub disjunction_is : (s : Arena) (a b ever : Node) → ((bits : List Bool) → den s ever bits ≡ true) → (bits : List Bool) → if_then_else s a ever b bits ≡ disjunction s a b bits
 disjunction_is s a b ever is bits = (λ j. if den s a bits then is bits j else den s b bits) ∙ or_values (den s a bits) (den s b bits)
-
-pub exclusive_or_is : (s : Arena) (a b other : Node) → ((bits : List Bool) → den s other bits ≡ not (den s b bits)) → (bits : List Bool) → if_then_else s a other b bits ≡ exclusive_or s a b bits
-exclusive_or_is s a b other opposite bits = λ j. if den s a bits then opposite bits j else den s b bits

@@ -21,7 +21,7 @@ use Rattle.bdd_ops.specs.Possible.{Takes, AreValuesOf, flipped_values, branch_va
 pub by_variable-read : (columns : List ℕ) (v : List Bool) (k : ℕ) → k < length columns → get_or (by_variable columns v) k false ≡ get_or v (get_or columns k 0) false
 by_variable-read columns v k less = get_or-map (λ c. get_or v c false) columns k 0 false less
 
-set-other : (columns : List ℕ) (v : List Bool) (c : ℕ) (b : Bool) → ((j : ℕ) → j < length columns → get_or columns j 0 ≢ c) → by_variable columns (set v c b) ≡ by_variable columns v
+pub set-other : (columns : List ℕ) (v : List Bool) (c : ℕ) (b : Bool) → ((j : ℕ) → j < length columns → get_or columns j 0 ≢ c) → by_variable columns (set v c b) ≡ by_variable columns v
 set-other [] v c b apart = refl
 set-other (x ∷ columns) v c b apart =
     let head : get_or (set v c b) x false ≡ get_or v x false = get_or-set_other v c x b false (apart 0 (omega arith)) in

@@ -20,13 +20,6 @@ IsAnswer-back operation s q mark p n stands is = record {
   top = λ v w b. subst (λ i. v ≤ top_at s.vars s.entries i) (sym (index-complemented_if mark n)) (is.top v w (stands.below v w b));
 }
 
-pub IsAnswer-forth : (operation : Operation) (s : Arena) (q : Operands) (mark : Bool) (p : Operands) (n : Node) → StandsFor operation s q mark p → IsAnswer operation s q n → IsAnswer operation s p (complemented_if mark n)
-IsAnswer-forth operation s q mark p n stands is = record {
-  node = omega (arith, is.node, index-complemented_if mark n);
-  function = λ bits. node_value-complemented_if mark s.entries n bits ∙ ap (flipped mark) (is.function bits) ∙ sym (stands.value_is bits);
-  top = λ v w b. subst (λ i. v ≤ top_at s.vars s.entries i) (sym (index-complemented_if mark n)) (is.top v w (stands.above v w b));
-}
-
 pub stands_for_itself : {operation : Operation} {s : Arena} {q : Operands} → StandsFor operation s q false q
 stands_for_itself = record { nodes = λ h. h; value_is = λ bits. refl; below = λ v w h. h; above = λ v w h. h }
 

@@ -1,7 +1,8 @@
 -- Answers to choices: what is there after one is kept.
-use Rattle.std.proofs.Common.{◌≡◌, Bool, true, false, ◌==◌, ◌⊎◌, inl, inr, Contains, refl, sym, ap, subst, eq-eqb}
+use Rattle.std.proofs.Common.{◌≡◌, true, ◌==◌, ◌⊎◌, inl, inr, Contains, refl, sym, ap, subst, eq-eqb}
 use Rattle.std.proofs.lemmas.Bool.{eqb-true, and_parts, and_from}
 use Rattle.std.specs.Cmp.{IsEquivalence}
+use Rattle.cyc_base.proofs.TruthLemmas.{same_truth}
 use Rattle.bdd_store.specs.declared.node.Node.{Node}
 use Rattle.bdd_store.specs.declared.node.Choice.{Choice}
 use Rattle.bdd_store.specs.Arena.{same_choice}
@@ -17,18 +18,13 @@ same_choice-true x y h =
 pub same_choice-self : (x : Choice) → same_choice x x ≡ true
 same_choice-self x = and_from _ _ (eq-eqb x.a.number x.a.number refl) (and_from _ _ (eq-eqb x.b.number x.b.number refl) (eq-eqb x.c.number x.c.number refl))
 
-same_bool : (a b : Bool) → (a ≡ true → b ≡ true) → (b ≡ true → a ≡ true) → a ≡ b
-same_bool true b f g = sym (f refl)
-same_bool false true f g = g refl
-same_bool false false f g = refl
-
 turned : (x y : Choice) → same_choice x y ≡ true → same_choice y x ≡ true
 turned x y h = subst (λ (z : Choice). same_choice z x ≡ true) (same_choice-true x y h) (same_choice-self x)
 
 pub same_choice-laws : IsEquivalence same_choice
 same_choice-laws = record {
   refl = same_choice-self;
-  symm = λ x y. same_bool (same_choice x y) (same_choice y x) (turned x y) (turned y x);
+  symm = λ x y. same_truth (same_choice x y) (same_choice y x) (turned x y) (turned y x);
   congr = λ x y z h. ap (λ (w : Choice). same_choice w z) (same_choice-true x y h);
 }
 

@@ -12,12 +12,12 @@ use Rattle.bdd_store.specs.Subfunctions.{table, is_constant, nodes, IsPart}
 use Rattle.bdd_store.specs.declared.fault.StoreFault.{StoreFault}
 use Rattle.bdd_store.specs.declared.fault.StoreFault.TheVariants.{Full, Memory}
 use Rattle.bdd_store.specs.Growth.{KeepsNodes, IsNewFunction, IsPartAt, NewAreParts, IsRefusedPart, AddsAtMost, IsFullOnlyPast, Grows, AddsWithin, GrowsWithin, NoOtherCause}
-use Rattle.std.proofs.lemmas.Bool.{cases_lt}
+use Rattle.std.proofs.lemmas.Bool.{cases_lt, false_from_ne_true}
 use Rattle.std.proofs.Math.Bool.{not-not}
 use Rattle.bdd_store.proofs.NodeLemmas.{index-complemented}
 use Rattle.bdd_store.proofs.ValueLemmas.{node_value-complemented}
 use Rattle.bdd_store.proofs.SubfunctionLemmas.{length-fixed, nodes-alike, IsPart-whole, IsPart-alike, IsPart-chain, alike-from_table, constant_value}
-use Rattle.bdd_store.proofs.PigeonholeLemmas.{table_eq, counted, nodes-at_least, counted-part, false_or_true, tables_apart}
+use Rattle.bdd_store.proofs.PigeonholeLemmas.{table_eq, counted, nodes-at_least, counted-part, tables_apart}
 
 -- ---- what is kept
 
@@ -38,9 +38,6 @@ KeepsNodes-chain k l = record {
 }
 
 -- ---- new nodes
-
-pub NewAreParts-none : {s : Arena} {f : List Bool → Bool} → NewAreParts s s f
-NewAreParts-none = record { each = λ n in_n. inl in_n }
 
 -- what is so of a node and its complement is so of a part at it
 pub IsPartAt-into : {vars wars : ℕ} {f g : List Bool → Bool} (s t : Arena) (n : Node) → ((m : Node) → index m ≡ index n → IsPart vars f (den s m) → IsPart wars g (den t m)) → IsPartAt vars f s n → IsPartAt wars g t n
@@ -149,7 +146,7 @@ module _ (a : Arena) (canonical : IsCanonical a) (f : List Bool → Bool) where
 
   -- the table of a function that no constant has is no constant table
   varies : (values : (b : Bool) (bits : List Bool) → den a (constant b) bits ≡ b) (g : List Bool → Bool) → ((b : Bool) → ((bits : List Bool) → length bits ≡ a.vars → den a (constant b) bits ≡ g bits) → ⊥) → is_constant (table a.vars g) ≡ false
-  varies values g apart = false_or_true _ (λ e.
+  varies values g apart = false_from_ne_true _ (λ e.
       let v = constant_value a.vars g e in
       apart v.0 (λ bits len. values v.0 bits ∙ sym (alike-from_table a.vars g (λ x. v.0) v.1 bits len)))
 

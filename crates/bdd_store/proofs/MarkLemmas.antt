@@ -1,5 +1,5 @@
 -- Which indices a sweep marks: those of the roots, and of all that they lead to.
-use Rattle.std.proofs.Common.{◌≡◌, ℕ, suc, ◌+◌, ◌-◌, ◌<◌, ◌≤◌, Bool, true, false, List, [], ◌∷◌, length, get_or, set, slice_get, Option, Some, Contains, replicate, refl, sym, ap, subst, ◌∙◌, inl, inr, ◌⊎◌, arith, length-set, get_or-set_same, get_or-set_other, true≢false, add-one}
+use Rattle.std.proofs.Common.{◌≡◌, ℕ, suc, ◌+◌, ◌-◌, ◌<◌, ◌≤◌, Bool, true, false, List, ◌∷◌, length, get_or, set, slice_get, Option, Some, Contains, replicate, refl, sym, ap, subst, ◌∙◌, inl, inr, ◌⊎◌, arith, length-set, get_or-set_same, get_or-set_other, true≢false, add-one}
 use Rattle.std.proofs.lemmas.List.{get_or_past, get_or-replicate, length-replicate}
 use Rattle.std.proofs.lemmas.Bool.{cases_eq, cases_lt}
 use Rattle.std.proofs.lemmas.Option.{same_Some, slice_get_within, slice_get-get_or}
@@ -67,16 +67,6 @@ RootsAreMarked-next roots left rest key n old now at within was = record {
   ];
 }
 
-pub RootsAreMarked-all : (roots : List (Option Node)) (left : List (ℕ × Node)) (old now : List Bool) → left ≡ [] → RootsAreMarked roots left old now → MarksRoots roots old now
-RootsAreMarked-all roots left old now none was = record {
-  keeps = was.keeps;
-  each = λ key n found. elim (was.each key n found) [
-    | inl has ↦ absurd (omega (arith, ap length none, has.1))
-    | inr marked ↦ marked
-  ];
-  only = was.only;
-}
-
 -- ---- branches
 
 -- the branches of the marked entries from a position on are marked
@@ -93,17 +83,6 @@ WaysAreMarked-start es marks first past = record {
   keeps = λ i h. h;
   closed = λ p q from marked has. absurd (omega (arith, branch-within es p q has));
   only = λ q h. (q, h, here);
-}
-
--- the entry before isn't marked
-pub WaysAreMarked-skip : (es : List Entry) (old now : List Bool) (p : ℕ) → is_marked_at now (p + 1) ≡ false → WaysAreMarked es old now (p + 1) → WaysAreMarked es old now p
-WaysAreMarked-skip es old now p not_marked was = record {
-  keeps = was.keeps;
-  closed = λ k q from marked has. elim (cases_lt p k) [
-    | inl later ↦ was.closed k q (omega arith) marked has
-    | inr now_it ↦ let same : suc k ≡ p + 1 = omega arith in absurd (true≢false (sym marked ∙ ap (is_marked_at now) same ∙ not_marked))
-  ];
-  only = was.only;
 }
 
 -- the entry before is marked, and its branches now are
@@ -146,13 +125,6 @@ WaysAreMarked-read es old now i a b d earlier long some within a_is b_is marked 
     let is : i ≡ i - 1 + 1 = omega arith in
     let new : WaysAreMarked es old (set (set now (index e.lo) true) (index e.hi) true) (i - 1) = WaysAreMarked-mark es old now (i - 1) e at long (omega arith) early.0 early.1 marked (subst (WaysAreMarked es old now) is was) in
     subst (λ k. WaysAreMarked es old (set (set now k true) b true) (i - 1)) (sym a_is) (subst (λ k. WaysAreMarked es old (set (set now (index e.lo) true) k true) (i - 1)) (sym b_is) new)
-
-pub WaysAreMarked-all : (es : List Entry) (old now : List Bool) → WaysAreMarked es old now 0 → MarksWays es old now
-WaysAreMarked-all es old now was = record {
-  keeps = was.keeps;
-  closed = λ p q marked has. was.closed p q (omega arith) marked has;
-  only = was.only;
-}
 
 -- ---- both together
 

@@ -1,6 +1,6 @@
 -- A node's index and mark, and what they tell of it.
 use Rattle.std.proofs.Common.{◌≡◌, ℕ, ◌+◌, ◌*◌, ◌%◌, Bool, true, false, not, if◌then◌else◌, ◌==◌, ◌⊎◌, inl, inr, refl, sym, ap, ◌∙◌, arith, true≢false}
-use Rattle.std.proofs.lemmas.Bool.{cases_lt}
+use Rattle.cyc_base.proofs.ListLemmas.{parity}
 use Rattle.bdd_store.specs.declared.node.Node.{Node}
 use Rattle.bdd_store.specs.Arena.{index, is_marked, complemented, complemented_if, flipped}
 
@@ -31,9 +31,6 @@ flipped-choice m true x y = refl
 flipped-choice m false x y = refl
 
 -- ---- parity
-
-parity : (k : ℕ) → (k % 2 ≡ 0) ⊎ (k % 2 ≡ 1)
-parity k = elim (cases_lt (k % 2) 1) [ inl low ↦ inl (omega arith) | inr high ↦ inr (omega arith) ]
 
 pub marked-even : (n : Node) → n.number % 2 ≡ 0 → is_marked n ≡ true
 marked-even n e = ap (λ r. r == 0) e

@@ -7,8 +7,10 @@ use Rattle.std.specs.Cmp.{IsEquivalence, bool_eq_equiv, booleans_Decides}
 use Rattle.std.specs.Cmp.Lexicographic.{pointwise, lists_equiv, pointwise_decides}
 use Rattle.std.specs.List.{AllByRecursion, IsDistinct}
 use Rattle.std.specs.Set.{is_member, unique_keys}
+use Rattle.std.proofs.lemmas.Bool.{false_from_ne_true}
+use Rattle.cyc_base.proofs.ListLemmas.{Contains-map}
 use Rattle.bdd_store.specs.Subfunctions.{fixed, prefixes, table, is_constant, nodes, IsPart}
-use Rattle.bdd_store.proofs.SubfunctionLemmas.{Contains-map, prefixes-all, alike-from_table, table-alike}
+use Rattle.bdd_store.proofs.SubfunctionLemmas.{prefixes-all, alike-from_table, table-alike}
 
 abbrev pub table_eq : List Bool → List Bool → Bool
 table_eq = pointwise beq
@@ -54,10 +56,6 @@ counted-part vars f g p varies =
     is_member-filter table_laws (λ t. not (is_constant t)) (table vars g) (λ t e. alike_from_same table_decides (λ u. not (is_constant u)) (table vars g) t e) tables
     ∙ (λ j. (is_member-Decides table_decides tables (table vars g)).1 here j && not (varies j))
 
-pub false_or_true : (b : Bool) → (b ≡ true → ⊥) → b ≡ false
-false_or_true true h = absurd (h refl)
-false_or_true false h = refl
-
 -- different functions have different tables
 pub tables_apart : (vars : ℕ) (g h : List Bool → Bool) → (((bits : List Bool) → length bits ≡ vars → g bits ≡ h bits) → ⊥) → table_eq (table vars g) (table vars h) ≡ false
-tables_apart vars g h differ = false_or_true _ (λ e. differ (alike-from_table vars g h ((table_decides (table vars g) (table vars h)).0 e)))
+tables_apart vars g h differ = false_from_ne_true _ (λ e. differ (alike-from_table vars g h ((table_decides (table vars g) (table vars h)).0 e)))

@@ -1,13 +1,14 @@
 -- The table that a sweep makes: what is kept stands there once, at its place, with its function.
-use Rattle.std.proofs.Common.{◌≡◌, ℕ, zero, suc, ◌+◌, ◌*◌, ◌%◌, ◌<◌, ◌≤◌, Bool, true, false, List, [], ◌∷◌, ◌++◌, length, get_or, set, slice_get, Some, Contains, replicate, cond, if◌then◌else◌, ◌==◌, refl, sym, ap, subst, ◌∙◌, inl, inr, ◌⊎◌, arith, get_or-set_same, get_or-set_other, true≢false, add-one, length-append}
+use Rattle.std.proofs.Common.{◌≡◌, ℕ, zero, suc, ◌+◌, ◌*◌, ◌%◌, ◌<◌, ◌≤◌, Bool, true, false, List, [], ◌∷◌, ◌++◌, length, get_or, set, slice_get, Some, Contains, cond, if◌then◌else◌, ◌==◌, refl, sym, ap, subst, ◌∙◌, inl, inr, ◌⊎◌, arith, get_or-set_same, get_or-set_other, true≢false, add-one, length-append}
 use Rattle.std.specs.List.{list_any, filter, range_with_len}
 use Rattle.std.proofs.lemmas.Bool.{cases_eq, cases_lt}
-use Rattle.std.proofs.lemmas.List.{length_push, get_or_push, get_or-replicate, length-replicate, get_or_past}
+use Rattle.std.proofs.lemmas.List.{length_push, get_or_push}
 use Rattle.std.proofs.lemmas.List.Elements.{filter-append}
 use Rattle.std.proofs.lemmas.Option.{slice_get-get_or, slice_get_within, same_Some}
 use Rattle.indexmap.specs.IndexSet.{insert_key}
 use Rattle.indexmap.proofs.CallerLemmas.{Contains-list_any}
 use Rattle.cyc_base.specs.declared.limits.TheConstants.{MAX_NODES}
+use Rattle.cyc_base.proofs.ListLemmas.{range-suc}
 use Rattle.bdd_store.specs.declared.node.Node.{Node}
 use Rattle.bdd_store.specs.declared.node.Entry.{Entry}
 use Rattle.bdd_store.specs.Arena.{index, is_marked, flipped, value_at, node_value, top_at, chosen}
@@ -27,12 +28,6 @@ insert-new es e absent = by (list_any (entry_eq e) es) refl
     by false h = refl
 
 -- ---- how many are kept
-
-range-suc : (a n : ℕ) → range_with_len a (suc n) ≡ range_with_len a n ++ (a + n) ∷ []
-range-suc a zero = ap (λ (x : ℕ). x ∷ []) (omega arith)
-range-suc a (suc n) =
-    let same : a + 1 + n ≡ a + suc n = omega arith in
-    ap (λ (rest : List ℕ). a ∷ rest) (range-suc (a + 1) n ∙ ap (λ (x : ℕ). range_with_len (a + 1) n ++ x ∷ []) same)
 
 -- the entries among the first n that are kept
 abbrev pub kept : List Bool → ℕ → List ℕ
@@ -156,16 +151,6 @@ module _ (es : List Entry) (marks : List Bool) (places : List ℕ) (table : List
     moved-sound = IsSound-push sound_table (moved_entry places e) moved-fits moved-absent
 
 -- ---- the loop
-
-pub AreMoved-start : (es : List Entry) (marks : List Bool) (size : ℕ) → AreMoved es marks (replicate size 0) [] 0
-AreMoved-start es marks size = record {
-  sound = λ vars sound. record { each = λ p e at. absurd (omega (arith, slice_get_within [] p e at)); once = λ p q e at_p at_q. absurd (omega (arith, slice_get_within [] p e at_p)) };
-  constants = elim (cases_lt 0 size) [ inl l ↦ get_or-replicate size 0 0 0 l | inr past ↦ get_or_past (replicate size 0) 0 0 (omega (arith, length-replicate {A = ℕ} size 0)) ];
-  each = λ p e less at marked. absurd (omega arith);
-  once = λ i j low_i low_j mi mj same. omega arith;
-  from = λ q less. absurd (omega arith);
-  count = refl;
-}
 
 pub AreMoved-skip : (es : List Entry) (marks : List Bool) (places : List ℕ) (table : List Entry) (n : ℕ) → is_marked_at marks (suc n) ≡ false → AreMoved es marks places table n → AreMoved es marks places table (suc n)
 AreMoved-skip es marks places table n not_marked moved =

@@ -1,5 +1,5 @@
 -- Functions of bits with their first bits fixed, and their tables.
-use Rattle.std.proofs.Common.{◌≡◌, ℕ, zero, suc, ◌+◌, ◌-◌, ◌<◌, ◌≤◌, Bool, true, false, not, ◌&&◌, ◌||◌, List, [], ◌∷◌, ◌++◌, ◌⊎◌, inl, inr, length, take, drop, map, filter, Contains, refl, sym, ap, subst, ◌∙◌, arith, append_assoc, length-append, length-drop, true≢false}
+use Rattle.std.proofs.Common.{◌≡◌, ℕ, zero, suc, ◌+◌, ◌-◌, ◌<◌, ◌≤◌, Bool, true, false, not, ◌&&◌, ◌||◌, List, [], ◌∷◌, ◌++◌, ◌⊎◌, inl, inr, length, take, drop, map, filter, Contains, refl, sym, ap, ◌∙◌, arith, append_assoc, length-append, length-drop, true≢false}
 use Rattle.std.proofs.lemmas.List.{map-append, length-map, take_at, drop_at, drop_all, drop-drop, append-nil, drop-append-le}
 use Rattle.std.proofs.lemmas.Bool.{cases_lt}
 use Rattle.std.proofs.lemmas.List.Elements.{Contains-append_left, Contains-append_right}
@@ -8,6 +8,8 @@ use Rattle.std.specs.Set.{distinct_count}
 use Rattle.std.specs.Bool.{beq}
 use Rattle.std.specs.Cmp.Lexicographic.{pointwise}
 use Rattle.cyc_base.specs.Vectors.{vectors}
+use Rattle.cyc_base.proofs.ListLemmas.{Contains-here, map-map, all_append, all_map, all_weaker}
+use Rattle.cyc_base.proofs.VectorLemmas.{Contains-vectors}
 use Rattle.bdd_store.specs.Subfunctions.{fixed, prefixes, table, is_constant, nodes, IsPart}
 
 -- ---- parts
@@ -56,38 +58,16 @@ IsPart-chain {vars} {f} p q = record {
 
 -- ---- lists of bits
 
-Contains-cons : {X : Type 0} (x : X) (xs : List X) (y : X) → Contains xs y → Contains (x ∷ xs) y
-Contains-cons x xs y h = Contains-append_right (x ∷ []) xs y h
-
-Contains-first : {X : Type 0} (x : X) (xs : List X) → Contains (x ∷ xs) x
-Contains-first x xs = (zero, omega arith, refl)
-
-pub Contains-map : {X Y : Type 0} (f : X → Y) (xs : List X) (x : X) → Contains xs x → Contains (map f xs) (f x)
-Contains-map f [] x h = absurd (omega arith)
-Contains-map f (y ∷ ys) x (zero, within, e) = subst (Contains (f y ∷ map f ys)) (ap f e) (Contains-first (f y) (map f ys))
-Contains-map f (y ∷ ys) x (suc k, within, e) = Contains-cons (f y) (map f ys) (f x) (Contains-map f ys x (k, omega arith, e))
-
-pub vectors-all : (n : ℕ) (v : List Bool) → length v ≡ n → Contains (vectors n) v
-vectors-all zero [] h = Contains-first [] []
-vectors-all zero (b ∷ v) h = absurd (omega arith)
-vectors-all (suc n) [] h = absurd (omega arith)
-vectors-all (suc n) (false ∷ v) h = Contains-append_left (map (λ w. false ∷ w) (vectors n)) (map (λ w. true ∷ w) (vectors n)) (false ∷ v) (Contains-map (λ w. false ∷ w) (vectors n) v (vectors-all n v (omega arith)))
-vectors-all (suc n) (true ∷ v) h = Contains-append_right (map (λ w. false ∷ w) (vectors n)) (map (λ w. true ∷ w) (vectors n)) (true ∷ v) (Contains-map (λ w. true ∷ w) (vectors n) v (vectors-all n v (omega arith)))
-
 pub prefixes-all : (n : ℕ) (p : List Bool) → length p ≤ n → Contains (prefixes n) p
-prefixes-all zero [] h = Contains-first [] []
+prefixes-all zero [] h = Contains-here [] []
 prefixes-all zero (b ∷ p) h = absurd (omega arith)
 prefixes-all (suc n) p h = by (cases_lt (length p) (suc n)) (prefixes-all n p)
   where
     by : (length p < suc n) ⊎ (suc n ≤ length p) → (length p ≤ n → Contains (prefixes n) p) → Contains (prefixes (suc n)) p
     by (inl less) rest = Contains-append_left (prefixes n) (vectors (suc n)) p (rest (omega arith))
-    by (inr more) rest = Contains-append_right (prefixes n) (vectors (suc n)) p (vectors-all (suc n) p (omega arith))
+    by (inr more) rest = Contains-append_right (prefixes n) (vectors (suc n)) p (Contains-vectors (suc n) p (omega arith))
 
 -- ---- tables
-
-map-map : {X Y Z : Type 0} (g : Y → Z) (f : X → Y) (xs : List X) → map g (map f xs) ≡ map (λ x. g (f x)) xs
-map-map g f [] = refl
-map-map g f (x ∷ xs) = ap (λ l. g (f x) ∷ l) (map-map g f xs)
 
 pub table-suc : (n : ℕ) (f : List Bool → Bool) → table (suc n) f ≡ table n (λ v. f (false ∷ v)) ++ table n (λ v. f (true ∷ v))
 unfolding table
@@ -133,18 +113,6 @@ table-alike (suc n) f g h =
     table-suc n f
     ∙ (λ j. table-alike n (λ v. f (false ∷ v)) (λ v. g (false ∷ v)) (λ v len. h (false ∷ v) (ap suc len)) j ++ table-alike n (λ v. f (true ∷ v)) (λ v. g (true ∷ v)) (λ v len. h (true ∷ v) (ap suc len)) j)
     ∙ sym (table-suc n g)
-
-all_append : {X : Type 0} (P : X → Type 0) (xs ys : List X) → AllByRecursion P xs → AllByRecursion P ys → AllByRecursion P (xs ++ ys)
-all_append P [] ys a b = b
-all_append P (x ∷ xs) ys a b = (a.0, all_append P xs ys a.1 b)
-
-all_map : {X Y : Type 0} (P : Y → Type 0) (f : X → Y) (xs : List X) → AllByRecursion (λ x. P (f x)) xs → AllByRecursion P (map f xs)
-all_map P f [] a = tt
-all_map P f (x ∷ xs) a = (a.0, all_map P f xs a.1)
-
-all_weaker : {X : Type 0} (P Q : X → Type 0) (xs : List X) → ((x : X) → P x → Q x) → AllByRecursion P xs → AllByRecursion Q xs
-all_weaker P Q [] h a = tt
-all_weaker P Q (x ∷ xs) h a = (h x a.0, all_weaker P Q xs h a.1)
 
 map-alike_all : {X Y : Type 0} (f g : X → Y) (xs : List X) → AllByRecursion (λ x. f x ≡ g x) xs → map f xs ≡ map g xs
 map-alike_all f g [] h = refl

@@ -1,6 +1,8 @@
+-- The chapter: what the contracts of public functions say.
 pub mod Arena
-pub mod Growth
-pub mod Renumbering
 pub mod Soundness
 pub mod Subfunctions
+pub mod Growth
 pub mod Sweeping
+-- The code's own: what its parts say to each other.
+pub mod Renumbering

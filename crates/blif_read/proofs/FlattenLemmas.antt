@@ -3,6 +3,7 @@ use Rattle.std.proofs.Common.{◌≡◌, ◌≢◌, ◌≤◌, ℕ, ◌+◌, Lis
 use Rattle.std.specs.Prelude.{Bool, ◌&&◌, ◌||◌, Some, None, Ok, Err, Option, Result, bytes_eq, flat_map, AllPairs}
 use Rattle.std.proofs.lemmas.List.Elements.{All-nil, All-cons, All-head, All-tail, All-append}
 use Rattle.std.proofs.lemmas.List.Kept.{AllPairs-cons}
+use Rattle.std.proofs.lemmas.Bool.{or_parts}
 use Rattle.cyc_base.specs.Names.{IsBlifName}
 use Rattle.blif_text.specs.Texts.{Line, lines}
 use Rattle.blif_text.proofs.LineFacts.{word_count, total, words_are_names, words_are_few}
@@ -182,10 +183,6 @@ IsNewTo earlier model = is_model_name model.name earlier ≡ false
 abbrev NamesDiffer : BlifModel → BlifModel → Type 0
 NamesDiffer a b = a.name ≢ b.name
 
-neither : (a b : Bool) → (a || b) ≡ false → (a ≡ false) × (b ≡ false)
-neither true b is = absurd (cc is)
-neither false b is = (refl, is)
-
 same_bytes : (name : List ℕ) → bytes_eq name name ≡ true
 same_bytes [] = refl
 same_bytes (b ∷ rest) = ap (λ t. t && bytes_eq rest rest) (eq-eqb b b refl) ∙ same_bytes rest
@@ -209,12 +206,12 @@ weaker : (k : Kind) (line : Line) (earlier : List Line) (found : List BlifModel)
 weaker k line earlier [] each = All-nil (IsNewTo earlier)
 weaker k line earlier (m ∷ ms) each =
     All-cons (IsNewTo earlier) m ms
-    (neither (is_model k && bytes_eq m.name (model_name line)) (is_model_name m.name earlier) (All-head (λ m. new_behind k line earlier m.name ≡ false) m ms each)).1
+    (or_parts (is_model k && bytes_eq m.name (model_name line)) (is_model_name m.name earlier) (All-head (λ m. new_behind k line earlier m.name ≡ false) m ms each)).1
     (weaker k line earlier ms (All-tail (λ m. new_behind k line earlier m.name ≡ false) m ms each))
 
 other_names : (line : Line) (earlier : List Line) (name : List ℕ) → new_behind of.Model line earlier name ≡ false → model_name line ≢ name
 other_names line earlier name is same =
-    let no = (neither (bytes_eq name (model_name line)) (is_model_name name earlier) is).0 in
+    let no = (or_parts (bytes_eq name (model_name line)) (is_model_name name earlier) is).0 in
     let yes : bytes_eq name (model_name line) ≡ true = ap (bytes_eq name) same ∙ same_bytes name in
     let both = sym no ∙ yes in
     cc both

@@ -1,8 +1,9 @@
 -- What the lines of a text say is sound.
 use Rattle.std.proofs.Common.{◌≡◌, ◌≢◌, ℕ, ◌+◌, List, [], ◌∷◌, drop, map, true, false, refl, sym, ap, ◌∙◌, arith, All}
-use Rattle.std.specs.Prelude.{Bool, ◌&&◌, if◌then◌else◌, Some, None, Option, codes, bytes_eq}
+use Rattle.std.specs.Prelude.{Bool, if◌then◌else◌, Some, None, Option, codes, bytes_eq}
 use Rattle.std.specs.List.{list_all, position_or_len}
 use Rattle.std.proofs.lemmas.List.Elements.{All-nil, All-cons, All-head, All-tail, All-map, All-take, All-drop}
+use Rattle.std.proofs.lemmas.Bool.{and_parts}
 use Rattle.cyc_base.specs.Names.{IsBlifName, IsBlifByte}
 use Rattle.netlist.specs.declared.parts.Edge.{Edge}
 use Rattle.blif_text.specs.Texts.{Line, is_filled}
@@ -75,18 +76,13 @@ sound_latch n (a ∷ b ∷ c ∷ d ∷ e ∷ f ∷ rest) each none = absurd (cc 
 
 -- `.subckt` lines.
 
-both_filled : (a b : Bool) → (a && b) ≡ true → (a ≡ true) × (b ≡ true)
-both_filled true true is = (refl, refl)
-both_filled true false is = absurd (cc is)
-both_filled false b is = absurd (cc is)
-
 filled_name : (name : List ℕ) → is_filled name ≡ true → All IsBlifByte name → IsBlifName name
 filled_name [] filled each = absurd (cc filled)
 filled_name (b ∷ rest) filled each = ((λ e. cc e), each)
 
 sound_pair : (word : List ℕ) → IsBlifName word → is_pair word ≡ true → IsBlifName (formal_of word) × IsBlifName (actual_of word)
 sound_pair word blif pair =
-    let both = both_filled (is_filled (formal_of word)) (is_filled (actual_of word)) pair in
+    let both = and_parts (is_filled (formal_of word)) (is_filled (actual_of word)) pair in
     let at = position_or_len is_equals word in
     (filled_name (formal_of word) both.0 (All-take IsBlifByte at word blif.1), filled_name (actual_of word) both.1 (All-drop IsBlifByte (at + 1) word blif.1))
 
@@ -96,7 +92,7 @@ IsSoundWord word = IsBlifName (formal_of word) × IsBlifName (actual_of word)
 sound_pairs : (words : List (List ℕ)) → All IsBlifName words → list_all is_pair words ≡ true → All IsSoundWord words
 sound_pairs [] each pairs = All-nil IsSoundWord
 sound_pairs (word ∷ words) each pairs =
-    let both = both_filled (is_pair word) (list_all is_pair words) pairs in
+    let both = and_parts (is_pair word) (list_all is_pair words) pairs in
     All-cons IsSoundWord word words (sound_pair word (All-head IsBlifName word words each) both.0) (sound_pairs words (All-tail IsBlifName word words each) both.1)
 
 are_pairs : (t : Bool) (n : ℕ) (words : List (List ℕ)) → list_all is_pair words ≡ t → (if t then None else Some (fault.BadSubckt n)) ≡ None → list_all is_pair words ≡ true

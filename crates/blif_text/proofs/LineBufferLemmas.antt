@@ -142,7 +142,3 @@ line_between parts marks i from are inside is =
 pub done_kept : (parts : List (List ℕ)) (marks : List Mark) (n : ℕ) → AreMarks parts marks → length parts ≤ last_end end_of 0 marks
     → done_of parts marks ≡ done_of parts marks ++ line_if_filled n (words_left parts marks)
 done_kept parts marks n are none = sym (ap (λ more. done_of parts marks ++ more) (line_none parts marks n are none) ∙ append-nil (done_of parts marks))
-
-pub run_none_left : (run : List ℕ) → length run ≡ 0 → run ≡ []
-run_none_left [] none = refl
-run_none_left (x ∷ xs) none = absurd (omega arith)

@@ -5,6 +5,7 @@ use Rattle.std.specs.List.{list_all}
 use Rattle.std.proofs.lemmas.List.Elements.{All-nil, All-cons, All-head, All-tail, All-append, All-filter}
 use Rattle.std.proofs.lemmas.Bool.Decides.{nat_tests}
 use Rattle.cyc_base.specs.Names.{IsBlifByte, IsBlifName}
+use Rattle.cyc_base.proofs.TruthLemmas.{first_of_and, second_of_and}
 use Rattle.blif_text.specs.Texts.{pieces, in_front, is_filled, is_blank, is_lf, is_printed, is_allowed, begins_with, without_cr, before_hash, physical, bad_byte, Joined, Line, ends_in_backslash, without_last, continued, joined, words_of, in_words, has_words, logical, unless_bad, lines}
 
 -- Bytes of a line without its comment.
@@ -26,19 +27,11 @@ no_hash : (line : List ℕ) → All NoHash (before_hash line)
 no_hash [] = All-nil NoHash
 no_hash (b ∷ rest) = no_hash_front (b == 35) b (before_hash rest) refl (no_hash rest)
 
-and_left : (a b : Bool) → (a && b) ≡ true → a ≡ true
-and_left true b is = refl
-and_left false b is = is
-
-and_right : (a b : Bool) → (a && b) ≡ true → b ≡ true
-and_right true b is = is
-and_right false b is = absurd (cc is)
-
 line_bytes : (line : List ℕ) → list_all is_allowed line ≡ true → All NoHash line → All IsLineByte line
 line_bytes [] allowed hash = All-nil IsLineByte
 line_bytes (b ∷ rest) allowed hash =
-    All-cons IsLineByte b rest (and_left (is_allowed b) (list_all is_allowed rest) allowed, All-head NoHash b rest hash)
-    (line_bytes rest (and_right (is_allowed b) (list_all is_allowed rest) allowed) (All-tail NoHash b rest hash))
+    All-cons IsLineByte b rest (first_of_and (is_allowed b) (list_all is_allowed rest) allowed, All-head NoHash b rest hash)
+    (line_bytes rest (second_of_and (is_allowed b) (list_all is_allowed rest) allowed) (All-tail NoHash b rest hash))
 
 abbrev IsCleanLine : List ℕ → Type 0
 IsCleanLine line = All IsLineByte line
@@ -213,7 +206,7 @@ joined_choice_size false n line rest ends = omega arith
 joined_size : (joins : Bool) (n : ℕ) (whole : List (List ℕ)) → total byte_count (joined joins n whole) ≤ total length whole
 joined_size joins n [] = omega arith
 joined_size joins n (line ∷ rest) =
-    let here = joined_choice_size (joins && ends_in_backslash line) n line (joined joins (n + 1) rest) (and_right joins (ends_in_backslash line)) in
+    let here = joined_choice_size (joins && ends_in_backslash line) n line (joined joins (n + 1) rest) (second_of_and joins (ends_in_backslash line)) in
     let more = joined_size joins (n + 1) rest in
     omega arith
 

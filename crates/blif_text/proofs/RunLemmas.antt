@@ -4,6 +4,7 @@ use Rattle.std.specs.Prelude.{Bool, ◌==◌, ◌&&◌, slice_range, if◌then�
 use Rattle.std.specs.List.{list_all}
 use Rattle.std.proofs.lemmas.Bool.Decides.{nat_tests}
 use Rattle.std.proofs.lemmas.List.Folds.{list_all-append}
+use Rattle.std.proofs.lemmas.Bool.{and_parts}
 use Rattle.blif_text.specs.Texts.{begins_with, is_lf, is_blank, is_printed}
 use Rattle.blif_text.specs.Reading.{State, step, put, put_all}
 use Rattle.blif_text.specs.Parts.{state_behind, state_over, is_word_byte}
@@ -47,10 +48,6 @@ put_behind joins text i s outside is =
 
 -- Some bytes of a word.
 
-both : (a b : Bool) → (a && b) ≡ true → (a ≡ true) × (b ≡ true)
-both true b is = (refl, is)
-both false b is = absurd (cc is)
-
 put_over : (joins : Bool) (text : List ℕ) (i n : ℕ) (s : State) → s.comment ≡ false → i + n ≤ length text → list_all is_word_byte (take n (drop i text)) ≡ true
     → state_over joins text i n s ≡ Some (put_all (take n (drop i text)) s)
 put_over joins text i zero s outside within each = ap (λ run. Some (record s { run = run })) (sym (append-nil s.run))
@@ -58,7 +55,7 @@ put_over joins text i (suc n) s outside within each =
     let b = get_or text i 0 in
     let more = take n (drop (i + 1) text) in
     let here : take (suc n) (drop i text) ≡ b ∷ more = ap (take (suc n)) (drop_here text i b (omega arith) refl) in
-    let tests = both (is_word_byte b) (list_all is_word_byte more) (sym (ap (list_all is_word_byte) here) ∙ each) in
+    let tests = and_parts (is_word_byte b) (list_all is_word_byte more) (sym (ap (list_all is_word_byte) here) ∙ each) in
     ap (option_and_then (state_over joins text (i + 1) n)) (put_behind joins text i s outside tests.0)
     ∙ put_over joins text (i + 1) n (put b s) outside (omega arith) tests.1
     ∙ ap (λ run. Some (record s { run = run })) (append_assoc s.run (b ∷ []) more)

@@ -67,18 +67,6 @@ without_last_end [] b = refl
 without_last_end (x ∷ []) b = refl
 without_last_end (x ∷ y ∷ ys) b = ap (λ more. x ∷ more) (without_last_end (y ∷ ys) b)
 
-ends_at_end : (xs : List ℕ) (b : ℕ) → ends_in_backslash (xs ++ b ∷ []) ≡ (b == 92)
-ends_at_end [] b = refl
-ends_at_end (x ∷ []) b = refl
-ends_at_end (x ∷ y ∷ ys) b = ends_at_end (y ∷ ys) b
-
-pub without_last_take : (xs : List ℕ) → take (length xs - 1) xs ≡ without_last xs
-without_last_take [] = refl
-without_last_take (x ∷ []) = refl
-without_last_take (x ∷ y ∷ ys) =
-    let e : (suc (length (y ∷ ys)) - 1) ≡ suc (length (y ∷ ys) - 1) = omega arith in
-    rw e (ap (λ more. x ∷ more) (without_last_take (y ∷ ys)))
-
 pub ends_by_last : (xs : List ℕ) → 0 < length xs → ends_in_backslash xs ≡ (get_or xs (length xs - 1) 0 == 92)
 ends_by_last [] some = absurd (omega arith)
 ends_by_last (x ∷ []) some = refl

@@ -110,7 +110,7 @@ impl LineBuffer {
     }
 
     // Whether there is nothing behind the lines.
-    #[tactic(auto, using(crate::proofs::LineBufferLemmas::words_none_left, crate::proofs::LineBufferLemmas::run_none_left))]
+    #[tactic(auto, using(crate::proofs::LineBufferLemmas::words_none_left, cyc_base::proofs::ListLemmas::empty_list))]
     pub fn is_whole(&self) -> bool
         ensures words { IsTrue result → self.now.words ≡ [] }
         ensures run { IsTrue result → self.now.run ≡ [] }

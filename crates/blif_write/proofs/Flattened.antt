@@ -1,18 +1,18 @@
 -- The model of a written netlist flattens to its lines.
-use Rattle.std.proofs.Common.{◌≡◌, ℕ, zero, suc, ◌+◌, ◌≤◌, nat_lt, List, [], ◌∷◌, ◌++◌, length, map, refl, ap, ◌∙◌, arith, if◌then◌else◌, None, Some, option_map, Ok}
-use Rattle.blif_write.proofs.Common.{Option, length-map, Clock, Parts, BlifModel, GateLine, LatchLine}
-use Rattle.std.proofs.lemmas.List.{map-id}
+use Rattle.std.proofs.Common.{◌≡◌, ℕ, zero, suc, ◌+◌, ◌≤◌, nat_lt, List, [], ◌∷◌, ◌++◌, length, map, refl, ap, ◌∙◌, arith, if◌then◌else◌, None, Some, Ok}
+use Rattle.blif_write.proofs.Common.{length-map, Parts, BlifModel, GateLine, LatchLine}
 use Rattle.netlist.specs.declared.parts.Gate as gates
 use Rattle.netlist.specs.declared.parts.Latch as latches
 use Rattle.blif_read.specs.Find.{has_name}
 use Rattle.blif_read.specs.declared.models.Item.{Item}
 use Rattle.blif_read.specs.declared.models.Item.TheVariants as item
 use Rattle.flatten.specs.Wires.{mark_of}
-use Rattle.flatten.specs.Paths.{Instance, gate_at, latch_at, clock_at}
+use Rattle.flatten.specs.Paths.{Instance}
 use Rattle.flatten.specs.Instances.{find_model}
 use Rattle.flatten.specs.Walk.{Event, gate, latch, events, events_by, FlatLines, then_gate, then_latch, decided, flat_lines}
 use Rattle.flatten.proofs.Names.{bytes_refl}
 use Rattle.flatten.proofs.Placing.{step_yes}
+use Rattle.flatten.proofs.OwnLines.{latch_same, gate_same}
 use Rattle.blif_write.proofs.Said.{latch_of_text, gate_of_text, model_of_text}
 
 pub model_found : (model : BlifModel) → find_model (model ∷ []) model.name ≡ Some 0
@@ -20,20 +20,6 @@ model_found model =
     ap (λ k. if nat_lt k 1 then Some k else None) (step_yes (has_name model.name) model [] (bytes_refl model.name))
 
 -- At the top each name means its own wire.
-
-control_at_top : (m : List ℕ) (control : Option Clock) → option_map (clock_at m []) control ≡ control
-control_at_top m None = refl
-control_at_top m (Some clock) = refl
-
-latch_at_top : (m : List ℕ) (line : LatchLine) → latch_at m [] line ≡ line
-latch_at_top m line =
-    let made = λ (control : Option Clock). let l : LatchLine = record line { control = control } in l in
-    ap made (control_at_top m line.control)
-
-gate_at_top : (m : List ℕ) (line : GateLine) → gate_at m [] line ≡ line
-gate_at_top m line =
-    let made = λ (pins : List (List ℕ)). let g : GateLine = record line { pins = pins } in g in
-    ap made (map-id line.pins)
 
 -- The walk comes to the latches and to the gates.
 
@@ -48,7 +34,7 @@ module _ (deeper : List Instance → List Item → List Event) (depth : ℕ) (mo
   gates_walked [] = refl
   gates_walked (g ∷ gs) =
       let rest = events_by deeper depth models top m [] n (map (λ g. item.Gate (gate_of_text net g)) gs) in
-      ap (λ line. gate line ∷ rest) (gate_at_top m (gate_of_text net g)) ∙ ap (λ more. gate (gate_of_text net g) ∷ more) (gates_walked gs)
+      ap (λ line. gate line ∷ rest) (gate_same m (gate_of_text net g)) ∙ ap (λ more. gate (gate_of_text net g) ∷ more) (gates_walked gs)
 
   latches_walked : (ls : List latches.Latch) (items : List Item)
       → events_by deeper depth models top m [] n (map (λ l. item.Latch (latch_of_text net l)) ls ++ items)
@@ -56,7 +42,7 @@ module _ (deeper : List Instance → List Item → List Event) (depth : ℕ) (mo
   latches_walked [] items = refl
   latches_walked (l ∷ ls) items =
       let rest = events_by deeper depth models top m [] n (map (λ l. item.Latch (latch_of_text net l)) ls ++ items) in
-      ap (λ line. latch line ∷ rest) (latch_at_top m (latch_of_text net l)) ∙ ap (λ more. latch (latch_of_text net l) ∷ more) (latches_walked ls items)
+      ap (λ line. latch line ∷ rest) (latch_same m (latch_of_text net l)) ∙ ap (λ more. latch (latch_of_text net l) ∷ more) (latches_walked ls items)
 
   walked_by : events_by deeper depth models top m [] n (model_of_text net).body
       ≡ latch_events (map (latch_of_text net) net.latches) ++ gate_events (map (gate_of_text net) net.gates)

@@ -1,22 +1,25 @@
 -- The lines of a written netlist link to the netlist.
 use Rattle.std.proofs.Common.{◌≡◌, ◌&&◌, ◌||◌, ℕ, zero, suc, ◌<◌, not, Bool, true, false, List, [], ◌∷◌, ◌++◌, length, map, get_or, refl, sym, ap, ◌∙◌, subst, arith, eq-eqb, if◌then◌else◌, None, Some, option_map, is_some, Ok, Err, cond}
-use Rattle.blif_write.proofs.Common.{All, IfSome, flat_map, list_any, bytes_eq, Option, length-map, All-head, All-tail, Sig, Clock, Edge, Rise, Fall, Gate, Latch, Parts, signal, signal_names, driven_names, IsNetlist, IsClockName, BlifModel, GateLine, LatchLine, name_of}
+use Rattle.blif_write.proofs.Common.{All, IfSome, flat_map, list_any, bytes_eq, Option, All-head, All-tail, Sig, Clock, Edge, Rise, Fall, Gate, Latch, Parts, signal, signal_names, driven_names, IsNetlist, IsClockName, BlifModel, GateLine, LatchLine, name_of}
 use Rattle.std.specs.Prelude.{codes, filter}
 use Rattle.std.specs.List.{find, position_or_len, IsDistinct, AllByRecursion}
 use Rattle.std.specs.Option.{option_or, option_and_then, option_map_or}
-use Rattle.std.proofs.lemmas.List.{length-append}
 use Rattle.std.proofs.lemmas.List.Elements.{All-nil, All-cons, All-append}
 use Rattle.std.proofs.lemmas.List.Folds.{list_any-append}
-use Rattle.netlist.specs.Netlists.{count, sig_eq, IsSignal}
+use Rattle.std.proofs.lemmas.Bool.{or_right, or_parts}
+use Rattle.cyc_base.proofs.ListLemmas.{map-map}
+use Rattle.cyc_base.proofs.NameLemmas.{bytes_eq-true}
+use Rattle.netlist.specs.Netlists.{sig_eq, IsSignal}
 use Rattle.netlist.specs.Faults.{repeat_after}
 use Rattle.netlist.proofs.Differ.{no_repeat_from_differ}
+use Rattle.netlist.proofs.NameLemmas.{length-signal_names}
 use Rattle.flatten.specs.declared.fault.FlatFault.{FlatFault}
 use Rattle.flatten.specs.declared.fault.FlatFault.TheVariants.{DeclaredTwice, DrivenTwice, Undriven, BadClock, ClockRead}
 use Rattle.flatten.specs.Instances.{is_among}
 use Rattle.flatten.specs.Linking.{twice_after, first_twice, each_once, own_clocks, latch_outputs, gate_outputs, drivers, reads, has_control, first_control, edge_eq, is_fitting, has_bad_control, link_fault, signal_list, sig_of, latch_with, gate_with, netlist_by, linked}
-use Rattle.flatten.proofs.Names.{bytes_same, bytes_refl, bytes_sym}
+use Rattle.flatten.proofs.Names.{bytes_refl, bytes_sym}
 use Rattle.flatten.proofs.Placing.{step_yes, step_no}
-use Rattle.blif_write.proofs.NameLemmas.{driven_any, or_right}
+use Rattle.blif_write.proofs.NameLemmas.{driven_any}
 use Rattle.blif_write.proofs.Said.{control_if, clock_names, latch_of_text, gate_of_text, model_of_text}
 use Rattle.blif_write.proofs.Flattened.{lines_of_text}
 
@@ -44,14 +47,10 @@ distinct_front (x ∷ xs) ys d = (front xs d.0, distinct_front xs ys d.1)
     front [] a = tt
     front (z ∷ zs) a = (a.0, front zs a.1)
 
-or_false : (a b : Bool) → (a || b) ≡ false → (a ≡ false) × (b ≡ false)
-or_false true b e = cc
-or_false false b e = (refl, e)
-
 each_apart : (name : List ℕ) (names : List (List ℕ)) → is_among names name ≡ false → AllByRecursion (λ y. bytes_eq name y ≡ false) names
 each_apart name [] e = tt
 each_apart name (other ∷ names) e =
-    let both = or_false (bytes_eq name other) (is_among names name) e in
+    let both = or_parts (bytes_eq name other) (is_among names name) e in
     (both.0, each_apart name names both.1)
 
 -- a name that is none of these may stand anywhere among them
@@ -60,7 +59,7 @@ put_in : (name : List ℕ) (xs ys : List (List ℕ)) → IsDistinct bytes_eq (xs
 unfolding IsDistinct
 put_in name [] ys d no_x no_y = (each_apart name ys no_y, d)
 put_in name (x ∷ xs) ys d no_x no_y =
-    let both = or_false (bytes_eq name x) (is_among xs name) no_x in
+    let both = or_parts (bytes_eq name x) (is_among xs name) no_x in
     (longer xs d.0 (bytes_sym x name ∙ both.0), put_in name xs ys d.1 both.1 no_y)
   where
     longer : (zs : List (List ℕ)) → AllByRecursion (λ y. bytes_eq x y ≡ false) (zs ++ ys) → bytes_eq x name ≡ false
@@ -91,10 +90,6 @@ among_at (x ∷ names) (suc i) l = or_right (bytes_eq (get_or names i []) x) _ (
 
 -- The signals of a netlist and their names.
 
-map_twice : {X Y Z : Type 0} (g : Y → Z) (f : X → Y) (xs : List X) → map g (map f xs) ≡ map (λ x. g (f x)) xs
-map_twice g f [] = refl
-map_twice g f (x ∷ xs) = ap (λ rest. g (f x) ∷ rest) (map_twice g f xs)
-
 map_all : {X : Type 0} (P : X → Type 0) (f : X → X) → ((x : X) → P x → f x ≡ x) → (xs : List X) → All P xs → map f xs ≡ xs
 map_all P f same [] each = refl
 map_all P f same (x ∷ xs) each =
@@ -102,28 +97,18 @@ map_all P f same (x ∷ xs) each =
 
 driven_are : (net : Parts) → latch_outputs (lines_of_text net) ++ gate_outputs (lines_of_text net) ≡ driven_names net
 driven_are net =
-    ap (λ names. names ++ gate_outputs (lines_of_text net)) (map_twice (λ (l : LatchLine). l.output) (latch_of_text net) net.latches)
-    ∙ ap (λ names. map (λ (latch : Latch). latch.name) net.latches ++ names) (map_twice (λ (g : GateLine). g.output) (gate_of_text net) net.gates)
+    ap (λ names. names ++ gate_outputs (lines_of_text net)) (map-map (λ (l : LatchLine). l.output) (latch_of_text net) net.latches)
+    ∙ ap (λ names. map (λ (latch : Latch). latch.name) net.latches ++ names) (map-map (λ (g : GateLine). g.output) (gate_of_text net) net.gates)
 
 signals_are : (net : Parts) → signal_list (model_of_text net) (lines_of_text net) ≡ signal_names net
 signals_are net = ap (λ names. net.inputs ++ names) (driven_are net)
 
-pub name_count : (net : Parts) → length (signal_names net) ≡ count net
-name_count net =
-    omega (
-      arith,
-      length-append net.inputs (driven_names net),
-      length-append (map (λ (latch : Latch). latch.name) net.latches) (map (λ (gate : Gate). gate.name) net.gates),
-      length-map net.latches (λ (latch : Latch). latch.name),
-      length-map net.gates (λ (gate : Gate). gate.name),
-    )
-
 sig_same : (net : Parts) → IsNetlist net → (s : Sig) → IsSignal net s → sig_of (signal_names net) (name_of net s) ≡ s
-sig_same net valid s is = ap signal (place_of (signal_names net) s.0 valid.names_differ (omega (arith, is, name_count net)))
+sig_same net valid s is = ap signal (place_of (signal_names net) s.0 valid.names_differ (omega (arith, is, length-signal_names net)))
 
 sigs_same : (net : Parts) → IsNetlist net → (sigs : List Sig) → All (IsSignal net) sigs → map (sig_of (signal_names net)) (map (name_of net) sigs) ≡ sigs
 sigs_same net valid sigs each =
-    map_twice (sig_of (signal_names net)) (name_of net) sigs
+    map-map (sig_of (signal_names net)) (name_of net) sigs
     ∙ map_all (IsSignal net) (λ s. sig_of (signal_names net) (name_of net s)) (sig_same net valid) sigs each
 
 -- The clock.
@@ -166,7 +151,7 @@ no_signal net (Some clock) name fits among = by (is_among net.inputs clock.name)
     apart : is_among net.inputs clock.name ≡ false → (t : Bool) → bytes_eq name clock.name ≡ t → t ≡ false
     apart e false same = refl
     apart e true same =
-        let is : name ≡ clock.name = bytes_same name clock.name same in
+        let is : name ≡ clock.name = bytes_eq-true name clock.name same in
         let there : is_among (signal_names net) clock.name ≡ true = ap (is_among (signal_names net)) (sym is) ∙ among in
         let split = list_any-append (bytes_eq clock.name) net.inputs (driven_names net) in
         let none : is_among (signal_names net) clock.name ≡ false = split ∙ ap (λ b. b || is_among (driven_names net) clock.name) e ∙ driven_any net clock.name ∙ fits.undriven in
@@ -182,7 +167,7 @@ abbrev IsRead : Parts → List ℕ → Type 0
 IsRead net name = is_among (signal_names net) name ≡ true
 
 read_signal : (net : Parts) (s : Sig) → IsSignal net s → IsRead net (name_of net s)
-read_signal net s is = among_at (signal_names net) s.0 (omega (arith, is, name_count net))
+read_signal net s is = among_at (signal_names net) s.0 (omega (arith, is, length-signal_names net))
 
 All-mapped : {X Y : Type 0} (P : X → Type 0) (Q : Y → Type 0) (f : X → Y) → ((x : X) → P x → Q (f x)) → (xs : List X) → All P xs → All Q (map f xs)
 All-mapped P Q f gives [] each = All-nil Q
@@ -236,7 +221,7 @@ sigs_apart net valid a b is_a is_b differ = by (bytes_eq (name_of net a) (name_o
     by : (t : Bool) → bytes_eq (name_of net a) (name_of net b) ≡ t → t ≡ false
     by false e = refl
     by true e =
-        let same : name_of net a ≡ name_of net b = bytes_same _ _ e in
+        let same : name_of net a ≡ name_of net b = bytes_eq-true _ _ e in
         let is : a ≡ b = sym (sig_same net valid a is_a) ∙ ap (sig_of (signal_names net)) same ∙ sig_same net valid b is_b in
         let same_sig : sig_eq a b ≡ true = ap (λ s. sig_eq s b) is ∙ eq-eqb b.0 b.0 refl in
         cc
@@ -313,7 +298,7 @@ fitting net clock e is =
     all_true a b c d e f g h = rw (e, f, g, h) refl
 
     other_name : (t : Bool) → bytes_eq clock.name (codes "NIL") ≡ t → bytes_eq clock.name (codes "NIL") ≡ false
-    other_name true same = absurd (is.named (bytes_same clock.name (codes "NIL") same))
+    other_name true same = absurd (is.named (bytes_eq-true clock.name (codes "NIL") same))
     other_name false same = same
 
     either : (t : Bool) → (t || is_among (if t then [] else clock.name ∷ []) clock.name) ≡ true
@@ -416,10 +401,10 @@ linked_again net valid =
     let each : All (IsLatchOf net) net.latches = λ k d l. record { from = valid.sources k d l; clocked = clocked k d l } in
     ap (λ clock. made clock ls gs outs) (control_is net valid)
     ∙ ap (λ latches. made net.clock latches gs outs)
-    (map_twice (latch_with sig) (latch_of_text net) net.latches
+    (map-map (latch_with sig) (latch_of_text net) net.latches
     ∙ map_all (IsLatchOf net) (λ latch. latch_with sig (latch_of_text net latch)) (latch_again net valid) net.latches each)
     ∙ ap (λ gates. made net.clock net.latches gates outs)
-    (map_twice (gate_with sig) (gate_of_text net) net.gates
+    (map-map (gate_with sig) (gate_of_text net) net.gates
     ∙ map_all (λ (gate : Gate). All (IsSignal net) gate.pins) (λ gate. gate_with sig (gate_of_text net gate)) (gate_again net valid) net.gates valid.pins)
     ∙ ap (λ outputs. made net.clock net.latches net.gates outputs) (sigs_same net valid net.outputs valid.outputs)
 

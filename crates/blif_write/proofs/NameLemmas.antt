@@ -1,18 +1,17 @@
 -- Names of signals, and the last words of lines.
-use Rattle.std.proofs.Common.{◌≡◌, ◌||◌, ◌==◌, ℕ, zero, suc, ◌-◌, ◌<◌, Bool, true, false, List, [], ◌∷◌, length, map, get_or, refl, sym, ap, ◌∙◌, subst, arith, Some}
+use Rattle.std.proofs.Common.{◌≡◌, ◌||◌, ◌==◌, ℕ, zero, suc, ◌-◌, ◌<◌, true, false, List, [], ◌∷◌, length, map, get_or, refl, sym, ap, ◌∙◌, subst, arith, Some}
 use Rattle.blif_write.proofs.Common.{list_any, IfSome, Option, bytes_eq, Sig, Clock, Parts, Latch, Gate, signal, signal_names, driven_names, IsNetlist, IsClockName, name_of}
 use Rattle.std.specs.List.{slice_get}
 use Rattle.std.proofs.lemmas.Option.{get_or_from_slice_get}
 use Rattle.std.proofs.lemmas.List.{get_or_append_left, get_or_default, map-id}
 use Rattle.std.proofs.lemmas.List.Folds.{list_any-append}
 use Rattle.std.proofs.lemmas.Slice.Eq.{bytes_eq-Decides}
+use Rattle.std.proofs.lemmas.Bool.{or_left, or_right}
+use Rattle.cyc_base.proofs.ListLemmas.{list_any-map}
+use Rattle.cyc_base.proofs.TruthLemmas.{or_without_second}
 use Rattle.netlist.specs.Netlists.{is_driven}
 use Rattle.blif_text.specs.Texts.{ends_in_backslash}
 use Rattle.blif_write.specs.Putting.{last_word}
-
--- an item that was looked up by its place, as loops name it
-pub item_at : {X : Type 0} (xs : List X) (i : ℕ) (x : X) → slice_get xs i ≡ Some x → x ≡ get_or xs i x
-item_at xs i x e = sym (get_or_from_slice_get xs i x x e)
 
 pub named : (net : Parts) (s : Sig) (name : List ℕ) → slice_get (signal_names net) s.0 ≡ Some name → name ≡ name_of net s
 named net s name e = sym (get_or_from_slice_get (signal_names net) s.0 name [] e)
@@ -56,44 +55,28 @@ last_input_is net first l =
 
 -- A clock that a signal is named like is an input.
 
-any_mapped : {X Y : Type 0} (p : Y → Bool) (f : X → Y) (xs : List X) → list_any p (map f xs) ≡ list_any (λ x. p (f x)) xs
-any_mapped p f [] = refl
-any_mapped p f (x ∷ xs) = ap (λ b. p (f x) || b) (any_mapped p f xs)
-
-same_or : (b c : Bool) → b ≡ true → (b || c) ≡ true
-same_or true c e = refl
-same_or false c e = cc
-
-pub or_right : (b c : Bool) → c ≡ true → (b || c) ≡ true
-or_right true c e = refl
-or_right false c e = e
-
 found_any : (names : List (List ℕ)) (i : ℕ) (name : List ℕ) → slice_get names i ≡ Some name → list_any (bytes_eq name) names ≡ true
 found_any [] i name e = cc
 found_any (other ∷ names) zero name e =
-    same_or (bytes_eq name other) _ ((bytes_eq-Decides name other).1 (cc))
+    or_left (bytes_eq name other) _ ((bytes_eq-Decides name other).1 (cc))
 found_any (other ∷ names) (suc i) name e = or_right (bytes_eq name other) _ (found_any names i name e)
 
 pub driven_any : (net : Parts) (name : List ℕ) → list_any (bytes_eq name) (driven_names net) ≡ is_driven net name
 driven_any net name =
     list_any-append (bytes_eq name) (map (λ (l : Latch). l.name) net.latches) (map (λ (g : Gate). g.name) net.gates)
-    ∙ ap (λ b. b || list_any (bytes_eq name) (map (λ (g : Gate). g.name) net.gates)) (any_mapped (bytes_eq name) (λ (l : Latch). l.name) net.latches)
-    ∙ ap (λ b. list_any (λ (l : Latch). bytes_eq name l.name) net.latches || b) (any_mapped (bytes_eq name) (λ (g : Gate). g.name) net.gates)
+    ∙ ap (λ b. b || list_any (bytes_eq name) (map (λ (g : Gate). g.name) net.gates)) (list_any-map (bytes_eq name) (λ (l : Latch). l.name) net.latches)
+    ∙ ap (λ b. list_any (λ (l : Latch). bytes_eq name l.name) net.latches || b) (list_any-map (bytes_eq name) (λ (g : Gate). g.name) net.gates)
 
 undriven : (net : Parts) (clock : Clock) → IsNetlist net → net.clock ≡ Some clock → is_driven net clock.name ≡ false
 undriven net clock valid e =
     let P = λ (o : Option Clock). IfSome o (λ (clock : Clock). IsClockName net clock.name) in
     (subst P e valid.clock).undriven
 
-or_false : (b c : Bool) → c ≡ false → (b || c) ≡ b
-or_false true c e = refl
-or_false false c e = e
-
 any_signal : (net : Parts) (clock : Clock) → IsNetlist net → net.clock ≡ Some clock
     → list_any (bytes_eq clock.name) (signal_names net) ≡ list_any (bytes_eq clock.name) net.inputs
 any_signal net clock valid e =
     list_any-append (bytes_eq clock.name) net.inputs (driven_names net)
-    ∙ or_false _ _ (driven_any net clock.name ∙ undriven net clock valid e)
+    ∙ or_without_second _ _ (driven_any net clock.name ∙ undriven net clock valid e)
 
 pub clock_is_input : (net : Parts) (clock : Clock) (s : Sig) → IsNetlist net → net.clock ≡ Some clock
     → slice_get (signal_names net) s.0 ≡ Some clock.name → true ≡ list_any (bytes_eq clock.name) net.inputs

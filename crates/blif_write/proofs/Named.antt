@@ -10,8 +10,8 @@ use Rattle.netlist.specs.declared.parts.Init.TheVariants as starts
 use Rattle.netlist.specs.Netlists.{IsSignal}
 use Rattle.netlist.specs.Faults.{is_blif_name}
 use Rattle.netlist.proofs.Decisions.{is_blif_name_decides}
+use Rattle.netlist.proofs.NameLemmas.{length-signal_names}
 use Rattle.blif_write.specs.Written.{head_lines}
-use Rattle.blif_write.proofs.Linked.{name_count}
 
 cons_filled : {X : Type 0} (x : X) (xs : List X) → (x ∷ xs) ≢ []
 cons_filled x xs e = cc
@@ -32,7 +32,7 @@ front_named (x ∷ xs) ys each =
     All-cons IsBlifName x xs (All-head IsBlifName x (xs ++ ys) each) (front_named xs ys (All-tail IsBlifName x (xs ++ ys) each))
 
 signal_named : (net : Parts) → IsNetlist net → (s : Sig) → IsSignal net s → IsBlifName (name_of net s)
-signal_named net valid s is = All-get_or IsBlifName (signal_names net) s.0 [] (omega (arith, is, name_count net)) valid.names
+signal_named net valid s is = All-get_or IsBlifName (signal_names net) s.0 [] (omega (arith, is, length-signal_names net)) valid.names
 
 signals_named : (net : Parts) → IsNetlist net → (sigs : List Sig) → All (IsSignal net) sigs → All IsBlifName (map (name_of net) sigs)
 signals_named net valid [] each = All-nil IsBlifName

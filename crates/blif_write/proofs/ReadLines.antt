@@ -2,6 +2,7 @@
 use Rattle.std.proofs.Common.{◌≡◌, List, [], ◌∷◌, ◌++◌, ℕ, true, false, refl, sym, ap, ◌∙◌, append_assoc, append-nil}
 use Rattle.blif_write.proofs.Common.{All, All-tail, numbered, line_text}
 use Rattle.std.specs.Prelude.{codes, Bool, ◌&&◌, if◌then◌else◌, Ok}
+use Rattle.std.proofs.lemmas.Bool.{and_right}
 use Rattle.cyc_base.specs.Names.{IsBlifName}
 use Rattle.blif_text.specs.Texts.{ends_in_backslash, lines}
 use Rattle.blif_text.proofs.Pieces.{ends_behind}
@@ -46,12 +47,8 @@ ends_closed : (t : Bool) (xs : List ℕ) → ends_in_backslash xs ≡ t → ends
 ends_closed true xs is = ends_behind xs 32 [] refl
 ends_closed false xs is = ap ends_in_backslash (append-nil xs) ∙ is
 
-and_false : (t u : Bool) → u ≡ false → (t && u) ≡ false
-and_false true u is = is
-and_false false u is = refl
-
 not_joined : (joins : Bool) (ws : List (List ℕ)) → All IsBlifName ws → (joins && ends_in_backslash (line_of closes ws)) ≡ false
-not_joined joins ws each = and_false joins (ends_in_backslash (line_of closes ws)) (ends_closed (closes ws) (spaced ws) (ends_spaced ws each))
+not_joined joins ws each = and_right joins (ends_in_backslash (line_of closes ws)) (ends_closed (closes ws) (spaced ws) (ends_spaced ws each))
 
 pub written_lines : (written : List (List (List ℕ))) (joins : Bool) → All IsLine written → lines (text_of written) joins ≡ Ok (numbered 1 written)
 written_lines written joins each = texts.written_lines line_text closes line_is joins (not_joined joins) written each

@@ -2,11 +2,11 @@
 use Rattle.std.proofs.Common.{◌≡◌, ◌+◌, ◌≤◌, ℕ, Bool, true, false, [], ◌∷◌, length, map, ap, ◌∙◌, refl, None, Some, Ok}
 use Rattle.blif_write.proofs.Common.{All, IfSome, Option, Clock, Parts, IsNetlist, IsClockName, numbered, lines_of}
 use Rattle.std.specs.Prelude.{codes, bytes_eq}
+use Rattle.cyc_base.proofs.NameLemmas.{bytes_eq-true}
 use Rattle.blif_read.specs.Models.{models}
 use Rattle.blif_read.specs.Statements.{statement}
 use Rattle.blif_read.specs.Reads.{reads, reads_lines, unless_fault, if_any}
 use Rattle.flatten.specs.Flat.{flat_within, flat_from, linked_lines}
-use Rattle.flatten.proofs.Names.{bytes_same}
 use Rattle.blif_write.specs.Written.{written}
 use Rattle.blif_write.specs.Laws.{HasCovers, WrittenReadsBack}
 use Rattle.blif_write.proofs.ReadLines.{written_lines}
@@ -24,7 +24,7 @@ clock_is_named net None is = tt
 clock_is_named net (Some clock) is = by (bytes_eq clock.name (codes "NIL")) refl
   where
     by : (t : Bool) → bytes_eq clock.name (codes "NIL") ≡ t → t ≡ false
-    by true same = absurd (is.named (bytes_same clock.name (codes "NIL") same))
+    by true same = absurd (is.named (bytes_eq-true clock.name (codes "NIL") same))
     by false same = refl
 
 read_again : (net : Parts) → IsNetlist net → HasCovers net → reads (written net) ≡ Ok (model_of_text net ∷ [])

@@ -1,3 +1,5 @@
+-- The chapter: what the contracts of public functions say.
 pub mod Written
-pub mod Putting
 pub mod Laws
+-- The code's own: what its parts say to each other.
+pub mod Putting

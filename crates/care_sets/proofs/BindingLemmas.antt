@@ -1,5 +1,5 @@
 -- The columns that a care model's inputs name.
-use Rattle.std.proofs.Common.{◌≡◌, ℕ, ◌+◌, ◌<◌, ◌≤◌, nat_lt, true, false, cond, List, [], ◌∷◌, ◌++◌, length, map, get_or, slice_get, take, drop, Option, Some, None, refl, sym, ap, ap₂, subst, ◌∙◌, arith, inl, inr, ◌⊎◌}
+use Rattle.std.proofs.Common.{◌≡◌, ℕ, ◌+◌, ◌<◌, ◌≤◌, nat_lt, false, cond, List, [], ◌∷◌, ◌++◌, length, map, get_or, slice_get, take, drop, Option, Some, None, refl, sym, ap, ap₂, subst, ◌∙◌, arith, inl, inr, ◌⊎◌}
 use Rattle.std.specs.List.{All, position_from, list_any}
 use Rattle.std.specs.Prelude.{find, option_map, is_none}
 use Rattle.std.specs.Option.{option_or, option_map_or}
@@ -11,7 +11,7 @@ use Rattle.std.proofs.lemmas.List.Folds.{find-append, find_at}
 use Rattle.std.proofs.lemmas.List.Quantifiers.{position-Some}
 use Rattle.std.proofs.lemmas.Iterator.Adapters.{position_from-zero}
 use Rattle.std.proofs.lemmas.Option.{get_or_from_slice_get, slice_get_within, slice_get-get_or, slice_get_past}
-use Rattle.std.proofs.lemmas.Slice.Eq.{bytes_eq-Decides}
+use Rattle.cyc_base.proofs.NameLemmas.{bytes_eq-same}
 use Rattle.netlist.specs.declared.parts.Parts.{Parts}
 use Rattle.netlist.specs.Netlists.{signal_names, driven_names, IsNetlist}
 use Rattle.netlist.proofs.Decisions.{found_none, none_found}
@@ -20,9 +20,6 @@ use Rattle.care_sets.specs.Binding.{column_of, AreColumnsOf, IsUnknownName, is_u
 use Rattle.care_sets.proofs.NameLemmas.{gate_names, names_split, length-column_names, length-names, others_differ, absent_at, place_of}
 use Rattle.care_sets.specs.declared.fault.CareFault.{CareFault}
 use Rattle.care_sets.specs.declared.fault.CareFault.TheVariants.{UnknownName, Memory}
-
-same-true : (a b : List ℕ) → a ≡ b → bytes_eq a b ≡ true
-same-true a b e = (bytes_eq-Decides a b).1 e
 
 -- the names of the columns come first
 name_of_column : (net : Parts) (k : ℕ) → k < columns net → get_or (signal_names net) k [] ≡ get_or (column_names net) k []
@@ -37,7 +34,7 @@ column_found net name s h found inside =
     place_of (bytes_eq name) (column_names net) s
     (position_or_len_is (bytes_eq name) (column_names net) s [] (omega (arith, length-column_names net))
     (λ k lt. ap (bytes_eq name) (sym (name_of_column net k (omega arith))) ∙ others_differ (signal_names net) name s k h.names_differ found (omega (arith, length-names net)) (omega arith))
-    (λ _. same-true name (get_or (column_names net) s []) (sym is ∙ name_of_column net s inside)))
+    (λ _. bytes_eq-same name (get_or (column_names net) s []) (sym is ∙ name_of_column net s inside)))
     (omega (arith, length-column_names net))
 
 none_of_column : (net : Parts) (name : List ℕ) → ((k : ℕ) → k < columns net → bytes_eq name (get_or (signal_names net) k []) ≡ false) → None ≡ column_of net name
@@ -164,7 +161,7 @@ no_early_name net first names columns h e =
     ∙ slice_get_past names (length names) (omega arith)
 
 -- each column that a name has is one of the netlist
-column_within : (net : Parts) (name : List ℕ) (column : ℕ) → column_of net name ≡ Some column → column < columns net
+pub column_within : (net : Parts) (name : List ℕ) (column : ℕ) → column_of net name ≡ Some column → column < columns net
 column_within net name column e =
     let at = position-Some (bytes_eq name) (column_names net) column [] e in
     omega (arith, at.0, length-column_names net)

@@ -95,7 +95,7 @@ one_fault net first model f g (inl is) (inr alone) = let none : fault_but_loops 
 one_fault net first model f g (inr alone) (inl is) = let none : fault_but_loops net first model ≡ None = alone.others in cc
 one_fault net first model f g (inr alone) (inr alone') = alone.loops.is ∙ sym alone'.loops.is
 
-passing : (net : Parts) (first : ℕ) (model : Option Parts) (fault : CareFault) → IfSome model (HasNoFault net first) → IsSomeAnd model (IsFaultOf net first fault) → ⊥
+pub passing : (net : Parts) (first : ℕ) (model : Option Parts) (fault : CareFault) → IfSome model (HasNoFault net first) → IsSomeAnd model (IsFaultOf net first fault) → ⊥
 passing net first None fault passes fails = absurd fails
 passing net first (Some m) fault passes fails = no_fault_there net first m fault passes fails
 
@@ -118,7 +118,7 @@ first_fault_is_one net a i f g (inr (inl fails)) (inr (inr later)) = absurd (pas
 first_fault_is_one net a i f g (inr (inr later)) (inr (inl fails)) = absurd (passing net 0 a g later.assume_passes fails)
 first_fault_is_one net a i f g (inr (inr later)) (inr (inr later')) = one_of net (length net.inputs) i f g later.invariant_fails later'.invariant_fails
 
-none_there : (a i : Option Parts) → a ≡ None → i ≡ None → (is_some a || is_some i) ≡ true → ⊥
+pub none_there : (a i : Option Parts) → a ≡ None → i ≡ None → (is_some a || is_some i) ≡ true → ⊥
 none_there None None e k h = cc
 none_there None (Some m) e k h = cc
 none_there (Some m) i e k h = cc

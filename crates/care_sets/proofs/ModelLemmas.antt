@@ -1,20 +1,15 @@
 -- The output of a care model, among the values of its signals.
 use Rattle.std.proofs.Common.{◌≡◌, ℕ, ◌+◌, ◌-◌, ◌<◌, Bool, false, List, [], ◌∷◌, length, map, get_or, refl, sym, ap, ◌∙◌, arith}
-use Rattle.std.proofs.lemmas.List.{get_or-map, length-append, length-map}
+use Rattle.std.proofs.lemmas.List.{get_or-map, length-map}
 use Rattle.cyc_base.specs.declared.sig.Sig.{Sig}
 use Rattle.cyc_base.specs.declared.trit.Trit.{Trit}
 use Rattle.cyc_base.specs.declared.trit.Trit.TheVariants.{X}
 use Rattle.cyc_base.specs.Values.{bit, bits}
-use Rattle.netlist.specs.declared.parts.Parts.{Parts}
 use Rattle.netlist.specs.Netlists.{count, IsNetlist}
-use Rattle.netlist.specs.Fixpoint.{wire, fix, fix_gates}
-use Rattle.netlist.proofs.FixpointLemmas.{length-steps}
+use Rattle.netlist.specs.Fixpoint.{wire, fix}
+use Rattle.netlist.proofs.FixpointLemmas.{length-fix}
 use Rattle.care_sets.specs.declared.model.CareModel.{CareModel}
 use Rattle.care_sets.specs.Care.{inputs_at, holds_at, is_one}
-
--- the fixpoint has a value for each signal
-pub length-fix : (net : Parts) (v : List Trit) → length v ≡ length net.inputs + length net.latches → length (fix net v) ≡ count net
-length-fix net v w = omega (arith, length-append v (fix_gates net v), length-steps net v (length net.gates))
 
 -- the given values of the model's inputs
 abbrev pub given_at : CareModel → List Bool → List Trit

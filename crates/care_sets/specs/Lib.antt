@@ -1,3 +1,4 @@
-pub mod Binding
+-- The chapter: what the contracts of public functions say.
 pub mod Care
+pub mod Binding
 pub mod Laws

@@ -3,7 +3,7 @@ use Rattle.std.proofs.Common.{◌≡◌, ◌≢◌, ℕ, suc, ◌<◌, ◌+◌, 
 use Rattle.std.specs.List.{All}
 use Rattle.clause_decision.proofs.Common.{length-map, get_or_default, All-cons, Contains-get_or, Trit, Zero, One, X, bit, bits, Below, Parts, IsNetlist, fix_gates, Cut, Loops, CutsAreFixed, cuts_of, sweeps, value_in, map_agree, cut_values_agree, fixed_cuts_give_fix, CareSet, state_of, is_allowed, is_in_invariant, IsCareVector, Formula, Rails, says, negation, IsModel, Reads, rails_at, is_known, ReadsPlaces, says-negation, problem, HasNoModelUnder, models-same, change_literals, AreFedKnown, column_rails, vector_in, ReadsFix, IsCone, AreCutPlaces, LoopAt, IsLoopAt, gates_in, loops_in, is_marked, AreClosed, AreTooFewAt, TellsTooFew}
 use Rattle.std.proofs.lemmas.List.Elements.{All-contains}
-use Rattle.cyc_base.proofs.OrderLemmas.{EachBelow-at}
+use Rattle.cyc_base.proofs.OrderLemmas.{EachBelow-at, Below-known}
 use Rattle.loops.specs.Sweeps.{cuts}
 use Rattle.loops.proofs.Sweeps.{still_is_fix, sweeps_rise}
 use Rattle.ternary_clauses.specs.Sweeps.{ReadsOutside}
@@ -11,7 +11,7 @@ use Rattle.clause_queries.specs.declared.query.Reply.{Reply}
 use Rattle.clause_queries.specs.declared.query.Reply.TheVariants as replies
 use Rattle.clause_decision.specs.Changes.{HasChange, ChangesAfter, StandAfter, TellsChange, TellsChangeAfter}
 use Rattle.clause_decision.proofs.FormulaLemmas.{ones-read}
-use Rattle.clause_decision.proofs.SignalLemmas.{known-below, column_rails-length, gate-read, three}
+use Rattle.clause_decision.proofs.SignalLemmas.{column_rails-length, gate-read, three}
 use Rattle.clause_decision.proofs.LoopLemmas.{are-loops, cut-of, of-loop}
 use Rattle.clause_decision.proofs.SweepingLemmas.{fed-read, outside-of-fix}
 use Rattle.clause_decision.proofs.UnknownLemmas.{unknown-value}
@@ -138,7 +138,7 @@ module _ (l : LoopAt) (is_loop : IsLoopAt l) where
         below = EachBelow-at (sweeps l.net (loops_in l) (bits v) k) (sweeps l.net (loops_in l) (bits v) (suc k)) n (sweeps_rise l.net (loops_in l) (bits v) k)
 
         known : value_in (sweeps l.net (loops_in l) (bits v) k) n ≢ X → value_in (sweeps l.net (loops_in l) (bits v) (suc k)) n ≡ value_in (sweeps l.net (loops_in l) (bits v) k) n
-        known isnt = known-below (value_in (sweeps l.net (loops_in l) (bits v) k) n) (value_in (sweeps l.net (loops_in l) (bits v) (suc k)) n) below isnt
+        known isnt = Below-known (value_in (sweeps l.net (loops_in l) (bits v) k) n) (value_in (sweeps l.net (loops_in l) (bits v) (suc k)) n) below isnt
 
         by : (t : Trit) → value_in (sweeps l.net (loops_in l) (bits v) k) n ≡ t → value_in (sweeps l.net (loops_in l) (bits v) (suc k)) n ≡ value_in (sweeps l.net (loops_in l) (bits v) k) n
         by X is =

@@ -27,8 +27,8 @@ pub use Rattle.loops.specs.Looped.{Looped}
 pub use Rattle.loops.proofs.Reading.{map_agree}
 pub use Rattle.loops.proofs.Sweeps.{cut_values_agree, fixed_cuts_give_fix}
 pub use Rattle.loops.proofs.Told.{gate_home}
-pub use Rattle.loops.specs.Blocks.{AreBlocksOf, block_at, home_of}
-pub use Rattle.loops.specs.Cuts.{IsCutOf, Loops, is_cut, loops_by}
+pub use Rattle.loops.specs.Blocks.{block_at, home_of}
+pub use Rattle.loops.specs.Cuts.{Loops, is_cut}
 pub use Rattle.loops.specs.Sweeps.{CutsAreFixed, cuts_of, first_gate, gate_of, sweeps, value_in}
 pub use Rattle.loops.specs.declared.structure.Blocks.{Blocks}
 pub use Rattle.loops.specs.declared.structure.Cut.{Cut}

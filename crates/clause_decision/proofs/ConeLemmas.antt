@@ -7,11 +7,10 @@ use Rattle.std.proofs.lemmas.List.{ext_get_or}
 use Rattle.std.proofs.lemmas.List.Elements.{All-from_get_or}
 use Rattle.netlist.specs.declared.parts.Gate.{Gate}
 use Rattle.netlist.specs.Netlists.{IsSignal}
-use Rattle.ternary_clauses.specs.Encoding.{ReadsStill, HasState, AreNeverUnknown as AreNeverUnknownAmong}
+use Rattle.ternary_clauses.specs.Encoding.{ReadsStill, HasState}
 use Rattle.ternary_clauses.proofs.LawLemmas.{still_is_above_fix}
 use Rattle.ternary_clauses.proofs.ReadingLemmas.{Reads-more}
 use Rattle.clause_decision.specs.Formulas.{HasVector, IsCareFormula}
-use Rattle.clause_decision.specs.Scopes.{AreNeverUnknown}
 
 -- each pin of a marked gate is a column, or a gate that feeds it
 pub closed-by_pins : (net : Parts) (marks : List Bool) → IsNetlist net → AreClosed net marks → IsClosed net marks
@@ -32,10 +31,6 @@ closed-by_pins net marks proper closed n is =
           pin = subst (Contains (gate_at net n).pins) same (Contains-get_or (gate_at net n).pins i (signal 0) inside);
         })
         is.marked
-
--- a gate that no Boolean vector leaves unknown fits in each fixpoint
-pub known-among : (net : Parts) (marks known : List Bool) → AreNeverUnknown net known → AreNeverUnknownAmong net marks known
-known-among net marks known never v wide n is marked = never v wide n is.within marked
 
 -- the columns' rails come first
 pub column_rails-are : (net : Parts) (marks : List Bool) (given : List Rails) (old new : Formula) (rails : List Rails) → length given ≡ columns net → SaysNetlist net marks given old new rails → column_rails net rails ≡ given

@@ -1,12 +1,13 @@
 -- Setting the gates of a loop that read something new.
 use Rattle.std.proofs.Common.{◌≡◌, ◌≢◌, ◌⊎◌, inl, inr, ℕ, zero, suc, ◌+◌, ◌-◌, ◌*◌, ◌<◌, ◌≤◌, ◌==◌, Bool, true, false, ◌&&◌, leb, if◌then◌else◌, List, [], ◌∷◌, ◌++◌, length, drop, map, get_or, set, replicate, None, refl, sym, ap, ap₂, subst, ◌∙◌, arith, Contains, append-nil, true≢false}
-use Rattle.std.proofs.Math.Nat.{mul-le-mul_right}
 use Rattle.clause_decision.proofs.Common.{and_parts, length-set, Contains-append_left, Contains-push, Contains-push_cases, Sig, Trit, Zero, One, X, Below, gate_at, gate_sig, wire, home_of, is_cut, first_gate, gate_of, value_in, map_agree, IsSweeping, AreUnseen, IsReady, LoopAt, IsLoopAt, gates_in, AreReaders}
 use Rattle.std.proofs.lemmas.Bool.{cases_eq, leb-true}
 use Rattle.std.proofs.lemmas.List.{drop_more, get_or-set_same, get_or-set_other, length-append, length-replicate}
 use Rattle.std.proofs.lemmas.List.Elements.{Contains-append_cases, Contains-append_right}
+use Rattle.ternary_run.proofs.SettlingLemmas.{falls}
 use Rattle.cyc_base.specs.Values.{EachBelow}
-use Rattle.cyc_base.proofs.OrderLemmas.{Below-refl, Below-trans}
+use Rattle.cyc_base.proofs.OrderLemmas.{Below-refl, Below-trans, Below-unknown}
+use Rattle.cyc_base.proofs.ListLemmas.{Contains-nothing}
 use Rattle.cover_logic.specs.Extensions.{ext}
 use Rattle.netlist.proofs.FixpointLemmas.{known_count, known_count-le, same_or_more}
 use Rattle.loops.proofs.Sweeps.{ext_below}
@@ -15,9 +16,6 @@ use Rattle.clause_decision.specs.Events.{cover_value, IsDetermined, IsNewValue}
 use Rattle.clause_decision.specs.Simulations.{seen_of}
 
 -- ---- lists and values
-
-Contains-none : {A : Type 0} (x : A) → ¬ Contains [] x
-Contains-none x c = omega (arith, c.1)
 
 Contains-first : {A : Type 0} (x y : A) (xs : List A) → Contains (x ∷ xs) y → (x ≡ y) ⊎ Contains xs y
 Contains-first x y xs (zero, low, is) = inl is
@@ -48,11 +46,6 @@ same-or-unknown : (x y : Trit) → Below x y → (x ≡ X → y ≡ X) → x ≡
 same-or-unknown X y below unknown = sym (unknown refl)
 same-or-unknown Zero y below unknown = sym below
 same-or-unknown One y below unknown = sym below
-
-below-unknown : (x y : Trit) → Below x y → y ≡ X → x ≡ X
-below-unknown X y below is = refl
-below-unknown Zero y below is = sym below ∙ is
-below-unknown One y below is = sym below ∙ is
 
 -- a value that becomes known rises
 set-rises : (s : List Trit) (g : ℕ) (x : Trit) → g < length s → Below (value_in s g) x → (n : ℕ) → Below (value_in s n) (value_in (set s g x) n)
@@ -207,7 +200,7 @@ module _ (l : LoopAt) (outside : List Trit) where
       pub cut-set : is_cut l.cut.wires g ≡ true → IsSweeping l outside before (set after g value) rest
       cut-set cut =
           subst (λ (ns : List ℕ). IsSweeping l outside before (set after g value) ns) (append-nil rest)
-          (gate-set [] (λ n none. absurd (Contains-none n none))
+          (gate-set [] (λ n none. absurd (Contains-nothing n none))
           (λ n. subst (λ (t : Trit). Below (cover_value l outside before after n) t) (cut-still before after g value cut n) (Below-refl (cover_value l outside before after n)))
           (λ n there. inr (cut-still before after g value cut n)))
 
@@ -297,7 +290,7 @@ module _ (l : LoopAt) where
         | inl is ↦
             known
             (sym (get_or-set_same after g value X low) ∙ sym (ap (value_in (set after g value)) is) ∙ sym same ∙ ap (value_in before) is
-            ∙ below-unknown (value_in before g) (value_in after g) (h.below g inside cut) unknown)
+            ∙ Below-unknown (value_in before g) (value_in after g) (h.below g inside cut) unknown)
         | inr other ↦ elim (Contains-push_cases wires g n there) [
           | inl early ↦ differs n early (same ∙ get_or-set_other after g n value X other)
           | inr is ↦ other (sym is)
@@ -357,8 +350,8 @@ ready-first l outside before after waiting before_is after_is waiting_is = recor
     still = λ n there. inl (subst (λ (ns : List ℕ). Contains ns n) (sym waiting_is) there);
   };
   unseen = record {
-    inside = λ n none. absurd (Contains-none n none);
-    are = λ n none. absurd (Contains-none n none);
+    inside = λ n none. absurd (Contains-nothing n none);
+    are = λ n none. absurd (Contains-nothing n none);
     below = λ n there is. subst (λ (t : Trit). Below t (value_in after n)) (sym (unknown before before_is n)) tt;
     each = λ n there is. inl (unknown before before_is n ∙ sym (unknown after after_is n));
   };
@@ -403,9 +396,6 @@ more-known values g value low unknown known =
 -- the values that are still unknown and the gates that wait, so weighed that it falls when a gate is set
 pub work_left : ℕ → List Trit → List ℕ → ℕ
 work_left most values waiting = (length values - known_count values) * suc most + length waiting
-
-falls : (a b most before after : ℕ) → a < b → after ≤ before + most → a * suc most + after < b * suc most + suc before
-falls a b most before after less few = let weighed : suc a * suc most ≤ b * suc most = mul-le-mul_right (suc most) less in omega (arith, weighed, few)
 
 pub work_left-set : (readers : List (List ℕ)) (values : List Trit) (g : ℕ) (rest more : List ℕ) (value : Trit) → g < length values → value_in values g ≡ X → value ≢ X → length more ≤ total readers →
     work_left (total readers) (set values g value) (rest ++ more) < work_left (total readers) values (rest ++ g ∷ [])

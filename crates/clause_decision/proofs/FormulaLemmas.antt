@@ -1,9 +1,8 @@
 -- Formulas over columns, and literals that tell tests of their vectors.
 use Rattle.std.proofs.Common.{◌≡◌, ℕ, zero, suc, ◌*◌, ◌<◌, Bool, true, false, ◌&&◌, List, [], ◌∷◌, ◌++◌, length, map, drop, refl, sym, ap, ap₂, ◌∙◌, subst, arith}
-use Rattle.clause_decision.proofs.Common.{list_all, and_parts, length-map, All-map, Trit, bit, bits, Parts, CareSet, columns, state_of, is_allowed, is_in_invariant, is_care_vector, Formula, Rails, SaysColumns, says, IsModel, HasModelFrom, Grows, ReadsAll, AreWithin, is_one, All-within-more, ReadsAll-more, problem, Asks, models-same, SaysTest, IsOver}
+use Rattle.clause_decision.proofs.Common.{list_all, and_parts, length-map, All-map, Trit, bits, Parts, CareSet, columns, state_of, is_allowed, is_in_invariant, is_care_vector, Formula, Rails, SaysColumns, says, IsModel, HasModelFrom, Grows, ReadsAll, AreWithin, All-within-more, ReadsAll-more, problem, Asks, models-same, SaysTest, IsOver, bit, is_one}
 use Rattle.std.specs.List.{All}
-use Rattle.ternary_clauses.specs.Formulas.{holds, IsFormula}
-use Rattle.ternary_clauses.proofs.GrowthLemmas.{Grows-refl, model-here}
+use Rattle.ternary_clauses.specs.Formulas.{holds}
 use Rattle.clause_decision.specs.Formulas.{IsCareFormula}
 
 -- ---- readings of lists
@@ -71,15 +70,6 @@ over-grows old new rails width over grows complete = record {
 }
 
 -- ---- literals of tests
-
--- the literal 0 is true
-pub says-true : (f : Formula) (rails : List Rails) (test : List Bool → Bool) → IsFormula f → ((v : List Bool) → test v ≡ true) → SaysTest f f rails test 0
-says-true f rails test formula passes = record {
-  grows = Grows-refl f formula;
-  within = let s = formula.some in omega (arith, s);
-  says_it = λ m values is reads. formula.truth m is ∙ sym (passes values);
-  complete = λ m values long is reads. model-here f m long is;
-}
 
 -- the care set's literals
 pub care-formula : (net : Parts) (care : CareSet) (old mid new : Formula) (rails : List Rails) (inside allowed : ℕ) → IsOver old rails (columns net) →

@@ -5,12 +5,13 @@ use Rattle.clause_decision.proofs.Common.{cases_lt, and_parts, eq-eqb, length-ma
 use Rattle.std.proofs.lemmas.List.{length_push}
 use Rattle.std.proofs.lemmas.List.FromFn.{length-range_with_len}
 use Rattle.std.proofs.lemmas.List.Elements.{filter_more}
+use Rattle.cyc_base.proofs.ListLemmas.{Contains-filter, Contains-range, filter-no_longer}
+use Rattle.cyc_base.proofs.TruthLemmas.{same_truth}
 use Rattle.loops.specs.Cuts.{AreLoopsOf}
 use Rattle.loops.specs.Orders.{AreGatesOfLoop}
-use Rattle.loops.proofs.Reading.{Contains-filter, Contains-filter_from, Contains-range, Contains-range_from}
+use Rattle.loops.proofs.Reading.{Contains-filter_from, Contains-range_from}
 use Rattle.loops.proofs.Sweeps.{few_sweeps_are_enough}
 use Rattle.loops.proofs.Told.{blocks_have_loops, blocks_tell_loops}
-use Rattle.loops.proofs.Walks.{same_truth}
 
 -- ---- the places of cut wires
 
@@ -52,14 +53,6 @@ kept-both p q (x ∷ xs) = ap (λ (ys : List ℕ). cond (p x && q x) (x ∷ ys) 
     by : (b : Bool) → cond (b && q x) (x ∷ filter q (filter p xs)) (filter q (filter p xs)) ≡ filter q (cond b (x ∷ filter p xs) (filter p xs))
     by true = refl
     by false = refl
-
-kept-fewer : (p : ℕ → Bool) (xs : List ℕ) → length (filter p xs) ≤ length xs
-kept-fewer p [] = omega arith
-kept-fewer p (x ∷ xs) = by (p x) (kept-fewer p xs)
-  where
-    by : (b : Bool) → length (filter p xs) ≤ length xs → length (cond b (x ∷ filter p xs) (filter p xs)) ≤ suc (length xs)
-    by true h = omega (arith, h)
-    by false h = omega (arith, h)
 
 -- what is listed as a cut wire of a loop is one
 pub cut-of : (net : Parts) (loops : Loops) (a j d : ℕ) → j < length (cuts_of net loops a) → (loops.same a (get_or (cuts_of net loops a) j d) ≡ true) × (loops.cut (get_or (cuts_of net loops a) j d) ≡ true)
@@ -117,9 +110,9 @@ module _ (l : LoopAt) (is_loop : IsLoopAt l) where
   pub cuts_fit : length l.cuts ≤ 4294967295
   cuts_fit =
       let first = count-is in
-      let second = kept-fewer (is_cut l.cut.wires) (gates_in l) in
+      let second = filter-no_longer (is_cut l.cut.wires) (gates_in l) in
       let third = ap length (is_loop.blocks.gates l.number is_loop.number) in
-      let fourth = kept-fewer (λ n. home_of l.blocks n == l.number) (range_with_len 0 (length l.blocks.home)) in
+      let fourth = filter-no_longer (λ n. home_of l.blocks n == l.number) (range_with_len 0 (length l.blocks.home)) in
       let fifth = length-range_with_len 0 (length l.blocks.home) in
       let sixth = is_loop.blocks.homes in
       let seventh = is_loop.net.fits in

@@ -124,10 +124,6 @@ there (Some model) net columns_read is are first width reads =
 pub of-there : (o : Option CareModel) (model : CareModel) (P : CareModel → Type 0) → o ≡ Some model → IfSome o P → P model
 of-there o model P is holds = subst (λ (p : Option CareModel). IfSome p P) is holds
 
-pub none-there : (o : Option CareModel) → (let nothing : Option Parts = None in nothing) ≡ option_map (λ model. model.net) o → o ≡ None
-none-there None e = refl
-none-there (Some model) e = cc
-
 -- ---- which columns they read
 
 vector : ℕ → List Bool

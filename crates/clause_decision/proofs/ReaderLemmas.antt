@@ -1,19 +1,10 @@
 -- The gates of a loop that read each of its gates.
-use Rattle.std.proofs.Common.{◌≡◌, inl, inr, ℕ, zero, suc, ◌+◌, ◌-◌, ◌<◌, ◌==◌, Bool, true, leb, if◌then◌else◌, List, [], ◌∷◌, ◌++◌, length, get_or, set, take, replicate, Some, None, refl, sym, ap, subst, ◌∙◌, arith, Contains}
+use Rattle.std.proofs.Common.{◌≡◌, inl, inr, ℕ, ◌+◌, ◌-◌, ◌<◌, ◌==◌, Bool, true, leb, if◌then◌else◌, List, [], ◌∷◌, ◌++◌, length, get_or, set, take, Some, None, sym, ap, subst, ◌∙◌, arith, Contains}
 use Rattle.clause_decision.proofs.Common.{eq-eqb, length-set, take_more, Contains-append_left, Contains-push, Contains-push_cases, Sig, gate_at, gate_sig, home_of, first_gate, gate_home, LoopAt, IsLoopAt, gates_in, HasGainedReader, AreReaders}
 use Rattle.std.proofs.lemmas.Bool.{and_from, le-leb}
-use Rattle.std.proofs.lemmas.List.{length-replicate}
 use Rattle.loops.specs.Searching.{InRow}
 use Rattle.loops.proofs.KeptLemmas.{pushed_keeps, pushed_new, pushed_only}
 use Rattle.clause_decision.specs.Readers.{source_of}
-
-Contains-nothing : {A : Type 0} (x : A) → ¬ Contains [] x
-Contains-nothing x c = omega (arith, c.1)
-
-no-row : (count g n : ℕ) → ¬ InRow (replicate count []) g n
-no-row zero g n c = Contains-nothing n c
-no-row (suc count) zero n c = Contains-nothing n c
-no-row (suc count) (suc g) n c = no-row count g n c
 
 -- the first elements of a list, and one more as it is read of an equal list
 pub taken-next : {A : Type 0} (read xs : List A) (i : ℕ) (d : A) → read ≡ xs → i < length read → take i xs ++ get_or read i d ∷ [] ≡ take (i + 1) xs
@@ -23,23 +14,6 @@ two-sources : (n g : ℕ) → Some n ≡ Some g → n ≡ g
 two-sources n g e = cc
 
 module _ (l : LoopAt) where
-  -- before the first gate is entered
-  pub no-readers : (count : ℕ) (readers : List (List ℕ)) → count ≡ length l.net.gates → readers ≡ replicate count [] → AreReaders l [] readers
-  no-readers count readers size are = record {
-    size = ap length are ∙ length-replicate count [] ∙ size;
-    each = λ g n inside listed pin. absurd (Contains-nothing n listed);
-    only = λ g n row. absurd (no-row count g n (subst (λ (rows : List (List ℕ)). InRow rows g n) are row));
-  }
-
-  -- before the first pin of a gate
-  pub gained-none : (gate : ℕ) (readers : List (List ℕ)) → HasGainedReader l gate [] readers readers
-  gained-none gate readers = record {
-    size = refl;
-    keeps = λ g n row. row;
-    each = λ g inside pin. absurd (Contains-nothing (gate_sig l.net g) pin);
-    only = λ g n row. inl row;
-  }
-
   module _ (is_loop : IsLoopAt l) where
     -- the signal of a gate of the loop is driven by that gate
     source-is : (g : ℕ) → Contains (gates_in l) g → source_of l (gate_sig l.net g) ≡ Some g

@@ -1,17 +1,12 @@
 -- What signals stand for in a cone, where they are known at the fixpoint.
-use Rattle.std.proofs.Common.{◌≡◌, ◌≢◌, inl, inr, ℕ, zero, suc, ◌==◌, if◌then◌else◌, ◌<◌, ◌≤◌, ◌+◌, ◌-◌, ◌*◌, Bool, true, List, [], ◌∷◌, length, map, get_or, refl, sym, ap, subst, ◌∙◌, arith}
+use Rattle.std.proofs.Common.{◌≡◌, ◌≢◌, inl, inr, ℕ, zero, suc, ◌==◌, if◌then◌else◌, ◌<◌, ◌≤◌, ◌+◌, ◌-◌, ◌*◌, Bool, true, List, [], ◌∷◌, length, map, get_or, sym, ap, subst, ◌∙◌, arith}
 use Rattle.std.specs.List.{All}
-use Rattle.clause_decision.proofs.Common.{cases_lt, length-map, length-take-le, get_or-take, All-map, All-take, All-get_or, Sig, Trit, Zero, One, X, bit, bits, Below, Parts, count, wire, fix, fix_gates, first_gate, gate_of, value_in, columns, Rails, IsWanted, gate_rails, negation, Reads, ReadsAll, AreWithin, no_rails, rails_at, ReadsAll-at, IsWithin, column_rails, ReadsAbove, is_marked}
+use Rattle.clause_decision.proofs.Common.{cases_lt, length-map, length-take-le, get_or-take, All-map, All-take, All-get_or, Sig, Trit, X, bit, bits, Parts, count, wire, fix, fix_gates, first_gate, gate_of, value_in, columns, Rails, IsWanted, gate_rails, negation, Reads, ReadsAll, AreWithin, no_rails, rails_at, ReadsAll-at, IsWithin, column_rails, ReadsAbove, is_marked}
 use Rattle.std.proofs.lemmas.List.{get_or_append_left}
-use Rattle.cyc_base.proofs.OrderLemmas.{Below-refl}
+use Rattle.cyc_base.proofs.OrderLemmas.{Below-refl, Below-known}
+use Rattle.cyc_base.proofs.ListLemmas.{parity}
 use Rattle.loops.proofs.Reading.{wire_of_gate}
 use Rattle.ternary_clauses.specs.Encoding.{ReadsGates}
-use Rattle.ternary_clauses.proofs.ClauseLemmas.{parity}
-
-pub known-below : (x y : Trit) → Below x y → x ≢ X → y ≡ x
-known-below Zero y h e = h
-known-below One y h e = h
-known-below X y h e = absurd (e refl)
 
 pub negation-within : (l k : ℕ) → l < 2 * k → negation l < 2 * k
 negation-within l k less = elim (parity l) [
@@ -60,7 +55,7 @@ signal-at net rails m v size wide reads s gate = elim (cases_lt s.0 (first_gate 
 pub gate-read : (net : Parts) (gates : List Bool) (rails : List Rails) (m v : List Bool) → ReadsAbove net gates rails m v → (n : ℕ) → IsWanted net gates n → value_in (fix_gates net (bits v)) n ≢ X →
     Reads m (gate_rails net rails n) (value_in (fix_gates net (bits v)) n)
 gate-read net gates rails m v above n wanted known =
-    subst (λ (t : Trit). Reads m (gate_rails net rails n) t) (known-below (value_in (fix_gates net (bits v)) n) (value_in above.state n) (above.above n wanted) known) (above.reads n wanted)
+    subst (λ (t : Trit). Reads m (gate_rails net rails n) t) (Below-known (value_in (fix_gates net (bits v)) n) (value_in above.state n) (above.above n wanted) known) (above.reads n wanted)
 
 -- a signal that is known does
 pub signal-read : (net : Parts) (gates : List Bool) (rails : List Rails) (m v : List Bool) → length rails ≡ count net → length v ≡ columns net →

@@ -6,11 +6,12 @@ use Rattle.std.specs.List.{All}
 use Rattle.std.proofs.lemmas.List.{append_assoc, append-nil}
 use Rattle.std.proofs.lemmas.List.Elements.{All-append}
 use Rattle.std.proofs.lemmas.List.Folds.{list_all-append}
+use Rattle.cyc_base.proofs.TruthLemmas.{and_comm}
+use Rattle.cyc_base.proofs.ListLemmas.{parity}
 use Rattle.netlist.specs.declared.parts.Init.{Init}
 use Rattle.netlist.specs.declared.parts.Init.TheVariants.{Zero, One, Either}
 use Rattle.refusals.specs.Refusals.{is_initial, may_start}
 use Rattle.ternary_clauses.specs.Rails.{is_zero}
-use Rattle.ternary_clauses.proofs.ClauseLemmas.{parity}
 use Rattle.clause_decision.specs.Starts.{asked_of}
 use Rattle.clause_decision.specs.Tests.{is_outside}
 
@@ -51,18 +52,12 @@ starts-told m (l ∷ latches) (r ∷ rails) (b ∷ q) wide reads =
     list_all-append (says m) (asked_of l.init r) (asked_starts latches rails)
     ∙ ap₂ (λ x y. x && y) (start-told m l.init r b reads.0) (starts-told m latches rails q (omega (arith, wide)) reads.1)
 
-and-swap : (a b : Bool) → (a && b) ≡ (b && a)
-and-swap true true = refl
-and-swap true false = refl
-and-swap false true = refl
-and-swap false false = refl
-
 -- with the invariant's literal negated
 pub outside-told : (net : Parts) (care : CareSet) (m : List Bool) (rails : List Rails) (q : List Bool) (inside : ℕ) → length rails ≡ length net.latches → ReadsAll m rails (bits q) → says m inside ≡ is_in_invariant care q →
     list_all (says m) (negation inside ∷ asked_starts net.latches rails) ≡ is_outside net care q
 outside-told net care m rails q inside wide reads is =
     ap₂ (λ x y. x && y) (says-negation m inside ∙ ap not is) (starts-told m net.latches rails q wide reads)
-    ∙ and-swap (not (is_in_invariant care q)) (is_initial net q)
+    ∙ and_comm (not (is_in_invariant care q)) (is_initial net q)
 
 -- ---- they are of the formula
 

@@ -5,7 +5,7 @@ use Rattle.clause_decision.proofs.Common.{cases_lt, and_parts, length-map, get_o
 use Rattle.std.proofs.lemmas.Bool.{and_from, le-leb}
 use Rattle.std.proofs.lemmas.List.{get_or-replicate}
 use Rattle.std.proofs.lemmas.List.Elements.{All-contains}
-use Rattle.cyc_base.proofs.OrderLemmas.{EachBelow-at}
+use Rattle.cyc_base.proofs.OrderLemmas.{EachBelow-at, Below-known}
 use Rattle.netlist.specs.Walks.{Feeds}
 use Rattle.loops.specs.Cuts.{AreLoopsOf}
 use Rattle.loops.specs.Sweeps.{in_loop_of}
@@ -26,7 +26,7 @@ use Rattle.clause_decision.specs.Sweepings.{open_literals, AreKnownAfter, IsOpen
 use Rattle.clause_decision.proofs.FormulaLemmas.{ones-read}
 use Rattle.clause_decision.proofs.ConeLemmas.{cone-grows}
 use Rattle.clause_decision.proofs.LoopLemmas.{are-loops, cuts-enough, gate-fits, of-loop}
-use Rattle.clause_decision.proofs.SignalLemmas.{known-below, negation-within, column_rails-length, signal-at, gate-read, three}
+use Rattle.clause_decision.proofs.SignalLemmas.{negation-within, column_rails-length, signal-at, gate-read, three}
 use Rattle.clause_decision.proofs.UnknownLemmas.{unknown-value}
 
 -- ---- a literal for the cut wires that are unknown
@@ -238,7 +238,7 @@ module _ (l : LoopAt) (is_loop : IsLoopAt l) where
       let n : ℕ = get_or (cuts_of l.net (loops_in l) a) j d in
       let kept = Contains-filter_from (λ g. (loops_in l).same a g && (loops_in l).cut g) (range_with_len 0 (length l.net.gates)) n (Contains-get_or (cuts_of l.net (loops_in l) a) j d low) in
       let both = and_parts ((loops_in l).same a n) ((loops_in l).cut n) kept.0 in
-      sym (known-below (value_in (sweeps l.net (loops_in l) (bits v) k) n) (value_in (fix_gates l.net (bits v)) n)
+      sym (Below-known (value_in (sweeps l.net (loops_in l) (bits v) k) n) (value_in (fix_gates l.net (bits v)) n)
       (EachBelow-at (sweeps l.net (loops_in l) (bits v) k) (fix_gates l.net (bits v)) n (sweeps_stay_below_fix l.net (loops_in l) (bits v) (length-map v bit ∙ counts.width) k))
       (known v counts n ((of-loop l is_loop a inside).0 n both.0) both.1)))
 

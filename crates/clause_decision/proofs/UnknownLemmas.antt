@@ -2,12 +2,17 @@
 use Rattle.std.proofs.Common.{◌≡◌, inl, inr, ℕ, zero, suc, ◌<◌, ◌+◌, ◌*◌, Bool, true, false, not, ◌&&◌, ◌||◌, List, [], ◌∷◌, length, map, take, get_or, Option, Some, None, refl, sym, ap, ap₂, subst, ◌∙◌, arith, true≢false}
 use Rattle.std.specs.Prelude.{find, is_some}
 use Rattle.std.specs.List.{All, list_any}
-use Rattle.clause_decision.proofs.Common.{cases_lt, length-map, length-take-le, get_or-map, All-nil, All-cons, All-get_or, All-map, All-weaker, All-take, Trit, Zero, One, X, bit, bits, Below, Parts, wire, fix, fix_gates, count, gate_sig, first_gate, value_in, CareSet, columns, is_allowed, is_in_invariant, is_care_vector, state_of, Formula, Rails, IsWanted, gate_rails, says, negation, IsModel, ReadsAll, AreWithin, is_known, is_one, no_rails, SaysAny, says-negation, IsWithin, problem, HasNoModelUnder, Asks, models-same, column_rails, vector_in, ReadsAbove, ReadsFix, IsCone, is_marked, unknown_literals}
+use Rattle.clause_decision.proofs.Common.{cases_lt, length-map, length-take-le, get_or-map, All-nil, All-cons, All-get_or, All-map, All-weaker, All-take, Trit, Zero, One, X, bits, Parts, wire, fix, fix_gates, count, gate_sig, first_gate, value_in, CareSet, columns, is_allowed, is_in_invariant, is_care_vector, state_of, Formula, Rails, IsWanted, gate_rails, says, negation, IsModel, ReadsAll, AreWithin, is_known, no_rails, SaysAny, says-negation, IsWithin, problem, HasNoModelUnder, Asks, models-same, column_rails, vector_in, ReadsAbove, ReadsFix, IsCone, is_marked, unknown_literals}
 use Rattle.std.proofs.lemmas.Simd.{map-map}
+use Rattle.std.proofs.lemmas.Bool.{or_right, and_parts}
 use Rattle.cyc_base.specs.Vectors.{vectors}
+use Rattle.cyc_base.proofs.OrderLemmas.{Below-unknown}
+use Rattle.cyc_base.proofs.VectorLemmas.{find-none}
+use Rattle.cyc_base.proofs.ListLemmas.{map-map}
 use Rattle.refusals.specs.Refusals.{is_x, is_undetermined}
-use Rattle.refusals.proofs.FirstLemmas.{none_passes, nothing_passes}
-use Rattle.refusals.proofs.RefusalLemmas.{both, is_x_decides, gate_wire}
+use Rattle.refusals.proofs.FirstLemmas.{none_passes}
+use Rattle.refusals.proofs.RefusalLemmas.{gate_wire}
+use Rattle.refusals.proofs.ShowingLemmas.{is_x_decides}
 use Rattle.clause_decision.proofs.SignalLemmas.{negation-within, three}
 use Rattle.clause_queries.specs.Each.{CanBe, CannotBe, TellEach}
 use Rattle.clause_queries.specs.Queries.{HasModelUnder, AreRising, IsFirst, IsFirstAt}
@@ -19,6 +24,7 @@ use Rattle.clause_decision.specs.Questions.{IsQuestionOf}
 use Rattle.clause_decision.specs.Tests.{is_unknown_at, is_unknown, IsFirstUnknown, TellsFirstUnknown, TellEachUnknown}
 use Rattle.clause_decision.specs.Unknowns.{TellUnknowns}
 use Rattle.clause_decision.proofs.ConeLemmas.{cone-kept}
+use Rattle.clause_decision.proofs.FormulaLemmas.{ones-read}
 
 -- ---- the first so many of a list
 
@@ -42,15 +48,11 @@ passes-of_any p (x ∷ xs) (suc many) h = by_test (passes-of_any p xs many) (p x
         let inside : later.place < length xs = later.inside in
         record { place = suc later.place; early = omega (arith, early); inside = omega (arith, inside); passes = later.passes }
 
-or-right : (a b : Bool) → b ≡ true → (a || b) ≡ true
-or-right true b h = refl
-or-right false b h = h
-
 any-of_passes : (p : ℕ → Bool) (xs : List ℕ) (many j : ℕ) → j < many → j < length xs → p (get_or xs j 0) ≡ true → list_any p (take many xs) ≡ true
 any-of_passes p xs zero j early inside h = absurd (omega (arith, early))
 any-of_passes p [] (suc many) j early inside h = absurd (omega (arith, inside))
 any-of_passes p (x ∷ xs) (suc many) zero early inside h = ap (λ t. t || list_any p (take many xs)) h
-any-of_passes p (x ∷ xs) (suc many) (suc j) early inside h = or-right (p x) (list_any p (take many xs)) (any-of_passes p xs many j (omega (arith, early)) (omega (arith, inside)) h)
+any-of_passes p (x ∷ xs) (suc many) (suc j) early inside h = or_right (p x) (list_any p (take many xs)) (any-of_passes p xs many j (omega (arith, early)) (omega (arith, inside)) h)
 
 -- ---- values
 
@@ -59,21 +61,8 @@ unknown-value X e = refl
 unknown-value Zero e = absurd (true≢false (sym e))
 unknown-value One e = absurd (true≢false (sym e))
 
--- what is below X is X
-unknown-below : (x y : Trit) → Below x y → y ≡ X → x ≡ X
-unknown-below X y h e = refl
-unknown-below Zero y h e = cc
-unknown-below One y h e = cc
-
-one-of_bit : (b : Bool) → is_one (bit b) ≡ b
-one-of_bit true = refl
-one-of_bit false = refl
-
 pub vector-read : (m : List Bool) (rs : List Rails) (v : List Bool) → ReadsAll m rs (bits v) → map (λ r. says m r.one) rs ≡ v
-vector-read m [] [] h = refl
-vector-read m [] (b ∷ v) h = absurd h
-vector-read m (r ∷ rs) [] h = absurd h
-vector-read m (r ∷ rs) (b ∷ v) h = ap₂ (λ x xs. x ∷ xs) (h.0.one ∙ one-of_bit b) (vector-read m rs v h.1)
+vector-read m rs v h = sym (map-map (says m) (λ r. r.one) rs) ∙ ones-read m rs v h
 
 -- ---- a gate that is unknown at some care vector
 
@@ -86,7 +75,7 @@ some-unknown net care n v wide h = by_found (find (is_unknown_at net care n) (ve
 
 never-unknown : (net : Parts) (care : CareSet) (n : ℕ) → ((v : List Bool) → length v ≡ columns net → ¬ (is_unknown_at net care n v ≡ true)) → is_unknown net care n ≡ false
 never-unknown net care n never =
-    ap (λ (o : Option (List Bool)). is_some o) (nothing_passes (columns net) (is_unknown_at net care n) (λ w wide. fails (is_unknown_at net care n w) (never w wide)))
+    ap (λ (o : Option (List Bool)). is_some o) (find-none (columns net) (is_unknown_at net care n) (λ w wide. fails (is_unknown_at net care n w) (never w wide)))
   where
     fails : (b : Bool) → ¬ (b ≡ true) → b ≡ false
     fails true h = absurd (h refl)
@@ -142,7 +131,7 @@ module _ (net : Parts) (care : CareSet) (marks : List Bool) (f : Formula) (rails
       let is : IsWanted net marks n = record { within = within; marked = marked } in
       let there : ReadsAbove net marks rails m v = cone.above m h in
       let open_value : not (is_known (value_in there.state n)) ≡ true = ap not (sym (there.reads n is).known) ∙ sym (says-negation m (gate_rails net rails n).known) ∙ unknown in
-      let at : value_in (fix_gates net (bits v)) n ≡ X = unknown-below (value_in (fix_gates net (bits v)) n) (value_in there.state n) (there.above n is) (unknown-value (value_in there.state n) open_value) in
+      let at : value_in (fix_gates net (bits v)) n ≡ X = Below-unknown (value_in (fix_gates net (bits v)) n) (value_in there.state n) (there.above n is) (unknown-value (value_in there.state n) open_value) in
       let counts : is_care_vector net care v ≡ true = ap₂ (λ s t. s && t) (sym (cone.inside_tells m h) ∙ in_care) (sym (cone.allowed_tells m h) ∙ may) in
       ap₂ (λ s t. s && is_x t) counts (gate_wire net v n (wide-vector m) ∙ at)
 
@@ -151,8 +140,8 @@ module _ (net : Parts) (care : CareSet) (marks : List Bool) (f : Formula) (rails
       HasUnknown net f rails inside allowed (negation (gate_rails net rails n).known) v
   unknown-read n within marked v wide h =
       let has : ReadsFix net marks f rails v = cone.complete v wide in
-      let split = both (is_care_vector net care v) (is_undetermined net (gate_sig net n) v) h in
-      let counts = both (is_in_invariant care (state_of net v)) (is_allowed care v) split.0 in
+      let split = and_parts (is_care_vector net care v) (is_undetermined net (gate_sig net n) v) h in
+      let counts = and_parts (is_in_invariant care (state_of net v)) (is_allowed care v) split.0 in
       let at : value_in (fix_gates net (bits v)) n ≡ X = sym (gate_wire net v n wide) ∙ is_x_decides (wire (fix net (bits v)) (gate_sig net n)) split.1 in
       let vector : vector_in net rails has.model ≡ v = vector-read has.model (column_rails net rails) v has.columns in
       record {

@@ -1,19 +1,21 @@
-pub mod Apart
-pub mod Changes
+-- The chapter: what the contracts of public functions say.
 pub mod Cones
-pub mod Countings
+pub mod Changes
+pub mod LoopsAt
+pub mod Scopes
+pub mod Apart
+pub mod Loads
+pub mod Simulations
+pub mod Sweeping
+pub mod Tests
+-- The code's own: what its parts say to each other.
 pub mod Events
 pub mod Formulas
-pub mod Loads
-pub mod LoopsAt
 pub mod NextStates
 pub mod Pairs
 pub mod Questions
 pub mod Readers
-pub mod Scopes
-pub mod Simulations
 pub mod Starts
-pub mod Sweeping
 pub mod Sweepings
-pub mod Tests
+pub mod Countings
 pub mod Unknowns

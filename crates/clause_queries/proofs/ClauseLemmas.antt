@@ -3,10 +3,10 @@ use Rattle.std.proofs.Common.{◌≡◌, ℕ, zero, suc, ◌+◌, ◌*◌, ◌<�
 use Rattle.std.specs.List.{list_all, list_any, All}
 use Rattle.std.proofs.lemmas.List.Folds.{list_any-append}
 use Rattle.std.proofs.lemmas.List.{map-append}
-use Rattle.std.proofs.lemmas.List.Elements.{All-nil, All-map, All-weaker, All-same, All-push, All-contains, Contains-append_right}
+use Rattle.std.proofs.lemmas.List.Elements.{All-map, All-weaker, All-same, All-push, All-contains, Contains-append_right}
+use Rattle.cyc_base.proofs.TruthLemmas.{and_with_true}
 use Rattle.ternary_clauses.specs.declared.formula.Formula.{Formula}
 use Rattle.ternary_clauses.specs.Formulas.{says, holds_from, holds as holds_all}
-use Rattle.ternary_clauses.proofs.ClauseLemmas.{and-true}
 use Rattle.sat.specs.declared.lit.Lit.{Lit}
 use Rattle.clause_queries.specs.Clauses.{clauses_from, clauses_of, IsWithin, AreTaken}
 use Rattle.clause_queries.specs.Loaded.{lit, loaded, AreOf, AreLoaded}
@@ -25,7 +25,7 @@ clauses-first size rest = clauses_from-take size [] rest
 
 -- each clause of a list holds where the list does
 holds_from-clauses : (m : List Bool) (left : ℕ) (begun rest : List ℕ) → holds_from m left (list_any (says m) begun) rest ≡ list_all (list_any (says m)) (clauses_from left begun rest)
-holds_from-clauses m left begun [] = and-true (list_any (says m) begun)
+holds_from-clauses m left begun [] = and_with_true (list_any (says m) begun)
 holds_from-clauses m zero begun (n ∷ rest) = ap (λ b. list_any (says m) begun && b) (holds_from-clauses m n [] rest)
 holds_from-clauses m (suc left) begun (l ∷ rest) =
     ap (λ b. holds_from m left b rest) (sym (list_any-append (says m) begun (l ∷ []) ∙ ap (λ b. list_any (says m) begun || b) (or-false (says m l))))
@@ -76,9 +76,6 @@ pub record AreLoading (variables : ℕ) (literals : List ℕ) (added : ℕ) (res
   pub few : added ≤ 4294967295
   pub within : All (IsWithin variables) done
 
-pub loading-none : (variables : ℕ) (literals : List ℕ) → AreLoading variables literals 0 literals []
-loading-none variables literals = record { done = []; all = refl; formula_is = refl; added_is = refl; few = omega arith; within = All-nil (IsWithin variables) }
-
 pub loading-more : (variables : ℕ) (literals : List ℕ) (added size : ℕ) (rest : List ℕ) (formula : List (List Lit)) → AreLoading variables literals added (size ∷ rest) formula →
     added < 4294967295 → IsWithin variables (take size rest) → AreLoading variables literals (added + 1) (drop size rest) (formula ++ map lit (take size rest) ∷ [])
 loading-more variables literals added size rest formula before room within = record {
@@ -89,16 +86,6 @@ loading-more variables literals added size rest formula before room within = rec
   few = omega arith;
   within = All-push (IsWithin variables) before.done (take size rest) before.within within;
 }
-
-pub loading-all : (variables : ℕ) (literals : List ℕ) (added : ℕ) (formula : List (List Lit)) → AreLoading variables literals added [] formula → AreLoaded variables literals formula
-loading-all variables literals added formula is =
-    let all : clauses_of literals ≡ is.done = is.all ∙ append-nil is.done in
-    let count : length (clauses_of literals) ≡ added = ap length all ∙ sym is.added_is in
-    let few : added ≤ 4294967295 = is.few in
-    record {
-      are = is.formula_is ∙ ap (map (map lit)) (sym all);
-      taken = record { few = omega arith; within = All-same (IsWithin variables) (clauses_of literals) is.done all is.within };
-    }
 
 -- there is no room for one clause more
 pub loading-full : (variables : ℕ) (literals : List ℕ) (added size : ℕ) (rest : List ℕ) (formula : List (List Lit)) → AreLoading variables literals added (size ∷ rest) formula →

@@ -1,10 +1,12 @@
 -- Columns fixed one by one, and what the least vector is for tests.
 use Rattle.std.proofs.Common.{◌≡◌, ℕ, Bool, true, false, not, List, [], ◌∷◌, ◌++◌, length, Option, Some, None, refl, sym, ap, subst, ◌∙◌, true≢false}
 use Rattle.std.specs.Prelude.{find, is_some}
-use Rattle.std.specs.List.{All}
 use Rattle.std.proofs.lemmas.List.{map-append, length-map}
-use Rattle.std.proofs.lemmas.List.Elements.{All-push, All-nil, All-cons, All-head, All-tail}
+use Rattle.std.proofs.lemmas.List.Elements.{All-push}
+use Rattle.std.proofs.lemmas.Bool.{not-true, false_from_ne_true}
 use Rattle.cyc_base.specs.Vectors.{vectors, AtMost}
+use Rattle.cyc_base.proofs.ListLemmas.{All-but_last}
+use Rattle.cyc_base.proofs.VectorLemmas.{find-none}
 use Rattle.ternary_clauses.specs.Formulas.{says, negation}
 use Rattle.ternary_clauses.proofs.ClauseLemmas.{says-negation}
 use Rattle.clause_queries.specs.Queries.{Problem, IsModelUnder, HasNoModelUnder, IsPossible}
@@ -12,21 +14,15 @@ use Rattle.clause_queries.specs.Vectors.{vector_of, Asks, IsLeastVector, IsFound
 use Rattle.clause_queries.specs.declared.least.Found.{Found}
 use Rattle.clause_queries.specs.declared.least.Found.TheVariants as founds
 use Rattle.clause_queries.specs.Descent.{IsFixed}
-use Rattle.clause_queries.proofs.VectorLemmas.{find_none, find_least, find_some, fails-or, snoc-same, AtMost-push}
+use Rattle.clause_queries.proofs.VectorLemmas.{find_least, find_some, snoc-same, AtMost-push}
 
 -- ---- one assumption more
 
-all-but_last : {X : Type 0} (P : X → Type 0) (xs : List X) (x : X) → All P (xs ++ x ∷ []) → All P xs × P x
-all-but_last P [] x all = (All-nil P, All-head P x [] all)
-all-but_last P (y ∷ xs) x all =
-    let rest = all-but_last P xs x (All-tail P y (xs ++ x ∷ []) all) in
-    (All-cons P y xs (All-head P y (xs ++ x ∷ []) all) rest.0, rest.1)
-
 pub under-fewer : (p : Problem) (assumptions : List ℕ) (l : ℕ) (m : List Bool) → IsModelUnder p (assumptions ++ l ∷ []) m → IsModelUnder p assumptions m
-under-fewer p assumptions l m under = record { model = under.model; assumed = (all-but_last (λ x. says m x ≡ true) assumptions l under.assumed).0 }
+under-fewer p assumptions l m under = record { model = under.model; assumed = (All-but_last (λ x. says m x ≡ true) assumptions l under.assumed).0 }
 
 pub under-last : (p : Problem) (assumptions : List ℕ) (l : ℕ) (m : List Bool) → IsModelUnder p (assumptions ++ l ∷ []) m → says m l ≡ true
-under-last p assumptions l m under = (all-but_last (λ x. says m x ≡ true) assumptions l under.assumed).1
+under-last p assumptions l m under = (All-but_last (λ x. says m x ≡ true) assumptions l under.assumed).1
 
 pub under-more : (p : Problem) (assumptions : List ℕ) (l : ℕ) (m : List Bool) → IsModelUnder p assumptions m → says m l ≡ true → IsModelUnder p (assumptions ++ l ∷ []) m
 under-more p assumptions l m under is_true = record { model = under.model; assumed = All-push (λ x. says m x ≡ true) assumptions l under.assumed is_true }
@@ -70,10 +66,6 @@ fixed-more p assumptions columns fixed model next column literal is under reads 
 
     wide : (m : List Bool) → length (vector_of columns m) ≡ length (vector_of columns next)
     wide m = length-map columns (says m) ∙ sym (length-map columns (says next))
-
-not-true : (b : Bool) → not b ≡ true → b ≡ false
-not-true true is = absurd (true≢false (sym is))
-not-true false is = refl
 
 -- a model with 0 in the column
 pub fixed-low : (p : Problem) (assumptions columns fixed : List ℕ) (model next : List Bool) (column : ℕ) → IsFixed p assumptions columns fixed model →
@@ -126,7 +118,7 @@ least-first p columns assumptions passes v asks is =
 pub none-first : (p : Problem) (columns assumptions : List ℕ) (passes : List Bool → Bool) → Asks p columns assumptions passes → HasNoModelUnder p assumptions →
     find passes (vectors (length columns)) ≡ None
 none-first p columns assumptions passes asks none =
-    find_none (length columns) passes (λ w wide. fails-or (passes w) (λ w_passes. let has = asks.complete w wide w_passes in none has.model has.under))
+    find-none (length columns) passes (λ w wide. false_from_ne_true (passes w) (λ w_passes. let has = asks.complete w wide w_passes in none has.model has.under))
 
 pub some-first : (p : Problem) (columns assumptions : List ℕ) (passes : List Bool → Bool) (m : List Bool) → Asks p columns assumptions passes → IsModelUnder p assumptions m →
     is_some (find passes (vectors (length columns))) ≡ true

@@ -1,19 +1,10 @@
 -- Which of some literals can be true.
-use Rattle.std.proofs.Common.{◌≡◌, inl, inr, ℕ, ◌+◌, ◌<◌, Bool, true, false, ◌||◌, List, [], ◌∷◌, ◌++◌, length, get_or, replicate, refl, sym, ap, ◌∙◌, subst, arith, true≢false}
-use Rattle.std.proofs.lemmas.Bool.{cases_lt}
-use Rattle.std.proofs.lemmas.List.{get_or-replicate, length-replicate}
+use Rattle.std.proofs.Common.{◌≡◌, inl, inr, ℕ, ◌+◌, ◌<◌, Bool, true, false, ◌||◌, List, [], ◌∷◌, ◌++◌, length, get_or, refl, sym, ap, ◌∙◌, subst, arith, true≢false}
+use Rattle.std.proofs.lemmas.Bool.{cases_lt, or_right}
 use Rattle.ternary_clauses.specs.Formulas.{says}
 use Rattle.clause_queries.specs.Queries.{Problem, IsModelUnder}
 use Rattle.clause_queries.specs.Each.{CanBe, CannotBe, AreToldBelow}
 use Rattle.clause_queries.proofs.BisectionLemmas.{possible-earlier}
-
--- before the first question
-pub told-none : (p : Problem) (literals assumptions : List ℕ) (found : List Bool) → found ≡ replicate (length literals) false → AreToldBelow p literals assumptions 0 found
-told-none p literals assumptions found is = record {
-  width = ap length is ∙ length-replicate (length literals) false;
-  possible = λ i less marked. absurd (true≢false (sym marked ∙ ap (λ bs. get_or bs i false) is ∙ get_or-replicate (length literals) i false false less));
-  impossible = λ i less. absurd (omega (arith, less));
-}
 
 -- one place more is told
 told-here : (p : Problem) (literals assumptions : List ℕ) (place : ℕ) (found : List Bool) → AreToldBelow p literals assumptions place found →
@@ -47,10 +38,6 @@ or-none : (a b : Bool) → (a || b) ≡ false → a ≡ false
 or-none true b h = h
 or-none false b h = refl
 
-or-last : (a b : Bool) → b ≡ true → (a || b) ≡ true
-or-last true b h = refl
-or-last false b h = h
-
 -- since a model has it, which tells of others too
 pub told-model : (p : Problem) (literals assumptions : List ℕ) (place : ℕ) (m old new : List Bool) → place < length literals → AreToldBelow p literals assumptions place old →
     IsModelUnder p (assumptions ++ get_or literals place 0 ∷ []) m → says m (get_or literals place 0) ≡ true → length new ≡ length old →
@@ -65,7 +52,7 @@ told-model p literals assumptions place m old new within told under here width e
     | inr high ↦
         let at : place ≡ i = omega (arith, less, high) in
         absurd (true≢false (
-        sym (each place within ∙ or-last (get_or old place false) (says m (get_or literals place 0)) here)
+        sym (each place within ∙ or_right (get_or old place false) (says m (get_or literals place 0)) here)
         ∙ ap (λ k. get_or new k false) at ∙ isnt))
   ];
 }

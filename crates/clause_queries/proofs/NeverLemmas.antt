@@ -1,9 +1,8 @@
 -- Which of some literals can't be true, and whether any can.
-use Rattle.std.proofs.Common.{◌≡◌, inl, inr, ℕ, ◌<◌, Bool, true, false, List, [], ◌∷◌, ◌++◌, length, get_or, set, replicate, sym, ap, ◌∙◌, subst, true≢false}
-use Rattle.std.specs.List.{Any}
+use Rattle.std.proofs.Common.{◌≡◌, inl, inr, ℕ, Bool, true, false, List, length, get_or, set, replicate, sym, ap, ◌∙◌, subst, true≢false}
 use Rattle.std.proofs.lemmas.Bool.{cases_eq}
-use Rattle.std.proofs.lemmas.List.{get_or_default, get_or-replicate, length-replicate, length-set, get_or-set_other}
-use Rattle.clause_queries.specs.Queries.{Problem, HasModelUnder}
+use Rattle.std.proofs.lemmas.List.{get_or-replicate, length-replicate, length-set, get_or-set_other}
+use Rattle.clause_queries.specs.Queries.{Problem}
 use Rattle.clause_queries.specs.Each.{CannotBe, AreNever}
 
 -- no mark, before the first question
@@ -23,8 +22,3 @@ never-more p literals assumptions place never told none = record {
     | inr other ↦ told.impossible i less (sym (get_or-set_other never place i true false other) ∙ marked)
   ];
 }
-
--- one that has a model
-pub any-found : (p : Problem) (literals assumptions : List ℕ) (i : ℕ) → i < length literals → HasModelUnder p (assumptions ++ get_or literals i 0 ∷ []) →
-    Any (λ l. HasModelUnder p (assumptions ++ l ∷ [])) literals
-any-found p literals assumptions i less has = (i, get_or literals i 0, less, get_or_default literals i (get_or literals i 0) 0 less, has)

@@ -1,39 +1,11 @@
 -- The first of all vectors that passes a test, and vectors that grow at their end.
-use Rattle.std.proofs.Common.{◌≡◌, ℕ, zero, suc, Bool, true, false, cond, List, [], ◌∷◌, ◌++◌, length, map, get_or, Option, Some, None, refl, sym, ap, ap₂, ◌∙◌, arith, true≢false}
+use Rattle.std.proofs.Common.{◌≡◌, ℕ, zero, suc, Bool, true, false, cond, List, [], ◌∷◌, ◌++◌, length, get_or, Option, Some, None, refl, sym, ap, ap₂, ◌∙◌, arith, true≢false}
 use Rattle.std.specs.Prelude.{find, is_some}
 use Rattle.std.specs.Option.{option_or, option_map}
 use Rattle.std.proofs.lemmas.List.{get_or_push, append_cancel_right}
-use Rattle.std.proofs.lemmas.List.Folds.{find-append}
+use Rattle.std.proofs.lemmas.Bool.{false_from_ne_true}
 use Rattle.cyc_base.specs.Vectors.{vectors, AtMost}
-
-find-map : {X Y : Type 0} (p : Y → Bool) (f : X → Y) (xs : List X) → find p (map f xs) ≡ option_map f (find (λ x. p (f x)) xs)
-find-map p f [] = refl
-find-map p f (x ∷ xs) = by_test (p (f x)) (find-map p f xs)
-  where
-    by_test : (t : Bool) → find p (map f xs) ≡ option_map f (find (λ y. p (f y)) xs) →
-        cond t (Some (f x)) (find p (map f xs)) ≡ option_map f (cond t (Some x) (find (λ y. p (f y)) xs))
-    by_test true rest = refl
-    by_test false rest = rest
-
--- both halves of the vectors, by their first column
-halves : (n : ℕ) (p : List Bool → Bool) →
-    find p (vectors (suc n)) ≡ option_or (option_map (λ v. false ∷ v) (find (λ v. p (false ∷ v)) (vectors n))) (option_map (λ v. true ∷ v) (find (λ v. p (true ∷ v)) (vectors n)))
-halves n p =
-    find-append p (map (λ v. false ∷ v) (vectors n)) (map (λ v. true ∷ v) (vectors n))
-    ∙ ap₂ option_or (find-map p (λ v. false ∷ v) (vectors n)) (find-map p (λ v. true ∷ v) (vectors n))
-
--- where each fails, none is found
-pub find_none : (n : ℕ) (p : List Bool → Bool) → ((w : List Bool) → length w ≡ n → p w ≡ false) → find p (vectors n) ≡ None
-find_none zero p fails = ap (λ t. let nothing : Option (List Bool) = None in cond t (Some []) nothing) (fails [] refl)
-find_none (suc n) p fails =
-    halves n p
-    ∙ ap₂ (λ low high. option_or (option_map (λ (u : List Bool). false ∷ u) low) (option_map (λ (u : List Bool). true ∷ u) high))
-    (find_none n (λ u. p (false ∷ u)) (λ w wide. fails (false ∷ w) (ap suc wide)))
-    (find_none n (λ u. p (true ∷ u)) (λ w wide. fails (true ∷ w) (ap suc wide)))
-
-pub fails-or : (b : Bool) → (b ≡ true → ⊥) → b ≡ false
-fails-or true no_true = absurd (no_true refl)
-fails-or false no_true = refl
+use Rattle.cyc_base.proofs.VectorLemmas.{find-halves, find-none}
 
 -- one that passes and is at most each that passes is the first
 pub find_least : (n : ℕ) (p : List Bool → Bool) (v : List Bool) → length v ≡ n → p v ≡ true → ((w : List Bool) → length w ≡ n → p w ≡ true → AtMost v w) →
@@ -42,13 +14,13 @@ find_least zero p [] wide passes least = ap (λ t. let nothing : Option (List Bo
 find_least zero p (b ∷ v) wide passes least = absurd (omega arith)
 find_least (suc n) p [] wide passes least = absurd (omega arith)
 find_least (suc n) p (false ∷ v) wide passes least =
-    halves n p
+    find-halves n p
     ∙ ap (λ low. option_or (option_map (λ (u : List Bool). false ∷ u) low) (option_map (λ (u : List Bool). true ∷ u) (find (λ u. p (true ∷ u)) (vectors n))))
     (find_least n (λ u. p (false ∷ u)) v (omega arith) passes (λ w w_wide w_passes. least (false ∷ w) (ap suc w_wide) w_passes))
 find_least (suc n) p (true ∷ v) wide passes least =
-    halves n p
+    find-halves n p
     ∙ ap₂ (λ low high. option_or (option_map (λ (u : List Bool). false ∷ u) low) (option_map (λ (u : List Bool). true ∷ u) high))
-    (find_none n (λ u. p (false ∷ u)) (λ w w_wide. fails-or (p (false ∷ w)) (λ w_passes. least (false ∷ w) (ap suc w_wide) w_passes)))
+    (find-none n (λ u. p (false ∷ u)) (λ w w_wide. false_from_ne_true (p (false ∷ w)) (λ w_passes. least (false ∷ w) (ap suc w_wide) w_passes)))
     (find_least n (λ u. p (true ∷ u)) v (omega arith) passes (λ w w_wide w_passes. least (true ∷ w) (ap suc w_wide) w_passes))
 
 pub find_some : (n : ℕ) (p : List Bool → Bool) (v : List Bool) → length v ≡ n → p v ≡ true → is_some (find p (vectors n)) ≡ true
@@ -56,13 +28,13 @@ find_some zero p [] wide passes = ap (λ t. let nothing : Option (List Bool) = N
 find_some zero p (b ∷ v) wide passes = absurd (omega arith)
 find_some (suc n) p [] wide passes = absurd (omega arith)
 find_some (suc n) p (false ∷ v) wide passes =
-    ap is_some (halves n p) ∙ low (find (λ u. p (false ∷ u)) (vectors n)) (find (λ u. p (true ∷ u)) (vectors n)) (find_some n (λ u. p (false ∷ u)) v (omega arith) passes)
+    ap is_some (find-halves n p) ∙ low (find (λ u. p (false ∷ u)) (vectors n)) (find (λ u. p (true ∷ u)) (vectors n)) (find_some n (λ u. p (false ∷ u)) v (omega arith) passes)
   where
     low : (a b : Option (List Bool)) → is_some a ≡ true → is_some (option_or (option_map (λ (u : List Bool). false ∷ u) a) (option_map (λ (u : List Bool). true ∷ u) b)) ≡ true
     low (Some u) b is = refl
     low None b is = absurd (true≢false (sym is))
 find_some (suc n) p (true ∷ v) wide passes =
-    ap is_some (halves n p) ∙ high (find (λ u. p (false ∷ u)) (vectors n)) (find (λ u. p (true ∷ u)) (vectors n)) (find_some n (λ u. p (true ∷ u)) v (omega arith) passes)
+    ap is_some (find-halves n p) ∙ high (find (λ u. p (false ∷ u)) (vectors n)) (find (λ u. p (true ∷ u)) (vectors n)) (find_some n (λ u. p (true ∷ u)) v (omega arith) passes)
   where
     high : (a b : Option (List Bool)) → is_some b ≡ true → is_some (option_or (option_map (λ (u : List Bool). false ∷ u) a) (option_map (λ (u : List Bool). true ∷ u) b)) ≡ true
     high (Some u) b is = refl

@@ -1,8 +1,10 @@
-pub mod Bisection
+-- The chapter: what the contracts of public functions say.
 pub mod Clauses
-pub mod Descent
-pub mod Each
-pub mod Laws
-pub mod Loaded
 pub mod Queries
 pub mod Vectors
+pub mod Laws
+pub mod Each
+pub mod Loaded
+-- The code's own: what its parts say to each other.
+pub mod Bisection
+pub mod Descent

@@ -105,28 +105,11 @@ dot_asked file word known told drawn (value ∷ rest) dot is =
     ap (λ t. if t then option_and_then (λ f. explain_with file known f (value ∷ rest)) (with_dot told) else option_and_then (λ more. explain_with file more told rest) (with_option word value known)) dot
     ∙ ap (option_and_then (λ f. explain_with file known f (value ∷ rest))) is
 
-pub dot_refused : (file word : List ℕ) (known : Options) (told : Form) (rest : List (List ℕ)) → is_dot word ≡ true → with_dot told ≡ None
-    → explain_with file known told (word ∷ rest) ≡ None
-dot_refused file word known told [] dot is =
-    ap (λ t. if t then option_and_then (λ f. Some (Explain file known f)) (with_dot told) else None) dot ∙ ap (option_and_then (λ f. Some (Explain file known f))) is
-dot_refused file word known told (value ∷ rest) dot is =
-    ap (λ t. if t then option_and_then (λ f. explain_with file known f (value ∷ rest)) (with_dot told) else option_and_then (λ more. explain_with file more told rest) (with_option word value known)) dot
-    ∙ ap (option_and_then (λ f. explain_with file known f (value ∷ rest))) is
-
 pub option_asked : (file word value : List ℕ) (known more : Options) (told : Form) (rest : List (List ℕ)) → is_dot word ≡ false → with_option word value known ≡ Some more
     → explain_with file known told (word ∷ value ∷ rest) ≡ explain_with file more told rest
 option_asked file word value known more told rest dot is =
     ap (λ t. if t then option_and_then (λ f. explain_with file known f (value ∷ rest)) (with_dot told) else option_and_then (λ o. explain_with file o told rest) (with_option word value known)) dot
     ∙ ap (option_and_then (λ o. explain_with file o told rest)) is
-
-pub option_refused : (file word value : List ℕ) (known : Options) (told : Form) (rest : List (List ℕ)) → is_dot word ≡ false → with_option word value known ≡ None
-    → explain_with file known told (word ∷ value ∷ rest) ≡ None
-option_refused file word value known told rest dot is =
-    ap (λ t. if t then option_and_then (λ f. explain_with file known f (value ∷ rest)) (with_dot told) else option_and_then (λ o. explain_with file o told rest) (with_option word value known)) dot
-    ∙ ap (option_and_then (λ o. explain_with file o told rest)) is
-
-pub word_alone : (file word : List ℕ) (known : Options) (told : Form) → is_dot word ≡ false → explain_with file known told (word ∷ []) ≡ None
-word_alone file word known told dot = ap (λ t. if t then option_and_then (λ f. Some (Explain file known f)) (with_dot told) else None) dot
 
 -- the same, where the words are at least one, or two
 pub dot_behind : (file : List ℕ) (words : List (List ℕ)) (word : List ℕ) (known : Options) (told drawn : Form) → 1 ≤ length words → word ≡ get_or words 0 word

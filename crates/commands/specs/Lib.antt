@@ -1,4 +1,3 @@
--- what words ask for
+-- The chapter: what the contracts of public functions say.
 pub mod Words
--- how clauses see the values of the code
 pub mod Seen

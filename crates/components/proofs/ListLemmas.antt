@@ -3,7 +3,7 @@ use Rattle.std.proofs.Common.{◌≡◌, ◌≢◌, inl, inr, ℕ, zero, suc, �
 use Rattle.std.specs.List.{All, AllPairs}
 use Rattle.std.specs.Prelude.{slice_get}
 use Rattle.std.proofs.lemmas.Bool.{cases_lt}
-use Rattle.std.proofs.lemmas.List.{get_or-set_same, get_or-set_other, get_or_append_left, get_or-append-add, get_or_past, get_or_push, length-append, length_push, take_more, take_all}
+use Rattle.std.proofs.lemmas.List.{get_or-set_same, get_or-set_other, get_or_append_left, get_or_past, get_or_push, length-append, length_push, take_more, take_all}
 use Rattle.components.specs.declared.search.Mark.{Mark}
 use Rattle.components.specs.declared.search.Mark.TheVariants.{New, Open, Closed}
 use Rattle.components.specs.Search.{mark_of, new_cost}
@@ -13,11 +13,6 @@ module _ {X : Type 0} (P : X → Type 0) (xs ys : List X) where
   All-left all k d l =
       let len = length-append xs ys in
       subst P (get_or_append_left xs ys d k l) (all k d (omega arith))
-
-  pub All-right : All P (xs ++ ys) → All P ys
-  All-right all k d l =
-      let len = length-append xs ys in
-      subst P (get_or-append-add xs ys k d) (all (length xs + k) d (omega arith))
 
 pub All-last : {X : Type 0} (P : X → Type 0) (xs : List X) (y : X) → All P (xs ++ y ∷ []) → P y
 All-last {X} P xs y all =

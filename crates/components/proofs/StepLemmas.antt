@@ -90,10 +90,6 @@ module _ (graph : List (List ℕ)) (s : State) where
     seen = λ a h. h;
   }
 
-  -- the bounds of what is on the path
-  pub path_below : IsSound graph s → length s.path + s.count ≤ length graph
-  path_below sound = (let room = sound.room in omega arith)
-
   pub path_marked : IsSound graph s → All (λ node. node < length s.marks) s.path
   path_marked sound k d l =
       subst (λ n. n < length s.marks) (get_or_default s.path k 0 d l) (marked_within s.marks (get_or s.path k 0) (Open k) (sound.places k l) (λ e. cc))
@@ -133,10 +129,3 @@ module _ (graph : List (List ℕ)) (s : State) where
 
 pub mark_read : (marks : List Mark) (a : ℕ) (read mark : Mark) → a < length marks → read ≡ get_or marks a read → read ≡ mark → mark_of marks a ≡ mark
 mark_read marks a read mark l at is = get_or_default marks a New read l ∙ sym at ∙ is
-
-pub Advances-trans : (graph : List (List ℕ)) (one two three : State) → Advances graph one two → Advances graph two three → Advances graph one three
-Advances-trans graph one two three first second = record {
-  searching = second.searching;
-  left = (let one = first.left in let two = second.left in omega arith);
-  seen = λ a h. first.seen a (second.seen a h);
-}

@@ -1,5 +1,5 @@
 -- The care set of a file: what binding says of its models.
-use Rattle.std.proofs.Common.{◌≡◌, ◌⊎◌, inl, inr, ℕ, ◌+◌, ◌<◌, ◌≤◌, not, List, [], ◌∷◌, length, map, Some, None, Ok, Err, Bool, true, false, refl, sym, ap, ap₂, ◌∙◌, subst, arith}
+use Rattle.std.proofs.Common.{◌≡◌, ◌⊎◌, inl, inr, ℕ, ◌+◌, ◌<◌, ◌≤◌, not, List, [], ◌∷◌, length, map, Some, None, Ok, Err, Bool, true, false, refl, sym, ap, ap₂, ◌∙◌, arith}
 use Rattle.std.specs.Prelude.{nat_le, if◌then◌else◌, option_map, unwrap_or, is_none, is_some, position, codes, ◌||◌, ◌&&◌}
 use Rattle.std.specs.declared.option.Option.{Option}
 use Rattle.std.specs.List.{AllByRecursion}
@@ -19,7 +19,7 @@ use Rattle.loops.specs.Walks.{AnyGate, Leads}
 use Rattle.loops.proofs.Walks.{begins_at, leads-any}
 use Rattle.loops.proofs.Existence.{loops_exist}
 use Rattle.care_sets.specs.Care.{CareSet}
-use Rattle.care_sets.specs.Binding.{Binds, BindsAny, BindsBoth, HasNoFault, IsCareOf, IsFaultOf, IsFirstFault, column_of}
+use Rattle.care_sets.specs.Binding.{Binds, BindsAny, BindsBoth, HasNoFault, IsFaultOf, IsFirstFault, column_of}
 use Rattle.care_sets.specs.declared.fault.CareFault.{CareFault}
 use Rattle.care_sets.specs.declared.fault.CareFault.TheVariants.{NoModels, Loop}
 use Rattle.care_sets.specs.declared.model.CareModel.{CareModel}
@@ -28,7 +28,7 @@ use Rattle.blif_read.specs.declared.models.BlifModel.{BlifModel}
 use Rattle.flatten.specs.Flat.{flat}
 use Rattle.flatten.specs.declared.fault.FlatFault.{FlatFault}
 use Rattle.contents.specs.CareFiles.{no_care, part_of, some_part, with_assume, with_invariant, has_loop, model_fault, models_fault, bound_model, unless_fault, bound, care_of, care_models}
-use Rattle.contents.specs.Faults.{Fault, IsErrorOf, care_fault, flat_fault, too_long}
+use Rattle.contents.specs.Faults.{care_fault, flat_fault, too_long}
 use Rattle.contents.specs.NetlistFiles.{flat_result}
 
 -- a file that isn't too long has the care set of its text
@@ -116,9 +116,6 @@ any_told net first (Some model) None binds = absurd binds
 any_told net first (Some model) (Some b) binds =
     record { sound = no_fault_told net first model binds.passes; is = ap Some (bound_told net first model b binds) }
 
-first_of : Option CareFault → Option CareFault → Option CareFault → Option CareFault
-first_of x y z = first_there (x ∷ y ∷ z ∷ [])
-
 -- both models
 pub bound_good : (net : Parts) (a i : Option Parts) (care : CareSet) → BindsBoth net a i care → bound net a i ≡ Ok care
 bound_good net a i care both =
@@ -170,33 +167,11 @@ found_part models part name found t named is some =
     ap (λ (u : Bool). if u then Ok None else some_part (flat_result (flat models part)))
     (ap (λ n. is_none (position (has_name n) models)) (sym named) ∙ sym (ap is_none is) ∙ ap not some)
 
-pub part_absent : (models : List BlifModel) (part name : List ℕ) (found : Option ℕ) → name ≡ part → found ≡ position (has_name name) models → is_some found ≡ false
-    → part_of models part ≡ Ok None
-part_absent models part name found named is none = found_part models part name found false named is none
-
-pub part_good : (models : List BlifModel) (part name : List ℕ) (found : Option ℕ) (net : Parts) → name ≡ part → found ≡ position (has_name name) models → is_some found ≡ true
-    → flat models name ≡ Ok net → part_of models part ≡ Ok (Some net)
-part_good models part name found net named is some flat_is =
-    found_part models part name found true named is some
-    ∙ ap (λ n. some_part (flat_result (flat models n))) (sym named)
-    ∙ ap (λ r. some_part (flat_result r)) flat_is
-
 pub part_bad : (models : List BlifModel) (part name : List ℕ) (at : Option ℕ) (fault : FlatFault)
     → name ≡ part → at ≡ position (has_name name) models → is_some at ≡ true → flat models name ≡ Err fault
     → part_of models part ≡ Err (flat_fault fault)
 part_bad models part name at fault named is some there =
     found_part models part name at true named is some ∙ ap (λ n. some_part (flat_result (flat models n))) (sym named) ∙ ap (λ r. some_part (flat_result r)) there
-
--- both models of the file, one after another
-pub assume_bad : (net : Parts) (models : List BlifModel) (error : Option Fault) → IsErrorOf (part_of models (codes "assume")) error
-    → IsErrorOf (care_models net (Ok models)) error
-assume_bad net models None is = tt
-assume_bad net models (Some fault) is = ap (with_assume net models) is
-
-pub invariant_bad : (net : Parts) (models : List BlifModel) (a : Option Parts) (error : Option Fault) → part_of models (codes "assume") ≡ Ok a
-    → IsErrorOf (part_of models (codes "invariant")) error → IsErrorOf (care_models net (Ok models)) error
-invariant_bad net models a None is_a is = tt
-invariant_bad net models a (Some fault) is_a is = ap (with_assume net models) is_a ∙ ap (with_invariant net a) is
 
 both_parts : (net : Parts) (models : List BlifModel) (a i : Option Parts) → part_of models (codes "assume") ≡ Ok a → part_of models (codes "invariant") ≡ Ok i
     → care_models net (Ok models) ≡ bound net a i
@@ -218,8 +193,3 @@ bind_error net models a i found lack is_a is_i fault = by_fault (bind_fault net 
 -- without a care file
 pub none_is : (care : CareSet) → care.assume ≡ None → care.invariant ≡ None → care ≡ no_care
 none_is care no_assume no_invariant = ap₂ (λ (x y : Option CareModel). record { assume = x; invariant = y }) no_assume no_invariant
-
-pub none_fits : (net : Parts) (care : CareSet) → care.assume ≡ None → care.invariant ≡ None → IsCareOf net care
-none_fits net care no_assume no_invariant =
-    let P : CareSet → Type 0 = IsCareOf net in
-    subst P (sym (none_is care no_assume no_invariant)) (record { assume = tt; invariant = tt })

@@ -2,6 +2,7 @@
 use Rattle.std.proofs.Common.{◌≡◌, Bool, true, false, not, cond, ◌&&◌, List, [], ◌∷◌, ◌++◌, map, refl, ap, sym, ◌∙◌, true≢false, ℕ, zero, suc, set, get_or, ◌↔◌}
 use Rattle.std.specs.List.{list_all}
 use Rattle.std.proofs.lemmas.Bool.{and_parts, and_from, not-true, not_from_false}
+use Rattle.std.proofs.lemmas.List.Folds.{list_all-append, list_all-map}
 use Rattle.cyc_base.specs.declared.trit.Trit.{Trit}
 use Rattle.cyc_base.specs.declared.trit.Trit.TheVariants.{Zero, One, X}
 use Rattle.cyc_base.specs.Values.{bit, bits, Below, EachBelow, Completes}
@@ -9,18 +10,6 @@ use Rattle.cyc_base.proofs.OrderLemmas.{Below-refl, Below-trans, Below-from, Bel
 use Rattle.cover_logic.specs.Covers.{Cover, value}
 use Rattle.cover_logic.specs.Extensions.{completions, exact, ext}
 use Rattle.cover_logic.specs.Laws.{ExtIsExact, ExtAtBits, IsMonotone, IsBelowValue, IsMostInformative, ValueIsMonotone}
-
-list_all-map : {A B : Type 0} (f : B → Bool) (g : A → B) (xs : List A) → list_all f (map g xs) ≡ list_all (λ x. f (g x)) xs
-list_all-map f g [] = refl
-list_all-map f g (x ∷ xs) = ap (λ b. f (g x) && b) (list_all-map f g xs)
-
-and_assoc : (a b c : Bool) → (a && (b && c)) ≡ ((a && b) && c)
-and_assoc true b c = refl
-and_assoc false b c = refl
-
-list_all-append : {A : Type 0} (f : A → Bool) (xs ys : List A) → list_all f (xs ++ ys) ≡ (list_all f xs && list_all f ys)
-list_all-append f [] ys = refl
-list_all-append f (x ∷ xs) ys = ap (λ b. f x && b) (list_all-append f xs ys) ∙ and_assoc (f x) (list_all f xs) (list_all f ys)
 
 -- with one more pin that is X, a test goes over two lists
 both_listed : (f : List Bool → Bool) (xs : List (List Bool)) → list_all f (map (λ bs. false ∷ bs) xs ++ map (λ bs. true ∷ bs) xs) ≡ (list_all (λ bs. f (false ∷ bs)) xs && list_all (λ bs. f (true ∷ bs)) xs)
@@ -114,20 +103,6 @@ pub exact_above : (f : List Bool → Bool) (trits : List Trit) (x : Trit) → ((
 exact_above f trits x h =
     Below-from x (exact f trits)
     (λ b e. exact_from f trits b (λ bs c. same_bit (f bs) b (Below-at x (bit (f bs)) b (h bs c) e)))
-
-same_trit : (x y : Trit) → ((b : Bool) → x ≡ bit b → y ≡ bit b) → ((b : Bool) → y ≡ bit b → x ≡ bit b) → x ≡ y
-same_trit X X f g = refl
-same_trit X Zero f g = g false refl
-same_trit X One f g = g true refl
-same_trit Zero y f g = sym (f false refl)
-same_trit One y f g = sym (f true refl)
-
--- functions with equal values have one extension
-pub exact_same : (f g : List Bool → Bool) (trits : List Trit) → ((bs : List Bool) → f bs ≡ g bs) → exact f trits ≡ exact g trits
-exact_same f g trits same =
-    same_trit (exact f trits) (exact g trits)
-    (λ b e. exact_from g trits b (λ bs c. sym (same bs) ∙ exact_says f trits b e bs c))
-    (λ b e. exact_from f trits b (λ bs c. same bs ∙ exact_says g trits b e bs c))
 
 -- ---- the cofactors at an unknown place
 

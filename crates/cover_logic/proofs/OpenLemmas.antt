@@ -4,13 +4,13 @@ use Rattle.std.specs.List.{list_any, filter}
 use Rattle.cyc_base.specs.declared.trit.Trit.{Trit}
 use Rattle.cyc_base.specs.declared.trit.Trit.TheVariants.{Zero, One, X}
 use Rattle.cyc_base.specs.Values.{bit, Below, Completes}
+use Rattle.cyc_base.proofs.TruthLemmas.{same_truth, and_assoc}
 use Rattle.cover_logic.specs.declared.row.Lit.{Lit}
 use Rattle.cover_logic.specs.declared.row.Lit.TheVariants as lit
 use Rattle.cover_logic.specs.declared.row.Row.{Row}
 use Rattle.cover_logic.specs.Covers.{allows, matches, some_row_matches}
 use Rattle.cover_logic.specs.Partial.{may_allow, may_match, is_tautology, unknown_count, open_pins, open_lits, open_row, open_rows}
 use Rattle.cover_logic.proofs.ExtensionLemmas.{passes_above, passes_listed}
-use Rattle.cover_logic.proofs.TautologyLemmas.{same_bool}
 
 -- ---- the unknown pins of a completion, and the completion of those
 
@@ -62,10 +62,6 @@ and_swap true b c = refl
 and_swap false true c = refl
 and_swap false false c = refl
 
-and_and : (a b c : Bool) → (a && (b && c)) ≡ ((a && b) && c)
-and_and true b c = refl
-and_and false b c = refl
-
 known_zero : (l : Lit) (b : Bool) → Below Zero (bit b) → allows l b ≡ may_allow l Zero
 known_zero lit.Zero false c = refl
 known_zero lit.One false c = refl
@@ -94,11 +90,11 @@ matches-open (l ∷ lits) (X ∷ trits) [] c = absurd c
 matches-open (l ∷ lits) (Zero ∷ trits) (b ∷ bs) c =
     ap (λ a. a && matches lits bs) (known_zero l b c.0)
     ∙ ap (λ m. may_allow l Zero && m) (matches-open lits trits bs c.1)
-    ∙ and_and (may_allow l Zero) (may_match lits trits) (matches (open_lits lits trits) (open_bits trits bs))
+    ∙ sym (and_assoc (may_allow l Zero) (may_match lits trits) (matches (open_lits lits trits) (open_bits trits bs)))
 matches-open (l ∷ lits) (One ∷ trits) (b ∷ bs) c =
     ap (λ a. a && matches lits bs) (known_one l b c.0)
     ∙ ap (λ m. may_allow l One && m) (matches-open lits trits bs c.1)
-    ∙ and_and (may_allow l One) (may_match lits trits) (matches (open_lits lits trits) (open_bits trits bs))
+    ∙ sym (and_assoc (may_allow l One) (may_match lits trits) (matches (open_lits lits trits) (open_bits trits bs)))
 matches-open (l ∷ lits) (X ∷ trits) (b ∷ bs) c =
     ap (λ m. allows l b && m) (matches-open lits trits bs c.1)
     ∙ and_swap (allows l b) (may_match lits trits) (matches (open_lits lits trits) (open_bits trits bs))
@@ -123,7 +119,7 @@ some-open rows trits bs c =
 -- so they are a tautology where all rows are one
 pub same_open : (rows : List Row) (trits : List Trit) → is_tautology (open_rows rows trits) (open_pins trits) ≡ is_tautology rows trits
 same_open rows trits =
-    same_bool (is_tautology (open_rows rows trits) (open_pins trits)) (is_tautology rows trits)
+    same_truth (is_tautology (open_rows rows trits) (open_pins trits)) (is_tautology rows trits)
     (λ e.
     passes_listed (some_row_matches rows) trits
     (λ bs c. some-open rows trits bs c ∙ passes_above (some_row_matches (open_rows rows trits)) (open_pins trits) e (open_bits trits bs) (open-completes trits bs c)))

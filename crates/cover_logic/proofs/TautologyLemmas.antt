@@ -10,6 +10,7 @@ use Rattle.cyc_base.specs.declared.trit.Trit.{Trit}
 use Rattle.cyc_base.specs.declared.trit.Trit.TheVariants.{Zero, One, X}
 use Rattle.cyc_base.specs.Values.{bit, Below, Completes}
 use Rattle.cyc_base.proofs.OrderLemmas.{Below-refl, Below-bit, same_bit}
+use Rattle.cyc_base.proofs.TruthLemmas.{same_truth}
 use Rattle.cover_logic.specs.declared.row.Lit.{Lit}
 use Rattle.cover_logic.specs.declared.row.Lit.TheVariants as lit
 use Rattle.cover_logic.specs.declared.row.Row.{Row}
@@ -111,11 +112,11 @@ may_completion (l ∷ lits) (t ∷ trits) h =
     (freed l t ∷ rest.0, (freed-above l t, rest.1), and_from (allows l (freed l t)) (matches lits rest.0) (freed-allowed l t p.0) rest.2)
 
 -- a row that does not ask for b at a pin, and matches where the pin is b, matches at the other value too
-allows_other : (l : Lit) (b : Bool) → not (allows l (not b)) ≡ false → allows l (not b) ≡ true
+pub allows_other : (l : Lit) (b : Bool) → not (allows l (not b)) ≡ false → allows l (not b) ≡ true
 allows_other l true h = not-false (allows l false) h
 allows_other l false h = not-false (allows l true) h
 
-matches_other : (lits : List Lit) (bs : List Bool) (pin : ℕ) (b : Bool) → asks lits pin b ≡ false → matches lits (set bs pin b) ≡ true → matches lits (set bs pin (not b)) ≡ true
+pub matches_other : (lits : List Lit) (bs : List Bool) (pin : ℕ) (b : Bool) → asks lits pin b ≡ false → matches lits (set bs pin b) ≡ true → matches lits (set bs pin (not b)) ≡ true
 matches_other [] bs pin b n h = refl
 matches_other (l ∷ lits) [] pin b n h = refl
 matches_other (l ∷ lits) (d ∷ bs) zero b n h =
@@ -173,7 +174,7 @@ decided rows trits n h =
 
 -- ---- the cofactors at an unknown pin
 
-completes-reset : (trits : List Trit) (bs : List Bool) (pin : ℕ) (d b : Bool) → Completes (set trits pin (bit d)) bs → Completes (set trits pin (bit b)) (set bs pin b)
+pub completes-reset : (trits : List Trit) (bs : List Bool) (pin : ℕ) (d b : Bool) → Completes (set trits pin (bit d)) bs → Completes (set trits pin (bit b)) (set bs pin b)
 completes-reset [] [] pin d b c = tt
 completes-reset [] (e ∷ bs) pin d b c = absurd c
 completes-reset (t ∷ trits) [] zero d b c = absurd c
@@ -181,18 +182,13 @@ completes-reset (t ∷ trits) [] (suc pin) d b c = absurd c
 completes-reset (t ∷ trits) (e ∷ bs) zero d b c = (Below-refl (bit b), c.1)
 completes-reset (t ∷ trits) (e ∷ bs) (suc pin) d b c = (c.0, completes-reset trits bs pin d b c.1)
 
-set-completes : (trits : List Trit) (bs : List Bool) (pin : ℕ) (d : Bool) → Completes (set trits pin (bit d)) bs → set bs pin d ≡ bs
+pub set-completes : (trits : List Trit) (bs : List Bool) (pin : ℕ) (d : Bool) → Completes (set trits pin (bit d)) bs → set bs pin d ≡ bs
 set-completes [] [] pin d c = refl
 set-completes [] (e ∷ bs) pin d c = absurd c
 set-completes (t ∷ trits) [] zero d c = absurd c
 set-completes (t ∷ trits) [] (suc pin) d c = absurd c
 set-completes (t ∷ trits) (e ∷ bs) zero d c = ap (λ b. b ∷ bs) (sym (same_bit e d (Below-bit d (bit e) c.0)))
 set-completes (t ∷ trits) (e ∷ bs) (suc pin) d c = ap (λ r. e ∷ r) (set-completes trits bs pin d c.1)
-
-pub same_bool : (a b : Bool) → (a ≡ true → b ≡ true) → (b ≡ true → a ≡ true) → a ≡ b
-same_bool true b f g = sym (f refl)
-same_bool false true f g = g refl
-same_bool false false f g = refl
 
 at_bit : (rows : List Row) (trits : List Trit) (pin : ℕ) → is_tautology rows (set trits pin Zero) ≡ true → is_tautology rows (set trits pin One) ≡ true → (bs : List Bool) (b : Bool) → Completes (set trits pin (bit b)) bs → some_row_matches rows bs ≡ true
 at_bit rows trits pin low high bs false c = passes_above (some_row_matches rows) (set trits pin Zero) low bs c
@@ -205,7 +201,7 @@ cofactor rows trits pin b x h =
 
 pub both_cofactors : (rows : List Row) (trits : List Trit) (pin : ℕ) → get_or trits pin X ≡ X → (is_tautology rows (set trits pin Zero) && is_tautology rows (set trits pin One)) ≡ is_tautology rows trits
 both_cofactors rows trits pin x =
-    same_bool (is_tautology rows (set trits pin Zero) && is_tautology rows (set trits pin One)) (is_tautology rows trits)
+    same_truth (is_tautology rows (set trits pin Zero) && is_tautology rows (set trits pin One)) (is_tautology rows trits)
     (λ e.
     let p = and_parts (is_tautology rows (set trits pin Zero)) (is_tautology rows (set trits pin One)) e in
     passes_listed (some_row_matches rows) trits
@@ -240,11 +236,11 @@ harder rows trits pin b x n h =
 
 pub one_cofactor : (rows : List Row) (trits : List Trit) (pin : ℕ) (b : Bool) → get_or trits pin X ≡ X → some_row_asks rows trits pin b ≡ false → is_tautology rows (set trits pin (bit b)) ≡ is_tautology rows trits
 one_cofactor rows trits pin false x n =
-    same_bool (is_tautology rows (set trits pin Zero)) (is_tautology rows trits)
+    same_truth (is_tautology rows (set trits pin Zero)) (is_tautology rows trits)
     (λ e. sym (both_cofactors rows trits pin x) ∙ and_from (is_tautology rows (set trits pin Zero)) (is_tautology rows (set trits pin One)) e (harder rows trits pin false x n e))
     (cofactor rows trits pin false x)
 one_cofactor rows trits pin true x n =
-    same_bool (is_tautology rows (set trits pin One)) (is_tautology rows trits)
+    same_truth (is_tautology rows (set trits pin One)) (is_tautology rows trits)
     (λ e. sym (both_cofactors rows trits pin x) ∙ and_from (is_tautology rows (set trits pin Zero)) (is_tautology rows (set trits pin One)) (harder rows trits pin true x n e) e)
     (cofactor rows trits pin true x)
 
@@ -252,7 +248,7 @@ one_cofactor rows trits pin true x n =
 pub other_decides : (rows : List Row) (trits : List Trit) (pin : ℕ) (b : Bool) → get_or trits pin X ≡ X → is_tautology rows (set trits pin (bit b)) ≡ true → is_tautology rows (set trits pin (bit (not b))) ≡ is_tautology rows trits
 other_decides rows trits pin false x h = first_holds rows trits pin x h
 other_decides rows trits pin true x h =
-    same_bool (is_tautology rows (set trits pin Zero)) (is_tautology rows trits)
+    same_truth (is_tautology rows (set trits pin Zero)) (is_tautology rows trits)
     (λ e. sym (both_cofactors rows trits pin x) ∙ and_from (is_tautology rows (set trits pin Zero)) (is_tautology rows (set trits pin One)) e h)
     (cofactor rows trits pin false x)
 

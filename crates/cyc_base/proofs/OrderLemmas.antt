@@ -1,5 +1,7 @@
 -- The order of values, and that of lists of them.
-use Rattle.std.proofs.Common.{◌≡◌, ℕ, zero, suc, ◌<◌, Bool, true, false, List, [], ◌∷◌, ◌++◌, length, replicate, get_or, set, map, refl, ap, ap₂, sym, arith}
+use Rattle.std.proofs.Common.{◌≡◌, ◌≢◌, ◌⊎◌, inl, inr, ◌∙◌, ℕ, zero, suc, ◌<◌, Bool, true, false, List, [], ◌∷◌, ◌++◌, length, replicate, get_or, set, map, refl, ap, ap₂, sym, arith}
+use Rattle.std.proofs.lemmas.List.{get_or-map}
+use Rattle.cyc_base.specs.declared.sig.Sig.{Sig}
 use Rattle.cyc_base.specs.declared.trit.Trit.{Trit}
 use Rattle.cyc_base.specs.declared.trit.Trit.TheVariants.{Zero, One, X}
 use Rattle.cyc_base.specs.Values.{bit, bits, Below, EachBelow, Completes}
@@ -135,3 +137,38 @@ EachBelow-bits [] [] h = refl
 EachBelow-bits [] (x ∷ xs) h = absurd h
 EachBelow-bits (b ∷ bs) [] h = absurd h
 EachBelow-bits (b ∷ bs) (x ∷ xs) h = ap₂ (λ z zs. z ∷ zs) (Below-bit b x h.0) (EachBelow-bits bs xs h.1)
+
+pub EachBelow-from_at : (xs ys : List Trit) → length xs ≡ length ys → ((n : ℕ) → n < length xs → Below (get_or xs n X) (get_or ys n X)) → EachBelow xs ys
+EachBelow-from_at [] [] e h = tt
+EachBelow-from_at [] (y ∷ ys) e h = absurd (omega arith)
+EachBelow-from_at (x ∷ xs) [] e h = absurd (omega arith)
+EachBelow-from_at (x ∷ xs) (y ∷ ys) e h =
+    (h zero (omega arith), EachBelow-from_at xs ys (omega arith) (λ n l. h (suc n) (omega arith)))
+
+pub EachBelow-map_at : (f g : Sig → Trit) (xs : List Sig) → ((k : ℕ) (d : Sig) → k < length xs → Below (f (get_or xs k d)) (g (get_or xs k d))) → EachBelow (map f xs) (map g xs)
+EachBelow-map_at f g [] h = tt
+EachBelow-map_at f g (x ∷ xs) h = (h zero x (omega arith), EachBelow-map_at f g xs (λ k d l. h (suc k) d (omega arith)))
+
+-- known values
+
+pub bit-known : (b : Bool) → bit b ≢ X
+bit-known true e = cc
+bit-known false e = cc
+
+pub unknown_or_bit : (t : Trit) → (t ≡ X) ⊎ ((b : Bool) × (t ≡ bit b))
+unknown_or_bit X = inl refl
+unknown_or_bit Zero = inr (false, refl)
+unknown_or_bit One = inr (true, refl)
+
+pub Below-known : (x y : Trit) → Below x y → x ≢ X → y ≡ x
+Below-known X y h known = absurd (known refl)
+Below-known Zero y h known = h
+Below-known One y h known = h
+
+pub Below-unknown : (x y : Trit) → Below x y → y ≡ X → x ≡ X
+Below-unknown X y below is = refl
+Below-unknown Zero y below is = sym below ∙ is
+Below-unknown One y below is = sym below ∙ is
+
+pub bits-at : (v : List Bool) (k : ℕ) → k < length v → get_or (bits v) k X ≡ bit (get_or v k false)
+bits-at v k l = get_or-map bit v k false X l

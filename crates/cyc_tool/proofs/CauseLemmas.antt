@@ -17,7 +17,7 @@ use Rattle.refusals.proofs.LawLemmas.{accepted_without_refusal, refusal_is_shown
 use Rattle.equal.specs.declared.answer.Answer.{Answer}
 use Rattle.equal.specs.declared.answer.Answer.TheVariants.{Equal as AreEqual, Unmatched, First, Second, Output, Latch}
 use Rattle.equal.specs.Rebound.{found}
-use Rattle.equal_text.specs.Texts.{answer_text}
+use Rattle.equality.specs.Texts.{answer_text}
 use Rattle.equality.specs.Shown.{IsShown}
 use Rattle.equality.specs.Told.{is_equal}
 use Rattle.cyc_tool.specs.Answer.{decided, verdict_of}

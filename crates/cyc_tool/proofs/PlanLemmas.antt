@@ -113,15 +113,6 @@ follows_still files counts nodes end rest ends = record {
   ends = ends;
 }
 
-pub leads_still : (files : Option Files) (counts : Counts) (plan rest : Plan) → plan ≡ rest
-    → LeadsTo plan rest (record { files = files; before = counts; now = counts })
-leads_still files counts plan rest is = record {
-  given = [];
-  gave = tt;
-  counts = record { later = λ other. omega arith; others = λ other differs. refl };
-  is = is;
-}
-
 -- What leads on in one part of a call leads on in the next.
 leads_more : (files : Option Files) (a b c : Counts) (plan rest last : Plan) → (leads : LeadsTo plan rest (record { files = files; before = a; now = b }))
     → LeadsTo (rest_of leads.given plan) last (record { files = files; before = b; now = c })

@@ -1,6 +1,6 @@
 -- Vectors and ticks, item by item.
-use Rattle.std.proofs.Common.{◌≡◌, ℕ, Bool, List, [], ◌∷◌, drop, length, map, Some, refl, ap, ◌∙◌}
-use Rattle.std.specs.Prelude.{slice_get, zero, suc, All}
+use Rattle.std.proofs.Common.{◌≡◌, ℕ, Bool, List, [], ◌∷◌, length, map, refl, ap, ◌∙◌}
+use Rattle.std.specs.Prelude.{suc, All}
 use Rattle.std.specs.List.{AllByRecursion}
 use Rattle.std.proofs.lemmas.List.Elements.{All-from_recursion, recursion_from_All}
 use Rattle.cyc_tool.proofs.Common.{Trit, known}
@@ -20,9 +20,3 @@ known_width n vectors wide =
         → AllByRecursion (λ (inputs : List Bool). length inputs ≡ n) (known vs)
     each [] all = tt
     each (vector ∷ vs) all = (long vector ∙ all.0, each vs all.1)
-
--- a list from an element on
-pub drop-get : {A : Type 0} (xs : List A) (n : ℕ) (x : A) → slice_get xs n ≡ Some x → drop n xs ≡ x ∷ drop (suc n) xs
-drop-get [] n x e = cc
-drop-get (y ∷ xs) zero x e = let same : y ≡ x = cc in ap (λ z. z ∷ xs) same
-drop-get (y ∷ xs) (suc n) x e = drop-get xs n x e

@@ -18,7 +18,7 @@ use Rattle.cyc_tool.specs.Storms.{storm_text}
 use Rattle.aiger_write.specs.Text.{aiger_text}
 use Rattle.equal.specs.Matching.{unmatched}
 use Rattle.equal.specs.Rebound.{IsEnoughForBoth, IsLimited as IsComparisonLimited}
-use Rattle.equal_runs.specs.Runs.{RunAlike}
+use Rattle.equality.specs.Runs.{RunAlike}
 use Rattle.equality.specs.Shown.{ShowsItself}
 use Rattle.rewriting.specs.Graphs.{graph_of, IsGraphing}
 use Rattle.rewriting.specs.Rewriting.{rewritten, IsRewriting}

@@ -1,15 +1,15 @@
--- The meaning of words, in the order of reading.
+-- The chapter: what the contracts of public functions say.
+pub mod Requests
+pub mod Texts
 pub mod Simulation
 pub mod Plays
-pub mod Storms
-pub mod Texts
-pub mod Requests
 pub mod Plans
+pub mod Storms
 pub mod Endings
 pub mod Answer
 pub mod Calls
 pub mod Causes
--- What functions below `run` say of parts of a call, and how clauses see the values of the code.
+-- The code's own: what its parts say to each other.
 pub mod Reading
-pub mod Seen
 pub mod Hearing
+pub mod Seen

@@ -9,6 +9,7 @@ use Rattle.bdd_ops.specs.Least.{IsLayout, by_variable}
 use Rattle.cyc_base.specs.declared.trit.Trit.{Trit}
 use Rattle.cyc_base.specs.Values.{bits}
 use Rattle.cyc_base.specs.Vectors.{vectors}
+use Rattle.cyc_base.proofs.VectorLemmas.{find-alike}
 use Rattle.dual_rail.specs.declared.rail.Rails.{Rails}
 use Rattle.dual_rail.specs.Rails.{AreRailsOf, trit_of, value_of}
 use Rattle.dual_rail.specs.WorkingLists.{IsWide}
@@ -16,6 +17,7 @@ use Rattle.dual_rail.proofs.SurelyLemmas.{length-values}
 use Rattle.netlist.specs.declared.parts.Parts.{Parts}
 use Rattle.netlist.specs.Fixpoint.{wire, fix, fix_gates}
 use Rattle.netlist.specs.Netlists.{count}
+use Rattle.netlist.proofs.FixpointLemmas.{length-fix_gates}
 use Rattle.loops.specs.declared.structure.Blocks.{Blocks}
 use Rattle.loops.specs.declared.structure.Cut.{Cut}
 use Rattle.fixpoint.specs.declared.solved.Solved.{Solved}
@@ -25,9 +27,7 @@ use Rattle.fixpoint.specs.Sweeping.{rails_at}
 use Rattle.fixpoint.proofs.WireLemmas.{rails_at-proper}
 use Rattle.care_sets.specs.Care.{CareSet, columns, is_care_vector}
 use Rattle.refusals.proofs.LawLemmas.{care_test}
-use Rattle.refusals.proofs.RefusalLemmas.{length-fix_gates}
 use Rattle.verdict.proofs.CareLemmas.{value_at-place}
-use Rattle.verdict.proofs.SetLemmas.{find-alike}
 use Rattle.clause_decision.specs.declared.pairs.Pair.{Pair}
 use Rattle.differences.specs.Comparisons.{IsLaidBy}
 use Rattle.clause_decision.specs.Apart.{are_apart, is_apart_at, some_is_apart, IsPairOf}

@@ -1,26 +1,22 @@
 -- What a comparison costs, added up, and why it finds the diagrams full.
-use Rattle.std.proofs.Common.{◌≡◌, inl, inr, ℕ, ◌+◌, ◌*◌, ◌<◌, ◌≤◌, List, Option, Some, None, Err, Result, length, subst, ◌∙◌, arith}
-use Rattle.std.specs.Prelude.{IsSomeAnd}
+use Rattle.std.proofs.Common.{◌≡◌, inl, inr, ℕ, ◌+◌, ◌*◌, ◌<◌, ◌≤◌, List, Err, Result, length, subst, ◌∙◌, arith}
 use Rattle.std.specs.Option.{option_map_or}
-use Rattle.std.proofs.lemmas.List.Sums.{get_or-le-sum_by}
-use Rattle.std.proofs.Math.Nat.{mul-le-mul_left, mul-le-mul_right}
+use Rattle.std.proofs.Math.Nat.{mul-le-mul_left}
+use Rattle.isolation.proofs.WidthLemmas.{effort-enough}
 use Rattle.bdd_store.specs.declared.fault.StoreFault.{StoreFault}
 use Rattle.bdd_store.specs.declared.fault.StoreFault.TheVariants.{Full}
 use Rattle.bdd_store.specs.Arena.{Arena}
 use Rattle.bdd_store.specs.Growth.{AddsWithin}
 use Rattle.bdd_store.proofs.GrowthLemmas.{adds_more}
-use Rattle.dual_rail.specs.Local.{size}
 use Rattle.dual_rail.specs.WorkingLists.{IsWide}
 use Rattle.dual_rail.proofs.WidthLemmas.{IsWide-some}
-use Rattle.netlist.specs.declared.parts.Gate.{Gate}
 use Rattle.netlist.specs.declared.parts.Parts.{Parts}
-use Rattle.netlist.specs.Netlists.{no_gate}
-use Rattle.fixpoint.specs.Working.{HasLargeCover, effort}
-use Rattle.care_sets.specs.declared.model.CareModel.{CareModel}
+use Rattle.fixpoint.specs.Working.{effort}
 use Rattle.care_sets.specs.Care.{CareSet, columns}
 use Rattle.verdict.specs.Causes.{HasCoverOver, IsOutOfNodes, IsStoreFor}
 use Rattle.verdict.specs.Costs.{assume_effort, invariant_effort}
 use Rattle.verdict.specs.Enough.{enough}
+use Rattle.verdict.proofs.EnoughLemmas.{large-effort, model-effort}
 use Rattle.clause_decision.specs.declared.pairs.Pair.{Pair}
 use Rattle.differences.specs.Comparisons.{IsLaidBy, comparison_cost, IsBelowEnoughFor, IsFullFor}
 
@@ -42,16 +38,6 @@ costs-enough net care pairs w =
 
 -- ---- covers over the limit
 
-large-effort : (net : Parts) (limit : ℕ) → HasLargeCover net limit → limit < effort net
-large-effort net limit is =
-    let over = is.over in
-    let most = get_or-le-sum_by (λ (g : Gate). size g.cover + 1) net.gates is.gate no_gate is.within in
-    omega (arith, over, most)
-
-model-effort : (o : Option CareModel) (limit : ℕ) → IsSomeAnd o (λ model. HasLargeCover model.net limit) → limit < option_map_or (λ model. effort model.net) o 0
-model-effort None limit is = absurd is
-model-effort (Some model) limit is = large-effort model.net limit is
-
 cover-effort : (net : Parts) (care : CareSet) (limit : ℕ) → HasCoverOver net care limit → limit < effort net + (assume_effort care + invariant_effort care)
 cover-effort net care limit is = elim is [
   | inl own ↦ let e = large-effort net limit own in omega (arith, e)
@@ -60,11 +46,6 @@ cover-effort net care limit is = elim is [
     | inr over ↦ let e = model-effort care.invariant limit over in omega (arith, e)
   ]
 ]
-
-effort-enough : (limit e w gates v : ℕ) → limit < e → v + 1 ≤ w → limit < 16 * w * (gates + 2) * (e + v + 4)
-effort-enough limit e w gates v less wide =
-    let one : 1 * e ≤ w * e = mul-le-mul_right {m = 1} {n = w} e (omega (arith, wide)) in
-    omega (arith, less, wide, one)
 
 over-enough : (net : Parts) (care : CareSet) (w limit : ℕ) → columns net + 1 ≤ w → HasCoverOver net care limit → limit < enough net care w
 over-enough net care w limit wide is =

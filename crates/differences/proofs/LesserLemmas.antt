@@ -3,12 +3,14 @@ use Rattle.std.proofs.Common.{◌≡◌, inl, inr, ℕ, zero, suc, ◌<◌, ◌�
 use Rattle.std.specs.Prelude.{find}
 use Rattle.std.specs.Bool.{beq}
 use Rattle.std.proofs.Math.Dec.{leb}
-use Rattle.std.proofs.lemmas.Bool.{or_cases}
+use Rattle.std.proofs.lemmas.Bool.{or_cases, or_left}
 use Rattle.std.proofs.lemmas.Bool.Decides.{leb_tells}
 use Rattle.bdd_ops.specs.Least.{IsLeast}
 use Rattle.cyc_base.specs.Vectors.{vectors, AtMost}
+use Rattle.cyc_base.proofs.VectorLemmas.{find-alike}
+use Rattle.cyc_base.proofs.TruthLemmas.{or_without_second, or_comm}
 use Rattle.refusals.proofs.FirstLemmas.{found_passes, found_wide, found_least, none_passes}
-use Rattle.verdict.proofs.SetLemmas.{find-alike, least-first}
+use Rattle.verdict.proofs.SetLemmas.{least-first}
 
 -- ---- the order
 
@@ -74,24 +76,11 @@ longer m n is = elim (leb_tells m n) [ inl there ↦ absurd (true≢false (sym t
 
 -- ---- the first to pass one of two tests
 
-or-first : (x y : Bool) → x ≡ true → (x || y) ≡ true
-or-first x y is = ap (λ z. z || y) is
-
-or-none : (x y : Bool) → y ≡ false → (x || y) ≡ x
-or-none true y none = refl
-or-none false y none = none
-
-or-swapped : (x y : Bool) → (x || y) ≡ (y || x)
-or-swapped true true = refl
-or-swapped true false = refl
-or-swapped false true = refl
-or-swapped false false = refl
-
 pub lesser-first : (n : ℕ) (p q : List Bool → Bool) (v w : List Bool) → find p (vectors n) ≡ Some v → find q (vectors n) ≡ Some w → AtMost v w → find (λ u. p u || q u) (vectors n) ≡ Some v
 lesser-first n p q v w first second most =
     let wide : length v ≡ n = found_wide n p v first in
     let least : IsLeast (λ u. p u || q u) v = record {
-      true_there = or-first (p v) (q v) (found_passes p (vectors n) v first);
+      true_there = or_left (p v) (q v) (found_passes p (vectors n) v first);
       before_all = λ u long passes. elim (or_cases (p u) (q u) passes) [
         | inl here ↦ found_least n p v u first (long ∙ wide) here
         | inr there ↦ at_most-trans v w u most (found_least n q w u second (long ∙ wide) there)
@@ -101,11 +90,11 @@ lesser-first n p q v w first second most =
 
 pub lesser-second : (n : ℕ) (p q : List Bool → Bool) (v w : List Bool) → find p (vectors n) ≡ Some v → find q (vectors n) ≡ Some w → AtMost w v → find (λ u. p u || q u) (vectors n) ≡ Some w
 lesser-second n p q v w first second most =
-    find-alike n (λ u. p u || q u) (λ u. q u || p u) (λ u wide. or-swapped (p u) (q u)) ∙ lesser-first n q p w v second first most
+    find-alike n (λ u. p u || q u) (λ u. q u || p u) (λ u wide. or_comm (p u) (q u)) ∙ lesser-first n q p w v second first most
 
 -- or the only one
 pub only-first : (n : ℕ) (p q : List Bool → Bool) → find q (vectors n) ≡ None → find (λ u. p u || q u) (vectors n) ≡ find p (vectors n)
-only-first n p q none = find-alike n (λ u. p u || q u) p (λ u wide. or-none (p u) (q u) (none_passes n q u none wide))
+only-first n p q none = find-alike n (λ u. p u || q u) p (λ u wide. or_without_second (p u) (q u) (none_passes n q u none wide))
 
 pub only-second : (n : ℕ) (p q : List Bool → Bool) → find p (vectors n) ≡ None → find (λ u. p u || q u) (vectors n) ≡ find q (vectors n)
 only-second n p q none = find-alike n (λ u. p u || q u) q (λ u wide. ap (λ x. x || q u) (none_passes n p u none wide))

@@ -8,9 +8,9 @@ use Rattle.bdd_store.specs.Subfunctions.{nodes}
 use Rattle.bdd_store.proofs.SubfunctionLemmas.{nodes-alike}
 use Rattle.bdd_ops.specs.Operations.{conjunction}
 use Rattle.cyc_base.specs.Vectors.{vectors}
+use Rattle.cyc_base.proofs.VectorLemmas.{find-alike}
 use Rattle.dual_rail.specs.declared.rail.Rails.{Rails}
 use Rattle.dual_rail.specs.Rails.{AreRailsOf}
-use Rattle.verdict.proofs.SetLemmas.{find-alike}
 use Rattle.differences.specs.Sets.{is_above, differ, BoundsAbove, BoundsPair}
 
 -- ---- a function by other nodes

@@ -1,8 +1,7 @@
 -- Wires of loops, and what their sources say of them. What is drawn, as the code sees it.
-use Rattle.std.proofs.Common.{◌≡◌, ◌<◌, ◌+◌, All, length, filter, arith, get_or, ℕ, Bool, [], List, Some, None, refl, sym, ap, ap₂, ◌∙◌}
+use Rattle.std.proofs.Common.{◌≡◌, ◌<◌, ◌+◌, All, length, filter, arith, ℕ, Bool, [], List, Some, None, refl, ap, ap₂, ◌∙◌}
 use Rattle.std.proofs.lemmas.List.Elements.{All-filter, All-from_get_or}
 use Rattle.std.proofs.lemmas.List.FromFn.{get_or-range_with_len, length-range_with_len}
-use Rattle.std.specs.List.{range_with_len}
 use Rattle.std.proofs.lemmas.List.{length-append, length-map}
 use Rattle.cyc_base.specs.Values.{bit, bits}
 use Rattle.netlist.specs.Fixpoint.{fix, fix_gates}
@@ -36,10 +35,6 @@ module _ (net : Parts) (loops : Loops) (gate : ℕ) (pin : Sig) where
 
   pub wire_left : None ≡ (if in_loop_of net loops gate pin then Some (gate_of net pin) else None) → loop_wire net loops gate pin ≡ []
   wire_left is = let outside = none_if (in_loop_of net loops gate pin) (gate_of net pin) None refl is in rw outside refl
-
--- the numbers in order
-pub at_range : (n i : ℕ) → i < n → i ≡ get_or (range_with_len 0 n) i i
-at_range n i l = sym (get_or-range_with_len 0 n i i l ∙ omega arith)
 
 -- the gates that pass a test
 pub kept_inside : (net : Parts) (p : ℕ → Bool) → All (λ n. n < length net.gates) (filter p (gate_numbers net))

@@ -1,10 +1,7 @@
--- nodes and wires
+-- The chapter: what the contracts of public functions say.
 pub mod Dot
--- loops
 pub mod LoopGraphs
--- why a gate is undetermined
 pub mod ExplanationGraphs
--- marks of the gates that are drawn
-pub mod Marks
--- how clauses see the code's values
+-- The code's own: what its parts say to each other.
 pub mod Seen
+pub mod Marks

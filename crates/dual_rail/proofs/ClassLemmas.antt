@@ -1,7 +1,7 @@
 -- Classes of rows that agree from a pin on.
-use Rattle.std.proofs.Common.{◌≡◌, ℕ, zero, suc, ◌+◌, ◌-◌, ◌<◌, ◌≤◌, ◌⊎◌, inl, inr, List, [], ◌∷◌, ◌++◌, length, drop, reverse, replicate, get_or, map, Option, Some, None, refl, sym, ap, subst, ◌∙◌, arith, rules, add-one}
+use Rattle.std.proofs.Common.{◌≡◌, ℕ, zero, suc, ◌+◌, ◌-◌, ◌<◌, ◌≤◌, ◌⊎◌, inl, inr, List, [], ◌∷◌, ◌++◌, length, drop, replicate, get_or, map, Option, Some, None, refl, sym, ap, subst, ◌∙◌, arith, rules, add-one}
 use Rattle.std.proofs.lemmas.Bool.{cases_lt}
-use Rattle.std.proofs.lemmas.List.{get_or_past, get_or_push, get_or_append_left, get_or-replicate, get_or-reverse, length_push, length-reverse, length-replicate}
+use Rattle.std.proofs.lemmas.List.{get_or_past, get_or_push, get_or_append_left, get_or-replicate, length_push, length-replicate}
 use Rattle.std.proofs.lemmas.List.Elements.{All-get_or}
 use Rattle.std.proofs.lemmas.Option.{same_Some}
 use Rattle.std.specs.List.{All, list_any}
@@ -170,10 +170,3 @@ AreClassesBack-more rows pins classes numbers back long are more k less = elim (
       let at : pins - 1 - back ≡ pins - k = omega (arith, it) in
       subst (AreClasses rows (pins - k)) (sym (get_or_push classes numbers [] k (long ∙ sym it))) (subst (λ p. AreClasses rows p numbers) at more)
 ]
-
-pub AreClassesOf-back : (rows : List Row) (pins : ℕ) (back : List (List ℕ)) (classes : Classes) → length back ≡ pins + 1 → AreClassesBack rows pins back → classes.at_pins.items ≡ reverse back → AreClassesOf rows classes
-AreClassesOf-back rows pins back classes long are is pin less =
-    let within : pin < length back = omega (arith, less, ap length is, length-reverse back) in
-    let place : pins - (length back - 1 - pin) ≡ pin = omega (arith, long, within) in
-    subst (AreClasses rows pin) (sym ((λ j. get_or (is j) pin []) ∙ get_or-reverse back pin [] within))
-    (subst (λ p. AreClasses rows p (get_or back (length back - 1 - pin) [])) place (are (length back - 1 - pin) (omega (arith, within))))

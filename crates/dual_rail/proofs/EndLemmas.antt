@@ -1,6 +1,6 @@
 -- Where rows end.
 use Rattle.std.proofs.Common.{◌≡◌, ℕ, zero, suc, ◌+◌, ◌<◌, ◌≤◌, ◌⊎◌, inl, inr, Bool, true, false, not, ◌&&◌, List, [], ◌∷◌, ◌++◌, length, take, drop, map, get_or, refl, sym, ap, ◌∙◌, arith, true≢false, leb}
-use Rattle.std.proofs.lemmas.Bool.{cases_lt, le-leb, lt-leb}
+use Rattle.std.proofs.lemmas.Bool.{cases_lt, le-leb, lt-leb, and_from}
 use Rattle.std.proofs.lemmas.List.{take_more, length-take-le}
 use Rattle.std.specs.List.{list_any, list_all}
 use Rattle.cover_logic.specs.declared.row.Lit.{Lit}
@@ -54,15 +54,12 @@ end_of-first l lits = by (is_any l) (end_of lits) refl refl
     by true (suc end) k e = inl ((λ j. end_behind (k j) (e j)) ∙ ap suc (sym e))
     by false end k e = inl (ap (λ any. end_behind any (end_of lits)) k)
 
-and_true : (a b : Bool) → a ≡ true → b ≡ true → (a && b) ≡ true
-and_true a b h k = (λ j. h j && b) ∙ k
-
 settled-behind : (lits : List Lit) (pin : ℕ) → end_of lits ≤ pin → list_all is_any (drop pin lits) ≡ true
 settled-behind [] zero h = refl
 settled-behind [] (suc pin) h = refl
 settled-behind (l ∷ lits) zero h = elim (end_of-first l lits) [
   | inl longer ↦ absurd (omega (arith, h, longer))
-  | inr none ↦ and_true (is_any l) (list_all is_any lits) none.2 (settled-behind lits zero (omega (arith, none.1)))
+  | inr none ↦ and_from (is_any l) (list_all is_any lits) none.2 (settled-behind lits zero (omega (arith, none.1)))
 ]
 settled-behind (l ∷ lits) (suc pin) h = elim (end_of-first l lits) [
   | inl longer ↦ settled-behind lits pin (omega (arith, h, longer))

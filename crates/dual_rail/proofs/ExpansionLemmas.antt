@@ -1,5 +1,5 @@
 -- Shannon's expansion of rows.
-use Rattle.std.proofs.Common.{◌≡◌, ℕ, zero, suc, ◌+◌, ◌<◌, ◌≤◌, Bool, true, false, not, cond, ◌&&◌, ◌||◌, ◌⊎◌, inl, inr, List, [], ◌∷◌, ◌++◌, length, drop, replicate, get_or, Result, Ok, IfOk, if◌then◌else◌, refl, sym, ap, subst, ◌∙◌, arith, add-one, append_assoc, length-append, length-drop, true≢false}
+use Rattle.std.proofs.Common.{◌≡◌, ℕ, zero, suc, ◌+◌, ◌<◌, ◌≤◌, Bool, true, false, cond, ◌&&◌, ◌||◌, ◌⊎◌, inl, inr, List, [], ◌∷◌, ◌++◌, length, drop, replicate, get_or, Result, Ok, IfOk, if◌then◌else◌, refl, sym, ap, subst, ◌∙◌, arith, add-one, append_assoc, length-append, length-drop, true≢false}
 use Rattle.std.proofs.lemmas.List.FromFn.{map-range_with_len_more}
 use Rattle.std.proofs.lemmas.List.{map-id, get_or_at, drop_at, length-replicate, length_push}
 use Rattle.std.proofs.lemmas.List.Elements.{All-get_or}

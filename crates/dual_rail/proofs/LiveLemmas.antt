@@ -1,6 +1,6 @@
 -- Lists of rows that match alike.
-use Rattle.std.proofs.Common.{◌≡◌, ℕ, ◌+◌, ◌<◌, Bool, true, false, not, cond, ◌&&◌, ◌||◌, List, [], ◌∷◌, ◌++◌, length, drop, map, Result, Ok, Err, IfOk, refl, sym, ap, subst, ◌∙◌, arith, true≢false, eqb, eqb-true}
-use Rattle.std.proofs.lemmas.Bool.{and_parts}
+use Rattle.std.proofs.Common.{◌≡◌, ℕ, ◌+◌, ◌<◌, Bool, true, false, not, cond, ◌||◌, List, [], ◌∷◌, ◌++◌, length, drop, map, Result, Ok, Err, IfOk, refl, sym, ap, subst, ◌∙◌, arith, true≢false, eqb, eqb-true}
+use Rattle.std.proofs.lemmas.Bool.{and_parts, and_from}
 use Rattle.std.proofs.lemmas.List.Filters.{dedup_is}
 use Rattle.std.proofs.lemmas.List.Folds.{list_any-append, Any-from_list_any, list_any-from_Any}
 use Rattle.std.proofs.lemmas.List.Kept.{Contains-dedup_nat, Contains-from_dedup}
@@ -8,6 +8,7 @@ use Rattle.std.proofs.lemmas.List.Sorted.{list_any-IsPermutation}
 use Rattle.std.specs.List.{list_any, list_all, filter, zip, dedup, Contains}
 use Rattle.std.specs.List.Retain.{IsFiltered, DiffersFromLast}
 use Rattle.std.specs.List.Sorted.{IsPermutation}
+use Rattle.cyc_base.proofs.TruthLemmas.{same_truth, or-false}
 use Rattle.bdd_store.specs.declared.node.Node.{Node}
 use Rattle.bdd_store.specs.Arena.{Arena}
 use Rattle.cover_logic.specs.declared.row.Lit.{Lit}
@@ -22,11 +23,6 @@ use Rattle.dual_rail.proofs.ExpansionLemmas.{any_weaker, IsPart-narrowed}
 
 -- ---- one list in place of another one
 
-either_way : (b c : Bool) → (b ≡ true → c ≡ true) → (c ≡ true → b ≡ true) → b ≡ c
-either_way true c to from = sym (to refl)
-either_way false true to from = from refl
-either_way false false to from = refl
-
 any_moved : (test : ℕ → Bool) (xs ys : List ℕ) → ((x : ℕ) → Contains xs x → Contains ys x) → list_any test xs ≡ true → list_any test ys ≡ true
 any_moved test xs ys to e =
     let found = Any-from_list_any test xs e in
@@ -35,7 +31,7 @@ any_moved test xs ys to e =
 
 -- what `dedup` leaves passes a test as before
 any_dedup : (test : ℕ → Bool) (xs : List ℕ) → list_any test (dedup eqb xs) ≡ list_any test xs
-any_dedup test xs = either_way _ _ (any_moved test (dedup eqb xs) xs (λ x. Contains-from_dedup eqb xs x)) (any_moved test xs (dedup eqb xs) (λ x. Contains-dedup_nat xs x))
+any_dedup test xs = same_truth _ _ (any_moved test (dedup eqb xs) xs (λ x. Contains-from_dedup eqb xs x)) (any_moved test xs (dedup eqb xs) (λ x. Contains-dedup_nat xs x))
 
 pub any_ascending : (xs sorted ys : List ℕ) → IsPermutation xs sorted → IsFiltered (DiffersFromLast eqb) [] sorted ys → (test : ℕ → Bool) → list_any test ys ≡ list_any test xs
 any_ascending xs sorted ys moved kept test =
@@ -57,9 +53,6 @@ within_allows One Zero bit w a = absurd (true≢false (sym w))
 within_allows Either Zero bit w a = absurd (true≢false (sym w))
 within_allows Either One bit w a = absurd (true≢false (sym w))
 
-both : (a b : Bool) → a ≡ true → b ≡ true → (a && b) ≡ true
-both a b h k = (λ j. h j && k j)
-
 within_matches : (lits wide : List Lit) (bits : List Bool) → length lits ≡ length wide → list_all (λ pair. is_within pair.0 pair.1) (zip lits wide) ≡ true → matches lits bits ≡ true → matches wide bits ≡ true
 within_matches [] [] bits len w m = m
 within_matches [] (v ∷ wide) bits len w m = absurd (omega (arith, len))
@@ -68,7 +61,7 @@ within_matches (l ∷ lits) (v ∷ wide) [] len w m = refl
 within_matches (l ∷ lits) (v ∷ wide) (b ∷ bits) len w m =
     let w = and_parts (is_within l v) (list_all (λ pair. is_within pair.0 pair.1) (zip lits wide)) w in
     let m = and_parts (allows l b) (matches lits bits) m in
-    both (allows v b) (matches wide bits) (within_allows l v b w.0 m.0) (within_matches lits wide bits (omega (arith, len)) w.1 m.1)
+    and_from (allows v b) (matches wide bits) (within_allows l v b w.0 m.0) (within_matches lits wide bits (omega (arith, len)) w.1 m.1)
 
 contained_matches : (rows : List Row) (pin : ℕ) (bits : List Bool) (row other : ℕ) → is_contained rows pin row other ≡ true → matches_from rows pin bits row ≡ true → matches_from rows pin bits other ≡ true
 contained_matches rows pin bits row other c m =
@@ -79,10 +72,6 @@ or_true : (b : Bool) → (b || true) ≡ true
 or_true true = refl
 or_true false = refl
 
-or_false : (b : Bool) → (b || false) ≡ b
-or_false true = refl
-or_false false = refl
-
 -- a row that is contained in one of them says nothing new
 pub any_contained : (rows : List Row) (pin : ℕ) (kept : List ℕ) (row : ℕ) → list_any (is_contained rows pin row) kept ≡ true → (bits : List Bool)
     → list_any (matches_from rows pin bits) kept ≡ (list_any (matches_from rows pin bits) kept || matches_from rows pin bits row)
@@ -90,7 +79,7 @@ any_contained rows pin kept row c bits = by (matches_from rows pin bits row) ref
   where
     by : (m : Bool) → matches_from rows pin bits row ≡ m → list_any (matches_from rows pin bits) kept ≡ (list_any (matches_from rows pin bits) kept || m)
     by true e = any_weaker (is_contained rows pin row) (matches_from rows pin bits) (λ other w. contained_matches rows pin bits row other w e) kept c ∙ sym (or_true (list_any (matches_from rows pin bits) kept))
-    by false e = sym (or_false (list_any (matches_from rows pin bits) kept))
+    by false e = sym (or-false (list_any (matches_from rows pin bits) kept))
 
 -- nor do those that are contained in it
 any_others : (rows : List Row) (pin : ℕ) (row : ℕ) (bits : List Bool) → matches_from rows pin bits row ≡ false → (kept : List ℕ)
@@ -111,7 +100,7 @@ pub any_kept : (rows : List Row) (pin : ℕ) (kept left new : List ℕ) (row : �
 any_kept rows pin kept left new row fewer is bits =
     (λ j. list_any (matches_from rows pin bits) (is j))
     ∙ list_any-append (matches_from rows pin bits) left (row ∷ [])
-    ∙ ap (λ m. list_any (matches_from rows pin bits) left || m) (or_false (matches_from rows pin bits row))
+    ∙ ap (λ m. list_any (matches_from rows pin bits) left || m) (or-false (matches_from rows pin bits row))
     ∙ by (matches_from rows pin bits row) refl
   where
     by : (m : Bool) → matches_from rows pin bits row ≡ m → (list_any (matches_from rows pin bits) left || m) ≡ (list_any (matches_from rows pin bits) kept || m)

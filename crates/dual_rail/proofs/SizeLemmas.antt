@@ -1,7 +1,7 @@
 -- Bounds on the number of subfunctions.
 use Rattle.std.proofs.Common.{◌≡◌, ℕ, zero, suc, ◌+◌, ◌-◌, ◌^◌, ◌<◌, ◌≤◌, Bool, true, false, not, cond, ◌||◌, ◌⊎◌, inl, inr, List, [], ◌∷◌, ◌++◌, length, drop, map, filter, get_or, Contains, refl, sym, ap, subst, ◌∙◌, arith, length-append, true≢false}
 use Rattle.std.proofs.Math.Nat.{pow-suc}
-use Rattle.std.proofs.lemmas.Bool.{cases_lt}
+use Rattle.std.proofs.lemmas.Bool.{cases_lt, or_parts}
 use Rattle.std.proofs.lemmas.List.{length-map, drop_all, append-nil, get_or_append_left, get_or-append_right, get_or-drop}
 use Rattle.std.proofs.lemmas.Map.Keys.{IsDistinct-cons}
 use Rattle.std.proofs.lemmas.Map.Made.{length-le_from_is_member, is_member-Decides}
@@ -10,8 +10,9 @@ use Rattle.std.specs.Cmp.Lexicographic.{lists_equiv}
 use Rattle.std.specs.List.{AllByRecursion, IsDistinct, list_all}
 use Rattle.std.specs.Set.{is_member, unique_keys}
 use Rattle.cyc_base.specs.Vectors.{vectors}
+use Rattle.cyc_base.proofs.ListLemmas.{Contains-map, all_append, all_map}
 use Rattle.bdd_store.specs.Subfunctions.{fixed, prefixes, table, is_constant, nodes}
-use Rattle.bdd_store.proofs.SubfunctionLemmas.{Contains-map, prefixes-all, table-alike}
+use Rattle.bdd_store.proofs.SubfunctionLemmas.{prefixes-all, table-alike}
 use Rattle.bdd_store.proofs.PigeonholeLemmas.{table_eq, table_decides}
 
 table_laws : IsEquivalence table_eq
@@ -19,17 +20,13 @@ table_laws = lists_equiv bool_eq_equiv
 
 -- ---- keys without repeats
 
-or_false : (a b : Bool) → (a || b) ≡ false → (a ≡ false) × (b ≡ false)
-or_false true b h = absurd (true≢false h)
-or_false false b h = (refl, h)
-
 module _ {K : Type 0} (eq : K → K → Bool) where
   apart : (x : K) (xs : List K) → is_member eq xs x ≡ false → AllByRecursion (λ y. eq x y ≡ false) (unique_keys eq xs)
   apart x [] h = tt
   apart x (y ∷ ys) h = by (is_member eq ys y) (apart x ys)
     where
       parts : (eq x y ≡ false) × (is_member eq ys x ≡ false)
-      parts = or_false (eq x y) (is_member eq ys x) h
+      parts = or_parts (eq x y) (is_member eq ys x) h
 
       by : (b : Bool) → (is_member eq ys x ≡ false → AllByRecursion (λ z. eq x z ≡ false) (unique_keys eq ys)) → AllByRecursion (λ z. eq x z ≡ false) (cond b (unique_keys eq ys) (y ∷ unique_keys eq ys))
       by true rest = rest parts.1
@@ -61,14 +58,6 @@ module _ {K : Type 0} (eq : K → K → Bool) where
       by false rest e = or_weaker (eq q x) (is_member eq (unique_keys eq xs) q) (is_member eq xs q) rest e
 
 -- ---- lists of bits
-
-all_append : {X : Type 0} (P : X → Type 0) (xs ys : List X) → AllByRecursion P xs → AllByRecursion P ys → AllByRecursion P (xs ++ ys)
-all_append P [] ys a b = b
-all_append P (x ∷ xs) ys a b = (a.0, all_append P xs ys a.1 b)
-
-all_map : {X Y : Type 0} (P : Y → Type 0) (f : X → Y) (xs : List X) → AllByRecursion (λ x. P (f x)) xs → AllByRecursion P (map f xs)
-all_map P f [] a = tt
-all_map P f (x ∷ xs) a = (a.0, all_map P f xs a.1)
 
 all_vectors : (n : ℕ) (P : List Bool → Type 0) → ((v : List Bool) → length v ≡ n → P v) → AllByRecursion P (vectors n)
 all_vectors zero P h = (h [] refl, tt)

@@ -14,6 +14,7 @@ use Rattle.cyc_base.proofs.OrderLemmas.{Below-at, same_bit, Completes-at, Comple
 use Rattle.cyc_base.specs.declared.trit.Trit.{Trit}
 use Rattle.cyc_base.specs.declared.trit.Trit.TheVariants.{Zero, One, X}
 use Rattle.cyc_base.specs.Values.{bit, Completes}
+use Rattle.cyc_base.proofs.TruthLemmas.{same_truth}
 use Rattle.cover_logic.specs.Extensions.{exact}
 use Rattle.cover_logic.proofs.ExtensionLemmas.{passes_above, passes_listed, some_completion}
 use Rattle.dual_rail.specs.declared.rail.Rails.{Rails}
@@ -25,11 +26,6 @@ use Rattle.dual_rail.specs.Lifts.{surely, IsSurely, IsLift, IsFork}
 abbrev pub no_rails : Rails
 no_rails = record { one = record { number = 0 }; zero = record { number = 0 } }
 
-same_bool : (a b : Bool) → (a ≡ true → b ≡ true) → (b ≡ true → a ≡ true) → a ≡ b
-same_bool true b f g = sym (f refl)
-same_bool false true f g = g refl
-same_bool false false f g = refl
-
 completes-bit : (trits : List Trit) (bs : List Bool) (v : ℕ) (b : Bool) → Completes trits bs → get_or trits v X ≡ bit b → get_or bs v false ≡ b
 completes-bit trits bs v b c e = same_bit (get_or bs v false) b (Below-at (get_or trits v X) (bit (get_or bs v false)) b (Completes-at trits bs v c) e)
 
@@ -37,7 +33,7 @@ completes-set : (trits : List Trit) (bs : List Bool) (v : ℕ) (b : Bool) → Co
 completes-set trits bs v b c e = Completes-set trits bs v b c (rw e tt)
 
 pub surely-alike : (f g : List Bool → Bool) (trits : List Trit) → ((bs : List Bool) → length bs ≡ length trits → f bs ≡ g bs) → surely f trits ≡ surely g trits
-surely-alike f g trits same = same_bool _ _
+surely-alike f g trits same = same_truth _ _
     (λ h. passes_listed g trits (λ bs c. sym (same bs (sym (Completes-length trits bs c))) ∙ passes_above f trits h bs c))
     (λ h. passes_listed f trits (λ bs c. same bs (sym (Completes-length trits bs c)) ∙ passes_above g trits h bs c))
 
@@ -69,12 +65,12 @@ module _ (f hi lo : List Bool → Bool) (v : ℕ)
     (lo_free : (bs : List Bool) (b : Bool) → lo (set bs v b) ≡ lo bs)
     (trits : List Trit) (inside : v < length trits) where
   split-one : get_or trits v X ≡ One → surely f trits ≡ surely hi trits
-  split-one e = same_bool _ _
+  split-one e = same_truth _ _
       (λ h. passes_listed hi trits (λ bs c. sym (at_hi bs (completes-bit trits bs v true c e)) ∙ passes_above f trits h bs c))
       (λ h. passes_listed f trits (λ bs c. at_hi bs (completes-bit trits bs v true c e) ∙ passes_above hi trits h bs c))
 
   split-zero : get_or trits v X ≡ Zero → surely f trits ≡ surely lo trits
-  split-zero e = same_bool _ _
+  split-zero e = same_truth _ _
       (λ h. passes_listed lo trits (λ bs c. sym (at_lo bs (completes-bit trits bs v false c e)) ∙ passes_above f trits h bs c))
       (λ h. passes_listed f trits (λ bs c. at_lo bs (completes-bit trits bs v false c e) ∙ passes_above lo trits h bs c))
 
@@ -86,7 +82,7 @@ module _ (f hi lo : List Bool → Bool) (v : ℕ)
   either_way bs h l false e = at_lo bs e ∙ l
 
   split-x : get_or trits v X ≡ X → surely f trits ≡ (surely hi trits && surely lo trits)
-  split-x e = same_bool _ _
+  split-x e = same_truth _ _
       (λ h. and_from _ _
       (passes_listed hi trits (λ bs c. sym (hi_free bs true) ∙ sym (at_hi (set bs v true) (at_set bs true c)) ∙ passes_above f trits h (set bs v true) (completes-set trits bs v true c e)))
       (passes_listed lo trits (λ bs c. sym (lo_free bs false) ∙ sym (at_lo (set bs v false) (at_set bs false c)) ∙ passes_above f trits h (set bs v false) (completes-set trits bs v false c e))))
@@ -219,7 +215,7 @@ pub surely-constant : (g : List Bool → Bool) (b : Bool) (trits : List Trit) �
 surely-constant g true trits h = passes_listed g trits (λ bs c. h bs)
 surely-constant g false trits h =
     let some = some_completion trits in
-    same_bool _ _ (λ all. sym (h some.0) ∙ passes_above g trits all some.0 some.1) (λ e. absurd (true≢false (sym e)))
+    same_truth _ _ (λ all. sym (h some.0) ∙ passes_above g trits all some.0 some.1) (λ e. absurd (true≢false (sym e)))
 
 -- the rails of the complement are exchanged
 pub IsLift-complement : {a : Arena} {pins : List Rails} {f g : List Bool → Bool} {r : Rails} → ((bs : List Bool) → g bs ≡ not (f bs)) → IsLift a pins f r → IsLift a pins g (record { one = r.zero; zero = r.one })

@@ -1,5 +1,5 @@
 -- The table of rails, and what a loop over the nodes adds.
-use Rattle.std.proofs.Common.{◌≡◌, ℕ, ◌<◌, ◌≤◌, Bool, true, false, not, ◌⊎◌, inl, inr, List, [], ◌∷◌, ◌++◌, length, Result, Ok, Err, is_err, is_ok, if◌then◌else◌, sym, ap, subst, ◌∙◌, arith, true≢false}
+use Rattle.std.proofs.Common.{◌≡◌, ℕ, ◌<◌, ◌≤◌, Bool, true, false, not, ◌⊎◌, inl, inr, List, [], ◌∷◌, ◌++◌, length, if◌then◌else◌, sym, ap, subst, ◌∙◌, arith}
 use Rattle.std.proofs.Math.Bool.{not-not}
 use Rattle.std.proofs.lemmas.Bool.{cases_lt}
 use Rattle.std.proofs.lemmas.List.{get_or_append_left, get_or_push, length_push}
@@ -17,11 +17,6 @@ use Rattle.dual_rail.specs.Rails.{values_of, AreRailsOf}
 use Rattle.dual_rail.specs.Local.{Local, function, local_size, IsLocal}
 use Rattle.dual_rail.specs.Lifts.{IsLift, IsTable}
 use Rattle.dual_rail.proofs.SurelyLemmas.{surely-constant, IsLift-kept, IsLift-complement}
-
--- what a push that did not fail left
-pub pushed : {T X E : Type 0} (r : Result X E) (xs ys zs : List T) → false ≡ is_err r → xs ≡ (if is_ok r then ys else zs) → xs ≡ ys
-pushed (Ok x) xs ys zs e h = h
-pushed (Err x) xs ys zs e h = absurd (true≢false (sym e))
 
 -- the rails of the constant without a mark
 abbrev pub base_rails : List Rails

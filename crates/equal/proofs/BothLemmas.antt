@@ -3,6 +3,7 @@ use Rattle.std.proofs.Common.{◌≡◌, inl, inr, ℕ, zero, suc, ◌+◌, ◌-
 use Rattle.std.specs.Prelude.{Contains}
 use Rattle.equal.proofs.Common.{range_with_len, cases_lt, get_or-map, get_or_append_left, get_or-append-add, get_or_default, length-map, length-range_with_len, get_or-range_with_len, length-map-range_with_len, get_or-map-range_with_len, map-map, Sig, X, bit, bits, Gate, Parts, signal, count, gate_at, gate_sig, no_gate, IsNetlist, wire, fix, fix_gates, loops_of, first_gate, map_agree, order, IsGatePart, CareSet, columns, column_names, columns_by_name, by_name, moved, joined}
 use Rattle.std.proofs.lemmas.List.{map-id}
+use Rattle.cyc_base.proofs.OrderLemmas.{bits-at}
 use Rattle.dual_rail.proofs.WidthLemmas.{IsWide-fewer}
 use Rattle.netlist.specs.Walks.{Feeds}
 use Rattle.isolation.specs.Excerpts.{origins, origin, gate_in, inputs_in, IsExcerpt}
@@ -13,7 +14,7 @@ use Rattle.differences.specs.Comparisons.{IsOfComparison, IsLaidBy, IsColumn, Sa
 use Rattle.equal.specs.Both.{IsOfBoth, IsLaidForBoth, OfFirst, OfSecond, BothAreWide}
 use Rattle.equal.proofs.BareLemmas.{bare, first-bare, valid-bare, part-bare}
 use Rattle.equal.proofs.JoinLemmas.{first_gate as gate_of_first, second_gate as gate_of_second, length-joined, moved_low, moved_high}
-use Rattle.equal.proofs.MatchLemmas.{Match, matched, table_within, length-table, bits_at}
+use Rattle.equal.proofs.MatchLemmas.{Match, matched, table_within, length-table}
 use Rattle.equal.proofs.StandingLemmas.{WorksAlone, works-alone, stands-whole, stands-apart, columns-apart}
 
 -- some vector of a width
@@ -27,9 +28,6 @@ length-zeros zero = refl
 length-zeros (suc n) = ap suc (length-zeros n)
 
 module _ (a b : Parts) (valid_a : IsNetlist a) (valid_b : IsNetlist b) (match_ : Match a b) where
-  abbrev big : Parts
-  big = joined a b []
-
   length-big : length (joined a b []).gates ≡ length a.gates + length b.gates
   length-big = length-joined a b [] ∙ omega arith
 
@@ -37,9 +35,6 @@ module _ (a b : Parts) (valid_a : IsNetlist a) (valid_b : IsNetlist b) (match_ :
   names-long net = let n = first-bare net in omega (arith, n)
 
   -- ---- the first one's gates
-
-  abbrev own : List Sig
-  own = column_signals big
 
   own-long : length (column_signals (joined a b [])) ≡ columns a
   own-long = length-map-range_with_len signal 0 (columns a)
@@ -125,9 +120,6 @@ module _ (a b : Parts) (valid_a : IsNetlist a) (valid_b : IsNetlist b) (match_ :
       let l : k < columns b = omega (arith, less, n) in
       subst (λ (s : Sig). s.0 < first_gate (joined a b [])) (sym (other-at k d l)) (table_within a b match_ k l)
 
-  abbrev behind : List ℕ
-  behind = range_with_len (length a.gates) (length b.gates)
-
   second-at : (i : ℕ) → i < length (range_with_len (length a.gates) (length b.gates)) → (gate_in (range_with_len (length a.gates) (length b.gates)) i ≡ length a.gates + i) × (i < length b.gates)
   second-at i less =
       let m = length-range_with_len (length a.gates) (length b.gates) in
@@ -204,7 +196,7 @@ module _ (a b : Parts) (valid_a : IsNetlist a) (valid_b : IsNetlist b) (match_ :
       let l : k < columns b = omega (arith, less, n) in
       let inside : get_or (columns_by_name a b) k d < columns a = subst (λ (c : ℕ). c < columns a) (get_or_default (columns_by_name a b) k 0 d less) (table_within a b match_ k l) in
       get_or_append_left (bits v) (fix_gates (joined a b []) (bits v)) X (get_or (columns_by_name a b) k d) (omega (arith, inside, m, wide))
-      ∙ bits_at v (get_or (columns_by_name a b) k d) (omega (arith, inside, wide)))
+      ∙ bits-at v (get_or (columns_by_name a b) k d) (omega (arith, inside, wide)))
       ∙ sym (map-map bit (λ column. get_or v column false) (columns_by_name a b))
 
   -- ---- all functions

@@ -7,6 +7,7 @@ use Rattle.std.proofs.lemmas.List.{append-nil}
 use Rattle.std.proofs.lemmas.List.FromFn.{fill_by_all}
 use Rattle.std.proofs.lemmas.List.Sums.{sum_by-append, sum_by-cons}
 use Rattle.std.proofs.lemmas.Nat.{mul-le}
+use Rattle.std.proofs.lemmas.Option.{same_Some}
 use Rattle.bdd_store.specs.Arena.{Arena}
 use Rattle.dual_rail.specs.Local.{size}
 use Rattle.fixpoint.specs.Working.{effort, HasLargeCover}
@@ -86,14 +87,11 @@ module _ (a : Parts) (care_a : CareSet) (b : Parts) (care_b : CareSet) (limit : 
 
 -- ---- causes
 
-some_same : {A : Type 0} (x y : A) → Some x ≡ Some y → x ≡ y
-some_same x y e = cc
-
 large_model : (m n : Option CareModel) (limit : ℕ) → model_of m ≡ model_of n → IsSomeAnd n (λ model. HasLargeCover model.net limit) → IsSomeAnd m (λ model. HasLargeCover model.net limit)
 large_model None None limit e h = h
 large_model None (Some n) limit e h = cc
 large_model (Some m) None limit e h = cc
-large_model (Some m) (Some n) limit e h = subst (λ net. HasLargeCover net limit) (sym (some_same m.net n.net e)) h
+large_model (Some m) (Some n) limit e h = subst (λ net. HasLargeCover net limit) (sym (same_Some m.net n.net e)) h
 
 model_over : (care_a care_b : CareSet) (limit : ℕ) → HaveOneSource care_a care_b → HasModelOver care_b limit → HasModelOver care_a limit
 model_over care_a care_b limit one (inl h) = inl (large_model care_a.assume care_b.assume limit one.assume h)

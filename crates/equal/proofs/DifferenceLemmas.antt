@@ -1,11 +1,13 @@
 -- The miter of two netlists is refused just where they differ, with the least vector of that.
-use Rattle.std.proofs.Common.{◌≡◌, ◌≢◌, inl, inr, ℕ, zero, suc, ◌+◌, ◌-◌, ◌<◌, Bool, true, false, not, ◌&&◌, cond, List, [], ◌∷◌, length, map, get_or, Option, Some, None, refl, sym, ap, ap₂, subst, ◌∙◌, arith}
+use Rattle.std.proofs.Common.{◌≡◌, ◌≢◌, inl, inr, ℕ, suc, ◌+◌, ◌-◌, ◌<◌, Bool, true, false, not, ◌&&◌, cond, List, [], ◌∷◌, length, map, get_or, Option, Some, None, refl, sym, ap, ap₂, subst, ◌∙◌, arith}
 use Rattle.equal.proofs.Common.{find, Result, IfOk, Err, list_any, range_with_len, option_or, cases_lt, length-map-range_with_len, get_or-map-range_with_len, Sig, X, bits, Latch, Parts, gate_sig, IsNetlist, wire, fix, map_agree, CareSet, columns, is_care_vector, Pair, by_name, differs, difference, AreAccepted, IsKnownEarly, joined_pairs}
 use Rattle.std.specs.Prelude.{is_none, Ok}
 use Rattle.std.specs.Option.{option_map, option_and_then}
 use Rattle.std.proofs.lemmas.List.Folds.{find-append}
 use Rattle.std.proofs.lemmas.List.FromFn.{map-range_with_len_more}
 use Rattle.cyc_base.specs.Vectors.{vectors}
+use Rattle.cyc_base.proofs.VectorLemmas.{find-alike}
+use Rattle.cyc_base.proofs.ListLemmas.{option_or-neither, option_map-nothing}
 use Rattle.netlist.specs.Fixpoint.{next}
 use Rattle.care_sets.specs.Care.{is_one, is_in_invariant, IsCareVector}
 use Rattle.refusals.specs.declared.observe.Observe.TheVariants as observe
@@ -13,7 +15,7 @@ use Rattle.refusals.specs.declared.refusal.Refusal.{Refusal}
 use Rattle.refusals.specs.declared.refusal.Refusal.TheVariants.{Undetermined, Leaves}
 use Rattle.refusals.specs.Acceptance.{gate_sigs, AreDetermined}
 use Rattle.refusals.specs.Refusals.{care_vectors, is_undetermined, first_failing, next_state, leaves, initial_refusal, empty_refusal, undetermined_refusal, leaves_refusal, refusal}
-use Rattle.refusals.proofs.FirstLemmas.{find-map, find-filter, any-find}
+use Rattle.refusals.proofs.FirstLemmas.{find-filter, any-find}
 use Rattle.refusals.proofs.LawLemmas.{accepted_without_refusal}
 use Rattle.refusals.proofs.ObservedLemmas.{all_observes_gates}
 use Rattle.refusals.proofs.RefusalLemmas.{known-is_x}
@@ -28,20 +30,6 @@ use Rattle.equal.proofs.MiterLemmas.{told, place, length-net, link_known, teller
 
 -- ---- tests that agree on all vectors that count
 
-agree_vectors : (n : ℕ) (p q : List Bool → Bool) → ((v : List Bool) → length v ≡ n → p v ≡ q v) → find p (vectors n) ≡ find q (vectors n)
-agree_vectors zero p q same = ap (λ t. cond t (Some []) None) (same [] refl)
-agree_vectors (suc n) p q same =
-    halves p
-    ∙ ap₂ (λ low high. option_or (option_map (λ (u : List Bool). false ∷ u) low) (option_map (λ (u : List Bool). true ∷ u) high))
-    (agree_vectors n (λ u. p (false ∷ u)) (λ u. q (false ∷ u)) (λ v wide. same (false ∷ v) (ap suc wide)))
-    (agree_vectors n (λ u. p (true ∷ u)) (λ u. q (true ∷ u)) (λ v wide. same (true ∷ v) (ap suc wide)))
-    ∙ sym (halves q)
-  where
-    halves : (r : List Bool → Bool) → find r (vectors (suc n)) ≡ option_or (option_map (λ (u : List Bool). false ∷ u) (find (λ u. r (false ∷ u)) (vectors n))) (option_map (λ (u : List Bool). true ∷ u) (find (λ u. r (true ∷ u)) (vectors n)))
-    halves r =
-        find-append r (map (λ u. false ∷ u) (vectors n)) (map (λ u. true ∷ u) (vectors n))
-        ∙ ap₂ option_or (find-map r (λ (u : List Bool). false ∷ u) (vectors n)) (find-map r (λ (u : List Bool). true ∷ u) (vectors n))
-
 agree_after : (s : Bool) (p q : Bool) → (s ≡ true → p ≡ q) → (s && p) ≡ (s && q)
 agree_after true p q same = same refl
 agree_after false p q same = refl
@@ -49,19 +37,11 @@ agree_after false p q same = refl
 pub agree_on_care : (net : Parts) (care : CareSet) (p q : List Bool → Bool) → ((v : List Bool) → IsCareVector net care v → p v ≡ q v) → find p (care_vectors net care) ≡ find q (care_vectors net care)
 agree_on_care net care p q same =
     find-filter p (is_care_vector net care) (vectors (columns net))
-    ∙ agree_vectors (columns net) (λ v. is_care_vector net care v && p v) (λ v. is_care_vector net care v && q v)
+    ∙ find-alike (columns net) (λ v. is_care_vector net care v && p v) (λ v. is_care_vector net care v && q v)
     (λ v wide. agree_after (is_care_vector net care v) (p v) (q v) (λ counts. same v (care_vector_decides net care v wide counts)))
     ∙ sym (find-filter q (is_care_vector net care) (vectors (columns net)))
 
 -- ---- what the parts of a refusal say where there is none
-
-first_none : {A : Type 0} (x y : Option A) → option_or x y ≡ None → (x ≡ None) × (y ≡ None)
-first_none None y e = (refl, e)
-first_none (Some x) y e = cc
-
-nothing_mapped : {A B : Type 0} (f : A → B) (o : Option A) → option_map f o ≡ None → o ≡ None
-nothing_mapped f None e = refl
-nothing_mapped f (Some x) e = cc
 
 -- what is unknown at one place alone
 find_last : (p : Sig → Bool) (f : ℕ → Sig) (n : ℕ) → ((k : ℕ) → k < n → p (f k) ≡ false) → find p (map f (range_with_len 0 (suc n))) ≡ cond (p (f n)) (Some (f n)) None
@@ -155,11 +135,11 @@ module _ (a b : Parts) (care_a : CareSet) (valid_a : IsNetlist a) (valid_b : IsN
 
   pub refusal_is : refusal net care_a observe.All ≡ option_map (λ v. Undetermined v (gate_sig net last)) (difference a b care_a)
   refusal_is =
-      let first = first_none _ _ accepted_a in
-      let second = first_none _ _ first.1 in
-      let third = first_none _ _ second.1 in
-      let fourth = first_none _ _ third.1 in
-      let stays : find (leaves a care_a) (care_vectors a care_a) ≡ None = nothing_mapped (λ v. Leaves v (next_state a v)) _ fourth.0 in
+      let first = option_or-neither _ _ accepted_a in
+      let second = option_or-neither _ _ first.1 in
+      let third = option_or-neither _ _ second.1 in
+      let fourth = option_or-neither _ _ third.1 in
+      let stays : find (leaves a care_a) (care_vectors a care_a) ≡ None = option_map-nothing (λ v. Leaves v (next_state a v)) _ fourth.0 in
       let none_initial : initial_refusal net care_a ≡ None = first.0 in
       let none_empty : empty_refusal net care_a ≡ None = second.0 in
       let none_leaves : leaves_refusal net care_a ≡ None = ap (option_map (λ v. Leaves v (next_state net v))) (leaves_is ∙ stays) in

@@ -6,15 +6,18 @@ use Rattle.std.proofs.lemmas.Bool.{lt-ltb, le-ltb}
 use Rattle.std.proofs.lemmas.List.{map-id}
 use Rattle.std.proofs.lemmas.List.Elements.{All-append}
 use Rattle.std.proofs.lemmas.List.Folds.{find_at}
+use Rattle.netlist.proofs.NameLemmas.{length-signal_names}
 use Rattle.cyc_base.specs.declared.trit.Trit.TheVariants.{Zero, One}
+use Rattle.cyc_base.proofs.ListLemmas.{list_any-map}
+use Rattle.cyc_base.proofs.OrderLemmas.{bits-at}
 use Rattle.refusals.specs.Acceptance.{gate_sigs, AreDetermined}
 use Rattle.refusals.proofs.RefusalLemmas.{column_known, gate_sig_at, length-gate_sigs}
 use Rattle.clause_decision.specs.Apart.{are_apart, is_apart_at}
 use Rattle.equal.specs.Matching.{init_eq}
 use Rattle.equal.specs.Differences.{are_different, differs_at}
-use Rattle.equal.proofs.NameLemmas.{any_mapped, any_agree, length-names}
+use Rattle.equal.proofs.NameLemmas.{any_agree}
 use Rattle.equal.proofs.PartLemmas.{IsPartOf, fix_at}
-use Rattle.equal.proofs.MatchLemmas.{Match, table_within, length-table, length-by_name, by_name_at, bits_at}
+use Rattle.equal.proofs.MatchLemmas.{Match, table_within, length-table, length-by_name, by_name_at}
 
 -- ---- where signals stand
 
@@ -86,9 +89,9 @@ module _ (a b : Parts) (more : List Gate) where
         let w = table_within a b match_ s.0 l in
         let y = length-by_name a b v in
         ap (λ (t : Sig). get_or (bits v) t.0 X) (moved_low a b s l)
-        ∙ bits_at v (get_or (columns_by_name a b) s.0 0) (omega arith)
+        ∙ bits-at v (get_or (columns_by_name a b) s.0 0) (omega arith)
         ∙ ap bit (sym (by_name_at a b v s.0 l))
-        ∙ sym (bits_at (by_name a b v) s.0 (omega arith)))
+        ∙ sym (bits-at (by_name a b v) s.0 (omega arith)))
 
 -- ---- known signals
 
@@ -114,10 +117,10 @@ named_signal net name some = by (position (bytes_eq name) (signal_names net)) re
   where
     by : (o : Option ℕ) → position (bytes_eq name) (signal_names net) ≡ o → number_or_0 o < count net
     by None e = some
-    by (Some i) e = let p = position-Some (bytes_eq name) (signal_names net) i [] e in let l = p.0 in let n = length-names net in omega arith
+    by (Some i) e = let p = position-Some (bytes_eq name) (signal_names net) i [] e in let l = p.0 in let n = length-signal_names net in omega arith
 
 has_output : (net : Parts) (name : List ℕ) → IsNetlist net → is_output net name ≡ true → 0 < count net
-has_output net name valid e = by net.outputs refl (sym (any_mapped (bytes_eq name) (name_of net) net.outputs) ∙ e)
+has_output net name valid e = by net.outputs refl (sym (list_any-map (bytes_eq name) (name_of net) net.outputs) ∙ e)
   where
     by : (outputs : List Sig) → net.outputs ≡ outputs → list_any (λ s. bytes_eq name (name_of net s)) outputs ≡ true → 0 < count net
     by [] same h = cc
@@ -179,7 +182,7 @@ module _ (a b : Parts) (more : List Gate) (valid_a : IsNetlist a) (valid_b : IsN
 
   pub apart_same : some_is_apart (joined a b more) (joined_pairs a b) v ≡ differs a b v
   apart_same =
-      any_mapped (is_apart_at (joined a b more) v) (moved_pair_by (columns_by_name a b) (count a)) (output_pairs a b ++ latch_pairs a b)
+      list_any-map (is_apart_at (joined a b more) v) (moved_pair_by (columns_by_name a b) (count a)) (output_pairs a b ++ latch_pairs a b)
       ∙ any_agree (λ pair. is_apart_at (joined a b more) v (moved_pair_by (columns_by_name a b) (count a) pair)) (differs_at a b v) (output_pairs a b ++ latch_pairs a b)
       (λ k d l. pair_same (get_or (output_pairs a b ++ latch_pairs a b) k d) (pairs_for a b valid_a valid_b match_ k d l))
 

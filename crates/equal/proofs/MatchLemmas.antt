@@ -1,32 +1,25 @@
 -- What it means that all names match, and vectors by name.
-use Rattle.std.proofs.Common.{◌≡◌, inl, inr, ℕ, zero, suc, ◌+◌, ◌-◌, ◌<◌, ◌≤◌, Bool, true, false, not, ◌&&◌, ◌||◌, cond, List, [], ◌∷◌, ◌++◌, length, map, take, drop, get_or, slice_get, Option, Some, None, IfSome, refl, sym, ap, ap₂, subst, ◌∙◌, arith, true≢false}
-use Rattle.equal.proofs.Common.{find, option_map, list_any, option_or, option_map_or, bytes_eq, cases_lt, append_assoc, map-append, length-append, length-map, get_or-map, get_or_append_left, get_or-append-add, list_any-append, position-Some, get_or_from_slice_get, Sig, X, bit, bits, Latch, Parts, signal_names, IsBoundTo, IsCareOf, CareSet, columns, column_names, is_care_vector, CareModel, name_of, is_input, is_latch, has_latch, is_output, output_names, unmatched, number_or_0, column_named, columns_by_name, by_name, model_of, HaveOneSource}
+use Rattle.std.proofs.Common.{◌≡◌, inl, inr, ℕ, zero, suc, ◌+◌, ◌-◌, ◌<◌, ◌≤◌, Bool, true, false, not, ◌&&◌, cond, List, [], ◌∷◌, ◌++◌, length, map, take, drop, get_or, slice_get, Option, Some, None, IfSome, refl, sym, ap, ap₂, subst, ◌∙◌, arith, true≢false}
+use Rattle.equal.proofs.Common.{find, list_any, option_map_or, bytes_eq, cases_lt, append_assoc, map-append, length-map, get_or-map, get_or_append_left, get_or-append-add, list_any-append, position-Some, get_or_from_slice_get, Sig, X, bits, Latch, Parts, signal_names, IsBoundTo, IsCareOf, CareSet, columns, column_names, is_care_vector, CareModel, name_of, is_input, is_latch, has_latch, is_output, output_names, unmatched, number_or_0, column_named, columns_by_name, by_name, model_of, HaveOneSource}
 use Rattle.std.proofs.lemmas.List.{get_or-drop}
-use Rattle.std.proofs.lemmas.Slice.Eq.{bytes_eq-Decides}
+use Rattle.std.proofs.lemmas.Bool.{not-false, or_left, or_right}
+use Rattle.std.proofs.lemmas.Option.{same_Some}
+use Rattle.cyc_base.proofs.ListLemmas.{option_or-neither, option_map-nothing}
+use Rattle.cyc_base.proofs.NameLemmas.{bytes_eq-true}
 use Rattle.netlist.specs.Fixpoint.{outs}
 use Rattle.netlist.proofs.Decisions.{none_found}
 use Rattle.care_sets.specs.Binding.{column_of}
 use Rattle.care_sets.specs.Care.{inputs_at, is_one, holds_at}
+use Rattle.care_sets.proofs.BindingLemmas.{column_within}
+use Rattle.care_sets.proofs.NameLemmas.{length-column_names}
 use Rattle.unroll.proofs.Kept.{taken_first}
 use Rattle.equal.specs.Matching.{latch_name}
 use Rattle.equal.proofs.NameLemmas.{nowhere_find, any_nowhere}
 
 -- ---- all names match
 
-none_first : {A : Type 0} (x y : Option A) → option_or x y ≡ None → (x ≡ None) × (y ≡ None)
-none_first None y e = (refl, e)
-none_first (Some a) y e = cc
-
-none_mapped : {A B : Type 0} (f : A → B) (x : Option A) → option_map f x ≡ None → x ≡ None
-none_mapped f None e = refl
-none_mapped f (Some a) e = cc
-
-not_not : (b : Bool) → not b ≡ false → b ≡ true
-not_not true e = refl
-not_not false e = cc
-
 passes : {A : Type 0} (p : A → Bool) (xs : List A) → find (λ x. not (p x)) xs ≡ None → (k : ℕ) (d : A) → k < length xs → p (get_or xs k d) ≡ true
-passes p xs none k d l = not_not (p (get_or xs k d)) (nowhere_find (λ x. not (p x)) xs none k d l)
+passes p xs none k d l = not-false (p (get_or xs k d)) (nowhere_find (λ x. not (p x)) xs none k d l)
 
 -- the names of both netlists match
 pub record Match (a b : Parts) : Type 0 where
@@ -39,25 +32,22 @@ pub record Match (a b : Parts) : Type 0 where
 
 pub matched : (a b : Parts) → unmatched a b ≡ None → Match a b
 matched a b none =
-    let one = none_first _ _ none in
-    let two = none_first _ _ one.1 in
-    let three = none_first _ _ two.1 in
-    let four = none_first _ _ three.1 in
-    let five = none_first _ _ four.1 in
-    let six = none_first _ _ five.1 in
+    let one = option_or-neither _ _ none in
+    let two = option_or-neither _ _ one.1 in
+    let three = option_or-neither _ _ two.1 in
+    let four = option_or-neither _ _ three.1 in
+    let five = option_or-neither _ _ four.1 in
+    let six = option_or-neither _ _ five.1 in
     record {
       inputs_ab = passes (is_input b) a.inputs one.0;
       inputs_ba = passes (is_input a) b.inputs two.0;
-      latches_ab = passes (has_latch b) a.latches (none_mapped latch_name _ three.0);
-      latches_ba = passes (λ latch. is_latch a latch.name) b.latches (none_mapped latch_name _ four.0);
+      latches_ab = passes (has_latch b) a.latches (option_map-nothing latch_name _ three.0);
+      latches_ba = passes (λ latch. is_latch a latch.name) b.latches (option_map-nothing latch_name _ four.0);
       outputs_ab = passes (is_output b) (output_names a) five.0;
       outputs_ba = passes (is_output a) (output_names b) six.0;
     }
 
 -- ---- columns by name
-
-same_name : (x y : List ℕ) → bytes_eq x y ≡ true → x ≡ y
-same_name x y e = (bytes_eq-Decides x y).0 e
 
 -- a column that is there
 pub record HasColumn (net : Parts) (name : List ℕ) : Type 0 where
@@ -66,20 +56,14 @@ pub record HasColumn (net : Parts) (name : List ℕ) : Type 0 where
   pub inside : column < columns net
   pub named : get_or (column_names net) column [] ≡ name
 
-pub length-columns : (net : Parts) → length (column_names net) ≡ columns net
-length-columns net = omega (arith, length-append net.inputs (map latch_name net.latches), length-map net.latches latch_name)
-
-pub column_inside : (net : Parts) (name : List ℕ) (c : ℕ) → column_of net name ≡ Some c → c < columns net
-column_inside net name c is = let p = position-Some (bytes_eq name) (column_names net) c [] is in subst (λ n. c < n) (length-columns net) p.0
-
 pub column_is : (net : Parts) (name : List ℕ) (c : ℕ) → column_of net name ≡ Some c → get_or (column_names net) c [] ≡ name
-column_is net name c is = let p = position-Some (bytes_eq name) (column_names net) c [] is in sym (same_name name (get_or (column_names net) c []) p.1)
+column_is net name c is = let p = position-Some (bytes_eq name) (column_names net) c [] is in sym (bytes_eq-true name (get_or (column_names net) c []) p.1)
 
 pub has_column : (net : Parts) (name : List ℕ) (c : ℕ) → column_of net name ≡ Some c → HasColumn net name
 has_column net name c is = record {
   column = c;
   is = is;
-  inside = column_inside net name c is;
+  inside = column_within net name c is;
   named = column_is net name c is;
 }
 
@@ -91,16 +75,8 @@ column_there net name any = by (column_of net name) refl
     by None e =
         absurd (true≢false (sym any ∙ any_nowhere (bytes_eq name) (column_names net) (none_found (bytes_eq name) (column_names net) e)))
 
-or_left : (x y : Bool) → x ≡ true → (x || y) ≡ true
-or_left true y e = refl
-or_left false y e = cc
-
-or_right : (x y : Bool) → y ≡ true → (x || y) ≡ true
-or_right true y e = refl
-or_right false y e = e
-
 -- a latch that is there has a column
-latch_any : (name : List ℕ) (latches : List Latch) → option_map_or (λ (latch : Latch). true) (find (λ latch. bytes_eq name latch.name) latches) false ≡ true → list_any (bytes_eq name) (map latch_name latches) ≡ true
+pub latch_any : (name : List ℕ) (latches : List Latch) → option_map_or (λ (latch : Latch). true) (find (λ latch. bytes_eq name latch.name) latches) false ≡ true → list_any (bytes_eq name) (map latch_name latches) ≡ true
 latch_any name [] e = e
 latch_any name (l ∷ ls) e = by (latch_any name ls) (bytes_eq name l.name) refl e
   where
@@ -148,7 +124,7 @@ module _ (a b : Parts) (match_ : Match a b) where
 
   -- so the table of columns has a column for each
   pub table_at : (c : ℕ) → c < columns b → get_or (columns_by_name a b) c 0 ≡ column_named a (get_or (column_names b) c [])
-  table_at c l = get_or-map (column_named a) (column_names b) c [] 0 (subst (λ n. c < n) (sym (length-columns b)) l)
+  table_at c l = get_or-map (column_named a) (column_names b) c [] 0 (subst (λ n. c < n) (sym (length-column_names b)) l)
 
   pub table_within : (c : ℕ) → c < columns b → get_or (columns_by_name a b) c 0 < columns a
   table_within c l =
@@ -157,7 +133,7 @@ module _ (a b : Parts) (match_ : Match a b) where
       subst (λ n. n < columns a) (sym (table_at c l ∙ ap number_or_0 h.is)) inside
 
 pub length-table : (a b : Parts) → length (columns_by_name a b) ≡ columns b
-length-table a b = length-map (column_names b) (column_named a) ∙ length-columns b
+length-table a b = length-map (column_names b) (column_named a) ∙ length-column_names b
 
 pub length-by_name : (a b : Parts) (v : List Bool) → length (by_name a b v) ≡ columns b
 length-by_name a b v = length-map (columns_by_name a b) (λ column. get_or v column false) ∙ length-table a b
@@ -166,19 +142,16 @@ length-by_name a b v = length-map (columns_by_name a b) (λ column. get_or v col
 pub by_name_at : (a b : Parts) (v : List Bool) (c : ℕ) → c < columns b → get_or (by_name a b v) c false ≡ get_or v (get_or (columns_by_name a b) c 0) false
 by_name_at a b v c l = get_or-map (λ column. get_or v column false) (columns_by_name a b) c 0 false (subst (λ n. c < n) (sym (length-table a b)) l)
 
-pub bits_at : (v : List Bool) (k : ℕ) → k < length v → get_or (bits v) k X ≡ bit (get_or v k false)
-bits_at v k l = get_or-map bit v k false X l
-
 -- ---- care sets of one source
 
 -- a column that a model reads, in both netlists
 value_named : (a b : Parts) (v : List Bool) (name : List ℕ) (c e : ℕ) → column_of a name ≡ Some c → column_of b name ≡ Some e → get_or (by_name a b v) e false ≡ get_or v c false
 value_named a b v name c e in_a in_b =
-    let inside = column_inside b name e in_b in
+    let inside = column_within b name e in_b in
     let named = column_is b name e in_b in
     by_name_at a b v e inside
     ∙ ap (λ k. get_or v k false)
-    (get_or-map (column_named a) (column_names b) e [] 0 (subst (λ n. e < n) (sym (length-columns b)) inside)
+    (get_or-map (column_named a) (column_names b) e [] 0 (subst (λ n. e < n) (sym (length-column_names b)) inside)
     ∙ ap (column_named a) named ∙ ap number_or_0 in_a)
 
 -- a column of a state, counted from the first latch
@@ -215,15 +188,12 @@ holds_same a b v first_a first_b m n bound_m bound_n same =
     ∙ ap (λ f. map (λ c. get_or (drop first_b (by_name a b v)) (c - f) false) n.columns) (sym bound_n.start) in
     ap₂ (λ (net : Parts) (values : List Bool). is_one (get_or (outs net (bits values)) 0 X)) same inputs
 
-some_same : {A : Type 0} (x y : A) → Some x ≡ Some y → x ≡ y
-some_same x y e = cc
-
 part_same : (a b : Parts) (v : List Bool) (first_a first_b : ℕ) (m n : Option CareModel) → IfSome m (IsBoundTo a first_a) → IfSome n (IsBoundTo b first_b) → model_of m ≡ model_of n →
     option_map_or (λ model. holds_at model (drop first_a v)) m true ≡ option_map_or (λ model. holds_at model (drop first_b (by_name a b v))) n true
 part_same a b v first_a first_b None None bound_m bound_n e = refl
 part_same a b v first_a first_b None (Some n) bound_m bound_n e = cc
 part_same a b v first_a first_b (Some m) None bound_m bound_n e = cc
-part_same a b v first_a first_b (Some m) (Some n) bound_m bound_n e = holds_same a b v first_a first_b m n bound_m bound_n (some_same m.net n.net e)
+part_same a b v first_a first_b (Some m) (Some n) bound_m bound_n e = holds_same a b v first_a first_b m n bound_m bound_n (same_Some m.net n.net e)
 
 pub care_by_name : (a b : Parts) (care_a care_b : CareSet) (v : List Bool) → IsCareOf a care_a → IsCareOf b care_b → HaveOneSource care_a care_b → is_care_vector b care_b (by_name a b v) ≡ is_care_vector a care_a v
 care_by_name a b care_a care_b v is_a is_b one =
@@ -237,7 +207,7 @@ length_by_name_is a b v named is = ap length is ∙ length-by_name a b v
 -- the name of a column, by its number
 pub column_taken : {T : Type 0} (net : Parts) (f : List ℕ → T) (i : ℕ) (name : List ℕ) → i < columns net → slice_get (signal_names net) i ≡ Some name → map f (take (i + 1) (column_names net)) ≡ map f (take i (column_names net)) ++ f name ∷ []
 column_taken net f i name l is =
-    let e = length-columns net in
+    let e = length-column_names net in
     let split : signal_names net ≡ column_names net ++ map (λ gate. gate.name) net.gates = sym (append_assoc net.inputs (map latch_name net.latches) (map (λ gate. gate.name) net.gates)) in
     ap (map f)
     (taken_first (column_names net) (map (λ gate. gate.name) net.gates) i name (omega arith) (ap (λ names. slice_get names i) (sym split) ∙ is))

@@ -4,19 +4,16 @@ use Rattle.equal.proofs.Common.{list_any, range_with_len, length-append, length-
 use Rattle.std.proofs.lemmas.List.{get_or_at, get_or-replicate, take_all}
 use Rattle.cyc_base.specs.declared.trit.Trit.TheVariants.{Zero, One}
 use Rattle.cyc_base.specs.Values.{Below}
-use Rattle.cyc_base.proofs.OrderLemmas.{EachBelow-at}
+use Rattle.cyc_base.proofs.OrderLemmas.{EachBelow-at, bit-known}
 use Rattle.netlist.specs.Fixpoint.{gate_value}
-use Rattle.netlist.proofs.FixpointLemmas.{steps_below_fix}
-use Rattle.loops.proofs.Reading.{wire_of_gate, get_or-step, get_or-fix}
+use Rattle.netlist.proofs.FixpointLemmas.{steps_below_fix, get_or-step, get_or-fix}
+use Rattle.loops.proofs.Reading.{wire_of_gate}
 use Rattle.refusals.specs.Refusals.{is_x}
 use Rattle.clause_decision.specs.Apart.{are_apart, is_apart_at}
-use Rattle.equal.specs.Joined.{never_cover, link_cover, both_cover, no_pair, last_gate}
+use Rattle.equal.specs.Joined.{link_cover, both_cover, no_pair, last_gate}
 use Rattle.equal.proofs.JoinLemmas.{length-moved, length-joined}
 
 -- ---- the covers
-
-never_is : ext never_cover [] ≡ Zero
-never_is = refl
 
 link_is : (p : Bool) (x y : Trit) → x ≢ X → y ≢ X → ext link_cover (bit p ∷ x ∷ y ∷ []) ≡ bit (p || are_apart x y)
 link_is p X y h k = absurd (h refl)
@@ -40,10 +37,6 @@ both_unknown : (x : Trit) → Below x One → ext both_cover (x ∷ X ∷ []) �
 both_unknown X below = refl
 both_unknown One below = refl
 both_unknown Zero below = cc
-
-bit-known : (b : Bool) → bit b ≢ X
-bit-known true e = cc
-bit-known false e = cc
 
 any_take : {A : Type 0} (p : A → Bool) (xs : List A) (i : ℕ) (d : A) → i < length xs → list_any p (take (suc i) xs) ≡ (list_any p (take i xs) || p (get_or xs i d))
 any_take p [] i d l = absurd (omega arith)

@@ -1,14 +1,17 @@
 -- What a name finds in a netlist.
 use Rattle.std.proofs.Common.{◌≡◌, ◌≢◌, ◌⊎◌, inl, inr, ℕ, zero, suc, ◌+◌, ◌-◌, ◌<◌, ◌≤◌, Bool, true, false, ◌||◌, cond, List, [], ◌∷◌, ◌++◌, length, map, get_or, take, slice_get, position, Some, None, refl, sym, ap, ap₂, ◌∙◌, arith}
-use Rattle.equal.proofs.Common.{find, list_any, IsDistinct, option_or, bytes_eq, cases_lt, length-append, length-map, get_or_append_left, get_or-append-add, get_or-map, list_any-append, get_or_from_slice_get, slice_get_within, Sig, Latch, Gate, Parts, signal, count, sig_eq, signal_names, driven_names, IsSignal, IsNetlist, name_of, latch_named, is_input, is_output, number_or_0, column_named, signal_named}
+use Rattle.equal.proofs.Common.{find, list_any, IsDistinct, option_or, bytes_eq, cases_lt, length-map, get_or_append_left, get_or-append-add, get_or-map, list_any-append, get_or_from_slice_get, slice_get_within, Sig, Latch, Gate, Parts, signal, sig_eq, signal_names, driven_names, IsSignal, IsNetlist, name_of, latch_named, is_input, is_output, number_or_0, column_named, signal_named}
 use Rattle.std.specs.List.{position_or_len, AllPairs}
-use Rattle.std.proofs.lemmas.Bool.{cases_eq, cases_Bool, lt-ltb, or_parts, eqb-true, eq-eqb}
-use Rattle.std.proofs.lemmas.List.{take_more, take_all}
+use Rattle.std.proofs.lemmas.Bool.{cases_eq, lt-ltb, or_parts, eqb-true, eq-eqb}
+use Rattle.std.proofs.lemmas.List.{take_more}
 use Rattle.std.proofs.lemmas.List.Sums.{position_or_len_is}
 use Rattle.std.proofs.lemmas.List.Folds.{list_any_at, find-append}
 use Rattle.std.proofs.lemmas.Map.Made.{AllPairs-from_IsDistinct}
 use Rattle.std.proofs.lemmas.Slice.Eq.{bytes_eq-Decides}
+use Rattle.cyc_base.proofs.ListLemmas.{list_any-map}
+use Rattle.cyc_base.proofs.NameLemmas.{bytes_eq-other, bytes_eq-same}
 use Rattle.netlist.proofs.Decisions.{found_none}
+use Rattle.netlist.proofs.NameLemmas.{length-signal_names}
 use Rattle.care_sets.proofs.BindingLemmas as binding
 
 -- ---- searches of lists
@@ -45,17 +48,9 @@ nowhere_find {A = A} p (x ∷ xs) none k d l = by (nowhere_find p xs) (p x) refl
     by rest false is e zero d l = is
     by rest false is e (suc k) d l = rest e k d (omega arith)
 
-pub any_mapped : {A B : Type 0} (p : B → Bool) (f : A → B) (xs : List A) → list_any p (map f xs) ≡ list_any (λ x. p (f x)) xs
-any_mapped p f [] = refl
-any_mapped p f (x ∷ xs) = ap (λ t. p (f x) || t) (any_mapped p f xs)
-
 pub any_agree : {A : Type 0} (p q : A → Bool) (xs : List A) → ((k : ℕ) (d : A) → k < length xs → p (get_or xs k d) ≡ q (get_or xs k d)) → list_any p xs ≡ list_any q xs
 any_agree p q [] h = refl
 any_agree p q (x ∷ xs) h = ap₂ (λ s t. s || t) (h zero x (omega arith)) (any_agree p q xs (λ k d l. h (suc k) d (omega arith)))
-
--- a loop that looks for the first that passes
-pub find_start : {A : Type 0} (p : A → Bool) (xs : List A) → find p (take 0 xs) ≡ None
-find_start p xs = refl
 
 pub find_next : {A : Type 0} (p : A → Bool) (xs : List A) (i : ℕ) (x : A) → find p (take i xs) ≡ None → slice_get xs i ≡ Some x → p x ≡ false → find p (take (i + 1) xs) ≡ None
 find_next p xs i x none is fails =
@@ -73,16 +68,7 @@ find_here p (y ∷ xs) (suc i) x none is passes = by (λ e. find_here p xs i x e
     by rest true here e = cc
     by rest false here e = rw here (rest e)
 
-pub find_end : {A : Type 0} (p : A → Bool) (xs : List A) (n : ℕ) → find p (take n xs) ≡ None → length xs ≤ n → find p xs ≡ None
-find_end p xs n none l = ap (find p) (sym (take_all n xs l)) ∙ none
-
 -- ---- names
-
-differ : (a b : List ℕ) → a ≢ b → bytes_eq a b ≡ false
-differ a b other = elim (cases_Bool (bytes_eq a b)) [ inl e ↦ absurd (other ((bytes_eq-Decides a b).0 e)) | inr e ↦ e ]
-
-pub equal : (a b : List ℕ) → a ≡ b → bytes_eq a b ≡ true
-equal a b e = (bytes_eq-Decides a b).1 e
 
 -- a name that stands at one place stands at no other
 pub elsewhere : (names : List (List ℕ)) (name : List ℕ) (s k : ℕ) → IsDistinct bytes_eq names → slice_get names s ≡ Some name → k < length names → k ≢ s → bytes_eq name (get_or names k []) ≡ false
@@ -90,7 +76,7 @@ elsewhere names name s k distinct found inside other =
     let apart : AllPairs (λ x y. x ≢ y) names = AllPairs-from_IsDistinct bytes_eq-Decides names distinct in
     let is : get_or names s [] ≡ name = get_or_from_slice_get names s name [] found in
     let within : s < length names = slice_get_within names s name found in
-    differ name (get_or names k []) (λ e. by apart is within e (cases_lt k s))
+    bytes_eq-other name (get_or names k []) (λ e. by apart is within e (cases_lt k s))
   where
     by : AllPairs (λ x y. x ≢ y) names → get_or names s [] ≡ name → s < length names → name ≡ get_or names k [] → (k < s) ⊎ (s ≤ k) → ⊥
     by apart is within e (inl lt) = apart k s [] lt within (sym e ∙ sym is)
@@ -107,18 +93,7 @@ latch_at net k d l =
     ∙ get_or_append_left (map (λ (latch : Latch). latch.name) net.latches) (map (λ (gate : Gate). gate.name) net.gates) [] k (omega arith)
     ∙ get_or-map (λ (latch : Latch). latch.name) net.latches k d [] l
 
-pub length-names : (net : Parts) → length (signal_names net) ≡ count net
-length-names net =
-    let a = length-append net.inputs (driven_names net) in
-    let b = length-append (map (λ (latch : Latch). latch.name) net.latches) (map (λ (gate : Gate). gate.name) net.gates) in
-    let c = length-map net.latches (λ (latch : Latch). latch.name) in
-    let d = length-map net.gates (λ (gate : Gate). gate.name) in
-    omega arith
-
 module _ (net : Parts) (name : List ℕ) where
-  abbrev Absent : Type 0
-  Absent = list_any (bytes_eq name) (signal_names net) ≡ false
-
   module _ (s : ℕ) where
     abbrev Found : Type 0
     Found = slice_get (signal_names net) s ≡ Some name
@@ -128,12 +103,12 @@ module _ (net : Parts) (name : List ℕ) where
 
 pub input_found : (net : Parts) (name : List ℕ) (s : ℕ) → IsNetlist net → slice_get (signal_names net) s ≡ Some name → s < length net.inputs → is_input net name ≡ true
 input_found net name s valid found inside =
-    list_any_at (bytes_eq name) net.inputs s [] inside (equal name (get_or net.inputs s []) (sym (found_is net name s found) ∙ input_at net s inside))
+    list_any_at (bytes_eq name) net.inputs s [] inside (bytes_eq-same name (get_or net.inputs s []) (sym (found_is net name s found) ∙ input_at net s inside))
 
 pub input_behind : (net : Parts) (name : List ℕ) (s : ℕ) → IsNetlist net → slice_get (signal_names net) s ≡ Some name → length net.inputs ≤ s → is_input net name ≡ false
 input_behind net name s valid found behind =
     any_nowhere (bytes_eq name) net.inputs (λ k d l.
-    let n = length-names net in
+    let n = length-signal_names net in
     ap (bytes_eq name) (get_or_d net.inputs k d [] l ∙ sym (input_at net k l)) ∙ elsewhere (signal_names net) name s k valid.names_differ found (omega arith) (omega arith))
   where
     get_or_d : {A : Type 0} (xs : List A) (k : ℕ) (d e : A) → k < length xs → get_or xs k d ≡ get_or xs k e
@@ -153,14 +128,14 @@ latch_found net name s latch valid found behind is =
     let within : i < length net.latches = slice_get_within net.latches i latch is in
     find_is (λ (l : Latch). bytes_eq name l.name) net.latches i latch is
     (λ k d l.
-    let n = length-names net in
+    let n = length-signal_names net in
     ap (bytes_eq name) (sym (latch_at net k d (omega arith))) ∙ elsewhere (signal_names net) name s (length net.inputs + k) valid.names_differ found (omega arith) (omega arith))
-    (equal name latch.name (sym (found_is net name s found) ∙ ap (λ k. get_or (signal_names net) k []) (sym e) ∙ latch_at net i latch within ∙ ap (λ (l : Latch). l.name) (get_or_from_slice_get net.latches i latch latch is)))
+    (bytes_eq-same name latch.name (sym (found_is net name s found) ∙ ap (λ k. get_or (signal_names net) k []) (sym e) ∙ latch_at net i latch within ∙ ap (λ (l : Latch). l.name) (get_or_from_slice_get net.latches i latch latch is)))
 
 latch_elsewhere : (net : Parts) (name : List ℕ) (s : ℕ) → IsNetlist net → slice_get (signal_names net) s ≡ Some name → (s < length net.inputs) ⊎ (length net.inputs + length net.latches ≤ s) → latch_named net name ≡ None
 latch_elsewhere net name s valid found outside =
     find_nowhere (λ (l : Latch). bytes_eq name l.name) net.latches (λ k d l.
-    let n = length-names net in
+    let n = length-signal_names net in
     ap (bytes_eq name) (sym (latch_at net k d l)) ∙ elsewhere (signal_names net) name s (length net.inputs + k) valid.names_differ found (omega arith) (by outside k l))
   where
     by : (s < length net.inputs) ⊎ (length net.inputs + length net.latches ≤ s) → (k : ℕ) → k < length net.latches → length net.inputs + k ≢ s
@@ -176,7 +151,7 @@ latch_behind net name s valid found low l = latch_elsewhere net name s valid fou
 pub latch_absent : (net : Parts) (name : List ℕ) → list_any (bytes_eq name) (signal_names net) ≡ false → latch_named net name ≡ None
 latch_absent net name absent =
     find_nowhere (λ (l : Latch). bytes_eq name l.name) net.latches (λ k d l.
-    let n = length-names net in
+    let n = length-signal_names net in
     ap (bytes_eq name) (sym (latch_at net k d l)) ∙ nowhere_any (bytes_eq name) (signal_names net) absent (length net.inputs + k) [] (omega arith))
 
 -- an output by its name
@@ -184,13 +159,13 @@ pub output_found : (net : Parts) (name : List ℕ) (s : ℕ) → IsNetlist net �
 output_found net name s valid found =
     any_agree (sig_eq (signal s)) (λ t. bytes_eq name (name_of net t)) net.outputs (λ k d l.
     same (get_or net.outputs k d) (valid.outputs k d l))
-    ∙ sym (any_mapped (bytes_eq name) (name_of net) net.outputs)
+    ∙ sym (list_any-map (bytes_eq name) (name_of net) net.outputs)
   where
     same : (t : Sig) → IsSignal net t → sig_eq (signal s) t ≡ bytes_eq name (name_of net t)
     same t inside =
-        let n = length-names net in
+        let n = length-signal_names net in
         elim (cases_eq s t.0) [
-          | inl e ↦ eq-eqb s t.0 e ∙ sym (equal name (name_of net t) (sym (found_is net name s found) ∙ ap (λ k. get_or (signal_names net) k []) e))
+          | inl e ↦ eq-eqb s t.0 e ∙ sym (bytes_eq-same name (name_of net t) (sym (found_is net name s found) ∙ ap (λ k. get_or (signal_names net) k []) e))
           | inr ne ↦ other (sig_eq (signal s) t) refl ne ∙ sym (elsewhere (signal_names net) name s t.0 valid.names_differ found (omega arith) (λ e. ne (sym e)))
         ]
       where
@@ -200,9 +175,9 @@ output_found net name s valid found =
 
 pub output_absent : (net : Parts) (name : List ℕ) → IsNetlist net → list_any (bytes_eq name) (signal_names net) ≡ false → is_output net name ≡ false
 output_absent net name valid absent =
-    any_mapped (bytes_eq name) (name_of net) net.outputs
+    list_any-map (bytes_eq name) (name_of net) net.outputs
     ∙ any_nowhere (λ t. bytes_eq name (name_of net t)) net.outputs (λ k d l.
-    let n = length-names net in
+    let n = length-signal_names net in
     let inside = valid.outputs k d l in
     nowhere_any (bytes_eq name) (signal_names net) absent (get_or net.outputs k d).0 [] (omega arith))
 
@@ -223,7 +198,7 @@ signal_place net name s valid found =
     let is : position_or_len (bytes_eq name) (signal_names net) ≡ s =
     position_or_len_is (bytes_eq name) (signal_names net) s [] (omega arith)
     (λ k lt. elsewhere (signal_names net) name s k valid.names_differ found (omega arith) (omega arith))
-    (λ _. equal name (get_or (signal_names net) s []) (sym (found_is net name s found))) in
+    (λ _. bytes_eq-same name (get_or (signal_names net) s []) (sym (found_is net name s found))) in
     let below : position_or_len (bytes_eq name) (signal_names net) < length (signal_names net) = omega arith in
     sym (ap (λ t. cond t (Some (position_or_len (bytes_eq name) (signal_names net))) None) (lt-ltb _ _ below) ∙ ap (λ n. Some n) is)
 

@@ -3,8 +3,8 @@ use Rattle.std.proofs.Common.{◌≡◌, inl, inr, ℕ, zero, suc, ◌+◌, ◌-
 use Rattle.equal.proofs.Common.{cases_lt, get_or_append_left, map-map, Sig, Trit, X, ext, Parts, gate_at, no_gate, IsSignal, IsNetlist, wires, wire, steps, fix, fix_gates, map_agree, columns}
 use Rattle.std.proofs.lemmas.List.{get_or-replicate}
 use Rattle.cover_logic.specs.Covers.{Cover}
-use Rattle.netlist.proofs.FixpointLemmas.{fix_is_reached}
-use Rattle.loops.proofs.Reading.{wire_of_gate, get_or-step}
+use Rattle.netlist.proofs.FixpointLemmas.{fix_is_reached, get_or-step}
+use Rattle.loops.proofs.Reading.{wire_of_gate}
 
 -- the signals of the small netlist are these of the big one: columns are columns, and each gate has its cover and its pins
 pub record IsPartOf (small big : Parts) (at : Sig → Sig) (place : ℕ → ℕ) : Type 0 where

@@ -1,14 +1,16 @@
 -- Care models that are bound to one netlist have no fault for another whose names match, and are bound to it by name.
 use Rattle.std.proofs.Common.{◌≡◌, ◌⊎◌, inl, inr, ℕ, zero, suc, ◌<◌, ◌≤◌, true, false, cond, List, [], ◌∷◌, length, map, get_or, Option, Some, None, IfSome, refl, sym, ap, ap₂, subst, ◌∙◌, arith, true≢false}
 use Rattle.equal.proofs.Common.{find, option_map, option_map_or, bytes_eq, cases_lt, get_or_append_left, get_or_default, position-Some, Latch, Parts, IsBoundTo, IsCareOf, CareSet, column_names, CareModel, has_latch, is_input, is_latch, latch_named, unmatched, column_named, number_or_0, model_of, HaveOneSource}
-use Rattle.std.specs.Prelude.{IsSomeAnd, ◌||◌, is_none, is_some, nat_lt}
+use Rattle.std.specs.Prelude.{◌||◌, is_none, is_some, nat_lt}
 use Rattle.care_sets.proofs.FaultLemmas as faults
-use Rattle.care_sets.specs.Binding.{column_of, is_unknown_name, is_before, fault_but_loops, BindsAny, BindsBoth, Binds, HasNoFault, IsCare, IsCareModel, IsFaultOf, IsFirstFault}
+use Rattle.care_sets.specs.Binding.{column_of, is_unknown_name, is_before, BindsAny, BindsBoth, Binds, HasNoFault, IsCare, IsCareModel, IsFirstFault}
 use Rattle.care_sets.specs.declared.fault.CareFault.{CareFault}
 use Rattle.care_sets.specs.declared.fault.CareFault.TheVariants.{Memory}
+use Rattle.care_sets.proofs.FaultLemmas.{passing, none_there}
+use Rattle.care_sets.proofs.BindingLemmas.{column_within}
 use Rattle.equal.specs.Matching.{init_eq, latch_name}
 use Rattle.equal.specs.Rebound.{bound_to, rebound, BindsEach}
-use Rattle.equal.proofs.MatchLemmas.{Match, matched, HasColumn, column_among, column_inside, column_is}
+use Rattle.equal.proofs.MatchLemmas.{Match, matched, HasColumn, column_among, column_is}
 use Rattle.equal.proofs.NameLemmas.{any_nowhere}
 
 -- a latch that has a latch's name and init has its name
@@ -24,7 +26,7 @@ module _ (a b : Parts) (match_ : Match a b) where
   again : (name : List ℕ) (c : ℕ) → column_of a name ≡ Some c → HasColumn b name
   again name c is =
       subst (HasColumn b) (column_is a name c is)
-      (column_among b a match_.inputs_ab (λ k d l. has_is b (get_or a.latches k d) (match_.latches_ab k d l)) c (column_inside a name c is))
+      (column_among b a match_.inputs_ab (λ k d l. has_is b (get_or a.latches k d) (match_.latches_ab k d l)) c (column_within a name c is))
 
   -- that of a latch is one of a latch
   latch_again : (name : List ℕ) (c e : ℕ) → column_of a name ≡ Some c → length a.inputs ≤ c → column_of b name ≡ Some e → length b.inputs ≤ e
@@ -126,22 +128,12 @@ rebound_is_care a b care none is valid = record {
 
 -- ---- models without a fault have no first fault
 
-one_without : (net : Parts) (first : ℕ) (model : Option Parts) (fault : CareFault) → IfSome model (HasNoFault net first) → IsSomeAnd model (IsFaultOf net first fault) → ⊥
-one_without net first None fault sound fails = fails
-one_without net first (Some model) fault sound (inl is) = let none : fault_but_loops net first model ≡ None = sound.others in cc
-one_without net first (Some model) fault sound (inr alone) = sound.loop_free alone.loops.loop.gate alone.loops.loop.via alone.loops.loop.walk
-
-none_there : (a i : Option Parts) → a ≡ None → i ≡ None → (is_some a || is_some i) ≡ true → ⊥
-none_there None None e f some = cc
-none_there None (Some model) e f some = cc
-none_there (Some model) i e f some = cc
-
 pub without_fault : (net : Parts) (a i : Option Parts) (fault : CareFault) → IfSome a (HasNoFault net 0) → IfSome i (HasNoFault net (length net.inputs))
     → (is_some a || is_some i) ≡ true → (fault ≡ Memory) ⊎ IsFirstFault net a i fault → fault ≡ Memory
 without_fault net a i fault sound_a sound_i some (inl is) = is
 without_fault net a i fault sound_a sound_i some (inr (inl lacks)) = absurd (none_there a i lacks.no_assume lacks.no_invariant some)
-without_fault net a i fault sound_a sound_i some (inr (inr (inl fails))) = absurd (one_without net 0 a fault sound_a fails)
-without_fault net a i fault sound_a sound_i some (inr (inr (inr fails))) = absurd (one_without net (length net.inputs) i fault sound_i fails.invariant_fails)
+without_fault net a i fault sound_a sound_i some (inr (inr (inl fails))) = absurd (passing net 0 a fault sound_a fails)
+without_fault net a i fault sound_a sound_i some (inr (inr (inr fails))) = absurd (passing net (length net.inputs) i fault sound_i fails.invariant_fails)
 
 -- ---- what binding makes
 

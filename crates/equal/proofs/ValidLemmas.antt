@@ -5,25 +5,19 @@ use Rattle.std.specs.List.{AllByRecursion}
 use Rattle.std.proofs.lemmas.Bool.{or_parts, or_from}
 use Rattle.std.proofs.lemmas.List.Elements.{All-append}
 use Rattle.cyc_base.specs.Names.{IsBlifName}
+use Rattle.cyc_base.proofs.ListLemmas.{list_any-map}
+use Rattle.cyc_base.proofs.NameLemmas.{bytes_eq-other}
 use Rattle.tildes.specs.Runs.{longest_run, longest_run_of}
 use Rattle.tildes.proofs.RunLemmas.{longest-append}
 use Rattle.netlist.specs.declared.parts.Clock.{Clock}
 use Rattle.netlist.specs.Netlists.{is_driven, IsClockName}
 use Rattle.unroll.specs.Marks.{longest_run_in, clock_names, copy_name}
-use Rattle.unroll.proofs.NameLemmas.{not_equal, copy_is_long, copy_names_tell, copy_name_fits, all_short, distinct_append, short_from_long, short_is_none}
+use Rattle.unroll.proofs.NameLemmas.{copy_is_long, copy_names_tell, copy_name_fits, all_short, distinct_append, short_from_long, short_is_none}
 use Rattle.equal.specs.Joined.{no_pair, last_gate, miter}
-use Rattle.equal.proofs.NameLemmas.{any_mapped}
 use Rattle.equal.proofs.MatchLemmas.{matched}
 use Rattle.equal.proofs.JoinLemmas.{length-moved, length-joined, moved_within}
 use Rattle.equal.proofs.MiterLemmas.{length-told}
 use Rattle.equal.proofs.CompareLemmas.{pairs_joined}
-
-to_recursion : {A : Type 0} (P : A → Type 0) (xs : List A) → All P xs → AllByRecursion P xs
-to_recursion P [] h = tt
-to_recursion P (x ∷ xs) h = (h 0 x (omega arith), to_recursion P xs (λ k d l. h (suc k) d (omega arith)))
-
-gate_name : Gate → List ℕ
-gate_name gate = gate.name
 
 abbrev names_of : List Gate → List (List ℕ)
 names_of gates = map (λ gate. gate.name) gates
@@ -76,7 +70,7 @@ numbered_apart : (a : Parts) (j k : ℕ) (own : List ℕ) (xs : List (List ℕ))
 numbered_apart a j k own [] less few h = tt
 numbered_apart a j k own (x ∷ xs) less few h =
     let here = h zero (omega arith) in (
-      not_equal (copy_name (mark a) j own) x (λ e.
+      bytes_eq-other (copy_name (mark a) j own) x (λ e.
           let t = copy_names_tell (longest_run_in a) j (k + zero) own here.own (omega arith) (omega arith) (e ∙ here.is) in
           let same = t.0 in
           absurd (omega arith)),
@@ -240,7 +234,7 @@ module _ (a b : Parts) (valid_a : IsNetlist a) (valid_b : IsNetlist b) (none : u
       or_from (list_any (λ (latch : Latch). bytes_eq name latch.name) a.latches) (list_any (λ (gate : Gate). bytes_eq name gate.name) (a.gates ++ (moved_gates a b ++ more))) parts.0
       (list_any-append (λ (gate : Gate). bytes_eq name gate.name) a.gates (moved_gates a b ++ more)
       ∙ or_from (list_any (λ (gate : Gate). bytes_eq name gate.name) a.gates) (list_any (λ (gate : Gate). bytes_eq name gate.name) (moved_gates a b ++ more)) parts.1
-      (sym (any_mapped (bytes_eq name) (λ (gate : Gate). gate.name) (moved_gates a b ++ more)) ∙ short_is_none (longest_run_in a) name added short added_long))
+      (sym (list_any-map (bytes_eq name) (λ (gate : Gate). gate.name) (moved_gates a b ++ more)) ∙ short_is_none (longest_run_in a) name added short added_long))
 
   clock_kept : (o : Option Clock) → longest_run_of (option_map_or (λ (clock : Clock). clock.name ∷ []) o []) ≤ longest_run_in a → IfSome o (λ clock. IsClockName a clock.name) → IfSome o (λ clock. IsClockName net clock.name)
   clock_kept None short h = h

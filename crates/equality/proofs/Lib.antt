@@ -1,1 +1,4 @@
+mod FitLemmas
+pub mod AlikeLemmas
+mod RenamingLemmas
 pub mod ShownLemmas

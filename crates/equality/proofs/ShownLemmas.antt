@@ -4,6 +4,7 @@ use Rattle.std.specs.Prelude.{option_map}
 use Rattle.std.specs.Option.{option_or, option_map_or}
 use Rattle.std.proofs.lemmas.List.Folds.{list_any-append}
 use Rattle.std.proofs.lemmas.List.Quantifiers.{position-Some}
+use Rattle.std.proofs.lemmas.Bool.{and_parts}
 use Rattle.netlist.specs.declared.parts.Parts.{Parts}
 use Rattle.netlist.specs.Netlists.{signal, IsNetlist}
 use Rattle.netlist.proofs.Decisions.{none_found}
@@ -15,7 +16,6 @@ use Rattle.cyc_base.specs.Vectors.{vectors}
 use Rattle.refusals.specs.Refusals.{care_vectors, refusal}
 use Rattle.refusals.proofs.FirstLemmas.{found_passes, found_wide}
 use Rattle.refusals.proofs.LawLemmas.{care_test, refusal_is_shown}
-use Rattle.refusals.proofs.RefusalLemmas.{both}
 use Rattle.refusals.proofs.ShowingLemmas.{care_vector_decides}
 use Rattle.equal.specs.declared.answer.Answer.{Answer}
 use Rattle.equal.specs.declared.answer.Answer.TheVariants.{Equal, Unmatched, First, Second, Output, Latch}
@@ -24,19 +24,20 @@ use Rattle.equal.specs.Differences.{number_or_0, output_pairs, latch_pairs, diff
 use Rattle.equal.specs.Rebound.{rebound, found}
 use Rattle.equal.proofs.NameLemmas.{any_nowhere}
 use Rattle.equal.proofs.ReboundLemmas.{rebound_is_care, rebound_source}
-use Rattle.equal_runs.specs.Runs.{EqualRunAlike, RunAlike}
+use Rattle.equality.specs.Runs.{RunAlike}
+use Rattle.equality.proofs.AlikeLemmas.{equal_run_alike}
 use Rattle.equality.specs.Shown.{IsShown, ShowsItself}
 
-module _ (law : EqualRunAlike) (a b : Parts) (care : CareSet) (valid_a : IsNetlist a) (valid_b : IsNetlist b) (is_care : IsCareOf a care) (valid_care : IsCare care) where
+module _ (a b : Parts) (care : CareSet) (valid_a : IsNetlist a) (valid_b : IsNetlist b) (is_care : IsCareOf a care) (valid_care : IsCare care) where
   alike : unmatched a b ≡ None → found a b care ≡ Equal → RunAlike a b care
   alike none equal =
-      law a b care (rebound b care) valid_a valid_b is_care (rebound_is_care a b care none is_care valid_care) (rebound_source b care (rebound b care) refl) equal
+      equal_run_alike a b care (rebound b care) valid_a valid_b is_care (rebound_is_care a b care none is_care valid_care) (rebound_source b care (rebound b care) refl) equal
 
   -- a vector on which they differ
   care_vector : (v : List Bool) → difference a b care ≡ Some v → IsCareVector a care v
   care_vector v is =
       let first = sym (care_test a care (differs a b)) ∙ is in
-      let passes = both (is_care_vector a care v) (differs a b v) (found_passes (λ w. is_care_vector a care w && differs a b w) (vectors (columns a)) v first) in
+      let passes = and_parts (is_care_vector a care v) (differs a b v) (found_passes (λ w. is_care_vector a care w && differs a b w) (vectors (columns a)) v first) in
       care_vector_decides a care v (found_wide (columns a) (λ w. is_care_vector a care w && differs a b w) v first) passes.0
 
   really : (v : List Bool) → difference a b care ≡ Some v → differs a b v ≡ true

@@ -12,7 +12,7 @@ use Rattle.equal.specs.declared.answer.Answer.TheVariants.{Equal, Unmatched, Fir
 use Rattle.equal.specs.Matching.{unmatched}
 use Rattle.equal.specs.Differences.{pair_of, output_pairs, latch_pairs, differs_at}
 use Rattle.equal.specs.Rebound.{rebound, found}
-use Rattle.equal_runs.specs.Runs.{RunAlike}
+use Rattle.equality.specs.Runs.{RunAlike}
 
 -- at a care vector of the first, the pair at this place has other values
 pub record IsDifferent (a b : Parts) (care : CareSet) (pairs : List Pair) (v : List Bool) (at : ℕ) : Type 0 where

@@ -5,7 +5,7 @@ use Rattle.care_sets.specs.Care.{CareSet}
 use Rattle.equal.specs.declared.answer.Answer.{Answer}
 use Rattle.equal.specs.declared.answer.Answer.TheVariants.{Equal, Unmatched, First, Second, Output, Latch}
 use Rattle.equal.specs.Rebound.{found}
-use Rattle.equal_text.specs.Texts.{answer_text}
+use Rattle.equality.specs.Texts.{answer_text}
 use Rattle.equality.specs.declared.telling.Told.{Told}
 
 abbrev pub is_equal : Answer → Bool

@@ -1,19 +1,17 @@
 ghost use Rattle.std.specs.Prelude.{◌≡◌, ◌≤◌, ◌⊎◌, IfOk, IfErr, OnOk};
 ghost use Rattle.care_sets.specs.Binding.{IsCareOf};
 ghost use Rattle.equal.specs.Rebound.{found as found_of, IsLimited};
-ghost use Rattle.equal_text.specs.Answers.{IsAnswerOf};
-ghost use Rattle.equal_text.specs.Texts.{answer_text};
+ghost use Rattle.equality.specs.Answers.{IsAnswerOf};
+ghost use Rattle.equality.specs.Texts.{answer_text};
 ghost use Rattle.equality.specs.Shown.{ShowsItself};
 ghost use Rattle.equality.specs.Told.{is_equal as is_equal_answer, IsToldOf};
 
+use crate::text::put_answer;
 use bdd_ops::Diagrams;
 use care_sets::Care;
 use cyc_base::MAX_NODES;
 use cyc_io::TextSink;
 use equal::{Answer, EqualFault, compare_by_name};
-use equal_runs::laws::equal_netlists_run_alike;
-use equal_text::laws::answers_fit;
-use equal_text::put_answer;
 use netlist::Netlist;
 use std::alloc::{AllocError, Global};
 
@@ -86,8 +84,6 @@ pub fn tell_equality(
     ensures fault { IfErr result (λ fault. (fault ≡ EqualFault.Memory) ⊎ (fault ≡ EqualFault.NodeLimit limit)) }
     ensures limited { result ≡ Err (EqualFault.NodeLimit limit) → IsLimited d.new a.now b.now care.now limit }
 {
-    equal_netlists_run_alike();
-    answers_fit();
     a.laws();
     b.laws();
     let _ = care.assume();

@@ -6,6 +6,7 @@ use Rattle.cyc_base.specs.declared.sig.Sig.{Sig}
 use Rattle.cyc_base.specs.declared.trit.Trit.{Trit}
 use Rattle.cyc_base.specs.declared.trit.Trit.TheVariants.{Zero, One, X}
 use Rattle.cyc_base.specs.Values.{bit, bits}
+use Rattle.cyc_base.proofs.OrderLemmas.{unknown_or_bit}
 use Rattle.cover_logic.specs.Covers.{value}
 use Rattle.cover_logic.specs.Extensions.{ext}
 use Rattle.cover_logic.proofs.ExtensionLemmas.{ext_at_bits}
@@ -213,15 +214,10 @@ module _ (graph : List (List ℕ)) (P : ℕ → Type 0) (on : (a : ℕ) → P a 
 
 -- ---- an unknown gate reads one
 
-x_or_bit : (t : Trit) → (t ≡ X) ⊎ ((b : Bool) × (t ≡ bit b))
-x_or_bit X = inl refl
-x_or_bit Zero = inr (false, refl)
-x_or_bit One = inr (true, refl)
-
 some_unknown : (known : List Trit) (signals : List Sig) → ((k : ℕ) × (k < length signals) × ((d : Sig) → wire known (get_or signals k d) ≡ X)) ⊎ ((bs : List Bool) × (map (wire known) signals ≡ bits bs))
 some_unknown known [] = inr ([], refl)
 some_unknown known (s ∷ signals) =
-    elim (x_or_bit (wire known s)) [
+    elim (unknown_or_bit (wire known s)) [
       | inl x ↦ inl (zero, omega arith, λ d. x)
       | inr b ↦
           elim (some_unknown known signals) [

@@ -1,5 +1,5 @@
 -- The graph of the unknown gates has the cycles and ways of the netlist's unknown gates.
-use Rattle.std.proofs.Common.{◌≡◌, inl, inr, ℕ, zero, suc, ◌+◌, ◌-◌, ◌<◌, Bool, List, [], ◌∷◌, ◌++◌, length, get_or, refl, ap, sym, ◌∙◌, subst, arith}
+use Rattle.std.proofs.Common.{◌≡◌, inl, inr, ℕ, zero, suc, ◌+◌, ◌-◌, ◌<◌, Bool, List, [], ◌∷◌, ◌++◌, length, get_or, ap, sym, ◌∙◌, subst, arith}
 use Rattle.std.specs.List.{All, Contains}
 use Rattle.std.proofs.lemmas.Bool.{cases_eq}
 use Rattle.std.proofs.lemmas.List.{get_or_append_left, get_or_push, get_or_default, length-append}
@@ -17,9 +17,6 @@ use Rattle.netlist.specs.Fixpoint.{fix}
 use Rattle.explanations.specs.Graph.{IsOpenSignal, HasOpenReads, OpenFeeds, ReadsOpen, IsOpenGraph}
 
 -- ---- the gates on a gate's pins
-
-pub open_reads_first : (first : ℕ) (known : List Trit) (pins : List Sig) → HasOpenReads first known pins 0 []
-open_reads_first first known pins = record { all = λ k d l. absurd (omega arith); only = λ g c. absurd (let l = c.1 in omega arith) }
 
 pub open_reads_more : (first : ℕ) (known : List Trit) (pins : List Sig) (n : ℕ) (pin : Sig) (reads : List ℕ) → n < length pins → ((d : Sig) → get_or pins n d ≡ pin) →
     HasOpenReads first known pins n reads → IsOpenSignal first known pin.0 → HasOpenReads first known pins (n + 1) (reads ++ (pin.0 - first) ∷ [])
@@ -55,12 +52,6 @@ open_reads_skip first known pins n pin reads at h not_open = record {
   only = h.only;
 }
 
-pub reads_nothing : (net : Parts) (known : List Trit) (gate : ℕ) → ¬ IsOpenSignal (length net.inputs + length net.latches) known (gate_sig net gate).0 → ReadsOpen net known gate []
-reads_nothing net known gate not_open a = (
-  λ c. absurd (let l = c.1 in omega arith),
-  λ feeds. absurd (not_open (record { behind = omega arith; unknown = feeds.reader.unknown })),
-)
-
 pub reads_these : (net : Parts) (known : List Trit) (gate : ℕ) (reads : List ℕ) → IsNetlist net → gate < length net.gates → IsOpenSignal (length net.inputs + length net.latches) known (gate_sig net gate).0 →
     HasOpenReads (length net.inputs + length net.latches) known (gate_at net gate).pins (length (gate_at net gate).pins) reads → ReadsOpen net known gate reads
 reads_these net known gate reads valid inside is h a = (
@@ -85,9 +76,6 @@ reads_these net known gate reads valid inside is h a = (
 )
 
 -- ---- the graph, node by node
-
-pub open_graph_first : (net : Parts) (known : List Trit) → IsOpenGraph net known 0 []
-open_graph_first net known = record { size = refl; reads = λ b l. absurd (omega arith) }
 
 pub open_graph_more : (net : Parts) (known : List Trit) (n : ℕ) (graph : List (List ℕ)) (reads : List ℕ) → IsOpenGraph net known n graph → ReadsOpen net known n reads → IsOpenGraph net known (n + 1) (graph ++ reads ∷ [])
 open_graph_more net known n graph reads h r = record {

@@ -1,20 +1,20 @@
 -- Sets that are held open stay unknown, whatever more is known, and each has its place in the greatest.
-use Rattle.std.proofs.Common.{◌≡◌, ◌⊎◌, inl, inr, ℕ, zero, suc, ◌+◌, ◌-◌, ◌<◌, ◌≤◌, Bool, true, false, List, [], ◌∷◌, length, map, get_or, set, refl, ap, sym, ◌∙◌, subst, arith, true≢false}
+use Rattle.std.proofs.Common.{◌≡◌, inl, inr, ℕ, zero, suc, ◌+◌, ◌-◌, ◌<◌, ◌≤◌, Bool, true, false, List, [], ◌∷◌, length, map, get_or, set, refl, ap, sym, ◌∙◌, subst, arith, true≢false}
 use Rattle.std.specs.List.{AllZip}
-use Rattle.std.proofs.lemmas.Bool.{cases_eq, cases_lt}
-use Rattle.std.proofs.lemmas.List.{get_or-map, get_or_append_left, get_or-append_right, get_or-set_other, length-set, length-append}
+use Rattle.std.proofs.lemmas.Bool.{cases_eq, cases_lt, cases_Bool}
+use Rattle.std.proofs.lemmas.List.{get_or_append_left, get_or-append_right, get_or-set_other, length-set}
 use Rattle.cyc_base.specs.declared.sig.Sig.{Sig}
 use Rattle.cyc_base.specs.declared.trit.Trit.{Trit}
 use Rattle.cyc_base.specs.declared.trit.Trit.TheVariants.{Zero, One, X}
 use Rattle.cyc_base.specs.Values.{Below, EachBelow}
-use Rattle.cyc_base.proofs.OrderLemmas.{Below-refl, EachBelow-refl, EachBelow-at, EachBelow-append, EachBelow-length}
+use Rattle.cyc_base.proofs.OrderLemmas.{Below-refl, EachBelow-refl, EachBelow-at, EachBelow-append, EachBelow-length, EachBelow-from_at}
 use Rattle.netlist.specs.declared.parts.Parts.{Parts}
 use Rattle.netlist.specs.Fixpoint.{wires, wire, gate_value, step, fix_gates, fix}
-use Rattle.netlist.specs.Netlists.{count, gate_at, gate_sig, no_gate}
-use Rattle.netlist.proofs.FixpointLemmas.{gate_value_is_monotone, length-step, length-steps, fix_is_fixpoint, fix_is_below_closed, fix_is_monotone}
+use Rattle.netlist.specs.Netlists.{count, gate_at, gate_sig}
+use Rattle.netlist.proofs.FixpointLemmas.{gate_value_is_monotone, length-step, fix_is_fixpoint, fix_is_below_closed, fix_is_monotone, length-fix_gates, get_or-step}
 use Rattle.explanations.specs.declared.pins.Pin.{Pin}
 use Rattle.explanations.specs.Pins.{MayBe}
-use Rattle.explanations.specs.Held.{is_marked, Within, seen, pin_at, IsHeld, AreUnknownGates, IsHeldOpen, IsGreatestWithin, HoldsOpen, mark_count, HasTried, AnyOut, IsTrying, IsShrinking}
+use Rattle.explanations.specs.Held.{is_marked, Within, seen, pin_at, IsHeld, AreUnknownGates, IsHeldOpen, HoldsOpen, mark_count, HasTried, AnyOut, IsTrying}
 
 -- ---- what a gate may see
 
@@ -78,33 +78,13 @@ cleared-at marks n k [] = sym (hidden-x (is_marked marks (n + k)))
 cleared-at marks n zero (x ∷ xs) = ap (λ i. hidden (is_marked marks i) x) (omega arith)
 cleared-at marks n (suc k) (x ∷ xs) = cleared-at marks (suc n) k xs ∙ ap (λ i. hidden (is_marked marks i) (get_or xs k X)) (omega arith)
 
-EachBelow-from_at : (xs ys : List Trit) → length xs ≡ length ys → ((n : ℕ) → n < length xs → Below (get_or xs n X) (get_or ys n X)) → EachBelow xs ys
-EachBelow-from_at [] [] e h = tt
-EachBelow-from_at [] (y ∷ ys) e h = absurd (omega arith)
-EachBelow-from_at (x ∷ xs) [] e h = absurd (omega arith)
-EachBelow-from_at (x ∷ xs) (y ∷ ys) e h =
-    (h zero (omega arith), EachBelow-from_at xs ys (omega arith) (λ n l. h (suc n) (omega arith)))
-
 pub below_x : (a : Trit) → Below a X → a ≡ X
 below_x X h = refl
 below_x Zero h = sym h
 below_x One h = sym h
 
-true_or_false : (b : Bool) → (b ≡ true) ⊎ (b ≡ false)
-true_or_false true = inl refl
-true_or_false false = inr refl
-
 first : Parts → ℕ
 first net = length net.inputs + length net.latches
-
-length-fix_gates : (net : Parts) (v : List Trit) → length (fix_gates net v) ≡ length net.gates
-length-fix_gates net v = length-steps net v (length net.gates)
-
-pub length-fix : (net : Parts) (v : List Trit) → length v ≡ length net.inputs + length net.latches → length (fix net v) ≡ count net
-length-fix net v w = (let joined = length-append v (fix_gates net v) in let gates = length-fix_gates net v in omega arith)
-
-step_at_gate : (net : Parts) (v s : List Trit) (g : ℕ) → g < length net.gates → get_or (step net v s) g X ≡ gate_value (wires v s) (gate_at net g)
-step_at_gate net v s g l = get_or-map (gate_value (wires v s)) net.gates g no_gate X l
 
 -- the value of a gate in the fixpoint is that of its cover
 pub fix_at_gate : (net : Parts) (v : List Trit) (g : ℕ) → length v ≡ length net.inputs + length net.latches → g < length net.gates → get_or (fix net v) (length net.inputs + length net.latches + g) X ≡ gate_value (fix net v) (gate_at net g)
@@ -112,7 +92,7 @@ fix_at_gate net v g w l =
     get_or-append_right v (fix_gates net v) (length v) (length net.inputs + length net.latches + g) X refl (omega arith)
     ∙ ap (λ i. get_or (fix_gates net v) i X) (omega arith)
     ∙ ap (λ s. get_or s g X) (sym (fix_is_fixpoint net v))
-    ∙ step_at_gate net v (fix_gates net v) g l
+    ∙ get_or-step net v (fix_gates net v) g l
 
 module _ (net : Parts) (given more : List Trit) (marks : List Bool) (h : IsHeldOpen net (fix net given) marks)
     (width : length more ≡ length net.inputs + length net.latches) (above : EachBelow given more) where
@@ -133,7 +113,7 @@ module _ (net : Parts) (given more : List Trit) (marks : List Bool) (h : IsHeldO
   -- a column is never marked
   column_unmarked : (n : ℕ) → n < length more → is_marked marks n ≡ false
   column_unmarked n l =
-      elim (true_or_false (is_marked marks n)) [
+      elim (cases_Bool (is_marked marks n)) [
         | inl e ↦ (let behind = (h.unknown n e).0.behind in absurd (omega arith))
         | inr e ↦ e
       ]
@@ -175,7 +155,7 @@ module _ (net : Parts) (given more : List Trit) (marks : List Bool) (h : IsHeldO
   step_below g l true e = subst (λ (v : Trit). Below v X) (sym (marked_is_x g l e)) tt
   step_below g l false e =
       subst (λ (v : Trit). Below (gate_value (wires more state) (gate_at net g)) v)
-      (sym (step_at_gate net more (fix_gates net more) g l) ∙ ap (λ s. get_or s g X) (fix_is_fixpoint net more))
+      (sym (get_or-step net more (fix_gates net more) g l) ∙ ap (λ s. get_or s g X) (fix_is_fixpoint net more))
       (gate_value_is_monotone (gate_at net g) (wires more state) (fix net more) (EachBelow-append more more state (fix_gates net more) (EachBelow-refl more) state_below))
 
   state_closed : EachBelow (step net more state) state
@@ -183,7 +163,7 @@ module _ (net : Parts) (given more : List Trit) (marks : List Bool) (h : IsHeldO
       EachBelow-from_at (step net more state) state (length-step net more state ∙ sym length-state)
       (λ g l.
       let inside : g < length net.gates = (let s = length-step net more state in omega arith) in
-      subst (λ (v : Trit). Below v (get_or state g X)) (sym (step_at_gate net more state g inside))
+      subst (λ (v : Trit). Below v (get_or state g X)) (sym (get_or-step net more state g inside))
       (subst (λ (v : Trit). Below (gate_value (wires more state) (gate_at net g)) v) (sym (state-at g))
       (step_below g inside (is_marked marks (gate_sig net g).0) refl)))
 
@@ -233,15 +213,6 @@ mark_count-set (true ∷ marks) zero e = refl
 mark_count-set (false ∷ marks) zero e = absurd (true≢false (sym e))
 mark_count-set (true ∷ marks) (suc s) e = ap suc (mark_count-set marks s e)
 mark_count-set (false ∷ marks) (suc s) e = mark_count-set marks s e
-
-pub trying_first : (net : Parts) (known : List Trit) (marks : List Bool) → IsTrying net known 0 marks marks false
-trying_first net known marks = record {
-  size = refl;
-  fewer = λ n e. e;
-  kept = λ others held within. within;
-  count = omega arith;
-  any = (refl, λ g l. absurd (omega arith));
-}
 
 module _ (net : Parts) (known : List Trit) (g : ℕ) (old : List Bool) (inside : g < length net.gates) (unknown : AreUnknownGates net known old) where
   -- what one step keeps, whether it takes a gate out or not
@@ -302,28 +273,3 @@ module _ (net : Parts) (known : List Trit) (g : ℕ) (old : List Bool) (inside :
         count = (let a = k.count in let b = h.count in omega arith);
         any = any_next now new out h tried;
       }
-
--- where none is taken out, what is left is held open, and greatest
-pub tried_all : (net : Parts) (known : List Trit) (all old new : List Bool) → AreUnknownGates net known all → length old ≡ length all → Within old all →
-    ((others : List Bool) → IsHeldOpen net known others → Within others all → Within others old) →
-    IsTrying net known (length net.gates) old new false → IsGreatestWithin net known all new
-tried_all net known all old new unknown size within kept h = record {
-  size = h.size ∙ size;
-  held = record {
-    unknown = λ n e. unknown n (within n (h.fewer n e));
-    held = λ g l e.
-        subst (λ (m : List Bool). IsHeld net known m g) (sym h.any.0)
-        (h.any.1 g l (ap (λ m. is_marked m (gate_sig net g).0) (sym h.any.0) ∙ e));
-  };
-  greatest = λ others held w. h.kept others held (kept others held w);
-}
-
-pub shrinking_on : (net : Parts) (known : List Trit) (all old new : List Bool) → IsShrinking net known all old → IsTrying net known (length net.gates) old new true → IsShrinking net known all new
-shrinking_on net known all old new s h = record {
-  size = h.size ∙ s.size;
-  fewer = λ n e. s.fewer n (h.fewer n e);
-  kept = λ others held within. h.kept others held (s.kept others held within);
-}
-
-pub shrunk : (net : Parts) (known : List Trit) (all old new : List Bool) → AreUnknownGates net known all → IsShrinking net known all old → IsTrying net known (length net.gates) old new false → IsGreatestWithin net known all new
-shrunk net known all old new unknown s h = tried_all net known all old new unknown s.size s.fewer s.kept h

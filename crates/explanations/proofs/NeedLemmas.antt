@@ -1,8 +1,8 @@
 -- Leaving columns out one by one.
-use Rattle.std.proofs.Common.{◌≡◌, ◌≢◌, inl, inr, ℕ, zero, suc, ◌+◌, ◌<◌, ◌≤◌, Bool, true, false, List, [], ◌∷◌, ◌++◌, length, map, get_or, set, refl, ap, sym, ◌∙◌, subst, arith, true≢false}
+use Rattle.std.proofs.Common.{◌≡◌, ◌≢◌, inl, inr, ℕ, zero, suc, ◌+◌, ◌<◌, ◌≤◌, Bool, true, false, List, [], ◌∷◌, length, map, get_or, set, refl, ap, sym, ◌∙◌, subst, arith, true≢false}
 use Rattle.std.specs.List.{All, AllZip}
 use Rattle.std.proofs.lemmas.Bool.{cases_eq, cases_lt}
-use Rattle.std.proofs.lemmas.List.{length-map, get_or_append_left, get_or-set_other, get_or_push, get_or_past, length-set, length-append}
+use Rattle.std.proofs.lemmas.List.{length-map, get_or_append_left, get_or-set_other, length-set}
 use Rattle.cyc_base.specs.declared.sig.Sig.{Sig}
 use Rattle.cyc_base.specs.declared.trit.Trit.{Trit}
 use Rattle.cyc_base.specs.declared.trit.Trit.TheVariants.{Zero, One, X}
@@ -25,44 +25,6 @@ get_or-bits [] n l e = absurd (omega arith)
 get_or-bits (true ∷ v) zero l e = let same : One ≡ X = e in cc
 get_or-bits (false ∷ v) zero l e = let same : Zero ≡ X = e in cc
 get_or-bits (b ∷ v) (suc n) l e = get_or-bits v n (omega arith) e
-
-pub all_unknown_first : (net : Parts) (known : List Trit) → AreAllUnknown net known 0 []
-all_unknown_first net known = record {
-  size = refl;
-  all = λ s l. absurd (omega arith);
-  only = λ s e. absurd (true≢false (sym e));
-}
-
-pub all_unknown_more : (net : Parts) (known : List Trit) (n : ℕ) (marks : List Bool) (mark : Bool) → AreAllUnknown net known n marks →
-    (length net.inputs + length net.latches ≤ n → get_or known n X ≡ X → mark ≡ true) →
-    (mark ≡ true → (length net.inputs + length net.latches ≤ n) × (get_or known n X ≡ X)) → AreAllUnknown net known (n + 1) (marks ++ mark ∷ [])
-all_unknown_more net known n marks mark h told only = record {
-  size = (let joined = length-append marks (mark ∷ []) in let size = h.size in omega arith);
-  all = λ s l behind x.
-      elim (cases_eq s n) [
-        | inl same ↦
-            let size = h.size in
-            get_or_push marks mark false s (omega arith)
-            ∙ told (omega arith) (subst (λ (m : ℕ). get_or known m X ≡ X) same x)
-        | inr apart ↦
-            let size = h.size in
-            get_or_append_left marks (mark ∷ []) false s (omega arith) ∙ h.all s (omega arith) behind x
-      ];
-  only = λ s e.
-      let size = h.size in
-      elim (cases_lt s n) [
-        | inl l ↦ h.only s (sym (get_or_append_left marks (mark ∷ []) false s (omega arith)) ∙ e)
-        | inr past ↦
-            elim (cases_eq s n) [
-              | inl same ↦
-                  let is = only (sym (get_or_push marks mark false s (omega arith)) ∙ e) in
-                  subst (λ (m : ℕ). (length net.inputs + length net.latches ≤ m) × (get_or known m X ≡ X)) (sym same) is
-              | inr apart ↦
-                  let joined = length-append marks (mark ∷ []) in
-                  absurd (true≢false (sym e ∙ get_or_past (marks ++ mark ∷ []) s false (omega arith)))
-            ]
-      ];
-}
 
 mark_within : (marks : List Bool) (n : ℕ) → is_marked marks n ≡ true → n < length marks
 mark_within [] n e = absurd (true≢false (sym e))

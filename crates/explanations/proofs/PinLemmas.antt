@@ -1,39 +1,24 @@
 -- Choosing values of free pins, one by one.
-use Rattle.std.proofs.Common.{◌≡◌, ◌⊎◌, inl, inr, ℕ, zero, suc, ◌<◌, Bool, true, false, not, List, [], ◌∷◌, length, map, get_or, set, refl, ap, sym, ◌∙◌, subst, arith, true≢false, ◌↔◌, ◌&&◌}
+use Rattle.std.proofs.Common.{◌≡◌, ◌⊎◌, inl, inr, ℕ, zero, suc, Bool, true, false, not, List, [], ◌∷◌, map, get_or, set, refl, ap, sym, ◌∙◌, subst, arith, true≢false, ◌↔◌, ◌&&◌}
 use Rattle.std.specs.List.{list_any, AllZip, All}
 use Rattle.std.specs.Prelude.{IfOk, Ok, Err}
 use Rattle.std.specs.declared.result.Result.{Result}
-use Rattle.std.proofs.lemmas.Bool.{and_parts, and_from, or_cases, or_parts, or_left, or_right, false_from_ne_true, not-false, not-true, not_from_false}
+use Rattle.std.proofs.lemmas.Bool.{or_cases, or_parts, or_left, or_right, false_from_ne_true, not-false, not-true, not_from_false}
 use Rattle.cyc_base.specs.declared.trit.Trit.{Trit}
 use Rattle.cyc_base.specs.declared.trit.Trit.TheVariants.{Zero, One, X}
-use Rattle.cyc_base.specs.Values.{bit, Below, EachBelow, Completes}
-use Rattle.cyc_base.proofs.OrderLemmas.{Below-refl, Below-bit, Below-at, EachBelow-refl, same_bit}
-use Rattle.cover_logic.specs.declared.row.Lit.{Lit}
+use Rattle.cyc_base.specs.Values.{bit, Below, EachBelow}
+use Rattle.cyc_base.proofs.OrderLemmas.{Below-refl, Below-at, EachBelow-refl, unknown_or_bit}
 use Rattle.cover_logic.specs.declared.row.Row.{Row}
-use Rattle.cover_logic.specs.Covers.{Cover, value, allows, matches, some_row_matches, value_of_rows}
+use Rattle.cover_logic.specs.Covers.{Cover, value, matches, some_row_matches, value_of_rows}
 use Rattle.cover_logic.specs.Extensions.{ext}
 use Rattle.cover_logic.specs.Partial.{asks}
 use Rattle.cover_logic.proofs.ExtensionLemmas.{exact_says, exact_from, ext_is_monotone}
+use Rattle.cover_logic.proofs.TautologyLemmas.{matches_other, completes-reset, set-completes}
 use Rattle.explanations.specs.declared.pins.Pin.{Pin}
 use Rattle.explanations.specs.declared.pins.Pin.TheVariants.{Known, Open, Free}
 use Rattle.explanations.specs.Pins.{trit_of, is_free, MayBe, StaysOpen, CanBe, spoiling, IsBetter, free_count}
 
 -- ---- rows at the two values of a pin
-
-allows_other : (l : Lit) (b : Bool) → not (allows l (not b)) ≡ false → allows l (not b) ≡ true
-allows_other l true h = not-false (allows l false) h
-allows_other l false h = not-false (allows l true) h
-
--- a row that doesn't ask for b at a pin, and matches where the pin is b, matches at the other value too
-matches_other : (lits : List Lit) (bs : List Bool) (pin : ℕ) (b : Bool) → asks lits pin b ≡ false → matches lits (set bs pin b) ≡ true → matches lits (set bs pin (not b)) ≡ true
-matches_other [] bs pin b n h = refl
-matches_other (l ∷ lits) [] pin b n h = refl
-matches_other (l ∷ lits) (d ∷ bs) zero b n h =
-    let p = and_parts (allows l b) (matches lits bs) h in
-    and_from (allows l (not b)) (matches lits bs) (allows_other l b n) p.1
-matches_other (l ∷ lits) (d ∷ bs) (suc pin) b n h =
-    let p = and_parts (allows l d) (matches lits (set bs pin b)) h in
-    and_from (allows l d) (matches lits (set bs pin (not b))) p.0 (matches_other lits bs pin b n p.1)
 
 some_matches_other : (rows : List Row) (bs : List Bool) (pin : ℕ) (b : Bool) → list_any (λ row. asks row.lits pin b) rows ≡ false → some_row_matches rows (set bs pin b) ≡ true → some_row_matches rows (set bs pin (not b)) ≡ true
 some_matches_other [] bs pin b n h = h
@@ -73,27 +58,11 @@ value_better false rows bs pin true false n h = value_stays false rows (set bs p
 
 -- ---- completions with another value of a pin
 
-completes_other : (trits : List Trit) (bs : List Bool) (pin : ℕ) (c d : Bool) → Completes (set trits pin (bit c)) bs → Completes (set trits pin (bit d)) (set bs pin d)
-completes_other [] [] pin c d h = tt
-completes_other [] (e ∷ bs) pin c d h = absurd h
-completes_other (t ∷ trits) [] zero c d h = absurd h
-completes_other (t ∷ trits) [] (suc pin) c d h = absurd h
-completes_other (t ∷ trits) (e ∷ bs) zero c d h = (Below-refl (bit d), h.1)
-completes_other (t ∷ trits) (e ∷ bs) (suc pin) c d h = (h.0, completes_other trits bs pin c d h.1)
-
-has_set : (trits : List Trit) (bs : List Bool) (pin : ℕ) (d : Bool) → Completes (set trits pin (bit d)) bs → set bs pin d ≡ bs
-has_set [] [] pin d c = refl
-has_set [] (e ∷ bs) pin d c = absurd c
-has_set (t ∷ trits) [] zero d c = absurd c
-has_set (t ∷ trits) [] (suc pin) d c = absurd c
-has_set (t ∷ trits) (e ∷ bs) zero d c = ap (λ b. b ∷ bs) (sym (same_bit e d (Below-bit d (bit e) c.0)))
-has_set (t ∷ trits) (e ∷ bs) (suc pin) d c = ap (λ r. e ∷ r) (has_set trits bs pin d c.1)
-
 ext_better : (cover : Cover) (values : List Trit) (pin : ℕ) (wanted b : Bool) → IsBetter cover pin wanted b → ext cover (set values pin (bit (not b))) ≡ bit wanted → ext cover (set values pin (bit b)) ≡ bit wanted
 ext_better cover values pin wanted b better e =
     exact_from (value cover) (set values pin (bit b)) wanted (λ bs c.
-    let other = exact_says (value cover) (set values pin (bit (not b))) wanted e (set bs pin (not b)) (completes_other values bs pin b (not b) c) in
-    subst (λ (cs : List Bool). value cover cs ≡ wanted) (has_set values bs pin b c)
+    let other = exact_says (value cover) (set values pin (bit (not b))) wanted e (set bs pin (not b)) (completes-reset values bs pin b (not b) c) in
+    subst (λ (cs : List Bool). value cover cs ≡ wanted) (set-completes values bs pin b c)
     (value_better cover.plane cover.rows bs pin wanted b better other))
 
 -- ---- pins and their values
@@ -216,14 +185,9 @@ free_count-set (Open ∷ pins) (suc pin) b e = free_count-set pins pin b e
 
 -- ---- both values
 
-open_or_bit : (t : Trit) → (t ≡ X) ⊎ ((b : Bool) × (t ≡ bit b))
-open_or_bit X = inl refl
-open_or_bit Zero = inr (false, refl)
-open_or_bit One = inr (true, refl)
-
 pub stays_open_without : (cover : Cover) (pins : List Pin) → ¬ CanBe cover pins true → ¬ CanBe cover pins false → StaysOpen cover pins
 stays_open_without cover pins one zero' = λ values may.
-    elim (open_or_bit (ext cover values)) [
+    elim (unknown_or_bit (ext cover values)) [
       | inl e ↦ e
       | inr b ↦ absurd (none b.0 values may b.1)
     ]
@@ -242,16 +206,6 @@ pub free_there : (pins : List Pin) (pin : ℕ) → get_or pins pin Open ≡ Free
 free_there [] pin e = refl
 free_there (p ∷ pins) zero e = e
 free_there (p ∷ pins) (suc pin) e = free_there pins pin e
-
-pub free_within : (pins : List Pin) (pin : ℕ) → get_or pins pin Open ≡ Free → pin < length pins
-free_within [] pin e = let no' : Open ≡ Free = e in cc
-free_within (p ∷ pins) zero e = omega arith
-free_within (p ∷ pins) (suc pin) e = (let l = free_within pins pin e in omega arith)
-
-pub is_free_is : (pin : Pin) → is_free pin ≡ true → pin ≡ Free
-is_free_is Free e = refl
-is_free_is (Known b) e = absurd (true≢false (sym e))
-is_free_is Open e = absurd (true≢false (sym e))
 
 pub by_better : (cover : Cover) (pins : List Pin) (pin : ℕ) (b wanted can : Bool) → get_or pins pin Open ≡ Free → IsBetter cover pin wanted b →
     (can ≡ true) ↔ CanBe cover (set pins pin (Known b)) wanted → (can ≡ true) ↔ CanBe cover pins wanted

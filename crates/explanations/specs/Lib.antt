@@ -1,5 +1,7 @@
-pub mod Explained
-pub mod Graph
-pub mod Held
-pub mod Laws
+-- The chapter: what the contracts of public functions say.
 pub mod Pins
+pub mod Held
+pub mod Explained
+pub mod Laws
+-- The code's own: what its parts say to each other.
+pub mod Graph

@@ -1,13 +1,14 @@
 -- Block by block to the fixpoint of a netlist.
 use Rattle.std.proofs.Common.{◌≡◌, ◌≢◌, inl, inr, ◌⊎◌, ℕ, ◌+◌, ◌<◌, ◌≤◌, leb, Bool, true, false, ◌&&◌, if◌then◌else◌, List, [], ◌∷◌, ◌++◌, length, map, take, replicate, get_or, refl, sym, ap, ap₂, ◌∙◌, subst, arith, Contains, true≢false}
-use Rattle.fixpoint.proofs.Common.{IsLooped, Looped, cases_lt, cases_eq, get_or_append_left, get_or_default, get_or_push, length_push, length-append, length-replicate, get_or-replicate, get_or-take, get_or-map, length-map, length-take, All-get_or, All-push, All-append, All, Arena, KeepsNodes, ext, Sig, Trit, X, Rails, AreRailsOf, value_of, values_of, value_of-kept, Gate, Parts, IsNetlist, IsSignal, count, gate_at, no_gate, wire, fix, fix_gates, Feeds, Blocks, Cut, AreBlocksOf, block_at, home_of, is_cut, loops_by, first_gate, gate_of, value_in, map_agree, wire_of_gate, get_or-fix, feeds_at, gate_home, LoopSteps, SweptLoop, Vectors, IsLoopAt, AreStepsOf, HasEachLoopOnce, step_at, last_step, unknown, rails_at, rails_read, vectors, IsGateSet, IsSolvedBelow, AreFresh}
+use Rattle.fixpoint.proofs.Common.{IsLooped, Looped, cases_lt, cases_eq, get_or_append_left, get_or_default, get_or_push, length_push, length-append, length-replicate, get_or-replicate, get_or-take, get_or-map, length-map, length-take, All-get_or, All-push, All-append, All, Arena, KeepsNodes, ext, Sig, Trit, X, Rails, AreRailsOf, value_of, values_of, value_of-kept, Gate, Parts, IsNetlist, IsSignal, count, gate_at, no_gate, wire, fix, fix_gates, Feeds, Blocks, Cut, block_at, home_of, is_cut, loops_by, first_gate, gate_of, value_in, map_agree, wire_of_gate, feeds_at, gate_home, LoopSteps, SweptLoop, Vectors, IsLoopAt, AreStepsOf, HasEachLoopOnce, step_at, last_step, unknown, rails_at, rails_read, vectors, IsGateSet, IsSolvedBelow, AreFresh}
 use Rattle.std.proofs.lemmas.Bool.{leb-true, leb-false}
 use Rattle.std.proofs.lemmas.List.{take-set-le}
 use Rattle.std.proofs.lemmas.List.Elements.{All-replicate, Contains-append_left, Contains-push}
+use Rattle.netlist.proofs.FixpointLemmas.{get_or-fix}
 use Rattle.loops.specs.Sweeps.{cuts as cuts_after, cut_values}
 use Rattle.loops.specs.Walks.{AnyGate, Leads}
 use Rattle.loops.proofs.Walks.{leads-step, leads-trans, leads-any}
-use Rattle.fixpoint.proofs.WireLemmas.{rails_at-proper, unknown-rails, AreWires-set, set-same, set-other, values-fixed}
+use Rattle.fixpoint.proofs.WireLemmas.{rails_at-proper, unknown-rails, AreWires-set, set-same, set-other}
 
 -- ---- the same vectors
 
@@ -209,11 +210,6 @@ solved-start l a given before rails width proper before_is rails_is =
 
 pub fresh-start : (l : Looped) (before : List Rails) → before ≡ replicate (length l.net.gates) unknown → AreFresh l 0 before
 fresh-start l before is n less later = ap (λ (r : List Rails). rails_at r n) is ∙ get_or-replicate {A = Rails} (length l.net.gates) n unknown unknown less
-
--- in the end each signal is solved
-pub values-are-fix : (l : Looped) (a : Arena) (v : Vectors) (before rails : List Rails) → AreBlocksOf l.net l.blocks → IsSolvedBelow l a v (length l.blocks.list) before rails → (bits : List Bool) → values_of a rails bits ≡ fix l.net (v bits)
-values-are-fix l a v before rails are solved =
-    values-fixed l.net a v rails solved.wires.width solved.vector solved.given (λ n bits less. solved.gates n bits less (are.home n less))
 
 -- a block has a gate, and all of its gates are at home there
 pub gates-some : (l : Looped) → IsLooped l → (b : ℕ) → b < length l.blocks.list → (gates : List ℕ) → gates ≡ (block_at l.blocks b).gates → 0 < length gates

@@ -30,7 +30,7 @@ pub use Rattle.fixpoint.specs.declared.locals.SharedDiagram.{SharedDiagram}
 pub use Rattle.fixpoint.specs.declared.solved.LoopSteps.{LoopSteps}
 pub use Rattle.fixpoint.specs.declared.solved.Solved.{Solved}
 pub use Rattle.fixpoint.specs.declared.solved.SweptLoop.{SweptLoop}
-pub use Rattle.loops.proofs.Reading.{get_or-fix, map_agree, wire_of_gate}
+pub use Rattle.loops.proofs.Reading.{map_agree, wire_of_gate}
 pub use Rattle.loops.proofs.Sweeps.{few_sweeps_are_enough}
 pub use Rattle.loops.proofs.Told.{blocks_tell_loops, gate_home, home_gate, told_parts}
 pub use Rattle.loops.proofs.Unique.{feeds_at}

@@ -39,10 +39,6 @@ total-split p q r f (suc n) apart l s back =
     let here = if-split (p n) (q n) (r n) (f n) (apart n) (l n) (s n) (back n) in
     omega (arith, rest, here)
 
--- all gates but one
-without : (ℕ → Bool) → ℕ → ℕ → Bool
-without p n m = p m && not (m == n)
-
 total-one : (f : ℕ → ℕ) (n k : ℕ) → n < k → total (λ m. m == n) f k ≡ f n
 total-one f n zero less = absurd (omega (arith, less))
 total-one f n (suc k) less = elim (cases_eq k n) [

@@ -1,7 +1,7 @@
 -- Comparing steps at the vectors of a care set.
-use Rattle.std.proofs.Common.{◌≡◌, ◌==◌, inl, inr, ◌⊎◌, ℕ, ◌+◌, ◌-◌, ◌<◌, ◌≤◌, Bool, true, false, ◌&&◌, List, [], length, map, set, get_or, replicate, refl, sym, ap, ap₂, ◌∙◌, subst, arith, true≢false}
-use Rattle.fixpoint.proofs.Common.{eqb-true, eq-eqb, cases_lt, length-replicate, get_or-replicate, length-map, All-map, All, Node, Arena, den, IsNodeOf, IsLawful, KeepsNodes, Rails, Blocks, block_at, LoopSteps, IsLoopAt, HasEachLoopOnce, step_at, last_step, steps_under, rails_under, AreKept, AreNodes, SameRailsOn, AgreeOn, IsLeastStep, AreCountable}
-use Rattle.std.proofs.lemmas.List.{get_or_past, get_or_read, get_or-set_same, get_or-set_other, length-set}
+use Rattle.std.proofs.Common.{◌≡◌, ◌==◌, inl, inr, ◌⊎◌, ℕ, ◌+◌, ◌-◌, ◌<◌, ◌≤◌, Bool, true, false, ◌&&◌, List, [], length, map, set, get_or, refl, sym, ap, ap₂, ◌∙◌, subst, arith, true≢false}
+use Rattle.fixpoint.proofs.Common.{eqb-true, eq-eqb, cases_lt, length-map, All-map, All, Node, Arena, den, IsNodeOf, IsLawful, KeepsNodes, Rails, Blocks, block_at, LoopSteps, IsLoopAt, HasEachLoopOnce, step_at, last_step, steps_under, rails_under, AreKept, AreNodes, SameRailsOn, AgreeOn, IsLeastStep, AreCountable}
+use Rattle.std.proofs.lemmas.List.{get_or_read, get_or-set_same, get_or-set_other, length-set}
 use Rattle.std.specs.List.{slice_index_or}
 use Rattle.bdd_store.specs.Arena.{constant}
 use Rattle.bdd_ops.specs.Operations.{xor, conjunction, exclusive_or}
@@ -46,10 +46,6 @@ module _ (a b e : Arena) (care m n differ seen : Node) (care_is : IsNodeOf a car
   same_to same = lawful.canonical seen (constant false) seen_is (omega arith)
       (λ bits len. seen_den bits ∙ unseen (den a care bits) (den a m bits) (den a n bits) (same bits) ∙ sym (lawful.constants false bits))
 
--- what is so at one store is so where nodes are kept
-pub AreNodes-kept : {s t : Arena} → KeepsNodes s t → (r : Rails) → AreNodes s r → AreNodes t r
-AreNodes-kept k r is = record { one = omega (arith, is.one, k.more); zero = omega (arith, is.zero, k.more) }
-
 pub node_from : (x y : Node) (b : Bool) → b ≡ (x.number == y.number) → b ≡ true → x ≡ y
 node_from x y b is e = ap (λ (n : ℕ). let m : Node = record { number = n } in m) (eqb-true x.number y.number (sym is ∙ e))
 
@@ -91,19 +87,6 @@ pub record IsCounting (a : Arena) (blocks : Blocks) (care : Node) (found : List 
   pub width : length counts ≡ length blocks.list
   pub done : (j : ℕ) (none : LoopSteps) → j < i → IsLeastStep a care (steps_under a (slice_index_or found j none)) (slice_index_or counts (slice_index_or found j none).block 0)
   pub others : (b : ℕ) → (block_at blocks b).looped ≡ false → slice_index_or counts b 0 ≡ 0
-
-pub counting-init : (a : Arena) (blocks : Blocks) (care : Node) (found : List LoopSteps) (counts : List ℕ) → counts ≡ replicate {A = ℕ} (length blocks.list) 0 → IsCounting a blocks care found 0 counts
-counting-init a blocks care found counts is = record {
-  width = ap length is ∙ length-replicate {A = ℕ} (length blocks.list) 0;
-  done = λ j none less. absurd (omega (arith, less));
-  others = λ b not_loop. ap (λ (ns : List ℕ). slice_index_or ns b 0) is ∙ zeros (length blocks.list) b;
-}
-  where
-    zeros : (n b : ℕ) → slice_index_or (replicate {A = ℕ} n 0) b 0 ≡ 0
-    zeros n b = elim (cases_lt b n) [
-      | inl low ↦ get_or-replicate {A = ℕ} n b 0 0 low
-      | inr high ↦ get_or_past {X = ℕ} (replicate {A = ℕ} n 0) b 0 (let len = length-replicate {A = ℕ} n 0 in omega (arith, high, len))
-    ]
 
 pub counting-step : (a : Arena) (blocks : Blocks) (care : Node) (found : List LoopSteps) (i : ℕ) (counts : List ℕ) (at : LoopSteps) (k : ℕ) → HasEachLoopOnce blocks found → i < length found
     → at ≡ slice_index_or found i at → IsLeastStep a care (steps_under a at) k → IsCounting a blocks care found i counts → IsCounting a blocks care found (i + 1) (set counts at.block k)

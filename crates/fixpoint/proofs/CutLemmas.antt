@@ -2,11 +2,12 @@
 use Rattle.std.proofs.Common.{◌≡◌, ◌==◌, inl, inr, ℕ, zero, suc, ◌+◌, ◌-◌, ◌<◌, ◌≤◌, Bool, true, false, ◌&&◌, List, [], ◌∷◌, length, filter, take, set, get_or, refl, sym, ap, ap₂, ◌∙◌, subst, arith, Contains, true≢false}
 use Rattle.fixpoint.proofs.Common.{cases_eq, eqb-true, eq-eqb, get_or_default, All-set, All, range_with_len, Node, Arena, den, IsLawful, Trit, Rails, AreRailsOf, trit_of, value_of, is_bit, Parts, fix_gates, Blocks, Cut, AreBlocksOf, block_at, home_of, no_block, Block, IsOrderOf, IsCutOf, is_cut, in_one_loop, loops_by, first_gate, value_in, cuts_of, sweeps, few_sweeps_are_enough, told_parts, gate_home, home_gate, blocks_tell_loops, IsLoopAt, unknown, rails_at}
 use Rattle.std.proofs.lemmas.List.{get_or-set_same, get_or-set_other}
+use Rattle.cyc_base.proofs.ListLemmas.{Contains-filter}
+use Rattle.cyc_base.proofs.TruthLemmas.{same_truth}
 use Rattle.loops.specs.Sweeps.{CutsAreFixed}
-use Rattle.loops.proofs.Reading.{Contains-filter, Contains-filter_from, Contains-range_from}
+use Rattle.loops.proofs.Reading.{Contains-filter_from, Contains-range_from}
 use Rattle.loops.proofs.Sweeps.{cut_values_agree, fixed_cuts_give_fix}
 use Rattle.loops.proofs.Told.{blocks_have_loops}
-use Rattle.loops.proofs.Walks.{same_truth}
 use Rattle.fixpoint.proofs.WireLemmas.{rails_at-proper}
 use Rattle.fixpoint.proofs.SweepLemmas.{next-or-before, next-is-taken, before-is-taken}
 

@@ -3,13 +3,13 @@ use Rattle.std.proofs.Common.{◌≡◌, ℕ, ◌+◌, ◌<◌, ◌≤◌, Bool,
 use Rattle.std.specs.Option.{unwrap_or}
 use Rattle.fixpoint.proofs.Common.{All, get_or-map, length-map, take_more, All-map, All-push, StoreFault, Node, Arena, den, IsNodeOf, KeepsNodes, AddsWithin, NoOtherCause, IsLawful, Trit, Rails, AreRailsOf, trit_of, value_of, map_agree, KeptRails, rails_under, values_under, AreKept, GainsRoots, RootsStay}
 use Rattle.std.proofs.lemmas.List.{map_push}
+use Rattle.cyc_base.proofs.ListLemmas.{map-map}
 use Rattle.bdd_store.specs.declared.fault.StoreFault.TheVariants.{Full, Memory}
 use Rattle.bdd_store.specs.declared.node.Entry.{Entry}
 use Rattle.bdd_store.specs.declared.root.Root.{Root}
 use Rattle.bdd_store.specs.Arena.{root_at, constant, node_value}
 use Rattle.bdd_store.specs.Sweeping.{KeepsRoots}
 use Rattle.fixpoint.specs.Kept.{node_under, IsRootStill}
-use Rattle.fixpoint.proofs.WireLemmas.{map-map}
 
 -- what holds of the images of a list
 pub All-mapped : {X Y : Type 0} (P : Y → Type 0) (f : X → Y) (xs : List X) → All P (map f xs) → All (λ x. P (f x)) xs
@@ -106,9 +106,6 @@ module _ {s t : Arena} (g : GainsRoots s t) (lists : List (List Rails)) (kept : 
       ∙ sym (take_more lists i none inside)
 
 -- ---- roots that stay
-
-pub RootsStay-refl : (a : Arena) → IsLawful a → RootsStay a a
-RootsStay-refl a laws = record { vars = refl; limit = refl; each = λ key n is. record { node = n; root = is; is_node = laws.roots key n is; function = λ bits. refl } }
 
 pub RootsStay-chain : {s t u : Arena} → RootsStay s t → RootsStay t u → RootsStay s u
 RootsStay-chain r q = record {

@@ -1,13 +1,14 @@
 -- Vectors by column and by variable: each is one of the other, where the columns are a layout.
-use Rattle.std.proofs.Common.{◌≡◌, ◌≢◌, inl, inr, ℕ, zero, suc, ◌+◌, ◌<◌, ◌≤◌, eqb, Bool, true, false, ◌||◌, List, [], ◌∷◌, ◌++◌, length, take, get_or, set, replicate, refl, sym, ap, ap₂, ◌∙◌, arith, length-set, get_or-set_same, get_or-set_other, true≢false}
+use Rattle.std.proofs.Common.{◌≡◌, ◌≢◌, inl, inr, ℕ, zero, suc, ◌+◌, ◌<◌, ◌≤◌, eqb, Bool, true, false, ◌||◌, List, [], ◌∷◌, ◌++◌, length, take, get_or, set, replicate, refl, sym, ap, ◌∙◌, arith, length-set, true≢false}
 use Rattle.std.specs.List.{AllByRecursion, Contains, IsDistinct, list_any}
-use Rattle.fixpoint.proofs.Common.{cases_Bool, eqb-true, ext_get_or, get_or-map, get_or_default, length-map, length-replicate, take_more, take_all, IsLayout}
+use Rattle.fixpoint.proofs.Common.{cases_Bool, eqb-true, ext_get_or, get_or_default, length-map, length-replicate, take_more, take_all, IsLayout}
 use Rattle.std.proofs.lemmas.Bool.{ne_eqb, or_cases}
 use Rattle.std.proofs.lemmas.List.{take_more_set}
 use Rattle.std.proofs.lemmas.Map.Keys.{IsDistinct-from_apart}
 use Rattle.std.proofs.lemmas.Map.Steps.{length-le_from_distinct_below}
 use Rattle.std.proofs.lemmas.Map.Views.{Contains-from_any}
 use Rattle.bdd_ops.specs.Least.{by_variable}
+use Rattle.bdd_ops.proofs.PossibleLemmas.{by_variable-read, by_variable-set}
 
 pub length-by_variable : (columns : List ℕ) (v : List Bool) → length (by_variable columns v) ≡ length columns
 length-by_variable columns v = length-map columns (λ c. get_or v c false)
@@ -17,26 +18,6 @@ pub record IsVariableOf (n : ℕ) (columns : List ℕ) (c : ℕ) : Type 0 where
   pub number : ℕ
   pub within : number < n
   pub is : get_or columns number 0 ≡ c
-
--- a bit by variable is the one at its column
-pub by_variable-read : (columns : List ℕ) (v : List Bool) (k : ℕ) → k < length columns → get_or (by_variable columns v) k false ≡ get_or v (get_or columns k 0) false
-by_variable-read columns v k less = get_or-map (λ c. get_or v c false) columns k 0 false less
-
-set-other : (columns : List ℕ) (v : List Bool) (c : ℕ) (b : Bool) → ((j : ℕ) → j < length columns → get_or columns j 0 ≢ c) → by_variable columns (set v c b) ≡ by_variable columns v
-set-other [] v c b apart = refl
-set-other (x ∷ columns) v c b apart =
-    ap₂ (λ t (xs : List Bool). t ∷ xs) (get_or-set_other v c x b false (apart 0 (omega arith))) (set-other columns v c b (λ j less. apart (suc j) (omega (arith, less))))
-
--- a bit that is set at a column is set at its variable
-by_variable-set : (columns : List ℕ) (v : List Bool) (k c : ℕ) (b : Bool) → k < length columns → get_or columns k 0 ≡ c → c < length v → ((j : ℕ) → j < length columns → get_or columns j 0 ≡ c → j ≡ k) →
-    by_variable columns (set v c b) ≡ set (by_variable columns v) k b
-by_variable-set [] v k c b less at within once = absurd (omega (arith, less))
-by_variable-set (x ∷ columns) v zero c b less at within once =
-    ap₂ (λ t (xs : List Bool). t ∷ xs) (ap (λ j. get_or (set v c b) j false) at ∙ get_or-set_same v c b false within)
-    (set-other columns v c b (λ j l same. let e = once (suc j) (omega (arith, l)) same in omega (arith, e)))
-by_variable-set (x ∷ columns) v (suc k) c b less at within once =
-    ap₂ (λ t (xs : List Bool). t ∷ xs) (get_or-set_other v c x b false (λ same. let e = once 0 (omega arith) same in omega (arith, e)))
-    (by_variable-set columns v k c b (omega (arith, less)) at within (λ j l same. let e = once (suc j) (omega (arith, l)) same in omega (arith, e)))
 
 -- ---- the vector by column of one by variable
 

@@ -1,12 +1,13 @@
 -- Gates lifted one by one, each after those that it reads.
 use Rattle.std.proofs.Common.{◌≡◌, inl, inr, ℕ, ◌+◌, ◌<◌, Bool, List, ◌++◌, length, map, take, drop, get_or, replicate, refl, sym, ap, ap₂, ◌∙◌, subst, arith}
 use Rattle.std.proofs.Math.Seq.{take-append_seam}
-use Rattle.fixpoint.proofs.Common.{cases_lt, get_or_default, length-append, length-replicate, get_or_append_left, get_or-map, length-map, All-set, All-append, All-get_or, All, Arena, KeepsNodes, ext, Sig, X, Rails, AreRailsOf, value_of, values_of, BoundsEach, All-rails-kept, Gate, Parts, wire, fix, fix_gates, IsNetlist, IsSignal, count, gate_at, no_gate, Feeds, first_gate, gate_of, value_in, map_agree, wire_of_gate, get_or-fix, feeds_at, BoundsGate, AreLifted, Vectors, unknown, rails_at, no_loops, IsGatePart, read_at_fix}
+use Rattle.fixpoint.proofs.Common.{cases_lt, get_or_default, length-append, length-replicate, get_or_append_left, get_or-map, length-map, All-set, All-append, All-get_or, All, Arena, KeepsNodes, ext, Sig, X, Rails, AreRailsOf, value_of, values_of, BoundsEach, All-rails-kept, Gate, Parts, wire, fix, fix_gates, IsNetlist, IsSignal, count, gate_at, no_gate, Feeds, first_gate, gate_of, value_in, map_agree, wire_of_gate, feeds_at, BoundsGate, AreLifted, Vectors, unknown, rails_at, no_loops, IsGatePart, read_at_fix}
 use Rattle.std.proofs.lemmas.List.{length-set}
 use Rattle.std.proofs.lemmas.List.Elements.{All-replicate}
 use Rattle.std.specs.List.{slice_index}
 use Rattle.dual_rail.proofs.SurelyLemmas.{length-values}
 use Rattle.netlist.specs.Orders.{IsGateOrder}
+use Rattle.netlist.proofs.FixpointLemmas.{get_or-fix}
 use Rattle.fixpoint.specs.Lifting.{rails_of_pin, AreSignalRails, IsLifted}
 use Rattle.fixpoint.proofs.WireLemmas.{unknown-rails, pins-values, set-same, set-other, values-fixed}
 use Rattle.fixpoint.proofs.WorkLemmas.{bounds-lift}

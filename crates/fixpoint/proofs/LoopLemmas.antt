@@ -1,11 +1,12 @@
 -- Sweep by sweep to the fixpoint of a loop.
 use Rattle.std.proofs.Common.{◌≡◌, inl, inr, ℕ, suc, ◌+◌, ◌-◌, ◌<◌, ◌≤◌, Bool, true, false, Result, Ok, Err, is_ok, is_err, if◌then◌else◌, List, [], ◌∷◌, ◌++◌, length, map, filter, take, get_or, refl, sym, ap, ◌∙◌, subst, arith, Contains, true≢false}
+use Rattle.cyc_base.proofs.ListLemmas.{map-map}
 use Rattle.fixpoint.proofs.Common.{IsLooped, Looped, cases_lt, cases_eq, get_or_append_left, get_or_push, length_push, get_or_default, get_or-take, get_or-replicate, length-take, ext_get_or, All-push, All-map, All, Arena, KeepsNodes, IsLawful, Trit, X, Rails, AreRailsOf, value_of, values_of, value_of-kept, All-rails-kept, fix_gates, block_at, home_of, is_cut, loops_by, IsOrderOf, first_gate, value_in, cuts_of, sweeps, map_agree, gate_home, home_gate, blocks_tell_loops, SweptLoop, Vectors, IsLoopAt, AreStepsOf, step_at, unknown, rails_at, AreWires, IsSolvedBelow, AreFresh, AreSwept, OthersStay, after_sweeps, IsUnderway, IsAtRest}
 use Rattle.dual_rail.proofs.SurelyLemmas.{values_of-kept}
 use Rattle.loops.specs.Sweeps.{cuts as cuts_after}
 use Rattle.loops.proofs.Sweeps.{still_is_fix}
 use Rattle.fixpoint.specs.Sweeping.{CutsAre}
-use Rattle.fixpoint.proofs.WireLemmas.{rails_at-proper, map-map, unknown-value}
+use Rattle.fixpoint.proofs.WireLemmas.{rails_at-proper, unknown-value}
 use Rattle.fixpoint.proofs.CutLemmas.{cuts-are, in-cuts, from-cuts, fixed-at, one-block, rails-canonical}
 
 -- what a push that did not fail left

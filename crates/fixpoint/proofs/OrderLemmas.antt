@@ -13,6 +13,7 @@ use Rattle.std.proofs.lemmas.Option.{get_or_from_slice_get, slice_get_within}
 use Rattle.std.proofs.lemmas.Map.Keys.{apart_from_distinct}
 use Rattle.std.proofs.lemmas.Map.Steps.{length-le_from_distinct_below, le-length_from_below}
 use Rattle.std.proofs.lemmas.Map.Views.{any-filter_same}
+use Rattle.cyc_base.proofs.ListLemmas.{all_filter}
 use Rattle.fixpoint.specs.Orders.{each_once, order}
 
 -- ---- each number once
@@ -43,21 +44,13 @@ each_once-any (x ∷ xs) c = by (each_once-any xs c) (eqb c x) refl
         (λ m e. ap not (ne_eqb x m (λ same. true≢false (sym (eq-eqb c x (eqb-true c m e ∙ sym same)) ∙ other)))) (each_once xs)
         ∙ rest
 
-all-filtered : (q : ℕ → Type 0) (p : ℕ → Bool) (xs : List ℕ) → AllByRecursion q xs → AllByRecursion q (filter p xs)
-all-filtered q p [] all = tt
-all-filtered q p (x ∷ xs) all = by (p x) (all-filtered q p xs all.1)
-  where
-    by : (b : Bool) → AllByRecursion q (filter p xs) → AllByRecursion q (cond b (x ∷ filter p xs) (filter p xs))
-    by true rest = (all.0, rest)
-    by false rest = rest
-
 distinct-filter : (p : ℕ → Bool) (xs : List ℕ) → IsDistinct eqb xs → IsDistinct eqb (filter p xs)
 unfolding IsDistinct
 distinct-filter p [] is = tt
 distinct-filter p (x ∷ xs) is = by (p x) (distinct-filter p xs is.1)
   where
     by : (b : Bool) → IsDistinct eqb (filter p xs) → IsDistinct eqb (cond b (x ∷ filter p xs) (filter p xs))
-    by true rest = (all-filtered (λ y. eqb x y ≡ false) p xs is.0, rest)
+    by true rest = (all_filter (λ y. eqb x y ≡ false) p xs is.0, rest)
     by false rest = rest
 
 filtered-apart : (x : ℕ) (xs : List ℕ) → AllByRecursion (λ y. eqb x y ≡ false) (filter (λ m. not (eqb x m)) xs)
@@ -135,9 +128,6 @@ taken-old from marks columns c within old are = record {
     more false false h = refl
 
 -- ---- columns that are read
-
-pub read-none : (n : ℕ) (pins : List Sig) → first_signals n (take 0 pins) ≡ []
-read-none n pins = refl
 
 -- a pin more
 read-more : (n : ℕ) (pins : List Sig) (i : ℕ) (d : Sig) → i < length pins → first_signals n (take (i + 1) pins) ≡ first_signals n (take i pins) ++ cond (nat_lt (get_or pins i d).0 n) ((get_or pins i d).0 ∷ []) []

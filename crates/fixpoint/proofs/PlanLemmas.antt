@@ -1,6 +1,6 @@
 -- What a loop is swept by: the diagrams of its gates' covers, gate by gate.
 use Rattle.std.proofs.Common.{◌≡◌, inl, inr, ℕ, ◌<◌, List, [], ◌∷◌, ◌++◌, length, get_or, refl, sym, ap, ◌∙◌, subst, arith}
-use Rattle.fixpoint.proofs.Common.{cases_lt, get_or_append_left, get_or_push, length_push, get_or_default, All, IsDiagramOf, Parts, gate_at, SharedDiagram, AreLocalsOf}
+use Rattle.fixpoint.proofs.Common.{cases_lt, get_or_append_left, get_or_push, length_push, All, IsDiagramOf, Parts, gate_at, SharedDiagram, AreLocalsOf}
 use Rattle.fixpoint.specs.declared.locals.Locals.{Locals}
 use Rattle.fixpoint.specs.Plans.{HasDiagram, AreShared}
 
@@ -44,11 +44,6 @@ locals-next net gates n place old new are shared stay places has = record {
   where
     longer : length (old.places.items ++ place ∷ []) ≡ length (gates ++ n ∷ [])
     longer = let a = length_push old.places.items place in let b = length_push gates n in omega (arith, a, b, are.width)
-
--- a diagram of the list is one of those shared
-pub places-within : (net : Parts) (gates : List ℕ) (locals : Locals) → AreLocalsOf net gates locals → All (λ place. place < length locals.shared.items) locals.places.items
-places-within net gates locals are i none less =
-    subst (λ (p : ℕ). p < length locals.shared.items) (get_or_default locals.places.items i 0 none less) (are.each i (omega (arith, less, are.width))).within
 
 -- numbers below a bound are below one that is equal
 pub each-within : {xs ys : List ℕ} {m n : ℕ} → xs ≡ ys → m ≡ n → All (λ k. k < m) ys → All (λ k. k < n) xs

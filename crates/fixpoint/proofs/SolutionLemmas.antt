@@ -1,9 +1,10 @@
 -- The loops of a solution can be counted, and a solution stays one while nodes are kept.
-use Rattle.std.proofs.Common.{◌≡◌, ◌==◌, inl, inr, ◌⊎◌, ℕ, zero, suc, ◌+◌, ◌<◌, ◌≤◌, Bool, true, false, ◌||◌, cond, List, [], ◌∷◌, length, map, filter, take, get_or, refl, sym, ap, ◌∙◌, subst, arith, Contains, true≢false}
+use Rattle.std.proofs.Common.{◌≡◌, ◌==◌, inl, inr, ℕ, zero, suc, ◌+◌, ◌<◌, ◌≤◌, Bool, true, false, ◌||◌, cond, List, [], ◌∷◌, length, map, filter, take, get_or, refl, sym, ap, ◌∙◌, subst, arith, Contains}
 use Rattle.fixpoint.proofs.Common.{cases_Bool, eqb-true, get_or_default, get_or-map, take_all, length-map, length-range_with_len, sum_by_more, All, sum_by, range_with_len, Node, Arena, Rails, Parts, IsNetlist, Blocks, Cut, AreBlocksOf, block_at, home_of, IsCutOf, is_cut, loops_by, cuts_of, LoopSteps, Solved, rails_under, Vectors, AreStepsOf, AreKeptSteps, IsSolution, steps_under, loop_under, AreCountable, total}
 use Rattle.std.proofs.lemmas.List.FromFn.{get_or-range_with_len}
 use Rattle.std.proofs.lemmas.List.Sums.{sum_by-cons, length-filter, count_by-le-length}
 use Rattle.std.specs.List.{count_by}
+use Rattle.std.proofs.lemmas.Bool.{or_cases, or_left, or_right, or_from}
 use Rattle.fixpoint.specs.Counts.{AreLoopsToCount}
 use Rattle.fixpoint.specs.Laws.{SolutionsCount, SolutionsStay}
 use Rattle.fixpoint.proofs.KeptLemmas.{All-kept-stay, All-rails-stay, values-stay}
@@ -51,27 +52,11 @@ abbrev within : (ℕ → ℕ) → List LoopSteps → ℕ → Bool
 within home [] n = false
 within home (x ∷ xs) n = (home n == x.block) || within home xs n
 
-or-cases : (a b : Bool) → (a || b) ≡ true → (a ≡ true) ⊎ (b ≡ true)
-or-cases true b e = inl refl
-or-cases false b e = inr e
-
-or-left : (a b : Bool) → a ≡ true → (a || b) ≡ true
-or-left true b e = refl
-or-left false b e = absurd (true≢false (sym e))
-
-or-right : (a b : Bool) → b ≡ true → (a || b) ≡ true
-or-right true b e = refl
-or-right false b e = e
-
-or-none : (a b : Bool) → a ≡ false → b ≡ false → (a || b) ≡ false
-or-none true b e d = absurd (true≢false e)
-or-none false b e d = d
-
 apart-within : (home : ℕ → ℕ) (xs : List LoopSteps) (b n : ℕ) → All (λ y. ¬ (y.block ≡ b)) xs → home n ≡ b → within home xs n ≡ false
 apart-within home [] b n apart at = refl
 apart-within home (x ∷ xs) b n apart at =
     let here : ¬ (x.block ≡ b) = apart 0 x (omega arith) in
-    or-none (home n == x.block) (within home xs n)
+    or_from (home n == x.block) (within home xs n)
     (elim (cases_Bool (home n == x.block)) [ inl e ↦ absurd (here (sym (eqb-true (home n) x.block e) ∙ at)) | inr e ↦ e ])
     (apart-within home xs b n (λ k none less. apart (suc k) none (omega (arith, less))) at)
 
@@ -85,9 +70,9 @@ sum-within home G (x ∷ xs) each once =
     let apart : All (λ y. ¬ (y.block ≡ x.block)) xs = λ k none less same. let e = once 0 (suc k) none (omega arith) (omega (arith, less)) (sym same) in omega (arith, e) in
     let split = total-split (λ n. home n == x.block) (within home xs) (λ n. (home n == x.block) || within home xs n) (λ m. 1) G
     (λ n e. apart-within home xs x.block n apart (eqb-true (home n) x.block e))
-    (λ n e. or-left (home n == x.block) (within home xs n) e)
-    (λ n e. or-right (home n == x.block) (within home xs n) e)
-    (λ n e. or-cases (home n == x.block) (within home xs n) e) in
+    (λ n e. or_left (home n == x.block) (within home xs n) e)
+    (λ n e. or_right (home n == x.block) (within home xs n) e)
+    (λ n e. or_cases (home n == x.block) (within home xs n) e) in
     let sum = sum_by-cons (λ (y : LoopSteps). length y.cuts) x xs in
     omega (arith, here, rest, split, sum)
 

@@ -216,10 +216,6 @@ others-step net cut order d e before old rails after i n inside n_is others done
     ∙ get_or-set_other rails (first_gate net + n) s done.made unknown (λ same. free n same (subst (Contains (take (i + 1) order)) (sym n_is) (next-is-taken order i inside)))
     ∙ others s (λ m e2 has. free m e2 (before-is-taken order i m has))
 
--- before the first gate
-pub sweeping-start : (l : Looped) (order : List ℕ) (s : Arena) (before old : List Rails) → IsSweeping l order s before old s old 0
-sweeping-start l order s before old b v c ready m bits less has = absurd (let l : has.0 < 0 = has.1 in omega (arith, l))
-
 -- and after the last
 pub sweeping-end : (l : Looped) (order : List ℕ) (s d : Arena) (before old rails : List Rails) (i : ℕ) → length order ≤ i → IsSweeping l order s before old d rails i →
     (b : ℕ) (v : Vectors) (c : States) → IsSweepable l s v c b order before old → AreSwept l d v c (λ n. home_of l.blocks n ≡ b) rails

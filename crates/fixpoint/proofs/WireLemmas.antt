@@ -1,8 +1,9 @@
 -- Rails of wires, and of what a gate reads.
-use Rattle.std.proofs.Common.{◌≡◌, ◌≢◌, inl, inr, ℕ, ◌+◌, ◌-◌, ◌<◌, leb, Bool, true, false, ◌&&◌, if◌then◌else◌, List, [], ◌∷◌, length, map, refl, sym, ap, ◌∙◌, subst, arith}
+use Rattle.std.proofs.Common.{◌≡◌, ◌≢◌, inl, inr, ℕ, ◌+◌, ◌-◌, ◌<◌, leb, Bool, true, false, ◌&&◌, if◌then◌else◌, List, length, map, refl, sym, ap, ◌∙◌, subst, arith}
 use Rattle.fixpoint.proofs.Common.{cases_lt, get_or-map, get_or_append_left, length-append, ext_get_or, All-map, All-set, All, Arena, KeepsNodes, Sig, Trit, X, Rails, AreRailsOf, value_of, values_of, All-rails-kept, value_of-kept, Parts, fix, fix_gates, count, Cut, is_cut, first_gate, gate_of, value_in, wire_of_gate, Vectors, unknown, rails_at, rails_read, AreWires, IsGateSet}
 use Rattle.std.proofs.lemmas.List.{get_or_past, get_or-set_same, get_or-set_other, length-set}
 use Rattle.std.specs.List.{slice_index_or, slice_set}
+use Rattle.cyc_base.proofs.ListLemmas.{map-map}
 use Rattle.bdd_store.specs.Arena.{den_within}
 use Rattle.dual_rail.proofs.SurelyLemmas.{length-values}
 use Rattle.netlist.proofs.FixpointLemmas.{length-steps}
@@ -33,21 +34,8 @@ rails_read-proper net cut a before rails wires pin = by (leb (first_gate net) pi
 pub pins-proper : (a : Arena) (read : Sig → Rails) (pins : List Sig) (list : List Rails) → ((pin : Sig) → AreRailsOf a (read pin)) → list ≡ map read pins → All (AreRailsOf a) list
 pins-proper a read pins list proper is = subst (All (AreRailsOf a)) (sym is) (All-map (AreRailsOf a) read pins (λ k d less. proper (slice_index_or pins k d)))
 
-pub map-map : {A B C : Type 0} (f : B → C) (g : A → B) (xs : List A) → map f (map g xs) ≡ map (λ x. f (g x)) xs
-map-map f g [] = refl
-map-map f g (x ∷ xs) = ap (λ ys. f (g x) ∷ ys) (map-map f g xs)
-
 pub pins-values : (a : Arena) (read : Sig → Rails) (pins : List Sig) (list : List Rails) (bits : List Bool) → list ≡ map read pins → values_of a list bits ≡ map (λ pin. value_of a (read pin) bits) pins
 pins-values a read pins list bits is = ap (λ (l : List Rails). values_of a l bits) is ∙ map-map {C = Trit} (λ r. value_of a r bits) read pins
-
--- the wires stay proper when nodes are kept, and when a gate is set
-pub AreWires-kept : {net : Parts} {s t : Arena} {before rails : List Rails} → KeepsNodes s t → AreWires net s before rails → AreWires net t before rails
-AreWires-kept {net} {s} {t} {before} {rails} k is = record {
-  width = is.width;
-  before_width = is.before_width;
-  proper = All-rails-kept k rails is.proper;
-  before_proper = All-rails-kept k before is.before_proper;
-}
 
 pub AreWires-set : {net : Parts} {cut : Cut} {s t : Arena} {before rails after : List Rails} (gate : ℕ) → KeepsNodes s t → AreWires net s before rails → IsGateSet net cut s t before rails after gate → AreWires net t before after
 AreWires-set {net} {cut} {s} {t} {before} {rails} {after} gate k is done = record {

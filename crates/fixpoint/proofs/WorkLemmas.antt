@@ -1,7 +1,8 @@
 -- The working list of a netlist: the functions of each lift are of it, and so are the rails of solved signals.
 use Rattle.std.proofs.Common.{◌≡◌, inl, inr, ◌⊎◌, ℕ, suc, ◌-◌, ◌<◌, ◌≤◌, Bool, true, List, [], ◌++◌, length, drop, refl, sym, ap, ◌∙◌, arith}
-use Rattle.fixpoint.proofs.Common.{cases_lt, cases_Bool, length-map, get_or_append_left, length-append, Arena, value, ext, Trit, X, Rails, value_of, values_of, IsWide, BoundsEach, IsExtended, is_bit, Parts, gate_at, fix, fix_gates, first_gate, value_in, sweeps, cuts_of, wire_of_gate, get_or-fix, few_sweeps_are_enough, Vectors, read_at_fix, IsGatePart, IsWorking}
+use Rattle.fixpoint.proofs.Common.{cases_lt, cases_Bool, length-map, get_or_append_left, length-append, Arena, value, ext, Trit, X, Rails, value_of, values_of, IsWide, BoundsEach, IsExtended, is_bit, Parts, gate_at, fix, fix_gates, first_gate, value_in, sweeps, cuts_of, wire_of_gate, few_sweeps_are_enough, Vectors, read_at_fix, IsGatePart, IsWorking}
 use Rattle.std.proofs.lemmas.List.{length-drop}
+use Rattle.netlist.proofs.FixpointLemmas.{get_or-fix}
 use Rattle.cover_logic.specs.Extensions.{exact}
 use Rattle.dual_rail.specs.Local.{Local, function}
 use Rattle.dual_rail.proofs.SurelyLemmas.{exact-alike}

@@ -1,9 +1,10 @@
 -- Tables of formals: what they have, and where a pair or an input is at fault.
 use Rattle.std.proofs.Common.{◌≡◌, ℕ, ◌+◌, ◌<◌, Bool, true, false, not, List, [], ◌∷◌, ◌++◌, length, get_or, take, drop, refl, sym, ap, ◌∙◌, cond, if◌then◌else◌, Some, None, Ok, Err, is_some, option_map}
+use Rattle.cyc_base.proofs.ListLemmas.{drop-item}
 use Rattle.flatten.proofs.Common.{list_any, bytes_eq, Option, option_or, BlifModel, FlatFault, actual_of, is_among, model_at, formals, pairs_fault, entry, each_once, resolved, bound}
 use Rattle.flatten.specs.declared.fault.FlatFault.TheVariants.{UnknownFormal, FormalTwice, OpenInput}
 use Rattle.flatten.specs.Instances.{formal_fault, pair_fault, first_open}
-use Rattle.flatten.proofs.Names.{dropped, taken}
+use Rattle.flatten.proofs.Names.{taken}
 use Rattle.flatten.proofs.Libraries.{among_once}
 
 some_by : (b : Bool) (x y : List ℕ) (o p : Option (List ℕ)) → is_some o ≡ is_some p → is_some (cond b (Some x) o) ≡ is_some (cond b (Some y) p)
@@ -30,7 +31,7 @@ bound_taken prefix table pairs i p l e = ap (λ ps. bound prefix table ps) (take
     bound_onto (q ∷ ps) = ap (λ ys. (q.0, resolved prefix table q.1) ∷ ys) (bound_onto ps)
 
 pub pair_later : (names : List (List ℕ)) (pairs : List (List ℕ × List ℕ)) (i : ℕ) (p : List ℕ × List ℕ) → i < length pairs → p ≡ get_or pairs i p → is_among names p.0 ≡ true → is_some (actual_of (take i pairs) p.0) ≡ false → pair_fault names (take i pairs) (drop i pairs) ≡ pair_fault names (take (i + 1) pairs) (drop (i + 1) pairs)
-pair_later names pairs i p l e h k = rw (dropped pairs i p l e, h, k, taken pairs i p l e) refl
+pair_later names pairs i p l e h k = rw (drop-item pairs i p l e, h, k, taken pairs i p l e) refl
 
 fault_of : (a b : Bool) (x y fault : FlatFault) (rest : Option FlatFault) → (if not a then Some x else (if b then Some y else None)) ≡ Some fault → (if not a then Some x else (if b then Some y else rest)) ≡ Some fault
 fault_of false b x y fault rest e = e
@@ -52,7 +53,7 @@ module _ (names : List (List ℕ)) (prefix : List ℕ) (table pairs entries : Li
 
   pub pair_refused : (fault : FlatFault) → formal_fault names entries p.0 ≡ Some fault → pair_fault names (take i pairs) (drop i pairs) ≡ Some fault
   pair_refused fault e =
-      ap (λ ps. pair_fault names (take i pairs) ps) (dropped pairs i p l at)
+      ap (λ ps. pair_fault names (take i pairs) ps) (drop-item pairs i p l at)
       ∙ fault_of (is_among names p.0) (is_some (actual_of (take i pairs) p.0)) (UnknownFormal p.0) (FormalTwice p.0) fault (pair_fault names (take i pairs ++ p ∷ []) (drop (i + 1) pairs))
       (ap (λ b. if not (is_among names p.0) then Some (UnknownFormal p.0) else (if b then Some (FormalTwice p.0) else None)) (sym same_there) ∙ e)
 
@@ -70,12 +71,12 @@ pair_fault_once names before (p ∷ pairs) = rw (among_once names p.0, pair_faul
 pub open_at : {X : Type 0} (place : X → ℕ) (models : List BlifModel) (name : List ℕ) (xs : List X) (i : ℕ) (x : X) (model : BlifModel) → i < length xs → x ≡ get_or xs i x → model ≡ model_at models (place x) → bytes_eq model.name name ≡ true → list_any (λ y. bytes_eq (model_at models (place y)).name name) (drop i xs) ≡ true
 open_at place models name xs i x model l e g h =
     let m : model_at models (place x) ≡ model = sym g in
-    rw (dropped xs i x l e, m, h) refl
+    rw (drop-item xs i x l e, m, h) refl
 
 pub other_at : {X : Type 0} (place : X → ℕ) (models : List BlifModel) (name : List ℕ) (xs : List X) (i : ℕ) (x : X) (model : BlifModel) → i < length xs → x ≡ get_or xs i x → model ≡ model_at models (place x) → bytes_eq model.name name ≡ false → list_any (λ y. bytes_eq (model_at models (place y)).name name) (drop i xs) ≡ list_any (λ y. bytes_eq (model_at models (place y)).name name) (drop (i + 1) xs)
 other_at place models name xs i x model l e g h =
     let m : model_at models (place x) ≡ model = sym g in
-    rw (dropped xs i x l e, m, h) refl
+    rw (drop-item xs i x l e, m, h) refl
 
 -- tests that were made tell whether the model is open, and whether it is too deep
 pub by_tests : (name : List ℕ) (open_test opened deep_test deep : Bool) (f : ℕ → Option FlatFault) (x : Option ℕ) → open_test ≡ opened → deep_test ≡ deep → entry name opened deep f x ≡ entry name open_test deep_test f x

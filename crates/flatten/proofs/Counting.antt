@@ -2,9 +2,10 @@
 use Rattle.std.proofs.Common.{◌≡◌, inl, inr, ◌⊎◌, ℕ, zero, suc, ◌+◌, ◌-◌, ◌<◌, ◌≤◌, nat_le, nat_lt, Bool, true, false, ◌||◌, List, [], ◌∷◌, ◌++◌, length, length-append, drop, take, get_or, All, refl, ap, sym, subst, ◌∙◌, arith, Ok, Err, IfOk, IfErr, OnOk}
 use Rattle.flatten.proofs.Common.{common_steps, All-push, list_any-append, list_any, bytes_eq, Result, BlifModel, GateLine, LatchLine, PartLine, Item, Gate, Latch, Part, FlatFault, TooLarge, mark_of, Instance, gate_at, latch_at, model_at, is_open, entry, entered, pairs_fault, find_model, Event, FlatLines, gate, latch, opens, fails, events, decided, then_gate, then_latch, flat_lines}
 use Rattle.std.proofs.lemmas.List.{drop_all, take_all}
+use Rattle.cyc_base.proofs.ListLemmas.{drop-item}
 use Rattle.flatten.specs.declared.fault.FlatFault.TheVariants.{Memory}
 use Rattle.flatten.specs.Counting.{left_by, AreOpen, entered_below, Leave, LeavesTo, FailsBy}
-use Rattle.flatten.proofs.Names.{dropped, taken}
+use Rattle.flatten.proofs.Names.{taken}
 use Rattle.flatten.proofs.Stepping.{find_name, entry_found}
 use Rattle.flatten.proofs.Waiting.{events_nil, events_gate, events_latch, events_fault, events_open, not_deep, shallow}
 
@@ -180,12 +181,12 @@ module _ (depth : ℕ) (models : List BlifModel) (trail : List ℕ) where
   -- the next item of a body
   pub next_leaves : (room left : ℕ) (body : List Item) (i : ℕ) (item : Item) (same : List ℕ) (answer : Result ℕ FlatFault) → i < length body → item ≡ get_or body i item → same ≡ trail → LeavesTo depth models same item room left → Leave depth models trail (drop (i + 1) body) left answer → Leave depth models trail (drop i body) room answer
   next_leaves room left body i item same answer l at e h later =
-      subst (λ (items : List Item). Leave depth models trail items room answer) (sym (dropped body i item l at))
+      subst (λ (items : List Item). Leave depth models trail items room answer) (sym (drop-item body i item l at))
       (subst (λ (ts : List ℕ). LeavesTo depth models ts item room left) e h (drop (i + 1) body) answer later)
 
   pub next_fails : (room : ℕ) (body : List Item) (i : ℕ) (item : Item) (same : List ℕ) (fault : FlatFault) → i < length body → item ≡ get_or body i item → same ≡ trail → FailsBy depth models same item room fault → Leave depth models trail (drop i body) room (Err fault)
   next_fails room body i item same fault l at e h =
-      subst (λ (items : List Item). Leave depth models trail items room (Err fault)) (sym (dropped body i item l at))
+      subst (λ (items : List Item). Leave depth models trail items room (Err fault)) (sym (drop-item body i item l at))
       (subst (λ (ts : List ℕ). FailsBy depth models ts item room fault) e h (drop (i + 1) body))
 
   pub none_left : (room : ℕ) (body : List Item) (i : ℕ) → length body ≤ i → Leave depth models trail (drop i body) room (Ok room)

@@ -1,18 +1,17 @@
 -- Drivers are gathered in their order, and the first that comes twice is found.
-use Rattle.std.proofs.Common.{◌≡◌, ℕ, ◌+◌, ◌<◌, Bool, true, false, not, ◌||◌, ◌&&◌, List, [], ◌∷◌, ◌++◌, length, get_or, take, drop, map, filter, fold, refl, sym, ap, ◌∙◌, cond, if◌then◌else◌, append_assoc, Some, None, option_map, subst}
+use Rattle.std.proofs.Common.{◌≡◌, ℕ, ◌+◌, ◌<◌, Bool, true, false, not, ◌&&◌, List, [], ◌∷◌, ◌++◌, length, get_or, take, drop, map, filter, fold, refl, sym, ap, ◌∙◌, cond, if◌then◌else◌, append_assoc, Some, None, option_map, subst}
 use Rattle.flatten.proofs.Common.{append-nil, list_any-append, IsDistinct, AllByRecursion, find, option_or, bytes_eq, Option, insert_key, is_among, Clock, BlifModel, LatchLine, FlatFault, FlatLines, own_clocks, twice_after, first_twice, latch_outputs, gate_outputs, driven_twice, has_bad_control}
 use Rattle.std.proofs.lemmas.List.{map-append}
 use Rattle.std.proofs.lemmas.Map.Keys.{IsDistinct-cons, IsDistinct-push}
 use Rattle.std.specs.Cmp.Lexicographic.{nat_list_eq_equiv}
 use Rattle.std.specs.Option.{option_map_or}
+use Rattle.std.proofs.lemmas.Bool.{or_parts}
+use Rattle.cyc_base.proofs.NameLemmas.{bytes_eq-true}
+use Rattle.cyc_base.proofs.ListLemmas.{drop-item}
 use Rattle.flatten.specs.declared.fault.FlatFault.TheVariants.{DrivenTwice}
 use Rattle.flatten.specs.Linking.{edge_eq, is_clock_of, is_fitting, is_other_control, has_other_control}
-use Rattle.flatten.proofs.Names.{bytes_sym, bytes_same, taken, dropped}
+use Rattle.flatten.proofs.Names.{bytes_sym, taken}
 use Rattle.flatten.proofs.Libraries.{among_push, distinct_fresh}
-
-neither : (a b : Bool) → (a || b) ≡ false → (a ≡ false) × (b ≡ false)
-neither true b e = absurd (cc)
-neither false b e = (refl, e)
 
 and_false : (b : Bool) → (b && false) ≡ false
 and_false true = refl
@@ -22,12 +21,8 @@ IsDistinct-nil : IsDistinct bytes_eq []
 unfolding IsDistinct
 IsDistinct-nil = tt
 
--- the first name that comes twice, at the name that a loop stands at
-pub twice_here : (old names : List (List ℕ)) (i : ℕ) (x : List ℕ) → i < length names → x ≡ get_or names i x → is_among old x ≡ true → twice_after old (drop i names) ≡ Some x
-twice_here old names i x l e h = rw (dropped names i x l e, h) refl
-
 pub twice_later : (old names : List (List ℕ)) (i : ℕ) (x : List ℕ) → i < length names → x ≡ get_or names i x → is_among old x ≡ false → twice_after old (drop i names) ≡ twice_after (old ++ x ∷ []) (drop (i + 1) names)
-twice_later old names i x l e h = rw (dropped names i x l e, h) refl
+twice_later old names i x l e h = rw (drop-item names i x l e, h) refl
 
 cond_or : (b : Bool) (x : List ℕ) (o p q : Option (List ℕ)) → p ≡ option_or o q → (if b then Some x else p) ≡ option_or (if b then Some x else o) q
 cond_or true x o p q e = refl
@@ -40,12 +35,8 @@ twice-append old (x ∷ xs) ys =
     cond_or (is_among old x) x (twice_after (old ++ x ∷ []) xs) (twice_after (old ++ x ∷ []) (xs ++ ys)) (twice_after (old ++ (x ∷ xs)) ys)
     (twice-append (old ++ x ∷ []) xs ys ∙ ap (λ o. option_or (twice_after (old ++ x ∷ []) xs) (twice_after o ys)) (append_assoc old (x ∷ []) xs))
 
--- the same, where the names are those of other items
-pub twice_here_by : {T : Type 0} (name : T → List ℕ) (old : List (List ℕ)) (items : List T) (i : ℕ) (x : T) → i < length items → x ≡ get_or items i x → is_among old (name x) ≡ true → twice_after old (map name (drop i items)) ≡ Some (name x)
-twice_here_by name old items i x l e h = rw (dropped items i x l e, h) refl
-
 pub twice_later_by : {T : Type 0} (name : T → List ℕ) (old : List (List ℕ)) (items : List T) (i : ℕ) (x : T) → i < length items → x ≡ get_or items i x → is_among old (name x) ≡ false → twice_after old (map name (drop i items)) ≡ twice_after (old ++ name x ∷ []) (map name (drop (i + 1) items))
-twice_later_by name old items i x l e h = rw (dropped items i x l e, h) refl
+twice_later_by name old items i x l e h = rw (drop-item items i x l e, h) refl
 
 -- the list so far, and the one more that is new
 pub names_so_far : {T : Type 0} (name : T → List ℕ) (old keys new : List (List ℕ)) (items : List T) (i : ℕ) (x : T) → i < length items → x ≡ get_or items i x → keys ≡ old ++ map name (take i items) → new ≡ keys ++ name x ∷ [] → new ≡ old ++ map name (take (i + 1) items)
@@ -76,7 +67,7 @@ fresh_apart old (x ∷ names) h = by (is_among old x) refl (λ k. fresh_apart (o
     apart : (ys : List (List ℕ)) → AllByRecursion (λ y. is_among (old ++ x ∷ []) y ≡ false) ys → AllByRecursion (λ y. is_among old y ≡ false) ys × AllByRecursion (λ y. bytes_eq x y ≡ false) ys
     apart [] a = (tt, tt)
     apart (y ∷ ys) a =
-        let o = neither (is_among old y) (bytes_eq y x) (sym (among_push old x y) ∙ a.0) in
+        let o = or_parts (is_among old y) (bytes_eq y x) (sym (among_push old x y) ∙ a.0) in
         let r = apart ys a.1 in
         ((o.0, r.0), (bytes_sym x y ∙ o.1, r.1))
 
@@ -98,10 +89,6 @@ distinct_inserted names x d = by (is_among names x) refl
 distinct_gathered : (old names : List (List ℕ)) → IsDistinct bytes_eq old → IsDistinct bytes_eq (fold (insert_key bytes_eq) old names)
 distinct_gathered old [] d = d
 distinct_gathered old (x ∷ names) d = distinct_gathered (insert_key bytes_eq old x) names (distinct_inserted old x d)
-
-none_old : (names : List (List ℕ)) → AllByRecursion (λ y. is_among [] y ≡ false) names
-none_old [] = tt
-none_old (x ∷ names) = (refl, none_old names)
 
 -- the inputs and the own clocks differ where the inputs do
 clocks_once : (top : BlifModel) → first_twice top.inputs ≡ None → first_twice (top.inputs ++ own_clocks top) ≡ None
@@ -147,7 +134,7 @@ other_is top f c = by (bytes_eq c.name f.name) refl
   where
     by : (b : Bool) → bytes_eq c.name f.name ≡ b → is_other_control (is_clock_of top f.name) f c ≡ not (is_fitting top f c)
     by true e =
-        ap (λ n. not (is_clock_of top n && edge_eq c.edge f.edge && bytes_eq c.name f.name)) (sym (bytes_same c.name f.name e))
+        ap (λ n. not (is_clock_of top n && edge_eq c.edge f.edge && bytes_eq c.name f.name)) (sym (bytes_eq-true c.name f.name e))
     by false e =
         ap (λ b. not (is_clock_of top f.name && edge_eq c.edge f.edge && b)) e
         ∙ ap not (and_false (is_clock_of top f.name && edge_eq c.edge f.edge) ∙ sym (and_false (is_clock_of top c.name && edge_eq c.edge f.edge)))

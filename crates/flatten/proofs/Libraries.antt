@@ -7,38 +7,32 @@ use Rattle.std.proofs.lemmas.Map.Keys.{IsDistinct-head, IsDistinct-tail}
 use Rattle.std.proofs.lemmas.Map.Made.{IsDistinct-from_AllPairs}
 use Rattle.std.proofs.lemmas.Slice.Eq.{bytes_eq-Decides}
 use Rattle.std.specs.List.{AllPairs}
+use Rattle.cyc_base.proofs.NameLemmas.{bytes_eq-true}
+use Rattle.cyc_base.proofs.TruthLemmas.{or-false, or_assoc}
 use Rattle.blif_read.specs.Find.{has_name}
-use Rattle.flatten.proofs.Names.{bytes_sym, bytes_same, taken}
+use Rattle.flatten.proofs.Names.{bytes_sym, taken}
 
 pub fold_taken : (old names : List (List ℕ)) (i : ℕ) (name : List ℕ) → i < length names → name ≡ get_or names i name → fold (insert_key bytes_eq) old (take (i + 1) names) ≡ insert_key bytes_eq (fold (insert_key bytes_eq) old (take i names)) name
 fold_taken old names i name l e =
     ap (λ xs. fold (insert_key bytes_eq) old xs) (taken names i name l e) ∙ fold-append (insert_key bytes_eq) old (take i names) (name ∷ [])
 
-or_false : (b : Bool) → (b || false) ≡ b
-or_false true = refl
-or_false false = refl
-
 pub among_push : (names : List (List ℕ)) (x n : List ℕ) → is_among (names ++ x ∷ []) n ≡ (is_among names n || bytes_eq n x)
-among_push names x n = list_any-append (bytes_eq n) names (x ∷ []) ∙ ap (λ b. is_among names n || b) (or_false (bytes_eq n x))
+among_push names x n = list_any-append (bytes_eq n) names (x ∷ []) ∙ ap (λ b. is_among names n || b) (or-false (bytes_eq n x))
 
 or_there : (b a : Bool) → (b ≡ true → a ≡ true) → a ≡ (a || b)
 or_there true a h = h refl ∙ sym (ap (λ c. c || true) (h refl))
-or_there false a h = sym (or_false a)
+or_there false a h = sym (or-false a)
 
 pub among_inserted : (names : List (List ℕ)) (x n : List ℕ) → is_among (insert_key bytes_eq names x) n ≡ (is_among names n || bytes_eq n x)
 among_inserted names x n = by (is_among names x) refl
   where
     by : (b : Bool) → is_among names x ≡ b → is_among (insert_key bytes_eq names x) n ≡ (is_among names n || bytes_eq n x)
-    by true e = ap (λ b. is_among (if b then names else names ++ x ∷ []) n) e ∙ or_there (bytes_eq n x) (is_among names n) (λ h. ap (λ y. is_among names y) (bytes_same n x h) ∙ e)
+    by true e = ap (λ b. is_among (if b then names else names ++ x ∷ []) n) e ∙ or_there (bytes_eq n x) (is_among names n) (λ h. ap (λ y. is_among names y) (bytes_eq-true n x h) ∙ e)
     by false e = ap (λ b. is_among (if b then names else names ++ x ∷ []) n) e ∙ among_push names x n
-
-or_assoc : (a b c : Bool) → ((a || b) || c) ≡ (a || (b || c))
-or_assoc true b c = refl
-or_assoc false b c = refl
 
 -- what is gathered is what there was and what came
 pub among_gathered : (old names : List (List ℕ)) (n : List ℕ) → is_among (fold (insert_key bytes_eq) old names) n ≡ (is_among old n || is_among names n)
-among_gathered old [] n = sym (or_false (is_among old n))
+among_gathered old [] n = sym (or-false (is_among old n))
 among_gathered old (x ∷ names) n =
     among_gathered (insert_key bytes_eq old x) names n
     ∙ ap (λ b. b || is_among names n) (among_inserted old x n)
@@ -68,12 +62,12 @@ distinct_fresh old (x ∷ names) new apart =
     still [] a b = tt
     still (y ∷ ys) a b = (among_push old x y ∙ ap (λ c. c || bytes_eq y x) a.0 ∙ bytes_sym y x ∙ b.0, still ys a.1 b.1)
 
-none_among : (names : List (List ℕ)) → AllByRecursion (λ y. is_among [] y ≡ false) names
-none_among [] = tt
-none_among (x ∷ names) = (refl, none_among names)
+pub none_old : (names : List (List ℕ)) → AllByRecursion (λ y. is_among [] y ≡ false) names
+none_old [] = tt
+none_old (x ∷ names) = (refl, none_old names)
 
 pub distinct_once : (names : List (List ℕ)) → IsDistinct bytes_eq names → each_once names ≡ names
-distinct_once names apart = fresh_gathered [] names (distinct_fresh [] names (none_among names) apart)
+distinct_once names apart = fresh_gathered [] names (distinct_fresh [] names (none_old names) apart)
 
 -- a model is found by the table of names
 pub place_of : (models : List BlifModel) (name : List ℕ) → position (bytes_eq name) (map (λ model. model.name) models) ≡ find_model models name

@@ -39,16 +39,16 @@ names_same : (m : List ℕ) (names : List (List ℕ)) → map (name_at m []) nam
 names_same m [] = refl
 names_same m (name ∷ names) = ap (λ rest. name ∷ rest) (names_same m names)
 
-gate_same : (m : List ℕ) (g : GateLine) → gate_at m [] g ≡ g
+pub gate_same : (m : List ℕ) (g : GateLine) → gate_at m [] g ≡ g
 gate_same m g =
     let with_pins : List (List ℕ) → GateLine = λ pins. record { pins = pins; output = g.output; cover = g.cover } in
     ap with_pins (names_same m g.pins)
 
-control_same : (m : List ℕ) (control : Option Clock) → option_map (clock_at m []) control ≡ control
+pub control_same : (m : List ℕ) (control : Option Clock) → option_map (clock_at m []) control ≡ control
 control_same m None = refl
 control_same m (Some clock) = refl
 
-latch_same : (m : List ℕ) (l : LatchLine) → latch_at m [] l ≡ l
+pub latch_same : (m : List ℕ) (l : LatchLine) → latch_at m [] l ≡ l
 latch_same m l =
     let with_control : Option Clock → LatchLine = λ control. record { from = l.from; output = l.output; control = control; init = l.init } in
     ap with_control (control_same m l.control)

@@ -3,12 +3,14 @@ use Rattle.std.proofs.Common.{◌≡◌, inl, inr, ⊎_elim, ◌⊎◌, ℕ, ◌
 use Rattle.flatten.proofs.Common.{common_steps, length-map, list_any-append, list_any, find, flat_map, position, position_or_len, option_or, bytes_eq, Option, Result, Sig, Parts, BlifModel, GateLine, LatchLine, FlatFault, is_among, FlatLines, own_clocks, latch_outputs, gate_outputs, reads, signal_list, sig_of, declared_twice, driven_twice, link_fault, latch_with, gate_with, netlist_by, linked, sig_or, undriven_among, AreRead}
 use Rattle.std.proofs.lemmas.List.Folds.{find-append}
 use Rattle.std.specs.Option.{option_and_then}
+use Rattle.std.proofs.lemmas.Bool.{not-false}
+use Rattle.cyc_base.proofs.NameLemmas.{bytes_eq-true}
+use Rattle.cyc_base.proofs.ListLemmas.{option_or-neither}
 use Rattle.netlist.specs.Netlists.{signal}
 use Rattle.flatten.specs.declared.fault.FlatFault.TheVariants.{ClockRead, Undriven}
 use Rattle.flatten.specs.declared.link.Drivers.{Drivers as DriverTable}
 use Rattle.flatten.specs.Linking.{drivers, clock_read, undriven, bad_clock}
 use Rattle.flatten.specs.Drivers.{IsDriversOf, HasSignals, sig_of_place, sig_at, is_unread}
-use Rattle.flatten.proofs.Names.{bytes_same}
 use Rattle.flatten.proofs.Libraries.{among_once}
 
 module _ {X : Type 0} (p : X → Bool) where
@@ -17,14 +19,6 @@ module _ {X : Type 0} (p : X → Bool) where
 
   pub step_yes : (x : X) (xs : List X) → p x ≡ true → position_or_len p (x ∷ xs) ≡ 0
   step_yes x xs e = ap (λ b. cond (not b) (1 + position_or_len p xs) 0) e
-
-  pub place_none : (xs : List X) → list_any p xs ≡ false → position_or_len p xs ≡ length xs
-  place_none [] h = refl
-  place_none (x ∷ xs) h = by (p x) refl (λ k. place_none xs k)
-    where
-      by : (b : Bool) → p x ≡ b → (list_any p xs ≡ false → position_or_len p xs ≡ length xs) → position_or_len p (x ∷ xs) ≡ length (x ∷ xs)
-      by true e rest = absurd (let k : true ≡ false = sym (ap (λ b. b || list_any p xs) e) ∙ h in cc)
-      by false e rest = let k : list_any p xs ≡ false = sym (ap (λ b. b || list_any p xs) e) ∙ h in omega (arith, step_no x xs e, rest k)
 
   pub place_some : (xs : List X) → list_any p xs ≡ true → position_or_len p xs < length xs
   place_some [] h = absurd (cc)
@@ -130,7 +124,7 @@ filtered I (x ∷ xs) n h = by (is_among I x) (bytes_eq n x) refl refl (λ k. fi
 
     by : (a b : Bool) → is_among I x ≡ a → bytes_eq n x ≡ b → (is_among (filter (λ y. not (is_among I y)) xs) n ≡ true → is_among I n ≡ false) → is_among I n ≡ false
     by true b e f rest = rest (sym (ap (λ t. is_among (cond (not t) (x ∷ filter (λ y. not (is_among I y)) xs) (filter (λ y. not (is_among I y)) xs)) n) e) ∙ h)
-    by false true e f rest = ap (λ y. is_among I y) (bytes_same n x f) ∙ e
+    by false true e f rest = ap (λ y. is_among I y) (bytes_eq-true n x f) ∙ e
     by false false e f rest =
         rest (sym (ap (λ t. is_among (cond (not t) (x ∷ filter (λ y. not (is_among I y)) xs) (filter (λ y. not (is_among I y)) xs)) n) e ∙ ap (λ t. t || is_among (filter (λ y. not (is_among I y)) xs) n) f) ∙ h)
 
@@ -145,16 +139,8 @@ first_of p x xs h = by (p x) refl
     by true e = absurd (let k : Some x ≡ None = sym (ap (λ b. cond b (Some x) (find p xs)) e) ∙ h in cc)
     by false e = (e, sym (ap (λ b. cond b (Some x) (find p xs)) e) ∙ h)
 
-pub none_or : {X : Type 0} (o p : Option X) → option_or o p ≡ None → (o ≡ None) × (p ≡ None)
-none_or None p h = (refl, h)
-none_or (Some x) p h = absurd (cc)
-
 pub both_none : {X : Type 0} (p : X → Bool) (xs ys : List X) → find p (xs ++ ys) ≡ None → (find p xs ≡ None) × (find p ys ≡ None)
-both_none p xs ys h = none_or (find p xs) (find p ys) (sym (find-append p xs ys) ∙ h)
-
-pub not_false : (b : Bool) → not b ≡ false → b ≡ true
-not_false true e = refl
-not_false false e = absurd (cc)
+both_none p xs ys h = option_or-neither (find p xs) (find p ys) (sym (find-append p xs ys) ∙ h)
 
 module _ (top : BlifModel) (lines : FlatLines) (table : DriverTable) (of : IsDriversOf top lines table) where
   at_table : (n : List ℕ) → sig_at table n ≡ option_and_then (sig_of_place (length top.inputs) (length (own_clocks top))) (position (bytes_eq n) (drivers top lines))
@@ -173,7 +159,7 @@ module _ (top : BlifModel) (lines : FlatLines) (table : DriverTable) (of : IsDri
   sig_found n d c = by (is_among top.inputs n) refl
     where
       driven : is_among (drivers top lines) n ≡ true
-      driven = not_false (is_among (drivers top lines) n) d
+      driven = not-false (is_among (drivers top lines) n) d
 
       by : (b : Bool) → is_among top.inputs n ≡ b → sig_at table n ≡ Some (sig_of (signal_list top lines) n)
       by true e = at_table n ∙ at_input top.inputs (own_clocks top) (latch_outputs lines ++ gate_outputs lines) n e
@@ -274,7 +260,7 @@ module _ (top : BlifModel) (lines : FlatLines) (table : DriverTable) (of : IsDri
 
       pub linked_parts : (parts : Parts) → parts ≡ netlist_by (sig_or table) top lines → option_or (bad_clock top lines) (option_map ClockRead clock) ≡ None → linked top lines ≡ Ok parts
       linked_parts parts is fits =
-          let unread : find (is_unread table) (reads top lines) ≡ None = sym read.clock ∙ none_of_map clock ClockRead (none_or (bad_clock top lines) (option_map ClockRead clock) fits).1 in
+          let unread : find (is_unread table) (reads top lines) ≡ None = sym read.clock ∙ none_of_map clock ClockRead (option_or-neither (bad_clock top lines) (option_map ClockRead clock) fits).1 in
           linked_none (link_fault top lines) (fault_is ∙ fits) ∙ ap (λ x. Ok x) (sym (is ∙ parts_same all_driven unread))
 
 -- the numbers of the signals of a table fit

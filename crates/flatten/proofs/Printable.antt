@@ -2,6 +2,7 @@
 use Rattle.std.proofs.Common.{◌≡◌, ℕ, zero, suc, ◌+◌, ◌<◌, Bool, true, false, List, [], ◌∷◌, ◌++◌, length, drop, sym, ◌∙◌, subst, arith, cond, All, Some, None}
 use Rattle.flatten.proofs.Common.{length-map, All-nil, All-cons, All-head, All-tail, All-append, All-push, decimal, bytes_eq, Option, longest_run_of, tildes, mark_of, wire_names, BlifModel, GateLine, LatchLine, PartLine, Item, Gate, Latch, Part, Level, actual_of, model_at, resolved, bound, gate_by, latch_by, passed_line, passed_part, PassesPart, IsPrintedGate, IsPrintedLatch}
 use Rattle.cyc_base.specs.Names.{IsBlifByte, IsBlifName}
+use Rattle.cyc_base.proofs.ListLemmas.{All-but_last}
 use Rattle.tildes.proofs.BlifLemmas.{tildes_fit, decimal_fits}
 use Rattle.blif_read.specs.Flattening.{IsSoundItem, IsSoundModel, CanBeFlattened}
 use Rattle.flatten.specs.declared.walk.Walk.{Walk}
@@ -117,12 +118,5 @@ printed_begun i limit walk b = record {
   gates = same_all IsPrintedGate [] walk.gates.items b.gates (All-nil IsPrintedGate);
 }
 
--- the levels without the last, and the last
-last_of : {A : Type 0} (P : A → Type 0) (xs : List A) (x : A) → All P (xs ++ x ∷ []) → All P xs × P x
-last_of P [] x h = (All-nil P, All-head P x [] h)
-last_of P (y ∷ xs) x h =
-    let r = last_of P xs x (All-tail P y (xs ++ x ∷ []) h) in
-    (All-cons P y xs (All-head P y (xs ++ x ∷ []) h) r.0, r.1)
-
 pub popped_printed : (levels below : List Level) (l : Level) → levels ≡ below ++ l ∷ [] → All IsPrintedLevel levels → All IsPrintedLevel below × IsPrintedLevel l
-popped_printed levels below l e h = last_of IsPrintedLevel below l (subst (λ (ls : List Level). All IsPrintedLevel ls) e h)
+popped_printed levels below l e h = All-but_last IsPrintedLevel below l (subst (λ (ls : List Level). All IsPrintedLevel ls) e h)

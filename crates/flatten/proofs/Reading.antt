@@ -1,23 +1,16 @@
 -- Wires are read one after another: what was found in some of them, and in those that are left.
 use Rattle.std.proofs.Common.{◌≡◌, ℕ, Bool, not, List, [], ◌++◌, refl, sym, ap, ◌∙◌, Some, None, option_map}
 use Rattle.std.proofs.lemmas.List.Folds.{find-append}
+use Rattle.cyc_base.proofs.ListLemmas.{option_or-None, option_map-or}
 use Rattle.flatten.proofs.Common.{find, option_or, Option, FlatFault, is_among, undriven_among, AreRead}
 use Rattle.flatten.specs.declared.fault.FlatFault.TheVariants.{Undriven}
 use Rattle.flatten.specs.declared.link.Drivers.{Drivers as DriverTable}
 use Rattle.flatten.specs.Drivers.{is_unread}
 use Rattle.flatten.proofs.Gathering.{some_or, none_or_is}
 
-or_none : {X : Type 0} (o : Option X) → option_or o None ≡ o
-or_none None = refl
-or_none (Some x) = refl
-
 or_both : {X : Type 0} (o p q : Option X) → option_or (option_or o p) q ≡ option_or o (option_or p q)
 or_both None p q = refl
 or_both (Some x) p q = refl
-
-map_or : {X Y : Type 0} (f : X → Y) (o p : Option X) → option_map f (option_or o p) ≡ option_or (option_map f o) (option_map f p)
-map_or f None p = refl
-map_or f (Some x) p = refl
 
 -- of all these names, those that are left come to what all come to
 pub record IsLeft (table : DriverTable) (all left : List (List ℕ)) (before now : Option (List ℕ)) : Type 0 where
@@ -28,7 +21,7 @@ module _ (table : DriverTable) where
   undriven-append : (xs ys : List (List ℕ)) → undriven_among table (xs ++ ys) ≡ option_or (undriven_among table xs) (undriven_among table ys)
   undriven-append xs ys =
       let missing : List ℕ → Bool = λ name. not (is_among table.names.keys name) in
-      ap (λ o. option_map Undriven o) (find-append missing xs ys) ∙ map_or Undriven (find missing xs) (find missing ys)
+      ap (λ o. option_map Undriven o) (find-append missing xs ys) ∙ option_map-or Undriven (find missing xs) (find missing ys)
 
   -- in two parts
   pub undriven_front : (xs ys : List (List ℕ)) (fault : FlatFault) → undriven_among table xs ≡ Some fault → undriven_among table (xs ++ ys) ≡ Some fault
@@ -63,4 +56,4 @@ module _ (table : DriverTable) where
   fault_left all here xs left before m fault is old e = sym old.driven ∙ ap (undriven_among table) is ∙ undriven_front xs left fault e
 
   pub none_left : (all : List (List ℕ)) (before after : Option (List ℕ)) → IsLeft table all [] before after → AreRead table all before after
-  none_left all before after old = record { driven = sym old.driven; clock = sym (or_none after) ∙ old.clock }
+  none_left all before after old = record { driven = sym old.driven; clock = sym (option_or-None after) ∙ old.clock }

@@ -1,15 +1,16 @@
 -- The walk on a list comes to what the walk by recursion comes to.
 use Rattle.std.proofs.Common.{length-append, ◌*◌, ◌≡◌, inl, inr, ℕ, zero, suc, ◌+◌, ◌-◌, ◌<◌, ◌≤◌, nat_le, nat_lt, Bool, true, false, ◌||◌, List, [], ◌∷◌, ◌++◌, length, drop, reverse, refl, ap, sym, ◌∙◌, subst, arith, append_assoc, if◌then◌else◌, Some, None, Ok, Err, All}
-use Rattle.flatten.proofs.Common.{common_steps, list_any-append, append-nil, All-head, All-tail, All-push, list_any, position_or_len, bytes_eq, Option, Result, BlifModel, GateLine, LatchLine, PartLine, Gate, Latch, Part, FlatFault, TooLarge, Level, mark_of, Instance, no_model, model_at, is_open, entry, entered, pairs_fault, find_model, Event, FlatLines, gate, latch, opens, fails, events, decided, then_gate, then_latch, flat_lines, gate_by, latch_by, passed_line, passed_part, PassesPart}
+use Rattle.flatten.proofs.Common.{common_steps, list_any-append, All-head, All-tail, All-push, list_any, position_or_len, bytes_eq, Option, Result, BlifModel, GateLine, LatchLine, PartLine, Gate, Latch, Part, FlatFault, TooLarge, Level, mark_of, Instance, no_model, model_at, is_open, entry, entered, pairs_fault, find_model, Event, FlatLines, gate, latch, opens, fails, events, decided, then_gate, then_latch, flat_lines, gate_by, latch_by, passed_line, passed_part, PassesPart}
 use Rattle.std.proofs.lemmas.Grind.{reverse_onto}
 use Rattle.std.proofs.lemmas.List.Sums.{passes_at_first}
 use Rattle.std.proofs.lemmas.List.{reverse-append, length-reverse, reverse-reverse}
 use Rattle.std.proofs.lemmas.List.Elements.{All-same}
+use Rattle.cyc_base.proofs.TruthLemmas.{or_comm, or-false}
+use Rattle.cyc_base.proofs.NameLemmas.{bytes_eq-true}
 use Rattle.blif_read.specs.Find.{has_name}
 use Rattle.flatten.specs.declared.walk.Walk.{Walk}
 use Rattle.flatten.specs.Hierarchies.{NestedModels}
 use Rattle.flatten.specs.Levels.{entered_on, Waits, remaining, then_lines, Walking, AddsGate, AddsLatch, PutsBack, PassesGate, PassesLatch, PartFails, WalkingAt, WalkingWith, Goes, StepsOn, StepsTo, IsBegun}
-use Rattle.flatten.proofs.Names.{bytes_same}
 use Rattle.flatten.proofs.Waiting.{waits_size, waits_open, waits_within, top_of, gate_step, latch_step, end_step, fault_step, opens_step, open_step}
 
 -- counting
@@ -44,16 +45,6 @@ fails_at (suc room) fault rest latches gates = refl
 rev_push : (s : List Level) (l : Level) → reverse (s ++ (l ∷ [])) ≡ l ∷ reverse s
 rev_push s l = reverse-append s (l ∷ [])
 
-or_swap : (a b : Bool) → (a || b) ≡ (b || a)
-or_swap true true = refl
-or_swap true false = refl
-or_swap false true = refl
-or_swap false false = refl
-
-or_false : (b : Bool) → (b || false) ≡ b
-or_false true = refl
-or_false false = refl
-
 or_eq : (a b c d : Bool) → a ≡ b → c ≡ d → (a || c) ≡ (b || d)
 or_eq a b c d e f = cc
 
@@ -62,8 +53,8 @@ any_reverse p [] = refl
 any_reverse p (x ∷ xs) =
     ap (λ ys. list_any p ys) (reverse_onto xs x [])
     ∙ list_any-append p (reverse xs) (x ∷ [])
-    ∙ or_eq _ _ _ _ (any_reverse p xs) (or_false (p x))
-    ∙ or_swap (list_any p xs) (p x)
+    ∙ or_eq _ _ _ _ (any_reverse p xs) (or-false (p x))
+    ∙ or_comm (list_any p xs) (p x)
 
 cond_some : (b : Bool) (k i : ℕ) → ◌≡◌ {A = Option ℕ} (if b then Some k else None) (Some i) → (b ≡ true) × (k ≡ i)
 cond_some true k i e = (refl, cc)
@@ -79,7 +70,7 @@ find_name models name i e =
     let h = cond_some (nat_lt k (length models)) k i e in
     let l = below_at k (length models) h.0 in
     let t = passes_at_first (has_name name) models no_model l in
-    (omega (arith, h.1), ap (λ j. (model_at models j).name) (sym h.1) ∙ bytes_same (model_at models k).name name t)
+    (omega (arith, h.1), ap (λ j. (model_at models j).name) (sym h.1) ∙ bytes_eq-true (model_at models k).name name t)
 
 last_case : (x : Option FlatFault) (j i : ℕ) → ◌≡◌ {A = Result ℕ FlatFault} (elim x [ Some fault ↦ Err fault | None ↦ Ok j ]) (Ok i) → j ≡ i
 last_case (Some fault) j i e = absurd (cc)
@@ -109,12 +100,6 @@ module _ (depth : ℕ) (models : List BlifModel) (top m : List ℕ) (answer : Re
       let n = sym (length-reverse s) ∙ waits_size depth models top m l (reverse s) path rest w in
       ap (λ b. entry p.model b (nat_le depth (length s)) (λ i. pairs_fault (model_at models i) p.pairs) (find_model models p.model)) a
       ∙ ap (λ k. entry p.model (is_open top path p.model) (nat_le depth k) (λ i. pairs_fault (model_at models i) p.pairs) (find_model models p.model)) n
-
-  pub walking_end : (latches : List LatchLine) (gates : List GateLine) (room : ℕ) → Walking depth models top m [] latches gates room answer → answer ≡ Ok (record { latches = latches; gates = gates })
-  walking_end latches gates room w =
-      let e = append-nil latches in
-      let f = append-nil gates in
-      w.answers ∙ ap (λ es. then_lines latches gates (decided room es)) w.waits ∙ (let g : then_lines latches gates (decided room []) ≡ Ok (record { latches = latches; gates = gates }) = cc in g)
 
   module _ (walk : Walk) (l : Level) (w : WalkingWith depth models top m answer walk l) where
     waits_at : Waits depth models top m (l ∷ reverse walk.levels.items) w.path w.rest

@@ -1,19 +1,23 @@
 -- The parts of a flat netlist meet all conditions of a netlist.
-use Rattle.std.proofs.Common.{◌≡◌, inl, inr, ⊎_elim, ◌⊎◌, append_assoc, codes, nat_eq, ℕ, ◌+◌, ◌≤◌, Bool, true, false, not, ◌||◌, ◌&&◌, List, [], ◌∷◌, ◌++◌, length, length-append, map, refl, sym, ap, ◌∙◌, subst, arith, All, Some, None, Ok, Err, is_some, cond, IfSome, option_map}
+use Rattle.std.proofs.Common.{◌≡◌, ⊎_elim, ◌⊎◌, append_assoc, codes, nat_eq, ℕ, ◌+◌, ◌≤◌, Bool, true, false, not, ◌||◌, List, [], ◌∷◌, ◌++◌, length, length-append, map, refl, sym, ap, ◌∙◌, subst, arith, All, Some, None, Ok, Err, is_some, cond, IfSome, option_map}
 use Rattle.flatten.proofs.Common.{common_steps, length-map, All-nil, All-cons, All-head, All-tail, All-append, list_any-append, list_any, find, flat_map, position_or_len, IsDistinct, AllByRecursion, option_or, bytes_eq, Option, Result, Sig, Clock, Parts, BlifModel, GateLine, LatchLine, FlatFault, is_among, FlatLines, IsPrintedGate, IsPrintedLatch, own_clocks, latch_outputs, gate_outputs, reads, first_twice, twice_after, signal_list, sig_of, has_bad_control, declared_twice, driven_twice, link_fault, latch_with, gate_with, netlist_by, linked}
 use Rattle.std.proofs.lemmas.Map.Keys.{IsDistinct-cons, IsDistinct-head, IsDistinct-tail}
 use Rattle.std.specs.Option.{option_and_then, option_map_or}
+use Rattle.std.proofs.lemmas.Bool.{not-false, or_cases}
 use Rattle.cyc_base.specs.Names.{IsBlifName}
+use Rattle.cyc_base.proofs.NameLemmas.{bytes_eq-true}
+use Rattle.cyc_base.proofs.ListLemmas.{option_or-neither}
+use Rattle.cyc_base.proofs.TruthLemmas.{first_of_and, second_of_and}
 use Rattle.netlist.specs.declared.parts.Gate.{Gate as FlatGate}
 use Rattle.netlist.specs.declared.parts.Latch.{Latch as FlatLatch}
 use Rattle.netlist.specs.Netlists.{count, signal_names, IsSignal, IsClockName, IsNetlist, sig_eq}
 use Rattle.blif_read.specs.Flattening.{IsSoundModel}
 use Rattle.flatten.specs.Printable.{ArePrintedLines}
 use Rattle.flatten.specs.Linking.{drivers, has_control, first_control, is_clock_of, is_fitting, undriven, bad_clock, clock_read}
-use Rattle.flatten.proofs.Names.{bytes_same, bytes_refl}
+use Rattle.flatten.proofs.Names.{bytes_refl}
 use Rattle.flatten.proofs.Libraries.{among_gathered}
 use Rattle.flatten.proofs.Gathering.{fresh_apart, twice-append, own_clocks_gathered}
-use Rattle.flatten.proofs.Placing.{place_some, step_yes, step_no, both_none, none_or, first_of, not_false}
+use Rattle.flatten.proofs.Placing.{place_some, step_yes, step_no, both_none, first_of}
 
 -- one list within another
 distinct_without : (xs ys zs : List (List ℕ)) → IsDistinct bytes_eq (xs ++ (ys ++ zs)) → IsDistinct bytes_eq (xs ++ zs)
@@ -39,7 +43,7 @@ same_place [] a b h e = absurd (cc)
 same_place (x ∷ names) a b h e = by (bytes_eq a x) (bytes_eq b x) refl refl (λ k f. same_place names a b k f)
   where
     by : (p q : Bool) → bytes_eq a x ≡ p → bytes_eq b x ≡ q → (is_among names a ≡ true → position_or_len (bytes_eq a) names ≡ position_or_len (bytes_eq b) names → a ≡ b) → a ≡ b
-    by true true f g rest = bytes_same a x f ∙ sym (bytes_same b x g)
+    by true true f g rest = bytes_eq-true a x f ∙ sym (bytes_eq-true b x g)
     by true false f g rest =
         let i = step_yes (bytes_eq a) x names f in
         let j = step_no (bytes_eq b) x names g in
@@ -58,7 +62,7 @@ among_all P [] n h a = absurd (cc)
 among_all P (x ∷ names) n h a = by (bytes_eq n x) refl (λ k. among_all P names n (All-tail P x names h) k)
   where
     by : (b : Bool) → bytes_eq n x ≡ b → (is_among names n ≡ true → P n) → P n
-    by true e rest = subst P (sym (bytes_same n x e)) (All-head P x names h)
+    by true e rest = subst P (sym (bytes_eq-true n x e)) (All-head P x names h)
     by false e rest = rest (sym (ap (λ t. t || is_among names n) e) ∙ a)
 
 apart_among : (old names : List (List ℕ)) (n : List ℕ) → AllByRecursion (λ y. is_among old y ≡ false) names → is_among old n ≡ true → is_among names n ≡ false
@@ -66,20 +70,8 @@ apart_among old [] n h a = refl
 apart_among old (x ∷ names) n h a = by (bytes_eq n x) refl (apart_among old names n h.1 a)
   where
     by : (b : Bool) → bytes_eq n x ≡ b → is_among names n ≡ false → is_among (x ∷ names) n ≡ false
-    by true e rest = absurd (let k : true ≡ false = sym a ∙ ap (λ y. is_among old y) (bytes_same n x e) ∙ h.0 in cc)
+    by true e rest = absurd (let k : true ≡ false = sym a ∙ ap (λ y. is_among old y) (bytes_eq-true n x e) ∙ h.0 in cc)
     by false e rest = ap (λ t. t || is_among names n) e ∙ rest
-
-and_left : (a b : Bool) → (a && b) ≡ true → a ≡ true
-and_left true b e = refl
-and_left false b e = absurd (cc)
-
-and_right : (a b : Bool) → (a && b) ≡ true → b ≡ true
-and_right true b e = e
-and_right false b e = absurd (cc)
-
-or_of : (a b : Bool) → (a || b) ≡ true → (a ≡ true) ⊎ (b ≡ true)
-or_of true b e = inl refl
-or_of false b e = inr e
 
 eq_false : (a b : ℕ) → (a ≡ b → ⊥) → nat_eq a b ≡ false
 eq_false a b h = grind (arith, common_steps)
@@ -95,7 +87,7 @@ first_fits top (l ∷ latches) f e h = by l.control refl (λ k m. first_fits top
         let b : c ≡ f = (let k : Some c ≡ Some f = sym a ∙ e in cc) in
         let d = (first_of (has_bad_control top (Some f)) l latches h).0 in
         let g : not (is_fitting top f c) ≡ false = sym (ap (λ (x : Option Clock). option_map_or (λ control. option_map_or (λ (y : Clock). not (is_fitting top y control)) (Some f) false) x false) o) ∙ d in
-        ap (λ (x : Clock). is_clock_of top x.name) (sym b) ∙ and_left _ _ (and_left _ _ (not_false (is_fitting top f c) g))
+        ap (λ (x : Clock). is_clock_of top x.name) (sym b) ∙ first_of_and _ _ (first_of_and _ _ (not-false (is_fitting top f c) g))
     by None o rest =
         let a : first_control (l ∷ latches) ≡ first_control latches = ap (λ t. option_and_then (λ (x : LatchLine). x.control) (cond t (Some l) (find has_control latches))) (ap is_some o) in
         rest (sym a ∙ e) (first_of (has_bad_control top (Some f)) l latches h).1
@@ -148,14 +140,14 @@ module _ (top : BlifModel) (lines : FlatLines) (sound : IsSoundModel top) (print
   missing name = not (is_among (drivers top lines) name)
 
   drivers_ok : (declared_twice top ≡ None) × (driven_twice top lines ≡ None)
-  drivers_ok = none_or (declared_twice top) (driven_twice top lines) (none_or (option_or (declared_twice top) (driven_twice top lines)) _ none).0
+  drivers_ok = option_or-neither (declared_twice top) (driven_twice top lines) (option_or-neither (option_or (declared_twice top) (driven_twice top lines)) _ none).0
 
   others_ok : (option_or (undriven top lines) (bad_clock top lines) ≡ None) × (clock_read top lines ≡ None)
   others_ok =
-      none_or (option_or (undriven top lines) (bad_clock top lines)) (clock_read top lines) (none_or (option_or (declared_twice top) (driven_twice top lines)) _ none).1
+      option_or-neither (option_or (undriven top lines) (bad_clock top lines)) (clock_read top lines) (option_or-neither (option_or (declared_twice top) (driven_twice top lines)) _ none).1
 
   lines_ok : (undriven top lines ≡ None) × (bad_clock top lines ≡ None)
-  lines_ok = none_or (undriven top lines) (bad_clock top lines) others_ok.0
+  lines_ok = option_or-neither (undriven top lines) (bad_clock top lines) others_ok.0
 
   unmapped : {X : Type 0} (f : X → FlatFault) (o : Option X) → option_map f o ≡ None → o ≡ None
   unmapped f None h = refl
@@ -188,7 +180,7 @@ module _ (top : BlifModel) (lines : FlatLines) (sound : IsSoundModel top) (print
   among_signals : (n : List ℕ) → missing n ≡ false → is_among (own_clocks top) n ≡ false → is_among S n ≡ true
   unfolding S
   among_signals n d c =
-      let e = not_false (is_among (drivers top lines) n) d in
+      let e = not-false (is_among (drivers top lines) n) d in
       list_any-append (bytes_eq n) top.inputs (latch_outputs lines ++ gate_outputs lines)
       ∙ sym (ap (λ b. is_among top.inputs n || (b || is_among (latch_outputs lines ++ gate_outputs lines) n)) c)
       ∙ sym (list_any-append (bytes_eq n) top.inputs (own_clocks top ++ (latch_outputs lines ++ gate_outputs lines)) ∙ ap (λ b. is_among top.inputs n || b) (list_any-append (bytes_eq n) (own_clocks top) (latch_outputs lines ++ gate_outputs lines)))
@@ -256,7 +248,7 @@ module _ (top : BlifModel) (lines : FlatLines) (sound : IsSoundModel top) (print
           (eq_false (position_or_len (bytes_eq x) S) (position_or_len (bytes_eq y) S) (λ e. let k : true ≡ false = sym (bytes_refl x) ∙ ap (λ z. bytes_eq x z) (same_place S x y here e) ∙ a.0 in cc), apart ys a.1)
 
   outputs_once : first_twice top.outputs ≡ None
-  outputs_once = (none_or (first_twice top.inputs) (first_twice top.outputs) (unmapped _ (option_or (first_twice top.inputs) (first_twice top.outputs)) drivers_ok.0)).1
+  outputs_once = (option_or-neither (first_twice top.inputs) (first_twice top.outputs) (unmapped _ (option_or (first_twice top.inputs) (first_twice top.outputs)) drivers_ok.0)).1
 
   base_is : (n : List ℕ) → is_among (top.inputs ++ own_clocks top) n ≡ (is_among top.inputs n || is_among top.clocks n)
   base_is n = ap (λ ks. is_among ks n) (sym (own_clocks_gathered top)) ∙ among_gathered top.inputs top.clocks n
@@ -264,16 +256,16 @@ module _ (top : BlifModel) (lines : FlatLines) (sound : IsSoundModel top) (print
   driven_apart : AllByRecursion (λ y. is_among (top.inputs ++ own_clocks top) y ≡ false) (latch_outputs lines ++ gate_outputs lines)
   driven_apart =
       (fresh_apart (top.inputs ++ own_clocks top) (latch_outputs lines ++ gate_outputs lines)
-      (none_or (first_twice (top.inputs ++ own_clocks top)) (twice_after (top.inputs ++ own_clocks top) (latch_outputs lines ++ gate_outputs lines))
+      (option_or-neither (first_twice (top.inputs ++ own_clocks top)) (twice_after (top.inputs ++ own_clocks top) (latch_outputs lines ++ gate_outputs lines))
       (sym (ap first_twice (sym (append_assoc top.inputs (own_clocks top) (latch_outputs lines ++ gate_outputs lines))) ∙ twice-append [] (top.inputs ++ own_clocks top) (latch_outputs lines ++ gate_outputs lines)) ∙ drivers_once)).1).0
 
   clock_name : (n : List ℕ) → is_clock_of top n ≡ true → IsClockName net n
   unfolding net
   clock_name n h =
-      let a = and_left (not (bytes_eq n (codes "NIL"))) (is_among top.inputs n || is_among top.clocks n) h in
-      let b = and_right (not (bytes_eq n (codes "NIL"))) (is_among top.inputs n || is_among top.clocks n) h in
+      let a = first_of_and (not (bytes_eq n (codes "NIL"))) (is_among top.inputs n || is_among top.clocks n) h in
+      let b = second_of_and (not (bytes_eq n (codes "NIL"))) (is_among top.inputs n || is_among top.clocks n) h in
       record {
-        blif = ⊎_elim (λ i. among_all IsBlifName top.inputs n sound.inputs i) (λ i. among_all IsBlifName top.clocks n sound.clocks i) (or_of (is_among top.inputs n) (is_among top.clocks n) b);
+        blif = ⊎_elim (λ i. among_all IsBlifName top.inputs n sound.inputs i) (λ i. among_all IsBlifName top.clocks n sound.clocks i) (or_cases (is_among top.inputs n) (is_among top.clocks n) b);
         named = λ e. let k : false ≡ true = sym (ap not (ap (λ x. bytes_eq n x) (sym e) ∙ bytes_refl n)) ∙ a in absurd (cc);
         undriven =
             ap (λ x. x || list_any (λ (g : FlatGate). bytes_eq n g.name) (map (gate_with (sig_of (signal_list top lines))) lines.gates)) (latch_any (sig_of (signal_list top lines)) n lines.latches)

@@ -1,5 +1,6 @@
 -- The levels that are open, and what the walk comes to at their next items.
-use Rattle.std.proofs.Common.{◌≡◌, ℕ, zero, suc, ◌+◌, ◌-◌, ◌<◌, nat_le, Bool, true, false, ◌||◌, List, [], ◌∷◌, ◌++◌, length, map, drop, refl, ap, sym, ◌∙◌, subst, arith, append_assoc, Some, None, Ok, Err, add-one, All, option_map}
+use Rattle.std.proofs.Common.{◌≡◌, ℕ, zero, suc, ◌+◌, ◌-◌, ◌<◌, nat_le, Bool, true, false, List, [], ◌∷◌, ◌++◌, length, map, drop, refl, ap, sym, ◌∙◌, subst, arith, append_assoc, Some, None, Ok, Err, add-one, All, option_map}
+use Rattle.cyc_base.proofs.TruthLemmas.{or-false}
 use Rattle.flatten.proofs.Common.{common_steps, append-nil, All-nil, All-cons, list_any, bytes_eq, decimal, Option, Clock, BlifModel, GateLine, LatchLine, PartLine, Item, Gate, Latch, Part, FlatFault, Level, Instance, name_at, gate_at, latch_at, clock_at, model_at, is_open, entry, entered, pairs_fault, find_model, Event, gate, latch, opens, fails, events, resolved, bound, gate_by, latch_by, passed_line, passed_part}
 use Rattle.flatten.specs.Laws.{prefix_of, table_of}
 use Rattle.flatten.specs.Levels.{clock_by, IsInner, IsAt, remaining, Waits}
@@ -73,10 +74,6 @@ cons_eq a b xs ys e f = cc
 append_eq : {A : Type 0} (a b xs ys : List A) → a ≡ b → xs ≡ ys → a ++ xs ≡ b ++ ys
 append_eq a b xs ys e f = cc
 
-or_false : (b : Bool) → (b || false) ≡ b
-or_false true = refl
-or_false false = refl
-
 -- the levels and their path
 module _ (depth : ℕ) (models : List BlifModel) (top m : List ℕ) where
   pub waits_size : (level : Level) (below : List Level) (path : List Instance) (rest : List Event) → Waits depth models top m (level ∷ below) path rest → length below ≡ length path
@@ -86,7 +83,7 @@ module _ (depth : ℕ) (models : List BlifModel) (top m : List ℕ) where
   waits_size level (x ∷ below) (o ∷ up) rest w = ap suc (waits_size x below up w.2.0 w.2.1)
 
   pub waits_open : (level : Level) (below : List Level) (path : List Instance) (rest : List Event) (name : List ℕ) → Waits depth models top m (level ∷ below) path rest → list_any (λ l. bytes_eq (model_at models l.model).name name) (level ∷ below) ≡ is_open top path name
-  waits_open level [] [] rest name w = rw w.1 (or_false (bytes_eq top name))
+  waits_open level [] [] rest name w = rw w.1 (or-false (bytes_eq top name))
   waits_open level (x ∷ below) [] rest name w = absurd (let e : x ∷ below ≡ [] = w.2 in cc)
   waits_open level [] (o ∷ up) rest name w = absurd (w.2.2 refl)
   waits_open level (x ∷ below) (o ∷ up) rest name w = rw (w.1, waits_open x below up w.2.0 name w.2.1) refl

@@ -62,11 +62,6 @@ outside_within net valid gates within outside are k d less =
     let e = ap (λ (q : Sig). q.0) r.pin.2 in
     omega (arith, b, e)
 
--- a wire outside by its place, and a gate by its place among the gates
-pub origin_outside : (net : Parts) (outside : List Sig) (gates : List ℕ) (k : ℕ) (s : Sig) → k < length outside → get_or outside k s ≡ s → origin (origins net outside gates) (signal k) ≡ s
-origin_outside net outside gates k s less is =
-    get_or_append_left outside (map (gate_sig net) gates) (signal 0) k less ∙ get_or_default outside k (signal 0) s less ∙ is
-
 pub origin_gate : (net : Parts) (outside : List Sig) (gates : List ℕ) (place number : ℕ) (s : Sig) → place < length gates → first_gate net ≤ s.0 → get_or gates place 0 ≡ s.0 - first_gate net → number ≡ length outside + place →
     origin (origins net outside gates) (signal number) ≡ s
 origin_gate net outside gates place number s less above is at =
@@ -164,15 +159,6 @@ adds_gate net gates pins start old new i d less before is inside =
 pub adds_all : (net : Parts) (gates : List ℕ) (pins start new : List Sig) (i : ℕ) → length pins ≤ i → AddWires net gates (take i pins) start new → AddWires net gates pins start new
 adds_all net gates pins start new i all = subst (λ xs. AddWires net gates xs start new) (take_all i pins all)
 
-pub wires_none : (net : Parts) (gates : List ℕ) (outside : List Sig) → outside ≡ [] → AreWiresOf net gates 0 outside
-wires_none net gates outside none = record {
-  wires = record {
-    are = λ s c. (let l = c.1 in let e = ap length none in absurd (omega (arith, l, e)));
-    once = λ i j less within. (let e = ap length none in absurd (omega (arith, within, e)));
-  };
-  all = λ i less. absurd (omega (arith, less));
-}
-
 pub wires_next : (net : Parts) (gates : List ℕ) (k : ℕ) (pins old new : List Sig) → (gate_at net (gate_in gates k)).pins ≡ pins → AreWiresOf net gates k old → AddWires net gates pins old new → AreWiresOf net gates (k + 1) new
 wires_next net gates k pins old new are before adds = record {
   wires = adds.wires;
@@ -253,9 +239,6 @@ place_gate net outside gates s gate place number is p at =
           ∙ origin_gate net outside gates place number s p.within (omega (arith, n)) (get_or_default gates place 0 gate p.within ∙ p.is ∙ omega (arith, n)) (omega (arith, at));
     }
 
-pub origin_place : (net : Parts) (outside : List Sig) (gates : List ℕ) (s : Sig) (number : ℕ) → IsPlaceOf (origins net outside gates) s number → origin (origins net outside gates) (signal number) ≡ s
-origin_place net outside gates s number p = get_or_default (origins net outside gates) number (signal 0) s p.within ∙ p.is
-
 -- a gate is where its signal is
 pub gate_there : (net : Parts) (gates : List ℕ) (s : Sig) → Contains (map (gate_sig net) gates) s → (first_gate net ≤ s.0) × Contains gates (s.0 - first_gate net)
 gate_there net gates s c =
@@ -282,14 +265,6 @@ numbers_more signals pins numbers new i d n less is before place = subst (AreNum
 
 pub numbers_all : (signals pins numbers : List Sig) (i : ℕ) → length pins ≤ i → AreNumbersOf signals (take i pins) numbers → AreNumbersOf signals pins numbers
 numbers_all signals pins numbers i all = subst (λ xs. AreNumbersOf signals xs numbers) (take_all i pins all)
-
--- a gate's copy
-pub copy_is : (signals : List Sig) (gate made : Gate) (pins numbers : List Sig) → made.name ≡ gate.name → made.cover ≡ gate.cover → made.pins ≡ numbers → pins ≡ gate.pins → AreNumbersOf signals pins numbers → IsCopyOf signals gate made
-copy_is signals gate made pins numbers name cover made_pins are is = record {
-  name = name;
-  cover = cover;
-  pins = subst (AreNumbersOf signals gate.pins) (sym made_pins) (subst (λ xs. AreNumbersOf signals xs numbers) are is);
-}
 
 -- a search in gates that rise finds what is there
 pub search_none : (gates : List ℕ) (gate i : ℕ) → IsBinarySearchResult (λ y. nat_cmp y gate) gates (Err i) → Rise gates → Contains gates gate → ⊥

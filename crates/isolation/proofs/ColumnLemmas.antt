@@ -1,22 +1,14 @@
 -- The rails of columns, one variable after another.
-use Rattle.std.proofs.Common.{◌≡◌, ◌≢◌, inl, inr, ℕ, ◌+◌, ◌<◌, ◌≤◌, Bool, false, List, length, get_or, set, replicate, sym, ap, subst, ◌∙◌, arith, length-set, get_or-set_same, get_or-set_other}
-use Rattle.isolation.proofs.Common.{cases_lt, ext_get_or, get_or-map, length-map, All, Arena, KeepsNodes, X, bit, bits, Rails, AreRailsOf, value_of, values_of, rails_at, unknown}
-use Rattle.std.proofs.lemmas.List.{length-replicate}
-use Rattle.std.proofs.lemmas.List.Elements.{All-replicate, All-set}
+use Rattle.std.proofs.Common.{◌≡◌, ◌≢◌, inl, inr, ℕ, ◌+◌, ◌<◌, ◌≤◌, Bool, false, List, get_or, set, sym, ap, ◌∙◌, arith, length-set, get_or-set_same, get_or-set_other}
+use Rattle.isolation.proofs.Common.{cases_lt, ext_get_or, get_or-map, length-map, Arena, KeepsNodes, X, bit, bits, Rails, AreRailsOf, value_of, values_of, rails_at, unknown}
+use Rattle.std.proofs.lemmas.List.Elements.{All-set}
 use Rattle.bdd_ops.specs.Least.{IsLayout, by_variable}
 use Rattle.bdd_ops.specs.Operations.{bit_at}
+use Rattle.bdd_ops.proofs.PossibleLemmas.{by_variable-read}
 use Rattle.dual_rail.proofs.SurelyLemmas.{value_of-kept, values_of-kept, All-rails-kept}
-use Rattle.fixpoint.proofs.LayoutLemmas.{by_variable-read, variable_of}
-use Rattle.fixpoint.proofs.WireLemmas.{rails_at-proper, unknown-rails}
+use Rattle.fixpoint.proofs.LayoutLemmas.{variable_of}
+use Rattle.fixpoint.proofs.WireLemmas.{rails_at-proper}
 use Rattle.isolation.specs.Columns.{AreFirstColumns, AreColumns}
-
--- none yet
-pub columns-start : (a : Arena) (columns : List ℕ) (rails : List Rails) → IsLayout a.vars columns → rails ≡ replicate (length columns) unknown → AreFirstColumns a columns 0 rails
-columns-start a columns rails are is = record {
-  width = ap length is ∙ length-replicate (length columns) unknown ∙ are.long;
-  proper = subst (All (AreRailsOf a)) (sym is) (All-replicate (AreRailsOf a) (length columns) unknown (unknown-rails a));
-  values = λ k less w. absurd (omega (arith, less));
-}
 
 -- one variable more
 pub columns-more : {s t : Arena} {columns : List ℕ} {first : ℕ} {rails : List Rails} → KeepsNodes s t → IsLayout s.vars columns → first < s.vars → AreFirstColumns s columns first rails →

@@ -24,7 +24,7 @@ pub use Rattle.isolation.specs.Laws.{IsUpstream}
 pub use Rattle.isolation.specs.Settling.{AreKnown, BoundsKnown, HasUnknownRails, IsSolvedNetlist}
 pub use Rattle.isolation.specs.Unsettled.{IsLaid}
 pub use Rattle.loops.proofs.Existence.{loops_exist}
-pub use Rattle.loops.proofs.Reading.{get_or-fix, wire_of_gate}
+pub use Rattle.loops.proofs.Reading.{wire_of_gate}
 pub use Rattle.loops.proofs.Sweeps.{same_within}
 pub use Rattle.loops.proofs.Told.{gate_home, home_gate}
 pub use Rattle.loops.proofs.Walks.{leads-trans}

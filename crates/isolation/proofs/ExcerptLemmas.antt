@@ -1,12 +1,12 @@
 -- What the small netlist of some gates has to do with the whole.
 use Rattle.std.proofs.Common.{◌≡◌, ◌≢◌, ℕ, zero, suc, ◌<◌, Bool, true, false, List, [], ◌∷◌, ◌++◌, length, map, get_or, refl, sym, ap, ap₂, ◌∙◌, subst, arith}
-use Rattle.isolation.proofs.Common.{get_or-map, length-map, length-append, map-append, ext_get_or, map-map, Sig, Trit, X, bit, bits, ext, Cover, Parts, IsNetlist, count, signal, no_gate, gate_at, gate_sig, wire, fix, fix_gates, first_gate, value_in, wire_of_gate, get_or-fix, origins, origin, gate_in, inputs_in, IsExcerpt}
+use Rattle.isolation.proofs.Common.{get_or-map, length-map, length-append, map-append, ext_get_or, map-map, Sig, Trit, X, bit, bits, ext, Cover, Parts, IsNetlist, count, signal, no_gate, gate_at, gate_sig, wire, fix, fix_gates, first_gate, value_in, wire_of_gate, origins, origin, gate_in, inputs_in, IsExcerpt}
 use Rattle.cyc_base.specs.declared.trit.Trit.TheVariants.{Zero, One}
-use Rattle.cyc_base.specs.Values.{Below, EachBelow}
-use Rattle.cyc_base.proofs.OrderLemmas.{EachBelow-at}
+use Rattle.cyc_base.specs.Values.{EachBelow}
+use Rattle.cyc_base.proofs.OrderLemmas.{EachBelow-at, Below-known}
 use Rattle.netlist.specs.Fixpoint.{step}
-use Rattle.netlist.proofs.FixpointLemmas.{fix_is_least, length-step}
-use Rattle.loops.proofs.Reading.{map_agree, get_or-step}
+use Rattle.netlist.proofs.FixpointLemmas.{fix_is_least, length-step, get_or-step, get_or-fix}
+use Rattle.loops.proofs.Reading.{map_agree}
 use Rattle.isolation.specs.Settled.{IsDetermined}
 
 -- values that are all known are a list of bits
@@ -15,16 +15,6 @@ known_list [] h = ([], refl)
 known_list (X ∷ xs) h = absurd (h zero X (omega arith) refl)
 known_list (Zero ∷ xs) h = let r = known_list xs (λ k d l. h (suc k) d (omega arith)) in (false ∷ r.0, ap (λ ys. Zero ∷ ys) r.1)
 known_list (One ∷ xs) h = let r = known_list xs (λ k d l. h (suc k) d (omega arith)) in (true ∷ r.0, ap (λ ys. One ∷ ys) r.1)
-
--- what is above a known value is known, and the same
-pub same_above : (x y : Trit) → Below x y → x ≢ X → y ≡ x
-same_above X y h known = absurd (known refl)
-same_above Zero y h known = h
-same_above One y h known = h
-
-pub bit-known : (b : Bool) → bit b ≢ X
-bit-known true e = cc
-bit-known false e = cc
 
 -- the gates of the small netlist, as the whole has them
 abbrev pub gates_in : Parts → List Trit → List ℕ → List Trit
@@ -99,5 +89,5 @@ module _ (net : Parts) (outside : List Sig) (gates : List ℕ) (small : Parts) (
         let wide : length us.0 ≡ first_gate small = sym (length-map us.0 bit) ∙ ap length us.1 ∙ length-map outside (wire (fix net v)) ∙ sym first-small in
         let g = is.size in
         let low : value_in (fix_gates small (inputs_in net v outside)) i ≢ X = subst (λ (xs : List Trit). value_in (fix_gates small xs) i ≢ X) us.1 (determined us.0 wide i (omega (arith, within, g))) in
-        low (sym (same_above (value_in (fix_gates small (inputs_in net v outside)) i) (value_in (gates_in net v gates) i) (EachBelow-at (fix_gates small (inputs_in net v outside)) (gates_in net v gates) i (fix_below inside)) low)
+        low (sym (Below-known (value_in (fix_gates small (inputs_in net v outside)) i) (value_in (gates_in net v gates) i) (EachBelow-at (fix_gates small (inputs_in net v outside)) (gates_in net v gates) i (fix_below inside)) low)
         ∙ get_or-map (value_in (fix_gates net v)) gates i 0 X within ∙ x)

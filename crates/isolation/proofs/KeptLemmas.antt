@@ -1,17 +1,12 @@
 -- The fixpoint of an excerpt is the whole's.
-use Rattle.std.proofs.Common.{◌≡◌, inl, inr, ℕ, zero, suc, ◌-◌, ◌<◌, List, [], ◌∷◌, length, map, get_or, refl, sym, ap, ap₂, ◌∙◌, subst, arith}
-use Rattle.isolation.proofs.Common.{cases_lt, get_or-map, get_or_append_left, get_or-append_right, get_or-replicate, length-map, length-append, map-map, Sig, Trit, X, ext, Cover, Parts, IsNetlist, signal, gate_at, gate_sig, wire, fix, fix_gates, first_gate, value_in, wire_of_gate, get_or-fix, origins, origin, gate_in, inputs_in, IsExcerpt}
-use Rattle.cyc_base.specs.Values.{Below, EachBelow}
-use Rattle.cyc_base.proofs.OrderLemmas.{Below-antisym, EachBelow-at, EachBelow-append, EachBelow-refl}
+use Rattle.std.proofs.Common.{◌≡◌, inl, inr, ℕ, zero, suc, ◌-◌, ◌<◌, List, length, map, get_or, refl, sym, ap, ap₂, ◌∙◌, subst, arith}
+use Rattle.isolation.proofs.Common.{cases_lt, get_or-map, get_or_append_left, get_or-append_right, get_or-replicate, length-map, length-append, map-map, Sig, Trit, X, ext, Cover, Parts, IsNetlist, signal, gate_at, gate_sig, wire, fix, fix_gates, first_gate, value_in, wire_of_gate, origins, origin, gate_in, inputs_in, IsExcerpt}
+use Rattle.cyc_base.specs.Values.{Below}
+use Rattle.cyc_base.proofs.OrderLemmas.{Below-antisym, EachBelow-at, EachBelow-append, EachBelow-refl, EachBelow-map_at}
 use Rattle.cover_logic.proofs.ExtensionLemmas.{ext_is_monotone}
 use Rattle.netlist.specs.Fixpoint.{wires, steps}
-use Rattle.netlist.proofs.FixpointLemmas.{steps_below_fix}
-use Rattle.loops.proofs.Reading.{get_or-step}
+use Rattle.netlist.proofs.FixpointLemmas.{steps_below_fix, get_or-step, get_or-fix}
 use Rattle.isolation.proofs.ExcerptLemmas.{gates_in, pin-within, fix_below}
-
-below-members : (f g : Sig → Trit) (xs : List Sig) → ((k : ℕ) (d : Sig) → k < length xs → Below (f (get_or xs k d)) (g (get_or xs k d))) → EachBelow (map f xs) (map g xs)
-below-members f g [] h = tt
-below-members f g (x ∷ xs) h = (h zero x (omega arith), below-members f g xs (λ k d l. h (suc k) d (omega arith)))
 
 module _ (net : Parts) (outside : List Sig) (gates : List ℕ) (small : Parts) (valid : IsNetlist small) (is : IsExcerpt net outside gates small) (inside : (i : ℕ) → i < length gates → gate_in gates i < length net.gates) (v : List Trit) (width : length v ≡ first_gate net) where
   abbrev inputs : List Trit
@@ -27,7 +22,7 @@ module _ (net : Parts) (outside : List Sig) (gates : List ℕ) (small : Parts) (
       (subst (λ (t : Trit). Below t (ext (gate_at small i).cover (map (wire (fix small inputs)) (gate_at small i).pins)))
       (ap₂ (λ (c : Cover) (xs : List Trit). ext c xs) (is.covers i il) (sym (map-map (wire (wires v (steps net v k))) (origin (origins net outside gates)) (gate_at small i).pins) ∙ ap (map (wire (wires v (steps net v k)))) (is.pins i il)))
       (ext_is_monotone (gate_at small i).cover (map (λ p. wire (wires v (steps net v k)) (origin (origins net outside gates) p)) (gate_at small i).pins) (map (wire (fix small inputs)) (gate_at small i).pins)
-      (below-members (λ p. wire (wires v (steps net v k)) (origin (origins net outside gates) p)) (wire (fix small inputs)) (gate_at small i).pins
+      (EachBelow-map_at (λ p. wire (wires v (steps net v k)) (origin (origins net outside gates) p)) (wire (fix small inputs)) (gate_at small i).pins
       (λ j d jl. pin-below (get_or (gate_at small i).pins j d) (pin-within net outside gates small valid is i j d il jl) (λ q ql. steps-below k q ql))))))
     where
       pin-below : (p : Sig) → p.0 < length (origins net outside gates) → ((q : ℕ) → q < length gates → Below (value_in (steps net v k) (gate_in gates q)) (value_in (fix_gates small inputs) q)) → Below (wire (wires v (steps net v k)) (origin (origins net outside gates) p)) (wire (fix small inputs) p)

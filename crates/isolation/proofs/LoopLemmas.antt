@@ -3,6 +3,7 @@ use Rattle.std.proofs.Common.{◌≡◌, inl, inr, ℕ, zero, suc, ◌+◌, ◌-
 use Rattle.isolation.proofs.Common.{cases_lt, cases_eq, and_parts, get_or-map, get_or_default, get_or_append_left, get_or-append_right, get_or-replicate, length-map, length-append, map-map, range_with_len, Sig, Trit, X, ext, Cover, Parts, IsNetlist, signal, gate_at, gate_sig, wire, fix, fix_gates, Feeds, Loops, AreLoopsOf, first_gate, gate_of, value_in, sweeps, CutsAreFixed, same_within, leads-trans, origins, origin, inputs_in, IsExcerpt}
 use Rattle.std.proofs.lemmas.Bool.{leb-true, le-leb, lt-leb}
 use Rattle.std.specs.List.{AllByRecursion}
+use Rattle.cyc_base.proofs.TruthLemmas.{same_truth}
 use Rattle.netlist.specs.Walks.{Walk}
 use Rattle.loops.specs.Cuts.{MayPass}
 use Rattle.loops.specs.Sweeps.{in_loop_of, pin_in, IsSweep, sweep, cuts_of}
@@ -10,7 +11,7 @@ use Rattle.loops.specs.Walks.{AnyGate, Leads, SameLoop}
 use Rattle.loops.proofs.Reading.{map_agree, Contains-filter_from}
 use Rattle.loops.proofs.Sweeps.{sweep_each, cut_values_agree}
 use Rattle.loops.proofs.Unique.{sweep_is_the_one}
-use Rattle.loops.proofs.Walks.{leads-any, on_walk, same_truth}
+use Rattle.loops.proofs.Walks.{leads-any, on_walk}
 use Rattle.isolation.specs.Excerpts.{AreWhole}
 use Rattle.isolation.proofs.ExcerptLemmas.{first-small, pin-within, gate_wire}
 use Rattle.isolation.proofs.KeptLemmas.{fix-kept}

@@ -2,10 +2,10 @@
 use Rattle.std.proofs.Common.{◌≡◌, inl, inr, ◌⊎◌, ◌↔◌, ℕ, zero, suc, ◌+◌, ◌-◌, ◌<◌, ◌≤◌, Bool, true, false, List, [], ◌∷◌, length, get_or, replicate, Option, Some, None, refl, sym, ap, ◌∙◌, subst, arith, Contains, true≢false}
 use Rattle.std.proofs.Math.ListN.{set}
 use Rattle.std.specs.Prelude.{IfNone}
-use Rattle.isolation.proofs.Common.{cases_lt, cases_eq, get_or_default, list_any, Sig, Parts, IsNetlist, no_gate, gate_at, gate_sig, Feeds, Blocks, AreBlocksOf, block_at, home_of, first_gate, gate_home, home_gate, gate_in, IsUpstream, AddMarks, IsNearOne, AreMarkedFrom}
+use Rattle.isolation.proofs.Common.{cases_lt, cases_eq, get_or_default, Sig, Parts, IsNetlist, no_gate, gate_at, gate_sig, Feeds, Blocks, AreBlocksOf, block_at, home_of, first_gate, gate_home, home_gate, gate_in, IsUpstream, AddMarks, IsNearOne, AreMarkedFrom}
 use Rattle.std.proofs.lemmas.List.{get_or-replicate, get_or-set_same, get_or-set_other, get_or_past, length-replicate, length-set}
 use Rattle.loops.proofs.Walks.{leads-step}
-use Rattle.isolation.specs.Cones.{is_marked, AreUpstreamMarks, IsConeOf, IsOnPin, IsNear, HasMark, IsWithMark}
+use Rattle.isolation.specs.Cones.{is_marked, AreUpstreamMarks, IsConeOf, IsOnPin, IsNear, IsWithMark}
 use Rattle.isolation.proofs.UpstreamLemmas.{upstream-trans, same-up, upstream-closed}
 
 -- nothing is marked for want of a gate of the kind
@@ -114,33 +114,6 @@ near-more net gates k d old mid new less one two =
 
 pub near-none : (net : Parts) (gates : List ℕ) (m : ℕ) → ¬ IsNearOne net gates 0 m
 near-none net gates m near = let w = near.within in omega (arith, w)
-
--- whether one of the gates is marked
-any-mark : (marks : List Bool) (gates : List ℕ) → list_any (λ g. is_marked marks g) gates ≡ true → HasMark gates marks
-any-mark marks [] is = absurd (true≢false (sym is))
-any-mark marks (g ∷ gates) is = by (is_marked marks g) refl is (any-mark marks gates)
-  where
-    by : (b : Bool) → is_marked marks g ≡ b → list_any (λ n. is_marked marks n) (g ∷ gates) ≡ true → (list_any (λ n. is_marked marks n) gates ≡ true → HasMark gates marks) → HasMark (g ∷ gates) marks
-    by true here any rest = record { gate = g; among = (zero, omega arith, refl); marked = here }
-    by false here any rest =
-        let found = rest (rw here at any) in
-        record { gate = found.gate; among = (suc found.among.0, (let l = found.among.1 in omega (arith, l)), found.among.2); marked = found.marked }
-
-no-mark : (marks : List Bool) (gates : List ℕ) (m : ℕ) → list_any (λ g. is_marked marks g) gates ≡ false → Contains gates m → is_marked marks m ≡ true → ⊥
-no-mark marks [] m none c is = let l = c.1 in omega (arith, l)
-no-mark marks (g ∷ gates) m none c is = by (is_marked marks g) refl none c.0 c.1 c.2 (λ rest among. no-mark marks gates m rest among is)
-  where
-    by : (b : Bool) → is_marked marks g ≡ b → list_any (λ n. is_marked marks n) (g ∷ gates) ≡ false → (k : ℕ) → k < length (g ∷ gates) → get_or (g ∷ gates) k m ≡ m →
-        (list_any (λ n. is_marked marks n) gates ≡ false → Contains gates m → ⊥) → ⊥
-    by true here any k l e rest = true≢false (rw here at any)
-    by false here any zero l e rest = true≢false (sym is ∙ ap (is_marked marks) (sym e) ∙ here)
-    by false here any (suc k) l e rest = rest (rw here at any) (k, (omega (arith, l)), e)
-
-pub block-marked : (net : Parts) (gates : List ℕ) (old new : List Bool) → list_any (λ g. is_marked old g) gates ≡ true → AddMarks (IsNearOne net gates (length gates)) old new → AddMarks (IsWithMark net gates old) old new
-block-marked net gates old new any are = add-same (IsNearOne net gates (length gates)) (IsWithMark net gates old) old new (λ m near. record { mark = any-mark old gates any; near = near }) (λ m with. with.near) are
-
-pub block-passed : (net : Parts) (gates : List ℕ) (old : List Bool) → list_any (λ g. is_marked old g) gates ≡ false → AddMarks (IsWithMark net gates old) old old
-block-passed net gates old none = add-none (IsWithMark net gates old) old (λ m with. no-mark old gates with.mark.gate none with.mark.among with.mark.marked)
 
 module _ (net : Parts) (blocks : Blocks) (are : AreBlocksOf net blocks) (old : List Bool) where
   pub marked-first : length old ≡ length net.gates → AreMarkedFrom net blocks old (length blocks.list) old

@@ -1,13 +1,15 @@
 -- Loops that are settled by themselves, in the whole netlist.
 use Rattle.std.proofs.Common.{◌≡◌, ◌≢◌, inl, inr, ℕ, zero, suc, ◌<◌, Bool, true, false, List, length, map, get_or, refl, sym, ap, ◌∙◌, subst, arith, Contains, true≢false}
-use Rattle.isolation.proofs.Common.{cases_lt, cases_eq, cases_Bool, get_or-map, get_or_default, get_or_append_left, length-map, Sig, X, bit, bits, ext, Parts, IsNetlist, count, signal, no_gate, gate_at, gate_sig, wire, fix, fix_gates, Feeds, Blocks, AreBlocksOf, block_at, home_of, first_gate, gate_of, value_in, wire_of_gate, get_or-fix, leads-trans, gate_home, home_gate, gate_in, IsUpstream}
+use Rattle.netlist.proofs.FixpointLemmas.{get_or-fix}
+use Rattle.cyc_base.proofs.OrderLemmas.{bit-known}
+use Rattle.isolation.proofs.Common.{cases_lt, cases_eq, cases_Bool, get_or-map, get_or_default, get_or_append_left, length-map, Sig, X, bit, bits, ext, Parts, IsNetlist, count, signal, no_gate, gate_at, gate_sig, wire, fix, fix_gates, Feeds, Blocks, AreBlocksOf, block_at, home_of, first_gate, gate_of, value_in, wire_of_gate, leads-trans, gate_home, home_gate, gate_in, IsUpstream}
 use Rattle.cover_logic.specs.Covers.{value}
 use Rattle.cover_logic.proofs.ExtensionLemmas.{ext_at_bits}
 use Rattle.loops.proofs.Walks.{leads-step}
 use Rattle.isolation.specs.Excerpts.{IsRead}
 use Rattle.isolation.specs.Laws.{IsLooped, SettledWhere, SettledLoopsDetermine, UnsettledLoopsDecide}
 use Rattle.isolation.proofs.UpstreamLemmas.{upstream-trans, same-up}
-use Rattle.isolation.proofs.ExcerptLemmas.{known_list, bit-known, gates_known}
+use Rattle.isolation.proofs.ExcerptLemmas.{known_list, gates_known}
 
 module _ (net : Parts) (valid : IsNetlist net) (blocks : Blocks) (are : AreBlocksOf net blocks) (settled : ℕ → Bool) (alone : SettledWhere net blocks settled) (v : List Bool) (width : length v ≡ first_gate net) where
   wide : length (bits v) ≡ first_gate net
@@ -30,9 +32,6 @@ module _ (net : Parts) (valid : IsNetlist net) (blocks : Blocks) (are : AreBlock
         known (gate_of net s) (omega (arith, inside, high)) (ap (λ (m : ℕ). let r : Sig = record { 0 = m } in r) (omega (arith, high)))
         (sym (wire_of_gate (bits v) (fix_gates net (bits v)) (first_gate net) s.0 wide high) ∙ x)
   ]
-
-  gate_of-sig : (g : ℕ) (s : Sig) → s ≡ gate_sig net g → gate_of net s ≡ g
-  gate_of-sig g s e = let n = ap (λ (r : Sig). r.0) e in omega (arith, n)
 
   feeds-from : (n g : ℕ) (s : Sig) → n < length net.gates → g < length net.gates → s ≡ gate_sig net g → Contains (gate_at net n).pins s → Feeds net g n
   feeds-from n g s nl gl e c = record { source = gl; reader = nl; pin = subst (Contains (gate_at net n).pins) e c }

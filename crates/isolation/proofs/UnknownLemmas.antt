@@ -2,6 +2,7 @@
 use Rattle.std.proofs.Common.{◌≡◌, ◌≢◌, inl, inr, ◌⊎◌, ℕ, zero, suc, ◌+◌, ◌-◌, ◌<◌, Bool, true, false, ◌||◌, ◌==◌, List, [], ◌∷◌, length, get_or, Option, Some, None, Result, Ok, Err, IfOk, refl, sym, ap, ◌∙◌, arith, true≢false}
 use Rattle.isolation.proofs.Common.{cases_lt, eq-eqb, get_or-map, get_or_default, get_or_append_left, get_or-append_right, length-map, All, Node, Arena, den, KeepsNodes, IsLawful, Trit, X, bit, bits, Rails, AreRailsOf, value_of, values_of, Parts, fix, fix_gates, IsNetlist, first_gate, value_in, order, Vectors, rails_at, unknown, IsLoopNetlist, HasUnknownRails}
 use Rattle.std.specs.Prelude.{IfNone}
+use Rattle.cyc_base.proofs.OrderLemmas.{bit-known}
 use Rattle.bdd_store.specs.Arena.{constant, IsNodeOf}
 use Rattle.bdd_ops.specs.Operations.{disjunction}
 use Rattle.dual_rail.specs.Rails.{trit_of}
@@ -82,10 +83,6 @@ known-next {s} {t} keeps rails proper i inside before here k none less v x = eli
 ]
 
 -- ---- a gate that is X
-
-bit-known : (b : Bool) → bit b ≢ X
-bit-known true e = cc
-bit-known false e = cc
 
 pub unknown-gate : (net : Parts) (points : Vectors) → AreColumnVectors net points → (a : Arena) (rails : List Rails) → All (AreRailsOf a) rails → ((x : List Bool) → length (points x) ≡ first_gate net) → ((x : List Bool) → values_of a rails x ≡ fix net (points x)) →
     a.vars ≡ first_gate net → HasUnknownRails a rails → HasUnknown net

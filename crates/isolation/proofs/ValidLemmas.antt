@@ -72,9 +72,6 @@ module _ (net : Parts) (gates : List ℕ) (outside : List Sig) (gates_in : All (
         ]
   ]
 
-  numbers : List ℕ
-  numbers = map (λ (s : Sig). s.0) (origins net outside gates)
-
   number-at : (k d : ℕ) → k < length (origins net outside gates) → get_or (map (λ (s : Sig). s.0) (origins net outside gates)) k d ≡ (get_or (origins net outside gates) k (signal 0)).0
   number-at k d within = get_or-map (λ (s : Sig). s.0) (origins net outside gates) k (signal 0) d within
 

@@ -223,7 +223,7 @@ solution-adds {s = s} {a = a} net blocks cut given are cut_is vars same limit co
 -- ---- the sum
 
 -- each gate counts one at least
-gates-effort : (gates : List Gate) → length gates ≤ sum_by (λ gate. size gate.cover + 1) gates
+pub gates-effort : (gates : List Gate) → length gates ≤ sum_by (λ gate. size gate.cover + 1) gates
 gates-effort [] = omega arith
 gates-effort (gate ∷ gates) =
     let rest = gates-effort gates in
@@ -242,7 +242,7 @@ cost-enough net w =
     let all = mul-le-mul_left {m = settling_cost net} {n = most} w (sum-enough (first_gate net) (length net.gates) (effort net) (gates-effort net.gates)) in
     omega (arith, all)
 
-effort-enough : (limit e w gates v : ℕ) → limit < e → v + 1 ≤ w → limit < 16 * w * (gates + 2) * (e + v + 4)
+pub effort-enough : (limit e w gates v : ℕ) → limit < e → v + 1 ≤ w → limit < 16 * w * (gates + 2) * (e + v + 4)
 effort-enough limit e w gates v less wide =
     let one : 1 * e ≤ w * e = mul-le-mul_right {m = 1} {n = w} e (omega (arith, wide)) in
     omega (arith, less, wide, one)

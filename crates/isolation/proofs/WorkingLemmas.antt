@@ -4,6 +4,7 @@ use Rattle.std.proofs.Common.{◌≡◌, inl, inr, ℕ, zero, suc, ◌+◌, ◌<
 use Rattle.std.proofs.Math.Path.{fun_ext}
 use Rattle.isolation.proofs.Common.{and_parts, get_or-map, get_or_default, get_or-replicate, length-map, All, range_with_len, Node, Arena, den, Trit, X, bit, bits, Rails, AreRailsOf, value_of, values_of, Parts, Blocks, AreBlocksOf, block_at, AreLoopsOf, Loops, loops_of, first_gate, value_in, sweeps, loops_exist, same_within, Vectors}
 use Rattle.std.proofs.lemmas.List.Elements.{All-contains}
+use Rattle.cyc_base.proofs.TruthLemmas.{same_truth}
 use Rattle.bdd_ops.specs.Operations.{bit_at}
 use Rattle.dual_rail.specs.WorkingLists.{is_bit}
 use Rattle.loops.specs.declared.structure.Cut.{Cut}
@@ -11,7 +12,6 @@ use Rattle.loops.specs.Cuts.{IsCutOf}
 use Rattle.loops.specs.Sweeps.{cuts, cuts_of}
 use Rattle.loops.proofs.Reading.{Contains-filter_from}
 use Rattle.loops.proofs.Sweeps.{same-sym, same-trans}
-use Rattle.loops.proofs.Walks.{same_truth}
 use Rattle.fixpoint.specs.declared.solved.SweptLoop.{SweptLoop}
 use Rattle.fixpoint.specs.Counts.{IsStepNode}
 use Rattle.fixpoint.specs.Solved.{AreStepsOf, step_at}

@@ -1,8 +1,10 @@
-pub mod Building
-pub mod Columns
-pub mod Cones
+-- The chapter: what the contracts of public functions say.
 pub mod Excerpts
-pub mod Laws
 pub mod Settled
-pub mod Settling
 pub mod Unsettled
+pub mod Laws
+pub mod Cones
+pub mod Columns
+pub mod Building
+-- The code's own: what its parts say to each other.
+pub mod Settling

@@ -8,6 +8,7 @@ use Rattle.std.proofs.lemmas.List.Elements.{All-filter, filter-append, filter_pa
 use Rattle.std.proofs.lemmas.List.Folds.{list_any_at}
 use Rattle.std.proofs.lemmas.Map.Views.{Contains-from_any}
 use Rattle.std.proofs.lemmas.List.Kept.{AllPairs-filter}
+use Rattle.cyc_base.proofs.ListLemmas.{range-suc}
 use Rattle.components.specs.declared.components.Components.{Components}
 use Rattle.components.specs.Graphs.{Edge, Reaches, AreComponentsOf}
 use Rattle.netlist.specs.declared.parts.Parts.{Parts}
@@ -19,12 +20,6 @@ use Rattle.loops.specs.Walks.{Leads, AnyGate, SameBlock}
 use Rattle.loops.specs.Blocks.{no_block, block_at, AreBlocksOf}
 use Rattle.loops.specs.Members.{members_below, members, is_loop, block_of}
 use Rattle.loops.proofs.Walks.{leads-any, leads-step, leads-trans}
-
-range-suc : (a n : ℕ) → range_with_len a (suc n) ≡ range_with_len a n ++ (a + n) ∷ []
-range-suc a zero = ap (λ (x : ℕ). x ∷ []) (omega arith)
-range-suc a (suc n) =
-    let same : a + 1 + n ≡ a + suc n = omega arith in
-    ap (λ (rest : List ℕ). a ∷ rest) (range-suc (a + 1) n ∙ ap (λ (x : ℕ). range_with_len (a + 1) n ++ x ∷ []) same)
 
 -- one more gate is a member of its number, and of no other
 members-suc : (homes : List ℕ) (gate number : ℕ) → members_below homes (gate + 1) number ≡ members_below homes gate number ++ cond (eqb (get_or homes gate 0) number) (gate ∷ []) []

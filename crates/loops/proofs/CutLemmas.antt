@@ -3,6 +3,7 @@ use Rattle.std.proofs.Common.{◌≡◌, ◌⊎◌, ◌↔◌, inl, inr, ℕ, �
 use Rattle.std.proofs.lemmas.Bool.{cases_eq, cases_lt}
 use Rattle.std.proofs.lemmas.List.{get_or-set_same, get_or-set_other, length-set, length-replicate, get_or-replicate, get_or_past}
 use Rattle.std.specs.List.{All, AllByRecursion}
+use Rattle.cyc_base.proofs.ListLemmas.{all_weaker, all_append}
 use Rattle.netlist.specs.declared.parts.Parts.{Parts}
 use Rattle.netlist.specs.Walks.{Feeds, Walk}
 use Rattle.loops.specs.declared.cuts.CutSearch.{CutSearch}
@@ -19,7 +20,7 @@ use Rattle.loops.proofs.KeptLemmas.{of_within, ready_as}
 use Rattle.loops.proofs.LandmarkLemmas.{joined, one_step}
 use Rattle.loops.proofs.SearchLemmas.{path-append}
 use Rattle.loops.proofs.Told.{told_from}
-use Rattle.loops.proofs.Walks.{all_append, all_both, all_weaker, begins_at, leads-any, on_closed_walk, same_loop-sym, same_loop-trans}
+use Rattle.loops.proofs.Walks.{all_both, begins_at, leads-any, on_closed_walk, same_loop-sym, same_loop-trans}
 
 module _ (net : Parts) (blocks : Blocks) (are : AreBlocksOf net blocks) where
   path_walks : (a b : ℕ) (via : List ℕ) → Path (IsLoopPin net blocks) a via b → Walk net a via b

@@ -1,5 +1,5 @@
 -- Without loops each gate is determined.
-use Rattle.std.proofs.Common.{◌≡◌, ◌≢◌, ◌+◌, inl, inr, ℕ, zero, suc, ◌<◌, Bool, true, false, List, [], ◌∷◌, length, map, get_or, refl, ap, ap₂, sym, ◌∙◌, arith}
+use Rattle.std.proofs.Common.{◌≡◌, ◌+◌, inl, inr, ℕ, zero, suc, ◌<◌, Bool, false, List, [], ◌∷◌, length, map, get_or, refl, ap, ap₂, sym, ◌∙◌, arith}
 use Rattle.std.proofs.lemmas.Bool.{cases_lt}
 use Rattle.std.proofs.lemmas.List.{get_or-map, get_or_append_left, length-map}
 use Rattle.cyc_base.specs.declared.trit.Trit.{Trit}
@@ -8,17 +8,19 @@ use Rattle.cyc_base.specs.Values.{bit, bits}
 use Rattle.cover_logic.specs.Extensions.{ext}
 use Rattle.cover_logic.specs.Covers.{value}
 use Rattle.cyc_base.specs.declared.sig.Sig.{Sig}
+use Rattle.cyc_base.proofs.OrderLemmas.{bit-known}
 use Rattle.netlist.specs.declared.parts.Parts.{Parts}
 use Rattle.netlist.specs.Netlists.{IsNetlist, no_gate, gate_at}
 use Rattle.netlist.specs.Fixpoint.{wire, fix, fix_gates}
 use Rattle.netlist.specs.Walks.{IsLoopFree}
+use Rattle.netlist.proofs.FixpointLemmas.{get_or-fix}
 use Rattle.cover_logic.proofs.ExtensionLemmas.{ext_at_bits}
 use Rattle.loops.specs.Walks.{Leads, AnyGate}
 use Rattle.loops.specs.Sweeps.{first_gate, gate_of}
 use Rattle.loops.specs.Laws.{LoopFreeIsDetermined}
 use Rattle.loops.proofs.Walks.{leads-trans, leads-step, begins_at}
 use Rattle.loops.proofs.Ancestors.{by_ancestors}
-use Rattle.loops.proofs.Reading.{wire_of_gate, get_or-fix}
+use Rattle.loops.proofs.Reading.{wire_of_gate}
 use Rattle.loops.proofs.Unique.{feeds_at}
 
 -- a value that is 0 or 1
@@ -36,10 +38,6 @@ all_known f (x ∷ xs) h =
     let one = h zero x (omega arith) in
     let rest = all_known f xs (λ k d l. h (suc k) d (omega arith)) in
     record { as_bits = one.as_bit ∷ rest.as_bits; are = ap₂ (λ y ys. y ∷ ys) one.is rest.are }
-
-not_X : (b : Bool) → bit b ≢ X
-not_X true e = cc
-not_X false e = cc
 
 -- a signal is an input, a latch or a gate
 reads_within : (net : Parts) → IsNetlist net → (n k : ℕ) (d : Sig) → n < length net.gates → k < length (gate_at net n).pins → (get_or (gate_at net n).pins k d).0 < first_gate net + length net.gates
@@ -84,4 +82,4 @@ module _ (net : Parts) (is : IsNetlist net) (free : IsLoopFree net) (v : List Bo
 pub loop_free_is_determined : LoopFreeIsDetermined
 loop_free_is_determined net is free v width n l e =
     let k = known net is free v width n l in
-    not_X k.as_bit (sym k.is ∙ e)
+    bit-known k.as_bit (sym k.is ∙ e)

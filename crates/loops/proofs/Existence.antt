@@ -1,19 +1,18 @@
 -- The loops and cut wires that are found by trying all walks are those of the netlist.
 use Rattle.std.proofs.Common.{◌≡◌, ◌⊎◌, ◌↔◌, inl, inr, ℕ, zero, suc, ◌<◌, ltb, Bool, true, not, ◌&&◌, ◌||◌, List, [], ◌∷◌, ◌++◌, length, get_or, refl, ap, ap₂, sym, ◌∙◌, subst, arith, Contains, true≢false}
-use Rattle.std.proofs.lemmas.Bool.{cases_eq, and_parts, and_from, or_cases, or_left, or_right, ltb-true, lt-ltb, not-true, eqb-true, eq-eqb}
+use Rattle.std.proofs.lemmas.Bool.{cases_eq, and_parts, and_from, or_cases, or_left, or_right, ltb-true, lt-ltb, not-true, eq-eqb}
 use Rattle.std.specs.List.{AllByRecursion, list_any}
 use Rattle.cyc_base.specs.declared.sig.Sig.{Sig}
+use Rattle.cyc_base.proofs.ListLemmas.{all_weaker, all_append}
 use Rattle.netlist.specs.declared.parts.Parts.{Parts}
 use Rattle.netlist.specs.Netlists.{gate_at, gate_sig, sig_eq}
 use Rattle.netlist.specs.Walks.{Feeds, Walk}
+use Rattle.netlist.proofs.NameLemmas.{sig_eq-true}
 use Rattle.loops.specs.Walks.{Leads, AnyGate, SameLoop}
 use Rattle.loops.specs.Cuts.{MayPass}
 use Rattle.loops.specs.Found.{feeds, reaches, same_of, cut_below, loops_of}
 use Rattle.loops.specs.Laws.{LoopsExist}
-use Rattle.loops.proofs.Walks.{all_weaker, all_append, walk-append, split, walk_within_of}
-
-sig_eq-true : (a b : Sig) → sig_eq a b ≡ true → a ≡ b
-sig_eq-true a b e = ap (λ (n : ℕ). let s : Sig = record { 0 = n } in s) (eqb-true a.0 b.0 e)
+use Rattle.loops.proofs.Walks.{walk-append, split, walk_within_of}
 
 sig_eq-self : (a : Sig) → sig_eq a a ≡ true
 sig_eq-self a = eq-eqb a.0 a.0 refl
@@ -65,9 +64,6 @@ last_part net P k a b (x ∷ via) h all =
     ]
 
 module _ (net : Parts) (test : ℕ → Bool) where
-  abbrev Passes : ℕ → ℕ → Type 0
-  Passes k g = (g < k) × (test g ≡ true)
-
   reaches_from : (k a b : ℕ) (via : List ℕ) → Walk net a via b → AllByRecursion (λ g. (g < k) × (test g ≡ true)) via → reaches net test k a b ≡ true
   reaches_from zero a b [] walk all = (feeds_iff net a b).1 walk
   reaches_from zero a b (x ∷ via) walk all = absurd (let l = all.0.0 in omega arith)

@@ -209,15 +209,6 @@ kept_links R cut n readers sources levels l k = record {
   sources_within = all_within sources (length levels) (λ y x listed. (let within = k.reads_within x y listed in let size = k.levels_size in omega arith));
 }
 
--- moved levels leave the links
-pub moved_links : (readers sources : List (List ℕ)) (levels new : List ℕ) → length new ≡ length levels → AreLinks readers sources levels → AreLinks readers sources new
-moved_links readers sources levels new size k = record {
-  readers_size = k.readers_size ∙ sym size;
-  sources_size = k.sources_size ∙ sym size;
-  readers_within = subst (λ (w : ℕ). All (All (λ x. x < w)) readers) (sym size) k.readers_within;
-  sources_within = subst (λ (w : ℕ). All (All (λ x. x < w)) sources) (sym size) k.sources_within;
-}
-
 -- the same rows and the same width
 pub landmarks_as : (old new : List (List ℕ)) (width wide : ℕ) (list : List Landmark) → new ≡ old → wide ≡ width → AreLandmarks old width list → AreLandmarks new wide list
 landmarks_as old new width wide list rows e are =

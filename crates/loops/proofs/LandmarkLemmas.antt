@@ -1,12 +1,12 @@
 -- Ways along rows are joined, and landmarks go on from a gate that is entered.
-use Rattle.std.proofs.Common.{inl, inr, ℕ, List, [], ◌∷◌, ◌++◌, sym, ◌∙◌, subst, arith}
+use Rattle.std.proofs.Common.{inl, inr, ℕ, List, [], ◌∷◌, ◌++◌, sym, ◌∙◌, subst}
 use Rattle.loops.specs.declared.landmarks.Landmark.{Landmark}
 use Rattle.loops.specs.declared.search.Search.{Search}
 use Rattle.loops.specs.Keeping.{Meeting}
 use Rattle.loops.specs.Landmarks.{IsLandmark, Passes, ReadsBack}
-use Rattle.loops.specs.Searching.{Connects, HasSpread, InRow, IsMarked, IsReady, Meets, Path, Reaches, row_at}
+use Rattle.loops.specs.Searching.{Connects, HasSpread, InRow, Meets, Path, Reaches, row_at}
 use Rattle.loops.specs.Walks.{AnyGate}
-use Rattle.loops.proofs.SearchLemmas.{marked_within, path-append}
+use Rattle.loops.proofs.SearchLemmas.{path-append}
 use Rattle.loops.proofs.Walks.{all_any}
 
 pub one_step : (rows : List (List ℕ)) (a b : ℕ) → InRow rows a b → Connects (InRow rows) AnyGate a b
@@ -46,14 +46,6 @@ module _ (rows more : List (List ℕ)) (keeps : (x y : ℕ) → InRow rows x y �
     ahead = λ x m. reaches_kept landmark.gate x (is.ahead x m);
     behind = λ x m. reaches_kept x landmark.gate (is.behind x m);
   }
-
--- what a new search from a gate has marked
-pub newly_reached : (rows : List (List ℕ)) (gates gate : ℕ) (marks after : List ℕ) → IsReady gates 0 marks → HasSpread rows gate gate marks after → (x : ℕ) → IsMarked gate after x → Reaches rows gate x
-newly_reached rows gates gate marks after ready h x m =
-    elim (h.marked x m) [
-      | inl old ↦ absurd (let b = ready.bound x 0 (marked_within gate marks x old) in omega (arith, old))
-      | inr r ↦ r
-    ]
 
 module _ (readers sources : List (List ℕ)) (gate : ℕ) (back : ReadsBack readers sources gate) where
   pub turned : (x : ℕ) → Reaches sources gate x → Reaches readers x gate

@@ -3,25 +3,19 @@ use Rattle.std.proofs.Common.{◌≡◌, ◌==◌, ℕ, zero, suc, ◌+◌, ◌<
 use Rattle.std.proofs.lemmas.Bool.{lt-ltb}
 use Rattle.std.proofs.lemmas.List.Elements.{All-filter, All-from_recursion, filter-append}
 use Rattle.std.specs.List.{AllByRecursion, range_with_len}
+use Rattle.cyc_base.proofs.TruthLemmas.{same_truth}
 use Rattle.netlist.specs.declared.parts.Parts.{Parts}
 use Rattle.loops.specs.declared.structure.Block.{Block}
 use Rattle.loops.specs.declared.structure.Blocks.{Blocks}
-use Rattle.loops.specs.declared.structure.Cut.{Cut}
 use Rattle.loops.specs.Blocks.{AreBlocksOf, block_at, home_of}
-use Rattle.loops.specs.Cuts.{IsCutOf, in_one_loop, is_cut}
+use Rattle.loops.specs.Cuts.{in_one_loop}
 use Rattle.loops.specs.Found.{loops_of}
-use Rattle.loops.specs.Listed.{gate_numbers, loop_of, cut_wires_of, begins_with}
+use Rattle.loops.specs.Listed.{gate_numbers, loop_of, begins_with}
 use Rattle.loops.proofs.Existence.{loops_exist}
 use Rattle.loops.proofs.Told.{told_from, told_to}
-use Rattle.loops.proofs.Walks.{loops_are_unique}
-
-same_truth : (s t : Bool) → (s ≡ true → t ≡ true) → (t ≡ true → s ≡ true) → s ≡ t
-same_truth true t there back = sym (there refl)
-same_truth false true there back = absurd (true≢false (sym (back refl)))
-same_truth false false there back = refl
 
 -- numbers of a range that are kept by two tests which agree below a bound
-kept_below : (p q : ℕ → Bool) (a n bound : ℕ) → a + n ≡ bound → ((k : ℕ) → k < bound → p k ≡ q k)
+pub kept_below : (p q : ℕ → Bool) (a n bound : ℕ) → a + n ≡ bound → ((k : ℕ) → k < bound → p k ≡ q k)
     → filter p (range_with_len a n) ≡ filter q (range_with_len a n)
 kept_below p q a zero bound is agree = refl
 kept_below p q a (suc n) bound is agree =
@@ -31,10 +25,6 @@ none_kept : (p : ℕ → Bool) (a n bound : ℕ) → a + n ≡ bound → ((k : �
 none_kept p a zero bound is none = refl
 none_kept p a (suc n) bound is none =
     ap₂ (λ t ns. cond t (a ∷ ns) ns) (none a (omega (arith, is))) (none_kept p (a + 1) n bound (omega (arith, is)) none)
-
-filter_agree : (p q : ℕ → Bool) (ns : List ℕ) → ((n : ℕ) → p n ≡ q n) → filter p ns ≡ filter q ns
-filter_agree p q [] agree = refl
-filter_agree p q (n ∷ ns) agree = ap₂ (λ t rest. cond t (n ∷ rest) rest) (agree n) (filter_agree p q ns agree)
 
 module _ (net : Parts) (blocks : Blocks) (are : AreBlocksOf net blocks) where
   -- blocks tell which gates are in one loop
@@ -95,18 +85,6 @@ module _ (net : Parts) (blocks : Blocks) (are : AreBlocksOf net blocks) where
       by_test : (t : Bool) → (block_at blocks (home_of blocks a)).looped ≡ t → (block_at blocks (home_of blocks a)).gates ≡ loop_of net a
       by_test true looped = sym (loop_is_block a inside looped)
       by_test false not = absurd (true≢false (sym begun ∙ ap (λ gates. begins_with gates a) (no_loop a not)))
-
--- a cut tells the cut wires
-cut_told : (net : Parts) (cut : Cut) → IsCutOf net cut → (n : ℕ) → (loops_of net).cut n ≡ is_cut cut.wires n
-cut_told net cut is =
-    (loops_are_unique net (loops_of net) (record { same = (loops_of net).same; cut = is_cut cut.wires }) (loops_exist net)
-    (record { same = (loops_exist net).same; cut = is.wires })).1
-
-pub cut_wires_told : (net : Parts) (cut : Cut) (a : ℕ) (gates : List ℕ) → IsCutOf net cut → loop_of net a ≡ gates
-    → cut_wires_of net a ≡ filter (is_cut cut.wires) gates
-cut_wires_told net cut a gates is loop =
-    filter_agree (loops_of net).cut (is_cut cut.wires) (loop_of net a) (cut_told net cut is)
-    ∙ ap (filter (is_cut cut.wires)) loop
 
 -- the gates of a loop are gates
 pub loop_gates_inside : (net : Parts) (a : ℕ) → All (λ n. n < length net.gates) (loop_of net a)

@@ -5,6 +5,7 @@ use Rattle.std.proofs.lemmas.List.{get_or_default, get_or_append_left, get_or_pu
 use Rattle.std.proofs.lemmas.List.Elements.{Contains-append_left, Contains-get_or, Contains-push, Contains-push_cases}
 use Rattle.std.specs.List.{AllByRecursion, range_with_len}
 use Rattle.cyc_base.specs.declared.sig.Sig.{Sig}
+use Rattle.cyc_base.proofs.ListLemmas.{all_filter, all_append}
 use Rattle.components.specs.declared.components.Components.{Components}
 use Rattle.components.specs.Graphs.{AreComponentsOf, AreStronglyConnected, Edge, Walk as GraphWalk}
 use Rattle.netlist.specs.declared.parts.Parts.{Parts}
@@ -19,7 +20,7 @@ use Rattle.loops.specs.Orders.{IsInOrder, IsOrderOf, ReadsUncut}
 use Rattle.loops.specs.Placing.{ArePlaced, ArePlacesRead, AreUncutReads, IsPlaceRead, IsUncutPin, Rise}
 use Rattle.loops.specs.Walks.{Leads, SameLoop}
 use Rattle.loops.proofs.Told.{blocks_tell_loops, gate_home, told_from, told_parts}
-use Rattle.loops.proofs.Walks.{all_append, cuts_leave_no_loop, walk-append}
+use Rattle.loops.proofs.Walks.{cuts_leave_no_loop, walk-append}
 
 -- gates that rise differ
 same_place : (gates : List ℕ) → Rise gates → (i j : ℕ) → i < length gates → j < length gates → get_or gates i 0 ≡ get_or gates j 0 → i ≡ j
@@ -117,21 +118,13 @@ abbrev Ascend : List ℕ → Type 0
 Ascend [] = Unit {0}
 Ascend (x ∷ xs) = AllByRecursion (λ y. x < y) xs × Ascend xs
 
-range_above : (a b n : ℕ) → a < b → AllByRecursion (λ y. a < y) (range_with_len b n)
+pub range_above : (a b n : ℕ) → a < b → AllByRecursion (λ y. a < y) (range_with_len b n)
 range_above a b zero l = tt
 range_above a b (suc n) l = (l, range_above a (b + 1) n (omega arith))
 
 range_ascends : (a n : ℕ) → Ascend (range_with_len a n)
 range_ascends a zero = tt
 range_ascends a (suc n) = (range_above a (a + 1) n (omega arith), range_ascends (a + 1) n)
-
-all_filter : (P : ℕ → Type 0) (p : ℕ → Bool) (xs : List ℕ) → AllByRecursion P xs → AllByRecursion P (filter p xs)
-all_filter P p [] h = tt
-all_filter P p (x ∷ xs) h = by (p x) refl (all_filter P p xs h.1)
-  where
-    by : (b : Bool) → p x ≡ b → AllByRecursion P (filter p xs) → AllByRecursion P (filter p (x ∷ xs))
-    by true e rest = rw e (h.0, rest)
-    by false e rest = rw e rest
 
 filter_ascends : (p : ℕ → Bool) (xs : List ℕ) → Ascend xs → Ascend (filter p xs)
 filter_ascends p [] h = tt

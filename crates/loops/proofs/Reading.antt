@@ -1,7 +1,7 @@
 -- Reading lists, wires and gates by number.
-use Rattle.std.proofs.Common.{◌≡◌, ℕ, zero, suc, ◌-◌, ◌<◌, ◌≤◌, leb, Bool, true, false, if◌then◌else◌, List, [], ◌∷◌, ◌++◌, length, map, filter, get_or, refl, ap, ap₂, sym, ◌∙◌, arith, Contains, true≢false}
+use Rattle.std.proofs.Common.{◌≡◌, ℕ, zero, suc, ◌-◌, ◌<◌, ◌≤◌, leb, Bool, true, false, if◌then◌else◌, List, [], ◌∷◌, ◌++◌, length, map, filter, get_or, refl, ap, ap₂, sym, ◌∙◌, arith, Contains}
 use Rattle.std.proofs.lemmas.Bool.{and_parts, leb-true}
-use Rattle.std.proofs.lemmas.List.{get_or-map, get_or-append_right, length-map}
+use Rattle.std.proofs.lemmas.List.{get_or-append_right, length-map}
 use Rattle.std.proofs.lemmas.List.FromFn.{fill_by_all, length-range_with_len, get_or-range_with_len}
 use Rattle.std.specs.List.{range_with_len}
 use Rattle.cyc_base.specs.declared.sig.Sig.{Sig}
@@ -10,8 +10,8 @@ use Rattle.cyc_base.specs.declared.trit.Trit.TheVariants.{X}
 use Rattle.cyc_base.specs.Values.{Below}
 use Rattle.netlist.specs.declared.parts.Parts.{Parts}
 use Rattle.netlist.specs.Netlists.{gate_at}
-use Rattle.netlist.specs.Fixpoint.{wires, gate_value, step, fix, fix_gates}
-use Rattle.netlist.proofs.FixpointLemmas.{fix_is_fixpoint}
+use Rattle.netlist.specs.Fixpoint.{wires, gate_value, fix, fix_gates}
+use Rattle.netlist.proofs.FixpointLemmas.{fix_is_fixpoint, get_or-fix}
 use Rattle.loops.specs.Cuts.{Loops}
 use Rattle.loops.specs.Sweeps.{first_gate, gate_of, in_loop_of}
 
@@ -53,42 +53,11 @@ map_agree f g [] h = refl
 map_agree f g (x ∷ xs) h =
     ap₂ (λ y ys. y ∷ ys) (h zero x (omega arith)) (map_agree f g xs (λ k d l. h (suc k) d (omega arith)))
 
-pub get_or-step : (net : Parts) (v s : List Trit) (n : ℕ) → n < length net.gates → get_or (step net v s) n X ≡ gate_value (wires v s) (gate_at net n)
-get_or-step net v s n l = get_or-map (gate_value (wires v s)) net.gates n _ X l
-
-pub get_or-fix : (net : Parts) (v : List Trit) (n : ℕ) → n < length net.gates → get_or (fix_gates net v) n X ≡ gate_value (fix net v) (gate_at net n)
-get_or-fix net v n l = ap (λ s. get_or s n X) (sym (fix_is_fixpoint net v)) ∙ get_or-step net v (fix_gates net v) n l
-
 pub fix_by_place : (net : Parts) (v : List Trit) → fix_gates net v ≡ map (λ n. gate_value (fix net v) (gate_at net n)) (range_with_len 0 (length net.gates))
 fix_by_place net v =
     fill_by_all (λ n. gate_value (fix net v) (gate_at net n)) (fix_gates net v) (length net.gates) X
     (ap length (sym (fix_is_fixpoint net v)) ∙ length-map net.gates (gate_value (fix net v)))
     (λ n l. get_or-fix net v n l)
-
-pub Contains-map : {A B : Type 0} (f : A → B) (xs : List A) (x : A) → Contains xs x → Contains (map f xs) (f x)
-Contains-map f xs x c =
-    let l = c.1 in
-    let e = length-map xs f in
-    (c.0, omega arith, get_or-map f xs c.0 x (f x) l ∙ ap f c.2)
-
-pub Contains-filter : {A : Type 0} (p : A → Bool) (xs : List A) (x : A) → p x ≡ true → Contains xs x → Contains (filter p xs) x
-Contains-filter p [] x h c = absurd (let l = c.1 in omega arith)
-Contains-filter p (y ∷ ys) x h (zero, l, e) = by (p y) refl
-  where
-    by : (b : Bool) → p y ≡ b → Contains (filter p (y ∷ ys)) x
-    by true is = rw is (zero, omega arith, e)
-    by false is = absurd (true≢false (sym h ∙ ap p (sym e) ∙ is))
-Contains-filter p (y ∷ ys) x h (suc k, l, e) = by (p y) refl (Contains-filter p ys x h (k, omega arith, e))
-  where
-    by : (b : Bool) → p y ≡ b → Contains (filter p ys) x → Contains (filter p (y ∷ ys)) x
-    by true is rest = rw is (let l2 = rest.1 in (suc rest.0, omega arith, rest.2))
-    by false is rest = rw is rest
-
-pub Contains-range : (n k : ℕ) → k < n → Contains (range_with_len 0 n) k
-Contains-range n k l =
-    let e = length-range_with_len 0 n in
-    let r = get_or-range_with_len 0 n k k l in
-    (k, omega arith, omega arith)
 
 pub Contains-filter_from : (p : ℕ → Bool) (xs : List ℕ) (x : ℕ) → Contains (filter p xs) x → (p x ≡ true) × Contains xs x
 Contains-filter_from p [] x c = absurd (let l = c.1 in omega arith)

@@ -218,21 +218,6 @@ module _ (rows : List (List ℕ)) (levels : List ℕ) (limit : Limit) (goal : �
               let len = ap (λ (xs : List ℕ). length xs) d in
               omega (arith, p)
 
--- two searches that have met
-pub meeting : (readers sources : List (List ℕ)) (levels : List ℕ) (limit : Limit) (goal : ℕ) (back : Search) → IsSearching sources levels limit goal back → MeetsAt readers goal back.marks.items → Meeting readers sources goal
-meeting readers sources levels limit goal back b m = record {
-  gate = m.gate;
-  forth = m.path;
-  back = (let r = b.reached m.gate (b.found m.gate m.marked) in r.path);
-}
-
-pub meeting_back : (readers sources : List (List ℕ)) (levels : List ℕ) (limit : Limit) (goal : ℕ) (forth : Search) → IsSearching readers levels limit goal forth → MeetsAt sources goal forth.marks.items → Meeting readers sources goal
-meeting_back readers sources levels limit goal forth f m = record {
-  gate = m.gate;
-  forth = (let r = f.reached m.gate (f.found m.gate m.marked) in r.path);
-  back = m.path;
-}
-
 pub meets_begun : (readers sources : List (List ℕ)) (levels : List ℕ) (limit : Limit) (goal : ℕ) (forth : Search) → IsSearching readers levels limit goal forth → Meets goal (row_at sources goal) forth.marks.items → Meeting readers sources goal
 meets_begun readers sources levels limit goal forth f m = record {
   gate = m.gate;

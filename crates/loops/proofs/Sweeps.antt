@@ -15,13 +15,13 @@ use Rattle.netlist.specs.Fixpoint.{wires, wire, gate_value, steps, fix, fix_gate
 use Rattle.netlist.specs.Walks.{Walk}
 use Rattle.cyc_base.proofs.OrderLemmas.{Below-refl, Below-antisym, EachBelow-refl, EachBelow-append, EachBelow-at, EachBelow-map, EachBelow-antisym}
 use Rattle.cover_logic.proofs.ExtensionLemmas.{ext_is_monotone}
-use Rattle.netlist.proofs.FixpointLemmas.{unknown_below_state, steps_below_fix, length-steps}
+use Rattle.netlist.proofs.FixpointLemmas.{unknown_below_state, steps_below_fix, length-steps, get_or-step}
 use Rattle.loops.specs.Cuts.{Loops, AreLoopsOf}
 use Rattle.loops.specs.Sweeps.{first_gate, gate_of, in_loop_of, pin_in, gate_in, IsSweep, sweep_step, sweep_steps, sweep, sweeps, cuts_of, cut_values, CutsAreFixed}
 use Rattle.loops.specs.Laws.{SweepsStayBelowFix, StillIsFix, FixedCutsGiveFix, FewSweepsAreEnough, CountIsSmall}
 use Rattle.loops.proofs.Walks.{same_loop-trans, same_loop-sym}
 use Rattle.loops.proofs.Rising.{stands_still}
-use Rattle.loops.proofs.Reading.{choice_mono, choice_below, choice_above, wire_of_gate, in_loop_from, get_or-step, fix_by_place}
+use Rattle.loops.proofs.Reading.{choice_mono, choice_below, choice_above, wire_of_gate, in_loop_from, fix_by_place}
 
 -- the extension at pins read in two ways, one below the other
 pub ext_below : (net : Parts) (n : ℕ) (f g : Sig → Trit) → ((s : Sig) → Below (f s) (g s)) → Below (ext (gate_at net n).cover (map f (gate_at net n).pins)) (ext (gate_at net n).cover (map g (gate_at net n).pins))
@@ -132,7 +132,7 @@ map_where_kept f g p (x ∷ xs) h = by (p x) refl (map_where_kept f g p xs h)
     by true is again = rw is (ap₂ (λ y ys. y ∷ ys) (h x is) again)
     by false is again = rw is again
 
-reaches_within : (net : Parts) (a b : ℕ) (via : List ℕ) → Walk net a via b → b < length net.gates
+pub reaches_within : (net : Parts) (a b : ℕ) (via : List ℕ) → Walk net a via b → b < length net.gates
 reaches_within net a b [] h = h.reader
 reaches_within net a b (x ∷ via) h = reaches_within net x b via h.1
 

@@ -5,6 +5,7 @@ use Rattle.std.proofs.lemmas.List.{get_or_default, get_or_past, ext_get_or}
 use Rattle.cyc_base.specs.declared.sig.Sig.{Sig}
 use Rattle.cyc_base.specs.declared.trit.Trit.{Trit}
 use Rattle.cyc_base.specs.declared.trit.Trit.TheVariants.{X}
+use Rattle.cyc_base.proofs.ListLemmas.{all_append}
 use Rattle.cover_logic.specs.Extensions.{ext}
 use Rattle.netlist.specs.declared.parts.Parts.{Parts}
 use Rattle.netlist.specs.Netlists.{gate_at, gate_sig}
@@ -14,7 +15,7 @@ use Rattle.loops.specs.Walks.{Leads}
 use Rattle.loops.specs.Cuts.{Loops, AreLoopsOf}
 use Rattle.loops.specs.Sweeps.{first_gate, gate_of, in_loop_of, pin_in, IsSweep, sweep}
 use Rattle.loops.specs.Laws.{SweepIsTheOne}
-use Rattle.loops.proofs.Walks.{all_append, walk-append, cuts_leave_no_loop, begins_within}
+use Rattle.loops.proofs.Walks.{walk-append, cuts_leave_no_loop, begins_within}
 use Rattle.loops.proofs.Ancestors.{by_ancestors}
 use Rattle.loops.proofs.Reading.{choice_same, in_loop_from, map_agree}
 use Rattle.loops.proofs.Sweeps.{same_within, sweep_is_sweep}

@@ -1,24 +1,18 @@
 -- Walks, and what the cut wires do to loops.
-use Rattle.std.proofs.Common.{◌≡◌, ◌⊎◌, inl, inr, ℕ, zero, suc, ◌<◌, Bool, true, false, List, [], ◌∷◌, ◌++◌, length, refl, sym, ◌∙◌, subst, arith, true≢false}
+use Rattle.std.proofs.Common.{◌≡◌, ◌⊎◌, inl, inr, ℕ, zero, suc, ◌<◌, true, false, List, [], ◌∷◌, ◌++◌, length, sym, ◌∙◌, subst, arith, true≢false}
 use Rattle.std.proofs.lemmas.Bool.{cases_eq}
 use Rattle.std.specs.List.{AllByRecursion}
+use Rattle.cyc_base.proofs.ListLemmas.{all_weaker, all_append}
+use Rattle.cyc_base.proofs.TruthLemmas.{same_truth}
 use Rattle.netlist.specs.declared.parts.Parts.{Parts}
 use Rattle.netlist.specs.Walks.{Feeds, Walk}
 use Rattle.loops.specs.Walks.{Leads, AnyGate, SameLoop}
 use Rattle.loops.specs.Cuts.{Loops, MayPass, AreLoopsOf}
 use Rattle.loops.specs.Laws.{EachCutIsNeeded, LoopsAreUnique}
 
-pub all_weaker : {A : Type 0} (P Q : A → Type 0) (xs : List A) → ((n : A) → P n → Q n) → AllByRecursion P xs → AllByRecursion Q xs
-all_weaker P Q [] w h = tt
-all_weaker P Q (x ∷ xs) w h = (w x h.0, all_weaker P Q xs w h.1)
-
 pub all_any : (xs : List ℕ) → AllByRecursion AnyGate xs
 all_any [] = tt
 all_any (x ∷ xs) = (tt, all_any xs)
-
-pub all_append : {A : Type 0} (P : A → Type 0) (xs ys : List A) → AllByRecursion P xs → AllByRecursion P ys → AllByRecursion P (xs ++ ys)
-all_append P [] ys h k = k
-all_append P (x ∷ xs) ys h k = (h.0, all_append P xs ys h.1 k)
 
 pub all_both : (P Q : ℕ → Type 0) (xs : List ℕ) → AllByRecursion P xs → AllByRecursion Q xs → AllByRecursion (λ n. P n × Q n) xs
 all_both P Q [] h k = tt
@@ -180,11 +174,6 @@ each_cut_is_needed net loops are n cut =
       walk = leads.walk;
     }
 
-pub same_truth : (a b : Bool) → (a ≡ true → b ≡ true) → (b ≡ true → a ≡ true) → a ≡ b
-same_truth true b f g = sym (f refl)
-same_truth false true f g = g refl
-same_truth false false f g = refl
-
 module _ (net : Parts) (one two : Loops) (first : AreLoopsOf net one) (second : AreLoopsOf net two) where
   pass_either : (n : ℕ) → ((g : ℕ) → g < n → one.cut g ≡ two.cut g) → one.cut n ≡ true → two.cut n ≡ true
   pass_either n below cut =
@@ -211,7 +200,3 @@ loops_are_unique net one two first second = (
       (λ e. (first.same a b).1 ((second.same a b).0 e)),
   λ n. cuts_same_below net one two first second (suc n) n (omega arith),
 )
-
-pub ends_at : (net : Parts) (a b : ℕ) (via : List ℕ) → Walk net a via b → b < length net.gates
-ends_at net a b [] h = h.reader
-ends_at net a b (x ∷ via) h = ends_at net x b via h.1

@@ -1,20 +1,19 @@
+-- The chapter: what the contracts of public functions say.
 pub mod Walks
 pub mod Blocks
 pub mod Cuts
-pub mod Found
 pub mod Sweeps
-pub mod Members
 pub mod Orders
+pub mod Found
 pub mod Laws
+pub mod Looped
 pub mod Links
 pub mod Placing
 pub mod Searching
+pub mod Listed
+pub mod Numbered
+pub mod Left
+-- The code's own: what its parts say to each other.
+pub mod Members
 pub mod Landmarks
 pub mod Keeping
-pub mod Listed
--- a netlist with its blocks and cut wires
-pub mod Looped
--- its loops in order
-pub mod Numbered
--- those that are left
-pub mod Left

@@ -1,2 +1,3 @@
+-- The chapter: what the contracts of public functions say.
 pub mod Ring
 pub mod Faults

@@ -3,7 +3,7 @@ use Rattle.std.proofs.Common.{◌≡◌, ◌↔◌, ◌&&◌, ℕ, Bool, true, f
 use Rattle.std.specs.Bool.{Decides}
 use Rattle.std.specs.List.{list_all, list_any, position, position_or_len}
 use Rattle.std.specs.Option.{option_map_or}
-use Rattle.std.proofs.lemmas.Bool.{ltb-true, ltb-false, not-true}
+use Rattle.std.proofs.lemmas.Bool.{ltb-true, ltb-false, not-true, and_parts}
 use Rattle.std.proofs.lemmas.Bool.Decides.{nat_tests, Decides-ltb, Decides-not}
 use Rattle.std.proofs.lemmas.List.Folds.{list_all-append, list_all-map}
 use Rattle.std.proofs.lemmas.List.Sums.{AllPass-from_list_all, list_all-from_AllPass, fails_before_first, passes_at_first}
@@ -47,13 +47,9 @@ list_all_signal_names p net =
       list_all-map p (λ gate. gate.name) net.gates,
     )
 
-both : (a b : Bool) → (a && b) ≡ true → (a ≡ true) × (b ≡ true)
-both true b e = (refl, e)
-both false b e = absurd (true≢false (sym e))
-
 pub Decides-and : {P Q : Type 0} (a b : Bool) → Decides a P → Decides b Q → Decides (a && b) (P × Q)
 Decides-and a b p q =
-    (λ e. (p.0 (both a b e).0, q.0 (both a b e).1), λ h. rw (p.1 h.0, q.1 h.1) refl)
+    (λ e. (p.0 (and_parts a b e).0, q.0 (and_parts a b e).1), λ h. rw (p.1 h.0, q.1 h.1) refl)
 
 pub reads_signals_decides : (net : Parts) →
     Decides (reads_signals net)
@@ -79,7 +75,7 @@ has_blif_names_decides net =
     let split = list_all_signal_names is_blif_name net in
     let each = regroup (is_blif_name net.name) (list_all is_blif_name net.inputs)
     (list_all (λ latch. is_blif_name latch.name) net.latches) (list_all (λ gate. is_blif_name gate.name) net.gates) in (
-      λ e. let all = both (is_blif_name net.name) (list_all is_blif_name (signal_names net)) (ap (λ b. is_blif_name net.name && b) split ∙ sym each ∙ e) in
+      λ e. let all = and_parts (is_blif_name net.name) (list_all is_blif_name (signal_names net)) (ap (λ b. is_blif_name net.name && b) split ∙ sym each ∙ e) in
           (name.0 all.0, names.0 all.1),
       λ h. each ∙ ap (λ b. is_blif_name net.name && b) (sym split) ∙ rw (name.1 h.0, names.1 h.1) refl,
     )
@@ -101,7 +97,7 @@ found_none p xs d h = by (nat_lt (position_or_len p xs) (length xs)) refl
 
 pub is_clock_name_decides : (net : Parts) (name : List ℕ) → Decides (is_clock_name net name) (IsClockName net name)
 is_clock_name_decides net name = (
-  λ e. let a = both _ _ e in let b = both _ _ a.0 in record {
+  λ e. let a = and_parts _ _ e in let b = and_parts _ _ a.0 in record {
     blif = (is_blif_name_decides name).0 b.0;
     named = (Decides-not _ (bytes_eq-Decides name (codes "NIL"))).0 b.1;
     undriven = not-true _ a.1;

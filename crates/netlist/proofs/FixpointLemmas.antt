@@ -1,6 +1,6 @@
 -- The steps rise from all unknown, so that they stand still after as many steps as there are gates, at the least fixpoint.
 use Rattle.std.proofs.Common.{◌≡◌, ◌⊎◌, inl, inr, ℕ, zero, suc, ◌<◌, ◌≤◌, ◌+◌, ◌-◌, List, [], ◌∷◌, length, map, replicate, get_or, refl, ap, sym, ◌∙◌, arith, subst}
-use Rattle.std.proofs.lemmas.List.{length-map, length-replicate}
+use Rattle.std.proofs.lemmas.List.{get_or-map, length-append, length-map, length-replicate}
 use Rattle.cyc_base.specs.declared.trit.Trit.{Trit}
 use Rattle.cyc_base.specs.declared.trit.Trit.TheVariants.{Zero, One, X}
 use Rattle.cyc_base.specs.Values.{Below, EachBelow}
@@ -8,7 +8,8 @@ use Rattle.cyc_base.proofs.OrderLemmas.{EachBelow-refl, EachBelow-trans, EachBel
 use Rattle.cover_logic.proofs.ExtensionLemmas.{ext_is_monotone}
 use Rattle.netlist.specs.declared.parts.Gate.{Gate}
 use Rattle.netlist.specs.declared.parts.Parts.{Parts}
-use Rattle.netlist.specs.Fixpoint.{wires, wire, gate_value, step, steps, fix_gates}
+use Rattle.netlist.specs.Netlists.{count, gate_at}
+use Rattle.netlist.specs.Fixpoint.{wires, wire, gate_value, step, steps, fix, fix_gates}
 use Rattle.netlist.specs.Laws.{StepIsMonotone, StepsRise, FixIsFixpoint, FixIsLeast, FixIsBelowClosed, FixIsReached, FixIsMonotone, OneGateStaysBelowFix, FixpointBelowIsFix}
 
 -- the value of a gate keeps the order of the signals
@@ -138,3 +139,16 @@ one_gate_stays_below_fix net v s n h =
     let up : EachBelow (step net v s) (fix_gates net v) =
     rw (fix_is_fixpoint net v) at (step_is_monotone net v v s (fix_gates net v) (EachBelow-refl v) h) in
     EachBelow-set s (fix_gates net v) n (get_or (step net v s) n X) h (EachBelow-at (step net v s) (fix_gates net v) n up)
+
+-- what stands at a gate's place
+pub get_or-step : (net : Parts) (v s : List Trit) (n : ℕ) → n < length net.gates → get_or (step net v s) n X ≡ gate_value (wires v s) (gate_at net n)
+get_or-step net v s n l = get_or-map (gate_value (wires v s)) net.gates n _ X l
+
+pub get_or-fix : (net : Parts) (v : List Trit) (n : ℕ) → n < length net.gates → get_or (fix_gates net v) n X ≡ gate_value (fix net v) (gate_at net n)
+get_or-fix net v n l = ap (λ s. get_or s n X) (sym (fix_is_fixpoint net v)) ∙ get_or-step net v (fix_gates net v) n l
+
+pub length-fix_gates : (net : Parts) (v : List Trit) → length (fix_gates net v) ≡ length net.gates
+length-fix_gates net v = length-steps net v (length net.gates)
+
+pub length-fix : (net : Parts) (v : List Trit) → length v ≡ length net.inputs + length net.latches → length (fix net v) ≡ count net
+length-fix net v w = omega (arith, length-append v (fix_gates net v), length-fix_gates net v)

@@ -6,6 +6,7 @@ use Rattle.std.proofs.lemmas.Bool.{le-leb}
 use Rattle.std.proofs.lemmas.Bool.Decides.{leb_tells}
 use Rattle.std.proofs.lemmas.List.{length-map, get_or-map}
 use Rattle.cyc_base.specs.declared.sig.Sig.{Sig}
+use Rattle.cyc_base.proofs.ListLemmas.{Contains-here}
 use Rattle.components.specs.Graphs.{Edge, Walk as GraphWalk, Reaches}
 use Rattle.components.proofs.WalkLemmas.{Reaches-trans}
 use Rattle.components.specs.Orders.{IsTopologicalOrder, HasCycle, IsAcyclic}
@@ -13,9 +14,6 @@ use Rattle.netlist.specs.declared.parts.Parts.{Parts}
 use Rattle.netlist.specs.Netlists.{signal, gate_at, no_gate}
 use Rattle.netlist.specs.Walks.{Feeds, Walk, IsLoopFree}
 use Rattle.netlist.specs.Orders.{numbers_from, gates_read, gate_graph, IsGateOrder, HasLoop}
-
-Contains-here : {T : Type 0} (x : T) (xs : List T) → Contains (x ∷ xs) x
-Contains-here {T} x xs = (zero, omega arith, refl)
 
 Contains-there : {T : Type 0} (x y : T) (xs : List T) → Contains xs y → Contains (x ∷ xs) y
 Contains-there {T} x y xs (k, l, e) = (suc k, omega arith, e)

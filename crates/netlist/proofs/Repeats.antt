@@ -25,9 +25,6 @@ repeat_after-append eq old (x ∷ xs) ys =
           ∙ ap (λ l. option_or (repeat_after eq (old ++ x ∷ []) xs) (repeat_after eq l ys)) (append_assoc old (x ∷ []) xs)
     ]
 
-pub AddsAll-none : (old : List (List ℕ)) → AddsAll old [] old
-AddsAll-none old = record { last = sym (append-nil old); fresh = refl }
-
 pub AddsAll-append : (old xs mid ys new : List (List ℕ)) → AddsAll old xs mid → AddsAll mid ys new → AddsAll old (xs ++ ys) new
 AddsAll-append old xs mid ys new h k = record {
   last = k.last ∙ ap (λ l. l ++ ys) h.last ∙ append_assoc old xs ys;

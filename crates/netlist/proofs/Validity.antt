@@ -1,9 +1,10 @@
 -- Parts have no fault exactly where they make a netlist.
-use Rattle.std.proofs.Common.{◌≡◌, ◌==◌, ℕ, not, ap, Bool, true, false, Option, Some, None, refl, eqb-true}
+use Rattle.std.proofs.Common.{◌≡◌, ◌==◌, ℕ, not, ap, Bool, true, false, Option, None, refl, eqb-true}
 use Rattle.std.specs.Option.{option_or, option_map}
 use Rattle.std.proofs.lemmas.Bool.{leb-true, le-leb, not-false, eq-eqb}
 use Rattle.std.proofs.lemmas.Cmp.{nat_eq_equiv, nat_list_eq_equiv}
 use Rattle.std.specs.Str.{bytes_eq}
+use Rattle.cyc_base.proofs.ListLemmas.{option_or-neither, option_map-nothing}
 use Rattle.netlist.specs.declared.parts.Parts.{Parts}
 use Rattle.netlist.specs.declared.parts.PartsFault.{PartsFault}
 use Rattle.netlist.specs.Netlists.{signal_names, sig_eq, no_gate, IsNetlist}
@@ -11,27 +12,19 @@ use Rattle.netlist.specs.Faults.{first_fault, unless}
 use Rattle.netlist.proofs.Decisions.{reads_signals_decides, has_blif_names_decides, has_fitting_clock_decides, none_found, found_none}
 use Rattle.netlist.proofs.Differ.{differ_from_no_repeat, no_repeat_from_differ}
 
-neither : {T : Type 0} (x y : Option T) → option_or x y ≡ None → (x ≡ None) × (y ≡ None)
-neither None y e = (refl, e)
-neither (Some x) y e = cc
-
 holds : (b : Bool) (fault : PartsFault) → unless b fault ≡ None → b ≡ true
 holds true fault e = refl
 holds false fault e = cc
 
-nothing : {A B : Type 0} (f : A → B) (r : Option A) → option_map f r ≡ None → r ≡ None
-nothing f None e = refl
-nothing f (Some x) e = cc
-
 pub netlist_without_fault : (net : Parts) → first_fault net ≡ None → IsNetlist net
 netlist_without_fault net e =
-    let many = neither _ _ e in
-    let signals = neither _ _ many.1 in
-    let counts = neither _ _ signals.1 in
-    let names = neither _ _ counts.1 in
-    let twice = neither _ _ names.1 in
-    let outputs = neither _ _ twice.1 in
-    let clock = neither _ _ outputs.1 in
+    let many = option_or-neither _ _ e in
+    let signals = option_or-neither _ _ many.1 in
+    let counts = option_or-neither _ _ signals.1 in
+    let names = option_or-neither _ _ counts.1 in
+    let twice = option_or-neither _ _ names.1 in
+    let outputs = option_or-neither _ _ twice.1 in
+    let clock = option_or-neither _ _ outputs.1 in
     let reads = (reads_signals_decides net).0 (holds _ _ signals.0) in
     let blif = (has_blif_names_decides net).0 (holds _ _ names.0) in
     let fitting = (has_fitting_clock_decides net).0 (holds _ _ clock.0) in
@@ -40,11 +33,11 @@ netlist_without_fault net e =
       pins = reads.0.0;
       sources = reads.0.1;
       outputs = reads.1;
-      pin_counts = λ k d l. eqb-true _ _ (not-false _ (none_found _ net.gates (nothing _ _ counts.0) k d l));
+      pin_counts = λ k d l. eqb-true _ _ (not-false _ (none_found _ net.gates (option_map-nothing _ _ counts.0) k d l));
       name = blif.0;
       names = blif.1;
-      names_differ = differ_from_no_repeat bytes_eq nat_list_eq_equiv.symm (signal_names net) (nothing _ _ twice.0);
-      outputs_differ = differ_from_no_repeat sig_eq (λ a b. nat_eq_equiv.symm a.0 b.0) net.outputs (nothing _ _ outputs.0);
+      names_differ = differ_from_no_repeat bytes_eq nat_list_eq_equiv.symm (signal_names net) (option_map-nothing _ _ twice.0);
+      outputs_differ = differ_from_no_repeat sig_eq (λ a b. nat_eq_equiv.symm a.0 b.0) net.outputs (option_map-nothing _ _ outputs.0);
       clocked = fitting.0;
       clock = fitting.1;
     }

@@ -1,22 +1,12 @@
 -- The first of all vectors that passes a test.
-use Rattle.std.proofs.Common.{◌≡◌, ℕ, zero, suc, Bool, true, false, not, ◌&&◌, ◌||◌, cond, List, [], ◌∷◌, length, map, Option, Some, None, refl, sym, ap, ap₂, subst, ◌∙◌, arith, true≢false}
+use Rattle.std.proofs.Common.{◌≡◌, ℕ, zero, suc, Bool, true, false, not, ◌&&◌, ◌||◌, cond, List, [], ◌∷◌, length, Option, Some, None, refl, sym, ap, subst, ◌∙◌, arith, true≢false}
 use Rattle.std.specs.Prelude.{find, filter, is_none}
 use Rattle.std.specs.List.{list_any}
 use Rattle.std.specs.Option.{option_or, option_map}
-use Rattle.std.proofs.lemmas.List.Folds.{find-append}
 use Rattle.std.proofs.lemmas.Option.{same_Some}
 use Rattle.refusals.specs.Refusals.{is_empty}
 use Rattle.cyc_base.specs.Vectors.{vectors, AtMost}
-
--- a list of mapped items
-pub find-map : {X Y : Type 0} (p : Y → Bool) (f : X → Y) (xs : List X) → find p (map f xs) ≡ option_map f (find (λ x. p (f x)) xs)
-find-map p f [] = refl
-find-map p f (x ∷ xs) = by_test (p (f x)) (find-map p f xs)
-  where
-    by_test : (t : Bool) → find p (map f xs) ≡ option_map f (find (λ y. p (f y)) xs) →
-        cond t (Some (f x)) (find p (map f xs)) ≡ option_map f (cond t (Some x) (find (λ y. p (f y)) xs))
-    by_test true rest = refl
-    by_test false rest = rest
+use Rattle.cyc_base.proofs.VectorLemmas.{find-halves}
 
 -- a list of those that pass another test
 pub find-filter : {X : Type 0} (p q : X → Bool) (xs : List X) → find p (filter q xs) ≡ find (λ x. q x && p x) xs
@@ -52,13 +42,6 @@ found_passes p (y ∷ xs) x is = by_test (found_passes p xs x) (p y) refl is
     by_test rest true here e = subst (λ z. p z ≡ true) (same_Some y x e) here
     by_test rest false here e = rest e
 
--- both halves of the vectors, by their first column
-halves : (n : ℕ) (p : List Bool → Bool) →
-    find p (vectors (suc n)) ≡ option_or (option_map (λ v. false ∷ v) (find (λ v. p (false ∷ v)) (vectors n))) (option_map (λ v. true ∷ v) (find (λ v. p (true ∷ v)) (vectors n)))
-halves n p =
-    find-append p (map (λ v. false ∷ v) (vectors n)) (map (λ v. true ∷ v) (vectors n))
-    ∙ ap₂ option_or (find-map p (λ v. false ∷ v) (vectors n)) (find-map p (λ v. true ∷ v) (vectors n))
-
 -- what a part of a vector finds
 data Halves (n : ℕ) (p : List Bool → Bool) (v : List Bool) : Type 0 where
   Low : (u : List Bool) → v ≡ false ∷ u → find (λ w. p (false ∷ w)) (vectors n) ≡ Some u → Halves n p v
@@ -66,7 +49,7 @@ data Halves (n : ℕ) (p : List Bool → Bool) (v : List Bool) : Type 0 where
 
 in_half : (n : ℕ) (p : List Bool → Bool) (v : List Bool) → find p (vectors (suc n)) ≡ Some v → Halves n p v
 in_half n p v is =
-    by_low (find (λ w. p (false ∷ w)) (vectors n)) refl (find (λ w. p (true ∷ w)) (vectors n)) refl (sym (halves n p) ∙ is)
+    by_low (find (λ w. p (false ∷ w)) (vectors n)) refl (find (λ w. p (true ∷ w)) (vectors n)) refl (sym (find-halves n p) ∙ is)
   where
     by_low : (low : Option (List Bool)) → find (λ w. p (false ∷ w)) (vectors n) ≡ low → (high : Option (List Bool)) → find (λ w. p (true ∷ w)) (vectors n) ≡ high →
         option_or (option_map (λ u. false ∷ u) low) (option_map (λ u. true ∷ u) high) ≡ Some v → Halves n p v
@@ -79,7 +62,7 @@ data NoHalf (n : ℕ) (p : List Bool → Bool) : Type 0 where
 
 in_no_half : (n : ℕ) (p : List Bool → Bool) → find p (vectors (suc n)) ≡ None → NoHalf n p
 in_no_half n p is =
-    by_low (find (λ w. p (false ∷ w)) (vectors n)) refl (find (λ w. p (true ∷ w)) (vectors n)) refl (sym (halves n p) ∙ is)
+    by_low (find (λ w. p (false ∷ w)) (vectors n)) refl (find (λ w. p (true ∷ w)) (vectors n)) refl (sym (find-halves n p) ∙ is)
   where
     by_low : (low : Option (List Bool)) → find (λ w. p (false ∷ w)) (vectors n) ≡ low → (high : Option (List Bool)) → find (λ w. p (true ∷ w)) (vectors n) ≡ high →
         option_or (option_map (λ u. false ∷ u) low) (option_map (λ u. true ∷ u) high) ≡ None → NoHalf n p
@@ -103,15 +86,6 @@ none_passes (suc n) p (b ∷ w) is wide =
         (b : Bool) → NoHalf n p → p (b ∷ w) ≡ false
     by_bit lower higher false (Neither low high) = lower low
     by_bit lower higher true (Neither low high) = higher high
-
--- and the converse
-pub nothing_passes : (n : ℕ) (p : List Bool → Bool) → ((w : List Bool) → length w ≡ n → p w ≡ false) → find p (vectors n) ≡ None
-nothing_passes zero p fails = ap (λ t. let nothing : Option (List Bool) = None in cond t (Some []) nothing) (fails [] refl)
-nothing_passes (suc n) p fails =
-    halves n p
-    ∙ ap₂ (λ low high. option_or (option_map (λ (u : List Bool). false ∷ u) low) (option_map (λ (u : List Bool). true ∷ u) high))
-    (nothing_passes n (λ u. p (false ∷ u)) (λ w wide. fails (false ∷ w) (ap suc wide)))
-    (nothing_passes n (λ u. p (true ∷ u)) (λ w wide. fails (true ∷ w) (ap suc wide)))
 
 -- what is found has the width
 pub found_wide : (n : ℕ) (p : List Bool → Bool) (v : List Bool) → find p (vectors n) ≡ Some v → length v ≡ n

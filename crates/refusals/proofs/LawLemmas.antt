@@ -3,7 +3,7 @@ use Rattle.std.proofs.Common.{◌≡◌, ◌≢◌, inl, inr, ℕ, zero, suc, �
 use Rattle.std.specs.Prelude.{find, filter, is_none, if◌then◌else◌}
 use Rattle.std.specs.List.{list_any}
 use Rattle.std.specs.Option.{option_or, option_map, option_map_or}
-use Rattle.std.proofs.lemmas.Bool.{cases_lt}
+use Rattle.std.proofs.lemmas.Bool.{cases_lt, and_parts, not-true, not-false}
 use Rattle.std.proofs.lemmas.List.{get_or_default}
 use Rattle.cyc_base.specs.declared.sig.Sig.{Sig}
 use Rattle.cyc_base.specs.declared.trit.Trit.TheVariants.{X}
@@ -19,10 +19,12 @@ use Rattle.refusals.specs.Acceptance.{Accepts, gate_sigs, observed, AreDetermine
 use Rattle.refusals.specs.Laws.{AcceptedWithoutRefusal, RefusalIsShown, InitialIsLeast, UndeterminedIsLeast, EarlierGatesAreDetermined, LeavesIsLeast, WithoutCareGatesAlone, UndeterminedIsObserved}
 use Rattle.refusals.specs.Refusals.{is_initial, initial_states, care_vectors, is_empty, is_undetermined, is_among, observed_gates, first_failing, next_state, leaves, undetermined_refusal, refusal, IsRefusalOf, Proves}
 use Rattle.cyc_base.specs.Vectors.{vectors, AtMost}
-use Rattle.refusals.proofs.FirstLemmas.{find-filter, empty-filter, any-find, found_passes, none_passes, nothing_passes, found_wide, found_least}
-use Rattle.refusals.proofs.ShowingLemmas.{is_initial_decides, initial_state_is, length-initial_state, care_vector_decides, care_vector_is}
+use Rattle.cyc_base.proofs.ListLemmas.{option_or-None, option_or-neither, option_map-nothing}
+use Rattle.cyc_base.proofs.VectorLemmas.{find-none}
+use Rattle.refusals.proofs.FirstLemmas.{find-filter, empty-filter, any-find, found_passes, none_passes, found_wide, found_least}
+use Rattle.refusals.proofs.ShowingLemmas.{is_initial_decides, initial_state_is, length-initial_state, care_vector_decides, care_vector_is, is_x_decides}
 use Rattle.refusals.proofs.ObservedLemmas.{member, among, observed_within, source_among}
-use Rattle.refusals.proofs.RefusalLemmas.{both, not_true, not_false, second_fails, fails_after, is_x_decides, known-is_x, is_x-known, column_known, SourcesAreKnown, next_state_is, bits_back, length-next_state, first_at, none_first, no_first, all-find_none, length-gate_sigs, gate_sig_at, FoundGate, found_gate, neither, nothing_mapped, RefusedAt, AtInitial, AtEmpty, AtUndetermined, AtLeaves, refused_at}
+use Rattle.refusals.proofs.RefusalLemmas.{second_fails, fails_after, known-is_x, is_x-known, column_known, SourcesAreKnown, next_state_is, bits_back, length-next_state, first_at, none_first, no_first, all-find_none, length-gate_sigs, gate_sig_at, FoundGate, found_gate, RefusedAt, AtInitial, AtEmpty, AtUndetermined, AtLeaves, refused_at}
 
 -- a test of the care vectors, as one of all vectors
 pub care_test : (net : Parts) (care : CareSet) (p : List Bool → Bool) → find p (care_vectors net care) ≡ find (λ v. is_care_vector net care v && p v) (vectors (columns net))
@@ -41,7 +43,7 @@ found_care : (net : Parts) (care : CareSet) (p : List Bool → Bool) (v : List B
 found_care net care p v is =
     let found : find (λ w. is_care_vector net care w && p w) (vectors (columns net)) ≡ Some v = sym (care_test net care p) ∙ is in
     let wide : length v ≡ columns net = found_wide (columns net) (λ w. is_care_vector net care w && p w) v found in
-    let passed = both (is_care_vector net care v) (p v) (found_passes (λ w. is_care_vector net care w && p w) (vectors (columns net)) v found) in
+    let passed = and_parts (is_care_vector net care v) (p v) (found_passes (λ w. is_care_vector net care w && p w) (vectors (columns net)) v found) in
     record {
       counts = care_vector_decides net care v wide passed.0;
       passes = passed.1;
@@ -60,7 +62,7 @@ none_care net care p w is counts =
 no_care : (net : Parts) (care : CareSet) (p : List Bool → Bool) → ((w : List Bool) → IsCareVector net care w → p w ≡ false) → find p (care_vectors net care) ≡ None
 no_care net care p fails =
     care_test net care p
-    ∙ nothing_passes (columns net) (λ x. is_care_vector net care x && p x)
+    ∙ find-none (columns net) (λ x. is_care_vector net care x && p x)
     (λ w wide. fails_after (is_care_vector net care w) (p w) (λ counts. fails w (care_vector_decides net care w wide counts)))
 
 record FoundInitial (net : Parts) (p : List Bool → Bool) (q : List Bool) : Type 0 where
@@ -73,7 +75,7 @@ found_initial : (net : Parts) (p : List Bool → Bool) (q : List Bool) → find 
 found_initial net p q is =
     let found : find (λ w. is_initial net w && p w) (vectors (length net.latches)) ≡ Some q = sym (initial_test net p) ∙ is in
     let wide : length q ≡ length net.latches = found_wide (length net.latches) (λ w. is_initial net w && p w) q found in
-    let passed = both (is_initial net q) (p q) (found_passes (λ w. is_initial net w && p w) (vectors (length net.latches)) q found) in
+    let passed = and_parts (is_initial net q) (p q) (found_passes (λ w. is_initial net w && p w) (vectors (length net.latches)) q found) in
     record {
       width = wide;
       permitted = is_initial_decides net q wide passed.0;
@@ -92,7 +94,7 @@ none_initial net p w is permitted =
 no_initial : (net : Parts) (p : List Bool → Bool) → ((w : List Bool) → IsInitialState net w → p w ≡ false) → find p (initial_states net) ≡ None
 no_initial net p fails =
     initial_test net p
-    ∙ nothing_passes (length net.latches) (λ x. is_initial net x && p x)
+    ∙ find-none (length net.latches) (λ x. is_initial net x && p x)
     (λ w wide. fails_after (is_initial net w) (p w) (λ may. fails w (is_initial_decides net w wide may)))
 
 -- whether a gate is unknown at some vector that counts
@@ -120,7 +122,7 @@ signal_determined net care what v s none counts inside seen = elim (cases_lt s.0
       let less : k < length net.gates = omega (arith, gate, inside) in
       let at : get_or (gate_sigs net) k s ≡ s = gate_sig_at net k s less ∙ ap signal (let e : columns net + k ≡ s.0 = omega (arith, gate) in e) in
       let nowhere : find (λ t. is_among (observed net what) t && is_loose net care t) (gate_sigs net) ≡ None =
-      sym (observed_test net what (is_loose net care)) ∙ none_first (is_undetermined net) (observed_gates net what) (care_vectors net care) (nothing_mapped (λ (u : Sig × List Bool). Undetermined u.1 u.0) _ none) in
+      sym (observed_test net what (is_loose net care)) ∙ none_first (is_undetermined net) (observed_gates net what) (care_vectors net care) (option_map-nothing (λ (u : Sig × List Bool). Undetermined u.1 u.0) _ none) in
       let this : (is_among (observed net what) s && is_loose net care s) ≡ false =
       sym (ap (λ t. is_among (observed net what) t && is_loose net care t) at)
       ∙ all-find_none (λ t. is_among (observed net what) t && is_loose net care t) (gate_sigs net) k s nowhere (omega (arith, length-gate_sigs net, less)) in
@@ -156,13 +158,13 @@ there (Some t) e = (t, refl)
 
 accepts_without : (net : Parts) (care : CareSet) (what : Observe) → IsNetlist net → refusal net care what ≡ None → Accepts net care what
 accepts_without net care what valid none =
-    let first = neither _ _ none in
-    let second = neither _ _ first.1 in
-    let third = neither _ _ second.1 in
-    let fourth = neither _ _ third.1 in
+    let first = option_or-neither _ _ none in
+    let second = option_or-neither _ _ first.1 in
+    let third = option_or-neither _ _ second.1 in
+    let fourth = option_or-neither _ _ third.1 in
     let some = there (find (is_care_vector net care) (vectors (columns net))) (sym (empty-filter (is_care_vector net care) (vectors (columns net))) ∙ not_empty (is_empty (care_vectors net care)) second.0) in
     record {
-      initial = λ q permitted. not_false (is_in_invariant care q) (none_initial net (λ w. not (is_in_invariant care w)) q (nothing_mapped Initial _ first.0) permitted);
+      initial = λ q permitted. not-false (is_in_invariant care q) (none_initial net (λ w. not (is_in_invariant care w)) q (option_map-nothing Initial _ first.0) permitted);
       possible = record {
         vector = some.0;
         counts =
@@ -173,7 +175,7 @@ accepts_without net care what valid none =
       closed = λ v counts. record {
         state = next_state net v;
         is = next_state_is net v (sources_determined net care what v valid third.0 counts);
-        inside = not_false (is_in_invariant care (next_state net v)) (none_care net care (leaves net care) v (nothing_mapped (λ w. Leaves w (next_state net w)) _ fourth.0) counts);
+        inside = not-false (is_in_invariant care (next_state net v)) (none_care net care (leaves net care) v (option_map-nothing (λ w. Leaves w (next_state net w)) _ fourth.0) counts);
       };
     }
 
@@ -234,7 +236,7 @@ refusal_is_shown net care what r valid is = by_part (refused_at net care what r 
     by_part : RefusedAt net care what r → Shown net care r
     by_part (AtInitial q r_is found) =
         let h = found_initial net (λ w. not (is_in_invariant care w)) q found in
-        subst (Shown net care) (sym r_is) (h.width, λ _. record { permitted = h.permitted; outside = not_true (is_in_invariant care q) h.passes })
+        subst (Shown net care) (sym r_is) (h.width, λ _. record { permitted = h.permitted; outside = not-true (is_in_invariant care q) h.passes })
     by_part (AtEmpty r_is) = subst (Shown net care) (sym r_is) (tt, λ other. absurd (other refl))
     by_part (AtUndetermined v s r_is found) =
         let at = first_at (is_undetermined net) (observed_gates net what) (care_vectors net care) s v found in
@@ -249,7 +251,7 @@ refusal_is_shown net care what r valid is = by_part (refused_at net care what r 
           λ _. record {
             counts = h.counts;
             is = next_state_is net v (sources_determined net care what v valid none h.counts);
-            outside = not_true (is_in_invariant care (next_state net v)) h.passes;
+            outside = not-true (is_in_invariant care (next_state net v)) h.passes;
           },
         )
 
@@ -303,7 +305,7 @@ undetermined_is_observed net care what v s is = by_part (refused_at net care wha
         let same_s : x ≡ s = cc in
         let at = first_at (is_undetermined net) (observed_gates net what) (care_vectors net care) x u found in
         let gate = found_observed net care what x at.first in
-        subst (λ (y : Sig). Contains (observed net what) y) same_s (member x (observed net what) (both (is_among (observed net what) x) (is_loose net care x) gate.passes).0)
+        subst (λ (y : Sig). Contains (observed net what) y) same_s (member x (observed net what) (and_parts (is_among (observed net what) x) (is_loose net care x) gate.passes).0)
     by_part (AtLeaves u r_is none found) = cc
 
 pub leaves_is_least : LeavesIsLeast
@@ -331,10 +333,6 @@ vectors_there (suc n) = first_half (vectors n) (vectors_there n)
     first_half [] e = cc
     first_half (v ∷ vs) e = refl
 
-option_or_nothing : {T : Type 0} (o : Option T) → option_or o None ≡ o
-option_or_nothing None = refl
-option_or_nothing (Some x) = refl
-
 pub without_care_gates_alone : WithoutCareGatesAlone
 without_care_gates_alone net care what no_assume no_invariant =
     let inside : (q : List Bool) → is_in_invariant care q ≡ true = λ q. ap (λ o. option_map_or (λ m. holds_at m q) o true) no_invariant in
@@ -348,4 +346,4 @@ without_care_gates_alone net care what no_assume no_invariant =
     (ap₂ option_or (ap (λ t. let nothing : Option Refusal = None in if t then Some EmptyCare else nothing) some)
     (ap₂ option_or (ap (λ vs. option_map (λ (u : Sig × List Bool). Undetermined u.1 u.0) (first_failing (is_undetermined net) (observed_gates net what) vs)) every)
     (ap (λ o. option_or (option_map (λ v. Leaves v (next_state net v)) o) None) fourth)))
-    ∙ option_or_nothing (option_map (λ (u : Sig × List Bool). Undetermined u.1 u.0) (first_failing (is_undetermined net) (observed_gates net what) (vectors (columns net))))
+    ∙ option_or-None (option_map (λ (u : Sig × List Bool). Undetermined u.1 u.0) (first_failing (is_undetermined net) (observed_gates net what) (vectors (columns net))))

@@ -2,7 +2,7 @@
 use Rattle.std.proofs.Common.{◌≡◌, inl, inr, ℕ, zero, suc, ◌+◌, ◌-◌, ◌<◌, ◌≤◌, Bool, true, false, cond, List, [], ◌∷◌, length, map, get_or, refl, sym, ap, ap₂, ◌∙◌, arith, true≢false, Contains}
 use Rattle.std.specs.Prelude.{filter}
 use Rattle.std.specs.List.{All, list_any}
-use Rattle.std.proofs.lemmas.Bool.{cases_lt, eqb-true, eq-eqb, or_cases, or_left, or_right}
+use Rattle.std.proofs.lemmas.Bool.{cases_lt, eq-eqb, or_cases, or_left, or_right}
 use Rattle.std.proofs.lemmas.List.{length-append, length-map, get_or_append_left, get_or-append_right, get_or-map, get_or_default}
 use Rattle.cyc_base.specs.declared.sig.Sig.{Sig}
 use Rattle.cyc_base.specs.declared.trit.Trit.TheVariants.{X}
@@ -12,23 +12,22 @@ use Rattle.netlist.specs.declared.parts.Init.TheVariants as inits
 use Rattle.netlist.specs.declared.parts.Parts.{Parts}
 use Rattle.netlist.specs.Netlists.{count, signal, gate_sig, sig_eq, IsNetlist}
 use Rattle.netlist.specs.Fixpoint.{wire, fix, fix_gates}
+use Rattle.netlist.proofs.NameLemmas.{sig_eq-true}
+use Rattle.netlist.proofs.FixpointLemmas.{length-fix_gates}
 use Rattle.care_sets.specs.Care.{columns}
 use Rattle.refusals.specs.declared.observe.Observe.{Observe}
 use Rattle.refusals.specs.declared.observe.Observe.TheVariants as observe
 use Rattle.refusals.specs.Acceptance.{gate_sigs, observed}
 use Rattle.refusals.specs.Laws.{AllObservesGates, AllDeterminesGates, AllIsMore}
 use Rattle.refusals.specs.Refusals.{is_among}
-use Rattle.refusals.proofs.RefusalLemmas.{length-fix_gates, gate_wire, wire_known, length-gate_sigs, gate_sig_at}
+use Rattle.refusals.proofs.RefusalLemmas.{gate_wire, wire_known, length-gate_sigs, gate_sig_at}
 
 -- ---- signals of a list
-
-sig_is : (s t : Sig) → sig_eq s t ≡ true → s ≡ t
-sig_is s t e = ap (λ (n : ℕ). let r : Sig = record { 0 = n } in r) (eqb-true s.0 t.0 e)
 
 pub member : (s : Sig) (xs : List Sig) → is_among xs s ≡ true → Contains xs s
 member s [] e = absurd (true≢false (sym e))
 member s (x ∷ xs) e = elim (or_cases (sig_eq s x) (list_any (sig_eq s) xs) e) [
-  | inl here ↦ (zero, omega arith, sym (sig_is s x here))
+  | inl here ↦ (zero, omega arith, sym (sig_eq-true s x here))
   | inr later ↦ let c = member s xs later in let l = c.1 in (suc c.0, omega arith, c.2)
 ]
 

@@ -1,9 +1,9 @@
 -- The refusal of a netlist, part by part.
-use Rattle.std.proofs.Common.{◌≡◌, ◌≢◌, ◌⊎◌, inl, inr, ℕ, zero, suc, ◌+◌, ◌-◌, ◌<◌, ◌≤◌, Bool, true, false, not, ◌&&◌, cond, List, [], ◌∷◌, length, map, get_or, slice_get, Option, Some, None, refl, sym, ap, ap₂, ◌∙◌, arith, true≢false}
+use Rattle.std.proofs.Common.{◌≡◌, ◌≢◌, inl, inr, ℕ, zero, suc, ◌+◌, ◌-◌, ◌<◌, ◌≤◌, Bool, true, false, not, ◌&&◌, cond, List, [], ◌∷◌, length, map, get_or, slice_get, Option, Some, None, refl, sym, ap, ap₂, ◌∙◌, arith, true≢false}
 use Rattle.std.specs.Prelude.{find, is_none, if◌then◌else◌}
 use Rattle.std.specs.List.{All, list_any, range_with_len, position_or_len}
-use Rattle.std.specs.Option.{option_or, option_map, option_and_then}
-use Rattle.std.proofs.lemmas.Bool.{cases_lt}
+use Rattle.std.specs.Option.{option_map, option_and_then}
+use Rattle.std.proofs.lemmas.Bool.{cases_lt, and_parts}
 use Rattle.std.proofs.lemmas.List.{get_or-map, get_or-append-add, get_or_append_left, length-map}
 use Rattle.std.proofs.lemmas.List.Folds.{find_at}
 use Rattle.std.proofs.lemmas.List.FromFn.{get_or-map-range_with_len, length-range_with_len}
@@ -13,11 +13,13 @@ use Rattle.cyc_base.specs.declared.sig.Sig.{Sig}
 use Rattle.cyc_base.specs.declared.trit.Trit.{Trit}
 use Rattle.cyc_base.specs.declared.trit.Trit.TheVariants.{Zero, One, X}
 use Rattle.cyc_base.specs.Values.{bit, bits}
+use Rattle.cyc_base.proofs.OrderLemmas.{bit-known}
+use Rattle.cyc_base.proofs.ListLemmas.{option_or-cases}
 use Rattle.netlist.specs.declared.parts.Latch.{Latch}
 use Rattle.netlist.specs.declared.parts.Parts.{Parts}
-use Rattle.netlist.specs.Netlists.{count, signal, gate_sig, IsNetlist}
+use Rattle.netlist.specs.Netlists.{count, signal, gate_sig}
 use Rattle.netlist.specs.Fixpoint.{wire, fix, fix_gates, next}
-use Rattle.netlist.proofs.FixpointLemmas.{length-steps}
+use Rattle.netlist.proofs.FixpointLemmas.{length-fix_gates}
 use Rattle.care_sets.specs.Care.{CareSet, columns, is_one, is_in_invariant}
 use Rattle.refusals.specs.declared.refusal.Refusal.{Refusal}
 use Rattle.refusals.specs.declared.refusal.Refusal.TheVariants.{Initial, EmptyCare, Undetermined, Leaves}
@@ -26,19 +28,7 @@ use Rattle.refusals.specs.Acceptance.{gate_sigs}
 use Rattle.refusals.specs.Refusals.{initial_states, care_vectors, is_empty, is_x, is_undetermined, observed_gates, first_failing, next_state, leaves, undetermined_refusal, refusal, IsGate}
 use Rattle.refusals.proofs.FirstLemmas.{any-find, found_passes}
 
-pub both : (a b : Bool) → (a && b) ≡ true → (a ≡ true) × (b ≡ true)
-both true b e = (refl, e)
-both false b e = cc
-
-pub not_true : (b : Bool) → not b ≡ true → b ≡ false
-not_true true e = cc
-not_true false e = refl
-
-pub not_false : (b : Bool) → not b ≡ false → b ≡ true
-not_false true e = refl
-not_false false e = cc
-
--- where the first test passes and both don't, the second fails
+-- where the first test passes and and_parts don't, the second fails
 pub second_fails : (a b : Bool) → (a && b) ≡ false → a ≡ true → b ≡ false
 second_fails true b e h = e
 second_fails false b e h = cc
@@ -49,9 +39,6 @@ fails_after false b h = refl
 
 -- Wires.
 
-pub length-fix_gates : (net : Parts) (v : List Trit) → length (fix_gates net v) ≡ length net.gates
-length-fix_gates net v = length-steps net v (length net.gates)
-
 pub length-bits : (v : List Bool) → length (bits v) ≡ length v
 length-bits v = length-map v bit
 
@@ -59,11 +46,6 @@ pub gate_wire : (net : Parts) (v : List Bool) (k : ℕ) → length v ≡ columns
 gate_wire net v k wide =
     let long : length net.inputs + length net.latches ≡ length (bits v) = omega (arith, length-bits v) in
     ap (λ n. get_or (fix net (bits v)) (n + k) X) long ∙ get_or-append-add (bits v) (fix_gates net (bits v)) k X
-
-pub is_x_decides : (t : Trit) → is_x t ≡ true → t ≡ X
-is_x_decides X e = refl
-is_x_decides Zero e = cc
-is_x_decides One e = cc
 
 pub known-is_x : (t : Trit) → t ≢ X → is_x t ≡ false
 known-is_x X h = absurd (h refl)
@@ -74,10 +56,6 @@ pub is_x-known : (t : Trit) → is_x t ≡ false → t ≢ X
 is_x-known X e = cc
 is_x-known Zero e = λ h. cc
 is_x-known One e = λ h. cc
-
-pub bit_known : (b : Bool) → bit b ≢ X
-bit_known false = λ h. cc
-bit_known true = λ h. cc
 
 pub known_bit_is : (t : Trit) → t ≢ X → bit (is_one t) ≡ t
 known_bit_is X h = absurd (h refl)
@@ -94,7 +72,7 @@ column_known net v s wide column =
     let long : s.0 < length (bits v) = omega (arith, length-bits v) in
     let is : wire (fix net (bits v)) s ≡ bit (get_or v s.0 false) =
     get_or_append_left (bits v) (fix_gates net (bits v)) X s.0 long ∙ get_or-map bit v s.0 false X (omega arith) in
-    λ x. bit_known (get_or v s.0 false) (sym is ∙ x)
+    λ x. bit-known (get_or v s.0 false) (sym is ∙ x)
 
 -- where no gate is unknown, no signal is
 pub wire_known : (net : Parts) (v : List Bool) (s : Sig) → length v ≡ columns net → All (λ value. value ≢ X) (fix_gates net (bits v)) → s.0 < count net →
@@ -118,10 +96,6 @@ each_known values (l ∷ latches) h =
 -- what the latches load is known
 abbrev pub SourcesAreKnown : Parts → List Bool → Type 0
 SourcesAreKnown net v = All (λ (l : Latch). wire (fix net (bits v)) l.from ≢ X) net.latches
-
--- it is where no gate is unknown
-pub sources_known : (net : Parts) (v : List Bool) → IsNetlist net → length v ≡ columns net → All (λ value. value ≢ X) (fix_gates net (bits v)) → SourcesAreKnown net v
-sources_known net v valid wide known k d inside = wire_known net v (get_or net.latches k d).from wide known (valid.sources k d inside)
 
 -- so the next state is known
 pub next_state_is : (net : Parts) (v : List Bool) → SourcesAreKnown net v → next net (bits v) ≡ bits (next_state net v)
@@ -227,18 +201,6 @@ found_gate net p s is =
 
 -- The parts of a refusal.
 
-pub option_first : {T : Type 0} (x y : Option T) (r : T) → option_or x y ≡ Some r → (x ≡ Some r) ⊎ ((x ≡ None) × (y ≡ Some r))
-option_first None y r e = inr (refl, e)
-option_first (Some x) y r e = inl e
-
-pub neither : {T : Type 0} (x y : Option T) → option_or x y ≡ None → (x ≡ None) × (y ≡ None)
-neither None y e = (refl, e)
-neither (Some x) y e = cc
-
-pub nothing_mapped : {A B : Type 0} (f : A → B) (o : Option A) → option_map f o ≡ None → o ≡ None
-nothing_mapped f None e = refl
-nothing_mapped f (Some x) e = cc
-
 pub record Mapped {A B : Type 0} (f : A → B) (o : Option A) (r : B) : Type 0 where
   pub value : A
   pub there : o ≡ Some value
@@ -261,17 +223,17 @@ empty_case false r e = cc
 
 pub refused_at : (net : Parts) (care : CareSet) (what : Observe) (r : Refusal) → refusal net care what ≡ Some r → RefusedAt net care what r
 refused_at net care what r is =
-    elim (option_first _ _ r is) [
+    elim (option_or-cases _ _ r is) [
       | inl first ↦ let m = mapped Initial _ r first in AtInitial m.value m.is m.there
       | inr after ↦
-          elim (option_first _ _ r after.1) [
+          elim (option_or-cases _ _ r after.1) [
             | inl second ↦ AtEmpty (empty_case (is_empty (care_vectors net care)) r second)
             | inr later ↦
-                elim (option_first _ _ r later.1) [
+                elim (option_or-cases _ _ r later.1) [
                   | inl third ↦
                       let m = mapped (λ (u : Sig × List Bool). Undetermined u.1 u.0) _ r third in AtUndetermined m.value.1 m.value.0 m.is m.there
                   | inr last ↦
-                      elim (option_first _ _ r last.1) [
+                      elim (option_or-cases _ _ r last.1) [
                         | inl fourth ↦
                             let m = mapped (λ v. Leaves v (next_state net v)) _ r fourth in AtLeaves m.value m.is last.0 m.there
                         | inr none ↦ cc

@@ -4,6 +4,7 @@ use Rattle.std.specs.Prelude.{IsTrue, ◌↔◌}
 use Rattle.std.specs.List.{list_all, AllZip}
 use Rattle.std.proofs.lemmas.List.{drop_more, drop_all}
 use Rattle.std.proofs.lemmas.Option.{get_or_from_slice_get, slice_get_within}
+use Rattle.std.proofs.lemmas.Bool.{and_parts, not-true}
 use Rattle.cyc_base.specs.declared.trit.Trit.{Trit}
 use Rattle.cyc_base.specs.declared.trit.Trit.TheVariants.{Zero, One, X}
 use Rattle.cyc_base.specs.Values.{bit, bits}
@@ -40,10 +41,6 @@ one_may latches q n latch d found inside holds =
 pub none_left : (latches : List Latch) (q : List Bool) (n : ℕ) → length latches ≤ n → all_may_start (drop n latches) (drop n q) ≡ true
 none_left latches q n end = ap (λ (l : List Latch). all_may_start l (drop n q)) (drop_all n latches end)
 
-both : (a b : Bool) → (a && b) ≡ true → (a ≡ true) × (b ≡ true)
-both true b e = (refl, e)
-both false b e = cc
-
 is_value_decides : (t : Trit) (b : Bool) → is_value t b ≡ true → t ≡ bit b
 is_value_decides Zero false e = refl
 is_value_decides Zero true e = cc
@@ -60,7 +57,7 @@ each_is_value [] [] long e = refl
 each_is_value [] (b ∷ q) long e = absurd (omega arith)
 each_is_value (t ∷ ts) [] long e = absurd (omega arith)
 each_is_value (t ∷ ts) (b ∷ q) long e =
-    let split = both (is_value t b) (list_all (λ p. is_value p.0 p.1) (zip ts q)) e in
+    let split = and_parts (is_value t b) (list_all (λ p. is_value p.0 p.1) (zip ts q)) e in
     ap₂ (λ x xs. x ∷ xs) (is_value_decides t b split.0) (each_is_value ts q (omega arith) split.1)
 
 bits_are_values : (q : List Bool) → list_all (λ p. is_value p.0 p.1) (zip (bits q) q) ≡ true
@@ -78,7 +75,7 @@ initial_decides [] [] long e = tt
 initial_decides [] (b ∷ q) long e = absurd (omega arith)
 initial_decides (latch ∷ latches) [] long e = absurd (omega arith)
 initial_decides (latch ∷ latches) (b ∷ q) long e =
-    let split = both (may_start latch.init b) (all_may_start latches q) e in (permitted latch.init b split.0, initial_decides latches q (omega arith) split.1)
+    let split = and_parts (may_start latch.init b) (all_may_start latches q) e in (permitted latch.init b split.0, initial_decides latches q (omega arith) split.1)
   where
     permitted : (init : Init) (b : Bool) → may_start init b ≡ true → Permits init b
     permitted inits.Zero false e = refl
@@ -113,16 +110,12 @@ initial_state_is net q h = initial_is net.latches q h
 pub length-initial_state : (net : Parts) (q : List Bool) → IsInitialState net q → length q ≡ length net.latches
 length-initial_state net q h = initial_length net.latches q h
 
-not_true : (b : Bool) → not b ≡ true → b ≡ false
-not_true true e = cc
-not_true false e = refl
-
 pub outside_decides : (net : Parts) (care : CareSet) (q : List Bool) (r : Bool) → length q ≡ length net.latches →
     r ≡ (is_initial net q && not (is_in_invariant care q)) → IsTrue r ↔ IsOutside net care q
 outside_decides net care q r long is = (
-  λ h. let split = both (is_initial net q) (not (is_in_invariant care q)) (sym is ∙ h) in record {
+  λ h. let split = and_parts (is_initial net q) (not (is_in_invariant care q)) (sym is ∙ h) in record {
     permitted = is_initial_decides net q long split.0;
-    outside = not_true (is_in_invariant care q) split.1;
+    outside = not-true (is_in_invariant care q) split.1;
   },
   λ h. is ∙ ap₂ (λ s t. s && not t) (initial_state_is net q h.permitted) h.outside,
 )
@@ -130,13 +123,13 @@ outside_decides net care q r long is = (
 -- the test of a vector decides whether it counts
 pub care_vector_decides : (net : Parts) (care : CareSet) (v : List Bool) → length v ≡ columns net → is_care_vector net care v ≡ true → IsCareVector net care v
 care_vector_decides net care v wide e =
-    let split = both (is_in_invariant care (state_of net v)) (is_allowed care v) e in
+    let split = and_parts (is_in_invariant care (state_of net v)) (is_allowed care v) e in
     record { width = wide; state = split.0; allowed = split.1 }
 
 pub care_vector_is : (net : Parts) (care : CareSet) (v : List Bool) → IsCareVector net care v → is_care_vector net care v ≡ true
 care_vector_is net care v h = ap₂ (λ s t. s && t) h.state h.allowed
 
-is_x_decides : (t : Trit) → is_x t ≡ true → t ≡ X
+pub is_x_decides : (t : Trit) → is_x t ≡ true → t ≡ X
 is_x_decides X e = refl
 is_x_decides Zero e = cc
 is_x_decides One e = cc
@@ -144,7 +137,7 @@ is_x_decides One e = cc
 pub unknown_decides : (net : Parts) (care : CareSet) (v : List Bool) (s : Sig) (r : Bool) → length v ≡ columns net →
     r ≡ (is_care_vector net care v && is_undetermined net s v) → IsTrue r ↔ IsUnknownAt net care v s
 unknown_decides net care v s r wide is = (
-  λ h. let split = both (is_care_vector net care v) (is_undetermined net s v) (sym is ∙ h) in record {
+  λ h. let split = and_parts (is_care_vector net care v) (is_undetermined net s v) (sym is ∙ h) in record {
     counts = care_vector_decides net care v wide split.0;
     unknown = is_x_decides (wire (fix net (bits v)) s) split.1;
   },
@@ -155,11 +148,11 @@ unknown_decides net care v s r wide is = (
 pub leaves_decides : (net : Parts) (care : CareSet) (v q : List Bool) (counts leads r : Bool) → length v ≡ columns net → counts ≡ is_care_vector net care v →
     IsTrue leads ↔ (next net (bits v) ≡ bits q) → r ≡ (counts && (leads && not (is_in_invariant care q))) → IsTrue r ↔ LeavesTo net care v q
 leaves_decides net care v q counts leads r wide counts_is leads_is is = (
-  λ h. let first = both counts (leads && not (is_in_invariant care q)) (sym is ∙ h) in
-      let second = both leads (not (is_in_invariant care q)) first.1 in record {
+  λ h. let first = and_parts counts (leads && not (is_in_invariant care q)) (sym is ∙ h) in
+      let second = and_parts leads (not (is_in_invariant care q)) first.1 in record {
         counts = care_vector_decides net care v wide (sym counts_is ∙ first.0);
         is = leads_is.0 second.0;
-        outside = not_true (is_in_invariant care q) second.1;
+        outside = not-true (is_in_invariant care q) second.1;
       },
   λ h. let leads_there : leads ≡ true = leads_is.1 h.is in
       is ∙ ap₂ (λ s t. s && (leads && not t)) (counts_is ∙ care_vector_is net care v h.counts) h.outside ∙ ap (λ t. t && true) leads_there,

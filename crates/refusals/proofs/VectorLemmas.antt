@@ -1,14 +1,12 @@
 -- All vectors of a width are listed, once and in order.
-use Rattle.std.proofs.Common.{◌≡◌, inl, inr, ℕ, zero, suc, ◌+◌, ◌-◌, ◌<◌, ◌≤◌, Bool, true, false, List, [], ◌∷◌, length, map, get_or, refl, sym, ap, subst, ◌∙◌, arith}
+use Rattle.std.proofs.Common.{◌≡◌, inl, inr, ℕ, zero, suc, ◌+◌, ◌-◌, ◌<◌, ◌≤◌, Bool, true, false, List, [], ◌∷◌, length, map, get_or, sym, ap, subst, ◌∙◌, arith}
 use Rattle.std.specs.List.{Contains}
 use Rattle.std.proofs.lemmas.Bool.{cases_lt}
 use Rattle.std.proofs.lemmas.List.{get_or-map, get_or_append_left, get_or-append_right, get_or_default, length-append, length-map}
-use Rattle.std.proofs.lemmas.List.Elements.{Contains-append_left, Contains-append_right, Contains-append_cases}
+use Rattle.std.proofs.lemmas.List.Elements.{Contains-append_cases}
 use Rattle.cyc_base.specs.Vectors.{vectors}
+use Rattle.cyc_base.proofs.VectorLemmas.{Contains-vectors}
 use Rattle.refusals.specs.Vectors.{IsBefore, VectorsAreListed}
-
-contains-map : {X Y : Type 0} (f : X → Y) (xs : List X) (x : X) → Contains xs x → Contains (map f xs) (f x)
-contains-map f xs x c = (c.0, omega (arith, c.1, length-map xs f), get_or-map f xs c.0 x (f x) c.1 ∙ ap f c.2)
 
 -- an item of a mapped list is one's image
 record IsImage {X Y : Type 0} (f : X → Y) (xs : List X) (y : Y) : Type 0 where
@@ -32,17 +30,6 @@ listed_wide (suc n) v c =
       | inl low ↦ let m = image (λ u. false ∷ u) (vectors n) v low in ap length m.is ∙ ap suc (listed_wide n m.item m.there)
       | inr high ↦ let m = image (λ u. true ∷ u) (vectors n) v high in ap length m.is ∙ ap suc (listed_wide n m.item m.there)
     ]
-
-all_listed : (n : ℕ) (v : List Bool) → length v ≡ n → Contains (vectors n) v
-all_listed zero [] wide = (0, omega arith, refl)
-all_listed zero (b ∷ v) wide = absurd (omega arith)
-all_listed (suc n) [] wide = absurd (omega arith)
-all_listed (suc n) (false ∷ v) wide =
-    Contains-append_left (map (λ u. false ∷ u) (vectors n)) (map (λ u. true ∷ u) (vectors n)) (false ∷ v)
-    (contains-map (λ u. false ∷ u) (vectors n) v (all_listed n v (omega arith)))
-all_listed (suc n) (true ∷ v) wide =
-    Contains-append_right (map (λ u. false ∷ u) (vectors n)) (map (λ u. true ∷ u) (vectors n)) (true ∷ v)
-    (contains-map (λ u. true ∷ u) (vectors n) v (all_listed n v (omega arith)))
 
 before_low : (v w : List Bool) → IsBefore v w → IsBefore (false ∷ v) (false ∷ w)
 before_low v w h = record { most = h.most; other = λ e. h.other cc }
@@ -96,4 +83,4 @@ in_order (suc n) i j d lt inside =
     ]
 
 pub vectors_are_listed : VectorsAreListed
-vectors_are_listed n = record { widths = listed_wide n; all = all_listed n; order = λ i j d lt inside. in_order n i j d lt inside }
+vectors_are_listed n = record { widths = listed_wide n; all = Contains-vectors n; order = λ i j d lt inside. in_order n i j d lt inside }

@@ -1,4 +1,5 @@
-pub mod Acceptance
-pub mod Laws
-pub mod Refusals
+-- The chapter: what the contracts of public functions say.
 pub mod Vectors
+pub mod Acceptance
+pub mod Refusals
+pub mod Laws

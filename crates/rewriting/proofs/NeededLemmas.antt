@@ -1,7 +1,7 @@
 -- The sweeps that loops need on a care set.
-use Rattle.std.proofs.Common.{◌≡◌, ◌==◌, inl, inr, ℕ, ◌≤◌, Bool, true, false, not, ◌&&◌, List, [], ◌∷◌, length, map, None, Some, refl, sym, ap, ap₂, ◌∙◌, subst, arith, true≢false, zero-add}
+use Rattle.std.proofs.Common.{◌≡◌, ◌==◌, inl, inr, ℕ, ◌≤◌, Bool, true, not, ◌&&◌, List, [], ◌∷◌, length, map, None, Some, refl, sym, ap, ap₂, ◌∙◌, subst, arith, true≢false, zero-add}
 use Rattle.std.specs.Prelude.{find}
-use Rattle.std.proofs.lemmas.Bool.{and_parts, and_from, cases_Bool, cases_lt, eqb-true, eq-eqb}
+use Rattle.std.proofs.lemmas.Bool.{and_parts, and_from, cases_Bool, cases_lt, eqb-true, eq-eqb, not-false}
 use Rattle.std.proofs.lemmas.List.{length-map}
 use Rattle.std.proofs.lemmas.List.FromFn.{length-range_with_len, get_or-range_with_len}
 use Rattle.std.proofs.lemmas.List.Sums.{passes_at_first, fails_before_first, prefix_len-le-length}
@@ -9,6 +9,7 @@ use Rattle.std.specs.List.{list_all, range_with_len}
 use Rattle.cyc_base.specs.declared.trit.Trit.{Trit}
 use Rattle.cyc_base.specs.declared.trit.Trit.TheVariants.{Zero, One, X}
 use Rattle.cyc_base.specs.Values.{bits}
+use Rattle.cyc_base.proofs.VectorLemmas.{find-none}
 use Rattle.netlist.specs.declared.parts.Parts.{Parts}
 use Rattle.netlist.specs.Fixpoint.{fix_gates}
 use Rattle.loops.specs.Found.{loops_of}
@@ -17,11 +18,12 @@ use Rattle.loops.proofs.Existence.{loops_exist}
 use Rattle.loops.proofs.Sweeps.{few_sweeps_are_enough}
 use Rattle.care_sets.specs.Care.{CareSet, columns, is_one, is_care_vector, IsCareVector}
 use Rattle.refusals.specs.Refusals.{is_x, care_vectors}
-use Rattle.refusals.proofs.FirstLemmas.{none_passes, nothing_passes}
+use Rattle.refusals.proofs.FirstLemmas.{none_passes}
 use Rattle.refusals.proofs.LawLemmas.{care_test}
-use Rattle.refusals.proofs.RefusalLemmas.{bits_back, length-bits, fails_after, second_fails, not_false}
+use Rattle.refusals.proofs.RefusalLemmas.{bits_back, length-bits, fails_after, second_fails}
 use Rattle.refusals.proofs.ShowingLemmas.{care_vector_decides, care_vector_is}
 use Rattle.verdict.specs.Verdicts.{are_care_values}
+use Rattle.verdict.proofs.CountLemmas.{bits-known}
 use Rattle.rewriting.specs.Rewriting.{trit_eq, cut_wires, are_fixed, is_enough, sweeps_needed}
 use Rattle.rewriting.specs.Laws.{NeededIsLeast}
 
@@ -78,13 +80,13 @@ module _ (net : Parts) (care : CareSet) (p : List Bool → Bool) where
   each-care e v counts =
       let none = sym (care_test net care (λ w. not (p w))) ∙ all-none p (care_vectors net care) e in
       let fails = none_passes (columns net) (λ w. is_care_vector net care w && not (p w)) v none counts.width in
-      not_false (p v) (second_fails (is_care_vector net care v) (not (p v)) fails (care_vector_is net care v counts))
+      not-false (p v) (second_fails (is_care_vector net care v) (not (p v)) fails (care_vector_is net care v counts))
 
   all-care : ((v : List Bool) → IsCareVector net care v → p v ≡ true) → list_all p (care_vectors net care) ≡ true
   all-care each =
       none-all p (care_vectors net care)
       (care_test net care (λ w. not (p w))
-      ∙ nothing_passes (columns net) (λ w. is_care_vector net care w && not (p w))
+      ∙ find-none (columns net) (λ w. is_care_vector net care w && not (p w))
       (λ w wide. fails_after (is_care_vector net care w) (not (p w)) (λ is. ap not (each w (care_vector_decides net care w wide is)))))
 
 -- ---- values of care vectors
@@ -94,11 +96,6 @@ known-bits [] e = refl
 known-bits (Zero ∷ ts) e = ap (λ (rest : List Trit). Zero ∷ rest) (known-bits ts e)
 known-bits (One ∷ ts) e = ap (λ (rest : List Trit). One ∷ rest) (known-bits ts e)
 known-bits (X ∷ ts) e = cc
-
-bits-known : (v : List Bool) → list_all (λ value. not (is_x value)) (bits v) ≡ true
-bits-known [] = refl
-bits-known (true ∷ v) = bits-known v
-bits-known (false ∷ v) = bits-known v
 
 pub care-values : (net : Parts) (care : CareSet) (v : List Bool) → IsCareVector net care v → are_care_values net care (bits v) ≡ true
 care-values net care v counts =

@@ -1,5 +1,6 @@
-pub mod Fairness
-pub mod Laws
+-- The chapter: what the contracts of public functions say.
 pub mod Moments
+pub mod Fairness
 pub mod Runs
 pub mod Settling
+pub mod Laws

@@ -197,9 +197,6 @@ through_none graph root limit steps h none = λ other cycle through.
 
 -- ---- the best of the cycles through all roots
 
-pub best_first : (graph : List (List ℕ)) (reached : List (Option Step)) → IsBest graph reached 0 None
-best_first graph reached = λ other cycle l. absurd (omega arith)
-
 -- one more root, by which no better cycle leads
 pub best_kept : (graph : List (List ℕ)) (reached : List (Option Step)) (root : ℕ) (best : Option (List ℕ)) → IsBest graph reached root best →
     ((other : List ℕ) → IsCycle graph other → last other ≡ root → IsPlaced reached root → IsNoLonger best other) → IsBest graph reached (root + 1) best

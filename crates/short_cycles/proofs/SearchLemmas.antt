@@ -144,9 +144,6 @@ Grown-weaker links more depth old new before after weaker h = record {
 
 -- ---- the successors of one node, and of a level
 
-pub visited_first : (from : ℕ) (targets : List ℕ) (depth : ℕ) (steps : List (Option Step)) (found : List ℕ) → HasVisited from targets 0 depth steps steps found found
-visited_first from targets depth steps found = record { grown = Grown-refl (LeadsFrom from targets) depth steps found; all = λ k l. absurd (omega arith) }
-
 pub visited_more : (from : ℕ) (targets : List ℕ) (i depth target : ℕ) (old now new : List (Option Step)) (before listed after : List ℕ) → i < length targets → target ≡ get_or targets i 0 →
     HasVisited from targets i depth old now before listed →
     Grown (LeadsTo from target) depth now new listed after → (target < length now → IsPlaced new target) → HasVisited from targets (i + 1) depth old new before after
@@ -167,9 +164,6 @@ visited_more from targets i depth target old now new before listed after l is so
                 record { step = p.step; is = one.keeps (get_or targets k 0) p.step p.is }
           ];
     }
-
-pub level_first : (graph : List (List ℕ)) (level : List ℕ) (depth : ℕ) (steps : List (Option Step)) → IsNextLevel graph level 0 depth steps steps []
-level_first graph level depth steps = record { grown = Grown-refl (LeadsFromLevel graph level) depth steps []; all = λ k b l. absurd (omega arith) }
 
 pub level_more : (graph : List (List ℕ)) (level : List ℕ) (i depth node : ℕ) (targets : List ℕ) (old now new : List (Option Step)) (listed after : List ℕ) → i < length level → node ≡ get_or level i 0 →
     targets ≡ successors graph node →

@@ -6,7 +6,7 @@ use Rattle.std.proofs.lemmas.List.FromFn.{get_or-map-range_with_len}
 use Rattle.std.specs.List.{range_with_len}
 use Rattle.cyc_base.proofs.OrderLemmas.{Below-refl, Below-trans, Below-antisym}
 use Rattle.netlist.specs.Fixpoint.{wires, steps}
-use Rattle.loops.proofs.Reading.{get_or-step}
+use Rattle.netlist.proofs.FixpointLemmas.{get_or-step}
 use Rattle.simulation.specs.Stability.{IsAtFix, IsStable}
 use Rattle.simulation.proofs.PinLemmas.{value_same, value_below, signal_cases, pin_within, wire-input, wire-gate, fix-gate, pin-before}
 

@@ -2,8 +2,9 @@
 use Rattle.std.proofs.Common.{◌≡◌, inl, inr, ℕ, ◌+◌, ◌<◌, ◌==◌, Bool, true, List, length, get_or, set, ◌∙◌, subst, arith, Contains, eq-eqb}
 use Rattle.simulation.proofs.Common.{cases_lt, cases_eq, eqb-true, get_or-set_same, get_or-set_other, get_or_past, length-set, Trit, X, Parts, gate_sig, wire, Blocks, AreBlocksOf, home_of, AreKept, AreSettled, is_due, IsRising}
 use Rattle.std.specs.List.{range_with_len}
+use Rattle.cyc_base.proofs.ListLemmas.{Contains-filter, Contains-range}
 use Rattle.loops.specs.Blocks.{gates_at}
-use Rattle.loops.proofs.Reading.{Contains-filter, Contains-filter_from, Contains-range, Contains-range_from}
+use Rattle.loops.proofs.Reading.{Contains-filter_from, Contains-range_from}
 use Rattle.simulation.specs.declared.plan.Plan.{Plan}
 use Rattle.simulation.specs.Plans.{IsPlanOf}
 

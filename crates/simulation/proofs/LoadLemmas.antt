@@ -11,9 +11,6 @@ pub record AreLoaded (first : ℕ) (given : List Trit) (k : ℕ) (old new : List
   pub loaded : (i : ℕ) → i < k → get_or new (first + i) X ≡ get_or given i X
   pub before : (i : ℕ) → i < first → get_or new i X ≡ get_or old i X
 
-pub loaded_none : (first : ℕ) (given old : List Trit) → AreLoaded first given 0 old old
-loaded_none first given old = record { loaded = λ i l. absurd (omega arith); before = λ i l. refl }
-
 pub loaded_more : (first : ℕ) (given : List Trit) (k : ℕ) (old new : List Trit) (value : Trit) → first + k < length new → get_or given k X ≡ value → AreLoaded first given k old new → AreLoaded first given (k + 1) old (set new (first + k) value)
 loaded_more first given k old new value within at h = record {
   loaded = λ i l.

@@ -1,5 +1,5 @@
 -- A loop rises from all unknown to the fixpoint.
-use Rattle.std.proofs.Common.{◌≡◌, ◌≢◌, inl, inr, ℕ, zero, suc, ◌+◌, ◌*◌, ◌<◌, ◌≤◌, ◌==◌, Bool, true, false, cond, List, [], ◌∷◌, ◌++◌, length, filter, get_or, set, refl, ap, sym, ◌∙◌, subst, arith, Contains, eq-eqb}
+use Rattle.std.proofs.Common.{◌≡◌, ◌≢◌, inl, inr, ℕ, zero, suc, ◌+◌, ◌*◌, ◌<◌, ◌≤◌, ◌==◌, Bool, true, List, [], ◌∷◌, ◌++◌, length, filter, get_or, set, refl, ap, sym, ◌∙◌, subst, arith, Contains, eq-eqb}
 use Rattle.simulation.proofs.Common.{cases_lt, cases_eq, eqb-true, get_or-set_same, get_or-set_other, Sig, Trit, X, Below, Parts, gate_at, gate_sig, wire, gate_value, fix, fix_gates, home_of, first_gate, readers_of, AreKept, AreSettled, is_due, vector_of, IsRising, work_left}
 use Rattle.std.proofs.lemmas.List.{length-append}
 use Rattle.std.proofs.lemmas.List.Elements.{Contains-append_left, Contains-append_right}
@@ -7,10 +7,13 @@ use Rattle.std.specs.declared.option.Option.{Option}
 use Rattle.std.specs.Prelude.{Some, None}
 use Rattle.cyc_base.specs.declared.trit.Trit.TheVariants.{Zero, One}
 use Rattle.cyc_base.proofs.OrderLemmas.{Below-refl}
+use Rattle.cyc_base.proofs.ListLemmas.{Contains-filter, filter-no_longer, Contains-there, Contains-cases, Contains-nothing}
 use Rattle.cover_logic.specs.Extensions.{ext}
-use Rattle.loops.proofs.Reading.{Contains-filter, Contains-filter_from}
+use Rattle.loops.proofs.Reading.{Contains-filter_from}
 use Rattle.ternary_run.specs.Settling.{Determines, IsNewValue}
-use Rattle.simulation.proofs.ListLemmas.{Contains-cases, Contains-nothing, Contains-there, append_cases, reads_or_same}
+use Rattle.ternary_run.proofs.SettlingLemmas.{known_or_still}
+use Rattle.ternary_run.proofs.ReadingLemmas.{reads_or_same}
+use Rattle.simulation.proofs.ListLemmas.{append_cases}
 use Rattle.simulation.specs.declared.plan.Plan.{Plan}
 use Rattle.simulation.specs.Plans.{IsPlanOf}
 use Rattle.simulation.specs.Rising.{readers_inside, unknown_values, count_reads}
@@ -143,11 +146,6 @@ gate_determined net plan place values due new g waiting value is h d kept unsett
           ];
     }
 
-known_or_still : (s f t : Trit) → Below s f → Below t f → (s ≡ X → t ≡ X) → Below t s
-known_or_still X f t h k still = rw (still refl) tt
-known_or_still Zero f t h k still = rw h at k
-known_or_still One f t h k still = rw h at k
-
 -- where no gate waits, the block is settled
 pub risen : (net : Parts) (plan : Plan) (place : ℕ) (values : List Trit) (due : List Bool) → IsPlanOf net plan → IsRising net plan place values due [] → AreSettled net plan.blocks values (place + 1)
 risen net plan place values due is h =
@@ -178,14 +176,6 @@ few_readers [] i = omega arith
 few_readers (readers ∷ lists) zero = omega arith
 few_readers (readers ∷ lists) (suc i) = omega (arith, few_readers lists i)
 
-fewer_kept : (p : ℕ → Bool) (xs : List ℕ) → length (filter p xs) ≤ length xs
-fewer_kept p [] = omega arith
-fewer_kept p (x ∷ xs) =
-    elim (p x) as (λ b. length (cond b (x ∷ filter p xs) (filter p xs)) ≤ suc (length xs)) [
-      | true ↦ omega (arith, fewer_kept p xs)
-      | false ↦ omega (arith, fewer_kept p xs)
-    ]
-
 pub determined_falls : (net : Parts) (plan : Plan) (place : ℕ) (values : List Trit) (due : List Bool) (g : ℕ) (waiting : List ℕ) (value : Trit) → IsRising net plan place values due (g ∷ waiting) → Determines net values g value →
     work_left plan (set values (gate_sig net g).0 value) (waiting ++ readers_inside plan place (gate_sig net g)) < work_left plan values (g ∷ waiting)
 determined_falls net plan place values due g waiting value h d =
@@ -193,7 +183,7 @@ determined_falls net plan place values due g waiting value h d =
     let within : g < length net.gates = h.gates g (zero, omega arith, refl) in
     let width = h.kept.width in
     let less = unknown_falls values s.0 value (omega arith) d.unknown d.known in
-    let few : length (readers_inside plan place s) ≤ length (readers_of plan.readers s) = fewer_kept (λ n. home_of plan.blocks n == place) (readers_of plan.readers s) in
+    let few : length (readers_inside plan place s) ≤ length (readers_of plan.readers s) = filter-no_longer (λ n. home_of plan.blocks n == place) (readers_of plan.readers s) in
     let bound = few_readers plan.readers s.0 in
     let all : length (waiting ++ readers_inside plan place s) ≡ length waiting + length (readers_inside plan place s) = length-append waiting (readers_inside plan place s) in
     falls (unknown_values (set values s.0 value)) (unknown_values values) (count_reads plan.readers) (length waiting) (length (waiting ++ readers_inside plan place s)) less (omega arith)
@@ -220,7 +210,3 @@ determined_falls_at net plan place values after due g waiting queue r value s re
 
 pub waiting_gate : (net : Parts) (plan : Plan) (place : ℕ) (values : List Trit) (due : List Bool) (g : ℕ) (waiting : List ℕ) → IsRising net plan place values due (g ∷ waiting) → g < length net.gates
 waiting_gate net plan place values due g waiting h = h.gates g (zero, omega arith, refl)
-
-pub nothing_waits : (waiting : List ℕ) → length waiting ≡ 0 → waiting ≡ []
-nothing_waits [] e = refl
-nothing_waits (g ∷ waiting) e = absurd (omega arith)

@@ -2,7 +2,6 @@
 use Rattle.std.proofs.Common.{◌≡◌, ◌≢◌, inl, inr, ℕ, ◌+◌, ◌<◌, Bool, true, false, List, length, get_or, set, refl, ap, sym, ◌∙◌, arith, Contains, true≢false}
 use Rattle.simulation.proofs.Common.{cases_lt, cases_eq, get_or-set_same, get_or-set_other, get_or_past, length-set, Sig, Trit, X, Parts, gate_sig, Blocks, home_of, readers_of, AreKept, is_due}
 use Rattle.std.proofs.lemmas.Bool.{cases_Bool}
-use Rattle.std.proofs.lemmas.List.{set-get_or}
 use Rattle.simulation.specs.Plans.{AreReadersOf}
 use Rattle.simulation.specs.Marking.{AreMarked, StayDue}
 
@@ -74,6 +73,3 @@ changed net blocks readers values old new signal value lists kept driver marked 
             get_or-set_other values signal.0 s.0 value X other ∙ stable.pins n s l h c;
       };
 }
-
-pub changed_nothing : (values : List Trit) (i : ℕ) (value : Trit) → get_or values i X ≡ value → set values i value ≡ values
-changed_nothing values i value e = ap (λ x. set values i x) (sym e) ∙ set-get_or values i X

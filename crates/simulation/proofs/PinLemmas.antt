@@ -8,7 +8,8 @@ use Rattle.cover_logic.proofs.ExtensionLemmas.{ext_is_monotone}
 use Rattle.netlist.specs.declared.parts.Gate.{Gate}
 use Rattle.netlist.specs.Netlists.{no_gate}
 use Rattle.netlist.specs.Fixpoint.{wires}
-use Rattle.loops.proofs.Reading.{get_or-fix, map_agree}
+use Rattle.netlist.proofs.FixpointLemmas.{get_or-fix}
+use Rattle.loops.proofs.Reading.{map_agree}
 
 pub contains_at : {A : Type 0} (xs : List A) (k : ℕ) (d : A) → k < length xs → Contains xs (get_or xs k d)
 contains_at xs k d l = (k, l, get_or_default xs k (get_or xs k d) d l)

@@ -1,19 +1,11 @@
 -- The readers of signals, gate by gate and pin by pin.
-use Rattle.std.proofs.Common.{◌≡◌, inl, inr, ℕ, ◌+◌, ◌<◌, List, [], ◌∷◌, ◌++◌, length, replicate, get_or, set, refl, sym, ◌∙◌, subst, arith, Contains}
-use Rattle.simulation.proofs.Common.{cases_lt, cases_eq, get_or-set_same, get_or-set_other, get_or_past, get_or_default, length-set, Sig, Parts, count, gate_at, readers_of, AreListed}
-use Rattle.std.proofs.lemmas.List.{get_or-replicate, length-replicate}
+use Rattle.std.proofs.Common.{◌≡◌, inl, inr, ℕ, ◌+◌, ◌<◌, List, [], ◌∷◌, ◌++◌, length, get_or, set, refl, sym, ◌∙◌, subst, arith, Contains}
+use Rattle.simulation.proofs.Common.{cases_eq, get_or-set_same, get_or-set_other, get_or_default, length-set, Sig, Parts, count, gate_at, readers_of, AreListed}
 use Rattle.std.proofs.lemmas.List.Elements.{Contains-append_left, Contains-append_right}
+use Rattle.cyc_base.proofs.ListLemmas.{Contains-here, Contains-cases, Contains-nothing}
 use Rattle.simulation.specs.Plans.{AreReadersOf}
 use Rattle.simulation.proofs.PinLemmas.{contains_at}
-use Rattle.simulation.proofs.ListLemmas.{Contains-here, Contains-cases, Contains-nothing, append_cases}
-
-pub listed_none : (gate : ℕ) (pins : List Sig) (lists : List (List ℕ)) → AreListed gate pins 0 lists lists
-listed_none gate pins lists = record {
-  size = refl;
-  each = λ i d l. absurd (omega arith);
-  keeps = λ s n c. c;
-  only = λ s n c. inl c;
-}
+use Rattle.simulation.proofs.ListLemmas.{append_cases}
 
 -- what a signal's list is once a gate was added to that of s
 added_same : (lists : List (List ℕ)) (s t : Sig) (list : List ℕ) → s.0 < length lists → t.0 ≡ s.0 → readers_of (set lists s.0 list) t ≡ list
@@ -63,22 +55,6 @@ pub record AreReadersBelow (net : Parts) (k : ℕ) (lists : List (List ℕ)) : T
   pub signals : length lists ≡ count net
   pub each : (n : ℕ) (s : Sig) → n < k → Contains (gate_at net n).pins s → Contains (readers_of lists s) n
   pub gates : (s : Sig) (n : ℕ) → Contains (readers_of lists s) n → n < k
-
-no_reader : (c : ℕ) (s : Sig) → readers_of (replicate c []) s ≡ []
-no_reader c s =
-    elim (cases_lt s.0 c) [
-      | inl l ↦ get_or-replicate c s.0 [] [] l
-      | inr g ↦
-          let size : length (replicate {A = List ℕ} c []) ≡ c = length-replicate c [] in
-          get_or_past (replicate c []) s.0 [] (omega arith)
-    ]
-
-pub readers_none : (net : Parts) → AreReadersBelow net 0 (replicate (count net) [])
-readers_none net = record {
-  signals = length-replicate (count net) [];
-  each = λ n s l c. absurd (omega arith);
-  gates = λ s n c. absurd (Contains-nothing n (subst (λ (xs : List ℕ). Contains xs n) (no_reader (count net) s) c));
-}
 
 pub readers_more : (net : Parts) (k : ℕ) (pins : List Sig) (lists new : List (List ℕ)) → pins ≡ (gate_at net k).pins → AreReadersBelow net k lists → AreListed k pins (length pins) lists new → AreReadersBelow net (k + 1) new
 readers_more net k pins lists new is h listed = record {

@@ -11,6 +11,7 @@ use Rattle.cyc_base.specs.declared.trit.Trit.{Trit}
 use Rattle.cyc_base.specs.declared.trit.Trit.TheVariants.{Zero, One, X}
 use Rattle.cyc_base.specs.Values.{bit, bits, Completes}
 use Rattle.cyc_base.specs.Vectors.{AtMost}
+use Rattle.cyc_base.proofs.ListLemmas.{find-map, option_map-or, option_or-cases}
 use Rattle.cover_logic.specs.Extensions.{completions, exact}
 use Rattle.cover_logic.proofs.ExtensionLemmas.{exact_says, exact_from, exact_at_bits, exact_split, passes_above, passes_listed}
 use Rattle.storm.specs.Least.{is, first_where, least_where, IsLeastWhere, AreKnown}
@@ -45,18 +46,6 @@ other_is false false n = refl
 
 -- ---- the first that passes a test
 
-find-map : {A B : Type 0} (p : B → Bool) (g : A → B) (xs : List A) → find p (map g xs) ≡ option_map g (find (λ x. p (g x)) xs)
-find-map p g [] = refl
-find-map p g (x ∷ xs) = by (p (g x)) (find-map p g xs)
-  where
-    by : (t : Bool) → find p (map g xs) ≡ option_map g (find (λ y. p (g y)) xs) → cond t (Some (g x)) (find p (map g xs)) ≡ option_map g (cond t (Some x) (find (λ y. p (g y)) xs))
-    by true rest = refl
-    by false rest = rest
-
-map_or : {A B : Type 0} (g : A → B) (a b : Option A) → option_map g (option_or a b) ≡ option_or (option_map g a) (option_map g b)
-map_or g (Some x) b = refl
-map_or g None b = refl
-
 none_found : {A : Type 0} (p : A → Bool) (xs : List A) → list_all (λ x. not (p x)) xs ≡ true → find p xs ≡ None
 none_found p [] all = refl
 none_found p (x ∷ xs) all = by (p x) (none_found p xs) all
@@ -88,13 +77,13 @@ find_split p (X ∷ ts) (suc n) known l x = absurd (known 0 (omega arith) refl)
 find_split p (Zero ∷ ts) (suc n) known l x =
     find-map p (λ bs. false ∷ bs) (completions ts)
     ∙ ap (option_map (λ bs. false ∷ bs)) (find_split (λ bs. p (false ∷ bs)) ts n (λ i m. known (suc i) (omega arith)) (omega arith) x)
-    ∙ map_or (λ bs. false ∷ bs) (find (λ bs. p (false ∷ bs)) (completions (set ts n Zero))) (find (λ bs. p (false ∷ bs)) (completions (set ts n One)))
+    ∙ option_map-or (λ bs. false ∷ bs) (find (λ bs. p (false ∷ bs)) (completions (set ts n Zero))) (find (λ bs. p (false ∷ bs)) (completions (set ts n One)))
     ∙ ap (λ o. option_or o (option_map (λ bs. false ∷ bs) (find (λ bs. p (false ∷ bs)) (completions (set ts n One))))) (sym (find-map p (λ bs. false ∷ bs) (completions (set ts n Zero))))
     ∙ ap (option_or (find p (map (λ bs. false ∷ bs) (completions (set ts n Zero))))) (sym (find-map p (λ bs. false ∷ bs) (completions (set ts n One))))
 find_split p (One ∷ ts) (suc n) known l x =
     find-map p (λ bs. true ∷ bs) (completions ts)
     ∙ ap (option_map (λ bs. true ∷ bs)) (find_split (λ bs. p (true ∷ bs)) ts n (λ i m. known (suc i) (omega arith)) (omega arith) x)
-    ∙ map_or (λ bs. true ∷ bs) (find (λ bs. p (true ∷ bs)) (completions (set ts n Zero))) (find (λ bs. p (true ∷ bs)) (completions (set ts n One)))
+    ∙ option_map-or (λ bs. true ∷ bs) (find (λ bs. p (true ∷ bs)) (completions (set ts n Zero))) (find (λ bs. p (true ∷ bs)) (completions (set ts n One)))
     ∙ ap (λ o. option_or o (option_map (λ bs. true ∷ bs) (find (λ bs. p (true ∷ bs)) (completions (set ts n One))))) (sym (find-map p (λ bs. true ∷ bs) (completions (set ts n Zero))))
     ∙ ap (option_or (find p (map (λ bs. true ∷ bs) (completions (set ts n Zero))))) (sym (find-map p (λ bs. true ∷ bs) (completions (set ts n One))))
 
@@ -166,10 +155,6 @@ mapped_some : {A B : Type 0} (g : A → B) (o : Option A) (y : B) → option_map
 mapped_some g None y e = cc
 mapped_some g (Some x) y e = (x, refl, (let P : Some (g x) ≡ Some y = e in cc))
 
-or_some : {A : Type 0} (a b : Option A) (y : A) → option_or a b ≡ Some y → (a ≡ Some y) ⊎ ((a ≡ None) × (b ≡ Some y))
-or_some (Some x) b y e = inl e
-or_some None b y e = inr (refl, e)
-
 test_some : {A : Type 0} (t : Bool) (x y : A) → cond t (Some x) None ≡ Some y → (x ≡ y) × (t ≡ true)
 test_some true x y e = ((let P : Some x ≡ Some y = e in cc), refl)
 test_some false x y e = cc
@@ -198,7 +183,7 @@ first_is_least p (One ∷ ts) bs e =
     below cs h (false ∷ other) above ok = let e = above.0 in cc
 first_is_least p (X ∷ ts) bs e =
     by (first_is_least (λ cs. p (false ∷ cs)) ts) (first_is_least (λ cs. p (true ∷ cs)) ts)
-    (or_some (option_map (λ cs. false ∷ cs) low) (option_map (λ cs. true ∷ cs) high) bs split)
+    (option_or-cases (option_map (λ cs. false ∷ cs) low) (option_map (λ cs. true ∷ cs) high) bs split)
   where
     low : Option (List Bool)
     low = find (λ cs. p (false ∷ cs)) (completions ts)

@@ -1,3 +1,3 @@
 mod Lists
-mod ReadingLemmas
-mod SettlingLemmas
+pub mod ReadingLemmas
+pub mod SettlingLemmas

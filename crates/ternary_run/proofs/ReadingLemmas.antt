@@ -11,13 +11,13 @@ use Rattle.std.proofs.lemmas.List.Sorted.{All-permutation, Contains-permutation}
 use Rattle.cyc_base.specs.declared.sig.Sig.{Sig}
 use Rattle.cyc_base.specs.declared.trit.Trit.{Trit}
 use Rattle.cyc_base.specs.declared.trit.Trit.TheVariants.{X}
+use Rattle.cyc_base.proofs.ListLemmas.{Contains-here, Contains-there, Contains-map, Contains-filter, drop-get}
 use Rattle.netlist.specs.declared.parts.Gate.{Gate}
 use Rattle.netlist.specs.declared.parts.Parts.{Parts}
 use Rattle.netlist.specs.Netlists.{gate_at, no_gate}
 use Rattle.netlist.specs.Fixpoint.{wire}
 use Rattle.ternary_run.specs.declared.fanout.Read.{Read}
 use Rattle.ternary_run.specs.Reading.{reads_of_pins, reads_from, reads, reads_signal, readers_of, IsFanoutOf}
-use Rattle.ternary_run.proofs.Lists.{Contains-map, Contains-filter, Contains-here, Contains-there, drop-get}
 
 pub reads_from-drop : (gates : List Gate) (n : ℕ) (gate : Gate) → slice_get gates n ≡ Some gate → reads_from n (drop n gates) ≡ reads_of_pins n gate.pins ++ reads_from (n + 1) (drop (n + 1) gates)
 reads_from-drop gates n gate e = rw (drop-get gates n gate e, add-one) refl

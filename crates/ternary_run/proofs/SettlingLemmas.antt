@@ -4,7 +4,7 @@ use Rattle.std.specs.List.{Contains, All, range_with_len}
 use Rattle.std.specs.declared.option.Option.{Option}
 use Rattle.std.specs.Prelude.{Some, None}
 use Rattle.std.proofs.lemmas.Bool.{cases_eq}
-use Rattle.std.proofs.lemmas.List.{get_or-map, get_or-set_same, get_or-set_other, get_or-append-add, set-append_right, length-append, length-set}
+use Rattle.std.proofs.lemmas.List.{get_or-set_same, get_or-set_other, get_or-append-add, set-append_right, length-append, length-set}
 use Rattle.std.proofs.lemmas.List.Elements.{All-append, All-head, All-tail, Contains-append_left, Contains-append_right}
 use Rattle.std.proofs.lemmas.List.FromFn.{length-range_with_len, get_or-range_with_len}
 use Rattle.std.proofs.Math.Nat.{mul-le-mul_right}
@@ -12,16 +12,16 @@ use Rattle.cyc_base.specs.declared.sig.Sig.{Sig}
 use Rattle.cyc_base.specs.declared.trit.Trit.{Trit}
 use Rattle.cyc_base.specs.declared.trit.Trit.TheVariants.{Zero, One, X}
 use Rattle.cyc_base.specs.Values.{Below, EachBelow}
-use Rattle.cyc_base.proofs.OrderLemmas.{Below-refl, EachBelow-refl, EachBelow-at, EachBelow-antisym, EachBelow-length}
+use Rattle.cyc_base.proofs.OrderLemmas.{Below-refl, EachBelow-refl, EachBelow-at, EachBelow-antisym, EachBelow-length, EachBelow-from_at}
+use Rattle.cyc_base.proofs.ListLemmas.{Contains-cases, Contains-nothing, Contains-range}
 use Rattle.cover_logic.specs.Extensions.{ext}
 use Rattle.netlist.specs.declared.parts.Parts.{Parts}
-use Rattle.netlist.specs.Netlists.{count, gate_at, gate_sig, no_gate}
+use Rattle.netlist.specs.Netlists.{count, gate_at, gate_sig}
 use Rattle.netlist.specs.Fixpoint.{wires, wire, gate_value, step, fix_gates, fix}
-use Rattle.netlist.proofs.FixpointLemmas.{length-step, length-steps, step_is_monotone, fix_is_fixpoint, fix_is_below_closed, unknown_below_state, one_gate_stays_below_fix, known_count, known_count-le, same_or_more}
+use Rattle.netlist.proofs.FixpointLemmas.{length-step, step_is_monotone, fix_is_fixpoint, fix_is_below_closed, unknown_below_state, one_gate_stays_below_fix, known_count, known_count-le, same_or_more, length-fix_gates, get_or-step}
 use Rattle.ternary_run.specs.declared.fanout.Read.{Read}
 use Rattle.ternary_run.specs.Reading.{readers_of, IsFanoutOf}
 use Rattle.ternary_run.specs.Settling.{all_unknown, Determines, IsNewValue}
-use Rattle.ternary_run.proofs.Lists.{Contains-cases, Contains-nothing, EachBelow-from_at}
 use Rattle.ternary_run.proofs.ReadingLemmas.{readers_of-contain, readers_of-below, readers_of-length, reads_or_same}
 
 -- where settling stands: the gates are below the fixpoint, and one that is unknown waits in the queue or has no other value
@@ -36,19 +36,13 @@ pub record IsSettling (net : Parts) (v values : List Trit) (queue : List ℕ) : 
 abbrev pub HasWidth : Parts → List Trit → Type 0
 HasWidth net v = length v ≡ length net.inputs + length net.latches
 
-contains_range : (n g : ℕ) → g < n → Contains (range_with_len 0 n) g
-contains_range n g l = (g, omega (arith, length-range_with_len 0 n), get_or-range_with_len 0 n g g l ∙ omega arith)
-
-length-fix_gates : (net : Parts) (v : List Trit) → length (fix_gates net v) ≡ length net.gates
-length-fix_gates net v = length-steps net v (length net.gates)
-
 pub settling_starts : (net : Parts) (v : List Trit) → IsSettling net v (wires v (all_unknown net)) (range_with_len 0 (length net.gates))
 settling_starts net v = record {
   state = all_unknown net;
   split = refl;
   below = unknown_below_state (length net.gates) (fix_gates net v) (length-fix_gates net v);
   queued = λ k d l. omega (arith, get_or-range_with_len 0 (length net.gates) k d (omega (arith, length-range_with_len 0 (length net.gates))), length-range_with_len 0 (length net.gates));
-  still = λ g l e. inl (contains_range (length net.gates) g l);
+  still = λ g l e. inl (Contains-range (length net.gates) g l);
 }
 
 pub length-state : (net : Parts) (v values : List Trit) (queue : List ℕ) (h : IsSettling net v values queue) → length h.state ≡ length net.gates
@@ -81,15 +75,11 @@ gate_unchanged net v values g queue w h none = record {
       ];
 }
 
--- what a gate's step is in the simultaneous step
-step-gate : (net : Parts) (v state : List Trit) (g : ℕ) → g < length net.gates → get_or (step net v state) g X ≡ gate_value (wires v state) (gate_at net g)
-step-gate net v state g l = get_or-map (gate_value (wires v state)) net.gates g no_gate X l
-
 pub gate_determined : (net : Parts) (v values : List Trit) (g : ℕ) (queue : List ℕ) (list : List Read) (value : Trit) → HasWidth net v → IsFanoutOf net list → IsSettling net v values (g ∷ queue) → Determines net values g value →
     IsSettling net v (set values (gate_sig net g).0 value) (queue ++ readers_of list (gate_sig net g))
 gate_determined net v values g queue list value w all h d =
     let in_range : g < length net.gates = All-head (λ k. k < length net.gates) g queue h.queued in
-    let is : value ≡ get_or (step net v h.state) g X = d.is ∙ rw h.split (sym (step-gate net v h.state g in_range)) in
+    let is : value ≡ get_or (step net v h.state) g X = d.is ∙ rw h.split (sym (get_or-step net v h.state g in_range)) in
     let in_state : g < length h.state = omega (arith, length-state net v values (g ∷ queue) h) in
     let place : (length net.inputs + length net.latches + g) - length v ≡ g = omega arith in
     let moved : set (wires v h.state) (gate_sig net g).0 value ≡ wires v (set h.state g value) =
@@ -128,7 +118,7 @@ gate_determined net v values g queue list value w all h d =
           ];
     }
 
-known_or_still : (s f t : Trit) → Below s f → Below t f → (s ≡ X → t ≡ X) → Below t s
+pub known_or_still : (s f t : Trit) → Below s f → Below t f → (s ≡ X → t ≡ X) → Below t s
 known_or_still X f t h k still = rw (still refl) tt
 known_or_still Zero f t h k still = rw h at k
 known_or_still One f t h k still = rw h at k
@@ -142,7 +132,7 @@ step-below net v state below still g l =
     rw (fix_is_fixpoint net v) at (step_is_monotone net v v state (fix_gates net v) (EachBelow-refl v) below) in
     known_or_still (get_or state g X) (get_or (fix_gates net v) g X) (get_or (step net v state) g X)
     (EachBelow-at state (fix_gates net v) g below) (EachBelow-at (step net v state) (fix_gates net v) g up)
-    (λ e. step-gate net v state g l ∙ still g l e)
+    (λ e. get_or-step net v state g l ∙ still g l e)
 
 pub settled : (net : Parts) (v values : List Trit) → IsSettling net v values [] → values ≡ fix net v
 settled net v values h =
@@ -178,7 +168,7 @@ more_known values i value l unknown known =
 pub work_left : ℕ → List Trit → List ℕ → ℕ
 work_left pins values queue = (length values - known_count values) * suc pins + length queue
 
-falls : (a b pins before after : ℕ) → a < b → after ≤ before + pins → a * suc pins + after < b * suc pins + suc before
+pub falls : (a b pins before after : ℕ) → a < b → after ≤ before + pins → a * suc pins + after < b * suc pins + suc before
 falls a b pins before after l m = let le : suc a * suc pins ≤ b * suc pins = mul-le-mul_right (suc pins) l in omega arith
 
 pub work_left-determined : (net : Parts) (values : List Trit) (g : ℕ) (queue : List ℕ) (list : List Read) (value : Trit) → (gate_sig net g).0 < length values → Determines net values g value →
@@ -229,10 +219,6 @@ pub waiting_gate : (net : Parts) (v values : List Trit) (g : ℕ) (queue rest : 
 waiting_gate net v values g queue rest e h =
     let stands : IsSettling net v values (g ∷ rest) = rw e at h in
     All-head (λ k. k < length net.gates) g rest stands.queued
-
-pub nothing_left : (queue : List ℕ) → length queue ≡ 0 → queue ≡ []
-nothing_left [] e = refl
-nothing_left (g ∷ queue) e = absurd (omega arith)
 
 -- the fixpoint has a value for each signal
 pub length-fix : (net : Parts) (v : List Trit) → HasWidth net v → length (fix net v) ≡ count net

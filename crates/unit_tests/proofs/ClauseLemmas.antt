@@ -1,11 +1,11 @@
 -- All gates of a netlist are wanted, and none is said to be never unknown.
-use Rattle.std.proofs.Common.{◌≡◌, ◌≢◌, ℕ, ◌+◌, ◌-◌, ◌*◌, ◌<◌, ◌≤◌, Bool, true, false, List, [], ◌∷◌, length, replicate, get_or, sym, ◌∙◌, arith, true≢false}
+use Rattle.std.proofs.Common.{◌≡◌, ◌≢◌, ℕ, ◌-◌, ◌*◌, ◌<◌, Bool, true, false, List, [], ◌∷◌, length, replicate, get_or, sym, ◌∙◌, arith, true≢false}
 use Rattle.std.specs.List.{All}
 use Rattle.std.proofs.lemmas.List.{get_or-replicate}
 use Rattle.std.proofs.lemmas.List.Elements.{All-nil, All-cons}
 use Rattle.netlist.specs.declared.parts.Parts.{Parts}
 use Rattle.netlist.specs.Netlists.{gate_at, no_gate, IsNetlist}
-use Rattle.loops.specs.Sweeps.{first_gate, gate_of}
+use Rattle.loops.specs.Sweeps.{gate_of}
 use Rattle.clause_queries.specs.Clauses.{IsWithin}
 use Rattle.ternary_clauses.specs.Encoding.{IsClosed, AreNeverUnknown}
 

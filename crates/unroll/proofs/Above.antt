@@ -1,26 +1,26 @@
 -- What the netlist determines, the unrolled netlist determines too: block by block, since with less known outside a loop
 -- may need more sweeps.
-use Rattle.std.proofs.Common.{◌≡◌, ◌⊎◌, inl, inr, ℕ, zero, suc, ◌+◌, ◌<◌, ◌≤◌, leb, Bool, true, false, ◌&&◌, if◌then◌else◌, List, [], ◌∷◌, length, map, get_or, refl, ap, sym, ◌∙◌, subst, arith, true≢false}
-use Rattle.std.proofs.lemmas.Bool.{cases_lt, and_from, le-leb}
+use Rattle.std.proofs.Common.{◌≡◌, ◌⊎◌, inl, inr, ℕ, zero, suc, ◌+◌, ◌<◌, ◌≤◌, leb, Bool, true, false, ◌&&◌, if◌then◌else◌, List, length, map, get_or, refl, ap, sym, ◌∙◌, subst, arith, true≢false}
+use Rattle.std.proofs.lemmas.Bool.{cases_lt, and_from, le-leb, false_from_ne_true}
 use Rattle.std.proofs.lemmas.List.{get_or_past, get_or-replicate, get_or_append_left}
 use Rattle.std.proofs.lemmas.List.FromFn.{get_or-map-range_with_len}
 use Rattle.cyc_base.specs.declared.sig.Sig.{Sig}
 use Rattle.cyc_base.specs.declared.trit.Trit.{Trit}
 use Rattle.cyc_base.specs.declared.trit.Trit.TheVariants.{X}
-use Rattle.cyc_base.specs.Values.{Below, EachBelow}
-use Rattle.cyc_base.proofs.OrderLemmas.{Below-refl, Below-trans, EachBelow-refl, EachBelow-append, EachBelow-at}
+use Rattle.cyc_base.specs.Values.{Below}
+use Rattle.cyc_base.proofs.OrderLemmas.{Below-refl, Below-trans, EachBelow-refl, EachBelow-append, EachBelow-at, EachBelow-map_at}
 use Rattle.cover_logic.specs.Extensions.{ext}
 use Rattle.cover_logic.proofs.ExtensionLemmas.{ext_is_monotone}
 use Rattle.netlist.specs.declared.parts.Parts.{Parts}
 use Rattle.netlist.specs.Netlists.{signal, gate_at}
 use Rattle.netlist.specs.Fixpoint.{wires, wire, gate_value, steps, fix, fix_gates}
 use Rattle.netlist.specs.Walks.{Feeds}
-use Rattle.netlist.proofs.FixpointLemmas.{steps_below_fix}
+use Rattle.netlist.proofs.FixpointLemmas.{steps_below_fix, get_or-step}
 use Rattle.loops.specs.Cuts.{Loops, AreLoopsOf}
 use Rattle.loops.specs.Sweeps.{first_gate, gate_of, in_loop_of, pin_in, gate_in, sweep_steps, sweeps, CutsAreFixed}
 use Rattle.loops.specs.Walks.{Leads, AnyGate}
 use Rattle.loops.proofs.Ancestors.{by_ancestors}
-use Rattle.loops.proofs.Reading.{choice, wire_of_gate, in_loop_from, get_or-step}
+use Rattle.loops.proofs.Reading.{choice, wire_of_gate, in_loop_from}
 use Rattle.loops.proofs.Sweeps.{same-sym, same-trans, same_within, cut_values_agree, length-fix}
 use Rattle.loops.proofs.Unique.{feeds_at}
 use Rattle.loops.proofs.Walks.{leads-trans, leads-step, begins_within}
@@ -32,15 +32,11 @@ use Rattle.unroll.proofs.Kept.{many_of, self_of}
 use Rattle.unroll.proofs.Standing.{val, val_of_copy, val_of_kept}
 use Rattle.unroll.proofs.Valid.{moved_low, moved_high}
 
-each_below_at : (f g : Sig → Trit) (xs : List Sig) → ((k : ℕ) (d : Sig) → k < length xs → Below (f (get_or xs k d)) (g (get_or xs k d))) → EachBelow (map f xs) (map g xs)
-each_below_at f g [] h = tt
-each_below_at f g (x ∷ xs) h = (h zero x (omega arith), each_below_at f g xs (λ k d l. h (suc k) d (omega arith)))
-
 -- the extension at pins read in two ways, at each of the gate's own pins one below the other
 ext_below_at : (net : Parts) (n : ℕ) (f g : Sig → Trit) → ((k : ℕ) (d : Sig) → k < length (gate_at net n).pins → Below (f (get_or (gate_at net n).pins k d)) (g (get_or (gate_at net n).pins k d))) → Below (ext (gate_at net n).cover (map f (gate_at net n).pins)) (ext (gate_at net n).cover (map g (gate_at net n).pins))
 ext_below_at net n f g h =
     ext_is_monotone (gate_at net n).cover (map f (gate_at net n).pins) (map g (gate_at net n).pins)
-    (each_below_at f g (gate_at net n).pins h)
+    (EachBelow-map_at f g (gate_at net n).pins h)
 
 choice_both : (b d : Bool) (x y z x' y' z' : Trit) → (b ≡ true → d ≡ true → Below x x') → (b ≡ true → d ≡ false → Below y y') → (b ≡ false → Below z z') → Below (choice b d x y z) (choice b d x' y' z')
 choice_both true true x y z x' y' z' h k l = h refl refl
@@ -67,10 +63,6 @@ record LeadsFromOutside (net : Parts) (loops : Loops) (x n : ℕ) : Type 0 where
 below_by : (a b x y : Trit) → a ≡ x → b ≡ y → Below x y → Below a b
 below_by a b x y e d h = subst (λ (t : Trit). Below t b) (sym e) (subst (λ (t : Trit). Below x t) (sym d) h)
 
-false_unless : (b : Bool) → (b ≡ true → ⊥) → b ≡ false
-false_unless true h = absurd (h refl)
-false_unless false h = refl
-
 module _ (net : Parts) (loops : Loops) (are : AreLoopsOf net loops) where
   outside_within : (x n : ℕ) → LeadsFromOutside net loops x n → x < length net.gates
   outside_within x n r = begins_within net loops are x n r.leads.via r.leads.walk
@@ -78,7 +70,7 @@ module _ (net : Parts) (loops : Loops) (are : AreLoopsOf net loops) where
   outside-trans : (x y z : ℕ) → LeadsFromOutside net loops x y → LeadsFromOutside net loops y z → LeadsFromOutside net loops x z
   outside-trans x y z r q = record {
     leads = leads-trans net x y z r.leads q.leads;
-    apart = false_unless (loops.same z x) (λ e.
+    apart = false_from_ne_true (loops.same z x) (λ e.
         let s = (are.same z x).0 e in
         let zy : loops.same z y ≡ true = (are.same z y).1 (record { there = leads-trans net z x y s.there r.leads; back = q.leads }) in
         true≢false (sym zy ∙ q.apart));
@@ -117,7 +109,7 @@ module _ (net : Parts) (loops : Loops) (are : AreLoopsOf net loops) where
       near_apart : (g x : ℕ) → Near g → loops.same g x ≡ false → loops.same n x ≡ false
       near_apart g x (inl e) s = subst (λ (k : ℕ). loops.same k x ≡ false) e s
       near_apart g x (inr d) s =
-          false_unless (loops.same n x) (λ h. true≢false (sym (same-trans net loops are g n x (same-sym net loops are n g d) h) ∙ s))
+          false_from_ne_true (loops.same n x) (λ h. true≢false (sym (same-trans net loops are g n x (same-sym net loops are n g d) h) ∙ s))
 
       near_leads : (g x : ℕ) → Near g → Feeds net x g → Leads net AnyGate x n
       near_leads g x (inl e) f = subst (λ (k : ℕ). Leads net AnyGate x k) e (leads-step net x g f)
@@ -141,7 +133,7 @@ module _ (net : Parts) (loops : Loops) (are : AreLoopsOf net loops) where
                   | inl inside ↦
                       let feeds = feeds_at net g k d l here high inside in
                       let apart : loops.same g x ≡ false =
-                      false_unless (loops.same g x) (λ e. true≢false (sym (and_from (leb (first_gate net) r.0) (loops.same g x) (le-leb (first_gate net) r.0 high) e) ∙ out)) in
+                      false_from_ne_true (loops.same g x) (λ e. true≢false (sym (and_from (leb (first_gate net) r.0) (loops.same g x) (le-leb (first_gate net) r.0 high) e) ∙ out)) in
                       below_by (wire (fix net v) r) (now (old_signal net loops m r)) (get_or (fix_gates net v) x X) (now (old x))
                       (wire_of_gate v (fix_gates net v) (first_gate net) r.0 width high)
                       (ap now (old_of_gate r high))

@@ -1,28 +1,19 @@
 -- The names of copies and of the constant are new, differ among each other, and may stand in a BLIF text.
-use Rattle.std.proofs.Common.{◌≡◌, ◌≢◌, inl, inr, ℕ, zero, suc, ◌^◌, ◌<◌, ◌≤◌, false, List, [], ◌∷◌, ◌++◌, refl, ap, arith}
-use Rattle.std.proofs.lemmas.Bool.{cases_Bool}
+use Rattle.std.proofs.Common.{◌≡◌, ℕ, zero, suc, ◌^◌, ◌<◌, ◌≤◌, false, List, [], ◌∷◌, ◌++◌, refl, ap, arith}
 use Rattle.std.proofs.lemmas.Fmt.{decimal_injective}
 use Rattle.std.proofs.lemmas.List.Elements.{All-cons, All-append}
-use Rattle.std.proofs.lemmas.Slice.Eq.{bytes_eq-Decides}
 use Rattle.std.specs.Fmt.{decimal}
 use Rattle.std.specs.List.{AllByRecursion, IsDistinct, list_any}
 use Rattle.std.specs.Str.{bytes_eq}
 use Rattle.cyc_base.specs.Names.{IsBlifByte, IsBlifName}
+use Rattle.cyc_base.proofs.ListLemmas.{all_weaker, all_append}
+use Rattle.cyc_base.proofs.NameLemmas.{bytes_eq-other}
 use Rattle.tildes.specs.Runs.{leading_run, longest_run, longest_run_of, tildes}
 use Rattle.tildes.proofs.RunLemmas.{leading_longest, longest_behind}
 use Rattle.tildes.proofs.MarkLemmas.{run_longest, without_tildes}
 use Rattle.tildes.proofs.DigitLemmas.{split_at_tilde, decimal_no_tilde}
 use Rattle.tildes.proofs.BlifLemmas.{tildes_fit, decimal_fits}
-use Rattle.loops.proofs.Walks.{all_append, all_weaker}
 use Rattle.unroll.specs.Marks.{zero_name, copy_name}
-
--- names that differ
-pub not_equal : (x y : List ℕ) → x ≢ y → bytes_eq x y ≡ false
-not_equal x y ne =
-    elim (cases_Bool (bytes_eq x y)) [
-      | inl e ↦ absurd (ne ((bytes_eq-Decides x y).0 e))
-      | inr e ↦ e
-    ]
 
 -- runs of `~`
 pub copy_is_long : (n k : ℕ) (name : List ℕ) → n ≤ longest_run (copy_name (tildes n) k name)
@@ -41,10 +32,10 @@ zero_is_long n =
 
 -- a name with a longer run than another
 pub longer : (x y : List ℕ) → longest_run x < longest_run y → bytes_eq x y ≡ false
-longer x y l = not_equal x y (λ e. (let d = ap longest_run e in absurd (omega arith)))
+longer x y l = bytes_eq-other x y (λ e. (let d = ap longest_run e in absurd (omega arith)))
 
 pub shorter : (x y : List ℕ) → longest_run x < longest_run y → bytes_eq y x ≡ false
-shorter x y l = not_equal y x (λ e. (let d = ap longest_run e in absurd (omega arith)))
+shorter x y l = bytes_eq-other y x (λ e. (let d = ap longest_run e in absurd (omega arith)))
 
 -- each of these names has at most their longest run
 pub all_short : (names : List (List ℕ)) (most : ℕ) → longest_run_of names ≤ most → AllByRecursion (λ name. longest_run name ≤ most) names
@@ -62,7 +53,7 @@ first_byte : (x y : ℕ) (xs ys : List ℕ) → x ∷ xs ≡ y ∷ ys → x ≡ 
 first_byte x y xs ys e = cc
 
 pub zero_is_no_copy : (n k : ℕ) (name : List ℕ) → bytes_eq (zero_name (tildes n)) (copy_name (tildes n) k name) ≡ false
-zero_is_no_copy n k name = not_equal (zero_name (tildes n)) (copy_name (tildes n) k name) (λ e. (let h = first_byte 122 99 (tildes n) (decimal k ++ (tildes n ++ name)) e in absurd (omega arith)))
+zero_is_no_copy n k name = bytes_eq-other (zero_name (tildes n)) (copy_name (tildes n) k name) (λ e. (let h = first_byte 122 99 (tildes n) (decimal k ++ (tildes n ++ name)) e in absurd (omega arith)))
 
 -- BLIF names
 pub zero_name_fits : (n : ℕ) → IsBlifName (zero_name (tildes n))
@@ -111,9 +102,6 @@ distinct_apart (x ∷ xs) ys h = (all_of_second (λ y. bytes_eq x y ≡ false) x
 pub apart_append : (xs ys zs : List (List ℕ)) → Apart xs ys → Apart xs zs → Apart xs (ys ++ zs)
 apart_append [] ys zs h k = tt
 apart_append (x ∷ xs) ys zs h k = (all_append (λ y. bytes_eq x y ≡ false) ys zs h.0 k.0, apart_append xs ys zs h.1 k.1)
-
-pub apart_both : (xs ys zs : List (List ℕ)) → Apart xs zs → Apart ys zs → Apart (xs ++ ys) zs
-apart_both xs ys zs h k = all_append (λ x. AllByRecursion (λ y. bytes_eq x y ≡ false) zs) xs ys h k
 
 -- short names are apart from long ones
 one_short : (most : ℕ) (x : List ℕ) (ys : List (List ℕ)) → longest_run x ≤ most → AllByRecursion (λ y. most < longest_run y) ys → AllByRecursion (λ y. bytes_eq x y ≡ false) ys

@@ -5,6 +5,7 @@ use Rattle.std.proofs.lemmas.Bool.{cases_lt, cases_Bool, and_from, lt-ltb, le-lt
 use Rattle.std.proofs.lemmas.List.{get_or-map, get_or_append_left, length-map}
 use Rattle.std.specs.List.{AllByRecursion}
 use Rattle.cyc_base.specs.declared.sig.Sig.{Sig}
+use Rattle.cyc_base.proofs.ListLemmas.{all_weaker}
 use Rattle.netlist.specs.declared.parts.Gate.{Gate}
 use Rattle.netlist.specs.declared.parts.Parts.{Parts}
 use Rattle.netlist.specs.Netlists.{signal, gate_at, gate_sig}
@@ -15,7 +16,7 @@ use Rattle.loops.specs.Walks.{SameLoop}
 use Rattle.loops.proofs.Reading.{in_loop_from}
 use Rattle.loops.proofs.Sweeps.{same-sym, same-trans, same_within}
 use Rattle.loops.proofs.Unique.{feeds_at}
-use Rattle.loops.proofs.Walks.{all_weaker, on_closed_walk, leads-any, cuts_leave_no_loop}
+use Rattle.loops.proofs.Walks.{on_closed_walk, leads-any, cuts_leave_no_loop}
 use Rattle.unroll.specs.Laws.{UnrolledIsLoopFree}
 use Rattle.unroll.specs.Unrolled.{Copy, copy_of, copies_of, copies, most, place, has_loop, constants, shift, copy_signal, old_signal, copy_pin, kept_pin, copy_gate, kept_gate, kept_latch, unrolled, IsOfLoops}
 use Rattle.unroll.proofs.Kept.{many_of, self_of}
@@ -40,23 +41,23 @@ from_place f xs y c =
     record { at = c.0; within = inside; is = λ d. sym (get_or-map f xs c.0 d y inside) ∙ c.2 }
 
 -- a choice of signals, where the tests are known
-pick_first : (b d : Bool) (x y z : Sig) → b ≡ true → d ≡ true → (if b then (if d then x else y) else z) ≡ x
+pub pick_first : (b d : Bool) (x y z : Sig) → b ≡ true → d ≡ true → (if b then (if d then x else y) else z) ≡ x
 pick_first b d x y z e f = rw (e, f) refl
 
-pick_second : (b d : Bool) (x y z : Sig) → b ≡ true → d ≡ false → (if b then (if d then x else y) else z) ≡ y
+pub pick_second : (b d : Bool) (x y z : Sig) → b ≡ true → d ≡ false → (if b then (if d then x else y) else z) ≡ y
 pick_second b d x y z e f = rw (e, f) refl
 
-pick_third : (b d : Bool) (x y z : Sig) → b ≡ false → (if b then (if d then x else y) else z) ≡ z
+pub pick_third : (b d : Bool) (x y z : Sig) → b ≡ false → (if b then (if d then x else y) else z) ≡ z
 pick_third b d x y z e = rw e refl
 
-pick_cut : (b d : Bool) (x y : Sig) → b ≡ true → d ≡ true → (if b && d then x else y) ≡ x
+pub pick_cut : (b d : Bool) (x y : Sig) → b ≡ true → d ≡ true → (if b && d then x else y) ≡ x
 pick_cut b d x y e f = rw (e, f) refl
 
-pick_free : (b d : Bool) (x y : Sig) → d ≡ false → (if b && d then x else y) ≡ y
+pub pick_free : (b d : Bool) (x y : Sig) → d ≡ false → (if b && d then x else y) ≡ y
 pick_free true d x y f = rw f refl
 pick_free false d x y f = refl
 
-pick_out : (b d : Bool) (x y : Sig) → b ≡ false → (if b && d then x else y) ≡ y
+pub pick_out : (b d : Bool) (x y : Sig) → b ≡ false → (if b && d then x else y) ≡ y
 pick_out b d x y e = rw e refl
 
 all_unmap : (P : ℕ → Type 0) (f : ℕ → ℕ) (xs : List ℕ) → AllByRecursion P (map f xs) → AllByRecursion (λ n. P (f n)) xs

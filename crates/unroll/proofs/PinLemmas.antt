@@ -42,23 +42,3 @@ none_if false g r n e = refl
 
 pub if_true : (b : Bool) (x y : Sig) → b ≡ true → (if b then x else y) ≡ x
 if_true b x y e = rw e refl
-
--- a choice among three signals, and one among two
-pub first_of : (b d : Bool) (x y z : Sig) → b ≡ true → d ≡ true → (if b then (if d then x else y) else z) ≡ x
-first_of b d x y z e f = rw (e, f) refl
-
-pub second_of : (b d : Bool) (x y z : Sig) → b ≡ true → d ≡ false → (if b then (if d then x else y) else z) ≡ y
-second_of b d x y z e f = rw (e, f) refl
-
-pub third_of : (b d : Bool) (x y z : Sig) → b ≡ false → (if b then (if d then x else y) else z) ≡ z
-third_of b d x y z e = rw e refl
-
-pub both_of : (b d : Bool) (x y : Sig) → b ≡ true → d ≡ true → (if b && d then x else y) ≡ x
-both_of b d x y e f = rw (e, f) refl
-
-pub not_second_of : (b d : Bool) (x y : Sig) → d ≡ false → (if b && d then x else y) ≡ y
-not_second_of true d x y f = rw f refl
-not_second_of false d x y f = refl
-
-pub not_first_of : (b d : Bool) (x y : Sig) → b ≡ false → (if b && d then x else y) ≡ y
-not_first_of b d x y e = rw e refl

@@ -5,10 +5,10 @@ use Rattle.std.proofs.lemmas.List.{get_or-append-add, get_or_append_left, get_or
 use Rattle.std.proofs.lemmas.List.Elements.{Contains-append_left, Contains-append_right, All-filter, filter_passes}
 use Rattle.std.proofs.lemmas.List.FromFn.{get_or-range_with_len, length-range_with_len}
 use Rattle.std.specs.List.{AllByRecursion, range_with_len}
+use Rattle.cyc_base.proofs.ListLemmas.{Contains-map, Contains-filter, Contains-range, all_weaker, all_append, all_filter}
 use Rattle.netlist.specs.declared.parts.Parts.{Parts}
 use Rattle.loops.specs.Cuts.{Loops}
-use Rattle.loops.proofs.Reading.{Contains-map, Contains-filter, Contains-range}
-use Rattle.loops.proofs.Walks.{all_weaker, all_append}
+use Rattle.loops.proofs.OrderLemmas.{range_above}
 use Rattle.unroll.specs.Unrolled.{Copy, copy_of, copies_of, copied, copies_upto, most, copies, place}
 
 -- what two numbers of copies and their gates tell of the copies
@@ -68,21 +68,9 @@ abbrev pub Increasing : List ℕ → Type 0
 Increasing [] = Unit {0}
 Increasing (x ∷ xs) = AllByRecursion (λ y. x < y) xs × Increasing xs
 
-range_above : (a b n : ℕ) → a < b → AllByRecursion (λ y. a < y) (range_with_len b n)
-range_above a b zero l = tt
-range_above a b (suc n) l = (l, range_above a (b + 1) n (omega arith))
-
 pub range_increasing : (a n : ℕ) → Increasing (range_with_len a n)
 range_increasing a zero = tt
 range_increasing a (suc n) = (range_above a (a + 1) n (omega arith), range_increasing (a + 1) n)
-
-all_filter : (P : ℕ → Type 0) (p : ℕ → Bool) (xs : List ℕ) → AllByRecursion P xs → AllByRecursion P (filter p xs)
-all_filter P p [] h = tt
-all_filter P p (x ∷ xs) h = by (p x) refl (all_filter P p xs h.1)
-  where
-    by : (b : Bool) → p x ≡ b → AllByRecursion P (filter p xs) → AllByRecursion P (filter p (x ∷ xs))
-    by true e rest = rw e (h.0, rest)
-    by false e rest = rw e rest
 
 pub filter_increasing : (p : ℕ → Bool) (xs : List ℕ) → Increasing xs → Increasing (filter p xs)
 filter_increasing p [] h = tt

@@ -4,12 +4,13 @@ use Rattle.std.proofs.lemmas.Bool.{cases_lt, leb-true, le-leb}
 use Rattle.std.proofs.lemmas.List.{append-nil, get_or-replicate, get_or_default, length-append, length-map, length-replicate, map-append, append_assoc}
 use Rattle.std.specs.List.{AllByRecursion, range_with_len}
 use Rattle.cyc_base.specs.declared.sig.Sig.{Sig}
+use Rattle.cyc_base.proofs.ListLemmas.{map-map}
 use Rattle.netlist.specs.declared.parts.Gate.{Gate}
 use Rattle.netlist.specs.declared.parts.Parts.{Parts}
 use Rattle.netlist.specs.Netlists.{signal, count, gate_at}
 use Rattle.loops.specs.Cuts.{Loops, AreLoopsOf}
 use Rattle.loops.specs.Sweeps.{first_gate, gate_of, in_loop_of}
-use Rattle.loops.proofs.Reading.{in_loop_from}
+use Rattle.loops.proofs.Reading.{in_loop_from, map_agree}
 use Rattle.loops.proofs.Sweeps.{same-sym, same-trans, same_within}
 use Rattle.unroll.specs.Marks.{mark, copy_name}
 use Rattle.unroll.specs.Unrolled.{copy_of, copies_of, copied, copies_upto, most, copies, place, constants, shift, moved, copy_signal, copy_pin, copy_gate, IsOfLoops}
@@ -46,14 +47,6 @@ entered_other table (g ∷ gates) first n h =
 pub map_same : {A B : Type 0} (f g : A → B) (xs : List A) → ((x : A) → f x ≡ g x) → map f xs ≡ map g xs
 map_same f g [] h = refl
 map_same f g (x ∷ xs) h = ap₂ (λ y ys. y ∷ ys) (h x) (map_same f g xs h)
-
-pub map_where : {A B : Type 0} (f g : A → B) (xs : List A) → ((i : ℕ) (d : A) → i < length xs → f (get_or xs i d) ≡ g (get_or xs i d)) → map f xs ≡ map g xs
-map_where f g [] h = refl
-map_where f g (x ∷ xs) h = ap₂ (λ y ys. y ∷ ys) (h zero x (omega arith)) (map_where f g xs (λ i d l. h (suc i) d (omega arith)))
-
-pub map-map : {A B C : Type 0} (f : B → C) (g : A → B) (xs : List A) → map f (map g xs) ≡ map (λ x. f (g x)) xs
-map-map f g [] = refl
-map-map f g (x ∷ xs) = ap (λ ys. f (g x) ∷ ys) (map-map f g xs)
 
 -- a choice among three signals in two ways
 pub choice_same : (b d : Bool) (x y z x' y' z' : Sig) → (b ≡ true → x ≡ x') → (b ≡ true → y ≡ y') → z ≡ z' → (if b then (if d then x else y) else z) ≡ (if b then (if d then x' else y') else z')
@@ -198,7 +191,7 @@ module _ (net : Parts) (loops : Loops) (m : ℕ → ℕ) where
           let old = copies_upto net loops m k in
           let ns = copied net loops m (suc k) in
           ap₂ (λ xs ys. xs ++ ys) e
-          (map_where (copy_gate_by net loops (mark net) by earlier beside (suc k)) (λ n. copy_gate net loops m (copy_of (suc k) n)) ns
+          (map_agree (copy_gate_by net loops (mark net) by earlier beside (suc k)) (λ n. copy_gate net loops m (copy_of (suc k) n)) ns
           (λ i d l. gate_same (get_or ns i d) (copied_has net loops m (suc k) i d l))
           ∙ sym (map-map (copy_gate net loops m) (copy_of (suc k)) ns))
           ∙ append_assoc (constants net loops) (map (copy_gate net loops m) old) (map (copy_gate net loops m) (map (copy_of (suc k)) ns))

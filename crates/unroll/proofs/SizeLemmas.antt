@@ -3,16 +3,11 @@ use Rattle.std.proofs.Common.{◌≡◌, ◌||◌, inl, inr, ℕ, zero, suc, ◌
 use Rattle.std.proofs.lemmas.Bool.{cases_eq}
 use Rattle.std.proofs.lemmas.List.Sums.{sum_by-append, sum_by-cons}
 use Rattle.std.specs.List.{range_with_len, list_any, sum_by}
+use Rattle.cyc_base.proofs.ListLemmas.{range-suc}
 use Rattle.unroll.specs.Unrolled.{copies_of, most}
 
-pub range_more : (a n : ℕ) → range_with_len a (suc n) ≡ range_with_len a n ++ (a + n) ∷ []
-range_more a zero = ap (λ (x : ℕ). x ∷ []) (let e : a ≡ a + 0 = omega arith in e)
-range_more a (suc n) =
-    let e : (a + 1) + n ≡ a + suc n = omega arith in
-    ap (λ (xs : List ℕ). a ∷ xs) (range_more (a + 1) n ∙ ap (λ (x : ℕ). range_with_len (a + 1) n ++ x ∷ []) e)
-
 pub range_next : (n : ℕ) → range_with_len 0 (n + 1) ≡ range_with_len 0 n ++ n ∷ []
-range_next n = rw add-one (range_more 0 n ∙ ap (λ (x : ℕ). range_with_len 0 n ++ x ∷ []) (let e : 0 + n ≡ n = omega arith in e))
+range_next n = rw add-one (range-suc 0 n ∙ ap (λ (x : ℕ). range_with_len 0 n ++ x ∷ []) (let e : 0 + n ≡ n = omega arith in e))
 
 any_append : (p : ℕ → Bool) (xs ys : List ℕ) → list_any p (xs ++ ys) ≡ (list_any p xs || list_any p ys)
 any_append p [] ys = refl
@@ -27,14 +22,14 @@ none_in_range p zero h = refl
 none_in_range p (suc n) h =
     let before = none_in_range p n (λ k l. h k (omega arith)) in
     let last : 0 + n ≡ n = omega arith in
-    ap (list_any p) (range_more 0 n) ∙ any_append p (range_with_len 0 n) ((0 + n) ∷ [])
+    ap (list_any p) (range-suc 0 n) ∙ any_append p (range_with_len 0 n) ((0 + n) ∷ [])
     ∙ ap₂ (λ a b. a || (b || false)) before (ap p last ∙ h n (omega arith))
 
 pub one_in_range : (p : ℕ → Bool) (n k : ℕ) → k < n → p k ≡ true → list_any p (range_with_len 0 n) ≡ true
 one_in_range p zero k l h = absurd (omega arith)
 one_in_range p (suc n) k l h =
     let last : 0 + n ≡ n = omega arith in
-    ap (list_any p) (range_more 0 n) ∙ any_append p (range_with_len 0 n) ((0 + n) ∷ [])
+    ap (list_any p) (range-suc 0 n) ∙ any_append p (range_with_len 0 n) ((0 + n) ∷ [])
     ∙ elim (cases_eq k n) [
       | inl e ↦ by_last (list_any p (range_with_len 0 n)) (p (0 + n)) (ap p (last ∙ sym e) ∙ h)
       | inr ne ↦ ap (λ a. a || (p (0 + n) || false)) (one_in_range p n k (omega (arith, ne)) h)

@@ -6,16 +6,16 @@ use Rattle.std.specs.List.{range_with_len}
 use Rattle.cyc_base.specs.declared.sig.Sig.{Sig}
 use Rattle.cyc_base.specs.declared.trit.Trit.{Trit}
 use Rattle.cyc_base.specs.declared.trit.Trit.TheVariants.{X}
+use Rattle.cyc_base.proofs.ListLemmas.{map-map}
 use Rattle.cover_logic.specs.Extensions.{ext}
 use Rattle.netlist.specs.declared.parts.Parts.{Parts}
 use Rattle.netlist.specs.Netlists.{signal, gate_at}
 use Rattle.netlist.specs.Fixpoint.{wire, gate_value, fix, fix_gates}
+use Rattle.netlist.proofs.FixpointLemmas.{get_or-fix}
 use Rattle.loops.specs.Cuts.{Loops}
 use Rattle.loops.specs.Sweeps.{first_gate}
-use Rattle.loops.proofs.Reading.{get_or-fix}
 use Rattle.unroll.specs.Unrolled.{Copy, copy_of, copies, place, constants, copy_signal, copy_pin, kept_pin, copy_gate, kept_gate, unrolled}
 use Rattle.unroll.proofs.Places.{Placed}
-use Rattle.unroll.proofs.Rounds.{map-map}
 use Rattle.unroll.proofs.Measures.{length-unrolled}
 
 -- an item of the last of three parts

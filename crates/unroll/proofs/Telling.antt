@@ -6,6 +6,7 @@ use Rattle.cyc_base.specs.declared.sig.Sig.{Sig}
 use Rattle.cyc_base.specs.declared.trit.Trit.{Trit}
 use Rattle.cyc_base.specs.Values.{EachBelow}
 use Rattle.cyc_base.proofs.OrderLemmas.{EachBelow-map}
+use Rattle.cyc_base.proofs.ListLemmas.{map-map}
 use Rattle.netlist.specs.declared.parts.Parts.{Parts}
 use Rattle.netlist.specs.Fixpoint.{wire, fix}
 use Rattle.netlist.specs.Netlists.{gate_at, gate_sig, signal_names}
@@ -17,7 +18,7 @@ use Rattle.unroll.specs.Unrolled.{copy_of, copies_of, copies, place, shift, copy
 use Rattle.unroll.proofs.Above.{unrolled_is_above}
 use Rattle.unroll.proofs.Measures.{size_is_size}
 use Rattle.unroll.proofs.Places.{copy_placed}
-use Rattle.unroll.proofs.Rounds.{map-map, map_same}
+use Rattle.unroll.proofs.Rounds.{map_same}
 use Rattle.unroll.proofs.Standing.{gate_at_copy, gate_at_kept}
 use Rattle.unroll.proofs.Valid.{moved_low, moved_high, names_new, names_old, old_names, zero_names, copy_names, gate_names, unrolled_is_netlist}
 

@@ -1,6 +1,6 @@
 -- The unrolled netlist is a netlist.
 use Rattle.std.proofs.Common.{◌≡◌, ◌||◌, inl, inr, ℕ, zero, suc, ◌+◌, ◌^◌, ◌<◌, ◌≤◌, Bool, true, false, ◌&&◌, if◌then◌else◌, List, [], ◌∷◌, ◌++◌, length, map, get_or, Some, None, IfSome, refl, ap, ap₂, sym, ◌∙◌, subst, arith, All, true≢false}
-use Rattle.std.proofs.lemmas.Bool.{cases_Bool, cases_eq, cases_lt, lt-leb, le-leb, eqb-true, eq-eqb}
+use Rattle.std.proofs.lemmas.Bool.{cases_Bool, cases_eq, cases_lt, lt-leb, le-leb, eqb-true, eq-eqb, or_parts}
 use Rattle.std.proofs.lemmas.List.{append_assoc, get_or-map, length-map, map-append}
 use Rattle.std.proofs.lemmas.List.Elements.{All-append, All-map}
 use Rattle.std.proofs.lemmas.List.Folds.{list_any-append}
@@ -13,6 +13,8 @@ use Rattle.std.specs.Str.{bytes_eq}
 use Rattle.std.specs.declared.option.Option.{Option}
 use Rattle.cyc_base.specs.Names.{IsBlifName}
 use Rattle.cyc_base.specs.declared.sig.Sig.{Sig}
+use Rattle.cyc_base.proofs.ListLemmas.{all_weaker, all_append, map-map, all_map}
+use Rattle.cyc_base.proofs.NameLemmas.{bytes_eq-other}
 use Rattle.tildes.specs.Runs.{longest_run, longest_run_of}
 use Rattle.tildes.proofs.RunLemmas.{longest-append}
 use Rattle.netlist.specs.declared.parts.Clock.{Clock}
@@ -24,18 +26,17 @@ use Rattle.loops.specs.Cuts.{Loops, AreLoopsOf}
 use Rattle.loops.specs.Sweeps.{first_gate, gate_of, in_loop_of}
 use Rattle.loops.proofs.Reading.{in_loop_from}
 use Rattle.loops.proofs.Sweeps.{same_within}
-use Rattle.loops.proofs.Walks.{all_append, all_weaker}
 use Rattle.unroll.specs.Marks.{longest_run_in, clock_names, mark, zero_name, copy_name}
 use Rattle.unroll.specs.Unrolled.{Copy, copy_of, copies_of, copied, copies_upto, copies, most, has_loop, zero_gate, constants, shift, moved, old_signal, copy_signal, copy_pin, kept_pin, copy_gate, kept_gate, kept_latch, unrolled, unrolled_size, IsOfLoops}
-use Rattle.unroll.proofs.NameLemmas.{not_equal, copy_is_long, zero_is_long, all_short, copy_names_tell, zero_is_no_copy, zero_name_fits, copy_name_fits, Apart, distinct_append, distinct_first, distinct_second, distinct_apart, apart_append, short_from_long, long_from_short, short_is_none, all_of_first, all_of_second}
+use Rattle.unroll.proofs.NameLemmas.{copy_is_long, zero_is_long, all_short, copy_names_tell, zero_is_no_copy, zero_name_fits, copy_name_fits, Apart, distinct_append, distinct_first, distinct_second, distinct_apart, apart_append, short_from_long, long_from_short, short_is_none, all_of_first, all_of_second}
 use Rattle.unroll.proofs.Places.{copied_within, copied_has, copy_placed, upto_apart}
 use Rattle.unroll.proofs.Places as places
-use Rattle.unroll.proofs.Rounds.{map-map, has_same}
+use Rattle.unroll.proofs.Rounds.{has_same}
 use Rattle.unroll.proofs.Kept.{many_of, self_of}
 use Rattle.unroll.proofs.Measures.{size_is_shift, count_unrolled}
 
 -- facts of all items, by their places and by recursion
-to_recursion : {A : Type 0} (P : A → Type 0) (xs : List A) → All P xs → AllByRecursion P xs
+pub to_recursion : {A : Type 0} (P : A → Type 0) (xs : List A) → All P xs → AllByRecursion P xs
 to_recursion P [] h = tt
 to_recursion P (x ∷ xs) h = (h 0 x (omega arith), to_recursion P xs (λ k d l. h (suc k) d (omega arith)))
 
@@ -43,10 +44,6 @@ from_recursion : {A : Type 0} (P : A → Type 0) (xs : List A) → AllByRecursio
 from_recursion P [] h k d l = absurd (omega arith)
 from_recursion P (x ∷ xs) h zero d l = h.0
 from_recursion P (x ∷ xs) h (suc k) d l = from_recursion P xs h.1 k d (omega arith)
-
-all_made : {A B : Type 0} (P : B → Type 0) (f : A → B) (xs : List A) → AllByRecursion (λ x. P (f x)) xs → AllByRecursion P (map f xs)
-all_made P f [] h = tt
-all_made P f (x ∷ xs) h = (h.0, all_made P f xs h.1)
 
 all_ever : {A : Type 0} (P : A → Type 0) (xs : List A) → ((x : A) → P x) → AllByRecursion P xs
 all_ever P [] h = tt
@@ -117,10 +114,6 @@ any_kept : (p : Latch → Bool) (f : Latch → Latch) (xs : List Latch) → ((x 
 any_kept p f [] h = refl
 any_kept p f (x ∷ xs) h = ap₂ (λ a b. a || b) (h x) (any_kept p f xs h)
 
-neither : (a b : Bool) → (a || b) ≡ false → (a ≡ false) × (b ≡ false)
-neither true b e = absurd (true≢false e)
-neither false b e = (refl, e)
-
 module _ (net : Parts) (loops : Loops) (m : ℕ → ℕ) where
   abbrev new : Parts
   new = unrolled net loops m
@@ -181,7 +174,7 @@ module _ (net : Parts) (loops : Loops) (m : ℕ → ℕ) where
 
   copies_long : (cs : List Copy) → AllByRecursion (λ name. level < longest_run name) (copy_names cs)
   copies_long cs =
-      all_made (λ name. level < longest_run name) (λ copy. copy_name (mark net) copy.number (gate_at net copy.gate).name) cs
+      all_map (λ name. level < longest_run name) (λ copy. copy_name (mark net) copy.number (gate_at net copy.gate).name) cs
       (all_ever (λ copy. level < longest_run (copy_name (mark net) copy.number (gate_at net copy.gate).name)) cs
       (λ copy. (let h = copy_is_long (suc level) copy.number (gate_at net copy.gate).name in omega arith)))
 
@@ -198,7 +191,7 @@ module _ (net : Parts) (loops : Loops) (m : ℕ → ℕ) where
     where
       by : (b : Bool) → Apart (gate_names (if b then zero_gate (mark net) ∷ [] else [])) (copy_names cs)
       by true = (
-        all_made (λ name. bytes_eq (zero_name (mark net)) name ≡ false) (λ copy. copy_name (mark net) copy.number (gate_at net copy.gate).name) cs
+        all_map (λ name. bytes_eq (zero_name (mark net)) name ≡ false) (λ copy. copy_name (mark net) copy.number (gate_at net copy.gate).name) cs
             (all_ever (λ copy. bytes_eq (zero_name (mark net)) (copy_name (mark net) copy.number (gate_at net copy.gate).name) ≡ false) cs
             (λ copy. zero_is_no_copy (suc level) copy.number (gate_at net copy.gate).name)),
         tt,
@@ -237,7 +230,7 @@ module _ (net : Parts) (loops : Loops) (m : ℕ → ℕ) where
     copy_from_rest : (x : Copy) (cs : List Copy) → AllByRecursion (λ y. x ≡ y → ⊥) cs → Good x → AllByRecursion Good cs → AllByRecursion (λ name. bytes_eq (copy_name (mark net) x.number (gate_at net x.gate).name) name ≡ false) (copy_names cs)
     copy_from_rest x [] far good rest = tt
     copy_from_rest x (y ∷ cs) far good rest = (
-      not_equal (copy_name (mark net) x.number (gate_at net x.gate).name) (copy_name (mark net) y.number (gate_at net y.gate).name)
+      bytes_eq-other (copy_name (mark net) x.number (gate_at net x.gate).name) (copy_name (mark net) y.number (gate_at net y.gate).name)
           (λ e.
           let t = copy_names_tell level x.number y.number (gate_at net x.gate).name (gate_at net y.gate).name good.1 rest.0.1 e in
           far.0 (ap₂ copy_of t.0 (gate_of_name x.gate y.gate good.0 rest.0.0 t.1))),
@@ -306,7 +299,7 @@ module _ (net : Parts) (loops : Loops) (m : ℕ → ℕ) where
       names_fit =
           let Gs = gate_names net.gates in
           let C = copy_names (copies net loops m) in
-          let fit_C = all_made IsBlifName (λ copy. copy_name (mark net) copy.number (gate_at net copy.gate).name) (copies net loops m)
+          let fit_C = all_map IsBlifName (λ copy. copy_name (mark net) copy.number (gate_at net copy.gate).name) (copies net loops m)
           (all_weaker Good (λ copy. IsBlifName (copy_name (mark net) copy.number (gate_at net copy.gate).name)) (copies net loops m)
           (λ copy good. copy_name_fits (suc level) copy.number (gate_at net copy.gate).name good.1 (gate_name_fits copy.gate good.0))
           good_copies) in
@@ -421,7 +414,7 @@ module _ (net : Parts) (loops : Loops) (m : ℕ → ℕ) where
       unfolding IsDistinct
       outputs_distinct [] h = tt
       outputs_distinct (x ∷ xs) h = (
-        all_made (λ y. sig_eq (old_signal net loops m x) y ≡ false) (old_signal net loops m) xs
+        all_map (λ y. sig_eq (old_signal net loops m x) y ≡ false) (old_signal net loops m) xs
             (all_weaker (λ y. sig_eq x y ≡ false) (λ y. sig_eq (old_signal net loops m x) (old_signal net loops m y) ≡ false) xs (moved_apart x) h.0),
         outputs_distinct xs h.1,
       )
@@ -429,7 +422,7 @@ module _ (net : Parts) (loops : Loops) (m : ℕ → ℕ) where
       -- the clock
       still_undriven : (name : List ℕ) → longest_run name ≤ level → is_driven net name ≡ false → is_driven new name ≡ false
       still_undriven name short h =
-          let parts = neither (list_any (λ latch. bytes_eq name latch.name) net.latches) (list_any (λ gate. bytes_eq name gate.name) net.gates) h in
+          let parts = or_parts (list_any (λ latch. bytes_eq name latch.name) net.latches) (list_any (λ gate. bytes_eq name gate.name) net.gates) h in
           let C = copy_names (copies net loops m) in
           let Gs = gate_names net.gates in
           ap₂ (λ a b. a || b)

@@ -15,9 +15,6 @@ code_enough (suc f) (suc g) n few more =
           (ap (λ (ds : List ℕ). (33 + n % 94) ∷ ds) (code_enough f g (n / 94 - 1) (omega (arith, far, few)) (omega (arith, far, more))))
     ]
 
-pub code_short : (n : ℕ) → n < 94 → code n ≡ (33 + n) ∷ []
-code_short n short = rw (lt-ltb n 94 short) refl
-
 pub code_step : (n : ℕ) → 94 ≤ n → code n ≡ (33 + n % 94) ∷ code (n / 94 - 1)
 code_step n far =
     rw (le-ltb n 94 far)

@@ -1,3 +1,4 @@
+-- The chapter: what the contracts of public functions say.
 pub mod Codes
 pub mod Dumps
 pub mod Kinds

@@ -1,12 +1,11 @@
 -- The refusal of the first observed gate that is unknown on care.
-use Rattle.std.proofs.Common.{◌≡◌, inl, inr, ℕ, ◌<◌, ◌≤◌, Bool, true, false, not, ◌&&◌, List, length, map, get_or, Option, Some, None, refl, sym, ap, ap₂, ◌∙◌, subst, arith, Contains, true≢false}
-use Rattle.verdict.proofs.Common.{find, is_some, and_parts, and_from, cases_lt, get_or-map, get_or_default, get_or_past, length-map, vectors, Parts, IsNetlist, gate_sig, Blocks, AreBlocksOf, is_marked, ListsMarked, unsettled_loops_decide, CareSet, columns, is_care_vector, Observe, Undetermined, observed, is_undetermined, is_x, undetermined_refusal, none_passes, gate_wire, care_vector_is, is_unknown_at, AreFanoutMarks, SettleInOneSweep, AreMarksOf, AreAsked}
+use Rattle.std.proofs.Common.{◌≡◌, inl, inr, ℕ, ◌<◌, ◌≤◌, Bool, true, false, not, List, length, map, get_or, Option, Some, None, refl, sym, ap, ◌∙◌, subst, arith, Contains, true≢false}
+use Rattle.verdict.proofs.Common.{find, is_some, and_from, cases_lt, get_or-map, get_or_default, get_or_past, length-map, vectors, Parts, IsNetlist, gate_sig, Blocks, AreBlocksOf, is_marked, ListsMarked, unsettled_loops_decide, CareSet, columns, is_care_vector, Observe, Undetermined, observed, is_undetermined, is_x, undetermined_refusal, none_passes, gate_wire, care_vector_is, is_unknown_at, SettleInOneSweep, AreMarksOf, AreAsked}
 use Rattle.std.specs.List.{All}
 use Rattle.std.proofs.lemmas.Bool.{cases_eq}
 use Rattle.isolation.specs.Excerpts.{gate_in}
 use Rattle.clause_decision.specs.Tests.{is_unknown, IsFirstUnknown}
 use Rattle.verdict.specs.Determination.{AreDeterminedOnCare, IsOpen}
-use Rattle.verdict.specs.Loose.{AreCandidates}
 use Rattle.verdict.specs.Scopes.{AreOpenGates}
 use Rattle.verdict.specs.Unknown.{AreAskedCandidates, IsFirstToRefuse}
 use Rattle.verdict.proofs.DeterminationLemmas.{known-here, marks_of, marks-are}
@@ -49,29 +48,6 @@ asked-first net what last marks first are width kept cleared = record {
     ]
 
 -- ---- the gates that may be unknown
-
--- all of them, marked from the loops on
-pub candidates-are : (net : Parts) (blocks : Blocks) (settled opened fanout : List Bool) → length blocks.home ≡ length net.gates → opened ≡ map (λ home. not (is_marked settled home)) blocks.home →
-    AreFanoutMarks net opened fanout → AreCandidates net blocks settled fanout
-candidates-are net blocks settled opened fanout homes opened_is fanout_is = record {
-  width = fanout_is.width;
-  each = λ n less b. (fanout_is.each n less).1 (record { gate = b.gate; marked = open-marked b.gate b.opened; upstream = b.upstream });
-}
-  where
-    open-marked : (n : ℕ) → IsOpen net blocks settled n → is_marked opened n ≡ true
-    open-marked n is =
-        ap (λ (ms : List Bool). get_or ms n false) opened_is
-        ∙ get_or-map (λ home. not (is_marked settled home)) blocks.home n 0 false (let w = is.within in omega (arith, w, homes))
-        ∙ ap not is.unsettled
-
--- those that are asked for
-pub candidates-asked : (net : Parts) (blocks : Blocks) (settled asked all marks : List Bool) → length asked ≡ length net.gates → AreCandidates net blocks settled all → length marks ≡ length all →
-    ((k : ℕ) → is_marked marks k ≡ (is_marked all k && is_marked asked k)) → AreAskedCandidates net blocks settled asked marks
-candidates-asked net blocks settled asked all marks wide all_are width each = record {
-  width = width ∙ all_are.width;
-  each = λ n wanted b. each n ∙ ap₂ (λ x y. x && y) (all_are.each n (let l = marked-within asked n wanted in omega (arith, l, wide)) b) wanted;
-  only = λ n marked. (and_parts (is_marked all n) (is_marked asked n) (sym (each n) ∙ marked)).1;
-}
 
 -- ---- the first of them that is unknown
 

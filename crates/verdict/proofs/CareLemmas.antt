@@ -7,10 +7,10 @@ use Rattle.bdd_store.proofs.GrowthLemmas.{within_caused}
 use Rattle.std.proofs.lemmas.List.Elements.{All-map}
 use Rattle.std.proofs.lemmas.Option.{same_Some}
 use Rattle.std.specs.List.{All, slice_index_or}
+use Rattle.cyc_base.proofs.ListLemmas.{map-map}
 use Rattle.care_sets.specs.Care.{inputs_at}
 use Rattle.fixpoint.specs.Sweeping.{unknown}
 use Rattle.fixpoint.specs.Working.{no_loops, IsGatePart}
-use Rattle.fixpoint.proofs.WireLemmas.{map-map}
 
 -- the first rail says where a value is 1
 pub one_rail : (a : Arena) (r : Rails) (v : List Bool) → den a r.one v ≡ is_one (value_of a r v)
@@ -84,10 +84,6 @@ model_there (Some model) net columns first width there are reads =
 
 pub model_is : (o : Option CareModel) (model : CareModel) (P : CareModel → Type 0) → o ≡ Some model → IfSome o P → P model
 model_is o model P is holds = subst (λ (p : Option CareModel). IfSome p P) is holds
-
-pub none_there : (o : Option CareModel) → (let nothing : Option Parts = None in nothing) ≡ option_map (λ model. model.net) o → o ≡ None
-none_there None e = refl
-none_there (Some model) e = cc
 
 -- ---- the model of a care set that is there
 

@@ -50,8 +50,8 @@ pub use Rattle.netlist.specs.Netlists.{IsNetlist, count, gate_sig}
 pub use Rattle.netlist.specs.Walks.{Feeds}
 pub use Rattle.netlist.specs.declared.parts.Latch.{Latch}
 pub use Rattle.netlist.specs.declared.parts.Parts.{Parts}
-pub use Rattle.refusals.proofs.FirstLemmas.{empty-filter, found_wide, none_passes, nothing_passes}
-pub use Rattle.refusals.proofs.RefusalLemmas.{gate_wire, length-fix_gates}
+pub use Rattle.refusals.proofs.FirstLemmas.{empty-filter, found_wide, none_passes}
+pub use Rattle.refusals.proofs.RefusalLemmas.{gate_wire}
 pub use Rattle.refusals.proofs.ShowingLemmas.{care_vector_decides, care_vector_is}
 pub use Rattle.refusals.specs.Acceptance.{gate_sigs, observed}
 pub use Rattle.refusals.specs.Refusals.{care_vectors, initial_refusal, is_undetermined, is_x, leaves, leaves_refusal, next_state, refusal, undetermined_refusal}

@@ -75,7 +75,7 @@ known-bits (t ∷ ts) e =
     one One e = refl
     one X e = cc
 
-bits-known : (w : List Bool) → list_all (λ value. not (is_x value)) (bits w) ≡ true
+pub bits-known : (w : List Bool) → list_all (λ value. not (is_x value)) (bits w) ≡ true
 bits-known [] = refl
 bits-known (false ∷ w) = bits-known w
 bits-known (true ∷ w) = bits-known w

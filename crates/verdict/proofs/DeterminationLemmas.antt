@@ -1,7 +1,10 @@
 -- Netlists whose gates are all determined on care.
 use Rattle.std.proofs.Common.{◌≡◌, ◌≢◌, inl, inr, ℕ, ◌+◌, ◌<◌, Bool, true, false, not, ◌&&◌, ◌==◌, if◌then◌else◌, List, [], ◌∷◌, ◌++◌, length, map, get_or, Option, Some, None, refl, sym, ap, ap₂, ◌∙◌, subst, arith, true≢false, Contains}
-use Rattle.verdict.proofs.Common.{find, is_none, is_some, list_all, option_map_or, option_map, option_or, and_parts, eqb-true, cases_lt, get_or_append_left, length_push, get_or-map, get_or_default, get_or_past, length-map, Sig, Trit, X, bit, bits, vectors, Parts, IsNetlist, gate_sig, fix_gates, Feeds, Blocks, Cut, AreBlocksOf, block_at, home_of, IsCutOf, Loops, loops_by, value_in, IsCountOfSweeps, gate_home, home_gate, unsettled_loops_decide, is_marked, CareSet, columns, is_one, is_care_vector, holds_at, IsCareVector, CareModel, Refusal, EmptyCare, Leaves, Observe, gate_sigs, observed, is_x, is_undetermined, care_vectors, next_state, leaves, undetermined_refusal, empty-filter, found_wide, nothing_passes, gate_wire, length-fix_gates, care_vector_decides, care_vector_is, AreCountsBelow, SettleInOneSweep, IsLeastCount, AreCountsAt, AreMarksOf, are_care_values, AreLoose}
+use Rattle.verdict.proofs.Common.{find, is_none, is_some, list_all, option_map_or, option_map, option_or, and_parts, eqb-true, cases_lt, get_or_append_left, length_push, get_or-map, get_or_default, get_or_past, length-map, Sig, Trit, X, bit, bits, vectors, Parts, IsNetlist, gate_sig, fix_gates, Feeds, Blocks, Cut, AreBlocksOf, block_at, home_of, IsCutOf, Loops, loops_by, value_in, IsCountOfSweeps, gate_home, home_gate, unsettled_loops_decide, is_marked, CareSet, columns, is_one, is_care_vector, holds_at, IsCareVector, CareModel, Refusal, EmptyCare, Leaves, Observe, gate_sigs, observed, is_x, is_undetermined, care_vectors, next_state, leaves, undetermined_refusal, empty-filter, found_wide, gate_wire, care_vector_decides, care_vector_is, AreCountsBelow, SettleInOneSweep, IsLeastCount, AreCountsAt, AreMarksOf, are_care_values, AreLoose}
 use Rattle.std.proofs.lemmas.List.{get_or_push}
+use Rattle.netlist.proofs.FixpointLemmas.{length-fix_gates}
+use Rattle.cyc_base.proofs.VectorLemmas.{find-none}
+use Rattle.cyc_base.proofs.OrderLemmas.{bit-known}
 use Rattle.loops.specs.declared.structure.SweepCounts.{SweepCounts}
 use Rattle.loops.specs.Sweeps.{CutsAreFixed}
 use Rattle.loops.proofs.Told.{blocks_tell_loops}
@@ -11,7 +14,7 @@ use Rattle.isolation.proofs.CountLemmas.{one_sweep_is_exact}
 use Rattle.refusals.specs.Acceptance.{SomeCareVector}
 use Rattle.refusals.specs.Refusals.{is_empty, is_among, empty_refusal}
 use Rattle.refusals.proofs.FirstLemmas.{found_passes}
-use Rattle.refusals.proofs.RefusalLemmas.{bit_known, fails_after, find_none-all, gate_sig_at, known-is_x, length-gate_sigs}
+use Rattle.refusals.proofs.RefusalLemmas.{fails_after, find_none-all, gate_sig_at, known-is_x, length-gate_sigs}
 use Rattle.verdict.specs.Determination.{count_of, number_of, AreDecided, AreDeterminedOnCare, IsDetermination, IsGate, IsOpen}
 use Rattle.verdict.specs.Scopes.{IsCountAt}
 use Rattle.verdict.specs.Laws.{DeterminationsAccept, NothingLeaves}
@@ -50,7 +53,7 @@ determined-around net care gates own feeding v is =
     record {
       width = long ∙ as_bits.counts.width;
       columns = λ k less x.
-          bit_known (get_or w k false)
+          bit-known (get_or w k false)
           (sym (get_or-map bit w k false X (omega (arith, long, less))) ∙ sym (ap (λ (t : List Trit). get_or t k X) as_bits.is) ∙ x);
       own = λ n among x. own w as_bits.counts n among (sym (ap (λ (t : List Trit). value_in (fix_gates net t) n) as_bits.is) ∙ x);
       feeding = λ m n among feeds x. feeding w as_bits.counts m n among feeds (sym (ap (λ (t : List Trit). value_in (fix_gates net t) m) as_bits.is) ∙ x);
@@ -197,7 +200,7 @@ module _ (net : Parts) (valid : IsNetlist net) (blocks : Blocks) (are : AreBlock
 -- a gate that is X at no care vector
 pub known-here : (net : Parts) (care : CareSet) (n : ℕ) → n < length net.gates → ((v : List Bool) → IsCareVector net care v → value_in (fix_gates net (bits v)) n ≢ X) → IsKnownOnCare net care n
 known-here net care n inside known =
-    nothing_passes (columns net) (λ w. is_care_vector net care w && is_undetermined net (gate_sig net n) w)
+    find-none (columns net) (λ w. is_care_vector net care w && is_undetermined net (gate_sig net n) w)
     (λ w wide. fails_after (is_care_vector net care w) (is_undetermined net (gate_sig net n) w)
     (λ counts. ap is_x (gate_wire net w n wide) ∙ known-is_x (get_or (fix_gates net (bits w)) n X) (known w (care_vector_decides net care w wide counts))))
 

@@ -1,9 +1,9 @@
 -- What a decision costs, added up, and covers over the limit.
-use Rattle.std.proofs.Common.{inl, inr, ℕ, ◌+◌, ◌*◌, ◌<◌, ◌≤◌, List, [], ◌∷◌, Option, Some, None, length, arith}
+use Rattle.std.proofs.Common.{inl, inr, ℕ, ◌+◌, ◌*◌, ◌<◌, ◌≤◌, Option, Some, None, length, arith}
 use Rattle.verdict.proofs.Common.{IsSomeAnd, option_map_or, IsWide, Parts, HasLargeCover, effort, CareModel, CareSet, columns, HasModelOver, assume_effort, invariant_effort, decision_cost, IsLaid}
-use Rattle.std.specs.List.{sum_by}
-use Rattle.std.proofs.lemmas.List.Sums.{sum_by-cons, get_or-le-sum_by}
+use Rattle.std.proofs.lemmas.List.Sums.{get_or-le-sum_by}
 use Rattle.std.proofs.Math.Nat.{mul-le-mul_left, mul-le-mul_right}
+use Rattle.isolation.proofs.WidthLemmas.{gates-effort}
 use Rattle.dual_rail.specs.Local.{size}
 use Rattle.netlist.specs.declared.parts.Gate.{Gate}
 use Rattle.netlist.specs.Netlists.{no_gate}
@@ -19,14 +19,6 @@ sum-enough v latches gates assumed invariant effort effort_assumed effort_invari
     let squares : gates * gates ≤ gates * effort = mul-le-mul_left {m = gates} {n = effort} gates less in
     omega (arith, few, less, squares)
 
--- each gate counts one at least
-gates-effort : (gates : List Gate) → length gates ≤ sum_by (λ gate. size gate.cover + 1) gates
-gates-effort [] = omega arith
-gates-effort (gate ∷ gates) =
-    let rest = gates-effort gates in
-    let sum = sum_by-cons (λ (g : Gate). size g.cover + 1) gate gates in
-    omega (arith, rest, sum)
-
 -- the parts together cost no more than is enough
 pub costs-enough : (net : Parts) (care : CareSet) (w : ℕ) → IsWide (columns net) (IsLaid net care) w → w * decision_cost net care ≤ enough net care w
 costs-enough net care w wide =
@@ -39,13 +31,13 @@ costs-enough net care w wide =
 
 -- ---- covers over the limit
 
-large-effort : (net : Parts) (limit : ℕ) → HasLargeCover net limit → limit < effort net
+pub large-effort : (net : Parts) (limit : ℕ) → HasLargeCover net limit → limit < effort net
 large-effort net limit is =
     let over = is.over in
     let most = get_or-le-sum_by (λ (g : Gate). size g.cover + 1) net.gates is.gate no_gate is.within in
     omega (arith, over, most)
 
-model-effort : (o : Option CareModel) (limit : ℕ) → IsSomeAnd o (λ model. HasLargeCover model.net limit) → limit < option_map_or (λ model. effort model.net) o 0
+pub model-effort : (o : Option CareModel) (limit : ℕ) → IsSomeAnd o (λ model. HasLargeCover model.net limit) → limit < option_map_or (λ model. effort model.net) o 0
 model-effort None limit is = absurd is
 model-effort (Some model) limit is = large-effort model.net limit is
 

@@ -7,7 +7,7 @@ pub mod Common
 pub mod CountLemmas
 mod DecisionLemmas
 mod DeterminationLemmas
-mod EnoughLemmas
+pub mod EnoughLemmas
 mod FanoutLemmas
 mod InvarianceLemmas
 mod LeavesLemmas

@@ -1,6 +1,6 @@
 -- The rails of what the latches load, one after another.
-use Rattle.std.proofs.Common.{◌≡◌, ℕ, zero, suc, ◌+◌, ◌<◌, ◌≤◌, Bool, true, false, ◌&&◌, if◌then◌else◌, List, [], ◌∷◌, ◌++◌, length, map, get_or, take, replicate, slice_get, Some, refl, sym, ap, ap₂, ◌∙◌, subst, arith}
-use Rattle.verdict.proofs.Common.{take_all, length_push, get_or-map, length-map, get_or-replicate, get_or_from_slice_get, Node, Arena, den, IsNodeOf, KeepsNodes, nodes, nodes-alike, conjunction, Trit, X, bits, Rails, AreRailsOf, trit_of, value_of, values_of, is_bit, Latch, Parts, wire, fix, next, IsNetlist, count, laid, rails_at, one-of, zero-of, rails_at-proper, is_one, next_state, next_within, BoundsSignals, BoundsBoth, AreFixed}
+use Rattle.std.proofs.Common.{◌≡◌, ℕ, zero, suc, ◌+◌, ◌<◌, ◌≤◌, Bool, true, false, ◌&&◌, if◌then◌else◌, List, [], ◌∷◌, ◌++◌, length, map, get_or, take, replicate, slice_get, Some, sym, ap, ap₂, ◌∙◌, subst, arith}
+use Rattle.verdict.proofs.Common.{length_push, get_or-map, length-map, get_or-replicate, get_or_from_slice_get, Node, Arena, den, IsNodeOf, KeepsNodes, nodes, nodes-alike, conjunction, Trit, X, bits, Rails, AreRailsOf, value_of, values_of, is_bit, Latch, Parts, wire, fix, next, IsNetlist, count, laid, rails_at, one-of, zero-of, rails_at-proper, is_one, next_state, next_within, BoundsSignals, BoundsBoth, AreFixed}
 use Rattle.std.proofs.lemmas.List.{map-append, take-map, take_more, length-replicate}
 use Rattle.std.proofs.lemmas.List.Elements.{All-append}
 use Rattle.std.proofs.lemmas.Option.{slice_get_within}
@@ -9,26 +9,6 @@ use Rattle.dual_rail.proofs.SurelyLemmas.{All-rails-kept, value_of-kept, values_
 use Rattle.verdict.proofs.CareLemmas.{one_rail, value_at-place}
 
 -- ---- rails on a set
-
-restricted-values : (c one zero_ : Bool) → trit_of (c && one) (c && zero_) ≡ (if c then trit_of one zero_ else X)
-restricted-values true one z = refl
-restricted-values false one z = refl
-
-restricted-apart : (c one zero_ : Bool) → (one && zero_) ≡ false → ((c && one) && (c && zero_)) ≡ false
-restricted-apart true one z e = e
-restricted-apart false one z e = refl
-
-pub restricted-value : (s t : Arena) (set : Node) (r made : Rails) (v : List Bool) → den t made.one v ≡ (den s set v && den s r.one v) → den t made.zero v ≡ (den s set v && den s r.zero v) →
-    value_of t made v ≡ (if den s set v then value_of s r v else X)
-restricted-value s t set r made v one_is zero_is = ap₂ trit_of one_is zero_is ∙ restricted-values (den s set v) (den s r.one v) (den s r.zero v)
-
-pub restricted-proper : (s t : Arena) (set : Node) (r made : Rails) → AreRailsOf s r → IsNodeOf t made.one → IsNodeOf t made.zero →
-    ((v : List Bool) → den t made.one v ≡ (den s set v && den s r.one v)) → ((v : List Bool) → den t made.zero v ≡ (den s set v && den s r.zero v)) → AreRailsOf t made
-restricted-proper s t set r made is one zero_ one_is zero_is = record {
-  one = one;
-  zero = zero_;
-  proper = λ v. ap₂ (λ x y. x && y) (one_is v) (zero_is v) ∙ restricted-apart (den s set v) (den s r.one v) (den s r.zero v) (is.proper v);
-}
 
 -- a conjunction has as many nodes after more operations
 pub conjunction-kept : (s t : Arena) (m n : Node) → KeepsNodes s t → IsNodeOf s m → IsNodeOf s n → nodes t.vars (conjunction t m n) ≡ nodes s.vars (conjunction s m n)
@@ -43,9 +23,6 @@ pub record AreFirstNext (net : Parts) (s : Arena) (set : Node) (a : Arena) (n : 
   pub width : length list ≡ n
   pub proper : All (AreRailsOf a) list
   pub values : (v : List Bool) → length v ≡ s.vars → values_of a list (laid net v) ≡ take n (next_within net s set v)
-
-pub next-start : (net : Parts) (s : Arena) (set : Node) → AreFirstNext net s set s 0 []
-next-start net s set = record { width = refl; proper = λ k d less. absurd (omega (arith, less)); values = λ v wide. refl }
 
 one_proper : (a : Arena) (r : Rails) → AreRailsOf a r → All (AreRailsOf a) (r ∷ [])
 one_proper a r is zero d less = is
@@ -122,14 +99,6 @@ module _ (net : Parts) (s d : Arena) (set : Node) (rails : List Rails) (n : ℕ)
               (ap₂ (λ x y. x && y) (first.function r.one v in_s.one) (first.function r.zero v in_s.zero) ∙ in_s.proper v)));
         }
 
-pub next-end : (net : Parts) (s a : Arena) (set : Node) (n : ℕ) (list : List Rails) → n ≡ length net.latches → AreFirstNext net s set a n list →
-    (v : List Bool) → length v ≡ s.vars → values_of a list (laid net v) ≡ next_within net s set v
-next-end net s a set n list end is v wide = is.values v wide ∙ take_all n (next_within net s set v) (let long = wide-next (den s set (laid net v)) in omega (arith, long, end))
-  where
-    wide-next : (c : Bool) → length (if c then next net (bits v) else replicate (length net.latches) X) ≡ length net.latches
-    wide-next true = length-map net.latches (λ (l : Latch). wire (fix net (bits v)) l.from)
-    wide-next false = length-replicate (length net.latches) X
-
 -- ---- at one vector
 
 pub state-more : (net : Parts) (a : Arena) (rails : List Rails) (v : List Bool) (n : ℕ) (latch : Latch) (b : Bool) → IsNetlist net → AreFixed net a rails → length v ≡ a.vars →
@@ -141,7 +110,3 @@ state-more net a rails v n latch b valid fixed wide found is =
     ∙ sym (map-append is_one (take n (next net (bits v))) (wire (fix net (bits v)) latch.from ∷ []))
     ∙ ap (map is_one) (sym (next-more-list net (bits v) n latch found))
     ∙ sym (take-map is_one (n + 1) (next net (bits v)))
-
-pub state-end : (net : Parts) (v : List Bool) (n : ℕ) → n ≡ length net.latches → take n (next_state net v) ≡ next_state net v
-state-end net v n end =
-    take_all n (next_state net v) (let one = length-map (next net (bits v)) is_one in let two = length-map net.latches (λ (l : Latch). wire (fix net (bits v)) l.from) in omega (arith, one, two, end))

@@ -1,22 +1,24 @@
 -- What the least vectors of sets say of the parts of acceptance.
 use Rattle.std.proofs.Common.{◌≡◌, ◌≢◌, inl, inr, ℕ, zero, suc, ◌+◌, ◌<◌, ◌≤◌, Bool, true, false, not, ◌&&◌, cond, List, [], ◌∷◌, length, map, take, drop, get_or, Option, Some, None, refl, sym, ap, ap₂, ◌∙◌, subst, arith}
-use Rattle.verdict.proofs.Common.{find, is_none, option_or, option_map, cases_lt, length-drop, take_all, Node, Arena, den, IsNodeOf, KeepsNodes, nodes, nodes-alike, Sig, Trit, X, bits, Rails, trit_of, value_of, values_of, Parts, gate_sig, next, fix_gates, IsLayout, by_variable, laid, order, rails_at, order-is, rails_at-proper, CareModel, IsCareOf, CareSet, columns, state_of, is_in_invariant, is_care_vector, IsCareVector, Initial, Undetermined, Leaves, Observe, gate_sigs, observed, is_x, is_undetermined, care_vectors, next_state, leaves, initial_refusal, undetermined_refusal, leaves_refusal, vectors, nothing_passes, care_vector_decides, length-fix_gates, gate_wire, AreMarksOf, Tells, AreFixed, starts, has_state_inside, difference, ReadsWithin, AreLoose}
+use Rattle.verdict.proofs.Common.{find, is_none, option_or, option_map, cases_lt, length-drop, take_all, Node, Arena, den, IsNodeOf, KeepsNodes, nodes, nodes-alike, Sig, Trit, X, bits, Rails, trit_of, value_of, values_of, Parts, gate_sig, next, fix_gates, IsLayout, by_variable, laid, order, rails_at, order-is, rails_at-proper, CareModel, CareSet, columns, state_of, is_in_invariant, is_care_vector, IsCareVector, Initial, Undetermined, Leaves, Observe, gate_sigs, observed, is_x, is_undetermined, care_vectors, next_state, leaves, initial_refusal, undetermined_refusal, leaves_refusal, vectors, care_vector_decides, gate_wire, AreMarksOf, Tells, AreFixed, starts, has_state_inside, difference, ReadsWithin, AreLoose, IsCareOf}
 use Rattle.std.specs.Prelude.{filter, IfSome}
 use Rattle.std.specs.List.{All}
 use Rattle.std.specs.Option.{option_and_then}
 use Rattle.std.proofs.lemmas.List.Filters.{length-filter_more}
 use Rattle.std.proofs.lemmas.List.Folds.{find-append}
+use Rattle.netlist.proofs.FixpointLemmas.{length-fix_gates}
+use Rattle.cyc_base.proofs.VectorLemmas.{find-alike, find-none}
+use Rattle.cyc_base.proofs.ListLemmas.{find-map}
 use Rattle.dual_rail.proofs.SurelyLemmas.{value_of-kept, values_of-kept, All-rails-kept}
 use Rattle.care_sets.specs.Binding.{IsBoundTo}
 use Rattle.care_sets.specs.Care.{HasValues}
 use Rattle.care_sets.proofs.CareLemmas.{vectors_serve_assume, states_serve_invariant}
 use Rattle.refusals.specs.Refusals.{is_initial, is_among, observed_gates}
-use Rattle.refusals.proofs.FirstLemmas.{find-map, find-filter, any-find}
+use Rattle.refusals.proofs.FirstLemmas.{find-filter, any-find}
 use Rattle.refusals.proofs.RefusalLemmas.{length-gate_sigs, gate_sig_at, known-is_x, fails_after, find_none-all, no_first, next_state_is}
 use Rattle.refusals.proofs.LawLemmas.{care_test, observed_test, is_loose}
 use Rattle.clause_decision.specs.Loads.{LoadsAreKnown}
 use Rattle.verdict.proofs.CareLemmas.{value_at-place}
-use Rattle.verdict.proofs.SetLemmas.{find-alike}
 
 -- ---- sets
 
@@ -234,20 +236,11 @@ loose-none net care known = loose-all net care (length net.gates) 0 (omega arith
       where
         gate : (n : ℕ) → n < length net.gates → IsKnownOnCare net care n
         gate n inside =
-            nothing_passes (columns net) (λ w. is_care_vector net care w && is_undetermined net (gate_sig net n) w)
+            find-none (columns net) (λ w. is_care_vector net care w && is_undetermined net (gate_sig net n) w)
             (λ w wide. fails_after (is_care_vector net care w) (is_undetermined net (gate_sig net n) w)
             (λ counts. ap is_x (gate_wire net w n wide) ∙ known-is_x (get_or (fix_gates net (bits w)) n X) (known w (care_vector_decides net care w wide counts) n X (omega (arith, length-fix_gates net (bits w), inside)))))
 
--- ---- next states
-
--- the invariant reads latches alone
-pub invariant-reads : (net : Parts) (care : CareSet) (width : ℕ) → IsCareOf net care → width ≡ length net.latches → IfSome care.invariant (ReadsWithin (length net.inputs) width)
-invariant-reads net care width bound is = by care.invariant bound.invariant (states_serve_invariant net care (drop (length net.inputs) (vector (columns net))) bound
-    (length-drop (length net.inputs) (vector (columns net)) ∙ (let long = wide (columns net) in omega (arith, long))))
-  where
-    vector : ℕ → List Bool
-    vector zero = []
-    vector (suc n) = false ∷ vector n
+    -- ---- next states
 
     wide : (n : ℕ) → length (vector n) ≡ n
     wide zero = refl
@@ -264,14 +257,6 @@ invariant-reads net care width bound is = by care.invariant bound.invariant (sta
           omega (arith, low, long, is, start);
     }
 
--- the assumption reads columns
-pub assume-reads : (net : Parts) (care : CareSet) (width : ℕ) → IsCareOf net care → width ≡ columns net → IfSome care.assume (ReadsWithin 0 width)
-assume-reads net care width bound is = by care.assume bound.assume (vectors_serve_assume net care (vector (columns net)) bound (wide (columns net)))
-  where
-    vector : ℕ → List Bool
-    vector zero = []
-    vector (suc n) = false ∷ vector n
-
     wide : (n : ℕ) → length (vector n) ≡ n
     wide zero = refl
     wide (suc n) = ap suc (wide n)
@@ -286,6 +271,23 @@ assume-reads net care width bound is = by care.assume bound.assume (vectors_serv
           let start = b.start in
           omega (arith, low, long, is, start);
     }
+
+-- the invariant reads latches alone
+pub invariant-reads : (net : Parts) (care : CareSet) (width : ℕ) → IsCareOf net care → width ≡ length net.latches → IfSome care.invariant (ReadsWithin (length net.inputs) width)
+invariant-reads net care width bound is = by care.invariant bound.invariant (states_serve_invariant net care (drop (length net.inputs) (vector (columns net))) bound
+    (length-drop (length net.inputs) (vector (columns net)) ∙ (let long = wide (columns net) in omega (arith, long))))
+  where
+    vector : ℕ → List Bool
+    vector zero = []
+    vector (suc n) = false ∷ vector n
+
+-- the assumption reads columns
+pub assume-reads : (net : Parts) (care : CareSet) (width : ℕ) → IsCareOf net care → width ≡ columns net → IfSome care.assume (ReadsWithin 0 width)
+assume-reads net care width bound is = by care.assume bound.assume (vectors_serve_assume net care (vector (columns net)) bound (wide (columns net)))
+  where
+    vector : ℕ → List Bool
+    vector zero = []
+    vector (suc n) = false ∷ vector n
 
 -- where care is so, the test of the next state is that of the rails restricted to care
 pub leaves-is : (net : Parts) (care : CareSet) (s m e x : Arena) (set inside outside : Node) (latches : List Rails) (found : Option (List Bool)) → s.vars ≡ columns net → KeepsNodes s e → KeepsNodes e x →

@@ -3,6 +3,7 @@ use Rattle.std.proofs.Common.{◌≡◌, inl, inr, ℕ, ◌+◌, ◌-◌, ◌<�
 use Rattle.std.specs.List.{All}
 use Rattle.verdict.proofs.Common.{option_map_or, cases_lt, get_or_from_slice_get, Sig, get_or-map, get_or_default, Parts, Latch, gate_sig, IsNetlist, Blocks, AreBlocksOf, is_marked, unsettled_loops_decide, CareModel, CareSet, SettleInOneSweep, AreDriversBefore}
 use Rattle.std.proofs.lemmas.List.Elements.{All-push, Contains-append_left, Contains-append_right}
+use Rattle.std.proofs.lemmas.Bool.{not-true}
 use Rattle.loops.proofs.Walks.{leads-step}
 use Rattle.isolation.specs.Cones.{IsConeOf}
 use Rattle.isolation.proofs.UpstreamLemmas.{upstream-trans}
@@ -12,10 +13,6 @@ use Rattle.clause_decision.specs.Scopes.{AreClosed, AreInScope, AreNeverUnknown}
 use Rattle.verdict.specs.Loose.{AreCandidates}
 use Rattle.verdict.specs.Scopes.{AreDrivers}
 
-not-false : (b : Bool) → not b ≡ true → b ≡ false
-not-false true e = absurd (true≢false (sym e))
-not-false false e = refl
-
 -- the gates that are not in the fanout of a loop that isn't settled are known at each Boolean vector
 pub never-fed : (net : Parts) → IsNetlist net → (blocks : Blocks) → AreBlocksOf net blocks → (settled candidates known : List Bool) → SettleInOneSweep net blocks settled →
     AreCandidates net blocks settled candidates → known ≡ map not candidates → AreNeverUnknown net known
@@ -23,7 +20,7 @@ never-fed net valid blocks are settled candidates known soon all known_is v wide
     unsettled_loops_decide net blocks (is_marked settled) valid are (λ b inside loop mark. (soon b inside loop mark).alone) v wide n within
     (λ m less up loop unsettled. absurd (true≢false (
     sym (all.each n within (record { gate = m; opened = record { within = less; looped = loop; unsettled = unsettled }; upstream = up }))
-    ∙ not-false (is_marked candidates n)
+    ∙ not-true (is_marked candidates n)
     (sym (ap (λ (ms : List Bool). get_or ms n false) known_is ∙ get_or-map not candidates n false false (let w = all.width in omega (arith, within, w))) ∙ marked))))
 
 -- a cone has with each gate those that feed it

@@ -1,14 +1,14 @@
 -- The least vector of a set.
-use Rattle.std.proofs.Common.{◌≡◌, ◌==◌, ℕ, zero, suc, ◌<◌, Bool, true, false, not, ◌&&◌, if◌then◌else◌, cond, List, [], ◌∷◌, length, map, Option, Some, None, refl, sym, ap, ap₂, subst, ◌∙◌, arith, true≢false}
+use Rattle.std.proofs.Common.{◌≡◌, ◌==◌, ℕ, ◌<◌, Bool, true, false, not, ◌&&◌, if◌then◌else◌, List, [], ◌∷◌, length, Option, Some, None, refl, sym, ap, subst, ◌∙◌, arith, true≢false}
 use Rattle.std.specs.List.{All}
-use Rattle.verdict.proofs.Common.{find, is_none, get_or_default, option_or, option_map, eqb-true, Node, Arena, den, IsNodeOf, IsLawful, IsLayout, by_variable, vectors, by_column, length-by_column, variables-back, difference, none_passes, nothing_passes, found_wide}
+use Rattle.verdict.proofs.Common.{find, is_none, get_or_default, eqb-true, Node, Arena, den, IsNodeOf, IsLawful, IsLayout, by_variable, vectors, by_column, length-by_column, variables-back, difference, none_passes, found_wide}
 use Rattle.std.proofs.lemmas.Bool.{eq-eqb}
-use Rattle.std.proofs.lemmas.List.Folds.{find-append}
 use Rattle.bdd_store.specs.Arena.{constant, den_within}
 use Rattle.bdd_ops.specs.Least.{IsLeast}
 use Rattle.bdd_ops.specs.Operations.{if_then_else}
 use Rattle.cyc_base.specs.Vectors.{AtMost}
-use Rattle.refusals.proofs.FirstLemmas.{find-map, found_passes, found_least}
+use Rattle.cyc_base.proofs.VectorLemmas.{find-none}
+use Rattle.refusals.proofs.FirstLemmas.{found_passes, found_least}
 
 -- two vectors of one width that are each at most the other
 same_vectors : (v w : List Bool) → length v ≡ length w → AtMost v w → AtMost w v → v ≡ w
@@ -37,26 +37,10 @@ layout-within n m columns same layout k d inside =
     let low = layout.within k (omega (arith, inside, long)) in
     subst (λ column. column < m) (get_or_default columns k 0 d inside) (omega (arith, low, same))
 
--- tests that agree at all vectors of the width find the same
-pub find-alike : (n : ℕ) (f g : List Bool → Bool) → ((v : List Bool) → length v ≡ n → f v ≡ g v) → find f (vectors n) ≡ find g (vectors n)
-find-alike zero f g same = ap (λ t. let nothing : Option (List Bool) = None in cond t (Some []) nothing) (same [] refl)
-find-alike (suc n) f g same =
-    halves f
-    ∙ ap₂ (λ low high. option_or (option_map (λ (u : List Bool). false ∷ u) low) (option_map (λ (u : List Bool). true ∷ u) high))
-    (find-alike n (λ u. f (false ∷ u)) (λ u. g (false ∷ u)) (λ v wide. same (false ∷ v) (ap suc wide)))
-    (find-alike n (λ u. f (true ∷ u)) (λ u. g (true ∷ u)) (λ v wide. same (true ∷ v) (ap suc wide)))
-    ∙ sym (halves g)
-  where
-    halves : (p : List Bool → Bool) →
-        find p (vectors (suc n)) ≡ option_or (option_map (λ v. false ∷ v) (find (λ v. p (false ∷ v)) (vectors n))) (option_map (λ v. true ∷ v) (find (λ v. p (true ∷ v)) (vectors n)))
-    halves p =
-        find-append p (map (λ v. false ∷ v) (vectors n)) (map (λ v. true ∷ v) (vectors n))
-        ∙ ap₂ option_or (find-map p (λ v. false ∷ v) (vectors n)) (find-map p (λ v. true ∷ v) (vectors n))
-
 -- the constant false finds nothing
 pub never-none : (a : Arena) (columns : List ℕ) (n : Node) → n ≡ constant false → find (λ v. den a n (by_variable columns v)) (vectors a.vars) ≡ None
 unfolding den_within
-never-none a columns n is = nothing_passes a.vars (λ v. den a n (by_variable columns v)) (λ v wide. ap (λ (m : Node). den a m (by_variable columns v)) is)
+never-none a columns n is = find-none a.vars (λ v. den a n (by_variable columns v)) (λ v wide. ap (λ (m : Node). den a m (by_variable columns v)) is)
 
 -- and no other node
 pub none-never : (a : Arena) → IsLawful a → (columns : List ℕ) → IsLayout a.vars columns → (n : Node) → IsNodeOf a n → find (λ v. den a n (by_variable columns v)) (vectors a.vars) ≡ None → n ≡ constant false

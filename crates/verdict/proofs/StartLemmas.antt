@@ -1,41 +1,20 @@
 -- The states that the inits permit, latch by latch.
-use Rattle.std.proofs.Common.{◌≡◌, inl, inr, ℕ, nat_lt, zero, suc, ◌+◌, ◌-◌, ◌<◌, ◌≤◌, Bool, true, false, not, ◌&&◌, if◌then◌else◌, List, [], ◌∷◌, ◌++◌, length, map, take, drop, get_or, slice_get, Option, Some, None, refl, sym, ap, ap₂, ◌∙◌, arith, true≢false}
-use Rattle.verdict.proofs.Common.{list_all, option_map_or, and_from, and_parts, cases_lt, get_or-map, length-drop, length-map, Node, Arena, den, IsNodeOf, KeepsNodes, nodes, nodes-alike, by_variable, conjunction, Trit, X, bit, Rails, AreRailsOf, trit_of, value_of, values_of, Latch, Parts, rails_at, columns, state_of, AreColumns, laid, order, order-is, BoundsStarts, Tells, starts}
+use Rattle.std.proofs.Common.{◌≡◌, inl, inr, ℕ, nat_lt, zero, suc, ◌+◌, ◌-◌, ◌<◌, ◌≤◌, Bool, true, false, ◌&&◌, if◌then◌else◌, List, [], ◌∷◌, ◌++◌, length, map, take, drop, get_or, slice_get, Option, Some, None, refl, sym, ap, ap₂, ◌∙◌, arith}
+use Rattle.verdict.proofs.Common.{list_all, option_map_or, and_from, and_parts, cases_lt, get_or-map, length-drop, length-map, Node, Arena, den, IsNodeOf, KeepsNodes, nodes, nodes-alike, by_variable, conjunction, Trit, X, bit, Rails, value_of, values_of, Latch, Parts, rails_at, columns, state_of, AreColumns, laid, order, order-is, BoundsStarts, Tells, starts}
 use Rattle.std.proofs.lemmas.Bool.{le-ltb, lt-ltb}
 use Rattle.std.proofs.lemmas.List.{drop_more, drop_all, get_or-drop, length-take-le}
 use Rattle.std.proofs.lemmas.Option.{slice_get-get_or}
+use Rattle.bdd_ops.proofs.PossibleLemmas.{by_variable-read}
+use Rattle.cyc_base.proofs.TruthLemmas.{same_truth}
 use Rattle.bdd_store.specs.Subfunctions.{IsPart}
 use Rattle.netlist.specs.declared.parts.Init.{Init}
 use Rattle.netlist.specs.declared.parts.Init.TheVariants as inits
 use Rattle.refusals.specs.Refusals.{may_start}
 use Rattle.refusals.proofs.ShowingLemmas.{all_may_start}
-use Rattle.fixpoint.proofs.LayoutLemmas.{by_variable-read, length-by_variable, variable_of}
-use Rattle.loops.proofs.Walks.{same_truth}
+use Rattle.fixpoint.proofs.LayoutLemmas.{length-by_variable, variable_of}
 use Rattle.verdict.proofs.CareLemmas.{value_at-place}
 use Rattle.verdict.proofs.DecisionLemmas.{vector_of, length-vector_of, laid-vector_of}
 use Rattle.verdict.proofs.SizeLemmas.{nodes-part}
-
-one_of_bit : (one zero_ b : Bool) → trit_of one zero_ ≡ bit b → one ≡ b
-one_of_bit true z true e = refl
-one_of_bit true z false e = cc
-one_of_bit false true true e = cc
-one_of_bit false false true e = cc
-one_of_bit false z false e = refl
-
-zero_of_bit : (one zero_ b : Bool) → (one && zero_) ≡ false → trit_of one zero_ ≡ bit b → zero_ ≡ not b
-zero_of_bit true true b p e = absurd (true≢false p)
-zero_of_bit true false true p e = refl
-zero_of_bit true false false p e = cc
-zero_of_bit false true true p e = cc
-zero_of_bit false true false p e = refl
-zero_of_bit false false true p e = cc
-zero_of_bit false false false p e = cc
-
-pub start-one : (a : Arena) (r : Rails) (b : Bool) (v : List Bool) → value_of a r v ≡ bit b → den a r.one v ≡ b
-start-one a r b v e = one_of_bit (den a r.one v) (den a r.zero v) b e
-
-pub start-zero : (a : Arena) (r : Rails) (b : Bool) (v : List Bool) → AreRailsOf a r → value_of a r v ≡ bit b → den a r.zero v ≡ not b
-start-zero a r b v proper e = zero_of_bit (den a r.one v) (den a r.zero v) b (proper.proper v) e
 
 -- ---- columns
 

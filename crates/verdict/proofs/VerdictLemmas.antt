@@ -1,11 +1,11 @@
 -- How the parts make the verdict.
-use Rattle.std.proofs.Common.{◌≡◌, ◌+◌, Bool, ◌&&◌, List, [], length, map, drop, Option, Some, None, refl, sym, ap, ap₂, ◌∙◌}
-use Rattle.verdict.proofs.Common.{find, is_none, option_or, Node, Arena, den, IsNodeOf, KeepsNodes, bit, bits, Rails, value_of, values_of, Parts, IsNetlist, fix, fix_gates, Blocks, Cut, rails_under, Vectors, IsSolution, AreColumnVectors, CareSet, columns, state_of, is_care_vector, Refusal, EmptyCare, Observe, initial_refusal, undetermined_refusal, leaves_refusal, refusal, vectors, empty-filter, length-fix_gates, Tells, AreFixed, has_state_inside, AreColumns, order, laid}
+use Rattle.std.proofs.Common.{◌≡◌, ◌+◌, Bool, List, [], length, map, drop, Option, Some, None, refl, sym, ap, ap₂, ◌∙◌}
+use Rattle.verdict.proofs.Common.{find, is_none, option_or, Node, Arena, den, bit, bits, Rails, value_of, values_of, Parts, IsNetlist, fix, fix_gates, Blocks, Cut, rails_under, Vectors, IsSolution, AreColumnVectors, CareSet, columns, state_of, is_care_vector, Refusal, EmptyCare, Observe, initial_refusal, undetermined_refusal, leaves_refusal, refusal, vectors, empty-filter, Tells, AreFixed, AreColumns, order, laid}
 use Rattle.std.specs.Prelude.{if◌then◌else◌}
 use Rattle.std.proofs.lemmas.List.{length-append, drop-map}
+use Rattle.netlist.proofs.FixpointLemmas.{length-fix_gates}
 use Rattle.dual_rail.proofs.SurelyLemmas.{length-values}
 use Rattle.fixpoint.specs.declared.solved.Solved.{Solved}
-use Rattle.care_sets.specs.Care.{is_allowed}
 use Rattle.refusals.specs.Acceptance.{Accepts}
 use Rattle.refusals.specs.Refusals.{empty_refusal}
 use Rattle.refusals.proofs.LawLemmas.{accepted_without_refusal}
@@ -37,14 +37,6 @@ pub accepts-is : (net : Parts) (care : CareSet) (what : Observe) → IsNetlist n
 accepts-is net care what valid none = (accepted_without_refusal net care what valid).0 none
 
 -- ---- the set of care vectors
-
-pub care-told : (net : Parts) (care : CareSet) (s t : Arena) (inside allowed set : Node) → Tells net s inside (has_state_inside net care) → IsNodeOf s allowed →
-    ((v : List Bool) → length v ≡ s.vars → den s allowed (laid net v) ≡ is_allowed care v) → KeepsNodes s t → IsNodeOf t set → ((v : List Bool) → den t set v ≡ (den s inside v && den s allowed v)) →
-    Tells net t set (is_care_vector net care)
-care-told net care s t inside allowed set inside_is allowed_in allowed_is keeps set_in set_is = record {
-  node = set_in;
-  value = λ v wide. set_is (laid net v) ∙ ap₂ (λ x y. x && y) (inside_is.value v (wide ∙ keeps.vars)) (allowed_is v (wide ∙ keeps.vars));
-}
 
 pub empty-is : (net : Parts) (care : CareSet) (a : Arena) (set : Node) (b : Bool) → a.vars ≡ columns net → Tells net a set (is_care_vector net care) →
     b ≡ is_none (find (λ v. den a set (laid net v)) (vectors a.vars)) → empty_refusal net care ≡ (let nothing : Option Refusal = None in if b then Some EmptyCare else nothing)

@@ -1,18 +1,20 @@
-pub mod Causes
+-- The chapter: what the contracts of public functions say.
 pub mod Costs
-pub mod Determinacy
-pub mod Determination
+pub mod Causes
+pub mod Sets
 pub mod Enough
+pub mod Solving
+pub mod Verdicts
+pub mod Determination
+pub mod Laws
+-- The code's own: what its parts say to each other.
 pub mod Fanout
 pub mod Invariance
-pub mod Laws
-pub mod Loose
 pub mod Next
 pub mod Observed
 pub mod Questions
 pub mod Scopes
 pub mod Searches
-pub mod Sets
-pub mod Solving
 pub mod Unknown
-pub mod Verdicts
+pub mod Loose
+pub mod Determinacy

@@ -1,7 +1,8 @@
-use Rattle.std.proofs.Common.{◌≡◌, ℕ, ◌<◌, [], get_or, sym, ◌∙◌, arith}
+use Rattle.std.proofs.Common.{ℕ, ◌<◌, [], arith}
 use Rattle.std.specs.Prelude.{if◌then◌else◌}
 use Rattle.std.specs.List.{range_with_len}
-use Rattle.std.proofs.lemmas.List.FromFn.{length-range_with_len, get_or-range_with_len}
+use Rattle.std.proofs.lemmas.List.FromFn.{length-range_with_len}
+use Rattle.cyc_base.proofs.ListLemmas.{at_range}
 use Rattle.loops.specs.Sweeps.{first_gate}
 use Rattle.isolation.specs.Cones.{is_marked}
 use Rattle.cyc_io.proofs.TakenLemmas.{appended_none, appended_equal}
@@ -9,10 +10,6 @@ use Rattle.cyc_io.proofs.ItemLemmas.{appended_item, appended_in_item, appended_i
 use Rattle.report.proofs.LoopTextLemmas.{kept_texts}
 use Rattle.accepted_loops.specs.Lines.{column_name}
 use Rattle.accepted_loops.proofs.lines.put_columns.Goals as goal
-
--- the numbers in order
-at_range : (n i : ℕ) → i < n → i ≡ get_or (range_with_len 0 n) i i
-at_range n i l = sym (get_or-range_with_len 0 n i i l ∙ omega arith)
 
 pub loop-column-init : goal.loop-column-init
 loop-column-init g c = appended_none _ _ _

@@ -1,7 +1,7 @@
 use Rattle.std.proofs.Common.{arith}
 use Rattle.std.proofs.lemmas.List.Elements.{All-more}
+use Rattle.cyc_base.proofs.ListLemmas.{item_at}
 use Rattle.blif_write.proofs.Common.{IsCover, Gate, gate_text, appended_none, appended_item, appended_in_item, appended_items}
-use Rattle.blif_write.proofs.NameLemmas.{item_at}
 use Rattle.blif_write.proofs.gates.put_gates.Goals as goal
 
 pub loop-i-init : goal.loop-i-init

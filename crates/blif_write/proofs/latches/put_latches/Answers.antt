@@ -1,6 +1,6 @@
 use Rattle.std.proofs.Common.{arith}
+use Rattle.cyc_base.proofs.ListLemmas.{item_at}
 use Rattle.blif_write.proofs.Common.{line_text, latch_line, appended_none, appended_item, appended_in_item, appended_items}
-use Rattle.blif_write.proofs.NameLemmas.{item_at}
 use Rattle.blif_write.proofs.latches.put_latches.Goals as goal
 
 pub loop-i-init : goal.loop-i-init

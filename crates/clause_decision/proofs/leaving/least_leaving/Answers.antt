@@ -1,10 +1,10 @@
 use Rattle.std.proofs.Common.{rules}
+use Rattle.cyc_base.proofs.VectorLemmas.{find-none}
 use Rattle.clause_decision.proofs.Common.{columns}
-use Rattle.refusals.proofs.FirstLemmas.{nothing_passes}
 use Rattle.clause_decision.specs.Tests.{is_leaving}
 use Rattle.clause_decision.proofs.LeavingLemmas.{none-leaves}
 use Rattle.clause_decision.proofs.leaving.least_leaving.Goals as goal
 
 pub returns-in_default : goal.returns-in_default
 returns-in_default c =
-    nothing_passes (columns c.args.net.now) (is_leaving c.args.net.now c.args.care.now) (λ v wide. none-leaves c.args.net.now c.args.care.now (search rules) v)
+    find-none (columns c.args.net.now) (is_leaving c.args.net.now c.args.care.now) (λ v wide. none-leaves c.args.net.now c.args.care.now (search rules) v)

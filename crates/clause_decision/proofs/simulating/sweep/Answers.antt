@@ -1,4 +1,4 @@
-use Rattle.std.proofs.Common.{◌≡◌, ◌∙◌, ◌<◌, ◌++◌, ◌∷◌, [], true, false, ℕ, List, length, get_or, set, sym, ap, subst, arith}
+use Rattle.std.proofs.Common.{◌≡◌, ◌∙◌, ◌<◌, ◌++◌, [], true, false, ℕ, List, length, get_or, set, sym, ap, subst, arith}
 use Rattle.clause_decision.proofs.Common.{get_or_default, Trit, is_cut, AreUnseen, IsSweeping, LoopAt, gates_in}
 use Rattle.std.specs.List.{Contains}
 use Rattle.clause_decision.specs.Events.{IsDetermined, IsNewValue}

@@ -1,7 +1,7 @@
 -- The value of this latch comes behind those before it.
 use Rattle.std.proofs.Common.{◌≡◌, ◌++◌, ◌+◌, [], ◌∷◌, drop, map, append_assoc, add-one, sym, ◌∙◌, ap}
+use Rattle.cyc_base.proofs.ListLemmas.{drop-get}
 use Rattle.netlist.specs.declared.parts.Latch.{Latch}
-use Rattle.cyc_tool.proofs.TickLemmas.{drop-get}
 use Rattle.cyc_tool.specs.Simulation.{start_value}
 use Rattle.cyc_tool.proofs.sim_lines.start.Goals as goal
 

@@ -1,4 +1,4 @@
-use Rattle.std.proofs.Common.{◌≡◌, refl}
+use Rattle.std.proofs.Common.{◌≡◌}
 use Rattle.report.specs.Help.{help_text, topic_text, version_text}
 use Rattle.cyc_tool.proofs.Common.{told, Ending, Prints}
 use Rattle.cyc_tool.specs.Texts.{usage}

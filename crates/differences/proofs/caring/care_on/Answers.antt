@@ -1,6 +1,7 @@
 use Rattle.std.proofs.Common.{◌≡◌, ◌∙◌, ◌+◌, ◌-◌, ◌*◌, ◌≤◌, ◌&&◌, ℕ, Bool, List, length, take, drop, refl, sym, ap, ap₂, subst, arith}
 use Rattle.std.specs.Prelude.{IfSome}
 use Rattle.std.proofs.lemmas.List.{take_rest, length-drop}
+use Rattle.verdict.proofs.PartLemmas.{invariant-reads, assume-reads}
 use Rattle.bdd_store.specs.Growth.{GrowsWithin, KeepsNodes}
 use Rattle.bdd_store.specs.Subfunctions.{nodes}
 use Rattle.bdd_store.proofs.GrowthLemmas.{KeepsNodes-chain, within_only, within_one, within_moved, within_then, within_more, within_answered, within_refused}
@@ -15,7 +16,6 @@ use Rattle.verdict.specs.Causes.{HasModelOver}
 use Rattle.verdict.specs.Costs.{assume_effort, invariant_effort}
 use Rattle.verdict.specs.Enough.{BoundsModel}
 use Rattle.verdict.specs.Sets.{ReadsWithin}
-use Rattle.verdict.proofs.PartLemmas.{assume-reads, invariant-reads}
 use Rattle.differences.specs.Comparisons.{care_cost, IsWideOnColumns, SaysCare}
 use Rattle.differences.proofs.CaringLemmas.{state-values}
 use Rattle.differences.proofs.LaidLemmas.{made-listed, made-one, assume-bounded, invariant-bounded}

@@ -5,11 +5,10 @@ use Rattle.bdd_store.specs.Growth.{GrowsWithin, NoOtherCause}
 use Rattle.bdd_store.proofs.GrowthLemmas.{nothing_grown, within_moved, within_then, within_more, within_answered, within_refused}
 use Rattle.bdd_ops.specs.Least.{by_variable}
 use Rattle.cyc_base.specs.Vectors.{vectors}
+use Rattle.cyc_base.proofs.VectorLemmas.{find-alike, find-none}
 use Rattle.dual_rail.specs.Rails.{AreRailsOf}
 use Rattle.fixpoint.specs.Sweeping.{rails_at}
 use Rattle.fixpoint.proofs.WireLemmas.{rails_at-proper}
-use Rattle.refusals.proofs.FirstLemmas.{nothing_passes}
-use Rattle.verdict.proofs.SetLemmas.{find-alike}
 use Rattle.clause_decision.specs.declared.pairs.Pair.{Pair}
 use Rattle.differences.specs.Sets.{differ, pair_differs, some_differ, BoundsPairs}
 use Rattle.differences.proofs.PartingLemmas.{differ-kept, first-same, pair-kept}
@@ -58,7 +57,7 @@ found-first c pair is =
 
 pub loop-pair-init : goal.loop-pair-init
 loop-pair-init c = record {
-  least = sym (nothing_passes c.args.d.now.vars (λ v. some_differ c.args.d.now c.args.set c.args.rails.now [] (by_variable c.args.order.now v)) (λ w wide. refl));
+  least = sym (find-none c.args.d.now.vars (λ v. some_differ c.args.d.now c.args.set c.args.rails.now [] (by_variable c.args.order.now v)) (λ w wide. refl));
   grows = nothing_grown;
 }
 

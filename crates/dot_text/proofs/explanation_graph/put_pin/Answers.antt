@@ -1,9 +1,9 @@
-use Rattle.std.proofs.Common.{ap, sym, ◌∙◌}
+use Rattle.std.proofs.Common.{ap, ◌∙◌}
 use Rattle.netlist.specs.declared.parts.Parts.{Parts}
 use Rattle.netlist.specs.Netlists.{gate_sig}
 use Rattle.cyc_io.proofs.TakenLemmas.{appended_equal}
 use Rattle.dot_text.specs.Seen.{picture_seen}
-use Rattle.dot_text.proofs.GraphLemmas.{column_drawn, driven_drawn}
+use Rattle.dot_text.proofs.GraphLemmas.{driven_drawn}
 use Rattle.dot_text.proofs.explanation_graph.put_pin.Goals as goal
 
 pub returns-in-Some : goal.returns-in-Some

@@ -1,6 +1,7 @@
 use Rattle.std.proofs.Common.{◌≡◌, ◌+◌, ◌*◌, ◌≤◌, [], ◌∷◌, ◌++◌, length, sym, ap, ap₂, subst, ◌∙◌, arith}
 use Rattle.std.specs.List.{All}
 use Rattle.std.proofs.lemmas.List.{length_push}
+use Rattle.bdd_ops.proofs.ChainLemmas.{pushed}
 use Rattle.bdd_store.specs.declared.node.Node.{Node}
 use Rattle.bdd_store.specs.Arena.{Arena, den}
 use Rattle.bdd_store.specs.Soundness.{IsLawful}
@@ -16,7 +17,7 @@ use Rattle.dual_rail.specs.Local.{function, local_size}
 use Rattle.dual_rail.specs.Lifts.{IsLift, IsTable}
 use Rattle.dual_rail.proofs.SurelyLemmas.{All-rails-kept, IsLift-rails, IsLift-exact, values_of-kept, exact-alike, length-values}
 use Rattle.dual_rail.proofs.WidthLemmas.{BoundsEach-kept}
-use Rattle.dual_rail.proofs.TableLemmas.{base_rails, base-table, step-table, local-count, pushed}
+use Rattle.dual_rail.proofs.TableLemmas.{base_rails, base-table, step-table, local-count}
 use Rattle.dual_rail.proofs.lifting.lift.Goals as goal
 use Rattle.dual_rail.proofs.lifting.lift.Goals.{After-lift_node, After-count-position-end}
 

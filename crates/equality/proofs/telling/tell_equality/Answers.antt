@@ -2,12 +2,13 @@ use Rattle.std.proofs.Common.{subst}
 use Rattle.equal.specs.declared.answer.Answer.{Answer}
 use Rattle.equal.specs.Rebound.{rebound}
 use Rattle.equality.specs.Told.{IsToldOf}
+use Rattle.equality.proofs.FitLemmas.{answers_fit}
 use Rattle.equality.proofs.ShownLemmas.{found_shows_itself}
 use Rattle.equality.proofs.telling.tell_equality.Goals as goal
 
 pub tell_answer-requires : goal.tell_answer-requires
 tell_answer-requires c =
-    c.answers_fit.ensures c.args.a.now c.args.b.now c.args.care.now (rebound c.args.b.now c.args.care.now) c.in_ok-answer.answer
+    answers_fit c.args.a.now c.args.b.now c.args.care.now (rebound c.args.b.now c.args.care.now) c.in_ok-answer.answer
     c.laws.ensures.valid c.laws-2.ensures.valid c.in_ok-answer.ensures.answer
 
 pub returns-clause-told : goal.returns-clause-told
@@ -16,5 +17,5 @@ returns-clause-told c =
 
 pub returns-clause-shown : goal.returns-clause-shown
 returns-clause-shown c =
-    found_shows_itself c.equal_netlists_run_alike.ensures c.args.a.now c.args.b.now c.args.care.now c.laws.ensures.valid c.laws-2.ensures.valid c.requires.care
+    found_shows_itself c.args.a.now c.args.b.now c.args.care.now c.laws.ensures.valid c.laws-2.ensures.valid c.requires.care
     c.assume.ensures.valid

@@ -1,8 +1,8 @@
 use Rattle.std.proofs.Common.{arith}
 use Rattle.std.proofs.lemmas.List.Elements.{All-more}
+use Rattle.cyc_base.proofs.ListLemmas.{item_at}
 use Rattle.cover_logic.specs.Covers.{IsCover}
 use Rattle.netlist.specs.declared.parts.Gate.{Gate}
-use Rattle.blif_write.proofs.NameLemmas.{item_at}
 use Rattle.rewriting.proofs.covers.have_covers.Goals as goal
 
 pub loop-i-init : goal.loop-i-init

@@ -2,9 +2,9 @@
 use Rattle.std.proofs.Common.{◌≡◌, ◌<◌, ◌++◌, ◌+◌, [], ◌∷◌, length, drop, map, append_assoc, add-one, sym, ◌∙◌, ap, subst, arith}
 use Rattle.simulation.proofs.Common.{get_or_default, X, wire}
 use Rattle.std.proofs.lemmas.Option.{get_or_from_slice_get}
+use Rattle.cyc_base.proofs.ListLemmas.{drop-get}
 use Rattle.netlist.specs.declared.parts.Latch.{Latch}
 use Rattle.netlist.specs.Netlists.{IsSignal}
-use Rattle.simulation.proofs.ListLemmas.{drop-get}
 use Rattle.simulation.proofs.simulator.read_loaded.Goals as goal
 
 pub loop-number-preserved : goal.loop-number-preserved

@@ -4,11 +4,11 @@ use Rattle.std.proofs.lemmas.List.{at_drop_all}
 use Rattle.std.proofs.lemmas.Option.{get_or_from_slice_get, slice_get_within}
 use Rattle.std.specs.List.{slice_get}
 use Rattle.cyc_base.specs.declared.trit.Trit.{Trit}
+use Rattle.cyc_base.proofs.ListLemmas.{drop-get}
 use Rattle.netlist.specs.declared.parts.Latch.{Latch}
 use Rattle.netlist.specs.declared.parts.Parts.{Parts}
 use Rattle.netlist.specs.Netlists.{IsNetlist, IsSignal}
 use Rattle.netlist.specs.Fixpoint.{wire}
-use Rattle.ternary_run.proofs.Lists.{drop-get}
 use Rattle.ternary_run.proofs.ticks.loaded.Goals as goal
 
 source_within : (net : Parts) (n : ℕ) (latch : Latch) → IsNetlist net → slice_get net.latches n ≡ Some latch → IsSignal net latch.from

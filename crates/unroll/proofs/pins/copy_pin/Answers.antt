@@ -5,8 +5,9 @@ use Rattle.loops.proofs.LoopedLemmas.{cut_is_told}
 use Rattle.unroll.specs.Plans.{loops_in, net_of}
 use Rattle.unroll.specs.Tables.{at_table}
 use Rattle.unroll.specs.Unrolled.{moved}
-use Rattle.unroll.proofs.PinLemmas.{source_by_blocks, some_if, none_if, if_true, third_of}
+use Rattle.unroll.proofs.PinLemmas.{source_by_blocks, some_if, none_if, if_true}
 use Rattle.unroll.proofs.pins.copy_pin.Goals as goal
+use Rattle.unroll.proofs.Opened.{pick_third}
 
 pub returns-in-Some : goal.returns-in-Some
 returns-in-Some c =
@@ -34,4 +35,4 @@ returns-in-None c =
     let from = none_if inside (gate_of net s) c.source_in_loop.result c.in-None.is source in
     c.moved.ensures
     ∙ ap (λ (net : Parts). moved net c.args.plan.now.by s) c.net.ensures.net
-    ∙ sym (third_of inside (loops.cut (gate_of net s)) (at_table c.args.tables.now.earlier.items (gate_of net s)) (at_table c.args.tables.now.current.items (gate_of net s)) (moved net c.args.plan.now.by s) from)
+    ∙ sym (pick_third inside (loops.cut (gate_of net s)) (at_table c.args.tables.now.earlier.items (gate_of net s)) (at_table c.args.tables.now.current.items (gate_of net s)) (moved net c.args.plan.now.by s) from)

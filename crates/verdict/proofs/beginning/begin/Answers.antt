@@ -1,10 +1,10 @@
 use Rattle.std.proofs.Common.{◌≡◌, ◌∙◌, ◌&&◌, ◌+◌, ◌*◌, ◌≤◌, ℕ, true, false, None, length, sym, ap, subst, arith}
 use Rattle.std.specs.Prelude.{IfSome}
+use Rattle.verdict.proofs.PartLemmas.{Tells-kept, assume-reads}
 use Rattle.verdict.proofs.Common.{KeepsNodes, nodes, within_only, within_one, within_then, within_moved, within_more, within_answered, within_refused, IsWide, Parts, CareSet, ReadsWithin, columns, is_care_vector, initial_refusal, invariant_effort, start_cost, IsLaid, GrowsInDecision, Tells, has_state_inside, difference, AreColumns, order, laid, order-is, IsLayout, AreColumns-kept}
 use Rattle.bdd_store.proofs.GrowthLemmas.{KeepsNodes-chain}
 use Rattle.care_sets.specs.Care.{is_allowed}
 use Rattle.verdict.proofs.DecisionLemmas.{wide-kept, starts-fit, outside-fits}
-use Rattle.verdict.proofs.PartLemmas.{Tells-kept, assume-reads}
 use Rattle.verdict.proofs.VerdictLemmas.{refused-empty, empty-is}
 use Rattle.verdict.proofs.beginning.begin.Goals as goal
 use Rattle.verdict.proofs.beginning.begin.Goals.{After-starts_on, After-initial_refusal, After-care_on, After-is_never}

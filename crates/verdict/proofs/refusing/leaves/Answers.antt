@@ -1,11 +1,11 @@
 use Rattle.std.proofs.Common.{◌≡◌, ◌∙◌, ℕ, ◌+◌, ◌*◌, ◌≤◌, Vec, Global, Some, None, Bool, true, List, length, refl, sym, ap, ap₂, subst, arith}
 use Rattle.std.specs.Prelude.{IfSome}
+use Rattle.verdict.proofs.PartLemmas.{AreFixed-kept, Tells-kept, by-order, invariant-reads, leaves-is, order-layout}
 use Rattle.verdict.proofs.Common.{option_map, den, KeepsNodes, nodes, within_only, within_one, within_then, within_moved, within_more, within_answered, within_refused, within_memory, bits, Rails, values_of, IsWide, Parts, IsCareOf, next, Leaves, next_state, found_wide, by_variable, laid, invariant_effort, IsLaid, BoundsModel, GrowsInDecision, next_within, ReadsWithin, AreFixed, difference}
 use Rattle.bdd_store.proofs.GrowthLemmas.{KeepsNodes-chain}
 use Rattle.verdict.specs.Costs.{leaving_cost}
 use Rattle.verdict.proofs.DecisionLemmas.{signals-bounded, wide-kept}
 use Rattle.verdict.proofs.LeavesLemmas.{within-set, leaves-fit}
-use Rattle.verdict.proofs.PartLemmas.{by-order, invariant-reads, leaves-is, order-layout, AreFixed-kept, Tells-kept}
 use Rattle.verdict.proofs.SearchLemmas.{told-on}
 use Rattle.verdict.proofs.WorkLemmas.{next-bounded}
 use Rattle.verdict.proofs.refusing.leaves.Goals as goal

@@ -1,19 +1,20 @@
 -- No gate waits any longer, so the loop is settled.
 use Rattle.std.proofs.Common.{◌≡◌, ◌<◌, ℕ, List, [], sym, subst, ◌∙◌, arith}
+use Rattle.cyc_base.proofs.ListLemmas.{empty_list}
 use Rattle.simulation.proofs.Common.{IsRising, work_left}
 use Rattle.simulation.proofs.GateLemmas.{cleared}
-use Rattle.simulation.proofs.LoopLemmas.{nothing_waits, risen}
+use Rattle.simulation.proofs.LoopLemmas.{risen}
 use Rattle.simulation.proofs.wires.Wires.settle_loop.Goals as goal
 
 pub returns-clause-settled : goal.returns-clause-settled
 returns-clause-settled c =
-    let empty : c.loop-gate.worklist.gates.items ≡ [] = nothing_waits c.loop-gate.worklist.gates.items (omega (arith, c.in_default.ensures.cases)) in
+    let empty : c.loop-gate.worklist.gates.items ≡ [] = empty_list c.loop-gate.worklist.gates.items (omega (arith, c.in_default.ensures.cases)) in
     risen c.args.net.now c.args.plan.now c.args.place c.loop-gate.self.values.items c.loop-gate.self.due.items c.requires.plan
     (rw empty at c.loop-gate.invariant.rising)
 
 pub returns-clause-kept : goal.returns-clause-kept
 returns-clause-kept c =
-    let empty : c.loop-gate.worklist.gates.items ≡ [] = nothing_waits c.loop-gate.worklist.gates.items (omega (arith, c.in_default.ensures.cases)) in
+    let empty : c.loop-gate.worklist.gates.items ≡ [] = empty_list c.loop-gate.worklist.gates.items (omega (arith, c.in_default.ensures.cases)) in
     cleared c.args.net.now c.requires.plan.netlist c.args.plan.now.blocks c.requires.plan.blocks c.loop-gate.self.values.items c.loop-gate.self.due.items c.args.place
     c.loop-gate.invariant.rising.kept
     (risen c.args.net.now c.args.plan.now c.args.place c.loop-gate.self.values.items c.loop-gate.self.due.items c.requires.plan

@@ -1,8 +1,9 @@
 -- The gates stay below the fixpoint, and the work falls, whether the gate is determined or not.
 use Rattle.std.proofs.Common.{◌≡◌, ◌<◌, [], length, ◌∙◌, ap, arith}
 use Rattle.cyc_base.specs.declared.sig.Sig.{Sig}
+use Rattle.cyc_base.proofs.ListLemmas.{empty_list}
 use Rattle.netlist.specs.Netlists.{count, gate_sig}
-use Rattle.ternary_run.proofs.SettlingLemmas.{settling_starts_at, settled_at, gate_unchanged_at, gate_determined_at, determined_falls_at, unchanged_falls_at, waiting_gate, nothing_left, length-settling}
+use Rattle.ternary_run.proofs.SettlingLemmas.{settling_starts_at, settled_at, gate_unchanged_at, gate_determined_at, determined_falls_at, unchanged_falls_at, waiting_gate, length-settling}
 use Rattle.ternary_run.proofs.fanout.Fanout.settle.Goals as goal
 
 pub loop-gate-init : goal.loop-gate-init
@@ -54,5 +55,5 @@ loop-gate-preserved c =
 
 pub returns : goal.returns
 returns c =
-    let empty : c.loop-gate.queue.items ≡ [] = nothing_left c.loop-gate.queue.items (omega (arith, c.in_default.ensures.cases)) in
+    let empty : c.loop-gate.queue.items ≡ [] = empty_list c.loop-gate.queue.items (omega (arith, c.in_default.ensures.cases)) in
     settled_at c.args.net.now c.args.given.now c.loop-gate.values.items c.loop-gate.queue.items empty c.loop-gate.invariant

@@ -1,5 +1,5 @@
 use Rattle.cyc_io.proofs.TakenLemmas.{appended_then, appended_cut}
-use Rattle.equal_text.proofs.text.put_refused.Goals as goal
+use Rattle.equality.proofs.text.put_refused.Goals as goal
 
 pub returns-in_err-write_whole : goal.returns-in_err-write_whole
 returns-in_err-write_whole g c = appended_cut _ _ _ _ _ c.in_err-write_whole.ensures c.from_residual.ensures.0

@@ -1,12 +1,10 @@
 -- What an answer about two netlists speaks of.
 use Rattle.std.specs.Prelude.{◌≡◌, ◌<◌, ℕ, Bool, List, length}
 use Rattle.netlist.specs.declared.parts.Parts.{Parts}
-use Rattle.netlist.specs.Netlists.{IsNetlist}
-use Rattle.care_sets.specs.Care.{CareSet, columns}
+use Rattle.care_sets.specs.Care.{columns}
 use Rattle.refusals.specs.Refusals.{IsRefusalOf}
 use Rattle.equal.specs.declared.answer.Answer.{Answer}
 use Rattle.equal.specs.declared.answer.Answer.TheVariants.{Equal, Unmatched, First, Second, Output, Latch}
-use Rattle.equal.specs.Differences.{comparison}
 
 -- a vector of the netlist, and a place among so many
 pub record IsPlaceAt (net : Parts) (v : List Bool) (at most : ℕ) : Type 0 where
@@ -21,7 +19,3 @@ IsAnswerOf a b (First r) = IsRefusalOf a r
 IsAnswerOf a b (Second r) = IsRefusalOf b r
 IsAnswerOf a b (Output v at) = IsPlaceAt a v at (length a.outputs)
 IsAnswerOf a b (Latch v at) = IsPlaceAt a v at (length a.latches)
-
--- what is found is so
-abbrev pub AnswersFit : Type 0
-AnswersFit = (a b : Parts) (care_a care_b : CareSet) (answer : Answer) → IsNetlist a → IsNetlist b → answer ≡ comparison a care_a b care_b → IsAnswerOf a b answer

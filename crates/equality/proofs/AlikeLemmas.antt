@@ -1,6 +1,6 @@
 -- Tick by tick, two netlists that agree show the same by name.
-use Rattle.std.proofs.Common.{◌≡◌, ◌≢◌, ℕ, ◌+◌, ◌-◌, ◌<◌, ◌≤◌, Bool, true, false, ◌&&◌, cond, List, [], ◌∷◌, ◌++◌, length, map, get_or, slice_get, position, All, Option, Some, None, refl, sym, ap, ap₂, ◌∙◌, arith, true≢false}
-use Rattle.std.specs.Prelude.{find, option_map}
+use Rattle.std.proofs.Common.{◌≡◌, ◌≢◌, ℕ, ◌+◌, ◌-◌, ◌<◌, ◌≤◌, Bool, false, ◌&&◌, List, [], ◌∷◌, ◌++◌, length, map, get_or, slice_get, position, All, Option, Some, None, refl, sym, ap, ap₂, ◌∙◌, arith, true≢false}
+use Rattle.std.specs.Prelude.{option_map}
 use Rattle.std.specs.List.{list_any}
 use Rattle.std.specs.Option.{option_or, option_map_or}
 use Rattle.std.specs.Str.{bytes_eq}
@@ -12,10 +12,12 @@ use Rattle.cyc_base.specs.declared.sig.Sig.{Sig}
 use Rattle.cyc_base.specs.declared.trit.Trit.{Trit}
 use Rattle.cyc_base.specs.declared.trit.Trit.TheVariants.{Zero, One, X}
 use Rattle.cyc_base.specs.Values.{bits}
+use Rattle.cyc_base.proofs.OrderLemmas.{same_bit}
 use Rattle.netlist.specs.declared.parts.Latch.{Latch}
 use Rattle.netlist.specs.declared.parts.Parts.{Parts}
 use Rattle.netlist.specs.Netlists.{count, signal, signal_names, IsNetlist}
 use Rattle.netlist.specs.Fixpoint.{wire, fix, outs, next}
+use Rattle.netlist.proofs.NameLemmas.{length-signal_names}
 use Rattle.loops.proofs.Reading.{map_agree}
 use Rattle.care_sets.specs.Binding.{IsCareOf}
 use Rattle.care_sets.specs.Care.{CareSet, columns, is_care_vector, IsCareVector}
@@ -31,15 +33,16 @@ use Rattle.schedules.specs.Runs.{Tick, Played, gates_at, outputs_at, loaded_at, 
 use Rattle.schedules.proofs.RunLemmas.{Fits, last_above, fits_next, run_fits}
 use Rattle.accepted_runs.specs.Laws.{FollowsFix}
 use Rattle.accepted_runs.proofs.CareLemmas.{care_is_kept, runs_follow_fix, follows_fix}
+use Rattle.accepted_runs.proofs.SameLemmas.{same_head, same_tail}
 use Rattle.clause_decision.specs.declared.pairs.Pair.{Pair}
 use Rattle.equal.specs.declared.answer.Answer.{Answer}
 use Rattle.equal.specs.declared.answer.Answer.TheVariants.{Equal, Unmatched, First, Second, Output, Latch as LatchAt}
 use Rattle.equal.specs.Matching.{name_of, latch_name, latch_named, output_names, unmatched}
 use Rattle.equal.specs.Differences.{number_or_0, column_named, by_name, signal_named, source_named, pair_of, output_pairs, latch_pairs, are_different, differs_at, differs, difference, at_difference, comparison, comparison_of_accepted, HaveOneSource}
-use Rattle.equal.proofs.MatchLemmas.{Match, matched, care_by_name}
-use Rattle.equal.proofs.NameLemmas.{nowhere_any, input_behind, latch_at, latch_found, signal_found, length-names}
-use Rattle.equal_runs.specs.Runs.{renamed, latch_names, EqualRunAlike}
-use Rattle.equal_runs.proofs.RenamingLemmas.{IsPlaceOf, place_of, place_first, place_behind, renamed_is, same_bits, bit_read}
+use Rattle.equal.proofs.MatchLemmas.{Match, matched, care_by_name, latch_any}
+use Rattle.equal.proofs.NameLemmas.{nowhere_any, input_behind, latch_at, latch_found, signal_found}
+use Rattle.equality.specs.Runs.{renamed, latch_names, EqualRunAlike}
+use Rattle.equality.proofs.RenamingLemmas.{IsPlaceOf, place_of, place_first, place_behind, renamed_is, bit_read}
 
 -- ---- what is found where two netlists agree
 
@@ -48,10 +51,6 @@ pub record Agree (a : Parts) (care_a : CareSet) (b : Parts) (care_b : CareSet) :
   pub first : Accepts a care_a observe.All
   pub second : Accepts b care_b observe.All
   pub nothing : difference a b care_a ≡ None
-
-not_first : (found : Option Answer) (rest : Answer) → option_map_or (λ (answer : Answer). answer) found rest ≡ Equal → (found ≡ None → ⊥) → (answer : Answer) × ((found ≡ Some answer) × (answer ≡ Equal))
-not_first None rest e some = absurd (some refl)
-not_first (Some answer) rest e some = (answer, (refl, e))
 
 no_name : (o : Option (List ℕ)) (rest : Option Answer) (last : Answer) → option_map_or (λ (answer : Answer). answer) (option_or (option_map Unmatched o) rest) last ≡ Equal → o ≡ None
 no_name None rest last e = refl
@@ -100,18 +99,10 @@ not_different X X e = refl
 
 -- ---- names
 
-latch_any : (name : List ℕ) (latches : List Latch) → option_map_or (λ (latch : Latch). true) (find (λ latch. bytes_eq name latch.name) latches) false ≡ true → list_any (bytes_eq name) (map latch_name latches) ≡ true
-latch_any name [] e = e
-latch_any name (l ∷ ls) e = by (latch_any name ls) (bytes_eq name l.name) refl e
-  where
-    by : (option_map_or (λ (latch : Latch). true) (find (λ latch. bytes_eq name latch.name) ls) false ≡ true → list_any (bytes_eq name) (map latch_name ls) ≡ true) → (t : Bool) → bytes_eq name l.name ≡ t → option_map_or (λ (latch : Latch). true) (cond t (Some l) (find (λ latch. bytes_eq name latch.name) ls)) false ≡ true → list_any (bytes_eq name) (map latch_name (l ∷ ls)) ≡ true
-    by rest true is h = rw is refl
-    by rest false is h = rw is (rest h)
-
 -- a signal's name at its place
 name_there : (net : Parts) (s : ℕ) → s < count net → slice_get (signal_names net) s ≡ Some (get_or (signal_names net) s [])
 name_there net s inside =
-    let n = length-names net in
+    let n = length-signal_names net in
     slice_get-get_or (signal_names net) s [] (omega (arith, inside, n))
 
 module _ (a b : Parts) (valid_a : IsNetlist a) (valid_b : IsNetlist b) (match_ : Match a b) where
@@ -227,7 +218,7 @@ module _ (a b : Parts) (valid_a : IsNetlist a) (valid_b : IsNetlist b) (match_ :
           let within : place < length a.outputs = let w = at.1.within in omega (arith, w, na) in
           let r : Sig = get_or a.outputs place none in
           let r_named : name_of a r ≡ name = sym (get_or-map (name_of a) a.outputs place none [] within) ∙ at.1.named in
-          same_bits _ _
+          same_bit _ _
           (bit_read (bit_at (newest twin.ended)) (wire (fix b (bits (by_name a b v)))) b.outputs twin_shown k none less
           ∙ ap (wire (fix b (bits (by_name a b v)))) (s_named ∙ ap (signal_named b) (sym name_is ∙ sym r_named))
           ∙ sym (output_same place none within)
@@ -260,7 +251,7 @@ module _ (a b : Parts) (valid_a : IsNetlist a) (valid_b : IsNetlist b) (match_ :
               (ap (slice_get b.latches) back ∙ slice_get-get_or b.latches k none less) in
               let source : source_named b (get_or a.latches place none).name ≡ latch.from =
               ap (source_named b) own ∙ ap (λ o. option_map_or (λ (l : Latch). l.from) o (signal 0)) found in
-              same_bits _ _
+              same_bit _ _
               (bit_read (λ (l : Latch). bit_at (newest twin.ended) l.from) (λ (l : Latch). wire (fix b (bits (by_name a b v))) l.from) b.latches twin_loaded k none less
               ∙ ap (wire (fix b (bits (by_name a b v)))) (sym source)
               ∙ sym (latch_same place none within)
@@ -279,12 +270,6 @@ module _ (a b : Parts) (valid_a : IsNetlist a) (valid_b : IsNetlist b) (match_ :
           }
 
 -- ---- all ticks
-
-same_head : {A : Type 0} (x y : A) (xs ys : List A) → x ∷ xs ≡ y ∷ ys → x ≡ y
-same_head x y xs ys e = cc
-
-same_tail : {A : Type 0} (x y : A) (xs ys : List A) → x ∷ xs ≡ y ∷ ys → xs ≡ ys
-same_tail x y xs ys e = cc
 
 module _ (a b : Parts) (care_a care_b : CareSet) (valid_a : IsNetlist a) (valid_b : IsNetlist b) (is_a : IsCareOf a care_a) (is_b : IsCareOf b care_b) (one : HaveOneSource care_a care_b) (agree : Agree a care_a b care_b) where
   -- on a care vector nothing differs

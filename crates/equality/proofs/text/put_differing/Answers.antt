@@ -1,5 +1,5 @@
 use Rattle.cyc_io.proofs.TakenLemmas.{appended_then, appended_cut}
-use Rattle.equal_text.proofs.text.put_differing.Goals as goal
+use Rattle.equality.proofs.text.put_differing.Goals as goal
 
 pub returns-in_err-put_two : goal.returns-in_err-put_two
 returns-in_err-put_two g c = rw (← c.bytes.ensures) (appended_cut _ _ _ _ _ c.in_err-put_two.ensures c.from_residual.ensures.0)

@@ -13,7 +13,7 @@ use Rattle.cyc_base.specs.Values.{bit, bits}
 use Rattle.netlist.proofs.Decisions.{none_found}
 use Rattle.equal.specs.Differences.{number_or_0}
 use Rattle.equal.proofs.NameLemmas.{any_nowhere, nowhere_any}
-use Rattle.equal_runs.specs.Runs.{renamed}
+use Rattle.equality.specs.Runs.{renamed}
 
 -- ---- a place of a name
 
@@ -79,12 +79,6 @@ renamed_is from to xs ys long each =
     each k (omega (arith, less, long)) ∙ sym (get_or-map (λ name. get_or xs (number_or_0 (position (bytes_eq name) from)) false) to k [] false (omega (arith, less, long))))
 
 -- ---- bits of ternary values
-
-pub same_bits : (x y : Bool) → bit x ≡ bit y → x ≡ y
-same_bits true true e = refl
-same_bits true false e = cc
-same_bits false true e = cc
-same_bits false false e = refl
 
 -- a value of a list that stands for ternary ones
 pub bit_read : {T : Type 0} (f : T → Bool) (g : T → Trit) (xs : List T) → bits (map f xs) ≡ map g xs → (k : ℕ) (d : T) → k < length xs → bit (get_or (map f xs) k false) ≡ g (get_or xs k d)

@@ -5,9 +5,9 @@ use Rattle.cyc_base.specs.declared.sig.Sig.{Sig}
 use Rattle.netlist.specs.declared.parts.Parts.{Parts}
 use Rattle.netlist.specs.Netlists.{signal_names}
 use Rattle.equal.specs.Matching.{name_of, latch_name}
-use Rattle.equal_text.specs.Answers.{IsAnswerOf}
-use Rattle.equal_text.specs.Texts.{output_at, latch_at}
-use Rattle.equal_text.proofs.text.put_answer.Goals as goal
+use Rattle.equality.specs.Answers.{IsAnswerOf}
+use Rattle.equality.specs.Texts.{output_at, latch_at}
+use Rattle.equality.proofs.text.put_answer.Goals as goal
 
 pub returns-in-Output : goal.returns-in-Output
 returns-in-Output g c =

@@ -4,8 +4,8 @@ ghost use Rattle.cyc_io.specs.Taken.{IsAppended, sink_call};
 ghost use Rattle.netlist.specs.Netlists.{count, IsNetlist};
 ghost use Rattle.refusals.specs.Refusals.{IsRefusalOf};
 ghost use Rattle.report.specs.Verdicts.{refusal_text, vector_text};
-ghost use Rattle.equal_text.specs.Answers.{IsAnswerOf};
-ghost use Rattle.equal_text.specs.Texts.{answer_text};
+ghost use Rattle.equality.specs.Answers.{IsAnswerOf};
+ghost use Rattle.equality.specs.Texts.{answer_text};
 
 use cyc_base::Name;
 use cyc_io::{Failed, Sink, put_three, put_two, write_whole};
@@ -46,7 +46,7 @@ fn put_differing<K: Sink>(
 
 /// Appends the text of what is found of two netlists: `equal`, or the first name that isn't matched, or the refusal of one
 /// of them behind `first` or `second`, or the output or latch that differs with its vector. It takes no memory.
-pub fn put_answer<K: Sink>(
+pub(crate) fn put_answer<K: Sink>(
     a: &Netlist,
     b: &Netlist,
     answer: &Answer,

@@ -17,9 +17,9 @@ use Rattle.refusals.proofs.LawLemmas.{care_test, refusal_is_shown}
 use Rattle.equal.specs.declared.answer.Answer.{Answer}
 use Rattle.equal.specs.declared.answer.Answer.TheVariants.{Equal, Unmatched, First, Second, Output, Latch}
 use Rattle.equal.specs.Matching.{unmatched}
-use Rattle.equal.specs.Differences.{number_or_0, output_pairs, latch_pairs, differs_at, differs, difference, at_difference, comparison_of_accepted}
+use Rattle.equal.specs.Differences.{number_or_0, output_pairs, latch_pairs, differs_at, differs, difference, at_difference, comparison, comparison_of_accepted}
 use Rattle.equal.proofs.NameLemmas.{any_nowhere}
-use Rattle.equal_text.specs.Answers.{IsAnswerOf, AnswersFit}
+use Rattle.equality.specs.Answers.{IsAnswerOf}
 
 module _ (a b : Parts) (care_a care_b : CareSet) (valid_a : IsNetlist a) (valid_b : IsNetlist b) where
   refused-first : (r : Refusal) → refusal a care_a observe.All ≡ Some r → IsRefusalOf a r
@@ -65,6 +65,6 @@ module _ (a b : Parts) (care_a care_b : CareSet) (valid_a : IsNetlist a) (valid_
   parts-fit None None (Some r) one_is two_is = refused-second r two_is
   parts-fit None None None one_is two_is = accepted-fit (difference a b care_a) refl
 
-pub answers_fit : AnswersFit
+pub answers_fit : (a b : Parts) (care_a care_b : CareSet) (answer : Answer) → IsNetlist a → IsNetlist b → answer ≡ comparison a care_a b care_b → IsAnswerOf a b answer
 answers_fit a b care_a care_b answer valid_a valid_b is =
     subst (IsAnswerOf a b) (sym is) (parts-fit a b care_a care_b valid_a valid_b (unmatched a b) (refusal a care_a observe.All) (refusal b care_b observe.All) refl refl)

@@ -1,2 +1,0 @@
-pub mod AlikeLemmas
-mod RenamingLemmas
