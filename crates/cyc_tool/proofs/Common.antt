@@ -4,9 +4,9 @@ pub use Rattle.blif_write.specs.Written.{written}
 pub use Rattle.commands.specs.Seen.{cells_seen, options_seen}
 pub use Rattle.commands.specs.Words.{Command}
 pub use Rattle.commands.specs.declared.form.Form.{Form}
-pub use Rattle.contents.specs.Faults.{IsErrorOf}
-pub use Rattle.contents.specs.NetlistFiles.{netlist_of}
-pub use Rattle.contents.specs.Seen.{error_seen}
+pub use Rattle.parsed_files.specs.Faults.{IsErrorOf}
+pub use Rattle.parsed_files.specs.NetlistFiles.{netlist_of}
+pub use Rattle.parsed_files.specs.Seen.{error_seen}
 pub use Rattle.cyc_base.specs.Values.{bits}
 pub use Rattle.cyc_base.specs.declared.sig.Sig.{Sig}
 pub use Rattle.cyc_base.specs.declared.trit.Trit.{Trit}

@@ -6,7 +6,7 @@ use Rattle.std.specs.declared.result.Result.{Result}
 use Rattle.std.specs.List.{AllByRecursion}
 use Rattle.cyc_io.proofs.FaultLemmas.{Rose_later}
 use Rattle.cyc_tool.specs.Calls.{names_read}
-use Rattle.contents.specs.Faults.{Fault}
+use Rattle.parsed_files.specs.Faults.{Fault}
 use Rattle.cyc_tool.specs.Plans.{using}
 use Rattle.cyc_tool.specs.Reading.{FollowsAlone, FollowsStillAlone, IsStoppedBy, LeadsTo, StopsAt}
 use Rattle.cyc_tool.specs.Seen.{EndsAs}

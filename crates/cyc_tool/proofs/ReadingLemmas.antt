@@ -6,7 +6,7 @@ use Rattle.cyc_base.specs.declared.limits.TheConstants.{MAX_FILE_BYTES}
 use Rattle.cyc_io.specs.Faults.{ChangesCountOf}
 use Rattle.cyc_io.specs.Files.{IsFile}
 use Rattle.cyc_tool.specs.Calls.{ReadFailed, IsSound}
-use Rattle.contents.specs.Faults.{Fault, too_long}
+use Rattle.parsed_files.specs.Faults.{Fault, too_long}
 use Rattle.cyc_tool.specs.Plans.{Role, Netlist, using}
 use Rattle.cyc_tool.specs.Reading.{GaveNone, GaveText, Lacks, LeadsTo, StopsAt, TooLong, Unread}
 use Rattle.cyc_tool.specs.Texts.{has_fault, read_failed}

@@ -2,7 +2,7 @@
 use Rattle.std.proofs.Common.{◌≡◌, ◌⊎◌, ℕ, List, Ok, sym, ap, subst, ◌∙◌, inl, inr}
 use Rattle.cyc_tool.proofs.Common.{Arena, netlist_of, Parts, IsNetlist, IsDecided, Plan, Decides, Demonstrates, Outcome, no_memory}
 use Rattle.care_sets.specs.Care.{CareSet}
-use Rattle.contents.specs.CareFiles.{care_of}
+use Rattle.parsed_files.specs.CareFiles.{care_of}
 use Rattle.maker.specs.Ring.{ring_text, care_text}
 use Rattle.cyc_tool.specs.Plans.{ring_care_file, ring_deciding, ring_deciding_on, ring_decision, ring_file}
 use Rattle.cyc_tool.specs.Reading.{FollowsStill, IsStoppedBy}

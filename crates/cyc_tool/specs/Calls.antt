@@ -13,7 +13,7 @@ use Rattle.verdict.specs.Causes.{IsOutOfNodes}
 use Rattle.verdict.specs.Enough.{IsBelowEnough}
 use Rattle.commands.specs.declared.form.Form.{Form}
 use Rattle.commands.specs.Words.{Command, Check, Rewrite, Aiger, Explain, Equal, Demo, Storm, command_of}
-use Rattle.contents.specs.NetlistFiles.{netlist_of}
+use Rattle.parsed_files.specs.NetlistFiles.{netlist_of}
 use Rattle.cyc_base.specs.declared.limits.TheConstants.{MAX_REWRITTEN_ITEMS}
 use Rattle.refusals.specs.declared.refusal.Refusal.{Refusal}
 use Rattle.refusals.specs.declared.refusal.Refusal.TheVariants.{Undetermined}

@@ -17,10 +17,10 @@ use Rattle.refusals.specs.declared.observe.Observe.TheVariants as observe
 use Rattle.commands.specs.Words.{Options, Command, Check, Rewrite, Aiger, Explain, Equal, Flat, Loops, Sim, Delays, Demo, Storm, Help, HelpOn, Version}
 use Rattle.commands.specs.declared.form.Form.{Form}
 use Rattle.commands.specs.declared.form.Form.TheVariants.{Lines, Dot}
-use Rattle.contents.specs.CareFiles.{no_care, care_of}
-use Rattle.contents.specs.Faults.{Fault}
-use Rattle.contents.specs.NetlistFiles.{netlist_of}
-use Rattle.contents.specs.ScheduleFiles.{vectors_of, schedule_of}
+use Rattle.parsed_files.specs.CareFiles.{no_care, care_of}
+use Rattle.parsed_files.specs.Faults.{Fault}
+use Rattle.parsed_files.specs.NetlistFiles.{netlist_of}
+use Rattle.parsed_files.specs.ScheduleFiles.{vectors_of, schedule_of}
 use Rattle.dot_text.specs.LoopGraphs.{loops_graph}
 use Rattle.maker.specs.Ring.{ring_text, care_text}
 use Rattle.report.specs.Help.{help_text, topic_text, version_text}

@@ -10,8 +10,8 @@ use Rattle.schedules.specs.Runs.{ticks_of}
 use Rattle.delay_core.specs.declared.plan.Schedule.{Schedule}
 use Rattle.delay_core.specs.declared.plan.TickEnd.{TickEnd}
 use Rattle.delay_core.specs.Plans.{schedule_fault, run_of, end_of}
-use Rattle.contents.specs.Faults.{Fault}
-use Rattle.contents.specs.ScheduleFiles.{play_fault}
+use Rattle.parsed_files.specs.Faults.{Fault}
+use Rattle.parsed_files.specs.ScheduleFiles.{play_fault}
 use Rattle.report.specs.Ticks.{played_text}
 
 -- vectors without unknown values

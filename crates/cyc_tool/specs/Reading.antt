@@ -7,7 +7,7 @@ use Rattle.cyc_base.specs.declared.limits.TheConstants.{MAX_FILE_BYTES}
 use Rattle.cyc_io.specs.Faults.{Counts}
 use Rattle.cyc_io.specs.Files.{Files, IsFile}
 use Rattle.cyc_tool.specs.Calls.{ShelfCall, ChangesCountsOf, ReadFailed, AreGiven, rest_of, names_read, Follows}
-use Rattle.contents.specs.Faults.{Fault, IsErrorOf, too_long}
+use Rattle.parsed_files.specs.Faults.{Fault, IsErrorOf, too_long}
 use Rattle.cyc_tool.specs.Plans.{Plan}
 use Rattle.cyc_tool.specs.Texts.{Outcome, has_fault, read_failed, no_memory}
 

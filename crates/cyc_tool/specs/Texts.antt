@@ -1,6 +1,6 @@
 -- The outcomes of a call: a status, and the texts for out and err.
 use Rattle.std.specs.Prelude.{ℕ, List, []}
-use Rattle.contents.specs.Faults.{Fault}
+use Rattle.parsed_files.specs.Faults.{Fault}
 use Rattle.report.specs.Messages.{usage_text, read_failed_text, limit_text, no_memory_text}
 use Rattle.report.specs.Texts.{fault_text}
 

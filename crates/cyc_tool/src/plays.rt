@@ -1,8 +1,8 @@
 // Plays of recorded schedules.
 ghost use Rattle.std.specs.Prelude.{◌≡◌, ◌+◌, ◌++◌, [], All, Ok, IfOk, IfErr, OnOk, OnErr, length, map};
 ghost use Rattle.care_sets.specs.Care.{is_one};
-ghost use Rattle.contents.specs.Faults.{IsErrorOf};
-ghost use Rattle.contents.specs.Seen.{error_seen};
+ghost use Rattle.parsed_files.specs.Faults.{IsErrorOf};
+ghost use Rattle.parsed_files.specs.Seen.{error_seen};
 ghost use Rattle.cyc_io.specs.Text.{text_bytes};
 ghost use Rattle.probes.specs.Changes.{changes};
 ghost use Rattle.probes.specs.Hearing.{EachHears, EachHearsPrefix};
@@ -11,11 +11,11 @@ ghost use Rattle.report.specs.Ticks.{played_text};
 ghost use Rattle.sched_text.specs.Fitting.{FitsNetlist};
 ghost use Rattle.cyc_tool.specs.Plays.{AreInputs, delays_text, known as known_of, played as played_meant};
 
-use contents::{FileError, play_error};
 use cyc_base::{Bits, Trit, Trits};
 use cyc_io::TextSink;
 use delay_core::{Schedule, TickEnd, play_whole};
 use netlist::Netlist;
+use parsed_files::{FileError, play_error};
 use probes::{Kind, Probe, ShownRun, play_shown};
 use report::put_played_tick;
 use std::alloc::{AllocError, Global};

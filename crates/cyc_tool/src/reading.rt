@@ -3,7 +3,7 @@ ghost use Rattle.std.specs.Prelude.{◌≡◌, ◌≤◌, Some, IfOk, IfErr, len
 ghost use Rattle.netlist.specs.Netlists.{IsNetlist};
 ghost use Rattle.aig_core.specs.Building.{columns};
 ghost use Rattle.care_sets.specs.Binding.{IsCareOf};
-ghost use Rattle.contents.specs.Seen.{error_seen};
+ghost use Rattle.parsed_files.specs.Seen.{error_seen};
 ghost use Rattle.cyc_io.specs.Faults.{ChangesCountOf};
 ghost use Rattle.cyc_tool.specs.Calls.{shelf_call};
 ghost use Rattle.cyc_tool.specs.Plans.{with_care, with_netlist, with_schedule, with_vectors};
@@ -15,11 +15,11 @@ ghost use Rattle.cyc_tool.specs.Seen.{stop_outcome};
 use crate::outcome::Stop;
 use crate::texts::{tell_fault, tell_read_failed};
 use care_sets::Care;
-use contents::{FileError, care_of, netlist_of_owned, schedule_of, too_long, vectors_of};
 use cyc_base::{Name, Trits};
 use cyc_io::{ReadFault, Shelf, read_whole};
 use delay_core::Schedule;
 use netlist::Netlist;
+use parsed_files::{FileError, care_of, netlist_of_owned, schedule_of, too_long, vectors_of};
 use std::alloc::Global;
 
 // Where a call ends at an error of this file.

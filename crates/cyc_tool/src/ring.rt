@@ -3,8 +3,8 @@ ghost use Rattle.std.specs.Prelude.{◌≡◌, ◌≤◌, Ok, IfOk, IfErr, lengt
 ghost use Rattle.aig_core.specs.Building.{columns};
 ghost use Rattle.care_sets.specs.Binding.{IsCareOf};
 ghost use Rattle.commands.specs.Seen.{cells_seen};
-ghost use Rattle.contents.specs.CareFiles.{care_of as care_meant};
-ghost use Rattle.contents.specs.NetlistFiles.{netlist_of as netlist_meant};
+ghost use Rattle.parsed_files.specs.CareFiles.{care_of as care_meant};
+ghost use Rattle.parsed_files.specs.NetlistFiles.{netlist_of as netlist_meant};
 ghost use Rattle.maker.specs.Faults.{AreTexts};
 ghost use Rattle.maker.specs.Ring.{ring_text, care_text};
 ghost use Rattle.netlist.specs.Netlists.{IsNetlist};
@@ -18,10 +18,10 @@ use crate::reading::stop_at;
 use bdd_ops::Diagrams;
 use care_sets::Care;
 use commands::Cells;
-use contents::{care_of, netlist_of};
 use cyc_base::{DEFAULT_NODES, Name};
 use maker::ring;
 use netlist::Netlist;
+use parsed_files::{care_of, netlist_of};
 use refusals::Observe;
 use std::alloc::{AllocError, Global};
 

@@ -1,7 +1,7 @@
 // The texts of a call's outcomes.
 ghost use Rattle.std.specs.Prelude.{◌≡◌, ◌++◌, IfOk, OnOk, length};
 ghost use Rattle.cyc_io.specs.Text.{text_bytes};
-ghost use Rattle.contents.specs.Seen.{fault_seen};
+ghost use Rattle.parsed_files.specs.Seen.{fault_seen};
 ghost use Rattle.delay_core.specs.declared.plan.TickEnd.{TickEnd as TickEnded};
 ghost use Rattle.cyc_tool.specs.Answer.{told as done};
 ghost use Rattle.cyc_tool.specs.Endings.{count_of_loops};
@@ -25,13 +25,13 @@ use crate::status;
 use aiger_write::write as write_aiger;
 use blif_write::write;
 use commands::{Form, Topic};
-use contents::Fault;
 use cyc_base::{Name, Trits};
 use cyc_io::{Failed, TextSink};
 use delay_core::TickEnd;
 use dot_text::put_loops_graph;
 use loops::{LoopedNetlist, find_blocks, find_cut};
 use netlist::Netlist;
+use parsed_files::Fault;
 use probes::Kind;
 use refusals::Refusal;
 use report::{

@@ -5,8 +5,8 @@ ghost use Rattle.care_sets.specs.Binding.{IsCareOf};
 ghost use Rattle.netlist.specs.Netlists.{IsNetlist};
 
 use care_sets::Care;
-use contents::{care_of, netlist_of};
 use netlist::Netlist;
+use parsed_files::{care_of, netlist_of};
 use std::alloc::Global;
 use std::test::Fail;
 

@@ -1,7 +1,7 @@
 use Rattle.std.proofs.Common.{◌≡◌, Ok, sym, ap, subst, ◌∙◌}
 use Rattle.cyc_tool.proofs.Common.{err_from_is_err_and, IsErrorOf, error_seen, stop_outcome}
-use Rattle.contents.specs.CareFiles.{care_of}
-use Rattle.contents.proofs.CareLemmas.{care_of_long}
+use Rattle.parsed_files.specs.CareFiles.{care_of}
+use Rattle.parsed_files.proofs.CareLemmas.{care_of_long}
 use Rattle.cyc_tool.specs.Plans.{Care}
 use Rattle.cyc_tool.proofs.ReadingLemmas.{error_stops, file_goes_on, none_stops}
 use Rattle.cyc_tool.proofs.reading.read_care_file.Goals as goal

@@ -1,5 +1,5 @@
 use Rattle.cyc_tool.proofs.Common.{err_from_is_err_and, netlist_of, error_seen, stop_outcome}
-use Rattle.contents.proofs.NetlistLemmas.{netlist_of_long}
+use Rattle.parsed_files.proofs.NetlistLemmas.{netlist_of_long}
 use Rattle.cyc_tool.specs.Plans.{Netlist}
 use Rattle.cyc_tool.proofs.ReadingLemmas.{error_stops, file_goes_on, none_stops, sound_fault, sound_netlist}
 use Rattle.cyc_tool.proofs.reading.read_netlist.Goals as goal

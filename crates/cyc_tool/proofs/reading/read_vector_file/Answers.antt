@@ -1,8 +1,8 @@
 use Rattle.std.proofs.Common.{◌≡◌, Ok, sym, ap, subst, ◌∙◌}
 use Rattle.cyc_tool.proofs.Common.{err_from_is_err_and, IsErrorOf, error_seen, stop_outcome}
 use Rattle.cyc_tool.specs.Plans.{Vectors}
-use Rattle.contents.specs.ScheduleFiles.{vectors_of}
-use Rattle.contents.proofs.ScheduleLemmas.{vectors_of_long}
+use Rattle.parsed_files.specs.ScheduleFiles.{vectors_of}
+use Rattle.parsed_files.proofs.ScheduleLemmas.{vectors_of_long}
 use Rattle.cyc_tool.proofs.ReadingLemmas.{error_stops, file_goes_on, none_stops}
 use Rattle.cyc_tool.proofs.reading.read_vector_file.Goals as goal
 

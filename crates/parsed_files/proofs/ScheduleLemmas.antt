@@ -1,0 +1,46 @@
+-- Vector files and schedule files.
+use Rattle.std.proofs.Common.{◌≡◌, ◌≢◌, ◌⊎◌, inl, inr, ℕ, ◌<◌, ◌≤◌, List, length, Some, None, Err, Bool, true, false, sym, ap, subst, arith}
+use Rattle.std.specs.Prelude.{nat_le, if◌then◌else◌}
+use Rattle.std.specs.declared.option.Option.{Option}
+use Rattle.std.specs.declared.result.Result.{Result}
+use Rattle.cyc_base.specs.declared.limits.TheConstants.{MAX_FILE_BYTES}
+use Rattle.netlist.specs.declared.parts.Parts.{Parts}
+use Rattle.sched_text.specs.Schedules.{schedule_read}
+use Rattle.sched_text.specs.Vectors.{vectors_read}
+use Rattle.sched_text.specs.declared.fault.SchedFault.{SchedFault}
+use Rattle.sched_text.specs.declared.fault.SchedFault.TheVariants as sched
+use Rattle.parsed_files.specs.Faults.{Fault, IsErrorOf, too_long}
+use Rattle.parsed_files.specs.ScheduleFiles.{of_sched, sched_fault, schedule_of, vectors_of}
+
+pub vectors_of_short : (net : Parts) (unknowns : Bool) (bytes : List ℕ) → length bytes ≤ MAX_FILE_BYTES
+    → vectors_of net unknowns bytes ≡ of_sched net (vectors_read bytes (length net.inputs) unknowns)
+vectors_of_short net unknowns bytes short =
+    ap (λ (t : Bool). if t then of_sched net (vectors_read bytes (length net.inputs) unknowns) else Err (Some too_long))
+    (let e : nat_le (length bytes) MAX_FILE_BYTES ≡ true = grind (arith, short) in e)
+
+pub vectors_of_long : (net : Parts) (unknowns : Bool) (bytes : List ℕ) → MAX_FILE_BYTES < length bytes → vectors_of net unknowns bytes ≡ Err (Some too_long)
+vectors_of_long net unknowns bytes long =
+    ap (λ (t : Bool). if t then of_sched net (vectors_read bytes (length net.inputs) unknowns) else Err (Some too_long))
+    (let e : nat_le (length bytes) MAX_FILE_BYTES ≡ false = grind (arith, long) in e)
+
+pub schedule_of_short : (net : Parts) (ticks : ℕ) (bytes : List ℕ) → length bytes ≤ MAX_FILE_BYTES
+    → schedule_of net ticks bytes ≡ of_sched net (schedule_read bytes net ticks)
+schedule_of_short net ticks bytes short =
+    ap (λ (t : Bool). if t then of_sched net (schedule_read bytes net ticks) else Err (Some too_long))
+    (let e : nat_le (length bytes) MAX_FILE_BYTES ≡ true = grind (arith, short) in e)
+
+pub schedule_of_long : (net : Parts) (ticks : ℕ) (bytes : List ℕ) → MAX_FILE_BYTES < length bytes → schedule_of net ticks bytes ≡ Err (Some too_long)
+schedule_of_long net ticks bytes long =
+    ap (λ (t : Bool). if t then of_sched net (schedule_read bytes net ticks) else Err (Some too_long))
+    (let e : nat_le (length bytes) MAX_FILE_BYTES ≡ false = grind (arith, long) in e)
+
+-- an error of vectors is the fault of their file, unless it is want of memory
+pub sched_says : {T : Type 0} (net : Parts) (meaning : Result T (Option Fault)) (fault : SchedFault) (error : Option Fault)
+    → (error ≡ None) ⊎ (error ≡ sched_fault net fault) → (fault ≢ sched.Memory → meaning ≡ Err (sched_fault net fault)) → IsErrorOf meaning error
+sched_says {T} net meaning fault error is there =
+    let P : Option Fault → Type 0 = IsErrorOf meaning in
+    elim is [ inl e ↦ subst P (sym e) tt | inr e ↦ subst P (sym e) (by_fault fault there) ]
+  where
+    by_fault : (f : SchedFault) → (f ≢ sched.Memory → meaning ≡ Err (sched_fault net f)) → IsErrorOf meaning (sched_fault net f)
+    by_fault sched.Memory h = tt
+    by_fault f h = h (λ e. cc)

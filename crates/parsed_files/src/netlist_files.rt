@@ -1,0 +1,89 @@
+// The netlist of a netlist file.
+ghost use Rattle.std.specs.Prelude.{◌≡◌, ◌≤◌, ◌<◌, Ok, IfOk, IfErr, length, nat_lt};
+ghost use Rattle.netlist.specs.Netlists.{IsNetlist};
+ghost use Rattle.parsed_files.specs.Faults.{IsErrorOf};
+ghost use Rattle.parsed_files.specs.NetlistFiles.{netlist_of as netlist_meant, top_of};
+ghost use Rattle.parsed_files.specs.Seen.{error_seen};
+
+use crate::errors::too_long;
+use crate::fault::FileError;
+use blif_read::{BlifModel, read, read_owned};
+use cyc_base::{MAX_FILE_BYTES, Name};
+use flatten::flatten_owned;
+use netlist::Netlist;
+use std::alloc::Global;
+
+// The name of the first model, which is the top.
+#[tactic(auto, using(crate::proofs::NetlistLemmas::top_at))]
+fn top(models: &[BlifModel]) -> &Name
+    requires { 0 < length models.now }
+    ensures { result.now ≡ top_of models.now }
+{
+    &models[0].name
+}
+
+fn is_too_long(bytes: &[u8]) -> bool
+    ensures { result ≡ nat_lt MAX_FILE_BYTES (length bytes.now) }
+{
+    bytes.len() > MAX_FILE_BYTES
+}
+
+// The netlist of a text that isn't too long.
+fn netlist_in(alloc: Global, bytes: &[u8]) -> Result<Netlist, FileError>
+    requires { length bytes.now ≤ MAX_FILE_BYTES }
+    ensures good { IfOk result (λ net. netlist_meant bytes.now ≡ Ok net) }
+    ensures valid { IfOk result IsNetlist }
+    ensures inputs { IfOk result (λ net. length net.inputs ≤ 67108864) }
+    ensures latches { IfOk result (λ net. length net.latches ≤ 4000000) }
+    ensures bad { IfErr result (λ error. IsErrorOf (netlist_meant bytes.now) (error_seen error)) }
+{
+    let models = read(alloc, bytes)?;
+    let top = top(models.list.items()).copy()?;
+    Ok(flatten_owned(alloc, models, &top)?)
+}
+
+/// The netlist of a file at its first model, or the file's first fault: that it is over 67,108,864 bytes long, then
+/// that of its text, then that of flattening. A netlist has at most as many inputs as a file has bytes, and at most
+/// 4,000,000 latches.
+#[tactic(auto, using(crate::proofs::NetlistLemmas::netlist_of_long))]
+pub fn netlist_of(alloc: Global, bytes: &[u8]) -> Result<Netlist, FileError>
+    ensures good { IfOk result (λ net. netlist_meant bytes.now ≡ Ok net) }
+    ensures valid { IfOk result IsNetlist }
+    ensures inputs { IfOk result (λ net. length net.inputs ≤ 67108864) }
+    ensures latches { IfOk result (λ net. length net.latches ≤ 4000000) }
+    ensures bad { IfErr result (λ error. IsErrorOf (netlist_meant bytes.now) (error_seen error)) }
+{
+    if is_too_long(bytes) {
+        return Err(too_long());
+    }
+    netlist_in(alloc, bytes)
+}
+
+// The same, of a text that is dropped once its lines stand.
+fn netlist_in_owned(alloc: Global, bytes: Vec<u8>) -> Result<Netlist, FileError>
+    requires { length bytes.items ≤ MAX_FILE_BYTES }
+    ensures good { IfOk result (λ net. netlist_meant bytes.items ≡ Ok net) }
+    ensures valid { IfOk result IsNetlist }
+    ensures inputs { IfOk result (λ net. length net.inputs ≤ 67108864) }
+    ensures latches { IfOk result (λ net. length net.latches ≤ 4000000) }
+    ensures bad { IfErr result (λ error. IsErrorOf (netlist_meant bytes.items) (error_seen error)) }
+{
+    let models = read_owned(alloc, bytes)?;
+    let top = top(models.list.items()).copy()?;
+    Ok(flatten_owned(alloc, models, &top)?)
+}
+
+/// As `netlist_of`, of bytes that nothing else needs: they are dropped once the lines of the text stand.
+#[tactic(auto, using(crate::proofs::NetlistLemmas::netlist_of_long))]
+pub fn netlist_of_owned(alloc: Global, bytes: Vec<u8>) -> Result<Netlist, FileError>
+    ensures good { IfOk result (λ net. netlist_meant bytes.items ≡ Ok net) }
+    ensures valid { IfOk result IsNetlist }
+    ensures inputs { IfOk result (λ net. length net.inputs ≤ 67108864) }
+    ensures latches { IfOk result (λ net. length net.latches ≤ 4000000) }
+    ensures bad { IfErr result (λ error. IsErrorOf (netlist_meant bytes.items) (error_seen error)) }
+{
+    if is_too_long(&bytes) {
+        return Err(too_long());
+    }
+    netlist_in_owned(alloc, bytes)
+}
