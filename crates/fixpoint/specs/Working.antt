@@ -6,13 +6,14 @@ use Rattle.cyc_base.specs.declared.trit.Trit.{Trit}
 use Rattle.cover_logic.specs.Covers.{value}
 use Rattle.cover_logic.specs.Extensions.{exact}
 use Rattle.dual_rail.specs.Local.{size}
-use Rattle.dual_rail.specs.WorkingLists.{is_bit}
+use Rattle.dual_rail.specs.WorkingLists.{IsWide, is_bit}
 use Rattle.netlist.specs.declared.parts.Parts.{Parts}
 use Rattle.netlist.specs.Fixpoint.{wire, fix}
 use Rattle.netlist.specs.Netlists.{gate_at}
 use Rattle.loops.specs.declared.structure.Blocks.{Blocks}
 use Rattle.loops.specs.Blocks.{home_of}
-use Rattle.loops.specs.Cuts.{Loops}
+use Rattle.loops.specs.Cuts.{Loops, loops_by}
+use Rattle.loops.specs.Looped.{Looped}
 use Rattle.loops.specs.Sweeps.{first_gate, value_in, pin_in, sweeps, cuts_of}
 use Rattle.fixpoint.specs.Solved.{Vectors}
 
@@ -57,6 +58,10 @@ pub record IsGatePart (net : Parts) (loops : Loops) (v : Vectors) (g : List Bool
 -- the working list of a netlist on the given rails
 abbrev pub IsWorking : Parts → Loops → Vectors → (List Bool → Bool) → Type 0
 IsWorking net loops v g = IsGivenRail net v g ⊎ IsGatePart net loops v g
+
+-- w is as wide as the working list of a netlist with its loops asks
+abbrev pub IsWidth : ℕ → Looped → Vectors → ℕ → Type 0
+IsWidth vars looped v = IsWide vars (IsWorking looped.net (loops_by looped.blocks looped.cut) v)
 
 -- a function of this kind has the values of g at each list of so many bits
 pub record HasAlike (vars : ℕ) (Kind : (List Bool → Bool) → Type 0) (g : List Bool → Bool) : Type 0 where

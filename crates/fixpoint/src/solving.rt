@@ -10,7 +10,7 @@ ghost use Rattle.loops.specs.Sweeps.{first_gate};
 ghost use Rattle.fixpoint.specs.Kept.{rails_under, values_under, AreKept, RootsStay};
 ghost use Rattle.fixpoint.specs.Solved.{AreGiven, HasEachLoopOnce, AreKeptSteps, IsSolution};
 ghost use Rattle.dual_rail.specs.WorkingLists.{IsWide};
-ghost use Rattle.fixpoint.specs.Working.{IsWorking, HasLargeCover, effort, block_cost};
+ghost use Rattle.fixpoint.specs.Working.{IsWidth, IsWorking, HasLargeCover, effort, block_cost};
 ghost use Rattle.fixpoint.specs.Sweeping.{unknown as unknown_rails, vectors, IsFoundAt, IsSolvedBelow, AreFresh, IsKeptAt, HasSolvedTo};
 
 use crate::clearing::{sweep_if_due, sweep_store};
@@ -42,7 +42,7 @@ fn solve_block(
     ensures solved { OnOk result (IsSolvedBelow looped.now d.new (vectors looped.now.net d.old wires.old.rails.items) (home_of looped.now.blocks gate + 1) wires.new.before.items wires.new.rails.items) }
     ensures fresh { OnOk result (AreFresh looped.now (home_of looped.now.blocks gate + 1) wires.new.before.items) }
     ensures given { OnOk result (take (first_gate looped.now.net) wires.new.rails.items ≡ take (first_gate looped.now.net) wires.old.rails.items) }
-    ensures grows { GrowsWithin result d.old d.new (HasLargeCover looped.now.net) (IsWide d.old.vars (IsWorking looped.now.net (loops_by looped.now.blocks looped.now.cut) (vectors looped.now.net d.old wires.old.rails.items)))
+    ensures grows { GrowsWithin result d.old d.new (HasLargeCover looped.now.net) (IsWidth d.old.vars looped.now (vectors looped.now.net d.old wires.old.rails.items))
         (2 * ((length looped.now.net.gates + 1) * block_cost looped.now.net looped.now.blocks (home_of looped.now.blocks gate))) }
 {
     let blocks = looped.blocks();
@@ -70,7 +70,7 @@ fn solve_and_keep(
     ensures steps { IfOk result (IsKeptAt looped.now d.new (values_under d.new given.now) place) }
     ensures places { result ≡ Err StoreFault.Full → progress.new.places.items ≡ progress.old.places.items }
     ensures roots { RootsStay d.old d.new }
-    ensures adds { AddsWithin result d.old d.new (HasLargeCover looped.now.net) (IsWide d.old.vars (IsWorking looped.now.net (loops_by looped.now.blocks looped.now.cut) (values_under d.old given.now)))
+    ensures adds { AddsWithin result d.old d.new (HasLargeCover looped.now.net) (IsWidth d.old.vars looped.now (values_under d.old given.now))
         (2 * ((length looped.now.net.gates + 1) * block_cost looped.now.net looped.now.blocks place)) }
 {
     d.store().laws();
@@ -96,7 +96,7 @@ fn solve_with_retry(
     ensures solved { OnOk result (HasSolvedTo looped.now d.new given.now (place + 1) progress.new) }
     ensures steps { IfOk result (IsKeptAt looped.now d.new (values_under d.new given.now) place) }
     ensures roots { RootsStay d.old d.new }
-    ensures adds { AddsWithin result d.old d.new (HasLargeCover looped.now.net) (IsWide d.old.vars (IsWorking looped.now.net (loops_by looped.now.blocks looped.now.cut) (values_under d.old given.now)))
+    ensures adds { AddsWithin result d.old d.new (HasLargeCover looped.now.net) (IsWidth d.old.vars looped.now (values_under d.old given.now))
         (4 * ((length looped.now.net.gates + 1) * block_cost looped.now.net looped.now.blocks place)) }
 {
     let may_gain = d.store().count() > progress.left;
@@ -132,7 +132,7 @@ fn solve_blocks(
     ensures loops { IfOk result (λ loops. HasEachLoopOnce looped.now.blocks loops.items) }
     ensures steps { IfOk result (λ loops. All (AreKeptSteps looped.now.net looped.now.blocks looped.now.cut d.new (values_under d.new given.now)) loops.items) }
     ensures roots { RootsStay d.old d.new }
-    ensures adds { AddsWithin result d.old d.new (HasLargeCover looped.now.net) (IsWide d.old.vars (IsWorking looped.now.net (loops_by looped.now.blocks looped.now.cut) (values_under d.old given.now)))
+    ensures adds { AddsWithin result d.old d.new (HasLargeCover looped.now.net) (IsWidth d.old.vars looped.now (values_under d.old given.now))
         (4 * ((length looped.now.net.gates + 1) * effort looped.now.net)) }
 {
     d.store().laws();
@@ -180,7 +180,7 @@ fn solve_looped(
     ensures solution { IfOk result (IsSolution looped.now.net looped.now.blocks looped.now.cut d.new (values_under d.old given.items)) }
     ensures roots { RootsStay d.old d.new }
     ensures reached { OnOk result (AllReached d.new) }
-    ensures adds { AddsWithin result d.old d.new (HasLargeCover looped.now.net) (IsWide d.old.vars (IsWorking looped.now.net (loops_by looped.now.blocks looped.now.cut) (values_under d.old given.items)))
+    ensures adds { AddsWithin result d.old d.new (HasLargeCover looped.now.net) (IsWidth d.old.vars looped.now (values_under d.old given.items))
         (10 * (length looped.now.net.gates + 2) * effort looped.now.net) }
 {
     d.store().laws();

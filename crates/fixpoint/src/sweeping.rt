@@ -5,11 +5,10 @@ ghost use Rattle.bdd_store.specs.Arena.{Arena};
 ghost use Rattle.bdd_store.specs.Growth.{KeepsNodes, GrowsWithin, NoOtherCause};
 ghost use Rattle.dual_rail.specs.Rails.{AreRailsOf};
 ghost use Rattle.loops.specs.Blocks.{block_at, home_of};
-ghost use Rattle.loops.specs.Cuts.{is_cut, loops_by};
+ghost use Rattle.loops.specs.Cuts.{is_cut};
 ghost use Rattle.loops.specs.Sweeps.{first_gate};
 ghost use Rattle.fixpoint.specs.Solved.{Vectors, IsLoopAt, AreStepsOf};
-ghost use Rattle.dual_rail.specs.WorkingLists.{IsWide};
-ghost use Rattle.fixpoint.specs.Working.{IsWorking, HasLargeCover, order_cost, block_cost};
+ghost use Rattle.fixpoint.specs.Working.{IsWidth, HasLargeCover, order_cost, block_cost};
 ghost use Rattle.fixpoint.specs.Plans.{AreLocalsOf, IsPlan, IsPlanOf};
 ghost use Rattle.fixpoint.specs.Underway.{IsUnderway, IsSweptOnce};
 ghost use Rattle.fixpoint.specs.Sweeping.{States, after_sweeps, rails_at, vectors, AreWires, IsSolvedBelow, AreFresh, IsSweepable, AreSwept, OthersStay};
@@ -117,7 +116,7 @@ impl Wires {
         ensures grows { (b k : ℕ) (v : Vectors) →
             IsSweepable looped.now d.old v (after_sweeps looped.now v k) b order.now self.old.before.items self.old.rails.items →
             k ≤ length (filter (is_cut looped.now.cut.wires) (block_at looped.now.blocks b).gates) →
-            GrowsWithin result d.old d.new NoOtherCause (IsWide d.old.vars (IsWorking looped.now.net (loops_by looped.now.blocks looped.now.cut) v)) (2 * order_cost looped.now.net order.now) }
+            GrowsWithin result d.old d.new NoOtherCause (IsWidth d.old.vars looped.now v) (2 * order_cost looped.now.net order.now) }
     {
         for place in 0..order.len() {
             let diagram = locals.at(place);
@@ -175,7 +174,7 @@ impl Wires {
         ensures longer { OnOk result (length steps.new.items ≡ length steps.old.items + 1) }
         ensures grows { (b : ℕ) (v : Vectors) → IsPlanOf looped.now b plan.now →
             IsUnderway looped.now d.old v b plan.now.cuts steps.old.items self.old.before.items self.old.rails.items →
-            GrowsWithin result d.old d.new NoOtherCause (IsWide d.old.vars (IsWorking looped.now.net (loops_by looped.now.blocks looped.now.cut) v)) (2 * order_cost looped.now.net plan.now.order) }
+            GrowsWithin result d.old d.new NoOtherCause (IsWidth d.old.vars looped.now v) (2 * order_cost looped.now.net plan.now.order) }
     {
         let first = looped.net().columns() as usize;
         let cuts = plan.cuts.items();
@@ -207,7 +206,7 @@ pub(crate) fn solve_loop(
     ensures solved { OnOk result (IsSolvedBelow looped.now d.new (vectors looped.now.net d.old wires.old.rails.items) (place + 1) wires.new.before.items wires.new.rails.items) }
     ensures fresh { OnOk result (AreFresh looped.now (place + 1) wires.new.before.items) }
     ensures given { OnOk result (take (first_gate looped.now.net) wires.new.rails.items ≡ take (first_gate looped.now.net) wires.old.rails.items) }
-    ensures grows { GrowsWithin result d.old d.new (HasLargeCover looped.now.net) (IsWide d.old.vars (IsWorking looped.now.net (loops_by looped.now.blocks looped.now.cut) (vectors looped.now.net d.old wires.old.rails.items)))
+    ensures grows { GrowsWithin result d.old d.new (HasLargeCover looped.now.net) (IsWidth d.old.vars looped.now (vectors looped.now.net d.old wires.old.rails.items))
         (2 * ((length looped.now.net.gates + 1) * block_cost looped.now.net looped.now.blocks place)) }
 {
     let plan = plan_loop(alloc, looped, place, d.store().limit())?;
