@@ -1,12 +1,8 @@
 -- The states of vectors on rails.
 use Rattle.std.proofs.Common.{◌≡◌, Bool, List, length, drop, ap, sym, ◌∙◌}
 use Rattle.std.proofs.lemmas.List.{drop-map}
-use Rattle.bdd_store.specs.Arena.{Arena}
-use Rattle.cyc_base.specs.Values.{bit, bits}
-use Rattle.dual_rail.specs.declared.rail.Rails.{Rails}
-use Rattle.dual_rail.specs.Rails.{value_of, values_of}
-use Rattle.netlist.specs.declared.parts.Parts.{Parts}
-use Rattle.care_sets.specs.Care.{state_of}
+use Rattle.differences.proofs.Common.{Arena, bits, Rails, value_of, values_of, Parts, state_of}
+use Rattle.cyc_base.specs.Values.{bit}
 
 -- the latches' rails stand for the state, where those of all columns stand for the vector
 pub state-values : (net : Parts) (a : Arena) (rails latches : List Rails) (values v : List Bool) → latches ≡ drop (length net.inputs) rails → values_of a rails v ≡ bits values →

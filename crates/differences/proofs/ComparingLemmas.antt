@@ -1,20 +1,13 @@
 -- What the least vector of pairs says, where rails stand for the fixpoint and a set for the care vectors.
 use Rattle.std.proofs.Common.{◌≡◌, ℕ, suc, ◌+◌, ◌<◌, Bool, true, false, ◌&&◌, ◌||◌, List, [], ◌∷◌, length, map, get_or, refl, sym, ap, ap₂, ◌∙◌, arith, true≢false, Ok, Err, Result}
-use Rattle.std.specs.Prelude.{find, IfOk}
+use Rattle.differences.proofs.Common.{find, Node, Arena, den, IsLayout, by_variable, bits, vectors, find-alike, Rails, AreRailsOf, value_of, IsWide, Parts, rails_at, rails_at-proper, CareSet, columns, is_care_vector, Pair, IsLaidBy, TellsBy, AreFixedBy, some_differ, BoundsPairs}
+use Rattle.std.specs.Prelude.{IfOk}
 use Rattle.std.specs.List.{All, list_any}
 use Rattle.std.proofs.lemmas.List.{length-append}
-use Rattle.bdd_store.specs.declared.node.Node.{Node}
-use Rattle.bdd_store.specs.Arena.{Arena, den, IsNodeOf}
-use Rattle.bdd_ops.specs.Least.{IsLayout, by_variable}
+use Rattle.bdd_store.specs.Arena.{IsNodeOf}
 use Rattle.cyc_base.specs.declared.trit.Trit.{Trit}
-use Rattle.cyc_base.specs.Values.{bits}
-use Rattle.cyc_base.specs.Vectors.{vectors}
-use Rattle.cyc_base.proofs.VectorLemmas.{find-alike}
-use Rattle.dual_rail.specs.declared.rail.Rails.{Rails}
-use Rattle.dual_rail.specs.Rails.{AreRailsOf, trit_of, value_of}
-use Rattle.dual_rail.specs.WorkingLists.{IsWide}
+use Rattle.dual_rail.specs.Rails.{trit_of}
 use Rattle.dual_rail.proofs.SurelyLemmas.{length-values}
-use Rattle.netlist.specs.declared.parts.Parts.{Parts}
 use Rattle.netlist.specs.Fixpoint.{wire, fix, fix_gates}
 use Rattle.netlist.specs.Netlists.{count}
 use Rattle.netlist.proofs.FixpointLemmas.{length-fix_gates}
@@ -23,16 +16,11 @@ use Rattle.loops.specs.declared.structure.Cut.{Cut}
 use Rattle.fixpoint.specs.declared.solved.Solved.{Solved}
 use Rattle.fixpoint.specs.Kept.{rails_under}
 use Rattle.fixpoint.specs.Solved.{Vectors, IsSolution}
-use Rattle.fixpoint.specs.Sweeping.{rails_at}
-use Rattle.fixpoint.proofs.WireLemmas.{rails_at-proper}
-use Rattle.care_sets.specs.Care.{CareSet, columns, is_care_vector}
 use Rattle.refusals.proofs.LawLemmas.{care_test}
 use Rattle.verdict.proofs.CareLemmas.{value_at-place}
-use Rattle.clause_decision.specs.declared.pairs.Pair.{Pair}
-use Rattle.differences.specs.Comparisons.{IsLaidBy}
 use Rattle.clause_decision.specs.Apart.{are_apart, is_apart_at, some_is_apart, IsPairOf}
 use Rattle.differences.specs.Pairs.{least_apart}
-use Rattle.differences.specs.Sets.{TellsBy, AreFixedBy, HasRails, pair_differs, some_differ, BoundsPairs}
+use Rattle.differences.specs.Sets.{HasRails, pair_differs}
 use Rattle.differences.proofs.LaidLemmas.{above-bounded}
 
 -- ---- values

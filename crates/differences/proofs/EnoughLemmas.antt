@@ -5,20 +5,16 @@ use Rattle.std.proofs.Math.Nat.{mul-le-mul_left}
 use Rattle.isolation.proofs.WidthLemmas.{effort-enough}
 use Rattle.bdd_store.specs.declared.fault.StoreFault.{StoreFault}
 use Rattle.bdd_store.specs.declared.fault.StoreFault.TheVariants.{Full}
-use Rattle.bdd_store.specs.Arena.{Arena}
+use Rattle.differences.proofs.Common.{Arena, IsWide, Parts, CareSet, columns, Pair, IsLaidBy}
 use Rattle.bdd_store.specs.Growth.{AddsWithin}
 use Rattle.bdd_store.proofs.GrowthLemmas.{adds_more}
-use Rattle.dual_rail.specs.WorkingLists.{IsWide}
 use Rattle.dual_rail.proofs.WidthLemmas.{IsWide-some}
-use Rattle.netlist.specs.declared.parts.Parts.{Parts}
 use Rattle.fixpoint.specs.Working.{effort}
-use Rattle.care_sets.specs.Care.{CareSet, columns}
 use Rattle.verdict.specs.Causes.{HasCoverOver, IsOutOfNodes, IsStoreFor}
 use Rattle.verdict.specs.Costs.{assume_effort, invariant_effort}
 use Rattle.verdict.specs.Enough.{enough}
 use Rattle.verdict.proofs.EnoughLemmas.{large-effort, model-effort}
-use Rattle.clause_decision.specs.declared.pairs.Pair.{Pair}
-use Rattle.differences.specs.Comparisons.{IsLaidBy, comparison_cost, IsBelowEnoughFor, IsFullFor}
+use Rattle.differences.specs.Comparisons.{comparison_cost, IsBelowEnoughFor, IsFullFor}
 
 -- ---- the sum
 

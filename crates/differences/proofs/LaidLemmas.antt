@@ -1,39 +1,29 @@
 -- Functions that are made of those of a comparison, where the columns are laid on the variables in some order.
 use Rattle.std.proofs.Common.{◌≡◌, inl, inr, ℕ, ◌<◌, ◌≤◌, Bool, true, false, ◌&&◌, ◌⊎◌, List, length, refl, sym, ap, ap₂, subst, ◌∙◌, arith}
 use Rattle.std.specs.Prelude.{IfSome}
-use Rattle.bdd_store.specs.declared.node.Node.{Node}
-use Rattle.bdd_store.specs.Arena.{Arena, den}
-use Rattle.bdd_store.specs.Subfunctions.{nodes}
+use Rattle.differences.proofs.Common.{Node, Arena, den, nodes, IsLayout, by_variable, conjunction, bits, Rails, AreRailsOf, value_of, IsWide, Parts, rails_at, rails_at-proper, CareSet, columns, state_of, is_care_vector, IsLaidBy, TellsBy, AreFixedBy, BoundsAbove, is_above}
 use Rattle.bdd_store.proofs.SubfunctionLemmas.{nodes-alike}
-use Rattle.bdd_ops.specs.Least.{IsLayout, by_variable}
-use Rattle.bdd_ops.specs.Operations.{bit_at, conjunction}
+use Rattle.bdd_ops.specs.Operations.{bit_at}
 use Rattle.cyc_base.specs.declared.trit.Trit.{Trit}
-use Rattle.cyc_base.specs.Values.{bit, bits}
-use Rattle.dual_rail.specs.declared.rail.Rails.{Rails}
-use Rattle.dual_rail.specs.Rails.{AreRailsOf, value_of}
-use Rattle.dual_rail.specs.WorkingLists.{IsWide, BoundsEach, is_bit}
+use Rattle.cyc_base.specs.Values.{bit}
+use Rattle.dual_rail.specs.WorkingLists.{BoundsEach, is_bit}
 use Rattle.dual_rail.proofs.WidthLemmas.{IsWide-fewer}
-use Rattle.netlist.specs.declared.parts.Parts.{Parts}
 use Rattle.netlist.specs.Fixpoint.{fix}
 use Rattle.netlist.specs.Netlists.{count}
 use Rattle.loops.specs.Cuts.{Loops}
 use Rattle.loops.specs.Found.{loops_of}
 use Rattle.loops.specs.Sweeps.{value_in}
 use Rattle.fixpoint.specs.Solved.{Vectors}
-use Rattle.fixpoint.specs.Sweeping.{rails_at}
 use Rattle.fixpoint.specs.Working.{IsWorking}
 use Rattle.fixpoint.proofs.CutLemmas.{one-of, zero-of}
 use Rattle.fixpoint.proofs.LayoutLemmas.{by_column, length-by_column, columns-back, variables-back}
-use Rattle.fixpoint.proofs.WireLemmas.{rails_at-proper}
 use Rattle.care_sets.specs.declared.model.CareModel.{CareModel}
-use Rattle.care_sets.specs.Care.{CareSet, columns, state_of, is_care_vector}
 use Rattle.isolation.proofs.WorkingLemmas.{IsOfColumn, IsOfGate, column-bit, working-is}
 use Rattle.verdict.specs.Enough.{IsOfModel}
 use Rattle.verdict.proofs.CareLemmas.{value_at-place}
 use Rattle.verdict.proofs.SignalLemmas.{signal-is}
 use Rattle.verdict.proofs.WorkLemmas.{says, says-own, says-of, there_each, there_and}
-use Rattle.differences.specs.Comparisons.{IsOfComparison, IsLaidBy, IsColumn, SaysCare, IsOfNetlist, IsOfAssumption, IsOfInvariant}
-use Rattle.differences.specs.Sets.{TellsBy, AreFixedBy, BoundsAbove, is_above}
+use Rattle.differences.specs.Comparisons.{IsOfComparison, IsColumn, SaysCare, IsOfNetlist, IsOfAssumption, IsOfInvariant}
 
 -- at vectors by column of the netlist's width, h is made of one function of the comparison
 pub record IsMadeOf (net : Parts) (care : CareSet) (h : List Bool → Bool) : Type 0 where

@@ -1,13 +1,12 @@
 -- The lesser of two vectors, and what it is the first to pass.
 use Rattle.std.proofs.Common.{◌≡◌, inl, inr, ℕ, zero, suc, ◌<◌, ◌≤◌, Bool, true, false, not, ◌||◌, List, [], ◌∷◌, length, take, get_or, Some, None, refl, sym, ap, subst, ◌∙◌, arith, true≢false}
-use Rattle.std.specs.Prelude.{find}
+use Rattle.differences.proofs.Common.{find, vectors, find-alike}
 use Rattle.std.specs.Bool.{beq}
 use Rattle.std.proofs.Math.Dec.{leb}
 use Rattle.std.proofs.lemmas.Bool.{or_cases, or_left}
 use Rattle.std.proofs.lemmas.Bool.Decides.{leb_tells}
 use Rattle.bdd_ops.specs.Least.{IsLeast}
-use Rattle.cyc_base.specs.Vectors.{vectors, AtMost}
-use Rattle.cyc_base.proofs.VectorLemmas.{find-alike}
+use Rattle.cyc_base.specs.Vectors.{AtMost}
 use Rattle.cyc_base.proofs.TruthLemmas.{or_without_second, or_comm}
 use Rattle.refusals.proofs.FirstLemmas.{found_passes, found_wide, found_least, none_passes}
 use Rattle.verdict.proofs.SetLemmas.{least-first}

@@ -1,3 +1,4 @@
+pub mod Common
 mod CaringLemmas
 mod ComparingLemmas
 mod EnoughLemmas

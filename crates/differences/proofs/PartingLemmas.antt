@@ -1,17 +1,10 @@
 -- Where rails differ, in diagrams that keep their nodes.
 use Rattle.std.proofs.Common.{◌≡◌, ℕ, ◌≤◌, Bool, ◌&&◌, ◌||◌, List, sym, ap, ap₂, subst, ◌∙◌, arith}
-use Rattle.std.specs.Prelude.{find}
-use Rattle.bdd_store.specs.declared.node.Node.{Node}
-use Rattle.bdd_store.specs.Arena.{Arena, IsNodeOf}
+use Rattle.differences.proofs.Common.{find, Node, Arena, nodes, conjunction, vectors, find-alike, Rails, AreRailsOf, is_above, BoundsAbove}
+use Rattle.bdd_store.specs.Arena.{IsNodeOf}
 use Rattle.bdd_store.specs.Growth.{KeepsNodes}
-use Rattle.bdd_store.specs.Subfunctions.{nodes}
 use Rattle.bdd_store.proofs.SubfunctionLemmas.{nodes-alike}
-use Rattle.bdd_ops.specs.Operations.{conjunction}
-use Rattle.cyc_base.specs.Vectors.{vectors}
-use Rattle.cyc_base.proofs.VectorLemmas.{find-alike}
-use Rattle.dual_rail.specs.declared.rail.Rails.{Rails}
-use Rattle.dual_rail.specs.Rails.{AreRailsOf}
-use Rattle.differences.specs.Sets.{is_above, differ, BoundsAbove, BoundsPair}
+use Rattle.differences.specs.Sets.{differ, BoundsPair}
 
 -- ---- a function by other nodes
 

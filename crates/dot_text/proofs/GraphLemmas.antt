@@ -10,21 +10,18 @@ use Rattle.std.specs.Prelude.{if◌then◌else◌, slice_index, slice_index_or, 
 use Rattle.std.proofs.lemmas.Bool.{le-leb, lt-leb}
 use Rattle.std.proofs.Math.Path.{fun_ext}
 use Rattle.cyc_base.specs.declared.sig.Sig.{Sig}
-use Rattle.cyc_base.specs.declared.trit.Trit.{Trit}
+use Rattle.dot_text.proofs.Common.{Trit, Parts, gate_sig, is_marked, loops_of, pin_wire, loop_wire}
 use Rattle.cyc_base.specs.declared.trit.Trit.TheVariants.{X}
-use Rattle.netlist.specs.declared.parts.Parts.{Parts}
-use Rattle.netlist.specs.Netlists.{count, gate_sig}
+use Rattle.netlist.specs.Netlists.{count}
 use Rattle.loops.specs.Cuts.{Loops}
 use Rattle.explanations.specs.declared.explanation.Explanation.{Explanation}
-use Rattle.isolation.specs.Cones.{is_marked}
-use Rattle.loops.specs.Found.{loops_of}
 use Rattle.loops.specs.Listed.{gate_numbers}
 use Rattle.loops.specs.Sweeps.{first_gate, gate_of, in_loop_of}
 use Rattle.unroll.proofs.PinLemmas.{some_if, none_if}
 use Rattle.dot_text.specs.Dot.{wire}
-use Rattle.dot_text.specs.ExplanationGraphs.{Picture, gate_wire, needed_wire, picture_of, pin_wire}
+use Rattle.dot_text.specs.ExplanationGraphs.{Picture, gate_wire, needed_wire, picture_of}
 use Rattle.dot_text.specs.Marks.{AreMarksOf}
-use Rattle.dot_text.specs.LoopGraphs.{loop_wire, wire_style}
+use Rattle.dot_text.specs.LoopGraphs.{wire_style}
 
 module _ (net : Parts) (loops : Loops) (gate : ℕ) (pin : Sig) where
   pub wire_drawn : (source : ℕ) → Some source ≡ (if in_loop_of net loops gate pin then Some (gate_of net pin) else None)

@@ -3,10 +3,10 @@ use Rattle.std.proofs.Common.{◌≡◌, inl, inr, ℕ, zero, suc, ◌<◌, Bool
 use Rattle.std.specs.Prelude.{◌==◌}
 use Rattle.std.proofs.lemmas.Bool.{eqb-true, eq-eqb, or_cases, or_left, or_right}
 use Rattle.cyc_base.proofs.TruthLemmas.{same_truth}
-use Rattle.isolation.specs.Cones.{is_marked, AddMarks}
+use Rattle.dot_text.proofs.Common.{is_marked, Parts}
+use Rattle.isolation.specs.Cones.{AddMarks}
 use Rattle.dot_text.specs.ExplanationGraphs.{is_one_of}
 use Rattle.dot_text.specs.Marks.{AreMarksOf}
-use Rattle.netlist.specs.declared.parts.Parts.{Parts}
 
 held : (gates : List ℕ) (n : ℕ) → is_one_of gates n ≡ true → Contains gates n
 held [] n is = absurd (true≢false (sym is))

@@ -1,17 +1,11 @@
 -- Classes of rows that agree from a pin on.
 use Rattle.std.proofs.Common.{◌≡◌, ℕ, zero, suc, ◌+◌, ◌-◌, ◌<◌, ◌≤◌, ◌⊎◌, inl, inr, List, [], ◌∷◌, ◌++◌, length, drop, replicate, get_or, map, Option, Some, None, refl, sym, ap, subst, ◌∙◌, arith, rules, add-one}
-use Rattle.std.proofs.lemmas.Bool.{cases_lt}
-use Rattle.std.proofs.lemmas.List.{get_or_past, get_or_push, get_or_append_left, get_or-replicate, length_push, length-replicate}
-use Rattle.std.proofs.lemmas.List.Elements.{All-get_or}
+use Rattle.dual_rail.proofs.Common.{cases_lt, get_or_append_left, length_push, All-get_or, All, list_any, Lit, Any, Row, matches, lits_of, matches_from, MatchAlike}
+use Rattle.std.proofs.lemmas.List.{get_or_past, get_or_push, get_or-replicate, length-replicate}
 use Rattle.std.proofs.lemmas.Option.{same_Some}
-use Rattle.std.specs.List.{All, list_any}
-use Rattle.cover_logic.specs.declared.row.Lit.{Lit}
-use Rattle.cover_logic.specs.declared.row.Lit.TheVariants.{Any}
-use Rattle.cover_logic.specs.declared.row.Row.{Row}
-use Rattle.cover_logic.specs.Covers.{matches}
 use Rattle.dual_rail.specs.declared.classes.Firsts.{Firsts}
 use Rattle.dual_rail.specs.declared.classes.Classes.{Classes}
-use Rattle.dual_rail.specs.Expansion.{lits_of, literal, suffix, matches_from, MatchAlike}
+use Rattle.dual_rail.specs.Expansion.{literal, suffix}
 use Rattle.dual_rail.specs.Classes.{number, AreClasses, classes_at, class_of, AreClassesOf, AreClassesBack, none, first_in, AreNumbered}
 use Rattle.dual_rail.proofs.LiveLemmas.{any_map}
 

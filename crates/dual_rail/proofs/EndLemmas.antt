@@ -1,15 +1,12 @@
 -- Where rows end.
 use Rattle.std.proofs.Common.{◌≡◌, ℕ, zero, suc, ◌+◌, ◌<◌, ◌≤◌, ◌⊎◌, inl, inr, Bool, true, false, not, ◌&&◌, List, [], ◌∷◌, ◌++◌, length, take, drop, map, get_or, refl, sym, ap, ◌∙◌, arith, true≢false, leb}
-use Rattle.std.proofs.lemmas.Bool.{cases_lt, le-leb, lt-leb, and_from}
+use Rattle.dual_rail.proofs.Common.{cases_lt, and_from, list_any, list_all, Lit, Zero, One, Any, Row, lits_of}
+use Rattle.std.proofs.lemmas.Bool.{le-leb, lt-leb}
 use Rattle.std.proofs.lemmas.List.{take_more, length-take-le}
-use Rattle.std.specs.List.{list_any, list_all}
-use Rattle.cover_logic.specs.declared.row.Lit.{Lit}
-use Rattle.cover_logic.specs.declared.row.Lit.TheVariants.{Zero, One, Any}
-use Rattle.cover_logic.specs.declared.row.Row.{Row}
 use Rattle.dual_rail.specs.declared.classes.Classes.{Classes}
 use Rattle.dual_rail.specs.Classes.{AreEndsOf, is_behind_end}
 use Rattle.dual_rail.proofs.ExpansionLemmas.{any_same}
-use Rattle.dual_rail.specs.Expansion.{lits_of, is_any, is_settled, end_behind, end_of}
+use Rattle.dual_rail.specs.Expansion.{is_any, is_settled, end_behind, end_of}
 
 -- ---- one literal more
 

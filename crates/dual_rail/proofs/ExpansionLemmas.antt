@@ -1,20 +1,15 @@
 -- Shannon's expansion of rows.
 use Rattle.std.proofs.Common.{◌≡◌, ℕ, zero, suc, ◌+◌, ◌<◌, ◌≤◌, Bool, true, false, cond, ◌&&◌, ◌||◌, ◌⊎◌, inl, inr, List, [], ◌∷◌, ◌++◌, length, drop, replicate, get_or, Result, Ok, IfOk, if◌then◌else◌, refl, sym, ap, subst, ◌∙◌, arith, add-one, append_assoc, length-append, length-drop, true≢false}
 use Rattle.std.proofs.lemmas.List.FromFn.{map-range_with_len_more}
-use Rattle.std.proofs.lemmas.List.{map-id, get_or_at, drop_at, length-replicate, length_push}
-use Rattle.std.proofs.lemmas.List.Elements.{All-get_or}
-use Rattle.std.specs.List.{list_any, list_all, filter, All, range_with_len}
-use Rattle.bdd_store.specs.declared.node.Node.{Node}
-use Rattle.bdd_store.specs.Arena.{Arena, complemented, den, top_of, IsNodeOf, choice}
-use Rattle.bdd_store.specs.Growth.{KeepsNodes, NewAreParts, IsNewFunction, IsRefusedPart}
+use Rattle.dual_rail.proofs.Common.{length_push, All-get_or, list_any, list_all, All, range_with_len, Node, Arena, complemented, den, top_of, IsNodeOf, KeepsNodes, IsPart, Lit, Zero, One, Any, Row, matches, lits_of, matches_from, remainder, narrowed, IsExpansion}
+use Rattle.std.proofs.lemmas.List.{map-id, get_or_at, drop_at, length-replicate}
+use Rattle.std.specs.List.{filter}
+use Rattle.bdd_store.specs.Arena.{choice}
+use Rattle.bdd_store.specs.Growth.{NewAreParts, IsNewFunction, IsRefusedPart}
 use Rattle.bdd_store.proofs.SubfunctionLemmas.{IsPart-whole, IsPart-alike}
 use Rattle.bdd_store.proofs.GrowthLemmas.{NewAreParts-made, NewAreParts-part, IsRefusedPart-made, IsRefusedPart-part}
-use Rattle.bdd_store.specs.Subfunctions.{IsPart}
-use Rattle.cover_logic.specs.declared.row.Lit.{Lit}
-use Rattle.cover_logic.specs.declared.row.Lit.TheVariants.{Zero, One, Any}
-use Rattle.cover_logic.specs.declared.row.Row.{Row}
-use Rattle.cover_logic.specs.Covers.{allows, matches, some_row_matches, value_of_rows}
-use Rattle.dual_rail.specs.Expansion.{lits_of, literal, is_any, is_settled, matches_from, in_plane, remainder, narrowed, IsExpansion, AreBranches}
+use Rattle.cover_logic.specs.Covers.{allows, some_row_matches, value_of_rows}
+use Rattle.dual_rail.specs.Expansion.{literal, is_any, is_settled, in_plane, AreBranches}
 
 -- ---- lists
 

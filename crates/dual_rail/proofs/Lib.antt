@@ -1,3 +1,4 @@
+pub mod Common
 mod ClassLemmas
 mod EndLemmas
 mod ExpansionLemmas

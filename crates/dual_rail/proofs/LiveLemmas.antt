@@ -1,23 +1,18 @@
 -- Lists of rows that match alike.
 use Rattle.std.proofs.Common.{◌≡◌, ℕ, ◌+◌, ◌<◌, Bool, true, false, not, cond, ◌||◌, List, [], ◌∷◌, ◌++◌, length, drop, map, Result, Ok, Err, IfOk, refl, sym, ap, subst, ◌∙◌, arith, true≢false, eqb, eqb-true}
-use Rattle.std.proofs.lemmas.Bool.{and_parts, and_from}
+use Rattle.dual_rail.proofs.Common.{and_parts, and_from, list_any, list_all, Node, Arena, Lit, Zero, One, Row, matches, matches_from, MatchAlike, remainder, narrowed, IsExpansion, IsPart}
 use Rattle.std.proofs.lemmas.List.Filters.{dedup_is}
 use Rattle.std.proofs.lemmas.List.Folds.{list_any-append, Any-from_list_any, list_any-from_Any}
 use Rattle.std.proofs.lemmas.List.Kept.{Contains-dedup_nat, Contains-from_dedup}
 use Rattle.std.proofs.lemmas.List.Sorted.{list_any-IsPermutation}
-use Rattle.std.specs.List.{list_any, list_all, filter, zip, dedup, Contains}
+use Rattle.std.specs.List.{filter, zip, dedup, Contains}
 use Rattle.std.specs.List.Retain.{IsFiltered, DiffersFromLast}
 use Rattle.std.specs.List.Sorted.{IsPermutation}
 use Rattle.cyc_base.proofs.TruthLemmas.{same_truth, or-false}
-use Rattle.bdd_store.specs.declared.node.Node.{Node}
-use Rattle.bdd_store.specs.Arena.{Arena}
-use Rattle.cover_logic.specs.declared.row.Lit.{Lit}
-use Rattle.cover_logic.specs.declared.row.Lit.TheVariants.{Zero, One, Any as Either}
-use Rattle.cover_logic.specs.declared.row.Row.{Row}
-use Rattle.cover_logic.specs.Covers.{allows, matches}
-use Rattle.dual_rail.specs.Expansion.{suffix, matches_from, MatchAlike, is_within, is_contained, remainder, narrowed, in_plane, IsExpansion}
+use Rattle.cover_logic.specs.declared.row.Lit.TheVariants.{Any as Either}
+use Rattle.cover_logic.specs.Covers.{allows}
+use Rattle.dual_rail.specs.Expansion.{suffix, is_within, is_contained, in_plane}
 use Rattle.dual_rail.specs.declared.live.Live.{Live}
-use Rattle.bdd_store.specs.Subfunctions.{IsPart}
 use Rattle.bdd_store.proofs.SubfunctionLemmas.{IsPart-alike}
 use Rattle.dual_rail.proofs.ExpansionLemmas.{any_weaker, IsPart-narrowed}
 

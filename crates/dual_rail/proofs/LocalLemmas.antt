@@ -1,16 +1,11 @@
 -- The diagram of a cover.
 use Rattle.std.proofs.Common.{◌≡◌, ℕ, ◌-◌, ◌^◌, ◌<◌, ◌≤◌, Bool, List, [], length, inl, inr, Result, Ok, Err, IfOk, sym, ap, subst, ◌∙◌, arith}
-use Rattle.std.specs.List.{range_with_len}
-use Rattle.bdd_store.specs.declared.node.Node.{Node}
-use Rattle.bdd_store.specs.Arena.{Arena, den, IsNodeOf}
-use Rattle.bdd_store.specs.Soundness.{IsLawful}
-use Rattle.bdd_store.specs.Subfunctions.{nodes, IsPart, Alike}
-use Rattle.bdd_store.specs.Growth.{KeepsNodes, NewAreParts, IsRefusedPart}
+use Rattle.dual_rail.proofs.Common.{range_with_len, Node, Arena, den, IsNodeOf, IsLawful, nodes, IsPart, KeepsNodes, Row, value, remainder, IsExpansion}
+use Rattle.bdd_store.specs.Subfunctions.{Alike}
+use Rattle.bdd_store.specs.Growth.{NewAreParts, IsRefusedPart}
 use Rattle.bdd_store.proofs.SubfunctionLemmas.{IsPart-of_alike}
 use Rattle.bdd_store.proofs.GrowthLemmas.{IsPartAt-into, added-parts, refused-parts}
-use Rattle.cover_logic.specs.declared.row.Row.{Row}
-use Rattle.cover_logic.specs.Covers.{Cover, IsCover, value}
-use Rattle.dual_rail.specs.Expansion.{remainder, IsExpansion}
+use Rattle.cover_logic.specs.Covers.{Cover, IsCover}
 use Rattle.dual_rail.specs.Local.{IsLocal, IsDiagramOf, size}
 use Rattle.dual_rail.proofs.ExpansionLemmas.{remainder-whole}
 use Rattle.dual_rail.proofs.SizeLemmas.{nodes-below_power}

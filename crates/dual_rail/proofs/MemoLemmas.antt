@@ -1,16 +1,12 @@
 -- The memo of the expansion.
 use Rattle.std.proofs.Common.{◌≡◌, ℕ, Bool, true, false, cond, List, Option, Some, Result, Ok, Err, is_err, OnOk, nat_eq, refl, sym, subst, ◌∙◌, true≢false, eq-eqb}
 use Rattle.std.proofs.lemmas.Option.{same_Some}
-use Rattle.std.proofs.lemmas.Bool.{eqb-true, and_parts}
+use Rattle.dual_rail.proofs.Common.{and_parts, Node, Arena, KeepsNodes, Row, IsExpansion}
+use Rattle.std.proofs.lemmas.Bool.{eqb-true}
 use Rattle.std.specs.Bool.{Decides}
 use Rattle.std.specs.Cmp.Lexicographic.{pointwise, pointwise_decides}
 use Rattle.std.specs.HashMap.{get}
-use Rattle.bdd_store.specs.declared.node.Node.{Node}
-use Rattle.bdd_store.specs.Arena.{Arena}
-use Rattle.bdd_store.specs.Growth.{KeepsNodes}
-use Rattle.cover_logic.specs.declared.row.Row.{Row}
 use Rattle.dual_rail.specs.declared.live.Live.{Live}
-use Rattle.dual_rail.specs.Expansion.{IsExpansion}
 use Rattle.dual_rail.specs.Memo.{Memo, live_eq, IsMemo}
 use Rattle.dual_rail.proofs.ExpansionLemmas.{IsExpansion-kept}
 

@@ -1,17 +1,18 @@
 -- Bounds on the number of subfunctions.
 use Rattle.std.proofs.Common.{◌≡◌, ℕ, zero, suc, ◌+◌, ◌-◌, ◌^◌, ◌<◌, ◌≤◌, Bool, true, false, not, cond, ◌||◌, ◌⊎◌, inl, inr, List, [], ◌∷◌, ◌++◌, length, drop, map, filter, get_or, Contains, refl, sym, ap, subst, ◌∙◌, arith, length-append, true≢false}
 use Rattle.std.proofs.Math.Nat.{pow-suc}
-use Rattle.std.proofs.lemmas.Bool.{cases_lt, or_parts}
-use Rattle.std.proofs.lemmas.List.{length-map, drop_all, append-nil, get_or_append_left, get_or-append_right, get_or-drop}
+use Rattle.dual_rail.proofs.Common.{cases_lt, length-map, get_or_append_left, list_all, nodes}
+use Rattle.std.proofs.lemmas.Bool.{or_parts}
+use Rattle.std.proofs.lemmas.List.{drop_all, append-nil, get_or-append_right, get_or-drop}
 use Rattle.std.proofs.lemmas.Map.Keys.{IsDistinct-cons}
 use Rattle.std.proofs.lemmas.Map.Made.{length-le_from_is_member, is_member-Decides}
 use Rattle.std.specs.Cmp.{IsEquivalence, bool_eq_equiv}
 use Rattle.std.specs.Cmp.Lexicographic.{lists_equiv}
-use Rattle.std.specs.List.{AllByRecursion, IsDistinct, list_all}
+use Rattle.std.specs.List.{AllByRecursion, IsDistinct}
 use Rattle.std.specs.Set.{is_member, unique_keys}
 use Rattle.cyc_base.specs.Vectors.{vectors}
 use Rattle.cyc_base.proofs.ListLemmas.{Contains-map, all_append, all_map}
-use Rattle.bdd_store.specs.Subfunctions.{fixed, prefixes, table, is_constant, nodes}
+use Rattle.bdd_store.specs.Subfunctions.{fixed, prefixes, table, is_constant}
 use Rattle.bdd_store.proofs.SubfunctionLemmas.{prefixes-all, table-alike}
 use Rattle.bdd_store.proofs.PigeonholeLemmas.{table_eq, table_decides}
 

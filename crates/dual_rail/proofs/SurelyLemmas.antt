@@ -1,26 +1,18 @@
 -- Where a function is surely 1, split at one pin.
 use Rattle.std.proofs.Common.{◌≡◌, ℕ, zero, suc, ◌<◌, Bool, true, false, not, ◌&&◌, List, [], ◌∷◌, length, map, get_or, set, refl, sym, ap, ap₂, subst, ◌∙◌, arith, true≢false}
-use Rattle.std.proofs.lemmas.Bool.{and_parts, and_from}
-use Rattle.std.proofs.lemmas.List.{get_or-set_same, drop-set-lt, length-map}
-use Rattle.std.proofs.lemmas.List.Elements.{All-get_or, All-from_get_or}
-use Rattle.std.proofs.Math.Bool.{not-not}
-use Rattle.std.specs.List.{All}
-use Rattle.bdd_store.specs.declared.node.Node.{Node}
-use Rattle.bdd_store.specs.Arena.{Arena, den, top_of, IsNodeOf}
-use Rattle.bdd_store.specs.Soundness.{IsLawful}
-use Rattle.bdd_store.specs.Growth.{KeepsNodes}
-use Rattle.bdd_ops.specs.Operations.{select, selection}
+use Rattle.dual_rail.proofs.Common.{and_parts, and_from, length-map, All-get_or, not-not, All, Node, Arena, den, top_of, IsNodeOf, IsLawful, KeepsNodes, selection, exact, Rails, values_of, AreRailsOf, IsLift, IsFork}
+use Rattle.std.proofs.lemmas.List.{get_or-set_same, drop-set-lt}
+use Rattle.std.proofs.lemmas.List.Elements.{All-from_get_or}
+use Rattle.bdd_ops.specs.Operations.{select}
 use Rattle.cyc_base.proofs.OrderLemmas.{Below-at, same_bit, Completes-at, Completes-length, Completes-set}
 use Rattle.cyc_base.specs.declared.trit.Trit.{Trit}
 use Rattle.cyc_base.specs.declared.trit.Trit.TheVariants.{Zero, One, X}
 use Rattle.cyc_base.specs.Values.{bit, Completes}
 use Rattle.cyc_base.proofs.TruthLemmas.{same_truth}
-use Rattle.cover_logic.specs.Extensions.{exact}
 use Rattle.cover_logic.proofs.ExtensionLemmas.{passes_above, passes_listed, some_completion}
-use Rattle.dual_rail.specs.declared.rail.Rails.{Rails}
 use Rattle.dual_rail.specs.declared.lifting.Fork.{Fork}
-use Rattle.dual_rail.specs.Rails.{trit_of, value_of, values_of, AreRailsOf}
-use Rattle.dual_rail.specs.Lifts.{surely, IsSurely, IsLift, IsFork}
+use Rattle.dual_rail.specs.Rails.{trit_of, value_of}
+use Rattle.dual_rail.specs.Lifts.{surely, IsSurely}
 
 -- what an index out of range gives
 abbrev pub no_rails : Rails

@@ -1,21 +1,13 @@
 -- The table of rails, and what a loop over the nodes adds.
 use Rattle.std.proofs.Common.{◌≡◌, ℕ, ◌<◌, ◌≤◌, Bool, true, false, not, ◌⊎◌, inl, inr, List, [], ◌∷◌, ◌++◌, length, if◌then◌else◌, sym, ap, subst, ◌∙◌, arith}
-use Rattle.std.proofs.Math.Bool.{not-not}
-use Rattle.std.proofs.lemmas.Bool.{cases_lt}
-use Rattle.std.proofs.lemmas.List.{get_or_append_left, get_or_push, length_push}
-use Rattle.std.specs.List.{All, slice_index_or}
-use Rattle.bdd_store.specs.declared.node.Node.{Node}
-use Rattle.bdd_store.specs.Arena.{Arena, empty, index, is_marked, complemented, flipped, den, value_at, constant, IsNodeOf}
-use Rattle.bdd_store.specs.Soundness.{IsLawful}
-use Rattle.bdd_store.specs.Subfunctions.{nodes}
+use Rattle.dual_rail.proofs.Common.{not-not, cases_lt, get_or_append_left, length_push, All, slice_index_or, Node, Arena, complemented, den, IsNodeOf, IsLawful, nodes, KeepsNodes, Rails, values_of, AreRailsOf, function, IsLift, IsTable}
+use Rattle.std.proofs.lemmas.List.{get_or_push}
+use Rattle.bdd_store.specs.Arena.{empty, index, is_marked, flipped, value_at, constant}
 use Rattle.bdd_store.proofs.NodeLemmas.{same_node, index-complemented, is_marked-complemented}
 use Rattle.bdd_store.proofs.ValueLemmas.{value_at-zero, node_value-complemented, den-constant}
 use Rattle.bdd_store.proofs.GrowthLemmas.{count-parts}
-use Rattle.bdd_store.specs.Growth.{KeepsNodes, IsPartAt}
-use Rattle.dual_rail.specs.declared.rail.Rails.{Rails}
-use Rattle.dual_rail.specs.Rails.{values_of, AreRailsOf}
-use Rattle.dual_rail.specs.Local.{Local, function, local_size, IsLocal}
-use Rattle.dual_rail.specs.Lifts.{IsLift, IsTable}
+use Rattle.bdd_store.specs.Growth.{IsPartAt}
+use Rattle.dual_rail.specs.Local.{Local, local_size, IsLocal}
 use Rattle.dual_rail.proofs.SurelyLemmas.{surely-constant, IsLift-kept, IsLift-complement}
 
 -- the rails of the constant without a mark

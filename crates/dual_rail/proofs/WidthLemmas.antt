@@ -1,29 +1,23 @@
 -- Counting the nodes of a lift.
 use Rattle.std.proofs.Common.{inl, inr, ◌≡◌, ℕ, zero, suc, ◌+◌, ◌≤◌, Bool, true, false, not, ◌&&◌, List, [], ◌∷◌, ◌++◌, length, map, drop, refl, sym, ap, ap₂, subst, ◌∙◌, arith}
 use Rattle.std.proofs.Common.{cond, filter}
-use Rattle.std.specs.List.{All}
+use Rattle.dual_rail.proofs.Common.{All, length-map, Node, Arena, complemented, den, not-not, KeepsNodes, nodes, IsPart, exact, Rails, values_of, AreRailsOf, selection, function, IsFork, BoundsEach, IsExtended}
 use Rattle.std.specs.Bool.{beq}
 use Rattle.std.specs.Cmp.Lexicographic.{pointwise}
-use Rattle.std.proofs.lemmas.List.{length-map}
 use Rattle.std.proofs.lemmas.List.Filters.{length-filter_both}
 use Rattle.std.proofs.lemmas.List.Folds.{list_all-append, list_all-map}
 use Rattle.std.proofs.lemmas.Map.Made.{distinct_count-le}
-use Rattle.bdd_store.specs.declared.node.Node.{Node}
-use Rattle.bdd_store.specs.Arena.{Arena, complemented, den}
 use Rattle.bdd_store.proofs.ValueLemmas.{node_value-complemented}
-use Rattle.std.proofs.Math.Bool.{not-not}
-use Rattle.bdd_store.specs.Growth.{KeepsNodes, IsPartAt}
-use Rattle.bdd_store.specs.Subfunctions.{nodes, fixed, table, prefixes, is_constant, IsPart}
+use Rattle.bdd_store.specs.Growth.{IsPartAt}
+use Rattle.bdd_store.specs.Subfunctions.{fixed, table, prefixes, is_constant}
 use Rattle.cyc_base.specs.declared.trit.Trit.{Trit}
 use Rattle.cyc_base.specs.declared.trit.Trit.TheVariants.{Zero, One, X}
-use Rattle.cover_logic.specs.Extensions.{completions, exact}
-use Rattle.dual_rail.specs.declared.rail.Rails.{Rails}
-use Rattle.dual_rail.specs.Rails.{value_of, values_of, AreRailsOf}
-use Rattle.bdd_ops.specs.Operations.{selection}
+use Rattle.cover_logic.specs.Extensions.{completions}
+use Rattle.dual_rail.specs.Rails.{value_of}
 use Rattle.dual_rail.specs.declared.lifting.Fork.{Fork}
-use Rattle.dual_rail.specs.Local.{Local, function}
-use Rattle.dual_rail.specs.Lifts.{surely, IsFork}
-use Rattle.dual_rail.specs.WorkingLists.{IsWide, BoundsEach, IsExtended, is_bit}
+use Rattle.dual_rail.specs.Local.{Local}
+use Rattle.dual_rail.specs.Lifts.{surely}
+use Rattle.dual_rail.specs.WorkingLists.{IsWide, is_bit}
 use Rattle.dual_rail.proofs.SurelyLemmas.{surely-alike, surely-apart, values_of-kept}
 
 -- fewer functions have no more nodes

@@ -1,24 +1,21 @@
 -- Gates grouped by the numbers of their components are the blocks of a netlist.
 use Rattle.std.proofs.Common.{◌≡◌, ◌≢◌, inl, inr, ◌↔◌, ℕ, zero, suc, ◌+◌, ◌<◌, Bool, true, false, cond, eqb, List, [], ◌∷◌, ◌++◌, length, map, get_or, set, replicate, refl, ap, sym, ◌∙◌, subst, arith, true≢false, Contains, eq-eqb, add-one}
-use Rattle.std.specs.List.{All, AllPairs, filter, range_with_len}
-use Rattle.std.proofs.lemmas.Bool.{cases_eq, cases_Bool, eqb-true}
-use Rattle.std.proofs.lemmas.List.{get_or-map, length-map, get_or-set_same, get_or-set_other, length-set, same_lists, append-nil}
-use Rattle.std.proofs.lemmas.List.FromFn.{length-range_with_len, get_or-range_with_len, get_or-map-range_with_len, length-map-range_with_len}
+use Rattle.loops.proofs.Common.{range_with_len, cases_eq, cases_Bool, eqb-true, length-map, get_or-set_same, get_or-set_other, length-set, length-range_with_len, get_or-range_with_len, AreComponentsOf, Parts, Feeds, Walk, Block, Leads, AnyGate, block_at, AreBlocksOf, block_of}
+use Rattle.std.specs.List.{All, AllPairs, filter}
+use Rattle.std.proofs.lemmas.List.{get_or-map, same_lists, append-nil}
+use Rattle.std.proofs.lemmas.List.FromFn.{get_or-map-range_with_len, length-map-range_with_len}
 use Rattle.std.proofs.lemmas.List.Elements.{All-filter, filter-append, filter_passes}
 use Rattle.std.proofs.lemmas.List.Folds.{list_any_at}
 use Rattle.std.proofs.lemmas.Map.Views.{Contains-from_any}
 use Rattle.std.proofs.lemmas.List.Kept.{AllPairs-filter}
 use Rattle.cyc_base.proofs.ListLemmas.{range-suc}
 use Rattle.components.specs.declared.components.Components.{Components}
-use Rattle.components.specs.Graphs.{Edge, Reaches, AreComponentsOf}
-use Rattle.netlist.specs.declared.parts.Parts.{Parts}
-use Rattle.netlist.specs.Walks.{Feeds, Walk}
+use Rattle.components.specs.Graphs.{Edge, Reaches}
 use Rattle.netlist.specs.Orders.{gate_graph}
 use Rattle.netlist.proofs.GraphLemmas.{length-gate_graph, feeds_edge, edge_feeds, walk_reaches, reaches_walk}
-use Rattle.loops.specs.declared.structure.Block.{Block}
-use Rattle.loops.specs.Walks.{Leads, AnyGate, SameBlock}
-use Rattle.loops.specs.Blocks.{no_block, block_at, AreBlocksOf}
-use Rattle.loops.specs.Members.{members_below, members, is_loop, block_of}
+use Rattle.loops.specs.Walks.{SameBlock}
+use Rattle.loops.specs.Blocks.{no_block}
+use Rattle.loops.specs.Members.{members_below, members, is_loop}
 use Rattle.loops.proofs.Walks.{leads-any, leads-step, leads-trans}
 
 -- one more gate is a member of its number, and of no other

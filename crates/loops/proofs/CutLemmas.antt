@@ -1,21 +1,11 @@
 -- Paths through gates that are kept are the walks that make a gate a cut wire, and levels show where there are none.
 use Rattle.std.proofs.Common.{◌≡◌, ◌⊎◌, ◌↔◌, inl, inr, ℕ, ◌<◌, ◌≤◌, ◌+◌, ◌-◌, Bool, true, false, List, [], ◌∷◌, ◌++◌, length, get_or, set, replicate, ap, sym, ◌∙◌, subst, arith, Contains, true≢false}
-use Rattle.std.proofs.lemmas.Bool.{cases_eq, cases_lt}
-use Rattle.std.proofs.lemmas.List.{get_or-set_same, get_or-set_other, length-set, length-replicate, get_or-replicate, get_or_past}
-use Rattle.std.specs.List.{All, AllByRecursion}
-use Rattle.cyc_base.proofs.ListLemmas.{all_weaker, all_append}
-use Rattle.netlist.specs.declared.parts.Parts.{Parts}
-use Rattle.netlist.specs.Walks.{Feeds, Walk}
+use Rattle.loops.proofs.Common.{cases_eq, cases_lt, get_or-set_same, get_or-set_other, length-set, length-replicate, get_or_past, AllByRecursion, all_weaker, all_append, Parts, Feeds, Walk, Blocks, Cut, AreBlocksOf, MayPass, is_cut, HasParted, HaveGained, IsCutSearch, IsKept, Meeting, ReadsBack, IsLoopPin, Connects, InRow, IsFree, Path, level_at, row_at, AnyGate, Leads, SameLoop}
+use Rattle.std.proofs.lemmas.List.{get_or-replicate}
+use Rattle.std.specs.List.{All}
 use Rattle.loops.specs.declared.cuts.CutSearch.{CutSearch}
-use Rattle.loops.specs.declared.structure.Blocks.{Blocks}
-use Rattle.loops.specs.declared.structure.Cut.{Cut}
-use Rattle.loops.specs.Blocks.{AreBlocksOf}
-use Rattle.loops.specs.Cuts.{IsCutOf, MayPass, is_cut}
-use Rattle.loops.specs.Keeping.{AreNear, HasParted, HaveGained, IsAhead, IsBehind, IsCutSearch, IsFresh, IsKept, IsNear, IsPlaced, Meeting}
-use Rattle.loops.specs.Landmarks.{ReadsBack}
-use Rattle.loops.specs.Links.{IsLoopPin}
-use Rattle.loops.specs.Searching.{Connects, InRow, IsFree, Path, level_at, row_at}
-use Rattle.loops.specs.Walks.{AnyGate, Leads, SameLoop}
+use Rattle.loops.specs.Cuts.{IsCutOf}
+use Rattle.loops.specs.Keeping.{AreNear, IsAhead, IsBehind, IsFresh, IsNear, IsPlaced}
 use Rattle.loops.proofs.KeptLemmas.{of_within, ready_as}
 use Rattle.loops.proofs.LandmarkLemmas.{joined, one_step}
 use Rattle.loops.proofs.SearchLemmas.{path-append}

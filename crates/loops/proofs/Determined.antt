@@ -1,22 +1,14 @@
 -- Without loops each gate is determined.
 use Rattle.std.proofs.Common.{◌≡◌, ◌+◌, inl, inr, ℕ, zero, suc, ◌<◌, Bool, false, List, [], ◌∷◌, length, map, get_or, refl, ap, ap₂, sym, ◌∙◌, arith}
-use Rattle.std.proofs.lemmas.Bool.{cases_lt}
-use Rattle.std.proofs.lemmas.List.{get_or-map, get_or_append_left, length-map}
-use Rattle.cyc_base.specs.declared.trit.Trit.{Trit}
-use Rattle.cyc_base.specs.declared.trit.Trit.TheVariants.{X}
+use Rattle.loops.proofs.Common.{cases_lt, get_or_append_left, length-map, Trit, X, ext, Sig, Parts, gate_at, wire, fix, fix_gates, Leads, AnyGate, first_gate, gate_of}
+use Rattle.std.proofs.lemmas.List.{get_or-map}
 use Rattle.cyc_base.specs.Values.{bit, bits}
-use Rattle.cover_logic.specs.Extensions.{ext}
 use Rattle.cover_logic.specs.Covers.{value}
-use Rattle.cyc_base.specs.declared.sig.Sig.{Sig}
 use Rattle.cyc_base.proofs.OrderLemmas.{bit-known}
-use Rattle.netlist.specs.declared.parts.Parts.{Parts}
-use Rattle.netlist.specs.Netlists.{IsNetlist, no_gate, gate_at}
-use Rattle.netlist.specs.Fixpoint.{wire, fix, fix_gates}
+use Rattle.netlist.specs.Netlists.{IsNetlist, no_gate}
 use Rattle.netlist.specs.Walks.{IsLoopFree}
 use Rattle.netlist.proofs.FixpointLemmas.{get_or-fix}
 use Rattle.cover_logic.proofs.ExtensionLemmas.{ext_at_bits}
-use Rattle.loops.specs.Walks.{Leads, AnyGate}
-use Rattle.loops.specs.Sweeps.{first_gate, gate_of}
 use Rattle.loops.specs.Laws.{LoopFreeIsDetermined}
 use Rattle.loops.proofs.Walks.{leads-trans, leads-step, begins_at}
 use Rattle.loops.proofs.Ancestors.{by_ancestors}

@@ -1,16 +1,11 @@
 -- The loops and cut wires that are found by trying all walks are those of the netlist.
 use Rattle.std.proofs.Common.{◌≡◌, ◌⊎◌, ◌↔◌, inl, inr, ℕ, zero, suc, ◌<◌, ltb, Bool, true, not, ◌&&◌, ◌||◌, List, [], ◌∷◌, ◌++◌, length, get_or, refl, ap, ap₂, sym, ◌∙◌, subst, arith, Contains, true≢false}
-use Rattle.std.proofs.lemmas.Bool.{cases_eq, and_parts, and_from, or_cases, or_left, or_right, ltb-true, lt-ltb, not-true, eq-eqb}
-use Rattle.std.specs.List.{AllByRecursion, list_any}
-use Rattle.cyc_base.specs.declared.sig.Sig.{Sig}
-use Rattle.cyc_base.proofs.ListLemmas.{all_weaker, all_append}
-use Rattle.netlist.specs.declared.parts.Parts.{Parts}
-use Rattle.netlist.specs.Netlists.{gate_at, gate_sig, sig_eq}
-use Rattle.netlist.specs.Walks.{Feeds, Walk}
+use Rattle.loops.proofs.Common.{cases_eq, and_parts, and_from, lt-ltb, AllByRecursion, Sig, all_weaker, all_append, Parts, gate_at, gate_sig, Feeds, Walk, Leads, AnyGate, SameLoop, MayPass, loops_of}
+use Rattle.std.proofs.lemmas.Bool.{or_cases, or_left, or_right, ltb-true, not-true, eq-eqb}
+use Rattle.std.specs.List.{list_any}
+use Rattle.netlist.specs.Netlists.{sig_eq}
 use Rattle.netlist.proofs.NameLemmas.{sig_eq-true}
-use Rattle.loops.specs.Walks.{Leads, AnyGate, SameLoop}
-use Rattle.loops.specs.Cuts.{MayPass}
-use Rattle.loops.specs.Found.{feeds, reaches, same_of, cut_below, loops_of}
+use Rattle.loops.specs.Found.{feeds, reaches, same_of, cut_below}
 use Rattle.loops.specs.Laws.{LoopsExist}
 use Rattle.loops.proofs.Walks.{walk-append, split, walk_within_of}
 

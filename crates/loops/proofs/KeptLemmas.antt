@@ -1,19 +1,9 @@
 -- Rows that gain a gate, the sources of a gate's pins, and levels that are moved.
 use Rattle.std.proofs.Common.{◌≡◌, ◌⊎◌, ◌↔◌, inl, inr, ℕ, ◌+◌, ◌<◌, ◌≤◌, Bool, List, [], ◌∷◌, ◌++◌, length, get_or, set, max, min, ap, sym, ◌∙◌, subst, arith, Contains}
-use Rattle.std.proofs.lemmas.Bool.{cases_eq}
-use Rattle.std.proofs.lemmas.List.{get_or-set_same, get_or-set_other, get_or_default, get_or_read, length-set}
-use Rattle.std.proofs.lemmas.List.Elements.{Contains-append_left, Contains-get_or, Contains-push, Contains-push_cases}
+use Rattle.loops.proofs.Common.{cases_eq, get_or-set_same, get_or-set_other, get_or_default, get_or_read, length-set, Contains-append_left, Contains-get_or, Contains-push, Contains-push_cases, Sig, Parts, gate_at, gate_sig, Blocks, AreBlocksOf, Landmark, AreSourcesBelow, HaveGained, HaveGainedPins, IsKept, AreLandmarks, IsLoopPin, InRow, IsFree, IsReady, level_at, row_at}
 use Rattle.std.specs.List.{All}
-use Rattle.cyc_base.specs.declared.sig.Sig.{Sig}
-use Rattle.netlist.specs.declared.parts.Parts.{Parts}
-use Rattle.netlist.specs.Netlists.{gate_at, gate_sig}
-use Rattle.loops.specs.declared.structure.Blocks.{Blocks}
-use Rattle.loops.specs.Blocks.{AreBlocksOf}
-use Rattle.loops.specs.declared.landmarks.Landmark.{Landmark}
-use Rattle.loops.specs.Keeping.{AreLinks, AreSourcesBelow, HaveGained, HaveGainedPins, IsKept}
-use Rattle.loops.specs.Landmarks.{AreLandmarks}
-use Rattle.loops.specs.Links.{IsLoopPin, IsLoopSource}
-use Rattle.loops.specs.Searching.{InRow, IsFree, IsReady, level_at, row_at}
+use Rattle.loops.specs.Keeping.{AreLinks}
+use Rattle.loops.specs.Links.{IsLoopSource}
 use Rattle.loops.proofs.Told.{told_parts}
 
 -- an element of a list that equals another, whatever is read past the end

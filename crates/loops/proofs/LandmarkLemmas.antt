@@ -1,11 +1,8 @@
 -- Ways along rows are joined, and landmarks go on from a gate that is entered.
 use Rattle.std.proofs.Common.{inl, inr, ℕ, List, [], ◌∷◌, ◌++◌, sym, ◌∙◌, subst}
-use Rattle.loops.specs.declared.landmarks.Landmark.{Landmark}
-use Rattle.loops.specs.declared.search.Search.{Search}
-use Rattle.loops.specs.Keeping.{Meeting}
-use Rattle.loops.specs.Landmarks.{IsLandmark, Passes, ReadsBack}
-use Rattle.loops.specs.Searching.{Connects, HasSpread, InRow, Meets, Path, Reaches, row_at}
-use Rattle.loops.specs.Walks.{AnyGate}
+use Rattle.loops.proofs.Common.{Landmark, Search, Meeting, ReadsBack, Connects, InRow, Meets, Path, row_at, AnyGate}
+use Rattle.loops.specs.Landmarks.{IsLandmark, Passes}
+use Rattle.loops.specs.Searching.{HasSpread, Reaches}
 use Rattle.loops.proofs.SearchLemmas.{path-append}
 use Rattle.loops.proofs.Walks.{all_any}
 

@@ -1,11 +1,10 @@
 -- The loops of a netlist, one after another.
 use Rattle.std.proofs.Common.{◌≡◌, ℕ, zero, suc, ◌+◌, ◌-◌, ◌<◌, ◌≤◌, Bool, true, false, cond, List, [], ◌∷◌, ◌++◌, length, filter, get_or, map, Some, refl, sym, ap, ◌∙◌, subst, arith}
-use Rattle.std.proofs.lemmas.List.{length-append, length-map}
+use Rattle.loops.proofs.Common.{length-map, AllByRecursion, range_with_len, Parts, begins_with, loop_of}
+use Rattle.std.proofs.lemmas.List.{length-append}
 use Rattle.std.proofs.Math.Seq.{get_or-append_seam}
 use Rattle.std.specs.Iterator.{Yields, YieldsFirstBy}
-use Rattle.std.specs.List.{AllByRecursion, range_with_len}
-use Rattle.netlist.specs.declared.parts.Parts.{Parts}
-use Rattle.loops.specs.Listed.{begins_with, first_gates, loop_of}
+use Rattle.loops.specs.Listed.{first_gates}
 use Rattle.loops.specs.Left.{loop_seen, loops_left}
 use Rattle.loops.specs.Numbered.{Listed, IsLoopOf, IsNextLoop, first_gates_from, listed_loops, numbered}
 use Rattle.loops.specs.declared.loop_list.ListedLoop.{ListedLoop}

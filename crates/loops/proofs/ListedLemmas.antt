@@ -1,16 +1,8 @@
 -- The loops of a netlist are told by its blocks, and their cut wires by its cut.
 use Rattle.std.proofs.Common.{◌≡◌, ◌==◌, ℕ, zero, suc, ◌+◌, ◌<◌, ◌≤◌, ltb, Bool, true, false, cond, ◌&&◌, List, [], ◌∷◌, ◌++◌, length, filter, All, refl, sym, ap, ap₂, ◌∙◌, arith, true≢false, append-nil}
-use Rattle.std.proofs.lemmas.Bool.{lt-ltb}
+use Rattle.loops.proofs.Common.{lt-ltb, AllByRecursion, range_with_len, same_truth, Parts, Block, Blocks, AreBlocksOf, block_at, home_of, in_one_loop, loops_of, loop_of, begins_with}
 use Rattle.std.proofs.lemmas.List.Elements.{All-filter, All-from_recursion, filter-append}
-use Rattle.std.specs.List.{AllByRecursion, range_with_len}
-use Rattle.cyc_base.proofs.TruthLemmas.{same_truth}
-use Rattle.netlist.specs.declared.parts.Parts.{Parts}
-use Rattle.loops.specs.declared.structure.Block.{Block}
-use Rattle.loops.specs.declared.structure.Blocks.{Blocks}
-use Rattle.loops.specs.Blocks.{AreBlocksOf, block_at, home_of}
-use Rattle.loops.specs.Cuts.{in_one_loop}
-use Rattle.loops.specs.Found.{loops_of}
-use Rattle.loops.specs.Listed.{gate_numbers, loop_of, begins_with}
+use Rattle.loops.specs.Listed.{gate_numbers}
 use Rattle.loops.proofs.Existence.{loops_exist}
 use Rattle.loops.proofs.Told.{told_from, told_to}
 

@@ -1,10 +1,6 @@
 -- Each loop has a cut wire.
 use Rattle.std.proofs.Common.{◌≡◌, inl, inr, ◌⊎◌, ℕ, true, false, List, [], ◌∷◌}
-use Rattle.std.proofs.lemmas.Bool.{cases_Bool}
-use Rattle.std.specs.List.{AllByRecursion}
-use Rattle.netlist.specs.declared.parts.Parts.{Parts}
-use Rattle.loops.specs.Cuts.{Loops, AreLoopsOf}
-use Rattle.loops.specs.Walks.{AnyGate, Leads, SameLoop}
+use Rattle.loops.proofs.Common.{cases_Bool, AllByRecursion, Parts, Loops, AreLoopsOf, AnyGate, Leads, SameLoop}
 use Rattle.loops.proofs.Walks.{cuts_leave_no_loop, on_closed_walk}
 
 -- a cut wire of the gate's loop

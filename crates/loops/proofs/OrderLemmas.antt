@@ -1,24 +1,14 @@
 -- The components of a block's uncut reads are single gates, in an order for a sweep.
 use Rattle.std.proofs.Common.{◌≡◌, ◌==◌, inl, inr, ℕ, zero, suc, ◌<◌, ◌≤◌, ◌+◌, Bool, true, false, List, [], ◌∷◌, ◌++◌, length, filter, get_or, refl, ap, sym, ◌∙◌, subst, arith, Contains}
-use Rattle.std.proofs.lemmas.Bool.{cases_eq, cases_lt}
-use Rattle.std.proofs.lemmas.List.{get_or_default, get_or_append_left, get_or_push, length_push}
-use Rattle.std.proofs.lemmas.List.Elements.{Contains-append_left, Contains-get_or, Contains-push, Contains-push_cases}
-use Rattle.std.specs.List.{AllByRecursion, range_with_len}
-use Rattle.cyc_base.specs.declared.sig.Sig.{Sig}
-use Rattle.cyc_base.proofs.ListLemmas.{all_filter, all_append}
+use Rattle.loops.proofs.Common.{cases_eq, cases_lt, get_or_default, get_or_append_left, Contains-append_left, Contains-get_or, Contains-push, Contains-push_cases, AllByRecursion, range_with_len, Sig, all_append, AreComponentsOf, Parts, gate_at, gate_sig, Feeds, Block, Blocks, Cut, AreBlocksOf, block_at, home_of, is_cut, ArePlacesRead, AreUncutReads, Leads, SameLoop}
+use Rattle.std.proofs.lemmas.List.{get_or_push, length_push}
+use Rattle.cyc_base.proofs.ListLemmas.{all_filter}
 use Rattle.components.specs.declared.components.Components.{Components}
-use Rattle.components.specs.Graphs.{AreComponentsOf, AreStronglyConnected, Edge, Walk as GraphWalk}
-use Rattle.netlist.specs.declared.parts.Parts.{Parts}
-use Rattle.netlist.specs.Netlists.{gate_at, gate_sig}
-use Rattle.netlist.specs.Walks.{Feeds}
-use Rattle.loops.specs.declared.structure.Block.{Block}
-use Rattle.loops.specs.declared.structure.Blocks.{Blocks}
-use Rattle.loops.specs.declared.structure.Cut.{Cut}
-use Rattle.loops.specs.Blocks.{AreBlocksOf, block_at, gates_at, home_of, no_block}
-use Rattle.loops.specs.Cuts.{IsCutOf, is_cut, loops_by}
+use Rattle.components.specs.Graphs.{AreStronglyConnected, Edge, Walk as GraphWalk}
+use Rattle.loops.specs.Blocks.{gates_at, no_block}
+use Rattle.loops.specs.Cuts.{IsCutOf, loops_by}
 use Rattle.loops.specs.Orders.{IsInOrder, IsOrderOf, ReadsUncut}
-use Rattle.loops.specs.Placing.{ArePlaced, ArePlacesRead, AreUncutReads, IsPlaceRead, IsUncutPin, Rise}
-use Rattle.loops.specs.Walks.{Leads, SameLoop}
+use Rattle.loops.specs.Placing.{ArePlaced, IsPlaceRead, IsUncutPin, Rise}
 use Rattle.loops.proofs.Told.{blocks_tell_loops, gate_home, told_from, told_parts}
 use Rattle.loops.proofs.Walks.{cuts_leave_no_loop, walk-append}
 

@@ -1,16 +1,7 @@
 -- Setting the gates of a loop in order gives its sweep.
 use Rattle.std.proofs.Common.{◌≡◌, ◌⊎◌, inl, inr, ℕ, zero, suc, ◌<◌, true, List, [], ◌∷◌, length, get_or, set, ap, refl, sym, ◌∙◌, subst, arith, Contains}
-use Rattle.std.proofs.lemmas.Bool.{cases_eq}
-use Rattle.std.proofs.lemmas.List.{get_or-set_same, get_or-set_other, length-set}
-use Rattle.std.specs.List.{AllByRecursion}
-use Rattle.cyc_base.specs.declared.trit.Trit.{Trit}
-use Rattle.cyc_base.specs.declared.trit.Trit.TheVariants.{X}
-use Rattle.cover_logic.specs.Extensions.{ext}
-use Rattle.netlist.specs.declared.parts.Parts.{Parts}
-use Rattle.netlist.specs.Netlists.{gate_at}
-use Rattle.netlist.specs.Fixpoint.{wire, fix}
-use Rattle.loops.specs.Cuts.{Loops, AreLoopsOf}
-use Rattle.loops.specs.Sweeps.{gate_of, in_loop_of, pin_in, gate_in, sweep}
+use Rattle.loops.proofs.Common.{cases_eq, get_or-set_same, get_or-set_other, length-set, AllByRecursion, Trit, X, ext, Parts, gate_at, wire, fix, Loops, AreLoopsOf, gate_of, in_loop_of, pin_in, sweep}
+use Rattle.loops.specs.Sweeps.{gate_in}
 use Rattle.loops.specs.Orders.{ReadsUncut, IsInOrder, sweep_in}
 use Rattle.loops.specs.Laws.{SweepOfOneLoop, OrderedSweepIsSweep}
 use Rattle.loops.proofs.Ancestors.{by_ancestors}

@@ -1,19 +1,12 @@
 -- Reading lists, wires and gates by number.
 use Rattle.std.proofs.Common.{◌≡◌, ℕ, zero, suc, ◌-◌, ◌<◌, ◌≤◌, leb, Bool, true, false, if◌then◌else◌, List, [], ◌∷◌, ◌++◌, length, map, filter, get_or, refl, ap, ap₂, sym, ◌∙◌, arith, Contains}
-use Rattle.std.proofs.lemmas.Bool.{and_parts, leb-true}
-use Rattle.std.proofs.lemmas.List.{get_or-append_right, length-map}
-use Rattle.std.proofs.lemmas.List.FromFn.{fill_by_all, length-range_with_len, get_or-range_with_len}
-use Rattle.std.specs.List.{range_with_len}
-use Rattle.cyc_base.specs.declared.sig.Sig.{Sig}
-use Rattle.cyc_base.specs.declared.trit.Trit.{Trit}
-use Rattle.cyc_base.specs.declared.trit.Trit.TheVariants.{X}
+use Rattle.loops.proofs.Common.{and_parts, length-map, length-range_with_len, get_or-range_with_len, range_with_len, Sig, Trit, X, Parts, gate_at, fix, fix_gates, Loops, first_gate, gate_of, in_loop_of}
+use Rattle.std.proofs.lemmas.Bool.{leb-true}
+use Rattle.std.proofs.lemmas.List.{get_or-append_right}
+use Rattle.std.proofs.lemmas.List.FromFn.{fill_by_all}
 use Rattle.cyc_base.specs.Values.{Below}
-use Rattle.netlist.specs.declared.parts.Parts.{Parts}
-use Rattle.netlist.specs.Netlists.{gate_at}
-use Rattle.netlist.specs.Fixpoint.{wires, gate_value, fix, fix_gates}
+use Rattle.netlist.specs.Fixpoint.{wires, gate_value}
 use Rattle.netlist.proofs.FixpointLemmas.{fix_is_fixpoint, get_or-fix}
-use Rattle.loops.specs.Cuts.{Loops}
-use Rattle.loops.specs.Sweeps.{first_gate, gate_of, in_loop_of}
 
 -- a choice among three
 abbrev pub choice : Bool → Bool → Trit → Trit → Trit → Trit

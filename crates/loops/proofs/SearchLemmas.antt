@@ -1,16 +1,14 @@
 -- Following rows finds gates, and a search that has passed all that it found has found all.
 use Rattle.std.proofs.Common.{◌≡◌, ◌⊎◌, ◌==◌, inl, inr, ℕ, zero, suc, ◌+◌, ◌<◌, ◌≤◌, Bool, true, false, List, [], ◌∷◌, ◌++◌, length, get_or, set, refl, ap, sym, ◌∙◌, subst, arith, Contains}
-use Rattle.std.proofs.lemmas.Bool.{cases_eq, cases_lt, eq-eqb, ne_eqb}
-use Rattle.std.proofs.lemmas.List.{get_or-set_same, get_or-set_other, length-set, get_or_append_left, get_or_past, length_push}
-use Rattle.std.proofs.lemmas.List.Elements.{All-set, Contains-append_left, Contains-push, Contains-push_cases}
+use Rattle.loops.proofs.Common.{cases_eq, cases_lt, get_or-set_same, get_or-set_other, length-set, get_or_append_left, get_or_past, Contains-append_left, Contains-push, Contains-push_cases, AtLeast, Search, Meeting, Connects, InRow, IsMarked, IsReady, Meets, Path, level_at, row_at, work_left, AnyGate}
+use Rattle.std.proofs.lemmas.Bool.{eq-eqb, ne_eqb}
+use Rattle.std.proofs.lemmas.List.{length_push}
+use Rattle.std.proofs.lemmas.List.Elements.{All-set}
 use Rattle.std.specs.declared.option.Option.{Option}
 use Rattle.std.specs.Prelude.{Some, None}
 use Rattle.loops.specs.declared.search.Limit.{Limit}
-use Rattle.loops.specs.declared.search.Limit.TheVariants.{AtLeast}
-use Rattle.loops.specs.declared.search.Search.{Search}
-use Rattle.loops.specs.Keeping.{HasEnded, Meeting}
-use Rattle.loops.specs.Searching.{Admits, Connects, Follows, GoesOn, HasAdvanced, InRow, IsMarked, IsNew, IsPassed, IsReady, HasSpread, IsSearching, Meets, MeetsAt, Path, Reaches, level_at, row_at, unmarked_count, work_left}
-use Rattle.loops.specs.Walks.{AnyGate}
+use Rattle.loops.specs.Keeping.{HasEnded}
+use Rattle.loops.specs.Searching.{Admits, Follows, GoesOn, HasAdvanced, IsNew, IsPassed, HasSpread, IsSearching, MeetsAt, Reaches, unmarked_count}
 use Rattle.loops.proofs.Walks.{all_any}
 
 pub path-append : (R : ℕ → ℕ → Type 0) (a b c : ℕ) (via rest : List ℕ) → Path R a via b → Path R b rest c → Path R a (via ++ (b ∷ rest)) c

@@ -1,9 +1,6 @@
 -- What searches, numbers of blocks and orders show of walks.
 use Rattle.std.proofs.Common.{◌≡◌, ◌⊎◌, inl, inr, ℕ, ◌<◌, ◌≤◌, Bool, true, List, [], ◌∷◌, refl, ap, sym, arith}
-use Rattle.std.proofs.lemmas.Bool.{cases_eq}
-use Rattle.std.specs.List.{AllByRecursion}
-use Rattle.netlist.specs.declared.parts.Parts.{Parts}
-use Rattle.netlist.specs.Walks.{Feeds, Walk}
+use Rattle.loops.proofs.Common.{cases_eq, AllByRecursion, Parts, Feeds, Walk}
 use Rattle.loops.specs.Walks.{SameBlock}
 use Rattle.loops.specs.Laws.{SearchIsComplete, BlocksByNumbers, LoopFreeByNumbers}
 

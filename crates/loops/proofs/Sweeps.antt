@@ -1,23 +1,14 @@
 -- Sweeps rise, stay below the fixpoint, and reach it.
 use Rattle.std.proofs.Common.{◌≡◌, ℕ, zero, suc, ◌<◌, Bool, true, false, ◌&&◌, List, [], ◌∷◌, length, map, filter, replicate, get_or, refl, ap, sym, ◌∙◌, subst, arith, ap₂, true≢false}
-use Rattle.std.proofs.lemmas.Bool.{and_from, and_parts}
-use Rattle.std.proofs.lemmas.List.{length-map, length-replicate, get_or-replicate}
-use Rattle.std.proofs.lemmas.List.FromFn.{length-map-range_with_len, get_or-map-range_with_len, get_or-range_with_len, length-range_with_len}
-use Rattle.std.specs.List.{range_with_len}
-use Rattle.cyc_base.specs.declared.sig.Sig.{Sig}
-use Rattle.cyc_base.specs.declared.trit.Trit.{Trit}
-use Rattle.cyc_base.specs.declared.trit.Trit.TheVariants.{X}
+use Rattle.loops.proofs.Common.{and_from, and_parts, length-map, length-replicate, get_or-range_with_len, length-range_with_len, range_with_len, Sig, Trit, X, ext, Parts, gate_at, wire, fix, fix_gates, Walk, Loops, AreLoopsOf, first_gate, gate_of, in_loop_of, pin_in, sweep}
+use Rattle.std.proofs.lemmas.List.{get_or-replicate}
+use Rattle.std.proofs.lemmas.List.FromFn.{length-map-range_with_len, get_or-map-range_with_len}
 use Rattle.cyc_base.specs.Values.{Below, EachBelow}
-use Rattle.cover_logic.specs.Extensions.{ext}
-use Rattle.netlist.specs.declared.parts.Parts.{Parts}
-use Rattle.netlist.specs.Netlists.{gate_at}
-use Rattle.netlist.specs.Fixpoint.{wires, wire, gate_value, steps, fix, fix_gates}
-use Rattle.netlist.specs.Walks.{Walk}
+use Rattle.netlist.specs.Fixpoint.{wires, gate_value, steps}
 use Rattle.cyc_base.proofs.OrderLemmas.{Below-refl, Below-antisym, EachBelow-refl, EachBelow-append, EachBelow-at, EachBelow-map, EachBelow-antisym}
 use Rattle.cover_logic.proofs.ExtensionLemmas.{ext_is_monotone}
 use Rattle.netlist.proofs.FixpointLemmas.{unknown_below_state, steps_below_fix, length-steps, get_or-step}
-use Rattle.loops.specs.Cuts.{Loops, AreLoopsOf}
-use Rattle.loops.specs.Sweeps.{first_gate, gate_of, in_loop_of, pin_in, gate_in, IsSweep, sweep_step, sweep_steps, sweep, sweeps, cuts_of, cut_values, CutsAreFixed}
+use Rattle.loops.specs.Sweeps.{gate_in, IsSweep, sweep_step, sweep_steps, sweeps, cuts_of, cut_values, CutsAreFixed}
 use Rattle.loops.specs.Laws.{SweepsStayBelowFix, StillIsFix, FixedCutsGiveFix, FewSweepsAreEnough, CountIsSmall}
 use Rattle.loops.proofs.Walks.{same_loop-trans, same_loop-sym}
 use Rattle.loops.proofs.Rising.{stands_still}

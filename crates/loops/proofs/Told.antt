@@ -1,14 +1,10 @@
 -- What blocks and a cut tell of loops.
 use Rattle.std.proofs.Common.{◌≡◌, ◌==◌, inl, inr, ℕ, ◌<◌, ltb, true, List, length, refl, sym, ◌∙◌, subst, arith, Contains, true≢false}
-use Rattle.std.proofs.lemmas.Bool.{and_parts, and_from, cases_Bool, eqb-true, eq-eqb, ltb-true, lt-ltb}
-use Rattle.std.specs.List.{range_with_len}
+use Rattle.loops.proofs.Common.{and_parts, and_from, cases_Bool, eqb-true, lt-ltb, range_with_len, Parts, Blocks, AreBlocksOf, block_at, home_of, in_one_loop, SameLoop}
+use Rattle.std.proofs.lemmas.Bool.{eq-eqb, ltb-true}
 use Rattle.cyc_base.proofs.ListLemmas.{Contains-filter, Contains-range}
-use Rattle.netlist.specs.declared.parts.Parts.{Parts}
-use Rattle.loops.specs.declared.structure.Blocks.{Blocks}
-use Rattle.loops.specs.Blocks.{AreBlocksOf, block_at, home_of, gates_at}
-use Rattle.loops.specs.Cuts.{in_one_loop}
+use Rattle.loops.specs.Blocks.{gates_at}
 use Rattle.loops.specs.Laws.{BlocksTellLoops, BlocksHaveLoops, LoopFreeByBlocks, OtherBlocksAreSingle}
-use Rattle.loops.specs.Walks.{SameLoop}
 use Rattle.loops.proofs.Reading.{Contains-filter_from, Contains-range_from}
 use Rattle.loops.proofs.Walks.{begins_at, leads-any, leads-trans}
 

@@ -1,19 +1,8 @@
 -- A sweep is the one assignment, since no loop is left without the cut wires.
 use Rattle.std.proofs.Common.{◌≡◌, inl, inr, ℕ, ◌+◌, ◌<◌, ◌≤◌, false, List, [], ◌∷◌, ◌++◌, length, get_or, ap, sym, ◌∙◌, subst, arith}
-use Rattle.std.proofs.lemmas.Bool.{cases_lt}
-use Rattle.std.proofs.lemmas.List.{get_or_default, get_or_past, ext_get_or}
-use Rattle.cyc_base.specs.declared.sig.Sig.{Sig}
-use Rattle.cyc_base.specs.declared.trit.Trit.{Trit}
-use Rattle.cyc_base.specs.declared.trit.Trit.TheVariants.{X}
-use Rattle.cyc_base.proofs.ListLemmas.{all_append}
-use Rattle.cover_logic.specs.Extensions.{ext}
-use Rattle.netlist.specs.declared.parts.Parts.{Parts}
-use Rattle.netlist.specs.Netlists.{gate_at, gate_sig}
-use Rattle.netlist.specs.Fixpoint.{wire, fix}
-use Rattle.netlist.specs.Walks.{Feeds}
-use Rattle.loops.specs.Walks.{Leads}
-use Rattle.loops.specs.Cuts.{Loops, AreLoopsOf}
-use Rattle.loops.specs.Sweeps.{first_gate, gate_of, in_loop_of, pin_in, IsSweep, sweep}
+use Rattle.loops.proofs.Common.{cases_lt, get_or_default, get_or_past, Sig, Trit, X, all_append, ext, Parts, gate_at, gate_sig, wire, fix, Feeds, Leads, Loops, AreLoopsOf, first_gate, gate_of, in_loop_of, pin_in, sweep}
+use Rattle.std.proofs.lemmas.List.{ext_get_or}
+use Rattle.loops.specs.Sweeps.{IsSweep}
 use Rattle.loops.specs.Laws.{SweepIsTheOne}
 use Rattle.loops.proofs.Walks.{walk-append, cuts_leave_no_loop, begins_within}
 use Rattle.loops.proofs.Ancestors.{by_ancestors}

@@ -1,13 +1,6 @@
 -- Walks, and what the cut wires do to loops.
 use Rattle.std.proofs.Common.{◌≡◌, ◌⊎◌, inl, inr, ℕ, zero, suc, ◌<◌, true, false, List, [], ◌∷◌, ◌++◌, length, sym, ◌∙◌, subst, arith, true≢false}
-use Rattle.std.proofs.lemmas.Bool.{cases_eq}
-use Rattle.std.specs.List.{AllByRecursion}
-use Rattle.cyc_base.proofs.ListLemmas.{all_weaker, all_append}
-use Rattle.cyc_base.proofs.TruthLemmas.{same_truth}
-use Rattle.netlist.specs.declared.parts.Parts.{Parts}
-use Rattle.netlist.specs.Walks.{Feeds, Walk}
-use Rattle.loops.specs.Walks.{Leads, AnyGate, SameLoop}
-use Rattle.loops.specs.Cuts.{Loops, MayPass, AreLoopsOf}
+use Rattle.loops.proofs.Common.{cases_eq, AllByRecursion, all_weaker, all_append, same_truth, Parts, Feeds, Walk, Leads, AnyGate, SameLoop, Loops, MayPass, AreLoopsOf}
 use Rattle.loops.specs.Laws.{EachCutIsNeeded, LoopsAreUnique}
 
 pub all_any : (xs : List ℕ) → AllByRecursion AnyGate xs

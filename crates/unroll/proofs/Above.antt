@@ -1,31 +1,26 @@
 -- What the netlist determines, the unrolled netlist determines too: block by block, since with less known outside a loop
 -- may need more sweeps.
 use Rattle.std.proofs.Common.{◌≡◌, ◌⊎◌, inl, inr, ℕ, zero, suc, ◌+◌, ◌<◌, ◌≤◌, leb, Bool, true, false, ◌&&◌, if◌then◌else◌, List, length, map, get_or, refl, ap, sym, ◌∙◌, subst, arith, true≢false}
-use Rattle.std.proofs.lemmas.Bool.{cases_lt, and_from, le-leb, false_from_ne_true}
-use Rattle.std.proofs.lemmas.List.{get_or_past, get_or-replicate, get_or_append_left}
+use Rattle.unroll.proofs.Common.{cases_lt, and_from, le-leb, get_or_append_left, Sig, Trit, Parts, signal, gate_at, wire, fix, Loops, AreLoopsOf, first_gate, gate_of, in_loop_of, in_loop_from, same-sym, same-trans, same_within, copies_of, constants, copies, shift, copy_signal, old_signal, copy_pin, kept_pin, unrolled, IsOfLoops}
+use Rattle.std.proofs.lemmas.Bool.{false_from_ne_true}
+use Rattle.std.proofs.lemmas.List.{get_or_past, get_or-replicate}
 use Rattle.std.proofs.lemmas.List.FromFn.{get_or-map-range_with_len}
-use Rattle.cyc_base.specs.declared.sig.Sig.{Sig}
-use Rattle.cyc_base.specs.declared.trit.Trit.{Trit}
 use Rattle.cyc_base.specs.declared.trit.Trit.TheVariants.{X}
 use Rattle.cyc_base.specs.Values.{Below}
 use Rattle.cyc_base.proofs.OrderLemmas.{Below-refl, Below-trans, EachBelow-refl, EachBelow-append, EachBelow-at, EachBelow-map_at}
 use Rattle.cover_logic.specs.Extensions.{ext}
 use Rattle.cover_logic.proofs.ExtensionLemmas.{ext_is_monotone}
-use Rattle.netlist.specs.declared.parts.Parts.{Parts}
-use Rattle.netlist.specs.Netlists.{signal, gate_at}
-use Rattle.netlist.specs.Fixpoint.{wires, wire, gate_value, steps, fix, fix_gates}
+use Rattle.netlist.specs.Fixpoint.{wires, gate_value, steps, fix_gates}
 use Rattle.netlist.specs.Walks.{Feeds}
 use Rattle.netlist.proofs.FixpointLemmas.{steps_below_fix, get_or-step}
-use Rattle.loops.specs.Cuts.{Loops, AreLoopsOf}
-use Rattle.loops.specs.Sweeps.{first_gate, gate_of, in_loop_of, pin_in, gate_in, sweep_steps, sweeps, CutsAreFixed}
+use Rattle.loops.specs.Sweeps.{pin_in, gate_in, sweep_steps, sweeps, CutsAreFixed}
 use Rattle.loops.specs.Walks.{Leads, AnyGate}
 use Rattle.loops.proofs.Ancestors.{by_ancestors}
-use Rattle.loops.proofs.Reading.{choice, wire_of_gate, in_loop_from}
-use Rattle.loops.proofs.Sweeps.{same-sym, same-trans, same_within, cut_values_agree, length-fix}
+use Rattle.loops.proofs.Reading.{choice, wire_of_gate}
+use Rattle.loops.proofs.Sweeps.{cut_values_agree, length-fix}
 use Rattle.loops.proofs.Unique.{feeds_at}
 use Rattle.loops.proofs.Walks.{leads-trans, leads-step, begins_within}
 use Rattle.unroll.specs.Laws.{UnrolledIsAbove}
-use Rattle.unroll.specs.Unrolled.{copies_of, constants, copies, shift, copy_signal, old_signal, copy_pin, kept_pin, unrolled, IsOfLoops}
 use Rattle.unroll.proofs.Places.{copy_placed}
 use Rattle.unroll.proofs.Rounds.{has_same}
 use Rattle.unroll.proofs.Kept.{many_of, self_of}

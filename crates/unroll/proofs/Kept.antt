@@ -1,17 +1,9 @@
 -- The netlist's own gates, by the table of the last copies.
 use Rattle.std.proofs.Common.{◌≡◌, ℕ, ◌+◌, ◌<◌, Bool, true, false, ◌&&◌, if◌then◌else◌, List, [], ◌∷◌, ◌++◌, length, map, take, slice_get, Some, refl, ap, sym, ◌∙◌}
-use Rattle.std.proofs.lemmas.List.{get_or_append_left, map-append, take_more}
+use Rattle.unroll.proofs.Common.{get_or_append_left, map-append, Sig, Gate, Parts, gate_at, Loops, AreLoopsOf, gate_of, in_loop_of, in_loop_from, same-sym, same-trans, same_within, copies_of, shift, moved, copy_signal, kept_pin, kept_gate, IsOfLoops, at_table, kept_pin_by, AreLastCopies}
+use Rattle.std.proofs.lemmas.List.{take_more}
 use Rattle.std.proofs.lemmas.Option.{get_or_from_slice_get, slice_get_within}
-use Rattle.cyc_base.specs.declared.sig.Sig.{Sig}
-use Rattle.netlist.specs.declared.parts.Gate.{Gate}
-use Rattle.netlist.specs.declared.parts.Parts.{Parts}
-use Rattle.netlist.specs.Netlists.{gate_at}
-use Rattle.loops.specs.Cuts.{Loops, AreLoopsOf}
-use Rattle.loops.specs.Sweeps.{gate_of, in_loop_of}
-use Rattle.loops.proofs.Reading.{in_loop_from}
-use Rattle.loops.proofs.Sweeps.{same-sym, same-trans, same_within}
-use Rattle.unroll.specs.Unrolled.{copies_of, shift, moved, copy_signal, kept_pin, kept_gate, IsOfLoops}
-use Rattle.unroll.specs.Tables.{at_table, kept_pin_by, kept_gate_by, AreLastCopies}
+use Rattle.unroll.specs.Tables.{kept_gate_by}
 use Rattle.unroll.proofs.Rounds.{has_same, map_same}
 
 -- one more item that was read by its place

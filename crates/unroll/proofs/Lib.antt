@@ -1,3 +1,4 @@
+pub mod Common
 pub mod MarkLemmas
 pub mod SizeLemmas
 pub mod PinLemmas

@@ -1,11 +1,9 @@
 -- The longest run of `~` in a netlist's names.
 use Rattle.std.proofs.Common.{◌≡◌, max, [], ◌∷◌, ◌++◌, Some, sym, ap, ◌∙◌, arith}
 use Rattle.std.specs.Option.{option_map_or}
-use Rattle.tildes.specs.Runs.{longest_run, longest_run_of}
+use Rattle.unroll.proofs.Common.{longest_run, longest_run_of, Parts, signal_names}
 use Rattle.tildes.proofs.RunLemmas.{longest-append}
 use Rattle.netlist.specs.declared.parts.Clock.{Clock}
-use Rattle.netlist.specs.declared.parts.Parts.{Parts}
-use Rattle.netlist.specs.Netlists.{signal_names}
 use Rattle.unroll.specs.Marks.{clock_names, longest_run_in}
 
 -- with the clock's name

@@ -1,14 +1,10 @@
 -- The unrolled netlist's size.
 use Rattle.std.proofs.Common.{◌≡◌, ℕ, zero, suc, ◌+◌, ◌<◌, ◌≤◌, min, leb, Bool, true, false, if◌then◌else◌, List, [], ◌∷◌, ◌++◌, length, map, filter, get_or, refl, ap₂, sym, ◌∙◌, arith}
-use Rattle.std.proofs.lemmas.Bool.{leb-true, leb-false}
-use Rattle.std.proofs.lemmas.List.{length-append, length-map}
-use Rattle.std.proofs.lemmas.List.FromFn.{get_or-range_with_len, length-range_with_len, length-map-range_with_len}
-use Rattle.std.proofs.lemmas.List.Sums.{sum_by-cons}
-use Rattle.std.specs.List.{range_with_len, sum_by}
-use Rattle.netlist.specs.declared.parts.Parts.{Parts}
+use Rattle.unroll.proofs.Common.{leb-true, length-append, length-map, get_or-range_with_len, length-range_with_len, sum_by-cons, range_with_len, sum_by, Parts, Loops, copies_of, copies_upto, copies, most, has_loop, constants, shift, copy_gate, kept_gate, kept_latch, unrolled}
+use Rattle.std.proofs.lemmas.Bool.{leb-false}
+use Rattle.std.proofs.lemmas.List.FromFn.{length-map-range_with_len}
 use Rattle.netlist.specs.Netlists.{count}
-use Rattle.loops.specs.Cuts.{Loops}
-use Rattle.unroll.specs.Unrolled.{copies_of, copies_upto, copies, most, has_loop, constants, shift, copy_gate, kept_gate, kept_latch, unrolled, unrolled_size}
+use Rattle.unroll.specs.Unrolled.{unrolled_size}
 use Rattle.unroll.proofs.Places.{most-above, length-round}
 
 -- how much one gate adds to the copies number k + 1

@@ -3,17 +3,17 @@ use Rattle.std.proofs.Common.{◌≡◌, ℕ, zero, suc, ◌^◌, ◌<◌, ◌�
 use Rattle.std.proofs.lemmas.Fmt.{decimal_injective}
 use Rattle.std.proofs.lemmas.List.Elements.{All-cons, All-append}
 use Rattle.std.specs.Fmt.{decimal}
-use Rattle.std.specs.List.{AllByRecursion, IsDistinct, list_any}
+use Rattle.unroll.proofs.Common.{AllByRecursion, list_any, all_weaker, all_append, longest_run, longest_run_of, copy_name}
+use Rattle.std.specs.List.{IsDistinct}
 use Rattle.std.specs.Str.{bytes_eq}
 use Rattle.cyc_base.specs.Names.{IsBlifByte, IsBlifName}
-use Rattle.cyc_base.proofs.ListLemmas.{all_weaker, all_append}
 use Rattle.cyc_base.proofs.NameLemmas.{bytes_eq-other}
-use Rattle.tildes.specs.Runs.{leading_run, longest_run, longest_run_of, tildes}
+use Rattle.tildes.specs.Runs.{leading_run, tildes}
 use Rattle.tildes.proofs.RunLemmas.{leading_longest, longest_behind}
 use Rattle.tildes.proofs.MarkLemmas.{run_longest, without_tildes}
 use Rattle.tildes.proofs.DigitLemmas.{split_at_tilde, decimal_no_tilde}
 use Rattle.tildes.proofs.BlifLemmas.{tildes_fit, decimal_fits}
-use Rattle.unroll.specs.Marks.{zero_name, copy_name}
+use Rattle.unroll.specs.Marks.{zero_name}
 
 -- runs of `~`
 pub copy_is_long : (n k : ℕ) (name : List ℕ) → n ≤ longest_run (copy_name (tildes n) k name)

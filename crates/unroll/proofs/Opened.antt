@@ -1,24 +1,14 @@
 -- The unrolled netlist has no loop: a walk in it is a walk of the netlist, in which the numbers of the copies rise at each
 -- cut wire.
 use Rattle.std.proofs.Common.{◌≡◌, ◌⊎◌, inl, inr, ℕ, zero, suc, ◌+◌, ◌-◌, ◌<◌, ◌≤◌, leb, ltb, Bool, true, false, ◌&&◌, if◌then◌else◌, List, [], ◌∷◌, length, map, get_or, refl, ap, sym, ◌∙◌, subst, arith, Contains, true≢false}
-use Rattle.std.proofs.lemmas.Bool.{cases_lt, cases_Bool, and_from, lt-ltb, le-ltb, le-leb}
-use Rattle.std.proofs.lemmas.List.{get_or-map, get_or_append_left, length-map}
-use Rattle.std.specs.List.{AllByRecursion}
-use Rattle.cyc_base.specs.declared.sig.Sig.{Sig}
-use Rattle.cyc_base.proofs.ListLemmas.{all_weaker}
-use Rattle.netlist.specs.declared.parts.Gate.{Gate}
-use Rattle.netlist.specs.declared.parts.Parts.{Parts}
-use Rattle.netlist.specs.Netlists.{signal, gate_at, gate_sig}
+use Rattle.unroll.proofs.Common.{cases_lt, and_from, le-leb, get_or-map, get_or_append_left, length-map, AllByRecursion, Sig, all_weaker, Gate, Parts, signal, gate_at, Loops, AreLoopsOf, first_gate, gate_of, in_loop_of, in_loop_from, same-sym, same-trans, same_within, Copy, copy_of, copies_of, copies, most, place, has_loop, constants, shift, copy_signal, old_signal, copy_pin, kept_pin, copy_gate, kept_gate, kept_latch, unrolled, IsOfLoops}
+use Rattle.std.proofs.lemmas.Bool.{cases_Bool, lt-ltb, le-ltb}
+use Rattle.netlist.specs.Netlists.{gate_sig}
 use Rattle.netlist.specs.Walks.{Feeds, Walk}
-use Rattle.loops.specs.Cuts.{Loops, AreLoopsOf}
-use Rattle.loops.specs.Sweeps.{first_gate, gate_of, in_loop_of}
 use Rattle.loops.specs.Walks.{SameLoop}
-use Rattle.loops.proofs.Reading.{in_loop_from}
-use Rattle.loops.proofs.Sweeps.{same-sym, same-trans, same_within}
 use Rattle.loops.proofs.Unique.{feeds_at}
 use Rattle.loops.proofs.Walks.{on_closed_walk, leads-any, cuts_leave_no_loop}
 use Rattle.unroll.specs.Laws.{UnrolledIsLoopFree}
-use Rattle.unroll.specs.Unrolled.{Copy, copy_of, copies_of, copies, most, place, has_loop, constants, shift, copy_signal, old_signal, copy_pin, kept_pin, copy_gate, kept_gate, kept_latch, unrolled, IsOfLoops}
 use Rattle.unroll.proofs.Kept.{many_of, self_of}
 use Rattle.unroll.proofs.Measures.{length-unrolled}
 use Rattle.unroll.proofs.Places.{copy_placed, most-above}

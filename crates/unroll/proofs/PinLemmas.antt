@@ -1,14 +1,10 @@
 -- What the source of a pin says of the pin.
 use Rattle.std.proofs.Common.{◌≡◌, ◌≤◌, ℕ, Bool, true, false, ◌&&◌, nat_le, if◌then◌else◌, Some, None, refl, sym, ap, ap₂, ◌∙◌}
-use Rattle.std.proofs.lemmas.Bool.{le-leb}
+use Rattle.unroll.proofs.Common.{le-leb, Sig, Parts, Loops, loops_by, first_gate, gate_of, in_loop_of}
 use Rattle.std.specs.Bool.{then_some}
 use Rattle.std.specs.declared.option.Option.{Option}
-use Rattle.cyc_base.specs.declared.sig.Sig.{Sig}
-use Rattle.netlist.specs.declared.parts.Parts.{Parts}
-use Rattle.loops.specs.Cuts.{Loops, loops_by}
 use Rattle.loops.specs.Found.{loops_of}
 use Rattle.loops.specs.Looped.{Looped, IsLooped}
-use Rattle.loops.specs.Sweeps.{first_gate, gate_of, in_loop_of}
 use Rattle.loops.proofs.LoopedLemmas.{one_loop_is_told}
 
 some_where : (b : Bool) (x : ℕ) → then_some b x ≡ (if b then Some x else None)

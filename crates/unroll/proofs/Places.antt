@@ -1,15 +1,11 @@
 -- Where the copies stand: each at one place, and those of one number one after another.
 use Rattle.std.proofs.Common.{◌≡◌, ◌==◌, inl, inr, ℕ, zero, suc, ◌+◌, ◌<◌, ◌≤◌, leb, Bool, true, false, ◌&&◌, List, [], ◌∷◌, ◌++◌, length, map, filter, get_or, refl, ap, ap₂, sym, ◌∙◌, subst, arith, Contains, All}
-use Rattle.std.proofs.lemmas.Bool.{cases_eq, and_parts, and_from, eqb-true, eq-eqb, leb-true, le-leb}
-use Rattle.std.proofs.lemmas.List.{get_or-append-add, get_or_append_left, get_or-map, length-append, length-map}
+use Rattle.unroll.proofs.Common.{cases_eq, and_from, leb-true, le-leb, get_or_append_left, get_or-map, length-append, length-map, get_or-range_with_len, length-range_with_len, AllByRecursion, range_with_len, all_weaker, all_append, Parts, Loops, Copy, copy_of, copies_of, copied, copies_upto, most, copies, place}
+use Rattle.std.proofs.lemmas.Bool.{and_parts, eqb-true, eq-eqb}
+use Rattle.std.proofs.lemmas.List.{get_or-append-add}
 use Rattle.std.proofs.lemmas.List.Elements.{Contains-append_left, Contains-append_right, All-filter, filter_passes}
-use Rattle.std.proofs.lemmas.List.FromFn.{get_or-range_with_len, length-range_with_len}
-use Rattle.std.specs.List.{AllByRecursion, range_with_len}
-use Rattle.cyc_base.proofs.ListLemmas.{Contains-map, Contains-filter, Contains-range, all_weaker, all_append, all_filter}
-use Rattle.netlist.specs.declared.parts.Parts.{Parts}
-use Rattle.loops.specs.Cuts.{Loops}
+use Rattle.cyc_base.proofs.ListLemmas.{Contains-map, Contains-filter, Contains-range, all_filter}
 use Rattle.loops.proofs.OrderLemmas.{range_above}
-use Rattle.unroll.specs.Unrolled.{Copy, copy_of, copies_of, copied, copies_upto, most, copies, place}
 
 -- what two numbers of copies and their gates tell of the copies
 one_copy : (a b : Copy) → a.number ≡ b.number → a.gate ≡ b.gate → a ≡ b

@@ -1,20 +1,10 @@
 -- One number of copies after another, by tables.
 use Rattle.std.proofs.Common.{◌≡◌, inl, inr, ℕ, zero, suc, ◌+◌, ◌<◌, ◌≤◌, min, leb, ltb, Bool, true, false, if◌then◌else◌, List, [], ◌∷◌, ◌++◌, length, map, filter, replicate, get_or, set, refl, ap, ap₂, sym, ◌∙◌, subst, arith, Contains, All, true≢false, get_or-set_same, get_or-set_other, length-set}
-use Rattle.std.proofs.lemmas.Bool.{cases_lt, leb-true, le-leb}
-use Rattle.std.proofs.lemmas.List.{append-nil, get_or-replicate, get_or_default, length-append, length-map, length-replicate, map-append, append_assoc}
-use Rattle.std.specs.List.{AllByRecursion, range_with_len}
-use Rattle.cyc_base.specs.declared.sig.Sig.{Sig}
-use Rattle.cyc_base.proofs.ListLemmas.{map-map}
-use Rattle.netlist.specs.declared.parts.Gate.{Gate}
-use Rattle.netlist.specs.declared.parts.Parts.{Parts}
-use Rattle.netlist.specs.Netlists.{signal, count, gate_at}
-use Rattle.loops.specs.Cuts.{Loops, AreLoopsOf}
-use Rattle.loops.specs.Sweeps.{first_gate, gate_of, in_loop_of}
-use Rattle.loops.proofs.Reading.{in_loop_from, map_agree}
-use Rattle.loops.proofs.Sweeps.{same-sym, same-trans, same_within}
-use Rattle.unroll.specs.Marks.{mark, copy_name}
-use Rattle.unroll.specs.Unrolled.{copy_of, copies_of, copied, copies_upto, most, copies, place, constants, shift, moved, copy_signal, copy_pin, copy_gate, IsOfLoops}
-use Rattle.unroll.specs.Tables.{at_table, copy_pin_by, copy_gate_by, entered, AreCopies, AreLastCopies, AreMade}
+use Rattle.unroll.proofs.Common.{cases_lt, leb-true, le-leb, length-append, length-map, map-append, append_assoc, AllByRecursion, range_with_len, Sig, map-map, Gate, Parts, signal, gate_at, Loops, AreLoopsOf, first_gate, gate_of, in_loop_of, in_loop_from, same-sym, same-trans, same_within, mark, copy_name, copy_of, copies_of, copied, copies_upto, most, copies, place, constants, shift, moved, copy_signal, copy_pin, copy_gate, IsOfLoops, at_table, copy_pin_by, copy_gate_by, entered, AreLastCopies}
+use Rattle.std.proofs.lemmas.List.{append-nil, get_or-replicate, get_or_default, length-replicate}
+use Rattle.netlist.specs.Netlists.{count}
+use Rattle.loops.proofs.Reading.{map_agree}
+use Rattle.unroll.specs.Tables.{AreCopies, AreMade}
 use Rattle.unroll.proofs.TableLemmas.{length_entered}
 use Rattle.unroll.proofs.Places.{Increasing, copied_within, copied_has, copied_increasing, Contains-copied, length-round, upto_short, place_in_round, most-above}
 

@@ -1,10 +1,8 @@
 -- Numbers of copies, gate by gate.
 use Rattle.std.proofs.Common.{◌≡◌, ◌||◌, inl, inr, ℕ, zero, suc, ◌+◌, ◌<◌, max, Bool, true, false, List, [], ◌∷◌, ◌++◌, refl, ap, ap₂, sym, ◌∙◌, arith, add-one}
-use Rattle.std.proofs.lemmas.Bool.{cases_eq}
-use Rattle.std.proofs.lemmas.List.Sums.{sum_by-append, sum_by-cons}
-use Rattle.std.specs.List.{range_with_len, list_any, sum_by}
+use Rattle.unroll.proofs.Common.{cases_eq, sum_by-cons, range_with_len, list_any, sum_by, copies_of, most}
+use Rattle.std.proofs.lemmas.List.Sums.{sum_by-append}
 use Rattle.cyc_base.proofs.ListLemmas.{range-suc}
-use Rattle.unroll.specs.Unrolled.{copies_of, most}
 
 pub range_next : (n : ℕ) → range_with_len 0 (n + 1) ≡ range_with_len 0 n ++ n ∷ []
 range_next n = rw add-one (range-suc 0 n ∙ ap (λ (x : ℕ). range_with_len 0 n ++ x ∷ []) (let e : 0 + n ≡ n = omega arith in e))

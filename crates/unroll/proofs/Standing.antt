@@ -1,20 +1,12 @@
 -- What the gates of the unrolled netlist are by their places, and what they see at its fixpoint.
 use Rattle.std.proofs.Common.{◌≡◌, ℕ, suc, ◌+◌, ◌<◌, List, ◌++◌, length, map, get_or, ap, sym, ◌∙◌, arith}
-use Rattle.std.proofs.lemmas.List.{get_or-append-add, get_or_append_left, get_or-map, length-map}
+use Rattle.unroll.proofs.Common.{get_or_append_left, get_or-map, length-map, range_with_len, Sig, Trit, map-map, Parts, signal, gate_at, wire, fix, Loops, first_gate, Copy, copy_of, copies, place, constants, copy_signal, copy_pin, kept_pin, copy_gate, kept_gate, unrolled}
+use Rattle.std.proofs.lemmas.List.{get_or-append-add}
 use Rattle.std.proofs.lemmas.List.FromFn.{get_or-map-range_with_len}
-use Rattle.std.specs.List.{range_with_len}
-use Rattle.cyc_base.specs.declared.sig.Sig.{Sig}
-use Rattle.cyc_base.specs.declared.trit.Trit.{Trit}
 use Rattle.cyc_base.specs.declared.trit.Trit.TheVariants.{X}
-use Rattle.cyc_base.proofs.ListLemmas.{map-map}
 use Rattle.cover_logic.specs.Extensions.{ext}
-use Rattle.netlist.specs.declared.parts.Parts.{Parts}
-use Rattle.netlist.specs.Netlists.{signal, gate_at}
-use Rattle.netlist.specs.Fixpoint.{wire, gate_value, fix, fix_gates}
+use Rattle.netlist.specs.Fixpoint.{gate_value, fix_gates}
 use Rattle.netlist.proofs.FixpointLemmas.{get_or-fix}
-use Rattle.loops.specs.Cuts.{Loops}
-use Rattle.loops.specs.Sweeps.{first_gate}
-use Rattle.unroll.specs.Unrolled.{Copy, copy_of, copies, place, constants, copy_signal, copy_pin, kept_pin, copy_gate, kept_gate, unrolled}
 use Rattle.unroll.proofs.Places.{Placed}
 use Rattle.unroll.proofs.Measures.{length-unrolled}
 

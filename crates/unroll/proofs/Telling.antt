@@ -1,20 +1,11 @@
 -- The unrolled netlist keeps the interface, and tells of outputs and latches what the netlist does.
 use Rattle.std.proofs.Common.{◌≡◌, inl, inr, ℕ, zero, suc, ◌+◌, ◌-◌, ◌<◌, ◌≤◌, List, [], ◌++◌, length, map, get_or, refl, ap, ap₂, sym, ◌∙◌, subst, arith}
-use Rattle.std.proofs.lemmas.Bool.{cases_lt}
-use Rattle.std.proofs.lemmas.List.{append_assoc, get_or_append_left, get_or-append_right, length-append, length-map}
-use Rattle.cyc_base.specs.declared.sig.Sig.{Sig}
-use Rattle.cyc_base.specs.declared.trit.Trit.{Trit}
+use Rattle.unroll.proofs.Common.{cases_lt, append_assoc, get_or_append_left, length-append, length-map, Sig, Trit, map-map, Parts, wire, fix, gate_at, signal_names, Loops, first_gate, gate_of, mark, copy_name, copy_of, copies_of, copies, place, shift, copy_signal, old_signal, copy_gate, kept_gate, kept_latch, constants, unrolled}
+use Rattle.std.proofs.lemmas.List.{get_or-append_right}
 use Rattle.cyc_base.specs.Values.{EachBelow}
 use Rattle.cyc_base.proofs.OrderLemmas.{EachBelow-map}
-use Rattle.cyc_base.proofs.ListLemmas.{map-map}
-use Rattle.netlist.specs.declared.parts.Parts.{Parts}
-use Rattle.netlist.specs.Fixpoint.{wire, fix}
-use Rattle.netlist.specs.Netlists.{gate_at, gate_sig, signal_names}
-use Rattle.loops.specs.Cuts.{Loops}
-use Rattle.loops.specs.Sweeps.{first_gate, gate_of}
+use Rattle.netlist.specs.Netlists.{gate_sig}
 use Rattle.unroll.specs.Laws.{UnrolledHasItsSize, GatesStandAtTheirSignals, UnrolledIsNetlist, UnrolledTellsAsMuch, UnrolledKeepsInterface}
-use Rattle.unroll.specs.Marks.{mark, copy_name}
-use Rattle.unroll.specs.Unrolled.{copy_of, copies_of, copies, place, shift, copy_signal, old_signal, copy_gate, kept_gate, kept_latch, constants, unrolled}
 use Rattle.unroll.proofs.Above.{unrolled_is_above}
 use Rattle.unroll.proofs.Measures.{size_is_size}
 use Rattle.unroll.proofs.Places.{copy_placed}

@@ -1,33 +1,24 @@
 -- The unrolled netlist is a netlist.
 use Rattle.std.proofs.Common.{◌≡◌, ◌||◌, inl, inr, ℕ, zero, suc, ◌+◌, ◌^◌, ◌<◌, ◌≤◌, Bool, true, false, ◌&&◌, if◌then◌else◌, List, [], ◌∷◌, ◌++◌, length, map, get_or, Some, None, IfSome, refl, ap, ap₂, sym, ◌∙◌, subst, arith, All, true≢false}
-use Rattle.std.proofs.lemmas.Bool.{cases_Bool, cases_eq, cases_lt, lt-leb, le-leb, eqb-true, eq-eqb, or_parts}
-use Rattle.std.proofs.lemmas.List.{append_assoc, get_or-map, length-map, map-append}
+use Rattle.unroll.proofs.Common.{cases_eq, cases_lt, le-leb, append_assoc, get_or-map, length-map, map-append, get_or-range_with_len, length-range_with_len, sum_by-cons, AllByRecursion, list_any, range_with_len, sum_by, Sig, all_weaker, all_append, map-map, longest_run, longest_run_of, Gate, Parts, signal, gate_at, signal_names, Loops, AreLoopsOf, first_gate, gate_of, in_loop_of, in_loop_from, same_within, mark, copy_name, Copy, copy_of, copies_of, copied, copies_upto, copies, most, has_loop, constants, shift, moved, old_signal, copy_signal, copy_pin, kept_pin, copy_gate, kept_gate, kept_latch, unrolled, IsOfLoops}
+use Rattle.std.proofs.lemmas.Bool.{cases_Bool, lt-leb, eqb-true, eq-eqb, or_parts}
 use Rattle.std.proofs.lemmas.List.Elements.{All-append, All-map}
 use Rattle.std.proofs.lemmas.List.Folds.{list_any-append}
-use Rattle.std.proofs.lemmas.List.FromFn.{fill_by_all, get_or-range_with_len, length-range_with_len}
-use Rattle.std.proofs.lemmas.List.Sums.{sum_by-cons}
+use Rattle.std.proofs.lemmas.List.FromFn.{fill_by_all}
 use Rattle.std.proofs.lemmas.Slice.Eq.{bytes_eq-Decides}
-use Rattle.std.specs.List.{AllByRecursion, IsDistinct, list_any, range_with_len, sum_by}
+use Rattle.std.specs.List.{IsDistinct}
 use Rattle.std.specs.Option.{option_map_or}
 use Rattle.std.specs.Str.{bytes_eq}
 use Rattle.std.specs.declared.option.Option.{Option}
 use Rattle.cyc_base.specs.Names.{IsBlifName}
-use Rattle.cyc_base.specs.declared.sig.Sig.{Sig}
-use Rattle.cyc_base.proofs.ListLemmas.{all_weaker, all_append, map-map, all_map}
+use Rattle.cyc_base.proofs.ListLemmas.{all_map}
 use Rattle.cyc_base.proofs.NameLemmas.{bytes_eq-other}
-use Rattle.tildes.specs.Runs.{longest_run, longest_run_of}
 use Rattle.tildes.proofs.RunLemmas.{longest-append}
 use Rattle.netlist.specs.declared.parts.Clock.{Clock}
-use Rattle.netlist.specs.declared.parts.Gate.{Gate}
 use Rattle.netlist.specs.declared.parts.Latch.{Latch}
-use Rattle.netlist.specs.declared.parts.Parts.{Parts}
-use Rattle.netlist.specs.Netlists.{signal, no_gate, gate_at, signal_names, is_driven, sig_eq, IsSignal, IsClockName, IsNetlist}
-use Rattle.loops.specs.Cuts.{Loops, AreLoopsOf}
-use Rattle.loops.specs.Sweeps.{first_gate, gate_of, in_loop_of}
-use Rattle.loops.proofs.Reading.{in_loop_from}
-use Rattle.loops.proofs.Sweeps.{same_within}
-use Rattle.unroll.specs.Marks.{longest_run_in, clock_names, mark, zero_name, copy_name}
-use Rattle.unroll.specs.Unrolled.{Copy, copy_of, copies_of, copied, copies_upto, copies, most, has_loop, zero_gate, constants, shift, moved, old_signal, copy_signal, copy_pin, kept_pin, copy_gate, kept_gate, kept_latch, unrolled, unrolled_size, IsOfLoops}
+use Rattle.netlist.specs.Netlists.{no_gate, is_driven, sig_eq, IsSignal, IsClockName, IsNetlist}
+use Rattle.unroll.specs.Marks.{longest_run_in, clock_names, zero_name}
+use Rattle.unroll.specs.Unrolled.{zero_gate, unrolled_size}
 use Rattle.unroll.proofs.NameLemmas.{copy_is_long, zero_is_long, all_short, copy_names_tell, zero_is_no_copy, zero_name_fits, copy_name_fits, Apart, distinct_append, distinct_first, distinct_second, distinct_apart, apart_append, short_from_long, long_from_short, short_is_none, all_of_first, all_of_second}
 use Rattle.unroll.proofs.Places.{copied_within, copied_has, copy_placed, upto_apart}
 use Rattle.unroll.proofs.Places as places

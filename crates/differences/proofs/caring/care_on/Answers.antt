@@ -2,16 +2,10 @@ use Rattle.std.proofs.Common.{◌≡◌, ◌∙◌, ◌+◌, ◌-◌, ◌*◌, �
 use Rattle.std.specs.Prelude.{IfSome}
 use Rattle.std.proofs.lemmas.List.{take_rest, length-drop}
 use Rattle.verdict.proofs.PartLemmas.{invariant-reads, assume-reads}
-use Rattle.bdd_store.specs.Growth.{GrowsWithin, KeepsNodes}
-use Rattle.bdd_store.specs.Subfunctions.{nodes}
-use Rattle.bdd_store.proofs.GrowthLemmas.{KeepsNodes-chain, within_only, within_one, within_moved, within_then, within_more, within_answered, within_refused}
-use Rattle.bdd_ops.specs.Least.{by_variable}
-use Rattle.bdd_ops.specs.Operations.{conjunction}
-use Rattle.cyc_base.specs.Values.{bits}
-use Rattle.dual_rail.specs.declared.rail.Rails.{Rails}
-use Rattle.dual_rail.specs.Rails.{values_of}
+use Rattle.differences.proofs.Common.{GrowsWithin, nodes, within_only, within_moved, within_then, within_more, within_answered, within_refused, by_variable, conjunction, bits, Rails, values_of, columns, state_of, is_care_vector}
+use Rattle.bdd_store.specs.Growth.{KeepsNodes}
+use Rattle.bdd_store.proofs.GrowthLemmas.{KeepsNodes-chain, within_one}
 use Rattle.dual_rail.proofs.SurelyLemmas.{All-rails-kept, values_of-kept}
-use Rattle.care_sets.specs.Care.{columns, state_of, is_care_vector}
 use Rattle.verdict.specs.Causes.{HasModelOver}
 use Rattle.verdict.specs.Costs.{assume_effort, invariant_effort}
 use Rattle.verdict.specs.Enough.{BoundsModel}

@@ -1,17 +1,13 @@
 use Rattle.std.proofs.Common.{◌≡◌, ◌∙◌, inl, inr, Bool, List, length, sym, ap, subst, arith}
-use Rattle.bdd_store.proofs.GrowthLemmas.{adds_then, adds_caused, adds_moved, adds_more, adds_refused, within_only}
-use Rattle.bdd_ops.specs.Least.{by_variable}
-use Rattle.cyc_base.specs.Values.{bits}
-use Rattle.dual_rail.specs.Rails.{values_of}
+use Rattle.differences.proofs.Common.{within_only, by_variable, bits, values_of, columns, is_care_vector, AreFixedBy, TellsBy}
+use Rattle.bdd_store.proofs.GrowthLemmas.{adds_then, adds_caused, adds_moved, adds_more, adds_refused}
 use Rattle.dual_rail.proofs.SurelyLemmas.{All-rails-kept}
 use Rattle.loops.specs.Cuts.{loops_by}
 use Rattle.fixpoint.specs.Working.{HasLargeCover}
-use Rattle.care_sets.specs.Care.{columns, is_care_vector}
 use Rattle.isolation.specs.Columns.{AreColumns}
 use Rattle.isolation.proofs.ColumnLemmas.{AreColumns-kept}
 use Rattle.isolation.proofs.SettlingLemmas.{loops-are}
 use Rattle.differences.specs.Comparisons.{AddsInComparison, care_cost, solving_cost}
-use Rattle.differences.specs.Sets.{AreFixedBy, TellsBy}
 use Rattle.differences.proofs.ComparingLemmas.{fixed-is, TellsBy-same}
 use Rattle.differences.proofs.LaidLemmas.{working-wide}
 use Rattle.differences.proofs.comparing.compare_columns.Goals as goal

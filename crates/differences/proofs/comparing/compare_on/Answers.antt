@@ -1,6 +1,6 @@
 use Rattle.std.proofs.Common.{◌∙◌, ◌+◌, ◌≤◌, subst, sym, arith}
-use Rattle.bdd_store.proofs.GrowthLemmas.{within_only, within_each, adds_then, adds_refused}
-use Rattle.bdd_ops.specs.Least.{IsLayout}
+use Rattle.differences.proofs.Common.{within_only, IsLayout}
+use Rattle.bdd_store.proofs.GrowthLemmas.{within_each, adds_then, adds_refused}
 use Rattle.isolation.specs.Columns.{AreColumns}
 use Rattle.differences.specs.Comparisons.{AddsInComparison, comparison_cost, whole_cost}
 use Rattle.differences.proofs.EnoughLemmas.{full_for}

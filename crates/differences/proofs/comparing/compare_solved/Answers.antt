@@ -1,12 +1,7 @@
 use Rattle.std.proofs.Common.{◌∙◌, List, sym, ap, subst}
-use Rattle.std.specs.Prelude.{find}
+use Rattle.differences.proofs.Common.{find, within_moved, IsLayout, by_variable, vectors, Rails, AreRailsOf, some_differ, BoundsPairs}
 use Rattle.std.specs.List.{All}
-use Rattle.bdd_store.proofs.GrowthLemmas.{within_moved}
-use Rattle.bdd_ops.specs.Least.{IsLayout, by_variable}
-use Rattle.cyc_base.specs.Vectors.{vectors}
-use Rattle.dual_rail.specs.declared.rail.Rails.{Rails}
-use Rattle.dual_rail.specs.Rails.{AreRailsOf}
-use Rattle.differences.specs.Sets.{HasRails, some_differ, BoundsPairs}
+use Rattle.differences.specs.Sets.{HasRails}
 use Rattle.differences.proofs.ComparingLemmas.{has-rails, least-is, ok-moved, pairs-bounded}
 use Rattle.differences.proofs.comparing.compare_solved.Goals as goal
 

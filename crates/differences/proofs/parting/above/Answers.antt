@@ -1,9 +1,6 @@
 use Rattle.std.proofs.Common.{◌≡◌, ◌∙◌, ◌≤◌, ◌&&◌, ℕ, Bool, List, ap₂, arith}
-use Rattle.bdd_store.specs.Growth.{GrowsWithin, NoOtherCause}
-use Rattle.bdd_store.specs.Subfunctions.{nodes}
-use Rattle.bdd_store.proofs.GrowthLemmas.{within_one, within_then, within_more, within_answered, within_refused}
-use Rattle.bdd_ops.specs.Operations.{conjunction}
-use Rattle.differences.specs.Sets.{is_above, BoundsAbove}
+use Rattle.differences.proofs.Common.{GrowsWithin, NoOtherCause, nodes, within_then, within_more, within_answered, within_refused, conjunction, is_above, BoundsAbove}
+use Rattle.bdd_store.proofs.GrowthLemmas.{within_one}
 use Rattle.differences.proofs.PartingLemmas.{bounded-same}
 use Rattle.differences.proofs.parting.above.Goals as goal
 use Rattle.differences.proofs.parting.above.Goals.{After-and-2}

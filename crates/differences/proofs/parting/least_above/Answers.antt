@@ -1,8 +1,6 @@
 use Rattle.std.proofs.Common.{◌∙◌, sym, refl, subst}
-use Rattle.bdd_store.specs.Arena.{den}
-use Rattle.bdd_store.proofs.GrowthLemmas.{within_answered, within_memory, within_refused}
-use Rattle.bdd_ops.specs.Least.{IsLayout, by_variable}
-use Rattle.differences.specs.Sets.{is_above}
+use Rattle.differences.proofs.Common.{den, within_answered, within_refused, IsLayout, by_variable, is_above}
+use Rattle.bdd_store.proofs.GrowthLemmas.{within_memory}
 use Rattle.differences.proofs.PartingLemmas.{first-same}
 use Rattle.differences.proofs.parting.least_above.Goals as goal
 

@@ -1,9 +1,7 @@
 use Rattle.std.proofs.Common.{◌∙◌, sym, subst, arith}
-use Rattle.bdd_store.specs.Growth.{GrowsWithin, NoOtherCause}
-use Rattle.bdd_store.proofs.GrowthLemmas.{within_moved, within_then, within_more, within_answered, within_refused}
-use Rattle.bdd_ops.specs.Least.{IsLayout, by_variable}
+use Rattle.differences.proofs.Common.{GrowsWithin, NoOtherCause, within_moved, within_then, within_more, within_answered, within_refused, IsLayout, by_variable, is_above}
 use Rattle.dual_rail.proofs.SurelyLemmas.{AreRailsOf-kept}
-use Rattle.differences.specs.Sets.{is_above, BoundsPair}
+use Rattle.differences.specs.Sets.{BoundsPair}
 use Rattle.differences.proofs.PartingLemmas.{above-kept, bounds-kept, first-same}
 use Rattle.differences.proofs.parting.least_of_pair.Goals as goal
 use Rattle.differences.proofs.parting.least_of_pair.Goals.{After-least_above-2}

@@ -1,16 +1,9 @@
 use Rattle.std.proofs.Common.{◌≡◌, ◌∙◌, ◌+◌, ◌*◌, ◌||◌, ℕ, [], length, take, get_or, refl, sym, arith}
-use Rattle.std.specs.Prelude.{find}
+use Rattle.differences.proofs.Common.{find, GrowsWithin, NoOtherCause, within_moved, within_then, within_more, within_answered, within_refused, by_variable, vectors, find-alike, AreRailsOf, rails_at, rails_at-proper, Pair, some_differ, BoundsPairs}
 use Rattle.std.proofs.lemmas.List.Folds.{list_any_more}
-use Rattle.bdd_store.specs.Growth.{GrowsWithin, NoOtherCause}
-use Rattle.bdd_store.proofs.GrowthLemmas.{nothing_grown, within_moved, within_then, within_more, within_answered, within_refused}
-use Rattle.bdd_ops.specs.Least.{by_variable}
-use Rattle.cyc_base.specs.Vectors.{vectors}
-use Rattle.cyc_base.proofs.VectorLemmas.{find-alike, find-none}
-use Rattle.dual_rail.specs.Rails.{AreRailsOf}
-use Rattle.fixpoint.specs.Sweeping.{rails_at}
-use Rattle.fixpoint.proofs.WireLemmas.{rails_at-proper}
-use Rattle.clause_decision.specs.declared.pairs.Pair.{Pair}
-use Rattle.differences.specs.Sets.{differ, pair_differs, some_differ, BoundsPairs}
+use Rattle.bdd_store.proofs.GrowthLemmas.{nothing_grown}
+use Rattle.cyc_base.proofs.VectorLemmas.{find-none}
+use Rattle.differences.specs.Sets.{differ, pair_differs}
 use Rattle.differences.proofs.PartingLemmas.{differ-kept, first-same, pair-kept}
 use Rattle.differences.proofs.parting.least_of_pairs.Goals as goal
 use Rattle.differences.proofs.parting.least_of_pairs.Goals.{After-least_of_pair, In_ok-found}

@@ -1,10 +1,7 @@
 use Rattle.std.proofs.Common.{◌≡◌, ◌*◌, Vec, Global, Bool, List, take}
-use Rattle.std.specs.Prelude.{find}
+use Rattle.differences.proofs.Common.{find, by_variable, vectors, some_differ, BoundsPairs}
 use Rattle.std.specs.Option.{option_map}
 use Rattle.bdd_store.proofs.GrowthLemmas.{HasGrown}
-use Rattle.bdd_ops.specs.Least.{by_variable}
-use Rattle.cyc_base.specs.Vectors.{vectors}
-use Rattle.differences.specs.Sets.{some_differ, BoundsPairs}
 use Rattle.differences.proofs.parting.least_of_pairs.Given as goal
 
 abbrev pub invariant-loop-pair : goal.invariant-loop-pair

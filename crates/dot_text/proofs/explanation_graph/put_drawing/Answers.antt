@@ -1,4 +1,4 @@
-use Rattle.cyc_io.proofs.TakenLemmas.{appended_then, appended_cut}
+use Rattle.dot_text.proofs.Common.{appended_then, appended_cut}
 use Rattle.dot_text.proofs.explanation_graph.put_drawing.Goals as goal
 
 pub returns-in_err-open_graph : goal.returns-in_err-open_graph

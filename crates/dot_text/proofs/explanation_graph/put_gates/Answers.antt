@@ -1,9 +1,5 @@
 use Rattle.std.proofs.Common.{ap, sym, arith}
-use Rattle.std.specs.List.{flat_map}
-use Rattle.cyc_io.proofs.TakenLemmas.{appended_equal, appended_none}
-use Rattle.cyc_io.proofs.ItemLemmas.{appended_copied, appended_in_copied, appended_items}
-use Rattle.dot_text.specs.ExplanationGraphs.{gate_node}
-use Rattle.dot_text.specs.Seen.{picture_seen}
+use Rattle.dot_text.proofs.Common.{flat_map, appended_equal, appended_none, appended_copied, appended_in_copied, appended_items, gate_node, picture_seen}
 use Rattle.dot_text.proofs.explanation_graph.put_gates.Goals as goal
 
 pub loop-gate-init : goal.loop-gate-init

@@ -1,8 +1,5 @@
 use Rattle.std.proofs.Common.{take}
-use Rattle.std.specs.List.{flat_map}
-use Rattle.cyc_io.specs.Taken.{IsAppendedWhole, sink_call}
-use Rattle.dot_text.specs.ExplanationGraphs.{gate_node}
-use Rattle.dot_text.specs.Seen.{picture_seen}
+use Rattle.dot_text.proofs.Common.{flat_map, IsAppendedWhole, sink_call, gate_node, picture_seen}
 use Rattle.dot_text.proofs.explanation_graph.put_gates.Given as goal
 
 abbrev pub invariant-loop-gate : goal.invariant-loop-gate

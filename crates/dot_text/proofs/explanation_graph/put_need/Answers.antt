@@ -1,7 +1,5 @@
 use Rattle.std.proofs.Common.{List, ℕ, ap, ap₂, sym, ◌∙◌}
-use Rattle.cyc_base.specs.declared.trit.Trit.{Trit}
-use Rattle.cyc_io.proofs.TakenLemmas.{appended_equal}
-use Rattle.netlist.specs.declared.parts.Parts.{Parts}
+use Rattle.dot_text.proofs.Common.{Trit, appended_equal, Parts}
 use Rattle.netlist.specs.Netlists.{signal}
 use Rattle.report.specs.Verdicts.{signal_name}
 use Rattle.dot_text.specs.ExplanationGraphs.{needed_box}

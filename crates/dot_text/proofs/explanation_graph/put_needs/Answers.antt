@@ -2,10 +2,9 @@ use Rattle.std.proofs.Common.{length, arith}
 use Rattle.std.specs.List.{range_with_len}
 use Rattle.std.proofs.lemmas.List.FromFn.{length-range_with_len}
 use Rattle.cyc_base.proofs.ListLemmas.{at_range}
-use Rattle.cyc_io.proofs.TakenLemmas.{appended_none}
-use Rattle.cyc_io.proofs.ItemLemmas.{appended_item, appended_in_item, appended_items}
+use Rattle.dot_text.proofs.Common.{appended_none, appended_items, picture_seen}
+use Rattle.cyc_io.proofs.ItemLemmas.{appended_item, appended_in_item}
 use Rattle.dot_text.specs.ExplanationGraphs.{needed_node}
-use Rattle.dot_text.specs.Seen.{picture_seen}
 use Rattle.dot_text.proofs.explanation_graph.put_needs.Goals as goal
 
 pub loop-column-init : goal.loop-column-init

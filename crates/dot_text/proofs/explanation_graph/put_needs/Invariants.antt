@@ -1,8 +1,7 @@
 use Rattle.std.proofs.Common.{take, length}
-use Rattle.std.specs.List.{flat_map, range_with_len}
-use Rattle.cyc_io.specs.Taken.{IsAppendedWhole, sink_call}
+use Rattle.dot_text.proofs.Common.{flat_map, IsAppendedWhole, sink_call, picture_seen}
+use Rattle.std.specs.List.{range_with_len}
 use Rattle.dot_text.specs.ExplanationGraphs.{needed_node}
-use Rattle.dot_text.specs.Seen.{picture_seen}
 use Rattle.dot_text.proofs.explanation_graph.put_needs.Given as goal
 
 abbrev pub invariant-loop-column : goal.invariant-loop-column

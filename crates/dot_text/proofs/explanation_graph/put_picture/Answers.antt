@@ -1,8 +1,5 @@
 use Rattle.std.proofs.Common.{ap, sym}
-use Rattle.std.specs.List.{flat_map}
-use Rattle.cyc_io.proofs.TakenLemmas.{appended_cut, appended_equal, appended_then}
-use Rattle.dot_text.specs.ExplanationGraphs.{gate_node, pin_wires}
-use Rattle.dot_text.specs.Seen.{picture_seen}
+use Rattle.dot_text.proofs.Common.{flat_map, appended_cut, appended_equal, appended_then, gate_node, pin_wires, picture_seen}
 use Rattle.dot_text.proofs.explanation_graph.put_picture.Goals as goal
 
 pub returns-in_err-put_needs : goal.returns-in_err-put_needs

@@ -1,8 +1,5 @@
 use Rattle.std.proofs.Common.{ap, ◌∙◌}
-use Rattle.netlist.specs.declared.parts.Parts.{Parts}
-use Rattle.netlist.specs.Netlists.{gate_sig}
-use Rattle.cyc_io.proofs.TakenLemmas.{appended_equal}
-use Rattle.dot_text.specs.Seen.{picture_seen}
+use Rattle.dot_text.proofs.Common.{Parts, gate_sig, appended_equal, picture_seen}
 use Rattle.dot_text.proofs.GraphLemmas.{driven_drawn}
 use Rattle.dot_text.proofs.explanation_graph.put_pin.Goals as goal
 

@@ -1,8 +1,5 @@
 use Rattle.std.proofs.Common.{arith}
-use Rattle.cyc_io.proofs.TakenLemmas.{appended_none}
-use Rattle.cyc_io.proofs.ItemLemmas.{appended_copied, appended_in_copied, appended_items}
-use Rattle.dot_text.specs.ExplanationGraphs.{pin_wire}
-use Rattle.dot_text.specs.Seen.{picture_seen}
+use Rattle.dot_text.proofs.Common.{appended_none, appended_copied, appended_in_copied, appended_items, pin_wire, picture_seen}
 use Rattle.dot_text.proofs.explanation_graph.put_pins.Goals as goal
 
 pub loop-pin-init : goal.loop-pin-init

@@ -1,8 +1,5 @@
 use Rattle.std.proofs.Common.{take}
-use Rattle.std.specs.List.{flat_map}
-use Rattle.cyc_io.specs.Taken.{IsAppendedWhole, sink_call}
-use Rattle.dot_text.specs.ExplanationGraphs.{pin_wire}
-use Rattle.dot_text.specs.Seen.{picture_seen}
+use Rattle.dot_text.proofs.Common.{flat_map, IsAppendedWhole, sink_call, pin_wire, picture_seen}
 use Rattle.dot_text.proofs.explanation_graph.put_pins.Given as goal
 
 abbrev pub invariant-loop-pin : goal.invariant-loop-pin

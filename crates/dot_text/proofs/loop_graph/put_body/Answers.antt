@@ -1,4 +1,4 @@
-use Rattle.cyc_io.proofs.TakenLemmas.{appended_then, appended_cut}
+use Rattle.dot_text.proofs.Common.{appended_then, appended_cut}
 use Rattle.dot_text.proofs.loop_graph.put_body.Goals as goal
 
 pub returns-in_err-put_gates : goal.returns-in_err-put_gates

@@ -1,7 +1,6 @@
 use Rattle.std.proofs.Common.{List, ℕ, ap, sym}
-use Rattle.cyc_io.proofs.TakenLemmas.{appended_cut, appended_equal, appended_then}
+use Rattle.dot_text.proofs.Common.{appended_cut, appended_equal, appended_then, loops_of}
 use Rattle.loops.proofs.ListedLemmas.{loop_gates_inside}
-use Rattle.loops.specs.Found.{loops_of}
 use Rattle.dot_text.specs.LoopGraphs.{cluster}
 use Rattle.dot_text.proofs.loop_graph.put_cluster.Goals as goal
 

@@ -1,8 +1,7 @@
 use Rattle.std.proofs.Common.{ap, ◌∙◌}
-use Rattle.cyc_io.proofs.TakenLemmas.{appended_none}
+use Rattle.dot_text.proofs.Common.{appended_none, loops_of}
 use Rattle.loops.proofs.ListLemmas.{comes_at}
 use Rattle.loops.specs.Left.{loops_left}
-use Rattle.loops.specs.Found.{loops_of}
 use Rattle.dot_text.specs.LoopGraphs.{loop_graph}
 use Rattle.report.proofs.LoopTextLemmas.{told_all, told_cut, told_more}
 use Rattle.dot_text.proofs.loop_graph.put_clusters.Goals as goal

@@ -1,6 +1,5 @@
 use Rattle.std.proofs.Common.{length}
-use Rattle.cyc_io.specs.Taken.{IsAppendedWhole, sink_call}
-use Rattle.loops.specs.Found.{loops_of}
+use Rattle.dot_text.proofs.Common.{IsAppendedWhole, sink_call, loops_of}
 use Rattle.dot_text.specs.LoopGraphs.{loop_graph}
 use Rattle.report.proofs.LoopTextLemmas.{told_first}
 use Rattle.dot_text.proofs.loop_graph.put_clusters.Given as goal

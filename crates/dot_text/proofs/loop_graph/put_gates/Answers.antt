@@ -1,8 +1,6 @@
 use Rattle.std.proofs.Common.{arith, ap, sym, get_or}
-use Rattle.netlist.specs.declared.parts.Parts.{Parts}
+use Rattle.dot_text.proofs.Common.{Parts, appended_equal, appended_none, appended_copied, appended_in_copied, appended_items}
 use Rattle.dot_text.specs.LoopGraphs.{gate_node}
-use Rattle.cyc_io.proofs.TakenLemmas.{appended_equal, appended_none}
-use Rattle.cyc_io.proofs.ItemLemmas.{appended_copied, appended_in_copied, appended_items}
 use Rattle.dot_text.proofs.loop_graph.put_gates.Goals as goal
 
 pub loop-gate-init : goal.loop-gate-init

@@ -1,7 +1,6 @@
 use Rattle.std.proofs.Common.{take}
-use Rattle.std.specs.List.{flat_map}
+use Rattle.dot_text.proofs.Common.{flat_map, IsAppendedWhole, sink_call}
 use Rattle.dot_text.specs.LoopGraphs.{gate_node}
-use Rattle.cyc_io.specs.Taken.{IsAppendedWhole, sink_call}
 use Rattle.dot_text.proofs.loop_graph.put_gates.Given as goal
 
 abbrev pub invariant-loop-gate : goal.invariant-loop-gate

@@ -1,4 +1,4 @@
-use Rattle.cyc_io.proofs.TakenLemmas.{appended_cut, appended_then}
+use Rattle.dot_text.proofs.Common.{appended_cut, appended_then}
 use Rattle.dot_text.proofs.loop_graph.put_loops_graph.Goals as goal
 
 pub returns-in_err-write_whole : goal.returns-in_err-write_whole

@@ -1,9 +1,6 @@
 use Rattle.std.proofs.Common.{List, ℕ, ap, ap₂, sym, ◌∙◌}
 use Rattle.cyc_base.specs.declared.sig.Sig.{Sig}
-use Rattle.loops.specs.Found.{loops_of}
-use Rattle.netlist.specs.declared.parts.Parts.{Parts}
-use Rattle.netlist.specs.Netlists.{gate_sig}
-use Rattle.cyc_io.proofs.TakenLemmas.{appended_equal, appended_none}
+use Rattle.dot_text.proofs.Common.{loops_of, Parts, gate_sig, appended_equal, appended_none}
 use Rattle.dot_text.specs.Dot.{wire}
 use Rattle.dot_text.specs.LoopGraphs.{wire_style}
 use Rattle.dot_text.proofs.GraphLemmas.{wire_drawn, wire_left}

@@ -1,8 +1,5 @@
 use Rattle.std.proofs.Common.{arith}
-use Rattle.loops.specs.Found.{loops_of}
-use Rattle.dot_text.specs.LoopGraphs.{loop_wire}
-use Rattle.cyc_io.proofs.TakenLemmas.{appended_none}
-use Rattle.cyc_io.proofs.ItemLemmas.{appended_copied, appended_in_copied, appended_items}
+use Rattle.dot_text.proofs.Common.{loops_of, loop_wire, appended_none, appended_copied, appended_in_copied, appended_items}
 use Rattle.dot_text.proofs.loop_graph.put_reads.Goals as goal
 
 pub loop-pin-init : goal.loop-pin-init

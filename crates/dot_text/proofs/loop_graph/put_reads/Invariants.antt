@@ -1,8 +1,5 @@
 use Rattle.std.proofs.Common.{take}
-use Rattle.std.specs.List.{flat_map}
-use Rattle.loops.specs.Found.{loops_of}
-use Rattle.dot_text.specs.LoopGraphs.{loop_wire}
-use Rattle.cyc_io.specs.Taken.{IsAppendedWhole, sink_call}
+use Rattle.dot_text.proofs.Common.{flat_map, loops_of, loop_wire, IsAppendedWhole, sink_call}
 use Rattle.dot_text.proofs.loop_graph.put_reads.Given as goal
 
 abbrev pub invariant-loop-pin : goal.invariant-loop-pin

@@ -1,8 +1,6 @@
 use Rattle.std.proofs.Common.{arith}
-use Rattle.loops.specs.Found.{loops_of}
+use Rattle.dot_text.proofs.Common.{loops_of, appended_none, appended_copied, appended_in_copied, appended_items}
 use Rattle.dot_text.specs.LoopGraphs.{loop_wires}
-use Rattle.cyc_io.proofs.TakenLemmas.{appended_none}
-use Rattle.cyc_io.proofs.ItemLemmas.{appended_copied, appended_in_copied, appended_items}
 use Rattle.dot_text.proofs.loop_graph.put_wires.Goals as goal
 
 pub loop-gate-init : goal.loop-gate-init

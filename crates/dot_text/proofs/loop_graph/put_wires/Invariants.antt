@@ -1,8 +1,6 @@
 use Rattle.std.proofs.Common.{take}
-use Rattle.std.specs.List.{flat_map}
-use Rattle.loops.specs.Found.{loops_of}
+use Rattle.dot_text.proofs.Common.{flat_map, loops_of, IsAppendedWhole, sink_call}
 use Rattle.dot_text.specs.LoopGraphs.{loop_wires}
-use Rattle.cyc_io.specs.Taken.{IsAppendedWhole, sink_call}
 use Rattle.dot_text.proofs.loop_graph.put_wires.Given as goal
 
 abbrev pub invariant-loop-gate : goal.invariant-loop-gate

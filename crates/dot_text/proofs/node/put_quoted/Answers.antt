@@ -1,7 +1,6 @@
 use Rattle.std.proofs.Common.{arith}
 use Rattle.dot_text.specs.Dot.{quoted_byte}
-use Rattle.cyc_io.proofs.TakenLemmas.{appended_none}
-use Rattle.cyc_io.proofs.ItemLemmas.{appended_copied, appended_in_copied, appended_items}
+use Rattle.dot_text.proofs.Common.{appended_none, appended_copied, appended_in_copied, appended_items}
 use Rattle.dot_text.proofs.node.put_quoted.Goals as goal
 
 pub loop-byte-init : goal.loop-byte-init

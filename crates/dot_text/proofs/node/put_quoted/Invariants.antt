@@ -1,7 +1,6 @@
 use Rattle.std.proofs.Common.{take}
-use Rattle.std.specs.List.{flat_map}
+use Rattle.dot_text.proofs.Common.{flat_map, IsAppendedWhole, sink_call}
 use Rattle.dot_text.specs.Dot.{quoted_byte}
-use Rattle.cyc_io.specs.Taken.{IsAppendedWhole, sink_call}
 use Rattle.dot_text.proofs.node.put_quoted.Given as goal
 
 abbrev pub invariant-loop-byte : goal.invariant-loop-byte

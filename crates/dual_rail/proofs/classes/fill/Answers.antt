@@ -1,5 +1,6 @@
 use Rattle.std.proofs.Common.{ap, length, ◌∙◌, arith}
-use Rattle.std.proofs.lemmas.List.{get_or_default, length_push}
+use Rattle.dual_rail.proofs.Common.{length_push}
+use Rattle.std.proofs.lemmas.List.{get_or_default}
 use Rattle.dual_rail.proofs.ClassLemmas.{AreNumbered-more}
 use Rattle.dual_rail.proofs.classes.fill.Goals as goal
 

@@ -1,5 +1,6 @@
 use Rattle.std.proofs.Common.{rules, sym, ap, subst, ◌∙◌, ◌≡◌, ◌+◌, ◌-◌, arith, [], length, get_or}
-use Rattle.std.proofs.lemmas.List.{length_push, get_or_read}
+use Rattle.dual_rail.proofs.Common.{length_push}
+use Rattle.std.proofs.lemmas.List.{get_or_read}
 use Rattle.dual_rail.specs.Classes.{AreClasses}
 use Rattle.dual_rail.proofs.ClassLemmas.{AreClassesBack-end, AreClassesBack-more}
 use Rattle.dual_rail.proofs.classes.from_last.Goals as goal

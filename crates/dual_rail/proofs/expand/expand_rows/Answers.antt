@@ -1,5 +1,5 @@
 use Rattle.std.proofs.Common.{length}
-use Rattle.std.specs.List.{range_with_len}
+use Rattle.dual_rail.proofs.Common.{range_with_len}
 use Rattle.dual_rail.proofs.LiveLemmas.{IsExpansion-next, remainder-first}
 use Rattle.dual_rail.proofs.LocalLemmas.{NewAreParts-alike, IsRefusedPart-alike}
 use Rattle.dual_rail.proofs.expand.expand_rows.Goals as goal

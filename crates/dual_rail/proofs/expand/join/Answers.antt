@@ -1,5 +1,5 @@
 use Rattle.std.proofs.Common.{Result, Err, Ok, sym, ap}
-use Rattle.bdd_store.specs.declared.node.Node.{Node}
+use Rattle.dual_rail.proofs.Common.{Node}
 use Rattle.bdd_store.specs.declared.fault.StoreFault.{StoreFault}
 use Rattle.dual_rail.proofs.ExpansionLemmas.{IsExpansion-made, NewAreParts-choice, IsRefusedPart-choice}
 use Rattle.dual_rail.proofs.MemoLemmas.{IsMemo-kept, IsMemo-insert, on_ok}

@@ -1,8 +1,6 @@
 use Rattle.std.proofs.Common.{ap, ◌∙◌}
-use Rattle.bdd_store.specs.Subfunctions.{nodes}
+use Rattle.dual_rail.proofs.Common.{nodes, value, function}
 use Rattle.bdd_store.proofs.SubfunctionLemmas.{nodes-alike}
-use Rattle.cover_logic.specs.Covers.{value}
-use Rattle.dual_rail.specs.Local.{function}
 use Rattle.dual_rail.proofs.laws.sizes.Goals as goal
 
 pub returns : goal.returns

@@ -1,6 +1,5 @@
 use Rattle.std.proofs.Common.{◌≡◌, ◌<◌, ap, subst, ◌∙◌, arith}
-use Rattle.std.specs.List.{slice_index_or}
-use Rattle.bdd_store.specs.Arena.{Arena, top_of}
+use Rattle.dual_rail.proofs.Common.{slice_index_or, Arena, top_of}
 use Rattle.dual_rail.proofs.SurelyLemmas.{no_rails, HasBranches, IsFork-at}
 use Rattle.dual_rail.proofs.lifting.fork_at.Goals as goal
 

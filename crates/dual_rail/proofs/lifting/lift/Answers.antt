@@ -1,20 +1,10 @@
 use Rattle.std.proofs.Common.{◌≡◌, ◌+◌, ◌*◌, ◌≤◌, [], ◌∷◌, ◌++◌, length, sym, ap, ap₂, subst, ◌∙◌, arith}
-use Rattle.std.specs.List.{All}
-use Rattle.std.proofs.lemmas.List.{length_push}
+use Rattle.dual_rail.proofs.Common.{All, length_push, Node, Arena, den, IsLawful, KeepsNodes, BoundsEach, IsExtended, value, exact, Rails, values_of, AreRailsOf, function, IsLift, IsTable}
 use Rattle.bdd_ops.proofs.ChainLemmas.{pushed}
-use Rattle.bdd_store.specs.declared.node.Node.{Node}
-use Rattle.bdd_store.specs.Arena.{Arena, den}
-use Rattle.bdd_store.specs.Soundness.{IsLawful}
-use Rattle.bdd_store.specs.Growth.{KeepsNodes, GrowsWithin, NoOtherCause}
-use Rattle.dual_rail.specs.WorkingLists.{BoundsEach, IsExtended}
+use Rattle.bdd_store.specs.Growth.{GrowsWithin, NoOtherCause}
 use Rattle.bdd_store.proofs.NodeLemmas.{plain}
 use Rattle.bdd_store.proofs.GrowthLemmas.{nothing_grown, within_then, within_moved, within_more, within_refused, within_answered, within_memory}
-use Rattle.cover_logic.specs.Covers.{value}
-use Rattle.cover_logic.specs.Extensions.{exact}
-use Rattle.dual_rail.specs.declared.rail.Rails.{Rails}
-use Rattle.dual_rail.specs.Rails.{values_of, AreRailsOf}
-use Rattle.dual_rail.specs.Local.{function, local_size}
-use Rattle.dual_rail.specs.Lifts.{IsLift, IsTable}
+use Rattle.dual_rail.specs.Local.{local_size}
 use Rattle.dual_rail.proofs.SurelyLemmas.{All-rails-kept, IsLift-rails, IsLift-exact, values_of-kept, exact-alike, length-values}
 use Rattle.dual_rail.proofs.WidthLemmas.{BoundsEach-kept}
 use Rattle.dual_rail.proofs.TableLemmas.{base_rails, base-table, step-table, local-count}

@@ -1,8 +1,6 @@
 use Rattle.std.proofs.Common.{◌≡◌, ◌+◌, ◌*◌, ◌≤◌, length}
 use Rattle.bdd_store.proofs.GrowthLemmas.{HasGrown}
-use Rattle.dual_rail.specs.Local.{function}
-use Rattle.dual_rail.specs.Lifts.{IsTable}
-use Rattle.dual_rail.specs.WorkingLists.{BoundsEach, IsExtended}
+use Rattle.dual_rail.proofs.Common.{function, IsTable, BoundsEach, IsExtended}
 use Rattle.dual_rail.proofs.lifting.lift.Given as goal
 
 abbrev pub invariant-loop-position : goal.invariant-loop-position

@@ -1,13 +1,7 @@
 use Rattle.std.proofs.Common.{arith}
-use Rattle.std.specs.List.{All}
-use Rattle.bdd_store.specs.Arena.{den}
+use Rattle.dual_rail.proofs.Common.{All, den, selection, AreRailsOf, function, IsFork, BoundsEach, IsExtended}
 use Rattle.bdd_store.specs.Growth.{GrowsWithin, NoOtherCause}
 use Rattle.bdd_store.proofs.GrowthLemmas.{within_one, within_then, within_more, within_refused, within_answered}
-use Rattle.bdd_ops.specs.Operations.{selection}
-use Rattle.dual_rail.specs.Rails.{AreRailsOf}
-use Rattle.dual_rail.specs.Local.{function}
-use Rattle.dual_rail.specs.Lifts.{IsFork}
-use Rattle.dual_rail.specs.WorkingLists.{BoundsEach, IsExtended}
 use Rattle.dual_rail.proofs.SurelyLemmas.{All-rails-kept, IsSurely-made, IsSurely-kept}
 use Rattle.dual_rail.proofs.TableLemmas.{IsTable-kept}
 use Rattle.dual_rail.proofs.WidthLemmas.{one-nodes, zero-nodes, BoundsEach-kept}

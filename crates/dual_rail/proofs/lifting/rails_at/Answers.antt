@@ -1,7 +1,5 @@
 use Rattle.std.proofs.Common.{◌∙◌, sym, ap, subst, true}
-use Rattle.std.specs.List.{slice_index_or}
-use Rattle.bdd_store.specs.Arena.{den}
-use Rattle.dual_rail.specs.Lifts.{IsLift}
+use Rattle.dual_rail.proofs.Common.{slice_index_or, den, IsLift}
 use Rattle.dual_rail.proofs.SurelyLemmas.{no_rails}
 use Rattle.dual_rail.proofs.TableLemmas.{IsLift-at}
 use Rattle.dual_rail.proofs.lifting.rails_at.Goals as goal

@@ -1,5 +1,5 @@
 use Rattle.std.proofs.Common.{take}
-use Rattle.dual_rail.specs.Expansion.{MatchAlike}
+use Rattle.dual_rail.proofs.Common.{MatchAlike}
 use Rattle.dual_rail.proofs.live.widest.Given as goal
 
 abbrev pub invariant-loop-row : goal.invariant-loop-row

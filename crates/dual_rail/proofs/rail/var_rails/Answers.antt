@@ -1,5 +1,5 @@
 use Rattle.std.proofs.Common.{not, ap, sym, subst, ◌≤◌, arith}
-use Rattle.bdd_store.specs.Subfunctions.{nodes}
+use Rattle.dual_rail.proofs.Common.{nodes}
 use Rattle.bdd_store.specs.Growth.{Grows}
 use Rattle.bdd_store.proofs.SubfunctionLemmas.{nodes-alike}
 use Rattle.bdd_store.proofs.GrowthLemmas.{grows_refused, grows_answered, grows_more, grows_then}

@@ -1,5 +1,5 @@
 use Rattle.std.proofs.Common.{◌≡◌, map}
-use Rattle.loops.specs.Members.{block_of}
+use Rattle.loops.proofs.Common.{block_of}
 use Rattle.loops.proofs.blocks.blocks_of.Given as goal
 
 abbrev pub invariant-loop-members : goal.invariant-loop-members

@@ -1,9 +1,6 @@
 use Rattle.std.proofs.Common.{◌≡◌, ◌∙◌, ℕ, List, ap, map, subst, arith, sym, length}
-use Rattle.std.specs.List.{range_with_len}
-use Rattle.components.specs.Graphs.{AreComponentsOf}
-use Rattle.loops.specs.declared.structure.Block.{Block}
-use Rattle.loops.specs.Blocks.{AreBlocksOf}
-use Rattle.loops.specs.Members.{members, block_of}
+use Rattle.loops.proofs.Common.{range_with_len, AreComponentsOf, Block, AreBlocksOf, block_of}
+use Rattle.loops.specs.Members.{members}
 use Rattle.netlist.specs.Orders.{gate_graph}
 use Rattle.netlist.proofs.GraphLemmas.{length-gate_graph}
 use Rattle.loops.proofs.BlockLemmas.{are_blocks, lists_within}

@@ -1,5 +1,5 @@
 use Rattle.std.proofs.Common.{◌≡◌, map}
-use Rattle.std.specs.List.{range_with_len}
+use Rattle.loops.proofs.Common.{range_with_len}
 use Rattle.loops.specs.Members.{members_below}
 use Rattle.loops.proofs.blocks.grouped.Given as goal
 

@@ -1,10 +1,6 @@
 use Rattle.std.proofs.Common.{◌≡◌, ◌<◌, ◌↔◌, ◌+◌, ℕ, List, Bool, true, false, set, replicate, length, rules, arith, ap, sym, ◌∙◌, subst}
-use Rattle.std.proofs.lemmas.List.{length-replicate}
-use Rattle.loops.specs.declared.structure.Cut.{Cut}
-use Rattle.loops.specs.Keeping.{IsCutSearch}
-use Rattle.loops.specs.Links.{IsLoopPin}
+use Rattle.loops.proofs.Common.{length-replicate, Cut, IsCutSearch, IsLoopPin, Connects, IsFree}
 use Rattle.loops.specs.Looped.{Grouped}
-use Rattle.loops.specs.Searching.{Connects, IsFree}
 use Rattle.loops.proofs.CutLemmas.{AreCutsBelow, no_cuts, fresh_search, cut_from_below, cut_step}
 use Rattle.loops.proofs.cuts.find_cut.Goals as goal
 

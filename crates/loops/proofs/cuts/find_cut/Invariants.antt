@@ -1,5 +1,4 @@
-use Rattle.loops.specs.Keeping.{IsCutSearch}
-use Rattle.loops.specs.Links.{IsLoopPin}
+use Rattle.loops.proofs.Common.{IsCutSearch, IsLoopPin}
 use Rattle.loops.proofs.CutLemmas.{AreCutsBelow}
 use Rattle.loops.proofs.cuts.find_cut.Given as goal
 

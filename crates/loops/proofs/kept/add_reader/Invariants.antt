@@ -1,4 +1,4 @@
-use Rattle.loops.specs.Keeping.{HaveGainedPins}
+use Rattle.loops.proofs.Common.{HaveGainedPins}
 use Rattle.loops.proofs.kept.add_reader.Given as goal
 
 abbrev pub invariant-loop-pin : goal.invariant-loop-pin

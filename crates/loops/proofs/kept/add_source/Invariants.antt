@@ -1,4 +1,4 @@
-use Rattle.loops.specs.Keeping.{HaveGained}
+use Rattle.loops.proofs.Common.{HaveGained}
 use Rattle.loops.proofs.kept.add_source.Given as goal
 
 abbrev pub invariant-loop-reader : goal.invariant-loop-reader

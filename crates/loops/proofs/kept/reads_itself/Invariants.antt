@@ -1,6 +1,5 @@
 use Rattle.std.proofs.Common.{◌<◌, ℕ, get_or}
-use Rattle.cyc_base.specs.declared.sig.Sig.{Sig}
-use Rattle.netlist.specs.Netlists.{gate_at}
+use Rattle.loops.proofs.Common.{Sig, gate_at}
 use Rattle.loops.specs.Links.{IsLoopSource}
 use Rattle.loops.proofs.kept.reads_itself.Given as goal
 

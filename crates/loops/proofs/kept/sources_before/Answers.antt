@@ -1,9 +1,5 @@
 use Rattle.std.proofs.Common.{◌≡◌, ◌<◌, ◌+◌, ℕ, List, length, ap, sym, ◌∙◌, subst, arith, true≢false}
-use Rattle.netlist.specs.declared.parts.Gate.{Gate}
-use Rattle.netlist.specs.declared.parts.Parts.{Parts}
-use Rattle.netlist.specs.Netlists.{gate_at}
-use Rattle.loops.specs.Keeping.{AreSourcesBelow}
-use Rattle.loops.specs.Searching.{IsFree}
+use Rattle.loops.proofs.Common.{Gate, Parts, gate_at, AreSourcesBelow, IsFree}
 use Rattle.loops.proofs.KeptLemmas.{no_source, one_more_source, same_element, same_source}
 use Rattle.loops.proofs.kept.sources_before.Goals as goal
 use Rattle.loops.proofs.kept.sources_before.Goals.{in-Some+then-is_free+in_ok-push, in-Some+else-is_free, in_default}

@@ -1,4 +1,4 @@
-use Rattle.loops.specs.Keeping.{AreSourcesBelow}
+use Rattle.loops.proofs.Common.{AreSourcesBelow}
 use Rattle.loops.proofs.kept.sources_before.Given as goal
 
 abbrev pub invariant-loop-pin : goal.invariant-loop-pin

@@ -1,7 +1,6 @@
 -- A landmark that leads to a source of the gate leads on from it.
 use Rattle.std.proofs.Common.{◌≡◌, ℕ, List, [], length, arith, subst, ◌∙◌}
-use Rattle.std.proofs.lemmas.List.{get_or_default}
-use Rattle.loops.specs.Searching.{Meets, row_at}
+use Rattle.loops.proofs.Common.{get_or_default, Meets, row_at}
 use Rattle.loops.proofs.LandmarkLemmas.{gone_ahead}
 use Rattle.loops.proofs.landmarks.go_ahead.Goals as goal
 

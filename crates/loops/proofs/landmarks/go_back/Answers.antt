@@ -1,7 +1,6 @@
 -- A landmark to which a reader of the gate leads is reached from all that leads to the gate.
 use Rattle.std.proofs.Common.{◌≡◌, ℕ, List, [], length, arith, subst, ◌∙◌}
-use Rattle.std.proofs.lemmas.List.{get_or_default}
-use Rattle.loops.specs.Searching.{Meets, row_at}
+use Rattle.loops.proofs.Common.{get_or_default, Meets, row_at}
 use Rattle.loops.proofs.LandmarkLemmas.{gone_back}
 use Rattle.loops.proofs.landmarks.go_back.Goals as goal
 

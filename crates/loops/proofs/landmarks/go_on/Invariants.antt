@@ -1,5 +1,5 @@
 use Rattle.std.proofs.Common.{length}
-use Rattle.loops.specs.Landmarks.{AreLandmarks}
+use Rattle.loops.proofs.Common.{AreLandmarks}
 use Rattle.loops.proofs.landmarks.go_on.Given as goal
 
 abbrev pub invariant-loop-landmark : goal.invariant-loop-landmark

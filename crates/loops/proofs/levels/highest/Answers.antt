@@ -1,5 +1,5 @@
 use Rattle.std.proofs.Common.{arith, get_or}
-use Rattle.std.proofs.lemmas.List.Elements.{Contains-get_or}
+use Rattle.loops.proofs.Common.{Contains-get_or}
 use Rattle.loops.proofs.KeptLemmas.{highest_more}
 use Rattle.loops.proofs.levels.highest.Goals as goal
 

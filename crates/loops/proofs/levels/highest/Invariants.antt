@@ -1,5 +1,5 @@
 use Rattle.std.proofs.Common.{◌<◌, ◌≤◌, ℕ, get_or, Contains}
-use Rattle.loops.specs.Searching.{level_at}
+use Rattle.loops.proofs.Common.{level_at}
 use Rattle.loops.proofs.levels.highest.Given as goal
 
 abbrev pub invariant-loop-gate : goal.invariant-loop-gate

@@ -1,5 +1,5 @@
 use Rattle.std.proofs.Common.{◌+◌, ◌-◌, refl, arith}
-use Rattle.loops.specs.Searching.{level_at}
+use Rattle.loops.proofs.Common.{level_at}
 use Rattle.loops.proofs.KeptLemmas.{of_within}
 use Rattle.loops.proofs.levels.place.Goals as goal
 

@@ -1,4 +1,4 @@
-use Rattle.loops.specs.Placing.{ArePlacesRead}
+use Rattle.loops.proofs.Common.{ArePlacesRead}
 use Rattle.loops.proofs.orders.places_read.Given as goal
 
 abbrev pub invariant-loop-pin : goal.invariant-loop-pin

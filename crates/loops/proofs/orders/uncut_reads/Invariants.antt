@@ -1,4 +1,4 @@
-use Rattle.loops.specs.Placing.{AreUncutReads}
+use Rattle.loops.proofs.Common.{AreUncutReads}
 use Rattle.loops.proofs.orders.uncut_reads.Given as goal
 
 abbrev pub invariant-loop-gate : goal.invariant-loop-gate

@@ -1,5 +1,5 @@
 use Rattle.std.proofs.Common.{get_or, ap, sym, ◌∙◌, arith, true≢false}
-use Rattle.std.proofs.lemmas.List.{get_or_default}
+use Rattle.loops.proofs.Common.{get_or_default}
 use Rattle.loops.proofs.SearchLemmas.{follows_push, follows_skip, follows_same}
 use Rattle.loops.proofs.search.follow.Goals as goal
 use Rattle.loops.proofs.search.follow.Goals.{then-is_new+in_ok-push, else-is_new}

@@ -1,5 +1,5 @@
 use Rattle.std.proofs.Common.{◌<◌, ℕ, get_or}
-use Rattle.loops.specs.Searching.{IsMarked}
+use Rattle.loops.proofs.Common.{IsMarked}
 use Rattle.loops.proofs.search.meets.Given as goal
 
 abbrev pub invariant-loop-gate : goal.invariant-loop-gate

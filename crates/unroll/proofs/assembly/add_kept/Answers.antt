@@ -1,8 +1,5 @@
 use Rattle.std.proofs.Common.{◌++◌, ◌∷◌, [], map, ap, ap₂, sym, ◌∙◌}
-use Rattle.std.proofs.lemmas.List.{append_assoc, map-append}
-use Rattle.std.specs.List.{range_with_len}
-use Rattle.unroll.specs.Plans.{loops_in, net_of, sweeps_in}
-use Rattle.unroll.specs.Unrolled.{kept_gate}
+use Rattle.unroll.proofs.Common.{append_assoc, map-append, range_with_len, loops_in, net_of, sweeps_in, kept_gate}
 use Rattle.unroll.proofs.Counts.{looped_loops, looped_sweeps}
 use Rattle.unroll.proofs.Kept.{kept_same}
 use Rattle.unroll.proofs.SizeLemmas.{range_next}

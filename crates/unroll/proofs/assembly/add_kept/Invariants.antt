@@ -1,7 +1,5 @@
 use Rattle.std.proofs.Common.{◌≡◌, ◌++◌, map}
-use Rattle.std.specs.List.{range_with_len}
-use Rattle.unroll.specs.Plans.{loops_in, net_of, sweeps_in}
-use Rattle.unroll.specs.Unrolled.{kept_gate}
+use Rattle.unroll.proofs.Common.{range_with_len, loops_in, net_of, sweeps_in, kept_gate}
 use Rattle.unroll.proofs.assembly.add_kept.Given as goal
 
 abbrev pub invariant-loop-gate : goal.invariant-loop-gate

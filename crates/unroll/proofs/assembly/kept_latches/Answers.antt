@@ -1,5 +1,5 @@
 use Rattle.std.proofs.Common.{◌++◌, ◌∷◌, [], ap₂, sym, ◌∙◌}
-use Rattle.unroll.specs.Unrolled.{kept_latch}
+use Rattle.unroll.proofs.Common.{kept_latch}
 use Rattle.unroll.proofs.Kept.{taken_mapped}
 use Rattle.unroll.proofs.assembly.kept_latches.Goals as goal
 

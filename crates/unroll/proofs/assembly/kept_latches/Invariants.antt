@@ -1,5 +1,5 @@
 use Rattle.std.proofs.Common.{◌≡◌, map, take}
-use Rattle.unroll.specs.Unrolled.{kept_latch}
+use Rattle.unroll.proofs.Common.{kept_latch}
 use Rattle.unroll.proofs.assembly.kept_latches.Given as goal
 
 abbrev pub invariant-loop-number : goal.invariant-loop-number

@@ -1,6 +1,5 @@
 use Rattle.std.proofs.Common.{◌<◌, ◌++◌, ◌∷◌, [], length, ap₂, sym, ◌∙◌, arith}
-use Rattle.std.proofs.lemmas.List.{map_more}
-use Rattle.unroll.specs.Unrolled.{moved}
+use Rattle.unroll.proofs.Common.{map_more, moved}
 use Rattle.unroll.proofs.assembly.kept_outputs.Goals as goal
 
 pub loop-output-preserved : goal.loop-output-preserved

@@ -1,5 +1,5 @@
 use Rattle.std.proofs.Common.{◌≡◌, map, take}
-use Rattle.unroll.specs.Unrolled.{moved}
+use Rattle.unroll.proofs.Common.{moved}
 use Rattle.unroll.proofs.assembly.kept_outputs.Given as goal
 
 abbrev pub invariant-loop-output : goal.invariant-loop-output

@@ -1,9 +1,5 @@
 use Rattle.std.proofs.Common.{◌++◌, length, map, ap, subst, sym, ◌∙◌, List, ℕ}
-use Rattle.std.proofs.lemmas.List.{append_assoc}
-use Rattle.std.specs.List.{range_with_len}
-use Rattle.unroll.specs.Plans.{loops_in, net_of, sweeps_in}
-use Rattle.unroll.specs.Unrolled.{constants, copies, copy_gate, kept_gate}
-use Rattle.unroll.specs.Tables.{AreLastCopies}
+use Rattle.unroll.proofs.Common.{append_assoc, range_with_len, loops_in, net_of, sweeps_in, constants, copies, copy_gate, kept_gate, AreLastCopies}
 use Rattle.unroll.proofs.assembly.unrolled_gates.Goals as goal
 
 pub add_kept-requires : goal.add_kept-requires

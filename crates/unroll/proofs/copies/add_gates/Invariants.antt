@@ -1,6 +1,5 @@
 use Rattle.std.proofs.Common.{◌≡◌, ◌++◌, map, take}
-use Rattle.unroll.specs.Plans.{loops_in, net_of}
-use Rattle.unroll.specs.Tables.{copy_gate_by}
+use Rattle.unroll.proofs.Common.{loops_in, net_of, copy_gate_by}
 use Rattle.unroll.proofs.copies.add_gates.Given as goal
 
 abbrev pub invariant-loop-gate : goal.invariant-loop-gate

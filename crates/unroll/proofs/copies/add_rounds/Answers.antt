@@ -1,8 +1,6 @@
 use Rattle.std.proofs.Common.{◌≡◌, ◌<◌, ◌≤◌, ◌++◌, ℕ, suc, List, length, map, All, ap, sym, ◌∙◌, subst, arith}
 use Rattle.std.proofs.lemmas.List.{length-replicate}
-use Rattle.loops.specs.Sweeps.{first_gate}
-use Rattle.unroll.specs.Plans.{loops_in, net_of, sweeps_in}
-use Rattle.unroll.specs.Unrolled.{most, constants, copies_upto, copy_gate}
+use Rattle.unroll.proofs.Common.{first_gate, loops_in, net_of, sweeps_in, most, constants, copies_upto, copy_gate}
 use Rattle.unroll.proofs.Places.{copied_within}
 use Rattle.unroll.proofs.Rounds.{none_made, none_entered, all_entered, round_fits, made_next}
 use Rattle.unroll.proofs.Counts.{looped_loops, looped_sweeps}

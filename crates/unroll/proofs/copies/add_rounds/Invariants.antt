@@ -1,4 +1,4 @@
-use Rattle.unroll.specs.Plans.{loops_in, net_of, sweeps_in}
+use Rattle.unroll.proofs.Common.{loops_in, net_of, sweeps_in}
 use Rattle.unroll.specs.Tables.{AreMade}
 use Rattle.unroll.proofs.copies.add_rounds.Given as goal
 

@@ -1,8 +1,5 @@
 use Rattle.std.proofs.Common.{◌≡◌, ◌<◌, ℕ, List, length, All, ap, sym, ◌∙◌, subst, arith}
-use Rattle.std.proofs.lemmas.List.FromFn.{get_or-range_with_len, length-range_with_len}
-use Rattle.std.specs.List.{range_with_len}
-use Rattle.netlist.specs.declared.parts.Parts.{Parts}
-use Rattle.unroll.specs.Plans.{net_of}
+use Rattle.unroll.proofs.Common.{get_or-range_with_len, length-range_with_len, range_with_len, Parts, net_of}
 use Rattle.unroll.proofs.copies.copied_gates.Goals as goal
 
 range_within : (n : ℕ) (xs : List ℕ) → xs ≡ range_with_len 0 n → All (λ k. k < n) xs

@@ -1,5 +1,5 @@
 use Rattle.std.proofs.Common.{◌≡◌, ◌+◌, length, take}
-use Rattle.unroll.specs.Tables.{entered}
+use Rattle.unroll.proofs.Common.{entered}
 use Rattle.unroll.proofs.copies.enter.Given as goal
 
 abbrev pub invariant-loop-gate : goal.invariant-loop-gate

@@ -3,8 +3,7 @@ use Rattle.std.proofs.Common.{◌≡◌, ◌+◌, ◌<◌, ◌++◌, ◌∷◌, 
 use Rattle.std.proofs.lemmas.Bool.{lt-ltb, le-ltb}
 use Rattle.std.proofs.lemmas.List.{append-nil}
 use Rattle.std.proofs.lemmas.List.Elements.{filter_more}
-use Rattle.unroll.specs.Plans.{loops_in, sweeps_in}
-use Rattle.unroll.specs.Unrolled.{copies_of}
+use Rattle.unroll.proofs.Common.{loops_in, sweeps_in, copies_of}
 use Rattle.unroll.proofs.copies.with_more_copies.Goals as goal
 use Rattle.unroll.proofs.copies.with_more_copies.Goals.{then-copies_of-number+in_ok-push, else-copies_of-number}
 

@@ -1,6 +1,5 @@
 use Rattle.std.proofs.Common.{◌≡◌, filter, nat_lt, take}
-use Rattle.unroll.specs.Plans.{loops_in, sweeps_in}
-use Rattle.unroll.specs.Unrolled.{copies_of}
+use Rattle.unroll.proofs.Common.{loops_in, sweeps_in, copies_of}
 use Rattle.unroll.proofs.copies.with_more_copies.Given as goal
 
 abbrev pub invariant-loop-gate : goal.invariant-loop-gate

@@ -1,6 +1,5 @@
 use Rattle.std.proofs.Common.{◌≡◌, take}
-use Rattle.tildes.specs.Runs.{longest_run_of}
-use Rattle.netlist.specs.Netlists.{signal_names}
+use Rattle.unroll.proofs.Common.{longest_run_of, signal_names}
 use Rattle.unroll.proofs.names.longest_run_in_signals.Given as goal
 
 abbrev pub invariant-loop-number : goal.invariant-loop-number

@@ -1,7 +1,5 @@
 use Rattle.std.proofs.Common.{◌<◌, ◌++◌, ◌∷◌, [], length, ap₂, sym, ◌∙◌, arith}
-use Rattle.std.proofs.lemmas.List.{map_more}
-use Rattle.unroll.specs.Plans.{loops_in, net_of}
-use Rattle.unroll.specs.Tables.{copy_pin_by}
+use Rattle.unroll.proofs.Common.{map_more, loops_in, net_of, copy_pin_by}
 use Rattle.unroll.proofs.pins.copy_pins.Goals as goal
 
 pub loop-pin-preserved : goal.loop-pin-preserved

@@ -1,6 +1,5 @@
 use Rattle.std.proofs.Common.{◌≡◌, take, map}
-use Rattle.unroll.specs.Plans.{loops_in, net_of}
-use Rattle.unroll.specs.Tables.{copy_pin_by}
+use Rattle.unroll.proofs.Common.{loops_in, net_of, copy_pin_by}
 use Rattle.unroll.proofs.pins.copy_pins.Given as goal
 
 abbrev pub invariant-loop-pin : goal.invariant-loop-pin

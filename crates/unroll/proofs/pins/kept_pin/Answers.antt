@@ -1,10 +1,6 @@
 use Rattle.std.proofs.Common.{ap, sym, ◌∙◌}
-use Rattle.netlist.specs.declared.parts.Parts.{Parts}
-use Rattle.loops.specs.Sweeps.{gate_of, in_loop_of}
+use Rattle.unroll.proofs.Common.{Parts, gate_of, in_loop_of, loops_in, net_of, at_table, moved}
 use Rattle.loops.proofs.LoopedLemmas.{cut_is_told}
-use Rattle.unroll.specs.Plans.{loops_in, net_of}
-use Rattle.unroll.specs.Tables.{at_table}
-use Rattle.unroll.specs.Unrolled.{moved}
 use Rattle.unroll.proofs.PinLemmas.{source_by_blocks, some_if, none_if}
 use Rattle.unroll.proofs.pins.kept_pin.Goals as goal
 use Rattle.unroll.proofs.pins.kept_pin.Goals.{in_default-via-in-Some+else-is_cut, in_default-via-in_default}

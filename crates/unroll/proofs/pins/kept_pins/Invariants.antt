@@ -1,6 +1,5 @@
 use Rattle.std.proofs.Common.{◌≡◌, take, map}
-use Rattle.unroll.specs.Plans.{loops_in, net_of}
-use Rattle.unroll.specs.Tables.{kept_pin_by}
+use Rattle.unroll.proofs.Common.{loops_in, net_of, kept_pin_by}
 use Rattle.unroll.proofs.pins.kept_pins.Given as goal
 
 abbrev pub invariant-loop-pin : goal.invariant-loop-pin

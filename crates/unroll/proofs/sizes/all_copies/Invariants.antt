@@ -1,7 +1,5 @@
 use Rattle.std.proofs.Common.{◌≡◌, ◌≤◌, ◌*◌}
-use Rattle.std.specs.List.{range_with_len, sum_by}
-use Rattle.loops.specs.Cuts.{in_one_loop}
-use Rattle.unroll.specs.Unrolled.{copies_of, sweeps_of}
+use Rattle.unroll.proofs.Common.{range_with_len, sum_by, in_one_loop, copies_of, sweeps_of}
 use Rattle.unroll.proofs.sizes.all_copies.Given as goal
 
 abbrev pub invariant-loop-gate : goal.invariant-loop-gate

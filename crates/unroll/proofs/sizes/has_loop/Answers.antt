@@ -1,5 +1,5 @@
 use Rattle.std.proofs.Common.{rules, ◌≡◌, length, true, sym}
-use Rattle.loops.specs.Cuts.{in_one_loop}
+use Rattle.unroll.proofs.Common.{in_one_loop}
 use Rattle.unroll.proofs.SizeLemmas.{one_in_range}
 use Rattle.unroll.proofs.sizes.has_loop.Goals as goal
 

@@ -1,5 +1,5 @@
 use Rattle.std.proofs.Common.{◌≡◌, ℕ, ◌<◌, false}
-use Rattle.loops.specs.Cuts.{in_one_loop}
+use Rattle.unroll.proofs.Common.{in_one_loop}
 use Rattle.unroll.proofs.sizes.has_loop.Given as goal
 
 abbrev pub invariant-loop-gate : goal.invariant-loop-gate

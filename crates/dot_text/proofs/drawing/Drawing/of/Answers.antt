@@ -1,12 +1,9 @@
 use Rattle.std.proofs.Common.{◌<◌, ◌≤◌, ℕ, All, Bool, List, filter, length, ap, sym, subst, ◌∙◌}
 use Rattle.std.proofs.lemmas.List.Elements.{All-get_or}
 use Rattle.std.specs.Prelude.{◌||◌, slice_index}
-use Rattle.cyc_base.specs.declared.trit.Trit.{Trit}
+use Rattle.dot_text.proofs.Common.{Trit, is_marked, loops_of, Parts}
 use Rattle.cyc_base.specs.Values.{bits}
-use Rattle.isolation.specs.Cones.{is_marked}
-use Rattle.loops.specs.Found.{loops_of}
 use Rattle.loops.specs.Listed.{gate_numbers}
-use Rattle.netlist.specs.declared.parts.Parts.{Parts}
 use Rattle.netlist.specs.Fixpoint.{fix}
 use Rattle.netlist.specs.Netlists.{count}
 use Rattle.dot_text.specs.ExplanationGraphs.{picture_of}

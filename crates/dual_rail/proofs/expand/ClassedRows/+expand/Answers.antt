@@ -1,7 +1,7 @@
 use Rattle.std.proofs.Common.{◌<◌, ◌+◌, ℕ, sym, subst, ◌∙◌, arith}
-use Rattle.bdd_store.specs.Subfunctions.{IsPart}
+use Rattle.dual_rail.proofs.Common.{IsPart, remainder, narrowed}
 use Rattle.bdd_store.proofs.GrowthLemmas.{KeepsNodes-chain, NewAreParts-chain, NewAreParts-part, IsRefusedPart-part}
-use Rattle.dual_rail.specs.Expansion.{remainder, narrowed, AreBranches}
+use Rattle.dual_rail.specs.Expansion.{AreBranches}
 use Rattle.dual_rail.proofs.ExpansionLemmas.{IsExpansion-kept}
 use Rattle.dual_rail.proofs.LiveLemmas.{IsPart-next, IsExpansion-next}
 use Rattle.dual_rail.proofs.MemoLemmas.{IsMemo-found}

@@ -1,5 +1,5 @@
 use Rattle.std.proofs.Common.{length}
-use Rattle.std.specs.List.{range_with_len}
+use Rattle.dual_rail.proofs.Common.{range_with_len}
 use Rattle.dual_rail.proofs.ClassLemmas.{MatchAlike-classes}
 use Rattle.dual_rail.proofs.LiveLemmas.{MatchAlike-of}
 use Rattle.dual_rail.proofs.live.Live.at_first.Goals as goal

@@ -1,5 +1,5 @@
 use Rattle.std.proofs.Common.{◌+◌}
-use Rattle.dual_rail.specs.Expansion.{narrowed}
+use Rattle.dual_rail.proofs.Common.{narrowed}
 use Rattle.dual_rail.proofs.ClassLemmas.{MatchAlike-classes}
 use Rattle.dual_rail.proofs.LiveLemmas.{MatchAlike-of}
 use Rattle.dual_rail.proofs.live.Live.narrowed.Goals as goal

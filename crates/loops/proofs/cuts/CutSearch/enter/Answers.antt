@@ -1,11 +1,8 @@
 -- A gate closes a walk, or is entered between what it reads and what reads it.
 use Rattle.std.proofs.Common.{◌≡◌, ◌↔◌, ◌<◌, ◌+◌, ℕ, Bool, true, false, List, length, set, get_or, refl, ap, inl, arith, subst, sym, ◌∙◌, true≢false}
-use Rattle.std.proofs.lemmas.List.{get_or-set_same, length-set}
-use Rattle.loops.specs.Keeping.{HasParted, HaveGained, HaveGainedPins, IsKept, IsPlaced}
-use Rattle.loops.specs.Landmarks.{Passes, ReadsBack}
-use Rattle.loops.specs.Links.{IsLoopPin}
-use Rattle.loops.specs.Searching.{InRow, IsFree, IsReady, row_at}
-use Rattle.netlist.specs.Netlists.{gate_at}
+use Rattle.loops.proofs.Common.{get_or-set_same, length-set, HasParted, HaveGained, HaveGainedPins, IsKept, ReadsBack, IsLoopPin, InRow, IsFree, IsReady, row_at, gate_at}
+use Rattle.loops.specs.Keeping.{IsPlaced}
+use Rattle.loops.specs.Landmarks.{Passes}
 use Rattle.loops.proofs.CutLemmas.{closes, entered, found_free, left_out, parted, reads_back, row_laid, rows_as, stays_open}
 use Rattle.loops.proofs.KeptLemmas.{gained_rows, kept_links, landmarks_as, own_row, ready_as}
 use Rattle.loops.proofs.LandmarkLemmas.{landmark_kept, passed_meet}

@@ -1,12 +1,10 @@
 -- What one search has found is moved past the levels of the other row.
 use Rattle.std.proofs.Common.{◌≡◌, ◌<◌, ◌+◌, ◌-◌, inl, inr, false, ℕ, List, [], length, ap, arith, subst, sym, ◌∙◌, Contains}
-use Rattle.std.proofs.lemmas.List.{get_or_default, with_items_is}
+use Rattle.loops.proofs.Common.{get_or_default, with_items_is, AtMost, AtLeast, HasParted, row_at}
 use Rattle.std.specs.List.{All}
 use Rattle.std.specs.Vec.{with_items}
 use Rattle.loops.specs.declared.cuts.Outcome.{Outcome}
-use Rattle.loops.specs.declared.search.Limit.TheVariants.{AtMost, AtLeast}
-use Rattle.loops.specs.Keeping.{AreNear, HasEnded, HasOutcome, HasParted, IsLowered, IsNear, IsRaised}
-use Rattle.loops.specs.Searching.{row_at}
+use Rattle.loops.specs.Keeping.{AreNear, HasEnded, HasOutcome, IsLowered, IsNear, IsRaised}
 use Rattle.loops.proofs.CutLemmas.{high_is_near, low_is_near, rows_as}
 use Rattle.loops.proofs.KeptLemmas.{row_within, within_of}
 use Rattle.loops.proofs.cuts.SearchPair.part.Goals as goal

@@ -1,7 +1,7 @@
 -- Two searches in step meet, or one has found all and none of the other's row.
 use Rattle.std.proofs.Common.{◌≡◌, ℕ, List, subst, sym, arith, Contains}
-use Rattle.loops.specs.declared.search.Limit.TheVariants.{AtMost, AtLeast}
-use Rattle.loops.specs.Searching.{GoesOn, IsMarked, Meets, row_at}
+use Rattle.loops.proofs.Common.{AtMost, AtLeast, IsMarked, Meets, row_at}
+use Rattle.loops.specs.Searching.{GoesOn}
 use Rattle.loops.proofs.KeptLemmas.{row_read}
 use Rattle.loops.proofs.SearchLemmas.{ended_by, goes_by, meets_begun, stays_apart}
 use Rattle.loops.proofs.cuts.SearchPair.run.Goals as goal

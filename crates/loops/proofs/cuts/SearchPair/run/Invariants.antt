@@ -1,6 +1,6 @@
 use Rattle.std.proofs.Common.{ℕ, Contains}
-use Rattle.loops.specs.declared.search.Limit.TheVariants.{AtMost, AtLeast}
-use Rattle.loops.specs.Searching.{InRow, IsSearching, work_left}
+use Rattle.loops.proofs.Common.{AtMost, AtLeast, InRow, work_left}
+use Rattle.loops.specs.Searching.{IsSearching}
 use Rattle.loops.proofs.cuts.SearchPair.run.Given as goal
 
 abbrev pub invariant-loop-met : goal.invariant-loop-met

@@ -1,6 +1,6 @@
 -- The gate that is chosen is one that the search has found.
 use Rattle.std.proofs.Common.{◌≡◌, ◌<◌, ℕ, length, get_or, sym, arith}
-use Rattle.std.proofs.lemmas.List.{get_or_read}
+use Rattle.loops.proofs.Common.{get_or_read}
 use Rattle.loops.proofs.landmarks.Landmarks.learn.Goals as goal
 
 pub landmark_at-requires-clause-gate : goal.landmark_at-requires-clause-gate

@@ -1,9 +1,9 @@
 -- A landmark replaces another one, or is added.
 use Rattle.std.proofs.Common.{List, ap, sym, ◌∙◌, subst}
 use Rattle.std.proofs.lemmas.List.Elements.{All-push, All-set}
-use Rattle.loops.specs.declared.landmarks.Landmark.{Landmark}
+use Rattle.loops.proofs.Common.{Landmark, AreLandmarks}
 use Rattle.loops.specs.declared.landmarks.Landmarks.{Landmarks}
-use Rattle.loops.specs.Landmarks.{AreLandmarks, IsLandmark}
+use Rattle.loops.specs.Landmarks.{IsLandmark}
 use Rattle.loops.proofs.landmarks.Landmarks.put.Goals as goal
 use Rattle.loops.proofs.landmarks.Landmarks.put.Goals.{then-self-len, else-self-len+in_ok-push}
 

@@ -1,6 +1,5 @@
 use Rattle.std.proofs.Common.{ap, ◌∙◌}
-use Rattle.loops.specs.Found.{loops_of}
-use Rattle.loops.specs.Looped.{Looped}
+use Rattle.loops.proofs.Common.{loops_of, Looped}
 use Rattle.loops.proofs.LoopedLemmas.{one_loop_is_told}
 use Rattle.loops.proofs.looped_netlist.LoopedNetlist.are_in_one_loop.Goals as goal
 

@@ -1,6 +1,5 @@
 use Rattle.std.proofs.Common.{◌≡◌, ap, sym, ◌∙◌}
-use Rattle.loops.specs.Blocks.{block_at, home_of}
-use Rattle.loops.specs.Listed.{begins_with}
+use Rattle.loops.proofs.Common.{block_at, home_of, begins_with}
 use Rattle.loops.specs.Looped.{Grouped}
 use Rattle.loops.proofs.ListedLemmas.{begins_in_loop, begins_no_loop}
 use Rattle.loops.proofs.looped_netlist.LoopedNetlist.begins_loop.Goals as goal

@@ -1,5 +1,5 @@
 use Rattle.std.proofs.Common.{◌+◌, sym, ap₂, ◌∙◌, arith, subst, ◌≤◌}
-use Rattle.loops.specs.Listed.{loop_of, begins_with}
+use Rattle.loops.proofs.Common.{loop_of, begins_with}
 use Rattle.loops.proofs.ListedLemmas.{counted_more, at_most_one}
 use Rattle.loops.proofs.looped_netlist.LoopedNetlist.count.Goals as goal
 

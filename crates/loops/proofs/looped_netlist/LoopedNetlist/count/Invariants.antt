@@ -1,6 +1,5 @@
 use Rattle.std.proofs.Common.{◌≡◌, ◌≤◌, length, filter}
-use Rattle.std.specs.List.{range_with_len}
-use Rattle.loops.specs.Listed.{loop_of, begins_with}
+use Rattle.loops.proofs.Common.{range_with_len, loop_of, begins_with}
 use Rattle.loops.proofs.looped_netlist.LoopedNetlist.count.Given as goal
 
 -- the loops that begin before this gate

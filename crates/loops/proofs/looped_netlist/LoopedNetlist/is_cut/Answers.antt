@@ -1,6 +1,5 @@
 use Rattle.std.proofs.Common.{Bool, false, List, ap, ◌∙◌, slice_index_or}
-use Rattle.loops.specs.Found.{loops_of}
-use Rattle.loops.specs.Looped.{Looped}
+use Rattle.loops.proofs.Common.{loops_of, Looped}
 use Rattle.loops.proofs.LoopedLemmas.{cut_is_told}
 use Rattle.loops.proofs.looped_netlist.LoopedNetlist.is_cut.Goals as goal
 

@@ -1,5 +1,5 @@
 use Rattle.std.proofs.Common.{◌<◌, ◌≤◌, length, refl, ap, ◌∙◌, arith}
-use Rattle.netlist.specs.declared.parts.Parts.{Parts}
+use Rattle.loops.proofs.Common.{Parts}
 use Rattle.loops.proofs.ListLemmas.{gate_begins, gate_passes, gates_end}
 use Rattle.loops.proofs.looped_netlist.LoopedNetlist.loop_after.Goals as goal
 

@@ -1,6 +1,5 @@
 use Rattle.std.proofs.Common.{◌≡◌, ℕ, List, get_or, ap, sym, ◌∙◌}
-use Rattle.loops.specs.declared.structure.Blocks.{Blocks}
-use Rattle.loops.specs.Blocks.{block_at}
+use Rattle.loops.proofs.Common.{Blocks, block_at}
 use Rattle.loops.proofs.OrderLemmas.{block_gates, gates_differ, gates_order, gates_rise, gates_within}
 use Rattle.loops.proofs.looped_netlist.LoopedNetlist.order_of_block.Goals as goal
 

@@ -1,7 +1,6 @@
 -- A gate that is passed shows that both searches meet, or leaves this one underway.
 use Rattle.std.proofs.Common.{◌≡◌, ◌<◌, ℕ, List, length, get_or, refl, arith, sym, subst, Contains}
-use Rattle.std.proofs.lemmas.List.{get_or_read, with_items_is}
-use Rattle.loops.specs.Searching.{Meets, row_at}
+use Rattle.loops.proofs.Common.{get_or_read, with_items_is, Meets, row_at}
 use Rattle.loops.proofs.KeptLemmas.{row_read, row_within}
 use Rattle.loops.proofs.SearchLemmas.{follows_from, found_within, goes_on, meets_at}
 use Rattle.loops.proofs.search.Search.advance.Goals as goal

@@ -1,10 +1,7 @@
 -- A gate that is passed leaves the search at gates that the first one reaches.
 use Rattle.std.proofs.Common.{◌≡◌, ◌<◌, ◌+◌, ◌++◌, ℕ, List, [], ◌∷◌, length, get_or, set, refl, ap, arith, sym, ◌∙◌}
-use Rattle.std.proofs.lemmas.List.{get_or_read, length-set, with_items_is}
+use Rattle.loops.proofs.Common.{get_or_read, length-set, with_items_is, Search, AtLeast, row_at}
 use Rattle.std.specs.Vec.{with_items}
-use Rattle.loops.specs.declared.search.Search.{Search}
-use Rattle.loops.specs.declared.search.Limit.TheVariants.{AtLeast}
-use Rattle.loops.specs.Searching.{row_at}
 use Rattle.loops.proofs.KeptLemmas.{row_read, row_within, of_within}
 use Rattle.loops.proofs.SearchLemmas.{follows_from, spread_begun, spread_done, spread_less, spread_on}
 use Rattle.loops.proofs.search.Search.spread.Goals as goal

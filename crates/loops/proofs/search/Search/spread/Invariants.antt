@@ -1,5 +1,5 @@
 use Rattle.std.proofs.Common.{length}
-use Rattle.loops.specs.Searching.{work_left}
+use Rattle.loops.proofs.Common.{work_left}
 use Rattle.loops.proofs.SearchLemmas.{IsSpreading}
 use Rattle.loops.proofs.search.Search.spread.Given as goal
 

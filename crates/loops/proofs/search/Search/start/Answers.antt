@@ -1,7 +1,5 @@
 use Rattle.std.proofs.Common.{◌≡◌, [], length, refl, arith}
-use Rattle.std.proofs.lemmas.List.{with_items_is}
-use Rattle.loops.specs.declared.search.Limit.TheVariants.{AtLeast}
-use Rattle.loops.specs.Searching.{row_at}
+use Rattle.loops.proofs.Common.{with_items_is, AtLeast, row_at}
 use Rattle.loops.proofs.KeptLemmas.{row_read}
 use Rattle.loops.proofs.SearchLemmas.{begun, begun_first, follows_from}
 use Rattle.loops.proofs.search.Search.start.Goals as goal

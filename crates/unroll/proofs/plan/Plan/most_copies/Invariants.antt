@@ -1,6 +1,5 @@
 use Rattle.std.proofs.Common.{◌≡◌}
-use Rattle.unroll.specs.Plans.{loops_in, sweeps_in}
-use Rattle.unroll.specs.Unrolled.{most}
+use Rattle.unroll.proofs.Common.{loops_in, sweeps_in, most}
 use Rattle.unroll.proofs.plan.Plan.most_copies.Given as goal
 
 abbrev pub invariant-loop-gate : goal.invariant-loop-gate
