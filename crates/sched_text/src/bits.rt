@@ -76,23 +76,13 @@ fn check_start(line: u64, net: &Netlist, bits: &[bool]) -> Result<(), SchedFault
 }
 
 // A line of so many bits.
-fn read_width(alloc: Global, width: usize, line: &PieceLine<'_>) -> Result<Bits, SchedFault>
+pub fn read_width(alloc: Global, width: u32, line: &PieceLine<'_>) -> Result<Bits, SchedFault>
     ensures { let bits = bits_of (arguments line.now.words) in
         Reads result (if are_bits (arguments line.now.words) then width_fault line.now.number width bits else Some (SchedFault.BadLine line.now.number)) bits }
 {
     let bits = read_bits(alloc, line)?;
-    check_width(line.number(), width, &bits)?;
+    check_width(line.number(), width as usize, &bits)?;
     Ok(bits)
-}
-
-pub fn read_past(
-    alloc: Global,
-    net: &Netlist,
-    line: &PieceLine<'_>,
-) -> Result<Statement, SchedFault>
-    ensures { Reads result (fault_of_words net.now 0 kinds.Past line.now.number 0 (arguments line.now.words)) (statement_of net.now kinds.Past line.now.number (arguments line.now.words)) }
-{
-    Ok(Statement::Past(read_width(alloc, net.count() as usize, line)?))
 }
 
 pub fn read_latches(
@@ -102,27 +92,7 @@ pub fn read_latches(
 ) -> Result<Statement, SchedFault>
     ensures { Reads result (fault_of_words net.now 0 kinds.Latches line.now.number 0 (arguments line.now.words)) (statement_of net.now kinds.Latches line.now.number (arguments line.now.words)) }
 {
-    let bits = read_width(alloc, net.latches() as usize, line)?;
+    let bits = read_width(alloc, net.latches(), line)?;
     check_start(line.number(), net, bits.items())?;
     Ok(Statement::Latches(bits))
-}
-
-pub fn read_state(
-    alloc: Global,
-    net: &Netlist,
-    line: &PieceLine<'_>,
-) -> Result<Statement, SchedFault>
-    ensures { Reads result (fault_of_words net.now 0 kinds.State line.now.number 0 (arguments line.now.words)) (statement_of net.now kinds.State line.now.number (arguments line.now.words)) }
-{
-    Ok(Statement::State(read_width(alloc, net.latches() as usize, line)?))
-}
-
-pub fn read_gates(
-    alloc: Global,
-    net: &Netlist,
-    line: &PieceLine<'_>,
-) -> Result<Statement, SchedFault>
-    ensures { Reads result (fault_of_words net.now 0 kinds.Gates line.now.number 0 (arguments line.now.words)) (statement_of net.now kinds.Gates line.now.number (arguments line.now.words)) }
-{
-    Ok(Statement::Gates(read_width(alloc, net.gates() as usize, line)?))
 }

@@ -6,7 +6,7 @@ ghost use Rattle.sched_text.specs.Kinds.{kind as kind_of_line, lacks_lines as la
 ghost use Rattle.sched_text.specs.LineFaults.{arguments, fault_of_words, fault_at};
 ghost use Rattle.sched_text.specs.Statements.{statement_of, statement};
 
-use crate::bits::{read_gates, read_latches, read_past, read_state};
+use crate::bits::{read_latches, read_width};
 use crate::events::read_event;
 use crate::fault::SchedFault;
 use crate::kind::{Kind, lacks_lines, may_follow};
@@ -77,10 +77,10 @@ impl<'a> LineReader<'a> {
         match kind {
             Kind::FormatOne | Kind::FormatTwo => Ok(Statement::Format),
             Kind::Window => read_window(self.net, line),
-            Kind::Past => read_past(alloc, self.net, line),
+            Kind::Past => Ok(Statement::Past(read_width(alloc, self.net.count(), line)?)),
             Kind::Latches => read_latches(alloc, self.net, line),
-            Kind::State => read_state(alloc, self.net, line),
-            Kind::Gates => read_gates(alloc, self.net, line),
+            Kind::State => Ok(Statement::State(read_width(alloc, self.net.latches(), line)?)),
+            Kind::Gates => Ok(Statement::Gates(read_width(alloc, self.net.gates(), line)?)),
             Kind::Tick => self.read_tick(begun, line),
             Kind::Round => read_round(self.net, line),
             Kind::Event => read_event(alloc, self.net, line),
