@@ -7,6 +7,7 @@ use Rattle.std.proofs.lemmas.Map.Steps.{length-le_from_distinct_below}
 use Rattle.std.proofs.lemmas.List.{length-map, get_or_append_left, get_or-map}
 use Rattle.std.proofs.lemmas.List.FromFn.{get_or-enumerate_from}
 use Rattle.std.proofs.lemmas.Option.{slice_get_within, get_or_from_slice_get}
+use Rattle.cyc_base.proofs.ListLemmas.{item_at}
 use Rattle.cyc_base.specs.declared.sig.Sig.{Sig}
 use Rattle.std.specs.Prelude.{codes}
 use Rattle.aig_core.specs.declared.edge.And.{And}
@@ -22,9 +23,6 @@ pub numbered : {X : Type 0} (xs : List X) (i : ℕ) (x : X) → i < length xs �
 numbered {X} xs i x l is =
     let zeroth : i ≡ 0 + i = omega arith in
     (λ j. (zeroth j, is j)) ∙ sym (get_or-enumerate_from 0 xs i (i, x) l)
-
-pub item_at : {X : Type 0} (xs : List X) (i : ℕ) (x : X) → slice_get xs i ≡ Some x → x ≡ get_or xs i x
-item_at {X} xs i x e = sym (get_or_from_slice_get xs i x x e)
 
 -- the name of an input
 pub input_name : (net : Parts) (i : ℕ) (name : List ℕ) → i < length net.inputs → slice_get (signal_names net) i ≡ Some name → name ≡ get_or net.inputs i name

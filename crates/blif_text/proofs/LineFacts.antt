@@ -127,7 +127,7 @@ logical_names : (joins : Bool) (whole : List (List ℕ)) → All IsCleanLine who
 logical_names joins whole each = All-filter has_words HasNames (map in_words (joined joins 1 whole)) (names_in_words (joined joins 1 whole) (clean_joined joins 1 whole each))
 
 -- Where there are lines there is no bad byte.
-found_is : (bad : Option ℕ) (all found : List Line) → unless_bad bad all ≡ Ok found → (bad ≡ None) × (all ≡ found)
+pub found_is : (bad : Option ℕ) (all found : List Line) → unless_bad bad all ≡ Ok found → (bad ≡ None) × (all ≡ found)
 found_is (Some n) all found is = absurd (cc is)
 found_is None all found is = (refl, cc is)
 

@@ -1,9 +1,10 @@
 -- A schedule whose lines have no fault fits the netlist and the number of ticks.
-use Rattle.std.proofs.Common.{◌≡◌, ◌≤◌, ◌<◌, ℕ, ◌+◌, Bool, true, false, not, cond, List, [], ◌∷◌, ◌++◌, All, length, map, Some, None, Ok, refl, sym, ap, ap₂, subst, ◌∙◌, arith, eqb-true}
-use Rattle.sched_text.proofs.Common.{Option, if◌then◌else◌, is_some, unwrap_or, option_map, option_or, nat_tests, length-map, All-nil, sum_by-cons, Latch, Parts, PlannedEvent, RoundPlan, Schedule, Line, SchedFault, BadLine, WrongWidth, kind, is_tick, lacks_lines, arguments, bits_of, permits, first_refused, nearest, begins_tick, ticks_begun, is_cut_off, fault_at, fault_at_end, first_fault, statement, schedule, Draft, new_draft, follow, ended, IsOfGates, AreOfGates, FitsNetlist}
+use Rattle.std.proofs.Common.{◌≡◌, ◌≤◌, ◌<◌, ℕ, ◌+◌, Bool, true, false, not, cond, List, [], ◌∷◌, ◌++◌, All, length, map, Some, None, Ok, refl, sym, ap, ap₂, subst, ◌∙◌, arith, eqb-true, true≢false}
+use Rattle.sched_text.proofs.Common.{Option, if◌then◌else◌, is_some, unwrap_or, option_map, option_or, nat_tests, length-map, All-nil, sum_by-cons, Latch, Parts, PlannedEvent, RoundPlan, Schedule, Line, SchedFault, BadLine, WrongWidth, kind, is_tick, lacks_lines, arguments, bits_of, permits, first_refused, nearest, begins_tick, ticks_begun, is_cut_off, fault_at_end, first_fault, statement, schedule, Draft, new_draft, follow, ended, IsOfGates, AreOfGates, FitsNetlist}
 use Rattle.std.specs.Prelude.{◌&&◌, ◌==◌, nat_lt, option_to_list, bytes_eq}
 use Rattle.std.specs.List.{AllZip}
-use Rattle.std.proofs.lemmas.Bool.{and_parts}
+use Rattle.std.proofs.lemmas.Bool.{and_parts, false≢true, ltb-true}
+use Rattle.cyc_base.proofs.ListLemmas.{option_map-nothing, option_or-neither}
 use Rattle.std.proofs.lemmas.List.{length-append}
 use Rattle.std.proofs.lemmas.List.Elements.{All-append, All-push}
 use Rattle.std.proofs.lemmas.List.Quantifiers.{position-Some}
@@ -21,7 +22,7 @@ use Rattle.sched_text.specs.Schedules.{schedule_of}
 use Rattle.sched_text.specs.Running.{OpenTick, ended_tick, with_event, begin_round, add_event}
 use Rattle.sched_text.proofs.ScheduleLemmas.{whole_end, whole_step}
 use Rattle.sched_text.specs.ReadingOn.{whole}
-use Rattle.sched_text.proofs.VectorLemmas.{none_first, none_next, no_fault, as_meant}
+use Rattle.sched_text.proofs.VectorLemmas.{no_fault, as_meant}
 
 -- ---- rounds and ticks in progress
 
@@ -95,12 +96,6 @@ record FitsSoFar (net : Parts) (ticks : ℕ) (before : Option Kind) (begun : ℕ
   count : length draft.ticks + is_open draft.tick ≡ begun
   few : begun ≤ ticks
 
-no_start_yet : {X : Type 0} → false ≡ true → X
-no_start_yet e = absurd (cc e)
-
-lacks_still : {X : Type 0} → true ≡ false → X
-lacks_still e = absurd (cc e)
-
 start_before_gates : (before : Option Kind) → may_follow before kinds.Gates ≡ true → has_start before ≡ true
 start_before_gates None may = absurd (cc may)
 start_before_gates (Some kinds.FormatOne) may = absurd (cc may)
@@ -118,9 +113,9 @@ start_before_gates (Some kinds.Unknown) may = absurd (cc may)
 -- a test that no line of a tick passes
 not_of_tick : {X : Type 0} (test : Kind → Bool) → test kinds.Tick ≡ false → test kinds.Round ≡ false → test kinds.Event ≡ false
     → (k : Kind) → is_of_a_tick k ≡ true → test k ≡ true → X
-not_of_tick test tick round event kinds.Tick of is = no_start_yet (sym tick ∙ is)
-not_of_tick test tick round event kinds.Round of is = no_start_yet (sym round ∙ is)
-not_of_tick test tick round event kinds.Event of is = no_start_yet (sym event ∙ is)
+not_of_tick test tick round event kinds.Tick of is = absurd (false≢true (sym tick ∙ is))
+not_of_tick test tick round event kinds.Round of is = absurd (false≢true (sym round ∙ is))
+not_of_tick test tick round event kinds.Event of is = absurd (false≢true (sym event ∙ is))
 not_of_tick test tick round event kinds.FormatOne of is = absurd (cc of)
 not_of_tick test tick round event kinds.FormatTwo of is = absurd (cc of)
 not_of_tick test tick round event kinds.Window of is = absurd (cc of)
@@ -161,34 +156,19 @@ start_in_head (Some kinds.Unknown) whole = absurd (cc whole)
 
 -- ---- what a line without a fault says
 
-may_here : (t : Bool) (f : Option SchedFault) (n : ℕ) → (if t then f else Some (BadLine n)) ≡ None → t ≡ true
-may_here true f n none = refl
-may_here false f n none = absurd (cc none)
-
-none_here : (t : Bool) (f : Option SchedFault) (n : ℕ) → (if t then f else Some (BadLine n)) ≡ None → f ≡ None
-none_here true f n none = none
-none_here false f n none = absurd (cc none)
+-- a test that is passed, where a fault stands behind it
+passes : {X : Type 0} (t : Bool) (later : Option X) (fault : X) → (if t then later else Some fault) ≡ None → (t ≡ true) × (later ≡ None)
+passes true later fault none = (refl, none)
+passes false later fault none = absurd (cc none)
 
 width_is : (n width : ℕ) (bits : List Bool) → width_fault n width bits ≡ None → length bits ≡ width
-width_is n width bits none = by (length bits == width) refl none
-  where
-    by : (t : Bool) → (length bits == width) ≡ t → (if t then None else Some (WrongWidth n)) ≡ None → length bits ≡ width
-    by true e h = eqb-true (length bits) width e
-    by false e h = absurd (cc h)
+width_is n width bits none = eqb-true (length bits) width (passes (length bits == width) None (WrongWidth n) none).0
 
 permitted : (init : Init) (b : Bool) → permits init b ≡ true → Permits init b
 permitted Zero true is = absurd (cc is)
 permitted Zero false is = refl
 permitted One b is = is
 permitted Either b is = tt
-
-permits_here : (t : Bool) (i : ℕ) (later : Option ℕ) → (if t then later else Some i) ≡ None → t ≡ true
-permits_here true i later none = refl
-permits_here false i later none = absurd (cc none)
-
-refused_later : (t : Bool) (i : ℕ) (later : Option ℕ) → (if t then later else Some i) ≡ None → later ≡ None
-refused_later true i later none = none
-refused_later false i later none = absurd (cc none)
 
 -- no latch is refused
 all_permitted : (i : ℕ) (latches : List Latch) (bits : List Bool) → length bits ≡ length latches → first_refused i latches bits ≡ None
@@ -197,18 +177,11 @@ all_permitted i [] [] same none = tt
 all_permitted i [] (b ∷ bits) same none = absurd (omega (arith, same))
 all_permitted i (latch ∷ latches) [] same none = absurd (omega (arith, same))
 all_permitted i (latch ∷ latches) (b ∷ bits) same none =
-    let first = permits_here (permits latch.init b) i (first_refused (i + 1) latches bits) none in
-    (permitted latch.init b first, all_permitted (i + 1) latches bits (omega (arith, same)) (refused_later (permits latch.init b) i (first_refused (i + 1) latches bits) none))
-
-not_refused : (n i : ℕ) (latches : List Latch) (bits : List Bool) → start_fault n latches bits ≡ None → first_refused 0 latches bits ≡ None
-not_refused n i latches bits none = by (first_refused 0 latches bits) none
-  where
-    by : (found : Option ℕ) → option_map (SchedFault.BadStart n) found ≡ None → found ≡ None
-    by None h = refl
-    by (Some latch) h = absurd (cc h)
+    let both = passes (permits latch.init b) (first_refused (i + 1) latches bits) i none in
+    (permitted latch.init b both.0, all_permitted (i + 1) latches bits (omega (arith, same)) both.1)
 
 initial : (net : Parts) (n : ℕ) (bits : List Bool) → length bits ≡ length net.latches → start_fault n net.latches bits ≡ None → IsInitialState net bits
-initial net n bits same none = all_permitted 0 net.latches bits same (not_refused n 0 net.latches bits none)
+initial net n bits same none = all_permitted 0 net.latches bits same (option_map-nothing (SchedFault.BadStart n) (first_refused 0 net.latches bits) none)
 
 gate_inside : (net : Parts) (n : ℕ) (words : List (List ℕ)) → has_words_of kinds.Event words ≡ true → gate_fault net n words ≡ None → gate_of net words < length net.gates
 gate_inside net n [] good none = absurd (cc good)
@@ -221,11 +194,7 @@ gate_inside net n (name ∷ ages) good none = by (gate_number net name) refl non
         omega (arith, inside, length-map net.gates (λ gate. gate.name))
 
 tick_fits : (n ticks begun : ℕ) → tick_fault n ticks begun ≡ None → begun < ticks
-tick_fits n ticks begun none = by (nat_lt begun ticks) refl none
-  where
-    by : (t : Bool) → nat_lt begun ticks ≡ t → (if t then None else Some (TickCount n)) ≡ None → begun < ticks
-    by true e h = grind (arith, nat_tests)
-    by false e h = absurd (cc h)
+tick_fits n ticks begun none = ltb-true begun ticks (passes (nat_lt begun ticks) None (TickCount n) none).0
 
 -- ---- a line behind others
 
@@ -266,15 +235,16 @@ fits_next net ticks before begun draft kinds.Window n words at may none =
 fits_next net ticks before begun draft kinds.Past n words at may none =
     behind_head net ticks before begun draft (follow draft (statement_of net kinds.Past n words)) kinds.Past at refl refl refl refl
     (All-push (λ moment. length moment ≡ count net) draft.past (bits_of words) at.past
-    (width_is n (count net) (bits_of words) (none_here (are_bits words) (width_fault n (count net) (bits_of words)) n none)))
+    (width_is n (count net) (bits_of words) (passes (are_bits words) (width_fault n (count net) (bits_of words)) (BadLine n) none).1))
 fits_next net ticks before begun draft kinds.Latches n words at may none =
-    let both = none_here (are_bits words) (option_or (width_fault n (length net.latches) (bits_of words)) (start_fault n net.latches (bits_of words))) n none in
-    let wide = width_is n (length net.latches) (bits_of words) (none_first (width_fault n (length net.latches) (bits_of words)) (start_fault n net.latches (bits_of words)) both) in
+    let both = option_or-neither (width_fault n (length net.latches) (bits_of words)) (start_fault n net.latches (bits_of words))
+    (passes (are_bits words) (option_or (width_fault n (length net.latches) (bits_of words)) (start_fault n net.latches (bits_of words))) (BadLine n) none).1 in
+    let wide = width_is n (length net.latches) (bits_of words) both.0 in
     record {
       past = at.past;
       latches = λ e. wide;
-      start = λ e free. initial net n (bits_of words) wide (none_next (width_fault n (length net.latches) (bits_of words)) (start_fault n net.latches (bits_of words)) both);
-      gates = λ e. lacks_still e;
+      start = λ e free. initial net n (bits_of words) wide both.1;
+      gates = λ e. absurd (true≢false e);
       ended = at.ended;
       in_progress = at.in_progress;
       count = same_begun (length draft.ticks + is_open draft.tick) begun at.count;
@@ -283,9 +253,9 @@ fits_next net ticks before begun draft kinds.Latches n words at may none =
 fits_next net ticks before begun draft kinds.State n words at may none =
     record {
       past = at.past;
-      latches = λ e. width_is n (length net.latches) (bits_of words) (none_here (are_bits words) (width_fault n (length net.latches) (bits_of words)) n none);
+      latches = λ e. width_is n (length net.latches) (bits_of words) (passes (are_bits words) (width_fault n (length net.latches) (bits_of words)) (BadLine n) none).1;
       start = λ e free. absurd (cc free);
-      gates = λ e. lacks_still e;
+      gates = λ e. absurd (true≢false e);
       ended = at.ended;
       in_progress = at.in_progress;
       count = same_begun (length draft.ticks + is_open draft.tick) begun at.count;
@@ -297,7 +267,7 @@ fits_next net ticks before begun draft kinds.Gates n words at may none =
       past = at.past;
       latches = λ e. at.latches started;
       start = λ e free. at.start started free;
-      gates = λ e. width_is n (length net.gates) (bits_of words) (none_here (are_bits words) (width_fault n (length net.gates) (bits_of words)) n none);
+      gates = λ e. width_is n (length net.gates) (bits_of words) (passes (are_bits words) (width_fault n (length net.gates) (bits_of words)) (BadLine n) none).1;
       ended = at.ended;
       in_progress = at.in_progress;
       count = same_begun (length draft.ticks + is_open draft.tick) begun at.count;
@@ -306,7 +276,7 @@ fits_next net ticks before begun draft kinds.Gates n words at may none =
 fits_next net ticks before begun draft kinds.Tick n words at may none =
     let whole = head_before kinds.Tick refl before may in
     let started = start_in_head before whole in
-    let less = tick_fits n ticks begun (none_here (has_words_of kinds.Tick words) (tick_fault n ticks begun) n none) in
+    let less = tick_fits n ticks begun (passes (has_words_of kinds.Tick words) (tick_fault n ticks begun) (BadLine n) none).1 in
     let ended = length_ended draft.ticks draft.tick in
     let sum = at.count in
     record {
@@ -336,8 +306,8 @@ fits_next net ticks before begun draft kinds.Round n words at may none =
 fits_next net ticks before begun draft kinds.Event n words at may none =
     let whole = head_before kinds.Event refl before may in
     let started = start_in_head before whole in
-    let good = may_here (has_words_of kinds.Event words) (gate_fault net n words) n none in
-    let inside = gate_inside net n words good (none_here (has_words_of kinds.Event words) (gate_fault net n words) n none) in
+    let good = passes (has_words_of kinds.Event words) (gate_fault net n words) (BadLine n) none in
+    let inside = gate_inside net n words good.0 good.1 in
     record {
       past = at.past;
       latches = λ e. at.latches started;
@@ -386,15 +356,14 @@ fits_on net ticks end earlier (line ∷ rest) draft at none =
     let cut = is_cut_off end line rest in
     let words = arguments line.words in
     let begun = ticks_begun earlier in
-    let here : fault_at net ticks (nearest earlier) begun cut line ≡ None = none_first (line_fault net ticks end earlier line rest) (first_fault net ticks end (line ∷ earlier) rest) none in
-    let may = (and_parts (may_follow (nearest earlier) k) (not cut)
-    (may_here (may_follow (nearest earlier) k && not cut) (fault_of_words net ticks k line.number begun words) line.number here)).0 in
-    let good = none_here (may_follow (nearest earlier) k && not cut) (fault_of_words net ticks k line.number begun words) line.number here in
+    let neither = option_or-neither (line_fault net ticks end earlier line rest) (first_fault net ticks end (line ∷ earlier) rest) none in
+    let here = passes (may_follow (nearest earlier) k && not cut) (fault_of_words net ticks k line.number begun words) (BadLine line.number) neither.0 in
+    let may = and_parts (may_follow (nearest earlier) k) (not cut) here.0 in
     let P : ℕ → Type 0 = λ m. FitsSoFar net ticks (Some k) m (follow draft (statement net line)) in
-    let next = subst P (sym (sum_by-cons (λ l. cond (begins_tick l) 1 0) line earlier)) (fits_next net ticks (nearest earlier) begun draft k line.number words at may good) in
+    let next = subst P (sym (sum_by-cons (λ l. cond (begins_tick l) 1 0) line earlier)) (fits_next net ticks (nearest earlier) begun draft k line.number words at may.0 here.1) in
     subst (FitsNetlist net ticks) (sym (whole_step draft (statement net line) (map (statement net) rest)))
     (fits_on net ticks end (line ∷ earlier) rest (follow draft (statement net line)) next
-    (none_next (line_fault net ticks end earlier line rest) (first_fault net ticks end (line ∷ earlier) rest) none))
+    neither.1)
 
 pub fits : (net : Parts) (ticks end : ℕ) (lines : List Line) (found : Schedule) → schedule net ticks end lines ≡ Ok found → FitsNetlist net ticks found
 fits net ticks end lines found is =
@@ -403,9 +372,9 @@ fits net ticks end lines found is =
     subst (FitsNetlist net ticks) (as_meant fault meant found is)
     (fits_on net ticks end [] lines new_draft (record {
       past = All-nil (λ moment. length moment ≡ count net);
-      latches = λ e. no_start_yet e;
-      start = λ e. no_start_yet e;
-      gates = λ e. lacks_still e;
+      latches = λ e. absurd (false≢true e);
+      start = λ e. absurd (false≢true e);
+      gates = λ e. absurd (true≢false e);
       ended = All-nil (All (AreOfGates (length net.gates)));
       in_progress = tt;
       count = refl;

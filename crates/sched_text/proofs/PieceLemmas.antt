@@ -7,13 +7,14 @@ use Rattle.std.proofs.lemmas.List.{map-append, get_or-drop, take_more, take-appe
 use Rattle.std.proofs.lemmas.List.Quantifiers.{position-Some}
 use Rattle.std.proofs.lemmas.List.Elements.{filter-append}
 use Rattle.std.proofs.lemmas.List.Sums.{count_by-le-length}
+use Rattle.cyc_base.proofs.ListLemmas.{option_map-nothing, option_or-None}
 use Rattle.blif_text.specs.Texts.{pieces, in_front, is_allowed, words_of, Joined, joined, in_words, has_words, bad_byte, unless_bad, before_hash, physical, without_cr, begins_with}
 use Rattle.blif_text.specs.Faults.{Refuses}
 use Rattle.blif_text.specs.declared.fault.TextFault.{TextFault}
 use Rattle.blif_text.specs.declared.fault.TextFault.TheVariants.{BadByte}
+use Rattle.blif_text.proofs.LineFacts.{found_is}
 use Rattle.blif_text.proofs.Pieces.{pieces_other, pieces_here}
 use Rattle.sched_text.specs.Pieces.{lines_from, line_behind, IsCut, IsNext}
-use Rattle.sched_text.proofs.VectorLemmas.{none_first}
 
 -- ---- logical lines, of physical lines that aren't joined
 
@@ -216,10 +217,6 @@ ended (x ∷ xs) = ended_by x xs (ended xs) ((x == 13) && lf_next xs) refl
 
 -- ---- the next piece
 
-pub or_nothing : {X : Type 0} (o : Option X) → option_or o None ≡ o
-or_nothing None = refl
-or_nothing (Some x) = refl
-
 or_some : (a b : Option ℕ) (m : ℕ) → a ≡ Some m → option_or a b ≡ Some m
 or_some a b m is = rw is refl
 
@@ -240,12 +237,12 @@ module _ (before : ℕ) (text : List ℕ) where
 
     piece_bad : bad_line (before + 1) (a ++ 10 ∷ []) ≡ None → bad_byte (before + 1) front ≡ None
     piece_bad none =
-        none_first (bad_byte (before + 1) front) None (sym (ap (bad_byte (before + 1)) (whole []) ∙ bad_append (before + 1) front ([] ∷ [])) ∙ none)
+        sym (option_or-None (bad_byte (before + 1) front)) ∙ sym (ap (bad_byte (before + 1)) (whole []) ∙ bad_append (before + 1) front ([] ∷ [])) ∙ none
 
     bad_ended : (m : ℕ) → bad_line (before + 1) (a ++ 10 ∷ []) ≡ Some m → bad_line (before + 1) (a ++ 10 ∷ left) ≡ Some m
     bad_ended m is =
         let here : bad_byte (before + 1) front ≡ Some m =
-        sym (or_nothing (bad_byte (before + 1) front)) ∙ sym (ap (bad_byte (before + 1)) (whole []) ∙ bad_append (before + 1) front ([] ∷ [])) ∙ is in
+        sym (option_or-None (bad_byte (before + 1) front)) ∙ sym (ap (bad_byte (before + 1)) (whole []) ∙ bad_append (before + 1) front ([] ∷ [])) ∙ is in
         ap (bad_byte (before + 1)) (whole left)
         ∙ bad_append (before + 1) front (physical left)
         ∙ or_some (bad_byte (before + 1) front) (bad_byte (before + 1 + length front) (physical left)) m here
@@ -315,10 +312,6 @@ module _ (before : ℕ) (text : List ℕ) where
 
 -- ---- what the lines of a piece are
 
-good : (b : Option ℕ) (all found : List Line) → unless_bad b all ≡ Ok found → (b ≡ None) × (all ≡ found)
-good None all found is = let e : all ≡ found = cc in (refl, e)
-good (Some n) all found is = absurd (cc is)
-
 bad : (b : Option ℕ) (all : List Line) (n : ℕ) → unless_bad b all ≡ Err n → b ≡ Some n
 bad None all n is = absurd (cc is)
 bad (Some m) all n is = let e : m ≡ n = cc in ap (λ x. Some x) e
@@ -328,11 +321,11 @@ module _ (before : ℕ) (piece : List ℕ) where
   one_behind = bad_behind before 1 (physical piece)
 
   pub found_good : (found : List Line) → lines piece false ≡ Ok found → bad_line (before + 1) piece ≡ None
-  found_good found is = one_behind ∙ ap (option_map (λ m. before + m)) (good (bad_line 1 piece) (lines_from 1 piece) found is).0
+  found_good found is = one_behind ∙ ap (option_map (λ m. before + m)) (found_is (bad_line 1 piece) (lines_from 1 piece) found is).0
 
   pub found_lines : (found : List Line) → lines piece false ≡ Ok found → map (line_behind before) found ≡ lines_from (before + 1) piece
   found_lines found is =
-      ap (map (line_behind before)) (sym (good (bad_line 1 piece) (lines_from 1 piece) found is).1) ∙ sym (numbered_behind before 1 (physical piece))
+      ap (map (line_behind before)) (sym (found_is (bad_line 1 piece) (lines_from 1 piece) found is).1) ∙ sym (numbered_behind before 1 (physical piece))
 
   pub found_bad : (n : ℕ) → lines piece false ≡ Err n → bad_line (before + 1) piece ≡ Some (before + n)
   found_bad n is = one_behind ∙ ap (option_map (λ m. before + m)) (bad (bad_line 1 piece) (lines_from 1 piece) n is)
@@ -344,7 +337,7 @@ module _ (before : ℕ) (piece : List ℕ) where
   found_numbers found most few is = λ k d l.
       let size = lines_within in
       let each = numbers 1 (length piece + 2) (physical piece) (omega (arith, size)) in
-      let each : All (IsBefore (length piece + 2)) found = rw (good (bad_line 1 piece) (lines_from 1 piece) found is).1 at each in
+      let each : All (IsBefore (length piece + 2)) found = rw (found_is (bad_line 1 piece) (lines_from 1 piece) found is).1 at each in
       let low = each k d l in
       omega (arith, low, few)
 
@@ -371,10 +364,6 @@ cut_at text from at is =
 pub refused : {X : Type 0} (fault : TextFault) (line : ℕ) (found : Result X ℕ) → fault ≡ BadByte line → Refuses fault found → found ≡ Err line
 refused fault line found is refuses = let P : TextFault → Type 0 = λ f. Refuses f found in subst P is refuses
 
-none_of : (b : Option ℕ) → option_map (λ n. BadLine n) b ≡ None → b ≡ None
-none_of None is = refl
-none_of (Some n) is = absurd (cc is)
-
 lift : (b c : Option ℕ) (fault : SchedFault) → ((m : ℕ) → b ≡ Some m → c ≡ Some m) → option_map (λ n. BadLine n) b ≡ Some fault → option_map (λ n. BadLine n) c ≡ Some fault
 lift (Some m) c fault up is = ap (option_map (λ n. BadLine n)) (up m refl) ∙ is
 lift None c fault up is = absurd (cc is)
@@ -398,4 +387,4 @@ module _ (before : ℕ) (text : List ℕ) (n : ℕ) (some : 0 < n) (inside : n �
       (subst (λ found. P (drop n text) found) (sym lines)
       (next_piece before text n (before + count) some inside cut
       (ap (λ m. before + m) (counted ∙ ap (count_by is_lf) front_is))
-      (none_of (bad_line (before + 1) (take n text)) (ap (λ t. option_map (λ n. BadLine n) (bad_line (before + 1) t)) (sym front_is) ∙ none))))
+      (option_map-nothing (λ n. BadLine n) (bad_line (before + 1) (take n text)) (ap (λ t. option_map (λ n. BadLine n) (bad_line (before + 1) t)) (sym front_is) ∙ none))))

@@ -2,6 +2,7 @@
 use Rattle.std.proofs.Common.{◌≡◌, ◌<◌, ◌+◌, ℕ, suc, Bool, true, false, ◌||◌, List, [], ◌∷◌, ◌++◌, length, map, refl, ap, ap₂, sym, ◌∙◌, subst, arith, All, Some, None, append_assoc, append-nil}
 use Rattle.sched_text.proofs.Common.{codes, decimal, unwrap_or, flat_map, list_any, option_or, All-nil, All-cons, All-head, All-tail, Parts, IsNetlist, PlannedEvent, RoundPlan, Schedule, end_number, IsLine, numbered, unless, IsOfGates, AreOfGates, arguments, bits_of, IsSmall, HasSmallAges, AreSmall, TicksAreSmall, schedule, statement, bits_words, past_line, start_word, event_line, round_lines, tick_lines, lines_of}
 use Rattle.std.specs.List.{filter_map, cons_option}
+use Rattle.cyc_base.proofs.ListLemmas.{option_or-None}
 use Rattle.std.specs.declared.option.Option.{Option}
 use Rattle.sched_text.specs.declared.statement.Statement.{Statement}
 use Rattle.sched_text.specs.declared.statement.Statement.TheVariants.{Format, Window, Past, Latches, State, Gates, Tick, Round, Event}
@@ -16,7 +17,6 @@ use Rattle.sched_text.proofs.WrittenLines.{written_lines, written_end}
 use Rattle.sched_text.proofs.WrittenNumbers.{number_decimal}
 use Rattle.sched_text.proofs.FaultlessLemmas.{bits_back, no_fault}
 use Rattle.sched_text.proofs.NamedLemmas.{lines_named}
-use Rattle.sched_text.proofs.PieceLemmas.{or_nothing}
 
 -- a statement tells nothing of the head
 record TellsNothing (said : Statement) : Type 0 where
@@ -179,7 +179,7 @@ last_none told (s ∷ said) none =
 last_behind : {X : Type 0} (told : Statement → Option X) (front said : List Statement) → All (λ s. told s ≡ None) front → last_there told (front ++ said) ≡ last_there told said
 last_behind told [] said none = refl
 last_behind told (s ∷ front) said none =
-    ap₂ option_or (last_behind told front said (All-tail (λ s. told s ≡ None) s front none)) (All-head (λ s. told s ≡ None) s front none) ∙ or_nothing (last_there told said)
+    ap₂ option_or (last_behind told front said (All-tail (λ s. told s ≡ None) s front none)) (All-head (λ s. told s ≡ None) s front none) ∙ option_or-None (last_there told said)
 
 kept_none : {X : Type 0} (told : Statement → Option X) (said : List Statement) → All (λ s. told s ≡ None) said → filter_map told said ≡ []
 kept_none told [] none = refl

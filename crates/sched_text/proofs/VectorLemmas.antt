@@ -4,6 +4,7 @@ use Rattle.sched_text.proofs.Common.{Option, Result, codes, if◌then◌else◌,
 use Rattle.std.specs.Prelude.{◌||◌, ◌==◌, bytes_eq}
 use Rattle.std.proofs.lemmas.Bool.{and_parts}
 use Rattle.std.proofs.lemmas.List.{append-nil, append_assoc}
+use Rattle.cyc_base.proofs.ListLemmas.{option_or-neither}
 use Rattle.cyc_base.specs.declared.trit.Trit.{Trit}
 use Rattle.cyc_base.specs.declared.trit.Trit.TheVariants.{Zero, One, X}
 use Rattle.sched_text.specs.Vectors.{is_value, is_dash, words_fault, vector_fault, vector_of_words, vector_of, first_fault, vectors_of, vectors, HaveWidth, AreKnown}
@@ -58,14 +59,6 @@ at_end width unknowns lines done i at over =
 
 -- What vectors without a fault are like.
 
-pub none_first : {X : Type 0} (f g : Option X) → option_or f g ≡ None → f ≡ None
-none_first None g none = refl
-none_first (Some f) g none = absurd (cc none)
-
-pub none_next : {X : Type 0} (f g : Option X) → option_or f g ≡ None → g ≡ None
-none_next None g none = none
-none_next (Some f) g none = absurd (cc none)
-
 pub no_fault : {X : Type 0} (fault : Option SchedFault) (meant found : X) → unless fault meant ≡ Ok found → fault ≡ None
 no_fault None meant found is = refl
 no_fault (Some fault) meant found is = absurd (cc is)
@@ -80,9 +73,8 @@ each_is : (width : ℕ) (unknowns : Bool) (P : List Trit → Type 0)
     → (lines : List Line) → first_fault width unknowns lines ≡ None → All P (vectors_of width lines)
 each_is width unknowns P one [] none = All-nil P
 each_is width unknowns P one (line ∷ rest) none =
-    All-cons P (vector_of width line) (vectors_of width rest)
-    (one line (none_first (vector_fault width unknowns line) (first_fault width unknowns rest) none))
-    (each_is width unknowns P one rest (none_next (vector_fault width unknowns line) (first_fault width unknowns rest) none))
+    let neither = option_or-neither (vector_fault width unknowns line) (first_fault width unknowns rest) none in
+    All-cons P (vector_of width line) (vectors_of width rest) (one line neither.0) (each_is width unknowns P one rest neither.1)
 
 each_read : (width : ℕ) (unknowns : Bool) (P : List Trit → Type 0)
     → ((line : Line) → vector_fault width unknowns line ≡ None → P (vector_of width line))

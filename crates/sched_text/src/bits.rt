@@ -1,15 +1,14 @@
 // Lines of bits.
-ghost use Rattle.std.specs.Prelude.{◌≡◌, ◌<◌, ◌||◌, ◌==◌, length, map, IfOk, Some, None, if◌then◌else◌};
+ghost use Rattle.std.specs.Prelude.{◌≡◌, ◌||◌, ◌==◌, length, map, IfOk, Some, None, if◌then◌else◌};
 ghost use Rattle.std.specs.List.{list_all};
 ghost use Rattle.std.specs.Result.{result_err};
-ghost use Rattle.blif_text.specs.Lines.{line_at};
 ghost use Rattle.sched_text.specs.declared.kind.Kind.TheVariants as kinds;
 ghost use Rattle.sched_text.specs.Answers.{Reads};
 ghost use Rattle.sched_text.specs.LineFaults.{arguments, is_bit as is_bit_byte, are_bits, bit_of, bits_of, width_fault, permits as permits_start, start_fault, fault_of_words};
 ghost use Rattle.sched_text.specs.Statements.{statement_of};
 
 use crate::fault::SchedFault;
-use crate::pieces::Piece;
+use crate::pieces::PieceLine;
 use crate::statement::Statement;
 use cyc_base::Bits;
 use netlist::{Init, Netlist};
@@ -28,21 +27,18 @@ fn bits_of_word(alloc: Global, word: &[u8]) -> Result<Vec<bool>, AllocError>
 }
 
 // The bits behind the first word of a line. No second word is no bits.
-fn read_bits(alloc: Global, lines: &Piece, i: usize) -> Result<Bits, SchedFault>
-    requires { i < length lines.now }
-    ensures { let line = line_at lines.now i in
-        Reads result (if are_bits (arguments line.words) then None else Some (SchedFault.BadLine line.number)) (bits_of (arguments line.words)) }
+fn read_bits(alloc: Global, line: &PieceLine<'_>) -> Result<Bits, SchedFault>
+    ensures { Reads result (if are_bits (arguments line.now.words) then None else Some (SchedFault.BadLine line.now.number)) (bits_of (arguments line.now.words)) }
 {
-    let line = lines.number(i);
-    if lines.words(i) < 2 {
+    if line.words() < 2 {
         return Ok(Bits::of(Vec::new(alloc)));
     }
-    if lines.words(i) != 2 {
-        return Err(SchedFault::BadLine { line });
+    if line.words() != 2 {
+        return Err(line.bad_line());
     }
-    let word = lines.word(i, 1);
+    let word = line.word(1);
     if !all_bits(word) {
-        return Err(SchedFault::BadLine { line });
+        return Err(line.bad_line());
     }
     Ok(Bits::of(bits_of_word(alloc, word)?))
 }
@@ -80,67 +76,23 @@ fn check_start(line: u64, net: &Netlist, bits: &[bool]) -> Result<(), SchedFault
 }
 
 // A line of so many bits.
-fn read_width(alloc: Global, width: usize, lines: &Piece, i: usize) -> Result<Bits, SchedFault>
-    requires { i < length lines.now }
-    ensures { let line = line_at lines.now i in
-        let bits = bits_of (arguments line.words) in
-        Reads result (if are_bits (arguments line.words) then width_fault line.number width bits else Some (SchedFault.BadLine line.number)) bits }
+pub fn read_width(alloc: Global, width: u32, line: &PieceLine<'_>) -> Result<Bits, SchedFault>
+    ensures { let bits = bits_of (arguments line.now.words) in
+        Reads result (if are_bits (arguments line.now.words) then width_fault line.now.number width bits else Some (SchedFault.BadLine line.now.number)) bits }
 {
-    let bits = read_bits(alloc, lines, i)?;
-    check_width(lines.number(i), width, &bits)?;
+    let bits = read_bits(alloc, line)?;
+    check_width(line.number(), width as usize, &bits)?;
     Ok(bits)
-}
-
-pub fn read_past(
-    alloc: Global,
-    net: &Netlist,
-    lines: &Piece,
-    i: usize,
-) -> Result<Statement, SchedFault>
-    requires { i < length lines.now }
-    ensures { let line = line_at lines.now i in
-        Reads result (fault_of_words net.now 0 kinds.Past line.number 0 (arguments line.words)) (statement_of net.now kinds.Past line.number (arguments line.words)) }
-{
-    Ok(Statement::Past(read_width(alloc, net.count() as usize, lines, i)?))
 }
 
 pub fn read_latches(
     alloc: Global,
     net: &Netlist,
-    lines: &Piece,
-    i: usize,
+    line: &PieceLine<'_>,
 ) -> Result<Statement, SchedFault>
-    requires { i < length lines.now }
-    ensures { let line = line_at lines.now i in
-        Reads result (fault_of_words net.now 0 kinds.Latches line.number 0 (arguments line.words)) (statement_of net.now kinds.Latches line.number (arguments line.words)) }
+    ensures { Reads result (fault_of_words net.now 0 kinds.Latches line.now.number 0 (arguments line.now.words)) (statement_of net.now kinds.Latches line.now.number (arguments line.now.words)) }
 {
-    let bits = read_width(alloc, net.latches() as usize, lines, i)?;
-    check_start(lines.number(i), net, bits.items())?;
+    let bits = read_width(alloc, net.latches(), line)?;
+    check_start(line.number(), net, bits.items())?;
     Ok(Statement::Latches(bits))
-}
-
-pub fn read_state(
-    alloc: Global,
-    net: &Netlist,
-    lines: &Piece,
-    i: usize,
-) -> Result<Statement, SchedFault>
-    requires { i < length lines.now }
-    ensures { let line = line_at lines.now i in
-        Reads result (fault_of_words net.now 0 kinds.State line.number 0 (arguments line.words)) (statement_of net.now kinds.State line.number (arguments line.words)) }
-{
-    Ok(Statement::State(read_width(alloc, net.latches() as usize, lines, i)?))
-}
-
-pub fn read_gates(
-    alloc: Global,
-    net: &Netlist,
-    lines: &Piece,
-    i: usize,
-) -> Result<Statement, SchedFault>
-    requires { i < length lines.now }
-    ensures { let line = line_at lines.now i in
-        Reads result (fault_of_words net.now 0 kinds.Gates line.number 0 (arguments line.words)) (statement_of net.now kinds.Gates line.number (arguments line.words)) }
-{
-    Ok(Statement::Gates(read_width(alloc, net.gates() as usize, lines, i)?))
 }

@@ -1,7 +1,6 @@
 // Lines of events.
-ghost use Rattle.std.specs.Prelude.{◌≡◌, ◌≤◌, ◌<◌, length, drop, map, Some, None, if◌then◌else◌};
+ghost use Rattle.std.specs.Prelude.{◌≡◌, ◌≤◌, length, drop, map, Some, None, if◌then◌else◌};
 ghost use Rattle.std.specs.List.{list_all};
-ghost use Rattle.blif_text.specs.Lines.{line_at};
 ghost use Rattle.sched_text.specs.declared.kind.Kind.TheVariants as kinds;
 ghost use Rattle.sched_text.specs.Answers.{Reads};
 ghost use Rattle.sched_text.specs.Numbers.{number_of};
@@ -10,7 +9,7 @@ ghost use Rattle.sched_text.specs.Statements.{gate_of, statement_of};
 
 use crate::fault::SchedFault;
 use crate::number::number;
-use crate::pieces::Piece;
+use crate::pieces::PieceLine;
 use crate::statement::Statement;
 use cyc_base::{Items, Name};
 use delay_core::{Event, PlannedEvent};
@@ -18,21 +17,17 @@ use netlist::Netlist;
 use std::alloc::Global;
 
 // The ages of a line, which stand behind the name.
-fn read_ages(alloc: Global, lines: &Piece, i: usize) -> Result<Items<u32>, SchedFault>
-    requires line { i < length lines.now }
-    requires words { 2 ≤ length (line_at lines.now i).words }
-    ensures { let line = line_at lines.now i in
-        Reads result (if list_all is_age (drop 2 line.words) then None else Some (SchedFault.BadLine line.number)) (map number_of (drop 2 line.words)) }
+fn read_ages(alloc: Global, line: &PieceLine<'_>) -> Result<Items<u32>, SchedFault>
+    requires { 2 ≤ length line.now.words }
+    ensures { Reads result (if list_all is_age (drop 2 line.now.words) then None else Some (SchedFault.BadLine line.now.number)) (map number_of (drop 2 line.now.words)) }
 {
-    let words = lines.words(i);
+    let words = line.words();
     let mut ages = Vec::with_capacity(alloc, words - 2)?;
     for k in 2..words {
-        match number(lines.word(i, k)) {
+        match number(line.word(k)) {
             Some(age) => ages.push_reserved(age),
             None => {
-                return Err(SchedFault::BadLine {
-                    line: lines.number(i),
-                });
+                return Err(line.bad_line());
             }
         }
     }
@@ -54,17 +49,15 @@ fn find_gate(net: &Netlist, name: &Name) -> Option<u32>
 }
 
 // The gate that a line names.
-fn read_gate(alloc: Global, net: &Netlist, lines: &Piece, i: usize) -> Result<u32, SchedFault>
-    requires line { i < length lines.now }
-    requires words { 2 ≤ length (line_at lines.now i).words }
-    ensures { let line = line_at lines.now i in
-        Reads result (gate_fault net.now line.number (arguments line.words)) (gate_of net.now (arguments line.words)) }
+fn read_gate(alloc: Global, net: &Netlist, line: &PieceLine<'_>) -> Result<u32, SchedFault>
+    requires { 2 ≤ length line.now.words }
+    ensures { Reads result (gate_fault net.now line.now.number (arguments line.now.words)) (gate_of net.now (arguments line.now.words)) }
 {
-    let name = Name::copied_from(alloc, lines.word(i, 1))?;
+    let name = Name::copied_from(alloc, line.word(1))?;
     match find_gate(net, &name) {
         Some(gate) => Ok(gate),
         None => Err(SchedFault::UnknownGate {
-            line: lines.number(i),
+            line: line.number(),
             name,
         }),
     }
@@ -73,21 +66,17 @@ fn read_gate(alloc: Global, net: &Netlist, lines: &Piece, i: usize) -> Result<u3
 pub fn read_event(
     alloc: Global,
     net: &Netlist,
-    lines: &Piece,
-    i: usize,
+    line: &PieceLine<'_>,
 ) -> Result<Statement, SchedFault>
-    requires { i < length lines.now }
-    ensures { let line = line_at lines.now i in
-        Reads result (fault_of_words net.now 0 kinds.Event line.number 0 (arguments line.words)) (statement_of net.now kinds.Event line.number (arguments line.words)) }
+    ensures { Reads result (fault_of_words net.now 0 kinds.Event line.now.number 0 (arguments line.now.words)) (statement_of net.now kinds.Event line.now.number (arguments line.now.words)) }
 {
-    let line = lines.number(i);
-    if lines.words(i) < 2 {
-        return Err(SchedFault::BadLine { line });
+    if line.words() < 2 {
+        return Err(line.bad_line());
     }
-    let ages = read_ages(alloc, lines, i)?;
-    let gate = read_gate(alloc, net, lines, i)?;
+    let ages = read_ages(alloc, line)?;
+    let gate = read_gate(alloc, net, line)?;
     Ok(Statement::Event(PlannedEvent {
-        line,
+        line: line.number(),
         event: Event { gate, ages },
     }))
 }

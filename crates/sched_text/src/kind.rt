@@ -1,9 +1,8 @@
 // What a line of a schedule is.
-ghost use Rattle.std.specs.Prelude.{◌≡◌, ◌<◌, length};
-ghost use Rattle.blif_text.specs.Lines.{line_at};
+ghost use Rattle.std.specs.Prelude.{◌≡◌};
 ghost use Rattle.sched_text.specs.Kinds.{format_of, kind_of_head, kind_of, kind, may_follow, lacks_lines};
 
-use crate::pieces::Piece;
+use crate::pieces::PieceLine;
 
 /// What a line of a schedule is, by its first word; a line `schedule` also by its second.
 #[derive(Clone, Copy)]
@@ -22,14 +21,13 @@ pub enum Kind {
 }
 
 // What a line is whose first word is `schedule`.
-fn format_of(lines: &Piece, i: usize) -> Kind
-    requires { i < length lines.now }
-    ensures { result ≡ format_of (line_at lines.now i).words }
+fn format_of(line: &PieceLine<'_>) -> Kind
+    ensures { result ≡ format_of line.now.words }
 {
-    if lines.words(i) != 2 {
+    if line.words() != 2 {
         return Kind::Unknown;
     }
-    let format = lines.word(i, 1);
+    let format = line.word(1);
     if format == b"1".as_slice() {
         Kind::FormatOne
     } else if format == b"2".as_slice() {
@@ -74,16 +72,15 @@ fn kind_of(word: &[u8]) -> Kind
 }
 
 // What a line is.
-pub fn kind_at(lines: &Piece, i: usize) -> Kind
-    requires { i < length lines.now }
-    ensures { result ≡ kind (line_at lines.now i) }
+pub fn kind_at(line: &PieceLine<'_>) -> Kind
+    ensures { result ≡ kind line.now }
 {
-    if lines.words(i) == 0 {
+    if line.words() == 0 {
         return Kind::Unknown;
     }
-    let first = lines.word(i, 0);
+    let first = line.word(0);
     if first == b"schedule".as_slice() {
-        return format_of(lines, i);
+        return format_of(line);
     }
     kind_of(first)
 }

@@ -1,48 +1,41 @@
 // What a line of a schedule says.
-ghost use Rattle.std.specs.Prelude.{◌≡◌, ◌<◌, ◌==◌, ◌&&◌, Some, length};
-ghost use Rattle.blif_text.specs.Lines.{line_at};
+ghost use Rattle.std.specs.Prelude.{◌≡◌, ◌==◌, ◌&&◌, Some};
 ghost use Rattle.sched_text.specs.declared.kind.Kind.TheVariants as kinds;
 ghost use Rattle.sched_text.specs.Answers.{Reads};
 ghost use Rattle.sched_text.specs.Kinds.{kind as kind_of_line, lacks_lines as lacks_lines_behind};
 ghost use Rattle.sched_text.specs.LineFaults.{arguments, fault_of_words, fault_at};
 ghost use Rattle.sched_text.specs.Statements.{statement_of, statement};
 
-use crate::bits::{read_gates, read_latches, read_past, read_state};
+use crate::bits::{read_latches, read_width};
 use crate::events::read_event;
 use crate::fault::SchedFault;
 use crate::kind::{Kind, lacks_lines, may_follow};
 use crate::number::number;
-use crate::pieces::Piece;
+use crate::pieces::PieceLine;
 use crate::place::Place;
 use crate::statement::Statement;
 use netlist::Netlist;
 use std::alloc::Global;
 
-fn read_window(net: &Netlist, lines: &Piece, i: usize) -> Result<Statement, SchedFault>
-    requires { i < length lines.now }
-    ensures { let line = line_at lines.now i in
-        Reads result (fault_of_words net.now 0 kinds.Window line.number 0 (arguments line.words)) (statement_of net.now kinds.Window line.number (arguments line.words)) }
+fn read_window(net: &Netlist, line: &PieceLine<'_>) -> Result<Statement, SchedFault>
+    ensures { Reads result (fault_of_words net.now 0 kinds.Window line.now.number 0 (arguments line.now.words)) (statement_of net.now kinds.Window line.now.number (arguments line.now.words)) }
 {
-    let line = lines.number(i);
-    if lines.words(i) != 2 {
-        return Err(SchedFault::BadLine { line });
+    if line.words() != 2 {
+        return Err(line.bad_line());
     }
-    match number(lines.word(i, 1)) {
+    match number(line.word(1)) {
         Some(window) => Ok(Statement::Window(window)),
-        None => Err(SchedFault::BadLine { line }),
+        None => Err(line.bad_line()),
     }
 }
 
-fn read_round(net: &Netlist, lines: &Piece, i: usize) -> Result<Statement, SchedFault>
-    requires { i < length lines.now }
-    ensures { let line = line_at lines.now i in
-        Reads result (fault_of_words net.now 0 kinds.Round line.number 0 (arguments line.words)) (statement_of net.now kinds.Round line.number (arguments line.words)) }
+fn read_round(net: &Netlist, line: &PieceLine<'_>) -> Result<Statement, SchedFault>
+    ensures { Reads result (fault_of_words net.now 0 kinds.Round line.now.number 0 (arguments line.now.words)) (statement_of net.now kinds.Round line.now.number (arguments line.now.words)) }
 {
-    let line = lines.number(i);
-    if lines.words(i) > 1 {
-        return Err(SchedFault::BadLine { line });
+    if line.words() > 1 {
+        return Err(line.bad_line());
     }
-    Ok(Statement::Round(line))
+    Ok(Statement::Round(line.number()))
 }
 
 /// What the lines of a schedule are read for.
@@ -57,17 +50,16 @@ pub struct LineReader<'a> {
 
 impl<'a> LineReader<'a> {
     // What the line of a tick says, where so many began before.
-    fn read_tick(&self, begun: usize, lines: &Piece, i: usize) -> Result<Statement, SchedFault>
-        requires { i < length lines.now }
-        ensures { let line = line_at lines.now i in
-            Reads result (fault_of_words self.now.net.now self.now.ticks kinds.Tick line.number begun (arguments line.words)) (statement_of self.now.net.now kinds.Tick line.number (arguments line.words)) }
+    fn read_tick(&self, begun: usize, line: &PieceLine<'_>) -> Result<Statement, SchedFault>
+        ensures { Reads result (fault_of_words self.now.net.now self.now.ticks kinds.Tick line.now.number begun (arguments line.now.words)) (statement_of self.now.net.now kinds.Tick line.now.number (arguments line.now.words)) }
     {
-        let line = lines.number(i);
-        if lines.words(i) > 1 {
-            return Err(SchedFault::BadLine { line });
+        if line.words() > 1 {
+            return Err(line.bad_line());
         }
         if begun >= self.ticks {
-            return Err(SchedFault::TickCount { line });
+            return Err(SchedFault::TickCount {
+                line: line.number(),
+            });
         }
         Ok(Statement::Tick)
     }
@@ -78,35 +70,29 @@ impl<'a> LineReader<'a> {
         alloc: Global,
         begun: usize,
         kind: Kind,
-        lines: &Piece,
-        i: usize,
+        line: &PieceLine<'_>,
     ) -> Result<Statement, SchedFault>
-        requires { i < length lines.now }
-        ensures { let line = line_at lines.now i in
-            Reads result (fault_of_words self.now.net.now self.now.ticks kind line.number begun (arguments line.words)) (statement_of self.now.net.now kind line.number (arguments line.words)) }
+        ensures { Reads result (fault_of_words self.now.net.now self.now.ticks kind line.now.number begun (arguments line.now.words)) (statement_of self.now.net.now kind line.now.number (arguments line.now.words)) }
     {
         match kind {
             Kind::FormatOne | Kind::FormatTwo => Ok(Statement::Format),
-            Kind::Window => read_window(self.net, lines, i),
-            Kind::Past => read_past(alloc, self.net, lines, i),
-            Kind::Latches => read_latches(alloc, self.net, lines, i),
-            Kind::State => read_state(alloc, self.net, lines, i),
-            Kind::Gates => read_gates(alloc, self.net, lines, i),
-            Kind::Tick => self.read_tick(begun, lines, i),
-            Kind::Round => read_round(self.net, lines, i),
-            Kind::Event => read_event(alloc, self.net, lines, i),
-            Kind::Unknown => Err(SchedFault::BadLine {
-                line: lines.number(i),
-            }),
+            Kind::Window => read_window(self.net, line),
+            Kind::Past => Ok(Statement::Past(read_width(alloc, self.net.count(), line)?)),
+            Kind::Latches => read_latches(alloc, self.net, line),
+            Kind::State => Ok(Statement::State(read_width(alloc, self.net.latches(), line)?)),
+            Kind::Gates => Ok(Statement::Gates(read_width(alloc, self.net.gates(), line)?)),
+            Kind::Tick => self.read_tick(begun, line),
+            Kind::Round => read_round(self.net, line),
+            Kind::Event => read_event(alloc, self.net, line),
+            Kind::Unknown => Err(line.bad_line()),
         }
     }
 
     // Whether the text ends in a line of this kind, and a line is missing behind it.
-    fn is_cut_off(&self, kind: Kind, lines: &Piece, i: usize) -> bool
-        requires { i < length lines.now }
-        ensures { result ≡ (((line_at lines.now i).number == self.now.end) && lacks_lines_behind (Some kind)) }
+    fn is_cut_off(&self, kind: Kind, line: &PieceLine<'_>) -> bool
+        ensures { result ≡ ((line.now.number == self.now.end) && lacks_lines_behind (Some kind)) }
     {
-        lines.number(i) == self.end && lacks_lines(Some(kind))
+        line.number() == self.end && lacks_lines(Some(kind))
     }
 
     // What a line at this place says. The text may end in it too early.
@@ -115,19 +101,14 @@ impl<'a> LineReader<'a> {
         alloc: Global,
         place: Place,
         kind: Kind,
-        lines: &Piece,
-        i: usize,
+        line: &PieceLine<'_>,
     ) -> Result<Statement, SchedFault>
-        requires line { i < length lines.now }
-        requires kind { kind ≡ kind_of_line (line_at lines.now i) }
-        ensures { let line = line_at lines.now i in
-            Reads result (fault_at self.now.net.now self.now.ticks place.before place.begun ((line.number == self.now.end) && lacks_lines_behind (Some kind)) line) (statement self.now.net.now line) }
+        requires { kind ≡ kind_of_line line.now }
+        ensures { Reads result (fault_at self.now.net.now self.now.ticks place.before place.begun ((line.now.number == self.now.end) && lacks_lines_behind (Some kind)) line.now) (statement self.now.net.now line.now) }
     {
-        if self.is_cut_off(kind, lines, i) || !may_follow(place.before, kind) {
-            return Err(SchedFault::BadLine {
-                line: lines.number(i),
-            });
+        if self.is_cut_off(kind, line) || !may_follow(place.before, kind) {
+            return Err(line.bad_line());
         }
-        self.read_words(alloc, place.begun, kind, lines, i)
+        self.read_words(alloc, place.begun, kind, line)
     }
 }

@@ -7,7 +7,7 @@ ghost use Rattle.sched_text.specs.Answers.{IsFault, Reads};
 ghost use Rattle.sched_text.specs.Pieces.{lines_from, bad_line, IsCut, IsNext};
 
 use crate::fault::SchedFault;
-use blif_text::{Lines, TextFault};
+use blif_text::{Lines, TextFault, TextLine};
 use std::alloc::Global;
 use std::marker::Model;
 
@@ -48,27 +48,65 @@ impl Piece {
         self.lines.len()
     }
 
-    /// The number of a line in the text, counted from 1.
-    pub fn number(&self, i: usize) -> u64
+    pub fn line(&self, i: usize) -> PieceLine<'_>
         requires { i < length self.now }
-        ensures { result ≡ (line_at self.now i).number }
+        ensures { result ≡ line_at self.now i }
     {
-        self.before + self.lines.number(i)
+        PieceLine {
+            line: self.lines.line(i),
+            before: self.before,
+        }
+    }
+}
+
+/// A line of a piece: its number in the text, counted from 1, and its words.
+#[derive(Drop)]
+pub struct PieceLine<'a> {
+    line: TextLine<'a>,
+    // how many physical lines of the text stand before its piece
+    before: u64,
+}
+
+impl<'a> Model for PieceLine<'a> {
+    ghost use Rattle.std.specs.Prelude.{◌+◌, ◌<◌, ◌^◌};
+    ghost use Rattle.blif_text.specs.Texts.{Line};
+    ghost use Rattle.sched_text.specs.Pieces.{line_behind};
+
+    ghost Value = { Line };
+
+    ghost view = { λ line. line_behind line.before line.line };
+
+    ghost invariant = { λ line. line.before + line.line.number < 2 ^ 64 };
+}
+
+impl<'a> PieceLine<'a> {
+    pub fn number(&self) -> u64
+        ensures { result ≡ self.now.number }
+    {
+        self.before + self.line.number()
     }
 
-    pub fn words(&self, i: usize) -> usize
-        requires { i < length self.now }
-        ensures { result ≡ length (line_at self.now i).words }
+    pub fn words(&self) -> usize
+        ensures { result ≡ length self.now.words }
     {
-        self.lines.words(i)
+        self.line.words()
     }
 
-    pub fn word(&self, i: usize, k: usize) -> &[u8]
-        requires line { i < length self.now }
-        requires word { k < length (line_at self.now i).words }
-        ensures { result.now ≡ slice_index_or (line_at self.now i).words k [] }
+    /// A word, counted from 0.
+    pub fn word(&self, k: usize) -> &'a [u8]
+        requires { k < length self.now.words }
+        ensures { result.now ≡ slice_index_or self.now.words k [] }
     {
-        self.lines.word(i, k)
+        self.line.word(k)
+    }
+
+    /// The fault that it is no line of a schedule.
+    pub fn bad_line(&self) -> SchedFault
+        ensures { result ≡ BadLine self.now.number }
+    {
+        SchedFault::BadLine {
+            line: self.number(),
+        }
     }
 }
 

@@ -34,8 +34,9 @@ impl<'a> LineReader<'a> {
     {
         let mut next = place;
         for i in 0..lines.len() {
-            let kind = kind_at(lines, i);
-            let said = self.read_line(alloc, next, kind, lines, i)?;
+            let line = lines.line(i);
+            let kind = kind_at(&line);
+            let said = self.read_line(alloc, next, kind, &line)?;
             draft.take(alloc, said)?;
             next = next.after(kind);
         }

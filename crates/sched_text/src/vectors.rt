@@ -1,14 +1,13 @@
 // Vector files.
-ghost use Rattle.std.specs.Prelude.{◌≡◌, ◌≢◌, ◌<◌, ◌&&◌, ◌==◌, false, length, map, MatchResult, IfOk, Ok, Err};
+ghost use Rattle.std.specs.Prelude.{◌≡◌, ◌≢◌, ◌&&◌, ◌==◌, false, map, MatchResult, IfOk, Ok, Err};
 ghost use Rattle.std.specs.List.{list_all};
 ghost use Rattle.std.specs.Result.{result_err};
-ghost use Rattle.blif_text.specs.Lines.{line_at};
 ghost use Rattle.sched_text.specs.declared.fault.SchedFault.TheVariants.{Memory};
 ghost use Rattle.sched_text.specs.Answers.{Reads};
 ghost use Rattle.sched_text.specs.Vectors.{is_value as is_value_byte, is_dash as stands_for_none, word_fault, value_of as value_of_byte, values_of as values_of_word, vector_fault, vector_of, vectors, vectors_read, HaveWidth, AreKnown};
 
 use crate::fault::SchedFault;
-use blif_text::Lines;
+use blif_text::{Lines, TextLine};
 use cyc_base::{Trit, Trits};
 use std::alloc::{AllocError, Global};
 
@@ -74,21 +73,18 @@ fn values_of(alloc: Global, word: &[u8], width: usize) -> Result<Trits, AllocErr
 // The vector of a line.
 fn read_vector(
     alloc: Global,
-    lines: &Lines,
-    i: usize,
+    line: &TextLine<'_>,
     width: usize,
     unknowns: bool,
 ) -> Result<Trits, SchedFault>
-    requires { i < length lines.now }
-    ensures { let line = line_at lines.now i in
-        Reads result (vector_fault width unknowns line) (vector_of width line) }
+    ensures { Reads result (vector_fault width unknowns line.now) (vector_of width line.now) }
 {
-    let line = lines.number(i);
-    if lines.words(i) != 1 {
-        return Err(SchedFault::BadLine { line });
+    let number = line.number();
+    if line.words() != 1 {
+        return Err(SchedFault::BadLine { line: number });
     }
-    let word = lines.word(i, 0);
-    check_word(word, line, width, unknowns)?;
+    let word = line.word(0);
+    check_word(word, number, width, unknowns)?;
     Ok(values_of(alloc, word, width)?)
 }
 
@@ -105,7 +101,7 @@ fn read_lines(
 {
     let mut vectors = Vec::with_capacity(alloc, lines.len())?;
     for i in 0..lines.len() {
-        vectors.push_reserved(read_vector(alloc, lines, i, width, unknowns)?);
+        vectors.push_reserved(read_vector(alloc, &lines.line(i), width, unknowns)?);
     }
     Ok(vectors)
 }

@@ -5,7 +5,8 @@ use Rattle.aig_core.specs.declared.edge.And.{And}
 use Rattle.cyc_io.proofs.TakenLemmas.{appended_equal}
 use Rattle.cyc_io.proofs.ItemLemmas.{appended_item, appended_in_item, appended_items}
 use Rattle.aiger_write.specs.Text.{and_line}
-use Rattle.aiger_write.proofs.TextLemmas.{numbered, item_at, and_is}
+use Rattle.cyc_base.proofs.ListLemmas.{item_at}
+use Rattle.aiger_write.proofs.TextLemmas.{numbered, and_is}
 use Rattle.aiger_write.proofs.graph.put_ands.Goals as goal
 
 pub loop-place-preserved : goal.loop-place-preserved

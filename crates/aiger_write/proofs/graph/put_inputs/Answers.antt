@@ -1,13 +1,11 @@
-use Rattle.std.proofs.Common.{◌≡◌, ℕ, ◌+◌, ◌<◌, get_or, arith, sym, ◌∙◌}
+use Rattle.std.proofs.Common.{arith}
 use Rattle.std.specs.List.{range_with_len}
-use Rattle.std.proofs.lemmas.List.FromFn.{length-range_with_len, get_or-range_with_len}
+use Rattle.std.proofs.lemmas.List.FromFn.{length-range_with_len}
+use Rattle.cyc_base.proofs.ListLemmas.{at_range}
 use Rattle.cyc_io.proofs.TakenLemmas.{appended_none}
 use Rattle.cyc_io.proofs.ItemLemmas.{appended_item, appended_in_item, appended_items}
 use Rattle.aiger_write.specs.Text.{input_line}
 use Rattle.aiger_write.proofs.graph.put_inputs.Goals as goal
-
-listed : (n i : ℕ) → i < n → i ≡ get_or (range_with_len 0 n) i i
-listed n i l = let e : i ≡ 0 + i = omega arith in e ∙ sym (get_or-range_with_len 0 n i i l)
 
 pub loop-input-init : goal.loop-input-init
 loop-input-init g c = appended_none _ _ _
@@ -15,12 +13,12 @@ loop-input-init g c = appended_none _ _ _
 pub loop-input-preserved : goal.loop-input-preserved
 loop-input-preserved g c =
     let n = c.args.aig.now.inputs in
-    appended_item input_line (range_with_len 0 n) c.loop-input.input c.loop-input.input _ _ _ _ _ _ _ _ (omega (arith, length-range_with_len 0 n)) (listed n c.loop-input.input (omega arith)) c.loop-input.invariant c.in_ok-put_line.ensures
+    appended_item input_line (range_with_len 0 n) c.loop-input.input c.loop-input.input _ _ _ _ _ _ _ _ (omega (arith, length-range_with_len 0 n)) (at_range n c.loop-input.input (omega arith)) c.loop-input.invariant c.in_ok-put_line.ensures
 
 pub returns-in_err-put_line : goal.returns-in_err-put_line
 returns-in_err-put_line g c =
     let n = c.args.aig.now.inputs in
-    appended_in_item input_line (range_with_len 0 n) c.loop-input.input c.loop-input.input _ _ _ _ _ _ _ _ _ (omega (arith, length-range_with_len 0 n)) (listed n c.loop-input.input (omega arith)) c.loop-input.invariant c.in_err-put_line.ensures c.from_residual.ensures.0
+    appended_in_item input_line (range_with_len 0 n) c.loop-input.input c.loop-input.input _ _ _ _ _ _ _ _ _ (omega (arith, length-range_with_len 0 n)) (at_range n c.loop-input.input (omega arith)) c.loop-input.invariant c.in_err-put_line.ensures c.from_residual.ensures.0
 
 pub returns : goal.returns
 returns g c =

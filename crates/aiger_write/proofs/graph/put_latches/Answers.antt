@@ -7,7 +7,8 @@ use Rattle.aig_core.specs.Graphs.{edge}
 use Rattle.cyc_io.proofs.TakenLemmas.{appended_equal}
 use Rattle.cyc_io.proofs.ItemLemmas.{appended_item, appended_in_item, appended_items}
 use Rattle.aiger_write.specs.Text.{latch_line}
-use Rattle.aiger_write.proofs.TextLemmas.{numbered, item_at, latch_is}
+use Rattle.cyc_base.proofs.ListLemmas.{item_at}
+use Rattle.aiger_write.proofs.TextLemmas.{numbered, latch_is}
 use Rattle.aiger_write.proofs.graph.put_latches.Goals as goal
 
 pub loop-place-preserved : goal.loop-place-preserved

@@ -1,14 +1,11 @@
-use Rattle.std.proofs.Common.{◌≡◌, ℕ, ◌<◌, length, get_or, sym, ◌∙◌, arith}
+use Rattle.std.proofs.Common.{length, arith}
 use Rattle.std.specs.List.{range_with_len}
-use Rattle.std.proofs.lemmas.List.FromFn.{length-range_with_len, get_or-range_with_len}
+use Rattle.std.proofs.lemmas.List.FromFn.{length-range_with_len}
+use Rattle.cyc_base.proofs.ListLemmas.{at_range}
 use Rattle.report.specs.Explanations.{needed_column}
 use Rattle.cyc_io.proofs.TakenLemmas.{appended_none}
 use Rattle.cyc_io.proofs.ItemLemmas.{appended_item, appended_in_item, appended_items}
 use Rattle.report.proofs.explain_text.put_needed_columns.Goals as goal
-
--- the numbers in order
-at_range : (n i : ℕ) → i < n → i ≡ get_or (range_with_len 0 n) i i
-at_range n i l = sym (get_or-range_with_len 0 n i i l ∙ omega arith)
 
 pub loop-column-init : goal.loop-column-init
 loop-column-init g c = appended_none _ _ _

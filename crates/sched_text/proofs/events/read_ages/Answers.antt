@@ -1,12 +1,12 @@
 use Rattle.std.proofs.Common.{ap, sym, ◌∙◌, arith, Some, None}
-use Rattle.sched_text.proofs.Common.{if◌then◌else◌, line_at, BadLine, number}
+use Rattle.sched_text.proofs.Common.{if◌then◌else◌, BadLine, number}
 use Rattle.sched_text.proofs.AgeLemmas.{ages_next, ages_fault, ages_good, ages_end}
 use Rattle.sched_text.proofs.events.read_ages.Goals as goal
 
 pub loop-k-preserved : goal.loop-k-preserved
 loop-k-preserved c =
     record {
-      ages = ages_next (line_at c.args.lines.now c.args.i).words c.loop-k.ages.items c.push_reserved.new.self.items c.loop-k.k c.in-Some.age c.loop-k.invariant.ages
+      ages = ages_next c.args.line.now.words c.loop-k.ages.items c.push_reserved.new.self.items c.loop-k.k c.in-Some.age c.loop-k.invariant.ages
           (omega (arith, c.loop-k-test.true, c.words-words.ensures))
           (sym (ap number c.word.ensures) ∙ sym c.number.ensures ∙ c.in-Some.is)
           c.push_reserved.ensures.items;
@@ -16,18 +16,18 @@ loop-k-preserved c =
 
 pub returns-in-None : goal.returns-in-None
 returns-in-None c = λ other.
-    ap (λ t. if t then None else Some (BadLine (line_at c.args.lines.now c.args.i).number))
-    (ages_fault (line_at c.args.lines.now c.args.i).words c.loop-k.ages.items c.loop-k.k c.loop-k.invariant.ages
+    ap (λ t. if t then None else Some (BadLine c.args.line.now.number))
+    (ages_fault c.args.line.now.words c.loop-k.ages.items c.loop-k.k c.loop-k.invariant.ages
     (omega (arith, c.loop-k-test.true, c.words-words.ensures))
     (sym (ap number c.word.ensures) ∙ sym c.number.ensures ∙ c.in-None.is))
-    ∙ ap (λ n. Some (BadLine n)) (sym c.number-in-None.ensures)
+    ∙ ap (λ fault. Some fault) (sym c.bad_line.ensures)
 
 pub returns : goal.returns
 returns c = record {
-  no_fault = ap (λ t. if t then None else Some (BadLine (line_at c.args.lines.now c.args.i).number))
-      (ages_good (line_at c.args.lines.now c.args.i).words c.loop-k.ages.items c.loop-k.k c.loop-k.invariant.ages
+  no_fault = ap (λ t. if t then None else Some (BadLine c.args.line.now.number))
+      (ages_good c.args.line.now.words c.loop-k.ages.items c.loop-k.k c.loop-k.invariant.ages
       (omega (arith, c.loop-k-test.false, c.words-words.ensures)));
   is = c.of.ensures
-      ∙ ages_end (line_at c.args.lines.now c.args.i).words c.loop-k.ages.items c.loop-k.k c.loop-k.invariant.ages
+      ∙ ages_end c.args.line.now.words c.loop-k.ages.items c.loop-k.k c.loop-k.invariant.ages
       (omega (arith, c.loop-k-test.false, c.words-words.ensures));
 }

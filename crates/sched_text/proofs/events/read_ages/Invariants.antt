@@ -1,12 +1,12 @@
 use Rattle.std.proofs.Common.{◌≡◌, ◌≤◌, ◌+◌, length}
-use Rattle.sched_text.proofs.Common.{vec_len, vec_capacity, line_at}
+use Rattle.sched_text.proofs.Common.{vec_len, vec_capacity}
 use Rattle.sched_text.proofs.AgeLemmas.{AgesAt}
 use Rattle.sched_text.proofs.events.read_ages.Given as goal
 
 abbrev pub invariant-loop-k : goal.invariant-loop-k
 invariant-loop-k l =
     record {
-      ages : AgesAt (line_at l.lines l.i).words l.ages.items l.k;
+      ages : AgesAt l.line.words l.ages.items l.k;
       len : vec_len l.ages + 2 ≡ l.k;
-      room : length (line_at l.lines l.i).words ≤ vec_capacity l.ages + 2;
+      room : length l.line.words ≤ vec_capacity l.ages + 2;
     }

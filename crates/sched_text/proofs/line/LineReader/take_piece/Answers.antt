@@ -21,17 +21,17 @@ loop-i-preserved c =
     let inside : c.loop-i.i < length c.args.lines.now = omega (arith, c.loop-i-test.true, c.len-i-end.ensures) in
     let cut_off : Bool = ((line_at c.args.lines.now c.loop-i.i).number == c.args.self.now.end) && lacks_lines (Some c.kind_at-kind.result) in
     let cut : cut_off ≡ ends_here c.args.self.now.end (line_at c.args.lines.now c.loop-i.i) =
-    ap (λ k. ((line_at c.args.lines.now c.loop-i.i).number == c.args.self.now.end) && lacks_lines (Some k)) c.kind_at-kind.ensures in
+    ap (λ k. ((line_at c.args.lines.now c.loop-i.i).number == c.args.self.now.end) && lacks_lines (Some k)) (rw c.line-line.ensures at c.kind_at-kind.ensures) in
     let one = at_most_one (is_tick c.kind_at-kind.result) in
     let few = c.loop-i.invariant.few in
     record {
       few = omega (arith, one, few, c.after-next.ensures.begun);
       reads = piece_next c.args.self.now.net.now c.args.self.now.ticks c.args.self.now.end c.args.lines.now c.args.place (seen c.args.draft.now)
           c.loop-i.next (seen c.loop-i.draft) c.loop-i.i cut_off c.loop-i.invariant.reads inside cut
-          c.after-next.result (seen c.take.new.self) c.in_ok-said.ensures.no_fault
-          (c.in_ok-take.ensures ∙ ap (follow (seen c.loop-i.draft)) c.in_ok-said.ensures.is)
-          (c.after-next.ensures.before ∙ ap (λ k. Some k) c.kind_at-kind.ensures)
-          (c.after-next.ensures.begun ∙ ap (λ k. cond (is_tick k) 1 0 + c.loop-i.next.begun) c.kind_at-kind.ensures);
+          c.after-next.result (seen c.take.new.self) (rw c.line-line.ensures at c.in_ok-said.ensures.no_fault)
+          (c.in_ok-take.ensures ∙ ap (follow (seen c.loop-i.draft)) (rw c.line-line.ensures at c.in_ok-said.ensures.is))
+          (c.after-next.ensures.before ∙ ap (λ k. Some k) (rw c.line-line.ensures at c.kind_at-kind.ensures))
+          (c.after-next.ensures.begun ∙ ap (λ k. cond (is_tick k) 1 0 + c.loop-i.next.begun) (rw c.line-line.ensures at c.kind_at-kind.ensures));
     }
 
 pub returns-in_err-said-clause-fault : goal.returns-in_err-said-clause-fault
@@ -39,13 +39,13 @@ returns-in_err-said-clause-fault c =
     let inside : c.loop-i.i < length c.args.lines.now = omega (arith, c.loop-i-test.true, c.len-i-end.ensures) in
     let cut_off : Bool = ((line_at c.args.lines.now c.loop-i.i).number == c.args.self.now.end) && lacks_lines (Some c.kind_at-kind.result) in
     let cut : cut_off ≡ ends_here c.args.self.now.end (line_at c.args.lines.now c.loop-i.i) =
-    ap (λ k. ((line_at c.args.lines.now c.loop-i.i).number == c.args.self.now.end) && lacks_lines (Some k)) c.kind_at-kind.ensures in
+    ap (λ k. ((line_at c.args.lines.now c.loop-i.i).number == c.args.self.now.end) && lacks_lines (Some k)) (rw c.line-line.ensures at c.kind_at-kind.ensures) in
     is_err c.from_residual.result c.in_err-said.field-0.0
     (λ fault. fault ≢ Memory → FailsPiece c.args.self.now.net.now c.args.self.now.ticks c.args.self.now.end c.args.lines.now c.args.place (seen c.args.draft.now) fault)
     c.from_residual.ensures.1
     (λ other. piece_fault c.args.self.now.net.now c.args.self.now.ticks c.args.self.now.end c.args.lines.now c.args.place (seen c.args.draft.now)
     c.loop-i.next (seen c.loop-i.draft) c.loop-i.i cut_off c.loop-i.invariant.reads inside cut
-    c.in_err-said.field-0.0 (c.in_err-said.ensures other))
+    c.in_err-said.field-0.0 (rw c.line-line.ensures at c.in_err-said.ensures other))
 
 pub returns-clause-read : goal.returns-clause-read
 returns-clause-read c =
