@@ -1,18 +1,17 @@
 -- What a name finds in a netlist.
 use Rattle.std.proofs.Common.{◌≡◌, ◌≢◌, ◌⊎◌, inl, inr, ℕ, zero, suc, ◌+◌, ◌-◌, ◌<◌, ◌≤◌, Bool, true, false, ◌||◌, cond, List, [], ◌∷◌, ◌++◌, length, map, get_or, take, slice_get, position, Some, None, refl, sym, ap, ap₂, ◌∙◌, arith}
-use Rattle.equal.proofs.Common.{find, list_any, IsDistinct, option_or, bytes_eq, cases_lt, length-map, get_or_append_left, get_or-append-add, get_or-map, list_any-append, get_or_from_slice_get, slice_get_within, Sig, Latch, Gate, Parts, signal, sig_eq, signal_names, driven_names, IsSignal, IsNetlist, name_of, latch_named, is_input, is_output, number_or_0, column_named, signal_named}
-use Rattle.std.specs.List.{position_or_len, AllPairs}
+use Rattle.equal.proofs.Common.{find, list_any, option_or, bytes_eq, length-map, get_or_append_left, get_or-append-add, get_or-map, list_any-append, get_or_from_slice_get, slice_get_within, Sig, Latch, Gate, Parts, signal, sig_eq, signal_names, driven_names, IsSignal, IsNetlist, name_of, latch_named, is_input, is_output, number_or_0, column_named, signal_named}
+use Rattle.std.specs.List.{position_or_len}
 use Rattle.std.proofs.lemmas.Bool.{cases_eq, lt-ltb, or_parts, eqb-true, eq-eqb}
 use Rattle.std.proofs.lemmas.List.{take_more}
 use Rattle.std.proofs.lemmas.List.Sums.{position_or_len_is}
 use Rattle.std.proofs.lemmas.List.Folds.{list_any_at, find-append}
-use Rattle.std.proofs.lemmas.Map.Made.{AllPairs-from_IsDistinct}
-use Rattle.std.proofs.lemmas.Slice.Eq.{bytes_eq-Decides}
 use Rattle.cyc_base.proofs.ListLemmas.{list_any-map}
-use Rattle.cyc_base.proofs.NameLemmas.{bytes_eq-other, bytes_eq-same}
+use Rattle.cyc_base.proofs.NameLemmas.{bytes_eq-same}
 use Rattle.netlist.proofs.Decisions.{found_none}
 use Rattle.netlist.proofs.NameLemmas.{length-signal_names}
 use Rattle.care_sets.proofs.BindingLemmas as binding
+use Rattle.care_sets.proofs.NameLemmas.{others_differ}
 
 -- ---- searches of lists
 
@@ -70,18 +69,6 @@ find_here p (y ∷ xs) (suc i) x none is passes = by (λ e. find_here p xs i x e
 
 -- ---- names
 
--- a name that stands at one place stands at no other
-pub elsewhere : (names : List (List ℕ)) (name : List ℕ) (s k : ℕ) → IsDistinct bytes_eq names → slice_get names s ≡ Some name → k < length names → k ≢ s → bytes_eq name (get_or names k []) ≡ false
-elsewhere names name s k distinct found inside other =
-    let apart : AllPairs (λ x y. x ≢ y) names = AllPairs-from_IsDistinct bytes_eq-Decides names distinct in
-    let is : get_or names s [] ≡ name = get_or_from_slice_get names s name [] found in
-    let within : s < length names = slice_get_within names s name found in
-    bytes_eq-other name (get_or names k []) (λ e. by apart is within e (cases_lt k s))
-  where
-    by : AllPairs (λ x y. x ≢ y) names → get_or names s [] ≡ name → s < length names → name ≡ get_or names k [] → (k < s) ⊎ (s ≤ k) → ⊥
-    by apart is within e (inl lt) = apart k s [] lt within (sym e ∙ sym is)
-    by apart is within e (inr le) = apart s k [] (omega arith) inside (is ∙ e)
-
 -- the names of inputs and of latches among those of the signals
 pub input_at : (net : Parts) (k : ℕ) → k < length net.inputs → get_or (signal_names net) k [] ≡ get_or net.inputs k []
 input_at net k l = get_or_append_left net.inputs (driven_names net) [] k l
@@ -109,7 +96,7 @@ pub input_behind : (net : Parts) (name : List ℕ) (s : ℕ) → IsNetlist net �
 input_behind net name s valid found behind =
     any_nowhere (bytes_eq name) net.inputs (λ k d l.
     let n = length-signal_names net in
-    ap (bytes_eq name) (get_or_d net.inputs k d [] l ∙ sym (input_at net k l)) ∙ elsewhere (signal_names net) name s k valid.names_differ found (omega arith) (omega arith))
+    ap (bytes_eq name) (get_or_d net.inputs k d [] l ∙ sym (input_at net k l)) ∙ others_differ (signal_names net) name s k valid.names_differ found (omega arith) (omega arith))
   where
     get_or_d : {A : Type 0} (xs : List A) (k : ℕ) (d e : A) → k < length xs → get_or xs k d ≡ get_or xs k e
     get_or_d [] k d e l = absurd (omega arith)
@@ -129,14 +116,14 @@ latch_found net name s latch valid found behind is =
     find_is (λ (l : Latch). bytes_eq name l.name) net.latches i latch is
     (λ k d l.
     let n = length-signal_names net in
-    ap (bytes_eq name) (sym (latch_at net k d (omega arith))) ∙ elsewhere (signal_names net) name s (length net.inputs + k) valid.names_differ found (omega arith) (omega arith))
+    ap (bytes_eq name) (sym (latch_at net k d (omega arith))) ∙ others_differ (signal_names net) name s (length net.inputs + k) valid.names_differ found (omega arith) (omega arith))
     (bytes_eq-same name latch.name (sym (found_is net name s found) ∙ ap (λ k. get_or (signal_names net) k []) (sym e) ∙ latch_at net i latch within ∙ ap (λ (l : Latch). l.name) (get_or_from_slice_get net.latches i latch latch is)))
 
 latch_elsewhere : (net : Parts) (name : List ℕ) (s : ℕ) → IsNetlist net → slice_get (signal_names net) s ≡ Some name → (s < length net.inputs) ⊎ (length net.inputs + length net.latches ≤ s) → latch_named net name ≡ None
 latch_elsewhere net name s valid found outside =
     find_nowhere (λ (l : Latch). bytes_eq name l.name) net.latches (λ k d l.
     let n = length-signal_names net in
-    ap (bytes_eq name) (sym (latch_at net k d l)) ∙ elsewhere (signal_names net) name s (length net.inputs + k) valid.names_differ found (omega arith) (by outside k l))
+    ap (bytes_eq name) (sym (latch_at net k d l)) ∙ others_differ (signal_names net) name s (length net.inputs + k) valid.names_differ found (omega arith) (by outside k l))
   where
     by : (s < length net.inputs) ⊎ (length net.inputs + length net.latches ≤ s) → (k : ℕ) → k < length net.latches → length net.inputs + k ≢ s
     by (inl l) k m e = absurd (omega arith)
@@ -166,7 +153,7 @@ output_found net name s valid found =
         let n = length-signal_names net in
         elim (cases_eq s t.0) [
           | inl e ↦ eq-eqb s t.0 e ∙ sym (bytes_eq-same name (name_of net t) (sym (found_is net name s found) ∙ ap (λ k. get_or (signal_names net) k []) e))
-          | inr ne ↦ other (sig_eq (signal s) t) refl ne ∙ sym (elsewhere (signal_names net) name s t.0 valid.names_differ found (omega arith) (λ e. ne (sym e)))
+          | inr ne ↦ other (sig_eq (signal s) t) refl ne ∙ sym (others_differ (signal_names net) name s t.0 valid.names_differ found (omega arith) (λ e. ne (sym e)))
         ]
       where
         other : (b : Bool) → sig_eq (signal s) t ≡ b → s ≢ t.0 → sig_eq (signal s) t ≡ false
@@ -197,7 +184,7 @@ signal_place net name s valid found =
     let within : s < length (signal_names net) = slice_get_within (signal_names net) s name found in
     let is : position_or_len (bytes_eq name) (signal_names net) ≡ s =
     position_or_len_is (bytes_eq name) (signal_names net) s [] (omega arith)
-    (λ k lt. elsewhere (signal_names net) name s k valid.names_differ found (omega arith) (omega arith))
+    (λ k lt. others_differ (signal_names net) name s k valid.names_differ found (omega arith) (omega arith))
     (λ _. bytes_eq-same name (get_or (signal_names net) s []) (sym (found_is net name s found))) in
     let below : position_or_len (bytes_eq name) (signal_names net) < length (signal_names net) = omega arith in
     sym (ap (λ t. cond t (Some (position_or_len (bytes_eq name) (signal_names net))) None) (lt-ltb _ _ below) ∙ ap (λ n. Some n) is)
