@@ -4,7 +4,7 @@ use Rattle.delay_core.proofs.Common.{PlayFault, schedule_fault, tick_of}
 use Rattle.delay_core.specs.ScheduledRuns.{Scheduled, planned}
 use Rattle.delay_core.specs.declared.fault.PlayFault.TheVariants.{Memory}
 use Rattle.delay_core.proofs.EndLemmas.{ticks_told, ticks_in_time, inputs_fit}
-use Rattle.delay_core.proofs.FairLemmas.{schedule_fair}
+use Rattle.delay_core.proofs.UnfairLemmas.{schedule_iff}
 use Rattle.delay_core.proofs.WholeLemmas.{err_is, first_opens, next_opens, tick_fails, tick_played, whole_none, whole_ends, whole_changes}
 use Rattle.delay_core.proofs.whole.play_run.Goals as goal
 
@@ -58,7 +58,7 @@ returns-clause-changed c =
     whole_changes c.args.run.now c.args.log.now _ _ _ c.loop-tick.tick c.loop-tick.invariant.played (omega (arith, c.loop-tick-test.false, c.ticks-tick-end.ensures.ticks))
 
 pub returns-clause-fair : goal.returns-clause-fair
-returns-clause-fair c = schedule_fair c.args.run.now.net c.args.run.now.schedule (planned c.args.run.now) (returns-clause-whole c)
+returns-clause-fair c = (schedule_iff c.args.run.now.net c.args.run.now.schedule (planned c.args.run.now)).0 (returns-clause-whole c)
 
 pub returns-clause-settled : goal.returns-clause-settled
 returns-clause-settled c =
