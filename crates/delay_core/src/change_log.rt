@@ -49,7 +49,7 @@ impl ChangeLog {
         self.changes.is_some()
     }
 
-    /// Adds a change, where there is one.
+    /// Adds a change, where there is one and it keeps changes.
     pub(crate) fn add(&mut self, change: Option<Change>) -> Result<(), AllocError>
         ensures { OnOk result (self.new ≡ logged self.old (cons_option change [])) }
     {

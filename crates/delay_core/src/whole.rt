@@ -226,7 +226,7 @@ fn play_tick(
 }
 
 /// Plays a run whole, tells how each tick ended, and keeps its changes, where the log is on; or answers its first fault in
-/// the order of play.
+/// the order of play, and nothing is said of the log.
 pub fn play_run(
     alloc: Global,
     run: &ScheduledRun<'_>,
@@ -277,7 +277,6 @@ pub fn play_whole(
     ensures settled { OnOk result (All (SettledIsTold net.now) (ticks_of net.now (run_of schedule.now vectors.now))) }
     ensures in_time { OnOk result (All (SettlesInTime net.now schedule.now.window) (ticks_of net.now (run_of schedule.now vectors.now))) }
 {
-    let _window = schedule.window;
     let run = ScheduledRun::new(net, vectors, schedule);
     play_run(alloc, &run, &mut ChangeLog::off())
 }
