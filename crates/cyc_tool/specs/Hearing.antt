@@ -4,7 +4,7 @@ use Rattle.std.specs.declared.option.Option.{Option}
 use Rattle.netlist.specs.declared.parts.Parts.{Parts}
 use Rattle.delay_core.specs.declared.change.Change.{Change}
 use Rattle.delay_core.specs.declared.plan.Schedule.{Schedule}
-use Rattle.probes.specs.Changes.{changes}
+use Rattle.delay_core.specs.Changes.{changes}
 use Rattle.probes.specs.Hearing.{EachHearsPrefix}
 use Rattle.probes.specs.declared.kind.Kind.{Kind}
 use Rattle.commands.specs.Words.{Command, Delays}

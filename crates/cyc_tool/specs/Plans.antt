@@ -6,7 +6,7 @@ use Rattle.cyc_base.specs.declared.limits.TheConstants.{DEFAULT_NODES}
 use Rattle.cyc_base.specs.declared.trit.Trit.{Trit}
 use Rattle.netlist.specs.declared.parts.Parts.{Parts}
 use Rattle.delay_core.specs.declared.plan.Schedule.{Schedule}
-use Rattle.probes.specs.Changes.{changes}
+use Rattle.delay_core.specs.Changes.{changes}
 use Rattle.probes.specs.declared.kind.Kind.{Kind}
 use Rattle.probes.specs.declared.kind.Kind.TheVariants.{Vcd}
 use Rattle.delay_core.specs.declared.change.Change.{Change}

@@ -4,7 +4,7 @@ ghost use Rattle.care_sets.specs.Care.{is_one};
 ghost use Rattle.parsed_files.specs.Faults.{IsErrorOf};
 ghost use Rattle.parsed_files.specs.Seen.{error_seen};
 ghost use Rattle.cyc_io.specs.Text.{text_bytes};
-ghost use Rattle.probes.specs.Changes.{changes};
+ghost use Rattle.delay_core.specs.Changes.{changes};
 ghost use Rattle.probes.specs.Hearing.{EachHears, EachHearsPrefix};
 ghost use Rattle.probes.specs.Showing.{texts_of};
 ghost use Rattle.report.specs.Ticks.{played_text};

@@ -2,7 +2,7 @@
 ghost use Rattle.std.specs.Prelude.{◌≡◌, ◌⊎◌, ◌≤◌, [], All, None, Some, length};
 ghost use Rattle.commands.specs.Seen.{options_seen};
 ghost use Rattle.commands.specs.Words.{command_of};
-ghost use Rattle.probes.specs.Changes.{changes};
+ghost use Rattle.delay_core.specs.Changes.{changes};
 ghost use Rattle.sched_text.specs.Fitting.{FitsNetlist};
 ghost use Rattle.cyc_tool.specs.Calls.{shelf_call, sink_call, ComesTo, Follows, KeepsNodes, Tells, Runs, WriteFailed};
 ghost use Rattle.cyc_tool.specs.Causes.{GivesAnswer, HasCompared, HasExplained, HasGraph, HasRewritten, HasStormed, IsComplete, IsDoneWith, IsFaulty, IsHelpedBy, IsUnread, IsWithoutCommand, MeetsLimit, NoneFell, Reaches};

@@ -1,14 +1,13 @@
 -- What is played without a fault is fair, and makes the moments of its run.
 use Rattle.std.proofs.Common.{◌≡◌, ◌⊎◌, inl, inr, ℕ, suc, ◌+◌, Bool, true, false, List, [], ◌∷◌, ◌++◌, length, map, reverse, get_or, All, Any, None, Some, Option, refl, ap, ap₂, sym, ◌∙◌, arith, true≢false}
-use Rattle.delay_core.proofs.Common.{option_map, option_or, cases_eq, length-set, length-map, length-replicate, get_or-set_other, Parts, wires, Event, Moment, History, newest, IsEventOf, Played, gates_at, loaded_at, played, play, EventFault, PlayFault, PlannedEvent, RoundPlan, Schedule, PlayState, first_allowed, event_fault, no_events, after_event, next_tick, planned_fault, after_planned, events_fault, after_plan, round_fault, after_plans, rounds_fault, PlannedTick, ticks_fault, first_opened, tick_of, IsPlayedFairly, rest_of}
+use Rattle.delay_core.proofs.Common.{option_or, cases_eq, length-set, length-map, length-replicate, get_or-set_other, Parts, wires, Event, Moment, History, newest, IsEventOf, gates_at, loaded_at, play, PlayFault, PlannedEvent, RoundPlan, Schedule, PlayState, first_allowed, event_fault, no_events, after_event, next_tick, planned_fault, after_planned, events_fault, after_plan, round_fault, after_plans, PlannedTick, first_opened, tick_of, rest_of}
 use Rattle.std.proofs.lemmas.List.Elements.{All-nil, All-cons}
 use Rattle.schedules.specs.Moments.{Round, after_events, after_rounds}
-use Rattle.schedules.specs.Fairness.{ReadsFrom, IsFairRound, earliest, AreFairAfter, IsFair}
+use Rattle.schedules.specs.Fairness.{ReadsFrom, IsFairRound}
 use Rattle.schedules.proofs.RoundLemmas.{length-after_events}
-use Rattle.delay_core.specs.declared.fault.PlayFault.TheVariants as refused
 use Rattle.delay_core.specs.Plays.{unfair_gate}
-use Rattle.delay_core.specs.Plans.{unfair_fault, first_fault, round_of, end_at, end_of}
-use Rattle.delay_core.proofs.PlayLemmas.{IsAllowed, is_allowed, never_true, each_had}
+use Rattle.delay_core.specs.Plans.{unfair_fault, round_of, end_at, end_of}
+use Rattle.delay_core.proofs.PlayLemmas.{IsAllowed, none_mapped, is_allowed, never_true, each_had}
 
 abbrev pub events_of : List PlannedEvent → Round
 events_of = map (λ planned. planned.event)
@@ -72,13 +71,8 @@ pub both_none : (first second : Option PlayFault) → option_or first second ≡
 both_none None second e = (refl, e)
 both_none (Some x) second e = cc
 
-unplanned : (line : ℕ) (fault : Option EventFault) → option_map (λ f. refused.Event line f) fault ≡ None → fault ≡ None
-unplanned line None e = refl
-unplanned line (Some f) e = cc
-
-each_gate : (line : ℕ) (gate : Option ℕ) → option_map (λ g. refused.Unfair line g) gate ≡ None → gate ≡ None
-each_gate line None e = refl
-each_gate line (Some g) e = cc
+pub planned_allowed : (start : PlayState) (planned : PlannedEvent) → planned_fault start planned ≡ None → IsAllowed start planned.event
+planned_allowed start planned none = is_allowed start planned.event (none_mapped _ (event_fault start planned.event) none)
 
 Any-first : (P : Event → Type 0) (x : Event) (xs : List Event) → P x → Any P (x ∷ xs)
 Any-first P x xs p = (0, x, omega arith, refl, p)
@@ -108,7 +102,7 @@ events_fair : (start : PlayState) (events : List PlannedEvent) → events_fault 
 events_fair start [] e = record { valid = All-nil (IsEventOf start.net); reads = tt; had = λ n t. inl t }
 events_fair start (planned ∷ later) e =
     let parts = both_none (planned_fault start planned) (events_fault (after_event start planned.event) later) e in
-    let allowed : IsAllowed start planned.event = is_allowed start planned.event (unplanned planned.line (event_fault start planned.event) parts.0) in
+    let allowed : IsAllowed start planned.event = planned_allowed start planned parts.0 in
     let rest = events_fair (after_event start planned.event) later parts.1 in
     record {
       valid = All-cons (IsEventOf start.net) planned.event (events_of later) allowed.of rest.valid;
@@ -130,7 +124,7 @@ round_fair start round begun e =
     record {
       events = fair.valid;
       each_gate = λ n l.
-          elim (fair.had n (each_had after.done (each_gate round.line (unfair_gate after) parts.1) n (omega (arith, width)))) [
+          elim (fair.had n (each_had after.done (none_mapped _ (unfair_gate after) parts.1) n (omega (arith, width)))) [
             | inl before ↦ absurd (had_none start n begun before)
             | inr any ↦ any
           ];
@@ -151,52 +145,6 @@ pub length_more : (start : PlayState) (round : RoundPlan) → length (after_plan
 length_more start round =
     ap (λ (h : History). length h) (events_history start round.events)
     ∙ length-after_events start.net start.history (round_of round)
-
-rounds_fair : (start : PlayState) (rounds : List RoundPlan) (before : List ℕ) → start.done ≡ no_events start.net → start.starts ≡ length start.history ∷ before → rounds_fault start rounds ≡ None → AreFairAfter start.net start.window before (length start.history) (map round_of rounds)
-rounds_fair start [] before begun is e = tt
-rounds_fair start (round ∷ later) before begun is e =
-    let next : PlayState = after_plan start round in
-    let parts = both_none (round_fault start round) (rounds_fault next later) e in
-    let here : IsFairRound start.net (earliest start.window (length start.history ∷ before)) (length start.history) (round_of round) =
-    rw (ap (earliest start.window) is) at (round_fair start round begun parts.0) in
-    let kept = round_keeps start round in
-    let rest : AreFairAfter next.net next.window (length start.history ∷ before) (length next.history) (map round_of later) =
-    rounds_fair next later (length start.history ∷ before) refl (starts_more start round before is) parts.1 in
-    (here, rw (kept.net, kept.window, length_more start round) at rest)
-
--- a tick that has opened
-pub opened_fair : (start : PlayState) (rounds : List RoundPlan) → start.done ≡ no_events start.net → start.starts ≡ length start.history ∷ [] → rounds_fault start rounds ≡ None → IsFair start.net start.window start.history (map round_of rounds)
-opened_fair start rounds begun is e = rounds_fair start rounds [] begun is e
-
--- ---- ticks
-
-ticks_fair : (start : PlayState) (ticks : List PlannedTick) → start.done ≡ no_events start.net → ticks_fault start ticks ≡ None → All (IsPlayedFairly start.net start.window) (rest_of start.net start.history (map tick_of ticks))
-ticks_fair start [] begun e = All-nil (IsPlayedFairly start.net start.window)
-ticks_fair start (tick ∷ later) begun e =
-    let opened : PlayState = next_tick start tick.0 in
-    let after : PlayState = after_plans opened tick.1 in
-    let parts = both_none (rounds_fault opened tick.1) (ticks_fault after later) e in
-    let first : Played = played start.net start.history (loaded_at start.net (newest start.history)) (gates_at start.net (newest start.history)) (tick_of tick) in
-    let here : IsPlayedFairly start.net start.window first = opened_fair opened tick.1 begun refl parts.0 in
-    let kept = rounds_keep opened tick.1 begun in
-    let rest : All (IsPlayedFairly after.net after.window) (rest_of after.net after.history (map tick_of later)) =
-    ticks_fair after later kept.begun parts.1 in
-    All-cons (IsPlayedFairly start.net start.window) first (rest_of start.net first.ended (map tick_of later)) here
-    (rw (kept.net, kept.window, rounds_history opened tick.1) at rest)
-
-pub schedule_fair : (net : Parts) (schedule : Schedule) (plans : List PlannedTick) → first_fault net schedule plans ≡ None → All (IsPlayedFairly net schedule.window) (play net (reverse schedule.past) schedule.latches schedule.gates (map tick_of plans))
-schedule_fair net schedule [] e = All-nil (IsPlayedFairly net schedule.window)
-schedule_fair net schedule (tick ∷ later) e =
-    let opened : PlayState = first_opened net schedule tick.0 in
-    let after : PlayState = after_plans opened tick.1 in
-    let parts = both_none (rounds_fault opened tick.1) (ticks_fault after later) e in
-    let first : Played = played net (reverse schedule.past) schedule.latches schedule.gates (tick_of tick) in
-    let here : IsPlayedFairly net schedule.window first = opened_fair opened tick.1 refl refl parts.0 in
-    let kept = rounds_keep opened tick.1 refl in
-    let rest : All (IsPlayedFairly after.net after.window) (rest_of after.net after.history (map tick_of later)) =
-    ticks_fair after later kept.begun parts.1 in
-    All-cons (IsPlayedFairly net schedule.window) first (rest_of net first.ended (map tick_of later)) here
-    (rw (kept.net, kept.window, rounds_history opened tick.1) at rest)
 
 -- ---- how ticks end
 

@@ -1,6 +1,6 @@
 -- The history that entries tell.
 use Rattle.std.proofs.Common.{◌≡◌, ℕ, zero, suc, ◌+◌, ◌-◌, ◌<◌, ◌≤◌, Bool, false, List, [], ◌∷◌, ◌++◌, length, drop, get_or, set, refl, ap, ap₂, sym, ◌∙◌, arith, add-one}
-use Rattle.delay_core.proofs.Common.{range_with_len, length-map, ext_get_or, get_or-map, get_or_read, length-range_with_len, get_or-range_with_len, History, moment_at, newest, value_from, history_of, WritesMoment, Told}
+use Rattle.delay_core.proofs.Common.{range_with_len, length-map, ext_get_or, get_or-map, get_or_read, length-range_with_len, get_or-range_with_len, moment_at, newest, value_from, history_of, WritesMoment, Told}
 use Rattle.delay_core.specs.declared.entry.Entry.{Entry}
 use Rattle.delay_core.specs.Entries.{entry_at, moment_of, entries_of, AreLinked, AreDated, Writes}
 use Rattle.delay_core.specs.Timelines.{IsTimeline}
@@ -132,6 +132,3 @@ told-age entries heads n spare age told e l =
 
 pub told-width : (entries : List Entry) (heads : List ℕ) (n spare : ℕ) (told : Told) → IsTimeline entries heads n → told_by entries heads n spare ≡ told → length (newest told.history) ≡ length heads
 told-width entries heads n spare told is e = rw (← e) (width-told entries heads n is.some)
-
-abbrev pub told : History → ℕ → Told
-told h spare = record { history = h; spare = spare }

@@ -1,3 +1,4 @@
+pub mod ChangeLemmas
 pub mod Common
 mod EndLemmas
 mod EntryLemmas
@@ -5,7 +6,7 @@ mod EventListLemmas
 pub mod FairLemmas
 mod HistoryLemmas
 mod PlanLemmas
-mod PlayLemmas
+pub mod PlayLemmas
 mod ReadingLemmas
 mod UnfairLemmas
-pub mod WholeLemmas
+mod WholeLemmas

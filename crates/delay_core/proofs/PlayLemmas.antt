@@ -3,14 +3,14 @@ use Rattle.std.proofs.Common.{◌≡◌, inl, inr, ℕ, ◌+◌, ◌≤◌, ◌<
 use Rattle.delay_core.proofs.Common.{cases_eq, cases_lt, length-replicate, Parts, History, newest, position, option_map, count, gate_at, Event, IsEventOf, EventFault, PlayState, first_allowed, event_fault, no_events}
 use Rattle.std.proofs.lemmas.List.{get_or-replicate, get_or_past}
 use Rattle.std.specs.Prelude.{if◌then◌else◌}
-use Rattle.std.proofs.lemmas.Bool.{ltb-true, ltb-false}
+use Rattle.std.proofs.lemmas.Bool.{ltb-true, ltb-false, not-false}
 use Rattle.netlist.proofs.Decisions.{none_found}
 use Rattle.delay_core.specs.declared.fault.EventFault.TheVariants.{NoGate, AgeCount, TooOld}
 use Rattle.delay_core.specs.Plays.{is_too_old, IsPlay}
 
-nothing : (o : Option ℕ) → option_map TooOld o ≡ None → o ≡ None
-nothing None e = refl
-nothing (Some pin) e = cc
+pub none_mapped : {A B : Type 0} (f : A → B) (o : Option A) → option_map f o ≡ None → o ≡ None
+none_mapped f None e = refl
+none_mapped f (Some x) e = cc
 
 -- an event that isn't refused is one of the netlist, and reads what it may
 pub record IsAllowed (play : PlayState) (event : Event) : Type 0 where
@@ -28,7 +28,7 @@ is_allowed play event e =
     record {
       of = record { gate = ltb-true _ _ parts.0; ages = eqb-true _ _ parts.1 };
       ages = λ k d l.
-          let fine : is_too_old play (get_or event.ages k d) ≡ false = none_found (is_too_old play) event.ages (nothing (position (is_too_old play) event.ages) parts.2) k d l in
+          let fine : is_too_old play (get_or event.ages k d) ≡ false = none_found (is_too_old play) event.ages (none_mapped TooOld (position (is_too_old play) event.ages) parts.2) k d l in
           ltb-false (length play.history) (first_allowed play + get_or event.ages k d) fine;
     }
 
@@ -40,13 +40,9 @@ never_true n k =
       | inr l ↦ get_or_past (replicate n false) k false (omega (arith, length-replicate n false))
     ]
 
-true_not : (b : Bool) → not b ≡ false → b ≡ true
-true_not true e = refl
-true_not false e = cc
-
 -- where no gate is left without an event, each had one
 pub each_had : (gates : List Bool) → position (λ had. not had) gates ≡ None → (n : ℕ) → n < length gates → get_or gates n false ≡ true
-each_had gates none n l = true_not (get_or gates n false) (none_found (λ (b : Bool). not b) gates none n false l)
+each_had gates none n l = not-false (get_or gates n false) (none_found (λ (b : Bool). not b) gates none n false l)
 
 no_gates : (gates : List Bool) → length gates ≡ 0 → gates ≡ []
 no_gates [] e = refl

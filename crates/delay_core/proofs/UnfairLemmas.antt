@@ -1,14 +1,16 @@
--- What is fair is played without a fault.
-use Rattle.std.proofs.Common.{◌≡◌, ◌⊎◌, inl, inr, ℕ, zero, suc, ◌+◌, ◌<◌, ◌==◌, Bool, true, false, not, List, [], ◌∷◌, length, map, reverse, get_or, set, All, Any, None, Option, refl, ap, ◌∙◌, arith, nat_lt}
-use Rattle.delay_core.proofs.Common.{position, option_map, option_or, cases_eq, length-set, length-replicate, get_or-set_other, get_or_default, All-head, All-tail, Parts, gate_at, Event, newest, IsEventOf, Played, gates_at, loaded_at, played, play, EventFault, PlayFault, PlannedEvent, RoundPlan, Schedule, PlayState, first_allowed, event_fault, no_events, after_event, next_tick, planned_fault, after_planned, events_fault, after_plan, round_fault, after_plans, rounds_fault, PlannedTick, ticks_fault, first_opened, tick_of, IsPlayedFairly, rest_of}
+-- What is fair is played without a fault, and nothing else is.
+use Rattle.std.proofs.Common.{◌≡◌, ◌↔◌, ◌⊎◌, inl, inr, ℕ, zero, suc, ◌+◌, ◌<◌, ◌==◌, Bool, true, false, not, List, [], ◌∷◌, length, map, reverse, get_or, set, All, Any, None, Option, refl, ap, ◌∙◌, arith, nat_lt}
+use Rattle.delay_core.proofs.Common.{position, option_map, option_or, cases_eq, length-set, length-replicate, get_or-set_other, get_or_default, All-head, All-tail, Parts, History, gate_at, Event, newest, IsEventOf, Played, loaded_at, play, EventFault, PlayFault, PlannedEvent, RoundPlan, Schedule, PlayState, first_allowed, event_fault, no_events, after_event, next_tick, planned_fault, after_planned, events_fault, after_plan, round_fault, after_plans, rounds_fault, PlannedTick, ticks_fault, first_opened, tick_of, IsPlayedFairly, rest_of}
 use Rattle.std.proofs.lemmas.Bool.{lt-ltb, le-ltb, eq-eqb}
 use Rattle.std.proofs.lemmas.List.{get_or-set_same}
+use Rattle.std.proofs.lemmas.List.Elements.{All-nil, All-cons}
 use Rattle.netlist.proofs.Decisions.{found_none}
-use Rattle.schedules.specs.Fairness.{ReadsFrom, IsFairRound, earliest, AreFairAfter, IsFair}
+use Rattle.schedules.specs.Moments.{after_rounds}
+use Rattle.schedules.specs.Fairness.{ReadsFrom, IsFairRound, earliest, AreFairAfter}
 use Rattle.delay_core.specs.declared.fault.PlayFault.TheVariants as refused
 use Rattle.delay_core.specs.Plays.{is_too_old, unfair_gate}
 use Rattle.delay_core.specs.Plans.{unfair_fault, first_fault, round_of}
-use Rattle.delay_core.proofs.FairLemmas.{events_of, events_keep, round_keeps, rounds_keep, rounds_history, starts_more, length_more}
+use Rattle.delay_core.proofs.FairLemmas.{events_of, both_none, round_fair, events_keep, round_keeps, rounds_keep, rounds_history, starts_more, length_more}
 use Rattle.delay_core.proofs.PlayLemmas.{IsAllowed}
 
 -- an element of which a fact holds stands first, or among the rest
@@ -86,45 +88,57 @@ round_none start round begun fair =
     (events_none start round.events fair.events fair.reads)
     (ap (λ (g : Option ℕ). option_map (λ n. refused.Unfair round.line n) g) none)
 
-rounds_none : (start : PlayState) (rounds : List RoundPlan) (before : List ℕ) → start.done ≡ no_events start.net → start.starts ≡ length start.history ∷ before → AreFairAfter start.net start.window before (length start.history) (map round_of rounds) → rounds_fault start rounds ≡ None
-rounds_none start [] before begun is fair = refl
-rounds_none start (round ∷ later) before begun is fair =
+-- ---- so a schedule has no fault exactly where it is fair
+
+both_iff : (first second : Option PlayFault) {P Q : Type 0} → (first ≡ None) ↔ P → (second ≡ None) ↔ Q → (option_or first second ≡ None) ↔ (P × Q)
+both_iff first second here there = (
+  (λ none. let parts = both_none first second none in (here.0 parts.0, there.0 parts.1)),
+  (λ both. no_first first second (here.1 both.0) (there.1 both.1)),
+)
+
+rounds_iff : (start : PlayState) (rounds : List RoundPlan) (before : List ℕ) → start.done ≡ no_events start.net → start.starts ≡ length start.history ∷ before →
+    (rounds_fault start rounds ≡ None) ↔ AreFairAfter start.net start.window before (length start.history) (map round_of rounds)
+rounds_iff start [] before begun is = (λ none. tt, λ fair. refl)
+rounds_iff start (round ∷ later) before begun is =
     let next : PlayState = after_plan start round in
-    let here : IsFairRound start.net (first_allowed start) (length start.history) (round_of round) =
-    rw (ap (earliest start.window) is) fair.0 in
     let kept = round_keeps start round in
-    let rest : AreFairAfter next.net next.window (length start.history ∷ before) (length next.history) (map round_of later) =
-    rw (kept.net, kept.window, length_more start round) fair.1 in
-    no_first (round_fault start round) (rounds_fault next later) (round_none start round begun here)
-    (rounds_none next later (length start.history ∷ before) refl (starts_more start round before is) rest)
+    let here : (round_fault start round ≡ None) ↔ IsFairRound start.net (earliest start.window (length start.history ∷ before)) (length start.history) (round_of round) = (
+      (λ none. rw (ap (earliest start.window) is) at (round_fair start round begun none)),
+      (λ fair. round_none start round begun (rw (ap (earliest start.window) is) fair)),
+    ) in
+    let rest = rounds_iff next later (length start.history ∷ before) refl (starts_more start round before is) in
+    both_iff (round_fault start round) (rounds_fault next later) here
+    (λ none. rw (kept.net, kept.window, length_more start round) at (rest.0 none), λ fair. rest.1 (rw (kept.net, kept.window, length_more start round) fair))
 
-opened_none : (start : PlayState) (rounds : List RoundPlan) → start.done ≡ no_events start.net → start.starts ≡ length start.history ∷ [] → IsFair start.net start.window start.history (map round_of rounds) → rounds_fault start rounds ≡ None
-opened_none start rounds begun is fair = rounds_none start rounds [] begun is fair
+-- a tick that has opened, and those behind it
+opened_iff : (opened : PlayState) (rounds : List RoundPlan) (later : List PlannedTick) (inputs latches : List Bool) → opened.done ≡ no_events opened.net → opened.starts ≡ length opened.history ∷ [] →
+    let after = after_plans opened rounds in
+    let ended = after_rounds opened.net opened.history (map round_of rounds) in
+    (ticks_fault after later ≡ None) ↔ All (IsPlayedFairly after.net after.window) (rest_of after.net after.history (map tick_of later)) →
+    (option_or (rounds_fault opened rounds) (ticks_fault after later) ≡ None)
+    ↔ All (IsPlayedFairly opened.net opened.window) (record { inputs = inputs; latches = latches; rounds = map round_of rounds; opened = opened.history; ended = ended } ∷ rest_of opened.net ended (map tick_of later))
+opened_iff opened rounds later inputs latches begun is there =
+    let fairly = IsPlayedFairly opened.net opened.window in
+    let ended : History = after_rounds opened.net opened.history (map round_of rounds) in
+    let first : Played = record { inputs = inputs; latches = latches; rounds = map round_of rounds; opened = opened.history; ended = ended } in
+    let rest : List Played = rest_of opened.net ended (map tick_of later) in
+    let kept = rounds_keep opened rounds begun in
+    let both = both_iff (rounds_fault opened rounds) (ticks_fault (after_plans opened rounds) later) (rounds_iff opened rounds [] begun is)
+    (λ none. rw (kept.net, kept.window, rounds_history opened rounds) at (there.0 none), λ fair. there.1 (rw (kept.net, kept.window, rounds_history opened rounds) fair)) in (
+      (λ none. All-cons fairly first rest (both.0 none).0 (both.0 none).1),
+      (λ fair. both.1 (All-head fairly first rest fair, All-tail fairly first rest fair)),
+    )
 
-ticks_none : (start : PlayState) (ticks : List PlannedTick) → start.done ≡ no_events start.net → All (IsPlayedFairly start.net start.window) (rest_of start.net start.history (map tick_of ticks)) → ticks_fault start ticks ≡ None
-ticks_none start [] begun fair = refl
-ticks_none start (tick ∷ later) begun fair =
+ticks_iff : (start : PlayState) (ticks : List PlannedTick) → start.done ≡ no_events start.net → (ticks_fault start ticks ≡ None) ↔ All (IsPlayedFairly start.net start.window) (rest_of start.net start.history (map tick_of ticks))
+ticks_iff start [] begun = (λ none. All-nil (IsPlayedFairly start.net start.window), λ fair. refl)
+ticks_iff start (tick ∷ later) begun =
     let opened : PlayState = next_tick start tick.0 in
-    let after : PlayState = after_plans opened tick.1 in
-    let first : Played = played start.net start.history (loaded_at start.net (newest start.history)) (gates_at start.net (newest start.history)) (tick_of tick) in
-    let rest : List Played = rest_of start.net first.ended (map tick_of later) in
-    let here : IsPlayedFairly start.net start.window first = All-head (IsPlayedFairly start.net start.window) first rest fair in
-    let kept = rounds_keep opened tick.1 begun in
-    let others : All (IsPlayedFairly after.net after.window) (rest_of after.net after.history (map tick_of later)) =
-    rw (kept.net, kept.window, rounds_history opened tick.1) (All-tail (IsPlayedFairly start.net start.window) first rest fair) in
-    no_first (rounds_fault opened tick.1) (ticks_fault after later)
-    (opened_none opened tick.1 begun refl here) (ticks_none after later kept.begun others)
+    opened_iff opened tick.1 later tick.0 (loaded_at start.net (newest start.history)) begun refl
+    (ticks_iff (after_plans opened tick.1) later (rounds_keep opened tick.1 begun).begun)
 
-pub schedule_none : (net : Parts) (schedule : Schedule) (plans : List PlannedTick) → All (IsPlayedFairly net schedule.window) (play net (reverse schedule.past) schedule.latches schedule.gates (map tick_of plans)) → first_fault net schedule plans ≡ None
-schedule_none net schedule [] fair = refl
-schedule_none net schedule (tick ∷ later) fair =
+pub schedule_iff : (net : Parts) (schedule : Schedule) (plans : List PlannedTick) → (first_fault net schedule plans ≡ None) ↔ All (IsPlayedFairly net schedule.window) (play net (reverse schedule.past) schedule.latches schedule.gates (map tick_of plans))
+schedule_iff net schedule [] = (λ none. All-nil (IsPlayedFairly net schedule.window), λ fair. refl)
+schedule_iff net schedule (tick ∷ later) =
     let opened : PlayState = first_opened net schedule tick.0 in
-    let after : PlayState = after_plans opened tick.1 in
-    let first : Played = played net (reverse schedule.past) schedule.latches schedule.gates (tick_of tick) in
-    let rest : List Played = rest_of net first.ended (map tick_of later) in
-    let here : IsPlayedFairly net schedule.window first = All-head (IsPlayedFairly net schedule.window) first rest fair in
-    let kept = rounds_keep opened tick.1 refl in
-    let others : All (IsPlayedFairly after.net after.window) (rest_of after.net after.history (map tick_of later)) =
-    rw (kept.net, kept.window, rounds_history opened tick.1) (All-tail (IsPlayedFairly net schedule.window) first rest fair) in
-    no_first (rounds_fault opened tick.1) (ticks_fault after later)
-    (opened_none opened tick.1 refl refl here) (ticks_none after later kept.begun others)
+    opened_iff opened tick.1 later tick.0 schedule.latches refl refl
+    (ticks_iff (after_plans opened tick.1) later (rounds_keep opened tick.1 refl).begun)

@@ -1,3 +1,4 @@
+pub mod Changes
 pub mod Entries
 pub mod EventLists
 pub mod Laws

@@ -1,5 +1,5 @@
 -- A recorded schedule, played whole: the first fault in the order of play, and how each tick ends.
-use Rattle.std.specs.Prelude.{◌≡◌, ◌≢◌, ◌↔◌, ℕ, ◌+◌, ◌*◌, ◌≤◌, Bool, true, false, not, List, [], ◌∷◌, ◌++◌, length, map, zip, take, drop, reverse, All, None, option_map}
+use Rattle.std.specs.Prelude.{◌≡◌, ◌≢◌, ◌↔◌, ℕ, ◌+◌, ◌*◌, ◌≤◌, Bool, true, false, not, List, [], ◌∷◌, ◌++◌, length, map, zip, take, reverse, All, None, option_map}
 use Rattle.std.specs.List.{list_all, range_with_len}
 use Rattle.std.specs.Option.{option_or}
 use Rattle.std.specs.declared.option.Option.{Option}
@@ -11,14 +11,14 @@ use Rattle.netlist.specs.Netlists.{gate_sig}
 use Rattle.netlist.specs.Fixpoint.{wire, fix, fix_gates}
 use Rattle.schedules.specs.Moments.{Moment, History, Round, bit_at, newest}
 use Rattle.schedules.specs.Fairness.{IsFair}
-use Rattle.schedules.specs.Runs.{Tick, Run, Played, gates_at, loaded_at, outputs_at, vector_of, play as ticks_from, ticks_of}
+use Rattle.schedules.specs.Runs.{Tick, Run, Played, gates_at, loaded_at, outputs_at, vector_of, play as ticks_from}
 use Rattle.delay_core.specs.declared.fault.PlayFault.{PlayFault}
 use Rattle.delay_core.specs.declared.fault.PlayFault.TheVariants as refused
 use Rattle.delay_core.specs.declared.plan.PlannedEvent.{PlannedEvent}
 use Rattle.delay_core.specs.declared.plan.RoundPlan.{RoundPlan}
 use Rattle.delay_core.specs.declared.plan.Schedule.{Schedule}
 use Rattle.delay_core.specs.declared.plan.TickEnd.{TickEnd}
-use Rattle.delay_core.specs.Plays.{PlayState, event_fault, unfair_gate, no_events, after_event, after_round, starting, next_tick}
+use Rattle.delay_core.specs.Plays.{PlayState, event_fault, unfair_gate, after_event, after_round, starting, next_tick}
 
 -- ---- the order of play
 
@@ -136,14 +136,6 @@ end_of net tick = end_at net (newest tick.ended) (length tick.rounds)
 -- the ticks that are played behind a history
 abbrev pub rest_of : Parts → History → List Tick → List Played
 rest_of net history ticks = ticks_from net history (loaded_at net (newest history)) (gates_at net (newest history)) ticks
-
--- The first so many ticks were played without a fault, and ended so: any fault is one of what is left, and so are the
--- other ends.
-pub record TicksArePlayed (net : Parts) (schedule : Schedule) (vectors : List (List Bool)) (now : PlayState) (ends : List TickEnd) (i : ℕ) : Type 0 where
-  pub same : now.net ≡ net
-  pub begun : now.done ≡ no_events net
-  pub fault : schedule_fault net schedule vectors ≡ ticks_fault now (drop i (zip vectors schedule.ticks))
-  pub all : ends ++ map (end_of net) (rest_of net now.history (map tick_of (drop i (zip vectors schedule.ticks)))) ≡ map (end_of net) (ticks_of net (run_of schedule vectors))
 
 -- a tick is told to be settled exactly where its gates stand at the fixpoint of its vector
 abbrev pub SettledIsTold : Parts → Played → Type 0

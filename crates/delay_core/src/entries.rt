@@ -54,38 +54,8 @@ pub(crate) fn value_at(entries: &[Entry], newest: &[u32], head: usize, n: usize)
     entries[i].value
 }
 
-/// From the moment on the signal has this value.
-pub(crate) fn write(
-    entries: &mut Vec<Entry>,
-    newest: &mut Vec<u32>,
-    s: usize,
-    moment: usize,
-    value: bool,
-)
-    requires room { vec_len entries.old < vec_capacity entries.old }
-    requires places { vec_len entries.old < 2 ^ 32 }
-    requires linked { AreLinked entries.old.items newest.old.items }
-    requires dated { AreDated entries.old.items moment }
-    requires signal { s < length newest.old.items }
-    ensures written { Writes moment s value entries.old.items entries.new.items newest.old.items newest.new.items }
-    ensures len { vec_len entries.new ≡ vec_len entries.old + 1 }
-    ensures capacity { vec_capacity entries.new ≡ vec_capacity entries.old }
-{
-    let older = newest[s];
-    let jump = jump_after(entries, newest, older);
-    let rank = entries[older as usize].rank.wrapping_add(1);
-    newest[s] = entries.len() as u32;
-    entries.push_reserved(Entry {
-        moment,
-        value,
-        older,
-        jump,
-        rank,
-    });
-}
-
 /// From the moment on the signal has this value, which it may have had before.
-pub(crate) fn write_changed(
+pub(crate) fn write(
     entries: &mut Vec<Entry>,
     newest: &mut Vec<u32>,
     s: usize,
@@ -102,10 +72,20 @@ pub(crate) fn write_changed(
     ensures len { vec_len entries.new ≤ vec_len entries.old + 1 }
     ensures capacity { vec_capacity entries.new ≡ vec_capacity entries.old }
 {
-    let before = value_at(entries, newest, newest[s] as usize, moment);
-    if before != value {
-        write(entries, newest, s, moment, value);
+    let older = newest[s];
+    if value_at(entries, newest, older as usize, moment) == value {
+        return;
     }
+    let jump = jump_after(entries, newest, older);
+    let rank = entries[older as usize].rank.wrapping_add(1);
+    newest[s] = entries.len() as u32;
+    entries.push_reserved(Entry {
+        moment,
+        value,
+        older,
+        jump,
+        rank,
+    });
 }
 
 /// The moment after the newest one has these values for the first signals, and the others stay.
@@ -126,7 +106,7 @@ pub(crate) fn write_moment(
     ensures capacity { vec_capacity entries.new ≡ vec_capacity entries.old }
 {
     for s in 0..values.len() {
-        write_changed(entries, newest, s, moment, values[s]);
+        write(entries, newest, s, moment, values[s]);
     }
 }
 

@@ -6,6 +6,7 @@
 #![tactic(auto)]
 
 mod change;
+mod change_log;
 mod entries;
 mod entry;
 mod events;
@@ -20,10 +21,11 @@ mod timeline;
 mod whole;
 
 pub use change::Change;
+pub use change_log::ChangeLog;
 pub use events::Events;
 pub use fault::{EventFault, PlayFault, Unfair};
 pub use plan::{PlannedEvent, RoundPlan, Schedule, TickEnd, TickPlan};
 pub use play::Play;
 pub use scheduled_run::ScheduledRun;
 pub use schedules::Event;
-pub use whole::play_whole;
+pub use whole::{play_run, play_whole};

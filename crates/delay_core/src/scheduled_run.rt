@@ -58,7 +58,7 @@ impl<'a> ScheduledRun<'a> {
     }
 
     /// The netlist.
-    pub fn net(&self) -> &'a Netlist
+    pub(crate) fn net(&self) -> &'a Netlist
         ensures net { result.now ≡ self.now.net }
         ensures fits { IsScheduled self.now }
     {
@@ -66,7 +66,7 @@ impl<'a> ScheduledRun<'a> {
     }
 
     /// How many ticks it has.
-    pub fn ticks(&self) -> usize
+    pub(crate) fn ticks(&self) -> usize
         ensures ticks { result ≡ length self.now.vectors }
         ensures fits { IsScheduled self.now }
     {
@@ -83,7 +83,7 @@ impl<'a> ScheduledRun<'a> {
     }
 
     /// The rounds of a tick.
-    pub fn rounds(&self, tick: usize) -> &'a [RoundPlan]
+    pub(crate) fn rounds(&self, tick: usize) -> &'a [RoundPlan]
         requires { tick < length self.now.vectors }
         ensures rounds { result.now ≡ rounds_at self.now tick }
         ensures fits { IsScheduled self.now }
@@ -92,7 +92,7 @@ impl<'a> ScheduledRun<'a> {
     }
 
     /// A play whose first tick has opened.
-    pub fn start(&self, alloc: Global) -> Result<Play<'a>, AllocError>
+    pub(crate) fn start(&self, alloc: Global) -> Result<Play<'a>, AllocError>
         requires { 0 < length self.now.vectors }
         ensures { IfOk result (λ play. play.state ≡ first_opened self.now.net self.now.schedule (inputs_at self.now 0)) }
     {
@@ -108,7 +108,7 @@ impl<'a> ScheduledRun<'a> {
     }
 
     /// Ends the tick before this one, in whose last round no gate had an event yet, and opens this one.
-    pub fn open(&self, play: &mut Play, tick: usize) -> Result<(), AllocError>
+    pub(crate) fn open(&self, play: &mut Play, tick: usize) -> Result<(), AllocError>
         requires tick { tick < length self.now.vectors }
         requires net { play.old.state.net ≡ self.now.net }
         requires begun { play.old.state.done ≡ no_events self.now.net }

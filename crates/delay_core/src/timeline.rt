@@ -1,7 +1,7 @@
 ghost use Rattle.std.specs.Prelude.{◌≡◌, ◌+◌, ◌-◌, ◌<◌, ◌≤◌, ◌^◌, [], ◌∷◌, ◌++◌, length, drop, slice_index_or, slice_set, vec_len, vec_capacity, IfOk, OnOk, OnErr, IsOk, false};
 ghost use Rattle.schedules.specs.Moments.{moment_at, newest};
 
-use crate::entries::{first_entries, first_places, value_at, write_changed, write_moment};
+use crate::entries::{first_entries, first_places, value_at, write, write_moment};
 use crate::entry::Entry;
 use std::alloc::{AllocError, Global};
 use std::marker::Model;
@@ -114,7 +114,7 @@ impl Timeline {
     {
         self.spare -= 1;
         self.moments += 1;
-        write_changed(&mut self.entries, &mut self.newest, s, self.moments, value);
+        write(&mut self.entries, &mut self.newest, s, self.moments, value);
     }
 
     /// Adds the moment in which the first signals have these values, and the others stay.

@@ -1,6 +1,7 @@
 //! Recorded schedules, played whole.
 
-ghost use Rattle.std.specs.Prelude.{◌≡◌, ◌⊎◌, ◌++◌, ◌∷◌, [], ◌+◌, ◌<◌, List, Bool, length, map, All, Some, None, IfErr, IfOk, OnOk};
+ghost use Rattle.std.specs.Prelude.{◌≡◌, ◌⊎◌, [], ◌+◌, ◌<◌, List, Bool, length, map, All, Some, None, IfErr, IfOk, OnOk};
+ghost use Rattle.std.specs.List.{cons_option};
 ghost use Rattle.cyc_base.specs.declared.trit.Trit.{Trit};
 ghost use Rattle.cyc_base.specs.Values.{bits};
 ghost use Rattle.netlist.specs.Netlists.{count};
@@ -8,10 +9,12 @@ ghost use Rattle.netlist.specs.Fixpoint.{fix};
 ghost use Rattle.schedules.specs.Moments.{newest};
 ghost use Rattle.schedules.specs.Runs.{outputs_at, ticks_of};
 ghost use Rattle.simulation.specs.Simulators.{IsSimulatorOf};
+ghost use Rattle.delay_core.specs.Changes.{openings, event_changes, round_changes, tick_changes, changes, logged};
 ghost use Rattle.delay_core.specs.EventLists.{planned_at};
-ghost use Rattle.delay_core.specs.Plays.{most_rounds, after_event};
-ghost use Rattle.delay_core.specs.Plans.{planned_fault, events_fault, after_planned, round_fault, after_plan, rounds_fault, after_plans, schedule_fault, run_of, IsPlayedFairly, TicksArePlayed, given_at, agrees as agree, stands_at_fix, end_at, end_of, SettledIsTold, SettlesInTime};
+ghost use Rattle.delay_core.specs.Plays.{most_rounds, after_event, change_by};
+ghost use Rattle.delay_core.specs.Plans.{planned_fault, events_fault, after_planned, round_fault, after_plan, rounds_fault, after_plans, schedule_fault, run_of, IsPlayedFairly, given_at, agrees as agree, stands_at_fix, end_at, end_of, SettledIsTold, SettlesInTime};
 
+use crate::change_log::ChangeLog;
 use crate::events::Events;
 use crate::fault::{EventFault, PlayFault};
 use crate::plan::{RoundPlan, Schedule, TickEnd};
@@ -23,14 +26,20 @@ use simulation::Simulator;
 use std::alloc::{AllocError, Global};
 
 /// Plays the event at this place.
-fn play_event(play: &mut Play, events: &Events, i: usize) -> Result<(), PlayFault>
+fn play_event(
+    play: &mut Play,
+    events: &Events,
+    i: usize,
+    log: &mut ChangeLog,
+) -> Result<(), PlayFault>
     requires { i < length events.now }
     ensures fault { IfErr result (λ fault. (fault ≡ PlayFault.Memory) ⊎ (planned_fault play.old.state (planned_at events.now i) ≡ Some fault)) }
     ensures none { OnOk result (planned_fault play.old.state (planned_at events.now i) ≡ None) }
     ensures played { OnOk result (play.new.state ≡ after_event play.old.state (planned_at events.now i).event) }
+    ensures changed { OnOk result (log.new ≡ logged log.old (cons_option (change_by play.old.state (planned_at events.now i).event) [])) }
 {
     match play.update(events.gate(i), events.ages(i)) {
-        Ok(_) => Ok(()),
+        Ok(change) => Ok(log.add(change)?),
         Err(EventFault::Memory) => Err(PlayFault::Memory),
         Err(fault) => Err(PlayFault::Event {
             line: events.line(i),
@@ -40,26 +49,28 @@ fn play_event(play: &mut Play, events: &Events, i: usize) -> Result<(), PlayFaul
 }
 
 /// Plays the events of a round.
-#[tactic(auto, using(crate::proofs::PlanLemmas::event_fails, crate::proofs::PlanLemmas::no_fault_left, crate::proofs::PlanLemmas::all_played))]
-fn play_events(play: &mut Play, events: &Events) -> Result<(), PlayFault>
+#[tactic(auto, using(crate::proofs::PlanLemmas::event_fails, crate::proofs::PlanLemmas::no_fault_left, crate::proofs::PlanLemmas::all_played, crate::proofs::PlanLemmas::all_changed))]
+fn play_events(play: &mut Play, events: &Events, log: &mut ChangeLog) -> Result<(), PlayFault>
     ensures fault { IfErr result (λ fault. (fault ≡ PlayFault.Memory) ⊎ (events_fault play.old.state events.now ≡ Some fault)) }
     ensures none { OnOk result (events_fault play.old.state events.now ≡ None) }
     ensures played { OnOk result (play.new.state ≡ after_planned play.old.state events.now) }
+    ensures changed { OnOk result (log.new ≡ logged log.old (event_changes play.old.state events.now)) }
 {
     for i in 0..events.len() {
-        play_event(play, events, i)?;
+        play_event(play, events, i, log)?;
     }
     Ok(())
 }
 
 /// Plays a round to its end.
-fn play_round(play: &mut Play, round: &RoundPlan) -> Result<(), PlayFault>
+fn play_round(play: &mut Play, round: &RoundPlan, log: &mut ChangeLog) -> Result<(), PlayFault>
     requires { length play.old.state.starts < most_rounds }
     ensures fault { IfErr result (λ fault. (fault ≡ PlayFault.Memory) ⊎ (round_fault play.old.state round.now ≡ Some fault)) }
     ensures none { OnOk result (round_fault play.old.state round.now ≡ None) }
     ensures played { OnOk result (play.new.state ≡ after_plan play.old.state round.now) }
+    ensures changed { OnOk result (log.new ≡ logged log.old (event_changes play.old.state round.now.events)) }
 {
-    play_events(play, &round.events)?;
+    play_events(play, &round.events, log)?;
     match play.end_round() {
         Ok(()) => Ok(()),
         Err(unfair) => Err(PlayFault::Unfair {
@@ -70,14 +81,29 @@ fn play_round(play: &mut Play, round: &RoundPlan) -> Result<(), PlayFault>
 }
 
 /// Plays the rounds of a tick.
-fn play_rounds(play: &mut Play, rounds: &[RoundPlan]) -> Result<(), PlayFault>
+fn play_rounds(play: &mut Play, rounds: &[RoundPlan], log: &mut ChangeLog) -> Result<(), PlayFault>
     requires { length play.old.state.starts ≡ 1 }
     ensures fault { IfErr result (λ fault. (fault ≡ PlayFault.Memory) ⊎ (rounds_fault play.old.state rounds.now ≡ Some fault)) }
     ensures none { OnOk result (rounds_fault play.old.state rounds.now ≡ None) }
     ensures played { OnOk result (play.new.state ≡ after_plans play.old.state rounds.now) }
+    ensures changed { OnOk result (log.new ≡ logged log.old (round_changes play.old.state rounds.now)) }
 {
     for round in rounds {
-        play_round(play, round)?;
+        play_round(play, round, log)?;
+    }
+    Ok(())
+}
+
+/// Keeps what a tick's opening tells, where the log is on.
+fn log_opening(net: &Netlist, play: &Play, log: &mut ChangeLog) -> Result<(), AllocError>
+    requires { play.now.state.net ≡ net.now }
+    ensures { OnOk result (log.new ≡ logged log.old (openings play.now.state)) }
+{
+    if !log.is_on() {
+        return Ok(());
+    }
+    for number in 0..net.count() {
+        log.add(play.opening(Sig(number)))?;
     }
     Ok(())
 }
@@ -181,98 +207,54 @@ fn play_tick(
     net: &Netlist,
     simulator: &mut Simulator,
     play: &mut Play,
-    plan: &[RoundPlan],
-    ends: &mut Vec<TickEnd>,
-) -> Result<(), PlayFault>
+    rounds: &[RoundPlan],
+    log: &mut ChangeLog,
+) -> Result<TickEnd, PlayFault>
     requires net { play.old.state.net ≡ net.now }
     requires first { length play.old.state.starts ≡ 1 }
     requires simulator { IsSimulatorOf net.now simulator.old }
     ensures simulator { IsSimulatorOf net.now simulator.new }
-    ensures fault { IfErr result (λ fault. (fault ≡ PlayFault.Memory) ⊎ (rounds_fault play.old.state plan.now ≡ Some fault)) }
-    ensures none { OnOk result (rounds_fault play.old.state plan.now ≡ None) }
-    ensures played { OnOk result (play.new.state ≡ after_plans play.old.state plan.now) }
-    ensures end { OnOk result (ends.new.items ≡ ends.old.items ++ end_at net.now (newest play.new.state.history) (length plan.now) ∷ []) }
+    ensures fault { IfErr result (λ fault. (fault ≡ PlayFault.Memory) ⊎ (rounds_fault play.old.state rounds.now ≡ Some fault)) }
+    ensures none { OnOk result (rounds_fault play.old.state rounds.now ≡ None) }
+    ensures played { OnOk result (play.new.state ≡ after_plans play.old.state rounds.now) }
+    ensures changed { OnOk result (log.new ≡ logged log.old (tick_changes play.old.state rounds.now)) }
+    ensures end { IfOk result (λ end. end ≡ end_at net.now (newest play.new.state.history) (length rounds.now)) }
 {
-    play_rounds(play, plan)?;
-    let end = tick_end(alloc, net, simulator, play, plan.len())?;
-    ends.push(end)?;
-    Ok(())
+    log_opening(net, play, log)?;
+    play_rounds(play, rounds, log)?;
+    Ok(tick_end(alloc, net, simulator, play, rounds.len())?)
 }
 
-/// Starts a play and plays its first tick.
-fn play_first<'a>(
-    alloc: Global,
-    run: &ScheduledRun<'a>,
-    simulator: &mut Simulator,
-    ends: &mut Vec<TickEnd>,
-) -> Result<Play<'a>, PlayFault>
-    requires some { 0 < length run.now.vectors }
-    requires simulator { IsSimulatorOf run.now.net simulator.old }
-    requires none { ends.old.items ≡ [] }
-    ensures simulator { IsSimulatorOf run.now.net simulator.new }
-    ensures fault { IfErr result (λ fault. (fault ≡ PlayFault.Memory) ⊎ (schedule_fault run.now.net run.now.schedule run.now.vectors ≡ Some fault)) }
-    ensures played { IfOk result (λ play. TicksArePlayed run.now.net run.now.schedule run.now.vectors play.state ends.new.items 1) }
-{
-    let mut play = run.start(alloc)?;
-    let rounds = run.rounds(0);
-    play_tick(alloc, run.net(), simulator, &mut play, rounds, ends)?;
-    Ok(play)
-}
-
-/// Opens the next tick and plays it.
-fn play_next(
+/// Plays a run whole, tells how each tick ended, and keeps its changes, where the log is on; or answers its first fault in
+/// the order of play, and nothing is said of the log.
+pub fn play_run(
     alloc: Global,
     run: &ScheduledRun<'_>,
-    tick: usize,
-    simulator: &mut Simulator,
-    play: &mut Play,
-    ends: &mut Vec<TickEnd>,
-) -> Result<(), PlayFault>
-    requires tick { tick < length run.now.vectors }
-    requires simulator { IsSimulatorOf run.now.net simulator.old }
-    requires before { TicksArePlayed run.now.net run.now.schedule run.now.vectors play.old.state ends.old.items tick }
-    ensures simulator { IsSimulatorOf run.now.net simulator.new }
-    ensures fault { IfErr result (λ fault. (fault ≡ PlayFault.Memory) ⊎ (schedule_fault run.now.net run.now.schedule run.now.vectors ≡ Some fault)) }
-    ensures played { OnOk result (TicksArePlayed run.now.net run.now.schedule run.now.vectors play.new.state ends.new.items (tick + 1)) }
-{
-    run.open(play, tick)?;
-    let rounds = run.rounds(tick);
-    play_tick(alloc, run.net(), simulator, play, rounds, ends)
-}
-
-/// Plays the ticks behind the first.
-fn play_later(
-    alloc: Global,
-    run: &ScheduledRun<'_>,
-    simulator: &mut Simulator,
-    play: &mut Play,
-    ends: &mut Vec<TickEnd>,
-) -> Result<(), PlayFault>
-    requires simulator { IsSimulatorOf run.now.net simulator.old }
-    requires first { TicksArePlayed run.now.net run.now.schedule run.now.vectors play.old.state ends.old.items 1 }
+    log: &mut ChangeLog,
+) -> Result<Vec<TickEnd>, PlayFault>
     ensures fault { IfErr result (λ fault. (fault ≡ PlayFault.Memory) ⊎ (schedule_fault run.now.net run.now.schedule run.now.vectors ≡ Some fault)) }
     ensures whole { OnOk result (schedule_fault run.now.net run.now.schedule run.now.vectors ≡ None) }
-    ensures ends { OnOk result (ends.new.items ≡ map (end_of run.now.net) (ticks_of run.now.net (run_of run.now.schedule run.now.vectors))) }
+    ensures ends { IfOk result (λ ends. ends.items ≡ map (end_of run.now.net) (ticks_of run.now.net (run_of run.now.schedule run.now.vectors))) }
+    ensures fair { OnOk result (All (IsPlayedFairly run.now.net run.now.schedule.window) (ticks_of run.now.net (run_of run.now.schedule run.now.vectors))) }
+    ensures settled { OnOk result (All (SettledIsTold run.now.net) (ticks_of run.now.net (run_of run.now.schedule run.now.vectors))) }
+    ensures in_time { OnOk result (All (SettlesInTime run.now.net run.now.schedule.window) (ticks_of run.now.net (run_of run.now.schedule run.now.vectors))) }
+    ensures changed { OnOk result (log.new ≡ logged log.old (changes run.now.net run.now.schedule run.now.vectors)) }
 {
-    for tick in 1..run.ticks() {
-        play_next(alloc, run, tick, simulator, play, ends)?;
-    }
-    Ok(())
-}
-
-/// Plays all ticks, and tells how each ended.
-fn play_all(alloc: Global, run: &ScheduledRun<'_>, ends: &mut Vec<TickEnd>) -> Result<(), PlayFault>
-    requires { ends.old.items ≡ [] }
-    ensures fault { IfErr result (λ fault. (fault ≡ PlayFault.Memory) ⊎ (schedule_fault run.now.net run.now.schedule run.now.vectors ≡ Some fault)) }
-    ensures whole { OnOk result (schedule_fault run.now.net run.now.schedule run.now.vectors ≡ None) }
-    ensures ends { OnOk result (ends.new.items ≡ map (end_of run.now.net) (ticks_of run.now.net (run_of run.now.schedule run.now.vectors))) }
-{
+    let mut ends = Vec::new(alloc);
     if run.ticks() == 0 {
-        return Ok(());
+        return Ok(ends);
     }
-    let mut simulator = Simulator::of(alloc, run.net())?;
-    let mut play = play_first(alloc, run, &mut simulator, ends)?;
-    play_later(alloc, run, &mut simulator, &mut play, ends)
+    let net = run.net();
+    let mut simulator = Simulator::of(alloc, net)?;
+    let mut play = run.start(alloc)?;
+    let end = play_tick(alloc, net, &mut simulator, &mut play, run.rounds(0), log)?;
+    ends.push(end)?;
+    for tick in 1..run.ticks() {
+        run.open(&mut play, tick)?;
+        let end = play_tick(alloc, net, &mut simulator, &mut play, run.rounds(tick), log)?;
+        ends.push(end)?;
+    }
+    Ok(ends)
 }
 
 /// Plays a recorded schedule whole, one tick for each vector of inputs, and tells how each tick ended; or answers its
@@ -295,9 +277,6 @@ pub fn play_whole(
     ensures settled { OnOk result (All (SettledIsTold net.now) (ticks_of net.now (run_of schedule.now vectors.now))) }
     ensures in_time { OnOk result (All (SettlesInTime net.now schedule.now.window) (ticks_of net.now (run_of schedule.now vectors.now))) }
 {
-    let _window = schedule.window;
-    let mut ends = Vec::new(alloc);
     let run = ScheduledRun::new(net, vectors, schedule);
-    play_all(alloc, &run, &mut ends)?;
-    Ok(ends)
+    play_run(alloc, &run, &mut ChangeLog::off())
 }

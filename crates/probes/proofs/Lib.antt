@@ -1,6 +1,5 @@
-mod ChangeLemmas
-mod FaultLemmas
 pub mod HearingLemmas
+mod PassLemmas
 mod RoundLemmas
 mod ShowLemmas
 mod SignalLemmas

@@ -16,15 +16,6 @@ zip_append R [] (y ∷ ys) us vs first second = absurd first
 zip_append R (x ∷ xs) [] us vs first second = absurd first
 zip_append R (x ∷ xs) (y ∷ ys) us vs first second = (first.0, zip_append R xs ys us vs first.1 second)
 
-pub zip_then : {P : Type 0} (R S T : P → P → Type 0) → ((x y z : P) → R x y → S y z → T x z) → (xs ys zs : List P) → AllZip R xs ys → AllZip S ys zs → AllZip T xs zs
-zip_then R S T each [] [] [] first second = tt
-zip_then R S T each [] [] (z ∷ zs) first second = absurd second
-zip_then R S T each [] (y ∷ ys) zs first second = absurd first
-zip_then R S T each (x ∷ xs) [] zs first second = absurd first
-zip_then R S T each (x ∷ xs) (y ∷ ys) [] first second = absurd second
-zip_then R S T each (x ∷ xs) (y ∷ ys) (z ∷ zs) first second =
-    (each x y z first.0 second.0, zip_then R S T each xs ys zs first.1 second.1)
-
 pub zip_as : {P : Type 0} (R S : P → P → Type 0) → ((x y : P) → R x y → S x y) → (xs ys : List P) → AllZip R xs ys → AllZip S xs ys
 zip_as R S each [] [] all = tt
 zip_as R S each [] (y ∷ ys) all = absurd all

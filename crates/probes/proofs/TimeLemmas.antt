@@ -1,18 +1,16 @@
 -- When the changes of a run are: those of the first opening at moment 0, and all others later, before its end.
-use Rattle.std.proofs.Common.{◌≡◌, ◌<◌, ◌≤◌, ◌+◌, ◌-◌, ◌==◌, ◌&&◌, ◌||◌, ℕ, zero, suc, Bool, true, List, [], ◌∷◌, length, inl, inr, refl, ◌∙◌, arith}
-use Rattle.std.specs.Prelude.{if◌then◌else◌, Some, None}
-use Rattle.std.specs.List.{filter_map, cons_option, range_with_len, list_all}
-use Rattle.std.proofs.lemmas.Bool.{cases_Bool, and_from}
-use Rattle.std.proofs.lemmas.List.Folds.{list_all-append}
-use Rattle.netlist.specs.Netlists.{count, signal, gate_sig}
+use Rattle.std.proofs.Common.{◌≡◌, ◌<◌, ◌≤◌, ◌+◌, ℕ, suc, Bool, true, List, [], ◌∷◌, length, refl, ◌∙◌, arith}
+use Rattle.std.specs.List.{list_all}
+use Rattle.netlist.specs.Netlists.{gate_sig}
 use Rattle.schedules.specs.Moments.{bit_at, newest, event_value}
 use Rattle.delay_core.specs.declared.change.Change.{Change}
 use Rattle.delay_core.specs.declared.plan.PlannedEvent.{PlannedEvent}
 use Rattle.delay_core.specs.declared.plan.RoundPlan.{RoundPlan}
-use Rattle.delay_core.specs.Plays.{PlayState, moment_of_number, differ, is_given, place, after_event, opening_change, next_tick}
+use Rattle.delay_core.specs.Plays.{PlayState, differ, place, after_event, next_tick}
 use Rattle.delay_core.specs.Plans.{PlannedTick, after_planned, after_plan, after_plans}
-use Rattle.probes.specs.Changes.{openings, event_changes, round_changes, tick_changes, later_changes}
+use Rattle.delay_core.specs.Changes.{openings, event_changes, round_changes, tick_changes, later_changes}
 use Rattle.probes.specs.Values.{after_ticks}
+use Rattle.probes.proofs.PassLemmas.{opened_change, some_pass, both_pass, opening_pass}
 
 -- what a play keeps: its past, and its history only grows
 pub record Grows (before after : PlayState) : Type 0 where
@@ -41,27 +39,8 @@ ticks_grow play (tick ∷ later) =
 
 -- a test that each change passes from moment `low` on and before moment `high`
 module _ (p : Change → Bool) (low high : ℕ) (passes : (c : Change) → low ≤ c.at → c.at < high → p c ≡ true) where
-  some_pass : (test : Bool) (c : Change) (rest : List Change) → p c ≡ true → list_all p rest ≡ true → list_all p (cons_option (if test then Some c else None) rest) ≡ true
-  some_pass test c rest here all =
-      elim (cases_Bool test) [
-        | inl is ↦ rw is (and_from (p c) (list_all p rest) here all)
-        | inr isnt ↦ rw isnt all
-      ]
-
-  picked_pass : (play : PlayState) → low ≤ place play play.opening → place play play.opening < high → (a n : ℕ) →
-      list_all p (filter_map (λ m. opening_change play (signal m)) (range_with_len a n)) ≡ true
-  picked_pass play late early a zero = refl
-  picked_pass play late early a (suc n) =
-      let value : Bool = bit_at (moment_of_number play.history play.opening) (signal a) in
-      let before : Bool = bit_at (moment_of_number play.history (play.opening - 1)) (signal a) in
-      some_pass (play.tick == 1 || (is_given play.net (signal a) && differ before value))
-      (record { at = place play play.opening; tick = play.tick; round = 0; sig = signal a; value = value })
-      (filter_map (λ m. opening_change play (signal m)) (range_with_len (a + 1) n))
-      (passes (record { at = place play play.opening; tick = play.tick; round = 0; sig = signal a; value = value }) late early)
-      (picked_pass play late early (a + 1) n)
-
   pub openings_pass : (play : PlayState) → low ≤ place play play.opening → place play play.opening < high → list_all p (openings play) ≡ true
-  openings_pass play late early = picked_pass play late early 0 (count play.net)
+  openings_pass play late early = opening_pass p play (λ s value _. passes (opened_change play s value) late early)
 
   events_pass : (play : PlayState) (events : List PlannedEvent) → play.past + low ≤ length play.history → length (after_planned play events).history ≤ play.past + high →
       list_all p (event_changes play events) ≡ true
@@ -72,7 +51,7 @@ module _ (p : Change → Bool) (low high : ℕ) (passes : (c : Change) → low �
       let driven = gate_sig play.net e.gate in
       let change : Change = record { at = place play (suc (length play.history)); tick = play.tick; round = length play.starts; sig = driven; value = value } in
       let grows = events_grow (after_event play e) later in
-      some_pass (differ (bit_at (newest play.history) driven) value) change (event_changes (after_event play e) later)
+      some_pass p (differ (bit_at (newest play.history) driven) value) change (event_changes (after_event play e) later)
       (passes change (omega (arith, begun)) (omega (arith, begun, ends, grows.longer)))
       (events_pass (after_event play e) later (omega (arith, begun)) ends)
 
@@ -82,8 +61,7 @@ module _ (p : Change → Bool) (low high : ℕ) (passes : (c : Change) → low �
   rounds_pass play (round ∷ later) begun ends =
       let here = events_grow play round.events in
       let rest = rounds_grow (after_plan play round) later in
-      list_all-append p (event_changes play round.events) (round_changes (after_plan play round) later)
-      ∙ and_from (list_all p (event_changes play round.events)) (list_all p (round_changes (after_plan play round) later))
+      both_pass p (event_changes play round.events) (round_changes (after_plan play round) later)
       (events_pass play round.events begun (omega (arith, ends, rest.longer)))
       (rounds_pass (after_plan play round) later (omega (arith, begun, here.longer, here.past)) (omega (arith, ends, here.past)))
 
@@ -98,7 +76,6 @@ module _ (p : Change → Bool) (low high : ℕ) (passes : (c : Change) → low �
       let second : list_all p (round_changes opened tick.1) ≡ true = rounds_pass opened tick.1 (omega (arith, begun)) (omega (arith, ends, rest.longer)) in
       let third : list_all p (later_changes (after_plans opened tick.1) later) ≡ true =
       ticks_pass (after_plans opened tick.1) later (omega (arith, begun, here.longer, here.past)) (omega (arith, ends, here.past)) in
-      list_all-append p (tick_changes opened tick.1) (later_changes (after_plans opened tick.1) later)
-      ∙ and_from (list_all p (tick_changes opened tick.1)) (list_all p (later_changes (after_plans opened tick.1) later))
-      (list_all-append p (openings opened) (round_changes opened tick.1) ∙ and_from (list_all p (openings opened)) (list_all p (round_changes opened tick.1)) first second)
+      both_pass p (tick_changes opened tick.1) (later_changes (after_plans opened tick.1) later)
+      (both_pass p (openings opened) (round_changes opened tick.1) first second)
       third

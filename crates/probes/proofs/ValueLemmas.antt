@@ -17,9 +17,9 @@ use Rattle.delay_core.specs.declared.plan.RoundPlan.{RoundPlan}
 use Rattle.delay_core.specs.declared.plan.Schedule.{Schedule}
 use Rattle.delay_core.specs.Plays.{PlayState, moment_of_number, differ, is_given, place, change_to, change_by, after_event, starting, next_tick}
 use Rattle.delay_core.specs.Plans.{after_planned, after_plan, after_plans, first_opened}
-use Rattle.probes.specs.Changes.{openings, event_changes, round_changes, tick_changes, later_changes, changes}
+use Rattle.delay_core.specs.Changes.{openings, event_changes, round_changes, tick_changes, later_changes, changes}
 use Rattle.probes.specs.Values.{value_after, last_value, after_ticks, moment_of_run, ChangesTellValues}
-use Rattle.probes.proofs.HearingLemmas.{option_first}
+use Rattle.delay_core.proofs.ChangeLemmas.{option_first}
 
 -- ---- one change
 

@@ -1,4 +1,3 @@
-pub mod Changes
 pub mod Hearing
 pub mod Showing
 pub mod Tables

@@ -10,7 +10,7 @@ use Rattle.delay_core.specs.declared.change.Change.{Change}
 use Rattle.delay_core.specs.declared.plan.Schedule.{Schedule}
 use Rattle.delay_core.specs.Plays.{PlayState, next_tick, moment_of_number}
 use Rattle.delay_core.specs.Plans.{PlannedTick, after_plans, first_opened}
-use Rattle.probes.specs.Changes.{changes}
+use Rattle.delay_core.specs.Changes.{changes}
 
 -- a change is one of this signal, and not later than this moment
 abbrev pub counts_for : Sig → ℕ → Change → Bool

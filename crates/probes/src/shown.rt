@@ -4,7 +4,7 @@ ghost use Rattle.std.specs.Prelude.{◌≡◌, ◌⊎◌, [], List, Bool, length
 ghost use Rattle.netlist.specs.Netlists.{count};
 ghost use Rattle.schedules.specs.Runs.{ticks_of};
 ghost use Rattle.delay_core.specs.Plans.{schedule_fault, run_of, end_of, SettledIsTold, SettlesInTime};
-ghost use Rattle.probes.specs.Changes.{changes};
+ghost use Rattle.delay_core.specs.Changes.{changes};
 ghost use Rattle.probes.specs.Hearing.{EachHears, EachHearsPrefix};
 ghost use Rattle.probes.specs.Showing.{texts_of};
 

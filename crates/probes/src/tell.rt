@@ -1,6 +1,5 @@
-ghost use Rattle.std.specs.Prelude.{◌≡◌, ◌++◌, ◌∷◌, [], ℕ, List, OnOk, OnErr};
-ghost use Rattle.std.specs.List.{AllZip};
-ghost use Rattle.probes.specs.Hearing.{Hears, HearsPrefix};
+ghost use Rattle.std.specs.Prelude.{◌≡◌, ◌++◌, ◌∷◌, [], OnOk, OnErr};
+ghost use Rattle.probes.specs.Hearing.{Hears, HearsPrefix, EachHears, EachHearsPrefix};
 
 use crate::kind::Kind;
 use crate::probe::Probe;
@@ -18,17 +17,28 @@ fn tell_one(probe: &mut Box<dyn Probe>, wanted: Kind, change: &Change) -> Result
     Ok(())
 }
 
-/// Tells the probes of the wanted kind a change.
+/// Tells it changes, one after another.
+fn tell_all(probe: &mut Box<dyn Probe>, wanted: Kind, changes: &[Change]) -> Result<(), AllocError>
+    ensures heard { OnOk result (Hears kind heard text wanted changes.now probe.old probe.new) }
+    ensures err { OnErr result (HearsPrefix kind heard text wanted changes.now probe.old probe.new) }
+{
+    for change in changes {
+        tell_one(probe, wanted, change)?;
+    }
+    Ok(())
+}
+
+/// Tells the probes of the wanted kind changes, one probe after another.
 pub(crate) fn tell(
     probes: &mut [Box<dyn Probe>],
     wanted: Kind,
-    change: &Change,
+    changes: &[Change],
 ) -> Result<(), AllocError>
-    ensures heard { OnOk result (AllZip (Hears kind heard text wanted (change.now ∷ [])) probes.old probes.new) }
-    ensures err { OnErr result (AllZip (HearsPrefix kind heard text wanted (change.now ∷ [])) probes.old probes.new) }
+    ensures heard { OnOk result (EachHears kind heard text wanted changes.now probes.old probes.new) }
+    ensures err { OnErr result (EachHearsPrefix kind heard text wanted changes.now probes.old probes.new) }
 {
     for i in 0..probes.len() {
-        tell_one(&mut probes[i], wanted, change)?;
+        tell_all(&mut probes[i], wanted, changes)?;
     }
     Ok(())
 }

@@ -15,7 +15,7 @@ use Rattle.delay_core.specs.declared.plan.RoundPlan.{RoundPlan}
 use Rattle.delay_core.specs.declared.plan.Schedule.{Schedule}
 use Rattle.delay_core.specs.Plays.{PlayState}
 use Rattle.delay_core.specs.Plans.{after_plans, first_opened}
-use Rattle.probes.specs.Changes.{openings, round_changes, later_changes as ticks_changes, changes}
+use Rattle.delay_core.specs.Changes.{openings, round_changes, later_changes as ticks_changes, changes}
 use Rattle.probes.specs.Texts.{signal_name}
 use Rattle.probes.specs.Values.{value_after, last_value, after_ticks, history_of}
 use Rattle.probes.proofs.TimeLemmas.{openings_pass, rounds_pass, ticks_pass, rounds_grow, ticks_grow}

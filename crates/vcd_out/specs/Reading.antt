@@ -9,7 +9,7 @@ use Rattle.netlist.specs.declared.parts.Parts.{Parts}
 use Rattle.netlist.specs.Netlists.{IsNetlist, count}
 use Rattle.schedules.specs.Moments.{bit_at}
 use Rattle.delay_core.specs.declared.plan.Schedule.{Schedule}
-use Rattle.probes.specs.Changes.{changes}
+use Rattle.delay_core.specs.Changes.{changes}
 use Rattle.probes.specs.Values.{history_of, moment_of_run}
 use Rattle.vcd_out.specs.Codes.{code}
 use Rattle.vcd_out.specs.Dumps.{vcd_text}

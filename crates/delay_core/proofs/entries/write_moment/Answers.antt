@@ -4,11 +4,11 @@ use Rattle.delay_core.proofs.entries.write_moment.Goals as goal
 
 pub loop-s-preserved : goal.loop-s-preserved
 loop-s-preserved c = record {
-  front = front-more c.args.moment c.loop-s.s c.args.values.now c.args.entries.now.items c.loop-s.entries.items c.write_changed.new.entries.items
-      c.args.newest.now.items c.loop-s.newest.items c.write_changed.new.newest.items
-      c.requires.moment (omega arith) c.loop-s.invariant.front c.write_changed.ensures.written;
+  front = front-more c.args.moment c.loop-s.s c.args.values.now c.args.entries.now.items c.loop-s.entries.items c.write.new.entries.items
+      c.args.newest.now.items c.loop-s.newest.items c.write.new.newest.items
+      c.requires.moment (omega arith) c.loop-s.invariant.front c.write.ensures.written;
   len = omega arith;
-  capacity = c.write_changed.ensures.capacity ∙ c.loop-s.invariant.capacity;
+  capacity = c.write.ensures.capacity ∙ c.loop-s.invariant.capacity;
 }
 
 pub returns-clause-written : goal.returns-clause-written

@@ -6,5 +6,5 @@ use Rattle.delay_core.proofs.whole.play_tick.Goals as goal
 pub tick_end-requires-clause-net : goal.tick_end-requires-clause-net
 tick_end-requires-clause-net c =
     ap (λ (p : PlayState). p.net) c.in_ok-play_rounds.ensures.played
-    ∙ rounds_net c.args.play.now.state c.args.plan.now
+    ∙ rounds_net c.args.play.now.state c.args.rounds.now
     ∙ c.requires.net

@@ -1,5 +1,4 @@
-use Rattle.std.proofs.Common.{◌≡◌, ◌∷◌, [], ◌++◌, ◌+◌, List, length, ap, ◌∙◌, rules}
-use Rattle.delay_core.proofs.Common.{PlannedEvent}
+use Rattle.std.proofs.Common.{◌≡◌, ◌+◌, length, rules}
 use Rattle.delay_core.proofs.EventListLemmas.{one_more, more_packed}
 use Rattle.delay_core.proofs.events.Events.push.Goals as goal
 
@@ -15,7 +14,5 @@ invariant_of-self c = rw c.in_err-reserve.ensures.items c.self.invariant
 pub returns-clause-ok : goal.returns-clause-ok
 returns-clause-ok c =
     let ends : c.in_ok-end.end ≡ length c.self.inside.ages.items + length c.args.ages.now = search rules in
-    let event : PlannedEvent = record { line = c.args.line; event = record { gate = c.args.gate; ages = c.args.ages.now } } in
-    rw (c.push_reserved.ensures.items, c.in_ok-reserve.ensures.items, c.in_ok-extend_from_slice.ensures.items)
-    (one_more c.self.inside.heads.items c.self.inside.ages.items c.self.invariant (record { line = c.args.line; gate = c.args.gate; end = c.in_ok-end.end }) c.args.ages.now ends
-    ∙ ap (λ (es : List PlannedEvent). es ++ event ∷ []) c.self.view_is)
+    rw (← c.self.view_is, c.push_reserved.ensures.items, c.in_ok-reserve.ensures.items, c.in_ok-extend_from_slice.ensures.items)
+    (one_more c.self.inside.heads.items c.self.inside.ages.items c.self.invariant _ c.args.ages.now ends)

@@ -1,6 +1,6 @@
-use Rattle.std.proofs.Common.{◌≡◌, ◌∷◌, ◌<◌, ◌≤◌, ℕ, suc, List, Bool, not, length, replicate, false, None, ap, ap₂, sym, ◌∙◌, arith}
+use Rattle.std.proofs.Common.{◌≡◌, ◌∷◌, ◌<◌, ◌≤◌, ℕ, suc, List, Bool, not, length, replicate, false, None, refl, ap, sym, ◌∙◌, arith}
 use Rattle.delay_core.proofs.Common.{position, SeenPlay, starts_of, no_events, most_rounds}
-use Rattle.delay_core.specs.Plays.{after_round, IsPlay}
+use Rattle.delay_core.specs.Plays.{IsPlay}
 use Rattle.delay_core.proofs.PlayLemmas.{round_ends, none_had}
 use Rattle.delay_core.proofs.ReadingLemmas.{length-starts, start-next}
 use Rattle.delay_core.proofs.play.Play.end_round.Goals as goal
@@ -32,20 +32,7 @@ returns-clause-ok c less =
     ∙ ap (λ (n : ℕ). n ∷ starts_of opening marks c.self.inside.round) (start-next opening marks c.self.inside.round is.behind ∙ is.moments) in
     let done : c.fill.new.self.items ≡ no_events c.self.inside.net.now =
     c.fill.ensures.items (λ y e. e) ∙ ap (λ n. replicate n false) (c.self.inside.done.ok.0 ∙ is.done) in
-    let build : List ℕ → List Bool → SeenPlay = λ ss d. record {
-      state = record {
-        net = c.self.inside.net.now;
-        window = c.self.inside.window;
-        past = c.self.inside.past;
-        history = c.self.inside.timeline.history;
-        tick = c.self.inside.tick;
-        opening = opening;
-        starts = ss;
-        done = d;
-      };
-      spare = c.self.inside.spare;
-    } in
-    ap₂ build starts done ∙ ap (λ (p : SeenPlay). record { state = after_round p.state; spare = p.spare }) c.self.view_is
+    rw (← c.self.view_is, starts, done) refl
 
 pub returns-clause-full : goal.returns-clause-full
 returns-clause-full c most =
@@ -62,17 +49,4 @@ returns-clause-full c most =
     c.fill.ensures.items (λ y e. e) ∙ ap (λ n. replicate n false) (c.self.inside.done.ok.0 ∙ is.done)
     ∙ none_had c.self.inside.net.now c.self.inside.timeline.history c.self.inside.past c.self.inside.tick opening marks c.self.inside.round c.self.inside.done.items is fair
     (omega (arith, over, c.self.inside.marks.ok, c.self.inside.marks.small)) in
-    let build : ℕ → List Bool → SeenPlay = λ round d. record {
-      state = record {
-        net = c.self.inside.net.now;
-        window = c.self.inside.window;
-        past = c.self.inside.past;
-        history = c.self.inside.timeline.history;
-        tick = c.self.inside.tick;
-        opening = opening;
-        starts = starts_of opening marks round;
-        done = d;
-      };
-      spare = c.self.inside.spare;
-    } in
-    ap₂ build same done ∙ c.self.view_is
+    rw (← c.self.view_is, same, done) refl

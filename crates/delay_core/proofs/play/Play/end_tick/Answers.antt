@@ -1,5 +1,5 @@
-use Rattle.std.proofs.Common.{◌≡◌, ◌∷◌, [], ◌++◌, ◌+◌, ◌≤◌, ℕ, suc, List, Bool, length, drop, ap, ap₂, sym, ◌∙◌, arith}
-use Rattle.delay_core.proofs.Common.{length-map, Parts, count, wires, History, newest, bit_at, loaded_at, gates_at, SeenPlay, starts_of, next_tick, no_events, Told}
+use Rattle.std.proofs.Common.{◌≡◌, ◌∷◌, [], ◌++◌, ◌+◌, ◌≤◌, ℕ, suc, List, Bool, length, drop, refl, ap, ap₂, sym, ◌∙◌, arith}
+use Rattle.delay_core.proofs.Common.{length-map, Parts, count, wires, History, newest, bit_at, loaded_at, gates_at, SeenPlay, starts_of, no_events, Told}
 use Rattle.std.proofs.lemmas.List.{length-append, length-drop}
 use Rattle.delay_core.proofs.PlayLemmas.{opens}
 use Rattle.delay_core.proofs.ReadingLemmas.{starts-none}
@@ -74,19 +74,4 @@ returns-clause-ok c =
     let starts : starts_of c.moments-opening.result c.clear.new.self.items 1 ≡ suc (length h) ∷ [] =
     ap₂ (λ n (ms : List ℕ). starts_of n ms 1) opening c.clear.ensures.items ∙ starts-none (suc (length h)) 1 in
     let tick : c.self.inside.tick + 1 ≡ suc c.self.inside.tick = omega arith in
-    let build : History → ℕ → ℕ → List ℕ → SeenPlay = λ now t o ss. record {
-      state = record {
-        net = net;
-        window = c.self.inside.window;
-        past = c.self.inside.past;
-        history = now;
-        tick = t;
-        opening = o;
-        starts = ss;
-        done = c.self.inside.done.items;
-      };
-      spare = c.self.inside.spare;
-    } in
-    ap₂ (λ now t. build now t c.moments-opening.result (starts_of c.moments-opening.result c.clear.new.self.items 1)) history tick
-    ∙ ap₂ (build (wires vector (gates_at net last) ∷ h) (suc c.self.inside.tick)) opening starts
-    ∙ ap (λ (p : SeenPlay). record { state = next_tick p.state c.args.inputs.now; spare = p.spare }) c.self.view_is
+    rw (← c.self.view_is, starts, opening, history, tick) refl

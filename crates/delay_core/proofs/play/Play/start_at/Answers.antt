@@ -1,6 +1,6 @@
-use Rattle.std.proofs.Common.{◌≡◌, ◌∷◌, [], ◌++◌, ◌+◌, ℕ, suc, List, Bool, length, reverse, false, replicate, ap, ap₂, sym, ◌∙◌, arith}
+use Rattle.std.proofs.Common.{◌≡◌, ◌∷◌, [], ◌++◌, ◌+◌, ℕ, suc, List, Bool, length, reverse, false, replicate, refl, ap, ap₂, sym, ◌∙◌, arith}
 use Rattle.std.proofs.lemmas.List.{length-append, length-reverse}
-use Rattle.delay_core.proofs.Common.{count, wires, History, newest, SeenPlay, no_events, starts_of}
+use Rattle.delay_core.proofs.Common.{count, wires, History, newest, no_events, starts_of}
 use Rattle.delay_core.proofs.PlayLemmas.{opens}
 use Rattle.delay_core.proofs.ReadingLemmas.{starts-none}
 use Rattle.delay_core.proofs.play.Play.start_at.Goals as goal
@@ -43,19 +43,4 @@ returns c =
     ap₂ (λ n (ms : List ℕ). starts_of n ms 1) number c.new.ensures.items ∙ starts-none (suc (length past)) 1 in
     let done : c.in_ok-done.done.items ≡ no_events c.args.net.now =
     c.in_ok-done.ensures.items_if_clones_equal (λ y e. e) ∙ ap (λ n. replicate n false) c.gates.ensures.gates in
-    let build : ℕ → ℕ → History → List ℕ → List Bool → SeenPlay = λ p o h ss d. record {
-      state = record {
-        net = c.args.net.now;
-        window = c.args.window;
-        past = p;
-        history = h;
-        tick = 1;
-        opening = o;
-        starts = ss;
-        done = d;
-      };
-      spare = 0;
-    } in
-    ap₂ (λ p o. build p o c.in_ok-timeline.timeline.history (starts_of c.moments-opening.result c.new.result.items 1) c.in_ok-done.done.items) (sym (length-reverse c.args.past.now)) number
-    ∙ ap₂ (λ h ss. build (length past) (suc (length past)) h ss c.in_ok-done.done.items) history starts
-    ∙ ap (build (length past) (suc (length past)) (opening ∷ past) (suc (length past) ∷ [])) done
+    rw (starts, number, history, done, length-reverse c.args.past.now) refl

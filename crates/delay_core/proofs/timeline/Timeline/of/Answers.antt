@@ -1,10 +1,6 @@
-use Rattle.std.proofs.Common.{◌≡◌, ◌∷◌, [], length, ap, arith}
-use Rattle.delay_core.proofs.Common.{History, history_of, Told}
+use Rattle.std.proofs.Common.{length, refl, ap, arith}
 use Rattle.delay_core.proofs.HistoryLemmas.{size, first_is, first_history}
 use Rattle.delay_core.proofs.timeline.Timeline.of.Goals as goal
-
-told : History → Told
-told h = record { history = h; spare = 0 }
 
 pub invariant_of-result : goal.invariant_of-result
 invariant_of-result c = (
@@ -15,8 +11,4 @@ invariant_of-result c = (
 )
 
 pub returns : goal.returns
-unfolding told
-returns c =
-    let h : history_of c.in_ok-entries.entries.items c.in_ok-newest.newest.items 1 ≡ c.args.first.now ∷ [] =
-    rw (c.in_ok-entries.ensures, c.in_ok-newest.ensures) (first_history c.args.first.now) in
-    ap told h
+returns c = rw (c.in_ok-entries.ensures, c.in_ok-newest.ensures, first_history c.args.first.now) refl

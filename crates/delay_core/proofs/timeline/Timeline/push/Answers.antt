@@ -1,6 +1,6 @@
-use Rattle.std.proofs.Common.{◌≡◌, ◌∷◌, ◌++◌, ◌+◌, length, drop, ap, ◌∙◌, arith}
-use Rattle.delay_core.proofs.Common.{History, newest, WritesMoment, Told}
-use Rattle.delay_core.proofs.HistoryLemmas.{told, told-width, history-push}
+use Rattle.std.proofs.Common.{◌≡◌, ◌+◌, refl, arith}
+use Rattle.delay_core.proofs.Common.{WritesMoment}
+use Rattle.delay_core.proofs.HistoryLemmas.{told-width, history-push}
 use Rattle.delay_core.proofs.timeline.Timeline.push.Goals as goal
 
 pub returns-clause-ok : goal.returns-clause-ok
@@ -8,10 +8,7 @@ returns-clause-ok c =
     let after : c.in_ok-after.after ≡ c.self.inside.moments + 1 = c.in_ok-after.ensures.next in
     let written : WritesMoment (c.self.inside.moments + 1) c.args.values.now c.self.inside.entries.items c.write_moment.new.entries.items c.self.inside.newest.items c.write_moment.new.newest.items =
     rw (after, c.reserve_entries.ensures.same) at c.write_moment.ensures.written in
-    rw after
-    (ap (λ (h : History). told h c.self.inside.spare)
-    (history-push c.self.inside.entries.items c.write_moment.new.entries.items c.self.inside.newest.items c.write_moment.new.newest.items c.self.inside.moments c.args.values.now c.self.invariant.0 written)
-    ∙ ap (λ (t : Told). record { history = (c.args.values.now ++ drop (length c.args.values.now) (newest t.history)) ∷ t.history; spare = t.spare }) c.self.view_is)
+    rw (← c.self.view_is, after, history-push c.self.inside.entries.items c.write_moment.new.entries.items c.self.inside.newest.items c.write_moment.new.newest.items c.self.inside.moments c.args.values.now c.self.invariant.0 written) refl
 
 pub write_moment-requires-clause-width : goal.write_moment-requires-clause-width
 write_moment-requires-clause-width c =

@@ -1,7 +1,8 @@
 -- The changes of a run: at each tick's start those that its opening tells, by the numbers of the signals, and then each
 -- event that changes its gate.
-use Rattle.std.specs.Prelude.{Bool, List, [], ◌∷◌, ◌++◌}
+use Rattle.std.specs.Prelude.{Bool, List, [], ◌∷◌, ◌++◌, option_map}
 use Rattle.std.specs.List.{zip, filter_map, cons_option, range_with_len}
+use Rattle.std.specs.declared.option.Option.{Option}
 use Rattle.netlist.specs.declared.parts.Parts.{Parts}
 use Rattle.netlist.specs.Netlists.{count, signal}
 use Rattle.delay_core.specs.declared.change.Change.{Change}
@@ -46,3 +47,9 @@ run_changes net schedule (tick ∷ later) =
 -- the changes of the run that a schedule plays over these vectors of inputs, one for each tick
 abbrev pub changes : Parts → Schedule → List (List Bool) → List Change
 changes net schedule vectors = run_changes net schedule (zip vectors schedule.ticks)
+
+-- ---- what is kept of them
+
+-- after further changes a log has them behind those that it had; one that keeps none stays so
+abbrev pub logged : Option (List Change) → List Change → Option (List Change)
+logged log more = option_map (λ had. had ++ more) log
