@@ -1,5 +1,7 @@
+-- The chapter: what the contracts of public functions say.
 pub mod Hearing
-pub mod Showing
-pub mod Tables
 pub mod Texts
+pub mod Showing
 pub mod Values
+-- The code's own: what its parts say to each other.
+pub mod Tables

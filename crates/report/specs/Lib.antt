@@ -1,7 +1,8 @@
+-- The chapter: what the contracts of public functions say.
 pub mod Texts
 pub mod Verdicts
 pub mod LoopTexts
+pub mod Explanations
 pub mod Ticks
 pub mod Messages
 pub mod Help
-pub mod Explanations
