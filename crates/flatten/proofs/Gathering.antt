@@ -11,7 +11,7 @@ use Rattle.cyc_base.proofs.ListLemmas.{drop-item}
 use Rattle.flatten.specs.declared.fault.FlatFault.TheVariants.{DrivenTwice}
 use Rattle.flatten.specs.Linking.{edge_eq, is_clock_of, is_fitting, is_other_control, has_other_control}
 use Rattle.flatten.proofs.Names.{bytes_sym, taken}
-use Rattle.flatten.proofs.Libraries.{among_push, distinct_fresh}
+use Rattle.flatten.proofs.Libraries.{among_push, distinct_fresh, none_old}
 
 and_false : (b : Bool) → (b && false) ≡ false
 and_false true = refl
