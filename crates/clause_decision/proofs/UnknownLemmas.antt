@@ -8,7 +8,6 @@ use Rattle.std.proofs.lemmas.Bool.{or_right, and_parts}
 use Rattle.cyc_base.specs.Vectors.{vectors}
 use Rattle.cyc_base.proofs.OrderLemmas.{Below-unknown}
 use Rattle.cyc_base.proofs.VectorLemmas.{find-none}
-use Rattle.cyc_base.proofs.ListLemmas.{map-map}
 use Rattle.refusals.specs.Refusals.{is_x, is_undetermined}
 use Rattle.refusals.proofs.FirstLemmas.{none_passes}
 use Rattle.refusals.proofs.RefusalLemmas.{gate_wire}
