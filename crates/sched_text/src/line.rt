@@ -1,10 +1,11 @@
 // What a line of a schedule says.
-ghost use Rattle.std.specs.Prelude.{◌≡◌, ◌==◌, ◌&&◌, Some};
+ghost use Rattle.std.specs.Prelude.{◌≡◌, ◌==◌, ◌&&◌, Some, None, if◌then◌else◌};
 ghost use Rattle.sched_text.specs.declared.kind.Kind.TheVariants as kinds;
+ghost use Rattle.sched_text.specs.declared.statement.Statement.TheVariants as statements;
 ghost use Rattle.sched_text.specs.Answers.{Reads};
 ghost use Rattle.sched_text.specs.Kinds.{kind as kind_of_line, lacks_lines as lacks_lines_behind};
-ghost use Rattle.sched_text.specs.LineFaults.{arguments, fault_of_words, fault_at};
-ghost use Rattle.sched_text.specs.Statements.{statement_of, statement};
+ghost use Rattle.sched_text.specs.LineFaults.{arguments, fault_of_words, fault_at, is_nothing, is_number};
+ghost use Rattle.sched_text.specs.Statements.{statement_of, statement, window_of};
 
 use crate::bits::{read_latches, read_width};
 use crate::events::read_event;
@@ -17,8 +18,8 @@ use crate::statement::Statement;
 use netlist::Netlist;
 use std::alloc::Global;
 
-fn read_window(net: &Netlist, line: &PieceLine<'_>) -> Result<Statement, SchedFault>
-    ensures { Reads result (fault_of_words net.now 0 kinds.Window line.now.number 0 (arguments line.now.words)) (statement_of net.now kinds.Window line.now.number (arguments line.now.words)) }
+fn read_window(line: &PieceLine<'_>) -> Result<Statement, SchedFault>
+    ensures { Reads result (if is_number (arguments line.now.words) then None else Some (SchedFault.BadLine line.now.number)) (statements.Window (window_of (arguments line.now.words))) }
 {
     if line.words() != 2 {
         return Err(line.bad_line());
@@ -29,8 +30,8 @@ fn read_window(net: &Netlist, line: &PieceLine<'_>) -> Result<Statement, SchedFa
     }
 }
 
-fn read_round(net: &Netlist, line: &PieceLine<'_>) -> Result<Statement, SchedFault>
-    ensures { Reads result (fault_of_words net.now 0 kinds.Round line.now.number 0 (arguments line.now.words)) (statement_of net.now kinds.Round line.now.number (arguments line.now.words)) }
+fn read_round(line: &PieceLine<'_>) -> Result<Statement, SchedFault>
+    ensures { Reads result (if is_nothing (arguments line.now.words) then None else Some (SchedFault.BadLine line.now.number)) (statements.Round line.now.number) }
 {
     if line.words() > 1 {
         return Err(line.bad_line());
@@ -76,13 +77,13 @@ impl<'a> LineReader<'a> {
     {
         match kind {
             Kind::FormatOne | Kind::FormatTwo => Ok(Statement::Format),
-            Kind::Window => read_window(self.net, line),
+            Kind::Window => read_window(line),
             Kind::Past => Ok(Statement::Past(read_width(alloc, self.net.count(), line)?)),
             Kind::Latches => read_latches(alloc, self.net, line),
             Kind::State => Ok(Statement::State(read_width(alloc, self.net.latches(), line)?)),
             Kind::Gates => Ok(Statement::Gates(read_width(alloc, self.net.gates(), line)?)),
             Kind::Tick => self.read_tick(begun, line),
-            Kind::Round => read_round(self.net, line),
+            Kind::Round => read_round(line),
             Kind::Event => read_event(alloc, self.net, line),
             Kind::Unknown => Err(line.bad_line()),
         }
