@@ -1,6 +1,6 @@
 -- Whether a tick ends settled.
 use Rattle.std.proofs.Common.{◌≡◌, ◌↔◌, ℕ, ◌<◌, Bool, true, false, List, [], ◌∷◌, length, map, set, get_or, All, refl, ap, ap₂, sym, ◌∙◌, arith}
-use Rattle.delay_core.proofs.Common.{range_with_len, zip, get_or_default, get_or-map, ext_get_or, length-map, length-set, All-head, All-tail, length-range_with_len, get_or-range_with_len, Sig, bits, Parts, count, gate_sig, Event, Moment, History, bit_at, newest, Played, gates_at, loaded_at, played, play, RoundPlan, given_at, gate_agrees, tick_of, IsPlayedFairly}
+use Rattle.delay_core.proofs.Common.{range_with_len, zip, get_or-map, ext_get_or, length-map, length-set, All-head, All-tail, length-range_with_len, get_or-range_with_len, bits, Parts, count, gate_sig, Event, Moment, History, bit_at, newest, Played, gates_at, loaded_at, played, play, RoundPlan, given_at, gate_agrees, tick_of, IsPlayedFairly}
 use Rattle.std.proofs.Math.Seq.{take-append_seam}
 use Rattle.std.proofs.lemmas.List.{get_or-append-add, get_or-drop, length-append, length-drop, length-take, take-set-le}
 use Rattle.std.proofs.lemmas.List.Elements.{All-nil, All-cons}
@@ -8,21 +8,13 @@ use Rattle.std.proofs.lemmas.List.Sums.{AllPass-from_list_all, list_all-from_All
 use Rattle.cyc_base.specs.declared.trit.Trit.{Trit}
 use Rattle.cyc_base.specs.declared.trit.Trit.TheVariants.{Zero, One, X}
 use Rattle.cyc_base.specs.Values.{bit}
-use Rattle.netlist.specs.Fixpoint.{wire, fix, fix_gates}
+use Rattle.netlist.specs.Fixpoint.{fix_gates}
 use Rattle.netlist.proofs.FixpointLemmas.{length-steps}
 use Rattle.care_sets.specs.Care.{columns}
 use Rattle.schedules.specs.Moments.{Round, event_value, next_moment, after_events, after_rounds}
 use Rattle.schedules.specs.Runs.{Tick, vector_of}
 use Rattle.schedules.proofs.RunLemmas.{gates_reach_fix}
 use Rattle.delay_core.specs.Plans.{agrees, stands_at_fix, SettledIsTold, SettlesInTime}
-
--- a gate was compared with its value in the fixpoint
-pub agreed : (net : Parts) (moment : Moment) (fixed : List Trit) (n : ℕ) (s : Sig) (d : Trit) (b r : Bool) → fixed ≡ fix net (bits (given_at net moment)) → s ≡ gate_sig net n → s.0 < length fixed → b ≡ bit_at moment s → r ≡ agrees (get_or fixed s.0 d) b → r ≡ gate_agrees net moment n
-agreed net moment fixed n s d b r is sig within value result =
-    result
-    ∙ ap₂ agrees
-    (get_or_default fixed s.0 d X within ∙ ap₂ wire is sig)
-    (value ∙ ap (bit_at moment) sig)
 
 -- ---- what a tick keeps of a moment
 

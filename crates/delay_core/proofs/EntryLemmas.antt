@@ -48,22 +48,6 @@ value_step entries newest n i linked m l later =
         value-more entries [] newest n i (suc j) j linked m (omega arith) k (omega arith)
         ∙ ap (λ es. value_by (suc j) es n j) (append-nil entries)
 
--- two jumps in a row are one
-pub jump_twice : (entries : List Entry) (newest : List ℕ) (older : ℕ) → AreLinked entries newest → older < length entries → IsJump entries older (entry_at entries (entry_at entries older).jump).jump
-jump_twice entries newest older linked l =
-    let near : ℕ = (entry_at entries older).jump in
-    let far : ℕ = (entry_at entries near).jump in
-    let first : near ≤ older = linked.within older l in
-    let second : far ≤ near = linked.within near (omega arith) in
-    let earlier : (entry_at entries far).moment ≤ (entry_at entries near).moment = linked.earlier near (omega arith) in
-    record {
-      there = omega arith;
-      skips = λ n some before. linked.skips near n (omega arith) some before ∙ linked.skips older n l some (omega arith);
-    }
-
-pub jump_none : (entries : List Entry) (older : ℕ) → IsJump entries older older
-jump_none entries older = record { there = omega arith; skips = λ n some before. refl }
-
 -- functions that agree at all members have one image
 map-same : (f g : ℕ → Bool) (xs : List ℕ) → ((s : ℕ) → s < length xs → f (get_or xs s 0) ≡ g (get_or xs s 0)) → map f xs ≡ map g xs
 map-same f g [] h = refl
@@ -268,10 +252,6 @@ pub record WritesFront (m k : ℕ) (values : List Bool) (entries later : List En
   pub before : (n : ℕ) → 1 ≤ n → n < m → moment_of later moved n ≡ moment_of entries newest n
   pub front : (i : ℕ) → i < k → get_or (moment_of later moved m) i false ≡ get_or values i false
   pub rest : (i : ℕ) → k ≤ i → get_or (moment_of later moved m) i false ≡ get_or (moment_of entries newest m) i false
-
-pub front-none : (m : ℕ) (values : List Bool) (entries : List Entry) (newest : List ℕ) → AreLinked entries newest → AreDated entries m → WritesFront m 0 values entries entries newest newest
-front-none m values entries newest linked dated =
-    record { linked = linked; dated = dated; width = refl; before = λ n l k. refl; front = λ i l. absurd (omega arith); rest = λ i l. refl }
 
 front-at : (m k : ℕ) (values : List Bool) (entries later last : List Entry) (newest moved final : List ℕ) → 1 ≤ m → k < length newest → WritesFront m k values entries later newest moved → Writes m k (get_or values k false) later last moved final → (i : ℕ) → i < k + 1 → get_or (moment_of last final m) i false ≡ get_or values i false
 front-at m k values entries later last newest moved final first l before more i il =

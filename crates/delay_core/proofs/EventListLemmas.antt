@@ -44,9 +44,6 @@ module _ (heads : List Head) (ages : List ℕ) (i : ℕ) (head : Head) (short : 
   pub within_here : ArePacked heads ages → head.end ≤ length ages
   within_here are = let high = are.within i short in omega (arith, high, ap (λ (h : Head). h.end) head_is)
 
-pub none_packed : ArePacked [] []
-none_packed = record { rises = λ i l. absurd (omega arith); within = λ i l. absurd (omega arith); whole = refl }
-
 begin_later : (heads : List Head) (i : ℕ) → begin_of heads (suc i) ≡ (head_at heads i).end
 begin_later heads i =
     let differs : suc i ≢ 0 = omega arith in

@@ -48,10 +48,6 @@ history-push entries later heads moved n values is writes =
     history-same entries later heads moved n (λ k a b. writes.before k a (omega arith)) in
     rw add-one (ap₂ (λ m h. m ∷ h) (rw add-one at first) rest)
 
--- a moment later nothing changed yet
-pub dated_more : (entries : List Entry) (n : ℕ) → AreDated entries n → AreDated entries (n + 1)
-dated_more entries n dated i l = let old = dated i l in omega arith
-
 -- ---- the first moment
 
 module _ (values : List Bool) where

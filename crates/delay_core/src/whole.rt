@@ -4,15 +4,16 @@ ghost use Rattle.std.specs.Prelude.{◌≡◌, ◌⊎◌, [], ◌+◌, ◌<◌, 
 ghost use Rattle.std.specs.List.{cons_option};
 ghost use Rattle.cyc_base.specs.declared.trit.Trit.{Trit};
 ghost use Rattle.cyc_base.specs.Values.{bits};
+ghost use Rattle.cyc_base.specs.declared.sig.Sig.{Sig as sig_type};
 ghost use Rattle.netlist.specs.Netlists.{count};
 ghost use Rattle.netlist.specs.Fixpoint.{fix};
-ghost use Rattle.schedules.specs.Moments.{newest};
-ghost use Rattle.schedules.specs.Runs.{outputs_at, ticks_of};
+ghost use Rattle.schedules.specs.Moments.{bit_at, newest};
+ghost use Rattle.schedules.specs.Runs.{ticks_of};
 ghost use Rattle.simulation.specs.Simulators.{IsSimulatorOf};
 ghost use Rattle.delay_core.specs.Changes.{openings, event_changes, round_changes, tick_changes, changes, logged};
 ghost use Rattle.delay_core.specs.EventLists.{planned_at};
 ghost use Rattle.delay_core.specs.Plays.{most_rounds, after_event, change_by};
-ghost use Rattle.delay_core.specs.Plans.{planned_fault, events_fault, after_planned, round_fault, after_plan, rounds_fault, after_plans, schedule_fault, run_of, IsPlayedFairly, given_at, agrees as agree, stands_at_fix, end_at, end_of, SettledIsTold, SettlesInTime};
+ghost use Rattle.delay_core.specs.Plans.{planned_fault, events_fault, after_planned, round_fault, after_plan, rounds_fault, after_plans, schedule_fault, run_of, IsPlayedFairly, given_at, agrees as agree, gate_agrees, stands_at_fix, end_at, end_of, SettledIsTold, SettlesInTime};
 
 use crate::change_log::ChangeLog;
 use crate::events::Events;
@@ -132,32 +133,34 @@ fn agrees(value: Trit, known: bool) -> bool
     }
 }
 
-/// Whether each gate has its value of these at the newest moment.
+/// Whether a gate has its value of these at the newest moment.
+fn stands_at(net: &Netlist, play: &Play, fixed: &[Trit], number: u32) -> bool
+    requires net { play.now.state.net ≡ net.now }
+    requires fixed { fixed.now ≡ fix net.now (bits (given_at net.now (newest play.now.state.history))) }
+    requires width { length fixed.now ≡ count net.now }
+    requires number { number < length net.now.gates }
+    ensures { result ≡ gate_agrees net.now (newest play.now.state.history) number }
+{
+    let s = net.gate_sig(number);
+    agrees(fixed[s.0 as usize], play.value(s))
+}
+
+/// Whether each gate has its value of these.
 fn gates_stand_at(net: &Netlist, play: &Play, fixed: &[Trit]) -> bool
     requires net { play.now.state.net ≡ net.now }
     requires fixed { fixed.now ≡ fix net.now (bits (given_at net.now (newest play.now.state.history))) }
     requires width { length fixed.now ≡ count net.now }
     ensures { result ≡ stands_at_fix net.now (newest play.now.state.history) }
 {
-    for number in 0..net.gates() {
-        let s = net.gate_sig(number);
-        if !agrees(fixed[s.0 as usize], play.value(s)) {
-            return false;
-        }
-    }
-    true
+    (0..net.gates()).all(|number| stands_at(net, play, fixed, number))
 }
 
-/// What the outputs show at the newest moment.
-fn outputs(alloc: Global, net: &Netlist, play: &Play) -> Result<Bits, AllocError>
-    requires { play.now.state.net ≡ net.now }
-    ensures { IfOk result (λ bits. bits ≡ outputs_at net.now (newest play.now.state.history)) }
+/// What signals have at the newest moment.
+fn values_of(alloc: Global, play: &Play, signals: &[Sig]) -> Result<Vec<bool>, AllocError>
+    requires { All (λ (s : sig_type). s.0 < count play.now.state.net) signals.now }
+    ensures { IfOk result (λ values. values.items ≡ map (bit_at (newest play.now.state.history)) signals.now) }
 {
-    let mut bits = Vec::with_capacity(alloc, net.outputs().len())?;
-    for s in net.outputs() {
-        bits.push_reserved(play.value(*s));
-    }
-    Ok(Bits::of(bits))
+    signals.iter().map(|s| play.value(*s)).collect(alloc)
 }
 
 /// Whether each gate has its value of the ternary fixpoint at the newest moment. The fixpoint is found by work on what
@@ -193,11 +196,11 @@ fn tick_end(
     ensures end { IfOk result (λ end. end ≡ end_at net.now (newest play.now.state.history) rounds) }
 {
     let settled = is_settled(alloc, net, simulator, play)?;
-    let outputs = outputs(alloc, net, play)?;
+    let outputs = values_of(alloc, play, net.outputs())?;
     Ok(TickEnd {
         rounds: rounds as u64,
         settled,
-        outputs,
+        outputs: Bits::of(outputs),
     })
 }
 
