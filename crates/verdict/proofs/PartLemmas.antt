@@ -1,6 +1,6 @@
 -- What the least vectors of sets say of the parts of acceptance.
 use Rattle.std.proofs.Common.{◌≡◌, ◌≢◌, inl, inr, ℕ, zero, suc, ◌+◌, ◌<◌, ◌≤◌, Bool, true, false, not, ◌&&◌, cond, List, [], ◌∷◌, length, map, take, drop, get_or, Option, Some, None, refl, sym, ap, ap₂, ◌∙◌, subst, arith}
-use Rattle.verdict.proofs.Common.{find, is_none, option_or, option_map, cases_lt, length-drop, take_all, Node, Arena, den, IsNodeOf, KeepsNodes, nodes, nodes-alike, Sig, Trit, X, bits, Rails, trit_of, value_of, values_of, Parts, gate_sig, next, fix_gates, IsLayout, by_variable, laid, order, rails_at, order-is, rails_at-proper, CareModel, CareSet, columns, state_of, is_in_invariant, is_care_vector, IsCareVector, Initial, Undetermined, Leaves, Observe, gate_sigs, observed, is_x, is_undetermined, care_vectors, next_state, leaves, initial_refusal, undetermined_refusal, leaves_refusal, vectors, care_vector_decides, gate_wire, AreMarksOf, Tells, AreFixed, starts, has_state_inside, difference, ReadsWithin, AreLoose, IsCareOf}
+use Rattle.verdict.proofs.Common.{find, is_none, option_or, option_map, cases_lt, length-drop, take_all, Node, Arena, den, IsNodeOf, KeepsNodes, nodes, nodes-alike, Sig, Trit, X, bits, Rails, trit_of, value_of, values_of, Parts, gate_sig, next, fix_gates, IsLayout, by_variable, laid, order, rails_at, order-is, rails_at-proper, CareModel, IsCareOf, CareSet, columns, state_of, is_in_invariant, is_care_vector, IsCareVector, Initial, Undetermined, Leaves, Observe, gate_sigs, observed, is_x, is_undetermined, care_vectors, next_state, leaves, initial_refusal, undetermined_refusal, leaves_refusal, vectors, care_vector_decides, gate_wire, AreMarksOf, Tells, AreFixed, starts, has_state_inside, difference, ReadsWithin, AreLoose}
 use Rattle.std.specs.Prelude.{filter, IfSome}
 use Rattle.std.specs.List.{All}
 use Rattle.std.specs.Option.{option_and_then}
@@ -240,7 +240,16 @@ loose-none net care known = loose-all net care (length net.gates) 0 (omega arith
             (λ w wide. fails_after (is_care_vector net care w) (is_undetermined net (gate_sig net n) w)
             (λ counts. ap is_x (gate_wire net w n wide) ∙ known-is_x (get_or (fix_gates net (bits w)) n X) (known w (care_vector_decides net care w wide counts) n X (omega (arith, length-fix_gates net (bits w), inside)))))
 
-    -- ---- next states
+-- ---- next states
+
+-- the invariant reads latches alone
+pub invariant-reads : (net : Parts) (care : CareSet) (width : ℕ) → IsCareOf net care → width ≡ length net.latches → IfSome care.invariant (ReadsWithin (length net.inputs) width)
+invariant-reads net care width bound is = by care.invariant bound.invariant (states_serve_invariant net care (drop (length net.inputs) (vector (columns net))) bound
+    (length-drop (length net.inputs) (vector (columns net)) ∙ (let long = wide (columns net) in omega (arith, long))))
+  where
+    vector : ℕ → List Bool
+    vector zero = []
+    vector (suc n) = false ∷ vector n
 
     wide : (n : ℕ) → length (vector n) ≡ n
     wide zero = refl
@@ -257,6 +266,14 @@ loose-none net care known = loose-all net care (length net.gates) 0 (omega arith
           omega (arith, low, long, is, start);
     }
 
+-- the assumption reads columns
+pub assume-reads : (net : Parts) (care : CareSet) (width : ℕ) → IsCareOf net care → width ≡ columns net → IfSome care.assume (ReadsWithin 0 width)
+assume-reads net care width bound is = by care.assume bound.assume (vectors_serve_assume net care (vector (columns net)) bound (wide (columns net)))
+  where
+    vector : ℕ → List Bool
+    vector zero = []
+    vector (suc n) = false ∷ vector n
+
     wide : (n : ℕ) → length (vector n) ≡ n
     wide zero = refl
     wide (suc n) = ap suc (wide n)
@@ -271,23 +288,6 @@ loose-none net care known = loose-all net care (length net.gates) 0 (omega arith
           let start = b.start in
           omega (arith, low, long, is, start);
     }
-
--- the invariant reads latches alone
-pub invariant-reads : (net : Parts) (care : CareSet) (width : ℕ) → IsCareOf net care → width ≡ length net.latches → IfSome care.invariant (ReadsWithin (length net.inputs) width)
-invariant-reads net care width bound is = by care.invariant bound.invariant (states_serve_invariant net care (drop (length net.inputs) (vector (columns net))) bound
-    (length-drop (length net.inputs) (vector (columns net)) ∙ (let long = wide (columns net) in omega (arith, long))))
-  where
-    vector : ℕ → List Bool
-    vector zero = []
-    vector (suc n) = false ∷ vector n
-
--- the assumption reads columns
-pub assume-reads : (net : Parts) (care : CareSet) (width : ℕ) → IsCareOf net care → width ≡ columns net → IfSome care.assume (ReadsWithin 0 width)
-assume-reads net care width bound is = by care.assume bound.assume (vectors_serve_assume net care (vector (columns net)) bound (wide (columns net)))
-  where
-    vector : ℕ → List Bool
-    vector zero = []
-    vector (suc n) = false ∷ vector n
 
 -- where care is so, the test of the next state is that of the rails restricted to care
 pub leaves-is : (net : Parts) (care : CareSet) (s m e x : Arena) (set inside outside : Node) (latches : List Rails) (found : Option (List Bool)) → s.vars ≡ columns net → KeepsNodes s e → KeepsNodes e x →
